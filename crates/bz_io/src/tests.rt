@@ -1,0 +1,148 @@
+//! What no clause shows: that calls succeed, worked examples, and the trusted edge.
+use super::{
+    FailSink, FailSource, Failed, MemSink, MemSource, ReadFault, RealSink, RealSource, Sink,
+    Source, read_all, write_all,
+};
+use std::test::Fail;
+
+#[test]
+fn failing_source_gives_pieces_and_fails_where_told(rt: HostRuntime) -> Result<(), Fail> {
+    // piece, room of the reader, numbers of the failing calls, what five reads give
+    let table: [(usize, usize, &[u64], &[u8]); 6] = [
+        (2, 8, &[], b"ab.cd.e..."),
+        (8, 3, &[], b"abc.de...."),
+        (8, 8, &[1], b"!abcde...."),
+        (2, 8, &[4, 2], b"ab.!cd.!e."),
+        (1, 1, &[5, 5, 0], b"a.b.c.d.!"),
+        (5, 0, &[2], b".!..."),
+    ];
+    for (piece, room, fails, want) in table {
+        let piece = piece.max(1);
+        let mut source = FailSource::of(rt.alloc(), b"abcde", piece, fails)?;
+        let mut trace: Vec<u8> = Vec::new(rt.alloc());
+        for _ in 0..5u8 {
+            let mut buffer = [0u8; 8];
+            let into = &mut buffer[..room.min(8)];
+            match source.read(into) {
+                Ok(count) => {
+                    trace.extend_from_slice(&into[..count])?;
+                    trace.push(b'.')?;
+                }
+                Err(Failed) => trace.push(b'!')?,
+            }
+        }
+        assert_eq!(rt; trace.as_slice(), want, "piece {piece}, room {room}");
+    }
+    Ok(())
+}
+
+#[test]
+fn failing_sink_takes_pieces_and_fails_where_told(rt: HostRuntime) -> Result<(), Fail> {
+    // room, piece, numbers of the failing calls, the bytes held after each of four writes
+    let table: [(usize, usize, &[u64], &[u8]); 5] = [
+        (8, 2, &[], b"ab.abcd.abcde.abcde."),
+        (3, 2, &[], b"ab.abc.!!"),
+        (8, 5, &[1, 3], b"!abcde.!abcde."),
+        (0, 1, &[], b"!!!!"),
+        (8, 1, &[2], b"a.!ab.abc."),
+    ];
+    for (room, piece, fails, want) in table {
+        let piece = piece.max(1);
+        let mut sink = FailSink::open(rt.alloc(), room, piece, fails)?;
+        let all: &[u8] = b"abcde";
+        let mut trace: Vec<u8> = Vec::new(rt.alloc());
+        for _ in 0..4u8 {
+            let done = sink.bytes().len().min(all.len());
+            match sink.write(&all[done..]) {
+                Ok(_) => {
+                    trace.extend_from_slice(sink.bytes())?;
+                    trace.push(b'.')?;
+                }
+                Err(Failed) => trace.push(b'!')?,
+            }
+        }
+        assert_eq!(rt; trace.as_slice(), want, "room {room}, piece {piece}");
+    }
+    Ok(())
+}
+
+#[test]
+fn sink_in_memory_fills_its_room(rt: HostRuntime) -> Result<(), Fail> {
+    let mut sink = MemSink::open(rt.alloc(), 3)?;
+    assert_eq!(rt; sink.write(b"ab"), Ok(2));
+    assert_eq!(rt; sink.write(b"cd"), Ok(1));
+    assert_eq!(rt; sink.write(b"d"), Err(Failed));
+    assert_eq!(rt; sink.bytes(), b"abc".as_slice());
+    Ok(())
+}
+
+#[test]
+fn input_is_read_up_to_its_limit(rt: HostRuntime) -> Result<(), Fail> {
+    let long = Vec::from_array(rt.alloc(), [7u8; 9000])?;
+    for limit in [8999usize, 9000, 9001] {
+        let mut source = MemSource::of(rt.alloc(), &long)?;
+        match read_all(rt.alloc(), &mut source, limit) {
+            Ok(bytes) => assert!(rt; limit >= 9000 && bytes.as_slice() == long.as_slice()),
+            Err(ReadFault::TooLong) => assert!(rt; limit == 8999),
+            // a source in memory never fails
+            Err(ReadFault::Failed) => unreachable!(),
+            Err(ReadFault::Memory) => assert!(rt; false, "want of memory"),
+        }
+    }
+    Ok(())
+}
+
+#[test]
+fn input_is_read_piece_by_piece_and_one_fault_ends_it(rt: HostRuntime) -> Result<(), Fail> {
+    let mut source = FailSource::of(rt.alloc(), b"abcde", 2, &[5])?;
+    let bytes = read_all(rt.alloc(), &mut source, 5);
+    assert!(rt; matches!(&bytes, Ok(bytes) if bytes.as_slice() == b"abcde".as_slice()));
+    let again = read_all(rt.alloc(), &mut source, 5);
+    assert!(rt; matches!(again, Err(ReadFault::Failed)));
+    Ok(())
+}
+
+#[test]
+fn all_is_written_or_a_front_part(rt: HostRuntime) -> Result<(), Fail> {
+    let mut sink = FailSink::open(rt.alloc(), 9, 1, &[4])?;
+    assert_eq!(rt; write_all(&mut sink, b"abc"), Ok(()));
+    assert_eq!(rt; write_all(&mut sink, b"def"), Err(Failed));
+    assert_eq!(rt; write_all(&mut sink, b"xy"), Ok(()));
+    assert_eq!(rt; sink.bytes(), b"abcxy".as_slice());
+    Ok(())
+}
+
+#[test]
+fn real_source_gives_what_its_reader_gives(rt: HostRuntime) -> Result<(), Fail> {
+    let mut source = RealSource::of(b"abc".as_slice());
+    let bytes = read_all(rt.alloc(), &mut source, 3);
+    assert!(rt; matches!(&bytes, Ok(bytes) if bytes.as_slice() == b"abc".as_slice()));
+    Ok(())
+}
+
+#[test]
+fn real_sink_passes_bytes_on_and_refuses_when_its_writer_is_full(rt: HostRuntime) {
+    let mut room = [0u8; 4];
+    let mut sink = RealSink::of(&mut room[..]);
+    assert_eq!(rt; write_all(&mut sink, b"abc"), Ok(()));
+    assert_eq!(rt; write_all(&mut sink, b"de"), Err(Failed));
+    assert_eq!(rt; sink.write(b""), Ok(0));
+    drop(sink);
+    assert_eq!(rt; room, *b"abcd");
+}
+
+#[test]
+fn faults_have_their_words(rt: HostRuntime) -> Result<(), Fail> {
+    for (fault, want) in [
+        (ReadFault::Failed, "read failed"),
+        (ReadFault::TooLong, "input too long"),
+        (ReadFault::Memory, "want of memory"),
+    ] {
+        assert_eq!(rt; format!(in rt.alloc(); "{fault}")?.as_str(), want);
+    }
+    assert_eq!(rt;
+        format!(in rt.alloc(); "{Failed}")?.as_str(),
+        "read or write failed"
+    );
+    Ok(())
+}

@@ -1,0 +1,5 @@
+mod Front
+mod Packings
+mod Readings
+mod Spellings
+mod WordReads

@@ -1,0 +1,6 @@
+use Rattle.std.proofs.Common.{rules}
+use Rattle.bz_key.specs.ReaderLaws.{key_of_word-exact}
+use Rattle.bz_key.proofs.laws.keys_are_read.Goals as goal
+
+pub returns : goal.returns
+returns c = key_of_word-exact

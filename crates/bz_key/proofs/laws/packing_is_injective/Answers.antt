@@ -1,0 +1,6 @@
+use Rattle.std.proofs.Common.{rules}
+use Rattle.bz_key.specs.PackingLaws.{packed-injective}
+use Rattle.bz_key.proofs.laws.packing_is_injective.Goals as goal
+
+pub returns : goal.returns
+returns c = packed-injective

@@ -1,0 +1,6 @@
+use Rattle.std.proofs.Common.{rules}
+use Rattle.bz_key.specs.UnpackingLaws.{unpacked_payload-exact}
+use Rattle.bz_key.proofs.laws.payloads_are_unpacked.Goals as goal
+
+pub returns : goal.returns
+returns c = unpacked_payload-exact

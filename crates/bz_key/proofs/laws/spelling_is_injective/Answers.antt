@@ -1,0 +1,6 @@
+use Rattle.std.proofs.Common.{rules}
+use Rattle.bz_key.specs.SpellingLaws.{spelled-injective}
+use Rattle.bz_key.proofs.laws.spelling_is_injective.Goals as goal
+
+pub returns : goal.returns
+returns c = spelled-injective

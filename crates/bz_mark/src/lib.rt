@@ -1,0 +1,9 @@
+//! The journal: every begin, act, effect and end, in the order in which they happened.
+#![tactic(auto)]
+
+mod compact;
+mod journal;
+mod marks;
+
+pub use journal::Journal;
+pub use marks::Mark;

@@ -1,0 +1,13 @@
+-- Writing over part of a list, as a slice is copied, takes a range or a line from the other list.
+use Rattle.std.proofs.Common.{◌≡◌, ℕ, ◌+◌, ◌*◌, ◌≤◌, List, length, take, drop}
+use Rattle.std.proofs.lemmas.List.{append_assoc, drop-drop}
+use borrow.Rule.Slice.PartMut.{put_mid}
+use Rattle.bz_pm.specs.Acts.{with_range, with_line}
+
+with_range_from_put_mid : (at n m : ℕ) (from to part : List ℕ) → at + n ≤ length from → at + n ≤ length to → m ≡ n → part ≡ take m (drop at from) → put_mid at m to part ≡ with_range at n from to
+unfolding with_range
+with_range_from_put_mid at n m from to part ok fits e p = rw (p, e) (simp (append_assoc, drop-drop))
+
+pub with_line_from_put_mid : (line m : ℕ) (from to part : List ℕ) → line * 8 + 8 ≤ length from → line * 8 + 8 ≤ length to → m ≡ 8 → part ≡ take m (drop (line * 8) from) → put_mid (line * 8) m to part ≡ with_line line from to
+unfolding with_line
+with_line_from_put_mid line m from to part ok fits e p = with_range_from_put_mid (line * 8) 8 m from to part ok fits e p

@@ -1,0 +1,5 @@
+use Rattle.bz_pm.specs.Laws as law
+use Rattle.bz_pm.proofs.laws.store.Goals as goal
+
+pub returns : goal.returns
+returns c = law.store

@@ -1,0 +1,4 @@
+pub mod Acts
+pub mod Changes
+pub mod Laws
+pub mod Words

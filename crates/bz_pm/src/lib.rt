@@ -1,0 +1,10 @@
+//! A simulated persistent memory: words in the caches, and words that outlive a power cut.
+#![tactic(auto)]
+
+pub mod laws;
+mod line;
+mod pm;
+#[cfg(test)]
+mod tests;
+
+pub use pm::Pm;

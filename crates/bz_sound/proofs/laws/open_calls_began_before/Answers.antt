@@ -1,0 +1,5 @@
+use Rattle.bz_sound.proofs.CallLemmas.{began_before}
+use Rattle.bz_sound.proofs.laws.open_calls_began_before.Goals as goal
+
+pub returns : goal.returns
+returns c = began_before

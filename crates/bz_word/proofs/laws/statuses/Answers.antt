@@ -1,0 +1,5 @@
+use Rattle.bz_word.specs.Laws as law
+use Rattle.bz_word.proofs.laws.statuses.Goals as goal
+
+pub returns : goal.returns
+returns c = law.statuses

@@ -1,0 +1,5 @@
+pub mod Finding
+pub mod TableLemmas
+pub mod BeginLemmas
+pub mod EndLemmas
+pub mod OpenLemmas

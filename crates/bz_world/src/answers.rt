@@ -1,0 +1,59 @@
+//! What is asked of a world, and what it answers.
+use bz_layout::ConfigError;
+
+/// A limit of the journal.
+#[derive(Clone, Copy, Debug, PartialEq, Eq)]
+pub enum Which {
+    Marks,
+    Calls,
+    Pages,
+}
+
+/// What may happen next.
+#[derive(Clone, Copy, Debug, PartialEq, Eq)]
+pub enum Event {
+    /// The worker goes on with its open call.
+    Step(u8),
+}
+
+/// Why no world was opened.
+#[derive(Clone, Copy, Debug, PartialEq, Eq)]
+pub enum OpenError {
+    Config(ConfigError),
+    Memory,
+}
+
+/// The answer to a begin. All but `Begun` are refusals, which leave the world as it was.
+#[derive(Clone, Copy, Debug, PartialEq, Eq)]
+pub enum Begun {
+    /// The call has begun, with this number, counted from 1 for each worker.
+    Begun(u32),
+
+    /// There is no such worker.
+    NoWorker,
+
+    /// The worker's last call is still open.
+    Busy,
+
+    /// The journal has no room.
+    Limit(Which),
+}
+
+/// The answer to an event. `NoWorker`, `Limit` and `Idle` are refusals, which leave the world as it was.
+#[derive(Clone, Copy, Debug, PartialEq, Eq)]
+pub enum Applied {
+    /// The call goes on.
+    Stepped,
+
+    /// The call with this number has ended.
+    Ended(u32),
+
+    /// There is no such worker.
+    NoWorker,
+
+    /// The journal has fewer than three places left.
+    Limit,
+
+    /// The worker has no open call.
+    Idle,
+}
