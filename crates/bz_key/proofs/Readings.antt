@@ -1,7 +1,6 @@
 -- A word that is read byte by byte.
 use Rattle.std.specs.Prelude.{◌≡◌, ◌≢◌, ◌≤◌, ◌<◌, ℕ, ◌+◌, ◌*◌, ◌%◌, List, [], ◌∷◌, ◌++◌, length, get_or, take, drop, set}
-use Rattle.std.proofs.Common.{arith, rules, sym, ◌∙◌, ap, refl}
-use Rattle.std.proofs.lemmas.Bool.Decides.{nat_tests}
+use Rattle.std.proofs.Common.{arith, sym, ◌∙◌, refl}
 use Rattle.std.proofs.lemmas.List.{nil_from_length, append_assoc, take_more_set, drop-drop, length-drop, length-set, append-nil}
 use Rattle.bz_key.specs.Spelling.{hex_value, decoded}
 use Rattle.bz_key.specs.SpellingLaws.{decoded-plain, decoded-escape}

@@ -1,8 +1,7 @@
 -- A spelling that is written byte by byte.
 use Rattle.std.specs.Prelude.{◌≡◌, ◌≤◌, ◌<◌, ℕ, ◌+◌, ◌*◌, List, [], ◌∷◌, ◌++◌, length, get_or, take, drop, set}
-use Rattle.std.proofs.Common.{arith, rules, sym, ◌∙◌, ap, refl}
-use Rattle.std.proofs.lemmas.Grind.{common_steps}
-use Rattle.std.proofs.lemmas.List.{nil_from_length, take_more, append_assoc, append-nil, length-append, drop-drop, take_at, drop_at, take_all, places}
+use Rattle.std.proofs.Common.{arith, sym, ◌∙◌, ap, refl}
+use Rattle.std.proofs.lemmas.List.{nil_from_length, take_more, append_assoc, append-nil, length-append, drop-drop, take_at, drop_at, take_all}
 use Rattle.bz_key.specs.Spelling.{spelled_byte, spelled_bytes, spelled}
 use Rattle.bz_key.specs.SpellingLaws.{length-spelled_byte}
 

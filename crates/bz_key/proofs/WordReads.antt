@@ -1,13 +1,13 @@
 -- What a word is read as, by the tests that the reader makes.
-use Rattle.std.specs.Prelude.{◌≡◌, ◌≤◌, ◌<◌, ℕ, ◌*◌, List, length, take, bytes_eq, true, false, Option, Some, None}
-use Rattle.std.proofs.Common.{arith, rules, sym, ◌∙◌, ap, refl, inl, inr}
+use Rattle.std.specs.Prelude.{◌≡◌, ◌≤◌, ◌<◌, ℕ, List, length, take, bytes_eq, true, false, Some, None}
+use Rattle.std.proofs.Common.{arith, sym, ◌∙◌, ap, inl, inr}
 use Rattle.std.proofs.lemmas.Bool.{cases_lt}
 use Rattle.std.proofs.lemmas.Bool.Decides.{nat_tests}
 use Rattle.std.proofs.lemmas.List.{length-take-le}
 use Rattle.std.proofs.lemmas.Slice.Eq.{bytes_eq-Decides}
 use Rattle.bz_key.specs.Spelling.{spelled, decoded, key_of_word, payload_of_word}
 use Rattle.bz_key.specs.SpellingLaws.{length-spelled}
-use Rattle.bz_key.specs.declared.limits.TheConstants.{KEY_BYTES, PAYLOAD_BYTES, LONGEST, SPELLED_BYTES}
+use Rattle.bz_key.specs.declared.limits.TheConstants.{PAYLOAD_BYTES, LONGEST, SPELLED_BYTES}
 
 pub long_word : (word : List ℕ) → SPELLED_BYTES < length word → None ≡ payload_of_word word
 unfolding payload_of_word

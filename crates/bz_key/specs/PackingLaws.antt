@@ -1,14 +1,11 @@
 -- What follows from the definition of packing, for the crates above.
-use Rattle.std.specs.Prelude.{◌≡◌, ◌↔◌, ◌≤◌, ◌<◌, ℕ, ◌+◌, ◌-◌, ◌*◌, ◌/◌, ◌%◌, ◌^◌, List, length, get_or, All, Some}
+use Rattle.std.specs.Prelude.{◌≡◌, ◌<◌, ℕ, ◌+◌, ◌-◌, ◌*◌, ◌/◌, ◌%◌, ◌^◌, List, length, get_or, All}
 use Rattle.std.proofs.Common.{arith, sym, ◌∙◌, refl, inl, inr, add-zero, zero, suc}
 use Rattle.std.proofs.lemmas.Bool.{cases_lt}
-use Rattle.std.proofs.lemmas.Bool.Decides.{nat_tests}
-use Rattle.std.proofs.lemmas.Slice.Eq.{bytes_eq-Decides}
-use Rattle.bz_key.specs.declared.limits.TheConstants.{KEY_BYTES, PAYLOAD_BYTES}
 use Rattle.std.proofs.lemmas.List.{ext_get_or, get_or_default, get_or_past}
 use Rattle.std.proofs.lemmas.List.FromFn.{length-map-range_with_len, get_or-map-range_with_len}
-use Rattle.bz_key.specs.Bytes.{AreBytes, IsKey, IsPayload}
-use Rattle.bz_key.specs.Packing.{packed_len, packed_word, packed, packed_byte, unpacked, unpacked_key, unpacked_payload}
+use Rattle.bz_key.specs.Bytes.{AreBytes}
+use Rattle.bz_key.specs.Packing.{packed_len, packed_word, packed, packed_byte, unpacked}
 
 -- the number of words
 pub length-packed : (bytes : List ℕ) → length (packed bytes) ≡ packed_len (length bytes)

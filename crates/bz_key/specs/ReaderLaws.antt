@@ -1,12 +1,12 @@
 -- The readers of words answer exactly for spellings of keys and payloads.
-use Rattle.std.specs.Prelude.{◌≡◌, ◌↔◌, ◌≢◌, ◌≤◌, ◌<◌, ℕ, ◌+◌, ◌*◌, ◌/◌, ◌%◌, List, [], ◌∷◌, ◌++◌, length, Option, Some, None, bytes_eq, true, false}
-use Rattle.std.proofs.Common.{arith, rules, sym, ◌∙◌, ap, refl, inl, inr}
+use Rattle.std.specs.Prelude.{◌≡◌, ◌↔◌, ◌≢◌, ◌≤◌, ◌<◌, ℕ, ◌+◌, ◌*◌, ◌%◌, List, [], ◌∷◌, ◌++◌, length, Some}
+use Rattle.std.proofs.Common.{arith, sym, refl, inl, inr}
 use Rattle.std.proofs.lemmas.Bool.{cases_eq, cases_Bool}
 use Rattle.std.proofs.lemmas.Bool.Decides.{nat_tests}
 use Rattle.std.proofs.lemmas.Slice.Eq.{bytes_eq-Decides}
 use Rattle.bz_key.specs.Bytes.{AreBytes, IsKey, IsPayload}
-use Rattle.bz_key.specs.Spelling.{is_plain, hex_digit, hex_value, spelled_byte, spelled_bytes, spelled, decoded, key_of_word, payload_of_word}
-use Rattle.bz_key.specs.SpellingLaws.{decoded-plain, decoded-escape, decoded-spelled, AreBytes-cons, AreBytes-nil}
+use Rattle.bz_key.specs.Spelling.{is_plain, hex_value, spelled_byte, spelled_bytes, spelled, decoded, key_of_word, payload_of_word}
+use Rattle.bz_key.specs.SpellingLaws.{decoded-plain, decoded-spelled, AreBytes-cons, AreBytes-nil}
 use Rattle.bz_key.specs.declared.limits.TheConstants.{KEY_BYTES, PAYLOAD_BYTES}
 
 -- a spelling that begins with no percent sign begins with a byte that stands for itself

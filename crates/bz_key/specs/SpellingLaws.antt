@@ -1,15 +1,12 @@
 -- What follows from the definition of spelling: it and its reader are inverse to each other.
-use Rattle.std.specs.Prelude.{◌≡◌, ◌≢◌, ◌≤◌, ◌<◌, ℕ, ◌+◌, ◌-◌, ◌*◌, ◌/◌, ◌%◌, List, [], ◌∷◌, ◌++◌, length, get_or, Option, Some, None, bytes_eq, Bool, true, false, ◌==◌, All}
-use Rattle.std.proofs.Common.{arith, rules, sym, ◌∙◌, ap, refl, inl, inr, zero, suc, subst}
-use Rattle.std.proofs.lemmas.Bool.{cases_eq, cases_Bool}
+use Rattle.std.specs.Prelude.{◌≡◌, ◌≢◌, ◌≤◌, ◌<◌, ℕ, ◌+◌, ◌*◌, ◌/◌, ◌%◌, List, [], ◌∷◌, ◌++◌, length, All}
+use Rattle.std.proofs.Common.{arith, sym, ◌∙◌, ap, refl, inl, inr, zero, suc}
+use Rattle.std.proofs.lemmas.Bool.{cases_Bool}
 use Rattle.std.proofs.lemmas.Bool.Decides.{nat_tests}
-use Rattle.std.proofs.lemmas.Grind.{common_steps}
 use Rattle.std.proofs.lemmas.List.{length-append}
-use Rattle.std.proofs.lemmas.Slice.Eq.{bytes_eq-Decides}
 use Rattle.std.proofs.lemmas.List.Elements.{All-nil, All-cons, All-append}
-use Rattle.bz_key.specs.Bytes.{AreBytes, IsKey, IsPayload}
-use Rattle.bz_key.specs.Spelling.{is_plain, IsSpellingByte, hex_digit, hex_value, spelled_byte, spelled_bytes, spelled, decoded, key_of_word, payload_of_word}
-use Rattle.bz_key.specs.declared.limits.TheConstants.{KEY_BYTES, PAYLOAD_BYTES}
+use Rattle.bz_key.specs.Bytes.{AreBytes}
+use Rattle.bz_key.specs.Spelling.{is_plain, IsSpellingByte, hex_digit, hex_value, spelled_byte, spelled_bytes, spelled, decoded}
 
 -- a byte that stands for itself is read as it is
 pub decoded-plain : (c : ℕ) (word : List ℕ) → c ≢ 37 → decoded (c ∷ word) ≡ c ∷ decoded word

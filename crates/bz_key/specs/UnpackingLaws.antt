@@ -1,10 +1,10 @@
 -- Words are read as a key or a payload exactly where they are its packing.
-use Rattle.std.specs.Prelude.{◌≡◌, ◌↔◌, ◌≤◌, ◌<◌, ℕ, List, length, Option, Some, None, bytes_eq, true, false}
-use Rattle.std.proofs.Common.{arith, rules, sym, ◌∙◌, ap, refl}
+use Rattle.std.specs.Prelude.{◌≡◌, ◌↔◌, ◌≤◌, ℕ, List, length, Some}
+use Rattle.std.proofs.Common.{arith, refl}
 use Rattle.std.proofs.lemmas.Bool.Decides.{nat_tests}
 use Rattle.std.proofs.lemmas.Slice.Eq.{bytes_eq-Decides}
-use Rattle.bz_key.specs.Bytes.{AreBytes, IsKey, IsPayload}
-use Rattle.bz_key.specs.Packing.{packed_len, packed, unpacked, unpacked_key, unpacked_payload}
+use Rattle.bz_key.specs.Bytes.{IsKey, IsPayload}
+use Rattle.bz_key.specs.Packing.{packed, unpacked, unpacked_key, unpacked_payload}
 use Rattle.bz_key.specs.PackingLaws.{length-unpacked, unpacked-bytes, unpacked-packed}
 use Rattle.bz_key.specs.declared.limits.TheConstants.{KEY_BYTES, PAYLOAD_BYTES}
 

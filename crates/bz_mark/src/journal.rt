@@ -175,6 +175,13 @@ impl Journal {
         number
     }
 
+    /// How many pages there are.
+    pub fn page_count(&self) -> u32
+        ensures { result ≡ length self.now.pages }
+    {
+        self.used
+    }
+
     /// The pairs of the page with this number.
     pub fn page(&self, p: u32) -> &[(Key, Payload)]
         requires { p < length self.now.pages }

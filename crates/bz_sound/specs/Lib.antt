@@ -2,3 +2,4 @@ pub mod Calls
 pub mod Replies
 pub mod Sound
 pub mod Laws
+pub mod CallLaws

@@ -1,4 +1,3 @@
-use Rattle.std.proofs.Common.{rules}
 use Rattle.bz_key.specs.ReaderLaws.{key_of_word-exact}
 use Rattle.bz_key.proofs.laws.keys_are_read.Goals as goal
 

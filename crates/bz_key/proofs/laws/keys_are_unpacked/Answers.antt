@@ -1,4 +1,3 @@
-use Rattle.std.proofs.Common.{rules}
 use Rattle.bz_key.specs.UnpackingLaws.{unpacked_key-exact}
 use Rattle.bz_key.proofs.laws.keys_are_unpacked.Goals as goal
 

@@ -1,4 +1,3 @@
-use Rattle.std.proofs.Common.{rules}
 use Rattle.bz_key.specs.PackingLaws.{packed-injective}
 use Rattle.bz_key.proofs.laws.packing_is_injective.Goals as goal
 

@@ -1,4 +1,3 @@
-use Rattle.std.proofs.Common.{rules}
 use Rattle.bz_key.specs.PackingLaws.{length-packed, packed-small}
 use Rattle.bz_key.proofs.laws.packing_is_small.Goals as goal
 

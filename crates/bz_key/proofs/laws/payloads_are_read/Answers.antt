@@ -1,4 +1,3 @@
-use Rattle.std.proofs.Common.{rules}
 use Rattle.bz_key.specs.ReaderLaws.{payload_of_word-exact}
 use Rattle.bz_key.proofs.laws.payloads_are_read.Goals as goal
 

@@ -1,4 +1,3 @@
-use Rattle.std.proofs.Common.{rules}
 use Rattle.bz_key.specs.UnpackingLaws.{unpacked_payload-exact}
 use Rattle.bz_key.proofs.laws.payloads_are_unpacked.Goals as goal
 

@@ -1,4 +1,3 @@
-use Rattle.std.proofs.Common.{rules}
 use Rattle.bz_key.specs.SpellingLaws.{spelled-injective}
 use Rattle.bz_key.proofs.laws.spelling_is_injective.Goals as goal
 
