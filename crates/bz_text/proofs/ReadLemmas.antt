@@ -1,0 +1,160 @@
+-- One mark more is read.
+use Rattle.std.proofs.Common.{◌≡◌, ◌≢◌, ◌≤◌, ◌<◌, ◌⊎◌, inl, inr, ℕ, suc, ◌+◌, Bool, true, false, List, [], ◌∷◌, ◌++◌, length, set, get_or, replicate, refl, sym, ap, ◌∙◌, arith, Option, Some, None, ◌==◌}
+use Rattle.std.specs.Prelude.{option_map, if◌then◌else◌}
+use Rattle.std.proofs.lemmas.Bool.Decides.{nat_tests}
+use Rattle.std.proofs.lemmas.Grind.{common_steps}
+use Rattle.std.proofs.lemmas.List.{length-replicate, get_or-replicate}
+use Rattle.bz_call.specs.declared.calls.Call.{Call}
+use Rattle.bz_call.specs.declared.replies.Reply.{Reply}
+use Rattle.bz_mark.specs.Moments.{at_moment, mark_at}
+use Rattle.bz_mark.specs.MomentLaws.{at_moment-next, mark_at-at_moment, length-at_moment}
+use Rattle.bz_mark.specs.declared.marks.Mark.{Mark}
+use Rattle.bz_mark.specs.declared.marks.Mark.TheVariants.{Begin, End, Load, Store, Cas, Flush, Evict, Cut, On, Ready, Effect}
+use Rattle.bz_sound.specs.Calls.{Open, open_call, with_effect}
+use Rattle.bz_sound.specs.CallLaws.{began_before, has_begin}
+use Rattle.bz_text.specs.declared.ended.EndedCall.{EndedCall}
+use Rattle.bz_text.specs.Report.{ended_by, ended_calls}
+use Rattle.bz_text.specs.Reading.{IsReadTo, ended_since}
+
+abbrev pub began : Option Open → Option ℕ
+began opened = option_map (λ call. call.begun) opened
+
+same_number : (w : ℕ) → (w == w) ≡ true
+same_number w = grind (arith, nat_tests)
+
+other_number : (w v : ℕ) → v ≢ w → (w == v) ≡ false
+other_number w v h = grind (arith, nat_tests)
+
+either : (v w : ℕ) → (v ≡ w) ⊎ (v ≢ w)
+either v w = grind (arith, nat_tests)
+
+set_same : {A : Type 0} (xs : List A) (w : ℕ) (x d : A) → w < length xs → get_or (set xs w x) w d ≡ x
+set_same xs w x d h = grind (arith, common_steps)
+
+set_other : {A : Type 0} (xs : List A) (v w : ℕ) (x d : A) → v ≢ w → get_or (set xs w x) v d ≡ get_or xs v d
+set_other xs v w x d h = grind (arith, common_steps)
+
+effect_began : (b : Bool) (now : ℕ) (rest : Option Open) → began (if b then option_map (with_effect now) rest else rest) ≡ began rest
+effect_began true now None = refl
+effect_began true now (Some opened) = refl
+effect_began false now rest = refl
+
+-- what the call that ends has, by the moment at which it began
+pub since_is : (w at : ℕ) (reply : Reply) (past : List Mark) (moment : ℕ) (opened : Open) → moment ≤ length past → open_call w (at_moment moment past) ≡ Some opened
+    → ended_since w reply at (mark_at opened.begun past) ≡ ended_by w reply at (open_call w (at_moment moment past))
+since_is w at reply past moment opened le is =
+    let before : opened.begun < moment = omega (arith, began_before w (at_moment moment past) opened is, length-at_moment moment past le) in
+    let found : mark_at opened.begun past ≡ Some (Begin w opened.number opened.call) = sym (mark_at-at_moment opened.begun moment past before le) ∙ has_begin w (at_moment moment past) opened is in
+    rw (found, is) refl
+
+-- a Begin
+pub read_begin : (past : List Mark) (moment : ℕ) (begins : List (Option ℕ)) (calls : List EndedCall) (w n : ℕ) (call : Call) → moment < length past → w < 256
+    → mark_at moment past ≡ Some (Begin w n call) → IsReadTo past moment begins calls → IsReadTo past (moment + 1) (set begins w (Some moment)) calls
+read_begin past moment begins calls w n call lt small is h =
+    let next = at_moment-next moment (Begin w n call) past is lt in
+    let size : length (at_moment moment past) ≡ moment = length-at_moment moment past (omega arith) in
+    record {
+      places = grind (arith, common_steps, h.places);
+      begun = λ v few. elim (either v w) [
+        | inl e ↦ rw (e, set_same begins w (Some moment) None (omega (arith, h.places)), next, same_number w, size) refl
+        | inr ne ↦ rw (set_other begins v w (Some moment) None ne, next, other_number w v ne) (h.begun v few)
+      ];
+      ended = rw next h.ended;
+    }
+
+-- an End of no open call, and of one
+pub read_end : (past : List Mark) (moment : ℕ) (begins : List (Option ℕ)) (calls more : List EndedCall) (w n at : ℕ) (reply : Reply) → moment < length past → w < 256
+    → mark_at moment past ≡ Some (End w n reply at) → IsReadTo past moment begins calls → more ≡ calls ++ ended_by w reply at (open_call w (at_moment moment past))
+    → IsReadTo past (moment + 1) (set begins w None) more
+read_end past moment begins calls more w n at reply lt small is h longer =
+    let next = at_moment-next moment (End w n reply at) past is lt in
+    record {
+      places = grind (arith, common_steps, h.places);
+      begun = λ v few. elim (either v w) [
+        | inl e ↦ rw (e, set_same begins w None None (omega (arith, h.places)), next, same_number w) refl
+        | inr ne ↦ rw (set_other begins v w None None ne, next, other_number w v ne) (h.begun v few)
+      ];
+      ended = rw (next, longer, h.ended) refl;
+    }
+
+-- where the table has no moment, no call is open
+pub none_open : (past : List Mark) (moment : ℕ) (begins : List (Option ℕ)) (calls : List EndedCall) (w : ℕ) → w < 256 → IsReadTo past moment begins calls
+    → get_or begins w None ≡ None → open_call w (at_moment moment past) ≡ None
+none_open past moment begins calls w small h is = none_of (open_call w (at_moment moment past)) (sym (h.begun w small) ∙ is)
+  where
+    none_of : (opened : Option Open) → began opened ≡ None → opened ≡ None
+    none_of None e = refl
+    none_of (Some opened) e = absurd cc
+
+-- where it has one, the call that began there is
+pub record Since (past : List Mark) (moment w begun : ℕ) : Type 0 where
+  pub opened : Open
+  pub is : open_call w (at_moment moment past) ≡ Some opened
+  pub same : opened.begun ≡ begun
+  pub before : begun < length past
+
+pub some_open : (past : List Mark) (moment : ℕ) (begins : List (Option ℕ)) (calls : List EndedCall) (w begun : ℕ) → w < 256 → moment ≤ length past → IsReadTo past moment begins calls
+    → get_or begins w None ≡ Some begun → Since past moment w begun
+some_open past moment begins calls w begun small le h is = since_of (open_call w (at_moment moment past)) refl (sym (h.begun w small) ∙ is)
+  where
+    since_of : (opened : Option Open) → open_call w (at_moment moment past) ≡ opened → began opened ≡ Some begun → Since past moment w begun
+    since_of None here e = absurd cc
+    since_of (Some opened) here e =
+        let same : opened.begun ≡ begun = cc in
+        record { opened = opened; is = here; same = same; before = omega (arith, began_before w (at_moment moment past) opened here, length-at_moment moment past le) }
+
+pub read_cut : (past : List Mark) (moment : ℕ) (begins after : List (Option ℕ)) (calls : List EndedCall) → moment < length past
+    → mark_at moment past ≡ Some Cut → IsReadTo past moment begins calls → after ≡ replicate 256 None → IsReadTo past (moment + 1) after calls
+read_cut past moment begins after calls lt is h none =
+    let next = at_moment-next moment Cut past is lt in
+    rw none (record {
+      places = length-replicate {A = Option ℕ} 256 None;
+      begun = λ v few. rw (next, get_or-replicate {A = Option ℕ} 256 v None None few) refl;
+      ended = rw next h.ended;
+    })
+
+-- the marks that neither open nor close a call
+abbrev pub IsOther : Mark → Type 0
+IsOther (Begin w n call) = ⊥
+IsOther (End w n reply at) = ⊥
+IsOther Cut = ⊥
+IsOther mark = Unit {0}
+
+pub other_from : (mark : Mark) → ((w n : ℕ) (call : Call) → mark ≡ Begin w n call → ⊥) → ((w n : ℕ) (reply : Reply) (at : ℕ) → mark ≡ End w n reply at → ⊥) → (mark ≡ Cut → ⊥) → IsOther mark
+other_from (Begin w n call) no_begin no_end no_cut = no_begin w n call refl
+other_from (End w n reply at) no_begin no_end no_cut = no_end w n reply at refl
+other_from Cut no_begin no_end no_cut = no_cut refl
+other_from mark no_begin no_end no_cut = tt
+
+other_began : (w : ℕ) (mark : Mark) (past : List Mark) → IsOther mark → began (open_call w (mark ∷ past)) ≡ began (open_call w past)
+other_began w (Begin v n call) past h = absurd h
+other_began w (End v n reply at) past h = absurd h
+other_began w Cut past h = absurd h
+other_began w (Effect v n) past h = effect_began (v == w) (length past) (open_call w past)
+other_began w mark past h = refl
+
+other_ended : (mark : Mark) (past : List Mark) → IsOther mark → ended_calls (mark ∷ past) ≡ ended_calls past
+other_ended (Begin v n call) past h = absurd h
+other_ended (End v n reply at) past h = absurd h
+other_ended Cut past h = absurd h
+other_ended mark past h = refl
+
+pub read_other : (past : List Mark) (moment : ℕ) (begins : List (Option ℕ)) (calls : List EndedCall) (mark : Mark) → moment < length past
+    → mark_at moment past ≡ Some mark → IsOther mark → IsReadTo past moment begins calls → IsReadTo past (moment + 1) begins calls
+read_other past moment begins calls mark lt is other h =
+    let next = at_moment-next moment mark past is lt in
+    record {
+      places = h.places;
+      begun = λ v few. rw next (h.begun v few ∙ sym (other_began v mark (at_moment moment past) other));
+      ended = rw next (h.ended ∙ sym (other_ended mark (at_moment moment past) other));
+    }
+
+-- nothing is read yet
+pub read_none : (past : List Mark) (begins : List (Option ℕ)) (calls : List EndedCall) → begins ≡ replicate 256 None → calls ≡ [] → IsReadTo past 0 begins calls
+read_none past begins calls none empty =
+    let start : at_moment 0 past ≡ [] = grind (arith, common_steps) in
+    rw (none, empty) (record {
+      places = length-replicate {A = Option ℕ} 256 None;
+      begun = λ v few. rw (start, get_or-replicate {A = Option ℕ} 256 v None None few) refl;
+      ended = rw start refl;
+    })

@@ -1,0 +1,38 @@
+use Rattle.std.proofs.Common.{◌≡◌, ◌<◌, ◌≤◌, List, ◌++◌, get_or, None, refl, sym, ap, ◌∙◌, arith, rules, append-nil, replicate}
+use Rattle.bz_mark.specs.Moments.{at_moment}
+use Rattle.bz_sound.specs.Calls.{open_call}
+use Rattle.bz_text.specs.Report.{ended_by}
+use Rattle.bz_text.proofs.ReadLemmas.{read_begin, read_end, read_cut, read_other, none_open, some_open, since_is, other_from}
+use Rattle.bz_text.specs.declared.ended.EndedCall.{EndedCall}
+use Rattle.bz_text.proofs.ended.read_mark.Goals as goal
+
+pub add_ended-requires : goal.add_ended-requires
+add_ended-requires c =
+    let s = some_open c.args.journal.now.past c.args.moment c.args.begins.now c.args.ended.now.items c.in-End.w c.in-Some.begun (search rules) (omega (arith, c.requires.within)) c.requires.before c.in-Some.is in
+    s.before
+
+pub returns-in-Begin : goal.returns-in-Begin
+returns-in-Begin c = read_begin c.args.journal.now.past c.args.moment c.args.begins.now c.args.ended.now.items c.in-Begin.w c.in-Begin.n c.in-Begin.call c.requires.within (search rules) c.in-Begin.ensures c.requires.before
+
+pub returns-in_ok-add_ended-in-End : goal.returns-in_ok-add_ended-in-End
+returns-in_ok-add_ended-in-End c =
+    let s = some_open c.args.journal.now.past c.args.moment c.args.begins.now c.args.ended.now.items c.in-End.w c.in-Some.begun (search rules) (omega (arith, c.requires.within)) c.requires.before c.in-Some.is in
+    let e = since_is c.in-End.w c.in-End.at c.in-End.reply c.args.journal.now.past c.args.moment s.opened (omega (arith, c.requires.within)) s.is in
+    read_end c.args.journal.now.past c.args.moment c.args.begins.now c.args.ended.now.items _ c.in-End.w c.in-End.n c.in-End.at c.in-End.reply c.requires.within (search rules) c.in-End.ensures c.requires.before
+    (c.in_ok-add_ended-in-End.ensures ∙ ap (λ (more : List EndedCall). c.args.ended.now.items ++ more) (rw s.same at e))
+
+pub returns-in_default-begun : goal.returns-in_default-begun
+returns-in_default-begun c =
+    let none = none_open c.args.journal.now.past c.args.moment c.args.begins.now c.args.ended.now.items c.in-End.w (search rules) c.requires.before c.in_default-begun.is in
+    read_end c.args.journal.now.past c.args.moment c.args.begins.now c.args.ended.now.items _ c.in-End.w c.in-End.n c.in-End.at c.in-End.reply c.requires.within (search rules) c.in-End.ensures c.requires.before
+    (rw none (sym (append-nil c.args.ended.now.items)))
+
+pub returns-in-Cut : goal.returns-in-Cut
+returns-in-Cut c =
+    read_cut c.args.journal.now.past c.args.moment c.args.begins.now _ c.args.ended.now.items c.requires.within (rw c.in-Cut.is at c.mark.ensures) c.requires.before
+    (c.fill.ensures.after (λ y h. search rules) ∙ ap (λ n. replicate n None) c.told-begins)
+
+pub returns-in_default : goal.returns-in_default
+returns-in_default c =
+    read_other c.args.journal.now.past c.args.moment c.args.begins.now c.args.ended.now.items c.mark.result c.requires.within c.mark.ensures
+    (other_from c.mark.result c.in_default.not-Begin c.in_default.not-End c.in_default.not-Cut) c.requires.before

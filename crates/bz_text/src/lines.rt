@@ -1,0 +1,188 @@
+//! Lines of the report.
+ghost use Rattle.std.specs.Prelude.{◌≡◌, ◌≤◌, ◌<◌, ◌*◌, ◌++◌, ◌∷◌, [], OnOk, length};
+ghost use Rattle.std.specs.List.{flat_map};
+ghost use Rattle.std.proofs.Common.{get_or};
+ghost use Rattle.std.specs.Fmt.{decimal};
+ghost use Rattle.bz_key.specs.Spelling.{spelled};
+ghost use Rattle.bz_text.specs.Lines.{call_text, next_text, spent_text, reply_text, pair_text, name_of, line_of};
+
+use crate::ended::EndedCall;
+use bz_call::{Call, Reply, Spent};
+use bz_key::{Key, Payload, SPELLED_BYTES, spell};
+use bz_mark::Journal;
+use bz_memory::Memory;
+use std::alloc::Global;
+
+fn put(out: &mut Vec<u8>, bytes: &[u8]) -> Result<(), Memory>
+    ensures { OnOk result (out.new.items ≡ out.old.items ++ bytes.now) }
+{
+    out.extend_from_slice(bytes)?;
+    Ok(())
+}
+
+fn put_number(alloc: Global, out: &mut Vec<u8>, number: u64) -> Result<(), Memory>
+    ensures { OnOk result (out.new.items ≡ out.old.items ++ decimal number) }
+{
+    let text = number.to_string(alloc)?;
+    put(out, text.as_bytes())
+}
+
+/// Puts the spelling of a key's or a payload's bytes.
+fn put_spelled(out: &mut Vec<u8>, bytes: &[u8]) -> Result<(), Memory>
+    requires { 3 * length bytes.now ≤ SPELLED_BYTES }
+    ensures { OnOk result (out.new.items ≡ out.old.items ++ spelled bytes.now) }
+{
+    let mut text = [0u8; SPELLED_BYTES];
+    let count = spell(bytes, &mut text);
+    put(out, &text[..count])
+}
+
+fn put_key(out: &mut Vec<u8>, key: Key) -> Result<(), Memory>
+    ensures { OnOk result (out.new.items ≡ out.old.items ++ spelled key) }
+{
+    put_spelled(out, key.bytes())
+}
+
+fn put_payload(out: &mut Vec<u8>, payload: Payload) -> Result<(), Memory>
+    ensures { OnOk result (out.new.items ≡ out.old.items ++ spelled payload) }
+{
+    put_spelled(out, payload.bytes())
+}
+
+fn put_both(out: &mut Vec<u8>, key: Key, payload: Payload) -> Result<(), Memory>
+    ensures { OnOk result (out.new.items ≡ out.old.items ++ (spelled key ++ (32 ∷ spelled payload))) }
+{
+    put_key(out, key)?;
+    put(out, b" ")?;
+    put_payload(out, payload)
+}
+
+fn put_call(out: &mut Vec<u8>, call: Call) -> Result<(), Memory>
+    ensures { OnOk result (out.new.items ≡ out.old.items ++ call_text call) }
+{
+    match call {
+        Call::Insert(key, payload) => {
+            put(out, b"insert ")?;
+            put_both(out, key, payload)
+        }
+        Call::Delete(key) => {
+            put(out, b"delete ")?;
+            put_key(out, key)
+        }
+        Call::Update(key, payload) => {
+            put(out, b"update ")?;
+            put_both(out, key, payload)
+        }
+        Call::Upsert(key, payload) => {
+            put(out, b"upsert ")?;
+            put_both(out, key, payload)
+        }
+        Call::Get(key) => {
+            put(out, b"get ")?;
+            put_key(out, key)
+        }
+        Call::Page(key) => {
+            put(out, b"page ")?;
+            put_key(out, key)
+        }
+    }
+}
+
+fn put_spent(out: &mut Vec<u8>, spent: Spent) -> Result<(), Memory>
+    ensures { OnOk result (out.new.items ≡ out.old.items ++ spent_text spent) }
+{
+    match spent {
+        Spent::Nodes => put(out, b"full nodes"),
+        Spent::Swaps => put(out, b"full swaps"),
+        Spent::Height => put(out, b"full height"),
+    }
+}
+
+fn put_pairs(out: &mut Vec<u8>, pairs: &[(Key, Payload)]) -> Result<(), Memory>
+    ensures { OnOk result (out.new.items ≡ out.old.items ++ flat_map pair_text pairs.now) }
+{
+    for (key, payload) in pairs {
+        put(out, b" ")?;
+        put_key(out, *key)?;
+        put(out, b"=")?;
+        put_payload(out, *payload)?;
+    }
+    Ok(())
+}
+
+fn put_next(out: &mut Vec<u8>, next: Option<Key>) -> Result<(), Memory>
+    ensures { OnOk result (out.new.items ≡ out.old.items ++ next_text next) }
+{
+    match next {
+        Some(key) => {
+            put(out, b" next ")?;
+            put_key(out, key)
+        }
+        None => put(out, b" end"),
+    }
+}
+
+/// Puts the pairs of a page of the journal, and nothing for a number that no page has.
+fn put_page(out: &mut Vec<u8>, journal: &Journal, page: u32) -> Result<(), Memory>
+    ensures { OnOk result (out.new.items ≡ out.old.items ++ flat_map pair_text (get_or journal.now.pages page [])) }
+{
+    if page >= journal.page_count() {
+        return put(out, b"");
+    }
+    put_pairs(out, journal.page(page))
+}
+
+fn put_reply(out: &mut Vec<u8>, journal: &Journal, reply: Reply) -> Result<(), Memory>
+    ensures { OnOk result (out.new.items ≡ out.old.items ++ reply_text journal.now.pages reply) }
+{
+    match reply {
+        Reply::Inserted => put(out, b"inserted"),
+        Reply::Exists => put(out, b"exists"),
+        Reply::Deleted(payload) => {
+            put(out, b"deleted ")?;
+            put_payload(out, payload)
+        }
+        Reply::Updated(payload) => {
+            put(out, b"updated ")?;
+            put_payload(out, payload)
+        }
+        Reply::Missing => put(out, b"missing"),
+        Reply::Value(payload) => {
+            put(out, b"value ")?;
+            put_payload(out, payload)
+        }
+        Reply::Page { page, next } => {
+            put(out, b"page")?;
+            put_page(out, journal, page)?;
+            put_next(out, next)
+        }
+        Reply::Full(spent) => put_spent(out, spent),
+    }
+}
+
+/// Puts the name of a call: its worker and its number.
+fn put_name(alloc: Global, out: &mut Vec<u8>, worker: u8, number: u32) -> Result<(), Memory>
+    ensures { OnOk result (out.new.items ≡ out.old.items ++ name_of worker number) }
+{
+    put(out, b"w")?;
+    put_number(alloc, out, u64::from(worker))?;
+    put(out, b".")?;
+    put_number(alloc, out, u64::from(number))
+}
+
+/// Puts the line of a call that has ended.
+pub fn put_line(
+    alloc: Global,
+    out: &mut Vec<u8>,
+    journal: &Journal,
+    ended: EndedCall,
+) -> Result<(), Memory>
+    ensures { OnOk result (out.new.items ≡ out.old.items ++ line_of journal.now.pages ended) }
+{
+    put_name(alloc, out, ended.worker, ended.number)?;
+    put(out, b" ")?;
+    put_call(out, ended.call)?;
+    put(out, b" = ")?;
+    put_reply(out, journal, ended.reply)?;
+    put(out, b"\n")
+}
