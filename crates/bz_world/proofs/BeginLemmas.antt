@@ -11,7 +11,7 @@ use Rattle.bz_mark.specs.declared.marks.Mark.TheVariants.{Begin, End, Effect}
 use Rattle.bz_sound.specs.Calls.{Open, open_call, begun_calls, MayBegin}
 use Rattle.bz_sound.specs.Sound.{IsSound}
 use Rattle.std.specs.Prelude.{if◌then◌else◌}
-use Rattle.bz_world.specs.Lab.{Lab, IsServed, IsOpen, with_log}
+use Rattle.bz_world.specs.Lab.{Lab, IsServed, IsWorker, IsOpen, with_log}
 use Rattle.bz_world.specs.Kept.{IsOpenSince, IsEntry, AreTables, IsKept}
 use Rattle.bz_world.proofs.TableLemmas.{same_number, other_number, either, set_same, set_other, sum_by-taken}
 
@@ -89,10 +89,14 @@ begun_calls-le w (Begin v n call ∷ past) = elim (v == w) as (λ b. (if b then 
 ]
 begun_calls-le w (mark ∷ past) = begun_calls-le w past
 
-pub kept_begin : (lab : Lab) (pairs : List (List ℕ × List ℕ)) (opened : List (Option ℕ)) (numbers : List ℕ) (begun w n : ℕ) (call : Call) → w < 65
+pub kept_begin : (lab : Lab) (pairs : List (List ℕ × List ℕ)) (opened : List (Option ℕ)) (numbers : List ℕ) (begun w n : ℕ) (call : Call) → w < 65 → IsWorker lab.config w
     → IsKept lab pairs opened numbers begun → get_or opened w None ≡ None → begun < lab.config.calls → n ≡ slice_index numbers w + 1 → IsServed call
     → IsKept (with_log lab (with_mark lab.log (Begin w n call))) pairs (set opened w (Some (length lab.log.past))) (set numbers w n) (begun + 1)
-kept_begin lab pairs opened numbers begun w n call small k free few is served = record {
+kept_begin lab pairs opened numbers begun w n call small worker k free few is served = record {
+  strangers = λ v h. elim (either v w) [
+    | inl e ↦ absurd (h (rw e worker))
+    | inr ne ↦ rw (other_number w v ne) (k.strangers v h)
+  ];
   config = k.config;
   limits = k.limits;
   sound = record {

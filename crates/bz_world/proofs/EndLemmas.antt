@@ -15,7 +15,8 @@ use Rattle.bz_mark.specs.MomentLaws.{mark_at-earlier, at_moment-now, at_moment-b
 use Rattle.bz_mark.specs.Moments.{at_moment}
 use Rattle.bz_mark.specs.declared.marks.Mark.{Mark}
 use Rattle.bz_mark.specs.declared.marks.Mark.TheVariants.{Begin, End, Effect}
-use Rattle.bz_sound.specs.Calls.{Open, open_call, begun_calls, map_after, map_with}
+use Rattle.bz_sound.specs.Calls.{Open, with_effect, open_call, begun_calls, map_after, map_with}
+use Rattle.std.specs.Prelude.{if◌then◌else◌, option_map}
 use Rattle.bz_sound.specs.Replies.{AnswersOnly}
 use Rattle.bz_sound.specs.Sound.{IsSound}
 use Rattle.bz_world.specs.Lab.{Lab, IsServed, Steps, with_log}
@@ -79,6 +80,15 @@ effect_tables past opened numbers w n m at begun reply small t is = record {
 pub fewer_ends : (past : List Mark) (opened : List (Option ℕ)) (numbers : List ℕ) (w begun : ℕ) → w < 65 → AreTables past opened numbers → get_or opened w None ≡ Some begun → count_ends past < count_begins past
 fewer_ends past opened numbers w begun small t is = omega (arith, t.balance, sum_by-freed opened w begun (omega (arith, t.places)) is)
 
+-- a worker that has no open call has none after these marks
+none_ended : (b : Bool) (rest : Option Open) → rest ≡ None → (if b then None else rest) ≡ None
+none_ended true rest none = refl
+none_ended false rest none = none
+
+none_effected : (b : Bool) (now : ℕ) (rest : Option Open) → rest ≡ None → (if b then option_map (with_effect now) rest else rest) ≡ None
+none_effected true now rest none = rw none refl
+none_effected false now rest none = none
+
 -- a call that changes nothing has ended
 pub kept_end : (lab : Lab) (pairs : List (List ℕ × List ℕ)) (opened : List (Option ℕ)) (numbers : List ℕ) (begun w since : ℕ) (call : Call) (reply : Reply) → w < 65
     → IsKept lab pairs opened numbers begun → get_or opened w None ≡ Some since
@@ -102,6 +112,7 @@ kept_end lab pairs opened numbers begun w since call reply small k is open_is be
         );
       };
       content = k.content;
+      strangers = λ v h. none_ended (w == v) (open_call v lab.log.past) (k.strangers v h);
       tables = end_tables lab.log.past opened numbers w (slice_index numbers w) (length lab.log.past) since reply small k.tables is;
       begins = k.begins;
       few_begins = k.few_begins;
@@ -153,6 +164,7 @@ kept_insert lab pairs opened numbers begun w since key payload small k is open_i
       content = from_entries_push nat_list_cmp_total (slice_cmp-IsAntisymmetric nat_cmp-IsAntisymmetric) pairs key payload (sym (get_is pairs (map_after empty past) key k.content) ∙ absent)
           ∙ ap (λ m. insert m key payload) k.content
           ∙ ap (λ (found : Option (List ℕ)). (apply_at found (map_after empty past) call).map) (sym absent) ∙ ap (λ (found : Option Open). map_with found (map_after empty past)) (sym open_is);
+      strangers = λ v h. none_ended (w == v) (open_call v (Effect w number ∷ past)) (none_effected (w == v) (length past) (open_call v past) (k.strangers v h));
       tables = effect_tables past opened numbers w number number (length past) since Inserted small k.tables is;
       begins = k.begins;
       few_begins = k.few_begins;

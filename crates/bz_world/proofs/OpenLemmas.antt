@@ -25,6 +25,7 @@ kept_open lab pairs opened numbers config no_marks limits no_pairs no_calls zero
   limits = limits;
   sound = record { once = rw no_marks tt; replies = rw no_marks tt };
   content = rw (no_marks, no_pairs) refl;
+  strangers = λ w h. rw no_marks refl;
   tables = rw (no_calls, zeros) (new_tables lab.log.past no_marks);
   begins = rw no_marks refl;
   few_begins = rw no_marks (omega arith);

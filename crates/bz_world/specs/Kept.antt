@@ -14,7 +14,7 @@ use Rattle.bz_mark.specs.declared.marks.Mark.{Mark}
 use Rattle.bz_mark.specs.declared.marks.Mark.TheVariants.{Begin}
 use Rattle.bz_sound.specs.Calls.{Open, open_call, begun_calls, map_after}
 use Rattle.bz_sound.specs.Sound.{IsSound}
-use Rattle.bz_world.specs.Lab.{Lab, IsServed}
+use Rattle.bz_world.specs.Lab.{Lab, IsServed, IsWorker}
 
 abbrev pub map_of_pairs : List (List ℕ × List ℕ) → Map
 map_of_pairs pairs = from_entries {R = slice_cmp nat_cmp} pairs
@@ -50,6 +50,7 @@ pub record IsKept (lab : Lab) (pairs : List (List ℕ × List ℕ)) (opened : Li
   pub limits : lab.log.limits ≡ record { marks = lab.config.marks; calls = lab.config.calls; pages = lab.config.pages }
   pub sound : IsSound empty lab.log
   pub content : map_of_pairs pairs ≡ map_after empty lab.log.past
+  pub strangers : (w : ℕ) → (IsWorker lab.config w → ⊥) → open_call w lab.log.past ≡ None
   pub tables : AreTables lab.log.past opened numbers
   pub begins : begun ≡ count_begins lab.log.past
   pub few_begins : count_begins lab.log.past ≤ lab.config.calls

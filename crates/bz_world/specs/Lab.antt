@@ -1,5 +1,5 @@
 -- What callers see of a world, and what it answers.
-use Rattle.std.specs.Prelude.{◌≡◌, ◌<◌, ◌⊎◌, ℕ, ◌+◌, ◌-◌, Bool, ◌==◌, ◌||◌, nat_lt, nat_le, if◌then◌else◌, is_some, is_none, List, [], ◌∷◌, length, Option, Some, None, MatchOption}
+use Rattle.std.specs.Prelude.{◌≡◌, ◌<◌, ◌≤◌, ◌⊎◌, ℕ, ◌+◌, ◌-◌, Bool, ◌==◌, ◌||◌, nat_lt, nat_le, if◌then◌else◌, is_some, is_none, List, [], ◌∷◌, length, Option, Some, None, MatchOption}
 use Rattle.bz_call.specs.declared.calls.Call.{Call}
 use Rattle.bz_call.specs.declared.calls.Call.TheVariants as call
 use Rattle.bz_call.specs.declared.replies.Reply.{Reply}
@@ -42,6 +42,11 @@ abbrev pub IsServed : Call → Type 0
 IsServed (call.Insert key payload) = Unit {0}
 IsServed (call.Get key) = Unit {0}
 IsServed other = ⊥
+
+-- the workers that make calls
+pub record IsWorker (config : Config) (w : ℕ) : Type 0 where
+  pub some : 0 < w
+  pub in_range : w ≤ config.workers
 
 -- fewer than three places are left in the journal
 abbrev pub is_short : Log → Bool

@@ -40,7 +40,7 @@ impl Model for World {
 }
 
 impl World {
-    ghost use Rattle.bz_world.specs.Lab.{Lab, IsServed, new_lab, IsOpenFault, begin_answer, after_begin, worker_of, IsApplied, Steps, IsOpen};
+    ghost use Rattle.bz_world.specs.Lab.{Lab, IsServed, IsWorker, new_lab, IsOpenFault, begin_answer, after_begin, worker_of, IsApplied, Steps, IsOpen};
     ghost use Rattle.bz_world.specs.Kept.{IsOpenSince};
     ghost use Rattle.bz_call.specs.declared.calls.Call.{Call};
 
@@ -209,6 +209,7 @@ impl World {
     pub fn journal(&self) -> &Journal
         ensures journal { result.now ≡ self.now.log }
         ensures sound { IsSound empty self.now.log }
+        ensures workers { (w : ℕ) → (IsWorker self.now.config w → ⊥) → open_call w self.now.log.past ≡ None }
     {
         &self.journal
     }

@@ -1,0 +1,65 @@
+-- The marks that a run adds to a journal. The newest mark stands first.
+use Rattle.std.specs.Prelude.{◌≡◌, ◌≢◌, ◌≤◌, ◌<◌, ◌⊎◌, ℕ, ◌-◌, List, [], ◌∷◌, ◌++◌, length, Option, Some, None}
+use Rattle.bz_call.specs.declared.calls.Call.{Call}
+use Rattle.bz_mark.specs.Log.{Log, count_begins}
+use Rattle.bz_mark.specs.declared.marks.Mark.{Mark}
+use Rattle.bz_mark.specs.declared.marks.Mark.TheVariants.{Begin, End, Load, Store, Cas, Flush, Evict, Cut, On, Ready, Effect}
+use Rattle.bz_sound.specs.Calls.{open_call}
+use Rattle.bz_world.specs.Lab.{Lab, with_log}
+use Rattle.bz_world.specs.declared.answers.Which.{Which}
+use Rattle.bz_world.specs.declared.answers.Which.TheVariants as which
+
+-- the calls that begin, each with its worker, the first one first
+abbrev pub calls_begun : List Mark → List (ℕ × Call)
+calls_begun [] = []
+calls_begun (Begin w n call ∷ past) = calls_begun past ++ (w, call) ∷ []
+calls_begun (mark ∷ past) = calls_begun past
+
+-- whose doing a mark is; an Effect may come by another worker's act
+abbrev pub doer : Mark → Option ℕ
+doer (Begin w n call) = Some w
+doer (End w n reply at) = Some w
+doer (Load w a v) = Some w
+doer (Store w a v) = Some w
+doer (Cas w a old new found) = Some w
+doer (Flush w line) = Some w
+doer mark = None
+
+abbrev pub IsUpTo : ℕ → Option ℕ → Type 0
+IsUpTo w None = Unit {0}
+IsUpTo w (Some v) = v ≤ w
+
+-- each mark is the doing of a worker up to this one
+abbrev pub AreUpTo : ℕ → List Mark → Type 0
+AreUpTo w [] = Unit {0}
+AreUpTo w (mark ∷ past) = IsUpTo w (doer mark) × AreUpTo w past
+
+-- none before is the doing of a worker after this one
+abbrev pub FollowsRise : Option ℕ → List Mark → Type 0
+FollowsRise None past = Unit {0}
+FollowsRise (Some w) past = AreUpTo w past
+
+-- the workers come in ascending order
+abbrev pub Ascends : List Mark → Type 0
+Ascends [] = Unit {0}
+Ascends (mark ∷ past) = FollowsRise (doer mark) past × Ascends past
+
+-- the journal has grown by these marks, and nothing else of the world has changed
+abbrev pub grown : Lab → List Mark → Lab
+grown old added = with_log old (record { start = old.log.start; past = added ++ old.log.past; pages = old.log.pages; limits = old.log.limits })
+
+-- each mark is the doing of this worker, or of nobody
+abbrev pub IsOf : ℕ → Option ℕ → Type 0
+IsOf w None = Unit {0}
+IsOf w (Some v) = v ≡ w
+
+abbrev pub AreOf : ℕ → List Mark → Type 0
+AreOf w [] = Unit {0}
+AreOf w (mark ∷ past) = IsOf w (doer mark) × AreOf w past
+
+-- the limit is met, and one more was needed: fewer than three places are left for a mark, or no further call
+-- may begin and one waits
+abbrev pub IsMet : Lab → List (ℕ × Call) → Which → Type 0
+IsMet lab rest which.Marks = lab.log.limits.marks - length lab.log.past < 3
+IsMet lab rest which.Calls = (lab.log.limits.calls ≤ count_begins lab.log.past) × (rest ≢ [])
+IsMet lab rest which.Pages = ⊥

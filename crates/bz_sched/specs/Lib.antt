@@ -1,0 +1,4 @@
+pub mod Queued
+pub mod QueueKept
+pub mod Added
+pub mod Runs

@@ -1,0 +1,5 @@
+pub mod Forms
+pub mod Items
+pub mod Number
+pub mod Script
+pub mod Words

@@ -1,0 +1,19 @@
+//! What the lines of a script ask for.
+use bz_call::Call;
+
+/// How the calls that wait are run.
+#[derive(Drop)]
+pub enum Plan {
+    /// One worker after another, from 1 up, each one's calls to their end.
+    Alone,
+}
+
+/// What a line after the first asks for.
+#[derive(Drop)]
+pub enum Item {
+    /// Queues a call for a worker, 1 to 64.
+    Queue(u8, Call),
+
+    /// Runs the calls that wait.
+    Run(Plan),
+}

@@ -1,0 +1,266 @@
+//! Scripts that are read, and texts that break each rule.
+ghost use Rattle.std.specs.Prelude.{◌≤◌, length};
+
+use crate::{Item, ItemList, Plan, SCRIPT_BYTES, read_number, read_script};
+use bz_call::Call;
+use bz_key::{Key, Payload};
+use std::alloc::{AllocError, Global};
+use std::process::Abort;
+use std::test::Fail;
+
+// What the reader says of a text: the numbers of its memory and of its items, or its fault.
+fn reading(alloc: Global, text: &[u8], memory: Option<(u32, u32)>) -> Result<String, AllocError>
+    requires { length text.now ≤ SCRIPT_BYTES }
+{
+    match read_script(alloc, text, memory) {
+        Ok(script) => {
+            let count = script.items.items().len();
+            format!(in alloc; "{} {} {count}", script.nodes, script.swaps)
+        }
+        Err(fault) => format!(in alloc; "{fault}"),
+    }
+}
+
+fn expect_reading(
+    rt: &impl Abort,
+    alloc: Global,
+    text: &[u8],
+    memory: Option<(u32, u32)>,
+    want: &str,
+) -> Result<(), Fail> {
+    assert!(rt; text.len() <= SCRIPT_BYTES);
+    let got = reading(alloc, text, memory)?;
+    assert_eq!(rt; got.as_str(), want, "at {:?}", std::str::from_utf8(text));
+    Ok(())
+}
+
+#[test]
+fn answers_the_first_broken_rule(rt: HostRuntime) -> Result<(), Fail> {
+    let cases = [
+        ("", "line 1: memory expected"),
+        ("\n", "line 1: memory expected"),
+        ("memory 1 1", "line 1: line feed expected"),
+        ("bad", "line 1: line feed expected"),
+        ("Memory 1 1\n", "line 1: memory expected"),
+        (" memory 1 1\n", "line 1: memory expected"),
+        ("w 1 get a\n", "line 1: memory expected"),
+        ("memory\n", "line 1: wrong number of words"),
+        ("memory 1\n", "line 1: wrong number of words"),
+        ("memory 1 1 \n", "line 1: wrong number of words"),
+        ("memory  1 1\n", "line 1: wrong number of words"),
+        ("memory 1  1\n", "line 1: wrong number of words"),
+        ("memory 0 1\n", "line 1: bad number"),
+        ("memory 16385 1\n", "line 1: bad number"),
+        ("memory 1 0\n", "line 1: bad number"),
+        ("memory 1 65537\n", "line 1: bad number"),
+        ("memory 01 1\n", "line 1: bad number"),
+        ("memory +1 1\n", "line 1: bad number"),
+        ("memory 1 -1\n", "line 1: bad number"),
+        ("memory 1 100000000000000000000\n", "line 1: bad number"),
+        ("memory 1 18446744073709551616\n", "line 1: bad number"),
+        ("memory 1 18446744073709551617\n", "line 1: bad number"),
+        ("memory 1 1\r\n", "line 1: bad number"),
+        ("memory 1 \n", "line 1: bad number"),
+        ("memory 1 1\nw 1 get a", "line 2: line feed expected"),
+        ("memory 1 1\n\n", "line 2: unknown word"),
+        ("memory 1 1\n\nrun alone\n", "line 2: unknown word"),
+        ("memory 1 1\nrun alone\n\n", "line 3: unknown word"),
+        ("memory 1 1\n w 1 get a\n", "line 2: unknown word"),
+        ("memory 1 1\n#\n", "line 2: unknown word"),
+        ("memory 1 1\nwrong\n", "line 2: unknown word"),
+        ("memory 1 1\nw\n", "line 2: wrong number of words"),
+        ("memory 1 1\nw 1\n", "line 2: wrong number of words"),
+        ("memory 1 1\nrun\n", "line 2: wrong number of words"),
+        ("memory 1 1\nrun \n", "line 2: unknown word"),
+        ("memory 1 1\nw 0 put a b\n", "line 2: unknown word"),
+        ("memory 1 1\nw 0 delete a\n", "line 2: unknown word"),
+        ("memory 1 1\nw 0 update a b\n", "line 2: unknown word"),
+        ("memory 1 1\nw 0 upsert a b\n", "line 2: unknown word"),
+        ("memory 1 1\nw 0 page a\n", "line 2: unknown word"),
+        ("memory 1 1\nw  1 get a\n", "line 2: unknown word"),
+        ("memory 1 1\nrun list 1\n", "line 2: unknown word"),
+        ("memory 1 1\nrun turns 1\n", "line 2: unknown word"),
+        ("memory 1 1\nrun threads\n", "line 2: unknown word"),
+        ("memory 1 1\ncut 1 1\n", "line 2: unknown word"),
+        ("memory 1 1\npower\n", "line 2: unknown word"),
+        (
+            "memory 1 1\nrun alone now\n",
+            "line 2: wrong number of words",
+        ),
+        ("memory 1 1\nw 0 get\n", "line 2: wrong number of words"),
+        ("memory 1 1\nw 0 get a b\n", "line 2: wrong number of words"),
+        (
+            "memory 1 1\nw 0 insert a\n",
+            "line 2: wrong number of words",
+        ),
+        (
+            "memory 1 1\nw 0 insert a b c\n",
+            "line 2: wrong number of words",
+        ),
+        ("memory 1 1\nw 0 insert ! !\n", "line 2: bad worker"),
+        ("memory 1 1\nw 65 get !\n", "line 2: bad worker"),
+        ("memory 1 1\nw 01 get a\n", "line 2: bad worker"),
+        ("memory 1 1\nw x get a\n", "line 2: bad worker"),
+        ("memory 1 1\nw 257 get a\n", "line 2: bad worker"),
+        ("memory 1 1\nw 1 insert ! !\n", "line 2: bad key"),
+        ("memory 1 1\nw 1 insert  a\n", "line 2: bad key"),
+        ("memory 1 1\nw 1 get %\n", "line 2: bad key"),
+        ("memory 1 1\nw 1 get %0a\n", "line 2: bad key"),
+        ("memory 1 1\nw 1 get %41\n", "line 2: bad key"),
+        ("memory 1 1\nw 1 get %2\n", "line 2: bad key"),
+        (
+            "memory 1 1\nw 1 get abcdefghijklmnopqrstuvwxyz012\n",
+            "line 2: bad key",
+        ),
+        ("memory 1 1\nw 1 insert a !\n", "line 2: bad payload"),
+        ("memory 1 1\nw 1 insert a \n", "line 2: bad payload"),
+        ("memory 1 1\nw 1 insert a %%\n", "line 2: bad payload"),
+        (
+            "memory 1 1\nw 1 insert a abcdefghijklmnopqrstuvwxyz012\n",
+            "line 2: bad payload",
+        ),
+        ("memory 1 1\nmemory 1 1\n", "line 2: wrong order"),
+        ("memory 1 1\nmemory 1\n", "line 2: wrong number of words"),
+        ("memory 1 1\nmemory 0 1\n", "line 2: bad number"),
+        ("memory 1 1\nrun alone\nmemory 2 2\n", "line 3: wrong order"),
+        ("memory 1 1\nrun alone\nbad\nworse", "line 3: unknown word"),
+        ("memory 0 1\nbad", "line 1: bad number"),
+        (
+            "memory 1 1\nrun alone\nw 0 get a\nw 1 get !\n",
+            "line 3: bad worker",
+        ),
+        (
+            "memory 1 1\nrun alone\nw 9 get !\nw 0 get a\n",
+            "line 3: bad key",
+        ),
+    ];
+    for (text, want) in cases {
+        expect_reading(&rt, rt.alloc(), text.as_bytes(), None, want)?;
+    }
+    Ok(())
+}
+
+#[test]
+fn reads_any_bytes(rt: HostRuntime) -> Result<(), Fail> {
+    let alloc = rt.alloc();
+    expect_reading(&rt, alloc, b"\0", None, "line 1: line feed expected")?;
+    expect_reading(&rt, alloc, b"\xff\n", None, "line 1: memory expected")?;
+    expect_reading(
+        &rt,
+        alloc,
+        b"memory 1 1\n\0\n",
+        None,
+        "line 2: unknown word",
+    )?;
+    expect_reading(
+        &rt,
+        alloc,
+        b"memory 1 1\nw 1 get \xff\n",
+        None,
+        "line 2: bad key",
+    )?;
+    expect_reading(
+        &rt,
+        alloc,
+        b"memory 1 1\nw \0 get a\n",
+        None,
+        "line 2: bad worker",
+    )?;
+    Ok(())
+}
+
+#[test]
+fn compares_the_numbers_of_an_image(rt: HostRuntime) -> Result<(), Fail> {
+    let cases = [
+        ("memory 10 8\n", "10 8 0"),
+        ("memory 11 8\n", "line 1: bad number"),
+        ("memory 10 9\n", "line 1: bad number"),
+        ("memory 8 10\n", "line 1: bad number"),
+        ("memory 11\n", "line 1: wrong number of words"),
+        ("memory 10 8\nmemory 11 8\n", "line 2: wrong order"),
+    ];
+    for (text, want) in cases {
+        expect_reading(&rt, rt.alloc(), text.as_bytes(), Some((10, 8)), want)?;
+    }
+    Ok(())
+}
+
+#[test]
+fn reads_scripts(rt: HostRuntime) -> Result<(), Fail> {
+    let cases = [
+        ("memory 1 1\n", "1 1 0"),
+        ("memory 16384 65536\n", "16384 65536 0"),
+        ("memory 1 1\nrun alone\nrun alone\n", "1 1 2"),
+        (
+            "memory 1 1\nw 64 get abcdefghijklmnopqrstuvwxyz01\n",
+            "1 1 1",
+        ),
+        ("memory 1 1\nw 1 get %00%20%25\n", "1 1 1"),
+    ];
+    for (text, want) in cases {
+        expect_reading(&rt, rt.alloc(), text.as_bytes(), None, want)?;
+    }
+    Ok(())
+}
+
+#[test]
+fn gives_the_items_in_their_order(rt: HostRuntime) -> Result<(), Fail> {
+    let text = b"memory 64 16\nw 1 insert a 1\nw 64 insert %00b %\nw 1 get a\nrun alone\n";
+    let script = read_script(rt.alloc(), text, None)?;
+    assert_eq!(rt; (script.nodes, script.swaps), (64, 16));
+    let items = script.items.items();
+    assert_eq!(rt; items.len(), 4);
+    assert!(rt;
+        matches!(items[0], Item::Queue(1, Call::Insert(key, payload)) if key == Key::of(b"a")? && payload == Payload::of(b"1")?)
+    );
+    assert!(rt;
+        matches!(items[1], Item::Queue(64, Call::Insert(key, payload)) if key == Key::of(b"\0b")? && payload == Payload::of(b"")?)
+    );
+    assert!(rt; matches!(items[2], Item::Queue(1, Call::Get(key)) if key == Key::of(b"a")?));
+    assert!(rt; matches!(items[3], Item::Run(Plan::Alone)));
+    Ok(())
+}
+
+#[test]
+fn reads_numbers(rt: HostRuntime) {
+    let cases = [
+        ("", None),
+        ("0", Some(0)),
+        ("00", None),
+        ("7", Some(7)),
+        ("07", None),
+        ("-7", None),
+        ("+7", None),
+        ("7 ", None),
+        ("7a", None),
+        ("/", None),
+        (":", None),
+        ("9999999999999999999", Some(9_999_999_999_999_999_999)),
+        ("18446744073709551615", Some(u64::MAX)),
+        ("18446744073709551616", None),
+        ("100000000000000000000", None),
+    ];
+    for (text, want) in cases {
+        assert_eq!(rt; read_number(text.as_bytes()), want, "at {text}");
+    }
+}
+
+#[test]
+fn takes_as_many_items_as_there_is_room_for(rt: HostRuntime) -> Result<(), Fail> {
+    let mut items = ItemList::open(rt.alloc(), 2)?;
+    items.push(Item::Run(Plan::Alone));
+    items.push(Item::Queue(9, Call::Get(Key::of(b"a")?)));
+    assert_eq!(rt; items.items().len(), 2);
+    Ok(())
+}
+
+#[test]
+fn reads_a_script_of_the_greatest_length(rt: HostRuntime) -> Result<(), Fail> {
+    let mut text: Vec<u8> = Vec::with_capacity(rt.alloc(), SCRIPT_BYTES)?;
+    text.extend_from_slice(b"memory 1 1\nw 1 get abcdef\n")?;
+    for _ in 0..104_855 {
+        text.extend_from_slice(b"run alone\n")?;
+    }
+    assert_eq!(rt; text.len(), SCRIPT_BYTES);
+    expect_reading(&rt, rt.alloc(), &text, None, "1 1 104856")
+}
