@@ -9,6 +9,7 @@ use Rattle.bz_mark.specs.declared.marks.Mark.TheVariants.{Begin, End, Load, Stor
 use Rattle.bz_sound.specs.Calls.{Open, open_call, with_effect}
 use Rattle.bz_world.specs.Lab.{Lab}
 use Rattle.bz_sched.specs.Queued.{calls_of}
+use Rattle.bz_sched.specs.QueueLaws.{calls_of-append}
 use Rattle.bz_sched.specs.Added.{calls_begun, doer, IsOf, AreOf, IsUpTo, AreUpTo, FollowsRise, Ascends, grown}
 use Rattle.bz_sched.specs.Runs.{Extends}
 
@@ -85,15 +86,6 @@ rise_own w (Some u) past own h = rw own h
 pub ascends_own : (w : ℕ) (added past : List Mark) → AreOf w added → AreUpTo w past → Ascends past → Ascends (added ++ past)
 ascends_own w [] past own h up = up
 ascends_own w (mark ∷ added) past own h up = (rise_own w (doer mark) (added ++ past) own.0 (up_to_own w added past own.1 h), ascends_own w added past own.1 h up)
-
--- calls of one worker, and of another
-pub calls_of-append : (w : ℕ) (xs ys : List (ℕ × Call)) → calls_of w (xs ++ ys) ≡ calls_of w xs ++ calls_of w ys
-calls_of-append w [] ys = refl
-calls_of-append w (x ∷ xs) ys = by_test (x.0 == w) (calls_of-append w xs ys)
-  where
-    by_test : (b : Bool) → calls_of w (xs ++ ys) ≡ calls_of w xs ++ calls_of w ys → (if b then x ∷ calls_of w (xs ++ ys) else calls_of w (xs ++ ys)) ≡ (if b then x ∷ calls_of w xs else calls_of w xs) ++ calls_of w ys
-    by_test true e = ap (λ (calls : List (ℕ × Call)). x ∷ calls) e
-    by_test false e = e
 
 -- one worker's marks begin calls of this worker alone
 pub own_begun : (w : ℕ) (added : List Mark) → AreOf w added → calls_of w (calls_begun added) ≡ calls_begun added

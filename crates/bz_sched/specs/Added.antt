@@ -63,3 +63,9 @@ abbrev pub IsMet : Lab → List (ℕ × Call) → Which → Type 0
 IsMet lab rest which.Marks = lab.log.limits.marks - length lab.log.past < 3
 IsMet lab rest which.Calls = (lab.log.limits.calls ≤ count_begins lab.log.past) × (rest ≢ [])
 IsMet lab rest which.Pages = ⊥
+
+-- the limit is met: fewer than three places are left for marks, or as many calls have begun as may
+abbrev pub IsAtLimit : Lab → Which → Type 0
+IsAtLimit lab which.Marks = lab.log.limits.marks - length lab.log.past < 3
+IsAtLimit lab which.Calls = lab.log.limits.calls ≤ count_begins lab.log.past
+IsAtLimit lab which.Pages = ⊥

@@ -1,4 +1,6 @@
 pub mod Queued
 pub mod QueueKept
+pub mod QueueLaws
 pub mod Added
 pub mod Runs
+pub mod Follows

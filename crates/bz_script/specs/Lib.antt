@@ -3,3 +3,4 @@ pub mod Items
 pub mod Number
 pub mod Script
 pub mod Words
+pub mod ItemLaws

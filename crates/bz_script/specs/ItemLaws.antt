@@ -1,0 +1,179 @@
+-- What the parts of a script are: its sizes are in range, and its queued calls are of workers from 1 to 64
+-- and of the kinds that scripts have.
+use Rattle.std.proofs.Common.{◌≡◌, ◌≤◌, ◌<◌, ℕ, ◌+◌, Bool, true, false, List, [], ◌∷◌, refl, ap, sym, ◌∙◌, arith, Option, Some, None, ◌==◌}
+use Rattle.std.specs.Prelude.{if◌then◌else◌, nat_le, nat_lt, ◌&&◌, length, codes, Ok, Err, Result}
+use Rattle.std.proofs.lemmas.Bool.Decides.{nat_tests}
+use Rattle.bz_key.specs.Spelling.{key_of_word, payload_of_word}
+use Rattle.bz_call.specs.declared.calls.Call.{Call}
+use Rattle.bz_call.specs.declared.calls.Call.TheVariants.{Insert, Get}
+use Rattle.bz_script.specs.declared.item.Item.{Item}
+use Rattle.bz_script.specs.declared.item.Item.TheVariants.{Queue, Run}
+use Rattle.bz_script.specs.declared.item.Plan.TheVariants.{Alone}
+use Rattle.bz_script.specs.declared.forms.Line.{Line}
+use Rattle.bz_script.specs.declared.forms.Line.TheVariants.{Memory, Entry}
+use Rattle.bz_script.specs.declared.forms.Sizes.{Sizes}
+use Rattle.bz_script.specs.declared.fault.ScriptRule.{ScriptRule}
+use Rattle.bz_script.specs.declared.fault.ScriptRule.TheVariants.{Unknown, Words, Number, NoMemoryLine}
+use Rattle.bz_script.specs.Number.{within, number_of}
+use Rattle.bz_script.specs.Words.{word, is_word, words_of, lines_of}
+use Rattle.bz_script.specs.Forms.{sizes_by, memory_of, worker_of, insert_by, insert_of, get_by, get_of, call_of, alone_of, run_of, sized, entered, line_of}
+use Rattle.bz_script.specs.Script.{Job, Fault, same_as, first_of, in_order, item_of, then_items, items_of, then_job, script_of_lines, script_of}
+
+-- the calls that scripts of this stage have
+abbrev pub IsOffered : Call → Type 0
+IsOffered (Insert key payload) = Unit {0}
+IsOffered (Get key) = Unit {0}
+IsOffered other = ⊥
+
+abbrev pub IsItem : Item → Type 0
+IsItem (Queue w call) = (1 ≤ w) × (w ≤ 64) × IsOffered call
+IsItem (Run plan) = Unit {0}
+
+abbrev pub AreItems : List Item → Type 0
+AreItems [] = Unit {0}
+AreItems (item ∷ items) = IsItem item × AreItems items
+
+pub record IsJob (job : Job) : Type 0 where
+  pub some_nodes : 1 ≤ job.nodes
+  pub few_nodes : job.nodes ≤ 16384
+  pub some_swaps : 1 ≤ job.swaps
+  pub few_swaps : job.swaps ≤ 65536
+  pub items : AreItems job.items
+
+-- what is Ok of a choice is Ok of the one that was chosen
+either_way : {A E : Type 0} (P : A → Type 0) (b : Bool) (x y : Result A E) (item : A) → (x ≡ Ok item → P item) → (y ≡ Ok item → P item) → (if b then x else y) ≡ Ok item → P item
+either_way P true x y item h k is = h is
+either_way P false x y item h k is = k is
+
+range_by : (b : Bool) (low high m n : ℕ) → (nat_le low m && nat_le m high) ≡ b → (if b then Some m else None) ≡ Some n → (low ≤ n) × (n ≤ high)
+range_by true low high m n test e = let same : m ≡ n = cc in (grind (arith, nat_tests, test, same), grind (arith, nat_tests, test, same))
+range_by false low high m n test e = absurd cc
+
+in_range : (low high : ℕ) (found : Option ℕ) (n : ℕ) → within low high found ≡ Some n → (low ≤ n) × (n ≤ high)
+in_range low high None n is = absurd cc
+in_range low high (Some m) n is = range_by (nat_le low m && nat_le m high) low high m n refl is
+
+insert_item : (worker : Option ℕ) (key payload : Option (List ℕ)) (item : Item) → ((w : ℕ) → worker ≡ Some w → (1 ≤ w) × (w ≤ 64)) → insert_by worker key payload ≡ Ok item → IsItem item
+insert_item None key payload item h is = absurd cc
+insert_item (Some w) None payload item h is = absurd cc
+insert_item (Some w) (Some key) None item h is = absurd cc
+insert_item (Some w) (Some key) (Some payload) item h is =
+    let same : Queue w (Insert key payload) ≡ item = cc in
+    let few = h w refl in
+    rw (← same) (few.0, few.1, tt)
+
+get_item : (worker : Option ℕ) (key : Option (List ℕ)) (item : Item) → ((w : ℕ) → worker ≡ Some w → (1 ≤ w) × (w ≤ 64)) → get_by worker key ≡ Ok item → IsItem item
+get_item None key item h is = absurd cc
+get_item (Some w) None item h is = absurd cc
+get_item (Some w) (Some key) item h is =
+    let same : Queue w (Get key) ≡ item = cc in
+    let few = h w refl in
+    rw (← same) (few.0, few.1, tt)
+
+no_item : (rule : ScriptRule) (item : Item) → ◌≡◌ {A = Result Item ScriptRule} (Err rule) (Ok item) → IsItem item
+no_item rule item is = absurd cc
+
+call_item : (words : List (List ℕ)) (item : Item) → call_of words ≡ Ok item → IsItem item
+call_item words item =
+    either_way IsItem (nat_lt (length words) 3) (Err Words) _ item (no_item Words item)
+      (either_way IsItem (is_word words 2 (codes "insert")) (insert_of words) _ item
+        (either_way IsItem (length words == 5) _ (Err Words) item (insert_item (worker_of (word words 1)) (key_of_word (word words 3)) (payload_of_word (word words 4)) item (in_range 1 64 (number_of (word words 1)))) (no_item Words item))
+        (either_way IsItem (is_word words 2 (codes "get")) (get_of words) (Err Unknown) item
+          (either_way IsItem (length words == 4) _ (Err Words) item (get_item (worker_of (word words 1)) (key_of_word (word words 3)) item (in_range 1 64 (number_of (word words 1)))) (no_item Words item))
+          (no_item Unknown item)))
+
+alone_item : (words : List (List ℕ)) (item : Item) → alone_of words ≡ Ok item → IsItem item
+alone_item words item = either_way IsItem (length words == 2) (Ok (Run Alone)) (Err Words) item (λ is. let same : Run Alone ≡ item = cc in rw (← same) tt) (no_item Words item)
+
+run_item : (words : List (List ℕ)) (item : Item) → run_of words ≡ Ok item → IsItem item
+run_item words item =
+    either_way IsItem (nat_lt (length words) 2) (Err Words) _ item (no_item Words item)
+      (either_way IsItem (is_word words 1 (codes "alone")) (alone_of words) (Err Unknown) item (alone_item words item) (no_item Unknown item))
+
+abbrev IsLine : Line → Type 0
+IsLine (Memory sizes) = Unit {0}
+IsLine (Entry item) = IsItem item
+
+no_line : (rule : ScriptRule) (line : Line) → ◌≡◌ {A = Result Line ScriptRule} (Err rule) (Ok line) → IsLine line
+no_line rule line is = absurd cc
+
+sized_line : (sizes : Result Sizes ScriptRule) (line : Line) → sized sizes ≡ Ok line → IsLine line
+sized_line (Err rule) line is = absurd cc
+sized_line (Ok sizes) line is = let same : Memory sizes ≡ line = cc in rw (← same) tt
+
+entered_line : (found : Result Item ScriptRule) (line : Line) → ((item : Item) → found ≡ Ok item → IsItem item) → entered found ≡ Ok line → IsLine line
+entered_line (Err rule) line h is = absurd cc
+entered_line (Ok item) line h is = let same : Entry item ≡ line = cc in rw (← same) (h item refl)
+
+line_item : (words : List (List ℕ)) (line : Line) → line_of words ≡ Ok line → IsLine line
+line_item words line =
+    either_way IsLine (is_word words 0 (codes "memory")) (sized (memory_of words)) _ line (sized_line (memory_of words) line)
+      (either_way IsLine (is_word words 0 (codes "w")) (entered (call_of words)) _ line (entered_line (call_of words) line (call_item words))
+        (either_way IsLine (is_word words 0 (codes "run")) (entered (run_of words)) (Err Unknown) line (entered_line (run_of words) line (run_item words)) (no_line Unknown line)))
+
+ordered_item : (found : Result Line ScriptRule) (item : Item) → ((line : Line) → found ≡ Ok line → IsLine line) → in_order found ≡ Ok item → IsItem item
+ordered_item (Err rule) item h is = absurd cc
+ordered_item (Ok (Memory sizes)) item h is = absurd cc
+ordered_item (Ok (Entry entry)) item h is = let same : entry ≡ item = cc in rw (← same) (h (Entry entry) refl)
+
+item_is : (words : List (List ℕ)) (item : Item) → item_of words ≡ Ok item → IsItem item
+item_is words item = ordered_item (line_of words) item (line_item words)
+
+items_then : (number : ℕ) (found : Result Item ScriptRule) (rest : Result (List Item) Fault) (items : List Item) → ((item : Item) → found ≡ Ok item → IsItem item)
+    → ((more : List Item) → rest ≡ Ok more → AreItems more) → then_items number found rest ≡ Ok items → AreItems items
+items_then number (Err rule) rest items h k is = absurd cc
+items_then number (Ok item) (Err fault) items h k is = absurd cc
+items_then number (Ok item) (Ok more) items h k is = let same : item ∷ more ≡ items = cc in rw (← same) (h item refl, k more refl)
+
+items_are : (number : ℕ) (lines : List (List ℕ)) (items : List Item) → items_of number lines ≡ Ok items → AreItems items
+items_are number [] items is = let same : [] ≡ items = cc in rw (← same) tt
+items_are number ([] ∷ []) items is = let same : [] ≡ items = cc in rw (← same) tt
+items_are number ((b ∷ line) ∷ []) items is = absurd cc
+items_are number ([] ∷ next ∷ lines) items is = items_then number (item_of (words_of [])) (items_of (number + 1) (next ∷ lines)) items (item_is (words_of [])) (items_are (number + 1) (next ∷ lines)) is
+items_are number ((b ∷ line) ∷ next ∷ lines) items is = items_then number (item_of (words_of (b ∷ line))) (items_of (number + 1) (next ∷ lines)) items (item_is (words_of (b ∷ line))) (items_are (number + 1) (next ∷ lines)) is
+
+pub record AreSizes (sizes : Sizes) : Type 0 where
+  pub some_nodes : 1 ≤ sizes.nodes
+  pub few_nodes : sizes.nodes ≤ 16384
+  pub some_swaps : 1 ≤ sizes.swaps
+  pub few_swaps : sizes.swaps ≤ 65536
+
+sizes_are : (nodes swaps : Option ℕ) (sizes : Sizes) → ((n : ℕ) → nodes ≡ Some n → (1 ≤ n) × (n ≤ 16384)) → ((n : ℕ) → swaps ≡ Some n → (1 ≤ n) × (n ≤ 65536)) → sizes_by nodes swaps ≡ Ok sizes → AreSizes sizes
+sizes_are None swaps sizes h k is = absurd cc
+sizes_are (Some nodes) None sizes h k is = absurd cc
+sizes_are (Some nodes) (Some swaps) sizes h k is =
+    let same : ◌≡◌ {A = Sizes} (record { nodes = nodes; swaps = swaps }) sizes = cc in
+    let few = h nodes refl in
+    let less = k swaps refl in
+    rw (← same) (record { some_nodes = few.0; few_nodes = few.1; some_swaps = less.0; few_swaps = less.1 })
+
+no_sizes : (rule : ScriptRule) (sizes : Sizes) → ◌≡◌ {A = Result Sizes ScriptRule} (Err rule) (Ok sizes) → AreSizes sizes
+no_sizes rule sizes is = absurd cc
+
+memory_sizes : (words : List (List ℕ)) (sizes : Sizes) → memory_of words ≡ Ok sizes → AreSizes sizes
+memory_sizes words sizes = either_way AreSizes (length words == 3) _ (Err Words) sizes (sizes_are (within 1 16384 (number_of (word words 1))) (within 1 65536 (number_of (word words 2))) sizes (in_range 1 16384 (number_of (word words 1))) (in_range 1 65536 (number_of (word words 2)))) (no_sizes Words sizes)
+
+same_sizes : (image : Option (ℕ × ℕ)) (found : Result Sizes ScriptRule) (sizes : Sizes) → ((other : Sizes) → found ≡ Ok other → AreSizes other) → same_as image found ≡ Ok sizes → AreSizes sizes
+same_sizes image (Err rule) sizes h is = absurd cc
+same_sizes None (Ok found) sizes h is = let same : found ≡ sizes = cc in rw (← same) (h found refl)
+same_sizes (Some image) (Ok found) sizes h is = either_way AreSizes ((found.nodes == image.0) && (found.swaps == image.1)) (Ok found) (Err Number) sizes (λ e. let same : found ≡ sizes = cc in rw (← same) (h found refl)) (no_sizes Number sizes) is
+
+first_sizes : (image : Option (ℕ × ℕ)) (words : List (List ℕ)) (sizes : Sizes) → first_of image words ≡ Ok sizes → AreSizes sizes
+first_sizes image words sizes = either_way AreSizes (is_word words 0 (codes "memory")) (same_as image (memory_of words)) (Err NoMemoryLine) sizes (same_sizes image (memory_of words) sizes (memory_sizes words)) (no_sizes NoMemoryLine sizes)
+
+job_is : (first : Result Sizes ScriptRule) (rest : Result (List Item) Fault) (job : Job) → ((sizes : Sizes) → first ≡ Ok sizes → AreSizes sizes) → ((items : List Item) → rest ≡ Ok items → AreItems items) → then_job first rest ≡ Ok job → IsJob job
+job_is (Err rule) rest job h k is = absurd cc
+job_is (Ok sizes) (Err fault) job h k is = absurd cc
+job_is (Ok sizes) (Ok items) job h k is =
+    let same : ◌≡◌ {A = Job} (record { nodes = sizes.nodes; swaps = sizes.swaps; items = items }) job = cc in
+    let s = h sizes refl in
+    rw (← same) (record { some_nodes = s.some_nodes; few_nodes = s.few_nodes; some_swaps = s.some_swaps; few_swaps = s.few_swaps; items = k items refl })
+
+lines_job : (image : Option (ℕ × ℕ)) (lines : List (List ℕ)) (job : Job) → script_of_lines image lines ≡ Ok job → IsJob job
+lines_job image [] job is = absurd cc
+lines_job image (bytes ∷ []) job is = absurd cc
+lines_job image (line ∷ next ∷ lines) job is = job_is (first_of image (words_of line)) (items_of 2 (next ∷ lines)) job (first_sizes image (words_of line)) (items_are 2 (next ∷ lines)) is
+
+-- a script's sizes are in range, and its items are queued calls that scripts have, and runs
+pub scripts_are_jobs : (image : Option (ℕ × ℕ)) (bytes : List ℕ) (job : Job) → script_of image bytes ≡ Ok job → IsJob job
+scripts_are_jobs image bytes job is = lines_job image (lines_of bytes) job is

@@ -1,0 +1,156 @@
+-- How a run of the program ends: the cause of each status, and what is then written.
+use Rattle.std.specs.Prelude.{◌≡◌, ◌⊎◌, ℕ, List, [], ◌∷◌, ◌++◌, Option, Some, None, Ok, Err, true, false, codes}
+use Rattle.std.specs.FinMap.{empty}
+use Rattle.std.specs.Io.KnownBytes.{Appends}
+use Rattle.bz_io.specs.Faults.{Rose}
+use Rattle.bz_io.specs.Transfers.{IsReadWhole, GaveCount, GrewByFront}
+use Rattle.bz_sound.specs.Sound.{IsSound}
+use Rattle.bz_script.specs.Script.{Job, Fault, script_of}
+use Rattle.bz_script.specs.declared.fault.ScriptRule.{ScriptRule}
+use Rattle.bz_world.specs.Lab.{Lab}
+use Rattle.bz_world.specs.declared.answers.Which.{Which}
+use Rattle.bz_sched.specs.Added.{IsAtLimit}
+use Rattle.bz_sched.specs.Follows.{Follows, FollowsInPart}
+use Rattle.bz_text.specs.Report.{report_of}
+use Rattle.bz_top.specs.Commands.{is_command, config_of}
+use Rattle.bz_top.specs.Faults.{fault_line, broken_text, limit_text}
+
+-- the outside of a run: the words of the command line; what the source has left, and its count of faults,
+-- before and after; and what the sink holds, and its count, before and after
+pub record Outside : Type 0 where
+  pub words : List (List ℕ)
+  pub left : Option (List ℕ)
+  pub left_after : Option (List ℕ)
+  pub read_faults : ℕ
+  pub read_faults_after : ℕ
+  pub held : Option (List ℕ)
+  pub held_after : Option (List ℕ)
+  pub write_faults : ℕ
+  pub write_faults_after : ℕ
+
+-- the source was read to its end, and its bytes are this script
+pub record Reads (o : Outside) (script : Job) : Type 0 where
+  pub command : is_command o.words ≡ true
+  pub bytes : List ℕ
+  pub whole : IsReadWhole o.left o.left_after bytes
+  pub is_script : script_of None bytes ≡ Ok script
+
+-- the lab is a world of this script, and its journal is sound
+pub record IsLab (script : Job) (world : Lab) : Type 0 where
+  pub config : world.config ≡ config_of script.nodes script.swaps
+  pub sound : IsSound empty world.log
+
+-- a run that is done: a world of the script, with a sound journal that follows the whole script
+pub record IsFinished (script : Job) (world : Lab) : Type 0 where
+  pub right : IsLab script world
+  pub follows : Follows [] [] script.items world.log.past
+
+-- a run that met a limit when one more was needed: a world of the script, with a sound journal that follows
+-- the script up to there
+pub record IsCutShort (script : Job) (world : Lab) (which : Which) : Type 0 where
+  pub right : IsLab script world
+  pub follows : FollowsInPart [] [] script.items world.log.past
+  pub met : IsAtLimit world which
+
+-- done: the report of the journal is written
+pub record IsDone (o : Outside) (lab : Option Lab) (text : List ℕ) : Type 0 where
+  pub script : Job
+  pub reads : Reads o script
+  pub world : Lab
+  pub is_lab : lab ≡ Some world
+  pub finished : IsFinished script world
+  pub writes : text ≡ report_of world.log
+
+-- a limit was met: the report of the journal is written, and then the fault line
+pub record IsLimited (o : Outside) (lab : Option Lab) (text : List ℕ) : Type 0 where
+  pub script : Job
+  pub reads : Reads o script
+  pub world : Lab
+  pub is_lab : lab ≡ Some world
+  pub which : Which
+  pub cut_short : IsCutShort script world which
+  pub writes : text ≡ report_of world.log ++ fault_line (limit_text which)
+
+-- reading failed
+pub record IsReadFault (o : Outside) (lab : Option Lab) (text : List ℕ) : Type 0 where
+  pub command : is_command o.words ≡ true
+  pub rose : Rose o.read_faults o.read_faults_after
+  pub no_lab : lab ≡ None
+  pub writes : text ≡ fault_line (codes "read")
+
+-- the words are no command; the source was not asked
+pub record IsUsage (o : Outside) (lab : Option Lab) (text : List ℕ) : Type 0 where
+  pub no_command : is_command o.words ≡ false
+  pub left : o.left_after ≡ o.left
+  pub no_lab : lab ≡ None
+  pub writes : text ≡ fault_line (codes "usage")
+
+-- the bytes break a rule: the first line that breaks one, and the first rule that it breaks
+pub record IsBroken (o : Outside) (lab : Option Lab) (text : List ℕ) : Type 0 where
+  pub command : is_command o.words ≡ true
+  pub bytes : List ℕ
+  pub whole : IsReadWhole o.left o.left_after bytes
+  pub line : ℕ
+  pub rule : ScriptRule
+  pub is_fault : script_of None bytes ≡ Err (record { line = line; rule = rule })
+  pub no_lab : lab ≡ None
+  pub writes : text ≡ fault_line (broken_text line rule)
+
+-- the source gave more bytes than a script may have
+pub record IsTooLong (o : Outside) (lab : Option Lab) (text : List ℕ) : Type 0 where
+  pub command : is_command o.words ≡ true
+  pub more : GaveCount o.left o.left_after 1048577
+  pub no_lab : lab ≡ None
+  pub writes : text ≡ fault_line (codes "script too long")
+
+-- want of memory comes anywhere where memory is taken
+pub record IsWant (o : Outside) (lab : Option Lab) (text : List ℕ) : Type 0 where
+  pub command : is_command o.words ≡ true
+  pub writes : text ≡ fault_line (codes "memory")
+
+-- the endings that write something
+pub data Ending : Type 0 where
+  Done : Ending
+  ReadFault : Ending
+  Usage : Ending
+  Broken : Ending
+  TooLong : Ending
+  Limited : Ending
+  Want : Ending
+
+abbrev pub status_of : Ending → ℕ
+status_of Done = 0
+status_of ReadFault = 1
+status_of Usage = 2
+status_of Broken = 3
+status_of TooLong = 3
+status_of Limited = 5
+status_of Want = 7
+
+-- the cause of an ending, with the world that is left and the text that is to be written
+abbrev pub Cause : Ending → Outside → Option Lab → List ℕ → Type 0
+Cause Done = IsDone
+Cause ReadFault = IsReadFault
+Cause Usage = IsUsage
+Cause Broken = IsBroken
+Cause TooLong = IsTooLong
+Cause Limited = IsLimited
+Cause Want = IsWant
+
+-- all of a text was written and this is the status; or the sink failed, has a part of the text, and the
+-- status is 4
+abbrev pub Wrote : Option (List ℕ) → Option (List ℕ) → ℕ → ℕ → ℕ → List ℕ → ℕ → Type 0
+Wrote held held_after faults faults_after status text answer =
+    ((answer ≡ status) × Appends held held_after text) ⊎ ((answer ≡ 4) × Rose faults faults_after × GrewByFront held held_after text)
+
+-- the status has its cause
+pub record IsEnded (o : Outside) (status : ℕ) (lab : Option Lab) : Type 0 where
+  pub ending : Ending
+  pub text : List ℕ
+  pub cause : Cause ending o lab text
+  pub written : Wrote o.held o.held_after o.write_faults o.write_faults_after (status_of ending) text status
+
+-- the text was written, or memory was wanting for it and that was written
+abbrev pub WroteOrWant : Option (List ℕ) → Option (List ℕ) → ℕ → ℕ → ℕ → List ℕ → ℕ → Type 0
+WroteOrWant held held_after faults faults_after status text answer =
+    Wrote held held_after faults faults_after status text answer ⊎ Wrote held held_after faults faults_after 7 (fault_line (codes "memory")) answer

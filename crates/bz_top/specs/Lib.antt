@@ -1,0 +1,5 @@
+pub mod Commands
+pub mod Faults
+pub mod Items
+pub mod Endings
+pub mod Parts

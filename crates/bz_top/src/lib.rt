@@ -1,0 +1,11 @@
+//! The program: all that it does between its source and its sink.
+#![tactic(auto)]
+
+mod commands;
+mod faults;
+mod gates;
+mod items;
+mod program;
+
+pub use gates::{Gate, NoGate};
+pub use program::{Outcome, top};
