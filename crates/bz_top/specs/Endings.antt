@@ -1,5 +1,5 @@
 -- How a run of the program ends: the cause of each status, and what is then written.
-use Rattle.std.specs.Prelude.{◌≡◌, ◌⊎◌, ℕ, List, [], ◌∷◌, ◌++◌, Option, Some, None, Ok, Err, true, false, codes}
+use Rattle.std.specs.Prelude.{◌≡◌, ◌≢◌, ◌≤◌, ◌⊎◌, ℕ, List, [], ◌∷◌, ◌++◌, Option, Some, None, IfSome, Ok, Err, true, false, codes}
 use Rattle.std.specs.FinMap.{empty}
 use Rattle.std.specs.Io.KnownBytes.{Appends}
 use Rattle.bz_io.specs.Faults.{Rose}
@@ -34,6 +34,10 @@ pub record Reads (o : Outside) (script : Job) : Type 0 where
   pub bytes : List ℕ
   pub whole : IsReadWhole o.left o.left_after bytes
   pub is_script : script_of None bytes ≡ Ok script
+
+-- the lab, where there is one, has a sound journal
+abbrev pub IsSoundLab : Option Lab → Type 0
+IsSoundLab lab = IfSome lab (λ world. IsSound empty world.log)
 
 -- the lab is a world of this script, and its journal is sound
 pub record IsLab (script : Job) (world : Lab) : Type 0 where
@@ -106,51 +110,30 @@ pub record IsTooLong (o : Outside) (lab : Option Lab) (text : List ℕ) : Type 0
 -- want of memory comes anywhere where memory is taken
 pub record IsWant (o : Outside) (lab : Option Lab) (text : List ℕ) : Type 0 where
   pub command : is_command o.words ≡ true
+  pub sound : IsSoundLab lab
   pub writes : text ≡ fault_line (codes "memory")
 
--- the endings that write something
-pub data Ending : Type 0 where
-  Done : Ending
-  ReadFault : Ending
-  Usage : Ending
-  Broken : Ending
-  TooLong : Ending
-  Limited : Ending
-  Want : Ending
+-- a text of this kind was written whole
+abbrev pub WritesWhole : (List ℕ → Type 0) → Outside → Type 0
+WritesWhole IsText o = (text : List ℕ) × IsText text × Appends o.held o.held_after text
 
-abbrev pub status_of : Ending → ℕ
-status_of Done = 0
-status_of ReadFault = 1
-status_of Usage = 2
-status_of Broken = 3
-status_of TooLong = 3
-status_of Limited = 5
-status_of Want = 7
+-- a part of a text of this kind was written, and not the whole
+abbrev pub WritesPart : (List ℕ → Type 0) → Outside → Type 0
+WritesPart IsText o = (text : List ℕ) × IsText text × GrewByFront o.held o.held_after text
 
--- the cause of an ending, with the world that is left and the text that is to be written
-abbrev pub Cause : Ending → Outside → Option Lab → List ℕ → Type 0
-Cause Done = IsDone
-Cause ReadFault = IsReadFault
-Cause Usage = IsUsage
-Cause Broken = IsBroken
-Cause TooLong = IsTooLong
-Cause Limited = IsLimited
-Cause Want = IsWant
+-- what is to be written, whatever the ending
+abbrev pub IsToBeWritten : Outside → Option Lab → List ℕ → Type 0
+IsToBeWritten o lab text =
+    IsDone o lab text ⊎ (IsReadFault o lab text ⊎ (IsUsage o lab text ⊎ (IsBroken o lab text ⊎ (IsTooLong o lab text ⊎ (IsLimited o lab text ⊎ IsWant o lab text)))))
 
--- all of a text was written and this is the status; or the sink failed, has a part of the text, and the
--- status is 4
-abbrev pub Wrote : Option (List ℕ) → Option (List ℕ) → ℕ → ℕ → ℕ → List ℕ → ℕ → Type 0
-Wrote held held_after faults faults_after status text answer =
-    ((answer ≡ status) × Appends held held_after text) ⊎ ((answer ≡ 4) × Rose faults faults_after × GrewByFront held held_after text)
-
--- the status has its cause
+-- Each status has its cause, and with each the sink has grown by exactly what is said. Status 4 comes only
+-- where the sink failed; it then has a part of what another ending whose cause holds writes.
 pub record IsEnded (o : Outside) (status : ℕ) (lab : Option Lab) : Type 0 where
-  pub ending : Ending
-  pub text : List ℕ
-  pub cause : Cause ending o lab text
-  pub written : Wrote o.held o.held_after o.write_faults o.write_faults_after (status_of ending) text status
-
--- the text was written, or memory was wanting for it and that was written
-abbrev pub WroteOrWant : Option (List ℕ) → Option (List ℕ) → ℕ → ℕ → ℕ → List ℕ → ℕ → Type 0
-WroteOrWant held held_after faults faults_after status text answer =
-    Wrote held held_after faults faults_after status text answer ⊎ Wrote held held_after faults faults_after 7 (fault_line (codes "memory")) answer
+  pub done : status ≡ 0 → WritesWhole (IsDone o lab) o
+  pub read : status ≡ 1 → WritesWhole (IsReadFault o lab) o
+  pub usage : status ≡ 2 → WritesWhole (IsUsage o lab) o
+  pub refused : status ≡ 3 → WritesWhole (IsBroken o lab) o ⊎ WritesWhole (IsTooLong o lab) o
+  pub write : status ≡ 4 → Rose o.write_faults o.write_faults_after × WritesPart (IsToBeWritten o lab) o
+  pub limit : status ≡ 5 → WritesWhole (IsLimited o lab) o
+  pub memory : status ≡ 7 → WritesWhole (IsWant o lab) o
+  pub no_other : status ≢ 6 × (status ≤ 7)

@@ -6,7 +6,10 @@ use Rattle.bz_world.specs.Lab.{Lab}
 use Rattle.bz_world.specs.declared.answers.Which.{Which}
 use Rattle.bz_text.specs.Report.{report_of}
 use Rattle.bz_top.specs.Faults.{fault_line, broken_text, limit_text}
-use Rattle.bz_top.specs.Endings.{Wrote, IsFinished, IsCutShort}
+use Rattle.bz_top.specs.Endings.{IsFinished, IsCutShort, IsSoundLab}
+use Rattle.std.specs.Io.KnownBytes.{Appends}
+use Rattle.bz_io.specs.Faults.{Rose}
+use Rattle.bz_io.specs.Transfers.{GrewByFront}
 
 -- the sink before and after
 pub record Sunk : Type 0 where
@@ -18,12 +21,20 @@ pub record Sunk : Type 0 where
 abbrev pub sunk : Option (List ℕ) → Option (List ℕ) → ℕ → ℕ → Sunk
 sunk held held_after faults faults_after = record { held = held; held_after = held_after; faults = faults; faults_after = faults_after }
 
+-- all of a text was written and this is the status; or the sink failed, has a part of the text, and the
+-- status is 4
 abbrev pub Says : Sunk → ℕ → List ℕ → ℕ → Type 0
-Says k status text answer = Wrote k.held k.held_after k.faults k.faults_after status text answer
+Says k status text answer =
+    ((answer ≡ status) × Appends k.held k.held_after text) ⊎ ((answer ≡ 4) × Rose k.faults k.faults_after × GrewByFront k.held k.held_after text)
 
 -- the text was written, or memory was wanting for it and that was written
 abbrev pub SaysOrWants : Sunk → ℕ → List ℕ → ℕ → Type 0
 SaysOrWants k status text answer = Says k status text answer ⊎ Says k 7 (fault_line (codes "memory")) answer
+
+-- memory was wanting
+pub record Wants (k : Sunk) (status : ℕ) (lab : Option Lab) : Type 0 where
+  pub sound : IsSoundLab lab
+  pub said : Says k 7 (fault_line (codes "memory")) status
 
 -- a script was run to its end
 pub record Finishes (script : Job) (k : Sunk) (status : ℕ) (lab : Option Lab) : Type 0 where
@@ -41,7 +52,7 @@ pub record StopsShort (script : Job) (k : Sunk) (status : ℕ) (lab : Option Lab
   pub said : Says k 5 (report_of world.log ++ fault_line (limit_text which)) status
 
 abbrev pub RanScript : Job → Sunk → ℕ → Option Lab → Type 0
-RanScript script k status lab = Finishes script k status lab ⊎ (StopsShort script k status lab ⊎ Says k 7 (fault_line (codes "memory")) status)
+RanScript script k status lab = Finishes script k status lab ⊎ (StopsShort script k status lab ⊎ Wants k status lab)
 
 -- bytes were no script
 pub record Refuses (bytes : List ℕ) (k : Sunk) (status : ℕ) (lab : Option Lab) : Type 0 where
@@ -58,4 +69,4 @@ pub record Runs (bytes : List ℕ) (k : Sunk) (status : ℕ) (lab : Option Lab) 
   pub ran : RanScript script k status lab
 
 abbrev pub RanBytes : List ℕ → Sunk → ℕ → Option Lab → Type 0
-RanBytes bytes k status lab = Runs bytes k status lab ⊎ (Refuses bytes k status lab ⊎ Says k 7 (fault_line (codes "memory")) status)
+RanBytes bytes k status lab = Runs bytes k status lab ⊎ (Refuses bytes k status lab ⊎ Wants k status lab)

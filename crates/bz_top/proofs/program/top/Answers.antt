@@ -1,5 +1,5 @@
 use Rattle.std.proofs.Common.{◌≡◌, ◌∙◌, sym, ap, refl, Err, rules}
-use Rattle.bz_top.proofs.EndLemmas.{ended_usage, ended_read, ended_too_long, ended_want, ended_bytes}
+use Rattle.bz_top.proofs.EndLemmas.{ended_usage, ended_read, ended_too_long, ended_want, ended_bytes, no_lab_sound}
 use Rattle.bz_top.proofs.program.top.Goals as goal
 
 pub returns-then-not-is_command : goal.returns-then-not-is_command
@@ -15,4 +15,4 @@ pub returns-in-Err-TooLong : goal.returns-in-Err-TooLong
 returns-in-Err-TooLong g c = record { ended = ended_too_long _ _ _ (sym c.is_command.ensures ∙ c.if-not-is_command.false) (c.in-Err-TooLong.ensures.too_long (ap Err c.in-Err-TooLong.field-0-is)) c.refuse-in-Err-TooLong.ensures.lab c.refuse-in-Err-TooLong.ensures.wrote }
 
 pub returns-in-Err-Memory : goal.returns-in-Err-Memory
-returns-in-Err-Memory g c = record { ended = ended_want _ _ _ (sym c.is_command.ensures ∙ c.if-not-is_command.false) c.no_memory.ensures.wrote }
+returns-in-Err-Memory g c = record { ended = ended_want _ _ _ (sym c.is_command.ensures ∙ c.if-not-is_command.false) (no_lab_sound _ c.no_memory.ensures.lab) c.no_memory.ensures.wrote }
