@@ -1,5 +1,6 @@
 //! A buffer for the pairs of a page, with all its room taken at its opening.
 ghost use Rattle.std.specs.Prelude.{◌≡◌, ◌<◌, ◌≤◌, ◌++◌, ◌∷◌, [], length, IfOk};
+ghost use Rattle.std.specs.List.{insert};
 
 use crate::key::Key;
 use crate::limits::PAGE_PAIRS;
@@ -47,6 +48,18 @@ impl PageBuf {
         ensures { self.new ≡ self.old ++ (key, payload) ∷ [] }
     {
         match self.pairs.extend_from_slice(&[(key, payload)]) {
+            Ok(()) => {}
+            Err(_) => unreachable!(),
+        }
+    }
+
+    /// Puts a pair at a place, before the pair that was there.
+    pub fn insert(&mut self, place: usize, key: Key, payload: Payload)
+        requires room { length self.old < PAGE_PAIRS }
+        requires within { place ≤ length self.old }
+        ensures { self.new ≡ insert self.old place (key, payload) }
+    {
+        match self.pairs.insert(place, (key, payload)) {
             Ok(()) => {}
             Err(_) => unreachable!(),
         }

@@ -6,7 +6,7 @@ use Rattle.bz_call.specs.declared.replies.Reply.{Reply}
 use Rattle.bz_mark.specs.declared.marks.Mark.{Mark}
 use Rattle.bz_mark.specs.declared.marks.Mark.TheVariants as mark
 use Rattle.bz_mark.specs.declared.compact.CompactMark.{CompactMark}
-use Rattle.bz_mark.specs.declared.compact.CompactMark.TheVariants.{Begin, End, Load, Store, Cas, Flush, Evict, Cut, On, Ready, Effect}
+use Rattle.bz_mark.specs.declared.compact.CompactMark.TheVariants.{Begin, End}
 use Rattle.bz_mark.specs.Log.{count_begins, count_ends}
 use Rattle.std.specs.Prelude.{Some}
 use Rattle.std.proofs.lemmas.Option.{slice_get-get_or}

@@ -1,2 +1,9 @@
 pub mod TableLemmas
 pub mod KeptLemmas
+pub mod Held
+pub mod Steps
+pub mod Left
+pub mod Choosing
+pub mod Reached
+pub mod LawProofs
+pub mod ExampleProofs

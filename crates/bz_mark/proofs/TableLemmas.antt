@@ -1,15 +1,14 @@
 -- One compact mark more, with what its table gains.
-use Rattle.std.proofs.Common.{◌≡◌, ◌<◌, ◌≤◌, ℕ, ◌+◌, List, [], ◌∷◌, ◌++◌, map, reverse, length, get_or, refl, ap, arith}
+use Rattle.std.proofs.Common.{◌≡◌, ◌<◌, ◌≤◌, ℕ, List, [], ◌∷◌, ◌++◌, map, length, get_or, refl, arith}
 use Rattle.std.proofs.lemmas.Grind.{common_steps}
 use Rattle.std.proofs.lemmas.List.{map_push, reverse-append}
 use Rattle.bz_call.specs.declared.calls.Call.{Call}
 use Rattle.bz_call.specs.declared.calls.Call.TheVariants.{Get}
 use Rattle.bz_call.specs.declared.replies.Reply.{Reply}
 use Rattle.bz_call.specs.declared.replies.Reply.TheVariants.{Missing}
-use Rattle.bz_mark.specs.declared.marks.Mark.{Mark}
 use Rattle.bz_mark.specs.declared.marks.Mark.TheVariants as mark
 use Rattle.bz_mark.specs.declared.compact.CompactMark.{CompactMark}
-use Rattle.bz_mark.specs.declared.compact.CompactMark.TheVariants.{Begin, End, Load, Store, Cas, Flush, Evict, Cut, On, Ready, Effect}
+use Rattle.bz_mark.specs.declared.compact.CompactMark.TheVariants.{Begin, End}
 use Rattle.bz_mark.specs.Tables.{whole, IsPlaced, ArePlaced, past_of, IsPlain, plain_mark}
 
 kept : {A : Type 0} (xs : List A) (x : A) (place : ℕ) (d : A) → place < length xs → get_or (xs ++ x ∷ []) place d ≡ get_or xs place d

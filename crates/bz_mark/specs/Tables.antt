@@ -1,5 +1,5 @@
 -- How the compact marks stand for marks: the calls and the replies lie in tables beside them.
-use Rattle.std.specs.Prelude.{◌≡◌, ◌<◌, ◌≤◌, ℕ, List, [], ◌∷◌, length, map, reverse}
+use Rattle.std.specs.Prelude.{◌<◌, ℕ, List, [], ◌∷◌, map, reverse}
 use Rattle.std.proofs.Common.{get_or}
 use Rattle.bz_call.specs.declared.calls.Call.{Call}
 use Rattle.bz_call.specs.declared.calls.Call.TheVariants.{Get}
@@ -9,7 +9,6 @@ use Rattle.bz_mark.specs.declared.marks.Mark.{Mark}
 use Rattle.bz_mark.specs.declared.marks.Mark.TheVariants as mark
 use Rattle.bz_mark.specs.declared.compact.CompactMark.{CompactMark}
 use Rattle.bz_mark.specs.declared.compact.CompactMark.TheVariants.{Begin, End, Load, Store, Cas, Flush, Evict, Cut, On, Ready, Effect}
-use Rattle.bz_mark.specs.Log.{count_begins, count_ends}
 
 -- the mark that a compact one stands for
 abbrev pub whole : List Call → List Reply → CompactMark → Mark

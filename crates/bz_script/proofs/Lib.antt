@@ -1,3 +1,4 @@
+pub mod FirstFaults
 pub mod Lines
 pub mod NumberLemmas
 pub mod Scripts

@@ -37,6 +37,11 @@ pub enum ScriptRule {
 }
 
 impl fmt::Display for ScriptRule {
+    ghost use Rattle.std.specs.Prelude.{Some};
+    ghost use Rattle.bz_script.specs.Texts.{rule_text};
+
+    ghost output = { λ rule. Some (rule_text rule) };
+
     fn fmt<W: fmt::Write>(&self, f: &mut fmt::Formatter<W>) -> fmt::Result {
         match self {
             ScriptRule::NoMemoryLine => write!(f, "memory expected"),
@@ -63,6 +68,11 @@ pub enum ScriptFault {
 }
 
 impl fmt::Display for ScriptFault {
+    ghost use Rattle.std.specs.Prelude.{Some};
+    ghost use Rattle.bz_script.specs.Texts.{fault_text};
+
+    ghost output = { λ fault. Some (fault_text fault) };
+
     fn fmt<W: fmt::Write>(&self, f: &mut fmt::Formatter<W>) -> fmt::Result {
         match self {
             ScriptFault::Rule { line, rule } => write!(f, "line {line}: {rule}"),

@@ -5,6 +5,7 @@ mod fault;
 mod forms;
 mod item;
 mod item_list;
+pub mod laws;
 mod number;
 mod read;
 mod script;

@@ -1,8 +1,8 @@
 -- The last line of a run that was not done.
 use Rattle.std.specs.Prelude.{ℕ, List, [], ◌∷◌, ◌++◌, codes}
-use Rattle.std.specs.Fmt.{decimal}
 use Rattle.bz_script.specs.declared.fault.ScriptRule.{ScriptRule}
-use Rattle.bz_script.specs.declared.fault.ScriptRule.TheVariants.{NoMemoryLine, Unknown, Words, Number, Key, Payload, Worker, Order, NoEnd}
+use Rattle.bz_script.specs.declared.fault.ScriptFault.TheVariants.{Rule}
+use Rattle.bz_script.specs.Texts.{fault_text}
 use Rattle.bz_world.specs.declared.answers.Which.{Which}
 use Rattle.bz_world.specs.declared.answers.Which.TheVariants.{Marks, Calls, Pages}
 
@@ -10,20 +10,9 @@ use Rattle.bz_world.specs.declared.answers.Which.TheVariants.{Marks, Calls, Page
 abbrev pub fault_line : List ℕ → List ℕ
 fault_line text = codes "fault: " ++ (text ++ (10 ∷ []))
 
-abbrev pub rule_text : ScriptRule → List ℕ
-rule_text NoMemoryLine = codes "memory expected"
-rule_text Unknown = codes "unknown word"
-rule_text Words = codes "wrong number of words"
-rule_text Number = codes "bad number"
-rule_text Key = codes "bad key"
-rule_text Payload = codes "bad payload"
-rule_text Worker = codes "bad worker"
-rule_text Order = codes "wrong order"
-rule_text NoEnd = codes "line feed expected"
-
--- the rule that a line of the script breaks
+-- the rule that a line of the script breaks, as `bz_script` words it
 abbrev pub broken_text : ℕ → ScriptRule → List ℕ
-broken_text line rule = codes "line " ++ (decimal line ++ (codes ": " ++ rule_text rule))
+broken_text line rule = fault_text (Rule line rule)
 
 abbrev pub limit_text : Which → List ℕ
 limit_text Marks = codes "limit marks"

@@ -9,3 +9,6 @@ mod program;
 
 pub use gates::{Gate, NoGate};
 pub use program::{Outcome, top};
+
+#[cfg(test)]
+mod tests;

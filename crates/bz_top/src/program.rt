@@ -144,7 +144,7 @@ fn report_broken<K: Sink>(alloc: Global, line: u32, rule: ScriptRule, sink: &mut
 {
     match broken_line(alloc, line, rule) {
         Ok(text) => {
-            let status = written(sink, &text, 3);
+            let status = written(sink, text.as_bytes(), 3);
             Outcome { status, lab: None }
         }
         Err(Memory) => no_memory(sink, None),

@@ -1,4 +1,4 @@
-use Rattle.std.proofs.Common.{◌≡◌, ◌<◌, length, get_or, refl, ap, sym, ◌∙◌, arith, rules}
+use Rattle.std.proofs.Common.{◌<◌, length, arith}
 use Rattle.bz_mark.proofs.KeptLemmas.{placed_mark, mark_at-past, length-past}
 use Rattle.bz_mark.proofs.journal.Journal.mark.Goals as goal
 

@@ -1,4 +1,4 @@
-use Rattle.std.proofs.Common.{◌≡◌, ◌<◌, ◌≤◌, length, List, refl, ap, sym, ◌∙◌, arith, rules}
+use Rattle.std.proofs.Common.{arith, rules}
 use Rattle.bz_mark.proofs.KeptLemmas.{no_tables}
 use Rattle.bz_mark.proofs.journal.Journal.open.Goals as goal
 

@@ -1,6 +1,4 @@
-use Rattle.std.proofs.Common.{◌≡◌, ◌<◌, length, refl, ap, sym, ◌∙◌, arith, rules}
-use Rattle.bz_mark.specs.Log.{Log, with_mark}
-use Rattle.bz_mark.specs.declared.marks.Mark.TheVariants as mark
+use Rattle.std.proofs.Common.{◌≡◌, ◌<◌, length, refl, arith, rules}
 use Rattle.bz_mark.proofs.KeptLemmas.{begin_past, begin_tables, length-past, fits_more}
 use Rattle.bz_mark.proofs.journal.Journal.push_begin.Goals as goal
 

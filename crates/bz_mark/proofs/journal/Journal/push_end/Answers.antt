@@ -1,4 +1,4 @@
-use Rattle.std.proofs.Common.{◌≡◌, ◌<◌, length, refl, ap, sym, ◌∙◌, arith, rules}
+use Rattle.std.proofs.Common.{◌≡◌, ◌<◌, length, refl, arith, rules}
 use Rattle.bz_mark.proofs.KeptLemmas.{end_past, end_tables, length-past, fits_more}
 use Rattle.bz_mark.proofs.journal.Journal.push_end.Goals as goal
 

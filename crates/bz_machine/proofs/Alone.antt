@@ -1,0 +1,14 @@
+-- The worked run, by computation.
+use Rattle.std.proofs.Common.{refl, arith}
+use Rattle.bz_machine.specs.Examples.{SwapsAlone}
+
+pub swaps_alone : SwapsAlone
+swaps_alone = record {
+  renewable = record { plain = λ a. tt; same = λ a. refl; free = λ s. refl; durable_free = λ s. refl };
+  may = ((refl, record { some = omega arith; apart = λ i lt. omega arith; told = λ i lt. refl; flushed = λ a h h'. refl; not_stored = λ w a v h. absurd (grind (arith, h)) }), tt);
+  before = refl;
+  effect = refl;
+  after = refl;
+  answer = refl;
+  word = refl;
+}

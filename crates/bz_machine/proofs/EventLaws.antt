@@ -1,0 +1,24 @@
+-- The laws of a single event, as lemmas that the crates above cite.
+use Rattle.bz_machine.specs.Invariance.{BeginsAsState, KeepsState, ActsAtomically, KeepsRange, BeginsInRange, CutRecovers}
+use Rattle.bz_machine.proofs.Events.{state-happens}
+use Rattle.bz_machine.proofs.Runs.{atomic-happens}
+use Rattle.bz_machine.proofs.PowerOn.{state-power_on, recoverable-cut}
+use Rattle.bz_machine.proofs.RangeEvents.{range-happens, range-power_on}
+
+pub begins_as_state : BeginsAsState
+begins_as_state = state-power_on
+
+pub keeps_state : KeepsState
+keeps_state = state-happens
+
+pub acts_atomically : ActsAtomically
+acts_atomically = atomic-happens
+
+pub keeps_range : KeepsRange
+keeps_range = range-happens
+
+pub begins_in_range : BeginsInRange
+begins_in_range = range-power_on
+
+pub cut_recovers : CutRecovers
+cut_recovers x i = recoverable-cut x.entries x.memory i.sound

@@ -1,0 +1,38 @@
+-- What a worker knows of its current swap stays true under the acts of others.
+use Rattle.std.proofs.Common.{◌≡◌, ℕ, ◌≤◌, true, arith}
+use Rattle.bz_machine.specs.declared.status.Verdict.TheVariants.{Succeeded, Failed}
+use Rattle.bz_machine.specs.Machine.{Entries, Memory}
+use Rattle.bz_machine.specs.Facts.{Points, PointsDurably, Fact}
+use Rattle.bz_machine.specs.Keeps.{Keeps}
+use Rattle.bz_machine.specs.declared.place.HelpStep.{HelpStep}
+use Rattle.bz_machine.specs.declared.place.HelpStep.TheVariants.{Look, InstallTag, LookUnderTag, InstallPointer, RemoveTag, FlushDirty, ClearDirty, FlushTarget, Decide, FlushStatus, ClearStatus, PutFinal, FlushFinal, ClearFinal, SweepTag}
+
+pub points-keeps : (e : ℕ → Entries) (m n : Memory) (s k : ℕ) → Keeps e m n → m.published s ≡ true → k ≤ (e s).count → Points e m s k → Points e n s k
+points-keeps e m n s k h p le f = λ u i lt. h.pointer s i (omega arith) u (f (h.undecided s p u) i lt)
+
+pub points_durably-keeps : (e : ℕ → Entries) (m n : Memory) (s k : ℕ) → Keeps e m n → m.published s ≡ true → k ≤ (e s).count → Points e m s k → PointsDurably e m s k → PointsDurably e n s k
+points_durably-keeps e m n s k h p le f d = λ u i x lt may.
+    h.pointer_durable s i (omega arith) u (f (h.undecided s p u) i lt) (λ y was. d (h.undecided s p u) i y lt was) x may
+
+pub points-fewer : (e : ℕ → Entries) (m : Memory) (s j k : ℕ) → j ≤ k → Points e m s k → Points e m s j
+points-fewer e m s j k le f = λ u i lt. f u i (omega arith)
+
+pub fact-keeps : (e : ℕ → Entries) (m n : Memory) (s : ℕ) (step : HelpStep) → Keeps e m n → m.published s ≡ true → Fact e m s step → Fact e n s step
+fact-keeps e m n s Look k p f = tt
+fact-keeps e m n s (InstallTag i) k p f = (f.0, points-keeps e m n s i k p (omega arith) f.1)
+fact-keeps e m n s (LookUnderTag i w q) k p f = (f.0, points-keeps e m n s i k p (omega arith) f.1, omega (arith, k.numbers w))
+fact-keeps e m n s (InstallPointer i w q) k p f =
+    (f.0, points-keeps e m n s i k p (omega arith) f.1, omega (arith, k.numbers w), λ h. k.under_tag s i w q f.0 h (f.3 (k.old_tag _ s i w q f.2 h)))
+fact-keeps e m n s (RemoveTag i w q) k p f = f
+fact-keeps e m n s (FlushDirty i v) k p f = (f.0, points-keeps e m n s i k p (omega arith) f.1)
+fact-keeps e m n s (ClearDirty i v) k p f = (f.0, points-keeps e m n s i k p (omega arith) f.1)
+fact-keeps e m n s (FlushTarget i) k p f =
+    (f.0, points-keeps e m n s _ k p (omega arith) f.1, points_durably-keeps e m n s i k p (omega arith) (points-fewer e m s i (e s).count (omega arith) f.1) f.2)
+fact-keeps e m n s (Decide Succeeded) k p f = (points-keeps e m n s _ k p (omega arith) f.0, points_durably-keeps e m n s _ k p (omega arith) f.0 f.1)
+fact-keeps e m n s (Decide Failed) k p f = λ u. k.missed s (f (k.undecided s p u))
+fact-keeps e m n s (FlushStatus d) k p f = k.verdict s d f
+fact-keeps e m n s (ClearStatus d) k p f = k.durable_verdict s d f
+fact-keeps e m n s (PutFinal i d) k p f = (f.0, k.durable_verdict s d f.1)
+fact-keeps e m n s (FlushFinal i d) k p f = (f.0, k.durable_verdict s d f.1)
+fact-keeps e m n s (ClearFinal i d) k p f = (f.0, k.durable_verdict s d f.1)
+fact-keeps e m n s (SweepTag i d w q) k p f = (f.0, k.durable_verdict s d f.1)

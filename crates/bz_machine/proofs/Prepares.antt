@@ -1,0 +1,97 @@
+-- The steps of a worker that prepares the descriptor of its own swap.
+use Rattle.std.proofs.Common.{inl, ◌≡◌, ◌≢◌, ℕ, ◌<◌, false, arith, refl, ◌∙◌, None}
+use Rattle.std.proofs.lemmas.Grind.{common_steps}
+use Rattle.bz_machine.specs.declared.status.SwapStatus.{SwapStatus}
+use Rattle.bz_machine.specs.declared.status.SwapStatus.TheVariants.{Undecided}
+use Rattle.bz_machine.specs.declared.status.Verdict.{Verdict}
+use Rattle.bz_machine.specs.Machine.{Entries, Memory, is_verdict}
+use Rattle.bz_machine.specs.Changes.{with_status}
+use Rattle.bz_machine.specs.Sound.{IsUnset, Sound}
+use Rattle.bz_machine.specs.Keeps.{Keeps, KeepsDescriptor}
+use Rattle.bz_machine.specs.declared.place.Place.{Place}
+use Rattle.bz_machine.specs.declared.worker.Operation.TheVariants.{Swapping}
+use Rattle.bz_machine.specs.Steps.{Local, goes_on}
+use Rattle.bz_machine.specs.Knows.{Spell, BackPublished, AtPlace}
+use Rattle.bz_machine.proofs.Change.{unchanged, no_miss}
+use Rattle.bz_machine.proofs.Good.{Good}
+use Rattle.bz_machine.proofs.KeptKnowledge.{back-keeps}
+
+unset-verdict : (k : SwapStatus) (d : Verdict) → IsUnset k → is_verdict k d ≡ false
+unset-verdict k d u = grind arith
+
+-- the status of an unpublished swap becomes undecided
+pub sound-undecided : (e : ℕ → Entries) (m : Memory) (s : ℕ) → m.published s ≡ false → Sound e m → Sound e (with_status m s Undecided)
+sound-undecided e m s p g = record {
+  same = g.same;
+  private = g.private;
+  private_durable = g.private_durable;
+  pointer = g.pointer;
+  pointer_durable = g.pointer_durable;
+  tag = g.tag;
+  tag_durable = g.tag_durable;
+  fresh = g.fresh;
+  targets = g.targets;
+  begun = g.begun;
+  not_begun = g.not_begun;
+  words = g.words;
+  durable_words = g.durable_words;
+  follows = λ t q. grind (arith, common_steps, g.follows t q);
+  unset = λ t q. grind (arith, common_steps, g.unset t q);
+  unmissed = g.unmissed;
+  unanswered = g.unanswered;
+  standing = λ t i lt won und. grind (arith, common_steps, g.standing t i lt);
+  standing_durable = λ t i x lt won und may. grind (arith, common_steps, g.standing_durable t i x lt);
+  missed = λ t h. grind (arith, common_steps, g.missed t);
+  answered = g.answered;
+}
+
+pub keeps-undecided : (e : ℕ → Entries) (m : Memory) (s : ℕ) → m.published s ≡ false → Sound e m → Keeps e m (with_status m s Undecided)
+keeps-undecided e m s p g = record {
+  published = λ t h. h;
+  missed = λ t h. h;
+  numbers = λ w. omega arith;
+  named = λ a. refl;
+  taken = refl;
+  owner = λ t. refl;
+  undecided = λ t q h. grind (arith, common_steps);
+  verdict = λ t d h. grind (arith, common_steps, unset-verdict (m.status s) d (g.unset s p).0);
+  durable_verdict = λ t d h. h;
+  pointer = λ t i lt u h. h;
+  pointer_durable = λ t i lt u h d x may. d x may;
+  old_tag = λ a t i w q below h. h;
+  under_tag = λ t i w q lt h l. grind (arith, common_steps);
+}
+
+pub descriptor-undecided : (m : Memory) (s t : ℕ) → t ≢ s → KeepsDescriptor m (with_status m s Undecided) t
+descriptor-undecided m s t ne = record {
+  published = refl;
+  answer = refl;
+  words = λ k. refl;
+  durable_words = λ k h. h;
+  status = λ h. grind (arith, common_steps);
+  durable_status = λ h d. grind (arith, common_steps);
+}
+
+-- what is known on the own swap before it is published
+pub record OnOwn (e : ℕ → Entries) (m : Memory) (w : ℕ) (l : Local) : Type 0 where
+  pub operation : l.operation ≡ Swapping l.current
+  pub unpublished : m.published l.current ≡ false
+  pub spell : Spell (e l.current) l.list
+  pub owner : m.owner l.current ≡ w
+  pub taken : l.current < m.taken
+  pub unanswered : m.answer l.current ≡ None
+  pub back : BackPublished m l.back
+
+-- such an act owes this much: it can change the own descriptor
+pub good-prepared : (e : ℕ → Entries) (m n : Memory) (w : ℕ) (l : Local) (place : Place) → OnOwn e m w l → Sound e n → Keeps e m n → ((s : ℕ) → s ≢ l.current → KeepsDescriptor m n s)
+    → n.durable ≡ m.durable → n.durable_status ≡ m.durable_status → n.missed ≡ m.missed → n.answer l.current ≡ None → AtPlace e n l place → Good e m w l (goes_on n l place)
+good-prepared e m n w l place o g k d dur st mi an f = record {
+  sound = g;
+  keeps = k;
+  descriptors = λ s other. d s (λ same. other (rw same o.owner));
+  effect = unchanged e m n l.current dur st;
+  misses = no_miss e m n mi;
+  knows = record { place = f; owns = rw o.operation ((k.owner l.current ∙ o.owner), omega (arith, k.taken, o.taken), an); back = back-keeps e m n l.back k o.back };
+  answer = tt;
+  ends = inl refl;
+}

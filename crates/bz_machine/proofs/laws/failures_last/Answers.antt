@@ -1,0 +1,5 @@
+use Rattle.bz_machine.proofs.PowerOn as law
+use Rattle.bz_machine.proofs.laws.failures_last.Goals as goal
+
+pub returns : goal.returns
+returns c = law.failures_last

@@ -1,0 +1,90 @@
+-- What one act changes of the memory.
+use Rattle.std.specs.Prelude.{if◌then◌else◌, ℕ, ◌+◌, ◌/◌, ◌==◌, nat_lt, Bool, true, false, Some, None}
+use Rattle.bz_word.specs.declared.kind.WordKind.{WordKind}
+use Rattle.bz_word.specs.declared.kind.WordKind.TheVariants.{Tag}
+use Rattle.bz_machine.specs.declared.status.SwapStatus.{SwapStatus}
+use Rattle.bz_machine.specs.declared.status.Verdict.{Verdict}
+use Rattle.bz_machine.specs.Machine.{Entries, Memory, is_succeeded}
+
+-- the function with one value changed
+abbrev pub put : {A : Type 0} → (ℕ → A) → ℕ → A → ℕ → A
+put f a v b = if b == a then v else f b
+
+-- a cached word outside the descriptors is another
+abbrev pub with_word : Memory → ℕ → WordKind → Memory
+with_word m a x = record m { cached = put m.cached a x }
+
+-- worker w's next tag stands at an address, for entry i of swap s
+abbrev pub with_tag : Memory → ℕ → ℕ → ℕ → ℕ → Memory
+with_tag m a s i w = record m { cached = put m.cached a (Tag s i w (m.next_tag w)); next_tag = put m.next_tag w (m.next_tag w + 1) }
+
+-- some words outside the descriptors become durable: those of a line, or one
+abbrev pub with_copies : Memory → (ℕ → Bool) → Memory
+with_copies m p = record m { durable = λ b. if p b then m.cached b else m.durable b }
+
+-- an address in the line of another
+abbrev pub in_line : ℕ → ℕ → Bool
+in_line a b = b / 8 == a / 8
+
+-- a descriptor's cached status is another
+abbrev pub with_status : Memory → ℕ → SwapStatus → Memory
+with_status m s x = record m { status = put m.status s x }
+
+-- a descriptor's status becomes durable
+abbrev pub with_durable_status : Memory → ℕ → Memory
+with_durable_status m s = record m { durable_status = put m.durable_status s (m.status s) }
+
+-- a word of a descriptor after its status is another
+abbrev pub with_field : Memory → ℕ → ℕ → ℕ → Memory
+with_field m s k v = record m { words = put m.words s (put (m.words s) k v) }
+
+-- some of these words become durable
+abbrev pub with_durable_fields : Memory → ℕ → (ℕ → Bool) → Memory
+with_durable_fields m s p = record m { durable_words = put m.durable_words s (λ k. if p k then m.words s k else m.durable_words s k) }
+
+-- a descriptor's first line holds the status and seven words, its second line the other words
+abbrev pub in_head : ℕ → Bool
+in_head k = nat_lt k 7
+
+abbrev pub in_tail : ℕ → Bool
+in_tail k = if nat_lt k 7 then false else true
+
+-- the flush of a descriptor's first line
+abbrev pub with_durable_head : Memory → ℕ → Memory
+with_durable_head m s = with_durable_status (with_durable_fields m s in_head) s
+
+-- the second line is durable too, and with it the whole descriptor
+abbrev pub with_published : Memory → ℕ → Memory
+with_published m s = record (with_durable_fields m s in_tail) { published = put m.published s true }
+
+-- a swap that has not taken effect is noted as missed
+abbrev pub with_miss : Memory → ℕ → Memory
+with_miss m s = record m { missed = put m.missed s (if is_succeeded (m.durable_status s) then m.missed s else true) }
+
+-- the owner of a swap has answered
+abbrev pub with_answer : Memory → ℕ → Verdict → Memory
+with_answer m s d = record m { answer = put m.answer s (Some d) }
+
+-- a swap is begun by worker w: its entries' targets are named from now on
+abbrev pub with_taken : Memory → ℕ → (ℕ → Bool) → Memory
+with_taken m w targets = record m { taken = m.taken + 1; owner = put m.owner m.taken w; named = λ a. if targets a then true else m.named a }
+
+-- a power cut: the durable words are all that is left
+abbrev pub after_cut : Memory → Memory
+after_cut m = record m { cached = m.durable; status = m.durable_status; words = m.durable_words }
+
+-- the entries when no swap was begun
+abbrev pub no_entries : ℕ → Entries
+no_entries s = record { count = 0; target = λ i. 0; expected = λ i. 0; value = λ i. 0; index = λ a. 0 }
+
+-- power on, after recovery: no swap was begun, and nothing is noted
+abbrev pub renewed : Memory → Memory
+renewed m = record m {
+  next_tag = λ w. 0;
+  missed = λ s. false;
+  taken = 0;
+  owner = λ s. 0;
+  named = λ a. false;
+  published = λ s. false;
+  answer = λ s. None;
+}

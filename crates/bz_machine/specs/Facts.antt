@@ -1,0 +1,44 @@
+-- What one worker knows at the place where its next act is due.
+use Rattle.std.specs.Prelude.{◌≡◌, ℕ, ◌<◌, true, false}
+use Rattle.bz_word.specs.declared.kind.WordKind.{WordKind}
+use Rattle.bz_word.specs.declared.kind.WordKind.TheVariants.{Swap, Tag}
+use Rattle.bz_machine.specs.declared.status.SwapStatus.TheVariants.{Undecided}
+use Rattle.bz_machine.specs.declared.status.Verdict.TheVariants.{Succeeded, Failed}
+use Rattle.bz_machine.specs.declared.place.HelpStep.{HelpStep}
+use Rattle.bz_machine.specs.declared.place.HelpStep.TheVariants.{Look, InstallTag, LookUnderTag, InstallPointer, RemoveTag, FlushDirty, ClearDirty, FlushTarget, Decide, FlushStatus, ClearStatus, PutFinal, FlushFinal, ClearFinal, SweepTag}
+use Rattle.bz_machine.specs.declared.place.Next.{Next}
+use Rattle.bz_machine.specs.declared.place.Next.TheVariants.{Step, Meet, Complete}
+use Rattle.bz_machine.specs.Machine.{Entries, Memory, is_verdict, is_succeeded, MayLast}
+
+-- while the swap is undecided, its first k targets hold its pointer
+abbrev pub Points : (ℕ → Entries) → Memory → ℕ → ℕ → Type 0
+Points e m s k = m.status s ≡ Undecided → (i : ℕ) → i < k → m.cached ((e s).target i) ≡ Swap s
+
+-- and will hold it after a power cut
+abbrev pub PointsDurably : (ℕ → Entries) → Memory → ℕ → ℕ → Type 0
+PointsDurably e m s k = m.status s ≡ Undecided → (i : ℕ) (x : WordKind) → i < k → MayLast m ((e s).target i) x → x ≡ Swap s
+
+-- what a worker knows of its current swap s, which is published
+abbrev pub Fact : (ℕ → Entries) → Memory → ℕ → HelpStep → Type 0
+Fact e m s Look = Unit {0}
+Fact e m s (InstallTag i) = (i < (e s).count) × Points e m s i
+Fact e m s (LookUnderTag i w q) = (i < (e s).count) × Points e m s i × (q < m.next_tag w)
+Fact e m s (InstallPointer i w q) = (i < (e s).count) × Points e m s i × (q < m.next_tag w) × (m.cached ((e s).target i) ≡ Tag s i w q → is_succeeded (m.status s) ≡ false)
+Fact e m s (RemoveTag i w q) = i < (e s).count
+Fact e m s (FlushDirty i v) = (i < (e s).count) × Points e m s i
+Fact e m s (ClearDirty i v) = (i < (e s).count) × Points e m s i
+Fact e m s (FlushTarget i) = (i < (e s).count) × Points e m s (e s).count × PointsDurably e m s i
+Fact e m s (Decide Succeeded) = Points e m s (e s).count × PointsDurably e m s (e s).count
+Fact e m s (Decide Failed) = m.status s ≡ Undecided → m.missed s ≡ true
+Fact e m s (FlushStatus d) = is_verdict (m.status s) d ≡ true
+Fact e m s (ClearStatus d) = is_verdict (m.durable_status s) d ≡ true
+Fact e m s (PutFinal i d) = (i < (e s).count) × (is_verdict (m.durable_status s) d ≡ true)
+Fact e m s (FlushFinal i d) = (i < (e s).count) × (is_verdict (m.durable_status s) d ≡ true)
+Fact e m s (ClearFinal i d) = (i < (e s).count) × (is_verdict (m.durable_status s) d ≡ true)
+Fact e m s (SweepTag i d w q) = (i < (e s).count) × (is_verdict (m.durable_status s) d ≡ true)
+
+-- what is known where this follows
+abbrev pub FactNext : (ℕ → Entries) → Memory → ℕ → Next → Type 0
+FactNext e m s (Step step) = Fact e m s step
+FactNext e m s (Meet t) = m.published t ≡ true
+FactNext e m s (Complete d) = is_verdict (m.durable_status s) d ≡ true

@@ -1,0 +1,69 @@
+-- What is known of one worker: the facts of its place, its list, and the swaps that it names.
+use Rattle.std.specs.Prelude.{◌≡◌, ℕ, ◌*◌, ◌<◌, ◌≤◌, true, false, Some, None}
+use Rattle.std.specs.declared.option.Option.{Option}
+use Rattle.bz_machine.specs.declared.status.SwapStatus.TheVariants.{Undecided}
+use Rattle.bz_machine.specs.declared.place.Place.{Place}
+use Rattle.bz_machine.specs.declared.place.Place.TheVariants.{Idle, Prepare, Learn, Help, ReadWord, FlushRead, ClearRead, LoadWord, StoreWord, FlushLine}
+use Rattle.bz_machine.specs.declared.place.PrepareStep.{PrepareStep}
+use Rattle.bz_machine.specs.declared.place.PrepareStep.TheVariants.{WriteWord, WriteStatus, FlushHead, FlushTail}
+use Rattle.bz_machine.specs.declared.worker.Operation.{Operation}
+use Rattle.bz_machine.specs.declared.worker.Operation.TheVariants.{Nothing, Reading, Swapping}
+use Rattle.bz_machine.specs.Machine.{Entries, Memory, spelled}
+use Rattle.bz_machine.specs.Changes.{in_head}
+use Rattle.bz_machine.specs.Facts.{Fact}
+use Rattle.bz_machine.specs.Steps.{Local}
+
+-- the first k words are those that spell the entries
+abbrev pub SpellBelow : Entries → (ℕ → ℕ) → ℕ → Type 0
+SpellBelow x words k = (j : ℕ) → j < k → j ≤ 3 * x.count → words j ≡ spelled x j
+
+-- all words are
+abbrev pub Spell : Entries → (ℕ → ℕ) → Type 0
+Spell x words = (j : ℕ) → j ≤ 3 * x.count → words j ≡ spelled x j
+
+-- those of the descriptor's first line are
+abbrev pub SpellHead : Entries → (ℕ → ℕ) → Type 0
+SpellHead x words = (j : ℕ) → in_head j ≡ true → j ≤ 3 * x.count → words j ≡ spelled x j
+
+-- what is stored and flushed so far of the descriptor of swap s
+abbrev pub Prepared : (ℕ → Entries) → Memory → ℕ → PrepareStep → Type 0
+Prepared e m s (WriteWord k) = (k ≤ 3 * (e s).count) × SpellBelow (e s) (m.words s) k
+Prepared e m s WriteStatus = Spell (e s) (m.words s)
+Prepared e m s FlushHead = Spell (e s) (m.words s) × (m.status s ≡ Undecided)
+Prepared e m s FlushTail = Spell (e s) (m.words s) × (m.status s ≡ Undecided) × (m.durable_status s ≡ Undecided) × SpellHead (e s) (m.durable_words s)
+
+-- the own swap, if there is one, is published
+abbrev pub OwnPublished : Memory → Operation → Type 0
+OwnPublished m Nothing = Unit {0}
+OwnPublished m (Reading a) = Unit {0}
+OwnPublished m (Swapping s) = m.published s ≡ true
+
+-- the own swap was begun by this worker, and is not answered
+abbrev pub Owns : Memory → ℕ → Operation → Type 0
+Owns m w Nothing = Unit {0}
+Owns m w (Reading a) = Unit {0}
+Owns m w (Swapping s) = (m.owner s ≡ w) × (s < m.taken) × (m.answer s ≡ None)
+
+-- the swap to go back to is published
+abbrev pub BackPublished : Memory → Option ℕ → Type 0
+BackPublished m None = Unit {0}
+BackPublished m (Some b) = m.published b ≡ true
+
+-- what a worker knows by the place where its next act is due
+abbrev pub AtPlace : (ℕ → Entries) → Memory → Local → Place → Type 0
+AtPlace e m l Idle = Unit {0}
+AtPlace e m l (Prepare step) = (l.operation ≡ Swapping l.current) × (m.published l.current ≡ false) × Spell (e l.current) l.list × Prepared e m l.current step
+AtPlace e m l (Learn k) = (m.published l.current ≡ true) × OwnPublished m l.operation × (k ≤ 3 * (e l.current).count) × SpellBelow (e l.current) l.list k
+AtPlace e m l (Help step) = (m.published l.current ≡ true) × OwnPublished m l.operation × Spell (e l.current) l.list × Fact e m l.current step
+AtPlace e m l (ReadWord a) = l.operation ≡ Reading a
+AtPlace e m l (FlushRead a v) = l.operation ≡ Reading a
+AtPlace e m l (ClearRead a v) = l.operation ≡ Reading a
+AtPlace e m l (LoadWord a) = ⊥
+AtPlace e m l (StoreWord a v) = m.named a ≡ false
+AtPlace e m l (FlushLine line) = Unit {0}
+
+-- all that is known of worker w
+pub record Knows (e : ℕ → Entries) (m : Memory) (w : ℕ) (l : Local) : Type 0 where
+  pub place : AtPlace e m l l.place
+  pub owns : Owns m w l.operation
+  pub back : BackPublished m l.back

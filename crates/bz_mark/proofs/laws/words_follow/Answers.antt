@@ -1,0 +1,5 @@
+use Rattle.bz_mark.specs.WordLaws.{words_of-next}
+use Rattle.bz_mark.proofs.laws.words_follow.Goals as goal
+
+pub returns : goal.returns
+returns c = words_of-next

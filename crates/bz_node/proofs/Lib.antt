@@ -1,0 +1,15 @@
+pub mod Entries
+pub mod Parts
+pub mod Writes
+pub mod ReadWords
+pub mod Unpacked
+pub mod Orders
+pub mod Pairs
+pub mod Made
+pub mod MadeLeaves
+pub mod MadePairs
+pub mod MadeInners
+pub mod Unique
+pub mod Checks
+pub mod MadeNodes
+pub mod MadePlaces

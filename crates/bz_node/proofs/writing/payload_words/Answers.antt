@@ -1,0 +1,6 @@
+use Rattle.std.proofs.Common.{arith}
+use Rattle.bz_key.specs.PackingLaws.{length-packed}
+use Rattle.bz_node.proofs.writing.payload_words.Goals as goal
+
+pub returns-clause-fits : goal.returns-clause-fits
+returns-clause-fits c = omega (arith, length-packed)
