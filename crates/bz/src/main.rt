@@ -3,9 +3,8 @@
 
 use bz_io::{RealSink, RealSource};
 use bz_top::{NoGate, top};
-use std::env;
-use std::io;
 use std::process::ExitCode;
+use std::{env, io};
 
 fn main(rt: HostRuntime) -> io::Result<ExitCode> {
     let mut args = Vec::new(rt.alloc());

@@ -1,6 +1,5 @@
 //! Calls.
-use bz_key::Key;
-use bz_key::Payload;
+use bz_key::{Key, Payload};
 
 /// A call on the map. What it answers, and what it makes of the map, is `apply` of the specifications.
 #[derive(Clone, Copy)]

@@ -1,6 +1,5 @@
 //! Replies.
-use bz_key::Key;
-use bz_key::Payload;
+use bz_key::{Key, Payload};
 
 /// What ran out.
 #[derive(Clone, Copy)]

@@ -9,6 +9,6 @@ pub calls_of-append : (w : ℕ) (xs ys : List (ℕ × Call)) → calls_of w (xs 
 calls_of-append w [] ys = refl
 calls_of-append w (x ∷ xs) ys = by_test (x.0 == w) (calls_of-append w xs ys)
   where
-  by_test : (b : Bool) → calls_of w (xs ++ ys) ≡ calls_of w xs ++ calls_of w ys → (if b then x ∷ calls_of w (xs ++ ys) else calls_of w (xs ++ ys)) ≡ (if b then x ∷ calls_of w xs else calls_of w xs) ++ calls_of w ys
-  by_test true e = ap (λ (calls : List (ℕ × Call)). x ∷ calls) e
-  by_test false e = e
+    by_test : (b : Bool) → calls_of w (xs ++ ys) ≡ calls_of w xs ++ calls_of w ys → (if b then x ∷ calls_of w (xs ++ ys) else calls_of w (xs ++ ys)) ≡ (if b then x ∷ calls_of w xs else calls_of w xs) ++ calls_of w ys
+    by_test true e = ap (λ (calls : List (ℕ × Call)). x ∷ calls) e
+    by_test false e = e

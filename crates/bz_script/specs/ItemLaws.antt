@@ -76,11 +76,11 @@ no_item rule item is = absurd cc
 call_item : (words : List (List ℕ)) (item : Item) → call_of words ≡ Ok item → IsItem item
 call_item words item =
     either_way IsItem (nat_lt (length words) 3) (Err Words) _ item (no_item Words item)
-      (either_way IsItem (is_word words 2 (codes "insert")) (insert_of words) _ item
-        (either_way IsItem (length words == 5) _ (Err Words) item (insert_item (worker_of (word words 1)) (key_of_word (word words 3)) (payload_of_word (word words 4)) item (in_range 1 64 (number_of (word words 1)))) (no_item Words item))
-        (either_way IsItem (is_word words 2 (codes "get")) (get_of words) (Err Unknown) item
-          (either_way IsItem (length words == 4) _ (Err Words) item (get_item (worker_of (word words 1)) (key_of_word (word words 3)) item (in_range 1 64 (number_of (word words 1)))) (no_item Words item))
-          (no_item Unknown item)))
+    (either_way IsItem (is_word words 2 (codes "insert")) (insert_of words) _ item
+    (either_way IsItem (length words == 5) _ (Err Words) item (insert_item (worker_of (word words 1)) (key_of_word (word words 3)) (payload_of_word (word words 4)) item (in_range 1 64 (number_of (word words 1)))) (no_item Words item))
+    (either_way IsItem (is_word words 2 (codes "get")) (get_of words) (Err Unknown) item
+    (either_way IsItem (length words == 4) _ (Err Words) item (get_item (worker_of (word words 1)) (key_of_word (word words 3)) item (in_range 1 64 (number_of (word words 1)))) (no_item Words item))
+    (no_item Unknown item)))
 
 alone_item : (words : List (List ℕ)) (item : Item) → alone_of words ≡ Ok item → IsItem item
 alone_item words item = either_way IsItem (length words == 2) (Ok (Run Alone)) (Err Words) item (λ is. let same : Run Alone ≡ item = cc in rw (← same) tt) (no_item Words item)
@@ -88,7 +88,7 @@ alone_item words item = either_way IsItem (length words == 2) (Ok (Run Alone)) (
 run_item : (words : List (List ℕ)) (item : Item) → run_of words ≡ Ok item → IsItem item
 run_item words item =
     either_way IsItem (nat_lt (length words) 2) (Err Words) _ item (no_item Words item)
-      (either_way IsItem (is_word words 1 (codes "alone")) (alone_of words) (Err Unknown) item (alone_item words item) (no_item Unknown item))
+    (either_way IsItem (is_word words 1 (codes "alone")) (alone_of words) (Err Unknown) item (alone_item words item) (no_item Unknown item))
 
 abbrev IsLine : Line → Type 0
 IsLine (Memory sizes) = Unit {0}
@@ -108,8 +108,8 @@ entered_line (Ok item) line h is = let same : Entry item ≡ line = cc in rw (�
 line_item : (words : List (List ℕ)) (line : Line) → line_of words ≡ Ok line → IsLine line
 line_item words line =
     either_way IsLine (is_word words 0 (codes "memory")) (sized (memory_of words)) _ line (sized_line (memory_of words) line)
-      (either_way IsLine (is_word words 0 (codes "w")) (entered (call_of words)) _ line (entered_line (call_of words) line (call_item words))
-        (either_way IsLine (is_word words 0 (codes "run")) (entered (run_of words)) (Err Unknown) line (entered_line (run_of words) line (run_item words)) (no_line Unknown line)))
+    (either_way IsLine (is_word words 0 (codes "w")) (entered (call_of words)) _ line (entered_line (call_of words) line (call_item words))
+    (either_way IsLine (is_word words 0 (codes "run")) (entered (run_of words)) (Err Unknown) line (entered_line (run_of words) line (run_item words)) (no_line Unknown line)))
 
 ordered_item : (found : Result Line ScriptRule) (item : Item) → ((line : Line) → found ≡ Ok line → IsLine line) → in_order found ≡ Ok item → IsItem item
 ordered_item (Err rule) item h is = absurd cc

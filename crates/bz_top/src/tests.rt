@@ -202,7 +202,14 @@ fn expect_start<R: Threads + Wait + Abort + Sync>(
     let got = status(rt, alloc, &["run"], &mut source, &mut sink);
     let held = sink.bytes();
     assert!(rt; TWO_REPLIES.starts_with(held));
-    assert_eq!(rt; got, if held.len() == TWO_REPLIES.len() { 0 } else { 4 });
+    assert_eq!(rt;
+        got,
+        if held.len() == TWO_REPLIES.len() {
+            0
+        } else {
+            4
+        }
+    );
     Ok(())
 }
 
