@@ -1,0 +1,120 @@
+-- What the words mean after a change of a descriptor.
+use Rattle.std.specs.Prelude.{◌≡◌, ◌≢◌, if◌then◌else◌, ◌==◌, ℕ, ◌+◌, ◌*◌, ◌/◌, ◌<◌, ◌≤◌, Bool, true, false, nat_lt, List, length, slice_index, slice_set}
+use Rattle.std.proofs.Common.{arith, refl, sym, ap, ◌∙◌, inl, inr}
+use Rattle.std.proofs.lemmas.Grind.{common_steps}
+use Rattle.std.proofs.lemmas.Bool.{cases_lt, cases_eq}
+use Rattle.bz_layout.specs.Addresses.{swap_address}
+use Rattle.bz_machine.specs.declared.status.SwapStatus.{SwapStatus}
+use Rattle.bz_machine.specs.declared.status.SwapStatus.TheVariants.{Free, Undecided, Deciding, Decided}
+use Rattle.bz_machine.specs.declared.status.Verdict.TheVariants.{Succeeded, Failed}
+use Rattle.bz_machine.specs.Changes.{put, with_status, with_field, with_durable_status, with_durable_fields, with_durable_head, in_head, in_tail}
+use Rattle.bz_cells.specs.Store.{Store, Beside, typed, status_word, status_of, IsOutside, is_outside, field_address, field_count}
+use Rattle.bz_cells.proofs.Readers.{AreChosen, kind_in, status_in, field_in, kind-chosen, kind-stays, status-chosen, status-stays, field-chosen, field-stays}
+use Rattle.bz_cells.proofs.Places.{differ, told-outside, status-not_outside, field-not_outside, status-not_in_line, field-not_in_line}
+use Rattle.bz_cells.proofs.Typed.{same_memory}
+
+same : (a : ℕ) → (a == a) ≡ true
+same a = grind (arith, common_steps)
+
+agree : (a b : ℕ) → a ≡ b → (a == b) ≡ true
+agree a b e = grind (arith, common_steps)
+
+turned : {a b : ℕ} → a ≢ b → b ≢ a
+turned ne e = ne (sym e)
+
+-- a function that is another one but for one value
+put-one : {A : Type 0} (f : ℕ → A) (s : ℕ) (v : A) (g : ℕ → A) → g s ≡ v → ((t : ℕ) → t ≢ s → g t ≡ f t) → (t : ℕ) → g t ≡ put f s v t
+put-one f s v g here there t = elim (cases_eq t s) [
+    inl e ↦ rw (e, same s) here
+  | inr ne ↦ rw (differ t s ne) (there t ne) ]
+
+put-row : (f : ℕ → ℕ → ℕ) (s : ℕ) (v : ℕ → ℕ) (g : ℕ → ℕ → ℕ) → ((k : ℕ) → g s k ≡ v k) → ((t k : ℕ) → t ≢ s → g t k ≡ f t k) → (t k : ℕ) → g t k ≡ put f s v t k
+put-row f s v g here there t k = elim (cases_eq t s) [
+    inl e ↦ rw (e, same s) (here k)
+  | inr ne ↦ rw (differ t s ne) (there t k ne) ]
+
+-- a descriptor's words from the one function or from the other, by their numbers
+row-told : (swaps s k : ℕ) (p q : ℕ → Bool) (from to into : ℕ → ℕ) → AreChosen p from to into → (k < field_count → p (field_address s k) ≡ q k)
+  → field_in swaps into s k ≡ (if q k then field_in swaps from s k else field_in swaps to s k)
+row-told swaps s k p q from to into h told = elim (cases_lt k field_count) [
+    inl less ↦ rw (← told less) (field-chosen swaps p from to into h s k)
+  | inr more ↦ past (q k) (none into more) (none from more) (none to more) ]
+  where
+    none : (f : ℕ → ℕ) → field_count ≤ k → field_in swaps f s k ≡ 0
+    none f more = grind (arith, common_steps)
+    past : (t : Bool) {x y z : ℕ} → x ≡ 0 → y ≡ 0 → z ≡ 0 → x ≡ (if t then y else z)
+    past true x y z = x ∙ sym y
+    past false x y z = x ∙ sym z
+
+pub status-word : (x : SwapStatus) → status_of (status_word x) ≡ x
+unfolding status_of
+status-word Free = refl
+status-word Undecided = refl
+status-word (Deciding Succeeded) = refl
+status-word (Deciding Failed) = refl
+status-word (Decided Succeeded) = refl
+status-word (Decided Failed) = refl
+
+status-status : (t s : ℕ) → t ≢ s → swap_address t ≢ swap_address s
+status-status t s ne = omega arith
+
+field-status : (t k s : ℕ) → k < field_count → field_address t k ≢ swap_address s
+field-status t k s less = omega arith
+
+field-field : (t j s k : ℕ) → j < field_count → k < field_count → t ≢ s → field_address t j ≢ field_address s k
+field-field t j s k less fewer ne = omega arith
+
+number-number : (s j k : ℕ) → j ≢ k → field_address s j ≢ field_address s k
+number-number s j k ne = omega arith
+
+-- a status is stored
+pub typed-status : (st : Store) (b : Beside) (s : ℕ) (v : SwapStatus) (into : List ℕ) → s < st.swaps
+  → AreChosen (λ c. c == swap_address s) (λ c. status_word v) (slice_index st.cached) (slice_index into)
+  → typed (record { cached = into; durable = st.durable; swaps = st.swaps }) b ≡ with_status (typed st b) s v
+typed-status st b s v into lt h =
+  same_memory _ _
+    (λ a. kind-stays st.swaps p from (slice_index st.cached) (slice_index into) h a (λ told. differ _ _ (turned (status-not_outside st.swaps a s (told-outside st.swaps a told) lt))))
+    (λ a. refl)
+    (put-one (status_in st.swaps (slice_index st.cached)) s v (status_in st.swaps (slice_index into)) here
+      (λ t ne. status-stays st.swaps p from (slice_index st.cached) (slice_index into) h t (λ less. differ _ _ (status-status t s ne))))
+    (λ t. refl)
+    (λ t k. field-stays st.swaps p from (slice_index st.cached) (slice_index into) h t k (λ less fewer. differ _ _ (field-status t k s fewer)))
+    (λ t k. refl) refl refl refl refl refl refl refl
+  where
+    p : ℕ → Bool
+    p c = c == swap_address s
+    from : ℕ → ℕ
+    from c = status_word v
+    word : slice_index into (swap_address s) ≡ status_word v
+    word = h (swap_address s) ∙ rw (same (swap_address s)) refl
+    here : status_in st.swaps (slice_index into) s ≡ v
+    here = rw word (grind (arith, common_steps, status-word v, lt))
+
+-- a word after the status is stored
+pub typed-field : (st : Store) (b : Beside) (s k x : ℕ) (into : List ℕ) → s < st.swaps → k < field_count
+  → AreChosen (λ c. c == field_address s k) (λ c. x) (slice_index st.cached) (slice_index into)
+  → typed (record { cached = into; durable = st.durable; swaps = st.swaps }) b ≡ with_field (typed st b) s k x
+typed-field st b s k x into lt less h =
+  same_memory _ _
+    (λ a. kind-stays st.swaps p from old new h a (λ told. differ _ _ (turned (field-not_outside st.swaps a s k (told-outside st.swaps a told) lt less))))
+    (λ a. refl)
+    (λ t. status-stays st.swaps p from old new h t (λ below. differ _ _ (turned (field-status s k t less))))
+    (λ t. refl)
+    (put-row (field_in st.swaps old) s (put (field_in st.swaps old s) k x) (field_in st.swaps new)
+      (put-one (field_in st.swaps old s) k x (field_in st.swaps new s) here
+        (λ j ne. field-stays st.swaps p from old new h s j (λ below fewer. differ _ _ (number-number s j k ne))))
+      (λ t j ne. field-stays st.swaps p from old new h t j (λ below fewer. differ _ _ (field-field t j s k fewer less ne))))
+    (λ t j. refl) refl refl refl refl refl refl refl
+  where
+    p : ℕ → Bool
+    p c = c == field_address s k
+    from : ℕ → ℕ
+    from c = x
+    old : ℕ → ℕ
+    old = slice_index st.cached
+    new : ℕ → ℕ
+    new = slice_index into
+    word : slice_index into (field_address s k) ≡ x
+    word = h (field_address s k) ∙ rw (same (field_address s k)) refl
+    here : field_in st.swaps new s k ≡ x
+    here = rw word (grind (arith, common_steps, lt, less))

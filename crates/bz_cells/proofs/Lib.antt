@@ -1,0 +1,6 @@
+pub mod Acts
+pub mod Descriptors
+pub mod Places
+pub mod Readers
+pub mod Stores
+pub mod Typed

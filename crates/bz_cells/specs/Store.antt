@@ -1,0 +1,116 @@
+-- The words of a memory with descriptors, and what they mean.
+use Rattle.std.specs.Prelude.{◌≡◌, if◌then◌else◌, ◌==◌, ◌⊎◌, ℕ, ◌+◌, ◌*◌, ◌^◌, ◌<◌, ◌≤◌, Bool, true, false, nat_lt, List, length, slice_index}
+use Rattle.std.specs.declared.option.Option.{Option}
+use Rattle.bz_word.specs.Kinds.{kind, IsWord}
+use Rattle.bz_word.specs.declared.kind.WordKind.{WordKind}
+use Rattle.bz_word.specs.declared.kind.WordKind.TheVariants.{Value}
+use Rattle.bz_layout.specs.Addresses.{swap_address}
+use Rattle.bz_layout.specs.declared.sizes.TheConstants.{SUPERBLOCK_WORDS, SWAP_COUNT_AT}
+use Rattle.bz_pm.specs.Words.{Words, IsMemory}
+use Rattle.bz_machine.specs.declared.status.SwapStatus.{SwapStatus}
+use Rattle.bz_machine.specs.declared.status.SwapStatus.TheVariants.{Free, Undecided, Deciding, Decided}
+use Rattle.bz_machine.specs.declared.status.Verdict.{Verdict}
+use Rattle.bz_machine.specs.declared.status.Verdict.TheVariants.{Succeeded, Failed}
+use Rattle.bz_machine.specs.Machine.{Memory}
+
+-- the words in the caches and in the memory itself, and the number of descriptors among them
+pub record Store : Type 0 where
+  pub cached : List ℕ
+  pub durable : List ℕ
+  pub swaps : ℕ
+
+-- the word of a status: a verdict that may not be durable yet has bit 63
+abbrev pub status_word : SwapStatus → ℕ
+status_word Free = 0
+status_word Undecided = 1
+status_word (Deciding Succeeded) = 2 ^ 63 + 2
+status_word (Deciding Failed) = 2 ^ 63 + 3
+status_word (Decided Succeeded) = 2
+status_word (Decided Failed) = 3
+
+-- the status of a word; of a number that is no status's word, free
+unfoldable pub status_of : ℕ → SwapStatus
+status_of x =
+    if x == 1 then Undecided
+    else if x == 2 ^ 63 + 2 then Deciding Succeeded
+    else if x == 2 ^ 63 + 3 then Deciding Failed
+    else if x == 2 then Decided Succeeded
+    else if x == 3 then Decided Failed
+    else Free
+
+-- the word is a status's
+abbrev pub IsStatusWord : ℕ → Type 0
+IsStatusWord x = status_word (status_of x) ≡ x
+
+-- the address is no word of a descriptor, where there are so many
+abbrev pub IsOutside : ℕ → ℕ → Type 0
+IsOutside swaps a = (a < SUPERBLOCK_WORDS) ⊎ (swap_address swaps ≤ a)
+
+-- the same as a test
+abbrev pub is_outside : ℕ → ℕ → Bool
+is_outside swaps a = if nat_lt a SUPERBLOCK_WORDS then true else if nat_lt a (swap_address swaps) then false else true
+
+-- the address of a word of a descriptor after its status, counted from the number of entries
+abbrev pub field_address : ℕ → ℕ → ℕ
+field_address s k = swap_address s + SWAP_COUNT_AT + k
+
+-- how many words a descriptor has after its status
+abbrev pub field_count : ℕ
+field_count = 15
+
+-- what stands at an address outside the descriptors
+abbrev pub kind_at : ℕ → List ℕ → ℕ → WordKind
+kind_at swaps words a = if is_outside swaps a then kind (slice_index words a) else Value 0
+
+-- a descriptor's status
+abbrev pub status_at : ℕ → List ℕ → ℕ → SwapStatus
+status_at swaps words s = if nat_lt s swaps then status_of (slice_index words (swap_address s)) else Free
+
+-- a word of a descriptor after its status
+abbrev pub descriptor_word_at : ℕ → List ℕ → ℕ → ℕ → ℕ
+descriptor_word_at swaps words s k = if nat_lt s swaps then if nat_lt k field_count then slice_index words (field_address s k) else 0 else 0
+
+-- what the machine keeps beside the words
+pub record Beside : Type 0 where
+  pub next_tag : ℕ → ℕ
+  pub missed : ℕ → Bool
+  pub taken : ℕ
+  pub owner : ℕ → ℕ
+  pub named : ℕ → Bool
+  pub published : ℕ → Bool
+  pub answer : ℕ → Option Verdict
+
+-- the machine's memory that the words mean
+abbrev pub typed : Store → Beside → Memory
+typed st b = record {
+  cached = kind_at st.swaps st.cached;
+  durable = kind_at st.swaps st.durable;
+  status = status_at st.swaps st.cached;
+  durable_status = status_at st.swaps st.durable;
+  words = descriptor_word_at st.swaps st.cached;
+  durable_words = descriptor_word_at st.swaps st.durable;
+  next_tag = b.next_tag;
+  missed = b.missed;
+  taken = b.taken;
+  owner = b.owner;
+  named = b.named;
+  published = b.published;
+  answer = b.answer;
+}
+
+-- each word outside the descriptors is the word of a kind, and each status word the word of a status
+pub record AreWords (swaps : ℕ) (words : List ℕ) : Type 0 where
+  pub kinds : (a : ℕ) → IsOutside swaps a → IsWord (slice_index words a)
+  pub statuses : (s : ℕ) → s < swaps → IsStatusWord (slice_index words (swap_address s))
+
+-- words that the machine's memory can be read from: they have room for the descriptors, and a meaning
+pub record IsStore (st : Store) : Type 0 where
+  pub memory : IsMemory (record { cached = st.cached; durable = st.durable })
+  pub room : swap_address st.swaps ≤ length st.durable
+  pub cached : AreWords st.swaps st.cached
+  pub durable : AreWords st.swaps st.durable
+
+-- what no call changes
+pub record SameShape (old new : Store) : Type 0 where
+  pub swaps : new.swaps ≡ old.swaps
+  pub size : length new.cached ≡ length old.cached

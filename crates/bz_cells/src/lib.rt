@@ -1,0 +1,8 @@
+//! The words of a simulated memory by what they mean: kinds of word outside the descriptors, and descriptors by
+//! their status and their words.
+#![tactic(auto)]
+
+mod cells;
+mod meaning;
+
+pub use cells::Cells;
