@@ -118,3 +118,126 @@ typed-field st b s k x into lt less h =
     word = h (field_address s k) ∙ rw (same (field_address s k)) refl
     here : field_in st.swaps new s k ≡ x
     here = rw word (grind (arith, common_steps, lt, less))
+
+-- the first line of a descriptor becomes durable
+pub typed-head : (st : Store) (b : Beside) (s : ℕ) (into : List ℕ) → s < st.swaps
+  → AreChosen (λ c. c / 8 == swap_address s / 8) (slice_index st.cached) (slice_index st.durable) (slice_index into)
+  → typed (record { cached = st.cached; durable = into; swaps = st.swaps }) b ≡ with_durable_head (typed st b) s
+typed-head st b s into lt h =
+  same_memory _ _ (λ a. refl)
+    (λ a. kind-stays st.swaps p from old new h a (λ told. differ _ _ (turned (status-not_in_line st.swaps a s (told-outside st.swaps a told) lt))))
+    (λ t. refl)
+    (put-one (status_in st.swaps old) s (status_in st.swaps from s) (status_in st.swaps new) here
+      (λ t ne. status-stays st.swaps p from old new h t (λ below. differ _ _ (lines t ne))))
+    (λ t k. refl)
+    (put-row (field_in st.swaps old) s (λ k. if in_head k then field_in st.swaps from s k else field_in st.swaps old s k) (field_in st.swaps new)
+      (λ k. row-told st.swaps s k p in_head from old new h (λ less. inside k))
+      (λ t k ne. field-stays st.swaps p from old new h t k (λ below fewer. differ _ _ (far t k ne fewer))))
+    refl refl refl refl refl refl refl
+  where
+    p : ℕ → Bool
+    p c = c / 8 == swap_address s / 8
+    from : ℕ → ℕ
+    from = slice_index st.cached
+    old : ℕ → ℕ
+    old = slice_index st.durable
+    new : ℕ → ℕ
+    new = slice_index into
+    here : status_in st.swaps new s ≡ status_in st.swaps from s
+    here = status-chosen st.swaps p from old new h s ∙ rw (same (swap_address s / 8)) refl
+    lines : (t : ℕ) → t ≢ s → swap_address t / 8 ≢ swap_address s / 8
+    lines t ne = omega arith
+    far : (t k : ℕ) → t ≢ s → k < field_count → field_address t k / 8 ≢ swap_address s / 8
+    far t k ne fewer = omega arith
+    inside : (k : ℕ) → p (field_address s k) ≡ in_head k
+    inside k = elim (cases_lt k 7) [
+        inl low ↦ agree _ _ (omega arith) ∙ grind (arith, common_steps)
+      | inr high ↦ differ _ _ (omega arith) ∙ grind (arith, common_steps) ]
+
+-- the second line of a descriptor becomes durable
+pub typed-tail : (st : Store) (b : Beside) (s : ℕ) (into : List ℕ) → s < st.swaps
+  → AreChosen (λ c. c / 8 == swap_address s / 8 + 1) (slice_index st.cached) (slice_index st.durable) (slice_index into)
+  → typed (record { cached = st.cached; durable = into; swaps = st.swaps }) b ≡ with_durable_fields (typed st b) s in_tail
+typed-tail st b s into lt h =
+  same_memory _ _ (λ a. refl)
+    (λ a. kind-stays st.swaps p from old new h a (λ told. differ _ _ (away a (told-outside st.swaps a told))))
+    (λ t. refl)
+    (λ t. status-stays st.swaps p from old new h t (λ below. differ _ _ (lines t)))
+    (λ t k. refl)
+    (put-row (field_in st.swaps old) s (λ k. if in_tail k then field_in st.swaps from s k else field_in st.swaps old s k) (field_in st.swaps new)
+      (λ k. row-told st.swaps s k p in_tail from old new h (λ less. inside k less))
+      (λ t k ne. field-stays st.swaps p from old new h t k (λ below fewer. differ _ _ (far t k ne fewer))))
+    refl refl refl refl refl refl refl
+  where
+    p : ℕ → Bool
+    p c = c / 8 == swap_address s / 8 + 1
+    from : ℕ → ℕ
+    from = slice_index st.cached
+    old : ℕ → ℕ
+    old = slice_index st.durable
+    new : ℕ → ℕ
+    new = slice_index into
+    away : (a : ℕ) → IsOutside st.swaps a → a / 8 ≢ swap_address s / 8 + 1
+    away a (inl below) = omega arith
+    away a (inr above) = omega arith
+    lines : (t : ℕ) → swap_address t / 8 ≢ swap_address s / 8 + 1
+    lines t = omega arith
+    far : (t k : ℕ) → t ≢ s → k < field_count → field_address t k / 8 ≢ swap_address s / 8 + 1
+    far t k ne fewer = omega arith
+    inside : (k : ℕ) → k < field_count → p (field_address s k) ≡ in_tail k
+    inside k less = elim (cases_lt k 7) [
+        inl low ↦ differ _ _ (omega arith) ∙ grind (arith, common_steps)
+      | inr high ↦ agree _ _ (omega arith) ∙ grind (arith, common_steps) ]
+
+-- the status alone becomes durable
+pub typed-status_alone : (st : Store) (b : Beside) (s : ℕ) (into : List ℕ) → s < st.swaps
+  → AreChosen (λ c. c == swap_address s) (slice_index st.cached) (slice_index st.durable) (slice_index into)
+  → typed (record { cached = st.cached; durable = into; swaps = st.swaps }) b ≡ with_durable_status (typed st b) s
+typed-status_alone st b s into lt h =
+  same_memory _ _ (λ a. refl)
+    (λ a. kind-stays st.swaps p from old new h a (λ told. differ _ _ (turned (status-not_outside st.swaps a s (told-outside st.swaps a told) lt))))
+    (λ t. refl)
+    (put-one (status_in st.swaps old) s (status_in st.swaps from s) (status_in st.swaps new) here
+      (λ t ne. status-stays st.swaps p from old new h t (λ below. differ _ _ (status-status t s ne))))
+    (λ t k. refl)
+    (λ t k. field-stays st.swaps p from old new h t k (λ below fewer. differ _ _ (field-status t k s fewer)))
+    refl refl refl refl refl refl refl
+  where
+    p : ℕ → Bool
+    p c = c == swap_address s
+    from : ℕ → ℕ
+    from = slice_index st.cached
+    old : ℕ → ℕ
+    old = slice_index st.durable
+    new : ℕ → ℕ
+    new = slice_index into
+    here : status_in st.swaps new s ≡ status_in st.swaps from s
+    here = status-chosen st.swaps p from old new h s ∙ rw (same (swap_address s)) refl
+
+-- one word after the status becomes durable
+pub typed-field_alone : (st : Store) (b : Beside) (s k : ℕ) (into : List ℕ) → s < st.swaps → k < field_count
+  → AreChosen (λ c. c == field_address s k) (slice_index st.cached) (slice_index st.durable) (slice_index into)
+  → typed (record { cached = st.cached; durable = into; swaps = st.swaps }) b ≡ with_durable_fields (typed st b) s (λ j. j == k)
+typed-field_alone st b s k into lt less h =
+  same_memory _ _ (λ a. refl)
+    (λ a. kind-stays st.swaps p from old new h a (λ told. differ _ _ (turned (field-not_outside st.swaps a s k (told-outside st.swaps a told) lt less))))
+    (λ t. refl)
+    (λ t. status-stays st.swaps p from old new h t (λ below. differ _ _ (turned (field-status s k t less))))
+    (λ t j. refl)
+    (put-row (field_in st.swaps old) s (λ j. if j == k then field_in st.swaps from s j else field_in st.swaps old s j) (field_in st.swaps new)
+      (λ j. row-told st.swaps s j p (λ i. i == k) from old new h (λ fewer. inside j))
+      (λ t j ne. field-stays st.swaps p from old new h t j (λ below fewer. differ _ _ (field-field t j s k fewer less ne))))
+    refl refl refl refl refl refl refl
+  where
+    p : ℕ → Bool
+    p c = c == field_address s k
+    from : ℕ → ℕ
+    from = slice_index st.cached
+    old : ℕ → ℕ
+    old = slice_index st.durable
+    new : ℕ → ℕ
+    new = slice_index into
+    inside : (j : ℕ) → p (field_address s j) ≡ (j == k)
+    inside j = elim (cases_eq j k) [
+        inl e ↦ rw (e, same (field_address s k), same k) refl
+      | inr ne ↦ rw (differ j k ne) (differ _ _ (number-number s j k ne)) ]

@@ -1,4 +1,5 @@
 pub mod Acts
+pub mod DescriptorActs
 pub mod Descriptors
 pub mod Places
 pub mod Readers

@@ -1,12 +1,15 @@
 //! The typed memory and its acts.
 
-ghost use Rattle.std.specs.Prelude.{◌≡◌, ◌≢◌, ◌/◌, ◌<◌, ◌≤◌, ◌%◌, ◌^◌, length, IfOk};
+ghost use Rattle.std.specs.Prelude.{◌≡◌, ◌≢◌, ◌==◌, ◌/◌, ◌<◌, ◌≤◌, ◌%◌, ◌^◌, length, IfOk};
 ghost use Rattle.bz_word.specs.Kinds.{IsKind};
 ghost use Rattle.bz_layout.specs.Addresses.{swap_address};
-ghost use Rattle.bz_machine.specs.Changes.{with_word, with_copies, in_line};
-ghost use Rattle.bz_cells.specs.Store.{Beside, AreWords, IsOutside, SameShape, typed, kind_at};
+ghost use Rattle.bz_machine.specs.Changes.{with_word, with_copies, in_line, with_status, with_durable_status, with_field, with_durable_fields, with_durable_head, in_tail, after_cut};
+ghost use Rattle.bz_cells.specs.Store.{Beside, AreWords, IsOutside, SameShape, typed, kind_at, status_at, descriptor_word_at, field_count};
 
-use crate::meaning::kind_in;
+use crate::address::{field_at, swap_at};
+use crate::meaning::{kind_in, status_in, word_of_status};
+use bz_layout::LINE_WORDS;
+use bz_machine::SwapStatus;
 use bz_memory::Memory;
 use bz_pm::Pm;
 use bz_word::{WordKind, word_of};
@@ -87,6 +90,111 @@ impl Cells {
         ensures changed { (b : Beside) → typed self.new b ≡ with_copies (typed self.old b) (in_line a) }
         ensures shape { SameShape self.old self.new }
     {
-        self.pm.flush(a / 8);
+        self.pm.flush(a / LINE_WORDS);
+    }
+
+    /// A descriptor's status.
+    pub fn load_status(&self, swap: u16) -> SwapStatus
+        requires { swap < self.now.swaps }
+        ensures { result ≡ status_at self.now.swaps self.now.cached swap }
+    {
+        status_in(self.pm.load(swap_at(swap)))
+    }
+
+    /// Stores a descriptor's status.
+    pub fn store_status(&mut self, swap: u16, new: SwapStatus)
+        requires { swap < self.old.swaps }
+        ensures changed { (b : Beside) → typed self.new b ≡ with_status (typed self.old b) swap new }
+        ensures shape { SameShape self.old self.new }
+    {
+        self.pm.store(swap_at(swap), word_of_status(new));
+    }
+
+    /// Puts the new status where the old one stands, and says what stood.
+    pub fn cas_status(&mut self, swap: u16, old: SwapStatus, new: SwapStatus) -> SwapStatus
+        requires { swap < self.old.swaps }
+        ensures found { result ≡ status_at self.old.swaps self.old.cached swap }
+        ensures changed { result ≡ old → (b : Beside) → typed self.new b ≡ with_status (typed self.old b) swap new }
+        ensures unchanged { result ≢ old → self.new ≡ self.old }
+        ensures shape { SameShape self.old self.new }
+    {
+        let found = self
+            .pm
+            .cas(swap_at(swap), word_of_status(old), word_of_status(new));
+        status_in(found)
+    }
+
+    /// A word of a descriptor, counted from the number of entries.
+    pub fn load_field(&self, swap: u16, number: u8) -> u64
+        requires descriptor { swap < self.now.swaps }
+        requires number { number < field_count }
+        ensures { result ≡ descriptor_word_at self.now.swaps self.now.cached swap number }
+    {
+        self.pm.load(field_at(swap, number))
+    }
+
+    /// Stores a word of a descriptor, counted from the number of entries.
+    pub fn store_field(&mut self, swap: u16, number: u8, word: u64)
+        requires descriptor { swap < self.old.swaps }
+        requires number { number < field_count }
+        ensures changed { (b : Beside) → typed self.new b ≡ with_field (typed self.old b) swap number word }
+        ensures shape { SameShape self.old self.new }
+    {
+        self.pm.store(field_at(swap, number), word);
+    }
+
+    /// Flushes the first line of a descriptor, which holds its status.
+    pub fn flush_head(&mut self, swap: u16)
+        requires { swap < self.old.swaps }
+        ensures changed { (b : Beside) → typed self.new b ≡ with_durable_head (typed self.old b) swap }
+        ensures shape { SameShape self.old self.new }
+    {
+        self.pm.flush(swap_at(swap) / LINE_WORDS);
+    }
+
+    /// Flushes the second line of a descriptor.
+    pub fn flush_tail(&mut self, swap: u16)
+        requires { swap < self.old.swaps }
+        ensures changed { (b : Beside) → typed self.new b ≡ with_durable_fields (typed self.old b) swap in_tail }
+        ensures shape { SameShape self.old self.new }
+    {
+        self.pm.flush(swap_at(swap) / LINE_WORDS + 1);
+    }
+
+    /// Makes a word outside the descriptors durable.
+    pub fn evict_word(&mut self, a: u32)
+        requires outside { IsOutside self.old.swaps a }
+        requires within { a < length self.old.cached }
+        ensures changed { (b : Beside) → typed self.new b ≡ with_copies (typed self.old b) (λ c. c == a) }
+        ensures shape { SameShape self.old self.new }
+    {
+        self.pm.evict(a);
+    }
+
+    /// Makes a descriptor's status durable.
+    pub fn evict_status(&mut self, swap: u16)
+        requires { swap < self.old.swaps }
+        ensures changed { (b : Beside) → typed self.new b ≡ with_durable_status (typed self.old b) swap }
+        ensures shape { SameShape self.old self.new }
+    {
+        self.pm.evict(swap_at(swap));
+    }
+
+    /// Makes a word of a descriptor durable, counted from the number of entries.
+    pub fn evict_field(&mut self, swap: u16, number: u8)
+        requires descriptor { swap < self.old.swaps }
+        requires number { number < field_count }
+        ensures changed { (b : Beside) → typed self.new b ≡ with_durable_fields (typed self.old b) swap (λ k. k == number) }
+        ensures shape { SameShape self.old self.new }
+    {
+        self.pm.evict(field_at(swap, number));
+    }
+
+    /// Cuts the power: the durable words are all that is left.
+    pub fn cut(&mut self)
+        ensures changed { (b : Beside) → typed self.new b ≡ after_cut (typed self.old b) }
+        ensures shape { SameShape self.old self.new }
+    {
+        self.pm.cut();
     }
 }

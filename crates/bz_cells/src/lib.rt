@@ -2,6 +2,7 @@
 //! their status and their words.
 #![tactic(auto)]
 
+mod address;
 mod cells;
 mod meaning;
 

@@ -39,3 +39,22 @@ pub(crate) fn word_of_status(status: SwapStatus) -> u64
         SwapStatus::Decided(Verdict::Failed) => FAILED,
     }
 }
+
+// The status of a word; of a number that is no status's word, free.
+pub(crate) fn status_in(word: u64) -> SwapStatus
+    ensures { result ≡ status_of word }
+{
+    if word == UNDECIDED {
+        SwapStatus::Undecided
+    } else if word == DIRTY_BIT + SUCCEEDED {
+        SwapStatus::Deciding(Verdict::Succeeded)
+    } else if word == DIRTY_BIT + FAILED {
+        SwapStatus::Deciding(Verdict::Failed)
+    } else if word == SUCCEEDED {
+        SwapStatus::Decided(Verdict::Succeeded)
+    } else if word == FAILED {
+        SwapStatus::Decided(Verdict::Failed)
+    } else {
+        SwapStatus::Free
+    }
+}
