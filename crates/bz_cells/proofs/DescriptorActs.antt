@@ -1,12 +1,12 @@
 -- The acts on descriptors, evictions and the cut: what they leave is a store, and means the machine's change.
-use Rattle.std.specs.Prelude.{◌≡◌, ◌≢◌, if◌then◌else◌, ◌==◌, ℕ, ◌+◌, ◌*◌, ◌/◌, ◌%◌, ◌^◌, ◌<◌, ◌≤◌, Bool, true, false, List, length, slice_index, slice_set}
-use Rattle.std.proofs.Common.{arith, refl, sym, ap, ◌∙◌, inl, inr}
+use Rattle.std.specs.Prelude.{◌≡◌, ◌≢◌, if◌then◌else◌, ◌==◌, ℕ, ◌+◌, ◌*◌, ◌/◌, ◌^◌, ◌<◌, Bool, true, false, List, length, slice_index, slice_set}
+use Rattle.std.proofs.Common.{arith, refl, sym, ap, ◌∙◌}
 use Rattle.std.proofs.lemmas.Grind.{common_steps}
 use Rattle.bz_word.specs.Kinds.{IsWord}
 use Rattle.bz_layout.specs.Addresses.{swap_address}
-use Rattle.bz_pm.specs.Words.{Words, IsMemory}
-use Rattle.bz_pm.specs.Acts.{with_line, stored, compared, flushed, evicted}
-use Rattle.bz_pm.specs.Changes.{StoresOnly, FlushesOnly, EvictsOnly}
+use Rattle.bz_pm.specs.Words.{Words}
+use Rattle.bz_pm.specs.Acts.{with_line, stored, compared}
+use Rattle.bz_pm.specs.Changes.{StoresOnly}
 use Rattle.bz_pm.specs.Laws.{store, flush, evict}
 use Rattle.bz_machine.specs.declared.status.SwapStatus.{SwapStatus}
 use Rattle.bz_machine.specs.declared.status.SwapStatus.TheVariants.{Free, Undecided, Deciding, Decided}
@@ -45,28 +45,28 @@ status-stores : (st : Store) (s : ℕ) (v : SwapStatus) → IsStore st → s < s
 status-stores st s v i lt = store (words_in st) (swap_address s) (status_word v) i.memory (status-within st s i lt) (status-small v)
 
 pub store-status : (st : Store) (s : ℕ) (v : SwapStatus) → IsStore st → s < st.swaps
-  → IsStore (record { cached = slice_set st.cached (swap_address s) (status_word v); durable = st.durable; swaps = st.swaps })
+    → IsStore (record { cached = slice_set st.cached (swap_address s) (status_word v); durable = st.durable; swaps = st.swaps })
 store-status st s v i lt =
-  let change = status-stores st s v i lt in
-  store-cached st (slice_set st.cached (swap_address s) (status_word v)) i change.stays
+    let change = status-stores st s v i lt in
+    store-cached st (slice_set st.cached (swap_address s) (status_word v)) i change.stays
     (words-set st.swaps (swap_address s) (status_word v) st.cached (slice_set st.cached (swap_address s) (status_word v)) change.cached
-      outside (λ t below e. ap status_word (status-word v)) i.cached)
+    outside (λ t below e. ap status_word (status-word v)) i.cached)
   where
     outside : IsOutside st.swaps (swap_address s) → IsWord (status_word v)
     outside out = elim (status-not_outside st.swaps (swap_address s) s out lt refl) [ ]
 
 pub typed-store_status : (st : Store) (b : Beside) (s : ℕ) (v : SwapStatus) → IsStore st → s < st.swaps
-  → typed (record { cached = slice_set st.cached (swap_address s) (status_word v); durable = st.durable; swaps = st.swaps }) b ≡ with_status (typed st b) s v
+    → typed (record { cached = slice_set st.cached (swap_address s) (status_word v); durable = st.durable; swaps = st.swaps }) b ≡ with_status (typed st b) s v
 typed-store_status st b s v i lt = typed-status st b s v (slice_set st.cached (swap_address s) (status_word v)) lt (status-stores st s v i lt).cached
 
 -- the same where a test holds
 status-if : (st : Store) (s : ℕ) (v : SwapStatus) → IsStore st → s < st.swaps → (t : Bool)
-  → IsStore (record { cached = if t then slice_set st.cached (swap_address s) (status_word v) else st.cached; durable = st.durable; swaps = st.swaps })
+    → IsStore (record { cached = if t then slice_set st.cached (swap_address s) (status_word v) else st.cached; durable = st.durable; swaps = st.swaps })
 status-if st s v i lt true = store-status st s v i lt
 status-if st s v i lt false = i
 
 pub store-status_compared : (st : Store) (s : ℕ) (old new : SwapStatus) → IsStore st → s < st.swaps
-  → (m : Words) → m ≡ compared (words_in st) (swap_address s) (status_word old) (status_word new) → IsStore (record { cached = m.cached; durable = m.durable; swaps = st.swaps })
+    → (m : Words) → m ≡ compared (words_in st) (swap_address s) (status_word old) (status_word new) → IsStore (record { cached = m.cached; durable = m.durable; swaps = st.swaps })
 store-status_compared st s old new i lt m e = rw e (status-if st s new i lt (slice_index st.cached (swap_address s) == status_word old))
 
 compared-hit : (ws : List ℕ) (a x y : ℕ) → slice_index ws a ≡ x → (if slice_index ws a == x then slice_set ws a y else ws) ≡ slice_set ws a y
@@ -76,69 +76,71 @@ compared-missed : (ws : List ℕ) (a x y : ℕ) → slice_index ws a ≢ x → (
 compared-missed ws a x y ne = rw (differ (slice_index ws a) x ne) refl
 
 pub typed-status_compared : (st : Store) (b : Beside) (s : ℕ) (old new : SwapStatus) (m : Words) → m ≡ compared (words_in st) (swap_address s) (status_word old) (status_word new)
-  → IsStore st → s < st.swaps → status_of (slice_index st.cached (swap_address s)) ≡ old
-  → typed (record { cached = m.cached; durable = m.durable; swaps = st.swaps }) b ≡ with_status (typed st b) s new
+    → IsStore st → s < st.swaps → status_of (slice_index st.cached (swap_address s)) ≡ old
+    → typed (record { cached = m.cached; durable = m.durable; swaps = st.swaps }) b ≡ with_status (typed st b) s new
 typed-status_compared st b s old new m e i lt found =
-  let hit : slice_index st.cached (swap_address s) ≡ status_word old = sym (i.cached.statuses s lt) ∙ ap status_word found in
-  rw e (ap (λ ws. typed (record { cached = ws; durable = st.durable; swaps = st.swaps }) b) (compared-hit st.cached (swap_address s) (status_word old) (status_word new) hit) ∙ typed-store_status st b s new i lt)
+    let hit : slice_index st.cached (swap_address s) ≡ status_word old = sym (i.cached.statuses s lt) ∙ ap status_word found in
+    rw e (ap (λ ws. typed (record { cached = ws; durable = st.durable; swaps = st.swaps }) b) (compared-hit st.cached (swap_address s) (status_word old) (status_word new) hit) ∙ typed-store_status st b s new i lt)
 
 pub status-unchanged : (st : Store) (s : ℕ) (old new : SwapStatus) (m : Words) → m ≡ compared (words_in st) (swap_address s) (status_word old) (status_word new)
-  → (status_of (slice_index st.cached (swap_address s)) ≢ old) → m ≡ words_in st
+    → (status_of (slice_index st.cached (swap_address s)) ≢ old) → m ≡ words_in st
 status-unchanged st s old new m e ne =
-  e ∙ ap (λ ws. record { cached = ws; durable = st.durable }) (compared-missed st.cached (swap_address s) (status_word old) (status_word new) (λ hit. ne (ap status_of hit ∙ status-word old)))
+    e ∙ ap (λ ws. record { cached = ws; durable = st.durable }) (compared-missed st.cached (swap_address s) (status_word old) (status_word new) (λ hit. ne (ap status_of hit ∙ status-word old)))
 
 -- a word after the status is stored
 field-stores : (st : Store) (s k x : ℕ) → IsStore st → s < st.swaps → k < field_count → x < 2 ^ 64 → StoresOnly (words_in st) (stored (words_in st) (field_address s k) x) (field_address s k) x
 field-stores st s k x i lt less small = store (words_in st) (field_address s k) x i.memory (field-within st s k i lt less) small
 
 pub store-field : (st : Store) (s k x : ℕ) → IsStore st → s < st.swaps → k < field_count → x < 2 ^ 64
-  → IsStore (record { cached = slice_set st.cached (field_address s k) x; durable = st.durable; swaps = st.swaps })
+    → IsStore (record { cached = slice_set st.cached (field_address s k) x; durable = st.durable; swaps = st.swaps })
 store-field st s k x i lt less small =
-  let change = field-stores st s k x i lt less small in
-  store-cached st (slice_set st.cached (field_address s k) x) i change.stays
+    let change = field-stores st s k x i lt less small in
+    store-cached st (slice_set st.cached (field_address s k) x) i change.stays
     (words-set st.swaps (field_address s k) x st.cached (slice_set st.cached (field_address s k) x) change.cached outside status i.cached)
   where
     outside : IsOutside st.swaps (field_address s k) → IsWord x
     outside out = elim (field-not_outside st.swaps (field_address s k) s k out lt less refl) [ ]
+
     apart : (t : ℕ) → swap_address t ≢ field_address s k
     apart t = omega arith
+
     status : (t : ℕ) → t < st.swaps → swap_address t ≡ field_address s k → IsStatusWord x
     status t below e = elim (apart t e) [ ]
 
 pub typed-store_field : (st : Store) (b : Beside) (s k x : ℕ) → IsStore st → s < st.swaps → k < field_count → x < 2 ^ 64
-  → typed (record { cached = slice_set st.cached (field_address s k) x; durable = st.durable; swaps = st.swaps }) b ≡ with_field (typed st b) s k x
+    → typed (record { cached = slice_set st.cached (field_address s k) x; durable = st.durable; swaps = st.swaps }) b ≡ with_field (typed st b) s k x
 typed-store_field st b s k x i lt less small = typed-field st b s k x (slice_set st.cached (field_address s k) x) lt less (field-stores st s k x i lt less small).cached
 
 -- the two lines of a descriptor
 pub typed-flush_head : (st : Store) (b : Beside) (s : ℕ) → IsStore st → s < st.swaps
-  → typed (record { cached = st.cached; durable = with_line (swap_address s / 8) st.cached st.durable; swaps = st.swaps }) b ≡ with_durable_head (typed st b) s
+    → typed (record { cached = st.cached; durable = with_line (swap_address s / 8) st.cached st.durable; swaps = st.swaps }) b ≡ with_durable_head (typed st b) s
 typed-flush_head st b s i lt = typed-head st b s _ lt (flush (words_in st) (swap_address s / 8) i.memory (head-within st s i lt)).durable
 
 pub typed-flush_tail : (st : Store) (b : Beside) (s : ℕ) → IsStore st → s < st.swaps
-  → typed (record { cached = st.cached; durable = with_line (swap_address s / 8 + 1) st.cached st.durable; swaps = st.swaps }) b ≡ with_durable_fields (typed st b) s in_tail
+    → typed (record { cached = st.cached; durable = with_line (swap_address s / 8 + 1) st.cached st.durable; swaps = st.swaps }) b ≡ with_durable_fields (typed st b) s in_tail
 typed-flush_tail st b s i lt = typed-tail st b s _ lt (flush (words_in st) (swap_address s / 8 + 1) i.memory (tail-within st s i lt)).durable
 
 -- evictions
 pub store-evict : (st : Store) (a : ℕ) → IsStore st → a < length st.cached
-  → IsStore (record { cached = st.cached; durable = slice_set st.durable a (slice_index st.cached a); swaps = st.swaps })
+    → IsStore (record { cached = st.cached; durable = slice_set st.durable a (slice_index st.cached a); swaps = st.swaps })
 store-evict st a i within =
-  let change = evict (words_in st) a i.memory within in
-  store-durable st (slice_set st.durable a (slice_index st.cached a)) i change.stays
+    let change = evict (words_in st) a i.memory within in
+    store-durable st (slice_set st.durable a (slice_index st.cached a)) i change.stays
     (words-chosen st.swaps (λ c. c == a) st.cached st.durable (slice_set st.durable a (slice_index st.cached a)) change.durable i.cached i.durable)
 
 pub typed-evict : (st : Store) (b : Beside) (a : ℕ) → IsStore st → IsOutside st.swaps a → a < length st.cached
-  → typed (record { cached = st.cached; durable = slice_set st.durable a (slice_index st.cached a); swaps = st.swaps }) b ≡ with_copies (typed st b) (λ c. c == a)
+    → typed (record { cached = st.cached; durable = slice_set st.durable a (slice_index st.cached a); swaps = st.swaps }) b ≡ with_copies (typed st b) (λ c. c == a)
 typed-evict st b a i out within =
-  typed-copied st b (λ c. c == a) (slice_set st.durable a (slice_index st.cached a)) (evict (words_in st) a i.memory within).durable
+    typed-copied st b (λ c. c == a) (slice_set st.durable a (slice_index st.cached a)) (evict (words_in st) a i.memory within).durable
     (λ s lt. differ _ _ (status-not_outside st.swaps a s out lt))
     (λ s k lt less. differ _ _ (field-not_outside st.swaps a s k out lt less))
 
 pub typed-evict_status : (st : Store) (b : Beside) (s : ℕ) → IsStore st → s < st.swaps
-  → typed (record { cached = st.cached; durable = slice_set st.durable (swap_address s) (slice_index st.cached (swap_address s)); swaps = st.swaps }) b ≡ with_durable_status (typed st b) s
+    → typed (record { cached = st.cached; durable = slice_set st.durable (swap_address s) (slice_index st.cached (swap_address s)); swaps = st.swaps }) b ≡ with_durable_status (typed st b) s
 typed-evict_status st b s i lt = typed-status_alone st b s _ lt (evict (words_in st) (swap_address s) i.memory (status-within st s i lt)).durable
 
 pub typed-evict_field : (st : Store) (b : Beside) (s k : ℕ) → IsStore st → s < st.swaps → k < field_count
-  → typed (record { cached = st.cached; durable = slice_set st.durable (field_address s k) (slice_index st.cached (field_address s k)); swaps = st.swaps }) b ≡ with_durable_fields (typed st b) s (λ j. j == k)
+    → typed (record { cached = st.cached; durable = slice_set st.durable (field_address s k) (slice_index st.cached (field_address s k)); swaps = st.swaps }) b ≡ with_durable_fields (typed st b) s (λ j. j == k)
 typed-evict_field st b s k i lt less = typed-field_alone st b s k _ lt less (evict (words_in st) (field_address s k) i.memory (field-within st s k i lt less)).durable
 
 -- what is read of a descriptor

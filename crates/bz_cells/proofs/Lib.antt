@@ -5,3 +5,4 @@ pub mod Places
 pub mod Readers
 pub mod Stores
 pub mod Typed
+pub mod Zeros

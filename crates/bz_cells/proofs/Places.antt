@@ -1,8 +1,8 @@
 -- Which words lie in a line, or at an address.
-use Rattle.std.specs.Prelude.{◌≡◌, ◌≢◌, if◌then◌else◌, ◌==◌, ℕ, ◌+◌, ◌*◌, ◌/◌, ◌<◌, ◌≤◌, Bool, true, false, nat_lt}
-use Rattle.std.proofs.Common.{arith, refl, inl, inr}
+use Rattle.std.specs.Prelude.{◌≡◌, ◌≢◌, ◌==◌, ℕ, ◌+◌, ◌*◌, ◌/◌, ◌<◌, true, false}
+use Rattle.std.proofs.Common.{arith, inl, inr}
 use Rattle.std.proofs.lemmas.Grind.{common_steps}
-use Rattle.std.proofs.lemmas.Bool.{cases_lt, cases_eq}
+use Rattle.std.proofs.lemmas.Bool.{cases_lt}
 use Rattle.bz_layout.specs.Addresses.{swap_address}
 use Rattle.bz_layout.specs.declared.sizes.TheConstants.{SUPERBLOCK_WORDS}
 use Rattle.bz_cells.specs.Store.{IsOutside, is_outside, field_address, field_count}
@@ -16,10 +16,12 @@ outside-told swaps a (inr above) = grind (arith, common_steps)
 
 pub told-outside : (swaps a : ℕ) → is_outside swaps a ≡ true → IsOutside swaps a
 told-outside swaps a told = elim (cases_lt a SUPERBLOCK_WORDS) [
-    inl below ↦ inl below
+  | inl below ↦ inl below
   | inr at_least ↦ elim (cases_lt a (swap_address swaps)) [
-        inl inside ↦ grind (arith, common_steps)
-      | inr above ↦ inr above ] ]
+    | inl inside ↦ grind (arith, common_steps)
+    | inr above ↦ inr above
+  ]
+]
 
 -- a word of a descriptor is not outside, nor in the line of a word that is
 pub status-not_outside : (swaps a s : ℕ) → IsOutside swaps a → s < swaps → swap_address s ≢ a

@@ -1,8 +1,8 @@
 -- What the readers say of words of which some were taken from elsewhere.
-use Rattle.std.specs.Prelude.{◌≡◌, ◌≢◌, if◌then◌else◌, ◌==◌, ℕ, ◌+◌, ◌*◌, ◌<◌, ◌≤◌, Bool, true, false, nat_lt, List, slice_index}
-use Rattle.std.proofs.Common.{arith, refl, sym, ap, ◌∙◌, inl, inr}
+use Rattle.std.specs.Prelude.{◌≡◌, if◌then◌else◌, ℕ, ◌<◌, Bool, true, false, nat_lt}
+use Rattle.std.proofs.Common.{arith, refl, inl, inr}
 use Rattle.std.proofs.lemmas.Grind.{common_steps}
-use Rattle.std.proofs.lemmas.Bool.{cases_lt, cases_eq}
+use Rattle.std.proofs.lemmas.Bool.{cases_lt}
 use Rattle.bz_word.specs.Kinds.{kind}
 use Rattle.bz_word.specs.declared.kind.WordKind.{WordKind}
 use Rattle.bz_word.specs.declared.kind.WordKind.TheVariants.{Value}
@@ -58,12 +58,15 @@ kind-stays swaps p from to into h a none = by_cases (is_outside swaps a) refl
 
 pub status-stays : (swaps : ℕ) (p : ℕ → Bool) (from to into : ℕ → ℕ) → AreChosen p from to into → (s : ℕ) → (s < swaps → p (swap_address s) ≡ false) → status_in swaps into s ≡ status_in swaps to s
 status-stays swaps p from to into h s none = elim (cases_lt s swaps) [
-    inl lt ↦ rw (h (swap_address s), none lt) refl
-  | inr ge ↦ grind (arith, common_steps) ]
+  | inl lt ↦ rw (h (swap_address s), none lt) refl
+  | inr ge ↦ grind (arith, common_steps)
+]
 
 pub field-stays : (swaps : ℕ) (p : ℕ → Bool) (from to into : ℕ → ℕ) → AreChosen p from to into → (s k : ℕ) → (s < swaps → k < field_count → p (field_address s k) ≡ false) → field_in swaps into s k ≡ field_in swaps to s k
 field-stays swaps p from to into h s k none = elim (cases_lt s swaps) [
-    inl lt ↦ elim (cases_lt k field_count) [
-        inl less ↦ rw (h (field_address s k), none lt less) refl
-      | inr more ↦ grind (arith, common_steps) ]
-  | inr ge ↦ grind (arith, common_steps) ]
+  | inl lt ↦ elim (cases_lt k field_count) [
+    | inl less ↦ rw (h (field_address s k), none lt less) refl
+    | inr more ↦ grind (arith, common_steps)
+  ]
+  | inr ge ↦ grind (arith, common_steps)
+]

@@ -1,11 +1,10 @@
 -- The words stay words with a meaning.
-use Rattle.std.specs.Prelude.{◌≡◌, ◌≢◌, if◌then◌else◌, ◌==◌, ℕ, ◌+◌, ◌*◌, ◌/◌, ◌<◌, ◌≤◌, Bool, true, false, nat_lt, List, length, slice_index, slice_set}
-use Rattle.std.proofs.Common.{arith, refl, sym, ap, ◌∙◌, inl, inr}
+use Rattle.std.specs.Prelude.{◌≡◌, ◌≢◌, if◌then◌else◌, ◌==◌, ℕ, ◌<◌, Bool, true, false, List, slice_index}
+use Rattle.std.proofs.Common.{arith, inl, inr}
 use Rattle.std.proofs.lemmas.Grind.{common_steps}
-use Rattle.std.proofs.lemmas.Bool.{cases_lt, cases_eq}
+use Rattle.std.proofs.lemmas.Bool.{cases_eq}
 use Rattle.bz_word.specs.Kinds.{IsWord}
 use Rattle.bz_layout.specs.Addresses.{swap_address}
-use Rattle.bz_pm.specs.Words.{Words, IsMemory}
 use Rattle.bz_pm.specs.Changes.{StaysMemory}
 use Rattle.bz_cells.specs.Store.{Store, AreWords, IsStore, IsOutside, IsStatusWord}
 use Rattle.bz_cells.proofs.Readers.{AreChosen}
@@ -23,28 +22,31 @@ words-chosen swaps p from to into h f g = record {
 
 -- one word is another
 pub words-set : (swaps a x : ℕ) (to into : List ℕ) → AreChosen (λ c. c == a) (λ c. x) (slice_index to) (slice_index into)
-  → (IsOutside swaps a → IsWord x) → ((s : ℕ) → s < swaps → swap_address s ≡ a → IsStatusWord x) → AreWords swaps to → AreWords swaps into
+    → (IsOutside swaps a → IsWord x) → ((s : ℕ) → s < swaps → swap_address s ≡ a → IsStatusWord x) → AreWords swaps to → AreWords swaps into
 words-set swaps a x to into h is_word is_status g = record {
   kinds = λ c out. elim (cases_eq c a) [
-      inl e ↦ rw (h c, same c e) (is_word (rw e at out))
-    | inr ne ↦ rw (h c, other c ne) (g.kinds c out) ];
+    | inl e ↦ rw (h c, same c e) (is_word (rw e at out))
+    | inr ne ↦ rw (h c, other c ne) (g.kinds c out)
+  ];
   statuses = λ s lt. elim (cases_eq (swap_address s) a) [
-      inl e ↦ rw (h (swap_address s), same (swap_address s) e) (is_status s lt e)
-    | inr ne ↦ rw (h (swap_address s), other (swap_address s) ne) (g.statuses s lt) ];
+    | inl e ↦ rw (h (swap_address s), same (swap_address s) e) (is_status s lt e)
+    | inr ne ↦ rw (h (swap_address s), other (swap_address s) ne) (g.statuses s lt)
+  ];
 }
   where
     same : (c : ℕ) → c ≡ a → (c == a) ≡ true
     same c e = grind (arith, common_steps)
+
     other : (c : ℕ) → c ≢ a → (c == a) ≡ false
     other c ne = grind (arith, common_steps)
 
 -- a store after a change of its cached words, and of its durable ones
 pub store-cached : (st : Store) (into : List ℕ) → IsStore st
-  → StaysMemory (record { cached = st.cached; durable = st.durable }) (record { cached = into; durable = st.durable }) → AreWords st.swaps into
-  → IsStore (record { cached = into; durable = st.durable; swaps = st.swaps })
+    → StaysMemory (record { cached = st.cached; durable = st.durable }) (record { cached = into; durable = st.durable }) → AreWords st.swaps into
+    → IsStore (record { cached = into; durable = st.durable; swaps = st.swaps })
 store-cached st into i stays words = record { memory = stays.memory; room = i.room; cached = words; durable = i.durable }
 
 pub store-durable : (st : Store) (into : List ℕ) → IsStore st
-  → StaysMemory (record { cached = st.cached; durable = st.durable }) (record { cached = st.cached; durable = into }) → AreWords st.swaps into
-  → IsStore (record { cached = st.cached; durable = into; swaps = st.swaps })
+    → StaysMemory (record { cached = st.cached; durable = st.durable }) (record { cached = st.cached; durable = into }) → AreWords st.swaps into
+    → IsStore (record { cached = st.cached; durable = into; swaps = st.swaps })
 store-durable st into i stays words = record { memory = stays.memory; room = rw stays.durable i.room; cached = i.cached; durable = words }

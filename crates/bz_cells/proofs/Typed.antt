@@ -1,18 +1,17 @@
 -- What the words mean after a change of some of them.
-use Rattle.std.specs.Prelude.{◌≡◌, ◌≢◌, if◌then◌else◌, ◌==◌, ℕ, ◌+◌, ◌*◌, ◌/◌, ◌<◌, ◌≤◌, Bool, true, false, nat_lt, List, length, slice_index, slice_set}
-use Rattle.std.proofs.Common.{arith, refl, sym, ap, ◌∙◌, inl, inr}
+use Rattle.std.specs.Prelude.{◌≡◌, ◌==◌, ℕ, ◌<◌, Bool, false, List, slice_index}
+use Rattle.std.proofs.Common.{arith, refl, inl, inr}
 use Rattle.std.proofs.lemmas.Grind.{common_steps}
-use Rattle.std.proofs.lemmas.Bool.{cases_lt, cases_eq}
-use Rattle.bz_word.specs.Kinds.{word, kind, IsKind}
+use Rattle.std.proofs.lemmas.Bool.{cases_eq}
+use Rattle.bz_word.specs.Kinds.{word, IsKind}
 use Rattle.bz_word.specs.Laws.KindWords.{kind-word}
 use Rattle.bz_word.specs.declared.kind.WordKind.{WordKind}
-use Rattle.bz_word.specs.declared.kind.WordKind.TheVariants.{Value}
 use Rattle.bz_layout.specs.Addresses.{swap_address}
 use Rattle.bz_machine.specs.Machine.{Memory}
 use Rattle.bz_machine.specs.Changes.{put, with_word, with_copies, in_line}
-use Rattle.bz_cells.specs.Store.{Store, Beside, typed, kind_at, status_at, descriptor_word_at, IsOutside, is_outside, field_address, field_count}
-use Rattle.bz_cells.proofs.Readers.{AreChosen, kind_in, kind-chosen, kind-stays, status-chosen, status-stays, field-chosen, field-stays}
-use Rattle.bz_cells.proofs.Places.{differ, outside-told, told-outside, status-not_outside, field-not_outside, status-not_in_line, field-not_in_line}
+use Rattle.bz_cells.specs.Store.{Store, Beside, typed, kind_at, IsOutside, field_address, field_count}
+use Rattle.bz_cells.proofs.Readers.{AreChosen, kind-chosen, kind-stays, status-stays, field-stays}
+use Rattle.bz_cells.proofs.Places.{differ, outside-told, status-not_outside, field-not_outside, status-not_in_line, field-not_in_line}
 
 -- two memories that agree everywhere, with the same beside the words, are one
 pub same_memory : (m n : Memory) → ((a : ℕ) → m.cached a ≡ n.cached a) → ((a : ℕ) → m.durable a ≡ n.durable a) → ((s : ℕ) → m.status s ≡ n.status s) → ((s : ℕ) → m.durable_status s ≡ n.durable_status s) → ((s k : ℕ) → m.words s k ≡ n.words s k) → ((s k : ℕ) → m.durable_words s k ≡ n.durable_words s k) → m.next_tag ≡ n.next_tag → m.missed ≡ n.missed → m.taken ≡ n.taken → m.owner ≡ n.owner → m.named ≡ n.named → m.published ≡ n.published → m.answer ≡ n.answer → m ≡ n
@@ -34,10 +33,10 @@ same_memory m n c d s r w v tag missed taken owner named published answer = λ i
 
 -- a word outside the descriptors is another
 pub typed-stored : (st : Store) (b : Beside) (a : ℕ) (k : WordKind) (into : List ℕ) → IsOutside st.swaps a → IsKind k
-  → AreChosen (λ c. c == a) (λ c. word k) (slice_index st.cached) (slice_index into)
-  → typed (record { cached = into; durable = st.durable; swaps = st.swaps }) b ≡ with_word (typed st b) a k
+    → AreChosen (λ c. c == a) (λ c. word k) (slice_index st.cached) (slice_index into)
+    → typed (record { cached = into; durable = st.durable; swaps = st.swaps }) b ≡ with_word (typed st b) a k
 typed-stored st b a k into out is_kind h =
-  same_memory _ _ cached (λ c. refl)
+    same_memory _ _ cached (λ c. refl)
     (λ s. status-stays st.swaps (λ c. c == a) (λ c. word k) (slice_index st.cached) (slice_index into) h s (λ lt. differ _ _ (status-not_outside st.swaps a s out lt)))
     (λ s. refl)
     (λ s j. field-stays st.swaps (λ c. c == a) (λ c. word k) (slice_index st.cached) (slice_index into) h s j (λ lt less. differ _ _ (field-not_outside st.swaps a s j out lt less)))
@@ -45,18 +44,20 @@ typed-stored st b a k into out is_kind h =
   where
     here : kind_at st.swaps into a ≡ k
     here = rw (outside-told st.swaps a out, h a) (grind (arith, common_steps, kind-word k is_kind))
+
     cached : (c : ℕ) → kind_at st.swaps into c ≡ put (kind_at st.swaps st.cached) a k c
     cached c = elim (cases_eq c a) [
-        inl e ↦ grind (arith, common_steps, here, e)
-      | inr ne ↦ rw (differ c a ne) (kind-stays st.swaps (λ d. d == a) (λ d. word k) (slice_index st.cached) (slice_index into) h c (λ told. differ c a ne)) ]
+      | inl e ↦ grind (arith, common_steps, here, e)
+      | inr ne ↦ rw (differ c a ne) (kind-stays st.swaps (λ d. d == a) (λ d. word k) (slice_index st.cached) (slice_index into) h c (λ told. differ c a ne))
+    ]
 
 -- some words outside the descriptors become durable, and no word of a descriptor
 pub typed-copied : (st : Store) (b : Beside) (p : ℕ → Bool) (into : List ℕ)
-  → AreChosen p (slice_index st.cached) (slice_index st.durable) (slice_index into)
-  → ((s : ℕ) → s < st.swaps → p (swap_address s) ≡ false) → ((s k : ℕ) → s < st.swaps → k < field_count → p (field_address s k) ≡ false)
-  → typed (record { cached = st.cached; durable = into; swaps = st.swaps }) b ≡ with_copies (typed st b) p
+    → AreChosen p (slice_index st.cached) (slice_index st.durable) (slice_index into)
+    → ((s : ℕ) → s < st.swaps → p (swap_address s) ≡ false) → ((s k : ℕ) → s < st.swaps → k < field_count → p (field_address s k) ≡ false)
+    → typed (record { cached = st.cached; durable = into; swaps = st.swaps }) b ≡ with_copies (typed st b) p
 typed-copied st b p into h no_status no_field =
-  same_memory _ _ (λ c. refl)
+    same_memory _ _ (λ c. refl)
     (λ c. kind-chosen st.swaps p (slice_index st.cached) (slice_index st.durable) (slice_index into) h c)
     (λ s. refl)
     (λ s. status-stays st.swaps p (slice_index st.cached) (slice_index st.durable) (slice_index into) h s (no_status s))
@@ -66,8 +67,8 @@ typed-copied st b p into h no_status no_field =
 
 -- the line of a word outside the descriptors becomes durable
 pub typed-flushed : (st : Store) (b : Beside) (a : ℕ) (into : List ℕ) → IsOutside st.swaps a
-  → AreChosen (in_line a) (slice_index st.cached) (slice_index st.durable) (slice_index into)
-  → typed (record { cached = st.cached; durable = into; swaps = st.swaps }) b ≡ with_copies (typed st b) (in_line a)
+    → AreChosen (in_line a) (slice_index st.cached) (slice_index st.durable) (slice_index into)
+    → typed (record { cached = st.cached; durable = into; swaps = st.swaps }) b ≡ with_copies (typed st b) (in_line a)
 typed-flushed st b a into out h = typed-copied st b (in_line a) into h
-  (λ s lt. differ _ _ (status-not_in_line st.swaps a s out lt))
-  (λ s k lt less. differ _ _ (field-not_in_line st.swaps a s k out lt less))
+    (λ s lt. differ _ _ (status-not_in_line st.swaps a s out lt))
+    (λ s k lt less. differ _ _ (field-not_in_line st.swaps a s k out lt less))

@@ -1,12 +1,12 @@
 -- The words of a memory with descriptors, and what they mean.
-use Rattle.std.specs.Prelude.{◌≡◌, if◌then◌else◌, ◌==◌, ◌⊎◌, ℕ, ◌+◌, ◌*◌, ◌^◌, ◌<◌, ◌≤◌, Bool, true, false, nat_lt, List, length, slice_index}
+use Rattle.std.specs.Prelude.{◌≡◌, if◌then◌else◌, ◌==◌, ◌⊎◌, ℕ, ◌+◌, ◌^◌, ◌<◌, ◌≤◌, Bool, true, false, nat_lt, List, length, slice_index}
 use Rattle.std.specs.declared.option.Option.{Option}
 use Rattle.bz_word.specs.Kinds.{kind, IsWord}
 use Rattle.bz_word.specs.declared.kind.WordKind.{WordKind}
 use Rattle.bz_word.specs.declared.kind.WordKind.TheVariants.{Value}
 use Rattle.bz_layout.specs.Addresses.{swap_address}
 use Rattle.bz_layout.specs.declared.sizes.TheConstants.{SUPERBLOCK_WORDS, SWAP_COUNT_AT}
-use Rattle.bz_pm.specs.Words.{Words, IsMemory}
+use Rattle.bz_pm.specs.Words.{IsMemory}
 use Rattle.bz_machine.specs.declared.status.SwapStatus.{SwapStatus}
 use Rattle.bz_machine.specs.declared.status.SwapStatus.TheVariants.{Free, Undecided, Deciding, Decided}
 use Rattle.bz_machine.specs.declared.status.Verdict.{Verdict}

@@ -8,8 +8,11 @@ use bz_machine::{SwapStatus, Verdict};
 use bz_word::{WordKind, kind_of};
 
 const FREE: u64 = 0;
+
 const UNDECIDED: u64 = 1;
+
 const SUCCEEDED: u64 = 2;
+
 const FAILED: u64 = 3;
 
 const DIRTY_BIT: u64 = 1 << 63;

@@ -1,4 +1,4 @@
-use Rattle.std.proofs.Common.{◌≡◌, arith}
+use Rattle.std.proofs.Common.{arith}
 use Rattle.std.proofs.lemmas.Grind.{common_steps}
 use Rattle.bz_cells.specs.Store.{status_of}
 use Rattle.bz_cells.proofs.meaning.status_in.Goals as goal
@@ -26,4 +26,3 @@ returns-then-word-eq-FAILED c = grind (arith, common_steps)
 pub returns-else-word-eq-FAILED : goal.returns-else-word-eq-FAILED
 unfolding status_of
 returns-else-word-eq-FAILED c = grind (arith, common_steps)
-

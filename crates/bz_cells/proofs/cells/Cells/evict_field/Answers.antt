@@ -1,15 +1,13 @@
-use Rattle.std.specs.Prelude.{◌≡◌, ℕ, ◌+◌, ◌*◌, ◌/◌, ◌<◌, ◌≤◌, length}
-use Rattle.std.proofs.Common.{arith, refl, sym, ap, ◌∙◌}
 use Rattle.bz_cells.specs.Store.{field_address}
 use Rattle.bz_cells.proofs.DescriptorActs.{store-evict, field-within, typed-evict_field}
 use Rattle.bz_cells.proofs.cells.Cells.evict_field.Goals as goal
 
 pub invariant_of-self : goal.invariant_of-self
 invariant_of-self c =
-  let below = rw (← c.self.view_is) at c.requires.descriptor in
-  rw (c.evict.ensures, c.field_at.ensures) (store-evict _ (field_address c.args.swap c.args.number) c.self.invariant (field-within _ c.args.swap c.args.number c.self.invariant below c.requires.number))
+    let below = rw (← c.self.view_is) at c.requires.descriptor in
+    rw (c.evict.ensures, c.field_at.ensures) (store-evict _ (field_address c.args.swap c.args.number) c.self.invariant (field-within _ c.args.swap c.args.number c.self.invariant below c.requires.number))
 
 pub returns-clause-changed : goal.returns-clause-changed
 returns-clause-changed c = λ b.
-  let below = rw (← c.self.view_is) at c.requires.descriptor in
-  rw (c.evict.ensures, c.field_at.ensures, ← c.self.view_is) (typed-evict_field _ b c.args.swap c.args.number c.self.invariant below c.requires.number)
+    let below = rw (← c.self.view_is) at c.requires.descriptor in
+    rw (c.evict.ensures, c.field_at.ensures, ← c.self.view_is) (typed-evict_field _ b c.args.swap c.args.number c.self.invariant below c.requires.number)

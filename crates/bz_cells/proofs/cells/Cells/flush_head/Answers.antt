@@ -1,5 +1,4 @@
-use Rattle.std.specs.Prelude.{◌≡◌, ℕ, ◌+◌, ◌*◌, ◌/◌, ◌<◌, ◌≤◌, length}
-use Rattle.std.proofs.Common.{arith, refl, sym, ap, ◌∙◌}
+use Rattle.std.specs.Prelude.{◌/◌}
 use Rattle.bz_layout.specs.Addresses.{swap_address}
 use Rattle.bz_cells.proofs.Acts.{store-flush}
 use Rattle.bz_cells.proofs.DescriptorActs.{head-within, typed-flush_head}
@@ -7,10 +6,10 @@ use Rattle.bz_cells.proofs.cells.Cells.flush_head.Goals as goal
 
 pub invariant_of-self : goal.invariant_of-self
 invariant_of-self c =
-  let below = rw (← c.self.view_is) at c.requires in
-  rw (c.flush.ensures, c.swap_at.ensures) (store-flush _ (swap_address c.args.swap / 8) c.self.invariant (head-within _ c.args.swap c.self.invariant below))
+    let below = rw (← c.self.view_is) at c.requires in
+    rw (c.flush.ensures, c.swap_at.ensures) (store-flush _ (swap_address c.args.swap / 8) c.self.invariant (head-within _ c.args.swap c.self.invariant below))
 
 pub returns-clause-changed : goal.returns-clause-changed
 returns-clause-changed c = λ b.
-  let below = rw (← c.self.view_is) at c.requires in
-  rw (c.flush.ensures, c.swap_at.ensures, ← c.self.view_is) (typed-flush_head _ b c.args.swap c.self.invariant below)
+    let below = rw (← c.self.view_is) at c.requires in
+    rw (c.flush.ensures, c.swap_at.ensures, ← c.self.view_is) (typed-flush_head _ b c.args.swap c.self.invariant below)

@@ -1,15 +1,15 @@
-use Rattle.std.specs.Prelude.{◌≡◌, ℕ, ◌+◌, ◌*◌, ◌/◌, ◌<◌, ◌≤◌, length}
-use Rattle.std.proofs.Common.{arith, refl, sym, ap, ◌∙◌}
+use Rattle.std.specs.Prelude.{◌/◌}
+use Rattle.std.proofs.Common.{arith}
 use Rattle.bz_cells.proofs.Acts.{store-flush, typed-flush}
 use Rattle.bz_cells.proofs.cells.Cells.flush_word.Goals as goal
 
 pub invariant_of-self : goal.invariant_of-self
 invariant_of-self c =
-  let within = rw (← c.self.view_is) at c.requires.within in
-  rw c.flush.ensures (store-flush _ (c.args.a / 8) c.self.invariant (omega (arith, within)))
+    let within = rw (← c.self.view_is) at c.requires.within in
+    rw c.flush.ensures (store-flush _ (c.args.a / 8) c.self.invariant (omega (arith, within)))
 
 pub returns-clause-changed : goal.returns-clause-changed
 returns-clause-changed c = λ b.
-  let outside = rw (← c.self.view_is) at c.requires.outside in
-  let within = rw (← c.self.view_is) at c.requires.within in
-  rw (c.flush.ensures, ← c.self.view_is) (typed-flush _ b c.args.a c.self.invariant outside within)
+    let outside = rw (← c.self.view_is) at c.requires.outside in
+    let within = rw (← c.self.view_is) at c.requires.within in
+    rw (c.flush.ensures, ← c.self.view_is) (typed-flush _ b c.args.a c.self.invariant outside within)

@@ -1,14 +1,13 @@
-use Rattle.std.specs.Prelude.{◌≡◌, ℕ, ◌+◌, ◌*◌, ◌/◌, ◌<◌, ◌≤◌, length}
-use Rattle.std.proofs.Common.{arith, refl, sym, ap, ◌∙◌}
+use Rattle.std.proofs.Common.{arith}
 use Rattle.bz_cells.proofs.DescriptorActs.{store-field, typed-store_field}
 use Rattle.bz_cells.proofs.cells.Cells.store_field.Goals as goal
 
 pub invariant_of-self : goal.invariant_of-self
 invariant_of-self c =
-  let below = rw (← c.self.view_is) at c.requires.descriptor in
-  rw (c.store.ensures, c.field_at.ensures) (store-field _ c.args.swap c.args.number c.args.word c.self.invariant below c.requires.number (omega (arith, c.ranges.word)))
+    let below = rw (← c.self.view_is) at c.requires.descriptor in
+    rw (c.store.ensures, c.field_at.ensures) (store-field _ c.args.swap c.args.number c.args.word c.self.invariant below c.requires.number (omega (arith, c.ranges.word)))
 
 pub returns-clause-changed : goal.returns-clause-changed
 returns-clause-changed c = λ b.
-  let below = rw (← c.self.view_is) at c.requires.descriptor in
-  rw (c.store.ensures, c.field_at.ensures, ← c.self.view_is) (typed-store_field _ b c.args.swap c.args.number c.args.word c.self.invariant below c.requires.number (omega (arith, c.ranges.word)))
+    let below = rw (← c.self.view_is) at c.requires.descriptor in
+    rw (c.store.ensures, c.field_at.ensures, ← c.self.view_is) (typed-store_field _ b c.args.swap c.args.number c.args.word c.self.invariant below c.requires.number (omega (arith, c.ranges.word)))

@@ -1,12 +1,10 @@
-use Rattle.std.specs.Prelude.{◌≡◌, ℕ, ◌+◌, ◌*◌, ◌/◌, ◌<◌, ◌≤◌, length}
-use Rattle.std.proofs.Common.{arith, refl, sym, ap, ◌∙◌}
 use Rattle.bz_cells.proofs.DescriptorActs.{store-status, typed-store_status}
 use Rattle.bz_cells.proofs.cells.Cells.store_status.Goals as goal
 
 pub invariant_of-self : goal.invariant_of-self
 invariant_of-self c =
-  rw (c.store.ensures, c.word_of_status.ensures, c.swap_at.ensures) (store-status _ c.args.swap c.args.new c.self.invariant (rw (← c.self.view_is) at c.requires))
+    rw (c.store.ensures, c.word_of_status.ensures, c.swap_at.ensures) (store-status _ c.args.swap c.args.new c.self.invariant (rw (← c.self.view_is) at c.requires))
 
 pub returns-clause-changed : goal.returns-clause-changed
 returns-clause-changed c = λ b.
-  rw (c.store.ensures, c.word_of_status.ensures, c.swap_at.ensures, ← c.self.view_is) (typed-store_status _ b c.args.swap c.args.new c.self.invariant (rw (← c.self.view_is) at c.requires))
+    rw (c.store.ensures, c.word_of_status.ensures, c.swap_at.ensures, ← c.self.view_is) (typed-store_status _ b c.args.swap c.args.new c.self.invariant (rw (← c.self.view_is) at c.requires))
