@@ -5,5 +5,7 @@
 mod address;
 mod cells;
 mod meaning;
+#[cfg(test)]
+mod tests;
 
 pub use cells::Cells;
