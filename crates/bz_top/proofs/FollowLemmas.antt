@@ -20,7 +20,7 @@ use Rattle.bz_sched.specs.Queued.{Queued, calls_of, waiting, room, AreServed}
 use Rattle.bz_sched.specs.QueueLaws.{calls_of-append}
 use Rattle.bz_sched.specs.Added.{calls_begun, AreUpTo, IsMet, IsAtLimit, grown}
 use Rattle.bz_sched.specs.Runs.{IsReady, RunsAlone, RunsInPart}
-use Rattle.bz_sched.specs.Follows.{IsRunAlone, IsRunInPart, Follows, FollowsInPart}
+use Rattle.bz_sched.specs.Follows.{IsRunAlone, IsRunInPart, IsLeft, Follows, FollowsInPart}
 use Rattle.bz_script.specs.ItemLaws.{IsOffered, IsItem, AreItems}
 use Rattle.bz_call.specs.declared.calls.Call.TheVariants.{Insert, Delete, Update, Upsert, Get, Page}
 
@@ -39,7 +39,7 @@ pub record Staged (items : List Item) (i : ℕ) (old world : Lab) (queued : Queu
   pub room : length items ≤ room queued + i
   pub most : queued.most ≡ length items
   pub follows : (new : List Mark) → Follows world.log.past queue (drop i items) new → Follows [] [] items new
-  pub in_part : (new : List Mark) → FollowsInPart world.log.past queue (drop i items) new → FollowsInPart [] [] items new
+  pub in_part : (why : Which) (new : List Mark) → FollowsInPart why world.log.past queue (drop i items) new → FollowsInPart why [] [] items new
 
 no_stranger : (w : ℕ) (calls : List (ℕ × Call)) → ((0 < w) → (w ≤ 64) → ⊥) → AreOfWorkers calls → calls_of w calls ≡ []
 no_stranger w [] strange all = refl
@@ -94,7 +94,7 @@ staged_none items old queued new empty no_calls fits most = record {
   room = omega (arith, fits);
   most = most;
   follows = λ marks h. rw new at h;
-  in_part = λ marks h. rw new at h;
+  in_part = λ why marks h. rw new at h;
 }
 
 -- a call is queued
@@ -113,7 +113,7 @@ staged_queue items i old world queued more w call s lt is some few served wait c
       room = omega (arith, s.room, fits);
       most = most ∙ s.most;
       follows = λ new h. s.follows new (rw here h);
-      in_part = λ new h. s.in_part new (rw here h);
+      in_part = λ why new h. s.in_part why new (rw here h);
     }
 
 -- a run may begin
@@ -143,8 +143,13 @@ alone world new queued queue wait workers r = record {
   none_open = r.none_open;
 }
 
+left_over : (new : Lab) (queue : List (ℕ × Call)) (added : List Mark) (w : ℕ) (rest : List (ℕ × Call)) (why : Which) → calls_of w queue ≡ calls_of w (calls_begun added) ++ rest → IsMet new rest why → IsLeft why queue added
+left_over new queue added w rest which.Marks is met = tt
+left_over new queue added w rest which.Calls is met = (w, (rest, is, met.1))
+left_over new queue added w rest which.Pages is met = met
+
 in_part : (world new : Lab) (queued : Queued) (queue : List (ℕ × Call)) (why : Which) → ((w : ℕ) → w < 65 → waiting queued w ≡ calls_of w queue) → AreOfWorkers queue → RunsInPart world queued why new
-    → IsRunInPart world.log.past queue new.log.past
+    → IsRunInPart why world.log.past queue new.log.past
 in_part world new queued queue why wait workers r = record {
   added = r.added;
   is = past_grown world new r.added r.is;
@@ -153,6 +158,7 @@ in_part world new queued queue why wait workers r = record {
     | inr gt ↦ ([], no_stranger w queue (λ some few. absurd (omega arith)) workers ∙ sym (none_begun w r.added gt r.up_to) ∙ sym (append-nil (calls_of w (calls_begun r.added))))
   ];
   ascends = r.ascends;
+  left = left_over new queue r.added r.met.0 r.met.2.0 why (sym (wait r.met.0 r.met.1) ∙ r.met.2.1) r.met.2.2;
 }
 
 at_limit : (lab : Lab) (rest : List (ℕ × Call)) (why : Which) → IsMet lab rest why → IsAtLimit lab why
@@ -176,16 +182,16 @@ staged_run items i old world new queued left s lt is r no_calls empty fits most 
       room = omega (arith, fits, s.most);
       most = most ∙ s.most;
       follows = λ marks h. s.follows marks (rw here (new.log.past, stretch, h));
-      in_part = λ marks h. s.in_part marks (rw here (inr (new.log.past, stretch, h)));
+      in_part = λ why marks h. s.in_part why marks (rw here (inr (new.log.past, stretch, h)));
     }
 
 -- a run meets a limit
 pub staged_met : (items : List Item) (i : ℕ) (old world new : Lab) (queued : Queued) (why : Which) → Staged items i old world queued → i < length items → Run Alone ≡ get_or items i (Run Alone)
-    → RunsInPart world queued why new → (new.config ≡ old.config) × FollowsInPart [] [] items new.log.past × IsAtLimit new why
+    → RunsInPart world queued why new → (new.config ≡ old.config) × FollowsInPart why [] [] items new.log.past × IsAtLimit new why
 staged_met items i old world new queued why s lt is r =
     let here : drop i items ≡ Run Alone ∷ drop (i + 1) items = drop_more items i (Run Alone) lt ∙ ap (λ (item : Item). item ∷ drop (i + 1) items) (sym is) in (
       ap (λ (lab : Lab). lab.config) r.is ∙ s.config,
-      s.in_part new.log.past (rw here (inl (in_part world new queued s.queue why s.wait s.workers r))),
+      s.in_part why new.log.past (rw here (inl (in_part world new queued s.queue why s.wait s.workers r))),
       at_limit new r.met.2.0 why r.met.2.2,
     )
 

@@ -53,7 +53,7 @@ pub record IsFinished (script : Job) (world : Lab) : Type 0 where
 -- the script up to there
 pub record IsCutShort (script : Job) (world : Lab) (which : Which) : Type 0 where
   pub right : IsLab script world
-  pub follows : FollowsInPart [] [] script.items world.log.past
+  pub follows : FollowsInPart which [] [] script.items world.log.past
   pub met : IsAtLimit world which
 
 -- done: the report of the journal is written

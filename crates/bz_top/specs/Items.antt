@@ -10,4 +10,4 @@ use Rattle.bz_sched.specs.declared.running.RunEnd.TheVariants.{Finished, Limit}
 -- a world in which nothing had happened has followed the items, or has met a limit at one of them
 abbrev pub ItemsRan : Lab → List Item → RunEnd → Lab → Type 0
 ItemsRan old items Finished new = (new.config ≡ old.config) × Follows [] [] items new.log.past
-ItemsRan old items (Limit which) new = (new.config ≡ old.config) × FollowsInPart [] [] items new.log.past × IsAtLimit new which
+ItemsRan old items (Limit which) new = (new.config ≡ old.config) × FollowsInPart which [] [] items new.log.past × IsAtLimit new which
