@@ -162,6 +162,7 @@ fn more_calls_than_may_begin_meet_the_limit(rt: HostRuntime) -> Result<(), Fail>
     let mut sink = MemSink::open(rt.alloc(), 2_000_000)?;
     let got = status(&rt, rt.alloc(), &["run"], &mut source, &mut sink);
     assert_eq!(rt; got, 5);
+    assert_eq!(rt; sink.bytes().len(), 1_627_313);
     let end = b"w1.65536 get a = missing\nfault: limit calls\n";
     assert!(rt; sink.bytes().ends_with(end));
     Ok(())
