@@ -1,0 +1,6 @@
+//! What an image means as a tree, slot by slot, whatever its words are.
+#![tactic(auto)]
+
+mod rule;
+
+pub use rule::{ShapeFault, ShapeRule};
