@@ -1,2 +1,17 @@
+pub mod Consolidation
+pub mod Content
+pub mod Descent
+pub mod Form
+pub mod LeafSwap
+pub mod Merge
 pub mod Order
+pub mod OrderLaws
+pub mod Outcomes
+pub mod RootSplit
+pub mod Slots
+pub mod Split
+pub mod Stack
+pub mod SwapLaws
+pub mod TreeLaws
 pub mod View
+pub mod Walk

@@ -1,0 +1,69 @@
+//! Laws of trees and of the swaps on them. Each function does nothing: its contract is the law.
+
+ghost use Rattle.bz_shape.specs.TreeLaws.{FormsFitTrees, TreesHaveForms, SlotsComeOnce, LeavesTileTheKeys, ContentIsTheUnion, MapIsTheContent, WalksByStack};
+ghost use Rattle.bz_shape.specs.SwapLaws.{UnreachedSlotsDoNotMatter, LeafSwapsKeepTheTree, ConsolidationsKeepTheContent, SplitsKeepTheContent, RootSplitsKeepTheContent, MergesKeepTheContent};
+
+/// An image that a form fits has no fault, and the form that its walk shows agrees with that one.
+pub fn forms_fit_trees()
+    ensures { FormsFitTrees }
+{}
+
+/// Where there is no fault, the form that the walk shows fits.
+pub fn trees_have_forms()
+    ensures { TreesHaveForms }
+{}
+
+/// Where there is no fault, the walk comes to no slot twice.
+pub fn slots_come_once()
+    ensures { SlotsComeOnce }
+{}
+
+/// Each key is in the range of exactly one reached leaf, and the descent for the key ends there.
+pub fn leaves_tile_the_keys()
+    ensures { LeavesTileTheKeys }
+{}
+
+/// The content is the union of what the reached leaves say.
+pub fn content_is_the_union()
+    ensures { ContentIsTheUnion }
+{}
+
+/// The content as a map answers each key as the descent does.
+pub fn map_is_the_content()
+    ensures { MapIsTheContent }
+{}
+
+/// A walk can be made step by step, with a stack of visits.
+pub fn walks_by_stack()
+    ensures { WalksByStack }
+{}
+
+/// Changes of slots that are not reached change neither the tree nor the content.
+pub fn unreached_slots_do_not_matter()
+    ensures { UnreachedSlotsDoNotMatter }
+{}
+
+/// A swap on one leaf leaves the tree, and changes the content at keys of that leaf alone.
+pub fn leaf_swaps_keep_the_tree()
+    ensures { LeafSwapsKeepTheTree }
+{}
+
+/// A consolidation, at the root or below an inner slot, keeps the content.
+pub fn consolidations_keep_the_content()
+    ensures { ConsolidationsKeepTheContent }
+{}
+
+/// A split of a leaf or an inner slot below an inner slot keeps the content.
+pub fn splits_keep_the_content()
+    ensures { SplitsKeepTheContent }
+{}
+
+/// A split of the root keeps the content.
+pub fn root_splits_keep_the_content()
+    ensures { RootSplitsKeepTheContent }
+{}
+
+/// A merge of two leaves keeps the content.
+pub fn merges_keep_the_content()
+    ensures { MergesKeepTheContent }
+{}
