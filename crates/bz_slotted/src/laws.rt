@@ -1,0 +1,23 @@
+//! Laws of a node's words. Each function does nothing: its contract is the law.
+
+ghost use Rattle.bz_slotted.specs.Laws.{LeafRulesAreFacts, InnerRulesAreFacts, InnerKeysRise, FoundKeysAreInRange};
+
+/// A leaf breaks no rule exactly where each rule holds as a fact of its records.
+pub fn leaf_rules_are_facts()
+    ensures { LeafRulesAreFacts }
+{}
+
+/// An inner node breaks no rule exactly where each rule holds as a fact of its records.
+pub fn inner_rules_are_facts()
+    ensures { InnerRulesAreFacts }
+{}
+
+/// The keys of an inner node that breaks no rule rise between its bounds.
+pub fn inner_keys_rise()
+    ensures { InnerKeysRise }
+{}
+
+/// A leaf that breaks no rule says of keys out of its range that there is none.
+pub fn found_keys_are_in_range()
+    ensures { FoundKeysAreInRange }
+{}
