@@ -51,8 +51,8 @@ unreached-slots v w t hw top same = (s, record { tree = s.tree; content = conten
       inside = l.inside;
       leaf = l.leaf;
       whole = (same (leaf_of v []) l.inside).fault 0 ((form v).low (leaf_of v [])) ((form v).high (leaf_of v []))
-          ∙ ap (λ n. v.fault (leaf_of v []) n ((form v).low (leaf_of v [])) ((form v).high (leaf_of v []))) (sym l.leaf)
-          ∙ g.whole (leaf_of v []) l.inside (λ e. absurd (omega (arith, g.tall, g.height, l.leaf, ap (form v).level e)));
+          (ap (λ n. v.fault (leaf_of v []) n ((form v).low (leaf_of v [])) ((form v).high (leaf_of v []))) (sym l.leaf)
+          ∙ g.whole (leaf_of v []) l.inside (λ e. absurd (omega (arith, g.tall, g.height, l.leaf, ap (form v).level e))));
       others = λ j i n. same j i;
     }
 

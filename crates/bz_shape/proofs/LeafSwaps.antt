@@ -26,8 +26,8 @@ fits-leaf v w f k g c = record {
   top_one = rw c.same_top.top ((c.others v.top g.top not_top).count ∙ g.top_one);
   height = rw (c.same_top.top, c.same_top.height) g.height;
   tall = rw c.same_top.height g.tall;
-  super = rw (c.same_top.top, c.same_top.height) ((c.others v.top g.top not_top).fault v.height None None ∙ g.super);
-  whole = λ j i ne. elim (cases_eq j k) [ inl e ↦ subst (λ x. w.fault x (f.level x) (f.low x) (f.high x) ≡ None) (sym e) (rw c.leaf c.whole) | inr other ↦ (c.others j i other).fault _ _ _ ∙ g.whole j i (λ e. ne (e ∙ sym c.same_top.top)) ];
+  super = rw (c.same_top.top, c.same_top.height) ((c.others v.top g.top not_top).fault v.height None None g.super);
+  whole = λ j i ne. elim (cases_eq j k) [ inl e ↦ subst (λ x. w.fault x (f.level x) (f.low x) (f.high x) ≡ None) (sym e) (rw c.leaf c.whole) | inr other ↦ (c.others j i other).fault _ _ _ (g.whole j i (λ e. ne (e ∙ sym c.same_top.top))) ];
   down = λ j i ins l lt. let s : SameSlot v w j = c.others j ins (λ e. absurd (omega (arith, c.leaf, ap f.level e))) in
       stands-same v w f j i s (g.down j i ins l (rw s.count at lt));
   hangs = λ j ins ne. let h : Hangs v f j = g.hangs j ins (λ e. ne (e ∙ sym c.same_top.top)) in

@@ -27,7 +27,7 @@ fits-graft v w f h gone g x c fit r = record {
         let s : Moved f h j = r.moved j ins here nt in rw (s.level, s.low, s.high)
         (elim (cases_eq j g) [
           | inl e ↦ subst (λ x. w.fault x (f.level x) (f.low x) (f.high x) ≡ None) (sym e) r.link.whole
-          | inr far ↦ (r.others j ins here far).fault _ _ _ ∙ fit.whole j ins nt
+          | inr far ↦ (r.others j ins here far).fault _ _ _ (fit.whole j ins nt)
         ])
   ];
   down = λ j i ins l lt. elim (r.only j ins) [ inl e ↦ e.down i l lt | inr (was, here) ↦ kept_down j i was here l lt ];

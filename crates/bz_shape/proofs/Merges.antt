@@ -101,7 +101,7 @@ graft-merge v w f h a b q c sep g s t = record {
     super : w.fault v.top w.height None None ≡ None
     super = rw s.same_top.height (elim (cases_eq (f.up (f.up a)) v.top) [
       | inl e ↦ let x : w.fault v.top (f.level v.top) (f.low v.top) (f.high v.top) ≡ None = subst (λ k. w.fault k (f.level k) (f.low k) (f.high k) ≡ None) e s.link.whole in rw (g.height, g.top_low, g.top_high) at x
-      | inr n ↦ (s.others v.top g.top (λ e. s.not_top (sym e)) (λ e. s.not_top_b (sym e)) (λ e. s.deep (sym e)) (λ e. n (sym e))).fault v.height None None ∙ g.super
+      | inr n ↦ (s.others v.top g.top (λ e. s.not_top (sym e)) (λ e. s.not_top_b (sym e)) (λ e. s.deep (sym e)) (λ e. n (sym e))).fault v.height None None g.super
     ])
 
     not_inside : (k : ℕ) → f.inside k ≡ false → k ≢ w.top

@@ -79,7 +79,7 @@ graft-renew v w f h old new g c r = record {
     super : w.fault v.top w.height None None ≡ None
     super = rw c.same_top.height (elim (cases_eq (f.up old) v.top) [
       | inl e ↦ let x : w.fault v.top (f.level v.top) (f.low v.top) (f.high v.top) ≡ None = subst (λ k. w.fault k (f.level k) (f.low k) (f.high k) ≡ None) e c.link.whole in rw (g.height, g.top_low, g.top_high) at x
-      | inr n ↦ (c.others v.top g.top not_old (λ e. n (sym e))).fault v.height None None ∙ g.super
+      | inr n ↦ (c.others v.top g.top not_old (λ e. n (sym e))).fault v.height None None g.super
     ])
 
     fresh : Fresh w h new

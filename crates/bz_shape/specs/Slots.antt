@@ -4,13 +4,13 @@ use Rattle.std.specs.Prelude.{◌≡◌, ℕ, ◌+◌, ◌<◌, ◌≤◌, ◌==
 use Rattle.bz_shape.specs.View.{View}
 use Rattle.bz_shape.specs.Form.{Form}
 
--- slot k says in both images the same
+-- slot k says in both images the same, and breaks no rule in the second where it broke none in the first
 pub record SameSlot (v w : View) (k : ℕ) : Type 0 where
   pub count : w.count k ≡ v.count k
   pub child : (i : ℕ) → w.child k i ≡ v.child k i
   pub key : (i : ℕ) → w.key k i ≡ v.key k i
   pub found : (key : List ℕ) → w.found k key ≡ v.found k key
-  pub fault : (l : ℕ) (low high : Option (List ℕ)) → w.fault k l low high ≡ v.fault k l low high
+  pub fault : (l : ℕ) (low high : Option (List ℕ)) → v.fault k l low high ≡ None → w.fault k l low high ≡ None
 
 -- the two images have their superblock at one slot, and their trees one height
 pub record SameTop (v w : View) : Type 0 where
