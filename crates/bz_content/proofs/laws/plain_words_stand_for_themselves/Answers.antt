@@ -1,0 +1,5 @@
+use Rattle.bz_content.proofs.Fresh.{resolve-value}
+use Rattle.bz_content.proofs.laws.plain_words_stand_for_themselves.Goals as goal
+
+pub returns : goal.returns
+returns c = resolve-value c.values.ensures

@@ -1,0 +1,65 @@
+-- The laws of images.
+use Rattle.std.specs.Prelude.{◌≡◌, ◌≢◌, ◌↔◌, ℕ, ◌^◌, ◌<◌, ◌==◌, if◌then◌else◌, true, false, List, [], ◌∷◌, None, slice_index}
+use Rattle.bz_layout.specs.Config.{IsConfig}
+use Rattle.bz_layout.specs.Fresh.{fresh_words}
+use Rattle.bz_layout.specs.declared.config.Config.{Config}
+use Rattle.bz_shape.specs.Form.{IsHonest}
+use Rattle.bz_shape.specs.Descent.{leaf_of, content}
+use Rattle.bz_shape.specs.Walk.{IsTree, is_among}
+use Rattle.bz_shape.specs.Slots.{SameSlot, SameTop, Relinked}
+use Rattle.bz_shape.specs.Outcomes.{SameTree, SameContent, Regrows}
+use Rattle.bz_slotted.specs.Readers.{level_of, found_of}
+use Rattle.bz_content.specs.Changes.{SameNode, SameRoot}
+use Rattle.bz_content.specs.Content.{image_fault, IsWellFormed, content_in}
+use Rattle.bz_content.specs.Image.{Image, node, root}
+use Rattle.bz_content.specs.Resolving.{resolve}
+use Rattle.bz_content.specs.Swaps.{form_in, SwapsLeaf, TurnsLink, Consolidates}
+use Rattle.bz_content.specs.View.{view_of}
+
+-- what the words of an image say has rules that see to what a tree needs
+abbrev pub ViewsAreHonest : Type 0
+ViewsAreHonest = (c : Config) (x : Image) → IsHonest (view_of c x)
+
+-- a plain value resolves to itself
+abbrev pub PlainWordsStandForThemselves : Type 0
+PlainWordsStandForThemselves = (raw : ℕ → ℕ) (a : ℕ) → raw a < 2 ^ 61 → resolve raw a ≡ raw a
+
+-- an image has no fault exactly where all its rules hold
+abbrev pub WellFormedImagesHaveNoFault : Type 0
+WellFormedImagesHaveNoFault = (c : Config) (raw : ℕ → ℕ) → (image_fault c raw ≡ None) ↔ IsWellFormed c raw
+
+-- fresh memory is well formed and holds nothing
+abbrev pub FreshMemoryIsEmpty : Type 0
+FreshMemoryIsEmpty =
+    (c : Config) → IsConfig c →
+    (image_fault c (slice_index (fresh_words c)) ≡ None) × ((key : List ℕ) → content_in c (slice_index (fresh_words c)) key ≡ None)
+
+-- words of slots that are not reached do not matter
+abbrev pub UnreachedWordsDoNotMatter : Type 0
+UnreachedWordsDoNotMatter =
+    (c : Config) (x y : Image) → IsTree (view_of c x) → SameRoot x y →
+    ((k : ℕ) → (form_in c x).inside k ≡ true → k ≢ c.nodes → SameNode c x y k) → SameTree (view_of c x) (view_of c y) × SameContent (view_of c x) (view_of c y)
+
+-- a swap on one leaf leaves the tree, and changes what is said of the keys of that leaf alone
+abbrev pub LeafSwapsKeepTheTree : Type 0
+LeafSwapsKeepTheTree =
+    (c : Config) (x y : Image) (k : ℕ) → IsTree (view_of c x) → SwapsLeaf c x y k →
+    SameTree (view_of c x) (view_of c y)
+    × ((key : List ℕ) → content (view_of c y) key ≡ if leaf_of (view_of c x) key == k then found_of (node c y.words k) key else content (view_of c x) key)
+
+-- what a swap of a link does to the slots: what the laws of the swaps of links ask of them
+pub record Turned (c : Config) (x y : Image) (p i to : ℕ) (gone : List ℕ) : Type 0 where
+  pub link : Relinked (view_of c x) (view_of c y) (form_in c x) p i to
+  pub others : (j : ℕ) → (form_in c x).inside j ≡ true → j ≢ p → is_among gone j ≡ false → SameSlot (view_of c x) (view_of c y) j
+  pub below_root : p ≢ c.nodes → is_among gone (root x.words) ≡ false → SameTop (view_of c x) (view_of c y)
+  pub at_root : p ≡ c.nodes → level_of (node c y.words to) ≡ level_of (node c x.words (root x.words)) → SameTop (view_of c x) (view_of c y)
+
+abbrev pub LinksAreTurned : Type 0
+LinksAreTurned =
+    (c : Config) (x y : Image) (p i to : ℕ) (gone : List ℕ) → IsTree (view_of c x) → TurnsLink c x y p i to gone → Turned c x y p i to gone
+
+-- a consolidation, at the root or below an inner node, keeps the content
+abbrev pub ConsolidationsKeepTheContent : Type 0
+ConsolidationsKeepTheContent =
+    (c : Config) (x y : Image) (old new : ℕ) → IsTree (view_of c x) → Consolidates c x y old new →
+    Regrows (view_of c x) (view_of c y) (old ∷ []) (new ∷ [])

@@ -1,0 +1,83 @@
+//! Laws of images. Each function does nothing but call the laws that it follows from: its contract is the law.
+
+ghost use Rattle.bz_content.specs.Laws.{ViewsAreHonest, PlainWordsStandForThemselves, WellFormedImagesHaveNoFault, FreshMemoryIsEmpty, UnreachedWordsDoNotMatter, LeafSwapsKeepTheTree, LinksAreTurned, ConsolidationsKeepTheContent};
+
+use bz_shape::laws as shape;
+use bz_slotted::laws as slotted;
+
+/// The rules of an image see to what a tree needs of them.
+pub fn views_are_honest()
+    ensures { ViewsAreHonest }
+{
+    slotted::inner_keys_rise();
+    slotted::found_keys_are_in_range();
+}
+
+/// A plain value resolves to itself.
+pub fn plain_words_stand_for_themselves()
+    ensures { PlainWordsStandForThemselves }
+{
+    bz_word::laws::values();
+}
+
+/// An image has no fault exactly where all its rules hold.
+pub fn well_formed_images_have_no_fault()
+    ensures { WellFormedImagesHaveNoFault }
+{
+    views_are_honest();
+}
+
+/// Fresh memory is well formed and holds nothing.
+pub fn fresh_memory_is_empty()
+    ensures { FreshMemoryIsEmpty }
+{
+    bz_layout::fresh_words_say();
+    bz_word::laws::values();
+    shape::forms_fit_trees();
+    shape::leaves_tile_the_keys();
+    slotted::leaf_rules_are_facts();
+    slotted::inner_rules_are_facts();
+    views_are_honest();
+}
+
+/// Words of slots that are not reached do not matter.
+pub fn unreached_words_do_not_matter()
+    ensures { UnreachedWordsDoNotMatter }
+{
+    shape::trees_have_forms();
+    shape::unreached_slots_do_not_matter();
+    slotted::leaf_rules_are_facts();
+    slotted::inner_rules_are_facts();
+    views_are_honest();
+}
+
+/// A swap on one leaf leaves the tree, and changes what is said of the keys of that leaf alone.
+pub fn leaf_swaps_keep_the_tree()
+    ensures { LeafSwapsKeepTheTree }
+{
+    shape::trees_have_forms();
+    shape::leaf_swaps_keep_the_tree();
+    slotted::leaf_rules_are_facts();
+    slotted::inner_rules_are_facts();
+    views_are_honest();
+}
+
+/// A swap of one link, told of words, is one of the slots.
+pub fn links_are_turned()
+    ensures { LinksAreTurned }
+{
+    shape::trees_have_forms();
+    slotted::leaf_rules_are_facts();
+    slotted::inner_rules_are_facts();
+}
+
+/// A consolidation, at the root or below an inner node, keeps the content.
+pub fn consolidations_keep_the_content()
+    ensures { ConsolidationsKeepTheContent }
+{
+    shape::trees_have_forms();
+    shape::consolidations_keep_the_content();
+    slotted::leaf_rules_are_facts();
+    slotted::inner_rules_are_facts();
+    views_are_honest();
+}

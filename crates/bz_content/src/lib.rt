@@ -1,0 +1,4 @@
+//! What the words of an image mean: the tree that they are, or their first fault, and the content.
+#![tactic(auto)]
+
+pub mod laws;
