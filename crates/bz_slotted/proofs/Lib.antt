@@ -5,3 +5,12 @@ pub mod Keys
 pub mod KeyTests
 pub mod Faults
 pub mod Honest
+pub mod Words
+pub mod Lives
+pub mod Fronts
+pub mod Rewriting
+pub mod Reserving
+pub mod Growing
+pub mod Searches
+pub mod Finds
+pub mod LeafSwaps

@@ -1,4 +1,6 @@
+pub mod Changes
 pub mod Laws
+pub mod LeafLaws
 pub mod Page
 pub mod Readers
 pub mod Records

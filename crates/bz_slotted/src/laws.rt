@@ -1,5 +1,6 @@
 //! Laws of a node's words. Each function does nothing: its contract is the law.
 
+ghost use Rattle.bz_slotted.specs.LeafLaws.{RewriteChangesOneKey, ReservationIsQuiet, GrowthIsQuiet, FreezeIsQuiet, StoresAreQuiet};
 ghost use Rattle.bz_slotted.specs.Laws.{LeafRulesAreFacts, InnerRulesAreFacts, InnerKeysRise, FoundKeysAreInRange};
 
 /// A leaf breaks no rule exactly where each rule holds as a fact of its records.
@@ -20,4 +21,30 @@ pub fn inner_keys_rise()
 /// A leaf that breaks no rule says of keys out of its range that there is none.
 pub fn found_keys_are_in_range()
     ensures { FoundKeysAreInRange }
+{}
+
+/// A publication, a delete or the second swap of an update breaks no rule, and changes the answer for the
+/// keys of its record alone.
+pub fn rewrite_changes_one_key()
+    ensures { RewriteChangesOneKey }
+{}
+
+/// A reservation breaks no rule and changes no answer.
+pub fn reservation_is_quiet()
+    ensures { ReservationIsQuiet }
+{}
+
+/// The first swap of an update breaks no rule and changes no answer.
+pub fn growth_is_quiet()
+    ensures { GrowthIsQuiet }
+{}
+
+/// A freeze breaks no rule and changes no answer.
+pub fn freeze_is_quiet()
+    ensures { FreezeIsQuiet }
+{}
+
+/// The private stores of a record to come break no rule and change no answer.
+pub fn stores_are_quiet()
+    ensures { StoresAreQuiet }
 {}
