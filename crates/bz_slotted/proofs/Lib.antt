@@ -14,3 +14,5 @@ pub mod Growing
 pub mod Searches
 pub mod Finds
 pub mod LeafSwaps
+pub mod Pointers
+pub mod InnerSwaps

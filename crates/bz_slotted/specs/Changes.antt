@@ -1,4 +1,4 @@
--- What swaps and private stores change in a leaf. Before, its words are `n` and as they stand `r`; after, `m`
+-- What swaps and private stores change in a node. Before, its words are `n` and as they stand `r`; after, `m`
 -- and `s`. A swap names the status and at most one metadata word, so that the block stands as it stood.
 use Rattle.std.specs.Prelude.{◌≡◌, ◌≢◌, ℕ, ◌+◌, ◌^◌, ◌<◌, ◌≤◌, ◌⊎◌, true, false, List, Option}
 use Rattle.bz_layout.specs.declared.sizes.TheConstants.{NODE_WORDS, STATUS_AT, META_AT, SHARED_WORDS}

@@ -1,4 +1,5 @@
 pub mod Changes
+pub mod InnerChanges
 pub mod Laws
 pub mod LeafLaws
 pub mod Page

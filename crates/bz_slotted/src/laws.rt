@@ -1,5 +1,6 @@
 //! Laws of a node's words. Each function does nothing: its contract is the law.
 
+ghost use Rattle.bz_slotted.specs.InnerChanges.{PointerSwapChangesChild, StandingIsQuiet};
 ghost use Rattle.bz_slotted.specs.LeafLaws.{RewriteChangesOneKey, ReservationIsQuiet, GrowthIsQuiet, FreezeIsQuiet, StoresAreQuiet};
 ghost use Rattle.bz_slotted.specs.Laws.{LeafRulesAreFacts, InnerRulesAreFacts, InnerKeysRise, FoundKeysAreInRange};
 
@@ -47,4 +48,14 @@ pub fn freeze_is_quiet()
 /// The private stores of a record to come break no rule and change no answer.
 pub fn stores_are_quiet()
     ensures { StoresAreQuiet }
+{}
+
+/// A swap of one child pointer breaks no rule, and changes that child alone.
+pub fn pointer_swap_changes_child()
+    ensures { PointerSwapChangesChild }
+{}
+
+/// The acts by which a swap comes and goes break no rule where they change no resolved word.
+pub fn standing_is_quiet()
+    ensures { StandingIsQuiet }
 {}
