@@ -16,3 +16,11 @@ pub mod Finds
 pub mod LeafSwaps
 pub mod Pointers
 pub mod InnerSwaps
+pub mod Lists
+pub mod Pairs
+pub mod Readable
+pub mod ReadableInners
+pub mod MadeWords
+pub mod MadePages
+pub mod MadeLeaves
+pub mod MadeInners

@@ -1,6 +1,8 @@
 -- A record, and a fence, is told by the words that it holds.
 use Rattle.std.proofs.Common.{◌≡◌, ℕ, zero, suc, ◌+◌, ◌<◌, ◌≤◌, List, arith, refl, sym, ap, ◌∙◌, Option}
 use Rattle.std.specs.Prelude.{Some, None}
+use Rattle.std.specs.Prelude.{length, get_or}
+use Rattle.std.proofs.lemmas.List.FromFn.{length-map-range_with_len, get_or-map-range_with_len}
 use Rattle.bz_key.specs.Packing.{packed_len, unpacked}
 use Rattle.bz_key.specs.UnpackingLaws.{unpacked_key-sound}
 use Rattle.bz_layout.specs.declared.sizes.TheConstants.{FENCE_WORDS}
@@ -48,3 +50,11 @@ fence-same n m at len None same h = (h.0, λ i l. same (at + i) (omega arith) (o
 fence-same n m at len (Some key) same h =
     let k = unpacked_key-sound len (words_at n at (packed_len len)) key h in
     rw (words_at-same m n at (packed_len len) (λ i a b. same i a (omega (arith, k.0.fits, k.1)))) h
+
+pub length-words_at : (n : ℕ → ℕ) (at count : ℕ) → length (words_at n at count) ≡ count
+unfolding words_at
+length-words_at n at count = length-map-range_with_len n at count
+
+pub get_or-words_at : (n : ℕ → ℕ) (at count i : ℕ) → i < count → get_or (words_at n at count) i 0 ≡ n (at + i)
+unfolding words_at
+get_or-words_at n at count i l = get_or-map-range_with_len n at count i (at + i) 0 l refl

@@ -2,6 +2,7 @@
 
 ghost use Rattle.bz_slotted.specs.InnerChanges.{PointerSwapChangesChild, StandingIsQuiet};
 ghost use Rattle.bz_slotted.specs.LeafLaws.{RewriteChangesOneKey, ReservationIsQuiet, GrowthIsQuiet, FreezeIsQuiet, StoresAreQuiet};
+ghost use Rattle.bz_slotted.specs.ReadingLaws.{WholeLeavesAreReadable, WholeInnersAreReadable, MadeLeavesAreWhole, MadeInnersAreWhole};
 ghost use Rattle.bz_slotted.specs.Laws.{LeafRulesAreFacts, InnerRulesAreFacts, InnerKeysRise, FoundKeysAreInRange};
 
 /// A leaf breaks no rule exactly where each rule holds as a fact of its records.
@@ -59,3 +60,27 @@ pub fn pointer_swap_changes_child()
 pub fn standing_is_quiet()
     ensures { StandingIsQuiet }
 {}
+
+/// A leaf that breaks no rule can be read as pairs, which are its records and answer as it does.
+pub fn whole_leaves_are_readable()
+    ensures { WholeLeavesAreReadable }
+{}
+
+/// An inner node that breaks no rule can be read as children, which are its children.
+pub fn whole_inners_are_readable()
+    ensures { WholeInnersAreReadable }
+{}
+
+/// A leaf made whole breaks no rule, and says of each key what its records say.
+pub fn made_leaves_are_whole()
+    ensures { MadeLeavesAreWhole }
+{
+    bz_node::laws::leaves_are_read();
+}
+
+/// An inner node made whole breaks no rule, and has its children and their bounds.
+pub fn made_inners_are_whole()
+    ensures { MadeInnersAreWhole }
+{
+    bz_node::laws::inner_nodes_are_read();
+}
