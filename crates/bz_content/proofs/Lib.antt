@@ -1,5 +1,6 @@
 pub mod Fresh
 pub mod Honesty
+pub mod LeafSwaps
 pub mod Reached
 pub mod RootLeaves
 pub mod Sames

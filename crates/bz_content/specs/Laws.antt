@@ -1,5 +1,5 @@
 -- The laws of images.
-use Rattle.std.specs.Prelude.{◌≡◌, ◌≢◌, ◌↔◌, ℕ, ◌^◌, ◌<◌, ◌==◌, if◌then◌else◌, true, false, List, [], ◌∷◌, None, slice_index}
+use Rattle.std.specs.Prelude.{◌≡◌, ◌≢◌, ◌↔◌, ℕ, ◌^◌, ◌<◌, ◌==◌, if◌then◌else◌, true, false, List, [], ◌∷◌, Some, None, slice_index}
 use Rattle.bz_layout.specs.Config.{IsConfig}
 use Rattle.bz_layout.specs.Fresh.{fresh_words}
 use Rattle.bz_layout.specs.declared.config.Config.{Config}
@@ -8,12 +8,16 @@ use Rattle.bz_shape.specs.Descent.{leaf_of, content}
 use Rattle.bz_shape.specs.Walk.{IsTree, is_among}
 use Rattle.bz_shape.specs.Slots.{SameSlot, SameTop, Relinked}
 use Rattle.bz_shape.specs.Outcomes.{SameTree, SameContent, Regrows}
+use Rattle.bz_slotted.specs.Changes.{Rewrites}
+use Rattle.bz_slotted.specs.Page.{page, visible, extent_of}
+use Rattle.bz_slotted.specs.Records.{key_in, payload_in, key_at}
+use Rattle.bz_word.specs.declared.meta.Meta.{Meta}
 use Rattle.bz_slotted.specs.Readers.{level_of, found_of}
 use Rattle.bz_content.specs.Changes.{SameNode, SameRoot}
 use Rattle.bz_content.specs.Content.{image_fault, IsWellFormed, content_in}
 use Rattle.bz_content.specs.Image.{Image, node, root}
 use Rattle.bz_content.specs.Resolving.{resolve}
-use Rattle.bz_content.specs.Swaps.{form_in, SwapsLeaf, TurnsLink, Consolidates}
+use Rattle.bz_content.specs.Swaps.{form_in, OnLeaf, StaysWhole, IsQuiet, TurnsLink, Consolidates}
 use Rattle.bz_content.specs.View.{view_of}
 
 -- what the words of an image say has rules that see to what a tree needs
@@ -40,12 +44,33 @@ UnreachedWordsDoNotMatter =
     (c : Config) (x y : Image) → IsTree (view_of c x) → SameRoot x y →
     ((k : ℕ) → (form_in c x).inside k ≡ true → k ≢ c.nodes → SameNode c x y k) → SameTree (view_of c x) (view_of c y) × SameContent (view_of c x) (view_of c y)
 
--- a swap on one leaf leaves the tree, and changes what is said of the keys of that leaf alone
+-- a swap on one leaf that stays whole leaves the tree, and changes what is said of the keys of that leaf alone
 abbrev pub LeafSwapsKeepTheTree : Type 0
 LeafSwapsKeepTheTree =
-    (c : Config) (x y : Image) (k : ℕ) → IsTree (view_of c x) → SwapsLeaf c x y k →
+    (c : Config) (x y : Image) (k : ℕ) → IsTree (view_of c x) → OnLeaf c x y k → StaysWhole c x y k →
     SameTree (view_of c x) (view_of c y)
     × ((key : List ℕ) → content (view_of c y) key ≡ if leaf_of (view_of c x) key == k then found_of (node c y.words k) key else content (view_of c x) key)
+
+-- a reservation, the first swap of an update, a freeze and private stores keep tree and content
+abbrev pub QuietSwapsKeepTheContent : Type 0
+QuietSwapsKeepTheContent =
+    (c : Config) (x y : Image) (k : ℕ) → IsTree (view_of c x) → OnLeaf c x y k →
+    IsQuiet (node c x.raw k) (node c y.raw k) (node c x.words k) (node c y.words k) → SameTree (view_of c x) (view_of c y) × SameContent (view_of c x) (view_of c y)
+
+-- what is said of each key once record j of the leaf k says mt: nothing else than before of other keys than those
+-- of its old and its new record, the payload of a new one that is visible, and nothing of an old one that is gone
+pub record Rewritten (c : Config) (x y : Image) (k j : ℕ) (mt : Meta) : Type 0 where
+  pub tree : SameTree (view_of c x) (view_of c y)
+  pub other : (key : List ℕ) → (visible mt ≡ true → key_in (node c x.words k) (extent_of mt) ≢ key) →
+      (visible ((page (node c x.words k)).meta j) ≡ true → key_at (page (node c x.words k)) j ≢ key) → content (view_of c y) key ≡ content (view_of c x) key
+  pub new : visible mt ≡ true → content (view_of c y) (key_in (node c x.words k) (extent_of mt)) ≡ Some (payload_in (node c x.words k) (extent_of mt))
+  pub gone : visible ((page (node c x.words k)).meta j) ≡ true → visible mt ≡ false → content (view_of c y) (key_at (page (node c x.words k)) j) ≡ None
+
+-- a publication, a delete and the second swap of an update change what is said of their record's key alone
+abbrev pub RewritesChangeOneKey : Type 0
+RewritesChangeOneKey =
+    (c : Config) (x y : Image) (k j : ℕ) (mt : Meta) → IsTree (view_of c x) → OnLeaf c x y k →
+    Rewrites (node c x.raw k) (node c y.raw k) (node c x.words k) (node c y.words k) ((form_in c x).low k) ((form_in c x).high k) j mt → Rewritten c x y k j mt
 
 -- what a swap of a link does to the slots: what the laws of the swaps of links ask of them
 pub record Turned (c : Config) (x y : Image) (p i to : ℕ) (gone : List ℕ) : Type 0 where

@@ -1,12 +1,15 @@
 -- Swaps on an image, told of words. Slots are as the form of the image before has them; the superblock is the
 -- slot after the last one.
-use Rattle.std.specs.Prelude.{◌≡◌, ◌≢◌, ℕ, ◌+◌, ◌^◌, ◌<◌, ◌==◌, if◌then◌else◌, true, false, List, [], ◌∷◌, None}
+use Rattle.std.specs.Prelude.{◌≡◌, ◌≢◌, ℕ, ◌+◌, ◌^◌, ◌<◌, ◌⊎◌, true, false, List, [], ◌∷◌, None}
 use Rattle.bz_layout.specs.declared.config.Config.{Config}
 use Rattle.bz_layout.specs.declared.sizes.TheConstants.{ROOT_AT, ROOT_STATUS_AT}
 use Rattle.bz_shape.specs.Form.{Form}
 use Rattle.bz_shape.specs.Walk.{is_among, form}
-use Rattle.bz_slotted.specs.Readers.{count_of, child_of, key_of, found_of}
+use Rattle.bz_slotted.specs.Changes.{Reserves, Grows, Restamps, Stores}
+use Rattle.bz_slotted.specs.InnerChanges.{PointerSwap}
+use Rattle.bz_slotted.specs.Readers.{found_of}
 use Rattle.bz_slotted.specs.Rules.{node_fault}
+use Rattle.bz_word.specs.declared.meta.Meta.{Meta}
 use Rattle.bz_content.specs.Changes.{SameNode, SameRoot}
 use Rattle.bz_content.specs.Image.{Image, node}
 use Rattle.bz_content.specs.View.{view_of}
@@ -15,13 +18,21 @@ use Rattle.bz_content.specs.View.{view_of}
 abbrev pub form_in : Config → Image → Form
 form_in c x = form (view_of c x)
 
--- a swap on the reached leaf k, which breaks no rule afterwards either
-pub record SwapsLeaf (c : Config) (x y : Image) (k : ℕ) : Type 0 where
+-- of the reached slots a leaf k alone changes
+pub record OnLeaf (c : Config) (x y : Image) (k : ℕ) : Type 0 where
   pub inside : (form_in c x).inside k ≡ true
   pub leaf : (form_in c x).level k ≡ 0
-  pub whole : node_fault c.nodes (node c y.raw k) (node c y.words k) 0 ((form_in c x).low k) ((form_in c x).high k) ≡ None
   pub root : SameRoot x y
   pub others : (j : ℕ) → (form_in c x).inside j ≡ true → j ≢ c.nodes → j ≢ k → SameNode c x y j
+
+-- the leaf k still breaks no rule
+abbrev pub StaysWhole : Config → Image → Image → ℕ → Type 0
+StaysWhole c x y k = node_fault c.nodes (node c y.raw k) (node c y.words k) 0 ((form_in c x).low k) ((form_in c x).high k) ≡ None
+
+-- a reservation, the first swap of an update, a freeze, or private stores into the block: the leaf's words
+-- before and after, as they stand and resolved
+abbrev pub IsQuiet : (r s n m : ℕ → ℕ) → Type 0
+IsQuiet r s n m = ((mt : Meta) × Reserves r s n m mt) ⊎ (((words : ℕ) × Grows r s n m words) ⊎ (Restamps r s n m ⊎ Stores r s n m))
 
 -- the root pointer goes to a slot, and of the root status nothing but the stamp is set
 pub record TurnsRoot (c : Config) (y : Image) (to : ℕ) : Type 0 where
@@ -29,13 +40,9 @@ pub record TurnsRoot (c : Config) (y : Image) (to : ℕ) : Type 0 where
   pub slot : to < c.nodes
   pub status : y.words ROOT_STATUS_AT < 2 ^ 32
 
--- child i of the inner slot p is `to` now, nothing else of its children and keys changed, and it breaks no rule
-pub record TurnsChild (c : Config) (x y : Image) (p i to : ℕ) : Type 0 where
-  pub count : count_of (node c y.words p) ≡ count_of (node c x.words p)
-  pub key : (j : ℕ) → key_of (node c y.words p) j ≡ key_of (node c x.words p) j
-  pub child : (j : ℕ) → child_of (node c y.words p) j ≡ if j == i then to else child_of (node c x.words p) j
-  pub whole :
-      node_fault c.nodes (node c y.raw p) (node c y.words p) ((form_in c x).level p) ((form_in c x).low p) ((form_in c x).high p) ≡ None
+-- child i of the inner slot p goes to `to`
+abbrev pub TurnsChild : Config → Image → Image → ℕ → ℕ → ℕ → Type 0
+TurnsChild c x y p i to = PointerSwap c.nodes (node c x.raw p) (node c y.raw p) (node c x.words p) (node c y.words p) i to
 
 -- a swap of one link: child i of slot p goes to `to`, and of the reached slots only p and those that go change
 pub record TurnsLink (c : Config) (x y : Image) (p i to : ℕ) (gone : List ℕ) : Type 0 where

@@ -1,6 +1,7 @@
 //! Laws of images. Each function does nothing but call the laws that it follows from: its contract is the law.
 
-ghost use Rattle.bz_content.specs.Laws.{ViewsAreHonest, PlainWordsStandForThemselves, WellFormedImagesHaveNoFault, FreshMemoryIsEmpty, UnreachedWordsDoNotMatter, LeafSwapsKeepTheTree, LinksAreTurned, ConsolidationsKeepTheContent};
+ghost use Rattle.bz_content.specs.Laws.{ViewsAreHonest, PlainWordsStandForThemselves, WellFormedImagesHaveNoFault, FreshMemoryIsEmpty};
+ghost use Rattle.bz_content.specs.Laws.{UnreachedWordsDoNotMatter, LeafSwapsKeepTheTree, QuietSwapsKeepTheContent, RewritesChangeOneKey, LinksAreTurned, ConsolidationsKeepTheContent};
 
 use bz_shape::laws as shape;
 use bz_slotted::laws as slotted;
@@ -48,10 +49,12 @@ pub fn unreached_words_do_not_matter()
     shape::unreached_slots_do_not_matter();
     slotted::leaf_rules_are_facts();
     slotted::inner_rules_are_facts();
+    slotted::standing_is_quiet();
     views_are_honest();
 }
 
-/// A swap on one leaf leaves the tree, and changes what is said of the keys of that leaf alone.
+/// A swap on one leaf that stays whole leaves the tree, and changes what is said of the keys of that leaf
+/// alone.
 pub fn leaf_swaps_keep_the_tree()
     ensures { LeafSwapsKeepTheTree }
 {
@@ -59,7 +62,31 @@ pub fn leaf_swaps_keep_the_tree()
     shape::leaf_swaps_keep_the_tree();
     slotted::leaf_rules_are_facts();
     slotted::inner_rules_are_facts();
+    slotted::standing_is_quiet();
     views_are_honest();
+}
+
+/// A reservation, the first swap of an update, a freeze and private stores keep tree and content.
+pub fn quiet_swaps_keep_the_content()
+    ensures { QuietSwapsKeepTheContent }
+{
+    shape::trees_have_forms();
+    slotted::reservation_is_quiet();
+    slotted::growth_is_quiet();
+    slotted::freeze_is_quiet();
+    slotted::stores_are_quiet();
+    leaf_swaps_keep_the_tree();
+}
+
+/// A publication, a delete and the second swap of an update change what is said of their record's key alone.
+pub fn rewrites_change_one_key()
+    ensures { RewritesChangeOneKey }
+{
+    shape::trees_have_forms();
+    shape::leaves_tile_the_keys();
+    slotted::leaf_rules_are_facts();
+    slotted::rewrite_changes_one_key();
+    leaf_swaps_keep_the_tree();
 }
 
 /// A swap of one link, told of words, is one of the slots.
@@ -69,6 +96,8 @@ pub fn links_are_turned()
     shape::trees_have_forms();
     slotted::leaf_rules_are_facts();
     slotted::inner_rules_are_facts();
+    slotted::standing_is_quiet();
+    slotted::pointer_swap_changes_child();
 }
 
 /// A consolidation, at the root or below an inner node, keeps the content.
@@ -79,5 +108,7 @@ pub fn consolidations_keep_the_content()
     shape::consolidations_keep_the_content();
     slotted::leaf_rules_are_facts();
     slotted::inner_rules_are_facts();
+    slotted::standing_is_quiet();
+    slotted::pointer_swap_changes_child();
     views_are_honest();
 }
