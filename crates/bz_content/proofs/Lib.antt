@@ -7,3 +7,4 @@ pub mod Sames
 pub mod Swaps
 pub mod Turns
 pub mod WellFormed
+pub mod Worked

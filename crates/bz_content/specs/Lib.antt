@@ -1,3 +1,4 @@
+pub mod BrokenImages
 pub mod Changes
 pub mod Content
 pub mod Image
@@ -6,3 +7,4 @@ pub mod Laws
 pub mod Resolving
 pub mod Swaps
 pub mod View
+pub mod WorkedInsert

@@ -1,5 +1,7 @@
 //! Laws of images. Each function does nothing but call the laws that it follows from: its contract is the law.
 
+ghost use Rattle.bz_content.specs.BrokenImages.{BrokenImages};
+ghost use Rattle.bz_content.specs.WorkedInsert.{WorkedInsert};
 ghost use Rattle.bz_content.specs.Laws.{ViewsAreHonest, PlainWordsStandForThemselves, WellFormedImagesHaveNoFault, FreshMemoryIsEmpty};
 ghost use Rattle.bz_content.specs.Laws.{UnreachedWordsDoNotMatter, LeafSwapsKeepTheTree, QuietSwapsKeepTheContent, RewritesChangeOneKey, LinksAreTurned, ConsolidationsKeepTheContent};
 
@@ -112,3 +114,13 @@ pub fn consolidations_keep_the_content()
     slotted::pointer_swap_changes_child();
     views_are_honest();
 }
+
+/// The images of the worked insert are well formed and hold what they should.
+pub fn worked_insert_reads()
+    ensures { WorkedInsert }
+{}
+
+/// Of broken images the first fault is told.
+pub fn broken_images_are_told()
+    ensures { BrokenImages }
+{}
