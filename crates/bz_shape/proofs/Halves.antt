@@ -8,7 +8,7 @@ use Rattle.bz_shape.proofs.Descents.{Home, home}
 use Rattle.bz_shape.proofs.Places.{Placed}
 use Rattle.bz_shape.specs.Outcomes.{Moved}
 use Rattle.bz_shape.specs.Form.{Fits, Form, Hangs, Stands}
-use Rattle.bz_shape.specs.Slots.{Halves}
+use Rattle.bz_shape.specs.Slots.{Halves, children}
 use Rattle.bz_shape.specs.View.{View, high_at, low_at}
 
 pub not_top : (v : View) (f : Form) (k i : ℕ) → Fits v f → f.inside k ≡ true → Stands v f k i (v.child k i) → v.child k i ≢ v.top
@@ -18,7 +18,7 @@ not_top v f k i g ins st e = absurd (omega (arith, st.level, ap f.level e, g.hei
     lower (inl e) = omega (arith, ap f.level e, g.height)
     lower (inr n) = omega (arith, (g.hangs k ins n).lower)
 
-pub left-down : (v w : View) (f h : Form) (a l r m i k n : ℕ) (sep : List ℕ) → Fits v f → f.inside a ≡ true → 0 < f.level a → Halves v w a l r m sep → HalvesForm v f h a l r m
+pub left-down : (v w : View) (f h : Form) (a l r m i k n : ℕ) (sep : List ℕ) → Fits v f → f.inside a ≡ true → 0 < f.level a → Halves (children v a) (children w l) (children w r) m sep → HalvesForm v f h a l r m
     → Placed h l (f.level a) (f.low a) (Some sep) k n → i < w.count l → Stands w h l i (w.child l i)
 left-down v w f h a l r m i k n sep g ins inner x y p lt =
     let il : i < m = omega (arith, x.count_l) in
@@ -35,7 +35,7 @@ left-down v w f h a l r m i k n sep g ins inner x y p lt =
       index = at.1 ∙ st.index;
     })
 
-pub right-down : (v w : View) (f h : Form) (a l r m i k n : ℕ) (sep : List ℕ) → Fits v f → f.inside a ≡ true → 0 < f.level a → Halves v w a l r m sep → HalvesForm v f h a l r m
+pub right-down : (v w : View) (f h : Form) (a l r m i k n : ℕ) (sep : List ℕ) → Fits v f → f.inside a ≡ true → 0 < f.level a → Halves (children v a) (children w l) (children w r) m sep → HalvesForm v f h a l r m
     → Placed h r (f.level a) (Some sep) (f.high a) k n → i < w.count r → Stands w h r i (w.child r i)
 right-down v w f h a l r m i k n sep g ins inner x y p lt =
     let st : Stands v f a (i + m) (v.child a (i + m)) = g.down a (i + m) ins inner (omega (arith, x.count_r)) in
@@ -60,7 +60,7 @@ right-down v w f h a l r m i k n sep g ins inner x y p lt =
     bound_high (inr e) = let q : i + 1 + m ≡ i + m + 1 = omega arith in grind (arith, nat_tests, x.key_r (i + 1), x.count_r, ap (v.key a) q)
 
 -- a child of a hangs from l or r
-pub halves-hang : (v w : View) (f h : Form) (a l r m j kl nl kr nr : ℕ) (sep : List ℕ) (lo hi lo2 hi2 : Option (List ℕ)) → Fits v f → v.height ≤ w.height → f.inside a ≡ true → Halves v w a l r m sep → HalvesForm v f h a l r m
+pub halves-hang : (v w : View) (f h : Form) (a l r m j kl nl kr nr : ℕ) (sep : List ℕ) (lo hi lo2 hi2 : Option (List ℕ)) → Fits v f → v.height ≤ w.height → f.inside a ≡ true → Halves (children v a) (children w l) (children w r) m sep → HalvesForm v f h a l r m
     → Placed h l (f.level a) lo hi kl nl → Placed h r (f.level a) lo2 hi2 kr nr → f.inside j ≡ true → j ≢ v.top → f.up j ≡ a → Hangs w h j
 halves-hang v w f h a l r m j kl nl kr nr sep lo hi lo2 hi2 g tall ins x y pl pr jin jt ju = elim (cases_lt (f.index j) m) [
   | inl lt ↦ let at : (h.up j ≡ l) × (h.index j ≡ f.index j) = y.left j jin jt ju lt in record {

@@ -72,27 +72,27 @@ graft-root v w f h a q l r m sep g s t = record {
     not_inside k i e = true≢false (sym g.top ∙ ap f.inside (sym (e ∙ s.top)) ∙ i)
 
     q_not_l : (0 == w.count q) ≡ false
-    q_not_l = rw s.count refl
+    q_not_l = rw s.two.count refl
 
     fresh_q : Fresh w h q
     fresh_q = record {
       not_top = not_inside q s.fresh_q;
       whole = rw (t.q_at.level, t.q_at.low, t.q_at.high) s.whole_q;
       hangs = record { inside = rw t.q_at.up t.top_at.inside; inner = rw (t.q_at.up, t.top_at.level, s.height) (omega arith); within = rw (t.q_at.up, t.q_at.index, s.link.count, g.top_one) (omega arith); child = rw (t.q_at.up, t.q_at.index, s.link.child 0) refl; lower = rw (t.q_at.level, s.height) (omega arith) };
-      down = λ i l0 lt. elim (cases_eq i 0) [ inl e ↦ rw e (rw s.child_l at_l) | inr ne ↦ let e : i ≡ 1 = omega (arith, lt, s.count) in rw e (rw s.child_r at_r) ];
+      down = λ i l0 lt. elim (cases_eq i 0) [ inl e ↦ rw e (rw s.two.child_l at_l) | inr ne ↦ let e : i ≡ 1 = omega (arith, lt, s.two.count) in rw e (rw s.two.child_r at_r) ];
     }
       where
         at_l : Stands w h q 0 l
-        at_l = record { inside = t.l_at.inside; level = rw (t.l_at.level, t.q_at.level) height_a; low = t.l_at.low ∙ sym t.q_at.low; high = rw (t.l_at.high, s.count, s.parted) refl; up = t.l_at.up; index = t.l_at.index }
+        at_l = record { inside = t.l_at.inside; level = rw (t.l_at.level, t.q_at.level) height_a; low = t.l_at.low ∙ sym t.q_at.low; high = rw (t.l_at.high, s.two.count, s.two.parted) refl; up = t.l_at.up; index = t.l_at.index }
 
         at_r : Stands w h q 1 r
-        at_r = record { inside = t.r_at.inside; level = rw (t.r_at.level, t.q_at.level) height_a; low = rw (t.r_at.low, s.parted) refl; high = t.r_at.high ∙ sym (rw s.count t.q_at.high); up = t.r_at.up; index = t.r_at.index }
+        at_r = record { inside = t.r_at.inside; level = rw (t.r_at.level, t.q_at.level) height_a; low = rw (t.r_at.low, s.two.parted) refl; high = t.r_at.high ∙ sym (rw s.two.count t.q_at.high); up = t.r_at.up; index = t.r_at.index }
 
     fresh_l : Fresh w h l
     fresh_l = record {
       not_top = not_inside l s.fresh_l;
       whole = rw (t.l_at.level, t.l_at.low, t.l_at.high) s.whole_l;
-      hangs = record { inside = rw t.l_at.up t.q_at.inside; inner = rw (t.l_at.up, t.q_at.level) (omega (arith, height_a)); within = rw (t.l_at.up, t.l_at.index, s.count) (omega arith); child = rw (t.l_at.up, t.l_at.index) s.child_l; lower = omega (arith, t.l_at.level, s.height, height_a) };
+      hangs = record { inside = rw t.l_at.up t.q_at.inside; inner = rw (t.l_at.up, t.q_at.level) (omega (arith, height_a)); within = rw (t.l_at.up, t.l_at.index, s.two.count) (omega arith); child = rw (t.l_at.up, t.l_at.index) s.two.child_l; lower = omega (arith, t.l_at.level, s.height, height_a) };
       down = λ i l0 lt. let inner : 0 < f.level a = rw t.l_at.level at l0 in left-down v w f h a l r m i q 0 sep g s.inside inner (s.halves inner) t.halves (record { inside = t.l_at.inside; level = t.l_at.level; low = t.l_at.low ∙ sym low_a; high = t.l_at.high; up = t.l_at.up; index = t.l_at.index }) lt;
     }
 
@@ -100,7 +100,7 @@ graft-root v w f h a q l r m sep g s t = record {
     fresh_r = record {
       not_top = not_inside r s.fresh_r;
       whole = rw (t.r_at.level, t.r_at.low, t.r_at.high) s.whole_r;
-      hangs = record { inside = rw t.r_at.up t.q_at.inside; inner = rw (t.r_at.up, t.q_at.level) (omega (arith, height_a)); within = rw (t.r_at.up, t.r_at.index, s.count) (omega arith); child = rw (t.r_at.up, t.r_at.index) s.child_r; lower = omega (arith, t.r_at.level, s.height, height_a) };
+      hangs = record { inside = rw t.r_at.up t.q_at.inside; inner = rw (t.r_at.up, t.q_at.level) (omega (arith, height_a)); within = rw (t.r_at.up, t.r_at.index, s.two.count) (omega arith); child = rw (t.r_at.up, t.r_at.index) s.two.child_r; lower = omega (arith, t.r_at.level, s.height, height_a) };
       down = λ i l0 lt. let inner : 0 < f.level a = rw t.r_at.level at l0 in right-down v w f h a l r m i q 1 sep g s.inside inner (s.halves inner) t.halves (record { inside = t.r_at.inside; level = t.r_at.level; low = t.r_at.low; high = t.r_at.high ∙ sym high_a; up = t.r_at.up; index = t.r_at.index }) lt;
     }
 

@@ -9,11 +9,11 @@ use Rattle.bz_shape.proofs.Halves.{not_top}
 use Rattle.bz_shape.proofs.Places.{Placed}
 use Rattle.bz_shape.specs.Outcomes.{Moved}
 use Rattle.bz_shape.specs.Form.{Fits, Form, Hangs, Stands}
-use Rattle.bz_shape.specs.Slots.{Wider}
+use Rattle.bz_shape.specs.Slots.{Wider, children}
 use Rattle.bz_shape.specs.View.{View}
 
 -- the children of the wider slot
-pub wider-down : (v w : View) (f h : Form) (p q a l r i k n : ℕ) (sep : List ℕ) → Fits v f → f.inside a ≡ true → a ≢ v.top → f.up a ≡ p → Wider v w p q (f.index a) l r sep → WiderForm v f h p q a
+pub wider-down : (v w : View) (f h : Form) (p q a l r i k n : ℕ) (sep : List ℕ) → Fits v f → f.inside a ≡ true → a ≢ v.top → f.up a ≡ p → Wider (children v p) (children w q) (f.index a) l r sep → WiderForm v f h p q a
     → Placed h q (f.level p) (f.low p) (f.high p) k n → Placed h l (f.level a) (f.low a) (Some sep) q (f.index a) → Placed h r (f.level a) (Some sep) (f.high a) q (f.index a + 1)
     → i < w.count q → Stands w h q i (w.child q i)
 wider-down v w f h p q a l r i k n sep g ins nt ua x y pq pl pr lt = elim (cases_lt i (f.index a)) [
@@ -90,7 +90,7 @@ wider-down v w f h p q a l r i k n sep g ins nt ua x y pq pl pr lt = elim (cases
         }
 
 -- a child of p other than a hangs from the wider slot
-pub wider-hangs : (v w : View) (f h : Form) (p q a l r j k n : ℕ) (sep : List ℕ) (lo hi : Option (List ℕ)) → Fits v f → v.height ≤ w.height → f.inside a ≡ true → a ≢ v.top → f.up a ≡ p → Wider v w p q (f.index a) l r sep → WiderForm v f h p q a
+pub wider-hangs : (v w : View) (f h : Form) (p q a l r j k n : ℕ) (sep : List ℕ) (lo hi : Option (List ℕ)) → Fits v f → v.height ≤ w.height → f.inside a ≡ true → a ≢ v.top → f.up a ≡ p → Wider (children v p) (children w q) (f.index a) l r sep → WiderForm v f h p q a
     → Placed h q (f.level p) lo hi k n → f.inside j ≡ true → j ≢ v.top → j ≢ a → f.up j ≡ p → Hangs w h j
 wider-hangs v w f h p q a l r j k n sep lo hi g tall ins nt ua x y pq jin jt ja ju = record {
   inside = rw up pq.inside;

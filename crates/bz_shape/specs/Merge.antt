@@ -3,7 +3,7 @@
 use Rattle.std.specs.Prelude.{◌≡◌, ◌≢◌, ℕ, ◌+◌, true, false, List, None}
 use Rattle.bz_shape.specs.View.{View}
 use Rattle.bz_shape.specs.Form.{Form, Holds}
-use Rattle.bz_shape.specs.Slots.{SameSlot, SameTop, Relinked, Wider}
+use Rattle.bz_shape.specs.Slots.{SameSlot, SameTop, Relinked, Wider, children}
 
 -- the leaves a and b, neighbours below one parent, are merged: the link to the parent goes to q, which has the
 -- leaf c in place of both. q and c were not reached and break no rule in their places.
@@ -21,7 +21,7 @@ pub record Merge (v w : View) (f : Form) (a b q c : ℕ) (sep : List ℕ) : Type
   pub fresh_c : f.inside c ≡ false
   pub link : Relinked v w f (f.up (f.up a)) (f.index (f.up a)) q
   pub child : w.child q (f.index a) ≡ c
-  pub narrower : Wider w v q (f.up a) (f.index a) a b sep
+  pub narrower : Wider (children w q) (children v (f.up a)) (f.index a) a b sep
   pub whole_q : w.fault q (f.level (f.up a)) (f.low (f.up a)) (f.high (f.up a)) ≡ None
   pub whole_c : w.fault c 0 (f.low a) (f.high b) ≡ None
   pub others : (j : ℕ) → f.inside j ≡ true → j ≢ a → j ≢ b → j ≢ f.up a → j ≢ f.up (f.up a) → SameSlot v w j

@@ -2,7 +2,7 @@
 use Rattle.std.specs.Prelude.{◌≡◌, ◌≢◌, ℕ, ◌+◌, ◌<◌, true, false, List, Some, None}
 use Rattle.bz_shape.specs.View.{View}
 use Rattle.bz_shape.specs.Form.{Form}
-use Rattle.bz_shape.specs.Slots.{SameSlot, Relinked, Halves}
+use Rattle.bz_shape.specs.Slots.{SameSlot, Relinked, Halves, children, AreTwo}
 
 -- the root a, a leaf or an inner slot, is split: the root pointer goes to q, whose two children are l and r.
 -- l, r and q were not reached and break no rule in their places. Of an inner slot l has the first m children.
@@ -17,11 +17,8 @@ pub record RootSplit (v w : View) (f : Form) (a q l r m : ℕ) (sep : List ℕ) 
   pub fresh_l : f.inside l ≡ false
   pub fresh_r : f.inside r ≡ false
   pub link : Relinked v w f v.top 0 q
-  pub count : w.count q ≡ 2
-  pub child_l : w.child q 0 ≡ l
-  pub child_r : w.child q 1 ≡ r
-  pub parted : w.key q 1 ≡ sep
-  pub halves : 0 < f.level a → Halves v w a l r m sep
+  pub two : AreTwo (children w q) l r sep
+  pub halves : 0 < f.level a → Halves (children v a) (children w l) (children w r) m sep
   pub whole_q : w.fault q v.height None None ≡ None
   pub whole_l : w.fault l (f.level a) None (Some sep) ≡ None
   pub whole_r : w.fault r (f.level a) (Some sep) None ≡ None

@@ -24,25 +24,42 @@ pub record Relinked (v w : View) (f : Form) (p i c : ℕ) : Type 0 where
   pub child : (j : ℕ) → w.child p j ≡ if j == i then c else v.child p j
   pub whole : w.fault p (f.level p) (f.low p) (f.high p) ≡ None
 
--- slot q of w has the children of slot p of v, but for child i, in whose place are l and r, parted by sep
-pub record Wider (v w : View) (p q i l r : ℕ) (sep : List ℕ) : Type 0 where
-  pub count : w.count q ≡ v.count p + 1
-  pub child_before : (j : ℕ) → j < i → w.child q j ≡ v.child p j
-  pub child_l : w.child q i ≡ l
-  pub child_r : w.child q (i + 1) ≡ r
-  pub child_after : (j : ℕ) → i < j → w.child q (j + 1) ≡ v.child p j
-  pub key_before : (j : ℕ) → j ≤ i → w.key q j ≡ v.key p j
-  pub parted : w.key q (i + 1) ≡ sep
-  pub key_after : (j : ℕ) → i < j → w.key q (j + 1) ≡ v.key p j
+-- the children of an inner node, and the lower bounds of all but the first
+pub record Children : Type 0 where
+  pub count : ℕ
+  pub child : ℕ → ℕ
+  pub key : ℕ → List ℕ
 
--- slots l and r of w have between them the children of slot a of v: l the first m, r the others, from sep on
-pub record Halves (v w : View) (a l r m : ℕ) (sep : List ℕ) : Type 0 where
+-- those of a slot
+abbrev pub children : View → ℕ → Children
+children v k = record { count = v.count k; child = v.child k; key = v.key k }
+
+-- q has the children of p, but for child i, in whose place are l and r, parted by sep
+pub record Wider (p q : Children) (i l r : ℕ) (sep : List ℕ) : Type 0 where
+  pub count : q.count ≡ p.count + 1
+  pub child_before : (j : ℕ) → j < i → q.child j ≡ p.child j
+  pub child_l : q.child i ≡ l
+  pub child_r : q.child (i + 1) ≡ r
+  pub child_after : (j : ℕ) → i < j → q.child (j + 1) ≡ p.child j
+  pub key_before : (j : ℕ) → j ≤ i → q.key j ≡ p.key j
+  pub parted : q.key (i + 1) ≡ sep
+  pub key_after : (j : ℕ) → i < j → q.key (j + 1) ≡ p.key j
+
+-- l and r have between them the children of a: l the first m, r the others, from sep on
+pub record Halves (a l r : Children) (m : ℕ) (sep : List ℕ) : Type 0 where
   pub some : 0 < m
-  pub more : m < v.count a
-  pub count_l : w.count l ≡ m
-  pub count_r : w.count r + m ≡ v.count a
-  pub child_l : (j : ℕ) → j < m → w.child l j ≡ v.child a j
-  pub key_l : (j : ℕ) → j < m → w.key l j ≡ v.key a j
-  pub child_r : (j : ℕ) → w.child r j ≡ v.child a (j + m)
-  pub key_r : (j : ℕ) → 0 < j → w.key r j ≡ v.key a (j + m)
-  pub parted : v.key a m ≡ sep
+  pub more : m < a.count
+  pub count_l : l.count ≡ m
+  pub count_r : r.count + m ≡ a.count
+  pub child_l : (j : ℕ) → j < m → l.child j ≡ a.child j
+  pub key_l : (j : ℕ) → j < m → l.key j ≡ a.key j
+  pub child_r : (j : ℕ) → r.child j ≡ a.child (j + m)
+  pub key_r : (j : ℕ) → 0 < j → r.key j ≡ a.key (j + m)
+  pub parted : a.key m ≡ sep
+
+-- the two children of a new root, l and r, parted by sep
+pub record AreTwo (q : Children) (l r : ℕ) (sep : List ℕ) : Type 0 where
+  pub count : q.count ≡ 2
+  pub child_l : q.child 0 ≡ l
+  pub child_r : q.child 1 ≡ r
+  pub parted : q.key 1 ≡ sep

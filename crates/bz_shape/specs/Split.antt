@@ -4,7 +4,7 @@ use Rattle.std.specs.Prelude.{◌≡◌, ◌≢◌, ℕ, ◌<◌, true, false, L
 use Rattle.bz_shape.specs.Order.{is_before}
 use Rattle.bz_shape.specs.View.{View}
 use Rattle.bz_shape.specs.Form.{Form}
-use Rattle.bz_shape.specs.Slots.{SameSlot, SameTop, Relinked, Wider, Halves}
+use Rattle.bz_shape.specs.Slots.{SameSlot, SameTop, Relinked, Wider, Halves, children}
 
 -- slot a, a leaf or an inner slot, is split: the link to its parent goes to q, which has l and r in place of a.
 -- l, r and q were not reached and break no rule in their places. Of an inner slot l has the first m children.
@@ -17,8 +17,8 @@ pub record Split (v w : View) (f : Form) (a q l r m : ℕ) (sep : List ℕ) : Ty
   pub fresh_l : f.inside l ≡ false
   pub fresh_r : f.inside r ≡ false
   pub link : Relinked v w f (f.up (f.up a)) (f.index (f.up a)) q
-  pub wider : Wider v w (f.up a) q (f.index a) l r sep
-  pub halves : 0 < f.level a → Halves v w a l r m sep
+  pub wider : Wider (children v (f.up a)) (children w q) (f.index a) l r sep
+  pub halves : 0 < f.level a → Halves (children v a) (children w l) (children w r) m sep
   pub whole_q : w.fault q (f.level (f.up a)) (f.low (f.up a)) (f.high (f.up a)) ≡ None
   pub whole_l : w.fault l (f.level a) (f.low a) (Some sep) ≡ None
   pub whole_r : w.fault r (f.level a) (Some sep) (f.high a) ≡ None
