@@ -1,13 +1,13 @@
 -- Fresh memory is well formed and holds nothing.
-use Rattle.std.proofs.Common.{◌≡◌, ℕ, zero, suc, ◌+◌, ◌/◌, ◌%◌, ◌^◌, ◌<◌, ◌≤◌, ◌==◌, if◌then◌else◌, Bool, true, false, List, arith, refl, ap, ◌∙◌, inl, inr}
-use Rattle.std.specs.Prelude.{nat_lt, nat_le, None, slice_index}
+use Rattle.std.proofs.Common.{◌≡◌, ℕ, zero, suc, ◌+◌, ◌^◌, ◌<◌, ◌≤◌, ◌==◌, if◌then◌else◌, Bool, true, false, List, arith, refl, ap, ◌∙◌, inl, inr}
+use Rattle.std.specs.Prelude.{nat_lt, None, slice_index}
 use Rattle.std.proofs.lemmas.Bool.{cases_eq, cases_lt}
 use Rattle.std.proofs.lemmas.Bool.Decides.{nat_tests}
-use Rattle.bz_layout.specs.Addresses.{node_address, swap_word_of}
+use Rattle.bz_layout.specs.Addresses.{node_address}
 use Rattle.bz_layout.specs.Config.{IsConfig}
 use Rattle.bz_layout.specs.Fresh.{fresh_words, SaysFresh, FreshWordsSay}
 use Rattle.bz_layout.specs.declared.config.Config.{Config}
-use Rattle.bz_layout.specs.declared.sizes.TheConstants.{NODE_WORDS, SUPERBLOCK_WORDS}
+use Rattle.bz_layout.specs.declared.sizes.TheConstants.{NODE_WORDS}
 use Rattle.bz_shape.specs.TreeLaws.{FormsFitTrees, LeavesTileTheKeys}
 use Rattle.bz_slotted.specs.Laws.{LeafRulesAreFacts, InnerRulesAreFacts}
 use Rattle.bz_slotted.specs.Page.{page}
@@ -17,46 +17,16 @@ use Rattle.bz_slotted.specs.Rules.{node_fault}
 use Rattle.bz_slotted.specs.Tests.{every}
 use Rattle.bz_slotted.specs.Whole.{Whole}
 use Rattle.bz_word.specs.Headers.{header}
-use Rattle.bz_word.specs.Kinds.{kind}
 use Rattle.bz_word.specs.Statements.{ValuesAreTheirWords}
 use Rattle.bz_word.specs.Statuses.{status}
 use Rattle.bz_content.specs.Content.{image_of, is_super, IsWellFormed}
 use Rattle.bz_content.specs.Image.{node}
-use Rattle.bz_content.specs.Lawful.{is_word, is_value, is_lawful, is_named, is_in_descriptor, is_fixed}
 use Rattle.bz_content.specs.Laws.{ViewsAreHonest, FreshMemoryIsEmpty}
-use Rattle.bz_content.specs.Resolving.{resolve, stands_for}
+use Rattle.bz_content.specs.Resolving.{resolve}
 use Rattle.bz_content.proofs.Reached.{is}
 use Rattle.bz_content.proofs.RootLeaves.{HasRootLeaf, HoldsLeaf, root-leaf}
+use Rattle.bz_content.proofs.Values.{resolve-value, value-lawful}
 use Rattle.bz_content.proofs.WellFormed.{well-formed}
-
--- a plain value resolves to itself
-pub resolve-value : ValuesAreTheirWords → (raw : ℕ → ℕ) (a : ℕ) → raw a < 2 ^ 61 → resolve raw a ≡ raw a
-unfolding resolve
-resolve-value values raw a small = ap (stands_for raw a) (values (raw a) small).1
-
-value-word : (x : ℕ) → x < 2 ^ 61 → is_word x ≡ true
-value-word x small =
-    let a : x / 2 ^ 61 ≡ 0 = omega arith in
-    let b : x / 2 ^ 62 ≡ 0 = omega arith in
-    let d : x / 2 ^ 63 ≡ 0 = omega arith in
-    let e : nat_lt x (2 ^ 64) ≡ true = grind (arith, nat_tests) in
-    rw (a, b, d, e) refl
-
-by-place : (p q t s v n : Bool) → v ≡ true → n ≡ true → (p ≡ true → s ≡ true) → (if p then (if q then s else v) else (if t then v else n)) ≡ true
-by-place true true t s v n a b d = d refl
-by-place true false t s v n a b d = a
-by-place false q true s v n a b d = a
-by-place false q false s v n a b d = b
-
--- plain values are lawful, where descriptors have none but 0
-pub value-lawful : ValuesAreTheirWords → (c : Config) (raw : ℕ → ℕ) (a : ℕ) → raw a < 2 ^ 61 → (SUPERBLOCK_WORDS ≤ a → raw a ≡ 0) → is_lawful c raw a ≡ true
-unfolding is_lawful
-value-lawful values c raw a small free =
-    rw (value-word (raw a) small) (by-place (is_in_descriptor c a) (swap_word_of a == 0) (is_fixed a) (nat_le (raw a % 2 ^ 63) 3) (is_value (raw a)) (is_named c raw a (kind (raw a)))
-    (grind (arith, nat_tests)) (rw (values (raw a) small).1 refl) status)
-  where
-    status : is_in_descriptor c a ≡ true → nat_le (raw a % 2 ^ 63) 3 ≡ true
-    status e = let above : SUPERBLOCK_WORDS ≤ a = grind (arith, nat_tests) in rw (free above) refl
 
 -- the words of fresh memory
 record IsFresh (c : Config) (raw : ℕ → ℕ) : Type 0 where

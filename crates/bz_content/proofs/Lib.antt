@@ -1,10 +1,14 @@
 pub mod Fresh
 pub mod Honesty
 pub mod LeafSwaps
+pub mod Merges
 pub mod Reached
+pub mod Restructures
 pub mod RootLeaves
+pub mod RootSplits
 pub mod Sames
 pub mod Swaps
 pub mod Turns
+pub mod Values
 pub mod WellFormed
 pub mod Worked

@@ -18,6 +18,7 @@ use Rattle.bz_content.specs.Content.{image_fault, IsWellFormed, content_in}
 use Rattle.bz_content.specs.Image.{Image, node, root}
 use Rattle.bz_content.specs.Resolving.{resolve}
 use Rattle.bz_content.specs.Swaps.{form_in, OnLeaf, StaysWhole, IsQuiet, TurnsLink, Consolidates}
+use Rattle.bz_content.specs.Restructures.{Splits, SplitsRoot, Merges}
 use Rattle.bz_content.specs.View.{view_of}
 
 -- what the words of an image say has rules that see to what a tree needs
@@ -88,3 +89,21 @@ abbrev pub ConsolidationsKeepTheContent : Type 0
 ConsolidationsKeepTheContent =
     (c : Config) (x y : Image) (old new : ℕ) → IsTree (view_of c x) → Consolidates c x y old new →
     Regrows (view_of c x) (view_of c y) (old ∷ []) (new ∷ [])
+
+-- a split below an inner node keeps the content
+abbrev pub SplitsKeepTheContent : Type 0
+SplitsKeepTheContent =
+    (c : Config) (x y : Image) (a q l r m : ℕ) (sep : List ℕ) → IsTree (view_of c x) → Splits c x y a q l r m sep →
+    Regrows (view_of c x) (view_of c y) (a ∷ (form_in c x).up a ∷ []) (q ∷ l ∷ r ∷ [])
+
+-- a split of the root keeps the content
+abbrev pub RootSplitsKeepTheContent : Type 0
+RootSplitsKeepTheContent =
+    (c : Config) (x y : Image) (q l r m : ℕ) (sep : List ℕ) → IsTree (view_of c x) → SplitsRoot c x y q l r m sep →
+    Regrows (view_of c x) (view_of c y) (root x.words ∷ []) (q ∷ l ∷ r ∷ [])
+
+-- a merge of two leaves keeps the content
+abbrev pub MergesKeepTheContent : Type 0
+MergesKeepTheContent =
+    (c : Config) (x y : Image) (a b q m : ℕ) (sep : List ℕ) → IsTree (view_of c x) → Merges c x y a b q m sep →
+    Regrows (view_of c x) (view_of c y) (a ∷ b ∷ (form_in c x).up a ∷ []) (q ∷ m ∷ [])

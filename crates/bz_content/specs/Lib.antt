@@ -5,6 +5,7 @@ pub mod Image
 pub mod Lawful
 pub mod Laws
 pub mod Resolving
+pub mod Restructures
 pub mod Swaps
 pub mod View
 pub mod WorkedInsert

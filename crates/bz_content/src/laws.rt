@@ -3,7 +3,8 @@
 ghost use Rattle.bz_content.specs.BrokenImages.{BrokenImages};
 ghost use Rattle.bz_content.specs.WorkedInsert.{WorkedInsert};
 ghost use Rattle.bz_content.specs.Laws.{ViewsAreHonest, PlainWordsStandForThemselves, WellFormedImagesHaveNoFault, FreshMemoryIsEmpty};
-ghost use Rattle.bz_content.specs.Laws.{UnreachedWordsDoNotMatter, LeafSwapsKeepTheTree, QuietSwapsKeepTheContent, RewritesChangeOneKey, LinksAreTurned, ConsolidationsKeepTheContent};
+ghost use Rattle.bz_content.specs.Laws.{UnreachedWordsDoNotMatter, LeafSwapsKeepTheTree, QuietSwapsKeepTheContent, RewritesChangeOneKey, LinksAreTurned};
+ghost use Rattle.bz_content.specs.Laws.{ConsolidationsKeepTheContent, SplitsKeepTheContent, RootSplitsKeepTheContent, MergesKeepTheContent};
 
 use bz_shape::laws as shape;
 use bz_slotted::laws as slotted;
@@ -108,6 +109,45 @@ pub fn consolidations_keep_the_content()
 {
     shape::trees_have_forms();
     shape::consolidations_keep_the_content();
+    slotted::leaf_rules_are_facts();
+    slotted::inner_rules_are_facts();
+    slotted::standing_is_quiet();
+    slotted::pointer_swap_changes_child();
+    views_are_honest();
+}
+
+/// A split of a leaf or an inner node below an inner node keeps the content.
+pub fn splits_keep_the_content()
+    ensures { SplitsKeepTheContent }
+{
+    shape::trees_have_forms();
+    shape::splits_keep_the_content();
+    slotted::leaf_rules_are_facts();
+    slotted::inner_rules_are_facts();
+    slotted::standing_is_quiet();
+    slotted::pointer_swap_changes_child();
+    views_are_honest();
+}
+
+/// A split of the root keeps the content.
+pub fn root_splits_keep_the_content()
+    ensures { RootSplitsKeepTheContent }
+{
+    shape::trees_have_forms();
+    shape::root_splits_keep_the_content();
+    slotted::leaf_rules_are_facts();
+    slotted::inner_rules_are_facts();
+    slotted::standing_is_quiet();
+    slotted::pointer_swap_changes_child();
+    views_are_honest();
+}
+
+/// A merge of two leaves keeps the content.
+pub fn merges_keep_the_content()
+    ensures { MergesKeepTheContent }
+{
+    shape::trees_have_forms();
+    shape::merges_keep_the_content();
     slotted::leaf_rules_are_facts();
     slotted::inner_rules_are_facts();
     slotted::standing_is_quiet();

@@ -1,4 +1,4 @@
-use Rattle.bz_content.proofs.Fresh.{resolve-value}
+use Rattle.bz_content.proofs.Values.{resolve-value}
 use Rattle.bz_content.proofs.laws.plain_words_stand_for_themselves.Goals as goal
 
 pub returns : goal.returns
