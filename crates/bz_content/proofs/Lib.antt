@@ -9,6 +9,7 @@ pub mod RootSplits
 pub mod Sames
 pub mod Swaps
 pub mod Turns
+pub mod Unnamed
 pub mod Values
 pub mod WellFormed
 pub mod Worked

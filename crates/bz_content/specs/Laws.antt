@@ -1,8 +1,9 @@
 -- The laws of images.
-use Rattle.std.specs.Prelude.{◌≡◌, ◌≢◌, ◌↔◌, ℕ, ◌^◌, ◌<◌, ◌==◌, if◌then◌else◌, true, false, List, [], ◌∷◌, Some, None, slice_index}
+use Rattle.std.specs.Prelude.{◌≡◌, ◌≢◌, ◌↔◌, ℕ, ◌^◌, ◌<◌, ◌==◌, if◌then◌else◌, Bool, true, false, List, [], ◌∷◌, Some, None, slice_index}
 use Rattle.bz_layout.specs.Config.{IsConfig}
 use Rattle.bz_layout.specs.Fresh.{fresh_words}
 use Rattle.bz_layout.specs.declared.config.Config.{Config}
+use Rattle.bz_layout.specs.declared.sizes.TheConstants.{ROOT_AT, ROOT_STATUS_AT}
 use Rattle.bz_shape.specs.Form.{IsHonest}
 use Rattle.bz_shape.specs.Descent.{leaf_of, content}
 use Rattle.bz_shape.specs.Walk.{IsTree, is_among}
@@ -13,7 +14,7 @@ use Rattle.bz_slotted.specs.Page.{page, visible, extent_of}
 use Rattle.bz_slotted.specs.Records.{key_in, payload_in, key_at}
 use Rattle.bz_word.specs.declared.meta.Meta.{Meta}
 use Rattle.bz_slotted.specs.Readers.{level_of, found_of}
-use Rattle.bz_content.specs.Changes.{SameNode, SameRoot}
+use Rattle.bz_content.specs.Changes.{SameNode, SameRoot, SameBut, IsUnnamed}
 use Rattle.bz_content.specs.Content.{image_fault, IsWellFormed, content_in}
 use Rattle.bz_content.specs.Image.{Image, node, root}
 use Rattle.bz_content.specs.Resolving.{resolve}
@@ -38,6 +39,11 @@ abbrev pub FreshMemoryIsEmpty : Type 0
 FreshMemoryIsEmpty =
     (c : Config) → IsConfig c →
     (image_fault c (slice_index (fresh_words c)) ≡ None) × ((key : List ℕ) → content_in c (slice_index (fresh_words c)) key ≡ None)
+
+-- a swap changes nothing of the slots of which it names no word, nor of the root if it names neither of its words
+pub record UnnamedWordsStay : Type 0 where
+  pub node : (c : Config) (x y : Image) (named : ℕ → Bool) (k : ℕ) → SameBut x y named → IsUnnamed c named k → SameNode c x y k
+  pub root : (x y : Image) (named : ℕ → Bool) → SameBut x y named → named ROOT_AT ≡ false → named ROOT_STATUS_AT ≡ false → SameRoot x y
 
 -- words of slots that are not reached do not matter
 abbrev pub UnreachedWordsDoNotMatter : Type 0

@@ -3,7 +3,7 @@
 ghost use Rattle.bz_content.specs.BrokenImages.{BrokenImages};
 ghost use Rattle.bz_content.specs.WorkedInsert.{WorkedInsert};
 ghost use Rattle.bz_content.specs.Laws.{ViewsAreHonest, PlainWordsStandForThemselves, WellFormedImagesHaveNoFault, FreshMemoryIsEmpty};
-ghost use Rattle.bz_content.specs.Laws.{UnreachedWordsDoNotMatter, LeafSwapsKeepTheTree, QuietSwapsKeepTheContent, RewritesChangeOneKey, LinksAreTurned};
+ghost use Rattle.bz_content.specs.Laws.{UnnamedWordsStay, UnreachedWordsDoNotMatter, LeafSwapsKeepTheTree, QuietSwapsKeepTheContent, RewritesChangeOneKey, LinksAreTurned};
 ghost use Rattle.bz_content.specs.Laws.{ConsolidationsKeepTheContent, SplitsKeepTheContent, RootSplitsKeepTheContent, MergesKeepTheContent};
 
 use bz_shape::laws as shape;
@@ -43,6 +43,11 @@ pub fn fresh_memory_is_empty()
     slotted::inner_rules_are_facts();
     views_are_honest();
 }
+
+/// A swap changes nothing of the slots of which it names no word.
+pub fn unnamed_words_stay()
+    ensures { UnnamedWordsStay }
+{}
 
 /// Words of slots that are not reached do not matter.
 pub fn unreached_words_do_not_matter()

@@ -69,10 +69,11 @@ has-it pairs q c (u ∷ us) k h (inr i) l e = look-join q (if u.level == 0 then 
     ∙ join-rest c _ _ (first-part pairs q c u (h u (inl refl))) (has-it pairs q c us k (λ w j. h w (inr j)) i l e)
 
 -- the map has at each key what the descent finds
-pub get-map : (v : View) (pairs : ℕ → Pairs) (key : List ℕ) → IsHonest v → v.count v.top ≡ 1 → 0 < v.height → fault_of v ≡ None → ((k : ℕ) → look (slice_cmp nat_cmp) key (pairs k) ≡ v.found k key)
+pub get-map : (v : View) (pairs : ℕ → Pairs) (key : List ℕ) → IsHonest v → v.count v.top ≡ 1 → 0 < v.height → fault_of v ≡ None
+    → ((k : ℕ) → (form_of (walk v)).inside k ≡ true → (form_of (walk v)).level k ≡ 0 → look (slice_cmp nat_cmp) key (pairs k) ≡ v.found k key)
     → get (map_of v pairs) key ≡ content v key
 get-map v pairs key ho one tall none same = get-from_entries nat_list_cmp_total (pairs_of pairs (walk v)) key
-    ∙ has-it pairs key (content v key) (walk v) (visit_to (walk v) (leaf_of v key)) part at.there l.leaf (ap (λ k. look (slice_cmp nat_cmp) key (pairs k)) at.slot ∙ same (leaf_of v key))
+    ∙ has-it pairs key (content v key) (walk v) (visit_to (walk v) (leaf_of v key)) part at.there l.leaf (ap (λ k. look (slice_cmp nat_cmp) key (pairs k)) at.slot ∙ same (leaf_of v key) l.inside l.leaf)
   where
     g : Fits v (form_of (walk v))
     g = fits-walk v one tall none
@@ -87,11 +88,17 @@ get-map v pairs key ho one tall none same = get-from_entries nat_list_cmp_total 
     c = clean v [] (walk v) none
 
     part : (u : Visit) → In u (walk v) → u.level ≡ 0 → Part (content v key) (look (slice_cmp nat_cmp) key (pairs u.slot))
-    part u i z = rw (same u.slot) (go (v.found u.slot key) refl)
+    part u i z = rw (same u.slot inside leaf) (go (v.found u.slot key) refl)
       where
+        inside : (form_of (walk v)).inside u.slot ≡ true
+        inside = in-has (walk v) u i
+
+        leaf : (form_of (walk v)).level u.slot ≡ 0
+        leaf = ap (λ (x : Visit). x.level) (find-in (walk v) u c.apart i) ∙ z
+
         go : (x : Option (List ℕ)) → v.found u.slot key ≡ x → (v.found u.slot key ≡ None) ⊎ (v.found u.slot key ≡ content v key)
         go None e = inl e
-        go (Some d) e = inr (sym (content-union v (form_of (walk v)) u.slot key ho g (in-has (walk v) u i) (ap (λ (x : Visit). x.level) (find-in (walk v) u c.apart i) ∙ z) (λ q. absurd (some_none d (sym e ∙ q)))))
+        go (Some d) e = inr (sym (content-union v (form_of (walk v)) u.slot key ho g inside leaf (λ q. absurd (some_none d (sym e ∙ q)))))
           where
             some_none : (d : List ℕ) → Some d ≡ None → ⊥
             some_none d q = absurd (cc)

@@ -37,11 +37,12 @@ pub record Says (v : View) (k : ℕ) (key payload : List ℕ) : Type 0 where
 abbrev pub ContentIsTheUnion : Type 0
 ContentIsTheUnion = (v : View) → IsTree v → (key payload : List ℕ) → (content v key ≡ Some payload) ↔ ((k : ℕ) × Says v k key payload)
 
--- the content as a map answers each key as the descent does
+-- the content as a map answers each key as the descent does, where the records of each reached leaf say of the key
+-- what the leaf says
 abbrev pub MapIsTheContent : Type 0
 MapIsTheContent =
-    (v : View) (pairs : ℕ → Pairs) (key : List ℕ) → IsTree v → ((k : ℕ) → find (slice_cmp nat_cmp) key (pairs k) ≡ v.found k key) →
-    get (map_of v pairs) key ≡ content v key
+    (v : View) (pairs : ℕ → Pairs) (key : List ℕ) → IsTree v →
+    ((k : ℕ) → (form v).inside k ≡ true → (form v).level k ≡ 0 → find (slice_cmp nat_cmp) key (pairs k) ≡ v.found k key) → get (map_of v pairs) key ≡ content v key
 
 -- a walk is made step by step: the topmost visit of the stack is taken off, and of an inner slot its children
 -- are put there
