@@ -1,6 +1,8 @@
 pub mod Fresh
 pub mod Honesty
 pub mod LeafSwaps
+pub mod Levels
+pub mod Maps
 pub mod Merges
 pub mod Reached
 pub mod Restructures

@@ -1,5 +1,6 @@
 -- The laws of images.
 use Rattle.std.specs.Prelude.{◌≡◌, ◌≢◌, ◌↔◌, ℕ, ◌^◌, ◌<◌, ◌==◌, if◌then◌else◌, Bool, true, false, List, [], ◌∷◌, Some, None, slice_index}
+use Rattle.std.specs.FinMap.{get}
 use Rattle.bz_layout.specs.Config.{IsConfig}
 use Rattle.bz_layout.specs.Fresh.{fresh_words}
 use Rattle.bz_layout.specs.declared.config.Config.{Config}
@@ -19,6 +20,7 @@ use Rattle.bz_content.specs.Content.{image_fault, IsWellFormed, content_in}
 use Rattle.bz_content.specs.Image.{Image, node, root}
 use Rattle.bz_content.specs.Resolving.{resolve}
 use Rattle.bz_content.specs.Swaps.{form_in, OnLeaf, StaysWhole, IsQuiet, TurnsLink, Consolidates}
+use Rattle.bz_content.specs.Map.{map_of_image}
 use Rattle.bz_content.specs.Restructures.{Splits, SplitsRoot, Merges}
 use Rattle.bz_content.specs.View.{view_of}
 
@@ -113,3 +115,7 @@ abbrev pub MergesKeepTheContent : Type 0
 MergesKeepTheContent =
     (c : Config) (x y : Image) (a b q m : ℕ) (sep : List ℕ) → IsTree (view_of c x) → Merges c x y a b q m sep →
     Regrows (view_of c x) (view_of c y) (a ∷ b ∷ (form_in c x).up a ∷ []) (q ∷ m ∷ [])
+
+-- the content as a map answers each key as the descent does
+abbrev pub MapIsTheContent : Type 0
+MapIsTheContent = (c : Config) (x : Image) → IsTree (view_of c x) → (key : List ℕ) → get (map_of_image c x) key ≡ content (view_of c x) key

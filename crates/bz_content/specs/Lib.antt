@@ -4,8 +4,10 @@ pub mod Content
 pub mod Image
 pub mod Lawful
 pub mod Laws
+pub mod Map
 pub mod Resolving
 pub mod Restructures
 pub mod Swaps
+pub mod TwoLevels
 pub mod View
 pub mod WorkedInsert

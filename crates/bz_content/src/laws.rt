@@ -1,8 +1,9 @@
 //! Laws of images. Each function does nothing but call the laws that it follows from: its contract is the law.
 
 ghost use Rattle.bz_content.specs.BrokenImages.{BrokenImages};
+ghost use Rattle.bz_content.specs.TwoLevels.{TwoLevels};
 ghost use Rattle.bz_content.specs.WorkedInsert.{WorkedInsert};
-ghost use Rattle.bz_content.specs.Laws.{ViewsAreHonest, PlainWordsStandForThemselves, WellFormedImagesHaveNoFault, FreshMemoryIsEmpty};
+ghost use Rattle.bz_content.specs.Laws.{ViewsAreHonest, PlainWordsStandForThemselves, WellFormedImagesHaveNoFault, FreshMemoryIsEmpty, MapIsTheContent};
 ghost use Rattle.bz_content.specs.Laws.{UnnamedWordsStay, UnreachedWordsDoNotMatter, LeafSwapsKeepTheTree, QuietSwapsKeepTheContent, RewritesChangeOneKey, LinksAreTurned};
 ghost use Rattle.bz_content.specs.Laws.{ConsolidationsKeepTheContent, SplitsKeepTheContent, RootSplitsKeepTheContent, MergesKeepTheContent};
 
@@ -42,6 +43,15 @@ pub fn fresh_memory_is_empty()
     slotted::leaf_rules_are_facts();
     slotted::inner_rules_are_facts();
     views_are_honest();
+}
+
+/// The content as a map answers each key as the descent does.
+pub fn map_is_the_content()
+    ensures { MapIsTheContent }
+{
+    shape::trees_have_forms();
+    shape::map_is_the_content();
+    slotted::whole_leaves_are_readable();
 }
 
 /// A swap changes nothing of the slots of which it names no word.
@@ -168,4 +178,9 @@ pub fn worked_insert_reads()
 /// Of broken images the first fault is told.
 pub fn broken_images_are_told()
     ensures { BrokenImages }
+{}
+
+/// A tree of two levels is read, and its first fault told where it is broken.
+pub fn two_levels_read()
+    ensures { TwoLevels }
 {}
