@@ -74,7 +74,7 @@ number-number s j k ne = omega arith
 -- a status is stored
 pub typed-status : (st : Store) (b : Beside) (s : ℕ) (v : SwapStatus) (into : List ℕ) → s < st.swaps
     → AreChosen (λ c. c == swap_address s) (λ c. status_word v) (slice_index st.cached) (slice_index into)
-    → typed (record { cached = into; durable = st.durable; swaps = st.swaps }) b ≡ with_status (typed st b) s v
+    → typed (record st { cached = into; durable = st.durable }) b ≡ with_status (typed st b) s v
 typed-status st b s v into lt h =
     same_memory _ _
     (λ a. kind-stays st.swaps p from (slice_index st.cached) (slice_index into) h a (λ told. differ _ _ (turned (status-not_outside st.swaps a s (told-outside st.swaps a told) lt))))
@@ -100,7 +100,7 @@ typed-status st b s v into lt h =
 -- a word after the status is stored
 pub typed-field : (st : Store) (b : Beside) (s k x : ℕ) (into : List ℕ) → s < st.swaps → k < field_count
     → AreChosen (λ c. c == field_address s k) (λ c. x) (slice_index st.cached) (slice_index into)
-    → typed (record { cached = into; durable = st.durable; swaps = st.swaps }) b ≡ with_field (typed st b) s k x
+    → typed (record st { cached = into; durable = st.durable }) b ≡ with_field (typed st b) s k x
 typed-field st b s k x into lt less h =
     same_memory _ _
     (λ a. kind-stays st.swaps p from old new h a (λ told. differ _ _ (turned (field-not_outside st.swaps a s k (told-outside st.swaps a told) lt less))))
@@ -134,7 +134,7 @@ typed-field st b s k x into lt less h =
 -- the first line of a descriptor becomes durable
 pub typed-head : (st : Store) (b : Beside) (s : ℕ) (into : List ℕ) → s < st.swaps
     → AreChosen (λ c. c / 8 == swap_address s / 8) (slice_index st.cached) (slice_index st.durable) (slice_index into)
-    → typed (record { cached = st.cached; durable = into; swaps = st.swaps }) b ≡ with_durable_head (typed st b) s
+    → typed (record st { cached = st.cached; durable = into }) b ≡ with_durable_head (typed st b) s
 typed-head st b s into lt h =
     same_memory _ _ (λ a. refl)
     (λ a. kind-stays st.swaps p from old new h a (λ told. differ _ _ (turned (status-not_in_line st.swaps a s (told-outside st.swaps a told) lt))))
@@ -177,7 +177,7 @@ typed-head st b s into lt h =
 -- the second line of a descriptor becomes durable
 pub typed-tail : (st : Store) (b : Beside) (s : ℕ) (into : List ℕ) → s < st.swaps
     → AreChosen (λ c. c / 8 == swap_address s / 8 + 1) (slice_index st.cached) (slice_index st.durable) (slice_index into)
-    → typed (record { cached = st.cached; durable = into; swaps = st.swaps }) b ≡ with_durable_fields (typed st b) s in_tail
+    → typed (record st { cached = st.cached; durable = into }) b ≡ with_durable_fields (typed st b) s in_tail
 typed-tail st b s into lt h =
     same_memory _ _ (λ a. refl)
     (λ a. kind-stays st.swaps p from old new h a (λ told. differ _ _ (away a (told-outside st.swaps a told))))
@@ -220,7 +220,7 @@ typed-tail st b s into lt h =
 -- the status alone becomes durable
 pub typed-status_alone : (st : Store) (b : Beside) (s : ℕ) (into : List ℕ) → s < st.swaps
     → AreChosen (λ c. c == swap_address s) (slice_index st.cached) (slice_index st.durable) (slice_index into)
-    → typed (record { cached = st.cached; durable = into; swaps = st.swaps }) b ≡ with_durable_status (typed st b) s
+    → typed (record st { cached = st.cached; durable = into }) b ≡ with_durable_status (typed st b) s
 typed-status_alone st b s into lt h =
     same_memory _ _ (λ a. refl)
     (λ a. kind-stays st.swaps p from old new h a (λ told. differ _ _ (turned (status-not_outside st.swaps a s (told-outside st.swaps a told) lt))))
@@ -249,7 +249,7 @@ typed-status_alone st b s into lt h =
 -- one word after the status becomes durable
 pub typed-field_alone : (st : Store) (b : Beside) (s k : ℕ) (into : List ℕ) → s < st.swaps → k < field_count
     → AreChosen (λ c. c == field_address s k) (slice_index st.cached) (slice_index st.durable) (slice_index into)
-    → typed (record { cached = st.cached; durable = into; swaps = st.swaps }) b ≡ with_durable_fields (typed st b) s (λ j. j == k)
+    → typed (record st { cached = st.cached; durable = into }) b ≡ with_durable_fields (typed st b) s (λ j. j == k)
 typed-field_alone st b s k into lt less h =
     same_memory _ _ (λ a. refl)
     (λ a. kind-stays st.swaps p from old new h a (λ told. differ _ _ (turned (field-not_outside st.swaps a s k (told-outside st.swaps a told) lt less))))

@@ -1,8 +1,10 @@
 pub mod Acts
 pub mod DescriptorActs
 pub mod Descriptors
+pub mod Notes
 pub mod Places
 pub mod Readers
+pub mod Rooms
 pub mod Stores
 pub mod Typed
 pub mod Zeros

@@ -6,7 +6,7 @@ use Rattle.std.proofs.lemmas.Bool.{cases_eq}
 use Rattle.bz_word.specs.Kinds.{IsWord}
 use Rattle.bz_layout.specs.Addresses.{swap_address}
 use Rattle.bz_pm.specs.Changes.{StaysMemory}
-use Rattle.bz_cells.specs.Store.{Store, AreWords, IsStore, IsOutside, IsStatusWord}
+use Rattle.bz_cells.specs.Store.{Store, AreWords, HasRoom, IsStore, words_of, IsOutside, IsStatusWord}
 use Rattle.bz_cells.proofs.Readers.{AreChosen}
 
 either : (P : ℕ → Type 0) (t : Bool) (x y : ℕ) → P x → P y → P (if t then x else y)
@@ -40,13 +40,22 @@ words-set swaps a x to into h is_word is_status g = record {
     other : (c : ℕ) → c ≢ a → (c == a) ≡ false
     other c ne = grind (arith, common_steps)
 
+room_of : (st : Store) (cached durable : List ℕ) → StaysMemory (words_of st) (record { cached = cached; durable = durable }) → IsStore st → HasRoom (record st { cached = cached; durable = durable })
+room_of st cached durable stays i = record {
+  memory = stays.memory;
+  room = rw stays.durable i.has_room.room;
+  numbered = i.has_room.numbered;
+  noted = i.has_room.noted;
+  taken = i.has_room.taken;
+}
+
 -- a store after a change of its cached words, and of its durable ones
 pub store-cached : (st : Store) (into : List ℕ) → IsStore st
     → StaysMemory (record { cached = st.cached; durable = st.durable }) (record { cached = into; durable = st.durable }) → AreWords st.swaps into
-    → IsStore (record { cached = into; durable = st.durable; swaps = st.swaps })
-store-cached st into i stays words = record { memory = stays.memory; room = i.room; cached = words; durable = i.durable }
+    → IsStore (record st { cached = into; durable = st.durable })
+store-cached st into i stays words = record { has_room = room_of st into st.durable stays i; cached = words; durable = i.durable }
 
 pub store-durable : (st : Store) (into : List ℕ) → IsStore st
     → StaysMemory (record { cached = st.cached; durable = st.durable }) (record { cached = st.cached; durable = into }) → AreWords st.swaps into
-    → IsStore (record { cached = st.cached; durable = into; swaps = st.swaps })
-store-durable st into i stays words = record { memory = stays.memory; room = rw stays.durable i.room; cached = i.cached; durable = words }
+    → IsStore (record st { cached = st.cached; durable = into })
+store-durable st into i stays words = record { has_room = room_of st st.cached into stays i; cached = i.cached; durable = words }

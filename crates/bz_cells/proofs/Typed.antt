@@ -34,7 +34,7 @@ same_memory m n c d s r w v tag missed taken owner named published answer = λ i
 -- a word outside the descriptors is another
 pub typed-stored : (st : Store) (b : Beside) (a : ℕ) (k : WordKind) (into : List ℕ) → IsOutside st.swaps a → IsKind k
     → AreChosen (λ c. c == a) (λ c. word k) (slice_index st.cached) (slice_index into)
-    → typed (record { cached = into; durable = st.durable; swaps = st.swaps }) b ≡ with_word (typed st b) a k
+    → typed (record st { cached = into; durable = st.durable }) b ≡ with_word (typed st b) a k
 typed-stored st b a k into out is_kind h =
     same_memory _ _ cached (λ c. refl)
     (λ s. status-stays st.swaps (λ c. c == a) (λ c. word k) (slice_index st.cached) (slice_index into) h s (λ lt. differ _ _ (status-not_outside st.swaps a s out lt)))
@@ -55,7 +55,7 @@ typed-stored st b a k into out is_kind h =
 pub typed-copied : (st : Store) (b : Beside) (p : ℕ → Bool) (into : List ℕ)
     → AreChosen p (slice_index st.cached) (slice_index st.durable) (slice_index into)
     → ((s : ℕ) → s < st.swaps → p (swap_address s) ≡ false) → ((s k : ℕ) → s < st.swaps → k < field_count → p (field_address s k) ≡ false)
-    → typed (record { cached = st.cached; durable = into; swaps = st.swaps }) b ≡ with_copies (typed st b) p
+    → typed (record st { cached = st.cached; durable = into }) b ≡ with_copies (typed st b) p
 typed-copied st b p into h no_status no_field =
     same_memory _ _ (λ c. refl)
     (λ c. kind-chosen st.swaps p (slice_index st.cached) (slice_index st.durable) (slice_index into) h c)
@@ -68,7 +68,7 @@ typed-copied st b p into h no_status no_field =
 -- the line of a word outside the descriptors becomes durable
 pub typed-flushed : (st : Store) (b : Beside) (a : ℕ) (into : List ℕ) → IsOutside st.swaps a
     → AreChosen (in_line a) (slice_index st.cached) (slice_index st.durable) (slice_index into)
-    → typed (record { cached = st.cached; durable = into; swaps = st.swaps }) b ≡ with_copies (typed st b) (in_line a)
+    → typed (record st { cached = st.cached; durable = into }) b ≡ with_copies (typed st b) (in_line a)
 typed-flushed st b a into out h = typed-copied st b (in_line a) into h
     (λ s lt. differ _ _ (status-not_in_line st.swaps a s out lt))
     (λ s k lt less. differ _ _ (field-not_in_line st.swaps a s k out lt less))

@@ -1,13 +1,17 @@
 -- Words that are all zero have a meaning.
-use Rattle.std.specs.Prelude.{◌≡◌, ℕ, replicate, slice_index}
-use Rattle.std.proofs.Common.{arith, ap, inl, inr}
+use Rattle.std.specs.Prelude.{◌≡◌, ℕ, ◌<◌, ◌≤◌, ◌%◌, ◌^◌, false, replicate, slice_index}
+use Rattle.std.proofs.Common.{arith, ap, refl, inl, inr}
 use Rattle.std.proofs.lemmas.Bool.{cases_lt}
 use Rattle.std.proofs.lemmas.List.{get_or-replicate, get_or_past, length-replicate}
 use Rattle.bz_word.specs.Laws.KindWords.{IsWord-word}
 use Rattle.bz_word.specs.declared.kind.WordKind.TheVariants.{Value}
 use Rattle.bz_machine.specs.declared.status.SwapStatus.TheVariants.{Free}
 use Rattle.bz_layout.specs.Addresses.{swap_address}
-use Rattle.bz_cells.specs.Store.{AreWords, status_word}
+use Rattle.std.specs.Result.{IfOk}
+use Rattle.std.specs.declared.result.Result.{Result}
+use Rattle.std.specs.declared.result.Result.TheVariants.{Ok, Err}
+use Rattle.bz_memory.specs.declared.Memory.{Memory}
+use Rattle.bz_cells.specs.Store.{Store, AreWords, IsStore, status_word}
 use Rattle.bz_cells.proofs.Descriptors.{status-word}
 
 zero-at : (n i : ℕ) → slice_index (replicate n 0) i ≡ 0
@@ -21,3 +25,23 @@ zero_words swaps n = record {
   kinds = λ a out. rw (zero-at n a) (IsWord-word (Value 0) (omega arith));
   statuses = λ s lt. rw (zero-at n (swap_address s)) (ap status_word (status-word Free));
 }
+
+-- a memory of such words
+pub zero_store : (swaps n workers : ℕ) → n % 8 ≡ 0 → n < 2 ^ 32 → swap_address swaps ≤ n → swaps ≤ 2 ^ 16
+    → IsStore (record { cached = replicate n 0; durable = replicate n 0; swaps = swaps; next_tags = replicate workers 0; missed = replicate swaps false; taken = 0 })
+zero_store swaps n workers lines size room numbered = record {
+  has_room = record {
+    memory = record { same = refl; lines = rw length-replicate lines; size = rw length-replicate size };
+    room = rw length-replicate room;
+    numbered = numbered;
+    noted = length-replicate swaps false;
+    taken = omega arith;
+  };
+  cached = zero_words swaps n;
+  durable = zero_words swaps n;
+}
+
+-- where it was opened
+pub typed_if_opened : (opened : Result Store Memory) (st : Store) → IfOk opened (λ c. c ≡ st) → IsStore st → IfOk opened IsStore
+typed_if_opened (Ok c) st is typed = rw is typed
+typed_if_opened (Err e) st is typed = tt

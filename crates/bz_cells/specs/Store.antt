@@ -1,23 +1,37 @@
 -- The words of a memory with descriptors, and what they mean.
-use Rattle.std.specs.Prelude.{◌≡◌, if◌then◌else◌, ◌==◌, ◌⊎◌, ℕ, ◌+◌, ◌^◌, ◌<◌, ◌≤◌, Bool, true, false, nat_lt, List, length, slice_index}
+use Rattle.std.specs.Prelude.{◌≡◌, if◌then◌else◌, ◌==◌, ◌⊎◌, ℕ, ◌+◌, ◌^◌, ◌<◌, ◌≤◌, Bool, true, false, nat_lt, List, length, slice_index, get_or}
 use Rattle.std.specs.declared.option.Option.{Option}
 use Rattle.bz_word.specs.Kinds.{kind, IsWord}
 use Rattle.bz_word.specs.declared.kind.WordKind.{WordKind}
 use Rattle.bz_word.specs.declared.kind.WordKind.TheVariants.{Value}
 use Rattle.bz_layout.specs.Addresses.{swap_address}
 use Rattle.bz_layout.specs.declared.sizes.TheConstants.{SUPERBLOCK_WORDS, SWAP_COUNT_AT}
-use Rattle.bz_pm.specs.Words.{IsMemory}
+use Rattle.bz_pm.specs.Words.{Words, IsMemory}
 use Rattle.bz_machine.specs.declared.status.SwapStatus.{SwapStatus}
 use Rattle.bz_machine.specs.declared.status.SwapStatus.TheVariants.{Free, Undecided, Deciding, Decided}
 use Rattle.bz_machine.specs.declared.status.Verdict.{Verdict}
 use Rattle.bz_machine.specs.declared.status.Verdict.TheVariants.{Succeeded, Failed}
 use Rattle.bz_machine.specs.Machine.{Memory}
+use Rattle.bz_machine.specs.Ranges.{IsTagger}
 
--- the words in the caches and in the memory itself, and the number of descriptors among them
+-- the words in the caches and in the memory itself, and the number of descriptors among them; beside them, for each
+-- worker the number of its next tag, for each descriptor whether its swap is noted as missed, and how many
+-- descriptors are taken
 pub record Store : Type 0 where
   pub cached : List ℕ
   pub durable : List ℕ
   pub swaps : ℕ
+  pub next_tags : List ℕ
+  pub missed : List Bool
+  pub taken : ℕ
+
+-- the words alone
+abbrev pub words_of : Store → Words
+words_of st = record { cached = st.cached; durable = st.durable }
+
+-- other words, and the rest as it is
+abbrev pub with_words : Store → Words → Store
+with_words st m = record st { cached = m.cached; durable = m.durable }
 
 -- the word of a status: a verdict that may not be durable yet has bit 63
 abbrev pub status_word : SwapStatus → ℕ
@@ -70,11 +84,8 @@ status_at swaps words s = if nat_lt s swaps then status_of (slice_index words (s
 abbrev pub descriptor_word_at : ℕ → List ℕ → ℕ → ℕ → ℕ
 descriptor_word_at swaps words s k = if nat_lt s swaps then if nat_lt k field_count then slice_index words (field_address s k) else 0 else 0
 
--- what the machine keeps beside the words
+-- what the machine tells of the past, and no act asks
 pub record Beside : Type 0 where
-  pub next_tag : ℕ → ℕ
-  pub missed : ℕ → Bool
-  pub taken : ℕ
   pub owner : ℕ → ℕ
   pub named : ℕ → Bool
   pub published : ℕ → Bool
@@ -89,9 +100,9 @@ typed st b = record {
   durable_status = status_at st.swaps st.durable;
   words = descriptor_word_at st.swaps st.cached;
   durable_words = descriptor_word_at st.swaps st.durable;
-  next_tag = b.next_tag;
-  missed = b.missed;
-  taken = b.taken;
+  next_tag = slice_index st.next_tags;
+  missed = λ s. get_or st.missed s false;
+  taken = st.taken;
   owner = b.owner;
   named = b.named;
   published = b.published;
@@ -103,14 +114,33 @@ pub record AreWords (swaps : ℕ) (words : List ℕ) : Type 0 where
   pub kinds : (a : ℕ) → IsOutside swaps a → IsWord (slice_index words a)
   pub statuses : (s : ℕ) → s < swaps → IsStatusWord (slice_index words (swap_address s))
 
--- words that the machine's memory can be read from: they have room for the descriptors, and a meaning
-pub record IsStore (st : Store) : Type 0 where
-  pub memory : IsMemory (record { cached = st.cached; durable = st.durable })
+-- a memory with room for its descriptors, of which there are at most 2^16, and a note for each
+pub record HasRoom (st : Store) : Type 0 where
+  pub memory : IsMemory (words_of st)
   pub room : swap_address st.swaps ≤ length st.durable
+  pub numbered : st.swaps ≤ 2 ^ 16
+  pub noted : length st.missed ≡ st.swaps
+  pub taken : st.taken ≤ st.swaps
+
+-- words that the machine's memory can be read from
+pub record IsStore (st : Store) : Type 0 where
+  pub has_room : HasRoom st
   pub cached : AreWords st.swaps st.cached
   pub durable : AreWords st.swaps st.durable
 
--- what no call changes
+-- what no act changes
 pub record SameShape (old new : Store) : Type 0 where
   pub swaps : new.swaps ≡ old.swaps
   pub size : length new.cached ≡ length old.cached
+  pub workers : length new.next_tags ≡ length old.next_tags
+
+-- what no act but a tag's and a miss's changes
+pub record SameTables (old new : Store) : Type 0 where
+  pub next_tags : new.next_tags ≡ old.next_tags
+  pub missed : new.missed ≡ old.missed
+  pub taken : new.taken ≡ old.taken
+
+-- a worker that may put a tag
+pub record MayTag (st : Store) (w : ℕ) : Type 0 where
+  pub worker : w < length st.next_tags
+  pub range : IsTagger w (slice_index st.next_tags w)

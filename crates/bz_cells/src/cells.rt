@@ -1,10 +1,11 @@
 //! The typed memory and its acts.
 
-ghost use Rattle.std.specs.Prelude.{◌≡◌, ◌≢◌, ◌==◌, ◌/◌, ◌<◌, ◌≤◌, ◌%◌, ◌^◌, length, IfOk};
-ghost use Rattle.bz_word.specs.Kinds.{IsKind};
+ghost use Rattle.std.specs.Prelude.{◌≡◌, ◌≢◌, ◌==◌, ◌/◌, ◌+◌, ◌*◌, ◌<◌, ◌≤◌, ◌%◌, ◌^◌, false, length, replicate, slice_index, IfOk};
+ghost use Rattle.bz_word.specs.Kinds.{IsKind, word};
 ghost use Rattle.bz_layout.specs.Addresses.{swap_address};
-ghost use Rattle.bz_machine.specs.Changes.{with_word, with_copies, in_line, with_status, with_durable_status, with_field, with_durable_fields, with_durable_head, in_tail, after_cut};
-ghost use Rattle.bz_cells.specs.Store.{Beside, AreWords, IsOutside, SameShape, typed, kind_at, status_at, descriptor_word_at, field_count};
+ghost use Rattle.bz_pm.specs.Acts.{stored, compared, flushed, evicted};
+ghost use Rattle.bz_machine.specs.Changes.{with_word, with_copies, in_line, with_status, with_durable_status, with_field, with_durable_fields, with_durable_head, in_tail};
+ghost use Rattle.bz_cells.specs.Store.{Beside, HasRoom, IsStore, IsOutside, SameShape, typed, words_of, with_words, status_word, kind_at, status_at, descriptor_word_at, field_address, field_count};
 
 use crate::address::{field_at, swap_at};
 use crate::meaning::{kind_in, status_in, word_of_status};
@@ -16,38 +17,53 @@ use bz_word::{WordKind, word_of};
 use std::alloc::Global;
 use std::marker::Model;
 
-/// A memory whose words outside the descriptors are words of a kind, and whose descriptors each have a status.
+/// The memory of the machine. Outside a recovery time its words outside the descriptors are words of a kind, and
+/// its descriptors each have a status.
 #[derive(Drop)]
 pub struct Cells {
-    pm: Pm,
-    swaps: u32,
+    pub(crate) pm: Pm,
+    pub(crate) swaps: u32,
+    pub(crate) next_tags: Vec<u64>,
+    pub(crate) missed: Vec<bool>,
+    pub(crate) taken: u32,
 }
 
 impl Model for Cells {
-    ghost use Rattle.bz_cells.specs.Store.{Store, IsStore};
+    ghost use Rattle.bz_cells.specs.Store.{Store, HasRoom};
 
     ghost Value = { Store };
 
-    ghost view = { λ c. record { cached = c.pm.cached; durable = c.pm.durable; swaps = c.swaps } };
+    ghost view = { λ c. record { cached = c.pm.cached; durable = c.pm.durable; swaps = c.swaps; next_tags = c.next_tags.items; missed = c.missed.items; taken = c.taken } };
 
-    ghost invariant = { λ c. IsStore (record { cached = c.pm.cached; durable = c.pm.durable; swaps = c.swaps }) };
+    ghost invariant = { λ c. HasRoom (record { cached = c.pm.cached; durable = c.pm.durable; swaps = c.swaps; next_tags = c.next_tags.items; missed = c.missed.items; taken = c.taken }) };
 }
 
 impl Cells {
-    /// Cells whose cached and durable words are these. The error is want of memory.
-    pub fn open(alloc: Global, start: &[u64], swaps: u32) -> Result<Cells, Memory>
+    /// Cells whose cached and durable words are these, for workers from 0 to `workers`. No descriptor is taken.
+    /// The error is want of memory.
+    pub fn open(alloc: Global, start: &[u64], swaps: u32, workers: u8) -> Result<Cells, Memory>
         requires lines { length start.now % 8 ≡ 0 }
         requires size { length start.now < 2 ^ 32 }
+        requires numbered { swaps ≤ 2 ^ 16 }
         requires room { swap_address swaps ≤ length start.now }
-        requires words { AreWords swaps start.now }
-        ensures { IfOk result (λ cells. cells ≡ record { cached = start.now; durable = start.now; swaps = swaps }) }
+        ensures words { IfOk result (λ cells. cells ≡ record { cached = start.now; durable = start.now; swaps = swaps; next_tags = replicate (workers + 1) 0; missed = replicate swaps false; taken = 0 }) }
+        ensures room { IfOk result HasRoom }
     {
         let pm = Pm::open(alloc, start)?;
-        Ok(Cells { pm, swaps })
+        let next_tags = vec![in alloc; 0u64; workers as usize + 1]?;
+        let missed = vec![in alloc; false; swaps as usize]?;
+        Ok(Cells {
+            pm,
+            swaps,
+            next_tags,
+            missed,
+            taken: 0,
+        })
     }
 
     /// What stands at an address outside the descriptors.
     pub fn load_word(&self, a: u32) -> WordKind
+        requires typed { IsStore self.now }
         requires outside { IsOutside self.now.swaps a }
         requires within { a < length self.now.cached }
         ensures found { result ≡ kind_at self.now.swaps self.now.cached a }
@@ -58,10 +74,13 @@ impl Cells {
 
     /// Stores a word outside the descriptors.
     pub fn store_word(&mut self, a: u32, new: WordKind)
+        requires typed { IsStore self.old }
         requires outside { IsOutside self.old.swaps a }
         requires within { a < length self.old.cached }
         requires new_kind { IsKind new }
+        ensures words { self.new ≡ with_words self.old (stored (words_of self.old) a (word new)) }
         ensures changed { (b : Beside) → typed self.new b ≡ with_word (typed self.old b) a new }
+        ensures typed { IsStore self.new }
         ensures shape { SameShape self.old self.new }
     {
         self.pm.store(a, word_of(new));
@@ -69,14 +88,17 @@ impl Cells {
 
     /// Puts the new word where the old one stands, and says what stood.
     pub fn cas_word(&mut self, a: u32, old: WordKind, new: WordKind) -> WordKind
+        requires typed { IsStore self.old }
         requires outside { IsOutside self.old.swaps a }
         requires within { a < length self.old.cached }
         requires old_kind { IsKind old }
         requires new_kind { IsKind new }
+        ensures words { self.new ≡ with_words self.old (compared (words_of self.old) a (word old) (word new)) }
         ensures found { result ≡ kind_at self.old.swaps self.old.cached a }
         ensures is_kind { IsKind result }
         ensures changed { result ≡ old → (b : Beside) → typed self.new b ≡ with_word (typed self.old b) a new }
         ensures unchanged { result ≢ old → self.new ≡ self.old }
+        ensures typed { IsStore self.new }
         ensures shape { SameShape self.old self.new }
     {
         let found = self.pm.cas(a, word_of(old), word_of(new));
@@ -85,9 +107,12 @@ impl Cells {
 
     /// Flushes the line of a word outside the descriptors.
     pub fn flush_word(&mut self, a: u32)
+        requires typed { IsStore self.old }
         requires outside { IsOutside self.old.swaps a }
         requires within { a < length self.old.cached }
+        ensures words { self.new ≡ with_words self.old (flushed (words_of self.old) (a / 8)) }
         ensures changed { (b : Beside) → typed self.new b ≡ with_copies (typed self.old b) (in_line a) }
+        ensures typed { IsStore self.new }
         ensures shape { SameShape self.old self.new }
     {
         self.pm.flush(a / LINE_WORDS);
@@ -95,16 +120,28 @@ impl Cells {
 
     /// A descriptor's status.
     pub fn load_status(&self, swap: u16) -> SwapStatus
-        requires { swap < self.now.swaps }
+        requires typed { IsStore self.now }
+        requires descriptor { swap < self.now.swaps }
         ensures { result ≡ status_at self.now.swaps self.now.cached swap }
     {
         status_in(self.pm.load(swap_at(swap)))
     }
 
+    /// A descriptor's status as the durable words have it. This is no act.
+    pub fn durable_status(&self, swap: u16) -> SwapStatus
+        requires { swap < self.now.swaps }
+        ensures { result ≡ status_at self.now.swaps self.now.durable swap }
+    {
+        status_in(self.pm.durable(swap_at(swap)))
+    }
+
     /// Stores a descriptor's status.
     pub fn store_status(&mut self, swap: u16, new: SwapStatus)
-        requires { swap < self.old.swaps }
+        requires typed { IsStore self.old }
+        requires descriptor { swap < self.old.swaps }
+        ensures words { self.new ≡ with_words self.old (stored (words_of self.old) (swap_address swap) (status_word new)) }
         ensures changed { (b : Beside) → typed self.new b ≡ with_status (typed self.old b) swap new }
+        ensures typed { IsStore self.new }
         ensures shape { SameShape self.old self.new }
     {
         self.pm.store(swap_at(swap), word_of_status(new));
@@ -112,10 +149,13 @@ impl Cells {
 
     /// Puts the new status where the old one stands, and says what stood.
     pub fn cas_status(&mut self, swap: u16, old: SwapStatus, new: SwapStatus) -> SwapStatus
-        requires { swap < self.old.swaps }
+        requires typed { IsStore self.old }
+        requires descriptor { swap < self.old.swaps }
+        ensures words { self.new ≡ with_words self.old (compared (words_of self.old) (swap_address swap) (status_word old) (status_word new)) }
         ensures found { result ≡ status_at self.old.swaps self.old.cached swap }
         ensures changed { result ≡ old → (b : Beside) → typed self.new b ≡ with_status (typed self.old b) swap new }
         ensures unchanged { result ≢ old → self.new ≡ self.old }
+        ensures typed { IsStore self.new }
         ensures shape { SameShape self.old self.new }
     {
         let found = self
@@ -134,19 +174,25 @@ impl Cells {
     }
 
     /// Stores a word of a descriptor, counted from the number of entries.
-    pub fn store_field(&mut self, swap: u16, number: u8, word: u64)
+    pub fn store_field(&mut self, swap: u16, number: u8, value: u64)
+        requires typed { IsStore self.old }
         requires descriptor { swap < self.old.swaps }
         requires number { number < field_count }
-        ensures changed { (b : Beside) → typed self.new b ≡ with_field (typed self.old b) swap number word }
+        ensures words { self.new ≡ with_words self.old (stored (words_of self.old) (field_address swap number) value) }
+        ensures changed { (b : Beside) → typed self.new b ≡ with_field (typed self.old b) swap number value }
+        ensures typed { IsStore self.new }
         ensures shape { SameShape self.old self.new }
     {
-        self.pm.store(field_at(swap, number), word);
+        self.pm.store(field_at(swap, number), value);
     }
 
     /// Flushes the first line of a descriptor, which holds its status.
     pub fn flush_head(&mut self, swap: u16)
-        requires { swap < self.old.swaps }
+        requires typed { IsStore self.old }
+        requires descriptor { swap < self.old.swaps }
+        ensures words { self.new ≡ with_words self.old (flushed (words_of self.old) (swap_address swap / 8)) }
         ensures changed { (b : Beside) → typed self.new b ≡ with_durable_head (typed self.old b) swap }
+        ensures typed { IsStore self.new }
         ensures shape { SameShape self.old self.new }
     {
         self.pm.flush(swap_at(swap) / LINE_WORDS);
@@ -154,8 +200,11 @@ impl Cells {
 
     /// Flushes the second line of a descriptor.
     pub fn flush_tail(&mut self, swap: u16)
-        requires { swap < self.old.swaps }
+        requires typed { IsStore self.old }
+        requires descriptor { swap < self.old.swaps }
+        ensures words { self.new ≡ with_words self.old (flushed (words_of self.old) (swap_address swap / 8 + 1)) }
         ensures changed { (b : Beside) → typed self.new b ≡ with_durable_fields (typed self.old b) swap in_tail }
+        ensures typed { IsStore self.new }
         ensures shape { SameShape self.old self.new }
     {
         self.pm.flush(swap_at(swap) / LINE_WORDS + 1);
@@ -163,9 +212,12 @@ impl Cells {
 
     /// Makes a word outside the descriptors durable.
     pub fn evict_word(&mut self, a: u32)
+        requires typed { IsStore self.old }
         requires outside { IsOutside self.old.swaps a }
         requires within { a < length self.old.cached }
+        ensures words { self.new ≡ with_words self.old (evicted (words_of self.old) a) }
         ensures changed { (b : Beside) → typed self.new b ≡ with_copies (typed self.old b) (λ c. c == a) }
+        ensures typed { IsStore self.new }
         ensures shape { SameShape self.old self.new }
     {
         self.pm.evict(a);
@@ -173,8 +225,11 @@ impl Cells {
 
     /// Makes a descriptor's status durable.
     pub fn evict_status(&mut self, swap: u16)
-        requires { swap < self.old.swaps }
+        requires typed { IsStore self.old }
+        requires descriptor { swap < self.old.swaps }
+        ensures words { self.new ≡ with_words self.old (evicted (words_of self.old) (swap_address swap)) }
         ensures changed { (b : Beside) → typed self.new b ≡ with_durable_status (typed self.old b) swap }
+        ensures typed { IsStore self.new }
         ensures shape { SameShape self.old self.new }
     {
         self.pm.evict(swap_at(swap));
@@ -182,19 +237,14 @@ impl Cells {
 
     /// Makes a word of a descriptor durable, counted from the number of entries.
     pub fn evict_field(&mut self, swap: u16, number: u8)
+        requires typed { IsStore self.old }
         requires descriptor { swap < self.old.swaps }
         requires number { number < field_count }
+        ensures words { self.new ≡ with_words self.old (evicted (words_of self.old) (field_address swap number)) }
         ensures changed { (b : Beside) → typed self.new b ≡ with_durable_fields (typed self.old b) swap (λ k. k == number) }
+        ensures typed { IsStore self.new }
         ensures shape { SameShape self.old self.new }
     {
         self.pm.evict(field_at(swap, number));
-    }
-
-    /// Cuts the power: the durable words are all that is left.
-    pub fn cut(&mut self)
-        ensures changed { (b : Beside) → typed self.new b ≡ after_cut (typed self.old b) }
-        ensures shape { SameShape self.old self.new }
-    {
-        self.pm.cut();
     }
 }

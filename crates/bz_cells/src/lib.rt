@@ -5,7 +5,11 @@
 mod address;
 mod cells;
 mod meaning;
+mod raw;
+mod tables;
 #[cfg(test)]
 mod tests;
 
+pub use address::{field_at, swap_at};
 pub use cells::Cells;
+pub use meaning::word_of_status;

@@ -29,8 +29,8 @@ pub(crate) fn kind_in(word: u64) -> WordKind
     }
 }
 
-// The word of a status.
-pub(crate) fn word_of_status(status: SwapStatus) -> u64
+/// The word of a status.
+pub fn word_of_status(status: SwapStatus) -> u64
     ensures { result ≡ status_word status }
 {
     match status {

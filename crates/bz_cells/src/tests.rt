@@ -1,4 +1,5 @@
-ghost use Rattle.std.specs.Prelude.{◌≡◌, IfOk, replicate};
+ghost use Rattle.std.specs.Prelude.{◌≡◌, false, IfOk, replicate};
+ghost use Rattle.bz_cells.specs.Store.{IsStore};
 
 use crate::Cells;
 use bz_machine::{SwapStatus, Verdict};
@@ -12,12 +13,17 @@ const SWAPS: u32 = 2;
 // The first word of a line of a node, after the superblock and two descriptors.
 const NODE: u32 = 48;
 
+const DIRTY_BIT: u64 = 1 << 63;
+
+const WORKERS: u8 = 2;
+
 // A memory of two descriptors and two lines, all of it zero.
 fn zeros(alloc: Global) -> Result<Cells, Memory>
-    ensures { IfOk result (λ c. c ≡ record { cached = replicate 64 0; durable = replicate 64 0; swaps = 2 }) }
+    ensures words { IfOk result (λ c. c ≡ record { cached = replicate 64 0; durable = replicate 64 0; swaps = 2; next_tags = replicate 3 0; missed = replicate 2 false; taken = 0 }) }
+    ensures typed { IfOk result IsStore }
 {
     let words = vec![in alloc; 0u64; 64]?;
-    Cells::open(alloc, &words, SWAPS)
+    Cells::open(alloc, &words, SWAPS, WORKERS)
 }
 
 #[test]
@@ -36,8 +42,8 @@ fn a_word_is_durable_once_its_line_is_flushed(rt: HostRuntime) -> Result<(), Fai
     cells.store_word(NODE + 8, WordKind::Swap(1));
     cells.flush_word(NODE + 7);
     cells.cut();
-    assert_eq!(rt; cells.load_word(NODE), dirty);
-    assert_eq!(rt; cells.load_word(NODE + 8), WordKind::Value(0));
+    assert_eq!(rt; cells.load(NODE), DIRTY_BIT + 7);
+    assert_eq!(rt; cells.load(NODE + 8), 0);
     Ok(())
 }
 
@@ -60,10 +66,10 @@ fn the_two_lines_of_a_descriptor_become_durable_apart(rt: HostRuntime) -> Result
             cells.flush_tail(1);
         }
         cells.cut();
-        assert_eq!(rt; cells.load_status(1), status);
+        assert_eq!(rt; cells.durable_status(1), status);
         assert_eq!(rt; cells.load_field(1, 6), low);
         assert_eq!(rt; cells.load_field(1, 7), high);
-        assert_eq!(rt; cells.load_status(0), SwapStatus::Free);
+        assert_eq!(rt; cells.durable_status(0), SwapStatus::Free);
     }
     Ok(())
 }
@@ -89,10 +95,37 @@ fn single_words_are_evicted(rt: HostRuntime) -> Result<(), Fail> {
     cells.evict_field(0, 1);
     cells.evict_word(NODE + 1);
     cells.cut();
-    assert_eq!(rt; cells.load_status(0), won);
+    assert_eq!(rt; cells.durable_status(0), won);
     assert_eq!(rt; cells.load_field(0, 0), 0);
     assert_eq!(rt; cells.load_field(0, 1), 4);
-    assert_eq!(rt; cells.load_word(NODE), WordKind::Value(0));
-    assert_eq!(rt; cells.load_word(NODE + 1), WordKind::Value(9));
+    assert_eq!(rt; cells.load(NODE), 0);
+    assert_eq!(rt; cells.load(NODE + 1), 9);
+    Ok(())
+}
+
+#[test]
+fn tags_have_numbers_and_misses_are_noted_once(rt: HostRuntime) -> Result<(), Fail> {
+    let mut cells = zeros(rt.alloc())?;
+    assert_eq!(rt; cells.cas_tag(NODE, 5, 0, 1, 2), WordKind::Value(0));
+    assert_eq!(rt; cells.cas_tag(NODE, 0, 0, 1, 2), WordKind::Value(0));
+    assert_eq!(rt;
+        cells.load_word(NODE),
+        WordKind::Tag { swap: 0, entry: 1, worker: 2, seq: 0 }
+    );
+    assert_eq!(rt; cells.next_tag(2), 1);
+    assert_eq!(rt; cells.next_tag(1), 0);
+    cells.store_status(1, SwapStatus::Decided(Verdict::Succeeded));
+    cells.evict_status(1);
+    cells.note_miss(0);
+    cells.note_miss(1);
+    assert_eq!(rt; cells.is_missed(0), true);
+    assert_eq!(rt; cells.is_missed(1), false);
+    assert_eq!(rt; cells.take(), Some(0));
+    assert_eq!(rt; cells.take(), Some(1));
+    assert_eq!(rt; cells.take(), None);
+    cells.renew();
+    assert_eq!(rt; cells.taken(), 0);
+    assert_eq!(rt; cells.next_tag(2), 0);
+    assert_eq!(rt; cells.is_missed(0), false);
     Ok(())
 }

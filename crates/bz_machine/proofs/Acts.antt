@@ -25,7 +25,7 @@ use Rattle.bz_machine.proofs.Endings.{help_act-ends}
 use Rattle.bz_machine.proofs.Good.{Good, good-same, good-answers}
 use Rattle.bz_machine.proofs.Fine.{Fine}
 use Rattle.bz_machine.proofs.HelpActs.{fine-help_act}
-use Rattle.bz_machine.proofs.Agrees.{agree-spell}
+use Rattle.bz_machine.specs.Agrees.{agree-spell}
 use Rattle.bz_machine.proofs.AgreeActs.{help_act-agrees}
 use Rattle.bz_machine.proofs.Helps.{OnSwap, good-after_help, knows-helping, good-on}
 use Rattle.bz_machine.proofs.Learns.{good-learnt}

@@ -11,7 +11,7 @@ use Rattle.bz_machine.specs.declared.place.HelpStep.TheVariants.{Look, InstallTa
 use Rattle.bz_machine.specs.declared.place.Next.{Next}
 use Rattle.bz_machine.specs.declared.place.Next.TheVariants.{Step}
 use Rattle.bz_machine.specs.HelpActs.{passed, finished, final_value, after_install_tag, after_untag, cleared_word, after_put_final, help_act}
-use Rattle.bz_machine.proofs.Agrees.{Agree}
+use Rattle.bz_machine.specs.Agrees.{Agree}
 
 passed-agrees : (x y : Entries) (i : ℕ) → Agree x y → passed x i ≡ passed y i
 passed-agrees x y i a = rw a.count refl

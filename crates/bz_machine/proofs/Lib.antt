@@ -1,6 +1,5 @@
 pub mod Acts
 pub mod AgreeActs
-pub mod Agrees
 pub mod Alone
 pub mod Answered
 pub mod Asleep

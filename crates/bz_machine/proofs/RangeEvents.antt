@@ -26,7 +26,7 @@ use Rattle.bz_word.specs.Kinds.{IsKind}
 use Rattle.bz_machine.specs.Ranges.{IsTagger, AreValues, HoldsKinds, NextInRange, PlaceInRange}
 use Rattle.bz_machine.specs.Lawful.{AreInRange, MayHold, AllMayHold, StayInRange}
 use Rattle.bz_machine.proofs.Ranges.{InRange, holds-word, holds-copies, holds-cleared, range-help_act}
-use Rattle.bz_machine.proofs.Agrees.{agree-spell}
+use Rattle.bz_machine.specs.Agrees.{agree-spell}
 use Rattle.bz_machine.proofs.AgreeActs.{help_act-agrees}
 use Rattle.bz_machine.proofs.Events.{state-happens}
 use Rattle.bz_machine.proofs.PowerOn.{state-power_on}

@@ -1,3 +1,4 @@
+pub mod Agrees
 pub mod Changes
 pub mod Content
 pub mod Examples

@@ -16,7 +16,7 @@ pub enum Operation {
     Swapping(u16),
 }
 
-/// All that is kept of one worker, of fixed size.
+/// What is kept of one worker beside the number of its next tag, of fixed size.
 #[derive(Clone, Copy, Debug)]
 pub struct Worker {
     pub operation: Operation,
@@ -27,8 +27,6 @@ pub struct Worker {
     pub back: Option<u16>,
     /// The words of the current swap's descriptor, as far as they are stored or learnt.
     pub list: DescriptorWords,
-    /// The number of the next own tag since power on.
-    pub seq: u64,
 }
 
 impl Operation {
@@ -54,8 +52,7 @@ impl Worker {
 
     /// Begins to help a swap, with another to go on with after it.
     pub fn help(&mut self, swap: u16, back: Option<u16>)
-        ensures local { local_of self.new ≡ helping (local_of self.old) swap back }
-        ensures seq { self.new.seq ≡ self.old.seq }
+        ensures { local_of self.new ≡ helping (local_of self.old) swap back }
     {
         self.current = swap;
         self.back = back;
@@ -64,8 +61,7 @@ impl Worker {
 
     /// Another swap stands in the way of the current one.
     pub fn meet(&mut self, swap: u16)
-        ensures local { local_of self.new ≡ meeting (local_of self.old) swap }
-        ensures seq { self.new.seq ≡ self.old.seq }
+        ensures { local_of self.new ≡ meeting (local_of self.old) swap }
     {
         let back = if self.operation.is_own(self.current) {
             None
@@ -79,7 +75,6 @@ impl Worker {
     pub fn complete(&mut self, verdict: Verdict) -> Done
         ensures local { (m : Memory) → local_of self.new ≡ (completed m (local_of self.old) verdict).local }
         ensures done { (m : Memory) → result ≡ (completed m (local_of self.old) verdict).done }
-        ensures seq { self.new.seq ≡ self.old.seq }
     {
         if self.operation.is_own(self.current) {
             self.operation = Operation::Nothing;
@@ -99,7 +94,6 @@ impl Worker {
     pub fn follow(&mut self, next: Next) -> Done
         ensures local { (m : Memory) → local_of self.new ≡ (after_help (local_of self.old) m next).local }
         ensures done { (m : Memory) → result ≡ (after_help (local_of self.old) m next).done }
-        ensures seq { self.new.seq ≡ self.old.seq }
     {
         match next {
             Next::Step(step) => {
@@ -118,9 +112,8 @@ impl Worker {
     pub fn learn(&mut self, number: u8, word: u64)
         requires number { number ≤ 12 }
         requires first { number ≡ 0 → word ≤ 4 }
-        requires count { slice_index self.old.list.words 0 ≤ 4 }
-        ensures local { (m : Memory) → m.words self.old.current number ≡ word → local_of self.new ≡ (learnt m (local_of self.old) number).local }
-        ensures seq { self.new.seq ≡ self.old.seq }
+        requires count { 0 < number → slice_index self.old.list.words 0 ≤ 4 }
+        ensures { (m : Memory) → m.words self.old.current number ≡ word → local_of self.new ≡ (learnt m (local_of self.old) number).local }
     {
         self.list.words[number as usize] = word;
         self.place = if number as u64 == 3 * self.list.words[0] {

@@ -5,14 +5,23 @@ use Rattle.bz_cells.proofs.cells.Cells.cas_status.Goals as goal
 
 pub invariant_of-self : goal.invariant_of-self
 invariant_of-self c =
-    let below = rw (← c.self.view_is) at c.requires in
+    let store = rw (← c.self.view_is) at c.requires.typed in
+    let below = rw (← c.self.view_is) at c.requires.descriptor in
     let after = rw (c.word_of_status.ensures, c.word_of_status-2.ensures, c.swap_at.ensures) at c.cas-found.ensures.after in
-    store-status_compared _ c.args.swap c.args.old c.args.new c.self.invariant below c.cas-found.new.self after
+    (store-status_compared _ c.args.swap c.args.old c.args.new store below c.cas-found.new.self after).has_room
+
+pub returns-clause-typed : goal.returns-clause-typed
+returns-clause-typed c =
+    let store = rw (← c.self.view_is) at c.requires.typed in
+    let below = rw (← c.self.view_is) at c.requires.descriptor in
+    let after = rw (c.word_of_status.ensures, c.word_of_status-2.ensures, c.swap_at.ensures) at c.cas-found.ensures.after in
+    store-status_compared _ c.args.swap c.args.old c.args.new store below c.cas-found.new.self after
 
 pub returns-clause-changed : goal.returns-clause-changed
 returns-clause-changed c = λ e b.
-    let below = rw (← c.self.view_is) at c.requires in
+    let store = rw (← c.self.view_is) at c.requires.typed in
+    let below = rw (← c.self.view_is) at c.requires.descriptor in
     let after = rw (c.word_of_status.ensures, c.word_of_status-2.ensures, c.swap_at.ensures) at c.cas-found.ensures.after in
     let found = rw c.swap_at.ensures at c.cas-found.ensures.found in
     let hit = sym (ap status_of found) ∙ (sym c.status_in.ensures ∙ e) in
-    rw (← c.self.view_is) (typed-status_compared _ b c.args.swap c.args.old c.args.new c.cas-found.new.self after c.self.invariant below hit)
+    rw (← c.self.view_is) (typed-status_compared _ b c.args.swap c.args.old c.args.new c.cas-found.new.self after store below hit)

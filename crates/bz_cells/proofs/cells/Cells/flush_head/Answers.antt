@@ -6,10 +6,18 @@ use Rattle.bz_cells.proofs.cells.Cells.flush_head.Goals as goal
 
 pub invariant_of-self : goal.invariant_of-self
 invariant_of-self c =
-    let below = rw (← c.self.view_is) at c.requires in
-    rw (c.flush.ensures, c.swap_at.ensures) (store-flush _ (swap_address c.args.swap / 8) c.self.invariant (head-within _ c.args.swap c.self.invariant below))
+    let store = rw (← c.self.view_is) at c.requires.typed in
+    let below = rw (← c.self.view_is) at c.requires.descriptor in
+    rw (c.flush.ensures, c.swap_at.ensures) (store-flush _ (swap_address c.args.swap / 8) store (head-within _ c.args.swap store below)).has_room
+
+pub returns-clause-typed : goal.returns-clause-typed
+returns-clause-typed c =
+    let store = rw (← c.self.view_is) at c.requires.typed in
+    let below = rw (← c.self.view_is) at c.requires.descriptor in
+    rw (c.flush.ensures, c.swap_at.ensures) (store-flush _ (swap_address c.args.swap / 8) store (head-within _ c.args.swap store below))
 
 pub returns-clause-changed : goal.returns-clause-changed
 returns-clause-changed c = λ b.
-    let below = rw (← c.self.view_is) at c.requires in
-    rw (c.flush.ensures, c.swap_at.ensures, ← c.self.view_is) (typed-flush_head _ b c.args.swap c.self.invariant below)
+    let store = rw (← c.self.view_is) at c.requires.typed in
+    let below = rw (← c.self.view_is) at c.requires.descriptor in
+    rw (c.flush.ensures, c.swap_at.ensures, ← c.self.view_is) (typed-flush_head _ b c.args.swap store below)

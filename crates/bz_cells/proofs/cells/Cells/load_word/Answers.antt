@@ -4,8 +4,9 @@ use Rattle.bz_cells.proofs.cells.Cells.load_word.Goals as goal
 
 pub kind_in-requires : goal.kind_in-requires
 kind_in-requires c =
+    let store = rw (← c.self.view_is) at c.requires.typed in
     let outside = rw (← c.self.view_is) at c.requires.outside in
-    rw c.load.ensures (c.self.invariant.cached.kinds c.args.a outside)
+    rw c.load.ensures (store.cached.kinds c.args.a outside)
 
 pub returns-clause-found : goal.returns-clause-found
 returns-clause-found c =

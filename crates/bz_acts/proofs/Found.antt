@@ -1,0 +1,35 @@
+-- The word that an act tells is the one that stood there.
+use Rattle.std.specs.Prelude.{◌≡◌, ℕ, true, slice_index}
+use Rattle.std.proofs.Common.{arith, refl, inl, inr}
+use Rattle.std.proofs.lemmas.Grind.{common_steps}
+use Rattle.bz_word.specs.Kinds.{word, IsKind}
+use Rattle.bz_word.specs.Laws.{kinds}
+use Rattle.bz_cells.specs.Store.{Store, IsStore, IsOutside, SameShape, is_outside, kind_at, words_of}
+use Rattle.bz_acts.specs.declared.acted.Act.TheVariants.{Load, Cas}
+use Rattle.bz_acts.specs.Parts.{IsMade}
+use Rattle.bz_acts.specs.Rule.{after_act}
+
+outside-told : (swaps a : ℕ) → IsOutside swaps a → is_outside swaps a ≡ true
+outside-told swaps a (inl below) = grind (arith, common_steps)
+outside-told swaps a (inr above) = grind (arith, common_steps)
+
+pub kind-found : (st : Store) (a : ℕ) → IsStore st → IsOutside st.swaps a → word (kind_at st.swaps st.cached a) ≡ slice_index st.cached a
+kind-found st a i out = rw (outside-told st.swaps a out) (kinds.word _ (i.cached.kinds a out))
+
+pub kind-in_range : (st : Store) (a : ℕ) → IsStore st → IsOutside st.swaps a → IsKind (kind_at st.swaps st.cached a)
+kind-in_range st a i out = rw (outside-told st.swaps a out) (kinds.range _ (i.cached.kinds a out))
+
+pub made-load : (st : Store) (a v : ℕ) → IsStore st → v ≡ slice_index st.cached a → IsMade st (Load a v) st
+made-load st a v i found = record {
+  rule = record { found = found; after = refl };
+  typed = i;
+  shape = record { swaps = refl; size = refl; workers = refl };
+}
+
+pub made-cas : (st new : Store) (a old v found : ℕ) → IsStore new → SameShape st new → words_of new ≡ after_act (words_of st) (Cas a old v found)
+    → found ≡ slice_index st.cached a → IsMade st (Cas a old v found) new
+made-cas st new a old v found i shape after stood = record {
+  rule = record { found = stood; after = after };
+  typed = i;
+  shape = shape;
+}

@@ -1,0 +1,3 @@
+pub mod Exchanges
+pub mod Found
+pub mod Zeros

@@ -1,0 +1,10 @@
+use Rattle.std.proofs.Common.{refl}
+use Rattle.bz_acts.proofs.values.flush_dirty.Goals as goal
+
+pub returns : goal.returns
+returns c = λ w s. record {
+  memory = λ b. rw c.aim_of-aim.ensures.target at c.flush_word.ensures.changed b;
+  next = λ b. refl;
+  flush = c.flush_word.ensures.flush;
+  made = c.flush_word.ensures.made;
+}

@@ -1,0 +1,11 @@
+use Rattle.std.proofs.Common.{refl}
+use Rattle.bz_acts.proofs.Exchanges.{cleared-status}
+use Rattle.bz_acts.proofs.verdicts.clear_status.Goals as goal
+
+pub returns : goal.returns
+returns c = λ x w. record {
+  memory = λ b. rw (← c.cas_status-found.ensures.found) (cleared-status _ _ b c.args.swap c.args.verdict c.cas_status-found.result.status c.cas_status-found.ensures.changed c.cas_status-found.ensures.unchanged);
+  next = λ b. refl;
+  flush = c.cas_status-found.ensures.flush;
+  made = c.cas_status-found.ensures.made;
+}

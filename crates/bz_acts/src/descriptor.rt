@@ -1,0 +1,140 @@
+//! Acts on descriptors, and what each act was.
+
+ghost use Rattle.std.specs.Prelude.{◌≡◌, ◌≢◌, ◌<◌, ◌≤◌, true, false};
+ghost use Rattle.bz_machine.specs.Changes.{with_status, with_field, with_durable_head, with_durable_fields, in_tail};
+ghost use Rattle.bz_cells.specs.Store.{Beside, IsStore, descriptor_word_at, status_at, typed};
+ghost use Rattle.bz_acts.specs.Parts.{IsMade};
+ghost use Rattle.bz_acts.specs.Rule.{is_flush_act};
+
+use crate::acted::Act;
+use bz_cells::{Cells, field_at, swap_at, word_of_status};
+use bz_layout::LINE_WORDS;
+use bz_machine::SwapStatus;
+
+/// The status that a descriptor had, and the act that found it.
+#[derive(Clone, Copy, Debug)]
+pub(crate) struct FoundStatus {
+    pub(crate) status: SwapStatus,
+    pub(crate) act: Act,
+}
+
+/// Loads a status.
+pub(crate) fn load_status(cells: &Cells, swap: u16) -> FoundStatus
+    requires typed { IsStore cells.now }
+    requires descriptor { swap < cells.now.swaps }
+    ensures found { result.status ≡ status_at cells.now.swaps cells.now.cached swap }
+    ensures made { IsMade cells.now result.act cells.now }
+    ensures flush { is_flush_act result.act ≡ false }
+{
+    let status = cells.load_status(swap);
+    FoundStatus {
+        status,
+        act: Act::Load {
+            a: swap_at(swap),
+            v: word_of_status(status),
+        },
+    }
+}
+
+/// Puts the new status where the old one stands.
+pub(crate) fn cas_status(
+    cells: &mut Cells,
+    swap: u16,
+    old: SwapStatus,
+    new: SwapStatus,
+) -> FoundStatus
+    requires typed { IsStore cells.old }
+    requires descriptor { swap < cells.old.swaps }
+    ensures found { result.status ≡ status_at cells.old.swaps cells.old.cached swap }
+    ensures changed { result.status ≡ old → (b : Beside) → typed cells.new b ≡ with_status (typed cells.old b) swap new }
+    ensures unchanged { result.status ≢ old → cells.new ≡ cells.old }
+    ensures made { IsMade cells.old result.act cells.new }
+    ensures flush { is_flush_act result.act ≡ false }
+{
+    let status = cells.cas_status(swap, old, new);
+    FoundStatus {
+        status,
+        act: Act::Cas {
+            a: swap_at(swap),
+            old: word_of_status(old),
+            new: word_of_status(new),
+            found: word_of_status(status),
+        },
+    }
+}
+
+/// Stores a status.
+pub(crate) fn store_status(cells: &mut Cells, swap: u16, new: SwapStatus) -> Act
+    requires typed { IsStore cells.old }
+    requires descriptor { swap < cells.old.swaps }
+    ensures changed { (b : Beside) → typed cells.new b ≡ with_status (typed cells.old b) swap new }
+    ensures made { IsMade cells.old result cells.new }
+    ensures flush { is_flush_act result ≡ false }
+{
+    cells.store_status(swap, new);
+    Act::Store {
+        a: swap_at(swap),
+        v: word_of_status(new),
+    }
+}
+
+/// Flushes a descriptor's first line, which holds the status.
+pub(crate) fn flush_head(cells: &mut Cells, swap: u16) -> Act
+    requires typed { IsStore cells.old }
+    requires descriptor { swap < cells.old.swaps }
+    ensures changed { (b : Beside) → typed cells.new b ≡ with_durable_head (typed cells.old b) swap }
+    ensures made { IsMade cells.old result cells.new }
+    ensures flush { is_flush_act result ≡ true }
+{
+    cells.flush_head(swap);
+    Act::Flush {
+        line: swap_at(swap) / LINE_WORDS,
+    }
+}
+
+/// Flushes a descriptor's second line.
+pub(crate) fn flush_tail(cells: &mut Cells, swap: u16) -> Act
+    requires typed { IsStore cells.old }
+    requires descriptor { swap < cells.old.swaps }
+    ensures changed { (b : Beside) → typed cells.new b ≡ with_durable_fields (typed cells.old b) swap in_tail }
+    ensures made { IsMade cells.old result cells.new }
+    ensures flush { is_flush_act result ≡ true }
+{
+    cells.flush_tail(swap);
+    Act::Flush {
+        line: swap_at(swap) / LINE_WORDS + 1,
+    }
+}
+
+/// Stores a word of a descriptor, counted from the number of entries.
+pub(crate) fn store_field(cells: &mut Cells, swap: u16, number: u8, value: u64) -> Act
+    requires typed { IsStore cells.old }
+    requires descriptor { swap < cells.old.swaps }
+    requires number { number ≤ 12 }
+    ensures changed { (b : Beside) → typed cells.new b ≡ with_field (typed cells.old b) swap number value }
+    ensures made { IsMade cells.old result cells.new }
+    ensures flush { is_flush_act result ≡ false }
+{
+    cells.store_field(swap, number, value);
+    Act::Store {
+        a: field_at(swap, number),
+        v: value,
+    }
+}
+
+/// Loads a word of a descriptor, counted from the number of entries.
+pub(crate) fn load_field(cells: &Cells, swap: u16, number: u8) -> (u64, Act)
+    requires typed { IsStore cells.now }
+    requires descriptor { swap < cells.now.swaps }
+    requires number { number ≤ 12 }
+    ensures found { result.0 ≡ descriptor_word_at cells.now.swaps cells.now.cached swap number }
+    ensures made { IsMade cells.now result.1 cells.now }
+    ensures flush { is_flush_act result.1 ≡ false }
+{
+    let word = cells.load_field(swap, number);
+    let act = Act::Load {
+        a: field_at(swap, number),
+        v: word,
+    };
+    (word, act)
+}

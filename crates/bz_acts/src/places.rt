@@ -1,0 +1,52 @@
+//! The act at a worker's place.
+
+ghost use Rattle.std.specs.Prelude.{◌≡◌};
+ghost use Rattle.bz_machine.specs.Flushes.{is_flush};
+ghost use Rattle.bz_machine.specs.Workers.{local_of};
+ghost use Rattle.bz_cells.specs.Store.{Beside, IsStore, SameShape, typed, words_of};
+ghost use Rattle.bz_acts.specs.Made.{made, beside_in};
+ghost use Rattle.bz_acts.specs.Parts.{IsStep};
+ghost use Rattle.bz_acts.specs.Ready.{IsReady, IsReadyAt};
+ghost use Rattle.bz_acts.specs.Rule.{IsActOf, IsToldAt, is_flush_act};
+
+use crate::acted::Acted;
+use crate::help::help;
+use crate::prepare::{learn, prepare};
+use crate::reading::{clear_read, flush_line, flush_read, read_word, store_word};
+use bz_cells::Cells;
+use bz_machine::{Place, Worker};
+
+// Makes the act at a place.
+fn act_at(cells: &mut Cells, worker: &mut Worker, w: u8, place: Place) -> Acted
+    requires typed { IsStore cells.old }
+    requires ready { IsReadyAt cells.old worker.old w place }
+    ensures { IsStep cells.old worker.old w place result cells.new worker.new }
+{
+    match place {
+        Place::Prepare(step) => prepare(cells, worker, step),
+        Place::Learn(k) => learn(cells, worker, k),
+        Place::Help(step) => help(cells, worker, w, step),
+        Place::ReadWord(a) => read_word(cells, worker, a),
+        Place::FlushRead { address, value } => flush_read(cells, worker, address, value),
+        Place::ClearRead { address, value } => clear_read(cells, worker, address, value),
+        Place::StoreWord { address, value } => store_word(cells, worker, address, value),
+        Place::FlushLine(line) => flush_line(cells, worker, line),
+        Place::Idle | Place::LoadWord(_) => unreachable!(),
+    }
+}
+
+/// Makes the act at the worker's place, and takes the worker to its next place. `w` is the worker's number.
+pub fn act(cells: &mut Cells, worker: &mut Worker, w: u8) -> Acted
+    requires typed { IsStore cells.old }
+    requires ready { IsReady cells.old worker.old w }
+    ensures local { (b : Beside) → local_of worker.new ≡ (made cells.old b worker.old w).local }
+    ensures done { (b : Beside) → result.done ≡ (made cells.old b worker.old w).done }
+    ensures memory { (b : Beside) → typed cells.new (beside_in (made cells.old b worker.old w).memory) ≡ (made cells.old b worker.old w).memory }
+    ensures words { IsActOf (words_of cells.old) result.act (words_of cells.new) }
+    ensures flush { is_flush_act result.act ≡ is_flush worker.old.place }
+    ensures told { IsToldAt worker.old.place result.act }
+    ensures typed { IsStore cells.new }
+    ensures shape { SameShape cells.old cells.new }
+{
+    act_at(cells, worker, w, worker.place)
+}

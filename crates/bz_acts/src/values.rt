@@ -1,0 +1,163 @@
+//! Acts on the values of a swap's targets: what is flushed, what is put at the end, and the dirty bits.
+
+ghost use Rattle.std.specs.Prelude.{◌≡◌, if◌then◌else◌, ◌==◌, ◌+◌, ◌<◌, ◌^◌, false, ℕ, slice_index};
+ghost use Rattle.bz_machine.specs.Machine.{Entries, entries_in};
+ghost use Rattle.bz_machine.specs.HelpActs.{cleared_word, final_value as final_value_in};
+ghost use Rattle.bz_machine.specs.declared.place.HelpStep.TheVariants.{FlushDirty, ClearDirty, FlushTarget, Decide as decide, PutFinal, FlushFinal, ClearFinal};
+ghost use Rattle.bz_machine.specs.declared.status.Verdict.TheVariants.{Succeeded};
+ghost use Rattle.bz_cells.specs.Store.{Beside, IsStore, kind_at, typed};
+ghost use Rattle.bz_acts.specs.Parts.{IsHelp, IsMade};
+ghost use Rattle.bz_acts.specs.Ready.{IsUsable, LiesOutside};
+ghost use Rattle.bz_acts.specs.Rule.{is_flush_act};
+
+use crate::acted::Act;
+use crate::entry::{Aim, aim_of};
+use crate::help::Helped;
+use crate::words::{cas_word, flush_word};
+use bz_cells::Cells;
+use bz_machine::{DescriptorWords, HelpStep, Next, Verdict, after_put_final, finished};
+use bz_word::WordKind;
+
+/// Changes a dirty value to the plain one.
+pub(crate) fn clear_value(cells: &mut Cells, a: u32, value: u64) -> Act
+    requires typed { IsStore cells.old }
+    requires lies { LiesOutside cells.old a }
+    requires value { value < 2 ^ 61 }
+    ensures memory { (b : Beside) → typed cells.new b ≡ cleared_word (typed cells.old b) a value (kind_at cells.old.swaps cells.old.cached a) }
+    ensures made { IsMade cells.old result cells.new }
+    ensures flush { is_flush_act result ≡ false }
+{
+    cas_word(cells, a, WordKind::Dirty(value), WordKind::Value(value)).act
+}
+
+// The value that a verdict leaves at an entry.
+fn final_value(aim: Aim, verdict: Verdict) -> u64
+    requires expected { aim.expected < 2 ^ 61 }
+    requires value { aim.value < 2 ^ 61 }
+    ensures fits { result < 2 ^ 61 }
+    ensures value { (x : Entries) (i : ℕ) → x.expected i ≡ aim.expected → x.value i ≡ aim.value → result ≡ final_value_in x i verdict }
+{
+    match verdict {
+        Verdict::Succeeded => aim.value,
+        Verdict::Failed => aim.expected,
+    }
+}
+
+/// Flushes the line of a target, where a dirty value stands.
+pub(crate) fn flush_dirty(
+    cells: &mut Cells,
+    list: &DescriptorWords,
+    entry: u8,
+    value: u64,
+) -> Helped
+    requires typed { IsStore cells.old }
+    requires usable { IsUsable cells.old (entries_in (slice_index list.now.words)) entry }
+    ensures { (w s : ℕ) → IsHelp (entries_in (slice_index list.now.words)) cells.old w s (FlushDirty entry value) result cells.new }
+{
+    let aim = aim_of(cells, list, entry);
+    Helped {
+        act: flush_word(cells, aim.target),
+        next: Next::Step(HelpStep::ClearDirty { entry, value }),
+    }
+}
+
+/// Changes the dirty value at a target to the plain one.
+pub(crate) fn clear_dirty(
+    cells: &mut Cells,
+    list: &DescriptorWords,
+    entry: u8,
+    value: u64,
+) -> Helped
+    requires typed { IsStore cells.old }
+    requires usable { IsUsable cells.old (entries_in (slice_index list.now.words)) entry }
+    requires value { value < 2 ^ 61 }
+    ensures { (w s : ℕ) → IsHelp (entries_in (slice_index list.now.words)) cells.old w s (ClearDirty entry value) result cells.new }
+{
+    let aim = aim_of(cells, list, entry);
+    Helped {
+        act: clear_value(cells, aim.target, value),
+        next: Next::Step(HelpStep::InstallTag(entry)),
+    }
+}
+
+// What follows the flush of a target.
+fn after_flush_target(count: u8, entry: u8) -> HelpStep
+    requires { entry < count }
+    ensures { result ≡ (if entry + 1 == count then decide Succeeded else FlushTarget (entry + 1)) }
+{
+    if entry + 1 == count {
+        HelpStep::Decide(Verdict::Succeeded)
+    } else {
+        HelpStep::FlushTarget(entry + 1)
+    }
+}
+
+/// Flushes the line of a target, where the pointer stands.
+pub(crate) fn flush_target(cells: &mut Cells, list: &DescriptorWords, entry: u8) -> Helped
+    requires typed { IsStore cells.old }
+    requires usable { IsUsable cells.old (entries_in (slice_index list.now.words)) entry }
+    ensures { (w s : ℕ) → IsHelp (entries_in (slice_index list.now.words)) cells.old w s (FlushTarget entry) result cells.new }
+{
+    let aim = aim_of(cells, list, entry);
+    Helped {
+        act: flush_word(cells, aim.target),
+        next: Next::Step(after_flush_target(aim.count, entry)),
+    }
+}
+
+/// Changes the pointer to the value that the verdict leaves, with the dirty bit.
+pub(crate) fn put_final(
+    cells: &mut Cells,
+    list: &DescriptorWords,
+    swap: u16,
+    entry: u8,
+    verdict: Verdict,
+) -> Helped
+    requires typed { IsStore cells.old }
+    requires usable { IsUsable cells.old (entries_in (slice_index list.now.words)) entry }
+    ensures { (w : ℕ) → IsHelp (entries_in (slice_index list.now.words)) cells.old w swap (PutFinal entry verdict) result cells.new }
+{
+    let aim = aim_of(cells, list, entry);
+    let dirty = WordKind::Dirty(final_value(aim, verdict));
+    let found = cas_word(cells, aim.target, WordKind::Swap(swap), dirty);
+    Helped {
+        act: found.act,
+        next: after_put_final(swap, aim.count, entry, verdict, found.kind),
+    }
+}
+
+/// Flushes the line of the final value.
+pub(crate) fn flush_final(
+    cells: &mut Cells,
+    list: &DescriptorWords,
+    entry: u8,
+    verdict: Verdict,
+) -> Helped
+    requires typed { IsStore cells.old }
+    requires usable { IsUsable cells.old (entries_in (slice_index list.now.words)) entry }
+    ensures { (w s : ℕ) → IsHelp (entries_in (slice_index list.now.words)) cells.old w s (FlushFinal entry verdict) result cells.new }
+{
+    let aim = aim_of(cells, list, entry);
+    Helped {
+        act: flush_word(cells, aim.target),
+        next: Next::Step(HelpStep::ClearFinal { entry, verdict }),
+    }
+}
+
+/// Clears the dirty bit of the final value.
+pub(crate) fn clear_final(
+    cells: &mut Cells,
+    list: &DescriptorWords,
+    entry: u8,
+    verdict: Verdict,
+) -> Helped
+    requires typed { IsStore cells.old }
+    requires usable { IsUsable cells.old (entries_in (slice_index list.now.words)) entry }
+    ensures { (w s : ℕ) → IsHelp (entries_in (slice_index list.now.words)) cells.old w s (ClearFinal entry verdict) result cells.new }
+{
+    let aim = aim_of(cells, list, entry);
+    Helped {
+        act: clear_value(cells, aim.target, final_value(aim, verdict)),
+        next: finished(aim.count, entry, verdict),
+    }
+}
