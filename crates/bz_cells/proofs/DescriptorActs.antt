@@ -16,7 +16,6 @@ use Rattle.bz_cells.specs.Store.{Store, Beside, IsStore, IsOutside, IsStatusWord
 use Rattle.bz_cells.proofs.Places.{differ, status-not_outside, field-not_outside}
 use Rattle.bz_cells.proofs.Stores.{words-chosen, words-set, store-cached, store-durable}
 use Rattle.bz_cells.proofs.Typed.{typed-copied}
-
 use Rattle.bz_cells.proofs.Descriptors.{status-word, typed-status, typed-field, typed-head, typed-tail, typed-status_alone, typed-field_alone}
 
 -- a descriptor's words lie in the memory

@@ -110,7 +110,12 @@ fn tags_have_numbers_and_misses_are_noted_once(rt: HostRuntime) -> Result<(), Fa
     assert_eq!(rt; cells.cas_tag(NODE, 0, 0, 1, 2), WordKind::Value(0));
     assert_eq!(rt;
         cells.load_word(NODE),
-        WordKind::Tag { swap: 0, entry: 1, worker: 2, seq: 0 }
+        WordKind::Tag {
+            swap: 0,
+            entry: 1,
+            worker: 2,
+            seq: 0
+        }
     );
     assert_eq!(rt; cells.next_tag(2), 1);
     assert_eq!(rt; cells.next_tag(1), 0);

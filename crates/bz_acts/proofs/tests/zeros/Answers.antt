@@ -6,16 +6,16 @@ use Rattle.bz_acts.proofs.tests.zeros.Goals as goal
 
 pub returns-clause-typed : goal.returns-clause-typed
 returns-clause-typed c =
-    let opened = rw (c.deref.ensures.value, c.in_ok-words.ensures.items_if_clones_equal (λ y e. e)) at c.open.ensures in
+    let opened = rw (c.deref.ensures.value, c.in_ok-words.ensures.items_if_clones_equal (λ y e. e)) at c.open.ensures.words in
     if_opened IsStore c.open.result _ opened (zero_store 4 96 3 refl (omega arith) (omega arith) (omega arith))
 
 pub returns-clause-swaps : goal.returns-clause-swaps
-returns-clause-swaps c = if_opened (λ (st : Store). st.swaps ≡ 4) c.open.result _ c.open.ensures refl
+returns-clause-swaps c = if_opened (λ (st : Store). st.swaps ≡ 4) c.open.result _ c.open.ensures.words refl
 
 pub returns-clause-size : goal.returns-clause-size
 returns-clause-size c =
-    let opened = rw (c.deref.ensures.value, c.in_ok-words.ensures.items_if_clones_equal (λ y e. e)) at c.open.ensures in
+    let opened = rw (c.deref.ensures.value, c.in_ok-words.ensures.items_if_clones_equal (λ y e. e)) at c.open.ensures.words in
     if_opened (λ (st : Store). length st.cached ≡ 96) c.open.result _ opened refl
 
 pub returns-clause-workers : goal.returns-clause-workers
-returns-clause-workers c = if_opened (λ (st : Store). length st.next_tags ≡ 3) c.open.result _ c.open.ensures refl
+returns-clause-workers c = if_opened (λ (st : Store). length st.next_tags ≡ 3) c.open.result _ c.open.ensures.words refl

@@ -11,5 +11,5 @@ returns-then-eq-clause-changed c = λ found b.
     let same : now.next_tags ≡ c.args.self.now.next_tags = ap (λ (st : Store). st.next_tags) is ∙ ap (λ (st : Store). st.next_tags) c.cas_word-found.ensures.words in
     let change = rw c.next_tag-seq.ensures at c.cas_word-found.ensures.changed found b in
     typed-tagged c.args.self.now now b c.args.a c.args.swap c.args.entry c.args.worker (slice_set now.next_tags c.args.worker (c.next_tag-seq.result + 1))
-      (λ v. rw (same, c.next_tag-seq.ensures) (number-set c.args.self.now.next_tags c.args.worker (slice_index c.args.self.now.next_tags c.args.worker + 1) v c.requires.worker.worker))
-      (ap (λ st. typed st b) is ∙ change)
+    (λ v. rw (same, c.next_tag-seq.ensures) (number-set c.args.self.now.next_tags c.args.worker (slice_index c.args.self.now.next_tags c.args.worker + 1) v c.requires.worker.worker))
+    (ap (λ st. typed st b) is ∙ change)
