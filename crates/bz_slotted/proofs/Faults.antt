@@ -12,7 +12,7 @@ use Rattle.bz_slotted.specs.Records.{key_at, pointer_at}
 use Rattle.bz_slotted.specs.Rules.{filled_test, settled_test, apart_test, leaf_record_test, inner_record_test, order_test, leaf_key_test, inner_key_test, distinct_test, child_test, leaf_tests, inner_tests, node_fault}
 use Rattle.bz_slotted.specs.Tests.{first_of, every, every_two}
 use Rattle.bz_slotted.specs.Whole.{Disjoint, IsPointer, Whole, WholeInner}
-use Rattle.bz_slotted.proofs.Keys.{is_before-other}
+use Rattle.bz_slotted.proofs.KeyFacts.{is_before-other}
 use Rattle.bz_slotted.proofs.Deciding.{Decides-every, Decides-every_two, any-two, passes, pass, at_end}
 use Rattle.bz_slotted.proofs.FrontTests.{Decides-level, Decides-fences, Decides-filled, Decides-settled}
 use Rattle.bz_slotted.proofs.RecordTests.{LeafRecord, Decides-leaf_record, InnerRecord, Decides-inner_record, Decides-apart}

@@ -1,7 +1,7 @@
 pub mod Deciding
 pub mod FrontTests
 pub mod RecordTests
-pub mod Keys
+pub mod KeyFacts
 pub mod KeyTests
 pub mod Faults
 pub mod Honest
@@ -24,3 +24,10 @@ pub mod MadeWords
 pub mod MadePages
 pub mod MadeLeaves
 pub mod MadeInners
+pub mod Loops
+pub mod Unpacking
+pub mod Readings
+pub mod Fills
+pub mod Plain
+pub mod Firsts
+pub mod NodeKinds

@@ -21,6 +21,7 @@ use Rattle.bz_slotted.specs.Records.{key_at, pointer_at}
 use Rattle.bz_slotted.specs.Whole.{IsInnerRecord, IsPlainKey, IsPointer, WholeInner}
 use Rattle.bz_slotted.proofs.Faults.{none-inner-whole}
 use Rattle.bz_slotted.proofs.Honest.{lt-t}
+use Rattle.bz_slotted.proofs.KeyFacts.{nil-before}
 use Rattle.bz_slotted.proofs.Lists.{part-at}
 use Rattle.bz_slotted.proofs.MadeLeaves.{before-test, below-test}
 use Rattle.bz_slotted.proofs.MadePages.{IsMade, ext, count-made, level-made, fences-made, shows-made, ext-made, lengths-made, filled-made, inside-made, apart-made, sorted-made, dead-made, thawed-made}
@@ -49,12 +50,6 @@ children-are-entries cs each i d within =
 bound-there : (bound : Option (List ℕ)) → IsBound bound → IsSome bound → (0 < length (bound_of bound)) × (bound ≡ Some (bound_of bound))
 bound-there None h some = absurd (cc)
 bound-there (Some key) h some = (h.some, refl)
-
--- no bytes are before some bytes
-nil-before : (key : List ℕ) → 0 < length key → is_before [] key ≡ true
-unfolding is_before
-nil-before [] h = absurd (omega arith)
-nil-before (b ∷ bs) h = refl
 
 module _ (cs : List Child) (l : ℕ) (lo hi : Option (List ℕ)) (nodes : ℕ) (each : All IsChild cs) (list : IsChildList cs lo hi) (slots : (i : ℕ) (d : Child) → i < length cs → (get_or cs i d).slot < nodes)
     (h : IsMade l lo hi (map child_entry cs)) (reads : ReadsAsInner (inner_words cs lo hi l) cs lo hi l) where

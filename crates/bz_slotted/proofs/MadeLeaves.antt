@@ -24,7 +24,7 @@ use Rattle.bz_slotted.specs.ReadingLaws.{node_of, IsLeafOf, MadeLeavesAreWhole}
 use Rattle.bz_slotted.specs.Records.{key_in, payload_in, key_at, records_to, records}
 use Rattle.bz_slotted.specs.Whole.{IsLeafRecord, IsPlainKey, IsPlainPayload, Whole}
 use Rattle.bz_slotted.proofs.Faults.{none-whole}
-use Rattle.bz_slotted.proofs.Keys.{is_before-other}
+use Rattle.bz_slotted.proofs.KeyFacts.{is_before-other}
 use Rattle.bz_slotted.proofs.Lists.{part-at, visible-used, metas-range, live-range}
 use Rattle.bz_slotted.proofs.MadePages.{IsMade, ext, count-made, level-made, fences-made, shows-made, ext-made, lengths-made, filled-made, inside-made, apart-made, sorted-made}
 use Rattle.bz_slotted.proofs.Pairs.{records-range, find-records}

@@ -18,7 +18,7 @@ use Rattle.bz_word.specs.declared.meta.Meta.TheVariants.{Unused, Reserved, Visib
 use Rattle.bz_slotted.specs.Page.{visible, extent_of}
 use Rattle.bz_slotted.specs.ReadingLaws.{node_of}
 use Rattle.bz_slotted.specs.Records.{key_in, payload_in, records_to, search_to}
-use Rattle.bz_slotted.proofs.Keys.{same-key, other-key}
+use Rattle.bz_slotted.proofs.KeyFacts.{same-key, other-key}
 use Rattle.bz_slotted.proofs.Lists.{part-at}
 use Rattle.bz_slotted.proofs.Searches.{search-none}
 

@@ -5,7 +5,7 @@ use Rattle.std.proofs.lemmas.Bool.{cases_eq}
 use Rattle.bz_word.specs.declared.meta.Meta.{Meta}
 use Rattle.bz_slotted.specs.Page.{visible, extent_of}
 use Rattle.bz_slotted.specs.Records.{key_in, payload_in, search_to}
-use Rattle.bz_slotted.proofs.Keys.{same-key, other-key}
+use Rattle.bz_slotted.proofs.KeyFacts.{same-key, other-key}
 
 -- a key that no visible record has is not found
 pub search-none : (n : ℕ → ℕ) (meta : ℕ → Meta) (key : List ℕ) (k : ℕ) → ((i : ℕ) → i < k → visible (meta i) ≡ true → key_in n (extent_of (meta i)) ≢ key) → search_to n meta key k ≡ None

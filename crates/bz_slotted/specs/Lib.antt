@@ -4,6 +4,7 @@ pub mod Laws
 pub mod LeafLaws
 pub mod Page
 pub mod Readers
+pub mod Reads
 pub mod ReadingLaws
 pub mod Records
 pub mod Rules

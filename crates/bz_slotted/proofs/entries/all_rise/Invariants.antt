@@ -1,0 +1,9 @@
+use Rattle.std.proofs.Common.{◌≡◌, true}
+use Rattle.bz_slotted.specs.Page.{page}
+use Rattle.bz_slotted.specs.ReadingLaws.{node_of}
+use Rattle.bz_slotted.specs.Rules.{order_test}
+use Rattle.bz_slotted.specs.Tests.{every}
+use Rattle.bz_slotted.proofs.entries.all_rise.Given as goal
+
+abbrev pub invariant-loop-j : goal.invariant-loop-j
+invariant-loop-j l = every l.j (λ j. every j (λ i. order_test (page (node_of l.words)) i j)) ≡ true
