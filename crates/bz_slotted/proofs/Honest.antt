@@ -1,13 +1,15 @@
 -- What no fault means for keys.
-use Rattle.std.proofs.Common.{◌≡◌, ◌≢◌, ℕ, zero, suc, ◌<◌, ◌&&◌, if◌then◌else◌, Bool, true, false, List, arith, refl, subst, Option}
+use Rattle.std.proofs.Common.{◌≡◌, ◌≢◌, ℕ, zero, suc, ◌<◌, ◌≤◌, ◌&&◌, if◌then◌else◌, Bool, true, false, List, arith, refl, subst, Option}
 use Rattle.std.specs.Prelude.{nat_lt, bytes_eq, Some, None}
 use Rattle.std.proofs.lemmas.Bool.Decides.{nat_tests}
 use Rattle.std.proofs.lemmas.Slice.Eq.{bytes_eq-Decides}
+use Rattle.bz_layout.specs.declared.sizes.TheConstants.{SHARED_WORDS}
+use Rattle.bz_slotted.proofs.Lives.{live_to-le}
 use Rattle.bz_shape.specs.Order.{is_within}
 use Rattle.bz_word.specs.declared.meta.Meta.{Meta}
 use Rattle.bz_slotted.specs.Laws.{RisesBetween}
 use Rattle.bz_slotted.specs.Page.{visible, extent_of, page}
-use Rattle.bz_slotted.specs.Readers.{count_of, child_of, key_of, found_of}
+use Rattle.bz_slotted.specs.Readers.{count_of, child_of, key_of, found_of, live_of}
 use Rattle.bz_slotted.specs.Records.{key_in, payload_in, search_to}
 use Rattle.bz_slotted.specs.Rules.{node_fault}
 use Rattle.bz_slotted.specs.Whole.{WholeInner}
@@ -44,3 +46,7 @@ finds n meta key lo hi (suc k) h some = go (visible (meta k)) refl (bytes_eq (ke
 pub found-holds : (nodes : ℕ) (raw n : ℕ → ℕ) (lo hi : Option (List ℕ)) (key : List ℕ) → node_fault nodes raw n 0 lo hi ≡ None → found_of n key ≢ None → is_within key lo hi ≡ true
 unfolding found_of
 found-holds nodes raw n lo hi key none some = finds n (page n).meta key lo hi (page n).count (whole-none nodes raw n lo hi none).range some
+
+pub live-fits : (nodes : ℕ) (raw n : ℕ → ℕ) (lo hi : Option (List ℕ)) → node_fault nodes raw n 0 lo hi ≡ None → live_of n ≤ SHARED_WORDS
+unfolding live_of
+live-fits nodes raw n lo hi none = let w = whole-none nodes raw n lo hi none in omega (arith, live_to-le (page n).meta (page n).count, w.filled.room, w.filled.dead)

@@ -1,8 +1,9 @@
 -- What no fault means, as facts and for keys.
-use Rattle.std.specs.Prelude.{◌≡◌, ◌≢◌, ◌↔◌, ℕ, ◌<◌, true, List, Option, None}
+use Rattle.std.specs.Prelude.{◌≡◌, ◌≢◌, ◌↔◌, ℕ, ◌<◌, ◌≤◌, true, List, Option, None}
+use Rattle.bz_layout.specs.declared.sizes.TheConstants.{SHARED_WORDS}
 use Rattle.bz_shape.specs.Order.{is_before, is_above, is_below, is_within}
 use Rattle.bz_slotted.specs.Page.{page}
-use Rattle.bz_slotted.specs.Readers.{count_of, child_of, key_of, found_of}
+use Rattle.bz_slotted.specs.Readers.{count_of, child_of, key_of, found_of, live_of}
 use Rattle.bz_slotted.specs.Rules.{node_fault}
 use Rattle.bz_slotted.specs.Whole.{Whole, WholeInner}
 
@@ -28,3 +29,7 @@ InnerKeysRise = (nodes : ℕ) (raw n : ℕ → ℕ) (l : ℕ) (lo hi : Option (L
 -- a leaf says something of keys in its range alone
 abbrev pub FoundKeysAreInRange : Type 0
 FoundKeysAreInRange = (nodes : ℕ) (raw n : ℕ → ℕ) (lo hi : Option (List ℕ)) (key : List ℕ) → node_fault nodes raw n 0 lo hi ≡ None → found_of n key ≢ None → is_within key lo hi ≡ true
+
+-- the visible records of a leaf fit a node, with their metadata words
+abbrev pub LiveWordsFit : Type 0
+LiveWordsFit = (nodes : ℕ) (raw n : ℕ → ℕ) (lo hi : Option (List ℕ)) → node_fault nodes raw n 0 lo hi ≡ None → live_of n ≤ SHARED_WORDS

@@ -3,7 +3,7 @@
 ghost use Rattle.bz_slotted.specs.InnerChanges.{PointerSwapChangesChild, StandingIsQuiet};
 ghost use Rattle.bz_slotted.specs.LeafLaws.{RewriteChangesOneKey, ReservationIsQuiet, GrowthIsQuiet, FreezeIsQuiet, StoresAreQuiet};
 ghost use Rattle.bz_slotted.specs.ReadingLaws.{WholeLeavesAreReadable, WholeInnersAreReadable, MadeLeavesAreWhole, MadeInnersAreWhole};
-ghost use Rattle.bz_slotted.specs.Laws.{LeafRulesAreFacts, InnerRulesAreFacts, InnerKeysRise, FoundKeysAreInRange};
+ghost use Rattle.bz_slotted.specs.Laws.{LeafRulesAreFacts, InnerRulesAreFacts, InnerKeysRise, FoundKeysAreInRange, LiveWordsFit};
 
 /// A leaf breaks no rule exactly where each rule holds as a fact of its records.
 pub fn leaf_rules_are_facts()
@@ -23,6 +23,11 @@ pub fn inner_keys_rise()
 /// A leaf that breaks no rule says of keys out of its range that there is none.
 pub fn found_keys_are_in_range()
     ensures { FoundKeysAreInRange }
+{}
+
+/// The visible records of a leaf that breaks no rule fit a node.
+pub fn live_words_fit()
+    ensures { LiveWordsFit }
 {}
 
 /// A publication, a delete or the second swap of an update breaks no rule, and changes the answer for the

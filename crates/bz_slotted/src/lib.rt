@@ -11,6 +11,8 @@ mod metas;
 mod order;
 mod place;
 mod records;
+#[cfg(test)]
+mod tests;
 
 pub use fault::node_fault;
 pub use place::Place;
