@@ -1,5 +1,6 @@
 -- What a journal says: where it began, its marks, its pages, and how many of each it may have.
-use Rattle.std.specs.Prelude.{◌<◌, ℕ, ◌+◌, List, [], ◌∷◌, ◌++◌, length}
+use Rattle.std.specs.Prelude.{◌<◌, ℕ, ◌+◌, if◌then◌else◌, List, [], ◌∷◌, ◌++◌, length}
+use Rattle.bz_call.specs.Pages.{is_page, names_page}
 use Rattle.bz_mark.specs.declared.marks.Mark.{Mark}
 use Rattle.bz_mark.specs.declared.marks.Mark.TheVariants.{Begin, End}
 
@@ -28,6 +29,18 @@ abbrev pub count_ends : List Mark → ℕ
 count_ends [] = 0
 count_ends (End w n reply at ∷ past) = count_ends past + 1
 count_ends (mark ∷ past) = count_ends past
+
+-- how many calls that ask for a page have begun
+abbrev pub count_page_calls : List Mark → ℕ
+count_page_calls [] = 0
+count_page_calls (Begin w n call ∷ past) = if is_page call then count_page_calls past + 1 else count_page_calls past
+count_page_calls (mark ∷ past) = count_page_calls past
+
+-- how many calls have ended with a reply that names a page
+abbrev pub count_page_ends : List Mark → ℕ
+count_page_ends [] = 0
+count_page_ends (End w n reply at ∷ past) = if names_page reply then count_page_ends past + 1 else count_page_ends past
+count_page_ends (mark ∷ past) = count_page_ends past
 
 -- there is room for a mark: for any but a Begin or an End that is all it needs
 abbrev pub HasTable : Log → Mark → Type 0
