@@ -1,12 +1,13 @@
 -- Marks added to marks that were added.
-use Rattle.std.proofs.Common.{◌≡◌, ◌≢◌, ◌≤◌, ◌<◌, ℕ, Bool, true, false, List, [], ◌∷◌, ◌++◌, length, refl, sym, ap, ◌∙◌, arith, Option, Some, None, append_assoc, ◌==◌}
-use Rattle.std.specs.Prelude.{filter, option_map, if◌then◌else◌}
+use Rattle.std.proofs.Common.{◌≡◌, ◌≢◌, ◌≤◌, ℕ, Bool, true, false, List, [], ◌∷◌, ◌++◌, length, refl, sym, ap, ◌∙◌, arith, Option, Some, None, append_assoc, ◌==◌}
+use Rattle.std.specs.Prelude.{option_map, if◌then◌else◌}
 use Rattle.std.proofs.lemmas.Bool.Decides.{nat_tests}
 use Rattle.std.proofs.lemmas.List.{append-nil}
 use Rattle.bz_call.specs.declared.calls.Call.{Call}
 use Rattle.bz_mark.specs.declared.marks.Mark.{Mark}
-use Rattle.bz_mark.specs.declared.marks.Mark.TheVariants.{Begin, End, Load, Store, Cas, Flush, Evict, Cut, On, Ready, Effect}
+use Rattle.bz_mark.specs.declared.marks.Mark.TheVariants.{Begin, End, Cut, Effect}
 use Rattle.bz_sound.specs.Calls.{Open, open_call, with_effect}
+use Rattle.bz_sound.specs.Replies.{Pages}
 use Rattle.bz_world.specs.Lab.{Lab}
 use Rattle.bz_sched.specs.Queued.{calls_of}
 use Rattle.bz_sched.specs.QueueLaws.{calls_of-append}
@@ -22,19 +23,28 @@ pub AreOf-append : (w : ℕ) (xs ys : List Mark) → AreOf w xs → AreOf w ys �
 AreOf-append w [] ys h k = k
 AreOf-append w (mark ∷ xs) ys h k = (h.0, AreOf-append w xs ys h.1 k)
 
-pub grown-nil : (old : Lab) → old ≡ grown old []
-grown-nil old = refl
+-- the world with other marks and pages
+abbrev pub with_both : Lab → List Mark → Pages → Lab
+with_both old past pages = record { config = old.config; log = record { start = old.log.start; past = past; pages = pages; limits = old.log.limits } }
 
-pub grown-grown : (old : Lab) (xs ys : List Mark) → grown (grown old ys) xs ≡ grown old (xs ++ ys)
-grown-grown old xs ys = ap (λ (past : List Mark). record { config = old.config; log = record { start = old.log.start; past = past; pages = old.log.pages; limits = old.log.limits } }) (sym (append_assoc xs ys old.log.past))
+-- no page more
+pub same_pages : (old : Lab) (past : List Mark) → with_both old past old.log.pages ≡ with_both old past (old.log.pages ++ [])
+same_pages old past = ap (with_both old past) (sym (append-nil old.log.pages))
+
+pub grown-nil : (old : Lab) → old ≡ grown old [] []
+grown-nil old = same_pages old old.log.past
+
+pub grown-grown : (old : Lab) (xs ys : List Mark) (ps qs : Pages) → grown (grown old ys qs) xs ps ≡ grown old (xs ++ ys) (qs ++ ps)
+grown-grown old xs ys ps qs = ap (λ (past : List Mark). with_both old past ((old.log.pages ++ qs) ++ ps)) (sym (append_assoc xs ys old.log.past)) ∙ ap (with_both old ((xs ++ ys) ++ old.log.past)) (append_assoc old.log.pages qs ps)
 
 pub extends_none : (old : Lab) (w : ℕ) → Extends old w [] old
-extends_none old w = record { added = []; is = refl; own = tt; begins = refl }
+extends_none old w = record { added = []; pages = []; is = grown-nil old; own = tt; begins = refl }
 
 pub extends_both : (a b c : Lab) (w : ℕ) (xs ys : List (ℕ × Call)) → Extends a w xs b → Extends b w ys c → Extends a w (xs ++ ys) c
 extends_both a b c w xs ys h k = record {
   added = k.added ++ h.added;
-  is = k.is ∙ ap (λ (lab : Lab). grown lab k.added) h.is ∙ grown-grown a k.added h.added;
+  pages = h.pages ++ k.pages;
+  is = k.is ∙ ap (λ (lab : Lab). grown lab k.added k.pages) h.is ∙ grown-grown a k.added h.added k.pages h.pages;
   own = AreOf-append w k.added h.added k.own h.own;
   begins = calls_begun-append k.added h.added ∙ ap (λ (calls : List (ℕ × Call)). calls ++ calls_begun k.added) h.begins ∙ ap (λ (calls : List (ℕ × Call)). xs ++ calls) k.begins;
 }

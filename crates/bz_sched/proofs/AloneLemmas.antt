@@ -1,21 +1,23 @@
 -- Worker after worker.
-use Rattle.std.proofs.Common.{◌≡◌, ◌≢◌, ◌≤◌, ◌<◌, ◌⊎◌, inl, inr, ℕ, ◌+◌, List, [], ◌∷◌, ◌++◌, length, refl, sym, ap, ◌∙◌, arith, Option, Some, None, append_assoc}
+use Rattle.std.proofs.Common.{◌≡◌, ◌≢◌, ◌≤◌, ◌<◌, ◌⊎◌, inl, inr, ℕ, ◌+◌, List, [], ◌++◌, refl, sym, ap, ◌∙◌, arith, None}
 use Rattle.std.proofs.lemmas.Bool.Decides.{nat_tests}
 use Rattle.std.proofs.lemmas.List.{append-nil}
 use Rattle.bz_call.specs.declared.calls.Call.{Call}
 use Rattle.bz_mark.specs.declared.marks.Mark.{Mark}
 use Rattle.bz_sound.specs.Calls.{open_call}
-use Rattle.bz_world.specs.Lab.{Lab, IsWorker}
+use Rattle.bz_sound.specs.Replies.{Pages}
+use Rattle.bz_world.specs.Lab.{Lab}
 use Rattle.bz_world.specs.declared.answers.Which.{Which}
 use Rattle.bz_sched.specs.Queued.{Queued, calls_of, waiting}
-use Rattle.bz_sched.specs.Added.{calls_begun, AreUpTo, AreOf, Ascends, IsMet, grown}
-use Rattle.bz_sched.specs.Runs.{Extends, MeetsLimit, Makes, Emptied, IsReady, RunsAlone, RunsInPart}
-use Rattle.bz_sched.proofs.AddedLemmas.{grown-grown, none_stays, up_to_more, up_to_own, ascends_own, begun_own, begun_other}
+use Rattle.bz_sched.specs.Added.{calls_begun, AreUpTo, AreOf, Ascends, grown}
+use Rattle.bz_sched.specs.Runs.{MeetsLimit, Makes, Emptied, IsReady, RunsAlone, RunsInPart}
+use Rattle.bz_sched.proofs.AddedLemmas.{grown-nil, grown-grown, none_stays, up_to_more, up_to_own, ascends_own, begun_own, begun_other}
 
 -- the workers below this one are done
 pub record Running (old : Lab) (queued : Queued) (w : ℕ) (new : Lab) (left : Queued) : Type 0 where
   pub added : List Mark
-  pub is : new ≡ grown old added
+  pub pages : Pages
+  pub is : new ≡ grown old added pages
   pub up_to : (v : ℕ) → w ≤ v + 1 → AreUpTo v added
   pub ascends : Ascends added
   pub begins : (v : ℕ) → v < w → calls_of v (calls_begun added) ≡ waiting queued v
@@ -31,7 +33,8 @@ either v w = grind (arith, nat_tests)
 pub running_none : (old : Lab) (queued : Queued) → IsReady old queued → Running old queued 1 old queued
 running_none old queued r = record {
   added = [];
-  is = refl;
+  pages = [];
+  is = grown-nil old;
   up_to = λ v h. tt;
   ascends = tt;
   begins = λ v h. let zero_is : v ≡ 0 = omega arith in rw zero_is (sym (r.workers 0 (omega arith) (λ worker. absurd (omega (arith, worker.some)))));
@@ -42,11 +45,11 @@ running_none old queued r = record {
   most = refl;
 }
 
-none_here : (w v : ℕ) (mid new : Lab) (more : List Mark) → new ≡ grown mid more → AreOf w more → v ≢ w → open_call v mid.log.past ≡ None → open_call v new.log.past ≡ None
-none_here w v mid new more is own ne none = rw is (none_stays w v more mid.log.past ne own none)
+none_here : (w v : ℕ) (mid new : Lab) (more : List Mark) (pages : Pages) → new ≡ grown mid more pages → AreOf w more → v ≢ w → open_call v mid.log.past ≡ None → open_call v new.log.past ≡ None
+none_here w v mid new more pages is own ne none = rw is (none_stays w v more mid.log.past ne own none)
 
-grown_again : (old mid new : Lab) (added more : List Mark) → mid ≡ grown old added → new ≡ grown mid more → new ≡ grown old (more ++ added)
-grown_again old mid new added more is again = again ∙ ap (λ (lab : Lab). grown lab more) is ∙ grown-grown old more added
+grown_again : (old mid new : Lab) (added more : List Mark) (pages others : Pages) → mid ≡ grown old added pages → new ≡ grown mid more others → new ≡ grown old (more ++ added) (pages ++ others)
+grown_again old mid new added more pages others is again = again ∙ ap (λ (lab : Lab). grown lab more others) is ∙ grown-grown old more added others pages
 
 pub running_more : (old : Lab) (queued : Queued) (w : ℕ) (mid new : Lab) (between left : Queued) → Running old queued w mid between
     → Makes mid w (waiting between w) new → Emptied between w left → Running old queued (w + 1) new left
@@ -56,7 +59,8 @@ running_more old queued w mid new between left r made emptied =
     let up = r.up_to w (omega arith) in
     record {
       added = more ++ r.added;
-      is = grown_again old mid new r.added more r.is made.extends.is;
+      pages = r.pages ++ made.extends.pages;
+      is = grown_again old mid new r.added more r.pages made.extends.pages r.is made.extends.is;
       up_to = λ v h. up_to_more v w (more ++ r.added) (omega arith) (up_to_own w more r.added own up);
       ascends = ascends_own w more r.added own up r.ascends;
       begins = λ v h. elim (either v w) [
@@ -66,7 +70,7 @@ running_more old queued w mid new between left r made emptied =
       later = λ v h. begun_other v w r.added more (omega arith) own ∙ r.later v (omega arith);
       none_open = λ v. elim (either v w) [
         | inl e ↦ rw e made.none_open
-        | inr ne ↦ none_here w v mid new more made.extends.is own ne (r.none_open v)
+        | inr ne ↦ none_here w v mid new more made.extends.pages made.extends.is own ne (r.none_open v)
       ];
       wait = λ v h. emptied.others v (omega arith) ∙ r.wait v (omega arith);
       calls = emptied.calls ∙ r.calls;
@@ -86,7 +90,8 @@ running_met old queued w mid new between why small r met =
     let split : waiting queued w ≡ calls_of w (calls_begun (more ++ r.added)) ++ met.rest = sym (r.wait w (omega arith)) ∙ met.split ∙ ap (λ (xs : List (ℕ × Call)). xs ++ met.rest) (sym here) in
     record {
       added = more ++ r.added;
-      is = grown_again old mid new r.added more r.is met.extends.is;
+      pages = r.pages ++ met.extends.pages;
+      is = grown_again old mid new r.added more r.pages met.extends.pages r.is met.extends.is;
       up_to = up_to_more 64 w (more ++ r.added) (omega arith) (up_to_own w more r.added own up);
       ascends = ascends_own w more r.added own up r.ascends;
       begins = λ v h. elim (order v w) [
@@ -100,6 +105,7 @@ running_met old queued w mid new between why small r met =
 pub running_done : (old : Lab) (queued : Queued) (w : ℕ) (new : Lab) (left : Queued) → w ≡ old.config.workers + 1 → w < 66 → IsReady old queued → Running old queued w new left → RunsAlone old queued new
 running_done old queued w new left last small ready r = record {
   added = r.added;
+  pages = r.pages;
   is = r.is;
   up_to = r.up_to 64 (omega arith);
   ascends = r.ascends;

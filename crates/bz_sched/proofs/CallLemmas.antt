@@ -1,27 +1,24 @@
 -- One call, from its begin to its end.
-use Rattle.std.proofs.Common.{◌≡◌, ◌≢◌, ◌≤◌, ◌<◌, ◌⊎◌, inl, inr, ℕ, ◌-◌, ◌+◌, Bool, true, false, List, [], ◌∷◌, ◌++◌, length, refl, sym, ap, ◌∙◌, arith, Option, Some, None, ◌==◌, nat_lt}
-use Rattle.std.specs.Prelude.{nat_le, is_some, is_none, if◌then◌else◌, ◌||◌, MatchOption}
+use Rattle.std.proofs.Common.{◌≡◌, ◌⊎◌, inl, inr, ℕ, Bool, true, false, List, [], ◌∷◌, ◌++◌, refl, ap, ◌∙◌, arith, Option, Some, None, ◌==◌, nat_lt}
+use Rattle.std.specs.Prelude.{is_none, if◌then◌else◌, MatchOption}
 use Rattle.std.proofs.lemmas.Bool.Decides.{nat_tests}
 use Rattle.bz_call.specs.declared.calls.Call.{Call}
 use Rattle.bz_call.specs.declared.replies.Reply.{Reply}
-use Rattle.bz_mark.specs.Log.{Log, with_mark, count_begins}
+use Rattle.bz_mark.specs.Log.{with_mark}
 use Rattle.bz_mark.specs.declared.marks.Mark.{Mark}
 use Rattle.bz_mark.specs.declared.marks.Mark.TheVariants.{Begin, End, Effect}
-use Rattle.bz_sound.specs.Calls.{Open, open_call, begun_calls}
-use Rattle.bz_world.specs.Lab.{Lab, IsWorker, is_short, begin_answer, after_begin, step_refusal, StepMarks, Steps, IsApplied, with_log}
-use Rattle.bz_world.specs.declared.answers.Begun.{Begun as BeginAnswer}
-use Rattle.bz_world.specs.declared.answers.Begun.TheVariants.{Begun, NoWorker, Busy, Limit}
+use Rattle.bz_sound.specs.Calls.{open_call}
+use Rattle.bz_sound.specs.Replies.{Pages}
+use Rattle.bz_world.specs.Lab.{Lab, IsWorker, is_short, step_refusal, Steps, IsApplied, with_log}
 use Rattle.bz_world.specs.declared.answers.Applied.{Applied}
 use Rattle.bz_world.specs.declared.answers.Applied.TheVariants as applied
-use Rattle.bz_world.specs.declared.answers.Which.{Which}
 use Rattle.bz_world.specs.declared.answers.Which.TheVariants as which
-use Rattle.bz_sched.specs.Added.{calls_begun, AreOf, grown, IsMet}
 use Rattle.bz_sched.specs.Runs.{Extends, MeetsLimit, Makes}
-use Rattle.bz_sched.proofs.AddedLemmas.{extends_none}
+use Rattle.bz_sched.proofs.AddedLemmas.{with_both, same_pages}
 
 -- after a begin, and after its step
 one_begun : (lab : Lab) (w n : ℕ) (call : Call) → Extends lab w ((w, call) ∷ []) (with_log lab (with_mark lab.log (Begin w n call)))
-one_begun lab w n call = record { added = Begin w n call ∷ []; is = refl; own = (refl, tt); begins = refl }
+one_begun lab w n call = record { added = Begin w n call ∷ []; pages = []; is = same_pages lab (Begin w n call ∷ lab.log.past); own = (refl, tt); begins = refl }
 
 same_number : (w : ℕ) → (w == w) ≡ true
 same_number w = grind (arith, nat_tests)
@@ -70,22 +67,24 @@ ended_none : (w n at : ℕ) (reply : Reply) (past : List Mark) → open_call w (
 ended_none w n at reply past = rw (same_number w) refl
 
 -- the call has ended
-ends_by : (lab : Lab) (w n m at : ℕ) (call : Call) (reply : Reply) (past : List Mark) (new : Lab)
+ends_by : (lab : Lab) (w n m at : ℕ) (call : Call) (reply : Reply) (past : List Mark) (pages : Pages) (new : Lab)
     → (past ≡ End w m reply at ∷ Begin w n call ∷ lab.log.past) ⊎ (past ≡ End w m reply at ∷ Effect w m ∷ Begin w n call ∷ lab.log.past)
-    → new ≡ with_log lab (record { start = lab.log.start; past = past; pages = lab.log.pages; limits = lab.log.limits }) → Makes lab w ((w, call) ∷ []) new
-ends_by lab w n m at call reply past new (inl e) rest = record {
+    → new ≡ with_both lab past (lab.log.pages ++ pages) → Makes lab w ((w, call) ∷ []) new
+ends_by lab w n m at call reply past pages new (inl e) rest = record {
   extends = record {
     added = End w m reply at ∷ Begin w n call ∷ [];
-    is = rest ∙ ap (λ (marks : List Mark). with_log lab (record { start = lab.log.start; past = marks; pages = lab.log.pages; limits = lab.log.limits })) e;
+    pages = pages;
+    is = rest ∙ ap (λ (marks : List Mark). with_both lab marks (lab.log.pages ++ pages)) e;
     own = (refl, (refl, tt));
     begins = refl;
   };
   none_open = rw (rest, e) (ended_none w m at reply (Begin w n call ∷ lab.log.past));
 }
-ends_by lab w n m at call reply past new (inr e) rest = record {
+ends_by lab w n m at call reply past pages new (inr e) rest = record {
   extends = record {
     added = End w m reply at ∷ Effect w m ∷ Begin w n call ∷ [];
-    is = rest ∙ ap (λ (marks : List Mark). with_log lab (record { start = lab.log.start; past = marks; pages = lab.log.pages; limits = lab.log.limits })) e;
+    pages = pages;
+    is = rest ∙ ap (λ (marks : List Mark). with_both lab marks (lab.log.pages ++ pages)) e;
     own = (refl, (tt, (refl, tt)));
     begins = refl;
   };
@@ -93,7 +92,7 @@ ends_by lab w n m at call reply past new (inr e) rest = record {
 }
 
 ends : (lab : Lab) (w n m : ℕ) (call : Call) (new : Lab) → Steps (with_log lab (with_mark lab.log (Begin w n call))) w (applied.Ended m) new → Makes lab w ((w, call) ∷ []) new
-ends lab w n m call new steps = ends_by lab w n m steps.marks.1.0 call steps.marks.0 steps.past new steps.marks.1.1 steps.rest
+ends lab w n m call new steps = ends_by lab w n m steps.marks.1.0 call steps.marks.0 steps.past steps.added new steps.marks.1.1 steps.rest
 
 pub step_made : (lab : Lab) (w n m : ℕ) (call : Call) (new : Lab) → IsWorker lab.config w
     → IsApplied (with_log lab (with_mark lab.log (Begin w n call))) w (applied.Ended m) new → Makes lab w ((w, call) ∷ []) new

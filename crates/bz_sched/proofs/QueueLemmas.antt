@@ -1,13 +1,12 @@
 -- Calls of a worker from a place on.
-use Rattle.std.proofs.Common.{◌≡◌, ◌≢◌, ◌≤◌, ◌<◌, ℕ, zero, suc, ◌+◌, Bool, true, false, List, [], ◌∷◌, length, set, get_or, drop, replicate, refl, sym, ap, ◌∙◌, arith, Option, Some, None, slice_index, ◌==◌}
-use Rattle.std.specs.Prelude.{filter, slice_get}
+use Rattle.std.proofs.Common.{◌≡◌, ◌≢◌, ◌≤◌, ◌<◌, ℕ, zero, suc, ◌+◌, true, false, List, [], ◌∷◌, length, set, get_or, drop, replicate, refl, sym, ap, ◌∙◌, arith, Some, slice_index, ◌==◌}
 use Rattle.std.proofs.lemmas.Bool.Decides.{nat_tests}
 use Rattle.std.proofs.lemmas.Grind.{common_steps}
 use Rattle.std.proofs.lemmas.List.{length-replicate, get_or-replicate, drop_more}
 use Rattle.std.proofs.lemmas.Option.{slice_get-get_or}
 use Rattle.bz_call.specs.declared.calls.Call.{Call}
 use Rattle.bz_world.specs.Lab.{IsServed}
-use Rattle.bz_sched.specs.Queued.{Queued, calls_of, waiting, TakesFirst, IsFound, AreServed}
+use Rattle.bz_sched.specs.Queued.{calls_of, TakesFirst, IsFound, AreServed}
 use Rattle.bz_sched.specs.QueueKept.{IsKept}
 
 -- one call further on

@@ -1,5 +1,5 @@
 -- A worker's calls, one after the other.
-use Rattle.std.proofs.Common.{◌≡◌, ◌≢◌, ◌≤◌, ◌<◌, ℕ, List, [], ◌∷◌, ◌++◌, length, refl, sym, ap, ◌∙◌, arith, Option, Some, None, append_assoc}
+use Rattle.std.proofs.Common.{◌≡◌, ◌≢◌, ℕ, List, [], ◌∷◌, ◌++◌, refl, sym, ap, ◌∙◌, None, append_assoc}
 use Rattle.std.proofs.lemmas.List.{append-nil}
 use Rattle.bz_call.specs.declared.calls.Call.{Call}
 use Rattle.bz_sound.specs.Calls.{open_call}
@@ -7,7 +7,7 @@ use Rattle.bz_world.specs.Lab.{Lab}
 use Rattle.bz_world.specs.declared.answers.Which.{Which}
 use Rattle.bz_world.specs.declared.answers.Which.TheVariants as which
 use Rattle.bz_sched.specs.Queued.{Queued, waiting, TakesFirst}
-use Rattle.bz_sched.specs.Added.{IsMet, grown}
+use Rattle.bz_sched.specs.Added.{IsMet}
 use Rattle.bz_sched.specs.Runs.{Extends, MeetsLimit, Makes, Emptied}
 use Rattle.bz_sched.proofs.AddedLemmas.{extends_none, extends_both}
 
@@ -53,7 +53,8 @@ met_more : (lab : Lab) (rest more : List (ℕ × Call)) (why : Which) → IsMet 
 met_more lab rest more which.Marks h = h
 met_more lab [] more which.Calls (full, some) = absurd (some refl)
 met_more lab (call ∷ rest) more which.Calls (full, some) = (full, λ e. cc)
-met_more lab rest more which.Pages h = h
+met_more lab [] more which.Pages (full, some) = absurd some
+met_more lab (call ∷ rest) more which.Pages (full, some) = (full, some)
 
 pub making_met : (old : Lab) (queued : Queued) (w : ℕ) (call : Call) (mid new : Lab) (between left : Queued) (why : Which) → Making old queued w mid between → TakesFirst between w call left
     → MeetsLimit mid w ((w, call) ∷ []) why new → MeetsLimit old w (waiting queued w) why new

@@ -1,10 +1,11 @@
 -- The marks that a run adds to a journal. The newest mark stands first.
-use Rattle.std.specs.Prelude.{◌≡◌, ◌≢◌, ◌≤◌, ◌<◌, ◌⊎◌, ℕ, ◌-◌, List, [], ◌∷◌, ◌++◌, length, Option, Some, None}
+use Rattle.std.specs.Prelude.{◌≡◌, ◌≢◌, ◌≤◌, ◌<◌, ℕ, ◌-◌, true, List, [], ◌∷◌, ◌++◌, length, Option, Some, None}
 use Rattle.bz_call.specs.declared.calls.Call.{Call}
-use Rattle.bz_mark.specs.Log.{Log, count_begins}
+use Rattle.bz_call.specs.Pages.{is_page}
+use Rattle.bz_mark.specs.Log.{count_begins, count_page_calls}
 use Rattle.bz_mark.specs.declared.marks.Mark.{Mark}
-use Rattle.bz_mark.specs.declared.marks.Mark.TheVariants.{Begin, End, Load, Store, Cas, Flush, Evict, Cut, On, Ready, Effect}
-use Rattle.bz_sound.specs.Calls.{open_call}
+use Rattle.bz_mark.specs.declared.marks.Mark.TheVariants.{Begin, End, Load, Store, Cas, Flush}
+use Rattle.bz_sound.specs.Replies.{Pages}
 use Rattle.bz_world.specs.Lab.{Lab, with_log}
 use Rattle.bz_world.specs.declared.answers.Which.{Which}
 use Rattle.bz_world.specs.declared.answers.Which.TheVariants as which
@@ -44,9 +45,9 @@ abbrev pub Ascends : List Mark → Type 0
 Ascends [] = Unit {0}
 Ascends (mark ∷ past) = FollowsRise (doer mark) past × Ascends past
 
--- the journal has grown by these marks, and nothing else of the world has changed
-abbrev pub grown : Lab → List Mark → Lab
-grown old added = with_log old (record { start = old.log.start; past = added ++ old.log.past; pages = old.log.pages; limits = old.log.limits })
+-- the journal has grown by these marks and pages, and nothing else of the world has changed
+abbrev pub grown : Lab → List Mark → Pages → Lab
+grown old added pages = with_log old (record { start = old.log.start; past = added ++ old.log.past; pages = old.log.pages ++ pages; limits = old.log.limits })
 
 -- each mark is the doing of this worker, or of nobody
 abbrev pub IsOf : ℕ → Option ℕ → Type 0
@@ -57,15 +58,20 @@ abbrev pub AreOf : ℕ → List Mark → Type 0
 AreOf w [] = Unit {0}
 AreOf w (mark ∷ past) = IsOf w (doer mark) × AreOf w past
 
+-- the first of these calls asks for a page
+abbrev pub IsPageNext : List (ℕ × Call) → Type 0
+IsPageNext [] = ⊥
+IsPageNext (call ∷ calls) = is_page call.1 ≡ true
+
 -- the limit is met, and one more was needed: fewer than three places are left for a mark, or no further call
--- may begin and one waits
+-- may begin and one waits, or no further page call and one is the next that waits
 abbrev pub IsMet : Lab → List (ℕ × Call) → Which → Type 0
 IsMet lab rest which.Marks = lab.log.limits.marks - length lab.log.past < 3
 IsMet lab rest which.Calls = (lab.log.limits.calls ≤ count_begins lab.log.past) × (rest ≢ [])
-IsMet lab rest which.Pages = ⊥
+IsMet lab rest which.Pages = (lab.log.limits.pages ≤ count_page_calls lab.log.past) × IsPageNext rest
 
--- the limit is met: fewer than three places are left for marks, or as many calls have begun as may
+-- the limit is met: fewer than three places are left for marks, or as many calls, or page calls, have begun as may
 abbrev pub IsAtLimit : Lab → Which → Type 0
 IsAtLimit lab which.Marks = lab.log.limits.marks - length lab.log.past < 3
 IsAtLimit lab which.Calls = lab.log.limits.calls ≤ count_begins lab.log.past
-IsAtLimit lab which.Pages = ⊥
+IsAtLimit lab which.Pages = lab.log.limits.pages ≤ count_page_calls lab.log.past

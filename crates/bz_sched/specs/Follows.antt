@@ -9,7 +9,7 @@ use Rattle.bz_script.specs.declared.item.Plan.TheVariants.{Alone}
 use Rattle.bz_world.specs.declared.answers.Which.{Which}
 use Rattle.bz_world.specs.declared.answers.Which.TheVariants as which
 use Rattle.bz_sched.specs.Queued.{calls_of}
-use Rattle.bz_sched.specs.Added.{calls_begun, Ascends}
+use Rattle.bz_sched.specs.Added.{calls_begun, Ascends, IsPageNext}
 
 -- `run alone` adds marks. In them all queued calls begin, each worker's in the order in which they were
 -- queued; the workers come in ascending order; and at the end no call is open.
@@ -20,11 +20,12 @@ pub record IsRunAlone (past : List Mark) (queue : List (ℕ × Call)) (new : Lis
   pub ascends : Ascends added
   pub none_open : (w : ℕ) → open_call w new ≡ None
 
--- where the limit was one of calls, one more was to begin: a call of some worker is left
+-- where the limit was one of calls, one more was to begin: a call of some worker is left, and where it was
+-- one of page calls, that call asks for a page
 abbrev pub IsLeft : Which → List (ℕ × Call) → List Mark → Type 0
 IsLeft which.Calls queue added = (w : ℕ) × ((rest : List (ℕ × Call)) × (calls_of w queue ≡ calls_of w (calls_begun added) ++ rest) × (rest ≢ []))
 IsLeft which.Marks queue added = Unit {0}
-IsLeft which.Pages queue added = ⊥
+IsLeft which.Pages queue added = (w : ℕ) × ((rest : List (ℕ × Call)) × (calls_of w queue ≡ calls_of w (calls_begun added) ++ rest) × IsPageNext rest)
 
 -- the same until a limit was met: of each worker's queued calls the first ones begin
 pub record IsRunInPart (why : Which) (past : List Mark) (queue : List (ℕ × Call)) (new : List Mark) : Type 0 where

@@ -1,5 +1,5 @@
 -- The calls that wait for their workers.
-use Rattle.std.specs.Prelude.{◌≡◌, ◌≢◌, ◌<◌, ◌≤◌, ℕ, ◌+◌, ◌-◌, ◌==◌, slice_get, List, [], ◌∷◌, length, drop, filter, slice_index, Option, Some, None}
+use Rattle.std.specs.Prelude.{◌≡◌, ◌≢◌, ℕ, ◌+◌, ◌-◌, ◌==◌, slice_get, List, [], ◌∷◌, length, drop, filter, slice_index, Option, Some, None}
 use Rattle.bz_call.specs.declared.calls.Call.{Call}
 use Rattle.bz_world.specs.Lab.{IsServed}
 

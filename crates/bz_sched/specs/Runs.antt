@@ -1,8 +1,9 @@
 -- What runs do to a world and to the queue.
-use Rattle.std.specs.Prelude.{◌≡◌, ◌≢◌, ◌≤◌, ◌<◌, ◌⊎◌, ℕ, List, [], ◌∷◌, ◌++◌, Option, Some, None}
+use Rattle.std.specs.Prelude.{◌≡◌, ◌≢◌, ◌<◌, ℕ, List, [], ◌∷◌, ◌++◌, None}
 use Rattle.bz_call.specs.declared.calls.Call.{Call}
 use Rattle.bz_mark.specs.declared.marks.Mark.{Mark}
 use Rattle.bz_sound.specs.Calls.{open_call}
+use Rattle.bz_sound.specs.Replies.{Pages}
 use Rattle.bz_world.specs.Lab.{Lab, IsWorker}
 use Rattle.bz_layout.specs.Config.{IsConfig}
 use Rattle.bz_world.specs.declared.answers.Which.{Which}
@@ -14,7 +15,8 @@ use Rattle.bz_sched.specs.declared.running.RunEnd.TheVariants.{Finished, Limit}
 -- the journal has grown by marks of one worker, among which these calls begin
 pub record Extends (old : Lab) (w : ℕ) (begun : List (ℕ × Call)) (new : Lab) : Type 0 where
   pub added : List Mark
-  pub is : new ≡ grown old added
+  pub pages : Pages
+  pub is : new ≡ grown old added pages
   pub own : AreOf w added
   pub begins : calls_begun added ≡ begun
 
@@ -57,7 +59,8 @@ pub record IsReady (world : Lab) (queued : Queued) : Type 0 where
 -- in their order; the workers come in ascending order; and no call is open at the end
 pub record RunsAlone (old : Lab) (queued : Queued) (new : Lab) : Type 0 where
   pub added : List Mark
-  pub is : new ≡ grown old added
+  pub pages : Pages
+  pub is : new ≡ grown old added pages
   pub up_to : AreUpTo 64 added
   pub ascends : Ascends added
   pub begins : (w : ℕ) → w < 65 → calls_of w (calls_begun added) ≡ waiting queued w
@@ -66,7 +69,8 @@ pub record RunsAlone (old : Lab) (queued : Queued) (new : Lab) : Type 0 where
 -- the same run until a limit was met: of each worker's calls the first ones have begun
 pub record RunsInPart (old : Lab) (queued : Queued) (which : Which) (new : Lab) : Type 0 where
   pub added : List Mark
-  pub is : new ≡ grown old added
+  pub pages : Pages
+  pub is : new ≡ grown old added pages
   pub up_to : AreUpTo 64 added
   pub ascends : Ascends added
   pub begins : (w : ℕ) → w < 65 → (rest : List (ℕ × Call)) × (waiting queued w ≡ calls_of w (calls_begun added) ++ rest)

@@ -1,7 +1,8 @@
 -- The forms of a line, from its words, and the first rule that a line breaks by itself.
 use Rattle.std.specs.Prelude.{ℕ, ◌==◌, nat_lt, if◌then◌else◌, List, length, codes, Option, Some, None, Result, Ok, Err}
 use Rattle.bz_key.specs.Spelling.{key_of_word, payload_of_word}
-use Rattle.bz_call.specs.declared.calls.Call.TheVariants.{Insert, Get}
+use Rattle.bz_call.specs.declared.calls.Call.{Call}
+use Rattle.bz_call.specs.declared.calls.Call.TheVariants.{Insert, Get, Page}
 use Rattle.bz_script.specs.Number.{number_of, within}
 use Rattle.bz_script.specs.Words.{word, is_word}
 use Rattle.bz_script.specs.declared.fault.ScriptRule.{ScriptRule}
@@ -44,18 +45,31 @@ insert_of words =
     then insert_by (worker_of (word words 1)) (key_of_word (word words 3)) (payload_of_word (word words 4))
     else Err Words
 
--- the worker and the key of a get, looked at from left to right
-abbrev pub get_by : Option ℕ → Option (List ℕ) → Result Item ScriptRule
-get_by None key = Err Worker
-get_by (Some w) None = Err Key
-get_by (Some w) (Some key) = Ok (Queue w (Get key))
+-- the worker and the key of a call on one key, looked at from left to right
+abbrev pub keyed_by : Option ℕ → Option (List ℕ) → Result (ℕ × List ℕ) ScriptRule
+keyed_by None key = Err Worker
+keyed_by (Some w) None = Err Key
+keyed_by (Some w) (Some key) = Ok (w, key)
+
+-- a line of four words, the last of which is a key
+abbrev pub keyed_of : List (List ℕ) → Result (ℕ × List ℕ) ScriptRule
+keyed_of words =
+    if length words == 4
+    then keyed_by (worker_of (word words 1)) (key_of_word (word words 3))
+    else Err Words
+
+-- the call on one key, once the worker and the key were read
+abbrev pub queued : (List ℕ → Call) → Result (ℕ × List ℕ) ScriptRule → Result Item ScriptRule
+queued call (Err rule) = Err rule
+queued call (Ok keyed) = Ok (Queue keyed.0 (call keyed.1))
 
 -- `w N get K`
 abbrev pub get_of : List (List ℕ) → Result Item ScriptRule
-get_of words =
-    if length words == 4
-    then get_by (worker_of (word words 1)) (key_of_word (word words 3))
-    else Err Words
+get_of words = queued (λ key. Get key) (keyed_of words)
+
+-- `w N page K`
+abbrev pub page_of : List (List ℕ) → Result Item ScriptRule
+page_of words = queued (λ key. Page key) (keyed_of words)
 
 -- a line that begins with `w`, by its third word
 abbrev pub call_of : List (List ℕ) → Result Item ScriptRule
@@ -63,7 +77,8 @@ call_of words =
     if nat_lt (length words) 3 then Err Words
     else (if is_word words 2 (codes "insert") then insert_of words
     else (if is_word words 2 (codes "get") then get_of words
-    else Err Unknown))
+    else (if is_word words 2 (codes "page") then page_of words
+    else Err Unknown)))
 
 -- `run alone`
 abbrev pub alone_of : List (List ℕ) → Result Item ScriptRule

@@ -5,7 +5,7 @@ use Rattle.std.specs.Prelude.{if◌then◌else◌, nat_le, nat_lt, ◌&&◌, len
 use Rattle.std.proofs.lemmas.Bool.Decides.{nat_tests}
 use Rattle.bz_key.specs.Spelling.{key_of_word, payload_of_word}
 use Rattle.bz_call.specs.declared.calls.Call.{Call}
-use Rattle.bz_call.specs.declared.calls.Call.TheVariants.{Insert, Get}
+use Rattle.bz_call.specs.declared.calls.Call.TheVariants.{Insert, Get, Page}
 use Rattle.bz_script.specs.declared.item.Item.{Item}
 use Rattle.bz_script.specs.declared.item.Item.TheVariants.{Queue, Run}
 use Rattle.bz_script.specs.declared.item.Plan.TheVariants.{Alone}
@@ -16,13 +16,14 @@ use Rattle.bz_script.specs.declared.fault.ScriptRule.{ScriptRule}
 use Rattle.bz_script.specs.declared.fault.ScriptRule.TheVariants.{Unknown, Words, Number, NoMemoryLine}
 use Rattle.bz_script.specs.Number.{within, number_of}
 use Rattle.bz_script.specs.Words.{word, is_word, words_of, lines_of}
-use Rattle.bz_script.specs.Forms.{sizes_by, memory_of, worker_of, insert_by, insert_of, get_by, get_of, call_of, alone_of, run_of, sized, entered, line_of}
+use Rattle.bz_script.specs.Forms.{sizes_by, memory_of, worker_of, insert_by, insert_of, keyed_by, keyed_of, queued, get_of, page_of, call_of, alone_of, run_of, sized, entered, line_of}
 use Rattle.bz_script.specs.Script.{Job, Fault, same_as, first_of, in_order, item_of, then_items, items_of, then_job, script_of_lines, script_of}
 
 -- the calls that scripts of this stage have
 abbrev pub IsOffered : Call → Type 0
 IsOffered (Insert key payload) = Unit {0}
 IsOffered (Get key) = Unit {0}
+IsOffered (Page key) = Unit {0}
 IsOffered other = ⊥
 
 abbrev pub IsItem : Item → Type 0
@@ -62,13 +63,24 @@ insert_item (Some w) (Some key) (Some payload) item h is =
     let few = h w refl in
     rw (← same) (few.0, few.1, tt)
 
-get_item : (worker : Option ℕ) (key : Option (List ℕ)) (item : Item) → ((w : ℕ) → worker ≡ Some w → (1 ≤ w) × (w ≤ 64)) → get_by worker key ≡ Ok item → IsItem item
-get_item None key item h is = absurd cc
-get_item (Some w) None item h is = absurd cc
-get_item (Some w) (Some key) item h is =
-    let same : Queue w (Get key) ≡ item = cc in
+keyed_item : (call : List ℕ → Call) (worker : Option ℕ) (key : Option (List ℕ)) (item : Item) → ((some : List ℕ) → IsOffered (call some)) → ((w : ℕ) → worker ≡ Some w → (1 ≤ w) × (w ≤ 64))
+    → queued call (keyed_by worker key) ≡ Ok item → IsItem item
+keyed_item call None key item offered h is = absurd cc
+keyed_item call (Some w) None item offered h is = absurd cc
+keyed_item call (Some w) (Some key) item offered h is =
+    let same : Queue w (call key) ≡ item = cc in
     let few = h w refl in
-    rw (← same) (few.0, few.1, tt)
+    rw (← same) (few.0, few.1, offered key)
+
+keyed_words : (call : List ℕ → Call) (b : Bool) (found : Result (ℕ × List ℕ) ScriptRule) (item : Item) → (queued call found ≡ Ok item → IsItem item)
+    → queued call (if b then found else Err Words) ≡ Ok item → IsItem item
+keyed_words call true found item h is = h is
+keyed_words call false found item h is = absurd cc
+
+call_on_key : (call : List ℕ → Call) (words : List (List ℕ)) (item : Item) → ((some : List ℕ) → IsOffered (call some)) → queued call (keyed_of words) ≡ Ok item → IsItem item
+call_on_key call words item offered =
+    keyed_words call (length words == 4) (keyed_by (worker_of (word words 1)) (key_of_word (word words 3))) item
+    (keyed_item call (worker_of (word words 1)) (key_of_word (word words 3)) item offered (in_range 1 64 (number_of (word words 1))))
 
 no_item : (rule : ScriptRule) (item : Item) → ◌≡◌ {A = Result Item ScriptRule} (Err rule) (Ok item) → IsItem item
 no_item rule item is = absurd cc
@@ -78,9 +90,9 @@ call_item words item =
     either_way IsItem (nat_lt (length words) 3) (Err Words) _ item (no_item Words item)
     (either_way IsItem (is_word words 2 (codes "insert")) (insert_of words) _ item
     (either_way IsItem (length words == 5) _ (Err Words) item (insert_item (worker_of (word words 1)) (key_of_word (word words 3)) (payload_of_word (word words 4)) item (in_range 1 64 (number_of (word words 1)))) (no_item Words item))
-    (either_way IsItem (is_word words 2 (codes "get")) (get_of words) (Err Unknown) item
-    (either_way IsItem (length words == 4) _ (Err Words) item (get_item (worker_of (word words 1)) (key_of_word (word words 3)) item (in_range 1 64 (number_of (word words 1)))) (no_item Words item))
-    (no_item Unknown item)))
+    (either_way IsItem (is_word words 2 (codes "get")) (get_of words) _ item (call_on_key (λ key. Get key) words item (λ key. tt))
+    (either_way IsItem (is_word words 2 (codes "page")) (page_of words) (Err Unknown) item (call_on_key (λ key. Page key) words item (λ key. tt))
+    (no_item Unknown item))))
 
 alone_item : (words : List (List ℕ)) (item : Item) → alone_of words ≡ Ok item → IsItem item
 alone_item words item = either_way IsItem (length words == 2) (Ok (Run Alone)) (Err Words) item (λ is. let same : Run Alone ≡ item = cc in rw (← same) tt) (no_item Words item)

@@ -1,6 +1,6 @@
 //! The forms of a line.
 ghost use Rattle.std.specs.Prelude.{◌≡◌, ◌≤◌, IfSome};
-ghost use Rattle.bz_script.specs.Forms.{memory_of, worker_of, insert_of, get_of, call_of, alone_of, run_of, line_of};
+ghost use Rattle.bz_script.specs.Forms.{memory_of, worker_of, insert_of, keyed_of, get_of, page_of, call_of, alone_of, run_of, line_of};
 ghost use Rattle.bz_script.specs.Number.{number_of, within};
 ghost use Rattle.bz_script.specs.Words.{texts_of};
 
@@ -9,7 +9,7 @@ use crate::item::{Item, Plan};
 use crate::number::read_number;
 use crate::words::{is_word, word};
 use bz_call::Call;
-use bz_key::{read_key, read_payload};
+use bz_key::{Key, read_key, read_payload};
 
 const MOST_NODES: u64 = 16_384;
 
@@ -96,9 +96,9 @@ fn read_insert(words: &[&[u8]]) -> Result<Item, ScriptRule>
     Ok(Item::Queue(worker, Call::Insert(key, payload)))
 }
 
-// `w N get K`.
-fn read_get(words: &[&[u8]]) -> Result<Item, ScriptRule>
-    ensures { result ≡ get_of (texts_of words.now) }
+// The worker and the key of a line of four words.
+fn read_keyed(words: &[&[u8]]) -> Result<(u8, Key), ScriptRule>
+    ensures { result ≡ keyed_of (texts_of words.now) }
 {
     if words.len() != 4 {
         return Err(ScriptRule::Words);
@@ -109,7 +109,23 @@ fn read_get(words: &[&[u8]]) -> Result<Item, ScriptRule>
     let Some(key) = read_key(word(words, 3)) else {
         return Err(ScriptRule::Key);
     };
+    Ok((worker, key))
+}
+
+// `w N get K`.
+fn read_get(words: &[&[u8]]) -> Result<Item, ScriptRule>
+    ensures { result ≡ get_of (texts_of words.now) }
+{
+    let (worker, key) = read_keyed(words)?;
     Ok(Item::Queue(worker, Call::Get(key)))
+}
+
+// `w N page K`.
+fn read_page(words: &[&[u8]]) -> Result<Item, ScriptRule>
+    ensures { result ≡ page_of (texts_of words.now) }
+{
+    let (worker, key) = read_keyed(words)?;
+    Ok(Item::Queue(worker, Call::Page(key)))
 }
 
 // A line that begins with `w`.
@@ -124,6 +140,9 @@ fn read_call(words: &[&[u8]]) -> Result<Item, ScriptRule>
     }
     if is_word(words, 2, b"get") {
         return read_get(words);
+    }
+    if is_word(words, 2, b"page") {
+        return read_page(words);
     }
     Err(ScriptRule::Unknown)
 }

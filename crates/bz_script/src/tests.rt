@@ -76,7 +76,7 @@ fn answers_the_first_broken_rule(rt: HostRuntime) -> Result<(), Fail> {
         ("memory 1 1\nw 0 delete a\n", "line 2: unknown word"),
         ("memory 1 1\nw 0 update a b\n", "line 2: unknown word"),
         ("memory 1 1\nw 0 upsert a b\n", "line 2: unknown word"),
-        ("memory 1 1\nw 0 page a\n", "line 2: unknown word"),
+        ("memory 1 1\nw 0 Page a\n", "line 2: unknown word"),
         ("memory 1 1\nw  1 get a\n", "line 2: unknown word"),
         ("memory 1 1\nrun list 1\n", "line 2: unknown word"),
         ("memory 1 1\nrun turns 1\n", "line 2: unknown word"),
@@ -141,6 +141,24 @@ fn answers_the_first_broken_rule(rt: HostRuntime) -> Result<(), Fail> {
 }
 
 #[test]
+fn answers_the_first_broken_rule_of_a_page(rt: HostRuntime) -> Result<(), Fail> {
+    let cases = [
+        ("memory 1 1\nw 0 page\n", "line 2: wrong number of words"),
+        (
+            "memory 1 1\nw 0 page a b\n",
+            "line 2: wrong number of words",
+        ),
+        ("memory 1 1\nw 0 page !\n", "line 2: bad worker"),
+        ("memory 1 1\nw 1 page !\n", "line 2: bad key"),
+        ("memory 1 1\nw 1 page \n", "line 2: bad key"),
+    ];
+    for (text, want) in cases {
+        expect_reading(&rt, rt.alloc(), text.as_bytes(), None, want)?;
+    }
+    Ok(())
+}
+
+#[test]
 fn reads_any_bytes(rt: HostRuntime) -> Result<(), Fail> {
     let alloc = rt.alloc();
     expect_reading(&rt, alloc, b"\0", None, "line 1: line feed expected")?;
@@ -196,6 +214,7 @@ fn reads_scripts(rt: HostRuntime) -> Result<(), Fail> {
             "1 1 1",
         ),
         ("memory 1 1\nw 1 get %00%20%25\n", "1 1 1"),
+        ("memory 1 1\nw 1 page %3D\nrun alone\n", "1 1 2"),
     ];
     for (text, want) in cases {
         expect_reading(&rt, rt.alloc(), text.as_bytes(), None, want)?;
@@ -205,11 +224,12 @@ fn reads_scripts(rt: HostRuntime) -> Result<(), Fail> {
 
 #[test]
 fn gives_the_items_in_their_order(rt: HostRuntime) -> Result<(), Fail> {
-    let text = b"memory 64 16\nw 1 insert a 1\nw 64 insert %00b %\nw 1 get a\nrun alone\n";
+    let text =
+        b"memory 64 16\nw 1 insert a 1\nw 64 insert %00b %\nw 1 get a\nw 9 page a\nrun alone\n";
     let script = read_script(rt.alloc(), text, None)?;
     assert_eq!(rt; (script.nodes, script.swaps), (64, 16));
     let items = script.items.items();
-    assert_eq!(rt; items.len(), 4);
+    assert_eq!(rt; items.len(), 5);
     assert!(rt;
         matches!(items[0], Item::Queue(1, Call::Insert(key, payload)) if key == Key::of(b"a")? && payload == Payload::of(b"1")?)
     );
@@ -217,7 +237,8 @@ fn gives_the_items_in_their_order(rt: HostRuntime) -> Result<(), Fail> {
         matches!(items[1], Item::Queue(64, Call::Insert(key, payload)) if key == Key::of(b"\0b")? && payload == Payload::of(b"")?)
     );
     assert!(rt; matches!(items[2], Item::Queue(1, Call::Get(key)) if key == Key::of(b"a")?));
-    assert!(rt; matches!(items[3], Item::Run(Plan::Alone)));
+    assert!(rt; matches!(items[3], Item::Queue(9, Call::Page(key)) if key == Key::of(b"a")?));
+    assert!(rt; matches!(items[4], Item::Run(Plan::Alone)));
     Ok(())
 }
 

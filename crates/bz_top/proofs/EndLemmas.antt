@@ -1,7 +1,6 @@
 -- How the endings of the parts are those of the program.
-use Rattle.std.proofs.Common.{◌≡◌, ◌⊎◌, inl, inr, ℕ, List, ◌++◌, refl, sym, ap, ◌∙◌, true, false, arith}
+use Rattle.std.proofs.Common.{◌≡◌, inl, inr, ℕ, List, ◌++◌, refl, true, false, arith}
 use Rattle.std.specs.Prelude.{Option, Some, None, codes}
-use Rattle.std.specs.Io.KnownBytes.{Appends}
 use Rattle.bz_io.specs.Faults.{Rose}
 use Rattle.bz_io.specs.Transfers.{IsReadWhole, GaveCount, GrewByFront}
 use Rattle.bz_world.specs.Lab.{Lab}

@@ -1,19 +1,19 @@
 -- A journal that has followed some items of a script, and one item more.
-use Rattle.std.proofs.Common.{◌≡◌, ◌≢◌, ◌≤◌, ◌<◌, ◌⊎◌, inl, inr, ℕ, zero, suc, ◌+◌, ◌-◌, Bool, true, false, List, [], ◌∷◌, ◌++◌, length, get_or, drop, refl, sym, ap, subst, ◌∙◌, arith, Option, Some, None, ◌==◌}
+use Rattle.std.proofs.Common.{◌≡◌, ◌≤◌, ◌<◌, ◌⊎◌, inl, inr, ℕ, zero, suc, ◌+◌, Bool, true, false, List, [], ◌∷◌, ◌++◌, length, get_or, drop, refl, sym, ap, subst, ◌∙◌, arith, None, ◌==◌}
 use Rattle.std.proofs.lemmas.Bool.Decides.{nat_tests}
 use Rattle.std.proofs.lemmas.Grind.{common_steps}
 use Rattle.std.proofs.lemmas.List.{drop_more, append-nil}
 use Rattle.bz_layout.specs.Config.{IsConfig}
-use Rattle.bz_layout.specs.declared.config.Config.{Config}
 use Rattle.bz_call.specs.declared.calls.Call.{Call}
 use Rattle.bz_mark.specs.declared.marks.Mark.{Mark}
-use Rattle.bz_mark.specs.declared.marks.Mark.TheVariants.{Begin, End, Load, Store, Cas, Flush, Evict, Cut, On, Ready, Effect}
+use Rattle.bz_mark.specs.declared.marks.Mark.TheVariants.{Begin}
 use Rattle.bz_sound.specs.Calls.{open_call}
+use Rattle.bz_sound.specs.Replies.{Pages}
 use Rattle.bz_script.specs.declared.item.Item.{Item}
 use Rattle.bz_script.specs.declared.item.Item.TheVariants.{Queue, Run}
 use Rattle.bz_script.specs.declared.item.Plan.{Plan}
 use Rattle.bz_script.specs.declared.item.Plan.TheVariants.{Alone}
-use Rattle.bz_world.specs.Lab.{Lab, IsServed, IsWorker}
+use Rattle.bz_world.specs.Lab.{Lab, IsServed}
 use Rattle.bz_world.specs.declared.answers.Which.{Which}
 use Rattle.bz_world.specs.declared.answers.Which.TheVariants as which
 use Rattle.bz_sched.specs.Queued.{Queued, calls_of, waiting, room, AreServed}
@@ -79,7 +79,7 @@ offered_served (Get key) h = tt
 offered_served (Delete key) h = absurd h
 offered_served (Update key payload) h = absurd h
 offered_served (Upsert key payload) h = absurd h
-offered_served (Page key) h = absurd h
+offered_served (Page key) h = tt
 
 -- nothing is done yet
 pub staged_none : (items : List Item) (old : Lab) (queued : Queued) → old.log.past ≡ [] → ((w : ℕ) → w < 65 → waiting queued w ≡ []) → queued.calls ≡ [] → room queued ≡ length items → queued.most ≡ length items
@@ -125,8 +125,8 @@ staged_ready items i old world queued s config workers = record {
   workers = λ w h strange. s.wait w h ∙ no_stranger w s.queue (λ some few. strange (rw s.config (record { some = some; in_range = omega (arith, workers) }))) s.workers;
 }
 
-past_grown : (old new : Lab) (added : List Mark) → new ≡ grown old added → new.log.past ≡ added ++ old.log.past
-past_grown old new added is = ap (λ (lab : Lab). lab.log.past) is
+past_grown : (old new : Lab) (added : List Mark) (pages : Pages) → new ≡ grown old added pages → new.log.past ≡ added ++ old.log.past
+past_grown old new added pages is = ap (λ (lab : Lab). lab.log.past) is
 
 below : (w : ℕ) → (w < 65) ⊎ (64 < w)
 below w = grind (arith, nat_tests)
@@ -134,7 +134,7 @@ below w = grind (arith, nat_tests)
 alone : (world new : Lab) (queued : Queued) (queue : List (ℕ × Call)) → ((w : ℕ) → w < 65 → waiting queued w ≡ calls_of w queue) → AreOfWorkers queue → RunsAlone world queued new → IsRunAlone world.log.past queue new.log.past
 alone world new queued queue wait workers r = record {
   added = r.added;
-  is = past_grown world new r.added r.is;
+  is = past_grown world new r.added r.pages r.is;
   begins = λ w. elim (below w) [
     | inl lt ↦ r.begins w lt ∙ wait w lt
     | inr gt ↦ none_begun w r.added gt r.up_to ∙ sym (no_stranger w queue (λ some few. absurd (omega arith)) workers)
@@ -146,13 +146,13 @@ alone world new queued queue wait workers r = record {
 left_over : (new : Lab) (queue : List (ℕ × Call)) (added : List Mark) (w : ℕ) (rest : List (ℕ × Call)) (why : Which) → calls_of w queue ≡ calls_of w (calls_begun added) ++ rest → IsMet new rest why → IsLeft why queue added
 left_over new queue added w rest which.Marks is met = tt
 left_over new queue added w rest which.Calls is met = (w, (rest, is, met.1))
-left_over new queue added w rest which.Pages is met = met
+left_over new queue added w rest which.Pages is met = (w, (rest, is, met.1))
 
 in_part : (world new : Lab) (queued : Queued) (queue : List (ℕ × Call)) (why : Which) → ((w : ℕ) → w < 65 → waiting queued w ≡ calls_of w queue) → AreOfWorkers queue → RunsInPart world queued why new
     → IsRunInPart why world.log.past queue new.log.past
 in_part world new queued queue why wait workers r = record {
   added = r.added;
-  is = past_grown world new r.added r.is;
+  is = past_grown world new r.added r.pages r.is;
   begins = λ w. elim (below w) [
     | inl lt ↦ ((r.begins w lt).0, sym (wait w lt) ∙ (r.begins w lt).1)
     | inr gt ↦ ([], no_stranger w queue (λ some few. absurd (omega arith)) workers ∙ sym (none_begun w r.added gt r.up_to) ∙ sym (append-nil (calls_of w (calls_begun r.added))))
@@ -164,7 +164,7 @@ in_part world new queued queue why wait workers r = record {
 at_limit : (lab : Lab) (rest : List (ℕ × Call)) (why : Which) → IsMet lab rest why → IsAtLimit lab why
 at_limit lab rest which.Marks h = h
 at_limit lab rest which.Calls h = h.0
-at_limit lab rest which.Pages h = h
+at_limit lab rest which.Pages h = h.0
 
 -- a run is done
 pub staged_run : (items : List Item) (i : ℕ) (old world new : Lab) (queued left : Queued) → Staged items i old world queued → i < length items → Run Alone ≡ get_or items i (Run Alone)

@@ -42,6 +42,13 @@ const MIXED: &str =
 const MIXED_REPORT: &str =
     "w1.1 insert a 1 = inserted\nw1.2 get b = missing\nw2.1 get c = missing\nw3.1 insert c 3 = inserted\nw3.2 get a = value 1\nw2.2 get c = value 3\n";
 
+// Escaped keys and payloads, inserted in no order, and pages of two workers before and after them.
+const PAGES: &str =
+    "memory 16 64\nw 1 page %00\nw 2 insert b 2\nw 2 insert a%20b %\nw 2 insert %00 %3D\nw 2 insert a 1\nw 3 page %00\nw 3 page a0\nrun alone\n";
+
+const PAGES_REPORT: &str =
+    "w1.1 page %00 = page end\nw2.1 insert b 2 = inserted\nw2.2 insert a%20b % = inserted\nw2.3 insert %00 %3D = inserted\nw2.4 insert a 1 = inserted\nw3.1 page %00 = page %00=%3D a=1 a%20b=% b=2 end\nw3.2 page a0 = page b=2 end\n";
+
 #[test]
 fn a_script_prints_its_report(rt: HostRuntime) -> Result<(), Fail> {
     for (input, output) in [
@@ -65,6 +72,15 @@ fn a_script_prints_its_report(rt: HostRuntime) -> Result<(), Fail> {
         ),
         (MIXED, MIXED_REPORT),
         ("memory 16 64\nw 1 get a\n", ""),
+        (
+            "memory 16 64\nw 1 page a\nrun alone\n",
+            "w1.1 page a = page end\n",
+        ),
+        (
+            "memory 16 64\nw 1 insert b 1\nw 1 page a\nw 1 page b\nw 1 page b0\nrun alone\n",
+            "w1.1 insert b 1 = inserted\nw1.2 page a = page b=1 end\nw1.3 page b = page b=1 end\nw1.4 page b0 = page end\n",
+        ),
+        (PAGES, PAGES_REPORT),
     ] {
         expect_run(&rt, rt.alloc(), &["run"], input.as_bytes(), output, 0)?;
     }
@@ -144,28 +160,89 @@ fn a_script_of_a_mebibyte_is_read_and_no_longer_one(rt: HostRuntime) -> Result<(
     expect_long(&rt, alloc, 1_048_577, "fault: script too long\n")
 }
 
-// A script that queues this many calls for one worker and lets it run.
-fn script_of_gets(alloc: Global, calls: u32) -> Result<Vec<u8>, Fail> {
+// A script that queues this call so many times for one worker and lets it run.
+fn script_of(alloc: Global, line: &str, calls: u32) -> Result<Vec<u8>, Fail> {
     let mut input: Vec<u8> = Vec::new(alloc);
     input.extend_from_slice(b"memory 16 64\n")?;
     for _ in 0..calls {
-        input.extend_from_slice(b"w 1 get a\n")?;
+        input.extend_from_slice(line.as_bytes())?;
     }
     input.extend_from_slice(b"run alone\n")?;
     Ok(input)
 }
 
+// So many calls of a kind meet a limit, with a report of this many bytes and this end.
+fn expect_limit<R: Threads + Wait + Abort + Sync>(
+    rt: &R,
+    alloc: Global,
+    line: &str,
+    calls: u32,
+    bytes: usize,
+    end: &str,
+) -> Result<(), Fail> {
+    let input = script_of(alloc, line, calls)?;
+    let mut source = MemSource::of(alloc, &input)?;
+    let mut sink = MemSink::open(alloc, 2_000_000)?;
+    let got = status(rt, alloc, &["run"], &mut source, &mut sink);
+    assert_eq!(rt; got, 5);
+    assert_eq!(rt; sink.bytes().len(), bytes);
+    assert!(rt; sink.bytes().ends_with(end.as_bytes()));
+    Ok(())
+}
+
 #[test]
 fn more_calls_than_may_begin_meet_the_limit(rt: HostRuntime) -> Result<(), Fail> {
-    let input = script_of_gets(rt.alloc(), 65_537)?;
-    let mut source = MemSource::of(rt.alloc(), &input)?;
-    let mut sink = MemSink::open(rt.alloc(), 2_000_000)?;
-    let got = status(&rt, rt.alloc(), &["run"], &mut source, &mut sink);
-    assert_eq!(rt; got, 5);
-    assert_eq!(rt; sink.bytes().len(), 1_627_313);
-    let end = b"w1.65536 get a = missing\nfault: limit calls\n";
-    assert!(rt; sink.bytes().ends_with(end));
-    Ok(())
+    let get_end = "w1.65536 get a = missing\nfault: limit calls\n";
+    expect_limit(&rt, rt.alloc(), "w 1 get a\n", 65_537, 1627313, get_end)?;
+    let page_end = "w1.4096 page a = page end\nfault: limit pages\n";
+    expect_limit(&rt, rt.alloc(), "w 1 page a\n", 4_097, 105408, page_end)
+}
+
+// So many inserts of different keys, each two digits and this text, and what they print: the last one finds no room.
+fn inserts(alloc: Global, count: u32, text: &str) -> Result<(String, String), Fail> {
+    let mut input = format!(in alloc; "memory 16 64\n")?;
+    let mut output = String::new(alloc);
+    for before in 0..count {
+        let number = before + 1;
+        let reply = if number == count {
+            "full nodes"
+        } else {
+            "inserted"
+        };
+        input.push_str(&format!(in alloc; "w 1 insert {number:02}{text}\n")?)?;
+        output.push_str(&format!(in alloc; "w1.{number} insert {number:02}{text} = {reply}\n")?)?;
+    }
+    Ok((input, output))
+}
+
+// So many inserts leave no room for the last one. A key that is there is still told, and another one still has no room.
+fn expect_full<R: Threads + Wait + Abort + Sync>(
+    rt: &R,
+    alloc: Global,
+    count: u32,
+    text: &str,
+) -> Result<(), Fail> {
+    let (mut input, mut output) = inserts(alloc, count, text)?;
+    input.push_str(&format!(in alloc;
+        "w 2 insert 07{text}\nw 2 insert a %\nw 2 page 9\nrun alone\n"
+    )?)?;
+    output.push_str(&format!(in alloc;
+        "w2.1 insert 07{text} = exists\nw2.2 insert a % = full nodes\nw2.3 page 9 = page end\n"
+    )?)?;
+    expect_run(rt, alloc, &["run"], input.as_bytes(), &output, 0)
+}
+
+#[test]
+fn an_insert_without_room_is_answered_full(rt: HostRuntime) -> Result<(), Fail> {
+    // Records of three, of two, and of nine words, where a leaf has 118.
+    expect_full(&rt, rt.alloc(), 40, " v")?;
+    expect_full(&rt, rt.alloc(), 60, " %")?;
+    expect_full(
+        &rt,
+        rt.alloc(),
+        14,
+        "cdefghijklmnopqrstuvwxyz01 abcdefghijklmnopqrstuvwxyz01",
+    )
 }
 
 const TWO_CALLS: &[u8] = b"memory 16 64\nw 1 insert a 1\nw 1 get a\nrun alone\n";

@@ -1,5 +1,11 @@
 pub mod Finding
+pub mod Placing
 pub mod TableLemmas
+pub mod OpenLemmas
 pub mod BeginLemmas
 pub mod EndLemmas
-pub mod OpenLemmas
+pub mod AnswerLemmas
+pub mod ContentLemmas
+pub mod InsertLemmas
+pub mod Records
+pub mod StepLemmas

@@ -1,2 +1,3 @@
 pub mod Lab
+pub mod Places
 pub mod Kept

@@ -1,4 +1,4 @@
-use Rattle.std.proofs.Common.{◌≡◌, ◌<◌, ◌+◌, refl, sym, ap, ◌∙◌, arith, rules}
+use Rattle.std.proofs.Common.{◌≡◌, ◌<◌, ◌+◌, ap, ◌∙◌, arith}
 use Rattle.bz_layout.specs.declared.config.Config.{Config}
 use Rattle.bz_sched.proofs.AloneLemmas.{running_none, running_more, running_met, running_done}
 use Rattle.bz_sched.proofs.running.run_alone.Goals as goal

@@ -1,9 +1,8 @@
-use Rattle.std.proofs.Common.{◌≡◌, ◌≤◌, ◌<◌, ◌+◌, length, get_or, refl, sym, ap, ◌∙◌, arith, rules}
-use Rattle.bz_script.specs.declared.item.Item.{Item}
+use Rattle.std.proofs.Common.{◌∙◌, arith}
 use Rattle.bz_script.specs.declared.item.Item.TheVariants.{Queue, Run}
 use Rattle.bz_script.specs.declared.item.Plan.TheVariants.{Alone}
 use Rattle.bz_script.specs.ItemLaws.{IsItem}
-use Rattle.bz_top.proofs.FollowLemmas.{Staged, item_at, staged_none, staged_queue, staged_ready, staged_run, staged_met, staged_done, offered_served, at_item, alone_plan}
+use Rattle.bz_top.proofs.FollowLemmas.{item_at, staged_queue, staged_ready, staged_run, staged_met, offered_served, at_item, alone_plan}
 use Rattle.bz_top.proofs.items.run_items.Goals as goal
 use Rattle.bz_top.proofs.items.run_items.Goals.{in-Queue, in-Run+in-Finished}
 

@@ -1,6 +1,5 @@
 use Rattle.std.proofs.Common.{refl, inl, inr, ap, Err}
 use Rattle.std.specs.Io.KnownBytes.{Appends}
-use Rattle.bz_io.specs.Faults.{Rose}
 use Rattle.bz_io.specs.Transfers.{GrewByFront}
 use Rattle.bz_text.specs.Report.{report_of}
 use Rattle.bz_top.specs.Faults.{fault_line, limit_text}

@@ -1,4 +1,4 @@
-use Rattle.std.proofs.Common.{◌≡◌, ◌∙◌, sym, ap, refl, Err, rules}
+use Rattle.std.proofs.Common.{◌∙◌, sym, ap, refl, Err}
 use Rattle.bz_top.proofs.EndLemmas.{ended_usage, ended_read, ended_too_long, ended_want, ended_bytes, no_lab_sound}
 use Rattle.bz_top.proofs.program.top.Goals as goal
 

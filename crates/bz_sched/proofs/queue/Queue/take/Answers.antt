@@ -1,4 +1,3 @@
-use Rattle.std.proofs.Common.{◌<◌, length, rules}
 use Rattle.std.proofs.lemmas.Option.{slice_get_within}
 use Rattle.bz_sched.proofs.QueueLemmas.{served_read}
 use Rattle.bz_sched.proofs.queue.Queue.take.Goals as goal
