@@ -4,6 +4,7 @@
 
 mod address;
 mod cells;
+mod counts;
 mod meaning;
 mod raw;
 mod tables;
