@@ -1,0 +1,70 @@
+-- What callers see of the workers.
+use Rattle.std.specs.Prelude.{◌≡◌, ℕ, zero, suc, List, [], ◌∷◌, map, get_or}
+use Rattle.std.proofs.Common.{refl, sym}
+use Rattle.bz_machine.specs.declared.place.Place.{Place}
+use Rattle.bz_machine.specs.declared.place.Place.TheVariants as place
+use Rattle.bz_machine.specs.declared.worker.Operation.{Operation}
+use Rattle.bz_machine.specs.declared.worker.Operation.TheVariants as operation
+use Rattle.bz_machine.specs.declared.worker.Worker.{Worker}
+use Rattle.bz_machine.specs.declared.done.Done.{Done}
+use Rattle.bz_machine.specs.declared.done.Done.TheVariants.{Busy, Read, Swapped, Stored, Flushed}
+use Rattle.bz_swap.specs.SwapMemory.{Doing, Idle, idle, worker_of}
+use Rattle.bz_swap.specs.Parts.{Parts, idle_worker, worker_at, working, doing_at, doing_operation, seen}
+use Rattle.bz_swap.specs.Kept.{RestsAt, IsBusy}
+use Rattle.bz_swap.specs.Steps.{doing_after}
+use Rattle.bz_swap.proofs.Going.{IsGoing}
+
+pub working-idle : working idle_worker ≡ idle
+unfolding idle_worker
+working-idle = refl
+
+-- a worker of a list, seen
+pub get_or-working : (workers : List Worker) (w : ℕ) → get_or (map working workers) w idle ≡ working (get_or workers w idle_worker)
+get_or-working [] w = sym working-idle
+get_or-working (l ∷ workers) zero = refl
+get_or-working (l ∷ workers) (suc w) = get_or-working workers w
+
+pub worker-seen : (p : Parts) (w : ℕ) → worker_of (seen p) w ≡ working (worker_at p w)
+worker-seen p w = get_or-working p.workers w
+
+-- a worker on the way does its operation
+pub doing-going : (x : Place) (o : Operation) → IsGoing x → doing_at x o ≡ doing_operation o
+doing-going place.Idle o g = absurd g
+doing-going (place.Prepare step) o g = refl
+doing-going (place.Learn k) o g = refl
+doing-going (place.Help step) o g = refl
+doing-going (place.ReadWord a) o g = refl
+doing-going (place.FlushRead a v) o g = refl
+doing-going (place.ClearRead a v) o g = refl
+doing-going (place.LoadWord a) o g = absurd g
+doing-going (place.StoreWord a v) o g = absurd g
+doing-going (place.FlushLine line) o g = absurd g
+
+-- an operation that has answered is no longer done
+pub done-idle : (d : Doing) (done : Done) → (done ≡ Busy → ⊥) → doing_after d done ≡ Idle
+done-idle d Busy busy = absurd (busy refl)
+done-idle d (Read v) busy = refl
+done-idle d (Swapped b) busy = refl
+done-idle d Stored busy = refl
+done-idle d Flushed busy = refl
+
+busy-not_idle : (o : Operation) → IsBusy o → doing_operation o ≡ Idle → ⊥
+busy-not_idle operation.Nothing busy is = busy
+busy-not_idle (operation.Reading a) busy is = absurd cc
+busy-not_idle (operation.Swapping s) busy is = absurd cc
+
+-- a worker is idle exactly where its place says so
+pub idle-place : (x : Place) (o : Operation) → RestsAt x o → doing_at x o ≡ Idle → x ≡ place.Idle
+idle-place place.Idle o h is = refl
+idle-place (place.Prepare step) o h is = absurd (busy-not_idle o h is)
+idle-place (place.Learn k) o h is = absurd (busy-not_idle o h is)
+idle-place (place.Help step) o h is = absurd (busy-not_idle o h is)
+idle-place (place.ReadWord a) o h is = absurd (busy-not_idle o h is)
+idle-place (place.FlushRead a v) o h is = absurd (busy-not_idle o h is)
+idle-place (place.ClearRead a v) o h is = absurd (busy-not_idle o h is)
+idle-place (place.LoadWord a) o h is = absurd cc
+idle-place (place.StoreWord a v) o h is = absurd cc
+idle-place (place.FlushLine line) o h is = absurd cc
+
+pub place-idle : (x : Place) (o : Operation) → x ≡ place.Idle → doing_at x o ≡ Idle
+place-idle x o is = rw is refl

@@ -1,0 +1,107 @@
+-- Parts of which nothing was asked yet, on words that need no recovery, are the machine's state at power on.
+use Rattle.std.specs.Prelude.{◌≡◌, ℕ, suc, false, List, [], ◌∷◌, map, length, get_or, slice_index, replicate, None}
+use Rattle.std.proofs.Common.{arith, refl, ap, ◌∙◌, inl, inr}
+use Rattle.std.proofs.lemmas.Bool.{cases_lt}
+use Rattle.std.proofs.lemmas.List.{get_or-replicate, get_or_past, length-replicate}
+use Rattle.bz_machine.specs.declared.place.Place.TheVariants as place
+use Rattle.bz_machine.specs.declared.worker.Operation.TheVariants as operation
+use Rattle.bz_machine.specs.declared.worker.Worker.{Worker}
+use Rattle.bz_machine.specs.Changes.{no_entries}
+use Rattle.bz_machine.specs.State.{IsRenewable, idle, power_on}
+use Rattle.bz_machine.specs.Workers.{local_of}
+use Rattle.bz_machine.proofs.EventLaws.{begins_as_state, begins_in_range}
+use Rattle.bz_cells.specs.Store.{Store, Beside, HasRoom, IsOutside, typed}
+use Rattle.bz_swap.specs.Power.{AreRecovered}
+use Rattle.bz_swap.specs.SwapMemory.{idle as seen_idle}
+use Rattle.bz_swap.specs.Parts.{Parts, idle_worker, worker_at, working}
+use Rattle.bz_swap.specs.Kept.{IsRunning, IsUntouched, IsWorker, state_of}
+use Rattle.bz_swap.proofs.Recovered.{fitting, fitting-plain, fitting-kind, same-kinds, free-status, recovered-words}
+
+-- nothing was asked yet, and nothing is kept of what was asked before
+pub record IsFresh (p : Parts) : Type 0 where
+  pub room : HasRoom p.store
+  pub same : (a : ℕ) → IsOutside p.store.swaps a → slice_index p.store.cached a ≡ slice_index p.store.durable a
+  pub cached : AreRecovered p.store.swaps p.store.cached
+  pub durable : AreRecovered p.store.swaps p.store.durable
+  pub tags : (w : ℕ) → slice_index p.store.next_tags w ≡ 0
+  pub missed : (s : ℕ) → get_or p.store.missed s false ≡ false
+  pub taken : p.store.taken ≡ 0
+  pub workers : (w : ℕ) → worker_at p w ≡ idle_worker
+
+-- a list of one value has it everywhere, and past its end too where it is the default
+pub all-same : {A : Type 0} (n i : ℕ) (x : A) → get_or (replicate n x) i x ≡ x
+all-same n i x = elim (cases_lt i n) [
+  | inl lt ↦ get_or-replicate n i x x lt
+  | inr ge ↦ get_or_past (replicate n x) i x (rw length-replicate ge)
+]
+
+-- nothing of the past
+fresh_beside : Beside
+fresh_beside = record { owner = λ s. 0; named = λ a. false; published = λ s. false; answer = λ s. None }
+
+idle-local : local_of idle_worker ≡ idle
+unfolding idle_worker
+idle-local = λ i. record { operation = operation.Nothing; place = place.Idle; current = 0; back = None; list = λ k. all-same 13 k 0 i }
+
+fresh-path : (p : Parts) → IsFresh p → state_of p no_entries fresh_beside ≡ power_on (typed p.store fresh_beside)
+unfolding fresh_beside
+fresh-path p f = λ i. record {
+  entries = no_entries;
+  memory = record (typed p.store fresh_beside) { next_tag = λ w. f.tags w i; missed = λ s. f.missed s i; taken = f.taken i };
+  local = λ w. (ap local_of (f.workers w) ∙ idle-local) i;
+}
+
+fresh-renewable : (p : Parts) → IsFresh p → IsRenewable (typed p.store fresh_beside)
+fresh-renewable p f = record {
+  plain = λ a. fitting-plain _ (fitting p.store.swaps p.store.cached a f.cached);
+  same = same-kinds p.store.swaps p.store.cached p.store.durable f.same;
+  free = λ s. free-status p.store.swaps p.store.cached s f.cached;
+  durable_free = λ s. free-status p.store.swaps p.store.durable s f.durable;
+}
+
+idle-is_worker : (st : Store) → IsWorker st idle_worker
+unfolding idle_worker
+idle-is_worker st = record { rests = refl; operation = tt; place = tt }
+
+pub idle-place : idle_worker.place ≡ place.Idle
+unfolding idle_worker
+idle-place = refl
+
+pub idle-operation : idle_worker.operation ≡ operation.Nothing
+unfolding idle_worker
+idle-operation = refl
+
+pub fresh-place : (p : Parts) (w : ℕ) → worker_at p w ≡ idle_worker → (worker_at p w).place ≡ place.Idle
+fresh-place p w is = ap (λ (l : Worker). l.place) is ∙ idle-place
+
+pub fresh-running : (p : Parts) → IsFresh p → IsRunning p
+unfolding fresh_beside
+fresh-running p f =
+    let path = fresh-path p f in
+    let m = typed p.store fresh_beside in
+    record {
+      entries = no_entries;
+      beside = fresh_beside;
+      words = record { has_room = f.room; cached = recovered-words p.store.swaps p.store.cached f.cached; durable = recovered-words p.store.swaps p.store.durable f.durable };
+      state = rw path (begins_as_state m (fresh-renewable p f));
+      range = rw path (begins_in_range m (λ a. (fitting-kind _ (fitting p.store.swaps p.store.cached a f.cached), fitting-kind _ (fitting p.store.swaps p.store.durable a f.durable))));
+      lies = λ s i below. absurd (omega (arith, below));
+      named = λ a. rw f.taken refl;
+      owned = λ s begun none. absurd (omega (arith, begun, f.taken));
+      prepared = λ s begun none. absurd (omega (arith, begun, f.taken));
+      workers = λ w. rw (f.workers w) (idle-is_worker p.store);
+      tags = λ w. omega (arith, f.tags w);
+      recoverer = fresh-place p 0 (f.workers 0);
+    }
+
+pub fresh-untouched : (p : Parts) → IsFresh p → IsUntouched p
+fresh-untouched p f = record { running = fresh-running p f; idle = λ w. fresh-place p w (f.workers w); taken = f.taken }
+
+-- a worker whose place is idle is seen idle
+working-place : (l : Worker) → l.place ≡ place.Idle → working l ≡ seen_idle
+working-place l is = rw is refl
+
+-- all workers are seen idle
+pub all-idle : (workers : List Worker) → ((w : ℕ) → (get_or workers w idle_worker).place ≡ place.Idle) → map working workers ≡ replicate (length workers) seen_idle
+all-idle [] each = refl
+all-idle (l ∷ workers) each = λ i. working-place l (each 0) i ∷ all-idle workers (λ w. each (suc w)) i

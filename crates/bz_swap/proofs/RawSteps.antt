@@ -1,0 +1,148 @@
+-- A step of worker 0 in a recovery time.
+use Rattle.std.specs.Prelude.{◌≡◌, ◌≢◌, ℕ, ◌<◌, ◌==◌, if◌then◌else◌, Bool, true, false, List, length, slice_index, slice_set, None}
+use Rattle.std.proofs.Common.{arith, refl, ap, sym, subst, ◌∙◌, inl, inr}
+use Rattle.std.proofs.lemmas.Bool.{cases_eq, cases_lt}
+use Rattle.std.proofs.lemmas.List.{length-set}
+use Rattle.bz_machine.specs.declared.place.Place.{Place}
+use Rattle.bz_machine.specs.declared.place.Place.TheVariants as place
+use Rattle.bz_machine.specs.declared.worker.Operation.{Operation}
+use Rattle.bz_machine.specs.declared.worker.Operation.TheVariants as operation
+use Rattle.bz_machine.specs.declared.worker.Worker.{Worker}
+use Rattle.bz_machine.specs.Flushes.{is_flush}
+use Rattle.bz_cells.specs.Store.{Store, words_of}
+use Rattle.bz_acts.specs.Rule.{after_act, is_flush_act}
+use Rattle.bz_acts.specs.declared.acted.Act.{Act}
+use Rattle.bz_acts.specs.declared.acted.Act.TheVariants.{Load, Store as StoreAct, Cas, Flush}
+use Rattle.bz_pm.specs.Words.{Words}
+use Rattle.bz_acts.specs.declared.acted.Acted.{Acted}
+use Rattle.bz_swap.specs.declared.phase.Phase.{Phase}
+use Rattle.bz_swap.specs.declared.phase.Phase.TheVariants.{Opened, Running, Recovering}
+use Rattle.bz_swap.specs.Raw.{IsAsked, IsRawAct}
+use Rattle.bz_swap.specs.Steps.{IsAnswer, IsRawStep, doing_after}
+use Rattle.bz_swap.specs.SwapMemory.{SwapMemory, Idle, Working, worker_of, doing_of}
+use Rattle.bz_swap.specs.Parts.{Parts, worker_at, working, doing_at, begun_seen, seen}
+use Rattle.bz_swap.specs.Kept.{IsRecovering, IsKept, KeptIn, RecoversAt}
+use Rattle.bz_swap.proofs.Doings.{worker-seen}
+use Rattle.bz_swap.proofs.SeenActs.{counted}
+use Rattle.bz_swap.proofs.Stepping.{workers-within, busy-place}
+use Rattle.bz_swap.proofs.Stepped.{after_step, same-worker, other-worker}
+use Rattle.bz_swap.proofs.WorkStarts.{placed}
+
+pub recovering : (p : Parts) → IsKept p → p.phase ≡ Recovering → IsRecovering p
+recovering p k is = subst (λ x. KeptIn x p) is k.kept
+
+-- the worker that steps is worker 0
+pub is-zero : (p : Parts) (r : IsRecovering p) (w : ℕ) → doing_of (seen p) w ≢ Idle → w ≡ 0
+is-zero p r w busy = elim (cases_lt 0 w) [
+  | inl some ↦ absurd (busy-place p w busy (r.others w some))
+  | inr none ↦ omega (arith, none)
+]
+
+pub recovers-at : (p : Parts) (k : IsKept p) (w : ℕ) (l : Worker) → p.phase ≡ Recovering → doing_of (seen p) w ≢ Idle → l ≡ worker_at p w → RecoversAt p.store l.place × (l.place ≢ place.Idle)
+recovers-at p k w l phase busy is =
+    let r = recovering p k phase in
+    let zero = is-zero p r w busy in
+    (subst (λ u. RecoversAt p.store u.place) (sym (is ∙ ap (worker_at p) zero)) r.recoverer, λ idle. busy-place p w busy (sym (ap (λ u. u.place) is) ∙ idle))
+
+-- what was asked is what was done, and answered
+asked-answer : (m : SwapMemory) (at : Place) (o : Operation) (acted : Acted) → IsAsked at acted → IsAnswer m (doing_at at o) acted.act acted.done
+asked-answer m (place.LoadWord a) o acted is = rw is.1.1 is.1.0
+asked-answer m (place.StoreWord a v) o acted is = rw is.1 is.0
+asked-answer m (place.FlushLine line) o acted is = rw is.1 is.0
+asked-answer m place.Idle o acted is = absurd is
+asked-answer m (place.Prepare step) o acted is = absurd is
+asked-answer m (place.Learn k) o acted is = absurd is
+asked-answer m (place.Help step) o acted is = absurd is
+asked-answer m (place.ReadWord a) o acted is = absurd is
+asked-answer m (place.FlushRead a v) o acted is = absurd is
+asked-answer m (place.ClearRead a v) o acted is = absurd is
+
+asked-flush : (at : Place) (acted : Acted) → IsAsked at acted → is_flush_act acted.act ≡ is_flush at
+asked-flush (place.LoadWord a) acted is = ap is_flush_act is.1.0
+asked-flush (place.StoreWord a v) acted is = ap is_flush_act is.0
+asked-flush (place.FlushLine line) acted is = ap is_flush_act is.0
+asked-flush place.Idle acted is = absurd is
+asked-flush (place.Prepare step) acted is = absurd is
+asked-flush (place.Learn k) acted is = absurd is
+asked-flush (place.Help step) acted is = absurd is
+asked-flush (place.ReadWord a) acted is = absurd is
+asked-flush (place.FlushRead a v) acted is = absurd is
+asked-flush (place.ClearRead a v) acted is = absurd is
+
+asked-idle : (at : Place) (o : Operation) (acted : Acted) → IsAsked at acted → Idle ≡ doing_after (doing_at at o) acted.done
+asked-idle (place.LoadWord a) o acted is = rw is.1.1 refl
+asked-idle (place.StoreWord a v) o acted is = rw is.1 refl
+asked-idle (place.FlushLine line) o acted is = rw is.1 refl
+asked-idle place.Idle o acted is = absurd is
+asked-idle (place.Prepare step) o acted is = absurd is
+asked-idle (place.Learn k) o acted is = absurd is
+asked-idle (place.Help step) o acted is = absurd is
+asked-idle (place.ReadWord a) o acted is = absurd is
+asked-idle (place.FlushRead a v) o acted is = absurd is
+asked-idle (place.ClearRead a v) o acted is = absurd is
+
+-- what is kept after the step
+pub raw-kept : (p : Parts) (k : IsKept p) (w : ℕ) (store : Store) (l : Worker) (acted : Acted) → p.phase ≡ Recovering → w < length (seen p).workers → doing_of (seen p) w ≢ Idle → l ≡ worker_at p w
+    → IsRawAct p.store l.place acted store → IsKept (after_step p w store (placed l place.Idle))
+raw-kept p k w store l acted phase within busy is made =
+    let r = recovering p k phase in
+    let inside = workers-within p w within in
+    let idle : (placed l place.Idle).operation ≡ operation.Nothing = ap (λ u. u.operation) is ∙ r.rest w in
+    record {
+      room = made.room;
+      swaps = rw made.after k.swaps;
+      workers = length-set p.workers w _ ∙ k.workers ∙ ap (λ (u : Store). length u.next_tags) (sym made.after);
+      few = rw (length-set p.workers w (placed l place.Idle)) k.few;
+      some = rw (length-set p.workers w (placed l place.Idle)) k.some;
+      kept = subst (λ x. KeptIn x (after_step p w store (placed l place.Idle))) (sym phase) (record {
+        recoverer = (let zero = is-zero p r w busy in let same = same-worker p w store (placed l place.Idle) inside in rw (ap (worker_at (after_step p w store (placed l place.Idle))) (sym zero) ∙ same) tt);
+        others = λ v some. (let zero = is-zero p r w busy in rw (other-worker p w v store (placed l place.Idle) (omega (arith, some, zero))) (r.others v some));
+        rest = λ v. elim (cases_eq v w) [
+          | inl e ↦ rw (e, same-worker p w store (placed l place.Idle) inside) idle
+          | inr ne ↦ rw (other-worker p w v store (placed l place.Idle) ne) (r.rest v)
+        ];
+      });
+    }
+
+length-if : (b : Bool) (xs : List ℕ) (a v : ℕ) → length (if b then slice_set xs a v else xs) ≡ length xs
+length-if true xs a v = length-set xs a v
+length-if false xs a v = refl
+
+-- an act leaves as many words
+length-act : (m : Words) (made : Act) → length (after_act m made).cached ≡ length m.cached
+length-act m (Load a v) = refl
+length-act m (StoreAct a v) = length-set m.cached a v
+length-act m (Cas a o v found) = length-if (slice_index m.cached a == o) m.cached a v
+length-act m (Flush line) = refl
+
+none-begun : (phase : Phase) (p : Parts) → phase ≡ Recovering → (st : Store) (q : Parts) → begun_seen phase st q.workers ≡ begun_seen phase p.store p.workers
+none-begun Recovering p is st q = refl
+none-begun Opened p is st q = absurd cc
+none-begun Running p is st q = absurd cc
+
+pub raw-seen : (p : Parts) (k : IsKept p) (w : ℕ) (store : Store) (l : Worker) (acted : Acted) → p.phase ≡ Recovering → w < length (seen p).workers → doing_of (seen p) w ≢ Idle → l ≡ worker_at p w
+    → IsRawAct p.store l.place acted store → IsRawStep (seen p) w acted.act acted.done None (seen (after_step p w store (placed l place.Idle)))
+raw-seen p k w store l acted phase within busy is made =
+    let q : Parts = after_step p w store (placed l place.Idle) in
+    let was : worker_of (seen p) w ≡ working l = worker-seen p w ∙ ap working (sym is) in
+    let now : worker_of (seen q) w ≡ working (placed l place.Idle) = worker-seen q w ∙ ap working (same-worker p w store (placed l place.Idle) (workers-within p w within)) in
+    record {
+      one = record {
+        act = record { found = made.found; after = ap words_of made.after };
+        flush = asked-flush l.place acted made.asked ∙ ap (λ (u : Working). u.flush_next) (sym was);
+        doing = ap (λ (u : Working). u.doing) now ∙ asked-idle l.place l.operation acted made.asked ∙ ap (λ (u : Working). doing_after u.doing acted.done) (sym was);
+        steps = refl;
+        others = record {
+          size = ap (λ (u : Store). length u.cached) made.after ∙ length-act (words_of p.store) acted.act;
+          count = counted p w store (placed l place.Idle);
+          swaps = ap (λ (u : Store). u.swaps) made.after;
+          phase = refl;
+          begun = none-begun p.phase p phase store q;
+          taken = ap (λ (u : Store). u.taken) made.after;
+          workers = λ v ne. worker-seen q v ∙ ap working (other-worker p w v store (placed l place.Idle) ne) ∙ sym (worker-seen p v);
+        };
+        answer = subst (λ d. IsAnswer (seen q) d acted.act acted.done) (ap (λ (u : Working). u.doing) (sym was)) (asked-answer (seen q) l.place l.operation acted made.asked);
+      };
+      effect = refl;
+      missed = ap (λ (u : Store). u.missed) made.after;
+    }

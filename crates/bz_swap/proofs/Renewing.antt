@@ -1,0 +1,79 @@
+-- A renewal: the parts after it, and what callers see of them.
+use Rattle.std.specs.Prelude.{◌≡◌, ℕ, zero, suc, false, map, length, replicate}
+use Rattle.std.proofs.Common.{arith, refl, ap, sym, ◌∙◌}
+use Rattle.std.proofs.lemmas.List.{length-replicate}
+use Rattle.bz_machine.specs.declared.place.Place.{Place}
+use Rattle.bz_machine.specs.declared.place.Place.TheVariants as place
+use Rattle.bz_machine.specs.declared.worker.Operation.{Operation}
+use Rattle.bz_cells.specs.Store.{Store, HasRoom}
+use Rattle.bz_swap.specs.declared.phase.Phase.{Phase}
+use Rattle.bz_swap.specs.declared.phase.Phase.TheVariants.{Opened, Running, Recovering}
+use Rattle.bz_swap.specs.SwapMemory.{Idle, idle, doing_of}
+use Rattle.bz_swap.specs.Power.{MayRenew, renewed}
+use Rattle.bz_swap.specs.Parts.{Parts, idle_worker, worker_at, working, doing_at, seen}
+use Rattle.bz_swap.specs.Kept.{IsKept, KeptIn, RecoversAt}
+use Rattle.bz_swap.proofs.Doings.{worker-seen, idle-place}
+use Rattle.bz_swap.proofs.Fresh.{IsFresh, all-same, fresh-running, fresh-place, all-idle}
+
+-- a worker that does nothing has an idle place
+recoverer-place : (st : Store) (x : Place) (o : Operation) → RecoversAt st x → doing_at x o ≡ Idle → x ≡ place.Idle
+recoverer-place st place.Idle o at is = refl
+recoverer-place st (place.LoadWord a) o at is = absurd cc
+recoverer-place st (place.StoreWord a v) o at is = absurd cc
+recoverer-place st (place.FlushLine line) o at is = absurd cc
+recoverer-place st (place.Prepare step) o at is = absurd at
+recoverer-place st (place.Learn k) o at is = absurd at
+recoverer-place st (place.Help step) o at is = absurd at
+recoverer-place st (place.ReadWord a) o at is = absurd at
+recoverer-place st (place.FlushRead a v) o at is = absurd at
+recoverer-place st (place.ClearRead a v) o at is = absurd at
+
+place-in : (phase : Phase) (p : Parts) (w : ℕ) → KeptIn phase p → doing_at (worker_at p w).place (worker_at p w).operation ≡ Idle → (worker_at p w).place ≡ place.Idle
+place-in Opened p w kept is = kept.idle w
+place-in Running p w kept is = idle-place (worker_at p w).place (worker_at p w).operation (kept.workers w).rests is
+place-in Recovering p zero kept is = recoverer-place p.store (worker_at p 0).place (worker_at p 0).operation kept.recoverer is
+place-in Recovering p (suc w) kept is = kept.others (suc w) (omega arith)
+
+pub resting-place : (p : Parts) (k : IsKept p) (w : ℕ) → doing_of (seen p) w ≡ Idle → (worker_at p w).place ≡ place.Idle
+resting-place p k w is = place-in p.phase p w k.kept (sym (ap (λ u. u.doing) (worker-seen p w)) ∙ is)
+
+-- the parts after a renewal
+abbrev pub clear_store : Store → Store
+clear_store st = record st { next_tags = replicate (length st.next_tags) 0; missed = replicate (length st.missed) false; taken = 0 }
+
+abbrev pub renewed_parts : Parts → Parts
+renewed_parts p = record { store = clear_store p.store; workers = replicate (length p.workers) idle_worker; phase = Running; steps = 0 }
+
+clear-room : (st : Store) → HasRoom st → HasRoom (clear_store st)
+clear-room st r = record { memory = r.memory; room = r.room; numbered = r.numbered; noted = length-replicate (length st.missed) false ∙ r.noted; taken = omega arith }
+
+pub renewed-fresh : (p : Parts) → IsKept p → MayRenew (seen p) → IsFresh (renewed_parts p)
+renewed-fresh p k may = record {
+  room = clear-room p.store k.room;
+  same = may.same;
+  cached = may.cached;
+  durable = may.durable;
+  tags = λ w. all-same (length p.store.next_tags) w 0;
+  missed = λ s. all-same (length p.store.missed) s false;
+  taken = refl;
+  workers = λ w. all-same (length p.workers) w idle_worker;
+}
+
+pub renewed-kept : (p : Parts) → IsKept p → MayRenew (seen p) → IsKept (renewed_parts p)
+renewed-kept p k may =
+    let count : length (replicate (length p.workers) idle_worker) ≡ length p.workers = length-replicate (length p.workers) idle_worker in
+    record {
+      room = clear-room p.store k.room;
+      swaps = k.swaps;
+      workers = count ∙ k.workers ∙ sym (length-replicate (length p.store.next_tags) 0);
+      few = rw count k.few;
+      some = rw count k.some;
+      kept = fresh-running (renewed_parts p) (renewed-fresh p k may);
+    }
+
+pub renewed-seen : (p : Parts) → IsKept p → MayRenew (seen p) → seen (renewed_parts p) ≡ renewed (seen p)
+renewed-seen p k may =
+    let now : map working (replicate (length p.workers) idle_worker) ≡ replicate (length p.workers) idle =
+    all-idle (replicate (length p.workers) idle_worker) (λ w. fresh-place (renewed_parts p) w (all-same (length p.workers) w idle_worker)) ∙ ap (λ n. replicate n idle) (length-replicate (length p.workers) idle_worker) in
+    let before : map working p.workers ≡ replicate (length p.workers) idle = all-idle p.workers (λ w. resting-place p k w (may.idle w)) in
+    ap (λ workers. record (renewed (seen p)) { workers = workers }) (now ∙ sym before)

@@ -1,0 +1,32 @@
+use Rattle.std.proofs.Common.{refl}
+use Rattle.bz_swap.specs.Parts.{Parts}
+use Rattle.bz_swap.proofs.SeenSwaps.{swap-started}
+use Rattle.bz_swap.proofs.Stepping.{step-holds}
+use Rattle.bz_swap.proofs.access.Access.start_swap.Goals as goal
+
+pub returns-in_default-clause-held : goal.returns-in_default-clause-held
+returns-in_default-clause-held c =
+    let p : Parts = record { store = c.self.inside.cells; workers = c.self.inside.workers.items; phase = c.self.inside.phase; steps = c.self.inside.steps } in
+    let none = c.in_default.ensures in
+    rw none.1 (step-holds p c.self.invariant)
+
+pub invariant_of-self-2 : goal.invariant_of-self-2
+invariant_of-self-2 c =
+    let p : Parts = record { store = c.self.inside.cells; workers = c.self.inside.workers.items; phase = c.self.inside.phase; steps = c.self.inside.steps } in
+    let may = rw (← c.self.view_is) at c.requires in
+    let took = c.in-Some.ensures in
+    rw (took.0, took.2) (swap-started p c.self.invariant c.args.w c.words-worker.result c.args.entries may c.words-worker.ensures.list c.words-worker.ensures.entries took.1).kept
+
+pub returns-clause-begun : goal.returns-clause-begun
+returns-clause-begun c =
+    let p : Parts = record { store = c.self.inside.cells; workers = c.self.inside.workers.items; phase = c.self.inside.phase; steps = c.self.inside.steps } in
+    let may = rw (← c.self.view_is) at c.requires in
+    let took = c.in-Some.ensures in
+    rw (took.0, took.2, ← c.self.view_is) (refl, (swap-started p c.self.invariant c.args.w c.words-worker.result c.args.entries may c.words-worker.ensures.list c.words-worker.ensures.entries took.1).is)
+
+pub returns-clause-held : goal.returns-clause-held
+returns-clause-held c =
+    let p : Parts = record { store = c.self.inside.cells; workers = c.self.inside.workers.items; phase = c.self.inside.phase; steps = c.self.inside.steps } in
+    let may = rw (← c.self.view_is) at c.requires in
+    let took = c.in-Some.ensures in
+    rw (took.0, took.2) (swap-started p c.self.invariant c.args.w c.words-worker.result c.args.entries may c.words-worker.ensures.list c.words-worker.ensures.entries took.1).holds

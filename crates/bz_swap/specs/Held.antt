@@ -1,0 +1,27 @@
+-- What holds of a swap memory at every moment outside a recovery time.
+use Rattle.std.specs.Prelude.{◌≡◌, ℕ, ◌^◌, ◌<◌, true, false, slice_index}
+use Rattle.bz_word.specs.declared.kind.WordKind.TheVariants.{Value}
+use Rattle.bz_cells.specs.Store.{IsOutside, kind_at, status_word, status_at}
+use Rattle.bz_layout.specs.Addresses.{swap_address}
+use Rattle.bz_swap.specs.declared.phase.Phase.{Phase}
+use Rattle.bz_swap.specs.declared.phase.Phase.TheVariants.{Opened, Running, Recovering}
+use Rattle.bz_swap.specs.Lawful.{IsLawful}
+use Rattle.bz_swap.specs.SwapMemory.{SwapMemory, value_at, is_named}
+
+pub record IsHeld (m : SwapMemory) : Type 0 where
+  -- every word outside the descriptors is lawful, in the memory itself; each descriptor's status is one
+  pub lawful : (a : ℕ) → IsOutside m.swaps a → IsLawful m.swaps m.durable a
+  pub status : (s : ℕ) → s < m.swaps → slice_index m.durable (swap_address s) ≡ status_word (status_at m.swaps m.durable s)
+  -- a plain word in the caches of a named address is its value
+  pub plain : (a v : ℕ) → is_named m a ≡ true → kind_at m.swaps m.cached a ≡ Value v → value_at m a ≡ v
+  -- a private word is plain, in the caches and in the memory itself, where it is its value
+  pub private : (a : ℕ) → IsOutside m.swaps a → is_named m a ≡ false → (slice_index m.cached a < 2 ^ 61) × (value_at m a ≡ slice_index m.durable a)
+
+abbrev pub HoldsIn : Phase → SwapMemory → Type 0
+HoldsIn Opened m = IsHeld m
+HoldsIn Running m = IsHeld m
+HoldsIn Recovering m = Unit {0}
+
+-- outside a recovery time
+abbrev pub Holds : SwapMemory → Type 0
+Holds m = HoldsIn m.phase m

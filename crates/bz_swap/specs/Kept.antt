@@ -1,0 +1,113 @@
+-- What a swap memory keeps true of its parts: outside a recovery time they are the machine's state.
+use Rattle.std.specs.Prelude.{◌≡◌, ℕ, ◌*◌, ◌<◌, ◌≤◌, false, length, slice_index, None}
+use Rattle.bz_machine.specs.declared.place.Place.{Place}
+use Rattle.bz_machine.specs.declared.place.Place.TheVariants as place
+use Rattle.bz_machine.specs.declared.place.PrepareStep.{PrepareStep}
+use Rattle.bz_machine.specs.declared.worker.Operation.{Operation}
+use Rattle.bz_machine.specs.declared.worker.Operation.TheVariants as operation
+use Rattle.bz_machine.specs.declared.worker.Worker.{Worker}
+use Rattle.bz_machine.specs.Machine.{Entries}
+use Rattle.bz_machine.specs.State.{State, IsState}
+use Rattle.bz_machine.specs.Lawful.{AreInRange}
+use Rattle.bz_machine.specs.Workers.{local_of}
+use Rattle.bz_cells.specs.Store.{Store, Beside, HasRoom, IsStore, typed}
+use Rattle.bz_acts.specs.Ready.{LiesOutside}
+use Rattle.bz_swap.specs.declared.phase.Phase.{Phase}
+use Rattle.bz_swap.specs.declared.phase.Phase.TheVariants.{Opened, Running, Recovering}
+use Rattle.bz_swap.specs.SwapMemory.{is_among}
+use Rattle.bz_swap.specs.Parts.{Parts, worker_at, listed, entry_list}
+
+-- the machine's state that the parts spell, with what it tells of the past
+abbrev pub state_of : Parts → (ℕ → Entries) → Beside → State
+state_of p e b = record { entries = e; memory = typed p.store b; local = λ w. local_of (worker_at p w) }
+
+-- a swap without an answer is the operation of its owner
+pub record IsOwned (p : Parts) (b : Beside) (s : ℕ) : Type 0 where
+  pub owner : b.owner s < length p.workers
+  pub operation : (worker_at p (b.owner s)).operation ≡ operation.Swapping s
+
+-- and while it is not published, its owner writes its descriptor
+pub record IsPrepared (p : Parts) (b : Beside) (s : ℕ) : Type 0 where
+  pub step : PrepareStep
+  pub place : (worker_at p (b.owner s)).place ≡ place.Prepare step
+  pub current : (worker_at p (b.owner s)).current ≡ s
+
+-- there is an operation to come back to
+abbrev pub IsBusy : Operation → Type 0
+IsBusy operation.Nothing = ⊥
+IsBusy (operation.Reading a) = Unit {0}
+IsBusy (operation.Swapping s) = Unit {0}
+
+-- a worker comes back to nothing where its place says so, and to something elsewhere
+abbrev pub RestsAt : Place → Operation → Type 0
+RestsAt place.Idle o = o ≡ operation.Nothing
+RestsAt (place.StoreWord a v) o = o ≡ operation.Nothing
+RestsAt (place.FlushLine line) o = o ≡ operation.Nothing
+RestsAt (place.LoadWord a) o = o ≡ operation.Nothing
+RestsAt other o = IsBusy o
+
+-- the addresses that an operation and a place name lie outside the descriptors
+abbrev pub OperationLies : Store → Operation → Type 0
+OperationLies st operation.Nothing = Unit {0}
+OperationLies st (operation.Reading a) = LiesOutside st a
+OperationLies st (operation.Swapping s) = Unit {0}
+
+abbrev pub PlaceLies : Store → Place → Type 0
+PlaceLies st (place.ReadWord a) = LiesOutside st a
+PlaceLies st (place.FlushRead a v) = LiesOutside st a
+PlaceLies st (place.ClearRead a v) = LiesOutside st a
+PlaceLies st (place.StoreWord a v) = LiesOutside st a
+PlaceLies st (place.FlushLine line) = LiesOutside st (line * 8)
+PlaceLies st other = Unit {0}
+
+-- what is known of a worker besides the machine's facts
+pub record IsWorker (st : Store) (l : Worker) : Type 0 where
+  pub rests : RestsAt l.place l.operation
+  pub operation : OperationLies st l.operation
+  pub place : PlaceLies st l.place
+
+pub record IsRunning (p : Parts) : Type 0 where
+  pub entries : ℕ → Entries
+  pub beside : Beside
+  pub words : IsStore p.store
+  pub state : IsState (state_of p entries beside)
+  pub range : AreInRange (state_of p entries beside)
+  pub lies : (s i : ℕ) → i < (entries s).count → LiesOutside p.store ((entries s).target i)
+  pub named : (a : ℕ) → beside.named a ≡ is_among (listed (λ s. entry_list (entries s)) 0 p.store.taken) a
+  pub owned : (s : ℕ) → s < p.store.taken → beside.answer s ≡ None → IsOwned p beside s
+  pub prepared : (s : ℕ) → s < p.store.taken → beside.published s ≡ false → IsPrepared p beside s
+  pub workers : (w : ℕ) → IsWorker p.store (worker_at p w)
+  pub tags : (w : ℕ) → slice_index p.store.next_tags w ≤ p.steps
+  pub recoverer : (worker_at p 0).place ≡ place.Idle
+
+-- where worker 0 can be in a recovery time
+abbrev pub RecoversAt : Store → Place → Type 0
+RecoversAt st place.Idle = Unit {0}
+RecoversAt st (place.LoadWord a) = a < length st.cached
+RecoversAt st (place.StoreWord a v) = a < length st.cached
+RecoversAt st (place.FlushLine line) = line * 8 < length st.cached
+RecoversAt st other = ⊥
+
+pub record IsRecovering (p : Parts) : Type 0 where
+  pub recoverer : RecoversAt p.store (worker_at p 0).place
+  pub others : (w : ℕ) → 0 < w → (worker_at p w).place ≡ place.Idle
+  pub rest : (w : ℕ) → (worker_at p w).operation ≡ operation.Nothing
+
+-- nothing was started yet
+pub record IsUntouched (p : Parts) : Type 0 where
+  pub running : IsRunning p
+  pub idle : (w : ℕ) → (worker_at p w).place ≡ place.Idle
+  pub taken : p.store.taken ≡ 0
+
+abbrev pub KeptIn : Phase → Parts → Type 0
+KeptIn Opened p = IsUntouched p
+KeptIn Running p = IsRunning p
+KeptIn Recovering p = IsRecovering p
+
+pub record IsKept (p : Parts) : Type 0 where
+  pub room : HasRoom p.store
+  pub swaps : 0 < p.store.swaps
+  pub workers : length p.workers ≡ length p.store.next_tags
+  pub few : length p.workers ≤ 65
+  pub some : 0 < length p.workers
+  pub kept : KeptIn p.phase p

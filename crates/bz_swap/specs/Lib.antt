@@ -1,0 +1,15 @@
+pub mod Effects
+pub mod EntryLists
+pub mod Evicted
+pub mod Evictions
+pub mod Held
+pub mod Kept
+pub mod Lawful
+pub mod Parts
+pub mod Power
+pub mod Raw
+pub mod Resolve
+pub mod Roles
+pub mod Starts
+pub mod Steps
+pub mod SwapMemory

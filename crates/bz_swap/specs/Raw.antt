@@ -1,0 +1,23 @@
+-- An act on a word as it is, in a recovery time.
+use Rattle.std.specs.Prelude.{◌≡◌, ℕ}
+use Rattle.bz_machine.specs.declared.place.Place.{Place}
+use Rattle.bz_machine.specs.declared.place.Place.TheVariants as place
+use Rattle.bz_machine.specs.declared.done.Done.TheVariants.{Read, Stored, Flushed}
+use Rattle.bz_cells.specs.Store.{Store, HasRoom, words_of, with_words}
+use Rattle.bz_acts.specs.Rule.{FoundRightly, after_act}
+use Rattle.bz_acts.specs.declared.acted.Act.TheVariants.{Load, Store as StoreAct, Flush}
+use Rattle.bz_acts.specs.declared.acted.Acted.{Acted}
+
+-- the act that was asked for, and its answer
+abbrev pub IsAsked : Place → Acted → Type 0
+IsAsked (place.LoadWord a) acted = (v : ℕ) × ((acted.act ≡ Load a v) × (acted.done ≡ Read v))
+IsAsked (place.StoreWord a v) acted = (acted.act ≡ StoreAct a v) × (acted.done ≡ Stored)
+IsAsked (place.FlushLine line) acted = (acted.act ≡ Flush line) × (acted.done ≡ Flushed)
+IsAsked other acted = ⊥
+
+-- it was made by the memory's rule
+pub record IsRawAct (old : Store) (at : Place) (acted : Acted) (new : Store) : Type 0 where
+  pub asked : IsAsked at acted
+  pub found : FoundRightly (words_of old) acted.act
+  pub after : new ≡ with_words old (after_act (words_of old) acted.act)
+  pub room : HasRoom new

@@ -1,0 +1,75 @@
+-- What one step of a worker does.
+use Rattle.std.specs.Prelude.{◌≡◌, ◌≢◌, ◌⊎◌, ℕ, ◌+◌, ◌^◌, ◌<◌, true, false, length, slice_index, Option, None}
+use Rattle.bz_acts.specs.Rule.{IsActOf, is_flush_act}
+use Rattle.bz_acts.specs.declared.acted.Act.{Act}
+use Rattle.bz_acts.specs.declared.acted.Act.TheVariants.{Load, Store, Flush}
+use Rattle.bz_cells.specs.Store.{IsOutside}
+use Rattle.bz_machine.specs.declared.done.Done.{Done}
+use Rattle.bz_machine.specs.declared.done.Done.TheVariants.{Busy, Read, Swapped, Stored, Flushed}
+use Rattle.bz_swap.specs.declared.phase.Phase.{Phase}
+use Rattle.bz_swap.specs.declared.phase.Phase.TheVariants.{Opened, Running, Recovering}
+use Rattle.bz_swap.specs.SwapMemory.{SwapMemory, Doing, Idle, Reading, Swapping, Loading, Storing, Flushing, words_of, value_at, has_effect, is_missed, is_named, worker_of, doing_of}
+use Rattle.bz_swap.specs.Effects.{EffectIs, NotesMisses}
+
+-- a read answers at a load that found the plain word, which is the value of the address
+pub record AnswersRead (m : SwapMemory) (a : ℕ) (act : Act) (v : ℕ) : Type 0 where
+  pub load : act ≡ Load a v
+  pub plain : v < 2 ^ 61
+  pub value : is_named m a ≡ true → value_at m a ≡ v
+
+-- what an operation may answer, with this act, in the memory after it
+abbrev pub IsAnswer : SwapMemory → Doing → Act → Done → Type 0
+IsAnswer m (Reading a) act Busy = Unit {0}
+IsAnswer m (Reading a) act (Read v) = AnswersRead m a act v
+IsAnswer m (Swapping s) act Busy = Unit {0}
+IsAnswer m (Swapping s) act (Swapped true) = has_effect m s ≡ true
+IsAnswer m (Swapping s) act (Swapped false) = (has_effect m s ≡ false) × (is_missed m s ≡ true)
+IsAnswer m (Loading a) act (Read v) = act ≡ Load a v
+IsAnswer m (Storing a v) act Stored = act ≡ Store a v
+IsAnswer m (Flushing line) act Flushed = act ≡ Flush line
+IsAnswer m doing act done = ⊥
+
+-- what is done afterwards: the same, or nothing where the operation has answered
+abbrev pub doing_after : Doing → Done → Doing
+doing_after doing Busy = doing
+doing_after doing done = Idle
+
+-- what no step changes: how many words, descriptors and workers there are, how many descriptors are taken, which swaps
+-- have begun, the phase, and what other workers do
+pub record KeepsOthers (old new : SwapMemory) (w : ℕ) : Type 0 where
+  pub size : length new.cached ≡ length old.cached
+  pub count : length new.workers ≡ length old.workers
+  pub swaps : new.swaps ≡ old.swaps
+  pub phase : new.phase ≡ old.phase
+  pub begun : new.begun ≡ old.begun
+  pub taken : new.taken ≡ old.taken
+  pub workers : (v : ℕ) → v ≢ w → worker_of new v ≡ worker_of old v
+
+-- one step of worker w: exactly one memory act, by the memory's own rule
+pub record IsOneAct (old : SwapMemory) (w : ℕ) (made : Act) (done : Done) (new : SwapMemory) : Type 0 where
+  pub act : IsActOf (words_of old) made (words_of new)
+  pub flush : is_flush_act made ≡ (worker_of old w).flush_next
+  pub doing : doing_of new w ≡ doing_after (doing_of old w) done
+  pub steps : new.steps ≡ old.steps + 1
+  pub others : KeepsOthers old new w
+  pub answer : IsAnswer new (doing_of old w) made done
+
+-- and outside a recovery time: the effect that is told; misses; a private word changes in the caches only by the
+-- private store at it; an act that gives a swap its effect answers nothing
+pub record IsStep (old : SwapMemory) (w : ℕ) (made : Act) (done : Done) (told : Option ℕ) (new : SwapMemory) : Type 0 where
+  pub one : IsOneAct old w made done new
+  pub effect : EffectIs old new told
+  pub misses : NotesMisses old new
+  pub untouched : (a : ℕ) → IsOutside old.swaps a → is_named old a ≡ false → ((v : ℕ) → doing_of old w ≢ Storing a v) → slice_index new.cached a ≡ slice_index old.cached a
+  pub later : (done ≡ Busy) ⊎ (told ≡ None)
+
+-- in a recovery time
+pub record IsRawStep (old : SwapMemory) (w : ℕ) (made : Act) (done : Done) (told : Option ℕ) (new : SwapMemory) : Type 0 where
+  pub one : IsOneAct old w made done new
+  pub effect : told ≡ None
+  pub missed : new.missed ≡ old.missed
+
+abbrev pub StepsIn : Phase → SwapMemory → ℕ → Act → Done → Option ℕ → SwapMemory → Type 0
+StepsIn Opened old w made done told new = IsStep old w made done told new
+StepsIn Running old w made done told new = IsStep old w made done told new
+StepsIn Recovering old w made done told new = IsRawStep old w made done told new

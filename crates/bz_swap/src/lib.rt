@@ -1,0 +1,25 @@
+//! A persistent compare-and-swap of one to four words, atomic and durable whatever is evicted and whenever the power
+//! fails.
+#![tactic(auto)]
+
+mod access;
+mod begin;
+mod cut;
+mod entry_list;
+mod eviction;
+mod phase;
+mod power;
+mod progress;
+mod raw;
+mod role;
+mod starts;
+mod step;
+#[cfg(test)]
+mod tests;
+
+pub use access::{Access, MAX_WORKERS};
+pub use bz_acts::Act;
+pub use bz_machine::Done;
+pub use entry_list::EntryList;
+pub use phase::Phase;
+pub use progress::{NoSwap, Progress};

@@ -1,0 +1,16 @@
+//! What a step tells.
+
+use bz_acts::Act;
+use bz_machine::Done;
+
+/// A step: the one memory act that it made, what it answers, and the swap whose success it made durable.
+#[derive(Clone, Copy, Debug, PartialEq, Eq)]
+pub struct Progress {
+    pub act: Act,
+    pub done: Done,
+    pub effect: Option<u16>,
+}
+
+/// All descriptors were taken since the last renewal.
+#[derive(Clone, Copy, Debug, PartialEq, Eq)]
+pub struct NoSwap;
