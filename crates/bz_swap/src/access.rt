@@ -9,9 +9,6 @@ use bz_cells::Cells;
 use bz_machine::{DescriptorWords, Operation, Place, Worker};
 use std::marker::Model;
 
-/// The most workers from 1 on.
-pub const MAX_WORKERS: u8 = 64;
-
 /// A memory that workers read, and change by compare-and-swaps of one to four words. Each `step` of a worker makes one
 /// memory act. Worker 0 recovers the words after a power cut.
 #[derive(Drop)]

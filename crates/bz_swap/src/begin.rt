@@ -7,7 +7,7 @@ use crate::progress::NoSwap;
 use bz_machine::{Operation, Place, PrepareStep};
 
 impl Access {
-    ghost use Rattle.std.specs.Prelude.{◌≡◌, MatchResult};
+    ghost use Rattle.std.specs.Prelude.{◌≡◌, ◌<◌, MatchResult};
     ghost use Rattle.bz_swap.specs.Held.{Holds};
     ghost use Rattle.bz_swap.specs.Starts.{MaySwap, swapping};
 
@@ -15,7 +15,7 @@ impl Access {
     pub fn start_swap(&mut self, w: u8, entries: EntryList) -> Result<u16, NoSwap>
         requires { MaySwap self.old w entries }
         ensures begun { MatchResult result
-            (λ swap. (swap ≡ self.old.taken) × (self.new ≡ swapping self.old w entries))
+            (λ swap. (swap ≡ self.old.taken) × (self.old.taken < self.old.swaps) × (self.new ≡ swapping self.old w entries))
             (λ none. (self.old.taken ≡ self.old.swaps) × (self.new ≡ self.old)) }
         ensures held { Holds self.new }
     {

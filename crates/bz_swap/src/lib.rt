@@ -17,7 +17,7 @@ mod step;
 #[cfg(test)]
 mod tests;
 
-pub use access::{Access, MAX_WORKERS};
+pub use access::Access;
 pub use bz_acts::Act;
 pub use bz_machine::Done;
 pub use entry_list::EntryList;

@@ -66,7 +66,7 @@ impl Access {
     ghost use Rattle.bz_swap.specs.Power.{IsOpened, MayRenew, renewed};
 
     /// A memory whose cached and durable words are these, for workers from 0 to `workers`. The error is want of memory.
-    pub fn open(alloc: Global, start: &[u64], swaps: u32, workers: u8) -> Result<Access, Memory>
+    pub fn open(alloc: Global, start: &[u64], swaps: u32, workers: u32) -> Result<Access, Memory>
         requires lines { length start.now % 8 ≡ 0 }
         requires size { length start.now < 2 ^ 32 }
         requires some { 1 ≤ swaps }
@@ -77,7 +77,7 @@ impl Access {
         ensures held { IfOk result Holds }
     {
         let phase = first_phase(swaps, start);
-        let cells = Cells::open(alloc, start, swaps, workers)?;
+        let cells = Cells::open(alloc, start, swaps, workers as u8)?;
         let workers = vec![in alloc; idle_worker(); workers as usize + 1]?;
         Ok(Access {
             cells,

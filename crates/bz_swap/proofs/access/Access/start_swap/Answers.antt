@@ -22,7 +22,7 @@ returns-clause-begun c =
     let p : Parts = record { store = c.self.inside.cells; workers = c.self.inside.workers.items; phase = c.self.inside.phase; steps = c.self.inside.steps } in
     let may = rw (← c.self.view_is) at c.requires in
     let took = c.in-Some.ensures in
-    rw (took.0, took.2, ← c.self.view_is) (refl, (swap-started p c.self.invariant c.args.w c.words-worker.result c.args.entries may c.words-worker.ensures.list c.words-worker.ensures.entries took.1).is)
+    rw (took.0, took.2, ← c.self.view_is) (refl, took.1, (swap-started p c.self.invariant c.args.w c.words-worker.result c.args.entries may c.words-worker.ensures.list c.words-worker.ensures.entries took.1).is)
 
 pub returns-clause-held : goal.returns-clause-held
 returns-clause-held c =
