@@ -37,6 +37,7 @@ pub mod SwapKeeps
 pub mod SwapLists
 pub mod Swapping
 pub mod Taken
+pub mod TestWorlds
 pub mod Untouched
 pub mod Values
 pub mod WorkStarts

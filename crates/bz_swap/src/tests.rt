@@ -2,6 +2,9 @@
 
 ghost use Rattle.std.specs.Prelude.{◌≡◌, ◌≢◌};
 
+mod insert;
+mod world;
+
 use crate::entry_list::EntryList;
 use bz_word::Entry;
 use std::process::Abort;

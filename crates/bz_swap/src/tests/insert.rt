@@ -1,0 +1,132 @@
+//! An opening, and the two swaps of an insert: the first reserves a record, the second publishes it.
+
+ghost use Rattle.std.specs.Prelude.{◌≡◌, IfOk, length};
+
+use super::world::{WORDS, World};
+use crate::phase::Phase;
+use crate::progress::NoSwap;
+use bz_machine::Done;
+use bz_memory::Memory;
+use bz_word::Entry;
+use std::alloc::Global;
+use std::test::Fail;
+
+const STATUS: u32 = 1_040;
+
+const META: u32 = 1_050;
+
+const DIRTY: u64 = 1 << 63;
+
+const RESERVED: [Entry; 2] = [
+    Entry {
+        target: STATUS,
+        expected: 0,
+        new: 0x0010_0802_0000_0001,
+    },
+    Entry {
+        target: META,
+        expected: 0,
+        new: 0x0000_007E_0001_0002,
+    },
+];
+
+const PUBLISHED: [Entry; 2] = [
+    Entry {
+        target: STATUS,
+        expected: 0x0010_0802_0000_0001,
+        new: 0x0010_0800_0000_0002,
+    },
+    Entry {
+        target: META,
+        expected: 0x0000_007E_0001_0002,
+        new: 0x1000_007E_0001_0002,
+    },
+];
+
+// A memory of zeros but for one word.
+fn world_with(alloc: Global, at: u16, word: u64) -> Result<World, Memory> {
+    let mut words = vec![in alloc; 0u64; WORDS as usize]?;
+    let place = at as usize % WORDS as usize;
+    words[place] = word;
+    World::open(alloc, &words)
+}
+
+#[test]
+fn words_of_an_unfinished_swap_need_a_recovery(rt: HostRuntime) -> Result<(), Fail> {
+    for (at, word, phase) in [
+        (0, 0, Phase::Opened),
+        (1_040, 0x0010_0802_0000_0001, Phase::Opened),
+        (1_040, 1 << 63, Phase::Recovering),
+        (1_040, 1 << 62, Phase::Recovering),
+        (1_040, (1 << 61) + (1 << 18), Phase::Recovering),
+        (16, 1, Phase::Recovering),
+        (32, 2, Phase::Recovering),
+        (33, 2, Phase::Opened),
+    ] {
+        let world = world_with(rt.alloc(), at, word)?;
+        assert_eq!(rt; world.phase(), phase, "{at} {word}");
+    }
+    Ok(())
+}
+
+// Steps until the worker's operation is answered: the answer, the number of steps, and the swaps whose effect was told.
+fn run(world: &mut World, w: u8) -> Option<(Done, u32, [Option<u16>; 2])> {
+    let mut told = [None, None];
+    for n in 1..=100 {
+        let progress = world.step(w)?;
+        if let Some(swap) = progress.effect {
+            told = [Some(swap), told[0]];
+        }
+        if progress.done != Done::Busy {
+            return Some((progress.done, n, told));
+        }
+    }
+    None
+}
+
+#[test]
+fn an_insert_is_two_swaps(rt: HostRuntime) -> Result<(), Fail> {
+    let mut world = world_with(rt.alloc(), 0, 1)?;
+    for (swap, entries) in [(0, RESERVED), (1, PUBLISHED)] {
+        assert_eq!(rt; world.begin(1, entries[0], entries[1]), Some(Ok(swap)));
+        assert_eq!(rt;
+            run(&mut world, 1),
+            Some((Done::Swapped(true), 27, [Some(swap), None]))
+        );
+        for entry in entries {
+            // the bit that says that a value may not be durable leaves the caches alone
+            assert_eq!(rt; world.durable(entry.target), DIRTY + entry.new);
+            assert_eq!(rt; world.evict(entry.target), None);
+            assert_eq!(rt; world.durable(entry.target), entry.new);
+        }
+    }
+    assert_eq!(rt;
+        world.begin(1, PUBLISHED[0], PUBLISHED[1]),
+        Some(Err(NoSwap))
+    );
+    for (a, word) in [
+        (16, DIRTY + 2),
+        (17, 2),
+        (18, 1_040),
+        (19, 0),
+        (20, 0x0010_0802_0000_0001),
+        (21, 1_050),
+        (22, 0),
+        (23, 0x0000_007E_0001_0002),
+        (24, 0),
+        (32, DIRTY + 2),
+        (33, 2),
+        (34, 1_040),
+        (35, 0x0010_0802_0000_0001),
+        (36, 0x0010_0800_0000_0002),
+        (37, 1_050),
+        (38, 0x0000_007E_0001_0002),
+        (39, 0x1000_007E_0001_0002),
+        (40, 0),
+        (STATUS, 0x0010_0800_0000_0002),
+        (META, 0x1000_007E_0001_0002),
+    ] {
+        assert_eq!(rt; world.durable(a), word, "at {a}");
+    }
+    Ok(())
+}
