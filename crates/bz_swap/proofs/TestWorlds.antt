@@ -1,14 +1,16 @@
 -- What every memory of the tests keeps: its sizes, and that no worker is about to store.
-use Rattle.std.specs.Prelude.{◌≡◌, ◌≢◌, ℕ, length, Option}
-use Rattle.std.proofs.Common.{refl, ap, sym, ◌∙◌, inl, inr}
-use Rattle.std.proofs.lemmas.Bool.{cases_eq}
+use Rattle.std.specs.Prelude.{◌≡◌, ◌≢◌, ℕ, ◌^◌, ◌<◌, List, length, slice_index, Option}
+use Rattle.std.proofs.Common.{arith, refl, ap, sym, ◌∙◌, inl, inr}
+use Rattle.std.proofs.lemmas.Bool.{cases_eq, cases_lt}
+use Rattle.std.proofs.lemmas.List.{get_or_past}
 use Rattle.bz_acts.specs.declared.acted.Act.{Act}
 use Rattle.bz_machine.specs.declared.done.Done.{Done}
 use Rattle.bz_machine.specs.declared.done.Done.TheVariants.{Busy, Read, Swapped, Stored, Flushed}
 use Rattle.bz_swap.specs.declared.phase.Phase.{Phase}
 use Rattle.bz_swap.specs.declared.phase.Phase.TheVariants.{Opened, Running, Recovering}
-use Rattle.bz_swap.specs.SwapMemory.{SwapMemory, Doing, Idle, Storing, worker_of, doing_of}
+use Rattle.bz_swap.specs.SwapMemory.{SwapMemory, Doing, Idle, Storing, idle, worker_of, doing_of}
 use Rattle.bz_swap.specs.Steps.{IsOneAct, StepsIn, doing_after}
+use Rattle.bz_swap.specs.Power.{AreRecovered, MayRenew}
 
 -- no worker is about to store
 abbrev pub IsCalm : SwapMemory → Type 0
@@ -46,3 +48,48 @@ pub stepped-world : (p : Phase) (old new : SwapMemory) (w : ℕ) (act : Act) (do
 stepped-world Opened old new w act done told s t = one-world old new w act done s.one t
 stepped-world Running old new w act done told s t = one-world old new w act done s.one t
 stepped-world Recovering old new w act done told s t = one-world old new w act done s.one t
+
+-- the word at the address is plain, and the same in the caches and in the memory itself
+abbrev pub IsPlainAt : SwapMemory → ℕ → Type 0
+IsPlainAt m a = (slice_index m.cached a ≡ slice_index m.durable a) × (slice_index m.durable a < 2 ^ 61)
+
+-- and so is an address past the memory, where there is no word
+pub plain-past : (m : SwapMemory) → length m.cached ≡ 1056 → length m.durable ≡ 1056 → ((a : ℕ) → a < 1056 → IsPlainAt m a) → (a : ℕ) → IsPlainAt m a
+plain-past m cached durable plain a = elim (cases_lt a 1056) [
+  | inl within ↦ plain a within
+  | inr past ↦
+      let c : slice_index m.cached a ≡ 0 = get_or_past m.cached a 0 (rw cached past) in
+      let d : slice_index m.durable a ≡ 0 = get_or_past m.durable a 0 (rw durable past) in
+      (c ∙ sym d, rw d (omega arith))
+]
+
+-- three workers are all of them
+all-three : (m : SwapMemory) → length m.workers ≡ 3 → doing_of m 0 ≡ Idle → doing_of m 1 ≡ Idle → doing_of m 2 ≡ Idle → (w : ℕ) → doing_of m w ≡ Idle
+all-three m size i j k w = elim (cases_lt w 3) [
+  | inl below ↦ grind (arith, below, i, j, k)
+  | inr past ↦ ap (λ l. l.doing) (get_or_past m.workers w idle (rw size past))
+]
+
+one-left : (s : ℕ) → s < 2 → s ≢ 0 → s ≡ 1
+one-left s below ne = omega (arith, below, ne)
+
+-- two free descriptors are all of them
+recovered-words : (words : List ℕ) → ((a : ℕ) → slice_index words a < 2 ^ 61) → slice_index words 16 ≡ 0 → slice_index words 32 ≡ 0 → AreRecovered 2 words
+recovered-words words plain i j = record {
+  plain = λ a out. plain a;
+  free = λ s below. elim (cases_eq s 0) [
+    | inl e ↦ rw e i
+    | inr ne ↦ rw (one-left s below ne) j
+  ];
+}
+
+pub renewable : (m : SwapMemory) → IsTestWorld m → length m.durable ≡ length m.cached → ((a : ℕ) → a < 1056 → IsPlainAt m a)
+    → doing_of m 0 ≡ Idle → doing_of m 1 ≡ Idle → doing_of m 2 ≡ Idle → slice_index m.durable 16 ≡ 0 → slice_index m.durable 32 ≡ 0 → MayRenew m
+renewable m t same plain i j k p q =
+    let all = plain-past m t.0 (same ∙ t.0) plain in
+    record {
+      idle = all-three m t.1 i j k;
+      same = λ a out. (all a).0;
+      cached = rw t.2 (recovered-words m.cached (λ a. rw (all a).0 (all a).1) ((all 16).0 ∙ p) ((all 32).0 ∙ q));
+      durable = rw t.2 (recovered-words m.durable (λ a. (all a).1) p q);
+    }

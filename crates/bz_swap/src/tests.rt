@@ -4,6 +4,7 @@ ghost use Rattle.std.specs.Prelude.{◌≡◌, ◌≢◌};
 
 mod cuts;
 mod insert;
+mod recovery;
 mod world;
 
 use crate::entry_list::EntryList;

@@ -7,19 +7,19 @@ use bz_word::Entry;
 use std::alloc::Global;
 use std::test::Fail;
 
-const FIRST: Entry = Entry {
+pub(super) const FIRST: Entry = Entry {
     target: 50,
     expected: 0,
     new: 11,
 };
 
-const SECOND: Entry = Entry {
+pub(super) const SECOND: Entry = Entry {
     target: 1_050,
     expected: 0,
     new: 12,
 };
 
-fn zeros(alloc: Global) -> Result<World, Memory> {
+pub(super) fn zeros(alloc: Global) -> Result<World, Memory> {
     let words = vec![in alloc; 0u64; WORDS as usize]?;
     World::open(alloc, &words)
 }
@@ -36,7 +36,7 @@ fn evict_all(world: &mut World, evicted: &[u32]) -> u32 {
 }
 
 // Makes so many steps of worker 1, each of them with evictions after it, and says how many effects were told.
-fn steps(world: &mut World, count: u32, evicted: &[u32]) -> u32 {
+pub(super) fn steps(world: &mut World, count: u32, evicted: &[u32]) -> u32 {
     let mut told: u32 = 0;
     for _ in 0..count {
         let effect = world.step(1).and_then(|progress| progress.effect);

@@ -1,7 +1,8 @@
 //! A memory of two descriptors and three workers, which asks before each call whether it may come.
 
-ghost use Rattle.std.specs.Prelude.{◌≡◌, ◌<◌, true, length, IfSome};
-ghost use Rattle.bz_swap.specs.Starts.{IsEntry};
+ghost use Rattle.std.specs.Prelude.{◌≡◌, ◌<◌, ◌^◌, ℕ, true, length, slice_index, IfSome};
+ghost use Rattle.bz_swap.specs.Starts.{IsEntry, MayRecover};
+ghost use Rattle.bz_swap.specs.Power.{MayRenew};
 
 use crate::access::Access;
 use crate::entry_list::EntryList;
@@ -144,5 +145,73 @@ impl World {
     pub(crate) fn cut(&mut self) {
         sizes_agree(&self.access);
         self.access.cut();
+    }
+
+    /// Stores a word as it is, in a recovery time; false where that may not come.
+    pub(crate) fn store(&mut self, a: u32, v: u64) -> bool {
+        if a >= WORDS || !self.may_recover() {
+            return false;
+        }
+        self.access.start_store(0, a, v);
+        self.access.step(0);
+        true
+    }
+
+    /// Flushes the line of an address, in a recovery time; false where that may not come.
+    pub(crate) fn flush(&mut self, a: u32) -> bool {
+        if a >= WORDS || !self.may_recover() {
+            return false;
+        }
+        self.access.start_flush(0, a / 8);
+        self.access.step(0);
+        true
+    }
+
+    // Whether worker 0 may start something, and make a step.
+    fn may_recover(&self) -> bool
+        ensures recover { result ≡ true → MayRecover self.now }
+        ensures steps { result ≡ true → self.now.steps < 2 ^ 36 }
+    {
+        self.access.idle(0)
+            && self.access.phase() != Phase::Running
+            && self.access.steps() < 1 << 36
+    }
+
+    // Whether each word is plain, and the same in the caches and in the memory itself.
+    fn is_plain(&self) -> bool
+        ensures { result ≡ true → (a : ℕ) → a < 1056 → (slice_index self.now.cached a ≡ slice_index self.now.durable a) × (slice_index self.now.durable a < 2 ^ 61) }
+    {
+        let mut a = 0;
+        while a < WORDS {
+            let word = self.access.durable(a);
+            if word >= VALUES || word != self.access.cached(a) {
+                return false;
+            }
+            a += 1;
+        }
+        true
+    }
+
+    // Whether the descriptors may be given back.
+    fn may_renew(&self) -> bool
+        ensures { result ≡ true → MayRenew self.now }
+    {
+        sizes_agree(&self.access);
+        if !self.access.idle(0) || !self.access.idle(1) || !self.access.idle(2) {
+            return false;
+        }
+        if self.access.durable(16) != 0 || self.access.durable(32) != 0 {
+            return false;
+        }
+        self.is_plain()
+    }
+
+    /// Gives the descriptors back; false where that may not come.
+    pub(crate) fn renew(&mut self) -> bool {
+        let may = self.may_renew();
+        if may {
+            self.access.renew();
+        }
+        may
     }
 }
