@@ -3,6 +3,7 @@
 ghost use Rattle.std.specs.Prelude.{◌≡◌, ◌≢◌};
 
 mod cuts;
+mod helper;
 mod insert;
 mod recovery;
 mod world;

@@ -125,6 +125,18 @@ impl World {
         Some(self.access.start_swap(w, entries))
     }
 
+    /// Begins a read of an address outside the descriptors; false where it may not come.
+    pub(crate) fn begin_read(&mut self, w: u8, a: u32) -> bool {
+        if w < 1 || w > 2 || !self.access.idle(w) || self.access.phase() == Phase::Recovering {
+            return false;
+        }
+        if a < FIRST_OUTSIDE || a >= WORDS {
+            return false;
+        }
+        self.access.start_read(w, a);
+        true
+    }
+
     /// Makes a step of a worker; none where it is idle.
     pub(crate) fn step(&mut self, w: u8) -> Option<Progress> {
         if w > 2 || self.access.idle(w) || self.access.steps() >= 1 << 36 {
