@@ -85,7 +85,7 @@ zero-found : (key : List ℕ) → found_of (λ i. 0) key ≡ None
 unfolding found_of search_to status
 zero-found key = refl
 
-every-passes : (n : ℕ) (p : ℕ → Bool) → ((i : ℕ) → i < n → p i ≡ true) → every n p ≡ true
+pub every-passes : (n : ℕ) (p : ℕ → Bool) → ((i : ℕ) → i < n → p i ≡ true) → every n p ≡ true
 unfolding every
 every-passes zero p each = refl
 every-passes (suc n) p each = rw (each n (omega arith)) (every-passes n p (λ i l. each i (omega arith)))

@@ -1,0 +1,44 @@
+-- What a swap memory leaves outside a recovery time, and how an effect changes it.
+use Rattle.std.proofs.Common.{◌≡◌, ◌≢◌, ℕ, refl, subst, sym, ◌∙◌}
+use Rattle.bz_cells.specs.Store.{IsOutside}
+use Rattle.bz_swap.specs.Held.{IsHeld, HoldsIn}
+use Rattle.bz_swap.specs.SwapMemory.{SwapMemory}
+use Rattle.bz_swap.specs.declared.phase.Phase.{Phase}
+use Rattle.bz_swap.specs.declared.phase.Phase.TheVariants.{Opened, Running, Recovering}
+use Rattle.bz_content.specs.Swapped.{ResolvesAsTheSwap, LawfulAsTheSwap, LeavesItsValues, HeldMemoriesLeaveTheirValues, EffectsShowOnTheImage, QuietMomentsChangeNothing}
+
+-- the memory is held
+held : (p : Phase) (m : SwapMemory) → HoldsIn p m → p ≢ Recovering → IsHeld m
+held Opened m h ne = h
+held Running m h ne = h
+held Recovering m h ne = absurd (ne refl)
+
+pub leaves-values : ResolvesAsTheSwap → LawfulAsTheSwap → HeldMemoriesLeaveTheirValues
+leaves-values resolves lawful m w = record {
+  values = λ a outside. resolves m.swaps m.durable a outside (h.lawful a outside);
+  lawful = λ c a same outside fixed. lawful c m.swaps m.durable a same outside fixed (h.lawful a outside);
+}
+  where
+    h : IsHeld m
+    h = held m.phase m w.holds w.phase
+
+-- an address outside the descriptors of before is outside those of after
+still : (old new : SwapMemory) (a : ℕ) → new.swaps ≡ old.swaps → IsOutside old.swaps a → IsOutside new.swaps a
+still old new a same outside = subst (λ n. IsOutside n a) (sym same) outside
+
+pub effect-shows : HeldMemoriesLeaveTheirValues → EffectsShowOnTheImage
+effect-shows law old new s w targets t = record {
+  expected = λ k d less. before.values _ (targets k d less) ∙ t.expected k d less;
+  value = λ k d less. after.values _ (still old new _ w.swaps (targets k d less)) ∙ t.value k d less;
+  others = λ a outside named other. after.values a (still old new a w.swaps outside) ∙ (t.others a named other ∙ sym (before.values a outside));
+}
+  where
+    before : LeavesItsValues old
+    before = law old w.before
+
+    after : LeavesItsValues new
+    after = law new w.after
+
+pub changes-nothing : HeldMemoriesLeaveTheirValues → QuietMomentsChangeNothing
+changes-nothing law old new w q a outside named =
+    (law new w.after).values a (still old new a w.swaps outside) ∙ (q.values a named ∙ sym ((law old w.before).values a outside))
