@@ -6,6 +6,7 @@ mod cuts;
 mod helper;
 mod insert;
 mod recovery;
+mod resolve;
 mod world;
 
 use crate::entry_list::EntryList;

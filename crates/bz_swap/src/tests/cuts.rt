@@ -1,5 +1,6 @@
-//! A power cut at each act of a swap of two words.
+//! A power cut after each step of a swap.
 
+use super::resolve::resolve;
 use super::world::{WORDS, World};
 use crate::phase::Phase;
 use bz_memory::Memory;
@@ -17,6 +18,18 @@ pub(super) const SECOND: Entry = Entry {
     target: 1_050,
     expected: 0,
     new: 12,
+};
+
+const THIRD: Entry = Entry {
+    target: 51,
+    expected: 0,
+    new: 13,
+};
+
+const FOURTH: Entry = Entry {
+    target: 60,
+    expected: 0,
+    new: 14,
 };
 
 pub(super) fn zeros(alloc: Global) -> Result<World, Memory> {
@@ -48,39 +61,65 @@ pub(super) fn steps(world: &mut World, count: u32, evicted: &[u32]) -> u32 {
     told
 }
 
-// A power cut after so many steps: either both targets have their new values and the effect was told, once, or both
-// have the old ones and none was told.
-fn cut_after(alloc: Global, count: u32, evicted: &[u32]) -> Result<bool, Memory> {
-    let mut world = zeros(alloc)?;
-    let begun = world.begin(1, FIRST, SECOND);
-    let told = steps(&mut world, count, evicted);
-    let before = (world.resolve(FIRST.target), world.resolve(SECOND.target));
-    world.cut();
-    let after = (world.resolve(FIRST.target), world.resolve(SECOND.target));
-    let whole = match told {
-        0 => after == (0, 0),
-        1 => after == (11, 12),
-        _ => false,
+// Begins a swap of two or four entries.
+fn begin(world: &mut World, entries: &[Entry]) -> bool {
+    let begun = match entries.len() {
+        2 => world.begin(1, entries[0], entries[1]),
+        4 => world.begin_four(1, [entries[0], entries[1], entries[2], entries[3]]),
+        _ => None,
     };
-    Ok(begun == Some(Ok(0)) && before == after && whole && world.phase() == Phase::Recovering)
+    begun == Some(Ok(0))
+}
+
+// Whether each target stands for its new value where an effect was told, once, and for its old one where none was told.
+fn is_whole(world: &World, entries: &[Entry], told: u32) -> bool {
+    entries.iter().all(|entry| {
+        let value = resolve(world, entry.target);
+        match told {
+            0 => value == entry.expected,
+            1 => value == entry.new,
+            _ => false,
+        }
+    })
+}
+
+// Whether a power cut after so many steps leaves the swap whole or not at all.
+fn cut_after(
+    alloc: Global,
+    entries: &[Entry],
+    count: u32,
+    evicted: &[u32],
+) -> Result<bool, Memory> {
+    let mut world = zeros(alloc)?;
+    let begun = begin(&mut world, entries);
+    let told = steps(&mut world, count, evicted);
+    let before = is_whole(&world, entries, told);
+    world.cut();
+    let after = is_whole(&world, entries, told);
+    Ok(begun && before && after && world.phase() == Phase::Recovering)
 }
 
 #[test]
 fn a_cut_leaves_a_swap_whole_or_not_at_all(rt: HostRuntime) -> Result<(), Fail> {
-    let table: [&[u32]; 8] = [
-        &[],
-        &[16],
-        &[17, 18, 19, 20, 21, 22, 23],
-        &[24],
-        &[50],
-        &[1_050],
-        &[50, 1_050],
-        &[16, 17, 18, 19, 20, 21, 22, 23, 50, 1_050],
+    let four = [FIRST, THIRD, FOURTH, SECOND];
+    let two = [FIRST, SECOND];
+    let table: [(&[Entry], &[u32]); 11] = [
+        (&two, &[]),
+        (&two, &[16]),
+        (&two, &[17, 18, 19, 20, 21, 22, 23]),
+        (&two, &[50]),
+        (&two, &[1_050]),
+        (&two, &[16, 17, 18, 19, 20, 21, 22, 23, 50, 1_050]),
+        (&four, &[]),
+        (&four, &[16]),
+        (&four, &[24, 25, 26, 27, 28, 29]),
+        (&four, &[51, 60]),
+        (&four, &[16, 24, 26, 28, 50, 51, 60, 1_050]),
     ];
-    for evicted in table {
-        for count in 0..=27 {
+    for (entries, evicted) in table {
+        for count in 0..=47 {
             assert!(rt;
-                cut_after(rt.alloc(), count, evicted)?,
+                cut_after(rt.alloc(), entries, count, evicted)?,
                 "{count} steps, {evicted:?}"
             );
         }

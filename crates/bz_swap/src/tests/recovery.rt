@@ -1,6 +1,7 @@
 //! A recovery by hand after a power cut, and a swap after it.
 
 use super::cuts::{FIRST, SECOND, steps, zeros};
+use super::resolve::resolve;
 use super::world::World;
 use crate::phase::Phase;
 use bz_memory::Memory;
@@ -18,16 +19,16 @@ fn put(world: &mut World, a: u32, v: u64) -> bool {
 
 // Makes both targets the values that they stand for and both descriptors free, and gives the descriptors back.
 fn recover(world: &mut World) -> bool {
-    let first = world.resolve(FIRST.target);
-    let second = world.resolve(SECOND.target);
+    let first = resolve(world, FIRST.target);
+    let second = resolve(world, SECOND.target);
     let targets = put(world, FIRST.target, first) && put(world, SECOND.target, second);
     targets && put(world, 16, 0) && put(world, 32, 0) && world.renew()
 }
 
 // A swap of both targets from the values that they stand for to greater ones; the descriptor that it took.
 fn begin_next(world: &mut World) -> Option<u16> {
-    let first = world.resolve(FIRST.target);
-    let second = world.resolve(SECOND.target);
+    let first = resolve(world, FIRST.target);
+    let second = resolve(world, SECOND.target);
     let begun = world.begin(
         1,
         Entry {
@@ -46,7 +47,7 @@ fn begin_next(world: &mut World) -> Option<u16> {
 
 // What both targets stand for.
 fn values(world: &World) -> (u64, u64) {
-    (world.resolve(FIRST.target), world.resolve(SECOND.target))
+    (resolve(world, FIRST.target), resolve(world, SECOND.target))
 }
 
 // A cut after so many steps, a recovery, and a swap after it: what the targets stand for after the recovery and in the

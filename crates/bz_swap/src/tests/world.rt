@@ -1,7 +1,7 @@
 //! A memory of two descriptors and three workers, which asks before each call whether it may come.
 
-ghost use Rattle.std.specs.Prelude.{◌≡◌, ◌<◌, ◌^◌, ℕ, true, length, slice_index, IfSome};
-ghost use Rattle.bz_swap.specs.Starts.{IsEntry, MayRecover};
+ghost use Rattle.std.specs.Prelude.{◌≡◌, ◌<◌, ◌^◌, ℕ, ◌∷◌, [], true, length, slice_index};
+ghost use Rattle.bz_swap.specs.Starts.{IsEntry, MayRecover, MayWork};
 ghost use Rattle.bz_swap.specs.Power.{MayRenew};
 
 use crate::access::Access;
@@ -44,6 +44,16 @@ fn sizes_agree(access: &Access)
     let _steps = access.steps;
 }
 
+// The list of four entries in the order of their targets.
+fn four(a: Entry, b: Entry, c: Entry, d: Entry) -> EntryList
+    requires second { a.target < b.target }
+    requires third { b.target < c.target }
+    requires fourth { c.target < d.target }
+    ensures { result ≡ a ∷ b ∷ c ∷ d ∷ [] }
+{
+    EntryList::one(a).with(b).with(c).with(d)
+}
+
 impl World {
     pub(crate) fn open(alloc: Global, start: &[u64]) -> Result<World, Memory>
         requires { length start.now ≡ 1056 }
@@ -61,40 +71,6 @@ impl World {
         if a < WORDS { self.access.durable(a) } else { 0 }
     }
 
-    // The word of an entry of a descriptor, in the memory itself.
-    fn entry_word(&self, swap: u32, entry: u32, word: u32) -> u64
-        requires { (swap < 65536) × (entry < 4) × (word < 3) }
-    {
-        self.durable(16 + 16 * swap + 2 + 3 * entry + word)
-    }
-
-    // The place of the first entry with this target, in the memory itself.
-    fn entry_at(&self, swap: u32, a: u32) -> Option<u32>
-        requires { swap < 65536 }
-        ensures { IfSome result (λ i. i < 4) }
-    {
-        let count = self.durable(16 + 16 * swap + 1);
-        (0..4u32).find(|i| (*i as u64) < count && self.entry_word(swap, *i, 0) == a as u64)
-    }
-
-    /// The value that an address stands for, read from the memory itself.
-    pub(crate) fn resolve(&self, a: u32) -> u64 {
-        let word = self.durable(a);
-        let swap = (word % 65_536) as u32;
-        match word / VALUES {
-            0 | 4 => word % VALUES,
-            1 => self.entry_word(swap, (word / 65_536 % 4) as u32, 1),
-            _ => {
-                let succeeded = self.durable(16 + 16 * swap) % VALUES == 2;
-                let word = if succeeded { 2 } else { 1 };
-                match self.entry_at(swap, a) {
-                    Some(entry) => self.entry_word(swap, entry, word),
-                    None => u64::MAX,
-                }
-            }
-        }
-    }
-
     // Whether a swap may have this entry.
     fn fits(&self, entry: Entry) -> bool
         ensures { result ≡ true → IsEntry self.now entry }
@@ -108,6 +84,16 @@ impl World {
             && self.access.cached(a) == self.access.durable(a)
     }
 
+    // Whether a worker may start something.
+    fn may_work(&self, w: u8) -> bool
+        ensures { result ≡ true → MayWork self.now w }
+    {
+        if w < 1 || w > 2 || !self.access.idle(w) {
+            return false;
+        }
+        self.access.phase() != Phase::Recovering
+    }
+
     /// Begins a swap of two entries in the order of their targets; none where it may not come.
     pub(crate) fn begin(
         &mut self,
@@ -115,22 +101,31 @@ impl World {
         first: Entry,
         second: Entry,
     ) -> Option<Result<u16, NoSwap>> {
-        if w < 1 || w > 2 || !self.access.idle(w) || self.access.phase() == Phase::Recovering {
+        if !self.may_work(w) || !self.fits(first) || !self.fits(second) {
             return None;
         }
-        if second.target <= first.target || !self.fits(first) || !self.fits(second) {
+        if second.target <= first.target {
             return None;
         }
         let entries = EntryList::one(first).with(second);
         Some(self.access.start_swap(w, entries))
     }
 
+    /// Begins a swap of four entries in the order of their targets; none where it may not come.
+    pub(crate) fn begin_four(&mut self, w: u8, entries: [Entry; 4]) -> Option<Result<u16, NoSwap>> {
+        let [a, b, c, d] = entries;
+        if !self.may_work(w) || !self.fits(a) || !self.fits(b) || !self.fits(c) || !self.fits(d) {
+            return None;
+        }
+        if b.target <= a.target || c.target <= b.target || d.target <= c.target {
+            return None;
+        }
+        Some(self.access.start_swap(w, four(a, b, c, d)))
+    }
+
     /// Begins a read of an address outside the descriptors; false where it may not come.
     pub(crate) fn begin_read(&mut self, w: u8, a: u32) -> bool {
-        if w < 1 || w > 2 || !self.access.idle(w) || self.access.phase() == Phase::Recovering {
-            return false;
-        }
-        if a < FIRST_OUTSIDE || a >= WORDS {
+        if a < FIRST_OUTSIDE || a >= WORDS || !self.may_work(w) {
             return false;
         }
         self.access.start_read(w, a);
