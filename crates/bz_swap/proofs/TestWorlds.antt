@@ -1,14 +1,16 @@
 -- What every memory of the tests keeps: its sizes, and that no worker is about to store.
-use Rattle.std.specs.Prelude.{◌≡◌, ◌≢◌, ℕ, ◌^◌, ◌<◌, List, length, slice_index, Option}
-use Rattle.std.proofs.Common.{arith, refl, ap, sym, ◌∙◌, inl, inr}
+use Rattle.std.specs.Prelude.{◌≡◌, ◌≢◌, ℕ, ◌^◌, ◌<◌, ◌||◌, Bool, true, false, List, [], ◌∷◌, ◌++◌, length, slice_index, Option, Some, IfSome, ◌==◌}
+use Rattle.std.proofs.Common.{arith, refl, ap, sym, subst, ◌∙◌, inl, inr}
 use Rattle.std.proofs.lemmas.Bool.{cases_eq, cases_lt}
-use Rattle.std.proofs.lemmas.List.{get_or_past}
+use Rattle.std.proofs.lemmas.List.{get_or_past, get_or-set_same, get_or-set_other, length-set}
+use Rattle.bz_word.specs.declared.entry.Entry.{Entry}
 use Rattle.bz_acts.specs.declared.acted.Act.{Act}
 use Rattle.bz_machine.specs.declared.done.Done.{Done}
 use Rattle.bz_machine.specs.declared.done.Done.TheVariants.{Busy, Read, Swapped, Stored, Flushed}
 use Rattle.bz_swap.specs.declared.phase.Phase.{Phase}
 use Rattle.bz_swap.specs.declared.phase.Phase.TheVariants.{Opened, Running, Recovering}
-use Rattle.bz_swap.specs.SwapMemory.{SwapMemory, Doing, Idle, Storing, idle, worker_of, doing_of}
+use Rattle.bz_swap.specs.SwapMemory.{SwapMemory, Doing, Idle, Swapping, Storing, idle, worker_of, doing_of, is_target, is_among}
+use Rattle.bz_swap.specs.Starts.{swapping}
 use Rattle.bz_swap.specs.Steps.{IsOneAct, StepsIn, doing_after}
 use Rattle.bz_swap.specs.Power.{AreRecovered, MayRenew}
 
@@ -16,8 +18,12 @@ use Rattle.bz_swap.specs.Power.{AreRecovered, MayRenew}
 abbrev pub IsCalm : SwapMemory → Type 0
 IsCalm m = (u a v : ℕ) → doing_of m u ≢ Storing a v
 
-abbrev pub IsTestWorld : SwapMemory → Type 0
-IsTestWorld m = (length m.cached ≡ 1056) × (length m.workers ≡ 3) × (m.swaps ≡ 2) × IsCalm m
+-- these targets, if there are any, are those of swaps begun
+abbrev pub AreNamed : List (List Entry) → Option (ℕ × ℕ) → Type 0
+AreNamed begun named = IfSome named (λ t. (is_among begun t.0 ≡ true) × (is_among begun t.1 ≡ true))
+
+abbrev pub IsTestWorld : SwapMemory → Option (ℕ × ℕ) → Type 0
+IsTestWorld m named = (length m.cached ≡ 1056) × (length m.workers ≡ 3) × (m.swaps ≡ 2) × IsCalm m × AreNamed m.begun named
 
 idle-calm : (d : Doing) (a v : ℕ) → d ≡ Idle → d ≢ Storing a v
 idle-calm d a v is stores = absurd cc
@@ -36,18 +42,19 @@ changed-calm old new w others here calm u a v is = elim (cases_eq u w) [
   | inr other ↦ calm u a v (sym (ap (λ l. l.doing) (others u other)) ∙ is)
 ]
 
-one-world : (old new : SwapMemory) (w : ℕ) (act : Act) (done : Done) → IsOneAct old w act done new → IsTestWorld old → IsTestWorld new
-one-world old new w act done one t = (
+one-world : (named : Option (ℕ × ℕ)) (old new : SwapMemory) (w : ℕ) (act : Act) (done : Done) → IsOneAct old w act done new → IsTestWorld old named → IsTestWorld new named
+one-world named old new w act done one t = (
   one.others.size ∙ t.0,
   one.others.count ∙ t.1,
   one.others.swaps ∙ t.2,
   changed-calm old new w one.others.workers (λ a v is. after-calm (doing_of old w) done (t.3 w) a v (sym one.doing ∙ is)) t.3,
+  subst (λ begun. AreNamed begun named) (sym one.others.begun) t.4,
 )
 
-pub stepped-world : (p : Phase) (old new : SwapMemory) (w : ℕ) (act : Act) (done : Done) (told : Option ℕ) → StepsIn p old w act done told new → IsTestWorld old → IsTestWorld new
-stepped-world Opened old new w act done told s t = one-world old new w act done s.one t
-stepped-world Running old new w act done told s t = one-world old new w act done s.one t
-stepped-world Recovering old new w act done told s t = one-world old new w act done s.one t
+pub stepped-world : (named : Option (ℕ × ℕ)) (p : Phase) (old new : SwapMemory) (w : ℕ) (act : Act) (done : Done) (told : Option ℕ) → StepsIn p old w act done told new → IsTestWorld old named → IsTestWorld new named
+stepped-world named Opened old new w act done told s t = one-world named old new w act done s.one t
+stepped-world named Running old new w act done told s t = one-world named old new w act done s.one t
+stepped-world named Recovering old new w act done told s t = one-world named old new w act done s.one t
 
 -- the word at the address is plain, and the same in the caches and in the memory itself
 abbrev pub IsPlainAt : SwapMemory → ℕ → Type 0
@@ -83,9 +90,9 @@ recovered-words words plain i j = record {
   ];
 }
 
-pub renewable : (m : SwapMemory) → IsTestWorld m → length m.durable ≡ length m.cached → ((a : ℕ) → a < 1056 → IsPlainAt m a)
+pub renewable : (m : SwapMemory) (named : Option (ℕ × ℕ)) → IsTestWorld m named → length m.durable ≡ length m.cached → ((a : ℕ) → a < 1056 → IsPlainAt m a)
     → doing_of m 0 ≡ Idle → doing_of m 1 ≡ Idle → doing_of m 2 ≡ Idle → slice_index m.durable 16 ≡ 0 → slice_index m.durable 32 ≡ 0 → MayRenew m
-renewable m t same plain i j k p q =
+renewable m named t same plain i j k p q =
     let all = plain-past m t.0 (same ∙ t.0) plain in
     record {
       idle = all-three m t.1 i j k;
@@ -93,3 +100,28 @@ renewable m t same plain i j k p q =
       cached = rw t.2 (recovered-words m.cached (λ a. rw (all a).0 (all a).1) ((all 16).0 ∙ p) ((all 32).0 ∙ q));
       durable = rw t.2 (recovered-words m.durable (λ a. (all a).1) p q);
     }
+
+or-true : (b : Bool) → (b || true) ≡ true
+or-true true = refl
+or-true false = refl
+
+-- what the last swap names is named
+pub named-last : (begun : List (List Entry)) (entries : List Entry) (a : ℕ) → is_target entries a ≡ true → is_among (begun ++ entries ∷ []) a ≡ true
+named-last [] entries a is = rw is refl
+named-last (x ∷ begun) entries a is = rw (named-last begun entries a is) (or-true (is_target x a))
+
+same-target : (n : ℕ) → (n == n) ≡ true
+same-target n = grind arith
+
+swaps-calm : (s a v : ℕ) → Swapping s ≢ Storing a v
+swaps-calm s a v is = absurd cc
+
+-- a swap of two entries begins, and their targets are named
+pub begun-world : (named : Option (ℕ × ℕ)) (m : SwapMemory) (w : ℕ) (a b : Entry) → w < length m.workers → IsTestWorld m named → IsTestWorld (swapping m w (a ∷ b ∷ [])) (Some (a.target, b.target))
+begun-world named m w a b within t = (
+  t.0,
+  length-set m.workers w _ ∙ t.1,
+  t.2,
+  changed-calm m (swapping m w (a ∷ b ∷ [])) w (λ u other. get_or-set_other m.workers w u _ idle other) (λ x v is. swaps-calm m.taken x v (sym (ap (λ l. l.doing) (get_or-set_same m.workers w _ idle within)) ∙ is)) t.3,
+  (named-last m.begun (a ∷ b ∷ []) a.target (rw (same-target a.target) refl), named-last m.begun (a ∷ b ∷ []) b.target (rw (same-target b.target) (or-true (a.target == b.target)))),
+)

@@ -50,8 +50,6 @@ fn back(entry: Entry) -> Entry {
 
 // Brings both values back, by worker 1.
 fn swap_back(world: &mut World, told: &mut Effects) -> Done {
-    told.note(world.evict(FIRST.target));
-    told.note(world.evict(SECOND.target));
     match world.begin(1, back(FIRST), back(SECOND)) {
         Some(Ok(1)) => steps_of(world, 1, 100, told),
         _ => Done::Busy,

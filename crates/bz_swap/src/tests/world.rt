@@ -23,18 +23,20 @@ const VALUES: u64 = 1 << 61;
 #[derive(Drop)]
 pub(crate) struct World {
     access: Access,
+    // the targets of the last swap of two entries, where it began since the last cut and renewal
+    named: Option<(u32, u32)>,
 }
 
 impl Model for World {
-    ghost use Rattle.std.specs.Prelude.{◌≡◌, ◌≢◌, ℕ, length};
-    ghost use Rattle.bz_swap.specs.SwapMemory.{SwapMemory, Storing, doing_of};
+    ghost use Rattle.std.specs.Prelude.{◌≡◌, ◌≢◌, ℕ, length, true, IfSome};
+    ghost use Rattle.bz_swap.specs.SwapMemory.{SwapMemory, Storing, doing_of, is_named};
 
     ghost Value = { SwapMemory };
 
     ghost view = { λ w. w.access };
 
     // no worker is between the start of a store and the store
-    ghost invariant = { λ w. (length w.access.cached ≡ 1056) × (length w.access.workers ≡ 3) × (w.access.swaps ≡ 2) × ((u a v : ℕ) → doing_of w.access u ≢ Storing a v) };
+    ghost invariant = { λ w. (length w.access.cached ≡ 1056) × (length w.access.workers ≡ 3) × (w.access.swaps ≡ 2) × ((u a v : ℕ) → doing_of w.access u ≢ Storing a v) × IfSome w.named (λ t. (is_named w.access t.0 ≡ true) × (is_named w.access t.1 ≡ true)) };
 }
 
 // Does nothing.
@@ -42,6 +44,14 @@ fn sizes_agree(access: &Access)
     ensures { length access.now.durable ≡ length access.now.cached }
 {
     let _steps = access.steps;
+}
+
+// The list of two entries in the order of their targets.
+fn two(a: Entry, b: Entry) -> EntryList
+    requires { a.target < b.target }
+    ensures { result ≡ a ∷ b ∷ [] }
+{
+    EntryList::one(a).with(b)
 }
 
 // The list of four entries in the order of their targets.
@@ -59,7 +69,10 @@ impl World {
         requires { length start.now ≡ 1056 }
     {
         let access = Access::open(alloc, start, 2, 2)?;
-        Ok(World { access })
+        Ok(World {
+            access,
+            named: None,
+        })
     }
 
     pub(crate) fn phase(&self) -> Phase {
@@ -79,9 +92,15 @@ impl World {
         if a >= WORDS || 16 <= a && a < FIRST_OUTSIDE {
             return false;
         }
-        entry.expected < VALUES
-            && entry.new < VALUES
-            && self.access.cached(a) == self.access.durable(a)
+        if entry.expected >= VALUES || entry.new >= VALUES {
+            return false;
+        }
+        if let Some((first, second)) = self.named
+            && (a == first || a == second)
+        {
+            return true;
+        }
+        self.access.cached(a) == self.access.durable(a)
     }
 
     // Whether a worker may start something.
@@ -107,8 +126,11 @@ impl World {
         if second.target <= first.target {
             return None;
         }
-        let entries = EntryList::one(first).with(second);
-        Some(self.access.start_swap(w, entries))
+        let Ok(swap) = self.access.start_swap(w, two(first, second)) else {
+            return Some(Err(NoSwap));
+        };
+        self.named = Some((first.target, second.target));
+        Some(Ok(swap))
     }
 
     /// Begins a swap of four entries in the order of their targets; none where it may not come.
@@ -120,6 +142,7 @@ impl World {
         if b.target <= a.target || c.target <= b.target || d.target <= c.target {
             return None;
         }
+        self.named = None;
         Some(self.access.start_swap(w, four(a, b, c, d)))
     }
 
@@ -151,6 +174,7 @@ impl World {
 
     pub(crate) fn cut(&mut self) {
         sizes_agree(&self.access);
+        self.named = None;
         self.access.cut();
     }
 
@@ -159,6 +183,7 @@ impl World {
         if a >= WORDS || !self.may_recover() {
             return false;
         }
+        self.named = None;
         self.access.start_store(0, a, v);
         self.access.step(0);
         true
@@ -169,6 +194,7 @@ impl World {
         if a >= WORDS || !self.may_recover() {
             return false;
         }
+        self.named = None;
         self.access.start_flush(0, a / 8);
         self.access.step(0);
         true
@@ -217,6 +243,7 @@ impl World {
     pub(crate) fn renew(&mut self) -> bool {
         let may = self.may_renew();
         if may {
+            self.named = None;
             self.access.renew();
         }
         may
