@@ -1,7 +1,5 @@
 //! An opening, and the two swaps of an insert: the first reserves a record, the second publishes it.
 
-ghost use Rattle.std.specs.Prelude.{◌≡◌, IfOk, length};
-
 use super::world::{WORDS, World};
 use crate::phase::Phase;
 use crate::progress::NoSwap;
@@ -94,7 +92,7 @@ fn an_insert_is_two_swaps(rt: HostRuntime) -> Result<(), Fail> {
             Some((Done::Swapped(true), 27, [Some(swap), None]))
         );
         for entry in entries {
-            // the bit of what may not be durable leaves the caches alone
+            // only the cached word loses the dirty bit
             assert_eq!(rt; world.durable(entry.target), DIRTY + entry.new);
         }
     }
