@@ -1,5 +1,7 @@
 -- The words of the machine's state are lawful, and plain words are values.
-use Rattle.std.specs.Prelude.{◌≡◌, ◌≢◌, nat_lt, ℕ, ◌^◌, ◌<◌, true, List, slice_index}
+use Rattle.std.specs.Prelude.{◌≡◌, ◌≢◌, nat_lt, ℕ, ◌^◌, ◌<◌, true, List, slice_index, All, [], get_or, ◌≤◌, ◌⊎◌}
+use Rattle.std.proofs.lemmas.Bool.{cases_lt}
+use Rattle.bz_word.specs.declared.entry.Entry.{Entry}
 use Rattle.std.proofs.Common.{arith, refl, ap, sym, subst, ◌∙◌, inl, inr}
 use Rattle.std.proofs.lemmas.Grind.{common_steps}
 use Rattle.bz_word.specs.Kinds.{kind, word, IsKind, IsWord}
@@ -16,11 +18,14 @@ use Rattle.bz_swap.specs.declared.phase.Phase.TheVariants.{Opened, Running, Reco
 use Rattle.bz_swap.specs.Held.{IsHeld, HoldsIn}
 use Rattle.bz_swap.specs.Lawful.{IsReadable, HasEntry, IsLawfulKind}
 use Rattle.bz_swap.specs.Resolve.{entries_at}
-use Rattle.bz_swap.specs.Parts.{Parts, seen}
+use Rattle.bz_swap.specs.SwapMemory.{entries_of}
+use Rattle.bz_swap.specs.Starts.{IsAddress}
+use Rattle.bz_swap.specs.Parts.{Parts, entry_of, entry_list, seen}
 use Rattle.bz_swap.specs.Kept.{IsRunning}
 use Rattle.bz_swap.proofs.Readable.{agree-published, index-target, value_is}
 use Rattle.bz_swap.proofs.Readies.{published-begun, begun-descriptor}
-use Rattle.bz_swap.proofs.Shown.{shows}
+use Rattle.bz_swap.proofs.Shown.{shows, begun-running}
+use Rattle.bz_swap.proofs.Values.{all-listed, listed-past}
 
 not-free : (c d : SwapStatus) → Follows c d → d ≢ Free
 not-free c Free f is = no_free c f
@@ -79,6 +84,16 @@ plain-raw swaps words a out is_word (Dirty v) is plain = absurd plain
 plain-raw swaps words a out is_word (Swap s) is plain = absurd plain
 plain-raw swaps words a out is_word (Tag s i w q) is plain = absurd plain
 
+-- the targets of a swap lie outside the descriptors
+targets-lie : (p : Parts) (r : IsRunning p) (s : ℕ) → p.phase ≢ Recovering → (s < p.store.taken) ⊎ (p.store.taken ≤ s) → All (λ (e : Entry). IsAddress (seen p) e.target) (entries_of (seen p) s)
+targets-lie p r s phase (inl begun) =
+    subst (All (λ (e : Entry). IsAddress (seen p) e.target)) (sym ((shows p r phase).entries s begun))
+    (all-listed (λ (e : Entry). IsAddress (seen p) e.target) (entry_of (r.entries s)) (r.entries s).count (λ i below. record { outside = (r.lies s i below).outside; within = (r.lies s i below).within }))
+targets-lie p r s phase (inr past) =
+    subst (All (λ (e : Entry). IsAddress (seen p) e.target))
+    (sym (ap (λ b. get_or b s []) (begun-running p r p.phase phase) ∙ listed-past (λ t. entry_list (r.entries t)) 0 p.store.taken s [] past))
+    (λ k d below. absurd (omega (arith, below)))
+
 pub held : (p : Parts) (r : IsRunning p) → p.phase ≢ Recovering → IsHeld (seen p)
 held p r phase =
     let f = shows p r phase in
@@ -87,6 +102,7 @@ held p r phase =
       lawful = λ a out. record { word = r.words.durable.kinds a out; kind = lawful-kind p r a _ refl };
       status = λ s below. (let told : nat_lt s p.store.swaps ≡ true = grind (arith, common_steps) in rw told (sym (r.words.durable.statuses s below)));
       plain = λ a v named is. value_is p r a ∙ sym (sound.same a _ refl (sym (f.named a) ∙ named)) ∙ ap (λ x. resolved r.entries (status_at p.store.swaps p.store.durable) a x) is;
+      targets = λ s. targets-lie p r s phase (cases_lt s p.store.taken);
       private = λ a out private.
           (let unnamed = sym (f.named a) ∙ private in
           let cached = plain-raw p.store.swaps p.store.cached a out (r.words.cached.kinds a out) _ refl (sound.private a unnamed) in

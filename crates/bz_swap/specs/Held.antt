@@ -1,12 +1,14 @@
 -- What holds of a swap memory at every moment outside a recovery time.
-use Rattle.std.specs.Prelude.{◌≡◌, ℕ, ◌^◌, ◌<◌, true, false, slice_index}
+use Rattle.std.specs.Prelude.{All, ◌≡◌, ℕ, ◌^◌, ◌<◌, true, false, slice_index}
+use Rattle.bz_word.specs.declared.entry.Entry.{Entry}
 use Rattle.bz_word.specs.declared.kind.WordKind.TheVariants.{Value}
 use Rattle.bz_cells.specs.Store.{IsOutside, kind_at, status_word, status_at}
 use Rattle.bz_layout.specs.Addresses.{swap_address}
 use Rattle.bz_swap.specs.declared.phase.Phase.{Phase}
 use Rattle.bz_swap.specs.declared.phase.Phase.TheVariants.{Opened, Running, Recovering}
 use Rattle.bz_swap.specs.Lawful.{IsLawful}
-use Rattle.bz_swap.specs.SwapMemory.{SwapMemory, value_at, is_named}
+use Rattle.bz_swap.specs.SwapMemory.{SwapMemory, value_at, entries_of, is_named}
+use Rattle.bz_swap.specs.Starts.{IsAddress}
 
 pub record IsHeld (m : SwapMemory) : Type 0 where
   -- every word outside the descriptors is lawful, in the memory itself; each descriptor's status is one
@@ -14,6 +16,8 @@ pub record IsHeld (m : SwapMemory) : Type 0 where
   pub status : (s : ℕ) → s < m.swaps → slice_index m.durable (swap_address s) ≡ status_word (status_at m.swaps m.durable s)
   -- a plain word in the caches of a named address is its value
   pub plain : (a v : ℕ) → is_named m a ≡ true → kind_at m.swaps m.cached a ≡ Value v → value_at m a ≡ v
+  -- the targets of the swaps begun lie outside the descriptors, within the memory
+  pub targets : (s : ℕ) → All (λ (e : Entry). IsAddress m e.target) (entries_of m s)
   -- a private word is plain, in the caches and in the memory itself, where it is its value
   pub private : (a : ℕ) → IsOutside m.swaps a → is_named m a ≡ false → (slice_index m.cached a < 2 ^ 61) × (value_at m a ≡ slice_index m.durable a)
 
