@@ -2,3 +2,6 @@
 #![tactic(auto)]
 
 pub mod laws;
+mod outcomes;
+
+pub use outcomes::{CheckError, Shape};
