@@ -1,0 +1,2 @@
+mod Freezing
+mod Asking

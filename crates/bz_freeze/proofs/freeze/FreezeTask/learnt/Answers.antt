@@ -1,0 +1,6 @@
+use Rattle.bz_freeze.proofs.Asking.{askable}
+use Rattle.bz_freeze.proofs.freeze.FreezeTask.learnt.Goals as goal
+
+pub returns-clause-askable : goal.returns-clause-askable
+returns-clause-askable c s todo same f good e =
+    let t = c.args.self.now in askable c.fronts_stay.ensures c.statuses.ensures t.config t.slot t.status t.phase s todo same f good e

@@ -1,0 +1,77 @@
+-- What a freeze knows, and what it asks for.
+use Rattle.std.specs.Prelude.{◌≡◌, ℕ, ◌+◌, ◌^◌, ◌<◌, ◌≤◌, true, false, [], ◌∷◌, Option, Some, None}
+use Rattle.bz_call.specs.declared.replies.Spent.TheVariants.{Swaps}
+use Rattle.bz_layout.specs.Addresses.{node_address}
+use Rattle.bz_layout.specs.declared.config.Config.{Config}
+use Rattle.bz_layout.specs.declared.sizes.TheConstants.{STATUS_AT}
+use Rattle.bz_word.specs.Statuses.{status, status_word}
+use Rattle.bz_word.specs.declared.entry.Entry.{Entry}
+use Rattle.bz_task.specs.Instant.{words, page_at, is_inside, form_at}
+use Rattle.bz_task.specs.Scene.{Past, Scene, Stage, Waiting, Took, HasFilled}
+use Rattle.bz_task.specs.Steps.{next_stamp}
+use Rattle.bz_task.specs.Swaps.{Change}
+use Rattle.bz_task.specs.declared.todo.Outcome.{Outcome}
+use Rattle.bz_task.specs.declared.todo.Outcome.TheVariants.{Done as IsDone, Restart as Restarts, Full as IsFull}
+use Rattle.bz_task.specs.declared.todo.Todo.{Todo}
+use Rattle.bz_task.specs.declared.todo.Todo.TheVariants.{Swap as Swaps_for, Finish}
+use Rattle.bz_freeze.specs.declared.phase.Phase.{Phase}
+use Rattle.bz_freeze.specs.declared.phase.Phase.TheVariants.{Fresh, Swap, Done, Restart, Full}
+
+-- the status word of a node, frozen, with its next stamp
+abbrev pub frozen_word : ℕ → ℕ
+frozen_word st = status_word (record (status st) { frozen = true; stamp = next_stamp (status st).stamp })
+
+-- the one entry of the swap
+abbrev pub entry_of : Config → ℕ → ℕ → Entry
+entry_of c k st = record { target = node_address c k + STATUS_AT; expected = st; new = frozen_word st }
+
+abbrev pub freeze_asks : Config → ℕ → ℕ → Phase → Option Todo
+freeze_asks c k st Fresh = None
+freeze_asks c k st Swap = Some (Swaps_for (entry_of c k st ∷ []))
+freeze_asks c k st Done = Some (Finish IsDone)
+freeze_asks c k st Restart = Some (Finish Restarts)
+freeze_asks c k st Full = Some (Finish (IsFull Swaps))
+
+abbrev pub freeze_left : Phase → ℕ
+freeze_left Fresh = 2
+freeze_left Swap = 1
+freeze_left phase = 0
+
+-- the slot was a leaf of the tree with this status, which is not frozen, at a moment since the call began
+pub record WasLeaf (k st : ℕ) (p : Past) : Type 0 where
+  pub moment : ℕ
+  pub since : p.since ≤ moment
+  pub now : moment ≤ p.now
+  pub slot : k < p.config.nodes
+  pub inside : is_inside p.config (p.at moment) k ≡ true
+  pub leaf : (form_at p.config (p.at moment)).level k ≡ 0
+  pub was : words p.config (p.at moment) k STATUS_AT ≡ st
+  pub thawed : (status st).frozen ≡ false
+  pub plain : st < 2 ^ 61
+
+-- it was frozen at one
+pub record WasFrozen (k : ℕ) (p : Past) : Type 0 where
+  pub moment : ℕ
+  pub since : p.since ≤ moment
+  pub now : moment ≤ p.now
+  pub reached : (p.at moment).reached k ≡ true
+  pub frozen : (page_at p.config (p.at moment) k).frozen ≡ true
+
+abbrev pub freeze_means : ℕ → Outcome → Scene → Type 0
+freeze_means k IsDone s = WasFrozen k s.past
+freeze_means k Restarts s = Unit {0}
+freeze_means k (IsFull Swaps) s = Unit {0}
+freeze_means k outcome s = ⊥
+
+abbrev pub freeze_facts : ℕ → ℕ → Phase → Stage → Scene → Type 0
+freeze_facts k st Fresh Waiting s = WasLeaf k st s.past
+freeze_facts k st Swap Waiting s = HasFilled s × WasLeaf k st s.past
+freeze_facts k st Swap Took s = HasFilled s × WasFrozen k s.past
+freeze_facts k st Done Waiting s = HasFilled s × WasFrozen k s.past
+freeze_facts k st Restart Waiting s = HasFilled s
+freeze_facts k st Full Waiting s = HasFilled s
+freeze_facts k st phase stage s = ⊥
+
+-- a freeze makes no change
+abbrev pub freeze_change : Change
+freeze_change = record { key = []; old = None; new = None }

@@ -1,0 +1,162 @@
+//! The task that freezes a leaf.
+
+ghost use Rattle.std.specs.Prelude.{◌≡◌, ◌≢◌, ◌↔◌, ◌<◌, ◌^◌, ℕ, List, [], ◌∷◌, Some, None, true, false};
+ghost use Rattle.bz_layout.specs.Config.{IsConfig};
+ghost use Rattle.bz_layout.specs.declared.config.Config.{Config};
+ghost use Rattle.bz_word.specs.Statuses.{status};
+ghost use Rattle.bz_task.specs.Outcomes.{IsView};
+ghost use Rattle.bz_task.specs.Requests.{Hears, Tells, IsKnown};
+ghost use Rattle.bz_task.specs.Scene.{Scene, Stage, Waiting, IsScene};
+ghost use Rattle.bz_task.specs.declared.todo.Seen.TheVariants.{Swapped, NoSwap};
+ghost use Rattle.bz_freeze.specs.Facts.{frozen_word, freeze_asks, freeze_left, freeze_facts, freeze_means, freeze_change, entry_of};
+
+use crate::laws::freezes_are_good;
+use crate::phase::Phase;
+use bz_call::Spent;
+use bz_layout::{Config, STATUS_AT, Slots};
+use bz_swap::EntryList;
+use bz_task::{LeafView, Outcome, Path, Seen, Task, Todo, laws};
+use bz_word::{Entry, Status};
+
+/// The freeze of the leaf that a view shows. It ends with Done where the swap took effect, with Restart where the leaf's
+/// status was another one, and with Full(Swaps).
+#[derive(Drop)]
+pub struct Freeze {
+    config: Config,
+    slot: u16,
+    status: u64,
+    phase: Phase,
+}
+
+impl Freeze {
+    /// The freeze of a leaf that was not frozen when it was viewed.
+    pub fn new(config: &Config, _path: Path, view: LeafView) -> Freeze
+        requires thawed { (status view.status).frozen ≡ false }
+        ensures config { ⟦<Freeze as Task>⟧.config result ≡ config.now }
+        ensures asks { ⟦<Freeze as Task>⟧.asks result ≡ None }
+        ensures left { ⟦<Freeze as Task>⟧.left result ≡ 2 }
+        ensures facts { (key : List ℕ) (s : Scene) → s.past.config ≡ config.now → IsScene s → IsView key view s.past → ⟦<Freeze as Task>⟧.facts result Waiting s }
+    {
+        bz_shape::laws::leaves_tile_the_keys();
+        bz_content::laws::well_formed_images_have_no_fault();
+        Freeze {
+            config: *config,
+            slot: view.slot,
+            status: view.status,
+            phase: Phase::Fresh,
+        }
+    }
+}
+
+// The swap that freezes the leaf.
+fn swap_of(config: &Config, slot: u16, word: u64) -> EntryList
+    requires config { IsConfig config.now }
+    requires slot { slot < config.now.nodes }
+    requires word { word < 2 ^ 61 }
+    ensures { result ≡ entry_of config.now slot word ∷ [] }
+{
+    EntryList::one(Entry {
+        target: config.node_at(slot as u32) + STATUS_AT,
+        expected: word,
+        new: frozen(word),
+    })
+}
+
+// The status word of a node, frozen, with its next stamp.
+fn frozen(word: u64) -> u64
+    requires { word < 2 ^ 61 }
+    ensures { result ≡ frozen_word word }
+{
+    bz_word::laws::statuses();
+    let Some(old) = Status::unpack(word) else {
+        return word;
+    };
+    let new = Status {
+        frozen: true,
+        stamp: old.stamp.wrapping_add(1),
+        ..old
+    };
+    new.pack()
+}
+
+impl Freeze {
+    // The phase after what came of the last act.
+    fn after(&self, seen: Seen, moment: u32) -> Phase
+        requires hears { Hears (freeze_asks self.now.config self.now.slot self.now.status self.now.phase) seen }
+        requires known { IsKnown self.now.config (freeze_facts self.now.slot self.now.status self.now.phase) (freeze_asks self.now.config self.now.slot self.now.status self.now.phase) seen moment }
+        ensures nearer { freeze_left result < freeze_left self.now.phase }
+        ensures done { result ≡ Phase.Done → seen ≡ Swapped true }
+        ensures restart { result ≡ Phase.Restart → seen ≡ Swapped false }
+        ensures full { (result ≡ Phase.Full) ↔ (seen ≡ NoSwap) }
+        ensures begun { result ≢ Phase.Fresh }
+        ensures config { IsConfig self.now.config }
+        ensures swap { result ≡ Phase.Swap → (self.now.slot < self.now.config.nodes) × (self.now.status < 2 ^ 61) }
+        ensures learns { (stage : Stage) (s : Scene) → freeze_facts self.now.slot self.now.status self.now.phase stage s → Tells (freeze_asks self.now.config self.now.slot self.now.status self.now.phase) stage seen s → freeze_facts self.now.slot self.now.status result Waiting s }
+    {
+        let _moment = moment;
+        match (self.phase, seen) {
+            (Phase::Fresh, _) => Phase::Swap,
+            (Phase::Swap, Seen::Swapped(true)) => Phase::Done,
+            (Phase::Swap, Seen::NoSwap) => Phase::Full,
+            _ => Phase::Restart,
+        }
+    }
+
+    // What a phase asks for.
+    fn asked(&self) -> Todo
+        requires begun { self.now.phase ≢ Phase.Fresh }
+        requires config { IsConfig self.now.config }
+        requires swap { self.now.phase ≡ Phase.Swap → (self.now.slot < self.now.config.nodes) × (self.now.status < 2 ^ 61) }
+        ensures { freeze_asks self.now.config self.now.slot self.now.status self.now.phase ≡ Some result }
+    {
+        match self.phase {
+            Phase::Fresh | Phase::Restart => Todo::Finish(Outcome::Restart),
+            Phase::Swap => Todo::Swap(swap_of(&self.config, self.slot, self.status)),
+            Phase::Done => Todo::Finish(Outcome::Done),
+            Phase::Full => Todo::Finish(Outcome::Full(Spent::Swaps)),
+        }
+    }
+}
+
+impl Task for Freeze {
+    ghost config = { λ t. t.config };
+
+    ghost asks = { λ t. freeze_asks t.config t.slot t.status t.phase };
+
+    ghost left = { λ t. freeze_left t.phase };
+
+    ghost needs = { λ t. 0 };
+
+    ghost change = { λ t. freeze_change };
+
+    ghost publishing = { λ t. false };
+
+    ghost facts = { λ t. freeze_facts t.slot t.status t.phase };
+
+    ghost means = { λ t. freeze_means t.slot };
+
+    ghost differs = { λ t seen. ⊥ };
+
+    fn publishes(&self) -> bool {
+        false
+    }
+
+    fn next(&mut self, seen: Seen, slots: &mut Slots, moment: u32) -> Todo {
+        let _slots = slots;
+        laws::nothing_is_gained();
+        self.phase = self.after(seen, moment);
+        self.asked()
+    }
+
+    fn learnt(&self) {
+        laws::fronts_stay();
+        bz_word::laws::statuses();
+    }
+
+    fn acted(&self) {
+        freezes_are_good();
+        laws::fronts_stay();
+        laws::swaps_show_in_slots();
+        bz_word::laws::statuses();
+    }
+}

@@ -1,0 +1,8 @@
+//! The freeze of a leaf: one swap of its status, after which nothing of the leaf changes any more.
+#![tactic(auto)]
+
+mod freeze;
+mod laws;
+mod phase;
+
+pub use freeze::Freeze;

@@ -1,0 +1,5 @@
+use Rattle.bz_sample.proofs.Staying.{stable}
+use Rattle.bz_sample.proofs.glance.GlanceTask.learnt.Goals as goal
+
+pub returns-clause-stable : goal.returns-clause-stable
+returns-clause-stable c stage s after same facts good step = stable c.args.self.now.phase stage s after facts step

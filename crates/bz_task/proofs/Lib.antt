@@ -1,0 +1,12 @@
+mod Walks
+mod Sames
+mod Ages
+mod Frozen
+mod Inside
+mod Roots
+mod Ranges
+mod Thawed
+mod Stays
+mod LeafSwaps
+mod Others
+mod SeenLeaves

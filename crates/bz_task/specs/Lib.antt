@@ -1,0 +1,12 @@
+pub mod Instant
+pub mod Shown
+pub mod Good
+pub mod Steps
+pub mod Scene
+pub mod Requests
+pub mod Swaps
+pub mod OwnActs
+pub mod Outcomes
+pub mod Laws
+pub mod LeafSwaps
+pub mod Others

@@ -1,0 +1,53 @@
+-- What the acts of one worker are to another: lawful steps, which leave everything that the other owns.
+use Rattle.std.specs.Prelude.{◌≡◌, ◌≢◌, ℕ, ◌⊎◌, Bool, true, List}
+use Rattle.bz_word.specs.declared.entry.Entry.{Entry}
+use Rattle.bz_task.specs.Instant.{Instant}
+use Rattle.bz_task.specs.Requests.{IsOwnStore}
+use Rattle.bz_task.specs.Scene.{Scene, IsMine, IsScene, IsLawful, Continues, here}
+use Rattle.bz_task.specs.Swaps.{Change, SwapsTo, IsGoodSwap}
+
+-- the scenes of two workers of one memory: no address is owned by both
+pub record AreApart (s v : Scene) : Type 0 where
+  pub config : v.past.config ≡ s.past.config
+  pub here : here v ≡ here s
+  pub apart : (a : ℕ) → s.owned a ≡ true → v.owned a ≡ true → ⊥
+
+-- one moment later, with this memory, for one who did nothing
+pub record Watches (v later : Scene) (y : Instant) : Type 0 where
+  pub continues : Continues v.past later.past
+  pub here : here later ≡ y
+  pub effected : later.effected ≡ v.effected
+  pub owned : (a : ℕ) → later.owned a ≡ v.owned a
+  pub took : (k : ℕ) → later.took k ≡ v.took k
+  pub filled : (k : ℕ) → later.filled k ≡ v.filled k
+
+-- a memory in which reads answer what they did and nothing else is reached; of a word of one's own at most its value became
+-- durable
+pub record LeavesAll (v : Scene) (y : Instant) : Type 0 where
+  pub value : (a : ℕ) → y.value a ≡ (here v).value a
+  pub reached : (k : ℕ) → y.reached k ≡ (here v).reached k
+  pub effects : y.effects ≡ (here v).effects
+  pub image : (a : ℕ) → IsMine v a → (y.image a ≡ (here v).image a) ⊎ (y.image a ≡ (here v).value a)
+
+-- a memory in which a private store was made
+pub record StoresTo (a v : ℕ) (x y : Instant) : Type 0 where
+  pub value : y.value a ≡ v
+  pub others : (b : ℕ) → b ≢ a → y.value b ≡ x.value b
+  pub image : (b : ℕ) → y.image b ≡ x.image b
+  pub reached : (k : ℕ) → y.reached k ≡ x.reached k
+  pub effects : y.effects ≡ x.effects
+
+-- a read, a flush, an eviction and an act of a swap without effect are lawful, one's own ones too
+abbrev pub QuietActsAreLawful : Type 0
+QuietActsAreLawful = (v later : Scene) (y : Instant) → LeavesAll v y → Watches v later y → IsLawful v later
+
+-- so is a private store of another worker
+abbrev pub StoresAreLawful : Type 0
+StoresAreLawful =
+    (s v later : Scene) (a w : ℕ) (y : Instant) → IsScene s → IsOwnStore s a w → AreApart s v → StoresTo a w (here s) y → Watches v later y → IsLawful v later
+
+-- and the effect of another worker's swap
+abbrev pub EffectsAreLawful : Type 0
+EffectsAreLawful =
+    (publishes : Bool) (change : Change) (entries : List Entry) (s v later : Scene) (y : Instant) → IsScene v → AreApart s v → SwapsTo s.past.config entries (here s) y →
+    IsGoodSwap publishes change entries s y → Watches v later y → IsLawful v later

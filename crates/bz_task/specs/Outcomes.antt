@@ -1,0 +1,83 @@
+-- What a path and a view are: facts of moments since the call began, which no later step can change.
+use Rattle.std.specs.Prelude.{◌≡◌, ℕ, ◌+◌, ◌^◌, ◌<◌, ◌≤◌, ◌⊎◌, true, List, Some, None, slice_get, slice_index}
+use Rattle.bz_layout.specs.Addresses.{node_address}
+use Rattle.bz_layout.specs.declared.sizes.TheConstants.{NODE_WORDS, STATUS_AT, ROOT_AT, ROOT_STATUS_AT}
+use Rattle.bz_layout.specs.declared.thresholds.TheConstants.{MAX_LEVELS}
+use Rattle.bz_shape.specs.Order.{is_within}
+use Rattle.bz_slotted.specs.ReadingLaws.{node_of}
+use Rattle.bz_slotted.specs.Rules.{node_fault}
+use Rattle.bz_content.specs.Content.{leaf_in}
+use Rattle.bz_task.specs.Instant.{words, page_at, form_at, is_inside}
+use Rattle.bz_task.specs.Requests.{IsPointerPlace}
+use Rattle.bz_task.specs.Scene.{Past}
+use Rattle.bz_task.specs.Shown.{IsShown}
+use Rattle.bz_task.specs.declared.path.Link.{Link}
+use Rattle.bz_task.specs.declared.path.Path.{Path}
+use Rattle.bz_task.specs.declared.view.LeafView.{LeafView}
+
+-- the link and its guard are those of the root
+pub record IsUnderRoot (link : Link) : Type 0 where
+  pub pointer : link.link ≡ ROOT_AT
+  pub guard : link.guard ≡ ROOT_STATUS_AT
+
+-- the link is a child pointer of a node that was reached at this moment, and its guard that node's status
+pub record IsUnderNode (p : Past) (link : Link) (m : ℕ) : Type 0 where
+  pub parent : ℕ
+  pub place : ℕ
+  pub reached : (p.at m).reached parent ≡ true
+  pub within : place < NODE_WORDS
+  pub child : IsPointerPlace (page_at p.config (p.at m) parent) place
+  pub pointer : link.link ≡ node_address p.config parent + place
+  pub guard : link.guard ≡ node_address p.config parent + STATUS_AT
+
+-- the guard was read, and then the link
+pub record IsGuarded (p : Past) (link : Link) : Type 0 where
+  pub guarded : ℕ
+  pub read : ℕ
+  pub since : p.since ≤ guarded
+  pub order : guarded ≤ read
+  pub now : read ≤ p.now
+  pub under : IsUnderRoot link ⊎ IsUnderNode p link guarded
+  pub status : (p.at guarded).value link.guard ≡ link.status
+  pub slot : (p.at read).value link.link ≡ link.slot + 1
+
+-- at some moment since the call began the node was in the tree, with the key in its range, and the link led to it
+pub record IsLink (key : List ℕ) (p : Past) (link : Link) : Type 0 where
+  pub was : ℕ
+  pub since : p.since ≤ was
+  pub now : was ≤ p.now
+  pub inside : is_inside p.config (p.at was) link.slot ≡ true
+  pub slot : link.slot < p.config.nodes
+  pub range : is_within key ((form_at p.config (p.at was)).low link.slot) ((form_at p.config (p.at was)).high link.slot) ≡ true
+  pub led : (p.at was).value link.link ≡ link.slot + 1
+  pub guarded : IsGuarded p link
+
+-- the last node is a leaf
+pub record EndsAtLeaf (p : Past) (link : Link) : Type 0 where
+  pub was : ℕ
+  pub since : p.since ≤ was
+  pub now : was ≤ p.now
+  pub reached : (p.at was).reached link.slot ≡ true
+  pub leaf : (page_at p.config (p.at was) link.slot).level ≡ 0
+
+-- links from the root's to a leaf's, each under the node of the one before
+pub record IsPath (key : List ℕ) (path : Path) (p : Past) : Type 0 where
+  pub some : 0 < path.depth
+  pub few : path.depth ≤ MAX_LEVELS
+  pub links : (i : ℕ) (link : Link) → i < path.depth → slice_get path.links i ≡ Some link → IsLink key p link
+  pub first : (link : Link) → slice_get path.links 0 ≡ Some link → IsUnderRoot link
+  pub below : (i : ℕ) (link next : Link) → i + 1 < path.depth → slice_get path.links i ≡ Some link → slice_get path.links (i + 1) ≡ Some next → next.guard ≡ node_address p.config link.slot + STATUS_AT
+  pub leaf : (i : ℕ) (link : Link) → i + 1 ≡ path.depth → slice_get path.links i ≡ Some link → EndsAtLeaf p link
+
+-- the words of the key's leaf at a moment directly after a load of the task's own: those that readers read
+pub record IsView (key : List ℕ) (view : LeafView) (p : Past) : Type 0 where
+  pub since : p.since ≤ view.at
+  pub now : view.at ≤ p.now
+  pub loads : p.loads view.at ≡ true
+  pub leaf : leaf_in p.config (p.at view.at).image key ≡ view.slot
+  pub slot : view.slot < p.config.nodes
+  pub status : words p.config (p.at view.at) view.slot STATUS_AT ≡ view.status
+  pub plain : view.status < 2 ^ 61
+  pub words : (i : ℕ) → i < NODE_WORDS → IsShown (words p.config (p.at view.at) view.slot) i → slice_index view.image.0 i ≡ words p.config (p.at view.at) view.slot i
+  -- as a leaf by itself the view breaks no rule, so that it can be read
+  pub whole : node_fault p.config.nodes (node_of view.image.0) (node_of view.image.0) 0 ((form_at p.config (p.at view.at)).low view.slot) ((form_at p.config (p.at view.at)).high view.slot) ≡ None

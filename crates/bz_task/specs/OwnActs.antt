@@ -1,0 +1,47 @@
+-- The private stores and flushes of a task, and the slots that it takes.
+use Rattle.std.specs.Prelude.{◌≡◌, ◌≢◌, ℕ, ◌==◌, ◌&&◌, ◌||◌, ◌≤◌, not, nat_le, Bool, length, drop}
+use Rattle.bz_layout.specs.Addresses.{node_address, slot_of, line_of}
+use Rattle.bz_layout.specs.Slots.{FreeSlots}
+use Rattle.bz_shape.specs.Walk.{is_among}
+use Rattle.bz_task.specs.Scene.{Scene, IsMine, IsFlushed, Continues, here}
+
+-- the own private store of a value is made
+pub record Stores (a v : ℕ) (s after : Scene) : Type 0 where
+  pub continues : Continues s.past after.past
+  pub took : (k : ℕ) → after.took k ≡ s.took k
+  pub effected : after.effected ≡ s.effected
+  pub owned : (b : ℕ) → after.owned b ≡ s.owned b
+  pub filled : (k : ℕ) → after.filled k ≡ s.filled k || (slot_of s.past.config a == k)
+  pub value : (here after).value a ≡ v
+  pub others : (b : ℕ) → b ≢ a → (here after).value b ≡ (here s).value b
+  pub image : (b : ℕ) → (here after).image b ≡ (here s).image b
+  pub mine : (b : ℕ) → IsMine s b → IsMine after b
+
+-- the own flush of a line is made
+pub record Flushes (line : ℕ) (s after : Scene) : Type 0 where
+  pub continues : Continues s.past after.past
+  pub took : (k : ℕ) → after.took k ≡ s.took k
+  pub effected : after.effected ≡ s.effected
+  pub owned : (b : ℕ) → after.owned b ≡ s.owned b
+  pub filled : (k : ℕ) → after.filled k ≡ s.filled k
+  pub value : (b : ℕ) → (here after).value b ≡ (here s).value b
+  pub flushed : (b : ℕ) → line_of b ≡ line → IsMine s b → IsFlushed after b
+  pub stays : (b : ℕ) → IsMine s b → IsFlushed s b → IsFlushed after b
+  pub mine : (b : ℕ) → IsMine s b → IsMine after b
+
+-- the slots change by takes alone: so many of the lowest free ones are gone
+pub record AreTakenFrom (old new : FreeSlots) : Type 0 where
+  pub number : ℕ
+  pub enough : number ≤ length old.free
+  pub slots : new ≡ record old { free = drop number old.free }
+
+-- the slot was free and is so no more
+abbrev pub is_gained : FreeSlots → FreeSlots → ℕ → Bool
+is_gained old new k = is_among old.free k && not (is_among new.free k)
+
+-- the scene once those slots are the worker's own
+abbrev pub gained : Scene → FreeSlots → FreeSlots → Scene
+gained s old new = record s {
+  owned = λ a. s.owned a || (nat_le (node_address s.past.config 0) a && is_gained old new (slot_of s.past.config a));
+  took = λ k. s.took k || is_gained old new k;
+}

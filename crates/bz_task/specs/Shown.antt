@@ -1,0 +1,37 @@
+-- Which words of a node readers read, and when a node is the same to them.
+use Rattle.std.specs.Prelude.{◌≡◌, ◌≢◌, ℕ, ◌+◌, ◌<◌, ◌≤◌, ◌⊎◌, true}
+use Rattle.bz_layout.specs.declared.config.Config.{Config}
+use Rattle.bz_layout.specs.declared.sizes.TheConstants.{NODE_WORDS, STATUS_AT, META_AT, ROOT_AT, ROOT_STATUS_AT}
+use Rattle.bz_slotted.specs.Page.{visible, extent_of, page}
+use Rattle.bz_slotted.specs.Records.{weight}
+use Rattle.bz_task.specs.Instant.{Instant, words}
+
+-- place i is one of the block words of record j, which is visible
+pub record IsOfRecord (n : ℕ → ℕ) (i j : ℕ) : Type 0 where
+  pub counted : j < (page n).count
+  pub visible : visible ((page n).meta j) ≡ true
+  pub from : (extent_of ((page n).meta j)).offset ≤ i
+  pub to : i < (extent_of ((page n).meta j)).offset + weight ((page n).meta j)
+
+-- place i is status, header, fence or metadata word, a free word between metadata and block, a word of an inner node, or
+-- one of a visible record
+abbrev pub IsShown : (ℕ → ℕ) → ℕ → Type 0
+IsShown n i = (i < META_AT + (page n).count) ⊎ ((i + (page n).block < NODE_WORDS) ⊎ ((0 < (page n).level) ⊎ ((j : ℕ) × IsOfRecord n i j)))
+
+-- the words that readers read are as they were
+abbrev pub SameWords : (n m : ℕ → ℕ) → Type 0
+SameWords n m = (i : ℕ) → IsShown n i → m i ≡ n i
+
+abbrev pub SameNode : Config → Instant → Instant → ℕ → Type 0
+SameNode c x y k = SameWords (words c x k) (words c y k)
+
+-- the same but for the status, of which count and block are as they were
+pub record SameRecords (n m : ℕ → ℕ) : Type 0 where
+  pub count : (page m).count ≡ (page n).count
+  pub block : (page m).block ≡ (page n).block
+  pub words : (i : ℕ) → i ≢ STATUS_AT → IsShown n i → m i ≡ n i
+
+-- root pointer and root status are as they were
+pub record SameRoot (x y : Instant) : Type 0 where
+  pub pointer : y.value ROOT_AT ≡ x.value ROOT_AT
+  pub status : y.value ROOT_STATUS_AT ≡ x.value ROOT_STATUS_AT

@@ -1,0 +1,53 @@
+-- The lawful steps: all that an act, an eviction or a mark may do to the nodes. This is one definition for every worker.
+use Rattle.std.specs.Prelude.{◌≡◌, ◌≢◌, ℕ, ◌+◌, ◌%◌, ◌^◌, ◌<◌, ◌≤◌, ◌⊎◌, true, false}
+use Rattle.bz_layout.specs.declared.config.Config.{Config}
+use Rattle.bz_layout.specs.declared.sizes.TheConstants.{STATUS_AT, META_AT, SHARED_WORDS, ROOT_STATUS_AT}
+use Rattle.bz_slotted.specs.Page.{page}
+use Rattle.bz_task.specs.Good.{IsGood}
+use Rattle.bz_task.specs.Instant.{Instant, words}
+use Rattle.bz_task.specs.Shown.{SameNode, SameRecords, SameRoot}
+
+-- the stamp after the next change
+abbrev pub next_stamp : ℕ → ℕ
+next_stamp stamp = (stamp + 1) % 2 ^ 32
+
+-- a swap changed a node, whose words were n and are m
+pub record Moves (n m : ℕ → ℕ) : Type 0 where
+  pub thawed : (page n).frozen ≡ false
+  pub stamp : (page m).stamp ≡ next_stamp (page n).stamp
+  -- header and fences stay
+  pub front : (i : ℕ) → i ≢ STATUS_AT → i < META_AT → m i ≡ n i
+  -- a freeze changes the status alone
+  pub freeze : (page m).frozen ≡ true → SameRecords n m
+  -- records are added and never taken away; while none is added, a free word stays free
+  pub count : (page n).count ≤ (page m).count
+  pub spare : (page m).count ≡ (page n).count → (page n).count + (page n).block < SHARED_WORDS → (page m).count + (page m).block < SHARED_WORDS
+
+abbrev pub Moved : Config → Instant → Instant → ℕ → Type 0
+Moved c x y k = Moves (words c x k) (words c y k)
+
+-- a swap changed the root pointer or its guard
+abbrev pub RootMoved : Instant → Instant → Type 0
+RootMoved x y = y.value ROOT_STATUS_AT ≡ next_stamp (x.value ROOT_STATUS_AT)
+
+-- no swap takes effect: a read, a flush, an eviction, an act of a swap, a private store
+pub record IsQuiet (c : Config) (x y : Instant) : Type 0 where
+  pub effects : y.effects ≡ x.effects
+  pub reached : (k : ℕ) → y.reached k ≡ x.reached k
+  pub nodes : (k : ℕ) → x.reached k ≡ true → SameNode c x y k
+  pub root : SameRoot x y
+
+-- a swap takes effect: each reached node stays or is changed, and so does the root
+pub record IsEffect (c : Config) (x y : Instant) : Type 0 where
+  pub effects : y.effects ≡ x.effects + 1
+  pub reached : (k : ℕ) → x.reached k ≡ true → y.reached k ≡ true
+  pub nodes : (k : ℕ) → x.reached k ≡ true → SameNode c x y k ⊎ Moved c x y k
+  pub root : SameRoot x y ⊎ RootMoved x y
+
+abbrev pub IsStep : Config → Instant → Instant → Type 0
+IsStep c x y = IsQuiet c x y ⊎ IsEffect c x y
+
+-- the memory at each moment of a time: good, and a lawful step from the one before
+pub record IsHistory (c : Config) (at : ℕ → Instant) (first last : ℕ) : Type 0 where
+  pub good : (m : ℕ) → first ≤ m → m ≤ last → IsGood c (at m)
+  pub step : (m : ℕ) → first ≤ m → m < last → IsStep c (at m) (at (m + 1))

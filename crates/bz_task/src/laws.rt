@@ -1,0 +1,135 @@
+//! Laws of lawful steps. Each function does nothing: its contract is the law.
+
+ghost use Rattle.bz_task.specs.Laws.{NodesStay, RootStays, FrozenNodesStay, FrontsStay, RangesStay, NodesWereInside, RootsAreReached, HeadersSayTheLevel, SameRecordsShowTheSame, SwapsShowInSlots, SeenLeavesAreWhole, ThawedLeavesStay, PathsStay, ViewsStay, NothingIsGained};
+ghost use Rattle.bz_task.specs.LeafSwaps.{LeafSwapsAreGood};
+ghost use Rattle.bz_task.specs.Others.{QuietActsAreLawful, StoresAreLawful, EffectsAreLawful};
+
+use bz_content::laws as content;
+use bz_shape::laws as shape;
+use bz_slotted::laws as slotted;
+
+/// While its status has the value that was read, a reached node is as it was.
+pub fn nodes_stay()
+    ensures { NodesStay }
+{}
+
+/// While the root status has the value that was read, the root pointer is as it was.
+pub fn root_stays()
+    ensures { RootStays }
+{
+    content::well_formed_images_have_no_fault();
+    shape::trees_have_forms();
+}
+
+/// A frozen node stays as it was.
+pub fn frozen_nodes_stay()
+    ensures { FrozenNodesStay }
+{}
+
+/// Header and fences of a reached node stay.
+pub fn fronts_stay()
+    ensures { FrontsStay }
+{}
+
+/// The level and the range of a node are the same whenever it is in the tree.
+pub fn ranges_stay()
+    ensures { RangesStay }
+{
+    fronts_stay();
+    content::well_formed_images_have_no_fault();
+    shape::trees_have_forms();
+    slotted::leaf_rules_are_facts();
+    slotted::inner_rules_are_facts();
+}
+
+/// What a node of the tree is later, it was at some moment at which it was still in the tree.
+pub fn nodes_were_inside()
+    ensures { NodesWereInside }
+{}
+
+/// A swap on one leaf that leaves it whole is lawful for everybody.
+pub fn leaf_swaps_are_good()
+    ensures { LeafSwapsAreGood }
+{
+    content::well_formed_images_have_no_fault();
+    content::leaf_swaps_keep_the_tree();
+    content::plain_words_stand_for_themselves();
+    shape::leaves_tile_the_keys();
+    bz_layout::slots_apart();
+}
+
+/// The root is in the tree, and holds every key.
+pub fn roots_are_reached()
+    ensures { RootsAreReached }
+{
+    content::well_formed_images_have_no_fault();
+    shape::trees_have_forms();
+}
+
+/// A node of the tree has a lawful header, with the level at which it stands.
+pub fn headers_say_the_level()
+    ensures { HeadersSayTheLevel }
+{
+    content::well_formed_images_have_no_fault();
+    shape::trees_have_forms();
+    slotted::leaf_rules_are_facts();
+    slotted::inner_rules_are_facts();
+}
+
+/// Where the records are the same, so are the places that readers read.
+pub fn same_records_show_the_same()
+    ensures { SameRecordsShowTheSame }
+{}
+
+/// A word of a slot before and after a swap.
+pub fn swaps_show_in_slots()
+    ensures { SwapsShowInSlots }
+{}
+
+/// Words that are those of a leaf to its readers are a leaf by themselves, and say what it says.
+pub fn seen_leaves_are_whole()
+    ensures { SeenLeavesAreWhole }
+{
+    slotted::leaf_rules_are_facts();
+}
+
+/// A leaf that was not frozen is in the tree and as it was, while its status has the value that was read.
+pub fn thawed_leaves_stay()
+    ensures { ThawedLeavesStay }
+{
+    nodes_stay();
+    fronts_stay();
+    ranges_stay();
+    content::well_formed_images_have_no_fault();
+    shape::trees_have_forms();
+}
+
+/// A path stays what it is.
+pub fn paths_stay()
+    ensures { PathsStay }
+{}
+
+/// A view stays what it is.
+pub fn views_stay()
+    ensures { ViewsStay }
+{}
+
+/// Where no slot is taken, all that were taken have been stored into.
+pub fn nothing_is_gained()
+    ensures { NothingIsGained }
+{}
+
+/// A read, a flush, an eviction and an act of a swap without effect are lawful for everybody.
+pub fn quiet_acts_are_lawful()
+    ensures { QuietActsAreLawful }
+{}
+
+/// A private store is lawful for every other worker.
+pub fn stores_are_lawful()
+    ensures { StoresAreLawful }
+{}
+
+/// The effect of a task's swap is lawful for every other worker.
+pub fn effects_are_lawful()
+    ensures { EffectsAreLawful }
+{}

@@ -1,0 +1,94 @@
+//! What a task is.
+
+ghost use Rattle.std.specs.Prelude.{◌≡◌, ◌<◌, ◌⊎◌, ℕ, Bool, true, false, Option, Some, List, length};
+ghost use Rattle.bz_call.specs.declared.replies.Spent.TheVariants.{Nodes, Swaps};
+ghost use Rattle.bz_layout.specs.Slots.{FreeSlots};
+ghost use Rattle.bz_layout.specs.declared.config.Config.{Config};
+ghost use Rattle.bz_word.specs.declared.entry.Entry.{Entry};
+ghost use Rattle.bz_task.specs.Instant.{Instant};
+ghost use Rattle.bz_task.specs.OwnActs.{Stores, Flushes, AreTakenFrom, gained};
+ghost use Rattle.bz_task.specs.Requests.{IsAskable, Hears, Tells, IsKnown};
+ghost use Rattle.bz_task.specs.Scene.{Scene, Stage, Waiting, Took, IsScene, IsLawful, HasFilled, here};
+ghost use Rattle.bz_task.specs.Swaps.{Change, Stand, SwapsTo, IsGoodSwap, Takes};
+ghost use Rattle.bz_task.specs.declared.todo.Outcome.TheVariants.{Done, Restart, Full};
+ghost use Rattle.bz_task.specs.declared.todo.Outcome.{Outcome};
+ghost use Rattle.bz_task.specs.declared.todo.Seen.TheVariants.{Swapped, NoSwap};
+ghost use Rattle.bz_task.specs.declared.todo.Seen.{Seen};
+ghost use Rattle.bz_task.specs.declared.todo.Todo.TheVariants.{Store, Flush, Swap, Finish};
+ghost use Rattle.bz_task.specs.declared.todo.Todo.{Todo};
+
+use crate::todo::{Seen, Todo};
+use bz_layout::Slots;
+
+/// An operation on the tree, of one worker.
+pub trait Task: Drop {
+    /// The sizes of the memory that it works on.
+    ghost config: { Self → Config };
+
+    /// What it asked for last; none before the first `next`.
+    ghost asks: { Self → Option Todo };
+
+    /// The most acts that it will still ask for.
+    ghost left: { Self → ℕ };
+
+    /// How many slots it takes.
+    ghost needs: { Self → ℕ };
+
+    /// The change that its call makes, if it makes one.
+    ghost change: { Self → Change };
+
+    /// The swap that it asks for makes the change.
+    ghost publishing: { Self → Bool };
+
+    /// What it has learnt: of the scene, at this stage of what it asked for.
+    ghost facts: { Self → Stage → Scene → Type 0 };
+
+    /// What its end means.
+    ghost means: { Self → Outcome → Scene → Type 0 };
+
+    /// The answer is another value than the one that a validating load has to find.
+    ghost differs: { Self → Seen → Type 0 };
+
+    /// Whether the swap that it asks for makes the change.
+    fn publishes(&self) -> bool
+        ensures { result ≡ publishing self.now };
+
+    /// The next act, after what came of the last one. `moment` is the number of marks so far.
+    fn next(&mut self, seen: Seen, slots: &mut Slots, moment: u32) -> Todo
+        requires hears { Hears (asks self.old) seen }
+        requires known { IsKnown (config self.old) (facts self.old) (asks self.old) seen moment }
+        ensures asked { asks self.new ≡ Some result }
+        ensures nearer { left self.new < left self.old }
+        ensures config { config self.new ≡ config self.old }
+        ensures change { change self.new ≡ change self.old }
+        ensures slots { AreTakenFrom slots.old slots.new }
+        // how it ends, and why
+        ensures done { result ≡ Finish Done → seen ≡ Swapped true }
+        ensures restart { result ≡ Finish Restart → (seen ≡ Swapped false) ⊎ differs self.old seen }
+        ensures no_swap { seen ≡ NoSwap → result ≡ Finish (Full Swaps) }
+        ensures full_swaps { result ≡ Finish (Full Swaps) → seen ≡ NoSwap }
+        ensures full_nodes { result ≡ Finish (Full Nodes) → length slots.old.free < needs self.old }
+        // what it learns, in every scene in which the answer is true
+        ensures learns { (stage : Stage) (s : Scene) → s.past.now ≡ moment → s.past.config ≡ config self.old → IsScene s → facts self.old stage s → Tells (asks self.old) stage seen s → facts self.new Waiting (gained s slots.old slots.new) };
+
+    /// Laws of what the task has learnt. Does nothing.
+    fn learnt(&self)
+        // it survives every lawful step
+        ensures stable { (stage : Stage) (s after : Scene) → s.past.config ≡ config self.now → facts self.now stage s → IsScene after → IsLawful s after → facts self.now stage after }
+        // what is asked for may be asked for
+        ensures askable { (s : Scene) (todo : Todo) → s.past.config ≡ config self.now → facts self.now Waiting s → IsScene s → asks self.now ≡ Some todo → IsAskable s todo }
+        // the change is made once
+        ensures once { (s : Scene) → facts self.now Waiting s → publishing self.now ≡ true → s.effected ≡ false }
+        // the end means what it should, and every slot that was taken has been stored into
+        ensures ends { (s : Scene) (outcome : Outcome) → facts self.now Waiting s → asks self.now ≡ Some (Finish outcome) → means self.now outcome s × HasFilled s };
+
+    /// Laws of the acts of its own by which the memory changes. Does nothing.
+    fn acted(&self)
+        // where the expected values stand, its swap is lawful for everybody, and changes the content as it should
+        ensures effect { (s : Scene) (y : Instant) (entries : List Entry) → s.past.config ≡ config self.now → facts self.now Waiting s → IsScene s → asks self.now ≡ Some (Swap entries) → Stand entries (here s) → SwapsTo s.past.config entries (here s) y → IsGoodSwap (publishing self.now) (change self.now) entries s y }
+        // and what it knows then
+        ensures took { (s after : Scene) (entries : List Entry) → s.past.config ≡ config self.now → facts self.now Waiting s → IsScene s → IsScene after → asks self.now ≡ Some (Swap entries) → Stand entries (here s) → Takes (publishing self.now) entries s after → facts self.now Took after }
+        // what it knows once its store, or its flush, is made
+        ensures stored { (s after : Scene) (a v : ℕ) → s.past.config ≡ config self.now → facts self.now Waiting s → IsScene s → IsScene after → asks self.now ≡ Some (Store a v) → Stores a v s after → facts self.now Took after }
+        ensures flushed { (s after : Scene) (line : ℕ) → s.past.config ≡ config self.now → facts self.now Waiting s → IsScene s → IsScene after → asks self.now ≡ Some (Flush line) → Flushes line s after → facts self.now Took after };
+}
