@@ -50,7 +50,7 @@ fn back(entry: Entry) -> Entry {
 
 // Brings both values back, by worker 1.
 fn swap_back(world: &mut World, told: &mut Effects) -> Done {
-    match world.begin(1, back(FIRST), back(SECOND)) {
+    match world.begin(1, &[back(FIRST), back(SECOND)]) {
         Some(Ok(1)) => steps_of(world, 1, 100, told),
         _ => Done::Busy,
     }
@@ -69,7 +69,7 @@ fn wake(
         first: 0,
         second: 0,
     };
-    world.begin(1, FIRST, SECOND);
+    world.begin(1, &[FIRST, SECOND]);
     steps_of(&mut world, 1, before, &mut told);
     world.begin_read(2, FIRST.target);
     let early = steps_of(&mut world, 2, awake, &mut told);
