@@ -7,6 +7,8 @@ mod helper;
 mod insert;
 mod recovery;
 mod resolve;
+mod sleeper;
+mod watched;
 mod world;
 
 use crate::entry_list::EntryList;

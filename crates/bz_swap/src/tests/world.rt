@@ -100,9 +100,19 @@ impl World {
         self.access.phase()
     }
 
+    /// The first address after the descriptors.
+    pub(crate) fn first(&self) -> u32 {
+        16 + 16 * self.swaps
+    }
+
     /// How many descriptors there are.
     pub(crate) fn swaps(&self) -> u32 {
         self.swaps
+    }
+
+    /// How many words there are.
+    pub(crate) fn words(&self) -> u32 {
+        self.words
     }
 
     /// How many descriptors were taken since the last renewal.
