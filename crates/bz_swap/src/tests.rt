@@ -2,9 +2,11 @@
 
 ghost use Rattle.std.specs.Prelude.{◌≡◌, ◌≢◌};
 
+mod crossing;
 mod cuts;
 mod helper;
 mod insert;
+mod random;
 mod recovery;
 mod resolve;
 mod sleeper;

@@ -1,9 +1,8 @@
 //! Two helpers that sleep while the swap that they help ends and another one brings the values back.
 
-use super::watched::{Fate, Watched};
+use super::watched::{Change, Fate, Watched};
 use bz_machine::Done;
 use bz_memory::Memory;
-use bz_word::Entry;
 use std::alloc::Global;
 use std::test::Fail;
 
@@ -26,23 +25,12 @@ struct Case {
 
 const ENOUGH: u32 = 400;
 
-// The swap of a place from one value to another.
-fn change(watched: &Watched, expected: u64, new: u64) -> [Entry; 1] {
-    [Entry {
-        target: watched.address(0),
-        expected,
-        new,
-    }]
-}
-
 // Worker 1 begins its swap, and the helpers come to it and fall asleep.
 fn fall_asleep(watched: &mut Watched, case: Case, acts: Acts) {
-    let first = change(watched, 0, 1);
-    watched.begin(1, &first);
+    watched.begin(1, &[Change::of(0, 0, 1)]);
     watched.steps(1, acts.own);
     if case.sleeper_swaps {
-        let other = change(watched, 0, 2);
-        watched.begin(2, &other);
+        watched.begin(2, &[Change::of(0, 0, 2)]);
     } else {
         watched.begin_read(2, 0);
     }
@@ -58,8 +46,7 @@ fn wake(watched: &mut Watched, case: Case, acts: Acts) {
     }
     watched.steps(1, ENOUGH);
     let value = watched.value(0);
-    let back = change(watched, value, 0);
-    watched.begin(1, &back);
+    watched.begin(1, &[Change::of(0, value, 0)]);
     watched.steps(1, ENOUGH);
     watched.steps(3, acts.more);
     watched.steps(2, ENOUGH);

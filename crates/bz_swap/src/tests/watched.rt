@@ -12,6 +12,24 @@ use std::alloc::Global;
 /// How many addresses the plain memory has: three in each line.
 pub(crate) const PLACES: usize = 8;
 
+/// The change of a place from one value to another.
+#[derive(Clone, Copy, Debug)]
+pub(crate) struct Change {
+    pub(crate) place: usize,
+    pub(crate) expected: u64,
+    pub(crate) new: u64,
+}
+
+impl Change {
+    pub(crate) fn of(place: usize, expected: u64, new: u64) -> Change {
+        Change {
+            place,
+            expected,
+            new,
+        }
+    }
+}
+
 /// What goes wrong beside the plain memory.
 #[derive(Clone, Copy, Debug, PartialEq, Eq)]
 pub(crate) enum Fault {
@@ -21,6 +39,37 @@ pub(crate) enum Fault {
     Answer(u8, Done),
     /// The memory itself holds another value at this place.
     Value(usize),
+}
+
+/// How many reads were answered, and how many swaps with true and with false.
+#[derive(Clone, Copy, Debug)]
+pub(crate) struct Tally {
+    pub(crate) reads: u32,
+    pub(crate) won: u32,
+    pub(crate) lost: u32,
+}
+
+impl Tally {
+    pub(crate) const NONE: Tally = Tally {
+        reads: 0,
+        won: 0,
+        lost: 0,
+    };
+
+    fn note(&mut self, done: Done) {
+        match done {
+            Done::Read(_) => self.reads = self.reads.saturating_add(1),
+            Done::Swapped(true) => self.won = self.won.saturating_add(1),
+            Done::Swapped(false) => self.lost = self.lost.saturating_add(1),
+            _ => {}
+        }
+    }
+
+    pub(crate) fn add(&mut self, other: Tally) {
+        self.reads = self.reads.saturating_add(other.reads);
+        self.won = self.won.saturating_add(other.won);
+        self.lost = self.lost.saturating_add(other.lost);
+    }
 }
 
 /// What is known of a swap by its number.
@@ -68,6 +117,7 @@ pub(crate) struct Watched {
     known: Vec<Known>,
     doing: [Doing; 65],
     fault: Option<Fault>,
+    tally: Tally,
 }
 
 impl Watched {
@@ -86,6 +136,7 @@ impl Watched {
             known,
             doing: [Doing::Nothing; 65],
             fault: None,
+            tally: Tally::NONE,
         })
     }
 
@@ -111,6 +162,11 @@ impl Watched {
     /// The first thing that went wrong.
     pub(crate) fn fault(&self) -> Option<Fault> {
         self.fault
+    }
+
+    /// What was answered so far.
+    pub(crate) fn tally(&self) -> Tally {
+        self.tally
     }
 
     pub(crate) fn fate(&self, swap: u16) -> Fate {
@@ -168,15 +224,20 @@ impl Watched {
         }
     }
 
-    /// Begins a swap; none where it may not come, or all descriptors were taken.
-    pub(crate) fn begin(&mut self, w: u8, entries: &[Entry]) -> Option<u16> {
-        let swap = self.world.begin(w, entries)?.ok()?;
+    /// Begins a swap of one to four places in their order; none where it may not come, or all descriptors were taken.
+    pub(crate) fn begin(&mut self, w: u8, changes: &[Change]) -> Option<u16> {
         let mut known = UNKNOWN;
-        known.count = entries.len();
+        known.count = changes.len().min(4);
         known.fate = Fate::Open { differed: false };
-        for (slot, entry) in known.entries.iter_mut().zip(entries) {
-            *slot = *entry;
+        for (slot, change) in known.entries.iter_mut().zip(changes) {
+            *slot = Entry {
+                target: self.address(change.place),
+                expected: change.expected,
+                new: change.new,
+            };
         }
+        let count = known.count.min(4);
+        let swap = self.world.begin(w, &known.entries[..count])?.ok()?;
         if (swap as usize) < self.known.len() {
             self.known[swap as usize] = known;
         }
@@ -239,6 +300,7 @@ impl Watched {
         if !self.is_right(w, done) {
             self.report(Fault::Answer(w, done));
         }
+        self.tally.note(done);
         if done == Done::Busy {
             return;
         }
