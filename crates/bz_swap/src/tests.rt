@@ -2,11 +2,14 @@
 
 ghost use Rattle.std.specs.Prelude.{◌≡◌, ◌≢◌};
 
+mod bound;
 mod crossing;
 mod cuts;
+mod driver;
 mod helper;
 mod insert;
 mod random;
+mod recover;
 mod recovery;
 mod resolve;
 mod sleeper;
