@@ -9,6 +9,7 @@ mod driver;
 mod helper;
 mod insert;
 mod random;
+mod record;
 mod recover;
 mod recovery;
 mod resolve;

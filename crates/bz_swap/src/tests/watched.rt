@@ -116,6 +116,8 @@ pub(crate) struct Watched {
     plain: [u64; PLACES],
     known: Vec<Known>,
     doing: [Doing; 65],
+    // the places at which a private store was made since the last cut, and which are not compared
+    stored: [bool; PLACES],
     fault: Option<Fault>,
     tally: Tally,
 }
@@ -135,6 +137,7 @@ impl Watched {
             plain: [0; PLACES],
             known,
             doing: [Doing::Nothing; 65],
+            stored: [false; PLACES],
             fault: None,
             tally: Tally::NONE,
         })
@@ -310,13 +313,33 @@ impl Watched {
         self.set_doing(w, Doing::Nothing);
     }
 
+    // Whether the memory itself holds the value of a place, or something was stored there privately.
+    fn agrees(&self, place: usize) -> bool {
+        let place = place % PLACES;
+        self.stored[place] || resolve(&self.world, self.address(place)) == self.plain[place]
+    }
+
     /// Reports a place whose value in the memory itself is not that in the plain memory.
     pub(crate) fn compare(&mut self) {
-        let differs = (0..PLACES).find(|place| resolve(&self.world, self.address(*place))
-            != self.plain[*place % PLACES]);
-        if let Some(place) = differs {
+        if let Some(place) = (0..PLACES).find(|place| !self.agrees(*place)) {
             self.report(Fault::Value(place));
         }
+    }
+
+    /// Stores at a place that no swap has named; false where that may not come.
+    pub(crate) fn store(&mut self, w: u8, place: usize, v: u64) -> bool {
+        let a = self.address(place);
+        let made = self.world.store(w, a, v).is_some();
+        if made {
+            self.stored[place % PLACES] = true;
+        }
+        made
+    }
+
+    /// Flushes the line of a place; false where that may not come.
+    pub(crate) fn flush(&mut self, w: u8, place: usize) -> bool {
+        let a = self.address(place);
+        self.world.flush(w, a).is_some()
     }
 
     /// Makes a step of a worker; what it answers, which is nothing for a worker without an operation.
@@ -346,9 +369,15 @@ impl Watched {
         self.note_effect(effect);
     }
 
-    /// Cuts the power: no swap that was begun takes effect any more.
+    /// Cuts the power: no swap that was begun takes effect any more, and a private word is what was durable of it.
     pub(crate) fn cut(&mut self) {
         self.world.cut();
+        for place in 0..PLACES {
+            if self.stored[place] {
+                self.plain[place] = resolve(&self.world, self.address(place));
+            }
+        }
+        self.stored = [false; PLACES];
         self.known.fill(UNKNOWN);
         self.doing = [Doing::Nothing; 65];
         self.compare();
