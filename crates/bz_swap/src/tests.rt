@@ -6,7 +6,6 @@ mod bound;
 mod crossing;
 mod cuts;
 mod driver;
-mod helper;
 mod insert;
 mod random;
 mod record;

@@ -91,6 +91,43 @@ fn chain(world: &mut World, stops: Stops, last_first: bool) {
     }
 }
 
+// The entry that leaves a place as it is, and the one that changes it.
+fn kept(world: &World, place: u32) -> Entry {
+    Entry {
+        target: address(world, place),
+        expected: 0,
+        new: 0,
+    }
+}
+
+fn raised(world: &World, place: u32) -> Entry {
+    Entry {
+        new: 1,
+        ..kept(world, place)
+    }
+}
+
+// A link of a chain whose last place has a tag of a swap that has ended: worker 64 stops in that swap, the link's worker
+// comes to it with two of its own pointers put, and falls asleep before it puts a tag; the swap ends, and it wakes.
+fn stray_link(world: &mut World, link: u8) {
+    let w = link.min(62) + 1;
+    let place = 2 * link as u32;
+    let last = 128 + link as u32;
+    let ended = [kept(world, place + 2), kept(world, last)];
+    world.begin(64, &ended);
+    steps(world, 64, 13);
+    let own = [
+        kept(world, place),
+        raised(world, place + 1),
+        kept(world, place + 2),
+        raised(world, last),
+    ];
+    world.begin(w, &own);
+    steps(world, w, 32);
+    steps(world, 64, 100);
+    steps(world, w, 1);
+}
+
 // 63 workers that begin swaps of some of the first places and stop somewhere.
 fn scatter(world: &mut World, random: &mut Random, places: u32) {
     for _ in 0..400 {
@@ -151,6 +188,16 @@ fn beside_chains(alloc: Global, stops: Stops) -> Result<Option<u32>, Memory> {
     Ok(Some(greatest))
 }
 
+// The count beside a chain with 63 tags of swaps that have ended; none where it is too great.
+fn beside_stray_tags(alloc: Global, alone: Alone) -> Result<Option<u32>, Memory> {
+    let mut world = zeros(alloc)?;
+    for link in 0..63 {
+        stray_link(&mut world, link);
+    }
+    let (steps, limit) = count_alone(&mut world, alone);
+    Ok(if steps <= limit { Some(steps) } else { None })
+}
+
 // The greatest count beside workers scattered over so many places; none where it is too great.
 fn beside_scattered(alloc: Global, seed: u64, places: u32) -> Result<Option<u32>, Memory> {
     let mut world = zeros(alloc)?;
@@ -179,6 +226,12 @@ fn a_worker_alone_answers_within_its_bound(rt: HostRuntime) -> Result<(), Fail> 
             greatest = count.max(greatest);
         }
     }
+    for n in 0..6 {
+        let Some(count) = beside_stray_tags(rt.alloc(), some_alone(n))? else {
+            panic!(rt; "{n}");
+        };
+        greatest = count.max(greatest);
+    }
     for seed in 0..2_000 {
         let places = 1 + seed as u32 % 40;
         let Some(count) = beside_scattered(rt.alloc(), seed, places)? else {
@@ -187,6 +240,6 @@ fn a_worker_alone_answers_within_its_bound(rt: HostRuntime) -> Result<(), Fail> 
         greatest = count.max(greatest);
     }
     // some of these states are hard ones
-    assert!(rt; greatest > 20_000, "{greatest}");
+    assert!(rt; greatest > 30_000, "{greatest}");
     Ok(())
 }

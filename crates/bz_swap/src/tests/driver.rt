@@ -20,19 +20,26 @@ fn some_worker(random: &mut Random) -> u8 {
     1 + random.below(limit) as u8
 }
 
-// Begins a swap of one to four places, whose expected values mostly stand.
-fn begin_swap(watched: &mut Watched, random: &mut Random, w: u8) -> bool {
+// A change of a place, whose expected value mostly stands.
+fn some_change(watched: &Watched, random: &mut Random, place: u32) -> Change {
+    let place = place as usize;
+    let wrong = u64::from(random.below(8) / 7);
+    let expected = watched.value(place).wrapping_add(wrong) % 4;
+    Change::of(place, expected, u64::from(random.below(4)))
+}
+
+// Begins a swap of one to four places, which follow one another but for one that may be left out.
+fn begin_swap(watched: &mut Watched, random: &mut Random, w: u8) {
+    let count = 1 + random.below(4);
+    let first = random.below(6 - count);
+    let left_out = random.below(8);
     let mut changes = [Change::of(0, 0, 0); 4];
-    let mut count = 0;
-    for place in 0..PLACES {
-        if count < 4 && random.below(3) == 0 {
-            let wrong = u64::from(random.below(8) / 7);
-            let expected = watched.value(place).wrapping_add(wrong) % 4;
-            changes[count] = Change::of(place, expected, u64::from(random.below(4)));
-            count += 1;
-        }
+    for (i, change) in changes.iter_mut().enumerate() {
+        let place = first + i as u32;
+        let after = if place < left_out { 0 } else { 1 };
+        *change = some_change(watched, random, place + after);
     }
-    watched.begin(w, &changes[..count.min(4)]).is_some()
+    watched.begin(w, &changes[..count as usize]);
 }
 
 // A step of a worker, or the beginning of a read or swap.
@@ -80,7 +87,12 @@ fn finish(watched: &mut Watched, random: &mut Random) -> bool {
 
 // Whether each place has its plain value in the caches.
 fn is_clean(watched: &Watched) -> bool {
-    (0..PLACES).all(|place| watched.world.cached(watched.address(place)) == watched.value(place))
+    for place in 0..PLACES {
+        if watched.world.cached(watched.address(place)) != watched.value(place) {
+            return false;
+        }
+    }
+    true
 }
 
 // One life: work, then at times an end of all operations, and a power cut with a recovery.

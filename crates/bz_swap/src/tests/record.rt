@@ -61,8 +61,12 @@ fn act_and_evict(watched: &mut Watched, random: &mut Random, layout: Layout, cou
 
 // Whether the record is published and whole, or not published.
 fn is_whole(watched: &Watched, layout: Layout, published: bool) -> bool {
-    let [name, number] = layout.published.map(|place| watched.value(place));
-    let words = layout.words.map(|place| watched.value(place));
+    let name = watched.value(layout.published[0]);
+    let number = watched.value(layout.published[1]);
+    let words = [
+        watched.value(layout.words[0]),
+        watched.value(layout.words[1]),
+    ];
     if published {
         name == NAME && number == COUNT && words == RECORD
     } else {

@@ -1,7 +1,6 @@
 //! Two helpers that sleep while the swap that they help ends and another one brings the values back.
 
 use super::watched::{Change, Fate, Watched};
-use bz_machine::Done;
 use bz_memory::Memory;
 use std::alloc::Global;
 use std::test::Fail;
@@ -16,18 +15,31 @@ struct Acts {
     more: u32,
 }
 
-// What the sleeper does itself, and whether the late helper ends the swap or its own worker does.
+// How many words the swap changes, what the sleeper does itself, and whether the late helper ends the swap or its own
+// worker does.
 #[derive(Clone, Copy, Debug)]
 struct Case {
+    two: bool,
     sleeper_swaps: bool,
     late_ends: bool,
 }
 
 const ENOUGH: u32 = 400;
 
+// Begins the swap of worker 1 from these values to other ones.
+fn begin(watched: &mut Watched, two: bool, new: u64) {
+    let first = Change::of(0, watched.value(0), new);
+    if two {
+        let second = Change::of(3, watched.value(3), new);
+        watched.begin(1, &[first, second]);
+    } else {
+        watched.begin(1, &[first]);
+    }
+}
+
 // Worker 1 begins its swap, and the helpers come to it and fall asleep.
 fn fall_asleep(watched: &mut Watched, case: Case, acts: Acts) {
-    watched.begin(1, &[Change::of(0, 0, 1)]);
+    begin(watched, case.two, 1);
     watched.steps(1, acts.own);
     if case.sleeper_swaps {
         watched.begin(2, &[Change::of(0, 0, 2)]);
@@ -45,8 +57,7 @@ fn wake(watched: &mut Watched, case: Case, acts: Acts) {
         watched.steps(3, ENOUGH);
     }
     watched.steps(1, ENOUGH);
-    let value = watched.value(0);
-    watched.begin(1, &[Change::of(0, value, 0)]);
+    begin(watched, case.two, 0);
     watched.steps(1, ENOUGH);
     watched.steps(3, acts.more);
     watched.steps(2, ENOUGH);
@@ -64,15 +75,24 @@ fn goes_well(alloc: Global, case: Case, acts: Acts) -> Result<bool, Memory> {
     let mut watched = Watched::open(alloc, 3, 3)?;
     fall_asleep(&mut watched, case, acts);
     wake(&mut watched, case, acts);
-    let ended = (1..=3u8).all(|w| watched.step(w) == Done::Busy && watched.world.idle(w));
-    let done = case.sleeper_swaps || are_both_done(&watched) && watched.value(0) == 0;
+    let world = &watched.world;
+    let ended = world.idle(1) && world.idle(2) && world.idle(3);
+    let back = watched.value(0) == 0 && watched.value(3) == 0;
+    let done = case.sleeper_swaps || are_both_done(&watched) && back;
     Ok(ended && done && watched.fault().is_none())
 }
 
-// The numbers of acts of the helpers at which a run goes wrong, if there are any.
+// The numbers of acts of the late helper at which a run goes wrong, if there are any.
 fn first_bad(alloc: Global, case: Case, own: u32, asleep: u32) -> Result<Option<Acts>, Memory> {
+    let longest = if case.late_ends {
+        0
+    } else if case.two {
+        4
+    } else {
+        10
+    };
     for late in 0..=22 {
-        for more in 0..=10 {
+        for more in 0..=longest {
             let acts = Acts {
                 own,
                 asleep,
@@ -89,13 +109,22 @@ fn first_bad(alloc: Global, case: Case, own: u32, asleep: u32) -> Result<Option<
 
 #[test]
 fn sleeping_helpers_change_nothing(rt: HostRuntime) -> Result<(), Fail> {
-    for (sleeper_swaps, late_ends) in [(false, false), (false, true), (true, false), (true, true)] {
+    for (two, sleeper_swaps, late_ends) in [
+        (false, false, false),
+        (false, false, true),
+        (false, true, false),
+        (false, true, true),
+        (true, false, false),
+        (true, false, true),
+    ] {
         let case = Case {
+            two,
             sleeper_swaps,
             late_ends,
         };
-        for own in 0..=17 {
-            for asleep in 0..=30 {
+        let (longest, last) = if two { (27, 40) } else { (17, 30) };
+        for own in 0..=longest {
+            for asleep in 0..=last {
                 let bad = first_bad(rt.alloc(), case, own, asleep)?;
                 assert!(rt; bad.is_none(), "{case:?} {bad:?}");
             }

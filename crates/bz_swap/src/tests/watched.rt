@@ -321,8 +321,10 @@ impl Watched {
 
     /// Reports a place whose value in the memory itself is not that in the plain memory.
     pub(crate) fn compare(&mut self) {
-        if let Some(place) = (0..PLACES).find(|place| !self.agrees(*place)) {
-            self.report(Fault::Value(place));
+        for place in 0..PLACES {
+            if !self.agrees(place) {
+                self.report(Fault::Value(place));
+            }
         }
     }
 
