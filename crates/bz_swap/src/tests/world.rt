@@ -115,11 +115,6 @@ impl World {
         self.words
     }
 
-    /// How many descriptors were taken since the last renewal.
-    pub(crate) fn taken(&self) -> u32 {
-        self.access.taken()
-    }
-
     /// The durable word at an address; 0 past the memory.
     pub(crate) fn durable(&self, a: u32) -> u64 {
         if a < self.words {
