@@ -176,9 +176,6 @@ set-mark marks n a within = elim (cases_eq a n) [
   | inr other ↦ get_or-set_other marks n a true false other ∙ sym (ap (λ b. get_or marks a false || b) (other-target n a other) ∙ or-false (get_or marks a false))
 ]
 
-pub marked-none : (marks : List Bool) → AreMarked marks [] marks
-marked-none marks = record { size = refl; each = λ a. sym (or-false (get_or marks a false)) }
-
 pub marked-more : (old marks : List Bool) (entries : List Entry) (i : ℕ) (d : Entry) → i < length entries → (get_or entries i d).target < length old
     → AreMarked old (take i entries) marks → AreMarked old (take (i + 1) entries) (slice_set marks (get_or entries i d).target true)
 marked-more old marks entries i d below within so = rw (take_more entries i d below) (record {
