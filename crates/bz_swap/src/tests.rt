@@ -2,11 +2,18 @@
 
 ghost use Rattle.std.specs.Prelude.{◌≡◌, ◌≢◌};
 
+mod bound;
+mod crossing;
 mod cuts;
-mod helper;
+mod driver;
 mod insert;
+mod random;
+mod record;
+mod recover;
 mod recovery;
 mod resolve;
+mod sleeper;
+mod watched;
 mod world;
 
 use crate::entry_list::EntryList;

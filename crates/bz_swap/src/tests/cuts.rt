@@ -1,7 +1,7 @@
 //! A power cut after each step of a swap.
 
 use super::resolve::resolve;
-use super::world::{WORDS, World};
+use super::world::World;
 use crate::phase::Phase;
 use bz_memory::Memory;
 use bz_word::Entry;
@@ -33,8 +33,8 @@ const FOURTH: Entry = Entry {
 };
 
 pub(super) fn zeros(alloc: Global) -> Result<World, Memory> {
-    let words = vec![in alloc; 0u64; WORDS as usize]?;
-    World::open(alloc, &words)
+    let words = vec![in alloc; 0u64; 1_056]?;
+    World::open(alloc, &words, 2, 2)
 }
 
 // Evicts each of these words, and says how many effects were told.
@@ -61,16 +61,6 @@ pub(super) fn steps(world: &mut World, count: u32, evicted: &[u32]) -> u32 {
     told
 }
 
-// Begins a swap of two or four entries.
-fn begin(world: &mut World, entries: &[Entry]) -> bool {
-    let begun = match entries.len() {
-        2 => world.begin(1, entries[0], entries[1]),
-        4 => world.begin_four(1, [entries[0], entries[1], entries[2], entries[3]]),
-        _ => None,
-    };
-    begun == Some(Ok(0))
-}
-
 // Whether each target stands for its new value where an effect was told, once, and for its old one where none was told.
 fn is_whole(world: &World, entries: &[Entry], told: u32) -> bool {
     entries.iter().all(|entry| {
@@ -91,7 +81,7 @@ fn cut_after(
     evicted: &[u32],
 ) -> Result<bool, Memory> {
     let mut world = zeros(alloc)?;
-    let begun = begin(&mut world, entries);
+    let begun = world.begin(1, entries) == Some(Ok(0));
     let told = steps(&mut world, count, evicted);
     let before = is_whole(&world, entries, told);
     world.cut();

@@ -1,6 +1,6 @@
 //! An opening, and the two swaps of an insert: the first reserves a record, the second publishes it.
 
-use super::world::{WORDS, World};
+use super::world::World;
 use crate::phase::Phase;
 use crate::progress::NoSwap;
 use bz_machine::Done;
@@ -8,6 +8,9 @@ use bz_memory::Memory;
 use bz_word::Entry;
 use std::alloc::Global;
 use std::test::Fail;
+
+// The words of a memory of two descriptors.
+const WORDS: usize = 1_056;
 
 const STATUS: u32 = 1_040;
 
@@ -43,10 +46,10 @@ const PUBLISHED: [Entry; 2] = [
 
 // A memory of zeros but for one word.
 fn world_with(alloc: Global, at: u16, word: u64) -> Result<World, Memory> {
-    let mut words = vec![in alloc; 0u64; WORDS as usize]?;
-    let place = at as usize % WORDS as usize;
+    let mut words = vec![in alloc; 0u64; WORDS]?;
+    let place = at as usize % WORDS;
     words[place] = word;
-    World::open(alloc, &words)
+    World::open(alloc, &words, 2, 2)
 }
 
 #[test]
@@ -86,7 +89,7 @@ fn run(world: &mut World, w: u8) -> Option<(Done, u32, [Option<u16>; 2])> {
 fn an_insert_is_two_swaps(rt: HostRuntime) -> Result<(), Fail> {
     let mut world = world_with(rt.alloc(), 0, 1)?;
     for (swap, entries) in [(0, RESERVED), (1, PUBLISHED)] {
-        assert_eq!(rt; world.begin(1, entries[0], entries[1]), Some(Ok(swap)));
+        assert_eq!(rt; world.begin(1, &entries), Some(Ok(swap)));
         assert_eq!(rt;
             run(&mut world, 1),
             Some((Done::Swapped(true), 27, [Some(swap), None]))
@@ -96,10 +99,7 @@ fn an_insert_is_two_swaps(rt: HostRuntime) -> Result<(), Fail> {
             assert_eq!(rt; world.durable(entry.target), DIRTY + entry.new);
         }
     }
-    assert_eq!(rt;
-        world.begin(1, PUBLISHED[0], PUBLISHED[1]),
-        Some(Err(NoSwap))
-    );
+    assert_eq!(rt; world.begin(1, &PUBLISHED), Some(Err(NoSwap)));
     for (a, word) in [
         (16, DIRTY + 2),
         (17, 2),

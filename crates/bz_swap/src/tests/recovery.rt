@@ -14,7 +14,7 @@ const EFFECT: u32 = 20;
 
 // Stores a word and flushes its line.
 fn put(world: &mut World, a: u32, v: u64) -> bool {
-    world.store(a, v) && world.flush(a)
+    world.store(0, a, v).is_some() && world.flush(0, a).is_some()
 }
 
 // Makes both targets the values that they stand for and both descriptors free, and gives the descriptors back.
@@ -29,20 +29,17 @@ fn recover(world: &mut World) -> bool {
 fn begin_next(world: &mut World) -> Option<u16> {
     let first = resolve(world, FIRST.target);
     let second = resolve(world, SECOND.target);
-    let begun = world.begin(
-        1,
-        Entry {
-            expected: first,
-            new: 21,
-            ..FIRST
-        },
-        Entry {
-            expected: second,
-            new: 22,
-            ..SECOND
-        },
-    );
-    begun?.ok()
+    let first = Entry {
+        expected: first,
+        new: 21,
+        ..FIRST
+    };
+    let second = Entry {
+        expected: second,
+        new: 22,
+        ..SECOND
+    };
+    world.begin(1, &[first, second])?.ok()
 }
 
 // What both targets stand for.
@@ -54,7 +51,7 @@ fn values(world: &World) -> (u64, u64) {
 // end; none where a call may not come.
 fn recover_and_swap(alloc: Global, count: u32) -> Result<Option<((u64, u64), (u64, u64))>, Memory> {
     let mut world = zeros(alloc)?;
-    let begun = world.begin(1, FIRST, SECOND);
+    let begun = world.begin(1, &[FIRST, SECOND]);
     steps(&mut world, count, &[]);
     world.cut();
     let recovered = recover(&mut world) && world.phase() == Phase::Running;

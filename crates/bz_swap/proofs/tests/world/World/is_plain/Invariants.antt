@@ -1,10 +1,7 @@
-use Rattle.std.specs.Prelude.{ℕ, ◌-◌, ◌<◌}
+use Rattle.std.specs.Prelude.{ℕ, ◌<◌}
 use Rattle.bz_swap.proofs.TestWorlds.{IsPlainAt}
 use Rattle.bz_swap.proofs.tests.world.World.is_plain.Given as goal
 
 -- each word so far is plain
 abbrev pub invariant-loop-a : goal.invariant-loop-a
 invariant-loop-a l = (b : ℕ) → b < l.a → IsPlainAt l.self-inside.access b
-
-abbrev pub decreases-loop-a : goal.decreases-loop-a
-decreases-loop-a l = 1056 - l.a
