@@ -115,6 +115,7 @@ module _ (b : Laws) (s : Scene) (y : Instant) (k st : ℕ) (good : IsScene s) (w
     stamp = ap (λ z. (status z).stamp) new-status ∙ (ap (λ z. z.stamp) reads ∙ ap (λ z. next_stamp (status z).stamp) (sym now-status));
     front = λ i ne l. other-words i ne;
     freeze = λ f. records;
+    inner = λ l. absurd (omega (arith, l, leaf.leaf.flat));
     count = omega (arith, records.count);
     spare = λ e f. omega (arith, records.count, records.block, f);
   }

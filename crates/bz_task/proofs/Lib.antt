@@ -10,3 +10,4 @@ mod Stays
 mod LeafSwaps
 mod Others
 mod SeenLeaves
+mod Separators

@@ -5,6 +5,7 @@ use Rattle.bz_layout.specs.Slots.{FreeSlots}
 use Rattle.bz_layout.specs.declared.config.Config.{Config}
 use Rattle.bz_layout.specs.declared.sizes.TheConstants.{NODE_WORDS, STATUS_AT, HEADER_AT, META_AT, ROOT_AT, ROOT_STATUS_AT}
 use Rattle.bz_slotted.specs.Readers.{found_of}
+use Rattle.bz_slotted.specs.Records.{pointer_at}
 use Rattle.bz_slotted.specs.Rules.{node_fault}
 use Rattle.bz_word.specs.declared.entry.Entry.{Entry}
 use Rattle.bz_content.specs.Image.{node}
@@ -14,7 +15,7 @@ use Rattle.bz_task.specs.Instant.{Instant, words, durable, page_at, form_at, is_
 use Rattle.bz_task.specs.Outcomes.{IsPath, IsView}
 use Rattle.bz_task.specs.OwnActs.{gained}
 use Rattle.bz_task.specs.Scene.{Past, Scene, Continues, HasFilled}
-use Rattle.bz_task.specs.Shown.{IsShown, SameWords, SameNode, SameRecords, SameRoot}
+use Rattle.bz_task.specs.Shown.{IsShown, SameWords, SameNode, SameRecords, SameSeparators, SameRoot}
 use Rattle.bz_task.specs.Steps.{IsHistory}
 use Rattle.bz_task.specs.Swaps.{swapped, SwapsTo}
 use Rattle.bz_task.specs.declared.path.Path.{Path}
@@ -43,6 +44,12 @@ abbrev pub FrozenNodesStay : Type 0
 FrozenNodesStay =
     (c : Config) (at : ℕ → Instant) (first last m j k : ℕ) → IsHistory c at first last → AreMoments first last m j →
     (at m).reached k ≡ true → (page_at c (at m) k).frozen ≡ true → SameNode c (at m) (at j) k
+
+-- of an inner node separators and children's places stay
+abbrev pub SeparatorsStay : Type 0
+SeparatorsStay =
+    (c : Config) (at : ℕ → Instant) (first last m j k : ℕ) → IsHistory c at first last → AreMoments first last m j →
+    (at m).reached k ≡ true → 0 < (page_at c (at m) k).level → SameSeparators (words c (at m) k) (words c (at j) k)
 
 -- header and fences stay, and the node stays reached
 pub record KeepsFront (c : Config) (x y : Instant) (k : ℕ) : Type 0 where
@@ -125,6 +132,7 @@ pub record IsLeafInTree (c : Config) (x : Instant) (k : ℕ) : Type 0 where
   pub inside : is_inside c x k ≡ true
   pub reached : x.reached k ≡ true
   pub leaf : (form_at c x).level k ≡ 0
+  pub flat : (page_at c x k).level ≡ 0
   pub whole : node_fault c.nodes (node c x.image k) (durable c x k) 0 ((form_at c x).low k) ((form_at c x).high k) ≡ None
 
 -- words that are those of a leaf to its readers are a leaf by themselves, and say of each key what the leaf says
@@ -135,6 +143,16 @@ pub record SaysAlike (nodes : ℕ) (n m : ℕ → ℕ) (low high : Option (List 
 abbrev pub SeenLeavesAreWhole : Type 0
 SeenLeavesAreWhole =
     (nodes : ℕ) (raw n m : ℕ → ℕ) (low high : Option (List ℕ)) → node_fault nodes raw n 0 low high ≡ None → SameWords n m → SaysAlike nodes n m low high
+
+-- what stands where, of a leaf of the tree
+abbrev pub LeavesAreInTrees : Type 0
+LeavesAreInTrees = (c : Config) (x : Instant) (k : ℕ) → IsGood c x → k < c.nodes → is_inside c x k ≡ true → (form_at c x).level k ≡ 0 → IsLeafInTree c x k
+
+-- the child of a node of the tree is in the tree
+abbrev pub ChildrenAreInTrees : Type 0
+ChildrenAreInTrees =
+    (c : Config) (x : Instant) (k i to : ℕ) → IsGood c x → k ≢ c.nodes → is_inside c x k ≡ true → 0 < (page_at c x k).level → i < (page_at c x k).count →
+    words c x k (pointer_at (page_at c x k) i) ≡ to + 1 → is_inside c x to ≡ true
 
 -- a leaf of the tree whose status was read, and was not frozen, is in the tree and as it was while it has this status
 pub record StillLeaf (c : Config) (x y : Instant) (k : ℕ) : Type 0 where

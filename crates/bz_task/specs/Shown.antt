@@ -3,7 +3,7 @@ use Rattle.std.specs.Prelude.{◌≡◌, ◌≢◌, ℕ, ◌+◌, ◌<◌, ◌�
 use Rattle.bz_layout.specs.declared.config.Config.{Config}
 use Rattle.bz_layout.specs.declared.sizes.TheConstants.{NODE_WORDS, STATUS_AT, META_AT, ROOT_AT, ROOT_STATUS_AT}
 use Rattle.bz_slotted.specs.Page.{visible, extent_of, page}
-use Rattle.bz_slotted.specs.Records.{weight}
+use Rattle.bz_slotted.specs.Records.{weight, pointer_at}
 use Rattle.bz_task.specs.Instant.{Instant, words}
 
 -- place i is one of the block words of record j, which is visible
@@ -30,6 +30,13 @@ pub record SameRecords (n m : ℕ → ℕ) : Type 0 where
   pub count : (page m).count ≡ (page n).count
   pub block : (page m).block ≡ (page n).block
   pub words : (i : ℕ) → i ≢ STATUS_AT → IsShown n i → m i ≡ n i
+
+-- of an inner node nothing is another but the status, of which count and block are as they were, and child pointers
+pub record SameSeparators (n m : ℕ → ℕ) : Type 0 where
+  pub count : (page m).count ≡ (page n).count
+  pub block : (page m).block ≡ (page n).block
+  pub front : (i : ℕ) → i ≢ STATUS_AT → i < META_AT + (page n).count → m i ≡ n i
+  pub words : (i : ℕ) → META_AT + (page n).count ≤ i → ((j : ℕ) → j < (page n).count → i ≢ pointer_at (page n) j) → m i ≡ n i
 
 -- root pointer and root status are as they were
 pub record SameRoot (x y : Instant) : Type 0 where

@@ -5,7 +5,7 @@ use Rattle.bz_layout.specs.declared.sizes.TheConstants.{STATUS_AT, META_AT, SHAR
 use Rattle.bz_slotted.specs.Page.{page}
 use Rattle.bz_task.specs.Good.{IsGood}
 use Rattle.bz_task.specs.Instant.{Instant, words}
-use Rattle.bz_task.specs.Shown.{SameNode, SameRecords, SameRoot}
+use Rattle.bz_task.specs.Shown.{SameNode, SameRecords, SameSeparators, SameRoot}
 
 -- the stamp after the next change
 abbrev pub next_stamp : ℕ → ℕ
@@ -19,6 +19,8 @@ pub record Moves (n m : ℕ → ℕ) : Type 0 where
   pub front : (i : ℕ) → i ≢ STATUS_AT → i < META_AT → m i ≡ n i
   -- a freeze changes the status alone
   pub freeze : (page m).frozen ≡ true → SameRecords n m
+  -- of an inner node child pointers alone are changed in place
+  pub inner : 0 < (page n).level → SameSeparators n m
   -- records are added and never taken away; while none is added, a free word stays free
   pub count : (page n).count ≤ (page m).count
   pub spare : (page m).count ≡ (page n).count → (page n).count + (page n).block < SHARED_WORDS → (page m).count + (page m).block < SHARED_WORDS

@@ -1,6 +1,6 @@
 //! Laws of lawful steps. Each function does nothing: its contract is the law.
 
-ghost use Rattle.bz_task.specs.Laws.{NodesStay, RootStays, FrozenNodesStay, FrontsStay, RangesStay, NodesWereInside, RootsAreReached, HeadersSayTheLevel, SameRecordsShowTheSame, SwapsShowInSlots, SeenLeavesAreWhole, ThawedLeavesStay, PathsStay, ViewsStay, NothingIsGained};
+ghost use Rattle.bz_task.specs.Laws.{NodesStay, RootStays, FrozenNodesStay, SeparatorsStay, FrontsStay, RangesStay, NodesWereInside, RootsAreReached, HeadersSayTheLevel, SameRecordsShowTheSame, SwapsShowInSlots, SeenLeavesAreWhole, LeavesAreInTrees, ChildrenAreInTrees, ThawedLeavesStay, PathsStay, ViewsStay, NothingIsGained};
 ghost use Rattle.bz_task.specs.LeafSwaps.{LeafSwapsAreGood};
 ghost use Rattle.bz_task.specs.Others.{QuietActsAreLawful, StoresAreLawful, EffectsAreLawful};
 
@@ -24,6 +24,11 @@ pub fn root_stays()
 /// A frozen node stays as it was.
 pub fn frozen_nodes_stay()
     ensures { FrozenNodesStay }
+{}
+
+/// Separators and the places of child pointers of an inner node stay.
+pub fn separators_stay()
+    ensures { SeparatorsStay }
 {}
 
 /// Header and fences of a reached node stay.
@@ -93,6 +98,24 @@ pub fn seen_leaves_are_whole()
     slotted::leaf_rules_are_facts();
 }
 
+/// What stands where, of a leaf of the tree.
+pub fn leaves_are_in_trees()
+    ensures { LeavesAreInTrees }
+{
+    headers_say_the_level();
+    content::well_formed_images_have_no_fault();
+    shape::trees_have_forms();
+}
+
+/// The child of a node of the tree is in the tree.
+pub fn children_are_in_trees()
+    ensures { ChildrenAreInTrees }
+{
+    headers_say_the_level();
+    content::well_formed_images_have_no_fault();
+    shape::trees_have_forms();
+}
+
 /// A leaf that was not frozen is in the tree and as it was, while its status has the value that was read.
 pub fn thawed_leaves_stay()
     ensures { ThawedLeavesStay }
@@ -100,6 +123,7 @@ pub fn thawed_leaves_stay()
     nodes_stay();
     fronts_stay();
     ranges_stay();
+    headers_say_the_level();
     content::well_formed_images_have_no_fault();
     shape::trees_have_forms();
 }

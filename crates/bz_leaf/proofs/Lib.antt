@@ -1,0 +1,4 @@
+mod Known
+mod Staying
+mod Viewing
+mod Learning

@@ -1,0 +1,228 @@
+//! The task that reads a leaf.
+
+ghost use Rattle.std.specs.Prelude.{◌≡◌, ◌≢◌, ◌<◌, ◌≤◌, ◌^◌, ℕ, Some, None, true, false, ◌-◌, slice_index, slice_get, length};
+ghost use Rattle.bz_layout.specs.Config.{IsConfig};
+ghost use Rattle.bz_task.specs.Outcomes.{IsPath, IsView};
+ghost use Rattle.bz_task.specs.Requests.{Hears, Tells, IsKnown};
+ghost use Rattle.bz_task.specs.Scene.{Scene, Stage, Waiting, IsScene, HasFilled};
+ghost use Rattle.bz_leaf.specs.Facts.{leaf_asks, leaf_left, leaf_learnt, leaf_facts, leaf_means, leaf_differs, leaf_change, leaf_places, IsAfter, IsBlank};
+
+use crate::phase::Phase;
+use crate::place::{is_frozen, next_place};
+use bz_key::Key;
+use bz_layout::{Config, STATUS_AT, Slots};
+use bz_node::NodeImage;
+use bz_task::{LeafView, Link, Outcome, Path, Seen, Task, Todo, laws};
+
+/// The words in use of the leaf of a key, validated: of a leaf that is not frozen by a second look at its status, of a frozen
+/// one by a second look at the link to it and then at the link's guard. It ends with View, or with Restart where a validating
+/// load found another value.
+#[derive(Drop)]
+pub struct ReadLeaf {
+    config: Config,
+    key: Key,
+    link: Link,
+    // the words that were read so far; the others are 0
+    image: NodeImage,
+    phase: Phase,
+}
+
+impl ReadLeaf {
+    /// A reading of the last leaf of a path.
+    pub fn new(config: &Config, path: Path, key: Key) -> ReadLeaf
+        requires some { 1 ≤ path.depth }
+        requires few { path.depth ≤ 12 }
+        ensures config { ⟦<ReadLeaf as Task>⟧.config result ≡ config.now }
+        ensures asks { ⟦<ReadLeaf as Task>⟧.asks result ≡ None }
+        ensures left { ⟦<ReadLeaf as Task>⟧.left result ≡ 133 }
+        ensures facts { (s : Scene) → IsScene s → IsPath key path s.past → ⟦<ReadLeaf as Task>⟧.facts result Waiting s }
+        ensures view { (view : LeafView) (s : Scene) → ⟦<ReadLeaf as Task>⟧.means result (Outcome.View view) s → IsView key view s.past }
+    {
+        laws::fronts_stay();
+        laws::headers_say_the_level();
+        ReadLeaf {
+            config: *config,
+            key,
+            link: last_link(&path),
+            image: blank(),
+            phase: Phase::Fresh,
+        }
+    }
+
+    // The leaf as it was read, at this moment.
+    fn view(&self, at: u32) -> LeafView
+        ensures slot { result.slot ≡ self.now.link.slot }
+        ensures status { result.status ≡ slice_index self.now.image.0 0 }
+        ensures image { result.image.0 ≡ self.now.image.0 }
+        ensures at { result.at ≡ at }
+    {
+        LeafView {
+            slot: self.link.slot,
+            status: self.image.0[0],
+            image: self.image,
+            at,
+        }
+    }
+
+    // The phase after what came of the last act; a word that was read is kept.
+    fn after(&mut self, seen: Seen, moment: u32) -> Phase
+        requires hears { Hears (leaf_asks self.old.config self.old.link self.old.phase) seen }
+        requires known { IsKnown self.old.config (leaf_facts self.old.key self.old.link self.old.image.0 self.old.phase) (leaf_asks self.old.config self.old.link self.old.phase) seen moment }
+        ensures config { self.new.config ≡ self.old.config }
+        ensures key { self.new.key ≡ self.old.key }
+        ensures link { self.new.link ≡ self.old.link }
+        ensures nearer { leaf_left result < leaf_left self.old.phase }
+        ensures restart { result ≡ Phase.Changed → leaf_differs self.old.link self.old.image.0 self.old.phase seen }
+        ensures begun { result ≢ Phase.Fresh }
+        ensures sizes { IsConfig self.old.config }
+        ensures places { leaf_places self.old.config self.old.link result }
+        ensures learns { (stage : Stage) (s : Scene) → s.past.now ≡ moment → s.past.config ≡ self.old.config → IsScene s → leaf_facts self.old.key self.old.link self.old.image.0 self.old.phase stage s → Tells (leaf_asks self.old.config self.old.link self.old.phase) stage seen s → HasFilled s × leaf_learnt self.old.key self.old.link self.new.image.0 result s.past }
+    {
+        is_whole(&self.image);
+        laws::nodes_stay();
+        laws::frozen_nodes_stay();
+        laws::fronts_stay();
+        laws::ranges_stay();
+        laws::separators_stay();
+        laws::roots_are_reached();
+        laws::leaves_are_in_trees();
+        laws::children_are_in_trees();
+        laws::seen_leaves_are_whole();
+        laws::same_records_show_the_same();
+        bz_slotted::laws::leaf_rules_are_facts();
+        bz_content::laws::well_formed_images_have_no_fault();
+        bz_shape::laws::leaves_tile_the_keys();
+        match (self.phase, seen) {
+            (Phase::Fresh, _) => Phase::Status,
+            (Phase::Status, Seen::Read(word)) => {
+                self.image.0[0] = word;
+                after_word(word, 0)
+            }
+            (Phase::Word(place), Seen::Read(word)) => {
+                self.image.0[place] = word;
+                after_word(self.image.0[0], place)
+            }
+            (Phase::Again, Seen::Read(word)) => {
+                if word == self.image.0[0] {
+                    Phase::Viewed(self.view(moment))
+                } else {
+                    Phase::Changed
+                }
+            }
+            (Phase::Link, Seen::Read(word)) => {
+                if word == self.link.slot as u64 + 1 {
+                    Phase::Guard(moment)
+                } else {
+                    Phase::Changed
+                }
+            }
+            (Phase::Guard(at), Seen::Read(word)) => {
+                if is_frozen(word) {
+                    Phase::Changed
+                } else {
+                    Phase::Viewed(self.view(at))
+                }
+            }
+            _ => Phase::Status,
+        }
+    }
+
+    // What a phase asks for.
+    fn asked(&self) -> Todo
+        requires begun { self.now.phase ≢ Phase.Fresh }
+        requires config { IsConfig self.now.config }
+        requires places { leaf_places self.now.config self.now.link self.now.phase }
+        ensures { leaf_asks self.now.config self.now.link self.now.phase ≡ Some result }
+    {
+        match self.phase {
+            Phase::Fresh | Phase::Status | Phase::Again => Todo::Read(
+                self.config.node_at(self.link.slot as u32) + STATUS_AT,
+            ),
+            Phase::Word(place) => Todo::Read(
+                self.config.node_at(self.link.slot as u32) + place as u32,
+            ),
+            Phase::Link => Todo::Read(self.link.link),
+            Phase::Guard(_) => Todo::Read(self.link.guard),
+            Phase::Viewed(view) => Todo::Finish(Outcome::View(view)),
+            Phase::Changed => Todo::Finish(Outcome::Restart),
+        }
+    }
+}
+
+// The last link of a path.
+fn last_link(path: &Path) -> Link
+    requires some { 1 ≤ path.now.depth }
+    requires few { path.now.depth ≤ 12 }
+    ensures { slice_get path.now.links (path.now.depth - 1) ≡ Some result }
+{
+    path.links[path.depth as usize - 1]
+}
+
+// An image has its 128 words. Does nothing.
+fn is_whole(image: &NodeImage)
+    ensures { length image.now.0 ≡ 128 }
+{
+    let _words = image.0;
+}
+
+// An image of which no word was read.
+fn blank() -> NodeImage
+    ensures { IsBlank result.0 }
+{
+    NodeImage([0; 128])
+}
+
+// The phase after the word at a place, of a leaf with this status.
+fn after_word(status: u64, place: usize) -> Phase
+    requires status { status < 2 ^ 61 }
+    requires place { place < 128 }
+    ensures next { IsAfter status place result }
+{
+    let next = next_place(status, place);
+    if next < 128 {
+        Phase::Word(next)
+    } else if is_frozen(status) {
+        Phase::Link
+    } else {
+        Phase::Again
+    }
+}
+
+impl Task for ReadLeaf {
+    ghost config = { λ t. t.config };
+
+    ghost asks = { λ t. leaf_asks t.config t.link t.phase };
+
+    ghost left = { λ t. leaf_left t.phase };
+
+    ghost needs = { λ t. 0 };
+
+    ghost change = { λ t. leaf_change };
+
+    ghost publishing = { λ t. false };
+
+    ghost facts = { λ t. leaf_facts t.key t.link t.image.0 t.phase };
+
+    ghost means = { λ t. leaf_means t.key };
+
+    ghost differs = { λ t. leaf_differs t.link t.image.0 t.phase };
+
+    fn publishes(&self) -> bool {
+        false
+    }
+
+    fn next(&mut self, seen: Seen, slots: &mut Slots, moment: u32) -> Todo {
+        let _slots = slots;
+        laws::nothing_is_gained();
+        self.phase = self.after(seen, moment);
+        self.asked()
+    }
+
+    fn learnt(&self) {
+        laws::views_stay();
+        bz_layout::addresses_fit();
+        bz_layout::descriptors_stand_apart();
+    }
+
+    fn acted(&self) {}
+}
