@@ -24,6 +24,11 @@ pub enum CheckError {
 }
 
 impl From<Memory> for CheckError {
+    ghost use Rattle.std.specs.Prelude.{◌≡◌};
+    ghost use Rattle.bz_content.specs.declared.outcomes.CheckError.TheVariants.{Memory as WantOfMemory};
+
+    ghost from_gives = { λ _ error. error ≡ WantOfMemory };
+
     fn from(_want: Memory) -> CheckError {
         CheckError::Memory
     }

@@ -2,3 +2,4 @@ pub mod Faults
 pub mod Transfers
 pub mod InMemory
 pub mod Real
+pub mod Texts

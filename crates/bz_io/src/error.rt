@@ -7,6 +7,10 @@ use std::fmt;
 pub struct Failed;
 
 impl fmt::Display for Failed {
+    ghost use Rattle.std.specs.Prelude.{Some, codes};
+
+    ghost output = { λ _. Some (codes "read or write failed") };
+
     fn fmt<W: fmt::Write>(&self, f: &mut fmt::Formatter<W>) -> fmt::Result {
         write!(f, "read or write failed")
     }
@@ -26,6 +30,11 @@ pub enum ReadFault {
 }
 
 impl fmt::Display for ReadFault {
+    ghost use Rattle.std.specs.Prelude.{Some};
+    ghost use Rattle.bz_io.specs.Texts.{read_fault_text};
+
+    ghost output = { λ fault. Some (read_fault_text fault) };
+
     fn fmt<W: fmt::Write>(&self, f: &mut fmt::Formatter<W>) -> fmt::Result {
         match self {
             ReadFault::Failed => write!(f, "read failed"),

@@ -8,4 +8,5 @@ pub mod ReaderLaws
 pub mod Spelling
 pub mod SpellingLaws
 pub mod Steps
+pub mod Texts
 pub mod UnpackingLaws

@@ -13,6 +13,11 @@ pub enum KeyError {
 }
 
 impl fmt::Display for KeyError {
+    ghost use Rattle.std.specs.Prelude.{Some};
+    ghost use Rattle.bz_key.specs.Texts.{key_error_text};
+
+    ghost output = { λ error. Some (key_error_text error) };
+
     fn fmt<W: fmt::Write>(&self, f: &mut fmt::Formatter<W>) -> fmt::Result {
         match self {
             KeyError::Empty => write!(f, "a key has at least one byte"),
@@ -31,6 +36,10 @@ pub enum PayloadError {
 }
 
 impl fmt::Display for PayloadError {
+    ghost use Rattle.std.specs.Prelude.{Some, codes};
+
+    ghost output = { λ _. Some (codes "too many bytes for a payload") };
+
     fn fmt<W: fmt::Write>(&self, f: &mut fmt::Formatter<W>) -> fmt::Result {
         match self {
             PayloadError::TooLong => write!(f, "too many bytes for a payload"),

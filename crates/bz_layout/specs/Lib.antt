@@ -5,3 +5,4 @@ pub mod Numbers
 pub mod Rooms
 pub mod Slots
 pub mod Table
+pub mod Texts

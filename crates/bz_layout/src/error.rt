@@ -13,15 +13,20 @@ pub enum ConfigError {
 }
 
 impl fmt::Display for ConfigError {
+    ghost use Rattle.std.specs.Prelude.{Some};
+    ghost use Rattle.bz_layout.specs.Texts.{config_error_text};
+
+    ghost output = { λ error. Some (config_error_text error) };
+
     fn fmt<W: fmt::Write>(&self, f: &mut fmt::Formatter<W>) -> fmt::Result {
-        f.write_str(match self {
-            ConfigError::Nodes => "the number of nodes is not 1 to 16384",
-            ConfigError::Swaps => "the number of swaps is not 1 to 65536",
-            ConfigError::Workers => "the number of workers is not 1 to 64",
-            ConfigError::Marks => "the limit on marks is not 1024 to 33554432",
-            ConfigError::Calls => "the limit on calls is not 1 to 65536",
-            ConfigError::Pages => "the limit on pages is above 4096",
-        })
+        match self {
+            ConfigError::Nodes => write!(f, "the number of nodes is not 1 to 16384"),
+            ConfigError::Swaps => write!(f, "the number of swaps is not 1 to 65536"),
+            ConfigError::Workers => write!(f, "the number of workers is not 1 to 64"),
+            ConfigError::Marks => write!(f, "the limit on marks is not 1024 to 33554432"),
+            ConfigError::Calls => write!(f, "the limit on calls is not 1 to 65536"),
+            ConfigError::Pages => write!(f, "the limit on pages is above 4096"),
+        }
     }
 }
 
