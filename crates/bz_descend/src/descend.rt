@@ -30,6 +30,7 @@ impl Descend {
         ensures config { ⟦<Descend as Task>⟧.config result ≡ config.now }
         ensures asks { ⟦<Descend as Task>⟧.asks result ≡ None }
         ensures left { ⟦<Descend as Task>⟧.left result ≡ 4 }
+        ensures needs { ⟦<Descend as Task>⟧.needs result ≡ 0 }
         ensures facts { (s : Scene) → ⟦<Descend as Task>⟧.facts result Waiting s }
         ensures path { (path : Path) (s : Scene) → ⟦<Descend as Task>⟧.means result (Outcome.Path path) s → IsPath key path s.past }
         ensures tall { (s : Scene) → ⟦<Descend as Task>⟧.means result Outcome.NeedsRoom s → SawTall s.past }

@@ -8,7 +8,7 @@ ghost use Rattle.bz_task.specs.Outcomes.{IsView};
 ghost use Rattle.bz_task.specs.Requests.{Hears, Tells, IsKnown};
 ghost use Rattle.bz_task.specs.Scene.{Scene, Stage, Waiting, IsScene};
 ghost use Rattle.bz_task.specs.declared.todo.Seen.TheVariants.{Swapped, NoSwap};
-ghost use Rattle.bz_freeze.specs.Facts.{frozen_word, freeze_asks, freeze_left, freeze_facts, freeze_means, freeze_change, entry_of};
+ghost use Rattle.bz_freeze.specs.Facts.{WasFrozen, frozen_word, freeze_asks, freeze_left, freeze_facts, freeze_means, freeze_change, entry_of};
 
 use crate::laws::freezes_are_good;
 use crate::phase::Phase;
@@ -35,7 +35,9 @@ impl Freeze {
         ensures config { ⟦<Freeze as Task>⟧.config result ≡ config.now }
         ensures asks { ⟦<Freeze as Task>⟧.asks result ≡ None }
         ensures left { ⟦<Freeze as Task>⟧.left result ≡ 2 }
+        ensures needs { ⟦<Freeze as Task>⟧.needs result ≡ 0 }
         ensures facts { (key : List ℕ) (s : Scene) → s.past.config ≡ config.now → IsScene s → IsView key view s.past → ⟦<Freeze as Task>⟧.facts result Waiting s }
+        ensures frozen { (s : Scene) → ⟦<Freeze as Task>⟧.means result Outcome.Done s → WasFrozen view.slot s.past }
     {
         bz_shape::laws::leaves_tile_the_keys();
         bz_content::laws::well_formed_images_have_no_fault();

@@ -29,6 +29,7 @@ module _ (fronts : FrontsStay) (headers : HeadersSayTheLevel) (s : Scene) (good 
     inside = l.inside;
     leaf = sym (headers s.past.config (s.past.at l.was) link.slot g below l.inside).level ∙ flat;
     range = l.range;
+    led = l.led;
     hung = l.guarded.guarded;
     hung_since = l.guarded.since;
     hung_now = omega (arith, l.guarded.order, l.guarded.now);

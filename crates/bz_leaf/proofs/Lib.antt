@@ -2,3 +2,4 @@ mod Known
 mod Staying
 mod Viewing
 mod Learning
+mod Causes

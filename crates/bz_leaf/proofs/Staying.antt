@@ -39,6 +39,7 @@ module _ (p q : Past) (n : Continues p q) where
     inside = moved (λ c x. is_inside c x link.slot ≡ true) k.moment k.now k.inside;
     leaf = moved (λ c x. (form_at c x).level link.slot ≡ 0) k.moment k.now k.leaf;
     range = moved (λ c x. is_within key ((form_at c x).low link.slot) ((form_at c x).high link.slot) ≡ true) k.moment k.now k.range;
+    led = moved (λ c x. x.value link.link ≡ link.slot + 1) k.moment k.now k.led;
     hung = k.hung;
     hung_since = omega (arith, k.hung_since, n.since);
     hung_now = omega (arith, k.hung_now, n.now);

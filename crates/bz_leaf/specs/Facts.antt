@@ -43,8 +43,8 @@ leaf_left Of_link = 2
 leaf_left (Guard at) = 1
 leaf_left phase = 0
 
--- the slot was a leaf of the tree, with the key in its range, at a moment since the call began; and a link leads to it from
--- the root or from a node that was reached
+-- the slot was a leaf of the tree, with the key in its range, at a moment since the call began, at which the
+-- link led to it from the root or from a node that was reached
 pub record IsKnownLeaf (key : List ℕ) (link : Link) (p : Past) : Type 0 where
   pub moment : ℕ
   pub since : p.since ≤ moment
@@ -53,6 +53,7 @@ pub record IsKnownLeaf (key : List ℕ) (link : Link) (p : Past) : Type 0 where
   pub inside : is_inside p.config (p.at moment) link.slot ≡ true
   pub leaf : (form_at p.config (p.at moment)).level link.slot ≡ 0
   pub range : is_within key ((form_at p.config (p.at moment)).low link.slot) ((form_at p.config (p.at moment)).high link.slot) ≡ true
+  pub led : (p.at moment).value link.link ≡ link.slot + 1
   pub hung : ℕ
   pub hung_since : p.since ≤ hung
   pub hung_now : hung ≤ p.now

@@ -35,6 +35,7 @@ impl ReadLeaf {
         ensures config { ⟦<ReadLeaf as Task>⟧.config result ≡ config.now }
         ensures asks { ⟦<ReadLeaf as Task>⟧.asks result ≡ None }
         ensures left { ⟦<ReadLeaf as Task>⟧.left result ≡ 133 }
+        ensures needs { ⟦<ReadLeaf as Task>⟧.needs result ≡ 0 }
         ensures facts { (s : Scene) → IsScene s → IsPath key path s.past → ⟦<ReadLeaf as Task>⟧.facts result Waiting s }
         ensures view { (view : LeafView) (s : Scene) → ⟦<ReadLeaf as Task>⟧.means result (Outcome.View view) s → IsView key view s.past }
     {

@@ -21,7 +21,7 @@ use Rattle.bz_sample.specs.declared.phase.Phase.{Phase}
 use Rattle.bz_sample.specs.declared.phase.Phase.TheVariants.{Status, Word, Again}
 
 -- a word of a slot is that of its address
-status-word : (c : Config) (x : Instant) (k : ℕ) → x.value (node_address c k + STATUS_AT) ≡ words c x k STATUS_AT
+pub status-word : (c : Config) (x : Instant) (k : ℕ) → x.value (node_address c k + STATUS_AT) ≡ words c x k STATUS_AT
 unfolding node
 status-word c x k = refl
 

@@ -1,2 +1,3 @@
 mod Learning
 mod Staying
+mod Causes

@@ -8,7 +8,7 @@ ghost use Rattle.bz_task.specs.Requests.{Hears, Tells, IsKnown};
 ghost use Rattle.bz_task.specs.Scene.{Scene, Stage, Waiting, IsScene, HasFilled};
 ghost use Rattle.bz_task.specs.declared.todo.Outcome.TheVariants.{Restart};
 ghost use Rattle.bz_task.specs.declared.todo.Todo.TheVariants.{Finish};
-ghost use Rattle.bz_sample.specs.Facts.{glance_asks, glance_left, glance_learnt, glance_facts, glance_means, glance_differs, glance_slots, glance_change};
+ghost use Rattle.bz_sample.specs.Facts.{IsGlance, glance_asks, glance_left, glance_learnt, glance_facts, glance_means, glance_differs, glance_slots, glance_change};
 ghost use Rattle.bz_layout.specs.declared.sizes.TheConstants.{META_AT};
 
 use crate::phase::Phase;
@@ -30,7 +30,9 @@ impl Glance {
         ensures config { ⟦<Glance as Task>⟧.config result ≡ config.now }
         ensures asks { ⟦<Glance as Task>⟧.asks result ≡ None }
         ensures left { ⟦<Glance as Task>⟧.left result ≡ 5 }
+        ensures needs { ⟦<Glance as Task>⟧.needs result ≡ 0 }
         ensures facts { (s : Scene) → ⟦<Glance as Task>⟧.facts result Waiting s }
+        ensures view { (view : LeafView) (s : Scene) → ⟦<Glance as Task>⟧.means result (Outcome.View view) s → IsGlance view s.past }
     {
         Glance {
             config: *config,

@@ -19,7 +19,7 @@ pub fn hear<T: Task>(task: &mut T, seen: Seen, slots: &mut Slots, moment: u32) -
     requires known { IsKnown (T.config task.old) (T.facts task.old) (T.asks task.old) seen moment }
     ensures asked { T.asks task.new ≡ Some result }
     ensures nearer { T.left task.new < T.left task.old }
-    ensures slots { AreTakenFrom slots.old slots.new }
+    ensures slots { AreTakenFrom (T.needs task.old) (T.needs task.new) slots.old slots.new }
     // what it knew before the mark, and is told, is in what it knows afterwards
     ensures learns { (stage : Stage) (s after : Scene) → s.past.config ≡ T.config task.old → after.past.now ≡ moment → IsScene after → IsLawful s after → T.facts task.old stage s → Tells (T.asks task.old) stage seen after → T.facts task.new Waiting (gained after slots.old slots.new) }
     // it asks for nothing that may not be asked for, and its end means what it should

@@ -1,5 +1,5 @@
 -- The private stores and flushes of a task, and the slots that it takes.
-use Rattle.std.specs.Prelude.{◌≡◌, ◌≢◌, ℕ, ◌==◌, ◌&&◌, ◌||◌, ◌≤◌, not, nat_le, Bool, length, drop}
+use Rattle.std.specs.Prelude.{◌≡◌, ◌≢◌, ℕ, ◌+◌, ◌==◌, ◌&&◌, ◌||◌, ◌≤◌, not, nat_le, Bool, length, drop}
 use Rattle.bz_layout.specs.Addresses.{node_address, slot_of, line_of}
 use Rattle.bz_layout.specs.Slots.{FreeSlots}
 use Rattle.bz_shape.specs.Walk.{is_among}
@@ -29,9 +29,11 @@ pub record Flushes (line : ℕ) (s after : Scene) : Type 0 where
   pub stays : (b : ℕ) → IsMine s b → IsFlushed s b → IsFlushed after b
   pub mine : (b : ℕ) → IsMine s b → IsMine after b
 
--- the slots change by takes alone: so many of the lowest free ones are gone
-pub record AreTakenFrom (old new : FreeSlots) : Type 0 where
+-- the slots change by takes alone: so many of the lowest free ones are gone. Of the slots that a task was still to take at most
+-- so many are left.
+pub record AreTakenFrom (needed left : ℕ) (old new : FreeSlots) : Type 0 where
   pub number : ℕ
+  pub fewer : number + left ≤ needed
   pub enough : number ≤ length old.free
   pub slots : new ≡ record old { free = drop number old.free }
 

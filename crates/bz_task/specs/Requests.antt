@@ -1,10 +1,11 @@
 -- What a task may ask for, and what it may be told of it.
-use Rattle.std.specs.Prelude.{◌≡◌, ℕ, ◌+◌, ◌*◌, ◌^◌, ◌<◌, ◌≤◌, ◌⊎◌, true, false, All, Option, Some, None}
+use Rattle.std.specs.Prelude.{◌≡◌, ℕ, ◌+◌, ◌*◌, ◌^◌, ◌<◌, ◌≤◌, ◌⊎◌, true, false, All, Option, Some, None, ◌≢◌}
 use Rattle.bz_layout.specs.Addresses.{node_address, words_of, IsOutsideSwaps}
 use Rattle.bz_layout.specs.declared.config.Config.{Config}
 use Rattle.bz_layout.specs.declared.sizes.TheConstants.{LINE_WORDS, NODE_WORDS, STATUS_AT, META_AT, ROOT_AT, ROOT_STATUS_AT}
 use Rattle.bz_slotted.specs.Page.{Page}
 use Rattle.bz_slotted.specs.Records.{pointer_at}
+use Rattle.bz_word.specs.Statuses.{status}
 use Rattle.bz_word.specs.declared.entry.Entry.{Entry}
 use Rattle.bz_task.specs.Instant.{page_at}
 use Rattle.bz_task.specs.Scene.{Scene, Stage, Waiting, Took, IsMine, IsScene, HasFilled, here}
@@ -99,3 +100,16 @@ pub record IsKnown (c : Config) (facts : Stage → Scene → Type 0) (asked : Op
   pub good : IsScene scene
   pub holds : facts stage scene
   pub tells : Tells asked stage seen scene
+
+-- an address held another value than this at a moment since the call began
+pub record Differed (s : Scene) (a v : ℕ) : Type 0 where
+  pub moment : ℕ
+  pub since : s.past.since ≤ moment
+  pub now : moment ≤ s.past.now
+  pub other : (s.past.at moment).value a ≢ v
+
+-- the answer is one that makes what was read worthless: a read found another value than the address held before, or a guard
+-- that is frozen
+abbrev pub IsCause : Option Todo → Seen → Scene → Type 0
+IsCause (Some (Read a)) (Was v) s = Differed s a v ⊎ ((status v).frozen ≡ true)
+IsCause asked seen s = ⊥

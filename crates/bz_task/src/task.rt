@@ -7,7 +7,7 @@ ghost use Rattle.bz_layout.specs.declared.config.Config.{Config};
 ghost use Rattle.bz_word.specs.declared.entry.Entry.{Entry};
 ghost use Rattle.bz_task.specs.Instant.{Instant};
 ghost use Rattle.bz_task.specs.OwnActs.{Stores, Flushes, AreTakenFrom, gained};
-ghost use Rattle.bz_task.specs.Requests.{IsAskable, Hears, Tells, IsKnown};
+ghost use Rattle.bz_task.specs.Requests.{IsAskable, Hears, Tells, IsKnown, IsCause};
 ghost use Rattle.bz_task.specs.Scene.{Scene, Stage, Waiting, Took, IsScene, IsLawful, HasFilled, here};
 ghost use Rattle.bz_task.specs.Swaps.{Change, Stand, SwapsTo, IsGoodSwap, Takes};
 ghost use Rattle.bz_task.specs.declared.todo.Outcome.TheVariants.{Done, Restart, Full};
@@ -31,7 +31,7 @@ pub trait Task: Drop {
     /// The most acts that it will still ask for.
     ghost left: { Self → ℕ };
 
-    /// How many slots it takes.
+    /// How many slots it will still take, all at once.
     ghost needs: { Self → ℕ };
 
     /// The change that its call makes, if it makes one.
@@ -61,7 +61,7 @@ pub trait Task: Drop {
         ensures nearer { left self.new < left self.old }
         ensures config { config self.new ≡ config self.old }
         ensures change { change self.new ≡ change self.old }
-        ensures slots { AreTakenFrom slots.old slots.new }
+        ensures slots { AreTakenFrom (needs self.old) (needs self.new) slots.old slots.new }
         // how it ends, and why
         ensures done { result ≡ Finish Done → seen ≡ Swapped true }
         ensures restart { result ≡ Finish Restart → (seen ≡ Swapped false) ⊎ differs self.old seen }
@@ -77,6 +77,8 @@ pub trait Task: Drop {
         ensures stable { (stage : Stage) (s after : Scene) → s.past.config ≡ config self.now → facts self.now stage s → IsScene after → IsLawful s after → facts self.now stage after }
         // what is asked for may be asked for
         ensures askable { (s : Scene) (todo : Todo) → s.past.config ≡ config self.now → facts self.now Waiting s → IsScene s → asks self.now ≡ Some todo → IsAskable s todo }
+        // a load that differs is worth a restart: what was read before holds no longer
+        ensures cause { (s : Scene) (seen : Seen) → s.past.config ≡ config self.now → facts self.now Waiting s → differs self.now seen → IsCause (asks self.now) seen s }
         // the change is made once
         ensures once { (s : Scene) → facts self.now Waiting s → publishing self.now ≡ true → s.effected ≡ false }
         // the end means what it should, and every slot that was taken has been stored into

@@ -1,0 +1,79 @@
+-- What a validating load that differs says.
+use Rattle.std.proofs.Common.{◌≡◌, ◌≢◌, ℕ, ◌+◌, arith, sym, subst, ◌∙◌, inl, inr, List}
+use Rattle.std.specs.Prelude.{slice_index}
+use Rattle.bz_layout.specs.Addresses.{node_address}
+use Rattle.bz_layout.specs.declared.config.Config.{Config}
+use Rattle.bz_layout.specs.declared.sizes.TheConstants.{NODE_WORDS, STATUS_AT}
+use Rattle.bz_task.specs.Instant.{words}
+use Rattle.bz_task.specs.Requests.{Differed, IsCause}
+use Rattle.bz_task.specs.Scene.{Scene, Waiting}
+use Rattle.bz_task.specs.declared.path.Link.{Link}
+use Rattle.bz_task.specs.declared.todo.Seen.{Seen}
+use Rattle.bz_task.specs.declared.todo.Seen.TheVariants.{Start, Read as Was, Stored, Flushed, Swapped, NoSwap}
+use Rattle.bz_leaf.specs.Facts.{Reading, leaf_asks, leaf_facts, leaf_differs}
+use Rattle.bz_leaf.specs.declared.phase.Phase.{Phase}
+use Rattle.bz_leaf.specs.declared.phase.Phase.TheVariants.{Fresh, Status, Word, Again, Link as Of_link, Guard, Viewed, Changed}
+use Rattle.bz_leaf.proofs.Viewing.{status-word}
+
+-- the status was another one when it was read first
+other-status : (c : Config) (key : List ℕ) (link : Link) (ws : List ℕ) (v : ℕ) (s : Scene) → s.past.config ≡ c → Reading key link ws NODE_WORDS s.past → v ≢ slice_index ws 0 → Differed s (node_address c link.slot + STATUS_AT) v
+other-status c key link ws v s same r ne = record {
+  moment = r.read_at;
+  since = omega (arith, r.known.since, r.order);
+  now = r.until;
+  other = λ e. ne (sym e ∙ (status-word c (s.past.at r.read_at) link.slot ∙ subst (λ z. words z (s.past.at r.read_at) link.slot STATUS_AT ≡ slice_index ws 0) same r.was));
+}
+
+-- the link led to the leaf once
+other-link : (key : List ℕ) (link : Link) (ws : List ℕ) (v : ℕ) (s : Scene) → Reading key link ws NODE_WORDS s.past → v ≢ link.slot + 1 → Differed s link.link v
+other-link key link ws v s r ne = record { moment = r.known.moment; since = r.known.since; now = r.known.now; other = λ e. ne (sym e ∙ r.known.led) }
+
+pub cause : (c : Config) (key : List ℕ) (link : Link) (ws : List ℕ) (phase : Phase) (s : Scene) (seen : Seen) → s.past.config ≡ c → leaf_facts key link ws phase Waiting s → leaf_differs link ws phase seen → IsCause (leaf_asks c link phase) seen s
+cause c key link ws Fresh s (Was v) same f d = absurd (d)
+cause c key link ws Fresh s Start same f d = absurd (d)
+cause c key link ws Fresh s Stored same f d = absurd (d)
+cause c key link ws Fresh s Flushed same f d = absurd (d)
+cause c key link ws Fresh s (Swapped won) same f d = absurd (d)
+cause c key link ws Fresh s NoSwap same f d = absurd (d)
+cause c key link ws Status s (Was v) same f d = absurd (d)
+cause c key link ws Status s Start same f d = absurd (d)
+cause c key link ws Status s Stored same f d = absurd (d)
+cause c key link ws Status s Flushed same f d = absurd (d)
+cause c key link ws Status s (Swapped won) same f d = absurd (d)
+cause c key link ws Status s NoSwap same f d = absurd (d)
+cause c key link ws (Word i) s (Was v) same f d = absurd (d)
+cause c key link ws (Word i) s Start same f d = absurd (d)
+cause c key link ws (Word i) s Stored same f d = absurd (d)
+cause c key link ws (Word i) s Flushed same f d = absurd (d)
+cause c key link ws (Word i) s (Swapped won) same f d = absurd (d)
+cause c key link ws (Word i) s NoSwap same f d = absurd (d)
+cause c key link ws (Viewed view) s (Was v) same f d = absurd (d)
+cause c key link ws (Viewed view) s Start same f d = absurd (d)
+cause c key link ws (Viewed view) s Stored same f d = absurd (d)
+cause c key link ws (Viewed view) s Flushed same f d = absurd (d)
+cause c key link ws (Viewed view) s (Swapped won) same f d = absurd (d)
+cause c key link ws (Viewed view) s NoSwap same f d = absurd (d)
+cause c key link ws Changed s (Was v) same f d = absurd (d)
+cause c key link ws Changed s Start same f d = absurd (d)
+cause c key link ws Changed s Stored same f d = absurd (d)
+cause c key link ws Changed s Flushed same f d = absurd (d)
+cause c key link ws Changed s (Swapped won) same f d = absurd (d)
+cause c key link ws Changed s NoSwap same f d = absurd (d)
+cause c key link ws Again s (Was v) same f d = inl (other-status c key link ws v s same f.1.all d)
+cause c key link ws Of_link s (Was v) same f d = inl (other-link key link ws v s f.1.all d)
+cause c key link ws (Guard at) s (Was v) same f d = inr d
+cause c key link ws Again s Start same f d = absurd (d)
+cause c key link ws Again s Stored same f d = absurd (d)
+cause c key link ws Again s Flushed same f d = absurd (d)
+cause c key link ws Again s (Swapped won) same f d = absurd (d)
+cause c key link ws Again s NoSwap same f d = absurd (d)
+cause c key link ws Of_link s Start same f d = absurd (d)
+cause c key link ws Of_link s Stored same f d = absurd (d)
+cause c key link ws Of_link s Flushed same f d = absurd (d)
+cause c key link ws Of_link s (Swapped won) same f d = absurd (d)
+cause c key link ws Of_link s NoSwap same f d = absurd (d)
+cause c key link ws (Guard at) s Start same f d = absurd (d)
+cause c key link ws (Guard at) s Stored same f d = absurd (d)
+cause c key link ws (Guard at) s Flushed same f d = absurd (d)
+cause c key link ws (Guard at) s (Swapped won) same f d = absurd (d)
+cause c key link ws (Guard at) s NoSwap same f d = absurd (d)
