@@ -1,3 +1,4 @@
 mod Learning
 mod Staying
 mod Causes
+mod Stilling

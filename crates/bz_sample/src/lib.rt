@@ -5,6 +5,10 @@
 mod glance;
 mod phase;
 mod runner;
+mod still;
+#[cfg(test)]
+mod tests;
 
 pub use glance::Glance;
 pub use runner::{hear, take_effect};
+pub use still::{Ended, read_through};

@@ -20,6 +20,7 @@ pub fn hear<T: Task>(task: &mut T, seen: Seen, slots: &mut Slots, moment: u32) -
     ensures asked { T.asks task.new ≡ Some result }
     ensures nearer { T.left task.new < T.left task.old }
     ensures slots { AreTakenFrom (T.needs task.old) (T.needs task.new) slots.old slots.new }
+    ensures meant { (outcome : Outcome) (s : Scene) → T.means task.new outcome s → T.means task.old outcome s }
     // what it knew before the mark, and is told, is in what it knows afterwards
     ensures learns { (stage : Stage) (s after : Scene) → s.past.config ≡ T.config task.old → after.past.now ≡ moment → IsScene after → IsLawful s after → T.facts task.old stage s → Tells (T.asks task.old) stage seen after → T.facts task.new Waiting (gained after slots.old slots.new) }
     // it asks for nothing that may not be asked for, and its end means what it should

@@ -10,4 +10,5 @@ mod Stays
 mod LeafSwaps
 mod Others
 mod SeenLeaves
+mod Settled
 mod Separators

@@ -83,7 +83,7 @@ root-stays formed forms c at first last m i j h o from to e =
     let fits : (at m).value ROOT_STATUS_AT < 2 ^ 32 = small formed forms c at first last h m o.since (omega (arith, o.order, o.until)) in
     a.same (omega (arith, a.most, b.most, a.stamp, b.stamp, e, few, fits))
 
-pointer-tested : (nodes pointer status : ℕ) → root_fault nodes pointer status ≡ None → (0 < pointer) × (pointer ≤ nodes)
+pub pointer-tested : (nodes pointer status : ℕ) → root_fault nodes pointer status ≡ None → (0 < pointer) × (pointer ≤ nodes)
 unfolding root_fault
 pointer-tested nodes pointer status e = go (nat_lt 0 pointer) refl (nat_le pointer nodes) refl (nat_lt status (2 ^ 32)) e
   where

@@ -10,3 +10,4 @@ pub mod Outcomes
 pub mod Laws
 pub mod LeafSwaps
 pub mod Others
+pub mod Settled

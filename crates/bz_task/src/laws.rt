@@ -2,6 +2,7 @@
 
 ghost use Rattle.bz_task.specs.Laws.{NodesStay, RootStays, FrozenNodesStay, SeparatorsStay, FrontsStay, RangesStay, NodesWereInside, RootsAreReached, HeadersSayTheLevel, SameRecordsShowTheSame, SwapsShowInSlots, SeenLeavesAreWhole, LeavesAreInTrees, ChildrenAreInTrees, ThawedLeavesStay, PathsStay, ViewsStay, NothingIsGained};
 ghost use Rattle.bz_task.specs.LeafSwaps.{LeafSwapsAreGood};
+ghost use Rattle.bz_task.specs.Settled.{SettledMemoriesAreGood};
 ghost use Rattle.bz_task.specs.Others.{QuietActsAreLawful, StoresAreLawful, EffectsAreLawful};
 
 use bz_content::laws as content;
@@ -157,3 +158,12 @@ pub fn stores_are_lawful()
 pub fn effects_are_lawful()
     ensures { EffectsAreLawful }
 {}
+
+/// A memory in which nothing goes on is good.
+pub fn settled_memories_are_good()
+    ensures { SettledMemoriesAreGood }
+{
+    content::well_formed_images_have_no_fault();
+    shape::trees_have_forms();
+    slotted::inner_keys_rise();
+}

@@ -61,6 +61,7 @@ pub trait Task: Drop {
         ensures nearer { left self.new < left self.old }
         ensures config { config self.new ≡ config self.old }
         ensures change { change self.new ≡ change self.old }
+        ensures meant { (outcome : Outcome) (s : Scene) → means self.new outcome s → means self.old outcome s }
         ensures slots { AreTakenFrom (needs self.old) (needs self.new) slots.old slots.new }
         // how it ends, and why
         ensures done { result ≡ Finish Done → seen ≡ Swapped true }
