@@ -5,3 +5,4 @@ pub mod Sound
 pub mod Laws
 pub mod CallLaws
 pub mod ReplyLaws
+pub mod Memory

@@ -1,0 +1,10 @@
+-- The laws of sound journals over a memory.
+pub mod Marks
+pub mod MorePages
+pub mod Growth
+pub mod Settled
+pub mod Reads
+pub mod ReadPages
+pub mod Changed
+pub mod Fresh
+pub mod Told

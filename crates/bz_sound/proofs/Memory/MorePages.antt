@@ -1,0 +1,40 @@
+-- A right reply stays right when the journal gets further pages.
+use Rattle.std.proofs.Common.{◌≡◌, ℕ, List, [], ◌∷◌, ◌++◌, Option, Some, None}
+use Rattle.std.specs.Prelude.{IsSomeAnd}
+use Rattle.bz_layout.specs.declared.config.Config.{Config}
+use Rattle.bz_call.specs.declared.replies.Reply.{Reply}
+use Rattle.bz_call.specs.declared.replies.Reply.TheVariants as reply
+use Rattle.bz_mark.specs.declared.marks.Mark.{Mark}
+use Rattle.bz_mark.specs.declared.marks.Mark.TheVariants.{End}
+use Rattle.bz_sound.specs.Calls.{Open, open_call}
+use Rattle.bz_sound.specs.ReplyLaws.{same_page}
+use Rattle.bz_sound.specs.Replies.{Pages}
+use Rattle.bz_sound.specs.Memory.Replies.{Answer, IsAnswer, IsRightReply, HasRightReply, RepliesAreRight}
+
+same-answer : (c : Config) (start : List ℕ) (pages more : Pages) (past : List Mark) (answer : Answer) (effect : Option ℕ) (reply : Reply)
+    → IsAnswer c start pages past answer effect reply → IsAnswer c start (pages ++ more) past answer effect reply
+same-answer c start pages more past answer (Some effect) reply h = h
+same-answer c start pages more past answer None (reply.Page page next) h = record {
+  from = h.from;
+  asked = h.asked;
+  loaded = h.loaded;
+  leaf_end = h.leaf_end;
+  pairs = same_page pages more page _ h.pairs;
+  number = h.number;
+}
+same-answer c start pages more past answer None reply h = h
+
+same-reply : (c : Config) (start : List ℕ) (pages more : Pages) (past : List Mark) (w at : ℕ) (reply : Reply) (opened : Option Open)
+    → IsSomeAnd opened (λ opened. IsRightReply c start pages past (record { worker = w; opened = opened; reply = reply; at = at }))
+    → IsSomeAnd opened (λ opened. IsRightReply c start (pages ++ more) past (record { worker = w; opened = opened; reply = reply; at = at }))
+same-reply c start pages more past w at reply None h = h
+same-reply c start pages more past w at reply (Some opened) h = record {
+  after_begin = h.after_begin;
+  before_end = h.before_end;
+  right = same-answer c start pages more past (record { worker = w; opened = opened; reply = reply; at = at }) opened.effect reply h.right;
+}
+
+pub right-with_more : (c : Config) (start : List ℕ) (pages more : Pages) (past : List Mark) → RepliesAreRight c start pages past → RepliesAreRight c start (pages ++ more) past
+right-with_more c start pages more [] h = tt
+right-with_more c start pages more (End w n reply at ∷ past) h = (same-reply c start pages more past w at reply (open_call w past) h.0, right-with_more c start pages more past h.1)
+right-with_more c start pages more (mark ∷ past) h = (tt, right-with_more c start pages more past h.1)

@@ -1,0 +1,5 @@
+use Rattle.bz_sound.proofs.Memory.Growth.{flushes}
+use Rattle.bz_sound.proofs.memory_laws.flushes_follow.Goals as goal
+
+pub returns : goal.returns
+returns c = flushes

@@ -1,0 +1,98 @@
+//! Laws over sound journals over a memory. Each function does nothing but call the laws that it follows from: its
+//! contract is the law.
+ghost use Rattle.bz_sound.specs.Memory.Laws.{FreshJournalsAreSound, QuietActsFollow, FlushesFollow, EffectsFollowActs, BeginsFollow, EndsFollow, PageEndsFollow};
+ghost use Rattle.bz_sound.specs.Memory.Laws.{LoadsAreSettled, AnswersComeFromTheImage, PagesComeFromTheImage, ChangesFollow, SameContentDecodes};
+ghost use Rattle.bz_sound.specs.Memory.Laws.{OpenCallsAreKept, OpenCallsAreLast, ActsAreOfOpenCalls, EffectsComeDirectly, EndsLieWithinTheirCalls, FullHasACause};
+
+/// A journal without marks over a well-formed image is sound.
+pub fn fresh_journals_are_sound()
+    ensures { FreshJournalsAreSound }
+{
+    bz_content::laws::well_formed_images_have_no_fault();
+    bz_content::laws::map_is_the_content();
+}
+
+/// A load, store or compare-and-swap keeps a journal sound.
+pub fn quiet_acts_follow()
+    ensures { QuietActsFollow }
+{}
+
+/// So does a flush or an eviction after which the durable words decode to the map.
+pub fn flushes_follow()
+    ensures { FlushesFollow }
+{}
+
+/// So does a flush or an eviction with the Effect that names what it changed.
+pub fn effects_follow_acts()
+    ensures { EffectsFollowActs }
+{}
+
+/// So does the Begin of a call.
+pub fn begins_follow()
+    ensures { BeginsFollow }
+{}
+
+/// So does an End with a right reply.
+pub fn ends_follow()
+    ensures { EndsFollow }
+{}
+
+/// So does an End that names the page which comes with it.
+pub fn page_ends_follow()
+    ensures { PageEndsFollow }
+{}
+
+/// Directly after a load the durable words decode to the map.
+pub fn loads_are_settled()
+    ensures { LoadsAreSettled }
+{}
+
+/// What the image has there for a key gives the right reply.
+pub fn answers_come_from_the_image()
+    ensures { AnswersComeFromTheImage }
+{}
+
+/// What the image has there in a leaf gives the right page.
+pub fn pages_come_from_the_image()
+    ensures { PagesComeFromTheImage }
+{}
+
+/// A flush or an eviction that changes the content as an open call does is followed by its Effect.
+pub fn changes_follow()
+    ensures { ChangesFollow }
+{}
+
+/// One that leaves the content needs none.
+pub fn same_content_decodes()
+    ensures { SameContentDecodes }
+{}
+
+/// Acts and the marks of other workers leave an open call.
+pub fn open_calls_are_kept()
+    ensures { OpenCallsAreKept }
+{}
+
+/// An open call is the last that its worker began, and the worker is not 0.
+pub fn open_calls_are_last()
+    ensures { OpenCallsAreLast }
+{}
+
+/// Acts are of workers whose call is open.
+pub fn acts_are_of_open_calls()
+    ensures { ActsAreOfOpenCalls }
+{}
+
+/// An Effect stands directly after a flush or an eviction.
+pub fn effects_come_directly()
+    ensures { EffectsComeDirectly }
+{}
+
+/// The moment that an End names lies after the Begin of its call and not after the End.
+pub fn ends_lie_within_their_calls()
+    ensures { EndsLieWithinTheirCalls }
+{}
+
+/// A Full changed nothing and has a cause.
+pub fn full_has_a_cause()
+    ensures { FullHasACause }
+{}
