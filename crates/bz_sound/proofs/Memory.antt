@@ -7,4 +7,6 @@ pub mod Reads
 pub mod ReadPages
 pub mod Changed
 pub mod Fresh
+pub mod Ended
 pub mod Told
+pub mod Once

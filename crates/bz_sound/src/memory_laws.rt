@@ -2,6 +2,7 @@
 //! contract is the law.
 ghost use Rattle.bz_sound.specs.Memory.Laws.{FreshJournalsAreSound, QuietActsFollow, FlushesFollow, EffectsFollowActs, BeginsFollow, EndsFollow, PageEndsFollow};
 ghost use Rattle.bz_sound.specs.Memory.Laws.{LoadsAreSettled, AnswersComeFromTheImage, PagesComeFromTheImage, ChangesFollow, SameContentDecodes};
+ghost use Rattle.bz_sound.specs.Memory.Laws.{EffectsAnswer, SpentAnswersFull, EffectsStandOnce};
 ghost use Rattle.bz_sound.specs.Memory.Laws.{OpenCallsAreKept, OpenCallsAreLast, ActsAreOfOpenCalls, EffectsComeDirectly, EndsLieWithinTheirCalls, FullHasACause};
 
 /// A journal without marks over a well-formed image is sound.
@@ -62,7 +63,17 @@ pub fn changes_follow()
     ensures { ChangesFollow }
 {}
 
-/// One that leaves the content needs none.
+/// A call that has an Effect is answered by the map directly before it.
+pub fn effects_answer()
+    ensures { EffectsAnswer }
+{}
+
+/// A call without one is answered Full where something is spent.
+pub fn spent_answers_full()
+    ensures { SpentAnswersFull }
+{}
+
+/// A flush or an eviction that leaves the content needs no Effect.
 pub fn same_content_decodes()
     ensures { SameContentDecodes }
 {}
@@ -85,6 +96,11 @@ pub fn acts_are_of_open_calls()
 /// An Effect stands directly after a flush or an eviction.
 pub fn effects_come_directly()
     ensures { EffectsComeDirectly }
+{}
+
+/// No call takes effect twice.
+pub fn effects_stand_once()
+    ensures { EffectsStandOnce }
 {}
 
 /// The moment that an End names lies after the Begin of its call and not after the End.

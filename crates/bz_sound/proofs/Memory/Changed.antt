@@ -36,19 +36,20 @@ with-removed map key new is = record {
 }
 
 -- the step of a call that makes such a change
-record Steps (map : Map) (call : Call) (new : Option (List ℕ)) : Type 0 where
+record Steps (map : Map) (call : Call) (old new : Option (List ℕ)) : Type 0 where
+  pub step : apply map call ≡ apply_at old map call
   pub changes : IsChange (apply map call).reply
   pub gives : IsMapWith map (apply map call).map (key_of call) new
 
-steps : (map : Map) (call : Call) (old new : Option (List ℕ)) → IsChangeOf call old new → get map (key_of call) ≡ old → Steps map call new
-steps map (Insert key payload) None new is was = record { changes = rw was tt; gives = rw was (with-inserted map key payload new is) }
+steps : (map : Map) (call : Call) (old new : Option (List ℕ)) → IsChangeOf call old new → get map (key_of call) ≡ old → Steps map call old new
+steps map (Insert key payload) None new is was = record { step = rw was refl; changes = rw was tt; gives = rw was (with-inserted map key payload new is) }
 steps map (Insert key payload) (Some had) new is was = absurd is
 steps map (Delete key) None new is was = absurd is
-steps map (Delete key) (Some had) new is was = record { changes = rw was tt; gives = rw was (with-removed map key new is) }
+steps map (Delete key) (Some had) new is was = record { step = rw was refl; changes = rw was tt; gives = rw was (with-removed map key new is) }
 steps map (Update key payload) None new is was = absurd is
-steps map (Update key payload) (Some had) new is was = record { changes = rw was tt; gives = rw was (with-inserted map key payload new is) }
-steps map (Upsert key payload) None new is was = record { changes = rw was tt; gives = rw was (with-inserted map key payload new is) }
-steps map (Upsert key payload) (Some had) new is was = record { changes = rw was tt; gives = rw was (with-inserted map key payload new is) }
+steps map (Update key payload) (Some had) new is was = record { step = rw was refl; changes = rw was tt; gives = rw was (with-inserted map key payload new is) }
+steps map (Upsert key payload) None new is was = record { step = rw was refl; changes = rw was tt; gives = rw was (with-inserted map key payload new is) }
+steps map (Upsert key payload) (Some had) new is was = record { step = rw was refl; changes = rw was tt; gives = rw was (with-inserted map key payload new is) }
 steps map (Get key) old new is was = absurd is
 steps map (Page key) old new is was = absurd is
 
@@ -64,12 +65,13 @@ holds-changed c before after map call old new holds whole change is = record {
 durable-change : (c : Config) (log : Log) (mark : Mark) (w : ℕ) (opened : Open) (old new : Option (List ℕ)) → IsSound c log → IsAfterFlush (mark ∷ log.past)
     → open_call w (mark ∷ log.past) ≡ Some opened → map_after (map_at_start c log.start) (mark ∷ log.past) ≡ map_after (map_at_start c log.start) log.past
     → opened.effect ≡ None → IsChangeOf opened.call old new → image_fault c (image_after log.start (mark ∷ log.past)) ≡ None
-    → ChangesKey c (image_after log.start log.past) (image_after log.start (mark ∷ log.past)) (key_of opened.call) old new → TakesEffect c log mark w opened.number
+    → ChangesKey c (image_after log.start log.past) (image_after log.start (mark ∷ log.past)) (key_of opened.call) old new → TakesEffect c log mark w opened old
 durable-change c log mark w opened old new sound flush is same quiet changes whole change =
     let now : Decodes c log.start log.past = decodes-now c log sound in
-    let step : Steps (map_after (map_at_start c log.start) log.past) opened.call new = steps _ opened.call old new changes (sym (now.content (key_of opened.call)) ∙ change.was) in
+    let step : Steps (map_after (map_at_start c log.start) log.past) opened.call old new = steps _ opened.call old new changes (sym (now.content (key_of opened.call)) ∙ change.was) in
     record {
       may_follow = (flush, record { opened = opened; is_open = is; number = refl; once = quiet; changes = rw same step.changes });
+      step = rw same step.step;
       decodes = subst (λ (o : Option Open). HoldsMap c (image_after log.start (mark ∷ log.past)) (map_with o (map_after (map_at_start c log.start) (mark ∷ log.past)))) (sym is)
           (subst (λ (map : Map). HoldsMap c (image_after log.start (mark ∷ log.past)) (apply map opened.call).map) (sym same)
           (holds-changed c _ _ _ opened.call old new now whole change step.gives));

@@ -60,7 +60,7 @@ effect-last true w past (Some other) opened is before =
     record { worker = (before other refl).worker; last = sym number ∙ (before other refl).last }
 effect-last false w past rest opened is before = before opened is
 
-last-call : (start : Map) (past : List Mark) (w : ℕ) (opened : Open) → CallsOnce start past → open_call w past ≡ Some opened → IsLastCall past w opened
+pub last-call : (start : Map) (past : List Mark) (w : ℕ) (opened : Open) → CallsOnce start past → open_call w past ≡ Some opened → IsLastCall past w opened
 last-call start [] w opened once is = absurd (cc)
 last-call start (Begin v n call ∷ past) w opened once is =
     let last : (1 ≤ w) × (opened.number ≡ (if v == w then begun_calls w past + 1 else begun_calls w past)) = begin-last (v == w) v w n past call opened refl once.0.0 once.0.1.numbered is (last-call start past w opened once.1) in

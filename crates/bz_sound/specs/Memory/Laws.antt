@@ -6,7 +6,7 @@ use Rattle.std.specs.FinMap.{find, is_sorted}
 use Rattle.bz_layout.specs.Addresses as layout
 use Rattle.bz_layout.specs.declared.config.Config.{Config}
 use Rattle.bz_content.specs.Content.{image_fault, content_in, leaf_end_in}
-use Rattle.bz_call.specs.Map.{key_of}
+use Rattle.bz_call.specs.Map.{key_of, apply, apply_at}
 use Rattle.bz_call.specs.Pages.{names_page}
 use Rattle.bz_call.specs.declared.calls.Call.{Call}
 use Rattle.bz_call.specs.declared.calls.Call.TheVariants as call
@@ -18,11 +18,11 @@ use Rattle.bz_mark.specs.Moments.{at_moment, mark_at}
 use Rattle.bz_mark.specs.WordsAfter.{words_of, Found}
 use Rattle.bz_mark.specs.declared.marks.Mark.{Mark}
 use Rattle.bz_mark.specs.declared.marks.Mark.TheVariants.{Begin, End, Load, Store, Cas, Flush, Evict, Effect}
-use Rattle.bz_sound.specs.Calls.{Open, open_call, begun_calls, with_effect, MayBegin}
+use Rattle.bz_sound.specs.Calls.{Open, open_call, begun_calls, with_effect, map_after, map_at, MayBegin}
 use Rattle.bz_sound.specs.Memory.Moments.{image_after, image_at, map_at_start, Decodes, IsAfterLoad, IsAfterFlush}
 use Rattle.bz_sound.specs.Memory.Calls.{HasOpenCall, MayFollow}
 use Rattle.bz_sound.specs.Memory.Spent.{IsSpent}
-use Rattle.bz_sound.specs.Memory.Replies.{Answer, IsRightReply, is_within}
+use Rattle.bz_sound.specs.Memory.Replies.{Answer, IsWrite, IsRightReply, is_within}
 use Rattle.bz_sound.specs.Memory.Sound.{IsSound}
 
 -- a journal without marks over a well-formed image is sound
@@ -134,10 +134,11 @@ IsChangeOf (call.Update key payload) (Some had) new = new ≡ Some payload
 IsChangeOf (call.Upsert key payload) old new = new ≡ Some payload
 IsChangeOf call old new = ⊥
 
--- the Effect of a call may follow, and the words then decode
-pub record TakesEffect (c : Config) (log : Log) (mark : Mark) (w n : ℕ) : Type 0 where
-  pub may_follow : MayFollow (map_at_start c log.start) (mark ∷ log.past) (Effect w n)
-  pub decodes : Decodes c log.start (Effect w n ∷ mark ∷ log.past)
+-- the Effect of an open call may follow, and the words then decode; the map answers the call by what it had
+pub record TakesEffect (c : Config) (log : Log) (mark : Mark) (w : ℕ) (opened : Open) (old : Option (List ℕ)) : Type 0 where
+  pub may_follow : MayFollow (map_at_start c log.start) (mark ∷ log.past) (Effect w opened.number)
+  pub decodes : Decodes c log.start (Effect w opened.number ∷ mark ∷ log.past)
+  pub step : apply (map_after (map_at_start c log.start) (mark ∷ log.past)) opened.call ≡ apply_at old (map_after (map_at_start c log.start) (mark ∷ log.past)) opened.call
 
 -- so it is where a flush or an eviction changes the content as an open call does that has no Effect yet
 abbrev pub ChangesFollow : Type 0
@@ -146,7 +147,21 @@ ChangesFollow =
     IsSound c log → IsAfterFlush (mark ∷ log.past) → open_call w log.past ≡ Some opened → opened.effect ≡ None → IsChangeOf opened.call old new →
     image_fault c (image_after log.start (mark ∷ log.past)) ≡ None →
     ChangesKey c (image_after log.start log.past) (image_after log.start (mark ∷ log.past)) (key_of opened.call) old new →
-    TakesEffect c log mark w opened.number
+    TakesEffect c log mark w opened old
+
+-- an open call that has an Effect is answered as the map answers it directly before
+abbrev pub EffectsAnswer : Type 0
+EffectsAnswer =
+    (c : Config) (log : Log) (w at : ℕ) (opened : Open) (reply : Reply) → open_call w log.past ≡ Some opened → opened.effect ≡ Some at →
+    (apply (map_at (map_at_start c log.start) at log.past) opened.call).reply ≡ Some reply →
+    IsRightReply c log.start log.pages log.past (record { worker = w; opened = opened; reply = reply; at = at })
+
+-- one that may change the map and has none is answered Full now, where something is spent
+abbrev pub SpentAnswersFull : Type 0
+SpentAnswersFull =
+    (c : Config) (log : Log) (w : ℕ) (opened : Open) (spent : Spent) → open_call w log.past ≡ Some opened → opened.effect ≡ None → IsWrite opened.call →
+    IsSpent c log.start log.past w opened spent →
+    IsRightReply c log.start log.pages log.past (record { worker = w; opened = opened; reply = Full spent; at = length log.past })
 
 -- where a flush or an eviction leaves the content, the words decode as before
 abbrev pub SameContentDecodes : Type 0
@@ -195,6 +210,12 @@ abbrev pub EffectsComeDirectly : Type 0
 EffectsComeDirectly =
     (c : Config) (log : Log) (moment w n : ℕ) → IsSound c log → moment < length log.past → mark_at moment log.past ≡ Some (Effect w n) →
     IsAfterFlush (at_moment moment log.past)
+
+-- no call takes effect twice
+abbrev pub EffectsStandOnce : Type 0
+EffectsStandOnce =
+    (c : Config) (log : Log) (first second w n : ℕ) → IsSound c log → first < length log.past → second < length log.past →
+    mark_at first log.past ≡ Some (Effect w n) → mark_at second log.past ≡ Some (Effect w n) → first ≡ second
 
 -- the call that an End ends began earlier, and the moment that the End names lies between
 pub record LiesWithin (past : List Mark) (w n at moment : ℕ) : Type 0 where
