@@ -10,3 +10,4 @@ pub mod Fresh
 pub mod Ended
 pub mod Told
 pub mod Once
+pub mod Acknowledged

@@ -5,3 +5,5 @@ pub mod Spent
 pub mod Replies
 pub mod Sound
 pub mod Laws
+pub mod ImageLaws
+pub mod CallLaws

@@ -1,9 +1,11 @@
 //! Laws over sound journals over a memory. Each function does nothing but call the laws that it follows from: its
 //! contract is the law.
 ghost use Rattle.bz_sound.specs.Memory.Laws.{FreshJournalsAreSound, QuietActsFollow, FlushesFollow, EffectsFollowActs, BeginsFollow, EndsFollow, PageEndsFollow};
-ghost use Rattle.bz_sound.specs.Memory.Laws.{LoadsAreSettled, AnswersComeFromTheImage, PagesComeFromTheImage, ChangesFollow, SameContentDecodes};
-ghost use Rattle.bz_sound.specs.Memory.Laws.{EffectsAnswer, SpentAnswersFull, EffectsStandOnce};
-ghost use Rattle.bz_sound.specs.Memory.Laws.{OpenCallsAreKept, OpenCallsAreLast, ActsAreOfOpenCalls, EffectsComeDirectly, EndsLieWithinTheirCalls, FullHasACause};
+ghost use Rattle.bz_sound.specs.Memory.Laws.{LoadsAreSettled};
+ghost use Rattle.bz_sound.specs.Memory.ImageLaws.{AnswersComeFromTheImage, PagesComeFromTheImage, ChangesFollow, SameContentDecodes};
+ghost use Rattle.bz_sound.specs.Memory.ImageLaws.{EffectsAnswer, SpentAnswersFull};
+ghost use Rattle.bz_sound.specs.Memory.CallLaws.{EffectsStandOnce};
+ghost use Rattle.bz_sound.specs.Memory.CallLaws.{OpenCallsAreKept, OpenCallsAreLast, ActsAreOfOpenCalls, EffectsComeDirectly, EndsLieWithinTheirCalls, ToldChangesTookEffect, FullHasACause};
 
 /// A journal without marks over a well-formed image is sound.
 pub fn fresh_journals_are_sound()
@@ -106,6 +108,11 @@ pub fn effects_stand_once()
 /// The moment that an End names lies after the Begin of its call and not after the End.
 pub fn ends_lie_within_their_calls()
     ensures { EndsLieWithinTheirCalls }
+{}
+
+/// A call that tells of a key inserted or deleted took effect.
+pub fn told_changes_took_effect()
+    ensures { ToldChangesTookEffect }
 {}
 
 /// A Full changed nothing and has a cause.

@@ -1,35 +1,34 @@
 -- A flush or an eviction that changes the content as a call does makes the call's effect durable.
-use Rattle.std.proofs.Common.{◌≡◌, ℕ, Bool, true, false, List, ◌∷◌, refl, sym, ap, ◌∙◌, subst, Option, Some, None, cond}
+use Rattle.std.proofs.Common.{◌≡◌, ℕ, Bool, List, ◌∷◌, refl, sym, ap, ◌∙◌, subst, Option, Some, None, cond}
 use Rattle.std.specs.Prelude.{bytes_eq, if◌then◌else◌}
 use Rattle.std.proofs.lemmas.Map.Text.{is_eq-slice_cmp}
-use Rattle.std.specs.Ordering.{nat_cmp}
-use Rattle.std.specs.Cmp.Lexicographic.{slice_cmp, nat_list_cmp_total}
+use Rattle.std.specs.Cmp.Lexicographic.{nat_list_cmp_total}
 use Rattle.std.specs.FinMap.{get, insert, remove, get-insert, get-remove}
 use Rattle.bz_layout.specs.declared.config.Config.{Config}
-use Rattle.bz_content.specs.Content.{image_fault, content_in}
+use Rattle.bz_content.specs.Content.{image_fault}
 use Rattle.bz_call.specs.Map.{Map, key_of, apply, apply_at, IsChange}
 use Rattle.bz_call.specs.declared.calls.Call.{Call}
 use Rattle.bz_call.specs.declared.calls.Call.TheVariants.{Insert, Delete, Update, Upsert, Get, Page}
 use Rattle.bz_mark.specs.Log.{Log}
 use Rattle.bz_mark.specs.declared.marks.Mark.{Mark}
-use Rattle.bz_mark.specs.declared.marks.Mark.TheVariants.{Flush, Evict, Effect}
+use Rattle.bz_mark.specs.declared.marks.Mark.TheVariants.{Flush, Evict}
 use Rattle.bz_sound.specs.Calls.{Open, open_call, map_after, map_with}
-use Rattle.bz_sound.specs.Memory.Laws.{IsChangeOf, ChangesKey, TakesEffect, ChangesFollow, SameContentDecodes}
+use Rattle.bz_sound.specs.Memory.ImageLaws.{IsChangeOf, ChangesKey, TakesEffect, ChangesFollow, SameContentDecodes}
 use Rattle.bz_sound.specs.Memory.Moments.{image_after, map_at_start, HoldsMap, Decodes, IsAfterFlush}
 use Rattle.bz_sound.specs.Memory.Sound.{IsSound}
 use Rattle.bz_sound.proofs.Memory.Growth.{decodes-now}
 
 -- a map with this payload, or none, at a key, and else as before
-record IsMapWith (before after : Map) (key : List ℕ) (new : Option (List ℕ)) : Type 0 where
+pub record IsMapWith (before after : Map) (key : List ℕ) (new : Option (List ℕ)) : Type 0 where
   pub gets : (other : List ℕ) → get after other ≡ (if bytes_eq other key then new else get before other)
 
-with-inserted : (map : Map) (key payload : List ℕ) (new : Option (List ℕ)) → new ≡ Some payload → IsMapWith map (insert map key payload) key new
+pub with-inserted : (map : Map) (key payload : List ℕ) (new : Option (List ℕ)) → new ≡ Some payload → IsMapWith map (insert map key payload) key new
 with-inserted map key payload new is = record {
   gets = λ other. get-insert nat_list_cmp_total map key payload other ∙ ap (λ (b : Bool). cond b (Some payload) (get map other)) (is_eq-slice_cmp other key)
       ∙ ap (λ (found : Option (List ℕ)). cond (bytes_eq other key) found (get map other)) (sym is);
 }
 
-with-removed : (map : Map) (key : List ℕ) (new : Option (List ℕ)) → new ≡ None → IsMapWith map (remove map key) key new
+pub with-removed : (map : Map) (key : List ℕ) (new : Option (List ℕ)) → new ≡ None → IsMapWith map (remove map key) key new
 with-removed map key new is = record {
   gets = λ other. get-remove nat_list_cmp_total map key other ∙ ap (λ (b : Bool). cond b None (get map other)) (is_eq-slice_cmp other key)
       ∙ ap (λ (found : Option (List ℕ)). cond (bytes_eq other key) found (get map other)) (sym is);

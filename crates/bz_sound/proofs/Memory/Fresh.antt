@@ -4,7 +4,6 @@ use Rattle.std.specs.Prelude.{slice_index, None}
 use Rattle.bz_layout.specs.declared.config.Config.{Config}
 use Rattle.bz_content.specs.Content.{image_fault, image_of}
 use Rattle.bz_content.specs.Laws.{WellFormedImagesHaveNoFault, MapIsTheContent}
-use Rattle.bz_mark.specs.Log.{Limits}
 use Rattle.bz_sound.specs.Memory.Laws.{FreshJournalsAreSound}
 use Rattle.bz_sound.specs.Memory.Moments.{Decodes}
 use Rattle.bz_sound.proofs.Memory.Marks.{holds-last}

@@ -1,18 +1,18 @@
 -- Which marks keep a journal sound.
-use Rattle.std.proofs.Common.{◌≡◌, ℕ, ◌+◌, Bool, true, false, List, [], ◌∷◌, ◌++◌, length, refl, sym, ap, ◌∙◌, subst, arith, length-append, Option, Some}
-use Rattle.std.specs.Prelude.{IsSomeAnd, if◌then◌else◌}
+use Rattle.std.proofs.Common.{◌≡◌, ℕ, ◌+◌, Bool, true, false, List, [], ◌∷◌, ◌++◌, length, refl, sym, ◌∙◌, subst, arith, length-append, Some}
+use Rattle.std.specs.Prelude.{if◌then◌else◌}
 use Rattle.bz_layout.specs.declared.config.Config.{Config}
 use Rattle.bz_call.specs.Pages.{names_page}
-use Rattle.bz_mark.specs.Log.{Log, with_mark, with_page, count_page_ends}
+use Rattle.bz_mark.specs.Log.{Log, with_mark, count_page_ends}
 use Rattle.bz_mark.specs.MomentLaws.{mark_at-newest}
 use Rattle.bz_mark.specs.Moments.{IsInner, mark_at}
 use Rattle.bz_mark.specs.WordsAfter.{words_of, Found}
 use Rattle.bz_mark.specs.declared.marks.Mark.{Mark}
 use Rattle.bz_mark.specs.declared.marks.Mark.TheVariants.{Begin, End, Load, Store, Cas, Flush, Evict, Effect}
-use Rattle.bz_sound.specs.Calls.{Open, open_call}
+use Rattle.bz_sound.specs.Calls.{open_call}
 use Rattle.bz_sound.specs.Memory.Calls.{MayFollow}
 use Rattle.bz_sound.specs.Memory.Laws.{QuietActsFollow, FlushesFollow, EffectsFollowActs, BeginsFollow, EndsFollow, PageEndsFollow}
-use Rattle.bz_sound.specs.Memory.Moments.{map_at_start, Decodes, IsAfterFlush}
+use Rattle.bz_sound.specs.Memory.Moments.{map_at_start, Decodes}
 use Rattle.bz_sound.specs.Memory.Replies.{Answer, IsRightReply, HasRightReply}
 use Rattle.bz_sound.specs.Memory.Sound.{IsSound}
 use Rattle.bz_sound.proofs.Memory.Marks.{holds-now, each-with, each-with_two}

@@ -1,5 +1,5 @@
 -- What is said of each mark holds of the mark at a moment, and what is said of each moment when marks are added.
-use Rattle.std.proofs.Common.{◌≡◌, ◌≤◌, ◌<◌, ◌+◌, ℕ, List, [], ◌∷◌, length, refl, sym, ap, ◌∙◌, subst, inl, inr, arith}
+use Rattle.std.proofs.Common.{zero, suc, drop, ◌-◌, ◌≡◌, ◌≤◌, ◌<◌, ◌+◌, ℕ, List, [], ◌∷◌, length, sym, ap, ◌∙◌, subst, inl, inr, arith}
 use Rattle.std.specs.Prelude.{Some}
 use Rattle.std.proofs.lemmas.Bool.{cases_lt}
 use Rattle.bz_mark.specs.Moments.{at_moment, mark_at, IsInner, AtEachMoment}
@@ -21,6 +21,15 @@ each-at P (newest ∷ past) moment mark each h is = elim (cases_lt moment (lengt
       subst (λ (marks : List Mark). P marks mark) (sym (ap (λ (k : ℕ). at_moment k (newest ∷ past)) now ∙ at_moment-before newest past))
       (subst (P past) same each.0)
 ]
+
+each-drop : (P : List Mark → Mark → Type 0) (count : ℕ) (past : List Mark) → EachMark P past → EachMark P (drop count past)
+each-drop P zero past each = each
+each-drop P (suc count) [] each = each
+each-drop P (suc count) (mark ∷ past) each = each-drop P count past each.1
+
+-- and so have the marks before a moment
+pub each-before : (P : List Mark → Mark → Type 0) (moment : ℕ) (past : List Mark) → EachMark P past → EachMark P (at_moment moment past)
+each-before P moment past each = each-drop P (length past - moment) past each
 
 -- an inner moment stays inner
 pub inner-later : (moment : ℕ) (mark : Mark) (past : List Mark) → IsInner moment past → IsInner moment (mark ∷ past)

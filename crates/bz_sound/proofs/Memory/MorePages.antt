@@ -1,5 +1,5 @@
 -- A right reply stays right when the journal gets further pages.
-use Rattle.std.proofs.Common.{◌≡◌, ℕ, List, [], ◌∷◌, ◌++◌, Option, Some, None}
+use Rattle.std.proofs.Common.{ℕ, List, [], ◌∷◌, ◌++◌, Option, Some, None}
 use Rattle.std.specs.Prelude.{IsSomeAnd}
 use Rattle.bz_layout.specs.declared.config.Config.{Config}
 use Rattle.bz_call.specs.declared.replies.Reply.{Reply}
@@ -9,7 +9,7 @@ use Rattle.bz_mark.specs.declared.marks.Mark.TheVariants.{End}
 use Rattle.bz_sound.specs.Calls.{Open, open_call}
 use Rattle.bz_sound.specs.ReplyLaws.{same_page}
 use Rattle.bz_sound.specs.Replies.{Pages}
-use Rattle.bz_sound.specs.Memory.Replies.{Answer, IsAnswer, IsRightReply, HasRightReply, RepliesAreRight}
+use Rattle.bz_sound.specs.Memory.Replies.{Answer, IsAnswer, IsRightReply, RepliesAreRight}
 
 same-answer : (c : Config) (start : List ℕ) (pages more : Pages) (past : List Mark) (answer : Answer) (effect : Option ℕ) (reply : Reply)
     → IsAnswer c start pages past answer effect reply → IsAnswer c start (pages ++ more) past answer effect reply

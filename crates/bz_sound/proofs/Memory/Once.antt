@@ -12,17 +12,10 @@ use Rattle.bz_mark.specs.declared.marks.Mark.{Mark}
 use Rattle.bz_mark.specs.declared.marks.Mark.TheVariants.{Begin, End, Cut, Effect}
 use Rattle.bz_sound.specs.Calls.{Open, open_call, begun_calls, with_effect}
 use Rattle.bz_sound.specs.Memory.Calls.{MayFollow, CallsOnce}
-use Rattle.bz_sound.specs.Memory.Laws.{EffectsStandOnce}
+use Rattle.bz_sound.specs.Memory.CallLaws.{EffectsStandOnce}
 use Rattle.bz_sound.specs.Memory.Moments.{EachMark, map_at_start}
-use Rattle.bz_sound.specs.Memory.Sound.{IsSound}
-use Rattle.bz_sound.proofs.Memory.Marks.{each-at}
+use Rattle.bz_sound.proofs.Memory.Marks.{each-at, each-before}
 use Rattle.bz_sound.proofs.Memory.Told.{last-call}
-
--- what is said of each mark is said of each of the earlier ones
-each-drop : (P : List Mark → Mark → Type 0) (count : ℕ) (past : List Mark) → EachMark P past → EachMark P (drop count past)
-each-drop P zero past each = each
-each-drop P (suc count) [] each = each
-each-drop P (suc count) (mark ∷ past) each = each-drop P count past each.1
 
 one-more : (b : Bool) (count : ℕ) → count ≤ (if b then count + 1 else count)
 one-more true count = omega arith
@@ -39,7 +32,7 @@ begun-drop w (suc count) (mark ∷ past) = begun-drop w count past
 effect-begun : (start : Map) (past : List Mark) (first w n : ℕ) → CallsOnce start past → first < length past → mark_at first past ≡ Some (Effect w n) → n ≤ begun_calls w past
 effect-begun start past first w n once h is =
     let may = each-at (MayFollow start) past first (Effect w n) once h is in
-    let last = last-call start (at_moment first past) w may.1.opened (each-drop (MayFollow start) (length past - first) past once) may.1.is_open in
+    let last = last-call start (at_moment first past) w may.1.opened (each-before (MayFollow start) first past once) may.1.is_open in
     omega (arith, may.1.number, last.last, begun-drop w (length past - first) past)
 
 -- if the call with this number is open, it took effect
@@ -92,7 +85,7 @@ not-later start past first second w n once h is again order =
     let may = each-at (MayFollow start) past second (Effect w n) once h again in
     let size : length (at_moment second past) ≡ second = length-at_moment second past (omega arith) in
     let before : mark_at first (at_moment second past) ≡ Some (Effect w n) = mark_at-at_moment first second past order (omega arith) ∙ is in
-    (took start (at_moment second past) first w n (each-drop (MayFollow start) (length past - second) past once) (omega arith) before).took may.1.opened may.1.is_open may.1.number may.1.once
+    (took start (at_moment second past) first w n (each-before (MayFollow start) second past once) (omega arith) before).took may.1.opened may.1.is_open may.1.number may.1.once
 
 pub effects-once : EffectsStandOnce
 effects-once c log first second w n sound h k is again = elim (cases_lt first second) [

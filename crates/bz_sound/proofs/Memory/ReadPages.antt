@@ -1,19 +1,16 @@
 -- Sorted pairs that answer each key of a range as the image does are the page of that range.
-use Rattle.std.proofs.Common.{◌≡◌, ℕ, ◌+◌, Bool, true, false, List, [], ◌∷◌, ◌++◌, length, refl, sym, ap, ◌∙◌, subst, Option, Some, None, cond}
+use Rattle.std.proofs.Common.{◌≡◌, ℕ, true, List, [], ◌∷◌, ◌++◌, length, refl, sym, ap, ◌∙◌, subst, Option, Some, None, cond}
 use Rattle.std.specs.Prelude.{T, slice_get, if◌then◌else◌}
 use Rattle.std.specs.declared.cmp.Ordering.TheVariants.{Equal}
 use Rattle.std.specs.Ordering.{nat_cmp}
 use Rattle.std.specs.Cmp.Lexicographic.{slice_cmp, nat_list_cmp_total}
 use Rattle.std.specs.FinMap.{find, is_sorted, get, entries, entries_sorted, get-entries, slice_cmp-IsAntisymmetric, nat_cmp-IsAntisymmetric}
 use Rattle.std.specs.FinMap.Entries.{is_sorted-where_key, find-where_key, same_entries}
-use Rattle.bz_layout.specs.declared.config.Config.{Config}
 use Rattle.bz_call.specs.Map.{Map}
 use Rattle.bz_call.specs.declared.replies.Reply.TheVariants.{Page}
-use Rattle.bz_content.specs.Content.{content_in}
-use Rattle.bz_mark.specs.Log.{Log}
-use Rattle.bz_sound.specs.Calls.{Open, map_at}
-use Rattle.bz_sound.specs.Memory.Laws.{PagesComeFromTheImage}
-use Rattle.bz_sound.specs.Memory.Moments.{image_at, map_at_start}
+use Rattle.bz_sound.specs.Calls.{map_at}
+use Rattle.bz_sound.specs.Memory.ImageLaws.{PagesComeFromTheImage}
+use Rattle.bz_sound.specs.Memory.Moments.{map_at_start}
 use Rattle.bz_sound.specs.Memory.Replies.{IsAnswer, is_within, pairs_within}
 use Rattle.bz_sound.proofs.Memory.Reads.{has-content}
 

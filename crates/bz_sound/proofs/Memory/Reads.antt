@@ -9,11 +9,10 @@ use Rattle.bz_call.specs.declared.calls.Call.TheVariants.{Insert, Delete, Update
 use Rattle.bz_call.specs.declared.replies.Reply.{Reply}
 use Rattle.bz_call.specs.declared.replies.Reply.TheVariants.{Exists, Missing, Value}
 use Rattle.bz_mark.specs.Log.{Log}
-use Rattle.bz_mark.specs.Moments.{at_moment}
 use Rattle.bz_sound.specs.Calls.{Open, map_at}
 use Rattle.bz_sound.specs.Replies.{AnswersOnly}
-use Rattle.bz_sound.specs.Memory.Laws.{ReadsAt, ImageAnswers, AnswersComeFromTheImage}
-use Rattle.bz_sound.specs.Memory.Moments.{image_at, map_at_start, Decodes}
+use Rattle.bz_sound.specs.Memory.ImageLaws.{ReadsAt, AnswersComeFromTheImage}
+use Rattle.bz_sound.specs.Memory.Moments.{image_at, map_at_start}
 use Rattle.bz_sound.specs.Memory.Replies.{IsRead, IsAnswer, IsRightReply}
 use Rattle.bz_sound.specs.Memory.Sound.{IsSound}
 use Rattle.bz_sound.proofs.Memory.Settled.{loads-settled}

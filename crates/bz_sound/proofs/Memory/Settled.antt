@@ -1,5 +1,5 @@
 -- Directly after a load the durable words decode: the next mark is no Effect, since that comes after a flush or an eviction.
-use Rattle.std.proofs.Common.{◌≡◌, ◌<◌, ◌≤◌, ℕ, List, [], ◌∷◌, length, arith}
+use Rattle.std.proofs.Common.{◌≡◌, ◌<◌, ℕ, List, [], ◌∷◌, length, arith}
 use Rattle.std.specs.Prelude.{Some}
 use Rattle.bz_call.specs.Map.{Map}
 use Rattle.bz_mark.specs.Moments.{at_moment, mark_at, IsInner}

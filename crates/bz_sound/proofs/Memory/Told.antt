@@ -1,9 +1,9 @@
 -- What a sound journal tells of its calls.
-use Rattle.std.proofs.Common.{◌≡◌, ◌≤◌, ◌<◌, ℕ, ◌+◌, ◌==◌, suc, Bool, true, false, List, [], ◌∷◌, length, refl, sym, ap, ◌∙◌, subst, arith, Option, Some, None}
-use Rattle.std.specs.Prelude.{if◌then◌else◌, option_map, IsSomeAnd}
+use Rattle.std.proofs.Common.{◌≡◌, ◌≤◌, ◌<◌, ℕ, ◌+◌, ◌==◌, Bool, true, false, List, [], ◌∷◌, length, refl, sym, ap, ◌∙◌, arith, Option, Some, None}
+use Rattle.std.specs.Prelude.{if◌then◌else◌, option_map}
 use Rattle.std.proofs.lemmas.Bool.Decides.{nat_tests}
 use Rattle.bz_layout.specs.declared.config.Config.{Config}
-use Rattle.bz_call.specs.Map.{Map, apply, apply_at, key_of}
+use Rattle.bz_call.specs.Map.{Map, apply_at}
 use Rattle.bz_call.specs.declared.calls.Call.{Call}
 use Rattle.bz_call.specs.declared.calls.Call.TheVariants.{Insert, Delete, Update, Upsert, Get, Page}
 use Rattle.bz_call.specs.declared.replies.Reply.{Reply}
@@ -13,14 +13,14 @@ use Rattle.bz_mark.specs.Log.{Log}
 use Rattle.bz_mark.specs.Moments.{at_moment, mark_at}
 use Rattle.bz_mark.specs.MomentLaws.{length-at_moment, mark_at-at_moment}
 use Rattle.bz_mark.specs.declared.marks.Mark.{Mark}
-use Rattle.bz_mark.specs.declared.marks.Mark.TheVariants.{Begin, End, Load, Store, Cas, Flush, Evict, Cut, Effect}
+use Rattle.bz_mark.specs.declared.marks.Mark.TheVariants.{Begin, End, Load, Store, Cas, Flush, Cut, Effect}
 use Rattle.bz_sound.specs.CallLaws.{began_before, has_begin}
 use Rattle.bz_sound.specs.Calls.{Open, open_call, begun_calls, with_effect}
 use Rattle.bz_sound.specs.Replies.{Pages}
 use Rattle.bz_sound.specs.Memory.Calls.{MayFollow, CallsOnce}
-use Rattle.bz_sound.specs.Memory.Laws.{IsLastCall, OpenCallsAreLast, ActsAreOfOpenCalls, EffectsComeDirectly, LiesWithin, EndsLieWithinTheirCalls, HasCause, FullHasACause}
+use Rattle.bz_sound.specs.Memory.CallLaws.{IsLastCall, OpenCallsAreLast, ActsAreOfOpenCalls, EffectsComeDirectly, EndsLieWithinTheirCalls, FullHasACause}
 use Rattle.bz_sound.specs.Memory.Moments.{map_at_start}
-use Rattle.bz_sound.specs.Memory.Replies.{Answer, IsAnswer, IsRightReply, HasRightReply}
+use Rattle.bz_sound.specs.Memory.Replies.{IsAnswer, IsRightReply, HasRightReply}
 use Rattle.bz_sound.specs.Memory.Sound.{IsSound}
 use Rattle.bz_sound.specs.Memory.Spent.{IsSpent}
 use Rattle.bz_sound.proofs.Memory.Marks.{each-at}
@@ -80,13 +80,13 @@ pub calls-are-last : OpenCallsAreLast
 calls-are-last c log w opened sound is = last-call _ log.past w opened sound.once is
 
 -- the call that an End ends, with its reply
-record IsEnded (c : Config) (start : List ℕ) (pages : Pages) (past : List Mark) (w n : ℕ) (reply : Reply) (at : ℕ) : Type 0 where
+pub record IsEnded (c : Config) (start : List ℕ) (pages : Pages) (past : List Mark) (w n : ℕ) (reply : Reply) (at : ℕ) : Type 0 where
   pub opened : Open
   pub is_open : open_call w past ≡ Some opened
   pub number : opened.number ≡ n
   pub right : IsRightReply c start pages past (record { worker = w; opened = opened; reply = reply; at = at })
 
-ended : (c : Config) (log : Log) (moment w n at : ℕ) (reply : Reply) → IsSound c log → moment < length log.past → mark_at moment log.past ≡ Some (End w n reply at)
+pub ended : (c : Config) (log : Log) (moment w n at : ℕ) (reply : Reply) → IsSound c log → moment < length log.past → mark_at moment log.past ≡ Some (End w n reply at)
     → IsEnded c log.start log.pages (at_moment moment log.past) w n reply at
 ended c log moment w n at reply sound h is =
     let may = each-at (MayFollow (map_at_start c log.start)) log.past moment (End w n reply at) sound.once h is in

@@ -1,5 +1,5 @@
 -- What must have run out where a call answers Full. The newest mark stands first.
-use Rattle.std.specs.Prelude.{◌≡◌, ◌≤◌, ◌<◌, ◌+◌, ◌==◌, ◌&&◌, ◌||◌, not, ℕ, Bool, true, false, List, [], ◌∷◌, length, is_some, count_by}
+use Rattle.std.specs.Prelude.{◌≤◌, ◌<◌, ◌+◌, ◌==◌, ◌&&◌, ◌||◌, not, ℕ, Bool, false, List, [], ◌∷◌, length, is_some, count_by}
 use Rattle.std.specs.List.{range_with_len}
 use Rattle.bz_layout.specs.Addresses.{swap_address}
 use Rattle.bz_layout.specs.declared.config.Config.{Config}
