@@ -11,3 +11,4 @@ pub mod Ended
 pub mod Told
 pub mod Once
 pub mod Acknowledged
+pub mod Worked

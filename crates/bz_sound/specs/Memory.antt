@@ -7,3 +7,4 @@ pub mod Sound
 pub mod Laws
 pub mod ImageLaws
 pub mod CallLaws
+pub mod Example

@@ -1,5 +1,6 @@
 //! Laws over sound journals over a memory. Each function does nothing but call the laws that it follows from: its
 //! contract is the law.
+ghost use Rattle.bz_sound.specs.Memory.Example.{WorkedGetIsSound};
 ghost use Rattle.bz_sound.specs.Memory.Laws.{FreshJournalsAreSound, QuietActsFollow, FlushesFollow, EffectsFollowActs, BeginsFollow, EndsFollow, PageEndsFollow};
 ghost use Rattle.bz_sound.specs.Memory.Laws.{LoadsAreSettled};
 ghost use Rattle.bz_sound.specs.Memory.ImageLaws.{AnswersComeFromTheImage, PagesComeFromTheImage, ChangesFollow, SameContentDecodes};
@@ -119,3 +120,13 @@ pub fn told_changes_took_effect()
 pub fn full_has_a_cause()
     ensures { FullHasACause }
 {}
+
+/// A small journal that was worked out by hand is sound, and those that differ from it in one thing are not.
+pub fn worked_get_is_sound()
+    ensures { WorkedGetIsSound }
+{
+    bz_layout::fresh_words_say();
+    bz_content::laws::well_formed_images_have_no_fault();
+    bz_content::laws::map_is_the_content();
+    bz_content::laws::fresh_memory_is_empty();
+}

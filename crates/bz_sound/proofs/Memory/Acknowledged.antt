@@ -5,7 +5,7 @@ use Rattle.std.specs.FinMap.{get, insert, remove}
 use Rattle.std.proofs.lemmas.Bool.Decides.{nat_tests}
 use Rattle.std.proofs.lemmas.Slice.Eq.{bytes_eq-Decides}
 use Rattle.bz_layout.specs.declared.config.Config.{Config}
-use Rattle.bz_call.specs.Map.{Map, key_of, apply, apply_at}
+use Rattle.bz_call.specs.Map.{Map, key_of, apply_at}
 use Rattle.bz_call.specs.declared.calls.Call.{Call}
 use Rattle.bz_call.specs.declared.calls.Call.TheVariants.{Insert, Delete, Update, Upsert, Get, Page}
 use Rattle.bz_call.specs.declared.replies.Reply.{Reply}
@@ -20,9 +20,9 @@ use Rattle.bz_sound.specs.Memory.Calls.{MayFollow, CallsOnce}
 use Rattle.bz_sound.specs.Memory.CallLaws.{TellsAChange, ToldChangesTookEffect}
 use Rattle.bz_sound.specs.Memory.Moments.{map_at_start}
 use Rattle.bz_sound.specs.Memory.Replies.{Answer, IsAnswer}
-use Rattle.bz_sound.proofs.Memory.Changed.{IsMapWith, with-inserted, with-removed}
+use Rattle.bz_sound.proofs.Memory.Changed.{with-inserted, with-removed}
 use Rattle.bz_sound.proofs.Memory.Marks.{each-before}
-use Rattle.bz_sound.proofs.Memory.Told.{IsEnded, ended}
+use Rattle.bz_sound.proofs.Memory.Told.{EndsCall, ended}
 
 -- the Effect of an open call
 record HasEffect (past : List Mark) (w : ℕ) (opened : Open) (at : ℕ) : Type 0 where
@@ -126,7 +126,7 @@ told-effect c start pages past answer None reply same told h = absurd told
 
 pub told-took-effect : ToldChangesTookEffect
 told-took-effect c log moment w n at reply sound h is told =
-    let e : IsEnded c log.start log.pages (at_moment moment log.past) w n reply at = ended c log moment w n at reply sound h is in
+    let e : EndsCall c log.start log.pages (at_moment moment log.past) w n reply at = ended c log moment w n at reply sound h is in
     let size : length (at_moment moment log.past) ≡ moment = length-at_moment moment log.past (omega arith) in
     let took : e.opened.effect ≡ Some at = told-effect c log.start log.pages (at_moment moment log.past) (record { worker = w; opened = e.opened; reply = reply; at = at }) e.opened.effect reply refl told e.right.right in
     let effect : HasEffect (at_moment moment log.past) w e.opened at =

@@ -13,7 +13,7 @@ use Rattle.bz_mark.specs.Log.{Log}
 use Rattle.bz_mark.specs.declared.marks.Mark.{Mark}
 use Rattle.bz_mark.specs.declared.marks.Mark.TheVariants.{Flush, Evict}
 use Rattle.bz_sound.specs.Calls.{Open, open_call, map_after, map_with}
-use Rattle.bz_sound.specs.Memory.ImageLaws.{IsChangeOf, ChangesKey, TakesEffect, ChangesFollow, SameContentDecodes}
+use Rattle.bz_sound.specs.Memory.ImageLaws.{IsChangeOf, ChangesKey, EffectFollows, ChangesFollow, SameContentDecodes}
 use Rattle.bz_sound.specs.Memory.Moments.{image_after, map_at_start, HoldsMap, Decodes, IsAfterFlush}
 use Rattle.bz_sound.specs.Memory.Sound.{IsSound}
 use Rattle.bz_sound.proofs.Memory.Growth.{decodes-now}
@@ -64,7 +64,7 @@ holds-changed c before after map call old new holds whole change is = record {
 durable-change : (c : Config) (log : Log) (mark : Mark) (w : ℕ) (opened : Open) (old new : Option (List ℕ)) → IsSound c log → IsAfterFlush (mark ∷ log.past)
     → open_call w (mark ∷ log.past) ≡ Some opened → map_after (map_at_start c log.start) (mark ∷ log.past) ≡ map_after (map_at_start c log.start) log.past
     → opened.effect ≡ None → IsChangeOf opened.call old new → image_fault c (image_after log.start (mark ∷ log.past)) ≡ None
-    → ChangesKey c (image_after log.start log.past) (image_after log.start (mark ∷ log.past)) (key_of opened.call) old new → TakesEffect c log mark w opened old
+    → ChangesKey c (image_after log.start log.past) (image_after log.start (mark ∷ log.past)) (key_of opened.call) old new → EffectFollows c log mark w opened old
 durable-change c log mark w opened old new sound flush is same quiet changes whole change =
     let now : Decodes c log.start log.past = decodes-now c log sound in
     let step : Steps (map_after (map_at_start c log.start) log.past) opened.call old new = steps _ opened.call old new changes (sym (now.content (key_of opened.call)) ∙ change.was) in

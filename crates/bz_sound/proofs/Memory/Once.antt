@@ -13,7 +13,7 @@ use Rattle.bz_mark.specs.declared.marks.Mark.TheVariants.{Begin, End, Cut, Effec
 use Rattle.bz_sound.specs.Calls.{Open, open_call, begun_calls, with_effect}
 use Rattle.bz_sound.specs.Memory.Calls.{MayFollow, CallsOnce}
 use Rattle.bz_sound.specs.Memory.CallLaws.{EffectsStandOnce}
-use Rattle.bz_sound.specs.Memory.Moments.{EachMark, map_at_start}
+use Rattle.bz_sound.specs.Memory.Moments.{map_at_start}
 use Rattle.bz_sound.proofs.Memory.Marks.{each-at, each-before}
 use Rattle.bz_sound.proofs.Memory.Told.{last-call}
 

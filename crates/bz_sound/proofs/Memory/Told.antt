@@ -80,14 +80,14 @@ pub calls-are-last : OpenCallsAreLast
 calls-are-last c log w opened sound is = last-call _ log.past w opened sound.once is
 
 -- the call that an End ends, with its reply
-pub record IsEnded (c : Config) (start : List ℕ) (pages : Pages) (past : List Mark) (w n : ℕ) (reply : Reply) (at : ℕ) : Type 0 where
+pub record EndsCall (c : Config) (start : List ℕ) (pages : Pages) (past : List Mark) (w n : ℕ) (reply : Reply) (at : ℕ) : Type 0 where
   pub opened : Open
   pub is_open : open_call w past ≡ Some opened
   pub number : opened.number ≡ n
   pub right : IsRightReply c start pages past (record { worker = w; opened = opened; reply = reply; at = at })
 
 pub ended : (c : Config) (log : Log) (moment w n at : ℕ) (reply : Reply) → IsSound c log → moment < length log.past → mark_at moment log.past ≡ Some (End w n reply at)
-    → IsEnded c log.start log.pages (at_moment moment log.past) w n reply at
+    → EndsCall c log.start log.pages (at_moment moment log.past) w n reply at
 ended c log moment w n at reply sound h is =
     let may = each-at (MayFollow (map_at_start c log.start)) log.past moment (End w n reply at) sound.once h is in
     let right = each-at (HasRightReply c log.start log.pages) log.past moment (End w n reply at) sound.replies h is in
@@ -95,7 +95,7 @@ ended c log moment w n at reply sound h is =
 
 pub ends-within : EndsLieWithinTheirCalls
 ends-within c log moment w n at reply sound h is =
-    let e : IsEnded c log.start log.pages (at_moment moment log.past) w n reply at = ended c log moment w n at reply sound h is in
+    let e : EndsCall c log.start log.pages (at_moment moment log.past) w n reply at = ended c log moment w n at reply sound h is in
     let size : length (at_moment moment log.past) ≡ moment = length-at_moment moment log.past (omega arith) in
     let early : e.opened.begun < moment = omega (arith, size, began_before w (at_moment moment log.past) e.opened e.is_open) in
     record {
@@ -128,6 +128,6 @@ full-cause c start pages past w at spent opened (Some effect) full = absurd (nev
 
 pub full-has-cause : FullHasACause
 full-has-cause c log moment w n at spent sound h is =
-    let e : IsEnded c log.start log.pages (at_moment moment log.past) w n (Full spent) at = ended c log moment w n at (Full spent) sound h is in
+    let e : EndsCall c log.start log.pages (at_moment moment log.past) w n (Full spent) at = ended c log moment w n at (Full spent) sound h is in
     let cause = full-cause c log.start log.pages (at_moment moment log.past) w at spent e.opened e.opened.effect e.right.right in
     record { opened = e.opened; is_open = e.is_open; quiet = cause.0; cause = cause.1 }

@@ -74,7 +74,7 @@ IsChangeOf (call.Upsert key payload) old new = new ≡ Some payload
 IsChangeOf call old new = ⊥
 
 -- the Effect of an open call may follow, and the words then decode; the map answers the call by what it had
-pub record TakesEffect (c : Config) (log : Log) (mark : Mark) (w : ℕ) (opened : Open) (old : Option (List ℕ)) : Type 0 where
+pub record EffectFollows (c : Config) (log : Log) (mark : Mark) (w : ℕ) (opened : Open) (old : Option (List ℕ)) : Type 0 where
   pub may_follow : MayFollow (map_at_start c log.start) (mark ∷ log.past) (Effect w opened.number)
   pub decodes : Decodes c log.start (Effect w opened.number ∷ mark ∷ log.past)
   pub step : apply (map_after (map_at_start c log.start) (mark ∷ log.past)) opened.call ≡ apply_at old (map_after (map_at_start c log.start) (mark ∷ log.past)) opened.call
@@ -86,7 +86,7 @@ ChangesFollow =
     IsSound c log → IsAfterFlush (mark ∷ log.past) → open_call w log.past ≡ Some opened → opened.effect ≡ None → IsChangeOf opened.call old new →
     image_fault c (image_after log.start (mark ∷ log.past)) ≡ None →
     ChangesKey c (image_after log.start log.past) (image_after log.start (mark ∷ log.past)) (key_of opened.call) old new →
-    TakesEffect c log mark w opened old
+    EffectFollows c log mark w opened old
 
 -- an open call that has an Effect is answered as the map answers it directly before
 abbrev pub EffectsAnswer : Type 0
