@@ -11,4 +11,7 @@ pub mod Ended
 pub mod Told
 pub mod Once
 pub mod Acknowledged
+pub mod Between
+pub mod Happened
+pub mod OneHistory
 pub mod Worked

@@ -7,4 +7,5 @@ pub mod Sound
 pub mod Laws
 pub mod ImageLaws
 pub mod CallLaws
+pub mod History
 pub mod Example

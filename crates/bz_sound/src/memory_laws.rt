@@ -1,6 +1,7 @@
 //! Laws over sound journals over a memory. Each function does nothing but call the laws that it follows from: its
 //! contract is the law.
 ghost use Rattle.bz_sound.specs.Memory.Example.{WorkedGetIsSound};
+ghost use Rattle.bz_sound.specs.Memory.History.{OneHistory};
 ghost use Rattle.bz_sound.specs.Memory.Laws.{FreshJournalsAreSound, QuietActsFollow, FlushesFollow, EffectsFollowActs, BeginsFollow, EndsFollow, PageEndsFollow};
 ghost use Rattle.bz_sound.specs.Memory.Laws.{LoadsAreSettled};
 ghost use Rattle.bz_sound.specs.Memory.ImageLaws.{AnswersComeFromTheImage, PagesComeFromTheImage, ChangesFollow, SameContentDecodes};
@@ -119,6 +120,11 @@ pub fn told_changes_took_effect()
 /// A Full changed nothing and has a cause.
 pub fn full_has_a_cause()
     ensures { FullHasACause }
+{}
+
+/// The calls of a sound journal are one history of one map, in the order of the moments that it names.
+pub fn one_history()
+    ensures { OneHistory }
 {}
 
 /// A small journal that was worked out by hand is sound, and those that differ from it in one thing are not.

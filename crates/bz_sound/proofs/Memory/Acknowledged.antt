@@ -25,7 +25,7 @@ use Rattle.bz_sound.proofs.Memory.Marks.{each-before}
 use Rattle.bz_sound.proofs.Memory.Told.{EndsCall, ended}
 
 -- the Effect of an open call
-record HasEffect (past : List Mark) (w : ℕ) (opened : Open) (at : ℕ) : Type 0 where
+pub record HasEffect (past : List Mark) (w : ℕ) (opened : Open) (at : ℕ) : Type 0 where
   pub before_now : at < length past
   pub mark : mark_at at past ≡ Some (Effect w opened.number)
 
@@ -66,7 +66,7 @@ own-effect false v w n past opened at same number is took before = later (Effect
 same-number : (a b : Open) (v n : ℕ) (past : List Mark) → open_call v past ≡ Some a → a.number ≡ n → open_call v past ≡ Some b → b.number ≡ n
 same-number a b v n past is number also = let same : a ≡ b = cc in subst (λ (o : Open). o.number ≡ n) same number
 
-has-effect : (start : Map) (past : List Mark) (w : ℕ) (opened : Open) (at : ℕ) → CallsOnce start past → open_call w past ≡ Some opened → opened.effect ≡ Some at → HasEffect past w opened at
+pub has-effect : (start : Map) (past : List Mark) (w : ℕ) (opened : Open) (at : ℕ) → CallsOnce start past → open_call w past ≡ Some opened → opened.effect ≡ Some at → HasEffect past w opened at
 has-effect start [] w opened at once is took = absurd (cc)
 has-effect start (Begin v n call ∷ past) w opened at once is took =
     later (Begin v n call) past w opened at (has-effect start past w opened at once.1 (begin-effect (v == w) n (length past) call (open_call w past) opened at is took) took)

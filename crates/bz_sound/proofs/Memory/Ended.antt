@@ -11,7 +11,7 @@ use Rattle.bz_sound.specs.Memory.ImageLaws.{EffectsAnswer, SpentAnswersFull}
 use Rattle.bz_sound.specs.Memory.Replies.{IsAnswer}
 
 -- an effect lies between the Begin of its call and now
-record IsInside (now : ℕ) (opened : Open) (at : ℕ) : Type 0 where
+pub record IsInside (now : ℕ) (opened : Open) (at : ℕ) : Type 0 where
   pub after_begin : opened.begun < at
   pub before_now : at < now
 
@@ -41,7 +41,7 @@ effect-inside true now (Some other) opened at is took began before =
 effect-inside false now rest opened at is took began before = later now opened at (before is)
 
 -- the effect of an open call
-inside : (w : ℕ) (past : List Mark) (opened : Open) (at : ℕ) → open_call w past ≡ Some opened → opened.effect ≡ Some at → IsInside (length past) opened at
+pub inside : (w : ℕ) (past : List Mark) (opened : Open) (at : ℕ) → open_call w past ≡ Some opened → opened.effect ≡ Some at → IsInside (length past) opened at
 inside w [] opened at is took = absurd (cc)
 inside w (Begin v n call ∷ past) opened at is took = begin-inside (v == w) n (length past) call (open_call w past) opened at is took (λ here. inside w past opened at here took)
 inside w (End v n reply moment ∷ past) opened at is took = end-inside (v == w) (length past) (open_call w past) opened at is (λ here. inside w past opened at here took)

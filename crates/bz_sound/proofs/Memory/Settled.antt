@@ -10,7 +10,7 @@ use Rattle.bz_sound.specs.Memory.Laws.{LoadsAreSettled}
 use Rattle.bz_sound.specs.Memory.Moments.{IsAfterLoad, IsAfterFlush}
 use Rattle.bz_sound.proofs.Memory.Marks.{each-at}
 
-not-both : (w : ℕ) (past : List Mark) → IsAfterLoad w past → IsAfterFlush past → ⊥
+pub not-both : (w : ℕ) (past : List Mark) → IsAfterLoad w past → IsAfterFlush past → ⊥
 not-both w [] load flush = load
 not-both w (Load v a value ∷ past) load flush = flush
 not-both w (mark ∷ past) load flush = load

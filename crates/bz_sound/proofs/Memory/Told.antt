@@ -108,7 +108,7 @@ ends-within c log moment w n at reply sound h is =
     }
 
 -- the map answers no call so
-never-full : (found : Option (List ℕ)) (map : Map) (call : Call) (spent : Spent) → (apply_at found map call).reply ≡ Some (Full spent) → ⊥
+pub never-full : (found : Option (List ℕ)) (map : Map) (call : Call) (spent : Spent) → (apply_at found map call).reply ≡ Some (Full spent) → ⊥
 never-full None map (Insert key payload) spent is = cc
 never-full (Some had) map (Insert key payload) spent is = cc
 never-full None map (Delete key) spent is = cc
