@@ -8,9 +8,11 @@ pub mod ReadPages
 pub mod Changed
 pub mod Fresh
 pub mod Ended
+pub mod NeverTold
 pub mod Told
 pub mod Once
 pub mod Acknowledged
+pub mod Apart
 pub mod Between
 pub mod Happened
 pub mod OneHistory

@@ -7,7 +7,7 @@ ghost use Rattle.bz_sound.specs.Memory.Laws.{LoadsAreSettled};
 ghost use Rattle.bz_sound.specs.Memory.ImageLaws.{AnswersComeFromTheImage, PagesComeFromTheImage, ChangesFollow, SameContentDecodes};
 ghost use Rattle.bz_sound.specs.Memory.ImageLaws.{EffectsAnswer, SpentAnswersFull};
 ghost use Rattle.bz_sound.specs.Memory.CallLaws.{EffectsStandOnce};
-ghost use Rattle.bz_sound.specs.Memory.CallLaws.{OpenCallsAreKept, OpenCallsAreLast, ActsAreOfOpenCalls, EffectsComeDirectly, EndsLieWithinTheirCalls, ToldChangesTookEffect, FullHasACause};
+ghost use Rattle.bz_sound.specs.Memory.CallLaws.{OpenCallsAreKept, OpenCallsAreLast, ApartCallsAreAlone, ActsAreOfOpenCalls, EffectsComeDirectly, EndsLieWithinTheirCalls, ToldChangesTookEffect, FullHasACause};
 
 /// A journal without marks over a well-formed image is sound.
 pub fn fresh_journals_are_sound()
@@ -90,6 +90,11 @@ pub fn open_calls_are_kept()
 /// An open call is the last that its worker began, and the worker is not 0.
 pub fn open_calls_are_last()
     ensures { OpenCallsAreLast }
+{}
+
+/// While calls run one after the other no two are open.
+pub fn apart_calls_are_alone()
+    ensures { ApartCallsAreAlone }
 {}
 
 /// Acts are of workers whose call is open.

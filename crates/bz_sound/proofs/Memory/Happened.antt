@@ -1,15 +1,15 @@
 -- A call that took effect is pending or has ended, and where a call that happened stands.
-use Rattle.std.proofs.Common.{◌≡◌, ◌≤◌, ◌<◌, ◌==◌, ◌⊎◌, ℕ, Bool, true, false, List, [], ◌∷◌, length, refl, sym, ap, ◌∙◌, subst, inl, inr, arith, Option, Some, None}
-use Rattle.std.specs.Prelude.{if◌then◌else◌, option_map, IsSomeAnd}
+use Rattle.std.proofs.Common.{◌≡◌, ◌<◌, ◌==◌, ℕ, Bool, true, false, List, [], ◌∷◌, length, refl, sym, ap, ◌∙◌, subst, inl, inr, arith, Option, Some, None}
+use Rattle.std.specs.Prelude.{if◌then◌else◌, option_map}
 use Rattle.std.proofs.lemmas.Bool.{cases_lt}
 use Rattle.std.proofs.lemmas.Bool.Decides.{nat_tests}
 use Rattle.std.specs.FinMap.{get}
 use Rattle.bz_layout.specs.declared.config.Config.{Config}
-use Rattle.bz_call.specs.Map.{Map, key_of, apply, apply_at}
+use Rattle.bz_call.specs.Map.{Map, key_of, apply}
 use Rattle.bz_call.specs.declared.calls.Call.{Call}
 use Rattle.bz_call.specs.declared.replies.Reply.{Reply}
 use Rattle.bz_call.specs.declared.replies.Reply.TheVariants.{Full}
-use Rattle.bz_mark.specs.Moments.{at_moment, mark_at}
+use Rattle.bz_mark.specs.Moments.{mark_at}
 use Rattle.bz_mark.specs.MomentLaws.{at_moment-earlier, at_moment-before, mark_at-earlier, mark_at-newest}
 use Rattle.bz_mark.specs.WordLaws.{newest-mark_at}
 use Rattle.bz_mark.specs.declared.marks.Mark.{Mark}
@@ -20,7 +20,7 @@ use Rattle.bz_sound.specs.Memory.Calls.{MayFollow, CallsOnce}
 use Rattle.bz_sound.specs.Memory.History.{Happening, IsNoFull, EndedCall, PendingCall, Happens}
 use Rattle.bz_sound.specs.Memory.Moments.{map_at_start}
 use Rattle.bz_sound.specs.Memory.Replies.{IsRightReply, HasRightReply, RepliesAreRight, IsAnswer}
-use Rattle.bz_sound.proofs.Memory.Told.{never-full}
+use Rattle.bz_sound.proofs.Memory.NeverTold.{never-full}
 
 -- a map's reply is no Full
 no-full : (map : Map) (call : Call) (reply : Reply) → (apply map call).reply ≡ Some reply → IsNoFull reply

@@ -1,5 +1,5 @@
 -- The calls of a sound journal are one history of one map.
-use Rattle.std.proofs.Common.{◌≡◌, ◌≤◌, ◌<◌, ◌+◌, ◌-◌, ◌⊎◌, ℕ, Bool, true, false, List, [], ◌∷◌, length, get_or, refl, sym, ap, ◌∙◌, subst, inl, inr, arith, Option, Some, None}
+use Rattle.std.proofs.Common.{◌≡◌, ◌≤◌, ◌<◌, ◌+◌, ◌-◌, ◌⊎◌, ℕ, false, List, [], ◌∷◌, length, get_or, refl, sym, ap, ◌∙◌, subst, inl, inr, arith, Option, Some, None}
 use Rattle.std.proofs.lemmas.Option.{slice_get-get_or}
 use Rattle.bz_layout.specs.declared.config.Config.{Config}
 use Rattle.bz_call.specs.Map.{Map, apply}
@@ -9,13 +9,13 @@ use Rattle.bz_call.specs.declared.replies.Reply.{Reply}
 use Rattle.bz_call.specs.declared.replies.Reply.TheVariants.{Page, Full}
 use Rattle.bz_mark.specs.Log.{Log}
 use Rattle.bz_mark.specs.Moments.{at_moment, mark_at}
-use Rattle.bz_mark.specs.MomentLaws.{at_moment-now, at_moment-next, length-at_moment, mark_at-at_moment}
+use Rattle.bz_mark.specs.MomentLaws.{at_moment-next, length-at_moment, mark_at-at_moment}
 use Rattle.bz_mark.specs.declared.marks.Mark.{Mark}
 use Rattle.bz_mark.specs.declared.marks.Mark.TheVariants.{End, Load, Cut, Effect}
 use Rattle.bz_sound.specs.Calls.{Open, open_call, map_after, map_at, map_with}
 use Rattle.bz_sound.specs.Replies.{Pages}
 use Rattle.bz_sound.specs.Memory.Calls.{MayFollow, CallsOnce}
-use Rattle.bz_sound.specs.Memory.History.{Happening, IsNoFull, EndedCall, PendingCall, Happens, SameCall, IsOneHistory, OneHistory}
+use Rattle.bz_sound.specs.Memory.History.{Happening, IsNoFull, EndedCall, PendingCall, Happens, EndHappens, ShowsRange, SameCall, OneHistory}
 use Rattle.bz_sound.specs.Memory.Moments.{map_at_start, IsAfterLoad}
 use Rattle.bz_sound.specs.Memory.Replies.{Answer, IsRightReply, HasRightReply, IsAnswer}
 use Rattle.bz_sound.specs.Memory.Sound.{IsSound}
@@ -24,14 +24,13 @@ use Rattle.bz_sound.proofs.Memory.Between.{at_moment-twice, StaysOpen, open-betw
 use Rattle.bz_sound.proofs.Memory.Ended.{IsInside, inside}
 use Rattle.bz_sound.proofs.Memory.Happened.{Took, happened}
 use Rattle.bz_sound.proofs.Memory.Marks.{each-at, each-before}
+use Rattle.bz_sound.proofs.Memory.NeverTold.{never-page}
 use Rattle.bz_sound.proofs.Memory.Settled.{not-both, after-flush}
 
 -- a call that happened directly after a load leaves the map as it is
 record IsQuietly (start : Map) (past : List Mark) (w at : ℕ) (call : Call) : Type 0 where
   pub loaded : IsAfterLoad w (at_moment at past)
   pub stays : (apply (map_at start at past) call).map ≡ map_at start at past
-
-
 
 -- where a call that happened stands: it is open at its moment, and its moment is one before now
 record IsPlaced (start : Map) (past : List Mark) (h : Happening) : Type 0 where
@@ -179,6 +178,31 @@ replies c log h moment reply sound e page =
     subst (λ (marks : List Mark). (apply (map_after (map_at_start c log.start) marks) h.opened.call).reply ≡ Some reply) twice
     (map-reply c log.start log.pages (at_moment moment log.past) (record { worker = h.worker; opened = h.opened; reply = reply; at = h.at }) h.opened.effect reply refl e.no_full page right.right)
 
+-- a page is told by a load alone
+page-shown : (c : Config) (start : List ℕ) (pages : Pages) (past : List Mark) (answer : Answer) (effect : Option ℕ) (page : ℕ) (next : Option (List ℕ)) → answer.reply ≡ Page page next
+    → IsAnswer c start pages past answer effect (Page page next) → ShowsRange pages (map_at (map_at_start c start) answer.at past) answer.opened.call page next
+page-shown c start pages past answer (Some effect) page next same h = absurd (never-page _ _ answer.opened.call page next (h.answers ∙ ap Some same))
+page-shown c start pages past answer None page next same h = record { from = h.from; asked = h.asked; pairs = h.pairs }
+
+shown : (c : Config) (log : Log) (h : Happening) (moment page : ℕ) (next : Option (List ℕ)) → IsSound c log → EndedCall log.past h moment (Page page next)
+    → ShowsRange log.pages (map_at (map_at_start c log.start) h.at log.past) h.opened.call page next
+shown c log h moment page next sound e =
+    let right = right-reply c log h moment (Page page next) sound e in
+    let size : length (at_moment moment log.past) ≡ moment = length-at_moment moment log.past (omega (arith, e.within)) in
+    let twice : at_moment h.at (at_moment moment log.past) ≡ at_moment h.at log.past = at_moment-twice h.at moment log.past (omega (arith, size, right.before_end)) (omega (arith, e.within)) in
+    subst (λ (marks : List Mark). ShowsRange log.pages (map_after (map_at_start c log.start) marks) h.opened.call page next) twice
+    (page-shown c log.start log.pages (at_moment moment log.past) (record { worker = h.worker; opened = h.opened; reply = Page page next; at = h.at }) h.opened.effect page next refl right.right)
+
+end-happens : (c : Config) (log : Log) (moment w n at : ℕ) (reply : Reply) → IsSound c log → moment < length log.past → mark_at moment log.past ≡ Some (End w n reply at) → IsNoFull reply
+    → EndHappens log.past moment w n at reply
+end-happens c log moment w n at reply sound within is full =
+    let may = each-at (MayFollow (map_at_start c log.start)) log.past moment (End w n reply at) sound.once within is in
+    record {
+      opened = may.opened;
+      number = may.number;
+      ended = record { within = within; is_open = may.is_open; ends = is ∙ ap (λ (m : ℕ). Some (End w m reply at)) (sym may.number); no_full = full };
+    }
+
 ended-before : (c : Config) (log : Log) (h : Happening) (moment : ℕ) (reply : Reply) → IsSound c log → EndedCall log.past h moment reply → h.at ≤ moment
 ended-before c log h moment reply sound e =
     let right = right-reply c log h moment reply sound e in
@@ -191,9 +215,11 @@ no-call c log moment w n sound within none is =
 
 pub one-history : OneHistory
 one-history c log sound = record {
+  ends = λ moment w n at reply within is full. end-happens c log moment w n at reply sound within is full;
   alone = λ h k hh hk at. alone c log h k sound hh hk at;
   steps = λ h happens. steps c log h sound happens;
   replies = λ h moment reply e page. replies c log h moment reply sound e page;
+  pages = λ h moment page next e. shown c log h moment page next sound e;
   still = λ moment within none. still-map (map_at_start c log.start) log.past moment within (λ w n is. no-call c log moment w n sound within none is);
   order = λ h k moment reply e hk before. omega (arith, ended-before c log h moment reply sound e, (placed c log k sound hk).after_begin);
 }

@@ -3,9 +3,8 @@ use Rattle.std.proofs.Common.{◌≡◌, ◌≤◌, ◌<◌, ℕ, ◌+◌, ◌==
 use Rattle.std.specs.Prelude.{if◌then◌else◌, option_map}
 use Rattle.std.proofs.lemmas.Bool.Decides.{nat_tests}
 use Rattle.bz_layout.specs.declared.config.Config.{Config}
-use Rattle.bz_call.specs.Map.{Map, apply_at}
+use Rattle.bz_call.specs.Map.{Map}
 use Rattle.bz_call.specs.declared.calls.Call.{Call}
-use Rattle.bz_call.specs.declared.calls.Call.TheVariants.{Insert, Delete, Update, Upsert, Get, Page}
 use Rattle.bz_call.specs.declared.replies.Reply.{Reply}
 use Rattle.bz_call.specs.declared.replies.Reply.TheVariants.{Full}
 use Rattle.bz_call.specs.declared.replies.Spent.{Spent}
@@ -24,6 +23,7 @@ use Rattle.bz_sound.specs.Memory.Replies.{IsAnswer, IsRightReply, HasRightReply}
 use Rattle.bz_sound.specs.Memory.Sound.{IsSound}
 use Rattle.bz_sound.specs.Memory.Spent.{IsSpent}
 use Rattle.bz_sound.proofs.Memory.Marks.{each-at}
+use Rattle.bz_sound.proofs.Memory.NeverTold.{never-full}
 use Rattle.bz_sound.proofs.Memory.Settled.{after-flush}
 
 pub effects-directly : EffectsComeDirectly
@@ -106,20 +106,6 @@ ends-within c log moment w n at reply sound h is =
       after_begin = e.right.after_begin;
       before_end = rw size at e.right.before_end;
     }
-
--- the map answers no call so
-pub never-full : (found : Option (List ℕ)) (map : Map) (call : Call) (spent : Spent) → (apply_at found map call).reply ≡ Some (Full spent) → ⊥
-never-full None map (Insert key payload) spent is = cc
-never-full (Some had) map (Insert key payload) spent is = cc
-never-full None map (Delete key) spent is = cc
-never-full (Some had) map (Delete key) spent is = cc
-never-full None map (Update key payload) spent is = cc
-never-full (Some had) map (Update key payload) spent is = cc
-never-full None map (Upsert key payload) spent is = cc
-never-full (Some had) map (Upsert key payload) spent is = cc
-never-full None map (Get key) spent is = cc
-never-full (Some had) map (Get key) spent is = cc
-never-full found map (Page key) spent is = cc
 
 full-cause : (c : Config) (start : List ℕ) (pages : Pages) (past : List Mark) (w at : ℕ) (spent : Spent) (opened : Open) (effect : Option ℕ)
     → IsAnswer c start pages past (record { worker = w; opened = opened; reply = Full spent; at = at }) effect (Full spent) → (effect ≡ None) × IsSpent c start past w opened spent

@@ -13,7 +13,7 @@ use Rattle.bz_sound.specs.Calls.{Open, open_call, begun_calls, with_effect}
 use Rattle.bz_sound.specs.Memory.Moments.{IsAfterFlush}
 use Rattle.bz_sound.specs.Memory.Calls.{HasOpenCall}
 use Rattle.bz_sound.specs.Memory.Spent.{IsSpent}
-use Rattle.bz_sound.specs.Memory.Sound.{IsSound}
+use Rattle.bz_sound.specs.Memory.Sound.{IsSound, IsApart}
 
 -- a worker's marks, acts and evictions leave the open call of another worker; its own acts leave its own
 pub record OpenCallsStay (w : ℕ) (past : List Mark) : Type 0 where
@@ -39,6 +39,10 @@ pub record IsLastCall (past : List Mark) (w : ℕ) (opened : Open) : Type 0 wher
 
 abbrev pub OpenCallsAreLast : Type 0
 OpenCallsAreLast = (c : Config) (log : Log) (w : ℕ) (opened : Open) → IsSound c log → open_call w log.past ≡ Some opened → IsLastCall log.past w opened
+
+-- while calls run one after the other no two of them are open
+abbrev pub ApartCallsAreAlone : Type 0
+ApartCallsAreAlone = (past : List Mark) (v w : ℕ) (a b : Open) → IsApart past → open_call v past ≡ Some a → open_call w past ≡ Some b → v ≡ w
 
 -- an act is one of a worker whose call is open
 pub record ActsTell (c : Config) (log : Log) (moment w : ℕ) : Type 0 where
