@@ -12,6 +12,8 @@ pub mod NeverTold
 pub mod Told
 pub mod Once
 pub mod Acknowledged
+pub mod Counts
+pub mod Held
 pub mod Apart
 pub mod Between
 pub mod Happened

@@ -5,7 +5,7 @@ ghost use Rattle.bz_sound.specs.Memory.History.{OneHistory};
 ghost use Rattle.bz_sound.specs.Memory.Laws.{FreshJournalsAreSound, QuietActsFollow, FlushesFollow, EffectsFollowActs, BeginsFollow, EndsFollow, PageEndsFollow};
 ghost use Rattle.bz_sound.specs.Memory.Laws.{LoadsAreSettled};
 ghost use Rattle.bz_sound.specs.Memory.ImageLaws.{AnswersComeFromTheImage, PagesComeFromTheImage, ChangesFollow, SameContentDecodes};
-ghost use Rattle.bz_sound.specs.Memory.ImageLaws.{EffectsAnswer, SpentAnswersFull};
+ghost use Rattle.bz_sound.specs.Memory.ImageLaws.{EffectsAnswer, SpentAnswersFull, HeldSwapsAreSpent};
 ghost use Rattle.bz_sound.specs.Memory.CallLaws.{EffectsStandOnce};
 ghost use Rattle.bz_sound.specs.Memory.CallLaws.{OpenCallsAreKept, OpenCallsAreLast, ApartCallsAreAlone, ActsAreOfOpenCalls, EffectsComeDirectly, EndsLieWithinTheirCalls, ToldChangesTookEffect, FullHasACause};
 
@@ -75,6 +75,11 @@ pub fn effects_answer()
 /// A call without one is answered Full where something is spent.
 pub fn spent_answers_full()
     ensures { SpentAnswersFull }
+{}
+
+/// Descriptors are spent where each is taken or held by another worker with an open call.
+pub fn held_swaps_are_spent()
+    ensures { HeldSwapsAreSpent }
 {}
 
 /// A flush or an eviction that leaves the content needs no Effect.

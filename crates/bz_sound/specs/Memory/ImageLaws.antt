@@ -1,5 +1,5 @@
 -- What the image of a moment says of replies and effects.
-use Rattle.std.specs.Prelude.{◌≡◌, ◌<◌, ◌≤◌, ℕ, true, if◌then◌else◌, bytes_eq, List, [], ◌∷◌, ◌++◌, length, Option, Some, None}
+use Rattle.std.specs.Prelude.{◌≡◌, ◌≢◌, false, ◌<◌, ◌≤◌, ℕ, true, if◌then◌else◌, bytes_eq, List, [], ◌∷◌, ◌++◌, length, Option, Some, None}
 use Rattle.std.specs.Ordering.{nat_cmp}
 use Rattle.std.specs.Cmp.Lexicographic.{slice_cmp}
 use Rattle.std.specs.FinMap.{find, is_sorted}
@@ -11,14 +11,15 @@ use Rattle.bz_call.specs.declared.calls.Call.TheVariants as call
 use Rattle.bz_call.specs.declared.replies.Reply.{Reply}
 use Rattle.bz_call.specs.declared.replies.Reply.TheVariants.{Exists, Missing, Value, Page, Full}
 use Rattle.bz_call.specs.declared.replies.Spent.{Spent}
+use Rattle.bz_call.specs.declared.replies.Spent.TheVariants.{Swaps}
 use Rattle.bz_mark.specs.Log.{Log}
 use Rattle.bz_mark.specs.Moments.{at_moment}
 use Rattle.bz_mark.specs.declared.marks.Mark.{Mark}
 use Rattle.bz_mark.specs.declared.marks.Mark.TheVariants.{Effect}
 use Rattle.bz_sound.specs.Calls.{Open, open_call, map_after, map_at}
 use Rattle.bz_sound.specs.Memory.Moments.{image_after, image_at, map_at_start, Decodes, IsAfterLoad, IsAfterFlush}
-use Rattle.bz_sound.specs.Memory.Calls.{MayFollow}
-use Rattle.bz_sound.specs.Memory.Spent.{IsSpent}
+use Rattle.bz_sound.specs.Memory.Calls.{HasOpenCall, MayFollow}
+use Rattle.bz_sound.specs.Memory.Spent.{is_taken, IsSpent}
 use Rattle.bz_sound.specs.Memory.Replies.{IsWrite, IsRightReply, is_within}
 use Rattle.bz_sound.specs.Memory.Sound.{IsSound}
 
@@ -101,6 +102,23 @@ SpentAnswersFull =
     (c : Config) (log : Log) (w : ℕ) (opened : Open) (spent : Spent) → open_call w log.past ≡ Some opened → opened.effect ≡ None → IsWrite opened.call →
     IsSpent c log.start log.past w opened spent →
     IsRightReply c log.start log.pages log.past (record { worker = w; opened = opened; reply = Full spent; at = length log.past })
+
+-- another worker, with an open call
+pub record IsOther (c : Config) (past : List Mark) (w v : ℕ) : Type 0 where
+  pub worker : 1 ≤ v
+  pub configured : v ≤ c.workers
+  pub other : v ≢ w
+  pub calls : HasOpenCall past v
+
+-- each descriptor that is not taken is held by such a worker, and each of these holds one at most
+pub record AreHeld (c : Config) (past : List Mark) (w : ℕ) (holder : ℕ → ℕ) : Type 0 where
+  pub held : (swap : ℕ) → swap < c.swaps → is_taken swap past ≡ false → IsOther c past w (holder swap)
+  pub one_each : (swap other : ℕ) → swap < c.swaps → other < c.swaps → is_taken swap past ≡ false → is_taken other past ≡ false → holder swap ≡ holder other → swap ≡ other
+
+-- then descriptors are spent
+abbrev pub HeldSwapsAreSpent : Type 0
+HeldSwapsAreSpent =
+    (c : Config) (start : List ℕ) (past : List Mark) (w : ℕ) (opened : Open) (holder : ℕ → ℕ) → AreHeld c past w holder → IsSpent c start past w opened Swaps
 
 -- where a flush or an eviction leaves the content, the words decode as before
 abbrev pub SameContentDecodes : Type 0
