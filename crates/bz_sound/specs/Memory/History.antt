@@ -24,6 +24,7 @@ pub record Happening : Type 0 where
   pub opened : Open
   pub at : ℕ
 
+-- the reply is not that something is spent
 abbrev pub IsNoFull : Reply → Type 0
 IsNoFull (Full spent) = ⊥
 IsNoFull reply = Unit {0}
@@ -56,10 +57,12 @@ pub record ShowsRange (pages : Pages) (map : Map) (call : Call) (page : ℕ) (ne
   pub asked : call ≡ calls.Page from
   pub pairs : slice_get pages page ≡ Some (pairs_within map from next)
 
+-- both are the same call of the same worker
 pub record SameCall (h k : Happening) : Type 0 where
   pub worker : h.worker ≡ k.worker
   pub number : h.opened.number ≡ k.opened.number
 
+-- the calls that happened are steps of one map, in the order of their moments
 pub record IsOneHistory (c : Config) (log : Log) : Type 0 where
   -- every End but that of a Full is one of a call that happened
   pub ends : (moment w n at : ℕ) (reply : Reply) → moment < length log.past → mark_at moment log.past ≡ Some (End w n reply at) → IsNoFull reply →
@@ -80,5 +83,6 @@ pub record IsOneHistory (c : Config) (log : Log) : Type 0 where
   -- a call that ended before another began happened before it
   pub order : (h k : Happening) (moment : ℕ) (reply : Reply) → EndedCall log.past h moment reply → Happens log.past k → moment < k.opened.begun → h.at < k.at
 
+-- so they are in every sound journal
 abbrev pub OneHistory : Type 0
 OneHistory = (c : Config) (log : Log) → IsSound c log → IsOneHistory c log
