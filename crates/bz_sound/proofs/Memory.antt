@@ -16,6 +16,9 @@ pub mod Counts
 pub mod Held
 pub mod Apart
 pub mod Between
+pub mod Balance
+pub mod RoomLeft
+pub mod OpenEffects
 pub mod Happened
 pub mod OneHistory
 pub mod Worked

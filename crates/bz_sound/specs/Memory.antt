@@ -7,5 +7,6 @@ pub mod Sound
 pub mod Laws
 pub mod ImageLaws
 pub mod CallLaws
+pub mod OpenCallLaws
 pub mod History
 pub mod Example

@@ -27,6 +27,12 @@ passing-filter p a (suc n) = ap (λ (rest : ℕ). cond (p a) 1 0 + rest) (passin
 pub passing-count : (p : ℕ → Bool) (a n : ℕ) → passing p a n ≡ count_by p (range_with_len a n)
 passing-count p a n = passing-filter p a n ∙ length-filter p (range_with_len a n)
 
+-- none where no number passes
+pub none-passing : (p : ℕ → Bool) (a n : ℕ) → ((i : ℕ) → p i ≡ false) → passing p a n ≡ 0
+unfolding passing
+none-passing p a zero none = refl
+none-passing p a (suc n) none = omega (arith, ap counts (none a), none-passing p (a + 1) n none)
+
 both : (b : Bool) → cond b 1 0 + cond (not b) 1 0 ≡ 1
 both true = refl
 both false = refl
@@ -60,7 +66,7 @@ past-one q x a (suc n) h =
     omega (arith, ap counts head, past-one q x (a + 1) n (omega arith))
 
 -- one fewer passes
-without-one : (q : ℕ → Bool) (x a n : ℕ) → a ≤ x → x < a + n → q x ≡ true → passing q a n ≡ 1 + passing (without q x) a n
+pub without-one : (q : ℕ → Bool) (x a n : ℕ) → a ≤ x → x < a + n → q x ≡ true → passing q a n ≡ 1 + passing (without q x) a n
 unfolding passing
 without-one q x a zero low high is = absurd (omega arith)
 without-one q x a (suc n) low high is = elim (cases_eq a x) [
