@@ -1,11 +1,11 @@
--- What is told of two tests that agree but at one number: how many pass, beside how many began and ended.
+-- A Begin or an End changes for one worker whether its call is open: how many are open, beside how many have begun and ended.
 use Rattle.std.proofs.Common.{◌≡◌, ◌≤◌, ◌<◌, ◌+◌, ◌==◌, ◌&&◌, ℕ, Bool, true, false, not, refl, ap, inl, inr, arith}
 use Rattle.std.specs.Prelude.{if◌then◌else◌}
 use Rattle.std.proofs.lemmas.Bool.{cases_eq}
 use Rattle.std.proofs.lemmas.Bool.Decides.{nat_tests}
 use Rattle.bz_sound.proofs.Memory.Counts.{passing, without, without-one, no-fewer}
 
--- of a longer range no fewer pass
+-- no fewer numbers of a longer range pass a weaker test
 pub more : (p q : ℕ → Bool) (n k : ℕ) → n ≤ k → ((i : ℕ) → p i ≡ true → q i ≡ true) → passing p 0 n ≤ passing q 0 k
 more p q n k h each = no-fewer p q (λ i. i) 0 n 0 k (record {
   lands = λ i low high is. record { low = omega arith; high = omega arith; passes = each i is };
@@ -29,6 +29,7 @@ different p v i none is = elim (cases_eq i v) [
   | inr other ↦ grind (arith, nat_tests)
 ]
 
+-- the first test passes one number more, or one fewer
 one-more : (p q : ℕ → Bool) (v n k : ℕ) → n ≤ k → v < k → p v ≡ true → ((i : ℕ) → (i == v) ≡ false → p i ≡ true → q i ≡ true) → passing p 0 n ≤ passing q 0 k + 1
 one-more p q v n k h within is each =
     omega (
@@ -46,7 +47,7 @@ one-fewer p q v n k h within none is each =
       more p (without q v) n k h (λ i pass. let other : (i == v) ≡ false = different p v i none pass in passes-but (q i) (i == v) (each i other pass) other),
     )
 
--- one worker's call begins, or ends
+-- the call of one worker begins, or ends, and is counted or not
 pub begin-balance : (b : Bool) (p q : ℕ → Bool) (v n ended begun : ℕ) → p v ≡ b → ((i : ℕ) → (i == v) ≡ false → p i ≡ true → q i ≡ true) → passing q 0 (n + v + 1) + ended ≤ begun
     → passing p 0 n + ended ≤ (if b then begun + 1 else begun)
 begin-balance true p q v n ended begun is each before = omega (arith, one-more p q v n (n + v + 1) (omega arith) (omega arith) is each, before)

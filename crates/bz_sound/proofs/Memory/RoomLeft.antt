@@ -1,5 +1,5 @@
--- While a call is open fewer calls have ended than have begun: of each kind, those that are open and those that have ended are
--- no more than those that have begun.
+-- While a call is open fewer calls have ended than have begun. Of a kind of calls those that are open and those that have
+-- ended are no more than those that have begun.
 use Rattle.std.proofs.Common.{◌≡◌, ◌≤◌, ◌<◌, ◌+◌, ◌==◌, ℕ, Bool, true, false, List, [], ◌∷◌, length, refl, sym, ap, ◌∙◌, arith, Option, Some, None}
 use Rattle.std.specs.Prelude.{if◌then◌else◌, option_map, IsSomeAnd}
 use Rattle.std.proofs.lemmas.Bool.Decides.{nat_tests}
@@ -60,7 +60,7 @@ is-kind kind (Some opened) = kind opened.call
 abbrev asks : (Call → Bool) → List Mark → ℕ → Bool
 asks kind past v = is-kind kind (open_call v past)
 
--- what an open call is of after a mark of its own worker, and of another
+-- the open call after a mark of its own worker, and of another
 own : {A : Type 0} (v : ℕ) (fresh rest : A) → (if v == v then fresh else rest) ≡ fresh
 own v fresh rest = let same : (v == v) ≡ true = grind (arith, nat_tests) in rw same refl
 
