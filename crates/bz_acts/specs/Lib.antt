@@ -2,3 +2,4 @@ pub mod Made
 pub mod Parts
 pub mod Ready
 pub mod Rule
+pub mod Writes

@@ -18,6 +18,7 @@ use Rattle.bz_acts.specs.declared.help.Helped.{Helped}
 use Rattle.bz_acts.specs.Made.{beside_in}
 use Rattle.bz_acts.specs.Ready.{LiesOutside}
 use Rattle.bz_acts.specs.Rule.{IsActOf, IsToldAt, is_flush_act}
+use Rattle.bz_acts.specs.Writes.{HelpsBy, WritesAt}
 
 -- this act leads from the one store to the other, whose words can be read too
 pub record IsMade (old : Store) (act : Act) (new : Store) : Type 0 where
@@ -49,6 +50,7 @@ pub record IsHelp (x : Entries) (old : Store) (w s : ℕ) (step : HelpStep) (hel
   pub memory : (b : Beside) → typed new b ≡ (help_act x (typed old b) w s step).memory
   pub next : (b : Beside) → helped.next ≡ (help_act x (typed old b) w s step).next
   pub flush : is_flush_act helped.act ≡ helps_by_flush step
+  pub writes : HelpsBy old.swaps s step helped.act
   pub made : IsMade old helped.act new
 
 -- what the machine makes at a worker's place
@@ -62,4 +64,5 @@ pub record IsStep (old : Store) (from : Worker) (w : ℕ) (place : Place) (acted
   pub memory : (b : Beside) → typed new (beside_in (made_at old b from w place).memory) ≡ (made_at old b from w place).memory
   pub flush : is_flush_act acted.act ≡ is_flush place
   pub told : IsToldAt place acted.act
+  pub writes : WritesAt old.swaps from place acted.act
   pub made : IsMade old acted.act new

@@ -1,10 +1,13 @@
 //! Acts on descriptors, and what each act was.
 
 ghost use Rattle.std.specs.Prelude.{◌≡◌, ◌≢◌, ◌<◌, ◌≤◌, true, false};
+ghost use Rattle.bz_layout.specs.Addresses.{swap_address};
 ghost use Rattle.bz_machine.specs.Changes.{with_status, with_field, with_durable_head, with_durable_fields, in_tail};
-ghost use Rattle.bz_cells.specs.Store.{Beside, IsStore, descriptor_word_at, status_at, typed};
+ghost use Rattle.bz_cells.specs.Store.{Beside, IsStore, descriptor_word_at, field_address, status_at, status_word, typed};
 ghost use Rattle.bz_acts.specs.Parts.{IsMade};
 ghost use Rattle.bz_acts.specs.Rule.{is_flush_act};
+ghost use Rattle.bz_acts.specs.Writes.{StaysOutside};
+ghost use Rattle.bz_acts.specs.declared.acted.Act.TheVariants.{Store, Cas};
 
 use crate::acted::Act;
 use bz_cells::{Cells, field_at, swap_at, word_of_status};
@@ -25,6 +28,7 @@ pub(crate) fn load_status(cells: &Cells, swap: u16) -> FoundStatus
     ensures found { result.status ≡ status_at cells.now.swaps cells.now.cached swap }
     ensures made { IsMade cells.now result.act cells.now }
     ensures flush { is_flush_act result.act ≡ false }
+    ensures writes { StaysOutside cells.now.swaps result.act }
 {
     let status = cells.load_status(swap);
     FoundStatus {
@@ -50,6 +54,7 @@ pub(crate) fn cas_status(
     ensures unchanged { result.status ≢ old → cells.new ≡ cells.old }
     ensures made { IsMade cells.old result.act cells.new }
     ensures flush { is_flush_act result.act ≡ false }
+    ensures told { result.act ≡ Cas (swap_address swap) (status_word old) (status_word new) (status_word result.status) }
 {
     let status = cells.cas_status(swap, old, new);
     FoundStatus {
@@ -70,6 +75,7 @@ pub(crate) fn store_status(cells: &mut Cells, swap: u16, new: SwapStatus) -> Act
     ensures changed { (b : Beside) → typed cells.new b ≡ with_status (typed cells.old b) swap new }
     ensures made { IsMade cells.old result cells.new }
     ensures flush { is_flush_act result ≡ false }
+    ensures told { result ≡ Store (swap_address swap) (status_word new) }
 {
     cells.store_status(swap, new);
     Act::Store {
@@ -85,6 +91,7 @@ pub(crate) fn flush_head(cells: &mut Cells, swap: u16) -> Act
     ensures changed { (b : Beside) → typed cells.new b ≡ with_durable_head (typed cells.old b) swap }
     ensures made { IsMade cells.old result cells.new }
     ensures flush { is_flush_act result ≡ true }
+    ensures writes { StaysOutside cells.old.swaps result }
 {
     cells.flush_head(swap);
     Act::Flush {
@@ -99,6 +106,7 @@ pub(crate) fn flush_tail(cells: &mut Cells, swap: u16) -> Act
     ensures changed { (b : Beside) → typed cells.new b ≡ with_durable_fields (typed cells.old b) swap in_tail }
     ensures made { IsMade cells.old result cells.new }
     ensures flush { is_flush_act result ≡ true }
+    ensures writes { StaysOutside cells.old.swaps result }
 {
     cells.flush_tail(swap);
     Act::Flush {
@@ -114,6 +122,7 @@ pub(crate) fn store_field(cells: &mut Cells, swap: u16, number: u8, value: u64) 
     ensures changed { (b : Beside) → typed cells.new b ≡ with_field (typed cells.old b) swap number value }
     ensures made { IsMade cells.old result cells.new }
     ensures flush { is_flush_act result ≡ false }
+    ensures told { result ≡ Store (field_address swap number) value }
 {
     cells.store_field(swap, number, value);
     Act::Store {
@@ -130,6 +139,7 @@ pub(crate) fn load_field(cells: &Cells, swap: u16, number: u8) -> (u64, Act)
     ensures found { result.0 ≡ descriptor_word_at cells.now.swaps cells.now.cached swap number }
     ensures made { IsMade cells.now result.1 cells.now }
     ensures flush { is_flush_act result.1 ≡ false }
+    ensures writes { StaysOutside cells.now.swaps result.1 }
 {
     let word = cells.load_field(swap, number);
     let act = Act::Load {

@@ -8,6 +8,7 @@ ghost use Rattle.bz_acts.specs.Made.{made, beside_in};
 ghost use Rattle.bz_acts.specs.Parts.{IsStep};
 ghost use Rattle.bz_acts.specs.Ready.{IsReady, IsReadyAt};
 ghost use Rattle.bz_acts.specs.Rule.{IsActOf, IsToldAt, is_flush_act};
+ghost use Rattle.bz_acts.specs.Writes.{WritesAt};
 
 use crate::acted::Acted;
 use crate::help::help;
@@ -45,6 +46,7 @@ pub fn act(cells: &mut Cells, worker: &mut Worker, w: u8) -> Acted
     ensures words { IsActOf (words_of cells.old) result.act (words_of cells.new) }
     ensures flush { is_flush_act result.act ≡ is_flush worker.old.place }
     ensures told { IsToldAt worker.old.place result.act }
+    ensures writes { WritesAt cells.old.swaps worker.old worker.old.place result.act }
     ensures typed { IsStore cells.new }
     ensures shape { SameShape cells.old cells.new }
 {

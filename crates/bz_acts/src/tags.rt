@@ -10,6 +10,7 @@ ghost use Rattle.bz_cells.specs.Store.{Beside, IsStore, MayTag, kind_at, typed};
 ghost use Rattle.bz_acts.specs.Parts.{IsHelp, IsMade, is_other_value};
 ghost use Rattle.bz_acts.specs.Ready.{IsUsable, LiesOutside};
 ghost use Rattle.bz_acts.specs.Rule.{is_flush_act};
+ghost use Rattle.bz_acts.specs.Writes.{StaysOutside};
 
 use crate::descriptor::load_status;
 use crate::entry::aim_of;
@@ -69,6 +70,7 @@ fn put_tag(cells: &mut Cells, a: u32, expected: u64, swap: u16, entry: u8, worke
         typed cells.new b ≡ (after_install_by x (typed cells.old b) worker swap entry result.kind).memory }
     ensures made { IsMade cells.old result.act cells.new }
     ensures flush { is_flush_act result.act ≡ false }
+    ensures writes { StaysOutside cells.old.swaps result.act }
 {
     let found = cas_tag(cells, a, expected, swap, entry, worker);
     if is_miss(found.kind, expected) {
@@ -141,6 +143,7 @@ fn untag(
         result.next ≡ (after_untag x m tag.swap tag.entry tag.worker tag.seq new changed unchanged (kind_at cells.old.swaps cells.old.cached a)).next }
     ensures made { IsMade cells.old result.act cells.new }
     ensures flush { is_flush_act result.act ≡ false }
+    ensures writes { StaysOutside cells.old.swaps result.act }
 {
     let word = WordKind::Tag {
         swap: tag.swap,

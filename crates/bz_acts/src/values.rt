@@ -9,6 +9,7 @@ ghost use Rattle.bz_cells.specs.Store.{Beside, IsStore, kind_at, typed};
 ghost use Rattle.bz_acts.specs.Parts.{IsHelp, IsMade};
 ghost use Rattle.bz_acts.specs.Ready.{IsUsable, LiesOutside};
 ghost use Rattle.bz_acts.specs.Rule.{is_flush_act};
+ghost use Rattle.bz_acts.specs.Writes.{StaysOutside};
 
 use crate::acted::Act;
 use crate::entry::{Aim, aim_of};
@@ -26,6 +27,7 @@ pub(crate) fn clear_value(cells: &mut Cells, a: u32, value: u64) -> Act
     ensures memory { (b : Beside) → typed cells.new b ≡ cleared_word (typed cells.old b) a value (kind_at cells.old.swaps cells.old.cached a) }
     ensures made { IsMade cells.old result cells.new }
     ensures flush { is_flush_act result ≡ false }
+    ensures writes { StaysOutside cells.old.swaps result }
 {
     cas_word(cells, a, WordKind::Dirty(value), WordKind::Value(value)).act
 }

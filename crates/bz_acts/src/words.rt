@@ -8,6 +8,7 @@ ghost use Rattle.bz_cells.specs.Store.{Beside, IsStore, MayTag, kind_at, typed};
 ghost use Rattle.bz_acts.specs.Parts.{IsMade};
 ghost use Rattle.bz_acts.specs.Ready.{LiesOutside};
 ghost use Rattle.bz_acts.specs.Rule.{is_flush_act};
+ghost use Rattle.bz_acts.specs.Writes.{StaysOutside};
 ghost use Rattle.bz_acts.specs.declared.acted.Act.TheVariants.{Load, Store, Flush};
 
 use crate::acted::Act;
@@ -29,6 +30,7 @@ pub(crate) fn load_word(cells: &Cells, a: u32) -> FoundKind
     ensures found { result.kind ≡ kind_at cells.now.swaps cells.now.cached a }
     ensures made { IsMade cells.now result.act cells.now }
     ensures flush { is_flush_act result.act ≡ false }
+    ensures writes { StaysOutside cells.now.swaps result.act }
     ensures told { result.act ≡ Load a (word result.kind) }
 {
     let kind = cells.load_word(a);
@@ -52,6 +54,7 @@ pub(crate) fn cas_word(cells: &mut Cells, a: u32, old: WordKind, new: WordKind) 
     ensures unchanged { result.kind ≢ old → cells.new ≡ cells.old }
     ensures made { IsMade cells.old result.act cells.new }
     ensures flush { is_flush_act result.act ≡ false }
+    ensures writes { StaysOutside cells.old.swaps result.act }
 {
     let kind = cells.cas_word(a, old, new);
     FoundKind {
@@ -85,6 +88,7 @@ pub(crate) fn cas_tag(
     ensures unchanged { result.kind ≢ Value expected → cells.new ≡ cells.old }
     ensures made { IsMade cells.old result.act cells.new }
     ensures flush { is_flush_act result.act ≡ false }
+    ensures writes { StaysOutside cells.old.swaps result.act }
 {
     let tag = WordKind::Tag {
         swap,
@@ -125,6 +129,7 @@ pub(crate) fn flush_word(cells: &mut Cells, a: u32) -> Act
     ensures changed { (b : Beside) → typed cells.new b ≡ with_copies (typed cells.old b) (in_line a) }
     ensures made { IsMade cells.old result cells.new }
     ensures flush { is_flush_act result ≡ true }
+    ensures writes { StaysOutside cells.old.swaps result }
     ensures told { result ≡ Flush (a / 8) }
 {
     cells.flush_word(a);

@@ -10,5 +10,6 @@ returns c = λ w. record {
   memory = λ b. c.flush_tail-act.ensures.changed (record b { published = put b.published c.args.worker.now.current true });
   flush = c.flush_tail-act.ensures.flush;
   told = tt;
+  writes = c.flush_tail-act.ensures.writes;
   made = c.flush_tail-act.ensures.made;
 }

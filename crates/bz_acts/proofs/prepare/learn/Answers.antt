@@ -9,5 +9,6 @@ returns c = λ w. record {
   memory = λ b. refl;
   flush = c.load_field-word.ensures.flush;
   told = tt;
+  writes = c.load_field-word.ensures.writes;
   made = c.load_field-word.ensures.made;
 }

@@ -11,5 +11,6 @@ returns c = λ w.
       memory = λ b. rw same at c.flush_word.ensures.changed b;
       flush = c.flush_word.ensures.flush;
       told = rw same at c.flush_word.ensures.told;
+      writes = c.flush_word.ensures.writes;
       made = c.flush_word.ensures.made;
     }

@@ -8,5 +8,6 @@ returns c = λ w. record {
   memory = λ b. c.store_value.ensures.changed b;
   flush = c.store_value.ensures.flush;
   told = c.store_value.ensures.told;
+  writes = c.store_value.ensures.told;
   made = c.store_value.ensures.made;
 }

@@ -13,5 +13,6 @@ returns c = λ w.
       memory = λ b. rw (← aim.target, ← to) (c.untag.ensures.memory x b (sym aim.target));
       next = λ b. rw (← aim.target, ← to) (c.untag.ensures.next x (typed c.args.cells.now b));
       flush = c.untag.ensures.flush;
+      writes = c.untag.ensures.writes;
       made = c.untag.ensures.made;
     }

@@ -12,5 +12,6 @@ returns c = λ w s.
       memory = λ b. rw (← aim.target, ← last) (c.clear_value.ensures.memory b);
       next = λ b. c.finished.ensures x (sym aim.count);
       flush = c.clear_value.ensures.flush;
+      writes = c.clear_value.ensures.writes;
       made = c.clear_value.ensures.made;
     }

@@ -16,5 +16,6 @@ returns c = λ w.
           (put x c.args.cells.now c.cas_word-found.new.cells b c.aim_of-aim.result.target c.args.swap c.args.entry c.final_value.result c.args.verdict c.cas_word-found.result.kind (sym aim.target) last found.changed found.unchanged);
       next = λ b. rw (← aim.target, ← found.found) (c.after_put_final.ensures x (typed c.args.cells.now b) (sym aim.count));
       flush = found.flush;
+      writes = found.writes;
       made = found.made;
     }

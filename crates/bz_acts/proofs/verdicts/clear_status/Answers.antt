@@ -7,5 +7,6 @@ returns c = λ x w. record {
   memory = λ b. rw (← c.cas_status-found.ensures.found) (cleared-status _ _ b c.args.swap c.args.verdict c.cas_status-found.result.status c.cas_status-found.ensures.changed c.cas_status-found.ensures.unchanged);
   next = λ b. refl;
   flush = c.cas_status-found.ensures.flush;
+  writes = (_, c.cas_status-found.ensures.told);
   made = c.cas_status-found.ensures.made;
 }
