@@ -99,8 +99,10 @@ held p r phase =
     let f = shows p r phase in
     let sound = r.state.sound in
     record {
+      memory = r.words.has_room.memory;
       lawful = λ a out. record { word = r.words.durable.kinds a out; kind = lawful-kind p r a _ refl };
       status = λ s below. (let told : nat_lt s p.store.swaps ≡ true = grind (arith, common_steps) in rw told (sym (r.words.durable.statuses s below)));
+      cached_status = λ s below. (let told : nat_lt s p.store.swaps ≡ true = grind (arith, common_steps) in rw told (sym (r.words.cached.statuses s below)));
       plain = λ a v named is. value_is p r a ∙ sym (sound.same a _ refl (sym (f.named a) ∙ named)) ∙ ap (λ x. resolved r.entries (status_at p.store.swaps p.store.durable) a x) is;
       targets = λ s. targets-lie p r s phase (cases_lt s p.store.taken);
       private = λ a out private.

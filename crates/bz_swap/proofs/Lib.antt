@@ -25,6 +25,8 @@ pub mod SeenAnswers
 pub mod SeenEvictions
 pub mod SeenSteps
 pub mod SeenSwaps
+pub mod SeenVerdicts
+pub mod SeenWrites
 pub mod Shown
 pub mod Spellings
 pub mod Starting

@@ -23,6 +23,7 @@ use Rattle.bz_machine.proofs.EventLaws.{acts_atomically}
 use Rattle.bz_cells.specs.Store.{Store, IsOutside, kind_at, typed, words_of}
 use Rattle.bz_acts.specs.Made.{made}
 use Rattle.bz_acts.specs.Rule.{IsActOf, IsToldAt, is_flush_act}
+use Rattle.bz_acts.specs.Writes.{WritesAt}
 use Rattle.bz_acts.specs.declared.acted.Act.{Act}
 use Rattle.bz_acts.specs.declared.acted.Act.TheVariants.{Load}
 use Rattle.bz_swap.specs.declared.phase.Phase.TheVariants.{Recovering}
@@ -36,6 +37,8 @@ use Rattle.bz_swap.proofs.Doings.{worker-seen, doing-going, done-idle}
 use Rattle.bz_swap.proofs.HeldWords.{plain-raw, outside_told}
 use Rattle.bz_swap.proofs.SeenAnswers.{answer-shown}
 use Rattle.bz_swap.proofs.SeenSteps.{after-shows, step-effect, told-path, told_effect}
+use Rattle.bz_swap.proofs.SeenVerdicts.{decided-seen}
+use Rattle.bz_swap.proofs.SeenWrites.{writes-seen}
 use Rattle.bz_swap.proofs.Shown.{shows, begun-running, misses-shown}
 use Rattle.bz_swap.proofs.Untouched.{kept-act}
 use Rattle.bz_swap.proofs.Stepped.{Acts, MayStep, after_step, same-worker, other-worker}
@@ -47,6 +50,7 @@ pub record IsMadeAct (p : Parts) (w : ℕ) (store : Store) (told : Act) : Type 0
   pub rule : IsActOf (words_of p.store) told (words_of store)
   pub flush : is_flush_act told ≡ is_flush (worker_at p w).place
   pub is_told : IsToldAt (worker_at p w).place told
+  pub writes : WritesAt p.store.swaps (worker_at p w) (worker_at p w).place told
 
 -- where a worker's act leads
 pub leads-made : (p : Parts) (r : IsRunning p) (w : ℕ) → MayStep p w → Leads (local_of (worker_at p w)) (worker_at p w).place (made p.store r.beside (worker_at p w) w)
@@ -190,4 +194,6 @@ step-seen p r w store l done told may phase a made_act =
         | inl busy ↦ inl (a.is_done ∙ busy)
         | inr none ↦ inr (told-path p r w store l done a ∙ none)
       ];
+      writes = writes-seen p r w told phase made_act.writes;
+      decided = λ s won own ends. decided-seen p r w store l done may a s won own ends;
     }

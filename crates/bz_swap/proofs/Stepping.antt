@@ -12,6 +12,7 @@ use Rattle.bz_machine.specs.Workers.{local_of}
 use Rattle.bz_acts.specs.Made.{made, beside_in}
 use Rattle.bz_acts.specs.Ready.{IsReady}
 use Rattle.bz_acts.specs.Rule.{IsActOf, IsToldAt, is_flush_act}
+use Rattle.bz_acts.specs.Writes.{WritesAt}
 use Rattle.bz_cells.specs.Store.{Store, Beside, IsStore, SameShape, typed, words_of}
 use Rattle.bz_swap.specs.declared.phase.Phase.{Phase}
 use Rattle.bz_swap.specs.declared.phase.Phase.TheVariants.{Opened, Running, Recovering}
@@ -88,11 +89,13 @@ acts-read p b w old store l done is local is_done memory words shape = record {
 }
 
 pub made-read : (p : Parts) (w : ℕ) (old : Worker) (store : Store) (told : Act) → old ≡ worker_at p w
-    → IsActOf (words_of p.store) told (words_of store) → is_flush_act told ≡ is_flush old.place → IsToldAt old.place told → IsMadeAct p w store told
-made-read p w old store told is rule flush is_told = record {
+    → IsActOf (words_of p.store) told (words_of store) → is_flush_act told ≡ is_flush old.place → IsToldAt old.place told → WritesAt p.store.swaps old old.place told
+    → IsMadeAct p w store told
+made-read p w old store told is rule flush is_told writes = record {
   rule = rule;
   flush = subst (λ u. is_flush_act told ≡ is_flush u.place) is flush;
   is_told = subst (λ u. IsToldAt u.place told) is is_told;
+  writes = subst (λ u. WritesAt p.store.swaps u u.place told) is writes;
 }
 
 pub ready-read : (p : Parts) (r : IsRunning p) (w : ℕ) (old : Worker) → old ≡ worker_at p w → MayStep p w → length p.workers ≡ length p.store.next_tags → IsReady p.store old w

@@ -4,16 +4,21 @@ use Rattle.bz_word.specs.declared.entry.Entry.{Entry}
 use Rattle.bz_word.specs.declared.kind.WordKind.TheVariants.{Value}
 use Rattle.bz_cells.specs.Store.{IsOutside, kind_at, status_word, status_at}
 use Rattle.bz_layout.specs.Addresses.{swap_address}
+use Rattle.bz_pm.specs.Words.{IsMemory}
 use Rattle.bz_swap.specs.declared.phase.Phase.{Phase}
 use Rattle.bz_swap.specs.declared.phase.Phase.TheVariants.{Opened, Running, Recovering}
 use Rattle.bz_swap.specs.Lawful.{IsLawful}
-use Rattle.bz_swap.specs.SwapMemory.{SwapMemory, value_at, entries_of, is_named}
+use Rattle.bz_swap.specs.SwapMemory.{SwapMemory, words_of, value_at, entries_of, is_named}
 use Rattle.bz_swap.specs.Starts.{IsAddress}
 
 pub record IsHeld (m : SwapMemory) : Type 0 where
-  -- every word outside the descriptors is lawful, in the memory itself; each descriptor's status is one
+  -- a durable word for each cached one, in whole lines
+  pub memory : IsMemory (words_of m)
+  -- every word outside the descriptors is lawful, in the memory itself; each descriptor's status is one, in the
+  -- caches too
   pub lawful : (a : ℕ) → IsOutside m.swaps a → IsLawful m.swaps m.durable a
   pub status : (s : ℕ) → s < m.swaps → slice_index m.durable (swap_address s) ≡ status_word (status_at m.swaps m.durable s)
+  pub cached_status : (s : ℕ) → s < m.swaps → slice_index m.cached (swap_address s) ≡ status_word (status_at m.swaps m.cached s)
   -- a plain word in the caches of a named address is its value
   pub plain : (a v : ℕ) → is_named m a ≡ true → kind_at m.swaps m.cached a ≡ Value v → value_at m a ≡ v
   -- the targets of the swaps begun lie outside the descriptors, within the memory

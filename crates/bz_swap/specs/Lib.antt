@@ -13,3 +13,4 @@ pub mod Roles
 pub mod Starts
 pub mod Steps
 pub mod SwapMemory
+pub mod Writes

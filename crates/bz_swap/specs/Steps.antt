@@ -1,5 +1,5 @@
 -- What one step of a worker does.
-use Rattle.std.specs.Prelude.{◌≡◌, ◌≢◌, ◌⊎◌, ℕ, ◌+◌, ◌^◌, ◌<◌, true, false, length, slice_index, Option, None}
+use Rattle.std.specs.Prelude.{◌≡◌, ◌≢◌, ◌⊎◌, ℕ, ◌+◌, ◌^◌, ◌<◌, Bool, true, false, length, slice_index, Option, None}
 use Rattle.bz_acts.specs.Rule.{IsActOf, is_flush_act}
 use Rattle.bz_acts.specs.declared.acted.Act.{Act}
 use Rattle.bz_acts.specs.declared.acted.Act.TheVariants.{Load, Store, Flush}
@@ -10,6 +10,7 @@ use Rattle.bz_swap.specs.declared.phase.Phase.{Phase}
 use Rattle.bz_swap.specs.declared.phase.Phase.TheVariants.{Opened, Running, Recovering}
 use Rattle.bz_swap.specs.SwapMemory.{SwapMemory, Doing, Idle, Reading, Swapping, Loading, Storing, Flushing, words_of, value_at, has_effect, is_missed, is_named, worker_of, doing_of}
 use Rattle.bz_swap.specs.Effects.{EffectIs, NotesMisses}
+use Rattle.bz_swap.specs.Writes.{WritesLawfully, IsDecided}
 
 -- a read answers at a load that found the plain word, which is the value of the address
 pub record AnswersRead (m : SwapMemory) (a : ℕ) (act : Act) (v : ℕ) : Type 0 where
@@ -55,13 +56,16 @@ pub record IsOneAct (old : SwapMemory) (w : ℕ) (made : Act) (done : Done) (new
   pub answer : IsAnswer new (doing_of old w) made done
 
 -- and outside a recovery time: the effect that is told; misses; a private word changes in the caches only by the
--- private store at it; an act that gives a swap its effect answers nothing
+-- private store at it; an act that gives a swap its effect answers nothing; what is written into descriptors; a swap that
+-- is answered is decided so
 pub record IsStep (old : SwapMemory) (w : ℕ) (made : Act) (done : Done) (told : Option ℕ) (new : SwapMemory) : Type 0 where
   pub one : IsOneAct old w made done new
   pub effect : EffectIs old new told
   pub misses : NotesMisses old new
   pub untouched : (a : ℕ) → IsOutside old.swaps a → is_named old a ≡ false → ((v : ℕ) → doing_of old w ≢ Storing a v) → slice_index new.cached a ≡ slice_index old.cached a
   pub later : (done ≡ Busy) ⊎ (told ≡ None)
+  pub writes : WritesLawfully old w made
+  pub decided : (s : ℕ) (won : Bool) → doing_of old w ≡ Swapping s → done ≡ Swapped won → IsDecided new s won
 
 -- in a recovery time
 pub record IsRawStep (old : SwapMemory) (w : ℕ) (made : Act) (done : Done) (told : Option ℕ) (new : SwapMemory) : Type 0 where
