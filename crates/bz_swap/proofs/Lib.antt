@@ -1,10 +1,12 @@
 pub mod Begun
 pub mod Cutting
 pub mod Doings
+pub mod EffectsInside
 pub mod EntryLists
 pub mod EntrySteps
 pub mod Evicted
 pub mod Evicting
+pub mod FieldsStay
 pub mod Frames
 pub mod Fresh
 pub mod Going
@@ -42,4 +44,5 @@ pub mod Taken
 pub mod TestWorlds
 pub mod Untouched
 pub mod Values
+pub mod WordActs
 pub mod WorkStarts

@@ -1,3 +1,4 @@
+pub mod EffectPlaces
 pub mod Effects
 pub mod EntryLists
 pub mod Evicted
@@ -6,6 +7,7 @@ pub mod Held
 pub mod Kept
 pub mod Lawful
 pub mod Parts
+pub mod PlainFields
 pub mod Power
 pub mod Raw
 pub mod Resolve

@@ -7,6 +7,7 @@ mod begin;
 mod cut;
 mod entry_list;
 mod eviction;
+pub mod laws;
 mod phase;
 mod power;
 mod progress;

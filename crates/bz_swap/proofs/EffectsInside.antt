@@ -1,0 +1,105 @@
+-- A swap takes effect in its descriptor alone.
+use Rattle.std.specs.Prelude.{◌≡◌, ◌≢◌, ◌⊎◌, nat_lt, ℕ, ◌+◌, ◌*◌, ◌/◌, ◌<◌, ◌≤◌, Bool, true, false, List, slice_index, Some, None}
+use Rattle.std.specs.declared.option.Option.{Option}
+use Rattle.std.proofs.Common.{arith, refl, ap, sym, subst, ◌∙◌, inl, inr}
+use Rattle.std.proofs.lemmas.Bool.{cases_eq, cases_lt, true≢false}
+use Rattle.std.proofs.lemmas.Grind.{common_steps}
+use Rattle.bz_layout.specs.Addresses.{swap_address}
+use Rattle.bz_machine.specs.declared.done.Done.{Done}
+use Rattle.bz_machine.specs.Machine.{is_succeeded}
+use Rattle.bz_pm.specs.Words.{Words, IsMemory}
+use Rattle.bz_acts.specs.Rule.{after_act}
+use Rattle.bz_acts.specs.declared.acted.Act.{Act}
+use Rattle.bz_acts.specs.declared.acted.Act.TheVariants.{Load, Store, Cas, Flush}
+use Rattle.bz_cells.specs.Store.{IsOutside, status_of}
+use Rattle.bz_swap.specs.declared.phase.Phase.{Phase}
+use Rattle.bz_swap.specs.declared.phase.Phase.TheVariants.{Opened, Running, Recovering}
+use Rattle.bz_swap.specs.EffectPlaces.{KeepsDurableOutside, EffectsByFlush, EffectsByEviction, EffectsStayInside}
+use Rattle.bz_swap.specs.Effects.{TakesEffect}
+use Rattle.bz_swap.specs.Evictions.{IsEviction, EvictsIn}
+use Rattle.bz_swap.specs.Held.{IsHeld}
+use Rattle.bz_swap.specs.Steps.{IsStep}
+use Rattle.bz_swap.specs.SwapMemory.{SwapMemory, words_of, has_effect}
+use Rattle.bz_swap.proofs.WordActs.{set-other, flushed-other}
+
+-- a word outside the descriptors is no status, nor in the line of one
+outside-status : (swaps a s : ℕ) → IsOutside swaps a → s < swaps → a ≢ swap_address s
+outside-status swaps a s (inl below) lt = omega arith
+outside-status swaps a s (inr above) lt = omega arith
+
+outside-line : (swaps a s : ℕ) → IsOutside swaps a → s < swaps → a / 8 ≢ swap_address s / 8
+outside-line swaps a s (inl below) lt = omega arith
+outside-line swaps a s (inr above) lt = omega arith
+
+-- the swap is one of the memory
+effect-number : (new : SwapMemory) (s : ℕ) → has_effect new s ≡ true → s < new.swaps
+effect-number new s done = elim (cases_lt s new.swaps) [
+  | inl below ↦ below
+  | inr past ↦ (let none : nat_lt s new.swaps ≡ false = grind (arith, common_steps) in absurd (true≢false (sym done ∙ rw none refl)))
+]
+
+-- where its durable status stays, it takes no effect
+no-effect : (old new : SwapMemory) (s : ℕ) → new.swaps ≡ old.swaps → TakesEffect old new s → slice_index new.durable (swap_address s) ≡ slice_index old.durable (swap_address s) → ⊥
+no-effect old new s swaps t same =
+    let number = effect-number new s t.done in
+    let before : nat_lt s old.swaps ≡ true = grind (arith, common_steps, number, swaps) in
+    let after : nat_lt s new.swaps ≡ true = grind (arith, common_steps, number) in
+    let succeeds : is_succeeded (status_of (slice_index new.durable (swap_address s))) ≡ true = rw after at t.done in
+    let not : is_succeeded (status_of (slice_index old.durable (swap_address s))) ≡ false = rw before at t.before in
+    true≢false (sym succeeds ∙ ap (λ x. is_succeeded (status_of x)) same ∙ not)
+
+-- an act that gives a swap its effect
+effect-act : (old new : SwapMemory) (s : ℕ) (made : Act) → IsMemory (words_of old) → new.swaps ≡ old.swaps → words_of new ≡ after_act (words_of old) made → TakesEffect old new s → EffectsByFlush old new made s
+effect-act old new s (Load a v) i swaps after t = absurd (no-effect old new s swaps t (ap (λ (m : Words). slice_index m.durable (swap_address s)) after))
+effect-act old new s (Store a v) i swaps after t = absurd (no-effect old new s swaps t (ap (λ (m : Words). slice_index m.durable (swap_address s)) after))
+effect-act old new s (Cas a before now found) i swaps after t = absurd (no-effect old new s swaps t (ap (λ (m : Words). slice_index m.durable (swap_address s)) after))
+effect-act old new s (Flush line) i swaps after t = by_line (cases_eq line (swap_address s / 8))
+  where
+    number : s < old.swaps
+    number = rw swaps at (effect-number new s t.done)
+
+    elsewhere : (b : ℕ) → b / 8 ≢ line → slice_index new.durable b ≡ slice_index old.durable b
+    elsewhere b other = ap (λ (m : Words). slice_index m.durable b) after ∙ flushed-other (words_of old) line b i other
+
+    by_line : (line ≡ swap_address s / 8) ⊎ (line ≢ swap_address s / 8) → EffectsByFlush old new (Flush line) s
+    by_line (inl here) = record {
+      number = number;
+      act = ap Flush here;
+      outside = λ a out. elsewhere a (λ is. outside-line old.swaps a s out number (is ∙ here));
+    }
+    by_line (inr other) = absurd (no-effect old new s swaps t (elsewhere (swap_address s) (λ is. other (sym is))))
+
+effect-step : (old new : SwapMemory) (w : ℕ) (made : Act) (done : Done) (s : ℕ) → IsHeld old → IsStep old w made done (Some s) new → EffectsByFlush old new made s
+effect-step old new w made done s held step = effect-act old new s made held.memory step.one.others.swaps step.one.act.after step.effect
+
+-- an eviction that does
+takes-effect : (phase : Phase) (old new : SwapMemory) (s : ℕ) → EvictsIn phase old (Some s) new → TakesEffect old new s
+takes-effect Opened old new s t = t
+takes-effect Running old new s t = t
+takes-effect Recovering old new s t = absurd cc
+
+effect-eviction : (old new : SwapMemory) (a s : ℕ) → IsEviction old a (Some s) new → EffectsByEviction old new a s
+effect-eviction old new a s h = by_address (cases_eq a (swap_address s))
+  where
+    t : TakesEffect old new s
+    t = takes-effect old.phase old new s h.effect
+
+    swaps : new.swaps ≡ old.swaps
+    swaps = ap (λ (m : SwapMemory). m.swaps) h.is
+
+    number : s < old.swaps
+    number = rw swaps at (effect-number new s t.done)
+
+    elsewhere : (b : ℕ) → b ≢ a → slice_index new.durable b ≡ slice_index old.durable b
+    elsewhere b other = ap (λ (m : SwapMemory). slice_index m.durable b) h.is ∙ set-other old.durable a (slice_index old.cached a) b other
+
+    by_address : (a ≡ swap_address s) ⊎ (a ≢ swap_address s) → EffectsByEviction old new a s
+    by_address (inl here) = record {
+      number = number;
+      address = here;
+      outside = λ b out. elsewhere b (λ is. outside-status old.swaps b s out number (is ∙ here));
+    }
+    by_address (inr other) = absurd (no-effect old new s swaps t (elsewhere (swap_address s) (λ is. other (sym is))))
+
+pub effects_stay_inside : EffectsStayInside
+effects_stay_inside = record { step = effect-step; eviction = effect-eviction }

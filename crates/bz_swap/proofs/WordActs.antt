@@ -1,0 +1,44 @@
+-- Words after a store at an address, or after the flush of a line, by address.
+use Rattle.std.specs.Prelude.{◌≡◌, ◌≢◌, ◌==◌, if◌then◌else◌, ℕ, ◌+◌, ◌*◌, ◌/◌, ◌%◌, ◌<◌, ◌≤◌, Bool, true, false, List, length, get_or, slice_index, slice_set}
+use Rattle.std.proofs.Common.{rules, arith, refl, sym, subst, ◌∙◌, inl, inr}
+use Rattle.std.proofs.lemmas.Bool.{cases_eq, cases_lt}
+use Rattle.std.proofs.lemmas.Grind.{common_steps}
+use Rattle.std.proofs.lemmas.List.{get_or-set_same, get_or-set_other, get_or_past, length-set, take_all, drop_all, append-nil}
+use Rattle.bz_pm.specs.Acts.{with_range, with_line, flushed}
+use Rattle.bz_pm.specs.Laws.{flush}
+use Rattle.bz_pm.specs.Words.{Words, IsMemory}
+
+-- a word that is below a bound, where what is stored at it is
+pub set-below : (words : List ℕ) (a v b n : ℕ) → (b ≡ a → v < n) → slice_index words b < n → slice_index (slice_set words a v) b < n
+set-below words a v b n new old = elim (cases_eq b a) [
+  | inl here ↦ elim (cases_lt a (length words)) [
+    | inl within ↦ (let is : slice_index (slice_set words a v) a ≡ v = get_or-set_same words a v 0 within in rw (here, is) (new here))
+    | inr past ↦ (let is : slice_index (slice_set words a v) a ≡ 0 = get_or_past (slice_set words a v) a 0 (rw (length-set words a v) past) in rw (here, is) (omega (arith, old)))
+  ]
+  | inr there ↦ rw (get_or-set_other words a b v 0 there) old
+]
+
+pub set-other : (words : List ℕ) (a v b : ℕ) → b ≢ a → slice_index (slice_set words a v) b ≡ slice_index words b
+set-other words a v b there = get_or-set_other words a b v 0 there
+
+-- a flush past the last line changes nothing
+past-line : (line : ℕ) (from to : List ℕ) (b : ℕ) → length from ≤ line * 8 → length to ≤ line * 8 → slice_index (with_line line from to) b ≡ slice_index to b
+unfolding with_line with_range
+past-line line from to b none past = rw (take_all (line * 8) to past, drop_all (line * 8) from none, drop_all (line * 8 + 8) to (omega (arith, past)), append-nil, append-nil) refl
+
+-- a durable word after a flush is the one before or the cached one, and the cached one in that line alone
+pub flushed-other : (m : Words) (line b : ℕ) → IsMemory m → b / 8 ≢ line → slice_index (flushed m line).durable b ≡ slice_index m.durable b
+flushed-other m line b i other = elim (cases_lt (line * 8) (length m.cached)) [
+  | inl within ↦ (let test : (b / 8 == line) ≡ false = grind (arith, common_steps, other) in (flush m line i within).durable b ∙ rw test refl)
+  | inr past ↦ past-line line m.cached m.durable b past (omega (arith, past, i.same))
+]
+
+pub flushed-below : (m : Words) (line b n : ℕ) → IsMemory m → slice_index m.cached b < n → slice_index m.durable b < n → slice_index (flushed m line).durable b < n
+flushed-below m line b n i cached durable = elim (cases_lt (line * 8) (length m.cached)) [
+  | inl within ↦ rw ((flush m line i within).durable b) (either (b / 8 == line))
+  | inr past ↦ rw (past-line line m.cached m.durable b past (omega (arith, past, i.same))) durable
+]
+  where
+    either : (t : Bool) → (if t then slice_index m.cached b else slice_index m.durable b) < n
+    either true = cached
+    either false = durable

@@ -1,0 +1,31 @@
+-- The words of the descriptors after their statuses stay plain.
+use Rattle.std.specs.Prelude.{ℕ, ◌^◌, ◌<◌, List, slice_index}
+use Rattle.std.specs.declared.option.Option.{Option}
+use Rattle.bz_word.specs.declared.entry.Entry.{Entry}
+use Rattle.bz_acts.specs.declared.acted.Act.{Act}
+use Rattle.bz_cells.specs.Store.{field_address, field_count}
+use Rattle.bz_machine.specs.declared.done.Done.{Done}
+use Rattle.bz_swap.specs.Evictions.{IsEviction}
+use Rattle.bz_swap.specs.Held.{IsHeld}
+use Rattle.bz_swap.specs.Power.{after_cut, renewed}
+use Rattle.bz_swap.specs.Starts.{started, swapping}
+use Rattle.bz_swap.specs.Steps.{IsStep}
+use Rattle.bz_swap.specs.SwapMemory.{SwapMemory, Doing}
+
+-- each of these words has no bit from 61 on
+abbrev pub ArePlainFields : ℕ → List ℕ → Type 0
+ArePlainFields swaps words = (s k : ℕ) → s < swaps → k < field_count → slice_index words (field_address s k) < 2 ^ 61
+
+-- in the caches and in the memory itself
+pub record HavePlainFields (m : SwapMemory) : Type 0 where
+  pub cached : ArePlainFields m.swaps m.cached
+  pub durable : ArePlainFields m.swaps m.durable
+
+-- whatever happens but a store in a recovery time
+pub record PlainFieldsStay : Type 0 where
+  pub step : (old new : SwapMemory) (w : ℕ) (made : Act) (done : Done) (told : Option ℕ) → IsHeld old → IsStep old w made done told new → HavePlainFields old → HavePlainFields new
+  pub eviction : (old new : SwapMemory) (a : ℕ) (told : Option ℕ) → IsEviction old a told new → HavePlainFields old → HavePlainFields new
+  pub start : (m : SwapMemory) (w : ℕ) (doing : Doing) → HavePlainFields m → HavePlainFields (started m w doing)
+  pub swap : (m : SwapMemory) (w : ℕ) (entries : List Entry) → HavePlainFields m → HavePlainFields (swapping m w entries)
+  pub cut : (m : SwapMemory) → HavePlainFields m → HavePlainFields (after_cut m)
+  pub renewal : (m : SwapMemory) → HavePlainFields m → HavePlainFields (renewed m)

@@ -1,0 +1,19 @@
+//! Laws of the swap memory, for the crates above. Each function does nothing: its contract is the law.
+
+ghost use Rattle.bz_swap.specs.EffectPlaces.{EffectsStayInside, StatusWords};
+ghost use Rattle.bz_swap.specs.PlainFields.{PlainFieldsStay};
+
+/// The words of the descriptors after their statuses stay plain, but for stores in a recovery time.
+pub fn plain_fields_stay()
+    ensures { PlainFieldsStay }
+{}
+
+/// An act or eviction that gives a swap its effect changes no durable word outside the descriptors.
+pub fn effects_stay_inside()
+    ensures { EffectsStayInside }
+{}
+
+/// The words that spell a status without the dirty bit.
+pub fn status_words()
+    ensures { StatusWords }
+{}
