@@ -41,6 +41,7 @@ pub mod SwapKeeps
 pub mod SwapLists
 pub mod Swapping
 pub mod Taken
+pub mod TakenStay
 pub mod TestWorlds
 pub mod Untouched
 pub mod Values

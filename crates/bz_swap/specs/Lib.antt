@@ -15,4 +15,5 @@ pub mod Roles
 pub mod Starts
 pub mod Steps
 pub mod SwapMemory
+pub mod TakenStatuses
 pub mod Writes

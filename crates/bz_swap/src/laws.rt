@@ -2,6 +2,7 @@
 
 ghost use Rattle.bz_swap.specs.EffectPlaces.{EffectsStayInside, StatusWords};
 ghost use Rattle.bz_swap.specs.PlainFields.{PlainFieldsStay};
+ghost use Rattle.bz_swap.specs.TakenStatuses.{TakenStatusesStay};
 
 /// The words of the descriptors after their statuses stay plain, but for stores in a recovery time.
 pub fn plain_fields_stay()
@@ -11,6 +12,12 @@ pub fn plain_fields_stay()
 /// An act or eviction that gives a swap its effect changes no durable word outside the descriptors.
 pub fn effects_stay_inside()
     ensures { EffectsStayInside }
+{}
+
+/// A status that is not free stays so in the caches, outside a recovery time; it comes to be so by the store of undecided,
+/// by the worker of its swap.
+pub fn taken_statuses_stay()
+    ensures { TakenStatusesStay }
 {}
 
 /// The words that spell a status without the dirty bit.
