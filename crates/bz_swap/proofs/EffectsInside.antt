@@ -1,7 +1,6 @@
 -- A swap takes effect in its descriptor alone.
-use Rattle.std.specs.Prelude.{◌≡◌, ◌≢◌, ◌⊎◌, nat_lt, ℕ, ◌+◌, ◌*◌, ◌/◌, ◌<◌, ◌≤◌, Bool, true, false, List, slice_index, Some, None}
-use Rattle.std.specs.declared.option.Option.{Option}
-use Rattle.std.proofs.Common.{arith, refl, ap, sym, subst, ◌∙◌, inl, inr}
+use Rattle.std.specs.Prelude.{◌≡◌, ◌≢◌, ◌⊎◌, nat_lt, ℕ, ◌/◌, ◌<◌, true, false, slice_index, Some}
+use Rattle.std.proofs.Common.{arith, refl, ap, sym, ◌∙◌, inl, inr}
 use Rattle.std.proofs.lemmas.Bool.{cases_eq, cases_lt, true≢false}
 use Rattle.std.proofs.lemmas.Grind.{common_steps}
 use Rattle.bz_layout.specs.Addresses.{swap_address}
@@ -14,7 +13,7 @@ use Rattle.bz_acts.specs.declared.acted.Act.TheVariants.{Load, Store, Cas, Flush
 use Rattle.bz_cells.specs.Store.{IsOutside, status_of}
 use Rattle.bz_swap.specs.declared.phase.Phase.{Phase}
 use Rattle.bz_swap.specs.declared.phase.Phase.TheVariants.{Opened, Running, Recovering}
-use Rattle.bz_swap.specs.EffectPlaces.{KeepsDurableOutside, EffectsByFlush, EffectsByEviction, EffectsStayInside}
+use Rattle.bz_swap.specs.EffectPlaces.{EffectsByFlush, EffectsByEviction, EffectsStayInside}
 use Rattle.bz_swap.specs.Effects.{TakesEffect}
 use Rattle.bz_swap.specs.Evictions.{IsEviction, EvictsIn}
 use Rattle.bz_swap.specs.Held.{IsHeld}

@@ -1,9 +1,8 @@
 -- The words of the descriptors after their statuses stay plain.
-use Rattle.std.specs.Prelude.{◌≡◌, ◌≢◌, ◌⊎◌, ◌==◌, if◌then◌else◌, ℕ, ◌+◌, ◌*◌, ◌^◌, ◌<◌, ◌≤◌, Bool, true, false, List, slice_index, slice_set}
-use Rattle.std.proofs.Common.{arith, refl, ap, sym, subst, ◌∙◌, inl, inr}
+use Rattle.std.specs.Prelude.{◌≡◌, ◌≢◌, ◌⊎◌, ◌==◌, if◌then◌else◌, ℕ, ◌^◌, ◌<◌, Bool, true, false, slice_index, slice_set}
+use Rattle.std.proofs.Common.{arith, refl, sym, subst, ◌∙◌, inl, inr}
 use Rattle.std.specs.declared.option.Option.{Option}
 use Rattle.bz_layout.specs.Addresses.{swap_address}
-use Rattle.bz_pm.specs.Acts.{flushed}
 use Rattle.bz_pm.specs.Words.{Words, IsMemory}
 use Rattle.bz_acts.specs.Rule.{after_act}
 use Rattle.bz_acts.specs.declared.acted.Act.{Act}

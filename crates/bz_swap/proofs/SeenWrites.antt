@@ -1,5 +1,5 @@
 -- What a step writes into the descriptors, as callers see it, by the place of the worker.
-use Rattle.std.specs.Prelude.{◌≡◌, ◌≢◌, ◌⊎◌, ◌==◌, if◌then◌else◌, ℕ, ◌+◌, ◌-◌, ◌*◌, ◌/◌, ◌%◌, ◌^◌, ◌<◌, ◌≤◌, Bool, true, false, slice_index}
+use Rattle.std.specs.Prelude.{◌≡◌, ◌≢◌, ◌⊎◌, ◌==◌, if◌then◌else◌, ℕ, ◌-◌, ◌*◌, ◌/◌, ◌%◌, ◌^◌, ◌<◌, ◌≤◌, Bool, true, false}
 use Rattle.std.proofs.Common.{arith, refl, ap, sym, subst, ◌∙◌, inl, inr}
 use Rattle.std.proofs.lemmas.Grind.{common_steps}
 use Rattle.bz_layout.specs.Addresses.{swap_address}
@@ -76,10 +76,10 @@ spelled-below p r s k le =
     let same = r.words.has_room.memory.same in
     chosen_below (k == 0) _ _ (2 ^ 61) (λ first. omega (arith, values.count))
     (λ later. chosen_below (k % 3 == 1) _ _ (2 ^ 61)
-      (λ is. (let lies = r.lies s ((k - 1) / 3) (entry le later) in omega (arith, lies.within, size, same)))
-      (λ not. chosen_below (k % 3 == 2) _ _ (2 ^ 61)
-        (λ is. values.expected ((k - 1) / 3) (entry le later))
-        (λ neither. values.value ((k - 1) / 3) (entry le later))))
+    (λ is. (let lies = r.lies s ((k - 1) / 3) (entry le later) in omega (arith, lies.within, size, same)))
+    (λ not. chosen_below (k % 3 == 2) _ _ (2 ^ 61)
+    (λ is. values.expected ((k - 1) / 3) (entry le later))
+    (λ neither. values.value ((k - 1) / 3) (entry le later))))
   where
     entry : k ≤ 3 * (r.entries s).count → (k == 0) ≡ false → (k - 1) / 3 < (r.entries s).count
     entry le later = (let some : k ≢ 0 = grind (arith, common_steps) in omega (arith, le, some))
