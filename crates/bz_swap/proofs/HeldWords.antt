@@ -100,6 +100,7 @@ held p r phase =
     let sound = r.state.sound in
     record {
       memory = r.words.has_room.memory;
+      taken = r.words.has_room.taken;
       lawful = λ a out. record { word = r.words.durable.kinds a out; kind = lawful-kind p r a _ refl };
       status = λ s below. (let told : nat_lt s p.store.swaps ≡ true = grind (arith, common_steps) in rw told (sym (r.words.durable.statuses s below)));
       cached_status = λ s below. (let told : nat_lt s p.store.swaps ≡ true = grind (arith, common_steps) in rw told (sym (r.words.cached.statuses s below)));

@@ -1,4 +1,5 @@
 pub mod Begun
+pub mod BegunStay
 pub mod Cutting
 pub mod Doings
 pub mod EffectsInside

@@ -1,5 +1,5 @@
 -- What holds of a swap memory at every moment outside a recovery time.
-use Rattle.std.specs.Prelude.{All, ◌≡◌, ℕ, ◌^◌, ◌<◌, true, false, slice_index}
+use Rattle.std.specs.Prelude.{All, ◌≡◌, ℕ, ◌^◌, ◌<◌, ◌≤◌, true, false, slice_index}
 use Rattle.bz_word.specs.declared.entry.Entry.{Entry}
 use Rattle.bz_word.specs.declared.kind.WordKind.TheVariants.{Value}
 use Rattle.bz_cells.specs.Store.{IsOutside, kind_at, status_word, status_at}
@@ -14,6 +14,8 @@ use Rattle.bz_swap.specs.Starts.{IsAddress}
 pub record IsHeld (m : SwapMemory) : Type 0 where
   -- a durable word for each cached one, in whole lines
   pub memory : IsMemory (words_of m)
+  -- no more descriptors are taken than there are
+  pub taken : m.taken ≤ m.swaps
   -- every word outside the descriptors is lawful, in the memory itself; each descriptor's status is one, in the
   -- caches too
   pub lawful : (a : ℕ) → IsOutside m.swaps a → IsLawful m.swaps m.durable a

@@ -2,7 +2,7 @@
 
 ghost use Rattle.bz_swap.specs.EffectPlaces.{EffectsStayInside, StatusWords};
 ghost use Rattle.bz_swap.specs.PlainFields.{PlainFieldsStay};
-ghost use Rattle.bz_swap.specs.TakenStatuses.{TakenStatusesStay};
+ghost use Rattle.bz_swap.specs.TakenStatuses.{TakenStatusesStay, BegunStayTaken};
 
 /// The words of the descriptors after their statuses stay plain, but for stores in a recovery time.
 pub fn plain_fields_stay()
@@ -18,6 +18,11 @@ pub fn effects_stay_inside()
 /// by the worker of its swap.
 pub fn taken_statuses_stay()
     ensures { TakenStatusesStay }
+{}
+
+/// From a renewal to the next power cut, each swap begun is a worker's operation or its descriptor's status is not free.
+pub fn begun_stay_taken()
+    ensures { BegunStayTaken }
 {}
 
 /// The words that spell a status without the dirty bit.
