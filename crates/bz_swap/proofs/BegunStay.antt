@@ -74,6 +74,7 @@ begun-swap m w entries within is_idle all s begun = elim (cases_lt s m.taken) [
 
 pub begun_stay_taken : BegunStayTaken
 begun_stay_taken = record {
+  opening = λ phase start swaps workers s begun. absurd (omega (arith, begun));
   renewal = λ m s begun. absurd (omega (arith, begun));
   step = begun-step;
   eviction = λ old new a told h all. subst BegunAreTaken (sym h.is) all;

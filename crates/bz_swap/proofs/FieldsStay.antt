@@ -89,6 +89,7 @@ fields-eviction old new a told h plain = subst HavePlainFields (sym h.is) (recor
 
 pub plain_fields_stay : PlainFieldsStay
 plain_fields_stay = record {
+  opening = λ phase start swaps workers plain. record { cached = plain; durable = plain };
   step = fields-step;
   eviction = fields-eviction;
   start = λ m w doing plain. record { cached = plain.cached; durable = plain.durable };

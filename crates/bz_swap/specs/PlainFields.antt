@@ -5,9 +5,10 @@ use Rattle.bz_word.specs.declared.entry.Entry.{Entry}
 use Rattle.bz_acts.specs.declared.acted.Act.{Act}
 use Rattle.bz_cells.specs.Store.{field_address, field_count}
 use Rattle.bz_machine.specs.declared.done.Done.{Done}
+use Rattle.bz_swap.specs.declared.phase.Phase.{Phase}
 use Rattle.bz_swap.specs.Evictions.{IsEviction}
 use Rattle.bz_swap.specs.Held.{IsHeld}
-use Rattle.bz_swap.specs.Power.{after_cut, renewed}
+use Rattle.bz_swap.specs.Power.{after_cut, opened, renewed}
 use Rattle.bz_swap.specs.Starts.{started, swapping}
 use Rattle.bz_swap.specs.Steps.{IsStep}
 use Rattle.bz_swap.specs.SwapMemory.{SwapMemory, Doing}
@@ -21,8 +22,9 @@ pub record HavePlainFields (m : SwapMemory) : Type 0 where
   pub cached : ArePlainFields m.swaps m.cached
   pub durable : ArePlainFields m.swaps m.durable
 
--- whatever happens but a store in a recovery time
+-- from an opening on, whatever happens but a store in a recovery time
 pub record PlainFieldsStay : Type 0 where
+  pub opening : (phase : Phase) (start : List ℕ) (swaps workers : ℕ) → ArePlainFields swaps start → HavePlainFields (opened phase start swaps workers)
   pub step : (old new : SwapMemory) (w : ℕ) (made : Act) (done : Done) (told : Option ℕ) → IsHeld old → IsStep old w made done told new → HavePlainFields old → HavePlainFields new
   pub eviction : (old new : SwapMemory) (a : ℕ) (told : Option ℕ) → IsEviction old a told new → HavePlainFields old → HavePlainFields new
   pub start : (m : SwapMemory) (w : ℕ) (doing : Doing) → HavePlainFields m → HavePlainFields (started m w doing)

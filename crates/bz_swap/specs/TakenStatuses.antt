@@ -8,9 +8,10 @@ use Rattle.bz_acts.specs.declared.acted.Act.TheVariants.{Store}
 use Rattle.bz_cells.specs.Store.{status_word}
 use Rattle.bz_machine.specs.declared.done.Done.{Done}
 use Rattle.bz_machine.specs.declared.status.SwapStatus.TheVariants.{Free, Undecided}
+use Rattle.bz_swap.specs.declared.phase.Phase.{Phase}
 use Rattle.bz_swap.specs.Evictions.{IsEviction}
 use Rattle.bz_swap.specs.Held.{IsHeld}
-use Rattle.bz_swap.specs.Power.{renewed}
+use Rattle.bz_swap.specs.Power.{opened, renewed}
 use Rattle.bz_swap.specs.Starts.{started, swapping}
 use Rattle.bz_swap.specs.Steps.{IsStep}
 use Rattle.bz_swap.specs.SwapMemory.{SwapMemory, Doing, Idle, Swapping, doing_of}
@@ -34,8 +35,9 @@ pub record TakenStatusesStay : Type 0 where
 abbrev pub BegunAreTaken : SwapMemory → Type 0
 BegunAreTaken m = (s : ℕ) → s < m.taken → ((w : ℕ) × (doing_of m w ≡ Swapping s)) ⊎ IsTaken m s
 
--- so it is from a renewal to the next power cut
+-- so it is from an opening or a renewal to the next power cut
 pub record BegunStayTaken : Type 0 where
+  pub opening : (phase : Phase) (start : List ℕ) (swaps workers : ℕ) → BegunAreTaken (opened phase start swaps workers)
   pub renewal : (m : SwapMemory) → BegunAreTaken (renewed m)
   pub step : (old new : SwapMemory) (w : ℕ) (made : Act) (done : Done) (told : Option ℕ) → IsHeld old → IsStep old w made done told new → BegunAreTaken old → BegunAreTaken new
   pub eviction : (old new : SwapMemory) (a : ℕ) (told : Option ℕ) → IsEviction old a told new → BegunAreTaken old → BegunAreTaken new

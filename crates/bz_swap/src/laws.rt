@@ -20,7 +20,7 @@ pub fn taken_statuses_stay()
     ensures { TakenStatusesStay }
 {}
 
-/// From a renewal to the next power cut, each swap begun is a worker's operation or its descriptor's status is not free.
+/// From an opening or a renewal to the next power cut, each swap begun is a worker's operation or its descriptor's status is not free.
 pub fn begun_stay_taken()
     ensures { BegunStayTaken }
 {}
