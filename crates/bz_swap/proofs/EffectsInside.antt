@@ -16,7 +16,6 @@ use Rattle.bz_swap.specs.declared.phase.Phase.TheVariants.{Opened, Running, Reco
 use Rattle.bz_swap.specs.EffectPlaces.{EffectsByFlush, EffectsByEviction, EffectsStayInside}
 use Rattle.bz_swap.specs.Effects.{TakesEffect}
 use Rattle.bz_swap.specs.Evictions.{IsEviction, EvictsIn}
-use Rattle.bz_swap.specs.Held.{IsHeld}
 use Rattle.bz_swap.specs.Steps.{IsStep}
 use Rattle.bz_swap.specs.SwapMemory.{SwapMemory, words_of, has_effect}
 use Rattle.bz_swap.proofs.WordActs.{set-other, flushed-other}
@@ -68,8 +67,8 @@ effect-act old new s (Flush line) i swaps after t = by_line (cases_eq line (swap
     }
     by_line (inr other) = absurd (no-effect old new s swaps t (elsewhere (swap_address s) (λ is. other (sym is))))
 
-effect-step : (old new : SwapMemory) (w : ℕ) (made : Act) (done : Done) (s : ℕ) → IsHeld old → IsStep old w made done (Some s) new → EffectsByFlush old new made s
-effect-step old new w made done s held step = effect-act old new s made held.memory step.one.others.swaps step.one.act.after step.effect
+effect-step : (old new : SwapMemory) (w : ℕ) (made : Act) (done : Done) (s : ℕ) → IsMemory (words_of old) → IsStep old w made done (Some s) new → EffectsByFlush old new made s
+effect-step old new w made done s i step = effect-act old new s made i step.one.others.swaps step.one.act.after step.effect
 
 -- an eviction that does
 takes-effect : (phase : Phase) (old new : SwapMemory) (s : ℕ) → EvictsIn phase old (Some s) new → TakesEffect old new s

@@ -11,9 +11,8 @@ use Rattle.bz_cells.specs.Store.{IsOutside, field_address, field_count, status_w
 use Rattle.bz_machine.specs.declared.done.Done.{Done}
 use Rattle.bz_machine.specs.declared.status.SwapStatus.TheVariants.{Undecided}
 use Rattle.bz_swap.specs.Evictions.{IsEviction}
-use Rattle.bz_swap.specs.Held.{IsHeld}
-use Rattle.bz_swap.specs.PlainFields.{ArePlainFields, HavePlainFields, PlainFieldsStay}
-use Rattle.bz_swap.specs.Steps.{IsStep}
+use Rattle.bz_swap.specs.PlainFields.{ArePlainFields, HavePlainFields, WritesPlain, PlainFieldsStay}
+use Rattle.bz_swap.specs.Steps.{IsStep, IsRawStep}
 use Rattle.bz_swap.specs.SwapMemory.{SwapMemory, words_of}
 use Rattle.bz_swap.specs.Writes.{StoresPrivate, StoresField, StoresOwn, ChangesStatus, WritesLawfully}
 use Rattle.bz_swap.proofs.WordActs.{set-below, set-other, flushed-below}
@@ -69,16 +68,35 @@ may-write old w (Store a v) writes = may-store old w a v (writes.stores a v refl
 may-write old w (Cas a before after found) writes = may-swap old a before after found (writes.swaps a before after found refl)
 may-write old w (Flush line) writes = tt
 
-fields-step : (old new : SwapMemory) (w : ℕ) (made : Act) (done : Done) (told : Option ℕ) → IsHeld old → IsStep old w made done told new → HavePlainFields old → HavePlainFields new
-fields-step old new w made done told held step plain =
-    let after : words_of new ≡ after_act (words_of old) made = step.one.act.after in
-    let swaps : new.swaps ≡ old.swaps = step.one.others.swaps in
-    let cached = cached-after old.swaps (words_of old) made (may-write old w made step.writes) plain.cached in
-    let durable = durable-after old.swaps (words_of old) made held.memory plain.cached plain.durable in
+-- the words after an act that writes no more
+fields-after : (old new : SwapMemory) (made : Act) → IsMemory (words_of old) → new.swaps ≡ old.swaps → words_of new ≡ after_act (words_of old) made
+    → ArePlainFields old.swaps (after_act (words_of old) made).cached → HavePlainFields old → HavePlainFields new
+fields-after old new made i swaps after cached plain =
+    let durable = durable-after old.swaps (words_of old) made i plain.cached plain.durable in
     record {
       cached = subst (λ n. ArePlainFields n new.cached) (sym swaps) (subst (λ (m : Words). ArePlainFields old.swaps m.cached) (sym after) cached);
       durable = subst (λ n. ArePlainFields n new.durable) (sym swaps) (subst (λ (m : Words). ArePlainFields old.swaps m.durable) (sym after) durable);
     }
+
+fields-step : (old new : SwapMemory) (w : ℕ) (made : Act) (done : Done) (told : Option ℕ) → IsMemory (words_of old) → IsStep old w made done told new → HavePlainFields old → HavePlainFields new
+fields-step old new w made done told i step plain =
+    fields-after old new made i step.one.others.swaps step.one.act.after (cached-after old.swaps (words_of old) made (may-write old w made step.writes) plain.cached) plain
+
+-- the words after an act of a recovery that writes plain ones
+plain-after : (swaps : ℕ) (m : Words) (made : Act) → WritesPlain made → ArePlainFields swaps m.cached → ArePlainFields swaps (after_act m made).cached
+plain-after swaps m (Load a v) writes plain = plain
+plain-after swaps m (Store a v) writes plain = λ s k lt less. set-below m.cached a v (field_address s k) (2 ^ 61) (λ here. writes) (plain s k lt less)
+plain-after swaps m (Cas a before after found) writes plain = λ s k lt less. by_test (slice_index m.cached a == before) s k lt less
+  where
+    by_test : (t : Bool) (s k : ℕ) → s < swaps → k < field_count → slice_index (if t then slice_set m.cached a after else m.cached) (field_address s k) < 2 ^ 61
+    by_test true s k lt less = set-below m.cached a after (field_address s k) (2 ^ 61) (λ here. writes) (plain s k lt less)
+    by_test false s k lt less = plain s k lt less
+plain-after swaps m (Flush line) writes plain = plain
+
+fields-recovery : (old new : SwapMemory) (w : ℕ) (made : Act) (done : Done) (told : Option ℕ) → IsMemory (words_of old) → IsRawStep old w made done told new → WritesPlain made
+    → HavePlainFields old → HavePlainFields new
+fields-recovery old new w made done told i step writes plain =
+    fields-after old new made i step.one.others.swaps step.one.act.after (plain-after old.swaps (words_of old) made writes plain.cached) plain
 
 fields-eviction : (old new : SwapMemory) (a : ℕ) (told : Option ℕ) → IsEviction old a told new → HavePlainFields old → HavePlainFields new
 fields-eviction old new a told h plain = subst HavePlainFields (sym h.is) (record {
@@ -91,6 +109,7 @@ pub plain_fields_stay : PlainFieldsStay
 plain_fields_stay = record {
   opening = λ phase start swaps workers plain. record { cached = plain; durable = plain };
   step = fields-step;
+  recovery = fields-recovery;
   eviction = fields-eviction;
   start = λ m w doing plain. record { cached = plain.cached; durable = plain.durable };
   swap = λ m w entries plain. record { cached = plain.cached; durable = plain.durable };

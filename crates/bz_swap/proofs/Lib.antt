@@ -47,4 +47,5 @@ pub mod TestWorlds
 pub mod Untouched
 pub mod Values
 pub mod WordActs
+pub mod WordSizes
 pub mod WorkStarts

@@ -1,6 +1,6 @@
 -- Words after a store at an address, or after the flush of a line, by address.
-use Rattle.std.specs.Prelude.{◌≡◌, ◌≢◌, ◌==◌, if◌then◌else◌, ℕ, ◌+◌, ◌*◌, ◌/◌, ◌<◌, ◌≤◌, Bool, true, false, List, length, slice_index, slice_set}
-use Rattle.std.proofs.Common.{arith, refl, ◌∙◌, inl, inr}
+use Rattle.std.specs.Prelude.{◌≡◌, ◌≢◌, ◌==◌, if◌then◌else◌, ℕ, ◌+◌, ◌*◌, ◌/◌, ◌<◌, ◌≤◌, Bool, true, false, List, [], ◌++◌, length, slice_index, slice_set}
+use Rattle.std.proofs.Common.{arith, ap, refl, ◌∙◌, inl, inr}
 use Rattle.std.proofs.lemmas.Bool.{cases_eq, cases_lt}
 use Rattle.std.proofs.lemmas.Grind.{common_steps}
 use Rattle.std.proofs.lemmas.List.{get_or-set_same, get_or-set_other, get_or_past, length-set, take_all, drop_all, append-nil}
@@ -22,21 +22,21 @@ pub set-other : (words : List ℕ) (a v b : ℕ) → b ≢ a → slice_index (sl
 set-other words a v b there = get_or-set_other words a b v 0 there
 
 -- a flush past the last line changes nothing
-past-line : (line : ℕ) (from to : List ℕ) (b : ℕ) → length from ≤ line * 8 → length to ≤ line * 8 → slice_index (with_line line from to) b ≡ slice_index to b
+pub past-line : (line : ℕ) (from to : List ℕ) → length from ≤ line * 8 → length to ≤ line * 8 → with_line line from to ≡ to
 unfolding with_line with_range
-past-line line from to b none past = rw (take_all (line * 8) to past, drop_all (line * 8) from none, drop_all (line * 8 + 8) to (omega (arith, past)), append-nil, append-nil) refl
+past-line line from to none past = rw (take_all (line * 8) to past, drop_all (line * 8) from none, drop_all (line * 8 + 8) to (omega (arith, past)), append-nil (to ++ []), append-nil to) refl
 
 -- a durable word after a flush is the one before or the cached one, and the cached one in that line alone
 pub flushed-other : (m : Words) (line b : ℕ) → IsMemory m → b / 8 ≢ line → slice_index (flushed m line).durable b ≡ slice_index m.durable b
 flushed-other m line b i other = elim (cases_lt (line * 8) (length m.cached)) [
   | inl within ↦ (let test : (b / 8 == line) ≡ false = grind (arith, common_steps, other) in (flush m line i within).durable b ∙ rw test refl)
-  | inr past ↦ past-line line m.cached m.durable b past (omega (arith, past, i.same))
+  | inr past ↦ ap (λ (words : List ℕ). slice_index words b) (past-line line m.cached m.durable past (omega (arith, past, i.same)))
 ]
 
 pub flushed-below : (m : Words) (line b n : ℕ) → IsMemory m → slice_index m.cached b < n → slice_index m.durable b < n → slice_index (flushed m line).durable b < n
 flushed-below m line b n i cached durable = elim (cases_lt (line * 8) (length m.cached)) [
   | inl within ↦ rw ((flush m line i within).durable b) (either (b / 8 == line))
-  | inr past ↦ rw (past-line line m.cached m.durable b past (omega (arith, past, i.same))) durable
+  | inr past ↦ rw (past-line line m.cached m.durable past (omega (arith, past, i.same))) durable
 ]
   where
     either : (t : Bool) → (if t then slice_index m.cached b else slice_index m.durable b) < n

@@ -1,6 +1,7 @@
 -- Where in the memory a swap takes effect: in its descriptor alone.
 use Rattle.std.specs.Prelude.{◌≡◌, ℕ, ◌/◌, ◌<◌, slice_index, Some}
 use Rattle.bz_layout.specs.Addresses.{swap_address}
+use Rattle.bz_pm.specs.Words.{IsMemory}
 use Rattle.bz_acts.specs.declared.acted.Act.{Act}
 use Rattle.bz_acts.specs.declared.acted.Act.TheVariants.{Flush}
 use Rattle.bz_cells.specs.Store.{IsOutside, status_word}
@@ -8,9 +9,8 @@ use Rattle.bz_machine.specs.declared.done.Done.{Done}
 use Rattle.bz_machine.specs.declared.status.SwapStatus.TheVariants.{Free, Undecided, Decided}
 use Rattle.bz_machine.specs.declared.status.Verdict.TheVariants.{Succeeded, Failed}
 use Rattle.bz_swap.specs.Evictions.{IsEviction}
-use Rattle.bz_swap.specs.Held.{IsHeld}
 use Rattle.bz_swap.specs.Steps.{IsStep}
-use Rattle.bz_swap.specs.SwapMemory.{SwapMemory}
+use Rattle.bz_swap.specs.SwapMemory.{SwapMemory, words_of}
 
 -- no durable word outside the descriptors changes
 abbrev pub KeepsDurableOutside : SwapMemory → SwapMemory → Type 0
@@ -29,7 +29,7 @@ pub record EffectsByEviction (old new : SwapMemory) (a s : ℕ) : Type 0 where
   pub outside : KeepsDurableOutside old new
 
 pub record EffectsStayInside : Type 0 where
-  pub step : (old new : SwapMemory) (w : ℕ) (made : Act) (done : Done) (s : ℕ) → IsHeld old → IsStep old w made done (Some s) new → EffectsByFlush old new made s
+  pub step : (old new : SwapMemory) (w : ℕ) (made : Act) (done : Done) (s : ℕ) → IsMemory (words_of old) → IsStep old w made done (Some s) new → EffectsByFlush old new made s
   pub eviction : (old new : SwapMemory) (a s : ℕ) → IsEviction old a (Some s) new → EffectsByEviction old new a s
 
 -- the words of the statuses

@@ -2,16 +2,17 @@
 use Rattle.std.specs.Prelude.{ℕ, ◌^◌, ◌<◌, List, slice_index}
 use Rattle.std.specs.declared.option.Option.{Option}
 use Rattle.bz_word.specs.declared.entry.Entry.{Entry}
+use Rattle.bz_pm.specs.Words.{IsMemory}
 use Rattle.bz_acts.specs.declared.acted.Act.{Act}
+use Rattle.bz_acts.specs.declared.acted.Act.TheVariants.{Load, Store, Cas, Flush}
 use Rattle.bz_cells.specs.Store.{field_address, field_count}
 use Rattle.bz_machine.specs.declared.done.Done.{Done}
 use Rattle.bz_swap.specs.declared.phase.Phase.{Phase}
 use Rattle.bz_swap.specs.Evictions.{IsEviction}
-use Rattle.bz_swap.specs.Held.{IsHeld}
 use Rattle.bz_swap.specs.Power.{after_cut, opened, renewed}
 use Rattle.bz_swap.specs.Starts.{started, swapping}
-use Rattle.bz_swap.specs.Steps.{IsStep}
-use Rattle.bz_swap.specs.SwapMemory.{SwapMemory, Doing}
+use Rattle.bz_swap.specs.Steps.{IsStep, IsRawStep}
+use Rattle.bz_swap.specs.SwapMemory.{SwapMemory, Doing, words_of}
 
 -- each of these words has no bit from 61 on
 abbrev pub ArePlainFields : ℕ → List ℕ → Type 0
@@ -22,10 +23,19 @@ pub record HavePlainFields (m : SwapMemory) : Type 0 where
   pub cached : ArePlainFields m.swaps m.cached
   pub durable : ArePlainFields m.swaps m.durable
 
--- from an opening on, whatever happens but a store in a recovery time
+-- what an act writes is plain
+abbrev pub WritesPlain : Act → Type 0
+WritesPlain (Load a v) = Unit {0}
+WritesPlain (Store a v) = v < 2 ^ 61
+WritesPlain (Cas a before after found) = after < 2 ^ 61
+WritesPlain (Flush line) = Unit {0}
+
+-- from an opening on, whatever happens, where a recovery writes plain words
 pub record PlainFieldsStay : Type 0 where
   pub opening : (phase : Phase) (start : List ℕ) (swaps workers : ℕ) → ArePlainFields swaps start → HavePlainFields (opened phase start swaps workers)
-  pub step : (old new : SwapMemory) (w : ℕ) (made : Act) (done : Done) (told : Option ℕ) → IsHeld old → IsStep old w made done told new → HavePlainFields old → HavePlainFields new
+  pub step : (old new : SwapMemory) (w : ℕ) (made : Act) (done : Done) (told : Option ℕ) → IsMemory (words_of old) → IsStep old w made done told new → HavePlainFields old → HavePlainFields new
+  pub recovery : (old new : SwapMemory) (w : ℕ) (made : Act) (done : Done) (told : Option ℕ) → IsMemory (words_of old) → IsRawStep old w made done told new → WritesPlain made
+      → HavePlainFields old → HavePlainFields new
   pub eviction : (old new : SwapMemory) (a : ℕ) (told : Option ℕ) → IsEviction old a told new → HavePlainFields old → HavePlainFields new
   pub start : (m : SwapMemory) (w : ℕ) (doing : Doing) → HavePlainFields m → HavePlainFields (started m w doing)
   pub swap : (m : SwapMemory) (w : ℕ) (entries : List Entry) → HavePlainFields m → HavePlainFields (swapping m w entries)

@@ -2,9 +2,15 @@
 
 ghost use Rattle.bz_swap.specs.EffectPlaces.{EffectsStayInside, StatusWords};
 ghost use Rattle.bz_swap.specs.PlainFields.{PlainFieldsStay};
+ghost use Rattle.bz_swap.specs.Sizes.{SizesStay};
 ghost use Rattle.bz_swap.specs.TakenStatuses.{TakenStatusesStay, BegunStayTaken};
 
-/// The words of the descriptors after their statuses stay plain, but for stores in a recovery time.
+/// There are as many durable words as cached ones, in whole lines, whatever happens.
+pub fn sizes_stay()
+    ensures { SizesStay }
+{}
+
+/// The words of the descriptors after their statuses stay plain, where a recovery writes plain words.
 pub fn plain_fields_stay()
     ensures { PlainFieldsStay }
 {}
@@ -20,7 +26,8 @@ pub fn taken_statuses_stay()
     ensures { TakenStatusesStay }
 {}
 
-/// From an opening or a renewal to the next power cut, each swap begun is a worker's operation or its descriptor's status is not free.
+/// From an opening or a renewal to the next power cut, each swap begun is a worker's operation or its descriptor's status
+/// is not free.
 pub fn begun_stay_taken()
     ensures { BegunStayTaken }
 {}

@@ -1,0 +1,46 @@
+-- As many words stand in the caches and in the memory itself after an act.
+use Rattle.std.specs.Prelude.{◌≡◌, ◌==◌, if◌then◌else◌, ℕ, ◌*◌, Bool, true, false, List, length, slice_index, slice_set}
+use Rattle.std.specs.declared.option.Option.{Option}
+use Rattle.std.proofs.Common.{arith, refl, ap, sym, subst, inl, inr}
+use Rattle.std.proofs.lemmas.Bool.{cases_lt}
+use Rattle.std.proofs.lemmas.List.{length-set}
+use Rattle.bz_pm.specs.Acts.{flushed}
+use Rattle.bz_pm.specs.Laws.{flush}
+use Rattle.bz_pm.specs.Words.{Words, IsMemory}
+use Rattle.bz_acts.specs.Rule.{after_act}
+use Rattle.bz_acts.specs.declared.acted.Act.{Act}
+use Rattle.bz_acts.specs.declared.acted.Act.TheVariants.{Load, Store, Cas, Flush}
+use Rattle.bz_swap.specs.Evictions.{IsEviction}
+use Rattle.bz_swap.specs.Sizes.{SizesStay}
+use Rattle.bz_swap.specs.SwapMemory.{SwapMemory, words_of}
+use Rattle.bz_swap.proofs.WordActs.{past-line}
+
+resized : (m : Words) (cached durable : List ℕ) → IsMemory m → length cached ≡ length m.cached → length durable ≡ length m.durable → IsMemory (record { cached = cached; durable = durable })
+resized m cached durable i first second = record { same = omega (arith, i.same, first, second); lines = rw second i.lines; size = rw second i.size }
+
+set-size : (t : Bool) (words : List ℕ) (a v : ℕ) → length (if t then slice_set words a v else words) ≡ length words
+set-size true words a v = length-set words a v
+set-size false words a v = refl
+
+flush-size : (m : Words) (line : ℕ) → IsMemory m → length (flushed m line).durable ≡ length m.durable
+flush-size m line i = elim (cases_lt (line * 8) (length m.cached)) [
+  | inl within ↦ (flush m line i within).stays.durable
+  | inr past ↦ ap (λ (words : List ℕ). length words) (past-line line m.cached m.durable past (omega (arith, past, i.same)))
+]
+
+act-size : (m : Words) (made : Act) → IsMemory m → IsMemory (after_act m made)
+act-size m (Load a v) i = i
+act-size m (Store a v) i = resized m (slice_set m.cached a v) m.durable i (length-set m.cached a v) refl
+act-size m (Cas a before after found) i = resized m _ m.durable i (set-size (slice_index m.cached a == before) m.cached a after) refl
+act-size m (Flush line) i = resized m m.cached (flushed m line).durable i refl (flush-size m line i)
+
+eviction-size : (old new : SwapMemory) (a : ℕ) (told : Option ℕ) → IsEviction old a told new → IsMemory (words_of old) → IsMemory (words_of new)
+eviction-size old new a told h i = subst (λ (m : SwapMemory). IsMemory (words_of m)) (sym h.is) (resized (words_of old) old.cached _ i refl (length-set old.durable a (slice_index old.cached a)))
+
+pub sizes_stay : SizesStay
+sizes_stay = record {
+  opening = λ phase start swaps workers lines size. record { same = refl; lines = lines; size = size };
+  step = λ old new w made done step i. subst IsMemory (sym step.act.after) (act-size (words_of old) made i);
+  eviction = eviction-size;
+  cut = λ m i. record { same = refl; lines = i.lines; size = i.size };
+}
