@@ -1,6 +1,8 @@
 //! A buffer for the pairs of a page, with all its room taken at its opening.
-ghost use Rattle.std.specs.Prelude.{◌≡◌, ◌<◌, ◌≤◌, ◌++◌, ◌∷◌, [], length, IfOk};
+ghost use Rattle.std.specs.Prelude.{◌≡◌, ◌<◌, ◌≤◌, ◌++◌, ◌∷◌, [], length, filter, IfOk};
+ghost use Rattle.std.specs.Cmp.Lexicographic.{slice_cmp};
 ghost use Rattle.std.specs.List.{insert};
+ghost use Rattle.std.specs.Ordering.{nat_cmp, is_ge};
 
 use crate::key::Key;
 use crate::limits::PAGE_PAIRS;
@@ -63,6 +65,13 @@ impl PageBuf {
             Ok(()) => {}
             Err(_) => unreachable!(),
         }
+    }
+
+    /// Takes out the pairs whose key is before this one. The others stay, in their order.
+    pub fn drop_before(&mut self, key: &Key)
+        ensures { self.new ≡ filter (λ pair. is_ge (slice_cmp nat_cmp pair.0 key.now)) self.old }
+    {
+        self.pairs.retain(|pair| pair.0 >= *key);
     }
 
     /// The pairs, in the order in which they came.

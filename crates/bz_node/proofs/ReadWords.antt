@@ -7,15 +7,20 @@ use Rattle.std.proofs.lemmas.List.Sums.{sum_by_more}
 use Rattle.bz_layout.specs.declared.sizes.TheConstants.{NODE_WORDS, META_AT, SHARED_WORDS}
 use Rattle.bz_word.specs.Metas.{meta, meta_word, IsMeta}
 use Rattle.bz_word.specs.Statuses.{status, status_word, IsStatus}
-use Rattle.bz_word.specs.Laws.{metas, statuses}
+use Rattle.bz_word.specs.Headers.{header, header_word, IsHeader}
+use Rattle.bz_word.specs.Laws.{headers, metas, statuses}
+use Rattle.bz_word.specs.declared.header.Header.{Header}
 use Rattle.bz_word.specs.declared.meta.Meta.{Meta}
 use Rattle.bz_word.specs.declared.meta.Meta.TheVariants.{Unused}
 use Rattle.bz_word.specs.declared.status.Status.{Status}
 use Rattle.bz_node.specs.Reading.{count_in, meta_in, metas_in, words_shown}
 
--- a status or metadata that has this word is what the word says
+-- a status, header or metadata that has this word is what the word says
 pub status_is : (s : Status) (x : ℕ) → IsStatus s → status_word s ≡ x → s ≡ status x
 status_is s x fits word = sym (statuses.value s fits) ∙ ap status word
+
+pub header_is : (h : Header) (x : ℕ) → IsHeader h → header_word h ≡ x → h ≡ header x
+header_is h x fits word = sym (headers.value h fits) ∙ ap header word
 
 pub meta_is : (m : Meta) (x : ℕ) → IsMeta m → meta_word m ≡ x → m ≡ meta x
 meta_is m x fits word = sym (metas.value m fits) ∙ ap meta word

@@ -3,8 +3,9 @@ use Rattle.std.specs.Prelude.{◌≡◌, ◌≢◌, ℕ, ◌+◌, ◌-◌, ◌^�
 use Rattle.std.specs.List.{sum_by, flat_map, range_with_len}
 use Rattle.std.specs.List.Sorted.{IsPermutation}
 use Rattle.bz_key.specs.Packing.{packed_len, unpacked, unpacked_key, unpacked_payload}
-use Rattle.bz_layout.specs.declared.sizes.TheConstants.{NODE_WORDS, STATUS_AT, META_AT, SHARED_WORDS}
+use Rattle.bz_layout.specs.declared.sizes.TheConstants.{NODE_WORDS, STATUS_AT, HEADER_AT, HIGH_FENCE_AT, META_AT, SHARED_WORDS}
 use Rattle.bz_word.specs.Statuses.{status, IsStatusWord}
+use Rattle.bz_word.specs.Headers.{header, IsHeaderWord}
 use Rattle.bz_word.specs.Metas.{meta, extent, IsMetaWord}
 use Rattle.bz_node.specs.Records.{AreRising, keys_of}
 use Rattle.bz_node.specs.declared.child.Child.{Child}
@@ -124,6 +125,22 @@ pub record IsReadableInner (words : List ℕ) : Type 0 where
   pub node : IsReadable words
   pub visible : (i : ℕ) → i < count_in words → meta_in words i ≡ Visible (extent_in words i)
   pub children : (i : ℕ) → i < count_in words → HasChild words (extent_in words i)
+
+-- how many bytes the high fence has, and the words of their packing
+abbrev pub high_len : List ℕ → ℕ
+high_len words = (header (slice_index words HEADER_AT)).high
+
+abbrev pub high_part : List ℕ → List ℕ
+high_part words = part words HIGH_FENCE_AT (packed_len (high_len words))
+
+-- the high fence: one of no bytes is none
+abbrev pub high_in : List ℕ → Option (List ℕ)
+high_in words = if high_len words == 0 then None else Some (unpacked (high_len words) (high_part words))
+
+-- a node whose header is plain, and whose high fence, if it has one, is the plain packing of a key
+pub record HasHighFence (words : List ℕ) : Type 0 where
+  pub header : IsHeaderWord (slice_index words HEADER_AT)
+  pub key : high_len words ≢ 0 → IsSome (unpacked_key (high_len words) (high_part words))
 
 -- a list has these records and no others, each as often, in the order of their keys
 pub record AreInKeyOrder (records sorted : List (List ℕ × List ℕ)) : Type 0 where

@@ -1,11 +1,11 @@
 //! The words of a node.
 ghost use Rattle.std.specs.Prelude.{◌≡◌, ◌<◌};
-ghost use Rattle.bz_node.specs.Reading.{IsReadable, IsReadableInner, IsReadableLeaf, AreInKeyOrder, count_in, live_in, pairs_in, child_in};
+ghost use Rattle.bz_node.specs.Reading.{IsReadable, IsReadableInner, IsReadableLeaf, AreInKeyOrder, HasHighFence, count_in, live_in, pairs_in, child_in, high_in};
 
 use crate::child::Child;
 use crate::ordering::collect_records;
-use crate::reading::{child_of, count_of, live_words_of};
-use bz_key::PageBuf;
+use crate::reading::{child_of, count_of, high_of, live_words_of};
+use bz_key::{Key, PageBuf};
 
 /// The words of one node, at the places that they have in its slot.
 #[derive(Clone, Copy, Debug, PartialEq, Eq)]
@@ -26,6 +26,14 @@ impl NodeImage {
         ensures { AreInKeyOrder (pairs_in self.now.0) out.new }
     {
         collect_records(&self.0, out);
+    }
+
+    /// The high fence of a node, which no key of it reaches: none where its keys have no end.
+    pub fn high(&self) -> Option<Key>
+        requires { HasHighFence self.now.0 }
+        ensures { result ≡ high_in self.now.0 }
+    {
+        high_of(&self.0)
     }
 
     /// How many children an inner node has.

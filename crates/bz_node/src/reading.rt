@@ -1,13 +1,15 @@
 //! Reading the words of a node.
-ghost use Rattle.std.specs.Prelude.{◌≡◌, ◌≤◌, ◌<◌, ◌^◌, length};
+ghost use Rattle.std.specs.Prelude.{◌≡◌, ◌≤◌, ◌<◌, ◌^◌, length, slice_index};
 ghost use Rattle.bz_key.specs.Packing.{packed_len};
+ghost use Rattle.bz_word.specs.Headers.{IsHeaderWord};
 ghost use Rattle.bz_word.specs.Metas.{IsExtent, IsMeta};
-ghost use Rattle.bz_node.specs.Reading.{IsReadable, count_in, meta_in, words_shown, live_in, low_in, child_in, pair_in, HasChild, HasPair, IsReadableInner};
+ghost use Rattle.bz_layout.specs.declared.sizes.TheConstants.{HEADER_AT as HEADER};
+ghost use Rattle.bz_node.specs.Reading.{IsReadable, count_in, meta_in, words_shown, live_in, low_in, high_len, high_in, child_in, pair_in, HasChild, HasHighFence, HasPair, IsReadableInner};
 
 use crate::child::Child;
 use bz_key::{Key, Payload};
-use bz_layout::{META_AT, NODE_WORDS, SHARED_WORDS, STATUS_AT};
-use bz_word::{Extent, Meta, Status};
+use bz_layout::{HEADER_AT, HIGH_FENCE_AT, META_AT, NODE_WORDS, SHARED_WORDS, STATUS_AT};
+use bz_word::{Extent, Header, Meta, Status};
 
 /// How many metadata words are in use.
 pub(crate) fn count_of(words: &[u64]) -> u32
@@ -87,6 +89,33 @@ fn low_of(words: &[u64], extent: Extent) -> Option<Key>
     let start = extent.offset as usize;
     let end = start + words_for(extent.key) as usize;
     Key::from_words(extent.key as usize, &words[start..end])
+}
+
+// How many bytes the high fence has.
+fn high_len_of(words: &[u64]) -> u32
+    requires whole { length words.now ≡ NODE_WORDS }
+    requires header { IsHeaderWord (slice_index words.now HEADER) }
+    ensures { result ≡ high_len words.now }
+{
+    match Header::unpack(words[HEADER_AT as usize]) {
+        Some(header) => header.high,
+        None => unreachable!(),
+    }
+}
+
+/// The high fence of a node, if it has one.
+pub(crate) fn high_of(words: &[u64]) -> Option<Key>
+    requires whole { length words.now ≡ NODE_WORDS }
+    requires fence { HasHighFence words.now }
+    ensures { result ≡ high_in words.now }
+{
+    let len = high_len_of(words);
+    if len == 0 {
+        return None;
+    }
+    let start = HIGH_FENCE_AT as usize;
+    let end = start + words_for(len) as usize;
+    Key::from_words(len as usize, &words[start..end])
 }
 
 /// The child of the record at a place of an inner node.

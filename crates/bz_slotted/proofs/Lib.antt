@@ -31,3 +31,4 @@ pub mod Fills
 pub mod Plain
 pub mod Firsts
 pub mod NodeKinds
+pub mod HighFences

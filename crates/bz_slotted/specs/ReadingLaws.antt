@@ -7,7 +7,7 @@ use Rattle.bz_layout.specs.declared.limits.TheConstants.{MAX_NODES}
 use Rattle.bz_layout.specs.declared.sizes.TheConstants.{NODE_WORDS, SHARED_WORDS}
 use Rattle.bz_layout.specs.declared.thresholds.TheConstants.{MAX_LEVELS}
 use Rattle.bz_node.specs.Layout.{bound_of, needed}
-use Rattle.bz_node.specs.Reading.{pairs_in, live_in, children_in, IsReadableLeaf, IsReadableInner}
+use Rattle.bz_node.specs.Reading.{pairs_in, live_in, children_in, high_in, IsReadableLeaf, IsReadableInner, HasHighFence}
 use Rattle.bz_node.specs.Records.{pair_entry, child_entry, leaf_words, inner_words, IsPair, IsBound, IsChild, IsLeafList, IsChildList}
 use Rattle.bz_node.specs.declared.child.Child.{Child}
 use Rattle.bz_slotted.specs.Page.{page}
@@ -42,6 +42,14 @@ pub record ReadsAsChildren (words : List ℕ) : Type 0 where
 abbrev pub WholeInnersAreReadable : Type 0
 WholeInnersAreReadable =
     (nodes : ℕ) (raw : ℕ → ℕ) (words : List ℕ) (l : ℕ) (lo hi : Option (List ℕ)) → nodes ≤ MAX_NODES → 0 < l → length words ≡ NODE_WORDS → node_fault nodes raw (node_of words) l lo hi ≡ None → ReadsAsChildren words
+
+-- the high fence of a node can be read, and is this bound
+pub record EndsAt (words : List ℕ) (hi : Option (List ℕ)) : Type 0 where
+  pub readable : HasHighFence words
+  pub high : high_in words ≡ hi
+
+abbrev pub HighFencesAreRead : Type 0
+HighFencesAreRead = (nodes : ℕ) (raw : ℕ → ℕ) (words : List ℕ) (l : ℕ) (lo hi : Option (List ℕ)) → length words ≡ NODE_WORDS → node_fault nodes raw (node_of words) l lo hi ≡ None → EndsAt words hi
 
 -- a leaf breaks no rule between these bounds, and shows these records
 pub record IsLeafOf (nodes : ℕ) (n : ℕ → ℕ) (shown : List (List ℕ × List ℕ)) (lo hi : Option (List ℕ)) : Type 0 where

@@ -2,7 +2,7 @@
 
 ghost use Rattle.bz_slotted.specs.InnerChanges.{PointerSwapChangesChild, StandingIsQuiet};
 ghost use Rattle.bz_slotted.specs.LeafLaws.{RewriteChangesOneKey, ReservationIsQuiet, GrowthIsQuiet, FreezeIsQuiet, StoresAreQuiet};
-ghost use Rattle.bz_slotted.specs.ReadingLaws.{WholeLeavesAreReadable, WholeInnersAreReadable, MadeLeavesAreWhole, MadeInnersAreWhole};
+ghost use Rattle.bz_slotted.specs.ReadingLaws.{WholeLeavesAreReadable, WholeInnersAreReadable, HighFencesAreRead, MadeLeavesAreWhole, MadeInnersAreWhole};
 ghost use Rattle.bz_slotted.specs.Laws.{LeafRulesAreFacts, InnerRulesAreFacts, InnerKeysRise, FoundKeysAreInRange, LiveWordsFit};
 
 /// A leaf breaks no rule exactly where each rule holds as a fact of its records.
@@ -74,6 +74,11 @@ pub fn whole_leaves_are_readable()
 /// An inner node that breaks no rule can be read as children, which are its children.
 pub fn whole_inners_are_readable()
     ensures { WholeInnersAreReadable }
+{}
+
+/// The high fence of a node that breaks no rule can be read, and is its high bound.
+pub fn high_fences_are_read()
+    ensures { HighFencesAreRead }
 {}
 
 /// A leaf made whole breaks no rule, and says of each key what its records say.

@@ -1,0 +1,8 @@
+//! A page of the tree: the pairs of one leaf from a key on, and the key with which the next page begins.
+#![tactic(auto)]
+
+mod pages;
+#[cfg(test)]
+mod tests;
+
+pub use pages::collect;

@@ -1,0 +1,46 @@
+//! The page of a leaf.
+
+ghost use Rattle.std.specs.Prelude.{◌≡◌, ℕ, List, Option, None, length};
+ghost use Rattle.bz_slotted.specs.Page.{page};
+ghost use Rattle.bz_slotted.specs.ReadingLaws.{node_of};
+ghost use Rattle.bz_slotted.specs.Records.{records as records_of};
+ghost use Rattle.bz_slotted.specs.Rules.{node_fault};
+ghost use Rattle.bz_task.specs.Good.{IsGood};
+ghost use Rattle.bz_task.specs.Outcomes.{IsView};
+ghost use Rattle.bz_task.specs.Scene.{Past};
+ghost use Rattle.bz_page.specs.Pages.{IsLeafByItself, AreRecordsFrom, IsPageOf};
+
+use bz_key::{Key, PageBuf};
+use bz_node::NodeImage;
+use bz_task::{LeafView, laws};
+
+// An image has its 128 words. Does nothing.
+fn is_whole(image: &NodeImage)
+    ensures { length image.now.0 ≡ 128 }
+{
+    let _words = image.0;
+}
+
+/// Fills `out` with the pairs of a leaf from a key on, in the order of their keys and in place of what it held, and
+/// answers the leaf's high fence: the key with which the next page begins, or none where no page comes next.
+pub fn collect(view: &LeafView, from: &Key, out: &mut PageBuf) -> Option<Key>
+    requires { IsLeafByItself view.now.image.0 }
+    ensures records { AreRecordsFrom from.now (records_of (page (node_of view.now.image.0))) out.new }
+    ensures high { (nodes : ℕ) (low high : Option (List ℕ)) → node_fault nodes (node_of view.now.image.0) (node_of view.now.image.0) 0 low high ≡ None → result ≡ high }
+    // Where the view is one of this key, the page is that of the image at the view's moment.
+    ensures page { (p : Past) → IsView from.now view.now p → IsGood p.config (p.at view.now.at) → IsPageOf p.config (p.at view.now.at).image from.now out.new result }
+{
+    is_whole(&view.image);
+    laws::leaves_are_in_trees();
+    laws::seen_leaves_are_whole();
+    laws::same_records_show_the_same();
+    bz_content::laws::well_formed_images_have_no_fault();
+    bz_shape::laws::leaves_tile_the_keys();
+    bz_slotted::laws::leaf_rules_are_facts();
+    bz_slotted::laws::found_keys_are_in_range();
+    bz_slotted::laws::whole_leaves_are_readable();
+    bz_slotted::laws::high_fences_are_read();
+    view.image.records(out);
+    out.drop_before(from);
+    view.image.high()
+}
