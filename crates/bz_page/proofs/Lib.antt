@@ -1,2 +1,3 @@
 mod Lookups
 mod Views
+mod Shows

@@ -59,11 +59,11 @@ contained-found key value (x ∷ xs) (zero, within, is) none =
     let t : eq_by_cmp (slice_cmp nat_cmp) key x.0 ≡ true = ties-itself key x.0 (sym (ap (λ (y : List ℕ × List ℕ). y.0) is)) in
     let some : Some x.1 ≡ None = rw t at none in
     absurd (cc)
-contained-found key value (x ∷ xs) (suc k, within, is) none = go (eq_by_cmp (slice_cmp nat_cmp) key x.0) none
+contained-found key value (x ∷ xs) (suc k, within, is) none = go (eq_by_cmp (slice_cmp nat_cmp) key x.0) none (contained-found key value xs (k, omega arith, is))
   where
-    go : (b : Bool) → cond b (Some x.1) (find (slice_cmp nat_cmp) key xs) ≡ None → ⊥
-    go true e = absurd (cc)
-    go false e = contained-found key value xs (k, omega arith, is) e
+    go : (b : Bool) → cond b (Some x.1) (find (slice_cmp nat_cmp) key xs) ≡ None → find (slice_cmp nat_cmp) key xs ≢ None → ⊥
+    go true e ih = absurd (cc)
+    go false e ih = ih e
 
 rising-tail : (x : List ℕ × List ℕ) (xs : List (List ℕ × List ℕ)) → AreRising (keys_of (x ∷ xs)) → AreRising (keys_of xs)
 rising-tail x xs rising i j less within = rising (suc i) (suc j) (omega arith) (omega arith)
