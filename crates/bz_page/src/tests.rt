@@ -76,6 +76,7 @@ fn mixed_leaf() -> [u64; 128] {
 }
 
 /// A key, and how many pairs the page from it on leaves out.
+#[derive(Clone, Copy)]
 struct Row {
     from: &'static [u8],
     left_out: usize,
