@@ -1,5 +1,5 @@
 -- The page that is read from a view is that of the image.
-use Rattle.std.proofs.Common.{◌≡◌, ◌≢◌, ℕ, ◌<◌, ◌&&◌, if◌then◌else◌, Bool, true, false, cond, List, length, refl, sym, ap, ◌∙◌, Option}
+use Rattle.std.proofs.Common.{◌≡◌, ◌≢◌, ℕ, ◌&&◌, if◌then◌else◌, Bool, true, false, cond, List, length, refl, sym, ap, ◌∙◌, Option}
 use Rattle.std.specs.Prelude.{Some, None, not, filter, T}
 use Rattle.std.specs.Cmp.Lexicographic.{slice_cmp}
 use Rattle.std.specs.FinMap.{find, is_sorted, slice_cmp-IsAntisymmetric, nat_cmp-IsAntisymmetric}
@@ -9,24 +9,22 @@ use Rattle.std.specs.declared.cmp.Ordering.{Ordering}
 use Rattle.std.specs.declared.cmp.Ordering.TheVariants.{Less, Equal, Greater}
 use Rattle.std.proofs.lemmas.Bool.{true≢false}
 use Rattle.bz_call.specs.Pages.{is_from}
-use Rattle.bz_content.specs.Content.{content_in, leaf_end_in}
+use Rattle.bz_content.specs.Content.{content_in}
 use Rattle.bz_layout.specs.declared.sizes.TheConstants.{NODE_WORDS}
 use Rattle.bz_node.specs.Reading.{AreInKeyOrder, pairs_in, high_in}
 use Rattle.bz_shape.specs.Form.{Holds}
-use Rattle.bz_shape.specs.Order.{is_before, is_at_least, is_below, is_within}
+use Rattle.bz_shape.specs.Order.{is_before, is_at_least, is_below}
 use Rattle.bz_shape.specs.OrderLaws.{before-after}
 use Rattle.bz_slotted.specs.Laws.{FoundKeysAreInRange}
-use Rattle.bz_slotted.specs.Page.{page}
 use Rattle.bz_slotted.specs.ReadingLaws.{node_of, WholeLeavesAreReadable, HighFencesAreRead}
 use Rattle.bz_slotted.specs.Readers.{found_of}
-use Rattle.bz_slotted.specs.Records.{records}
 use Rattle.bz_slotted.specs.Rules.{node_fault}
 use Rattle.bz_task.specs.Good.{IsGood}
 use Rattle.bz_task.specs.Instant.{form_at}
 use Rattle.bz_task.specs.Outcomes.{IsView}
 use Rattle.bz_task.specs.Scene.{Past}
 use Rattle.bz_task.specs.declared.view.LeafView.{LeafView}
-use Rattle.bz_page.specs.Pages.{AreRecordsFrom, IsPageOf}
+use Rattle.bz_page.specs.Pages.{IsPageOf}
 use Rattle.bz_page.proofs.Lookups.{find-order, rising-sorted}
 use Rattle.bz_page.proofs.Views.{ViewLaws, holds, says-content}
 

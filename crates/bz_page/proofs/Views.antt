@@ -1,10 +1,10 @@
 -- What a view says of keys is what the image of its moment says of them.
-use Rattle.std.proofs.Common.{◌≡◌, ◌≢◌, ℕ, ◌<◌, ◌==◌, ◌&&◌, if◌then◌else◌, Bool, true, false, List, arith, refl, sym, ap, ◌∙◌, inl, inr, Option}
-use Rattle.std.specs.Prelude.{None, slice_index}
+use Rattle.std.proofs.Common.{◌≡◌, ℕ, ◌<◌, ◌==◌, if◌then◌else◌, true, false, List, arith, refl, sym, ap, ◌∙◌, inl, inr, Option}
+use Rattle.std.specs.Prelude.{None}
 use Rattle.std.proofs.lemmas.Bool.Decides.{nat_tests}
 use Rattle.bz_layout.specs.declared.config.Config.{Config}
 use Rattle.bz_layout.specs.declared.sizes.TheConstants.{NODE_WORDS, STATUS_AT}
-use Rattle.bz_shape.specs.Form.{Form, Holds}
+use Rattle.bz_shape.specs.Form.{Holds}
 use Rattle.bz_shape.specs.TreeLaws.{LeavesTileTheKeys}
 use Rattle.bz_shape.specs.Walk.{IsTree}
 use Rattle.bz_slotted.specs.Laws.{LeafRulesAreFacts}
@@ -19,7 +19,7 @@ use Rattle.bz_content.specs.Content.{view_in, content_in, leaf_in}
 use Rattle.bz_content.specs.Image.{node}
 use Rattle.bz_content.specs.Laws.{WellFormedImagesHaveNoFault}
 use Rattle.bz_task.specs.Good.{IsGood}
-use Rattle.bz_task.specs.Instant.{Instant, words, durable, form_at}
+use Rattle.bz_task.specs.Instant.{words, durable, form_at}
 use Rattle.bz_task.specs.Laws.{IsLeafInTree, LeavesAreInTrees, SeenLeavesAreWhole, SameRecordsShowTheSame}
 use Rattle.bz_task.specs.Outcomes.{IsView}
 use Rattle.bz_task.specs.Scene.{Past}
