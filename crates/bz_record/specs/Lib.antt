@@ -1,0 +1,4 @@
+pub mod Records
+pub mod Swaps
+pub mod Leaves
+pub mod Laws
