@@ -1,1 +1,5 @@
 mod Leaves
+mod Entries
+mod Asking
+mod Coding
+mod Reserving

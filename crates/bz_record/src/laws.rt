@@ -40,7 +40,6 @@ pub fn record_swaps_may_be_asked()
     laws::nodes_were_inside();
     laws::leaves_are_in_trees();
     laws::ranges_stay();
-    laws::same_records_show_the_same();
     bz_slotted::laws::leaf_rules_are_facts();
 }
 
