@@ -75,7 +75,7 @@ module _ (thawed : ThawedLeavesStay) (ranges : RangesStay) (shown : SameRecordsS
 pub leaves-stay : ThawedLeavesStay → RangesStay → SameRecordsShowTheSame → SeenLeavesAreWhole → LeavesAreInTrees → LeavesStay
 leaves-stay thawed ranges shown seen leaves s k st moment good w t e = same thawed ranges shown seen leaves s k st moment good w t e
 
-held-visible : (m : Meta) → visible m ≡ true → held m ≡ true
+pub held-visible : (m : Meta) → visible m ≡ true → held m ≡ true
 unfolding visible held
 held-visible (Visible e) h = refl
 held-visible (Reserved e) h = refl

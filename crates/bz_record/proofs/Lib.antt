@@ -2,4 +2,6 @@ mod Leaves
 mod Entries
 mod Asking
 mod Coding
+mod Reserved
 mod Reserving
+mod Taking

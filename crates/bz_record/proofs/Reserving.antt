@@ -34,141 +34,22 @@ use Rattle.bz_record.specs.declared.new_record.NewRecord.{NewRecord}
 use Rattle.bz_record.proofs.Coding.{reserved-plain, reserved-reads, reserved-says, sizes-agree, reserved-held, reserved-hidden, reserved-used, reserved-extent, leaf-record}
 use Rattle.bz_record.proofs.Entries.{sets-status, sets-durable-status, sets-meta, sets-durable-meta, leaves-others, leaves-durable-others, leaves-raw, target-of, each-target, status-now, same-now, durable-status-now}
 
--- the laws that these proofs stand on
-pub record Laws : Type 0 where
-  pub leaves : LeavesStay
-  pub slots : SwapsShowInSlots
-  pub swaps : LeafSwapsAreGood
-  pub quiet : ReservationIsQuiet
-  pub statuses : IsCodec Status IsStatus IsStatusWord status_word status
-  pub metas : IsCodec Meta IsMeta IsMetaWord meta_word meta
-  pub small : PackingIsSmall
+use Rattle.bz_record.proofs.Reserved.{Laws, place, same, count-was, block-was, moves, alike, shown-before}
 
--- a word of a record whose metadata word stays
-pub of-record : (n m : ℕ → ℕ) (i j : ℕ) → m (META_AT + j) ≡ n (META_AT + j) → j < (page n).count → IsOfRecord m i j → IsOfRecord n i j
-of-record n m i j e l r = record {
-  counted = l;
-  visible = subst (λ z. visible (meta_of z) ≡ true) e r.visible;
-  from = subst (λ z. (extent_of (meta_of z)).offset ≤ i) e r.from;
-  to = subst (λ z. i < (extent_of (meta_of z)).offset + weight (meta_of z)) e r.to;
-}
-
-module _ (b : Laws) (s : Scene) (y : Instant) (r : NewRecord) (moment : ℕ) (change : Change) (good : IsScene s) (f : Fits r) (leaf : WasLeaf r.slot r.status moment s.past) (stand : Stand (entries_of s.past.config (reservation r)) (here s)) (swaps : SwapsTo s.past.config (entries_of s.past.config (reservation r)) (here s) y) where
-  place : META_AT + (status r.status).count < NODE_WORDS
-  place = omega (arith, f.room.fits)
-
-  same : SameLeaf s.past.config (s.past.at moment) (here s) r.slot
-  same = same-now b.leaves b.slots s y (reservation r) moment good leaf f.room.thawed stand swaps
-
-  was : words s.past.config (here s) r.slot STATUS_AT ≡ r.status
-  was = status-now b.leaves b.slots s y (reservation r) moment good leaf f.room.thawed stand swaps
-
-  was-durable : durable s.past.config (here s) r.slot STATUS_AT ≡ r.status
-  was-durable = durable-status-now b.leaves b.slots s y (reservation r) moment good leaf f.room.thawed stand swaps
-
-  reads : status ((reservation r).new_status) ≡ record (status r.status) { count = (status r.status).count + 1; block = (status r.status).block + size_of r; dead = (status r.status).dead + size_of r; stamp = next_stamp (status r.status).stamp }
-  reads = reserved-reads b.statuses b.metas b.small r f
-
-  is : words s.past.config y r.slot STATUS_AT ≡ (reservation r).new_status
-  is = sets-status s.past.config (reservation r) (here s) y b.slots swaps place
-
-  is-durable : durable s.past.config y r.slot STATUS_AT ≡ (reservation r).new_status
-  is-durable = sets-durable-status s.past.config (reservation r) (here s) y b.slots swaps place
-
-  -- a field of the status afterwards
-  field-is : (A : Type 0) (g : Status → A) (n : ℕ → ℕ) → n STATUS_AT ≡ (reservation r).new_status → g (status (n STATUS_AT)) ≡ g (record (status r.status) { count = (status r.status).count + 1; block = (status r.status).block + size_of r; dead = (status r.status).dead + size_of r; stamp = next_stamp (status r.status).stamp })
-  field-is A g n e = ap (λ z. g (status z)) e ∙ ap g reads
-
-  others : (i : ℕ) → i ≢ STATUS_AT → i ≢ META_AT + (status r.status).count → words s.past.config y r.slot i ≡ words s.past.config (here s) r.slot i
-  others = leaves-others s.past.config (reservation r) (here s) y b.slots swaps place
-
-  count-was : (page (words s.past.config (here s) r.slot)).count ≡ (status r.status).count
-  count-was = ap (λ z. (status z).count) was
-
-  block-was : (page (words s.past.config (here s) r.slot)).block ≡ (status r.status).block
-  block-was = ap (λ z. (status z).block) was
-
-  count-is : (page (words s.past.config y r.slot)).count ≡ (status r.status).count + 1
-  count-is = field-is ℕ (λ z. z.count) (words s.past.config y r.slot) is
-
-  block-is : (page (words s.past.config y r.slot)).block ≡ (status r.status).block + size_of r
-  block-is = field-is ℕ (λ z. z.block) (words s.past.config y r.slot) is
-
-  moves : Moves (words s.past.config (here s) r.slot) (words s.past.config y r.slot)
-  moves = record {
-    thawed = ap (λ z. (status z).frozen) was ∙ f.room.thawed;
-    stamp = field-is ℕ (λ z. z.stamp) (words s.past.config y r.slot) is ∙ ap (λ z. next_stamp (status z).stamp) (sym was);
-    front = λ i n l. others i n (λ e. omega (arith, e, l));
-    freeze = λ h. absurd (true≢false (sym h ∙ (field-is Bool (λ z. z.frozen) (words s.past.config y r.slot) is ∙ f.room.thawed)));
-    inner = λ l. absurd (omega (arith, l, same.leaf.flat));
-    count = omega (arith, count-was, count-is);
-    spare = λ e l. absurd (omega (arith, e, count-was, count-is));
-  }
-
-  weighs : weight (Reserved (place_of r)) ≡ size_of r
-  weighs = ap words_of (reserved-extent (place_of r)) ∙ sizes-agree b.statuses b.metas b.small r f
-
-  count-durable : (page (durable s.past.config (here s) r.slot)).count ≡ (status r.status).count
-  count-durable = ap (λ z. (status z).count) was-durable
-
-  block-durable : (page (durable s.past.config (here s) r.slot)).block ≡ (status r.status).block
-  block-durable = ap (λ z. (status z).block) was-durable
-
-  dead-durable : (page (durable s.past.config (here s) r.slot)).dead ≡ (status r.status).dead
-  dead-durable = ap (λ z. (status z).dead) was-durable
-
-  said : durable s.past.config y r.slot (META_AT + (status r.status).count) ≡ meta_word (Reserved (place_of r))
-  said = sets-durable-meta s.past.config (reservation r) (here s) y b.slots swaps place
-
-  pub reserves : Reserves (node s.past.config (here s).image r.slot) (node s.past.config y.image r.slot) (durable s.past.config (here s) r.slot) (durable s.past.config y r.slot) (Reserved (place_of r))
-  reserves = record {
-    others = λ i n m. leaves-durable-others s.past.config (reservation r) (here s) y b.slots swaps place i n (λ e. m (omega (arith, e, count-durable)));
-    raw = λ i l. leaves-raw s.past.config (reservation r) (here s) y b.slots swaps place i;
-    status = subst (λ z. z < 2 ^ 61) (sym is-durable) (reserved-plain b.statuses b.metas b.small r f);
-    count = omega (arith, count-durable, field-is ℕ (λ z. z.count) (durable s.past.config y r.slot) is-durable);
-    block = omega (arith, block-durable, weighs, field-is ℕ (λ z. z.block) (durable s.past.config y r.slot) is-durable);
-    dead = omega (arith, dead-durable, weighs, field-is ℕ (λ z. z.dead) (durable s.past.config y r.slot) is-durable);
-    room = omega (arith, count-durable, block-durable, weighs, f.room.fits);
-    said = ap (λ z. meta_of (durable s.past.config y r.slot (META_AT + z))) count-durable ∙ (ap meta_of said ∙ reserved-says b.statuses b.metas b.small r f);
-    holds = reserved-held (place_of r);
-    hidden = reserved-hidden (place_of r);
-    taken = reserved-used (place_of r);
-    lengths = leaf-record r (Reserved (place_of r)) f (reserved-extent (place_of r));
-    place = subst (λ z. z.offset + weight (Reserved (place_of r)) + (page (durable s.past.config (here s) r.slot)).block ≡ NODE_WORDS) (sym (reserved-extent (place_of r))) (omega (arith, block-durable, weighs, f.room.fits));
-  }
-
-  pub alike : AnswersAlike s.past.config.nodes (node s.past.config y.image r.slot) (durable s.past.config (here s) r.slot) (durable s.past.config y r.slot) ((form_at s.past.config (here s)).low r.slot) ((form_at s.past.config (here s)).high r.slot)
-  alike = b.quiet s.past.config.nodes (node s.past.config (here s).image r.slot) (node s.past.config y.image r.slot) (durable s.past.config (here s) r.slot) (durable s.past.config y r.slot) _ _ (Reserved (place_of r)) same.leaf.whole reserves
-
-  -- the new record is not visible
-  hidden : visible ((page (words s.past.config y r.slot)).meta (status r.status).count) ≡ false
-  hidden = ap (λ z. visible (meta_of z)) (sets-meta s.past.config (reservation r) (here s) y b.slots swaps place) ∙ (ap visible (reserved-says b.statuses b.metas b.small r f) ∙ reserved-hidden (place_of r))
-
-  -- what readers read afterwards they read before
-  shown-before : (i : ℕ) → IsShown (words s.past.config y r.slot) i → IsShown (words s.past.config (here s) r.slot) i
-  shown-before i (inl h) = elim (cases_lt i (META_AT + (status r.status).count)) [
-    | inl l ↦ inl (omega (arith, l, count-was))
-    | inr l ↦ inr (inl (omega (arith, l, h, count-is, block-was, f.room.fits)))
-  ]
-  shown-before i (inr (inl h)) = inr (inl (omega (arith, h, block-was, block-is)))
-  shown-before i (inr (inr (inl h))) = inr (inr (inl (omega (arith, h, ap (λ z. (header z).level) (others HEADER_AT (λ e. omega (arith, e)) (λ e. omega (arith, e)))))))
-  shown-before i (inr (inr (inr o))) = elim (cases_lt o.0 (status r.status).count) [
-    | inl l ↦ inr (inr (inr (o.0, of-record (words s.past.config (here s) r.slot) (words s.past.config y r.slot) i o.0 (others (META_AT + o.0) (λ e. omega (arith, e)) (λ e. omega (arith, e, l))) (omega (arith, l, count-was)) o.1)))
-    | inr l ↦ (
-        let last : o.0 ≡ (status r.status).count = omega (arith, l, o.1.counted, count-is) in
-        absurd (true≢false (sym o.1.visible ∙ (ap (λ z. visible ((page (words s.past.config y r.slot)).meta z)) last ∙ hidden))))
-  ]
+module _ (b : Laws) (swap : LeafSwapsAreGood) (s : Scene) (y : Instant) (r : NewRecord) (moment : ℕ) (change : Change) (good : IsScene s) (f : Fits r) (leaf : WasLeaf r.slot r.status moment s.past) (stand : Stand (entries_of s.past.config (reservation r)) (here s)) (swaps : SwapsTo s.past.config (entries_of s.past.config (reservation r)) (here s) y) where
+  now : SameLeaf s.past.config (s.past.at moment) (here s) r.slot
+  now = same b s y r moment good f leaf stand swaps
 
   named : (a : ℕ) → is_target (entries_of s.past.config (reservation r)) a ≡ true → IsTarget s a
   named = each-target (IsTarget s) s.past.config (reservation r)
-    (inr (inr (record { slot = r.slot; place = STATUS_AT; address = refl; within = omega arith; reached = same.leaf.reached; kind = inl refl })))
+    (inr (inr (record { slot = r.slot; place = STATUS_AT; address = refl; within = omega arith; reached = now.leaf.reached; kind = inl refl })))
     (inr (inr (record {
       slot = r.slot;
       place = META_AT + (status r.status).count;
       address = refl;
-      within = place;
-      reached = same.leaf.reached;
-      kind = inr (inl (record { from = omega arith; to = omega (arith, count-was); free = omega (arith, block-was, f.room.fits, some) }));
+      within = place b s y r moment good f leaf stand swaps;
+      reached = now.leaf.reached;
+      kind = inr (inl (record { from = omega arith; to = omega (arith, count-was b s y r moment good f leaf stand swaps); free = omega (arith, block-was b s y r moment good f leaf stand swaps, some) }));
     })))
     where
       some : (status r.status).count + (status r.status).block < 118
@@ -177,17 +58,17 @@ module _ (b : Laws) (s : Scene) (y : Instant) (r : NewRecord) (moment : ℕ) (ch
   leaf-swap : IsLeafSwap false change (entries_of s.past.config (reservation r)) s r.slot y
   leaf-swap = record {
     swaps = swaps;
-    inside = same.leaf.inside;
+    inside = now.leaf.inside;
     slot = leaf.slot;
-    leaf = same.leaf.leaf;
-    place = target-of s (reservation r) place;
+    leaf = now.leaf.leaf;
+    place = target-of s (reservation r) (place b s y r moment good f leaf stand swaps);
     targets = named;
-    moves = moves;
-    whole = alike.none;
-    says = alike.same;
-    shown = λ i l h. inl (shown-before i h);
+    moves = moves b s y r moment good f leaf stand swaps;
+    whole = (alike b s y r moment good f leaf stand swaps).none;
+    says = (alike b s y r moment good f leaf stand swaps).same;
+    shown = λ i l h. inl (shown-before b s y r moment good f leaf stand swaps i h);
   }
 
-pub reserving : Laws → ReservationsAreGood
-reserving b s y r moment change good f leaf stand swaps =
-    b.swaps false change (entries_of s.past.config (reservation r)) s r.slot y good (leaf-swap b s y r moment change good f leaf stand swaps)
+pub reserving : Laws → LeafSwapsAreGood → ReservationsAreGood
+reserving b swap s y r moment change good f leaf stand swaps =
+    swap false change (entries_of s.past.config (reservation r)) s r.slot y good (leaf-swap b swap s y r moment change good f leaf stand swaps)

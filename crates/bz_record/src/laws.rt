@@ -65,8 +65,6 @@ pub fn reservations_take_words()
     leaves_were();
     laws::swaps_show_in_slots();
     laws::ranges_stay();
-    laws::fronts_stay();
-    laws::leaves_are_in_trees();
     bz_layout::slots_apart();
     bz_slotted::laws::leaf_rules_are_facts();
     bz_slotted::laws::reservation_is_quiet();
