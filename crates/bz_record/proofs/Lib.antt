@@ -5,3 +5,4 @@ mod Coding
 mod Reserved
 mod Reserving
 mod Taking
+mod Rewriting
