@@ -6,3 +6,5 @@ mod Reserved
 mod Reserving
 mod Taking
 mod Rewriting
+mod Reading
+mod Publishing

@@ -90,11 +90,10 @@ pub fn publications_are_good()
 {
     leaves_stay();
     rewrites_are_good();
+    laws::swaps_show_in_slots();
     bz_content::laws::plain_words_stand_for_themselves();
     bz_slotted::laws::leaf_rules_are_facts();
     bz_word::laws::statuses();
     bz_word::laws::metas();
     bz_key::laws::packing_is_small();
-    bz_key::laws::keys_are_unpacked();
-    bz_key::laws::payloads_are_unpacked();
 }
