@@ -8,3 +8,4 @@ mod Taking
 mod Rewriting
 mod Reading
 mod Publishing
+mod Writing

@@ -30,7 +30,8 @@ use Rattle.bz_task.specs.Scene.{Scene, IsScene, here}
 use Rattle.bz_task.specs.Steps.{next_stamp}
 use Rattle.bz_task.specs.Swaps.{Stand, SwapsTo, IsMineAndDurable}
 use Rattle.bz_record.specs.Laws.{SameLeaf, LeavesStay, Restates, IsRewriteOf, IsRewrite, RewritesAreGood, inserts, PublicationsAreGood}
-use Rattle.bz_record.specs.Leaves.{WasReserved, HasWritten}
+use Rattle.bz_record.specs.Leaves.{WasReserved}
+use Rattle.bz_record.specs.Writing.{HasWritten}
 use Rattle.bz_record.specs.Records.{words_in, size_of, offset_of, place_of, address_of, Fits}
 use Rattle.bz_record.specs.Swaps.{entries_of, status_reserved, status_published, publication}
 use Rattle.bz_record.specs.declared.new_record.NewRecord.{NewRecord}
@@ -90,13 +91,13 @@ module _ (b : Laws) (s : Scene) (y : Instant) (r : NewRecord) (good : IsScene s)
 
   -- the words of the record stand in the image
   raw-stands : Stands (node s.past.config (here s).image r.slot) r
-  raw-stands i l = node-at s.past.config (here s).image r.slot (offset_of r + i) (omega (arith, l, f.room.fits)) ∙ (h.flushed i l ∙ h.stored.stored i l l)
+  raw-stands i l = node-at s.past.config (here s).image r.slot (offset_of r + i) (omega (arith, l, f.room.fits)) ∙ (h.flushed i l ∙ h.stored i l)
 
   plain-raw : (i : ℕ) → i < size_of r → (here s).image (address_of s.past.config r i) < 2 ^ 61
-  plain-raw i l = subst (λ z. z < 2 ^ 61) (sym (h.flushed i l ∙ h.stored.stored i l l)) (word-plain b.small r f i l)
+  plain-raw i l = subst (λ z. z < 2 ^ 61) (sym (h.flushed i l ∙ h.stored i l)) (word-plain b.small r f i l)
 
   durable-stands : Stands (durable s.past.config (here s) r.slot) r
-  durable-stands i l = node-at s.past.config (resolve (here s).image) r.slot (offset_of r + i) (omega (arith, l, f.room.fits)) ∙ (b.plain (here s).image (address_of s.past.config r i) (plain-raw i l) ∙ (h.flushed i l ∙ h.stored.stored i l l))
+  durable-stands i l = node-at s.past.config (resolve (here s).image) r.slot (offset_of r + i) (omega (arith, l, f.room.fits)) ∙ (b.plain (here s).image (address_of s.past.config r i) (plain-raw i l) ∙ (h.flushed i l ∙ h.stored i l))
 
   -- its place is the reserved one
   reserved-meta : durable s.past.config (here s) r.slot (META_AT + (status r.status).count) ≡ meta_word (Reserved (place_of r))
@@ -175,7 +176,7 @@ module _ (b : Laws) (s : Scene) (y : Instant) (r : NewRecord) (good : IsScene s)
       let o : (extent_of (Visible (place_of r))).offset ≡ offset_of r = ap (λ z. z.offset) extent-is in
       let l : i - offset_of r < size_of r = omega (arith, from, to, o, weighs) in
       let e : address_of s.past.config r (i - offset_of r) ≡ node_address s.past.config r.slot + i = omega (arith, from, o) in
-      subst (IsMineAndDurable s) e (record { mine = h.stored.mine (i - offset_of r) l; flushed = h.flushed (i - offset_of r) l })
+      subst (IsMineAndDurable s) e (record { mine = h.mine (i - offset_of r) l; flushed = h.flushed (i - offset_of r) l })
 
   rewrite-of : IsRewrite (publication r) (Visible (place_of r)) (inserts r) s
   rewrite-of = record {

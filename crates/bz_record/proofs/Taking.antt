@@ -24,7 +24,7 @@ use Rattle.bz_task.specs.Scene.{Scene, IsMine, IsScene, here}
 use Rattle.bz_task.specs.Shown.{IsOfRecord, IsShown}
 use Rattle.bz_task.specs.Swaps.{Stand, SwapsTo, grows_over, reserves as is_reserved, Takes}
 use Rattle.bz_record.specs.Laws.{SameLeaf, LeavesWere, IsTaken, ReservationsTakeWords}
-use Rattle.bz_record.specs.Leaves.{WasLeaf, WasLeafOf, WasReserved, HasStored}
+use Rattle.bz_record.specs.Leaves.{WasLeaf, WasLeafOf, WasReserved}
 use Rattle.bz_record.specs.Records.{size_of, offset_of, place_of, address_of, Fits}
 use Rattle.bz_record.specs.Swaps.{status_entry, meta_entry, entries_of, status_reserved, reservation}
 use Rattle.bz_record.specs.declared.new_record.NewRecord.{NewRecord}
@@ -161,7 +161,7 @@ module _ (b : Laws) (d : TakingLaws) (s after : Scene) (r : NewRecord) (moment :
       meta = with-config (λ c. words c (here after) r.slot (META_AT + (status r.status).count) ≡ meta_word (Reserved (place_of r))) (sets-meta s.past.config (reservation r) (here s) (here after) b.slots t.swaps (place b s (here after) r moment good f leaf.leaf stand t.swaps));
       unsorted = with-config (λ c. (page_at c (here after) r.slot).sorted ≤ (status r.status).count) unsorted;
     };
-    words = record { mine = mine; stored = λ i l none. absurd (omega (arith, none)) };
+    words = record { mine = mine; stored = λ i l none. absurd (omega (arith, none)); flushed = λ i l before. absurd (omega (arith, before)) };
   }
 
 pub taking : Laws → TakingLaws → ReservationsTakeWords

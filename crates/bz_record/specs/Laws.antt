@@ -20,9 +20,10 @@ use Rattle.bz_task.specs.Shown.{SameWords, SameNode}
 use Rattle.bz_task.specs.Steps.{next_stamp}
 use Rattle.bz_task.specs.Swaps.{Change, Stand, SwapsTo, IsMineAndDurable, IsGoodSwap, Takes}
 use Rattle.bz_task.specs.declared.view.LeafView.{LeafView}
-use Rattle.bz_record.specs.Leaves.{WasLeaf, WasLeafOf, WasReserved, HasStored, HasWritten}
+use Rattle.bz_record.specs.Leaves.{WasLeaf, WasLeafOf, WasReserved}
 use Rattle.bz_record.specs.Records.{Fits}
 use Rattle.bz_record.specs.Swaps.{entries_of, reservation, publication}
+use Rattle.bz_record.specs.Writing.{IsWriting, HasWritten}
 use Rattle.bz_record.specs.declared.new_record.NewRecord.{NewRecord}
 use Rattle.bz_record.specs.declared.record_swap.RecordSwap.{RecordSwap}
 
@@ -73,7 +74,7 @@ ReservationsAreGood =
 -- afterwards the record has its place in the leaf, and its words are the worker's own
 pub record IsTaken (r : NewRecord) (after : Scene) : Type 0 where
   pub reserved : WasReserved r after.past
-  pub words : HasStored r 0 after
+  pub words : IsWriting r 0 0 after
 
 abbrev pub ReservationsTakeWords : Type 0
 ReservationsTakeWords =

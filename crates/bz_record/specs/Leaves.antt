@@ -1,5 +1,5 @@
 -- What is known of a leaf that a record is put into.
-use Rattle.std.specs.Prelude.{◌≡◌, ℕ, ◌+◌, ◌^◌, ◌<◌, ◌≤◌, true, List, Option, None, slice_index}
+use Rattle.std.specs.Prelude.{◌≡◌, ℕ, ◌+◌, ◌^◌, ◌<◌, ◌≤◌, true, List, Option, None}
 use Rattle.bz_layout.specs.declared.sizes.TheConstants.{STATUS_AT, META_AT}
 use Rattle.bz_shape.specs.Order.{is_within}
 use Rattle.bz_slotted.specs.Readers.{found_of}
@@ -7,8 +7,8 @@ use Rattle.bz_word.specs.Metas.{meta_word}
 use Rattle.bz_word.specs.Statuses.{status}
 use Rattle.bz_word.specs.declared.meta.Meta.TheVariants.{Reserved}
 use Rattle.bz_task.specs.Instant.{words, durable, page_at, form_at, is_inside}
-use Rattle.bz_task.specs.Scene.{Past, Scene, IsMine, IsFlushed, here}
-use Rattle.bz_record.specs.Records.{words_in, size_of, place_of, address_of}
+use Rattle.bz_task.specs.Scene.{Past}
+use Rattle.bz_record.specs.Records.{place_of}
 use Rattle.bz_record.specs.Swaps.{status_reserved}
 use Rattle.bz_record.specs.declared.new_record.NewRecord.{NewRecord}
 
@@ -35,13 +35,3 @@ pub record WasReserved (r : NewRecord) (p : Past) : Type 0 where
   pub leaf : WasLeafOf r.key None r.slot (status_reserved r) moment p
   pub meta : words p.config (p.at moment) r.slot (META_AT + (status r.status).count) ≡ meta_word (Reserved (place_of r))
   pub unsorted : (page_at p.config (p.at moment) r.slot).sorted ≤ (status r.status).count
-
--- the record's words are the worker's own; the first so many are stored
-pub record HasStored (r : NewRecord) (count : ℕ) (s : Scene) : Type 0 where
-  pub mine : (i : ℕ) → i < size_of r → IsMine s (address_of s.past.config r i)
-  pub stored : (i : ℕ) → i < size_of r → i < count → (here s).value (address_of s.past.config r i) ≡ slice_index (words_in r) i
-
--- all of them are stored and durable
-pub record HasWritten (r : NewRecord) (s : Scene) : Type 0 where
-  pub stored : HasStored r (size_of r) s
-  pub flushed : (i : ℕ) → i < size_of r → IsFlushed s (address_of s.past.config r i)

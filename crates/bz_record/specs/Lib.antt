@@ -1,4 +1,5 @@
 pub mod Records
 pub mod Swaps
 pub mod Leaves
+pub mod Writing
 pub mod Laws

@@ -1,6 +1,7 @@
 //! Laws of the records of a leaf. Each function does nothing: its contract is the law.
 
 ghost use Rattle.bz_record.specs.Laws.{LeavesStay, ViewsShowLeaves, LeavesWere, RecordSwapsMayBeAsked, ReservationsAreGood, ReservationsTakeWords, RewritesAreGood, PublicationsAreGood};
+ghost use Rattle.bz_record.specs.Writing.{RecordsAreWritten};
 
 use bz_task::laws;
 
@@ -71,6 +72,14 @@ pub fn reservations_take_words()
     bz_word::laws::statuses();
     bz_word::laws::metas();
     bz_key::laws::packing_is_small();
+}
+
+/// The words of a record are stored one by one, and become durable line by line.
+pub fn records_are_written()
+    ensures { RecordsAreWritten }
+{
+    bz_key::laws::packing_is_small();
+    bz_layout::addresses_fit();
 }
 
 /// A swap that makes a change of a record is lawful for everybody, and changes the content so.

@@ -4,11 +4,12 @@ ghost use Rattle.std.specs.Prelude.{◌≡◌, ◌<◌, ◌≤◌, ◌^◌, true
 ghost use Rattle.bz_layout.specs.Config.{IsConfig};
 ghost use Rattle.bz_word.specs.Statuses.{status, IsStatus};
 ghost use Rattle.bz_record.specs.Records.{words_in, size_of, offset_of, place_of, address_of, HasRoom, LacksRoom, Fits};
+ghost use Rattle.bz_record.specs.Writing.{line_in};
 ghost use Rattle.bz_record.specs.Swaps.{reservation, publication, status_reserved, status_published};
 
 use crate::record_swap::RecordSwap;
 use bz_key::{Key, Payload};
-use bz_layout::{Config, NODE_WORDS, SHARED_WORDS};
+use bz_layout::{Config, LINE_WORDS, NODE_WORDS, SHARED_WORDS};
 use bz_word::{Extent, Meta, Status};
 
 /// A record that is to be put into a leaf, directly before the leaf's block.
@@ -68,6 +69,18 @@ impl NewRecord {
         ensures { result ≡ address_of config.now self.now i }
     {
         config.node_at(self.slot as u32) + (self.offset() + i)
+    }
+
+    /// The line in which one of its words lies.
+    pub fn line(&self, config: &Config, i: u32) -> u32
+        requires config { IsConfig config.now }
+        requires slot { self.now.slot < config.now.nodes }
+        requires fits { Fits self.now }
+        requires within { i < size_of self.now }
+        ensures line { result ≡ line_in config.now self.now i }
+        ensures small { result < 2 ^ 29 }
+    {
+        self.address(config, i) / LINE_WORDS
     }
 
     /// The swap that reserves its place.

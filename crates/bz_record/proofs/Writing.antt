@@ -1,0 +1,88 @@
+-- The words of a record are stored one by one, and become durable line by line.
+use Rattle.std.proofs.Common.{◌≡◌, ◌≢◌, ℕ, ◌+◌, ◌-◌, ◌*◌, ◌/◌, ◌<◌, ◌≤◌, arith, refl, sym, ap, subst, ◌∙◌, inl, inr}
+use Rattle.std.specs.Prelude.{slice_index, length}
+use Rattle.std.proofs.lemmas.Bool.{cases_lt, cases_eq}
+use Rattle.bz_key.specs.Laws.{PackingIsSmall}
+use Rattle.bz_key.specs.Packing.{packed}
+use Rattle.bz_layout.specs.Addresses.{line_of, AddressesFit}
+use Rattle.bz_layout.specs.declared.config.Config.{Config}
+use Rattle.bz_task.specs.OwnActs.{Stores, Flushes}
+use Rattle.bz_task.specs.Requests.{IsReadable, IsOwnStore}
+use Rattle.bz_task.specs.Scene.{Scene, IsMine, IsFlushed, IsScene, IsLawful, KeepsWord, here}
+use Rattle.bz_record.specs.Records.{words_in, size_of, address_of, Fits}
+use Rattle.bz_record.specs.Writing.{line_in, IsWriting, HasWritten, RecordsAreWritten}
+use Rattle.bz_record.specs.declared.new_record.NewRecord.{NewRecord}
+use Rattle.bz_record.proofs.Reading.{word-plain}
+
+-- the same facts where the sizes are said to be others
+resized : (r : NewRecord) (words lines : ℕ) (c d : Config) (s : Scene) → d ≡ c → s.past.config ≡ d
+    → ((i : ℕ) → i < size_of r → IsMine s (address_of c r i))
+    → ((i : ℕ) → i < size_of r → i < words → (here s).value (address_of c r i) ≡ slice_index (words_in r) i)
+    → ((i : ℕ) → i < size_of r → line_in c r i < line_in c r 0 + lines → IsFlushed s (address_of c r i))
+    → IsWriting r words lines s
+resized r words lines c d s e q mine stored flushed =
+    let p : s.past.config ≡ c = q ∙ e in record {
+      mine = λ i l. subst (λ z. IsMine s (address_of z r i)) (sym p) (mine i l);
+      stored = λ i l n. subst (λ z. (here s).value (address_of z r i) ≡ slice_index (words_in r) i) (sym p) (stored i l n);
+      flushed = λ i l n. subst (λ z. IsFlushed s (address_of z r i)) (sym p) (flushed i l (subst (λ z. line_in z r i < line_in z r 0 + lines) p n));
+    }
+
+stays : (r : NewRecord) (words lines : ℕ) (s after : Scene) → IsWriting r words lines s → IsLawful s after → IsWriting r words lines after
+stays r words lines s after w l =
+    resized r words lines s.past.config after.past.config after l.continues.config refl
+    (λ i h. (l.keeps (address_of s.past.config r i) (w.mine i h)).mine)
+    (λ i h n. (l.keeps (address_of s.past.config r i) (w.mine i h)).value ∙ w.stored i h n)
+    (λ i h n. (l.keeps (address_of s.past.config r i) (w.mine i h)).flushed (w.flushed i h n))
+
+stores : (r : NewRecord) (i : ℕ) (s after : Scene) → i < size_of r → IsWriting r i 0 s → Stores (address_of s.past.config r i) (slice_index (words_in r) i) s after → IsWriting r (i + 1) 0 after
+stores r i s after l w t =
+    resized r (i + 1) 0 s.past.config after.past.config after t.continues.config refl
+    (λ j h. t.mine (address_of s.past.config r j) (w.mine j h))
+    (λ j h n. elim (cases_eq j i) [
+      | inl e ↦ subst (λ z. (here after).value (address_of s.past.config r z) ≡ slice_index (words_in r) z) (sym e) t.value
+      | inr ne ↦ t.others (address_of s.past.config r j) (λ e. ne (omega (arith, e))) ∙ w.stored j h (omega (arith, n, ne))
+    ])
+    (λ j h n. absurd (omega (arith, n)))
+
+flushes : (r : NewRecord) (line : ℕ) (s after : Scene) → IsWriting r (size_of r) line s → Flushes (line_in s.past.config r 0 + line) s after → IsWriting r (size_of r) (line + 1) after
+flushes r line s after w t =
+    resized r (size_of r) (line + 1) s.past.config after.past.config after t.continues.config refl
+    (λ j h. t.mine (address_of s.past.config r j) (w.mine j h))
+    (λ j h n. t.value (address_of s.past.config r j) ∙ w.stored j h n)
+    (λ j h n. elim (cases_lt (line_in s.past.config r j) (line_in s.past.config r 0 + line)) [
+      | inl before ↦ t.stays (address_of s.past.config r j) (w.mine j h) (w.flushed j h before)
+      | inr now ↦ t.flushed (address_of s.past.config r j) (omega (arith, now, n)) (w.mine j h)
+    ])
+
+ends : (r : NewRecord) (lines : ℕ) (s : Scene) → IsWriting r (size_of r) lines s → line_in s.past.config r (size_of r - 1) < line_in s.past.config r 0 + lines → HasWritten r s
+ends r lines s w l = record {
+  mine = w.mine;
+  stored = λ i h. w.stored i h h;
+  flushed = λ i h. w.flushed i h (omega (arith, l, h));
+}
+
+written-stays : (r : NewRecord) (s after : Scene) → HasWritten r s → IsLawful s after → HasWritten r after
+written-stays r s after w l =
+    let e : after.past.config ≡ s.past.config = l.continues.config in record {
+      mine = λ i h. subst (λ z. IsMine after (address_of z r i)) (sym e) (l.keeps (address_of s.past.config r i) (w.mine i h)).mine;
+      stored = λ i h. subst (λ z. (here after).value (address_of z r i) ≡ slice_index (words_in r) i) (sym e) ((l.keeps (address_of s.past.config r i) (w.mine i h)).value ∙ w.stored i h);
+      flushed = λ i h. subst (λ z. IsFlushed after (address_of z r i)) (sym e) ((l.keeps (address_of s.past.config r i) (w.mine i h)).flushed (w.flushed i h));
+    }
+
+may-flush : PackingIsSmall → AddressesFit → (r : NewRecord) (line : ℕ) (s : Scene) → IsScene s → Fits r → r.slot < s.past.config.nodes → line_in s.past.config r 0 + line ≤ line_in s.past.config r (size_of r - 1) → IsReadable s (8 * (line_in s.past.config r 0 + line))
+may-flush small fit r line s good f l h =
+    let some : 0 < size_of r = omega (arith, f.key.some, (small r.key f.key.each).0) in record {
+      outside = inr (omega (arith, f.room.fits));
+      within = omega (arith, h, some, (fit s.past.config good.config).node_words r.slot 127 l (omega arith), f.room.fits);
+    }
+
+pub written : PackingIsSmall → AddressesFit → RecordsAreWritten
+written small fit = record {
+  stays = stays;
+  written_stays = written-stays;
+  stores = stores;
+  flushes = flushes;
+  ends = ends;
+  may_store = λ r i words lines s f l w. record { mine = w.mine i l; value = word-plain small r f i l };
+  may_flush = may-flush small fit;
+}

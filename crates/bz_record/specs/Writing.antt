@@ -1,0 +1,39 @@
+-- How the words of a record are stored and become durable, once they are the worker's own.
+use Rattle.std.specs.Prelude.{◌≡◌, ℕ, ◌+◌, ◌-◌, ◌*◌, ◌<◌, ◌≤◌, slice_index}
+use Rattle.bz_layout.specs.Addresses.{line_of}
+use Rattle.bz_layout.specs.declared.config.Config.{Config}
+use Rattle.bz_layout.specs.declared.sizes.TheConstants.{LINE_WORDS}
+use Rattle.bz_task.specs.OwnActs.{Stores, Flushes}
+use Rattle.bz_task.specs.Requests.{IsReadable, IsOwnStore}
+use Rattle.bz_task.specs.Scene.{Scene, IsMine, IsFlushed, IsScene, IsLawful, here}
+use Rattle.bz_record.specs.Records.{words_in, size_of, address_of, Fits}
+use Rattle.bz_record.specs.declared.new_record.NewRecord.{NewRecord}
+
+-- the line of the record's word i
+abbrev pub line_in : Config → NewRecord → ℕ → ℕ
+line_in c r i = line_of (address_of c r i)
+
+-- the record's words are the worker's own; the first so many are stored, and those in the first so many lines are durable
+pub record IsWriting (r : NewRecord) (words lines : ℕ) (s : Scene) : Type 0 where
+  pub mine : (i : ℕ) → i < size_of r → IsMine s (address_of s.past.config r i)
+  pub stored : (i : ℕ) → i < size_of r → i < words → (here s).value (address_of s.past.config r i) ≡ slice_index (words_in r) i
+  pub flushed : (i : ℕ) → i < size_of r → line_in s.past.config r i < line_in s.past.config r 0 + lines → IsFlushed s (address_of s.past.config r i)
+
+-- all of them are stored and durable
+pub record HasWritten (r : NewRecord) (s : Scene) : Type 0 where
+  pub mine : (i : ℕ) → i < size_of r → IsMine s (address_of s.past.config r i)
+  pub stored : (i : ℕ) → i < size_of r → (here s).value (address_of s.past.config r i) ≡ slice_index (words_in r) i
+  pub flushed : (i : ℕ) → i < size_of r → IsFlushed s (address_of s.past.config r i)
+
+pub record RecordsAreWritten : Type 0 where
+  -- what is written stays
+  pub stays : (r : NewRecord) (words lines : ℕ) (s after : Scene) → IsWriting r words lines s → IsLawful s after → IsWriting r words lines after
+  pub written_stays : (r : NewRecord) (s after : Scene) → HasWritten r s → IsLawful s after → HasWritten r after
+  -- a store of the next word, and a flush of the next line
+  pub stores : (r : NewRecord) (i : ℕ) (s after : Scene) → i < size_of r → IsWriting r i 0 s → Stores (address_of s.past.config r i) (slice_index (words_in r) i) s after → IsWriting r (i + 1) 0 after
+  pub flushes : (r : NewRecord) (line : ℕ) (s after : Scene) → IsWriting r (size_of r) line s → Flushes (line_in s.past.config r 0 + line) s after → IsWriting r (size_of r) (line + 1) after
+  -- after the last line all is durable
+  pub ends : (r : NewRecord) (lines : ℕ) (s : Scene) → IsWriting r (size_of r) lines s → line_in s.past.config r (size_of r - 1) < line_in s.past.config r 0 + lines → HasWritten r s
+  -- both may be asked for
+  pub may_store : (r : NewRecord) (i words lines : ℕ) (s : Scene) → Fits r → i < size_of r → IsWriting r words lines s → IsOwnStore s (address_of s.past.config r i) (slice_index (words_in r) i)
+  pub may_flush : (r : NewRecord) (line : ℕ) (s : Scene) → IsScene s → Fits r → r.slot < s.past.config.nodes → line_in s.past.config r 0 + line ≤ line_in s.past.config r (size_of r - 1) → IsReadable s (LINE_WORDS * (line_in s.past.config r 0 + line))
