@@ -14,8 +14,11 @@ abbrev pub words_in : NewRecord → List ℕ
 words_in r = packed r.key ++ packed r.payload
 
 -- how many these are
+abbrev pub words_for : List ℕ → List ℕ → ℕ
+words_for key payload = length (packed key) + length (packed payload)
+
 abbrev pub size_of : NewRecord → ℕ
-size_of r = length (packed r.key) + length (packed r.payload)
+size_of r = words_for r.key r.payload
 
 -- where they lie: directly before the block of the leaf, as it was viewed
 abbrev pub offset_of : NewRecord → ℕ

@@ -13,11 +13,18 @@ use Rattle.bz_record.specs.declared.new_record.NewRecord.{NewRecord}
 abbrev pub line_in : Config → NewRecord → ℕ → ℕ
 line_in c r i = line_of (address_of c r i)
 
+-- the first and the last line of the record
+abbrev pub first_line : Config → NewRecord → ℕ
+first_line c r = line_in c r 0
+
+abbrev pub last_line : Config → NewRecord → ℕ
+last_line c r = line_in c r (size_of r - 1)
+
 -- the record's words are the worker's own; the first so many are stored, and those in the first so many lines are durable
 pub record IsWriting (r : NewRecord) (words lines : ℕ) (s : Scene) : Type 0 where
   pub mine : (i : ℕ) → i < size_of r → IsMine s (address_of s.past.config r i)
   pub stored : (i : ℕ) → i < size_of r → i < words → (here s).value (address_of s.past.config r i) ≡ slice_index (words_in r) i
-  pub flushed : (i : ℕ) → i < size_of r → line_in s.past.config r i < line_in s.past.config r 0 + lines → IsFlushed s (address_of s.past.config r i)
+  pub flushed : (i : ℕ) → i < size_of r → line_in s.past.config r i < first_line s.past.config r + lines → IsFlushed s (address_of s.past.config r i)
 
 -- all of them are stored and durable
 pub record HasWritten (r : NewRecord) (s : Scene) : Type 0 where
@@ -31,9 +38,9 @@ pub record RecordsAreWritten : Type 0 where
   pub written_stays : (r : NewRecord) (s after : Scene) → HasWritten r s → IsLawful s after → HasWritten r after
   -- a store of the next word, and a flush of the next line
   pub stores : (r : NewRecord) (i : ℕ) (s after : Scene) → i < size_of r → IsWriting r i 0 s → Stores (address_of s.past.config r i) (slice_index (words_in r) i) s after → IsWriting r (i + 1) 0 after
-  pub flushes : (r : NewRecord) (line : ℕ) (s after : Scene) → IsWriting r (size_of r) line s → Flushes (line_in s.past.config r 0 + line) s after → IsWriting r (size_of r) (line + 1) after
+  pub flushes : (r : NewRecord) (line : ℕ) (s after : Scene) → IsWriting r (size_of r) line s → Flushes (first_line s.past.config r + line) s after → IsWriting r (size_of r) (line + 1) after
   -- after the last line all is durable
-  pub ends : (r : NewRecord) (lines : ℕ) (s : Scene) → IsWriting r (size_of r) lines s → line_in s.past.config r (size_of r - 1) < line_in s.past.config r 0 + lines → HasWritten r s
+  pub ends : (r : NewRecord) (lines : ℕ) (s : Scene) → IsWriting r (size_of r) lines s → last_line s.past.config r < first_line s.past.config r + lines → HasWritten r s
   -- both may be asked for
   pub may_store : (r : NewRecord) (i words lines : ℕ) (s : Scene) → Fits r → i < size_of r → IsWriting r words lines s → IsOwnStore s (address_of s.past.config r i) (slice_index (words_in r) i)
-  pub may_flush : (r : NewRecord) (line : ℕ) (s : Scene) → IsScene s → Fits r → r.slot < s.past.config.nodes → line_in s.past.config r 0 + line ≤ line_in s.past.config r (size_of r - 1) → IsReadable s (LINE_WORDS * (line_in s.past.config r 0 + line))
+  pub may_flush : (r : NewRecord) (line : ℕ) (s : Scene) → IsScene s → Fits r → r.slot < s.past.config.nodes → first_line s.past.config r + line ≤ last_line s.past.config r → IsReadable s (LINE_WORDS * (first_line s.past.config r + line))

@@ -1,10 +1,10 @@
 //! A record that is to be put into a leaf.
 
-ghost use Rattle.std.specs.Prelude.{◌≡◌, ◌<◌, ◌≤◌, ◌^◌, true, false, slice_index};
+ghost use Rattle.std.specs.Prelude.{◌≡◌, ◌+◌, ◌<◌, ◌≤◌, ◌^◌, true, false, slice_index};
 ghost use Rattle.bz_layout.specs.Config.{IsConfig};
 ghost use Rattle.bz_word.specs.Statuses.{status, IsStatus};
 ghost use Rattle.bz_record.specs.Records.{words_in, size_of, offset_of, place_of, address_of, HasRoom, LacksRoom, Fits};
-ghost use Rattle.bz_record.specs.Writing.{line_in};
+ghost use Rattle.bz_record.specs.Writing.{first_line, last_line};
 ghost use Rattle.bz_record.specs.Swaps.{reservation, publication, status_reserved, status_published};
 
 use crate::record_swap::RecordSwap;
@@ -71,16 +71,27 @@ impl NewRecord {
         config.node_at(self.slot as u32) + (self.offset() + i)
     }
 
-    /// The line in which one of its words lies.
-    pub fn line(&self, config: &Config, i: u32) -> u32
+    /// The first line in which its words lie.
+    pub fn first_line(&self, config: &Config) -> u32
         requires config { IsConfig config.now }
         requires slot { self.now.slot < config.now.nodes }
         requires fits { Fits self.now }
-        requires within { i < size_of self.now }
-        ensures line { result ≡ line_in config.now self.now i }
+        ensures line { result ≡ first_line config.now self.now }
         ensures small { result < 2 ^ 29 }
     {
-        self.address(config, i) / LINE_WORDS
+        let _size = self.size();
+        self.address(config, 0) / LINE_WORDS
+    }
+
+    /// The last one, which is the same or the next.
+    pub fn last_line(&self, config: &Config) -> u32
+        requires config { IsConfig config.now }
+        requires slot { self.now.slot < config.now.nodes }
+        requires fits { Fits self.now }
+        ensures line { result ≡ last_line config.now self.now }
+        ensures near { result ≤ first_line config.now self.now + 1 }
+    {
+        self.address(config, self.size() - 1) / LINE_WORDS
     }
 
     /// The swap that reserves its place.

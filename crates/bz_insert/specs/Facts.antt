@@ -1,0 +1,124 @@
+-- What an insert knows, and what it asks for.
+use Rattle.std.specs.Prelude.{◌≡◌, ℕ, ◌+◌, ◌-◌, ◌<◌, ◌≤◌, nat_lt, if◌then◌else◌, Bool, true, false, Option, Some, None, slice_index}
+use Rattle.bz_call.specs.declared.replies.Spent.TheVariants.{Swaps}
+use Rattle.bz_key.specs.Bytes.{IsKey, IsPayload}
+use Rattle.bz_layout.specs.declared.config.Config.{Config}
+use Rattle.bz_word.specs.Statuses.{status}
+use Rattle.bz_task.specs.Scene.{Scene, Stage, Waiting, Took, HasFilled}
+use Rattle.bz_task.specs.declared.todo.Outcome.{Outcome}
+use Rattle.bz_task.specs.declared.todo.Outcome.TheVariants.{Done as IsDone, Restart as Restarts, NeedsRoom as Needs, Full as IsFull}
+use Rattle.bz_task.specs.declared.todo.Todo.{Todo}
+use Rattle.bz_task.specs.declared.todo.Todo.TheVariants.{Store as Stores_at, Flush as Flushes_line, Swap as Swaps_for, Finish}
+use Rattle.bz_record.specs.Leaves.{WasLeafOf, WasReserved}
+use Rattle.bz_record.specs.Records.{words_in, size_of, address_of, HasRoom, LacksRoom, Fits}
+use Rattle.bz_record.specs.Swaps.{entries_of, reservation, publication}
+use Rattle.bz_record.specs.Writing.{first_line, last_line, IsWriting, HasWritten}
+use Rattle.bz_record.specs.declared.new_record.NewRecord.{NewRecord}
+use Rattle.bz_insert.specs.declared.phase.Phase.{Phase}
+use Rattle.bz_insert.specs.declared.phase.Phase.TheVariants.{Fresh, Reserve, Store, Flush, Publish, Done, Restart, NeedsRoom, Full}
+
+abbrev pub insert_asks : Config → NewRecord → Phase → Option Todo
+insert_asks c r Fresh = None
+insert_asks c r Reserve = Some (Swaps_for (entries_of c (reservation r)))
+insert_asks c r (Store i) = Some (Stores_at (address_of c r i) (slice_index (words_in r) i))
+insert_asks c r (Flush n) = Some (Flushes_line (first_line c r + n))
+insert_asks c r Publish = Some (Swaps_for (entries_of c (publication r)))
+insert_asks c r Done = Some (Finish IsDone)
+insert_asks c r Restart = Some (Finish Restarts)
+insert_asks c r NeedsRoom = Some (Finish Needs)
+insert_asks c r Full = Some (Finish (IsFull Swaps))
+
+-- the most acts: two swaps, eight stores and two flushes
+abbrev pub insert_left : Phase → ℕ
+insert_left Fresh = 13
+insert_left Reserve = 12
+insert_left (Store i) = 11 - i
+insert_left (Flush n) = 3 - n
+insert_left Publish = 1
+insert_left phase = 0
+
+-- after a store comes the next one, or the first flush; after a flush the next one, or the publication
+abbrev pub next_store : NewRecord → ℕ → Phase
+next_store r i = if nat_lt (i + 1) (size_of r) then Store (i + 1) else Flush 0
+
+abbrev pub next_flush : Config → NewRecord → ℕ → Phase
+next_flush c r n = if nat_lt (first_line c r + n) (last_line c r) then Flush (n + 1) else Publish
+
+-- the swap that makes the record visible is the one that makes the change
+abbrev pub insert_publishes : Phase → Bool
+insert_publishes Publish = true
+insert_publishes phase = false
+
+-- the leaf of the key was viewed, and had no such key
+pub record HasViewed (r : NewRecord) (s : Scene) : Type 0 where
+  pub moment : ℕ
+  pub leaf : WasLeafOf r.key None r.slot r.status moment s.past
+  pub dead : (status r.status).dead ≤ (status r.status).block
+  pub key : IsKey r.key
+  pub payload : IsPayload r.payload
+  pub going : s.effected ≡ false
+
+-- and has room for the record
+pub record CanReserve (r : NewRecord) (s : Scene) : Type 0 where
+  pub viewed : HasViewed r s
+  pub room : HasRoom r.status (size_of r)
+
+-- the record's place is reserved; so many words are stored, and so many lines durable
+pub record HasReserved (r : NewRecord) (words lines : ℕ) (s : Scene) : Type 0 where
+  pub fits : Fits r
+  pub reserved : WasReserved r s.past
+  pub writing : IsWriting r words lines s
+  pub going : s.effected ≡ false
+
+-- all of them are
+pub record CanPublish (r : NewRecord) (s : Scene) : Type 0 where
+  pub fits : Fits r
+  pub reserved : WasReserved r s.past
+  pub written : HasWritten r s
+  pub going : s.effected ≡ false
+
+-- the call has had its effect
+pub record HasPublished (r : NewRecord) (s : Scene) : Type 0 where
+  pub room : HasRoom r.status (size_of r)
+  pub effected : s.effected ≡ true
+
+-- line n, counted from the record's first one, is one of the record's
+abbrev pub IsLineOf : Config → NewRecord → ℕ → Type 0
+IsLineOf c r n = first_line c r + n ≤ last_line c r
+
+abbrev pub insert_learnt : NewRecord → Phase → Stage → Scene → Type 0
+insert_learnt r Fresh Waiting s = HasViewed r s
+insert_learnt r Reserve Waiting s = CanReserve r s
+insert_learnt r Reserve Took s = HasReserved r 0 0 s
+insert_learnt r (Store i) Waiting s = (i < size_of r) × HasReserved r i 0 s
+insert_learnt r (Store i) Took s = (i < size_of r) × HasReserved r (i + 1) 0 s
+insert_learnt r (Flush n) Waiting s = IsLineOf s.past.config r n × HasReserved r (size_of r) n s
+insert_learnt r (Flush n) Took s = IsLineOf s.past.config r n × HasReserved r (size_of r) (n + 1) s
+insert_learnt r Publish Waiting s = CanPublish r s
+insert_learnt r Publish Took s = HasPublished r s
+insert_learnt r Done Waiting s = HasPublished r s
+insert_learnt r Restart Waiting s = HasRoom r.status (size_of r)
+insert_learnt r Full Waiting s = HasRoom r.status (size_of r)
+insert_learnt r NeedsRoom Waiting s = LacksRoom r.status (size_of r)
+insert_learnt r phase Took s = ⊥
+
+-- from the first act on each slot that was taken has been stored into
+abbrev pub insert_facts : NewRecord → Phase → Stage → Scene → Type 0
+insert_facts r Fresh stage s = insert_learnt r Fresh stage s
+insert_facts r phase stage s = HasFilled s × insert_learnt r phase stage s
+
+-- it ends for want of room exactly where the leaf as it was viewed lacks it
+abbrev pub insert_means : NewRecord → Outcome → Scene → Type 0
+insert_means r IsDone s = HasPublished r s
+insert_means r Restarts s = HasRoom r.status (size_of r)
+insert_means r Needs s = LacksRoom r.status (size_of r)
+insert_means r (IsFull Swaps) s = HasRoom r.status (size_of r)
+insert_means r outcome s = ⊥
+
+-- what is named is there
+abbrev pub IsReady : Config → NewRecord → Phase → Type 0
+IsReady c r Reserve = Fits r × (r.slot < c.nodes)
+IsReady c r (Store i) = Fits r × (r.slot < c.nodes) × (i < size_of r)
+IsReady c r (Flush n) = Fits r × (r.slot < c.nodes) × (n < 2)
+IsReady c r Publish = Fits r × (r.slot < c.nodes)
+IsReady c r phase = Unit {0}

@@ -1,0 +1,210 @@
+//! The task that inserts a record into a leaf.
+
+ghost use Rattle.std.specs.Prelude.{◌≡◌, ◌≢◌, ◌↔◌, ◌-◌, ◌<◌, ◌^◌, ◌⊎◌, ℕ, Some, None, true, false};
+ghost use Rattle.bz_layout.specs.Config.{IsConfig};
+ghost use Rattle.bz_slotted.specs.ReadingLaws.{node_of};
+ghost use Rattle.bz_slotted.specs.Readers.{found_of};
+ghost use Rattle.bz_task.specs.Outcomes.{IsView};
+ghost use Rattle.bz_task.specs.Requests.{Hears, Tells, IsKnown};
+ghost use Rattle.bz_task.specs.Scene.{Scene, Stage, Waiting, IsScene};
+ghost use Rattle.bz_task.specs.declared.todo.Seen.TheVariants.{Swapped, NoSwap};
+ghost use Rattle.bz_record.specs.Laws.{inserts};
+ghost use Rattle.bz_record.specs.Records.{words_for, size_of, HasRoom, LacksRoom};
+ghost use Rattle.bz_insert.specs.Facts.{insert_asks, insert_left, insert_publishes, insert_facts, insert_means, IsReady, next_store, next_flush};
+
+use crate::phase::Phase;
+use bz_call::Spent;
+use bz_key::{Key, Payload};
+use bz_layout::{Config, Slots};
+use bz_record::NewRecord;
+use bz_task::{LeafView, Outcome, Path, Seen, Task, Todo, laws};
+
+/// The insert of a key and its payload into the leaf that a view shows. It ends with Done where the record is visible, with
+/// NeedsRoom where the viewed leaf is frozen or lacks the words, with Restart where a swap found another status, and with
+/// Full(Swaps).
+#[derive(Drop)]
+pub struct Insert {
+    config: Config,
+    added: NewRecord,
+    phase: Phase,
+}
+
+impl Insert {
+    /// The insert of a key that is absent from its leaf.
+    pub fn new(
+        config: &Config,
+        _path: Path,
+        view: LeafView,
+        key: Key,
+        payload: Payload,
+    ) -> Insert
+        requires absent { found_of (node_of view.image.0) key ≡ None }
+        ensures config { ⟦<Insert as Task>⟧.config result ≡ config.now }
+        ensures asks { ⟦<Insert as Task>⟧.asks result ≡ None }
+        ensures left { ⟦<Insert as Task>⟧.left result ≡ 13 }
+        ensures needs { ⟦<Insert as Task>⟧.needs result ≡ 0 }
+        ensures change { ⟦<Insert as Task>⟧.change result ≡ record { key = key; old = None; new = Some payload } }
+        ensures facts { (s : Scene) → s.past.config ≡ config.now → s.effected ≡ false → IsScene s → IsView key view s.past → ⟦<Insert as Task>⟧.facts result Waiting s }
+        ensures done { (s : Scene) → ⟦<Insert as Task>⟧.means result Outcome.Done s → s.effected ≡ true }
+        // NeedsRoom comes exactly where the viewed leaf lacks room
+        ensures needs_room { (s : Scene) → ⟦<Insert as Task>⟧.means result Outcome.NeedsRoom s → LacksRoom view.status (words_for key payload) }
+        ensures room { (s : Scene) (outcome : Outcome) → ⟦<Insert as Task>⟧.means result outcome s → outcome ≢ Outcome.NeedsRoom → HasRoom view.status (words_for key payload) }
+    {
+        bz_record::laws::views_show_leaves();
+        let _key = key.bytes();
+        let _payload = payload.bytes();
+        Insert {
+            config: *config,
+            added: NewRecord {
+                slot: view.slot,
+                status: view.status,
+                key,
+                payload,
+            },
+            phase: Phase::Fresh,
+        }
+    }
+}
+
+impl Insert {
+    // The phase after what came of the last act.
+    fn after(&self, seen: Seen, moment: u32) -> Phase
+        requires hears { Hears (insert_asks self.now.config self.now.added self.now.phase) seen }
+        requires known { IsKnown self.now.config (insert_facts self.now.added self.now.phase) (insert_asks self.now.config self.now.added self.now.phase) seen moment }
+        ensures nearer { insert_left result < insert_left self.now.phase }
+        ensures done { result ≡ Phase.Done → seen ≡ Swapped true }
+        ensures restart { result ≡ Phase.Restart → seen ≡ Swapped false }
+        ensures full { (result ≡ Phase.Full) ↔ (seen ≡ NoSwap) }
+        ensures begun { result ≢ Phase.Fresh }
+        ensures config { IsConfig self.now.config }
+        ensures ready { IsReady self.now.config self.now.added result }
+        ensures learns { (stage : Stage) (s : Scene) → s.past.config ≡ self.now.config → insert_facts self.now.added self.now.phase stage s → Tells (insert_asks self.now.config self.now.added self.now.phase) stage seen s → insert_facts self.now.added result Waiting s }
+    {
+        let _moment = moment;
+        match (self.phase, seen) {
+            (Phase::Fresh, _) => self.begun(),
+            (Phase::Reserve, Seen::Swapped(true)) => Phase::Store(0),
+            (Phase::Store(i), Seen::Stored) => self.after_store(i),
+            (Phase::Flush(n), Seen::Flushed) => self.after_flush(n),
+            (Phase::Publish, Seen::Swapped(true)) => Phase::Done,
+            (Phase::Reserve | Phase::Publish, Seen::NoSwap) => Phase::Full,
+            _ => Phase::Restart,
+        }
+    }
+
+    // What a phase asks for.
+    fn asked(&self) -> Todo
+        requires begun { self.now.phase ≢ Phase.Fresh }
+        requires config { IsConfig self.now.config }
+        requires ready { IsReady self.now.config self.now.added self.now.phase }
+        ensures { insert_asks self.now.config self.now.added self.now.phase ≡ Some result }
+    {
+        match self.phase {
+            Phase::Fresh | Phase::Restart => Todo::Finish(Outcome::Restart),
+            Phase::Reserve => Todo::Swap(self.added.reservation().entries(&self.config)),
+            Phase::Store(i) => {
+                Todo::Store(self.added.address(&self.config, i), self.added.word(i))
+            }
+            Phase::Flush(n) => Todo::Flush(self.added.first_line(&self.config) + n),
+            Phase::Publish => Todo::Swap(self.added.publication().entries(&self.config)),
+            Phase::Done => Todo::Finish(Outcome::Done),
+            Phase::NeedsRoom => Todo::Finish(Outcome::NeedsRoom),
+            Phase::Full => Todo::Finish(Outcome::Full(Spent::Swaps)),
+        }
+    }
+
+    // The first phase: the reservation, where the leaf has room.
+    fn begun(&self) -> Phase
+        requires plain { self.now.added.status < 2 ^ 61 }
+        ensures reserve { result ≡ Phase.Reserve → HasRoom self.now.added.status (size_of self.now.added) }
+        ensures none { result ≡ Phase.NeedsRoom → LacksRoom self.now.added.status (size_of self.now.added) }
+        ensures either { (result ≡ Phase.Reserve) ⊎ (result ≡ Phase.NeedsRoom) }
+    {
+        if self.added.has_room() {
+            Phase::Reserve
+        } else {
+            Phase::NeedsRoom
+        }
+    }
+
+    // The phase after the store of a word: that of the next one, or the first flush.
+    fn after_store(&self, i: u32) -> Phase
+        requires { IsReady self.now.config self.now.added (Phase.Store i) }
+        ensures next { result ≡ next_store self.now.added i }
+        ensures nearer { insert_left result < 11 - i }
+        ensures ready { IsReady self.now.config self.now.added result }
+    {
+        let size = self.added.size();
+        if i + 1 < size {
+            Phase::Store(i + 1)
+        } else {
+            Phase::Flush(0)
+        }
+    }
+
+    // The phase after the flush of a line: that of the next one, or the publication.
+    fn after_flush(&self, n: u32) -> Phase
+        requires config { IsConfig self.now.config }
+        requires ready { IsReady self.now.config self.now.added (Phase.Flush n) }
+        ensures next { result ≡ next_flush self.now.config self.now.added n }
+        ensures nearer { insert_left result < 3 - n }
+        ensures ready { IsReady self.now.config self.now.added result }
+    {
+        let line = self.added.first_line(&self.config) + n;
+        if line < self.added.last_line(&self.config) {
+            Phase::Flush(n + 1)
+        } else {
+            Phase::Publish
+        }
+    }
+}
+
+impl Task for Insert {
+    ghost config = { λ t. t.config };
+
+    ghost asks = { λ t. insert_asks t.config t.added t.phase };
+
+    ghost left = { λ t. insert_left t.phase };
+
+    ghost needs = { λ t. 0 };
+
+    ghost change = { λ t. inserts t.added };
+
+    ghost publishing = { λ t. insert_publishes t.phase };
+
+    ghost facts = { λ t. insert_facts t.added t.phase };
+
+    ghost means = { λ t. insert_means t.added };
+
+    ghost differs = { λ t seen. ⊥ };
+
+    fn publishes(&self) -> bool {
+        match self.phase {
+            Phase::Publish => true,
+            _ => false,
+        }
+    }
+
+    fn next(&mut self, seen: Seen, slots: &mut Slots, moment: u32) -> Todo {
+        let _slots = slots;
+        laws::nothing_is_gained();
+        self.phase = self.after(seen, moment);
+        self.asked()
+    }
+
+    fn learnt(&self) {
+        bz_record::laws::leaves_were();
+        bz_record::laws::records_are_written();
+        bz_record::laws::record_swaps_may_be_asked();
+        bz_word::laws::statuses();
+        bz_word::laws::metas();
+    }
+
+    fn acted(&self) {
+        bz_record::laws::leaves_were();
+        bz_record::laws::records_are_written();
+        bz_record::laws::reservations_are_good();
+        bz_record::laws::reservations_take_words();
+        bz_record::laws::publications_are_good();
+    }
+}
