@@ -1,0 +1,3 @@
+mod Knowing
+mod Staying
+mod Acting

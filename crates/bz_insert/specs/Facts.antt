@@ -56,6 +56,8 @@ pub record HasViewed (r : NewRecord) (s : Scene) : Type 0 where
   pub dead : (status r.status).dead ≤ (status r.status).block
   pub key : IsKey r.key
   pub payload : IsPayload r.payload
+  pub some : 0 < size_of r
+  pub few : size_of r ≤ 8
   pub going : s.effected ≡ false
 
 -- and has room for the record

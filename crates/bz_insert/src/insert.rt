@@ -51,6 +51,7 @@ impl Insert {
         ensures room { (s : Scene) (outcome : Outcome) → ⟦<Insert as Task>⟧.means result outcome s → outcome ≢ Outcome.NeedsRoom → HasRoom view.status (words_for key payload) }
     {
         bz_record::laws::views_show_leaves();
+        bz_key::laws::packing_is_small();
         let _key = key.bytes();
         let _payload = payload.bytes();
         Insert {
@@ -195,9 +196,7 @@ impl Task for Insert {
     fn learnt(&self) {
         bz_record::laws::leaves_were();
         bz_record::laws::records_are_written();
-        bz_record::laws::record_swaps_may_be_asked();
-        bz_word::laws::statuses();
-        bz_word::laws::metas();
+        bz_record::laws::new_record_swaps_may_be_asked();
     }
 
     fn acted(&self) {

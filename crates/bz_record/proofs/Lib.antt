@@ -9,3 +9,4 @@ mod Rewriting
 mod Reading
 mod Publishing
 mod Writing
+mod AskingBoth

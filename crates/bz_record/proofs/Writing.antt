@@ -54,13 +54,6 @@ flushes r line s after w t =
       | inr now ↦ t.flushed (address_of s.past.config r j) (omega (arith, now, n)) (w.mine j h)
     ])
 
-ends : (r : NewRecord) (lines : ℕ) (s : Scene) → IsWriting r (size_of r) lines s → line_in s.past.config r (size_of r - 1) < line_in s.past.config r 0 + lines → HasWritten r s
-ends r lines s w l = record {
-  mine = w.mine;
-  stored = λ i h. w.stored i h h;
-  flushed = λ i h. w.flushed i h (omega (arith, l, h));
-}
-
 written-stays : (r : NewRecord) (s after : Scene) → HasWritten r s → IsLawful s after → HasWritten r after
 written-stays r s after w l =
     let e : after.past.config ≡ s.past.config = l.continues.config in record {
@@ -69,12 +62,11 @@ written-stays r s after w l =
       flushed = λ i h. subst (λ z. IsFlushed after (address_of z r i)) (sym e) ((l.keeps (address_of s.past.config r i) (w.mine i h)).flushed (w.flushed i h));
     }
 
-may-flush : PackingIsSmall → AddressesFit → (r : NewRecord) (line : ℕ) (s : Scene) → IsScene s → Fits r → r.slot < s.past.config.nodes → line_in s.past.config r 0 + line ≤ line_in s.past.config r (size_of r - 1) → IsReadable s (8 * (line_in s.past.config r 0 + line))
-may-flush small fit r line s good f l h =
-    let some : 0 < size_of r = omega (arith, f.key.some, (small r.key f.key.each).0) in record {
-      outside = inr (omega (arith, f.room.fits));
-      within = omega (arith, h, some, (fit s.past.config good.config).node_words r.slot 127 l (omega arith), f.room.fits);
-    }
+may-flush : AddressesFit → (r : NewRecord) (line : ℕ) (s : Scene) → IsScene s → Fits r → r.slot < s.past.config.nodes → line_in s.past.config r 0 + line ≤ line_in s.past.config r (size_of r - 1) → IsReadable s (8 * (line_in s.past.config r 0 + line))
+may-flush fit r line s good f l h = record {
+  outside = inr (omega (arith, f.room.fits));
+  within = omega (arith, h, f.some, (fit s.past.config good.config).node_words r.slot 127 l (omega arith), f.room.fits);
+}
 
 pub written : PackingIsSmall → AddressesFit → RecordsAreWritten
 written small fit = record {
@@ -82,7 +74,6 @@ written small fit = record {
   written_stays = written-stays;
   stores = stores;
   flushes = flushes;
-  ends = ends;
   may_store = λ r i words lines s f l w. record { mine = w.mine i l; value = word-plain small r f i l };
-  may_flush = may-flush small fit;
+  may_flush = may-flush fit;
 }

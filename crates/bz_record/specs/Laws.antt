@@ -64,6 +64,11 @@ RecordSwapsMayBeAsked =
     (s : Scene) (w : RecordSwap) (moment : ℕ) → IsScene s → WasLeaf w.slot w.status moment s.past → IsPlaceIn w.status w.place → w.new_status < 2 ^ 61 → w.meta < 2 ^ 61 → w.new_meta < 2 ^ 61 →
     All (IsEntryToAsk s) (entries_of s.past.config w)
 
+-- so may the two swaps of a record that comes
+pub record NewRecordSwapsMayBeAsked : Type 0 where
+  pub first : (s : Scene) (r : NewRecord) (moment : ℕ) → IsScene s → Fits r → WasLeaf r.slot r.status moment s.past → All (IsEntryToAsk s) (entries_of s.past.config (reservation r))
+  pub second : (s : Scene) (r : NewRecord) → IsScene s → Fits r → WasReserved r s.past → All (IsEntryToAsk s) (entries_of s.past.config (publication r))
+
 -- where the status is the one that was read, a reservation is lawful for everybody and changes no content
 abbrev pub ReservationsAreGood : Type 0
 ReservationsAreGood =

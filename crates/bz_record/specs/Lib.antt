@@ -2,4 +2,5 @@ pub mod Records
 pub mod Swaps
 pub mod Leaves
 pub mod Writing
+pub mod Written
 pub mod Laws

@@ -40,10 +40,12 @@ pub record HasRoom (st words : ℕ) : Type 0 where
 abbrev pub LacksRoom : ℕ → ℕ → Type 0
 LacksRoom st words = ((status st).frozen ≡ true) ⊎ (SHARED_WORDS < (status st).count + 1 + (status st).block + words)
 
--- a record of a key and a payload, and the status of a leaf that has room for it
+-- a record of a key and a payload, of one to eight words, and the status of a leaf that has room for it
 pub record Fits (r : NewRecord) : Type 0 where
   pub key : IsKey r.key
   pub payload : IsPayload r.payload
+  pub some : 0 < size_of r
+  pub few : size_of r ≤ 8
   pub plain : r.status < 2 ^ 61
   pub room : HasRoom r.status (size_of r)
   pub dead : (status r.status).dead ≤ (status r.status).block

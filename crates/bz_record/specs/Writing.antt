@@ -39,8 +39,6 @@ pub record RecordsAreWritten : Type 0 where
   -- a store of the next word, and a flush of the next line
   pub stores : (r : NewRecord) (i : ℕ) (s after : Scene) → i < size_of r → IsWriting r i 0 s → Stores (address_of s.past.config r i) (slice_index (words_in r) i) s after → IsWriting r (i + 1) 0 after
   pub flushes : (r : NewRecord) (line : ℕ) (s after : Scene) → IsWriting r (size_of r) line s → Flushes (first_line s.past.config r + line) s after → IsWriting r (size_of r) (line + 1) after
-  -- after the last line all is durable
-  pub ends : (r : NewRecord) (lines : ℕ) (s : Scene) → IsWriting r (size_of r) lines s → last_line s.past.config r < first_line s.past.config r + lines → HasWritten r s
   -- both may be asked for
   pub may_store : (r : NewRecord) (i words lines : ℕ) (s : Scene) → Fits r → i < size_of r → IsWriting r words lines s → IsOwnStore s (address_of s.past.config r i) (slice_index (words_in r) i)
   pub may_flush : (r : NewRecord) (line : ℕ) (s : Scene) → IsScene s → Fits r → r.slot < s.past.config.nodes → first_line s.past.config r + line ≤ last_line s.past.config r → IsReadable s (LINE_WORDS * (first_line s.past.config r + line))

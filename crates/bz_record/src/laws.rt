@@ -1,6 +1,6 @@
 //! Laws of the records of a leaf. Each function does nothing: its contract is the law.
 
-ghost use Rattle.bz_record.specs.Laws.{LeavesStay, ViewsShowLeaves, LeavesWere, RecordSwapsMayBeAsked, ReservationsAreGood, ReservationsTakeWords, RewritesAreGood, PublicationsAreGood};
+ghost use Rattle.bz_record.specs.Laws.{LeavesStay, ViewsShowLeaves, LeavesWere, RecordSwapsMayBeAsked, NewRecordSwapsMayBeAsked, ReservationsAreGood, ReservationsTakeWords, RewritesAreGood, PublicationsAreGood};
 ghost use Rattle.bz_record.specs.Writing.{RecordsAreWritten};
 
 use bz_task::laws;
@@ -42,6 +42,16 @@ pub fn record_swaps_may_be_asked()
     laws::leaves_are_in_trees();
     laws::ranges_stay();
     bz_slotted::laws::leaf_rules_are_facts();
+}
+
+/// Both swaps of a record that comes may be asked for.
+pub fn new_record_swaps_may_be_asked()
+    ensures { NewRecordSwapsMayBeAsked }
+{
+    record_swaps_may_be_asked();
+    bz_word::laws::statuses();
+    bz_word::laws::metas();
+    bz_key::laws::packing_is_small();
 }
 
 /// A reservation is lawful for everybody, and changes no content.

@@ -1,0 +1,81 @@
+-- What an insert asks for may be asked for, what its swaps lead to, and what it knows then.
+use Rattle.std.proofs.Common.{◌≡◌, ℕ, ◌+◌, ◌<◌, ◌≤◌, ◌==◌, ◌||◌, Bool, true, false, List, arith, refl, sym, ap, subst, ◌∙◌, Some}
+use Rattle.std.specs.Prelude.{None, slice_index}
+use Rattle.bz_layout.specs.Addresses.{slot_of}
+use Rattle.bz_layout.specs.declared.config.Config.{Config}
+use Rattle.bz_word.specs.declared.entry.Entry.{Entry}
+use Rattle.bz_task.specs.Instant.{Instant}
+use Rattle.bz_task.specs.OwnActs.{Stores, Flushes}
+use Rattle.bz_task.specs.Requests.{IsEntryToAsk, IsAskable}
+use Rattle.bz_task.specs.Scene.{Scene, Waiting, Took, IsScene, HasFilled, here}
+use Rattle.bz_task.specs.Swaps.{Stand, SwapsTo, IsGoodSwap, Takes}
+use Rattle.bz_task.specs.declared.todo.Todo.{Todo}
+use Rattle.bz_task.specs.declared.todo.Todo.TheVariants.{Store as Stores_at, Flush as Flushes_line, Swap as Swaps_for}
+use Rattle.bz_record.specs.Laws.{LeavesWere, NewRecordSwapsMayBeAsked, ReservationsAreGood, ReservationsTakeWords, IsTaken, inserts, PublicationsAreGood}
+use Rattle.bz_record.specs.Records.{words_in, size_of, address_of, Fits}
+use Rattle.bz_record.specs.Swaps.{entries_of, reservation, publication}
+use Rattle.bz_record.specs.Writing.{first_line, RecordsAreWritten}
+use Rattle.bz_record.specs.declared.new_record.NewRecord.{NewRecord}
+use Rattle.bz_insert.specs.Facts.{CanReserve, HasReserved, HasPublished, insert_asks, insert_facts, insert_publishes}
+use Rattle.bz_insert.specs.declared.phase.Phase.{Phase}
+use Rattle.bz_insert.specs.declared.phase.Phase.TheVariants.{Fresh, Reserve, Store, Flush, Publish, Done, Restart, NeedsRoom, Full}
+
+-- the leaf has room for the record
+pub fits : (r : NewRecord) (s : Scene) → CanReserve r s → Fits r
+fits r s v = record { key = v.viewed.key; payload = v.viewed.payload; some = v.viewed.some; few = v.viewed.few; plain = v.viewed.leaf.leaf.plain; room = v.room; dead = v.viewed.dead }
+
+some-same : (a b : Todo) → Some a ≡ Some b → a ≡ b
+some-same a b e = cc
+
+same-entries : (a b : List Entry) → Some (Swaps_for a) ≡ Some (Swaps_for b) → a ≡ b
+same-entries a b e = cc
+
+pub askable : NewRecordSwapsMayBeAsked → RecordsAreWritten → (c : Config) (r : NewRecord) (phase : Phase) (s : Scene) (todo : Todo) → s.past.config ≡ c → insert_facts r phase Waiting s → IsScene s → insert_asks c r phase ≡ Some todo → IsAskable s todo
+askable asked written c r Fresh s todo same f good e = absurd (cc)
+askable asked written c r Reserve s todo same f good e =
+    subst (IsAskable s) (ap (λ z. Swaps_for (entries_of z (reservation r))) same ∙ some-same _ todo e) (asked.first s r f.1.viewed.moment good (fits r s f.1) f.1.viewed.leaf.leaf)
+askable asked written c r (Store i) s todo same f good e =
+    subst (IsAskable s) (ap (λ z. Stores_at (address_of z r i) (slice_index (words_in r) i)) same ∙ some-same _ todo e) (written.may_store r i i 0 s f.1.1.fits f.1.0 f.1.1.writing)
+askable asked written c r (Flush n) s todo same f good e =
+    subst (IsAskable s) (ap (λ z. Flushes_line (first_line z r + n)) same ∙ some-same _ todo e) (written.may_flush r n s good f.1.1.fits f.1.1.reserved.leaf.leaf.slot f.1.0)
+askable asked written c r Publish s todo same f good e =
+    subst (IsAskable s) (ap (λ z. Swaps_for (entries_of z (publication r))) same ∙ some-same _ todo e) (asked.second s r good f.1.fits f.1.reserved)
+askable asked written c r Done s todo same f good e = subst (IsAskable s) (some-same _ todo e) tt
+askable asked written c r Restart s todo same f good e = subst (IsAskable s) (some-same _ todo e) tt
+askable asked written c r NeedsRoom s todo same f good e = subst (IsAskable s) (some-same _ todo e) tt
+askable asked written c r Full s todo same f good e = subst (IsAskable s) (some-same _ todo e) tt
+
+pub effect : ReservationsAreGood → PublicationsAreGood → (c : Config) (r : NewRecord) (phase : Phase) (s : Scene) (y : Instant) (entries : List Entry) → s.past.config ≡ c → insert_facts r phase Waiting s → IsScene s
+    → insert_asks c r phase ≡ Some (Swaps_for entries) → Stand entries (here s) → SwapsTo s.past.config entries (here s) y → IsGoodSwap (insert_publishes phase) (inserts r) entries s y
+effect first second c r Fresh s y entries same f good e stand swaps = absurd (cc)
+effect first second c r Reserve s y entries same f good e stand swaps =
+    let is : entries_of s.past.config (reservation r) ≡ entries = ap (λ z. entries_of z (reservation r)) same ∙ same-entries _ entries e in
+    subst (λ z. IsGoodSwap false (inserts r) z s y) is (first s y r f.1.viewed.moment (inserts r) good (fits r s f.1) f.1.viewed.leaf.leaf (subst (λ z. Stand z (here s)) (sym is) stand) (subst (λ z. SwapsTo s.past.config z (here s) y) (sym is) swaps))
+effect first second c r (Store i) s y entries same f good e stand swaps = absurd (cc)
+effect first second c r (Flush n) s y entries same f good e stand swaps = absurd (cc)
+effect first second c r Publish s y entries same f good e stand swaps =
+    let is : entries_of s.past.config (publication r) ≡ entries = ap (λ z. entries_of z (publication r)) same ∙ same-entries _ entries e in
+    subst (λ z. IsGoodSwap true (inserts r) z s y) is (second s y r good f.1.fits f.1.reserved f.1.written (subst (λ z. Stand z (here s)) (sym is) stand) (subst (λ z. SwapsTo s.past.config z (here s) y) (sym is) swaps))
+effect first second c r Done s y entries same f good e stand swaps = absurd (cc)
+effect first second c r Restart s y entries same f good e stand swaps = absurd (cc)
+effect first second c r NeedsRoom s y entries same f good e stand swaps = absurd (cc)
+effect first second c r Full s y entries same f good e stand swaps = absurd (cc)
+
+-- slots that were taken and stored into
+filled-after : (publishes : Bool) (entries : List Entry) (s after : Scene) → Takes publishes entries s after → HasFilled s → HasFilled after
+filled-after publishes entries s after t f j h = t.filled j ∙ f j (sym (t.took j) ∙ h)
+
+pub took : ReservationsTakeWords → (c : Config) (r : NewRecord) (phase : Phase) (s after : Scene) (entries : List Entry) → s.past.config ≡ c → insert_facts r phase Waiting s → IsScene s → IsScene after
+    → insert_asks c r phase ≡ Some (Swaps_for entries) → Stand entries (here s) → Takes (insert_publishes phase) entries s after → insert_facts r phase Took after
+took law c r Fresh s after entries same f good later e stand t = absurd (cc)
+took law c r Reserve s after entries same f good later e stand t =
+    let is : entries_of s.past.config (reservation r) ≡ entries = ap (λ z. entries_of z (reservation r)) same ∙ same-entries _ entries e in
+    let taken : IsTaken r after = law s after r f.1.viewed.moment good later (fits r s f.1) f.1.viewed.leaf (subst (λ z. Stand z (here s)) (sym is) stand) (subst (λ z. Takes false z s after) (sym is) t) in
+    (filled-after false entries s after t f.0, record { fits = fits r s f.1; reserved = taken.reserved; writing = taken.words; going = t.effected ∙ f.1.viewed.going })
+took law c r (Store i) s after entries same f good later e stand t = absurd (cc)
+took law c r (Flush n) s after entries same f good later e stand t = absurd (cc)
+took law c r Publish s after entries same f good later e stand t = (filled-after true entries s after t f.0, record { room = f.1.fits.room; effected = t.effected })
+took law c r Done s after entries same f good later e stand t = absurd (cc)
+took law c r Restart s after entries same f good later e stand t = absurd (cc)
+took law c r NeedsRoom s after entries same f good later e stand t = absurd (cc)
+took law c r Full s after entries same f good later e stand t = absurd (cc)

@@ -1,0 +1,73 @@
+-- What an insert knows stays.
+use Rattle.std.proofs.Common.{◌≡◌, ℕ, ◌+◌, ◌^◌, ◌<◌, ◌≤◌, true, false, List, arith, refl, sym, ap, subst, ◌∙◌, inl, inr, Some}
+use Rattle.std.specs.Prelude.{None, All}
+use Rattle.bz_key.specs.Laws.{PackingIsSmall}
+use Rattle.bz_layout.specs.declared.config.Config.{Config}
+use Rattle.bz_task.specs.Requests.{IsAskable}
+use Rattle.bz_task.specs.Scene.{Scene, Stage, Waiting, Took, IsScene, IsLawful, HasFilled}
+use Rattle.bz_task.specs.declared.todo.Todo.{Todo}
+use Rattle.bz_record.specs.Laws.{LeavesWere}
+use Rattle.bz_record.specs.Leaves.{WasLeafOf, WasReserved}
+use Rattle.bz_record.specs.Records.{size_of, HasRoom, Fits}
+use Rattle.bz_record.specs.Swaps.{reservation, publication}
+use Rattle.bz_record.specs.Writing.{first_line, last_line, RecordsAreWritten}
+use Rattle.bz_record.specs.declared.new_record.NewRecord.{NewRecord}
+use Rattle.bz_insert.specs.Facts.{HasViewed, CanReserve, HasReserved, CanPublish, HasPublished, IsLineOf, insert_asks, insert_learnt, insert_facts}
+use Rattle.bz_insert.specs.declared.phase.Phase.{Phase}
+use Rattle.bz_insert.specs.declared.phase.Phase.TheVariants.{Fresh, Reserve, Store, Flush, Publish, Done, Restart, NeedsRoom, Full}
+
+module _ (were : LeavesWere) (written : RecordsAreWritten) (r : NewRecord) (s after : Scene) (l : IsLawful s after) where
+  viewed : HasViewed r s → HasViewed r after
+  viewed v = record {
+    moment = v.moment;
+    leaf = were.leaf r.key None r.slot r.status v.moment s.past after.past v.leaf l.continues;
+    dead = v.dead;
+    key = v.key;
+    payload = v.payload;
+    some = v.some;
+    few = v.few;
+    going = l.effected ∙ v.going;
+  }
+
+  reserved : (words lines : ℕ) → HasReserved r words lines s → HasReserved r words lines after
+  reserved words lines h = record { fits = h.fits; reserved = were.reserved r s.past after.past h.reserved l.continues; writing = written.stays r words lines s after h.writing l; going = l.effected ∙ h.going }
+
+  line : (n : ℕ) → IsLineOf s.past.config r n → IsLineOf after.past.config r n
+  line n h = subst (λ c. IsLineOf c r n) (sym l.continues.config) h
+
+  published : HasPublished r s → HasPublished r after
+  published h = record { room = h.room; effected = l.effected ∙ h.effected }
+
+  learnt : (phase : Phase) (stage : Stage) → insert_learnt r phase stage s → insert_learnt r phase stage after
+  learnt Fresh Waiting f = viewed f
+  learnt Reserve Waiting f = record { viewed = viewed f.viewed; room = f.room }
+  learnt Reserve Took f = reserved 0 0 f
+  learnt (Store i) Waiting f = (f.0, reserved i 0 f.1)
+  learnt (Store i) Took f = (f.0, reserved (i + 1) 0 f.1)
+  learnt (Flush n) Waiting f = (line n f.0, reserved (size_of r) n f.1)
+  learnt (Flush n) Took f = (line n f.0, reserved (size_of r) (n + 1) f.1)
+  learnt Publish Waiting f = record { fits = f.fits; reserved = were.reserved r s.past after.past f.reserved l.continues; written = written.written_stays r s after f.written l; going = l.effected ∙ f.going }
+  learnt Publish Took f = published f
+  learnt Done Waiting f = published f
+  learnt Restart Waiting f = f
+  learnt Full Waiting f = f
+  learnt NeedsRoom Waiting f = f
+  learnt Fresh Took f = absurd (f)
+  learnt Done Took f = absurd (f)
+  learnt Restart Took f = absurd (f)
+  learnt Full Took f = absurd (f)
+  learnt NeedsRoom Took f = absurd (f)
+
+  filled : HasFilled s → HasFilled after
+  filled f k t = l.filled k ∙ f k (sym (l.took k) ∙ t)
+
+  pub stable : (phase : Phase) (stage : Stage) → insert_facts r phase stage s → insert_facts r phase stage after
+  stable Fresh stage f = learnt Fresh stage f
+  stable Reserve stage f = (filled f.0, learnt Reserve stage f.1)
+  stable (Store i) stage f = (filled f.0, learnt (Store i) stage f.1)
+  stable (Flush n) stage f = (filled f.0, learnt (Flush n) stage f.1)
+  stable Publish stage f = (filled f.0, learnt Publish stage f.1)
+  stable Done stage f = (filled f.0, learnt Done stage f.1)
+  stable Restart stage f = (filled f.0, learnt Restart stage f.1)
+  stable NeedsRoom stage f = (filled f.0, learnt NeedsRoom stage f.1)
+  stable Full stage f = (filled f.0, learnt Full stage f.1)
