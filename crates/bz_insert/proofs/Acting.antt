@@ -1,4 +1,4 @@
--- What an insert asks for may be asked for, what its swaps lead to, and what it knows then.
+-- What an insert asks for may be asked for, and what its swaps lead to.
 use Rattle.std.proofs.Common.{◌≡◌, ℕ, ◌+◌, ◌<◌, ◌≤◌, ◌==◌, ◌||◌, Bool, true, false, List, arith, refl, sym, ap, subst, ◌∙◌, Some}
 use Rattle.std.specs.Prelude.{None, slice_index}
 use Rattle.bz_layout.specs.Addresses.{slot_of}
@@ -60,22 +60,3 @@ effect first second c r Done s y entries same f good e stand swaps = absurd (cc)
 effect first second c r Restart s y entries same f good e stand swaps = absurd (cc)
 effect first second c r NeedsRoom s y entries same f good e stand swaps = absurd (cc)
 effect first second c r Full s y entries same f good e stand swaps = absurd (cc)
-
--- slots that were taken and stored into
-filled-after : (publishes : Bool) (entries : List Entry) (s after : Scene) → Takes publishes entries s after → HasFilled s → HasFilled after
-filled-after publishes entries s after t f j h = t.filled j ∙ f j (sym (t.took j) ∙ h)
-
-pub took : ReservationsTakeWords → (c : Config) (r : NewRecord) (phase : Phase) (s after : Scene) (entries : List Entry) → s.past.config ≡ c → insert_facts r phase Waiting s → IsScene s → IsScene after
-    → insert_asks c r phase ≡ Some (Swaps_for entries) → Stand entries (here s) → Takes (insert_publishes phase) entries s after → insert_facts r phase Took after
-took law c r Fresh s after entries same f good later e stand t = absurd (cc)
-took law c r Reserve s after entries same f good later e stand t =
-    let is : entries_of s.past.config (reservation r) ≡ entries = ap (λ z. entries_of z (reservation r)) same ∙ same-entries _ entries e in
-    let taken : IsTaken r after = law s after r f.1.viewed.moment good later (fits r s f.1) f.1.viewed.leaf (subst (λ z. Stand z (here s)) (sym is) stand) (subst (λ z. Takes false z s after) (sym is) t) in
-    (filled-after false entries s after t f.0, record { fits = fits r s f.1; reserved = taken.reserved; writing = taken.words; going = t.effected ∙ f.1.viewed.going })
-took law c r (Store i) s after entries same f good later e stand t = absurd (cc)
-took law c r (Flush n) s after entries same f good later e stand t = absurd (cc)
-took law c r Publish s after entries same f good later e stand t = (filled-after true entries s after t f.0, record { room = f.1.fits.room; effected = t.effected })
-took law c r Done s after entries same f good later e stand t = absurd (cc)
-took law c r Restart s after entries same f good later e stand t = absurd (cc)
-took law c r NeedsRoom s after entries same f good later e stand t = absurd (cc)
-took law c r Full s after entries same f good later e stand t = absurd (cc)

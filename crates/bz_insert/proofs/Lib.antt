@@ -1,3 +1,4 @@
 mod Knowing
 mod Staying
 mod Acting
+mod Taking

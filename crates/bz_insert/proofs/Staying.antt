@@ -2,8 +2,9 @@
 use Rattle.std.proofs.Common.{◌≡◌, ℕ, ◌+◌, ◌^◌, ◌<◌, ◌≤◌, true, false, List, arith, refl, sym, ap, subst, ◌∙◌, inl, inr, Some}
 use Rattle.std.specs.Prelude.{None, All}
 use Rattle.bz_key.specs.Laws.{PackingIsSmall}
-use Rattle.bz_layout.specs.declared.config.Config.{Config}
-use Rattle.bz_task.specs.Requests.{IsAskable}
+use Rattle.bz_layout.specs.Slots.{FreeSlots}
+use Rattle.bz_task.specs.Laws.{NothingIsGained}
+use Rattle.bz_task.specs.OwnActs.{gained}
 use Rattle.bz_task.specs.Scene.{Scene, Stage, Waiting, Took, IsScene, IsLawful, HasFilled}
 use Rattle.bz_task.specs.declared.todo.Todo.{Todo}
 use Rattle.bz_record.specs.Laws.{LeavesWere}
@@ -71,3 +72,22 @@ module _ (were : LeavesWere) (written : RecordsAreWritten) (r : NewRecord) (s af
   stable Restart stage f = (filled f.0, learnt Restart stage f.1)
   stable NeedsRoom stage f = (filled f.0, learnt NeedsRoom stage f.1)
   stable Full stage f = (filled f.0, learnt Full stage f.1)
+
+-- it stays where no slot is taken
+module _ (nothing : NothingIsGained) (written : RecordsAreWritten) (r : NewRecord) (s : Scene) (free : FreeSlots) where
+  reserved-too : (words lines : ℕ) → HasReserved r words lines s → HasReserved r words lines (gained s free free)
+  reserved-too words lines h = record { fits = h.fits; reserved = h.reserved; writing = written.no_slot r words lines s free h.writing; going = h.going }
+
+  viewed-too : HasViewed r s → HasViewed r (gained s free free)
+  viewed-too v = record { moment = v.moment; leaf = v.leaf; dead = v.dead; key = v.key; payload = v.payload; some = v.some; few = v.few; going = v.going }
+
+  pub no-slot : (phase : Phase) → insert_facts r phase Waiting s → insert_facts r phase Waiting (gained s free free)
+  no-slot Fresh f = viewed-too f
+  no-slot Reserve f = (nothing s free f.0, record { viewed = viewed-too f.1.viewed; room = f.1.room })
+  no-slot (Store i) f = (nothing s free f.0, (f.1.0, reserved-too i 0 f.1.1))
+  no-slot (Flush n) f = (nothing s free f.0, (f.1.0, reserved-too (size_of r) n f.1.1))
+  no-slot Publish f = (nothing s free f.0, record { fits = f.1.fits; reserved = f.1.reserved; written = written.written_no_slot r s free f.1.written; going = f.1.going })
+  no-slot Done f = (nothing s free f.0, record { room = f.1.room; effected = f.1.effected })
+  no-slot Restart f = (nothing s free f.0, f.1)
+  no-slot NeedsRoom f = (nothing s free f.0, f.1)
+  no-slot Full f = (nothing s free f.0, f.1)

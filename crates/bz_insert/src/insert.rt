@@ -189,6 +189,7 @@ impl Task for Insert {
     fn next(&mut self, seen: Seen, slots: &mut Slots, moment: u32) -> Todo {
         let _slots = slots;
         laws::nothing_is_gained();
+        bz_record::laws::records_are_written();
         self.phase = self.after(seen, moment);
         self.asked()
     }

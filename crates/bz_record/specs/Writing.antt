@@ -1,9 +1,10 @@
 -- How the words of a record are stored and become durable, once they are the worker's own.
 use Rattle.std.specs.Prelude.{◌≡◌, ℕ, ◌+◌, ◌-◌, ◌*◌, ◌<◌, ◌≤◌, slice_index}
 use Rattle.bz_layout.specs.Addresses.{line_of}
+use Rattle.bz_layout.specs.Slots.{FreeSlots}
 use Rattle.bz_layout.specs.declared.config.Config.{Config}
 use Rattle.bz_layout.specs.declared.sizes.TheConstants.{LINE_WORDS}
-use Rattle.bz_task.specs.OwnActs.{Stores, Flushes}
+use Rattle.bz_task.specs.OwnActs.{Stores, Flushes, gained}
 use Rattle.bz_task.specs.Requests.{IsReadable, IsOwnStore}
 use Rattle.bz_task.specs.Scene.{Scene, IsMine, IsFlushed, IsScene, IsLawful, here}
 use Rattle.bz_record.specs.Records.{words_in, size_of, address_of, Fits}
@@ -36,6 +37,9 @@ pub record RecordsAreWritten : Type 0 where
   -- what is written stays
   pub stays : (r : NewRecord) (words lines : ℕ) (s after : Scene) → IsWriting r words lines s → IsLawful s after → IsWriting r words lines after
   pub written_stays : (r : NewRecord) (s after : Scene) → HasWritten r s → IsLawful s after → HasWritten r after
+  -- also where no slot is taken
+  pub no_slot : (r : NewRecord) (words lines : ℕ) (s : Scene) (free : FreeSlots) → IsWriting r words lines s → IsWriting r words lines (gained s free free)
+  pub written_no_slot : (r : NewRecord) (s : Scene) (free : FreeSlots) → HasWritten r s → HasWritten r (gained s free free)
   -- a store of the next word, and a flush of the next line
   pub stores : (r : NewRecord) (i : ℕ) (s after : Scene) → i < size_of r → IsWriting r i 0 s → Stores (address_of s.past.config r i) (slice_index (words_in r) i) s after → IsWriting r (i + 1) 0 after
   pub flushes : (r : NewRecord) (line : ℕ) (s after : Scene) → IsWriting r (size_of r) line s → Flushes (first_line s.past.config r + line) s after → IsWriting r (size_of r) (line + 1) after
