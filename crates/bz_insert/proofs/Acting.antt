@@ -1,22 +1,20 @@
 -- What an insert asks for may be asked for, and what its swaps lead to.
-use Rattle.std.proofs.Common.{◌≡◌, ℕ, ◌+◌, ◌<◌, ◌≤◌, ◌==◌, ◌||◌, Bool, true, false, List, arith, refl, sym, ap, subst, ◌∙◌, Some}
-use Rattle.std.specs.Prelude.{None, slice_index}
-use Rattle.bz_layout.specs.Addresses.{slot_of}
+use Rattle.std.proofs.Common.{◌≡◌, ◌+◌, true, false, List, sym, ap, subst, ◌∙◌, Some}
+use Rattle.std.specs.Prelude.{slice_index}
 use Rattle.bz_layout.specs.declared.config.Config.{Config}
 use Rattle.bz_word.specs.declared.entry.Entry.{Entry}
 use Rattle.bz_task.specs.Instant.{Instant}
-use Rattle.bz_task.specs.OwnActs.{Stores, Flushes}
-use Rattle.bz_task.specs.Requests.{IsEntryToAsk, IsAskable}
-use Rattle.bz_task.specs.Scene.{Scene, Waiting, Took, IsScene, HasFilled, here}
-use Rattle.bz_task.specs.Swaps.{Stand, SwapsTo, IsGoodSwap, Takes}
+use Rattle.bz_task.specs.Requests.{IsAskable}
+use Rattle.bz_task.specs.Scene.{Scene, Waiting, IsScene, here}
+use Rattle.bz_task.specs.Swaps.{Stand, SwapsTo, IsGoodSwap}
 use Rattle.bz_task.specs.declared.todo.Todo.{Todo}
 use Rattle.bz_task.specs.declared.todo.Todo.TheVariants.{Store as Stores_at, Flush as Flushes_line, Swap as Swaps_for}
-use Rattle.bz_record.specs.Laws.{LeavesWere, NewRecordSwapsMayBeAsked, ReservationsAreGood, ReservationsTakeWords, IsTaken, inserts, PublicationsAreGood}
-use Rattle.bz_record.specs.Records.{words_in, size_of, address_of, Fits}
+use Rattle.bz_record.specs.Laws.{NewRecordSwapsMayBeAsked, ReservationsAreGood, inserts, PublicationsAreGood}
+use Rattle.bz_record.specs.Records.{words_in, address_of, Fits}
 use Rattle.bz_record.specs.Swaps.{entries_of, reservation, publication}
 use Rattle.bz_record.specs.Writing.{first_line, RecordsAreWritten}
 use Rattle.bz_record.specs.declared.new_record.NewRecord.{NewRecord}
-use Rattle.bz_insert.specs.Facts.{CanReserve, HasReserved, HasPublished, insert_asks, insert_facts, insert_publishes}
+use Rattle.bz_insert.specs.Facts.{CanReserve, insert_asks, insert_facts, insert_publishes}
 use Rattle.bz_insert.specs.declared.phase.Phase.{Phase}
 use Rattle.bz_insert.specs.declared.phase.Phase.TheVariants.{Fresh, Reserve, Store, Flush, Publish, Done, Restart, NeedsRoom, Full}
 

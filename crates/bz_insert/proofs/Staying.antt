@@ -1,19 +1,15 @@
 -- What an insert knows stays.
-use Rattle.std.proofs.Common.{◌≡◌, ℕ, ◌+◌, ◌^◌, ◌<◌, ◌≤◌, true, false, List, arith, refl, sym, ap, subst, ◌∙◌, inl, inr, Some}
-use Rattle.std.specs.Prelude.{None, All}
-use Rattle.bz_key.specs.Laws.{PackingIsSmall}
+use Rattle.std.proofs.Common.{ℕ, ◌+◌, sym, subst, ◌∙◌}
+use Rattle.std.specs.Prelude.{None}
 use Rattle.bz_layout.specs.Slots.{FreeSlots}
 use Rattle.bz_task.specs.Laws.{NothingIsGained}
 use Rattle.bz_task.specs.OwnActs.{gained}
-use Rattle.bz_task.specs.Scene.{Scene, Stage, Waiting, Took, IsScene, IsLawful, HasFilled}
-use Rattle.bz_task.specs.declared.todo.Todo.{Todo}
+use Rattle.bz_task.specs.Scene.{Scene, Stage, Waiting, Took, IsLawful, HasFilled}
 use Rattle.bz_record.specs.Laws.{LeavesWere}
-use Rattle.bz_record.specs.Leaves.{WasLeafOf, WasReserved}
-use Rattle.bz_record.specs.Records.{size_of, HasRoom, Fits}
-use Rattle.bz_record.specs.Swaps.{reservation, publication}
-use Rattle.bz_record.specs.Writing.{first_line, last_line, RecordsAreWritten}
+use Rattle.bz_record.specs.Records.{size_of}
+use Rattle.bz_record.specs.Writing.{RecordsAreWritten}
 use Rattle.bz_record.specs.declared.new_record.NewRecord.{NewRecord}
-use Rattle.bz_insert.specs.Facts.{HasViewed, CanReserve, HasReserved, CanPublish, HasPublished, IsLineOf, insert_asks, insert_learnt, insert_facts}
+use Rattle.bz_insert.specs.Facts.{HasViewed, HasReserved, HasPublished, IsLineOf, insert_learnt, insert_facts}
 use Rattle.bz_insert.specs.declared.phase.Phase.{Phase}
 use Rattle.bz_insert.specs.declared.phase.Phase.TheVariants.{Fresh, Reserve, Store, Flush, Publish, Done, Restart, NeedsRoom, Full}
 

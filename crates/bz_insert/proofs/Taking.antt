@@ -1,25 +1,20 @@
 -- What an insert knows once a swap, a store or a flush of its own is made.
-use Rattle.std.proofs.Common.{◌≡◌, ℕ, ◌+◌, ◌<◌, ◌≤◌, ◌==◌, ◌||◌, Bool, true, false, List, arith, refl, sym, ap, subst, ◌∙◌, Some}
-use Rattle.std.specs.Prelude.{None, slice_index}
-use Rattle.bz_layout.specs.Addresses.{slot_of}
+use Rattle.std.proofs.Common.{◌≡◌, ℕ, ◌+◌, ◌||◌, Bool, true, false, List, refl, sym, ap, subst, ◌∙◌, Some}
+use Rattle.std.specs.Prelude.{slice_index}
 use Rattle.bz_layout.specs.declared.config.Config.{Config}
 use Rattle.bz_word.specs.declared.entry.Entry.{Entry}
-use Rattle.bz_task.specs.Instant.{Instant}
 use Rattle.bz_task.specs.OwnActs.{Stores, Flushes}
-use Rattle.bz_task.specs.Requests.{IsEntryToAsk, IsAskable}
 use Rattle.bz_task.specs.Scene.{Scene, Waiting, Took, IsScene, HasFilled, here}
-use Rattle.bz_task.specs.Swaps.{Stand, SwapsTo, IsGoodSwap, Takes}
-use Rattle.bz_task.specs.declared.todo.Todo.{Todo}
+use Rattle.bz_task.specs.Swaps.{Stand, Takes}
 use Rattle.bz_task.specs.declared.todo.Todo.TheVariants.{Store as Stores_at, Flush as Flushes_line, Swap as Swaps_for}
-use Rattle.bz_record.specs.Laws.{LeavesWere, NewRecordSwapsMayBeAsked, ReservationsAreGood, ReservationsTakeWords, IsTaken, inserts, PublicationsAreGood}
-use Rattle.bz_record.specs.Records.{words_in, size_of, address_of, Fits}
-use Rattle.bz_record.specs.Swaps.{entries_of, reservation, publication}
+use Rattle.bz_record.specs.Laws.{LeavesWere, ReservationsTakeWords, IsTaken}
+use Rattle.bz_record.specs.Records.{words_in, address_of}
+use Rattle.bz_record.specs.Swaps.{entries_of, reservation}
 use Rattle.bz_record.specs.Writing.{first_line, RecordsAreWritten}
 use Rattle.bz_record.specs.declared.new_record.NewRecord.{NewRecord}
-use Rattle.bz_insert.specs.Facts.{CanReserve, HasReserved, HasPublished, insert_asks, insert_facts, insert_publishes, IsLineOf}
+use Rattle.bz_insert.specs.Facts.{insert_asks, insert_facts, insert_publishes, IsLineOf}
 use Rattle.bz_insert.specs.declared.phase.Phase.{Phase}
 use Rattle.bz_insert.specs.declared.phase.Phase.TheVariants.{Fresh, Reserve, Store, Flush, Publish, Done, Restart, NeedsRoom, Full}
-
 use Rattle.bz_insert.proofs.Acting.{fits}
 
 same-entries : (a b : List Entry) → Some (Swaps_for a) ≡ Some (Swaps_for b) → a ≡ b
@@ -59,8 +54,7 @@ stored were written c r Reserve s after a v same f e t = absurd (cc)
 stored were written c r (Store i) s after a v same f e t =
     let is = same-store (address_of c r i) a (slice_index (words_in r) i) v e in
     let at : a ≡ address_of s.past.config r i = sym is.0 ∙ ap (λ z. address_of z r i) (sym same) in
-    let made : Stores (address_of s.past.config r i) (slice_index (words_in r) i) s after = subst (λ z. Stores z (slice_index (words_in r) i) s after) at (subst (λ z. Stores a z s after) (sym is.1) t) in
-    (
+    let made : Stores (address_of s.past.config r i) (slice_index (words_in r) i) s after = subst (λ z. Stores z (slice_index (words_in r) i) s after) at (subst (λ z. Stores a z s after) (sym is.1) t) in (
       λ k h. t.filled k ∙ or-left (s.filled k) _ (f.0 k (sym (t.took k) ∙ h)),
       (f.1.0, record { fits = f.1.1.fits; reserved = were.reserved r s.past after.past f.1.1.reserved t.continues; writing = written.stores r i s after f.1.0 f.1.1.writing made; going = t.effected ∙ f.1.1.going }),
     )
@@ -77,8 +71,7 @@ flushed were written c r Reserve s after line same f e t = absurd (cc)
 flushed were written c r (Store i) s after line same f e t = absurd (cc)
 flushed were written c r (Flush n) s after line same f e t =
     let is : line ≡ first_line s.past.config r + n = sym (same-flush (first_line c r + n) line e) ∙ ap (λ z. first_line z r + n) (sym same) in
-    let made : Flushes (first_line s.past.config r + n) s after = subst (λ z. Flushes z s after) is t in
-    (
+    let made : Flushes (first_line s.past.config r + n) s after = subst (λ z. Flushes z s after) is t in (
       λ k h. t.filled k ∙ f.0 k (sym (t.took k) ∙ h),
       (subst (λ z. IsLineOf z r n) (sym t.continues.config) f.1.0, record { fits = f.1.1.fits; reserved = were.reserved r s.past after.past f.1.1.reserved t.continues; writing = written.flushes r n s after f.1.1.writing made; going = t.effected ∙ f.1.1.going }),
     )

@@ -31,13 +31,7 @@ pub struct Insert {
 
 impl Insert {
     /// The insert of a key that is absent from its leaf.
-    pub fn new(
-        config: &Config,
-        _path: Path,
-        view: LeafView,
-        key: Key,
-        payload: Payload,
-    ) -> Insert
+    pub fn new(config: &Config, _path: Path, view: LeafView, key: Key, payload: Payload) -> Insert
         requires absent { found_of (node_of view.image.0) key ≡ None }
         ensures config { ⟦<Insert as Task>⟧.config result ≡ config.now }
         ensures asks { ⟦<Insert as Task>⟧.asks result ≡ None }

@@ -1,6 +1,5 @@
 -- A metadata word that was in use, or the next one, can be named by a swap at every later moment.
 use Rattle.std.proofs.Common.{◌≡◌, ◌≢◌, ℕ, zero, suc, ◌+◌, ◌-◌, ◌^◌, ◌<◌, ◌≤◌, true, [], ◌∷◌, arith, refl, sym, ap, subst, ◌∙◌, inl, inr}
-use Rattle.std.specs.Prelude.{All}
 use Rattle.std.proofs.lemmas.Bool.{cases_lt}
 use Rattle.std.proofs.lemmas.List.Elements.{All-cons}
 use Rattle.bz_layout.specs.declared.config.Config.{Config}
@@ -9,7 +8,6 @@ use Rattle.bz_slotted.specs.Laws.{LeafRulesAreFacts}
 use Rattle.bz_slotted.specs.Page.{page}
 use Rattle.bz_slotted.specs.Whole.{Whole}
 use Rattle.bz_word.specs.Statuses.{status}
-use Rattle.bz_word.specs.declared.entry.Entry.{Entry}
 use Rattle.bz_content.specs.Image.{node}
 use Rattle.bz_task.specs.Good.{IsGood}
 use Rattle.bz_task.specs.Instant.{Instant, words, durable, page_at, form_at}
@@ -20,7 +18,7 @@ use Rattle.bz_task.specs.Shown.{SameWords}
 use Rattle.bz_task.specs.Steps.{IsStep, Moves}
 use Rattle.bz_record.specs.Laws.{IsPlaceIn, RecordSwapsMayBeAsked}
 use Rattle.bz_record.specs.Leaves.{WasLeaf}
-use Rattle.bz_record.specs.Swaps.{status_entry, meta_entry, entries_of}
+use Rattle.bz_record.specs.Swaps.{status_entry, meta_entry}
 use Rattle.bz_record.specs.declared.record_swap.RecordSwap.{RecordSwap}
 
 climb : (P : ℕ → Type 0) (m last : ℕ) → P m → ((i : ℕ) → m ≤ i → i < last → P i → P (i + 1)) → (n : ℕ) → m + n ≤ last → P (m + n)

@@ -1,5 +1,5 @@
 -- The two swaps of a record that comes may be asked for.
-use Rattle.std.proofs.Common.{◌≡◌, ℕ, ◌+◌, ◌^◌, ◌<◌, arith, refl, ap, inl, inr}
+use Rattle.std.proofs.Common.{arith, refl, ap, inl, inr}
 use Rattle.bz_key.specs.Laws.{PackingIsSmall}
 use Rattle.bz_word.specs.Metas.{meta_word, meta, IsMeta, IsMetaWord}
 use Rattle.bz_word.specs.Statements.{IsCodec}

@@ -1,22 +1,21 @@
 -- Status and metadata words of a reservation and a publication, as they are read.
-use Rattle.std.proofs.Common.{◌≡◌, ◌≢◌, ℕ, ◌+◌, ◌-◌, ◌^◌, ◌<◌, ◌≤◌, ◌==◌, ◌&&◌, Bool, true, false, arith, refl, sym, ap, subst, ◌∙◌}
-use Rattle.std.specs.Prelude.{length, if◌then◌else◌}
+use Rattle.std.proofs.Common.{◌≡◌, ℕ, ◌+◌, ◌-◌, ◌^◌, ◌<◌, ◌≤◌, true, false, arith, refl, sym, subst, ◌∙◌}
+use Rattle.std.specs.Prelude.{length}
 use Rattle.std.proofs.lemmas.Bool.Decides.{nat_tests}
 use Rattle.bz_key.specs.Laws.{PackingIsSmall}
 use Rattle.bz_key.specs.Packing.{packed, packed_len}
 use Rattle.bz_node.specs.Reading.{words_of}
 use Rattle.bz_slotted.specs.Page.{is_meta_word, meta_of, held, visible, used, extent_of}
-use Rattle.bz_slotted.specs.Records.{weight, shown}
 use Rattle.bz_slotted.specs.Whole.{IsLeafRecord}
 use Rattle.bz_word.specs.Metas.{meta_word, meta, IsMeta, IsMetaWord, IsExtent}
 use Rattle.bz_word.specs.Statements.{IsCodec}
 use Rattle.bz_word.specs.Statuses.{status_word, status, IsStatus, IsStatusWord}
 use Rattle.bz_word.specs.declared.meta.Extent.{Extent}
 use Rattle.bz_word.specs.declared.meta.Meta.{Meta}
-use Rattle.bz_word.specs.declared.meta.Meta.TheVariants.{Unused, Reserved, Visible}
+use Rattle.bz_word.specs.declared.meta.Meta.TheVariants.{Reserved, Visible}
 use Rattle.bz_word.specs.declared.status.Status.{Status}
 use Rattle.bz_task.specs.Steps.{next_stamp}
-use Rattle.bz_record.specs.Records.{size_of, offset_of, place_of, Fits}
+use Rattle.bz_record.specs.Records.{size_of, place_of, Fits}
 use Rattle.bz_record.specs.Swaps.{status_reserved, status_published}
 use Rattle.bz_record.specs.declared.new_record.NewRecord.{NewRecord}
 

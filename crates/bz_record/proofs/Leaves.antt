@@ -1,10 +1,9 @@
 -- A leaf that was not frozen is as it was while its status is the one that was read, and a view shows such a leaf.
-use Rattle.std.proofs.Common.{◌≡◌, ◌≢◌, ℕ, ◌+◌, ◌<◌, ◌≤◌, ◌&&◌, Bool, true, false, List, arith, refl, sym, ap, subst, ◌∙◌, inl, inr, Option}
-use Rattle.std.specs.Prelude.{None, slice_index}
+use Rattle.std.proofs.Common.{◌≡◌, ℕ, ◌<◌, ◌≤◌, ◌&&◌, Bool, true, false, List, arith, refl, sym, ap, subst, ◌∙◌, inl, inr, Option}
 use Rattle.bz_layout.specs.declared.config.Config.{Config}
 use Rattle.bz_layout.specs.declared.sizes.TheConstants.{NODE_WORDS, STATUS_AT}
 use Rattle.bz_shape.specs.Form.{Holds}
-use Rattle.bz_shape.specs.Order.{is_at_least, is_below, is_within}
+use Rattle.bz_shape.specs.Order.{is_at_least, is_below}
 use Rattle.bz_shape.specs.TreeLaws.{LeavesTileTheKeys}
 use Rattle.bz_slotted.specs.Laws.{LeafRulesAreFacts}
 use Rattle.bz_slotted.specs.Page.{visible, held, page}
@@ -13,18 +12,18 @@ use Rattle.bz_slotted.specs.Whole.{Whole}
 use Rattle.bz_word.specs.Statuses.{status}
 use Rattle.bz_word.specs.declared.meta.Meta.{Meta}
 use Rattle.bz_word.specs.declared.meta.Meta.TheVariants.{Unused, Reserved, Visible, Deleted}
-use Rattle.bz_content.specs.Content.{view_in, leaf_in, IsWellFormed}
+use Rattle.bz_content.specs.Content.{view_in, IsWellFormed}
 use Rattle.bz_content.specs.Image.{node}
 use Rattle.bz_content.specs.Laws.{WellFormedImagesHaveNoFault}
 use Rattle.bz_task.specs.Good.{IsGood}
-use Rattle.bz_task.specs.Instant.{Instant, words, durable, form_at, is_inside}
+use Rattle.bz_task.specs.Instant.{Instant, words, durable, form_at}
 use Rattle.bz_task.specs.Laws.{AreMoments, ThawedLeavesStay, StillLeaf, RangesStay, IsLeafInTree, LeavesAreInTrees, SeenLeavesAreWhole, SameRecordsShowTheSame}
 use Rattle.bz_task.specs.Outcomes.{IsView}
 use Rattle.bz_task.specs.Scene.{Scene, IsScene, here}
 use Rattle.bz_task.specs.Shown.{IsShown, SameWords, SameRecords}
 use Rattle.bz_task.specs.declared.view.LeafView.{LeafView}
 use Rattle.bz_record.specs.Laws.{SameLeaf, LeavesStay, IsViewed, ViewsShowLeaves}
-use Rattle.bz_record.specs.Leaves.{WasLeaf, WasLeafOf}
+use Rattle.bz_record.specs.Leaves.{WasLeaf}
 
 pub same-records : (n m : ℕ → ℕ) → SameWords n m → SameRecords n m
 same-records n m s = record {

@@ -1,6 +1,6 @@
 -- The publication of a record whose words are stored and durable is a rewrite of its reserved place.
-use Rattle.std.proofs.Common.{◌≡◌, ◌≢◌, ℕ, ◌+◌, ◌-◌, ◌^◌, ◌<◌, ◌≤◌, ◌⊎◌, if◌then◌else◌, Bool, true, false, List, arith, refl, sym, ap, subst, ◌∙◌, inl, inr, Option}
-use Rattle.std.specs.Prelude.{Some, None, nat_lt, slice_index, length}
+use Rattle.std.proofs.Common.{◌≡◌, ◌≢◌, ℕ, ◌+◌, ◌-◌, ◌^◌, ◌<◌, ◌≤◌, ◌⊎◌, true, false, List, arith, refl, sym, ap, subst, ◌∙◌, inl}
+use Rattle.std.specs.Prelude.{Some, None, nat_lt}
 use Rattle.std.proofs.lemmas.Bool.{true≢false}
 use Rattle.std.proofs.lemmas.Bool.Decides.{nat_tests}
 use Rattle.bz_key.specs.Laws.{PackingIsSmall}
@@ -11,7 +11,7 @@ use Rattle.bz_node.specs.Reading.{words_of}
 use Rattle.bz_slotted.specs.Laws.{LeafRulesAreFacts}
 use Rattle.bz_slotted.specs.Page.{meta_of, visible, held, extent_of, page}
 use Rattle.bz_slotted.specs.Readers.{found_of}
-use Rattle.bz_slotted.specs.Records.{key_in, payload_in, key_at, weight, shown, search_to}
+use Rattle.bz_slotted.specs.Records.{key_in, payload_in, weight, shown, search_to}
 use Rattle.bz_slotted.specs.Whole.{Whole, IsInBlock, IsPlainKey, IsPlainPayload, Disjoint}
 use Rattle.bz_word.specs.Headers.{header}
 use Rattle.bz_word.specs.Metas.{meta_word, meta, IsMeta, IsMetaWord}
@@ -32,7 +32,7 @@ use Rattle.bz_task.specs.Swaps.{Stand, SwapsTo, IsMineAndDurable}
 use Rattle.bz_record.specs.Laws.{SameLeaf, LeavesStay, Restates, IsRewriteOf, IsRewrite, RewritesAreGood, inserts, PublicationsAreGood}
 use Rattle.bz_record.specs.Leaves.{WasReserved}
 use Rattle.bz_record.specs.Writing.{HasWritten}
-use Rattle.bz_record.specs.Records.{words_in, size_of, offset_of, place_of, address_of, Fits}
+use Rattle.bz_record.specs.Records.{size_of, offset_of, place_of, address_of, Fits}
 use Rattle.bz_record.specs.Swaps.{entries_of, status_reserved, status_published, publication}
 use Rattle.bz_record.specs.declared.new_record.NewRecord.{NewRecord}
 use Rattle.bz_record.proofs.Coding.{reserved-reads, published-plain, published-reads, reserved-says, visible-says, sizes-agree, reserved-held, reserved-hidden, reserved-extent, visible-shown, visible-used, visible-extent, leaf-record}

@@ -1,15 +1,13 @@
 -- A leaf before and after the swap that reserves a place in it.
-use Rattle.std.proofs.Common.{◌≡◌, ◌≢◌, ℕ, ◌+◌, ◌^◌, ◌<◌, ◌≤◌, ◌⊎◌, Bool, true, false, List, arith, refl, sym, ap, subst, ◌∙◌, inl, inr, Option}
+use Rattle.std.proofs.Common.{◌≡◌, ◌≢◌, ℕ, ◌+◌, ◌^◌, ◌<◌, ◌≤◌, Bool, true, false, arith, sym, ap, subst, ◌∙◌, inl, inr}
 use Rattle.std.proofs.lemmas.Bool.{cases_lt, true≢false}
 use Rattle.bz_key.specs.Laws.{PackingIsSmall}
-use Rattle.bz_layout.specs.Addresses.{node_address}
 use Rattle.bz_layout.specs.declared.sizes.TheConstants.{NODE_WORDS, STATUS_AT, HEADER_AT, META_AT}
 use Rattle.bz_node.specs.Reading.{words_of}
 use Rattle.bz_slotted.specs.Changes.{Reserves}
 use Rattle.bz_slotted.specs.LeafLaws.{AnswersAlike, ReservationIsQuiet}
 use Rattle.bz_slotted.specs.Page.{meta_of, visible, extent_of, page}
 use Rattle.bz_slotted.specs.Records.{weight}
-use Rattle.bz_swap.specs.SwapMemory.{is_target}
 use Rattle.bz_word.specs.Headers.{header}
 use Rattle.bz_word.specs.Metas.{meta_word, meta, IsMeta, IsMetaWord}
 use Rattle.bz_word.specs.Statements.{IsCodec}
@@ -20,19 +18,17 @@ use Rattle.bz_word.specs.declared.status.Status.{Status}
 use Rattle.bz_content.specs.Image.{node}
 use Rattle.bz_task.specs.Instant.{Instant, words, durable, form_at}
 use Rattle.bz_task.specs.Laws.{SwapsShowInSlots}
-use Rattle.bz_task.specs.LeafSwaps.{IsLeafSwap, LeafSwapsAreGood}
-use Rattle.bz_task.specs.Requests.{IsTarget}
 use Rattle.bz_task.specs.Scene.{Scene, IsScene, here}
 use Rattle.bz_task.specs.Shown.{IsOfRecord, IsShown}
 use Rattle.bz_task.specs.Steps.{Moves, next_stamp}
-use Rattle.bz_task.specs.Swaps.{Change, Stand, SwapsTo}
-use Rattle.bz_record.specs.Laws.{SameLeaf, LeavesStay, ReservationsAreGood}
+use Rattle.bz_task.specs.Swaps.{Stand, SwapsTo}
+use Rattle.bz_record.specs.Laws.{SameLeaf, LeavesStay}
 use Rattle.bz_record.specs.Leaves.{WasLeaf}
 use Rattle.bz_record.specs.Records.{size_of, place_of, Fits}
 use Rattle.bz_record.specs.Swaps.{entries_of, reservation}
 use Rattle.bz_record.specs.declared.new_record.NewRecord.{NewRecord}
 use Rattle.bz_record.proofs.Coding.{reserved-plain, reserved-reads, reserved-says, sizes-agree, reserved-held, reserved-hidden, reserved-used, reserved-extent, leaf-record}
-use Rattle.bz_record.proofs.Entries.{sets-status, sets-durable-status, sets-meta, sets-durable-meta, leaves-others, leaves-durable-others, leaves-raw, target-of, each-target, status-now, same-now, durable-status-now}
+use Rattle.bz_record.proofs.Entries.{sets-status, sets-durable-status, sets-meta, sets-durable-meta, leaves-others, leaves-durable-others, leaves-raw, status-now, same-now, durable-status-now}
 
 -- the laws that these proofs stand on
 pub record Laws : Type 0 where

@@ -167,15 +167,15 @@ module _ (b : Laws) (s : Scene) (y : Instant) (w : RecordSwap) (mt : Meta) (chan
 
   named : (a : ℕ) → is_target (entries_of s.past.config w) a ≡ true → IsTarget s a
   named = each-target (IsTarget s) s.past.config w
-    (inr (inr (record { slot = w.slot; place = STATUS_AT; address = refl; within = omega arith; reached = now.leaf.reached; kind = inl refl })))
-    (inr (inr (record {
-      slot = w.slot;
-      place = META_AT + w.place;
-      address = refl;
-      within = place;
-      reached = now.leaf.reached;
-      kind = inr (inl (record { from = omega arith; to = omega (arith, f.counted, count-was); free = omega (arith, f.counted, block-was, count-durable, block-durable, whole.filled.room) }));
-    })))
+      (inr (inr (record { slot = w.slot; place = STATUS_AT; address = refl; within = omega arith; reached = now.leaf.reached; kind = inl refl })))
+      (inr (inr (record {
+        slot = w.slot;
+        place = META_AT + w.place;
+        address = refl;
+        within = place;
+        reached = now.leaf.reached;
+        kind = inr (inl (record { from = omega arith; to = omega (arith, f.counted, count-was); free = omega (arith, f.counted, block-was, count-durable, block-durable, whole.filled.room) }));
+      })))
 
   leaf-swap : IsLeafSwap true change (entries_of s.past.config w) s w.slot y
   leaf-swap = record {

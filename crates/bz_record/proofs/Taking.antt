@@ -1,14 +1,13 @@
 -- After a reservation the record has its place in the leaf, and its words are the worker's own.
-use Rattle.std.proofs.Common.{◌≡◌, ◌≢◌, ℕ, ◌+◌, ◌^◌, ◌<◌, ◌≤◌, ◌==◌, ◌&&◌, ◌||◌, ◌⊎◌, Bool, true, false, List, arith, refl, sym, ap, subst, ◌∙◌, inl, inr, Option}
+use Rattle.std.proofs.Common.{◌≡◌, ℕ, ◌+◌, ◌<◌, ◌≤◌, ◌==◌, ◌&&◌, ◌||◌, Bool, true, false, arith, refl, sym, ap, subst, ◌∙◌, inl, inr}
 use Rattle.std.specs.Prelude.{None, nat_lt, nat_le}
 use Rattle.std.proofs.lemmas.Bool.{true≢false}
 use Rattle.std.proofs.lemmas.Bool.Decides.{nat_tests}
 use Rattle.bz_layout.specs.Addresses.{node_address, slot_of, node_word_of, SlotsApart}
 use Rattle.bz_layout.specs.declared.config.Config.{Config}
 use Rattle.bz_layout.specs.declared.sizes.TheConstants.{NODE_WORDS, STATUS_AT, HEADER_AT, META_AT}
-use Rattle.bz_shape.specs.Order.{is_within}
 use Rattle.bz_slotted.specs.Laws.{LeafRulesAreFacts}
-use Rattle.bz_slotted.specs.Page.{meta_of, visible, held, extent_of, page}
+use Rattle.bz_slotted.specs.Page.{meta_of, visible, extent_of, page}
 use Rattle.bz_slotted.specs.Readers.{found_of}
 use Rattle.bz_slotted.specs.Whole.{Whole, IsInBlock}
 use Rattle.bz_word.specs.Headers.{header}
@@ -18,20 +17,20 @@ use Rattle.bz_word.specs.declared.entry.Entry.{Entry}
 use Rattle.bz_word.specs.declared.meta.Meta.TheVariants.{Reserved}
 use Rattle.bz_content.specs.Image.{node}
 use Rattle.bz_task.specs.Good.{IsGood}
-use Rattle.bz_task.specs.Instant.{Instant, words, durable, page_at, form_at, is_inside}
-use Rattle.bz_task.specs.Laws.{AreMoments, RangesStay, SamePlace}
+use Rattle.bz_task.specs.Instant.{words, durable, page_at, form_at, is_inside}
+use Rattle.bz_task.specs.Laws.{RangesStay, SamePlace}
 use Rattle.bz_task.specs.Scene.{Scene, IsMine, IsScene, here}
 use Rattle.bz_task.specs.Shown.{IsOfRecord, IsShown}
-use Rattle.bz_task.specs.Swaps.{Stand, SwapsTo, grows_over, reserves as is_reserved, Takes}
+use Rattle.bz_task.specs.Swaps.{Stand, grows_over, reserves as is_reserved, Takes}
 use Rattle.bz_record.specs.Laws.{SameLeaf, LeavesWere, IsTaken, ReservationsTakeWords}
-use Rattle.bz_record.specs.Leaves.{WasLeaf, WasLeafOf, WasReserved}
+use Rattle.bz_record.specs.Leaves.{WasLeaf, WasLeafOf}
 use Rattle.bz_record.specs.Records.{size_of, offset_of, place_of, address_of, Fits}
-use Rattle.bz_record.specs.Swaps.{status_entry, meta_entry, entries_of, status_reserved, reservation}
+use Rattle.bz_record.specs.Swaps.{status_entry, entries_of, status_reserved, reservation}
 use Rattle.bz_record.specs.declared.new_record.NewRecord.{NewRecord}
 use Rattle.bz_record.proofs.Coding.{reserved-plain, reserved-reads}
-use Rattle.bz_record.proofs.Entries.{sets-meta, good-now}
+use Rattle.bz_record.proofs.Entries.{sets-meta}
 use Rattle.bz_record.proofs.Leaves.{held-visible}
-use Rattle.bz_record.proofs.Reserved.{Laws, place, same, was-durable, is, others, count-is, block-is, block-was, count-was, count-durable, block-durable, alike, record-before}
+use Rattle.bz_record.proofs.Reserved.{Laws, place, same, is, others, count-is, block-is, count-was, count-durable, block-durable, alike, record-before}
 
 or-right : (a b : Bool) → b ≡ true → a || b ≡ true
 or-right true b h = refl

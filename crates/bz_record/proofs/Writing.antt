@@ -1,15 +1,14 @@
 -- The words of a record are stored one by one, and become durable line by line.
-use Rattle.std.proofs.Common.{◌≡◌, ◌≢◌, ℕ, ◌+◌, ◌-◌, ◌*◌, ◌/◌, ◌<◌, ◌≤◌, ◌||◌, Bool, true, arith, refl, sym, ap, subst, ◌∙◌, inl, inr}
-use Rattle.std.specs.Prelude.{slice_index, length}
+use Rattle.std.proofs.Common.{◌≡◌, ℕ, ◌+◌, ◌-◌, ◌*◌, ◌<◌, ◌≤◌, ◌||◌, Bool, true, arith, refl, sym, subst, ◌∙◌, inl, inr}
+use Rattle.std.specs.Prelude.{slice_index}
 use Rattle.std.proofs.lemmas.Bool.{cases_lt, cases_eq}
 use Rattle.bz_key.specs.Laws.{PackingIsSmall}
-use Rattle.bz_key.specs.Packing.{packed}
-use Rattle.bz_layout.specs.Addresses.{line_of, AddressesFit}
+use Rattle.bz_layout.specs.Addresses.{AddressesFit}
 use Rattle.bz_layout.specs.Slots.{FreeSlots}
 use Rattle.bz_layout.specs.declared.config.Config.{Config}
 use Rattle.bz_task.specs.OwnActs.{Stores, Flushes, gained}
-use Rattle.bz_task.specs.Requests.{IsReadable, IsOwnStore}
-use Rattle.bz_task.specs.Scene.{Scene, IsMine, IsFlushed, IsScene, IsLawful, KeepsWord, here}
+use Rattle.bz_task.specs.Requests.{IsReadable}
+use Rattle.bz_task.specs.Scene.{Scene, IsMine, IsFlushed, IsScene, IsLawful, here}
 use Rattle.bz_record.specs.Records.{words_in, size_of, address_of, Fits}
 use Rattle.bz_record.specs.Writing.{line_in, IsWriting, HasWritten, RecordsAreWritten}
 use Rattle.bz_record.specs.declared.new_record.NewRecord.{NewRecord}

@@ -2,7 +2,7 @@
 use Rattle.std.specs.Prelude.{◌≡◌, ◌≢◌, ℕ, ◌+◌, ◌^◌, ◌<◌, ◌≤◌, ◌⊎◌, true, false, List, All, Option, Some, None}
 use Rattle.bz_layout.specs.Addresses.{node_address}
 use Rattle.bz_layout.specs.declared.config.Config.{Config}
-use Rattle.bz_layout.specs.declared.sizes.TheConstants.{STATUS_AT, META_AT, SHARED_WORDS}
+use Rattle.bz_layout.specs.declared.sizes.TheConstants.{STATUS_AT, SHARED_WORDS}
 use Rattle.bz_slotted.specs.Page.{meta_of, visible, held, used, extent_of, page}
 use Rattle.bz_slotted.specs.ReadingLaws.{node_of}
 use Rattle.bz_slotted.specs.Readers.{found_of}

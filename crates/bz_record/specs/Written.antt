@@ -1,5 +1,5 @@
 -- Once the last line is flushed, a record is written.
-use Rattle.std.specs.Prelude.{◌≡◌, ℕ, ◌+◌, ◌<◌}
+use Rattle.std.specs.Prelude.{ℕ, ◌+◌, ◌<◌}
 use Rattle.std.proofs.Common.{arith}
 use Rattle.bz_task.specs.Scene.{Scene}
 use Rattle.bz_record.specs.Records.{size_of}
