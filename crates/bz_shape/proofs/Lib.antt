@@ -14,6 +14,7 @@ pub mod MergeForms
 pub mod MergeTrees
 pub mod Merges
 pub mod Places
+pub mod QuietChanges
 pub mod Regrowths
 pub mod Renewals
 pub mod RootForms

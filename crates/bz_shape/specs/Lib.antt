@@ -7,6 +7,7 @@ pub mod Merge
 pub mod Order
 pub mod OrderLaws
 pub mod Outcomes
+pub mod QuietSlots
 pub mod RootSplit
 pub mod Slots
 pub mod Split

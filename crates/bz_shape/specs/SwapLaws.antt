@@ -6,6 +6,7 @@ use Rattle.bz_shape.specs.Descent.{leaf_of, content}
 use Rattle.bz_shape.specs.Walk.{form, IsTree}
 use Rattle.bz_shape.specs.Slots.{SameSlot, SameTop}
 use Rattle.bz_shape.specs.LeafSwap.{LeafSwap}
+use Rattle.bz_shape.specs.QuietSlots.{QuietSlots}
 use Rattle.bz_shape.specs.Consolidation.{Consolidation}
 use Rattle.bz_shape.specs.Split.{Split, AreThree, SaysInHalves}
 use Rattle.bz_shape.specs.RootSplit.{RootSplit}
@@ -16,6 +17,10 @@ use Rattle.bz_shape.specs.Outcomes.{SameTree, SameContent, Regrows}
 abbrev pub UnreachedSlotsDoNotMatter : Type 0
 UnreachedSlotsDoNotMatter =
     (v w : View) → IsTree v → IsHonest w → SameTop v w → ((j : ℕ) → (form v).inside j ≡ true → SameSlot v w j) → SameTree v w × SameContent v w
+
+-- where every reached slot says what it said, the tree and the content are the same
+abbrev pub QuietSlotsKeepTheTree : Type 0
+QuietSlotsKeepTheTree = (v w : View) → IsTree v → IsHonest w → QuietSlots v w (form v) → SameTree v w × SameContent v w
 
 -- a swap on one leaf leaves the tree, and changes the content at keys of that leaf alone
 abbrev pub LeafSwapsKeepTheTree : Type 0

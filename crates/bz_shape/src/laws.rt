@@ -1,7 +1,7 @@
 //! Laws of trees and of the swaps on them. Each function does nothing: its contract is the law.
 
 ghost use Rattle.bz_shape.specs.TreeLaws.{FormsFitTrees, TreesHaveForms, SlotsComeOnce, LeavesTileTheKeys, ContentIsTheUnion, MapIsTheContent, WalksByStack};
-ghost use Rattle.bz_shape.specs.SwapLaws.{UnreachedSlotsDoNotMatter, LeafSwapsKeepTheTree, ConsolidationsKeepTheContent, SplitsKeepTheContent, RootSplitsKeepTheContent, MergesKeepTheContent};
+ghost use Rattle.bz_shape.specs.SwapLaws.{UnreachedSlotsDoNotMatter, QuietSlotsKeepTheTree, LeafSwapsKeepTheTree, ConsolidationsKeepTheContent, SplitsKeepTheContent, RootSplitsKeepTheContent, MergesKeepTheContent};
 
 /// An image that a form fits has no fault, and the form that its walk shows agrees with that one.
 pub fn forms_fit_trees()
@@ -41,6 +41,11 @@ pub fn walks_by_stack()
 /// Changes of slots that are not reached change neither the tree nor the content.
 pub fn unreached_slots_do_not_matter()
     ensures { UnreachedSlotsDoNotMatter }
+{}
+
+/// Where every reached slot says what it said, tree and content are the same.
+pub fn quiet_slots_keep_the_tree()
+    ensures { QuietSlotsKeepTheTree }
 {}
 
 /// A swap on one leaf leaves the tree, and changes the content at keys of that leaf alone.

@@ -55,7 +55,7 @@ same-swapped es f g a e = go (is_target es a) refl
     go true q = set-alike es f g a q
     go false q = untouched es f a q ∙ (e ∙ sym (untouched es g a q))
 
-every-same : (n : ℕ) (p q : ℕ → Bool) → ((i : ℕ) → i < n → q i ≡ p i) → every n q ≡ every n p
+pub every-same : (n : ℕ) (p q : ℕ → Bool) → ((i : ℕ) → i < n → q i ≡ p i) → every n q ≡ every n p
 unfolding every
 every-same zero p q h = refl
 every-same (suc n) p q h = rw (h n (omega arith), every-same n p q (λ i l. h i (omega arith))) refl

@@ -12,3 +12,5 @@ mod Others
 mod SeenLeaves
 mod Settled
 mod Separators
+mod Resting
+mod Targeting

@@ -11,3 +11,5 @@ pub mod Laws
 pub mod LeafSwaps
 pub mod Others
 pub mod Settled
+pub mod Resting
+pub mod Targets

@@ -14,8 +14,9 @@ use Rattle.bz_task.specs.declared.todo.Seen.TheVariants.{Start, Read as Was, Sto
 use Rattle.bz_task.specs.declared.todo.Todo.{Todo}
 use Rattle.bz_task.specs.declared.todo.Todo.TheVariants.{Read, Load, Store, Flush, Swap, Finish}
 
--- a metadata word in use, or the free word directly after these
+-- of a leaf a metadata word in use, or the free word directly after these
 pub record IsMetaPlace (p : Page) (i : ℕ) : Type 0 where
+  pub leaf : p.level ≡ 0
   pub from : META_AT ≤ i
   pub to : i ≤ META_AT + p.count
   pub free : i + p.block < NODE_WORDS

@@ -2,7 +2,9 @@
 
 ghost use Rattle.bz_task.specs.Laws.{NodesStay, RootStays, FrozenNodesStay, SeparatorsStay, FrontsStay, RangesStay, NodesWereInside, RootsAreReached, HeadersSayTheLevel, SameRecordsShowTheSame, SwapsShowInSlots, SeenLeavesAreWhole, LeavesAreInTrees, ChildrenAreInTrees, ThawedLeavesStay, PathsStay, ViewsStay, NothingIsGained};
 ghost use Rattle.bz_task.specs.LeafSwaps.{LeafSwapsAreGood};
+ghost use Rattle.bz_task.specs.Resting.{RestingMemoriesAreGood};
 ghost use Rattle.bz_task.specs.Settled.{SettledMemoriesAreGood};
+ghost use Rattle.bz_task.specs.Targets.{TargetsAreOfTheMemory, TargetsStay, OwnWordsAreNoTargets};
 ghost use Rattle.bz_task.specs.Others.{QuietActsAreLawful, StoresAreLawful, EffectsAreLawful};
 
 use bz_content::laws as content;
@@ -167,3 +169,38 @@ pub fn settled_memories_are_good()
     shape::trees_have_forms();
     slotted::inner_keys_rise();
 }
+
+/// A memory in which nothing changes for readers stays good, and holds the same.
+pub fn resting_memories_are_good()
+    ensures { RestingMemoriesAreGood }
+{
+    roots_are_reached();
+    headers_say_the_level();
+    leaves_are_in_trees();
+    content::well_formed_images_have_no_fault();
+    content::views_are_honest();
+    shape::trees_have_forms();
+    shape::quiet_slots_keep_the_tree();
+    slotted::leaf_rules_are_facts();
+    slotted::stores_are_quiet();
+    slotted::standing_is_quiet();
+}
+
+/// What a swap may name is a matter of the memory alone.
+pub fn targets_are_of_the_memory()
+    ensures { TargetsAreOfTheMemory }
+{}
+
+/// An address that a swap may name stays one.
+pub fn targets_stay()
+    ensures { TargetsStay }
+{
+    headers_say_the_level();
+    leaves_are_in_trees();
+    slotted::leaf_rules_are_facts();
+}
+
+/// A word of one's own is none that a swap may name.
+pub fn own_words_are_no_targets()
+    ensures { OwnWordsAreNoTargets }
+{}
