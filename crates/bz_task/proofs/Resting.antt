@@ -90,16 +90,16 @@ module _ (b : Laws) (c : Config) (x y : Instant) (g : IsGood c x) (r : Rests c x
 
   -- a leaf
   leaf : (k : ℕ) → k ≢ c.nodes → is_inside c x k ≡ true → (form_at c x).level k ≡ 0 → SameLeaf (view_in c x.image) (view_in c y.image) (form_at c x) k
-  leaf k ne i l = record { whole = rw no alike.none; found = λ key. rw no (alike.same key) }
+  leaf k ne i-k l = record { whole = rw no alike.none; found = λ key. rw no (alike.same key) }
     where
       no : (k == c.nodes) ≡ false
       no = grind (arith, nat_tests, ne)
 
       e : x.reached k ≡ true
-      e = g.inside k i ne
+      e = g.inside k i-k ne
 
       is : IsLeafInTree c x k
-      is = b.leaves c x k g (g.slots k e) i l
+      is = b.leaves c x k g (g.slots k e) i-k l
 
       block : (page (durable c x k)).block ≡ (page (words c x k)).block
       block = (places k e).block
@@ -110,7 +110,7 @@ module _ (b : Laws) (c : Config) (x y : Instant) (g : IsGood c x) (r : Rests c x
         records = λ j i lt vis from to.
             let o : IsOfRecord (durable c x k) i j = record { counted = lt; visible = vis; from = from; to = to } in
             let here : IsOfRecord (words c x k) i j = of-record (durable c x k) (words c x k) i j (back k e) o in
-            (r.resolved k i e (inr (inr (inr (j, here)))), r.records k i j e is.flat here);
+            (r.resolved k i e (inr (inr (inr (j, here)))), r.records k i j ne i-k is.flat here);
       }
 
       alike : AnswersAlike c.nodes (node c y.image k) (durable c x k) (durable c y k) ((form_at c x).low k) ((form_at c x).high k)
@@ -120,10 +120,10 @@ module _ (b : Laws) (c : Config) (x y : Instant) (g : IsGood c x) (r : Rests c x
   inner-words : (k : ℕ) → x.reached k ≡ true → 0 < (page_at c x k).level → (i : ℕ) → durable c y k i ≡ durable c x k i
   inner-words k e l i = r.resolved k i e (inr (inr (inl l)))
 
-  stands-alike : (k : ℕ) → x.reached k ≡ true → 0 < (page_at c x k).level → (l : ℕ) → 0 < l → StandsAlike (node c x.image k) (node c y.image k) (durable c x k) l
-  stands-alike k e inner l some i from other =
+  stands-alike : (k : ℕ) → k ≢ c.nodes → is_inside c x k ≡ true → x.reached k ≡ true → 0 < (page_at c x k).level → (l : ℕ) → 0 < l → StandsAlike (node c x.image k) (node c y.image k) (durable c x k) l
+  stands-alike k ne ins e inner l some i from other =
       let p : SamePlaces (words c x k) (durable c x k) = places k e in
-      r.separators k i e inner (subst (λ n. META_AT + n ≤ i) p.count from)
+      r.separators k i ne ins inner (subst (λ n. META_AT + n ≤ i) p.count from)
       (λ j lt is. other some j (subst (λ n. j < n) (sym p.count) lt) (is ∙ pointer-alike k e j lt))
     where
       pointer-alike : (k : ℕ) → x.reached k ≡ true → (j : ℕ) → j < (page_at c x k).count → pointer_at (page_at c x k) j ≡ pointer_at (page (durable c x k)) j
@@ -132,16 +132,16 @@ module _ (b : Laws) (c : Config) (x y : Instant) (g : IsGood c x) (r : Rests c x
           pointer_of : Meta → ℕ
           pointer_of m = payload_at (extent_of m)
 
-  inner-fault : (k : ℕ) → x.reached k ≡ true → 0 < (page_at c x k).level → (l : ℕ) (low high : Option (List ℕ))
+  inner-fault : (k : ℕ) → k ≢ c.nodes → is_inside c x k ≡ true → x.reached k ≡ true → 0 < (page_at c x k).level → (l : ℕ) (low high : Option (List ℕ))
       → node_fault c.nodes (node c x.image k) (durable c x k) l low high ≡ None → node_fault c.nodes (node c y.image k) (durable c y k) l low high ≡ None
-  inner-fault k e inner l low high none = elim (cases_eq l 0) [
+  inner-fault k ne ins e inner l low high none = elim (cases_eq l 0) [
     | inl z ↦ (
         let w : Whole (node c x.image k) (page (durable c x k)) low high = (b.rules c.nodes (node c x.image k) (durable c x k) low high).0 (subst (λ n. node_fault c.nodes (node c x.image k) (durable c x k) n low high ≡ None) z none) in
         absurd (omega (arith, w.level.level, (places k e).level, inner)))
     | inr some ↦ (
         let ws : durable c y k ≡ durable c x k = λ t i. inner-words k e inner i t in
         subst (λ n. node_fault c.nodes (node c y.image k) n l low high ≡ None) (sym ws)
-        (b.stands c.nodes (node c x.image k) (node c y.image k) (durable c x k) l low high none (stands-alike k e inner l (omega (arith, some)))))
+        (b.stands c.nodes (node c x.image k) (node c y.image k) (durable c x k) l low high none (stands-alike k ne ins e inner l (omega (arith, some)))))
   ]
 
   inner : (k : ℕ) → k ≢ c.nodes → is_inside c x k ≡ true → 0 < (form_at c x).level k → SameSlot (view_in c x.image) (view_in c y.image) k
@@ -150,7 +150,7 @@ module _ (b : Laws) (c : Config) (x y : Instant) (g : IsGood c x) (r : Rests c x
     child = λ j. rw no (ap (λ n. child_of n j) same);
     key = λ j. rw no (ap (λ n. key_of n j) same);
     found = λ key. rw no (ap (λ n. found_of n key) same);
-    fault = λ level low high none. rw no (inner-fault k e inner-level level low high (rw no at none));
+    fault = λ level low high none. rw no (inner-fault k ne i e inner-level level low high (rw no at none));
   }
     where
       no : (k == c.nodes) ≡ false

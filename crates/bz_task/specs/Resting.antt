@@ -13,8 +13,8 @@ use Rattle.bz_task.specs.Instant.{Instant, words, durable, page_at, is_inside}
 use Rattle.bz_task.specs.Shown.{IsOfRecord, IsShown}
 use Rattle.bz_task.specs.Steps.{IsQuiet}
 
--- for readers nothing changes, nor in what the image resolves to where they read; the records of leaves, and of inner nodes
--- all but the child pointers, stand as they stood. Words that swaps name may stand otherwise.
+-- for readers nothing changes, nor in what the image resolves to where they read; in nodes of the tree the records of leaves, and
+-- of inner nodes all but the child pointers, stand as they stood. Words that swaps name may stand otherwise.
 pub record Rests (c : Config) (x y : Instant) : Type 0 where
   pub quiet : IsQuiet c x y
   pub lawful : (a : ℕ) → a < words_of c → is_lawful c y.image a ≡ true
@@ -22,8 +22,8 @@ pub record Rests (c : Config) (x y : Instant) : Type 0 where
   pub root : resolve y.image ROOT_AT ≡ resolve x.image ROOT_AT
   pub root_status : resolve y.image ROOT_STATUS_AT ≡ resolve x.image ROOT_STATUS_AT
   pub resolved : (k i : ℕ) → x.reached k ≡ true → IsShown (words c x k) i → durable c y k i ≡ durable c x k i
-  pub records : (k i j : ℕ) → x.reached k ≡ true → (page_at c x k).level ≡ 0 → IsOfRecord (words c x k) i j → node c y.image k i ≡ node c x.image k i
-  pub separators : (k i : ℕ) → x.reached k ≡ true → 0 < (page_at c x k).level → META_AT + (page_at c x k).count ≤ i
+  pub records : (k i j : ℕ) → k ≢ c.nodes → is_inside c x k ≡ true → (page_at c x k).level ≡ 0 → IsOfRecord (words c x k) i j → node c y.image k i ≡ node c x.image k i
+  pub separators : (k i : ℕ) → k ≢ c.nodes → is_inside c x k ≡ true → 0 < (page_at c x k).level → META_AT + (page_at c x k).count ≤ i
       → ((j : ℕ) → j < (page_at c x k).count → i ≢ pointer_at (page_at c x k) j) → node c y.image k i ≡ node c x.image k i
 
 -- the memory is good still, and holds the same
