@@ -1,1 +1,3 @@
 mod Passings
+mod Leavings
+mod Effecting

@@ -4,12 +4,12 @@ use Rattle.bz_layout.specs.Addresses.{node_address, words_of as size_of}
 use Rattle.bz_layout.specs.Config.{IsConfig}
 use Rattle.bz_layout.specs.declared.config.Config.{Config}
 use Rattle.bz_layout.specs.declared.sizes.TheConstants.{NODE_WORDS}
-use Rattle.bz_pm.specs.Words.{IsMemory}
 use Rattle.bz_cells.specs.Store.{is_outside}
 use Rattle.bz_swap.specs.Held.{Holds}
-use Rattle.bz_swap.specs.SwapMemory.{SwapMemory, value_at, is_named, words_of}
+use Rattle.bz_swap.specs.PlainFields.{HavePlainFields}
+use Rattle.bz_swap.specs.SwapMemory.{SwapMemory, value_at, is_named}
 use Rattle.bz_swap.specs.declared.phase.Phase.TheVariants.{Recovering}
-use Rattle.bz_content.specs.Lawful.{is_fixed, is_in_descriptor, is_lawful}
+use Rattle.bz_content.specs.Lawful.{is_fixed}
 use Rattle.bz_task.specs.Good.{IsGood}
 use Rattle.bz_task.specs.Instant.{Instant, words}
 use Rattle.bz_task.specs.Shown.{IsShown}
@@ -20,18 +20,13 @@ use Rattle.bz_task.specs.Targets.{IsTargetAt}
 abbrev pub answer_at : SwapMemory → ℕ → ℕ
 answer_at m a = if is_outside m.swaps a then (if is_named m a then value_at m a else slice_index m.cached a) else 0
 
--- the words of descriptors are such as an image may hold
-abbrev pub HasLawfulDescriptors : Config → SwapMemory → Type 0
-HasLawfulDescriptors c m = (a : ℕ) → is_in_descriptor c a ≡ true → is_lawful c (slice_index m.durable) a ≡ true
-
 pub record IsSeen (c : Config) (m : SwapMemory) (x : Instant) : Type 0 where
   pub config : IsConfig c
   pub swaps : m.swaps ≡ c.swaps
-  pub memory : IsMemory (words_of m)
   pub size : length m.durable ≡ size_of c
   pub phase : m.phase ≢ Recovering
   pub holds : Holds m
-  pub descriptors : HasLawfulDescriptors c m
+  pub fields : HavePlainFields m
   -- what no swap and no store may change in the superblock stands in the caches as in the memory itself
   pub fixed : (a : ℕ) → is_fixed a ≡ true → slice_index m.cached a ≡ slice_index m.durable a
   pub image : x.image ≡ slice_index m.durable

@@ -1,6 +1,7 @@
 //! Laws of what tasks see of a swap memory. Each function does nothing: its contract is the law.
 
-ghost use Rattle.bz_sight.specs.Passing.{ActsPass};
+ghost use Rattle.bz_sight.specs.Effects.{EffectsTakePlace, EffectsKeepOwn};
+ghost use Rattle.bz_sight.specs.Passing.{ActsPass, ActsLeaveAll, StoresAreSeen, FlushesAreSeen};
 
 use bz_content::laws as content;
 use bz_task::laws as task;
@@ -15,7 +16,57 @@ pub fn acts_pass()
     task::targets_stay();
     task::headers_say_the_level();
     task::leaves_are_in_trees();
-    task::same_records_show_the_same();
     bz_slotted::laws::leaf_rules_are_facts();
     bz_layout::slots_apart();
+    bz_layout::addresses_are_placed();
+}
+
+/// Such an act, which is nobody's private store, leaves all that anybody owns.
+pub fn acts_leave_all()
+    ensures { ActsLeaveAll }
+{
+    task::own_words_are_no_targets();
+}
+
+/// A private store is seen as one.
+pub fn stores_are_seen()
+    ensures { StoresAreSeen }
+{}
+
+/// A flush makes what its worker owns in the line durable.
+pub fn flushes_are_seen()
+    ensures { FlushesAreSeen }
+{
+    task::own_words_are_no_targets();
+}
+
+/// The effect of a swap is seen as one: its entries change for readers, and nothing else.
+pub fn effects_take_place()
+    ensures { EffectsTakePlace }
+{
+    content::well_formed_images_have_no_fault();
+    content::swap::held_memories_leave_their_values();
+    task::resting_memories_are_good();
+    task::targets_stay();
+    task::headers_say_the_level();
+    task::leaves_are_in_trees();
+    bz_slotted::laws::leaf_rules_are_facts();
+    bz_layout::slots_apart();
+    bz_layout::addresses_are_placed();
+}
+
+/// It leaves what anybody owns.
+pub fn effects_keep_own()
+    ensures { EffectsKeepOwn }
+{
+    content::well_formed_images_have_no_fault();
+    content::swap::held_memories_leave_their_values();
+    task::resting_memories_are_good();
+    task::targets_stay();
+    task::headers_say_the_level();
+    task::leaves_are_in_trees();
+    bz_slotted::laws::leaf_rules_are_facts();
+    bz_layout::slots_apart();
+    bz_layout::addresses_are_placed();
+    task::own_words_are_no_targets();
 }

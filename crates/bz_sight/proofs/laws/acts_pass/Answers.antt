@@ -9,7 +9,7 @@ returns c = acts-pass (record {
   stay = c.targets_stay.ensures;
   headers = c.headers_say_the_level.ensures;
   leaves = c.leaves_are_in_trees.ensures;
-  alike = c.same_records_show_the_same.ensures;
+  placed = c.addresses_are_placed.ensures;
   rules = c.leaf_rules_are_facts.ensures;
   apart = c.slots_apart.ensures;
 })
