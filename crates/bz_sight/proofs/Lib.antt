@@ -1,3 +1,4 @@
 mod Passings
 mod Leavings
 mod Effecting
+mod Acting

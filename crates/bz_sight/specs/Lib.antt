@@ -1,3 +1,4 @@
 pub mod Sight
 pub mod Passing
 pub mod Effects
+pub mod Acts

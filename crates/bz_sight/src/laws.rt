@@ -1,5 +1,6 @@
 //! Laws of what tasks see of a swap memory. Each function does nothing: its contract is the law.
 
+ghost use Rattle.bz_sight.specs.Acts.{QuietStepsPass, StepsLeaveCaches, StoringStepsStore, FlushingStepsFlush, EffectStepsTakePlace, EvictionsAreSeen};
 ghost use Rattle.bz_sight.specs.Effects.{EffectsTakePlace, EffectsKeepOwn};
 ghost use Rattle.bz_sight.specs.Passing.{ActsPass, ActsLeaveAll, StoresAreSeen, FlushesAreSeen};
 
@@ -69,4 +70,42 @@ pub fn effects_keep_own()
     bz_layout::slots_apart();
     bz_layout::addresses_are_placed();
     task::own_words_are_no_targets();
+}
+
+/// A step that tells no effect is an act by which none takes effect.
+pub fn quiet_steps_pass()
+    ensures { QuietStepsPass }
+{
+    bz_swap::laws::plain_fields_stay();
+}
+
+/// A step that is no private store leaves every private word in the caches.
+pub fn steps_leave_caches()
+    ensures { StepsLeaveCaches }
+{}
+
+/// The step of a private store.
+pub fn storing_steps_store()
+    ensures { StoringStepsStore }
+{}
+
+/// The step of a private flush.
+pub fn flushing_steps_flush()
+    ensures { FlushingStepsFlush }
+{}
+
+/// A step that tells an effect.
+pub fn effect_steps_take_place()
+    ensures { EffectStepsTakePlace }
+{
+    bz_swap::laws::plain_fields_stay();
+    bz_swap::laws::effects_stay_inside();
+}
+
+/// Evictions, with an effect and without.
+pub fn evictions_are_seen()
+    ensures { EvictionsAreSeen }
+{
+    bz_swap::laws::plain_fields_stay();
+    bz_swap::laws::effects_stay_inside();
 }

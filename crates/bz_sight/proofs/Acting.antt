@@ -1,0 +1,239 @@
+-- Steps and evictions, told by what they do to the words.
+use Rattle.std.proofs.Common.{rules, ◌≡◌, ◌≢◌, ℕ, ◌+◌, ◌*◌, ◌/◌, ◌%◌, ◌<◌, ◌≤◌, ◌⊎◌, ◌==◌, if◌then◌else◌, Bool, true, false, List, length, slice_index, slice_set, arith, refl, sym, ap, subst, ◌∙◌, inl, inr, Option, Some, None}
+use Rattle.std.proofs.lemmas.Bool.{cases_eq, cases_lt}
+use Rattle.std.proofs.lemmas.Grind.{common_steps}
+use Rattle.std.proofs.lemmas.List.{get_or-set_same, get_or-set_other, get_or_past, length-set, take_all, drop_all, append-nil}
+use Rattle.bz_layout.specs.Addresses.{line_of}
+use Rattle.bz_layout.specs.declared.config.Config.{Config}
+use Rattle.bz_pm.specs.Acts.{with_range, with_line, flushed, stored, compared, evicted}
+use Rattle.bz_pm.specs.Laws.{flush}
+use Rattle.bz_pm.specs.Words.{Words, IsMemory}
+use Rattle.bz_acts.specs.Rule.{IsActOf, after_act}
+use Rattle.bz_acts.specs.declared.acted.Act.{Act}
+use Rattle.bz_acts.specs.declared.acted.Act.TheVariants.{Load, Store, Cas, Flush}
+use Rattle.bz_cells.specs.Store.{IsOutside}
+use Rattle.bz_machine.specs.declared.done.Done.{Done}
+use Rattle.bz_machine.specs.declared.done.Done.TheVariants.{Busy, Read, Swapped, Stored, Flushed}
+use Rattle.bz_swap.specs.Effects.{IsQuiet, TakesEffect}
+use Rattle.bz_swap.specs.EffectPlaces.{EffectsStayInside}
+use Rattle.bz_swap.specs.Evictions.{IsEviction, EvictsIn}
+use Rattle.bz_swap.specs.Held.{Holds, IsHeld}
+use Rattle.bz_swap.specs.PlainFields.{PlainFieldsStay}
+use Rattle.bz_swap.specs.Steps.{IsStep, IsAnswer}
+use Rattle.bz_swap.specs.SwapMemory.{SwapMemory, Doing, Idle, Reading, Swapping, Loading, Storing, Flushing, doing_of, is_named, words_of}
+use Rattle.bz_swap.specs.Writes.{StoresPrivate, StoresOwn}
+use Rattle.bz_swap.specs.declared.phase.Phase.{Phase}
+use Rattle.bz_swap.specs.declared.phase.Phase.TheVariants.{Opened, Running, Recovering}
+use Rattle.bz_task.specs.Instant.{Instant}
+use Rattle.bz_sight.specs.Acts.{QuietStepsPass, StepsLeaveCaches, IsStoring, StoringStepsStore, IsFlushing, FlushingStepsFlush, EffectStepsTakePlace, EvictionsAreSeen}
+use Rattle.bz_sight.specs.Effects.{TakesPlace}
+use Rattle.bz_sight.specs.Passing.{SameRest, Passes, AllStay, StoresAt}
+use Rattle.bz_sight.specs.Sight.{IsSeen, IsHidden}
+use Rattle.bz_sight.proofs.Passings.{held}
+
+-- a flush past the last line changes nothing
+past-line : (line : ℕ) (from to : List ℕ) (b : ℕ) → length from ≤ line * 8 → length to ≤ line * 8 → slice_index (with_line line from to) b ≡ slice_index to b
+unfolding with_line with_range
+past-line line from to b none past = rw (take_all (line * 8) to past, drop_all (line * 8) from none, drop_all (line * 8 + 8) to (omega (arith, past)), append-nil, append-nil) refl
+
+-- after every act a durable word is the old one or the one in the caches
+flush-either : (m : Words) (line b : ℕ) → IsMemory m → (slice_index (flushed m line).durable b ≡ slice_index m.durable b) ⊎ (slice_index (flushed m line).durable b ≡ slice_index m.cached b)
+flush-either m line b i = elim (cases_lt (line * 8) (length m.cached)) [
+  | inl within ↦ (let w = (flush m line i within).durable b in by-test (b / 8 == line) w)
+  | inr past ↦ inl (past-line line m.cached m.durable b past (omega (arith, past, i.same)))
+]
+  where
+    by-test : (t : Bool) → slice_index (flushed m line).durable b ≡ (if t then slice_index m.cached b else slice_index m.durable b)
+        → (slice_index (flushed m line).durable b ≡ slice_index m.durable b) ⊎ (slice_index (flushed m line).durable b ≡ slice_index m.cached b)
+    by-test true w = inr w
+    by-test false w = inl w
+
+act-either : (m : Words) (made : Act) (b : ℕ) → IsMemory m → (slice_index (after_act m made).durable b ≡ slice_index m.durable b) ⊎ (slice_index (after_act m made).durable b ≡ slice_index m.cached b)
+act-either m (Load a v) b i = inl refl
+act-either m (Store a v) b i = inl refl
+act-either m (Cas a before after found) b i = inl refl
+act-either m (Flush line) b i = flush-either m line b i
+
+step-either : (old new : SwapMemory) (made : Act) → IsMemory (words_of old) → IsActOf (words_of old) made (words_of new) → (b : ℕ) → (slice_index new.durable b ≡ slice_index old.durable b) ⊎ (slice_index new.durable b ≡ slice_index old.cached b)
+step-either old new made i act b =
+    subst (λ (n : Words). (slice_index n.durable b ≡ slice_index old.durable b) ⊎ (slice_index n.durable b ≡ slice_index old.cached b)) (sym act.after) (act-either (words_of old) made b i)
+
+-- what no step changes
+same-rest : (c : Config) (x : Instant) (old new : SwapMemory) (w : ℕ) (made : Act) (done : Done) (told : Option ℕ) → IsSeen c old x → IsStep old w made done told new → Holds new → SameRest old new
+same-rest c x old new w made done told seen step holds =
+    let before : IsHeld old = held old seen.phase seen.holds in
+    let after : IsHeld new = held new (λ e. seen.phase (sym step.one.others.phase ∙ e)) holds in
+    record {
+      swaps = step.one.others.swaps;
+      phase = step.one.others.phase;
+      begun = step.one.others.begun;
+      size = omega (arith, before.memory.same, after.memory.same, step.one.others.size);
+    }
+
+-- what a worker is doing is a private store, or is none
+cases-storing : (d : Doing) → ((a : ℕ) × ((v : ℕ) × (d ≡ Storing a v))) ⊎ ((a v : ℕ) → d ≢ Storing a v)
+cases-storing Idle = inr (λ a v e. cc)
+cases-storing (Reading b) = inr (λ a v e. cc)
+cases-storing (Swapping s) = inr (λ a v e. cc)
+cases-storing (Loading b) = inr (λ a v e. cc)
+cases-storing (Storing b u) = inl (b, (u, refl))
+cases-storing (Flushing l) = inr (λ a v e. cc)
+
+storing-answer : (m : SwapMemory) (a v : ℕ) (made : Act) (done : Done) → IsAnswer m (Storing a v) made done → (made ≡ Store a v) × (done ≡ Stored)
+storing-answer m a v made Stored h = (h, refl)
+storing-answer m a v made Busy h = absurd h
+storing-answer m a v made (Read u) h = absurd h
+storing-answer m a v made (Swapped t) h = absurd h
+storing-answer m a v made Flushed h = absurd h
+
+flushing-answer : (m : SwapMemory) (line : ℕ) (made : Act) (done : Done) → IsAnswer m (Flushing line) made done → (made ≡ Flush line) × (done ≡ Flushed)
+flushing-answer m line made Flushed h = (h, refl)
+flushing-answer m line made Busy h = absurd h
+flushing-answer m line made (Read u) h = absurd h
+flushing-answer m line made (Swapped t) h = absurd h
+flushing-answer m line made Stored h = absurd h
+
+no-effect : (done : Done) (told : Option ℕ) → (done ≡ Busy) ⊎ (told ≡ None) → done ≢ Busy → told ≡ None
+no-effect done told (inl e) ne = absurd (ne e)
+no-effect done told (inr e) ne = e
+
+set-other : (words : List ℕ) (a v b : ℕ) → b ≢ a → slice_index (slice_set words a v) b ≡ slice_index words b
+set-other words a v b there = get_or-set_other words a b v 0 there
+
+pub leave-caches : StepsLeaveCaches
+leave-caches old new w made done told step none = λ a o private. step.untouched a o private (λ v. none a v)
+
+-- a private store changes the one word
+pub storing : StoringStepsStore
+storing c x old new w made done told a v seen step doing within =
+    let told-so : (made ≡ Store a v) × (done ≡ Stored) = storing-answer new a v made done (subst (λ d. IsAnswer new d made done) doing step.one.answer) in
+    let before : IsHeld old = held old seen.phase seen.holds in
+    let after : words_of new ≡ stored (words_of old) a v = step.one.act.after ∙ ap (after_act (words_of old)) told-so.0 in
+    record {
+      act = told-so.0;
+      answer = told-so.1;
+      quiet = no-effect done told step.later (λ e. absurd (let f : Stored ≡ Busy = sym told-so.1 ∙ e in cc));
+      stores = record {
+        outside = (private told-so.0 (step.writes.stores a v told-so.0)).0;
+        private = (private told-so.0 (step.writes.stores a v told-so.0)).1;
+        cached = ap (λ (n : Words). slice_index n.cached a) after ∙ get_or-set_same old.cached a v 0 within;
+        others = λ b ne. ap (λ (n : Words). slice_index n.cached b) after ∙ set-other old.cached a v b ne;
+        durable = λ b. ap (λ (n : Words). slice_index n.durable b) after;
+      };
+    }
+  where
+    private : made ≡ Store a v → StoresPrivate old w a v ⊎ StoresOwn old w a v → IsOutside old.swaps a × (is_named old a ≡ false)
+    private e (inl p) = (p.outside, p.private)
+    private e (inr p) = absurd (let f : Storing a v ≡ Swapping p.swap = sym doing ∙ p.doing in cc)
+
+pub flushing : FlushingStepsFlush
+flushing c x old new w made done told line seen step doing within =
+    let told-so : (made ≡ Flush line) × (done ≡ Flushed) = flushing-answer new line made done (subst (λ d. IsAnswer new d made done) doing step.one.answer) in
+    let before : IsHeld old = held old seen.phase seen.holds in
+    let after : words_of new ≡ flushed (words_of old) line = step.one.act.after ∙ ap (after_act (words_of old)) told-so.0 in
+    record {
+      act = told-so.0;
+      answer = told-so.1;
+      quiet = no-effect done told step.later (λ e. absurd (let f : Flushed ≡ Busy = sym told-so.1 ∙ e in cc));
+      copies = λ b e. (let t : (b / 8 == line) ≡ true = grind (arith, common_steps) in ap (λ (n : Words). slice_index n.durable b) after ∙ ((flush (words_of old) line before.memory within).durable b ∙ rw t refl));
+    }
+
+pub quiet-step : PlainFieldsStay → QuietStepsPass
+quiet-step fields c x old new w made done seen step holds hidden =
+    let before : IsHeld old = held old seen.phase seen.holds in
+    record {
+      same = same-rest c x old new w made done None seen step holds;
+      holds = holds;
+      fields = fields.step old new w made done None before step seen.fields;
+      quiet = step.effect;
+      durable = step-either old new made before.memory step.one.act;
+      cached = λ a o private. elim (cases-storing (doing_of old w)) [
+        | inl s ↦ elim (cases_eq a s.0) [
+          | inl e ↦ inr (subst (λ b. IsHidden c x b) (sym e) (hidden s.0 s.1.0 s.1.1))
+          | inr ne ↦ inl (step.untouched a o private (λ v f. ne (same-address (sym f ∙ s.1.1))))
+        ]
+        | inr none ↦ inl (step.untouched a o private (λ v. none a v))
+      ];
+    }
+  where
+    same-address : {a b v u : ℕ} → Storing a v ≡ Storing b u → a ≡ b
+    same-address e = cc
+
+pub effect-step : PlainFieldsStay → EffectsStayInside → EffectStepsTakePlace
+effect-step fields inside c x old new w made done s seen step holds =
+    let before : IsHeld old = held old seen.phase seen.holds in
+    record {
+      same = same-rest c x old new w made done (Some s) seen step holds;
+      holds = holds;
+      fields = fields.step old new w made done (Some s) before step seen.fields;
+      effect = step.effect;
+      durable = (inside.step old new w made done s before step).outside;
+      cached = λ a o private. step.untouched a o private (λ v f. not-storing a v f);
+    }
+  where
+    not-storing : (a v : ℕ) → doing_of old w ≡ Storing a v → ⊥
+    not-storing a v f =
+        let told-so : (made ≡ Store a v) × (done ≡ Stored) = storing-answer new a v made done (subst (λ d. IsAnswer new d made done) f step.one.answer) in
+        let none : Some s ≡ None = no-effect done (Some s) step.later (λ e. absurd (let g : Stored ≡ Busy = sym told-so.1 ∙ e in cc)) in cc
+
+-- evictions
+module _ (old new : SwapMemory) (a : ℕ) (told : Option ℕ) (e : IsEviction old a told new) where
+  cached-same : new.cached ≡ old.cached
+  cached-same = ap (λ m. m.cached) e.is
+
+  durable-set : new.durable ≡ slice_set old.durable a (slice_index old.cached a)
+  durable-set = ap (λ m. m.durable) e.is
+
+  evict-either : (b : ℕ) → (slice_index new.durable b ≡ slice_index old.durable b) ⊎ (slice_index new.durable b ≡ slice_index old.cached b)
+  evict-either b = elim (cases_eq b a) [
+    | inl here ↦ elim (cases_lt a (length old.durable)) [
+      | inl within ↦ inr (ap (λ ws. slice_index ws b) durable-set ∙ (ap (slice_index (slice_set old.durable a (slice_index old.cached a))) here ∙ (get_or-set_same old.durable a (slice_index old.cached a) 0 within ∙ ap (slice_index old.cached) (sym here))))
+      | inr past ↦ inl (ap (λ ws. slice_index ws b) durable-set ∙ (get_or_past (slice_set old.durable a (slice_index old.cached a)) b 0 (omega (arith, length-set old.durable a (slice_index old.cached a), past, here)) ∙ sym (get_or_past old.durable b 0 (omega (arith, past, here)))))
+    ]
+    | inr there ↦ inl (ap (λ ws. slice_index ws b) durable-set ∙ set-other old.durable a (slice_index old.cached a) b there)
+  ]
+
+  evict-same : SameRest old new
+  evict-same = record {
+    swaps = ap (λ m. m.swaps) e.is;
+    phase = ap (λ m. m.phase) e.is;
+    begun = ap (λ m. m.begun) e.is;
+    size = ap length durable-set ∙ length-set old.durable a (slice_index old.cached a);
+  }
+
+evict-quiet : (old new : SwapMemory) → old.phase ≢ Recovering → EvictsIn old.phase old None new → IsQuiet old new
+evict-quiet old new ne h = go old.phase ne h
+  where
+    go : (p : Phase) → p ≢ Recovering → EvictsIn p old None new → IsQuiet old new
+    go Opened n i = i
+    go Running n i = i
+    go Recovering n i = absurd (n refl)
+
+evict-effect : (old new : SwapMemory) (s : ℕ) → old.phase ≢ Recovering → EvictsIn old.phase old (Some s) new → TakesEffect old new s
+evict-effect old new s ne h = go old.phase ne h
+  where
+    go : (p : Phase) → p ≢ Recovering → EvictsIn p old (Some s) new → TakesEffect old new s
+    go Opened n i = i
+    go Running n i = i
+    go Recovering n i = absurd (n refl)
+
+pub evictions : PlainFieldsStay → EffectsStayInside → EvictionsAreSeen
+evictions fields inside = record {
+  quiet = λ c x old new a seen e holds. record {
+    same = evict-same old new a None e;
+    holds = holds;
+    fields = fields.eviction old new a None e seen.fields;
+    quiet = evict-quiet old new seen.phase e.effect;
+    durable = evict-either old new a None e;
+    cached = λ b o private. inl (ap (λ ws. slice_index ws b) (cached-same old new a None e));
+  };
+  leaves = λ old new a told e. λ b o private. ap (λ ws. slice_index ws b) (cached-same old new a told e);
+  effect = λ c x old new a s seen e holds. record {
+    same = evict-same old new a (Some s) e;
+    holds = holds;
+    fields = fields.eviction old new a (Some s) e seen.fields;
+    effect = evict-effect old new s seen.phase e.effect;
+    durable = (inside.eviction old new a s e).outside;
+    cached = λ b o private. ap (λ ws. slice_index ws b) (cached-same old new a (Some s) e);
+  };
+}
