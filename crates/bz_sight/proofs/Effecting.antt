@@ -69,7 +69,7 @@ among (es ∷ begun) zero a e = or-left (is_target es a) (is_among begun a) e
 among (es ∷ begun) (suc s) a e = or-right (is_target es a) (is_among begun a) (among begun s a e)
 
 -- and all of the targets are
-all-named : (es : List Entry) (P : ℕ → Type 0) → ((a : ℕ) → is_target es a ≡ true → P a) → All (λ (e : Entry). P e.target) es
+pub all-named : (es : List Entry) (P : ℕ → Type 0) → ((a : ℕ) → is_target es a ≡ true → P a) → All (λ (e : Entry). P e.target) es
 all-named [] P h = λ i d l. absurd (omega (arith, l))
 all-named (x ∷ es) P h = λ i d l. at i d l (all-named es P (λ a e. h a (or-right (x.target == a) (is_target es a) e)))
   where
@@ -81,7 +81,7 @@ all-named (x ∷ es) P h = λ i d l. at i d l (all-named es P (λ a e. h a (or-r
     at (suc i) d l rest = rest i d (omega (arith, l))
 
 -- what holds of all targets holds of each
-targeted : (es : List Entry) (P : ℕ → Type 0) (a : ℕ) → All (λ (e : Entry). P e.target) es → is_target es a ≡ true → P a
+pub targeted : (es : List Entry) (P : ℕ → Type 0) (a : ℕ) → All (λ (e : Entry). P e.target) es → is_target es a ≡ true → P a
 targeted [] P a h e = absurd (cc)
 targeted (x ∷ es) P a h e = go (x.target == a) refl e (targeted es P a (all-tail (λ (e : Entry). P e.target) x es h))
   where

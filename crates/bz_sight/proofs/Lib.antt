@@ -2,3 +2,4 @@ mod Passings
 mod Leavings
 mod Effecting
 mod Acting
+mod Starting

@@ -2,3 +2,4 @@ pub mod Sight
 pub mod Passing
 pub mod Effects
 pub mod Acts
+pub mod Starts

@@ -2,6 +2,7 @@
 
 ghost use Rattle.bz_sight.specs.Acts.{QuietStepsPass, StepsLeaveCaches, StoringStepsStore, FlushingStepsFlush, EffectStepsTakePlace, EvictionsAreSeen};
 ghost use Rattle.bz_sight.specs.Effects.{EffectsTakePlace, EffectsKeepOwn};
+ghost use Rattle.bz_sight.specs.Starts.{TasksMayStart, OwnWordsAreHidden, StartsAreSeen};
 ghost use Rattle.bz_sight.specs.Passing.{ActsPass, ActsLeaveAll, StoresAreSeen, FlushesAreSeen};
 
 use bz_content::laws as content;
@@ -108,4 +109,29 @@ pub fn evictions_are_seen()
 {
     bz_swap::laws::plain_fields_stay();
     bz_swap::laws::effects_stay_inside();
+}
+
+/// What one owns is hidden from all others.
+pub fn own_words_are_hidden()
+    ensures { OwnWordsAreHidden }
+{}
+
+/// What a task may ask for may be started.
+pub fn tasks_may_start()
+    ensures { TasksMayStart }
+{
+    content::swap::held_memories_leave_their_values();
+    task::targets_are_of_the_memory();
+    task::own_words_are_no_targets();
+    bz_swap::laws::plain_fields_stay();
+}
+
+/// A start makes no act: the same memory is seen.
+pub fn starts_are_seen()
+    ensures { StartsAreSeen }
+{
+    content::swap::held_memories_leave_their_values();
+    task::targets_are_of_the_memory();
+    task::own_words_are_no_targets();
+    bz_swap::laws::plain_fields_stay();
 }

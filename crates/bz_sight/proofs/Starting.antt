@@ -1,0 +1,224 @@
+-- What a task may ask for may be started, and a start leaves the memory that is seen.
+use Rattle.std.proofs.Common.{◌≡◌, ◌≢◌, ℕ, zero, suc, ◌+◌, ◌*◌, ◌<◌, ◌≤◌, ◌||◌, ◌==◌, ◌⊎◌, Bool, true, false, List, [], ◌∷◌, ◌++◌, length, slice_index, arith, refl, sym, ap, subst, ◌∙◌, inl, inr}
+use Rattle.std.specs.Prelude.{All, get_or}
+use Rattle.std.proofs.lemmas.Bool.{true≢false}
+use Rattle.bz_layout.specs.Addresses.{swap_address, node_address, words_of as size_of, IsOutsideSwaps}
+use Rattle.bz_layout.specs.declared.config.Config.{Config}
+use Rattle.bz_layout.specs.declared.sizes.TheConstants.{NODE_WORDS, LINE_WORDS}
+use Rattle.bz_cells.specs.Store.{IsOutside, is_outside}
+use Rattle.bz_swap.specs.Held.{Holds, IsHeld}
+use Rattle.bz_swap.specs.PlainFields.{PlainFieldsStay}
+use Rattle.bz_swap.specs.Starts.{IsAddress, MayWork, MayRead, MayStore, MayFlush, MaySwap, IsEntry, IsPrivateStore, IsPrivateFlush, started, swapping, phase_of}
+use Rattle.bz_swap.specs.SwapMemory.{SwapMemory, Doing, Storing, doing_of, value_at, is_named, is_among, is_target}
+use Rattle.bz_swap.specs.declared.phase.Phase.TheVariants.{Running, Recovering}
+use Rattle.bz_word.specs.declared.entry.Entry.{Entry}
+use Rattle.bz_content.specs.Resolving.{resolve}
+use Rattle.bz_content.specs.Swapped.{HeldMemoriesLeaveTheirValues}
+use Rattle.bz_task.specs.Instant.{Instant, words, durable}
+use Rattle.bz_task.specs.Requests.{IsTarget, IsNodeTarget, IsReadable, IsOwnStore, IsEntryToAsk}
+use Rattle.bz_task.specs.Scene.{Scene, IsMine, IsScene, here}
+use Rattle.bz_task.specs.Shown.{IsShown}
+use Rattle.bz_task.specs.Targets.{alone, IsTargetAt, TargetsAreOfTheMemory, OwnWordsAreNoTargets}
+use Rattle.bz_sight.specs.Sight.{IsSeen, IsHidden, answer_at}
+use Rattle.bz_sight.specs.Starts.{Sees, StoresAreHidden, TasksMayStart, OwnWordsAreHidden, StartsAreSeen}
+use Rattle.bz_sight.proofs.Effecting.{all-named, targeted}
+use Rattle.bz_sight.proofs.Leavings.{own-private, inside-answers, outside-by}
+use Rattle.bz_sight.proofs.Passings.{held, node-at, answer-named, answer-private}
+
+-- the laws that these proofs stand on
+pub record Laws : Type 0 where
+  pub values : HeldMemoriesLeaveTheirValues
+  pub memory : TargetsAreOfTheMemory
+  pub own : OwnWordsAreNoTargets
+  pub fields : PlainFieldsStay
+
+pub hidden : OwnWordsAreHidden
+hidden c x s a v mine = record {
+  in_slots = subst (λ d. node_address d 0 ≤ a) v.config (v.scene.mine a mine).0;
+  unread = λ k i r l e h.
+      mine.hidden k i (subst (λ z. z.reached k ≡ true) (sym v.here) r) l (subst (λ d. a ≡ node_address d k + i) (sym v.config) e)
+      (subst (λ d. IsShown (words d (here s) k) i) (sym v.config) (subst (λ z. IsShown (words c z k) i) (sym v.here) h));
+}
+
+-- an address of the memory outside the descriptors
+outside-of : (c : Config) (swaps a : ℕ) → swaps ≡ c.swaps → IsOutsideSwaps c a → IsOutside swaps a
+outside-of c swaps a e (inl l) = inl l
+outside-of c swaps a e (inr l) = inr (subst (λ n. swap_address n ≤ a) (sym e) (omega (arith, l)))
+
+address : (c : Config) (x : Instant) (m : SwapMemory) (s : Scene) (a : ℕ) → IsSeen c m x → Sees c x s → IsReadable s a → IsAddress m a
+address c x m s a seen v r =
+    let before : IsHeld m = held m seen.phase seen.holds in record {
+      outside = outside-of c m.swaps a seen.swaps (subst (λ d. IsOutsideSwaps d a) v.config r.outside);
+      within = omega (arith, before.memory.same, seen.size, subst (λ d. a < size_of d) v.config r.within);
+    }
+
+-- a word that swaps may name is read
+place-shown : (c : Config) (x : Instant) (a : ℕ) (t : IsNodeTarget (alone c x) a) → IsShown (words c x t.slot) t.place
+place-shown c x a t = elim t.kind [
+  | inl e ↦ inl (omega (arith, e))
+  | inr o ↦ elim o [ inl q ↦ inr (inl q.free) | inr q ↦ inr (inr (inl q.inner)) ]
+]
+
+-- so it is no hidden one
+shown-target : (c : Config) (x : Instant) (a : ℕ) → IsTargetAt c x a → IsHidden c x a → ⊥
+shown-target c x a (inl e) h = omega (arith, e, h.in_slots)
+shown-target c x a (inr (inl e)) h = omega (arith, e, h.in_slots)
+shown-target c x a (inr (inr t)) h = h.unread t.slot t.place t.reached t.within t.address (place-shown c x a t)
+
+-- it lies in the memory, outside the descriptors
+target-address : (c : Config) (x : Instant) (m : SwapMemory) (a : ℕ) → IsSeen c m x → IsTargetAt c x a → IsAddress m a
+target-address c x m a seen (inl e) = let before : IsHeld m = held m seen.phase seen.holds in record { outside = inl (omega (arith, e)); within = omega (arith, e, before.memory.same, seen.size) }
+target-address c x m a seen (inr (inl e)) = let before : IsHeld m = held m seen.phase seen.holds in record { outside = inl (omega (arith, e)); within = omega (arith, e, before.memory.same, seen.size) }
+target-address c x m a seen (inr (inr t)) =
+    let before : IsHeld m = held m seen.phase seen.holds in
+    let slot : t.slot < c.nodes = seen.good.slots t.slot t.reached in
+    record {
+      outside = inr (subst (λ n. swap_address n ≤ a) (sym seen.swaps) (omega (arith, t.address)));
+      within = omega (arith, t.address, t.within, slot, before.memory.same, seen.size);
+    }
+
+-- where it is private it stands in the memory itself as in the caches
+target-flushed : Laws → (c : Config) (x : Instant) (m : SwapMemory) (a : ℕ) → IsSeen c m x → IsTargetAt c x a → is_named m a ≡ false → slice_index m.cached a ≡ slice_index m.durable a
+target-flushed b c x m a seen t private =
+    let before : IsHeld m = held m seen.phase seen.holds in
+    let o : IsOutside m.swaps a = (target-address c x m a seen t).outside in
+    sym (answer-private m a o private) ∙ (ap (λ f. f a) (sym seen.value) ∙ (sym (settled t)
+    ∙ (ap (λ f. resolve f a) seen.image ∙ ((b.values m (record { holds = seen.holds; phase = seen.phase })).values a o ∙ (before.private a o private).1))))
+  where
+    settled : IsTargetAt c x a → resolve x.image a ≡ x.value a
+    settled (inl e) = subst (λ n. resolve x.image n ≡ x.value n) (sym e) seen.good.root
+    settled (inr (inl e)) = subst (λ n. resolve x.image n ≡ x.value n) (sym e) seen.good.root_status
+    settled (inr (inr u)) =
+        subst (λ n. resolve x.image n ≡ x.value n) (sym u.address)
+        (sym (node-at c (resolve x.image) u.slot u.place u.within) ∙ (seen.good.shown u.slot u.place u.reached (place-shown c x a u) ∙ node-at c x.value u.slot u.place u.within))
+
+target-of : Laws → (c : Config) (x : Instant) (s : Scene) (a : ℕ) → Sees c x s → IsTarget s a → IsTargetAt c x a
+target-of b c x s a v t = subst (λ d. IsTargetAt d x a) v.config (subst (λ z. IsTargetAt s.past.config z a) v.here (b.memory s a t))
+
+entry : Laws → (c : Config) (x : Instant) (m : SwapMemory) (s : Scene) (e : Entry) → IsSeen c m x → StoresAreHidden c x m → Sees c x s → IsEntryToAsk s e → IsEntry m e
+entry b c x m s e seen stores v ask =
+    let t : IsTargetAt c x e.target = target-of b c x s e.target v ask.target in record {
+      address = target-address c x m e.target seen t;
+      expected = ask.expected;
+      value = ask.new;
+      flushed = target-flushed b c x m e.target seen t;
+      not_stored = λ w u d. shown-target c x e.target t (stores w e.target u d);
+    }
+
+may-store : (m : SwapMemory) (w a v : ℕ) → 0 < w → IsPrivateStore m w a v → MayStore m w a v
+may-store m zero a v l p = absurd (omega (arith, l))
+may-store m (suc w) a v l p = p
+
+may-flush : (m : SwapMemory) (w line : ℕ) → 0 < w → IsPrivateFlush m w line → MayFlush m w line
+may-flush m zero line l p = absurd (omega (arith, l))
+may-flush m (suc w) line l p = p
+
+pub may-start : Laws → TasksMayStart
+may-start b = record {
+  read = λ c x m s w a seen v work r. record { work = work; address = address c x m s a seen v r };
+  store = λ c x m s w a u seen v work own. may-store m w a u work.some (record {
+    work = work;
+    address = own-address c x m s a seen v own.mine;
+    value = own.value;
+    private = own-private b.own c x m s seen v.scene v.config v.here a own.mine;
+  });
+  flush = λ c x m s w line seen v work r. may-flush m w line work.some (record { work = work; address = subst (IsAddress m) (omega arith) (address c x m s (LINE_WORDS * line) seen v r) });
+  swap = λ c x m s w entries seen stores v work asks. record {
+    work = work;
+    each = λ i d l. entry b c x m s (get_or entries i d) seen stores v (asks i d l);
+  };
+}
+  where
+    own-address : (c : Config) (x : Instant) (m : SwapMemory) (s : Scene) (a : ℕ) → IsSeen c m x → Sees c x s → IsMine s a → IsAddress m a
+    own-address c x m s a seen v mine =
+        let before : IsHeld m = held m seen.phase seen.holds in
+        let r = v.scene.mine a mine in
+        let from : node_address c 0 ≤ a = subst (λ d. node_address d 0 ≤ a) v.config r.0 in
+        record {
+          outside = inr (subst (λ n. swap_address n ≤ a) (sym seen.swaps) (omega (arith, from)));
+          within = omega (arith, before.memory.same, seen.size, subst (λ d. a < size_of d) v.config r.1.0);
+        }
+
+running : (w : ℕ) → 0 < w → phase_of w ≢ Recovering
+running zero l e = absurd (omega (arith, l))
+running (suc w) l e = cc
+
+-- the words named after a swap has begun
+or-false : (a b : Bool) → a || b ≡ false → (a ≡ false) × (b ≡ false)
+or-false true b e = absurd (cc)
+or-false false b e = (refl, e)
+
+among-more : (begun : List (List Entry)) (entries : List Entry) (a : ℕ) → is_among (begun ++ entries ∷ []) a ≡ is_among begun a || is_target entries a
+among-more [] entries a = or-none (is_target entries a)
+  where
+    or-none : (t : Bool) → t || false ≡ t
+    or-none true = refl
+    or-none false = refl
+among-more (es ∷ begun) entries a = ap (λ t. is_target es a || t) (among-more begun entries a) ∙ associates (is_target es a) (is_among begun a) (is_target entries a)
+  where
+    associates : (p q r : Bool) → p || (q || r) ≡ (p || q) || r
+    associates true q r = refl
+    associates false q r = refl
+
+module _ (b : Laws) (c : Config) (x : Instant) (m : SwapMemory) (w : ℕ) (entries : List Entry) (s : Scene) (seen : IsSeen c m x) (v : Sees c x s) (may : MaySwap m w entries) (asks : All (IsEntryToAsk s) entries) (holds : Holds (swapping m w entries)) where
+  abbrev after : SwapMemory
+  after = swapping m w entries
+
+  target : (a : ℕ) → is_target entries a ≡ true → IsTargetAt c x a
+  target a e = target-of b c x s a v (targeted entries (IsTarget s) a (λ i d l. (asks i d l).target) e)
+
+  answers : (a : ℕ) → answer_at after a ≡ answer_at m a
+  answers a = outer (is_outside m.swaps a) refl
+    where
+      inner : IsOutside m.swaps a → (t : Bool) → is_named m a ≡ t → (u : Bool) → is_target entries a ≡ u → answer_at after a ≡ answer_at m a
+      inner o true e u q = answer-named after a o (among-more m.begun entries a ∙ rw e refl) ∙ sym (answer-named m a o e)
+      inner o false e true q =
+          let before : IsHeld m = held m seen.phase seen.holds in
+          answer-named after a o (among-more m.begun entries a ∙ rw (e, q) refl)
+          ∙ ((before.private a o e).1 ∙ (sym (target-flushed b c x m a seen (target a q) e) ∙ sym (answer-private m a o e)))
+      inner o false e false q = answer-private after a o (among-more m.begun entries a ∙ rw (e, q) refl) ∙ sym (answer-private m a o e)
+
+      outer : (t : Bool) → is_outside m.swaps a ≡ t → answer_at after a ≡ answer_at m a
+      outer true e = inner (outside-by m.swaps a e) (is_named m a) refl (is_target entries a) refl
+      outer false e = inside-answers after a e ∙ sym (inside-answers m a e)
+
+  named-after : (a : ℕ) → is_named after a ≡ true → IsTargetAt c x a
+  named-after a e = go (is_named m a) refl (is_target entries a) refl
+    where
+      go : (t : Bool) → is_named m a ≡ t → (u : Bool) → is_target entries a ≡ u → IsTargetAt c x a
+      go true q u r = seen.targets a q
+      go false q true r = target a r
+      go false q false r = absurd (true≢false (sym e ∙ (among-more m.begun entries a ∙ rw (q, r) refl)))
+
+  swap-seen : IsSeen c after x
+  swap-seen = record {
+    config = seen.config;
+    swaps = seen.swaps;
+    size = seen.size;
+    phase = running w may.work.some;
+    holds = holds;
+    fields = b.fields.swap m w entries seen.fields;
+    fixed = seen.fixed;
+    image = seen.image;
+    value = seen.value ∙ (λ t a. sym (answers a) t);
+    good = seen.good;
+    targets = named-after;
+  }
+
+pub starts-seen : Laws → StartsAreSeen
+starts-seen b = record {
+  start = λ c x m w doing seen some holds. record {
+    config = seen.config;
+    swaps = seen.swaps;
+    size = seen.size;
+    phase = running w some;
+    holds = holds;
+    fields = b.fields.start m w doing seen.fields;
+    fixed = seen.fixed;
+    image = seen.image;
+    value = seen.value;
+    good = seen.good;
+    targets = seen.targets;
+  };
+  swap = λ c x m w entries s seen v may asks holds. swap-seen b c x m w entries s seen v may asks holds;
+}
