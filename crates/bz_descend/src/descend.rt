@@ -7,6 +7,7 @@ ghost use Rattle.bz_word.specs.Headers.{header};
 ghost use Rattle.bz_task.specs.Outcomes.{IsPath};
 ghost use Rattle.bz_task.specs.Requests.{Hears, Tells, IsKnown};
 ghost use Rattle.bz_task.specs.Scene.{Scene, Stage, Waiting, IsScene, HasFilled};
+ghost use Rattle.bz_descend.specs.Duties.{config_of, asks_of, left_of, facts_of, means_of};
 ghost use Rattle.bz_descend.specs.Facts.{SawTall, descend_asks, descend_left, descend_learnt, descend_facts, descend_means, descend_slots, descend_change};
 
 use crate::phase::Phase;
@@ -117,11 +118,11 @@ fn one_link(slot: u16, status: u64) -> Path
 }
 
 impl Task for Descend {
-    ghost config = { λ t. t.config };
+    ghost config = { config_of };
 
-    ghost asks = { λ t. descend_asks t.config t.phase };
+    ghost asks = { asks_of };
 
-    ghost left = { λ t. descend_left t.phase };
+    ghost left = { left_of };
 
     ghost needs = { λ t. 0 };
 
@@ -129,9 +130,9 @@ impl Task for Descend {
 
     ghost publishing = { λ t. false };
 
-    ghost facts = { λ t. descend_facts t.key t.phase };
+    ghost facts = { facts_of };
 
-    ghost means = { λ t. descend_means t.key };
+    ghost means = { means_of };
 
     ghost differs = { λ t seen. ⊥ };
 

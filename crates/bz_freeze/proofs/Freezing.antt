@@ -117,6 +117,7 @@ module _ (b : Laws) (s : Scene) (y : Instant) (k st : ℕ) (good : IsScene s) (w
     freeze = λ f. records;
     inner = λ l. absurd (omega (arith, l, leaf.leaf.flat));
     count = omega (arith, records.count);
+    block = omega (arith, records.block);
     spare = λ e f. omega (arith, records.count, records.block, f);
   }
 

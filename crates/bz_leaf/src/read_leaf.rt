@@ -5,6 +5,7 @@ ghost use Rattle.bz_layout.specs.Config.{IsConfig};
 ghost use Rattle.bz_task.specs.Outcomes.{IsPath, IsView};
 ghost use Rattle.bz_task.specs.Requests.{Hears, Tells, IsKnown};
 ghost use Rattle.bz_task.specs.Scene.{Scene, Stage, Waiting, IsScene, HasFilled};
+ghost use Rattle.bz_leaf.specs.Duties.{config_of, asks_of, left_of, facts_of, means_of, differs_of};
 ghost use Rattle.bz_leaf.specs.Facts.{leaf_asks, leaf_left, leaf_learnt, leaf_facts, leaf_means, leaf_differs, leaf_change, leaf_places, IsAfter, IsBlank};
 
 use crate::phase::Phase;
@@ -190,11 +191,11 @@ fn after_word(status: u64, place: usize) -> Phase
 }
 
 impl Task for ReadLeaf {
-    ghost config = { λ t. t.config };
+    ghost config = { config_of };
 
-    ghost asks = { λ t. leaf_asks t.config t.link t.phase };
+    ghost asks = { asks_of };
 
-    ghost left = { λ t. leaf_left t.phase };
+    ghost left = { left_of };
 
     ghost needs = { λ t. 0 };
 
@@ -202,11 +203,11 @@ impl Task for ReadLeaf {
 
     ghost publishing = { λ t. false };
 
-    ghost facts = { λ t. leaf_facts t.key t.link t.image.0 t.phase };
+    ghost facts = { facts_of };
 
-    ghost means = { λ t. leaf_means t.key };
+    ghost means = { means_of };
 
-    ghost differs = { λ t. leaf_differs t.link t.image.0 t.phase };
+    ghost differs = { differs_of };
 
     fn publishes(&self) -> bool {
         false

@@ -104,7 +104,7 @@ module _ (s v : Scene) (a w : ℕ) (y : Instant) (good : IsScene s) (own : IsOwn
   }
     where
       other : y.value b ≡ (here s).value b
-      other = st.others b (λ e. apart.apart a own.mine.owned (subst (λ z. v.owned z ≡ true) e m.owned))
+      other = st.others b (λ e. apart.apart a own.mine (subst (IsMine v) e m))
 
 -- the same step where the sizes and the memory are those of another scene
 step-for : (s v : Scene) (y : Instant) → AreApart s v → IsStep s.past.config (here s) y → IsStep v.past.config (here v) y
@@ -142,12 +142,12 @@ module _ (publishes : Bool) (change : Change) (entries : List Entry) (s v : Scen
   effect-hidden : (b : ℕ) → IsMine v b → (k i : ℕ) → y.reached k ≡ true → i < NODE_WORDS → b ≡ node_address s.past.config k + i → ¬ IsShown (words s.past.config y k) i
   effect-hidden b m k i r l e h = go ((here s).reached k) refl
     where
-      theirs : s.owned (node_address s.past.config k + i) ≡ true → ⊥
-      theirs o = apart.apart b (subst (λ z. s.owned z ≡ true) (sym e) o) m.owned
+      theirs : IsMine s (node_address s.past.config k + i) → ⊥
+      theirs o = apart.apart b (subst (IsMine s) (sym e) o) m
 
       go : (t : Bool) → (here s).reached k ≡ t → ⊥
-      go true q = elim (g.shown k i q l h) [ inl was ↦ hidden-before b m k i q l e was | inr own ↦ theirs own.mine.owned ]
-      go false q = theirs (g.linked k i q r l).owned
+      go true q = elim (g.shown k i q l h) [ inl was ↦ hidden-before b m k i q l e was | inr own ↦ theirs own.mine ]
+      go false q = theirs (g.linked k i q r l)
 
   effect-kept : (b : ℕ) → IsMine v b → Kept v y b
   effect-kept b m = record {

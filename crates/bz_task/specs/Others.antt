@@ -6,11 +6,11 @@ use Rattle.bz_task.specs.Requests.{IsOwnStore}
 use Rattle.bz_task.specs.Scene.{Scene, IsMine, IsScene, IsLawful, Continues, here}
 use Rattle.bz_task.specs.Swaps.{Change, SwapsTo, IsGoodSwap}
 
--- the scenes of two workers of one memory: no address is owned by both
+-- the scenes of two workers of one memory: no word is both's own
 pub record AreApart (s v : Scene) : Type 0 where
   pub config : v.past.config ≡ s.past.config
   pub here : here v ≡ here s
-  pub apart : (a : ℕ) → s.owned a ≡ true → v.owned a ≡ true → ⊥
+  pub apart : (a : ℕ) → IsMine s a → IsMine v a → ⊥
 
 -- one moment later, with this memory, for one who did nothing
 pub record Watches (v later : Scene) (y : Instant) : Type 0 where

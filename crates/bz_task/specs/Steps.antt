@@ -21,8 +21,9 @@ pub record Moves (n m : ℕ → ℕ) : Type 0 where
   pub freeze : (page m).frozen ≡ true → SameRecords n m
   -- of an inner node child pointers alone are changed in place
   pub inner : 0 < (page n).level → SameSeparators n m
-  -- records are added and never taken away; while none is added, a free word stays free
+  -- records are added and never taken away, and the block never shrinks; while no record is added, a free word stays free
   pub count : (page n).count ≤ (page m).count
+  pub block : (page n).block ≤ (page m).block
   pub spare : (page m).count ≡ (page n).count → (page n).count + (page n).block < SHARED_WORDS → (page m).count + (page m).block < SHARED_WORDS
 
 abbrev pub Moved : Config → Instant → Instant → ℕ → Type 0
