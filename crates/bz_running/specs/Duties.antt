@@ -1,0 +1,50 @@
+-- What a task asks for and knows, whichever it is.
+use Rattle.std.specs.Prelude.{ℕ, Bool, false, Option}
+use Rattle.bz_layout.specs.declared.config.Config.{Config}
+use Rattle.bz_task.specs.Scene.{Scene, Stage}
+use Rattle.bz_task.specs.Swaps.{Change}
+use Rattle.bz_task.specs.declared.todo.Outcome.{Outcome}
+use Rattle.bz_task.specs.declared.todo.Seen.{Seen}
+use Rattle.bz_task.specs.declared.todo.Todo.{Todo}
+use Rattle.bz_descend.specs.Duties as descend
+use Rattle.bz_descend.specs.Facts.{descend_change}
+use Rattle.bz_leaf.specs.Duties as leaf
+use Rattle.bz_leaf.specs.Facts.{leaf_change}
+use Rattle.bz_running.specs.declared.running.Running.{Running}
+use Rattle.bz_running.specs.declared.running.Running.TheVariants.{Descending, Reading}
+
+unfoldable pub config_of : Running → Config
+config_of (Descending t) = descend.config_of t
+config_of (Reading t) = leaf.config_of t
+
+unfoldable pub asks_of : Running → Option Todo
+asks_of (Descending t) = descend.asks_of t
+asks_of (Reading t) = leaf.asks_of t
+
+unfoldable pub left_of : Running → ℕ
+left_of (Descending t) = descend.left_of t
+left_of (Reading t) = leaf.left_of t
+
+unfoldable pub needs_of : Running → ℕ
+needs_of (Descending t) = 0
+needs_of (Reading t) = 0
+
+unfoldable pub change_of : Running → Change
+change_of (Descending t) = descend_change
+change_of (Reading t) = leaf_change
+
+unfoldable pub publishing_of : Running → Bool
+publishing_of (Descending t) = false
+publishing_of (Reading t) = false
+
+unfoldable pub facts_of : Running → Stage → Scene → Type 0
+facts_of (Descending t) = descend.facts_of t
+facts_of (Reading t) = leaf.facts_of t
+
+unfoldable pub means_of : Running → Outcome → Scene → Type 0
+means_of (Descending t) = descend.means_of t
+means_of (Reading t) = leaf.means_of t
+
+unfoldable pub differs_of : Running → Seen → Type 0
+differs_of (Descending t) = λ seen. ⊥
+differs_of (Reading t) = leaf.differs_of t

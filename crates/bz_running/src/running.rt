@@ -1,0 +1,109 @@
+//! Whichever task it is.
+
+ghost use Rattle.std.specs.Prelude.{◌≡◌, ◌≤◌, ℕ, List, None};
+ghost use Rattle.bz_descend.specs.Facts.{SawTall};
+ghost use Rattle.bz_task.specs.Outcomes.{IsPath, IsView};
+ghost use Rattle.bz_task.specs.Scene.{Scene, Waiting, IsScene};
+ghost use Rattle.bz_running.specs.Duties.{config_of, asks_of, left_of, needs_of, change_of, publishing_of, facts_of, means_of, differs_of};
+ghost use Rattle.bz_running.specs.Laws.{AreLaws};
+
+use bz_descend::Descend;
+use bz_key::Key;
+use bz_layout::{Config, Slots};
+use bz_leaf::ReadLeaf;
+use bz_task::{LeafView, Outcome, Path, Seen, Task, Todo};
+
+/// A task on the tree.
+#[derive(Drop)]
+pub enum Running {
+    Descending(Descend),
+    Reading(ReadLeaf),
+}
+
+impl Running {
+    /// The way to the leaf of a key.
+    #[tactic(auto, unfolding(crate::specs::Duties::config_of, crate::specs::Duties::asks_of, crate::specs::Duties::needs_of, crate::specs::Duties::facts_of, crate::specs::Duties::means_of))]
+    pub fn descend(config: &Config, key: Key) -> Running
+        ensures config { config_of result ≡ config.now }
+        ensures asks { asks_of result ≡ None }
+        ensures needs { needs_of result ≡ 0 }
+        ensures facts { (s : Scene) → facts_of result Waiting s }
+        ensures path { (path : Path) (s : Scene) → means_of result (Outcome.Path path) s → IsPath key path s.past }
+    {
+        Running::Descending(Descend::new(config, key))
+    }
+
+    /// A reading of the last leaf of a path.
+    #[tactic(auto, unfolding(crate::specs::Duties::config_of, crate::specs::Duties::asks_of, crate::specs::Duties::needs_of, crate::specs::Duties::facts_of, crate::specs::Duties::means_of))]
+    pub fn read_leaf(config: &Config, path: Path, key: Key) -> Running
+        requires some { 1 ≤ path.depth }
+        requires few { path.depth ≤ 12 }
+        ensures config { config_of result ≡ config.now }
+        ensures asks { asks_of result ≡ None }
+        ensures needs { needs_of result ≡ 0 }
+        ensures facts { (s : Scene) → IsScene s → IsPath key path s.past → facts_of result Waiting s }
+        ensures view { (view : LeafView) (s : Scene) → means_of result (Outcome.View view) s → IsView key view s.past }
+    {
+        Running::Reading(ReadLeaf::new(config, path, key))
+    }
+
+    /// The laws of what the task knows, and of its acts. Does nothing.
+    pub fn laws(&self)
+        ensures { AreLaws self.now }
+    {
+        self.learnt();
+        self.acted();
+    }
+}
+
+impl Task for Running {
+    ghost config = { config_of };
+
+    ghost asks = { asks_of };
+
+    ghost left = { left_of };
+
+    ghost needs = { needs_of };
+
+    ghost change = { change_of };
+
+    ghost publishing = { publishing_of };
+
+    ghost facts = { facts_of };
+
+    ghost means = { means_of };
+
+    ghost differs = { differs_of };
+
+    #[tactic(auto, unfolding(crate::specs::Duties::publishing_of))]
+    fn publishes(&self) -> bool {
+        match self {
+            Running::Descending(task) => task.publishes(),
+            Running::Reading(task) => task.publishes(),
+        }
+    }
+
+    #[tactic(auto, unfolding(crate::specs::Duties::config_of, crate::specs::Duties::asks_of, crate::specs::Duties::left_of, crate::specs::Duties::needs_of, crate::specs::Duties::change_of, crate::specs::Duties::facts_of, crate::specs::Duties::means_of, crate::specs::Duties::differs_of))]
+    fn next(&mut self, seen: Seen, slots: &mut Slots, moment: u32) -> Todo {
+        match self {
+            Running::Descending(task) => task.next(seen, slots, moment),
+            Running::Reading(task) => task.next(seen, slots, moment),
+        }
+    }
+
+    #[tactic(auto, unfolding(crate::specs::Duties::config_of, crate::specs::Duties::asks_of, crate::specs::Duties::publishing_of, crate::specs::Duties::facts_of, crate::specs::Duties::means_of, crate::specs::Duties::differs_of))]
+    fn learnt(&self) {
+        match self {
+            Running::Descending(task) => task.learnt(),
+            Running::Reading(task) => task.learnt(),
+        }
+    }
+
+    #[tactic(auto, unfolding(crate::specs::Duties::config_of, crate::specs::Duties::asks_of, crate::specs::Duties::publishing_of, crate::specs::Duties::change_of, crate::specs::Duties::facts_of))]
+    fn acted(&self) {
+        match self {
+            Running::Descending(task) => task.acted(),
+            Running::Reading(task) => task.acted(),
+        }
+    }
+}
