@@ -7,13 +7,14 @@ ghost use Rattle.bz_word.specs.Headers.{header};
 ghost use Rattle.bz_task.specs.Outcomes.{IsPath};
 ghost use Rattle.bz_task.specs.Requests.{Hears, Tells, IsKnown};
 ghost use Rattle.bz_task.specs.Scene.{Scene, Stage, Waiting, IsScene, HasFilled};
+ghost use Rattle.bz_task.specs.declared.todo.Todo.TheVariants.{Read};
 ghost use Rattle.bz_descend.specs.Duties.{config_of, asks_of, left_of, facts_of, means_of};
 ghost use Rattle.bz_descend.specs.Facts.{SawTall, descend_asks, descend_left, descend_learnt, descend_facts, descend_means, descend_slots, descend_change};
 
 use crate::phase::Phase;
 use bz_key::Key;
 use bz_layout::{Config, HEADER_AT, ROOT_AT, ROOT_STATUS_AT, Slots};
-use bz_task::{Link, Outcome, Path, Seen, Task, Todo, laws};
+use bz_task::{LeafView, Link, Outcome, Path, Seen, Task, Todo, laws};
 use bz_word::Header;
 
 /// The way to the leaf of a key. It ends with Path; trees of more than one leaf come later, and until then it ends with
@@ -40,6 +41,23 @@ impl Descend {
             config: *config,
             key,
             phase: Phase::Fresh,
+        }
+    }
+
+    /// A descent that asks for its first read, that of the root status.
+    pub fn begun(config: &Config, key: Key) -> Descend
+        ensures config { ⟦<Descend as Task>⟧.config result ≡ config.now }
+        ensures asks { ⟦<Descend as Task>⟧.asks result ≡ Some (Read ROOT_STATUS_AT) }
+        ensures left { ⟦<Descend as Task>⟧.left result ≡ 3 }
+        ensures needs { ⟦<Descend as Task>⟧.needs result ≡ 0 }
+        ensures facts { (s : Scene) → HasFilled s → ⟦<Descend as Task>⟧.facts result Waiting s }
+        ensures path { (path : Path) (s : Scene) → ⟦<Descend as Task>⟧.means result (Outcome.Path path) s → IsPath key path s.past }
+        ensures none { (view : LeafView) (s : Scene) → ⟦<Descend as Task>⟧.means result (Outcome.View view) s → ⊥ }
+    {
+        Descend {
+            config: *config,
+            key,
+            phase: Phase::Guard,
         }
     }
 

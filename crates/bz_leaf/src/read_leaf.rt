@@ -39,6 +39,7 @@ impl ReadLeaf {
         ensures needs { ⟦<ReadLeaf as Task>⟧.needs result ≡ 0 }
         ensures facts { (s : Scene) → IsScene s → IsPath key path s.past → ⟦<ReadLeaf as Task>⟧.facts result Waiting s }
         ensures view { (view : LeafView) (s : Scene) → ⟦<ReadLeaf as Task>⟧.means result (Outcome.View view) s → IsView key view s.past }
+        ensures none { (path : Path) (s : Scene) → ⟦<ReadLeaf as Task>⟧.means result (Outcome.Path path) s → ⊥ }
     {
         laws::fronts_stay();
         laws::headers_say_the_level();

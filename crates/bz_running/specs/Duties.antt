@@ -1,5 +1,5 @@
 -- What a task asks for and knows, whichever it is.
-use Rattle.std.specs.Prelude.{ℕ, Bool, false, Option}
+use Rattle.std.specs.Prelude.{◌≡◌, ℕ, Bool, true, false, Option, refl}
 use Rattle.bz_layout.specs.declared.config.Config.{Config}
 use Rattle.bz_task.specs.Scene.{Scene, Stage}
 use Rattle.bz_task.specs.Swaps.{Change}
@@ -48,3 +48,13 @@ means_of (Reading t) = leaf.means_of t
 unfoldable pub differs_of : Running → Seen → Type 0
 differs_of (Descending t) = λ seen. ⊥
 differs_of (Reading t) = leaf.differs_of t
+
+-- it only looks up, and never publishes
+unfoldable pub is_lookup : Running → Bool
+is_lookup (Descending t) = true
+is_lookup (Reading t) = true
+
+pub lookups-publish-nothing : (t : Running) → is_lookup t ≡ true → publishing_of t ≡ false
+unfolding is_lookup publishing_of
+lookups-publish-nothing (Descending t) e = refl
+lookups-publish-nothing (Reading t) e = refl

@@ -1,2 +1,3 @@
 pub mod Duties
 pub mod Laws
+pub mod Hearing

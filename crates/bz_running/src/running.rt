@@ -1,17 +1,19 @@
 //! Whichever task it is.
 
-ghost use Rattle.std.specs.Prelude.{◌≡◌, ◌≤◌, ℕ, List, None};
-ghost use Rattle.bz_descend.specs.Facts.{SawTall};
-ghost use Rattle.bz_task.specs.Outcomes.{IsPath, IsView};
-ghost use Rattle.bz_task.specs.Scene.{Scene, Waiting, IsScene};
-ghost use Rattle.bz_running.specs.Duties.{config_of, asks_of, left_of, needs_of, change_of, publishing_of, facts_of, means_of, differs_of};
+ghost use Rattle.std.specs.Prelude.{◌≡◌, ◌≤◌, true, None, Some};
+ghost use Rattle.bz_task.specs.Outcomes.{IsPath};
+ghost use Rattle.bz_task.specs.Requests.{Hears, IsKnown};
+ghost use Rattle.bz_task.specs.Scene.{Scene, Waiting, IsScene, HasFilled};
+ghost use Rattle.bz_task.specs.declared.todo.Todo.TheVariants.{Read};
+ghost use Rattle.bz_running.specs.Hearing.{IsLookup, HasHeard};
+ghost use Rattle.bz_running.specs.Duties.{config_of, asks_of, left_of, needs_of, change_of, publishing_of, facts_of, means_of, differs_of, is_lookup};
 ghost use Rattle.bz_running.specs.Laws.{AreLaws};
 
 use bz_descend::Descend;
 use bz_key::Key;
-use bz_layout::{Config, Slots};
+use bz_layout::{Config, ROOT_STATUS_AT, Slots};
 use bz_leaf::ReadLeaf;
-use bz_task::{LeafView, Outcome, Path, Seen, Task, Todo};
+use bz_task::{Path, Seen, Task, Todo};
 
 /// A task on the tree.
 #[derive(Drop)]
@@ -21,30 +23,45 @@ pub enum Running {
 }
 
 impl Running {
-    /// The way to the leaf of a key.
-    #[tactic(auto, unfolding(crate::specs::Duties::config_of, crate::specs::Duties::asks_of, crate::specs::Duties::needs_of, crate::specs::Duties::facts_of, crate::specs::Duties::means_of))]
+    /// The way to the leaf of a key. It asks for the root status first.
+    #[tactic(auto, unfolding(crate::specs::Duties::config_of, crate::specs::Duties::asks_of, crate::specs::Duties::needs_of, crate::specs::Duties::facts_of, crate::specs::Duties::means_of, crate::specs::Duties::is_lookup))]
     pub fn descend(config: &Config, key: Key) -> Running
         ensures config { config_of result ≡ config.now }
-        ensures asks { asks_of result ≡ None }
+        ensures asks { asks_of result ≡ Some (Read ROOT_STATUS_AT) }
         ensures needs { needs_of result ≡ 0 }
-        ensures facts { (s : Scene) → facts_of result Waiting s }
-        ensures path { (path : Path) (s : Scene) → means_of result (Outcome.Path path) s → IsPath key path s.past }
+        ensures lookup { is_lookup result ≡ true }
+        ensures facts { (s : Scene) → HasFilled s → facts_of result Waiting s }
+        ensures ends { IsLookup key result }
     {
-        Running::Descending(Descend::new(config, key))
+        Running::Descending(Descend::begun(config, key))
     }
 
     /// A reading of the last leaf of a path.
-    #[tactic(auto, unfolding(crate::specs::Duties::config_of, crate::specs::Duties::asks_of, crate::specs::Duties::needs_of, crate::specs::Duties::facts_of, crate::specs::Duties::means_of))]
+    #[tactic(auto, unfolding(crate::specs::Duties::config_of, crate::specs::Duties::asks_of, crate::specs::Duties::needs_of, crate::specs::Duties::facts_of, crate::specs::Duties::means_of, crate::specs::Duties::is_lookup))]
     pub fn read_leaf(config: &Config, path: Path, key: Key) -> Running
         requires some { 1 ≤ path.depth }
         requires few { path.depth ≤ 12 }
         ensures config { config_of result ≡ config.now }
         ensures asks { asks_of result ≡ None }
         ensures needs { needs_of result ≡ 0 }
+        ensures lookup { is_lookup result ≡ true }
         ensures facts { (s : Scene) → IsScene s → IsPath key path s.past → facts_of result Waiting s }
-        ensures view { (view : LeafView) (s : Scene) → means_of result (Outcome.View view) s → IsView key view s.past }
+        ensures ends { IsLookup key result }
     {
         Running::Reading(ReadLeaf::new(config, path, key))
+    }
+
+    /// Tells the task what came of its last act, and answers what it asks for next: `next`, and that a lookup stays one.
+    #[tactic(auto, unfolding(crate::specs::Duties::config_of, crate::specs::Duties::asks_of, crate::specs::Duties::left_of, crate::specs::Duties::needs_of, crate::specs::Duties::change_of, crate::specs::Duties::facts_of, crate::specs::Duties::means_of, crate::specs::Duties::differs_of, crate::specs::Duties::is_lookup))]
+    pub fn hear(&mut self, seen: Seen, slots: &mut Slots, moment: u32) -> Todo
+        requires hears { Hears (asks_of self.old) seen }
+        requires known { IsKnown (config_of self.old) (facts_of self.old) (asks_of self.old) seen moment }
+        ensures heard { HasHeard self.old seen moment slots.old result self.new slots.new }
+    {
+        match self {
+            Running::Descending(task) => task.next(seen, slots, moment),
+            Running::Reading(task) => task.next(seen, slots, moment),
+        }
     }
 
     /// The laws of what the task knows, and of its acts. Does nothing.

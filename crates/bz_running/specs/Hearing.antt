@@ -1,0 +1,39 @@
+-- What a task is told, and what comes of that.
+use Rattle.std.specs.Prelude.{◌≡◌, ℕ, ◌<◌, ◌⊎◌, true, false, List, Some, length}
+use Rattle.bz_call.specs.declared.replies.Spent.TheVariants.{Nodes, Swaps}
+use Rattle.bz_layout.specs.Slots.{FreeSlots}
+use Rattle.bz_task.specs.OwnActs.{AreTakenFrom, gained}
+use Rattle.bz_task.specs.Outcomes.{IsPath, IsView}
+use Rattle.bz_task.specs.Requests.{Tells}
+use Rattle.bz_task.specs.Scene.{Scene, Stage, Waiting, IsScene}
+use Rattle.bz_task.specs.declared.path.Path.{Path}
+use Rattle.bz_task.specs.declared.todo.Outcome.{Outcome}
+use Rattle.bz_task.specs.declared.todo.Outcome.TheVariants as outcome
+use Rattle.bz_task.specs.declared.todo.Seen.{Seen}
+use Rattle.bz_task.specs.declared.todo.Seen.TheVariants.{Swapped, NoSwap}
+use Rattle.bz_task.specs.declared.todo.Todo.{Todo}
+use Rattle.bz_task.specs.declared.todo.Todo.TheVariants.{Finish}
+use Rattle.bz_task.specs.declared.view.LeafView.{LeafView}
+use Rattle.bz_running.specs.Duties.{config_of, asks_of, left_of, needs_of, change_of, facts_of, means_of, differs_of, is_lookup}
+use Rattle.bz_running.specs.declared.running.Running.{Running}
+
+-- a path or a view with which the task ends is one of this key
+pub record IsLookup (key : List ℕ) (t : Running) : Type 0 where
+  pub path : (path : Path) (s : Scene) → means_of t (outcome.Path path) s → IsPath key path s.past
+  pub view : (view : LeafView) (s : Scene) → means_of t (outcome.View view) s → IsView key view s.past
+
+-- the task was told this at a moment, and asks for that
+pub record HasHeard (old : Running) (seen : Seen) (moment : ℕ) (free : FreeSlots) (todo : Todo) (new : Running) (left : FreeSlots) : Type 0 where
+  pub asked : asks_of new ≡ Some todo
+  pub nearer : left_of new < left_of old
+  pub config : config_of new ≡ config_of old
+  pub change : change_of new ≡ change_of old
+  pub lookup : is_lookup new ≡ is_lookup old
+  pub meant : (o : Outcome) (s : Scene) → means_of new o s → means_of old o s
+  pub slots : AreTakenFrom (needs_of old) (needs_of new) free left
+  pub done : todo ≡ Finish outcome.Done → seen ≡ Swapped true
+  pub restart : todo ≡ Finish outcome.Restart → (seen ≡ Swapped false) ⊎ differs_of old seen
+  pub no_swap : seen ≡ NoSwap → todo ≡ Finish (outcome.Full Swaps)
+  pub full_swaps : todo ≡ Finish (outcome.Full Swaps) → seen ≡ NoSwap
+  pub full_nodes : todo ≡ Finish (outcome.Full Nodes) → length free.free < needs_of old
+  pub learns : (stage : Stage) (s : Scene) → s.past.now ≡ moment → s.past.config ≡ config_of old → IsScene s → facts_of old stage s → Tells (asks_of old) stage seen s → facts_of new Waiting (gained s free left)
