@@ -10,6 +10,7 @@ ghost use Rattle.bz_task.specs.Scene.{Scene, Stage, Waiting, IsScene};
 ghost use Rattle.bz_task.specs.declared.todo.Seen.TheVariants.{Swapped, NoSwap};
 ghost use Rattle.bz_record.specs.Laws.{inserts};
 ghost use Rattle.bz_record.specs.Records.{words_for, size_of, HasRoom, LacksRoom};
+ghost use Rattle.bz_insert.specs.Duties.{config_of, asks_of, left_of, change_of, publishing_of, facts_of, means_of};
 ghost use Rattle.bz_insert.specs.Facts.{insert_asks, insert_left, insert_publishes, insert_facts, insert_means, IsReady, next_store, next_flush};
 
 use crate::phase::Phase;
@@ -40,6 +41,8 @@ impl Insert {
         ensures change { ⟦<Insert as Task>⟧.change result ≡ record { key = key; old = None; new = Some payload } }
         ensures facts { (s : Scene) → s.past.config ≡ config.now → s.effected ≡ false → IsScene s → IsView key view s.past → ⟦<Insert as Task>⟧.facts result Waiting s }
         ensures done { (s : Scene) → ⟦<Insert as Task>⟧.means result Outcome.Done s → s.effected ≡ true }
+        ensures no_path { (path : Path) (s : Scene) → ⟦<Insert as Task>⟧.means result (Outcome.Path path) s → ⊥ }
+        ensures no_view { (other : LeafView) (s : Scene) → ⟦<Insert as Task>⟧.means result (Outcome.View other) s → ⊥ }
         // NeedsRoom comes exactly where the viewed leaf lacks room
         ensures needs_room { (s : Scene) → ⟦<Insert as Task>⟧.means result Outcome.NeedsRoom s → LacksRoom view.status (words_for key payload) }
         ensures room { (s : Scene) (outcome : Outcome) → ⟦<Insert as Task>⟧.means result outcome s → outcome ≢ Outcome.NeedsRoom → HasRoom view.status (words_for key payload) }
@@ -155,21 +158,21 @@ impl Insert {
 }
 
 impl Task for Insert {
-    ghost config = { λ t. t.config };
+    ghost config = { config_of };
 
-    ghost asks = { λ t. insert_asks t.config t.added t.phase };
+    ghost asks = { asks_of };
 
-    ghost left = { λ t. insert_left t.phase };
+    ghost left = { left_of };
 
     ghost needs = { λ t. 0 };
 
-    ghost change = { λ t. inserts t.added };
+    ghost change = { change_of };
 
-    ghost publishing = { λ t. insert_publishes t.phase };
+    ghost publishing = { publishing_of };
 
-    ghost facts = { λ t. insert_facts t.added t.phase };
+    ghost facts = { facts_of };
 
-    ghost means = { λ t. insert_means t.added };
+    ghost means = { means_of };
 
     ghost differs = { λ t seen. ⊥ };
 

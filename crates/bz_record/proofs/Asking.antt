@@ -3,10 +3,11 @@ use Rattle.std.proofs.Common.{◌≡◌, ◌≢◌, ℕ, zero, suc, ◌+◌, ◌
 use Rattle.std.proofs.lemmas.Bool.{cases_lt}
 use Rattle.std.proofs.lemmas.List.Elements.{All-cons}
 use Rattle.bz_layout.specs.declared.config.Config.{Config}
-use Rattle.bz_layout.specs.declared.sizes.TheConstants.{STATUS_AT, META_AT, SHARED_WORDS}
+use Rattle.bz_layout.specs.declared.sizes.TheConstants.{HEADER_AT, STATUS_AT, META_AT, SHARED_WORDS}
 use Rattle.bz_slotted.specs.Laws.{LeafRulesAreFacts}
 use Rattle.bz_slotted.specs.Page.{page}
 use Rattle.bz_slotted.specs.Whole.{Whole}
+use Rattle.bz_word.specs.Headers.{header}
 use Rattle.bz_word.specs.Statuses.{status}
 use Rattle.bz_content.specs.Image.{node}
 use Rattle.bz_task.specs.Good.{IsGood}
@@ -113,9 +114,13 @@ module _ (b : Laws) (s : Scene) (k st moment : ℕ) (good : IsScene s) (w : WasL
   then-block : (page_at s.past.config (s.past.at moment) k).block ≡ (status st).block
   then-block = ap (λ z. (status z).block) w.was
 
+  flat : (page_at s.past.config (here s) k).level ≡ 0
+  flat = ap (λ z. (header z).level) (was.same.words HEADER_AT (λ e. omega (arith, e)) (inl (omega arith))) ∙ leaf-was.flat
+
   pub meta-place : (place : ℕ) → IsPlaceIn st place → IsMetaPlace (page_at s.past.config (here s) k) (META_AT + place)
-  meta-place place (inl h) = record { from = omega arith; to = omega (arith, h, then-count, grown.count); free = omega (arith, h, then-count, grown.count, room) }
+  meta-place place (inl h) = record { leaf = flat; from = omega arith; to = omega (arith, h, then-count, grown.count); free = omega (arith, h, then-count, grown.count, room) }
   meta-place place (inr h) = record {
+    leaf = flat;
     from = omega arith;
     to = omega (arith, h.0, then-count, grown.count);
     free = elim (cases_lt place (page_at s.past.config (here s) k).count) [

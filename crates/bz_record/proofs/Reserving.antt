@@ -29,7 +29,7 @@ module _ (b : Laws) (swap : LeafSwapsAreGood) (s : Scene) (y : Instant) (r : New
         address = refl;
         within = place b s y r moment good f leaf stand swaps;
         reached = now.leaf.reached;
-        kind = inr (inl (record { from = omega arith; to = omega (arith, count-was b s y r moment good f leaf stand swaps); free = omega (arith, block-was b s y r moment good f leaf stand swaps, some) }));
+        kind = inr (inl (record { leaf = (same b s y r moment good f leaf stand swaps).leaf.flat; from = omega arith; to = omega (arith, count-was b s y r moment good f leaf stand swaps); free = omega (arith, block-was b s y r moment good f leaf stand swaps, some) }));
       })))
     where
       some : (status r.status).count + (status r.status).block < 118

@@ -147,6 +147,7 @@ module _ (b : Laws) (s : Scene) (y : Instant) (w : RecordSwap) (mt : Meta) (chan
     freeze = λ h. absurd (true≢false (sym h ∙ (ap (λ z. (status z).frozen) is ∙ f.states.thawed)));
     inner = λ l. absurd (omega (arith, l, now.leaf.flat));
     count = omega (arith, count-was, count-is);
+    block = omega (arith, block-was, block-is);
     spare = λ e l. omega (arith, l, count-was, count-is, block-was, block-is);
   }
 
@@ -174,7 +175,7 @@ module _ (b : Laws) (s : Scene) (y : Instant) (w : RecordSwap) (mt : Meta) (chan
         address = refl;
         within = place;
         reached = now.leaf.reached;
-        kind = inr (inl (record { from = omega arith; to = omega (arith, f.counted, count-was); free = omega (arith, f.counted, block-was, count-durable, block-durable, whole.filled.room) }));
+        kind = inr (inl (record { leaf = now.leaf.flat; from = omega arith; to = omega (arith, f.counted, count-was); free = omega (arith, f.counted, block-was, count-durable, block-durable, whole.filled.room) }));
       })))
 
   leaf-swap : IsLeafSwap true change (entries_of s.past.config w) s w.slot y

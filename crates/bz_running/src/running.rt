@@ -1,7 +1,10 @@
 //! Whichever task it is.
 
-ghost use Rattle.std.specs.Prelude.{◌≡◌, ◌≤◌, true, None, Some};
-ghost use Rattle.bz_task.specs.Outcomes.{IsPath};
+ghost use Rattle.std.specs.Prelude.{◌≡◌, ◌≤◌, true, false, None, Some};
+ghost use Rattle.bz_record.specs.Records.{words_for, LacksRoom};
+ghost use Rattle.bz_slotted.specs.Readers.{found_of};
+ghost use Rattle.bz_slotted.specs.ReadingLaws.{node_of};
+ghost use Rattle.bz_task.specs.Outcomes.{IsPath, IsView};
 ghost use Rattle.bz_task.specs.Requests.{Hears, IsKnown};
 ghost use Rattle.bz_task.specs.Scene.{Scene, Waiting, IsScene, HasFilled};
 ghost use Rattle.bz_task.specs.declared.todo.Todo.TheVariants.{Read};
@@ -10,16 +13,18 @@ ghost use Rattle.bz_running.specs.Duties.{config_of, asks_of, left_of, needs_of,
 ghost use Rattle.bz_running.specs.Laws.{AreLaws};
 
 use bz_descend::Descend;
-use bz_key::Key;
+use bz_insert::Insert;
+use bz_key::{Key, Payload};
 use bz_layout::{Config, ROOT_STATUS_AT, Slots};
 use bz_leaf::ReadLeaf;
-use bz_task::{Path, Seen, Task, Todo};
+use bz_task::{LeafView, Outcome, Path, Seen, Task, Todo};
 
 /// A task on the tree.
 #[derive(Drop)]
 pub enum Running {
     Descending(Descend),
     Reading(ReadLeaf),
+    Inserting(Insert),
 }
 
 impl Running {
@@ -51,6 +56,28 @@ impl Running {
         Running::Reading(ReadLeaf::new(config, path, key))
     }
 
+    /// The insert of a key that is absent from its viewed leaf.
+    #[tactic(auto, unfolding(crate::specs::Duties::config_of, crate::specs::Duties::asks_of, crate::specs::Duties::needs_of, crate::specs::Duties::change_of, crate::specs::Duties::facts_of, crate::specs::Duties::means_of))]
+    pub fn insert(
+        config: &Config,
+        path: Path,
+        view: LeafView,
+        key: Key,
+        payload: Payload,
+    ) -> Running
+        requires absent { found_of (node_of view.image.0) key ≡ None }
+        ensures config { config_of result ≡ config.now }
+        ensures asks { asks_of result ≡ None }
+        ensures needs { needs_of result ≡ 0 }
+        ensures change { change_of result ≡ record { key = key; old = None; new = Some payload } }
+        ensures facts { (s : Scene) → s.past.config ≡ config.now → s.effected ≡ false → IsScene s → IsView key view s.past → facts_of result Waiting s }
+        ensures ends { IsLookup key result }
+        // NeedsRoom comes exactly where the viewed leaf lacks room
+        ensures needs_room { (s : Scene) → means_of result Outcome.NeedsRoom s → LacksRoom view.status (words_for key payload) }
+    {
+        Running::Inserting(Insert::new(config, path, view, key, payload))
+    }
+
     /// Tells the task what came of its last act, and answers what it asks for next: `next`, and that a lookup stays one.
     #[tactic(auto, unfolding(crate::specs::Duties::config_of, crate::specs::Duties::asks_of, crate::specs::Duties::left_of, crate::specs::Duties::needs_of, crate::specs::Duties::change_of, crate::specs::Duties::facts_of, crate::specs::Duties::means_of, crate::specs::Duties::differs_of, crate::specs::Duties::is_lookup))]
     pub fn hear(&mut self, seen: Seen, slots: &mut Slots, moment: u32) -> Todo
@@ -61,6 +88,7 @@ impl Running {
         match self {
             Running::Descending(task) => task.next(seen, slots, moment),
             Running::Reading(task) => task.next(seen, slots, moment),
+            Running::Inserting(task) => task.next(seen, slots, moment),
         }
     }
 
@@ -97,6 +125,7 @@ impl Task for Running {
         match self {
             Running::Descending(task) => task.publishes(),
             Running::Reading(task) => task.publishes(),
+            Running::Inserting(task) => task.publishes(),
         }
     }
 
@@ -105,6 +134,7 @@ impl Task for Running {
         match self {
             Running::Descending(task) => task.next(seen, slots, moment),
             Running::Reading(task) => task.next(seen, slots, moment),
+            Running::Inserting(task) => task.next(seen, slots, moment),
         }
     }
 
@@ -113,6 +143,7 @@ impl Task for Running {
         match self {
             Running::Descending(task) => task.learnt(),
             Running::Reading(task) => task.learnt(),
+            Running::Inserting(task) => task.learnt(),
         }
     }
 
@@ -121,6 +152,7 @@ impl Task for Running {
         match self {
             Running::Descending(task) => task.acted(),
             Running::Reading(task) => task.acted(),
+            Running::Inserting(task) => task.acted(),
         }
     }
 }

@@ -1,5 +1,5 @@
 -- What a task may ask for may be started, and a start leaves the memory that is seen.
-use Rattle.std.proofs.Common.{◌≡◌, ◌≢◌, ℕ, zero, suc, ◌+◌, ◌*◌, ◌<◌, ◌≤◌, ◌||◌, ◌==◌, ◌⊎◌, Bool, true, false, List, [], ◌∷◌, ◌++◌, length, slice_index, arith, refl, sym, ap, subst, ◌∙◌, inl, inr}
+use Rattle.std.proofs.Common.{◌≡◌, ◌≢◌, ℕ, zero, suc, ◌+◌, ◌*◌, ◌^◌, ◌<◌, ◌≤◌, ◌||◌, ◌==◌, ◌⊎◌, Bool, true, false, List, [], ◌∷◌, ◌++◌, length, slice_index, arith, refl, sym, ap, subst, ◌∙◌, inl, inr}
 use Rattle.std.specs.Prelude.{All, get_or}
 use Rattle.std.proofs.lemmas.Bool.{true≢false}
 use Rattle.bz_layout.specs.Addresses.{swap_address, node_address, words_of as size_of, IsOutsideSwaps}
@@ -19,6 +19,7 @@ use Rattle.bz_task.specs.Requests.{IsTarget, IsNodeTarget, IsReadable, IsOwnStor
 use Rattle.bz_task.specs.Scene.{Scene, IsMine, IsScene, here}
 use Rattle.bz_task.specs.Shown.{IsShown}
 use Rattle.bz_task.specs.Targets.{alone, IsTargetAt, TargetsAreOfTheMemory, OwnWordsAreNoTargets}
+use Rattle.bz_sight.specs.Laws.{HiddenWordsAreValues}
 use Rattle.bz_sight.specs.Sight.{IsSeen, IsHidden, answer_at}
 use Rattle.bz_sight.specs.Starts.{Sees, StoresAreHidden, TasksMayStart, OwnWordsAreHidden, StartsAreSeen}
 use Rattle.bz_sight.proofs.Effecting.{all-named, targeted}
@@ -222,3 +223,18 @@ starts-seen b = record {
   };
   swap = λ c x m w entries s seen v may asks holds. swap-seen b c x m w entries s seen v may asks holds;
 }
+
+-- a hidden word is private
+hidden-private : (c : Config) (x : Instant) (m : SwapMemory) (a : ℕ) → IsSeen c m x → IsHidden c x a → is_named m a ≡ false
+hidden-private c x m a seen h = go (is_named m a) refl
+  where
+    go : (t : Bool) → is_named m a ≡ t → is_named m a ≡ false
+    go true e = absurd (shown-target c x a (seen.targets a e) h)
+    go false e = e
+
+pub hidden-values : HiddenWordsAreValues
+hidden-values c x m a seen h =
+    let o : IsOutside m.swaps a = inr (subst (λ n. swap_address n ≤ a) (sym seen.swaps) (omega (arith, h.in_slots))) in
+    let private : is_named m a ≡ false = hidden-private c x m a seen h in
+    let before : IsHeld m = held m seen.phase seen.holds in
+    subst (λ n. n < 2 ^ 61) (sym (ap (λ f. f a) seen.value ∙ answer-private m a o private)) (before.private a o private).0

@@ -3,3 +3,4 @@ pub mod Passing
 pub mod Effects
 pub mod Acts
 pub mod Starts
+pub mod Laws

@@ -3,6 +3,7 @@
 ghost use Rattle.bz_sight.specs.Acts.{QuietStepsPass, StepsLeaveCaches, StoringStepsStore, FlushingStepsFlush, EffectStepsTakePlace, EvictionsAreSeen};
 ghost use Rattle.bz_sight.specs.Effects.{EffectsTakePlace, EffectsKeepOwn};
 ghost use Rattle.bz_sight.specs.Starts.{TasksMayStart, OwnWordsAreHidden, StartsAreSeen};
+ghost use Rattle.bz_sight.specs.Laws.{HiddenWordsAreValues};
 ghost use Rattle.bz_sight.specs.Passing.{ActsPass, ActsLeaveAll, StoresAreSeen, FlushesAreSeen};
 
 use bz_content::laws as content;
@@ -135,3 +136,8 @@ pub fn starts_are_seen()
     task::own_words_are_no_targets();
     bz_swap::laws::plain_fields_stay();
 }
+
+/// A hidden word is private, and a read of it answers a value.
+pub fn hidden_words_are_values()
+    ensures { HiddenWordsAreValues }
+{}
