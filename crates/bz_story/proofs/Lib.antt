@@ -1,0 +1,4 @@
+mod Scenes
+mod Lives
+mod Watching
+mod Striking

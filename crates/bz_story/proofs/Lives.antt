@@ -1,0 +1,92 @@
+-- A memory lives on by a mark at which no swap takes effect.
+use Rattle.std.proofs.Common.{◌≡◌, ◌≢◌, ℕ, suc, ◌+◌, ◌<◌, ◌≤◌, ◌⊎◌, Bool, true, false, List, ◌∷◌, length, slice_index, arith, refl, sym, ap, subst, ◌∙◌, inl, inr}
+use Rattle.std.proofs.lemmas.Bool.{cases_eq}
+use Rattle.bz_layout.specs.declared.config.Config.{Config}
+use Rattle.bz_layout.specs.declared.sizes.TheConstants.{NODE_WORDS, STATUS_AT}
+use Rattle.bz_mark.specs.Log.{Log, with_mark}
+use Rattle.bz_mark.specs.MomentLaws.{at_moment-now, at_moment-earlier}
+use Rattle.bz_mark.specs.Moments.{at_moment}
+use Rattle.bz_mark.specs.WordsAfter.{words_of as words_after_marks}
+use Rattle.bz_mark.specs.declared.marks.Mark.{Mark}
+use Rattle.bz_sight.specs.Passing.{Passes, Passed, ActsPass}
+use Rattle.bz_sight.specs.Sight.{IsSeen, next_instant}
+use Rattle.bz_sound.specs.Memory.Moments.{image_at, image_after}
+use Rattle.bz_swap.specs.SwapMemory.{SwapMemory, words_of}
+use Rattle.bz_task.specs.Good.{IsGood}
+use Rattle.bz_task.specs.Instant.{Instant, words, page_at}
+use Rattle.bz_task.specs.Shown.{SameNode}
+use Rattle.bz_task.specs.Steps.{IsStep, IsHistory, IsQuiet, Moved}
+use Rattle.bz_word.specs.Statuses.{status}
+use Rattle.bz_story.specs.Laws.{GoesOn, LivesGoOn, IsMarked, goes_on}
+use Rattle.bz_story.specs.Living.{IsLiving, IsInBlock}
+use Rattle.bz_story.specs.Story.{Story, and_then}
+use Rattle.bz_story.proofs.Scenes.{now-is, before-is}
+
+-- a history with one moment more
+pub history-on : (c : Config) (at : ℕ → Instant) (n : ℕ) (y : Instant) → IsHistory c at 0 n → IsGood c y → IsStep c (at n) y → IsHistory c (and_then at n y) 0 (suc n)
+history-on c at n y h good step = record {
+  good = λ i from to. elim (cases_eq i (suc n)) [
+    | inl e ↦ subst (λ k. IsGood c (and_then at n y k)) (sym e) (subst (IsGood c) (sym (now-is at n y)) good)
+    | inr ne ↦ subst (IsGood c) (sym (before-is at n i y (omega (arith, to, ne)))) (h.good i from (omega (arith, to, ne)))
+  ];
+  step = λ i from to. elim (cases_eq i n) [
+    | inl e ↦ subst (λ k. IsStep c (and_then at n y k) (and_then at n y (k + 1))) (sym e) (last-step (n + 1) (omega arith))
+    | inr ne ↦ subst (λ x. IsStep c x (and_then at n y (i + 1))) (sym (before-is at n i y (omega (arith, to)))) (subst (λ x. IsStep c (at i) x) (sym (before-is at n (i + 1) y (omega (arith, to, ne)))) (h.step i from (omega (arith, to, ne))))
+  ];
+}
+  where
+    last-step : (k : ℕ) → k ≡ suc n → IsStep c (and_then at n y n) (and_then at n y k)
+    last-step k e = subst (λ x. IsStep c x (and_then at n y k)) (sym (before-is at n n y (omega arith))) (subst (λ j. IsStep c (at n) (and_then at n y j)) (sym e) (subst (IsStep c (at n)) (sym (now-is at n y)) step))
+
+-- the images of the moments, with one more
+pub images-on : (start : List ℕ) (past : List Mark) (mark : Mark) (at : ℕ → Instant) (y : Instant) → ((i : ℕ) → i ≤ length past → (at i).image ≡ image_at start i past) → y.image ≡ image_after start (mark ∷ past)
+    → (i : ℕ) → i ≤ length (mark ∷ past) → (and_then at (length past) y i).image ≡ image_at start i (mark ∷ past)
+images-on start past mark at y images last i l = elim (cases_eq i (suc (length past))) [
+  | inl e ↦ subst (λ k. (and_then at (length past) y k).image ≡ image_at start k (mark ∷ past)) (sym e) (ap (λ z. z.image) (now-is at (length past) y) ∙ (last ∙ sym (ap (image_after start) (at_moment-now (mark ∷ past)))))
+  | inr ne ↦ (
+      let before : i ≤ length past = omega (arith, l, ne) in
+      ap (λ z. z.image) (before-is at (length past) i y before) ∙ (images i before ∙ sym (ap (image_after start) (at_moment-earlier i mark past before))))
+]
+
+-- what lay in a block still does, where the node's block is no smaller
+pub block-on : (c : Config) (x y : Instant) (a : ℕ) → (b : IsInBlock c x a) → y.reached b.slot ≡ true → (page_at c x b.slot).block ≤ (page_at c y b.slot).block → IsInBlock c y a
+block-on c x y a b reached grown = record {
+  slot = b.slot;
+  place = b.place;
+  address = b.address;
+  within = b.within;
+  reached = reached;
+  block = omega (arith, b.block, grown);
+}
+
+same-block : (n m : ℕ → ℕ) → m STATUS_AT ≡ n STATUS_AT → (status (m STATUS_AT)).block ≡ (status (n STATUS_AT)).block
+same-block n m e = ap (λ w. (status w).block) e
+
+pub node-block : (c : Config) (x y : Instant) (k : ℕ) → SameNode c x y k ⊎ Moved c x y k → (page_at c x k).block ≤ (page_at c y k).block
+node-block c x y k (inl s) = omega (arith, same-block (words c x k) (words c y k) (s STATUS_AT (inl (omega arith))))
+node-block c x y k (inr v) = v.block
+
+-- a step keeps what lies in blocks
+pub step-block : (c : Config) (x y : Instant) (a : ℕ) → IsStep c x y → IsInBlock c x a → IsInBlock c y a
+step-block c x y a (inl q) b = block-on c x y a b (q.reached b.slot ∙ b.reached) (node-block c x y b.slot (inl (q.nodes b.slot b.reached)))
+step-block c x y a (inr e) b = block-on c x y a b (e.reached b.slot b.reached) (node-block c x y b.slot (e.nodes b.slot b.reached))
+
+pub lives-on : ActsPass → LivesGoOn
+lives-on law c old new log story mark filled g = record {
+  seen = subst (IsSeen c new) (sym (now-is story.at (length log.past) y)) passed.seen;
+  history = history-on c story.at (length log.past) y g.living.history passed.same.good step;
+  words = g.marked;
+  images = images-on log.start log.past mark story.at y g.living.images (ap (λ w. slice_index w.durable) g.marked);
+  effects = subst (λ z. z.effects ≤ suc (length log.past)) (sym (now-is story.at (length log.past) y)) (omega (arith, g.living.effects));
+  owned = λ w a o. subst (λ z. IsInBlock c z a) (sym (now-is story.at (length log.past) y)) (step-block c (story.at (length log.past)) y a step (g.living.owned w a o));
+  apart = g.living.apart;
+}
+  where
+    y : Instant
+    y = next_instant new (story.at (length log.past))
+
+    passed : Passed c (story.at (length log.past)) new
+    passed = law c (story.at (length log.past)) old new g.living.seen g.passes
+
+    step : IsStep c (story.at (length log.past)) (next_instant new (story.at (length log.past)))
+    step = inl passed.rests.quiet

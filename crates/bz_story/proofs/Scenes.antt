@@ -1,0 +1,56 @@
+-- The scene of a worker whose call is open is one of the memory now.
+use Rattle.std.proofs.Common.{◌≡◌, ◌≢◌, ℕ, suc, ◌+◌, ◌^◌, ◌<◌, ◌≤◌, ◌==◌, if◌then◌else◌, Bool, true, false, List, length, slice_index, arith, refl, sym, ap, subst, ◌∙◌, inl, inr}
+use Rattle.std.proofs.lemmas.Bool.Decides.{nat_tests}
+use Rattle.bz_layout.specs.Addresses.{node_address, words_of as size_of}
+use Rattle.bz_layout.specs.declared.config.Config.{Config}
+use Rattle.bz_layout.specs.declared.sizes.TheConstants.{NODE_WORDS}
+use Rattle.bz_cells.specs.Store.{IsOutside}
+use Rattle.bz_mark.specs.Log.{Log}
+use Rattle.bz_sight.specs.Laws.{HiddenWordsAreValues}
+use Rattle.bz_sight.specs.Starts.{Sees}
+use Rattle.bz_sound.specs.Calls.{Open}
+use Rattle.bz_swap.specs.SwapMemory.{SwapMemory}
+use Rattle.bz_task.specs.Instant.{Instant}
+use Rattle.bz_task.specs.Scene.{Scene, IsMine, IsScene, here}
+use Rattle.bz_task.specs.Steps.{IsHistory}
+use Rattle.bz_story.specs.Laws.{ScenesAreSeen, HasBegun}
+use Rattle.bz_story.specs.Living.{IsLiving, IsInBlock}
+use Rattle.bz_story.specs.Story.{Story, scene, and_then}
+
+-- the last moment, and those before
+pub now-is : (at : ℕ → Instant) (n : ℕ) (y : Instant) → and_then at n y (suc n) ≡ y
+now-is at n y = let t : (suc n == suc n) ≡ true = grind (arith, nat_tests) in rw t refl
+
+pub before-is : (at : ℕ → Instant) (n m : ℕ) (y : Instant) → m ≤ n → and_then at n y m ≡ at m
+before-is at n m y l = let t : (m == suc n) ≡ false = grind (arith, nat_tests) in rw t refl
+
+module _ (law : HiddenWordsAreValues) (c : Config) (m : SwapMemory) (log : Log) (story : Story) (w : ℕ) (opened : Open) (living : IsLiving c m log story) (begun : HasBegun log opened) where
+  s : Scene
+  s = scene c log.past story w opened
+
+  -- own words lie in a slot, and hold values
+  own : (a : ℕ) → IsMine (scene c log.past story w opened) a → (node_address c 0 ≤ a) × ((a < size_of c) × ((story.at (length log.past)).value a < 2 ^ 61))
+  own a mine =
+      let block : IsInBlock c (story.at (length log.past)) a = living.owned w a mine.owned in
+      let slot : block.slot < c.nodes = living.seen.good.slots block.slot block.reached in (
+        omega (arith, block.address),
+        (omega (arith, block.address, block.within, slot), law c (story.at (length log.past)) m a living.seen (record { in_slots = omega (arith, block.address); unread = mine.hidden })),
+      )
+
+  sees : Sees c (story.at (length log.past)) (scene c log.past story w opened)
+  sees = record {
+    scene = record {
+      config = living.seen.config;
+      begun = omega (arith, begun);
+      history = record {
+        good = λ i from to. living.history.good i (omega arith) to;
+        step = λ i from to. living.history.step i (omega arith) to;
+      };
+      mine = own;
+    };
+    config = refl;
+    here = refl;
+  }
+
+pub scenes-seen : HiddenWordsAreValues → ScenesAreSeen
+scenes-seen law c m log story w opened living begun = sees law c m log story w opened living begun

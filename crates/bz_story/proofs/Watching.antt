@@ -1,0 +1,172 @@
+-- What a mark by which no swap takes effect is to each worker.
+use Rattle.std.proofs.Common.{◌≡◌, ◌≢◌, ℕ, zero, suc, ◌+◌, ◌<◌, ◌≤◌, ◌⊎◌, ◌||◌, ◌&&◌, ◌==◌, Bool, true, false, List, ◌∷◌, length, slice_index, arith, refl, sym, ap, subst, ◌∙◌, inl, inr}
+use Rattle.std.proofs.lemmas.Bool.Decides.{nat_tests}
+use Rattle.bz_layout.specs.Addresses.{node_address, slot_of, line_of}
+use Rattle.bz_layout.specs.declared.config.Config.{Config}
+use Rattle.bz_layout.specs.declared.sizes.TheConstants.{NODE_WORDS}
+use Rattle.bz_mark.specs.Log.{Log}
+use Rattle.bz_mark.specs.MomentLaws.{mark_at-earlier}
+use Rattle.bz_mark.specs.declared.marks.Mark.{Mark}
+use Rattle.bz_sight.specs.Passing.{Passes, Passed, AllStay, ActsPass, ActsLeaveAll, StoresAreSeen, FlushesAreSeen}
+use Rattle.bz_sight.specs.Sight.{next_instant}
+use Rattle.bz_sight.specs.Starts.{Sees}
+use Rattle.bz_sound.specs.Calls.{Open}
+use Rattle.bz_swap.specs.SwapMemory.{SwapMemory}
+use Rattle.bz_task.specs.Instant.{Instant, words}
+use Rattle.bz_task.specs.Laws.{SameRecordsShowTheSame}
+use Rattle.bz_task.specs.Others.{AreApart, Watches, LeavesAll, StoresTo, QuietActsAreLawful, StoresAreLawful}
+use Rattle.bz_task.specs.OwnActs.{Stores, Flushes}
+use Rattle.bz_task.specs.Scene.{Scene, IsMine, IsFlushed, Continues, IsLawful, here}
+use Rattle.bz_task.specs.Shown.{IsShown, SameNode, SameRecords}
+use Rattle.bz_task.specs.Steps.{IsQuiet}
+use Rattle.bz_word.specs.Statuses.{status}
+use Rattle.bz_story.specs.Laws.{HasBegun, ScenesAreSeen, GoesOn, QuietMarksAreLawful, IsStore, StoresAreTold, FlushesAreTold, goes_on, fills}
+use Rattle.bz_story.specs.Living.{IsLiving}
+use Rattle.bz_story.specs.Story.{Story, scene, and_then, loaded, is_load_of}
+use Rattle.bz_story.proofs.Scenes.{now-is, before-is}
+
+-- which of the first marks are loads stays as marks are added
+loads-stay : (past : List Mark) (mark : Mark) (w moment : ℕ) → moment ≤ length past → loaded (mark ∷ past) w moment ≡ loaded past w moment
+loads-stay past mark w zero l = refl
+loads-stay past mark w (suc k) l = ap (is_load_of w) (mark_at-earlier k mark past (omega (arith, l)))
+
+-- what a worker has seen stays, with one moment more
+pub continues : (c : Config) (past : List Mark) (mark : Mark) (story after : Story) (w : ℕ) (opened later : Open) → later.begun ≡ opened.begun → ((m : ℕ) → m ≤ length past → after.at m ≡ story.at m)
+    → Continues (scene c past story w opened).past (scene c (mark ∷ past) after w later).past
+continues c past mark story after w opened later same at = record {
+  config = refl;
+  now = omega arith;
+  since = ap suc same;
+  at = at;
+  loads = loads-stay past mark w;
+}
+
+-- words that readers do not read are as little read afterwards
+pub mine-stays : SameRecordsShowTheSame → (s after : Scene) → after.past.config ≡ s.past.config → IsQuiet s.past.config (here s) (here after) → ((a : ℕ) → after.owned a ≡ s.owned a) → (a : ℕ) → IsMine s a → IsMine after a
+mine-stays law s after config q owned a mine = record {
+  owned = owned a ∙ mine.owned;
+  hidden = λ k i r l e h.
+      let was : (here s).reached k ≡ true = sym (q.reached k) ∙ r in
+      let same : SameRecords (words s.past.config (here s) k) (words s.past.config (here after) k) = records k (q.nodes k was) in
+      mine.hidden k i was l (subst (λ c. a ≡ node_address c k + i) config e)
+      ((law (words s.past.config (here s) k) (words s.past.config (here after) k) same i).1 (subst (λ c. IsShown (words c (here after) k) i) config h));
+}
+  where
+    records : (k : ℕ) → SameNode s.past.config (here s) (here after) k → SameRecords (words s.past.config (here s) k) (words s.past.config (here after) k)
+    records k n = record {
+      count = ap (λ w. (status w).count) (n 0 (inl (omega arith)));
+      block = ap (λ w. (status w).block) (n 0 (inl (omega arith)));
+      words = λ i ne h. n i h;
+    }
+
+-- the laws that these proofs stand on
+pub record Laws : Type 0 where
+  pub seen : ScenesAreSeen
+  pub pass : ActsPass
+  pub leave : ActsLeaveAll
+  pub stored : StoresAreSeen
+  pub flushed : FlushesAreSeen
+  pub quiet : QuietActsAreLawful
+  pub stores : StoresAreLawful
+  pub alike : SameRecordsShowTheSame
+
+module _ (b : Laws) (c : Config) (old new : SwapMemory) (log : Log) (story : Story) (mark : Mark) (g : GoesOn c old new log story mark) where
+  abbrev x : Instant
+  x = story.at (length log.past)
+
+  abbrev y : Instant
+  y = next_instant new (story.at (length log.past))
+
+  passed : Passed c (story.at (length log.past)) new
+  passed = b.pass c (story.at (length log.past)) old new g.living.seen g.passes
+
+  before : (filled : ℕ → ℕ → Bool) (m : ℕ) → m ≤ length log.past → (goes_on log story new filled).at m ≡ story.at m
+  before filled m l = before-is story.at (length log.past) m (next_instant new (story.at (length log.past))) l
+
+  later-here : (filled : ℕ → ℕ → Bool) (w : ℕ) (opened : Open) → here (scene c (mark ∷ log.past) (goes_on log story new filled) w opened) ≡ next_instant new (story.at (length log.past))
+  later-here filled w opened = now-is story.at (length log.past) (next_instant new (story.at (length log.past)))
+
+  sees : (w : ℕ) (opened : Open) → HasBegun log opened → Sees c (story.at (length log.past)) (scene c log.past story w opened)
+  sees w opened begun = b.seen c old log story w opened g.living begun
+
+  -- for one who did nothing
+  watches : (filled : ℕ → ℕ → Bool) (w : ℕ) (opened : Open) → ((k : ℕ) → filled w k ≡ story.filled w k) → Watches (scene c log.past story w opened) (scene c (mark ∷ log.past) (goes_on log story new filled) w opened) (next_instant new (story.at (length log.past)))
+  watches filled w opened same = record {
+    continues = continues c log.past mark story (goes_on log story new filled) w opened opened refl (before filled);
+    here = later-here filled w opened;
+    effected = refl;
+    owned = λ a. refl;
+    took = λ k. refl;
+    filled = same;
+  }
+
+  leaves : AllStay old new → (w : ℕ) (opened : Open) → HasBegun log opened → LeavesAll (scene c log.past story w opened) (next_instant new (story.at (length log.past)))
+  leaves all w opened begun = b.leave c (story.at (length log.past)) old new (scene c log.past story w opened) g.living.seen g.passes all (sees w opened begun).scene refl refl
+
+  lawful : AllStay old new → (w : ℕ) (opened : Open) → HasBegun log opened → IsLawful (scene c log.past story w opened) (scene c (mark ∷ log.past) (goes_on log story new story.filled) w opened)
+  lawful all w opened begun = b.quiet (scene c log.past story w opened) _ (next_instant new (story.at (length log.past))) (leaves all w opened begun) (watches story.filled w opened (λ k. refl))
+
+  -- own words stay one's own
+  own-stays : (filled : ℕ → ℕ → Bool) (w : ℕ) (opened : Open) (a : ℕ) → IsMine (scene c log.past story w opened) a → IsMine (scene c (mark ∷ log.past) (goes_on log story new filled) w opened) a
+  own-stays filled w opened = mine-stays b.alike (scene c log.past story w opened) (scene c (mark ∷ log.past) (goes_on log story new filled) w opened) refl (subst (IsQuiet c (story.at (length log.past))) (sym (later-here filled w opened)) passed.rests.quiet) (λ a. refl)
+
+  -- a flush of one's own
+  flushes : AllStay old new → (w line : ℕ) (opened : Open) → HasBegun log opened → ((a : ℕ) → line_of a ≡ line → slice_index new.durable a ≡ slice_index old.cached a)
+      → Flushes line (scene c log.past story w opened) (scene c (mark ∷ log.past) (goes_on log story new story.filled) w opened)
+  flushes all w line opened begun copies = record {
+    continues = continues c log.past mark story (goes_on log story new story.filled) w opened opened refl (before story.filled);
+    took = λ k. refl;
+    effected = refl;
+    owned = λ a. refl;
+    filled = λ k. refl;
+    value = λ a. ap (λ z. z.value a) (later-here story.filled w opened) ∙ (leaves all w opened begun).value a;
+    flushed = λ a in-line mine. subst (λ z. z.image a ≡ z.value a) (sym (later-here story.filled w opened)) (b.flushed c (story.at (length log.past)) old new line (scene c log.past story w opened) g.living.seen g.passes all (sees w opened begun).scene refl refl copies a in-line mine);
+    stays = λ a mine f. subst (λ z. z.image a ≡ z.value a) (sym (later-here story.filled w opened)) (still a mine f);
+    mine = own-stays story.filled w opened;
+  }
+    where
+      still : (a : ℕ) → IsMine (scene c log.past story w opened) a → IsFlushed (scene c log.past story w opened) a → (next_instant new (story.at (length log.past))).image a ≡ (next_instant new (story.at (length log.past))).value a
+      still a mine f =
+          let l : LeavesAll (scene c log.past story w opened) (next_instant new (story.at (length log.past))) = leaves all w opened begun in
+          elim (l.image a mine) [ inl e ↦ e ∙ (f ∙ sym (l.value a)) | inr e ↦ e ∙ sym (l.value a) ]
+
+  module _ (w a v : ℕ) (opened : Open) (s : IsStore c old new log story w a v opened) where
+    to : StoresTo a v (story.at (length log.past)) (next_instant new (story.at (length log.past)))
+    to = b.stored c (story.at (length log.past)) old new a v g.living.seen g.passes s.stores
+
+    store-own : Stores a v (scene c log.past story w opened) (scene c (mark ∷ log.past) (goes_on log story new (fills c story w a)) w opened)
+    store-own = record {
+      continues = continues c log.past mark story (goes_on log story new (fills c story w a)) w opened opened refl (before (fills c story w a));
+      took = λ k. refl;
+      effected = refl;
+      owned = λ b. refl;
+      filled = λ k. let t : (w == w) ≡ true = grind (arith, nat_tests) in rw t refl;
+      value = ap (λ z. z.value a) (later-here (fills c story w a) w opened) ∙ to.value;
+      others = λ b ne. ap (λ z. z.value b) (later-here (fills c story w a) w opened) ∙ to.others b ne;
+      image = λ b. ap (λ z. z.image b) (later-here (fills c story w a) w opened) ∙ to.image b;
+      mine = own-stays (fills c story w a) w opened;
+    }
+
+    store-others : (u : ℕ) (other : Open) → u ≢ w → HasBegun log other → IsLawful (scene c log.past story u other) (scene c (mark ∷ log.past) (goes_on log story new (fills c story w a)) u other)
+    store-others u other ne begun =
+        b.stores (scene c log.past story w opened) (scene c log.past story u other) _ a v (next_instant new (story.at (length log.past))) (sees w opened s.begun).scene s.own apart to
+        (watches (fills c story w a) u other (λ k. let t : (u == w) ≡ false = grind (arith, nat_tests) in rw t (or-off (story.filled u k))))
+      where
+        or-off : (t : Bool) → t || false ≡ t
+        or-off true = refl
+        or-off false = refl
+
+        apart : AreApart (scene c log.past story w opened) (scene c log.past story u other)
+        apart = record { config = refl; here = refl; apart = λ d p q. ne (g.living.apart u w d q.owned p.owned) }
+
+pub quiet-lawful : Laws → QuietMarksAreLawful
+quiet-lawful b c old new log story mark w opened g all begun = lawful b c old new log story mark g all w opened begun
+
+pub stores-told : Laws → StoresAreTold
+stores-told b = record {
+  own = λ c old new log story mark w a v opened g s. store-own b c old new log story mark g w a v opened s;
+  others = λ c old new log story mark w a v opened u other g s ne begun. store-others b c old new log story mark g w a v opened s u other ne begun;
+}
+
+pub flushes-told : Laws → FlushesAreTold
+flushes-told b c old new log story mark w line opened g all begun copies = flushes b c old new log story mark g all w line opened begun copies

@@ -1,0 +1,35 @@
+-- A swap memory, its journal and its story agree.
+use Rattle.std.specs.Prelude.{◌≡◌, ℕ, ◌+◌, ◌<◌, ◌≤◌, true, length}
+use Rattle.bz_layout.specs.Addresses.{node_address}
+use Rattle.bz_layout.specs.declared.config.Config.{Config}
+use Rattle.bz_layout.specs.declared.sizes.TheConstants.{NODE_WORDS}
+use Rattle.bz_mark.specs.Log.{Log}
+use Rattle.bz_mark.specs.WordsAfter.{words_of as words_after_marks}
+use Rattle.bz_sight.specs.Sight.{IsSeen}
+use Rattle.bz_sound.specs.Memory.Moments.{image_at}
+use Rattle.bz_swap.specs.SwapMemory.{SwapMemory, words_of}
+use Rattle.bz_task.specs.Instant.{Instant, page_at}
+use Rattle.bz_task.specs.Steps.{IsHistory}
+use Rattle.bz_story.specs.Story.{Story}
+
+-- a word of the block of a node that was reached
+pub record IsInBlock (c : Config) (x : Instant) (a : ℕ) : Type 0 where
+  pub slot : ℕ
+  pub place : ℕ
+  pub address : a ≡ node_address c slot + place
+  pub within : place < NODE_WORDS
+  pub reached : x.reached slot ≡ true
+  pub block : NODE_WORDS ≤ place + (page_at c x slot).block
+
+pub record IsLiving (c : Config) (m : SwapMemory) (log : Log) (story : Story) : Type 0 where
+  -- the memory is seen as the story tells it now, and every moment of it was good and led to the next by a lawful step
+  pub seen : IsSeen c m (story.at (length log.past))
+  pub history : IsHistory c story.at 0 (length log.past)
+  -- the journal's words are the memory's, and the images of its moments the story's
+  pub words : words_of m ≡ words_after_marks log.start log.past
+  pub images : (i : ℕ) → i ≤ length log.past → (story.at i).image ≡ image_at log.start i log.past
+  -- each effect has a mark of its own
+  pub effects : (story.at (length log.past)).effects ≤ length log.past
+  -- what a worker reserved lies in a block, and no other worker reserved it
+  pub owned : (w a : ℕ) → story.owned w a ≡ true → IsInBlock c (story.at (length log.past)) a
+  pub apart : (v w a : ℕ) → story.owned v a ≡ true → story.owned w a ≡ true → v ≡ w
