@@ -144,7 +144,7 @@ quiet-step fields c x old new w made done seen step holds hidden =
     record {
       same = same-rest c x old new w made done None seen step holds;
       holds = holds;
-      fields = fields.step old new w made done None before step seen.fields;
+      fields = fields.step old new w made done None before.memory step seen.fields;
       quiet = step.effect;
       durable = step-either old new made before.memory step.one.act;
       cached = λ a o private. elim (cases-storing (doing_of old w)) [
@@ -165,9 +165,9 @@ effect-step fields inside c x old new w made done s seen step holds =
     record {
       same = same-rest c x old new w made done (Some s) seen step holds;
       holds = holds;
-      fields = fields.step old new w made done (Some s) before step seen.fields;
+      fields = fields.step old new w made done (Some s) before.memory step seen.fields;
       effect = step.effect;
-      durable = (inside.step old new w made done s before step).outside;
+      durable = (inside.step old new w made done s before.memory step).outside;
       cached = λ a o private. step.untouched a o private (λ v f. not-storing a v f);
     }
   where
