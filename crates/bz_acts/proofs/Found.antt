@@ -1,5 +1,5 @@
 -- The word that an act tells is the one that stood there.
-use Rattle.std.specs.Prelude.{◌≡◌, ℕ, true, slice_index}
+use Rattle.std.specs.Prelude.{◌≡◌, ℕ, ◌<◌, true, length, slice_index}
 use Rattle.std.proofs.Common.{arith, refl, inl, inr}
 use Rattle.std.proofs.lemmas.Grind.{common_steps}
 use Rattle.bz_word.specs.Kinds.{word, IsKind}
@@ -19,17 +19,19 @@ kind-found st a i out = rw (outside-told st.swaps a out) (kinds.word _ (i.cached
 pub kind-in_range : (st : Store) (a : ℕ) → IsStore st → IsOutside st.swaps a → IsKind (kind_at st.swaps st.cached a)
 kind-in_range st a i out = rw (outside-told st.swaps a out) (kinds.range _ (i.cached.kinds a out))
 
-pub made-load : (st : Store) (a v : ℕ) → IsStore st → v ≡ slice_index st.cached a → IsMade st (Load a v) st
-made-load st a v i found = record {
+pub made-load : (st : Store) (a v : ℕ) → IsStore st → a < length st.cached → v ≡ slice_index st.cached a → IsMade st (Load a v) st
+made-load st a v i within found = record {
   rule = record { found = found; after = refl };
+  within = within;
   typed = i;
   shape = record { swaps = refl; size = refl; workers = refl };
 }
 
-pub made-cas : (st new : Store) (a old v found : ℕ) → IsStore new → SameShape st new → words_of new ≡ after_act (words_of st) (Cas a old v found)
+pub made-cas : (st new : Store) (a old v found : ℕ) → IsStore new → SameShape st new → a < length st.cached → words_of new ≡ after_act (words_of st) (Cas a old v found)
     → found ≡ slice_index st.cached a → IsMade st (Cas a old v found) new
-made-cas st new a old v found i shape after stood = record {
+made-cas st new a old v found i shape within after stood = record {
   rule = record { found = stood; after = after };
+  within = within;
   typed = i;
   shape = shape;
 }

@@ -1,5 +1,5 @@
 -- What the parts of an act promise one another.
-use Rattle.std.specs.Prelude.{◌≡◌, ◌==◌, not, Bool, false, ℕ, ◌<◌, ◌^◌}
+use Rattle.std.specs.Prelude.{◌≡◌, ◌==◌, not, Bool, false, ℕ, ◌<◌, ◌^◌, length}
 use Rattle.bz_word.specs.declared.kind.WordKind.{WordKind}
 use Rattle.bz_word.specs.declared.kind.WordKind.TheVariants.{Value, Dirty, Swap, Tag}
 use Rattle.bz_machine.specs.declared.place.Place.{Place}
@@ -17,12 +17,13 @@ use Rattle.bz_acts.specs.declared.entry.Aim.{Aim}
 use Rattle.bz_acts.specs.declared.help.Helped.{Helped}
 use Rattle.bz_acts.specs.Made.{beside_in}
 use Rattle.bz_acts.specs.Ready.{LiesOutside}
-use Rattle.bz_acts.specs.Rule.{IsActOf, IsToldAt, is_flush_act}
+use Rattle.bz_acts.specs.Rule.{IsActOf, IsToldAt, IsWithin, is_flush_act}
 use Rattle.bz_acts.specs.Writes.{HelpsBy, WritesAt}
 
--- this act leads from the one store to the other, whose words can be read too
+-- this act, on a word or line of the memory, leads from the one store to the other, whose words can be read too
 pub record IsMade (old : Store) (act : Act) (new : Store) : Type 0 where
   pub rule : IsActOf (words_of old) act (words_of new)
+  pub within : IsWithin (length old.cached) act
   pub typed : IsStore new
   pub shape : SameShape old new
 

@@ -1,5 +1,5 @@
 -- The rule of the simulated memory for an act.
-use Rattle.std.specs.Prelude.{◌≡◌, ℕ, Bool, true, false, slice_index}
+use Rattle.std.specs.Prelude.{◌≡◌, ℕ, ◌*◌, ◌<◌, Bool, true, false, slice_index}
 use Rattle.bz_pm.specs.Words.{Words}
 use Rattle.bz_pm.specs.Acts.{stored, compared, flushed}
 use Rattle.bz_machine.specs.declared.place.Place.{Place}
@@ -20,6 +20,13 @@ FoundRightly m (Load a v) = v ≡ slice_index m.cached a
 FoundRightly m (Store a v) = Unit {0}
 FoundRightly m (Cas a old new found) = found ≡ slice_index m.cached a
 FoundRightly m (Flush line) = Unit {0}
+
+-- the act is one on a word, or a line, of a memory of so many words
+abbrev pub IsWithin : ℕ → Act → Type 0
+IsWithin size (Load a v) = a < size
+IsWithin size (Store a v) = a < size
+IsWithin size (Cas a old new found) = a < size
+IsWithin size (Flush line) = line * 8 < size
 
 -- this act leads from these words to those
 pub record IsActOf (old : Words) (act : Act) (new : Words) : Type 0 where

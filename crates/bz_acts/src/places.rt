@@ -1,13 +1,13 @@
 //! The act at a worker's place.
 
-ghost use Rattle.std.specs.Prelude.{◌≡◌};
+ghost use Rattle.std.specs.Prelude.{◌≡◌, length};
 ghost use Rattle.bz_machine.specs.Flushes.{is_flush};
 ghost use Rattle.bz_machine.specs.Workers.{local_of};
 ghost use Rattle.bz_cells.specs.Store.{Beside, IsStore, SameShape, typed, words_of};
 ghost use Rattle.bz_acts.specs.Made.{made, beside_in};
 ghost use Rattle.bz_acts.specs.Parts.{IsStep};
 ghost use Rattle.bz_acts.specs.Ready.{IsReady, IsReadyAt};
-ghost use Rattle.bz_acts.specs.Rule.{IsActOf, IsToldAt, is_flush_act};
+ghost use Rattle.bz_acts.specs.Rule.{IsActOf, IsToldAt, IsWithin, is_flush_act};
 ghost use Rattle.bz_acts.specs.Writes.{WritesAt};
 
 use crate::acted::Acted;
@@ -44,6 +44,7 @@ pub fn act(cells: &mut Cells, worker: &mut Worker, w: u8) -> Acted
     ensures done { (b : Beside) → result.done ≡ (made cells.old b worker.old w).done }
     ensures memory { (b : Beside) → typed cells.new (beside_in (made cells.old b worker.old w).memory) ≡ (made cells.old b worker.old w).memory }
     ensures words { IsActOf (words_of cells.old) result.act (words_of cells.new) }
+    ensures within { IsWithin (length cells.old.cached) result.act }
     ensures flush { is_flush_act result.act ≡ is_flush worker.old.place }
     ensures told { IsToldAt worker.old.place result.act }
     ensures writes { WritesAt cells.old.swaps worker.old worker.old.place result.act }

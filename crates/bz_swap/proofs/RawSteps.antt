@@ -10,7 +10,7 @@ use Rattle.bz_machine.specs.declared.worker.Operation.TheVariants as operation
 use Rattle.bz_machine.specs.declared.worker.Worker.{Worker}
 use Rattle.bz_machine.specs.Flushes.{is_flush}
 use Rattle.bz_cells.specs.Store.{Store, words_of}
-use Rattle.bz_acts.specs.Rule.{after_act, is_flush_act}
+use Rattle.bz_acts.specs.Rule.{IsWithin, after_act, is_flush_act}
 use Rattle.bz_acts.specs.declared.acted.Act.{Act}
 use Rattle.bz_acts.specs.declared.acted.Act.TheVariants.{Load, Store as StoreAct, Cas, Flush}
 use Rattle.bz_pm.specs.Words.{Words}
@@ -81,6 +81,19 @@ asked-idle (place.ReadWord a) o acted is = absurd is
 asked-idle (place.FlushRead a v) o acted is = absurd is
 asked-idle (place.ClearRead a v) o acted is = absurd is
 
+-- the act is one on a word or line of the memory
+asked-within : (st : Store) (at : Place) (acted : Acted) → RecoversAt st at → IsAsked at acted → IsWithin (length st.cached) acted.act
+asked-within st (place.LoadWord a) acted lies is = rw is.1.0 lies
+asked-within st (place.StoreWord a v) acted lies is = rw is.0 lies
+asked-within st (place.FlushLine line) acted lies is = rw is.0 lies
+asked-within st place.Idle acted lies is = absurd is
+asked-within st (place.Prepare step) acted lies is = absurd is
+asked-within st (place.Learn k) acted lies is = absurd is
+asked-within st (place.Help step) acted lies is = absurd is
+asked-within st (place.ReadWord a) acted lies is = absurd is
+asked-within st (place.FlushRead a v) acted lies is = absurd is
+asked-within st (place.ClearRead a v) acted lies is = absurd is
+
 -- what is kept after the step
 pub raw-kept : (p : Parts) (k : IsKept p) (w : ℕ) (store : Store) (l : Worker) (acted : Acted) → p.phase ≡ Recovering → w < length (seen p).workers → doing_of (seen p) w ≢ Idle → l ≡ worker_at p w
     → IsRawAct p.store l.place acted store → IsKept (after_step p w store (placed l place.Idle))
@@ -129,6 +142,7 @@ raw-seen p k w store l acted phase within busy is made =
     record {
       one = record {
         act = record { found = made.found; after = ap words_of made.after };
+        within = asked-within p.store l.place acted (recovers-at p k w l phase busy is).0 made.asked;
         flush = asked-flush l.place acted made.asked ∙ ap (λ (u : Working). u.flush_next) (sym was);
         doing = ap (λ (u : Working). u.doing) now ∙ asked-idle l.place l.operation acted made.asked ∙ ap (λ (u : Working). doing_after u.doing acted.done) (sym was);
         steps = refl;

@@ -22,7 +22,7 @@ use Rattle.bz_machine.specs.Workers.{local_of}
 use Rattle.bz_machine.proofs.EventLaws.{acts_atomically}
 use Rattle.bz_cells.specs.Store.{Store, IsOutside, kind_at, typed, words_of}
 use Rattle.bz_acts.specs.Made.{made}
-use Rattle.bz_acts.specs.Rule.{IsActOf, IsToldAt, is_flush_act}
+use Rattle.bz_acts.specs.Rule.{IsActOf, IsToldAt, IsWithin, is_flush_act}
 use Rattle.bz_acts.specs.Writes.{WritesAt}
 use Rattle.bz_acts.specs.declared.acted.Act.{Act}
 use Rattle.bz_acts.specs.declared.acted.Act.TheVariants.{Load}
@@ -48,6 +48,7 @@ use Rattle.bz_swap.proofs.StepLies.{busy-going}
 -- the act that was made
 pub record IsMadeAct (p : Parts) (w : ℕ) (store : Store) (told : Act) : Type 0 where
   pub rule : IsActOf (words_of p.store) told (words_of store)
+  pub within : IsWithin (length p.store.cached) told
   pub flush : is_flush_act told ≡ is_flush (worker_at p w).place
   pub is_told : IsToldAt (worker_at p w).place told
   pub writes : WritesAt p.store.swaps (worker_at p w) (worker_at p w).place told
@@ -168,6 +169,7 @@ step-seen p r w store l done told may phase a made_act =
     record {
       one = record {
         act = made_act.rule;
+        within = made_act.within;
         flush = made_act.flush ∙ ap (λ (u : Working). u.flush_next) (sym was);
         doing = ap (λ (u : Working). u.doing) is ∙ doing-made p r w store l done a leads ∙ ap (λ (u : Working). doing_after u.doing done) (sym was);
         steps = refl;

@@ -11,7 +11,7 @@ use Rattle.bz_machine.specs.Flushes.{is_flush}
 use Rattle.bz_machine.specs.Workers.{local_of}
 use Rattle.bz_acts.specs.Made.{made, beside_in}
 use Rattle.bz_acts.specs.Ready.{IsReady}
-use Rattle.bz_acts.specs.Rule.{IsActOf, IsToldAt, is_flush_act}
+use Rattle.bz_acts.specs.Rule.{IsActOf, IsToldAt, IsWithin, is_flush_act}
 use Rattle.bz_acts.specs.Writes.{WritesAt}
 use Rattle.bz_cells.specs.Store.{Store, Beside, IsStore, SameShape, typed, words_of}
 use Rattle.bz_swap.specs.declared.phase.Phase.{Phase}
@@ -89,10 +89,11 @@ acts-read p b w old store l done is local is_done memory words shape = record {
 }
 
 pub made-read : (p : Parts) (w : ℕ) (old : Worker) (store : Store) (told : Act) → old ≡ worker_at p w
-    → IsActOf (words_of p.store) told (words_of store) → is_flush_act told ≡ is_flush old.place → IsToldAt old.place told → WritesAt p.store.swaps old old.place told
+    → IsActOf (words_of p.store) told (words_of store) → IsWithin (length p.store.cached) told → is_flush_act told ≡ is_flush old.place → IsToldAt old.place told → WritesAt p.store.swaps old old.place told
     → IsMadeAct p w store told
-made-read p w old store told is rule flush is_told writes = record {
+made-read p w old store told is rule within flush is_told writes = record {
   rule = rule;
+  within = within;
   flush = subst (λ u. is_flush_act told ≡ is_flush u.place) is flush;
   is_told = subst (λ u. IsToldAt u.place told) is is_told;
   writes = subst (λ u. WritesAt p.store.swaps u u.place told) is writes;

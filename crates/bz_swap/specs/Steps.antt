@@ -1,6 +1,6 @@
 -- What one step of a worker does.
 use Rattle.std.specs.Prelude.{◌≡◌, ◌≢◌, ◌⊎◌, ℕ, ◌+◌, ◌^◌, ◌<◌, Bool, true, false, length, slice_index, Option, None}
-use Rattle.bz_acts.specs.Rule.{IsActOf, is_flush_act}
+use Rattle.bz_acts.specs.Rule.{IsActOf, IsWithin, is_flush_act}
 use Rattle.bz_acts.specs.declared.acted.Act.{Act}
 use Rattle.bz_acts.specs.declared.acted.Act.TheVariants.{Load, Store, Flush}
 use Rattle.bz_cells.specs.Store.{IsOutside}
@@ -46,9 +46,10 @@ pub record KeepsOthers (old new : SwapMemory) (w : ℕ) : Type 0 where
   pub taken : new.taken ≡ old.taken
   pub workers : (v : ℕ) → v ≢ w → worker_of new v ≡ worker_of old v
 
--- one step of worker w: exactly one memory act, by the memory's own rule
+-- one step of worker w: exactly one memory act, on a word or line of the memory, by the memory's own rule
 pub record IsOneAct (old : SwapMemory) (w : ℕ) (made : Act) (done : Done) (new : SwapMemory) : Type 0 where
   pub act : IsActOf (words_of old) made (words_of new)
+  pub within : IsWithin (length old.cached) made
   pub flush : is_flush_act made ≡ (worker_of old w).flush_next
   pub doing : doing_of new w ≡ doing_after (doing_of old w) done
   pub steps : new.steps ≡ old.steps + 1
