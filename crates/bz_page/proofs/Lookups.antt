@@ -21,10 +21,10 @@ equal Equal h = refl
 equal Greater h = absurd (true≢false (sym h))
 
 -- only a key itself ties with it
-ties : (a b : List ℕ) → eq_by_cmp (slice_cmp nat_cmp) a b ≡ true → a ≡ b
+pub ties : (a b : List ℕ) → eq_by_cmp (slice_cmp nat_cmp) a b ≡ true → a ≡ b
 ties a b h = slice_cmp-IsAntisymmetric nat_cmp-IsAntisymmetric a b (equal (slice_cmp nat_cmp a b) h)
 
-ties-itself : (a b : List ℕ) → a ≡ b → eq_by_cmp (slice_cmp nat_cmp) a b ≡ true
+pub ties-itself : (a b : List ℕ) → a ≡ b → eq_by_cmp (slice_cmp nat_cmp) a b ≡ true
 ties-itself a b same = ap (λ k. is_eq (slice_cmp nat_cmp a k)) (sym same) ∙ ap is_eq (tied_itself nat_list_cmp_total a)
 
 before-ties : (a b : List ℕ) → IsBefore a b → eq_by_cmp (slice_cmp nat_cmp) b a ≡ false
@@ -40,7 +40,7 @@ later : (x : List ℕ × List ℕ) (xs : List (List ℕ × List ℕ)) (y : List 
 later x xs y (k, within, is) = (suc k, omega arith, is)
 
 -- what is found is a pair of the list
-found-contained : (key value : List ℕ) (xs : List (List ℕ × List ℕ)) → find (slice_cmp nat_cmp) key xs ≡ Some value → Contains xs (key, value)
+pub found-contained : (key value : List ℕ) (xs : List (List ℕ × List ℕ)) → find (slice_cmp nat_cmp) key xs ≡ Some value → Contains xs (key, value)
 found-contained key value [] e = absurd (cc)
 found-contained key value (x ∷ xs) e = go (eq_by_cmp (slice_cmp nat_cmp) key x.0) refl e (found-contained key value xs)
   where
@@ -65,7 +65,7 @@ contained-found key value (x ∷ xs) (suc k, within, is) none = go (eq_by_cmp (s
     go true e ih = absurd (cc)
     go false e ih = ih e
 
-rising-tail : (x : List ℕ × List ℕ) (xs : List (List ℕ × List ℕ)) → AreRising (keys_of (x ∷ xs)) → AreRising (keys_of xs)
+pub rising-tail : (x : List ℕ × List ℕ) (xs : List (List ℕ × List ℕ)) → AreRising (keys_of (x ∷ xs)) → AreRising (keys_of xs)
 rising-tail x xs rising i j less within = rising (suc i) (suc j) (omega arith) (omega arith)
 
 -- where the keys rise, what is found is the one pair of the key

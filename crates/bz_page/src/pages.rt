@@ -1,16 +1,18 @@
-//! The page of a leaf.
+//! The page of a leaf, and one pair of it.
 
-ghost use Rattle.std.specs.Prelude.{◌≡◌, ℕ, List, Option, None, length};
-ghost use Rattle.bz_slotted.specs.Page.{page};
+ghost use Rattle.std.specs.Prelude.{◌≡◌, ℕ, List, Option, None, length, slice_get};
+ghost use Rattle.bz_content.specs.Content.{content_in};
+ghost use Rattle.bz_slotted.specs.Page.{page as page_of};
 ghost use Rattle.bz_slotted.specs.ReadingLaws.{node_of};
+ghost use Rattle.bz_slotted.specs.Readers.{found_of};
 ghost use Rattle.bz_slotted.specs.Records.{records as records_of};
 ghost use Rattle.bz_slotted.specs.Rules.{node_fault};
 ghost use Rattle.bz_task.specs.Good.{IsGood};
 ghost use Rattle.bz_task.specs.Outcomes.{IsView};
 ghost use Rattle.bz_task.specs.Scene.{Past};
-ghost use Rattle.bz_page.specs.Pages.{IsLeafByItself, AreRecordsFrom, IsPageOf};
+ghost use Rattle.bz_page.specs.Pages.{IsLeafByItself, AreRecordsFrom, IsPageOf, payload_for};
 
-use bz_key::{Key, PageBuf};
+use bz_key::{Key, PageBuf, Payload};
 use bz_node::NodeImage;
 use bz_task::{LeafView, laws};
 
@@ -25,7 +27,7 @@ fn is_whole(image: &NodeImage)
 /// answers the leaf's high fence: the key with which the next page begins, or none where no page comes next.
 pub fn collect(view: &LeafView, from: &Key, out: &mut PageBuf) -> Option<Key>
     requires { IsLeafByItself view.now.image.0 }
-    ensures records { AreRecordsFrom from.now (records_of (page (node_of view.now.image.0))) out.new }
+    ensures records { AreRecordsFrom from.now (records_of (page_of (node_of view.now.image.0))) out.new }
     ensures high { (nodes : ℕ) (low high : Option (List ℕ)) → node_fault nodes (node_of view.now.image.0) (node_of view.now.image.0) 0 low high ≡ None → result ≡ high }
     // Where the view is one of this key, the page is that of the image at the view's moment.
     ensures page { (p : Past) → IsView from.now view.now p → IsGood p.config (p.at view.now.at) → IsPageOf p.config (p.at view.now.at).image from.now out.new result }
@@ -43,4 +45,33 @@ pub fn collect(view: &LeafView, from: &Key, out: &mut PageBuf) -> Option<Key>
     view.image.records(out);
     out.drop_before(from);
     view.image.high()
+}
+
+/// The payload of a key in a leaf, if the leaf has the key. What was read for it is left in `page`.
+pub fn find(view: &LeafView, key: &Key, page: &mut PageBuf) -> Option<Payload>
+    requires { IsLeafByItself view.now.image.0 }
+    ensures found { result ≡ found_of (node_of view.now.image.0) key.now }
+    // Where the view is one of this key, it is what the image holds for it at the view's moment.
+    ensures content { (p : Past) → IsView key.now view.now p → IsGood p.config (p.at view.now.at) → content_in p.config (p.at view.now.at).image key.now ≡ result }
+{
+    is_whole(&view.image);
+    laws::leaves_are_in_trees();
+    laws::seen_leaves_are_whole();
+    laws::same_records_show_the_same();
+    bz_content::laws::well_formed_images_have_no_fault();
+    bz_shape::laws::leaves_tile_the_keys();
+    bz_slotted::laws::leaf_rules_are_facts();
+    bz_slotted::laws::whole_leaves_are_readable();
+    collect(view, key, page);
+    first_of(page.pairs(), key)
+}
+
+// The payload of the first pair, where it is one of the key.
+fn first_of(pairs: &[(Key, Payload)], key: &Key) -> Option<Payload>
+    ensures { result ≡ payload_for key.now (slice_get pairs.now 0) }
+{
+    match pairs.first() {
+        Some((first, payload)) if first == key => Some(*payload),
+        _ => None,
+    }
 }

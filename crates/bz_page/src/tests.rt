@@ -1,7 +1,8 @@
-//! Pages of an empty leaf, of a sorted one with and without fences, and of one with reserved, deleted and unsorted records.
+//! Pages and look-ups of an empty leaf, of a sorted one with and without fences, and of one with reserved, deleted and unsorted
+//! records.
 ghost use Rattle.bz_page.specs.Pages.{IsLeafByItself};
 
-use crate::collect;
+use crate::{collect, find};
 use bz_key::{Key, PageBuf, Payload};
 use bz_node::NodeImage;
 use bz_slotted::{Place, node_fault};
@@ -145,5 +146,54 @@ fn shows_nothing_of_an_empty_leaf(rt: HostRuntime) -> Result<(), Fail> {
     page.push(key, payload);
     assert_eq!(rt; collect(&empty, &key, &mut page), None);
     assert!(rt; page.pairs().is_empty());
+    Ok(())
+}
+
+/// A key, and the payload that the leaf of b, 1 and d, 2 and f, 3 has for it.
+#[derive(Clone, Copy)]
+struct Sought {
+    key: &'static [u8],
+    payload: Option<&'static [u8]>,
+}
+
+const SOUGHT: [Sought; 6] = [
+    Sought {
+        key: b"a",
+        payload: None,
+    },
+    Sought {
+        key: b"b",
+        payload: Some(b"1"),
+    },
+    Sought {
+        key: b"c",
+        payload: None,
+    },
+    Sought {
+        key: b"d",
+        payload: Some(b"2"),
+    },
+    Sought {
+        key: b"f",
+        payload: Some(b"3"),
+    },
+    Sought {
+        key: b"fa",
+        payload: None,
+    },
+];
+
+#[test]
+fn finds_what_a_leaf_has(rt: HostRuntime) -> Result<(), Fail> {
+    let mixed = view_of(&rt, &mixed_leaf(), None, None);
+    let mut page = PageBuf::open(rt.alloc())?;
+    for sought in SOUGHT {
+        let payload = match sought.payload {
+            Some(bytes) => Some(Payload::of(bytes)?),
+            None => None,
+        };
+        let found = find(&mixed, &Key::of(sought.key)?, &mut page);
+        assert_eq!(rt; found, payload);
+    }
     Ok(())
 }
