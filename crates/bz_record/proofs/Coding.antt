@@ -20,7 +20,7 @@ use Rattle.bz_record.specs.Swaps.{status_reserved, status_published}
 use Rattle.bz_record.specs.declared.new_record.NewRecord.{NewRecord}
 
 -- what a lawful metadata word says
-says : (x : ℕ) → IsMetaWord x → meta_of x ≡ meta x
+pub says : (x : ℕ) → IsMetaWord x → meta_of x ≡ meta x
 unfolding meta_of
 says x h = let t : is_meta_word x ≡ true = grind (arith, nat_tests, h.control, h.lengths, h.offset) in rw t refl
 

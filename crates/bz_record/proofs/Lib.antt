@@ -10,3 +10,5 @@ mod Reading
 mod Publishing
 mod Writing
 mod AskingBoth
+mod Found
+mod Removing

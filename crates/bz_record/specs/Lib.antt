@@ -4,3 +4,5 @@ pub mod Leaves
 pub mod Writing
 pub mod Written
 pub mod Laws
+pub mod Replacing
+pub mod ReplacingLaws

@@ -2,6 +2,7 @@
 
 ghost use Rattle.bz_record.specs.Laws.{LeavesStay, ViewsShowLeaves, LeavesWere, RecordSwapsMayBeAsked, NewRecordSwapsMayBeAsked, ReservationsAreGood, ReservationsTakeWords, RewritesAreGood, PublicationsAreGood};
 ghost use Rattle.bz_record.specs.Writing.{RecordsAreWritten};
+ghost use Rattle.bz_record.specs.ReplacingLaws.{RemovalsAreGood};
 
 use bz_task::laws;
 
@@ -115,4 +116,16 @@ pub fn publications_are_good()
     bz_word::laws::statuses();
     bz_word::laws::metas();
     bz_key::laws::packing_is_small();
+}
+
+/// A removal is lawful for everybody, and deletes the key.
+pub fn removals_are_good()
+    ensures { RemovalsAreGood }
+{
+    leaves_stay();
+    rewrites_are_good();
+    laws::swaps_show_in_slots();
+    bz_slotted::laws::leaf_rules_are_facts();
+    bz_word::laws::statuses();
+    bz_word::laws::metas();
 }
