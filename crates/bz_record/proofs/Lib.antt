@@ -12,3 +12,4 @@ mod Writing
 mod AskingBoth
 mod Found
 mod Removing
+mod Growing

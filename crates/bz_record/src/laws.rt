@@ -2,7 +2,7 @@
 
 ghost use Rattle.bz_record.specs.Laws.{LeavesStay, ViewsShowLeaves, LeavesWere, RecordSwapsMayBeAsked, NewRecordSwapsMayBeAsked, ReservationsAreGood, ReservationsTakeWords, RewritesAreGood, PublicationsAreGood};
 ghost use Rattle.bz_record.specs.Writing.{RecordsAreWritten};
-ghost use Rattle.bz_record.specs.ReplacingLaws.{RemovalsAreGood};
+ghost use Rattle.bz_record.specs.ReplacingLaws.{RemovalsAreGood, GrowthsAreGood};
 
 use bz_task::laws;
 
@@ -128,4 +128,15 @@ pub fn removals_are_good()
     bz_slotted::laws::leaf_rules_are_facts();
     bz_word::laws::statuses();
     bz_word::laws::metas();
+}
+
+/// The first swap of an update is lawful for everybody, and changes no content.
+pub fn growths_are_good()
+    ensures { GrowthsAreGood }
+{
+    leaves_stay();
+    laws::swaps_show_in_slots();
+    laws::leaf_swaps_are_good();
+    bz_slotted::laws::growth_is_quiet();
+    bz_word::laws::statuses();
 }
