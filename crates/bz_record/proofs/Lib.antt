@@ -13,3 +13,4 @@ mod AskingBoth
 mod Found
 mod Removing
 mod Growing
+mod Replacing

@@ -49,7 +49,7 @@ pub record Laws : Type 0 where
   pub metas : IsCodec Meta IsMeta IsMetaWord meta_word meta
   pub small : PackingIsSmall
 
-node-at : (c : Config) (f : ℕ → ℕ) (k i : ℕ) → i < NODE_WORDS → node c f k i ≡ f (node_address c k + i)
+pub node-at : (c : Config) (f : ℕ → ℕ) (k i : ℕ) → i < NODE_WORDS → node c f k i ≡ f (node_address c k + i)
 unfolding node
 node-at c f k i l = let t : nat_lt i NODE_WORDS ≡ true = grind (arith, nat_tests) in rw t refl
 

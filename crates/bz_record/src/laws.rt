@@ -2,7 +2,7 @@
 
 ghost use Rattle.bz_record.specs.Laws.{LeavesStay, ViewsShowLeaves, LeavesWere, RecordSwapsMayBeAsked, NewRecordSwapsMayBeAsked, ReservationsAreGood, ReservationsTakeWords, RewritesAreGood, PublicationsAreGood};
 ghost use Rattle.bz_record.specs.Writing.{RecordsAreWritten};
-ghost use Rattle.bz_record.specs.ReplacingLaws.{RemovalsAreGood, GrowthsAreGood};
+ghost use Rattle.bz_record.specs.ReplacingLaws.{RemovalsAreGood, GrowthsAreGood, ReplacementsAreGood};
 
 use bz_task::laws;
 
@@ -139,4 +139,18 @@ pub fn growths_are_good()
     laws::leaf_swaps_are_good();
     bz_slotted::laws::growth_is_quiet();
     bz_word::laws::statuses();
+}
+
+/// The second swap of an update is lawful for everybody, and updates the key.
+pub fn replacements_are_good()
+    ensures { ReplacementsAreGood }
+{
+    leaves_stay();
+    rewrites_are_good();
+    laws::swaps_show_in_slots();
+    bz_content::laws::plain_words_stand_for_themselves();
+    bz_slotted::laws::leaf_rules_are_facts();
+    bz_word::laws::statuses();
+    bz_word::laws::metas();
+    bz_key::laws::packing_is_small();
 }
