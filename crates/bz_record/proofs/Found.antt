@@ -24,7 +24,7 @@ use Rattle.bz_record.specs.Swaps.{counted_status}
 use Rattle.bz_record.proofs.Coding.{says, visible-shown, visible-extent}
 
 -- words that are the same
-words_at-same : (n m : ℕ → ℕ) (from count : ℕ) → ((i : ℕ) → from ≤ i → i < from + count → n i ≡ m i) → words_at n from count ≡ words_at m from count
+pub words_at-same : (n m : ℕ → ℕ) (from count : ℕ) → ((i : ℕ) → from ≤ i → i < from + count → n i ≡ m i) → words_at n from count ≡ words_at m from count
 unfolding words_at
 words_at-same n m from count h =
     ext_get_or 0 _ _ (length-map-range_with_len n from count ∙ sym (length-map-range_with_len m from count)) (λ i l.

@@ -14,3 +14,6 @@ mod Found
 mod Removing
 mod Growing
 mod Replacing
+mod GrownWords
+mod Changing
+mod Remembering

@@ -32,18 +32,18 @@ use Rattle.bz_record.proofs.Entries.{sets-meta}
 use Rattle.bz_record.proofs.Leaves.{held-visible}
 use Rattle.bz_record.proofs.Reserved.{Laws, place, same, is, others, count-is, block-is, count-was, count-durable, block-durable, alike, record-before}
 
-or-right : (a b : Bool) → b ≡ true → a || b ≡ true
+pub or-right : (a b : Bool) → b ≡ true → a || b ≡ true
 or-right true b h = refl
 or-right false b h = h
 
-or-left : (a b : Bool) → a ≡ true → a || b ≡ true
+pub or-left : (a b : Bool) → a ≡ true → a || b ≡ true
 or-left a b h = rw h refl
 
 and-four : (a b c d : Bool) → a ≡ true → b ≡ true → c ≡ true → d ≡ true → (a && (b && (c && d))) ≡ true
 and-four a b c d e f g h = rw (e, f, g, h) refl
 
 -- an entry of a status by which the block takes a word
-grows : (c : Config) (e : Entry) (k o : ℕ) → o < NODE_WORDS → e.target ≡ node_address c k + STATUS_AT → NODE_WORDS ≤ o + (status e.new).block → o + (status e.expected).block < NODE_WORDS → grows_over c e (node_address c k + o) ≡ true
+pub grows : (c : Config) (e : Entry) (k o : ℕ) → o < NODE_WORDS → e.target ≡ node_address c k + STATUS_AT → NODE_WORDS ≤ o + (status e.new).block → o + (status e.expected).block < NODE_WORDS → grows_over c e (node_address c k + o) ≡ true
 grows c e k o l at new old =
     let slot : slot_of c (node_address c k + o) ≡ k = omega arith in
     let word : node_word_of c (node_address c k + o) ≡ o = omega arith in

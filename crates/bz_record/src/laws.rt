@@ -2,7 +2,7 @@
 
 ghost use Rattle.bz_record.specs.Laws.{LeavesStay, ViewsShowLeaves, LeavesWere, RecordSwapsMayBeAsked, NewRecordSwapsMayBeAsked, ReservationsAreGood, ReservationsTakeWords, RewritesAreGood, PublicationsAreGood};
 ghost use Rattle.bz_record.specs.Writing.{RecordsAreWritten};
-ghost use Rattle.bz_record.specs.ReplacingLaws.{RemovalsAreGood, GrowthsAreGood, ReplacementsAreGood};
+ghost use Rattle.bz_record.specs.ReplacingLaws.{RecordsWere, RemovalsAreGood, GrowthsAreGood, GrowthsTakeWords, ReplacementsAreGood, ChangesMayBeAsked};
 
 use bz_task::laws;
 
@@ -150,6 +150,39 @@ pub fn replacements_are_good()
     laws::swaps_show_in_slots();
     bz_content::laws::plain_words_stand_for_themselves();
     bz_slotted::laws::leaf_rules_are_facts();
+    bz_word::laws::statuses();
+    bz_word::laws::metas();
+    bz_key::laws::packing_is_small();
+}
+
+/// What a record of a leaf was, it was.
+pub fn records_were()
+    ensures { RecordsWere }
+{
+    leaves_were();
+}
+
+/// After the first swap of an update the record's words are the worker's own, and the old record stands.
+pub fn growths_take_words()
+    ensures { GrowthsTakeWords }
+{
+    leaves_stay();
+    records_were();
+    laws::swaps_show_in_slots();
+    laws::ranges_stay();
+    bz_layout::slots_apart();
+    bz_slotted::laws::leaf_rules_are_facts();
+    bz_slotted::laws::growth_is_quiet();
+    bz_word::laws::statuses();
+    bz_word::laws::metas();
+}
+
+/// The swaps of an update and of a delete may be asked for.
+pub fn changes_may_be_asked()
+    ensures { ChangesMayBeAsked }
+{
+    record_swaps_may_be_asked();
+    laws::fronts_stay();
     bz_word::laws::statuses();
     bz_word::laws::metas();
     bz_key::laws::packing_is_small();
