@@ -4,6 +4,8 @@
 pub mod laws;
 mod new_record;
 mod record_swap;
+#[cfg(test)]
+mod tests;
 
 pub use new_record::NewRecord;
 pub use record_swap::RecordSwap;

@@ -181,7 +181,7 @@ impl NewRecord {
 }
 
 // The status of a plain word.
-fn status_of(word: u64) -> Status
+pub(crate) fn status_of(word: u64) -> Status
     requires { word < 2 ^ 61 }
     ensures status { result ≡ status word }
     ensures lawful { IsStatus result }
