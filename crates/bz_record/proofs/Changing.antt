@@ -1,5 +1,5 @@
 -- The swaps of an update and of a delete may be asked for.
-use Rattle.std.proofs.Common.{◌≡◌, ℕ, ◌+◌, ◌^◌, ◌<◌, ◌≤◌, true, [], arith, refl, ap, inl, inr}
+use Rattle.std.proofs.Common.{◌≡◌, ℕ, ◌+◌, true, [], arith, refl, inl, inr}
 use Rattle.std.proofs.lemmas.List.Elements.{All-cons}
 use Rattle.bz_key.specs.Laws.{PackingIsSmall}
 use Rattle.bz_node.specs.Reading.{words_of}
@@ -17,11 +17,9 @@ use Rattle.bz_record.specs.Laws.{RecordSwapsMayBeAsked}
 use Rattle.bz_record.specs.Leaves.{WasLeaf}
 use Rattle.bz_record.specs.Replacing.{status_grown, growth, replacement, removal}
 use Rattle.bz_record.specs.ReplacingLaws.{ChangesMayBeAsked}
-use Rattle.bz_record.specs.Records.{Fits}
-use Rattle.bz_record.specs.declared.new_record.NewRecord.{NewRecord}
 use Rattle.bz_record.proofs.Coding.{visible-meta-plain}
 use Rattle.bz_record.proofs.Found.{counted-plain, visible-plain, deleted-plain}
-use Rattle.bz_record.proofs.Growing.{grown-plain, grown-reads}
+use Rattle.bz_record.proofs.Growing.{grown-plain}
 
 -- a slot that was a leaf of the tree is still reached
 still-reached : FrontsStay → (s : Scene) (k st moment : ℕ) → IsScene s → WasLeaf k st moment s.past → (here s).reached k ≡ true

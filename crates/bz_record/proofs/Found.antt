@@ -1,11 +1,11 @@
 -- A record that a leaf had at a place is there while the leaf's status is the one that was read.
-use Rattle.std.proofs.Common.{◌≡◌, ◌≢◌, ℕ, ◌+◌, ◌-◌, ◌^◌, ◌<◌, ◌≤◌, Bool, true, false, List, arith, refl, sym, ap, subst, ◌∙◌, inl, inr}
+use Rattle.std.proofs.Common.{◌≡◌, ℕ, ◌+◌, ◌-◌, ◌^◌, ◌<◌, ◌≤◌, true, List, arith, refl, sym, ap, subst, ◌∙◌, inl, inr}
 use Rattle.std.proofs.lemmas.List.{ext_get_or}
 use Rattle.std.proofs.lemmas.List.FromFn.{length-map-range_with_len, get_or-map-range_with_len}
 use Rattle.bz_key.specs.Packing.{packed_len, unpacked}
 use Rattle.bz_layout.specs.declared.sizes.TheConstants.{STATUS_AT, META_AT}
 use Rattle.bz_slotted.specs.Page.{words_at, meta_of, visible, extent_of, page}
-use Rattle.bz_slotted.specs.Records.{key_words, key_in, key_at, weight}
+use Rattle.bz_slotted.specs.Records.{key_in, key_at}
 use Rattle.bz_word.specs.Metas.{meta_word, meta, IsMeta, IsMetaWord, IsExtent}
 use Rattle.bz_word.specs.Statements.{IsCodec}
 use Rattle.bz_word.specs.Statuses.{status_word, status, IsStatus, IsStatusWord}
@@ -14,9 +14,8 @@ use Rattle.bz_word.specs.declared.meta.Meta.{Meta}
 use Rattle.bz_word.specs.declared.meta.Meta.TheVariants.{Visible, Deleted}
 use Rattle.bz_word.specs.declared.status.Status.{Status}
 use Rattle.bz_task.specs.Good.{IsGood}
-use Rattle.bz_task.specs.Instant.{Instant, words, durable}
+use Rattle.bz_task.specs.Instant.{words, durable}
 use Rattle.bz_task.specs.Scene.{Scene, IsScene, here}
-use Rattle.bz_task.specs.Shown.{IsShown}
 use Rattle.bz_task.specs.Steps.{next_stamp}
 use Rattle.bz_record.specs.Laws.{SameLeaf}
 use Rattle.bz_record.specs.Replacing.{WasRecord}

@@ -1,5 +1,5 @@
 -- After the first swap of an update the record's words are the worker's own, and the old record stands as it stood.
-use Rattle.std.proofs.Common.{◌≡◌, ◌≢◌, ℕ, ◌+◌, ◌^◌, ◌<◌, ◌≤◌, ◌||◌, Bool, true, false, List, [], ◌∷◌, arith, refl, sym, ap, subst, ◌∙◌, inl, inr}
+use Rattle.std.proofs.Common.{◌≡◌, ◌≢◌, ℕ, ◌+◌, ◌<◌, ◌≤◌, true, false, List, [], ◌∷◌, arith, refl, sym, ap, subst, ◌∙◌, inl, inr}
 use Rattle.std.specs.Prelude.{Some}
 use Rattle.std.proofs.lemmas.Bool.{true≢false}
 use Rattle.bz_key.specs.Packing.{packed_len, unpacked}
@@ -19,20 +19,20 @@ use Rattle.bz_word.specs.declared.meta.Meta.{Meta}
 use Rattle.bz_word.specs.declared.meta.Meta.TheVariants.{Visible}
 use Rattle.bz_content.specs.Image.{node}
 use Rattle.bz_task.specs.Good.{IsGood}
-use Rattle.bz_task.specs.Instant.{Instant, words, durable, page_at, form_at, is_inside}
+use Rattle.bz_task.specs.Instant.{words, durable, page_at, form_at, is_inside}
 use Rattle.bz_task.specs.Laws.{RangesStay, SamePlace}
 use Rattle.bz_task.specs.Scene.{Scene, IsMine, IsScene, here}
 use Rattle.bz_task.specs.Shown.{IsOfRecord, IsShown}
 use Rattle.bz_task.specs.Swaps.{Stand, grows_over, reserves as is_reserved, Takes}
 use Rattle.bz_record.specs.Laws.{SameLeaf}
-use Rattle.bz_record.specs.Leaves.{WasLeaf, WasLeafOf}
+use Rattle.bz_record.specs.Leaves.{WasLeafOf}
 use Rattle.bz_record.specs.Records.{size_of, offset_of, address_of, Fits}
-use Rattle.bz_record.specs.Replacing.{growth, status_grown, WasRecord, WasGrown}
+use Rattle.bz_record.specs.Replacing.{growth, status_grown, WasRecord}
 use Rattle.bz_record.specs.ReplacingLaws.{RecordsWere, IsGrown, GrowthsTakeWords}
 use Rattle.bz_record.specs.declared.new_record.NewRecord.{NewRecord}
 use Rattle.bz_record.proofs.Coding.{visible-extent}
 use Rattle.bz_record.proofs.Found.{words_at-same, now-meta, now-says, now-key}
-use Rattle.bz_record.proofs.Growing.{Laws, grown-plain, grown-reads, was, same, is, others, durable-others, count-was, count-is, block-is, count-durable, block-durable, level-same, alike}
+use Rattle.bz_record.proofs.Growing.{Laws, grown-plain, grown-reads, same, is, others, durable-others, count-was, count-is, block-is, count-durable, block-durable, level-same, alike}
 use Rattle.bz_record.proofs.Leaves.{held-visible}
 use Rattle.bz_record.proofs.Reserved.{of-record}
 use Rattle.bz_record.proofs.Taking.{grows, or-left, or-right}

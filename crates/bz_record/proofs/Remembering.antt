@@ -12,9 +12,8 @@ use Rattle.bz_word.specs.declared.meta.Meta.TheVariants.{Visible}
 use Rattle.bz_task.specs.Instant.{Instant, words, durable}
 use Rattle.bz_task.specs.Scene.{Past, Continues}
 use Rattle.bz_record.specs.Laws.{LeavesWere}
-use Rattle.bz_record.specs.Replacing.{status_grown, WasRecord, WasGrown}
+use Rattle.bz_record.specs.Replacing.{status_grown, WasRecord}
 use Rattle.bz_record.specs.ReplacingLaws.{RecordsWere}
-use Rattle.bz_record.specs.declared.new_record.NewRecord.{NewRecord}
 
 -- what held of the sizes and the memory at a past moment
 moved : (p q : Past) → Continues p q → (P : Config → Instant → Type 0) (m : ℕ) → m ≤ p.now → P p.config (p.at m) → P q.config (q.at m)

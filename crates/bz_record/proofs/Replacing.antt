@@ -1,11 +1,9 @@
 -- The second swap of an update is a rewrite of its key's record.
-use Rattle.std.proofs.Common.{◌≡◌, ◌≢◌, ℕ, ◌+◌, ◌-◌, ◌^◌, ◌<◌, ◌≤◌, ◌⊎◌, Bool, true, false, List, arith, refl, sym, ap, subst, ◌∙◌, inl, inr}
-use Rattle.std.specs.Prelude.{Some, nat_lt}
+use Rattle.std.proofs.Common.{◌≡◌, ℕ, ◌+◌, ◌-◌, ◌^◌, ◌<◌, ◌≤◌, true, false, List, arith, sym, ap, subst, ◌∙◌, inl, inr}
+use Rattle.std.specs.Prelude.{Some}
 use Rattle.std.proofs.lemmas.Bool.{true≢false}
-use Rattle.std.proofs.lemmas.Bool.Decides.{nat_tests}
 use Rattle.bz_key.specs.Laws.{PackingIsSmall}
 use Rattle.bz_layout.specs.Addresses.{node_address}
-use Rattle.bz_layout.specs.declared.config.Config.{Config}
 use Rattle.bz_layout.specs.declared.sizes.TheConstants.{NODE_WORDS, STATUS_AT, META_AT}
 use Rattle.bz_node.specs.Reading.{words_of}
 use Rattle.bz_slotted.specs.Laws.{LeafRulesAreFacts}
@@ -23,20 +21,20 @@ use Rattle.bz_content.specs.Image.{node}
 use Rattle.bz_content.specs.Laws.{PlainWordsStandForThemselves}
 use Rattle.bz_content.specs.Resolving.{resolve}
 use Rattle.bz_task.specs.Good.{IsGood}
-use Rattle.bz_task.specs.Instant.{Instant, words, durable, form_at}
+use Rattle.bz_task.specs.Instant.{Instant, durable, form_at}
 use Rattle.bz_task.specs.Laws.{SwapsShowInSlots}
 use Rattle.bz_task.specs.Scene.{Scene, IsScene, here}
 use Rattle.bz_task.specs.Steps.{next_stamp}
 use Rattle.bz_task.specs.Swaps.{Stand, SwapsTo, IsMineAndDurable}
 use Rattle.bz_record.specs.Laws.{SameLeaf, LeavesStay, IsRewriteOf, IsRewrite, RewritesAreGood}
 use Rattle.bz_record.specs.Records.{size_of, offset_of, place_of, address_of, Fits}
-use Rattle.bz_record.specs.Replacing.{status_grown, replacement, WasRecord, WasGrown}
+use Rattle.bz_record.specs.Replacing.{status_grown, replacement, WasGrown}
 use Rattle.bz_record.specs.ReplacingLaws.{updates, ReplacementsAreGood}
 use Rattle.bz_record.specs.Swaps.{entries_of}
 use Rattle.bz_record.specs.Writing.{HasWritten}
 use Rattle.bz_record.specs.declared.new_record.NewRecord.{NewRecord}
-use Rattle.bz_record.proofs.Coding.{visible-says, visible-meta-plain, sizes-agree, visible-held, visible-shown, visible-used, visible-extent, leaf-record}
-use Rattle.bz_record.proofs.Entries.{same-now, good-now, durable-status-now}
+use Rattle.bz_record.proofs.Coding.{visible-says, sizes-agree, visible-shown, visible-used, visible-extent, leaf-record}
+use Rattle.bz_record.proofs.Entries.{same-now, durable-status-now}
 use Rattle.bz_record.proofs.Found.{counted-plain, counted-reads, visible-reads, now-says, now-key}
 use Rattle.bz_record.proofs.Growing.{grown-plain, grown-reads}
 use Rattle.bz_record.proofs.Publishing.{node-at}
