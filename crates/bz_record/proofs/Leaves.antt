@@ -1,5 +1,5 @@
 -- A leaf that was not frozen is as it was while its status is the one that was read, and a view shows such a leaf.
-use Rattle.std.proofs.Common.{◌≡◌, ℕ, ◌<◌, ◌≤◌, ◌&&◌, Bool, true, false, List, arith, refl, sym, ap, subst, ◌∙◌, inl, inr, Option}
+use Rattle.std.proofs.Common.{◌≡◌, ℕ, ◌<◌, ◌+◌, ◌≤◌, ◌&&◌, Bool, true, false, List, arith, refl, sym, ap, subst, ◌∙◌, inl, inr, Option}
 use Rattle.bz_layout.specs.declared.config.Config.{Config}
 use Rattle.bz_layout.specs.declared.sizes.TheConstants.{NODE_WORDS, STATUS_AT}
 use Rattle.bz_shape.specs.Form.{Holds}
@@ -105,12 +105,12 @@ module _ (leaves : LeavesAreInTrees) (shown : SameRecordsShowTheSame) (seen : Se
   whole : Whole (node s.past.config (s.past.at view.at).image view.slot) (page (durable s.past.config (s.past.at view.at) view.slot)) ((form_at s.past.config (s.past.at view.at)).low view.slot) ((form_at s.past.config (s.past.at view.at)).high view.slot)
   whole = (rules s.past.config.nodes (node s.past.config (s.past.at view.at).image view.slot) (durable s.past.config (s.past.at view.at) view.slot) _ _).0 leaf.whole
 
-  durable-view : SameWords (durable s.past.config (s.past.at view.at) view.slot) (node_of view.image.0)
+  pub durable-view : SameWords (durable s.past.config (s.past.at view.at) view.slot) (node_of view.image.0)
   durable-view i h =
       let a : IsShown (words s.past.config (s.past.at view.at) view.slot) i = (shown _ _ (same-records _ _ (durable-same s.past.config (s.past.at view.at) view.slot view-good leaf.reached)) i).1 h in
       v.words i (shown-within _ _ _ _ whole i h) a ∙ sym (view-good.shown view.slot i leaf.reached a)
 
-  durable-status : durable s.past.config (s.past.at view.at) view.slot STATUS_AT ≡ view.status
+  pub durable-status : durable s.past.config (s.past.at view.at) view.slot STATUS_AT ≡ view.status
   durable-status = view-good.shown view.slot STATUS_AT leaf.reached (inl (omega arith)) ∙ v.status
 
   viewed : IsViewed key view s.past
@@ -121,6 +121,7 @@ module _ (leaves : LeavesAreInTrees) (shown : SameRecordsShowTheSame) (seen : Se
       found = sym ((seen s.past.config.nodes (node s.past.config (s.past.at view.at).image view.slot) (durable s.past.config (s.past.at view.at) view.slot) (node_of view.image.0) _ _ leaf.whole durable-view).found key);
     };
     dead = subst (λ z. (status z).dead ≤ (status z).block) durable-status (omega (arith, whole.filled.dead));
+    room = subst (λ z. (status z).count + (status z).block ≤ 118) durable-status whole.filled.room;
   }
 
 pub views-show : LeavesAreInTrees → SameRecordsShowTheSame → SeenLeavesAreWhole → LeafRulesAreFacts → WellFormedImagesHaveNoFault → LeavesTileTheKeys → ViewsShowLeaves

@@ -17,3 +17,6 @@ mod Replacing
 mod GrownWords
 mod Changing
 mod Remembering
+mod Finding
+mod Viewing
+mod Said

@@ -45,6 +45,7 @@ LeavesStay =
 pub record IsViewed (key : List ℕ) (view : LeafView) (p : Past) : Type 0 where
   pub leaf : WasLeafOf key (found_of (node_of view.image.0) key) view.slot view.status view.at p
   pub dead : (status view.status).dead ≤ (status view.status).block
+  pub room : (status view.status).count + (status view.status).block ≤ SHARED_WORDS
 
 abbrev pub ViewsShowLeaves : Type 0
 ViewsShowLeaves = (key : List ℕ) (view : LeafView) (s : Scene) → IsScene s → IsView key view s.past → IsViewed key view s.past

@@ -5,4 +5,5 @@ pub mod Writing
 pub mod Written
 pub mod Laws
 pub mod Replacing
+pub mod Finding
 pub mod ReplacingLaws

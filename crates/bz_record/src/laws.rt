@@ -2,7 +2,7 @@
 
 ghost use Rattle.bz_record.specs.Laws.{LeavesStay, ViewsShowLeaves, LeavesWere, RecordSwapsMayBeAsked, NewRecordSwapsMayBeAsked, ReservationsAreGood, ReservationsTakeWords, RewritesAreGood, PublicationsAreGood};
 ghost use Rattle.bz_record.specs.Writing.{RecordsAreWritten};
-ghost use Rattle.bz_record.specs.ReplacingLaws.{RecordsWere, RemovalsAreGood, GrowthsAreGood, GrowthsTakeWords, ReplacementsAreGood, ChangesMayBeAsked};
+ghost use Rattle.bz_record.specs.ReplacingLaws.{RecordsWere, RemovalsAreGood, GrowthsAreGood, GrowthsTakeWords, ReplacementsAreGood, ChangesMayBeAsked, ViewsShowRecords, SaidKeysAreFound};
 
 use bz_task::laws;
 
@@ -186,4 +186,25 @@ pub fn changes_may_be_asked()
     bz_word::laws::statuses();
     bz_word::laws::metas();
     bz_key::laws::packing_is_small();
+}
+
+/// A record that is found in a view is one of its key's leaf.
+pub fn views_show_records()
+    ensures { ViewsShowRecords }
+{
+    views_show_leaves();
+    laws::leaves_are_in_trees();
+    laws::same_records_show_the_same();
+    laws::seen_leaves_are_whole();
+    bz_slotted::laws::leaf_rules_are_facts();
+    bz_content::laws::well_formed_images_have_no_fault();
+    bz_shape::laws::leaves_tile_the_keys();
+    bz_word::laws::metas();
+}
+
+/// Where a view says something of a key, one of its records is found.
+pub fn said_keys_are_found()
+    ensures { SaidKeysAreFound }
+{
+    bz_slotted::laws::leaf_rules_are_facts();
 }
