@@ -1,0 +1,6 @@
+use Rattle.bz_mutate.proofs.Acting.{effect}
+use Rattle.bz_mutate.proofs.change.ChangeTask.acted.Goals as goal
+
+pub returns-clause-effect : goal.returns-clause-effect
+returns-clause-effect c s y entries same facts good asks stand swaps =
+    let t = c.args.self.now in effect c.removals_are_good.ensures t.config t.key t.view t.phase s y entries same facts good asks stand swaps
