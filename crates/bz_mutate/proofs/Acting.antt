@@ -1,5 +1,5 @@
 -- What a delete asks for may be asked for, and what its swap leads to.
-use Rattle.std.proofs.Common.{◌≡◌, ℕ, true, false, List, sym, ap, subst, ◌∙◌}
+use Rattle.std.proofs.Common.{◌≡◌, ℕ, true, List, sym, ap, subst, ◌∙◌}
 use Rattle.std.specs.Prelude.{Some, None}
 use Rattle.bz_layout.specs.declared.config.Config.{Config}
 use Rattle.bz_word.specs.declared.entry.Entry.{Entry}

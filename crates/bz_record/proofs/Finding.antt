@@ -1,6 +1,6 @@
 -- The key of a record, read from the words of a node.
-use Rattle.std.proofs.Common.{◌≡◌, ◌≢◌, ℕ, zero, suc, ◌+◌, ◌-◌, ◌^◌, ◌<◌, ◌≤◌, ◌&&◌, if◌then◌else◌, Bool, true, false, List, length, map, take, drop, arith, refl, sym, ap, subst, ◌∙◌, inl, inr, Option}
-use Rattle.std.specs.Prelude.{bytes_eq, get_or, Some, None, IsSome, slice_index, slice_range}
+use Rattle.std.proofs.Common.{◌≡◌, ℕ, ◌+◌, ◌-◌, ◌<◌, ◌≤◌, if◌then◌else◌, Bool, true, false, List, length, map, take, drop, arith, refl, sym, ap, subst, ◌∙◌, Option}
+use Rattle.std.specs.Prelude.{Some, None, IsSome, slice_range}
 use Rattle.std.specs.List.{range_with_len}
 use Rattle.std.proofs.lemmas.Bool.Decides.{nat_tests}
 use Rattle.std.proofs.lemmas.List.{ext_get_or, get_or-take, get_or-drop, length-take, length-drop}

@@ -1,11 +1,10 @@
 -- Where a view says something of a key, one of its records has it.
-use Rattle.std.proofs.Common.{◌≡◌, ◌≢◌, ℕ, zero, suc, ◌+◌, ◌<◌, ◌≤◌, ◌&&◌, if◌then◌else◌, Bool, true, false, List, arith, refl, sym, ap, subst, ◌∙◌, inl, Option}
+use Rattle.std.proofs.Common.{◌≡◌, ◌≢◌, ℕ, zero, suc, ◌<◌, ◌&&◌, if◌then◌else◌, Bool, true, false, List, arith, refl, ap, ◌∙◌, inl}
 use Rattle.std.specs.Prelude.{bytes_eq, Some, None}
-use Rattle.std.proofs.lemmas.Bool.{true≢false}
 use Rattle.std.proofs.lemmas.Slice.Eq.{bytes_eq-Decides}
 use Rattle.bz_layout.specs.declared.sizes.TheConstants.{STATUS_AT}
 use Rattle.bz_slotted.specs.Laws.{LeafRulesAreFacts}
-use Rattle.bz_slotted.specs.Page.{visible, held, extent_of, page}
+use Rattle.bz_slotted.specs.Page.{visible, extent_of, page}
 use Rattle.bz_slotted.specs.ReadingLaws.{node_of}
 use Rattle.bz_slotted.specs.Readers.{found_of}
 use Rattle.bz_slotted.specs.Records.{key_in, payload_in, search_to}
@@ -13,11 +12,7 @@ use Rattle.bz_slotted.specs.Whole.{Whole}
 use Rattle.bz_word.specs.Statuses.{status}
 use Rattle.bz_word.specs.declared.meta.Meta.{Meta}
 use Rattle.bz_word.specs.declared.meta.Meta.TheVariants.{Unused, Reserved, Visible, Deleted}
-use Rattle.bz_task.specs.Instant.{words, form_at}
-use Rattle.bz_task.specs.Outcomes.{IsView}
-use Rattle.bz_task.specs.Scene.{Scene, IsScene}
-use Rattle.bz_task.specs.declared.view.LeafView.{LeafView}
-use Rattle.bz_record.specs.Finding.{IsOtherAt}
+use Rattle.bz_task.specs.Instant.{form_at}
 use Rattle.bz_record.specs.ReplacingLaws.{SaidKeysAreFound}
 use Rattle.bz_record.proofs.Leaves.{held-visible}
 

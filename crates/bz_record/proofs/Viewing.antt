@@ -1,15 +1,15 @@
 -- A record that is found in a view is one of its key's leaf.
-use Rattle.std.proofs.Common.{◌≡◌, ◌≢◌, ℕ, ◌+◌, ◌-◌, ◌^◌, ◌<◌, ◌≤◌, Bool, true, false, List, arith, refl, sym, ap, subst, ◌∙◌, inl, inr}
+use Rattle.std.proofs.Common.{◌≡◌, ℕ, ◌+◌, ◌-◌, ◌<◌, ◌≤◌, List, arith, sym, ap, subst, ◌∙◌, inl, inr}
 use Rattle.std.specs.Prelude.{Some, slice_index}
 use Rattle.bz_key.specs.Packing.{packed_len, unpacked}
-use Rattle.bz_layout.specs.declared.sizes.TheConstants.{NODE_WORDS, STATUS_AT, META_AT}
+use Rattle.bz_layout.specs.declared.sizes.TheConstants.{STATUS_AT, META_AT}
 use Rattle.bz_node.specs.Reading.{words_of}
 use Rattle.bz_shape.specs.TreeLaws.{LeavesTileTheKeys}
 use Rattle.bz_slotted.specs.Laws.{LeafRulesAreFacts}
 use Rattle.bz_slotted.specs.Page.{meta_of, visible, held, extent_of, page}
 use Rattle.bz_slotted.specs.ReadingLaws.{node_of}
 use Rattle.bz_slotted.specs.Readers.{found_of}
-use Rattle.bz_slotted.specs.Records.{key_in, key_at, weight}
+use Rattle.bz_slotted.specs.Records.{key_in, key_at}
 use Rattle.bz_slotted.specs.Whole.{Whole, IsInBlock, IsLeafRecord}
 use Rattle.bz_word.specs.Metas.{meta_word, meta, IsMeta, IsMetaWord}
 use Rattle.bz_word.specs.Statements.{IsCodec}
@@ -18,10 +18,10 @@ use Rattle.bz_word.specs.declared.meta.Extent.{Extent}
 use Rattle.bz_word.specs.declared.meta.Meta.{Meta}
 use Rattle.bz_word.specs.declared.meta.Meta.TheVariants.{Visible}
 use Rattle.bz_content.specs.Laws.{WellFormedImagesHaveNoFault}
-use Rattle.bz_task.specs.Instant.{Instant, words, durable, form_at}
+use Rattle.bz_task.specs.Instant.{words, durable, form_at}
 use Rattle.bz_task.specs.Laws.{LeavesAreInTrees, SeenLeavesAreWhole, SameRecordsShowTheSame}
 use Rattle.bz_task.specs.Outcomes.{IsView}
-use Rattle.bz_task.specs.Scene.{Scene, IsScene, here}
+use Rattle.bz_task.specs.Scene.{Scene, IsScene}
 use Rattle.bz_task.specs.Shown.{SameWords}
 use Rattle.bz_task.specs.declared.view.LeafView.{LeafView}
 use Rattle.bz_record.specs.Finding.{IsKeyAt}

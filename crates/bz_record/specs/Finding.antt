@@ -1,5 +1,5 @@
 -- A record of a leaf that is found by its key.
-use Rattle.std.specs.Prelude.{◌≡◌, ◌≢◌, ℕ, ◌+◌, ◌<◌, ◌≤◌, List, IsSome, slice_index}
+use Rattle.std.specs.Prelude.{◌≡◌, ◌≢◌, ℕ, ◌+◌, ◌≤◌, List, IsSome, slice_index}
 use Rattle.bz_key.specs.Packing.{packed_len, unpacked_key}
 use Rattle.bz_layout.specs.declared.sizes.TheConstants.{NODE_WORDS, META_AT}
 use Rattle.bz_slotted.specs.Page.{meta_of}

@@ -1,4 +1,4 @@
-use Rattle.std.proofs.Common.{◌≡◌, ◌+◌, ◌≤◌, Some, subst, sym, ◌∙◌}
+use Rattle.std.proofs.Common.{◌≡◌, ◌+◌, ◌≤◌, subst}
 use Rattle.std.specs.Prelude.{IsSome, slice_index}
 use Rattle.bz_key.specs.Packing.{packed_len, unpacked_key}
 use Rattle.bz_layout.specs.declared.sizes.TheConstants.{META_AT}
