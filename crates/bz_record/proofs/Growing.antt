@@ -129,6 +129,7 @@ module _ (b : Laws) (s : Scene) (y : Instant) (r : NewRecord) (moment : ℕ) (go
     freeze = λ h. absurd (true≢false (sym h ∙ (field-is Bool (λ z. z.frozen) (words s.past.config y r.slot) is ∙ f.room.thawed)));
     inner = λ l. absurd (omega (arith, l, same.leaf.flat));
     count = omega (arith, count-was, count-is);
+    block = omega (arith, block-was, block-is);
     spare = λ e l. omega (arith, count-is, block-is, f.room.fits);
   }
 

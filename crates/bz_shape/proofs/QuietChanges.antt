@@ -1,5 +1,5 @@
 -- Where every reached slot says what it said, the tree is the same.
-use Rattle.std.proofs.Common.{◌≡◌, ◌≢◌, ℕ, ◌<◌, List, arith, refl, sym, ap, subst, ◌∙◌, inl, inr}
+use Rattle.std.proofs.Common.{◌≡◌, ℕ, List, arith, sym, ap, ◌∙◌, inl, inr}
 use Rattle.std.specs.Prelude.{None}
 use Rattle.std.proofs.lemmas.Bool.{cases_eq}
 use Rattle.bz_shape.proofs.Descents.{leaf-found, leaf-unique}
@@ -8,9 +8,9 @@ use Rattle.bz_shape.proofs.LeafSwaps.{stands-same, hangs-same}
 use Rattle.bz_shape.proofs.SameWalks.{walk-same}
 use Rattle.bz_shape.proofs.TreeForms.{fits}
 use Rattle.bz_shape.specs.Descent.{content, leaf_of}
-use Rattle.bz_shape.specs.Form.{Fits, Form, Hangs, Holds, IsHonest}
+use Rattle.bz_shape.specs.Form.{Fits, Form, Hangs, Holds}
 use Rattle.bz_shape.specs.Outcomes.{SameTree}
-use Rattle.bz_shape.specs.QuietSlots.{QuietSlots, SameLeaf}
+use Rattle.bz_shape.specs.QuietSlots.{QuietSlots}
 use Rattle.bz_shape.specs.Slots.{SameSlot}
 use Rattle.bz_shape.specs.SwapLaws.{QuietSlotsKeepTheTree}
 use Rattle.bz_shape.specs.View.{View}

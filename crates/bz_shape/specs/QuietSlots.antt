@@ -1,5 +1,5 @@
 -- A change by which every reached slot says what it said: of words that nobody reads, or of how words stand.
-use Rattle.std.specs.Prelude.{◌≡◌, ℕ, ◌<◌, true, List, None, Option}
+use Rattle.std.specs.Prelude.{◌≡◌, ℕ, ◌<◌, true, List, None}
 use Rattle.bz_shape.specs.View.{View}
 use Rattle.bz_shape.specs.Form.{Form}
 use Rattle.bz_shape.specs.Slots.{SameSlot, SameTop}

@@ -1,11 +1,10 @@
 -- Steps and evictions, told by what they do to the words.
-use Rattle.std.proofs.Common.{rules, ◌≡◌, ◌≢◌, ℕ, ◌+◌, ◌*◌, ◌/◌, ◌%◌, ◌<◌, ◌≤◌, ◌⊎◌, ◌==◌, if◌then◌else◌, Bool, true, false, List, length, slice_index, slice_set, arith, refl, sym, ap, subst, ◌∙◌, inl, inr, Option, Some, None}
+use Rattle.std.proofs.Common.{◌≡◌, ◌≢◌, ℕ, ◌+◌, ◌*◌, ◌/◌, ◌≤◌, ◌⊎◌, ◌==◌, if◌then◌else◌, Bool, true, false, List, length, slice_index, slice_set, arith, refl, sym, ap, subst, ◌∙◌, inl, inr, Option, Some, None}
 use Rattle.std.proofs.lemmas.Bool.{cases_eq, cases_lt}
 use Rattle.std.proofs.lemmas.Grind.{common_steps}
 use Rattle.std.proofs.lemmas.List.{get_or-set_same, get_or-set_other, get_or_past, length-set, take_all, drop_all, append-nil}
-use Rattle.bz_layout.specs.Addresses.{line_of}
 use Rattle.bz_layout.specs.declared.config.Config.{Config}
-use Rattle.bz_pm.specs.Acts.{with_range, with_line, flushed, stored, compared, evicted}
+use Rattle.bz_pm.specs.Acts.{with_range, with_line, flushed, stored}
 use Rattle.bz_pm.specs.Laws.{flush}
 use Rattle.bz_pm.specs.Words.{Words, IsMemory}
 use Rattle.bz_acts.specs.Rule.{IsActOf, after_act}
@@ -25,9 +24,8 @@ use Rattle.bz_swap.specs.Writes.{StoresPrivate, StoresOwn}
 use Rattle.bz_swap.specs.declared.phase.Phase.{Phase}
 use Rattle.bz_swap.specs.declared.phase.Phase.TheVariants.{Opened, Running, Recovering}
 use Rattle.bz_task.specs.Instant.{Instant}
-use Rattle.bz_sight.specs.Acts.{QuietStepsPass, StepsLeaveCaches, IsStoring, StoringStepsStore, IsFlushing, FlushingStepsFlush, EffectStepsTakePlace, EvictionsAreSeen}
-use Rattle.bz_sight.specs.Effects.{TakesPlace}
-use Rattle.bz_sight.specs.Passing.{SameRest, Passes, AllStay, StoresAt}
+use Rattle.bz_sight.specs.Acts.{QuietStepsPass, StepsLeaveCaches, StoringStepsStore, FlushingStepsFlush, EffectStepsTakePlace, EvictionsAreSeen}
+use Rattle.bz_sight.specs.Passing.{SameRest}
 use Rattle.bz_sight.specs.Sight.{IsSeen, IsHidden}
 use Rattle.bz_sight.proofs.Passings.{held}
 

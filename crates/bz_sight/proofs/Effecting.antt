@@ -1,9 +1,9 @@
 -- The effect of a swap changes its entries for readers, and nothing else.
-use Rattle.std.proofs.Common.{◌≡◌, ◌≢◌, ℕ, zero, suc, ◌+◌, ◌^◌, ◌<◌, ◌≤◌, ◌==◌, ◌||◌, ◌⊎◌, if◌then◌else◌, Bool, true, false, List, [], ◌∷◌, length, slice_index, arith, refl, sym, ap, subst, ◌∙◌, inl, inr}
+use Rattle.std.proofs.Common.{◌≡◌, ℕ, zero, suc, ◌+◌, ◌^◌, ◌<◌, ◌≤◌, ◌==◌, ◌||◌, if◌then◌else◌, Bool, true, false, List, [], ◌∷◌, length, slice_index, arith, refl, sym, ap, subst, ◌∙◌, inl, inr}
 use Rattle.std.specs.Prelude.{All, get_or}
 use Rattle.std.proofs.lemmas.Bool.{true≢false}
 use Rattle.std.proofs.lemmas.Bool.Decides.{nat_tests}
-use Rattle.bz_layout.specs.Addresses.{swap_address, node_address, words_of as size_of, IsOutsideSwaps, AddressesArePlaced}
+use Rattle.bz_layout.specs.Addresses.{swap_address, words_of as size_of, IsOutsideSwaps}
 use Rattle.bz_layout.specs.declared.config.Config.{Config}
 use Rattle.bz_cells.specs.Store.{IsOutside, is_outside}
 use Rattle.bz_swap.specs.Held.{IsHeld}
@@ -11,16 +11,15 @@ use Rattle.bz_swap.specs.SwapMemory.{SwapMemory, value_at, is_named, is_among, i
 use Rattle.bz_swap.specs.Starts.{IsAddress}
 use Rattle.bz_word.specs.declared.entry.Entry.{Entry}
 use Rattle.bz_content.specs.Lawful.{is_fixed, is_in_descriptor, is_lawful}
-use Rattle.bz_content.specs.Laws.{WellFormedImagesHaveNoFault}
 use Rattle.bz_content.specs.Resolving.{resolve}
-use Rattle.bz_content.specs.Swapped.{HeldMemoriesLeaveTheirValues, LeavesItsValues}
+use Rattle.bz_content.specs.Swapped.{LeavesItsValues}
 use Rattle.bz_task.specs.Good.{IsGood}
 use Rattle.bz_task.specs.Instant.{Instant}
-use Rattle.bz_task.specs.Scene.{Scene, IsMine, IsScene, IsFlushed, here}
+use Rattle.bz_task.specs.Scene.{Scene, IsMine, IsScene, here}
 use Rattle.bz_task.specs.Steps.{IsStep}
 use Rattle.bz_task.specs.Swaps.{Stand, SwapsTo, swapped}
-use Rattle.bz_task.specs.Targets.{TargetsStay, OwnWordsAreNoTargets, IsTargetAt}
-use Rattle.bz_sight.specs.Effects.{TakesPlace, TookPlace, EffectsTakePlace, KeepsOwn, EffectsKeepOwn, effect_instant}
+use Rattle.bz_task.specs.Targets.{OwnWordsAreNoTargets, IsTargetAt}
+use Rattle.bz_sight.specs.Effects.{TakesPlace, EffectsTakePlace, EffectsKeepOwn, effect_instant}
 use Rattle.bz_sight.specs.Sight.{IsSeen, answer_at}
 use Rattle.bz_sight.proofs.Passings.{held, outside-test, answer-named, answer-private, outside-descriptors, fixed-place, fixed-lawful, descriptor-lawful, Laws}
 use Rattle.bz_sight.proofs.Leavings.{own-private, own-outside, outside-by, inside-answers}

@@ -1,20 +1,19 @@
 -- What an act by which no swap takes effect is to each worker: it leaves what anybody owns, but for a store and a flush of
 -- the owner's.
-use Rattle.std.proofs.Common.{◌≡◌, ◌≢◌, ℕ, ◌+◌, ◌<◌, ◌≤◌, ◌⊎◌, Bool, true, false, slice_index, arith, refl, sym, ap, subst, ◌∙◌, inl, inr}
+use Rattle.std.proofs.Common.{◌≡◌, ℕ, ◌≤◌, ◌⊎◌, Bool, true, false, slice_index, arith, refl, sym, ap, subst, ◌∙◌, inl, inr}
 use Rattle.std.specs.Prelude.{if◌then◌else◌, nat_lt}
 use Rattle.std.proofs.lemmas.Bool.Decides.{nat_tests}
 use Rattle.std.proofs.lemmas.Bool.{cases_lt}
 use Rattle.bz_layout.specs.Addresses.{swap_address, node_address}
 use Rattle.bz_layout.specs.declared.config.Config.{Config}
 use Rattle.bz_cells.specs.Store.{IsOutside, is_outside}
-use Rattle.bz_swap.specs.SwapMemory.{SwapMemory, value_at, is_named, is_among}
+use Rattle.bz_swap.specs.SwapMemory.{SwapMemory, is_named, is_among}
 use Rattle.bz_task.specs.Instant.{Instant}
-use Rattle.bz_task.specs.Others.{LeavesAll, StoresTo}
 use Rattle.bz_task.specs.Scene.{Scene, IsMine, IsScene, here}
 use Rattle.bz_task.specs.Targets.{OwnWordsAreNoTargets, IsTargetAt}
-use Rattle.bz_sight.specs.Passing.{Passes, AllStay, ActsLeaveAll, StoresAt, StoresAreSeen, FlushesAreSeen}
+use Rattle.bz_sight.specs.Passing.{Passes, ActsLeaveAll, StoresAreSeen, FlushesAreSeen}
 use Rattle.bz_sight.specs.Sight.{IsSeen, answer_at, next_instant}
-use Rattle.bz_sight.proofs.Passings.{answer-named, answer-private, outside-test}
+use Rattle.bz_sight.proofs.Passings.{answer-named, answer-private}
 
 -- an own word is private
 pub own-private : OwnWordsAreNoTargets → (c : Config) (x : Instant) (m : SwapMemory) (v : Scene) → IsSeen c m x → IsScene v → v.past.config ≡ c → here v ≡ x → (a : ℕ) → IsMine v a → is_named m a ≡ false

@@ -1,9 +1,9 @@
 -- An act by which no swap takes effect changes nothing for readers.
-use Rattle.std.proofs.Common.{◌≡◌, ◌≢◌, ℕ, zero, suc, ◌+◌, ◌%◌, ◌^◌, ◌<◌, ◌≤◌, ◌⊎◌, ◌==◌, ◌&&◌, if◌then◌else◌, Bool, true, false, length, slice_index, arith, refl, sym, ap, subst, ◌∙◌, inl, inr}
+use Rattle.std.proofs.Common.{◌≡◌, ◌≢◌, ℕ, zero, suc, ◌+◌, ◌%◌, ◌^◌, ◌<◌, ◌≤◌, ◌⊎◌, ◌==◌, if◌then◌else◌, Bool, true, false, slice_index, arith, refl, sym, ap, subst, ◌∙◌, inl, inr}
 use Rattle.std.specs.Prelude.{nat_lt, nat_le}
-use Rattle.std.proofs.lemmas.Bool.{cases_eq, cases_lt, true≢false}
+use Rattle.std.proofs.lemmas.Bool.{cases_lt}
 use Rattle.std.proofs.lemmas.Bool.Decides.{nat_tests}
-use Rattle.bz_layout.specs.Addresses.{swap_address, node_address, words_of as size_of, SlotsApart, AddressesArePlaced, IsPlaced, swap_of, swap_word_of}
+use Rattle.bz_layout.specs.Addresses.{swap_address, node_address, words_of as size_of, SlotsApart, AddressesArePlaced, swap_of, swap_word_of}
 use Rattle.bz_layout.specs.declared.config.Config.{Config}
 use Rattle.bz_layout.specs.declared.sizes.TheConstants.{NODE_WORDS, SHARED_WORDS, META_AT, STATUS_AT, ROOT_AT, ROOT_STATUS_AT, SUPERBLOCK_WORDS, SWAP_STATUS_AT}
 use Rattle.bz_cells.specs.Store.{IsOutside, is_outside, status_word, status_at}
@@ -12,7 +12,6 @@ use Rattle.bz_machine.specs.declared.status.SwapStatus.TheVariants.{Free, Undeci
 use Rattle.bz_machine.specs.declared.status.Verdict.TheVariants.{Succeeded, Failed}
 use Rattle.bz_swap.specs.PlainFields.{HavePlainFields}
 use Rattle.bz_swap.specs.SwapMemory.{SwapMemory, value_at, is_named, is_among}
-use Rattle.bz_content.specs.Content.{IsWellFormed}
 use Rattle.bz_content.specs.Image.{node}
 use Rattle.bz_content.specs.Laws.{WellFormedImagesHaveNoFault}
 use Rattle.bz_content.specs.Lawful.{is_fixed, is_in_descriptor, is_lawful, is_word, is_value, LAST_STATUS}
@@ -28,15 +27,14 @@ use Rattle.bz_word.specs.declared.meta.Meta.{Meta}
 use Rattle.bz_word.specs.declared.meta.Meta.TheVariants.{Unused, Reserved, Visible, Deleted}
 use Rattle.bz_slotted.specs.Records.{pointer_at}
 use Rattle.bz_slotted.specs.Whole.{Whole, IsInBlock}
-use Rattle.bz_task.specs.Good.{IsGood}
 use Rattle.bz_task.specs.Instant.{Instant, words, durable, page_at, form_at, is_inside}
 use Rattle.bz_task.specs.Laws.{HeadersSayTheLevel, LeavesAreInTrees, IsLeafInTree}
-use Rattle.bz_task.specs.Requests.{IsNodeTarget, IsMetaPlace, IsPointerPlace}
+use Rattle.bz_task.specs.Requests.{IsMetaPlace, IsPointerPlace}
 use Rattle.bz_task.specs.Resting.{Rests, HoldsTheSame, RestingMemoriesAreGood}
-use Rattle.bz_task.specs.Shown.{IsShown, IsOfRecord, SameWords}
+use Rattle.bz_task.specs.Shown.{IsShown, IsOfRecord}
 use Rattle.bz_task.specs.Steps.{IsQuiet}
-use Rattle.bz_task.specs.Targets.{alone, IsTargetAt, TargetsStay}
-use Rattle.bz_sight.specs.Passing.{SameRest, Passes, Passed, ActsPass}
+use Rattle.bz_task.specs.Targets.{IsTargetAt, TargetsStay}
+use Rattle.bz_sight.specs.Passing.{Passes, ActsPass}
 use Rattle.bz_sight.specs.Sight.{IsSeen, IsHidden, answer_at, next_instant}
 
 -- the laws that these proofs stand on

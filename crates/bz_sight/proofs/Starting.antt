@@ -1,28 +1,28 @@
 -- What a task may ask for may be started, and a start leaves the memory that is seen.
-use Rattle.std.proofs.Common.{◌≡◌, ◌≢◌, ℕ, zero, suc, ◌+◌, ◌*◌, ◌^◌, ◌<◌, ◌≤◌, ◌||◌, ◌==◌, ◌⊎◌, Bool, true, false, List, [], ◌∷◌, ◌++◌, length, slice_index, arith, refl, sym, ap, subst, ◌∙◌, inl, inr}
+use Rattle.std.proofs.Common.{◌≡◌, ◌≢◌, ℕ, zero, suc, ◌+◌, ◌*◌, ◌^◌, ◌<◌, ◌≤◌, ◌||◌, Bool, true, false, List, [], ◌∷◌, ◌++◌, slice_index, arith, refl, sym, ap, subst, ◌∙◌, inl, inr}
 use Rattle.std.specs.Prelude.{All, get_or}
 use Rattle.std.proofs.lemmas.Bool.{true≢false}
 use Rattle.bz_layout.specs.Addresses.{swap_address, node_address, words_of as size_of, IsOutsideSwaps}
 use Rattle.bz_layout.specs.declared.config.Config.{Config}
-use Rattle.bz_layout.specs.declared.sizes.TheConstants.{NODE_WORDS, LINE_WORDS}
+use Rattle.bz_layout.specs.declared.sizes.TheConstants.{LINE_WORDS}
 use Rattle.bz_cells.specs.Store.{IsOutside, is_outside}
 use Rattle.bz_swap.specs.Held.{Holds, IsHeld}
 use Rattle.bz_swap.specs.PlainFields.{PlainFieldsStay}
-use Rattle.bz_swap.specs.Starts.{IsAddress, MayWork, MayRead, MayStore, MayFlush, MaySwap, IsEntry, IsPrivateStore, IsPrivateFlush, started, swapping, phase_of}
-use Rattle.bz_swap.specs.SwapMemory.{SwapMemory, Doing, Storing, doing_of, value_at, is_named, is_among, is_target}
-use Rattle.bz_swap.specs.declared.phase.Phase.TheVariants.{Running, Recovering}
+use Rattle.bz_swap.specs.Starts.{IsAddress, MayStore, MayFlush, MaySwap, IsEntry, IsPrivateStore, IsPrivateFlush, swapping, phase_of}
+use Rattle.bz_swap.specs.SwapMemory.{SwapMemory, is_named, is_among, is_target}
+use Rattle.bz_swap.specs.declared.phase.Phase.TheVariants.{Recovering}
 use Rattle.bz_word.specs.declared.entry.Entry.{Entry}
 use Rattle.bz_content.specs.Resolving.{resolve}
 use Rattle.bz_content.specs.Swapped.{HeldMemoriesLeaveTheirValues}
-use Rattle.bz_task.specs.Instant.{Instant, words, durable}
-use Rattle.bz_task.specs.Requests.{IsTarget, IsNodeTarget, IsReadable, IsOwnStore, IsEntryToAsk}
-use Rattle.bz_task.specs.Scene.{Scene, IsMine, IsScene, here}
+use Rattle.bz_task.specs.Instant.{Instant, words}
+use Rattle.bz_task.specs.Requests.{IsTarget, IsNodeTarget, IsReadable, IsEntryToAsk}
+use Rattle.bz_task.specs.Scene.{Scene, IsMine, here}
 use Rattle.bz_task.specs.Shown.{IsShown}
 use Rattle.bz_task.specs.Targets.{alone, IsTargetAt, TargetsAreOfTheMemory, OwnWordsAreNoTargets}
 use Rattle.bz_sight.specs.Laws.{HiddenWordsAreValues}
 use Rattle.bz_sight.specs.Sight.{IsSeen, IsHidden, answer_at}
 use Rattle.bz_sight.specs.Starts.{Sees, StoresAreHidden, TasksMayStart, OwnWordsAreHidden, StartsAreSeen}
-use Rattle.bz_sight.proofs.Effecting.{all-named, targeted}
+use Rattle.bz_sight.proofs.Effecting.{targeted}
 use Rattle.bz_sight.proofs.Leavings.{own-private, inside-answers, outside-by}
 use Rattle.bz_sight.proofs.Passings.{held, node-at, answer-named, answer-private}
 

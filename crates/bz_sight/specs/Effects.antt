@@ -1,5 +1,5 @@
 -- Acts and evictions by which a swap takes effect.
-use Rattle.std.specs.Prelude.{◌≡◌, ◌≢◌, ℕ, ◌+◌, ◌^◌, ◌&&◌, ◌||◌, ◌<◌, nat_lt, false, slice_index, List}
+use Rattle.std.specs.Prelude.{◌≡◌, ℕ, ◌+◌, ◌^◌, ◌&&◌, ◌||◌, ◌<◌, nat_lt, false, slice_index}
 use Rattle.bz_layout.specs.declared.config.Config.{Config}
 use Rattle.bz_shape.specs.Walk.{form}
 use Rattle.bz_cells.specs.Store.{IsOutside}
@@ -7,7 +7,6 @@ use Rattle.bz_swap.specs.Effects.{TakesEffect}
 use Rattle.bz_swap.specs.Held.{Holds}
 use Rattle.bz_swap.specs.PlainFields.{HavePlainFields}
 use Rattle.bz_swap.specs.SwapMemory.{SwapMemory, entries_of, is_named}
-use Rattle.bz_word.specs.declared.entry.Entry.{Entry}
 use Rattle.bz_content.specs.Content.{view_in}
 use Rattle.bz_task.specs.Good.{IsGood}
 use Rattle.bz_task.specs.Instant.{Instant}

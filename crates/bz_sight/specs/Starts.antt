@@ -1,15 +1,14 @@
 -- Starts of what tasks ask for: when they may come, and that the same memory is seen after them.
-use Rattle.std.specs.Prelude.{◌≡◌, ◌≢◌, ℕ, ◌*◌, ◌<◌, true, false, List, All}
+use Rattle.std.specs.Prelude.{◌≡◌, ℕ, ◌*◌, ◌<◌, List, All}
 use Rattle.bz_layout.specs.declared.config.Config.{Config}
 use Rattle.bz_layout.specs.declared.sizes.TheConstants.{LINE_WORDS}
 use Rattle.bz_swap.specs.Held.{Holds}
 use Rattle.bz_swap.specs.Starts.{MayWork, MayRead, MayStore, MayFlush, MaySwap, started, swapping}
-use Rattle.bz_swap.specs.SwapMemory.{SwapMemory, Doing, Storing, doing_of, is_target}
+use Rattle.bz_swap.specs.SwapMemory.{SwapMemory, Doing, Storing, doing_of}
 use Rattle.bz_word.specs.declared.entry.Entry.{Entry}
 use Rattle.bz_task.specs.Instant.{Instant}
 use Rattle.bz_task.specs.Requests.{IsReadable, IsOwnStore, IsEntryToAsk}
 use Rattle.bz_task.specs.Scene.{Scene, IsMine, IsScene, here}
-use Rattle.bz_task.specs.Targets.{IsTargetAt}
 use Rattle.bz_sight.specs.Sight.{IsSeen, IsHidden}
 
 -- the scene of a worker who sees this memory

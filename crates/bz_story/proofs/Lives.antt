@@ -1,25 +1,21 @@
 -- A memory lives on by a mark at which no swap takes effect.
-use Rattle.std.proofs.Common.{◌≡◌, ◌≢◌, ℕ, suc, ◌+◌, ◌<◌, ◌≤◌, ◌⊎◌, Bool, true, false, List, ◌∷◌, length, slice_index, arith, refl, sym, ap, subst, ◌∙◌, inl, inr}
+use Rattle.std.proofs.Common.{◌≡◌, ℕ, suc, ◌+◌, ◌≤◌, ◌⊎◌, true, List, ◌∷◌, length, slice_index, arith, sym, ap, subst, ◌∙◌, inl, inr}
 use Rattle.std.proofs.lemmas.Bool.{cases_eq}
 use Rattle.bz_layout.specs.declared.config.Config.{Config}
-use Rattle.bz_layout.specs.declared.sizes.TheConstants.{NODE_WORDS, STATUS_AT}
-use Rattle.bz_mark.specs.Log.{Log, with_mark}
+use Rattle.bz_layout.specs.declared.sizes.TheConstants.{STATUS_AT}
 use Rattle.bz_mark.specs.MomentLaws.{at_moment-now, at_moment-earlier}
-use Rattle.bz_mark.specs.Moments.{at_moment}
-use Rattle.bz_mark.specs.WordsAfter.{words_of as words_after_marks}
 use Rattle.bz_mark.specs.declared.marks.Mark.{Mark}
-use Rattle.bz_sight.specs.Passing.{Passes, Passed, ActsPass}
+use Rattle.bz_sight.specs.Passing.{Passed, ActsPass}
 use Rattle.bz_sight.specs.Sight.{IsSeen, next_instant}
 use Rattle.bz_sound.specs.Memory.Moments.{image_at, image_after}
-use Rattle.bz_swap.specs.SwapMemory.{SwapMemory, words_of}
 use Rattle.bz_task.specs.Good.{IsGood}
 use Rattle.bz_task.specs.Instant.{Instant, words, page_at}
 use Rattle.bz_task.specs.Shown.{SameNode}
-use Rattle.bz_task.specs.Steps.{IsStep, IsHistory, IsQuiet, Moved}
+use Rattle.bz_task.specs.Steps.{IsStep, IsHistory, Moved}
 use Rattle.bz_word.specs.Statuses.{status}
-use Rattle.bz_story.specs.Laws.{GoesOn, LivesGoOn, IsMarked, goes_on}
-use Rattle.bz_story.specs.Living.{IsLiving, IsInBlock}
-use Rattle.bz_story.specs.Story.{Story, and_then}
+use Rattle.bz_story.specs.Laws.{LivesGoOn}
+use Rattle.bz_story.specs.Living.{IsInBlock}
+use Rattle.bz_story.specs.Story.{and_then}
 use Rattle.bz_story.proofs.Scenes.{now-is, before-is}
 
 -- a history with one moment more

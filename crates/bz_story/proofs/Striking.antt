@@ -1,8 +1,7 @@
 -- The effect of a swap: what it is to its worker and to the others, and that the memory lives on.
-use Rattle.std.proofs.Common.{◌≡◌, ◌≢◌, ℕ, zero, suc, ◌+◌, ◌*◌, ◌/◌, ◌%◌, ◌-◌, ◌^◌, ◌<◌, ◌≤◌, ◌⊎◌, ◌||◌, ◌&&◌, ◌==◌, if◌then◌else◌, Bool, true, false, List, [], ◌∷◌, length, slice_index, arith, refl, sym, ap, subst, ◌∙◌, inl, inr, Some}
+use Rattle.std.proofs.Common.{◌≡◌, ◌≢◌, ℕ, suc, ◌+◌, ◌<◌, ◌≤◌, ◌⊎◌, ◌||◌, ◌&&◌, ◌==◌, Bool, true, false, List, [], ◌∷◌, length, slice_index, arith, refl, sym, ap, subst, ◌∙◌, inl, inr}
 use Rattle.std.specs.Prelude.{All, nat_le, nat_lt, is_some}
 use Rattle.std.proofs.lemmas.Bool.Decides.{nat_tests}
-use Rattle.std.proofs.lemmas.Bool.{true≢false}
 use Rattle.bz_layout.specs.Addresses.{node_address, slot_of, node_word_of, SlotsApart}
 use Rattle.bz_layout.specs.declared.config.Config.{Config}
 use Rattle.bz_layout.specs.declared.sizes.TheConstants.{NODE_WORDS, STATUS_AT}
@@ -12,19 +11,19 @@ use Rattle.bz_mark.specs.declared.marks.Mark.{Mark}
 use Rattle.bz_sight.specs.Effects.{TookPlace, EffectsTakePlace, KeepsOwn, EffectsKeepOwn, effect_instant}
 use Rattle.bz_sight.specs.Sight.{IsSeen}
 use Rattle.bz_sight.specs.Starts.{Sees}
-use Rattle.bz_sound.specs.Calls.{Open, with_effect}
+use Rattle.bz_sound.specs.Calls.{Open}
 use Rattle.bz_swap.specs.EntryLists.{AreRising}
 use Rattle.bz_swap.specs.SwapMemory.{SwapMemory, entries_of, is_target}
 use Rattle.bz_task.specs.Instant.{Instant, words, page_at}
 use Rattle.bz_task.specs.Others.{AreApart, Watches, EffectsAreLawful}
-use Rattle.bz_task.specs.Requests.{IsTarget, IsNodeTarget}
-use Rattle.bz_task.specs.Scene.{Scene, IsMine, IsLawful, here}
-use Rattle.bz_task.specs.Swaps.{Change, Stand, SwapsTo, Takes, swapped, grows_over, reserves}
+use Rattle.bz_task.specs.Requests.{IsTarget}
+use Rattle.bz_task.specs.Scene.{Scene, IsLawful, here}
+use Rattle.bz_task.specs.Swaps.{Change, SwapsTo, Takes, swapped, grows_over, reserves}
 use Rattle.bz_word.specs.Statuses.{status}
 use Rattle.bz_word.specs.declared.entry.Entry.{Entry}
 use Rattle.bz_story.specs.Laws.{HasBegun, ScenesAreSeen, Strikes, EffectsAreTold, strikes, opened_after}
 use Rattle.bz_story.specs.Living.{IsLiving, IsInBlock}
-use Rattle.bz_story.specs.Story.{Story, scene, and_then}
+use Rattle.bz_story.specs.Story.{Story, scene}
 use Rattle.bz_story.proofs.Lives.{history-on, images-on, step-block}
 use Rattle.bz_story.proofs.Scenes.{now-is, before-is}
 use Rattle.bz_story.proofs.Watching.{continues}
@@ -207,8 +206,8 @@ module _ (b : Laws) (c : Config) (old new : SwapMemory) (log : Log) (story : Sto
       let r : HasReserving c a (entries_of old k) (story.at (length log.past)).value = found a h in
       let place : (a ≡ node_address c (slot_of c a) + node_word_of c a) × (node_word_of c a < NODE_WORDS) = in-its-slot c a r.reserves.from in
       let word : words c (effect_instant c new (story.at (length log.past))) (slot_of c a) STATUS_AT ≡ r.entry.new =
-          node-at c (effect_instant c new (story.at (length log.past))).value (slot_of c a) STATUS_AT (omega arith)
-          ∙ (ap (effect_instant c new (story.at (length log.past))).value (sym r.reserves.target) ∙ (to.value r.entry.target ∙ r.new)) in
+      node-at c (effect_instant c new (story.at (length log.past))).value (slot_of c a) STATUS_AT (omega arith)
+      ∙ (ap (effect_instant c new (story.at (length log.past))).value (sym r.reserves.target) ∙ (to.value r.entry.target ∙ r.new)) in
       record {
         slot = slot_of c a;
         place = node_word_of c a;
@@ -226,9 +225,9 @@ module _ (b : Laws) (c : Config) (old new : SwapMemory) (log : Log) (story : Sto
       let block : IsInBlock c (story.at (length log.past)) a = g.living.owned v a o in
       let same : (slot_of c a ≡ block.slot) × (node_word_of c a ≡ block.place) = b.apart c (slot_of c a) block.slot (node_word_of c a) block.place place.1 block.within (sym place.0 ∙ block.address) in
       let word : words c (story.at (length log.past)) (slot_of c a) STATUS_AT ≡ r.entry.expected =
-          node-at c (story.at (length log.past)).value (slot_of c a) STATUS_AT (omega arith) ∙ (ap (story.at (length log.past)).value (sym r.reserves.target) ∙ r.expected) in
+      node-at c (story.at (length log.past)).value (slot_of c a) STATUS_AT (omega arith) ∙ (ap (story.at (length log.past)).value (sym r.reserves.target) ∙ r.expected) in
       let held : NODE_WORDS ≤ node_word_of c a + (page_at c (story.at (length log.past)) (slot_of c a)).block =
-          subst (λ j. NODE_WORDS ≤ node_word_of c a + (page_at c (story.at (length log.past)) j).block) (sym same.0) (omega (arith, block.block, same.1)) in
+      subst (λ j. NODE_WORDS ≤ node_word_of c a + (page_at c (story.at (length log.past)) j).block) (sym same.0) (omega (arith, block.block, same.1)) in
       omega (arith, held, r.reserves.free, ap (λ z. (status z).block) word)
 
   effect-living : IsLiving c new (with_mark log mark) (strikes c log story new w (entries_of old k))

@@ -1,13 +1,12 @@
 -- What a mark by which no swap takes effect is to each worker.
-use Rattle.std.proofs.Common.{◌≡◌, ◌≢◌, ℕ, zero, suc, ◌+◌, ◌<◌, ◌≤◌, ◌⊎◌, ◌||◌, ◌&&◌, ◌==◌, Bool, true, false, List, ◌∷◌, length, slice_index, arith, refl, sym, ap, subst, ◌∙◌, inl, inr}
+use Rattle.std.proofs.Common.{◌≡◌, ◌≢◌, ℕ, zero, suc, ◌+◌, ◌≤◌, ◌||◌, ◌==◌, Bool, true, false, List, ◌∷◌, length, slice_index, arith, refl, sym, ap, subst, ◌∙◌, inl, inr}
 use Rattle.std.proofs.lemmas.Bool.Decides.{nat_tests}
-use Rattle.bz_layout.specs.Addresses.{node_address, slot_of, line_of}
+use Rattle.bz_layout.specs.Addresses.{node_address, line_of}
 use Rattle.bz_layout.specs.declared.config.Config.{Config}
-use Rattle.bz_layout.specs.declared.sizes.TheConstants.{NODE_WORDS}
 use Rattle.bz_mark.specs.Log.{Log}
 use Rattle.bz_mark.specs.MomentLaws.{mark_at-earlier}
 use Rattle.bz_mark.specs.declared.marks.Mark.{Mark}
-use Rattle.bz_sight.specs.Passing.{Passes, Passed, AllStay, ActsPass, ActsLeaveAll, StoresAreSeen, FlushesAreSeen}
+use Rattle.bz_sight.specs.Passing.{Passed, AllStay, ActsPass, ActsLeaveAll, StoresAreSeen, FlushesAreSeen}
 use Rattle.bz_sight.specs.Sight.{next_instant}
 use Rattle.bz_sight.specs.Starts.{Sees}
 use Rattle.bz_sound.specs.Calls.{Open}
@@ -21,8 +20,7 @@ use Rattle.bz_task.specs.Shown.{IsShown, SameNode, SameRecords}
 use Rattle.bz_task.specs.Steps.{IsQuiet}
 use Rattle.bz_word.specs.Statuses.{status}
 use Rattle.bz_story.specs.Laws.{HasBegun, ScenesAreSeen, GoesOn, QuietMarksAreLawful, IsStore, StoresAreTold, FlushesAreTold, goes_on, fills}
-use Rattle.bz_story.specs.Living.{IsLiving}
-use Rattle.bz_story.specs.Story.{Story, scene, and_then, loaded, is_load_of}
+use Rattle.bz_story.specs.Story.{Story, scene, loaded, is_load_of}
 use Rattle.bz_story.proofs.Scenes.{now-is, before-is}
 
 -- which of the first marks are loads stays as marks are added

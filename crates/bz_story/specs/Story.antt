@@ -1,5 +1,5 @@
 -- What is told of a world beside its marks: the memory at each moment, and what each worker owns.
-use Rattle.std.specs.Prelude.{ℕ, zero, suc, ◌==◌, if◌then◌else◌, Bool, true, false, List, length, is_some, Option, Some, None}
+use Rattle.std.specs.Prelude.{ℕ, zero, suc, ◌==◌, if◌then◌else◌, Bool, false, List, length, is_some, Option, Some}
 use Rattle.bz_layout.specs.declared.config.Config.{Config}
 use Rattle.bz_mark.specs.Moments.{mark_at}
 use Rattle.bz_mark.specs.declared.marks.Mark.{Mark}

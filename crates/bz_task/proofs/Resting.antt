@@ -1,10 +1,10 @@
 -- A memory in which nothing changes for readers stays good.
-use Rattle.std.proofs.Common.{◌≡◌, ◌≢◌, ℕ, ◌+◌, ◌-◌, ◌^◌, ◌<◌, ◌≤◌, ◌==◌, ◌&&◌, if◌then◌else◌, Bool, true, false, List, [], Option, arith, refl, sym, ap, subst, ◌∙◌, inl, inr}
+use Rattle.std.proofs.Common.{◌≡◌, ◌≢◌, ℕ, ◌+◌, ◌-◌, ◌^◌, ◌<◌, ◌≤◌, ◌==◌, if◌then◌else◌, true, false, List, Option, arith, refl, sym, ap, subst, ◌∙◌, inl, inr}
 use Rattle.std.specs.Prelude.{None}
-use Rattle.std.proofs.lemmas.Bool.{cases_eq, cases_lt}
+use Rattle.std.proofs.lemmas.Bool.{cases_eq}
 use Rattle.std.proofs.lemmas.Bool.Decides.{nat_tests}
 use Rattle.bz_layout.specs.declared.config.Config.{Config}
-use Rattle.bz_layout.specs.declared.sizes.TheConstants.{NODE_WORDS, META_AT, STATUS_AT, HEADER_AT, ROOT_AT, ROOT_STATUS_AT}
+use Rattle.bz_layout.specs.declared.sizes.TheConstants.{META_AT, STATUS_AT, HEADER_AT, ROOT_AT}
 use Rattle.bz_shape.specs.Form.{Fits}
 use Rattle.bz_shape.specs.Outcomes.{SameTree, SameContent}
 use Rattle.bz_shape.specs.QuietSlots.{QuietSlots, SameLeaf}
@@ -16,8 +16,8 @@ use Rattle.bz_slotted.specs.Changes.{Stores}
 use Rattle.bz_slotted.specs.InnerChanges.{StandsAlike, StandingIsQuiet}
 use Rattle.bz_slotted.specs.Laws.{LeafRulesAreFacts}
 use Rattle.bz_slotted.specs.LeafLaws.{AnswersAlike, StoresAreQuiet}
-use Rattle.bz_slotted.specs.Page.{page, visible, extent_of}
-use Rattle.bz_slotted.specs.Records.{weight, pointer_at}
+use Rattle.bz_slotted.specs.Page.{page, extent_of}
+use Rattle.bz_slotted.specs.Records.{pointer_at}
 use Rattle.bz_slotted.specs.Readers.{level_of, count_of, child_of, key_of, found_of}
 use Rattle.bz_slotted.specs.Rules.{node_fault}
 use Rattle.bz_slotted.specs.Whole.{Whole}
@@ -33,7 +33,7 @@ use Rattle.bz_content.specs.Resolving.{resolve}
 use Rattle.bz_task.specs.Good.{IsGood}
 use Rattle.bz_task.specs.Instant.{Instant, words, durable, page_at, form_at, is_inside}
 use Rattle.bz_task.specs.Laws.{RootsAreReached, HasRoot, HeadersSayTheLevel, LeavesAreInTrees, IsLeafInTree}
-use Rattle.bz_task.specs.Resting.{Rests, HoldsTheSame, RestingMemoriesAreGood}
+use Rattle.bz_task.specs.Resting.{Rests, RestingMemoriesAreGood}
 use Rattle.bz_task.specs.Shown.{IsShown, IsOfRecord, SameWords}
 use Rattle.bz_task.proofs.LeafSwaps.{every-same}
 use Rattle.bz_task.proofs.Sames.{SamePlaces, words-places, words-records, places-shown, of-record, same-shown, front-shown}

@@ -1,23 +1,22 @@
 -- What a swap may name stays so, and is nobody's own.
-use Rattle.std.proofs.Common.{◌≡◌, ◌≢◌, ℕ, ◌+◌, ◌<◌, ◌≤◌, ◌⊎◌, Bool, true, false, arith, refl, sym, ap, subst, ◌∙◌, inl, inr}
+use Rattle.std.proofs.Common.{◌≡◌, ◌≢◌, ℕ, ◌+◌, ◌<◌, ◌≤◌, ◌⊎◌, true, arith, sym, ap, ◌∙◌, inl, inr}
 use Rattle.std.proofs.lemmas.Bool.{cases_eq}
 use Rattle.bz_layout.specs.declared.config.Config.{Config}
-use Rattle.bz_layout.specs.declared.sizes.TheConstants.{META_AT, NODE_WORDS, SHARED_WORDS, HEADER_AT}
+use Rattle.bz_layout.specs.declared.sizes.TheConstants.{META_AT, SHARED_WORDS, HEADER_AT}
 use Rattle.bz_node.specs.Reading.{payload_at}
 use Rattle.bz_slotted.specs.Laws.{LeafRulesAreFacts}
 use Rattle.bz_slotted.specs.Page.{page, extent_of, meta_of, Page}
-use Rattle.bz_slotted.specs.Records.{pointer_at}
 use Rattle.bz_slotted.specs.Whole.{Whole}
 use Rattle.bz_word.specs.Headers.{header}
 use Rattle.bz_content.specs.Image.{node}
 use Rattle.bz_task.specs.Good.{IsGood}
-use Rattle.bz_task.specs.Instant.{Instant, words, durable, page_at, form_at, is_inside}
+use Rattle.bz_task.specs.Instant.{Instant, words, durable, page_at, form_at}
 use Rattle.bz_task.specs.Laws.{HeadersSayTheLevel, LeavesAreInTrees, IsLeafInTree}
-use Rattle.bz_task.specs.Requests.{IsTarget, IsNodeTarget, IsMetaPlace, IsPointerPlace}
-use Rattle.bz_task.specs.Scene.{Scene, IsMine, IsScene, here}
+use Rattle.bz_task.specs.Requests.{IsNodeTarget, IsMetaPlace, IsPointerPlace}
+use Rattle.bz_task.specs.Scene.{here}
 use Rattle.bz_task.specs.Shown.{IsShown, SameNode, SameRecords, SameSeparators}
-use Rattle.bz_task.specs.Steps.{IsStep, Moves, Moved}
-use Rattle.bz_task.specs.Targets.{alone, IsTargetAt, TargetsAreOfTheMemory, TargetsStay, OwnWordsAreNoTargets}
+use Rattle.bz_task.specs.Steps.{Moves, Moved}
+use Rattle.bz_task.specs.Targets.{alone, TargetsAreOfTheMemory, TargetsStay, OwnWordsAreNoTargets}
 use Rattle.bz_task.proofs.Sames.{SamePlaces, words-places}
 
 pub of-memory : TargetsAreOfTheMemory

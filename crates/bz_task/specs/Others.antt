@@ -1,5 +1,5 @@
 -- What the acts of one worker are to another: lawful steps, which leave everything that the other owns.
-use Rattle.std.specs.Prelude.{◌≡◌, ◌≢◌, ℕ, ◌⊎◌, Bool, true, List}
+use Rattle.std.specs.Prelude.{◌≡◌, ◌≢◌, ℕ, ◌⊎◌, Bool, List}
 use Rattle.bz_word.specs.declared.entry.Entry.{Entry}
 use Rattle.bz_task.specs.Instant.{Instant}
 use Rattle.bz_task.specs.Requests.{IsOwnStore}
