@@ -3,3 +3,4 @@ mod Leavings
 mod Effecting
 mod Acting
 mod Starting
+mod Openings

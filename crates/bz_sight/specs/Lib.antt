@@ -3,4 +3,5 @@ pub mod Passing
 pub mod Effects
 pub mod Acts
 pub mod Starts
+pub mod Opening
 pub mod Laws

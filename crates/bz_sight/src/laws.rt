@@ -4,6 +4,7 @@ ghost use Rattle.bz_sight.specs.Acts.{QuietStepsPass, StepsLeaveCaches, StoringS
 ghost use Rattle.bz_sight.specs.Effects.{EffectsTakePlace, EffectsKeepOwn};
 ghost use Rattle.bz_sight.specs.Starts.{TasksMayStart, OwnWordsAreHidden, StartsAreSeen};
 ghost use Rattle.bz_sight.specs.Laws.{HiddenWordsAreValues};
+ghost use Rattle.bz_sight.specs.Opening.{FreshMemoryIsSeen};
 ghost use Rattle.bz_sight.specs.Passing.{ActsPass, ActsLeaveAll, StoresAreSeen, FlushesAreSeen};
 
 use bz_content::laws as content;
@@ -141,3 +142,14 @@ pub fn starts_are_seen()
 pub fn hidden_words_are_values()
     ensures { HiddenWordsAreValues }
 {}
+
+/// Fresh memory, as it is opened, is seen as a settled memory that holds nothing.
+pub fn fresh_memory_is_seen()
+    ensures { FreshMemoryIsSeen }
+{
+    bz_layout::fresh_words_say();
+    content::plain_words_stand_for_themselves();
+    content::fresh_memory_is_empty();
+    task::settled_memories_are_good();
+    bz_swap::laws::plain_fields_stay();
+}

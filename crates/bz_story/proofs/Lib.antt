@@ -2,3 +2,4 @@ mod Scenes
 mod Lives
 mod Watching
 mod Striking
+mod Openings

@@ -1,3 +1,4 @@
 pub mod Story
 pub mod Living
 pub mod Laws
+pub mod Opening

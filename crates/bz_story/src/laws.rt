@@ -1,6 +1,7 @@
 //! Laws of stories. Each function does nothing: its contract is the law.
 
 ghost use Rattle.bz_story.specs.Laws.{ScenesAreSeen, LivesGoOn, QuietMarksAreLawful, StoresAreTold, FlushesAreTold, EffectsAreTold};
+ghost use Rattle.bz_story.specs.Opening.{FreshStoriesLive};
 
 use bz_sight::laws as sight;
 use bz_task::laws as task;
@@ -70,4 +71,11 @@ pub fn effects_are_told()
     sight::effects_keep_own();
     task::effects_are_lawful();
     bz_layout::slots_apart();
+}
+
+/// Fresh memory, as it is opened, lives.
+pub fn fresh_stories_live()
+    ensures { FreshStoriesLive }
+{
+    sight::fresh_memory_is_seen();
 }

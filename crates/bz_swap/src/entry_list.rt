@@ -62,6 +62,14 @@ impl EntryList {
         }
     }
 
+    /// How many entries there are: one to four, whose targets rise.
+    pub fn count(&self) -> usize
+        ensures count { result ≡ length self.now }
+        ensures list { IsEntryList self.now }
+    {
+        self.count
+    }
+
     // The words of a descriptor of these entries.
     pub(crate) fn words(&self) -> DescriptorWords
         ensures entries { IsEntryList self.now }

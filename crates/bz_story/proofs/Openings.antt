@@ -1,0 +1,31 @@
+-- Fresh memory, as it is opened, lives.
+use Rattle.std.proofs.Common.{◌≡◌, ℕ, zero, suc, ◌≤◌, List, [], refl, ap, sym, arith}
+use Rattle.std.proofs.lemmas.Bool.{true≢false}
+use Rattle.bz_layout.specs.Fresh.{fresh_words}
+use Rattle.bz_layout.specs.declared.config.Config.{Config}
+use Rattle.bz_pm.specs.Words.{Words}
+use Rattle.bz_sight.specs.Opening.{FreshMemoryIsSeen, fresh_instant}
+use Rattle.bz_sound.specs.Memory.Moments.{image_at}
+use Rattle.bz_swap.specs.Power.{IsOpened}
+use Rattle.bz_swap.specs.SwapMemory.{SwapMemory, words_of}
+use Rattle.bz_story.specs.Opening.{FreshStoriesLive}
+
+-- the words of a memory as it was opened, whatever its phase
+opened-words : (m : SwapMemory) (start : List ℕ) (swaps workers : ℕ) → IsOpened m start swaps workers → ◌≡◌ {A = Words} (words_of m) (record { cached = start; durable = start })
+opened-words m start swaps workers o = ap words_of o.is
+
+-- the one moment's image is that of the words
+images : (c : Config) (i : ℕ) → i ≤ 0 → (fresh_instant c).image ≡ image_at (fresh_words c) i []
+images c zero l = refl
+images c (suc i) l = absurd (omega (arith, l))
+
+pub fresh-lives : FreshMemoryIsSeen → FreshStoriesLive
+fresh-lives law c m limits fresh = record {
+  seen = (law c m fresh).seen;
+  history = record { good = λ i from to. (law c m fresh).seen.good; step = λ i from to. absurd (omega (arith, from, to)) };
+  words = opened-words m (fresh_words c) c.swaps c.workers fresh.opened;
+  images = images c;
+  effects = omega arith;
+  owned = λ w a e. absurd (true≢false (sym e));
+  apart = λ v w a e f. absurd (true≢false (sym e));
+}
