@@ -7,10 +7,12 @@ ghost use Rattle.bz_slotted.specs.Records.{key_words, key_in};
 ghost use Rattle.bz_word.specs.Metas.{IsExtent};
 ghost use Rattle.bz_word.specs.Statuses.{status};
 ghost use Rattle.bz_node.specs.Reading.{words_of};
-ghost use Rattle.bz_record.specs.Replacing.{removal};
+ghost use Rattle.bz_record.specs.Records.{Fits};
+ghost use Rattle.bz_record.specs.Replacing.{removal, replacement, status_grown};
+ghost use Rattle.bz_record.specs.Swaps.{counted_status};
 ghost use Rattle.bz_record.specs.Finding.{IsKeyAt, IsOtherAt};
 
-use crate::new_record::status_of;
+use crate::new_record::{NewRecord, status_of};
 use crate::record_swap::RecordSwap;
 use bz_key::Key;
 use bz_layout::{META_AT, NODE_WORDS, SHARED_WORDS};
@@ -69,6 +71,42 @@ impl FoundRecord {
             meta: Meta::Visible(self.extent).pack(),
             new_meta: lengths.pack(),
         }
+    }
+
+    /// The swap that puts a new record in its place, once the leaf's block has that record's words: the second swap of an
+    /// update.
+    pub fn replacement(&self, new: &NewRecord) -> RecordSwap
+        requires fits { Fits new.now }
+        requires extent { IsExtent self.now.extent }
+        requires some { 0 < self.now.extent.key }
+        requires small { words_of self.now.extent ≤ SHARED_WORDS }
+        ensures { result ≡ replacement new.now self.now.place self.now.extent }
+    {
+        RecordSwap {
+            slot: new.slot,
+            place: self.place,
+            status: new.grown_status(),
+            new_status: self.replaced_status(new),
+            meta: Meta::Visible(self.extent).pack(),
+            new_meta: Meta::Visible(new.extent()).pack(),
+        }
+    }
+
+    // The status once the words of the new record are live, and those of this one dead.
+    fn replaced_status(&self, new: &NewRecord) -> u64
+        requires fits { Fits new.now }
+        requires extent { IsExtent self.now.extent }
+        requires small { words_of self.now.extent ≤ SHARED_WORDS }
+        ensures { result ≡ counted_status (status_grown new.now) ((status new.now.status).dead + words_of self.now.extent) }
+    {
+        bz_word::laws::statuses();
+        let old = status_of(new.grown_status());
+        let replaced = Status {
+            dead: old.dead - new.size() + self.words(),
+            stamp: old.stamp.wrapping_add(1),
+            ..old
+        };
+        replaced.pack()
     }
 
     // How many words of the block it takes.

@@ -1,16 +1,18 @@
 //! A record that is to be put into a leaf.
 
-ghost use Rattle.std.specs.Prelude.{◌≡◌, ◌+◌, ◌<◌, ◌≤◌, ◌^◌, true, false, slice_index};
+ghost use Rattle.std.specs.Prelude.{◌≡◌, ◌+◌, ◌<◌, ◌≤◌, ◌^◌, ◌∷◌, [], true, false, slice_index};
 ghost use Rattle.bz_layout.specs.Config.{IsConfig};
 ghost use Rattle.bz_word.specs.Statuses.{status, IsStatus};
 ghost use Rattle.bz_record.specs.Records.{words_in, size_of, offset_of, place_of, address_of, HasRoom, LacksRoom, Fits};
 ghost use Rattle.bz_record.specs.Writing.{first_line, last_line};
+ghost use Rattle.bz_record.specs.Replacing.{growth, status_grown};
 ghost use Rattle.bz_record.specs.Swaps.{reservation, publication, status_reserved, status_published};
 
 use crate::record_swap::RecordSwap;
 use bz_key::{Key, Payload};
-use bz_layout::{Config, LINE_WORDS, NODE_WORDS, SHARED_WORDS};
-use bz_word::{Extent, Meta, Status};
+use bz_layout::{Config, LINE_WORDS, NODE_WORDS, SHARED_WORDS, STATUS_AT};
+use bz_swap::EntryList;
+use bz_word::{Entry, Extent, Meta, Status};
 
 /// A record that is to be put into a leaf, directly before the leaf's block.
 #[derive(Clone, Copy)]
@@ -124,6 +126,31 @@ impl NewRecord {
         }
     }
 
+    /// The swap of the status alone that gives the leaf's block its words, and takes no metadata word: the first swap of an
+    /// update.
+    pub fn growth(&self, config: &Config) -> EntryList
+        requires config { IsConfig config.now }
+        requires slot { self.now.slot < config.now.nodes }
+        requires fits { Fits self.now }
+        ensures { result ≡ growth config.now self.now ∷ [] }
+    {
+        EntryList::one(self.growth_entry(config))
+    }
+
+    // Its one entry.
+    pub(crate) fn growth_entry(&self, config: &Config) -> Entry
+        requires config { IsConfig config.now }
+        requires slot { self.now.slot < config.now.nodes }
+        requires fits { Fits self.now }
+        ensures { result ≡ growth config.now self.now }
+    {
+        Entry {
+            target: config.node_at(self.slot as u32) + STATUS_AT,
+            expected: self.status,
+            new: self.grown_status(),
+        }
+    }
+
     // Where its first word lies in the leaf.
     fn offset(&self) -> u32
         requires { Fits self.now }
@@ -135,7 +162,7 @@ impl NewRecord {
     }
 
     // Where it lies.
-    fn extent(&self) -> Extent
+    pub(crate) fn extent(&self) -> Extent
         requires { Fits self.now }
         ensures { result ≡ place_of self.now }
     {
@@ -156,6 +183,22 @@ impl NewRecord {
         let size = self.size();
         let new = Status {
             count: old.count + 1,
+            block: old.block + size,
+            dead: old.dead + size,
+            stamp: old.stamp.wrapping_add(1),
+            ..old
+        };
+        new.pack()
+    }
+
+    // The status once the block has its words, which are dead.
+    pub(crate) fn grown_status(&self) -> u64
+        requires { Fits self.now }
+        ensures { result ≡ status_grown self.now }
+    {
+        let old = status_of(self.status);
+        let size = self.size();
+        let new = Status {
             block: old.block + size,
             dead: old.dead + size,
             stamp: old.stamp.wrapping_add(1),

@@ -1,12 +1,14 @@
 //! The worked insert: the words of both swaps, and of the record. The key `a` and the payload `1` come into the empty root leaf
-//! of a fresh memory of sixteen slots and 64 descriptors.
+//! of a fresh memory of sixteen slots and 64 descriptors. Then the worked update and the worked delete of that record.
 ghost use Rattle.std.specs.Prelude.{◌≡◌};
 ghost use Rattle.bz_record.specs.Records.{Fits};
 
+use crate::found_record::FoundRecord;
 use crate::new_record::{NewRecord, status_of};
 use crate::record_swap::RecordSwap;
 use bz_key::{Key, Payload};
-use bz_layout::Config;
+use bz_layout::{Config, SHARED_WORDS};
+use bz_word::{Entry, Extent};
 use std::process::Abort;
 use std::test::Fail;
 
@@ -19,23 +21,36 @@ const SMALL: Config = Config {
     pages: 0,
 };
 
-// The record of `a` and `1` for a leaf with this status.
-fn record_at(rt: &impl Abort, status: u64) -> NewRecord
+// The record of `a` and `1` after the worked insert.
+const INSERTED: FoundRecord = FoundRecord {
+    place: 0,
+    extent: Extent {
+        offset: 126,
+        key: 1,
+        total: 2,
+    },
+};
+
+// The leaf's status then.
+const STATUS: u64 = 0x0010_0800_0000_0002;
+
+// The record of `a` and a payload for a leaf with this status.
+fn record_at(rt: &impl Abort, status: u64, payload: &[u8]) -> NewRecord
     ensures { result.status ≡ status }
 {
     NewRecord {
         slot: 0,
         status,
         key: Key::of(b"a").expect(rt, "a key"),
-        payload: Payload::of(b"1").expect(rt, "a payload"),
+        payload: Payload::of(payload).expect(rt, "a payload"),
     }
 }
 
-// The same for the empty leaf, which has room for it.
-fn worked(rt: &impl Abort) -> NewRecord
+// The same for a leaf that has room for it.
+fn fitting(rt: &impl Abort, status: u64, payload: &[u8]) -> NewRecord
     ensures { Fits result }
 {
-    let record = record_at(rt, 0);
+    let record = record_at(rt, status, payload);
     let _key = record.key.bytes();
     let _payload = record.payload.bytes();
     let _size = record.size();
@@ -48,7 +63,7 @@ fn worked(rt: &impl Abort) -> NewRecord
 
 #[test]
 fn the_swaps_of_the_worked_insert(rt: HostRuntime) {
-    let record = worked(&rt);
+    let record = fitting(&rt, 0, b"1");
     let reserved = RecordSwap {
         slot: 0,
         place: 0,
@@ -71,7 +86,7 @@ fn the_swaps_of_the_worked_insert(rt: HostRuntime) {
 
 #[test]
 fn the_words_of_the_worked_insert(rt: HostRuntime) {
-    let record = worked(&rt);
+    let record = fitting(&rt, 0, b"1");
     assert!(rt; SMALL.check().is_ok());
     assert!(rt; (record.slot as u32) < SMALL.nodes);
     assert_eq!(rt; record.size(), 2);
@@ -82,6 +97,45 @@ fn the_words_of_the_worked_insert(rt: HostRuntime) {
     assert_eq!(rt; record.word(1), 0x0031_0000_0000_0000);
     assert_eq!(rt; record.first_line(&SMALL), 145);
     assert_eq!(rt; record.last_line(&SMALL), 145);
+}
+
+// The payload comes to have two words, so the record has three.
+#[test]
+fn the_swaps_of_the_worked_update(rt: HostRuntime) {
+    let record = fitting(&rt, STATUS, b"12345678");
+    assert!(rt; SMALL.check().is_ok());
+    assert!(rt; (record.slot as u32) < SMALL.nodes);
+    let grown = Entry {
+        target: 1_040,
+        expected: STATUS,
+        new: 0x0010_1403_0000_0003,
+    };
+    let replaced = RecordSwap {
+        slot: 0,
+        place: 0,
+        status: 0x0010_1403_0000_0003,
+        new_status: 0x0010_1402_0000_0004,
+        meta: 0x1000_007E_0001_0002,
+        new_meta: 0x1000_007B_0001_0009,
+    };
+    assert_eq!(rt; record.growth_entry(&SMALL), grown);
+    assert_eq!(rt; record.growth(&SMALL).count(), 1);
+    assert_eq!(rt; INSERTED.replacement(&record), replaced);
+}
+
+#[test]
+fn the_swap_of_the_worked_delete(rt: HostRuntime) {
+    let status = status_of(STATUS);
+    assert!(rt; status.dead <= SHARED_WORDS);
+    let removed = RecordSwap {
+        slot: 0,
+        place: 0,
+        status: STATUS,
+        new_status: 0x0010_0802_0000_0003,
+        meta: 0x1000_007E_0001_0002,
+        new_meta: 0x0000_0000_0001_0002,
+    };
+    assert_eq!(rt; INSERTED.removal(0, STATUS), removed);
 }
 
 #[test]
@@ -95,7 +149,7 @@ fn a_leaf_that_is_full_or_frozen_has_no_room(rt: HostRuntime) {
         (1 << 60, false),
     ];
     for (status, room) in table {
-        let record = record_at(&rt, status);
+        let record = record_at(&rt, status, b"1");
         assert!(rt; status < 1 << 61);
         assert_eq!(rt; record.has_room(), room);
     }
