@@ -1,2 +1,8 @@
-mod Knowing
-mod Acting
+mod Finding
+mod DeleteKnowing
+mod DeleteActing
+mod UpdateBeginning
+mod UpdateKnowing
+mod UpdateStaying
+mod UpdateActing
+mod UpdateTaking

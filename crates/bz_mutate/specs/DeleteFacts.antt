@@ -1,5 +1,5 @@
 -- What a delete knows, and what it asks for.
-use Rattle.std.specs.Prelude.{◌≡◌, ◌≢◌, ℕ, ◌^◌, ◌<◌, ◌≤◌, Bool, true, false, List, Option, Some, None}
+use Rattle.std.specs.Prelude.{◌≡◌, ℕ, ◌^◌, ◌<◌, ◌≤◌, Bool, true, false, List, Option, Some, None}
 use Rattle.bz_call.specs.declared.replies.Spent.TheVariants.{Swaps}
 use Rattle.bz_layout.specs.declared.config.Config.{Config}
 use Rattle.bz_layout.specs.declared.sizes.TheConstants.{SHARED_WORDS}
@@ -8,7 +8,6 @@ use Rattle.bz_slotted.specs.ReadingLaws.{node_of}
 use Rattle.bz_slotted.specs.Readers.{found_of}
 use Rattle.bz_word.specs.Metas.{IsExtent}
 use Rattle.bz_word.specs.Statuses.{status}
-use Rattle.bz_task.specs.Outcomes.{IsView}
 use Rattle.bz_task.specs.Scene.{Scene, Stage, Waiting, Took, HasFilled}
 use Rattle.bz_task.specs.Swaps.{Change}
 use Rattle.bz_task.specs.declared.todo.Outcome.{Outcome}
@@ -16,39 +15,33 @@ use Rattle.bz_task.specs.declared.todo.Outcome.TheVariants.{Done as IsDone, Rest
 use Rattle.bz_task.specs.declared.todo.Todo.{Todo}
 use Rattle.bz_task.specs.declared.todo.Todo.TheVariants.{Swap as Swaps_for, Finish}
 use Rattle.bz_task.specs.declared.view.LeafView.{LeafView}
-use Rattle.bz_record.specs.Finding.{IsKeyAt}
 use Rattle.bz_record.specs.Replacing.{removal, WasRecord}
 use Rattle.bz_record.specs.Swaps.{entries_of}
 use Rattle.bz_record.specs.declared.found_record.FoundRecord.{FoundRecord}
-use Rattle.bz_mutate.specs.declared.phase.Phase.{Phase}
-use Rattle.bz_mutate.specs.declared.phase.Phase.TheVariants.{Fresh, Remove, Done, Restart, NeedsRoom, Full}
+use Rattle.bz_mutate.specs.Viewed.{HasViewed}
+use Rattle.bz_mutate.specs.declared.delete_phase.DeletePhase.{DeletePhase}
+use Rattle.bz_mutate.specs.declared.delete_phase.DeletePhase.TheVariants.{Fresh, Remove, Done, Restart, NeedsRoom, Full}
 
-abbrev pub change_asks : Config → LeafView → Phase → Option Todo
-change_asks c v Fresh = None
-change_asks c v (Remove f) = Some (Swaps_for (entries_of c (removal v.slot v.status f.place f.extent)))
-change_asks c v Done = Some (Finish IsDone)
-change_asks c v Restart = Some (Finish Restarts)
-change_asks c v NeedsRoom = Some (Finish Needs)
-change_asks c v Full = Some (Finish (IsFull Swaps))
+abbrev pub delete_asks : Config → LeafView → DeletePhase → Option Todo
+delete_asks c v Fresh = None
+delete_asks c v (Remove f) = Some (Swaps_for (entries_of c (removal v.slot v.status f.place f.extent)))
+delete_asks c v Done = Some (Finish IsDone)
+delete_asks c v Restart = Some (Finish Restarts)
+delete_asks c v NeedsRoom = Some (Finish Needs)
+delete_asks c v Full = Some (Finish (IsFull Swaps))
 
-abbrev pub change_left : Phase → ℕ
-change_left Fresh = 2
-change_left (Remove f) = 1
-change_left phase = 0
+abbrev pub delete_left : DeletePhase → ℕ
+delete_left Fresh = 2
+delete_left (Remove f) = 1
+delete_left phase = 0
 
-abbrev pub change_publishes : Phase → Bool
-change_publishes (Remove f) = true
-change_publishes phase = false
+abbrev pub delete_publishes : DeletePhase → Bool
+delete_publishes (Remove f) = true
+delete_publishes phase = false
 
 -- the key is gone, which had what the view says of it
 abbrev pub deletion : List ℕ → LeafView → Change
 deletion key v = record { key = key; old = found_of (node_of v.image.0) key; new = None }
-
--- the key's leaf was viewed, with the key in it
-pub record HasViewed (key : List ℕ) (v : LeafView) (s : Scene) : Type 0 where
-  pub view : IsView key v s.past
-  pub present : found_of (node_of v.image.0) key ≢ None
-  pub going : s.effected ≡ false
 
 -- its record was found, in a leaf that was not frozen
 pub record CanRemove (key : List ℕ) (v : LeafView) (f : FoundRecord) (s : Scene) : Type 0 where
@@ -63,28 +56,28 @@ pub record HasRemoved (v : LeafView) (s : Scene) : Type 0 where
   pub thawed : (status v.status).frozen ≡ false
   pub effected : s.effected ≡ true
 
-abbrev pub change_learnt : List ℕ → LeafView → Phase → Stage → Scene → Type 0
-change_learnt key v Fresh Waiting s = HasViewed key v s
-change_learnt key v (Remove f) Waiting s = CanRemove key v f s
-change_learnt key v (Remove f) Took s = HasRemoved v s
-change_learnt key v Done Waiting s = HasRemoved v s
-change_learnt key v Restart Waiting s = (status v.status).frozen ≡ false
-change_learnt key v Full Waiting s = (status v.status).frozen ≡ false
-change_learnt key v NeedsRoom Waiting s = (status v.status).frozen ≡ true
-change_learnt key v phase Took s = ⊥
+abbrev pub delete_learnt : List ℕ → LeafView → DeletePhase → Stage → Scene → Type 0
+delete_learnt key v Fresh Waiting s = HasViewed key v s
+delete_learnt key v (Remove f) Waiting s = CanRemove key v f s
+delete_learnt key v (Remove f) Took s = HasRemoved v s
+delete_learnt key v Done Waiting s = HasRemoved v s
+delete_learnt key v Restart Waiting s = (status v.status).frozen ≡ false
+delete_learnt key v Full Waiting s = (status v.status).frozen ≡ false
+delete_learnt key v NeedsRoom Waiting s = (status v.status).frozen ≡ true
+delete_learnt key v phase Took s = ⊥
 
 -- from the first act on each slot that was taken has been stored into
-abbrev pub change_facts : List ℕ → LeafView → Phase → Stage → Scene → Type 0
-change_facts key v Fresh stage s = change_learnt key v Fresh stage s
-change_facts key v phase stage s = HasFilled s × change_learnt key v phase stage s
+abbrev pub delete_facts : List ℕ → LeafView → DeletePhase → Stage → Scene → Type 0
+delete_facts key v Fresh stage s = delete_learnt key v Fresh stage s
+delete_facts key v phase stage s = HasFilled s × delete_learnt key v phase stage s
 
 -- it ends for want of room exactly where the viewed leaf is frozen
-abbrev pub change_means : LeafView → Outcome → Scene → Type 0
-change_means v IsDone s = HasRemoved v s
-change_means v Restarts s = (status v.status).frozen ≡ false
-change_means v Needs s = (status v.status).frozen ≡ true
-change_means v (IsFull Swaps) s = (status v.status).frozen ≡ false
-change_means v outcome s = ⊥
+abbrev pub delete_means : LeafView → Outcome → Scene → Type 0
+delete_means v IsDone s = HasRemoved v s
+delete_means v Restarts s = (status v.status).frozen ≡ false
+delete_means v Needs s = (status v.status).frozen ≡ true
+delete_means v (IsFull Swaps) s = (status v.status).frozen ≡ false
+delete_means v outcome s = ⊥
 
 -- the record that is named is one of a leaf
 pub record IsRemovable (c : Config) (v : LeafView) (f : FoundRecord) : Type 0 where
@@ -96,18 +89,12 @@ pub record IsRemovable (c : Config) (v : LeafView) (f : FoundRecord) : Type 0 wh
   pub small : words_of f.extent ≤ SHARED_WORDS
   pub dead : (status v.status).dead ≤ SHARED_WORDS
 
-abbrev pub IsReady : Config → LeafView → Phase → Type 0
+abbrev pub IsReady : Config → LeafView → DeletePhase → Type 0
 IsReady c v (Remove f) = IsRemovable c v f
 IsReady c v phase = Unit {0}
 
--- a record of the key in the view
-pub record CanBeFound (key : List ℕ) (v : LeafView) (f : FoundRecord) : Type 0 where
-  pub thawed : (status v.status).frozen ≡ false
-  pub counted : f.place < (status v.status).count
-  pub there : IsKeyAt v.image.0 key f.place f.extent
-
 -- a phase in which a delete may begin
-abbrev pub IsFirst : Phase → Type 0
+abbrev pub IsFirst : DeletePhase → Type 0
 IsFirst (Remove f) = Unit {0}
 IsFirst NeedsRoom = Unit {0}
 IsFirst phase = ⊥

@@ -1,6 +1,6 @@
-//! The task that changes a record that a leaf has.
+//! The task that deletes a key from a leaf.
 
-ghost use Rattle.std.specs.Prelude.{◌≡◌, ◌≢◌, ◌↔◌, ◌≤◌, ◌<◌, ◌^◌, ◌⊎◌, ℕ, Some, None, IfSome, true, false};
+ghost use Rattle.std.specs.Prelude.{◌≡◌, ◌≢◌, ◌↔◌, ◌≤◌, ◌<◌, ◌^◌, ◌⊎◌, Some, None, IfSome, true, false};
 ghost use Rattle.bz_layout.specs.Config.{IsConfig};
 ghost use Rattle.bz_slotted.specs.ReadingLaws.{node_of};
 ghost use Rattle.bz_slotted.specs.Readers.{found_of};
@@ -9,11 +9,12 @@ ghost use Rattle.bz_task.specs.Outcomes.{IsView};
 ghost use Rattle.bz_task.specs.Requests.{Hears, Tells, IsKnown};
 ghost use Rattle.bz_task.specs.Scene.{Scene, Stage, Waiting, IsScene};
 ghost use Rattle.bz_task.specs.declared.todo.Seen.TheVariants.{Swapped, NoSwap};
-ghost use Rattle.bz_record.specs.Finding.{IsOtherAt};
 ghost use Rattle.bz_record.specs.declared.found_record.FoundRecord.{FoundRecord};
-ghost use Rattle.bz_mutate.specs.Facts.{change_asks, change_left, change_publishes, change_facts, change_means, deletion, CanBeFound, IsFirst, IsReady};
+ghost use Rattle.bz_mutate.specs.Viewed.{CanBeFound, HasOthers};
+ghost use Rattle.bz_mutate.specs.DeleteDuties.{config_of, asks_of, left_of, change_of, publishing_of, facts_of, means_of};
+ghost use Rattle.bz_mutate.specs.DeleteFacts.{delete_asks, delete_left, delete_facts, IsFirst, IsReady};
 
-use crate::phase::Phase;
+use crate::delete_phase::DeletePhase;
 use bz_call::Spent;
 use bz_key::Key;
 use bz_layout::{Config, SHARED_WORDS, Slots};
@@ -24,98 +25,101 @@ use bz_word::Status;
 /// The delete of a key from the leaf that a view shows. It ends with Done where the record is gone, with NeedsRoom where the
 /// viewed leaf is frozen, with Restart where the swap found another status, and with Full(Swaps).
 #[derive(Drop)]
-pub struct Change {
+pub struct Delete {
     config: Config,
     view: LeafView,
     key: Key,
-    phase: Phase,
+    phase: DeletePhase,
 }
 
-impl Change {
+impl Delete {
     /// The delete of a key that its leaf has.
-    pub fn delete(config: &Config, _path: Path, view: LeafView, key: Key) -> Change
+    pub fn new(config: &Config, _path: Path, view: LeafView, key: Key) -> Delete
         requires present { found_of (node_of view.image.0) key ≢ None }
-        ensures config { ⟦<Change as Task>⟧.config result ≡ config.now }
-        ensures asks { ⟦<Change as Task>⟧.asks result ≡ None }
-        ensures left { ⟦<Change as Task>⟧.left result ≡ 2 }
-        ensures needs { ⟦<Change as Task>⟧.needs result ≡ 0 }
-        ensures change { ⟦<Change as Task>⟧.change result ≡ record { key = key; old = found_of (node_of view.image.0) key; new = None } }
-        ensures facts { (s : Scene) → s.past.config ≡ config.now → s.effected ≡ false → IsScene s → IsView key view s.past → ⟦<Change as Task>⟧.facts result Waiting s }
-        ensures done { (s : Scene) → ⟦<Change as Task>⟧.means result Outcome.Done s → s.effected ≡ true }
+        ensures config { ⟦<Delete as Task>⟧.config result ≡ config.now }
+        ensures asks { ⟦<Delete as Task>⟧.asks result ≡ None }
+        ensures left { ⟦<Delete as Task>⟧.left result ≡ 2 }
+        ensures needs { ⟦<Delete as Task>⟧.needs result ≡ 0 }
+        ensures change { ⟦<Delete as Task>⟧.change result ≡ record { key = key; old = found_of (node_of view.image.0) key; new = None } }
+        ensures facts { (s : Scene) → s.past.config ≡ config.now → s.effected ≡ false → IsScene s → IsView key view s.past → ⟦<Delete as Task>⟧.facts result Waiting s }
+        ensures done { (s : Scene) → ⟦<Delete as Task>⟧.means result Outcome.Done s → s.effected ≡ true }
+        ensures no_path { (path : Path) (s : Scene) → ⟦<Delete as Task>⟧.means result (Outcome.Path path) s → ⊥ }
+        ensures no_view { (other : LeafView) (s : Scene) → ⟦<Delete as Task>⟧.means result (Outcome.View other) s → ⊥ }
         // NeedsRoom comes exactly where the viewed leaf is frozen
-        ensures needs_room { (s : Scene) → ⟦<Change as Task>⟧.means result Outcome.NeedsRoom s → (status view.status).frozen ≡ true }
-        ensures thawed { (s : Scene) (outcome : Outcome) → ⟦<Change as Task>⟧.means result outcome s → outcome ≢ Outcome.NeedsRoom → (status view.status).frozen ≡ false }
+        ensures needs_room { (s : Scene) → ⟦<Delete as Task>⟧.means result Outcome.NeedsRoom s → (status view.status).frozen ≡ true }
+        ensures thawed { (s : Scene) (outcome : Outcome) → ⟦<Delete as Task>⟧.means result outcome s → outcome ≢ Outcome.NeedsRoom → (status view.status).frozen ≡ false }
     {
-        Change {
+        Delete {
             config: *config,
             view,
             key,
-            phase: Phase::Fresh,
+            phase: DeletePhase::Fresh,
         }
     }
 
     // The phase after what came of the last act.
-    fn after(&self, seen: Seen, moment: u32) -> Phase
-        requires hears { Hears (change_asks self.now.config self.now.view self.now.phase) seen }
-        requires known { IsKnown self.now.config (change_facts self.now.key self.now.view self.now.phase) (change_asks self.now.config self.now.view self.now.phase) seen moment }
-        ensures nearer { change_left result < change_left self.now.phase }
-        ensures done { result ≡ Phase.Done → seen ≡ Swapped true }
-        ensures restart { result ≡ Phase.Restart → seen ≡ Swapped false }
-        ensures full { (result ≡ Phase.Full) ↔ (seen ≡ NoSwap) }
-        ensures begun { result ≢ Phase.Fresh }
+    fn after(&self, seen: Seen, moment: u32) -> DeletePhase
+        requires hears { Hears (delete_asks self.now.config self.now.view self.now.phase) seen }
+        requires known { IsKnown self.now.config (delete_facts self.now.key self.now.view self.now.phase) (delete_asks self.now.config self.now.view self.now.phase) seen moment }
+        ensures nearer { delete_left result < delete_left self.now.phase }
+        ensures done { result ≡ DeletePhase.Done → seen ≡ Swapped true }
+        ensures restart { result ≡ DeletePhase.Restart → seen ≡ Swapped false }
+        ensures full { (result ≡ DeletePhase.Full) ↔ (seen ≡ NoSwap) }
+        ensures begun { result ≢ DeletePhase.Fresh }
         ensures config { IsConfig self.now.config }
         ensures ready { IsReady self.now.config self.now.view result }
-        ensures learns { (stage : Stage) (s : Scene) → s.past.config ≡ self.now.config → IsScene s → change_facts self.now.key self.now.view self.now.phase stage s → Tells (change_asks self.now.config self.now.view self.now.phase) stage seen s → change_facts self.now.key self.now.view result Waiting s }
+        ensures learns { (stage : Stage) (s : Scene) → s.past.config ≡ self.now.config → IsScene s → delete_facts self.now.key self.now.view self.now.phase stage s → Tells (delete_asks self.now.config self.now.view self.now.phase) stage seen s → delete_facts self.now.key self.now.view result Waiting s }
     {
         let _moment = moment;
         bz_record::laws::views_show_leaves();
         bz_record::laws::views_show_records();
         bz_record::laws::said_keys_are_found();
         match (self.phase, seen) {
-            (Phase::Fresh, _) => self.begun(),
-            (Phase::Remove(_), Seen::Swapped(true)) => Phase::Done,
-            (Phase::Remove(_), Seen::NoSwap) => Phase::Full,
-            _ => Phase::Restart,
+            (DeletePhase::Fresh, _) => self.begun(),
+            (DeletePhase::Remove(_), Seen::Swapped(true)) => DeletePhase::Done,
+            (DeletePhase::Remove(_), Seen::NoSwap) => DeletePhase::Full,
+            _ => DeletePhase::Restart,
         }
     }
 }
 
-impl Change {
+impl Delete {
     // The first phase: the removal of the key's record, of a leaf that is not frozen.
-    fn begun(&self) -> Phase
+    fn begun(&self) -> DeletePhase
         requires plain { self.now.view.status < 2 ^ 61 }
         requires room { (status self.now.view.status).count ≤ SHARED_WORDS }
-        ensures frozen { (status self.now.view.status).frozen ≡ true → result ≡ Phase.NeedsRoom }
-        ensures found { (f : FoundRecord) → result ≡ Phase.Remove f → CanBeFound self.now.key self.now.view f }
-        ensures none { result ≡ Phase.NeedsRoom → (status self.now.view.status).frozen ≡ false → (i : ℕ) → i < (status self.now.view.status).count → IsOtherAt self.now.view.image.0 self.now.key i }
+        ensures frozen { (status self.now.view.status).frozen ≡ true → result ≡ DeletePhase.NeedsRoom }
+        ensures found { (f : FoundRecord) → result ≡ DeletePhase.Remove f → CanBeFound self.now.key self.now.view f }
+        ensures thawed { (f : FoundRecord) → result ≡ DeletePhase.Remove f → (status self.now.view.status).frozen ≡ false }
+        ensures none { result ≡ DeletePhase.NeedsRoom → (status self.now.view.status).frozen ≡ false → HasOthers self.now.key self.now.view }
         ensures either { IsFirst result }
     {
         if is_frozen(self.view.status) {
-            return Phase::NeedsRoom;
+            return DeletePhase::NeedsRoom;
         }
         match FoundRecord::find(&self.view.image, self.view.status, &self.key) {
-            Some(found) => Phase::Remove(found),
-            None => Phase::NeedsRoom,
+            Some(found) => DeletePhase::Remove(found),
+            None => DeletePhase::NeedsRoom,
         }
     }
 
     // What a phase asks for.
     fn asked(&self) -> Todo
-        requires begun { self.now.phase ≢ Phase.Fresh }
+        requires begun { self.now.phase ≢ DeletePhase.Fresh }
         requires config { IsConfig self.now.config }
         requires ready { IsReady self.now.config self.now.view self.now.phase }
-        ensures { change_asks self.now.config self.now.view self.now.phase ≡ Some result }
+        ensures { delete_asks self.now.config self.now.view self.now.phase ≡ Some result }
     {
         match self.phase {
-            Phase::Fresh | Phase::Restart => Todo::Finish(Outcome::Restart),
-            Phase::Remove(found) => Todo::Swap(
+            DeletePhase::Fresh | DeletePhase::Restart => Todo::Finish(Outcome::Restart),
+            DeletePhase::Remove(found) => Todo::Swap(
                 found
                     .removal(self.view.slot, self.view.status)
                     .entries(&self.config),
             ),
-            Phase::Done => Todo::Finish(Outcome::Done),
-            Phase::NeedsRoom => Todo::Finish(Outcome::NeedsRoom),
-            Phase::Full => Todo::Finish(Outcome::Full(Spent::Swaps)),
+            DeletePhase::Done => Todo::Finish(Outcome::Done),
+            DeletePhase::NeedsRoom => Todo::Finish(Outcome::NeedsRoom),
+            DeletePhase::Full => Todo::Finish(Outcome::Full(Spent::Swaps)),
         }
     }
 }
@@ -132,28 +136,28 @@ fn is_frozen(word: u64) -> bool
     }
 }
 
-impl Task for Change {
-    ghost config = { λ t. t.config };
+impl Task for Delete {
+    ghost config = { config_of };
 
-    ghost asks = { λ t. change_asks t.config t.view t.phase };
+    ghost asks = { asks_of };
 
-    ghost left = { λ t. change_left t.phase };
+    ghost left = { left_of };
 
     ghost needs = { λ t. 0 };
 
-    ghost change = { λ t. deletion t.key t.view };
+    ghost change = { change_of };
 
-    ghost publishing = { λ t. change_publishes t.phase };
+    ghost publishing = { publishing_of };
 
-    ghost facts = { λ t. change_facts t.key t.view t.phase };
+    ghost facts = { facts_of };
 
-    ghost means = { λ t. change_means t.view };
+    ghost means = { means_of };
 
     ghost differs = { λ t seen. ⊥ };
 
     fn publishes(&self) -> bool {
         match self.phase {
-            Phase::Remove(_) => true,
+            DeletePhase::Remove(_) => true,
             _ => false,
         }
     }

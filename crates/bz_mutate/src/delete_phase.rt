@@ -1,10 +1,10 @@
-//! The phases of a change.
+//! The phases of a delete.
 
 use bz_record::FoundRecord;
 
-/// What a change asks for next.
+/// What a delete asks for next.
 #[derive(Clone, Copy, Drop)]
-pub(crate) enum Phase {
+pub(crate) enum DeletePhase {
     /// Nothing was asked for yet.
     Fresh,
     /// The swap that takes out this record.

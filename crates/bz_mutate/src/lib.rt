@@ -1,7 +1,10 @@
-//! The changes of a record that a leaf has: its delete, by one swap.
+//! The changes of a record that a leaf has: its delete, by one swap, and its update, by two.
 #![tactic(auto)]
 
-mod change;
-mod phase;
+mod delete;
+mod delete_phase;
+mod update;
+mod update_phase;
 
-pub use change::Change;
+pub use delete::Delete;
+pub use update::Update;

@@ -1,5 +1,5 @@
-use Rattle.bz_mutate.proofs.Acting.{effect}
-use Rattle.bz_mutate.proofs.change.ChangeTask.acted.Goals as goal
+use Rattle.bz_mutate.proofs.DeleteActing.{effect}
+use Rattle.bz_mutate.proofs.delete.DeleteTask.acted.Goals as goal
 
 pub returns-clause-effect : goal.returns-clause-effect
 returns-clause-effect c s y entries same facts good asks stand swaps =

@@ -1,5 +1,5 @@
-use Rattle.bz_mutate.proofs.Acting.{askable}
-use Rattle.bz_mutate.proofs.change.ChangeTask.learnt.Goals as goal
+use Rattle.bz_mutate.proofs.DeleteActing.{askable}
+use Rattle.bz_mutate.proofs.delete.DeleteTask.learnt.Goals as goal
 
 pub returns-clause-askable : goal.returns-clause-askable
 returns-clause-askable c s todo same facts good asks =

@@ -1,0 +1,30 @@
+-- A delete as a task.
+use Rattle.std.specs.Prelude.{ℕ, Bool, Option}
+use Rattle.bz_layout.specs.declared.config.Config.{Config}
+use Rattle.bz_task.specs.Scene.{Scene, Stage}
+use Rattle.bz_task.specs.Swaps.{Change}
+use Rattle.bz_task.specs.declared.todo.Outcome.{Outcome}
+use Rattle.bz_task.specs.declared.todo.Todo.{Todo}
+use Rattle.bz_mutate.specs.DeleteFacts.{delete_asks, delete_left, delete_publishes, delete_facts, delete_means, deletion}
+use Rattle.bz_mutate.specs.declared.delete.Delete.{Delete}
+
+abbrev pub config_of : Delete → Config
+config_of t = t.config
+
+abbrev pub asks_of : Delete → Option Todo
+asks_of t = delete_asks t.config t.view t.phase
+
+abbrev pub left_of : Delete → ℕ
+left_of t = delete_left t.phase
+
+abbrev pub change_of : Delete → Change
+change_of t = deletion t.key t.view
+
+abbrev pub publishing_of : Delete → Bool
+publishing_of t = delete_publishes t.phase
+
+abbrev pub facts_of : Delete → Stage → Scene → Type 0
+facts_of t = delete_facts t.key t.view t.phase
+
+abbrev pub means_of : Delete → Outcome → Scene → Type 0
+means_of t = delete_means t.view

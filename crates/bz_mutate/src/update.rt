@@ -1,0 +1,222 @@
+//! The task that updates a key of a leaf.
+
+ghost use Rattle.std.specs.Prelude.{◌≡◌, ◌≢◌, ◌↔◌, ◌-◌, ◌<◌, ◌≤◌, ◌^◌, ◌⊎◌, Some, None, true, false};
+ghost use Rattle.bz_layout.specs.Config.{IsConfig};
+ghost use Rattle.bz_slotted.specs.ReadingLaws.{node_of};
+ghost use Rattle.bz_slotted.specs.Readers.{found_of};
+ghost use Rattle.bz_word.specs.Statuses.{status};
+ghost use Rattle.bz_task.specs.Outcomes.{IsView};
+ghost use Rattle.bz_task.specs.Requests.{Hears, Tells, IsKnown};
+ghost use Rattle.bz_task.specs.Scene.{Scene, Stage, Waiting, IsScene};
+ghost use Rattle.bz_task.specs.declared.todo.Seen.TheVariants.{Swapped, NoSwap};
+ghost use Rattle.bz_record.specs.Records.{words_for, size_of, HasRoom, LacksRoom};
+ghost use Rattle.bz_record.specs.declared.found_record.FoundRecord.{FoundRecord};
+ghost use Rattle.bz_mutate.specs.Viewed.{CanBeFound, HasOthers};
+ghost use Rattle.bz_mutate.specs.UpdateDuties.{config_of, asks_of, left_of, change_of, publishing_of, facts_of, means_of};
+ghost use Rattle.bz_mutate.specs.UpdateFacts.{update_asks, update_left, update_facts, IsFirst, IsReady, next_store, next_flush};
+
+use crate::update_phase::UpdatePhase;
+use bz_call::Spent;
+use bz_key::{Key, Payload};
+use bz_layout::{Config, SHARED_WORDS, Slots};
+use bz_record::{FoundRecord, NewRecord};
+use bz_task::{LeafView, Outcome, Path, Seen, Task, Todo, laws};
+
+/// The update of a key in the leaf that a view shows. It ends with Done where the new record is in the place of the old one,
+/// with NeedsRoom where the viewed leaf is frozen or lacks the words, with Restart where a swap found another status, and with
+/// Full(Swaps).
+#[derive(Drop)]
+pub struct Update {
+    config: Config,
+    view: LeafView,
+    added: NewRecord,
+    phase: UpdatePhase,
+}
+
+impl Update {
+    /// The update of a key that its leaf has.
+    pub fn new(config: &Config, _path: Path, view: LeafView, key: Key, payload: Payload) -> Update
+        requires present { found_of (node_of view.image.0) key ≢ None }
+        ensures config { ⟦<Update as Task>⟧.config result ≡ config.now }
+        ensures asks { ⟦<Update as Task>⟧.asks result ≡ None }
+        ensures left { ⟦<Update as Task>⟧.left result ≡ 13 }
+        ensures needs { ⟦<Update as Task>⟧.needs result ≡ 0 }
+        ensures change { ⟦<Update as Task>⟧.change result ≡ record { key = key; old = found_of (node_of view.image.0) key; new = Some payload } }
+        ensures facts { (s : Scene) → s.past.config ≡ config.now → s.effected ≡ false → IsScene s → IsView key view s.past → ⟦<Update as Task>⟧.facts result Waiting s }
+        ensures done { (s : Scene) → ⟦<Update as Task>⟧.means result Outcome.Done s → s.effected ≡ true }
+        ensures no_path { (path : Path) (s : Scene) → ⟦<Update as Task>⟧.means result (Outcome.Path path) s → ⊥ }
+        ensures no_view { (other : LeafView) (s : Scene) → ⟦<Update as Task>⟧.means result (Outcome.View other) s → ⊥ }
+        // NeedsRoom comes exactly where the viewed leaf lacks room
+        ensures needs_room { (s : Scene) → ⟦<Update as Task>⟧.means result Outcome.NeedsRoom s → LacksRoom view.status (words_for key payload) }
+        ensures room { (s : Scene) (outcome : Outcome) → ⟦<Update as Task>⟧.means result outcome s → outcome ≢ Outcome.NeedsRoom → HasRoom view.status (words_for key payload) }
+    {
+        bz_key::laws::packing_is_small();
+        let _key = key.bytes();
+        let _payload = payload.bytes();
+        let added = NewRecord {
+            slot: view.slot,
+            status: view.status,
+            key,
+            payload,
+        };
+        Update {
+            config: *config,
+            view,
+            added,
+            phase: UpdatePhase::Fresh,
+        }
+    }
+
+    // The phase after what came of the last act.
+    fn after(&self, seen: Seen, moment: u32) -> UpdatePhase
+        requires hears { Hears (update_asks self.now.config self.now.added self.now.phase) seen }
+        requires known { IsKnown self.now.config (update_facts self.now.view self.now.added self.now.phase) (update_asks self.now.config self.now.added self.now.phase) seen moment }
+        ensures nearer { update_left result < update_left self.now.phase }
+        ensures done { result ≡ UpdatePhase.Done → seen ≡ Swapped true }
+        ensures restart { result ≡ UpdatePhase.Restart → seen ≡ Swapped false }
+        ensures full { (result ≡ UpdatePhase.Full) ↔ (seen ≡ NoSwap) }
+        ensures begun { result ≢ UpdatePhase.Fresh }
+        ensures config { IsConfig self.now.config }
+        ensures ready { IsReady self.now.config self.now.view self.now.added result }
+        ensures learns { (stage : Stage) (s : Scene) → s.past.config ≡ self.now.config → IsScene s → update_facts self.now.view self.now.added self.now.phase stage s → Tells (update_asks self.now.config self.now.added self.now.phase) stage seen s → update_facts self.now.view self.now.added result Waiting s }
+    {
+        let _moment = moment;
+        bz_record::laws::views_show_leaves();
+        bz_record::laws::views_show_records();
+        bz_record::laws::said_keys_are_found();
+        match (self.phase, seen) {
+            (UpdatePhase::Fresh, _) => self.begun(),
+            (UpdatePhase::Grow(old), Seen::Swapped(true)) => UpdatePhase::Store(old, 0),
+            (UpdatePhase::Store(old, i), Seen::Stored) => self.after_store(old, i),
+            (UpdatePhase::Flush(old, n), Seen::Flushed) => self.after_flush(old, n),
+            (UpdatePhase::Replace(_), Seen::Swapped(true)) => UpdatePhase::Done,
+            (UpdatePhase::Grow(_) | UpdatePhase::Replace(_), Seen::NoSwap) => UpdatePhase::Full,
+            _ => UpdatePhase::Restart,
+        }
+    }
+}
+
+impl Update {
+    // The first phase: the growth, where the leaf has room and the key's record is found.
+    fn begun(&self) -> UpdatePhase
+        requires plain { self.now.added.status < 2 ^ 61 }
+        requires viewed { self.now.view.status < 2 ^ 61 }
+        requires count { (status self.now.view.status).count ≤ SHARED_WORDS }
+        ensures found { (f : FoundRecord) → result ≡ UpdatePhase.Grow f → CanBeFound self.now.added.key self.now.view f }
+        ensures room { (f : FoundRecord) → result ≡ UpdatePhase.Grow f → HasRoom self.now.added.status (size_of self.now.added) }
+        ensures none { result ≡ UpdatePhase.NeedsRoom → LacksRoom self.now.added.status (size_of self.now.added) ⊎ HasOthers self.now.added.key self.now.view }
+        ensures either { IsFirst result }
+    {
+        if !self.added.has_room() {
+            return UpdatePhase::NeedsRoom;
+        }
+        match FoundRecord::find(&self.view.image, self.view.status, &self.added.key) {
+            Some(found) => UpdatePhase::Grow(found),
+            None => UpdatePhase::NeedsRoom,
+        }
+    }
+
+    // What a phase asks for.
+    fn asked(&self) -> Todo
+        requires begun { self.now.phase ≢ UpdatePhase.Fresh }
+        requires config { IsConfig self.now.config }
+        requires ready { IsReady self.now.config self.now.view self.now.added self.now.phase }
+        ensures { update_asks self.now.config self.now.added self.now.phase ≡ Some result }
+    {
+        match self.phase {
+            UpdatePhase::Fresh | UpdatePhase::Restart => Todo::Finish(Outcome::Restart),
+            UpdatePhase::Grow(_) => Todo::Swap(self.added.growth(&self.config)),
+            UpdatePhase::Store(_, i) => {
+                Todo::Store(self.added.address(&self.config, i), self.added.word(i))
+            }
+            UpdatePhase::Flush(_, n) => Todo::Flush(self.added.first_line(&self.config) + n),
+            UpdatePhase::Replace(old) => {
+                Todo::Swap(old.replacement(&self.added).entries(&self.config))
+            }
+            UpdatePhase::Done => Todo::Finish(Outcome::Done),
+            UpdatePhase::NeedsRoom => Todo::Finish(Outcome::NeedsRoom),
+            UpdatePhase::Full => Todo::Finish(Outcome::Full(Spent::Swaps)),
+        }
+    }
+
+    // The phase after the store of a word: that of the next one, or the first flush.
+    fn after_store(&self, old: FoundRecord, i: u32) -> UpdatePhase
+        requires { IsReady self.now.config self.now.view self.now.added (UpdatePhase.Store old i) }
+        ensures next { result ≡ next_store self.now.added old i }
+        ensures nearer { update_left result < 11 - i }
+        ensures ready { IsReady self.now.config self.now.view self.now.added result }
+    {
+        let size = self.added.size();
+        if i + 1 < size {
+            UpdatePhase::Store(old, i + 1)
+        } else {
+            UpdatePhase::Flush(old, 0)
+        }
+    }
+
+    // The phase after the flush of a line: that of the next one, or the replacement.
+    fn after_flush(&self, old: FoundRecord, n: u32) -> UpdatePhase
+        requires config { IsConfig self.now.config }
+        requires ready { IsReady self.now.config self.now.view self.now.added (UpdatePhase.Flush old n) }
+        ensures next { result ≡ next_flush self.now.config self.now.added old n }
+        ensures nearer { update_left result < 3 - n }
+        ensures ready { IsReady self.now.config self.now.view self.now.added result }
+    {
+        let line = self.added.first_line(&self.config) + n;
+        if line < self.added.last_line(&self.config) {
+            UpdatePhase::Flush(old, n + 1)
+        } else {
+            UpdatePhase::Replace(old)
+        }
+    }
+}
+
+impl Task for Update {
+    ghost config = { config_of };
+
+    ghost asks = { asks_of };
+
+    ghost left = { left_of };
+
+    ghost needs = { λ t. 0 };
+
+    ghost change = { change_of };
+
+    ghost publishing = { publishing_of };
+
+    ghost facts = { facts_of };
+
+    ghost means = { means_of };
+
+    ghost differs = { λ t seen. ⊥ };
+
+    fn publishes(&self) -> bool {
+        match self.phase {
+            UpdatePhase::Replace(_) => true,
+            _ => false,
+        }
+    }
+
+    fn next(&mut self, seen: Seen, slots: &mut Slots, moment: u32) -> Todo {
+        let _slots = slots;
+        laws::nothing_is_gained();
+        bz_record::laws::records_are_written();
+        self.phase = self.after(seen, moment);
+        self.asked()
+    }
+
+    fn learnt(&self) {
+        laws::views_stay();
+        bz_record::laws::records_were();
+        bz_record::laws::records_are_written();
+        bz_record::laws::changes_may_be_asked();
+    }
+
+    fn acted(&self) {
+        bz_record::laws::records_were();
+        bz_record::laws::records_are_written();
+        bz_record::laws::growths_are_good();
+        bz_record::laws::growths_take_words();
+        bz_record::laws::replacements_are_good();
+    }
+}
