@@ -11,62 +11,86 @@ use Rattle.bz_descend.specs.Facts.{descend_change}
 use Rattle.bz_insert.specs.Duties as insert
 use Rattle.bz_leaf.specs.Duties as leaf
 use Rattle.bz_leaf.specs.Facts.{leaf_change}
+use Rattle.bz_mutate.specs.DeleteDuties as delete
+use Rattle.bz_mutate.specs.UpdateDuties as update
 use Rattle.bz_running.specs.declared.running.Running.{Running}
-use Rattle.bz_running.specs.declared.running.Running.TheVariants.{Descending, Reading, Inserting}
+use Rattle.bz_running.specs.declared.running.Running.TheVariants.{Descending, Reading, Inserting, Updating, Deleting}
 
 unfoldable pub config_of : Running → Config
 config_of (Descending t) = descend.config_of t
 config_of (Reading t) = leaf.config_of t
 config_of (Inserting t) = insert.config_of t
+config_of (Updating t) = update.config_of t
+config_of (Deleting t) = delete.config_of t
 
 unfoldable pub asks_of : Running → Option Todo
 asks_of (Descending t) = descend.asks_of t
 asks_of (Reading t) = leaf.asks_of t
 asks_of (Inserting t) = insert.asks_of t
+asks_of (Updating t) = update.asks_of t
+asks_of (Deleting t) = delete.asks_of t
 
 unfoldable pub left_of : Running → ℕ
 left_of (Descending t) = descend.left_of t
 left_of (Reading t) = leaf.left_of t
 left_of (Inserting t) = insert.left_of t
+left_of (Updating t) = update.left_of t
+left_of (Deleting t) = delete.left_of t
 
 unfoldable pub needs_of : Running → ℕ
 needs_of (Descending t) = 0
 needs_of (Reading t) = 0
 needs_of (Inserting t) = 0
+needs_of (Updating t) = 0
+needs_of (Deleting t) = 0
 
 unfoldable pub change_of : Running → Change
 change_of (Descending t) = descend_change
 change_of (Reading t) = leaf_change
 change_of (Inserting t) = insert.change_of t
+change_of (Updating t) = update.change_of t
+change_of (Deleting t) = delete.change_of t
 
 unfoldable pub publishing_of : Running → Bool
 publishing_of (Descending t) = false
 publishing_of (Reading t) = false
 publishing_of (Inserting t) = insert.publishing_of t
+publishing_of (Updating t) = update.publishing_of t
+publishing_of (Deleting t) = delete.publishing_of t
 
 unfoldable pub facts_of : Running → Stage → Scene → Type 0
 facts_of (Descending t) = descend.facts_of t
 facts_of (Reading t) = leaf.facts_of t
 facts_of (Inserting t) = insert.facts_of t
+facts_of (Updating t) = update.facts_of t
+facts_of (Deleting t) = delete.facts_of t
 
 unfoldable pub means_of : Running → Outcome → Scene → Type 0
 means_of (Descending t) = descend.means_of t
 means_of (Reading t) = leaf.means_of t
 means_of (Inserting t) = insert.means_of t
+means_of (Updating t) = update.means_of t
+means_of (Deleting t) = delete.means_of t
 
 unfoldable pub differs_of : Running → Seen → Type 0
 differs_of (Descending t) = λ seen. ⊥
 differs_of (Reading t) = leaf.differs_of t
 differs_of (Inserting t) = λ seen. ⊥
+differs_of (Updating t) = λ seen. ⊥
+differs_of (Deleting t) = λ seen. ⊥
 
 -- it only looks up, and never publishes
 unfoldable pub is_lookup : Running → Bool
 is_lookup (Descending t) = true
 is_lookup (Reading t) = true
 is_lookup (Inserting t) = false
+is_lookup (Updating t) = false
+is_lookup (Deleting t) = false
 
 pub lookups-publish-nothing : (t : Running) → is_lookup t ≡ true → publishing_of t ≡ false
 unfolding is_lookup publishing_of
 lookups-publish-nothing (Descending t) e = refl
 lookups-publish-nothing (Reading t) e = refl
 lookups-publish-nothing (Inserting t) e = absurd (cc)
+lookups-publish-nothing (Updating t) e = absurd (cc)
+lookups-publish-nothing (Deleting t) e = absurd (cc)

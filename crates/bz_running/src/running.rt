@@ -1,9 +1,10 @@
 //! Whichever task it is.
 
-ghost use Rattle.std.specs.Prelude.{◌≡◌, ◌≤◌, true, false, None, Some};
+ghost use Rattle.std.specs.Prelude.{◌≡◌, ◌≢◌, ◌≤◌, true, false, None, Some};
 ghost use Rattle.bz_record.specs.Records.{words_for, LacksRoom};
 ghost use Rattle.bz_slotted.specs.Readers.{found_of};
 ghost use Rattle.bz_slotted.specs.ReadingLaws.{node_of};
+ghost use Rattle.bz_word.specs.Statuses.{status};
 ghost use Rattle.bz_task.specs.Outcomes.{IsPath, IsView};
 ghost use Rattle.bz_task.specs.Requests.{Hears, IsKnown};
 ghost use Rattle.bz_task.specs.Scene.{Scene, Waiting, IsScene, HasFilled};
@@ -17,6 +18,7 @@ use bz_insert::Insert;
 use bz_key::{Key, Payload};
 use bz_layout::{Config, ROOT_STATUS_AT, Slots};
 use bz_leaf::ReadLeaf;
+use bz_mutate::{Delete, Update};
 use bz_task::{LeafView, Outcome, Path, Seen, Task, Todo};
 
 /// A task on the tree.
@@ -25,6 +27,8 @@ pub enum Running {
     Descending(Descend),
     Reading(ReadLeaf),
     Inserting(Insert),
+    Updating(Update),
+    Deleting(Delete),
 }
 
 impl Running {
@@ -78,6 +82,44 @@ impl Running {
         Running::Inserting(Insert::new(config, path, view, key, payload))
     }
 
+    /// The update of a key that its viewed leaf has.
+    #[tactic(auto, unfolding(crate::specs::Duties::config_of, crate::specs::Duties::asks_of, crate::specs::Duties::needs_of, crate::specs::Duties::change_of, crate::specs::Duties::facts_of, crate::specs::Duties::means_of))]
+    pub fn update(
+        config: &Config,
+        path: Path,
+        view: LeafView,
+        key: Key,
+        payload: Payload,
+    ) -> Running
+        requires present { found_of (node_of view.image.0) key ≢ None }
+        ensures config { config_of result ≡ config.now }
+        ensures asks { asks_of result ≡ None }
+        ensures needs { needs_of result ≡ 0 }
+        ensures change { change_of result ≡ record { key = key; old = found_of (node_of view.image.0) key; new = Some payload } }
+        ensures facts { (s : Scene) → s.past.config ≡ config.now → s.effected ≡ false → IsScene s → IsView key view s.past → facts_of result Waiting s }
+        ensures ends { IsLookup key result }
+        // NeedsRoom comes exactly where the viewed leaf lacks room
+        ensures needs_room { (s : Scene) → means_of result Outcome.NeedsRoom s → LacksRoom view.status (words_for key payload) }
+    {
+        Running::Updating(Update::new(config, path, view, key, payload))
+    }
+
+    /// The delete of a key that its viewed leaf has.
+    #[tactic(auto, unfolding(crate::specs::Duties::config_of, crate::specs::Duties::asks_of, crate::specs::Duties::needs_of, crate::specs::Duties::change_of, crate::specs::Duties::facts_of, crate::specs::Duties::means_of))]
+    pub fn delete(config: &Config, path: Path, view: LeafView, key: Key) -> Running
+        requires present { found_of (node_of view.image.0) key ≢ None }
+        ensures config { config_of result ≡ config.now }
+        ensures asks { asks_of result ≡ None }
+        ensures needs { needs_of result ≡ 0 }
+        ensures change { change_of result ≡ record { key = key; old = found_of (node_of view.image.0) key; new = None } }
+        ensures facts { (s : Scene) → s.past.config ≡ config.now → s.effected ≡ false → IsScene s → IsView key view s.past → facts_of result Waiting s }
+        ensures ends { IsLookup key result }
+        // NeedsRoom comes exactly where the viewed leaf is frozen
+        ensures needs_room { (s : Scene) → means_of result Outcome.NeedsRoom s → (status view.status).frozen ≡ true }
+    {
+        Running::Deleting(Delete::new(config, path, view, key))
+    }
+
     /// Tells the task what came of its last act, and answers what it asks for next: `next`, and that a lookup stays one.
     #[tactic(auto, unfolding(crate::specs::Duties::config_of, crate::specs::Duties::asks_of, crate::specs::Duties::left_of, crate::specs::Duties::needs_of, crate::specs::Duties::change_of, crate::specs::Duties::facts_of, crate::specs::Duties::means_of, crate::specs::Duties::differs_of, crate::specs::Duties::is_lookup))]
     pub fn hear(&mut self, seen: Seen, slots: &mut Slots, moment: u32) -> Todo
@@ -89,6 +131,8 @@ impl Running {
             Running::Descending(task) => task.next(seen, slots, moment),
             Running::Reading(task) => task.next(seen, slots, moment),
             Running::Inserting(task) => task.next(seen, slots, moment),
+            Running::Updating(task) => task.next(seen, slots, moment),
+            Running::Deleting(task) => task.next(seen, slots, moment),
         }
     }
 
@@ -126,6 +170,8 @@ impl Task for Running {
             Running::Descending(task) => task.publishes(),
             Running::Reading(task) => task.publishes(),
             Running::Inserting(task) => task.publishes(),
+            Running::Updating(task) => task.publishes(),
+            Running::Deleting(task) => task.publishes(),
         }
     }
 
@@ -135,6 +181,8 @@ impl Task for Running {
             Running::Descending(task) => task.next(seen, slots, moment),
             Running::Reading(task) => task.next(seen, slots, moment),
             Running::Inserting(task) => task.next(seen, slots, moment),
+            Running::Updating(task) => task.next(seen, slots, moment),
+            Running::Deleting(task) => task.next(seen, slots, moment),
         }
     }
 
@@ -144,6 +192,8 @@ impl Task for Running {
             Running::Descending(task) => task.learnt(),
             Running::Reading(task) => task.learnt(),
             Running::Inserting(task) => task.learnt(),
+            Running::Updating(task) => task.learnt(),
+            Running::Deleting(task) => task.learnt(),
         }
     }
 
@@ -153,6 +203,8 @@ impl Task for Running {
             Running::Descending(task) => task.acted(),
             Running::Reading(task) => task.acted(),
             Running::Inserting(task) => task.acted(),
+            Running::Updating(task) => task.acted(),
+            Running::Deleting(task) => task.acted(),
         }
     }
 }
