@@ -1,11 +1,27 @@
-pub mod Finding
-pub mod Placing
-pub mod TableLemmas
-pub mod OpenLemmas
-pub mod BeginLemmas
-pub mod EndLemmas
-pub mod AnswerLemmas
-pub mod ContentLemmas
-pub mod InsertLemmas
-pub mod Records
-pub mod StepLemmas
+mod Staying
+mod Marking
+mod Stepped
+mod Quiet
+mod Answered
+mod Stored
+mod Went
+mod Owners
+mod Striking
+mod StruckQuietly
+mod Published
+mod ActStrikes
+mod Evicting
+mod Struck
+mod Acting
+mod Telling
+mod Starting
+mod SwapStarts
+mod Started
+mod Ended
+mod TakingOn
+mod Spending
+mod Answering
+mod Inserting
+mod Beginning
+mod Stepping
+mod Openings

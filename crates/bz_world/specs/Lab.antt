@@ -1,37 +1,47 @@
 -- What callers see of a world, and what it answers.
-use Rattle.std.specs.Prelude.{◌≡◌, ◌<◌, ◌≤◌, ◌⊎◌, ℕ, ◌+◌, ◌-◌, Bool, false, ◌==◌, ◌||◌, ◌&&◌, nat_lt, nat_le, if◌then◌else◌, is_some, is_none, List, [], ◌∷◌, ◌++◌, length, Option, Some, None, MatchOption}
-use Rattle.std.specs.FinMap.{empty}
-use Rattle.bz_call.specs.Pages.{is_page, names_page}
+use Rattle.std.specs.Prelude.{◌≡◌, ◌≢◌, ◌<◌, ◌≤◌, ◌⊎◌, ℕ, ◌+◌, ◌-◌, Bool, true, false, ◌==◌, ◌||◌, ◌&&◌, nat_lt, nat_le, if◌then◌else◌, is_some, is_none, get_or, slice_set, replicate, List, [], ◌∷◌, ◌++◌, length, Option, Some, None, MatchOption}
+use Rattle.bz_acts.specs.Rule.{is_flush_act}
+use Rattle.bz_acts.specs.declared.acted.Act.{Act}
+use Rattle.bz_acts.specs.declared.acted.Act.TheVariants as act
+use Rattle.bz_call.specs.Pages.{is_page}
 use Rattle.bz_call.specs.declared.calls.Call.{Call}
 use Rattle.bz_call.specs.declared.calls.Call.TheVariants as call
 use Rattle.bz_call.specs.declared.replies.Reply.{Reply}
+use Rattle.bz_layout.specs.Addresses.{words_of}
 use Rattle.bz_layout.specs.Config.{IsConfig, IsFirstOutOfRange}
+use Rattle.bz_layout.specs.Fresh.{fresh_words}
 use Rattle.bz_layout.specs.declared.config.Config.{Config}
-use Rattle.bz_world.specs.declared.answers.OpenError.{OpenError}
-use Rattle.bz_world.specs.declared.answers.OpenError.TheVariants as open_error
 use Rattle.bz_mark.specs.Log.{Log, with_mark, count_begins, count_page_calls, count_page_ends}
 use Rattle.bz_mark.specs.declared.marks.Mark.{Mark}
-use Rattle.bz_mark.specs.declared.marks.Mark.TheVariants.{Begin, End, Effect}
+use Rattle.bz_mark.specs.declared.marks.Mark.TheVariants.{Begin, End, Load, Store, Cas, Flush, Evict, Effect}
 use Rattle.bz_sound.specs.Calls.{open_call, begun_calls}
-use Rattle.bz_sound.specs.Replies.{Pages, IsAnswer}
-use Rattle.bz_world.specs.declared.answers.Which.TheVariants as which
+use Rattle.bz_sound.specs.Replies.{Pages}
+use Rattle.bz_world.specs.declared.answers.Applied.{Applied}
+use Rattle.bz_world.specs.declared.answers.Applied.TheVariants as applied
 use Rattle.bz_world.specs.declared.answers.Begun.{Begun}
 use Rattle.bz_world.specs.declared.answers.Begun.TheVariants as begun
 use Rattle.bz_world.specs.declared.answers.Event.{Event}
-use Rattle.bz_world.specs.declared.answers.Event.TheVariants.{Step}
-use Rattle.bz_world.specs.declared.answers.Applied.{Applied}
-use Rattle.bz_world.specs.declared.answers.Applied.TheVariants as applied
+use Rattle.bz_world.specs.declared.answers.Event.TheVariants as event
+use Rattle.bz_world.specs.declared.answers.OpenError.{OpenError}
+use Rattle.bz_world.specs.declared.answers.OpenError.TheVariants as open_error
+use Rattle.bz_world.specs.declared.answers.Which.TheVariants as which
 
--- the numbers that the world was made with, and its journal
+-- the numbers that the world was made with, its journal, and of each worker, from worker 0 on, whether its next act is a flush
 pub record Lab : Type 0 where
   pub config : Config
   pub log : Log
+  pub flushes : List Bool
 
--- a world with nothing in it. Its journal's start image is empty while no memory stands under the map.
+-- whether the next act of a worker is a flush
+abbrev pub flush_of : Lab → ℕ → Bool
+flush_of lab w = get_or lab.flushes w false
+
+-- a world over fresh memory, in which nothing has happened
 abbrev pub new_lab : Config → Lab
 new_lab config = record {
   config = config;
-  log = record { start = []; past = []; pages = []; limits = record { marks = config.marks; calls = config.calls; pages = config.pages } };
+  log = record { start = fresh_words config; past = []; pages = []; limits = record { marks = config.marks; calls = config.calls; pages = config.pages } };
+  flushes = replicate (config.workers + 1) false;
 }
 
 -- why no world was opened: the first number out of its range, or want of memory, and then none is
@@ -69,12 +79,9 @@ begin_answer lab w called =
     else (if lacks_page lab.log called then begun.Limit which.Pages
     else begun.Begun (begun_calls w lab.log.past + 1)))))
 
-abbrev pub with_log : Lab → Log → Lab
-with_log lab log = record { config = lab.config; log = log }
-
--- a begin adds its mark where it is no refusal, and changes nothing else
+-- a begin adds its mark where it is no refusal, and changes nothing else: a call's first act is no flush
 abbrev pub after_begin : Lab → ℕ → Call → Begun → Lab
-after_begin lab w called (begun.Begun n) = with_log lab (with_mark lab.log (Begin w n called))
+after_begin lab w called (begun.Begun n) = record lab { log = with_mark lab.log (Begin w n called); flushes = slice_set lab.flushes w false }
 after_begin lab w called refusal = lab
 
 -- the first refusal of a step that applies
@@ -85,34 +92,56 @@ step_refusal lab w =
     else (if is_none (open_call w lab.log.past) then Some applied.Idle
     else None))
 
--- the marks of one step of a worker: at most an Effect of its call, and then its End. In this stage each
--- step ends its call.
-abbrev pub StepMarks : List Mark → ℕ → Applied → List Mark → Type 0
-StepMarks past w (applied.Ended n) new =
-    (reply : Reply) × ((at : ℕ) × ((new ≡ End w n reply at ∷ past) ⊎ (new ≡ End w n reply at ∷ Effect w n ∷ past)))
-StepMarks past w other new = ⊥
+-- and of an eviction
+abbrev pub evict_refusal : Lab → ℕ → Option Applied
+evict_refusal lab a =
+    if nat_le (words_of lab.config) a then Some applied.NoWord
+    else (if is_short lab.log then Some applied.Limit
+    else None)
 
--- a step adds its marks, and the page that its End names if it names one, and changes nothing else
-pub record Steps (old : Lab) (w : ℕ) (answer : Applied) (new : Lab) : Type 0 where
-  pub past : List Mark
+-- the mark of an act
+abbrev pub mark_of : ℕ → Act → Mark
+mark_of w (act.Load a v) = Load w a v
+mark_of w (act.Store a v) = Store w a v
+mark_of w (act.Cas a old new found) = Cas w a old new found
+mark_of w (act.Flush line) = Flush w line
+
+-- at most an Effect follows, of any worker's call
+abbrev pub IsStruck : List Mark → List Mark → Type 0
+IsStruck past new = (new ≡ past) ⊎ ((w : ℕ) × ((n : ℕ) × (new ≡ Effect w n ∷ past)))
+
+-- then the worker's call goes on, or its End follows, with the page that it names if it names one
+pub record IsEnding (old : Log) (w n : ℕ) (new : Log) : Type 0 where
+  pub reply : Reply
+  pub at : ℕ
   pub added : Pages
-  pub marks : StepMarks old.log.past w answer past
-  pub pages : count_page_ends past ≡ count_page_ends old.log.past + length added
-  pub rest : new ≡ with_log old (record { start = old.log.start; past = past; pages = old.log.pages ++ added; limits = old.log.limits })
+  pub is : new ≡ record old { past = End w n reply at ∷ old.past; pages = old.pages ++ added }
+  pub pages : count_page_ends new.past ≡ count_page_ends old.past + length added
 
-abbrev pub worker_of : Event → ℕ
-worker_of (Step w) = w
+abbrev pub GoesOn : Log → ℕ → Applied → Log → Type 0
+GoesOn old w applied.Stepped new = new ≡ old
+GoesOn old w (applied.Ended n) new = IsEnding old w n new
+GoesOn old w other new = ⊥
 
--- this call of the worker is open, and has no effect yet
-abbrev pub IsOpen : List Mark → ℕ → Call → Type 0
-IsOpen past w called = (number : ℕ) × ((begun : ℕ) × (open_call w past ≡ Some (record { number = number; call = called; begun = begun; effect = None })))
+-- a step of a worker: exactly one act of it, a flush exactly where that was said before; at most one effect; at most its
+-- call's End. What the next acts of the others are stays.
+pub record Steps (old : Lab) (w : ℕ) (answer : Applied) (new : Lab) : Type 0 where
+  pub made : Act
+  pub flush : is_flush_act made ≡ flush_of old w
+  pub struck : List Mark
+  pub effect : IsStruck (mark_of w made ∷ old.log.past) struck
+  pub ends : GoesOn (record old.log { past = struck }) w answer new.log
+  pub config : new.config ≡ old.config
+  pub others : (v : ℕ) → v ≢ w → flush_of new v ≡ flush_of old v
 
--- a call without effect may end now with this reply, which names no page
-pub record EndsSo (log : Log) (called : Call) (reply : Reply) : Type 0 where
-  pub right : IsAnswer empty log.pages log.past called None reply (length log.past)
-  pub asks_none : is_page called ≡ false
-  pub names_none : names_page reply ≡ false
+-- an eviction: its mark, and at most one effect
+pub record Evicts (old : Lab) (a : ℕ) (answer : Applied) (new : Lab) : Type 0 where
+  pub answered : answer ≡ applied.Evicted
+  pub past : List Mark
+  pub effect : IsStruck (Evict a ∷ old.log.past) past
+  pub rest : new ≡ record old { log = record old.log { past = past } }
 
--- the answer to a step: a refusal exactly where one applies, and then nothing changes
-abbrev pub IsApplied : Lab → ℕ → Applied → Lab → Type 0
-IsApplied old w answer new = MatchOption (step_refusal old w) (Steps old w answer new) (λ refusal. (answer ≡ refusal) × (new ≡ old))
+-- the answer to an event: a refusal exactly where one applies, and then nothing changes
+abbrev pub IsApplied : Lab → Event → Applied → Lab → Type 0
+IsApplied old (event.Step w) answer new = MatchOption (step_refusal old w) (Steps old w answer new) (λ refusal. (answer ≡ refusal) × (new ≡ old))
+IsApplied old (event.Evict a) answer new = MatchOption (evict_refusal old a) (Evicts old a answer new) (λ refusal. (answer ≡ refusal) × (new ≡ old))

@@ -1,3 +1,9 @@
 pub mod Lab
-pub mod Places
+pub mod Serving
 pub mod Kept
+pub mod Acted
+pub mod Laws
+pub mod Telling
+pub mod Opening
+pub mod Going
+pub mod Beginning

@@ -12,8 +12,11 @@ pub enum Which {
 /// What may happen next.
 #[derive(Clone, Copy, Debug, PartialEq, Eq)]
 pub enum Event {
-    /// The worker goes on with its open call.
+    /// The worker makes one memory act of its open call.
     Step(u8),
+
+    /// The cached word at an address becomes durable by itself.
+    Evict(u32),
 }
 
 /// Why no world was opened.
@@ -39,7 +42,7 @@ pub enum Begun {
     Limit(Which),
 }
 
-/// The answer to an event. `NoWorker`, `Limit` and `Idle` are refusals, which leave the world as it was.
+/// The answer to an event. `NoWorker`, `NoWord`, `Limit` and `Idle` are refusals, which leave the world as it was.
 #[derive(Clone, Copy, Debug, PartialEq, Eq)]
 pub enum Applied {
     /// The call goes on.
@@ -48,8 +51,14 @@ pub enum Applied {
     /// The call with this number has ended.
     Ended(u32),
 
+    /// The word is durable.
+    Evicted,
+
     /// There is no such worker.
     NoWorker,
+
+    /// The memory has no such word.
+    NoWord,
 
     /// The journal has fewer than three places left.
     Limit,

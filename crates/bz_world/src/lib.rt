@@ -1,11 +1,21 @@
-//! The world: workers, their calls, and the journal of what happened. In this stage the map is a plain
-//! list of pairs beside the journal, with as much room as one leaf has.
+//! The world: workers, their calls, the memory that they share, and the journal of what happened.
 #![tactic(auto)]
 
+mod act;
 mod answers;
-mod find;
-mod room;
-mod steps;
+mod begin;
+mod calls;
+mod end;
+mod going;
+mod laws;
+mod open;
+mod parts;
+mod serving;
+mod settle;
+mod start;
+mod step;
+mod strike;
+mod tell;
 mod world;
 
 pub use answers::{Applied, Begun, Event, OpenError, Which};

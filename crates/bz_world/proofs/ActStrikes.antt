@@ -1,0 +1,49 @@
+-- An act of a worker by which a swap takes effect.
+use Rattle.std.proofs.Common.{◌≡◌, ◌≢◌, ◌⊎◌, ℕ, suc, ◌+◌, ◌*◌, ◌<◌, ◌≤◌, Bool, true, false, List, ◌∷◌, length, slice_index, arith, refl, sym, ap, subst, ◌∙◌, inl, inr, Option, Some, None}
+use Rattle.std.specs.Prelude.{get_or}
+use Rattle.std.proofs.lemmas.Bool.{cases_eq}
+use Rattle.bz_acts.specs.declared.acted.Act.{Act}
+use Rattle.bz_machine.specs.declared.done.Done.{Done}
+use Rattle.bz_machine.specs.declared.done.Done.TheVariants.{Busy}
+use Rattle.bz_mark.specs.Log.{with_mark}
+use Rattle.bz_sight.specs.Acts.{EffectStepsTakePlace}
+use Rattle.bz_sound.specs.Memory.Moments.{IsAfterFlush, map_at_start}
+use Rattle.bz_swap.specs.EffectPlaces.{EffectsStayInside}
+use Rattle.bz_swap.specs.Steps.{doing_after}
+use Rattle.bz_swap.specs.SwapMemory.{SwapMemory, doing_of}
+use Rattle.bz_swap.specs.TakenStatuses.{TakenStatusesStay, BegunStayTaken}
+use Rattle.bz_world.specs.Acted.{IsActed, IsStriking}
+use Rattle.bz_world.specs.Kept.{IsKept}
+use Rattle.bz_world.specs.Lab.{mark_of}
+use Rattle.bz_world.specs.declared.parts.Parts.{Parts}
+use Rattle.bz_world.specs.declared.serving.Serving.{Serving}
+use Rattle.bz_world.proofs.Owners.{pending-begun}
+use Rattle.bz_world.proofs.Marking.{act-marked, act-follows}
+use Rattle.bz_world.proofs.Quiet.{some-worker, call-is-open}
+use Rattle.bz_world.proofs.Stepped.{act-tabled, act-taken, held}
+
+busy-by : (done : Done) (s : ℕ) → (done ≡ Busy) ⊎ (Some s ≡ None) → done ≡ Busy
+busy-by done s (inl e) = e
+busy-by done s (inr e) = absurd (cc)
+
+pub act-strikes : EffectStepsTakePlace → EffectsStayInside → TakenStatusesStay → BegunStayTaken → (old new : Parts) (w s : ℕ) (x : Serving) (made : Act) (done : Done) → IsKept old → get_or old.workers.items w None ≡ Some x → IsActed old w made done (Some s) new
+    → length old.journal.past < old.config.marks → IsStriking new s
+act-strikes place inside taken begun old new w s x made done k is-worker a room = record {
+  before = old;
+  mark = mark_of w made;
+  kept = k;
+  takes = place old.config (k.story.at (length old.journal.past)) old.access new.access w made done s k.living.seen a.step a.held;
+  work = record { doing = doing; taken = a.step.one.others.taken; size = a.step.one.others.size };
+  tabled = act-tabled old new w made done (Some s) k.tabled a room;
+  taken = act-taken taken begun old new w made done (Some s) k.taken (held old.access k.living.seen.phase k.living.seen.holds) k.living.seen.swaps a (some-worker old k w x is-worker) (pending-begun old k);
+  marked = act-marked w old.access new.access old.journal made k.living.words a.step.one.act;
+  flush = subst (λ (z : Act). IsAfterFlush (mark_of w z ∷ old.journal.past)) (sym (inside.step old.access new.access w made done s (held old.access k.living.seen.phase k.living.seen.holds).memory a.step).act) tt;
+  follows = act-follows (map_at_start old.config old.journal.start) old.journal.past w made (call-is-open old k w x is-worker);
+  rest = a.rest;
+}
+  where
+    doing : (v : ℕ) → doing_of new.access v ≡ doing_of old.access v
+    doing v = elim (cases_eq v w) [
+      | inl e ↦ subst (λ u. doing_of new.access u ≡ doing_of old.access u) (sym e) (a.step.one.doing ∙ ap (doing_after (doing_of old.access w)) (busy-by done s a.step.later))
+      | inr ne ↦ ap (λ z. z.doing) (a.step.one.others.workers v ne)
+    ]

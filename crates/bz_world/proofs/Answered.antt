@@ -1,0 +1,180 @@
+-- What a worker is told of an act at which no swap took effect: a read, a swap or a flush is answered, or goes on.
+use Rattle.std.proofs.Common.{◌≡◌, ◌≢◌, ◌⊎◌, ℕ, suc, ◌+◌, ◌*◌, ◌<◌, ◌≤◌, ◌==◌, if◌then◌else◌, Bool, true, false, List, ◌∷◌, length, slice_index, arith, refl, sym, ap, subst, ◌∙◌, inl, inr, Option, Some, None}
+use Rattle.std.specs.Prelude.{get_or}
+use Rattle.std.proofs.lemmas.Bool.{cases_eq}
+use Rattle.std.proofs.lemmas.Bool.Decides.{nat_tests}
+use Rattle.std.proofs.lemmas.Grind.{common_steps}
+use Rattle.bz_acts.specs.declared.acted.Act.{Act}
+use Rattle.bz_acts.specs.declared.acted.Act.TheVariants.{Load}
+use Rattle.bz_machine.specs.declared.done.Done.{Done}
+use Rattle.bz_machine.specs.declared.done.Done.TheVariants as done
+use Rattle.bz_mark.specs.Log.{with_mark}
+use Rattle.bz_mark.specs.MomentLaws.{mark_at-newest}
+use Rattle.bz_running.specs.Duties.{asks_of, facts_of}
+use Rattle.bz_sight.specs.Passing.{AllStay}
+use Rattle.bz_sight.specs.Acts.{IsFlushing}
+use Rattle.bz_word.specs.declared.entry.Entry.{Entry}
+use Rattle.bz_sight.specs.Sight.{answer_at}
+use Rattle.bz_sight.specs.Starts.{Sees}
+use Rattle.bz_sound.specs.Calls.{Open}
+use Rattle.bz_story.specs.Laws.{HasBegun, goes_on}
+use Rattle.bz_story.specs.Living.{IsLiving}
+use Rattle.bz_story.specs.Story.{Story, scene, loaded, is_load_of}
+use Rattle.bz_swap.specs.SwapMemory.{SwapMemory, Doing, Idle, Reading, Swapping, Storing, Flushing, doing_of, has_effect, words_of, value_at, is_named}
+use Rattle.bz_swap.specs.Steps.{IsAnswer, AnswersRead}
+use Rattle.bz_acts.specs.Rule.{IsActOf}
+use Rattle.bz_cells.specs.Store.{is_outside}
+use Rattle.bz_layout.specs.Addresses.{IsOutsideSwaps, node_address, swap_address}
+use Rattle.bz_layout.specs.declared.config.Config.{Config}
+use Rattle.bz_sight.specs.Sight.{next_instant}
+use Rattle.bz_story.specs.Story.{and_then}
+use Rattle.bz_task.specs.Instant.{Instant}
+use Rattle.bz_task.specs.Requests.{Answers, IsReadable}
+use Rattle.bz_task.specs.OwnActs.{Flushes}
+use Rattle.bz_task.specs.Requests.{Hears, Tells}
+use Rattle.bz_task.specs.Scene.{Scene, Stage, IsLawful, Waiting, Took}
+use Rattle.bz_task.specs.declared.todo.Seen.{Seen}
+use Rattle.bz_task.specs.declared.todo.Seen.TheVariants as seen
+use Rattle.bz_task.specs.declared.todo.Todo.{Todo}
+use Rattle.bz_task.specs.declared.todo.Todo.TheVariants as todo
+use Rattle.bz_world.specs.Acted.{IsActed, IsBetween, IsTold}
+use Rattle.bz_world.specs.Kept.{IsKept}
+use Rattle.bz_world.specs.Lab.{mark_of}
+use Rattle.bz_world.specs.Serving.{IsServing, IsDoing, IsSlot, stage_in}
+use Rattle.bz_world.specs.declared.parts.Parts.{Parts}
+use Rattle.bz_world.specs.declared.serving.Serving.{Serving}
+use Rattle.bz_world.specs.Laws.{StepLaws}
+use Rattle.bz_world.proofs.Staying.{SameFor}
+use Rattle.bz_world.proofs.Quiet.{serves, sees, askable, passes, goes, same-other, same-own, stays, goes-on, answered}
+
+-- the world with an act made
+abbrev pub acted : Parts → Parts → ℕ → Act → Parts
+acted old new w made = record old { access = new.access; journal = with_mark old.journal (mark_of w made) }
+
+-- an address outside the descriptors
+outside-of : (c : Config) (d : ℕ) → IsOutsideSwaps c d → is_outside c.swaps d ≡ true
+outside-of c d (inl l) = grind (arith, common_steps)
+outside-of c d (inr l) = grind (arith, common_steps)
+
+-- the last moment
+now-is : (at : ℕ → Instant) (n : ℕ) (y : Instant) → and_then at n y (suc n) ≡ y
+now-is at n y = let t : (suc n == suc n) ≡ true = grind (arith, nat_tests) in rw t refl
+
+-- an act that is no private store
+module _ (b : StepLaws) (old new : Parts) (w : ℕ) (x : Serving) (made : Act) (answer : Done) (k : IsKept old) (is-worker : get_or old.workers.items w None ≡ Some x) (a : IsActed old w made answer None new) (room : length old.journal.past < old.config.marks)
+    (no-store : (d u : ℕ) → doing_of old.access w ≢ Storing d u) where
+  abbrev pub after : Story
+  after = goes_on old.journal k.story new.access k.story.filled
+
+  abbrev pub its : IsServing old.config old.access old.journal k.story old.owners.items w x
+  its = serves old k w x is-worker
+
+  abbrev pub before : Scene
+  before = scene old.config old.journal.past k.story w its.opened
+
+  abbrev pub later : Scene
+  later = scene old.config (mark_of w made ∷ old.journal.past) after w its.opened
+
+  pub all-stay : AllStay old.access new.access
+  all-stay = b.caches old.access new.access w made answer None a.step no-store
+
+  pub living : IsLiving old.config new.access (with_mark old.journal (mark_of w made)) after
+  living = b.lives old.config old.access new.access old.journal k.story (mark_of w made) k.story.filled (goes b old new w x made answer k is-worker a)
+
+  pub lawful : (v : ℕ) (opened : Open) → HasBegun old.journal opened → IsLawful (scene old.config old.journal.past k.story v opened) (scene old.config (mark_of w made ∷ old.journal.past) after v opened)
+  lawful v opened begun = b.quiet old.config old.access new.access old.journal k.story (mark_of w made) v opened (goes b old new w x made answer k is-worker a) all-stay begun
+
+  pub slots : (v : ℕ) → SameFor old.access new.access v → IsSlot old.config new.access (with_mark old.journal (mark_of w made)) after old.owners.items v (get_or old.workers.items v None)
+  slots v same = stays b old new w x made answer k is-worker a after v living same (lawful v)
+
+  pub others : (v : ℕ) → v ≢ w → IsSlot old.config new.access (with_mark old.journal (mark_of w made)) after old.owners.items v (get_or old.workers.items v None)
+  others v ne = slots v (same-other b old new w x made answer k is-worker a v ne)
+
+  -- it goes on
+  pub busy-on : answer ≡ done.Busy → IsKept new
+  busy-on e = goes-on b old new w x made answer k is-worker a after room living (λ v. elim (cases_eq v w) [
+    | inl same ↦ slots v (subst (SameFor old.access new.access) (sym same) (same-own b old new w x made answer k is-worker a e))
+    | inr ne ↦ others v ne
+  ])
+
+  pub later-seen : Sees old.config (after.at (suc (length old.journal.past))) later
+  later-seen = b.scenes old.config new.access (with_mark old.journal (mark_of w made)) after w its.opened living (omega (arith, its.call_open.begun))
+
+  -- what it knows stays
+  pub knows : facts_of x.task (stage_in old.access (doing_of old.access w)) later
+  knows = its.tasked.laws.stable (stage_in old.access (doing_of old.access w)) before later (sym its.tasked.config) its.facts later-seen.scene (lawful w its.opened its.call_open.begun)
+
+  -- and it is to be told
+  pub be-told : (stage : Stage) (what : Seen) → answer ≢ done.Busy → facts_of x.task stage later → Hears (asks_of x.task) what → Tells (asks_of x.task) stage what later → IsTold new w x what
+  be-told stage what ne facts hears tells = subst (λ p. IsTold p w x what) (sym a.rest) (record {
+    between = answered b old new w x made answer k is-worker a after room ne living others;
+    tasked = its.tasked;
+    stage = stage;
+    facts = facts;
+    hears = hears;
+    tells = tells;
+  })
+
+  -- a read answers what the address holds
+  module _ (c v : ℕ) (asked : its.asked ≡ todo.Read c) (reads : doing_of old.access w ≡ Reading c) (found : AnswersRead new.access c made v) where
+    readable : IsReadable before c
+    readable = askable b old new w x made answer k is-worker a (todo.Read c) asked (ap (stage_in old.access) reads)
+
+    outside : is_outside new.access.swaps c ≡ true
+    outside = ap (λ n. is_outside n c) (a.step.one.others.swaps ∙ k.living.seen.swaps) ∙ outside-of old.config c readable.outside
+
+    cached-is : slice_index new.access.cached c ≡ v
+    cached-is =
+        let act : IsActOf (words_of old.access) (Load c v) (words_of new.access) = subst (λ (z : Act). IsActOf (words_of old.access) z (words_of new.access)) found.load a.step.one.act in
+        ap (λ z. slice_index z.cached c) act.after ∙ sym act.found
+
+    holds-by : (named : Bool) → is_named new.access c ≡ named → (if named then value_at new.access c else slice_index new.access.cached c) ≡ v
+    holds-by true e = found.value e
+    holds-by false e = cached-is
+
+    holds : answer_at new.access c ≡ v
+    holds = ap (λ (t : Bool). if t then (if is_named new.access c then value_at new.access c else slice_index new.access.cached c) else 0) outside ∙ holds-by (is_named new.access c) refl
+
+    here-is : (after.at (suc (length old.journal.past))).value c ≡ v
+    here-is = ap (λ z. z.value c) (now-is k.story.at (length old.journal.past) (next_instant new.access (k.story.at (length old.journal.past)))) ∙ holds
+
+    loads-is : loaded (mark_of w made ∷ old.journal.past) w (suc (length old.journal.past)) ≡ true
+    loads-is = ap (is_load_of w) (mark_at-newest (mark_of w made) old.journal.past) ∙ subst (λ (z : Act). is_load_of w (Some (mark_of w z)) ≡ true) (sym found.load) (let t : (w == w) ≡ true = grind (arith, nat_tests) in t)
+
+    pub answers : Answers later c v
+    answers = record { value = here-is; plain = found.plain; loads = loads-is }
+
+    pub told-read : answer ≡ done.Read v → IsTold new w x (seen.Read v)
+    told-read e = be-told Waiting (seen.Read v) (λ f. absurd (cc (e, f))) (subst (λ z. facts_of x.task z later) (ap (stage_in old.access) reads) knows)
+        (subst (λ z. Hears z (seen.Read v)) (sym (its.asks ∙ ap Some asked)) tt)
+        (subst (λ z. Tells z Waiting (seen.Read v) later) (sym (its.asks ∙ ap Some asked)) answers)
+
+  -- a swap answers whether it took effect
+  module _ (entries : List Entry) (t : ℕ) (won : Bool) (asked : its.asked ≡ todo.Swap entries) (swaps : doing_of old.access w ≡ Swapping t) (effect : has_effect new.access t ≡ won) where
+    stage-by : (z : Bool) → z ≡ won → Tells (Some (todo.Swap entries)) (if z then Took else Waiting) (seen.Swapped won) later
+    stage-by true e = sym e
+    stage-by false e = sym e
+
+    stage-is : stage_in old.access (doing_of old.access w) ≡ (if has_effect old.access t then Took else Waiting)
+    stage-is = ap (stage_in old.access) swaps
+
+    pub told-swap : answer ≡ done.Swapped won → IsTold new w x (seen.Swapped won)
+    told-swap e = be-told (if has_effect old.access t then Took else Waiting) (seen.Swapped won) (λ f. absurd (cc (e, f))) (subst (λ z. facts_of x.task z later) stage-is knows)
+        (subst (λ z. Hears z (seen.Swapped won)) (sym (its.asks ∙ ap Some asked)) tt)
+        (subst (λ z. Tells z (if has_effect old.access t then Took else Waiting) (seen.Swapped won) later) (sym (its.asks ∙ ap Some asked)) (stage-by (has_effect old.access t) (sym (a.step.effect.swaps t) ∙ effect)))
+
+  -- a flush has been made
+  module _ (line : ℕ) (asked : its.asked ≡ todo.Flush line) (flushes : doing_of old.access w ≡ Flushing line) (within : line * 8 < length old.access.cached) where
+    is-flushing : IsFlushing old.access new.access made answer None line
+    is-flushing = b.flushing old.config (k.story.at (length old.journal.past)) old.access new.access w made answer None line k.living.seen a.step flushes within
+
+    flushed : Flushes line before later
+    flushed = b.flushes old.config old.access new.access old.journal k.story (mark_of w made) w line its.opened (goes b old new w x made answer k is-worker a) all-stay its.call_open.begun is-flushing.copies
+
+    took : facts_of x.task Took later
+    took = its.tasked.laws.flushed before later line (sym its.tasked.config) (subst (λ z. facts_of x.task z before) (ap (stage_in old.access) flushes) its.facts) (sees b old new w x made answer k is-worker a w x its).scene later-seen.scene (its.asks ∙ ap Some asked) flushed
+
+    pub told-flush : IsTold new w x seen.Flushed
+    told-flush = be-told Took seen.Flushed (λ f. absurd (cc (is-flushing.answer, f))) took
+        (subst (λ z. Hears z seen.Flushed) (sym (its.asks ∙ ap Some asked)) tt)
+        (subst (λ z. Tells z Took seen.Flushed later) (sym (its.asks ∙ ap Some asked)) tt)

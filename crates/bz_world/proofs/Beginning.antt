@@ -1,0 +1,205 @@
+-- A call that has begun, with the lookup of its key.
+use Rattle.std.proofs.Common.{◌≡◌, ◌≢◌, ◌⊎◌, ℕ, ◌+◌, ◌^◌, ◌<◌, ◌≤◌, ◌==◌, if◌then◌else◌, Bool, true, false, List, [], ◌∷◌, length, slice_index, slice_set, arith, refl, sym, ap, subst, ◌∙◌, inl, inr, Option, Some, None}
+use Rattle.std.specs.Prelude.{get_or, map}
+use Rattle.std.specs.Global.{Vec}
+use Rattle.std.specs.Vec.{with_item}
+use Rattle.std.proofs.lemmas.Bool.{cases_eq, true≢false}
+use Rattle.std.proofs.lemmas.Bool.Decides.{nat_tests}
+use Rattle.std.proofs.lemmas.List.{get_or_read_under, get_or-set_same, get_or-set_other, length-set, map-set}
+use Rattle.bz_call.specs.Map.{key_of}
+use Rattle.bz_call.specs.Pages.{is_page}
+use Rattle.bz_call.specs.declared.calls.Call.{Call}
+use Rattle.bz_mark.specs.Log.{Log, with_mark, count_begins, count_page_calls}
+use Rattle.bz_mark.specs.declared.marks.Mark.{Mark}
+use Rattle.bz_mark.specs.declared.marks.Mark.TheVariants.{Begin, End, Load, Store, Cas, Flush, Evict, Cut, On, Ready, Effect}
+use Rattle.bz_running.specs.Duties.{config_of, asks_of, needs_of, facts_of, is_lookup}
+use Rattle.bz_running.specs.Hearing.{IsLookup}
+use Rattle.bz_running.specs.Laws.{AreLaws}
+use Rattle.bz_running.specs.declared.running.Running.{Running}
+use Rattle.bz_sound.specs.Calls.{Open, open_call, begun_calls}
+use Rattle.bz_sound.specs.Memory.Sound.{IsSound}
+use Rattle.bz_story.specs.Laws.{GoesOn, goes_on}
+use Rattle.bz_story.specs.Living.{IsLiving}
+use Rattle.bz_story.specs.Story.{Story, scene}
+use Rattle.bz_swap.specs.Held.{Holds}
+use Rattle.bz_swap.specs.Starts.{MayRead, started}
+use Rattle.bz_swap.specs.SwapMemory.{SwapMemory, Working, Reading, Idle, doing_of}
+use Rattle.bz_task.specs.Scene.{Scene, HasFilled, Waiting}
+use Rattle.bz_task.specs.declared.todo.Todo.TheVariants.{Read}
+use Rattle.bz_world.specs.Acted.{IsBetween}
+use Rattle.bz_world.specs.Beginning.{MayBegin, HasBegun, lab_of, pages_asked}
+use Rattle.bz_world.specs.Kept.{IsTabled, AreTaken, IsKept}
+use Rattle.bz_world.specs.Lab.{IsServed, after_begin}
+use Rattle.bz_world.specs.Laws.{EndLaws, StartLaws}
+use Rattle.bz_world.specs.Serving.{IsOpened, IsSlot, IsAtRest}
+use Rattle.bz_world.specs.Telling.{MustStart}
+use Rattle.bz_world.specs.declared.answers.Begun.TheVariants as begun
+use Rattle.bz_world.specs.declared.parts.Parts.{Parts}
+use Rattle.bz_world.specs.declared.serving.Serving.{Serving}
+use Rattle.bz_world.proofs.Staying.{slot-stays}
+use Rattle.bz_world.proofs.Started.{may-read, read-kept}
+
+-- a worker has begun no more calls than there are
+step-up : (t : Bool) (a b : ℕ) → a ≤ b → (if t then a + 1 else a) ≤ b + 1
+step-up true a b l = omega (arith, l)
+step-up false a b l = omega (arith, l)
+
+pub few-calls : (w : ℕ) (past : List Mark) → begun_calls w past ≤ count_begins past
+few-calls w [] = omega arith
+few-calls w (Begin v n call ∷ past) = step-up (v == w) (begun_calls w past) (count_begins past) (few-calls w past)
+few-calls w (End v n reply at ∷ past) = few-calls w past
+few-calls w (Load v a x ∷ past) = few-calls w past
+few-calls w (Store v a x ∷ past) = few-calls w past
+few-calls w (Cas v a old new found ∷ past) = few-calls w past
+few-calls w (Flush v line ∷ past) = few-calls w past
+few-calls w (Evict a ∷ past) = few-calls w past
+few-calls w (Cut ∷ past) = few-calls w past
+few-calls w (On ∷ past) = few-calls w past
+few-calls w (Ready ∷ past) = few-calls w past
+few-calls w (Effect v n ∷ past) = few-calls w past
+
+module _ (p : Parts) (k : IsKept p) (w : ℕ) (call : Call) (may : MayBegin p w call) where
+  in-table : w < 65
+  in-table = omega (arith, may.within, k.tabled.config.workers_in_range.at_most)
+
+  pub number-is : (n : ℕ) → n ≡ get_or p.numbers.items w n → n ≡ begun_calls w p.journal.past
+  number-is n e = get_or_read_under p.numbers.items w (length p.numbers.items) n 0 e (omega (arith, in-table, k.tabled.number_places)) refl ∙ k.tabled.counted w in-table
+
+  -- its number is small
+  pub few-numbers : (n : ℕ) → n ≡ get_or p.numbers.items w n → n + 1 < 2 ^ 32
+  few-numbers n e = omega (arith, number-is n e, few-calls w p.journal.past, k.tabled.begins, k.tabled.few_begins, k.tabled.config.calls_in_range.at_most)
+
+  at-rest : IsAtRest p.access p.journal w
+  at-rest = subst (IsSlot p.config p.access p.journal k.story p.owners.items w) may.none_open (k.workers w)
+
+  module _ (b : EndLaws) (s : StartLaws) (served : IsServed call) (n : ℕ) (numbered : n ≡ begun_calls w p.journal.past + 1) (task : Running) (config : config_of task ≡ p.config) (laws : AreLaws task) (needs : needs_of task ≡ 0) (looks : is_lookup task ≡ true)
+      (lookup : IsLookup (key_of call) task) (asks : asks_of task ≡ Some (Read 2)) (facts : (z : Scene) → HasFilled z → facts_of task Waiting z) where
+    abbrev mark : Mark
+    mark = Begin w n call
+
+    abbrev fresh : Serving
+    fresh = record { call = call; task = task; path = None; effect = None }
+
+    abbrev opened : Open
+    opened = record { number = n; call = call; begun = length p.journal.past; effect = None }
+
+    abbrev workers : Vec (Option Serving)
+    workers = with_item p.workers w (Some fresh)
+
+    abbrev pub mid : Parts
+    mid = record p { journal = with_mark p.journal mark; workers = workers; numbers = with_item p.numbers w n; begun = p.begun + 1; pages_begun = p.pages_begun + pages_asked call }
+
+    no-act : GoesOn p.config p.access p.access p.journal k.story mark
+    no-act = record {
+      living = k.living;
+      passes = record {
+        same = record { swaps = refl; phase = refl; begun = refl; size = refl };
+        holds = k.living.seen.holds;
+        fields = k.living.seen.fields;
+        quiet = record { values = λ a n. refl; swaps = λ t. refl };
+        durable = λ a. inl refl;
+        cached = λ a o n. inl refl;
+      };
+      marked = k.living.words;
+    }
+
+    abbrev after : Story
+    after = goes_on p.journal k.story p.access k.story.filled
+
+    lives : IsLiving p.config p.access (with_mark p.journal mark) after
+    lives = b.lives p.config p.access p.access p.journal k.story mark k.story.filled no-act
+
+    slot-of : (v : ℕ) → v ≢ w → IsSlot p.config p.access (with_mark p.journal mark) after p.owners.items v (get_or workers.items v None)
+    slot-of v ne = subst (IsSlot p.config p.access (with_mark p.journal mark) after p.owners.items v) (sym (get_or-set_other p.workers.items w v (Some fresh) None ne))
+        (slot-stays b.scenes p.config p.access p.access p.journal mark k.story after p.owners.items v (get_or p.workers.items v None) lives (record {
+          same = record { doing = refl; begun = refl; taken = refl; size = refl; effects = λ t d. refl };
+          calls = (b.calls v p.journal.past).other_begin w n call (λ e. ne (sym e));
+          lawful = λ o begins. b.quiet p.config p.access p.access p.journal k.story mark v o no-act (λ a out n. refl) begins;
+        }) (k.workers v))
+
+    -- the tables
+    own-count : (t : Bool) → t ≡ true → n ≡ (if t then begun_calls w p.journal.past + 1 else begun_calls w p.journal.past)
+    own-count true e = numbered
+    own-count false e = absurd (true≢false (sym e))
+
+    other-count : (t : Bool) (v : ℕ) → t ≡ false → begun_calls v p.journal.past ≡ (if t then begun_calls v p.journal.past + 1 else begun_calls v p.journal.past)
+    other-count true v e = absurd (true≢false e)
+    other-count false v e = refl
+
+    counted : (v : ℕ) → v < 65 → slice_index (slice_set p.numbers.items w n) v ≡ begun_calls v (mark ∷ p.journal.past)
+    counted v l = elim (cases_eq v w) [
+      | inl e ↦ subst (λ u. slice_index (slice_set p.numbers.items w n) u ≡ begun_calls u (mark ∷ p.journal.past)) (sym e)
+          (get_or-set_same p.numbers.items w n 0 (omega (arith, in-table, k.tabled.number_places)) ∙ own-count (w == w) (grind (arith, nat_tests)))
+      | inr ne ↦ get_or-set_other p.numbers.items w v n 0 ne ∙ (k.tabled.counted v l ∙ other-count (w == v) v (grind (arith, nat_tests)))
+    ]
+
+    page-count : (t : Bool) (a b : ℕ) → a ≡ b → a + (if t then 1 else 0) ≡ (if t then b + 1 else b)
+    page-count true a b e = omega (arith, e)
+    page-count false a b e = omega (arith, e)
+
+    not-stranger : (v : ℕ) → ((v ≡ 0) ⊎ (p.config.workers < v)) → w ≢ v
+    not-stranger v (inl zero) e = absurd (omega (arith, zero, e, may.worker))
+    not-stranger v (inr beyond) e = absurd (omega (arith, beyond, e, may.within))
+
+    tabled : IsTabled mid
+    tabled = let t = k.tabled in record {
+      config = t.config;
+      limits = t.limits;
+      marks = omega (arith, may.room);
+      places = length-set p.workers.items w (Some fresh) ∙ t.places;
+      number_places = length-set p.numbers.items w n ∙ t.number_places;
+      owner_places = t.owner_places;
+      crew = t.crew;
+      counted = counted;
+      strangers = λ v o. (b.calls v p.journal.past).other_begin w n call (not-stranger v o) ∙ t.strangers v o;
+      begins = omega (arith, t.begins);
+      few_begins = omega (arith, may.calls);
+      page_calls = page-count (is_page call) p.pages_begun (count_page_calls p.journal.past) t.page_calls;
+      few_page_calls = may.pages;
+      steps = omega (arith, t.steps);
+    }
+
+    sound : IsSound p.config (with_mark p.journal mark)
+    sound = b.begins p.config p.journal w n call k.sound (omega (arith, may.worker)) (record { numbered = numbered; none_open = at-rest.none_open })
+
+    between : IsBetween mid w fresh
+    between = record {
+      story = after;
+      tabled = tabled;
+      taken = let t = k.taken in record { shown = t.shown; held = t.held; few = t.few; counted = t.counted; unused = t.unused };
+      living = lives;
+      sound = sound;
+      others = slot-of;
+      worker = may.worker;
+      within = may.within;
+      opened = opened;
+      call_open = record { is_open = (b.calls w p.journal.past).own_begin n call; call = refl; effect = refl; begun = omega arith; served = served };
+      idle = at-rest.idle;
+    }
+
+    none-taken : HasFilled (scene p.config (mark ∷ p.journal.past) after w opened)
+    none-taken i e = absurd (true≢false (sym e))
+
+    pub must-start : MustStart mid w (Read 2)
+    unfolding between
+    must-start = record {
+      serving = fresh;
+      is = get_or-set_same p.workers.items w (Some fresh) None (omega (arith, in-table, k.tabled.places));
+      asking = record {
+        between = between;
+        tasked = record { config = config; laws = laws; needs = needs; lookup = lookup; change = inl looks };
+        asks = asks;
+        facts = facts (scene p.config (mark ∷ p.journal.past) after w opened) none-taken;
+      };
+    }
+
+    -- so the call has begun once its first read is started
+    pub has-begun : (new : SwapMemory) → new ≡ started p.access w (Reading 2) → Holds new → HasBegun p w call n (record mid { access = new })
+    has-begun new is holds = record {
+      kept = read-kept s mid w 2 must-start new is holds;
+      number = numbered;
+      after = ap (λ fs. record { config = p.config; log = with_mark p.journal mark; flushes = fs }) flushes;
+    }
+      where
+        flushes : map (λ (v : Working). v.flush_next) new.workers ≡ slice_set (map (λ (v : Working). v.flush_next) p.access.workers) w false
+        flushes = ap (λ (z : SwapMemory). map (λ (v : Working). v.flush_next) z.workers) is ∙ map-set (λ (v : Working). v.flush_next) p.access.workers w (record { doing = Reading 2; flush_next = false })

@@ -1,0 +1,192 @@
+-- A call that has ended: the world but for its End is as it was.
+use Rattle.std.proofs.Common.{◌≡◌, ◌≢◌, ◌⊎◌, ℕ, ◌+◌, ◌<◌, ◌≤◌, true, false, List, [], ◌∷◌, ◌++◌, length, slice_index, arith, refl, sym, ap, subst, ◌∙◌, inl, inr, Option, Some, None, append-nil}
+use Rattle.std.specs.Prelude.{get_or, if◌then◌else◌, Bool}
+use Rattle.std.specs.Vec.{with_item}
+use Rattle.std.proofs.lemmas.Bool.{cases_eq}
+use Rattle.std.proofs.lemmas.List.{get_or_read_under, get_or-set_same, get_or-set_other, length-set}
+use Rattle.bz_call.specs.Pages.{is_page, names_page}
+use Rattle.bz_call.specs.declared.replies.Reply.{Reply}
+use Rattle.bz_call.specs.declared.replies.Reply.TheVariants.{Page}
+use Rattle.bz_layout.specs.declared.config.Config.{Config}
+use Rattle.bz_mark.specs.Log.{Log, HasRoom, with_mark, with_page, count_ends, count_page_ends}
+use Rattle.bz_mark.specs.declared.marks.Mark.{Mark}
+use Rattle.bz_mark.specs.declared.marks.Mark.TheVariants.{End}
+use Rattle.bz_sound.specs.Calls.{open_call, begun_calls}
+use Rattle.bz_sound.specs.Replies.{Pages}
+use Rattle.bz_sound.specs.Memory.OpenCallLaws.{LeavesRoom}
+use Rattle.bz_sound.specs.Memory.Sound.{IsSound}
+use Rattle.bz_story.specs.Laws.{GoesOn, goes_on}
+use Rattle.bz_story.specs.Living.{IsLiving}
+use Rattle.bz_story.specs.Story.{Story}
+use Rattle.bz_swap.specs.SwapMemory.{SwapMemory}
+use Rattle.bz_world.specs.Acted.{IsBetween}
+use Rattle.bz_world.specs.Going.{MustGoOn, MustEnd, MustEndPage, WentOn}
+use Rattle.bz_world.specs.Kept.{IsTabled, AreTaken, IsKept}
+use Rattle.bz_world.specs.Lab.{IsEnding}
+use Rattle.bz_world.specs.Laws.{EndLaws}
+use Rattle.bz_world.specs.Serving.{IsSlot}
+use Rattle.bz_world.specs.declared.answers.Applied.TheVariants as applied
+use Rattle.bz_world.specs.declared.parts.Parts.{Parts}
+use Rattle.bz_world.specs.declared.serving.Serving.{Serving}
+use Rattle.bz_world.proofs.Staying.{slot-stays}
+
+-- what is known of a worker does not depend on the journal's pages
+slot-pages : (c : Config) (m : SwapMemory) (log : Log) (pages : Pages) (story : Story) (owners : List ℕ) (v : ℕ) (slot : Option Serving) → IsSlot c m log story owners v slot → IsSlot c m (record log { pages = pages }) story owners v slot
+slot-pages c m log pages story owners v None h = record { none_open = h.none_open; idle = h.idle }
+slot-pages c m log pages story owners v (Some x) h = record {
+  opened = h.opened;
+  call_open = let o = h.call_open in record { is_open = o.is_open; call = o.call; effect = o.effect; begun = o.begun; served = o.served };
+  tasked = h.tasked;
+  asked = h.asked;
+  asks = h.asks;
+  doing = h.doing;
+  facts = h.facts;
+}
+
+living-pages : (c : Config) (m : SwapMemory) (log : Log) (pages : Pages) (story : Story) → IsLiving c m log story → IsLiving c m (record log { pages = pages }) story
+living-pages c m log pages story l = record { seen = l.seen; history = l.history; words = l.words; images = l.images; effects = l.effects; owned = l.owned; apart = l.apart }
+
+module _ (b : EndLaws) (p : Parts) (w : ℕ) (on : MustGoOn p w) where
+  abbrev was : IsBetween p w on.serving
+  was = on.between
+
+  leaves-room : LeavesRoom p.journal.past was.opened.call
+  leaves-room = b.room p.config p.journal w was.opened was.sound was.call_open.is_open
+
+  -- there is room for the End, and for its page
+  pub end-room : (n : ℕ) (reply : Reply) (at : ℕ) → length p.journal.past < p.config.marks → HasRoom p.journal (End w n reply at)
+  end-room n reply at room = record {
+    place = subst (λ l. length p.journal.past < l.marks) (sym was.tabled.limits) room;
+    table = subst (λ l. count_ends p.journal.past < l.calls) (sym was.tabled.limits) (omega (arith, leaves-room.for_end, was.tabled.begins, was.tabled.few_begins));
+  }
+
+  pub page-room : is_page on.serving.call ≡ true → length p.journal.pages < p.journal.limits.pages
+  page-room asks = subst (λ l. length p.journal.pages < l.pages) (sym was.tabled.limits)
+      (omega (arith, leaves-room.for_page (ap is_page was.call_open.call ∙ asks), was.sound.pages, was.tabled.page_calls, was.tabled.few_page_calls))
+
+  in-table : w < 65
+  in-table = omega (arith, was.within, was.tabled.config.workers_in_range.at_most)
+
+  -- the number of the call
+  pub number-is : slice_index p.numbers.items w ≡ was.opened.number
+  number-is = was.tabled.counted w in-table ∙ sym (b.last p.config p.journal w was.opened was.sound was.call_open.is_open).last
+
+  pub number-read : (n : ℕ) → n ≡ get_or p.numbers.items w n → n ≡ slice_index p.numbers.items w
+  number-read n e = get_or_read_under p.numbers.items w (length p.numbers.items) n 0 e (omega (arith, in-table, was.tabled.number_places)) refl
+
+  -- the End is no act: the same memory is seen, and it is nothing to the others
+  module _ (n : ℕ) (reply : Reply) (at : ℕ) where
+    abbrev mark : Mark
+    mark = End w n reply at
+
+    no-act : GoesOn p.config p.access p.access p.journal was.story mark
+    no-act = record {
+      living = was.living;
+      passes = record {
+        same = record { swaps = refl; phase = refl; begun = refl; size = refl };
+        holds = was.living.seen.holds;
+        fields = was.living.seen.fields;
+        quiet = record { values = λ a n. refl; swaps = λ t. refl };
+        durable = λ a. inl refl;
+        cached = λ a o n. inl refl;
+      };
+      marked = was.living.words;
+    }
+
+    abbrev after : Story
+    after = goes_on p.journal was.story p.access was.story.filled
+
+    lives : IsLiving p.config p.access (with_mark p.journal mark) after
+    lives = b.lives p.config p.access p.access p.journal was.story mark was.story.filled no-act
+
+    slot-of : (v : ℕ) → v ≢ w → IsSlot p.config p.access (with_mark p.journal mark) after p.owners.items v (get_or p.workers.items v None)
+    slot-of v ne = slot-stays b.scenes p.config p.access p.access p.journal mark was.story after p.owners.items v (get_or p.workers.items v None) lives (record {
+      same = record { doing = refl; begun = refl; taken = refl; size = refl; effects = λ t d. refl };
+      calls = (b.calls v p.journal.past).other_end w n at reply (λ e. ne (sym e));
+      lawful = λ o begins. b.quiet p.config p.access p.access p.journal was.story mark v o no-act (λ a out n. refl) begins;
+    }) (was.others v ne)
+
+    module _ (pages : Pages) (sound : IsSound p.config (record (with_mark p.journal mark) { pages = pages })) (room : length p.journal.past < p.config.marks) where
+      abbrev done : Parts
+      done = record p { journal = record (with_mark p.journal mark) { pages = pages }; workers = with_item p.workers w None }
+
+      slots : (v : ℕ) → IsSlot p.config p.access done.journal after p.owners.items v (get_or done.workers.items v None)
+      slots v = elim (cases_eq v w) [
+        | inr ne ↦ subst (IsSlot p.config p.access done.journal after p.owners.items v) (sym (get_or-set_other p.workers.items w v None None ne))
+            (slot-pages p.config p.access (with_mark p.journal mark) pages after p.owners.items v (get_or p.workers.items v None) (slot-of v ne))
+        | inl e ↦ subst (λ u. IsSlot p.config p.access done.journal after p.owners.items u (get_or done.workers.items u None)) (sym e)
+            (subst (IsSlot p.config p.access done.journal after p.owners.items w) (sym (get_or-set_same p.workers.items w None None (omega (arith, in-table, was.tabled.places))))
+            (record { none_open = (b.calls w p.journal.past).own_end n at reply; idle = was.idle }))
+      ]
+
+      tabled : IsTabled done
+      tabled = let t = was.tabled in record {
+        config = t.config;
+        limits = t.limits;
+        marks = omega (arith, room);
+        places = length-set p.workers.items w None ∙ t.places;
+        number_places = t.number_places;
+        owner_places = t.owner_places;
+        crew = t.crew;
+        counted = t.counted;
+        strangers = λ v o. elim (cases_eq v w) [
+          | inl e ↦ subst (λ u. open_call u (mark ∷ p.journal.past) ≡ None) (sym e) ((b.calls w p.journal.past).own_end n at reply)
+          | inr ne ↦ (b.calls v p.journal.past).other_end w n at reply (λ e. ne (sym e)) ∙ t.strangers v o
+        ];
+        begins = t.begins;
+        few_begins = t.few_begins;
+        page_calls = t.page_calls;
+        few_page_calls = t.few_page_calls;
+        steps = omega (arith, t.steps);
+      }
+
+      pub ended-kept : IsKept done
+      ended-kept = record {
+        story = after;
+        tabled = tabled;
+        taken = let t = was.taken in record { shown = t.shown; held = t.held; few = t.few; counted = t.counted; unused = t.unused };
+        living = living-pages p.config p.access (with_mark p.journal mark) pages after lives;
+        sound = sound;
+        workers = slots;
+      }
+
+-- by a reply that names no page
+pub end-went : EndLaws → (p : Parts) (w n : ℕ) (reply : Reply) (at : ℕ) → MustEnd p w reply at → n ≡ slice_index p.numbers.items w → names_page reply ≡ false → length p.journal.past < p.config.marks
+    → WentOn p w (applied.Ended n) (record p { journal = with_mark p.journal (End w n reply at); workers = with_item p.workers w None })
+end-went b p w n reply at m number plain room = record {
+  kept = ended-kept b p w m.on n reply at p.journal.pages sound room;
+  ends = record {
+    reply = reply;
+    at = at;
+    added = [];
+    is = ap (λ z. record p.journal { past = End w n reply at ∷ p.journal.past; pages = z }) (sym (append-nil p.journal.pages));
+    pages = ap (λ z. if z then count_page_ends p.journal.past + 1 else count_page_ends p.journal.past) plain ∙ omega arith;
+  };
+  config = refl;
+  others = λ v ne. refl;
+}
+  where
+    sound : IsSound p.config (with_mark p.journal (End w n reply at))
+    sound = subst (λ z. IsSound p.config (with_mark p.journal (End w z reply at))) (sym (number ∙ number-is b p w m.on))
+        (b.ends p.config p.journal (record { worker = w; opened = m.on.between.opened; reply = reply; at = at }) m.on.between.sound m.on.between.call_open.is_open plain m.right)
+
+-- by the page that was put together
+pub end-page-went : EndLaws → (p : Parts) (w n page : ℕ) (next : Option (List ℕ)) (at : ℕ) → MustEndPage p w next at → n ≡ slice_index p.numbers.items w → page ≡ length p.journal.pages → length p.journal.past < p.config.marks
+    → WentOn p w (applied.Ended n) (record p { journal = with_mark (with_page p.journal p.page) (End w n (Page page next) at); workers = with_item p.workers w None })
+end-page-went b p w n page next at m number place room = record {
+  kept = ended-kept b p w m.on n (Page page next) at (p.journal.pages ++ p.page ∷ []) sound room;
+  ends = record {
+    reply = Page page next;
+    at = at;
+    added = p.page ∷ [];
+    is = refl;
+    pages = omega arith;
+  };
+  config = refl;
+  others = λ v ne. refl;
+}
+  where
+    sound : IsSound p.config (with_mark (with_page p.journal p.page) (End w n (Page page next) at))
+    sound = subst (λ z. IsSound p.config (with_mark (with_page p.journal p.page) (End w z (Page page next) at))) (sym (number ∙ number-is b p w m.on))
+        (subst (λ z. IsSound p.config (with_mark (with_page p.journal p.page) (End w m.on.between.opened.number (Page z next) at))) (sym place)
+        (b.pages p.config p.journal (record { worker = w; opened = m.on.between.opened; reply = Page (length p.journal.pages) next; at = at }) p.page m.on.between.sound m.on.between.call_open.is_open refl m.right))

@@ -1,0 +1,147 @@
+-- A word that becomes durable by itself.
+use Rattle.std.proofs.Common.{◌≡◌, ◌≢◌, ◌⊎◌, ℕ, suc, ◌+◌, ◌*◌, ◌<◌, ◌≤◌, Bool, true, false, List, ◌∷◌, length, slice_index, arith, refl, sym, ap, subst, ◌∙◌, inl, inr, Option, Some, None}
+use Rattle.std.specs.Prelude.{get_or}
+use Rattle.bz_content.specs.Content.{image_fault, content_in}
+use Rattle.bz_mark.specs.Log.{Log, with_mark}
+use Rattle.bz_mark.specs.MomentLaws.{at_moment-now}
+use Rattle.bz_mark.specs.WordsAfter.{words_of as words_after_marks}
+use Rattle.bz_mark.specs.declared.marks.Mark.TheVariants.{Evict}
+use Rattle.bz_layout.specs.Addresses.{swap_address}
+use Rattle.bz_pm.specs.Acts.{evicted}
+use Rattle.bz_sight.specs.Acts.{EvictionsAreSeen}
+use Rattle.bz_sight.specs.Passing.{Passes, Passed}
+use Rattle.bz_sound.specs.Memory.Moments.{image_after}
+use Rattle.bz_sound.specs.Memory.Sound.{IsSound}
+use Rattle.bz_story.specs.Laws.{GoesOn, goes_on}
+use Rattle.bz_story.specs.Living.{IsLiving}
+use Rattle.bz_story.specs.Story.{Story}
+use Rattle.bz_swap.specs.Effects.{IsQuiet, EffectIs}
+use Rattle.bz_swap.specs.Evictions.{IsEviction, EvictsIn}
+use Rattle.bz_swap.specs.SwapMemory.{SwapMemory, doing_of, words_of}
+use Rattle.bz_swap.specs.TakenStatuses.{BegunStayTaken}
+use Rattle.bz_swap.specs.declared.phase.Phase.{Phase}
+use Rattle.bz_swap.specs.declared.phase.Phase.TheVariants.{Opened, Running, Recovering}
+use Rattle.bz_world.specs.Acted.{IsEvicted, IsStriking, SameWork}
+use Rattle.bz_world.specs.Kept.{IsTabled, AreTaken, IsKept}
+use Rattle.bz_world.specs.Serving.{IsSlot}
+use Rattle.bz_world.specs.declared.parts.Parts.{Parts}
+use Rattle.bz_world.specs.Laws.{StepLaws}
+use Rattle.bz_world.proofs.Owners.{pending-begun}
+use Rattle.bz_world.proofs.Stepped.{unused-by}
+use Rattle.bz_world.proofs.Staying.{SameFor, slot-stays}
+
+effect-in : (phase : Phase) (old new : SwapMemory) (told : Option ℕ) → phase ≢ Recovering → EvictsIn phase old told new → EffectIs old new told
+effect-in Opened old new told ne h = h
+effect-in Running old new told ne h = h
+effect-in Recovering old new told ne h = absurd (ne refl)
+
+module _ (old new : Parts) (a : ℕ) (told : Option ℕ) (k : IsKept old) (e : IsEvicted old a told new) where
+  pub evict-marked : words_of new.access ≡ words_after_marks old.journal.start (Evict a ∷ old.journal.past)
+  evict-marked = ap words_of e.eviction.is ∙ ap (λ z. evicted z a) k.living.words
+
+  pub evict-works : SameWork old.access new.access
+  evict-works = record {
+    doing = λ v. ap (λ z. doing_of z v) e.eviction.is;
+    taken = ap (λ z. z.taken) e.eviction.is;
+    size = ap (λ z. length z.cached) e.eviction.is;
+  }
+
+  pub evict-tabled : length old.journal.past < old.config.marks → IsTabled new
+  evict-tabled room = let t = k.tabled in subst IsTabled (sym e.rest) (record {
+    config = t.config;
+    limits = t.limits;
+    marks = omega (arith, room);
+    places = t.places;
+    number_places = t.number_places;
+    owner_places = t.owner_places;
+    crew = ap (λ z. length z.workers) e.eviction.is ∙ t.crew;
+    counted = t.counted;
+    strangers = t.strangers;
+    begins = t.begins;
+    few_begins = t.few_begins;
+    page_calls = t.page_calls;
+    few_page_calls = t.few_page_calls;
+    steps = omega (arith, ap (λ z. z.steps) e.eviction.is, t.steps);
+  })
+
+  pub evict-taken : BegunStayTaken → AreTaken new
+  evict-taken begun = subst AreTaken (sym e.rest) (record {
+    shown = λ s l h. k.taken.shown s l (λ f. h (ap (λ z. slice_index z.cached (swap_address s)) e.eviction.is ∙ f));
+    held = begun.eviction old.access new.access a told e.eviction k.taken.held;
+    few = omega (arith, evict-works.taken, k.taken.few);
+    counted = ap (λ z. length z.begun) e.eviction.is ∙ (k.taken.counted ∙ sym evict-works.taken);
+    unused = λ s l. unused-by old.access new.access told (pending-begun old k) k.taken.unused (effect-in old.access.phase old.access new.access told k.living.seen.phase e.eviction.effect) s (omega (arith, l, evict-works.taken));
+  })
+
+-- it gives a swap its effect
+pub evict-strikes : EvictionsAreSeen → BegunStayTaken → (old new : Parts) (a s : ℕ) → IsKept old → IsEvicted old a (Some s) new → length old.journal.past < old.config.marks → IsStriking new s
+evict-strikes sees begun old new a s k e room = record {
+  before = old;
+  mark = Evict a;
+  kept = k;
+  takes = sees.effect old.config (k.story.at (length old.journal.past)) old.access new.access a s k.living.seen e.eviction e.held;
+  work = evict-works old new a (Some s) k e;
+  tabled = evict-tabled old new a (Some s) k e room;
+  taken = evict-taken old new a (Some s) k e begun;
+  marked = evict-marked old new a (Some s) k e;
+  flush = tt;
+  follows = tt;
+  rest = e.rest;
+}
+
+-- or none
+module _ (b : StepLaws) (sees : EvictionsAreSeen) (old new : Parts) (a : ℕ) (k : IsKept old) (e : IsEvicted old a None new) (room : length old.journal.past < old.config.marks) where
+  passes : Passes old.config (k.story.at (length old.journal.past)) old.access new.access
+  passes = sees.quiet old.config (k.story.at (length old.journal.past)) old.access new.access a k.living.seen e.eviction e.held
+
+  passed : Passed old.config (k.story.at (length old.journal.past)) new.access
+  passed = b.pass old.config (k.story.at (length old.journal.past)) old.access new.access k.living.seen passes
+
+  goes : GoesOn old.config old.access new.access old.journal k.story (Evict a)
+  goes = record { living = k.living; passes = passes; marked = evict-marked old new a None k e }
+
+  abbrev after : Story
+  after = goes_on old.journal k.story new.access k.story.filled
+
+  living : IsLiving old.config new.access (with_mark old.journal (Evict a)) after
+  living = b.lives old.config old.access new.access old.journal k.story (Evict a) k.story.filled goes
+
+  quiet : IsQuiet old.access new.access
+  quiet = effect-in old.access.phase old.access new.access None k.living.seen.phase e.eviction.effect
+
+  same : (v : ℕ) → SameFor old.access new.access v
+  same v = let work : SameWork old.access new.access = evict-works old new a None k e in record {
+    doing = work.doing v;
+    begun = ap (λ z. z.begun) e.eviction.is;
+    taken = work.taken;
+    size = work.size;
+    effects = λ t d. quiet.swaps t;
+  }
+
+  slots : (v : ℕ) → IsSlot old.config new.access (with_mark old.journal (Evict a)) after old.owners.items v (get_or old.workers.items v None)
+  slots v = slot-stays b.scenes old.config old.access new.access old.journal (Evict a) k.story after old.owners.items v (get_or old.workers.items v None) living (record {
+    same = same v;
+    calls = refl;
+    lawful = λ o begins. b.quiet old.config old.access new.access old.journal k.story (Evict a) v o goes (sees.leaves old.access new.access a None e.eviction) begins;
+  }) (k.workers v)
+
+  was : image_after old.journal.start old.journal.past ≡ (k.story.at (length old.journal.past)).image
+  was = sym (k.living.images (length old.journal.past) (omega arith) ∙ ap (image_after old.journal.start) (at_moment-now old.journal.past))
+
+  is : image_after old.journal.start (Evict a ∷ old.journal.past) ≡ slice_index new.access.durable
+  is = ap (λ z. slice_index z.durable) (sym (evict-marked old new a None k e))
+
+  sound : IsSound old.config (with_mark old.journal (Evict a))
+  sound = b.journal.flush old.config old.journal (Evict a) k.sound tt tt (b.journal.same old.config old.journal (Evict a) k.sound tt
+      (subst (λ i. image_fault old.config i ≡ None) (sym is) passed.same.good.form)
+      (λ key. ap (λ i. content_in old.config i key) is ∙ (passed.same.content key ∙ ap (λ i. content_in old.config i key) (sym was))))
+
+  pub evict-kept : IsKept new
+  evict-kept = subst IsKept (sym e.rest) (record {
+    story = after;
+    tabled = subst IsTabled e.rest (evict-tabled old new a None k e room);
+    taken = subst AreTaken e.rest (evict-taken old new a None k e b.begun);
+    living = living;
+    sound = sound;
+    workers = slots;
+  })

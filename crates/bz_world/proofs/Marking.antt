@@ -1,0 +1,64 @@
+-- The mark of an act.
+use Rattle.std.proofs.Common.{◌≡◌, ◌≢◌, ℕ, ◌+◌, ◌*◌, ◌<◌, ◌≤◌, Bool, true, false, List, ◌∷◌, length, slice_index, arith, refl, sym, ap, subst, ◌∙◌, inl, inr, Some, None}
+use Rattle.bz_acts.specs.Rule.{IsActOf, IsWithin, after_act, FoundRightly}
+use Rattle.bz_acts.specs.declared.acted.Act.{Act}
+use Rattle.bz_acts.specs.declared.acted.Act.TheVariants.{Load, Store, Cas, Flush}
+use Rattle.bz_mark.specs.Log.{Log, count_begins, count_ends, count_page_calls, count_page_ends}
+use Rattle.bz_mark.specs.WordLaws.{found-read}
+use Rattle.bz_mark.specs.WordsAfter.{words_of as words_after_marks, words_after, Found}
+use Rattle.bz_mark.specs.declared.marks.Mark.{Mark}
+use Rattle.bz_pm.specs.Words.{Words}
+use Rattle.bz_sound.specs.Calls.{Open, open_call, begun_calls}
+use Rattle.bz_sound.specs.Memory.Calls.{HasOpenCall, MayFollow}
+use Rattle.bz_call.specs.Map.{Map}
+use Rattle.bz_swap.specs.SwapMemory.{SwapMemory, words_of}
+use Rattle.bz_world.specs.Lab.{mark_of}
+
+-- the words after it
+marked-by : (w : ℕ) (ws : Words) (made : Act) → words_after ws (mark_of w made) ≡ after_act ws made
+marked-by w ws (Load a v) = refl
+marked-by w ws (Store a v) = refl
+marked-by w ws (Cas a old new found) = refl
+marked-by w ws (Flush line) = refl
+
+pub act-marked : (w : ℕ) (old new : SwapMemory) (log : Log) (made : Act) → words_of old ≡ words_after_marks log.start log.past → IsActOf (words_of old) made (words_of new)
+    → words_of new ≡ words_after_marks log.start (mark_of w made ∷ log.past)
+act-marked w old new log made same act = act.after ∙ (ap (λ z. after_act z made) same ∙ sym (marked-by w (words_after_marks log.start log.past) made))
+
+-- what it found
+pub act-found : (w : ℕ) (old new : SwapMemory) (log : Log) (made : Act) → words_of old ≡ words_after_marks log.start log.past → IsActOf (words_of old) made (words_of new) → IsWithin (length old.cached) made
+    → Found (words_after_marks log.start log.past) (mark_of w made)
+act-found w old new log (Load a v) same act within = subst (λ (z : Words). Found z (mark_of w (Load a v))) same (found-read old.cached a v within act.found)
+act-found w old new log (Store a v) same act within = tt
+act-found w old new log (Cas a before after found) same act within = subst (λ (z : Words). Found z (mark_of w (Cas a before after found))) same (found-read old.cached a found within act.found)
+act-found w old new log (Flush line) same act within = tt
+
+-- it may follow where the worker's call is open, and leaves every open call and every count
+pub act-follows : (start : Map) (past : List Mark) (w : ℕ) (made : Act) → HasOpenCall past w → MayFollow start past (mark_of w made)
+act-follows start past w (Load a v) h = h
+act-follows start past w (Store a v) h = h
+act-follows start past w (Cas a old new found) h = h
+act-follows start past w (Flush line) h = h
+
+pub act-calls : (v w : ℕ) (past : List Mark) (made : Act) → open_call v (mark_of w made ∷ past) ≡ open_call v past
+act-calls v w past (Load a x) = refl
+act-calls v w past (Store a x) = refl
+act-calls v w past (Cas a old new found) = refl
+act-calls v w past (Flush line) = refl
+
+pub act-begun : (v w : ℕ) (past : List Mark) (made : Act) → begun_calls v (mark_of w made ∷ past) ≡ begun_calls v past
+act-begun v w past (Load a x) = refl
+act-begun v w past (Store a x) = refl
+act-begun v w past (Cas a old new found) = refl
+act-begun v w past (Flush line) = refl
+
+pub record SameCounts (new past : List Mark) : Type 0 where
+  pub begins : count_begins new ≡ count_begins past
+  pub page_calls : count_page_calls new ≡ count_page_calls past
+  pub page_ends : count_page_ends new ≡ count_page_ends past
+
+pub act-counts : (w : ℕ) (past : List Mark) (made : Act) → SameCounts (mark_of w made ∷ past) past
+act-counts w past (Load a x) = record { begins = refl; page_calls = refl; page_ends = refl }
+act-counts w past (Store a x) = record { begins = refl; page_calls = refl; page_ends = refl }
+act-counts w past (Cas a old new found) = record { begins = refl; page_calls = refl; page_ends = refl }
+act-counts w past (Flush line) = record { begins = refl; page_calls = refl; page_ends = refl }

@@ -1,0 +1,152 @@
+-- Over fresh memory all that a world keeps is true.
+use Rattle.std.proofs.Common.{◌≡◌, ℕ, ◌+◌, Bool, true, false, if◌then◌else◌, nat_lt, List, [], length, replicate, slice_index, get_or, map, zero, suc, ◌∷◌, arith, refl, sym, ap, subst, ◌∙◌, inl, inr, Option, None}
+use Rattle.std.proofs.lemmas.Bool.{cases_lt}
+use Rattle.std.proofs.lemmas.List.{length-replicate, get_or-replicate, get_or_past}
+use Rattle.bz_cells.specs.Store.{status_word, status_of}
+use Rattle.bz_content.specs.Laws.{FreshMemoryIsEmpty}
+use Rattle.bz_layout.specs.Addresses.{swap_address}
+use Rattle.bz_layout.specs.Config.{IsConfig}
+use Rattle.bz_layout.specs.Fresh.{FreshWordsSay, fresh_words}
+use Rattle.bz_layout.specs.declared.config.Config.{Config}
+use Rattle.bz_machine.specs.declared.status.SwapStatus.TheVariants.{Free}
+use Rattle.bz_machine.specs.Machine.{is_succeeded}
+use Rattle.bz_mark.specs.Log.{Log, count_begins, count_page_calls}
+use Rattle.bz_sound.specs.Calls.{open_call, begun_calls}
+use Rattle.bz_sound.specs.Memory.Laws.{FreshJournalsAreSound}
+use Rattle.bz_sound.specs.Memory.Sound.{IsSound}
+use Rattle.bz_story.specs.Living.{IsLiving}
+use Rattle.bz_story.specs.Opening.{FreshStoriesLive, fresh_story}
+use Rattle.bz_swap.specs.Held.{Holds}
+use Rattle.bz_swap.specs.Power.{IsOpened, opened}
+use Rattle.bz_swap.specs.SwapMemory.{SwapMemory, Working, Idle, idle, doing_of, has_effect}
+use Rattle.bz_swap.specs.TakenStatuses.{BegunStayTaken, BegunAreTaken}
+use Rattle.bz_swap.specs.declared.phase.Phase.{Phase}
+use Rattle.bz_world.specs.Beginning.{lab_of}
+use Rattle.bz_world.specs.Kept.{IsTabled, AreTaken, IsKept}
+use Rattle.bz_world.specs.Lab.{new_lab}
+use Rattle.bz_world.specs.Serving.{IsSlot, IsAtRest}
+use Rattle.bz_world.specs.declared.parts.Parts.{Parts}
+use Rattle.bz_world.specs.declared.serving.Serving.{Serving}
+
+-- the laws that these proofs stand on
+pub record Laws : Type 0 where
+  pub says : FreshWordsSay
+  pub empty : FreshMemoryIsEmpty
+  pub taken : BegunStayTaken
+  pub sound : FreshJournalsAreSound
+  pub living : FreshStoriesLive
+
+-- what the opening has made
+pub record IsMade (p : Parts) : Type 0 where
+  pub config : IsConfig p.config
+  pub opened : IsOpened p.access (fresh_words p.config) p.config.swaps p.config.workers
+  pub holds : Holds p.access
+  pub journal : p.journal ≡ (new_lab p.config).log
+  pub workers : p.workers.items ≡ replicate 65 None
+  pub owners : p.owners.items ≡ replicate p.config.swaps 0
+  pub numbers : p.numbers.items ≡ replicate 65 0
+  pub begun : p.begun ≡ 0
+  pub pages_begun : p.pages_begun ≡ 0
+
+same-everywhere : {A : Type 0} (n w : ℕ) (x : A) → get_or (replicate n x) w x ≡ x
+same-everywhere n w x = elim (cases_lt w n) [
+  | inl l ↦ get_or-replicate n w x x l
+  | inr l ↦ get_or_past (replicate n x) w x (omega (arith, l, length-replicate n x))
+]
+
+module _ (b : Laws) (c : Config) (config : IsConfig c) where
+  abbrev log : Log
+  log = (new_lab c).log
+
+  abbrev first : Phase → SwapMemory
+  first phase = opened phase (fresh_words c) c.swaps c.workers
+
+  -- nobody does anything
+  idle-all : (phase : Phase) (w : ℕ) → doing_of (first phase) w ≡ Idle
+  idle-all phase w = ap (λ (x : Working). x.doing) (same-everywhere (c.workers + 1) w idle)
+
+  at-rest : (phase : Phase) (w : ℕ) → IsAtRest (first phase) log w
+  at-rest phase w = record { none_open = refl; idle = idle-all phase w }
+
+  -- no descriptor is taken
+  untaken : (s : ℕ) → slice_index (fresh_words c) (swap_address s) ≡ status_word Free
+  untaken s = (b.says c).rest (swap_address s) (omega arith)
+
+  no-effect : (s : ℕ) (z : Bool) → is_succeeded (if z then status_of (slice_index (fresh_words c) (swap_address s)) else Free) ≡ false
+  unfolding status_of
+  no-effect s true = ap (λ v. is_succeeded (status_of v)) (untaken s)
+  no-effect s false = refl
+
+  sound : IsSound c log
+  sound = b.sound c (fresh_words c) log.limits (b.says c).size (b.empty c config).0
+
+tabled : (p : Parts) → IsMade p → IsTabled p
+tabled p made = record {
+  config = made.config;
+  limits = ap (λ (l : Log). l.limits) made.journal;
+  marks = omega (arith, no-marks);
+  places = ap length made.workers ∙ length-replicate {A = Option Serving} 65 None;
+  number_places = ap length made.numbers ∙ length-replicate {A = ℕ} 65 0;
+  owner_places = ap length made.owners ∙ length-replicate {A = ℕ} p.config.swaps 0;
+  crew = ap (λ (m : SwapMemory). length m.workers) made.opened.is ∙ length-replicate {A = Working} (p.config.workers + 1) idle;
+  counted = λ w l. ap (λ xs. slice_index xs w) made.numbers ∙ (get_or-replicate {A = ℕ} 65 w 0 0 l ∙ ap (begun_calls w) (sym past));
+  strangers = λ w o. ap (open_call w) past;
+  begins = made.begun ∙ ap count_begins (sym past);
+  few_begins = omega (arith, made.begun);
+  page_calls = made.pages_begun ∙ ap count_page_calls (sym past);
+  few_page_calls = omega (arith, made.pages_begun);
+  steps = omega (arith, ap (λ (m : SwapMemory). m.steps) made.opened.is);
+}
+  where
+    past : p.journal.past ≡ []
+    past = ap (λ (l : Log). l.past) made.journal
+
+    no-marks : length p.journal.past ≡ 0
+    no-marks = ap length past
+
+taken : Laws → (p : Parts) → IsMade p → AreTaken p
+taken b p made = record {
+  shown = λ s l t. absurd (t (ap (λ (m : SwapMemory). slice_index m.cached (swap_address s)) made.opened.is ∙ untaken b p.config made.config s));
+  held = subst BegunAreTaken (sym made.opened.is) (b.taken.opening made.opened.phase (fresh_words p.config) p.config.swaps p.config.workers);
+  few = omega (arith, ap (λ (m : SwapMemory). m.taken) made.opened.is);
+  counted = ap (λ (m : SwapMemory). length m.begun) made.opened.is ∙ sym (ap (λ (m : SwapMemory). m.taken) made.opened.is);
+  unused = λ s l. ap (λ (m : SwapMemory). has_effect m s) made.opened.is ∙ no-effect b p.config made.config s (nat_lt s p.config.swaps);
+}
+
+kept-open : Laws → (p : Parts) → IsMade p → IsKept p
+kept-open b p made = record {
+  story = fresh_story p.config;
+  tabled = tabled p made;
+  taken = taken b p made;
+  living = subst (λ l. IsLiving p.config p.access l (fresh_story p.config)) (sym made.journal) (b.living p.config p.access ((new_lab p.config).log.limits) (record { config = made.config; opened = made.opened; holds = made.holds }));
+  sound = subst (IsSound p.config) (sym made.journal) (sound b p.config made.config);
+  workers = λ w. subst (λ xs. IsSlot p.config p.access p.journal (fresh_story p.config) p.owners.items w (get_or xs w None)) (sym made.workers) (rest w (get_or (replicate 65 None) w None) (same-everywhere 65 w None));
+}
+  where
+    rest : (w : ℕ) (entry : Option Serving) → entry ≡ None → IsSlot p.config p.access p.journal (fresh_story p.config) p.owners.items w entry
+    rest w entry e = subst (IsSlot p.config p.access p.journal (fresh_story p.config) p.owners.items w) (sym e)
+        (subst (λ m. IsAtRest m p.journal w) (sym made.opened.is) (subst (λ l. IsAtRest (opened made.opened.phase (fresh_words p.config) p.config.swaps p.config.workers) l w) (sym made.journal) (at-rest b p.config made.config made.opened.phase w)))
+
+-- the same of parts whose memory and journal are known by other names
+pub kept-made : Laws → (p : Parts) (m : SwapMemory) (j : Log) → m ≡ p.access → j ≡ p.journal → IsMade (record p { access = m; journal = j }) → IsKept p
+kept-made b p m j access journal made = subst IsKept (λ t. record p { access = access t; journal = journal t }) (kept-open b (record p { access = m; journal = j }) made)
+
+-- a memory and a journal over these words
+pub opened-fresh : (m : SwapMemory) (start : List ℕ) (c : Config) → IsOpened m start c.swaps c.workers → start ≡ fresh_words c → IsOpened m (fresh_words c) c.swaps c.workers
+opened-fresh m start c o e = subst (λ words. IsOpened m words c.swaps c.workers) e o
+
+pub fresh-journal : (j : Log) (start : List ℕ) (c : Config) → j.start ≡ start → start ≡ fresh_words c → j.past ≡ [] → j.pages ≡ [] → j.limits ≡ record { marks = c.marks; calls = c.calls; pages = c.pages }
+    → j ≡ (new_lab c).log
+fresh-journal j start c same fresh past pages limits = λ t. record { start = (same ∙ fresh) t; past = past t; pages = pages t; limits = limits t }
+
+-- no worker's next act is a flush
+map-replicate : {A : Type 0} {B : Type 0} (f : A → B) (n : ℕ) (x : A) → map f (replicate n x) ≡ replicate n (f x)
+map-replicate f zero x = refl
+map-replicate f (suc n) x = ap (λ xs. f x ∷ xs) (map-replicate f n x)
+
+pub fresh-flushes : (access m : SwapMemory) (start : List ℕ) (c : Config) → m ≡ access → IsOpened m start c.swaps c.workers → map (λ (v : Working). v.flush_next) access.workers ≡ (new_lab c).flushes
+fresh-flushes access m start c same o = ap (λ (z : SwapMemory). map (λ (v : Working). v.flush_next) z.workers) (sym same) ∙ (ap (λ (z : SwapMemory). map (λ (v : Working). v.flush_next) z.workers) o.is ∙ map-replicate (λ (v : Working). v.flush_next) (c.workers + 1) idle)
+
+-- so it is seen as new
+pub new-lab : (p : Parts) (c : Config) → p.config ≡ c → p.journal ≡ (new_lab c).log → (lab_of p).flushes ≡ (new_lab c).flushes → lab_of p ≡ new_lab c
+new-lab p c config journal flushes = λ t. record { config = config t; log = journal t; flushes = flushes t }

@@ -1,0 +1,216 @@
+-- The effect of a swap that makes the change of its call: the Effect mark follows.
+use Rattle.std.proofs.Common.{◌≡◌, ◌≢◌, ◌⊎◌, ℕ, suc, ◌+◌, ◌*◌, ◌<◌, ◌≤◌, if◌then◌else◌, Bool, true, false, List, [], ◌∷◌, length, slice_index, arith, refl, sym, ap, subst, ◌∙◌, inl, inr, Option, Some, None}
+use Rattle.std.specs.Prelude.{get_or, is_some, bytes_eq, option_map}
+use Rattle.std.specs.Global.{Vec}
+use Rattle.std.proofs.lemmas.Bool.{cases_eq, true≢false}
+use Rattle.bz_call.specs.Map.{key_of}
+use Rattle.bz_call.specs.declared.calls.Call.{Call}
+use Rattle.bz_call.specs.declared.calls.Call.TheVariants as call
+use Rattle.bz_content.specs.Content.{image_fault, content_in}
+use Rattle.bz_layout.specs.declared.config.Config.{Config}
+use Rattle.bz_mark.specs.Log.{Log, with_mark}
+use Rattle.bz_mark.specs.declared.marks.Mark.{Mark}
+use Rattle.bz_mark.specs.declared.marks.Mark.TheVariants.{Effect}
+use Rattle.bz_running.specs.Duties.{asks_of, facts_of, publishing_of, change_of, is_lookup, lookups-publish-nothing}
+use Rattle.bz_sight.specs.Effects.{effect_instant}
+use Rattle.bz_sight.specs.Sight.{IsSeen}
+use Rattle.bz_sight.specs.Starts.{Sees}
+use Rattle.bz_sound.specs.Calls.{Open, open_call, with_effect}
+use Rattle.bz_sound.specs.Memory.ImageLaws.{IsChangeOf, ChangesKey, EffectFollows}
+use Rattle.bz_sound.specs.Memory.Moments.{image_after}
+use Rattle.bz_sound.specs.Memory.Sound.{IsSound}
+use Rattle.bz_story.specs.Laws.{HasBegun, GoesOn, goes_on, opened_after}
+use Rattle.bz_story.specs.Living.{IsLiving}
+use Rattle.bz_story.specs.Story.{Story, scene}
+use Rattle.bz_swap.specs.SwapMemory.{SwapMemory, Doing, Swapping, doing_of, entries_of, has_effect}
+use Rattle.bz_task.specs.Instant.{Instant}
+use Rattle.bz_task.specs.Scene.{Scene, Waiting, Took, here}
+use Rattle.bz_task.specs.Swaps.{Change, Changes, ContentFollows}
+use Rattle.bz_task.specs.declared.todo.Todo.TheVariants as todo
+use Rattle.bz_world.specs.Acted.{IsStriking}
+use Rattle.bz_world.specs.Kept.{IsKept, IsTabled, AreTaken}
+use Rattle.bz_world.specs.Serving.{IsServing, IsSlot, IsChangeFor, stage_in}
+use Rattle.bz_world.specs.declared.parts.Parts.{Parts}
+use Rattle.bz_world.specs.declared.serving.Serving.{Serving}
+use Rattle.bz_world.proofs.Staying.{slot-stays}
+use Rattle.bz_world.specs.Laws.{StrikeLaws}
+use Rattle.bz_world.proofs.Striking.{flush-calls, old, kept, w, x, its, owner, before, waits, good, after, living, opened, later, begun, took, others}
+use Rattle.bz_world.proofs.StruckQuietly.{image-was, image-is, fault-is, stage-is, its-swap, its-asks}
+
+-- the change that a call makes is one of its key
+change-of : (c : Call) (change : Change) → IsChangeFor c change → (change.key ≡ key_of c) × IsChangeOf c change.old change.new
+change-of (call.Insert key payload) change e = subst (λ (z : Change). (z.key ≡ key) × IsChangeOf (call.Insert key payload) z.old z.new) (sym e) (refl, refl)
+change-of (call.Delete key) change e = absurd e
+change-of (call.Update key payload) change e = absurd e
+change-of (call.Upsert key payload) change e = absurd e
+change-of (call.Get key) change e = absurd e
+change-of (call.Page from) change e = absurd e
+
+none-by : (o : Option ℕ) → is_some o ≡ false → o ≡ None
+none-by None e = refl
+none-by (Some n) e = absurd (true≢false e)
+
+module _ (b : StrikeLaws) (p : Parts) (s : ℕ) (h : IsStriking p s) (publishes : publishing_of (x b p s h).task ≡ true) where
+  abbrev c : Config
+  c = (old b p s h).config
+
+  abbrev log : Log
+  log = (old b p s h).journal
+
+  abbrev worker : ℕ
+  worker = w b p s h
+
+  abbrev its-open : Open
+  its-open = (its b p s h).opened
+
+  -- the call is to make this change, and had no effect
+  is-change : (change_of (x b p s h).task).key ≡ key_of its-open.call × IsChangeOf its-open.call (change_of (x b p s h).task).old (change_of (x b p s h).task).new
+  is-change = subst (λ k. ((change_of (x b p s h).task).key ≡ key_of k) × IsChangeOf k (change_of (x b p s h).task).old (change_of (x b p s h).task).new) (sym (its b p s h).call_open.call) (elim (its b p s h).tasked.change [
+    | inl look ↦ absurd (true≢false (sym publishes ∙ lookups-publish-nothing (x b p s h).task look))
+    | inr is ↦ change-of (x b p s h).call (change_of (x b p s h).task) is
+  ])
+
+  first : its-open.effect ≡ None
+  first = none-by its-open.effect ((its b p s h).tasked.laws.once (before b p s h) (waits b p s h) publishes)
+
+  changes : Changes (change_of (x b p s h).task) c (here (before b p s h)) (effect_instant c p.access ((kept b p s h).story.at (length log.past)))
+  changes = subst (λ z. ContentFollows z (change_of (x b p s h).task) c (here (before b p s h)) (effect_instant c p.access ((kept b p s h).story.at (length log.past)))) publishes (good b p s h).content
+
+  changes-key : ChangesKey c (image_after log.start log.past) (image_after log.start (h.mark ∷ log.past)) (key_of its-open.call) (change_of (x b p s h).task).old (change_of (x b p s h).task).new
+  changes-key = record {
+    was = ap (λ i. content_in c i (key_of its-open.call)) (image-was b p s h) ∙ (ap (λ k. content_in c (here (before b p s h)).image k) (sym is-change.0) ∙ changes.before);
+    becomes = λ key. ap (λ i. content_in c i key) (image-is b p s h) ∙ (changes.after key ∙ (
+        ap (λ k. if bytes_eq key k then (change_of (x b p s h).task).new else content_in c (here (before b p s h)).image key) is-change.0
+        ∙ ap (λ i. if bytes_eq key (key_of its-open.call) then (change_of (x b p s h).task).new else content_in c i key) (sym (image-was b p s h))));
+  }
+
+  follows : EffectFollows c log h.mark worker its-open (change_of (x b p s h).task).old
+  follows = b.changes c log h.mark worker its-open (change_of (x b p s h).task).old (change_of (x b p s h).task).new (kept b p s h).sound h.flush (its b p s h).call_open.is_open first is-change.1 (fault-is b p s h) changes-key
+
+  pub sound : IsSound c (with_mark (with_mark log h.mark) (Effect worker its-open.number))
+  sound = b.effects c log h.mark worker its-open.number (kept b p s h).sound h.follows follows.may_follow follows.decodes
+
+  -- the Effect mark is no act: the same memory is seen
+  abbrev with_flush : Log
+  with_flush = with_mark log h.mark
+
+  abbrev effect_mark : Mark
+  effect_mark = Effect worker its-open.number
+
+  abbrev told_story : Story
+  told_story = goes_on with_flush (after b p s h) p.access (after b p s h).filled
+
+  seen-now : IsSeen c p.access ((after b p s h).at (suc (length log.past)))
+  seen-now = (living b p s h).seen
+
+  no-act : GoesOn c p.access p.access with_flush (after b p s h) effect_mark
+  no-act = record {
+    living = living b p s h;
+    passes = record {
+      same = record { swaps = refl; phase = refl; begun = refl; size = refl };
+      holds = seen-now.holds;
+      fields = seen-now.fields;
+      quiet = record { values = λ a n. refl; swaps = λ t. refl };
+      durable = λ a. inl refl;
+      cached = λ a o n. inl refl;
+    };
+    marked = h.marked;
+  }
+
+  lives : IsLiving c p.access (with_mark with_flush effect_mark) told_story
+  lives = b.lives c p.access p.access with_flush (after b p s h) effect_mark (after b p s h).filled no-act
+
+  slot-of : (v : ℕ) → v ≢ worker → IsSlot c p.access (with_mark with_flush effect_mark) told_story (old b p s h).owners.items v (get_or (old b p s h).workers.items v None)
+  slot-of v ne = slot-stays b.scenes c p.access p.access with_flush effect_mark (after b p s h) told_story (old b p s h).owners.items v (get_or (old b p s h).workers.items v None) lives (record {
+    same = record { doing = refl; begun = refl; taken = refl; size = refl; effects = λ t d. refl };
+    calls = (b.calls v (h.mark ∷ log.past)).other_effect worker its-open.number (λ e. ne (sym e));
+    lawful = λ o begins. b.quiet c p.access p.access with_flush (after b p s h) effect_mark v o no-act (λ a out n. refl) begins;
+  }) (others b p s h v ne)
+
+  -- the call, with its effect
+  abbrev effected : Open
+  effected = with_effect (suc (length log.past)) its-open
+
+  opened-is : opened b p s h ≡ effected
+  opened-is = ap (λ z. opened_after z (suc (length log.past)) its-open) publishes
+
+  is-open : open_call worker (effect_mark ∷ h.mark ∷ log.past) ≡ Some effected
+  is-open = (b.calls worker (h.mark ∷ log.past)).own_effect its-open.number ∙ ap (option_map (with_effect (suc (length log.past)))) (flush-calls worker h.mark log.past h.flush ∙ (its b p s h).call_open.is_open)
+
+  begun-effected : HasBegun with_flush effected
+  begun-effected = omega (arith, (its b p s h).call_open.begun)
+
+  told-scene : Sees c (told_story.at (suc (suc (length log.past)))) (scene c (effect_mark ∷ h.mark ∷ log.past) told_story worker effected)
+  told-scene = b.scenes c p.access (with_mark with_flush effect_mark) told_story worker effected lives (omega (arith, begun-effected))
+
+  knows : facts_of (x b p s h).task Took (scene c (effect_mark ∷ h.mark ∷ log.past) told_story worker effected)
+  knows = (its b p s h).tasked.laws.stable Took (scene c (h.mark ∷ log.past) (after b p s h) worker effected) (scene c (effect_mark ∷ h.mark ∷ log.past) told_story worker effected) (sym (its b p s h).tasked.config)
+      (subst (λ o. facts_of (x b p s h).task Took (scene c (h.mark ∷ log.past) (after b p s h) worker o)) opened-is (took b p s h)) told-scene.scene
+      (b.quiet c p.access p.access with_flush (after b p s h) effect_mark worker effected no-act (λ a out n. refl) begun-effected)
+
+  abbrev pub with_moment : Serving
+  with_moment = record (x b p s h) { effect = Some (suc (length log.past)) }
+
+  serves-on : IsServing c p.access (with_mark with_flush effect_mark) told_story (old b p s h).owners.items worker with_moment
+  serves-on = record {
+    opened = effected;
+    call_open = record {
+      is_open = is-open;
+      call = (its b p s h).call_open.call;
+      effect = refl;
+      begun = omega (arith, begun-effected);
+      served = (its b p s h).call_open.served;
+    };
+    tasked = (its b p s h).tasked;
+    asked = todo.Swap (entries_of (old b p s h).access s);
+    asks = its-asks b p s h;
+    doing = its-swap b p s h (old b p s h).owners.items refl;
+    facts = subst (λ z. facts_of (x b p s h).task z (scene c (effect_mark ∷ h.mark ∷ log.past) told_story worker effected)) (sym (stage-is b p s h)) knows;
+  }
+
+  slots : (items : List (Option Serving)) → get_or items worker None ≡ Some with_moment → ((v : ℕ) → v ≢ worker → get_or items v None ≡ get_or (old b p s h).workers.items v None)
+      → (v : ℕ) → IsSlot c p.access (with_mark with_flush effect_mark) told_story (old b p s h).owners.items v (get_or items v None)
+  slots items here-is rest v = elim (cases_eq v worker) [
+    | inr ne ↦ subst (IsSlot c p.access (with_mark with_flush effect_mark) told_story (old b p s h).owners.items v) (sym (rest v ne)) (slot-of v ne)
+    | inl e ↦ subst (λ u. IsSlot c p.access (with_mark with_flush effect_mark) told_story (old b p s h).owners.items u (get_or items u None)) (sym e)
+        (subst (IsSlot c p.access (with_mark with_flush effect_mark) told_story (old b p s h).owners.items worker) (sym here-is) serves-on)
+  ]
+
+  own-call : ¬ (open_call worker log.past ≡ None)
+  own-call e = absurd (cc (e, (its b p s h).call_open.is_open))
+
+  tabled-on : (workers : Vec (Option Serving)) → length workers.items ≡ 65 → length log.past + 1 < c.marks → IsTabled (record (old b p s h) { access = p.access; journal = with_mark with_flush effect_mark; workers = workers })
+  tabled-on workers places room = let t : IsTabled (record (old b p s h) { access = p.access; journal = with_flush }) = subst IsTabled h.rest h.tabled in record {
+    config = t.config;
+    limits = t.limits;
+    marks = omega (arith, room);
+    places = places;
+    number_places = t.number_places;
+    owner_places = t.owner_places;
+    crew = t.crew;
+    counted = t.counted;
+    strangers = λ v o. elim (cases_eq v worker) [
+      | inl e ↦ absurd (own-call (subst (λ u. open_call u log.past ≡ None) e ((kept b p s h).tabled.strangers v o)))
+      | inr ne ↦ (b.calls v (h.mark ∷ log.past)).other_effect worker its-open.number (λ e. ne (sym e)) ∙ t.strangers v o
+    ];
+    begins = t.begins;
+    few_begins = t.few_begins;
+    page_calls = t.page_calls;
+    few_page_calls = t.few_page_calls;
+    steps = omega (arith, t.steps);
+  }
+
+  taken-on : (workers : Vec (Option Serving)) → AreTaken (record (old b p s h) { access = p.access; journal = with_mark with_flush effect_mark; workers = workers })
+  taken-on workers = let t : AreTaken (record (old b p s h) { access = p.access; journal = with_flush }) = subst AreTaken h.rest h.taken in record { shown = t.shown; held = t.held; few = t.few; counted = t.counted; unused = t.unused }
+
+  -- so the world goes on with the Effect, which the worker's call remembers
+  pub published : (workers : Vec (Option Serving)) → length workers.items ≡ 65 → length log.past + 1 < c.marks → get_or workers.items worker None ≡ Some with_moment → ((v : ℕ) → v ≢ worker → get_or workers.items v None ≡ get_or (old b p s h).workers.items v None)
+      → IsKept (record (old b p s h) { access = p.access; journal = with_mark with_flush effect_mark; workers = workers })
+  published workers places room here-is rest = record {
+    story = told_story;
+    tabled = tabled-on workers places room;
+    taken = taken-on workers;
+    living = lives;
+    sound = sound;
+    workers = slots workers.items here-is rest;
+  }

@@ -1,0 +1,175 @@
+-- An act of a worker by which no swap takes effect: the world but for this worker.
+use Rattle.std.proofs.Common.{◌≡◌, ◌≢◌, ◌⊎◌, ℕ, ◌+◌, ◌*◌, ◌<◌, ◌≤◌, true, false, List, ◌∷◌, length, slice_index, arith, refl, sym, ap, subst, ◌∙◌, inl, inr, Option, Some, None}
+use Rattle.std.specs.Prelude.{get_or}
+use Rattle.std.proofs.lemmas.Bool.{cases_eq, cases_lt}
+use Rattle.bz_acts.specs.declared.acted.Act.{Act}
+use Rattle.bz_machine.specs.declared.done.Done.{Done}
+use Rattle.bz_machine.specs.declared.done.Done.TheVariants.{Busy, Read, Swapped, Stored, Flushed}
+use Rattle.bz_mark.specs.Log.{Log, with_mark}
+use Rattle.bz_running.specs.Duties.{asks_of, facts_of}
+use Rattle.bz_sight.specs.Sight.{IsHidden}
+use Rattle.bz_sight.specs.Passing.{Passes, Passed}
+use Rattle.bz_sight.specs.Starts.{Sees}
+use Rattle.bz_sound.specs.Calls.{Open, open_call}
+use Rattle.bz_sound.specs.Memory.Calls.{HasOpenCall}
+use Rattle.bz_sound.specs.Memory.Sound.{IsSound}
+use Rattle.bz_story.specs.Laws.{HasBegun, GoesOn, goes_on}
+use Rattle.bz_story.specs.Living.{IsLiving}
+use Rattle.bz_story.specs.Story.{Story, scene}
+use Rattle.bz_swap.specs.SwapMemory.{SwapMemory, Doing, Idle, Reading, Swapping, Storing, Flushing, doing_of, worker_of}
+use Rattle.bz_swap.specs.Steps.{doing_after}
+use Rattle.bz_task.specs.Instant.{Instant}
+use Rattle.bz_task.specs.Requests.{IsAskable, IsOwnStore}
+use Rattle.bz_task.specs.Scene.{Scene, IsLawful, Waiting}
+use Rattle.bz_task.specs.declared.todo.Todo.{Todo}
+use Rattle.bz_task.specs.declared.todo.Todo.TheVariants as todo
+use Rattle.bz_world.specs.Acted.{IsActed, IsBetween}
+use Rattle.bz_world.specs.Kept.{IsTabled, AreTaken, IsKept}
+use Rattle.bz_world.specs.Lab.{mark_of}
+use Rattle.bz_world.specs.Serving.{IsServing, IsDoing, IsSlot, stage_in}
+use Rattle.bz_world.specs.declared.parts.Parts.{Parts}
+use Rattle.bz_world.specs.declared.serving.Serving.{Serving}
+use Rattle.bz_world.proofs.Owners.{pending-begun}
+use Rattle.bz_world.proofs.Marking.{act-marked, act-calls}
+use Rattle.bz_world.specs.Laws.{StepLaws}
+use Rattle.bz_world.proofs.Stepped.{act-tabled, act-taken, act-sound, held}
+use Rattle.bz_world.proofs.Staying.{SameFor, Leaves, slot-stays}
+
+-- the call of a worker that serves one is open, so it is one of the workers
+module _ (p : Parts) (k : IsKept p) (w : ℕ) (x : Serving) (is-worker : get_or p.workers.items w None ≡ Some x) where
+  pub serves : IsServing p.config p.access p.journal k.story p.owners.items w x
+  serves = subst (IsSlot p.config p.access p.journal k.story p.owners.items w) is-worker (k.workers w)
+
+  has-call : ¬ (open_call w p.journal.past ≡ None)
+  has-call e = absurd (cc (e, serves.call_open.is_open))
+
+  pub some-worker : 0 < w
+  some-worker = elim (cases_eq w 0) [
+    | inl e ↦ absurd (has-call (k.tabled.strangers w (inl e)))
+    | inr ne ↦ omega (arith, ne)
+  ]
+
+  pub within-crew : w ≤ p.config.workers
+  within-crew = elim (cases_lt p.config.workers w) [
+    | inl l ↦ absurd (has-call (k.tabled.strangers w (inr l)))
+    | inr l ↦ l
+  ]
+
+  pub call-is-open : HasOpenCall p.journal.past w
+  call-is-open = record { opened = serves.opened; is_open = serves.call_open.is_open }
+
+
+pub idle-by : (d : Doing) (done : Done) → done ≢ Busy → doing_after d done ≡ Idle
+idle-by d Busy ne = absurd (ne refl)
+idle-by d (Read v) ne = refl
+idle-by d (Swapped won) ne = refl
+idle-by d Stored ne = refl
+idle-by d Flushed ne = refl
+
+-- worker w, which serves x, made an act at which no swap took effect
+module _ (b : StepLaws) (old new : Parts) (w : ℕ) (x : Serving) (made : Act) (done : Done) (k : IsKept old) (is-worker : get_or old.workers.items w None ≡ Some x) (a : IsActed old w made done None new) where
+  abbrev pub s : IsServing old.config old.access old.journal k.story old.owners.items w x
+  s = serves old k w x is-worker
+
+  pub sees : (v : ℕ) (y : Serving) → (t : IsServing old.config old.access old.journal k.story old.owners.items v y) → Sees old.config (k.story.at (length old.journal.past)) (scene old.config old.journal.past k.story v t.opened)
+  sees v y t = b.scenes old.config old.access old.journal k.story v t.opened k.living t.call_open.begun
+
+  -- what its task asks for may be asked for
+  pub askable : (todo : Todo) → s.asked ≡ todo → stage_in old.access (doing_of old.access w) ≡ Waiting → IsAskable (scene old.config old.journal.past k.story w s.opened) todo
+  askable todo e waits = s.tasked.laws.askable (scene old.config old.journal.past k.story w s.opened) todo (sym s.tasked.config) (subst (λ z. facts_of x.task z (scene old.config old.journal.past k.story w s.opened)) waits s.facts) (sees w x s).scene (s.asks ∙ ap Some e)
+
+  -- a private store that it does is its own
+  own-store : (todo : Todo) → s.asked ≡ todo → IsDoing old.access old.owners.items w todo → (d u : ℕ) → doing_of old.access w ≡ Storing d u → IsOwnStore (scene old.config old.journal.past k.story w s.opened) d u
+  own-store (todo.Read c) e h d u storing = absurd (cc (h, storing))
+  own-store (todo.Load c) e h d u storing = absurd h
+  own-store (todo.Store c v) e h d u storing = askable (todo.Store d u) (e ∙ cc (h.0, storing)) (ap (stage_in old.access) storing)
+  own-store (todo.Flush line) e h d u storing = absurd (cc (h.0, storing))
+  own-store (todo.Swap entries) e h d u storing = absurd (cc (h.doing, storing))
+  own-store (todo.Finish o) e h d u storing = absurd h
+
+  pub own : (d u : ℕ) → doing_of old.access w ≡ Storing d u → IsOwnStore (scene old.config old.journal.past k.story w s.opened) d u
+  own = own-store s.asked refl s.doing
+
+  pub passes : Passes old.config (k.story.at (length old.journal.past)) old.access new.access
+  passes = b.steps old.config (k.story.at (length old.journal.past)) old.access new.access w made done k.living.seen a.step a.held
+      (λ d u storing. b.hidden old.config (k.story.at (length old.journal.past)) (scene old.config old.journal.past k.story w s.opened) d (sees w x s) (own d u storing).mine)
+
+  pub passed : Passed old.config (k.story.at (length old.journal.past)) new.access
+  passed = b.pass old.config (k.story.at (length old.journal.past)) old.access new.access k.living.seen passes
+
+  pub goes : GoesOn old.config old.access new.access old.journal k.story (mark_of w made)
+  goes = record { living = k.living; passes = passes; marked = act-marked w old.access new.access old.journal made k.living.words a.step.one.act }
+
+  pub sound : IsSound old.config (with_mark old.journal (mark_of w made))
+  sound = act-sound b.journal old new k.story w made done None k.living k.sound a (call-is-open old k w x is-worker) passed
+
+  -- what others do is the same
+  pub same-other : (v : ℕ) → v ≢ w → SameFor old.access new.access v
+  same-other v ne = record {
+    doing = ap (λ z. z.doing) (a.step.one.others.workers v ne);
+    begun = a.step.one.others.begun;
+    taken = a.step.one.others.taken;
+    size = a.step.one.others.size;
+    effects = λ t d. a.step.effect.swaps t;
+  }
+
+  pub same-own : done ≡ Busy → SameFor old.access new.access w
+  same-own busy = record {
+    doing = a.step.one.doing ∙ ap (doing_after (doing_of old.access w)) busy;
+    begun = a.step.one.others.begun;
+    taken = a.step.one.others.taken;
+    size = a.step.one.others.size;
+    effects = λ t d. a.step.effect.swaps t;
+  }
+
+  -- so what is known of a worker stays, if the mark is a lawful step for it
+  pub stays : (after : Story) (v : ℕ) → IsLiving old.config new.access (with_mark old.journal (mark_of w made)) after → SameFor old.access new.access v
+      → ((opened : Open) → HasBegun old.journal opened → IsLawful (scene old.config old.journal.past k.story v opened) (scene old.config (mark_of w made ∷ old.journal.past) after v opened))
+      → IsSlot old.config new.access (with_mark old.journal (mark_of w made)) after old.owners.items v (get_or old.workers.items v None)
+  stays after v living same lawful = slot-stays b.scenes old.config old.access new.access old.journal (mark_of w made) k.story after old.owners.items v (get_or old.workers.items v None) living (record {
+    same = same;
+    calls = act-calls v w old.journal.past made;
+    lawful = lawful;
+  }) (k.workers v)
+
+  pub tabled : length old.journal.past < old.config.marks → IsTabled new
+  tabled room = act-tabled old new w made done None k.tabled a room
+
+  pub taken : AreTaken new
+  taken = act-taken b.taken b.begun old new w made done None k.taken (held old.access k.living.seen.phase k.living.seen.holds) k.living.seen.swaps a (some-worker old k w x is-worker) (pending-begun old k)
+
+  -- the world goes on
+  pub goes-on : (after : Story) → length old.journal.past < old.config.marks → IsLiving old.config new.access (with_mark old.journal (mark_of w made)) after
+      → ((v : ℕ) → IsSlot old.config new.access (with_mark old.journal (mark_of w made)) after old.owners.items v (get_or old.workers.items v None)) → IsKept new
+  goes-on after room living slots = subst IsKept (sym a.rest) (record {
+    story = after;
+    tabled = subst IsTabled a.rest (tabled room);
+    taken = subst AreTaken a.rest taken;
+    living = living;
+    sound = sound;
+    workers = slots;
+  })
+
+  -- and the worker, whose operation was answered, is to be told
+  abbrev pub answered : (after : Story) → length old.journal.past < old.config.marks → done ≢ Busy → IsLiving old.config new.access (with_mark old.journal (mark_of w made)) after
+      → ((v : ℕ) → v ≢ w → IsSlot old.config new.access (with_mark old.journal (mark_of w made)) after old.owners.items v (get_or old.workers.items v None))
+      → IsBetween (record old { access = new.access; journal = with_mark old.journal (mark_of w made) }) w x
+  answered after room ne living slots = record {
+    story = after;
+    tabled = subst IsTabled a.rest (tabled room);
+    taken = subst AreTaken a.rest taken;
+    living = living;
+    sound = sound;
+    others = slots;
+    worker = some-worker old k w x is-worker;
+    within = within-crew old k w x is-worker;
+    opened = s.opened;
+    call_open = record {
+      is_open = act-calls w w old.journal.past made ∙ s.call_open.is_open;
+      call = s.call_open.call;
+      effect = s.call_open.effect;
+      begun = omega (arith, s.call_open.begun);
+      served = s.call_open.served;
+    };
+    idle = a.step.one.doing ∙ idle-by (doing_of old.access w) done ne;
+  }

@@ -1,0 +1,119 @@
+-- A worker starts what its task asks for.
+use Rattle.std.proofs.Common.{◌≡◌, ◌≢◌, ◌⊎◌, ℕ, zero, suc, ◌+◌, ◌*◌, ◌<◌, ◌≤◌, true, false, List, ◌∷◌, length, slice_index, slice_set, arith, refl, sym, ap, subst, ◌∙◌, inl, inr, Option, Some, None}
+use Rattle.std.specs.Prelude.{get_or}
+use Rattle.std.proofs.lemmas.Bool.{cases_eq}
+use Rattle.std.proofs.lemmas.List.{get_or-set_same, get_or-set_other, length-set}
+use Rattle.bz_running.specs.Duties.{asks_of, facts_of}
+use Rattle.bz_sight.specs.Sight.{IsSeen}
+use Rattle.bz_sight.specs.Starts.{StartsAreSeen, Sees}
+use Rattle.bz_story.specs.Living.{IsLiving}
+use Rattle.bz_story.specs.Story.{Story, scene}
+use Rattle.bz_task.specs.Requests.{IsAskable}
+use Rattle.bz_swap.specs.Held.{Holds}
+use Rattle.bz_swap.specs.Starts.{MayWork, started, begins_by_flush}
+use Rattle.bz_swap.specs.SwapMemory.{SwapMemory, Doing, Working, Idle, idle, Swapping, doing_of, worker_of}
+use Rattle.bz_swap.specs.TakenStatuses.{BegunStayTaken}
+use Rattle.bz_task.specs.Scene.{Scene, Waiting}
+use Rattle.bz_task.specs.declared.todo.Todo.{Todo}
+use Rattle.bz_world.specs.Acted.{IsBetween, IsAsking}
+use Rattle.bz_world.specs.Kept.{IsTabled, AreTaken, IsKept}
+use Rattle.bz_world.specs.Laws.{StartLaws}
+use Rattle.bz_world.specs.Serving.{IsServing, IsDoing, IsSlot, stage_in}
+use Rattle.bz_world.specs.Telling.{MustStart}
+use Rattle.bz_world.specs.declared.parts.Parts.{Parts}
+use Rattle.bz_world.proofs.Staying.{SameFor, slot-same}
+
+-- what a worker does that has started something, and what the others do
+pub starts-it : (m : SwapMemory) (w : ℕ) (doing : Doing) → w < length m.workers → doing_of (started m w doing) w ≡ doing
+starts-it m w doing l = ap (λ (z : Working). z.doing) (get_or-set_same m.workers w (record { doing = doing; flush_next = begins_by_flush doing }) idle l)
+
+pub starts-others : (m : SwapMemory) (w v : ℕ) (doing : Doing) → v ≢ w → doing_of (started m w doing) v ≡ doing_of m v
+starts-others m w v doing ne = ap (λ (z : Working). z.doing) (get_or-set_other m.workers w v (record { doing = doing; flush_next = begins_by_flush doing }) idle ne)
+
+-- the worker may start something
+pub may-work : (p : Parts) (w : ℕ) (todo : Todo) → (m : MustStart p w todo) → MayWork p.access w
+may-work p w todo m = let between = m.asking.between in record {
+  some = between.worker;
+  within = omega (arith, between.tabled.crew, between.within);
+  idle = between.idle;
+  phase = between.living.seen.phase;
+}
+
+-- what it asks for may be asked for
+pub record IsAskedFor (p : Parts) (s : Scene) (story : Story) (todo : Todo) : Type 0 where
+  pub sees : Sees p.config (story.at (length p.journal.past)) s
+  pub askable : IsAskable s todo
+
+pub may-ask : StartLaws → (p : Parts) (w : ℕ) (todo : Todo) → (m : MustStart p w todo) → IsAskedFor p (scene p.config p.journal.past m.asking.between.story w m.asking.between.opened) m.asking.between.story todo
+may-ask b p w todo m =
+    let sees : Sees p.config (m.asking.between.story.at (length p.journal.past)) (scene p.config p.journal.past m.asking.between.story w m.asking.between.opened) = b.scenes p.config p.access p.journal m.asking.between.story w m.asking.between.opened m.asking.between.living m.asking.between.call_open.begun in
+    record {
+      sees = sees;
+      askable = m.asking.tasked.laws.askable (scene p.config p.journal.past m.asking.between.story w m.asking.between.opened) todo (sym m.asking.tasked.config) m.asking.facts sees.scene m.asking.asks;
+    }
+
+-- a read, a store or a flush
+module _ (starts : StartsAreSeen) (begun : BegunStayTaken) (p : Parts) (w : ℕ) (todo : Todo) (m : MustStart p w todo) (doing : Doing) (holds : Holds (started p.access w doing)) (does : IsDoing (started p.access w doing) p.owners.items w todo)
+    (waits : stage_in (started p.access w doing) doing ≡ Waiting) where
+  abbrev between : IsBetween p w m.serving
+  between = m.asking.between
+
+  work : MayWork p.access w
+  work = may-work p w todo m
+
+  living : IsLiving p.config (started p.access w doing) p.journal between.story
+  living = let l = between.living in record {
+    seen = starts.start p.config (between.story.at (length p.journal.past)) p.access w doing l.seen work.some holds;
+    history = l.history;
+    words = l.words;
+    images = l.images;
+    effects = l.effects;
+    owned = l.owned;
+    apart = l.apart;
+  }
+
+  serves-on : IsServing p.config (started p.access w doing) p.journal between.story p.owners.items w m.serving
+  serves-on = record {
+    opened = between.opened;
+    call_open = between.call_open;
+    tasked = m.asking.tasked;
+    asked = todo;
+    asks = m.asking.asks;
+    doing = does;
+    facts = subst (λ z. facts_of m.serving.task z (scene p.config p.journal.past between.story w between.opened)) (sym (ap (stage_in (started p.access w doing)) (starts-it p.access w doing work.within) ∙ waits)) m.asking.facts;
+  }
+
+  same-other : (v : ℕ) → v ≢ w → SameFor p.access (started p.access w doing) v
+  same-other v ne = record { doing = starts-others p.access w v doing ne; begun = refl; taken = refl; size = refl; effects = λ s d. refl }
+
+  slots : (v : ℕ) → IsSlot p.config (started p.access w doing) p.journal between.story p.owners.items v (get_or p.workers.items v None)
+  slots v = elim (cases_eq v w) [
+    | inr ne ↦ slot-same p.config p.access (started p.access w doing) p.journal between.story p.owners.items p.owners.items v (get_or p.workers.items v None) (same-other v ne) (λ s d. refl) (between.others v ne)
+    | inl e ↦ subst (λ u. IsSlot p.config (started p.access w doing) p.journal between.story p.owners.items u (get_or p.workers.items u None)) (sym e)
+        (subst (IsSlot p.config (started p.access w doing) p.journal between.story p.owners.items w) (sym m.is) serves-on)
+  ]
+
+  pub started-kept : IsKept (record p { access = started p.access w doing })
+  started-kept = record {
+    story = between.story;
+    tabled = let t = between.tabled in record {
+      config = t.config;
+      limits = t.limits;
+      marks = t.marks;
+      places = t.places;
+      number_places = t.number_places;
+      owner_places = t.owner_places;
+      crew = length-set p.access.workers w (record { doing = doing; flush_next = begins_by_flush doing }) ∙ t.crew;
+      counted = t.counted;
+      strangers = t.strangers;
+      begins = t.begins;
+      few_begins = t.few_begins;
+      page_calls = t.page_calls;
+      few_page_calls = t.few_page_calls;
+      steps = t.steps;
+    };
+    taken = let t = between.taken in record { shown = t.shown; held = begun.start p.access w doing between.idle t.held; few = t.few; counted = t.counted; unused = t.unused };
+    living = living;
+    sound = between.sound;
+    workers = slots;
+  }

@@ -1,0 +1,104 @@
+-- What is known of a worker stays by what others do.
+use Rattle.std.proofs.Common.{◌≡◌, ◌≢◌, ℕ, ◌+◌, ◌*◌, ◌<◌, ◌≤◌, if◌then◌else◌, Bool, true, false, List, [], ◌∷◌, length, slice_index, arith, refl, sym, ap, subst, ◌∙◌, inl, inr, Option, Some, None}
+use Rattle.std.specs.Prelude.{get_or}
+use Rattle.bz_layout.specs.declared.config.Config.{Config}
+use Rattle.bz_mark.specs.Log.{Log, with_mark}
+use Rattle.bz_mark.specs.declared.marks.Mark.{Mark}
+use Rattle.bz_running.specs.Duties.{facts_of}
+use Rattle.bz_sound.specs.Calls.{Open, open_call}
+use Rattle.bz_story.specs.Laws.{HasBegun, ScenesAreSeen}
+use Rattle.bz_story.specs.Living.{IsLiving}
+use Rattle.bz_story.specs.Story.{Story, scene}
+use Rattle.bz_swap.specs.SwapMemory.{SwapMemory, Doing, Idle, Reading, Swapping, Loading, Storing, Flushing, doing_of, entries_of, has_effect}
+use Rattle.bz_task.specs.Scene.{IsLawful, Waiting, Took}
+use Rattle.bz_task.specs.declared.todo.Todo.{Todo}
+use Rattle.bz_task.specs.declared.todo.Todo.TheVariants as todo
+use Rattle.bz_world.specs.Serving.{IsServing, IsSwapping, IsDoing, IsAtRest, IsSlot, stage_in}
+use Rattle.bz_world.specs.declared.serving.Serving.{Serving}
+
+-- what a worker does is the same in two memories, and so is whether its swap has taken effect
+pub record SameFor (m n : SwapMemory) (v : ℕ) : Type 0 where
+  pub doing : doing_of n v ≡ doing_of m v
+  pub begun : n.begun ≡ m.begun
+  pub taken : n.taken ≡ m.taken
+  pub size : length n.cached ≡ length m.cached
+  pub effects : (s : ℕ) → doing_of m v ≡ Swapping s → has_effect n s ≡ has_effect m s
+
+pub doing-stays : (m n : SwapMemory) (owners : List ℕ) (v : ℕ) (asked : Todo) → SameFor m n v → IsDoing m owners v asked → IsDoing n owners v asked
+doing-stays m n owners v (todo.Read a) same d = same.doing ∙ d
+doing-stays m n owners v (todo.Store a u) same d = (same.doing ∙ d.0, omega (arith, same.size, d.1))
+doing-stays m n owners v (todo.Flush line) same d = (same.doing ∙ d.0, omega (arith, same.size, d.1))
+doing-stays m n owners v (todo.Swap entries) same d = record {
+  swap = d.swap;
+  doing = same.doing ∙ d.doing;
+  same = ap (λ z. get_or z d.swap []) same.begun ∙ d.same;
+  owner = d.owner;
+  begun = omega (arith, same.taken, d.begun);
+  list = d.list;
+}
+doing-stays m n owners v (todo.Load a) same d = absurd d
+doing-stays m n owners v (todo.Finish o) same d = absurd d
+
+stage-by : (m n : SwapMemory) (d : Doing) → ((s : ℕ) → d ≡ Swapping s → has_effect n s ≡ has_effect m s) → stage_in n d ≡ stage_in m d
+stage-by m n Idle e = refl
+stage-by m n (Reading a) e = refl
+stage-by m n (Swapping s) e = ap (λ t. if t then Took else Waiting) (e s refl)
+stage-by m n (Loading a) e = refl
+stage-by m n (Storing a u) e = refl
+stage-by m n (Flushing line) e = refl
+
+stage-stays : (m n : SwapMemory) (v : ℕ) → SameFor m n v → stage_in n (doing_of n v) ≡ stage_in m (doing_of m v)
+stage-stays m n v same = ap (stage_in n) same.doing ∙ stage-by m n (doing_of m v) same.effects
+
+-- a mark that is a lawful step for a worker, and leaves what it does
+pub record Leaves (c : Config) (m n : SwapMemory) (log : Log) (mark : Mark) (story after : Story) (v : ℕ) : Type 0 where
+  pub same : SameFor m n v
+  pub calls : open_call v (mark ∷ log.past) ≡ open_call v log.past
+  pub lawful : (opened : Open) → HasBegun log opened → IsLawful (scene c log.past story v opened) (scene c (mark ∷ log.past) after v opened)
+
+pub serving-stays : ScenesAreSeen → (c : Config) (m n : SwapMemory) (log : Log) (mark : Mark) (story after : Story) (owners : List ℕ) (v : ℕ) (x : Serving) → IsLiving c n (with_mark log mark) after → Leaves c m n log mark story after v
+    → IsServing c m log story owners v x → IsServing c n (with_mark log mark) after owners v x
+serving-stays seen c m n log mark story after owners v x living l s = record {
+  opened = s.opened;
+  call_open = record {
+    is_open = l.calls ∙ s.call_open.is_open;
+    call = s.call_open.call;
+    effect = s.call_open.effect;
+    begun = omega (arith, s.call_open.begun);
+    served = s.call_open.served;
+  };
+  tasked = s.tasked;
+  asked = s.asked;
+  asks = s.asks;
+  doing = doing-stays m n owners v s.asked l.same s.doing;
+  facts = subst (λ z. facts_of x.task z (scene c (mark ∷ log.past) after v s.opened)) (sym (stage-stays m n v l.same))
+      (s.tasked.laws.stable (stage_in m (doing_of m v)) (scene c log.past story v s.opened) (scene c (mark ∷ log.past) after v s.opened) (sym s.tasked.config) s.facts
+      (seen c n (with_mark log mark) after v s.opened living (omega (arith, s.call_open.begun))).scene (l.lawful s.opened s.call_open.begun));
+}
+
+pub slot-stays : ScenesAreSeen → (c : Config) (m n : SwapMemory) (log : Log) (mark : Mark) (story after : Story) (owners : List ℕ) (v : ℕ) (slot : Option Serving) → IsLiving c n (with_mark log mark) after → Leaves c m n log mark story after v
+    → IsSlot c m log story owners v slot → IsSlot c n (with_mark log mark) after owners v slot
+slot-stays seen c m n log mark story after owners v None living l s = record { none_open = l.calls ∙ s.none_open; idle = l.same.doing ∙ s.idle }
+slot-stays seen c m n log mark story after owners v (Some x) living l s = serving-stays seen c m n log mark story after owners v x living l s
+
+-- without a mark, in a memory in which a worker does the same
+pub slot-same : (c : Config) (m n : SwapMemory) (log : Log) (story : Story) (owners others : List ℕ) (v : ℕ) (slot : Option Serving) → SameFor m n v → ((s : ℕ) → doing_of m v ≡ Swapping s → slice_index others s ≡ slice_index owners s)
+    → IsSlot c m log story owners v slot → IsSlot c n log story others v slot
+slot-same c m n log story owners others v None same table s = record { none_open = s.none_open; idle = same.doing ∙ s.idle }
+slot-same c m n log story owners others v (Some x) same table s = record {
+  opened = s.opened;
+  call_open = let o = s.call_open in record { is_open = o.is_open; call = o.call; effect = o.effect; begun = o.begun; served = o.served };
+  tasked = s.tasked;
+  asked = s.asked;
+  asks = s.asks;
+  doing = doing-stays m n others v s.asked same (doing-by m owners others v s.asked table s.doing);
+  facts = subst (λ z. facts_of x.task z (scene c log.past story v s.opened)) (sym (stage-stays m n v same)) s.facts;
+}
+  where
+    doing-by : (m : SwapMemory) (owners others : List ℕ) (v : ℕ) (asked : Todo) → ((s : ℕ) → doing_of m v ≡ Swapping s → slice_index others s ≡ slice_index owners s) → IsDoing m owners v asked → IsDoing m others v asked
+    doing-by m owners others v (todo.Read a) table d = d
+    doing-by m owners others v (todo.Load a) table d = absurd d
+    doing-by m owners others v (todo.Store a u) table d = d
+    doing-by m owners others v (todo.Flush line) table d = d
+    doing-by m owners others v (todo.Finish o) table d = absurd d
+    doing-by m owners others v (todo.Swap entries) table d = record { swap = d.swap; doing = d.doing; same = d.same; owner = table d.swap d.doing ∙ d.owner; begun = d.begun; list = d.list }

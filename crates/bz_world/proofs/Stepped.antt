@@ -1,0 +1,133 @@
+-- A world after an act of a worker, as far as it goes on by itself: its tables and its journal.
+use Rattle.std.proofs.Common.{◌≡◌, ◌≢◌, ℕ, suc, ◌+◌, ◌*◌, ◌<◌, ◌≤◌, ◌⊎◌, ◌||◌, ◌&&◌, ◌==◌, Bool, true, false, not, List, ◌∷◌, length, slice_index, arith, refl, sym, ap, subst, ◌∙◌, inl, inr, Option, Some, None}
+use Rattle.std.proofs.lemmas.Bool.{cases_eq}
+use Rattle.std.proofs.lemmas.Bool.Decides.{nat_tests}
+use Rattle.bz_acts.specs.declared.acted.Act.{Act}
+use Rattle.bz_acts.specs.declared.acted.Act.TheVariants.{Load, Store, Cas, Flush}
+use Rattle.bz_cells.specs.Store.{status_word}
+use Rattle.bz_machine.specs.declared.done.Done.{Done}
+use Rattle.bz_machine.specs.declared.status.SwapStatus.TheVariants.{Free, Undecided}
+use Rattle.bz_layout.specs.Addresses.{swap_address}
+use Rattle.bz_layout.specs.declared.config.Config.{Config}
+use Rattle.bz_mark.specs.Log.{Log, with_mark}
+use Rattle.bz_mark.specs.MomentLaws.{at_moment-now}
+use Rattle.bz_mark.specs.declared.marks.Mark.{Mark}
+use Rattle.bz_mark.specs.declared.marks.Mark.TheVariants as mark
+use Rattle.bz_sight.specs.Passing.{Passed}
+use Rattle.bz_sight.specs.Sight.{next_instant}
+use Rattle.bz_sound.specs.Calls.{Open, open_call}
+use Rattle.bz_sound.specs.Memory.Calls.{HasOpenCall}
+use Rattle.bz_sound.specs.Memory.Laws.{IsQuietAct}
+use Rattle.bz_sound.specs.Memory.Moments.{image_after, IsAfterFlush}
+use Rattle.bz_sound.specs.Memory.Sound.{IsSound}
+use Rattle.bz_sound.specs.Memory.Spent.{is_taken}
+use Rattle.bz_story.specs.Living.{IsLiving}
+use Rattle.bz_story.specs.Story.{Story}
+use Rattle.bz_swap.specs.Held.{IsHeld, Holds, HoldsIn}
+use Rattle.bz_swap.specs.declared.phase.Phase.{Phase}
+use Rattle.bz_swap.specs.declared.phase.Phase.TheVariants.{Opened, Running, Recovering}
+use Rattle.bz_swap.specs.SwapMemory.{SwapMemory, Swapping, doing_of, has_effect}
+use Rattle.bz_swap.specs.Effects.{EffectIs}
+use Rattle.bz_swap.specs.TakenStatuses.{IsTaken, IsTaking, TakenStatusesStay, BegunAreTaken, BegunStayTaken}
+use Rattle.bz_task.specs.Instant.{Instant}
+use Rattle.bz_content.specs.Content.{image_fault, content_in}
+use Rattle.bz_world.specs.Acted.{IsActed}
+use Rattle.bz_world.specs.Kept.{IsTabled, AreTaken}
+use Rattle.bz_world.specs.Lab.{mark_of}
+use Rattle.bz_world.specs.Laws.{JournalLaws}
+use Rattle.bz_world.specs.declared.parts.Parts.{Parts}
+use Rattle.bz_world.proofs.Marking.{act-marked, act-found, act-follows, act-calls, act-begun, act-counts, SameCounts}
+
+-- the tables
+pub act-tabled : (old new : Parts) (w : ℕ) (made : Act) (done : Done) (told : Option ℕ) → IsTabled old → IsActed old w made done told new → length old.journal.past < old.config.marks → IsTabled new
+act-tabled old new w made done told t a room = subst IsTabled (sym a.rest) (record {
+  config = t.config;
+  limits = t.limits;
+  marks = omega (arith, room);
+  places = t.places;
+  number_places = t.number_places;
+  owner_places = t.owner_places;
+  crew = a.step.one.others.count ∙ t.crew;
+  counted = λ v l. t.counted v l ∙ sym (act-begun v w old.journal.past made);
+  strangers = λ v o. act-calls v w old.journal.past made ∙ t.strangers v o;
+  begins = t.begins ∙ sym (act-counts w old.journal.past made).begins;
+  few_begins = t.few_begins;
+  page_calls = t.page_calls ∙ sym (act-counts w old.journal.past made).page_calls;
+  few_page_calls = t.few_page_calls;
+  steps = omega (arith, a.step.one.steps, t.steps);
+})
+
+-- a descriptor that the journal shows taken stays so
+or-right : (a b : Bool) → b ≡ true → a || b ≡ true
+or-right true b e = refl
+or-right false b e = e
+
+shown-stays : (s w : ℕ) (past : List Mark) (made : Act) → is_taken s past ≡ true → is_taken s (mark_of w made ∷ past) ≡ true
+shown-stays s w past (Load a v) h = h
+shown-stays s w past (Store a v) h = or-right (not (w == 0) && (a == swap_address s + 0 && v == 1)) (is_taken s past) h
+shown-stays s w past (Cas a old new found) h = h
+shown-stays s w past (Flush line) h = h
+
+-- the store that takes it shows it
+taking-shown : (s w : ℕ) (past : List Mark) → 0 < w → is_taken s (mark_of w (Store (swap_address s) 1) ∷ past) ≡ true
+taking-shown s w past some =
+    let p : (w == 0) ≡ false = grind (arith, nat_tests) in
+    let q : (swap_address s == swap_address s + 0) ≡ true = grind (arith, nat_tests) in
+    rw (p, q) refl
+
+-- a swap that takes effect was begun
+pub unused-by : (old new : SwapMemory) (told : Option ℕ) → ((v s : ℕ) → doing_of old v ≡ Swapping s → s < old.taken) → ((s : ℕ) → old.taken ≤ s → has_effect old s ≡ false) → EffectIs old new told
+    → (s : ℕ) → old.taken ≤ s → has_effect new s ≡ false
+unused-by old new None pending unused e s l = e.swaps s ∙ unused s l
+unused-by old new (Some t) pending unused e s l = e.other_swaps s (λ same. absurd (omega (arith, same, l, pending e.worker t e.pending))) ∙ unused s l
+
+pub act-taken : TakenStatusesStay → BegunStayTaken → (old new : Parts) (w : ℕ) (made : Act) (done : Done) (told : Option ℕ) → AreTaken old → IsHeld old.access → old.access.swaps ≡ old.config.swaps → IsActed old w made done told new → 0 < w
+    → ((v s : ℕ) → doing_of old.access v ≡ Swapping s → s < old.access.taken) → AreTaken new
+act-taken stay begun old new w made done told t held swaps a some pending = subst AreTaken (sym a.rest) (record {
+  shown = λ s l h. shown s l h (slice_index old.access.cached (swap_address s)) refl;
+  held = after;
+  few = omega (arith, a.step.one.others.taken, t.few);
+  counted = ap length a.step.one.others.begun ∙ (t.counted ∙ sym a.step.one.others.taken);
+  unused = λ s l. unused-by old.access new.access told pending t.unused a.step.effect s (omega (arith, l, a.step.one.others.taken));
+})
+  where
+    after : BegunAreTaken new.access
+    after = begun.step old.access new.access w made done told held a.step t.held
+
+    shown : (s : ℕ) → s < old.config.swaps → IsTaken new.access s → (z : ℕ) → slice_index old.access.cached (swap_address s) ≡ z → is_taken s (mark_of w made ∷ old.journal.past) ≡ true
+    shown s l h z e = elim (cases_eq z 0) [
+      | inr ne ↦ shown-stays s w old.journal.past made (t.shown s l (λ f. ne (sym e ∙ f)))
+      | inl zero ↦ (
+          let taking : IsTaking old.access w s made = stay.begins old.access new.access w made done told s a.step (omega (arith, l, swaps)) (e ∙ zero) h in
+          subst (λ (x : Act). is_taken s (mark_of w x ∷ old.journal.past) ≡ true) (sym taking.act) (taking-shown s w old.journal.past some))
+    ]
+
+-- outside a recovery time
+held-in : (m : SwapMemory) (phase : Phase) → phase ≢ Recovering → HoldsIn phase m → IsHeld m
+held-in m Opened ne h = h
+held-in m Running ne h = h
+held-in m Recovering ne h = absurd (ne refl)
+
+pub held : (m : SwapMemory) → m.phase ≢ Recovering → Holds m → IsHeld m
+held m ne h = held-in m m.phase ne h
+
+-- by an act that leaves the content the journal stays sound
+pub act-sound : JournalLaws → (old new : Parts) (story : Story) (w : ℕ) (made : Act) (done : Done) (told : Option ℕ) → IsLiving old.config old.access old.journal story → IsSound old.config old.journal → IsActed old w made done told new
+    → HasOpenCall old.journal.past w → Passed old.config (story.at (length old.journal.past)) new.access → IsSound old.config (with_mark old.journal (mark_of w made))
+act-sound b old new story w made done told living sound a opened passed = by-act made refl
+  where
+    was : image_after old.journal.start old.journal.past ≡ (story.at (length old.journal.past)).image
+    was = sym (living.images (length old.journal.past) (omega arith) ∙ ap (image_after old.journal.start) (at_moment-now old.journal.past))
+
+    is : image_after old.journal.start (mark_of w made ∷ old.journal.past) ≡ (next_instant new.access (story.at (length old.journal.past))).image
+    is = ap (λ z. slice_index z.durable) (sym (act-marked w old.access new.access old.journal made living.words a.step.one.act))
+
+    by-act : (x : Act) → made ≡ x → IsSound old.config (with_mark old.journal (mark_of w made))
+    by-act (Load d v) e = b.quiet old.config old.journal (mark_of w made) sound (subst (λ (z : Act). IsQuietAct (mark_of w z)) (sym e) tt) (act-follows _ old.journal.past w made opened) (act-found w old.access new.access old.journal made living.words a.step.one.act a.step.one.within)
+    by-act (Store d v) e = b.quiet old.config old.journal (mark_of w made) sound (subst (λ (z : Act). IsQuietAct (mark_of w z)) (sym e) tt) (act-follows _ old.journal.past w made opened) (act-found w old.access new.access old.journal made living.words a.step.one.act a.step.one.within)
+    by-act (Cas d o n f) e = b.quiet old.config old.journal (mark_of w made) sound (subst (λ (z : Act). IsQuietAct (mark_of w z)) (sym e) tt) (act-follows _ old.journal.past w made opened) (act-found w old.access new.access old.journal made living.words a.step.one.act a.step.one.within)
+    by-act (Flush line) e =
+        let flushes : IsAfterFlush (mark_of w made ∷ old.journal.past) = subst (λ (z : Act). IsAfterFlush (mark_of w z ∷ old.journal.past)) (sym e) tt in
+        b.flush old.config old.journal (mark_of w made) sound flushes (act-follows _ old.journal.past w made opened)
+        (b.same old.config old.journal (mark_of w made) sound flushes (subst (λ i. image_fault old.config i ≡ None) (sym is) passed.same.good.form)
+        (λ key. ap (λ i. content_in old.config i key) is ∙ (passed.same.content key ∙ ap (λ i. content_in old.config i key) (sym was))))

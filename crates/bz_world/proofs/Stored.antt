@@ -1,0 +1,74 @@
+-- What a worker is told of its private store.
+use Rattle.std.proofs.Common.{◌≡◌, ◌≢◌, ◌⊎◌, ℕ, suc, ◌+◌, ◌*◌, ◌<◌, ◌≤◌, true, false, List, ◌∷◌, length, slice_index, arith, refl, sym, ap, subst, ◌∙◌, inl, inr, Option, Some, None}
+use Rattle.std.specs.Prelude.{get_or}
+use Rattle.bz_acts.specs.declared.acted.Act.{Act}
+use Rattle.bz_machine.specs.declared.done.Done.{Done}
+use Rattle.bz_machine.specs.declared.done.Done.TheVariants as done
+use Rattle.bz_mark.specs.Log.{with_mark}
+use Rattle.bz_running.specs.Duties.{asks_of, facts_of}
+use Rattle.bz_sight.specs.Acts.{IsStoring}
+use Rattle.bz_sight.specs.Starts.{Sees}
+use Rattle.bz_sound.specs.Calls.{Open}
+use Rattle.bz_story.specs.Laws.{HasBegun, IsStore, goes_on, fills}
+use Rattle.bz_story.specs.Living.{IsLiving}
+use Rattle.bz_story.specs.Story.{Story, scene}
+use Rattle.bz_swap.specs.SwapMemory.{SwapMemory, Storing, doing_of}
+use Rattle.bz_task.specs.OwnActs.{Stores}
+use Rattle.bz_task.specs.Requests.{Hears, Tells}
+use Rattle.bz_task.specs.Scene.{Scene, Stage, IsLawful, Waiting, Took}
+use Rattle.bz_task.specs.declared.todo.Seen.TheVariants as seen
+use Rattle.bz_task.specs.declared.todo.Todo.TheVariants as todo
+use Rattle.bz_world.specs.Acted.{IsActed, IsTold}
+use Rattle.bz_world.specs.Kept.{IsKept}
+use Rattle.bz_world.specs.Lab.{mark_of}
+use Rattle.bz_world.specs.Serving.{IsServing, IsSlot, stage_in}
+use Rattle.bz_world.specs.declared.parts.Parts.{Parts}
+use Rattle.bz_world.specs.declared.serving.Serving.{Serving}
+use Rattle.bz_world.specs.Laws.{StepLaws}
+use Rattle.bz_world.proofs.Quiet.{serves, sees, own, goes, same-other, stays, answered}
+
+module _ (b : StepLaws) (old new : Parts) (w : ℕ) (x : Serving) (made : Act) (answer : Done) (k : IsKept old) (is-worker : get_or old.workers.items w None ≡ Some x) (a : IsActed old w made answer None new) (room : length old.journal.past < old.config.marks) where
+  abbrev pub its : IsServing old.config old.access old.journal k.story old.owners.items w x
+  its = serves old k w x is-worker
+
+  module _ (d u : ℕ) (asked : its.asked ≡ todo.Store d u) (stores : doing_of old.access w ≡ Storing d u) (within : d < length old.access.cached) where
+    abbrev after : Story
+    after = goes_on old.journal k.story new.access (fills old.config k.story w d)
+
+    abbrev before : Scene
+    before = scene old.config old.journal.past k.story w its.opened
+
+    abbrev later : Scene
+    later = scene old.config (mark_of w made ∷ old.journal.past) after w its.opened
+
+    is-storing : IsStoring old.access new.access made answer None d u
+    is-storing = b.storing old.config (k.story.at (length old.journal.past)) old.access new.access w made answer None d u k.living.seen a.step stores within
+
+    is-store : IsStore old.config old.access new.access old.journal k.story w d u its.opened
+    is-store = record { stores = is-storing.stores; begun = its.call_open.begun; own = own b old new w x made answer k is-worker a d u stores }
+
+    living : IsLiving old.config new.access (with_mark old.journal (mark_of w made)) after
+    living = b.lives old.config old.access new.access old.journal k.story (mark_of w made) (fills old.config k.story w d) (goes b old new w x made answer k is-worker a)
+
+    others : (v : ℕ) → v ≢ w → IsSlot old.config new.access (with_mark old.journal (mark_of w made)) after old.owners.items v (get_or old.workers.items v None)
+    others v ne = stays b old new w x made answer k is-worker a after v living (same-other b old new w x made answer k is-worker a v ne)
+        (λ opened begun. b.stores.others old.config old.access new.access old.journal k.story (mark_of w made) w d u its.opened v opened (goes b old new w x made answer k is-worker a) is-store ne begun)
+
+    stored : Stores d u before later
+    stored = b.stores.own old.config old.access new.access old.journal k.story (mark_of w made) w d u its.opened (goes b old new w x made answer k is-worker a) is-store
+
+    later-seen : Sees old.config (after.at (suc (length old.journal.past))) later
+    later-seen = b.scenes old.config new.access (with_mark old.journal (mark_of w made)) after w its.opened living (omega (arith, its.call_open.begun))
+
+    took : facts_of x.task Took later
+    took = its.tasked.laws.stored before later d u (sym its.tasked.config) (subst (λ z. facts_of x.task z before) (ap (stage_in old.access) stores) its.facts) (sees b old new w x made answer k is-worker a w x its).scene later-seen.scene (its.asks ∙ ap Some asked) stored
+
+    pub told-store : IsTold new w x seen.Stored
+    told-store = subst (λ p. IsTold p w x seen.Stored) (sym a.rest) (record {
+      between = answered b old new w x made answer k is-worker a after room (λ f. absurd (cc (is-storing.answer, f))) living others;
+      tasked = its.tasked;
+      stage = Took;
+      facts = took;
+      hears = subst (λ z. Hears z seen.Stored) (sym (its.asks ∙ ap Some asked)) tt;
+      tells = subst (λ z. Tells z Took seen.Stored later) (sym (its.asks ∙ ap Some asked)) tt;
+    })

@@ -1,0 +1,105 @@
+-- The world once the effect of a swap is noted.
+use Rattle.std.proofs.Common.{◌≡◌, ◌≢◌, ◌⊎◌, ℕ, suc, ◌+◌, ◌<◌, ◌≤◌, if◌then◌else◌, Bool, true, false, List, ◌∷◌, length, slice_index, slice_set, arith, refl, sym, ap, subst, ◌∙◌, inl, inr, Option, Some, None}
+use Rattle.std.specs.Prelude.{get_or}
+use Rattle.std.specs.Global.{Vec}
+use Rattle.std.specs.Vec.{with_item}
+use Rattle.std.proofs.lemmas.List.{get_or-set_same, get_or-set_other, length-set}
+use Rattle.std.proofs.lemmas.Bool.{cases_eq}
+use Rattle.bz_mark.specs.Log.{with_mark}
+use Rattle.bz_mark.specs.declared.marks.Mark.TheVariants.{Effect}
+use Rattle.bz_running.specs.Duties.{publishing_of}
+use Rattle.bz_world.specs.Acted.{IsStriking}
+use Rattle.bz_world.specs.Kept.{IsKept, IsTabled, AreTaken}
+use Rattle.bz_world.specs.Serving.{IsServing, IsSlot, noted, is_publishing}
+use Rattle.bz_world.specs.declared.parts.Parts.{Parts}
+use Rattle.bz_world.specs.declared.serving.Serving.{Serving}
+use Rattle.bz_world.proofs.Quiet.{some-worker, within-crew}
+use Rattle.bz_world.specs.Laws.{StrikeLaws}
+use Rattle.bz_world.proofs.Striking.{old, kept, w, x, its, owner}
+use Rattle.bz_world.proofs.StruckQuietly.{struck-quietly}
+use Rattle.bz_world.proofs.Published.{published}
+
+-- a table of the same entries
+pub kept-workers : (p : Parts) (workers : Vec (Option Serving)) → IsKept p → length workers.items ≡ length p.workers.items → ((v : ℕ) → get_or workers.items v None ≡ get_or p.workers.items v None) → IsKept (record p { workers = workers })
+kept-workers p workers k size same = record {
+  story = k.story;
+  tabled = let t = k.tabled in record {
+    config = t.config;
+    limits = t.limits;
+    marks = t.marks;
+    places = size ∙ t.places;
+    number_places = t.number_places;
+    owner_places = t.owner_places;
+    crew = t.crew;
+    counted = t.counted;
+    strangers = t.strangers;
+    begins = t.begins;
+    few_begins = t.few_begins;
+    page_calls = t.page_calls;
+    few_page_calls = t.few_page_calls;
+    steps = t.steps;
+  };
+  taken = let t = k.taken in record { shown = t.shown; held = t.held; few = t.few; counted = t.counted; unused = t.unused };
+  living = k.living;
+  sound = k.sound;
+  workers = λ v. subst (IsSlot p.config p.access p.journal k.story p.owners.items v) (sym (same v)) (k.workers v);
+}
+
+pub in-owners : (b : StrikeLaws) (p : Parts) (s : ℕ) (h : IsStriking p s) → s < length p.owners.items
+in-owners b p s h = omega (arith, (owner b p s h).begun, h.work.taken, h.taken.few, h.tabled.owner_places)
+
+module _ (b : StrikeLaws) (p : Parts) (s : ℕ) (h : IsStriking p s) (v : ℕ) (named : v ≡ slice_index p.owners.items s) where
+  pub worker-is : v ≡ w b p s h
+  worker-is = named ∙ (ap (λ (q : Parts). slice_index q.owners.items s) h.rest ∙ (owner b p s h).owner)
+
+  pub in-crew : v ≤ h.before.config.workers
+  in-crew = subst (λ u. u ≤ h.before.config.workers) (sym worker-is) (within-crew h.before h.kept (w b p s h) (x b p s h) (owner b p s h).is)
+
+  pub in-table : v < 65
+  in-table = omega (arith, in-crew, h.kept.tabled.config.workers_in_range.at_most)
+
+  table-size : length p.workers.items ≡ 65
+  table-size = h.tabled.places
+
+  same-table : p.workers ≡ h.before.workers
+  same-table = ap (λ (q : Parts). q.workers) h.rest
+
+  pub slot-was : get_or p.workers.items v None ≡ Some (x b p s h)
+  slot-was = ap (λ z. get_or z.items v None) same-table ∙ (ap (λ u. get_or h.before.workers.items u None) worker-is ∙ (owner b p s h).is)
+
+  -- the swap makes no change
+  pub struck-silent : (slot : Option Serving) → slot ≡ noted (Some (x b p s h)) (length p.journal.past) → publishing_of (x b p s h).task ≡ false → IsKept (record p { workers = with_item p.workers v slot })
+  struck-silent slot is silent = kept-workers p (with_item p.workers v slot) (struck-quietly b p s h silent) (length-set p.workers.items v slot) same
+    where
+      slot-is : slot ≡ Some (x b p s h)
+      slot-is = is ∙ ap (λ z. Some (if z then record (x b p s h) { effect = Some (length p.journal.past) } else x b p s h)) silent
+
+      same : (u : ℕ) → get_or (slice_set p.workers.items v slot) u None ≡ get_or p.workers.items u None
+      same u = elim (cases_eq u v) [
+        | inl e ↦ ap (λ t. get_or (slice_set p.workers.items v slot) t None) e ∙ (get_or-set_same p.workers.items v slot None (omega (arith, table-size, in-table)) ∙ (slot-is ∙ (sym slot-was ∙ ap (λ t. get_or p.workers.items t None) (sym e))))
+        | inr ne ↦ get_or-set_other p.workers.items v u slot None ne
+      ]
+
+  -- or it makes it
+  pub struck-aloud : (slot : Option Serving) (n : ℕ) → slot ≡ noted (Some (x b p s h)) (length p.journal.past) → publishing_of (x b p s h).task ≡ true → n ≡ slice_index p.numbers.items v → length p.journal.past < p.config.marks
+      → IsKept (record p { journal = with_mark p.journal (Effect v n); workers = with_item p.workers v slot })
+  struck-aloud slot n is publishes number room = subst (λ (q : Parts). IsKept (record q { journal = with_mark q.journal (Effect v n); workers = with_item p.workers v slot })) (sym h.rest)
+      (subst (λ u. IsKept (record h.before { access = p.access; journal = with_mark (with_mark h.before.journal h.mark) (Effect u n); workers = with_item p.workers v slot })) (sym worker-is)
+      (subst (λ m. IsKept (record h.before { access = p.access; journal = with_mark (with_mark h.before.journal h.mark) (Effect (w b p s h) m); workers = with_item p.workers v slot })) (sym number-is)
+      (published b p s h publishes (with_item p.workers v slot) (length-set p.workers.items v slot ∙ table-size) (let r : length (h.mark ∷ h.before.journal.past) < h.before.config.marks = subst (λ (q : Parts). length q.journal.past < q.config.marks) h.rest room in omega (arith, r)) here-is others-are)))
+    where
+      number-is : n ≡ (its b p s h).opened.number
+      number-is = number ∙ (ap (λ (q : Parts). slice_index q.numbers.items v) h.rest ∙ (ap (λ u. slice_index h.before.numbers.items u) worker-is ∙ (h.kept.tabled.counted (w b p s h) (subst (λ u. u < 65) worker-is in-table)
+          ∙ sym (b.last h.before.config h.before.journal (w b p s h) (its b p s h).opened h.kept.sound (its b p s h).call_open.is_open).last)))
+
+      moment-is : length p.journal.past ≡ suc (length h.before.journal.past)
+      moment-is = ap (λ (q : Parts). length q.journal.past) h.rest
+
+      slot-is : slot ≡ Some (record (x b p s h) { effect = Some (suc (length h.before.journal.past)) })
+      slot-is = is ∙ (ap (λ z. Some (if z then record (x b p s h) { effect = Some (length p.journal.past) } else x b p s h)) publishes ∙ ap (λ m. Some (record (x b p s h) { effect = Some m })) moment-is)
+
+      here-is : get_or (slice_set p.workers.items v slot) (w b p s h) None ≡ Some (record (x b p s h) { effect = Some (suc (length h.before.journal.past)) })
+      here-is = ap (λ t. get_or (slice_set p.workers.items v slot) t None) (sym worker-is) ∙ (get_or-set_same p.workers.items v slot None (omega (arith, table-size, in-table)) ∙ slot-is)
+
+      others-are : (u : ℕ) → u ≢ w b p s h → get_or (slice_set p.workers.items v slot) u None ≡ get_or h.before.workers.items u None
+      others-are u ne = get_or-set_other p.workers.items v u slot None (λ e. ne (e ∙ worker-is)) ∙ ap (λ z. get_or z.items u None) same-table

@@ -1,0 +1,106 @@
+-- The effect of a swap that does not make the change of its call: the world goes on without an Effect mark.
+use Rattle.std.proofs.Common.{◌≡◌, ◌≢◌, ◌⊎◌, ℕ, suc, ◌+◌, ◌*◌, ◌<◌, ◌≤◌, if◌then◌else◌, Bool, true, false, List, [], ◌∷◌, length, slice_index, arith, refl, sym, ap, subst, ◌∙◌, inl, inr, Option, Some, None}
+use Rattle.std.specs.Prelude.{get_or}
+use Rattle.std.proofs.lemmas.Bool.{cases_eq}
+use Rattle.bz_content.specs.Content.{image_fault, content_in}
+use Rattle.bz_mark.specs.Log.{Log, with_mark}
+use Rattle.bz_mark.specs.MomentLaws.{at_moment-now}
+use Rattle.bz_running.specs.Duties.{asks_of, facts_of, publishing_of, change_of}
+use Rattle.bz_sight.specs.Effects.{effect_instant}
+use Rattle.bz_sound.specs.Calls.{Open, open_call}
+use Rattle.bz_sound.specs.Memory.Moments.{image_after}
+use Rattle.bz_sound.specs.Memory.Sound.{IsSound}
+use Rattle.bz_story.specs.Laws.{HasBegun, opened_after}
+use Rattle.bz_story.specs.Story.{Story, scene}
+use Rattle.bz_swap.specs.SwapMemory.{SwapMemory, Doing, Swapping, doing_of, entries_of, has_effect}
+use Rattle.bz_task.specs.Instant.{Instant}
+use Rattle.bz_task.specs.Scene.{Scene, Waiting, Took, here}
+use Rattle.bz_task.specs.Swaps.{IsGoodSwap, ContentFollows}
+use Rattle.bz_task.specs.declared.todo.Todo.TheVariants as todo
+use Rattle.bz_world.specs.Acted.{IsStriking}
+use Rattle.bz_world.specs.Kept.{IsKept, IsTabled, AreTaken}
+use Rattle.bz_world.specs.Serving.{IsServing, IsSlot, IsSwapping, stage_in}
+use Rattle.bz_world.specs.declared.parts.Parts.{Parts}
+use Rattle.bz_world.specs.declared.serving.Serving.{Serving}
+use Rattle.bz_world.specs.Laws.{StrikeLaws}
+use Rattle.bz_world.proofs.Striking.{flush-calls, old, kept, w, x, its, owner, before, good, after, living, opened, later, begun, took, others}
+
+module _ (b : StrikeLaws) (p : Parts) (s : ℕ) (h : IsStriking p s) where
+  -- the image before and after it
+  pub image-was : image_after (old b p s h).journal.start (old b p s h).journal.past ≡ ((kept b p s h).story.at (length (old b p s h).journal.past)).image
+  image-was = sym ((kept b p s h).living.images (length (old b p s h).journal.past) (omega arith) ∙ ap (image_after (old b p s h).journal.start) (at_moment-now (old b p s h).journal.past))
+
+  pub image-is : image_after (old b p s h).journal.start (h.mark ∷ (old b p s h).journal.past) ≡ slice_index p.access.durable
+  image-is = ap (λ z. slice_index z.durable) (sym h.marked)
+
+  pub fault-is : image_fault (old b p s h).config (image_after (old b p s h).journal.start (h.mark ∷ (old b p s h).journal.past)) ≡ None
+  fault-is = subst (λ i. image_fault (old b p s h).config i ≡ None) (sym image-is) (good b p s h).good.form
+
+  -- the worker does what it did, and its swap has taken effect
+  pub still-does : doing_of p.access (w b p s h) ≡ Swapping s
+  still-does = h.work.doing (w b p s h) ∙ h.takes.effect.pending
+
+  pub stage-is : stage_in p.access (doing_of p.access (w b p s h)) ≡ Took
+  stage-is = ap (stage_in p.access) still-does ∙ ap (λ z. if z then Took else Waiting) h.takes.effect.done
+
+  pub its-swap : (owners : List ℕ) → owners ≡ (old b p s h).owners.items → IsSwapping p.access owners (w b p s h) (entries_of (old b p s h).access s)
+  its-swap owners e = record {
+    swap = s;
+    doing = still-does;
+    same = ap (λ z. get_or z s []) h.takes.same.begun;
+    owner = subst (λ z. slice_index z s ≡ w b p s h) (sym e) (owner b p s h).owner;
+    begun = omega (arith, h.work.taken, (owner b p s h).begun);
+    list = (owner b p s h).list;
+  }
+
+  pub its-asks : asks_of (x b p s h).task ≡ Some (todo.Swap (entries_of (old b p s h).access s))
+  its-asks = (owner b p s h).asks
+
+  -- where the swap makes no change, the call goes on as it is
+  module _ (silent : publishing_of (x b p s h).task ≡ false) where
+    opened-is : opened b p s h ≡ (its b p s h).opened
+    opened-is = ap (λ z. opened_after z (suc (length (old b p s h).journal.past)) (its b p s h).opened) silent
+
+    same-content : (key : List ℕ) → content_in (old b p s h).config (image_after (old b p s h).journal.start (h.mark ∷ (old b p s h).journal.past)) key ≡ content_in (old b p s h).config (image_after (old b p s h).journal.start (old b p s h).journal.past) key
+    same-content key =
+        let follows : ContentFollows false (change_of (x b p s h).task) (old b p s h).config (here (before b p s h)) (effect_instant (old b p s h).config p.access ((kept b p s h).story.at (length (old b p s h).journal.past))) =
+              subst (λ z. ContentFollows z (change_of (x b p s h).task) (old b p s h).config (here (before b p s h)) (effect_instant (old b p s h).config p.access ((kept b p s h).story.at (length (old b p s h).journal.past)))) silent (good b p s h).content in
+        ap (λ i. content_in (old b p s h).config i key) image-is ∙ (follows key ∙ ap (λ i. content_in (old b p s h).config i key) (sym image-was))
+
+    sound : IsSound (old b p s h).config (with_mark (old b p s h).journal h.mark)
+    sound = b.flushes (old b p s h).config (old b p s h).journal h.mark (kept b p s h).sound h.flush h.follows (b.same (old b p s h).config (old b p s h).journal h.mark (kept b p s h).sound h.flush fault-is same-content)
+
+    serves-on : IsServing (old b p s h).config p.access (with_mark (old b p s h).journal h.mark) (after b p s h) (old b p s h).owners.items (w b p s h) (x b p s h)
+    serves-on = record {
+      opened = (its b p s h).opened;
+      call_open = record {
+        is_open = flush-calls (w b p s h) h.mark (old b p s h).journal.past h.flush ∙ (its b p s h).call_open.is_open;
+        call = (its b p s h).call_open.call;
+        effect = (its b p s h).call_open.effect;
+        begun = omega (arith, (its b p s h).call_open.begun);
+        served = (its b p s h).call_open.served;
+      };
+      tasked = (its b p s h).tasked;
+      asked = todo.Swap (entries_of (old b p s h).access s);
+      asks = its-asks;
+      doing = its-swap (old b p s h).owners.items refl;
+      facts = subst (λ z. facts_of (x b p s h).task z (scene (old b p s h).config (h.mark ∷ (old b p s h).journal.past) (after b p s h) (w b p s h) (its b p s h).opened)) (sym stage-is)
+          (subst (λ o. facts_of (x b p s h).task Took (scene (old b p s h).config (h.mark ∷ (old b p s h).journal.past) (after b p s h) (w b p s h) o)) opened-is (took b p s h));
+    }
+
+    slots : (v : ℕ) → IsSlot (old b p s h).config p.access (with_mark (old b p s h).journal h.mark) (after b p s h) (old b p s h).owners.items v (get_or (old b p s h).workers.items v None)
+    slots v = elim (cases_eq v (w b p s h)) [
+      | inr ne ↦ others b p s h v ne
+      | inl e ↦ subst (λ u. IsSlot (old b p s h).config p.access (with_mark (old b p s h).journal h.mark) (after b p s h) (old b p s h).owners.items u (get_or (old b p s h).workers.items u None)) (sym e)
+          (subst (IsSlot (old b p s h).config p.access (with_mark (old b p s h).journal h.mark) (after b p s h) (old b p s h).owners.items (w b p s h)) (sym (owner b p s h).is) serves-on)
+    ]
+
+    pub struck-quietly : IsKept p
+    struck-quietly = subst IsKept (sym h.rest) (record {
+      story = after b p s h;
+      tabled = subst IsTabled h.rest h.tabled;
+      taken = subst AreTaken h.rest h.taken;
+      living = living b p s h;
+      sound = sound;
+      workers = slots;
+    })

@@ -1,0 +1,202 @@
+-- A worker starts a swap that its task asks for.
+use Rattle.std.proofs.Common.{◌≡◌, ◌≢◌, ◌⊎◌, ℕ, zero, suc, ◌+◌, ◌*◌, ◌<◌, ◌≤◌, if◌then◌else◌, Bool, true, false, List, [], ◌∷◌, ◌++◌, length, slice_index, slice_set, arith, refl, sym, ap, subst, ◌∙◌, inl, inr, Option, Some, None}
+use Rattle.std.specs.Prelude.{get_or, All}
+use Rattle.std.specs.Global.{Vec}
+use Rattle.std.proofs.lemmas.Bool.{cases_eq}
+use Rattle.std.proofs.lemmas.List.{get_or-set_same, get_or-set_other, length-set, length-append}
+use Rattle.std.proofs.Math.ListN.{get_or-append}
+use Rattle.std.proofs.Math.Seq.{get_or-append_seam}
+use Rattle.bz_running.specs.Duties.{asks_of, facts_of}
+use Rattle.bz_sight.specs.Sight.{IsSeen, IsHidden}
+use Rattle.bz_sight.specs.Starts.{StartsAreSeen, Sees, StoresAreHidden, TasksMayStart, OwnWordsAreHidden}
+use Rattle.bz_story.specs.Laws.{ScenesAreSeen}
+use Rattle.bz_story.specs.Living.{IsLiving}
+use Rattle.bz_story.specs.Story.{scene}
+use Rattle.bz_swap.specs.EntryLists.{IsEntryList}
+use Rattle.bz_swap.specs.Held.{Holds}
+use Rattle.bz_swap.specs.Starts.{MayWork, MaySwap, swapping, started, begins_by_flush}
+use Rattle.bz_swap.specs.SwapMemory.{SwapMemory, Doing, Working, Idle, idle, Reading, Swapping, Loading, Storing, Flushing, doing_of, worker_of, entries_of, has_effect}
+use Rattle.bz_swap.specs.TakenStatuses.{BegunStayTaken}
+use Rattle.bz_task.specs.Requests.{IsEntryToAsk, IsAskable, IsOwnStore}
+use Rattle.bz_task.specs.Scene.{Scene, Waiting, Took}
+use Rattle.bz_task.specs.declared.todo.Todo.{Todo}
+use Rattle.bz_task.specs.declared.todo.Todo.TheVariants as todo
+use Rattle.bz_word.specs.declared.entry.Entry.{Entry}
+use Rattle.bz_world.specs.Acted.{IsBetween, IsAsking}
+use Rattle.bz_world.specs.Kept.{IsTabled, AreTaken, IsKept}
+use Rattle.bz_world.specs.Serving.{IsServing, IsDoing, IsSlot, IsSwapping, stage_in}
+use Rattle.bz_world.specs.Telling.{MustStart}
+use Rattle.bz_world.specs.declared.parts.Parts.{Parts}
+use Rattle.bz_world.specs.declared.serving.Serving.{Serving}
+use Rattle.bz_world.proofs.Staying.{SameFor, slot-same}
+use Rattle.bz_world.proofs.Starting.{starts-it, starts-others, may-work}
+
+module _ (scenes : ScenesAreSeen) (hidden : OwnWordsAreHidden) (p : Parts) (w : ℕ) (asked : Todo) (m : MustStart p w asked) where
+  abbrev pub between : IsBetween p w m.serving
+  between = m.asking.between
+
+  -- the stores that others do are hidden
+  store-by : (v a u : ℕ) (x : Serving) (h : IsServing p.config p.access p.journal between.story p.owners.items v x) (t : Todo) → h.asked ≡ t → IsDoing p.access p.owners.items v t → doing_of p.access v ≡ Storing a u → IsHidden p.config (between.story.at (length p.journal.past)) a
+  store-by v a u x h (todo.Read c) e d storing = absurd (cc (d, storing))
+  store-by v a u x h (todo.Load c) e d storing = absurd d
+  store-by v a u x h (todo.Flush line) e d storing = absurd (cc (d.0, storing))
+  store-by v a u x h (todo.Swap entries) e d storing = absurd (cc (d.doing, storing))
+  store-by v a u x h (todo.Finish o) e d storing = absurd d
+  store-by v a u x h (todo.Store c q) e d storing =
+      let s : Scene = scene p.config p.journal.past between.story v h.opened in
+      let sees : Sees p.config (between.story.at (length p.journal.past)) (scene p.config p.journal.past between.story v h.opened) = scenes p.config p.access p.journal between.story v h.opened between.living h.call_open.begun in
+      let same : todo.Store c q ≡ todo.Store a u = cc (d.0, storing) in
+      let own : IsOwnStore (scene p.config p.journal.past between.story v h.opened) a u =
+            h.tasked.laws.askable (scene p.config p.journal.past between.story v h.opened) (todo.Store a u) (sym h.tasked.config)
+              (subst (λ z. facts_of x.task z (scene p.config p.journal.past between.story v h.opened)) (ap (stage_in p.access) storing) h.facts) sees.scene (h.asks ∙ ap Some (e ∙ same)) in
+      hidden p.config (between.story.at (length p.journal.past)) (scene p.config p.journal.past between.story v h.opened) a sees own.mine
+
+  slot-store : (v a u : ℕ) (slot : Option Serving) → IsSlot p.config p.access p.journal between.story p.owners.items v slot → doing_of p.access v ≡ Storing a u → IsHidden p.config (between.story.at (length p.journal.past)) a
+  slot-store v a u None h storing = absurd (cc (h.idle, storing))
+  slot-store v a u (Some x) h storing = store-by v a u x h h.asked refl h.doing storing
+
+  pub stores-hidden : StoresAreHidden p.config (between.story.at (length p.journal.past)) p.access
+  stores-hidden v a u storing = elim (cases_eq v w) [
+    | inl e ↦ absurd (cc (storing, ap (doing_of p.access) e, between.idle))
+    | inr ne ↦ slot-store v a u (get_or p.workers.items v None) (between.others v ne) storing
+  ]
+
+-- the swap has the number of the next descriptor, and the table names its worker
+module _ (starts : StartsAreSeen) (scenes : ScenesAreSeen) (begun : BegunStayTaken) (p : Parts) (w : ℕ) (entries : List Entry) (m : MustStart p w (todo.Swap entries)) (may : MaySwap p.access w entries) (ask : All (IsEntryToAsk (scene p.config p.journal.past m.asking.between.story w m.asking.between.opened)) entries)
+    (holds : Holds (swapping p.access w entries)) (list : IsEntryList entries) (room : p.access.taken < p.config.swaps) (owners : Vec ℕ) (size : length owners.items ≡ p.config.swaps) (mine : slice_index owners.items p.access.taken ≡ w)
+    (rest : (s : ℕ) → s ≢ p.access.taken → slice_index owners.items s ≡ slice_index p.owners.items s) where
+  abbrev was : IsBetween p w m.serving
+  was = m.asking.between
+
+  abbrev new : SwapMemory
+  new = swapping p.access w entries
+
+  number : length p.access.begun ≡ p.access.taken
+  number = was.taken.counted
+
+  -- its entries stand at its number, and those of the others where they stood
+  own-entries : entries_of new p.access.taken ≡ entries
+  own-entries = subst (λ k. get_or (p.access.begun ++ entries ∷ []) k [] ≡ entries) number (get_or-append_seam p.access.begun entries [] [])
+
+  other-entries : (s : ℕ) → s < p.access.taken → entries_of new s ≡ entries_of p.access s
+  other-entries s l = get_or-append p.access.begun (entries ∷ []) [] s (omega (arith, l, number))
+
+  work : MayWork p.access w
+  work = may.work
+
+  living : IsLiving p.config new p.journal was.story
+  living = let l = was.living in record {
+    seen = starts.swap p.config (was.story.at (length p.journal.past)) p.access w entries (scene p.config p.journal.past was.story w was.opened) l.seen (scenes p.config p.access p.journal was.story w was.opened l was.call_open.begun) may ask holds;
+    history = l.history;
+    words = l.words;
+    images = l.images;
+    effects = l.effects;
+    owned = l.owned;
+    apart = l.apart;
+  }
+
+  does : doing_of new w ≡ Swapping p.access.taken
+  does = starts-it p.access w (Swapping p.access.taken) work.within
+
+  waits : stage_in new (doing_of new w) ≡ Waiting
+  waits = ap (stage_in new) does ∙ ap (λ z. if z then Took else Waiting) (was.taken.unused p.access.taken (omega arith))
+
+  serves-on : IsServing p.config new p.journal was.story owners.items w m.serving
+  serves-on = record {
+    opened = was.opened;
+    call_open = was.call_open;
+    tasked = m.asking.tasked;
+    asked = todo.Swap entries;
+    asks = m.asking.asks;
+    doing = record { swap = p.access.taken; doing = does; same = own-entries; owner = mine; begun = omega arith; list = list };
+    facts = subst (λ z. facts_of m.serving.task z (scene p.config p.journal.past was.story w was.opened)) (sym waits) m.asking.facts;
+  }
+
+  -- the others do what they did
+  other-begun : (v : ℕ) (slot : Option Serving) → IsSlot p.config p.access p.journal was.story p.owners.items v slot → (s : ℕ) → doing_of p.access v ≡ Swapping s → s < p.access.taken
+  other-begun v None h s e = absurd (cc (h.idle, e))
+  other-begun v (Some x) h s e = by-doing h.asked h.doing
+    where
+      by-doing : (t : Todo) → IsDoing p.access p.owners.items v t → s < p.access.taken
+      by-doing (todo.Read c) d = absurd (cc (d, e))
+      by-doing (todo.Load c) d = absurd d
+      by-doing (todo.Store c u) d = absurd (cc (d.0, e))
+      by-doing (todo.Flush line) d = absurd (cc (d.0, e))
+      by-doing (todo.Finish o) d = absurd d
+      by-doing (todo.Swap others) d = let same : d.swap ≡ s = cc (d.doing, e) in subst (λ t. t < p.access.taken) same d.begun
+
+  other-slot : (v : ℕ) → v ≢ w → IsSlot p.config new p.journal was.story owners.items v (get_or p.workers.items v None)
+  other-slot v ne = slot-of (get_or p.workers.items v None) (was.others v ne)
+    where
+      slot-of : (slot : Option Serving) → IsSlot p.config p.access p.journal was.story p.owners.items v slot → IsSlot p.config new p.journal was.story owners.items v slot
+      slot-of None h = record { none_open = h.none_open; idle = starts-others p.access w v (Swapping p.access.taken) ne ∙ h.idle }
+      slot-of (Some x) h = record {
+        opened = h.opened;
+        call_open = let o = h.call_open in record { is_open = o.is_open; call = o.call; effect = o.effect; begun = o.begun; served = o.served };
+        tasked = h.tasked;
+        asked = h.asked;
+        asks = h.asks;
+        doing = doing-of h.asked h.doing;
+        facts = subst (λ z. facts_of x.task z (scene p.config p.journal.past was.story v h.opened)) (sym (ap (stage_in new) (starts-others p.access w v (Swapping p.access.taken) ne) ∙ same-stage (doing_of p.access v))) h.facts;
+      }
+        where
+          same-stage : (d : Doing) → stage_in new d ≡ stage_in p.access d
+          same-stage Idle = refl
+          same-stage (Reading c) = refl
+          same-stage (Swapping s) = refl
+          same-stage (Loading c) = refl
+          same-stage (Storing c u) = refl
+          same-stage (Flushing line) = refl
+
+          doing-of : (t : Todo) → IsDoing p.access p.owners.items v t → IsDoing new owners.items v t
+          doing-of (todo.Read c) d = starts-others p.access w v (Swapping p.access.taken) ne ∙ d
+          doing-of (todo.Load c) d = absurd d
+          doing-of (todo.Store c u) d = (starts-others p.access w v (Swapping p.access.taken) ne ∙ d.0, d.1)
+          doing-of (todo.Flush line) d = (starts-others p.access w v (Swapping p.access.taken) ne ∙ d.0, d.1)
+          doing-of (todo.Finish o) d = absurd d
+          doing-of (todo.Swap others) d = record {
+            swap = d.swap;
+            doing = starts-others p.access w v (Swapping p.access.taken) ne ∙ d.doing;
+            same = other-entries d.swap d.begun ∙ d.same;
+            owner = rest d.swap (λ e. absurd (omega (arith, e, d.begun))) ∙ d.owner;
+            begun = omega (arith, d.begun);
+            list = d.list;
+          }
+
+  slots : (v : ℕ) → IsSlot p.config new p.journal was.story owners.items v (get_or p.workers.items v None)
+  slots v = elim (cases_eq v w) [
+    | inr ne ↦ other-slot v ne
+    | inl e ↦ subst (λ u. IsSlot p.config new p.journal was.story owners.items u (get_or p.workers.items u None)) (sym e)
+        (subst (IsSlot p.config new p.journal was.story owners.items w) (sym m.is) serves-on)
+  ]
+
+  pub swapping-kept : IsKept (record p { access = new; owners = owners })
+  swapping-kept = record {
+    story = was.story;
+    tabled = let t = was.tabled in record {
+      config = t.config;
+      limits = t.limits;
+      marks = t.marks;
+      places = t.places;
+      number_places = t.number_places;
+      owner_places = size;
+      crew = length-set p.access.workers w (record { doing = Swapping p.access.taken; flush_next = begins_by_flush (Swapping p.access.taken) }) ∙ t.crew;
+      counted = t.counted;
+      strangers = t.strangers;
+      begins = t.begins;
+      few_begins = t.few_begins;
+      page_calls = t.page_calls;
+      few_page_calls = t.few_page_calls;
+      steps = t.steps;
+    };
+    taken = let t = was.taken in record {
+      shown = t.shown;
+      held = begun.swap p.access w entries work.within was.idle t.held;
+      few = omega (arith, room);
+      counted = omega (arith, length-append p.access.begun (entries ∷ []), number);
+      unused = λ s l. t.unused s (omega (arith, l));
+    };
+    living = living;
+    sound = was.sound;
+    workers = slots;
+  }

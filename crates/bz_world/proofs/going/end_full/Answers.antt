@@ -1,0 +1,16 @@
+use Rattle.std.proofs.Common.{◌≡◌, refl, sym, ap, subst, ◌∙◌, Some, None, length}
+use Rattle.bz_call.specs.declared.replies.Reply.TheVariants.{Full}
+use Rattle.bz_sound.specs.Memory.Replies.{IsWrite}
+use Rattle.bz_world.specs.Going.{MustEnd}
+use Rattle.bz_world.proofs.TakingOn.{call-is}
+use Rattle.bz_world.proofs.going.end_full.Goals as goal
+
+pub end-requires-clause-right : goal.end-requires-clause-right
+end-requires-clause-right c = subst (MustEnd c.args.parts.now c.args.w (Full c.args.spent)) (sym c.length-now.ensures) (record {
+  on = c.requires.short.on;
+  right = c.spent_answers_full.ensures c.args.parts.now.config c.args.parts.now.journal c.args.w c.requires.short.on.between.opened c.args.spent c.requires.short.on.between.call_open.is_open
+      (c.requires.short.on.between.call_open.effect ∙ c.requires.short.quiet) writes c.requires.short.cause;
+})
+  where
+    writes : IsWrite c.requires.short.on.between.opened.call
+    writes = subst IsWrite (sym (c.requires.short.on.between.call_open.call ∙ call-is c.args.parts.now c.args.w c.requires.short.on c.index.result.now c.called-call.result c.index.ensures c.called-call.ensures)) (c.if-is_write.ensures.0 refl)

@@ -1,0 +1,7 @@
+use Rattle.bz_world.proofs.settle.settle_quiet.Goals as goal
+
+pub read_leaf-requires-clause-path : goal.read_leaf-requires-clause-path
+read_leaf-requires-clause-path c = record { on = c.requires.ends.on; leads = c.requires.ends.path c.in-Path.path c.in-Path.is }
+
+pub answer-requires-clause-view : goal.answer-requires-clause-view
+answer-requires-clause-view c = record { on = c.requires.ends.on; viewed = c.requires.ends.view c.in-View.view c.in-View.is; quiet = c.requires.ends.quiet }

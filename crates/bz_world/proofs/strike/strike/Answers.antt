@@ -1,0 +1,111 @@
+use Rattle.std.proofs.Common.{◌≡◌, ◌<◌, length, ℕ, refl, sym, ap, subst, ◌∙◌, arith, slice_index, true, false, Option, Some, None}
+use Rattle.std.specs.Vec.{with_item, vec_len}
+use Rattle.std.proofs.lemmas.List.{get_or_read_under}
+use Rattle.bz_mark.specs.Log.{Log}
+use Rattle.bz_world.specs.Acted.{IsStriking}
+use Rattle.bz_world.specs.Kept.{IsKept}
+use Rattle.bz_world.specs.declared.parts.Parts.{Parts}
+use Rattle.bz_world.specs.Serving.{noted, is_publishing}
+use Rattle.bz_world.specs.declared.serving.Serving.{Serving}
+use Rattle.bz_world.specs.Laws.{StrikeLaws}
+use Rattle.bz_world.proofs.Striking.{x}
+use Rattle.bz_world.proofs.Struck.{in-owners, in-table, slot-was, struck-silent, struck-aloud}
+use Rattle.bz_world.proofs.strike.strike.Goals as goal
+
+pub index_mut-requires : goal.index_mut-requires
+index_mut-requires c = omega (arith, in-table b p c.args.swap h v named, h.tabled.places, vec-is)
+  where
+    b : StrikeLaws
+    b = c.strike_laws.ensures
+
+    p : Parts
+    p = c.args.parts.now
+
+    h : IsStriking p c.args.swap
+    h = c.requires.striking
+
+    v : ℕ
+    v = c.index-w.result.now
+
+    named : v ≡ slice_index p.owners.items c.args.swap
+    named = get_or_read_under p.owners.items c.args.swap (length p.owners.items) v 0 c.index-w.ensures (in-owners b p c.args.swap h) refl
+
+    vec-is : vec_len p.workers ≡ length p.workers.items
+    vec-is = p.workers.ok.0
+
+pub index-n-requires : goal.index-n-requires
+index-n-requires c = omega (arith, in-table b p c.args.swap h v named, h.tabled.number_places, vec-is)
+  where
+    b : StrikeLaws
+    b = c.strike_laws.ensures
+
+    p : Parts
+    p = c.args.parts.now
+
+    h : IsStriking p c.args.swap
+    h = c.requires.striking
+
+    v : ℕ
+    v = c.index-w.result.now
+
+    named : v ≡ slice_index p.owners.items c.args.swap
+    named = get_or_read_under p.owners.items c.args.swap (length p.owners.items) v 0 c.index-w.ensures (in-owners b p c.args.swap h) refl
+
+    vec-is : vec_len p.numbers ≡ length p.numbers.items
+    vec-is = p.numbers.ok.0
+
+pub returns-then-note_effect-clause-kept : goal.returns-then-note_effect-clause-kept
+returns-then-note_effect-clause-kept c = subst (λ (j : Log). IsKept (record p { journal = j; workers = with_item p.workers v c.note_effect.new.slot })) (sym c.push.ensures)
+    (struck-aloud b p c.args.swap h v named c.note_effect.new.slot c.index-n.result.now slot-is (sym publishes ∙ c.if-note_effect.true)
+      (get_or_read_under p.numbers.items v (length p.numbers.items) c.index-n.result.now 0 c.index-n.ensures (omega (arith, in-table b p c.args.swap h v named, h.tabled.number_places)) refl) c.requires.room)
+  where
+    b : StrikeLaws
+    b = c.strike_laws.ensures
+
+    p : Parts
+    p = c.args.parts.now
+
+    h : IsStriking p c.args.swap
+    h = c.requires.striking
+
+    v : ℕ
+    v = c.index-w.result.now
+
+    named : v ≡ slice_index p.owners.items c.args.swap
+    named = get_or_read_under p.owners.items c.args.swap (length p.owners.items) v 0 c.index-w.ensures (in-owners b p c.args.swap h) refl
+
+    was : c.index_mut.result.now ≡ Some (x b p c.args.swap h)
+    was = get_or_read_under p.workers.items v (length p.workers.items) c.index_mut.result.now None c.index_mut.ensures.value (omega (arith, in-table b p c.args.swap h v named, h.tabled.places)) refl ∙ slot-was b p c.args.swap h v named
+
+    slot-is : c.note_effect.new.slot ≡ noted (Some (x b p c.args.swap h)) (length p.journal.past)
+    slot-is = c.note_effect.ensures.noted ∙ (ap (λ z. noted z c.length-moment.result) was ∙ ap (noted (Some (x b p c.args.swap h))) c.length-moment.ensures)
+
+    publishes : c.note_effect.result ≡ is_publishing (Some (x b p c.args.swap h))
+    publishes = c.note_effect.ensures.publishes ∙ ap is_publishing was
+
+pub returns-else-note_effect-clause-kept : goal.returns-else-note_effect-clause-kept
+returns-else-note_effect-clause-kept c = struck-silent b p c.args.swap h v named c.note_effect.new.slot slot-is (sym publishes ∙ c.if-note_effect.false)
+  where
+    b : StrikeLaws
+    b = c.strike_laws.ensures
+
+    p : Parts
+    p = c.args.parts.now
+
+    h : IsStriking p c.args.swap
+    h = c.requires.striking
+
+    v : ℕ
+    v = c.index-w.result.now
+
+    named : v ≡ slice_index p.owners.items c.args.swap
+    named = get_or_read_under p.owners.items c.args.swap (length p.owners.items) v 0 c.index-w.ensures (in-owners b p c.args.swap h) refl
+
+    was : c.index_mut.result.now ≡ Some (x b p c.args.swap h)
+    was = get_or_read_under p.workers.items v (length p.workers.items) c.index_mut.result.now None c.index_mut.ensures.value (omega (arith, in-table b p c.args.swap h v named, h.tabled.places)) refl ∙ slot-was b p c.args.swap h v named
+
+    slot-is : c.note_effect.new.slot ≡ noted (Some (x b p c.args.swap h)) (length p.journal.past)
+    slot-is = c.note_effect.ensures.noted ∙ (ap (λ z. noted z c.length-moment.result) was ∙ ap (noted (Some (x b p c.args.swap h))) c.length-moment.ensures)
+
+    publishes : c.note_effect.result ≡ is_publishing (Some (x b p c.args.swap h))
+    publishes = c.note_effect.ensures.publishes ∙ ap is_publishing was

@@ -1,0 +1,33 @@
+use Rattle.std.proofs.Common.{◌≡◌, ◌<◌, ℕ, length, refl, sym, ap, subst, ◌∙◌, arith, Option, Some, None, get_or, slice_set}
+use Rattle.std.proofs.lemmas.List.{get_or_read_under, get_or-set_same}
+use Rattle.bz_world.specs.Telling.{CanHear, HasToldIn, MustStart}
+use Rattle.bz_world.specs.declared.serving.Serving.{Serving}
+use Rattle.bz_world.proofs.Telling.{can-hear, must-start}
+use Rattle.bz_world.proofs.tell.tell.Goals as goal
+
+pub hear_task-requires : goal.hear_task-requires
+hear_task-requires c = subst (CanHear c.index_mut.result.now c.args.seen) (sym c.length-moment.ensures) (can-hear c.scenes_are_seen.ensures c.args.parts.now c.args.w c.args.seen c.requires c.index_mut.result.now was)
+  where
+    was : c.index_mut.result.now ≡ Some c.requires.serving
+    was = get_or_read_under c.args.parts.now.workers.items c.args.w (length c.args.parts.now.workers.items) c.index_mut.result.now None c.index_mut.ensures.value
+        (omega (arith, c.requires.told.between.within, c.requires.told.between.tabled.places, c.requires.told.between.tabled.config.workers_in_range.at_most)) refl ∙ c.requires.is
+
+pub returns-clause-asks : goal.returns-clause-asks
+returns-clause-asks c = must-start c.scenes_are_seen.ensures c.args.parts.now c.args.w c.args.seen c.requires c.hear_task.result c.hear_task.new.slots c.index_mut.result.now c.hear_task.new.slot was
+    (subst (λ m. HasToldIn c.index_mut.result.now c.args.seen m c.args.parts.now.slots c.hear_task.result c.hear_task.new.slot c.hear_task.new.slots) c.length-moment.ensures c.hear_task.ensures)
+  where
+    was : c.index_mut.result.now ≡ Some c.requires.serving
+    was = get_or_read_under c.args.parts.now.workers.items c.args.w (length c.args.parts.now.workers.items) c.index_mut.result.now None c.index_mut.ensures.value
+        (omega (arith, c.requires.told.between.within, c.requires.told.between.tabled.places, c.requires.told.between.tabled.config.workers_in_range.at_most)) refl ∙ c.requires.is
+
+pub returns-clause-told : goal.returns-clause-told
+returns-clause-told c =
+    subst (λ z. HasToldIn z c.args.seen (length c.args.parts.now.journal.past) c.args.parts.now.slots c.hear_task.result (get_or (slice_set c.args.parts.now.workers.items c.args.w c.hear_task.new.slot) c.args.w None) c.hear_task.new.slots) was
+    (subst (λ z. HasToldIn c.index_mut.result.now c.args.seen (length c.args.parts.now.journal.past) c.args.parts.now.slots c.hear_task.result z c.hear_task.new.slots) (sym (get_or-set_same c.args.parts.now.workers.items c.args.w c.hear_task.new.slot None in-table))
+    (subst (λ m. HasToldIn c.index_mut.result.now c.args.seen m c.args.parts.now.slots c.hear_task.result c.hear_task.new.slot c.hear_task.new.slots) c.length-moment.ensures c.hear_task.ensures))
+  where
+    in-table : c.args.w < length c.args.parts.now.workers.items
+    in-table = omega (arith, c.requires.told.between.within, c.requires.told.between.tabled.places, c.requires.told.between.tabled.config.workers_in_range.at_most)
+
+    was : c.index_mut.result.now ≡ get_or c.args.parts.now.workers.items c.args.w None
+    was = get_or_read_under c.args.parts.now.workers.items c.args.w (length c.args.parts.now.workers.items) c.index_mut.result.now None c.index_mut.ensures.value in-table refl

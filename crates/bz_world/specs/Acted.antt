@@ -1,0 +1,109 @@
+-- What stands between an act and the next: an act that was made, an effect that is not told, an answer that is not told, and a
+-- call whose task is to go on.
+use Rattle.std.specs.Prelude.{◌≡◌, ◌≢◌, ◌⊎◌, ℕ, ◌*◌, ◌<◌, ◌≤◌, List, ◌∷◌, length, get_or, slice_index, Option, Some, None}
+use Rattle.bz_acts.specs.Rule.{is_flush_act}
+use Rattle.bz_acts.specs.declared.acted.Act.{Act}
+use Rattle.bz_layout.specs.declared.config.Config.{Config}
+use Rattle.bz_machine.specs.declared.done.Done.{Done}
+use Rattle.bz_mark.specs.Log.{with_mark}
+use Rattle.bz_mark.specs.declared.marks.Mark.{Mark}
+use Rattle.bz_mark.specs.declared.marks.Mark.TheVariants.{Evict}
+use Rattle.bz_running.specs.Duties.{asks_of, facts_of}
+use Rattle.bz_sight.specs.Effects.{TakesPlace}
+use Rattle.bz_sound.specs.Calls.{Open}
+use Rattle.bz_sound.specs.Memory.Calls.{MayFollow}
+use Rattle.bz_sound.specs.Memory.Moments.{IsAfterFlush, map_at_start}
+use Rattle.bz_sound.specs.Memory.Sound.{IsSound}
+use Rattle.bz_story.specs.Laws.{IsMarked}
+use Rattle.bz_story.specs.Living.{IsLiving}
+use Rattle.bz_story.specs.Story.{Story, scene}
+use Rattle.bz_swap.specs.Evictions.{IsEviction}
+use Rattle.bz_swap.specs.Held.{Holds}
+use Rattle.bz_swap.specs.Steps.{IsStep}
+use Rattle.bz_swap.specs.SwapMemory.{SwapMemory, Idle, doing_of, worker_of}
+use Rattle.bz_task.specs.Requests.{Hears, Tells}
+use Rattle.bz_task.specs.Scene.{Stage, Waiting}
+use Rattle.bz_task.specs.declared.todo.Seen.{Seen}
+use Rattle.bz_task.specs.declared.todo.Todo.{Todo}
+use Rattle.bz_world.specs.Kept.{IsTabled, AreTaken, IsKept}
+use Rattle.bz_world.specs.Lab.{mark_of, IsStruck}
+use Rattle.bz_world.specs.Serving.{IsSlot, IsOpened, IsTasked}
+use Rattle.bz_world.specs.declared.parts.Parts.{Parts}
+use Rattle.bz_world.specs.declared.serving.Serving.{Serving}
+
+-- a worker made an act, and its mark was added
+pub record IsActed (old : Parts) (w : ℕ) (made : Act) (done : Done) (told : Option ℕ) (new : Parts) : Type 0 where
+  pub step : IsStep old.access w made done told new.access
+  pub held : Holds new.access
+  pub rest : new ≡ record old { access = new.access; journal = with_mark old.journal (mark_of w made) }
+
+-- a cached word became durable by itself, and its mark was added
+pub record IsEvicted (old : Parts) (a : ℕ) (told : Option ℕ) (new : Parts) : Type 0 where
+  pub eviction : IsEviction old.access a told new.access
+  pub held : Holds new.access
+  pub rest : new ≡ record old { access = new.access; journal = with_mark old.journal (Evict a) }
+
+-- every worker does what it did
+pub record SameWork (old new : SwapMemory) : Type 0 where
+  pub doing : (w : ℕ) → doing_of new w ≡ doing_of old w
+  pub taken : new.taken ≡ old.taken
+  pub size : length new.cached ≡ length old.cached
+
+-- an act or an eviction gave swap s its effect, which is not told yet
+pub record IsStriking (p : Parts) (s : ℕ) : Type 0 where
+  pub before : Parts
+  pub mark : Mark
+  pub kept : IsKept before
+  pub takes : TakesPlace before.access p.access s
+  pub work : SameWork before.access p.access
+  pub tabled : IsTabled p
+  pub taken : AreTaken p
+  pub marked : IsMarked p.access before.journal mark
+  pub flush : IsAfterFlush (mark ∷ before.journal.past)
+  pub follows : MayFollow (map_at_start before.config before.journal.start) before.journal.past mark
+  pub rest : p ≡ record before { access = p.access; journal = with_mark before.journal mark }
+
+-- all is well but for worker w, whose call is open, and which does nothing
+pub record IsBetween (p : Parts) (w : ℕ) (x : Serving) : Type 0 where
+  pub story : Story
+  pub tabled : IsTabled p
+  pub taken : AreTaken p
+  pub living : IsLiving p.config p.access p.journal story
+  pub sound : IsSound p.config p.journal
+  pub others : (v : ℕ) → v ≢ w → IsSlot p.config p.access p.journal story p.owners.items v (get_or p.workers.items v None)
+  pub worker : 0 < w
+  pub within : w ≤ p.config.workers
+  pub opened : Open
+  pub call_open : IsOpened p.journal w opened x
+  pub idle : doing_of p.access w ≡ Idle
+
+-- and its task is to be told this
+pub record IsTold (p : Parts) (w : ℕ) (x : Serving) (seen : Seen) : Type 0 where
+  pub between : IsBetween p w x
+  pub tasked : IsTasked p.config x.call x.task
+  pub stage : Stage
+  pub facts : facts_of x.task stage (scene p.config p.journal.past between.story w between.opened)
+  pub hears : Hears (asks_of x.task) seen
+  pub tells : Tells (asks_of x.task) stage seen (scene p.config p.journal.past between.story w between.opened)
+
+-- and its task asks for this
+pub record IsAsking (p : Parts) (w : ℕ) (x : Serving) (todo : Todo) : Type 0 where
+  pub between : IsBetween p w x
+  pub tasked : IsTasked p.config x.call x.task
+  pub asks : asks_of x.task ≡ Some todo
+  pub facts : facts_of x.task Waiting (scene p.config p.journal.past between.story w between.opened)
+
+-- the worker's call is served, and its task is to be told this
+pub record MustTell (p : Parts) (w : ℕ) (seen : Seen) : Type 0 where
+  pub serving : Serving
+  pub is : get_or p.workers.items w None ≡ Some serving
+  pub told : IsTold p w serving seen
+
+-- worker w made one act, a flush exactly where that was said; its mark was added, and at most an Effect after it
+pub record HasActed (old : Parts) (w : ℕ) (new : Parts) : Type 0 where
+  pub made : Act
+  pub flush : is_flush_act made ≡ (worker_of old.access w).flush_next
+  pub struck : IsStruck (mark_of w made ∷ old.journal.past) new.journal.past
+  pub journal : new.journal ≡ record old.journal { past = new.journal.past }
+  pub others : (v : ℕ) → v ≢ w → worker_of new.access v ≡ worker_of old.access v
+  pub rest : new ≡ record old { access = new.access; journal = new.journal; workers = new.workers }

@@ -1,0 +1,42 @@
+-- The begin of a call.
+use Rattle.std.specs.Prelude.{◌≡◌, ◌≢◌, ◌<◌, ◌≤◌, ◌+◌, ◌-◌, ◌∷◌, ℕ, ◌==◌, if◌then◌else◌, true, false, length, map, get_or, Option, Some, None}
+use Rattle.bz_call.specs.Pages.{is_page}
+use Rattle.bz_call.specs.declared.calls.Call.{Call}
+use Rattle.bz_mark.specs.Log.{with_mark, count_begins, count_page_calls}
+use Rattle.bz_mark.specs.declared.marks.Mark.TheVariants.{Begin}
+use Rattle.bz_sound.specs.Calls.{open_call, begun_calls}
+use Rattle.bz_swap.specs.SwapMemory.{Working}
+use Rattle.bz_world.specs.Kept.{IsKept}
+use Rattle.bz_world.specs.Lab.{Lab, begin_answer, after_begin}
+use Rattle.bz_world.specs.declared.answers.Begun.{Begun}
+use Rattle.bz_world.specs.declared.answers.Begun.TheVariants as begun
+use Rattle.bz_world.specs.declared.parts.Parts.{Parts}
+
+-- what callers see of a world of these parts
+abbrev pub lab_of : Parts → Lab
+lab_of p = record { config = p.config; log = p.journal; flushes = map (λ (v : Working). v.flush_next) p.access.workers }
+
+-- how many pages a call asks for
+abbrev pub pages_asked : Call → ℕ
+pages_asked called = if is_page called then 1 else 0
+
+-- the call may begin: no refusal applies
+pub record MayBegin (p : Parts) (w : ℕ) (called : Call) : Type 0 where
+  pub worker : 0 < w
+  pub within : w ≤ p.config.workers
+  pub room : length p.journal.past + 3 ≤ p.config.marks
+  pub none_open : get_or p.workers.items w None ≡ None
+  pub calls : p.begun < p.config.calls
+  pub pages : p.pages_begun + pages_asked called ≤ p.config.pages
+
+-- the refusal that is answered, if one applies
+pub record IsRefusal (p : Parts) (w : ℕ) (called : Call) (refusal : Option Begun) : Type 0 where
+  pub some : (answer : Begun) → refusal ≡ Some answer → (begin_answer (lab_of p) w called ≡ answer) × (after_begin (lab_of p) w called answer ≡ lab_of p)
+  pub none : refusal ≡ None → MayBegin p w called
+  pub begins : refusal ≡ None → begin_answer (lab_of p) w called ≡ begun.Begun (begun_calls w p.journal.past + 1)
+
+-- the call has begun with this number
+pub record HasBegun (old : Parts) (w : ℕ) (called : Call) (n : ℕ) (new : Parts) : Type 0 where
+  pub kept : IsKept new
+  pub number : n ≡ begun_calls w old.journal.past + 1
+  pub after : lab_of new ≡ after_begin (lab_of old) w called (begun.Begun n)

@@ -1,0 +1,113 @@
+-- A call whose task has ended: nothing goes on for it, until it is answered or gets another task.
+use Rattle.std.specs.Prelude.{◌≡◌, ◌≢◌, ℕ, ◌++◌, ◌∷◌, [], true, List, length, get_or, Option, Some, None, option_map}
+use Rattle.bz_call.specs.Map.{key_of}
+use Rattle.bz_call.specs.Pages.{is_page}
+use Rattle.bz_call.specs.declared.calls.Call.{Call}
+use Rattle.bz_call.specs.declared.replies.Reply.{Reply}
+use Rattle.bz_call.specs.declared.replies.Reply.TheVariants.{Page}
+use Rattle.bz_call.specs.declared.replies.Spent.{Spent}
+use Rattle.bz_running.specs.Duties.{asks_of, facts_of}
+use Rattle.bz_running.specs.declared.running.Running.{Running}
+use Rattle.bz_sound.specs.Memory.Replies.{IsRightReply}
+use Rattle.bz_sound.specs.Memory.Spent.{IsSpent}
+use Rattle.bz_story.specs.Story.{scene}
+use Rattle.bz_swap.specs.SwapMemory.{worker_of}
+use Rattle.bz_task.specs.Outcomes.{IsPath, IsView}
+use Rattle.bz_task.specs.Scene.{Scene, Waiting}
+use Rattle.bz_task.specs.declared.path.Path.{Path}
+use Rattle.bz_task.specs.declared.todo.Outcome.{Outcome}
+use Rattle.bz_task.specs.declared.todo.Outcome.TheVariants as outcomes
+use Rattle.bz_task.specs.declared.todo.Todo.{Todo}
+use Rattle.bz_task.specs.declared.view.LeafView.{LeafView}
+use Rattle.bz_world.specs.Acted.{IsBetween}
+use Rattle.bz_world.specs.Kept.{IsKept}
+use Rattle.bz_world.specs.Lab.{GoesOn}
+use Rattle.bz_world.specs.Serving.{IsTasked}
+use Rattle.bz_world.specs.declared.answers.Applied.{Applied}
+use Rattle.bz_world.specs.declared.parts.Parts.{Parts}
+use Rattle.bz_world.specs.declared.serving.Serving.{Serving}
+
+-- the worker's call is served, and nothing goes on for it
+pub record MustGoOn (p : Parts) (w : ℕ) : Type 0 where
+  pub serving : Serving
+  pub is : get_or p.workers.items w None ≡ Some serving
+  pub between : IsBetween p w serving
+
+-- what is known of the memory since the call began
+abbrev pub known : (p : Parts) (w : ℕ) → MustGoOn p w → Scene
+known p w m = scene p.config p.journal.past m.between.story w m.between.opened
+
+-- the call that is served, the way to its leaf and its effect
+abbrev pub call_in : Option Serving → Option Call
+call_in slot = option_map (λ (x : Serving). x.call) slot
+
+abbrev pub path_in : Option Serving → Option Path
+path_in None = None
+path_in (Some x) = x.path
+
+abbrev pub effect_in : Option Serving → Option ℕ
+effect_in None = None
+effect_in (Some x) = x.effect
+
+-- the call gets another task, and with it a way
+abbrev pub with_task : Option Serving → Running → Option Path → Option Serving
+with_task slot task path = option_map (λ (x : Serving). record x { task = task; path = path }) slot
+
+-- a task that it may get, which asks for this
+pub record MustTakeOn (p : Parts) (w : ℕ) (task : Running) (asked : Option Todo) : Type 0 where
+  pub on : MustGoOn p w
+  pub tasked : IsTasked p.config on.serving.call task
+  pub asks : asks_of task ≡ asked
+  pub facts : facts_of task Waiting (known p w on)
+
+-- the way to its leaf was found
+pub record MustRead (p : Parts) (w : ℕ) (path : Path) : Type 0 where
+  pub on : MustGoOn p w
+  pub leads : IsPath (key_of on.serving.call) path (known p w on).past
+
+-- its task has ended, and it had no effect
+pub record HasEnded (p : Parts) (w : ℕ) (outcome : Outcome) : Type 0 where
+  pub on : MustGoOn p w
+  pub quiet : on.serving.effect ≡ None
+  pub path : (path : Path) → outcome ≡ outcomes.Path path → IsPath (key_of on.serving.call) path (known p w on).past
+  pub view : (view : LeafView) → outcome ≡ outcomes.View view → IsView (key_of on.serving.call) view (known p w on).past
+
+-- its leaf was read, and it had no effect
+pub record MustAnswer (p : Parts) (w : ℕ) (view : LeafView) : Type 0 where
+  pub on : MustGoOn p w
+  pub viewed : IsView (key_of on.serving.call) view (known p w on).past
+  pub quiet : on.serving.effect ≡ None
+
+-- it had its effect at this moment
+pub record HadEffect (p : Parts) (w at : ℕ) : Type 0 where
+  pub on : MustGoOn p w
+  pub effect : on.serving.effect ≡ Some at
+
+-- no descriptor is left
+pub record LacksSwap (p : Parts) (w : ℕ) : Type 0 where
+  pub on : MustGoOn p w
+  pub spent : p.access.taken ≡ p.config.swaps
+
+-- something is spent, and the call had no effect
+pub record IsShort (p : Parts) (w : ℕ) (spent : Spent) : Type 0 where
+  pub on : MustGoOn p w
+  pub quiet : on.serving.effect ≡ None
+  pub cause : IsSpent p.config p.journal.start p.journal.past w on.between.opened spent
+
+-- this is a right reply to it, at this moment
+pub record MustEnd (p : Parts) (w : ℕ) (reply : Reply) (at : ℕ) : Type 0 where
+  pub on : MustGoOn p w
+  pub right : IsRightReply p.config p.journal.start p.journal.pages p.journal.past (record { worker = w; opened = on.between.opened; reply = reply; at = at })
+
+-- the page that was put together is the right one, up to this key
+pub record MustEndPage (p : Parts) (w : ℕ) (next : Option (List ℕ)) (at : ℕ) : Type 0 where
+  pub on : MustGoOn p w
+  pub asks : is_page on.serving.call ≡ true
+  pub right : IsRightReply p.config p.journal.start (p.journal.pages ++ p.page ∷ []) p.journal.past (record { worker = w; opened = on.between.opened; reply = Page (length p.journal.pages) next; at = at })
+
+-- the call went on without an act: at most its End was added, and what the other workers do is the same
+pub record WentOn (old : Parts) (w : ℕ) (answer : Applied) (new : Parts) : Type 0 where
+  pub kept : IsKept new
+  pub ends : GoesOn old.journal w answer new.journal
+  pub config : new.config ≡ old.config
+  pub others : (v : ℕ) → v ≢ w → worker_of new.access v ≡ worker_of old.access v

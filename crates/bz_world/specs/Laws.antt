@@ -1,0 +1,77 @@
+-- The laws of the crates below on which the world's acts stand.
+use Rattle.bz_record.specs.Laws.{ViewsShowLeaves}
+use Rattle.bz_sight.specs.Acts.{FlushingStepsFlush, QuietStepsPass, StepsLeaveCaches, StoringStepsStore}
+use Rattle.bz_sight.specs.Effects.{EffectsTakePlace}
+use Rattle.bz_sight.specs.Passing.{ActsPass}
+use Rattle.bz_sight.specs.Starts.{OwnWordsAreHidden, TasksMayStart, StartsAreSeen}
+use Rattle.bz_sound.specs.Memory.CallLaws.{OpenCallsAreKept, OpenCallsAreLast}
+use Rattle.bz_sound.specs.Memory.ImageLaws.{AnswersComeFromTheImage, ChangesFollow, PagesComeFromTheImage, SameContentDecodes, SpentAnswersFull}
+use Rattle.bz_sound.specs.Memory.Laws.{BeginsFollow, EffectsFollowActs, EndsFollow, FlushesFollow, PageEndsFollow, QuietActsFollow}
+use Rattle.bz_sound.specs.Memory.OpenCallLaws.{OpenCallsLeaveRoom}
+use Rattle.bz_story.specs.Laws.{EffectsAreTold, FlushesAreTold, LivesGoOn, QuietMarksAreLawful, ScenesAreSeen, StoresAreTold}
+use Rattle.bz_swap.specs.TakenStatuses.{BegunStayTaken, TakenStatusesStay}
+
+-- by which the journal stays sound
+pub record JournalLaws : Type 0 where
+  pub quiet : QuietActsFollow
+  pub flush : FlushesFollow
+  pub same : SameContentDecodes
+
+-- by which an act without effect leads on
+pub record StepLaws : Type 0 where
+  pub journal : JournalLaws
+  pub scenes : ScenesAreSeen
+  pub lives : LivesGoOn
+  pub quiet : QuietMarksAreLawful
+  pub stores : StoresAreTold
+  pub flushes : FlushesAreTold
+  pub pass : ActsPass
+  pub steps : QuietStepsPass
+  pub caches : StepsLeaveCaches
+  pub storing : StoringStepsStore
+  pub flushing : FlushingStepsFlush
+  pub hidden : OwnWordsAreHidden
+  pub taken : TakenStatusesStay
+  pub begun : BegunStayTaken
+
+-- and by which the effect of a swap does
+pub record StrikeLaws : Type 0 where
+  pub scenes : ScenesAreSeen
+  pub lives : LivesGoOn
+  pub quiet : QuietMarksAreLawful
+  pub told : EffectsAreTold
+  pub place : EffectsTakePlace
+  pub same : SameContentDecodes
+  pub flushes : FlushesFollow
+  pub changes : ChangesFollow
+  pub effects : EffectsFollowActs
+  pub calls : OpenCallsAreKept
+  pub last : OpenCallsAreLast
+  pub pass : ActsPass
+
+-- and by which a start leaves the world as it should be
+pub record StartLaws : Type 0 where
+  pub scenes : ScenesAreSeen
+  pub hidden : OwnWordsAreHidden
+  pub may : TasksMayStart
+  pub starts : StartsAreSeen
+  pub begun : BegunStayTaken
+
+-- and by which the journal takes the marks of calls
+pub record EndLaws : Type 0 where
+  pub scenes : ScenesAreSeen
+  pub lives : LivesGoOn
+  pub quiet : QuietMarksAreLawful
+  pub calls : OpenCallsAreKept
+  pub last : OpenCallsAreLast
+  pub room : OpenCallsLeaveRoom
+  pub ends : EndsFollow
+  pub pages : PageEndsFollow
+  pub begins : BeginsFollow
+
+-- and by which a view answers a call
+pub record AnswerLaws : Type 0 where
+  pub answers : AnswersComeFromTheImage
+  pub pages : PagesComeFromTheImage
+  pub spent : SpentAnswersFull
+  pub views : ViewsShowLeaves

@@ -1,0 +1,94 @@
+-- What is known of each worker.
+use Rattle.std.specs.Prelude.{◌≡◌, ◌⊎◌, ℕ, ◌*◌, ◌<◌, ◌≤◌, if◌then◌else◌, Bool, true, false, List, length, slice_index, Option, Some, None}
+use Rattle.bz_call.specs.Map.{key_of}
+use Rattle.bz_call.specs.declared.calls.Call.{Call}
+use Rattle.bz_call.specs.declared.calls.Call.TheVariants as call
+use Rattle.bz_layout.specs.declared.config.Config.{Config}
+use Rattle.bz_mark.specs.Log.{Log}
+use Rattle.bz_running.specs.Duties.{config_of, asks_of, needs_of, change_of, publishing_of, facts_of, is_lookup}
+use Rattle.bz_running.specs.Hearing.{IsLookup}
+use Rattle.bz_running.specs.Laws.{AreLaws}
+use Rattle.bz_running.specs.declared.running.Running.{Running}
+use Rattle.bz_sound.specs.Calls.{Open, open_call}
+use Rattle.bz_story.specs.Story.{Story, scene}
+use Rattle.bz_swap.specs.EntryLists.{IsEntryList}
+use Rattle.bz_swap.specs.SwapMemory.{SwapMemory, Doing, Idle, Reading, Swapping, Storing, Flushing, doing_of, entries_of, has_effect}
+use Rattle.bz_task.specs.Scene.{Stage, Waiting, Took}
+use Rattle.bz_task.specs.Swaps.{Change}
+use Rattle.bz_task.specs.declared.todo.Todo.{Todo}
+use Rattle.bz_task.specs.declared.todo.Todo.TheVariants as todo
+use Rattle.bz_word.specs.declared.entry.Entry.{Entry}
+use Rattle.bz_world.specs.Lab.{IsServed}
+use Rattle.bz_world.specs.declared.serving.Serving.{Serving}
+
+-- the change that a call makes
+abbrev pub IsChangeFor : Call → Change → Type 0
+IsChangeFor (call.Insert key payload) change = change ≡ record { key = key; old = None; new = Some payload }
+IsChangeFor other change = ⊥
+
+-- worker w does a swap of these entries
+pub record IsSwapping (m : SwapMemory) (owners : List ℕ) (w : ℕ) (entries : List Entry) : Type 0 where
+  pub swap : ℕ
+  pub doing : doing_of m w ≡ Swapping swap
+  pub same : entries_of m swap ≡ entries
+  pub owner : slice_index owners swap ≡ w
+  pub begun : swap < m.taken
+  pub list : IsEntryList entries
+
+-- it does what its task asked for
+abbrev pub IsDoing : SwapMemory → List ℕ → ℕ → Todo → Type 0
+IsDoing m owners w (todo.Read a) = doing_of m w ≡ Reading a
+IsDoing m owners w (todo.Store a v) = (doing_of m w ≡ Storing a v) × (a < length m.cached)
+IsDoing m owners w (todo.Flush line) = (doing_of m w ≡ Flushing line) × (line * 8 < length m.cached)
+IsDoing m owners w (todo.Swap entries) = IsSwapping m owners w entries
+IsDoing m owners w other = ⊥
+
+-- what has become of that: a swap may have taken effect
+abbrev pub stage_in : SwapMemory → Doing → Stage
+stage_in m (Swapping s) = if has_effect m s then Took else Waiting
+stage_in m doing = Waiting
+
+-- a call that is open, as it is served
+pub record IsOpened (log : Log) (w : ℕ) (opened : Open) (x : Serving) : Type 0 where
+  pub is_open : open_call w log.past ≡ Some opened
+  pub call : opened.call ≡ x.call
+  pub effect : opened.effect ≡ x.effect
+  pub begun : opened.begun < length log.past
+  pub served : IsServed x.call
+
+-- a task that serves it
+pub record IsTasked (c : Config) (call : Call) (task : Running) : Type 0 where
+  pub config : config_of task ≡ c
+  pub laws : AreLaws task
+  pub needs : needs_of task ≡ 0
+  pub lookup : IsLookup (key_of call) task
+  pub change : (is_lookup task ≡ true) ⊎ IsChangeFor call (change_of task)
+
+-- the task goes on: the worker does what it asked for, and it knows what it should
+pub record IsServing (c : Config) (m : SwapMemory) (log : Log) (story : Story) (owners : List ℕ) (w : ℕ) (x : Serving) : Type 0 where
+  pub opened : Open
+  pub call_open : IsOpened log w opened x
+  pub tasked : IsTasked c x.call x.task
+  pub asked : Todo
+  pub asks : asks_of x.task ≡ Some asked
+  pub doing : IsDoing m owners w asked
+  pub facts : facts_of x.task (stage_in m (doing_of m w)) (scene c log.past story w opened)
+
+-- no call of the worker is open, and it does nothing
+pub record IsAtRest (m : SwapMemory) (log : Log) (w : ℕ) : Type 0 where
+  pub none_open : open_call w log.past ≡ None
+  pub idle : doing_of m w ≡ Idle
+
+abbrev pub IsSlot : Config → SwapMemory → Log → Story → List ℕ → ℕ → Option Serving → Type 0
+IsSlot c m log story owners w None = IsAtRest m log w
+IsSlot c m log story owners w (Some x) = IsServing c m log story owners w x
+
+-- its task's swap makes the change of the call
+abbrev pub is_publishing : Option Serving → Bool
+is_publishing None = false
+is_publishing (Some x) = publishing_of x.task
+
+-- then the call has had its effect at this moment
+abbrev pub noted : Option Serving → ℕ → Option Serving
+noted None moment = None
+noted (Some x) moment = Some (if publishing_of x.task then record x { effect = Some moment } else x)

@@ -1,0 +1,41 @@
+-- A task that is told what came of what it asked for.
+use Rattle.std.specs.Prelude.{◌≡◌, ℕ, List, Option, Some, None, get_or}
+use Rattle.bz_layout.specs.Slots.{FreeSlots}
+use Rattle.bz_running.specs.Duties.{config_of, asks_of, facts_of}
+use Rattle.bz_running.specs.Hearing.{HasHeard}
+use Rattle.bz_running.specs.Laws.{AreLaws}
+use Rattle.bz_task.specs.Requests.{Hears, IsKnown}
+use Rattle.bz_task.specs.declared.todo.Seen.{Seen}
+use Rattle.bz_task.specs.declared.todo.Todo.{Todo}
+use Rattle.bz_task.specs.declared.todo.Todo.TheVariants.{Swap}
+use Rattle.bz_word.specs.declared.entry.Entry.{Entry}
+use Rattle.bz_world.specs.Acted.{IsAsking}
+use Rattle.bz_world.specs.declared.parts.Parts.{Parts}
+use Rattle.bz_world.specs.declared.serving.Serving.{Serving}
+
+-- the task of the call that is served may be told this
+abbrev pub CanHear : Option Serving → Seen → ℕ → Type 0
+CanHear None seen moment = ⊥
+CanHear (Some x) seen moment = Hears (asks_of x.task) seen × IsKnown (config_of x.task) (facts_of x.task) (asks_of x.task) seen moment
+
+-- it was told, and asks for something else
+pub record HasTold (x : Serving) (seen : Seen) (moment : ℕ) (free : FreeSlots) (todo : Todo) (y : Serving) (left : FreeSlots) : Type 0 where
+  pub rest : y ≡ record x { task = y.task }
+  pub heard : HasHeard x.task seen moment free todo y.task left
+  pub laws : AreLaws y.task
+
+abbrev pub HasToldIn : Option Serving → Seen → ℕ → FreeSlots → Todo → Option Serving → FreeSlots → Type 0
+HasToldIn (Some x) seen moment free todo (Some y) left = HasTold x seen moment free todo y left
+HasToldIn old seen moment free todo new left = ⊥
+
+-- the worker's call is served, and its task asks for this
+pub record MustStart (p : Parts) (w : ℕ) (todo : Todo) : Type 0 where
+  pub serving : Serving
+  pub is : get_or p.workers.items w None ≡ Some serving
+  pub asking : IsAsking p w serving todo
+
+-- it asks for a swap, and every descriptor was taken
+pub record LacksDescriptor (p : Parts) (todo : Todo) : Type 0 where
+  pub entries : List Entry
+  pub is : todo ≡ Swap entries
+  pub spent : p.access.taken ≡ p.config.swaps

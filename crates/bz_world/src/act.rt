@@ -1,0 +1,78 @@
+//! One memory act of a worker, its mark, and its effect.
+ghost use Rattle.std.specs.Prelude.{◌≡◌, ◌≢◌, ◌<◌, ◌+◌, ◌^◌, length, None, Some};
+ghost use Rattle.bz_task.specs.declared.todo.Seen.{Seen};
+ghost use Rattle.bz_swap.specs.Held.{Holds};
+ghost use Rattle.bz_swap.specs.SwapMemory.{Idle, doing_of};
+ghost use Rattle.bz_swap.specs.declared.phase.Phase.TheVariants.{Recovering};
+ghost use Rattle.bz_sound.specs.Calls.{open_call};
+ghost use Rattle.bz_world.specs.Acted.{IsActed, MustTell, HasActed};
+ghost use Rattle.bz_world.specs.Kept.{IsKept};
+ghost use Rattle.bz_world.specs.Lab.{mark_of as mark_in};
+
+use crate::laws::step_laws;
+use crate::parts::Parts;
+use crate::strike::strike;
+use bz_mark::Mark;
+use bz_swap::laws as swap;
+use bz_swap::{Act, Done, Progress};
+use bz_sight::laws as sight;
+use bz_task::Seen;
+
+// The mark of an act.
+fn mark_of(w: u8, act: Act) -> Mark
+    ensures { result ≡ mark_in w act }
+{
+    match act {
+        Act::Load { a, v } => Mark::Load { w, a, v },
+        Act::Store { a, v } => Mark::Store { w, a, v },
+        Act::Cas { a, old, new, found } => Mark::Cas {
+            w,
+            a,
+            old,
+            new,
+            found,
+        },
+        Act::Flush { line } => Mark::Flush { w, line },
+    }
+}
+
+// Makes the next act of a worker.
+fn make_act(parts: &mut Parts, w: u8) -> Progress
+    requires worker { w < length parts.old.access.workers }
+    requires busy { doing_of parts.old.access w ≢ Idle }
+    requires phase { parts.old.access.phase ≢ Recovering }
+    requires steps { parts.old.access.steps < 2 ^ 36 }
+    requires room { length parts.old.journal.past < parts.old.journal.limits.marks }
+    ensures { IsActed parts.old w result.act result.done result.effect parts.new }
+{
+    let progress = parts.access.step(w);
+    parts.journal.push(mark_of(w, progress.act));
+    progress
+}
+
+/// Makes the next act of a worker's open call, and notes its effect. Answers what the call's task is to be told, if the act ended what
+/// it asked for.
+pub(crate) fn act(parts: &mut Parts, w: u8) -> Option<Seen>
+    requires kept { IsKept parts.old }
+    requires open { open_call w parts.old.journal.past ≢ None }
+    requires room { length parts.old.journal.past + 1 < parts.old.config.marks }
+    ensures on { result ≡ None → IsKept parts.new }
+    ensures told { (seen : Seen) → result ≡ Some seen → MustTell parts.new w seen }
+    ensures made { HasActed parts.old w parts.new }
+{
+    step_laws();
+    sight::effect_steps_take_place();
+    swap::effects_stay_inside();
+    let progress = make_act(parts, w);
+    if let Some(swap) = progress.effect {
+        strike(parts, swap);
+        return None;
+    }
+    match progress.done {
+        Done::Busy => None,
+        Done::Read(value) => Some(Seen::Read(value)),
+        Done::Swapped(won) => Some(Seen::Swapped(won)),
+        Done::Stored => Some(Seen::Stored),
+        Done::Flushed => Some(Seen::Flushed),
+    }
+}

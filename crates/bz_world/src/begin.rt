@@ -1,0 +1,88 @@
+//! Begins of calls.
+ghost use Rattle.std.specs.Prelude.{◌≡◌};
+ghost use Rattle.bz_world.specs.Beginning.{pages_asked as pages_of_call, lab_of, MayBegin, IsRefusal, HasBegun};
+ghost use Rattle.bz_world.specs.Kept.{IsKept};
+ghost use Rattle.bz_world.specs.Lab.{IsServed, begin_answer, after_begin};
+
+use crate::answers::{Begun, Which};
+use crate::calls::key_of;
+use crate::laws::{end_laws, start_laws};
+use crate::parts::Parts;
+use crate::serving::Serving;
+use bz_call::Call;
+use bz_layout::ROOT_STATUS_AT;
+use bz_mark::Mark;
+use bz_running::Running;
+
+// How many pages a call asks for.
+fn pages_asked(call: &Call) -> u32
+    ensures { result ≡ pages_of_call call.now }
+{
+    match call {
+        Call::Page(_) => 1,
+        _ => 0,
+    }
+}
+
+// The refusal of a begin, if one applies.
+fn refusal(parts: &Parts, w: u8, call: &Call) -> Option<Begun>
+    requires { IsKept parts.now }
+    ensures { IsRefusal parts.now w call.now result }
+{
+    if w == 0 || u32::from(w) > parts.config.workers {
+        return Some(Begun::NoWorker);
+    }
+    if parts.journal.room() < 3 {
+        return Some(Begun::Limit(Which::Marks));
+    }
+    if parts.workers[w as usize].is_some() {
+        return Some(Begun::Busy);
+    }
+    if parts.begun >= parts.config.calls {
+        return Some(Begun::Limit(Which::Calls));
+    }
+    if pages_asked(call) > 0 && parts.pages_begun >= parts.config.pages {
+        return Some(Begun::Limit(Which::Pages));
+    }
+    None
+}
+
+// Begins a call that is not refused, with the lookup of its key.
+fn open_call(parts: &mut Parts, w: u8, call: Call) -> u32
+    requires kept { IsKept parts.old }
+    requires served { IsServed call }
+    requires may { MayBegin parts.old w call }
+    ensures { HasBegun parts.old w call result parts.new }
+{
+    end_laws();
+    start_laws();
+    let n = parts.numbers[w as usize] + 1;
+    let task = Running::descend(&parts.config, key_of(&call));
+    task.laws();
+    parts.numbers[w as usize] = n;
+    parts.begun += 1;
+    parts.pages_begun += pages_asked(&call);
+    parts.workers[w as usize] = Some(Serving {
+        call,
+        task,
+        path: None,
+        effect: None,
+    });
+    parts.journal.push(Mark::Begin { w, n, call });
+    parts.access.start_read(w, ROOT_STATUS_AT);
+    n
+}
+
+/// Begins a call of a worker.
+pub(crate) fn begin(parts: &mut Parts, w: u8, call: Call) -> Begun
+    requires kept { IsKept parts.old }
+    requires served { IsServed call }
+    ensures kept { IsKept parts.new }
+    ensures answer { result ≡ begin_answer (lab_of parts.old) w call }
+    ensures after { lab_of parts.new ≡ after_begin (lab_of parts.old) w call result }
+{
+    match refusal(parts, w, &call) {
+        Some(refusal) => refusal,
+        None => Begun::Begun(open_call(parts, w, call)),
+    }
+}

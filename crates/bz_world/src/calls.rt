@@ -1,0 +1,76 @@
+//! What a served call asks for, and how far it has come.
+ghost use Rattle.std.specs.Prelude.{◌≡◌, ◌↔◌, IsTrue, IsSome, Some};
+ghost use Rattle.bz_call.specs.Map.{key_of as key_in};
+ghost use Rattle.bz_sound.specs.Memory.Replies.{IsWrite};
+ghost use Rattle.bz_world.specs.Going.{call_in, path_in as way_in, effect_in as moment_in, with_task};
+
+use crate::serving::Serving;
+use bz_call::Call;
+use bz_key::Key;
+use bz_running::Running;
+use bz_task::Path;
+
+/// The key of a call.
+pub(crate) fn key_of(call: &Call) -> Key
+    ensures { result ≡ key_in call.now }
+{
+    match call {
+        Call::Insert(key, _)
+        | Call::Delete(key)
+        | Call::Update(key, _)
+        | Call::Upsert(key, _)
+        | Call::Get(key)
+        | Call::Page(key) => *key,
+    }
+}
+
+/// Whether a call may change the map.
+pub(crate) fn is_write(call: &Call) -> bool
+    ensures { IsTrue result ↔ IsWrite call.now }
+{
+    match call {
+        Call::Insert(_, _) | Call::Delete(_) | Call::Update(_, _) | Call::Upsert(_, _) => true,
+        Call::Get(_) | Call::Page(_) => false,
+    }
+}
+
+/// The call that is served.
+pub(crate) fn called(slot: &Option<Serving>) -> Call
+    requires { IsSome slot.now }
+    ensures { call_in slot.now ≡ Some result }
+{
+    match slot {
+        Some(serving) => serving.call,
+        None => unreachable!(),
+    }
+}
+
+/// The way to its leaf, if it was found.
+pub(crate) fn path_in(slot: &Option<Serving>) -> Option<Path>
+    ensures { result ≡ way_in slot.now }
+{
+    match slot {
+        Some(serving) => serving.path,
+        None => None,
+    }
+}
+
+/// The moment before its effect, if it has had one.
+pub(crate) fn effect_in(slot: &Option<Serving>) -> Option<u32>
+    ensures { result ≡ moment_in slot.now }
+{
+    match slot {
+        Some(serving) => serving.effect,
+        None => None,
+    }
+}
+
+/// Gives it another task.
+pub(crate) fn set_task(slot: &mut Option<Serving>, task: Running, path: Option<Path>)
+    ensures { slot.new ≡ with_task slot.old task path }
+{
+    if let Some(serving) = slot {
+        serving.task = task;
+        serving.path = path;
+    }
+}

@@ -1,0 +1,88 @@
+//! How a call goes on when its task has ended, or asks for something.
+ghost use Rattle.std.specs.Prelude.{◌≡◌, ◌≢◌, ◌<◌, length};
+ghost use Rattle.bz_world.specs.Going.{MustGoOn, HadEffect, LacksSwap, IsShort, WentOn};
+ghost use Rattle.bz_world.specs.Telling.{MustStart};
+
+use crate::answers::Applied;
+use crate::calls::{called, effect_in, is_write, key_of, set_task};
+use crate::end::end;
+use crate::laws::start_laws;
+use crate::parts::Parts;
+use crate::start::start;
+use bz_call::{Call, Reply, Spent};
+use bz_layout::ROOT_STATUS_AT;
+use bz_running::Running;
+use bz_task::Todo;
+
+/// Begins the lookup of the call's key, again.
+pub(crate) fn look_up(parts: &mut Parts, w: u8) -> Applied
+    requires { MustGoOn parts.old w }
+    ensures { WentOn parts.old w result parts.new }
+{
+    start_laws();
+    let call = called(&parts.workers[w as usize]);
+    let task = Running::descend(&parts.config, key_of(&call));
+    task.laws();
+    set_task(&mut parts.workers[w as usize], task, None);
+    start(parts, w, Todo::Read(ROOT_STATUS_AT));
+    Applied::Stepped
+}
+
+/// Ends a call that had its effect, by the reply that tells it.
+pub(crate) fn end_effective(parts: &mut Parts, w: u8, at: u32) -> Applied
+    requires had { HadEffect parts.old w at }
+    requires room { length parts.old.journal.past < parts.old.config.marks }
+    ensures { WentOn parts.old w result parts.new }
+{
+    bz_sound::memory_laws::insert_effects_insert();
+    bz_sound::memory_laws::effects_answer();
+    match called(&parts.workers[w as usize]) {
+        Call::Insert(_, _) => end(parts, w, Reply::Inserted, at),
+        _ => look_up(parts, w),
+    }
+}
+
+/// Ends a call without effect for want of what was spent.
+pub(crate) fn end_full(parts: &mut Parts, w: u8, spent: Spent) -> Applied
+    requires short { IsShort parts.old w spent }
+    requires room { length parts.old.journal.past < parts.old.config.marks }
+    ensures { WentOn parts.old w result parts.new }
+{
+    bz_sound::memory_laws::spent_answers_full();
+    let call = called(&parts.workers[w as usize]);
+    if is_write(&call) {
+        let now = parts.journal.length();
+        end(parts, w, Reply::Full(spent), now)
+    } else {
+        look_up(parts, w)
+    }
+}
+
+// Ends a call for want of a descriptor.
+fn end_swapless(parts: &mut Parts, w: u8) -> Applied
+    requires lacks { LacksSwap parts.old w }
+    requires room { length parts.old.journal.past < parts.old.config.marks }
+    ensures { WentOn parts.old w result parts.new }
+{
+    bz_sound::memory_laws::held_swaps_are_spent();
+    match effect_in(&parts.workers[w as usize]) {
+        Some(at) => end_effective(parts, w, at),
+        None => end_full(parts, w, Spent::Swaps),
+    }
+}
+
+/// Starts what a task asks for; where it has ended at once, its call is looked up again.
+pub(crate) fn go_on(parts: &mut Parts, w: u8, todo: Todo) -> Applied
+    requires asks { MustStart parts.old w todo }
+    requires room { length parts.old.journal.past < parts.old.config.marks }
+    ensures { WentOn parts.old w result parts.new }
+{
+    if matches!(todo, Todo::Finish(_)) {
+        return look_up(parts, w);
+    }
+    if start(parts, w, todo) {
+        Applied::Stepped
+    } else {
+        end_swapless(parts, w)
+    }
+}

@@ -1,0 +1,83 @@
+//! The laws on which the world's acts stand, from the crates below. Each function does nothing.
+ghost use Rattle.bz_world.specs.Laws.{StepLaws, StrikeLaws, StartLaws, EndLaws, AnswerLaws};
+
+use bz_sight::laws as sight;
+use bz_sound::memory_laws as sound;
+use bz_story::laws as story;
+use bz_swap::laws as swap;
+
+/// Those of an act without effect.
+pub(crate) fn step_laws()
+    ensures { StepLaws }
+{
+    sight::acts_pass();
+    sight::quiet_steps_pass();
+    sight::steps_leave_caches();
+    sight::storing_steps_store();
+    sight::flushing_steps_flush();
+    sight::own_words_are_hidden();
+    story::scenes_are_seen();
+    story::lives_go_on();
+    story::quiet_marks_are_lawful();
+    story::stores_are_told();
+    story::flushes_are_told();
+    sound::quiet_acts_follow();
+    sound::flushes_follow();
+    sound::same_content_decodes();
+    swap::taken_statuses_stay();
+    swap::begun_stay_taken();
+}
+
+/// And those of an effect.
+pub(crate) fn strike_laws()
+    ensures { StrikeLaws }
+{
+    sight::effects_take_place();
+    sight::acts_pass();
+    story::scenes_are_seen();
+    story::lives_go_on();
+    story::quiet_marks_are_lawful();
+    story::effects_are_told();
+    sound::same_content_decodes();
+    sound::flushes_follow();
+    sound::changes_follow();
+    sound::effects_follow_acts();
+    sound::open_calls_are_kept();
+    sound::open_calls_are_last();
+}
+
+/// And those of a start.
+pub(crate) fn start_laws()
+    ensures { StartLaws }
+{
+    sight::own_words_are_hidden();
+    sight::tasks_may_start();
+    sight::starts_are_seen();
+    story::scenes_are_seen();
+    swap::begun_stay_taken();
+}
+
+/// And those of the Begin and the End of a call.
+pub(crate) fn end_laws()
+    ensures { EndLaws }
+{
+    story::scenes_are_seen();
+    story::lives_go_on();
+    story::quiet_marks_are_lawful();
+    sound::open_calls_are_kept();
+    sound::open_calls_are_last();
+    sound::open_calls_leave_room();
+    sound::ends_follow();
+    sound::page_ends_follow();
+    sound::begins_follow();
+}
+
+/// And those of an answer.
+pub(crate) fn answer_laws()
+    ensures { AnswerLaws }
+{
+    sound::answers_come_from_the_image();
+    sound::pages_come_from_the_image();
+    sound::spent_answers_full();
+    bz_record::laws::views_show_leaves();
+}

@@ -1,0 +1,85 @@
+//! Openings: a world over fresh memory.
+ghost use Rattle.std.specs.Prelude.{◌≡◌, IfOk, IfErr, replicate, None};
+ghost use Rattle.bz_layout.specs.Config.{IsConfig};
+ghost use Rattle.bz_world.specs.Beginning.{lab_of};
+ghost use Rattle.bz_world.specs.Kept.{IsKept};
+ghost use Rattle.bz_world.specs.Lab.{IsOpenFault, new_lab};
+ghost use Rattle.bz_world.specs.Opening.{fresh_slots};
+
+use crate::answers::OpenError;
+use crate::parts::Parts;
+use crate::serving::Serving;
+use bz_key::PageBuf;
+use bz_layout::{Config, Slots};
+use bz_mark::Journal;
+use bz_memory::Memory;
+use bz_swap::Access;
+use std::alloc::Global;
+
+// A place for each worker, from worker 0 on, of which there are at most 64 beside it.
+const PLACES: usize = 65;
+
+// The slot of fresh memory's root.
+const ROOT_SLOT: u16 = 0;
+
+// A table with nothing in its places.
+fn none_table<T: Drop>(alloc: Global, places: usize) -> Result<Vec<Option<T>>, Memory>
+    ensures { IfOk result (λ table. table.items ≡ replicate places None) }
+{
+    let mut table: Vec<Option<T>> = Vec::with_capacity(alloc, places)?;
+    for _ in 0..places {
+        table.push(None)?;
+    }
+    Ok(table)
+}
+
+// The parts of a world over fresh memory.
+fn fresh_parts(alloc: Global, config: &Config) -> Result<Parts, Memory>
+    requires { IsConfig config.now }
+    ensures config { IfOk result (λ parts. parts.config ≡ config.now) }
+    ensures journal { IfOk result (λ parts. parts.journal ≡ (new_lab config.now).log) }
+    ensures slots { IfOk result (λ parts. parts.slots ≡ fresh_slots config.now) }
+    ensures flushes { IfOk result (λ parts. (lab_of parts).flushes ≡ (new_lab config.now).flushes) }
+    ensures kept { IfOk result IsKept }
+{
+    bz_layout::addresses_fit();
+    bz_layout::fresh_words_say();
+    bz_content::laws::fresh_memory_is_empty();
+    bz_swap::laws::begun_stay_taken();
+    bz_sound::memory_laws::fresh_journals_are_sound();
+    bz_story::laws::fresh_stories_live();
+    let start = bz_layout::fresh(alloc, config)?;
+    let access = Access::open(alloc, &start, config.swaps, config.workers)?;
+    let journal = Journal::open(alloc, &start, config.marks, config.calls, config.pages)?;
+    let mut slots = Slots::open(alloc, config.nodes)?;
+    slots.hold(ROOT_SLOT);
+    Ok(Parts {
+        config: *config,
+        access,
+        slots,
+        journal,
+        workers: none_table(alloc, PLACES)?,
+        owners: vec![in alloc; 0u8; config.swaps as usize]?,
+        numbers: vec![in alloc; 0u32; PLACES]?,
+        page: PageBuf::open(alloc)?,
+        begun: 0,
+        pages_begun: 0,
+    })
+}
+
+/// A world over fresh memory, in which nothing has happened.
+pub(crate) fn open_parts(alloc: Global, config: &Config) -> Result<Parts, OpenError>
+    ensures ok { IfOk result (λ parts. lab_of parts ≡ new_lab config.now) }
+    ensures slots { IfOk result (λ parts. parts.slots ≡ fresh_slots config.now) }
+    ensures kept { IfOk result IsKept }
+    ensures err { IfErr result (IsOpenFault config.now) }
+{
+    match config.check() {
+        Ok(()) => {}
+        Err(error) => return Err(OpenError::Config(error)),
+    }
+    match fresh_parts(alloc, config) {
+        Ok(parts) => Ok(parts),
+        Err(Memory) => Err(OpenError::Memory),
+    }
+}

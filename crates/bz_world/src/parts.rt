@@ -1,0 +1,27 @@
+//! What a world is made of.
+use crate::serving::Serving;
+use bz_key::PageBuf;
+use bz_layout::{Config, Slots};
+use bz_mark::Journal;
+use bz_swap::Access;
+
+/// The memory, the journal of what happened, and what each worker is doing.
+#[derive(Drop)]
+pub(crate) struct Parts {
+    pub config: Config,
+    pub access: Access,
+    pub slots: Slots,
+    pub journal: Journal,
+    /// The open call of each worker, from worker 0 on.
+    pub workers: Vec<Option<Serving>>,
+    /// The worker of each swap, by its number.
+    pub owners: Vec<u8>,
+    /// The number of each worker's last call.
+    pub numbers: Vec<u32>,
+    /// Where the pairs of a page are put together.
+    pub page: PageBuf,
+    /// How many calls have begun.
+    pub begun: u32,
+    /// How many of them ask for a page.
+    pub pages_begun: u32,
+}

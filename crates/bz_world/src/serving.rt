@@ -1,0 +1,16 @@
+//! Open calls.
+use bz_call::Call;
+use bz_running::Running;
+use bz_task::Path;
+
+/// A worker's open call: how far it has come.
+#[derive(Drop)]
+pub(crate) struct Serving {
+    pub call: Call,
+    /// What is going on for it.
+    pub task: Running,
+    /// The way to the leaf of its key, once it was found.
+    pub path: Option<Path>,
+    /// The moment before its effect, if it has had one.
+    pub effect: Option<u32>,
+}

@@ -1,0 +1,113 @@
+//! Steps of workers, and evictions.
+ghost use Rattle.std.specs.Prelude.{◌≡◌, ◌≢◌, ◌<◌, ◌≤◌, ◌+◌, None, length};
+ghost use Rattle.bz_layout.specs.Addresses.{words_of};
+ghost use Rattle.bz_sound.specs.Calls.{open_call};
+ghost use Rattle.bz_world.specs.Acted.{IsEvicted};
+ghost use Rattle.bz_world.specs.Beginning.{lab_of};
+ghost use Rattle.bz_world.specs.Going.{WentOn};
+ghost use Rattle.bz_world.specs.Kept.{IsKept};
+ghost use Rattle.bz_world.specs.Lab.{Steps, Evicts, IsApplied};
+ghost use Rattle.bz_world.specs.Telling.{MustStart};
+ghost use Rattle.bz_world.specs.declared.answers.Event.TheVariants as event;
+ghost use Rattle.bz_swap.specs.declared.phase.Phase.TheVariants.{Recovering};
+
+use crate::act::act;
+use crate::answers::Applied;
+use crate::going::go_on;
+use crate::laws::step_laws;
+use crate::parts::Parts;
+use crate::settle::settle;
+use crate::strike::strike;
+use crate::tell::tell;
+use bz_mark::Mark;
+use bz_sight::laws as sight;
+use bz_task::Todo;
+
+// A task asks for something, or has ended.
+fn follow(parts: &mut Parts, w: u8, todo: Todo) -> Applied
+    requires asks { MustStart parts.old w todo }
+    requires room { length parts.old.journal.past < parts.old.config.marks }
+    ensures { WentOn parts.old w result parts.new }
+{
+    match todo {
+        Todo::Finish(outcome) => settle(parts, w, outcome),
+        todo => go_on(parts, w, todo),
+    }
+}
+
+// Makes the next act of a worker's open call, and goes on with it.
+fn step_open(parts: &mut Parts, w: u8) -> Applied
+    requires kept { IsKept parts.old }
+    requires open { open_call w parts.old.journal.past ≢ None }
+    requires room { length parts.old.journal.past + 3 ≤ parts.old.config.marks }
+    ensures kept { IsKept parts.new }
+    ensures steps { Steps (lab_of parts.old) w result (lab_of parts.new) }
+{
+    match act(parts, w) {
+        Some(seen) => {
+            let todo = tell(parts, w, seen);
+            follow(parts, w, todo)
+        }
+        None => Applied::Stepped,
+    }
+}
+
+/// Goes on with the open call of a worker by one act.
+pub(crate) fn step(parts: &mut Parts, w: u8) -> Applied
+    requires { IsKept parts.old }
+    ensures kept { IsKept parts.new }
+    ensures applied { IsApplied (lab_of parts.old) (event.Step w) result (lab_of parts.new) }
+{
+    if u32::from(w) > parts.config.workers {
+        return Applied::NoWorker;
+    }
+    if parts.journal.room() < 3 {
+        return Applied::Limit;
+    }
+    if parts.workers[w as usize].is_none() {
+        return Applied::Idle;
+    }
+    step_open(parts, w)
+}
+
+// Makes a word durable.
+fn make_eviction(parts: &mut Parts, a: u32) -> Option<u16>
+    requires within { a < length parts.old.access.cached }
+    requires room { length parts.old.journal.past < parts.old.journal.limits.marks }
+    ensures { IsEvicted parts.old a result parts.new }
+{
+    let effect = parts.access.evict(a);
+    parts.journal.push(Mark::Evict { a });
+    effect
+}
+
+// Makes a word durable, and notes the effect that comes of it.
+fn evict_word(parts: &mut Parts, a: u32)
+    requires kept { IsKept parts.old }
+    requires within { a < words_of parts.old.config }
+    requires room { length parts.old.journal.past + 3 ≤ parts.old.config.marks }
+    ensures kept { IsKept parts.new }
+    ensures evicts { Evicts (lab_of parts.old) a Applied.Evicted (lab_of parts.new) }
+{
+    step_laws();
+    sight::evictions_are_seen();
+    if let Some(swap) = make_eviction(parts, a) {
+        strike(parts, swap);
+    }
+}
+
+/// Makes a cached word durable.
+pub(crate) fn evict(parts: &mut Parts, a: u32) -> Applied
+    requires { IsKept parts.old }
+    ensures kept { IsKept parts.new }
+    ensures applied { IsApplied (lab_of parts.old) (event.Evict a) result (lab_of parts.new) }
+{
+    if a >= parts.config.words() {
+        return Applied::NoWord;
+    }
+    if parts.journal.room() < 3 {
+        return Applied::Limit;
+    }
+    evict_word(parts, a);
+    Applied::Evicted
+}

@@ -1,0 +1,46 @@
+//! The effect of a swap.
+ghost use Rattle.std.specs.Prelude.{◌≡◌, ◌<◌, length};
+ghost use Rattle.bz_world.specs.Acted.{IsStriking};
+ghost use Rattle.bz_world.specs.Kept.{IsKept};
+ghost use Rattle.bz_world.specs.Lab.{IsStruck};
+ghost use Rattle.bz_world.specs.Serving.{noted, is_publishing};
+
+use crate::laws::strike_laws;
+use crate::parts::Parts;
+use crate::serving::Serving;
+use bz_mark::Mark;
+use bz_task::Task;
+
+// Notes the moment at the call that is served, if its task's swap makes its change. Answers whether it does.
+fn note_effect(slot: &mut Option<Serving>, moment: u32) -> bool
+    ensures publishes { result ≡ is_publishing slot.old }
+    ensures noted { slot.new ≡ noted slot.old moment }
+{
+    match slot {
+        None => false,
+        Some(serving) => {
+            let publishes = serving.task.publishes();
+            if publishes {
+                serving.effect = Some(moment);
+            }
+            publishes
+        }
+    }
+}
+
+/// A swap has taken effect. Where it makes the change of its call, that is marked.
+pub(crate) fn strike(parts: &mut Parts, swap: u16)
+    requires striking { IsStriking parts.old swap }
+    requires room { length parts.old.journal.past < parts.old.config.marks }
+    ensures kept { IsKept parts.new }
+    ensures struck { IsStruck parts.old.journal.past parts.new.journal.past }
+    ensures rest { parts.new ≡ record parts.old { journal = record parts.old.journal { past = parts.new.journal.past }; workers = parts.new.workers } }
+{
+    strike_laws();
+    let w = parts.owners[swap as usize];
+    let moment = parts.journal.length();
+    if note_effect(&mut parts.workers[w as usize], moment) {
+        let n = parts.numbers[w as usize];
+        parts.journal.push(Mark::Effect { w, n });
+    }
+}

@@ -1,0 +1,37 @@
+//! Telling a worker's task what came of what it asked for.
+ghost use Rattle.std.specs.Prelude.{◌≡◌, ◌<◌, None, get_or, length};
+ghost use Rattle.bz_world.specs.Acted.{MustTell};
+ghost use Rattle.bz_world.specs.Telling.{CanHear, HasToldIn, MustStart};
+
+use crate::parts::Parts;
+use crate::serving::Serving;
+use bz_layout::Slots;
+use bz_story::laws as story;
+use bz_task::{Outcome, Seen, Todo};
+
+// Tells the task of a call, if one is served.
+fn hear_task(slot: &mut Option<Serving>, seen: Seen, slots: &mut Slots, moment: u32) -> Todo
+    requires { CanHear slot.old seen moment }
+    ensures { HasToldIn slot.old seen moment slots.old result slot.new slots.new }
+{
+    match slot {
+        None => Todo::Finish(Outcome::Restart),
+        Some(serving) => {
+            let todo = serving.task.hear(seen, slots, moment);
+            serving.task.laws();
+            todo
+        }
+    }
+}
+
+/// Tells a worker's task what came of what it asked for. Answers what it asks for next.
+pub(crate) fn tell(parts: &mut Parts, w: u8, seen: Seen) -> Todo
+    requires { MustTell parts.old w seen }
+    ensures asks { MustStart parts.new w result }
+    ensures told { HasToldIn (get_or parts.old.workers.items w None) seen (length parts.old.journal.past) parts.old.slots result (get_or parts.new.workers.items w None) parts.new.slots }
+    ensures rest { parts.new ≡ record parts.old { slots = parts.new.slots; workers = parts.new.workers } }
+{
+    story::scenes_are_seen();
+    let moment = parts.journal.length();
+    hear_task(&mut parts.workers[w as usize], seen, &mut parts.slots, moment)
+}
