@@ -1,16 +1,15 @@
 -- An act of a worker by which a swap takes effect.
-use Rattle.std.proofs.Common.{◌≡◌, ◌≢◌, ◌⊎◌, ℕ, suc, ◌+◌, ◌*◌, ◌<◌, ◌≤◌, Bool, true, false, List, ◌∷◌, length, slice_index, arith, refl, sym, ap, subst, ◌∙◌, inl, inr, Option, Some, None}
+use Rattle.std.proofs.Common.{◌≡◌, ◌⊎◌, ℕ, ◌<◌, ◌∷◌, length, sym, ap, subst, ◌∙◌, inl, inr, Some, None}
 use Rattle.std.specs.Prelude.{get_or}
 use Rattle.std.proofs.lemmas.Bool.{cases_eq}
 use Rattle.bz_acts.specs.declared.acted.Act.{Act}
 use Rattle.bz_machine.specs.declared.done.Done.{Done}
 use Rattle.bz_machine.specs.declared.done.Done.TheVariants.{Busy}
-use Rattle.bz_mark.specs.Log.{with_mark}
 use Rattle.bz_sight.specs.Acts.{EffectStepsTakePlace}
 use Rattle.bz_sound.specs.Memory.Moments.{IsAfterFlush, map_at_start}
 use Rattle.bz_swap.specs.EffectPlaces.{EffectsStayInside}
 use Rattle.bz_swap.specs.Steps.{doing_after}
-use Rattle.bz_swap.specs.SwapMemory.{SwapMemory, doing_of}
+use Rattle.bz_swap.specs.SwapMemory.{doing_of}
 use Rattle.bz_swap.specs.TakenStatuses.{TakenStatusesStay, BegunStayTaken}
 use Rattle.bz_world.specs.Acted.{IsActed, IsStriking}
 use Rattle.bz_world.specs.Kept.{IsKept}

@@ -1,9 +1,9 @@
 -- What the act of a worker whose call is open leads to.
-use Rattle.std.proofs.Common.{◌≡◌, ◌≢◌, ◌⊎◌, ℕ, ◌+◌, ◌*◌, ◌<◌, ◌≤◌, true, false, List, ◌∷◌, length, arith, refl, sym, ap, subst, ◌∙◌, inl, inr, Option, Some, None}
+use Rattle.std.proofs.Common.{◌≡◌, ◌≢◌, ℕ, ◌+◌, ◌<◌, List, length, arith, refl, sym, ap, subst, ◌∙◌, Option, Some, None}
 use Rattle.std.specs.Prelude.{get_or}
 use Rattle.bz_acts.specs.declared.acted.Act.{Act}
 use Rattle.bz_machine.specs.declared.done.Done.{Done}
-use Rattle.bz_mark.specs.Log.{Log, with_mark}
+use Rattle.bz_mark.specs.Log.{Log}
 use Rattle.bz_sound.specs.Calls.{open_call}
 use Rattle.bz_swap.specs.SwapMemory.{SwapMemory, Idle, doing_of, worker_of}
 use Rattle.bz_task.specs.declared.todo.Seen.{Seen}
@@ -11,7 +11,7 @@ use Rattle.bz_task.specs.declared.todo.Todo.{Todo}
 use Rattle.bz_task.specs.declared.todo.Todo.TheVariants as todo
 use Rattle.bz_world.specs.Acted.{IsActed, IsTold, MustTell, HasActed}
 use Rattle.bz_world.specs.Kept.{IsKept}
-use Rattle.bz_world.specs.Lab.{mark_of, IsStruck}
+use Rattle.bz_world.specs.Lab.{IsStruck}
 use Rattle.bz_world.specs.Laws.{StepLaws}
 use Rattle.bz_world.specs.Serving.{IsServing, IsDoing, IsSlot}
 use Rattle.bz_world.specs.declared.parts.Parts.{Parts}

@@ -1,5 +1,5 @@
 -- What a worker is told of an act at which no swap took effect: a read, a swap or a flush is answered, or goes on.
-use Rattle.std.proofs.Common.{◌≡◌, ◌≢◌, ◌⊎◌, ℕ, suc, ◌+◌, ◌*◌, ◌<◌, ◌≤◌, ◌==◌, if◌then◌else◌, Bool, true, false, List, ◌∷◌, length, slice_index, arith, refl, sym, ap, subst, ◌∙◌, inl, inr, Option, Some, None}
+use Rattle.std.proofs.Common.{◌≡◌, ◌≢◌, ℕ, suc, ◌*◌, ◌<◌, ◌==◌, if◌then◌else◌, Bool, true, false, List, ◌∷◌, length, slice_index, arith, refl, sym, ap, subst, ◌∙◌, inl, inr, Some, None}
 use Rattle.std.specs.Prelude.{get_or}
 use Rattle.std.proofs.lemmas.Bool.{cases_eq}
 use Rattle.std.proofs.lemmas.Bool.Decides.{nat_tests}
@@ -20,11 +20,11 @@ use Rattle.bz_sound.specs.Calls.{Open}
 use Rattle.bz_story.specs.Laws.{HasBegun, goes_on}
 use Rattle.bz_story.specs.Living.{IsLiving}
 use Rattle.bz_story.specs.Story.{Story, scene, loaded, is_load_of}
-use Rattle.bz_swap.specs.SwapMemory.{SwapMemory, Doing, Idle, Reading, Swapping, Storing, Flushing, doing_of, has_effect, words_of, value_at, is_named}
-use Rattle.bz_swap.specs.Steps.{IsAnswer, AnswersRead}
+use Rattle.bz_swap.specs.SwapMemory.{Reading, Swapping, Storing, Flushing, doing_of, has_effect, words_of, value_at, is_named}
+use Rattle.bz_swap.specs.Steps.{AnswersRead}
 use Rattle.bz_acts.specs.Rule.{IsActOf}
 use Rattle.bz_cells.specs.Store.{is_outside}
-use Rattle.bz_layout.specs.Addresses.{IsOutsideSwaps, node_address, swap_address}
+use Rattle.bz_layout.specs.Addresses.{IsOutsideSwaps}
 use Rattle.bz_layout.specs.declared.config.Config.{Config}
 use Rattle.bz_sight.specs.Sight.{next_instant}
 use Rattle.bz_story.specs.Story.{and_then}
@@ -35,17 +35,16 @@ use Rattle.bz_task.specs.Requests.{Hears, Tells}
 use Rattle.bz_task.specs.Scene.{Scene, Stage, IsLawful, Waiting, Took}
 use Rattle.bz_task.specs.declared.todo.Seen.{Seen}
 use Rattle.bz_task.specs.declared.todo.Seen.TheVariants as seen
-use Rattle.bz_task.specs.declared.todo.Todo.{Todo}
 use Rattle.bz_task.specs.declared.todo.Todo.TheVariants as todo
-use Rattle.bz_world.specs.Acted.{IsActed, IsBetween, IsTold}
+use Rattle.bz_world.specs.Acted.{IsActed, IsTold}
 use Rattle.bz_world.specs.Kept.{IsKept}
 use Rattle.bz_world.specs.Lab.{mark_of}
-use Rattle.bz_world.specs.Serving.{IsServing, IsDoing, IsSlot, stage_in}
+use Rattle.bz_world.specs.Serving.{IsServing, IsSlot, stage_in}
 use Rattle.bz_world.specs.declared.parts.Parts.{Parts}
 use Rattle.bz_world.specs.declared.serving.Serving.{Serving}
 use Rattle.bz_world.specs.Laws.{StepLaws}
 use Rattle.bz_world.proofs.Staying.{SameFor}
-use Rattle.bz_world.proofs.Quiet.{serves, sees, askable, passes, goes, same-other, same-own, stays, goes-on, answered}
+use Rattle.bz_world.proofs.Quiet.{serves, sees, askable, goes, same-other, same-own, stays, goes-on, answered}
 
 -- the world with an act made
 abbrev pub acted : Parts → Parts → ℕ → Act → Parts

@@ -1,6 +1,5 @@
 -- A call whose leaf was read is answered as of the view's moment.
-use Rattle.std.proofs.Common.{◌≡◌, ◌≢◌, ◌⊎◌, ℕ, zero, suc, ◌+◌, ◌<◌, ◌≤◌, ◌==◌, ◌&&◌, if◌then◌else◌, Bool, true, false, List, [], ◌∷◌, ◌++◌, length, arith, refl, sym, ap, subst, ◌∙◌, inl, inr, Option, Some, None}
-use Rattle.std.specs.Prelude.{get_or}
+use Rattle.std.proofs.Common.{◌≡◌, ℕ, zero, suc, ◌<◌, ◌≤◌, ◌&&◌, if◌then◌else◌, true, List, ◌∷◌, length, arith, refl, sym, ap, subst, ◌∙◌, Option, Some, None}
 use Rattle.std.proofs.lemmas.Bool.{true≢false}
 use Rattle.std.proofs.lemmas.Bool.Decides.{nat_tests}
 use Rattle.bz_call.specs.Map.{key_of}
@@ -15,9 +14,7 @@ use Rattle.bz_mark.specs.declared.marks.Mark.{Mark}
 use Rattle.bz_mark.specs.declared.marks.Mark.TheVariants.{Begin, End, Load, Store, Cas, Flush, Evict, Cut, On, Ready, Effect}
 use Rattle.bz_page.specs.Pages.{IsPageOf}
 use Rattle.bz_shape.specs.Order as order
-use Rattle.bz_sound.specs.Calls.{Open}
 use Rattle.bz_sound.specs.Memory.ImageLaws.{ReadsAt, ImageAnswers}
-use Rattle.bz_sound.specs.Memory.ImageLaws as sound
 use Rattle.bz_sound.specs.Memory.Moments.{image_at, IsAfterLoad}
 use Rattle.bz_sound.specs.Memory.Replies.{is_below}
 use Rattle.bz_story.specs.Story.{is_load_of, loaded}
@@ -136,6 +133,12 @@ module _ (b : AnswerLaws) (p : Parts) (w : ℕ) (view : LeafView) (m : MustAnswe
   pub exists-right : (key payload had : List ℕ) (pairs : List (List ℕ × List ℕ)) → called ≡ call.Insert key payload → content_in p.config (past.at view.at).image key ≡ Some had → MustEnd (record p { page = pairs }) w Exists view.at
   exists-right key payload had pairs e has = record { on = on-pages p w pairs m.on; right = answers.exists key payload had (opened-is ∙ e) (ap (λ i. content_in p.config i key) (sym image-is) ∙ has) }
 
+  pub no-delete-right : (key : List ℕ) (pairs : List (List ℕ × List ℕ)) → called ≡ call.Delete key → content_in p.config (past.at view.at).image key ≡ None → MustEnd (record p { page = pairs }) w Missing view.at
+  no-delete-right key pairs e has = record { on = on-pages p w pairs m.on; right = answers.no_delete key (opened-is ∙ e) (ap (λ i. content_in p.config i key) (sym image-is) ∙ has) }
+
+  pub no-update-right : (key payload : List ℕ) (pairs : List (List ℕ × List ℕ)) → called ≡ call.Update key payload → content_in p.config (past.at view.at).image key ≡ None → MustEnd (record p { page = pairs }) w Missing view.at
+  no-update-right key payload pairs e has = record { on = on-pages p w pairs m.on; right = answers.no_update key payload (opened-is ∙ e) (ap (λ i. content_in p.config i key) (sym image-is) ∙ has) }
+
   pub page-right : (from : List ℕ) (next : Option (List ℕ)) (pairs : List (List ℕ × List ℕ)) → called ≡ call.Page from → IsPageOf p.config (past.at view.at).image from pairs next → MustEndPage (record p { page = pairs }) w next view.at
   page-right from next pairs e page = record {
     on = on-pages p w pairs m.on;
@@ -149,5 +152,5 @@ module _ (b : AnswerLaws) (p : Parts) (w : ℕ) (view : LeafView) (m : MustAnswe
   }
 
   -- the view answers after the page was put together as before
-  pub still-answers : (pairs : List (List ℕ × List ℕ)) → MustAnswer (record p { page = pairs }) w view
+  abbrev pub still-answers : (pairs : List (List ℕ × List ℕ)) → MustAnswer (record p { page = pairs }) w view
   still-answers pairs = record { on = on-pages p w pairs m.on; viewed = m.viewed; quiet = m.quiet }

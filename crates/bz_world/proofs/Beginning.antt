@@ -9,35 +9,33 @@ use Rattle.std.proofs.lemmas.List.{get_or_read_under, get_or-set_same, get_or-se
 use Rattle.bz_call.specs.Map.{key_of}
 use Rattle.bz_call.specs.Pages.{is_page}
 use Rattle.bz_call.specs.declared.calls.Call.{Call}
-use Rattle.bz_mark.specs.Log.{Log, with_mark, count_begins, count_page_calls}
+use Rattle.bz_mark.specs.Log.{with_mark, count_begins, count_page_calls}
 use Rattle.bz_mark.specs.declared.marks.Mark.{Mark}
 use Rattle.bz_mark.specs.declared.marks.Mark.TheVariants.{Begin, End, Load, Store, Cas, Flush, Evict, Cut, On, Ready, Effect}
 use Rattle.bz_running.specs.Duties.{config_of, asks_of, needs_of, facts_of, is_lookup}
 use Rattle.bz_running.specs.Hearing.{IsLookup}
 use Rattle.bz_running.specs.Laws.{AreLaws}
 use Rattle.bz_running.specs.declared.running.Running.{Running}
-use Rattle.bz_sound.specs.Calls.{Open, open_call, begun_calls}
+use Rattle.bz_sound.specs.Calls.{Open, begun_calls}
 use Rattle.bz_sound.specs.Memory.Sound.{IsSound}
 use Rattle.bz_story.specs.Laws.{GoesOn, goes_on}
 use Rattle.bz_story.specs.Living.{IsLiving}
 use Rattle.bz_story.specs.Story.{Story, scene}
 use Rattle.bz_swap.specs.Held.{Holds}
-use Rattle.bz_swap.specs.Starts.{MayRead, started}
-use Rattle.bz_swap.specs.SwapMemory.{SwapMemory, Working, Reading, Idle, doing_of}
+use Rattle.bz_swap.specs.Starts.{started}
+use Rattle.bz_swap.specs.SwapMemory.{SwapMemory, Working, Reading}
 use Rattle.bz_task.specs.Scene.{Scene, HasFilled, Waiting}
 use Rattle.bz_task.specs.declared.todo.Todo.TheVariants.{Read}
 use Rattle.bz_world.specs.Acted.{IsBetween}
-use Rattle.bz_world.specs.Beginning.{MayBegin, HasBegun, lab_of, pages_asked}
-use Rattle.bz_world.specs.Kept.{IsTabled, AreTaken, IsKept}
-use Rattle.bz_world.specs.Lab.{IsServed, after_begin}
+use Rattle.bz_world.specs.Beginning.{MayBegin, HasBegun, pages_asked}
+use Rattle.bz_world.specs.Kept.{IsTabled, IsKept}
 use Rattle.bz_world.specs.Laws.{EndLaws, StartLaws}
-use Rattle.bz_world.specs.Serving.{IsOpened, IsSlot, IsAtRest}
+use Rattle.bz_world.specs.Serving.{IsSlot, IsAtRest}
 use Rattle.bz_world.specs.Telling.{MustStart}
-use Rattle.bz_world.specs.declared.answers.Begun.TheVariants as begun
 use Rattle.bz_world.specs.declared.parts.Parts.{Parts}
 use Rattle.bz_world.specs.declared.serving.Serving.{Serving}
 use Rattle.bz_world.proofs.Staying.{slot-stays}
-use Rattle.bz_world.proofs.Started.{may-read, read-kept}
+use Rattle.bz_world.proofs.Started.{read-kept}
 
 -- a worker has begun no more calls than there are
 step-up : (t : Bool) (a b : ℕ) → a ≤ b → (if t then a + 1 else a) ≤ b + 1
@@ -72,13 +70,13 @@ module _ (p : Parts) (k : IsKept p) (w : ℕ) (call : Call) (may : MayBegin p w 
   at-rest : IsAtRest p.access p.journal w
   at-rest = subst (IsSlot p.config p.access p.journal k.story p.owners.items w) may.none_open (k.workers w)
 
-  module _ (b : EndLaws) (s : StartLaws) (served : IsServed call) (n : ℕ) (numbered : n ≡ begun_calls w p.journal.past + 1) (task : Running) (config : config_of task ≡ p.config) (laws : AreLaws task) (needs : needs_of task ≡ 0) (looks : is_lookup task ≡ true)
+  module _ (b : EndLaws) (s : StartLaws) (n : ℕ) (numbered : n ≡ begun_calls w p.journal.past + 1) (task : Running) (config : config_of task ≡ p.config) (laws : AreLaws task) (needs : needs_of task ≡ 0) (looks : is_lookup task ≡ true)
       (lookup : IsLookup (key_of call) task) (asks : asks_of task ≡ Some (Read 2)) (facts : (z : Scene) → HasFilled z → facts_of task Waiting z) where
     abbrev mark : Mark
     mark = Begin w n call
 
     abbrev fresh : Serving
-    fresh = record { call = call; task = task; path = None; effect = None }
+    fresh = record { call = call; task = task; path = None; had = None; effect = None }
 
     abbrev opened : Open
     opened = record { number = n; call = call; begun = length p.journal.past; effect = None }
@@ -111,7 +109,7 @@ module _ (p : Parts) (k : IsKept p) (w : ℕ) (call : Call) (may : MayBegin p w 
 
     slot-of : (v : ℕ) → v ≢ w → IsSlot p.config p.access (with_mark p.journal mark) after p.owners.items v (get_or workers.items v None)
     slot-of v ne = subst (IsSlot p.config p.access (with_mark p.journal mark) after p.owners.items v) (sym (get_or-set_other p.workers.items w v (Some fresh) None ne))
-        (slot-stays b.scenes p.config p.access p.access p.journal mark k.story after p.owners.items v (get_or p.workers.items v None) lives (record {
+        (slot-stays b.scenes b.stay p.config p.access p.access p.journal mark k.story after p.owners.items v (get_or p.workers.items v None) lives (record {
           same = record { doing = refl; begun = refl; taken = refl; size = refl; effects = λ t d. refl };
           calls = (b.calls v p.journal.past).other_begin w n call (λ e. ne (sym e));
           lawful = λ o begins. b.quiet p.config p.access p.access p.journal k.story mark v o no-act (λ a out n. refl) begins;
@@ -173,7 +171,7 @@ module _ (p : Parts) (k : IsKept p) (w : ℕ) (call : Call) (may : MayBegin p w 
       worker = may.worker;
       within = may.within;
       opened = opened;
-      call_open = record { is_open = (b.calls w p.journal.past).own_begin n call; call = refl; effect = refl; begun = omega arith; served = served };
+      call_open = record { is_open = (b.calls w p.journal.past).own_begin n call; call = refl; effect = refl; begun = omega arith; told = λ at e. absurd (cc e) };
       idle = at-rest.idle;
     }
 

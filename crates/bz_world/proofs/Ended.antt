@@ -1,6 +1,6 @@
 -- A call that has ended: the world but for its End is as it was.
-use Rattle.std.proofs.Common.{◌≡◌, ◌≢◌, ◌⊎◌, ℕ, ◌+◌, ◌<◌, ◌≤◌, true, false, List, [], ◌∷◌, ◌++◌, length, slice_index, arith, refl, sym, ap, subst, ◌∙◌, inl, inr, Option, Some, None, append-nil}
-use Rattle.std.specs.Prelude.{get_or, if◌then◌else◌, Bool}
+use Rattle.std.proofs.Common.{◌≡◌, ◌≢◌, ℕ, ◌+◌, ◌<◌, true, false, List, [], ◌∷◌, ◌++◌, length, slice_index, arith, refl, sym, ap, subst, ◌∙◌, inl, inr, Option, Some, None, append-nil}
+use Rattle.std.specs.Prelude.{get_or, if◌then◌else◌}
 use Rattle.std.specs.Vec.{with_item}
 use Rattle.std.proofs.lemmas.Bool.{cases_eq}
 use Rattle.std.proofs.lemmas.List.{get_or_read_under, get_or-set_same, get_or-set_other, length-set}
@@ -11,7 +11,7 @@ use Rattle.bz_layout.specs.declared.config.Config.{Config}
 use Rattle.bz_mark.specs.Log.{Log, HasRoom, with_mark, with_page, count_ends, count_page_ends}
 use Rattle.bz_mark.specs.declared.marks.Mark.{Mark}
 use Rattle.bz_mark.specs.declared.marks.Mark.TheVariants.{End}
-use Rattle.bz_sound.specs.Calls.{open_call, begun_calls}
+use Rattle.bz_sound.specs.Calls.{open_call}
 use Rattle.bz_sound.specs.Replies.{Pages}
 use Rattle.bz_sound.specs.Memory.OpenCallLaws.{LeavesRoom}
 use Rattle.bz_sound.specs.Memory.Sound.{IsSound}
@@ -21,8 +21,7 @@ use Rattle.bz_story.specs.Story.{Story}
 use Rattle.bz_swap.specs.SwapMemory.{SwapMemory}
 use Rattle.bz_world.specs.Acted.{IsBetween}
 use Rattle.bz_world.specs.Going.{MustGoOn, MustEnd, MustEndPage, WentOn}
-use Rattle.bz_world.specs.Kept.{IsTabled, AreTaken, IsKept}
-use Rattle.bz_world.specs.Lab.{IsEnding}
+use Rattle.bz_world.specs.Kept.{IsTabled, IsKept}
 use Rattle.bz_world.specs.Laws.{EndLaws}
 use Rattle.bz_world.specs.Serving.{IsSlot}
 use Rattle.bz_world.specs.declared.answers.Applied.TheVariants as applied
@@ -35,7 +34,7 @@ slot-pages : (c : Config) (m : SwapMemory) (log : Log) (pages : Pages) (story : 
 slot-pages c m log pages story owners v None h = record { none_open = h.none_open; idle = h.idle }
 slot-pages c m log pages story owners v (Some x) h = record {
   opened = h.opened;
-  call_open = let o = h.call_open in record { is_open = o.is_open; call = o.call; effect = o.effect; begun = o.begun; served = o.served };
+  call_open = let o = h.call_open in record { is_open = o.is_open; call = o.call; effect = o.effect; begun = o.begun; told = o.told };
   tasked = h.tasked;
   asked = h.asked;
   asks = h.asks;
@@ -100,7 +99,7 @@ module _ (b : EndLaws) (p : Parts) (w : ℕ) (on : MustGoOn p w) where
     lives = b.lives p.config p.access p.access p.journal was.story mark was.story.filled no-act
 
     slot-of : (v : ℕ) → v ≢ w → IsSlot p.config p.access (with_mark p.journal mark) after p.owners.items v (get_or p.workers.items v None)
-    slot-of v ne = slot-stays b.scenes p.config p.access p.access p.journal mark was.story after p.owners.items v (get_or p.workers.items v None) lives (record {
+    slot-of v ne = slot-stays b.scenes b.stay p.config p.access p.access p.journal mark was.story after p.owners.items v (get_or p.workers.items v None) lives (record {
       same = record { doing = refl; begun = refl; taken = refl; size = refl; effects = λ t d. refl };
       calls = (b.calls v p.journal.past).other_end w n at reply (λ e. ne (sym e));
       lawful = λ o begins. b.quiet p.config p.access p.access p.journal was.story mark v o no-act (λ a out n. refl) begins;

@@ -1,8 +1,8 @@
 -- A word that becomes durable by itself.
-use Rattle.std.proofs.Common.{◌≡◌, ◌≢◌, ◌⊎◌, ℕ, suc, ◌+◌, ◌*◌, ◌<◌, ◌≤◌, Bool, true, false, List, ◌∷◌, length, slice_index, arith, refl, sym, ap, subst, ◌∙◌, inl, inr, Option, Some, None}
+use Rattle.std.proofs.Common.{◌≡◌, ◌≢◌, ℕ, ◌<◌, ◌∷◌, length, slice_index, arith, refl, sym, ap, subst, ◌∙◌, Option, Some, None}
 use Rattle.std.specs.Prelude.{get_or}
 use Rattle.bz_content.specs.Content.{image_fault, content_in}
-use Rattle.bz_mark.specs.Log.{Log, with_mark}
+use Rattle.bz_mark.specs.Log.{with_mark}
 use Rattle.bz_mark.specs.MomentLaws.{at_moment-now}
 use Rattle.bz_mark.specs.WordsAfter.{words_of as words_after_marks}
 use Rattle.bz_mark.specs.declared.marks.Mark.TheVariants.{Evict}
@@ -16,7 +16,7 @@ use Rattle.bz_story.specs.Laws.{GoesOn, goes_on}
 use Rattle.bz_story.specs.Living.{IsLiving}
 use Rattle.bz_story.specs.Story.{Story}
 use Rattle.bz_swap.specs.Effects.{IsQuiet, EffectIs}
-use Rattle.bz_swap.specs.Evictions.{IsEviction, EvictsIn}
+use Rattle.bz_swap.specs.Evictions.{EvictsIn}
 use Rattle.bz_swap.specs.SwapMemory.{SwapMemory, doing_of, words_of}
 use Rattle.bz_swap.specs.TakenStatuses.{BegunStayTaken}
 use Rattle.bz_swap.specs.declared.phase.Phase.{Phase}
@@ -119,7 +119,7 @@ module _ (b : StepLaws) (sees : EvictionsAreSeen) (old new : Parts) (a : ℕ) (k
   }
 
   slots : (v : ℕ) → IsSlot old.config new.access (with_mark old.journal (Evict a)) after old.owners.items v (get_or old.workers.items v None)
-  slots v = slot-stays b.scenes old.config old.access new.access old.journal (Evict a) k.story after old.owners.items v (get_or old.workers.items v None) living (record {
+  slots v = slot-stays b.scenes b.stay old.config old.access new.access old.journal (Evict a) k.story after old.owners.items v (get_or old.workers.items v None) living (record {
     same = same v;
     calls = refl;
     lawful = λ o begins. b.quiet old.config old.access new.access old.journal k.story (Evict a) v o goes (sees.leaves old.access new.access a None e.eviction) begins;

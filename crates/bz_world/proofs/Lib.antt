@@ -21,7 +21,7 @@ mod Ended
 mod TakingOn
 mod Spending
 mod Answering
-mod Inserting
+mod Changing
 mod Beginning
 mod Stepping
 mod Openings

@@ -1,14 +1,14 @@
 -- The mark of an act.
-use Rattle.std.proofs.Common.{◌≡◌, ◌≢◌, ℕ, ◌+◌, ◌*◌, ◌<◌, ◌≤◌, Bool, true, false, List, ◌∷◌, length, slice_index, arith, refl, sym, ap, subst, ◌∙◌, inl, inr, Some, None}
-use Rattle.bz_acts.specs.Rule.{IsActOf, IsWithin, after_act, FoundRightly}
+use Rattle.std.proofs.Common.{◌≡◌, ℕ, List, ◌∷◌, length, refl, sym, ap, subst, ◌∙◌}
+use Rattle.bz_acts.specs.Rule.{IsActOf, IsWithin, after_act}
 use Rattle.bz_acts.specs.declared.acted.Act.{Act}
 use Rattle.bz_acts.specs.declared.acted.Act.TheVariants.{Load, Store, Cas, Flush}
-use Rattle.bz_mark.specs.Log.{Log, count_begins, count_ends, count_page_calls, count_page_ends}
+use Rattle.bz_mark.specs.Log.{Log, count_begins, count_page_calls, count_page_ends}
 use Rattle.bz_mark.specs.WordLaws.{found-read}
 use Rattle.bz_mark.specs.WordsAfter.{words_of as words_after_marks, words_after, Found}
 use Rattle.bz_mark.specs.declared.marks.Mark.{Mark}
 use Rattle.bz_pm.specs.Words.{Words}
-use Rattle.bz_sound.specs.Calls.{Open, open_call, begun_calls}
+use Rattle.bz_sound.specs.Calls.{open_call, begun_calls}
 use Rattle.bz_sound.specs.Memory.Calls.{HasOpenCall, MayFollow}
 use Rattle.bz_call.specs.Map.{Map}
 use Rattle.bz_swap.specs.SwapMemory.{SwapMemory, words_of}

@@ -1,15 +1,13 @@
 -- The worker of a swap that takes effect.
-use Rattle.std.proofs.Common.{◌≡◌, ◌≢◌, ℕ, ◌+◌, ◌<◌, true, false, List, length, slice_index, refl, sym, ap, subst, ◌∙◌, Option, Some, None}
+use Rattle.std.proofs.Common.{◌≡◌, ℕ, ◌<◌, slice_index, refl, sym, ap, subst, ◌∙◌, Option, Some, None}
 use Rattle.std.specs.Prelude.{get_or}
-use Rattle.bz_running.specs.Duties.{asks_of, facts_of}
-use Rattle.bz_story.specs.Story.{scene}
+use Rattle.bz_running.specs.Duties.{asks_of}
 use Rattle.bz_swap.specs.EntryLists.{IsEntryList}
-use Rattle.bz_swap.specs.SwapMemory.{SwapMemory, Doing, Idle, Swapping, doing_of, entries_of, has_effect}
-use Rattle.bz_task.specs.Scene.{Waiting}
+use Rattle.bz_swap.specs.SwapMemory.{Swapping, doing_of, entries_of}
 use Rattle.bz_task.specs.declared.todo.Todo.{Todo}
 use Rattle.bz_task.specs.declared.todo.Todo.TheVariants as todo
 use Rattle.bz_world.specs.Kept.{IsKept}
-use Rattle.bz_world.specs.Serving.{IsServing, IsDoing, IsSlot, IsSwapping, stage_in}
+use Rattle.bz_world.specs.Serving.{IsServing, IsDoing, IsSlot}
 use Rattle.bz_world.specs.declared.parts.Parts.{Parts}
 use Rattle.bz_world.specs.declared.serving.Serving.{Serving}
 

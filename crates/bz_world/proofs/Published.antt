@@ -1,50 +1,56 @@
 -- The effect of a swap that makes the change of its call: the Effect mark follows.
-use Rattle.std.proofs.Common.{◌≡◌, ◌≢◌, ◌⊎◌, ℕ, suc, ◌+◌, ◌*◌, ◌<◌, ◌≤◌, if◌then◌else◌, Bool, true, false, List, [], ◌∷◌, length, slice_index, arith, refl, sym, ap, subst, ◌∙◌, inl, inr, Option, Some, None}
+use Rattle.std.proofs.Common.{◌≡◌, ◌≢◌, ℕ, suc, ◌+◌, ◌<◌, if◌then◌else◌, true, false, List, ◌∷◌, length, arith, refl, sym, ap, subst, ◌∙◌, inl, inr, Option, Some, None}
 use Rattle.std.specs.Prelude.{get_or, is_some, bytes_eq, option_map}
 use Rattle.std.specs.Global.{Vec}
 use Rattle.std.proofs.lemmas.Bool.{cases_eq, true≢false}
-use Rattle.bz_call.specs.Map.{key_of}
+use Rattle.bz_call.specs.Map.{Map, Applied, key_of, apply, apply_at}
 use Rattle.bz_call.specs.declared.calls.Call.{Call}
 use Rattle.bz_call.specs.declared.calls.Call.TheVariants as call
-use Rattle.bz_content.specs.Content.{image_fault, content_in}
+use Rattle.bz_content.specs.Content.{content_in}
 use Rattle.bz_layout.specs.declared.config.Config.{Config}
 use Rattle.bz_mark.specs.Log.{Log, with_mark}
+use Rattle.bz_mark.specs.MomentLaws.{at_moment-before}
 use Rattle.bz_mark.specs.declared.marks.Mark.{Mark}
 use Rattle.bz_mark.specs.declared.marks.Mark.TheVariants.{Effect}
-use Rattle.bz_running.specs.Duties.{asks_of, facts_of, publishing_of, change_of, is_lookup, lookups-publish-nothing}
+use Rattle.bz_running.specs.Duties.{facts_of, publishing_of, change_of, lookups-publish-nothing}
 use Rattle.bz_sight.specs.Effects.{effect_instant}
 use Rattle.bz_sight.specs.Sight.{IsSeen}
 use Rattle.bz_sight.specs.Starts.{Sees}
-use Rattle.bz_sound.specs.Calls.{Open, open_call, with_effect}
+use Rattle.bz_sound.specs.Calls.{Open, open_call, with_effect, map_after, map_at}
 use Rattle.bz_sound.specs.Memory.ImageLaws.{IsChangeOf, ChangesKey, EffectFollows}
-use Rattle.bz_sound.specs.Memory.Moments.{image_after}
+use Rattle.bz_sound.specs.Memory.Moments.{image_after, map_at_start}
 use Rattle.bz_sound.specs.Memory.Sound.{IsSound}
 use Rattle.bz_story.specs.Laws.{HasBegun, GoesOn, goes_on, opened_after}
 use Rattle.bz_story.specs.Living.{IsLiving}
 use Rattle.bz_story.specs.Story.{Story, scene}
-use Rattle.bz_swap.specs.SwapMemory.{SwapMemory, Doing, Swapping, doing_of, entries_of, has_effect}
-use Rattle.bz_task.specs.Instant.{Instant}
-use Rattle.bz_task.specs.Scene.{Scene, Waiting, Took, here}
-use Rattle.bz_task.specs.Swaps.{Change, Changes, ContentFollows}
+use Rattle.bz_swap.specs.SwapMemory.{entries_of}
+use Rattle.bz_task.specs.Scene.{Took, here}
+use Rattle.bz_task.specs.Swaps.{Changes, ContentFollows}
 use Rattle.bz_task.specs.declared.todo.Todo.TheVariants as todo
 use Rattle.bz_world.specs.Acted.{IsStriking}
 use Rattle.bz_world.specs.Kept.{IsKept, IsTabled, AreTaken}
-use Rattle.bz_world.specs.Serving.{IsServing, IsSlot, IsChangeFor, stage_in}
+use Rattle.bz_world.specs.Serving.{IsServing, IsSlot, IsToldBy, effect_reply}
 use Rattle.bz_world.specs.declared.parts.Parts.{Parts}
 use Rattle.bz_world.specs.declared.serving.Serving.{Serving}
 use Rattle.bz_world.proofs.Staying.{slot-stays}
 use Rattle.bz_world.specs.Laws.{StrikeLaws}
-use Rattle.bz_world.proofs.Striking.{flush-calls, old, kept, w, x, its, owner, before, waits, good, after, living, opened, later, begun, took, others}
+use Rattle.bz_world.proofs.Striking.{flush-calls, old, kept, w, x, its, before, waits, good, after, living, opened, took, others}
 use Rattle.bz_world.proofs.StruckQuietly.{image-was, image-is, fault-is, stage-is, its-swap, its-asks}
 
--- the change that a call makes is one of its key
-change-of : (c : Call) (change : Change) → IsChangeFor c change → (change.key ≡ key_of c) × IsChangeOf c change.old change.new
-change-of (call.Insert key payload) change e = subst (λ (z : Change). (z.key ≡ key) × IsChangeOf (call.Insert key payload) z.old z.new) (sym e) (refl, refl)
-change-of (call.Delete key) change e = absurd e
-change-of (call.Update key payload) change e = absurd e
-change-of (call.Upsert key payload) change e = absurd e
-change-of (call.Get key) change e = absurd e
-change-of (call.Page from) change e = absurd e
+-- the reply to a call that makes a change, by what its key had
+reply-of : (called : Call) (had new : Option (List ℕ)) (map : Map) → IsChangeOf called had new → (apply_at had map called).reply ≡ Some (effect_reply called had)
+reply-of (call.Insert key payload) None new map is = refl
+reply-of (call.Insert key payload) (Some had) new map is = absurd is
+reply-of (call.Delete key) None new map is = absurd is
+reply-of (call.Delete key) (Some had) new map is = refl
+reply-of (call.Update key payload) None new map is = absurd is
+reply-of (call.Update key payload) (Some had) new map is = refl
+reply-of (call.Upsert key payload) None new map is = refl
+reply-of (call.Upsert key payload) (Some had) new map is = refl
+reply-of (call.Get key) None new map is = absurd is
+reply-of (call.Get key) (Some had) new map is = absurd is
+reply-of (call.Page from) None new map is = absurd is
+reply-of (call.Page from) (Some had) new map is = absurd is
 
 none-by : (o : Option ℕ) → is_some o ≡ false → o ≡ None
 none-by None e = refl
@@ -67,8 +73,15 @@ module _ (b : StrikeLaws) (p : Parts) (s : ℕ) (h : IsStriking p s) (publishes 
   is-change : (change_of (x b p s h).task).key ≡ key_of its-open.call × IsChangeOf its-open.call (change_of (x b p s h).task).old (change_of (x b p s h).task).new
   is-change = subst (λ k. ((change_of (x b p s h).task).key ≡ key_of k) × IsChangeOf k (change_of (x b p s h).task).old (change_of (x b p s h).task).new) (sym (its b p s h).call_open.call) (elim (its b p s h).tasked.change [
     | inl look ↦ absurd (true≢false (sym publishes ∙ lookups-publish-nothing (x b p s h).task look))
-    | inr is ↦ change-of (x b p s h).call (change_of (x b p s h).task) is
+    | inr is ↦ (is.key, subst (λ had. IsChangeOf (x b p s h).call had (change_of (x b p s h).task).new) (sym is.old) is.is)
   ])
+
+  -- where its key had this
+  had-is : (change_of (x b p s h).task).old ≡ (x b p s h).had
+  had-is = elim (its b p s h).tasked.change [
+    | inl look ↦ absurd (true≢false (sym publishes ∙ lookups-publish-nothing (x b p s h).task look))
+    | inr is ↦ is.old
+  ]
 
   first : its-open.effect ≡ None
   first = none-by its-open.effect ((its b p s h).tasked.laws.once (before b p s h) (waits b p s h) publishes)
@@ -121,7 +134,7 @@ module _ (b : StrikeLaws) (p : Parts) (s : ℕ) (h : IsStriking p s) (publishes 
   lives = b.lives c p.access p.access with_flush (after b p s h) effect_mark (after b p s h).filled no-act
 
   slot-of : (v : ℕ) → v ≢ worker → IsSlot c p.access (with_mark with_flush effect_mark) told_story (old b p s h).owners.items v (get_or (old b p s h).workers.items v None)
-  slot-of v ne = slot-stays b.scenes c p.access p.access with_flush effect_mark (after b p s h) told_story (old b p s h).owners.items v (get_or (old b p s h).workers.items v None) lives (record {
+  slot-of v ne = slot-stays b.scenes b.stay c p.access p.access with_flush effect_mark (after b p s h) told_story (old b p s h).owners.items v (get_or (old b p s h).workers.items v None) lives (record {
     same = record { doing = refl; begun = refl; taken = refl; size = refl; effects = λ t d. refl };
     calls = (b.calls v (h.mark ∷ log.past)).other_effect worker its-open.number (λ e. ne (sym e));
     lawful = λ o begins. b.quiet c p.access p.access with_flush (after b p s h) effect_mark v o no-act (λ a out n. refl) begins;
@@ -151,6 +164,16 @@ module _ (b : StrikeLaws) (p : Parts) (s : ℕ) (h : IsStriking p s) (publishes 
   abbrev pub with_moment : Serving
   with_moment = record (x b p s h) { effect = Some (suc (length log.past)) }
 
+  -- so the map answers it directly before its effect
+  told : IsToldBy c (with_mark with_flush effect_mark) effected (x b p s h).had
+  told at e =
+      let when : at ≡ suc (length log.past) = cc e in
+      let before-it : map_at (map_at_start c log.start) at (effect_mark ∷ h.mark ∷ log.past) ≡ map_after (map_at_start c log.start) (h.mark ∷ log.past) =
+      ap (λ k. map_at (map_at_start c log.start) k (effect_mark ∷ h.mark ∷ log.past)) when ∙ ap (map_after (map_at_start c log.start)) (at_moment-before effect_mark (h.mark ∷ log.past)) in
+      ap (λ map. (apply map its-open.call).reply) before-it ∙ (ap (λ (a : Applied). a.reply) follows.step
+      ∙ (reply-of its-open.call (change_of (x b p s h).task).old (change_of (x b p s h).task).new (map_after (map_at_start c log.start) (h.mark ∷ log.past)) is-change.1
+      ∙ ap (λ had. Some (effect_reply its-open.call had)) had-is))
+
   serves-on : IsServing c p.access (with_mark with_flush effect_mark) told_story (old b p s h).owners.items worker with_moment
   serves-on = record {
     opened = effected;
@@ -159,7 +182,7 @@ module _ (b : StrikeLaws) (p : Parts) (s : ℕ) (h : IsStriking p s) (publishes 
       call = (its b p s h).call_open.call;
       effect = refl;
       begun = omega (arith, begun-effected);
-      served = (its b p s h).call_open.served;
+      told = told;
     };
     tasked = (its b p s h).tasked;
     asked = todo.Swap (entries_of (old b p s h).access s);

@@ -1,26 +1,24 @@
 -- An act of a worker by which no swap takes effect: the world but for this worker.
-use Rattle.std.proofs.Common.{◌≡◌, ◌≢◌, ◌⊎◌, ℕ, ◌+◌, ◌*◌, ◌<◌, ◌≤◌, true, false, List, ◌∷◌, length, slice_index, arith, refl, sym, ap, subst, ◌∙◌, inl, inr, Option, Some, None}
+use Rattle.std.proofs.Common.{◌≡◌, ◌≢◌, ℕ, ◌<◌, ◌≤◌, ◌∷◌, length, arith, refl, sym, ap, subst, ◌∙◌, inl, inr, Some, None}
 use Rattle.std.specs.Prelude.{get_or}
 use Rattle.std.proofs.lemmas.Bool.{cases_eq, cases_lt}
 use Rattle.bz_acts.specs.declared.acted.Act.{Act}
 use Rattle.bz_machine.specs.declared.done.Done.{Done}
 use Rattle.bz_machine.specs.declared.done.Done.TheVariants.{Busy, Read, Swapped, Stored, Flushed}
-use Rattle.bz_mark.specs.Log.{Log, with_mark}
-use Rattle.bz_running.specs.Duties.{asks_of, facts_of}
-use Rattle.bz_sight.specs.Sight.{IsHidden}
+use Rattle.bz_mark.specs.Log.{with_mark}
+use Rattle.bz_running.specs.Duties.{facts_of}
 use Rattle.bz_sight.specs.Passing.{Passes, Passed}
 use Rattle.bz_sight.specs.Starts.{Sees}
 use Rattle.bz_sound.specs.Calls.{Open, open_call}
 use Rattle.bz_sound.specs.Memory.Calls.{HasOpenCall}
 use Rattle.bz_sound.specs.Memory.Sound.{IsSound}
-use Rattle.bz_story.specs.Laws.{HasBegun, GoesOn, goes_on}
+use Rattle.bz_story.specs.Laws.{HasBegun, GoesOn}
 use Rattle.bz_story.specs.Living.{IsLiving}
 use Rattle.bz_story.specs.Story.{Story, scene}
-use Rattle.bz_swap.specs.SwapMemory.{SwapMemory, Doing, Idle, Reading, Swapping, Storing, Flushing, doing_of, worker_of}
+use Rattle.bz_swap.specs.SwapMemory.{Doing, Idle, Storing, doing_of}
 use Rattle.bz_swap.specs.Steps.{doing_after}
-use Rattle.bz_task.specs.Instant.{Instant}
 use Rattle.bz_task.specs.Requests.{IsAskable, IsOwnStore}
-use Rattle.bz_task.specs.Scene.{Scene, IsLawful, Waiting}
+use Rattle.bz_task.specs.Scene.{IsLawful, Waiting}
 use Rattle.bz_task.specs.declared.todo.Todo.{Todo}
 use Rattle.bz_task.specs.declared.todo.Todo.TheVariants as todo
 use Rattle.bz_world.specs.Acted.{IsActed, IsBetween}
@@ -33,7 +31,7 @@ use Rattle.bz_world.proofs.Owners.{pending-begun}
 use Rattle.bz_world.proofs.Marking.{act-marked, act-calls}
 use Rattle.bz_world.specs.Laws.{StepLaws}
 use Rattle.bz_world.proofs.Stepped.{act-tabled, act-taken, act-sound, held}
-use Rattle.bz_world.proofs.Staying.{SameFor, Leaves, slot-stays}
+use Rattle.bz_world.proofs.Staying.{SameFor, slot-stays, told-stays}
 
 -- the call of a worker that serves one is open, so it is one of the workers
 module _ (p : Parts) (k : IsKept p) (w : ℕ) (x : Serving) (is-worker : get_or p.workers.items w None ≡ Some x) where
@@ -57,7 +55,6 @@ module _ (p : Parts) (k : IsKept p) (w : ℕ) (x : Serving) (is-worker : get_or 
 
   pub call-is-open : HasOpenCall p.journal.past w
   call-is-open = record { opened = serves.opened; is_open = serves.call_open.is_open }
-
 
 pub idle-by : (d : Doing) (done : Done) → done ≢ Busy → doing_after d done ≡ Idle
 idle-by d Busy ne = absurd (ne refl)
@@ -126,7 +123,7 @@ module _ (b : StepLaws) (old new : Parts) (w : ℕ) (x : Serving) (made : Act) (
   pub stays : (after : Story) (v : ℕ) → IsLiving old.config new.access (with_mark old.journal (mark_of w made)) after → SameFor old.access new.access v
       → ((opened : Open) → HasBegun old.journal opened → IsLawful (scene old.config old.journal.past k.story v opened) (scene old.config (mark_of w made ∷ old.journal.past) after v opened))
       → IsSlot old.config new.access (with_mark old.journal (mark_of w made)) after old.owners.items v (get_or old.workers.items v None)
-  stays after v living same lawful = slot-stays b.scenes old.config old.access new.access old.journal (mark_of w made) k.story after old.owners.items v (get_or old.workers.items v None) living (record {
+  stays after v living same lawful = slot-stays b.scenes b.stay old.config old.access new.access old.journal (mark_of w made) k.story after old.owners.items v (get_or old.workers.items v None) living (record {
     same = same;
     calls = act-calls v w old.journal.past made;
     lawful = lawful;
@@ -169,7 +166,7 @@ module _ (b : StepLaws) (old new : Parts) (w : ℕ) (x : Serving) (made : Act) (
       call = s.call_open.call;
       effect = s.call_open.effect;
       begun = omega (arith, s.call_open.begun);
-      served = s.call_open.served;
+      told = told-stays b.stay old.config old.journal (mark_of w made) w s.opened x.had s.call_open.is_open s.call_open.told;
     };
     idle = a.step.one.doing ∙ idle-by (doing_of old.access w) done ne;
   }

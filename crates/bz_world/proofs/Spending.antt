@@ -1,5 +1,5 @@
 -- Where no descriptor is left, the others hold those that are not taken.
-use Rattle.std.proofs.Common.{◌≡◌, ◌≢◌, ◌⊎◌, ℕ, ◌+◌, ◌<◌, ◌≤◌, Bool, true, false, List, length, slice_index, arith, refl, sym, ap, subst, ◌∙◌, inl, inr, Option, Some, None}
+use Rattle.std.proofs.Common.{◌≡◌, ◌≢◌, ℕ, ◌<◌, ◌≤◌, false, List, slice_index, arith, sym, ap, subst, ◌∙◌, inl, inr, Option, Some, None}
 use Rattle.std.specs.Prelude.{get_or}
 use Rattle.std.proofs.lemmas.Bool.{cases_eq, cases_lt, true≢false}
 use Rattle.bz_layout.specs.declared.config.Config.{Config}
@@ -8,12 +8,12 @@ use Rattle.bz_sound.specs.Calls.{Open, open_call}
 use Rattle.bz_sound.specs.Memory.ImageLaws.{IsOther, AreHeld}
 use Rattle.bz_sound.specs.Memory.Spent.{is_taken}
 use Rattle.bz_story.specs.Story.{Story}
-use Rattle.bz_swap.specs.SwapMemory.{SwapMemory, Idle, Swapping, doing_of}
+use Rattle.bz_swap.specs.SwapMemory.{SwapMemory, Swapping, doing_of}
 use Rattle.bz_task.specs.declared.todo.Todo.{Todo}
 use Rattle.bz_task.specs.declared.todo.Todo.TheVariants as todo
 use Rattle.bz_world.specs.Acted.{IsBetween}
 use Rattle.bz_world.specs.Going.{LacksSwap}
-use Rattle.bz_world.specs.Serving.{IsServing, IsDoing, IsSlot}
+use Rattle.bz_world.specs.Serving.{IsDoing, IsSlot}
 use Rattle.bz_world.specs.declared.parts.Parts.{Parts}
 use Rattle.bz_world.specs.declared.serving.Serving.{Serving}
 

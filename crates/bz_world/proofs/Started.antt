@@ -1,16 +1,13 @@
 -- What a worker's task asks for may be started, and once it is, the world is kept.
-use Rattle.std.proofs.Common.{◌≡◌, ◌≢◌, ◌⊎◌, ℕ, zero, suc, ◌+◌, ◌*◌, ◌<◌, ◌≤◌, List, [], ◌∷◌, ◌++◌, length, slice_index, slice_set, arith, refl, sym, ap, subst, ◌∙◌, inl, inr, Option, Some, None}
-use Rattle.std.specs.Prelude.{get_or, All}
+use Rattle.std.proofs.Common.{◌≡◌, ℕ, zero, suc, ◌*◌, ◌<◌, List, length, arith, refl, sym, subst, ◌∙◌}
 use Rattle.std.proofs.lemmas.List.{get_or-set_same, get_or-set_other, length-set}
 use Rattle.std.specs.Vec.{with_item}
-use Rattle.bz_sight.specs.Starts.{Sees}
 use Rattle.bz_story.specs.Story.{scene}
 use Rattle.bz_swap.specs.EntryLists.{IsEntryList}
 use Rattle.bz_swap.specs.Held.{Holds}
 use Rattle.bz_swap.specs.Starts.{MayRead, MayStore, MayFlush, MaySwap, started, swapping}
 use Rattle.bz_swap.specs.SwapMemory.{SwapMemory, Reading, Storing, Flushing}
-use Rattle.bz_task.specs.Requests.{IsAskable, IsEntryToAsk}
-use Rattle.bz_task.specs.Scene.{Scene, here}
+use Rattle.bz_task.specs.Scene.{Scene}
 use Rattle.bz_task.specs.declared.todo.Todo.{Todo}
 use Rattle.bz_task.specs.declared.todo.Todo.TheVariants as todo
 use Rattle.bz_word.specs.declared.entry.Entry.{Entry}
@@ -75,9 +72,9 @@ module _ (b : StartLaws) (p : Parts) (w : ℕ) where
       → IsKept (record p { access = new; owners = with_item p.owners p.access.taken w })
   swap-kept entries m list room new is holds = subst (λ z. IsKept (record p { access = z; owners = with_item p.owners p.access.taken w })) (sym is)
       (swapping-kept b.starts b.scenes b.begun p w entries m (may-swap entries m) (asked-for (todo.Swap entries) m).askable (subst Holds is holds) list below (with_item p.owners p.access.taken w)
-        (length-set p.owners.items p.access.taken w ∙ m.asking.between.tabled.owner_places)
-        (get_or-set_same p.owners.items p.access.taken w 0 (omega (arith, below, m.asking.between.tabled.owner_places)))
-        (λ s ne. get_or-set_other p.owners.items p.access.taken s w 0 ne))
+      (length-set p.owners.items p.access.taken w ∙ m.asking.between.tabled.owner_places)
+      (get_or-set_same p.owners.items p.access.taken w 0 (omega (arith, below, m.asking.between.tabled.owner_places)))
+      (λ s ne. get_or-set_other p.owners.items p.access.taken s w 0 ne))
     where
       below : p.access.taken < p.config.swaps
       below = omega (arith, room, m.asking.between.living.seen.swaps)

@@ -1,22 +1,21 @@
 -- A worker starts what its task asks for.
-use Rattle.std.proofs.Common.{◌≡◌, ◌≢◌, ◌⊎◌, ℕ, zero, suc, ◌+◌, ◌*◌, ◌<◌, ◌≤◌, true, false, List, ◌∷◌, length, slice_index, slice_set, arith, refl, sym, ap, subst, ◌∙◌, inl, inr, Option, Some, None}
+use Rattle.std.proofs.Common.{◌≡◌, ◌≢◌, ℕ, ◌<◌, length, arith, refl, sym, ap, subst, ◌∙◌, inl, inr, None}
 use Rattle.std.specs.Prelude.{get_or}
 use Rattle.std.proofs.lemmas.Bool.{cases_eq}
 use Rattle.std.proofs.lemmas.List.{get_or-set_same, get_or-set_other, length-set}
-use Rattle.bz_running.specs.Duties.{asks_of, facts_of}
-use Rattle.bz_sight.specs.Sight.{IsSeen}
+use Rattle.bz_running.specs.Duties.{facts_of}
 use Rattle.bz_sight.specs.Starts.{StartsAreSeen, Sees}
 use Rattle.bz_story.specs.Living.{IsLiving}
 use Rattle.bz_story.specs.Story.{Story, scene}
 use Rattle.bz_task.specs.Requests.{IsAskable}
 use Rattle.bz_swap.specs.Held.{Holds}
 use Rattle.bz_swap.specs.Starts.{MayWork, started, begins_by_flush}
-use Rattle.bz_swap.specs.SwapMemory.{SwapMemory, Doing, Working, Idle, idle, Swapping, doing_of, worker_of}
+use Rattle.bz_swap.specs.SwapMemory.{SwapMemory, Doing, Working, idle, doing_of}
 use Rattle.bz_swap.specs.TakenStatuses.{BegunStayTaken}
 use Rattle.bz_task.specs.Scene.{Scene, Waiting}
 use Rattle.bz_task.specs.declared.todo.Todo.{Todo}
-use Rattle.bz_world.specs.Acted.{IsBetween, IsAsking}
-use Rattle.bz_world.specs.Kept.{IsTabled, AreTaken, IsKept}
+use Rattle.bz_world.specs.Acted.{IsBetween}
+use Rattle.bz_world.specs.Kept.{IsKept}
 use Rattle.bz_world.specs.Laws.{StartLaws}
 use Rattle.bz_world.specs.Serving.{IsServing, IsDoing, IsSlot, stage_in}
 use Rattle.bz_world.specs.Telling.{MustStart}

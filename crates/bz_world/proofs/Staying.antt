@@ -1,19 +1,21 @@
 -- What is known of a worker stays by what others do.
-use Rattle.std.proofs.Common.{◌≡◌, ◌≢◌, ℕ, ◌+◌, ◌*◌, ◌<◌, ◌≤◌, if◌then◌else◌, Bool, true, false, List, [], ◌∷◌, length, slice_index, arith, refl, sym, ap, subst, ◌∙◌, inl, inr, Option, Some, None}
+use Rattle.std.proofs.Common.{◌≡◌, ℕ, if◌then◌else◌, List, [], ◌∷◌, length, slice_index, arith, refl, sym, ap, subst, ◌∙◌, Option, Some, None}
 use Rattle.std.specs.Prelude.{get_or}
 use Rattle.bz_layout.specs.declared.config.Config.{Config}
 use Rattle.bz_mark.specs.Log.{Log, with_mark}
 use Rattle.bz_mark.specs.declared.marks.Mark.{Mark}
 use Rattle.bz_running.specs.Duties.{facts_of}
 use Rattle.bz_sound.specs.Calls.{Open, open_call}
+use Rattle.bz_sound.specs.Memory.Moments.{map_at_start}
+use Rattle.bz_sound.specs.Memory.OpenCallLaws.{EffectsStayOpen}
 use Rattle.bz_story.specs.Laws.{HasBegun, ScenesAreSeen}
 use Rattle.bz_story.specs.Living.{IsLiving}
 use Rattle.bz_story.specs.Story.{Story, scene}
-use Rattle.bz_swap.specs.SwapMemory.{SwapMemory, Doing, Idle, Reading, Swapping, Loading, Storing, Flushing, doing_of, entries_of, has_effect}
+use Rattle.bz_swap.specs.SwapMemory.{SwapMemory, Doing, Idle, Reading, Swapping, Loading, Storing, Flushing, doing_of, has_effect}
 use Rattle.bz_task.specs.Scene.{IsLawful, Waiting, Took}
 use Rattle.bz_task.specs.declared.todo.Todo.{Todo}
 use Rattle.bz_task.specs.declared.todo.Todo.TheVariants as todo
-use Rattle.bz_world.specs.Serving.{IsServing, IsSwapping, IsDoing, IsAtRest, IsSlot, stage_in}
+use Rattle.bz_world.specs.Serving.{IsServing, IsDoing, IsSlot, IsToldBy, effect_reply, stage_in}
 use Rattle.bz_world.specs.declared.serving.Serving.{Serving}
 
 -- what a worker does is the same in two memories, and so is whether its swap has taken effect
@@ -56,16 +58,20 @@ pub record Leaves (c : Config) (m n : SwapMemory) (log : Log) (mark : Mark) (sto
   pub calls : open_call v (mark ∷ log.past) ≡ open_call v log.past
   pub lawful : (opened : Open) → HasBegun log opened → IsLawful (scene c log.past story v opened) (scene c (mark ∷ log.past) after v opened)
 
-pub serving-stays : ScenesAreSeen → (c : Config) (m n : SwapMemory) (log : Log) (mark : Mark) (story after : Story) (owners : List ℕ) (v : ℕ) (x : Serving) → IsLiving c n (with_mark log mark) after → Leaves c m n log mark story after v
+-- the reply that tells its effect stays the map's
+pub told-stays : EffectsStayOpen → (c : Config) (log : Log) (mark : Mark) (w : ℕ) (opened : Open) (had : Option (List ℕ)) → open_call w log.past ≡ Some opened → IsToldBy c log opened had → IsToldBy c (with_mark log mark) opened had
+told-stays stay c log mark w opened had is told at e = (stay (map_at_start c log.start) log.past mark w at opened is e).same_reply (effect_reply opened.call had) (told at e)
+
+pub serving-stays : ScenesAreSeen → EffectsStayOpen → (c : Config) (m n : SwapMemory) (log : Log) (mark : Mark) (story after : Story) (owners : List ℕ) (v : ℕ) (x : Serving) → IsLiving c n (with_mark log mark) after → Leaves c m n log mark story after v
     → IsServing c m log story owners v x → IsServing c n (with_mark log mark) after owners v x
-serving-stays seen c m n log mark story after owners v x living l s = record {
+serving-stays seen stay c m n log mark story after owners v x living l s = record {
   opened = s.opened;
   call_open = record {
     is_open = l.calls ∙ s.call_open.is_open;
     call = s.call_open.call;
     effect = s.call_open.effect;
     begun = omega (arith, s.call_open.begun);
-    served = s.call_open.served;
+    told = told-stays stay c log mark v s.opened x.had s.call_open.is_open s.call_open.told;
   };
   tasked = s.tasked;
   asked = s.asked;
@@ -76,10 +82,10 @@ serving-stays seen c m n log mark story after owners v x living l s = record {
       (seen c n (with_mark log mark) after v s.opened living (omega (arith, s.call_open.begun))).scene (l.lawful s.opened s.call_open.begun));
 }
 
-pub slot-stays : ScenesAreSeen → (c : Config) (m n : SwapMemory) (log : Log) (mark : Mark) (story after : Story) (owners : List ℕ) (v : ℕ) (slot : Option Serving) → IsLiving c n (with_mark log mark) after → Leaves c m n log mark story after v
+pub slot-stays : ScenesAreSeen → EffectsStayOpen → (c : Config) (m n : SwapMemory) (log : Log) (mark : Mark) (story after : Story) (owners : List ℕ) (v : ℕ) (slot : Option Serving) → IsLiving c n (with_mark log mark) after → Leaves c m n log mark story after v
     → IsSlot c m log story owners v slot → IsSlot c n (with_mark log mark) after owners v slot
-slot-stays seen c m n log mark story after owners v None living l s = record { none_open = l.calls ∙ s.none_open; idle = l.same.doing ∙ s.idle }
-slot-stays seen c m n log mark story after owners v (Some x) living l s = serving-stays seen c m n log mark story after owners v x living l s
+slot-stays seen stay c m n log mark story after owners v None living l s = record { none_open = l.calls ∙ s.none_open; idle = l.same.doing ∙ s.idle }
+slot-stays seen stay c m n log mark story after owners v (Some x) living l s = serving-stays seen stay c m n log mark story after owners v x living l s
 
 -- without a mark, in a memory in which a worker does the same
 pub slot-same : (c : Config) (m n : SwapMemory) (log : Log) (story : Story) (owners others : List ℕ) (v : ℕ) (slot : Option Serving) → SameFor m n v → ((s : ℕ) → doing_of m v ≡ Swapping s → slice_index others s ≡ slice_index owners s)
@@ -87,7 +93,7 @@ pub slot-same : (c : Config) (m n : SwapMemory) (log : Log) (story : Story) (own
 slot-same c m n log story owners others v None same table s = record { none_open = s.none_open; idle = same.doing ∙ s.idle }
 slot-same c m n log story owners others v (Some x) same table s = record {
   opened = s.opened;
-  call_open = let o = s.call_open in record { is_open = o.is_open; call = o.call; effect = o.effect; begun = o.begun; served = o.served };
+  call_open = let o = s.call_open in record { is_open = o.is_open; call = o.call; effect = o.effect; begun = o.begun; told = o.told };
   tasked = s.tasked;
   asked = s.asked;
   asks = s.asks;

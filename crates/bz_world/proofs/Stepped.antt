@@ -1,21 +1,16 @@
 -- A world after an act of a worker, as far as it goes on by itself: its tables and its journal.
-use Rattle.std.proofs.Common.{◌≡◌, ◌≢◌, ℕ, suc, ◌+◌, ◌*◌, ◌<◌, ◌≤◌, ◌⊎◌, ◌||◌, ◌&&◌, ◌==◌, Bool, true, false, not, List, ◌∷◌, length, slice_index, arith, refl, sym, ap, subst, ◌∙◌, inl, inr, Option, Some, None}
+use Rattle.std.proofs.Common.{◌≡◌, ◌≢◌, ℕ, ◌+◌, ◌<◌, ◌≤◌, ◌||◌, ◌&&◌, ◌==◌, Bool, true, false, not, List, ◌∷◌, length, slice_index, arith, refl, sym, ap, subst, ◌∙◌, inl, inr, Option, Some, None}
 use Rattle.std.proofs.lemmas.Bool.{cases_eq}
 use Rattle.std.proofs.lemmas.Bool.Decides.{nat_tests}
 use Rattle.bz_acts.specs.declared.acted.Act.{Act}
 use Rattle.bz_acts.specs.declared.acted.Act.TheVariants.{Load, Store, Cas, Flush}
-use Rattle.bz_cells.specs.Store.{status_word}
 use Rattle.bz_machine.specs.declared.done.Done.{Done}
-use Rattle.bz_machine.specs.declared.status.SwapStatus.TheVariants.{Free, Undecided}
 use Rattle.bz_layout.specs.Addresses.{swap_address}
-use Rattle.bz_layout.specs.declared.config.Config.{Config}
-use Rattle.bz_mark.specs.Log.{Log, with_mark}
+use Rattle.bz_mark.specs.Log.{with_mark}
 use Rattle.bz_mark.specs.MomentLaws.{at_moment-now}
 use Rattle.bz_mark.specs.declared.marks.Mark.{Mark}
-use Rattle.bz_mark.specs.declared.marks.Mark.TheVariants as mark
 use Rattle.bz_sight.specs.Passing.{Passed}
 use Rattle.bz_sight.specs.Sight.{next_instant}
-use Rattle.bz_sound.specs.Calls.{Open, open_call}
 use Rattle.bz_sound.specs.Memory.Calls.{HasOpenCall}
 use Rattle.bz_sound.specs.Memory.Laws.{IsQuietAct}
 use Rattle.bz_sound.specs.Memory.Moments.{image_after, IsAfterFlush}
@@ -29,14 +24,13 @@ use Rattle.bz_swap.specs.declared.phase.Phase.TheVariants.{Opened, Running, Reco
 use Rattle.bz_swap.specs.SwapMemory.{SwapMemory, Swapping, doing_of, has_effect}
 use Rattle.bz_swap.specs.Effects.{EffectIs}
 use Rattle.bz_swap.specs.TakenStatuses.{IsTaken, IsTaking, TakenStatusesStay, BegunAreTaken, BegunStayTaken}
-use Rattle.bz_task.specs.Instant.{Instant}
 use Rattle.bz_content.specs.Content.{image_fault, content_in}
 use Rattle.bz_world.specs.Acted.{IsActed}
 use Rattle.bz_world.specs.Kept.{IsTabled, AreTaken}
 use Rattle.bz_world.specs.Lab.{mark_of}
 use Rattle.bz_world.specs.Laws.{JournalLaws}
 use Rattle.bz_world.specs.declared.parts.Parts.{Parts}
-use Rattle.bz_world.proofs.Marking.{act-marked, act-found, act-follows, act-calls, act-begun, act-counts, SameCounts}
+use Rattle.bz_world.proofs.Marking.{act-marked, act-found, act-follows, act-calls, act-begun, act-counts}
 
 -- the tables
 pub act-tabled : (old new : Parts) (w : ℕ) (made : Act) (done : Done) (told : Option ℕ) → IsTabled old → IsActed old w made done told new → length old.journal.past < old.config.marks → IsTabled new

@@ -1,21 +1,19 @@
 -- What a worker is told of its private store.
-use Rattle.std.proofs.Common.{◌≡◌, ◌≢◌, ◌⊎◌, ℕ, suc, ◌+◌, ◌*◌, ◌<◌, ◌≤◌, true, false, List, ◌∷◌, length, slice_index, arith, refl, sym, ap, subst, ◌∙◌, inl, inr, Option, Some, None}
+use Rattle.std.proofs.Common.{◌≡◌, ◌≢◌, ℕ, suc, ◌<◌, ◌∷◌, length, arith, sym, ap, subst, ◌∙◌, Some, None}
 use Rattle.std.specs.Prelude.{get_or}
 use Rattle.bz_acts.specs.declared.acted.Act.{Act}
 use Rattle.bz_machine.specs.declared.done.Done.{Done}
-use Rattle.bz_machine.specs.declared.done.Done.TheVariants as done
 use Rattle.bz_mark.specs.Log.{with_mark}
-use Rattle.bz_running.specs.Duties.{asks_of, facts_of}
+use Rattle.bz_running.specs.Duties.{facts_of}
 use Rattle.bz_sight.specs.Acts.{IsStoring}
 use Rattle.bz_sight.specs.Starts.{Sees}
-use Rattle.bz_sound.specs.Calls.{Open}
-use Rattle.bz_story.specs.Laws.{HasBegun, IsStore, goes_on, fills}
+use Rattle.bz_story.specs.Laws.{IsStore, goes_on, fills}
 use Rattle.bz_story.specs.Living.{IsLiving}
 use Rattle.bz_story.specs.Story.{Story, scene}
-use Rattle.bz_swap.specs.SwapMemory.{SwapMemory, Storing, doing_of}
+use Rattle.bz_swap.specs.SwapMemory.{Storing, doing_of}
 use Rattle.bz_task.specs.OwnActs.{Stores}
 use Rattle.bz_task.specs.Requests.{Hears, Tells}
-use Rattle.bz_task.specs.Scene.{Scene, Stage, IsLawful, Waiting, Took}
+use Rattle.bz_task.specs.Scene.{Scene, Took}
 use Rattle.bz_task.specs.declared.todo.Seen.TheVariants as seen
 use Rattle.bz_task.specs.declared.todo.Todo.TheVariants as todo
 use Rattle.bz_world.specs.Acted.{IsActed, IsTold}

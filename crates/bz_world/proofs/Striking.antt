@@ -1,11 +1,10 @@
 -- The effect of a swap: what it is to its worker and to the others, one mark on.
-use Rattle.std.proofs.Common.{◌≡◌, ◌≢◌, ◌⊎◌, ℕ, suc, ◌+◌, ◌*◌, ◌^◌, ◌<◌, ◌≤◌, ◌||◌, if◌then◌else◌, Bool, true, false, List, ◌∷◌, length, slice_index, arith, refl, sym, ap, subst, ◌∙◌, inl, inr, Option, Some, None}
+use Rattle.std.proofs.Common.{◌≡◌, ◌≢◌, ℕ, suc, ◌+◌, ◌^◌, ◌<◌, ◌≤◌, if◌then◌else◌, Bool, true, false, List, ◌∷◌, length, arith, refl, sym, ap, subst, ◌∙◌, None}
 use Rattle.std.specs.Prelude.{get_or}
-use Rattle.bz_layout.specs.declared.config.Config.{Config}
-use Rattle.bz_mark.specs.Log.{Log, with_mark}
+use Rattle.bz_mark.specs.Log.{with_mark}
 use Rattle.bz_mark.specs.declared.marks.Mark.{Mark}
 use Rattle.bz_mark.specs.declared.marks.Mark.TheVariants as mark
-use Rattle.bz_running.specs.Duties.{asks_of, facts_of, publishing_of, change_of}
+use Rattle.bz_running.specs.Duties.{facts_of, publishing_of, change_of}
 use Rattle.bz_sight.specs.Effects.{TookPlace, effect_instant}
 use Rattle.bz_sight.specs.Starts.{Sees}
 use Rattle.bz_sound.specs.Calls.{Open, open_call}
@@ -13,18 +12,16 @@ use Rattle.bz_sound.specs.Memory.Moments.{IsAfterFlush}
 use Rattle.bz_story.specs.Laws.{HasBegun, Strikes, strikes, opened_after}
 use Rattle.bz_story.specs.Living.{IsLiving}
 use Rattle.bz_story.specs.Story.{Story, scene}
-use Rattle.bz_swap.specs.SwapMemory.{SwapMemory, Doing, Idle, Swapping, doing_of, entries_of, has_effect}
-use Rattle.bz_task.specs.Instant.{Instant}
-use Rattle.bz_task.specs.Scene.{Scene, IsLawful, Waiting, Took}
+use Rattle.bz_swap.specs.SwapMemory.{Swapping, doing_of, entries_of}
+use Rattle.bz_task.specs.Scene.{Scene, Waiting, Took}
 use Rattle.bz_task.specs.Swaps.{IsGoodSwap, Takes}
-use Rattle.bz_task.specs.declared.todo.Todo.TheVariants as todo
 use Rattle.bz_world.specs.Acted.{IsStriking}
 use Rattle.bz_world.specs.Kept.{IsKept}
 use Rattle.bz_world.specs.Serving.{IsServing, IsSlot, stage_in}
 use Rattle.bz_world.specs.declared.parts.Parts.{Parts}
 use Rattle.bz_world.specs.declared.serving.Serving.{Serving}
 use Rattle.bz_world.proofs.Owners.{IsOwner, is-owner}
-use Rattle.bz_world.proofs.Staying.{SameFor, Leaves, slot-stays}
+use Rattle.bz_world.proofs.Staying.{SameFor, slot-stays}
 use Rattle.bz_world.specs.Laws.{StrikeLaws}
 
 -- a flush or an eviction opens and ends no call
@@ -136,7 +133,7 @@ module _ (b : StrikeLaws) (p : Parts) (s : ℕ) (h : IsStriking p s) where
   }
 
   pub others : (v : ℕ) → v ≢ w → IsSlot old.config p.access (with_mark old.journal h.mark) after old.owners.items v (get_or old.workers.items v None)
-  others v ne = slot-stays b.scenes old.config old.access p.access old.journal h.mark kept.story after old.owners.items v (get_or old.workers.items v None) living (record {
+  others v ne = slot-stays b.scenes b.stay old.config old.access p.access old.journal h.mark kept.story after old.owners.items v (get_or old.workers.items v None) living (record {
     same = same-other v ne;
     calls = flush-calls v h.mark old.journal.past h.flush;
     lawful = λ o begins. b.told.others old.config old.access p.access old.journal kept.story h.mark s w its.opened (publishing_of x.task) (change_of x.task) v o strikes-it ne begins;

@@ -1,5 +1,5 @@
 -- The world once the effect of a swap is noted.
-use Rattle.std.proofs.Common.{◌≡◌, ◌≢◌, ◌⊎◌, ℕ, suc, ◌+◌, ◌<◌, ◌≤◌, if◌then◌else◌, Bool, true, false, List, ◌∷◌, length, slice_index, slice_set, arith, refl, sym, ap, subst, ◌∙◌, inl, inr, Option, Some, None}
+use Rattle.std.proofs.Common.{◌≡◌, ◌≢◌, ℕ, suc, ◌<◌, ◌≤◌, if◌then◌else◌, true, false, ◌∷◌, length, slice_index, slice_set, arith, sym, ap, subst, ◌∙◌, inl, inr, Option, Some, None}
 use Rattle.std.specs.Prelude.{get_or}
 use Rattle.std.specs.Global.{Vec}
 use Rattle.std.specs.Vec.{with_item}
@@ -9,13 +9,13 @@ use Rattle.bz_mark.specs.Log.{with_mark}
 use Rattle.bz_mark.specs.declared.marks.Mark.TheVariants.{Effect}
 use Rattle.bz_running.specs.Duties.{publishing_of}
 use Rattle.bz_world.specs.Acted.{IsStriking}
-use Rattle.bz_world.specs.Kept.{IsKept, IsTabled, AreTaken}
-use Rattle.bz_world.specs.Serving.{IsServing, IsSlot, noted, is_publishing}
+use Rattle.bz_world.specs.Kept.{IsKept}
+use Rattle.bz_world.specs.Serving.{IsSlot, noted}
 use Rattle.bz_world.specs.declared.parts.Parts.{Parts}
 use Rattle.bz_world.specs.declared.serving.Serving.{Serving}
-use Rattle.bz_world.proofs.Quiet.{some-worker, within-crew}
+use Rattle.bz_world.proofs.Quiet.{within-crew}
 use Rattle.bz_world.specs.Laws.{StrikeLaws}
-use Rattle.bz_world.proofs.Striking.{old, kept, w, x, its, owner}
+use Rattle.bz_world.proofs.Striking.{w, x, its, owner}
 use Rattle.bz_world.proofs.StruckQuietly.{struck-quietly}
 use Rattle.bz_world.proofs.Published.{published}
 

@@ -1,29 +1,27 @@
 -- The effect of a swap that does not make the change of its call: the world goes on without an Effect mark.
-use Rattle.std.proofs.Common.{◌≡◌, ◌≢◌, ◌⊎◌, ℕ, suc, ◌+◌, ◌*◌, ◌<◌, ◌≤◌, if◌then◌else◌, Bool, true, false, List, [], ◌∷◌, length, slice_index, arith, refl, sym, ap, subst, ◌∙◌, inl, inr, Option, Some, None}
+use Rattle.std.proofs.Common.{◌≡◌, ℕ, suc, if◌then◌else◌, false, List, [], ◌∷◌, length, slice_index, arith, refl, sym, ap, subst, ◌∙◌, inl, inr, Some, None}
 use Rattle.std.specs.Prelude.{get_or}
 use Rattle.std.proofs.lemmas.Bool.{cases_eq}
 use Rattle.bz_content.specs.Content.{image_fault, content_in}
-use Rattle.bz_mark.specs.Log.{Log, with_mark}
+use Rattle.bz_mark.specs.Log.{with_mark}
 use Rattle.bz_mark.specs.MomentLaws.{at_moment-now}
 use Rattle.bz_running.specs.Duties.{asks_of, facts_of, publishing_of, change_of}
 use Rattle.bz_sight.specs.Effects.{effect_instant}
-use Rattle.bz_sound.specs.Calls.{Open, open_call}
 use Rattle.bz_sound.specs.Memory.Moments.{image_after}
 use Rattle.bz_sound.specs.Memory.Sound.{IsSound}
-use Rattle.bz_story.specs.Laws.{HasBegun, opened_after}
-use Rattle.bz_story.specs.Story.{Story, scene}
-use Rattle.bz_swap.specs.SwapMemory.{SwapMemory, Doing, Swapping, doing_of, entries_of, has_effect}
-use Rattle.bz_task.specs.Instant.{Instant}
-use Rattle.bz_task.specs.Scene.{Scene, Waiting, Took, here}
-use Rattle.bz_task.specs.Swaps.{IsGoodSwap, ContentFollows}
+use Rattle.bz_story.specs.Laws.{opened_after}
+use Rattle.bz_story.specs.Story.{scene}
+use Rattle.bz_swap.specs.SwapMemory.{Swapping, doing_of, entries_of}
+use Rattle.bz_task.specs.Scene.{Waiting, Took, here}
+use Rattle.bz_task.specs.Swaps.{ContentFollows}
 use Rattle.bz_task.specs.declared.todo.Todo.TheVariants as todo
 use Rattle.bz_world.specs.Acted.{IsStriking}
 use Rattle.bz_world.specs.Kept.{IsKept, IsTabled, AreTaken}
 use Rattle.bz_world.specs.Serving.{IsServing, IsSlot, IsSwapping, stage_in}
 use Rattle.bz_world.specs.declared.parts.Parts.{Parts}
-use Rattle.bz_world.specs.declared.serving.Serving.{Serving}
 use Rattle.bz_world.specs.Laws.{StrikeLaws}
-use Rattle.bz_world.proofs.Striking.{flush-calls, old, kept, w, x, its, owner, before, good, after, living, opened, later, begun, took, others}
+use Rattle.bz_world.proofs.Staying.{told-stays}
+use Rattle.bz_world.proofs.Striking.{flush-calls, old, kept, w, x, its, owner, before, good, after, living, opened, took, others}
 
 module _ (b : StrikeLaws) (p : Parts) (s : ℕ) (h : IsStriking p s) where
   -- the image before and after it
@@ -64,7 +62,7 @@ module _ (b : StrikeLaws) (p : Parts) (s : ℕ) (h : IsStriking p s) where
     same-content : (key : List ℕ) → content_in (old b p s h).config (image_after (old b p s h).journal.start (h.mark ∷ (old b p s h).journal.past)) key ≡ content_in (old b p s h).config (image_after (old b p s h).journal.start (old b p s h).journal.past) key
     same-content key =
         let follows : ContentFollows false (change_of (x b p s h).task) (old b p s h).config (here (before b p s h)) (effect_instant (old b p s h).config p.access ((kept b p s h).story.at (length (old b p s h).journal.past))) =
-              subst (λ z. ContentFollows z (change_of (x b p s h).task) (old b p s h).config (here (before b p s h)) (effect_instant (old b p s h).config p.access ((kept b p s h).story.at (length (old b p s h).journal.past)))) silent (good b p s h).content in
+        subst (λ z. ContentFollows z (change_of (x b p s h).task) (old b p s h).config (here (before b p s h)) (effect_instant (old b p s h).config p.access ((kept b p s h).story.at (length (old b p s h).journal.past)))) silent (good b p s h).content in
         ap (λ i. content_in (old b p s h).config i key) image-is ∙ (follows key ∙ ap (λ i. content_in (old b p s h).config i key) (sym image-was))
 
     sound : IsSound (old b p s h).config (with_mark (old b p s h).journal h.mark)
@@ -78,7 +76,7 @@ module _ (b : StrikeLaws) (p : Parts) (s : ℕ) (h : IsStriking p s) where
         call = (its b p s h).call_open.call;
         effect = (its b p s h).call_open.effect;
         begun = omega (arith, (its b p s h).call_open.begun);
-        served = (its b p s h).call_open.served;
+        told = told-stays b.stay (old b p s h).config (old b p s h).journal h.mark (w b p s h) (its b p s h).opened (x b p s h).had (its b p s h).call_open.is_open (its b p s h).call_open.told;
       };
       tasked = (its b p s h).tasked;
       asked = todo.Swap (entries_of (old b p s h).access s);

@@ -1,35 +1,34 @@
 -- A worker starts a swap that its task asks for.
-use Rattle.std.proofs.Common.{◌≡◌, ◌≢◌, ◌⊎◌, ℕ, zero, suc, ◌+◌, ◌*◌, ◌<◌, ◌≤◌, if◌then◌else◌, Bool, true, false, List, [], ◌∷◌, ◌++◌, length, slice_index, slice_set, arith, refl, sym, ap, subst, ◌∙◌, inl, inr, Option, Some, None}
+use Rattle.std.proofs.Common.{◌≡◌, ◌≢◌, ℕ, ◌<◌, if◌then◌else◌, List, [], ◌∷◌, ◌++◌, length, slice_index, arith, refl, sym, ap, subst, ◌∙◌, inl, inr, Option, Some, None}
 use Rattle.std.specs.Prelude.{get_or, All}
 use Rattle.std.specs.Global.{Vec}
 use Rattle.std.proofs.lemmas.Bool.{cases_eq}
-use Rattle.std.proofs.lemmas.List.{get_or-set_same, get_or-set_other, length-set, length-append}
+use Rattle.std.proofs.lemmas.List.{length-set, length-append}
 use Rattle.std.proofs.Math.ListN.{get_or-append}
 use Rattle.std.proofs.Math.Seq.{get_or-append_seam}
-use Rattle.bz_running.specs.Duties.{asks_of, facts_of}
-use Rattle.bz_sight.specs.Sight.{IsSeen, IsHidden}
-use Rattle.bz_sight.specs.Starts.{StartsAreSeen, Sees, StoresAreHidden, TasksMayStart, OwnWordsAreHidden}
+use Rattle.bz_running.specs.Duties.{facts_of}
+use Rattle.bz_sight.specs.Sight.{IsHidden}
+use Rattle.bz_sight.specs.Starts.{StartsAreSeen, Sees, StoresAreHidden, OwnWordsAreHidden}
 use Rattle.bz_story.specs.Laws.{ScenesAreSeen}
 use Rattle.bz_story.specs.Living.{IsLiving}
 use Rattle.bz_story.specs.Story.{scene}
 use Rattle.bz_swap.specs.EntryLists.{IsEntryList}
 use Rattle.bz_swap.specs.Held.{Holds}
-use Rattle.bz_swap.specs.Starts.{MayWork, MaySwap, swapping, started, begins_by_flush}
-use Rattle.bz_swap.specs.SwapMemory.{SwapMemory, Doing, Working, Idle, idle, Reading, Swapping, Loading, Storing, Flushing, doing_of, worker_of, entries_of, has_effect}
+use Rattle.bz_swap.specs.Starts.{MayWork, MaySwap, swapping, begins_by_flush}
+use Rattle.bz_swap.specs.SwapMemory.{SwapMemory, Doing, Idle, Reading, Swapping, Loading, Storing, Flushing, doing_of, entries_of}
 use Rattle.bz_swap.specs.TakenStatuses.{BegunStayTaken}
-use Rattle.bz_task.specs.Requests.{IsEntryToAsk, IsAskable, IsOwnStore}
+use Rattle.bz_task.specs.Requests.{IsEntryToAsk, IsOwnStore}
 use Rattle.bz_task.specs.Scene.{Scene, Waiting, Took}
 use Rattle.bz_task.specs.declared.todo.Todo.{Todo}
 use Rattle.bz_task.specs.declared.todo.Todo.TheVariants as todo
 use Rattle.bz_word.specs.declared.entry.Entry.{Entry}
-use Rattle.bz_world.specs.Acted.{IsBetween, IsAsking}
-use Rattle.bz_world.specs.Kept.{IsTabled, AreTaken, IsKept}
-use Rattle.bz_world.specs.Serving.{IsServing, IsDoing, IsSlot, IsSwapping, stage_in}
+use Rattle.bz_world.specs.Acted.{IsBetween}
+use Rattle.bz_world.specs.Kept.{IsKept}
+use Rattle.bz_world.specs.Serving.{IsServing, IsDoing, IsSlot, stage_in}
 use Rattle.bz_world.specs.Telling.{MustStart}
 use Rattle.bz_world.specs.declared.parts.Parts.{Parts}
 use Rattle.bz_world.specs.declared.serving.Serving.{Serving}
-use Rattle.bz_world.proofs.Staying.{SameFor, slot-same}
-use Rattle.bz_world.proofs.Starting.{starts-it, starts-others, may-work}
+use Rattle.bz_world.proofs.Starting.{starts-it, starts-others}
 
 module _ (scenes : ScenesAreSeen) (hidden : OwnWordsAreHidden) (p : Parts) (w : ℕ) (asked : Todo) (m : MustStart p w asked) where
   abbrev pub between : IsBetween p w m.serving
@@ -47,8 +46,8 @@ module _ (scenes : ScenesAreSeen) (hidden : OwnWordsAreHidden) (p : Parts) (w : 
       let sees : Sees p.config (between.story.at (length p.journal.past)) (scene p.config p.journal.past between.story v h.opened) = scenes p.config p.access p.journal between.story v h.opened between.living h.call_open.begun in
       let same : todo.Store c q ≡ todo.Store a u = cc (d.0, storing) in
       let own : IsOwnStore (scene p.config p.journal.past between.story v h.opened) a u =
-            h.tasked.laws.askable (scene p.config p.journal.past between.story v h.opened) (todo.Store a u) (sym h.tasked.config)
-              (subst (λ z. facts_of x.task z (scene p.config p.journal.past between.story v h.opened)) (ap (stage_in p.access) storing) h.facts) sees.scene (h.asks ∙ ap Some (e ∙ same)) in
+      h.tasked.laws.askable (scene p.config p.journal.past between.story v h.opened) (todo.Store a u) (sym h.tasked.config)
+      (subst (λ z. facts_of x.task z (scene p.config p.journal.past between.story v h.opened)) (ap (stage_in p.access) storing) h.facts) sees.scene (h.asks ∙ ap Some (e ∙ same)) in
       hidden p.config (between.story.at (length p.journal.past)) (scene p.config p.journal.past between.story v h.opened) a sees own.mine
 
   slot-store : (v a u : ℕ) (slot : Option Serving) → IsSlot p.config p.access p.journal between.story p.owners.items v slot → doing_of p.access v ≡ Storing a u → IsHidden p.config (between.story.at (length p.journal.past)) a
@@ -132,7 +131,7 @@ module _ (starts : StartsAreSeen) (scenes : ScenesAreSeen) (begun : BegunStayTak
       slot-of None h = record { none_open = h.none_open; idle = starts-others p.access w v (Swapping p.access.taken) ne ∙ h.idle }
       slot-of (Some x) h = record {
         opened = h.opened;
-        call_open = let o = h.call_open in record { is_open = o.is_open; call = o.call; effect = o.effect; begun = o.begun; served = o.served };
+        call_open = let o = h.call_open in record { is_open = o.is_open; call = o.call; effect = o.effect; begun = o.begun; told = o.told };
         tasked = h.tasked;
         asked = h.asked;
         asks = h.asks;

@@ -1,6 +1,6 @@
 -- A call that gets another task.
-use Rattle.std.proofs.Common.{◌≡◌, ◌≢◌, ◌⊎◌, ℕ, ◌+◌, ◌<◌, ◌≤◌, true, false, List, length, arith, refl, sym, ap, subst, ◌∙◌, inl, inr, Option, Some, None}
-use Rattle.std.specs.Prelude.{get_or, Bool}
+use Rattle.std.proofs.Common.{◌≡◌, ◌≢◌, ℕ, true, List, length, arith, refl, sym, ap, subst, ◌∙◌, inl, Option, Some, None}
+use Rattle.std.specs.Prelude.{get_or}
 use Rattle.std.specs.Global.{Vec}
 use Rattle.std.specs.Vec.{with_item}
 use Rattle.std.proofs.lemmas.Bool.{true≢false}
@@ -14,15 +14,14 @@ use Rattle.bz_running.specs.declared.running.Running.{Running}
 use Rattle.bz_story.specs.Laws.{ScenesAreSeen}
 use Rattle.bz_swap.specs.SwapMemory.{worker_of}
 use Rattle.bz_task.specs.Requests.{Hears, Tells}
-use Rattle.bz_task.specs.Scene.{Scene, IsScene, HasFilled, Waiting}
+use Rattle.bz_task.specs.Scene.{IsScene, HasFilled, Waiting}
 use Rattle.bz_task.specs.declared.path.Path.{Path}
 use Rattle.bz_task.specs.declared.todo.Seen.TheVariants.{Start}
 use Rattle.bz_task.specs.declared.todo.Todo.{Todo}
 use Rattle.bz_world.specs.Acted.{IsBetween, MustTell}
-use Rattle.bz_world.specs.Going.{MustGoOn, MustTakeOn, known, call_in, with_task, WentOn}
+use Rattle.bz_world.specs.Going.{MustGoOn, MustTakeOn, known, call_in, WentOn}
 use Rattle.bz_world.specs.Lab.{GoesOn}
-use Rattle.bz_world.specs.Kept.{IsTabled, AreTaken}
-use Rattle.bz_world.specs.Serving.{IsOpened, IsSlot}
+use Rattle.bz_world.specs.Serving.{IsOpened, IsSlot, IsToldBy}
 use Rattle.bz_world.specs.Telling.{MustStart}
 use Rattle.bz_world.specs.declared.answers.Applied.{Applied}
 use Rattle.bz_world.specs.declared.parts.Parts.{Parts}
@@ -34,7 +33,7 @@ has-filled p w on k e = absurd (true≢false (sym e))
 
 -- the world but for the worker's task
 pub between-tasks : (p : Parts) (w : ℕ) (x y : Serving) (b : IsBetween p w x) (workers : Vec (Option Serving)) → length workers.items ≡ length p.workers.items → ((v : ℕ) → v ≢ w → get_or workers.items v None ≡ get_or p.workers.items v None)
-    → IsOpened p.journal w b.opened y → IsBetween (record p { workers = workers }) w y
+    → IsOpened p.config p.journal w b.opened y → IsBetween (record p { workers = workers }) w y
 between-tasks p w x y b workers size rest opened = record {
   story = b.story;
   tabled = let t = b.tabled in record {
@@ -80,7 +79,7 @@ known-scene scenes p w on = (scenes p.config p.access p.journal on.between.story
 
 -- a lookup of the call's key
 abbrev pub lookup-taken : (p : Parts) (w : ℕ) (on : MustGoOn p w) (task : Running) (asked : Option Todo) (key : List ℕ) → config_of task ≡ p.config → AreLaws task → needs_of task ≡ 0 → is_lookup task ≡ true → IsLookup key task → key ≡ key_of on.serving.call
-    → asks_of task ≡ asked → facts_of task Waiting (known p w on) → MustTakeOn p w task asked
+    → asks_of task ≡ asked → facts_of task Waiting (known p w on) → MustTakeOn p w task on.serving.had asked
 lookup-taken p w on task asked key config laws needs looks lookup same asks facts = record {
   on = on;
   tasked = record { config = config; laws = laws; needs = needs; lookup = subst (λ k. IsLookup k task) same lookup; change = inl looks };
@@ -88,16 +87,16 @@ lookup-taken p w on task asked key config laws needs looks lookup same asks fact
   facts = facts;
 }
 
-module _ (p : Parts) (w : ℕ) (task : Running) (asked : Option Todo) (m : MustTakeOn p w task asked) (path : Option Path) (slot : Option Serving) (is : slot ≡ with_task (Some m.on.serving) task path) where
+module _ (p : Parts) (w : ℕ) (task : Running) (had : Option (List ℕ)) (asked : Option Todo) (m : MustTakeOn p w task had asked) (path : Option Path) (slot : Option Serving) (is : slot ≡ Some (record m.on.serving { task = task; path = path; had = had })) (told : IsToldBy p.config p.journal m.on.between.opened had) where
   abbrev pub next : Serving
-  next = record m.on.serving { task = task; path = path }
+  next = record m.on.serving { task = task; path = path; had = had }
 
   abbrev pub taken : Parts
   taken = record p { workers = with_item p.workers w slot }
 
   between : IsBetween taken w next
   between = between-tasks p w m.on.serving next m.on.between (with_item p.workers w slot) (length-set p.workers.items w slot) (λ v ne. get_or-set_other p.workers.items w v slot None ne)
-      (let o = m.on.between.call_open in record { is_open = o.is_open; call = o.call; effect = o.effect; begun = o.begun; served = o.served })
+      (let o = m.on.between.call_open in record { is_open = o.is_open; call = o.call; effect = o.effect; begun = o.begun; told = told })
 
   pub here-is : get_or taken.workers.items w None ≡ Some next
   here-is = get_or-set_same p.workers.items w slot None (omega (arith, m.on.between.within, m.on.between.tabled.places, m.on.between.tabled.config.workers_in_range.at_most)) ∙ is

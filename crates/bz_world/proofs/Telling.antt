@@ -1,26 +1,22 @@
 -- A task that was told something asks for something else, and the world but for it is as it was.
-use Rattle.std.proofs.Common.{◌≡◌, ◌≢◌, ◌⊎◌, ℕ, zero, suc, ◌+◌, ◌<◌, ◌≤◌, ◌||◌, ◌&&◌, not, Bool, true, false, List, ◌∷◌, length, slice_set, arith, refl, sym, ap, subst, ◌∙◌, inl, inr, Option, Some, None}
+use Rattle.std.proofs.Common.{◌≡◌, ◌≢◌, ℕ, ◌||◌, ◌&&◌, not, Bool, true, false, length, arith, refl, sym, ap, subst, ◌∙◌, inl, inr, Option, Some, None}
 use Rattle.std.specs.Prelude.{get_or, drop, nat_le}
 use Rattle.std.specs.Global.{Vec}
 use Rattle.std.specs.Vec.{with_item}
 use Rattle.std.proofs.lemmas.List.{get_or-set_same, get_or-set_other, length-set}
-use Rattle.bz_call.specs.Map.{key_of}
 use Rattle.bz_layout.specs.Addresses.{node_address, slot_of}
 use Rattle.bz_layout.specs.Slots.{FreeSlots}
-use Rattle.bz_running.specs.Duties.{config_of, asks_of, needs_of, change_of, facts_of, is_lookup}
+use Rattle.bz_running.specs.Duties.{needs_of, facts_of}
 use Rattle.bz_shape.specs.Walk.{is_among}
 use Rattle.bz_sight.specs.Starts.{Sees}
-use Rattle.bz_sound.specs.Calls.{Open}
 use Rattle.bz_story.specs.Laws.{ScenesAreSeen}
 use Rattle.bz_story.specs.Story.{scene}
 use Rattle.bz_task.specs.OwnActs.{AreTakenFrom, gained, is_gained}
-use Rattle.bz_task.specs.Outcomes.{IsPath, IsView}
-use Rattle.bz_task.specs.Scene.{Scene, IsScene, Waiting}
+use Rattle.bz_task.specs.Scene.{Scene, Waiting}
 use Rattle.bz_task.specs.declared.todo.Outcome.TheVariants as outcome
 use Rattle.bz_task.specs.declared.todo.Seen.{Seen}
 use Rattle.bz_task.specs.declared.todo.Todo.{Todo}
-use Rattle.bz_world.specs.Acted.{IsBetween, IsTold, IsAsking, MustTell}
-use Rattle.bz_world.specs.Kept.{IsTabled, AreTaken}
+use Rattle.bz_world.specs.Acted.{IsTold, IsAsking, MustTell}
 use Rattle.bz_world.specs.Serving.{IsOpened, IsTasked, IsSlot, IsChangeFor}
 use Rattle.bz_world.specs.Telling.{CanHear, HasTold, HasToldIn, MustStart}
 use Rattle.bz_world.specs.declared.parts.Parts.{Parts}
@@ -79,19 +75,22 @@ module _ (scenes : ScenesAreSeen) (p : Parts) (w : ℕ) (seen : Seen) (m : MustT
   sees = scenes p.config p.access p.journal told.between.story w told.between.opened told.between.living told.between.call_open.begun
 
   pub can-hear : (slot : Option Serving) → slot ≡ Some x → CanHear slot seen (length p.journal.past)
-  can-hear slot e = subst (λ z. CanHear z seen (length p.journal.past)) (sym e) (told.hears, record {
-    stage = told.stage;
-    scene = here;
-    config = sym told.tasked.config;
-    now = refl;
-    good = sees.scene;
-    holds = told.facts;
-    tells = told.tells;
-  })
+  can-hear slot e = subst (λ z. CanHear z seen (length p.journal.past)) (sym e) (
+    told.hears,
+    record {
+      stage = told.stage;
+      scene = here;
+      config = sym told.tasked.config;
+      now = refl;
+      good = sees.scene;
+      holds = told.facts;
+      tells = told.tells;
+    },
+  )
 
   module _ (todo : Todo) (left : FreeSlots) (y : Serving) (h : HasTold x seen (length p.journal.past) p.slots todo y left) where
-    tasked : IsTasked p.config y.call y.task
-    tasked = subst (λ (z : Serving). IsTasked p.config z.call y.task) (sym h.rest) (record {
+    tasked : IsTasked p.config y.call y.had y.task
+    tasked = subst (λ (z : Serving). IsTasked p.config z.call z.had y.task) (sym h.rest) (record {
       config = h.heard.config ∙ told.tasked.config;
       laws = h.laws;
       needs = (none-taken (needs_of x.task) (needs_of y.task) p.slots left told.tasked.needs h.heard.slots).1;
@@ -101,7 +100,7 @@ module _ (scenes : ScenesAreSeen) (p : Parts) (w : ℕ) (seen : Seen) (m : MustT
       };
       change = elim told.tasked.change [
         | inl look ↦ inl (h.heard.lookup ∙ look)
-        | inr is ↦ inr (subst (IsChangeFor x.call) (sym h.heard.change) is)
+        | inr is ↦ inr (subst (IsChangeFor x.call x.had) (sym h.heard.change) is)
       ];
     })
 
@@ -136,7 +135,7 @@ module _ (scenes : ScenesAreSeen) (p : Parts) (w : ℕ) (seen : Seen) (m : MustT
         worker = told.between.worker;
         within = told.between.within;
         opened = told.between.opened;
-        call_open = subst (λ (z : Serving). IsOpened p.journal w told.between.opened z) (sym h.rest) (let o = told.between.call_open in record { is_open = o.is_open; call = o.call; effect = o.effect; begun = o.begun; served = o.served });
+        call_open = subst (λ (z : Serving). IsOpened p.config p.journal w told.between.opened z) (sym h.rest) (let o = told.between.call_open in record { is_open = o.is_open; call = o.call; effect = o.effect; begun = o.begun; told = o.told });
         idle = told.between.idle;
       };
       tasked = tasked;

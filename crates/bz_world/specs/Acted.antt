@@ -1,9 +1,8 @@
 -- What stands between an act and the next: an act that was made, an effect that is not told, an answer that is not told, and a
 -- call whose task is to go on.
-use Rattle.std.specs.Prelude.{◌≡◌, ◌≢◌, ◌⊎◌, ℕ, ◌*◌, ◌<◌, ◌≤◌, List, ◌∷◌, length, get_or, slice_index, Option, Some, None}
+use Rattle.std.specs.Prelude.{◌≡◌, ◌≢◌, ℕ, ◌<◌, ◌≤◌, ◌∷◌, length, get_or, Option, Some, None}
 use Rattle.bz_acts.specs.Rule.{is_flush_act}
 use Rattle.bz_acts.specs.declared.acted.Act.{Act}
-use Rattle.bz_layout.specs.declared.config.Config.{Config}
 use Rattle.bz_machine.specs.declared.done.Done.{Done}
 use Rattle.bz_mark.specs.Log.{with_mark}
 use Rattle.bz_mark.specs.declared.marks.Mark.{Mark}
@@ -74,13 +73,13 @@ pub record IsBetween (p : Parts) (w : ℕ) (x : Serving) : Type 0 where
   pub worker : 0 < w
   pub within : w ≤ p.config.workers
   pub opened : Open
-  pub call_open : IsOpened p.journal w opened x
+  pub call_open : IsOpened p.config p.journal w opened x
   pub idle : doing_of p.access w ≡ Idle
 
 -- and its task is to be told this
 pub record IsTold (p : Parts) (w : ℕ) (x : Serving) (seen : Seen) : Type 0 where
   pub between : IsBetween p w x
-  pub tasked : IsTasked p.config x.call x.task
+  pub tasked : IsTasked p.config x.call x.had x.task
   pub stage : Stage
   pub facts : facts_of x.task stage (scene p.config p.journal.past between.story w between.opened)
   pub hears : Hears (asks_of x.task) seen
@@ -89,7 +88,7 @@ pub record IsTold (p : Parts) (w : ℕ) (x : Serving) (seen : Seen) : Type 0 whe
 -- and its task asks for this
 pub record IsAsking (p : Parts) (w : ℕ) (x : Serving) (todo : Todo) : Type 0 where
   pub between : IsBetween p w x
-  pub tasked : IsTasked p.config x.call x.task
+  pub tasked : IsTasked p.config x.call x.had x.task
   pub asks : asks_of x.task ≡ Some todo
   pub facts : facts_of x.task Waiting (scene p.config p.journal.past between.story w between.opened)
 

@@ -1,10 +1,8 @@
 -- The begin of a call.
-use Rattle.std.specs.Prelude.{◌≡◌, ◌≢◌, ◌<◌, ◌≤◌, ◌+◌, ◌-◌, ◌∷◌, ℕ, ◌==◌, if◌then◌else◌, true, false, length, map, get_or, Option, Some, None}
+use Rattle.std.specs.Prelude.{◌≡◌, ◌<◌, ◌≤◌, ◌+◌, ℕ, if◌then◌else◌, length, map, get_or, Option, Some, None}
 use Rattle.bz_call.specs.Pages.{is_page}
 use Rattle.bz_call.specs.declared.calls.Call.{Call}
-use Rattle.bz_mark.specs.Log.{with_mark, count_begins, count_page_calls}
-use Rattle.bz_mark.specs.declared.marks.Mark.TheVariants.{Begin}
-use Rattle.bz_sound.specs.Calls.{open_call, begun_calls}
+use Rattle.bz_sound.specs.Calls.{begun_calls}
 use Rattle.bz_swap.specs.SwapMemory.{Working}
 use Rattle.bz_world.specs.Kept.{IsKept}
 use Rattle.bz_world.specs.Lab.{Lab, begin_answer, after_begin}

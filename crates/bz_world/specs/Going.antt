@@ -1,12 +1,14 @@
 -- A call whose task has ended: nothing goes on for it, until it is answered or gets another task.
-use Rattle.std.specs.Prelude.{◌≡◌, ◌≢◌, ℕ, ◌++◌, ◌∷◌, [], true, List, length, get_or, Option, Some, None, option_map}
+use Rattle.std.specs.Prelude.{◌≡◌, ◌≢◌, ◌⊎◌, false, ℕ, ◌++◌, ◌∷◌, [], true, List, length, get_or, Option, Some, None, option_map}
 use Rattle.bz_call.specs.Map.{key_of}
 use Rattle.bz_call.specs.Pages.{is_page}
 use Rattle.bz_call.specs.declared.calls.Call.{Call}
+use Rattle.bz_call.specs.declared.calls.Call.TheVariants as call
 use Rattle.bz_call.specs.declared.replies.Reply.{Reply}
 use Rattle.bz_call.specs.declared.replies.Reply.TheVariants.{Page}
 use Rattle.bz_call.specs.declared.replies.Spent.{Spent}
-use Rattle.bz_running.specs.Duties.{asks_of, facts_of}
+use Rattle.bz_call.specs.declared.replies.Spent.TheVariants.{Nodes}
+use Rattle.bz_running.specs.Duties.{asks_of, facts_of, means_of}
 use Rattle.bz_running.specs.declared.running.Running.{Running}
 use Rattle.bz_sound.specs.Memory.Replies.{IsRightReply}
 use Rattle.bz_sound.specs.Memory.Spent.{IsSpent}
@@ -17,8 +19,10 @@ use Rattle.bz_task.specs.Scene.{Scene, Waiting}
 use Rattle.bz_task.specs.declared.path.Path.{Path}
 use Rattle.bz_task.specs.declared.todo.Outcome.{Outcome}
 use Rattle.bz_task.specs.declared.todo.Outcome.TheVariants as outcomes
+use Rattle.bz_task.specs.declared.todo.Outcome.TheVariants.{NeedsRoom}
 use Rattle.bz_task.specs.declared.todo.Todo.{Todo}
 use Rattle.bz_task.specs.declared.view.LeafView.{LeafView}
+use Rattle.bz_word.specs.Statuses.{status}
 use Rattle.bz_world.specs.Acted.{IsBetween}
 use Rattle.bz_world.specs.Kept.{IsKept}
 use Rattle.bz_world.specs.Lab.{GoesOn}
@@ -49,14 +53,22 @@ abbrev pub effect_in : Option Serving → Option ℕ
 effect_in None = None
 effect_in (Some x) = x.effect
 
+abbrev pub had_in : Option Serving → Option (List ℕ)
+had_in None = None
+had_in (Some x) = x.had
+
 -- the call gets another task, and with it a way
 abbrev pub with_task : Option Serving → Running → Option Path → Option Serving
 with_task slot task path = option_map (λ (x : Serving). record x { task = task; path = path }) slot
 
--- a task that it may get, which asks for this
-pub record MustTakeOn (p : Parts) (w : ℕ) (task : Running) (asked : Option Todo) : Type 0 where
+-- or one that makes its change, where its key had this payload, or none
+abbrev pub with_change : Option Serving → Running → Option (List ℕ) → Option Serving
+with_change slot task had = option_map (λ (x : Serving). record x { task = task; had = had }) slot
+
+-- a task that it may get, which asks for this: for the change of the call, where its key had this payload, or none
+pub record MustTakeOn (p : Parts) (w : ℕ) (task : Running) (had : Option (List ℕ)) (asked : Option Todo) : Type 0 where
   pub on : MustGoOn p w
-  pub tasked : IsTasked p.config on.serving.call task
+  pub tasked : IsTasked p.config on.serving.call had task
   pub asks : asks_of task ≡ asked
   pub facts : facts_of task Waiting (known p w on)
 
@@ -77,6 +89,32 @@ pub record MustAnswer (p : Parts) (w : ℕ) (view : LeafView) : Type 0 where
   pub on : MustGoOn p w
   pub viewed : IsView (key_of on.serving.call) view (known p w on).past
   pub quiet : on.serving.effect ≡ None
+
+-- a task that makes its change, which is yet to begin; where it ends for want of room in a leaf that is not frozen, nodes are spent
+pub record MustChange (p : Parts) (w : ℕ) (view : LeafView) (had : Option (List ℕ)) (task : Running) : Type 0 where
+  pub takes : MustTakeOn p w task had None
+  pub quiet : takes.on.serving.effect ≡ None
+  pub short : (s : Scene) → means_of task NeedsRoom s → (status view.status).frozen ≡ false → IsSpent p.config p.journal.start p.journal.past w takes.on.between.opened Nodes
+
+-- the call puts this payload at its key, where the key is absent, or present
+abbrev pub MayInsert : Call → List ℕ → List ℕ → Type 0
+MayInsert called key payload = (called ≡ call.Insert key payload) ⊎ (called ≡ call.Upsert key payload)
+
+abbrev pub MayUpdate : Call → List ℕ → List ℕ → Type 0
+MayUpdate called key payload = (called ≡ call.Update key payload) ⊎ (called ≡ call.Upsert key payload)
+
+pub record MustInsert (p : Parts) (w : ℕ) (view : LeafView) (key payload : List ℕ) : Type 0 where
+  pub answer : MustAnswer p w view
+  pub may : MayInsert answer.on.serving.call key payload
+
+pub record MustUpdate (p : Parts) (w : ℕ) (view : LeafView) (key payload : List ℕ) : Type 0 where
+  pub answer : MustAnswer p w view
+  pub may : MayUpdate answer.on.serving.call key payload
+
+-- or takes it out
+pub record MustDelete (p : Parts) (w : ℕ) (view : LeafView) (key : List ℕ) : Type 0 where
+  pub answer : MustAnswer p w view
+  pub may : answer.on.serving.call ≡ call.Delete key
 
 -- it had its effect at this moment
 pub record HadEffect (p : Parts) (w at : ℕ) : Type 0 where

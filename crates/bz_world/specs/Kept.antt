@@ -1,5 +1,5 @@
 -- What a world keeps true of its parts.
-use Rattle.std.specs.Prelude.{◌≡◌, ◌≢◌, ◌⊎◌, ℕ, ◌+◌, ◌<◌, ◌≤◌, length, slice_index, get_or, true, false, None}
+use Rattle.std.specs.Prelude.{◌≡◌, ◌⊎◌, ℕ, ◌+◌, ◌<◌, ◌≤◌, length, slice_index, get_or, true, false, None}
 use Rattle.bz_layout.specs.Config.{IsConfig}
 use Rattle.bz_mark.specs.Log.{count_begins, count_page_calls}
 use Rattle.bz_sound.specs.Calls.{open_call, begun_calls}

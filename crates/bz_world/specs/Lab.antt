@@ -1,11 +1,10 @@
 -- What callers see of a world, and what it answers.
-use Rattle.std.specs.Prelude.{◌≡◌, ◌≢◌, ◌<◌, ◌≤◌, ◌⊎◌, ℕ, ◌+◌, ◌-◌, Bool, true, false, ◌==◌, ◌||◌, ◌&&◌, nat_lt, nat_le, if◌then◌else◌, is_some, is_none, get_or, slice_set, replicate, List, [], ◌∷◌, ◌++◌, length, Option, Some, None, MatchOption}
+use Rattle.std.specs.Prelude.{◌≡◌, ◌≢◌, ◌<◌, ◌≤◌, ◌⊎◌, ℕ, ◌+◌, ◌-◌, Bool, false, ◌==◌, ◌||◌, ◌&&◌, nat_lt, nat_le, if◌then◌else◌, is_some, is_none, get_or, slice_set, replicate, List, [], ◌∷◌, ◌++◌, length, Option, Some, None, MatchOption}
 use Rattle.bz_acts.specs.Rule.{is_flush_act}
 use Rattle.bz_acts.specs.declared.acted.Act.{Act}
 use Rattle.bz_acts.specs.declared.acted.Act.TheVariants as act
 use Rattle.bz_call.specs.Pages.{is_page}
 use Rattle.bz_call.specs.declared.calls.Call.{Call}
-use Rattle.bz_call.specs.declared.calls.Call.TheVariants as call
 use Rattle.bz_call.specs.declared.replies.Reply.{Reply}
 use Rattle.bz_layout.specs.Addresses.{words_of}
 use Rattle.bz_layout.specs.Config.{IsConfig, IsFirstOutOfRange}
@@ -48,13 +47,6 @@ new_lab config = record {
 abbrev pub IsOpenFault : Config → OpenError → Type 0
 IsOpenFault config (open_error.Config error) = IsFirstOutOfRange config error
 IsOpenFault config open_error.Memory = IsConfig config
-
--- the calls that this stage serves
-abbrev pub IsServed : Call → Type 0
-IsServed (call.Insert key payload) = Unit {0}
-IsServed (call.Get key) = Unit {0}
-IsServed (call.Page from) = Unit {0}
-IsServed other = ⊥
 
 -- the workers that make calls
 pub record IsWorker (config : Config) (w : ℕ) : Type 0 where

@@ -7,7 +7,7 @@ use Rattle.bz_sight.specs.Starts.{OwnWordsAreHidden, TasksMayStart, StartsAreSee
 use Rattle.bz_sound.specs.Memory.CallLaws.{OpenCallsAreKept, OpenCallsAreLast}
 use Rattle.bz_sound.specs.Memory.ImageLaws.{AnswersComeFromTheImage, ChangesFollow, PagesComeFromTheImage, SameContentDecodes, SpentAnswersFull}
 use Rattle.bz_sound.specs.Memory.Laws.{BeginsFollow, EffectsFollowActs, EndsFollow, FlushesFollow, PageEndsFollow, QuietActsFollow}
-use Rattle.bz_sound.specs.Memory.OpenCallLaws.{OpenCallsLeaveRoom}
+use Rattle.bz_sound.specs.Memory.OpenCallLaws.{OpenCallsLeaveRoom, EffectsStayOpen}
 use Rattle.bz_story.specs.Laws.{EffectsAreTold, FlushesAreTold, LivesGoOn, QuietMarksAreLawful, ScenesAreSeen, StoresAreTold}
 use Rattle.bz_swap.specs.TakenStatuses.{BegunStayTaken, TakenStatusesStay}
 
@@ -33,6 +33,7 @@ pub record StepLaws : Type 0 where
   pub hidden : OwnWordsAreHidden
   pub taken : TakenStatusesStay
   pub begun : BegunStayTaken
+  pub stay : EffectsStayOpen
 
 -- and by which the effect of a swap does
 pub record StrikeLaws : Type 0 where
@@ -48,6 +49,7 @@ pub record StrikeLaws : Type 0 where
   pub calls : OpenCallsAreKept
   pub last : OpenCallsAreLast
   pub pass : ActsPass
+  pub stay : EffectsStayOpen
 
 -- and by which a start leaves the world as it should be
 pub record StartLaws : Type 0 where
@@ -68,6 +70,7 @@ pub record EndLaws : Type 0 where
   pub ends : EndsFollow
   pub pages : PageEndsFollow
   pub begins : BeginsFollow
+  pub stay : EffectsStayOpen
 
 -- and by which a view answers a call
 pub record AnswerLaws : Type 0 where

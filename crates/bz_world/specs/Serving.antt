@@ -1,15 +1,19 @@
 -- What is known of each worker.
-use Rattle.std.specs.Prelude.{◌≡◌, ◌⊎◌, ℕ, ◌*◌, ◌<◌, ◌≤◌, if◌then◌else◌, Bool, true, false, List, length, slice_index, Option, Some, None}
-use Rattle.bz_call.specs.Map.{key_of}
+use Rattle.std.specs.Prelude.{◌≡◌, ◌⊎◌, ℕ, ◌*◌, ◌<◌, if◌then◌else◌, Bool, true, false, List, length, slice_index, Option, Some, None}
+use Rattle.bz_call.specs.Map.{key_of, apply}
 use Rattle.bz_call.specs.declared.calls.Call.{Call}
 use Rattle.bz_call.specs.declared.calls.Call.TheVariants as call
+use Rattle.bz_call.specs.declared.replies.Reply.{Reply}
+use Rattle.bz_call.specs.declared.replies.Reply.TheVariants.{Inserted, Deleted, Updated}
 use Rattle.bz_layout.specs.declared.config.Config.{Config}
 use Rattle.bz_mark.specs.Log.{Log}
 use Rattle.bz_running.specs.Duties.{config_of, asks_of, needs_of, change_of, publishing_of, facts_of, is_lookup}
 use Rattle.bz_running.specs.Hearing.{IsLookup}
 use Rattle.bz_running.specs.Laws.{AreLaws}
 use Rattle.bz_running.specs.declared.running.Running.{Running}
-use Rattle.bz_sound.specs.Calls.{Open, open_call}
+use Rattle.bz_sound.specs.Calls.{Open, open_call, map_at}
+use Rattle.bz_sound.specs.Memory.ImageLaws.{IsChangeOf}
+use Rattle.bz_sound.specs.Memory.Moments.{map_at_start}
 use Rattle.bz_story.specs.Story.{Story, scene}
 use Rattle.bz_swap.specs.EntryLists.{IsEntryList}
 use Rattle.bz_swap.specs.SwapMemory.{SwapMemory, Doing, Idle, Reading, Swapping, Storing, Flushing, doing_of, entries_of, has_effect}
@@ -18,13 +22,24 @@ use Rattle.bz_task.specs.Swaps.{Change}
 use Rattle.bz_task.specs.declared.todo.Todo.{Todo}
 use Rattle.bz_task.specs.declared.todo.Todo.TheVariants as todo
 use Rattle.bz_word.specs.declared.entry.Entry.{Entry}
-use Rattle.bz_world.specs.Lab.{IsServed}
 use Rattle.bz_world.specs.declared.serving.Serving.{Serving}
 
--- the change that a call makes
-abbrev pub IsChangeFor : Call → Change → Type 0
-IsChangeFor (call.Insert key payload) change = change ≡ record { key = key; old = None; new = Some payload }
-IsChangeFor other change = ⊥
+-- the change that a call makes where its key had this payload, or none
+pub record IsChangeFor (called : Call) (had : Option (List ℕ)) (change : Change) : Type 0 where
+  pub key : change.key ≡ key_of called
+  pub old : change.old ≡ had
+  pub is : IsChangeOf called had change.new
+
+-- the reply to a call that made its change where its key had this payload, or none
+abbrev pub effect_reply : Call → Option (List ℕ) → Reply
+effect_reply (call.Delete key) (Some had) = Deleted had
+effect_reply (call.Update key payload) (Some had) = Updated had
+effect_reply (call.Upsert key payload) (Some had) = Updated had
+effect_reply called had = Inserted
+
+-- directly before its effect, if it has had one, the map answers it so
+abbrev pub IsToldBy : Config → Log → Open → Option (List ℕ) → Type 0
+IsToldBy c log opened had = (at : ℕ) → opened.effect ≡ Some at → (apply (map_at (map_at_start c log.start) at log.past) opened.call).reply ≡ Some (effect_reply opened.call had)
 
 -- worker w does a swap of these entries
 pub record IsSwapping (m : SwapMemory) (owners : List ℕ) (w : ℕ) (entries : List Entry) : Type 0 where
@@ -49,26 +64,26 @@ stage_in m (Swapping s) = if has_effect m s then Took else Waiting
 stage_in m doing = Waiting
 
 -- a call that is open, as it is served
-pub record IsOpened (log : Log) (w : ℕ) (opened : Open) (x : Serving) : Type 0 where
+pub record IsOpened (c : Config) (log : Log) (w : ℕ) (opened : Open) (x : Serving) : Type 0 where
   pub is_open : open_call w log.past ≡ Some opened
   pub call : opened.call ≡ x.call
   pub effect : opened.effect ≡ x.effect
   pub begun : opened.begun < length log.past
-  pub served : IsServed x.call
+  pub told : IsToldBy c log opened x.had
 
 -- a task that serves it
-pub record IsTasked (c : Config) (call : Call) (task : Running) : Type 0 where
+pub record IsTasked (c : Config) (called : Call) (had : Option (List ℕ)) (task : Running) : Type 0 where
   pub config : config_of task ≡ c
   pub laws : AreLaws task
   pub needs : needs_of task ≡ 0
-  pub lookup : IsLookup (key_of call) task
-  pub change : (is_lookup task ≡ true) ⊎ IsChangeFor call (change_of task)
+  pub lookup : IsLookup (key_of called) task
+  pub change : (is_lookup task ≡ true) ⊎ IsChangeFor called had (change_of task)
 
 -- the task goes on: the worker does what it asked for, and it knows what it should
 pub record IsServing (c : Config) (m : SwapMemory) (log : Log) (story : Story) (owners : List ℕ) (w : ℕ) (x : Serving) : Type 0 where
   pub opened : Open
-  pub call_open : IsOpened log w opened x
-  pub tasked : IsTasked c x.call x.task
+  pub call_open : IsOpened c log w opened x
+  pub tasked : IsTasked c x.call x.had x.task
   pub asked : Todo
   pub asks : asks_of x.task ≡ Some asked
   pub doing : IsDoing m owners w asked

@@ -13,9 +13,8 @@ use crate::laws::step_laws;
 use crate::parts::Parts;
 use crate::strike::strike;
 use bz_mark::Mark;
-use bz_swap::laws as swap;
-use bz_swap::{Act, Done, Progress};
 use bz_sight::laws as sight;
+use bz_swap::{Act, Done, Progress, laws as swap};
 use bz_task::Seen;
 
 // The mark of an act.

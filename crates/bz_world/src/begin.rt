@@ -2,7 +2,7 @@
 ghost use Rattle.std.specs.Prelude.{◌≡◌};
 ghost use Rattle.bz_world.specs.Beginning.{pages_asked as pages_of_call, lab_of, MayBegin, IsRefusal, HasBegun};
 ghost use Rattle.bz_world.specs.Kept.{IsKept};
-ghost use Rattle.bz_world.specs.Lab.{IsServed, begin_answer, after_begin};
+ghost use Rattle.bz_world.specs.Lab.{begin_answer, after_begin};
 
 use crate::answers::{Begun, Which};
 use crate::calls::key_of;
@@ -50,7 +50,6 @@ fn refusal(parts: &Parts, w: u8, call: &Call) -> Option<Begun>
 // Begins a call that is not refused, with the lookup of its key.
 fn open_call(parts: &mut Parts, w: u8, call: Call) -> u32
     requires kept { IsKept parts.old }
-    requires served { IsServed call }
     requires may { MayBegin parts.old w call }
     ensures { HasBegun parts.old w call result parts.new }
 {
@@ -66,6 +65,7 @@ fn open_call(parts: &mut Parts, w: u8, call: Call) -> u32
         call,
         task,
         path: None,
+        had: None,
         effect: None,
     });
     parts.journal.push(Mark::Begin { w, n, call });
@@ -75,8 +75,7 @@ fn open_call(parts: &mut Parts, w: u8, call: Call) -> u32
 
 /// Begins a call of a worker.
 pub(crate) fn begin(parts: &mut Parts, w: u8, call: Call) -> Begun
-    requires kept { IsKept parts.old }
-    requires served { IsServed call }
+    requires { IsKept parts.old }
     ensures kept { IsKept parts.new }
     ensures answer { result ≡ begin_answer (lab_of parts.old) w call }
     ensures after { lab_of parts.new ≡ after_begin (lab_of parts.old) w call result }

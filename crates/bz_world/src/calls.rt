@@ -2,11 +2,11 @@
 ghost use Rattle.std.specs.Prelude.{◌≡◌, ◌↔◌, IsTrue, IsSome, Some};
 ghost use Rattle.bz_call.specs.Map.{key_of as key_in};
 ghost use Rattle.bz_sound.specs.Memory.Replies.{IsWrite};
-ghost use Rattle.bz_world.specs.Going.{call_in, path_in as way_in, effect_in as moment_in, with_task};
+ghost use Rattle.bz_world.specs.Going.{call_in, path_in as way_in, had_in as payload_in, effect_in as moment_in, with_task, with_change};
 
 use crate::serving::Serving;
 use bz_call::Call;
-use bz_key::Key;
+use bz_key::{Key, Payload};
 use bz_running::Running;
 use bz_task::Path;
 
@@ -55,6 +55,16 @@ pub(crate) fn path_in(slot: &Option<Serving>) -> Option<Path>
     }
 }
 
+/// What its key had when its change was begun.
+pub(crate) fn had_in(slot: &Option<Serving>) -> Option<Payload>
+    ensures { result ≡ payload_in slot.now }
+{
+    match slot {
+        Some(serving) => serving.had,
+        None => None,
+    }
+}
+
 /// The moment before its effect, if it has had one.
 pub(crate) fn effect_in(slot: &Option<Serving>) -> Option<u32>
     ensures { result ≡ moment_in slot.now }
@@ -65,12 +75,22 @@ pub(crate) fn effect_in(slot: &Option<Serving>) -> Option<u32>
     }
 }
 
-/// Gives it another task.
+/// Gives it a lookup.
 pub(crate) fn set_task(slot: &mut Option<Serving>, task: Running, path: Option<Path>)
     ensures { slot.new ≡ with_task slot.old task path }
 {
     if let Some(serving) = slot {
         serving.task = task;
         serving.path = path;
+    }
+}
+
+/// Gives it the task that makes its change, where its key had this payload, or none.
+pub(crate) fn set_change(slot: &mut Option<Serving>, task: Running, had: Option<Payload>)
+    ensures { slot.new ≡ with_change slot.old task had }
+{
+    if let Some(serving) = slot {
+        serving.task = task;
+        serving.had = had;
     }
 }

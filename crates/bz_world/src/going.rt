@@ -1,15 +1,18 @@
 //! How a call goes on when its task has ended, or asks for something.
-ghost use Rattle.std.specs.Prelude.{◌≡◌, ◌≢◌, ◌<◌, length};
+ghost use Rattle.std.specs.Prelude.{◌≡◌, ◌<◌, false, length};
+ghost use Rattle.bz_call.specs.Pages.{names_page};
 ghost use Rattle.bz_world.specs.Going.{MustGoOn, HadEffect, LacksSwap, IsShort, WentOn};
+ghost use Rattle.bz_world.specs.Serving.{effect_reply as reply_in};
 ghost use Rattle.bz_world.specs.Telling.{MustStart};
 
 use crate::answers::Applied;
-use crate::calls::{called, effect_in, is_write, key_of, set_task};
+use crate::calls::{called, effect_in, had_in, is_write, key_of, set_task};
 use crate::end::end;
 use crate::laws::start_laws;
 use crate::parts::Parts;
 use crate::start::start;
 use bz_call::{Call, Reply, Spent};
+use bz_key::Payload;
 use bz_layout::ROOT_STATUS_AT;
 use bz_running::Running;
 use bz_task::Todo;
@@ -28,18 +31,28 @@ pub(crate) fn look_up(parts: &mut Parts, w: u8) -> Applied
     Applied::Stepped
 }
 
+// The reply to a call that made its change, where its key had this payload, or none.
+fn effect_reply(call: &Call, had: Option<Payload>) -> Reply
+    ensures reply { result ≡ reply_in call.now had }
+    ensures plain { names_page result ≡ false }
+{
+    match (call, had) {
+        (Call::Delete(_), Some(had)) => Reply::Deleted(had),
+        (Call::Update(_, _) | Call::Upsert(_, _), Some(had)) => Reply::Updated(had),
+        _ => Reply::Inserted,
+    }
+}
+
 /// Ends a call that had its effect, by the reply that tells it.
 pub(crate) fn end_effective(parts: &mut Parts, w: u8, at: u32) -> Applied
     requires had { HadEffect parts.old w at }
     requires room { length parts.old.journal.past < parts.old.config.marks }
     ensures { WentOn parts.old w result parts.new }
 {
-    bz_sound::memory_laws::insert_effects_insert();
     bz_sound::memory_laws::effects_answer();
-    match called(&parts.workers[w as usize]) {
-        Call::Insert(_, _) => end(parts, w, Reply::Inserted, at),
-        _ => look_up(parts, w),
-    }
+    let call = called(&parts.workers[w as usize]);
+    let had = had_in(&parts.workers[w as usize]);
+    end(parts, w, effect_reply(&call, had), at)
 }
 
 /// Ends a call without effect for want of what was spent.

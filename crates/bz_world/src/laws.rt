@@ -26,6 +26,7 @@ pub(crate) fn step_laws()
     sound::same_content_decodes();
     swap::taken_statuses_stay();
     swap::begun_stay_taken();
+    sound::effects_stay_open();
 }
 
 /// And those of an effect.
@@ -44,6 +45,7 @@ pub(crate) fn strike_laws()
     sound::effects_follow_acts();
     sound::open_calls_are_kept();
     sound::open_calls_are_last();
+    sound::effects_stay_open();
 }
 
 /// And those of a start.
@@ -70,6 +72,7 @@ pub(crate) fn end_laws()
     sound::ends_follow();
     sound::page_ends_follow();
     sound::begins_follow();
+    sound::effects_stay_open();
 }
 
 /// And those of an answer.

@@ -5,6 +5,7 @@ mod act;
 mod answers;
 mod begin;
 mod calls;
+mod changes;
 mod end;
 mod going;
 mod laws;

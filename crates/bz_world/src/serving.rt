@@ -1,5 +1,6 @@
 //! Open calls.
 use bz_call::Call;
+use bz_key::Payload;
 use bz_running::Running;
 use bz_task::Path;
 
@@ -11,6 +12,8 @@ pub(crate) struct Serving {
     pub task: Running,
     /// The way to the leaf of its key, once it was found.
     pub path: Option<Path>,
+    /// What its key had when its change was begun.
+    pub had: Option<Payload>,
     /// The moment before its effect, if it has had one.
     pub effect: Option<u32>,
 }

@@ -33,5 +33,10 @@ pub(crate) fn tell(parts: &mut Parts, w: u8, seen: Seen) -> Todo
 {
     story::scenes_are_seen();
     let moment = parts.journal.length();
-    hear_task(&mut parts.workers[w as usize], seen, &mut parts.slots, moment)
+    hear_task(
+        &mut parts.workers[w as usize],
+        seen,
+        &mut parts.slots,
+        moment,
+    )
 }

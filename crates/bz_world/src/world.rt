@@ -36,7 +36,7 @@ impl Model for World {
 }
 
 impl World {
-    ghost use Rattle.bz_world.specs.Lab.{Lab, IsServed, IsWorker, new_lab, IsOpenFault, begin_answer, after_begin, flush_of, IsApplied};
+    ghost use Rattle.bz_world.specs.Lab.{Lab, IsWorker, new_lab, IsOpenFault, begin_answer, after_begin, flush_of, IsApplied};
 
     /// A world over fresh memory, in which nothing has happened.
     pub fn open(alloc: Global, config: &Config) -> Result<World, OpenError>
@@ -50,7 +50,6 @@ impl World {
 
     /// Begins a call of a worker. A call without an act is no step: its first act comes with the worker's next step.
     pub fn begin(&mut self, w: u8, call: Call) -> Begun
-        requires { IsServed call }
         ensures answer { result ≡ begin_answer self.old w call }
         ensures after { self.new ≡ after_begin self.old w call result }
     {

@@ -1,6 +1,5 @@
-use Rattle.std.proofs.Common.{◌≡◌, refl, sym, ap, ◌∙◌, ◌+◌, ◌<◌, ◌^◌, ℕ, subst, arith, rules, Some, None}
+use Rattle.std.proofs.Common.{sym, ap, ◌+◌, ◌<◌, ◌^◌, subst, rules, Some, None}
 use Rattle.std.specs.Vec.{with_item}
-use Rattle.bz_call.specs.Map.{key_of}
 use Rattle.bz_mark.specs.Log.{Log}
 use Rattle.bz_running.specs.Hearing.{IsLookup}
 use Rattle.bz_world.specs.Beginning.{HasBegun, pages_asked}
@@ -15,7 +14,7 @@ returns c =
     subst (λ m. HasBegun c.args.parts.now c.args.w c.args.call (c.index.result.now + 1) (record c.args.parts.now {
       access = c.start_read.new.self;
       journal = c.push.new.self;
-      workers = with_item c.args.parts.now.workers c.args.w (Some record { call = c.args.call; task = c.descend-task.result; path = None; effect = None });
+      workers = with_item c.args.parts.now.workers c.args.w (Some record { call = c.args.call; task = c.descend-task.result; path = None; had = None; effect = None });
       numbers = with_item c.args.parts.now.numbers c.args.w (c.index.result.now + 1);
       begun = c.args.parts.now.begun + 1;
       pages_begun = c.args.parts.now.pages_begun + m;
@@ -23,12 +22,12 @@ returns c =
     (subst (λ (j : Log). HasBegun c.args.parts.now c.args.w c.args.call (c.index.result.now + 1) (record c.args.parts.now {
       access = c.start_read.new.self;
       journal = j;
-      workers = with_item c.args.parts.now.workers c.args.w (Some record { call = c.args.call; task = c.descend-task.result; path = None; effect = None });
+      workers = with_item c.args.parts.now.workers c.args.w (Some record { call = c.args.call; task = c.descend-task.result; path = None; had = None; effect = None });
       numbers = with_item c.args.parts.now.numbers c.args.w (c.index.result.now + 1);
       begun = c.args.parts.now.begun + 1;
       pages_begun = c.args.parts.now.pages_begun + pages_asked c.args.call;
     })) (sym c.push.ensures)
-    (has-begun c.args.parts.now c.requires.kept c.args.w c.args.call c.requires.may c.end_laws.ensures c.start_laws.ensures c.requires.served (c.index.result.now + 1)
-      (ap (λ m. m + 1) (number-is c.args.parts.now c.requires.kept c.args.w c.args.call c.requires.may c.index.result.now c.index.ensures))
-      c.descend-task.result c.descend-task.ensures.config c.laws.ensures c.descend-task.ensures.needs c.descend-task.ensures.lookup (subst (λ k. IsLookup k c.descend-task.result) c.key_of.ensures c.descend-task.ensures.ends)
-      c.descend-task.ensures.asks c.descend-task.ensures.facts c.start_read.new.self c.start_read.ensures.started c.start_read.ensures.held))
+    (has-begun c.args.parts.now c.requires.kept c.args.w c.args.call c.requires.may c.end_laws.ensures c.start_laws.ensures (c.index.result.now + 1)
+    (ap (λ m. m + 1) (number-is c.args.parts.now c.requires.kept c.args.w c.args.call c.requires.may c.index.result.now c.index.ensures))
+    c.descend-task.result c.descend-task.ensures.config c.laws.ensures c.descend-task.ensures.needs c.descend-task.ensures.lookup (subst (λ k. IsLookup k c.descend-task.result) c.key_of.ensures c.descend-task.ensures.ends)
+    c.descend-task.ensures.asks c.descend-task.ensures.facts c.start_read.new.self c.start_read.ensures.started c.start_read.ensures.held))

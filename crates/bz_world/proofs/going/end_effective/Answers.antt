@@ -1,18 +1,24 @@
-use Rattle.std.proofs.Common.{◌≡◌, refl, sym, ap, ◌∙◌, Some, None}
-use Rattle.bz_call.specs.declared.calls.Call.TheVariants.{Insert}
-use Rattle.bz_call.specs.declared.replies.Reply.TheVariants.{Inserted}
-use Rattle.bz_world.proofs.TakingOn.{call-is}
+use Rattle.std.proofs.Common.{◌≡◌, sym, ap, subst, ◌∙◌, Some}
+use Rattle.bz_world.specs.Going.{MustEnd, had_in}
+use Rattle.bz_world.specs.Serving.{effect_reply}
+use Rattle.bz_world.proofs.TakingOn.{call-is, slot-is}
 use Rattle.bz_world.proofs.going.end_effective.Goals as goal
 
 pub end-requires-clause-right : goal.end-requires-clause-right
-end-requires-clause-right c = record {
+end-requires-clause-right c = subst (λ r. MustEnd c.args.parts.now c.args.w r c.args.at) (sym reply) (record {
   on = c.requires.had.on;
-  right = c.effects_answer.ensures c.args.parts.now.config c.args.parts.now.journal c.args.w c.args.at c.requires.had.on.between.opened Inserted c.requires.had.on.between.call_open.is_open effect
-      (c.insert_effects_insert.ensures c.args.parts.now.config c.args.parts.now.journal c.args.w c.args.at c.requires.had.on.between.opened c.in-Insert.field-0 c.in-Insert.field-1 c.requires.had.on.between.sound c.requires.had.on.between.call_open.is_open effect call);
-}
+  right = c.effects_answer.ensures c.args.parts.now.config c.args.parts.now.journal c.args.w c.args.at c.requires.had.on.between.opened (effect_reply c.requires.had.on.between.opened.call c.requires.had.on.serving.had)
+      c.requires.had.on.between.call_open.is_open effect (c.requires.had.on.between.call_open.told c.args.at effect);
+})
   where
     effect : c.requires.had.on.between.opened.effect ≡ Some c.args.at
     effect = c.requires.had.on.between.call_open.effect ∙ c.requires.had.effect
 
-    call : c.requires.had.on.between.opened.call ≡ Insert c.in-Insert.field-0 c.in-Insert.field-1
-    call = c.requires.had.on.between.call_open.call ∙ call-is c.args.parts.now c.args.w c.requires.had.on c.index.result.now (Insert c.in-Insert.field-0 c.in-Insert.field-1) c.index.ensures c.in-Insert.ensures
+    call : c.called-call.result ≡ c.requires.had.on.between.opened.call
+    call = sym (c.requires.had.on.between.call_open.call ∙ call-is c.args.parts.now c.args.w c.requires.had.on c.index.result.now c.called-call.result c.index.ensures c.called-call.ensures)
+
+    had : c.had_in-had.result ≡ c.requires.had.on.serving.had
+    had = c.had_in-had.ensures ∙ ap had_in (slot-is c.args.parts.now c.args.w c.requires.had.on c.index-2.result.now c.index-2.ensures)
+
+    reply : c.effect_reply.result ≡ effect_reply c.requires.had.on.between.opened.call c.requires.had.on.serving.had
+    reply = c.effect_reply.ensures.reply ∙ (ap (λ k. effect_reply k c.had_in-had.result) call ∙ ap (effect_reply c.requires.had.on.between.opened.call) had)

@@ -1,4 +1,4 @@
-use Rattle.std.proofs.Common.{◌≡◌, refl, sym, ap, subst, ◌∙◌, Some, None, length}
+use Rattle.std.proofs.Common.{refl, sym, subst, ◌∙◌}
 use Rattle.bz_call.specs.declared.replies.Reply.TheVariants.{Full}
 use Rattle.bz_sound.specs.Memory.Replies.{IsWrite}
 use Rattle.bz_world.specs.Going.{MustEnd}

@@ -1,4 +1,4 @@
-use Rattle.std.proofs.Common.{◌≡◌, refl, sym, ap, ◌∙◌, Some, None, slice_index}
+use Rattle.std.proofs.Common.{sym, ap, ◌∙◌, slice_index}
 use Rattle.bz_world.specs.Going.{effect_in}
 use Rattle.bz_world.proofs.Spending.{are-held}
 use Rattle.bz_world.proofs.TakingOn.{slot-is}

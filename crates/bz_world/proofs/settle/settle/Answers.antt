@@ -1,4 +1,4 @@
-use Rattle.std.proofs.Common.{◌≡◌, refl, sym, ap, subst, ◌∙◌, Some, None}
+use Rattle.std.proofs.Common.{sym, ap, subst, ◌∙◌}
 use Rattle.bz_running.specs.Duties.{means_of}
 use Rattle.bz_task.specs.Scene.{Scene}
 use Rattle.bz_world.specs.Going.{MustGoOn, effect_in, known}

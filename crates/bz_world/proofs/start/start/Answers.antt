@@ -1,5 +1,4 @@
-use Rattle.std.proofs.Common.{◌≡◌, ℕ, true, false, length, refl, sym, ap, subst, ◌∙◌, arith, inl, inr, Option, Some, None}
-use Rattle.bz_task.specs.declared.todo.Todo.TheVariants as todo
+use Rattle.std.proofs.Common.{subst, inl, inr}
 use Rattle.bz_world.specs.Telling.{MustStart}
 use Rattle.bz_world.proofs.Started.{may-read, may-store, may-flush, asks-no-load, read-kept, store-kept, flush-kept}
 use Rattle.bz_world.proofs.start.start.Goals as goal

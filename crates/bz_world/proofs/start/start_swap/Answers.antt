@@ -1,4 +1,4 @@
-use Rattle.std.proofs.Common.{◌≡◌, ℕ, true, false, length, refl, sym, ap, subst, ◌∙◌, arith, Option, Some, None}
+use Rattle.std.proofs.Common.{sym, subst}
 use Rattle.std.specs.Vec.{with_item}
 use Rattle.bz_world.specs.Kept.{IsKept}
 use Rattle.bz_world.proofs.Started.{may-swap, swap-kept}

@@ -1,4 +1,4 @@
-use Rattle.std.proofs.Common.{◌≡◌, ◌<◌, ◌+◌, length, arith}
+use Rattle.std.proofs.Common.{arith}
 use Rattle.bz_world.proofs.Evicting.{evict-strikes, evict-kept}
 use Rattle.bz_world.proofs.step.evict_word.Goals as goal
 

@@ -1,4 +1,4 @@
-use Rattle.std.proofs.Common.{◌≡◌, ◌<◌, length, ℕ, refl, sym, ap, subst, ◌∙◌, arith, slice_index, true, false, Option, Some, None}
+use Rattle.std.proofs.Common.{◌≡◌, length, ℕ, refl, sym, ap, subst, ◌∙◌, arith, slice_index, Some, None}
 use Rattle.std.specs.Vec.{with_item, vec_len}
 use Rattle.std.proofs.lemmas.List.{get_or_read_under}
 use Rattle.bz_mark.specs.Log.{Log}
@@ -6,7 +6,6 @@ use Rattle.bz_world.specs.Acted.{IsStriking}
 use Rattle.bz_world.specs.Kept.{IsKept}
 use Rattle.bz_world.specs.declared.parts.Parts.{Parts}
 use Rattle.bz_world.specs.Serving.{noted, is_publishing}
-use Rattle.bz_world.specs.declared.serving.Serving.{Serving}
 use Rattle.bz_world.specs.Laws.{StrikeLaws}
 use Rattle.bz_world.proofs.Striking.{x}
 use Rattle.bz_world.proofs.Struck.{in-owners, in-table, slot-was, struck-silent, struck-aloud}
@@ -57,7 +56,7 @@ index-n-requires c = omega (arith, in-table b p c.args.swap h v named, h.tabled.
 pub returns-then-note_effect-clause-kept : goal.returns-then-note_effect-clause-kept
 returns-then-note_effect-clause-kept c = subst (λ (j : Log). IsKept (record p { journal = j; workers = with_item p.workers v c.note_effect.new.slot })) (sym c.push.ensures)
     (struck-aloud b p c.args.swap h v named c.note_effect.new.slot c.index-n.result.now slot-is (sym publishes ∙ c.if-note_effect.true)
-      (get_or_read_under p.numbers.items v (length p.numbers.items) c.index-n.result.now 0 c.index-n.ensures (omega (arith, in-table b p c.args.swap h v named, h.tabled.number_places)) refl) c.requires.room)
+    (get_or_read_under p.numbers.items v (length p.numbers.items) c.index-n.result.now 0 c.index-n.ensures (omega (arith, in-table b p c.args.swap h v named, h.tabled.number_places)) refl) c.requires.room)
   where
     b : StrikeLaws
     b = c.strike_laws.ensures

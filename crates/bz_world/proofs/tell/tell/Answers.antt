@@ -1,7 +1,6 @@
-use Rattle.std.proofs.Common.{◌≡◌, ◌<◌, ℕ, length, refl, sym, ap, subst, ◌∙◌, arith, Option, Some, None, get_or, slice_set}
+use Rattle.std.proofs.Common.{◌≡◌, ◌<◌, length, refl, sym, subst, ◌∙◌, arith, Some, None, get_or, slice_set}
 use Rattle.std.proofs.lemmas.List.{get_or_read_under, get_or-set_same}
-use Rattle.bz_world.specs.Telling.{CanHear, HasToldIn, MustStart}
-use Rattle.bz_world.specs.declared.serving.Serving.{Serving}
+use Rattle.bz_world.specs.Telling.{CanHear, HasToldIn}
 use Rattle.bz_world.proofs.Telling.{can-hear, must-start}
 use Rattle.bz_world.proofs.tell.tell.Goals as goal
 
