@@ -1,6 +1,8 @@
 pub mod QueueLemmas
-pub mod AddedLemmas
+pub mod ReadyLemmas
 pub mod BeginLemmas
-pub mod CallLemmas
-pub mod WorkerLemmas
+pub mod StepLemmas
+pub mod WordLemmas
 pub mod AloneLemmas
+pub mod BusyLemmas
+pub mod DrawLemmas

@@ -1,6 +1,12 @@
 pub mod Queued
 pub mod QueueKept
 pub mod QueueLaws
-pub mod Added
+pub mod Points
+pub mod Turns
+pub mod TurnsInPart
+pub mod Plans
 pub mod Runs
-pub mod Follows
+pub mod ReadyLaws
+pub mod TurnLaws
+pub mod IdleLaws
+pub mod TurnExample

@@ -1,44 +1,41 @@
--- The calls that wait for their workers.
-use Rattle.std.specs.Prelude.{◌≡◌, ◌≢◌, ℕ, ◌+◌, ◌-◌, ◌==◌, slice_get, List, [], ◌∷◌, length, drop, filter, slice_index, Option, Some, None}
+-- The calls that wait for their workers, and who has a call under way.
+use Rattle.std.specs.Prelude.{◌≡◌, ℕ, ◌==◌, if◌then◌else◌, filter, get_or, Bool, true, false, List, [], ◌∷◌, Option, Some, None}
 use Rattle.bz_call.specs.declared.calls.Call.{Call}
-use Rattle.bz_world.specs.Lab.{IsServed}
 
--- the calls in the order in which they came, each with its worker; how many of them are behind each worker;
--- and how many there may be
+-- the calls that wait, each with its worker, in the order in which they came; how many more may come; and of
+-- each worker, from worker 0 on, whether a call of it has begun and has not ended
 pub record Queued : Type 0 where
   pub calls : List (ℕ × Call)
-  pub next : List ℕ
-  pub most : ℕ
+  pub room : ℕ
+  pub begun : List Bool
 
 -- a worker's calls among others
 abbrev pub calls_of : ℕ → List (ℕ × Call) → List (ℕ × Call)
 calls_of w calls = filter (λ call. call.0 == w) calls
 
--- the calls that wait for a worker, the first one first
-abbrev pub waiting : Queued → ℕ → List (ℕ × Call)
-waiting queued w = calls_of w (drop (slice_index queued.next w) queued.calls)
+-- the calls that wait once the first one of a worker was taken out
+abbrev pub without_first : ℕ → List (ℕ × Call) → List (ℕ × Call)
+without_first w [] = []
+without_first w (call ∷ calls) = if call.0 == w then calls else call ∷ without_first w calls
 
-abbrev pub room : Queued → ℕ
-room queued = queued.most - length queued.calls
+-- a call of the worker has begun and has not ended
+abbrev pub has_open : Queued → ℕ → Bool
+has_open queued w = get_or queued.begun w false
 
--- the first call of a worker is taken out, where one waits
-pub record TakesFirst (old : Queued) (w : ℕ) (call : Call) (new : Queued) : Type 0 where
-  pub first : waiting old w ≡ (w, call) ∷ waiting new w
-  pub others : (v : ℕ) → v ≢ w → waiting new v ≡ waiting old v
-  pub calls : new.calls ≡ old.calls
-  pub most : new.most ≡ old.most
+-- of this worker that has changed, and of no other
+abbrev pub Marks : Queued → ℕ → Bool → Queued → Type 0
+Marks old w now new = (v : ℕ) → has_open new v ≡ (if w == v then now else has_open old v)
 
-abbrev pub IsTaken : Queued → ℕ → Option Call → Queued → Type 0
-IsTaken old w None new = (waiting old w ≡ []) × (new ≡ old)
-IsTaken old w (Some call) new = TakesFirst old w call new
+-- a worker has something to do: a call of it is open, or one of these calls waits for it
+abbrev pub is_busy_by : Bool → List (ℕ × Call) → Bool
+is_busy_by true calls = true
+is_busy_by false [] = false
+is_busy_by false (call ∷ calls) = true
 
--- each call is one that this stage serves
-abbrev pub AreServed : List (ℕ × Call) → Type 0
-AreServed [] = Unit {0}
-AreServed (call ∷ calls) = IsServed call.1 × AreServed calls
+abbrev pub has_work : Queued → ℕ → Bool
+has_work queued w = is_busy_by (has_open queued w) (calls_of w queued.calls)
 
--- the place of the first call of a worker from a place on
-abbrev pub IsFound : List (ℕ × Call) → ℕ → ℕ → Option ℕ → Type 0
-IsFound calls from w None = calls_of w (drop from calls) ≡ []
-IsFound calls from w (Some at) =
-    (call : Call) × (slice_get calls at ≡ Some (w, call)) × (calls_of w (drop from calls) ≡ (w, call) ∷ calls_of w (drop (at + 1) calls))
+-- the first of a worker's calls, if there is one
+abbrev pub IsFirst : ℕ → List (ℕ × Call) → Option Call → Type 0
+IsFirst w calls None = calls ≡ []
+IsFirst w calls (Some first) = (rest : List (ℕ × Call)) × (calls ≡ (w, first) ∷ rest)

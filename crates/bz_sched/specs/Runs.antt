@@ -1,82 +1,65 @@
--- What runs do to a world and to the queue.
-use Rattle.std.specs.Prelude.{◌≡◌, ◌≢◌, ◌<◌, ℕ, List, [], ◌∷◌, ◌++◌, None}
+-- What a run asks of a world and a queue, and what it does to them.
+use Rattle.std.specs.Prelude.{◌≡◌, ◌<◌, ◌≤◌, ℕ, ◌-◌, is_some, true, List, [], ◌∷◌, length}
 use Rattle.bz_call.specs.declared.calls.Call.{Call}
-use Rattle.bz_mark.specs.declared.marks.Mark.{Mark}
-use Rattle.bz_sound.specs.Calls.{open_call}
-use Rattle.bz_sound.specs.Replies.{Pages}
-use Rattle.bz_world.specs.Lab.{Lab, IsWorker}
+use Rattle.bz_layout.specs.Addresses.{words_of}
 use Rattle.bz_layout.specs.Config.{IsConfig}
+use Rattle.bz_layout.specs.declared.config.Config.{Config}
+use Rattle.bz_mark.specs.Log.{count_begins, count_page_calls}
+use Rattle.bz_script.specs.declared.item.Plan.{Plan}
+use Rattle.bz_sound.specs.Calls.{open_call}
+use Rattle.bz_world.specs.Lab.{Lab, IsWorker}
 use Rattle.bz_world.specs.declared.answers.Which.{Which}
-use Rattle.bz_sched.specs.Queued.{Queued, calls_of, waiting, room, AreServed}
-use Rattle.bz_sched.specs.Added.{calls_begun, AreUpTo, AreOf, Ascends, grown, IsMet}
+use Rattle.bz_world.specs.declared.answers.Which.TheVariants as which
+use Rattle.bz_sched.specs.Points.{Point}
+use Rattle.bz_sched.specs.Plans.{RunsBy, RunsByInPart}
+use Rattle.bz_sched.specs.Queued.{Queued, has_open}
 use Rattle.bz_sched.specs.declared.running.RunEnd.{RunEnd}
 use Rattle.bz_sched.specs.declared.running.RunEnd.TheVariants.{Finished, Limit}
 
--- the journal has grown by marks of one worker, among which these calls begin
-pub record Extends (old : Lab) (w : ℕ) (begun : List (ℕ × Call)) (new : Lab) : Type 0 where
-  pub added : List Mark
-  pub pages : Pages
-  pub is : new ≡ grown old added pages
-  pub own : AreOf w added
-  pub begins : calls_begun added ≡ begun
+-- where a world and a queue stand
+abbrev pub point_of : Lab → Queued → Point
+point_of world queued = record { past = world.log.past; queue = queued.calls }
 
--- a worker has made some of these calls, and then a limit was met
-pub record MeetsLimit (old : Lab) (w : ℕ) (calls : List (ℕ × Call)) (which : Which) (new : Lab) : Type 0 where
-  pub begun : List (ℕ × Call)
-  pub rest : List (ℕ × Call)
-  pub split : calls ≡ begun ++ rest
-  pub extends : Extends old w begun new
-  pub met : IsMet new rest which
+-- the world has the worker of each of these calls
+abbrev pub CanBegin : Config → List (ℕ × Call) → Type 0
+CanBegin config [] = Unit {0}
+CanBegin config (call ∷ calls) = IsWorker config call.0 × CanBegin config calls
 
--- a worker has made all of these calls
-pub record Makes (old : Lab) (w : ℕ) (calls : List (ℕ × Call)) (new : Lab) : Type 0 where
-  pub extends : Extends old w calls new
-  pub none_open : open_call w new.log.past ≡ None
-
-abbrev pub CallRan : Lab → ℕ → Call → RunEnd → Lab → Type 0
-CallRan old w call Finished new = Makes old w ((w, call) ∷ []) new
-CallRan old w call (Limit which) new = MeetsLimit old w ((w, call) ∷ []) which new
-
--- no call waits for this worker any more; the others' calls wait as before
-pub record Emptied (old : Queued) (w : ℕ) (new : Queued) : Type 0 where
-  pub none : waiting new w ≡ []
-  pub others : (v : ℕ) → v ≢ w → waiting new v ≡ waiting old v
-  pub calls : new.calls ≡ old.calls
-  pub most : new.most ≡ old.most
-
-abbrev pub WorkerRan : Lab → Queued → ℕ → RunEnd → Lab → Queued → Type 0
-WorkerRan old queued w Finished new left = Makes old w (waiting queued w) new × Emptied queued w left
-WorkerRan old queued w (Limit which) new left = MeetsLimit old w (waiting queued w) which new
-
--- a run may begin: no call is open, and the calls that wait are served here and have workers of this world
+-- a run may begin: the world has the workers of the calls that wait, and the queue knows which calls are open. Some may
+-- be, from an earlier run by a list.
 pub record IsReady (world : Lab) (queued : Queued) : Type 0 where
   pub config : IsConfig world.config
-  pub none_open : (w : ℕ) → open_call w world.log.past ≡ None
-  pub served : AreServed queued.calls
-  pub workers : (w : ℕ) → w < 65 → (IsWorker world.config w → ⊥) → waiting queued w ≡ []
+  pub calls : CanBegin world.config queued.calls
+  pub begun : (w : ℕ) → has_open queued w ≡ is_some (open_call w world.log.past)
+  pub openers : (w : ℕ) → has_open queued w ≡ true → IsWorker world.config w
 
--- a run of each worker's calls to their end, worker by worker: all that waited has begun, each worker's calls
--- in their order; the workers come in ascending order; and no call is open at the end
-pub record RunsAlone (old : Lab) (queued : Queued) (new : Lab) : Type 0 where
-  pub added : List Mark
-  pub pages : Pages
-  pub is : new ≡ grown old added pages
-  pub up_to : AreUpTo 64 added
-  pub ascends : Ascends added
-  pub begins : (w : ℕ) → w < 65 → calls_of w (calls_begun added) ≡ waiting queued w
-  pub none_open : (w : ℕ) → open_call w new.log.past ≡ None
+-- how many places are left for marks
+abbrev pub marks_left : Lab → ℕ
+marks_left lab = lab.log.limits.marks - length lab.log.past
 
--- the same run until a limit was met: of each worker's calls the first ones have begun
-pub record RunsInPart (old : Lab) (queued : Queued) (which : Which) (new : Lab) : Type 0 where
-  pub added : List Mark
-  pub pages : Pages
-  pub is : new ≡ grown old added pages
-  pub up_to : AreUpTo 64 added
-  pub ascends : Ascends added
-  pub begins : (w : ℕ) → w < 65 → (rest : List (ℕ × Call)) × (waiting queued w ≡ calls_of w (calls_begun added) ++ rest)
-  pub met : (w : ℕ) × (w < 65) × ((rest : List (ℕ × Call)) × (waiting queued w ≡ calls_of w (calls_begun added) ++ rest) × IsMet new rest which)
+-- the limit is met: fewer than three places are left for marks, or as many calls, or page calls, have begun as may
+abbrev pub IsAtLimit : Lab → Which → Type 0
+IsAtLimit lab which.Marks = marks_left lab < 3
+IsAtLimit lab which.Calls = lab.log.limits.calls ≤ count_begins lab.log.past
+IsAtLimit lab which.Pages = lab.log.limits.pages ≤ count_page_calls lab.log.past
 
--- how a run ends: with nothing left in the queue, or at a limit
-abbrev pub HasRun : Lab → Queued → RunEnd → Lab → Queued → Type 0
-HasRun old queued Finished new left = RunsAlone old queued new × (left.calls ≡ []) × ((w : ℕ) → w < 65 → waiting left w ≡ []) × (room left ≡ queued.most) × (left.most ≡ queued.most)
-HasRun old queued (Limit which) new left = RunsInPart old queued which new
+-- what a run leaves as it was, however it ends: a next one may begin, the world is the same one, and the queue has
+-- as much room for further calls as before
+pub record Keeps (old : Lab) (queued : Queued) (new : Lab) (left : Queued) : Type 0 where
+  pub ready : IsReady new left
+  pub config : new.config ≡ old.config
+  pub start : new.log.start ≡ old.log.start
+  pub limits : new.log.limits ≡ old.log.limits
+  pub room : left.room ≡ queued.room
+
+-- how a part of a run ends: it is whole by the one relation of points, or by the other one up to a limit that was met when one
+-- more was needed
+abbrev pub EndsBy : (Point → Point → Type 0) → (Which → Point → Point → Type 0) → Lab → Queued → RunEnd → Lab → Queued → Type 0
+EndsBy Whole InPart old queued Finished new left = Keeps old queued new left × Whole (point_of old queued) (point_of new left)
+EndsBy Whole InPart old queued (Limit why) new left =
+    Keeps old queued new left × InPart why (point_of old queued) (point_of new left) × IsAtLimit new why
+
+-- how a run by a plan ends
+abbrev pub HasRun : Plan → Lab → Queued → RunEnd → Lab → Queued → Type 0
+HasRun plan old queued end new left =
+    EndsBy (RunsBy (words_of old.config) plan) (λ why. RunsByInPart why (words_of old.config) plan) old queued end new left

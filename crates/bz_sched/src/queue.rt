@@ -1,46 +1,57 @@
 //! Calls that wait.
-ghost use Rattle.std.specs.Prelude.{◌≡◌, ◌<◌, ◌≤◌, ◌+◌, ◌++◌, ◌∷◌, [], ℕ, replicate, IfOk, IfSome, MatchOption, length, drop, filter, ◌==◌, take, slice_index};
-ghost use Rattle.bz_sched.specs.Queued.{calls_of, waiting, room, IsTaken, IsFound, AreServed};
-ghost use Rattle.bz_world.specs.Lab.{IsServed};
+ghost use Rattle.std.specs.Prelude.{◌≡◌, ◌≢◌, ◌<◌, ◌≤◌, ◌+◌, ◌++◌, ◌∷◌, [], ℕ, IfOk, length, true, false};
+ghost use Rattle.bz_sched.specs.Queued.{calls_of, without_first, has_open, has_work, Marks, IsFirst};
+ghost use Rattle.bz_sched.specs.QueueKept.{IsFound};
 
 use bz_call::Call;
 use bz_memory::Memory;
 use std::alloc::Global;
 use std::marker::Model;
 
-/// The calls that wait for their workers, 1 to 64, in the order in which they came. It takes no memory
-/// after its opening.
+/// The calls that wait for their workers, 1 to 64, in the order in which they came, and who has a call under way.
+/// It takes no memory after its opening.
 #[derive(Drop)]
 pub struct Queue {
     calls: Vec<(u8, Call)>,
+
+    // of each worker the place from which its next call is looked for
     next: [usize; 65],
+
+    // of each worker how many calls wait
+    waiting: [usize; 65],
+
+    // of each worker whether a call of it has begun and has not ended
+    begun: [bool; 65],
     most: usize,
 }
 
 impl Model for Queue {
-    ghost use Rattle.std.specs.Prelude.{◌≤◌, ◌<◌, ℕ, length, slice_index, vec_capacity};
+    ghost use Rattle.std.specs.Prelude.{◌-◌, length, vec_capacity};
     ghost use Rattle.bz_sched.specs.Queued.{Queued};
-    ghost use Rattle.bz_sched.specs.QueueKept.{IsKept};
+    ghost use Rattle.bz_sched.specs.QueueKept.{waiting_from, IsKept};
 
     ghost Value = { Queued };
 
-    ghost view = { λ q. record { calls = q.calls.items; next = q.next; most = q.most } };
+    ghost view = { λ q. record { calls = waiting_from 0 q.next q.calls.items; room = q.most - length q.calls.items; begun = q.begun } };
 
-    ghost invariant = { λ q. IsKept q.calls.items q.next q.most (vec_capacity q.calls) };
+    ghost invariant = { λ q. IsKept q.calls.items q.next q.waiting q.most (vec_capacity q.calls) };
 }
 
 impl Queue {
     /// An empty queue with room for this many calls.
     pub fn open(alloc: Global, calls: usize) -> Result<Queue, Memory>
-        ensures empty { IfOk result (λ queue. (w : ℕ) → w < 65 → waiting queue w ≡ []) }
-        ensures none { IfOk result (λ queue. queue.calls ≡ []) }
-        ensures room { IfOk result (λ queue. room queue ≡ calls) }
-        ensures most { IfOk result (λ queue. queue.most ≡ calls) }
+        ensures empty { IfOk result (λ queue. queue.calls ≡ []) }
+        ensures room { IfOk result (λ queue. queue.room ≡ calls) }
+        ensures closed { IfOk result (λ queue. (w : ℕ) → has_open queue w ≡ false) }
     {
         let next = [0usize; 65];
+        let waiting = [0usize; 65];
+        let begun = [false; 65];
         Ok(Queue {
             calls: Vec::with_capacity(alloc, calls)?,
             next,
+            waiting,
+            begun,
             most: calls,
         })
     }
@@ -48,28 +59,40 @@ impl Queue {
     /// Puts a call of a worker at the end.
     pub fn push(&mut self, w: u8, call: Call)
         requires worker { w < 65 }
-        requires room { 0 < room self.old }
-        ensures waiting { (v : ℕ) → v < 65 → waiting self.new v ≡ waiting self.old v ++ calls_of v ((w, call) ∷ []) }
+        requires room { 0 < self.old.room }
         ensures calls { self.new.calls ≡ self.old.calls ++ (w, call) ∷ [] }
-        ensures room { room self.new + 1 ≡ room self.old }
-        ensures most { self.new.most ≡ self.old.most }
+        ensures room { self.new.room + 1 ≡ self.old.room }
+        ensures begun { self.new.begun ≡ self.old.begun }
     {
         match self.calls.extend_from_slice(&[(w, call)]) {
-            Ok(()) => {}
+            Ok(()) => self.waiting[w as usize] += 1,
             Err(_) => unreachable!(),
         }
     }
 
-    /// Takes out the first call that waits for a worker.
-    pub fn take(&mut self, w: u8) -> Option<Call>
-        requires worker { w < 65 }
-        requires served { AreServed self.old.calls }
-        ensures taken { IsTaken self.old w result self.new }
-        ensures served { IfSome result IsServed }
+    /// Whether a call of a worker has begun and has not ended.
+    pub(crate) fn has_open(&self, w: u8) -> bool
+        requires { w < 65 }
+        ensures { result ≡ has_open self.now w }
+    {
+        self.begun[w as usize]
+    }
+
+    /// Whether a worker has something to do.
+    pub(crate) fn has_work(&self, w: u8) -> bool
+        requires { w < 65 }
+        ensures { result ≡ has_work self.now w }
+    {
+        self.begun[w as usize] || self.waiting[w as usize] > 0
+    }
+
+    /// The first call that waits for a worker.
+    pub(crate) fn first(&self, w: u8) -> Option<Call>
+        requires { w < 65 }
+        ensures { IsFirst w (calls_of w self.now.calls) result }
     {
         match find_call(&self.calls, self.next[w as usize], w) {
             Some(at) => {
-                self.next[w as usize] = at + 1;
                 let (_, call) = self.calls[at];
                 Some(call)
             }
@@ -77,15 +100,32 @@ impl Queue {
         }
     }
 
-    /// Drops all calls.
-    pub fn clear(&mut self)
-        ensures empty { (w : ℕ) → w < 65 → waiting self.new w ≡ [] }
-        ensures none { self.new.calls ≡ [] }
-        ensures room { room self.new ≡ self.old.most }
-        ensures most { self.new.most ≡ self.old.most }
+    /// The first call that waits for a worker has begun.
+    pub(crate) fn begin(&mut self, w: u8)
+        requires worker { w < 65 }
+        requires some { calls_of w self.old.calls ≢ [] }
+        ensures calls { self.new.calls ≡ without_first w self.old.calls }
+        ensures room { self.new.room ≡ self.old.room }
+        ensures begun { Marks self.old w true self.new }
     {
-        self.calls.clear();
-        self.next = [0usize; 65];
+        match find_call(&self.calls, self.next[w as usize], w) {
+            Some(at) => {
+                self.next[w as usize] = at + 1;
+                self.waiting[w as usize] -= 1;
+                self.begun[w as usize] = true;
+            }
+            None => unreachable!(),
+        }
+    }
+
+    /// The open call of a worker has ended.
+    pub(crate) fn end(&mut self, w: u8)
+        requires { w < 65 }
+        ensures calls { self.new.calls ≡ self.old.calls }
+        ensures room { self.new.room ≡ self.old.room }
+        ensures begun { Marks self.old w false self.new }
+    {
+        self.begun[w as usize] = false;
     }
 }
 

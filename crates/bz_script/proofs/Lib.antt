@@ -2,3 +2,4 @@ pub mod FirstFaults
 pub mod Lines
 pub mod NumberLemmas
 pub mod Scripts
+pub mod TurnWords

@@ -2,8 +2,9 @@
 use Rattle.std.specs.Prelude.{ℕ, ◌==◌, nat_lt, if◌then◌else◌, List, length, codes, Option, Some, None, Result, Ok, Err}
 use Rattle.bz_key.specs.Spelling.{key_of_word, payload_of_word}
 use Rattle.bz_call.specs.declared.calls.Call.{Call}
-use Rattle.bz_call.specs.declared.calls.Call.TheVariants.{Insert, Get, Page}
-use Rattle.bz_script.specs.Number.{number_of, within}
+use Rattle.bz_call.specs.declared.calls.Call.TheVariants.{Insert, Delete, Update, Upsert, Get, Page}
+use Rattle.bz_script.specs.Number.{number_of, within, worker_of}
+use Rattle.bz_script.specs.RunForms.{run_of}
 use Rattle.bz_script.specs.Words.{word, is_word}
 use Rattle.bz_script.specs.declared.fault.ScriptRule.{ScriptRule}
 use Rattle.bz_script.specs.declared.fault.ScriptRule.TheVariants.{Unknown, Words, Number, Key, Payload, Worker}
@@ -11,8 +12,7 @@ use Rattle.bz_script.specs.declared.forms.Line.{Line}
 use Rattle.bz_script.specs.declared.forms.Line.TheVariants.{Memory, Entry}
 use Rattle.bz_script.specs.declared.forms.Sizes.{Sizes}
 use Rattle.bz_script.specs.declared.item.Item.{Item}
-use Rattle.bz_script.specs.declared.item.Item.TheVariants.{Queue, Run}
-use Rattle.bz_script.specs.declared.item.Plan.TheVariants.{Alone}
+use Rattle.bz_script.specs.declared.item.Item.TheVariants.{Queue}
 
 -- the numbers of a `memory` line, looked at from left to right
 abbrev pub sizes_by : Option ℕ → Option ℕ → Result Sizes ScriptRule
@@ -27,69 +27,49 @@ memory_of words =
     then sizes_by (within 1 16384 (number_of (word words 1))) (within 1 65536 (number_of (word words 2)))
     else Err Words
 
--- the worker that a word names
-abbrev pub worker_of : List ℕ → Option ℕ
-worker_of text = within 1 64 (number_of text)
+-- the call that a line asks for, once it was read
+abbrev pub queued : Result (ℕ × Call) ScriptRule → Result Item ScriptRule
+queued (Err rule) = Err rule
+queued (Ok called) = Ok (Queue called.0 called.1)
 
--- the worker, the key and the payload of an insert, looked at from left to right
-abbrev pub insert_by : Option ℕ → Option (List ℕ) → Option (List ℕ) → Result Item ScriptRule
-insert_by None key payload = Err Worker
-insert_by (Some w) None payload = Err Key
-insert_by (Some w) (Some key) None = Err Payload
-insert_by (Some w) (Some key) (Some payload) = Ok (Queue w (Insert key payload))
+-- the worker, the key and the payload of a call that puts one, looked at from left to right
+abbrev pub put_by : (List ℕ → List ℕ → Call) → Option ℕ → Option (List ℕ) → Option (List ℕ) → Result (ℕ × Call) ScriptRule
+put_by call None key payload = Err Worker
+put_by call (Some w) None payload = Err Key
+put_by call (Some w) (Some key) None = Err Payload
+put_by call (Some w) (Some key) (Some payload) = Ok (w, call key payload)
 
--- `w N insert K V`
-abbrev pub insert_of : List (List ℕ) → Result Item ScriptRule
-insert_of words =
+-- `w N insert K V`, and likewise `update` and `upsert`
+abbrev pub put_of : (List ℕ → List ℕ → Call) → List (List ℕ) → Result Item ScriptRule
+put_of call words =
     if length words == 5
-    then insert_by (worker_of (word words 1)) (key_of_word (word words 3)) (payload_of_word (word words 4))
+    then queued (put_by call (worker_of (word words 1)) (key_of_word (word words 3)) (payload_of_word (word words 4)))
     else Err Words
 
--- the worker and the key of a call on one key, looked at from left to right
-abbrev pub keyed_by : Option ℕ → Option (List ℕ) → Result (ℕ × List ℕ) ScriptRule
-keyed_by None key = Err Worker
-keyed_by (Some w) None = Err Key
-keyed_by (Some w) (Some key) = Ok (w, key)
+-- the worker and the key of a call that puts none, looked at from left to right
+abbrev pub keyed_by : (List ℕ → Call) → Option ℕ → Option (List ℕ) → Result (ℕ × Call) ScriptRule
+keyed_by call None key = Err Worker
+keyed_by call (Some w) None = Err Key
+keyed_by call (Some w) (Some key) = Ok (w, call key)
 
--- a line of four words, the last of which is a key
-abbrev pub keyed_of : List (List ℕ) → Result (ℕ × List ℕ) ScriptRule
-keyed_of words =
+-- `w N get K`, and likewise `delete` and `page`
+abbrev pub keyed_of : (List ℕ → Call) → List (List ℕ) → Result Item ScriptRule
+keyed_of call words =
     if length words == 4
-    then keyed_by (worker_of (word words 1)) (key_of_word (word words 3))
+    then queued (keyed_by call (worker_of (word words 1)) (key_of_word (word words 3)))
     else Err Words
-
--- the call on one key, once the worker and the key were read
-abbrev pub queued : (List ℕ → Call) → Result (ℕ × List ℕ) ScriptRule → Result Item ScriptRule
-queued call (Err rule) = Err rule
-queued call (Ok keyed) = Ok (Queue keyed.0 (call keyed.1))
-
--- `w N get K`
-abbrev pub get_of : List (List ℕ) → Result Item ScriptRule
-get_of words = queued (λ key. Get key) (keyed_of words)
-
--- `w N page K`
-abbrev pub page_of : List (List ℕ) → Result Item ScriptRule
-page_of words = queued (λ key. Page key) (keyed_of words)
 
 -- a line that begins with `w`, by its third word
 abbrev pub call_of : List (List ℕ) → Result Item ScriptRule
 call_of words =
     if nat_lt (length words) 3 then Err Words
-    else (if is_word words 2 (codes "insert") then insert_of words
-    else (if is_word words 2 (codes "get") then get_of words
-    else (if is_word words 2 (codes "page") then page_of words
-    else Err Unknown)))
-
--- `run alone`
-abbrev pub alone_of : List (List ℕ) → Result Item ScriptRule
-alone_of words = if length words == 2 then Ok (Run Alone) else Err Words
-
--- a line that begins with `run`, by its second word
-abbrev pub run_of : List (List ℕ) → Result Item ScriptRule
-run_of words =
-    if nat_lt (length words) 2 then Err Words
-    else (if is_word words 1 (codes "alone") then alone_of words
-    else Err Unknown)
+    else (if is_word words 2 (codes "insert") then put_of Insert words
+    else (if is_word words 2 (codes "delete") then keyed_of Delete words
+    else (if is_word words 2 (codes "update") then put_of Update words
+    else (if is_word words 2 (codes "upsert") then put_of Upsert words
+    else (if is_word words 2 (codes "get") then keyed_of Get words
+    else (if is_word words 2 (codes "page") then keyed_of Page words
+    else Err Unknown))))))
 
 -- a `memory` line, once it was read
 abbrev pub sized : Result Sizes ScriptRule → Result Line ScriptRule

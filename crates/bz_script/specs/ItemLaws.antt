@@ -1,34 +1,28 @@
--- What the parts of a script are: its sizes are in range, and its queued calls are of workers from 1 to 64
--- and of the kinds that scripts have.
-use Rattle.std.proofs.Common.{◌≡◌, ◌≤◌, ◌<◌, ℕ, ◌+◌, Bool, true, false, List, [], ◌∷◌, refl, ap, sym, ◌∙◌, arith, Option, Some, None, ◌==◌}
-use Rattle.std.specs.Prelude.{if◌then◌else◌, nat_le, nat_lt, ◌&&◌, length, codes, Ok, Err, Result}
-use Rattle.std.proofs.lemmas.Bool.Decides.{nat_tests}
+-- What the parts of a script are: its sizes are in range, and its queued calls and the turns of its runs are of workers from 1
+-- to 64.
+use Rattle.std.proofs.Common.{◌≡◌, ◌≤◌, ℕ, ◌+◌, Bool, true, false, List, [], ◌∷◌, refl, Option, Some, None, ◌==◌}
+use Rattle.std.specs.Prelude.{if◌then◌else◌, nat_lt, ◌&&◌, length, codes, Ok, Err, Result}
 use Rattle.bz_key.specs.Spelling.{key_of_word, payload_of_word}
 use Rattle.bz_call.specs.declared.calls.Call.{Call}
-use Rattle.bz_call.specs.declared.calls.Call.TheVariants.{Insert, Get, Page}
+use Rattle.bz_call.specs.declared.calls.Call.TheVariants.{Insert, Delete, Update, Upsert, Get, Page}
 use Rattle.bz_script.specs.declared.item.Item.{Item}
 use Rattle.bz_script.specs.declared.item.Item.TheVariants.{Queue, Run}
-use Rattle.bz_script.specs.declared.item.Plan.TheVariants.{Alone}
 use Rattle.bz_script.specs.declared.forms.Line.{Line}
 use Rattle.bz_script.specs.declared.forms.Line.TheVariants.{Memory, Entry}
 use Rattle.bz_script.specs.declared.forms.Sizes.{Sizes}
 use Rattle.bz_script.specs.declared.fault.ScriptRule.{ScriptRule}
 use Rattle.bz_script.specs.declared.fault.ScriptRule.TheVariants.{Unknown, Words, Number, NoMemoryLine}
-use Rattle.bz_script.specs.Number.{within, number_of}
+use Rattle.bz_script.specs.Number.{within, number_of, worker_of}
 use Rattle.bz_script.specs.Words.{word, is_word, words_of, lines_of}
-use Rattle.bz_script.specs.Forms.{sizes_by, memory_of, worker_of, insert_by, insert_of, keyed_by, keyed_of, queued, get_of, page_of, call_of, alone_of, run_of, sized, entered, line_of}
+use Rattle.bz_script.specs.Forms.{sizes_by, memory_of, queued, put_by, put_of, keyed_by, keyed_of, call_of, sized, entered, line_of}
+use Rattle.bz_script.specs.RangeLaws.{either_way, in_range}
+use Rattle.bz_script.specs.RunForms.{run_of}
+use Rattle.bz_script.specs.RunLaws.{IsPlan, run_runs}
 use Rattle.bz_script.specs.Script.{Job, Fault, same_as, first_of, in_order, item_of, then_items, items_of, then_job, script_of_lines, script_of}
 
--- the calls that scripts of this stage have
-abbrev pub IsOffered : Call → Type 0
-IsOffered (Insert key payload) = Unit {0}
-IsOffered (Get key) = Unit {0}
-IsOffered (Page key) = Unit {0}
-IsOffered other = ⊥
-
 abbrev pub IsItem : Item → Type 0
-IsItem (Queue w call) = (1 ≤ w) × (w ≤ 64) × IsOffered call
-IsItem (Run plan) = Unit {0}
+IsItem (Queue w call) = (1 ≤ w) × (w ≤ 64)
+IsItem (Run plan) = IsPlan plan
 
 abbrev pub AreItems : List Item → Type 0
 AreItems [] = Unit {0}
@@ -41,66 +35,56 @@ pub record IsJob (job : Job) : Type 0 where
   pub few_swaps : job.swaps ≤ 65536
   pub items : AreItems job.items
 
--- what is Ok of a choice is Ok of the one that was chosen
-either_way : {A E : Type 0} (P : A → Type 0) (b : Bool) (x y : Result A E) (item : A) → (x ≡ Ok item → P item) → (y ≡ Ok item → P item) → (if b then x else y) ≡ Ok item → P item
-either_way P true x y item h k is = h is
-either_way P false x y item h k is = k is
+-- a call of a worker, once it was read
+queued_item : (found : Result (ℕ × Call) ScriptRule) (item : Item) → ((called : ℕ × Call) → found ≡ Ok called → (1 ≤ called.0) × (called.0 ≤ 64)) → queued found ≡ Ok item → IsItem item
+queued_item (Err rule) item h is = absurd cc
+queued_item (Ok called) item h is =
+    let same : Queue called.0 called.1 ≡ item = cc in
+    rw (← same) (h called refl)
 
-range_by : (b : Bool) (low high m n : ℕ) → (nat_le low m && nat_le m high) ≡ b → (if b then Some m else None) ≡ Some n → (low ≤ n) × (n ≤ high)
-range_by true low high m n test e = let same : m ≡ n = cc in (grind (arith, nat_tests, test, same), grind (arith, nat_tests, test, same))
-range_by false low high m n test e = absurd cc
+put_worker : (call : List ℕ → List ℕ → Call) (worker : Option ℕ) (key payload : Option (List ℕ)) (called : ℕ × Call) → ((w : ℕ) → worker ≡ Some w → (1 ≤ w) × (w ≤ 64)) → put_by call worker key payload ≡ Ok called → (1 ≤ called.0) × (called.0 ≤ 64)
+put_worker call None key payload called h is = absurd cc
+put_worker call (Some w) None payload called h is = absurd cc
+put_worker call (Some w) (Some key) None called h is = absurd cc
+put_worker call (Some w) (Some key) (Some payload) called h is =
+    let same : (w, call key payload) ≡ called = cc in
+    rw (← same) (h w refl)
 
-in_range : (low high : ℕ) (found : Option ℕ) (n : ℕ) → within low high found ≡ Some n → (low ≤ n) × (n ≤ high)
-in_range low high None n is = absurd cc
-in_range low high (Some m) n is = range_by (nat_le low m && nat_le m high) low high m n refl is
-
-insert_item : (worker : Option ℕ) (key payload : Option (List ℕ)) (item : Item) → ((w : ℕ) → worker ≡ Some w → (1 ≤ w) × (w ≤ 64)) → insert_by worker key payload ≡ Ok item → IsItem item
-insert_item None key payload item h is = absurd cc
-insert_item (Some w) None payload item h is = absurd cc
-insert_item (Some w) (Some key) None item h is = absurd cc
-insert_item (Some w) (Some key) (Some payload) item h is =
-    let same : Queue w (Insert key payload) ≡ item = cc in
-    let few = h w refl in
-    rw (← same) (few.0, few.1, tt)
-
-keyed_item : (call : List ℕ → Call) (worker : Option ℕ) (key : Option (List ℕ)) (item : Item) → ((some : List ℕ) → IsOffered (call some)) → ((w : ℕ) → worker ≡ Some w → (1 ≤ w) × (w ≤ 64))
-    → queued call (keyed_by worker key) ≡ Ok item → IsItem item
-keyed_item call None key item offered h is = absurd cc
-keyed_item call (Some w) None item offered h is = absurd cc
-keyed_item call (Some w) (Some key) item offered h is =
-    let same : Queue w (call key) ≡ item = cc in
-    let few = h w refl in
-    rw (← same) (few.0, few.1, offered key)
-
-keyed_words : (call : List ℕ → Call) (b : Bool) (found : Result (ℕ × List ℕ) ScriptRule) (item : Item) → (queued call found ≡ Ok item → IsItem item)
-    → queued call (if b then found else Err Words) ≡ Ok item → IsItem item
-keyed_words call true found item h is = h is
-keyed_words call false found item h is = absurd cc
-
-call_on_key : (call : List ℕ → Call) (words : List (List ℕ)) (item : Item) → ((some : List ℕ) → IsOffered (call some)) → queued call (keyed_of words) ≡ Ok item → IsItem item
-call_on_key call words item offered =
-    keyed_words call (length words == 4) (keyed_by (worker_of (word words 1)) (key_of_word (word words 3))) item
-    (keyed_item call (worker_of (word words 1)) (key_of_word (word words 3)) item offered (in_range 1 64 (number_of (word words 1))))
+keyed_worker : (call : List ℕ → Call) (worker : Option ℕ) (key : Option (List ℕ)) (called : ℕ × Call) → ((w : ℕ) → worker ≡ Some w → (1 ≤ w) × (w ≤ 64)) → keyed_by call worker key ≡ Ok called → (1 ≤ called.0) × (called.0 ≤ 64)
+keyed_worker call None key called h is = absurd cc
+keyed_worker call (Some w) None called h is = absurd cc
+keyed_worker call (Some w) (Some key) called h is =
+    let same : (w, call key) ≡ called = cc in
+    rw (← same) (h w refl)
 
 no_item : (rule : ScriptRule) (item : Item) → ◌≡◌ {A = Result Item ScriptRule} (Err rule) (Ok item) → IsItem item
 no_item rule item is = absurd cc
 
+put_item : (call : List ℕ → List ℕ → Call) (words : List (List ℕ)) (item : Item) → put_of call words ≡ Ok item → IsItem item
+put_item call words item =
+    either_way IsItem (length words == 5) _ (Err Words) item
+    (queued_item (put_by call (worker_of (word words 1)) (key_of_word (word words 3)) (payload_of_word (word words 4))) item
+    (λ called. put_worker call (worker_of (word words 1)) (key_of_word (word words 3)) (payload_of_word (word words 4)) called (in_range 1 64 (number_of (word words 1))))) (no_item Words item)
+
+keyed_item : (call : List ℕ → Call) (words : List (List ℕ)) (item : Item) → keyed_of call words ≡ Ok item → IsItem item
+keyed_item call words item =
+    either_way IsItem (length words == 4) _ (Err Words) item
+    (queued_item (keyed_by call (worker_of (word words 1)) (key_of_word (word words 3))) item
+    (λ called. keyed_worker call (worker_of (word words 1)) (key_of_word (word words 3)) called (in_range 1 64 (number_of (word words 1))))) (no_item Words item)
+
 call_item : (words : List (List ℕ)) (item : Item) → call_of words ≡ Ok item → IsItem item
 call_item words item =
     either_way IsItem (nat_lt (length words) 3) (Err Words) _ item (no_item Words item)
-    (either_way IsItem (is_word words 2 (codes "insert")) (insert_of words) _ item
-    (either_way IsItem (length words == 5) _ (Err Words) item (insert_item (worker_of (word words 1)) (key_of_word (word words 3)) (payload_of_word (word words 4)) item (in_range 1 64 (number_of (word words 1)))) (no_item Words item))
-    (either_way IsItem (is_word words 2 (codes "get")) (get_of words) _ item (call_on_key (λ key. Get key) words item (λ key. tt))
-    (either_way IsItem (is_word words 2 (codes "page")) (page_of words) (Err Unknown) item (call_on_key (λ key. Page key) words item (λ key. tt))
-    (no_item Unknown item))))
-
-alone_item : (words : List (List ℕ)) (item : Item) → alone_of words ≡ Ok item → IsItem item
-alone_item words item = either_way IsItem (length words == 2) (Ok (Run Alone)) (Err Words) item (λ is. let same : Run Alone ≡ item = cc in rw (← same) tt) (no_item Words item)
+    (either_way IsItem (is_word words 2 (codes "insert")) (put_of Insert words) _ item (put_item Insert words item)
+    (either_way IsItem (is_word words 2 (codes "delete")) (keyed_of Delete words) _ item (keyed_item Delete words item)
+    (either_way IsItem (is_word words 2 (codes "update")) (put_of Update words) _ item (put_item Update words item)
+    (either_way IsItem (is_word words 2 (codes "upsert")) (put_of Upsert words) _ item (put_item Upsert words item)
+    (either_way IsItem (is_word words 2 (codes "get")) (keyed_of Get words) _ item (keyed_item Get words item)
+    (either_way IsItem (is_word words 2 (codes "page")) (keyed_of Page words) (Err Unknown) item (keyed_item Page words item)
+    (no_item Unknown item)))))))
 
 run_item : (words : List (List ℕ)) (item : Item) → run_of words ≡ Ok item → IsItem item
-run_item words item =
-    either_way IsItem (nat_lt (length words) 2) (Err Words) _ item (no_item Words item)
-    (either_way IsItem (is_word words 1 (codes "alone")) (alone_of words) (Err Unknown) item (alone_item words item) (no_item Unknown item))
+run_item words item is = let run = run_runs words item is in rw run.is run.sound
 
 abbrev IsLine : Line → Type 0
 IsLine (Memory sizes) = Unit {0}

@@ -1,7 +1,13 @@
+pub mod Draws
 pub mod FirstFault
 pub mod Forms
+pub mod Asks
 pub mod Items
 pub mod Number
+pub mod RangeLaws
+pub mod Reads
+pub mod RunForms
+pub mod RunLaws
 pub mod Script
 pub mod Texts
 pub mod Words

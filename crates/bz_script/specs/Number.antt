@@ -1,4 +1,4 @@
--- Numbers of a script.
+-- Numbers of a script, and the workers that they name.
 use Rattle.std.specs.Prelude.{ℕ, ◌+◌, ◌-◌, ◌*◌, ◌^◌, Bool, ◌&&◌, ◌||◌, ◌==◌, not, slice_index, length, nat_le, nat_lt, if◌then◌else◌, List, [], ◌∷◌, Option, Some, None}
 use Rattle.std.specs.List.{list_all}
 
@@ -25,3 +25,7 @@ number_of word = if is_number word && nat_lt (number_after 0 word) (2 ^ 64) then
 abbrev pub within : ℕ → ℕ → Option ℕ → Option ℕ
 within low high None = None
 within low high (Some n) = if nat_le low n && nat_le n high then Some n else None
+
+-- the worker that a word names
+abbrev pub worker_of : List ℕ → Option ℕ
+worker_of text = within 1 64 (number_of text)

@@ -1,7 +1,7 @@
 //! Why bytes are no script.
 
 use bz_memory::Memory;
-use std::alloc::AllocError;
+use std::alloc::{AllocError, AllocFailed};
 use std::error::Error;
 use std::fmt;
 
@@ -54,6 +54,49 @@ impl fmt::Display for ScriptRule {
             ScriptRule::Order => write!(f, "wrong order"),
             ScriptRule::NoEnd => write!(f, "line feed expected"),
         }
+    }
+}
+
+/// Why a line was not read.
+#[derive(Clone, Copy)]
+pub(crate) enum LineFault {
+    /// The first rule that the line breaks.
+    Rule(ScriptRule),
+
+    /// Want of memory.
+    Memory,
+}
+
+impl From<ScriptRule> for LineFault {
+    ghost use Rattle.std.specs.Prelude.{◌≡◌};
+    ghost use Rattle.bz_script.specs.declared.fault.LineFault.TheVariants.{Rule};
+
+    ghost from_gives = { λ rule fault. fault ≡ Rule rule };
+
+    fn from(rule: ScriptRule) -> LineFault {
+        LineFault::Rule(rule)
+    }
+}
+
+impl From<AllocError> for LineFault {
+    ghost use Rattle.std.specs.Prelude.{◌≡◌};
+    ghost use Rattle.bz_script.specs.declared.fault.LineFault.TheVariants.{Memory as WantOfMemory};
+
+    ghost from_gives = { λ _ fault. fault ≡ WantOfMemory };
+
+    fn from(_refused: AllocError) -> LineFault {
+        LineFault::Memory
+    }
+}
+
+impl<T: Drop> From<AllocFailed<T>> for LineFault {
+    ghost use Rattle.std.specs.Prelude.{◌≡◌};
+    ghost use Rattle.bz_script.specs.declared.fault.LineFault.TheVariants.{Memory as WantOfMemory};
+
+    ghost from_gives = { λ _ fault. fault ≡ WantOfMemory };
+
+    fn from(_refused: AllocFailed<T>) -> LineFault {
+        LineFault::Memory
     }
 }
 

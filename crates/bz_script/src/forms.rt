@@ -1,21 +1,22 @@
 //! The forms of a line.
-ghost use Rattle.std.specs.Prelude.{◌≡◌, ◌≤◌, IfSome};
-ghost use Rattle.bz_script.specs.Forms.{memory_of, worker_of, insert_of, keyed_of, get_of, page_of, call_of, alone_of, run_of, line_of};
-ghost use Rattle.bz_script.specs.Number.{number_of, within};
+ghost use Rattle.std.specs.Prelude.{◌≡◌};
+ghost use Rattle.bz_script.specs.Forms.{memory_of, put_of, keyed_of, call_of, line_of};
+ghost use Rattle.bz_script.specs.Asks.{call_putting, call_asking};
+ghost use Rattle.bz_script.specs.Reads.{Reads};
 ghost use Rattle.bz_script.specs.Words.{texts_of};
 
-use crate::fault::ScriptRule;
-use crate::item::{Item, Plan};
-use crate::number::read_number;
+use crate::fault::{LineFault, ScriptRule};
+use crate::item::Item;
+use crate::number::{number_to, read_worker};
+use crate::run_forms::read_run;
 use crate::words::{is_word, word};
 use bz_call::Call;
-use bz_key::{Key, read_key, read_payload};
+use bz_key::{read_key, read_payload};
+use std::alloc::Global;
 
 const MOST_NODES: u64 = 16_384;
 
 const MOST_SWAPS: u64 = 65_536;
-
-const MOST_WORKERS: u64 = 64;
 
 /// The numbers of a `memory` line.
 #[derive(Clone, Copy)]
@@ -29,23 +30,6 @@ pub(crate) struct Sizes {
 pub(crate) enum Line {
     Memory(Sizes),
     Entry(Item),
-}
-
-// The number of a word, from 1 to the greatest one.
-fn number_to(text: &[u8], most: u64) -> Option<u64>
-    ensures value { result ≡ within 1 most (number_of text.now) }
-    ensures small { IfSome result (λ number. number ≤ most) }
-{
-    let Some(number) = read_number(text) else {
-        return None;
-    };
-    if number < 1 {
-        return None;
-    }
-    if number > most {
-        return None;
-    }
-    Some(number)
 }
 
 // `memory NODES SWAPS`.
@@ -67,19 +51,25 @@ pub(crate) fn read_memory(words: &[&[u8]]) -> Result<Sizes, ScriptRule>
     })
 }
 
-// The worker that a word names.
-fn read_worker(text: &[u8]) -> Option<u8>
-    ensures { result ≡ worker_of text.now }
-{
-    let Some(number) = number_to(text, MOST_WORKERS) else {
-        return None;
-    };
-    Some(number as u8)
+/// What a call on a key puts there, if it puts something.
+#[derive(Clone, Copy)]
+enum Put {
+    Insert,
+    Update,
+    Upsert,
 }
 
-// `w N insert K V`.
-fn read_insert(words: &[&[u8]]) -> Result<Item, ScriptRule>
-    ensures { result ≡ insert_of (texts_of words.now) }
+/// What a call asks of a key.
+#[derive(Clone, Copy)]
+enum Ask {
+    Delete,
+    Get,
+    Page,
+}
+
+// `w N insert K V`, and likewise `update` and `upsert`.
+fn read_put(put: Put, words: &[&[u8]]) -> Result<Item, ScriptRule>
+    ensures { result ≡ put_of (call_putting put) (texts_of words.now) }
 {
     if words.len() != 5 {
         return Err(ScriptRule::Words);
@@ -93,12 +83,17 @@ fn read_insert(words: &[&[u8]]) -> Result<Item, ScriptRule>
     let Some(payload) = read_payload(word(words, 4)) else {
         return Err(ScriptRule::Payload);
     };
-    Ok(Item::Queue(worker, Call::Insert(key, payload)))
+    let call = match put {
+        Put::Insert => Call::Insert(key, payload),
+        Put::Update => Call::Update(key, payload),
+        Put::Upsert => Call::Upsert(key, payload),
+    };
+    Ok(Item::Queue(worker, call))
 }
 
-// The worker and the key of a line of four words.
-fn read_keyed(words: &[&[u8]]) -> Result<(u8, Key), ScriptRule>
-    ensures { result ≡ keyed_of (texts_of words.now) }
+// `w N get K`, and likewise `delete` and `page`.
+fn read_ask(ask: Ask, words: &[&[u8]]) -> Result<Item, ScriptRule>
+    ensures { result ≡ keyed_of (call_asking ask) (texts_of words.now) }
 {
     if words.len() != 4 {
         return Err(ScriptRule::Words);
@@ -109,23 +104,12 @@ fn read_keyed(words: &[&[u8]]) -> Result<(u8, Key), ScriptRule>
     let Some(key) = read_key(word(words, 3)) else {
         return Err(ScriptRule::Key);
     };
-    Ok((worker, key))
-}
-
-// `w N get K`.
-fn read_get(words: &[&[u8]]) -> Result<Item, ScriptRule>
-    ensures { result ≡ get_of (texts_of words.now) }
-{
-    let (worker, key) = read_keyed(words)?;
-    Ok(Item::Queue(worker, Call::Get(key)))
-}
-
-// `w N page K`.
-fn read_page(words: &[&[u8]]) -> Result<Item, ScriptRule>
-    ensures { result ≡ page_of (texts_of words.now) }
-{
-    let (worker, key) = read_keyed(words)?;
-    Ok(Item::Queue(worker, Call::Page(key)))
+    let call = match ask {
+        Ask::Delete => Call::Delete(key),
+        Ask::Get => Call::Get(key),
+        Ask::Page => Call::Page(key),
+    };
+    Ok(Item::Queue(worker, call))
 }
 
 // A line that begins with `w`.
@@ -136,43 +120,29 @@ fn read_call(words: &[&[u8]]) -> Result<Item, ScriptRule>
         return Err(ScriptRule::Words);
     }
     if is_word(words, 2, b"insert") {
-        return read_insert(words);
+        return read_put(Put::Insert, words);
+    }
+    if is_word(words, 2, b"delete") {
+        return read_ask(Ask::Delete, words);
+    }
+    if is_word(words, 2, b"update") {
+        return read_put(Put::Update, words);
+    }
+    if is_word(words, 2, b"upsert") {
+        return read_put(Put::Upsert, words);
     }
     if is_word(words, 2, b"get") {
-        return read_get(words);
+        return read_ask(Ask::Get, words);
     }
     if is_word(words, 2, b"page") {
-        return read_page(words);
-    }
-    Err(ScriptRule::Unknown)
-}
-
-// `run alone`.
-fn read_alone(words: &[&[u8]]) -> Result<Item, ScriptRule>
-    ensures { result ≡ alone_of (texts_of words.now) }
-{
-    if words.len() != 2 {
-        return Err(ScriptRule::Words);
-    }
-    Ok(Item::Run(Plan::Alone))
-}
-
-// A line that begins with `run`.
-fn read_run(words: &[&[u8]]) -> Result<Item, ScriptRule>
-    ensures { result ≡ run_of (texts_of words.now) }
-{
-    if words.len() < 2 {
-        return Err(ScriptRule::Words);
-    }
-    if is_word(words, 1, b"alone") {
-        return read_alone(words);
+        return read_ask(Ask::Page, words);
     }
     Err(ScriptRule::Unknown)
 }
 
 /// A line, by its first word.
-pub(crate) fn read_line(words: &[&[u8]]) -> Result<Line, ScriptRule>
-    ensures { result ≡ line_of (texts_of words.now) }
+pub(crate) fn read_line(alloc: Global, words: &[&[u8]]) -> Result<Line, LineFault>
+    ensures { Reads (line_of (texts_of words.now)) result }
 {
     if is_word(words, 0, b"memory") {
         let sizes = read_memory(words)?;
@@ -183,8 +153,8 @@ pub(crate) fn read_line(words: &[&[u8]]) -> Result<Line, ScriptRule>
         return Ok(Line::Entry(item));
     }
     if is_word(words, 0, b"run") {
-        let item = read_run(words)?;
+        let item = read_run(alloc, words)?;
         return Ok(Line::Entry(item));
     }
-    Err(ScriptRule::Unknown)
+    Err(LineFault::Rule(ScriptRule::Unknown))
 }

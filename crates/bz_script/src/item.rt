@@ -1,4 +1,5 @@
 //! What the lines of a script ask for.
+use crate::turn_list::TurnList;
 use bz_call::Call;
 
 /// How the calls that wait are run.
@@ -6,6 +7,12 @@ use bz_call::Call;
 pub enum Plan {
     /// One worker after another, from 1 up, each one's calls to their end.
     Alone,
+
+    /// By a list of turns.
+    List(TurnList),
+
+    /// By the draws of the generator from a seed.
+    Turns(u64),
 }
 
 /// What a line after the first asks for.

@@ -1,7 +1,7 @@
 //! The items of a script, in room that is taken at the opening.
 ghost use Rattle.std.specs.Prelude.{◌≡◌, ◌<◌, ◌+◌, ◌++◌, ◌∷◌, [], IfOk};
 
-use crate::item::Item;
+use crate::item::{Item, Plan};
 use bz_memory::Memory;
 use std::alloc::Global;
 use std::marker::Model;
@@ -40,7 +40,9 @@ impl ItemList {
         // Taken apart by its variants, since the prover has to meet the type of the call here.
         match item {
             Item::Queue(w, call) => self.items.push_reserved(Item::Queue(w, call)),
-            Item::Run(plan) => self.items.push_reserved(Item::Run(plan)),
+            Item::Run(Plan::Alone) => self.items.push_reserved(Item::Run(Plan::Alone)),
+            Item::Run(Plan::List(turns)) => self.items.push_reserved(Item::Run(Plan::List(turns))),
+            Item::Run(Plan::Turns(seed)) => self.items.push_reserved(Item::Run(Plan::Turns(seed))),
         }
     }
 

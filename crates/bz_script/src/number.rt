@@ -1,10 +1,12 @@
-//! Numbers.
-ghost use Rattle.std.specs.Prelude.{◌≡◌};
+//! Numbers, and the workers that they name.
+ghost use Rattle.std.specs.Prelude.{◌≡◌, ◌≤◌, IfSome};
 ghost use Rattle.std.specs.List.{list_all};
-ghost use Rattle.bz_script.specs.Number.{number_of, is_number, is_digit as digit_byte};
+ghost use Rattle.bz_script.specs.Number.{number_of, within, worker_of, is_number, is_digit as digit_byte};
 
 /// The most digits that a number has.
 const MOST_DIGITS: usize = 20;
+
+const MOST_WORKERS: u64 = 64;
 
 fn is_digit(b: u8) -> bool
     ensures { result ≡ digit_byte b }
@@ -57,4 +59,31 @@ pub fn read_number(word: &[u8]) -> Option<u64>
         }
     }
     Some(value)
+}
+
+/// The number of a word, from 1 to the greatest one.
+pub(crate) fn number_to(text: &[u8], most: u64) -> Option<u64>
+    ensures value { result ≡ within 1 most (number_of text.now) }
+    ensures small { IfSome result (λ number. number ≤ most) }
+{
+    let Some(number) = read_number(text) else {
+        return None;
+    };
+    if number < 1 {
+        return None;
+    }
+    if number > most {
+        return None;
+    }
+    Some(number)
+}
+
+/// The worker that a word names.
+pub(crate) fn read_worker(text: &[u8]) -> Option<u8>
+    ensures { result ≡ worker_of text.now }
+{
+    let Some(number) = number_to(text, MOST_WORKERS) else {
+        return None;
+    };
+    Some(number as u8)
 }

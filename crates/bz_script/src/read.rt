@@ -1,9 +1,10 @@
 //! Reading a script.
 ghost use Rattle.std.specs.Prelude.{◌≡◌, ◌≤◌, ◌<◌, ◌+◌, length, MatchResult, Ok};
+ghost use Rattle.bz_script.specs.Reads.{Reads};
 ghost use Rattle.bz_script.specs.Script.{script_of, script_of_lines, items_of, item_of, first_of, unended, job_of, IsFault};
 ghost use Rattle.bz_script.specs.Words.{texts_of};
 
-use crate::fault::{ScriptFault, ScriptRule};
+use crate::fault::{LineFault, ScriptFault, ScriptRule};
 use crate::forms::{Line, Sizes, read_line, read_memory};
 use crate::item::Item;
 use crate::item_list::ItemList;
@@ -35,11 +36,11 @@ fn read_sizes(words: &[&[u8]], image: Option<(u32, u32)>) -> Result<Sizes, Scrip
 }
 
 // The item that a later line gives.
-fn read_item(words: &[&[u8]]) -> Result<Item, ScriptRule>
-    ensures { result ≡ item_of (texts_of words.now) }
+fn read_item(alloc: Global, words: &[&[u8]]) -> Result<Item, LineFault>
+    ensures { Reads (item_of (texts_of words.now)) result }
 {
-    match read_line(words)? {
-        Line::Memory(_) => Err(ScriptRule::Order),
+    match read_line(alloc, words)? {
+        Line::Memory(_) => Err(LineFault::Rule(ScriptRule::Order)),
         Line::Entry(item) => Ok(item),
     }
 }
@@ -54,14 +55,15 @@ fn read_items(alloc: Global, lines: &[&[u8]]) -> Result<ItemList, ScriptFault>
     let mut items = ItemList::open(alloc, last)?;
     for place in 0..last {
         let words = parts(alloc, lines[place], b' ')?;
-        match read_item(&words) {
+        match read_item(alloc, &words) {
             Ok(item) => items.push(item),
-            Err(rule) => {
+            Err(LineFault::Rule(rule)) => {
                 return Err(ScriptFault::Rule {
                     line: place as u32 + 2,
                     rule,
                 });
             }
+            Err(LineFault::Memory) => return Err(ScriptFault::Memory),
         }
     }
     if !lines[last].is_empty() {

@@ -1,7 +1,9 @@
 //! Scripts that are read, and texts that break each rule.
 ghost use Rattle.std.specs.Prelude.{◌≤◌, length};
 
-use crate::{Item, ItemList, Plan, SCRIPT_BYTES, read_number, read_script};
+use crate::{
+    Item, ItemList, Plan, SCRIPT_BYTES, Turn, TurnList, next_draw, read_number, read_script,
+};
 use bz_call::Call;
 use bz_key::{Key, Payload};
 use std::alloc::{AllocError, Global};
@@ -73,13 +75,18 @@ fn answers_the_first_broken_rule(rt: HostRuntime) -> Result<(), Fail> {
         ("memory 1 1\nrun\n", "line 2: wrong number of words"),
         ("memory 1 1\nrun \n", "line 2: unknown word"),
         ("memory 1 1\nw 0 put a b\n", "line 2: unknown word"),
-        ("memory 1 1\nw 0 delete a\n", "line 2: unknown word"),
-        ("memory 1 1\nw 0 update a b\n", "line 2: unknown word"),
-        ("memory 1 1\nw 0 upsert a b\n", "line 2: unknown word"),
+        ("memory 1 1\nw 0 delete a\n", "line 2: bad worker"),
+        (
+            "memory 1 1\nw 1 delete a b\n",
+            "line 2: wrong number of words",
+        ),
+        (
+            "memory 1 1\nw 1 update a\n",
+            "line 2: wrong number of words",
+        ),
+        ("memory 1 1\nw 1 upsert a !\n", "line 2: bad payload"),
         ("memory 1 1\nw 0 Page a\n", "line 2: unknown word"),
         ("memory 1 1\nw  1 get a\n", "line 2: unknown word"),
-        ("memory 1 1\nrun list 1\n", "line 2: unknown word"),
-        ("memory 1 1\nrun turns 1\n", "line 2: unknown word"),
         ("memory 1 1\nrun threads\n", "line 2: unknown word"),
         ("memory 1 1\ncut 1 1\n", "line 2: unknown word"),
         ("memory 1 1\npower\n", "line 2: unknown word"),
@@ -159,6 +166,54 @@ fn answers_the_first_broken_rule_of_a_page(rt: HostRuntime) -> Result<(), Fail> 
 }
 
 #[test]
+fn answers_the_first_broken_rule_of_a_run(rt: HostRuntime) -> Result<(), Fail> {
+    let cases = [
+        ("run List 1", "line 2: unknown word"),
+        ("run turn 1", "line 2: unknown word"),
+        ("run  list 1", "line 2: unknown word"),
+        ("run list", "line 2: wrong number of words"),
+        ("run turns", "line 2: wrong number of words"),
+        ("run turns 1 2", "line 2: wrong number of words"),
+        ("run turns ! !", "line 2: wrong number of words"),
+        ("run list ", "line 2: bad worker"),
+        ("run list 1 ", "line 2: bad worker"),
+        ("run list  1", "line 2: bad worker"),
+        ("run list 0", "line 2: bad worker"),
+        ("run list 65", "line 2: bad worker"),
+        ("run list 01", "line 2: bad worker"),
+        ("run list x", "line 2: bad worker"),
+        ("run list *", "line 2: bad worker"),
+        ("run list *3", "line 2: bad worker"),
+        ("run list 0*0", "line 2: bad worker"),
+        ("run list 1*", "line 2: bad number"),
+        ("run list 1*0", "line 2: bad number"),
+        ("run list 1*65537", "line 2: bad number"),
+        ("run list 1*01", "line 2: bad number"),
+        ("run list 1*-1", "line 2: bad number"),
+        ("run list 1*2*3", "line 2: bad number"),
+        ("run list 1**3", "line 2: bad number"),
+        ("run list 1*4294967297", "line 2: bad number"),
+        ("run list 1 2*0 0", "line 2: bad number"),
+        ("run list 1 0 2*0", "line 2: bad worker"),
+        ("run turns x", "line 2: bad number"),
+        ("run turns ", "line 2: bad number"),
+        ("run turns 01", "line 2: bad number"),
+        ("run turns -1", "line 2: bad number"),
+        ("run turns 18446744073709551616", "line 2: bad number"),
+        ("run list 1\nbad", "line 3: unknown word"),
+        (
+            "run list 1*1 2\nrun turns 1\nmemory 1 1",
+            "line 4: wrong order",
+        ),
+    ];
+    for (lines, want) in cases {
+        let text = format!(in rt.alloc(); "memory 1 1\n{lines}\n")?;
+        expect_reading(&rt, rt.alloc(), text.as_bytes(), None, want)?;
+    }
+    Ok(())
+}
+
+#[test]
 fn reads_any_bytes(rt: HostRuntime) -> Result<(), Fail> {
     let alloc = rt.alloc();
     expect_reading(&rt, alloc, b"\0", None, "line 1: line feed expected")?;
@@ -215,10 +270,30 @@ fn reads_scripts(rt: HostRuntime) -> Result<(), Fail> {
         ),
         ("memory 1 1\nw 1 get %00%20%25\n", "1 1 1"),
         ("memory 1 1\nw 1 page %3D\nrun alone\n", "1 1 2"),
+        (
+            "memory 1 1\nw 1 update a 1\nw 1 upsert b %\nw 1 delete a\n",
+            "1 1 3",
+        ),
     ];
     for (text, want) in cases {
         expect_reading(&rt, rt.alloc(), text.as_bytes(), None, want)?;
     }
+    Ok(())
+}
+
+#[test]
+fn gives_the_calls_of_every_kind(rt: HostRuntime) -> Result<(), Fail> {
+    let text = b"memory 1 1\nw 1 delete a\nw 2 update a 1\nw 3 upsert a %\n";
+    let script = read_script(rt.alloc(), text, None)?;
+    let items = script.items.items();
+    assert_eq!(rt; items.len(), 3);
+    assert!(rt; matches!(items[0], Item::Queue(1, Call::Delete(key)) if key == Key::of(b"a")?));
+    assert!(rt;
+        matches!(items[1], Item::Queue(2, Call::Update(key, payload)) if key == Key::of(b"a")? && payload == Payload::of(b"1")?)
+    );
+    assert!(rt;
+        matches!(items[2], Item::Queue(3, Call::Upsert(key, payload)) if key == Key::of(b"a")? && payload == Payload::of(b"")?)
+    );
     Ok(())
 }
 
@@ -240,6 +315,63 @@ fn gives_the_items_in_their_order(rt: HostRuntime) -> Result<(), Fail> {
     assert!(rt; matches!(items[3], Item::Queue(9, Call::Page(key)) if key == Key::of(b"a")?));
     assert!(rt; matches!(items[4], Item::Run(Plan::Alone)));
     Ok(())
+}
+
+// The plan that a line asks for is a list of these turns.
+fn expect_turns(rt: &impl Abort, alloc: Global, text: &[u8], want: &[Turn]) -> Result<(), Fail> {
+    assert!(rt; text.len() <= SCRIPT_BYTES);
+    let script = read_script(alloc, text, None)?;
+    let items = script.items.items();
+    assert_eq!(rt; items.len(), 1);
+    match &items[0] {
+        Item::Run(Plan::List(list)) => assert_eq!(rt; list.turns(), want),
+        _ => assert!(rt; false),
+    }
+    Ok(())
+}
+
+#[test]
+fn gives_the_turns_of_a_list(rt: HostRuntime) -> Result<(), Fail> {
+    let alloc = rt.alloc();
+    let one = [Turn::Times(1, 1)];
+    expect_turns(&rt, alloc, b"memory 1 1\nrun list 1\n", &one)?;
+    expect_turns(&rt, alloc, b"memory 1 1\nrun list 1*1\n", &one)?;
+    let most = [Turn::Times(64, 65_536)];
+    expect_turns(&rt, alloc, b"memory 1 1\nrun list 64*65536\n", &most)?;
+    let three = [Turn::Times(2, 3), Turn::Times(1, 1), Turn::Times(2, 4000)];
+    expect_turns(&rt, alloc, b"memory 1 1\nrun list 2*3 1 2*4000\n", &three)?;
+    Ok(())
+}
+
+#[test]
+fn gives_the_seed_of_a_run(rt: HostRuntime) -> Result<(), Fail> {
+    let text = b"memory 1 1\nrun turns 0\nrun turns 18446744073709551615\n";
+    let script = read_script(rt.alloc(), text, None)?;
+    let items = script.items.items();
+    assert_eq!(rt; items.len(), 2);
+    assert!(rt; matches!(items[0], Item::Run(Plan::Turns(0))));
+    assert!(rt; matches!(items[1], Item::Run(Plan::Turns(u64::MAX))));
+    Ok(())
+}
+
+#[test]
+fn keeps_the_turns_that_a_list_is_opened_with(rt: HostRuntime) -> Result<(), Fail> {
+    let turns = [Turn::Times(3, 7), Turn::Times(1, 2)];
+    let list = TurnList::open(rt.alloc(), &turns)?;
+    assert_eq!(rt; list.turns(), turns.as_slice());
+    let none = TurnList::open(rt.alloc(), &[])?;
+    assert_eq!(rt; none.turns().len(), 0);
+    Ok(())
+}
+
+#[test]
+fn draws_as_the_generator_does(rt: HostRuntime) {
+    let mut x = 0;
+    assert_eq!(rt; next_draw(&mut x), 335_903_614);
+    assert_eq!(rt; x, 1_442_695_040_888_963_407);
+    let mut y = 1;
+    assert_eq!(rt; next_draw(&mut y), 1_817_669_548);
+    assert_eq!(rt; y, 7_806_831_264_735_756_412);
 }
 
 #[test]
@@ -268,10 +400,12 @@ fn reads_numbers(rt: HostRuntime) {
 
 #[test]
 fn takes_as_many_items_as_there_is_room_for(rt: HostRuntime) -> Result<(), Fail> {
-    let mut items = ItemList::open(rt.alloc(), 2)?;
+    let mut items = ItemList::open(rt.alloc(), 4)?;
     items.push(Item::Run(Plan::Alone));
     items.push(Item::Queue(9, Call::Get(Key::of(b"a")?)));
-    assert_eq!(rt; items.items().len(), 2);
+    items.push(Item::Run(Plan::Turns(1)));
+    items.push(Item::Run(Plan::List(TurnList::open(rt.alloc(), &[])?)));
+    assert_eq!(rt; items.items().len(), 4);
     Ok(())
 }
 
@@ -284,4 +418,16 @@ fn reads_a_script_of_the_greatest_length(rt: HostRuntime) -> Result<(), Fail> {
     }
     assert_eq!(rt; text.len(), SCRIPT_BYTES);
     expect_reading(&rt, rt.alloc(), &text, None, "1 1 104856")
+}
+
+#[test]
+fn reads_a_list_of_the_greatest_length(rt: HostRuntime) -> Result<(), Fail> {
+    let mut text: Vec<u8> = Vec::with_capacity(rt.alloc(), SCRIPT_BYTES)?;
+    text.extend_from_slice(b"memory 1 1\nrun list ")?;
+    for _ in 0..524_277 {
+        text.extend_from_slice(b"1 ")?;
+    }
+    text.extend_from_slice(b"2\n")?;
+    assert_eq!(rt; text.len(), SCRIPT_BYTES);
+    expect_reading(&rt, rt.alloc(), &text, None, "1 1 1")
 }

@@ -5,7 +5,7 @@ use Rattle.bz_call.specs.declared.replies.Reply.{Reply}
 use Rattle.bz_mark.specs.Moments.{at_moment}
 use Rattle.bz_mark.specs.declared.marks.Mark.{Mark}
 use Rattle.bz_mark.specs.declared.marks.Mark.TheVariants.{Begin}
-use Rattle.bz_sound.specs.Calls.{Open, open_call}
+use Rattle.bz_sound.specs.Calls.{open_call}
 use Rattle.bz_text.specs.declared.ended.EndedCall.{EndedCall}
 use Rattle.bz_text.specs.Report.{ended_calls}
 

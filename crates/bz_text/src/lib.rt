@@ -8,3 +8,6 @@ mod report;
 
 pub use ended::EndedCall;
 pub use report::{TextError, write_report};
+
+#[cfg(test)]
+mod tests;

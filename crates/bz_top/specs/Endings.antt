@@ -1,16 +1,18 @@
 -- How a run of the program ends: the cause of each status, and what is then written.
 use Rattle.std.specs.Prelude.{◌≡◌, ◌≢◌, ◌≤◌, ◌⊎◌, ℕ, List, [], ◌++◌, Option, Some, None, IfSome, Ok, Err, true, false, codes}
-use Rattle.std.specs.FinMap.{empty}
 use Rattle.std.specs.Io.KnownBytes.{Appends}
 use Rattle.bz_io.specs.Faults.{Rose}
 use Rattle.bz_io.specs.Transfers.{IsReadWhole, GaveCount, GrewByFront}
-use Rattle.bz_sound.specs.Sound.{IsSound}
+use Rattle.bz_layout.specs.Addresses.{words_of}
+use Rattle.bz_layout.specs.Fresh.{fresh_words}
+use Rattle.bz_sound.specs.Memory.Sound.{IsSound}
 use Rattle.bz_script.specs.Script.{Job, script_of}
 use Rattle.bz_script.specs.declared.fault.ScriptRule.{ScriptRule}
 use Rattle.bz_world.specs.Lab.{Lab}
 use Rattle.bz_world.specs.declared.answers.Which.{Which}
-use Rattle.bz_sched.specs.Added.{IsAtLimit}
-use Rattle.bz_sched.specs.Follows.{Follows, FollowsInPart}
+use Rattle.bz_sched.specs.Runs.{IsAtLimit}
+use Rattle.bz_sched.specs.Points.{Point}
+use Rattle.bz_sched.specs.Plans.{LeadsTo, LeadsToInPart}
 use Rattle.bz_text.specs.Report.{report_of}
 use Rattle.bz_top.specs.Commands.{is_command, config_of}
 use Rattle.bz_top.specs.Faults.{fault_line, broken_text, limit_text}
@@ -37,23 +39,29 @@ pub record Reads (o : Outside) (script : Job) : Type 0 where
 
 -- the lab, where there is one, has a sound journal
 abbrev pub IsSoundLab : Option Lab → Type 0
-IsSoundLab lab = IfSome lab (λ world. IsSound empty world.log)
+IsSoundLab lab = IfSome lab (λ world. IsSound world.config world.log)
 
--- the lab is a world of this script, and its journal is sound
+-- the lab is a world of this script: its journal begins with fresh memory, has the fixed limits, and is sound
 pub record IsLab (script : Job) (world : Lab) : Type 0 where
   pub config : world.config ≡ config_of script.nodes script.swaps
-  pub sound : IsSound empty world.log
+  pub start : world.log.start ≡ fresh_words world.config
+  pub limits : world.log.limits ≡ record { marks = world.config.marks; calls = world.config.calls; pages = world.config.pages }
+  pub sound : IsSound world.config world.log
 
--- a run that is done: a world of the script, with a sound journal that follows the whole script
+-- the point at which nothing has happened and no call waits
+abbrev pub at_first : Point
+at_first = record { past = []; queue = [] }
+
+-- a run that is done: a world of the script, with a sound journal to which the whole script leads
 pub record IsFinished (script : Job) (world : Lab) : Type 0 where
   pub right : IsLab script world
-  pub follows : Follows [] [] script.items world.log.past
+  pub follows : LeadsTo (words_of world.config) at_first script.items world.log.past
 
--- a run that met a limit when one more was needed: a world of the script, with a sound journal that follows
--- the script up to there
+-- a run that met a limit when one more was needed: a world of the script, with a sound journal to which the
+-- script leads up to there
 pub record IsCutShort (script : Job) (world : Lab) (which : Which) : Type 0 where
   pub right : IsLab script world
-  pub follows : FollowsInPart which [] [] script.items world.log.past
+  pub follows : LeadsToInPart which (words_of world.config) at_first script.items world.log.past
   pub met : IsAtLimit world which
 
 -- done: the report of the journal is written

@@ -1,7 +1,7 @@
 //! Running the items of a script.
-ghost use Rattle.std.specs.Prelude.{◌≡◌, ◌<◌, ◌≤◌, [], ℕ, length};
+ghost use Rattle.std.specs.Prelude.{◌≡◌, [], ℕ, false, length};
 ghost use Rattle.bz_layout.specs.Config.{IsConfig};
-ghost use Rattle.bz_sched.specs.Queued.{waiting, room};
+ghost use Rattle.bz_sched.specs.Queued.{has_open};
 ghost use Rattle.bz_script.specs.ItemLaws.{AreItems};
 ghost use Rattle.bz_top.specs.Items.{ItemsRan};
 
@@ -14,10 +14,9 @@ pub fn run_items(world: &mut World, queue: &mut Queue, items: &[Item]) -> RunEnd
     requires new { world.old.log.past ≡ [] }
     requires config { IsConfig world.old.config }
     requires workers { world.old.config.workers ≡ 64 }
-    requires none_wait { (w : ℕ) → w < 65 → waiting queue.old w ≡ [] }
-    requires no_calls { queue.old.calls ≡ [] }
-    requires room { room queue.old ≡ length items.now }
-    requires most { queue.old.most ≡ length items.now }
+    requires none_wait { queue.old.calls ≡ [] }
+    requires none_open { (w : ℕ) → has_open queue.old w ≡ false }
+    requires room { queue.old.room ≡ length items.now }
     requires items { AreItems items.now }
     ensures { ItemsRan world.old items.now result world.new }
 {

@@ -1,8 +1,7 @@
 //! The top call.
 ghost use Rattle.std.specs.Prelude.{◌≡◌, ◌≤◌, length, map, Some, None};
-ghost use Rattle.std.specs.FinMap.{empty};
-ghost use Rattle.bz_sound.specs.Sound.{IsSound};
 ghost use Rattle.std.specs.Prelude.{◌++◌, codes};
+ghost use Rattle.bz_sound.specs.Memory.Sound.{IsSound};
 ghost use Rattle.bz_script.specs.Script.{job_of};
 ghost use Rattle.bz_script.specs.ItemLaws.{IsJob};
 ghost use Rattle.bz_text.specs.Report.{report_of};
@@ -93,7 +92,7 @@ fn no_memory<K: Sink>(sink: &mut K, lab: Option<World>) -> Outcome
 /// Writes the report of a run that is done.
 fn report<K: Sink>(alloc: Global, world: World, sink: &mut K) -> Outcome
     ensures lab { result.lab ≡ Some world }
-    ensures sound { IsSound empty world.log }
+    ensures sound { IsSound world.config world.log }
     ensures wrote { SaysOrWants
         (sunk (K.held sink.old) (K.held sink.new) (K.faults sink.old) (K.faults sink.new))
         0 (report_of world.log) result.status }
@@ -114,7 +113,7 @@ fn report<K: Sink>(alloc: Global, world: World, sink: &mut K) -> Outcome
 /// Writes the report of a run that met a limit, and then its fault line.
 fn report_limit<K: Sink>(alloc: Global, world: World, which: Which, sink: &mut K) -> Outcome
     ensures lab { result.lab ≡ Some world }
-    ensures sound { IsSound empty world.log }
+    ensures sound { IsSound world.config world.log }
     ensures wrote { SaysOrWants
         (sunk (K.held sink.old) (K.held sink.new) (K.faults sink.old) (K.faults sink.new))
         5 (report_of world.log ++ fault_line (limit_text which)) result.status }

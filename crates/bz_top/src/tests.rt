@@ -67,7 +67,7 @@ fn a_script_prints_its_report(rt: HostRuntime) -> Result<(), Fail> {
             "w1.1 insert abcdefghijklmnopqrstuvwxyz01 1 = inserted\n",
         ),
         (
-            "memory 1 1\nw 64 insert a%20b %\nw 64 get a%20b\nw 64 get %00\nrun alone\n",
+            "memory 1 2\nw 64 insert a%20b %\nw 64 get a%20b\nw 64 get %00\nrun alone\n",
             "w64.1 insert a%20b % = inserted\nw64.2 get a%20b = value %\nw64.3 get %00 = missing\n",
         ),
         (MIXED, MIXED_REPORT),
@@ -99,6 +99,15 @@ fn a_faulty_input_is_refused_by_name(rt: HostRuntime) -> Result<(), Fail> {
         ("memory 16 64 \n", "fault: line 1: wrong number of words\n"),
         ("memory 16 64\nrun fast\n", "fault: line 2: unknown word\n"),
         ("memory 16 64\n\nrun\n", "fault: line 2: unknown word\n"),
+        ("memory 16 64\nrun threads\n", "fault: line 2: unknown word\n"),
+        ("memory 16 64\ncut 1 0\n", "fault: line 2: unknown word\n"),
+        ("memory 16 64\nw 1 delete a\n", "fault: line 2: unknown word\n"),
+        ("memory 16 64\nrun list\n", "fault: line 2: wrong number of words\n"),
+        ("memory 16 64\nrun turns 1 2\n", "fault: line 2: wrong number of words\n"),
+        ("memory 16 64\nrun list 1*2*3\n", "fault: line 2: bad number\n"),
+        ("memory 16 64\nrun list 1 65 0*0\n", "fault: line 2: bad worker\n"),
+        ("memory 16 64\nrun list 1 2*65537 0\n", "fault: line 2: bad number\n"),
+        ("memory 16 64\nrun turns -1\n", "fault: line 2: bad number\n"),
         ("memory 16 64\nw 65 get a\n", "fault: line 2: bad worker\n"),
         (
             "memory 16 64\nw 0 get A%41\n",
@@ -136,6 +145,119 @@ fn words_that_are_no_command_meet_the_usage_line(rt: HostRuntime) -> Result<(), 
     let input = b"memory 16 64\n".as_slice();
     expect_run(&rt, rt.alloc(), &[], input, "fault: usage\n", 2)?;
     expect_run(&rt, rt.alloc(), &["run", "now"], input, "fault: usage\n", 2)
+}
+
+// Plans one after the other, over calls that the one before leaves open or queued.
+const PLANS: &str =
+    "memory 16 64\nw 1 insert a 1\nw 1 get a\nrun list 3*9 1\nw 2 get a\nrun list 2*4000\nrun turns 7\nw 3 page a\nw 1 insert b 2\nrun list 1*30\nw 2 page a\nrun list 1*4000 3*4000\nrun turns 18446744073709551615\nrun alone\n";
+
+const PLANS_REPORT: &str =
+    "w2.1 get a = missing\nw1.1 insert a 1 = inserted\nw1.2 get a = value 1\nw1.3 insert b 2 = inserted\nw3.1 page a = page a=1 b=2 end\nw2.2 page a = page a=1 b=2 end\n";
+
+// A descriptor for each of an insert's two swaps, and none for the next.
+const TWO_SWAPS: &str =
+    "memory 16 2\nw 1 insert a 1\nw 1 insert b 2\nw 1 insert a 3\nw 1 get a\nrun alone\n";
+
+const TWO_SWAPS_REPORT: &str =
+    "w1.1 insert a 1 = inserted\nw1.2 insert b 2 = full swaps\nw1.3 insert a 3 = exists\nw1.4 get a = value 1\n";
+
+// One descriptor, which the first swap of an insert takes.
+const ONE_SWAP: &str =
+    "memory 16 1\nw 1 insert a 1\nw 2 get a\nw 3 insert a 3\nw 4 page a\nrun alone\n";
+
+const ONE_SWAP_REPORT: &str =
+    "w1.1 insert a 1 = full swaps\nw2.1 get a = missing\nw3.1 insert a 3 = full swaps\nw4.1 page a = page end\n";
+
+#[test]
+fn plans_and_descriptors_show_in_the_report(rt: HostRuntime) -> Result<(), Fail> {
+    for (input, output) in [
+        (PLANS, PLANS_REPORT),
+        (TWO_SWAPS, TWO_SWAPS_REPORT),
+        (ONE_SWAP, ONE_SWAP_REPORT),
+        ("memory 16 64\nrun turns 1\nrun list 1*65536\nrun alone\n", ""),
+        ("memory 16 64\nw 1 insert a 1\nrun list 1*10\n", ""),
+        (
+            "memory 1 2\nw 64 insert a 1\nrun turns 0\nw 64 get a\nrun list 1 64*65536 2\n",
+            "w64.1 insert a 1 = inserted\nw64.2 get a = value 1\n",
+        ),
+    ] {
+        expect_run(&rt, rt.alloc(), &["run"], input.as_bytes(), output, 0)?;
+    }
+    Ok(())
+}
+
+// The scripts of examples/, with what they print.
+const INTERLEAVED: &str =
+    "memory 16 64\nw 1 insert a 1\nw 1 get a\nw 2 insert a 2\nw 3 insert a 3\nrun list 1*30 2*30 3*4000\nrun alone\n";
+
+const INTERLEAVED_REPORT: &str =
+    "w3.1 insert a 3 = inserted\nw1.1 insert a 1 = exists\nw1.2 get a = value 3\nw2.1 insert a 2 = exists\n";
+
+const STOPPED: &str =
+    "memory 16 64\nw 1 insert a 1\nw 2 insert b 2\nw 2 page a\nw 3 insert c 3\nw 3 get a\nrun list 1*30 2*20 3*4000 2*4000\nw 3 page a\nrun alone\n";
+
+const STOPPED_REPORT: &str =
+    "w3.1 insert c 3 = inserted\nw3.2 get a = missing\nw2.1 insert b 2 = inserted\nw2.2 page a = page b=2 c=3 end\nw1.1 insert a 1 = inserted\nw3.3 page a = page a=1 b=2 c=3 end\n";
+
+const EVICTIONS: &str =
+    "memory 1 16\nw 1 insert a 1\nw 1 insert b 2\nrun turns 1\nw 1 get a\nw 2 get b\nw 3 page a\nrun turns 193\n";
+
+const EVICTIONS_REPORT: &str =
+    "w1.1 insert a 1 = inserted\nw1.2 insert b 2 = inserted\nw2.1 get b = value 2\nw3.1 page a = page a=1 b=2 end\nw1.3 get a = value 1\n";
+
+#[test]
+fn the_examples_print_what_is_said_of_them(rt: HostRuntime) -> Result<(), Fail> {
+    for (input, output) in [
+        (INTERLEAVED, INTERLEAVED_REPORT),
+        (STOPPED, STOPPED_REPORT),
+        (EVICTIONS, EVICTIONS_REPORT),
+    ] {
+        expect_run(&rt, rt.alloc(), &["run"], input.as_bytes(), output, 0)?;
+    }
+    Ok(())
+}
+
+// A run on an input prints one of two outputs.
+fn expect_either<R: Threads + Wait + Abort + Sync>(
+    rt: &R,
+    alloc: Global,
+    input: &str,
+    one: &str,
+    other: &str,
+) -> Result<(), Fail> {
+    let mut source = MemSource::of(alloc, input.as_bytes())?;
+    let mut sink = MemSink::open(alloc, 65536)?;
+    let got = status(rt, alloc, &["run"], &mut source, &mut sink);
+    assert_eq!(rt; got, 0);
+    let held = sink.bytes();
+    assert!(rt; held == one.as_bytes() || held == other.as_bytes());
+    Ok(())
+}
+
+#[test]
+fn two_inserts_of_one_key_are_one_insert(rt: HostRuntime) -> Result<(), Fail> {
+    let first = "w1.1 insert a 1 = inserted\nw2.1 insert a 2 = exists\n";
+    let second = "w2.1 insert a 2 = inserted\nw1.1 insert a 1 = exists\n";
+    for k in 1..61u32 {
+        let input = format!(in rt.alloc();
+            "memory 16 256\nw 1 insert a 1\nw 2 insert a 2\nrun list 1*{k} 2*{k}\nrun alone\n"
+        )?;
+        expect_either(&rt, rt.alloc(), &input, first, second)?;
+    }
+    Ok(())
+}
+
+#[test]
+fn a_stopped_worker_holds_nobody_up(rt: HostRuntime) -> Result<(), Fail> {
+    let alone = "w2.1 insert b 2 = inserted\n";
+    let both = "w1.1 insert a 1 = inserted\nw2.1 insert b 2 = inserted\n";
+    for k in 1..201u32 {
+        let input = format!(in rt.alloc();
+            "memory 16 256\nw 1 insert a 1\nw 2 insert b 2\nrun list 1*{k} 2*4000\n"
+        )?;
+        expect_either(&rt, rt.alloc(), &input, alone, both)?;
+    }
+    Ok(())
 }
 
 // A script that is one line feed short, with this many bytes.
@@ -198,9 +320,43 @@ fn more_calls_than_may_begin_meet_the_limit(rt: HostRuntime) -> Result<(), Fail>
     expect_limit(&rt, rt.alloc(), "w 1 page a\n", 4_097, 105408, page_end)
 }
 
+// A full leaf, gets of its first key, and what they print if there are marks enough.
+fn many_gets(alloc: Global, gets: u32) -> Result<(String, String), Fail> {
+    let mut input = format!(in alloc; "memory 1 128\n")?;
+    let mut output = String::new(alloc);
+    for number in 1..40u32 {
+        input.push_str(&format!(in alloc; "w 1 insert k{number:02} v\n")?)?;
+        output.push_str(&format!(in alloc; "w1.{number} insert k{number:02} v = inserted\n")?)?;
+    }
+    for number in 1..gets {
+        input.push_str("w 2 get k01\n")?;
+        output.push_str(&format!(in alloc; "w2.{number} get k01 = value v\n")?)?;
+    }
+    input.push_str("run alone\n")?;
+    Ok((input, output))
+}
+
+#[test]
+fn more_marks_than_fit_meet_the_limit(rt: HostRuntime) -> Result<(), Fail> {
+    let alloc = rt.alloc();
+    let (input, output) = many_gets(alloc, 40_000)?;
+    let mut source = MemSource::of(alloc, input.as_bytes())?;
+    let mut sink = MemSink::open(alloc, 2_000_000)?;
+    let got = status(&rt, alloc, &["run"], &mut source, &mut sink);
+    assert_eq!(rt; got, 5);
+    let held = sink.bytes();
+    let end = b"\nfault: limit marks\n".as_slice();
+    assert!(rt; held.ends_with(end));
+    // whole lines of what the whole run prints, and at least all of the inserts
+    let lines = &held[..held.len().saturating_sub(19)];
+    assert!(rt; lines.len() < output.len() && output.as_bytes().starts_with(lines));
+    assert!(rt; lines.len() > 39 * 27);
+    Ok(())
+}
+
 // So many inserts of different keys, each two digits and this text, and what they print: the last one finds no room.
 fn inserts(alloc: Global, count: u32, text: &str) -> Result<(String, String), Fail> {
-    let mut input = format!(in alloc; "memory 16 64\n")?;
+    let mut input = format!(in alloc; "memory 1 128\n")?;
     let mut output = String::new(alloc);
     for before in 0..count {
         let number = before + 1;

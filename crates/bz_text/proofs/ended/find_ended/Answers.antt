@@ -1,4 +1,4 @@
-use Rattle.std.proofs.Common.{◌≡◌, refl, sym, ap, ◌∙◌, arith, rules}
+use Rattle.std.proofs.Common.{refl}
 use Rattle.bz_text.proofs.ReadLemmas.{read_none}
 use Rattle.bz_text.proofs.ended.find_ended.Goals as goal
 

@@ -1,7 +1,4 @@
-use Rattle.std.proofs.Common.{◌≡◌, ◌<◌, ◌≤◌, List, ◌++◌, get_or, None, refl, sym, ap, ◌∙◌, arith, rules, append-nil, replicate}
-use Rattle.bz_mark.specs.Moments.{at_moment}
-use Rattle.bz_sound.specs.Calls.{open_call}
-use Rattle.bz_text.specs.Report.{ended_by}
+use Rattle.std.proofs.Common.{List, ◌++◌, None, sym, ap, ◌∙◌, arith, rules, append-nil, replicate}
 use Rattle.bz_text.proofs.ReadLemmas.{read_begin, read_end, read_cut, read_other, none_open, some_open, since_is, other_from}
 use Rattle.bz_text.specs.declared.ended.EndedCall.{EndedCall}
 use Rattle.bz_text.proofs.ended.read_mark.Goals as goal

@@ -1,7 +1,6 @@
-use Rattle.std.proofs.Common.{◌≡◌, ◌++◌, take}
+use Rattle.std.proofs.Common.{◌≡◌, take}
 use Rattle.std.specs.List.{flat_map}
 use Rattle.bz_text.specs.Lines.{line_of}
-use Rattle.bz_text.specs.Report.{in_order, ended_calls}
 use Rattle.bz_text.proofs.report.report_text.Given as goal
 
 abbrev pub invariant-loop-ended : goal.invariant-loop-ended

@@ -1,0 +1,115 @@
+-- Rounds by draws.
+use Rattle.std.proofs.Common.{◌≡◌, ◌≢◌, ◌<◌, ℕ, zero, suc, ◌+◌, ◌%◌, ◌/◌, Bool, true, false, List, [], ◌∷◌, length, slice_index, refl, sym, ap, subst, ◌∙◌, arith}
+use Rattle.std.proofs.lemmas.Bool.Decides.{nat_tests}
+use Rattle.bz_layout.specs.Addresses.{words_of}
+use Rattle.bz_script.specs.Draws.{next_state, draw_of}
+use Rattle.bz_world.specs.Lab.{Lab}
+use Rattle.bz_world.specs.declared.answers.Which.{Which}
+use Rattle.bz_sched.specs.Points.{Point, is_busy, IsTurn}
+use Rattle.bz_sched.specs.Queued.{Queued, has_work}
+use Rattle.bz_sched.specs.Runs.{point_of, IsReady, IsAtLimit, Keeps, EndsBy}
+use Rattle.bz_sched.specs.declared.running.RunEnd.{RunEnd}
+use Rattle.bz_sched.specs.declared.running.RunEnd.TheVariants.{Finished, Limit}
+use Rattle.bz_sched.specs.Turns.{passing_from, busy_workers, drawn_worker, IsEviction, evicts, IsRoundBy, IsRound, after_round, RunsRounds, RunsTurns}
+use Rattle.bz_sched.specs.TurnsInPart.{StopsEvent, StopsTurn, StopsRoundBy, StopsRound, RunsRoundsInPart, RunsTurnsInPart}
+use Rattle.bz_sched.proofs.ReadyLemmas.{keeps_none, keeps_both, work_is}
+
+-- the queue's own test lists the workers that the point does
+same_list : (test other : ℕ → Bool) (w more : ℕ) → ((v : ℕ) → test v ≡ other v) → passing_from test w more ≡ passing_from other w more
+same_list test other w zero same = refl
+same_list test other w (suc more) same = rw (same w, same_list test other (w + 1) more same) refl
+
+pub workers_are : (world : Lab) (queued : Queued) → IsReady world queued → passing_from (has_work queued) 1 64 ≡ busy_workers (point_of world queued)
+workers_are world queued ready = same_list (has_work queued) (λ w. is_busy w (point_of world queued)) 1 64 (λ w. work_is world queued w ready)
+
+-- rounds were made: what follows them follows from the start
+pub record Drawing (words seed state : ℕ) (old : Lab) (queued : Queued) (world : Lab) (left : Queued) : Type 0 where
+  pub keeps : Keeps old queued world left
+  pub whole : (rounds : ℕ) (new : Point) → RunsRounds words rounds state (point_of world left) new → RunsTurns words seed (point_of old queued) new
+  pub part : (why : Which) (rounds : ℕ) (new : Point) → RunsRoundsInPart why words rounds state (point_of world left) new → RunsTurnsInPart why words seed (point_of old queued) new
+
+pub drawing_none : (seed : ℕ) (old : Lab) (queued : Queued) → IsReady old queued → Drawing (words_of old.config) seed seed old queued old queued
+drawing_none seed old queued ready = record {
+  keeps = keeps_none old queued ready;
+  whole = λ rounds new runs. (rounds, runs);
+  part = λ why rounds new runs. (rounds, runs);
+}
+
+some_listed : (queued : Queued) (workers : List ℕ) (busy : ℕ) → busy ≡ length (passing_from (has_work queued) 1 64) → passing_from (has_work queued) 1 64 ≡ workers → 0 < busy → workers ≢ []
+some_listed queued workers busy count is some none = absurd (omega (arith, some, count, ap length is, ap length none))
+
+pub some_busy : (world : Lab) (queued : Queued) (busy : ℕ) → IsReady world queued → busy ≡ length (passing_from (has_work queued) 1 64) → 0 < busy → busy_workers (point_of world queued) ≢ []
+some_busy world queued busy ready count some = some_listed queued (busy_workers (point_of world queued)) busy count (workers_are world queued ready) some
+
+empty_list : (xs : List ℕ) → length xs ≡ 0 → xs ≡ []
+empty_list [] is = refl
+empty_list (x ∷ xs) is = absurd (omega (arith, is))
+
+pub none_busy : (world : Lab) (queued : Queued) (busy : ℕ) → IsReady world queued → busy ≡ length (passing_from (has_work queued) 1 64) → busy ≡ 0 → busy_workers (point_of world queued) ≡ []
+none_busy world queued busy ready count none = sym (workers_are world queued ready) ∙ empty_list (passing_from (has_work queued) 1 64) (sym count ∙ none)
+
+-- a round more
+pub drawing_more : (words seed state : ℕ) (old : Lab) (queued : Queued) (world : Lab) (left : Queued) (new : Lab) (after : Queued) → words ≡ words_of world.config → Drawing words seed state old queued world left
+    → busy_workers (point_of world left) ≢ [] → Keeps world left new after × IsRound (words_of world.config) (next_state state) (point_of world left) (point_of new after)
+    → Drawing words seed (after_round (next_state state)) old queued new after
+drawing_more words seed state old queued world left new after same d some (keeps, round) =
+    let here : IsRound words (next_state state) (point_of world left) (point_of new after) = subst (λ (size : ℕ). IsRound size (next_state state) (point_of world left) (point_of new after)) (sym same) round in
+    record {
+      keeps = keeps_both old world new queued left after d.keeps keeps;
+      whole = λ rounds end runs. d.whole (suc rounds) end (some, (point_of new after, here, runs));
+      part = λ why rounds end runs. d.part why (suc rounds) end (some, (point_of new after, here, runs));
+    }
+
+pub drawing_done : (words seed state : ℕ) (old : Lab) (queued : Queued) (world : Lab) (left : Queued) → Drawing words seed state old queued world left → busy_workers (point_of world left) ≡ []
+    → Keeps old queued world left × RunsTurns words seed (point_of old queued) (point_of world left)
+drawing_done words seed state old queued world left d none = (d.keeps, d.whole 0 (point_of world left) (none, refl))
+
+pub drawing_stops : (words seed state : ℕ) (old : Lab) (queued : Queued) (world : Lab) (left : Queued) (why : Which) (new : Lab) (after : Queued) → Drawing words seed state old queued world left
+    → busy_workers (point_of world left) ≢ [] → Keeps world left new after × StopsRound why (next_state state) (point_of world left) (point_of new after) × IsAtLimit new why
+    → Keeps old queued new after × RunsTurnsInPart why words seed (point_of old queued) (point_of new after) × IsAtLimit new why
+drawing_stops words seed state old queued world left why new after d some (keeps, stops, met) =
+    (keeps_both old world new queued left after d.keeps keeps, d.part why 0 (point_of new after) (some, stops), met)
+
+-- the worker that is drawn
+drawn_from : (workers others : List ℕ) (draw busy w : ℕ) → workers ≡ others → busy ≡ length workers → w ≡ slice_index workers ((draw / 8) % busy) → w ≡ slice_index others ((draw / 8) % length others)
+drawn_from workers others draw busy w same count is = is ∙ ap (λ (n : ℕ). slice_index workers ((draw / 8) % n)) count ∙ ap (λ (list : List ℕ). slice_index list ((draw / 8) % length list)) same
+
+pub drawn_is : (world : Lab) (queued : Queued) (draw other busy w : ℕ) → IsReady world queued → other ≡ draw → busy ≡ length (passing_from (has_work queued) 1 64)
+    → w ≡ slice_index (passing_from (has_work queued) 1 64) ((other / 8) % busy) → w ≡ drawn_worker draw (point_of world queued)
+drawn_is world queued draw other busy w ready same count is =
+    drawn_from (passing_from (has_work queued) 1 64) (busy_workers (point_of world queued)) draw busy w (workers_are world queued ready) count
+    (is ∙ ap (λ (n : ℕ). slice_index (passing_from (has_work queued) 1 64) ((n / 8) % busy)) same)
+
+-- the word that is drawn
+pub word_is : (draw other size words : ℕ) → draw ≡ other → size ≡ words → draw % size ≡ other % words
+word_is draw other size words same whole = ap (λ (n : ℕ). n % size) same ∙ ap (λ (n : ℕ). other % n) whole
+
+-- a round by its first draw
+round_of : (words state : ℕ) (b : Bool) (old new : Point) → evicts state ≡ b → IsRoundBy b words state old new → IsRound words state old new
+round_of words state b old new is round = subst (λ (way : Bool). IsRoundBy way words state old new) (sym is) round
+
+stop_of : (why : Which) (state : ℕ) (b : Bool) (old new : Point) → evicts state ≡ b → StopsRoundBy b why state old new → StopsRound why state old new
+stop_of why state b old new is stops = subst (λ (way : Bool). StopsRoundBy way why state old new) (sym is) stops
+
+pub eviction_round : (state words a : ℕ) (old : Lab) (queued : Queued) (end : RunEnd) (new : Lab) (left : Queued) → evicts state ≡ true → a ≡ draw_of (next_state state) % words
+    → EndsBy (IsEviction a) StopsEvent old queued end new left → EndsBy (IsRound words state) (λ why. StopsRound why state) old queued end new left
+eviction_round state words a old queued Finished new left is drawn (keeps, evicted) =
+    (keeps, round_of words state true (point_of old queued) (point_of new left) is (subst (λ (word : ℕ). IsEviction word (point_of old queued) (point_of new left)) drawn evicted))
+eviction_round state words a old queued (Limit why) new left is drawn (keeps, stops, met) = (keeps, stop_of why state true (point_of old queued) (point_of new left) is stops, met)
+
+pub turn_round : (state words w : ℕ) (old : Lab) (queued : Queued) (end : RunEnd) (new : Lab) (left : Queued) → evicts state ≡ false → w ≡ drawn_worker (draw_of state) (point_of old queued)
+    → EndsBy (IsTurn w) (λ why. StopsTurn why w) old queued end new left → EndsBy (IsRound words state) (λ why. StopsRound why state) old queued end new left
+turn_round state words w old queued Finished new left is drawn (keeps, turn) =
+    (keeps, round_of words state false (point_of old queued) (point_of new left) is (subst (λ (v : ℕ). IsTurn v (point_of old queued) (point_of new left)) drawn turn))
+turn_round state words w old queued (Limit why) new left is drawn (keeps, stops, met) =
+    (keeps, stop_of why state false (point_of old queued) (point_of new left) is (subst (λ (v : ℕ). StopsTurn why v (point_of old queued) (point_of new left)) drawn stops), met)
+
+pub after_turn : (state : ℕ) → evicts state ≡ false → state ≡ after_round state
+after_turn state is = rw is refl
+
+-- what a draw tells
+pub draws_eviction : (state draw : ℕ) → draw ≡ draw_of state → draw % 8 ≡ 0 → evicts state ≡ true
+draws_eviction state draw is zeroed = let none : draw_of state % 8 ≡ 0 = ap (λ (n : ℕ). n % 8) (sym is) ∙ zeroed in rw none refl
+
+pub draws_turn : (state draw : ℕ) → draw ≡ draw_of state → (draw % 8 ≡ 0 → ⊥) → evicts state ≡ false
+draws_turn state draw is some = let rest : draw_of state % 8 ≢ 0 = λ none. some (ap (λ (n : ℕ). n % 8) is ∙ none) in grind (arith, nat_tests)

@@ -1,0 +1,25 @@
+use Rattle.std.proofs.Common.{ap, ◌∙◌}
+use Rattle.bz_layout.specs.Addresses.{words_of}
+use Rattle.bz_script.specs.Draws.{next_state, draw_of}
+use Rattle.bz_sched.proofs.DrawLemmas.{drawn_is, word_is, eviction_round, turn_round, after_turn, draws_eviction, draws_turn}
+use Rattle.bz_sched.proofs.draws.run_round.Goals as goal
+
+pub returns-then-draw-eq0-clause-ends : goal.returns-then-draw-eq0-clause-ends
+returns-then-draw-eq0-clause-ends c =
+    let first = c.next_draw-draw.ensures.draw ∙ ap draw_of c.next_draw-draw.ensures.state in
+    let evicted = draws_eviction (next_state c.args.state.now) c.next_draw-draw.result first c.if-draw-eq0.true in
+    let second = c.next_draw.ensures.draw ∙ ap draw_of (c.next_draw.ensures.state ∙ ap next_state c.next_draw-draw.ensures.state) in
+    let word = word_is c.next_draw.result (draw_of (next_state (next_state c.args.state.now))) c.words.result (words_of c.args.world.now.config) second (c.words.ensures ∙ ap words_of c.config.ensures.config) in
+    eviction_round (next_state c.args.state.now) (words_of c.args.world.now.config) _ c.args.world.now c.args.queue.now c.evict.result c.evict.new.world c.args.queue.now evicted word (c.evict.ensures.ends c.args.queue.now c.requires.ready)
+
+pub returns-else-draw-eq0-clause-ends : goal.returns-else-draw-eq0-clause-ends
+returns-else-draw-eq0-clause-ends c =
+    let first = c.next_draw-draw.ensures.draw ∙ ap draw_of c.next_draw-draw.ensures.state in
+    let turned = draws_turn (next_state c.args.state.now) c.next_draw-draw.result first c.if-draw-eq0.false in
+    let drawn = drawn_is c.args.world.now c.args.queue.now (draw_of (next_state c.args.state.now)) c.next_draw-draw.result c.args.busy c.busy_worker-w.result c.requires.ready first c.requires.busy c.busy_worker-w.ensures.is in
+    turn_round (next_state c.args.state.now) (words_of c.args.world.now.config) c.busy_worker-w.result c.args.world.now c.args.queue.now c.take_turn.result c.take_turn.new.world c.take_turn.new.queue turned drawn c.take_turn.ensures.ends
+
+pub returns-else-draw-eq0-clause-state : goal.returns-else-draw-eq0-clause-state
+returns-else-draw-eq0-clause-state c =
+    let first = c.next_draw-draw.ensures.draw ∙ ap draw_of c.next_draw-draw.ensures.state in
+    c.next_draw-draw.ensures.state ∙ after_turn (next_state c.args.state.now) (draws_turn (next_state c.args.state.now) c.next_draw-draw.result first c.if-draw-eq0.false)

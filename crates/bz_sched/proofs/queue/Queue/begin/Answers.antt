@@ -1,0 +1,26 @@
+use Rattle.std.proofs.Common.{◌<◌, true, length, arith}
+use Rattle.bz_sched.proofs.QueueLemmas.{found_none, found_taken, kept_begun, flag_set}
+use Rattle.bz_sched.proofs.queue.Queue.begin.Goals as goal
+
+pub invariant_of-self : goal.invariant_of-self
+invariant_of-self c =
+    let found = rw c.deref.ensures.value at c.find_call.ensures in
+    let small : c.args.w < length c.self.inside.next = omega (arith, c.self.told.0, c.requires.worker) in
+    let few : c.args.w < length c.self.inside.waiting = omega (arith, c.self.told.1, c.requires.worker) in
+    kept_begun _ _ _ _ _ c.args.w c.in-Some.at c.self.invariant small few (rw c.in-Some.is at found)
+
+pub unreachable-requires : goal.unreachable-requires
+unreachable-requires c =
+    let found = rw c.deref.ensures.value at c.find_call.ensures in
+    c.requires.some (rw (← c.self.view_is) (found_none c.self.inside.calls.items c.self.inside.next c.args.w (rw c.in-None.is at found)))
+
+pub returns-clause-calls : goal.returns-clause-calls
+returns-clause-calls c =
+    let found = rw c.deref.ensures.value at c.find_call.ensures in
+    let small : c.args.w < length c.self.inside.next = omega (arith, c.self.told.0, c.requires.worker) in
+    rw (← c.self.view_is) (found_taken c.self.inside.calls.items c.self.inside.next c.args.w c.in-Some.at small (rw c.in-Some.is at found))
+
+pub returns-clause-begun : goal.returns-clause-begun
+returns-clause-begun c =
+    let small : c.args.w < length c.self.inside.begun = omega (arith, c.self.told.2, c.requires.worker) in
+    rw (← c.self.view_is) (flag_set c.self.inside.begun c.args.w true small)

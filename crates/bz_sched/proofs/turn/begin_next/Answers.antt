@@ -1,0 +1,22 @@
+use Rattle.std.proofs.Common.{sym, ◌∙◌, inl, inr}
+use Rattle.bz_sched.proofs.BeginLemmas.{Waits, no_stranger, not_busy, begins}
+use Rattle.bz_sched.proofs.turn.begin_next.Goals as goal
+
+pub unreachable-requires : goal.unreachable-requires
+unreachable-requires c =
+    let waits : Waits c.args.world.now c.args.queue.now c.args.w c.in-Some.call = record { ready = c.requires.ready; closed = c.requires.closed; first = c.in-Some.ensures } in
+    elim c.in-NoWorker.is [
+      | inl is ↦ no_stranger c.args.world.now c.args.queue.now c.args.w c.in-Some.call waits (sym is ∙ c.begin.ensures.answer)
+      | inr is ↦ not_busy c.args.world.now c.args.queue.now c.args.w c.in-Some.call waits (sym is ∙ c.begin.ensures.answer)
+    ]
+
+pub returns-in-Begun-clause-ends : goal.returns-in-Begun-clause-ends
+returns-in-Begun-clause-ends c =
+    let waits : Waits c.args.world.now c.args.queue.now c.args.w c.in-Some.call = record { ready = c.requires.ready; closed = c.requires.closed; first = c.in-Some.ensures } in
+    begins c.args.world.now c.args.queue.now c.args.w c.in-Some.call c.in-Begun.field-0 c.begin.new.self c.begin-in-Begun.new.self waits (record {
+      answer = c.in-Begun.ensures.answer;
+      after = c.in-Begun.ensures.after;
+      calls = c.begin-in-Begun.ensures.calls;
+      room = c.begin-in-Begun.ensures.room;
+      begun = c.begin-in-Begun.ensures.begun;
+    })
