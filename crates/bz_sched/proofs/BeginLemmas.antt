@@ -14,7 +14,7 @@ use Rattle.bz_world.specs.declared.answers.Begun.TheVariants.{Begun, NoWorker, B
 use Rattle.bz_world.specs.declared.answers.Which.{Which}
 use Rattle.bz_world.specs.declared.answers.Which.TheVariants as which
 use Rattle.bz_sched.specs.Points.{ready, GetsReady}
-use Rattle.bz_sched.specs.Queued.{Queued, calls_of, without_first, has_open, Marks}
+use Rattle.bz_sched.specs.Queued.{Queued, calls_of, without_first, has_open, SetsOpen}
 use Rattle.bz_sched.specs.Runs.{point_of, IsReady, IsAtLimit, Keeps}
 use Rattle.bz_sched.specs.TurnsInPart.{StopsTurn}
 use Rattle.bz_sched.proofs.ReadyLemmas.{keeps_none, first_can_begin, others_can_begin, opens, marks_known, openers_known}
@@ -119,9 +119,9 @@ pub record Begins (lab : Lab) (queued : Queued) (w : ℕ) (call : Call) (n : ℕ
   pub after : new ≡ after_begin lab w call (Begun n)
   pub calls : left.calls ≡ without_first w queued.calls
   pub room : left.room ≡ queued.room
-  pub begun : Marks queued w true left
+  pub begun : SetsOpen queued w true left
 
-begun_ready : (lab : Lab) (queued : Queued) (w n : ℕ) (call : Call) (left : Queued) → Waits lab queued w call → left.calls ≡ without_first w queued.calls → Marks queued w true left → IsReady (after_begin lab w call (Begun n)) left
+begun_ready : (lab : Lab) (queued : Queued) (w n : ℕ) (call : Call) (left : Queued) → Waits lab queued w call → left.calls ≡ without_first w queued.calls → SetsOpen queued w true left → IsReady (after_begin lab w call (Begun n)) left
 begun_ready lab queued w n call left h calls begun = record {
   config = h.ready.config;
   calls = rw calls (others_can_begin lab.config queued.calls w h.ready.calls);
@@ -145,7 +145,7 @@ begins lab queued w call n new left h b = rw b.after (
 )
 
 -- and is open then
-pub begun_is_open : (queued left : Queued) (w : ℕ) → Marks queued w true left → has_open left w ≡ true
+pub begun_is_open : (queued left : Queued) (w : ℕ) → SetsOpen queued w true left → has_open left w ≡ true
 begun_is_open queued left w marks =
     let same : (w == w) ≡ true = grind (arith, nat_tests) in
     marks w ∙ rw same refl

@@ -1,7 +1,10 @@
+pub mod LookLemmas
+pub mod FirstLemmas
 pub mod QueueLemmas
 pub mod ReadyLemmas
 pub mod BeginLemmas
 pub mod StepLemmas
+pub mod EvictionLemmas
 pub mod WordLemmas
 pub mod AloneLemmas
 pub mod BusyLemmas

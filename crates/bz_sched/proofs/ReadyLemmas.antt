@@ -8,7 +8,7 @@ use Rattle.bz_sound.specs.Calls.{Open}
 use Rattle.bz_world.specs.Lab.{Lab, IsWorker, is_short}
 use Rattle.bz_sched.specs.Points.{ready, ready_by, is_busy}
 use Rattle.bz_sched.specs.QueueLaws.{same_owner}
-use Rattle.bz_sched.specs.Queued.{Queued, calls_of, without_first, is_busy_by, has_open, has_work, Marks}
+use Rattle.bz_sched.specs.Queued.{Queued, calls_of, without_first, is_busy_by, has_open, has_work, SetsOpen}
 use Rattle.bz_sched.specs.Runs.{point_of, CanBegin, IsReady, marks_left, Keeps}
 
 pub keeps_none : (world : Lab) (queued : Queued) → IsReady world queued → Keeps world queued world queued
@@ -74,7 +74,7 @@ changes_no true f None = refl
 changes_no false f rest = refl
 
 -- the queue knows of it
-pub marks_known : (queued left : Queued) (past new : ℕ → Option Open) (w : ℕ) (now : Bool) → ((v : ℕ) → has_open queued v ≡ is_some (past v)) → Marks queued w now left
+pub marks_known : (queued left : Queued) (past new : ℕ → Option Open) (w : ℕ) (now : Bool) → ((v : ℕ) → has_open queued v ≡ is_some (past v)) → SetsOpen queued w now left
     → ((v : ℕ) → is_some (new v) ≡ (if w == v then now else is_some (past v))) → (v : ℕ) → has_open left v ≡ is_some (new v)
 marks_known queued left past new w now known marks is v = marks v ∙ ap (λ (b : Bool). if w == v then now else b) (known v) ∙ sym (is v)
 
@@ -82,7 +82,7 @@ one_opener : (config : Config) (queued : Queued) (w v : ℕ) (now b : Bool) → 
 one_opener config queued w v now true is worker known has = rw (same_owner w v is) at worker
 one_opener config queued w v now false is worker known has = known has
 
-pub openers_known : (config : Config) (queued left : Queued) (w : ℕ) (now : Bool) → IsWorker config w → ((v : ℕ) → has_open queued v ≡ true → IsWorker config v) → Marks queued w now left → (v : ℕ) → has_open left v ≡ true → IsWorker config v
+pub openers_known : (config : Config) (queued left : Queued) (w : ℕ) (now : Bool) → IsWorker config w → ((v : ℕ) → has_open queued v ≡ true → IsWorker config v) → SetsOpen queued w now left → (v : ℕ) → has_open left v ≡ true → IsWorker config v
 openers_known config queued left w now worker known marks v is = one_opener config queued w v now (w == v) refl worker (known v) (sym (marks v) ∙ is)
 
 -- fewer places are left

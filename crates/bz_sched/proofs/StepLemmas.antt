@@ -1,25 +1,23 @@
--- Steps of a worker's open call, and evictions.
+-- Steps of a worker's open call.
 use Rattle.std.proofs.Common.{◌≡◌, ◌<◌, ◌⊎◌, inl, inr, ℕ, Bool, true, false, List, [], ◌∷◌, ◌++◌, length, refl, sym, ap, ◌∙◌, arith, Option, Some, None, ◌==◌, nat_lt}
-use Rattle.std.specs.Prelude.{is_none, is_some, if◌then◌else◌, nat_le, MatchOption}
+use Rattle.std.specs.Prelude.{is_none, is_some, if◌then◌else◌, MatchOption}
 use Rattle.std.proofs.lemmas.Bool.Decides.{nat_tests}
 use Rattle.std.proofs.lemmas.List.{length-append}
 use Rattle.bz_acts.specs.declared.acted.Act.{Act}
 use Rattle.bz_acts.specs.declared.acted.Act.TheVariants as act
 use Rattle.bz_call.specs.declared.replies.Reply.{Reply}
-use Rattle.bz_layout.specs.Addresses.{words_of}
 use Rattle.bz_mark.specs.Log.{Log}
 use Rattle.bz_mark.specs.declared.marks.Mark.{Mark}
 use Rattle.bz_mark.specs.declared.marks.Mark.TheVariants as mark
 use Rattle.bz_sound.specs.Calls.{Open, open_call}
-use Rattle.bz_world.specs.Lab.{Lab, is_short, step_refusal, mark_of, IsStruck, Steps, evict_refusal, Evicts, IsApplied}
+use Rattle.bz_world.specs.Lab.{Lab, is_short, step_refusal, mark_of, IsStruck, Steps, IsApplied}
 use Rattle.bz_world.specs.declared.answers.Applied.{Applied}
 use Rattle.bz_world.specs.declared.answers.Applied.TheVariants as applied
 use Rattle.bz_world.specs.declared.answers.Event.TheVariants as event
 use Rattle.bz_world.specs.declared.answers.Which.TheVariants as which
 use Rattle.bz_sched.specs.Points.{actor, IsUpToOneEffect, IsStep, TakesStep}
-use Rattle.bz_sched.specs.Queued.{Queued, has_open, Marks}
+use Rattle.bz_sched.specs.Queued.{Queued, has_open, SetsOpen}
 use Rattle.bz_sched.specs.Runs.{point_of, IsReady, IsAtLimit, Keeps}
-use Rattle.bz_sched.specs.Turns.{IsEviction}
 use Rattle.bz_sched.specs.TurnsInPart.{StopsEvent}
 use Rattle.bz_sched.proofs.ReadyLemmas.{keeps_none, ends, changes_no, marks_known, openers_known}
 
@@ -30,7 +28,7 @@ pub record Strikes (first : Mark) (past struck : List Mark) : Type 0 where
   pub one_effect : IsUpToOneEffect effect
   pub opens : (v : ℕ) → is_some (open_call v struck) ≡ is_some (open_call v (first ∷ past))
 
-struck_is : (first : Mark) (past struck : List Mark) → IsStruck (first ∷ past) struck → Strikes first past struck
+pub struck_is : (first : Mark) (past struck : List Mark) → IsStruck (first ∷ past) struck → Strikes first past struck
 struck_is first past struck (inl same) = record { effect = []; is = same; one_effect = tt; opens = λ v. rw same refl }
 struck_is first past struck (inr (w, (n, is))) = record {
   effect = mark.Effect w n ∷ [];
@@ -146,7 +144,7 @@ ended_opens old w n new s v =
     let before : is_some (open_call v s.struck) ≡ is_some (open_call v old.log.past) = struck.opens v ∙ ap is_some (act_opens s.made w v old.log.past) in
     ap (λ (log : Log). is_some (open_call v log.past)) s.ends.is ∙ end_opens s.struck w v n s.ends.at s.ends.reply ∙ ap (λ (b : Bool). if w == v then false else b) before
 
-ended_ready : (old : Lab) (queued : Queued) (w n : ℕ) (new : Lab) (left : Queued) → IsReady old queued → has_open queued w ≡ true → Steps old w (applied.Ended n) new → left.calls ≡ queued.calls → Marks queued w false left → IsReady new left
+ended_ready : (old : Lab) (queued : Queued) (w n : ℕ) (new : Lab) (left : Queued) → IsReady old queued → has_open queued w ≡ true → Steps old w (applied.Ended n) new → left.calls ≡ queued.calls → SetsOpen queued w false left → IsReady new left
 ended_ready old queued w n new left ready is s calls marks = record {
   config = rw s.config ready.config;
   calls = rw (s.config, calls) ready.calls;
@@ -155,7 +153,7 @@ ended_ready old queued w n new left ready is s calls marks = record {
 }
 
 pub step_ends : (old : Lab) (queued : Queued) (w n : ℕ) (new : Lab) (left : Queued) → IsReady old queued → has_open queued w ≡ true → Goes old w (applied.Ended n) new
-    → left.calls ≡ queued.calls → left.room ≡ queued.room → Marks queued w false left
+    → left.calls ≡ queued.calls → left.room ≡ queued.room → SetsOpen queued w false left
     → Keeps old queued new left × TakesStep w (point_of old queued) (point_of new left)
 step_ends old queued w n new left ready is g calls room marks =
     let s = g.steps in
@@ -182,56 +180,8 @@ step_ends old queued w n new left ready is g calls room marks =
     )
 
 -- a step adds marks
-more_marks : (first : Mark) (effect ending past : List Mark) → length past < length (ending ++ (effect ++ first ∷ past))
+pub more_marks : (first : Mark) (effect ending past : List Mark) → length past < length (ending ++ (effect ++ first ∷ past))
 more_marks first effect ending past = omega (arith, length-append ending (effect ++ first ∷ past), length-append effect (first ∷ past))
 
 pub step_longer : (w : ℕ) (past new : List Mark) → IsStep w past new → length past < length new
 step_longer w past new s = rw s.is (more_marks s.act s.effect s.ending past)
-
--- what an eviction of a word of the memory answers
-abbrev by_eviction : Bool → Bool → Option Applied
-by_eviction no_word short = if no_word then Some applied.NoWord else (if short then Some applied.Limit else None)
-
-eviction_refusal_is : (lab : Lab) (a : ℕ) → a < words_of lab.config → evict_refusal lab a ≡ by_eviction false (is_short lab.log)
-eviction_refusal_is lab a within =
-    let in_range : nat_le (words_of lab.config) a ≡ false = grind (arith, nat_tests, within) in
-    rw in_range refl
-
-pub record Evicted (old : Lab) (a : ℕ) (answer : Applied) (new : Lab) : Type 0 where
-  pub room : is_short old.log ≡ false
-  pub evicts : Evicts old a answer new
-
-eviction_cases : (short : Bool) (old : Lab) (a : ℕ) (answer : Applied) (new : Lab) → is_short old.log ≡ short
-    → MatchOption (by_eviction false short) (Evicts old a answer new) (λ refusal. (answer ≡ refusal) × (new ≡ old)) → Refused old answer new ⊎ Evicted old a answer new
-eviction_cases true old a answer new is (e, same) = inl (record { short = is; answered = e; same = same })
-eviction_cases false old a answer new is h = inr (record { room = is; evicts = h })
-
-pub evicted : (old : Lab) (a : ℕ) (answer : Applied) (new : Lab) → a < words_of old.config → IsApplied old (event.Evict a) answer new → Refused old answer new ⊎ Evicted old a answer new
-evicted old a answer new within h = eviction_cases (is_short old.log) old a answer new refl (rw (eviction_refusal_is old a within) at h)
-
-pub eviction_limit : (old : Lab) (queued : Queued) (a : ℕ) (new : Lab) → a < words_of old.config → IsReady old queued → IsApplied old (event.Evict a) applied.Limit new
-    → Keeps old queued new queued × StopsEvent which.Marks (point_of old queued) (point_of new queued) × IsAtLimit new which.Marks
-eviction_limit old queued a new within ready h = elim (evicted old a applied.Limit new within h) [
-  | inl r ↦ refused_stops old queued applied.Limit new ready r
-  | inr e ↦ absurd (let other = e.evicts.answered in cc)
-]
-
-pub eviction_made : (old : Lab) (queued : Queued) (a : ℕ) (new : Lab) → IsReady old queued → Evicts old a applied.Evicted new
-    → Keeps old queued new queued × IsEviction a (point_of old queued) (point_of new queued)
-eviction_made old queued a new ready e =
-    let struck = struck_is (mark.Evict a) old.log.past e.past e.effect in
-    rw e.rest (
-      record {
-        ready = record { config = ready.config; calls = ready.calls; begun = λ v. ready.begun v ∙ sym (struck.opens v); openers = ready.openers };
-        config = refl;
-        start = refl;
-        limits = refl;
-        room = refl;
-      },
-      record { effect = struck.effect; is = struck.is; one_effect = struck.one_effect; queue = refl },
-    )
-
-pub eviction_longer : (old : Lab) (a : ℕ) (new : Lab) → Evicts old a applied.Evicted new → length old.log.past < length new.log.past
-eviction_longer old a new e =
-    let struck = struck_is (mark.Evict a) old.log.past e.past e.effect in
-    rw e.rest (rw struck.is (more_marks (mark.Evict a) struck.effect [] old.log.past))

@@ -22,9 +22,9 @@ without_first w (call ∷ calls) = if call.0 == w then calls else call ∷ witho
 abbrev pub has_open : Queued → ℕ → Bool
 has_open queued w = get_or queued.begun w false
 
--- of this worker that has changed, and of no other
-abbrev pub Marks : Queued → ℕ → Bool → Queued → Type 0
-Marks old w now new = (v : ℕ) → has_open new v ≡ (if w == v then now else has_open old v)
+-- that is set for one worker, and for the others it is as it was
+abbrev pub SetsOpen : Queued → ℕ → Bool → Queued → Type 0
+SetsOpen old w now new = (v : ℕ) → has_open new v ≡ (if w == v then now else has_open old v)
 
 -- a worker has something to do: a call of it is open, or one of these calls waits for it
 abbrev pub is_busy_by : Bool → List (ℕ × Call) → Bool

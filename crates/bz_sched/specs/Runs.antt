@@ -52,8 +52,8 @@ pub record Keeps (old : Lab) (queued : Queued) (new : Lab) (left : Queued) : Typ
   pub limits : new.log.limits ≡ old.log.limits
   pub room : left.room ≡ queued.room
 
--- how a part of a run ends: it is whole by the one relation of points, or by the other one up to a limit that was met when one
--- more was needed
+-- how a part of a run ends: it is whole by the one relation of points, or by the other one up to a limit, which was
+-- met when one more was needed
 abbrev pub EndsBy : (Point → Point → Type 0) → (Which → Point → Point → Type 0) → Lab → Queued → RunEnd → Lab → Queued → Type 0
 EndsBy Whole InPart old queued Finished new left = Keeps old queued new left × Whole (point_of old queued) (point_of new left)
 EndsBy Whole InPart old queued (Limit why) new left =

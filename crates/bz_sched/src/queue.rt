@@ -1,6 +1,6 @@
 //! Calls that wait.
 ghost use Rattle.std.specs.Prelude.{◌≡◌, ◌≢◌, ◌<◌, ◌≤◌, ◌+◌, ◌++◌, ◌∷◌, [], ℕ, IfOk, length, true, false};
-ghost use Rattle.bz_sched.specs.Queued.{calls_of, without_first, has_open, has_work, Marks, IsFirst};
+ghost use Rattle.bz_sched.specs.Queued.{calls_of, without_first, has_open, has_work, SetsOpen, IsFirst};
 ghost use Rattle.bz_sched.specs.QueueKept.{IsFound};
 
 use bz_call::Call;
@@ -106,7 +106,7 @@ impl Queue {
         requires some { calls_of w self.old.calls ≢ [] }
         ensures calls { self.new.calls ≡ without_first w self.old.calls }
         ensures room { self.new.room ≡ self.old.room }
-        ensures begun { Marks self.old w true self.new }
+        ensures begun { SetsOpen self.old w true self.new }
     {
         match find_call(&self.calls, self.next[w as usize], w) {
             Some(at) => {
@@ -123,7 +123,7 @@ impl Queue {
         requires { w < 65 }
         ensures calls { self.new.calls ≡ self.old.calls }
         ensures room { self.new.room ≡ self.old.room }
-        ensures begun { Marks self.old w false self.new }
+        ensures begun { SetsOpen self.old w false self.new }
     {
         self.begun[w as usize] = false;
     }

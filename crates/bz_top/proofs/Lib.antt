@@ -1,3 +1,4 @@
 pub mod FollowLemmas
 pub mod WriteLemmas
 pub mod EndLemmas
+mod RunLemmas

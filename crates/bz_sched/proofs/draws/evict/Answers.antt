@@ -1,6 +1,6 @@
 use Rattle.std.proofs.Common.{inl, inr}
 use Rattle.bz_world.specs.declared.answers.Applied.TheVariants as applied
-use Rattle.bz_sched.proofs.StepLemmas.{evicted, eviction_made}
+use Rattle.bz_sched.proofs.EvictionLemmas.{evicted, eviction_made}
 use Rattle.bz_sched.proofs.draws.evict.Goals as goal
 
 pub returns-in-Evicted-clause-ends : goal.returns-in-Evicted-clause-ends

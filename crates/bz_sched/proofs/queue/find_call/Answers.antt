@@ -1,6 +1,6 @@
 use Rattle.std.proofs.Common.{◌≡◌, ◌≢◌, ℕ, sym, ap, ◌∙◌, arith}
 use Rattle.bz_call.specs.declared.calls.Call.{Call}
-use Rattle.bz_sched.proofs.QueueLemmas.{none_nowhere, none_further, found_at}
+use Rattle.bz_sched.proofs.LookLemmas.{none_nowhere, none_further, found_at}
 use Rattle.bz_sched.proofs.queue.find_call.Goals as goal
 
 pub loop-at-init : goal.loop-at-init

@@ -1,5 +1,6 @@
 use Rattle.std.proofs.Common.{◌<◌, true, length, arith}
-use Rattle.bz_sched.proofs.QueueLemmas.{found_none, found_taken, kept_begun, flag_set}
+use Rattle.bz_sched.proofs.FirstLemmas.{found_none, found_taken}
+use Rattle.bz_sched.proofs.QueueLemmas.{kept_begun, flag_set}
 use Rattle.bz_sched.proofs.queue.Queue.begin.Goals as goal
 
 pub invariant_of-self : goal.invariant_of-self

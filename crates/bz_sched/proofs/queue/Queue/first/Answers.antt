@@ -1,4 +1,4 @@
-use Rattle.bz_sched.proofs.QueueLemmas.{found_first, found_none}
+use Rattle.bz_sched.proofs.FirstLemmas.{found_first, found_none}
 use Rattle.bz_sched.proofs.queue.Queue.first.Goals as goal
 
 pub returns-in-Some : goal.returns-in-Some
