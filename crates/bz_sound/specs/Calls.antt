@@ -1,4 +1,4 @@
--- Which calls are open, the map at a moment, and that each call stands once. The newest mark stands first.
+-- Which calls are open, the map at a moment, and what a mark of a call may name. The newest mark stands first.
 use Rattle.std.specs.Prelude.{◌≡◌, ℕ, ◌+◌, ◌==◌, if◌then◌else◌, List, [], ◌∷◌, length, Option, Some, None, option_map}
 use Rattle.bz_call.specs.Map.{Map, apply, IsChange}
 use Rattle.bz_call.specs.declared.calls.Call.{Call}
@@ -66,15 +66,3 @@ pub record MayEffect (start : Map) (past : List Mark) (w n : ℕ) : Type 0 where
   pub number : opened.number ≡ n
   pub once : opened.effect ≡ None
   pub changes : IsChange (apply (map_after start past) opened.call).reply
-
--- what may come after these marks. Acts, evictions and the power are not in the journals of this stage.
-abbrev pub MayFollow : Map → List Mark → Mark → Type 0
-MayFollow start past (Begin w n call) = MayBegin past w n
-MayFollow start past (End w n reply at) = MayEnd past w n
-MayFollow start past (Effect w n) = MayEffect start past w n
-MayFollow start past mark = ⊥
-
--- each mark is one that may follow those before it
-abbrev pub CallsOnce : Map → List Mark → Type 0
-CallsOnce start [] = Unit {0}
-CallsOnce start (mark ∷ past) = MayFollow start past mark × CallsOnce start past

@@ -1,15 +1,20 @@
 -- A right reply stays right when the journal gets further pages.
-use Rattle.std.proofs.Common.{ℕ, List, [], ◌∷◌, ◌++◌, Option, Some, None}
-use Rattle.std.specs.Prelude.{IsSomeAnd}
+use Rattle.std.proofs.Common.{◌≡◌, ℕ, zero, suc, List, [], ◌∷◌, ◌++◌, Option, Some, None}
+use Rattle.std.specs.Prelude.{slice_get, IsSomeAnd}
 use Rattle.bz_layout.specs.declared.config.Config.{Config}
 use Rattle.bz_call.specs.declared.replies.Reply.{Reply}
 use Rattle.bz_call.specs.declared.replies.Reply.TheVariants as reply
 use Rattle.bz_mark.specs.declared.marks.Mark.{Mark}
 use Rattle.bz_mark.specs.declared.marks.Mark.TheVariants.{End}
 use Rattle.bz_sound.specs.Calls.{Open, open_call}
-use Rattle.bz_sound.specs.ReplyLaws.{same_page}
 use Rattle.bz_sound.specs.Replies.{Pages}
 use Rattle.bz_sound.specs.Memory.Replies.{Answer, IsAnswer, IsRightReply, RepliesAreRight}
+
+-- a page keeps its number
+same_page : {A : Type 0} (pages more : List A) (number : ℕ) (page : A) → slice_get pages number ≡ Some page → slice_get (pages ++ more) number ≡ Some page
+same_page [] more number page is = absurd cc
+same_page (first ∷ pages) more zero page is = is
+same_page (first ∷ pages) more (suc number) page is = same_page pages more number page is
 
 same-answer : (c : Config) (start : List ℕ) (pages more : Pages) (past : List Mark) (answer : Answer) (effect : Option ℕ) (reply : Reply)
     → IsAnswer c start pages past answer effect reply → IsAnswer c start (pages ++ more) past answer effect reply
