@@ -16,7 +16,7 @@ use Rattle.bz_world.specs.declared.answers.Which.TheVariants as which
 use Rattle.bz_sched.specs.Points.{ready, GetsReady}
 use Rattle.bz_sched.specs.Queued.{Queued, calls_of, without_first, has_open, SetsOpen}
 use Rattle.bz_sched.specs.Runs.{point_of, IsReady, IsAtLimit, Keeps}
-use Rattle.bz_sched.specs.TurnsInPart.{StopsTurn}
+use Rattle.bz_sched.specs.TurnsInPart.{StopsBy}
 use Rattle.bz_sched.proofs.ReadyLemmas.{keeps_none, first_can_begin, others_can_begin, opens, marks_known, openers_known}
 
 -- the answer by its tests
@@ -95,7 +95,7 @@ none_is (Some opened) is = absurd cc
 
 stops_by : (lab : Lab) (queued : Queued) (w : ℕ) (call : Call) (why : Which) → Waits lab queued w call
     → Gave (is_short lab.log) (nat_le lab.log.limits.calls (count_begins lab.log.past)) (lacks_page lab.log call) why
-    → StopsTurn why w (point_of lab queued) (point_of lab queued) × IsAtLimit lab why
+    → StopsBy why w (point_of lab queued) (point_of lab queued) × IsAtLimit lab why
 stops_by lab queued w call which.Marks h gave = (inl refl, grind (arith, nat_tests, gave))
 stops_by lab queued w call which.Calls h gave = ((none_is (open_call w lab.log.past) (sym (h.ready.begun w) ∙ h.closed), refl), grind (arith, nat_tests, gave))
 stops_by lab queued w call which.Pages h gave =
@@ -105,7 +105,7 @@ stops_by lab queued w call which.Pages h gave =
 
 -- a begin that meets a limit changes nothing
 pub begin_stops : (lab : Lab) (queued : Queued) (w : ℕ) (call : Call) (why : Which) (new : Lab) → Waits lab queued w call → Limit why ≡ begin_answer lab w call → new ≡ lab
-    → Keeps lab queued new queued × StopsTurn why w (point_of lab queued) (point_of new queued) × IsAtLimit new why
+    → Keeps lab queued new queued × StopsBy why w (point_of lab queued) (point_of new queued) × IsAtLimit new why
 begin_stops lab queued w call why new h is same =
     let stops = stops_by lab queued w call why h (which_gave _ _ _ (begun_calls w lab.log.past + 1) why (is ∙ answered lab queued w call h)) in
     rw same (keeps_none lab queued h.ready, stops.0, stops.1)

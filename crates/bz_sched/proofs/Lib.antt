@@ -5,6 +5,7 @@ pub mod ReadyLemmas
 pub mod BeginLemmas
 pub mod StepLemmas
 pub mod EvictionLemmas
+pub mod TurnLemmas
 pub mod WordLemmas
 pub mod AloneLemmas
 pub mod BusyLemmas

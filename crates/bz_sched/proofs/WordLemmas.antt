@@ -1,5 +1,5 @@
 -- Turns of one worker, one after the other, and words of a list.
-use Rattle.std.proofs.Common.{◌≡◌, ◌≤◌, ◌<◌, ℕ, zero, suc, ◌+◌, ◌-◌, true, false, List, [], ◌∷◌, length, get_or, drop, refl, sym, ap, subst, ◌∙◌, arith, inl, inr}
+use Rattle.std.proofs.Common.{◌≡◌, ◌≤◌, ◌<◌, ℕ, zero, suc, ◌+◌, ◌-◌, false, List, [], ◌∷◌, length, get_or, drop, refl, sym, ap, subst, ◌∙◌, arith, inl, inr}
 use Rattle.std.proofs.lemmas.List.{drop_more}
 use Rattle.bz_script.specs.declared.turn_list.Turn.{Turn}
 use Rattle.bz_script.specs.RunLaws.{IsTurn as IsWord, AreTurns}
@@ -35,7 +35,7 @@ taking_more w taken old queued world left new after t keeps turn = record {
       subst (λ (count : ℕ). TakesTurns w count (point_of old queued) end) all (t.whole (suc more) end (inr (point_of new after, turn, takes)));
   part = λ why more end takes.
       let all : taken + suc more ≡ (taken + 1) + more = omega arith in
-      subst (λ (count : ℕ). TakesTurnsInPart why w count (point_of old queued) end) all (t.part why (suc more) end (turn.busy, inr (point_of new after, turn, takes)));
+      subst (λ (count : ℕ). TakesTurnsInPart why w count (point_of old queued) end) all (t.part why (suc more) end (inr (point_of new after, turn, takes)));
 }
 
 -- all were taken
@@ -58,19 +58,17 @@ taking_idle w taken count old queued world left few none t =
     (t.keeps, subst (λ (n : ℕ). TakesTurns w n (point_of old queued) (point_of world left)) all (t.whole (count - taken) (point_of world left) (idle_takes w (count - taken) (point_of world left) idle)))
 
 -- a limit is met
-pub taking_stops : (w taken more : ℕ) (old : Lab) (queued : Queued) (world : Lab) (left : Queued) (why : Which) (new : Lab) (after : Queued) → has_work left w ≡ true → Taking w taken old queued world left
+taking_stops : (w taken more : ℕ) (old : Lab) (queued : Queued) (world : Lab) (left : Queued) (why : Which) (new : Lab) (after : Queued) → Taking w taken old queued world left
     → StopsTurn why w (point_of world left) (point_of new after) → TakesTurnsInPart why w (taken + suc more) (point_of old queued) (point_of new after)
-taking_stops w taken more old queued world left why new after works t stops =
-    let busy : is_busy w (point_of world left) ≡ true = sym (work_is world left w t.keeps.ready) ∙ works in
-    t.part why (suc more) (point_of new after) (busy, inl stops)
+taking_stops w taken more old queued world left why new after t stops = t.part why (suc more) (point_of new after) (inl stops)
 
-pub word_stops : (w taken count : ℕ) (old : Lab) (queued : Queued) (world : Lab) (left : Queued) (why : Which) (new : Lab) (after : Queued) → taken < count → has_work left w ≡ true → Taking w taken old queued world left
+pub word_stops : (w taken count : ℕ) (old : Lab) (queued : Queued) (world : Lab) (left : Queued) (why : Which) (new : Lab) (after : Queued) → taken < count → Taking w taken old queued world left
     → Keeps world left new after × StopsTurn why w (point_of world left) (point_of new after) × IsAtLimit new why
     → Keeps old queued new after × TakesTurnsInPart why w count (point_of old queued) (point_of new after) × IsAtLimit new why
-word_stops w taken count old queued world left why new after few works t (keeps, stops, met) =
+word_stops w taken count old queued world left why new after few t (keeps, stops, met) =
     let all : taken + suc (count - (taken + 1)) ≡ count = omega arith in (
       keeps_both old world new queued left after t.keeps keeps,
-      subst (λ (n : ℕ). TakesTurnsInPart why w n (point_of old queued) (point_of new after)) all (taking_stops w taken (count - (taken + 1)) old queued world left why new after works t stops),
+      subst (λ (n : ℕ). TakesTurnsInPart why w n (point_of old queued) (point_of new after)) all (taking_stops w taken (count - (taken + 1)) old queued world left why new after t stops),
       met,
     )
 
@@ -92,12 +90,12 @@ one_ends w old queued world left none s =
     let idle : is_busy w (point_of world left) ≡ false = sym (work_is world left w s.taking.keeps.ready) ∙ none in
     (s.taking.keeps, (s.taken + 0, s.taking.whole 0 (point_of world left) refl, idle))
 
-pub one_stops : (w : ℕ) (old : Lab) (queued : Queued) (world : Lab) (left : Queued) (why : Which) (new : Lab) (after : Queued) → has_work left w ≡ true → TakingSome w old queued world left
+pub one_stops : (w : ℕ) (old : Lab) (queued : Queued) (world : Lab) (left : Queued) (why : Which) (new : Lab) (after : Queued) → TakingSome w old queued world left
     → Keeps world left new after × StopsTurn why w (point_of world left) (point_of new after) × IsAtLimit new why
     → Keeps old queued new after × EndsOneInPart why w (point_of old queued) (point_of new after) × IsAtLimit new why
-one_stops w old queued world left why new after works s (keeps, stops, met) = (
+one_stops w old queued world left why new after s (keeps, stops, met) = (
   keeps_both old world new queued left after s.taking.keeps keeps,
-  (s.taken + 1, taking_stops w s.taken 0 old queued world left why new after works s.taking stops),
+  (s.taken + 1, taking_stops w s.taken 0 old queued world left why new after s.taking stops),
   met,
 )
 

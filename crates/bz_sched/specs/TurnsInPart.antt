@@ -21,18 +21,22 @@ IsPageNext (call ∷ calls) = is_page call.1 ≡ true
 abbrev pub StopsEvent : Which → Point → Point → Type 0
 StopsEvent why old new = (why ≡ which.Marks) × (new ≡ old)
 
--- a turn that meets a limit: its call was to begin, one that asks for a page where the limit is one of those;
+-- where a turn meets a limit: its call was to begin, one that asks for a page where the limit is one of those;
 -- or, where it is one of marks, the step was to come
+abbrev pub StopsBy : Which → ℕ → Point → Point → Type 0
+StopsBy which.Marks w old new = (new ≡ old) ⊎ (new ≡ ready w old)
+StopsBy which.Calls w old new = (open_call w old.past ≡ None) × (new ≡ old)
+StopsBy which.Pages w old new = (open_call w old.past ≡ None) × IsPageNext (calls_of w old.queue) × (new ≡ old)
+
+-- a turn of a worker that has an open or a queued call meets a limit
 abbrev pub StopsTurn : Which → ℕ → Point → Point → Type 0
-StopsTurn which.Marks w old new = (new ≡ old) ⊎ (new ≡ ready w old)
-StopsTurn which.Calls w old new = (open_call w old.past ≡ None) × (new ≡ old)
-StopsTurn which.Pages w old new = (open_call w old.past ≡ None) × IsPageNext (calls_of w old.queue) × (new ≡ old)
+StopsTurn why w old new = (is_busy w old ≡ true) × StopsBy why w old new
 
 -- so many turns of a worker up to a limit
 abbrev pub TakesTurnsInPart : Which → ℕ → ℕ → Point → Point → Type 0
 TakesTurnsInPart why w zero old new = ⊥
 TakesTurnsInPart why w (suc count) old new =
-    (is_busy w old ≡ true) × (StopsTurn why w old new ⊎ ((mid : Point) × IsTurn w old mid × TakesTurnsInPart why w count mid new))
+    StopsTurn why w old new ⊎ ((mid : Point) × IsTurn w old mid × TakesTurnsInPart why w count mid new)
 
 -- turns of a worker up to a limit
 abbrev pub EndsOneInPart : Which → ℕ → Point → Point → Type 0

@@ -3,7 +3,7 @@ ghost use Rattle.std.specs.Prelude.{◌≡◌, ◌≢◌, ◌<◌, ◌≤◌, []
 ghost use Rattle.bz_sched.specs.Points.{GetsReady, TakesStep, IsTurn};
 ghost use Rattle.bz_sched.specs.Queued.{calls_of, has_open, has_work};
 ghost use Rattle.bz_sched.specs.Runs.{marks_left, IsReady, EndsBy};
-ghost use Rattle.bz_sched.specs.TurnsInPart.{StopsEvent, StopsTurn};
+ghost use Rattle.bz_sched.specs.TurnsInPart.{StopsEvent, StopsBy, StopsTurn};
 ghost use Rattle.bz_sched.specs.declared.running.RunEnd.TheVariants.{Finished};
 
 use crate::queue::Queue;
@@ -16,7 +16,7 @@ fn begin_next(world: &mut World, queue: &mut Queue, w: u8) -> RunEnd
     requires ready { IsReady world.old queue.old }
     requires closed { has_open queue.old w ≡ false }
     requires some { calls_of w queue.old.calls ≢ [] }
-    ensures ends { EndsBy (GetsReady w) (λ why. StopsTurn why w) world.old queue.old result world.new queue.new }
+    ensures ends { EndsBy (GetsReady w) (λ why. StopsBy why w) world.old queue.old result world.new queue.new }
     ensures open { result ≡ Finished → has_open queue.new w ≡ true }
     ensures left { marks_left world.new ≤ marks_left world.old }
 {
@@ -38,7 +38,7 @@ fn get_ready(world: &mut World, queue: &mut Queue, w: u8) -> RunEnd
     requires worker { w < 65 }
     requires ready { IsReady world.old queue.old }
     requires busy { has_work queue.old w ≡ true }
-    ensures ends { EndsBy (GetsReady w) (λ why. StopsTurn why w) world.old queue.old result world.new queue.new }
+    ensures ends { EndsBy (GetsReady w) (λ why. StopsBy why w) world.old queue.old result world.new queue.new }
     ensures open { result ≡ Finished → has_open queue.new w ≡ true }
     ensures left { marks_left world.new ≤ marks_left world.old }
 {

@@ -9,7 +9,7 @@ pub loop-world-preserved : goal.loop-world-preserved
 loop-world-preserved c = some_more c.args.w c.args.world.now c.args.queue.now c.loop-world.world c.loop-world.queue _ _ c.loop-world.invariant c.in-Finished.ensures.ends
 
 pub returns-in-Limit : goal.returns-in-Limit
-returns-in-Limit c = one_stops c.args.w c.args.world.now c.args.queue.now c.loop-world.world c.loop-world.queue c.in-Limit.which _ _ (sym (c.loop-world-test.ensures)) c.loop-world.invariant c.in-Limit.ensures.ends
+returns-in-Limit c = one_stops c.args.w c.args.world.now c.args.queue.now c.loop-world.world c.loop-world.queue c.in-Limit.which _ _ c.loop-world.invariant c.in-Limit.ensures.ends
 
 pub returns : goal.returns
-returns c = one_ends c.args.w c.args.world.now c.args.queue.now c.loop-world.world c.loop-world.queue (sym (c.loop-world-test.ensures)) c.loop-world.invariant
+returns c = one_ends c.args.w c.args.world.now c.args.queue.now c.loop-world.world c.loop-world.queue (sym c.loop-world-test.ensures) c.loop-world.invariant
