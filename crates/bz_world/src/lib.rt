@@ -17,6 +17,8 @@ mod start;
 mod step;
 mod strike;
 mod tell;
+#[cfg(test)]
+mod tests;
 mod world;
 
 pub use answers::{Applied, Begun, Event, OpenError, Which};

@@ -1,0 +1,14 @@
+//! Worlds and their journals, beside plain readers.
+
+mod bench;
+mod calls;
+mod costs;
+mod decode;
+mod limits;
+mod map;
+mod pairs;
+mod random;
+mod reader;
+mod restart;
+mod spent;
+mod worked;

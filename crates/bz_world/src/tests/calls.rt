@@ -1,0 +1,68 @@
+//! The six calls, made by one worker.
+
+use super::bench::{Answer, key, open, payload, whole};
+use crate::World;
+use bz_call::Call;
+use bz_key::{Key, Payload};
+use std::process::Abort;
+use std::test::Fail;
+
+fn answers(rt: &impl Abort, world: &mut World, call: Call, answer: Answer) {
+    assert_eq!(rt; whole(world, 1, call), Some(answer));
+}
+
+// A payload of so many bytes, which are this one.
+fn filled(rt: &impl Abort, byte: u8, length: usize) -> Payload {
+    let bytes = [byte; 28];
+    payload(rt, bytes.get(..length).unwrap_or(&[]))
+}
+
+// A page from a key on has these pairs, and no next page.
+fn shows(rt: &impl Abort, world: &mut World, page: u32, from: Key, pairs: &[(Key, Payload)]) {
+    answers(rt, world, Call::Page(from), Answer::Page(page, false));
+    let journal = world.journal();
+    assert!(rt; page < journal.page_count());
+    assert_eq!(rt; journal.page(page), pairs);
+}
+
+// Changes the payload of a key from one to another and back, by each call that may.
+fn exchange(rt: &impl Abort, world: &mut World, k: Key, old: Payload, new: Payload) {
+    answers(rt, world, Call::Update(k, new), Answer::Updated(old));
+    answers(rt, world, Call::Get(k), Answer::Value(new));
+    answers(rt, world, Call::Insert(k, old), Answer::Exists);
+    answers(rt, world, Call::Upsert(k, old), Answer::Updated(new));
+    answers(rt, world, Call::Get(k), Answer::Value(old));
+}
+
+// A key that is absent, by each call.
+fn is_missing(rt: &impl Abort, world: &mut World, k: Key) {
+    let new = filled(rt, b'n', 1);
+    answers(rt, world, Call::Get(k), Answer::Missing);
+    answers(rt, world, Call::Update(k, new), Answer::Missing);
+    answers(rt, world, Call::Delete(k), Answer::Missing);
+}
+
+#[test]
+fn calls_answer_as_a_map_does(rt: HostRuntime) -> Result<(), Fail> {
+    let (a, b, c) = (key(&rt, b"a"), key(&rt, b"b"), key(&rt, &[b'c'; 28]));
+    for length in [0, 7, 8, 28] {
+        let old = filled(&rt, b'o', length);
+        let mut world = open(rt.alloc(), 16, 128, 1)?;
+        is_missing(&rt, &mut world, b);
+        shows(&rt, &mut world, 0, a, &[]);
+        answers(&rt, &mut world, Call::Insert(b, old), Answer::Inserted);
+        for other in [0, 7, 8, 28] {
+            exchange(&rt, &mut world, b, old, filled(&rt, b'n', other));
+        }
+        answers(&rt, &mut world, Call::Upsert(c, old), Answer::Inserted);
+        answers(&rt, &mut world, Call::Insert(a, old), Answer::Inserted);
+        shows(&rt, &mut world, 1, a, &[(a, old), (b, old), (c, old)]);
+        shows(&rt, &mut world, 2, key(&rt, b"aa"), &[(b, old), (c, old)]);
+        answers(&rt, &mut world, Call::Delete(b), Answer::Deleted(old));
+        is_missing(&rt, &mut world, b);
+        shows(&rt, &mut world, 3, b, &[(c, old)]);
+        answers(&rt, &mut world, Call::Insert(b, old), Answer::Inserted);
+        shows(&rt, &mut world, 4, c, &[(c, old)]);
+    }
+    Ok(())
+}

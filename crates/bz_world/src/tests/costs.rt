@@ -1,0 +1,97 @@
+//! What the calls cost beyond their lookup, which only loads.
+
+use super::bench::{Answer, begin, key, mark, open, payload, steps};
+use crate::World;
+use bz_call::Call;
+use bz_mark::Mark;
+use std::process::Abort;
+use std::test::Fail;
+
+// Acts by their kinds.
+#[derive(Clone, Copy, Debug, PartialEq, Eq)]
+struct Costs {
+    stores: u32,
+    swaps: u32,
+    flushes: u32,
+}
+
+const NONE: Costs = Costs {
+    stores: 0,
+    swaps: 0,
+    flushes: 0,
+};
+
+// The acts from a mark on.
+fn costs_from(world: &World, from: u32) -> Costs {
+    let mut costs = NONE;
+    for i in from..world.journal().length() {
+        let kind = match mark(world, i) {
+            Some(Mark::Store { .. }) => &mut costs.stores,
+            Some(Mark::Cas { .. }) => &mut costs.swaps,
+            Some(Mark::Flush { .. }) => &mut costs.flushes,
+            _ => continue,
+        };
+        *kind = kind.saturating_add(1);
+    }
+    costs
+}
+
+// Makes a whole call of worker 1, which costs at most this; each of its flushes was foretold.
+fn costs_at_most(rt: &impl Abort, world: &mut World, call: Call, answer: Answer, most: Costs) {
+    let from = world.journal().length();
+    assert!(rt; begin(world, 1, call));
+    let mut foretold = 0u32;
+    for _ in 0..1_000 {
+        assert!(rt; world.config().workers >= 1);
+        if world.flush_next(1) {
+            foretold = foretold.saturating_add(1);
+        }
+        if let (_, Some(ended)) = steps(world, 1, 1) {
+            assert_eq!(rt; ended, answer);
+            break;
+        }
+    }
+    let costs = costs_from(world, from);
+    assert_eq!(rt; costs.flushes, foretold);
+    assert!(rt; costs.stores <= most.stores, "{answer:?}: {costs:?}");
+    assert!(rt; costs.swaps <= most.swaps, "{answer:?}: {costs:?}");
+    assert!(rt; costs.flushes <= most.flushes, "{answer:?}: {costs:?}");
+}
+
+#[test]
+fn changes_cost_no_more_than_two_swaps_and_their_record(rt: HostRuntime) -> Result<(), Fail> {
+    let insert = Costs {
+        stores: 18,
+        swaps: 20,
+        flushes: 15,
+    };
+    let update = Costs {
+        stores: 15,
+        swaps: 16,
+        flushes: 13,
+    };
+    let delete = Costs {
+        stores: 8,
+        swaps: 10,
+        flushes: 7,
+    };
+    let (a, b) = (key(&rt, b"a"), key(&rt, b"b"));
+    let (one, two) = (payload(&rt, b"1"), payload(&rt, b"2"));
+    let mut world = open(rt.alloc(), 16, 64, 1)?;
+    for (call, answer, most) in [
+        (Call::Insert(a, one), Answer::Inserted, insert),
+        (Call::Update(a, two), Answer::Updated(one), update),
+        (Call::Upsert(a, one), Answer::Updated(two), update),
+        (Call::Upsert(b, one), Answer::Inserted, insert),
+        (Call::Get(a), Answer::Value(one), NONE),
+        (Call::Insert(a, two), Answer::Exists, NONE),
+        (Call::Page(a), Answer::Page(0, false), NONE),
+        (Call::Delete(b), Answer::Deleted(one), delete),
+        (Call::Delete(b), Answer::Missing, NONE),
+        (Call::Update(b, one), Answer::Missing, NONE),
+        (Call::Get(b), Answer::Missing, NONE),
+    ] {
+        costs_at_most(&rt, &mut world, call, answer, most);
+    }
+    Ok(())
+}

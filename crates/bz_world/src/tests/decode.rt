@@ -1,0 +1,81 @@
+//! A plain decoder of the memory's own words.
+
+ghost use Rattle.std.specs.Prelude.{◌<◌, IfSome};
+
+use super::bench::durable;
+use super::map::{Map, number_of, place_of};
+use crate::World;
+use bz_key::{Key, Payload};
+use bz_word::{Meta, Status, WordKind, kind_of};
+
+// A word of an entry of a descriptor: its target at 0, its expected value at 1, its new one at 2.
+fn entry_word(world: &World, swap: u16, entry: u8, word: u32) -> u64 {
+    let at = 18 + 16 * u32::from(swap) + 3 * u32::from(entry);
+    durable(world, at.saturating_add(word))
+}
+
+// What a pointer to a descriptor at this address stands for.
+fn through(world: &World, swap: u16, a: u32) -> u64 {
+    let at = 16 + 16 * u32::from(swap);
+    let count = durable(world, at + 1).min(4) as u8;
+    let won = durable(world, at) % (1 << 63) == 2;
+    for entry in 0..count {
+        if entry_word(world, swap, entry, 0) == u64::from(a) {
+            return entry_word(world, swap, entry, if won { 2 } else { 1 });
+        }
+    }
+    u64::MAX
+}
+
+// The value at an address.
+fn resolve(world: &World, a: u32) -> u64 {
+    match kind_of(durable(world, a)) {
+        Some(WordKind::Value(value)) => value,
+        Some(WordKind::Dirty(value)) => value,
+        Some(WordKind::Swap(swap)) => through(world, swap, a),
+        Some(WordKind::Tag { swap, entry, .. }) => entry_word(world, swap, entry, 1),
+        None => u64::MAX,
+    }
+}
+
+// Four words from an address on.
+fn words(world: &World, at: u32) -> [u64; 4] {
+    let mut words = [0; 4];
+    for (i, word) in words.iter_mut().enumerate() {
+        *word = resolve(world, at.saturating_add(i as u32));
+    }
+    words
+}
+
+// The record at an address, with lengths of its key, and of key and payload.
+fn record(world: &World, at: u32, key: u32, total: u32) -> Option<(usize, u32)>
+    ensures { IfSome result (λ read. read.0 < 6) }
+{
+    let length = key as usize;
+    let first = words(world, at);
+    let read = Key::from_words(length, first.get(..length.div_ceil(7))?)?;
+    let place = place_of(&read)?;
+    let length = total.checked_sub(key)? as usize;
+    let second = words(world, at.saturating_add(key.div_ceil(7)));
+    let payload = Payload::from_words(length, second.get(..length.div_ceil(7))?)?;
+    Some((place, number_of(&payload)))
+}
+
+/// The map that the root leaf is in the memory itself; none where it is not a leaf of the reader's keys.
+pub(crate) fn decode(world: &World) -> Option<Map> {
+    let node = world.config().swaps.saturating_mul(16).saturating_add(16);
+    let status = Status::unpack(resolve(world, node))?;
+    let mut map = [0; 6];
+    for i in 0..status.count {
+        let a = node.saturating_add(10).saturating_add(i);
+        if let Meta::Visible(extent) = Meta::unpack(resolve(world, a))? {
+            let at = node.saturating_add(extent.offset);
+            let (place, number) = record(world, at, extent.key, extent.total)?;
+            if map[place] != 0 {
+                return None;
+            }
+            map[place] = number;
+        }
+    }
+    Some(map)
+}

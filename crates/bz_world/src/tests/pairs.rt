@@ -1,0 +1,69 @@
+//! Two inserts, of which one stops after any number of acts.
+
+use super::bench::{Answer, begin, numbered, open, payload, steps};
+use super::reader::Reader;
+use bz_call::Call;
+use bz_key::Key;
+use std::alloc::Global;
+use std::process::Abort;
+use std::test::Fail;
+
+// More acts than any of these calls makes.
+const MOST: u32 = 4_000;
+
+// What the two workers answered, and how many acts each made.
+#[derive(Clone, Copy)]
+struct Outcome {
+    first: (u32, Option<Answer>),
+    second: (u32, Option<Answer>),
+}
+
+// Worker 1 makes so many acts of its insert, then worker 2 so many of its own, then worker 1 the rest, and worker 2.
+fn ends(rt: &impl Abort, alloc: Global, keys: &[Key; 2], acts: u32, turn: u32) -> Outcome {
+    let mut world = open(alloc, 16, 256, 2).expect(rt, "a world");
+    assert!(rt; begin(&mut world, 1, Call::Insert(keys[0], payload(rt, b"1"))));
+    let mut first = steps(&mut world, 1, acts);
+    assert!(rt; begin(&mut world, 2, Call::Insert(keys[1], payload(rt, b"2"))));
+    let mut second = steps(&mut world, 2, turn);
+    if first.1.is_none() {
+        first = steps(&mut world, 1, MOST);
+    }
+    if second.1.is_none() {
+        second = steps(&mut world, 2, MOST);
+    }
+    let mut reader = Reader::open(alloc).expect(rt, "a reader");
+    let read = reader.read_on(&world).expect(rt, "room for the maps");
+    assert!(rt; read, "{acts} and {turn} acts");
+    Outcome { first, second }
+}
+
+#[test]
+fn one_of_two_inserts_of_a_key_finds_it(rt: HostRuntime) -> Result<(), Fail> {
+    let key = numbered(&rt, 0);
+    let (whole, _) = ends(&rt, rt.alloc(), &[key, key], MOST, MOST).first;
+    // a lookup of 14 loads, two swaps of two words, and the two words of the record and their flush
+    assert_eq!(rt; whole, 14 + 27 + 3 + 27);
+    for acts in 0..=whole {
+        for turn in [acts, MOST] {
+            let ends = ends(&rt, rt.alloc(), &[key, key], acts, turn);
+            match (ends.first.1, ends.second.1) {
+                (Some(Answer::Inserted), Some(Answer::Exists)) => {}
+                (Some(Answer::Exists), Some(Answer::Inserted)) => {}
+                answers => panic!(rt; "{acts} and {turn} acts: {answers:?}"),
+            }
+        }
+    }
+    Ok(())
+}
+
+#[test]
+fn a_stopped_insert_holds_nobody_up(rt: HostRuntime) -> Result<(), Fail> {
+    let keys = [numbered(&rt, 0), numbered(&rt, 1)];
+    for acts in 0..=71 {
+        let ends = ends(&rt, rt.alloc(), &keys, acts, MOST);
+        assert_eq!(rt; ends.first.1, Some(Answer::Inserted), "{acts}");
+        assert_eq!(rt; ends.second.1, Some(Answer::Inserted), "{acts}");
+        assert!(rt; ends.second.0 <= 200, "{acts}: {:?}", ends.second);
+    }
+    Ok(())
+}

@@ -1,0 +1,139 @@
+//! Random runs of eight workers over six keys, with evictions, beside the plain reader.
+
+ghost use Rattle.std.specs.Prelude.{◌<◌};
+
+use super::bench::{Answer, answer_of, begin, mark, numbered, payload};
+use super::decode::decode;
+use super::map::KEYS;
+use super::reader::Reader;
+use crate::{Applied, Event, World};
+use bz_call::Call;
+use bz_key::Payload;
+use bz_layout::Config;
+use bz_mark::Mark;
+use bz_memory::Memory;
+use std::alloc::Global;
+use std::process::Abort;
+use std::test::Fail;
+
+const SEEDS: u64 = 20;
+
+const EVENTS: u32 = 24_000;
+
+// The generator of scripts.
+#[derive(Clone, Copy)]
+struct Random {
+    state: u64,
+}
+
+impl Random {
+    fn draw(&mut self) -> u32 {
+        let product = self.state.wrapping_mul(6_364_136_223_846_793_005);
+        self.state = product.wrapping_add(1_442_695_040_888_963_407);
+        (self.state >> 32) as u32
+    }
+
+    fn below(&mut self, limit: u8) -> u8
+        requires { 0 < limit }
+        ensures { result < limit }
+    {
+        (self.draw() % u32::from(limit)) as u8
+    }
+}
+
+// A payload of up to 28 bytes, mostly a short one.
+fn some_payload(rt: &impl Abort, random: &mut Random) -> Payload {
+    let bytes = [b'a' + random.below(26); 28];
+    let most = [1, 2, 8, 29][random.below(4) as usize];
+    let length = random.below(most);
+    payload(rt, bytes.get(..length as usize).unwrap_or(&[]))
+}
+
+fn some_call(rt: &impl Abort, random: &mut Random) -> Call {
+    let k = numbered(rt, random.below(KEYS));
+    let new = some_payload(rt, random);
+    match random.below(8) {
+        0 | 1 => Call::Insert(k, new),
+        2 => Call::Delete(k),
+        3 => Call::Update(k, new),
+        4 | 5 => Call::Upsert(k, new),
+        6 => Call::Get(k),
+        _ => Call::Page(k),
+    }
+}
+
+// A step of some worker, of which the last ones act seldom; or a begin; or an eviction.
+fn act(rt: &impl Abort, world: &mut World, random: &mut Random) {
+    if random.below(10) == 0 {
+        let a = random.draw() % world.config().words().max(1);
+        world.apply(Event::Evict(a));
+        return;
+    }
+    let limit = 1 + random.below(8);
+    let w = 1 + random.below(limit);
+    if world.apply(Event::Step(w)) == Applied::Idle {
+        let call = some_call(rt, random);
+        begin(world, w, call);
+    }
+}
+
+// Counts the Ends of each kind of reply.
+fn tally(world: &World, counts: &mut [u32; 8]) {
+    for i in 0..world.journal().length() {
+        let Some(Mark::End { reply, .. }) = mark(world, i) else {
+            continue;
+        };
+        let kind = match answer_of(&reply) {
+            Answer::Inserted => 0,
+            Answer::Exists => 1,
+            Answer::Deleted(_) => 2,
+            Answer::Updated(_) => 3,
+            Answer::Missing => 4,
+            Answer::Value(_) => 5,
+            Answer::Page(..) => 6,
+            Answer::FullNodes | Answer::FullSwaps | Answer::FullHeight => 7,
+        };
+        counts[kind] = counts[kind].saturating_add(1);
+    }
+}
+
+// One run: after every tenth event the reader explains the journal, and its map is the memory's own.
+fn run(rt: &impl Abort, alloc: Global, seed: u64) -> Result<World, Memory> {
+    let config = Config {
+        nodes: 1,
+        swaps: 96,
+        workers: 8,
+        marks: 1 << 15,
+        calls: 200,
+        pages: 40,
+    };
+    let mut world = World::open(alloc, &config).expect(rt, "a world");
+    let mut reader = Reader::open(alloc)?;
+    let mut random = Random { state: seed };
+    for event in 0..EVENTS {
+        act(rt, &mut world, &mut random);
+        if event % 10 == 0 {
+            assert!(rt; reader.read_on(&world)?, "seed {seed} event {event}");
+            assert_eq!(rt;
+                decode(&world),
+                Some(reader.map()),
+                "seed {seed} event {event}"
+            );
+        }
+    }
+    Ok(world)
+}
+
+#[test]
+fn random_runs_are_explained_by_a_map(rt: HostRuntime) -> Result<(), Fail> {
+    assert_eq!(rt; Random { state: 0 }.draw(), 335_903_614);
+    assert_eq!(rt; Random { state: 1 }.draw(), 1_817_669_548);
+    let mut counts = [0; 8];
+    for seed in 0..SEEDS {
+        let world = run(&rt, rt.alloc(), seed)?;
+        tally(&world, &mut counts);
+    }
+    // each kind of reply comes often
+    assert!(rt; counts.iter().all(|count| *count >= 20), "{counts:?}");
+    Ok(())
+}

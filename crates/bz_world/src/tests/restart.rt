@@ -1,0 +1,91 @@
+//! A page beside two changes of its leaf.
+
+use super::bench::{Answer, begin, mark, numbered, open, payload, steps, whole};
+use super::reader::Reader;
+use crate::World;
+use bz_call::Call;
+use bz_key::{Key, Payload};
+use bz_mark::Mark;
+use std::alloc::Global;
+use std::process::Abort;
+
+// The status word of the root leaf of a memory of 64 swaps.
+const STATUS: u32 = 1_040;
+
+// How often worker 2 has loaded the leaf's status.
+fn status_loads(world: &World) -> u32 {
+    let mut loads = 0u32;
+    for i in 0..world.journal().length() {
+        if let Some(
+            Mark::Load {
+                w: 2,
+                a: STATUS,
+                ..
+            },
+        ) = mark(world, i)
+        {
+            loads = loads.saturating_add(1);
+        }
+    }
+    loads
+}
+
+// The pairs of the first page.
+fn first_page<'a>(rt: &impl Abort, world: &'a World) -> &'a [(Key, Payload)] {
+    let journal = world.journal();
+    assert_eq!(rt; journal.page_count(), 1);
+    journal.page(0)
+}
+
+// Makes these calls of worker 1 whole.
+fn makes(rt: &impl Abort, world: &mut World, rows: &[(Call, Answer)]) {
+    for (call, answer) in rows {
+        assert_eq!(rt; whole(world, 1, *call), Some(*answer));
+    }
+}
+
+// The first page has these pairs, and the reader explains it.
+fn shows(rt: &impl Abort, alloc: Global, world: &World, pairs: &[(Key, Payload)]) {
+    assert_eq!(rt; first_page(rt, world), pairs);
+    let mut reader = Reader::open(alloc).expect(rt, "a reader");
+    assert!(rt; reader.read_on(world).expect(rt, "room for the maps"));
+}
+
+// A page of which so many acts come before an insert and an update: whether these came between its two loads of the
+// status.
+fn beside(rt: &impl Abort, alloc: Global, acts: u32) -> bool {
+    let (k, l) = (numbered(rt, 0), numbered(rt, 1));
+    let (old, new) = (payload(rt, b"oo"), payload(rt, b"nn"));
+    let mut world = open(alloc, 16, 64, 2).expect(rt, "a world");
+    makes(rt, &mut world, &[(Call::Insert(k, old), Answer::Inserted)]);
+    assert!(rt; begin(&mut world, 2, Call::Page(k)));
+    let (_, ended) = steps(&mut world, 2, acts);
+    let loads = status_loads(&world);
+    makes(rt, &mut world, &[(Call::Insert(l, old), Answer::Inserted)]);
+    makes(
+        rt,
+        &mut world,
+        &[(Call::Update(k, new), Answer::Updated(old))],
+    );
+    if ended.is_some() {
+        shows(rt, alloc, &world, &[(k, old)]);
+        return false;
+    }
+    steps(&mut world, 2, 1_000);
+    shows(rt, alloc, &world, &[(k, new), (l, old)]);
+    // where its second load found another status, it began again
+    assert_eq!(rt; status_loads(&world), if loads == 1 { 4 } else { 2 });
+    loads == 1
+}
+
+#[test]
+fn a_page_is_of_one_moment(rt: HostRuntime) {
+    let mut torn = 0u32;
+    for acts in 0..30 {
+        if beside(&rt, rt.alloc(), acts) {
+            torn = torn.saturating_add(1);
+        }
+    }
+    // from the first load of the status to the second
+    assert!(rt; torn >= 10, "{torn}");
+}

@@ -1,0 +1,143 @@
+//! An insert, a delete and an update, word for word.
+
+use super::bench::{Answer, begin, cached, durable, key, open, payload, steps};
+use crate::World;
+use bz_call::Call;
+use std::alloc::Global;
+use std::process::Abort;
+
+const DIRTY: u64 = 1 << 63;
+
+// The words of the root leaf of a memory of 16 nodes and 64 swaps.
+const STATUS: u32 = 1_040;
+
+const META: u32 = 1_050;
+
+// After the first swap of the insert: the leaf, and the swap's descriptor.
+const RESERVED: [(u32, u64); 10] = [
+    (STATUS, 0x0010_0802_0000_0001),
+    (META, 0x0000_007E_0001_0002),
+    (16, 2),
+    (17, 2),
+    (18, 1_040),
+    (19, 0),
+    (20, 0x0010_0802_0000_0001),
+    (21, 1_050),
+    (22, 0),
+    (23, 0x0000_007E_0001_0002),
+];
+
+// After its second swap: the leaf and the record.
+const PUBLISHED: [(u32, u64); 4] = [
+    (STATUS, 0x0010_0800_0000_0002),
+    (META, 0x1000_007E_0001_0002),
+    (1_166, 0x0061_0000_0000_0000),
+    (1_167, 0x0031_0000_0000_0000),
+];
+
+// After the first swap of an update with 22, whose record stands below that of the insert.
+const TAKEN: [(u32, u64); 2] = [
+    (STATUS, 0x0010_1002_0000_0003),
+    (META, 0x1000_007E_0001_0002),
+];
+
+// After its second swap.
+const MOVED: [(u32, u64); 4] = [
+    (STATUS, 0x0010_1002_0000_0004),
+    (META, 0x1000_007C_0001_0003),
+    (1_164, 0x0061_0000_0000_0000),
+    (1_165, 0x0032_3200_0000_0000),
+];
+
+// After a delete in place of the update.
+const DELETED: [(u32, u64); 2] = [
+    (STATUS, 0x0010_0802_0000_0003),
+    (META, 0x0000_0000_0001_0002),
+];
+
+// Whether each address has its word in the caches, and in the memory itself the same word, which may be dirty there.
+fn has(rt: &impl Abort, world: &World, words: &[(u32, u64)]) {
+    for (a, word) in words {
+        assert_eq!(rt; cached(world, *a), *word, "cached at {a}");
+        assert_eq!(rt; durable(world, *a) % DIRTY, *word, "durable at {a}");
+    }
+}
+
+// Steps worker 1 until the cached word at an address is this one, which is what it stores after the first swap of its
+// call; and finds these words then.
+fn after_first(rt: &impl Abort, world: &mut World, (a, word): (u32, u64), words: &[(u32, u64)]) {
+    for _ in 0..1_000 {
+        if cached(world, a) == word {
+            break;
+        }
+        steps(world, 1, 1);
+    }
+    assert_eq!(rt; cached(world, a), word);
+    assert_eq!(rt; durable(world, a), 0);
+    has(rt, world, words);
+}
+
+// Begins a call on the key a.
+fn begins(rt: &impl Abort, world: &mut World, call: Call) {
+    assert!(rt; begin(world, 1, call));
+}
+
+// Makes the rest of the call, which is answered so, and finds these words then.
+fn ends(rt: &impl Abort, world: &mut World, answer: Answer, words: &[(u32, u64)]) {
+    assert_eq!(rt; steps(world, 1, 1_000).1, Some(answer));
+    has(rt, world, words);
+}
+
+// Fresh memory after the insert of a with 1.
+fn inserted(rt: &impl Abort, alloc: Global) -> World {
+    let mut world = open(alloc, 16, 64, 1).expect(rt, "a world");
+    let fresh = [
+        (0, 1),
+        (1, 1),
+        (2, 0),
+        (3, 16),
+        (4, 64),
+        (STATUS, 0),
+        (META, 0),
+    ];
+    has(rt, &world, &fresh);
+    begins(
+        rt,
+        &mut world,
+        Call::Insert(key(rt, b"a"), payload(rt, b"1")),
+    );
+    after_first(rt, &mut world, (1_166, 0x0061_0000_0000_0000), &RESERVED);
+    ends(rt, &mut world, Answer::Inserted, &PUBLISHED);
+    world
+}
+
+#[test]
+fn an_insert_leaves_the_words_that_the_format_gives(rt: HostRuntime) {
+    let world = inserted(&rt, rt.alloc());
+    // the line of the status word is flushed before its dirty bit is cleared
+    assert_eq!(rt; durable(&world, STATUS), DIRTY + 0x0010_0800_0000_0002);
+}
+
+#[test]
+fn an_update_leaves_the_words_that_the_format_gives(rt: HostRuntime) {
+    let mut world = inserted(&rt, rt.alloc());
+    begins(
+        &rt,
+        &mut world,
+        Call::Update(key(&rt, b"a"), payload(&rt, b"22")),
+    );
+    after_first(&rt, &mut world, (1_164, 0x0061_0000_0000_0000), &TAKEN);
+    ends(&rt, &mut world, Answer::Updated(payload(&rt, b"1")), &MOVED);
+}
+
+#[test]
+fn a_delete_leaves_the_words_that_the_format_gives(rt: HostRuntime) {
+    let mut world = inserted(&rt, rt.alloc());
+    begins(&rt, &mut world, Call::Delete(key(&rt, b"a")));
+    ends(
+        &rt,
+        &mut world,
+        Answer::Deleted(payload(&rt, b"1")),
+        &DELETED,
+    );
+}
