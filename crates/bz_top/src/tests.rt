@@ -70,6 +70,14 @@ fn a_script_prints_its_report(rt: HostRuntime) -> Result<(), Fail> {
             "memory 1 2\nw 64 insert a%20b %\nw 64 get a%20b\nw 64 get %00\nrun alone\n",
             "w64.1 insert a%20b % = inserted\nw64.2 get a%20b = value %\nw64.3 get %00 = missing\n",
         ),
+        (
+            "memory 16 64\nw 1 insert a 1\nw 1 delete a\nw 1 get a\nw 1 update a 2\nw 1 delete a\nrun alone\n",
+            "w1.1 insert a 1 = inserted\nw1.2 delete a = deleted 1\nw1.3 get a = missing\nw1.4 update a 2 = missing\nw1.5 delete a = missing\n",
+        ),
+        (
+            "memory 16 64\nw 1 upsert a 1\nw 1 upsert a 22\nw 1 update a %\nw 1 get a\nrun alone\n",
+            "w1.1 upsert a 1 = inserted\nw1.2 upsert a 22 = updated 1\nw1.3 update a % = updated 22\nw1.4 get a = value %\n",
+        ),
         (MIXED, MIXED_REPORT),
         ("memory 16 64\nw 1 get a\n", ""),
         (
@@ -99,15 +107,39 @@ fn a_faulty_input_is_refused_by_name(rt: HostRuntime) -> Result<(), Fail> {
         ("memory 16 64 \n", "fault: line 1: wrong number of words\n"),
         ("memory 16 64\nrun fast\n", "fault: line 2: unknown word\n"),
         ("memory 16 64\n\nrun\n", "fault: line 2: unknown word\n"),
-        ("memory 16 64\nrun threads\n", "fault: line 2: unknown word\n"),
+        (
+            "memory 16 64\nrun threads\n",
+            "fault: line 2: unknown word\n",
+        ),
         ("memory 16 64\ncut 1 0\n", "fault: line 2: unknown word\n"),
-        ("memory 16 64\nw 1 delete a\n", "fault: line 2: unknown word\n"),
-        ("memory 16 64\nrun list\n", "fault: line 2: wrong number of words\n"),
-        ("memory 16 64\nrun turns 1 2\n", "fault: line 2: wrong number of words\n"),
-        ("memory 16 64\nrun list 1*2*3\n", "fault: line 2: bad number\n"),
-        ("memory 16 64\nrun list 1 65 0*0\n", "fault: line 2: bad worker\n"),
-        ("memory 16 64\nrun list 1 2*65537 0\n", "fault: line 2: bad number\n"),
-        ("memory 16 64\nrun turns -1\n", "fault: line 2: bad number\n"),
+        (
+            "memory 16 64\nw 1 rename a b\n",
+            "fault: line 2: unknown word\n",
+        ),
+        (
+            "memory 16 64\nrun list\n",
+            "fault: line 2: wrong number of words\n",
+        ),
+        (
+            "memory 16 64\nrun turns 1 2\n",
+            "fault: line 2: wrong number of words\n",
+        ),
+        (
+            "memory 16 64\nrun list 1*2*3\n",
+            "fault: line 2: bad number\n",
+        ),
+        (
+            "memory 16 64\nrun list 1 65 0*0\n",
+            "fault: line 2: bad worker\n",
+        ),
+        (
+            "memory 16 64\nrun list 1 2*65537 0\n",
+            "fault: line 2: bad number\n",
+        ),
+        (
+            "memory 16 64\nrun turns -1\n",
+            "fault: line 2: bad number\n",
+        ),
         ("memory 16 64\nw 65 get a\n", "fault: line 2: bad worker\n"),
         (
             "memory 16 64\nw 0 get A%41\n",
@@ -174,7 +206,10 @@ fn plans_and_descriptors_show_in_the_report(rt: HostRuntime) -> Result<(), Fail>
         (PLANS, PLANS_REPORT),
         (TWO_SWAPS, TWO_SWAPS_REPORT),
         (ONE_SWAP, ONE_SWAP_REPORT),
-        ("memory 16 64\nrun turns 1\nrun list 1*65536\nrun alone\n", ""),
+        (
+            "memory 16 64\nrun turns 1\nrun list 1*65536\nrun alone\n",
+            "",
+        ),
         ("memory 16 64\nw 1 insert a 1\nrun list 1*10\n", ""),
         (
             "memory 1 2\nw 64 insert a 1\nrun turns 0\nw 64 get a\nrun list 1 64*65536 2\n",
@@ -243,6 +278,21 @@ fn two_inserts_of_one_key_are_one_insert(rt: HostRuntime) -> Result<(), Fail> {
             "memory 16 256\nw 1 insert a 1\nw 2 insert a 2\nrun list 1*{k} 2*{k}\nrun alone\n"
         )?;
         expect_either(&rt, rt.alloc(), &input, first, second)?;
+    }
+    Ok(())
+}
+
+#[test]
+fn an_update_and_a_delete_take_place_one_after_the_other(rt: HostRuntime) -> Result<(), Fail> {
+    let update_first =
+        "w1.1 insert a 1 = inserted\nw1.2 update a 2 = updated 1\nw2.1 delete a = deleted 2\n";
+    let delete_first =
+        "w1.1 insert a 1 = inserted\nw2.1 delete a = deleted 1\nw1.2 update a 2 = missing\n";
+    for seed in 1..51u32 {
+        let input = format!(in rt.alloc();
+            "memory 16 256\nw 1 insert a 1\nrun alone\nw 1 update a 2\nw 2 delete a\nrun turns {seed}\n"
+        )?;
+        expect_either(&rt, rt.alloc(), &input, update_first, delete_first)?;
     }
     Ok(())
 }

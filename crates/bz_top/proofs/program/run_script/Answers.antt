@@ -11,11 +11,11 @@ use Rattle.bz_top.proofs.program.run_script.Goals as goal
 pub returns-in-Finished : goal.returns-in-Finished
 returns-in-Finished c c' =
     ran-finished (job_of c'.args.script.now) c'.in-Ok.world c'.run_items.new.world c'.in-Ok.ensures.ok c'.in-Finished.ensures.on c'.report.ensures.sound
-      (sunk (c.K.Sink.held c'.args.sink.now) (c.K.Sink.held c'.report.new.sink) (c.K.Sink.faults c'.args.sink.now) (c.K.Sink.faults c'.report.new.sink))
-      c'.report.result.status c'.report.result.lab (subst (λ items. LeadsTo (words_of c'.in-Ok.world.config) at_first items c'.run_items.new.world.log.past) c'.items-items.ensures c'.in-Finished.ensures.follows) c'.report.ensures.lab c'.report.ensures.wrote
+    (sunk (c.K.Sink.held c'.args.sink.now) (c.K.Sink.held c'.report.new.sink) (c.K.Sink.faults c'.args.sink.now) (c.K.Sink.faults c'.report.new.sink))
+    c'.report.result.status c'.report.result.lab (subst (λ items. LeadsTo (words_of c'.in-Ok.world.config) at_first items c'.run_items.new.world.log.past) c'.items-items.ensures c'.in-Finished.ensures.follows) c'.report.ensures.lab c'.report.ensures.wrote
 
 pub returns : goal.returns
 returns c c' =
     ran-limited (job_of c'.args.script.now) c'.in-Ok.world c'.run_items.new.world c'.in-Ok.ensures.ok c'.in-Limit.ensures.on c'.report_limit.ensures.sound
-      (sunk (c.K.Sink.held c'.args.sink.now) (c.K.Sink.held c'.report_limit.new.sink) (c.K.Sink.faults c'.args.sink.now) (c.K.Sink.faults c'.report_limit.new.sink))
-      c'.report_limit.result.status c'.report_limit.result.lab c'.in-Limit.which (subst (λ items. IsLedInPart c'.in-Ok.world items c'.in-Limit.which c'.run_items.new.world) c'.items-items.ensures c'.in-Limit.ensures) c'.report_limit.ensures.lab c'.report_limit.ensures.wrote
+    (sunk (c.K.Sink.held c'.args.sink.now) (c.K.Sink.held c'.report_limit.new.sink) (c.K.Sink.faults c'.args.sink.now) (c.K.Sink.faults c'.report_limit.new.sink))
+    c'.report_limit.result.status c'.report_limit.result.lab c'.in-Limit.which (subst (λ items. IsLedInPart c'.in-Ok.world items c'.in-Limit.which c'.run_items.new.world) c'.items-items.ensures c'.in-Limit.ensures) c'.report_limit.ensures.lab c'.report_limit.ensures.wrote
