@@ -1,6 +1,6 @@
 //! What a world refuses.
 
-use super::bench::{begin, key, payload};
+use super::bench::{begin, key, payload, steps};
 use crate::{Applied, Begun, Event, OpenError, Which, World};
 use bz_call::Call;
 use bz_layout::{Config, ConfigError};
@@ -77,10 +77,10 @@ fn a_world_names_what_it_refuses(rt: HostRuntime) -> Result<(), Fail> {
 #[test]
 fn a_journal_that_is_full_ends_the_world(rt: HostRuntime) -> Result<(), Fail> {
     let mut world = World::open(rt.alloc(), &SMALL)?;
-    let call = Call::Insert(key(&rt, b"a"), payload(&rt, b"1"));
     for _ in 0..4 {
+        let call = Call::Insert(key(&rt, b"a"), payload(&rt, b"1"));
         begin(&mut world, 1, call);
-        super::bench::steps(&mut world, 1, 100);
+        steps(&mut world, 1, 100);
     }
     begins(&rt, &mut world, &[(2, false, Begun::Limit(Which::Calls))]);
     for _ in 0..1_024 {

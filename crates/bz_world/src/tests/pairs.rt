@@ -1,7 +1,9 @@
-//! Two inserts, of which one stops after any number of acts.
+//! Two calls, of which one stops after any number of acts.
 
 use super::bench::{Answer, begin, numbered, open, payload, steps};
+use super::decode::decode;
 use super::reader::Reader;
+use crate::World;
 use bz_call::Call;
 use bz_key::Key;
 use std::alloc::Global;
@@ -18,23 +20,40 @@ struct Outcome {
     second: (u32, Option<Answer>),
 }
 
-// Worker 1 makes so many acts of its insert, then worker 2 so many of its own, then worker 1 the rest, and worker 2.
-fn ends(rt: &impl Abort, alloc: Global, keys: &[Key; 2], acts: u32, turn: u32) -> Outcome {
-    let mut world = open(alloc, 16, 256, 2).expect(rt, "a world");
-    assert!(rt; begin(&mut world, 1, Call::Insert(keys[0], payload(rt, b"1"))));
-    let mut first = steps(&mut world, 1, acts);
-    assert!(rt; begin(&mut world, 2, Call::Insert(keys[1], payload(rt, b"2"))));
-    let mut second = steps(&mut world, 2, turn);
+// Worker 1 makes so many acts of its call, then worker 2 so many of its own, then worker 1 the rest, and worker 2.
+fn race(
+    rt: &impl Abort,
+    alloc: Global,
+    world: &mut World,
+    calls: &[Call; 2],
+    acts: u32,
+    turn: u32,
+) -> Outcome {
+    assert!(rt; begin(world, 1, calls[0]));
+    let mut first = steps(world, 1, acts);
+    assert!(rt; begin(world, 2, calls[1]));
+    let mut second = steps(world, 2, turn);
     if first.1.is_none() {
-        first = steps(&mut world, 1, MOST);
+        first = steps(world, 1, MOST);
     }
     if second.1.is_none() {
-        second = steps(&mut world, 2, MOST);
+        second = steps(world, 2, MOST);
     }
     let mut reader = Reader::open(alloc).expect(rt, "a reader");
-    let read = reader.read_on(&world).expect(rt, "room for the maps");
+    let read = reader.read_on(world).expect(rt, "room for the maps");
     assert!(rt; read, "{acts} and {turn} acts");
+    assert_eq!(rt; decode(world), Some(reader.map()), "{acts} and {turn} acts");
     Outcome { first, second }
+}
+
+// Two inserts into an empty leaf.
+fn ends(rt: &impl Abort, alloc: Global, keys: &[Key; 2], acts: u32, turn: u32) -> Outcome {
+    let mut world = open(alloc, 16, 256, 2).expect(rt, "a world");
+    let calls = [
+        Call::Insert(keys[0], payload(rt, b"1")),
+        Call::Insert(keys[1], payload(rt, b"2")),
+    ];
+    race(rt, alloc, &mut world, &calls, acts, turn)
 }
 
 #[test]

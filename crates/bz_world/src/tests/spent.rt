@@ -54,12 +54,12 @@ fn two_descriptors_are_one_insert(rt: HostRuntime) -> Result<(), Fail> {
 }
 
 // How many pairs the first page has; 0 where there is none.
-fn page_length(world: &World) -> u32 {
+fn page_length(world: &World) -> usize {
     let journal = world.journal();
     if journal.page_count() == 0 {
         return 0;
     }
-    journal.page(0).len() as u32
+    journal.page(0).len()
 }
 
 // Each of 64 workers makes a step of its insert in turn until all have ended; how many have inserted.
@@ -94,7 +94,7 @@ fn sixty_four_workers_use_up_the_swaps(rt: HostRuntime) -> Result<(), Fail> {
     let inserted = crowd(&rt, &mut world);
     let page = (Call::Page(numbered(&rt, 0)), Answer::Page(0, false));
     answers(&rt, &mut world, &[page]);
-    assert_eq!(rt; page_length(&world), inserted);
+    assert_eq!(rt; page_length(&world), inserted as usize);
     assert!(rt; inserted >= 1 && inserted <= 50, "{inserted}");
     Ok(())
 }
