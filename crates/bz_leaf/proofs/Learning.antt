@@ -6,6 +6,7 @@ use Rattle.std.proofs.lemmas.Bool.{cases_lt, cases_eq, true≢false}
 use Rattle.std.proofs.lemmas.List.{get_or-set_same, get_or-set_other}
 use Rattle.bz_layout.specs.Addresses.{node_address}
 use Rattle.bz_layout.specs.declared.config.Config.{Config}
+use Rattle.bz_node.specs.declared.image.NodeImage.{NodeImage}
 use Rattle.bz_layout.specs.declared.sizes.TheConstants.{NODE_WORDS, STATUS_AT, HEADER_AT, META_AT, ROOT_AT}
 use Rattle.bz_node.specs.Reading.{payload_at}
 use Rattle.bz_slotted.specs.Page.{meta_of, extent_of}
@@ -15,7 +16,9 @@ use Rattle.bz_word.specs.Statuses.{status}
 use Rattle.bz_content.specs.Image.{node}
 use Rattle.bz_task.specs.Good.{IsGood}
 use Rattle.bz_task.specs.Instant.{Instant, words, page_at, is_inside}
-use Rattle.bz_task.specs.Laws.{AreMoments, FrozenNodesStay, FrontsStay, SeparatorsStay, HasRoot, RootsAreReached, ChildrenAreInTrees}
+use Rattle.bz_layout.specs.Slots.{FreeSlots}
+use Rattle.bz_task.specs.OwnActs.{gained}
+use Rattle.bz_task.specs.Laws.{NothingIsGained, AreMoments, FrozenNodesStay, FrontsStay, SeparatorsStay, HasRoot, RootsAreReached, ChildrenAreInTrees}
 use Rattle.bz_task.specs.Outcomes.{IsUnderRoot, IsUnderNode, IsView}
 use Rattle.bz_task.specs.Requests.{Answers, Tells}
 use Rattle.bz_task.specs.Scene.{Past, Scene, Stage, Waiting, Took, IsScene, HasFilled, here}
@@ -24,10 +27,10 @@ use Rattle.bz_task.specs.declared.path.Link.{Link}
 use Rattle.bz_task.specs.declared.todo.Seen.{Seen}
 use Rattle.bz_task.specs.declared.todo.Seen.TheVariants.{Read as Was}
 use Rattle.bz_task.specs.declared.view.LeafView.{LeafView}
-use Rattle.bz_leaf.specs.Facts.{is_used, IsKnownLeaf, WasWord, Reading, ReadsOn, HasRead, HasLink, IsBlank, IsAfter, leaf_asks, leaf_learnt, leaf_facts}
+use Rattle.bz_leaf.specs.Facts.{is_used, IsKnownLeaf, WasWord, Reading, ReadsOn, HasRead, HasLink, IsBlank, IsAfter, IsMade, leaf_asks, leaf_learnt, leaf_facts}
 use Rattle.bz_leaf.specs.declared.phase.Phase.{Phase}
 use Rattle.bz_leaf.specs.declared.phase.Phase.TheVariants.{Fresh, Status, Word, Again, Link as Of_link, Guard, Viewed, Changed}
-use Rattle.bz_leaf.proofs.Viewing.{Laws, IsMade, thawed-view, frozen-view}
+use Rattle.bz_leaf.proofs.Viewing.{Laws, thawed-view, frozen-view}
 
 -- after the words up to a place come the next one in use, or the validation
 pub goes-on : (key : List ℕ) (link : Link) (ws : List ℕ) (place : ℕ) (p : Past) (phase : Phase) → place < NODE_WORDS → Reading key link ws (place + 1) p → IsAfter (slice_index ws 0) place phase → leaf_learnt key link ws phase p
@@ -78,7 +81,7 @@ goes-on key link ws place p Of_link short r a = record { all = to-end a.1; is = 
       rest = r.rest;
     }
 goes-on key link ws place p (Guard at) short r a = absurd (a)
-goes-on key link ws place p (Viewed view) short r a = absurd (a)
+goes-on key link ws place p (Viewed at) short r a = absurd (a)
 goes-on key link ws place p Changed short r a = absurd (a)
 
 word-at : (c : Config) (x : Instant) (k i : ℕ) → i < NODE_WORDS → x.value (node_address c k + i) ≡ words c x k i
@@ -207,34 +210,45 @@ module _ (b : Links) (s : Scene) (good : IsScene s) (key : List ℕ) (link : Lin
   linked = elim h.leaf.all.known.under [ inl r ↦ under-root r | inr u ↦ under-node u ]
 
 -- what the phase and the answer are
-pub by-phase : (key : List ℕ) (link : Link) (ws : List ℕ) (c : Config) (P : Type 0) (stage : Stage) (s : Scene) (phase other : Phase) (seen told : Seen) → phase ≡ other → seen ≡ told
-    → (leaf_facts key link ws other stage s → Tells (leaf_asks c link other) stage told s → P) → leaf_facts key link ws phase stage s → Tells (leaf_asks c link phase) stage seen s → P
-by-phase key link ws c P stage s phase other seen told e g h f t =
-    h (subst (λ z. leaf_facts key link ws z stage s) e f) (subst (λ z. Tells (leaf_asks c link z) stage told s) e (subst (λ z. Tells (leaf_asks c link phase) stage z s) g t))
+pub by-phase : (key : List ℕ) (link : Link) (image : NodeImage) (ws : List ℕ) (c : Config) (P : Type 0) (stage : Stage) (s : Scene) (phase other : Phase) (seen told : Seen) → phase ≡ other → seen ≡ told
+    → (leaf_facts key link ws other stage s → Tells (leaf_asks c link image other) stage told s → P) → leaf_facts key link ws phase stage s → Tells (leaf_asks c link image phase) stage seen s → P
+by-phase key link image ws c P stage s phase other seen told e g h f t =
+    h (subst (λ z. leaf_facts key link ws z stage s) e f) (subst (λ z. Tells (leaf_asks c link image z) stage told s) e (subst (λ z. Tells (leaf_asks c link image phase) stage z s) g t))
 
-module _ (key : List ℕ) (link : Link) (ws : List ℕ) (full : length ws ≡ 128) (c : Config) (s : Scene) (same : s.past.config ≡ c) (good : IsScene s) where
+module _ (key : List ℕ) (link : Link) (image : NodeImage) (ws : List ℕ) (full : length ws ≡ 128) (c : Config) (s : Scene) (same : s.past.config ≡ c) (good : IsScene s) where
   in-slot : (i v : ℕ) → Answers s (node_address c link.slot + i) v → Answers s (node_address s.past.config link.slot + i) v
   in-slot i v t = subst (λ z. Answers s (node_address z link.slot + i) v) (sym same) t
 
-  pub told-status : (stage : Stage) (v : ℕ) (phase : Phase) → IsAfter v 0 phase → leaf_facts key link ws Status stage s → Tells (leaf_asks c link Status) stage (Was v) s → HasFilled s × leaf_learnt key link (slice_set ws 0 v) phase s.past
+  pub told-status : (stage : Stage) (v : ℕ) (phase : Phase) → IsAfter v 0 phase → leaf_facts key link ws Status stage s → Tells (leaf_asks c link image Status) stage (Was v) s → HasFilled s × leaf_learnt key link (slice_set ws 0 v) phase s.past
   told-status Took v phase a f t = absurd (f)
   told-status Waiting v phase a f t =
       let first : slice_index (slice_set ws 0 v) 0 ≡ v = get_or-set_same ws 0 v 0 (omega (arith, full)) in
       (f.0, goes-on key link (slice_set ws 0 v) 0 s.past phase (omega arith) (reads-status s good key link ws full f.1.0 f.1.1 v (in-slot STATUS_AT v t)) (subst (λ z. IsAfter z 0 phase) (sym first) a))
 
-  pub told-word : (stage : Stage) (i v : ℕ) (phase : Phase) → IsAfter (slice_index (slice_set ws i v) 0) i phase → leaf_facts key link ws (Word i) stage s → Tells (leaf_asks c link (Word i)) stage (Was v) s → HasFilled s × leaf_learnt key link (slice_set ws i v) phase s.past
+  pub told-word : (stage : Stage) (i v : ℕ) (phase : Phase) → IsAfter (slice_index (slice_set ws i v) 0) i phase → leaf_facts key link ws (Word i) stage s → Tells (leaf_asks c link image (Word i)) stage (Was v) s → HasFilled s × leaf_learnt key link (slice_set ws i v) phase s.past
   told-word Took i v phase a f t = absurd (f)
   told-word Waiting i v phase a f t = (f.0, goes-on key link (slice_set ws i v) i s.past phase f.1.within (reads-word s good key link ws full i v f.1 (in-slot i v t)) a)
 
-  pub told-again : Laws → (stage : Stage) (v now : ℕ) (view : LeafView) → v ≡ slice_index ws 0 → s.past.now ≡ now → IsMade view link.slot now ws → leaf_facts key link ws Again stage s → Tells (leaf_asks c link Again) stage (Was v) s → HasFilled s × IsView key view s.past
-  told-again b Took v now view e is m f t = absurd (f)
-  told-again b Waiting v now view e is m f t =
-      (f.0, thawed-view b s good key link ws f.1 (subst (λ z. Answers s (node_address s.past.config link.slot + STATUS_AT) z) e (in-slot STATUS_AT v t)) view (subst (λ z. IsMade view link.slot z ws) (sym is) m))
+  pub told-again : Laws → (stage : Stage) (v now : ℕ) → v ≡ slice_index ws 0 → s.past.now ≡ now → leaf_facts key link ws Again stage s → Tells (leaf_asks c link image Again) stage (Was v) s → HasFilled s × ((view : LeafView) → IsMade view link.slot now ws → IsView key view s.past)
+  told-again b Took v now e is f t = absurd (f)
+  told-again b Waiting v now e is f t =
+      (f.0, λ view m. thawed-view b s good key link ws f.1 (subst (λ z. Answers s (node_address s.past.config link.slot + STATUS_AT) z) e (in-slot STATUS_AT v t)) view (subst (λ z. IsMade view link.slot z ws) (sym is) m))
 
-  pub told-link : (stage : Stage) (v now : ℕ) → v ≡ link.slot + 1 → s.past.now ≡ now → leaf_facts key link ws Of_link stage s → Tells (leaf_asks c link Of_link) stage (Was v) s → HasFilled s × HasLink key link ws now s.past
+  pub told-link : (stage : Stage) (v now : ℕ) → v ≡ link.slot + 1 → s.past.now ≡ now → leaf_facts key link ws Of_link stage s → Tells (leaf_asks c link image Of_link) stage (Was v) s → HasFilled s × HasLink key link ws now s.past
   told-link Took v now e is f t = absurd (f)
   told-link Waiting v now e is f t = (f.0, subst (λ z. HasLink key link ws z s.past) is (reads-link s good key link ws full f.1 (subst (λ z. Answers s link.link z) e t)))
 
-  pub told-guard : Laws → Links → (stage : Stage) (at v : ℕ) (view : LeafView) → (status v).frozen ≡ false → IsMade view link.slot at ws → leaf_facts key link ws (Guard at) stage s → Tells (leaf_asks c link (Guard at)) stage (Was v) s → HasFilled s × IsView key view s.past
-  told-guard b d Took at v view thawed m f t = absurd (f)
-  told-guard b d Waiting at v view thawed m f t = (f.0, frozen-view b s good key link ws at f.1 (linked d s good key link ws at f.1 v t thawed) view m)
+  pub told-guard : Laws → Links → (stage : Stage) (at v : ℕ) → (status v).frozen ≡ false → leaf_facts key link ws (Guard at) stage s → Tells (leaf_asks c link image (Guard at)) stage (Was v) s → HasFilled s × ((view : LeafView) → IsMade view link.slot at ws → IsView key view s.past)
+  told-guard b d Took at v thawed f t = absurd (f)
+  told-guard b d Waiting at v thawed f t = (f.0, λ view m. frozen-view b s good key link ws at f.1 (linked d s good key link ws at f.1 v t thawed) view m)
+
+-- what is learnt is known when no slot was taken
+pub no-slot : NothingIsGained → (key : List ℕ) (link : Link) (ws : List ℕ) (s : Scene) (free : FreeSlots) (phase : Phase) → phase ≢ Fresh → HasFilled s × leaf_learnt key link ws phase s.past → leaf_facts key link ws phase Waiting (gained s free free)
+no-slot n key link ws s free Fresh ne h = absurd (ne refl)
+no-slot n key link ws s free Status ne h = (n s free h.0, h.1)
+no-slot n key link ws s free (Word i) ne h = (n s free h.0, h.1)
+no-slot n key link ws s free Again ne h = (n s free h.0, h.1)
+no-slot n key link ws s free Of_link ne h = (n s free h.0, h.1)
+no-slot n key link ws s free (Guard at) ne h = (n s free h.0, h.1)
+no-slot n key link ws s free (Viewed at) ne h = (n s free h.0, h.1)
+no-slot n key link ws s free Changed ne h = (n s free h.0, h.1)

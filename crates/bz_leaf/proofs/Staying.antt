@@ -84,7 +84,7 @@ module _ (p q : Past) (n : Continues p q) where
   learnt views key link ws Again f = has-read key link ws false f
   learnt views key link ws Of_link f = has-read key link ws true f
   learnt views key link ws (Guard at) f = has-link key link ws at f
-  learnt views key link ws (Viewed view) f = views key view p q f n
+  learnt views key link ws (Viewed at) f = λ view m. views key view p q (f view m) n
   learnt views key link ws Changed f = tt
 
 both : ViewsStay → (key : List ℕ) (link : Link) (ws : List ℕ) (phase : Phase) (s after : Scene) → IsLawful s after → HasFilled s × leaf_learnt key link ws phase s.past → HasFilled after × leaf_learnt key link ws phase after.past
@@ -98,5 +98,5 @@ stable views key link ws (Word i) Waiting s after f step = both views key link w
 stable views key link ws Again Waiting s after f step = both views key link ws Again s after step f
 stable views key link ws Of_link Waiting s after f step = both views key link ws Of_link s after step f
 stable views key link ws (Guard at) Waiting s after f step = both views key link ws (Guard at) s after step f
-stable views key link ws (Viewed view) Waiting s after f step = both views key link ws (Viewed view) s after step f
+stable views key link ws (Viewed at) Waiting s after f step = both views key link ws (Viewed at) s after step f
 stable views key link ws Changed Waiting s after f step = both views key link ws Changed s after step f

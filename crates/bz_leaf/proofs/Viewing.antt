@@ -28,7 +28,7 @@ use Rattle.bz_task.specs.Scene.{Scene, IsScene, here}
 use Rattle.bz_task.specs.Shown.{IsShown, SameWords, SameRecords, SameNode}
 use Rattle.bz_task.specs.declared.path.Link.{Link}
 use Rattle.bz_task.specs.declared.view.LeafView.{LeafView}
-use Rattle.bz_leaf.specs.Facts.{is_used, WasWord, Reading, HasRead, HasLink}
+use Rattle.bz_leaf.specs.Facts.{is_used, WasWord, Reading, HasRead, HasLink, IsMade}
 
 -- the laws that these proofs stand on
 pub record Laws : Type 0 where
@@ -42,13 +42,6 @@ pub record Laws : Type 0 where
   pub rules : LeafRulesAreFacts
   pub formed : WellFormedImagesHaveNoFault
   pub tile : LeavesTileTheKeys
-
--- the view is made of these
-pub record IsMade (view : LeafView) (k moment : ℕ) (ws : List ℕ) : Type 0 where
-  pub slot : view.slot ≡ k
-  pub status : view.status ≡ slice_index ws 0
-  pub image : view.image.0 ≡ ws
-  pub at : view.at ≡ moment
 
 unused : (a b : Bool) → a || b ≡ false → (a ≡ false) × (b ≡ false)
 unused true b e = absurd (cc)

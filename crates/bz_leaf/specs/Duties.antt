@@ -12,7 +12,7 @@ abbrev pub config_of : ReadLeaf → Config
 config_of t = t.config
 
 abbrev pub asks_of : ReadLeaf → Option Todo
-asks_of t = leaf_asks t.config t.link t.phase
+asks_of t = leaf_asks t.config t.link t.image t.phase
 
 abbrev pub left_of : ReadLeaf → ℕ
 left_of t = leaf_left t.phase

@@ -10,12 +10,14 @@ use Rattle.bz_task.specs.Outcomes.{IsUnderRoot, IsUnderNode, IsView}
 use Rattle.bz_task.specs.Scene.{Past, Scene, Stage, Waiting, Took, HasFilled}
 use Rattle.bz_task.specs.Swaps.{Change}
 use Rattle.bz_task.specs.declared.path.Link.{Link}
+use Rattle.bz_node.specs.declared.image.NodeImage.{NodeImage}
 use Rattle.bz_task.specs.declared.todo.Outcome.{Outcome}
 use Rattle.bz_task.specs.declared.todo.Outcome.TheVariants.{View, Restart}
 use Rattle.bz_task.specs.declared.todo.Seen.{Seen}
 use Rattle.bz_task.specs.declared.todo.Seen.TheVariants.{Read as Was}
 use Rattle.bz_task.specs.declared.todo.Todo.{Todo}
 use Rattle.bz_task.specs.declared.todo.Todo.TheVariants.{Read, Finish}
+use Rattle.bz_task.specs.declared.view.LeafView.{LeafView}
 use Rattle.bz_leaf.specs.declared.phase.Phase.{Phase}
 use Rattle.bz_leaf.specs.declared.phase.Phase.TheVariants.{Fresh, Status, Word, Again, Link as Of_link, Guard, Viewed, Changed}
 
@@ -23,15 +25,26 @@ use Rattle.bz_leaf.specs.declared.phase.Phase.TheVariants.{Fresh, Status, Word, 
 abbrev pub is_used : ℕ → ℕ → Bool
 is_used st i = nat_lt i (META_AT + (status st).count) || nat_le NODE_WORDS (i + (status st).block)
 
-abbrev pub leaf_asks : Config → Link → Phase → Option Todo
-leaf_asks c link Fresh = None
-leaf_asks c link Status = Some (Read (node_address c link.slot + STATUS_AT))
-leaf_asks c link (Word i) = Some (Read (node_address c link.slot + i))
-leaf_asks c link Again = Some (Read (node_address c link.slot + STATUS_AT))
-leaf_asks c link Of_link = Some (Read link.link)
-leaf_asks c link (Guard at) = Some (Read link.guard)
-leaf_asks c link (Viewed view) = Some (Finish (View view))
-leaf_asks c link Changed = Some (Finish Restart)
+-- the leaf to which a link leads, as it was read, at a moment
+abbrev pub view_of : Link → NodeImage → ℕ → LeafView
+view_of link image at = record { slot = link.slot; status = slice_index image.0 0; image = image; at = at }
+
+-- the view is made of these
+pub record IsMade (view : LeafView) (k moment : ℕ) (ws : List ℕ) : Type 0 where
+  pub slot : view.slot ≡ k
+  pub status : view.status ≡ slice_index ws 0
+  pub image : view.image.0 ≡ ws
+  pub at : view.at ≡ moment
+
+abbrev pub leaf_asks : Config → Link → NodeImage → Phase → Option Todo
+leaf_asks c link image Fresh = None
+leaf_asks c link image Status = Some (Read (node_address c link.slot + STATUS_AT))
+leaf_asks c link image (Word i) = Some (Read (node_address c link.slot + i))
+leaf_asks c link image Again = Some (Read (node_address c link.slot + STATUS_AT))
+leaf_asks c link image Of_link = Some (Read link.link)
+leaf_asks c link image (Guard at) = Some (Read link.guard)
+leaf_asks c link image (Viewed at) = Some (Finish (View (view_of link image at)))
+leaf_asks c link image Changed = Some (Finish Restart)
 
 -- the most reads: the status, the words after it, and the link with its guard
 abbrev pub leaf_left : Phase → ℕ
@@ -109,7 +122,7 @@ leaf_learnt key link ws (Word i) p = ReadsOn key link ws i p
 leaf_learnt key link ws Again p = HasRead key link ws false p
 leaf_learnt key link ws Of_link p = HasRead key link ws true p
 leaf_learnt key link ws (Guard at) p = HasLink key link ws at p
-leaf_learnt key link ws (Viewed view) p = IsView key view p
+leaf_learnt key link ws (Viewed at) p = (view : LeafView) → IsMade view link.slot at ws → IsView key view p
 leaf_learnt key link ws Changed p = Unit {0}
 
 abbrev pub leaf_facts : List ℕ → Link → List ℕ → Phase → Stage → Scene → Type 0

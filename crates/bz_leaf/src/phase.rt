@@ -1,7 +1,5 @@
 //! The phases of reading a leaf.
 
-use bz_task::LeafView;
-
 /// What is asked for next.
 #[derive(Clone, Copy, Drop)]
 pub(crate) enum Phase {
@@ -17,8 +15,8 @@ pub(crate) enum Phase {
     Link,
     /// The guard of that link, which led to the leaf at this moment.
     Guard(u32),
-    /// The leaf was this.
-    Viewed(LeafView),
+    /// The leaf was so, as it was read, at this moment.
+    Viewed(u32),
     /// A validating load found another value.
     Changed,
 }

@@ -6,7 +6,7 @@ ghost use Rattle.bz_task.specs.Outcomes.{IsPath, IsView};
 ghost use Rattle.bz_task.specs.Requests.{Hears, Tells, IsKnown};
 ghost use Rattle.bz_task.specs.Scene.{Scene, Stage, Waiting, IsScene, HasFilled};
 ghost use Rattle.bz_leaf.specs.Duties.{config_of, asks_of, left_of, facts_of, means_of, differs_of};
-ghost use Rattle.bz_leaf.specs.Facts.{leaf_asks, leaf_left, leaf_learnt, leaf_facts, leaf_means, leaf_differs, leaf_change, leaf_places, IsAfter, IsBlank};
+ghost use Rattle.bz_leaf.specs.Facts.{leaf_asks, leaf_left, leaf_learnt, leaf_facts, leaf_means, leaf_differs, leaf_change, leaf_places, IsAfter, IsBlank, view_of};
 
 use crate::phase::Phase;
 use crate::place::{is_frozen, next_place};
@@ -54,10 +54,7 @@ impl ReadLeaf {
 
     // The leaf as it was read, at this moment.
     fn view(&self, at: u32) -> LeafView
-        ensures slot { result.slot ≡ self.now.link.slot }
-        ensures status { result.status ≡ slice_index self.now.image.0 0 }
-        ensures image { result.image.0 ≡ self.now.image.0 }
-        ensures at { result.at ≡ at }
+        ensures { result ≡ view_of self.now.link self.now.image at }
     {
         LeafView {
             slot: self.link.slot,
@@ -69,8 +66,8 @@ impl ReadLeaf {
 
     // The phase after what came of the last act; a word that was read is kept.
     fn after(&mut self, seen: Seen, moment: u32) -> Phase
-        requires hears { Hears (leaf_asks self.old.config self.old.link self.old.phase) seen }
-        requires known { IsKnown self.old.config (leaf_facts self.old.key self.old.link self.old.image.0 self.old.phase) (leaf_asks self.old.config self.old.link self.old.phase) seen moment }
+        requires hears { Hears (leaf_asks self.old.config self.old.link self.old.image self.old.phase) seen }
+        requires known { IsKnown self.old.config (leaf_facts self.old.key self.old.link self.old.image.0 self.old.phase) (leaf_asks self.old.config self.old.link self.old.image self.old.phase) seen moment }
         ensures config { self.new.config ≡ self.old.config }
         ensures key { self.new.key ≡ self.old.key }
         ensures link { self.new.link ≡ self.old.link }
@@ -79,7 +76,7 @@ impl ReadLeaf {
         ensures begun { result ≢ Phase.Fresh }
         ensures sizes { IsConfig self.old.config }
         ensures places { leaf_places self.old.config self.old.link result }
-        ensures learns { (stage : Stage) (s : Scene) → s.past.now ≡ moment → s.past.config ≡ self.old.config → IsScene s → leaf_facts self.old.key self.old.link self.old.image.0 self.old.phase stage s → Tells (leaf_asks self.old.config self.old.link self.old.phase) stage seen s → HasFilled s × leaf_learnt self.old.key self.old.link self.new.image.0 result s.past }
+        ensures learns { (stage : Stage) (s : Scene) → s.past.now ≡ moment → s.past.config ≡ self.old.config → IsScene s → leaf_facts self.old.key self.old.link self.old.image.0 self.old.phase stage s → Tells (leaf_asks self.old.config self.old.link self.old.image self.old.phase) stage seen s → HasFilled s × leaf_learnt self.old.key self.old.link self.new.image.0 result s.past }
     {
         is_whole(&self.image);
         laws::nodes_stay();
@@ -107,7 +104,7 @@ impl ReadLeaf {
             }
             (Phase::Again, Seen::Read(word)) => {
                 if word == self.image.0[0] {
-                    Phase::Viewed(self.view(moment))
+                    Phase::Viewed(moment)
                 } else {
                     Phase::Changed
                 }
@@ -123,7 +120,7 @@ impl ReadLeaf {
                 if is_frozen(word) {
                     Phase::Changed
                 } else {
-                    Phase::Viewed(self.view(at))
+                    Phase::Viewed(at)
                 }
             }
             _ => Phase::Status,
@@ -135,7 +132,7 @@ impl ReadLeaf {
         requires begun { self.now.phase ≢ Phase.Fresh }
         requires config { IsConfig self.now.config }
         requires places { leaf_places self.now.config self.now.link self.now.phase }
-        ensures { leaf_asks self.now.config self.now.link self.now.phase ≡ Some result }
+        ensures { leaf_asks self.now.config self.now.link self.now.image self.now.phase ≡ Some result }
     {
         match self.phase {
             Phase::Fresh | Phase::Status | Phase::Again => Todo::Read(
@@ -146,7 +143,7 @@ impl ReadLeaf {
             ),
             Phase::Link => Todo::Read(self.link.link),
             Phase::Guard(_) => Todo::Read(self.link.guard),
-            Phase::Viewed(view) => Todo::Finish(Outcome::View(view)),
+            Phase::Viewed(at) => Todo::Finish(Outcome::View(self.view(at))),
             Phase::Changed => Todo::Finish(Outcome::Restart),
         }
     }

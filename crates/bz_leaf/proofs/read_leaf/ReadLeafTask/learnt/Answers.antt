@@ -8,4 +8,4 @@ returns-clause-stable c stage s after same facts good step =
 
 pub returns-clause-cause : goal.returns-clause-cause
 returns-clause-cause c s seen same facts differs =
-    let t = c.args.self.now in cause t.config t.key t.link t.image.0 t.phase s seen same facts differs
+    let t = c.args.self.now in cause t.config t.key t.link t.image t.image.0 t.phase s seen same facts differs
