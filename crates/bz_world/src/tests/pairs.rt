@@ -1,11 +1,11 @@
 //! Two calls, of which one stops after any number of acts.
 
-use super::bench::{Answer, begin, numbered, open, payload, steps};
+use super::bench::{Answer, begin, numbered, open, payload, steps, whole};
 use super::decode::decode;
 use super::reader::Reader;
 use crate::World;
 use bz_call::Call;
-use bz_key::Key;
+use bz_key::{Key, Payload};
 use std::alloc::Global;
 use std::process::Abort;
 use std::test::Fail;
@@ -83,6 +83,75 @@ fn a_stopped_insert_holds_nobody_up(rt: HostRuntime) -> Result<(), Fail> {
         assert_eq!(rt; ends.first.1, Some(Answer::Inserted), "{acts}");
         assert_eq!(rt; ends.second.1, Some(Answer::Inserted), "{acts}");
         assert!(rt; ends.second.0 <= 200, "{acts}: {:?}", ends.second);
+    }
+    Ok(())
+}
+
+// Makes a whole call of worker 1, which is answered so.
+fn makes(rt: &impl Abort, world: &mut World, call: Call, answer: Answer) {
+    assert_eq!(rt; whole(world, 1, call), Some(answer));
+}
+
+// A leaf with four records, and three words left: as many as an insert of a short record takes, or as an update to a
+// short payload asks for.
+fn crowded(rt: &impl Abort, alloc: Global, long: Payload) -> World {
+    let mut world = open(alloc, 16, 256, 2).expect(rt, "a world");
+    let first = numbered(rt, 0);
+    makes(rt, &mut world, Call::Insert(first, long), Answer::Inserted);
+    makes(
+        rt,
+        &mut world,
+        Call::Insert(numbered(rt, 1), long),
+        Answer::Inserted,
+    );
+    makes(
+        rt,
+        &mut world,
+        Call::Insert(numbered(rt, 2), long),
+        Answer::Inserted,
+    );
+    makes(
+        rt,
+        &mut world,
+        Call::Insert(numbered(rt, 3), payload(rt, b"")),
+        Answer::Inserted,
+    );
+    for _ in 0..19 {
+        makes(
+            rt,
+            &mut world,
+            Call::Update(first, long),
+            Answer::Updated(long),
+        );
+    }
+    world
+}
+
+// One of the two calls has taken the last words, and the other answers that there are none.
+fn is_shared(ends: &Outcome, long: Payload) -> bool {
+    let inserted = ends.first.1 == Some(Answer::Inserted)
+        && ends.second.1 == Some(Answer::FullNodes);
+    let updated = ends.first.1 == Some(Answer::FullNodes)
+        && ends.second.1 == Some(Answer::Updated(long));
+    inserted || updated
+}
+
+#[test]
+fn the_last_words_of_a_leaf_go_to_one_call(rt: HostRuntime) -> Result<(), Fail> {
+    let long = payload(&rt, &[b'x'; 28]);
+    let calls = [
+        Call::Insert(numbered(&rt, 4), payload(&rt, b"1")),
+        Call::Update(numbered(&rt, 1), payload(&rt, b"2")),
+    ];
+    for acts in 0..200 {
+        let mut world = crowded(&rt, rt.alloc(), long);
+        let ends = race(&rt, rt.alloc(), &mut world, &calls, acts, MOST);
+        assert!(rt;
+            is_shared(&ends, long),
+            "{acts} acts: {:?} and {:?}",
+            ends.first,
+            ends.second
+        );
     }
     Ok(())
 }
