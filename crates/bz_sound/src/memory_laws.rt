@@ -7,7 +7,7 @@ ghost use Rattle.bz_sound.specs.Memory.Laws.{LoadsAreSettled};
 ghost use Rattle.bz_sound.specs.Memory.ImageLaws.{AnswersComeFromTheImage, PagesComeFromTheImage, ChangesFollow, SameContentDecodes};
 ghost use Rattle.bz_sound.specs.Memory.ImageLaws.{EffectsAnswer, SpentAnswersFull, HeldSwapsAreSpent};
 ghost use Rattle.bz_sound.specs.Memory.CallLaws.{EffectsStandOnce};
-ghost use Rattle.bz_sound.specs.Memory.OpenCallLaws.{OpenCallsLeaveRoom, EffectsStayOpen, InsertEffectsInsert};
+ghost use Rattle.bz_sound.specs.Memory.OpenCallLaws.{OpenCallsLeaveRoom, EffectsStayOpen};
 ghost use Rattle.bz_sound.specs.Memory.CallLaws.{OpenCallsAreKept, OpenCallsAreLast, ApartCallsAreAlone, ActsAreOfOpenCalls, EffectsComeDirectly, EndsLieWithinTheirCalls, ToldChangesTookEffect, FullHasACause};
 
 /// A journal without marks over a well-formed image is sound.
@@ -126,11 +126,6 @@ pub fn effects_stand_once()
 /// While a call with an Effect is open, further marks leave the map directly before the Effect.
 pub fn effects_stay_open()
     ensures { EffectsStayOpen }
-{}
-
-/// The Effect of an open insert is that of a key that was absent.
-pub fn insert_effects_insert()
-    ensures { InsertEffectsInsert }
 {}
 
 /// The moment that an End names lies after the Begin of its call and not after the End.

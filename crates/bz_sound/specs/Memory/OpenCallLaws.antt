@@ -1,16 +1,13 @@
--- What an open call tells: that there is room for its End, and how its Effect answers it.
+-- What an open call tells: that there is room for its End, and that its Effect stays what it is.
 use Rattle.std.specs.Prelude.{◌≡◌, ◌<◌, ℕ, true, List, ◌∷◌, Some}
 use Rattle.bz_layout.specs.declared.config.Config.{Config}
 use Rattle.bz_call.specs.Map.{Map, apply}
 use Rattle.bz_call.specs.Pages.{is_page}
 use Rattle.bz_call.specs.declared.calls.Call.{Call}
-use Rattle.bz_call.specs.declared.calls.Call.TheVariants.{Insert}
 use Rattle.bz_call.specs.declared.replies.Reply.{Reply}
-use Rattle.bz_call.specs.declared.replies.Reply.TheVariants.{Inserted}
 use Rattle.bz_mark.specs.Log.{Log, count_begins, count_ends, count_page_calls, count_page_ends}
 use Rattle.bz_mark.specs.declared.marks.Mark.{Mark}
 use Rattle.bz_sound.specs.Calls.{Open, open_call, map_at}
-use Rattle.bz_sound.specs.Memory.Moments.{map_at_start}
 use Rattle.bz_sound.specs.Memory.Sound.{IsSound}
 
 -- fewer calls have ended than have begun, and fewer pages were named than calls ask for one, where this call does
@@ -30,10 +27,3 @@ abbrev pub EffectsStayOpen : Type 0
 EffectsStayOpen =
     (start : Map) (past : List Mark) (mark : Mark) (w at : ℕ) (opened : Open) → open_call w past ≡ Some opened → opened.effect ≡ Some at →
     EffectStays start past mark opened.call at
-
--- an open insert that took effect found its key absent
-abbrev pub InsertEffectsInsert : Type 0
-InsertEffectsInsert =
-    (c : Config) (log : Log) (w at : ℕ) (opened : Open) (key payload : List ℕ) → IsSound c log → open_call w log.past ≡ Some opened →
-    opened.effect ≡ Some at → opened.call ≡ Insert key payload →
-    (apply (map_at (map_at_start c log.start) at log.past) opened.call).reply ≡ Some Inserted
