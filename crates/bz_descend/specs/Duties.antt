@@ -4,7 +4,7 @@ use Rattle.bz_layout.specs.declared.config.Config.{Config}
 use Rattle.bz_task.specs.Scene.{Scene, Stage}
 use Rattle.bz_task.specs.declared.todo.Outcome.{Outcome}
 use Rattle.bz_task.specs.declared.todo.Todo.{Todo}
-use Rattle.bz_descend.specs.Facts.{descend_asks, descend_left, descend_facts, descend_means}
+use Rattle.bz_descend.specs.Facts.{descend_asks, descend_end, descend_left, descend_facts, descend_means}
 use Rattle.bz_descend.specs.declared.descend.Descend.{Descend}
 
 abbrev pub config_of : Descend → Config
@@ -12,6 +12,9 @@ config_of t = t.config
 
 abbrev pub asks_of : Descend → Option Todo
 asks_of t = descend_asks t.config t.phase
+
+abbrev pub end_of : Descend → Option Outcome
+end_of t = descend_end t.phase
 
 abbrev pub left_of : Descend → ℕ
 left_of t = descend_left t.phase

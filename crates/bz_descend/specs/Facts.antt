@@ -20,8 +20,13 @@ descend_asks c Fresh = None
 descend_asks c Guard = Some (Read ROOT_STATUS_AT)
 descend_asks c (Root st) = Some (Read ROOT_AT)
 descend_asks c (Header st k) = Some (Read (node_address c k + HEADER_AT))
-descend_asks c (Found path) = Some (Finish (IsAPath path))
-descend_asks c Tall = Some (Finish NeedsRoom)
+descend_asks c (Found path) = Some Finish
+descend_asks c Tall = Some Finish
+
+abbrev pub descend_end : Phase → Option Outcome
+descend_end (Found path) = Some (IsAPath path)
+descend_end Tall = Some NeedsRoom
+descend_end phase = None
 
 abbrev pub descend_left : Phase → ℕ
 descend_left Fresh = 4

@@ -8,7 +8,7 @@ ghost use Rattle.bz_task.specs.Outcomes.{IsPath};
 ghost use Rattle.bz_task.specs.Requests.{Hears, Tells, IsKnown};
 ghost use Rattle.bz_task.specs.Scene.{Scene, Stage, Waiting, IsScene, HasFilled};
 ghost use Rattle.bz_task.specs.declared.todo.Todo.TheVariants.{Read};
-ghost use Rattle.bz_descend.specs.Duties.{config_of, asks_of, left_of, facts_of, means_of};
+ghost use Rattle.bz_descend.specs.Duties.{config_of, asks_of, end_of, left_of, facts_of, means_of};
 ghost use Rattle.bz_descend.specs.Facts.{SawTall, descend_asks, descend_left, descend_learnt, descend_facts, descend_means, descend_slots, descend_change};
 
 use crate::phase::Phase;
@@ -100,8 +100,7 @@ impl Descend {
             Phase::Fresh | Phase::Guard => Todo::Read(ROOT_STATUS_AT),
             Phase::Root(_) => Todo::Read(ROOT_AT),
             Phase::Header(_, slot) => Todo::Read(self.config.node_at(slot as u32) + HEADER_AT),
-            Phase::Found(path) => Todo::Finish(Outcome::Path(path)),
-            Phase::Tall => Todo::Finish(Outcome::NeedsRoom),
+            Phase::Found(_) | Phase::Tall => Todo::Finish,
         }
     }
 }
@@ -140,6 +139,8 @@ impl Task for Descend {
 
     ghost asks = { asks_of };
 
+    ghost end = { end_of };
+
     ghost left = { left_of };
 
     ghost needs = { λ t. 0 };
@@ -156,6 +157,14 @@ impl Task for Descend {
 
     fn publishes(&self) -> bool {
         false
+    }
+
+    fn ended(&self) -> Option<Outcome> {
+        match self.phase {
+            Phase::Found(path) => Some(Outcome::Path(path)),
+            Phase::Tall => Some(Outcome::NeedsRoom),
+            _ => None,
+        }
     }
 
     fn next(&mut self, seen: Seen, slots: &mut Slots, moment: u32) -> Todo {

@@ -28,9 +28,13 @@ entry_of c k st = record { target = node_address c k + STATUS_AT; expected = st;
 abbrev pub freeze_asks : Config → ℕ → ℕ → Phase → Option Todo
 freeze_asks c k st Fresh = None
 freeze_asks c k st Swap = Some (Swaps_for (entry_of c k st ∷ []))
-freeze_asks c k st Done = Some (Finish IsDone)
-freeze_asks c k st Restart = Some (Finish Restarts)
-freeze_asks c k st Full = Some (Finish (IsFull Swaps))
+freeze_asks c k st phase = Some Finish
+
+abbrev pub freeze_end : Phase → Option Outcome
+freeze_end Done = Some IsDone
+freeze_end Restart = Some Restarts
+freeze_end Full = Some (IsFull Swaps)
+freeze_end phase = None
 
 abbrev pub freeze_left : Phase → ℕ
 freeze_left Fresh = 2

@@ -8,7 +8,7 @@ ghost use Rattle.bz_task.specs.Outcomes.{IsView};
 ghost use Rattle.bz_task.specs.Requests.{Hears, Tells, IsKnown};
 ghost use Rattle.bz_task.specs.Scene.{Scene, Stage, Waiting, IsScene};
 ghost use Rattle.bz_task.specs.declared.todo.Seen.TheVariants.{Swapped, NoSwap};
-ghost use Rattle.bz_freeze.specs.Facts.{WasFrozen, frozen_word, freeze_asks, freeze_left, freeze_facts, freeze_means, freeze_change, entry_of};
+ghost use Rattle.bz_freeze.specs.Facts.{WasFrozen, frozen_word, freeze_asks, freeze_end, freeze_left, freeze_facts, freeze_means, freeze_change, entry_of};
 
 use crate::laws::freezes_are_good;
 use crate::phase::Phase;
@@ -112,10 +112,8 @@ impl Freeze {
         ensures { freeze_asks self.now.config self.now.slot self.now.status self.now.phase ≡ Some result }
     {
         match self.phase {
-            Phase::Fresh | Phase::Restart => Todo::Finish(Outcome::Restart),
             Phase::Swap => Todo::Swap(swap_of(&self.config, self.slot, self.status)),
-            Phase::Done => Todo::Finish(Outcome::Done),
-            Phase::Full => Todo::Finish(Outcome::Full(Spent::Swaps)),
+            Phase::Fresh | Phase::Done | Phase::Restart | Phase::Full => Todo::Finish,
         }
     }
 }
@@ -124,6 +122,8 @@ impl Task for Freeze {
     ghost config = { λ t. t.config };
 
     ghost asks = { λ t. freeze_asks t.config t.slot t.status t.phase };
+
+    ghost end = { λ t. freeze_end t.phase };
 
     ghost left = { λ t. freeze_left t.phase };
 
@@ -141,6 +141,15 @@ impl Task for Freeze {
 
     fn publishes(&self) -> bool {
         false
+    }
+
+    fn ended(&self) -> Option<Outcome> {
+        match self.phase {
+            Phase::Done => Some(Outcome::Done),
+            Phase::Restart => Some(Outcome::Restart),
+            Phase::Full => Some(Outcome::Full(Spent::Swaps)),
+            _ => None,
+        }
     }
 
     fn next(&mut self, seen: Seen, slots: &mut Slots, moment: u32) -> Todo {

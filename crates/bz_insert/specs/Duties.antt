@@ -6,7 +6,7 @@ use Rattle.bz_task.specs.Scene.{Scene, Stage}
 use Rattle.bz_task.specs.Swaps.{Change}
 use Rattle.bz_task.specs.declared.todo.Outcome.{Outcome}
 use Rattle.bz_task.specs.declared.todo.Todo.{Todo}
-use Rattle.bz_insert.specs.Facts.{insert_asks, insert_left, insert_publishes, insert_facts, insert_means}
+use Rattle.bz_insert.specs.Facts.{insert_asks, insert_end, insert_left, insert_publishes, insert_facts, insert_means}
 use Rattle.bz_insert.specs.declared.insert.Insert.{Insert}
 
 abbrev pub config_of : Insert → Config
@@ -14,6 +14,9 @@ config_of t = t.config
 
 abbrev pub asks_of : Insert → Option Todo
 asks_of t = insert_asks t.config t.added t.phase
+
+abbrev pub end_of : Insert → Option Outcome
+end_of t = insert_end t.phase
 
 abbrev pub left_of : Insert → ℕ
 left_of t = insert_left t.phase

@@ -23,10 +23,14 @@ insert_asks c r Reserve = Some (Swaps_for (entries_of c (reservation r)))
 insert_asks c r (Store i) = Some (Stores_at (address_of c r i) (slice_index (words_in r) i))
 insert_asks c r (Flush n) = Some (Flushes_line (first_line c r + n))
 insert_asks c r Publish = Some (Swaps_for (entries_of c (publication r)))
-insert_asks c r Done = Some (Finish IsDone)
-insert_asks c r Restart = Some (Finish Restarts)
-insert_asks c r NeedsRoom = Some (Finish Needs)
-insert_asks c r Full = Some (Finish (IsFull Swaps))
+insert_asks c r phase = Some Finish
+
+abbrev pub insert_end : Phase → Option Outcome
+insert_end Done = Some IsDone
+insert_end Restart = Some Restarts
+insert_end NeedsRoom = Some Needs
+insert_end Full = Some (IsFull Swaps)
+insert_end phase = None
 
 -- the most acts: two swaps, eight stores and two flushes
 abbrev pub insert_left : Phase → ℕ

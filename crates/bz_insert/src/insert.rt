@@ -10,7 +10,7 @@ ghost use Rattle.bz_task.specs.Scene.{Scene, Stage, Waiting, IsScene};
 ghost use Rattle.bz_task.specs.declared.todo.Seen.TheVariants.{Swapped, NoSwap};
 ghost use Rattle.bz_record.specs.Laws.{inserts};
 ghost use Rattle.bz_record.specs.Records.{words_for, size_of, HasRoom, LacksRoom};
-ghost use Rattle.bz_insert.specs.Duties.{config_of, asks_of, left_of, change_of, publishing_of, facts_of, means_of};
+ghost use Rattle.bz_insert.specs.Duties.{config_of, asks_of, end_of, left_of, change_of, publishing_of, facts_of, means_of};
 ghost use Rattle.bz_insert.specs.Facts.{insert_asks, insert_left, insert_publishes, insert_facts, insert_means, IsReady, next_store, next_flush};
 
 use crate::phase::Phase;
@@ -98,16 +98,14 @@ impl Insert {
         ensures { insert_asks self.now.config self.now.added self.now.phase ≡ Some result }
     {
         match self.phase {
-            Phase::Fresh | Phase::Restart => Todo::Finish(Outcome::Restart),
             Phase::Reserve => Todo::Swap(self.added.reservation().entries(&self.config)),
             Phase::Store(i) => {
                 Todo::Store(self.added.address(&self.config, i), self.added.word(i))
             }
             Phase::Flush(n) => Todo::Flush(self.added.first_line(&self.config) + n),
             Phase::Publish => Todo::Swap(self.added.publication().entries(&self.config)),
-            Phase::Done => Todo::Finish(Outcome::Done),
-            Phase::NeedsRoom => Todo::Finish(Outcome::NeedsRoom),
-            Phase::Full => Todo::Finish(Outcome::Full(Spent::Swaps)),
+            Phase::Fresh | Phase::Done | Phase::Restart | Phase::NeedsRoom | Phase::Full =>
+                Todo::Finish,
         }
     }
 
@@ -162,6 +160,8 @@ impl Task for Insert {
 
     ghost asks = { asks_of };
 
+    ghost end = { end_of };
+
     ghost left = { left_of };
 
     ghost needs = { λ t. 0 };
@@ -180,6 +180,16 @@ impl Task for Insert {
         match self.phase {
             Phase::Publish => true,
             _ => false,
+        }
+    }
+
+    fn ended(&self) -> Option<Outcome> {
+        match self.phase {
+            Phase::Done => Some(Outcome::Done),
+            Phase::Restart => Some(Outcome::Restart),
+            Phase::NeedsRoom => Some(Outcome::NeedsRoom),
+            Phase::Full => Some(Outcome::Full(Spent::Swaps)),
+            _ => None,
         }
     }
 

@@ -5,7 +5,7 @@ use Rattle.bz_task.specs.Scene.{Scene, Stage}
 use Rattle.bz_task.specs.declared.todo.Outcome.{Outcome}
 use Rattle.bz_task.specs.declared.todo.Seen.{Seen}
 use Rattle.bz_task.specs.declared.todo.Todo.{Todo}
-use Rattle.bz_leaf.specs.Facts.{leaf_asks, leaf_left, leaf_facts, leaf_means, leaf_differs}
+use Rattle.bz_leaf.specs.Facts.{leaf_asks, leaf_end, leaf_left, leaf_facts, leaf_means, leaf_differs}
 use Rattle.bz_leaf.specs.declared.read_leaf.ReadLeaf.{ReadLeaf}
 
 abbrev pub config_of : ReadLeaf → Config
@@ -13,6 +13,9 @@ config_of t = t.config
 
 abbrev pub asks_of : ReadLeaf → Option Todo
 asks_of t = leaf_asks t.config t.link t.image t.phase
+
+abbrev pub end_of : ReadLeaf → Option Outcome
+end_of t = leaf_end t.link t.image t.phase
 
 abbrev pub left_of : ReadLeaf → ℕ
 left_of t = leaf_left t.phase

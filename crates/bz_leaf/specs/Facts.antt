@@ -43,8 +43,13 @@ leaf_asks c link image (Word i) = Some (Read (node_address c link.slot + i))
 leaf_asks c link image Again = Some (Read (node_address c link.slot + STATUS_AT))
 leaf_asks c link image Of_link = Some (Read link.link)
 leaf_asks c link image (Guard at) = Some (Read link.guard)
-leaf_asks c link image (Viewed at) = Some (Finish (View (view_of link image at)))
-leaf_asks c link image Changed = Some (Finish Restart)
+leaf_asks c link image (Viewed at) = Some Finish
+leaf_asks c link image Changed = Some Finish
+
+abbrev pub leaf_end : Link → NodeImage → Phase → Option Outcome
+leaf_end link image (Viewed at) = Some (View (view_of link image at))
+leaf_end link image Changed = Some Restart
+leaf_end link image phase = None
 
 -- the most reads: the status, the words after it, and the link with its guard
 abbrev pub leaf_left : Phase → ℕ

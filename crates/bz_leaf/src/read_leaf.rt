@@ -5,7 +5,7 @@ ghost use Rattle.bz_layout.specs.Config.{IsConfig};
 ghost use Rattle.bz_task.specs.Outcomes.{IsPath, IsView};
 ghost use Rattle.bz_task.specs.Requests.{Hears, Tells, IsKnown};
 ghost use Rattle.bz_task.specs.Scene.{Scene, Stage, Waiting, IsScene, HasFilled};
-ghost use Rattle.bz_leaf.specs.Duties.{config_of, asks_of, left_of, facts_of, means_of, differs_of};
+ghost use Rattle.bz_leaf.specs.Duties.{config_of, asks_of, end_of, left_of, facts_of, means_of, differs_of};
 ghost use Rattle.bz_leaf.specs.Facts.{leaf_asks, leaf_left, leaf_learnt, leaf_facts, leaf_means, leaf_differs, leaf_change, leaf_places, IsAfter, IsBlank, view_of};
 
 use crate::phase::Phase;
@@ -143,8 +143,7 @@ impl ReadLeaf {
             ),
             Phase::Link => Todo::Read(self.link.link),
             Phase::Guard(_) => Todo::Read(self.link.guard),
-            Phase::Viewed(at) => Todo::Finish(Outcome::View(self.view(at))),
-            Phase::Changed => Todo::Finish(Outcome::Restart),
+            Phase::Viewed(_) | Phase::Changed => Todo::Finish,
         }
     }
 }
@@ -193,6 +192,8 @@ impl Task for ReadLeaf {
 
     ghost asks = { asks_of };
 
+    ghost end = { end_of };
+
     ghost left = { left_of };
 
     ghost needs = { λ t. 0 };
@@ -209,6 +210,14 @@ impl Task for ReadLeaf {
 
     fn publishes(&self) -> bool {
         false
+    }
+
+    fn ended(&self) -> Option<Outcome> {
+        match self.phase {
+            Phase::Viewed(at) => Some(Outcome::View(self.view(at))),
+            Phase::Changed => Some(Outcome::Restart),
+            _ => None,
+        }
     }
 
     fn next(&mut self, seen: Seen, slots: &mut Slots, moment: u32) -> Todo {

@@ -5,7 +5,7 @@ use Rattle.bz_task.specs.Scene.{Scene, Stage}
 use Rattle.bz_task.specs.Swaps.{Change}
 use Rattle.bz_task.specs.declared.todo.Outcome.{Outcome}
 use Rattle.bz_task.specs.declared.todo.Todo.{Todo}
-use Rattle.bz_mutate.specs.DeleteFacts.{delete_asks, delete_left, delete_publishes, delete_facts, delete_means, deletion}
+use Rattle.bz_mutate.specs.DeleteFacts.{delete_asks, delete_end, delete_left, delete_publishes, delete_facts, delete_means, deletion}
 use Rattle.bz_mutate.specs.declared.delete.Delete.{Delete}
 
 abbrev pub config_of : Delete → Config
@@ -13,6 +13,9 @@ config_of t = t.config
 
 abbrev pub asks_of : Delete → Option Todo
 asks_of t = delete_asks t.config t.view t.phase
+
+abbrev pub end_of : Delete → Option Outcome
+end_of t = delete_end t.phase
 
 abbrev pub left_of : Delete → ℕ
 left_of t = delete_left t.phase

@@ -25,10 +25,14 @@ use Rattle.bz_mutate.specs.declared.delete_phase.DeletePhase.TheVariants.{Fresh,
 abbrev pub delete_asks : Config → LeafView → DeletePhase → Option Todo
 delete_asks c v Fresh = None
 delete_asks c v (Remove f) = Some (Swaps_for (entries_of c (removal v.slot v.status f.place f.extent)))
-delete_asks c v Done = Some (Finish IsDone)
-delete_asks c v Restart = Some (Finish Restarts)
-delete_asks c v NeedsRoom = Some (Finish Needs)
-delete_asks c v Full = Some (Finish (IsFull Swaps))
+delete_asks c v phase = Some Finish
+
+abbrev pub delete_end : DeletePhase → Option Outcome
+delete_end Done = Some IsDone
+delete_end Restart = Some Restarts
+delete_end NeedsRoom = Some Needs
+delete_end Full = Some (IsFull Swaps)
+delete_end phase = None
 
 abbrev pub delete_left : DeletePhase → ℕ
 delete_left Fresh = 2

@@ -5,7 +5,7 @@ use Rattle.bz_task.specs.Scene.{Scene, Stage}
 use Rattle.bz_task.specs.Swaps.{Change}
 use Rattle.bz_task.specs.declared.todo.Outcome.{Outcome}
 use Rattle.bz_task.specs.declared.todo.Todo.{Todo}
-use Rattle.bz_mutate.specs.UpdateFacts.{update_asks, update_left, update_publishes, update_facts, update_means, revision}
+use Rattle.bz_mutate.specs.UpdateFacts.{update_asks, update_end, update_left, update_publishes, update_facts, update_means, revision}
 use Rattle.bz_mutate.specs.declared.update.Update.{Update}
 
 abbrev pub config_of : Update → Config
@@ -13,6 +13,9 @@ config_of t = t.config
 
 abbrev pub asks_of : Update → Option Todo
 asks_of t = update_asks t.config t.added t.phase
+
+abbrev pub end_of : Update → Option Outcome
+end_of t = update_end t.phase
 
 abbrev pub left_of : Update → ℕ
 left_of t = update_left t.phase

@@ -31,10 +31,14 @@ update_asks c r (Grow f) = Some (Swaps_for (growth c r ∷ []))
 update_asks c r (Store f i) = Some (Stores_at (address_of c r i) (slice_index (words_in r) i))
 update_asks c r (Flush f n) = Some (Flushes_line (first_line c r + n))
 update_asks c r (Replace f) = Some (Swaps_for (entries_of c (replacement r f.place f.extent)))
-update_asks c r Done = Some (Finish IsDone)
-update_asks c r Restart = Some (Finish Restarts)
-update_asks c r NeedsRoom = Some (Finish Needs)
-update_asks c r Full = Some (Finish (IsFull Swaps))
+update_asks c r phase = Some Finish
+
+abbrev pub update_end : UpdatePhase → Option Outcome
+update_end Done = Some IsDone
+update_end Restart = Some Restarts
+update_end NeedsRoom = Some Needs
+update_end Full = Some (IsFull Swaps)
+update_end phase = None
 
 -- the most acts: two swaps, eight stores and two flushes
 abbrev pub update_left : UpdatePhase → ℕ

@@ -11,7 +11,7 @@ ghost use Rattle.bz_task.specs.Scene.{Scene, Stage, Waiting, IsScene};
 ghost use Rattle.bz_task.specs.declared.todo.Seen.TheVariants.{Swapped, NoSwap};
 ghost use Rattle.bz_record.specs.declared.found_record.FoundRecord.{FoundRecord};
 ghost use Rattle.bz_mutate.specs.Viewed.{CanBeFound, HasOthers};
-ghost use Rattle.bz_mutate.specs.DeleteDuties.{config_of, asks_of, left_of, change_of, publishing_of, facts_of, means_of};
+ghost use Rattle.bz_mutate.specs.DeleteDuties.{config_of, asks_of, end_of, left_of, change_of, publishing_of, facts_of, means_of};
 ghost use Rattle.bz_mutate.specs.DeleteFacts.{delete_asks, delete_left, delete_facts, IsFirst, IsReady};
 
 use crate::delete_phase::DeletePhase;
@@ -20,7 +20,6 @@ use bz_key::Key;
 use bz_layout::{Config, SHARED_WORDS, Slots};
 use bz_record::FoundRecord;
 use bz_task::{LeafView, Outcome, Path, Seen, Task, Todo, laws};
-use bz_word::Status;
 
 /// The delete of a key from the leaf that a view shows. It ends with Done where the record is gone, with NeedsRoom where the
 /// viewed leaf is frozen, with Restart where the swap found another status, and with Full(Swaps).
@@ -94,7 +93,7 @@ impl Delete {
         ensures none { result ≡ DeletePhase.NeedsRoom → (status self.now.view.status).frozen ≡ false → HasOthers self.now.key self.now.view }
         ensures either { IsFirst result }
     {
-        if is_frozen(self.view.status) {
+        if self.view.is_frozen() {
             return DeletePhase::NeedsRoom;
         }
         match FoundRecord::find(&self.view.image, self.view.status, &self.key) {
@@ -111,28 +110,17 @@ impl Delete {
         ensures { delete_asks self.now.config self.now.view self.now.phase ≡ Some result }
     {
         match self.phase {
-            DeletePhase::Fresh | DeletePhase::Restart => Todo::Finish(Outcome::Restart),
             DeletePhase::Remove(found) => Todo::Swap(
                 found
                     .removal(self.view.slot, self.view.status)
                     .entries(&self.config),
             ),
-            DeletePhase::Done => Todo::Finish(Outcome::Done),
-            DeletePhase::NeedsRoom => Todo::Finish(Outcome::NeedsRoom),
-            DeletePhase::Full => Todo::Finish(Outcome::Full(Spent::Swaps)),
+            DeletePhase::Fresh
+            | DeletePhase::Done
+            | DeletePhase::Restart
+            | DeletePhase::NeedsRoom
+            | DeletePhase::Full => Todo::Finish,
         }
-    }
-}
-
-// Whether a node with this status is frozen.
-fn is_frozen(word: u64) -> bool
-    requires { word < 2 ^ 61 }
-    ensures { result ≡ (status word).frozen }
-{
-    bz_word::laws::statuses();
-    match Status::unpack(word) {
-        Some(status) => status.frozen,
-        None => false,
     }
 }
 
@@ -140,6 +128,8 @@ impl Task for Delete {
     ghost config = { config_of };
 
     ghost asks = { asks_of };
+
+    ghost end = { end_of };
 
     ghost left = { left_of };
 
@@ -159,6 +149,16 @@ impl Task for Delete {
         match self.phase {
             DeletePhase::Remove(_) => true,
             _ => false,
+        }
+    }
+
+    fn ended(&self) -> Option<Outcome> {
+        match self.phase {
+            DeletePhase::Done => Some(Outcome::Done),
+            DeletePhase::Restart => Some(Outcome::Restart),
+            DeletePhase::NeedsRoom => Some(Outcome::NeedsRoom),
+            DeletePhase::Full => Some(Outcome::Full(Spent::Swaps)),
+            _ => None,
         }
     }
 

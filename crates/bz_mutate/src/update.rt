@@ -12,7 +12,7 @@ ghost use Rattle.bz_task.specs.declared.todo.Seen.TheVariants.{Swapped, NoSwap};
 ghost use Rattle.bz_record.specs.Records.{words_for, size_of, HasRoom, LacksRoom};
 ghost use Rattle.bz_record.specs.declared.found_record.FoundRecord.{FoundRecord};
 ghost use Rattle.bz_mutate.specs.Viewed.{CanBeFound, HasOthers};
-ghost use Rattle.bz_mutate.specs.UpdateDuties.{config_of, asks_of, left_of, change_of, publishing_of, facts_of, means_of};
+ghost use Rattle.bz_mutate.specs.UpdateDuties.{config_of, asks_of, end_of, left_of, change_of, publishing_of, facts_of, means_of};
 ghost use Rattle.bz_mutate.specs.UpdateFacts.{update_asks, update_left, update_facts, IsFirst, IsReady, next_store, next_flush};
 
 use crate::update_phase::UpdatePhase;
@@ -124,7 +124,6 @@ impl Update {
         ensures { update_asks self.now.config self.now.added self.now.phase ≡ Some result }
     {
         match self.phase {
-            UpdatePhase::Fresh | UpdatePhase::Restart => Todo::Finish(Outcome::Restart),
             UpdatePhase::Grow(_) => Todo::Swap(self.added.growth(&self.config)),
             UpdatePhase::Store(_, i) => {
                 Todo::Store(self.added.address(&self.config, i), self.added.word(i))
@@ -133,9 +132,11 @@ impl Update {
             UpdatePhase::Replace(old) => {
                 Todo::Swap(old.replacement(&self.added).entries(&self.config))
             }
-            UpdatePhase::Done => Todo::Finish(Outcome::Done),
-            UpdatePhase::NeedsRoom => Todo::Finish(Outcome::NeedsRoom),
-            UpdatePhase::Full => Todo::Finish(Outcome::Full(Spent::Swaps)),
+            UpdatePhase::Fresh
+            | UpdatePhase::Done
+            | UpdatePhase::Restart
+            | UpdatePhase::NeedsRoom
+            | UpdatePhase::Full => Todo::Finish,
         }
     }
 
@@ -176,6 +177,8 @@ impl Task for Update {
 
     ghost asks = { asks_of };
 
+    ghost end = { end_of };
+
     ghost left = { left_of };
 
     ghost needs = { λ t. 0 };
@@ -194,6 +197,16 @@ impl Task for Update {
         match self.phase {
             UpdatePhase::Replace(_) => true,
             _ => false,
+        }
+    }
+
+    fn ended(&self) -> Option<Outcome> {
+        match self.phase {
+            UpdatePhase::Done => Some(Outcome::Done),
+            UpdatePhase::Restart => Some(Outcome::Restart),
+            UpdatePhase::NeedsRoom => Some(Outcome::NeedsRoom),
+            UpdatePhase::Full => Some(Outcome::Full(Spent::Swaps)),
+            _ => None,
         }
     }
 

@@ -30,6 +30,13 @@ asks_of (Inserting t) = insert.asks_of t
 asks_of (Updating t) = update.asks_of t
 asks_of (Deleting t) = delete.asks_of t
 
+unfoldable pub end_of : Running → Option Outcome
+end_of (Descending t) = descend.end_of t
+end_of (Reading t) = leaf.end_of t
+end_of (Inserting t) = insert.end_of t
+end_of (Updating t) = update.end_of t
+end_of (Deleting t) = delete.end_of t
+
 unfoldable pub left_of : Running → ℕ
 left_of (Descending t) = descend.left_of t
 left_of (Reading t) = leaf.left_of t

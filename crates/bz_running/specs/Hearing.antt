@@ -12,9 +12,8 @@ use Rattle.bz_task.specs.declared.todo.Outcome.TheVariants as outcome
 use Rattle.bz_task.specs.declared.todo.Seen.{Seen}
 use Rattle.bz_task.specs.declared.todo.Seen.TheVariants.{Swapped, NoSwap}
 use Rattle.bz_task.specs.declared.todo.Todo.{Todo}
-use Rattle.bz_task.specs.declared.todo.Todo.TheVariants.{Finish}
 use Rattle.bz_task.specs.declared.view.LeafView.{LeafView}
-use Rattle.bz_running.specs.Duties.{config_of, asks_of, left_of, needs_of, change_of, facts_of, means_of, differs_of, is_lookup}
+use Rattle.bz_running.specs.Duties.{config_of, asks_of, end_of, left_of, needs_of, change_of, facts_of, means_of, differs_of, is_lookup}
 use Rattle.bz_running.specs.declared.running.Running.{Running}
 
 -- a path or a view with which the task ends is one of this key
@@ -31,9 +30,9 @@ pub record HasHeard (old : Running) (seen : Seen) (moment : ℕ) (free : FreeSlo
   pub lookup : is_lookup new ≡ is_lookup old
   pub meant : (o : Outcome) (s : Scene) → means_of new o s → means_of old o s
   pub slots : AreTakenFrom (needs_of old) (needs_of new) free left
-  pub done : todo ≡ Finish outcome.Done → seen ≡ Swapped true
-  pub restart : todo ≡ Finish outcome.Restart → (seen ≡ Swapped false) ⊎ differs_of old seen
-  pub no_swap : seen ≡ NoSwap → todo ≡ Finish (outcome.Full Swaps)
-  pub full_swaps : todo ≡ Finish (outcome.Full Swaps) → seen ≡ NoSwap
-  pub full_nodes : todo ≡ Finish (outcome.Full Nodes) → length free.free < needs_of old
+  pub done : end_of new ≡ Some outcome.Done → seen ≡ Swapped true
+  pub restart : end_of new ≡ Some outcome.Restart → (seen ≡ Swapped false) ⊎ differs_of old seen
+  pub no_swap : seen ≡ NoSwap → end_of new ≡ Some (outcome.Full Swaps)
+  pub full_swaps : end_of new ≡ Some (outcome.Full Swaps) → seen ≡ NoSwap
+  pub full_nodes : end_of new ≡ Some (outcome.Full Nodes) → length free.free < needs_of old
   pub learns : (stage : Stage) (s : Scene) → s.past.now ≡ moment → s.past.config ≡ config_of old → IsScene s → facts_of old stage s → Tells (asks_of old) stage seen s → facts_of new Waiting (gained s free left)

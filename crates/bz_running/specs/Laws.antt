@@ -9,8 +9,8 @@ use Rattle.bz_task.specs.Swaps.{Stand, SwapsTo, IsGoodSwap, Takes}
 use Rattle.bz_task.specs.declared.todo.Outcome.{Outcome}
 use Rattle.bz_task.specs.declared.todo.Seen.{Seen}
 use Rattle.bz_task.specs.declared.todo.Todo.{Todo}
-use Rattle.bz_task.specs.declared.todo.Todo.TheVariants.{Store, Flush, Swap, Finish}
-use Rattle.bz_running.specs.Duties.{config_of, asks_of, change_of, publishing_of, facts_of, means_of, differs_of}
+use Rattle.bz_task.specs.declared.todo.Todo.TheVariants.{Store, Flush, Swap}
+use Rattle.bz_running.specs.Duties.{config_of, asks_of, end_of, change_of, publishing_of, facts_of, means_of, differs_of}
 use Rattle.bz_running.specs.declared.running.Running.{Running}
 
 pub record AreLaws (t : Running) : Type 0 where
@@ -18,7 +18,7 @@ pub record AreLaws (t : Running) : Type 0 where
   pub askable : (s : Scene) (todo : Todo) → s.past.config ≡ config_of t → facts_of t Waiting s → IsScene s → asks_of t ≡ Some todo → IsAskable s todo
   pub cause : (s : Scene) (seen : Seen) → s.past.config ≡ config_of t → facts_of t Waiting s → differs_of t seen → IsCause (asks_of t) seen s
   pub once : (s : Scene) → facts_of t Waiting s → publishing_of t ≡ true → s.effected ≡ false
-  pub ends : (s : Scene) (outcome : Outcome) → facts_of t Waiting s → asks_of t ≡ Some (Finish outcome) → means_of t outcome s × HasFilled s
+  pub ends : (s : Scene) (outcome : Outcome) → facts_of t Waiting s → end_of t ≡ Some outcome → means_of t outcome s × HasFilled s
   pub effect : (s : Scene) (y : Instant) (entries : List Entry) → s.past.config ≡ config_of t → facts_of t Waiting s → IsScene s → asks_of t ≡ Some (Swap entries) → Stand entries (here s)
       → SwapsTo s.past.config entries (here s) y → IsGoodSwap (publishing_of t) (change_of t) entries s y
   pub took : (s after : Scene) (entries : List Entry) → s.past.config ≡ config_of t → facts_of t Waiting s → IsScene s → IsScene after → asks_of t ≡ Some (Swap entries) → Stand entries (here s)

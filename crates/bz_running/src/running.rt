@@ -10,7 +10,7 @@ ghost use Rattle.bz_task.specs.Requests.{Hears, IsKnown};
 ghost use Rattle.bz_task.specs.Scene.{Scene, Waiting, IsScene, HasFilled};
 ghost use Rattle.bz_task.specs.declared.todo.Todo.TheVariants.{Read};
 ghost use Rattle.bz_running.specs.Hearing.{IsLookup, HasHeard};
-ghost use Rattle.bz_running.specs.Duties.{config_of, asks_of, left_of, needs_of, change_of, publishing_of, facts_of, means_of, differs_of, is_lookup};
+ghost use Rattle.bz_running.specs.Duties.{config_of, asks_of, end_of, left_of, needs_of, change_of, publishing_of, facts_of, means_of, differs_of, is_lookup};
 ghost use Rattle.bz_running.specs.Laws.{AreLaws};
 
 use bz_descend::Descend;
@@ -121,7 +121,7 @@ impl Running {
     }
 
     /// Tells the task what came of its last act, and answers what it asks for next: `next`, and that a lookup stays one.
-    #[tactic(auto, unfolding(crate::specs::Duties::config_of, crate::specs::Duties::asks_of, crate::specs::Duties::left_of, crate::specs::Duties::needs_of, crate::specs::Duties::change_of, crate::specs::Duties::facts_of, crate::specs::Duties::means_of, crate::specs::Duties::differs_of, crate::specs::Duties::is_lookup))]
+    #[tactic(auto, unfolding(crate::specs::Duties::config_of, crate::specs::Duties::asks_of, crate::specs::Duties::end_of, crate::specs::Duties::left_of, crate::specs::Duties::needs_of, crate::specs::Duties::change_of, crate::specs::Duties::facts_of, crate::specs::Duties::means_of, crate::specs::Duties::differs_of, crate::specs::Duties::is_lookup))]
     pub fn hear(&mut self, seen: Seen, slots: &mut Slots, moment: u32) -> Todo
         requires hears { Hears (asks_of self.old) seen }
         requires known { IsKnown (config_of self.old) (facts_of self.old) (asks_of self.old) seen moment }
@@ -150,6 +150,8 @@ impl Task for Running {
 
     ghost asks = { asks_of };
 
+    ghost end = { end_of };
+
     ghost left = { left_of };
 
     ghost needs = { needs_of };
@@ -175,7 +177,18 @@ impl Task for Running {
         }
     }
 
-    #[tactic(auto, unfolding(crate::specs::Duties::config_of, crate::specs::Duties::asks_of, crate::specs::Duties::left_of, crate::specs::Duties::needs_of, crate::specs::Duties::change_of, crate::specs::Duties::facts_of, crate::specs::Duties::means_of, crate::specs::Duties::differs_of))]
+    #[tactic(auto, unfolding(crate::specs::Duties::asks_of, crate::specs::Duties::end_of))]
+    fn ended(&self) -> Option<Outcome> {
+        match self {
+            Running::Descending(task) => task.ended(),
+            Running::Reading(task) => task.ended(),
+            Running::Inserting(task) => task.ended(),
+            Running::Updating(task) => task.ended(),
+            Running::Deleting(task) => task.ended(),
+        }
+    }
+
+    #[tactic(auto, unfolding(crate::specs::Duties::config_of, crate::specs::Duties::asks_of, crate::specs::Duties::end_of, crate::specs::Duties::left_of, crate::specs::Duties::needs_of, crate::specs::Duties::change_of, crate::specs::Duties::facts_of, crate::specs::Duties::means_of, crate::specs::Duties::differs_of))]
     fn next(&mut self, seen: Seen, slots: &mut Slots, moment: u32) -> Todo {
         match self {
             Running::Descending(task) => task.next(seen, slots, moment),
@@ -186,7 +199,7 @@ impl Task for Running {
         }
     }
 
-    #[tactic(auto, unfolding(crate::specs::Duties::config_of, crate::specs::Duties::asks_of, crate::specs::Duties::publishing_of, crate::specs::Duties::facts_of, crate::specs::Duties::means_of, crate::specs::Duties::differs_of))]
+    #[tactic(auto, unfolding(crate::specs::Duties::config_of, crate::specs::Duties::asks_of, crate::specs::Duties::end_of, crate::specs::Duties::publishing_of, crate::specs::Duties::facts_of, crate::specs::Duties::means_of, crate::specs::Duties::differs_of))]
     fn learnt(&self) {
         match self {
             Running::Descending(task) => task.learnt(),

@@ -24,9 +24,14 @@ glance_asks c Root = Some (Read ROOT_AT)
 glance_asks c (Status k) = Some (Read (node_address c k + STATUS_AT))
 glance_asks c (Word k st) = Some (Read (node_address c k + META_AT))
 glance_asks c (Again k st w) = Some (Read (node_address c k + STATUS_AT))
-glance_asks c (Told view) = Some (Finish (View view))
-glance_asks c Empty = Some (Finish NeedsRoom)
-glance_asks c Changed = Some (Finish Restart)
+glance_asks c phase = Some Finish
+
+-- how it has ended
+abbrev pub glance_end : Phase → Option Outcome
+glance_end (Told view) = Some (View view)
+glance_end Empty = Some NeedsRoom
+glance_end Changed = Some Restart
+glance_end phase = None
 
 abbrev pub glance_left : Phase → ℕ
 glance_left Fresh = 5

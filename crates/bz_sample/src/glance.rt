@@ -7,8 +7,7 @@ ghost use Rattle.bz_task.specs.OwnActs.{gained};
 ghost use Rattle.bz_task.specs.Requests.{Hears, Tells, IsKnown};
 ghost use Rattle.bz_task.specs.Scene.{Scene, Stage, Waiting, IsScene, HasFilled};
 ghost use Rattle.bz_task.specs.declared.todo.Outcome.TheVariants.{Restart};
-ghost use Rattle.bz_task.specs.declared.todo.Todo.TheVariants.{Finish};
-ghost use Rattle.bz_sample.specs.Facts.{IsGlance, glance_asks, glance_left, glance_learnt, glance_facts, glance_means, glance_differs, glance_slots, glance_change};
+ghost use Rattle.bz_sample.specs.Facts.{IsGlance, glance_asks, glance_end, glance_left, glance_learnt, glance_facts, glance_means, glance_differs, glance_slots, glance_change};
 ghost use Rattle.bz_layout.specs.declared.sizes.TheConstants.{META_AT};
 
 use crate::phase::Phase;
@@ -63,7 +62,7 @@ fn after(config: &Config, phase: Phase, seen: Seen, moment: u32) -> Phase
     requires hears { Hears (glance_asks config.now phase) seen }
     requires known { IsKnown config.now (glance_facts phase) (glance_asks config.now phase) seen moment }
     ensures nearer { glance_left result < glance_left phase }
-    ensures restart { glance_asks config.now result ≡ Some (Finish Restart) → glance_differs phase seen }
+    ensures restart { glance_end result ≡ Some Restart → glance_differs phase seen }
     ensures slots { glance_slots config.now result }
     ensures learns { (stage : Stage) (s : Scene) → s.past.now ≡ moment → s.past.config ≡ config.now → IsScene s → glance_facts phase stage s → Tells (glance_asks config.now phase) stage seen s → HasFilled s × glance_learnt result s.past }
 {
@@ -99,9 +98,7 @@ fn asked(config: &Config, phase: Phase) -> Todo
             Todo::Read(config.node_at(slot as u32) + STATUS_AT)
         }
         Phase::Word(slot, _) => Todo::Read(config.node_at(slot as u32) + META_AT),
-        Phase::Seen(view) => Todo::Finish(Outcome::View(view)),
-        Phase::Empty => Todo::Finish(Outcome::NeedsRoom),
-        Phase::Changed => Todo::Finish(Outcome::Restart),
+        Phase::Seen(_) | Phase::Empty | Phase::Changed => Todo::Finish,
     }
 }
 
@@ -109,6 +106,8 @@ impl Task for Glance {
     ghost config = { λ t. t.config };
 
     ghost asks = { λ t. glance_asks t.config t.phase };
+
+    ghost end = { λ t. glance_end t.phase };
 
     ghost left = { λ t. glance_left t.phase };
 
@@ -126,6 +125,15 @@ impl Task for Glance {
 
     fn publishes(&self) -> bool {
         false
+    }
+
+    fn ended(&self) -> Option<Outcome> {
+        match self.phase {
+            Phase::Seen(view) => Some(Outcome::View(view)),
+            Phase::Empty => Some(Outcome::NeedsRoom),
+            Phase::Changed => Some(Outcome::Restart),
+            _ => None,
+        }
     }
 
     fn next(&mut self, seen: Seen, slots: &mut Slots, moment: u32) -> Todo {

@@ -8,7 +8,7 @@ ghost use Rattle.bz_task.specs.Requests.{IsAskable, Hears, Tells, IsKnown};
 ghost use Rattle.bz_task.specs.Scene.{Scene, Stage, Waiting, Took, IsScene, IsLawful, HasFilled, here};
 ghost use Rattle.bz_task.specs.Swaps.{Stand, IsGoodSwap, Takes};
 ghost use Rattle.bz_task.specs.declared.todo.Outcome.{Outcome};
-ghost use Rattle.bz_task.specs.declared.todo.Todo.TheVariants.{Swap, Finish};
+ghost use Rattle.bz_task.specs.declared.todo.Todo.TheVariants.{Swap};
 
 use bz_layout::Slots;
 use bz_task::{Seen, Task, Todo};
@@ -25,7 +25,7 @@ pub fn hear<T: Task>(task: &mut T, seen: Seen, slots: &mut Slots, moment: u32) -
     ensures learns { (stage : Stage) (s after : Scene) → s.past.config ≡ T.config task.old → after.past.now ≡ moment → IsScene after → IsLawful s after → T.facts task.old stage s → Tells (T.asks task.old) stage seen after → T.facts task.new Waiting (gained after slots.old slots.new) }
     // it asks for nothing that may not be asked for, and its end means what it should
     ensures askable { (s : Scene) → s.past.config ≡ T.config task.old → T.facts task.new Waiting s → IsScene s → IsAskable s result }
-    ensures ends { (s : Scene) (outcome : Outcome) → T.facts task.new Waiting s → result ≡ Finish outcome → T.means task.new outcome s × HasFilled s }
+    ensures ends { (s : Scene) (outcome : Outcome) → T.facts task.new Waiting s → T.end task.new ≡ Some outcome → T.means task.new outcome s × HasFilled s }
 {
     task.learnt();
     let todo = task.next(seen, slots, moment);

@@ -95,7 +95,10 @@ fn go_on<T: Task>(
         task.learnt();
         match todo {
             Todo::Read(a) => todo = read(task, a, image, slots, moment + reads),
-            Todo::Finish(outcome) => return Some(Ended { outcome, reads }),
+            Todo::Finish => {
+                let outcome = task.ended()?;
+                return Some(Ended { outcome, reads });
+            }
             _ => return None,
         }
     }

@@ -63,7 +63,7 @@ IsAskable s (Load a) = ⊥
 IsAskable s (Store a v) = IsOwnStore s a v
 IsAskable s (Flush line) = IsReadable s (LINE_WORDS * line)
 IsAskable s (Swap entries) = All (IsEntryToAsk s) entries
-IsAskable s (Finish outcome) = Unit {0}
+IsAskable s Finish = Unit {0}
 
 -- the answer is one to what was asked for
 abbrev pub Hears : Option Todo → Seen → Type 0

@@ -1,6 +1,6 @@
 //! What a task is.
 
-ghost use Rattle.std.specs.Prelude.{◌≡◌, ◌<◌, ◌⊎◌, ℕ, Bool, true, false, Option, Some, List, length};
+ghost use Rattle.std.specs.Prelude.{◌≡◌, ◌<◌, ◌⊎◌, ℕ, Bool, true, false, IsSome, Option, Some, List, length};
 ghost use Rattle.bz_call.specs.declared.replies.Spent.TheVariants.{Nodes, Swaps};
 ghost use Rattle.bz_layout.specs.Slots.{FreeSlots};
 ghost use Rattle.bz_layout.specs.declared.config.Config.{Config};
@@ -17,7 +17,7 @@ ghost use Rattle.bz_task.specs.declared.todo.Seen.{Seen};
 ghost use Rattle.bz_task.specs.declared.todo.Todo.TheVariants.{Store, Flush, Swap, Finish};
 ghost use Rattle.bz_task.specs.declared.todo.Todo.{Todo};
 
-use crate::todo::{Seen, Todo};
+use crate::todo::{Outcome, Seen, Todo};
 use bz_layout::Slots;
 
 /// An operation on the tree, of one worker.
@@ -27,6 +27,9 @@ pub trait Task: Drop {
 
     /// What it asked for last; none before the first `next`.
     ghost asks: { Self → Option Todo };
+
+    /// How it has ended, if it has.
+    ghost end: { Self → Option Outcome };
 
     /// The most acts that it will still ask for.
     ghost left: { Self → ℕ };
@@ -53,6 +56,12 @@ pub trait Task: Drop {
     fn publishes(&self) -> bool
         ensures { result ≡ publishing self.now };
 
+    /// How it has ended: asked of a task that asks for nothing more.
+    fn ended(&self) -> Option<Outcome>
+        ensures end { result ≡ end self.now }
+        ensures finish { asks self.now ≡ Some Finish → IsSome result }
+        ensures only { IsSome result → asks self.now ≡ Some Finish };
+
     /// The next act, after what came of the last one. `moment` is the number of marks so far.
     fn next(&mut self, seen: Seen, slots: &mut Slots, moment: u32) -> Todo
         requires hears { Hears (asks self.old) seen }
@@ -64,11 +73,11 @@ pub trait Task: Drop {
         ensures meant { (outcome : Outcome) (s : Scene) → means self.new outcome s → means self.old outcome s }
         ensures slots { AreTakenFrom (needs self.old) (needs self.new) slots.old slots.new }
         // how it ends, and why
-        ensures done { result ≡ Finish Done → seen ≡ Swapped true }
-        ensures restart { result ≡ Finish Restart → (seen ≡ Swapped false) ⊎ differs self.old seen }
-        ensures no_swap { seen ≡ NoSwap → result ≡ Finish (Full Swaps) }
-        ensures full_swaps { result ≡ Finish (Full Swaps) → seen ≡ NoSwap }
-        ensures full_nodes { result ≡ Finish (Full Nodes) → length slots.old.free < needs self.old }
+        ensures done { end self.new ≡ Some Done → seen ≡ Swapped true }
+        ensures restart { end self.new ≡ Some Restart → (seen ≡ Swapped false) ⊎ differs self.old seen }
+        ensures no_swap { seen ≡ NoSwap → end self.new ≡ Some (Full Swaps) }
+        ensures full_swaps { end self.new ≡ Some (Full Swaps) → seen ≡ NoSwap }
+        ensures full_nodes { end self.new ≡ Some (Full Nodes) → length slots.old.free < needs self.old }
         // what it learns, in every scene in which the answer is true
         ensures learns { (stage : Stage) (s : Scene) → s.past.now ≡ moment → s.past.config ≡ config self.old → IsScene s → facts self.old stage s → Tells (asks self.old) stage seen s → facts self.new Waiting (gained s slots.old slots.new) };
 
@@ -83,7 +92,7 @@ pub trait Task: Drop {
         // the change is made once
         ensures once { (s : Scene) → facts self.now Waiting s → publishing self.now ≡ true → s.effected ≡ false }
         // the end means what it should, and every slot that was taken has been stored into
-        ensures ends { (s : Scene) (outcome : Outcome) → facts self.now Waiting s → asks self.now ≡ Some (Finish outcome) → means self.now outcome s × HasFilled s };
+        ensures ends { (s : Scene) (outcome : Outcome) → facts self.now Waiting s → end self.now ≡ Some outcome → means self.now outcome s × HasFilled s };
 
     /// Laws of the acts of its own by which the memory changes. Does nothing.
     fn acted(&self)

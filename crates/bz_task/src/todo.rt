@@ -32,7 +32,8 @@ pub enum Todo {
     /// Flush a line of eight words.
     Flush(u32),
     Swap(EntryList),
-    Finish(Outcome),
+    /// Nothing more: the task has ended, and says how by `ended`.
+    Finish,
 }
 
 /// How a task ends.

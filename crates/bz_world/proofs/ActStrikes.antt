@@ -11,8 +11,8 @@ use Rattle.bz_swap.specs.EffectPlaces.{EffectsStayInside}
 use Rattle.bz_swap.specs.Steps.{doing_after}
 use Rattle.bz_swap.specs.SwapMemory.{doing_of}
 use Rattle.bz_swap.specs.TakenStatuses.{TakenStatusesStay, BegunStayTaken}
-use Rattle.bz_world.specs.Acted.{IsActed, IsStriking}
-use Rattle.bz_world.specs.Kept.{IsKept}
+use Rattle.bz_world.specs.Inside.Acted.{IsActed, IsStriking}
+use Rattle.bz_world.specs.Inside.Kept.{IsKept}
 use Rattle.bz_world.specs.Lab.{mark_of}
 use Rattle.bz_world.specs.declared.parts.Parts.{Parts}
 use Rattle.bz_world.specs.declared.serving.Serving.{Serving}

@@ -9,11 +9,11 @@ use Rattle.bz_swap.specs.SwapMemory.{SwapMemory, Idle, doing_of, worker_of}
 use Rattle.bz_task.specs.declared.todo.Seen.{Seen}
 use Rattle.bz_task.specs.declared.todo.Todo.{Todo}
 use Rattle.bz_task.specs.declared.todo.Todo.TheVariants as todo
-use Rattle.bz_world.specs.Acted.{IsActed, IsTold, MustTell, HasActed}
-use Rattle.bz_world.specs.Kept.{IsKept}
+use Rattle.bz_world.specs.Inside.Acted.{IsActed, IsTold, MustTell, HasActed}
+use Rattle.bz_world.specs.Inside.Kept.{IsKept}
 use Rattle.bz_world.specs.Lab.{IsStruck}
-use Rattle.bz_world.specs.Laws.{StepLaws}
-use Rattle.bz_world.specs.Serving.{IsServing, IsDoing, IsSlot}
+use Rattle.bz_world.specs.Inside.Laws.{StepLaws}
+use Rattle.bz_world.specs.Inside.Serving.{IsServing, IsDoing, IsSlot}
 use Rattle.bz_world.specs.declared.parts.Parts.{Parts}
 use Rattle.bz_world.specs.declared.serving.Serving.{Serving}
 use Rattle.bz_world.proofs.Quiet.{serves}
@@ -38,7 +38,7 @@ does-asked m owners w (todo.Load a) d = absurd d
 does-asked m owners w (todo.Store a v) d = λ e. absurd (cc (d.0, e))
 does-asked m owners w (todo.Flush line) d = λ e. absurd (cc (d.0, e))
 does-asked m owners w (todo.Swap entries) d = λ e. absurd (cc (d.doing, e))
-does-asked m owners w (todo.Finish o) d = absurd d
+does-asked m owners w todo.Finish d = absurd d
 
 pub is-busy : (p : Parts) (k : IsKept p) (w : ℕ) → open_call w p.journal.past ≢ None → doing_of p.access w ≢ Idle
 is-busy p k w open_is = let s = is-served p k w open_is in let h : IsServing p.config p.access p.journal k.story p.owners.items w s.serving = serves p k w s.serving s.is in does-asked p.access p.owners.items w h.asked h.doing

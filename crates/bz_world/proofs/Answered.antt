@@ -36,13 +36,13 @@ use Rattle.bz_task.specs.Scene.{Scene, Stage, IsLawful, Waiting, Took}
 use Rattle.bz_task.specs.declared.todo.Seen.{Seen}
 use Rattle.bz_task.specs.declared.todo.Seen.TheVariants as seen
 use Rattle.bz_task.specs.declared.todo.Todo.TheVariants as todo
-use Rattle.bz_world.specs.Acted.{IsActed, IsTold}
-use Rattle.bz_world.specs.Kept.{IsKept}
+use Rattle.bz_world.specs.Inside.Acted.{IsActed, IsTold}
+use Rattle.bz_world.specs.Inside.Kept.{IsKept}
 use Rattle.bz_world.specs.Lab.{mark_of}
-use Rattle.bz_world.specs.Serving.{IsServing, IsSlot, stage_in}
+use Rattle.bz_world.specs.Inside.Serving.{IsServing, IsSlot, stage_in}
 use Rattle.bz_world.specs.declared.parts.Parts.{Parts}
 use Rattle.bz_world.specs.declared.serving.Serving.{Serving}
-use Rattle.bz_world.specs.Laws.{StepLaws}
+use Rattle.bz_world.specs.Inside.Laws.{StepLaws}
 use Rattle.bz_world.proofs.Staying.{SameFor}
 use Rattle.bz_world.proofs.Quiet.{serves, sees, askable, goes, same-other, same-own, stays, goes-on, answered}
 

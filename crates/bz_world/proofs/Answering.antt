@@ -22,9 +22,9 @@ use Rattle.bz_task.specs.Good.{IsGood}
 use Rattle.bz_task.specs.Outcomes.{IsView}
 use Rattle.bz_task.specs.Scene.{Past}
 use Rattle.bz_task.specs.declared.view.LeafView.{LeafView}
-use Rattle.bz_world.specs.Acted.{IsBetween}
-use Rattle.bz_world.specs.Going.{MustGoOn, MustAnswer, MustEnd, MustEndPage, known}
-use Rattle.bz_world.specs.Laws.{AnswerLaws}
+use Rattle.bz_world.specs.Inside.Acted.{IsBetween}
+use Rattle.bz_world.specs.Inside.Going.{MustGoOn, MustAnswer, MustEnd, MustEndPage, known}
+use Rattle.bz_world.specs.Inside.Laws.{AnswerLaws}
 use Rattle.bz_world.specs.declared.parts.Parts.{Parts}
 use Rattle.bz_world.specs.declared.serving.Serving.{Serving}
 

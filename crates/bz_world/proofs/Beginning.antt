@@ -26,12 +26,12 @@ use Rattle.bz_swap.specs.Starts.{started}
 use Rattle.bz_swap.specs.SwapMemory.{SwapMemory, Working, Reading}
 use Rattle.bz_task.specs.Scene.{Scene, HasFilled, Waiting}
 use Rattle.bz_task.specs.declared.todo.Todo.TheVariants.{Read}
-use Rattle.bz_world.specs.Acted.{IsBetween}
-use Rattle.bz_world.specs.Beginning.{MayBegin, HasBegun, pages_asked}
-use Rattle.bz_world.specs.Kept.{IsTabled, IsKept}
-use Rattle.bz_world.specs.Laws.{EndLaws, StartLaws}
-use Rattle.bz_world.specs.Serving.{IsSlot, IsAtRest}
-use Rattle.bz_world.specs.Telling.{MustStart}
+use Rattle.bz_world.specs.Inside.Acted.{IsBetween}
+use Rattle.bz_world.specs.Inside.Beginning.{MayBegin, HasBegun, pages_asked}
+use Rattle.bz_world.specs.Inside.Kept.{IsTabled, IsKept}
+use Rattle.bz_world.specs.Inside.Laws.{EndLaws, StartLaws}
+use Rattle.bz_world.specs.Inside.Serving.{IsSlot, IsAtRest}
+use Rattle.bz_world.specs.Inside.Telling.{MustStart}
 use Rattle.bz_world.specs.declared.parts.Parts.{Parts}
 use Rattle.bz_world.specs.declared.serving.Serving.{Serving}
 use Rattle.bz_world.proofs.Staying.{slot-stays}

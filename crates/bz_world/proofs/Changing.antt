@@ -14,7 +14,7 @@ use Rattle.bz_mark.specs.Log.{Log}
 use Rattle.bz_record.specs.Laws.{IsViewed}
 use Rattle.bz_record.specs.Records.{words_for}
 use Rattle.bz_record.specs.Records as records
-use Rattle.bz_running.specs.Duties.{config_of, asks_of, needs_of, change_of, facts_of, means_of}
+use Rattle.bz_running.specs.Duties.{config_of, asks_of, end_of, needs_of, change_of, facts_of, means_of}
 use Rattle.bz_running.specs.Hearing.{IsLookup}
 use Rattle.bz_running.specs.Laws.{AreLaws}
 use Rattle.bz_running.specs.declared.running.Running.{Running}
@@ -32,13 +32,13 @@ use Rattle.bz_task.specs.Scene.{Scene, IsScene, Waiting}
 use Rattle.bz_task.specs.Swaps.{Change}
 use Rattle.bz_task.specs.declared.todo.Outcome.TheVariants.{NeedsRoom}
 use Rattle.bz_task.specs.declared.todo.Seen.TheVariants.{Start}
-use Rattle.bz_task.specs.declared.todo.Todo.TheVariants.{Finish}
+use Rattle.bz_task.specs.declared.todo.Todo.{Todo}
 use Rattle.bz_task.specs.declared.view.LeafView.{LeafView}
 use Rattle.bz_word.specs.Statuses.{status}
-use Rattle.bz_world.specs.Going.{MustGoOn, MustAnswer, MustChange, MayInsert, MayUpdate, IsShort, known}
-use Rattle.bz_world.specs.Laws.{AnswerLaws}
-use Rattle.bz_world.specs.Serving.{IsChangeFor, IsToldBy}
-use Rattle.bz_world.specs.Telling.{HasTold, HasToldIn, MustStart}
+use Rattle.bz_world.specs.Inside.Going.{MustGoOn, MustAnswer, MustChange, MayInsert, MayUpdate, IsShort, end_in, known}
+use Rattle.bz_world.specs.Inside.Laws.{AnswerLaws}
+use Rattle.bz_world.specs.Inside.Serving.{IsChangeFor, IsToldBy}
+use Rattle.bz_world.specs.Inside.Telling.{HasTold, HasToldIn, MustStart}
 use Rattle.bz_world.specs.declared.parts.Parts.{Parts}
 use Rattle.bz_world.specs.declared.serving.Serving.{Serving}
 use Rattle.bz_world.proofs.TakingOn.{known-scene}
@@ -149,8 +149,9 @@ tells-nothing p w on had quiet at e = absurd (cc (e, on.between.call_open.effect
 
 -- a change that was told to begin, and ended for want of room: nodes are spent
 pub short-told : (p : Parts) (w : ℕ) (view : LeafView) (had : Option (List ℕ)) (task : Running) (m : MustChange p w view had task) (mid q : Parts) (free left : FreeSlots) → mid.config ≡ p.config → mid.journal ≡ p.journal → q.config ≡ mid.config → q.journal ≡ mid.journal
-    → (asks : MustStart q w (Finish NeedsRoom)) → HasToldIn (Some (record m.takes.on.serving { task = task; had = had })) Start (length mid.journal.past) free (Finish NeedsRoom) (get_or q.workers.items w None) left → (status view.status).frozen ≡ false → IsShort q w Nodes
-short-told p w view had task m mid q free left mid-config mid-journal q-config q-journal asks told thawed = record {
+    → (todo : Todo) → (asks : MustStart q w todo) → HasToldIn (Some (record m.takes.on.serving { task = task; had = had })) Start (length mid.journal.past) free todo (get_or q.workers.items w None) left
+    → end_in (get_or q.workers.items w None) ≡ Some NeedsRoom → (status view.status).frozen ≡ false → IsShort q w Nodes
+short-told p w view had task m mid q free left mid-config mid-journal q-config q-journal todo asks told ended thawed = record {
   on = record { serving = asks.serving; is = asks.is; between = asks.asking.between };
   quiet = ap (λ (z : Serving). z.effect) heard.rest ∙ m.quiet;
   cause = subst (λ o. NodesAreSpent q.config q.journal.start q.journal.past o) (sym same-open)
@@ -158,12 +159,15 @@ short-told p w view had task m mid q free left mid-config mid-journal q-config q
       (subst (λ (c : Config). NodesAreSpent c p.journal.start p.journal.past m.takes.on.between.opened) (sym (q-config ∙ mid-config)) lack));
 }
   where
-    heard : HasTold (record m.takes.on.serving { task = task; had = had }) Start (length mid.journal.past) free (Finish NeedsRoom) asks.serving left
-    heard = subst (λ z. HasToldIn (Some (record m.takes.on.serving { task = task; had = had })) Start (length mid.journal.past) free (Finish NeedsRoom) z left) asks.is told
+    heard : HasTold (record m.takes.on.serving { task = task; had = had }) Start (length mid.journal.past) free todo asks.serving left
+    heard = subst (λ z. HasToldIn (Some (record m.takes.on.serving { task = task; had = had })) Start (length mid.journal.past) free todo z left) asks.is told
+
+    has-ended : end_of asks.serving.task ≡ Some NeedsRoom
+    has-ended = subst (λ (z : Option Serving). end_in z ≡ Some NeedsRoom) asks.is ended
 
     lack : NodesAreSpent p.config p.journal.start p.journal.past m.takes.on.between.opened
     lack = m.short (scene q.config q.journal.past asks.asking.between.story w asks.asking.between.opened) (heard.heard.meant NeedsRoom (scene q.config q.journal.past asks.asking.between.story w asks.asking.between.opened)
-        (asks.asking.tasked.laws.ends (scene q.config q.journal.past asks.asking.between.story w asks.asking.between.opened) NeedsRoom asks.asking.facts asks.asking.asks).0) thawed
+        (asks.asking.tasked.laws.ends (scene q.config q.journal.past asks.asking.between.story w asks.asking.between.opened) NeedsRoom asks.asking.facts has-ended).0) thawed
 
     same-open : asks.asking.between.opened ≡ m.takes.on.between.opened
     same-open =

@@ -19,11 +19,11 @@ use Rattle.bz_story.specs.Laws.{GoesOn, goes_on}
 use Rattle.bz_story.specs.Living.{IsLiving}
 use Rattle.bz_story.specs.Story.{Story}
 use Rattle.bz_swap.specs.SwapMemory.{SwapMemory}
-use Rattle.bz_world.specs.Acted.{IsBetween}
-use Rattle.bz_world.specs.Going.{MustGoOn, MustEnd, MustEndPage, WentOn}
-use Rattle.bz_world.specs.Kept.{IsTabled, IsKept}
-use Rattle.bz_world.specs.Laws.{EndLaws}
-use Rattle.bz_world.specs.Serving.{IsSlot}
+use Rattle.bz_world.specs.Inside.Acted.{IsBetween}
+use Rattle.bz_world.specs.Inside.Going.{MustGoOn, MustEnd, MustEndPage, WentOn}
+use Rattle.bz_world.specs.Inside.Kept.{IsTabled, IsKept}
+use Rattle.bz_world.specs.Inside.Laws.{EndLaws}
+use Rattle.bz_world.specs.Inside.Serving.{IsSlot}
 use Rattle.bz_world.specs.declared.answers.Applied.TheVariants as applied
 use Rattle.bz_world.specs.declared.parts.Parts.{Parts}
 use Rattle.bz_world.specs.declared.serving.Serving.{Serving}

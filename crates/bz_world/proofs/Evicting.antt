@@ -21,11 +21,11 @@ use Rattle.bz_swap.specs.SwapMemory.{SwapMemory, doing_of, words_of}
 use Rattle.bz_swap.specs.TakenStatuses.{BegunStayTaken}
 use Rattle.bz_swap.specs.declared.phase.Phase.{Phase}
 use Rattle.bz_swap.specs.declared.phase.Phase.TheVariants.{Opened, Running, Recovering}
-use Rattle.bz_world.specs.Acted.{IsEvicted, IsStriking, SameWork}
-use Rattle.bz_world.specs.Kept.{IsTabled, AreTaken, IsKept}
-use Rattle.bz_world.specs.Serving.{IsSlot}
+use Rattle.bz_world.specs.Inside.Acted.{IsEvicted, IsStriking, SameWork}
+use Rattle.bz_world.specs.Inside.Kept.{IsTabled, AreTaken, IsKept}
+use Rattle.bz_world.specs.Inside.Serving.{IsSlot}
 use Rattle.bz_world.specs.declared.parts.Parts.{Parts}
-use Rattle.bz_world.specs.Laws.{StepLaws}
+use Rattle.bz_world.specs.Inside.Laws.{StepLaws}
 use Rattle.bz_world.proofs.Owners.{pending-begun}
 use Rattle.bz_world.proofs.Stepped.{unused-by}
 use Rattle.bz_world.proofs.Staying.{SameFor, slot-stays}

@@ -21,10 +21,10 @@ use Rattle.bz_swap.specs.Power.{IsOpened, opened}
 use Rattle.bz_swap.specs.SwapMemory.{SwapMemory, Working, Idle, idle, doing_of, has_effect}
 use Rattle.bz_swap.specs.TakenStatuses.{BegunStayTaken, BegunAreTaken}
 use Rattle.bz_swap.specs.declared.phase.Phase.{Phase}
-use Rattle.bz_world.specs.Beginning.{lab_of}
-use Rattle.bz_world.specs.Kept.{IsTabled, AreTaken, IsKept}
+use Rattle.bz_world.specs.Inside.Beginning.{lab_of}
+use Rattle.bz_world.specs.Inside.Kept.{IsTabled, AreTaken, IsKept}
 use Rattle.bz_world.specs.Lab.{new_lab}
-use Rattle.bz_world.specs.Serving.{IsSlot, IsAtRest}
+use Rattle.bz_world.specs.Inside.Serving.{IsSlot, IsAtRest}
 use Rattle.bz_world.specs.declared.parts.Parts.{Parts}
 use Rattle.bz_world.specs.declared.serving.Serving.{Serving}
 

@@ -6,8 +6,8 @@ use Rattle.bz_swap.specs.EntryLists.{IsEntryList}
 use Rattle.bz_swap.specs.SwapMemory.{Swapping, doing_of, entries_of}
 use Rattle.bz_task.specs.declared.todo.Todo.{Todo}
 use Rattle.bz_task.specs.declared.todo.Todo.TheVariants as todo
-use Rattle.bz_world.specs.Kept.{IsKept}
-use Rattle.bz_world.specs.Serving.{IsServing, IsDoing, IsSlot}
+use Rattle.bz_world.specs.Inside.Kept.{IsKept}
+use Rattle.bz_world.specs.Inside.Serving.{IsServing, IsDoing, IsSlot}
 use Rattle.bz_world.specs.declared.parts.Parts.{Parts}
 use Rattle.bz_world.specs.declared.serving.Serving.{Serving}
 
@@ -27,7 +27,7 @@ module _ (p : Parts) (k : IsKept p) (w s : ℕ) (pending : doing_of p.access w �
   by-asked x h (todo.Load c) e d = absurd d
   by-asked x h (todo.Store a v) e d = absurd (cc (d.0, pending))
   by-asked x h (todo.Flush line) e d = absurd (cc (d.0, pending))
-  by-asked x h (todo.Finish o) e d = absurd d
+  by-asked x h todo.Finish e d = absurd d
   by-asked x h (todo.Swap entries) e d =
       let same : d.swap ≡ s = cc (d.doing, pending) in
       let entries-are : entries_of p.access s ≡ entries = subst (λ t. entries_of p.access t ≡ entries) same d.same in

@@ -27,13 +27,13 @@ use Rattle.bz_swap.specs.SwapMemory.{entries_of}
 use Rattle.bz_task.specs.Scene.{Took, here}
 use Rattle.bz_task.specs.Swaps.{Changes, ContentFollows}
 use Rattle.bz_task.specs.declared.todo.Todo.TheVariants as todo
-use Rattle.bz_world.specs.Acted.{IsStriking}
-use Rattle.bz_world.specs.Kept.{IsKept, IsTabled, AreTaken}
-use Rattle.bz_world.specs.Serving.{IsServing, IsSlot, IsToldBy, effect_reply}
+use Rattle.bz_world.specs.Inside.Acted.{IsStriking}
+use Rattle.bz_world.specs.Inside.Kept.{IsKept, IsTabled, AreTaken}
+use Rattle.bz_world.specs.Inside.Serving.{IsServing, IsSlot, IsToldBy, effect_reply}
 use Rattle.bz_world.specs.declared.parts.Parts.{Parts}
 use Rattle.bz_world.specs.declared.serving.Serving.{Serving}
 use Rattle.bz_world.proofs.Staying.{slot-stays}
-use Rattle.bz_world.specs.Laws.{StrikeLaws}
+use Rattle.bz_world.specs.Inside.Laws.{StrikeLaws}
 use Rattle.bz_world.proofs.Striking.{flush-calls, old, kept, w, x, its, before, waits, good, after, living, opened, took, others}
 use Rattle.bz_world.proofs.StruckQuietly.{image-was, image-is, fault-is, stage-is, its-swap, its-asks}
 

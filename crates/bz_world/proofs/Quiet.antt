@@ -21,15 +21,15 @@ use Rattle.bz_task.specs.Requests.{IsAskable, IsOwnStore}
 use Rattle.bz_task.specs.Scene.{IsLawful, Waiting}
 use Rattle.bz_task.specs.declared.todo.Todo.{Todo}
 use Rattle.bz_task.specs.declared.todo.Todo.TheVariants as todo
-use Rattle.bz_world.specs.Acted.{IsActed, IsBetween}
-use Rattle.bz_world.specs.Kept.{IsTabled, AreTaken, IsKept}
+use Rattle.bz_world.specs.Inside.Acted.{IsActed, IsBetween}
+use Rattle.bz_world.specs.Inside.Kept.{IsTabled, AreTaken, IsKept}
 use Rattle.bz_world.specs.Lab.{mark_of}
-use Rattle.bz_world.specs.Serving.{IsServing, IsDoing, IsSlot, stage_in}
+use Rattle.bz_world.specs.Inside.Serving.{IsServing, IsDoing, IsSlot, stage_in}
 use Rattle.bz_world.specs.declared.parts.Parts.{Parts}
 use Rattle.bz_world.specs.declared.serving.Serving.{Serving}
 use Rattle.bz_world.proofs.Owners.{pending-begun}
 use Rattle.bz_world.proofs.Marking.{act-marked, act-calls}
-use Rattle.bz_world.specs.Laws.{StepLaws}
+use Rattle.bz_world.specs.Inside.Laws.{StepLaws}
 use Rattle.bz_world.proofs.Stepped.{act-tabled, act-taken, act-sound, held}
 use Rattle.bz_world.proofs.Staying.{SameFor, slot-stays, told-stays}
 
@@ -82,7 +82,7 @@ module _ (b : StepLaws) (old new : Parts) (w : ℕ) (x : Serving) (made : Act) (
   own-store (todo.Store c v) e h d u storing = askable (todo.Store d u) (e ∙ cc (h.0, storing)) (ap (stage_in old.access) storing)
   own-store (todo.Flush line) e h d u storing = absurd (cc (h.0, storing))
   own-store (todo.Swap entries) e h d u storing = absurd (cc (h.doing, storing))
-  own-store (todo.Finish o) e h d u storing = absurd h
+  own-store todo.Finish e h d u storing = absurd h
 
   pub own : (d u : ℕ) → doing_of old.access w ≡ Storing d u → IsOwnStore (scene old.config old.journal.past k.story w s.opened) d u
   own = own-store s.asked refl s.doing

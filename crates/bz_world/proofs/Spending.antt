@@ -11,9 +11,9 @@ use Rattle.bz_story.specs.Story.{Story}
 use Rattle.bz_swap.specs.SwapMemory.{SwapMemory, Swapping, doing_of}
 use Rattle.bz_task.specs.declared.todo.Todo.{Todo}
 use Rattle.bz_task.specs.declared.todo.Todo.TheVariants as todo
-use Rattle.bz_world.specs.Acted.{IsBetween}
-use Rattle.bz_world.specs.Going.{LacksSwap}
-use Rattle.bz_world.specs.Serving.{IsDoing, IsSlot}
+use Rattle.bz_world.specs.Inside.Acted.{IsBetween}
+use Rattle.bz_world.specs.Inside.Going.{LacksSwap}
+use Rattle.bz_world.specs.Inside.Serving.{IsDoing, IsSlot}
 use Rattle.bz_world.specs.declared.parts.Parts.{Parts}
 use Rattle.bz_world.specs.declared.serving.Serving.{Serving}
 
@@ -28,7 +28,7 @@ holder-by m log owners v s opened is swaps (todo.Read c) d = absurd (cc (d, swap
 holder-by m log owners v s opened is swaps (todo.Load c) d = absurd d
 holder-by m log owners v s opened is swaps (todo.Store a u) d = absurd (cc (d.0, swaps))
 holder-by m log owners v s opened is swaps (todo.Flush line) d = absurd (cc (d.0, swaps))
-holder-by m log owners v s opened is swaps (todo.Finish o) d = absurd d
+holder-by m log owners v s opened is swaps todo.Finish d = absurd d
 holder-by m log owners v s opened is swaps (todo.Swap entries) d =
     let same : d.swap ≡ s = cc (d.doing, swaps) in
     record { opened = opened; is_open = is; owner = subst (λ t. slice_index owners t ≡ v) same d.owner }

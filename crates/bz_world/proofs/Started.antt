@@ -11,9 +11,9 @@ use Rattle.bz_task.specs.Scene.{Scene}
 use Rattle.bz_task.specs.declared.todo.Todo.{Todo}
 use Rattle.bz_task.specs.declared.todo.Todo.TheVariants as todo
 use Rattle.bz_word.specs.declared.entry.Entry.{Entry}
-use Rattle.bz_world.specs.Kept.{IsKept}
-use Rattle.bz_world.specs.Laws.{StartLaws}
-use Rattle.bz_world.specs.Telling.{MustStart}
+use Rattle.bz_world.specs.Inside.Kept.{IsKept}
+use Rattle.bz_world.specs.Inside.Laws.{StartLaws}
+use Rattle.bz_world.specs.Inside.Telling.{MustStart}
 use Rattle.bz_world.specs.declared.parts.Parts.{Parts}
 use Rattle.bz_world.proofs.Starting.{may-work, may-ask, IsAskedFor, started-kept, starts-it}
 use Rattle.bz_world.proofs.SwapStarts.{stores-hidden, swapping-kept}

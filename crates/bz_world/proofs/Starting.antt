@@ -14,11 +14,11 @@ use Rattle.bz_swap.specs.SwapMemory.{SwapMemory, Doing, Working, idle, doing_of}
 use Rattle.bz_swap.specs.TakenStatuses.{BegunStayTaken}
 use Rattle.bz_task.specs.Scene.{Scene, Waiting}
 use Rattle.bz_task.specs.declared.todo.Todo.{Todo}
-use Rattle.bz_world.specs.Acted.{IsBetween}
-use Rattle.bz_world.specs.Kept.{IsKept}
-use Rattle.bz_world.specs.Laws.{StartLaws}
-use Rattle.bz_world.specs.Serving.{IsServing, IsDoing, IsSlot, stage_in}
-use Rattle.bz_world.specs.Telling.{MustStart}
+use Rattle.bz_world.specs.Inside.Acted.{IsBetween}
+use Rattle.bz_world.specs.Inside.Kept.{IsKept}
+use Rattle.bz_world.specs.Inside.Laws.{StartLaws}
+use Rattle.bz_world.specs.Inside.Serving.{IsServing, IsDoing, IsSlot, stage_in}
+use Rattle.bz_world.specs.Inside.Telling.{MustStart}
 use Rattle.bz_world.specs.declared.parts.Parts.{Parts}
 use Rattle.bz_world.proofs.Staying.{SameFor, slot-same}
 

@@ -15,7 +15,7 @@ use Rattle.bz_swap.specs.SwapMemory.{SwapMemory, Doing, Idle, Reading, Swapping,
 use Rattle.bz_task.specs.Scene.{IsLawful, Waiting, Took}
 use Rattle.bz_task.specs.declared.todo.Todo.{Todo}
 use Rattle.bz_task.specs.declared.todo.Todo.TheVariants as todo
-use Rattle.bz_world.specs.Serving.{IsServing, IsDoing, IsSlot, IsToldBy, effect_reply, stage_in}
+use Rattle.bz_world.specs.Inside.Serving.{IsServing, IsDoing, IsSlot, IsToldBy, effect_reply, stage_in}
 use Rattle.bz_world.specs.declared.serving.Serving.{Serving}
 
 -- what a worker does is the same in two memories, and so is whether its swap has taken effect
@@ -39,7 +39,7 @@ doing-stays m n owners v (todo.Swap entries) same d = record {
   list = d.list;
 }
 doing-stays m n owners v (todo.Load a) same d = absurd d
-doing-stays m n owners v (todo.Finish o) same d = absurd d
+doing-stays m n owners v todo.Finish same d = absurd d
 
 stage-by : (m n : SwapMemory) (d : Doing) → ((s : ℕ) → d ≡ Swapping s → has_effect n s ≡ has_effect m s) → stage_in n d ≡ stage_in m d
 stage-by m n Idle e = refl
@@ -106,5 +106,5 @@ slot-same c m n log story owners others v (Some x) same table s = record {
     doing-by m owners others v (todo.Load a) table d = absurd d
     doing-by m owners others v (todo.Store a u) table d = d
     doing-by m owners others v (todo.Flush line) table d = d
-    doing-by m owners others v (todo.Finish o) table d = absurd d
+    doing-by m owners others v todo.Finish table d = absurd d
     doing-by m owners others v (todo.Swap entries) table d = record { swap = d.swap; doing = d.doing; same = d.same; owner = table d.swap d.doing ∙ d.owner; begun = d.begun; list = d.list }

@@ -25,10 +25,10 @@ use Rattle.bz_swap.specs.SwapMemory.{SwapMemory, Swapping, doing_of, has_effect}
 use Rattle.bz_swap.specs.Effects.{EffectIs}
 use Rattle.bz_swap.specs.TakenStatuses.{IsTaken, IsTaking, TakenStatusesStay, BegunAreTaken, BegunStayTaken}
 use Rattle.bz_content.specs.Content.{image_fault, content_in}
-use Rattle.bz_world.specs.Acted.{IsActed}
-use Rattle.bz_world.specs.Kept.{IsTabled, AreTaken}
+use Rattle.bz_world.specs.Inside.Acted.{IsActed}
+use Rattle.bz_world.specs.Inside.Kept.{IsTabled, AreTaken}
 use Rattle.bz_world.specs.Lab.{mark_of}
-use Rattle.bz_world.specs.Laws.{JournalLaws}
+use Rattle.bz_world.specs.Inside.Laws.{JournalLaws}
 use Rattle.bz_world.specs.declared.parts.Parts.{Parts}
 use Rattle.bz_world.proofs.Marking.{act-marked, act-found, act-follows, act-calls, act-begun, act-counts}
 

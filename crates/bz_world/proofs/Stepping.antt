@@ -3,9 +3,9 @@ use Rattle.std.proofs.Common.{◌≡◌, ℕ, sym, ap, subst, ◌∙◌}
 use Rattle.std.proofs.Math.ListN.{get_or-map}
 use Rattle.bz_mark.specs.Log.{Log}
 use Rattle.bz_swap.specs.SwapMemory.{SwapMemory, Working, idle, worker_of}
-use Rattle.bz_world.specs.Acted.{HasActed}
-use Rattle.bz_world.specs.Beginning.{lab_of}
-use Rattle.bz_world.specs.Going.{WentOn}
+use Rattle.bz_world.specs.Inside.Acted.{HasActed}
+use Rattle.bz_world.specs.Inside.Beginning.{lab_of}
+use Rattle.bz_world.specs.Inside.Going.{WentOn}
 use Rattle.bz_world.specs.Lab.{Steps, GoesOn, flush_of}
 use Rattle.bz_world.specs.declared.answers.Applied.{Applied}
 use Rattle.bz_world.specs.declared.answers.Applied.TheVariants.{Stepped}

@@ -15,14 +15,14 @@ use Rattle.bz_story.specs.Story.{Story, scene}
 use Rattle.bz_swap.specs.SwapMemory.{Swapping, doing_of, entries_of}
 use Rattle.bz_task.specs.Scene.{Scene, Waiting, Took}
 use Rattle.bz_task.specs.Swaps.{IsGoodSwap, Takes}
-use Rattle.bz_world.specs.Acted.{IsStriking}
-use Rattle.bz_world.specs.Kept.{IsKept}
-use Rattle.bz_world.specs.Serving.{IsServing, IsSlot, stage_in}
+use Rattle.bz_world.specs.Inside.Acted.{IsStriking}
+use Rattle.bz_world.specs.Inside.Kept.{IsKept}
+use Rattle.bz_world.specs.Inside.Serving.{IsServing, IsSlot, stage_in}
 use Rattle.bz_world.specs.declared.parts.Parts.{Parts}
 use Rattle.bz_world.specs.declared.serving.Serving.{Serving}
 use Rattle.bz_world.proofs.Owners.{IsOwner, is-owner}
 use Rattle.bz_world.proofs.Staying.{SameFor, slot-stays}
-use Rattle.bz_world.specs.Laws.{StrikeLaws}
+use Rattle.bz_world.specs.Inside.Laws.{StrikeLaws}
 
 -- a flush or an eviction opens and ends no call
 pub flush-calls : (v : ℕ) (m : Mark) (past : List Mark) → IsAfterFlush (m ∷ past) → open_call v (m ∷ past) ≡ open_call v past

@@ -8,13 +8,13 @@ use Rattle.std.proofs.lemmas.Bool.{cases_eq}
 use Rattle.bz_mark.specs.Log.{with_mark}
 use Rattle.bz_mark.specs.declared.marks.Mark.TheVariants.{Effect}
 use Rattle.bz_running.specs.Duties.{publishing_of}
-use Rattle.bz_world.specs.Acted.{IsStriking}
-use Rattle.bz_world.specs.Kept.{IsKept}
-use Rattle.bz_world.specs.Serving.{IsSlot, noted}
+use Rattle.bz_world.specs.Inside.Acted.{IsStriking}
+use Rattle.bz_world.specs.Inside.Kept.{IsKept}
+use Rattle.bz_world.specs.Inside.Serving.{IsSlot, noted}
 use Rattle.bz_world.specs.declared.parts.Parts.{Parts}
 use Rattle.bz_world.specs.declared.serving.Serving.{Serving}
 use Rattle.bz_world.proofs.Quiet.{within-crew}
-use Rattle.bz_world.specs.Laws.{StrikeLaws}
+use Rattle.bz_world.specs.Inside.Laws.{StrikeLaws}
 use Rattle.bz_world.proofs.Striking.{w, x, its, owner}
 use Rattle.bz_world.proofs.StruckQuietly.{struck-quietly}
 use Rattle.bz_world.proofs.Published.{published}

@@ -22,10 +22,10 @@ use Rattle.bz_task.specs.Scene.{Scene, Waiting, Took}
 use Rattle.bz_task.specs.declared.todo.Todo.{Todo}
 use Rattle.bz_task.specs.declared.todo.Todo.TheVariants as todo
 use Rattle.bz_word.specs.declared.entry.Entry.{Entry}
-use Rattle.bz_world.specs.Acted.{IsBetween}
-use Rattle.bz_world.specs.Kept.{IsKept}
-use Rattle.bz_world.specs.Serving.{IsServing, IsDoing, IsSlot, stage_in}
-use Rattle.bz_world.specs.Telling.{MustStart}
+use Rattle.bz_world.specs.Inside.Acted.{IsBetween}
+use Rattle.bz_world.specs.Inside.Kept.{IsKept}
+use Rattle.bz_world.specs.Inside.Serving.{IsServing, IsDoing, IsSlot, stage_in}
+use Rattle.bz_world.specs.Inside.Telling.{MustStart}
 use Rattle.bz_world.specs.declared.parts.Parts.{Parts}
 use Rattle.bz_world.specs.declared.serving.Serving.{Serving}
 use Rattle.bz_world.proofs.Starting.{starts-it, starts-others}
@@ -40,7 +40,7 @@ module _ (scenes : ScenesAreSeen) (hidden : OwnWordsAreHidden) (p : Parts) (w : 
   store-by v a u x h (todo.Load c) e d storing = absurd d
   store-by v a u x h (todo.Flush line) e d storing = absurd (cc (d.0, storing))
   store-by v a u x h (todo.Swap entries) e d storing = absurd (cc (d.doing, storing))
-  store-by v a u x h (todo.Finish o) e d storing = absurd d
+  store-by v a u x h todo.Finish e d storing = absurd d
   store-by v a u x h (todo.Store c q) e d storing =
       let s : Scene = scene p.config p.journal.past between.story v h.opened in
       let sees : Sees p.config (between.story.at (length p.journal.past)) (scene p.config p.journal.past between.story v h.opened) = scenes p.config p.access p.journal between.story v h.opened between.living h.call_open.begun in
@@ -121,7 +121,7 @@ module _ (starts : StartsAreSeen) (scenes : ScenesAreSeen) (begun : BegunStayTak
       by-doing (todo.Load c) d = absurd d
       by-doing (todo.Store c u) d = absurd (cc (d.0, e))
       by-doing (todo.Flush line) d = absurd (cc (d.0, e))
-      by-doing (todo.Finish o) d = absurd d
+      by-doing todo.Finish d = absurd d
       by-doing (todo.Swap others) d = let same : d.swap ≡ s = cc (d.doing, e) in subst (λ t. t < p.access.taken) same d.begun
 
   other-slot : (v : ℕ) → v ≢ w → IsSlot p.config new p.journal was.story owners.items v (get_or p.workers.items v None)
@@ -152,7 +152,7 @@ module _ (starts : StartsAreSeen) (scenes : ScenesAreSeen) (begun : BegunStayTak
           doing-of (todo.Load c) d = absurd d
           doing-of (todo.Store c u) d = (starts-others p.access w v (Swapping p.access.taken) ne ∙ d.0, d.1)
           doing-of (todo.Flush line) d = (starts-others p.access w v (Swapping p.access.taken) ne ∙ d.0, d.1)
-          doing-of (todo.Finish o) d = absurd d
+          doing-of todo.Finish d = absurd d
           doing-of (todo.Swap others) d = record {
             swap = d.swap;
             doing = starts-others p.access w v (Swapping p.access.taken) ne ∙ d.doing;

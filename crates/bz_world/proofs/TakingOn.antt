@@ -18,11 +18,11 @@ use Rattle.bz_task.specs.Scene.{IsScene, HasFilled, Waiting}
 use Rattle.bz_task.specs.declared.path.Path.{Path}
 use Rattle.bz_task.specs.declared.todo.Seen.TheVariants.{Start}
 use Rattle.bz_task.specs.declared.todo.Todo.{Todo}
-use Rattle.bz_world.specs.Acted.{IsBetween, MustTell}
-use Rattle.bz_world.specs.Going.{MustGoOn, MustTakeOn, known, call_in, WentOn}
+use Rattle.bz_world.specs.Inside.Acted.{IsBetween, MustTell}
+use Rattle.bz_world.specs.Inside.Going.{MustGoOn, MustTakeOn, known, call_in, WentOn}
 use Rattle.bz_world.specs.Lab.{GoesOn}
-use Rattle.bz_world.specs.Serving.{IsOpened, IsSlot, IsToldBy}
-use Rattle.bz_world.specs.Telling.{MustStart}
+use Rattle.bz_world.specs.Inside.Serving.{IsOpened, IsSlot, IsToldBy}
+use Rattle.bz_world.specs.Inside.Telling.{MustStart}
 use Rattle.bz_world.specs.declared.answers.Applied.{Applied}
 use Rattle.bz_world.specs.declared.parts.Parts.{Parts}
 use Rattle.bz_world.specs.declared.serving.Serving.{Serving}

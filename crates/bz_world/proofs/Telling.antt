@@ -16,9 +16,9 @@ use Rattle.bz_task.specs.Scene.{Scene, Waiting}
 use Rattle.bz_task.specs.declared.todo.Outcome.TheVariants as outcome
 use Rattle.bz_task.specs.declared.todo.Seen.{Seen}
 use Rattle.bz_task.specs.declared.todo.Todo.{Todo}
-use Rattle.bz_world.specs.Acted.{IsTold, IsAsking, MustTell}
-use Rattle.bz_world.specs.Serving.{IsOpened, IsTasked, IsSlot, IsChangeFor}
-use Rattle.bz_world.specs.Telling.{CanHear, HasTold, HasToldIn, MustStart}
+use Rattle.bz_world.specs.Inside.Acted.{IsTold, IsAsking, MustTell}
+use Rattle.bz_world.specs.Inside.Serving.{IsOpened, IsTasked, IsSlot, IsChangeFor}
+use Rattle.bz_world.specs.Inside.Telling.{CanHear, HasTold, HasToldIn, MustStart}
 use Rattle.bz_world.specs.declared.parts.Parts.{Parts}
 use Rattle.bz_world.specs.declared.serving.Serving.{Serving}
 

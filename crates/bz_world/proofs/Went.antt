@@ -9,12 +9,12 @@ use Rattle.bz_swap.specs.SwapMemory.{Doing, Reading, Swapping, Storing, Flushing
 use Rattle.bz_task.specs.declared.todo.Seen.TheVariants as seen
 use Rattle.bz_task.specs.declared.todo.Todo.{Todo}
 use Rattle.bz_task.specs.declared.todo.Todo.TheVariants as todo
-use Rattle.bz_world.specs.Acted.{IsActed, IsTold}
-use Rattle.bz_world.specs.Kept.{IsKept}
-use Rattle.bz_world.specs.Serving.{IsServing, IsDoing}
+use Rattle.bz_world.specs.Inside.Acted.{IsActed, IsTold}
+use Rattle.bz_world.specs.Inside.Kept.{IsKept}
+use Rattle.bz_world.specs.Inside.Serving.{IsServing, IsDoing}
 use Rattle.bz_world.specs.declared.parts.Parts.{Parts}
 use Rattle.bz_world.specs.declared.serving.Serving.{Serving}
-use Rattle.bz_world.specs.Laws.{StepLaws}
+use Rattle.bz_world.specs.Inside.Laws.{StepLaws}
 use Rattle.bz_world.proofs.Quiet.{serves}
 use Rattle.bz_world.proofs.Answered.{busy-on, told-read, told-swap, told-flush}
 use Rattle.bz_world.proofs.Stored.{told-store}
@@ -69,7 +69,7 @@ module _ (b : StepLaws) (old new : Parts) (w : ℕ) (x : Serving) (made : Act) (
   by-asked (todo.Store d u) e h = stores d u e h.0 h.1 answer refl (answer-for (Storing d u) h.0)
   by-asked (todo.Flush line) e h = flushes line e h.0 h.1 answer refl (answer-for (Flushing line) h.0)
   by-asked (todo.Swap entries) e h = swaps entries h.swap e h.doing answer refl (answer-for (Swapping h.swap) h.doing)
-  by-asked (todo.Finish o) e h = absurd h
+  by-asked todo.Finish e h = absurd h
 
   pub went : Went new w x answer
   went = by-asked its.asked refl its.doing

@@ -1,9 +1,2 @@
 pub mod Lab
-pub mod Serving
-pub mod Kept
-pub mod Acted
-pub mod Laws
-pub mod Telling
-pub mod Opening
-pub mod Going
-pub mod Beginning
+pub mod Inside

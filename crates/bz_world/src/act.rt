@@ -5,8 +5,8 @@ ghost use Rattle.bz_swap.specs.Held.{Holds};
 ghost use Rattle.bz_swap.specs.SwapMemory.{Idle, doing_of};
 ghost use Rattle.bz_swap.specs.declared.phase.Phase.TheVariants.{Recovering};
 ghost use Rattle.bz_sound.specs.Calls.{open_call};
-ghost use Rattle.bz_world.specs.Acted.{IsActed, MustTell, HasActed};
-ghost use Rattle.bz_world.specs.Kept.{IsKept};
+ghost use Rattle.bz_world.specs.Inside.Acted.{IsActed, MustTell, HasActed};
+ghost use Rattle.bz_world.specs.Inside.Kept.{IsKept};
 ghost use Rattle.bz_world.specs.Lab.{mark_of as mark_in};
 
 use crate::laws::step_laws;

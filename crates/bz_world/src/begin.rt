@@ -1,7 +1,7 @@
 //! Begins of calls.
 ghost use Rattle.std.specs.Prelude.{◌≡◌};
-ghost use Rattle.bz_world.specs.Beginning.{pages_asked as pages_of_call, lab_of, MayBegin, IsRefusal, HasBegun};
-ghost use Rattle.bz_world.specs.Kept.{IsKept};
+ghost use Rattle.bz_world.specs.Inside.Beginning.{pages_asked as pages_of_call, lab_of, MayBegin, IsRefusal, HasBegun};
+ghost use Rattle.bz_world.specs.Inside.Kept.{IsKept};
 ghost use Rattle.bz_world.specs.Lab.{begin_answer, after_begin};
 
 use crate::answers::{Begun, Which};

@@ -2,13 +2,13 @@
 ghost use Rattle.std.specs.Prelude.{◌≡◌, ◌↔◌, IsTrue, IsSome, Some};
 ghost use Rattle.bz_call.specs.Map.{key_of as key_in};
 ghost use Rattle.bz_sound.specs.Memory.Replies.{IsWrite};
-ghost use Rattle.bz_world.specs.Going.{call_in, path_in as way_in, had_in as payload_in, effect_in as moment_in, with_task, with_change};
+ghost use Rattle.bz_world.specs.Inside.Going.{call_in, end_in, path_in as way_in, had_in as payload_in, effect_in as moment_in, with_task, with_change};
 
 use crate::serving::Serving;
 use bz_call::Call;
 use bz_key::{Key, Payload};
 use bz_running::Running;
-use bz_task::Path;
+use bz_task::{Outcome, Path, Task};
 
 /// The key of a call.
 pub(crate) fn key_of(call: &Call) -> Key
@@ -42,6 +42,16 @@ pub(crate) fn called(slot: &Option<Serving>) -> Call
     match slot {
         Some(serving) => serving.call,
         None => unreachable!(),
+    }
+}
+
+/// How its task has ended, if it has.
+pub(crate) fn ended_in(slot: &Option<Serving>) -> Option<Outcome>
+    ensures { result ≡ end_in slot.now }
+{
+    match slot {
+        Some(serving) => serving.task.ended(),
+        None => None,
     }
 }
 

@@ -6,51 +6,29 @@ ghost use Rattle.bz_slotted.specs.Readers.{found_of};
 ghost use Rattle.bz_slotted.specs.ReadingLaws.{node_of};
 ghost use Rattle.bz_word.specs.Statuses.{status};
 ghost use Rattle.bz_task.specs.declared.todo.Outcome.TheVariants.{NeedsRoom};
-ghost use Rattle.bz_task.specs.declared.todo.Todo.TheVariants.{Finish};
-ghost use Rattle.bz_world.specs.Going.{MustAnswer, MustChange, MustInsert, MustUpdate, MustDelete, IsShort, WentOn, call_in};
-ghost use Rattle.bz_world.specs.Telling.{MustStart};
+ghost use Rattle.bz_world.specs.Inside.Going.{MustAnswer, MustChange, MustInsert, MustUpdate, MustDelete, IsShort, WentOn, call_in, end_in};
+ghost use Rattle.bz_world.specs.Inside.Telling.{MustStart};
 
 use crate::answers::Applied;
-use crate::calls::{path_in, set_change};
+use crate::calls::{ended_in, path_in, set_change};
 use crate::end::end;
 use crate::going::{end_full, go_on, look_up};
 use crate::laws::{answer_laws, start_laws};
 use crate::parts::Parts;
+use crate::serving::Serving;
 use crate::tell::tell;
 use bz_call::{Reply, Spent};
 use bz_key::{Key, Payload};
 use bz_page::find;
 use bz_running::Running;
 use bz_task::{LeafView, Outcome, Seen, Todo};
-use bz_word::Status;
-
-// Whether a node with this status is frozen.
-fn is_frozen(word: u64) -> bool
-    requires { word < 2 ^ 61 }
-    ensures { result ≡ (status word).frozen }
-{
-    bz_word::laws::statuses();
-    match Status::unpack(word) {
-        Some(status) => status.frozen,
-        None => false,
-    }
-}
 
 // Whether a task ended because its leaf is frozen or lacks the words.
-fn needs_room(todo: &Todo) -> bool
-    ensures { result ≡ true → todo.now ≡ Finish NeedsRoom }
+fn needs_room(slot: &Option<Serving>) -> bool
+    ensures { result ≡ true → end_in slot.now ≡ Some NeedsRoom }
 {
-    match todo {
-        Todo::Finish(outcome) => is_needs_room(outcome),
-        _ => false,
-    }
-}
-
-fn is_needs_room(outcome: &Outcome) -> bool
-    ensures { result ≡ true → outcome.now ≡ NeedsRoom }
-{
-    match outcome {
-        Outcome::NeedsRoom => true,
+    match ended_in(slot) {
+        Some(Outcome::NeedsRoom) => true,
         _ => false,
     }
 }
@@ -58,12 +36,12 @@ fn is_needs_room(outcome: &Outcome) -> bool
 // Goes on with a change that was told to begin. Where its leaf, which is not frozen, lacks the room, the call ends.
 fn go_on_changing(parts: &mut Parts, w: u8, view: &LeafView, todo: Todo) -> Applied
     requires asks { MustStart parts.old w todo }
-    requires short { todo ≡ Finish NeedsRoom → (status view.now.status).frozen ≡ false → IsShort parts.old w Nodes }
+    requires short { end_in (get_or parts.old.workers.items w None) ≡ Some NeedsRoom → (status view.now.status).frozen ≡ false → IsShort parts.old w Nodes }
     requires plain { view.now.status < 2 ^ 61 }
     requires room { length parts.old.journal.past < parts.old.config.marks }
     ensures { WentOn parts.old w result parts.new }
 {
-    if needs_room(&todo) && !is_frozen(view.status) {
+    if needs_room(&parts.workers[w as usize]) && !view.is_frozen() {
         end_full(parts, w, Spent::Nodes)
     } else {
         go_on(parts, w, todo)

@@ -1,7 +1,7 @@
 //! Ends of calls.
 ghost use Rattle.std.specs.Prelude.{◌≡◌, ◌<◌, false, length};
 ghost use Rattle.bz_call.specs.Pages.{names_page};
-ghost use Rattle.bz_world.specs.Going.{MustEnd, MustEndPage, WentOn};
+ghost use Rattle.bz_world.specs.Inside.Going.{MustEnd, MustEndPage, WentOn};
 
 use crate::answers::Applied;
 use crate::laws::end_laws;

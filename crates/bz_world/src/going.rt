@@ -1,9 +1,9 @@
 //! How a call goes on when its task has ended, or asks for something.
 ghost use Rattle.std.specs.Prelude.{◌≡◌, ◌<◌, false, length};
 ghost use Rattle.bz_call.specs.Pages.{names_page};
-ghost use Rattle.bz_world.specs.Going.{MustGoOn, HadEffect, LacksSwap, IsShort, WentOn};
-ghost use Rattle.bz_world.specs.Serving.{effect_reply as reply_in};
-ghost use Rattle.bz_world.specs.Telling.{MustStart};
+ghost use Rattle.bz_world.specs.Inside.Going.{MustGoOn, HadEffect, LacksSwap, IsShort, WentOn};
+ghost use Rattle.bz_world.specs.Inside.Serving.{effect_reply as reply_in};
+ghost use Rattle.bz_world.specs.Inside.Telling.{MustStart};
 
 use crate::answers::Applied;
 use crate::calls::{called, effect_in, had_in, is_write, key_of, set_task};
@@ -90,7 +90,7 @@ pub(crate) fn go_on(parts: &mut Parts, w: u8, todo: Todo) -> Applied
     requires room { length parts.old.journal.past < parts.old.config.marks }
     ensures { WentOn parts.old w result parts.new }
 {
-    if matches!(todo, Todo::Finish(_)) {
+    if matches!(todo, Todo::Finish) {
         return look_up(parts, w);
     }
     if start(parts, w, todo) {

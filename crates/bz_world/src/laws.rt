@@ -1,5 +1,5 @@
 //! The laws on which the world's acts stand, from the crates below. Each function does nothing.
-ghost use Rattle.bz_world.specs.Laws.{StepLaws, StrikeLaws, StartLaws, EndLaws, AnswerLaws};
+ghost use Rattle.bz_world.specs.Inside.Laws.{StepLaws, StrikeLaws, StartLaws, EndLaws, AnswerLaws};
 
 use bz_sight::laws as sight;
 use bz_sound::memory_laws as sound;

@@ -1,10 +1,10 @@
 //! Openings: a world over fresh memory.
 ghost use Rattle.std.specs.Prelude.{◌≡◌, IfOk, IfErr, replicate, None};
 ghost use Rattle.bz_layout.specs.Config.{IsConfig};
-ghost use Rattle.bz_world.specs.Beginning.{lab_of};
-ghost use Rattle.bz_world.specs.Kept.{IsKept};
+ghost use Rattle.bz_world.specs.Inside.Beginning.{lab_of};
+ghost use Rattle.bz_world.specs.Inside.Kept.{IsKept};
 ghost use Rattle.bz_world.specs.Lab.{IsOpenFault, new_lab};
-ghost use Rattle.bz_world.specs.Opening.{fresh_slots};
+ghost use Rattle.bz_world.specs.Inside.Opening.{fresh_slots};
 
 use crate::answers::OpenError;
 use crate::parts::Parts;

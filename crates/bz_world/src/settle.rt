@@ -2,11 +2,11 @@
 ghost use Rattle.std.specs.Prelude.{◌≡◌, ◌<◌, None, Some, length, get_or};
 ghost use Rattle.bz_call.specs.declared.calls.Call.TheVariants as called;
 ghost use Rattle.bz_task.specs.declared.todo.Todo.TheVariants.{Finish};
-ghost use Rattle.bz_world.specs.Going.{MustRead, MustAnswer, HasEnded, WentOn, call_in};
-ghost use Rattle.bz_world.specs.Telling.{MustStart};
+ghost use Rattle.bz_world.specs.Inside.Going.{MustRead, MustAnswer, HasEnded, WentOn, call_in};
+ghost use Rattle.bz_world.specs.Inside.Telling.{MustStart};
 
 use crate::answers::Applied;
-use crate::calls::{called, effect_in, key_of, set_task};
+use crate::calls::{called, effect_in, ended_in, key_of, set_task};
 use crate::changes::{answer_delete, answer_insert, answer_update, answer_upsert};
 use crate::end::{end, end_page};
 use crate::going::{end_effective, go_on, look_up};
@@ -78,26 +78,26 @@ fn answer(parts: &mut Parts, w: u8, view: &LeafView) -> Applied
 }
 
 // The task of a call without effect has ended.
-fn settle_quiet(parts: &mut Parts, w: u8, outcome: Outcome) -> Applied
-    requires ends { HasEnded parts.old w outcome }
+fn settle_quiet(parts: &mut Parts, w: u8) -> Applied
+    requires ends { HasEnded parts.old w }
     requires room { length parts.old.journal.past < parts.old.config.marks }
     ensures { WentOn parts.old w result parts.new }
 {
-    match outcome {
-        Outcome::Path(path) => read_leaf(parts, w, path),
-        Outcome::View(view) => answer(parts, w, &view),
+    match ended_in(&parts.workers[w as usize]) {
+        Some(Outcome::Path(path)) => read_leaf(parts, w, path),
+        Some(Outcome::View(view)) => answer(parts, w, &view),
         _ => look_up(parts, w),
     }
 }
 
 /// The task of a worker's call has ended.
-pub(crate) fn settle(parts: &mut Parts, w: u8, outcome: Outcome) -> Applied
-    requires ends { MustStart parts.old w (Finish outcome) }
+pub(crate) fn settle(parts: &mut Parts, w: u8) -> Applied
+    requires ends { MustStart parts.old w Finish }
     requires room { length parts.old.journal.past < parts.old.config.marks }
     ensures { WentOn parts.old w result parts.new }
 {
     match effect_in(&parts.workers[w as usize]) {
         Some(at) => end_effective(parts, w, at),
-        None => settle_quiet(parts, w, outcome),
+        None => settle_quiet(parts, w),
     }
 }

@@ -1,10 +1,9 @@
 //! Starts of what tasks ask for. A start makes no act.
 ghost use Rattle.std.specs.Prelude.{◌≡◌, ◌≢◌, ℕ, true, false};
 ghost use Rattle.bz_swap.specs.SwapMemory.{worker_of};
-ghost use Rattle.bz_task.specs.declared.todo.Outcome.{Outcome};
 ghost use Rattle.bz_task.specs.declared.todo.Todo.TheVariants.{Swap, Finish};
-ghost use Rattle.bz_world.specs.Kept.{IsKept};
-ghost use Rattle.bz_world.specs.Telling.{MustStart, LacksDescriptor};
+ghost use Rattle.bz_world.specs.Inside.Kept.{IsKept};
+ghost use Rattle.bz_world.specs.Inside.Telling.{MustStart, LacksDescriptor};
 
 use crate::laws::start_laws;
 use crate::parts::Parts;
@@ -34,7 +33,7 @@ fn start_swap(parts: &mut Parts, w: u8, entries: EntryList) -> bool
 /// Starts what a worker's task asks for, which is no end. Answers whether there was a descriptor for it.
 pub(crate) fn start(parts: &mut Parts, w: u8, todo: Todo) -> bool
     requires asks { MustStart parts.old w todo }
-    requires more { (outcome : Outcome) → todo ≢ Finish outcome }
+    requires more { todo ≢ Finish }
     ensures started { result ≡ true → IsKept parts.new }
     ensures lacks { result ≡ false → LacksDescriptor parts.old todo }
     ensures same { result ≡ false → parts.new ≡ parts.old }
@@ -56,6 +55,6 @@ pub(crate) fn start(parts: &mut Parts, w: u8, todo: Todo) -> bool
             true
         }
         Todo::Swap(entries) => start_swap(parts, w, entries),
-        Todo::Load(_) | Todo::Finish(_) => true,
+        Todo::Load(_) | Todo::Finish => true,
     }
 }

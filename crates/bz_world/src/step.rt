@@ -2,12 +2,12 @@
 ghost use Rattle.std.specs.Prelude.{◌≡◌, ◌≢◌, ◌<◌, ◌≤◌, ◌+◌, None, length};
 ghost use Rattle.bz_layout.specs.Addresses.{words_of};
 ghost use Rattle.bz_sound.specs.Calls.{open_call};
-ghost use Rattle.bz_world.specs.Acted.{IsEvicted};
-ghost use Rattle.bz_world.specs.Beginning.{lab_of};
-ghost use Rattle.bz_world.specs.Going.{WentOn};
-ghost use Rattle.bz_world.specs.Kept.{IsKept};
+ghost use Rattle.bz_world.specs.Inside.Acted.{IsEvicted};
+ghost use Rattle.bz_world.specs.Inside.Beginning.{lab_of};
+ghost use Rattle.bz_world.specs.Inside.Going.{WentOn};
+ghost use Rattle.bz_world.specs.Inside.Kept.{IsKept};
 ghost use Rattle.bz_world.specs.Lab.{Steps, Evicts, IsApplied};
-ghost use Rattle.bz_world.specs.Telling.{MustStart};
+ghost use Rattle.bz_world.specs.Inside.Telling.{MustStart};
 ghost use Rattle.bz_world.specs.declared.answers.Event.TheVariants as event;
 ghost use Rattle.bz_swap.specs.declared.phase.Phase.TheVariants.{Recovering};
 
@@ -30,7 +30,7 @@ fn follow(parts: &mut Parts, w: u8, todo: Todo) -> Applied
     ensures { WentOn parts.old w result parts.new }
 {
     match todo {
-        Todo::Finish(outcome) => settle(parts, w, outcome),
+        Todo::Finish => settle(parts, w),
         todo => go_on(parts, w, todo),
     }
 }

@@ -1,9 +1,9 @@
 //! The effect of a swap.
 ghost use Rattle.std.specs.Prelude.{◌≡◌, ◌<◌, length};
-ghost use Rattle.bz_world.specs.Acted.{IsStriking};
-ghost use Rattle.bz_world.specs.Kept.{IsKept};
+ghost use Rattle.bz_world.specs.Inside.Acted.{IsStriking};
+ghost use Rattle.bz_world.specs.Inside.Kept.{IsKept};
 ghost use Rattle.bz_world.specs.Lab.{IsStruck};
-ghost use Rattle.bz_world.specs.Serving.{noted, is_publishing};
+ghost use Rattle.bz_world.specs.Inside.Serving.{noted, is_publishing};
 
 use crate::laws::strike_laws;
 use crate::parts::Parts;

@@ -1,13 +1,13 @@
 //! Telling a worker's task what came of what it asked for.
 ghost use Rattle.std.specs.Prelude.{◌≡◌, ◌<◌, None, get_or, length};
-ghost use Rattle.bz_world.specs.Acted.{MustTell};
-ghost use Rattle.bz_world.specs.Telling.{CanHear, HasToldIn, MustStart};
+ghost use Rattle.bz_world.specs.Inside.Acted.{MustTell};
+ghost use Rattle.bz_world.specs.Inside.Telling.{CanHear, HasToldIn, MustStart};
 
 use crate::parts::Parts;
 use crate::serving::Serving;
 use bz_layout::Slots;
 use bz_story::laws as story;
-use bz_task::{Outcome, Seen, Todo};
+use bz_task::{Seen, Todo};
 
 // Tells the task of a call, if one is served.
 fn hear_task(slot: &mut Option<Serving>, seen: Seen, slots: &mut Slots, moment: u32) -> Todo
@@ -15,7 +15,7 @@ fn hear_task(slot: &mut Option<Serving>, seen: Seen, slots: &mut Slots, moment: 
     ensures { HasToldIn slot.old seen moment slots.old result slot.new slots.new }
 {
     match slot {
-        None => Todo::Finish(Outcome::Restart),
+        None => Todo::Finish,
         Some(serving) => {
             let todo = serving.task.hear(seen, slots, moment);
             serving.task.laws();

@@ -24,9 +24,9 @@ pub struct World {
 }
 
 impl Model for World {
-    ghost use Rattle.bz_world.specs.Beginning.{lab_of};
+    ghost use Rattle.bz_world.specs.Inside.Beginning.{lab_of};
     ghost use Rattle.bz_world.specs.Lab.{Lab};
-    ghost use Rattle.bz_world.specs.Kept.{IsKept};
+    ghost use Rattle.bz_world.specs.Inside.Kept.{IsKept};
 
     ghost Value = { Lab };
 

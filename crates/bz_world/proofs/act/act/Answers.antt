@@ -1,7 +1,7 @@
 use Rattle.std.proofs.Common.{◌≡◌, subst, arith, None}
 use Rattle.bz_machine.specs.declared.done.Done.TheVariants as done
 use Rattle.bz_task.specs.declared.todo.Seen.TheVariants as seen
-use Rattle.bz_world.specs.Acted.{IsActed, MustTell}
+use Rattle.bz_world.specs.Inside.Acted.{IsActed, MustTell}
 use Rattle.bz_world.proofs.Acting.{is-served, is-busy, went-on, must-tell, struck-acted}
 use Rattle.bz_world.proofs.ActStrikes.{act-strikes}
 use Rattle.bz_world.proofs.act.act.Goals as goal

@@ -2,7 +2,7 @@ use Rattle.std.proofs.Common.{sym, ap, ◌+◌, ◌<◌, ◌^◌, subst, rules, 
 use Rattle.std.specs.Vec.{with_item}
 use Rattle.bz_mark.specs.Log.{Log}
 use Rattle.bz_running.specs.Hearing.{IsLookup}
-use Rattle.bz_world.specs.Beginning.{HasBegun, pages_asked}
+use Rattle.bz_world.specs.Inside.Beginning.{HasBegun, pages_asked}
 use Rattle.bz_world.proofs.Beginning.{few-numbers, number-is, has-begun}
 use Rattle.bz_world.proofs.begin.open_call.Goals as goal
 

@@ -1,6 +1,6 @@
 use Rattle.std.proofs.Common.{sym, subst, None}
 use Rattle.std.specs.Vec.{with_item}
-use Rattle.bz_world.specs.Going.{WentOn}
+use Rattle.bz_world.specs.Inside.Going.{WentOn}
 use Rattle.bz_world.specs.declared.answers.Applied.TheVariants.{Ended}
 use Rattle.bz_world.proofs.Ended.{number-read, end-room, end-went}
 use Rattle.bz_world.proofs.end.end.Goals as goal

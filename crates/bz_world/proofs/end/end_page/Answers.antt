@@ -3,7 +3,7 @@ use Rattle.std.specs.Vec.{with_item}
 use Rattle.bz_call.specs.declared.replies.Reply.TheVariants.{Page}
 use Rattle.bz_mark.specs.Log.{HasRoom, Log, with_page, with_mark}
 use Rattle.bz_mark.specs.declared.marks.Mark.TheVariants.{End}
-use Rattle.bz_world.specs.Going.{WentOn}
+use Rattle.bz_world.specs.Inside.Going.{WentOn}
 use Rattle.bz_world.specs.declared.answers.Applied.TheVariants.{Ended}
 use Rattle.bz_world.proofs.Ended.{number-read, end-room, page-room, end-page-went}
 use Rattle.bz_world.proofs.end.end_page.Goals as goal

@@ -1,6 +1,6 @@
 use Rattle.std.proofs.Common.{◌≡◌, sym, ap, subst, ◌∙◌, Some}
-use Rattle.bz_world.specs.Going.{MustEnd, had_in}
-use Rattle.bz_world.specs.Serving.{effect_reply}
+use Rattle.bz_world.specs.Inside.Going.{MustEnd, had_in}
+use Rattle.bz_world.specs.Inside.Serving.{effect_reply}
 use Rattle.bz_world.proofs.TakingOn.{call-is, slot-is}
 use Rattle.bz_world.proofs.going.end_effective.Goals as goal
 

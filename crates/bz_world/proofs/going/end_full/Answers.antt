@@ -1,7 +1,7 @@
 use Rattle.std.proofs.Common.{refl, sym, subst, ◌∙◌}
 use Rattle.bz_call.specs.declared.replies.Reply.TheVariants.{Full}
 use Rattle.bz_sound.specs.Memory.Replies.{IsWrite}
-use Rattle.bz_world.specs.Going.{MustEnd}
+use Rattle.bz_world.specs.Inside.Going.{MustEnd}
 use Rattle.bz_world.proofs.TakingOn.{call-is}
 use Rattle.bz_world.proofs.going.end_full.Goals as goal
 

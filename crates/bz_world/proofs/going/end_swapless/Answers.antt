@@ -1,5 +1,5 @@
 use Rattle.std.proofs.Common.{sym, ap, ◌∙◌, slice_index}
-use Rattle.bz_world.specs.Going.{effect_in}
+use Rattle.bz_world.specs.Inside.Going.{effect_in}
 use Rattle.bz_world.proofs.Spending.{are-held}
 use Rattle.bz_world.proofs.TakingOn.{slot-is}
 use Rattle.bz_world.proofs.going.end_swapless.Goals as goal

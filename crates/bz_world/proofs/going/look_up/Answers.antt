@@ -1,7 +1,7 @@
 use Rattle.std.proofs.Common.{refl, sym, ap, ◌∙◌, Option, Some, None}
 use Rattle.bz_call.specs.Map.{key_of}
 use Rattle.bz_task.specs.declared.todo.Todo.TheVariants.{Read}
-use Rattle.bz_world.specs.Going.{known, with_task}
+use Rattle.bz_world.specs.Inside.Going.{known, with_task}
 use Rattle.bz_world.specs.declared.serving.Serving.{Serving}
 use Rattle.bz_world.proofs.TakingOn.{taken-asks, lookup-taken, slot-is, call-is, has-filled}
 use Rattle.bz_world.proofs.going.look_up.Goals as goal

@@ -1,7 +1,7 @@
 use Rattle.std.proofs.Common.{◌≡◌, refl, sym, subst, ◌∙◌}
 use Rattle.bz_content.specs.Content.{content_in}
 use Rattle.bz_call.specs.declared.calls.Call.TheVariants.{Get}
-use Rattle.bz_world.specs.Going.{MustEnd}
+use Rattle.bz_world.specs.Inside.Going.{MustEnd}
 use Rattle.bz_world.proofs.Answering.{views, good, past, value-right, missing-right}
 use Rattle.bz_world.proofs.TakingOn.{called-is}
 use Rattle.bz_world.proofs.settle.answer_get.Goals as goal

@@ -1,7 +1,7 @@
 use Rattle.std.proofs.Common.{◌≡◌, refl, sym, ap, subst, ◌∙◌, Option, Some, None}
 use Rattle.bz_call.specs.Map.{key_of}
 use Rattle.bz_task.specs.Outcomes.{IsPath}
-use Rattle.bz_world.specs.Going.{known, with_task}
+use Rattle.bz_world.specs.Inside.Going.{known, with_task}
 use Rattle.bz_world.specs.declared.serving.Serving.{Serving}
 use Rattle.bz_world.proofs.TakingOn.{taken-begins, lookup-taken, slot-is, call-is, known-scene}
 use Rattle.bz_world.proofs.settle.read_leaf.Goals as goal

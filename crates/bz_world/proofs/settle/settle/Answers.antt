@@ -1,7 +1,7 @@
-use Rattle.std.proofs.Common.{sym, ap, subst, ◌∙◌}
-use Rattle.bz_running.specs.Duties.{means_of}
+use Rattle.std.proofs.Common.{sym, ap, ◌∙◌}
 use Rattle.bz_task.specs.Scene.{Scene}
-use Rattle.bz_world.specs.Going.{MustGoOn, effect_in, known}
+use Rattle.bz_task.specs.declared.todo.Outcome.TheVariants.{Path, View}
+use Rattle.bz_world.specs.Inside.Going.{MustGoOn, effect_in, known}
 use Rattle.bz_world.proofs.TakingOn.{slot-is}
 use Rattle.bz_world.proofs.settle.settle.Goals as goal
 
@@ -14,10 +14,10 @@ settle_quiet-requires-clause-ends c =
     let on : MustGoOn c.args.parts.now c.args.w = record { serving = c.requires.ends.serving; is = c.requires.ends.is; between = c.requires.ends.asking.between } in
     let here : Scene = known c.args.parts.now c.args.w on in
     let tasked = c.requires.ends.asking.tasked in
-    let means : means_of c.requires.ends.serving.task c.args.outcome here = (tasked.laws.ends here c.args.outcome c.requires.ends.asking.facts c.requires.ends.asking.asks).0 in
+    let facts = c.requires.ends.asking.facts in
     record {
       on = on;
       quiet = ap effect_in (sym (slot-is c.args.parts.now c.args.w on c.index.result.now c.index.ensures)) ∙ sym c.in-None.ensures;
-      path = λ path e. tasked.lookup.path path here (subst (λ o. means_of c.requires.ends.serving.task o here) e means);
-      view = λ view e. tasked.lookup.view view here (subst (λ o. means_of c.requires.ends.serving.task o here) e means);
+      path = λ path ended. tasked.lookup.path path here (tasked.laws.ends here (Path path) facts ended).0;
+      view = λ view ended. tasked.lookup.view view here (tasked.laws.ends here (View view) facts ended).0;
     }

@@ -1,5 +1,5 @@
 use Rattle.std.proofs.Common.{subst, inl, inr}
-use Rattle.bz_world.specs.Telling.{MustStart}
+use Rattle.bz_world.specs.Inside.Telling.{MustStart}
 use Rattle.bz_world.proofs.Started.{may-read, may-store, may-flush, asks-no-load, read-kept, store-kept, flush-kept}
 use Rattle.bz_world.proofs.start.start.Goals as goal
 
@@ -24,5 +24,5 @@ returns-in-Flush-clause-started c e = flush-kept c.start_laws.ensures c.args.par
 pub returns-in-Load-clause-started : goal.returns-in-Load-clause-started
 returns-in-Load-clause-started c e = absurd (elim c.in-Load.is [
   | inl load ↦ asks-no-load c.start_laws.ensures c.args.parts.now c.args.w load.0 (subst (MustStart c.args.parts.now c.args.w) load.1 c.requires.asks)
-  | inr ends ↦ c.requires.more ends.0 ends.1
+  | inr ends ↦ c.requires.more ends
 ])

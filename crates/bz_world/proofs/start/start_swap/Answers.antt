@@ -1,6 +1,6 @@
 use Rattle.std.proofs.Common.{sym, subst}
 use Rattle.std.specs.Vec.{with_item}
-use Rattle.bz_world.specs.Kept.{IsKept}
+use Rattle.bz_world.specs.Inside.Kept.{IsKept}
 use Rattle.bz_world.proofs.Started.{may-swap, swap-kept}
 use Rattle.bz_world.proofs.start.start_swap.Goals as goal
 

@@ -2,11 +2,11 @@ use Rattle.std.proofs.Common.{◌≡◌, length, ℕ, refl, sym, ap, subst, ◌�
 use Rattle.std.specs.Vec.{with_item, vec_len}
 use Rattle.std.proofs.lemmas.List.{get_or_read_under}
 use Rattle.bz_mark.specs.Log.{Log}
-use Rattle.bz_world.specs.Acted.{IsStriking}
-use Rattle.bz_world.specs.Kept.{IsKept}
+use Rattle.bz_world.specs.Inside.Acted.{IsStriking}
+use Rattle.bz_world.specs.Inside.Kept.{IsKept}
 use Rattle.bz_world.specs.declared.parts.Parts.{Parts}
-use Rattle.bz_world.specs.Serving.{noted, is_publishing}
-use Rattle.bz_world.specs.Laws.{StrikeLaws}
+use Rattle.bz_world.specs.Inside.Serving.{noted, is_publishing}
+use Rattle.bz_world.specs.Inside.Laws.{StrikeLaws}
 use Rattle.bz_world.proofs.Striking.{x}
 use Rattle.bz_world.proofs.Struck.{in-owners, in-table, slot-was, struck-silent, struck-aloud}
 use Rattle.bz_world.proofs.strike.strike.Goals as goal

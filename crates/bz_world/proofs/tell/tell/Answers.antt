@@ -1,6 +1,6 @@
 use Rattle.std.proofs.Common.{◌≡◌, ◌<◌, length, refl, sym, subst, ◌∙◌, arith, Some, None, get_or, slice_set}
 use Rattle.std.proofs.lemmas.List.{get_or_read_under, get_or-set_same}
-use Rattle.bz_world.specs.Telling.{CanHear, HasToldIn}
+use Rattle.bz_world.specs.Inside.Telling.{CanHear, HasToldIn}
 use Rattle.bz_world.proofs.Telling.{can-hear, must-start}
 use Rattle.bz_world.proofs.tell.tell.Goals as goal
 

@@ -8,7 +8,7 @@ use Rattle.bz_call.specs.declared.replies.Reply.{Reply}
 use Rattle.bz_call.specs.declared.replies.Reply.TheVariants.{Page}
 use Rattle.bz_call.specs.declared.replies.Spent.{Spent}
 use Rattle.bz_call.specs.declared.replies.Spent.TheVariants.{Nodes}
-use Rattle.bz_running.specs.Duties.{asks_of, facts_of, means_of}
+use Rattle.bz_running.specs.Duties.{asks_of, end_of, facts_of, means_of}
 use Rattle.bz_running.specs.declared.running.Running.{Running}
 use Rattle.bz_sound.specs.Memory.Replies.{IsRightReply}
 use Rattle.bz_sound.specs.Memory.Spent.{IsSpent}
@@ -23,10 +23,10 @@ use Rattle.bz_task.specs.declared.todo.Outcome.TheVariants.{NeedsRoom}
 use Rattle.bz_task.specs.declared.todo.Todo.{Todo}
 use Rattle.bz_task.specs.declared.view.LeafView.{LeafView}
 use Rattle.bz_word.specs.Statuses.{status}
-use Rattle.bz_world.specs.Acted.{IsBetween}
-use Rattle.bz_world.specs.Kept.{IsKept}
+use Rattle.bz_world.specs.Inside.Acted.{IsBetween}
+use Rattle.bz_world.specs.Inside.Kept.{IsKept}
 use Rattle.bz_world.specs.Lab.{GoesOn}
-use Rattle.bz_world.specs.Serving.{IsTasked}
+use Rattle.bz_world.specs.Inside.Serving.{IsTasked}
 use Rattle.bz_world.specs.declared.answers.Applied.{Applied}
 use Rattle.bz_world.specs.declared.parts.Parts.{Parts}
 use Rattle.bz_world.specs.declared.serving.Serving.{Serving}
@@ -41,9 +41,13 @@ pub record MustGoOn (p : Parts) (w : ℕ) : Type 0 where
 abbrev pub known : (p : Parts) (w : ℕ) → MustGoOn p w → Scene
 known p w m = scene p.config p.journal.past m.between.story w m.between.opened
 
--- the call that is served, the way to its leaf and its effect
+-- the call that is served, how its task has ended, the way to its leaf and its effect
 abbrev pub call_in : Option Serving → Option Call
 call_in slot = option_map (λ (x : Serving). x.call) slot
+
+abbrev pub end_in : Option Serving → Option Outcome
+end_in None = None
+end_in (Some x) = end_of x.task
 
 abbrev pub path_in : Option Serving → Option Path
 path_in None = None
@@ -78,11 +82,11 @@ pub record MustRead (p : Parts) (w : ℕ) (path : Path) : Type 0 where
   pub leads : IsPath (key_of on.serving.call) path (known p w on).past
 
 -- its task has ended, and it had no effect
-pub record HasEnded (p : Parts) (w : ℕ) (outcome : Outcome) : Type 0 where
+pub record HasEnded (p : Parts) (w : ℕ) : Type 0 where
   pub on : MustGoOn p w
   pub quiet : on.serving.effect ≡ None
-  pub path : (path : Path) → outcome ≡ outcomes.Path path → IsPath (key_of on.serving.call) path (known p w on).past
-  pub view : (view : LeafView) → outcome ≡ outcomes.View view → IsView (key_of on.serving.call) view (known p w on).past
+  pub path : (path : Path) → end_of on.serving.task ≡ Some (outcomes.Path path) → IsPath (key_of on.serving.call) path (known p w on).past
+  pub view : (view : LeafView) → end_of on.serving.task ≡ Some (outcomes.View view) → IsView (key_of on.serving.call) view (known p w on).past
 
 -- its leaf was read, and it had no effect
 pub record MustAnswer (p : Parts) (w : ℕ) (view : LeafView) : Type 0 where

@@ -9,7 +9,7 @@ use Rattle.bz_task.specs.declared.todo.Seen.{Seen}
 use Rattle.bz_task.specs.declared.todo.Todo.{Todo}
 use Rattle.bz_task.specs.declared.todo.Todo.TheVariants.{Swap}
 use Rattle.bz_word.specs.declared.entry.Entry.{Entry}
-use Rattle.bz_world.specs.Acted.{IsAsking}
+use Rattle.bz_world.specs.Inside.Acted.{IsAsking}
 use Rattle.bz_world.specs.declared.parts.Parts.{Parts}
 use Rattle.bz_world.specs.declared.serving.Serving.{Serving}
 

@@ -24,9 +24,9 @@ use Rattle.bz_task.specs.Requests.{Hears, Tells}
 use Rattle.bz_task.specs.Scene.{Stage, Waiting}
 use Rattle.bz_task.specs.declared.todo.Seen.{Seen}
 use Rattle.bz_task.specs.declared.todo.Todo.{Todo}
-use Rattle.bz_world.specs.Kept.{IsTabled, AreTaken, IsKept}
+use Rattle.bz_world.specs.Inside.Kept.{IsTabled, AreTaken, IsKept}
 use Rattle.bz_world.specs.Lab.{mark_of, IsStruck}
-use Rattle.bz_world.specs.Serving.{IsSlot, IsOpened, IsTasked}
+use Rattle.bz_world.specs.Inside.Serving.{IsSlot, IsOpened, IsTasked}
 use Rattle.bz_world.specs.declared.parts.Parts.{Parts}
 use Rattle.bz_world.specs.declared.serving.Serving.{Serving}
 

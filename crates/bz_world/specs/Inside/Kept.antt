@@ -9,7 +9,7 @@ use Rattle.bz_story.specs.Living.{IsLiving}
 use Rattle.bz_story.specs.Story.{Story}
 use Rattle.bz_swap.specs.SwapMemory.{has_effect}
 use Rattle.bz_swap.specs.TakenStatuses.{IsTaken, BegunAreTaken}
-use Rattle.bz_world.specs.Serving.{IsSlot}
+use Rattle.bz_world.specs.Inside.Serving.{IsSlot}
 use Rattle.bz_world.specs.declared.parts.Parts.{Parts}
 
 -- the tables have their sizes, and the counts are the journal's

@@ -1,0 +1,9 @@
+-- What a world keeps true of its parts, and what stands between one act and the next. Its own functions alone cite it.
+pub mod Serving
+pub mod Kept
+pub mod Acted
+pub mod Laws
+pub mod Telling
+pub mod Opening
+pub mod Going
+pub mod Beginning
