@@ -1,5 +1,8 @@
--- Counting the workers that pass a test, from 1 to 64.
-use Rattle.std.proofs.Common.{◌≡◌, ◌≢◌, ◌≤◌, ◌<◌, ℕ, zero, suc, ◌+◌, ◌-◌, Bool, true, false, List, [], ◌∷◌, length, slice_index, refl, sym, ap, subst, ◌∙◌, arith}
+-- The workers that pass a test, of those from 1 to 64: their list is made worker by worker.
+use Rattle.std.proofs.Common.{◌≡◌, ◌≤◌, ◌<◌, ℕ, zero, suc, ◌+◌, ◌-◌, ◌/◌, ◌%◌, Bool, true, false, List, [], ◌∷◌, ◌++◌, length, slice_index, refl, sym, ap, subst, ◌∙◌, append_assoc, arith}
+use Rattle.std.specs.Prelude.{if◌then◌else◌}
+use Rattle.std.proofs.Math.Nat.{mod-lt}
+use Rattle.std.proofs.lemmas.List.{append-nil, length-append}
 use Rattle.bz_sched.specs.Turns.{passing_from}
 
 -- those from a worker on
@@ -9,60 +12,63 @@ passing_on test w = passing_from test w (65 - w)
 one_later : (test : ℕ → Bool) (w : ℕ) → w < 65 → passing_on test w ≡ passing_from test w (suc (65 - (w + 1)))
 one_later test w few = let more : 65 - w ≡ suc (65 - (w + 1)) = omega arith in ap (λ (count : ℕ). passing_from test w count) more
 
-pub here_passes : (test : ℕ → Bool) (w : ℕ) → w < 65 → test w ≡ true → passing_on test w ≡ w ∷ passing_on test (w + 1)
+here_passes : (test : ℕ → Bool) (w : ℕ) → w < 65 → test w ≡ true → passing_on test w ≡ w ∷ passing_on test (w + 1)
 here_passes test w few passes = one_later test w few ∙ rw passes refl
 
-pub here_fails : (test : ℕ → Bool) (w : ℕ) → w < 65 → test w ≡ false → passing_on test w ≡ passing_on test (w + 1)
+here_fails : (test : ℕ → Bool) (w : ℕ) → w < 65 → test w ≡ false → passing_on test w ≡ passing_on test (w + 1)
 here_fails test w few fails = one_later test w few ∙ rw fails refl
 
-pub none_on : (test : ℕ → Bool) (w : ℕ) → 65 ≤ w → passing_on test w ≡ []
+none_on : (test : ℕ → Bool) (w : ℕ) → 65 ≤ w → passing_on test w ≡ []
 none_on test w all = let none : 65 - w ≡ 0 = omega arith in ap (λ (count : ℕ). passing_from test w count) none
 
--- so many were counted before a worker
-pub record Counted (test : ℕ → Bool) (w count : ℕ) : Type 0 where
-  pub whole : count + length (passing_on test w) ≡ length (passing_from test 1 64)
-  pub few : count < w
+-- those before a worker are listed
+pub record Listed (test : ℕ → Bool) (w : ℕ) (busy : List ℕ) : Type 0 where
+  pub whole : busy ++ passing_on test w ≡ passing_from test 1 64
+  pub few : length busy < w
 
-pub counted_none : (test : ℕ → Bool) → Counted test 1 0
-counted_none test = record { whole = omega arith; few = omega arith }
+pub listed_none : (test : ℕ → Bool) (busy : List ℕ) → busy ≡ [] → Listed test 1 busy
+listed_none test busy none = rw none (record { whole = refl; few = omega arith })
 
-pub counted_one : (test : ℕ → Bool) (w count : ℕ) → w < 65 → test w ≡ true → Counted test w count → Counted test (w + 1) (count + 1)
-counted_one test w count few passes c = record { whole = omega (arith, c.whole, ap length (here_passes test w few passes)); few = omega (arith, c.few) }
+pub listed_one : (test : ℕ → Bool) (w : ℕ) (busy more : List ℕ) → w < 65 → test w ≡ true → more ≡ busy ++ w ∷ [] → Listed test w busy → Listed test (w + 1) more
+listed_one test w busy more few passes is l = rw is (record {
+  whole = append_assoc busy (w ∷ []) (passing_on test (w + 1)) ∙ ap (λ (rest : List ℕ). busy ++ rest) (sym (here_passes test w few passes)) ∙ l.whole;
+  few = omega (arith, length-append busy (w ∷ []), l.few);
+})
 
-pub counted_skip : (test : ℕ → Bool) (w count : ℕ) → w < 65 → test w ≡ false → Counted test w count → Counted test (w + 1) count
-counted_skip test w count few fails c = record { whole = omega (arith, c.whole, ap length (here_fails test w few fails)); few = omega (arith, c.few) }
-
-pub counted_all : (test : ℕ → Bool) (w count : ℕ) → 65 ≤ w → Counted test w count → count ≡ length (passing_from test 1 64)
-counted_all test w count all c = omega (arith, c.whole, ap length (none_on test w all))
-
--- the worker that is looked for has so many before it from here on
-pub record Sought (test : ℕ → Bool) (w left before : ℕ) : Type 0 where
-  pub same : slice_index (passing_on test w) left ≡ slice_index (passing_from test 1 64) before
-  pub within : left < length (passing_on test w)
-
-pub sought_none : (test : ℕ → Bool) (before : ℕ) → before < length (passing_from test 1 64) → Sought test 1 before before
-sought_none test before within = record { same = refl; within = within }
-
-pub sought_here : (test : ℕ → Bool) (w left before : ℕ) → w < 65 → test w ≡ true → left ≡ 0 → Sought test w left before → w ≡ slice_index (passing_from test 1 64) before
-sought_here test w left before few passes none s =
-    let first : slice_index (passing_on test w) left ≡ w = rw (here_passes test w few passes, none) refl in
-    sym first ∙ s.same
-
-later : (test : ℕ → Bool) (w left : ℕ) → w < 65 → test w ≡ true → left ≢ 0 → slice_index (passing_on test w) left ≡ slice_index (passing_on test (w + 1)) (left - 1)
-later test w zero few passes some = absurd (some refl)
-later test w (suc left) few passes some = rw (here_passes test w few passes) (let one : suc left - 1 ≡ left = omega arith in rw one refl)
-
-pub sought_later : (test : ℕ → Bool) (w left before : ℕ) → w < 65 → test w ≡ true → left ≢ 0 → Sought test w left before → Sought test (w + 1) (left - 1) before
-sought_later test w left before few passes some s = record {
-  same = sym (later test w left few passes some) ∙ s.same;
-  within = omega (arith, s.within, some, ap length (here_passes test w few passes));
+pub listed_skip : (test : ℕ → Bool) (w : ℕ) (busy : List ℕ) → w < 65 → test w ≡ false → Listed test w busy → Listed test (w + 1) busy
+listed_skip test w busy few fails l = record {
+  whole = ap (λ (rest : List ℕ). busy ++ rest) (sym (here_fails test w few fails)) ∙ l.whole;
+  few = omega (arith, l.few);
 }
 
-pub sought_skip : (test : ℕ → Bool) (w left before : ℕ) → w < 65 → test w ≡ false → Sought test w left before → Sought test (w + 1) left before
-sought_skip test w left before few fails s = record {
-  same = ap (λ (workers : List ℕ). slice_index workers left) (sym (here_fails test w few fails)) ∙ s.same;
-  within = subst (λ (workers : List ℕ). left < length workers) (here_fails test w few fails) s.within;
-}
+pub listed_all : (test : ℕ → Bool) (w : ℕ) (busy : List ℕ) → 65 ≤ w → Listed test w busy → busy ≡ passing_from test 1 64
+listed_all test w busy all l = sym (append-nil busy) ∙ ap (λ (rest : List ℕ). busy ++ rest) (sym (none_on test w all)) ∙ l.whole
 
-pub sought_ends : (test : ℕ → Bool) (w left before : ℕ) → 65 ≤ w → Sought test w left before → ⊥
-sought_ends test w left before all s = absurd (omega (arith, s.within, ap length (none_on test w all)))
+-- a worker that was listed passes the test, and is one of those before the last
+pub record Passes (test : ℕ → Bool) (last w : ℕ) : Type 0 where
+  pub passes : test w ≡ true
+  pub below : w < last
+
+each_passes : (test : ℕ → Bool) (last w more at : ℕ) → w + more ≤ last → at < length (passing_from test w more) → Passes test last (slice_index (passing_from test w more) at)
+each_passes test last w zero at end within = absurd (omega (arith, within))
+each_passes test last w (suc more) at end within = by_test (test w) refl at within (λ later. each_passes test last (w + 1) more later (omega arith))
+  where
+    by_test : (b : Bool) → test w ≡ b → (at : ℕ) → at < length (if b then w ∷ passing_from test (w + 1) more else passing_from test (w + 1) more)
+        → ((later : ℕ) → later < length (passing_from test (w + 1) more) → Passes test last (slice_index (passing_from test (w + 1) more) later))
+        → Passes test last (slice_index (if b then w ∷ passing_from test (w + 1) more else passing_from test (w + 1) more) at)
+    by_test true is zero within rest = record { passes = is; below = omega arith }
+    by_test true is (suc at) within rest = rest at (omega (arith, within))
+    by_test false is at within rest = rest at within
+
+drawn_of_all : (test : ℕ → Bool) (draw : ℕ) → 0 < length (passing_from test 1 64) → Passes test 65 (slice_index (passing_from test 1 64) ((draw / 8) % length (passing_from test 1 64)))
+drawn_of_all test draw some = each_passes test 65 1 64 ((draw / 8) % length (passing_from test 1 64)) (omega arith) (mod-lt (draw / 8) some)
+
+-- so does the one that a draw names in the list
+pub drawn_passes : (test : ℕ → Bool) (busy shown : List ℕ) (draw count : ℕ) → busy ≡ passing_from test 1 64 → 0 < length busy → shown ≡ busy → count ≡ length busy → Passes test 65 (slice_index shown ((draw / 8) % count))
+drawn_passes test busy shown draw count listed some same is =
+    rw (same, is) (subst (λ (list : List ℕ). 0 < length list → Passes test 65 (slice_index list ((draw / 8) % length list))) (sym listed) (drawn_of_all test draw) some)
+
+-- tests that agree list the same workers
+pub same_list : (test other : ℕ → Bool) (w more : ℕ) → ((v : ℕ) → test v ≡ other v) → passing_from test w more ≡ passing_from other w more
+same_list test other w zero same = refl
+same_list test other w (suc more) same = rw (same w, same_list test other (w + 1) more same) refl

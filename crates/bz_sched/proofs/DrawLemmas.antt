@@ -1,5 +1,5 @@
 -- Rounds by draws.
-use Rattle.std.proofs.Common.{◌≡◌, ◌≢◌, ◌<◌, ℕ, zero, suc, ◌+◌, ◌%◌, ◌/◌, Bool, true, false, List, [], ◌∷◌, length, slice_index, refl, sym, ap, subst, ◌∙◌, arith}
+use Rattle.std.proofs.Common.{◌≡◌, ◌≢◌, ℕ, suc, ◌%◌, ◌/◌, ◌==◌, Bool, true, false, List, [], ◌∷◌, length, slice_index, refl, sym, ap, subst, ◌∙◌, arith}
 use Rattle.std.proofs.lemmas.Bool.Decides.{nat_tests}
 use Rattle.bz_layout.specs.Addresses.{words_of}
 use Rattle.bz_script.specs.Draws.{next_state, draw_of}
@@ -13,13 +13,10 @@ use Rattle.bz_sched.specs.declared.running.RunEnd.TheVariants.{Finished, Limit}
 use Rattle.bz_sched.specs.Turns.{passing_from, busy_workers, drawn_worker, IsEviction, evicts, IsRoundBy, IsRound, after_round, RunsRounds, RunsTurns}
 use Rattle.bz_sched.specs.TurnsInPart.{StopsEvent, StopsTurn, StopsRoundBy, StopsRound, RunsRoundsInPart, RunsTurnsInPart}
 use Rattle.bz_sched.proofs.ReadyLemmas.{keeps_none, keeps_both, work_is}
+use Rattle.bz_sched.proofs.BusyLemmas.{same_list}
 
 -- the queue's own test lists the workers that the point does
-same_list : (test other : ℕ → Bool) (w more : ℕ) → ((v : ℕ) → test v ≡ other v) → passing_from test w more ≡ passing_from other w more
-same_list test other w zero same = refl
-same_list test other w (suc more) same = rw (same w, same_list test other (w + 1) more same) refl
-
-pub workers_are : (world : Lab) (queued : Queued) → IsReady world queued → passing_from (has_work queued) 1 64 ≡ busy_workers (point_of world queued)
+workers_are : (world : Lab) (queued : Queued) → IsReady world queued → passing_from (has_work queued) 1 64 ≡ busy_workers (point_of world queued)
 workers_are world queued ready = same_list (has_work queued) (λ w. is_busy w (point_of world queued)) 1 64 (λ w. work_is world queued w ready)
 
 -- rounds were made: what follows them follows from the start
@@ -35,18 +32,18 @@ drawing_none seed old queued ready = record {
   part = λ why rounds new runs. (rounds, runs);
 }
 
-some_listed : (queued : Queued) (workers : List ℕ) (busy : ℕ) → busy ≡ length (passing_from (has_work queued) 1 64) → passing_from (has_work queued) 1 64 ≡ workers → 0 < busy → workers ≢ []
-some_listed queued workers busy count is some none = absurd (omega (arith, some, count, ap length is, ap length none))
+-- a list of the busy workers that has one, and one that has none
+pub some_busy : (world : Lab) (queued : Queued) (busy : List ℕ) → IsReady world queued → busy ≡ passing_from (has_work queued) 1 64 → (length busy == 0) ≡ false → busy_workers (point_of world queued) ≢ []
+some_busy world queued busy ready listed some none =
+    let empty : length busy ≡ 0 = ap length (listed ∙ workers_are world queued ready ∙ none) in
+    absurd (grind (arith, nat_tests, some, empty))
 
-pub some_busy : (world : Lab) (queued : Queued) (busy : ℕ) → IsReady world queued → busy ≡ length (passing_from (has_work queued) 1 64) → 0 < busy → busy_workers (point_of world queued) ≢ []
-some_busy world queued busy ready count some = some_listed queued (busy_workers (point_of world queued)) busy count (workers_are world queued ready) some
-
-empty_list : (xs : List ℕ) → length xs ≡ 0 → xs ≡ []
+empty_list : (xs : List ℕ) → (length xs == 0) ≡ true → xs ≡ []
 empty_list [] is = refl
-empty_list (x ∷ xs) is = absurd (omega (arith, is))
+empty_list (x ∷ xs) is = absurd (grind (arith, nat_tests, is))
 
-pub none_busy : (world : Lab) (queued : Queued) (busy : ℕ) → IsReady world queued → busy ≡ length (passing_from (has_work queued) 1 64) → busy ≡ 0 → busy_workers (point_of world queued) ≡ []
-none_busy world queued busy ready count none = sym (workers_are world queued ready) ∙ empty_list (passing_from (has_work queued) 1 64) (sym count ∙ none)
+pub none_busy : (world : Lab) (queued : Queued) (busy : List ℕ) → IsReady world queued → busy ≡ passing_from (has_work queued) 1 64 → (length busy == 0) ≡ true → busy_workers (point_of world queued) ≡ []
+none_busy world queued busy ready listed none = sym (listed ∙ workers_are world queued ready) ∙ empty_list busy none
 
 -- a round more
 pub drawing_more : (words seed state : ℕ) (old : Lab) (queued : Queued) (world : Lab) (left : Queued) (new : Lab) (after : Queued) → words ≡ words_of world.config → Drawing words seed state old queued world left
@@ -71,14 +68,15 @@ drawing_stops words seed state old queued world left why new after d some (keeps
     (keeps_both old world new queued left after d.keeps keeps, d.part why 0 (point_of new after) (some, stops), met)
 
 -- the worker that is drawn
-drawn_from : (workers others : List ℕ) (draw busy w : ℕ) → workers ≡ others → busy ≡ length workers → w ≡ slice_index workers ((draw / 8) % busy) → w ≡ slice_index others ((draw / 8) % length others)
-drawn_from workers others draw busy w same count is = is ∙ ap (λ (n : ℕ). slice_index workers ((draw / 8) % n)) count ∙ ap (λ (list : List ℕ). slice_index list ((draw / 8) % length list)) same
+drawn_is : (world : Lab) (queued : Queued) (busy shown : List ℕ) (draw count : ℕ) → IsReady world queued → busy ≡ passing_from (has_work queued) 1 64 → shown ≡ busy → count ≡ length busy
+    → slice_index shown ((draw / 8) % count) ≡ drawn_worker draw (point_of world queued)
+drawn_is world queued busy shown draw count ready listed same is = rw (same, is) (ap (λ (list : List ℕ). slice_index list ((draw / 8) % length list)) (listed ∙ workers_are world queued ready))
 
-pub drawn_is : (world : Lab) (queued : Queued) (draw other busy w : ℕ) → IsReady world queued → other ≡ draw → busy ≡ length (passing_from (has_work queued) 1 64)
-    → w ≡ slice_index (passing_from (has_work queued) 1 64) ((other / 8) % busy) → w ≡ drawn_worker draw (point_of world queued)
-drawn_is world queued draw other busy w ready same count is =
-    drawn_from (passing_from (has_work queued) 1 64) (busy_workers (point_of world queued)) draw busy w (workers_are world queued ready) count
-    (is ∙ ap (λ (n : ℕ). slice_index (passing_from (has_work queued) 1 64) ((n / 8) % busy)) same)
+pub drawn_turn : (world : Lab) (queued : Queued) (busy shown : List ℕ) (draw count : ℕ) (end : RunEnd) (new : Lab) (left : Queued) → IsReady world queued → busy ≡ passing_from (has_work queued) 1 64 → shown ≡ busy → count ≡ length busy
+    → EndsBy (IsTurn (slice_index shown ((draw / 8) % count))) (λ why. StopsTurn why (slice_index shown ((draw / 8) % count))) world queued end new left
+    → EndsBy (IsTurn (drawn_worker draw (point_of world queued))) (λ why. StopsTurn why (drawn_worker draw (point_of world queued))) world queued end new left
+drawn_turn world queued busy shown draw count end new left ready listed same is ends =
+    subst (λ (w : ℕ). EndsBy (IsTurn w) (λ why. StopsTurn why w) world queued end new left) (drawn_is world queued busy shown draw count ready listed same is) ends
 
 -- the word that is drawn
 pub word_is : (draw other size words : ℕ) → draw ≡ other → size ≡ words → draw % size ≡ other % words

@@ -9,4 +9,5 @@ pub mod TurnLemmas
 pub mod WordLemmas
 pub mod AloneLemmas
 pub mod BusyLemmas
+pub mod OthersLemmas
 pub mod DrawLemmas

@@ -1,50 +1,34 @@
 //! Runs by the draws of the generator.
-ghost use Rattle.std.specs.Prelude.{◌≡◌, ◌<◌, ℕ, length, slice_index, true};
+ghost use Rattle.std.specs.Prelude.{◌≡◌, ◌<◌};
+ghost use Rattle.arrayvec.specs.ArrayVec.{array_vec_len};
 ghost use Rattle.bz_layout.specs.Addresses.{words_of};
 ghost use Rattle.bz_layout.specs.Config.{IsConfig};
 ghost use Rattle.bz_script.specs.Draws.{next_state};
+ghost use Rattle.bz_sched.specs.Points.{IsTurn};
 ghost use Rattle.bz_sched.specs.Queued.{Queued, has_work};
-ghost use Rattle.bz_sched.specs.Runs.{marks_left, IsReady, EndsBy};
-ghost use Rattle.bz_sched.specs.Turns.{passing_from, IsEviction, IsRound, after_round, RunsTurns};
-ghost use Rattle.bz_sched.specs.TurnsInPart.{StopsEvent, StopsRound, RunsTurnsInPart};
+ghost use Rattle.bz_sched.specs.Runs.{point_of, marks_left, IsReady, EndsBy};
+ghost use Rattle.bz_sched.specs.Turns.{passing_from, drawn_worker, IsEviction, IsRound, after_round, RunsTurns};
+ghost use Rattle.bz_sched.specs.TurnsInPart.{StopsEvent, StopsTurn, StopsRound, RunsTurnsInPart};
 ghost use Rattle.bz_sched.specs.declared.running.RunEnd.TheVariants.{Finished};
 
 use crate::queue::Queue;
 use crate::running::RunEnd;
 use crate::turn::take_turn;
+use arrayvec::ArrayVec;
 use bz_script::next_draw;
 use bz_world::{Applied, Event, Which, World};
 
-// How many workers have something to do.
-fn count_busy(queue: &Queue) -> u32
-    ensures { result ≡ length (passing_from (has_work queue.now) 1 64) }
+// The workers that have something to do, in ascending order.
+fn list_busy(queue: &Queue) -> ArrayVec<u8, 64>
+    ensures { result.items ≡ passing_from (has_work queue.now) 1 64 }
 {
-    let mut busy = 0u32;
+    let mut busy = ArrayVec::new();
     for w in 1..65u8 {
         if queue.has_work(w) {
-            busy += 1;
+            busy.push(w);
         }
     }
     busy
-}
-
-// The worker that has so many before it among those that have something to do.
-fn busy_worker(queue: &Queue, before: u32) -> u8
-    requires { before < length (passing_from (has_work queue.now) 1 64) }
-    ensures is { result ≡ slice_index (passing_from (has_work queue.now) 1 64) before }
-    ensures worker { result < 65 }
-    ensures busy { has_work queue.now result ≡ true }
-{
-    let mut left = before;
-    for w in 1..65u8 {
-        if queue.has_work(w) {
-            if left == 0 {
-                return w;
-            }
-            left -= 1;
-        }
-    }
-    unreachable!()
 }
 
 // Has a word become durable by itself.
@@ -61,12 +45,40 @@ fn evict(world: &mut World, a: u32) -> RunEnd
     }
 }
 
-// Draws, and makes the eviction or the turn that is drawn. So many workers have something to do.
-fn run_round(world: &mut World, queue: &mut Queue, state: &mut u64, busy: u32) -> RunEnd
+// Takes the turn of the worker that a draw names among the busy ones, and keeps their list true.
+fn take_drawn(
+    world: &mut World,
+    queue: &mut Queue,
+    busy: &mut ArrayVec<u8, 64>,
+    draw: u32,
+) -> RunEnd
     requires ready { IsReady world.old queue.old }
-    requires busy { busy ≡ length (passing_from (has_work queue.old) 1 64) }
-    requires some { 0 < busy }
+    requires busy { busy.old.items ≡ passing_from (has_work queue.old) 1 64 }
+    requires some { 0 < array_vec_len busy.old }
+    ensures ends { let w = drawn_worker draw (point_of world.old queue.old) in EndsBy (IsTurn w) (λ why. StopsTurn why w) world.old queue.old result world.new queue.new }
+    ensures busy { busy.new.items ≡ passing_from (has_work queue.new) 1 64 }
+    ensures left { result ≡ Finished → marks_left world.new < marks_left world.old }
+{
+    let w = busy.as_slice()[(draw / 8) as usize % busy.len()];
+    let end = take_turn(world, queue, w);
+    if !queue.has_work(w) {
+        *busy = list_busy(queue);
+    }
+    end
+}
+
+// Draws, and makes the eviction or the turn that is drawn, by the list of the busy workers.
+fn run_round(
+    world: &mut World,
+    queue: &mut Queue,
+    state: &mut u64,
+    busy: &mut ArrayVec<u8, 64>,
+) -> RunEnd
+    requires ready { IsReady world.old queue.old }
+    requires busy { busy.old.items ≡ passing_from (has_work queue.old) 1 64 }
+    requires some { 0 < array_vec_len busy.old }
     ensures ends { EndsBy (IsRound (words_of world.old.config) (next_state state.old)) (λ why. StopsRound why (next_state state.old)) world.old queue.old result world.new queue.new }
+    ensures busy { busy.new.items ≡ passing_from (has_work queue.new) 1 64 }
     ensures state { state.new ≡ after_round (next_state state.old) }
     ensures left { result ≡ Finished → marks_left world.new < marks_left world.old }
 {
@@ -75,8 +87,7 @@ fn run_round(world: &mut World, queue: &mut Queue, state: &mut u64, busy: u32) -
         let a = next_draw(state) % world.config().words();
         evict(world, a)
     } else {
-        let w = busy_worker(queue, draw / 8 % busy);
-        take_turn(world, queue, w)
+        take_drawn(world, queue, busy, draw)
     }
 }
 
@@ -86,14 +97,12 @@ pub(crate) fn run_turns(world: &mut World, queue: &mut Queue, seed: u64) -> RunE
     ensures { EndsBy (RunsTurns (words_of world.old.config) seed) (λ why. RunsTurnsInPart why (words_of world.old.config) seed) world.old queue.old result world.new queue.new }
 {
     let mut state = seed;
-    loop {
-        let busy = count_busy(queue);
-        if busy == 0 {
-            return RunEnd::Finished;
-        }
-        match run_round(world, queue, &mut state, busy) {
+    let mut busy = list_busy(queue);
+    while !busy.is_empty() {
+        match run_round(world, queue, &mut state, &mut busy) {
             RunEnd::Finished => {}
             RunEnd::Limit(which) => return RunEnd::Limit(which),
         }
     }
+    RunEnd::Finished
 }

@@ -1,5 +1,5 @@
 //! One turn of a worker.
-ghost use Rattle.std.specs.Prelude.{◌≡◌, ◌≢◌, ◌<◌, ◌≤◌, [], true, false};
+ghost use Rattle.std.specs.Prelude.{◌≡◌, ◌≢◌, ◌<◌, ◌≤◌, ℕ, [], true, false};
 ghost use Rattle.bz_sched.specs.Points.{GetsReady, TakesStep, IsTurn};
 ghost use Rattle.bz_sched.specs.Queued.{calls_of, has_open, has_work};
 ghost use Rattle.bz_sched.specs.Runs.{marks_left, IsReady, EndsBy};
@@ -18,6 +18,7 @@ fn begin_next(world: &mut World, queue: &mut Queue, w: u8) -> RunEnd
     requires some { calls_of w queue.old.calls ≢ [] }
     ensures ends { EndsBy (GetsReady w) (λ why. StopsBy why w) world.old queue.old result world.new queue.new }
     ensures open { result ≡ Finished → has_open queue.new w ≡ true }
+    ensures others { (v : ℕ) → v ≢ w → has_work queue.new v ≡ has_work queue.old v }
     ensures left { marks_left world.new ≤ marks_left world.old }
 {
     match queue.first(w) {
@@ -40,6 +41,7 @@ fn get_ready(world: &mut World, queue: &mut Queue, w: u8) -> RunEnd
     requires busy { has_work queue.old w ≡ true }
     ensures ends { EndsBy (GetsReady w) (λ why. StopsBy why w) world.old queue.old result world.new queue.new }
     ensures open { result ≡ Finished → has_open queue.new w ≡ true }
+    ensures others { (v : ℕ) → v ≢ w → has_work queue.new v ≡ has_work queue.old v }
     ensures left { marks_left world.new ≤ marks_left world.old }
 {
     if queue.has_open(w) {
@@ -54,6 +56,7 @@ fn step(world: &mut World, queue: &mut Queue, w: u8) -> RunEnd
     requires ready { IsReady world.old queue.old }
     requires open { has_open queue.old w ≡ true }
     ensures ends { EndsBy (TakesStep w) StopsEvent world.old queue.old result world.new queue.new }
+    ensures others { (v : ℕ) → v ≢ w → has_work queue.new v ≡ has_work queue.old v }
     ensures left { result ≡ Finished → marks_left world.new < marks_left world.old }
 {
     match world.apply(Event::Step(w)) {
@@ -73,6 +76,7 @@ pub(crate) fn take_turn(world: &mut World, queue: &mut Queue, w: u8) -> RunEnd
     requires ready { IsReady world.old queue.old }
     requires busy { has_work queue.old w ≡ true }
     ensures ends { EndsBy (IsTurn w) (λ why. StopsTurn why w) world.old queue.old result world.new queue.new }
+    ensures others { (v : ℕ) → v ≢ w → has_work queue.new v ≡ has_work queue.old v }
     ensures left { result ≡ Finished → marks_left world.new < marks_left world.old }
 {
     match get_ready(world, queue, w) {

@@ -1,7 +1,9 @@
-use Rattle.std.proofs.Common.{ap, ◌∙◌}
+use Rattle.std.proofs.Common.{ℕ, ap, ◌∙◌}
 use Rattle.bz_layout.specs.Addresses.{words_of}
 use Rattle.bz_script.specs.Draws.{next_state, draw_of}
-use Rattle.bz_sched.proofs.DrawLemmas.{drawn_is, word_is, eviction_round, turn_round, after_turn, draws_eviction, draws_turn}
+use Rattle.bz_sched.specs.Runs.{point_of}
+use Rattle.bz_sched.specs.Turns.{drawn_worker}
+use Rattle.bz_sched.proofs.DrawLemmas.{word_is, eviction_round, turn_round, after_turn, draws_eviction, draws_turn}
 use Rattle.bz_sched.proofs.draws.run_round.Goals as goal
 
 pub returns-then-draw-eq0-clause-ends : goal.returns-then-draw-eq0-clause-ends
@@ -16,8 +18,8 @@ pub returns-else-draw-eq0-clause-ends : goal.returns-else-draw-eq0-clause-ends
 returns-else-draw-eq0-clause-ends c =
     let first = c.next_draw-draw.ensures.draw ∙ ap draw_of c.next_draw-draw.ensures.state in
     let turned = draws_turn (next_state c.args.state.now) c.next_draw-draw.result first c.if-draw-eq0.false in
-    let drawn = drawn_is c.args.world.now c.args.queue.now (draw_of (next_state c.args.state.now)) c.next_draw-draw.result c.args.busy c.busy_worker-w.result c.requires.ready first c.requires.busy c.busy_worker-w.ensures.is in
-    turn_round (next_state c.args.state.now) (words_of c.args.world.now.config) c.busy_worker-w.result c.args.world.now c.args.queue.now c.take_turn.result c.take_turn.new.world c.take_turn.new.queue turned drawn c.take_turn.ensures.ends
+    let drawn = ap (λ (draw : ℕ). drawn_worker draw (point_of c.args.world.now c.args.queue.now)) first in
+    turn_round (next_state c.args.state.now) (words_of c.args.world.now.config) (drawn_worker c.next_draw-draw.result (point_of c.args.world.now c.args.queue.now)) c.args.world.now c.args.queue.now c.take_drawn.result c.take_drawn.new.world c.take_drawn.new.queue turned drawn c.take_drawn.ensures.ends
 
 pub returns-else-draw-eq0-clause-state : goal.returns-else-draw-eq0-clause-state
 returns-else-draw-eq0-clause-state c =

@@ -1,5 +1,6 @@
 use Rattle.std.proofs.Common.{sym, ◌∙◌, inl, inr}
 use Rattle.bz_sched.proofs.BeginLemmas.{Waits, no_stranger, not_busy, begins}
+use Rattle.bz_sched.proofs.OthersLemmas.{others_begun}
 use Rattle.bz_sched.proofs.turn.begin_next.Goals as goal
 
 pub unreachable-requires : goal.unreachable-requires
@@ -20,3 +21,6 @@ returns-in-Begun-clause-ends c =
       room = c.begin-in-Begun.ensures.room;
       begun = c.begin-in-Begun.ensures.begun;
     })
+
+pub returns-in-Begun-clause-others : goal.returns-in-Begun-clause-others
+returns-in-Begun-clause-others c = others_begun c.args.queue.now c.begin-in-Begun.new.self c.args.w c.begin-in-Begun.ensures.calls c.begin-in-Begun.ensures.begun

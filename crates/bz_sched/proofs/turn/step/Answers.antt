@@ -1,6 +1,7 @@
 use Rattle.std.proofs.Common.{inl, inr}
 use Rattle.bz_world.specs.declared.answers.Applied.TheVariants as applied
 use Rattle.bz_sched.proofs.StepLemmas.{stepped, step_goes_on, step_ends}
+use Rattle.bz_sched.proofs.OthersLemmas.{others_ended}
 use Rattle.bz_sched.proofs.turn.step.Goals as goal
 
 pub returns-in-Stepped-clause-ends : goal.returns-in-Stepped-clause-ends
@@ -16,3 +17,6 @@ returns-in-Ended-clause-ends c =
       | inl refused ↦ absurd (let other = refused.answered in cc)
       | inr goes ↦ step_ends c.args.world.now c.args.queue.now c.args.w c.in-Ended.field-0 c.apply.new.self c.end.new.self c.requires.ready c.requires.«open» goes c.end.ensures.calls c.end.ensures.room c.end.ensures.begun
     ]
+
+pub returns-in-Ended-clause-others : goal.returns-in-Ended-clause-others
+returns-in-Ended-clause-others c = others_ended c.args.queue.now c.end.new.self c.args.w c.end.ensures.calls c.end.ensures.begun

@@ -1,6 +1,0 @@
-use Rattle.bz_sched.specs.Queued.{has_work}
-use Rattle.bz_sched.proofs.BusyLemmas.{Counted}
-use Rattle.bz_sched.proofs.draws.count_busy.Given as goal
-
-abbrev pub invariant-loop-w : goal.invariant-loop-w
-invariant-loop-w l = Counted (has_work l.queue) l.w l.busy
