@@ -1,2 +1,12 @@
 mod Words
 mod LinkSwaps
+mod TwoEntries
+mod Restamping
+mod Basis
+mod InnerNodes
+mod FrozenLeaves
+mod Turns
+mod UnderRoot
+mod UnderNode
+mod Copies
+mod Renewing

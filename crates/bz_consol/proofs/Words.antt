@@ -1,11 +1,12 @@
 -- The words of slots before and after a swap.
-use Rattle.std.proofs.Common.{◌≡◌, ℕ, zero, suc, ◌+◌, ◌<◌, ◌≤◌, ◌==◌, ◌&&◌, ◌||◌, Bool, true, false, List, [], ◌∷◌, arith, refl, sym, ap, ◌∙◌, inl, inr}
+use Rattle.std.proofs.Common.{◌≡◌, ◌≢◌, ℕ, zero, suc, ◌+◌, ◌<◌, ◌≤◌, ◌==◌, ◌&&◌, ◌||◌, Bool, true, false, List, [], ◌∷◌, arith, refl, sym, ap, ◌∙◌, inl, inr}
 use Rattle.std.specs.Prelude.{nat_lt}
 use Rattle.std.proofs.lemmas.Bool.{cases_lt}
 use Rattle.std.proofs.lemmas.Bool.Decides.{nat_tests}
 use Rattle.bz_layout.specs.Addresses.{node_address}
 use Rattle.bz_layout.specs.declared.config.Config.{Config}
 use Rattle.bz_layout.specs.declared.sizes.TheConstants.{NODE_WORDS, SUPERBLOCK_WORDS}
+use Rattle.bz_shape.specs.Walk.{is_among}
 use Rattle.bz_slotted.specs.Tests.{every}
 use Rattle.bz_swap.specs.SwapMemory.{is_target}
 use Rattle.bz_word.specs.declared.entry.Entry.{Entry}
@@ -80,3 +81,18 @@ or-left false b e = absurd (cc)
 pub or-right : (a b : Bool) → b ≡ true → (a || b) ≡ true
 or-right true b e = refl
 or-right false b e = e
+
+-- the one slot of a list of one
+pub among-one : (a k : ℕ) → is_among (a ∷ []) k ≡ true → a ≡ k
+among-one a k e = go (a == k) refl e
+  where
+    go : (t : Bool) → (a == k) ≡ t → t || false ≡ true → a ≡ k
+    go true q h = grind (arith, nat_tests)
+    go false q h = absurd (cc)
+
+pub not-among : (a k : ℕ) → is_among (a ∷ []) k ≡ false → k ≢ a
+not-among a k e q = go (a == k) refl e
+  where
+    go : (t : Bool) → (a == k) ≡ t → t || false ≡ false → ⊥
+    go true p h = absurd (cc)
+    go false p h = absurd (grind (arith, nat_tests, q))

@@ -1,1 +1,2 @@
 pub mod LinkSwaps
+pub mod Renewals
