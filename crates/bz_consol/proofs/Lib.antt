@@ -8,5 +8,8 @@ mod FrozenLeaves
 mod Turns
 mod UnderRoot
 mod UnderNode
-mod Copies
+mod ReadyCopies
 mod Renewing
+mod Plainness
+mod LowFences
+mod Copying

@@ -18,7 +18,7 @@ use Rattle.bz_task.specs.declared.path.Link.{Link}
 use Rattle.bz_consol.specs.LinkSwaps.{IsFresh, IsLinkSwap}
 use Rattle.bz_consol.specs.Renewals.{renewal, IsRenewable, RenewalsAreGood}
 use Rattle.bz_consol.proofs.Basis.{Laws}
-use Rattle.bz_consol.proofs.Copies.{outside-tree, raw-is, durable-is}
+use Rattle.bz_consol.proofs.ReadyCopies.{outside-tree, raw-is, durable-is}
 use Rattle.bz_consol.proofs.FrozenLeaves.{frozen, place, leaf, says}
 use Rattle.bz_consol.proofs.Turns.{TurnsAt}
 use Rattle.bz_consol.proofs.UnderNode.{at-node}

@@ -1,4 +1,5 @@
 //! The consolidation of a frozen leaf: its visible records are copied into a fresh leaf, and one swap turns the link to it.
 #![tactic(auto)]
 
+mod copies;
 mod laws;

@@ -1,4 +1,4 @@
-mod Lookups
+pub mod Lookups
 mod Views
 mod Shows
 mod Firsts
