@@ -1,5 +1,5 @@
 -- The private stores and flushes of a task, and the slots that it takes.
-use Rattle.std.specs.Prelude.{◌≡◌, ◌≢◌, ℕ, ◌+◌, ◌==◌, ◌&&◌, ◌||◌, ◌≤◌, not, nat_le, Bool, length, drop}
+use Rattle.std.specs.Prelude.{◌≡◌, ◌≢◌, ℕ, ◌+◌, ◌==◌, ◌&&◌, ◌||◌, ◌≤◌, not, nat_le, Bool, true, false, length, drop}
 use Rattle.bz_layout.specs.Addresses.{node_address, slot_of, line_of}
 use Rattle.bz_layout.specs.Slots.{FreeSlots}
 use Rattle.bz_shape.specs.Walk.{is_among}
@@ -36,6 +36,10 @@ pub record AreTakenFrom (needed left : ℕ) (old new : FreeSlots) : Type 0 where
   pub fewer : number + left ≤ needed
   pub enough : number ≤ length old.free
   pub slots : new ≡ record old { free = drop number old.free }
+
+-- no link has led to a free slot
+abbrev pub AreUnreached : Scene → FreeSlots → Type 0
+AreUnreached s slots = (k : ℕ) → is_among slots.free k ≡ true → (here s).reached k ≡ false
 
 -- the slot was free and is so no more
 abbrev pub is_gained : FreeSlots → FreeSlots → ℕ → Bool

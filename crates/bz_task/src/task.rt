@@ -6,7 +6,7 @@ ghost use Rattle.bz_layout.specs.Slots.{FreeSlots};
 ghost use Rattle.bz_layout.specs.declared.config.Config.{Config};
 ghost use Rattle.bz_word.specs.declared.entry.Entry.{Entry};
 ghost use Rattle.bz_task.specs.Instant.{Instant};
-ghost use Rattle.bz_task.specs.OwnActs.{Stores, Flushes, AreTakenFrom, gained};
+ghost use Rattle.bz_task.specs.OwnActs.{Stores, Flushes, AreTakenFrom, AreUnreached, gained};
 ghost use Rattle.bz_task.specs.Requests.{IsAskable, Hears, Tells, IsKnown, IsCause};
 ghost use Rattle.bz_task.specs.Scene.{Scene, Stage, Waiting, Took, IsScene, IsLawful, HasFilled, here};
 ghost use Rattle.bz_task.specs.Swaps.{Change, Stand, SwapsTo, IsGoodSwap, Takes};
@@ -66,6 +66,8 @@ pub trait Task: Drop {
     fn next(&mut self, seen: Seen, slots: &mut Slots, moment: u32) -> Todo
         requires hears { Hears (asks self.old) seen }
         requires known { IsKnown (config self.old) (facts self.old) (asks self.old) seen moment }
+        // while it is still to take slots, these are the slots of its memory
+        requires memory { 0 < needs self.old → slots.old.nodes ≡ (config self.old).nodes }
         ensures asked { asks self.new ≡ Some result }
         ensures nearer { left self.new < left self.old }
         ensures config { config self.new ≡ config self.old }
@@ -78,8 +80,8 @@ pub trait Task: Drop {
         ensures no_swap { seen ≡ NoSwap → end self.new ≡ Some (Full Swaps) }
         ensures full_swaps { end self.new ≡ Some (Full Swaps) → seen ≡ NoSwap }
         ensures full_nodes { end self.new ≡ Some (Full Nodes) → length slots.old.free < needs self.old }
-        // what it learns, in every scene in which the answer is true
-        ensures learns { (stage : Stage) (s : Scene) → s.past.now ≡ moment → s.past.config ≡ config self.old → IsScene s → facts self.old stage s → Tells (asks self.old) stage seen s → facts self.new Waiting (gained s slots.old slots.new) };
+        // what it learns, in every scene in which the answer is true, and in which no link has led to a free slot
+        ensures learns { (stage : Stage) (s : Scene) → s.past.now ≡ moment → s.past.config ≡ config self.old → IsScene s → (0 < needs self.old → AreUnreached s slots.old) → facts self.old stage s → Tells (asks self.old) stage seen s → facts self.new Waiting (gained s slots.old slots.new) };
 
     /// Laws of what the task has learnt. Does nothing.
     fn learnt(&self)
