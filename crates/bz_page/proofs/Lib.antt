@@ -1,4 +1,4 @@
 pub mod Lookups
-mod Views
+pub mod Views
 mod Shows
 mod Firsts

@@ -81,7 +81,7 @@ module _ (b : ViewLaws) (from : List ℕ) (view : LeafView) (p : Past) (v : IsVi
       let shown : IsShown (words p.config (p.at view.at) view.slot) i = (b.shown _ _ (same-records _ _ durable-same) i).1 h in
       v.words i (shown-within _ _ _ _ w i h) shown ∙ sym (durable-same i shown)
 
-  says : (key : List ℕ) → found_of (node_of view.image.0) key ≡ found_of (durable p.config (p.at view.at) view.slot) key
+  pub says : (key : List ℕ) → found_of (node_of view.image.0) key ≡ found_of (durable p.config (p.at view.at) view.slot) key
   says = (b.seen p.config.nodes (node p.config (p.at view.at).image view.slot) (durable p.config (p.at view.at) view.slot) (node_of view.image.0) _ _ leaf.whole view-same).found
 
   -- of each key in the leaf's range the view says what the image holds
