@@ -11,7 +11,7 @@ use Rattle.bz_content.specs.Content.{IsWellFormed, view_in}
 use Rattle.bz_content.specs.Laws.{WellFormedImagesHaveNoFault, PlainWordsStandForThemselves, ConsolidationsKeepTheContent}
 use Rattle.bz_task.specs.Good.{IsGood}
 use Rattle.bz_task.specs.Instant.{Instant, form_at}
-use Rattle.bz_task.specs.Laws.{NodesStay, FrozenNodesStay, FrontsStay, RangesStay, RootsAreReached, HeadersSayTheLevel, SameRecordsShowTheSame, SwapsShowInSlots, SeenLeavesAreWhole, LeavesAreInTrees}
+use Rattle.bz_task.specs.Laws.{NodesStay, FrozenNodesStay, FrontsStay, RangesStay, SeparatorsStay, RootsAreReached, HeadersSayTheLevel, SameRecordsShowTheSame, SwapsShowInSlots, SeenLeavesAreWhole, LeavesAreInTrees}
 use Rattle.bz_consol.specs.LinkSwaps.{LinkSwapsAreGood}
 
 pub record Laws : Type 0 where
@@ -26,6 +26,7 @@ pub record Laws : Type 0 where
   pub frozen : FrozenNodesStay
   pub fronts : FrontsStay
   pub ranges : RangesStay
+  pub separators : SeparatorsStay
   pub roots : RootsAreReached
   pub headers : HeadersSayTheLevel
   pub shown : SameRecordsShowTheSame

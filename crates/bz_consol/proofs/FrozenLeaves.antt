@@ -12,7 +12,7 @@ use Rattle.bz_task.specs.Shown.{SameWords, SameNode, SameRecords}
 use Rattle.bz_consol.specs.Renewals.{WasFrozenLeaf}
 use Rattle.bz_consol.proofs.Basis.{Laws}
 
-same-records : (n m : ℕ → ℕ) → SameWords n m → SameRecords n m
+pub same-records : (n m : ℕ → ℕ) → SameWords n m → SameRecords n m
 same-records n m s = record {
   count = ap (λ z. (status z).count) (s STATUS_AT (inl (omega arith)));
   block = ap (λ z. (status z).block) (s STATUS_AT (inl (omega arith)));

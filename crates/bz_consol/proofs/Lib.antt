@@ -13,3 +13,10 @@ mod Renewing
 mod Plainness
 mod LowFences
 mod Copying
+mod Turnable
+mod Writes
+mod Staying
+mod Knowing
+mod Slots
+mod Acting
+mod Viewing

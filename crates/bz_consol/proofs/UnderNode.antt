@@ -51,7 +51,7 @@ module _ (b : Laws) (s : Scene) (link : Link) (good : IsScene s) (guard : IsGuar
   pub guard-plain : link.status < 2 ^ 61
   guard-plain = subst (λ z. z < 2 ^ 61) then-status (plain b s.past.config (s.past.at guard.guarded) under.parent then-good then-open)
 
-  moments : AreMoments s.past.since s.past.now guard.guarded s.past.now
+  pub moments : AreMoments s.past.since s.past.now guard.guarded s.past.now
   moments = record { since = guard.since; order = omega (arith, guard.order, guard.now); until = omega arith }
 
   pub now-reached : (here s).reached under.parent ≡ true

@@ -1,2 +1,5 @@
+pub mod Duties
+pub mod Facts
 pub mod LinkSwaps
 pub mod Renewals
+pub mod Writing

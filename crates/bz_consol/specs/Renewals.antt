@@ -1,6 +1,6 @@
 -- The swap of a consolidation: the link to a frozen leaf goes to the slot in which its records stand anew, and the guard of
 -- the link gets its next stamp.
-use Rattle.std.specs.Prelude.{◌≡◌, ℕ, ◌+◌, ◌<◌, ◌≤◌, true, false, List, [], ◌∷◌, None}
+use Rattle.std.specs.Prelude.{◌≡◌, ◌≢◌, ℕ, ◌+◌, ◌^◌, ◌<◌, ◌≤◌, true, false, List, [], ◌∷◌, None}
 use Rattle.bz_layout.specs.Addresses.{node_address}
 use Rattle.bz_layout.specs.declared.sizes.TheConstants.{NODE_WORDS}
 use Rattle.bz_slotted.specs.Readers.{found_of}
@@ -10,6 +10,7 @@ use Rattle.bz_word.specs.Statuses.{status, status_word}
 use Rattle.bz_word.specs.declared.entry.Entry.{Entry}
 use Rattle.bz_task.specs.Instant.{Instant, words, page_at, form_at, is_inside}
 use Rattle.bz_task.specs.Outcomes.{IsGuarded}
+use Rattle.bz_task.specs.Requests.{IsTarget}
 use Rattle.bz_task.specs.Scene.{Past, Scene, IsScene, here}
 use Rattle.bz_task.specs.Steps.{next_stamp}
 use Rattle.bz_task.specs.Swaps.{Change, Stand, SwapsTo, IsMineAndDurable, IsGoodSwap}
@@ -59,3 +60,13 @@ abbrev pub RenewalsAreGood : Type 0
 RenewalsAreGood =
     (change : Change) (s : Scene) (y : Instant) (link : Link) (new m : ℕ) → IsScene s → IsRenewable link new m s → Stand (renewal link new) (here s) →
     SwapsTo s.past.config (renewal link new) (here s) y → IsGoodSwap false change (renewal link new) s y
+
+-- the two addresses of a link that was read may be named by a swap
+pub record IsTurnable (link : Link) (s : Scene) : Type 0 where
+  pub plain : link.status < 2 ^ 61
+  pub apart : link.link ≢ link.guard
+  pub link_target : IsTarget s link.link
+  pub guard_target : IsTarget s link.guard
+
+abbrev pub LinksMayBeTurned : Type 0
+LinksMayBeTurned = (s : Scene) (link : Link) → IsScene s → IsGuarded s.past link → (status link.status).frozen ≡ false → IsTurnable link s

@@ -17,8 +17,8 @@ use bz_word::Header;
 
 const BYTES_IN_WORD: u32 = 7;
 
-// An image has its 128 words. Does nothing.
-fn is_whole(image: &NodeImage)
+/// An image has its 128 words. Does nothing.
+pub(crate) fn is_whole(image: &NodeImage)
     ensures { length image.now.0 ≡ 128 }
 {
     let _words = image.0;

@@ -1,7 +1,7 @@
 //! What swaps of links lead to. Each function does nothing: its contract is the law.
 
 ghost use Rattle.bz_consol.specs.LinkSwaps.{LinkSwapsAreGood};
-ghost use Rattle.bz_consol.specs.Renewals.{RenewalsAreGood};
+ghost use Rattle.bz_consol.specs.Renewals.{RenewalsAreGood, LinksMayBeTurned};
 
 use bz_content::laws as content;
 use bz_shape::laws as shape;
@@ -17,9 +17,10 @@ pub(crate) fn link_swaps_are_good()
 }
 
 // The swap by which a copy of a frozen leaf takes its place, below the root pointer or an inner node, is lawful for everybody
-// and changes no content.
+// and changes no content; and its two addresses may be named.
 pub(crate) fn renewals_are_good()
-    ensures { RenewalsAreGood }
+    ensures good { RenewalsAreGood }
+    ensures asked { LinksMayBeTurned }
 {
     content::well_formed_images_have_no_fault();
     content::plain_words_stand_for_themselves();
@@ -32,6 +33,7 @@ pub(crate) fn renewals_are_good()
     laws::frozen_nodes_stay();
     laws::fronts_stay();
     laws::ranges_stay();
+    laws::separators_stay();
     laws::roots_are_reached();
     laws::headers_say_the_level();
     laws::same_records_show_the_same();

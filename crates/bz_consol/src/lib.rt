@@ -1,5 +1,11 @@
 //! The consolidation of a frozen leaf: its visible records are copied into a fresh leaf, and one swap turns the link to it.
 #![tactic(auto)]
 
+mod consolidate;
 mod copies;
 mod laws;
+mod phase;
+mod slot;
+mod swaps;
+
+pub use consolidate::Consolidate;

@@ -1,0 +1,112 @@
+-- What a consolidation knows stays.
+use Rattle.std.proofs.Common.{ℕ, ◌+◌, ◌<◌, ◌≤◌, List, arith, sym, ap, subst, ◌∙◌, inl, inr}
+use Rattle.bz_layout.specs.Addresses.{node_address}
+use Rattle.bz_layout.specs.Slots.{FreeSlots}
+use Rattle.bz_layout.specs.declared.sizes.TheConstants.{STATUS_AT, NODE_WORDS}
+use Rattle.bz_slotted.specs.ReadingLaws.{node_of}
+use Rattle.bz_task.specs.Instant.{words, page_at, form_at, is_inside}
+use Rattle.bz_task.specs.Laws.{NothingIsGained, SaysAlike}
+use Rattle.bz_task.specs.OwnActs.{gained}
+use Rattle.bz_task.specs.Outcomes.{IsUnderNode, IsGuarded}
+use Rattle.bz_task.specs.Requests.{IsPointerPlace}
+use Rattle.bz_task.specs.Scene.{Past, Scene, Stage, Waiting, Took, IsLawful, Continues, HasFilled}
+use Rattle.bz_task.specs.declared.path.Link.{Link}
+use Rattle.bz_consol.specs.Facts.{Renewal, HasViewed, IsCopying, HasFilledBut, NODE_LINES, consol_facts}
+use Rattle.bz_consol.specs.Renewals.{WasFrozenLeaf}
+use Rattle.bz_consol.specs.declared.phase.Phase.{Phase}
+use Rattle.bz_consol.specs.declared.phase.Phase.TheVariants.{Fresh, Store, Flush, Swap, Done, Restart, NoSlot, NoSwap}
+use Rattle.bz_consol.proofs.Writes.{writing-stays, writing-no-slot, filled-no-slot}
+
+module _ (p q : Past) (c : Continues p q) where
+  under-stays : (link : Link) (m : ℕ) → m ≤ p.now → IsUnderNode p link m → IsUnderNode q link m
+  under-stays link m l u = record {
+    parent = u.parent;
+    place = u.place;
+    reached = ap (λ x. x.reached u.parent) (c.at m l) ∙ u.reached;
+    within = u.within;
+    child = subst (λ z. IsPointerPlace z u.place) (λ t. page_at (sym c.config t) (sym (c.at m l) t) u.parent) u.child;
+    pointer = u.pointer ∙ ap (λ z. node_address z u.parent + u.place) (sym c.config);
+    guard = u.guard ∙ ap (λ z. node_address z u.parent + STATUS_AT) (sym c.config);
+  }
+
+  guarded-stays : (link : Link) → IsGuarded p link → IsGuarded q link
+  guarded-stays link g =
+      let l : g.guarded ≤ p.now = omega (arith, g.order, g.now) in record {
+        guarded = g.guarded;
+        read = g.read;
+        since = omega (arith, g.since, c.since);
+        order = g.order;
+        now = omega (arith, g.now, c.now);
+        under = elim g.under [ inl u ↦ inl u | inr u ↦ inr (under-stays link g.guarded l u) ];
+        status = ap (λ x. x.value link.guard) (c.at g.guarded l) ∙ g.status;
+        slot = ap (λ x. x.value link.link) (c.at g.read g.now) ∙ g.slot;
+      }
+
+  frozen-leaf-stays : (k m : ℕ) → WasFrozenLeaf k m p → WasFrozenLeaf k m q
+  frozen-leaf-stays k m w = record {
+    since = omega (arith, w.since, c.since);
+    now = omega (arith, w.now, c.now);
+    slot = subst (λ z. k < z.nodes) (sym c.config) w.slot;
+    inside = (λ t. is_inside (c.config t) (c.at m w.now t) k) ∙ w.inside;
+    leaf = (λ t. (form_at (c.config t) (c.at m w.now t)).level k) ∙ w.leaf;
+    frozen = (λ t. (page_at (c.config t) (c.at m w.now t) k).frozen) ∙ w.frozen;
+  }
+
+  pub viewed-stays : (link : Link) (image : List ℕ) → HasViewed link image p → HasViewed link image q
+  viewed-stays link image v = record {
+    guard = guarded-stays link v.guard;
+    thawed = v.thawed;
+    moment = v.moment;
+    leaf = frozen-leaf-stays link.slot v.moment v.leaf;
+    alike = alike-stays v.moment v.leaf.now v.alike;
+    size = v.size;
+    plain = v.plain;
+  }
+    where
+      alike-stays : (m : ℕ) (l : m ≤ p.now) → SaysAlike p.config.nodes (words p.config (p.at m) link.slot) (node_of image) ((form_at p.config (p.at m)).low link.slot) ((form_at p.config (p.at m)).high link.slot)
+          → SaysAlike q.config.nodes (words q.config (q.at m) link.slot) (node_of image) ((form_at q.config (q.at m)).low link.slot) ((form_at q.config (q.at m)).high link.slot)
+      alike-stays m l a = subst (λ z. SaysAlike z.nodes (words z (q.at m) link.slot) (node_of image) ((form_at z (q.at m)).low link.slot) ((form_at z (q.at m)).high link.slot)) (sym c.config)
+          (subst (λ z. SaysAlike p.config.nodes (words p.config z link.slot) (node_of image) ((form_at p.config z).low link.slot) ((form_at p.config z).high link.slot)) (sym (c.at m l)) a)
+
+module _ (r : Renewal) (s after : Scene) (l : IsLawful s after) where
+  copying : (count lines : ℕ) → IsCopying r count lines s → IsCopying r count lines after
+  copying count lines f = record { viewed = viewed-stays s.past after.past l.continues r.link r.image f.viewed; writing = writing-stays r.slot r.image count lines s after f.writing l }
+
+  filled : HasFilled s → HasFilled after
+  filled f k t = l.filled k ∙ f k (sym (l.took k) ∙ t)
+
+  filled-but : HasFilledBut r.slot s → HasFilledBut r.slot after
+  filled-but f k t ne = l.filled k ∙ f k (sym (l.took k) ∙ t) ne
+
+  pub stable : (phase : Phase) (stage : Stage) → consol_facts r phase stage s → consol_facts r phase stage after
+  stable Fresh Waiting f = viewed-stays s.past after.past l.continues r.link r.image f
+  stable (Store i) Waiting f = (filled-but f.0, (f.1.0, copying i 0 f.1.1))
+  stable (Store i) Took f = (filled f.0, (f.1.0, copying (i + 1) 0 f.1.1))
+  stable (Flush n) Waiting f = (filled f.0, (f.1.0, copying NODE_WORDS n f.1.1))
+  stable (Flush n) Took f = (filled f.0, (f.1.0, copying NODE_WORDS (n + 1) f.1.1))
+  stable Swap Waiting f = (filled f.0, copying NODE_WORDS NODE_LINES f.1)
+  stable Swap Took f = filled f
+  stable Done Waiting f = filled f
+  stable Restart Waiting f = filled f
+  stable NoSlot Waiting f = filled f
+  stable NoSwap Waiting f = filled f
+  stable Fresh Took f = absurd (f)
+  stable Done Took f = absurd (f)
+  stable Restart Took f = absurd (f)
+  stable NoSlot Took f = absurd (f)
+  stable NoSwap Took f = absurd (f)
+
+-- it stays where no slot is taken
+module _ (nothing : NothingIsGained) (r : Renewal) (s : Scene) (free : FreeSlots) where
+  copying-too : (count lines : ℕ) → IsCopying r count lines s → IsCopying r count lines (gained s free free)
+  copying-too count lines f = record { viewed = f.viewed; writing = writing-no-slot r.slot r.image count lines s free f.writing }
+
+  pub no-slot : (phase : Phase) → consol_facts r phase Waiting s → consol_facts r phase Waiting (gained s free free)
+  no-slot Fresh f = f
+  no-slot (Store i) f = (filled-no-slot r.slot s free f.0, (f.1.0, copying-too i 0 f.1.1))
+  no-slot (Flush n) f = (nothing s free f.0, (f.1.0, copying-too NODE_WORDS n f.1.1))
+  no-slot Swap f = (nothing s free f.0, copying-too NODE_WORDS NODE_LINES f.1)
+  no-slot Done f = nothing s free f
+  no-slot Restart f = nothing s free f
+  no-slot NoSlot f = nothing s free f
+  no-slot NoSwap f = nothing s free f

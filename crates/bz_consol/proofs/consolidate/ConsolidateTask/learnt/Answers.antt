@@ -1,0 +1,11 @@
+use Rattle.bz_consol.specs.Duties.{renewal_of}
+use Rattle.bz_consol.proofs.Acting.{askable}
+use Rattle.bz_consol.proofs.Staying.{stable}
+use Rattle.bz_consol.proofs.consolidate.ConsolidateTask.learnt.Goals as goal
+
+pub returns-clause-stable : goal.returns-clause-stable
+returns-clause-stable c stage s after same f good l = stable (renewal_of c.args.self.now) s after l c.args.self.now.phase stage f
+
+pub returns-clause-askable : goal.returns-clause-askable
+returns-clause-askable c s todo same f good e =
+    let t = c.args.self.now in askable c.renewals_are_good.ensures.asked c.statuses.ensures t.config (renewal_of t) t.phase s todo same f good e

@@ -1,0 +1,25 @@
+-- A consolidation as a task.
+use Rattle.std.specs.Prelude.{ℕ, Option}
+use Rattle.bz_task.specs.Scene.{Scene, Stage}
+use Rattle.bz_task.specs.declared.todo.Outcome.{Outcome}
+use Rattle.bz_task.specs.declared.todo.Todo.{Todo}
+use Rattle.bz_consol.specs.Facts.{Renewal, consol_asks, consol_end, consol_left, consol_needs, consol_facts}
+use Rattle.bz_consol.specs.declared.consolidate.Consolidate.{Consolidate}
+
+abbrev pub renewal_of : Consolidate → Renewal
+renewal_of t = record { link = t.link; image = t.image.0; slot = t.slot }
+
+abbrev pub asks_of : Consolidate → Option Todo
+asks_of t = consol_asks t.config (renewal_of t) t.phase
+
+abbrev pub end_of : Consolidate → Option Outcome
+end_of t = consol_end t.phase
+
+abbrev pub left_of : Consolidate → ℕ
+left_of t = consol_left t.phase
+
+abbrev pub needs_of : Consolidate → ℕ
+needs_of t = consol_needs t.phase
+
+abbrev pub facts_of : Consolidate → Stage → Scene → Type 0
+facts_of t = consol_facts (renewal_of t) t.phase

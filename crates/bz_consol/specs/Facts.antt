@@ -1,0 +1,127 @@
+-- What a consolidation knows, and what it asks for.
+use Rattle.std.specs.Prelude.{◌≡◌, ◌≢◌, ℕ, ◌+◌, ◌-◌, ◌^◌, ◌<◌, nat_lt, if◌then◌else◌, true, false, List, [], All, Option, Some, None, slice_get, slice_index, length}
+use Rattle.bz_call.specs.declared.replies.Spent.TheVariants.{Nodes, Swaps}
+use Rattle.bz_layout.specs.Addresses.{node_address, line_of}
+use Rattle.bz_layout.specs.Slots.{FreeSlots}
+use Rattle.bz_layout.specs.declared.config.Config.{Config}
+use Rattle.bz_layout.specs.declared.sizes.TheConstants.{NODE_WORDS}
+use Rattle.bz_slotted.specs.ReadingLaws.{node_of}
+use Rattle.bz_word.specs.Statuses.{status}
+use Rattle.bz_task.specs.Instant.{words, form_at}
+use Rattle.bz_task.specs.Laws.{SaysAlike}
+use Rattle.bz_task.specs.Outcomes.{IsGuarded}
+use Rattle.bz_task.specs.Scene.{Past, Scene, Stage, Waiting, Took, HasFilled}
+use Rattle.bz_task.specs.Swaps.{Change}
+use Rattle.bz_task.specs.declared.path.Link.{Link}
+use Rattle.bz_task.specs.declared.path.Path.{Path}
+use Rattle.bz_task.specs.declared.todo.Outcome.{Outcome}
+use Rattle.bz_task.specs.declared.todo.Outcome.TheVariants.{Done as IsDone, Restart as Restarts, Full as IsFull}
+use Rattle.bz_task.specs.declared.todo.Todo.{Todo}
+use Rattle.bz_task.specs.declared.todo.Todo.TheVariants.{Store as Stores_at, Flush as Flushes_line, Swap as Swaps_for, Finish}
+use Rattle.bz_consol.specs.Renewals.{renewal, WasFrozenLeaf}
+use Rattle.bz_consol.specs.Writing.{IsWriting, IsTaken}
+use Rattle.bz_consol.specs.declared.phase.Phase.{Phase}
+use Rattle.bz_consol.specs.declared.phase.Phase.TheVariants.{Fresh, Store, Flush, Swap, Done, Restart, NoSlot, NoSwap}
+
+-- the lines of a node
+abbrev pub NODE_LINES : ℕ
+NODE_LINES = 16
+
+-- the link that is turned, the words of the copy, and the slot that they are stored into
+pub record Renewal : Type 0 where
+  pub link : Link
+  pub image : List ℕ
+  pub slot : ℕ
+
+abbrev pub consol_asks : Config → Renewal → Phase → Option Todo
+consol_asks c r Fresh = None
+consol_asks c r (Store i) = Some (Stores_at (node_address c r.slot + i) (slice_index r.image i))
+consol_asks c r (Flush n) = Some (Flushes_line (line_of (node_address c r.slot) + n))
+consol_asks c r Swap = Some (Swaps_for (renewal r.link r.slot))
+consol_asks c r phase = Some Finish
+
+abbrev pub consol_end : Phase → Option Outcome
+consol_end Done = Some IsDone
+consol_end Restart = Some Restarts
+consol_end NoSlot = Some (IsFull Nodes)
+consol_end NoSwap = Some (IsFull Swaps)
+consol_end phase = None
+
+-- the most acts: a store for each word, a flush for each line, and the swap
+abbrev pub consol_left : Phase → ℕ
+consol_left Fresh = 146
+consol_left (Store i) = 145 - i
+consol_left (Flush n) = 17 - n
+consol_left Swap = 1
+consol_left phase = 0
+
+abbrev pub consol_needs : Phase → ℕ
+consol_needs Fresh = 1
+consol_needs phase = 0
+
+-- after a store comes the next one, or the first flush; after a flush the next one, or the swap
+abbrev pub next_store : ℕ → Phase
+next_store i = if nat_lt (i + 1) NODE_WORDS then Store (i + 1) else Flush 0
+
+abbrev pub next_flush : ℕ → Phase
+next_flush n = if nat_lt (n + 1) NODE_LINES then Flush (n + 1) else Swap
+
+-- the last link of the path leads to this slot, and its guard, as it was read, was no frozen node's
+abbrev pub LeadsTo : Path → ℕ → Type 0
+LeadsTo path k = (link : Link) → slice_get path.links (path.depth - 1) ≡ Some link → (link.slot ≡ k) × ((status link.status).frozen ≡ false)
+
+-- the guard of the link was read, and was no frozen node's; the leaf to which it leads was frozen, and the words of the copy
+-- say what it says
+pub record HasViewed (link : Link) (image : List ℕ) (p : Past) : Type 0 where
+  pub guard : IsGuarded p link
+  pub thawed : (status link.status).frozen ≡ false
+  pub moment : ℕ
+  pub leaf : WasFrozenLeaf link.slot moment p
+  pub alike : SaysAlike p.config.nodes (words p.config (p.at moment) link.slot) (node_of image) ((form_at p.config (p.at moment)).low link.slot) ((form_at p.config (p.at moment)).high link.slot)
+  pub size : length image ≡ NODE_WORDS
+  pub plain : All (λ v. v < 2 ^ 61) image
+
+-- so many of the words of the copy are stored, and so many of its lines durable
+pub record IsCopying (r : Renewal) (count lines : ℕ) (s : Scene) : Type 0 where
+  pub viewed : HasViewed r.link r.image s.past
+  pub writing : IsWriting r.slot r.image count lines s
+
+-- every other slot that this worker took has been stored into
+abbrev pub HasFilledBut : ℕ → Scene → Type 0
+HasFilledBut slot s = (k : ℕ) → s.took k ≡ true → k ≢ slot → s.filled k ≡ true
+
+abbrev pub consol_facts : Renewal → Phase → Stage → Scene → Type 0
+consol_facts r Fresh Waiting s = HasViewed r.link r.image s.past
+consol_facts r (Store i) Waiting s = HasFilledBut r.slot s × ((i < NODE_WORDS) × IsCopying r i 0 s)
+consol_facts r (Store i) Took s = HasFilled s × ((i < NODE_WORDS) × IsCopying r (i + 1) 0 s)
+consol_facts r (Flush n) Waiting s = HasFilled s × ((n < NODE_LINES) × IsCopying r NODE_WORDS n s)
+consol_facts r (Flush n) Took s = HasFilled s × ((n < NODE_LINES) × IsCopying r NODE_WORDS (n + 1) s)
+consol_facts r Swap Waiting s = HasFilled s × IsCopying r NODE_WORDS NODE_LINES s
+consol_facts r Swap Took s = HasFilled s
+consol_facts r Fresh Took s = ⊥
+consol_facts r phase Waiting s = HasFilled s
+consol_facts r phase Took s = ⊥
+
+abbrev pub consol_means : Outcome → Scene → Type 0
+consol_means IsDone s = Unit {0}
+consol_means Restarts s = Unit {0}
+consol_means (IsFull Nodes) s = Unit {0}
+consol_means (IsFull Swaps) s = Unit {0}
+consol_means outcome s = ⊥
+
+-- a consolidation makes no change
+abbrev pub consol_change : Change
+consol_change = record { key = []; old = None; new = None }
+
+-- what is named is there
+abbrev pub IsReady : Config → Renewal → Phase → Type 0
+IsReady c r (Store i) = (r.slot < c.nodes) × (i < NODE_WORDS)
+IsReady c r (Flush n) = (r.slot < c.nodes) × (n < NODE_LINES)
+IsReady c r Swap = (r.slot < c.nodes) × ((r.link.status < 2 ^ 61) × (r.link.link ≢ r.link.guard))
+IsReady c r phase = Unit {0}
+
+-- a slot was taken for the copy, or there was none
+abbrev pub HasBegun : ℕ → Phase → FreeSlots → FreeSlots → Type 0
+HasBegun slot (Store i) old new = (i ≡ 0) × (IsTaken slot old new × (new.nodes ≡ old.nodes))
+HasBegun slot NoSlot old new = (length old.free < 1) × (new ≡ old)
+HasBegun slot phase old new = ⊥

@@ -1,0 +1,20 @@
+-- How the words of a copy are stored into a slot, one by one, and become durable, line by line; and how a slot is taken.
+use Rattle.std.specs.Prelude.{◌≡◌, ℕ, ◌+◌, ◌*◌, ◌<◌, false, List, ◌∷◌, slice_index}
+use Rattle.bz_layout.specs.Addresses.{node_address}
+use Rattle.bz_layout.specs.Slots.{FreeSlots}
+use Rattle.bz_layout.specs.declared.sizes.TheConstants.{NODE_WORDS, LINE_WORDS}
+use Rattle.bz_shape.specs.Walk.{is_among}
+use Rattle.bz_task.specs.Scene.{Scene, IsMine, IsFlushed, here}
+
+-- all words of the slot are the worker's own; the first so many are stored, and the first so many lines of them durable
+pub record IsWriting (k : ℕ) (image : List ℕ) (count lines : ℕ) (s : Scene) : Type 0 where
+  pub slot : k < s.past.config.nodes
+  pub mine : (i : ℕ) → i < NODE_WORDS → IsMine s (node_address s.past.config k + i)
+  pub stored : (i : ℕ) → i < NODE_WORDS → i < count → (here s).value (node_address s.past.config k + i) ≡ slice_index image i
+  pub flushed : (i : ℕ) → i < NODE_WORDS → i < LINE_WORDS * lines → IsFlushed s (node_address s.past.config k + i)
+
+-- the first of the free slots is taken
+pub record IsTaken (k : ℕ) (old new : FreeSlots) : Type 0 where
+  pub first : old.free ≡ k ∷ new.free
+  pub slot : k < old.nodes
+  pub gone : is_among new.free k ≡ false

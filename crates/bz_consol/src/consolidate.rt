@@ -1,0 +1,254 @@
+//! The task that consolidates a frozen leaf.
+
+ghost use Rattle.std.specs.Prelude.{◌≡◌, ◌≢◌, ◌↔◌, ◌-◌, ◌<◌, ◌≤◌, ◌^◌, ℕ, List, Some, None, true, false, slice_get, length};
+ghost use Rattle.bz_layout.specs.Config.{IsConfig};
+ghost use Rattle.bz_page.specs.Pages.{IsLeafByItself};
+ghost use Rattle.bz_word.specs.Statuses.{status};
+ghost use Rattle.bz_task.specs.Outcomes.{IsPath, IsView};
+ghost use Rattle.bz_task.specs.OwnActs.{AreTakenFrom, AreUnreached, gained};
+ghost use Rattle.bz_task.specs.Requests.{Hears, Tells, IsKnown};
+ghost use Rattle.bz_task.specs.Scene.{Scene, Stage, Waiting, IsScene};
+ghost use Rattle.bz_task.specs.declared.todo.Seen.TheVariants.{Swapped, NoSwap as NoneLeft};
+ghost use Rattle.bz_consol.specs.Duties.{renewal_of, asks_of, end_of, left_of, needs_of, facts_of};
+ghost use Rattle.bz_consol.specs.Facts.{HasBegun, consol_asks, consol_left, consol_facts, consol_means, consol_change, IsReady, LeadsTo, next_store, next_flush};
+
+use crate::copies::{copy_of, is_whole};
+use crate::laws::renewals_are_good;
+use crate::phase::Phase;
+use crate::slot::take_one;
+use crate::swaps::swap_of;
+use bz_call::Spent;
+use bz_content::laws as content;
+use bz_key::PageBuf;
+use bz_layout::{Config, LINE_WORDS, NODE_WORDS, Slots};
+use bz_node::NodeImage;
+use bz_shape::laws as shape;
+use bz_slotted::laws as slotted;
+use bz_task::{LeafView, Link, Outcome, Path, Seen, Task, Todo, laws};
+
+const NODE_LINES: u32 = NODE_WORDS / LINE_WORDS;
+
+/// The consolidation of the frozen leaf that a view shows. It ends with Done where the copy has taken the leaf's place, with
+/// Restart where the link or its guard was another one, and with Full where no slot or no descriptor was left.
+#[derive(Drop)]
+pub struct Consolidate {
+    config: Config,
+    // the link that is turned
+    link: Link,
+    // the words of the copy, and the slot that they are stored into
+    image: NodeImage,
+    slot: u16,
+    phase: Phase,
+}
+
+impl Consolidate {
+    /// The consolidation of a leaf that was frozen when it was viewed. Its records are left in `page`.
+    pub fn new(config: &Config, path: Path, view: LeafView, page: &mut PageBuf) -> Consolidate
+        requires some { 1 ≤ path.depth }
+        requires few { path.depth ≤ 12 }
+        requires leaf { IsLeafByItself view.image.0 }
+        requires frozen { (status view.status).frozen ≡ true }
+        requires leads { LeadsTo path view.slot }
+        ensures config { ⟦<Consolidate as Task>⟧.config result ≡ config.now }
+        ensures asks { ⟦<Consolidate as Task>⟧.asks result ≡ None }
+        ensures left { ⟦<Consolidate as Task>⟧.left result ≡ 146 }
+        ensures needs { ⟦<Consolidate as Task>⟧.needs result ≡ 1 }
+        ensures change { ⟦<Consolidate as Task>⟧.change result ≡ consol_change }
+        ensures facts { (key : List ℕ) (s : Scene) → s.past.config ≡ config.now → IsScene s → IsPath key path s.past → IsView key view s.past → ⟦<Consolidate as Task>⟧.facts result Waiting s }
+        ensures no_path { (other : Path) (s : Scene) → ⟦<Consolidate as Task>⟧.means result (Outcome.Path other) s → ⊥ }
+        ensures no_view { (other : LeafView) (s : Scene) → ⟦<Consolidate as Task>⟧.means result (Outcome.View other) s → ⊥ }
+        ensures no_room { (s : Scene) → ⟦<Consolidate as Task>⟧.means result Outcome.NeedsRoom s → ⊥ }
+    {
+        laws::leaves_are_in_trees();
+        laws::seen_leaves_are_whole();
+        laws::same_records_show_the_same();
+        slotted::leaf_rules_are_facts();
+        content::well_formed_images_have_no_fault();
+        shape::leaves_tile_the_keys();
+        let image = copy_of(&view, page);
+        is_whole(&image);
+        Consolidate {
+            config: *config,
+            link: last_link(&path),
+            image,
+            slot: 0,
+            phase: Phase::Fresh,
+        }
+    }
+}
+
+impl Consolidate {
+    // The phase after what came of the last act.
+    fn after(&self, seen: Seen, moment: u32) -> Phase
+        requires begun { self.now.phase ≢ Phase.Fresh }
+        requires hears { Hears (asks_of self.now) seen }
+        requires known { IsKnown self.now.config (facts_of self.now) (asks_of self.now) seen moment }
+        ensures nearer { consol_left result < left_of self.now }
+        ensures done { result ≡ Phase.Done → seen ≡ Swapped true }
+        ensures restart { result ≡ Phase.Restart → seen ≡ Swapped false }
+        ensures no_swap { (result ≡ Phase.NoSwap) ↔ (seen ≡ NoneLeft) }
+        ensures slots { result ≢ Phase.NoSlot }
+        ensures begun { result ≢ Phase.Fresh }
+        ensures config { IsConfig self.now.config }
+        ensures ready { IsReady self.now.config (renewal_of self.now) result }
+        ensures learns { (stage : Stage) (s : Scene) → s.past.config ≡ self.now.config → facts_of self.now stage s → Tells (asks_of self.now) stage seen s → consol_facts (renewal_of self.now) result Waiting s }
+    {
+        let _moment = moment;
+        renewals_are_good();
+        match (self.phase, seen) {
+            (Phase::Store(i), Seen::Stored) => after_store(i),
+            (Phase::Flush(n), Seen::Flushed) => after_flush(n),
+            (Phase::Swap, Seen::Swapped(true)) => Phase::Done,
+            (Phase::Swap, Seen::NoSwap) => Phase::NoSwap,
+            _ => Phase::Restart,
+        }
+    }
+
+    // The first phase: the first store, where a slot is left.
+    fn begin(&mut self, slots: &mut Slots)
+        ensures config { self.new.config ≡ self.old.config }
+        ensures link { self.new.link ≡ self.old.link }
+        ensures image { self.new.image ≡ self.old.image }
+        ensures begun { HasBegun self.new.slot self.new.phase slots.old slots.new }
+    {
+        match take_one(slots) {
+            Some(slot) => {
+                self.slot = slot;
+                self.phase = Phase::Store(0);
+            }
+            None => self.phase = Phase::NoSlot,
+        }
+    }
+
+    // The next phase, whichever it is.
+    fn step(&mut self, seen: Seen, slots: &mut Slots, moment: u32)
+        requires hears { Hears (asks_of self.old) seen }
+        requires known { IsKnown self.old.config (facts_of self.old) (asks_of self.old) seen moment }
+        requires memory { 0 < needs_of self.old → slots.old.nodes ≡ self.old.config.nodes }
+        ensures config { self.new.config ≡ self.old.config }
+        ensures known { IsConfig self.new.config }
+        ensures begun { self.new.phase ≢ Phase.Fresh }
+        ensures ready { IsReady self.new.config (renewal_of self.new) self.new.phase }
+        ensures nearer { left_of self.new < left_of self.old }
+        ensures slots { AreTakenFrom (needs_of self.old) (needs_of self.new) slots.old slots.new }
+        ensures done { end_of self.new ≡ Some Outcome.Done → seen ≡ Swapped true }
+        ensures restart { end_of self.new ≡ Some Outcome.Restart → seen ≡ Swapped false }
+        ensures no_swap { seen ≡ NoneLeft → end_of self.new ≡ Some (Outcome.Full Spent.Swaps) }
+        ensures full_swaps { end_of self.new ≡ Some (Outcome.Full Spent.Swaps) → seen ≡ NoneLeft }
+        ensures full_nodes { end_of self.new ≡ Some (Outcome.Full Spent.Nodes) → length slots.old.free < needs_of self.old }
+        ensures learns { (stage : Stage) (s : Scene) → s.past.config ≡ self.old.config → (0 < needs_of self.old → AreUnreached s slots.old) → facts_of self.old stage s → Tells (asks_of self.old) stage seen s → facts_of self.new Waiting (gained s slots.old slots.new) }
+    {
+        laws::nothing_is_gained();
+        bz_layout::slots_apart();
+        match self.phase {
+            Phase::Fresh => self.begin(slots),
+            _ => self.phase = self.after(seen, moment),
+        }
+    }
+
+    // What a phase asks for.
+    fn asked(&self) -> Todo
+        requires begun { self.now.phase ≢ Phase.Fresh }
+        requires config { IsConfig self.now.config }
+        requires ready { IsReady self.now.config (renewal_of self.now) self.now.phase }
+        ensures { asks_of self.now ≡ Some result }
+    {
+        match self.phase {
+            Phase::Store(i) => {
+                Todo::Store(
+                    self.config.node_at(self.slot as u32) + i,
+                    self.image.0[i as usize],
+                )
+            }
+            Phase::Flush(n) => {
+                Todo::Flush(self.config.node_at(self.slot as u32) / LINE_WORDS + n)
+            }
+            Phase::Swap => Todo::Swap(swap_of(&self.link, self.slot)),
+            Phase::Fresh | Phase::Done | Phase::Restart | Phase::NoSlot | Phase::NoSwap =>
+                Todo::Finish,
+        }
+    }
+}
+
+// The last link of a path.
+fn last_link(path: &Path) -> Link
+    requires some { 1 ≤ path.now.depth }
+    requires few { path.now.depth ≤ 12 }
+    ensures { slice_get path.now.links (path.now.depth - 1) ≡ Some result }
+{
+    path.links[path.depth as usize - 1]
+}
+
+// The phase after the store of a word: that of the next one, or the first flush.
+fn after_store(i: u32) -> Phase
+    requires { i < NODE_WORDS }
+    ensures { result ≡ next_store i }
+{
+    if i + 1 < NODE_WORDS {
+        Phase::Store(i + 1)
+    } else {
+        Phase::Flush(0)
+    }
+}
+
+// The phase after the flush of a line: that of the next one, or the swap.
+fn after_flush(n: u32) -> Phase
+    requires { n < NODE_LINES }
+    ensures { result ≡ next_flush n }
+{
+    if n + 1 < NODE_LINES {
+        Phase::Flush(n + 1)
+    } else {
+        Phase::Swap
+    }
+}
+
+impl Task for Consolidate {
+    ghost config = { λ t. t.config };
+
+    ghost asks = { asks_of };
+
+    ghost end = { end_of };
+
+    ghost left = { left_of };
+
+    ghost needs = { needs_of };
+
+    ghost change = { λ t. consol_change };
+
+    ghost publishing = { λ t. false };
+
+    ghost facts = { facts_of };
+
+    ghost means = { λ t. consol_means };
+
+    ghost differs = { λ t seen. ⊥ };
+
+    fn publishes(&self) -> bool {
+        false
+    }
+
+    fn ended(&self) -> Option<Outcome> {
+        match self.phase {
+            Phase::Done => Some(Outcome::Done),
+            Phase::Restart => Some(Outcome::Restart),
+            Phase::NoSlot => Some(Outcome::Full(Spent::Nodes)),
+            Phase::NoSwap => Some(Outcome::Full(Spent::Swaps)),
+            _ => None,
+        }
+    }
+
+    fn next(&mut self, seen: Seen, slots: &mut Slots, moment: u32) -> Todo {
+        self.step(seen, slots, moment);
+        self.asked()
+    }
+
+    fn learnt(&self) {
+        renewals_are_good();
+        bz_word::laws::statuses();
+    }
+
+    fn acted(&self) {
+        renewals_are_good();
+    }
+}
