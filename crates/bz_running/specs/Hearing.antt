@@ -2,7 +2,7 @@
 use Rattle.std.specs.Prelude.{◌≡◌, ℕ, ◌<◌, ◌⊎◌, true, false, List, Some, length}
 use Rattle.bz_call.specs.declared.replies.Spent.TheVariants.{Nodes, Swaps}
 use Rattle.bz_layout.specs.Slots.{FreeSlots}
-use Rattle.bz_task.specs.OwnActs.{AreTakenFrom, gained}
+use Rattle.bz_task.specs.OwnActs.{AreTakenFrom, AreUnreached, gained}
 use Rattle.bz_task.specs.Outcomes.{IsPath, IsView}
 use Rattle.bz_task.specs.Requests.{Tells}
 use Rattle.bz_task.specs.Scene.{Scene, Stage, Waiting, IsScene}
@@ -35,4 +35,4 @@ pub record HasHeard (old : Running) (seen : Seen) (moment : ℕ) (free : FreeSlo
   pub no_swap : seen ≡ NoSwap → end_of new ≡ Some (outcome.Full Swaps)
   pub full_swaps : end_of new ≡ Some (outcome.Full Swaps) → seen ≡ NoSwap
   pub full_nodes : end_of new ≡ Some (outcome.Full Nodes) → length free.free < needs_of old
-  pub learns : (stage : Stage) (s : Scene) → s.past.now ≡ moment → s.past.config ≡ config_of old → IsScene s → facts_of old stage s → Tells (asks_of old) stage seen s → facts_of new Waiting (gained s free left)
+  pub learns : (stage : Stage) (s : Scene) → s.past.now ≡ moment → s.past.config ≡ config_of old → IsScene s → (0 < needs_of old → AreUnreached s free) → facts_of old stage s → Tells (asks_of old) stage seen s → facts_of new Waiting (gained s free left)

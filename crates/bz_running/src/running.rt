@@ -1,6 +1,6 @@
 //! Whichever task it is.
 
-ghost use Rattle.std.specs.Prelude.{◌≡◌, ◌≢◌, ◌≤◌, true, false, None, Some};
+ghost use Rattle.std.specs.Prelude.{◌≡◌, ◌<◌, ◌≢◌, ◌≤◌, true, false, None, Some};
 ghost use Rattle.bz_record.specs.Records.{words_for, LacksRoom};
 ghost use Rattle.bz_slotted.specs.Readers.{found_of};
 ghost use Rattle.bz_slotted.specs.ReadingLaws.{node_of};
@@ -125,6 +125,7 @@ impl Running {
     pub fn hear(&mut self, seen: Seen, slots: &mut Slots, moment: u32) -> Todo
         requires hears { Hears (asks_of self.old) seen }
         requires known { IsKnown (config_of self.old) (facts_of self.old) (asks_of self.old) seen moment }
+        requires memory { 0 < needs_of self.old → slots.old.nodes ≡ (config_of self.old).nodes }
         ensures heard { HasHeard self.old seen moment slots.old result self.new slots.new }
     {
         match self {

@@ -3,7 +3,7 @@
 
 ghost use Rattle.std.specs.Prelude.{◌≡◌, ◌<◌, List, true, false, Some};
 ghost use Rattle.bz_word.specs.declared.entry.Entry.{Entry};
-ghost use Rattle.bz_task.specs.OwnActs.{AreTakenFrom, gained};
+ghost use Rattle.bz_task.specs.OwnActs.{AreTakenFrom, AreUnreached, gained};
 ghost use Rattle.bz_task.specs.Requests.{IsAskable, Hears, Tells, IsKnown};
 ghost use Rattle.bz_task.specs.Scene.{Scene, Stage, Waiting, Took, IsScene, IsLawful, HasFilled, here};
 ghost use Rattle.bz_task.specs.Swaps.{Stand, IsGoodSwap, Takes};
@@ -17,12 +17,13 @@ use bz_task::{Seen, Task, Todo};
 pub fn hear<T: Task>(task: &mut T, seen: Seen, slots: &mut Slots, moment: u32) -> Todo
     requires hears { Hears (T.asks task.old) seen }
     requires known { IsKnown (T.config task.old) (T.facts task.old) (T.asks task.old) seen moment }
+    requires memory { 0 < T.needs task.old → slots.old.nodes ≡ (T.config task.old).nodes }
     ensures asked { T.asks task.new ≡ Some result }
     ensures nearer { T.left task.new < T.left task.old }
     ensures slots { AreTakenFrom (T.needs task.old) (T.needs task.new) slots.old slots.new }
     ensures meant { (outcome : Outcome) (s : Scene) → T.means task.new outcome s → T.means task.old outcome s }
     // what it knew before the mark, and is told, is in what it knows afterwards
-    ensures learns { (stage : Stage) (s after : Scene) → s.past.config ≡ T.config task.old → after.past.now ≡ moment → IsScene after → IsLawful s after → T.facts task.old stage s → Tells (T.asks task.old) stage seen after → T.facts task.new Waiting (gained after slots.old slots.new) }
+    ensures learns { (stage : Stage) (s after : Scene) → s.past.config ≡ T.config task.old → after.past.now ≡ moment → IsScene after → IsLawful s after → (0 < T.needs task.old → AreUnreached after slots.old) → T.facts task.old stage s → Tells (T.asks task.old) stage seen after → T.facts task.new Waiting (gained after slots.old slots.new) }
     // it asks for nothing that may not be asked for, and its end means what it should
     ensures askable { (s : Scene) → s.past.config ≡ T.config task.old → T.facts task.new Waiting s → IsScene s → IsAskable s result }
     ensures ends { (s : Scene) (outcome : Outcome) → T.facts task.new Waiting s → T.end task.new ≡ Some outcome → T.means task.new outcome s × HasFilled s }
