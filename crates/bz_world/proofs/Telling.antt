@@ -86,6 +86,7 @@ module _ (scenes : ScenesAreSeen) (p : Parts) (w : ℕ) (seen : Seen) (m : MustT
       holds = told.facts;
       tells = told.tells;
     },
+    told.tasked.needs,
   )
 
   module _ (todo : Todo) (left : FreeSlots) (y : Serving) (h : HasTold x seen (length p.journal.past) p.slots todo y left) where
@@ -106,7 +107,7 @@ module _ (scenes : ScenesAreSeen) (p : Parts) (w : ℕ) (seen : Seen) (m : MustT
 
     facts : facts_of y.task Waiting here
     facts = subst (facts_of y.task Waiting) (subst (λ f. gained here p.slots f ≡ here) (sym (none-taken (needs_of x.task) (needs_of y.task) p.slots left told.tasked.needs h.heard.slots).0) (gained-none here p.slots))
-        (h.heard.learns told.stage here refl (sym told.tasked.config) sees.scene told.facts told.tells)
+        (h.heard.learns told.stage here refl (sym told.tasked.config) sees.scene (λ some. absurd (omega (arith, some, told.tasked.needs))) told.facts told.tells)
 
     pub is-asking : (workers : Vec (Option Serving)) → length workers.items ≡ length p.workers.items → ((v : ℕ) → v ≢ w → get_or workers.items v None ≡ get_or p.workers.items v None) → IsAsking (record p { slots = left; workers = workers }) w y todo
     is-asking workers size rest = record {

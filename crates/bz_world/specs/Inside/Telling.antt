@@ -1,7 +1,7 @@
 -- A task that is told what came of what it asked for.
 use Rattle.std.specs.Prelude.{◌≡◌, ℕ, List, Option, Some, None, get_or}
 use Rattle.bz_layout.specs.Slots.{FreeSlots}
-use Rattle.bz_running.specs.Duties.{config_of, asks_of, facts_of}
+use Rattle.bz_running.specs.Duties.{config_of, asks_of, needs_of, facts_of}
 use Rattle.bz_running.specs.Hearing.{HasHeard}
 use Rattle.bz_running.specs.Laws.{AreLaws}
 use Rattle.bz_task.specs.Requests.{Hears, IsKnown}
@@ -13,10 +13,10 @@ use Rattle.bz_world.specs.Inside.Acted.{IsAsking}
 use Rattle.bz_world.specs.declared.parts.Parts.{Parts}
 use Rattle.bz_world.specs.declared.serving.Serving.{Serving}
 
--- the task of the call that is served may be told this
+-- the task of the call that is served may be told this; it takes no slots
 abbrev pub CanHear : Option Serving → Seen → ℕ → Type 0
 CanHear None seen moment = ⊥
-CanHear (Some x) seen moment = Hears (asks_of x.task) seen × IsKnown (config_of x.task) (facts_of x.task) (asks_of x.task) seen moment
+CanHear (Some x) seen moment = Hears (asks_of x.task) seen × IsKnown (config_of x.task) (facts_of x.task) (asks_of x.task) seen moment × (needs_of x.task ≡ 0)
 
 -- it was told, and asks for something else
 pub record HasTold (x : Serving) (seen : Seen) (moment : ℕ) (free : FreeSlots) (todo : Todo) (y : Serving) (left : FreeSlots) : Type 0 where
