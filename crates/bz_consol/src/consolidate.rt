@@ -13,6 +13,7 @@ ghost use Rattle.bz_consol.specs.Duties.{renewal_of, asks_of, end_of, left_of, n
 ghost use Rattle.bz_consol.specs.Facts.{HasBegun, consol_asks, consol_left, consol_facts, consol_means, consol_change, IsReady, LeadsTo, next_store, next_flush};
 
 use crate::copies::{copy_of, is_whole};
+use crate::due::last_link;
 use crate::laws::renewals_are_good;
 use crate::phase::Phase;
 use crate::slot::take_one;
@@ -168,15 +169,6 @@ impl Consolidate {
                 Todo::Finish,
         }
     }
-}
-
-// The last link of a path.
-fn last_link(path: &Path) -> Link
-    requires some { 1 ≤ path.now.depth }
-    requires few { path.now.depth ≤ 12 }
-    ensures { slice_get path.now.links (path.now.depth - 1) ≡ Some result }
-{
-    path.links[path.depth as usize - 1]
 }
 
 // The phase after the store of a word: that of the next one, or the first flush.

@@ -3,9 +3,11 @@
 
 mod consolidate;
 mod copies;
+mod due;
 mod laws;
 mod phase;
 mod slot;
 mod swaps;
 
 pub use consolidate::Consolidate;
+pub use due::is_due;

@@ -1,0 +1,40 @@
+//! When a consolidation may begin.
+
+ghost use Rattle.std.specs.Prelude.{◌≡◌, ◌-◌, ◌≤◌, Some, true, slice_get, IfSome};
+ghost use Rattle.bz_word.specs.Statuses.{status};
+ghost use Rattle.bz_consol.specs.Facts.{LeadsTo};
+
+use bz_task::{LeafView, Link, Path};
+use bz_word::Status;
+
+/// Whether the view shows a frozen leaf, the path leads to it, and the guard of its last link was no frozen node's.
+pub fn is_due(path: &Path, view: &LeafView) -> bool
+    requires some { 1 ≤ path.now.depth }
+    requires few { path.now.depth ≤ 12 }
+    ensures frozen { result ≡ true → (status view.now.status).frozen ≡ true }
+    ensures leads { result ≡ true → LeadsTo path.now view.now.slot }
+{
+    let link = last_link(path);
+    match (frozen_in(view.status), frozen_in(link.status)) {
+        (Some(true), Some(false)) => link.slot == view.slot,
+        _ => false,
+    }
+}
+
+/// The last link of a path.
+pub(crate) fn last_link(path: &Path) -> Link
+    requires some { 1 ≤ path.now.depth }
+    requires few { path.now.depth ≤ 12 }
+    ensures { slice_get path.now.links (path.now.depth - 1) ≡ Some result }
+{
+    path.links[path.depth as usize - 1]
+}
+
+// Whether a status word is a frozen node's: none where the word is no status.
+fn frozen_in(word: u64) -> Option<bool>
+    ensures { IfSome result (λ frozen. (status word).frozen ≡ frozen) }
+{
+    bz_word::laws::statuses();
+    let status = Status::unpack(word)?;
+    Some(status.frozen)
+}
