@@ -1,5 +1,5 @@
 -- What a consolidation asks for may be asked for, and what its acts lead to.
-use Rattle.std.proofs.Common.{◌≡◌, ℕ, ◌+◌, ◌<◌, false, List, arith, sym, ap, subst, ◌∙◌, inl, inr, Some}
+use Rattle.std.proofs.Common.{◌≡◌, ℕ, ◌+◌, ◌<◌, false, List, arith, refl, sym, ap, subst, ◌∙◌, inl, inr, Some}
 use Rattle.std.specs.Prelude.{All, slice_index}
 use Rattle.std.proofs.lemmas.Bool.{cases_lt}
 use Rattle.std.proofs.lemmas.List.{get_or_past}
@@ -16,17 +16,18 @@ use Rattle.bz_word.specs.declared.status.Status.{Status}
 use Rattle.bz_task.specs.Instant.{Instant, words, form_at}
 use Rattle.bz_task.specs.OwnActs.{Stores, Flushes}
 use Rattle.bz_task.specs.Requests.{IsEntryToAsk, IsAskable}
-use Rattle.bz_task.specs.Scene.{Scene, Waiting, Took, IsScene, here}
-use Rattle.bz_task.specs.Swaps.{Stand, SwapsTo, IsGoodSwap}
+use Rattle.bz_task.specs.Scene.{Scene, Waiting, Took, IsScene, HasFilled, here}
+use Rattle.bz_task.specs.Swaps.{Stand, SwapsTo, IsGoodSwap, Takes}
 use Rattle.bz_task.specs.declared.todo.Todo.{Todo}
 use Rattle.bz_task.specs.declared.todo.Todo.TheVariants.{Store as Stores_at, Flush as Flushes_line, Swap as Swaps_for}
-use Rattle.bz_consol.specs.Facts.{Renewal, IsCopying, NODE_LINES, consol_asks, consol_facts, consol_change}
+use Rattle.bz_consol.specs.Facts.{Renewal, IsCopying, WasTurned, NODE_LINES, consol_asks, consol_facts, consol_change}
 use Rattle.bz_consol.specs.Renewals.{renewal, link_entry, guard_entry, IsTurnable, IsCopy, IsRenewable, LinksMayBeTurned, RenewalsAreGood}
 use Rattle.bz_consol.specs.declared.phase.Phase.{Phase}
 use Rattle.bz_consol.specs.declared.phase.Phase.TheVariants.{Fresh, Store, Flush, Swap, Done, Restart, NoSlot, NoSwap}
 use Rattle.bz_consol.proofs.Restamping.{restamped-plain}
 use Rattle.bz_consol.proofs.Staying.{viewed-stays}
-use Rattle.bz_consol.proofs.TwoEntries.{all-two}
+use Rattle.bz_consol.proofs.ReadyCopies.{unreached}
+use Rattle.bz_consol.proofs.TwoEntries.{all-two, sets-first}
 use Rattle.bz_consol.proofs.Words.{node-at, node-past}
 use Rattle.bz_consol.proofs.Writes.{may-store, may-flush, writing-stores, writing-flushes, filled-all}
 
@@ -132,3 +133,33 @@ flushed c r Done s after line same f e t = absurd (cc)
 flushed c r Restart s after line same f e t = absurd (cc)
 flushed c r NoSlot s after line same f e t = absurd (cc)
 flushed c r NoSwap s after line same f e t = absurd (cc)
+
+filled-after : (s after : Scene) → HasFilled s → {entries : List Entry} → Takes false entries s after → HasFilled after
+filled-after s after f takes k t = takes.filled k ∙ f k (sym (takes.took k) ∙ t)
+
+-- once the swap took effect, the link leads to the slot of the copy, to which none had led before
+turned : LinksMayBeTurned → (r : Renewal) (s after : Scene) → IsScene s → IsCopying r NODE_WORDS NODE_LINES s → Takes false (renewal r.link r.slot) s after → WasTurned r.link after.past
+turned may r s after good f takes =
+    let t : IsTurnable r.link s = may s r.link good f.viewed.guard f.viewed.thawed in
+    let then : after.past.at s.past.now ≡ here s = takes.continues.at s.past.now (omega arith) in
+    record {
+      slot = r.slot;
+      before = s.past.now;
+      since = omega (arith, good.begun, takes.continues.since);
+      now = omega (arith, takes.continues.now);
+      unreached = ap (λ (x : Instant). x.reached r.slot) then ∙ unreached s r.link.slot r.slot f.viewed.moment good (renewable r s f).copy;
+      led = subst (λ (m : ℕ). (after.past.at m).value r.link.link ≡ r.slot + 1) takes.continues.now
+          (takes.swaps.value r.link.link ∙ sets-first (link_entry r.link r.slot) (guard_entry r.link) (here s).value r.link.link refl (λ e. t.apart (sym e)));
+    }
+
+pub took : LinksMayBeTurned → (c : Config) (r : Renewal) (phase : Phase) (s after : Scene) (entries : List Entry) → consol_facts r phase Waiting s → IsScene s → consol_asks c r phase ≡ Some (Swaps_for entries) → Takes false entries s after → consol_facts r phase Took after
+took may c r Swap s after entries f good e takes =
+    let same : renewal r.link r.slot ≡ entries = cc e in
+    (filled-after s after f.0 takes, turned may r s after good f.1 (subst (λ (z : List Entry). Takes false z s after) (sym same) takes))
+took may c r Fresh s after entries f good e takes = absurd (cc)
+took may c r (Store i) s after entries f good e takes = absurd (cc)
+took may c r (Flush n) s after entries f good e takes = absurd (cc)
+took may c r Done s after entries f good e takes = absurd (cc)
+took may c r Restart s after entries f good e takes = absurd (cc)
+took may c r NoSlot s after entries f good e takes = absurd (cc)
+took may c r NoSwap s after entries f good e takes = absurd (cc)

@@ -4,14 +4,14 @@ use Rattle.bz_layout.specs.Addresses.{node_address}
 use Rattle.bz_layout.specs.Slots.{FreeSlots}
 use Rattle.bz_layout.specs.declared.sizes.TheConstants.{STATUS_AT, NODE_WORDS}
 use Rattle.bz_slotted.specs.ReadingLaws.{node_of}
-use Rattle.bz_task.specs.Instant.{words, page_at, form_at, is_inside}
+use Rattle.bz_task.specs.Instant.{Instant, words, page_at, form_at, is_inside}
 use Rattle.bz_task.specs.Laws.{NothingIsGained, SaysAlike}
 use Rattle.bz_task.specs.OwnActs.{gained}
 use Rattle.bz_task.specs.Outcomes.{IsUnderNode, IsGuarded}
 use Rattle.bz_task.specs.Requests.{IsPointerPlace}
 use Rattle.bz_task.specs.Scene.{Past, Scene, Stage, Waiting, Took, IsLawful, Continues, HasFilled}
 use Rattle.bz_task.specs.declared.path.Link.{Link}
-use Rattle.bz_consol.specs.Facts.{Renewal, HasViewed, IsCopying, HasFilledBut, NODE_LINES, consol_facts}
+use Rattle.bz_consol.specs.Facts.{Renewal, WasTurned, HasViewed, IsCopying, HasFilledBut, NODE_LINES, consol_facts}
 use Rattle.bz_consol.specs.Renewals.{WasFrozenLeaf}
 use Rattle.bz_consol.specs.declared.phase.Phase.{Phase}
 use Rattle.bz_consol.specs.declared.phase.Phase.TheVariants.{Fresh, Store, Flush, Swap, Done, Restart, NoSlot, NoSwap}
@@ -68,6 +68,16 @@ module _ (p q : Past) (c : Continues p q) where
       alike-stays m l a = subst (λ z. SaysAlike z.nodes (words z (q.at m) link.slot) (node_of image) ((form_at z (q.at m)).low link.slot) ((form_at z (q.at m)).high link.slot)) (sym c.config)
           (subst (λ z. SaysAlike p.config.nodes (words p.config z link.slot) (node_of image) ((form_at p.config z).low link.slot) ((form_at p.config z).high link.slot)) (sym (c.at m l)) a)
 
+pub turned-stays : (p q : Past) → Continues p q → (link : Link) → WasTurned link p → WasTurned link q
+turned-stays p q c link t = record {
+  slot = t.slot;
+  before = t.before;
+  since = omega (arith, c.since, t.since);
+  now = omega (arith, c.now, t.now);
+  unreached = ap (λ (x : Instant). x.reached t.slot) (c.at t.before (omega (arith, t.now))) ∙ t.unreached;
+  led = ap (λ (x : Instant). x.value link.link) (c.at (t.before + 1) t.now) ∙ t.led;
+}
+
 module _ (r : Renewal) (s after : Scene) (l : IsLawful s after) where
   copying : (count lines : ℕ) → IsCopying r count lines s → IsCopying r count lines after
   copying count lines f = record { viewed = viewed-stays s.past after.past l.continues r.link r.image f.viewed; writing = writing-stays r.slot r.image count lines s after f.writing l }
@@ -85,8 +95,8 @@ module _ (r : Renewal) (s after : Scene) (l : IsLawful s after) where
   stable (Flush n) Waiting f = (filled f.0, (f.1.0, copying NODE_WORDS n f.1.1))
   stable (Flush n) Took f = (filled f.0, (f.1.0, copying NODE_WORDS (n + 1) f.1.1))
   stable Swap Waiting f = (filled f.0, copying NODE_WORDS NODE_LINES f.1)
-  stable Swap Took f = filled f
-  stable Done Waiting f = filled f
+  stable Swap Took f = (filled f.0, turned-stays s.past after.past l.continues r.link f.1)
+  stable Done Waiting f = (filled f.0, turned-stays s.past after.past l.continues r.link f.1)
   stable Restart Waiting f = filled f
   stable NoSlot Waiting f = filled f
   stable NoSwap Waiting f = filled f
@@ -106,7 +116,7 @@ module _ (nothing : NothingIsGained) (r : Renewal) (s : Scene) (free : FreeSlots
   no-slot (Store i) f = (filled-no-slot r.slot s free f.0, (f.1.0, copying-too i 0 f.1.1))
   no-slot (Flush n) f = (nothing s free f.0, (f.1.0, copying-too NODE_WORDS n f.1.1))
   no-slot Swap f = (nothing s free f.0, copying-too NODE_WORDS NODE_LINES f.1)
-  no-slot Done f = nothing s free f
+  no-slot Done f = (nothing s free f.0, f.1)
   no-slot Restart f = nothing s free f
   no-slot NoSlot f = nothing s free f
   no-slot NoSwap f = nothing s free f

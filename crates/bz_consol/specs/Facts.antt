@@ -1,5 +1,5 @@
 -- What a consolidation knows, and what it asks for.
-use Rattle.std.specs.Prelude.{◌≡◌, ◌≢◌, ℕ, ◌+◌, ◌-◌, ◌^◌, ◌<◌, nat_lt, if◌then◌else◌, true, false, List, [], All, Option, Some, None, slice_get, slice_index, length}
+use Rattle.std.specs.Prelude.{◌≡◌, ◌≢◌, ℕ, ◌+◌, ◌-◌, ◌^◌, ◌<◌, ◌≤◌, nat_lt, if◌then◌else◌, Bool, true, false, List, [], All, Option, Some, None, slice_get, slice_index, length}
 use Rattle.bz_call.specs.declared.replies.Spent.TheVariants.{Nodes, Swaps}
 use Rattle.bz_layout.specs.Addresses.{node_address, line_of}
 use Rattle.bz_layout.specs.Slots.{FreeSlots}
@@ -14,6 +14,7 @@ use Rattle.bz_task.specs.Scene.{Past, Scene, Stage, Waiting, Took, HasFilled}
 use Rattle.bz_task.specs.Swaps.{Change}
 use Rattle.bz_task.specs.declared.path.Link.{Link}
 use Rattle.bz_task.specs.declared.path.Path.{Path}
+use Rattle.bz_task.specs.declared.view.LeafView.{LeafView}
 use Rattle.bz_task.specs.declared.todo.Outcome.{Outcome}
 use Rattle.bz_task.specs.declared.todo.Outcome.TheVariants.{Done as IsDone, Restart as Restarts, Full as IsFull}
 use Rattle.bz_task.specs.declared.todo.Todo.{Todo}
@@ -70,6 +71,21 @@ next_flush n = if nat_lt (n + 1) NODE_LINES then Flush (n + 1) else Swap
 abbrev pub LeadsTo : Path → ℕ → Type 0
 LeadsTo path k = (link : Link) → slice_get path.links (path.depth - 1) ≡ Some link → (link.slot ≡ k) × ((status link.status).frozen ≡ false)
 
+-- the word is the status of a node that is frozen, or of one that is not
+pub record IsStatusOf (frozen : Bool) (st : ℕ) : Type 0 where
+  pub plain : st < 2 ^ 61
+  pub is : (status st).frozen ≡ frozen
+
+-- the status that was viewed is that of a frozen node, and the last link of the path leads to the viewed slot; its guard is no
+-- frozen node's
+pub record IsDueBy (link : Link) (view : LeafView) : Type 0 where
+  pub viewed : IsStatusOf true view.status
+  pub guard : IsStatusOf false link.status
+  pub leads : link.slot ≡ view.slot
+
+abbrev pub IsDue : Path → LeafView → Type 0
+IsDue path view = (link : Link) → slice_get path.links (path.depth - 1) ≡ Some link → IsDueBy link view
+
 -- the guard of the link was read, and was no frozen node's; the leaf to which it leads was frozen, and the words of the copy
 -- say what it says
 pub record HasViewed (link : Link) (image : List ℕ) (p : Past) : Type 0 where
@@ -86,6 +102,15 @@ pub record IsCopying (r : Renewal) (count lines : ℕ) (s : Scene) : Type 0 wher
   pub viewed : HasViewed r.link r.image s.past
   pub writing : IsWriting r.slot r.image count lines s
 
+-- at a moment since the call began no link had led to a slot, and one moment later the link led to it
+pub record WasTurned (link : Link) (p : Past) : Type 0 where
+  pub slot : ℕ
+  pub before : ℕ
+  pub since : p.since ≤ before
+  pub now : before + 1 ≤ p.now
+  pub unreached : (p.at before).reached slot ≡ false
+  pub led : (p.at (before + 1)).value link.link ≡ slot + 1
+
 -- every other slot that this worker took has been stored into
 abbrev pub HasFilledBut : ℕ → Scene → Type 0
 HasFilledBut slot s = (k : ℕ) → s.took k ≡ true → k ≢ slot → s.filled k ≡ true
@@ -97,17 +122,19 @@ consol_facts r (Store i) Took s = HasFilled s × ((i < NODE_WORDS) × IsCopying 
 consol_facts r (Flush n) Waiting s = HasFilled s × ((n < NODE_LINES) × IsCopying r NODE_WORDS n s)
 consol_facts r (Flush n) Took s = HasFilled s × ((n < NODE_LINES) × IsCopying r NODE_WORDS (n + 1) s)
 consol_facts r Swap Waiting s = HasFilled s × IsCopying r NODE_WORDS NODE_LINES s
-consol_facts r Swap Took s = HasFilled s
+consol_facts r Swap Took s = HasFilled s × WasTurned r.link s.past
+consol_facts r Done Waiting s = HasFilled s × WasTurned r.link s.past
 consol_facts r Fresh Took s = ⊥
 consol_facts r phase Waiting s = HasFilled s
 consol_facts r phase Took s = ⊥
 
-abbrev pub consol_means : Outcome → Scene → Type 0
-consol_means IsDone s = Unit {0}
-consol_means Restarts s = Unit {0}
-consol_means (IsFull Nodes) s = Unit {0}
-consol_means (IsFull Swaps) s = Unit {0}
-consol_means outcome s = ⊥
+-- what its end means: the link that was to be turned leads to a fresh slot, or why it was not turned
+abbrev pub consol_means : Link → Outcome → Scene → Type 0
+consol_means link IsDone s = WasTurned link s.past
+consol_means link Restarts s = Unit {0}
+consol_means link (IsFull Nodes) s = Unit {0}
+consol_means link (IsFull Swaps) s = Unit {0}
+consol_means link outcome s = ⊥
 
 -- a consolidation makes no change
 abbrev pub consol_change : Change

@@ -1,8 +1,8 @@
 //! When a consolidation may begin.
 
-ghost use Rattle.std.specs.Prelude.{◌≡◌, ◌-◌, ◌≤◌, Some, true, slice_get, IfSome};
+ghost use Rattle.std.specs.Prelude.{◌≡◌, ◌↔◌, ◌-◌, ◌≤◌, ◌<◌, ◌^◌, Some, true, slice_get, IfSome, IsSome, IsTrue};
 ghost use Rattle.bz_word.specs.Statuses.{status};
-ghost use Rattle.bz_consol.specs.Facts.{LeadsTo};
+ghost use Rattle.bz_consol.specs.Facts.{LeadsTo, IsDue, IsDueBy, IsStatusOf};
 
 use bz_task::{LeafView, Link, Path};
 use bz_word::Status;
@@ -11,10 +11,17 @@ use bz_word::Status;
 pub fn is_due(path: &Path, view: &LeafView) -> bool
     requires some { 1 ≤ path.now.depth }
     requires few { path.now.depth ≤ 12 }
+    ensures due { IsTrue result ↔ IsDue path.now view.now }
     ensures frozen { result ≡ true → (status view.now.status).frozen ≡ true }
     ensures leads { result ≡ true → LeadsTo path.now view.now.slot }
 {
-    let link = last_link(path);
+    is_due_by(&last_link(path), view)
+}
+
+// The same of the last link alone.
+fn is_due_by(link: &Link, view: &LeafView) -> bool
+    ensures { IsTrue result ↔ IsDueBy link.now view.now }
+{
     match (frozen_in(view.status), frozen_in(link.status)) {
         (Some(true), Some(false)) => link.slot == view.slot,
         _ => false,
@@ -32,7 +39,8 @@ pub(crate) fn last_link(path: &Path) -> Link
 
 // Whether a status word is a frozen node's: none where the word is no status.
 fn frozen_in(word: u64) -> Option<bool>
-    ensures { IfSome result (λ frozen. (status word).frozen ≡ frozen) }
+    ensures status { IsSome result ↔ (word < 2 ^ 61) }
+    ensures frozen { IfSome result (λ frozen. (status word).frozen ≡ frozen) }
 {
     bz_word::laws::statuses();
     let status = Status::unpack(word)?;

@@ -15,6 +15,7 @@ returns-in_default c =
     let e : EndsWell c.args.seen c.after-self.result (consol_needs c.args.self.now.phase) c.args.slots.now = ends-well c.args.seen c.after-self.result (consol_needs c.args.self.now.phase) c.args.slots.now a.done a.restart a.no_swap a.slots in
     record {
       config = refl;
+      link = refl;
       known = a.config;
       begun = a.begun;
       ready = a.ready;
@@ -42,6 +43,7 @@ returns-in-Fresh c =
     let ends : EndsWell c.args.seen new.phase (consol_needs c.args.self.now.phase) c.args.slots.now = subst (λ z. EndsWell z new.phase (consol_needs c.args.self.now.phase) c.args.slots.now) (sym start) (subst (λ z. EndsWell Start new.phase z c.args.slots.now) (sym needed) b.ends) in
     record {
       config = e.config;
+      link = e.link;
       known = subst IsConfig (k.config ∙ sym e.config) k.good.config;
       begun = b.begun;
       ready = b.ready;
