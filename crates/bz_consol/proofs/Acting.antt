@@ -138,7 +138,7 @@ filled-after : (s after : Scene) → HasFilled s → {entries : List Entry} → 
 filled-after s after f takes k t = takes.filled k ∙ f k (sym (takes.took k) ∙ t)
 
 -- once the swap took effect, the link leads to the slot of the copy, to which none had led before
-turned : LinksMayBeTurned → (r : Renewal) (s after : Scene) → IsScene s → IsCopying r NODE_WORDS NODE_LINES s → Takes false (renewal r.link r.slot) s after → WasTurned r.link after.past
+turned : LinksMayBeTurned → (r : Renewal) (s after : Scene) → IsScene s → IsCopying r NODE_WORDS NODE_LINES s → Takes false (renewal r.link r.slot) s after → WasTurned r.link r.image after.past
 turned may r s after good f takes =
     let t : IsTurnable r.link s = may s r.link good f.viewed.guard f.viewed.thawed in
     let then : after.past.at s.past.now ≡ here s = takes.continues.at s.past.now (omega arith) in
@@ -150,6 +150,8 @@ turned may r s after good f takes =
       unreached = ap (λ (x : Instant). x.reached r.slot) then ∙ unreached s r.link.slot r.slot f.viewed.moment good (renewable r s f).copy;
       led = subst (λ (m : ℕ). (after.past.at m).value r.link.link ≡ r.slot + 1) takes.continues.now
           (takes.swaps.value r.link.link ∙ sets-first (link_entry r.link r.slot) (guard_entry r.link) (here s).value r.link.link refl (λ e. t.apart (sym e)));
+      copied = λ i l. subst (λ (m : ℕ). (after.past.at m).value (node_address after.past.config r.slot + i) ≡ slice_index r.image i) takes.continues.now
+          (subst (λ (k : Config). (here after).value (node_address k r.slot + i) ≡ slice_index r.image i) (sym takes.continues.config) (takes.keeps (node_address s.past.config r.slot + i) (f.writing.mine i l) ∙ f.writing.stored i l l));
     }
 
 pub took : LinksMayBeTurned → (c : Config) (r : Renewal) (phase : Phase) (s after : Scene) (entries : List Entry) → consol_facts r phase Waiting s → IsScene s → consol_asks c r phase ≡ Some (Swaps_for entries) → Takes false entries s after → consol_facts r phase Took after

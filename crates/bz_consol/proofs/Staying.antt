@@ -1,6 +1,7 @@
 -- What a consolidation knows stays.
-use Rattle.std.proofs.Common.{ℕ, ◌+◌, ◌<◌, ◌≤◌, List, arith, sym, ap, subst, ◌∙◌, inl, inr}
+use Rattle.std.proofs.Common.{◌≡◌, ℕ, ◌+◌, ◌<◌, ◌≤◌, List, slice_index, arith, sym, ap, subst, ◌∙◌, inl, inr}
 use Rattle.bz_layout.specs.Addresses.{node_address}
+use Rattle.bz_layout.specs.declared.config.Config.{Config}
 use Rattle.bz_layout.specs.Slots.{FreeSlots}
 use Rattle.bz_layout.specs.declared.sizes.TheConstants.{STATUS_AT, NODE_WORDS}
 use Rattle.bz_slotted.specs.ReadingLaws.{node_of}
@@ -68,14 +69,16 @@ module _ (p q : Past) (c : Continues p q) where
       alike-stays m l a = subst (λ z. SaysAlike z.nodes (words z (q.at m) link.slot) (node_of image) ((form_at z (q.at m)).low link.slot) ((form_at z (q.at m)).high link.slot)) (sym c.config)
           (subst (λ z. SaysAlike p.config.nodes (words p.config z link.slot) (node_of image) ((form_at p.config z).low link.slot) ((form_at p.config z).high link.slot)) (sym (c.at m l)) a)
 
-pub turned-stays : (p q : Past) → Continues p q → (link : Link) → WasTurned link p → WasTurned link q
-turned-stays p q c link t = record {
+pub turned-stays : (p q : Past) → Continues p q → (link : Link) (image : List ℕ) → WasTurned link image p → WasTurned link image q
+turned-stays p q c link image t = record {
   slot = t.slot;
   before = t.before;
   since = omega (arith, c.since, t.since);
   now = omega (arith, c.now, t.now);
   unreached = ap (λ (x : Instant). x.reached t.slot) (c.at t.before (omega (arith, t.now))) ∙ t.unreached;
   led = ap (λ (x : Instant). x.value link.link) (c.at (t.before + 1) t.now) ∙ t.led;
+  copied = λ i l. subst (λ (k : Config). (q.at (t.before + 1)).value (node_address k t.slot + i) ≡ slice_index image i) (sym c.config)
+      (ap (λ (x : Instant). x.value (node_address p.config t.slot + i)) (c.at (t.before + 1) t.now) ∙ t.copied i l);
 }
 
 module _ (r : Renewal) (s after : Scene) (l : IsLawful s after) where
@@ -95,8 +98,8 @@ module _ (r : Renewal) (s after : Scene) (l : IsLawful s after) where
   stable (Flush n) Waiting f = (filled f.0, (f.1.0, copying NODE_WORDS n f.1.1))
   stable (Flush n) Took f = (filled f.0, (f.1.0, copying NODE_WORDS (n + 1) f.1.1))
   stable Swap Waiting f = (filled f.0, copying NODE_WORDS NODE_LINES f.1)
-  stable Swap Took f = (filled f.0, turned-stays s.past after.past l.continues r.link f.1)
-  stable Done Waiting f = (filled f.0, turned-stays s.past after.past l.continues r.link f.1)
+  stable Swap Took f = (filled f.0, turned-stays s.past after.past l.continues r.link r.image f.1)
+  stable Done Waiting f = (filled f.0, turned-stays s.past after.past l.continues r.link r.image f.1)
   stable Restart Waiting f = filled f
   stable NoSlot Waiting f = filled f
   stable NoSwap Waiting f = filled f

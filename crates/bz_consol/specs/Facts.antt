@@ -5,6 +5,8 @@ use Rattle.bz_layout.specs.Addresses.{node_address, line_of}
 use Rattle.bz_layout.specs.Slots.{FreeSlots}
 use Rattle.bz_layout.specs.declared.config.Config.{Config}
 use Rattle.bz_layout.specs.declared.sizes.TheConstants.{NODE_WORDS}
+use Rattle.bz_node.specs.Reading.{AreInKeyOrder, pairs_in}
+use Rattle.bz_node.specs.Records.{leaf_words}
 use Rattle.bz_slotted.specs.ReadingLaws.{node_of}
 use Rattle.bz_word.specs.Statuses.{status}
 use Rattle.bz_task.specs.Instant.{words, form_at}
@@ -102,14 +104,30 @@ pub record IsCopying (r : Renewal) (count lines : ℕ) (s : Scene) : Type 0 wher
   pub viewed : HasViewed r.link r.image s.past
   pub writing : IsWriting r.slot r.image count lines s
 
--- at a moment since the call began no link had led to a slot, and one moment later the link led to it
-pub record WasTurned (link : Link) (p : Past) : Type 0 where
+-- the words are a leaf made whole of the records that a viewed leaf shows, in the order of their keys
+pub record IsMadeOf (viewed copy : List ℕ) : Type 0 where
+  pub pairs : List (List ℕ × List ℕ)
+  pub low : Option (List ℕ)
+  pub high : Option (List ℕ)
+  pub order : AreInKeyOrder (pairs_in viewed) pairs
+  pub is : copy ≡ leaf_words pairs low high
+
+-- at a moment since the call began no link had led to a slot, and one moment later the link led to it, and these words stood
+-- there
+pub record WasTurned (link : Link) (image : List ℕ) (p : Past) : Type 0 where
   pub slot : ℕ
   pub before : ℕ
   pub since : p.since ≤ before
   pub now : before + 1 ≤ p.now
   pub unreached : (p.at before).reached slot ≡ false
   pub led : (p.at (before + 1)).value link.link ≡ slot + 1
+  pub copied : (i : ℕ) → i < NODE_WORDS → (p.at (before + 1)).value (node_address p.config slot + i) ≡ slice_index image i
+
+-- the link was turned to a leaf made of the records of the viewed one
+pub record WasRenewed (link : Link) (view : LeafView) (p : Past) : Type 0 where
+  pub image : List ℕ
+  pub made : IsMadeOf view.image.0 image
+  pub turned : WasTurned link image p
 
 -- every other slot that this worker took has been stored into
 abbrev pub HasFilledBut : ℕ → Scene → Type 0
@@ -122,19 +140,19 @@ consol_facts r (Store i) Took s = HasFilled s × ((i < NODE_WORDS) × IsCopying 
 consol_facts r (Flush n) Waiting s = HasFilled s × ((n < NODE_LINES) × IsCopying r NODE_WORDS n s)
 consol_facts r (Flush n) Took s = HasFilled s × ((n < NODE_LINES) × IsCopying r NODE_WORDS (n + 1) s)
 consol_facts r Swap Waiting s = HasFilled s × IsCopying r NODE_WORDS NODE_LINES s
-consol_facts r Swap Took s = HasFilled s × WasTurned r.link s.past
-consol_facts r Done Waiting s = HasFilled s × WasTurned r.link s.past
+consol_facts r Swap Took s = HasFilled s × WasTurned r.link r.image s.past
+consol_facts r Done Waiting s = HasFilled s × WasTurned r.link r.image s.past
 consol_facts r Fresh Took s = ⊥
 consol_facts r phase Waiting s = HasFilled s
 consol_facts r phase Took s = ⊥
 
--- what its end means: the link that was to be turned leads to a fresh slot, or why it was not turned
-abbrev pub consol_means : Link → Outcome → Scene → Type 0
-consol_means link IsDone s = WasTurned link s.past
-consol_means link Restarts s = Unit {0}
-consol_means link (IsFull Nodes) s = Unit {0}
-consol_means link (IsFull Swaps) s = Unit {0}
-consol_means link outcome s = ⊥
+-- what its end means: the link led to a fresh slot with these words; else nothing is known beyond why it ended
+abbrev pub consol_means : Link → List ℕ → Outcome → Scene → Type 0
+consol_means link image IsDone s = WasTurned link image s.past
+consol_means link image Restarts s = Unit {0}
+consol_means link image (IsFull Nodes) s = Unit {0}
+consol_means link image (IsFull Swaps) s = Unit {0}
+consol_means link image outcome s = ⊥
 
 -- a consolidation makes no change
 abbrev pub consol_change : Change

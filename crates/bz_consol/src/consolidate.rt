@@ -10,7 +10,7 @@ ghost use Rattle.bz_task.specs.Requests.{Hears, Tells, IsKnown};
 ghost use Rattle.bz_task.specs.Scene.{Scene, Stage, Waiting, IsScene};
 ghost use Rattle.bz_task.specs.declared.todo.Seen.TheVariants.{Swapped, NoSwap as NoneLeft};
 ghost use Rattle.bz_consol.specs.Duties.{renewal_of, asks_of, end_of, left_of, needs_of, facts_of};
-ghost use Rattle.bz_consol.specs.Facts.{HasBegun, consol_asks, consol_left, consol_facts, consol_means, consol_change, IsReady, LeadsTo, WasTurned, next_store, next_flush};
+ghost use Rattle.bz_consol.specs.Facts.{HasBegun, consol_asks, consol_left, consol_facts, consol_means, consol_change, IsReady, LeadsTo, WasRenewed, next_store, next_flush};
 
 use crate::copies::{copy_of, is_whole};
 use crate::due::last_link;
@@ -56,7 +56,7 @@ impl Consolidate {
         ensures needs { ⟦<Consolidate as Task>⟧.needs result ≡ 1 }
         ensures change { ⟦<Consolidate as Task>⟧.change result ≡ consol_change }
         ensures facts { (key : List ℕ) (s : Scene) → s.past.config ≡ config.now → IsScene s → IsPath key path s.past → IsView key view s.past → ⟦<Consolidate as Task>⟧.facts result Waiting s }
-        ensures done { (link : Link) (s : Scene) → slice_get path.links (path.depth - 1) ≡ Some link → ⟦<Consolidate as Task>⟧.means result Outcome.Done s → WasTurned link s.past }
+        ensures done { (link : Link) (s : Scene) → slice_get path.links (path.depth - 1) ≡ Some link → ⟦<Consolidate as Task>⟧.means result Outcome.Done s → WasRenewed link view s.past }
         ensures no_path { (other : Path) (s : Scene) → ⟦<Consolidate as Task>⟧.means result (Outcome.Path other) s → ⊥ }
         ensures no_view { (other : LeafView) (s : Scene) → ⟦<Consolidate as Task>⟧.means result (Outcome.View other) s → ⊥ }
         ensures no_room { (s : Scene) → ⟦<Consolidate as Task>⟧.means result Outcome.NeedsRoom s → ⊥ }
@@ -129,6 +129,7 @@ impl Consolidate {
         requires memory { 0 < needs_of self.old → slots.old.nodes ≡ self.old.config.nodes }
         ensures config { self.new.config ≡ self.old.config }
         ensures link { self.new.link ≡ self.old.link }
+        ensures image { self.new.image ≡ self.old.image }
         ensures known { IsConfig self.new.config }
         ensures begun { self.new.phase ≢ Phase.Fresh }
         ensures ready { IsReady self.new.config (renewal_of self.new) self.new.phase }
@@ -214,7 +215,7 @@ impl Task for Consolidate {
 
     ghost facts = { facts_of };
 
-    ghost means = { λ t. consol_means t.link };
+    ghost means = { λ t. consol_means t.link t.image.0 };
 
     ghost differs = { λ t seen. ⊥ };
 

@@ -7,6 +7,7 @@ ghost use Rattle.bz_page.specs.Pages.{IsLeafByItself};
 ghost use Rattle.bz_slotted.specs.ReadingLaws.{node_of};
 ghost use Rattle.bz_slotted.specs.Rules.{node_fault};
 ghost use Rattle.bz_task.specs.Laws.{SaysAlike};
+ghost use Rattle.bz_consol.specs.Facts.{IsMadeOf};
 
 use bz_key::{Key, PageBuf};
 use bz_layout::{HEADER_AT, LOW_FENCE_AT};
@@ -54,6 +55,7 @@ pub(crate) fn copy_of(view: &LeafView, page: &mut PageBuf) -> NodeImage
     requires { IsLeafByItself view.now.image.0 }
     ensures alike { (nodes : ℕ) (low high : Option (List ℕ)) → node_fault nodes (node_of view.now.image.0) (node_of view.now.image.0) 0 low high ≡ None → SaysAlike nodes (node_of view.now.image.0) (node_of result.0) low high }
     ensures plain { All (λ v. v < 2 ^ 61) result.0 }
+    ensures made { IsMadeOf view.now.image.0 result.0 }
 {
     is_whole(&view.image);
     slotted::leaf_rules_are_facts();

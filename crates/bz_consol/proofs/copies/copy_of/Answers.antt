@@ -41,3 +41,12 @@ returns-clause-plain c =
     let read : IsRead c.args.view.now.image.0 c.records.new.out c.low_of-low.result c.high-high.result = is-read c.high_fences_are_read.ensures c.args.view.now.image.0 c.records.new.out c.low_of-low.result c.high-high.result c.is_whole.ensures c.records.ensures c.low_of-low.ensures c.high-high.ensures in
     let is : c.in-Some.image.0 ≡ leaf_words c.records.new.out c.low_of-low.result c.high-high.result = c.in-Some.ensures.words ∙ ap (λ z. leaf_words z c.low_of-low.result c.high-high.result) c.pairs.ensures.same in
     subst (λ z. All IsPlain z) (sym is) (makes-plain laws c.args.view.now.image.0 c.records.new.out c.low_of-low.result c.high-high.result read c.requires)
+
+pub returns-clause-made : goal.returns-clause-made
+returns-clause-made c = record {
+  pairs = c.records.new.out;
+  low = c.low_of-low.result;
+  high = c.high-high.result;
+  order = c.records.ensures;
+  is = c.in-Some.ensures.words ∙ ap (λ z. leaf_words z c.low_of-low.result c.high-high.result) c.pairs.ensures.same;
+}

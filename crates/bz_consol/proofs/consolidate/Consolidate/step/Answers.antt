@@ -16,6 +16,7 @@ returns-in_default c =
     record {
       config = refl;
       link = refl;
+      image = refl;
       known = a.config;
       begun = a.begun;
       ready = a.ready;
@@ -44,6 +45,7 @@ returns-in-Fresh c =
     record {
       config = e.config;
       link = e.link;
+      image = e.image;
       known = subst IsConfig (k.config ∙ sym e.config) k.good.config;
       begun = b.begun;
       ready = b.ready;
