@@ -1,6 +1,10 @@
 -- The records of a leaf that breaks no rule, in the order of their keys, make a leaf that breaks none and says what it says.
 use Rattle.std.proofs.Common.{◌≡◌, ℕ, zero, suc, ◌+◌, ◌<◌, ◌≤◌, ◌&&◌, if◌then◌else◌, Bool, true, false, List, [], ◌∷◌, ◌++◌, length, map, arith, refl, sym, ap, subst, ◌∙◌, inl, inr, Option}
 use Rattle.std.specs.Prelude.{All, Some, None, IsSome, not, nat_le, bytes_eq}
+use Rattle.std.specs.Cmp.Lexicographic.{slice_cmp}
+use Rattle.std.specs.Ordering.{nat_cmp, is_lt}
+use Rattle.std.specs.declared.cmp.Ordering.{Ordering}
+use Rattle.std.specs.declared.cmp.Ordering.TheVariants.{Less, Equal, Greater}
 use Rattle.std.specs.List.{sum_by}
 use Rattle.std.specs.List.Sorted.{IsPermutation}
 use Rattle.std.proofs.lemmas.Bool.{true≢false, cases_Bool}
@@ -8,16 +12,16 @@ use Rattle.std.proofs.lemmas.List.{length-append}
 use Rattle.std.proofs.lemmas.List.Elements.{All-nil, All-cons, All-append, All-map}
 use Rattle.std.proofs.lemmas.List.Sorted.{All-permutation, sum_by-IsPermutation}
 use Rattle.std.proofs.lemmas.List.Sums.{sum_by-append, sum_by-cons}
-use Rattle.bz_key.specs.Packing.{packed, packed_len, unpacked, unpacked_payload}
+use Rattle.bz_key.specs.Packing.{packed, packed_len, unpacked, unpacked_key, unpacked_payload}
 use Rattle.bz_key.specs.PackingLaws.{length-packed}
 use Rattle.bz_key.specs.UnpackingLaws.{unpacked_key-sound, unpacked_payload-sound}
-use Rattle.bz_key.specs.declared.limits.TheConstants.{PAYLOAD_BYTES}
+use Rattle.bz_key.specs.declared.limits.TheConstants.{KEY_BYTES, PAYLOAD_BYTES}
 use Rattle.bz_layout.specs.declared.sizes.TheConstants.{NODE_WORDS, SHARED_WORDS, LOW_FENCE_AT, HIGH_FENCE_AT}
 use Rattle.bz_node.specs.Layout.{block, needed}
 use Rattle.bz_node.specs.Reading.{AreInKeyOrder, pairs_in, high_in, payload_len}
-use Rattle.bz_node.specs.Records.{pair_entry, leaf_words, IsPair, IsBound, IsAtLeast, IsBelow, IsLeafList}
+use Rattle.bz_node.specs.Records.{pair_entry, leaf_words, IsPair, IsBound, IsBefore, IsAtLeast, IsBelow, IsLeafList}
 use Rattle.bz_page.specs.Pages.{IsLeafByItself}
-use Rattle.bz_page.proofs.Lookups.{find-order}
+use Rattle.bz_page.specs.Laws.{OrderedPairsAreFound}
 use Rattle.bz_shape.specs.Order.{is_before, is_at_least, is_below, is_within}
 use Rattle.bz_slotted.specs.Laws.{LeafRulesAreFacts, LiveWordsFit}
 use Rattle.bz_slotted.specs.Page.{visible, extent_of, page}
@@ -26,8 +30,6 @@ use Rattle.bz_slotted.specs.Readers.{live_of}
 use Rattle.bz_slotted.specs.Records.{key_in, payload_in, key_words, payload_words, weight, records, records_to, live_to}
 use Rattle.bz_slotted.specs.Rules.{node_fault}
 use Rattle.bz_slotted.specs.Whole.{IsFence, Whole}
-use Rattle.bz_slotted.proofs.Readings.{unpacked_key-some}
-use Rattle.bz_slotted.proofs.MadeLeaves.{before-test, test-before}
 use Rattle.bz_task.specs.Laws.{SaysAlike}
 use Rattle.bz_word.specs.declared.meta.Extent.{Extent}
 use Rattle.bz_consol.proofs.Plainness.{IsPlain, leaf-plain}
@@ -46,6 +48,14 @@ needed-sum (r ∷ rs) = omega (arith, needed-sum rs, length-append (block (map p
 -- a pair lies between bounds
 abbrev IsIn : Option (List ℕ) → Option (List ℕ) → List ℕ × List ℕ → Type 0
 IsIn low high r = is_within r.0 low high ≡ true
+
+unpacked_key-some : (len : ℕ) (words : List ℕ) → IsSome (unpacked_key len words) → unpacked_key len words ≡ Some (unpacked len words)
+unfolding unpacked_key
+unpacked_key-some len words some =
+    elim (cases_Bool (nat_le 1 len && (nat_le len KEY_BYTES && bytes_eq (packed (unpacked len words)) words))) [
+      | inl is ↦ rw is refl
+      | inr is ↦ (let none = rw is at some in cc)
+    ]
 
 unpacked_payload-some : (len : ℕ) (words : List ℕ) → IsSome (unpacked_payload len words) → unpacked_payload len words ≡ Some (unpacked len words)
 unfolding unpacked_payload
@@ -121,6 +131,20 @@ pub record Laws : Type 0 where
   pub fit : LiveWordsFit
   pub readable : WholeLeavesAreReadable
   pub made : MadeLeavesAreWhole
+  pub found : OrderedPairsAreFound
+
+before-test : (a b : List ℕ) → IsBefore a b → is_before a b ≡ true
+unfolding is_before
+before-test a b h = ap is_lt h
+
+less : (o : Ordering) → is_lt o ≡ true → o ≡ Less
+less Less h = refl
+less Equal h = grind arith
+less Greater h = grind arith
+
+test-before : (a b : List ℕ) → is_before a b ≡ true → IsBefore a b
+unfolding is_before
+test-before a b h = less (slice_cmp nat_cmp a b) h
 
 at-least : (low : Option (List ℕ)) (key : List ℕ) → is_at_least key low ≡ true → IsAtLeast low key
 at-least None key h = tt
@@ -193,5 +217,5 @@ module _ (b : Laws) (words : List ℕ) (sorted : List (List ℕ × List ℕ)) (l
   pub says-alike : (nodes : ℕ) (lo hi : Option (List ℕ)) → node_fault nodes (node_of words) (node_of words) 0 lo hi ≡ None → SaysAlike nodes (node_of words) (node_of (leaf_words sorted low high)) lo hi
   says-alike nodes lo hi none = record {
     whole = (λ t. node_fault nodes (node_of (leaf_words sorted low high)) (node_of (leaf_words sorted low high)) 0 (sym (r.low_is nodes lo hi none) t) (sym (r.high_is nodes lo hi none) t)) ∙ (made nodes).none;
-    found = λ key. (made nodes).says key ∙ (find-order key (pairs_in words) sorted r.order.same r.order.rising ∙ reads.says key);
+    found = λ key. (made nodes).says key ∙ (b.found key (pairs_in words) sorted r.order.same r.order.rising ∙ reads.says key);
   }

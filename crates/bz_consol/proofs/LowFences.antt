@@ -1,6 +1,9 @@
 -- What is read as the low fence of a leaf that breaks no rule is its low bound.
-use Rattle.std.proofs.Common.{◌≡◌, ℕ, ◌+◌, ◌≤◌, List, length, arith, refl, sym, ap, ◌∙◌, Option}
+use Rattle.std.proofs.Common.{◌≡◌, ℕ, ◌+◌, ◌-◌, ◌<◌, ◌≤◌, List, length, map, take, drop, arith, refl, sym, ap, ◌∙◌, Option}
 use Rattle.std.specs.Prelude.{Some, None, slice_index}
+use Rattle.std.specs.List.{range_with_len}
+use Rattle.std.proofs.lemmas.List.{ext_get_or, get_or-take, get_or-drop, length-take, length-drop}
+use Rattle.std.proofs.lemmas.List.FromFn.{length-map-range_with_len, get_or-map-range_with_len}
 use Rattle.bz_key.specs.Packing.{packed_len, unpacked_key}
 use Rattle.bz_key.specs.UnpackingLaws.{unpacked_key-sound}
 use Rattle.bz_layout.specs.declared.sizes.TheConstants.{NODE_WORDS, HEADER_AT, LOW_FENCE_AT}
@@ -10,10 +13,19 @@ use Rattle.bz_slotted.specs.Page.{words_at, page}
 use Rattle.bz_slotted.specs.ReadingLaws.{node_of}
 use Rattle.bz_slotted.specs.Rules.{node_fault}
 use Rattle.bz_slotted.specs.Whole.{IsFence, Whole}
-use Rattle.bz_slotted.proofs.Lists.{part-at}
 use Rattle.bz_word.specs.Headers.{header, header_word, IsHeader, IsHeaderWord}
 use Rattle.bz_word.specs.Statements.{IsCodec}
 use Rattle.bz_word.specs.declared.header.Header.{Header}
+
+-- a part of a list
+part-at : (words : List ℕ) (at count : ℕ) → at + count ≤ length words → words_at (node_of words) at count ≡ part words at count
+unfolding words_at
+part-at words at count within =
+    let width : at + count - at ≡ count = omega arith in
+    rw width (ext_get_or 0 (map (node_of words) (range_with_len at count)) (take count (drop at words))
+    (omega (arith, length-map-range_with_len (node_of words) at count, length-take count (drop at words), length-drop at words))
+    (λ i l. let short : i < count = omega (arith, length-map-range_with_len (node_of words) at count) in
+    get_or-map-range_with_len (node_of words) at count i (at + i) 0 short refl ∙ sym (get_or-take count (drop at words) i 0 short ∙ get_or-drop at words i 0)))
 
 no-bytes : (words : List ℕ) → unpacked_key 0 words ≡ None
 unfolding unpacked_key

@@ -2,14 +2,14 @@
 use Rattle.std.proofs.Common.{◌≡◌, ℕ, ◌-◌, ◌<◌, ◌^◌, true, List, length, arith, sym, ap, subst, ◌∙◌, Some, Option}
 use Rattle.std.specs.Prelude.{All, None, slice_get}
 use Rattle.bz_layout.specs.declared.sizes.TheConstants.{NODE_WORDS}
-use Rattle.bz_page.proofs.Views.{ViewLaws, holds, says}
+use Rattle.bz_page.specs.Laws.{ViewsSayWhatImagesSay}
 use Rattle.bz_slotted.specs.ReadingLaws.{node_of}
 use Rattle.bz_slotted.specs.Rules.{node_fault}
 use Rattle.bz_shape.specs.Form.{Holds}
 use Rattle.bz_word.specs.Statuses.{status}
 use Rattle.bz_task.specs.Good.{IsGood}
 use Rattle.bz_task.specs.Instant.{words, durable, form_at}
-use Rattle.bz_task.specs.Laws.{IsLeafInTree, SaysAlike}
+use Rattle.bz_task.specs.Laws.{IsLeafInTree, LeavesAreInTrees, SeenLeavesAreWhole, SameRecordsShowTheSame, SaysAlike}
 use Rattle.bz_task.specs.Outcomes.{IsPath, IsLink, IsView}
 use Rattle.bz_task.specs.Scene.{Scene, IsScene}
 use Rattle.bz_task.specs.Shown.{SameWords}
@@ -20,12 +20,19 @@ use Rattle.bz_consol.specs.Facts.{HasViewed, LeadsTo}
 use Rattle.bz_consol.specs.Renewals.{WasFrozenLeaf}
 use Rattle.bz_consol.proofs.FrozenLeaves.{same-records}
 
+-- the laws that these proofs stand on
+pub record ViewLaws : Type 0 where
+  pub leaves : LeavesAreInTrees
+  pub seen : SeenLeavesAreWhole
+  pub shown : SameRecordsShowTheSame
+  pub views : ViewsSayWhatImagesSay
+
 module _ (b : ViewLaws) (key : List ℕ) (view : LeafView) (s : Scene) (good : IsScene s) (v : IsView key view s.past) where
   g : IsGood s.past.config (s.past.at view.at)
   g = good.history.good view.at v.since v.now
 
   held : Holds (form_at s.past.config (s.past.at view.at)) key view.slot
-  held = holds b key view s.past v g
+  held = (b.views key view s.past v g).holds
 
   leaf : IsLeafInTree s.past.config (s.past.at view.at) view.slot
   leaf = b.leaves s.past.config (s.past.at view.at) view.slot g v.slot held.inside held.leaf
@@ -44,7 +51,7 @@ module _ (b : ViewLaws) (key : List ℕ) (view : LeafView) (s : Scene) (good : I
       → SaysAlike s.past.config.nodes (words s.past.config (s.past.at view.at) view.slot) (node_of image) ((form_at s.past.config (s.past.at view.at)).low view.slot) ((form_at s.past.config (s.past.at view.at)).high view.slot)
   copy-alike image alike =
       let a = alike s.past.config.nodes _ _ v.whole in
-      record { whole = a.whole; found = λ k. a.found k ∙ (says b key view s.past v g k ∙ sym (reads-alike.found k)) }
+      record { whole = a.whole; found = λ k. a.found k ∙ ((b.views key view s.past v g).says k ∙ sym (reads-alike.found k)) }
 
 pub has-viewed : ViewLaws → (key : List ℕ) (path : Path) (view : LeafView) (link : Link) (image : List ℕ) (s : Scene) → IsScene s → IsPath key path s.past → IsView key view s.past → (status view.status).frozen ≡ true → LeadsTo path view.slot
     → slice_get path.links (path.depth - 1) ≡ Some link → length image ≡ NODE_WORDS → All (λ v. v < 2 ^ 61) image

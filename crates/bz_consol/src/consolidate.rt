@@ -19,12 +19,9 @@ use crate::phase::Phase;
 use crate::slot::take_one;
 use crate::swaps::swap_of;
 use bz_call::Spent;
-use bz_content::laws as content;
 use bz_key::PageBuf;
 use bz_layout::{Config, LINE_WORDS, NODE_WORDS, Slots};
 use bz_node::NodeImage;
-use bz_shape::laws as shape;
-use bz_slotted::laws as slotted;
 use bz_task::{LeafView, Link, Outcome, Path, Seen, Task, Todo, laws};
 
 const NODE_LINES: u32 = NODE_WORDS / LINE_WORDS;
@@ -64,9 +61,7 @@ impl Consolidate {
         laws::leaves_are_in_trees();
         laws::seen_leaves_are_whole();
         laws::same_records_show_the_same();
-        slotted::leaf_rules_are_facts();
-        content::well_formed_images_have_no_fault();
-        shape::leaves_tile_the_keys();
+        bz_page::laws::views_say_what_images_say();
         let image = copy_of(&view, page);
         is_whole(&image);
         Consolidate {

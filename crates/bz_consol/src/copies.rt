@@ -63,6 +63,7 @@ pub(crate) fn copy_of(view: &LeafView, page: &mut PageBuf) -> NodeImage
     slotted::whole_leaves_are_readable();
     slotted::high_fences_are_read();
     slotted::made_leaves_are_whole();
+    bz_page::laws::ordered_pairs_are_found();
     view.image.records(page);
     let low = low_of(&view.image);
     let high = view.image.high();

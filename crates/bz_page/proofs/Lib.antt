@@ -1,4 +1,4 @@
-pub mod Lookups
-pub mod Views
+mod Lookups
+mod Views
 mod Shows
 mod Firsts

@@ -1,6 +1,7 @@
 //! A page of the tree: the pairs of one leaf from a key on, and the key with which the next page begins.
 #![tactic(auto)]
 
+pub mod laws;
 mod pages;
 #[cfg(test)]
 mod tests;

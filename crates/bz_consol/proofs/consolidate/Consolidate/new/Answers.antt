@@ -9,9 +9,7 @@ returns-clause-facts c key s same good path view = has-viewed (record {
   leaves = c.leaves_are_in_trees.ensures;
   seen = c.seen_leaves_are_whole.ensures;
   shown = c.same_records_show_the_same.ensures;
-  rules = c.leaf_rules_are_facts.ensures;
-  formed = c.well_formed_images_have_no_fault.ensures;
-  tile = c.leaves_tile_the_keys.ensures;
+  views = c.views_say_what_images_say.ensures;
 }) key c.args.path c.args.view c.last_link.result c.copy_of-image.result.0 s good path view c.requires.frozen c.requires.leads c.last_link.ensures c.is_whole.ensures c.copy_of-image.ensures.plain c.copy_of-image.ensures.alike
 
 pub returns-clause-done : goal.returns-clause-done
