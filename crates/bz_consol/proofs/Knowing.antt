@@ -1,5 +1,5 @@
 -- What a consolidation knows after an answer, and that what it asks for next is there.
-use Rattle.std.proofs.Common.{◌≡◌, ◌≢◌, ℕ, ◌+◌, ◌<◌, if◌then◌else◌, Bool, true, false, arith, refl, sym, ap, subst, ◌∙◌}
+use Rattle.std.proofs.Common.{◌≡◌, ◌≢◌, ℕ, ◌+◌, ◌<◌, if◌then◌else◌, Bool, true, false, arith, refl, sym, ap, subst, ◌∙◌, inl, inr}
 use Rattle.std.specs.Prelude.{nat_lt, length, drop, Some, ◌↔◌}
 use Rattle.std.proofs.lemmas.Bool.Decides.{nat_tests}
 use Rattle.bz_layout.specs.Addresses.{SlotsApart}
@@ -125,16 +125,16 @@ ends-well seen p needed free done restart no_swap slots = record {
 
 -- nothing is taken
 pub takes-none : (o p : Phase) (free : FreeSlots) → p ≢ Fresh → AreTakenFrom (consol_needs o) (consol_needs p) free free
-takes-none o p free ne = record { number = 0; fewer = omega (arith, needs-none p ne); enough = omega arith; slots = refl }
+takes-none o p free ne = inr (record { fewer = omega (arith, needs-none p ne); slots = refl })
 
 -- after the begin
 begun-taken : (slot : ℕ) (old new : FreeSlots) → IsTaken slot old new → new.nodes ≡ old.nodes → AreTakenFrom 1 0 old new
-begun-taken slot old new t nodes = record {
-  number = 1;
-  fewer = omega arith;
+begun-taken slot old new t nodes = inl (record {
+  some = omega arith;
   enough = omega (arith, ap length t.first);
   slots = λ z. record { nodes = nodes z; free = sym (ap (drop 1) t.first) z };
-}
+  none_left = refl;
+})
 
 pub record Begins (r : Renewal) (c : Config) (p : Phase) (old new : FreeSlots) : Type 0 where
   pub begun : p ≢ Fresh
@@ -155,7 +155,7 @@ begins r c NoSlot old new h nodes = record {
   begun = λ e. absurd (cc);
   ready = tt;
   nearer = omega arith;
-  taken = subst (λ z. AreTakenFrom 1 0 old z) (sym h.1) (record { number = 0; fewer = omega arith; enough = omega arith; slots = refl });
+  taken = subst (λ z. AreTakenFrom 1 0 old z) (sym h.1) (inr (record { fewer = omega arith; slots = refl }));
   ends = record { done = λ e. absurd (cc); restart = λ e. absurd (cc); no_swap = λ e. absurd (cc); full_swaps = λ e. absurd (cc); full_nodes = λ e. h.0 };
 }
 begins r c Fresh old new h nodes = absurd (h)

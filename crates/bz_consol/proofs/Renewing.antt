@@ -77,7 +77,7 @@ module _ (b : Laws) (s : Scene) (y : Instant) (link : Link) (new m p i : ℕ) (c
     targets = t.targets;
     others = t.others;
     changes = t.changes;
-    root = t.root;
+    root = t.root leaf-frozen;
     fresh = λ k e. subst (IsFresh s) (among-one new k e) (record { slot = r.copy.slot; own = r.copy.own });
     frozen = λ k e. subst (λ z. (page_at s.past.config y z).frozen ≡ true) (among-one link.slot k e) leaf-frozen;
     regrows = regrows;

@@ -15,11 +15,10 @@ use Rattle.bz_layout.specs.Addresses.{node_address}
 use Rattle.bz_layout.specs.declared.sizes.TheConstants.{NODE_WORDS}
 use Rattle.bz_content.specs.Content.{image_of}
 use Rattle.bz_content.specs.Swaps.{TurnsLink}
-use Rattle.bz_task.specs.Instant.{Instant, form_at, is_inside}
+use Rattle.bz_task.specs.Instant.{Instant, page_at, form_at, is_inside}
 use Rattle.bz_task.specs.Requests.{IsTarget}
 use Rattle.bz_task.specs.Scene.{Scene, here}
-use Rattle.bz_task.specs.Shown.{SameRoot}
-use Rattle.bz_task.specs.Steps.{Moves, RootMoved, next_stamp}
+use Rattle.bz_task.specs.Steps.{Moves, ReplacedRootIsFrozen, next_stamp}
 use Rattle.bz_consol.specs.LinkSwaps.{IsChanged}
 use Rattle.bz_consol.specs.Renewals.{restamped}
 use Rattle.bz_consol.proofs.Restamping.{stamped, restamped-reads}
@@ -80,5 +79,6 @@ pub record TurnsAt (entries : List Entry) (s : Scene) (y : Instant) (old new p i
   pub targets : (a : ℕ) → is_target entries a ≡ true → IsTarget s a
   pub others : (k i : ℕ) → is_among changed k ≡ false → i < NODE_WORDS → is_target entries (node_address s.past.config k + i) ≡ false
   pub changes : (k : ℕ) → is_among changed k ≡ true → IsChanged s y k
-  pub root : SameRoot (here s) y ⊎ RootMoved (here s) y
+  -- where the leaf is frozen
+  pub root : ((page_at s.past.config y old).frozen ≡ true) → ReplacedRootIsFrozen s.past.config (here s) y
   pub leaf_stays : is_among changed old ≡ false

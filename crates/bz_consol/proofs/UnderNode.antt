@@ -258,6 +258,6 @@ module _ (b : Laws) (s : Scene) (y : Instant) (link : Link) (new m : ℕ) (good 
     targets = named;
     others = λ k i f l. no-target (link_entry link new) (guard_entry link) (node_address s.past.config k + i) (far-link k i (not-among under.parent k f) l) (far-guard k i (not-among under.parent k f) l);
     changes = λ k t. subst (λ z. IsChanged s y z) (among-one under.parent k t) parent-changed;
-    root = inl (record { pointer = swaps.value ROOT_AT ∙ root-left (here s).value ROOT_AT (omega arith); status = swaps.value ROOT_STATUS_AT ∙ root-left (here s).value ROOT_STATUS_AT (omega arith) });
+    root = λ frozen. inl (swaps.value ROOT_AT ∙ root-left (here s).value ROOT_AT (omega arith));
     leaf_stays = leaf-other;
   }

@@ -1,5 +1,5 @@
 -- The swap of a consolidation where the link is the root pointer.
-use Rattle.std.proofs.Common.{◌≡◌, ◌≢◌, ℕ, ◌+◌, ◌^◌, ◌<◌, ◌==◌, ◌&&◌, if◌then◌else◌, Bool, true, false, [], ◌∷◌, arith, refl, sym, ap, subst, ◌∙◌, inl, inr}
+use Rattle.std.proofs.Common.{◌≡◌, ◌≢◌, ℕ, ◌+◌, ◌-◌, ◌^◌, ◌<◌, ◌==◌, ◌&&◌, if◌then◌else◌, Bool, true, false, [], ◌∷◌, arith, refl, sym, ap, subst, ◌∙◌, inl, inr}
 use Rattle.std.specs.Prelude.{nat_lt, nat_le, Some, None}
 use Rattle.std.proofs.lemmas.Bool.Decides.{nat_tests}
 use Rattle.bz_layout.specs.Addresses.{node_address}
@@ -14,11 +14,11 @@ use Rattle.bz_content.specs.Resolving.{resolve}
 use Rattle.bz_content.specs.Swaps.{TurnsLink}
 use Rattle.bz_content.specs.View.{root_fault}
 use Rattle.bz_task.specs.Good.{IsGood}
-use Rattle.bz_task.specs.Instant.{Instant, form_at}
+use Rattle.bz_task.specs.Instant.{Instant, page_at, form_at}
 use Rattle.bz_task.specs.Outcomes.{IsUnderRoot}
 use Rattle.bz_task.specs.Requests.{IsTarget}
 use Rattle.bz_task.specs.Scene.{Scene, IsScene, here}
-use Rattle.bz_task.specs.Steps.{RootMoved, next_stamp}
+use Rattle.bz_task.specs.Steps.{next_stamp}
 use Rattle.bz_task.specs.Swaps.{Stand, SwapsTo, swapped}
 use Rattle.bz_task.specs.declared.path.Link.{Link}
 use Rattle.bz_consol.specs.Renewals.{link_entry, guard_entry, renewal}
@@ -113,8 +113,8 @@ module _ (b : Laws) (s : Scene) (y : Instant) (link : Link) (new : ℕ) (good : 
     | inr e ↦ inr (inl (sym e ∙ under.guard))
   ]
 
-  moved : RootMoved (here s) y
-  moved = swaps.value ROOT_STATUS_AT ∙ (status-set (here s).value ∙ ap next_stamp (sym status-now))
+  old-slot : link.slot ≡ (here s).value ROOT_AT - 1
+  old-slot = omega (arith, pointer-now)
 
   pub at-root : TurnsAt (renewal link new) s y link.slot new s.past.config.nodes 0 []
   at-root = record {
@@ -125,6 +125,6 @@ module _ (b : Laws) (s : Scene) (y : Instant) (link : Link) (new : ℕ) (good : 
     targets = named;
     others = λ k i f l. no-target (link_entry link new) (guard_entry link) (node_address s.past.config k + i) (far-link k i) (far-guard k i);
     changes = λ k t. absurd (cc);
-    root = inr moved;
+    root = λ frozen. inr (subst (λ k. (page_at s.past.config y k).frozen ≡ true) old-slot frozen);
     leaf_stays = refl;
   }

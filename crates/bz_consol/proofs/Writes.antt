@@ -1,6 +1,6 @@
 -- The words of a copy are stored one by one, and become durable line by line.
 use Rattle.std.proofs.Common.{◌≡◌, ◌≢◌, ℕ, ◌+◌, ◌*◌, ◌^◌, ◌<◌, ◌≤◌, ◌==◌, ◌&&◌, ◌||◌, ◌⊎◌, Bool, true, false, List, ◌∷◌, length, arith, refl, sym, ap, subst, ◌∙◌, inl, inr}
-use Rattle.std.specs.Prelude.{All, slice_index, nat_le, not}
+use Rattle.std.specs.Prelude.{All, slice_index, not}
 use Rattle.std.proofs.lemmas.Bool.{cases_lt, cases_eq, true≢false}
 use Rattle.std.proofs.lemmas.Bool.Decides.{nat_tests}
 use Rattle.bz_layout.specs.Addresses.{node_address, slot_of, line_of, SlotsApart}
@@ -11,6 +11,7 @@ use Rattle.bz_shape.specs.Walk.{is_among}
 use Rattle.bz_task.specs.OwnActs.{Stores, Flushes, AreUnreached, is_gained, gained}
 use Rattle.bz_task.specs.Requests.{IsOwnStore, IsReadable}
 use Rattle.bz_task.specs.Scene.{Scene, IsMine, IsFlushed, IsLawful, HasFilled, here}
+use Rattle.bz_task.proofs.Stays.{gained-mine}
 use Rattle.bz_consol.specs.Facts.{HasFilledBut}
 use Rattle.bz_consol.specs.Writing.{IsWriting, IsTaken}
 use Rattle.bz_consol.proofs.Words.{or-left, or-right, or-split}
@@ -20,13 +21,6 @@ same-test a b e = grind (arith, nat_tests)
 
 other-test : (a b : ℕ) → a ≢ b → (a == b) ≡ false
 other-test a b ne = grind (arith, nat_tests)
-
-both : (a b : Bool) → a ≡ true → b ≡ true → (a && b) ≡ true
-both true b e h = h
-both false b e h = absurd (cc)
-
-behind : (a b : ℕ) → a ≤ b → nat_le a b ≡ true
-behind a b l = grind (arith, nat_tests)
 
 -- the same facts where the sizes are said to be others
 resized : (k : ℕ) (image : List ℕ) (count lines : ℕ) (c : Config) (s : Scene) → s.past.config ≡ c → k < c.nodes
@@ -105,8 +99,7 @@ module _ (apart : SlotsApart) (s : Scene) (old new : FreeSlots) (k : ℕ) (taken
 
   pub taken-mine : (i : ℕ) → i < NODE_WORDS → IsMine (gained s old new) (node_address s.past.config k + i)
   taken-mine i l = record {
-    owned = or-right (s.owned (node_address s.past.config k + i)) _ (both (nat_le (node_address s.past.config 0) (node_address s.past.config k + i)) (is_gained old new (slot_of s.past.config (node_address s.past.config k + i)))
-        (behind (node_address s.past.config 0) (node_address s.past.config k + i) (omega arith)) (ap (is_gained old new) (slot-is s.past.config k i l) ∙ is-gained));
+    own = inl (record { slot = k; place = i; address = refl; within = l; took = or-right (s.took k) _ is-gained; unreached = unreached k among-old });
     hidden = λ j m r h e. absurd (let same : k ≡ j = (apart s.past.config k j i m l h e).0 in true≢false (sym (ap (here s).reached same ∙ r) ∙ unreached k among-old));
   }
 
@@ -129,7 +122,7 @@ module _ (apart : SlotsApart) (s : Scene) (old new : FreeSlots) (k : ℕ) (taken
 pub writing-no-slot : (k : ℕ) (image : List ℕ) (count lines : ℕ) (s : Scene) (free : FreeSlots) → IsWriting k image count lines s → IsWriting k image count lines (gained s free free)
 writing-no-slot k image count lines s free w = record {
   slot = w.slot;
-  mine = λ i l. record { owned = or-left (s.owned (node_address s.past.config k + i)) _ (w.mine i l).owned; hidden = (w.mine i l).hidden };
+  mine = λ i l. gained-mine s free free (node_address s.past.config k + i) (w.mine i l);
   stored = w.stored;
   flushed = w.flushed;
 }

@@ -11,8 +11,8 @@ use Rattle.bz_content.specs.Content.{view_in}
 use Rattle.bz_task.specs.Instant.{Instant, words, page_at}
 use Rattle.bz_task.specs.Requests.{IsTarget}
 use Rattle.bz_task.specs.Scene.{Scene, IsScene, here}
-use Rattle.bz_task.specs.Shown.{IsShown, SameRoot}
-use Rattle.bz_task.specs.Steps.{Moved, RootMoved}
+use Rattle.bz_task.specs.Shown.{IsShown}
+use Rattle.bz_task.specs.Steps.{Moved, ReplacedRootIsFrozen}
 use Rattle.bz_task.specs.Swaps.{Change, SwapsTo, IsMineAndDurable, IsGoodSwap}
 
 -- a reached slot is changed as nodes are, and no more of it is read afterwards
@@ -33,7 +33,7 @@ pub record IsLinkSwap (entries : List Entry) (s : Scene) (changed gone new : Lis
   pub targets : (a : ℕ) → is_target entries a ≡ true → IsTarget s a
   pub others : (k i : ℕ) → is_among changed k ≡ false → i < NODE_WORDS → is_target entries (node_address s.past.config k + i) ≡ false
   pub changes : (k : ℕ) → is_among changed k ≡ true → IsChanged s y k
-  pub root : SameRoot (here s) y ⊎ RootMoved (here s) y
+  pub root : ReplacedRootIsFrozen s.past.config (here s) y
   pub fresh : (k : ℕ) → is_among new k ≡ true → IsFresh s k
   pub frozen : (k : ℕ) → is_among gone k ≡ true → (page_at s.past.config y k).frozen ≡ true
   pub regrows : Regrows (view_in s.past.config (here s).image) (view_in s.past.config y.image) gone new

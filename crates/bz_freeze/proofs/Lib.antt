@@ -1,2 +1,3 @@
 mod Freezing
 mod Asking
+mod Staying

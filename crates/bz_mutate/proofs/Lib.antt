@@ -6,3 +6,4 @@ mod UpdateKnowing
 mod UpdateStaying
 mod UpdateActing
 mod UpdateTaking
+mod DeleteStaying

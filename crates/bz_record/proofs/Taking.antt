@@ -100,7 +100,7 @@ module _ (b : Laws) (d : TakingLaws) (s after : Scene) (r : NewRecord) (moment :
 
   mine : (i : ℕ) → i < size_of r → IsMine after (address_of after.past.config r i)
   mine i l = with-config (λ c. IsMine after (address_of c r i)) (record {
-    owned = t.owned (address_of s.past.config r i) ∙ or-right (s.owned (address_of s.past.config r i)) _ (reserved-word i l);
+    own = inr (t.reserved (address_of s.past.config r i) ∙ or-right (s.reserved (address_of s.past.config r i)) _ (reserved-word i l));
     hidden = λ k j reached within e shown.
         let p = d.apart s.past.config r.slot k (offset_of r + i) j (omega (arith, l, f.room.fits)) within (e ∙ ap (λ c. node_address c k + j) t.continues.config) in
         hidden-word i l (subst (λ z. IsShown (words s.past.config (here after) z) (offset_of r + i)) (sym p.0) (subst (λ z. IsShown (words s.past.config (here after) k) z) (sym p.1) (subst (λ c. IsShown (words c (here after) k) j) t.continues.config shown)));

@@ -1,5 +1,5 @@
 -- The words of a record are stored one by one, and become durable line by line.
-use Rattle.std.proofs.Common.{◌≡◌, ℕ, ◌+◌, ◌-◌, ◌*◌, ◌<◌, ◌≤◌, ◌||◌, Bool, true, arith, refl, sym, subst, ◌∙◌, inl, inr}
+use Rattle.std.proofs.Common.{◌≡◌, ℕ, ◌+◌, ◌-◌, ◌*◌, ◌<◌, ◌≤◌, arith, refl, sym, subst, ◌∙◌, inl, inr}
 use Rattle.std.specs.Prelude.{slice_index}
 use Rattle.std.proofs.lemmas.Bool.{cases_lt, cases_eq}
 use Rattle.bz_key.specs.Laws.{PackingIsSmall}
@@ -12,10 +12,8 @@ use Rattle.bz_task.specs.Scene.{Scene, IsMine, IsFlushed, IsScene, IsLawful, her
 use Rattle.bz_record.specs.Records.{words_in, size_of, address_of, Fits}
 use Rattle.bz_record.specs.Writing.{line_in, IsWriting, HasWritten, RecordsAreWritten}
 use Rattle.bz_record.specs.declared.new_record.NewRecord.{NewRecord}
+use Rattle.bz_task.proofs.Stays.{gained-mine}
 use Rattle.bz_record.proofs.Reading.{word-plain}
-
-or-left : (a b : Bool) → a ≡ true → a || b ≡ true
-or-left a b h = rw h refl
 
 -- the same facts where the sizes are said to be others
 resized : (r : NewRecord) (words lines : ℕ) (c d : Config) (s : Scene) → d ≡ c → s.past.config ≡ d
@@ -65,14 +63,11 @@ written-stays r s after w l =
       flushed = λ i h. subst (λ z. IsFlushed after (address_of z r i)) (sym e) ((l.keeps (address_of s.past.config r i) (w.mine i h)).flushed (w.flushed i h));
     }
 
-still-mine : (s : Scene) (free : FreeSlots) (a : ℕ) → IsMine s a → IsMine (gained s free free) a
-still-mine s free a m = record { owned = or-left (s.owned a) _ m.owned; hidden = m.hidden }
-
 no-slot : (r : NewRecord) (words lines : ℕ) (s : Scene) (free : FreeSlots) → IsWriting r words lines s → IsWriting r words lines (gained s free free)
-no-slot r words lines s free w = record { mine = λ i l. still-mine s free (address_of s.past.config r i) (w.mine i l); stored = w.stored; flushed = w.flushed }
+no-slot r words lines s free w = record { mine = λ i l. gained-mine s free free (address_of s.past.config r i) (w.mine i l); stored = w.stored; flushed = w.flushed }
 
 written-no-slot : (r : NewRecord) (s : Scene) (free : FreeSlots) → HasWritten r s → HasWritten r (gained s free free)
-written-no-slot r s free w = record { mine = λ i l. still-mine s free (address_of s.past.config r i) (w.mine i l); stored = w.stored; flushed = w.flushed }
+written-no-slot r s free w = record { mine = λ i l. gained-mine s free free (address_of s.past.config r i) (w.mine i l); stored = w.stored; flushed = w.flushed }
 
 may-flush : AddressesFit → (r : NewRecord) (line : ℕ) (s : Scene) → IsScene s → Fits r → r.slot < s.past.config.nodes → line_in s.past.config r 0 + line ≤ line_in s.past.config r (size_of r - 1) → IsReadable s (8 * (line_in s.past.config r 0 + line))
 may-flush fit r line s good f l h = record {

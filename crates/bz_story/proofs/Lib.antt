@@ -3,3 +3,4 @@ mod Lives
 mod Watching
 mod Striking
 mod Openings
+mod Takings

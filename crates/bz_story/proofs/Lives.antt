@@ -74,8 +74,10 @@ lives-on law c old new log story mark filled g = record {
   words = g.marked;
   images = images-on log.start log.past mark story.at y g.living.images (ap (λ w. slice_index w.durable) g.marked);
   effects = subst (λ z. z.effects ≤ suc (length log.past)) (sym (now-is story.at (length log.past) y)) (omega (arith, g.living.effects));
-  owned = λ w a o. subst (λ z. IsInBlock c z a) (sym (now-is story.at (length log.past) y)) (step-block c (story.at (length log.past)) y a step (g.living.owned w a o));
+  reserved = λ w a o. subst (λ z. IsInBlock c z a) (sym (now-is story.at (length log.past) y)) (step-block c (story.at (length log.past)) y a step (g.living.reserved w a o));
   apart = g.living.apart;
+  took = g.living.took;
+  took_apart = g.living.took_apart;
 }
   where
     y : Instant

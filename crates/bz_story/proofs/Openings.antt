@@ -26,6 +26,8 @@ fresh-lives law c m limits fresh = record {
   words = opened-words m (fresh_words c) c.swaps c.workers fresh.opened;
   images = images c;
   effects = omega arith;
-  owned = λ w a e. absurd (true≢false (sym e));
+  reserved = λ w a e. absurd (true≢false (sym e));
   apart = λ v w a e f. absurd (true≢false (sym e));
+  took = λ w k e. absurd (true≢false (sym e));
+  took_apart = λ v w k e f. absurd (true≢false (sym e));
 }

@@ -1,5 +1,5 @@
 -- The scene of a worker whose call is open is one of the memory now.
-use Rattle.std.proofs.Common.{◌≡◌, ℕ, suc, ◌^◌, ◌<◌, ◌≤◌, ◌==◌, true, false, length, arith, refl}
+use Rattle.std.proofs.Common.{◌≡◌, ◌≢◌, ℕ, suc, ◌^◌, ◌<◌, ◌≤◌, ◌==◌, ◌⊎◌, true, false, length, arith, refl, sym, inl, inr}
 use Rattle.std.proofs.lemmas.Bool.Decides.{nat_tests}
 use Rattle.bz_layout.specs.Addresses.{node_address, words_of as size_of}
 use Rattle.bz_layout.specs.declared.config.Config.{Config}
@@ -9,7 +9,8 @@ use Rattle.bz_sight.specs.Starts.{Sees}
 use Rattle.bz_sound.specs.Calls.{Open}
 use Rattle.bz_swap.specs.SwapMemory.{SwapMemory}
 use Rattle.bz_task.specs.Instant.{Instant}
-use Rattle.bz_task.specs.Scene.{Scene, IsMine}
+use Rattle.bz_task.specs.Others.{AreApart, IsOfReached, SharersOfNothingAreApart}
+use Rattle.bz_task.specs.Scene.{Scene, IsOfTaken, IsMine}
 use Rattle.bz_story.specs.Laws.{ScenesAreSeen, HasBegun}
 use Rattle.bz_story.specs.Living.{IsLiving, IsInBlock}
 use Rattle.bz_story.specs.Story.{Story, scene, and_then}
@@ -25,14 +26,19 @@ module _ (law : HiddenWordsAreValues) (c : Config) (m : SwapMemory) (log : Log) 
   s : Scene
   s = scene c log.past story w opened
 
-  -- own words lie in a slot, and hold values
+  -- own words lie in a slot of the memory
+  in-slot : (a : ℕ) → IsOfTaken (scene c log.past story w opened) a ⊎ (story.reserved w a ≡ true) → (node_address c 0 ≤ a) × (a < size_of c)
+  in-slot a (inl o) = let slot : o.slot < c.nodes = living.took w o.slot o.took in (omega (arith, o.address), omega (arith, o.address, o.within, slot))
+  in-slot a (inr r) =
+      let block : IsInBlock c (story.at (length log.past)) a = living.reserved w a r in
+      let slot : block.slot < c.nodes = living.seen.good.slots block.slot block.reached in
+      (omega (arith, block.address), omega (arith, block.address, block.within, slot))
+
+  -- and hold values
   own : (a : ℕ) → IsMine (scene c log.past story w opened) a → (node_address c 0 ≤ a) × ((a < size_of c) × ((story.at (length log.past)).value a < 2 ^ 61))
   own a mine =
-      let block : IsInBlock c (story.at (length log.past)) a = living.owned w a mine.owned in
-      let slot : block.slot < c.nodes = living.seen.good.slots block.slot block.reached in (
-        omega (arith, block.address),
-        (omega (arith, block.address, block.within, slot), law c (story.at (length log.past)) m a living.seen (record { in_slots = omega (arith, block.address); unread = mine.hidden })),
-      )
+      let place : (node_address c 0 ≤ a) × (a < size_of c) = in-slot a mine.own in
+      (place.0, (place.1, law c (story.at (length log.past)) m a living.seen (record { in_slots = place.0; unread = mine.hidden })))
 
   sees : Sees c (story.at (length log.past)) (scene c log.past story w opened)
   sees = record {
@@ -51,3 +57,17 @@ module _ (law : HiddenWordsAreValues) (c : Config) (m : SwapMemory) (log : Log) 
 
 pub scenes-seen : HiddenWordsAreValues → ScenesAreSeen
 scenes-seen law c m log story w opened living begun = sees law c m log story w opened living begun
+
+-- what one worker reserved or took is nobody else's
+pub scenes-apart : SharersOfNothingAreApart → (c : Config) (m : SwapMemory) (log : Log) (story : Story) (w v : ℕ) (opened other : Open) → IsLiving c m log story → w ≢ v → AreApart (scene c log.past story w opened) (scene c log.past story v other)
+scenes-apart law c m log story w v opened other living ne = law (scene c log.past story w opened) (scene c log.past story v other) (record {
+  config = refl;
+  here = refl;
+  took = λ k p q. ne (living.took_apart w v k p q);
+  reserved = λ a p q. ne (living.apart w v a p q);
+  of_first = λ a r. of-reached w opened a (living.reserved w a r);
+  of_second = λ a r. of-reached v other a (living.reserved v a r);
+})
+  where
+    of-reached : (u : ℕ) (some : Open) (a : ℕ) → IsInBlock c (story.at (length log.past)) a → IsOfReached (scene c log.past story u some) a
+    of-reached u some a b = record { slot = b.slot; place = b.place; address = b.address; within = b.within; reached = b.reached }

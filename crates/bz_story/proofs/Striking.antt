@@ -15,7 +15,7 @@ use Rattle.bz_sound.specs.Calls.{Open}
 use Rattle.bz_swap.specs.EntryLists.{AreRising}
 use Rattle.bz_swap.specs.SwapMemory.{SwapMemory, entries_of, is_target}
 use Rattle.bz_task.specs.Instant.{Instant, words, page_at}
-use Rattle.bz_task.specs.Others.{AreApart, Watches, EffectsAreLawful}
+use Rattle.bz_task.specs.Others.{AreApart, SharersOfNothingAreApart, Watches, EffectsAreLawful}
 use Rattle.bz_task.specs.Requests.{IsTarget}
 use Rattle.bz_task.specs.Scene.{Scene, IsLawful, here}
 use Rattle.bz_task.specs.Swaps.{Change, SwapsTo, Takes, swapped, grows_over, reserves}
@@ -25,7 +25,7 @@ use Rattle.bz_story.specs.Laws.{HasBegun, ScenesAreSeen, Strikes, EffectsAreTold
 use Rattle.bz_story.specs.Living.{IsLiving, IsInBlock}
 use Rattle.bz_story.specs.Story.{Story, scene}
 use Rattle.bz_story.proofs.Lives.{history-on, images-on, step-block}
-use Rattle.bz_story.proofs.Scenes.{now-is, before-is}
+use Rattle.bz_story.proofs.Scenes.{now-is, before-is, scenes-apart}
 use Rattle.bz_story.proofs.Watching.{continues}
 
 and-both : (a b : Bool) → (a && b) ≡ true → (a ≡ true) × (b ≡ true)
@@ -116,6 +116,7 @@ pub record Laws : Type 0 where
   pub own : EffectsKeepOwn
   pub lawful : EffectsAreLawful
   pub apart : SlotsApart
+  pub sharers : SharersOfNothingAreApart
 
 module _ (b : Laws) (c : Config) (old new : SwapMemory) (log : Log) (story : Story) (mark : Mark) (k w : ℕ) (opened : Open) (publishes : Bool) (change : Change) (g : Strikes c old new log story mark k w opened publishes change) where
   abbrev x : Instant
@@ -151,7 +152,7 @@ module _ (b : Laws) (c : Config) (old new : SwapMemory) (log : Log) (story : Sto
     took = λ j. refl;
     swaps = subst (SwapsTo c (entries_of old k) (story.at (length log.past))) (sym (later-here w (opened_after publishes moment opened))) to;
     effected = same-effected publishes;
-    owned = λ a. let t : (w == w) ≡ true = grind (arith, nat_tests) in rw t refl;
+    reserved = λ a. let t : (w == w) ≡ true = grind (arith, nat_tests) in rw t refl;
     filled = λ j. refl;
     keeps = λ a mine. ap (λ z. z.value a) (later-here w (opened_after publishes moment opened)) ∙ keeps.value a mine;
     flushed = λ a mine f. subst (λ z. z.image a ≡ z.value a) (sym (later-here w (opened_after publishes moment opened))) (keeps.flushed a mine f);
@@ -170,7 +171,7 @@ module _ (b : Laws) (c : Config) (old new : SwapMemory) (log : Log) (story : Sto
       b.lawful publishes change (entries_of old k) (scene c log.past story w opened) (scene c log.past story v other) _ (effect_instant c new (story.at (length log.past))) (sees v other begun).scene apart to g.good watches
     where
       apart : AreApart (scene c log.past story w opened) (scene c log.past story v other)
-      apart = record { config = refl; here = refl; apart = λ d p q. ne (g.living.apart v w d q.owned p.owned) }
+      apart = scenes-apart b.sharers c old log story w v opened other g.living (λ e. ne (sym e))
 
       or-off : (t : Bool) → t || false ≡ t
       or-off true = refl
@@ -181,7 +182,7 @@ module _ (b : Laws) (c : Config) (old new : SwapMemory) (log : Log) (story : Sto
         continues = continues c log.past mark story (strikes c log story new w (entries_of old k)) v other other refl before;
         here = later-here v other;
         effected = refl;
-        owned = λ a. let t : (v == w) ≡ false = grind (arith, nat_tests) in rw t (or-off (story.owned v a));
+        reserved = λ a. let t : (v == w) ≡ false = grind (arith, nat_tests) in rw t (or-off (story.reserved v a));
         took = λ j. refl;
         filled = λ j. refl;
       }
@@ -217,12 +218,12 @@ module _ (b : Laws) (c : Config) (old new : SwapMemory) (log : Log) (story : Sto
         block = subst (λ z. NODE_WORDS ≤ node_word_of c a + (status z).block) (sym word) r.reserves.held;
       }
 
-  -- nobody owned it before
-  was-free : (v a : ℕ) → reserves c (entries_of old k) a ≡ true → story.owned v a ≡ true → ⊥
+  -- nobody had reserved it before
+  was-free : (v a : ℕ) → reserves c (entries_of old k) a ≡ true → story.reserved v a ≡ true → ⊥
   was-free v a h o =
       let r : HasReserving c a (entries_of old k) (story.at (length log.past)).value = found a h in
       let place : (a ≡ node_address c (slot_of c a) + node_word_of c a) × (node_word_of c a < NODE_WORDS) = in-its-slot c a r.reserves.from in
-      let block : IsInBlock c (story.at (length log.past)) a = g.living.owned v a o in
+      let block : IsInBlock c (story.at (length log.past)) a = g.living.reserved v a o in
       let same : (slot_of c a ≡ block.slot) × (node_word_of c a ≡ block.place) = b.apart c (slot_of c a) block.slot (node_word_of c a) block.place place.1 block.within (sym place.0 ∙ block.address) in
       let word : words c (story.at (length log.past)) (slot_of c a) STATUS_AT ≡ r.entry.expected =
       node-at c (story.at (length log.past)).value (slot_of c a) STATUS_AT (omega arith) ∙ (ap (story.at (length log.past)).value (sym r.reserves.target) ∙ r.expected) in
@@ -237,23 +238,25 @@ module _ (b : Laws) (c : Config) (old new : SwapMemory) (log : Log) (story : Sto
     words = g.marked;
     images = images-on log.start log.past mark story.at (effect_instant c new (story.at (length log.past))) g.living.images (ap (λ z. slice_index z.durable) g.marked);
     effects = subst (λ z. z.effects ≤ suc (length log.past)) (sym (now-is story.at (length log.past) (effect_instant c new (story.at (length log.past))))) (omega (arith, g.living.effects));
-    owned = λ v a o. subst (λ z. IsInBlock c z a) (sym (now-is story.at (length log.past) (effect_instant c new (story.at (length log.past))))) (block-of v a (owned-of v a o));
-    apart = λ u v a o p. apart-of u v a (owned-of u a o) (owned-of v a p);
+    reserved = λ v a o. subst (λ z. IsInBlock c z a) (sym (now-is story.at (length log.past) (effect_instant c new (story.at (length log.past))))) (block-of v a (reserved-of v a o));
+    apart = λ u v a o p. apart-of u v a (reserved-of u a o) (reserved-of v a p);
+    took = g.living.took;
+    took_apart = g.living.took_apart;
   }
     where
-      -- an address that a worker owns afterwards it owned before, or the swap is its own and reserves it
-      owned-of : (v a : ℕ) → story.owned v a || (v == w && reserves c (entries_of old k) a) ≡ true → (story.owned v a ≡ true) ⊎ ((v ≡ w) × (reserves c (entries_of old k) a ≡ true))
-      owned-of v a o = go (story.owned v a) refl o
+      -- an address that a worker has reserved afterwards it had reserved before, or the swap is its own and reserves it
+      reserved-of : (v a : ℕ) → story.reserved v a || (v == w && reserves c (entries_of old k) a) ≡ true → (story.reserved v a ≡ true) ⊎ ((v ≡ w) × (reserves c (entries_of old k) a ≡ true))
+      reserved-of v a o = go (story.reserved v a) refl o
         where
-          go : (t : Bool) → story.owned v a ≡ t → t || (v == w && reserves c (entries_of old k) a) ≡ true → (story.owned v a ≡ true) ⊎ ((v ≡ w) × (reserves c (entries_of old k) a ≡ true))
+          go : (t : Bool) → story.reserved v a ≡ t → t || (v == w && reserves c (entries_of old k) a) ≡ true → (story.reserved v a ≡ true) ⊎ ((v ≡ w) × (reserves c (entries_of old k) a ≡ true))
           go true e h = inl e
           go false e h = let q = and-both (v == w) (reserves c (entries_of old k) a) h in let q0 = q.0 in inr (grind (arith, nat_tests), q.1)
 
-      block-of : (v a : ℕ) → (story.owned v a ≡ true) ⊎ ((v ≡ w) × (reserves c (entries_of old k) a ≡ true)) → IsInBlock c (effect_instant c new (story.at (length log.past))) a
-      block-of v a (inl o) = step-block c (story.at (length log.past)) (effect_instant c new (story.at (length log.past))) a (inr g.good.step) (g.living.owned v a o)
+      block-of : (v a : ℕ) → (story.reserved v a ≡ true) ⊎ ((v ≡ w) × (reserves c (entries_of old k) a ≡ true)) → IsInBlock c (effect_instant c new (story.at (length log.past))) a
+      block-of v a (inl o) = step-block c (story.at (length log.past)) (effect_instant c new (story.at (length log.past))) a (inr g.good.step) (g.living.reserved v a o)
       block-of v a (inr r) = now-block a r.1
 
-      apart-of : (u v a : ℕ) → (story.owned u a ≡ true) ⊎ ((u ≡ w) × (reserves c (entries_of old k) a ≡ true)) → (story.owned v a ≡ true) ⊎ ((v ≡ w) × (reserves c (entries_of old k) a ≡ true)) → u ≡ v
+      apart-of : (u v a : ℕ) → (story.reserved u a ≡ true) ⊎ ((u ≡ w) × (reserves c (entries_of old k) a ≡ true)) → (story.reserved v a ≡ true) ⊎ ((v ≡ w) × (reserves c (entries_of old k) a ≡ true)) → u ≡ v
       apart-of u v a (inl o) (inl p) = g.living.apart u v a o p
       apart-of u v a (inl o) (inr p) = absurd (was-free u a p.1 o)
       apart-of u v a (inr o) (inl p) = absurd (was-free v a o.1 p)

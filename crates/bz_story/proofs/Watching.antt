@@ -13,15 +13,15 @@ use Rattle.bz_sound.specs.Calls.{Open}
 use Rattle.bz_swap.specs.SwapMemory.{SwapMemory}
 use Rattle.bz_task.specs.Instant.{Instant, words}
 use Rattle.bz_task.specs.Laws.{SameRecordsShowTheSame}
-use Rattle.bz_task.specs.Others.{AreApart, Watches, LeavesAll, StoresTo, QuietActsAreLawful, StoresAreLawful}
+use Rattle.bz_task.specs.Others.{AreApart, SharersOfNothingAreApart, Watches, LeavesAll, StoresTo, QuietActsAreLawful, StoresAreLawful}
 use Rattle.bz_task.specs.OwnActs.{Stores, Flushes}
-use Rattle.bz_task.specs.Scene.{Scene, IsMine, IsFlushed, Continues, IsLawful, here}
+use Rattle.bz_task.specs.Scene.{Scene, IsOfTaken, IsMine, IsFlushed, Continues, IsLawful, here}
 use Rattle.bz_task.specs.Shown.{IsShown, SameNode, SameRecords}
 use Rattle.bz_task.specs.Steps.{IsQuiet}
 use Rattle.bz_word.specs.Statuses.{status}
 use Rattle.bz_story.specs.Laws.{HasBegun, ScenesAreSeen, GoesOn, QuietMarksAreLawful, IsStore, StoresAreTold, FlushesAreTold, goes_on, fills}
 use Rattle.bz_story.specs.Story.{Story, scene, loaded, is_load_of}
-use Rattle.bz_story.proofs.Scenes.{now-is, before-is}
+use Rattle.bz_story.proofs.Scenes.{now-is, before-is, scenes-apart}
 
 -- which of the first marks are loads stays as marks are added
 loads-stay : (past : List Mark) (mark : Mark) (w moment : ℕ) → moment ≤ length past → loaded (mark ∷ past) w moment ≡ loaded past w moment
@@ -40,9 +40,9 @@ continues c past mark story after w opened later same at = record {
 }
 
 -- words that readers do not read are as little read afterwards
-pub mine-stays : SameRecordsShowTheSame → (s after : Scene) → after.past.config ≡ s.past.config → IsQuiet s.past.config (here s) (here after) → ((a : ℕ) → after.owned a ≡ s.owned a) → (a : ℕ) → IsMine s a → IsMine after a
-mine-stays law s after config q owned a mine = record {
-  owned = owned a ∙ mine.owned;
+pub mine-stays : SameRecordsShowTheSame → (s after : Scene) → after.past.config ≡ s.past.config → IsQuiet s.past.config (here s) (here after) → ((a : ℕ) → after.reserved a ≡ s.reserved a) → ((k : ℕ) → after.took k ≡ s.took k) → (a : ℕ) → IsMine s a → IsMine after a
+mine-stays law s after config q reserved took a mine = record {
+  own = elim mine.own [ inl o ↦ inl (still-taken o) | inr r ↦ inr (reserved a ∙ r) ];
   hidden = λ k i r l e h.
       let was : (here s).reached k ≡ true = sym (q.reached k) ∙ r in
       let same : SameRecords (words s.past.config (here s) k) (words s.past.config (here after) k) = records k (q.nodes k was) in
@@ -50,6 +50,16 @@ mine-stays law s after config q owned a mine = record {
       ((law (words s.past.config (here s) k) (words s.past.config (here after) k) same i).1 (subst (λ c. IsShown (words c (here after) k) i) config h));
 }
   where
+    still-taken : IsOfTaken s a → IsOfTaken after a
+    still-taken o = record {
+      slot = o.slot;
+      place = o.place;
+      address = o.address ∙ ap (λ c. node_address c o.slot + o.place) (sym config);
+      within = o.within;
+      took = took o.slot ∙ o.took;
+      unreached = q.reached o.slot ∙ o.unreached;
+    }
+
     records : (k : ℕ) → SameNode s.past.config (here s) (here after) k → SameRecords (words s.past.config (here s) k) (words s.past.config (here after) k)
     records k n = record {
       count = ap (λ w. (status w).count) (n 0 (inl (omega arith)));
@@ -67,6 +77,7 @@ pub record Laws : Type 0 where
   pub quiet : QuietActsAreLawful
   pub stores : StoresAreLawful
   pub alike : SameRecordsShowTheSame
+  pub sharers : SharersOfNothingAreApart
 
 module _ (b : Laws) (c : Config) (old new : SwapMemory) (log : Log) (story : Story) (mark : Mark) (g : GoesOn c old new log story mark) where
   abbrev x : Instant
@@ -93,7 +104,7 @@ module _ (b : Laws) (c : Config) (old new : SwapMemory) (log : Log) (story : Sto
     continues = continues c log.past mark story (goes_on log story new filled) w opened opened refl (before filled);
     here = later-here filled w opened;
     effected = refl;
-    owned = λ a. refl;
+    reserved = λ a. refl;
     took = λ k. refl;
     filled = same;
   }
@@ -106,7 +117,7 @@ module _ (b : Laws) (c : Config) (old new : SwapMemory) (log : Log) (story : Sto
 
   -- own words stay one's own
   own-stays : (filled : ℕ → ℕ → Bool) (w : ℕ) (opened : Open) (a : ℕ) → IsMine (scene c log.past story w opened) a → IsMine (scene c (mark ∷ log.past) (goes_on log story new filled) w opened) a
-  own-stays filled w opened = mine-stays b.alike (scene c log.past story w opened) (scene c (mark ∷ log.past) (goes_on log story new filled) w opened) refl (subst (IsQuiet c (story.at (length log.past))) (sym (later-here filled w opened)) passed.rests.quiet) (λ a. refl)
+  own-stays filled w opened = mine-stays b.alike (scene c log.past story w opened) (scene c (mark ∷ log.past) (goes_on log story new filled) w opened) refl (subst (IsQuiet c (story.at (length log.past))) (sym (later-here filled w opened)) passed.rests.quiet) (λ a. refl) (λ k. refl)
 
   -- a flush of one's own
   flushes : AllStay old new → (w line : ℕ) (opened : Open) → HasBegun log opened → ((a : ℕ) → line_of a ≡ line → slice_index new.durable a ≡ slice_index old.cached a)
@@ -115,7 +126,7 @@ module _ (b : Laws) (c : Config) (old new : SwapMemory) (log : Log) (story : Sto
     continues = continues c log.past mark story (goes_on log story new story.filled) w opened opened refl (before story.filled);
     took = λ k. refl;
     effected = refl;
-    owned = λ a. refl;
+    reserved = λ a. refl;
     filled = λ k. refl;
     value = λ a. ap (λ z. z.value a) (later-here story.filled w opened) ∙ (leaves all w opened begun).value a;
     flushed = λ a in-line mine. subst (λ z. z.image a ≡ z.value a) (sym (later-here story.filled w opened)) (b.flushed c (story.at (length log.past)) old new line (scene c log.past story w opened) g.living.seen g.passes all (sees w opened begun).scene refl refl copies a in-line mine);
@@ -137,7 +148,7 @@ module _ (b : Laws) (c : Config) (old new : SwapMemory) (log : Log) (story : Sto
       continues = continues c log.past mark story (goes_on log story new (fills c story w a)) w opened opened refl (before (fills c story w a));
       took = λ k. refl;
       effected = refl;
-      owned = λ b. refl;
+      reserved = λ b. refl;
       filled = λ k. let t : (w == w) ≡ true = grind (arith, nat_tests) in rw t refl;
       value = ap (λ z. z.value a) (later-here (fills c story w a) w opened) ∙ to.value;
       others = λ b ne. ap (λ z. z.value b) (later-here (fills c story w a) w opened) ∙ to.others b ne;
@@ -155,7 +166,7 @@ module _ (b : Laws) (c : Config) (old new : SwapMemory) (log : Log) (story : Sto
         or-off false = refl
 
         apart : AreApart (scene c log.past story w opened) (scene c log.past story u other)
-        apart = record { config = refl; here = refl; apart = λ d p q. ne (g.living.apart u w d q.owned p.owned) }
+        apart = scenes-apart b.sharers c old log story w u opened other g.living (λ e. ne (sym e))
 
 pub quiet-lawful : Laws → QuietMarksAreLawful
 quiet-lawful b c old new log story mark w opened g all begun = lawful b c old new log story mark g all w opened begun

@@ -1,6 +1,6 @@
 //! Laws of stories. Each function does nothing: its contract is the law.
 
-ghost use Rattle.bz_story.specs.Laws.{ScenesAreSeen, LivesGoOn, QuietMarksAreLawful, StoresAreTold, FlushesAreTold, EffectsAreTold};
+ghost use Rattle.bz_story.specs.Laws.{ScenesAreSeen, LivesGoOn, QuietMarksAreLawful, StoresAreTold, FlushesAreTold, EffectsAreTold, SlotsAreTaken};
 ghost use Rattle.bz_story.specs.Opening.{FreshStoriesLive};
 
 use bz_sight::laws as sight;
@@ -32,6 +32,7 @@ pub fn quiet_marks_are_lawful()
     task::quiet_acts_are_lawful();
     task::stores_are_lawful();
     task::same_records_show_the_same();
+    task::sharers_of_nothing_are_apart();
 }
 
 /// A private store is one to its worker, and lawful for the others.
@@ -46,6 +47,7 @@ pub fn stores_are_told()
     task::quiet_acts_are_lawful();
     task::stores_are_lawful();
     task::same_records_show_the_same();
+    task::sharers_of_nothing_are_apart();
 }
 
 /// A private flush is one to its worker.
@@ -60,6 +62,7 @@ pub fn flushes_are_told()
     task::quiet_acts_are_lawful();
     task::stores_are_lawful();
     task::same_records_show_the_same();
+    task::sharers_of_nothing_are_apart();
 }
 
 /// The effect of a swap: the memory lives on, it is one to its worker, and lawful for the others.
@@ -70,8 +73,14 @@ pub fn effects_are_told()
     sight::effects_take_place();
     sight::effects_keep_own();
     task::effects_are_lawful();
+    task::sharers_of_nothing_are_apart();
     bz_layout::slots_apart();
 }
+
+/// Slots that a worker takes are gained by it, and the memory lives on.
+pub fn slots_are_taken()
+    ensures { SlotsAreTaken }
+{}
 
 /// Fresh memory, as it is opened, lives.
 pub fn fresh_stories_live()

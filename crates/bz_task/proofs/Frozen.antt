@@ -9,7 +9,7 @@ use Rattle.bz_task.specs.Steps.{IsStep}
 use Rattle.bz_task.proofs.Sames.{front-shown, same-refl, same-trans, status-same}
 use Rattle.bz_task.proofs.Walks.{walk}
 
-front-step : (c : Config) (x y z : Instant) (k : ℕ) → IsStep c y z → KeepsFront c x y k → KeepsFront c x z k
+pub front-step : (c : Config) (x y z : Instant) (k : ℕ) → IsStep c y z → KeepsFront c x y k → KeepsFront c x z k
 front-step c x y z k (inl q) f = record { reached = q.reached k ∙ f.reached; front = λ i ne h. q.nodes k f.reached i (front-shown (words c y k) i h) ∙ f.front i ne h }
 front-step c x y z k (inr e) f = record {
   reached = e.reached k f.reached;

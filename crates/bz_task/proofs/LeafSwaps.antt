@@ -253,7 +253,7 @@ module _ (b : Laws) (publishes : Bool) (change : Change) (entries : List Entry) 
       | inl e ↦ inr (subst (λ z. Moved s.past.config (here s) y z) (sym e) w.moves)
       | inr ne ↦ inl (λ i h. words-other j ne i)
     ];
-    root = inl (record { pointer = root-value ROOT_AT (omega arith); status = root-value ROOT_STATUS_AT (omega arith) });
+    root = inl (root-value ROOT_AT (omega arith));
   }
 
   -- the content of keys of the leaf is what the leaf says

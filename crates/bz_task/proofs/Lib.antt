@@ -6,7 +6,7 @@ mod Inside
 mod Roots
 mod Ranges
 mod Thawed
-mod Stays
+pub mod Stays
 mod LeafSwaps
 mod Others
 mod SeenLeaves

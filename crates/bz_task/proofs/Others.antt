@@ -1,22 +1,23 @@
 -- What one worker does leaves what another owns.
-use Rattle.std.proofs.Common.{◌≡◌, ◌≢◌, ℕ, ◌+◌, ◌<◌, ◌≤◌, Bool, true, false, List, arith, refl, sym, ap, subst, ◌∙◌, inl, inr}
-use Rattle.std.proofs.lemmas.Bool.{cases_lt}
-use Rattle.bz_layout.specs.Addresses.{node_address}
+use Rattle.std.proofs.Common.{◌≡◌, ◌≢◌, ℕ, ◌+◌, ◌<◌, ◌≤◌, ◌⊎◌, Bool, true, false, List, arith, refl, sym, ap, subst, ◌∙◌, inl, inr}
+use Rattle.std.proofs.lemmas.Bool.{cases_lt, true≢false}
+use Rattle.bz_layout.specs.Addresses.{node_address, SlotsApart}
 use Rattle.bz_layout.specs.declared.sizes.TheConstants.{NODE_WORDS}
 use Rattle.bz_swap.specs.SwapMemory.{is_target}
 use Rattle.bz_word.specs.declared.entry.Entry.{Entry}
 use Rattle.bz_task.specs.Instant.{Instant, words}
-use Rattle.bz_task.specs.Others.{AreApart, Watches, LeavesAll, StoresTo, QuietActsAreLawful, StoresAreLawful, EffectsAreLawful}
+use Rattle.bz_task.specs.Others.{AreApart, IsOfReached, ShareNothing, SharersOfNothingAreApart, Watches, LeavesAll, StoresTo, QuietActsAreLawful, StoresAreLawful, EffectsAreLawful}
 use Rattle.bz_task.specs.Requests.{IsNodeTarget, IsTarget, IsOwnStore}
-use Rattle.bz_task.specs.Scene.{Scene, IsMine, IsFlushed, IsScene, IsLawful, here}
+use Rattle.bz_task.specs.Scene.{Scene, IsOfTaken, IsMine, IsFlushed, IsScene, IsLawful, here}
 use Rattle.bz_task.specs.Shown.{IsShown, SameNode}
 use Rattle.bz_task.specs.Steps.{IsQuiet, IsStep}
 use Rattle.bz_task.specs.Swaps.{Change, SwapsTo, IsGoodSwap}
 use Rattle.bz_task.proofs.LeafSwaps.{node-at, node-past, node-same, untouched}
 use Rattle.bz_task.proofs.Sames.{words-records, same-shown}
 
--- a word that stays hidden, keeps its value, and stays durable
+-- a word of a slot to which no link leads yet, or a reserved one, that stays hidden, keeps its value, and stays durable
 pub record Kept (v : Scene) (y : Instant) (a : ℕ) : Type 0 where
+  pub unreached : (o : IsOfTaken v a) → y.reached o.slot ≡ false
   pub hidden : (k i : ℕ) → y.reached k ≡ true → i < NODE_WORDS → a ≡ node_address v.past.config k + i → ¬ IsShown (words v.past.config y k) i
   pub value : y.value a ≡ (here v).value a
   pub flushed : IsFlushed v a → y.image a ≡ y.value a
@@ -28,11 +29,11 @@ watched v later y step kept w = record {
   took = w.took;
   step = subst (λ z. IsStep v.past.config (here v) z) (sym w.here) step;
   effected = w.effected;
-  owned = w.owned;
+  reserved = w.reserved;
   filled = w.filled;
   keeps = λ a m. let k : Kept v y a = kept a m in record {
     mine = record {
-      owned = w.owned a ∙ m.owned;
+      own = elim m.own [ inl o ↦ inl (of-taken a k o) | inr r ↦ inr (w.reserved a ∙ r) ];
       hidden = λ j i r l e h.
           k.hidden j i (subst (λ z. z.reached j ≡ true) w.here r) l (subst (λ c. a ≡ node_address c j + i) w.continues.config e)
           (subst (λ c. IsShown (words c y j) i) w.continues.config (subst (λ z. IsShown (words later.past.config z j) i) w.here h));
@@ -41,6 +42,16 @@ watched v later y step kept w = record {
     flushed = λ f. ap (λ z. z.image a) w.here ∙ (k.flushed f ∙ ap (λ z. z.value a) (sym w.here));
   };
 }
+  where
+    of-taken : (a : ℕ) → Kept v y a → IsOfTaken v a → IsOfTaken later a
+    of-taken a k o = record {
+      slot = o.slot;
+      place = o.place;
+      address = subst (λ c. a ≡ node_address c o.slot + o.place) (sym w.continues.config) o.address;
+      within = o.within;
+      took = w.took o.slot ∙ o.took;
+      unreached = ap (λ z. z.reached o.slot) w.here ∙ k.unreached o;
+    }
 
 module _ (v : Scene) (y : Instant) (q : LeavesAll v y) where
   same-words : (k i : ℕ) → words v.past.config y k i ≡ words v.past.config (here v) k i
@@ -61,6 +72,7 @@ module _ (v : Scene) (y : Instant) (q : LeavesAll v y) where
 
   quiet-kept : (a : ℕ) → IsMine v a → Kept v y a
   quiet-kept a m = record {
+    unreached = λ o. q.reached o.slot ∙ o.unreached;
     hidden = same-hidden a m;
     value = q.value a;
     flushed = λ f. elim (q.image a m) [ inl e ↦ e ∙ (f ∙ sym (q.value a)) | inr e ↦ e ∙ sym (q.value a) ];
@@ -94,6 +106,7 @@ module _ (s v : Scene) (a w : ℕ) (y : Instant) (good : IsScene s) (own : IsOwn
 
   store-kept : (b : ℕ) → IsMine v b → Kept v y b
   store-kept b m = record {
+    unreached = λ o. st.reached o.slot ∙ (ap (λ z. z.reached o.slot) (sym apart.here) ∙ o.unreached);
     hidden = λ k i r l e h.
         let was : (here s).reached k ≡ true = sym (st.reached k) ∙ r in
         m.hidden k i (subst (λ z. z.reached k ≡ true) (sym apart.here) was) l e
@@ -149,8 +162,19 @@ module _ (publishes : Bool) (change : Change) (entries : List Entry) (s v : Scen
       go true q = elim (g.shown k i q l h) [ inl was ↦ hidden-before b m k i q l e was | inr own ↦ theirs own.mine ]
       go false q = theirs (g.linked k i q r l)
 
+  effect-unreached : (b : ℕ) → IsMine v b → (o : IsOfTaken v b) → y.reached o.slot ≡ false
+  effect-unreached b m o = go (y.reached o.slot) refl
+    where
+      go : (t : Bool) → y.reached o.slot ≡ t → y.reached o.slot ≡ false
+      go false q = q
+      go true q =
+          let theirs : IsMine s (node_address s.past.config o.slot + o.place) = g.linked o.slot o.place (ap (λ z. z.reached o.slot) (sym apart.here) ∙ o.unreached) q o.within in
+          let at : node_address s.past.config o.slot + o.place ≡ b = ap (λ c. node_address c o.slot + o.place) (sym apart.config) ∙ sym o.address in
+          absurd (apart.apart b (subst (IsMine s) at theirs) m)
+
   effect-kept : (b : ℕ) → IsMine v b → Kept v y b
   effect-kept b m = record {
+    unreached = effect-unreached b m;
     hidden = λ k i r l e h. effect-hidden b m k i r l (subst (λ c. b ≡ node_address c k + i) apart.config e) (subst (λ c. IsShown (words c y k) i) apart.config h);
     value = same ∙ ap (λ z. z.value b) (sym apart.here);
     flushed = λ f. to.raw b (inr in-slots) ∙ (ap (λ z. z.image b) (sym apart.here) ∙ (f ∙ (ap (λ z. z.value b) apart.here ∙ sym same)));
@@ -165,3 +189,32 @@ module _ (publishes : Bool) (change : Change) (entries : List Entry) (s v : Scen
 pub effects-lawful : EffectsAreLawful
 effects-lawful publishes change entries s v later y good apart to g watches =
     watched v later y (step-for s v y apart (inr g.step)) (effect-kept publishes change entries s v y good apart to g) watches
+
+-- a slot that no link has led to is none to which one has led
+module _ (apart : SlotsApart) (s v : Scene) (n : ShareNothing s v) (a : ℕ) where
+  both-took : IsOfTaken s a → IsOfTaken v a → ⊥
+  both-took o u =
+      let at : node_address s.past.config o.slot + o.place ≡ node_address s.past.config u.slot + u.place = sym o.address ∙ (u.address ∙ ap (λ c. node_address c u.slot + u.place) n.config) in
+      let same : o.slot ≡ u.slot = (apart s.past.config o.slot u.slot o.place u.place o.within u.within at).0 in
+      n.took o.slot o.took (subst (λ k. v.took k ≡ true) (sym same) u.took)
+
+  took-reached : IsOfTaken s a → IsOfReached v a → ⊥
+  took-reached o u =
+      let at : node_address s.past.config o.slot + o.place ≡ node_address s.past.config u.slot + u.place = sym o.address ∙ (u.address ∙ ap (λ c. node_address c u.slot + u.place) n.config) in
+      let same : o.slot ≡ u.slot = (apart s.past.config o.slot u.slot o.place u.place o.within u.within at).0 in
+      true≢false (sym (ap (λ z. z.reached u.slot) (sym n.here) ∙ u.reached) ∙ (ap (here s).reached (sym same) ∙ o.unreached))
+
+  reached-took : IsOfReached s a → IsOfTaken v a → ⊥
+  reached-took o u =
+      let at : node_address s.past.config o.slot + o.place ≡ node_address s.past.config u.slot + u.place = sym o.address ∙ (u.address ∙ ap (λ c. node_address c u.slot + u.place) n.config) in
+      let same : o.slot ≡ u.slot = (apart s.past.config o.slot u.slot o.place u.place o.within u.within at).0 in
+      true≢false (sym o.reached ∙ (ap (here s).reached same ∙ (ap (λ z. z.reached u.slot) (sym n.here) ∙ u.unreached)))
+
+  neither : IsOfTaken s a ⊎ (s.reserved a ≡ true) → IsOfTaken v a ⊎ (v.reserved a ≡ true) → ⊥
+  neither (inl o) (inl u) = both-took o u
+  neither (inl o) (inr r) = took-reached o (n.of_second a r)
+  neither (inr r) (inl u) = reached-took (n.of_first a r) u
+  neither (inr r) (inr t) = n.reserved a r t
+
+pub sharers-apart : SlotsApart → SharersOfNothingAreApart
+sharers-apart apart s v n = record { config = n.config; here = n.here; apart = λ a m o. neither apart s v n a m.own o.own }

@@ -1,6 +1,7 @@
--- The root status counts the changes of the root, and where there are none the root pointer stays.
-use Rattle.std.proofs.Common.{◌≡◌, ℕ, ◌+◌, ◌-◌, ◌%◌, ◌^◌, ◌<◌, ◌≤◌, ◌==◌, ◌&&◌, if◌then◌else◌, Bool, true, false, arith, refl, ap, subst, ◌∙◌, inl, inr}
+-- The root is in the tree, and while it is not frozen the root pointer leads to it.
+use Rattle.std.proofs.Common.{◌≡◌, ℕ, ◌+◌, ◌-◌, ◌^◌, ◌<◌, ◌≤◌, ◌==◌, ◌&&◌, ◌⊎◌, if◌then◌else◌, Bool, true, false, arith, refl, sym, ap, subst, ◌∙◌, inl, inr}
 use Rattle.std.specs.Prelude.{nat_lt, nat_le, Some, None}
+use Rattle.std.proofs.lemmas.Bool.{true≢false}
 use Rattle.std.proofs.lemmas.Bool.Decides.{nat_tests}
 use Rattle.bz_layout.specs.declared.config.Config.{Config}
 use Rattle.bz_layout.specs.declared.sizes.TheConstants.{ROOT_AT, ROOT_STATUS_AT}
@@ -13,10 +14,12 @@ use Rattle.bz_content.specs.Laws.{WellFormedImagesHaveNoFault}
 use Rattle.bz_content.specs.Resolving.{resolve}
 use Rattle.bz_content.specs.View.{root_fault}
 use Rattle.bz_task.specs.Good.{IsGood}
-use Rattle.bz_task.specs.Instant.{Instant, form_at}
-use Rattle.bz_task.specs.Laws.{AreMoments, RootStays, RootsAreReached}
-use Rattle.bz_task.specs.Shown.{SameRoot}
-use Rattle.bz_task.specs.Steps.{IsStep, IsHistory, RootMoved}
+use Rattle.bz_word.specs.Statuses.{status}
+use Rattle.bz_task.specs.Instant.{Instant, words, page_at, form_at}
+use Rattle.bz_task.specs.Laws.{ThawedRootsStay, RootsAreReached}
+use Rattle.bz_task.specs.Steps.{IsStep}
+use Rattle.bz_task.proofs.Frozen.{front-step}
+use Rattle.bz_task.proofs.Sames.{status-same}
 use Rattle.bz_task.proofs.Walks.{walk}
 
 is : (a : ℕ) → (a == a) ≡ true
@@ -27,61 +30,6 @@ pub fits : WellFormedImagesHaveNoFault → TreesHaveForms → (c : Config) (x : 
 fits formed forms c x g =
     let w : IsWellFormed c x.image = (formed c x.image).0 g.form in
     forms (view_in c x.image) w.tree.one w.tree.tall w.tree.none
-
-root-tested : (nodes pointer status : ℕ) → root_fault nodes pointer status ≡ None → status < 2 ^ 32
-unfolding root_fault
-root-tested nodes pointer status e = go (nat_lt 0 pointer) (nat_le pointer nodes) (nat_lt status (2 ^ 32)) refl e
-  where
-    go : (a b d : Bool) → nat_lt status (2 ^ 32) ≡ d → (if a && (b && d) then None else Some Root) ≡ None → status < 2 ^ 32
-    go true true true q e = grind (arith, nat_tests)
-    go true true false q e = absurd (cc)
-    go true false d q e = absurd (cc)
-    go false b d q e = absurd (cc)
-
-pub root-fits : WellFormedImagesHaveNoFault → TreesHaveForms → (c : Config) (x : Instant) → IsGood c x → x.value ROOT_STATUS_AT < 2 ^ 32
-root-fits formed forms c x g =
-    let e : root_fault c.nodes (resolve x.image ROOT_AT) (resolve x.image ROOT_STATUS_AT) ≡ None = rw (is c.nodes) at (fits formed forms c x g).super in
-    let s : resolve x.image ROOT_STATUS_AT < 2 ^ 32 = root-tested c.nodes (resolve x.image ROOT_AT) (resolve x.image ROOT_STATUS_AT) e in
-    subst (λ w. w < 2 ^ 32) g.root_status s
-
-record Ages (x y : Instant) : Type 0 where
-  changes : ℕ
-  most : x.effects + changes ≤ y.effects
-  stamp : y.value ROOT_STATUS_AT ≡ (x.value ROOT_STATUS_AT + changes) % 2 ^ 32
-  same : changes ≡ 0 → SameRoot x y
-
-same-trans : (x y z : Instant) → SameRoot x y → SameRoot y z → SameRoot x z
-same-trans x y z s t = record { pointer = t.pointer ∙ s.pointer; status = t.status ∙ s.status }
-
-age-stay : (x y z : Instant) → Ages x y → y.effects ≤ z.effects → SameRoot y z → Ages x z
-age-stay x y z a e s = record { changes = a.changes; most = omega (arith, a.most, e); stamp = s.status ∙ a.stamp; same = λ none. same-trans x y z (a.same none) s }
-
-age-change : (x y z : Instant) → Ages x y → z.effects ≡ y.effects + 1 → RootMoved y z → Ages x z
-age-change x y z a e m = record { changes = a.changes + 1; most = omega (arith, a.most, e); stamp = omega (arith, a.stamp, m); same = λ none. absurd (omega (arith, none)) }
-
-age-step : (c : Config) (x y z : Instant) → IsStep c y z → Ages x y → Ages x z
-age-step c x y z (inl q) a = age-stay x y z a (omega (arith, q.effects)) q.root
-age-step c x y z (inr f) a = elim f.root [ inl s ↦ age-stay x y z a (omega (arith, f.effects)) s | inr m ↦ age-change x y z a f.effects m ]
-
-age-zero : (x : Instant) → x.value ROOT_STATUS_AT < 2 ^ 32 → Ages x x
-age-zero x h = record { changes = 0; most = omega arith; stamp = omega (arith, h); same = λ e. record { pointer = refl; status = refl } }
-
-module _ (formed : WellFormedImagesHaveNoFault) (forms : TreesHaveForms) (c : Config) (at : ℕ → Instant) (first last : ℕ) (h : IsHistory c at first last) where
-  small : (m : ℕ) → first ≤ m → m ≤ last → (at m).value ROOT_STATUS_AT < 2 ^ 32
-  small m a b = root-fits formed forms c (at m) (h.good m a b)
-
-  ages : (m j : ℕ) → AreMoments first last m j → Ages (at m) (at j)
-  ages m j o =
-      walk (λ i. Ages (at m) (at i)) m last (age-zero (at m) (small m o.since (omega (arith, o.order, o.until))))
-      (λ i from to a. age-step c (at m) (at i) (at (i + 1)) (h.step i (omega (arith, o.since, from)) to) a) j o.order o.until
-
-pub root-stays : WellFormedImagesHaveNoFault → TreesHaveForms → RootStays
-root-stays formed forms c at first last m i j h o from to e =
-    let a : Ages (at m) (at i) = ages formed forms c at first last h m i (record { since = o.since; order = from; until = omega (arith, to, o.until) }) in
-    let b : Ages (at i) (at j) = ages formed forms c at first last h i j (record { since = omega (arith, o.since, from); order = to; until = o.until }) in
-    let few : (at j).effects < 2 ^ 32 = (h.good j (omega (arith, o.since, o.order)) o.until).few in
-    let fits : (at m).value ROOT_STATUS_AT < 2 ^ 32 = small formed forms c at first last h m o.since (omega (arith, o.order, o.until)) in
-    a.same (omega (arith, a.most, b.most, a.stamp, b.stamp, e, few, fits))
 
 pub pointer-tested : (nodes pointer status : ℕ) → root_fault nodes pointer status ≡ None → (0 < pointer) × (pointer ≤ nodes)
 unfolding root_fault
@@ -113,3 +61,38 @@ roots-reached formed forms c x g =
   where
     last : high_at (view_in c x.image) c.nodes ((form_at c x).high c.nodes) 0 ≡ (form_at c x).high c.nodes
     last = rw (is c.nodes) refl
+
+module _ (c : Config) (x y : Instant) (k pointer : ℕ) (r : x.reached k ≡ true) where
+  stays-frozen : IsStep c x y → (page_at c x k).frozen ≡ true → (page_at c y k).frozen ≡ true
+  stays-frozen (inl q) f = ap (λ w. (status w).frozen) (status-same (words c x k) (words c y k) (q.nodes k r)) ∙ f
+  stays-frozen (inr e) f = elim (e.nodes k r) [
+    | inl s ↦ ap (λ w. (status w).frozen) (status-same (words c x k) (words c y k) s) ∙ f
+    | inr m ↦ absurd (true≢false (sym f ∙ m.thawed))
+  ]
+
+  turned : IsStep c x y → pointer - 1 ≡ k → x.value ROOT_AT ≡ pointer → (y.value ROOT_AT ≡ pointer) ⊎ ((page_at c y k).frozen ≡ true)
+  turned (inl q) at e = inl (q.root.pointer ∙ e)
+  turned (inr f) at e = elim f.root [
+    | inl s ↦ inl (s ∙ e)
+    | inr z ↦ inr (subst (λ j. (page_at c y j).frozen ≡ true) (ap (λ w. w - 1) e ∙ at) z)
+  ]
+
+-- the slot is reached, and the root pointer leads to it while it is not frozen
+record IsStillRoot (c : Config) (x : Instant) (pointer k : ℕ) : Type 0 where
+  reached : x.reached k ≡ true
+  led : (x.value ROOT_AT ≡ pointer) ⊎ ((page_at c x k).frozen ≡ true)
+
+still-step : (c : Config) (x y : Instant) (pointer k : ℕ) → pointer - 1 ≡ k → IsStep c x y → IsStillRoot c x pointer k → IsStillRoot c y pointer k
+still-step c x y pointer k at step h = record {
+  reached = (front-step c x x y k step (record { reached = h.reached; front = λ i ne l. refl })).reached;
+  led = elim h.led [ inl e ↦ turned c x y k pointer h.reached step at e | inr f ↦ inr (stays-frozen c x y k pointer h.reached step f) ];
+}
+
+pub thawed-roots-stay : RootsAreReached → ThawedRootsStay
+thawed-roots-stay roots c at first last m j h o thawed =
+    let k : ℕ = (at m).value ROOT_AT - 1 in
+    let base : IsStillRoot c (at m) ((at m).value ROOT_AT) k = record { reached = (roots c (at m) (h.good m o.since (omega (arith, o.order, o.until)))).reached; led = inl refl } in
+    let last_one : IsStillRoot c (at j) ((at m).value ROOT_AT) k =
+    walk (λ i. IsStillRoot c (at i) ((at m).value ROOT_AT) k) m last base
+    (λ i from to s. still-step c (at i) (at (i + 1)) ((at m).value ROOT_AT) k refl (h.step i (omega (arith, o.since, from)) to) s) j o.order o.until in
+    elim last_one.led [ inl e ↦ e | inr f ↦ absurd (true≢false (sym f ∙ thawed)) ]

@@ -4,8 +4,8 @@ use Rattle.std.specs.Prelude.{not}
 use Rattle.bz_layout.specs.Slots.{FreeSlots}
 use Rattle.bz_task.specs.Laws.{PathsStay, ViewsStay, NothingIsGained}
 use Rattle.bz_task.specs.Outcomes.{IsUnderNode, IsGuarded, IsLink, EndsAtLeaf}
-use Rattle.bz_task.specs.OwnActs.{is_gained}
-use Rattle.bz_task.specs.Scene.{Past, Continues}
+use Rattle.bz_task.specs.OwnActs.{is_gained, gained}
+use Rattle.bz_task.specs.Scene.{Past, Scene, IsMine, Continues}
 use Rattle.bz_task.specs.declared.path.Link.{Link}
 
 module _ (p q : Past) (n : Continues p q) where
@@ -99,3 +99,13 @@ or-false false b e h = absurd (cc)
 
 pub nothing-gained : NothingIsGained
 nothing-gained s free h k t = h k (or-false (s.took k) (is_gained free free k) (none-gained free k) t)
+
+-- what is one's own stays so where slots are taken
+pub gained-mine : (s : Scene) (old new : FreeSlots) (a : ℕ) → IsMine s a → IsMine (gained s old new) a
+gained-mine s old new a m = record {
+  own = elim m.own [
+    | inl o ↦ inl (record { slot = o.slot; place = o.place; address = o.address; within = o.within; took = rw o.took refl; unreached = o.unreached })
+    | inr r ↦ inr r
+  ];
+  hidden = m.hidden;
+}

@@ -3,7 +3,7 @@ use Rattle.std.specs.Prelude.{◌≡◌, ◌≢◌, ℕ, ◌+◌, ◌-◌, ◌^�
 use Rattle.bz_layout.specs.Addresses.{node_address}
 use Rattle.bz_layout.specs.Slots.{FreeSlots}
 use Rattle.bz_layout.specs.declared.config.Config.{Config}
-use Rattle.bz_layout.specs.declared.sizes.TheConstants.{NODE_WORDS, STATUS_AT, HEADER_AT, META_AT, ROOT_AT, ROOT_STATUS_AT}
+use Rattle.bz_layout.specs.declared.sizes.TheConstants.{NODE_WORDS, STATUS_AT, HEADER_AT, META_AT, ROOT_AT}
 use Rattle.bz_slotted.specs.Readers.{found_of}
 use Rattle.bz_slotted.specs.Records.{pointer_at}
 use Rattle.bz_slotted.specs.Rules.{node_fault}
@@ -15,7 +15,7 @@ use Rattle.bz_task.specs.Instant.{Instant, words, durable, page_at, form_at, is_
 use Rattle.bz_task.specs.Outcomes.{IsPath, IsView}
 use Rattle.bz_task.specs.OwnActs.{gained}
 use Rattle.bz_task.specs.Scene.{Past, Scene, Continues, HasFilled}
-use Rattle.bz_task.specs.Shown.{IsShown, SameWords, SameNode, SameRecords, SameSeparators, SameRoot}
+use Rattle.bz_task.specs.Shown.{IsShown, SameWords, SameNode, SameRecords, SameSeparators}
 use Rattle.bz_task.specs.Steps.{IsHistory}
 use Rattle.bz_task.specs.Swaps.{swapped, SwapsTo}
 use Rattle.bz_task.specs.declared.path.Path.{Path}
@@ -33,11 +33,11 @@ NodesStay =
     (c : Config) (at : ℕ → Instant) (first last m i j k : ℕ) → IsHistory c at first last → AreMoments first last m j → m ≤ i → i ≤ j →
     (at m).reached k ≡ true → words c (at j) k STATUS_AT ≡ words c (at m) k STATUS_AT → SameNode c (at m) (at i) k
 
--- so do root pointer and root status
-abbrev pub RootStays : Type 0
-RootStays =
-    (c : Config) (at : ℕ → Instant) (first last m i j : ℕ) → IsHistory c at first last → AreMoments first last m j → m ≤ i → i ≤ j →
-    (at j).value ROOT_STATUS_AT ≡ (at m).value ROOT_STATUS_AT → SameRoot (at m) (at i)
+-- while it is not frozen, the root pointer leads to the root
+abbrev pub ThawedRootsStay : Type 0
+ThawedRootsStay =
+    (c : Config) (at : ℕ → Instant) (first last m j : ℕ) → IsHistory c at first last → AreMoments first last m j →
+    (page_at c (at j) ((at m).value ROOT_AT - 1)).frozen ≡ false → (at j).value ROOT_AT ≡ (at m).value ROOT_AT
 
 -- once it is frozen, it stays as it was
 abbrev pub FrozenNodesStay : Type 0

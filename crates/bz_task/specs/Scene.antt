@@ -1,6 +1,6 @@
 -- What one worker's task knows of: the memory at each moment since its call began, and what is the worker's own. Scenes are
 -- made for proofs and never stored.
-use Rattle.std.specs.Prelude.{◌≡◌, ℕ, ◌+◌, ◌^◌, ◌<◌, ◌≤◌, Bool, true}
+use Rattle.std.specs.Prelude.{◌≡◌, ℕ, ◌+◌, ◌^◌, ◌<◌, ◌≤◌, ◌⊎◌, Bool, true, false}
 use Rattle.bz_layout.specs.Addresses.{node_address, words_of}
 use Rattle.bz_layout.specs.Config.{IsConfig}
 use Rattle.bz_layout.specs.declared.config.Config.{Config}
@@ -30,8 +30,8 @@ pub record Scene : Type 0 where
   pub past : Past
   -- the call has had its effect
   pub effected : Bool
-  -- the addresses in slots that this worker took, and of blocks that it reserved for a record, since power on
-  pub owned : ℕ → Bool
+  -- the addresses of blocks that this worker reserved for a record since power on
+  pub reserved : ℕ → Bool
   -- the slots that this worker took since power on, and those into which it has stored
   pub took : ℕ → Bool
   pub filled : ℕ → Bool
@@ -40,9 +40,19 @@ pub record Scene : Type 0 where
 abbrev pub here : Scene → Instant
 here s = s.past.at s.past.now
 
--- a word that this worker alone may store into: one of its own that no reader reads yet
+-- a word of a slot that this worker took, and to which no link has led
+pub record IsOfTaken (s : Scene) (a : ℕ) : Type 0 where
+  pub slot : ℕ
+  pub place : ℕ
+  pub address : a ≡ node_address s.past.config slot + place
+  pub within : place < NODE_WORDS
+  pub took : s.took slot ≡ true
+  pub unreached : (here s).reached slot ≡ false
+
+-- a word that this worker alone may store into: of a slot of its own, or reserved for its record, and no reader reads it yet.
+-- So what it took is its own no longer once a link has led there, and what it reserved, once the record is visible.
 pub record IsMine (s : Scene) (a : ℕ) : Type 0 where
-  pub owned : s.owned a ≡ true
+  pub own : IsOfTaken s a ⊎ (s.reserved a ≡ true)
   pub hidden : (k i : ℕ) → (here s).reached k ≡ true → i < NODE_WORDS → a ≡ node_address s.past.config k + i → ¬ IsShown (words s.past.config (here s) k) i
 
 -- what is stored there is durable
@@ -82,6 +92,6 @@ pub record IsLawful (s after : Scene) : Type 0 where
   pub took : (k : ℕ) → after.took k ≡ s.took k
   pub step : IsStep s.past.config (here s) (here after)
   pub effected : after.effected ≡ s.effected
-  pub owned : (a : ℕ) → after.owned a ≡ s.owned a
+  pub reserved : (a : ℕ) → after.reserved a ≡ s.reserved a
   pub filled : (k : ℕ) → after.filled k ≡ s.filled k
   pub keeps : (a : ℕ) → IsMine s a → KeepsWord s after a

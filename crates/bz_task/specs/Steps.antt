@@ -1,10 +1,10 @@
 -- The lawful steps: all that an act, an eviction or a mark may do to the nodes. This is one definition for every worker.
-use Rattle.std.specs.Prelude.{◌≡◌, ◌≢◌, ℕ, ◌+◌, ◌%◌, ◌^◌, ◌<◌, ◌≤◌, ◌⊎◌, true, false}
+use Rattle.std.specs.Prelude.{◌≡◌, ◌≢◌, ℕ, ◌+◌, ◌-◌, ◌%◌, ◌^◌, ◌<◌, ◌≤◌, ◌⊎◌, true, false}
 use Rattle.bz_layout.specs.declared.config.Config.{Config}
-use Rattle.bz_layout.specs.declared.sizes.TheConstants.{STATUS_AT, META_AT, SHARED_WORDS, ROOT_STATUS_AT}
+use Rattle.bz_layout.specs.declared.sizes.TheConstants.{STATUS_AT, META_AT, SHARED_WORDS, ROOT_AT}
 use Rattle.bz_slotted.specs.Page.{page}
 use Rattle.bz_task.specs.Good.{IsGood}
-use Rattle.bz_task.specs.Instant.{Instant, words}
+use Rattle.bz_task.specs.Instant.{Instant, words, page_at}
 use Rattle.bz_task.specs.Shown.{SameNode, SameRecords, SameSeparators, SameRoot}
 
 -- the stamp after the next change
@@ -29,9 +29,9 @@ pub record Moves (n m : ℕ → ℕ) : Type 0 where
 abbrev pub Moved : Config → Instant → Instant → ℕ → Type 0
 Moved c x y k = Moves (words c x k) (words c y k)
 
--- a swap changed the root pointer or its guard
-abbrev pub RootMoved : Instant → Instant → Type 0
-RootMoved x y = y.value ROOT_STATUS_AT ≡ next_stamp (x.value ROOT_STATUS_AT)
+-- the root is the one that it was, or that one is frozen
+abbrev pub ReplacedRootIsFrozen : Config → Instant → Instant → Type 0
+ReplacedRootIsFrozen c x y = (y.value ROOT_AT ≡ x.value ROOT_AT) ⊎ ((page_at c y (x.value ROOT_AT - 1)).frozen ≡ true)
 
 -- no swap takes effect: a read, a flush, an eviction, an act of a swap, a private store
 pub record IsQuiet (c : Config) (x y : Instant) : Type 0 where
@@ -40,12 +40,12 @@ pub record IsQuiet (c : Config) (x y : Instant) : Type 0 where
   pub nodes : (k : ℕ) → x.reached k ≡ true → SameNode c x y k
   pub root : SameRoot x y
 
--- a swap takes effect: each reached node stays or is changed, and so does the root
+-- a swap takes effect: each reached node stays or is changed, and a root that is replaced is frozen
 pub record IsEffect (c : Config) (x y : Instant) : Type 0 where
   pub effects : y.effects ≡ x.effects + 1
   pub reached : (k : ℕ) → x.reached k ≡ true → y.reached k ≡ true
   pub nodes : (k : ℕ) → x.reached k ≡ true → SameNode c x y k ⊎ Moved c x y k
-  pub root : SameRoot x y ⊎ RootMoved x y
+  pub root : ReplacedRootIsFrozen c x y
 
 abbrev pub IsStep : Config → Instant → Instant → Type 0
 IsStep c x y = IsQuiet c x y ⊎ IsEffect c x y

@@ -80,13 +80,13 @@ abbrev pub reserves : Config → List Entry → ℕ → Bool
 reserves c [] a = false
 reserves c (e ∷ entries) a = grows_over c e a || reserves c entries a
 
--- the own swap takes effect: what it reserved is the worker's own
+-- the own swap takes effect: what it reserved is the worker's
 pub record Takes (publishes : Bool) (entries : List Entry) (s after : Scene) : Type 0 where
   pub continues : Continues s.past after.past
   pub took : (k : ℕ) → after.took k ≡ s.took k
   pub swaps : SwapsTo s.past.config entries (here s) (here after)
   pub effected : after.effected ≡ publishes || s.effected
-  pub owned : (a : ℕ) → after.owned a ≡ s.owned a || reserves s.past.config entries a
+  pub reserved : (a : ℕ) → after.reserved a ≡ s.reserved a || reserves s.past.config entries a
   pub filled : (k : ℕ) → after.filled k ≡ s.filled k
   pub keeps : (a : ℕ) → IsMine s a → (here after).value a ≡ (here s).value a
   pub flushed : (a : ℕ) → IsMine s a → IsFlushed s a → IsFlushed after a

@@ -12,7 +12,7 @@ abbrev pub alone : Config → Instant → Scene
 alone c x = record {
   past = record { config = c; at = λ m. x; now = 0; since = 0; loads = λ m. false };
   effected = false;
-  owned = λ a. false;
+  reserved = λ a. false;
   took = λ k. false;
   filled = λ k. false;
 }

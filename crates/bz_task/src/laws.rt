@@ -1,11 +1,11 @@
 //! Laws of lawful steps. Each function does nothing: its contract is the law.
 
-ghost use Rattle.bz_task.specs.Laws.{NodesStay, RootStays, FrozenNodesStay, SeparatorsStay, FrontsStay, RangesStay, NodesWereInside, RootsAreReached, HeadersSayTheLevel, SameRecordsShowTheSame, SwapsShowInSlots, SeenLeavesAreWhole, LeavesAreInTrees, ChildrenAreInTrees, ThawedLeavesStay, PathsStay, ViewsStay, NothingIsGained};
+ghost use Rattle.bz_task.specs.Laws.{NodesStay, ThawedRootsStay, FrozenNodesStay, SeparatorsStay, FrontsStay, RangesStay, NodesWereInside, RootsAreReached, HeadersSayTheLevel, SameRecordsShowTheSame, SwapsShowInSlots, SeenLeavesAreWhole, LeavesAreInTrees, ChildrenAreInTrees, ThawedLeavesStay, PathsStay, ViewsStay, NothingIsGained};
 ghost use Rattle.bz_task.specs.LeafSwaps.{LeafSwapsAreGood};
 ghost use Rattle.bz_task.specs.Resting.{RestingMemoriesAreGood};
 ghost use Rattle.bz_task.specs.Settled.{SettledMemoriesAreGood};
 ghost use Rattle.bz_task.specs.Targets.{TargetsAreOfTheMemory, TargetsStay, OwnWordsAreNoTargets};
-ghost use Rattle.bz_task.specs.Others.{QuietActsAreLawful, StoresAreLawful, EffectsAreLawful};
+ghost use Rattle.bz_task.specs.Others.{SharersOfNothingAreApart, QuietActsAreLawful, StoresAreLawful, EffectsAreLawful};
 
 use bz_content::laws as content;
 use bz_shape::laws as shape;
@@ -16,12 +16,12 @@ pub fn nodes_stay()
     ensures { NodesStay }
 {}
 
-/// While the root status has the value that was read, the root pointer is as it was.
-pub fn root_stays()
-    ensures { RootStays }
+/// While the root is not frozen, the root pointer leads to it.
+pub fn thawed_roots_stay()
+    ensures { ThawedRootsStay }
 {
-    content::well_formed_images_have_no_fault();
-    shape::trees_have_forms();
+    frozen_nodes_stay();
+    roots_are_reached();
 }
 
 /// A frozen node stays as it was.
@@ -145,6 +145,13 @@ pub fn views_stay()
 pub fn nothing_is_gained()
     ensures { NothingIsGained }
 {}
+
+/// Workers who share nothing own no word both.
+pub fn sharers_of_nothing_are_apart()
+    ensures { SharersOfNothingAreApart }
+{
+    bz_layout::slots_apart();
+}
 
 /// A read, a flush, an eviction and an act of a swap without effect are lawful for everybody.
 pub fn quiet_acts_are_lawful()

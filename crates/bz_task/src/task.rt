@@ -1,9 +1,10 @@
 //! What a task is.
 
-ghost use Rattle.std.specs.Prelude.{◌≡◌, ◌<◌, ◌⊎◌, ℕ, Bool, true, false, IsSome, Option, Some, List, length};
+ghost use Rattle.std.specs.Prelude.{◌≡◌, ◌<◌, ◌≤◌, ◌⊎◌, ℕ, Bool, true, false, IsSome, Option, Some, List, length};
 ghost use Rattle.bz_call.specs.declared.replies.Spent.TheVariants.{Nodes, Swaps};
 ghost use Rattle.bz_layout.specs.Slots.{FreeSlots};
 ghost use Rattle.bz_layout.specs.declared.config.Config.{Config};
+ghost use Rattle.bz_layout.specs.declared.thresholds.TheConstants.{SPLIT_SLOTS};
 ghost use Rattle.bz_word.specs.declared.entry.Entry.{Entry};
 ghost use Rattle.bz_task.specs.Instant.{Instant};
 ghost use Rattle.bz_task.specs.OwnActs.{Stores, Flushes, AreTakenFrom, AreUnreached, gained};
@@ -34,7 +35,7 @@ pub trait Task: Drop {
     /// The most acts that it will still ask for.
     ghost left: { Self → ℕ };
 
-    /// How many slots it will still take, all at once.
+    /// How many slots it will still take, all at once: at most as many as a split takes.
     ghost needs: { Self → ℕ };
 
     /// The change that its call makes, if it makes one.
@@ -91,6 +92,8 @@ pub trait Task: Drop {
         ensures askable { (s : Scene) (todo : Todo) → s.past.config ≡ config self.now → facts self.now Waiting s → IsScene s → asks self.now ≡ Some todo → IsAskable s todo }
         // a load that differs is worth a restart: what was read before holds no longer
         ensures cause { (s : Scene) (seen : Seen) → s.past.config ≡ config self.now → facts self.now Waiting s → differs self.now seen → IsCause (asks self.now) seen s }
+        // at most so many slots are taken
+        ensures few { needs self.now ≤ SPLIT_SLOTS }
         // the change is made once
         ensures once { (s : Scene) → facts self.now Waiting s → publishing self.now ≡ true → s.effected ≡ false }
         // the end means what it should, and every slot that was taken has been stored into

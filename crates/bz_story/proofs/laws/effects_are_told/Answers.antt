@@ -8,4 +8,5 @@ returns c = effects-told (record {
   own = c.effects_keep_own.ensures;
   lawful = c.effects_are_lawful.ensures;
   apart = c.slots_apart.ensures;
+  sharers = c.sharers_of_nothing_are_apart.ensures;
 })

@@ -11,4 +11,5 @@ returns c = flushes-told (record {
   quiet = c.quiet_acts_are_lawful.ensures;
   stores = c.stores_are_lawful.ensures;
   alike = c.same_records_show_the_same.ensures;
+  sharers = c.sharers_of_nothing_are_apart.ensures;
 })

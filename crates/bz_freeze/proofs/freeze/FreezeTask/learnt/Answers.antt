@@ -1,5 +1,9 @@
 use Rattle.bz_freeze.proofs.Asking.{askable}
+use Rattle.bz_freeze.proofs.Staying.{stable}
 use Rattle.bz_freeze.proofs.freeze.FreezeTask.learnt.Goals as goal
+
+pub returns-clause-stable : goal.returns-clause-stable
+returns-clause-stable c stage s after same facts good step = let t = c.args.self.now in stable t.slot t.status s after step t.phase stage facts
 
 pub returns-clause-askable : goal.returns-clause-askable
 returns-clause-askable c s todo same f good e =

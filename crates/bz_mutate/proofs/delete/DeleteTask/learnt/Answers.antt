@@ -1,5 +1,10 @@
 use Rattle.bz_mutate.proofs.DeleteActing.{askable}
+use Rattle.bz_mutate.proofs.DeleteStaying.{stable}
 use Rattle.bz_mutate.proofs.delete.DeleteTask.learnt.Goals as goal
+
+pub returns-clause-stable : goal.returns-clause-stable
+returns-clause-stable c stage s after same facts good step =
+    let t = c.args.self.now in stable c.views_stay.ensures c.records_were.ensures t.key t.view s after step t.phase stage facts
 
 pub returns-clause-askable : goal.returns-clause-askable
 returns-clause-askable c s todo same facts good asks =
