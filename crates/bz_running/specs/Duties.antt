@@ -6,15 +6,18 @@ use Rattle.bz_task.specs.Swaps.{Change}
 use Rattle.bz_task.specs.declared.todo.Outcome.{Outcome}
 use Rattle.bz_task.specs.declared.todo.Seen.{Seen}
 use Rattle.bz_task.specs.declared.todo.Todo.{Todo}
+use Rattle.bz_consol.specs.Duties as consol
+use Rattle.bz_consol.specs.Facts.{consol_change, consol_means}
 use Rattle.bz_descend.specs.Duties as descend
 use Rattle.bz_descend.specs.Facts.{descend_change}
+use Rattle.bz_freeze.specs.Facts.{freeze_asks, freeze_end, freeze_left, freeze_facts, freeze_means, freeze_change}
 use Rattle.bz_insert.specs.Duties as insert
 use Rattle.bz_leaf.specs.Duties as leaf
 use Rattle.bz_leaf.specs.Facts.{leaf_change}
 use Rattle.bz_mutate.specs.DeleteDuties as delete
 use Rattle.bz_mutate.specs.UpdateDuties as update
 use Rattle.bz_running.specs.declared.running.Running.{Running}
-use Rattle.bz_running.specs.declared.running.Running.TheVariants.{Descending, Reading, Inserting, Updating, Deleting}
+use Rattle.bz_running.specs.declared.running.Running.TheVariants.{Descending, Reading, Inserting, Updating, Deleting, Freezing, Consolidating}
 
 unfoldable pub config_of : Running → Config
 config_of (Descending t) = descend.config_of t
@@ -22,6 +25,8 @@ config_of (Reading t) = leaf.config_of t
 config_of (Inserting t) = insert.config_of t
 config_of (Updating t) = update.config_of t
 config_of (Deleting t) = delete.config_of t
+config_of (Freezing t) = t.config
+config_of (Consolidating t) = t.config
 
 unfoldable pub asks_of : Running → Option Todo
 asks_of (Descending t) = descend.asks_of t
@@ -29,6 +34,8 @@ asks_of (Reading t) = leaf.asks_of t
 asks_of (Inserting t) = insert.asks_of t
 asks_of (Updating t) = update.asks_of t
 asks_of (Deleting t) = delete.asks_of t
+asks_of (Freezing t) = freeze_asks t.config t.slot t.status t.phase
+asks_of (Consolidating t) = consol.asks_of t
 
 unfoldable pub end_of : Running → Option Outcome
 end_of (Descending t) = descend.end_of t
@@ -36,6 +43,8 @@ end_of (Reading t) = leaf.end_of t
 end_of (Inserting t) = insert.end_of t
 end_of (Updating t) = update.end_of t
 end_of (Deleting t) = delete.end_of t
+end_of (Freezing t) = freeze_end t.phase
+end_of (Consolidating t) = consol.end_of t
 
 unfoldable pub left_of : Running → ℕ
 left_of (Descending t) = descend.left_of t
@@ -43,6 +52,8 @@ left_of (Reading t) = leaf.left_of t
 left_of (Inserting t) = insert.left_of t
 left_of (Updating t) = update.left_of t
 left_of (Deleting t) = delete.left_of t
+left_of (Freezing t) = freeze_left t.phase
+left_of (Consolidating t) = consol.left_of t
 
 unfoldable pub needs_of : Running → ℕ
 needs_of (Descending t) = 0
@@ -50,6 +61,8 @@ needs_of (Reading t) = 0
 needs_of (Inserting t) = 0
 needs_of (Updating t) = 0
 needs_of (Deleting t) = 0
+needs_of (Freezing t) = 0
+needs_of (Consolidating t) = consol.needs_of t
 
 unfoldable pub change_of : Running → Change
 change_of (Descending t) = descend_change
@@ -57,6 +70,8 @@ change_of (Reading t) = leaf_change
 change_of (Inserting t) = insert.change_of t
 change_of (Updating t) = update.change_of t
 change_of (Deleting t) = delete.change_of t
+change_of (Freezing t) = freeze_change
+change_of (Consolidating t) = consol_change
 
 unfoldable pub publishing_of : Running → Bool
 publishing_of (Descending t) = false
@@ -64,6 +79,8 @@ publishing_of (Reading t) = false
 publishing_of (Inserting t) = insert.publishing_of t
 publishing_of (Updating t) = update.publishing_of t
 publishing_of (Deleting t) = delete.publishing_of t
+publishing_of (Freezing t) = false
+publishing_of (Consolidating t) = false
 
 unfoldable pub facts_of : Running → Stage → Scene → Type 0
 facts_of (Descending t) = descend.facts_of t
@@ -71,6 +88,8 @@ facts_of (Reading t) = leaf.facts_of t
 facts_of (Inserting t) = insert.facts_of t
 facts_of (Updating t) = update.facts_of t
 facts_of (Deleting t) = delete.facts_of t
+facts_of (Freezing t) = freeze_facts t.slot t.status t.phase
+facts_of (Consolidating t) = consol.facts_of t
 
 unfoldable pub means_of : Running → Outcome → Scene → Type 0
 means_of (Descending t) = descend.means_of t
@@ -78,6 +97,8 @@ means_of (Reading t) = leaf.means_of t
 means_of (Inserting t) = insert.means_of t
 means_of (Updating t) = update.means_of t
 means_of (Deleting t) = delete.means_of t
+means_of (Freezing t) = freeze_means t.slot
+means_of (Consolidating t) = consol_means t.link t.image.0
 
 unfoldable pub differs_of : Running → Seen → Type 0
 differs_of (Descending t) = λ seen. ⊥
@@ -85,19 +106,25 @@ differs_of (Reading t) = leaf.differs_of t
 differs_of (Inserting t) = λ seen. ⊥
 differs_of (Updating t) = λ seen. ⊥
 differs_of (Deleting t) = λ seen. ⊥
+differs_of (Freezing t) = λ seen. ⊥
+differs_of (Consolidating t) = λ seen. ⊥
 
--- it only looks up, and never publishes
-unfoldable pub is_lookup : Running → Bool
-is_lookup (Descending t) = true
-is_lookup (Reading t) = true
-is_lookup (Inserting t) = false
-is_lookup (Updating t) = false
-is_lookup (Deleting t) = false
+-- it makes no change of a key, and never publishes
+unfoldable pub makes_no_change : Running → Bool
+makes_no_change (Descending t) = true
+makes_no_change (Reading t) = true
+makes_no_change (Inserting t) = false
+makes_no_change (Updating t) = false
+makes_no_change (Deleting t) = false
+makes_no_change (Freezing t) = true
+makes_no_change (Consolidating t) = true
 
-pub lookups-publish-nothing : (t : Running) → is_lookup t ≡ true → publishing_of t ≡ false
-unfolding is_lookup publishing_of
-lookups-publish-nothing (Descending t) e = refl
-lookups-publish-nothing (Reading t) e = refl
-lookups-publish-nothing (Inserting t) e = absurd (cc)
-lookups-publish-nothing (Updating t) e = absurd (cc)
-lookups-publish-nothing (Deleting t) e = absurd (cc)
+pub no-change-is-published : (t : Running) → makes_no_change t ≡ true → publishing_of t ≡ false
+unfolding makes_no_change publishing_of
+no-change-is-published (Descending t) e = refl
+no-change-is-published (Reading t) e = refl
+no-change-is-published (Inserting t) e = absurd (cc)
+no-change-is-published (Updating t) e = absurd (cc)
+no-change-is-published (Deleting t) e = absurd (cc)
+no-change-is-published (Freezing t) e = refl
+no-change-is-published (Consolidating t) e = refl

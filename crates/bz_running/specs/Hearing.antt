@@ -13,7 +13,7 @@ use Rattle.bz_task.specs.declared.todo.Seen.{Seen}
 use Rattle.bz_task.specs.declared.todo.Seen.TheVariants.{Swapped, NoSwap}
 use Rattle.bz_task.specs.declared.todo.Todo.{Todo}
 use Rattle.bz_task.specs.declared.view.LeafView.{LeafView}
-use Rattle.bz_running.specs.Duties.{config_of, asks_of, end_of, left_of, needs_of, change_of, facts_of, means_of, differs_of, is_lookup}
+use Rattle.bz_running.specs.Duties.{config_of, asks_of, end_of, left_of, needs_of, change_of, facts_of, means_of, differs_of, makes_no_change}
 use Rattle.bz_running.specs.declared.running.Running.{Running}
 
 -- a path or a view with which the task ends is one of this key
@@ -27,7 +27,7 @@ pub record HasHeard (old : Running) (seen : Seen) (moment : ℕ) (free : FreeSlo
   pub nearer : left_of new < left_of old
   pub config : config_of new ≡ config_of old
   pub change : change_of new ≡ change_of old
-  pub lookup : is_lookup new ≡ is_lookup old
+  pub silent : makes_no_change new ≡ makes_no_change old
   pub meant : (o : Outcome) (s : Scene) → means_of new o s → means_of old o s
   pub slots : AreTakenFrom (needs_of old) (needs_of new) free left
   pub done : end_of new ≡ Some outcome.Done → seen ≡ Swapped true

@@ -1,6 +1,9 @@
 //! Whichever task it is.
 
-ghost use Rattle.std.specs.Prelude.{◌≡◌, ◌<◌, ◌≢◌, ◌≤◌, true, false, None, Some};
+ghost use Rattle.std.specs.Prelude.{◌≡◌, ◌<◌, ◌≢◌, ◌≤◌, ℕ, List, true, false, None, Some};
+ghost use Rattle.bz_consol.specs.Facts.{LeadsTo};
+ghost use Rattle.bz_layout.specs.declared.thresholds.TheConstants.{CONSOLIDATION_SLOTS};
+ghost use Rattle.bz_page.specs.Pages.{IsLeafByItself};
 ghost use Rattle.bz_record.specs.Records.{words_for, LacksRoom};
 ghost use Rattle.bz_slotted.specs.Readers.{found_of};
 ghost use Rattle.bz_slotted.specs.ReadingLaws.{node_of};
@@ -10,12 +13,14 @@ ghost use Rattle.bz_task.specs.Requests.{Hears, IsKnown};
 ghost use Rattle.bz_task.specs.Scene.{Scene, Waiting, IsScene, HasFilled};
 ghost use Rattle.bz_task.specs.declared.todo.Todo.TheVariants.{Read};
 ghost use Rattle.bz_running.specs.Hearing.{IsLookup, HasHeard};
-ghost use Rattle.bz_running.specs.Duties.{config_of, asks_of, end_of, left_of, needs_of, change_of, publishing_of, facts_of, means_of, differs_of, is_lookup};
+ghost use Rattle.bz_running.specs.Duties.{config_of, asks_of, end_of, left_of, needs_of, change_of, publishing_of, facts_of, means_of, differs_of, makes_no_change};
 ghost use Rattle.bz_running.specs.Laws.{AreLaws};
 
+use bz_consol::Consolidate;
 use bz_descend::Descend;
+use bz_freeze::Freeze;
 use bz_insert::Insert;
-use bz_key::{Key, Payload};
+use bz_key::{Key, PageBuf, Payload};
 use bz_layout::{Config, ROOT_STATUS_AT, Slots};
 use bz_leaf::ReadLeaf;
 use bz_mutate::{Delete, Update};
@@ -29,16 +34,18 @@ pub enum Running {
     Inserting(Insert),
     Updating(Update),
     Deleting(Delete),
+    Freezing(Freeze),
+    Consolidating(Consolidate),
 }
 
 impl Running {
     /// The way to the leaf of a key. It asks for the root status first.
-    #[tactic(auto, unfolding(crate::specs::Duties::config_of, crate::specs::Duties::asks_of, crate::specs::Duties::needs_of, crate::specs::Duties::facts_of, crate::specs::Duties::means_of, crate::specs::Duties::is_lookup))]
+    #[tactic(auto, unfolding(crate::specs::Duties::config_of, crate::specs::Duties::asks_of, crate::specs::Duties::needs_of, crate::specs::Duties::facts_of, crate::specs::Duties::means_of, crate::specs::Duties::makes_no_change))]
     pub fn descend(config: &Config, key: Key) -> Running
         ensures config { config_of result ≡ config.now }
         ensures asks { asks_of result ≡ Some (Read ROOT_STATUS_AT) }
         ensures needs { needs_of result ≡ 0 }
-        ensures lookup { is_lookup result ≡ true }
+        ensures silent { makes_no_change result ≡ true }
         ensures facts { (s : Scene) → HasFilled s → facts_of result Waiting s }
         ensures ends { IsLookup key result }
     {
@@ -46,14 +53,14 @@ impl Running {
     }
 
     /// A reading of the last leaf of a path.
-    #[tactic(auto, unfolding(crate::specs::Duties::config_of, crate::specs::Duties::asks_of, crate::specs::Duties::needs_of, crate::specs::Duties::facts_of, crate::specs::Duties::means_of, crate::specs::Duties::is_lookup))]
+    #[tactic(auto, unfolding(crate::specs::Duties::config_of, crate::specs::Duties::asks_of, crate::specs::Duties::needs_of, crate::specs::Duties::facts_of, crate::specs::Duties::means_of, crate::specs::Duties::makes_no_change))]
     pub fn read_leaf(config: &Config, path: Path, key: Key) -> Running
         requires some { 1 ≤ path.depth }
         requires few { path.depth ≤ 12 }
         ensures config { config_of result ≡ config.now }
         ensures asks { asks_of result ≡ None }
         ensures needs { needs_of result ≡ 0 }
-        ensures lookup { is_lookup result ≡ true }
+        ensures silent { makes_no_change result ≡ true }
         ensures facts { (s : Scene) → IsScene s → IsPath key path s.past → facts_of result Waiting s }
         ensures ends { IsLookup key result }
     {
@@ -120,8 +127,40 @@ impl Running {
         Running::Deleting(Delete::new(config, path, view, key))
     }
 
-    /// Tells the task what came of its last act, and answers what it asks for next: `next`, and that a lookup stays one.
-    #[tactic(auto, unfolding(crate::specs::Duties::config_of, crate::specs::Duties::asks_of, crate::specs::Duties::end_of, crate::specs::Duties::left_of, crate::specs::Duties::needs_of, crate::specs::Duties::change_of, crate::specs::Duties::facts_of, crate::specs::Duties::means_of, crate::specs::Duties::differs_of, crate::specs::Duties::is_lookup))]
+    /// The freeze of a leaf that was not frozen when it was viewed.
+    #[tactic(auto, unfolding(crate::specs::Duties::config_of, crate::specs::Duties::asks_of, crate::specs::Duties::needs_of, crate::specs::Duties::facts_of, crate::specs::Duties::means_of, crate::specs::Duties::makes_no_change))]
+    pub fn freeze(config: &Config, path: Path, view: LeafView) -> Running
+        requires thawed { (status view.status).frozen ≡ false }
+        ensures config { config_of result ≡ config.now }
+        ensures asks { asks_of result ≡ None }
+        ensures needs { needs_of result ≡ 0 }
+        ensures silent { makes_no_change result ≡ true }
+        ensures facts { (key : List ℕ) (s : Scene) → s.past.config ≡ config.now → IsScene s → IsView key view s.past → facts_of result Waiting s }
+        ensures ends { (key : List ℕ) → IsLookup key result }
+    {
+        Running::Freezing(Freeze::new(config, path, view))
+    }
+
+    /// The consolidation of a frozen leaf, to which the path leads.
+    #[tactic(auto, unfolding(crate::specs::Duties::config_of, crate::specs::Duties::asks_of, crate::specs::Duties::needs_of, crate::specs::Duties::facts_of, crate::specs::Duties::means_of, crate::specs::Duties::makes_no_change))]
+    pub fn consolidate(config: &Config, path: Path, view: LeafView, page: &mut PageBuf) -> Running
+        requires some { 1 ≤ path.depth }
+        requires few { path.depth ≤ 12 }
+        requires frozen { (status view.status).frozen ≡ true }
+        requires leads { LeadsTo path view.slot }
+        requires alone { IsLeafByItself view.image.0 }
+        ensures config { config_of result ≡ config.now }
+        ensures asks { asks_of result ≡ None }
+        ensures needs { needs_of result ≡ CONSOLIDATION_SLOTS }
+        ensures silent { makes_no_change result ≡ true }
+        ensures facts { (key : List ℕ) (s : Scene) → s.past.config ≡ config.now → IsScene s → IsPath key path s.past → IsView key view s.past → facts_of result Waiting s }
+        ensures ends { (key : List ℕ) → IsLookup key result }
+    {
+        Running::Consolidating(Consolidate::new(config, path, view, page))
+    }
+
+    /// Tells the task what came of its last act, and answers what it asks for next: `next`, and that one which makes no change makes none later.
+    #[tactic(auto, unfolding(crate::specs::Duties::config_of, crate::specs::Duties::asks_of, crate::specs::Duties::end_of, crate::specs::Duties::left_of, crate::specs::Duties::needs_of, crate::specs::Duties::change_of, crate::specs::Duties::facts_of, crate::specs::Duties::means_of, crate::specs::Duties::differs_of, crate::specs::Duties::makes_no_change))]
     pub fn hear(&mut self, seen: Seen, slots: &mut Slots, moment: u32) -> Todo
         requires hears { Hears (asks_of self.old) seen }
         requires known { IsKnown (config_of self.old) (facts_of self.old) (asks_of self.old) seen moment }
@@ -134,6 +173,8 @@ impl Running {
             Running::Inserting(task) => task.next(seen, slots, moment),
             Running::Updating(task) => task.next(seen, slots, moment),
             Running::Deleting(task) => task.next(seen, slots, moment),
+            Running::Freezing(task) => task.next(seen, slots, moment),
+            Running::Consolidating(task) => task.next(seen, slots, moment),
         }
     }
 
@@ -175,6 +216,8 @@ impl Task for Running {
             Running::Inserting(task) => task.publishes(),
             Running::Updating(task) => task.publishes(),
             Running::Deleting(task) => task.publishes(),
+            Running::Freezing(task) => task.publishes(),
+            Running::Consolidating(task) => task.publishes(),
         }
     }
 
@@ -186,6 +229,8 @@ impl Task for Running {
             Running::Inserting(task) => task.ended(),
             Running::Updating(task) => task.ended(),
             Running::Deleting(task) => task.ended(),
+            Running::Freezing(task) => task.ended(),
+            Running::Consolidating(task) => task.ended(),
         }
     }
 
@@ -197,10 +242,12 @@ impl Task for Running {
             Running::Inserting(task) => task.next(seen, slots, moment),
             Running::Updating(task) => task.next(seen, slots, moment),
             Running::Deleting(task) => task.next(seen, slots, moment),
+            Running::Freezing(task) => task.next(seen, slots, moment),
+            Running::Consolidating(task) => task.next(seen, slots, moment),
         }
     }
 
-    #[tactic(auto, unfolding(crate::specs::Duties::config_of, crate::specs::Duties::asks_of, crate::specs::Duties::end_of, crate::specs::Duties::publishing_of, crate::specs::Duties::facts_of, crate::specs::Duties::means_of, crate::specs::Duties::differs_of))]
+    #[tactic(auto, unfolding(crate::specs::Duties::config_of, crate::specs::Duties::needs_of, crate::specs::Duties::asks_of, crate::specs::Duties::end_of, crate::specs::Duties::publishing_of, crate::specs::Duties::facts_of, crate::specs::Duties::means_of, crate::specs::Duties::differs_of))]
     fn learnt(&self) {
         match self {
             Running::Descending(task) => task.learnt(),
@@ -208,6 +255,8 @@ impl Task for Running {
             Running::Inserting(task) => task.learnt(),
             Running::Updating(task) => task.learnt(),
             Running::Deleting(task) => task.learnt(),
+            Running::Freezing(task) => task.learnt(),
+            Running::Consolidating(task) => task.learnt(),
         }
     }
 
@@ -219,6 +268,8 @@ impl Task for Running {
             Running::Inserting(task) => task.acted(),
             Running::Updating(task) => task.acted(),
             Running::Deleting(task) => task.acted(),
+            Running::Freezing(task) => task.acted(),
+            Running::Consolidating(task) => task.acted(),
         }
     }
 }

@@ -1,26 +1,84 @@
+use Rattle.std.proofs.Common.{sym, subst}
 use Rattle.bz_running.specs.Duties.{config_of, asks_of, change_of, publishing_of, facts_of}
+use Rattle.bz_running.proofs.Statements.{Effect, Took, Stored, Flushed}
 use Rattle.bz_running.proofs.running.RunningTask.acted.Goals as goal
 
 pub returns-in-Inserting-clause-effect : goal.returns-in-Inserting-clause-effect
 unfolding config_of asks_of change_of publishing_of facts_of
-returns-in-Inserting-clause-effect c s y entries = rw c.in-Inserting.is (c.acted-in-Inserting.ensures.effect s y entries)
+returns-in-Inserting-clause-effect c = subst Effect (sym c.in-Inserting.is) c.acted-in-Inserting.ensures.effect
 
 pub returns-in-Inserting-clause-took : goal.returns-in-Inserting-clause-took
-unfolding config_of asks_of publishing_of facts_of
-returns-in-Inserting-clause-took c s after entries = rw c.in-Inserting.is (c.acted-in-Inserting.ensures.took s after entries)
+unfolding config_of asks_of change_of publishing_of facts_of
+returns-in-Inserting-clause-took c = subst Took (sym c.in-Inserting.is) c.acted-in-Inserting.ensures.took
+
+pub returns-in-Inserting-clause-stored : goal.returns-in-Inserting-clause-stored
+unfolding config_of asks_of change_of publishing_of facts_of
+returns-in-Inserting-clause-stored c = subst Stored (sym c.in-Inserting.is) c.acted-in-Inserting.ensures.stored
+
+pub returns-in-Inserting-clause-flushed : goal.returns-in-Inserting-clause-flushed
+unfolding config_of asks_of change_of publishing_of facts_of
+returns-in-Inserting-clause-flushed c = subst Flushed (sym c.in-Inserting.is) c.acted-in-Inserting.ensures.flushed
 
 pub returns-in-Updating-clause-effect : goal.returns-in-Updating-clause-effect
 unfolding config_of asks_of change_of publishing_of facts_of
-returns-in-Updating-clause-effect c s y entries = rw c.in-Updating.is (c.acted-in-Updating.ensures.effect s y entries)
+returns-in-Updating-clause-effect c = subst Effect (sym c.in-Updating.is) c.acted-in-Updating.ensures.effect
 
 pub returns-in-Updating-clause-took : goal.returns-in-Updating-clause-took
-unfolding config_of asks_of publishing_of facts_of
-returns-in-Updating-clause-took c s after entries = rw c.in-Updating.is (c.acted-in-Updating.ensures.took s after entries)
+unfolding config_of asks_of change_of publishing_of facts_of
+returns-in-Updating-clause-took c = subst Took (sym c.in-Updating.is) c.acted-in-Updating.ensures.took
+
+pub returns-in-Updating-clause-stored : goal.returns-in-Updating-clause-stored
+unfolding config_of asks_of change_of publishing_of facts_of
+returns-in-Updating-clause-stored c = subst Stored (sym c.in-Updating.is) c.acted-in-Updating.ensures.stored
+
+pub returns-in-Updating-clause-flushed : goal.returns-in-Updating-clause-flushed
+unfolding config_of asks_of change_of publishing_of facts_of
+returns-in-Updating-clause-flushed c = subst Flushed (sym c.in-Updating.is) c.acted-in-Updating.ensures.flushed
 
 pub returns-in-Deleting-clause-effect : goal.returns-in-Deleting-clause-effect
 unfolding config_of asks_of change_of publishing_of facts_of
-returns-in-Deleting-clause-effect c s y entries = rw c.in-Deleting.is (c.acted-in-Deleting.ensures.effect s y entries)
+returns-in-Deleting-clause-effect c = subst Effect (sym c.in-Deleting.is) c.acted-in-Deleting.ensures.effect
 
 pub returns-in-Deleting-clause-took : goal.returns-in-Deleting-clause-took
-unfolding config_of asks_of publishing_of facts_of
-returns-in-Deleting-clause-took c s after entries = rw c.in-Deleting.is (c.acted-in-Deleting.ensures.took s after entries)
+unfolding config_of asks_of change_of publishing_of facts_of
+returns-in-Deleting-clause-took c = subst Took (sym c.in-Deleting.is) c.acted-in-Deleting.ensures.took
+
+pub returns-in-Deleting-clause-stored : goal.returns-in-Deleting-clause-stored
+unfolding config_of asks_of change_of publishing_of facts_of
+returns-in-Deleting-clause-stored c = subst Stored (sym c.in-Deleting.is) c.acted-in-Deleting.ensures.stored
+
+pub returns-in-Deleting-clause-flushed : goal.returns-in-Deleting-clause-flushed
+unfolding config_of asks_of change_of publishing_of facts_of
+returns-in-Deleting-clause-flushed c = subst Flushed (sym c.in-Deleting.is) c.acted-in-Deleting.ensures.flushed
+
+pub returns-in-Freezing-clause-effect : goal.returns-in-Freezing-clause-effect
+unfolding config_of asks_of change_of publishing_of facts_of
+returns-in-Freezing-clause-effect c = subst Effect (sym c.in-Freezing.is) c.acted-in-Freezing.ensures.effect
+
+pub returns-in-Freezing-clause-took : goal.returns-in-Freezing-clause-took
+unfolding config_of asks_of change_of publishing_of facts_of
+returns-in-Freezing-clause-took c = subst Took (sym c.in-Freezing.is) c.acted-in-Freezing.ensures.took
+
+pub returns-in-Freezing-clause-stored : goal.returns-in-Freezing-clause-stored
+unfolding config_of asks_of change_of publishing_of facts_of
+returns-in-Freezing-clause-stored c = subst Stored (sym c.in-Freezing.is) c.acted-in-Freezing.ensures.stored
+
+pub returns-in-Freezing-clause-flushed : goal.returns-in-Freezing-clause-flushed
+unfolding config_of asks_of change_of publishing_of facts_of
+returns-in-Freezing-clause-flushed c = subst Flushed (sym c.in-Freezing.is) c.acted-in-Freezing.ensures.flushed
+
+pub returns-in-Consolidating-clause-effect : goal.returns-in-Consolidating-clause-effect
+unfolding config_of asks_of change_of publishing_of facts_of
+returns-in-Consolidating-clause-effect c = subst Effect (sym c.in-Consolidating.is) c.acted-in-Consolidating.ensures.effect
+
+pub returns-in-Consolidating-clause-took : goal.returns-in-Consolidating-clause-took
+unfolding config_of asks_of change_of publishing_of facts_of
+returns-in-Consolidating-clause-took c = subst Took (sym c.in-Consolidating.is) c.acted-in-Consolidating.ensures.took
+
+pub returns-in-Consolidating-clause-stored : goal.returns-in-Consolidating-clause-stored
+unfolding config_of asks_of change_of publishing_of facts_of
+returns-in-Consolidating-clause-stored c = subst Stored (sym c.in-Consolidating.is) c.acted-in-Consolidating.ensures.stored
+
+pub returns-in-Consolidating-clause-flushed : goal.returns-in-Consolidating-clause-flushed
+unfolding config_of asks_of change_of publishing_of facts_of
+returns-in-Consolidating-clause-flushed c = subst Flushed (sym c.in-Consolidating.is) c.acted-in-Consolidating.ensures.flushed

@@ -1,0 +1,29 @@
+-- What the contract of tasks says of a task, as statements of the task alone.
+use Rattle.std.proofs.Common.{◌≡◌, ◌<◌, ℕ, List, Some}
+use Rattle.bz_layout.specs.Slots.{FreeSlots}
+use Rattle.bz_word.specs.declared.entry.Entry.{Entry}
+use Rattle.bz_task.specs.Instant.{Instant}
+use Rattle.bz_task.specs.OwnActs.{Stores, Flushes, AreUnreached, gained}
+use Rattle.bz_task.specs.Requests.{Tells}
+use Rattle.bz_task.specs.Scene.{Scene, Stage, Waiting, Took as HasTaken, IsScene, here}
+use Rattle.bz_task.specs.Swaps.{Stand, SwapsTo, IsGoodSwap, Takes}
+use Rattle.bz_task.specs.declared.todo.Seen.{Seen}
+use Rattle.bz_task.specs.declared.todo.Todo.TheVariants.{Store, Flush, Swap}
+use Rattle.bz_running.specs.Duties.{config_of, asks_of, needs_of, change_of, publishing_of, facts_of}
+use Rattle.bz_running.specs.declared.running.Running.{Running}
+
+abbrev pub Effect : Running → Type 0
+Effect t = (s : Scene) (y : Instant) (entries : List Entry) → s.past.config ≡ config_of t → facts_of t Waiting s → IsScene s → asks_of t ≡ Some (Swap entries) → Stand entries (here s) → SwapsTo s.past.config entries (here s) y → IsGoodSwap (publishing_of t) (change_of t) entries s y
+
+abbrev pub Took : Running → Type 0
+Took t = (s after : Scene) (entries : List Entry) → s.past.config ≡ config_of t → facts_of t Waiting s → IsScene s → IsScene after → asks_of t ≡ Some (Swap entries) → Stand entries (here s) → Takes (publishing_of t) entries s after → facts_of t HasTaken after
+
+abbrev pub Stored : Running → Type 0
+Stored t = (s after : Scene) (a v : ℕ) → s.past.config ≡ config_of t → facts_of t Waiting s → IsScene s → IsScene after → asks_of t ≡ Some (Store a v) → Stores a v s after → facts_of t HasTaken after
+
+abbrev pub Flushed : Running → Type 0
+Flushed t = (s after : Scene) (line : ℕ) → s.past.config ≡ config_of t → facts_of t Waiting s → IsScene s → IsScene after → asks_of t ≡ Some (Flush line) → Flushes line s after → facts_of t HasTaken after
+
+-- what a task is told, and then knows
+abbrev pub Learns : Seen → ℕ → FreeSlots → FreeSlots → Running → Running → Type 0
+Learns seen moment free left new t = (stage : Stage) (s : Scene) → s.past.now ≡ moment → s.past.config ≡ config_of t → IsScene s → (0 < needs_of t → AreUnreached s free) → facts_of t stage s → Tells (asks_of t) stage seen s → facts_of new Waiting (gained s free left)

@@ -1,4 +1,0 @@
-mod Learning
-mod Staying
-mod Causes
-mod Stilling
