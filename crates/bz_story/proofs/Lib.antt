@@ -3,4 +3,3 @@ mod Lives
 mod Watching
 mod Striking
 mod Openings
-mod Takings

@@ -76,8 +76,6 @@ lives-on law c old new log story mark filled g = record {
   effects = subst (λ z. z.effects ≤ suc (length log.past)) (sym (now-is story.at (length log.past) y)) (omega (arith, g.living.effects));
   reserved = λ w a o. subst (λ z. IsInBlock c z a) (sym (now-is story.at (length log.past) y)) (step-block c (story.at (length log.past)) y a step (g.living.reserved w a o));
   apart = g.living.apart;
-  took = g.living.took;
-  took_apart = g.living.took_apart;
 }
   where
     y : Instant

@@ -28,6 +28,4 @@ fresh-lives law c m limits fresh = record {
   effects = omega arith;
   reserved = λ w a e. absurd (true≢false (sym e));
   apart = λ v w a e f. absurd (true≢false (sym e));
-  took = λ w k e. absurd (true≢false (sym e));
-  took_apart = λ v w k e f. absurd (true≢false (sym e));
 }

@@ -240,8 +240,6 @@ module _ (b : Laws) (c : Config) (old new : SwapMemory) (log : Log) (story : Sto
     effects = subst (λ z. z.effects ≤ suc (length log.past)) (sym (now-is story.at (length log.past) (effect_instant c new (story.at (length log.past))))) (omega (arith, g.living.effects));
     reserved = λ v a o. subst (λ z. IsInBlock c z a) (sym (now-is story.at (length log.past) (effect_instant c new (story.at (length log.past))))) (block-of v a (reserved-of v a o));
     apart = λ u v a o p. apart-of u v a (reserved-of u a o) (reserved-of v a p);
-    took = g.living.took;
-    took_apart = g.living.took_apart;
   }
     where
       -- an address that a worker has reserved afterwards it had reserved before, or the swap is its own and reserves it

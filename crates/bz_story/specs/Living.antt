@@ -33,6 +33,3 @@ pub record IsLiving (c : Config) (m : SwapMemory) (log : Log) (story : Story) : 
   -- what a worker reserved lies in a block, and no other worker reserved it
   pub reserved : (w a : ℕ) → story.reserved w a ≡ true → IsInBlock c (story.at (length log.past)) a
   pub apart : (v w a : ℕ) → story.reserved v a ≡ true → story.reserved w a ≡ true → v ≡ w
-  -- a slot that a worker took is one of the memory, and no other worker took it
-  pub took : (w k : ℕ) → story.took w k ≡ true → k < c.nodes
-  pub took_apart : (v w k : ℕ) → story.took v k ≡ true → story.took w k ≡ true → v ≡ w

@@ -12,7 +12,7 @@ use Rattle.bz_call.specs.declared.calls.Call.{Call}
 use Rattle.bz_mark.specs.Log.{with_mark, count_begins, count_page_calls}
 use Rattle.bz_mark.specs.declared.marks.Mark.{Mark}
 use Rattle.bz_mark.specs.declared.marks.Mark.TheVariants.{Begin, End, Load, Store, Cas, Flush, Evict, Cut, On, Ready, Effect}
-use Rattle.bz_running.specs.Duties.{config_of, asks_of, needs_of, facts_of, is_lookup}
+use Rattle.bz_running.specs.Duties.{config_of, asks_of, needs_of, facts_of, makes_no_change}
 use Rattle.bz_running.specs.Hearing.{IsLookup}
 use Rattle.bz_running.specs.Laws.{AreLaws}
 use Rattle.bz_running.specs.declared.running.Running.{Running}
@@ -70,7 +70,7 @@ module _ (p : Parts) (k : IsKept p) (w : ℕ) (call : Call) (may : MayBegin p w 
   at-rest : IsAtRest p.access p.journal w
   at-rest = subst (IsSlot p.config p.access p.journal k.story p.owners.items w) may.none_open (k.workers w)
 
-  module _ (b : EndLaws) (s : StartLaws) (n : ℕ) (numbered : n ≡ begun_calls w p.journal.past + 1) (task : Running) (config : config_of task ≡ p.config) (laws : AreLaws task) (needs : needs_of task ≡ 0) (looks : is_lookup task ≡ true)
+  module _ (b : EndLaws) (s : StartLaws) (n : ℕ) (numbered : n ≡ begun_calls w p.journal.past + 1) (task : Running) (config : config_of task ≡ p.config) (laws : AreLaws task) (needs : needs_of task ≡ 0) (looks : makes_no_change task ≡ true)
       (lookup : IsLookup (key_of call) task) (asks : asks_of task ≡ Some (Read 2)) (facts : (z : Scene) → HasFilled z → facts_of task Waiting z) where
     abbrev mark : Mark
     mark = Begin w n call

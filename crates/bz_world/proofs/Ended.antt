@@ -43,7 +43,7 @@ slot-pages c m log pages story owners v (Some x) h = record {
 }
 
 living-pages : (c : Config) (m : SwapMemory) (log : Log) (pages : Pages) (story : Story) → IsLiving c m log story → IsLiving c m (record log { pages = pages }) story
-living-pages c m log pages story l = record { seen = l.seen; history = l.history; words = l.words; images = l.images; effects = l.effects; owned = l.owned; apart = l.apart }
+living-pages c m log pages story l = record { seen = l.seen; history = l.history; words = l.words; images = l.images; effects = l.effects; reserved = l.reserved; apart = l.apart }
 
 module _ (b : EndLaws) (p : Parts) (w : ℕ) (on : MustGoOn p w) where
   abbrev was : IsBetween p w on.serving

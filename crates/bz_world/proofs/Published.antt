@@ -12,7 +12,7 @@ use Rattle.bz_mark.specs.Log.{Log, with_mark}
 use Rattle.bz_mark.specs.MomentLaws.{at_moment-before}
 use Rattle.bz_mark.specs.declared.marks.Mark.{Mark}
 use Rattle.bz_mark.specs.declared.marks.Mark.TheVariants.{Effect}
-use Rattle.bz_running.specs.Duties.{facts_of, publishing_of, change_of, lookups-publish-nothing}
+use Rattle.bz_running.specs.Duties.{facts_of, publishing_of, change_of, no-change-is-published}
 use Rattle.bz_sight.specs.Effects.{effect_instant}
 use Rattle.bz_sight.specs.Sight.{IsSeen}
 use Rattle.bz_sight.specs.Starts.{Sees}
@@ -72,14 +72,14 @@ module _ (b : StrikeLaws) (p : Parts) (s : ℕ) (h : IsStriking p s) (publishes 
   -- the call is to make this change, and had no effect
   is-change : (change_of (x b p s h).task).key ≡ key_of its-open.call × IsChangeOf its-open.call (change_of (x b p s h).task).old (change_of (x b p s h).task).new
   is-change = subst (λ k. ((change_of (x b p s h).task).key ≡ key_of k) × IsChangeOf k (change_of (x b p s h).task).old (change_of (x b p s h).task).new) (sym (its b p s h).call_open.call) (elim (its b p s h).tasked.change [
-    | inl look ↦ absurd (true≢false (sym publishes ∙ lookups-publish-nothing (x b p s h).task look))
+    | inl look ↦ absurd (true≢false (sym publishes ∙ no-change-is-published (x b p s h).task look))
     | inr is ↦ (is.key, subst (λ had. IsChangeOf (x b p s h).call had (change_of (x b p s h).task).new) (sym is.old) is.is)
   ])
 
   -- where its key had this
   had-is : (change_of (x b p s h).task).old ≡ (x b p s h).had
   had-is = elim (its b p s h).tasked.change [
-    | inl look ↦ absurd (true≢false (sym publishes ∙ lookups-publish-nothing (x b p s h).task look))
+    | inl look ↦ absurd (true≢false (sym publishes ∙ no-change-is-published (x b p s h).task look))
     | inr is ↦ is.old
   ]
 

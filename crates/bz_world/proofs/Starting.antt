@@ -67,7 +67,7 @@ module _ (starts : StartsAreSeen) (begun : BegunStayTaken) (p : Parts) (w : ℕ)
     words = l.words;
     images = l.images;
     effects = l.effects;
-    owned = l.owned;
+    reserved = l.reserved;
     apart = l.apart;
   }
 

@@ -90,7 +90,7 @@ module _ (starts : StartsAreSeen) (scenes : ScenesAreSeen) (begun : BegunStayTak
     words = l.words;
     images = l.images;
     effects = l.effects;
-    owned = l.owned;
+    reserved = l.reserved;
     apart = l.apart;
   }
 

@@ -7,7 +7,7 @@ use Rattle.std.proofs.lemmas.Bool.{true≢false}
 use Rattle.std.proofs.lemmas.List.{get_or_read_under, get_or-set_same, get_or-set_other, length-set}
 use Rattle.bz_call.specs.Map.{key_of}
 use Rattle.bz_call.specs.declared.calls.Call.{Call}
-use Rattle.bz_running.specs.Duties.{config_of, asks_of, needs_of, facts_of, is_lookup}
+use Rattle.bz_running.specs.Duties.{config_of, asks_of, needs_of, facts_of, makes_no_change}
 use Rattle.bz_running.specs.Hearing.{IsLookup}
 use Rattle.bz_running.specs.Laws.{AreLaws}
 use Rattle.bz_running.specs.declared.running.Running.{Running}
@@ -78,7 +78,7 @@ pub known-scene : ScenesAreSeen → (p : Parts) (w : ℕ) (on : MustGoOn p w) �
 known-scene scenes p w on = (scenes p.config p.access p.journal on.between.story w on.between.opened on.between.living on.between.call_open.begun).scene
 
 -- a lookup of the call's key
-abbrev pub lookup-taken : (p : Parts) (w : ℕ) (on : MustGoOn p w) (task : Running) (asked : Option Todo) (key : List ℕ) → config_of task ≡ p.config → AreLaws task → needs_of task ≡ 0 → is_lookup task ≡ true → IsLookup key task → key ≡ key_of on.serving.call
+abbrev pub lookup-taken : (p : Parts) (w : ℕ) (on : MustGoOn p w) (task : Running) (asked : Option Todo) (key : List ℕ) → config_of task ≡ p.config → AreLaws task → needs_of task ≡ 0 → makes_no_change task ≡ true → IsLookup key task → key ≡ key_of on.serving.call
     → asks_of task ≡ asked → facts_of task Waiting (known p w on) → MustTakeOn p w task on.serving.had asked
 lookup-taken p w on task asked key config laws needs looks lookup same asks facts = record {
   on = on;

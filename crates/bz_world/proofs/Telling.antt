@@ -1,10 +1,9 @@
 -- A task that was told something asks for something else, and the world but for it is as it was.
 use Rattle.std.proofs.Common.{◌≡◌, ◌≢◌, ℕ, ◌||◌, ◌&&◌, not, Bool, true, false, length, arith, refl, sym, ap, subst, ◌∙◌, inl, inr, Option, Some, None}
-use Rattle.std.specs.Prelude.{get_or, drop, nat_le}
+use Rattle.std.specs.Prelude.{get_or}
 use Rattle.std.specs.Global.{Vec}
 use Rattle.std.specs.Vec.{with_item}
 use Rattle.std.proofs.lemmas.List.{get_or-set_same, get_or-set_other, length-set}
-use Rattle.bz_layout.specs.Addresses.{node_address, slot_of}
 use Rattle.bz_layout.specs.Slots.{FreeSlots}
 use Rattle.bz_running.specs.Duties.{needs_of, facts_of}
 use Rattle.bz_shape.specs.Walk.{is_among}
@@ -27,29 +26,19 @@ and-not : (z : Bool) → z && not z ≡ false
 and-not true = refl
 and-not false = refl
 
-or-none : (a l z : Bool) → z ≡ false → a || (l && z) ≡ a
-or-none true l z e = refl
-or-none false true z e = e
-or-none false false z e = refl
-
 or-not : (a z : Bool) → z ≡ false → a || z ≡ a
 or-not true z e = refl
 or-not false z e = e
 
 gained-none : (s : Scene) (f : FreeSlots) → gained s f f ≡ s
-gained-none s f = ap (λ (o : ℕ → Bool). record s { owned = o; took = λ k. s.took k || is_gained f f k }) (λ t a. owned a t) ∙ ap (λ (o : ℕ → Bool). record s { took = o }) (λ t k. took k t)
+gained-none s f = ap (λ (o : ℕ → Bool). record s { took = o }) (λ t k. took k t)
   where
-    none : (k : ℕ) → is_gained f f k ≡ false
-    none k = and-not (is_among f.free k)
-
-    owned : (a : ℕ) → (s.owned a || (nat_le (node_address s.past.config 0) a && is_gained f f (slot_of s.past.config a))) ≡ s.owned a
-    owned a = or-none (s.owned a) (nat_le (node_address s.past.config 0) a) (is_gained f f (slot_of s.past.config a)) (none (slot_of s.past.config a))
-
     took : (k : ℕ) → (s.took k || is_gained f f k) ≡ s.took k
-    took k = or-not (s.took k) (is_gained f f k) (none k)
+    took k = or-not (s.took k) (is_gained f f k) (and-not (is_among f.free k))
 
 none-taken : (needed left : ℕ) (old new : FreeSlots) → needed ≡ 0 → AreTakenFrom needed left old new → (new ≡ old) × (left ≡ 0)
-none-taken needed left old new e t = let z : t.number ≡ 0 = omega (arith, e, t.fewer) in (t.slots ∙ ap (λ n. record old { free = drop n old.free }) z, omega (arith, e, t.fewer))
+none-taken needed left old new e (inl t) = absurd (omega (arith, e, t.some))
+none-taken needed left old new e (inr t) = (t.slots, omega (arith, e, t.fewer))
 
 -- the slot has a task that was told
 pub record IsNext (x : Serving) (seen : Seen) (moment : ℕ) (free : FreeSlots) (todo : Todo) (slot : Option Serving) (left : FreeSlots) : Type 0 where
@@ -100,7 +89,7 @@ module _ (scenes : ScenesAreSeen) (p : Parts) (w : ℕ) (seen : Seen) (m : MustT
         view = λ view s means. told.tasked.lookup.view view s (h.heard.meant (outcome.View view) s means);
       };
       change = elim told.tasked.change [
-        | inl look ↦ inl (h.heard.lookup ∙ look)
+        | inl look ↦ inl (h.heard.silent ∙ look)
         | inr is ↦ inr (subst (IsChangeFor x.call x.had) (sym h.heard.change) is)
       ];
     })

@@ -7,7 +7,7 @@ use Rattle.bz_call.specs.declared.replies.Reply.{Reply}
 use Rattle.bz_call.specs.declared.replies.Reply.TheVariants.{Inserted, Deleted, Updated}
 use Rattle.bz_layout.specs.declared.config.Config.{Config}
 use Rattle.bz_mark.specs.Log.{Log}
-use Rattle.bz_running.specs.Duties.{config_of, asks_of, needs_of, change_of, publishing_of, facts_of, is_lookup}
+use Rattle.bz_running.specs.Duties.{config_of, asks_of, needs_of, change_of, publishing_of, facts_of, makes_no_change}
 use Rattle.bz_running.specs.Hearing.{IsLookup}
 use Rattle.bz_running.specs.Laws.{AreLaws}
 use Rattle.bz_running.specs.declared.running.Running.{Running}
@@ -77,7 +77,7 @@ pub record IsTasked (c : Config) (called : Call) (had : Option (List ℕ)) (task
   pub laws : AreLaws task
   pub needs : needs_of task ≡ 0
   pub lookup : IsLookup (key_of called) task
-  pub change : (is_lookup task ≡ true) ⊎ IsChangeFor called had (change_of task)
+  pub change : (makes_no_change task ≡ true) ⊎ IsChangeFor called had (change_of task)
 
 -- the task goes on: the worker does what it asked for, and it knows what it should
 pub record IsServing (c : Config) (m : SwapMemory) (log : Log) (story : Story) (owners : List ℕ) (w : ℕ) (x : Serving) : Type 0 where
