@@ -2,6 +2,7 @@ pub mod Begun
 pub mod BegunStay
 pub mod Cutting
 pub mod Doings
+pub mod DroppedStay
 pub mod EffectsInside
 pub mod EntryLists
 pub mod EntrySteps
@@ -15,6 +16,7 @@ pub mod HeldWords
 pub mod Listed
 pub mod MaySwaps
 pub mod Opening
+pub mod OwnedStay
 pub mod Pending
 pub mod RawStarts
 pub mod RawSteps
@@ -30,14 +32,16 @@ pub mod SeenSteps
 pub mod SeenSwaps
 pub mod SeenVerdicts
 pub mod SeenWrites
+pub mod SettledStay
 pub mod Shown
 pub mod Spellings
 pub mod Starting
-pub mod Stepped
 pub mod StepLies
 pub mod StepOwners
-pub mod StepRuns
+pub mod Stepped
 pub mod Stepping
+pub mod StepRuns
+pub mod StillDone
 pub mod SwapKeeps
 pub mod SwapLists
 pub mod Swapping

@@ -12,6 +12,7 @@ pub mod Power
 pub mod Raw
 pub mod Resolve
 pub mod Roles
+pub mod Settled
 pub mod Sizes
 pub mod Starts
 pub mod Steps
