@@ -1,6 +1,6 @@
 //! The swap memory and its operations.
 
-ghost use Rattle.std.specs.Prelude.{IsTrue, ◌↔◌, ◌≡◌, ◌<◌, length, slice_index};
+ghost use Rattle.std.specs.Prelude.{IsTrue, ◌↔◌, ◌≡◌, ◌<◌, false, length, slice_index};
 ghost use Rattle.bz_swap.specs.Parts.{idle_worker};
 ghost use Rattle.bz_swap.specs.SwapMemory.{Idle, worker_of, doing_of};
 
@@ -93,7 +93,8 @@ impl Access {
     /// Whether the worker's next step is a flush.
     pub fn flush_next(&self, w: u8) -> bool
         requires { w < length self.now.workers }
-        ensures { result ≡ (worker_of self.now w).flush_next }
+        ensures told { result ≡ (worker_of self.now w).flush_next }
+        ensures idle { doing_of self.now w ≡ Idle → result ≡ false }
     {
         self.workers[w as usize].place.is_flush()
     }
