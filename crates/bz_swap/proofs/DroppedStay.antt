@@ -1,5 +1,5 @@
 -- A swap without effect at a power cut has none later, where a recovery frees descriptors only.
-use Rattle.std.specs.Prelude.{◌≡◌, ◌≢◌, ◌⊎◌, ◌==◌, if◌then◌else◌, nat_lt, ℕ, ◌<◌, Bool, true, false, List, slice_index, slice_set}
+use Rattle.std.specs.Prelude.{◌≡◌, ◌==◌, if◌then◌else◌, nat_lt, ℕ, ◌<◌, Bool, true, false, List, slice_index, slice_set}
 use Rattle.std.specs.declared.option.Option.{Option}
 use Rattle.std.proofs.Common.{arith, refl, sym, subst, inl, inr}
 use Rattle.std.proofs.lemmas.Bool.{cases_lt}
@@ -13,9 +13,9 @@ use Rattle.bz_cells.specs.Store.{status_at, status_of}
 use Rattle.bz_machine.specs.declared.done.Done.{Done}
 use Rattle.bz_machine.specs.Machine.{is_succeeded}
 use Rattle.bz_swap.specs.Evictions.{IsEviction}
-use Rattle.bz_swap.specs.Settled.{IsSettled, IsDropped, FreesStatuses, DroppedStay}
+use Rattle.bz_swap.specs.Settled.{IsDropped, FreesStatuses, DroppedStay}
 use Rattle.bz_swap.specs.Steps.{IsRawStep}
-use Rattle.bz_swap.specs.SwapMemory.{SwapMemory, words_of, has_effect, doing_of}
+use Rattle.bz_swap.specs.SwapMemory.{SwapMemory, words_of}
 use Rattle.bz_swap.proofs.SettledStay.{start-settled, cut-settled}
 use Rattle.bz_swap.proofs.StillDone.{step-before}
 use Rattle.bz_swap.proofs.WordActs.{set-keeps, flushed-keeps}

@@ -1,3 +1,8 @@
+pub mod AtomicAnswers
+pub mod AtomicCalls
+pub mod AtomicStarts
+pub mod AtomicSteps
+pub mod AtomicValues
 pub mod Begun
 pub mod BegunStay
 pub mod Cutting

@@ -1,12 +1,11 @@
 -- Which swaps workers do after a step, a start and a power cut: none that they did not do before, but one that begins.
-use Rattle.std.specs.Prelude.{◌≡◌, ◌≢◌, ◌⊎◌, ℕ, ◌<◌, length, slice_set, replicate}
-use Rattle.std.proofs.Common.{arith, ap, sym, ◌∙◌, inl, inr}
+use Rattle.std.specs.Prelude.{◌≡◌, ◌≢◌, ℕ, length, slice_set, replicate}
+use Rattle.std.proofs.Common.{ap, sym, ◌∙◌, inl, inr}
 use Rattle.std.proofs.lemmas.Bool.{cases_eq, cases_lt}
 use Rattle.std.proofs.lemmas.List.{get_or-set_same, get_or-set_other, get_or_past, length-set}
 use Rattle.bz_acts.specs.declared.acted.Act.{Act}
 use Rattle.bz_machine.specs.declared.done.Done.{Done}
 use Rattle.bz_machine.specs.declared.done.Done.TheVariants.{Busy, Read, Swapped, Stored, Flushed}
-use Rattle.bz_swap.specs.Power.{after_cut}
 use Rattle.bz_swap.specs.Steps.{IsOneAct, doing_after}
 use Rattle.bz_swap.specs.SwapMemory.{SwapMemory, Doing, Idle, Swapping, Working, idle, doing_of}
 use Rattle.bz_swap.proofs.Fresh.{all-same}
@@ -37,5 +36,8 @@ start-before m w begins v s another doing = elim (cases_eq v w) [
 ]
 
 -- all are idle after a power cut
+pub all-rest : (workers : ℕ) (m : SwapMemory) (v : ℕ) → doing_of (record m { workers = replicate workers idle }) v ≡ Idle
+all-rest workers m v = ap (λ (u : Working). u.doing) (all-same workers v idle)
+
 pub none-doing : (workers : ℕ) (m : SwapMemory) (v s : ℕ) → doing_of (record m { workers = replicate workers idle }) v ≢ Swapping s
-none-doing workers m v s doing = (let none : Idle ≡ Swapping s = ap (λ (u : Working). u.doing) (sym (all-same workers v idle)) ∙ doing in absurd cc)
+none-doing workers m v s doing = (let none : Idle ≡ Swapping s = sym (all-rest workers m v) ∙ doing in absurd cc)

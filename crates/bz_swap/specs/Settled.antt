@@ -12,7 +12,7 @@ use Rattle.bz_machine.specs.declared.done.Done.TheVariants.{Swapped}
 use Rattle.bz_machine.specs.declared.status.SwapStatus.TheVariants.{Free}
 use Rattle.bz_machine.specs.Machine.{is_succeeded}
 use Rattle.bz_swap.specs.declared.phase.Phase.{Phase}
-use Rattle.bz_swap.specs.declared.phase.Phase.TheVariants.{Recovering}
+use Rattle.bz_swap.specs.declared.phase.Phase.TheVariants.{Running, Recovering}
 use Rattle.bz_swap.specs.Evictions.{IsEviction}
 use Rattle.bz_swap.specs.Power.{MayRenew, after_cut, opened, renewed}
 use Rattle.bz_swap.specs.Starts.{started, swapping}
@@ -63,10 +63,12 @@ pub record DroppedStay : Type 0 where
   pub eviction : (old new : SwapMemory) (a : ℕ) (told : Option ℕ) (s : ℕ) → old.phase ≡ Recovering → IsEviction old a told new → IsDropped old s → IsDropped new s
   pub start : (m : SwapMemory) (w : ℕ) (doing : Doing) (s : ℕ) → doing ≢ Swapping s → IsDropped m s → IsDropped (started m w doing) s
 
--- a swap is one worker's operation at most, and was begun since the last renewal
+-- a swap is one worker's operation at most, and was begun since the last renewal; unless the memory is running, worker 0
+-- alone does something
 pub record AreOwned (m : SwapMemory) : Type 0 where
   pub begun : (w s : ℕ) → doing_of m w ≡ Swapping s → s < m.taken
   pub one : (v w s : ℕ) → doing_of m v ≡ Swapping s → doing_of m w ≡ Swapping s → v ≡ w
+  pub alone : m.phase ≢ Running → (w : ℕ) → 0 < w → doing_of m w ≡ Idle
 
 -- so it is from an opening on; and a swap that is answered is settled, with its effect exactly where the answer is true
 pub record OwnedStay : Type 0 where
@@ -74,8 +76,8 @@ pub record OwnedStay : Type 0 where
   pub step : (old new : SwapMemory) (w : ℕ) (made : Act) (done : Done) (told : Option ℕ) → IsStep old w made done told new → AreOwned old → AreOwned new
   pub recovery : (old new : SwapMemory) (w : ℕ) (made : Act) (done : Done) (told : Option ℕ) → IsRawStep old w made done told new → AreOwned old → AreOwned new
   pub eviction : (old new : SwapMemory) (a : ℕ) (told : Option ℕ) → IsEviction old a told new → AreOwned old → AreOwned new
-  pub start : (m : SwapMemory) (w : ℕ) (doing : Doing) → ((s : ℕ) → doing ≢ Swapping s) → AreOwned m → AreOwned (started m w doing)
-  pub swap : (m : SwapMemory) (w : ℕ) (entries : List Entry) → AreOwned m → AreOwned (swapping m w entries)
+  pub start : (m : SwapMemory) (w : ℕ) (doing : Doing) → ((s : ℕ) → doing ≢ Swapping s) → (w ≡ 0 → m.phase ≢ Running) → AreOwned m → AreOwned (started m w doing)
+  pub swap : (m : SwapMemory) (w : ℕ) (entries : List Entry) → 0 < w → AreOwned m → AreOwned (swapping m w entries)
   pub cut : (m : SwapMemory) → AreOwned (after_cut m)
   pub renewal : (m : SwapMemory) → MayRenew m → AreOwned (renewed m)
   pub answer : (old new : SwapMemory) (w s : ℕ) (made : Act) (told : Option ℕ) (won : Bool) → IsStep old w made (Swapped won) told new → doing_of old w ≡ Swapping s → AreOwned old

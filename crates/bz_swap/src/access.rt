@@ -1,7 +1,7 @@
 //! The swap memory and its operations.
 
 ghost use Rattle.std.specs.Prelude.{IsTrue, ◌↔◌, ◌≡◌, ◌<◌, false, length, slice_index};
-ghost use Rattle.bz_swap.specs.Parts.{idle_worker};
+ghost use Rattle.bz_swap.specs.Inside.Parts.{idle_worker};
 ghost use Rattle.bz_swap.specs.SwapMemory.{Idle, worker_of, doing_of};
 
 use crate::phase::Phase;
@@ -21,8 +21,8 @@ pub struct Access {
 
 impl Model for Access {
     ghost use Rattle.bz_swap.specs.SwapMemory.{SwapMemory};
-    ghost use Rattle.bz_swap.specs.Parts.{seen};
-    ghost use Rattle.bz_swap.specs.Kept.{IsKept};
+    ghost use Rattle.bz_swap.specs.Inside.Parts.{seen};
+    ghost use Rattle.bz_swap.specs.Inside.Kept.{IsKept};
 
     ghost Value = { SwapMemory };
 

@@ -1,10 +1,16 @@
 //! Laws of the swap memory, for the crates above. Each function does nothing: its contract is the law.
 
+ghost use Rattle.bz_swap.specs.AtomicCalls.{AccessIsAtomic};
 ghost use Rattle.bz_swap.specs.EffectPlaces.{EffectsStayInside, StatusWords};
 ghost use Rattle.bz_swap.specs.PlainFields.{PlainFieldsStay};
 ghost use Rattle.bz_swap.specs.Settled.{SettledStay, EffectsStay, DroppedStay, OwnedStay};
 ghost use Rattle.bz_swap.specs.Sizes.{SizesStay};
 ghost use Rattle.bz_swap.specs.TakenStatuses.{TakenStatusesStay, BegunStayTaken};
+
+/// What the calls of `Access` do are the events of the atomic swap memory.
+pub fn access_is_atomic()
+    ensures { AccessIsAtomic }
+{}
 
 /// There are as many durable words as cached ones, in whole lines, whatever happens.
 pub fn sizes_stay()
