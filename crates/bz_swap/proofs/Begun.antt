@@ -9,8 +9,8 @@ use Rattle.bz_machine.specs.declared.place.Place.TheVariants as place
 use Rattle.bz_machine.specs.Knows.{Spell, AtPlace}
 use Rattle.bz_machine.specs.Workers.{local_of}
 use Rattle.bz_cells.specs.Store.{Store, typed, descriptor_word_at}
-use Rattle.bz_swap.specs.Parts.{Parts, idle_worker, worker_at, listed, entry_list, prepares, prepares_at, words_in, begun_in}
-use Rattle.bz_swap.specs.Kept.{IsRunning}
+use Rattle.bz_swap.specs.Inside.Parts.{Parts, idle_worker, worker_at, listed, entry_list, prepares, prepares_at, words_in, begun_in}
+use Rattle.bz_swap.specs.Inside.Kept.{IsRunning}
 use Rattle.bz_swap.proofs.Spellings.{listed-same, entry_list-spelled}
 
 -- the worker that prepares a swap, if one does, and the words that are the swap's then

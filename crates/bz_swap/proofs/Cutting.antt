@@ -9,8 +9,8 @@ use Rattle.bz_cells.specs.Store.{Store, HasRoom, words_of, with_words}
 use Rattle.bz_swap.specs.declared.phase.Phase.TheVariants.{Recovering}
 use Rattle.bz_swap.specs.Power.{after_cut}
 use Rattle.bz_swap.specs.SwapMemory.{idle}
-use Rattle.bz_swap.specs.Parts.{Parts, idle_worker, working, seen}
-use Rattle.bz_swap.specs.Kept.{IsKept, RecoversAt}
+use Rattle.bz_swap.specs.Inside.Parts.{Parts, idle_worker, working, seen}
+use Rattle.bz_swap.specs.Inside.Kept.{IsKept, RecoversAt}
 use Rattle.bz_swap.proofs.Doings.{working-idle}
 
 -- the parts after a cut

@@ -9,8 +9,8 @@ use Rattle.bz_machine.specs.declared.worker.Worker.{Worker}
 use Rattle.bz_machine.specs.declared.done.Done.{Done}
 use Rattle.bz_machine.specs.declared.done.Done.TheVariants.{Busy, Read, Swapped, Stored, Flushed}
 use Rattle.bz_swap.specs.SwapMemory.{Doing, Idle, idle, worker_of}
-use Rattle.bz_swap.specs.Parts.{Parts, idle_worker, worker_at, working, doing_at, doing_operation, seen}
-use Rattle.bz_swap.specs.Kept.{RestsAt, IsBusy}
+use Rattle.bz_swap.specs.Inside.Parts.{Parts, idle_worker, worker_at, working, doing_at, doing_operation, seen}
+use Rattle.bz_swap.specs.Inside.Kept.{RestsAt, IsBusy}
 use Rattle.bz_swap.specs.Steps.{doing_after}
 use Rattle.bz_swap.proofs.Going.{IsGoing}
 

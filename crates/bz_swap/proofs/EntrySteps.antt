@@ -4,7 +4,7 @@ use Rattle.std.proofs.Common.{arith, refl, ap, sym, subst, ◌∙◌}
 use Rattle.std.proofs.lemmas.List.{drop_more, take_more, take_more_set, drop_all}
 use Rattle.bz_word.specs.declared.entry.Entry.{Entry}
 use Rattle.bz_swap.specs.EntryLists.{inserted, AreRising}
-use Rattle.bz_swap.specs.Parts.{listed}
+use Rattle.bz_swap.specs.Inside.Parts.{listed}
 use Rattle.bz_swap.proofs.EntryLists.{rising-drop, inserted-front}
 
 push-front : (xs ys : List Entry) (e : Entry) → (xs ++ e ∷ []) ++ ys ≡ xs ++ e ∷ ys

@@ -5,10 +5,10 @@ use Rattle.std.proofs.Common.{sym, subst, ◌∙◌, inl, inr}
 use Rattle.bz_cells.specs.Store.{Store}
 use Rattle.bz_swap.specs.declared.phase.Phase.{Phase}
 use Rattle.bz_swap.specs.declared.phase.Phase.TheVariants.{Opened, Running, Recovering}
-use Rattle.bz_swap.specs.Evicted.{IsEvicted}
+use Rattle.bz_swap.specs.Inside.Evicted.{IsEvicted}
 use Rattle.bz_swap.specs.Evictions.{IsEviction}
-use Rattle.bz_swap.specs.Parts.{Parts, seen}
-use Rattle.bz_swap.specs.Kept.{IsKept}
+use Rattle.bz_swap.specs.Inside.Parts.{Parts, seen}
+use Rattle.bz_swap.specs.Inside.Kept.{IsKept}
 use Rattle.bz_swap.proofs.Evicting.{evicted_store, eviction-kept}
 use Rattle.bz_swap.proofs.SeenEvictions.{is-eviction}
 

@@ -15,9 +15,9 @@ use Rattle.bz_swap.specs.declared.phase.Phase.{Phase}
 use Rattle.bz_swap.specs.declared.phase.Phase.TheVariants.{Opened, Running, Recovering}
 use Rattle.bz_swap.specs.declared.role.WordRole.{WordRole}
 use Rattle.bz_swap.specs.declared.role.WordRole.TheVariants.{Outside, Status, Field}
-use Rattle.bz_swap.specs.Evicted.{IsEvicted, event_of, memory_after}
-use Rattle.bz_swap.specs.Parts.{Parts, worker_at}
-use Rattle.bz_swap.specs.Kept.{IsRunning, IsWorker, IsKept, KeptIn, state_of}
+use Rattle.bz_swap.specs.Inside.Evicted.{IsEvicted, event_of, memory_after}
+use Rattle.bz_swap.specs.Inside.Parts.{Parts, worker_at}
+use Rattle.bz_swap.specs.Inside.Kept.{IsRunning, IsWorker, IsKept, KeptIn, state_of}
 use Rattle.bz_swap.proofs.StepLies.{worker-shape}
 use Rattle.bz_swap.proofs.Stepping.{running}
 

@@ -13,8 +13,8 @@ use Rattle.bz_machine.proofs.EventLaws.{begins_as_state, begins_in_range}
 use Rattle.bz_cells.specs.Store.{Store, Beside, HasRoom, IsOutside, typed}
 use Rattle.bz_swap.specs.Power.{AreRecovered}
 use Rattle.bz_swap.specs.SwapMemory.{idle as seen_idle}
-use Rattle.bz_swap.specs.Parts.{Parts, idle_worker, worker_at, working}
-use Rattle.bz_swap.specs.Kept.{IsRunning, IsUntouched, IsWorker, state_of}
+use Rattle.bz_swap.specs.Inside.Parts.{Parts, idle_worker, worker_at, working}
+use Rattle.bz_swap.specs.Inside.Kept.{IsRunning, IsUntouched, IsWorker, state_of}
 use Rattle.bz_swap.proofs.Recovered.{fitting, fitting-plain, fitting-kind, same-kinds, free-status, recovered-words}
 
 -- nothing was asked yet, and nothing is kept of what was asked before

@@ -18,7 +18,7 @@ use Rattle.bz_machine.specs.Machine.{Memory, entries_in}
 use Rattle.bz_machine.specs.Changes.{put}
 use Rattle.bz_machine.specs.HelpActs.{help_act}
 use Rattle.bz_machine.specs.Steps.{Local, Stepped, act, is_own, completed, resumed, after_help, read_act}
-use Rattle.bz_swap.specs.Kept.{IsBusy}
+use Rattle.bz_swap.specs.Inside.Kept.{IsBusy}
 
 -- a place on the way to an answer
 abbrev pub IsGoing : Place → Type 0

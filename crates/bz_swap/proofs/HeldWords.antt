@@ -20,8 +20,8 @@ use Rattle.bz_swap.specs.Lawful.{IsReadable, HasEntry, IsLawfulKind}
 use Rattle.bz_swap.specs.Resolve.{entries_at}
 use Rattle.bz_swap.specs.SwapMemory.{entries_of}
 use Rattle.bz_swap.specs.Starts.{IsAddress}
-use Rattle.bz_swap.specs.Parts.{Parts, entry_of, entry_list, seen}
-use Rattle.bz_swap.specs.Kept.{IsRunning}
+use Rattle.bz_swap.specs.Inside.Parts.{Parts, entry_of, entry_list, seen}
+use Rattle.bz_swap.specs.Inside.Kept.{IsRunning}
 use Rattle.bz_swap.proofs.Readable.{agree-published, index-target, value_is}
 use Rattle.bz_swap.proofs.Readies.{published-begun, begun-descriptor}
 use Rattle.bz_swap.proofs.Shown.{shows, begun-running}

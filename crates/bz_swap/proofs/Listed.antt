@@ -5,7 +5,7 @@ use Rattle.bz_word.specs.declared.entry.Entry.{Entry}
 use Rattle.bz_machine.specs.Changes.{put}
 use Rattle.bz_machine.specs.Machine.{Entries}
 use Rattle.bz_swap.specs.SwapMemory.{is_target, is_among}
-use Rattle.bz_swap.specs.Parts.{listed, entry_list}
+use Rattle.bz_swap.specs.Inside.Parts.{listed, entry_list}
 use Rattle.bz_swap.proofs.Spellings.{listed-same}
 use Rattle.bz_swap.proofs.Stepped.{put-here, put-there}
 

@@ -12,8 +12,8 @@ use Rattle.bz_acts.specs.Ready.{LiesOutside}
 use Rattle.bz_swap.specs.declared.phase.Phase.TheVariants.{Recovering}
 use Rattle.bz_swap.specs.Starts.{IsEntry, MaySwap}
 use Rattle.bz_swap.specs.SwapMemory.{Storing, doing_of, is_target}
-use Rattle.bz_swap.specs.Parts.{Parts, worker_at, doing_at, seen}
-use Rattle.bz_swap.specs.Kept.{IsRunning, state_of}
+use Rattle.bz_swap.specs.Inside.Parts.{Parts, worker_at, doing_at, seen}
+use Rattle.bz_swap.specs.Inside.Kept.{IsRunning, state_of}
 use Rattle.bz_swap.proofs.Doings.{worker-seen}
 use Rattle.bz_swap.proofs.Shown.{shows}
 use Rattle.bz_swap.proofs.SwapLists.{Lists, Targeted, entries_from, count-listed, apart-from, told-from, each-from, target-from}

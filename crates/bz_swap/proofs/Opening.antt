@@ -8,8 +8,8 @@ use Rattle.bz_swap.specs.declared.phase.Phase.{Phase}
 use Rattle.bz_swap.specs.declared.phase.Phase.TheVariants.{Opened, Running, Recovering}
 use Rattle.bz_swap.specs.SwapMemory.{idle}
 use Rattle.bz_swap.specs.Power.{AreRecovered, IsOpened, opened}
-use Rattle.bz_swap.specs.Parts.{Parts, idle_worker, worker_at, working, begun_seen, seen}
-use Rattle.bz_swap.specs.Kept.{IsKept, KeptIn}
+use Rattle.bz_swap.specs.Inside.Parts.{Parts, idle_worker, worker_at, working, begun_seen, seen}
+use Rattle.bz_swap.specs.Inside.Kept.{IsKept, KeptIn}
 use Rattle.bz_swap.proofs.Fresh.{all-same, fresh-untouched, fresh-place, idle-operation, all-idle}
 
 -- no swap was begun where none is taken

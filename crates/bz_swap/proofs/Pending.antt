@@ -11,8 +11,8 @@ use Rattle.bz_machine.specs.Machine.{is_verdict, is_succeeded}
 use Rattle.bz_machine.specs.Sound.{IsUnset}
 use Rattle.bz_cells.specs.Store.{typed}
 use Rattle.bz_swap.specs.SwapMemory.{Swapping, doing_of}
-use Rattle.bz_swap.specs.Parts.{Parts, worker_at, seen, doing_operation}
-use Rattle.bz_swap.specs.Kept.{IsRunning, IsOwned, IsBusy}
+use Rattle.bz_swap.specs.Inside.Parts.{Parts, worker_at, seen, doing_operation}
+use Rattle.bz_swap.specs.Inside.Kept.{IsRunning, IsOwned, IsBusy}
 use Rattle.bz_swap.proofs.StepLies.{going-busy}
 use Rattle.bz_swap.proofs.Doings.{worker-seen, doing-going}
 

@@ -12,8 +12,8 @@ use Rattle.bz_swap.specs.declared.phase.Phase.TheVariants.{Opened, Running, Reco
 use Rattle.bz_swap.specs.Held.{Holds}
 use Rattle.bz_swap.specs.Starts.{MayRecover, MayLoad, MayStore, MayFlush, started, phase_of, begins_by_flush}
 use Rattle.bz_swap.specs.SwapMemory.{Doing, Loading, Storing, Flushing}
-use Rattle.bz_swap.specs.Parts.{Parts, idle_worker, worker_at, working, begun_seen, seen}
-use Rattle.bz_swap.specs.Kept.{IsKept, KeptIn, RecoversAt}
+use Rattle.bz_swap.specs.Inside.Parts.{Parts, idle_worker, worker_at, working, begun_seen, seen}
+use Rattle.bz_swap.specs.Inside.Kept.{IsKept, KeptIn, RecoversAt}
 use Rattle.bz_swap.proofs.Stepping.{worker-read, workers-within}
 use Rattle.bz_swap.proofs.WorkStarts.{placed, nothing-at, store-started, flush-started}
 

@@ -17,11 +17,11 @@ use Rattle.bz_pm.specs.Words.{Words}
 use Rattle.bz_acts.specs.declared.acted.Acted.{Acted}
 use Rattle.bz_swap.specs.declared.phase.Phase.{Phase}
 use Rattle.bz_swap.specs.declared.phase.Phase.TheVariants.{Opened, Running, Recovering}
-use Rattle.bz_swap.specs.Raw.{IsAsked, IsRawAct}
+use Rattle.bz_swap.specs.Inside.Raw.{IsAsked, IsRawAct}
 use Rattle.bz_swap.specs.Steps.{IsAnswer, IsRawStep, doing_after}
 use Rattle.bz_swap.specs.SwapMemory.{SwapMemory, Idle, Working, worker_of, doing_of}
-use Rattle.bz_swap.specs.Parts.{Parts, worker_at, working, doing_at, begun_seen, seen}
-use Rattle.bz_swap.specs.Kept.{IsRecovering, IsKept, KeptIn, RecoversAt}
+use Rattle.bz_swap.specs.Inside.Parts.{Parts, worker_at, working, doing_at, begun_seen, seen}
+use Rattle.bz_swap.specs.Inside.Kept.{IsRecovering, IsKept, KeptIn, RecoversAt}
 use Rattle.bz_swap.proofs.Doings.{worker-seen}
 use Rattle.bz_swap.proofs.SeenActs.{counted}
 use Rattle.bz_swap.proofs.Stepping.{workers-within, busy-place}

@@ -12,8 +12,8 @@ use Rattle.bz_machine.specs.Machine.{Entries, resolve as resolved}
 use Rattle.bz_machine.specs.Sound.{IsTarget, IsEntry}
 use Rattle.bz_cells.specs.Store.{typed, kind_at}
 use Rattle.bz_swap.specs.Resolve.{first_entry, entries_at, resolve}
-use Rattle.bz_swap.specs.Parts.{Parts}
-use Rattle.bz_swap.specs.Kept.{IsRunning}
+use Rattle.bz_swap.specs.Inside.Parts.{Parts}
+use Rattle.bz_swap.specs.Inside.Kept.{IsRunning}
 
 -- the first entry with a target is found where it is
 pub first-found : (x : Entries) (a j n i : ℕ) → i ≤ j → j < i + n → x.target j ≡ a → ((k : ℕ) → k < j → x.target k ≢ a) → first_entry x a n i ≡ j

@@ -16,8 +16,8 @@ use Rattle.bz_machine.specs.Ranges.{StepInRange, PlaceInRange}
 use Rattle.bz_machine.specs.Workers.{local_of}
 use Rattle.bz_cells.specs.Store.{MayTag, typed}
 use Rattle.bz_acts.specs.Ready.{IsUsable, IsStepReady, IsPrepareReady, IsReadyAt, IsReady}
-use Rattle.bz_swap.specs.Parts.{Parts, worker_at}
-use Rattle.bz_swap.specs.Kept.{IsRunning, PlaceLies}
+use Rattle.bz_swap.specs.Inside.Parts.{Parts, worker_at}
+use Rattle.bz_swap.specs.Inside.Kept.{IsRunning, PlaceLies}
 use Rattle.bz_swap.proofs.Stepped.{MayStep}
 
 -- a published swap is begun

@@ -10,8 +10,8 @@ use Rattle.bz_swap.specs.declared.phase.Phase.{Phase}
 use Rattle.bz_swap.specs.declared.phase.Phase.TheVariants.{Opened, Running, Recovering}
 use Rattle.bz_swap.specs.SwapMemory.{Idle, idle, doing_of}
 use Rattle.bz_swap.specs.Power.{MayRenew, renewed}
-use Rattle.bz_swap.specs.Parts.{Parts, idle_worker, worker_at, working, doing_at, seen}
-use Rattle.bz_swap.specs.Kept.{IsKept, KeptIn, RecoversAt}
+use Rattle.bz_swap.specs.Inside.Parts.{Parts, idle_worker, worker_at, working, doing_at, seen}
+use Rattle.bz_swap.specs.Inside.Kept.{IsKept, KeptIn, RecoversAt}
 use Rattle.bz_swap.proofs.Doings.{worker-seen, idle-place}
 use Rattle.bz_swap.proofs.Fresh.{IsFresh, all-same, fresh-running, fresh-place, all-idle}
 

@@ -4,7 +4,7 @@ use Rattle.std.proofs.Common.{arith, ap, sym, ◌∙◌}
 use Rattle.bz_word.specs.declared.entry.Entry.{Entry}
 use Rattle.bz_machine.specs.Machine.{entries_in}
 use Rattle.bz_swap.specs.EntryLists.{IsEntryList}
-use Rattle.bz_swap.specs.Parts.{entry_of, entry_list}
+use Rattle.bz_swap.specs.Inside.Parts.{entry_of, entry_list}
 use Rattle.bz_swap.proofs.EntryLists.{targets-differ}
 use Rattle.bz_swap.proofs.SwapLists.{Lists}
 use Rattle.bz_swap.proofs.Values.{listed-at, length-listed}

@@ -29,8 +29,8 @@ use Rattle.bz_acts.specs.declared.acted.Act.TheVariants.{Load}
 use Rattle.bz_swap.specs.declared.phase.Phase.TheVariants.{Recovering}
 use Rattle.bz_swap.specs.Steps.{IsAnswer, IsStep, doing_after}
 use Rattle.bz_swap.specs.SwapMemory.{SwapMemory, Storing, Working, worker_of}
-use Rattle.bz_swap.specs.Parts.{Parts, worker_at, listed, entry_list, seen, working, doing_at, doing_operation}
-use Rattle.bz_swap.specs.Kept.{IsRunning, PlaceLies, state_of}
+use Rattle.bz_swap.specs.Inside.Parts.{Parts, worker_at, listed, entry_list, seen, working, doing_at, doing_operation}
+use Rattle.bz_swap.specs.Inside.Kept.{IsRunning, PlaceLies, state_of}
 use Rattle.bz_swap.proofs.Frames.{frame-act}
 use Rattle.bz_swap.proofs.Going.{IsGoing, ReadsAt, Leads, leads-act}
 use Rattle.bz_swap.proofs.Doings.{worker-seen, doing-going, done-idle}

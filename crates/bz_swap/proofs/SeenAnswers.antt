@@ -11,8 +11,8 @@ use Rattle.bz_acts.specs.declared.acted.Act.{Act}
 use Rattle.bz_acts.specs.declared.acted.Act.TheVariants.{Load}
 use Rattle.bz_swap.specs.Steps.{IsAnswer}
 use Rattle.bz_swap.specs.SwapMemory.{SwapMemory}
-use Rattle.bz_swap.specs.Parts.{doing_operation}
-use Rattle.bz_swap.specs.Kept.{IsBusy}
+use Rattle.bz_swap.specs.Inside.Parts.{doing_operation}
+use Rattle.bz_swap.specs.Inside.Kept.{IsBusy}
 use Rattle.bz_swap.proofs.Shown.{Shows}
 
 -- the answer of a read or a swap

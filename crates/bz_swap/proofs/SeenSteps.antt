@@ -17,8 +17,8 @@ use Rattle.bz_acts.specs.Made.{made}
 use Rattle.bz_swap.specs.declared.phase.Phase.TheVariants.{Recovering}
 use Rattle.bz_swap.specs.Effects.{EffectIs}
 use Rattle.bz_swap.specs.SwapMemory.{SwapMemory, Swapping, doing_of}
-use Rattle.bz_swap.specs.Parts.{Parts, worker_at, seen}
-use Rattle.bz_swap.specs.Kept.{IsRunning, state_of}
+use Rattle.bz_swap.specs.Inside.Parts.{Parts, worker_at, seen}
+use Rattle.bz_swap.specs.Inside.Kept.{IsRunning, state_of}
 use Rattle.bz_swap.proofs.Frames.{frame-act}
 use Rattle.bz_swap.proofs.Pending.{pending}
 use Rattle.bz_swap.proofs.Shown.{Shows, shows, quiet-shown, effect-shown}

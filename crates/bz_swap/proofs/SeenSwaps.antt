@@ -9,8 +9,8 @@ use Rattle.bz_swap.specs.declared.phase.Phase.TheVariants.{Running}
 use Rattle.bz_swap.specs.Held.{Holds}
 use Rattle.bz_swap.specs.EntryLists.{IsEntryList}
 use Rattle.bz_swap.specs.Starts.{MaySwap, phase_of, swapping}
-use Rattle.bz_swap.specs.Parts.{Parts, working, listed, entry_list, begun_seen, seen}
-use Rattle.bz_swap.specs.Kept.{IsRunning, IsKept}
+use Rattle.bz_swap.specs.Inside.Parts.{Parts, working, listed, entry_list, begun_seen, seen}
+use Rattle.bz_swap.specs.Inside.Kept.{IsRunning, IsKept}
 use Rattle.bz_swap.proofs.Begun.{begun_is}
 use Rattle.bz_swap.proofs.Listed.{begun-more}
 use Rattle.bz_swap.proofs.Rising.{lists-rising}

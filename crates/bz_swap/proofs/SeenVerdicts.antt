@@ -25,8 +25,8 @@ use Rattle.bz_cells.specs.Store.{Store, Beside, IsStatusWord, typed, status_at, 
 use Rattle.bz_acts.specs.Made.{made}
 use Rattle.bz_swap.specs.Writes.{IsVerdictWord, IsDecided}
 use Rattle.bz_swap.specs.SwapMemory.{Swapping, Working, doing_of}
-use Rattle.bz_swap.specs.Parts.{Parts, worker_at, doing_at, doing_operation, seen}
-use Rattle.bz_swap.specs.Kept.{IsRunning, state_of}
+use Rattle.bz_swap.specs.Inside.Parts.{Parts, worker_at, doing_at, doing_operation, seen}
+use Rattle.bz_swap.specs.Inside.Kept.{IsRunning, state_of}
 use Rattle.bz_swap.proofs.Doings.{worker-seen}
 use Rattle.bz_swap.proofs.Readies.{published-begun, begun-descriptor}
 use Rattle.bz_swap.proofs.Stepped.{Acts, MayStep, after_step}

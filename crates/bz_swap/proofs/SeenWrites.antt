@@ -24,8 +24,8 @@ use Rattle.bz_acts.specs.declared.acted.Act.TheVariants.{Load, Store, Cas, Flush
 use Rattle.bz_swap.specs.declared.phase.Phase.TheVariants.{Recovering}
 use Rattle.bz_swap.specs.Writes.{StoresPrivate, StoresField, StoresOwn, ChangesStatus, WritesLawfully}
 use Rattle.bz_swap.specs.SwapMemory.{SwapMemory, Working, doing_of}
-use Rattle.bz_swap.specs.Parts.{Parts, worker_at, doing_at, doing_operation, seen}
-use Rattle.bz_swap.specs.Kept.{IsRunning, PlaceLies}
+use Rattle.bz_swap.specs.Inside.Parts.{Parts, worker_at, doing_at, doing_operation, seen}
+use Rattle.bz_swap.specs.Inside.Kept.{IsRunning, PlaceLies}
 use Rattle.bz_swap.proofs.Doings.{worker-seen}
 use Rattle.bz_swap.proofs.Readies.{published-begun, begun-descriptor}
 use Rattle.bz_swap.proofs.Shown.{shows}

@@ -10,8 +10,8 @@ use Rattle.bz_swap.specs.declared.phase.Phase.{Phase}
 use Rattle.bz_swap.specs.declared.phase.Phase.TheVariants.{Opened, Running, Recovering}
 use Rattle.bz_swap.specs.SwapMemory.{SwapMemory, Swapping, value_at, has_effect, is_missed, entries_of, is_target, is_named, is_among, doing_of}
 use Rattle.bz_swap.specs.Effects.{TakesEffect, IsQuiet, SomeDiffers, NotesMisses}
-use Rattle.bz_swap.specs.Parts.{Parts, listed, entry_of, entry_list, begun_seen, seen}
-use Rattle.bz_swap.specs.Kept.{IsRunning}
+use Rattle.bz_swap.specs.Inside.Parts.{Parts, listed, entry_of, entry_list, begun_seen, seen}
+use Rattle.bz_swap.specs.Inside.Kept.{IsRunning}
 use Rattle.bz_swap.proofs.Begun.{begun_is}
 use Rattle.bz_swap.proofs.Readable.{value_is}
 use Rattle.bz_swap.proofs.Values.{all-listed, listed-all, listed-at, listed-target}

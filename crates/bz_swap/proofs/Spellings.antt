@@ -4,7 +4,7 @@ use Rattle.std.proofs.Common.{arith, refl}
 use Rattle.bz_machine.specs.Agrees.{Agree, agree-spell}
 use Rattle.bz_machine.specs.Machine.{Entries, entries_in}
 use Rattle.bz_machine.specs.Knows.{Spell}
-use Rattle.bz_swap.specs.Parts.{listed, entry_list}
+use Rattle.bz_swap.specs.Inside.Parts.{listed, entry_list}
 
 -- lists whose members are the same
 pub listed-same : {A : Type 0} (f g : ℕ → A) (i n : ℕ) → ((j : ℕ) → i ≤ j → j < i + n → f j ≡ g j) → listed f i n ≡ listed g i n

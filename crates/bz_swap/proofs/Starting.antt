@@ -14,8 +14,8 @@ use Rattle.bz_swap.specs.declared.phase.Phase.TheVariants.{Running, Recovering}
 use Rattle.bz_swap.specs.Held.{Holds}
 use Rattle.bz_swap.specs.Starts.{started, phase_of, begins_by_flush}
 use Rattle.bz_swap.specs.SwapMemory.{Doing}
-use Rattle.bz_swap.specs.Parts.{Parts, idle_worker, worker_at, working, listed, entry_list, begun_seen, seen}
-use Rattle.bz_swap.specs.Kept.{IsRunning, IsWorker, IsOwned, IsPrepared, IsKept, state_of}
+use Rattle.bz_swap.specs.Inside.Parts.{Parts, idle_worker, worker_at, working, listed, entry_list, begun_seen, seen}
+use Rattle.bz_swap.specs.Inside.Kept.{IsRunning, IsWorker, IsOwned, IsPrepared, IsKept, state_of}
 use Rattle.bz_swap.proofs.Begun.{begun_is}
 use Rattle.bz_swap.proofs.Shown.{begun-running}
 use Rattle.bz_swap.proofs.Stepped.{put-here, put-there}

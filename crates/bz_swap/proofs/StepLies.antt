@@ -14,8 +14,8 @@ use Rattle.bz_machine.specs.Workers.{local_of}
 use Rattle.bz_cells.specs.Store.{Store, SameShape}
 use Rattle.bz_acts.specs.Made.{made}
 use Rattle.bz_acts.specs.Ready.{LiesOutside}
-use Rattle.bz_swap.specs.Parts.{Parts, worker_at}
-use Rattle.bz_swap.specs.Kept.{IsRunning, IsWorker, RestsAt, OperationLies, PlaceLies, IsBusy}
+use Rattle.bz_swap.specs.Inside.Parts.{Parts, worker_at}
+use Rattle.bz_swap.specs.Inside.Kept.{IsRunning, IsWorker, RestsAt, OperationLies, PlaceLies, IsBusy}
 use Rattle.bz_swap.proofs.Going.{IsGoing, Leads}
 use Rattle.bz_swap.proofs.Stepped.{Acts}
 

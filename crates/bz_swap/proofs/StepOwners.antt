@@ -22,8 +22,8 @@ use Rattle.bz_machine.specs.Workers.{local_of}
 use Rattle.bz_machine.proofs.EventLaws.{acts_atomically}
 use Rattle.bz_cells.specs.Store.{Store, Beside, typed}
 use Rattle.bz_acts.specs.Made.{made, beside_in}
-use Rattle.bz_swap.specs.Parts.{Parts, worker_at}
-use Rattle.bz_swap.specs.Kept.{IsRunning, IsOwned, IsPrepared, IsBusy, state_of}
+use Rattle.bz_swap.specs.Inside.Parts.{Parts, worker_at}
+use Rattle.bz_swap.specs.Inside.Kept.{IsRunning, IsOwned, IsPrepared, IsBusy, state_of}
 use Rattle.bz_swap.proofs.Frames.{frame-act}
 use Rattle.bz_swap.proofs.Going.{IsGoing, Leads}
 use Rattle.bz_swap.proofs.Stepped.{Acts, MayStep, after_step, same-worker, other-worker, put-here}

@@ -12,8 +12,8 @@ use Rattle.bz_machine.specs.Workers.{local_of}
 use Rattle.bz_machine.proofs.EventLaws.{keeps_state, keeps_range}
 use Rattle.bz_cells.specs.Store.{Store, typed}
 use Rattle.bz_acts.specs.Made.{made, beside_in}
-use Rattle.bz_swap.specs.Parts.{Parts, worker_at}
-use Rattle.bz_swap.specs.Kept.{IsRunning, state_of}
+use Rattle.bz_swap.specs.Inside.Parts.{Parts, worker_at}
+use Rattle.bz_swap.specs.Inside.Kept.{IsRunning, state_of}
 use Rattle.bz_swap.proofs.Frames.{frame-act}
 use Rattle.bz_swap.proofs.Going.{Leads, leads-act}
 use Rattle.bz_swap.proofs.Stepped.{Acts, MayStep, after_step, same-worker, other-worker, state-path}

@@ -13,8 +13,8 @@ use Rattle.bz_machine.specs.State.{Act, happens}
 use Rattle.bz_machine.specs.Workers.{local_of}
 use Rattle.bz_cells.specs.Store.{Store, Beside, IsStore, SameShape, typed}
 use Rattle.bz_acts.specs.Made.{made, beside_in}
-use Rattle.bz_swap.specs.Parts.{Parts, idle_worker, worker_at}
-use Rattle.bz_swap.specs.Kept.{state_of}
+use Rattle.bz_swap.specs.Inside.Parts.{Parts, idle_worker, worker_at}
+use Rattle.bz_swap.specs.Inside.Kept.{state_of}
 
 -- the act of worker w was made: the words and the worker after it
 pub record Acts (p : Parts) (b : Beside) (w : ℕ) (store : Store) (l : Worker) (done : Done) : Type 0 where

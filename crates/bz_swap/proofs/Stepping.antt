@@ -18,8 +18,8 @@ use Rattle.bz_swap.specs.declared.phase.Phase.{Phase}
 use Rattle.bz_swap.specs.declared.phase.Phase.TheVariants.{Opened, Running, Recovering}
 use Rattle.bz_swap.specs.Held.{Holds}
 use Rattle.bz_swap.specs.SwapMemory.{Idle, doing_of}
-use Rattle.bz_swap.specs.Parts.{Parts, idle_worker, worker_at, working, seen}
-use Rattle.bz_swap.specs.Kept.{IsRunning, IsKept, KeptIn}
+use Rattle.bz_swap.specs.Inside.Parts.{Parts, idle_worker, worker_at, working, seen}
+use Rattle.bz_swap.specs.Inside.Kept.{IsRunning, IsKept, KeptIn}
 use Rattle.bz_swap.proofs.Doings.{worker-seen, place-idle}
 use Rattle.bz_swap.proofs.HeldWords.{held, holds}
 use Rattle.bz_swap.proofs.Readies.{ready}

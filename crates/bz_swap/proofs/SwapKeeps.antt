@@ -12,8 +12,8 @@ use Rattle.bz_machine.specs.State.{State}
 use Rattle.bz_machine.proofs.EventLaws.{keeps_state, keeps_range}
 use Rattle.bz_acts.specs.Ready.{LiesOutside}
 use Rattle.bz_swap.specs.SwapMemory.{is_target, is_among}
-use Rattle.bz_swap.specs.Parts.{Parts, worker_at, listed, entry_list}
-use Rattle.bz_swap.specs.Kept.{IsRunning, IsWorker, IsOwned, IsPrepared, state_of}
+use Rattle.bz_swap.specs.Inside.Parts.{Parts, worker_at, listed, entry_list}
+use Rattle.bz_swap.specs.Inside.Kept.{IsRunning, IsWorker, IsOwned, IsPrepared, state_of}
 use Rattle.bz_swap.proofs.Listed.{begun-more, among-more}
 use Rattle.bz_swap.proofs.MaySwaps.{lies-from}
 use Rattle.bz_swap.proofs.Stepped.{put-here, put-there}

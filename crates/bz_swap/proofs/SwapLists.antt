@@ -6,7 +6,7 @@ use Rattle.bz_word.specs.declared.entry.Entry.{Entry}
 use Rattle.bz_machine.specs.Machine.{Entries, entries_in, spelled}
 use Rattle.bz_swap.specs.Resolve.{first_entry}
 use Rattle.bz_swap.specs.SwapMemory.{is_target}
-use Rattle.bz_swap.specs.Parts.{entry_of, entry_list}
+use Rattle.bz_swap.specs.Inside.Parts.{entry_of, entry_list}
 use Rattle.bz_swap.proofs.Values.{length-listed, listed-all, target-listed, listed-target}
 use Rattle.bz_swap.proofs.Readable.{first-found}
 

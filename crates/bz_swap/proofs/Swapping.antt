@@ -19,8 +19,8 @@ use Rattle.bz_cells.specs.Store.{Beside}
 use Rattle.bz_swap.specs.declared.phase.Phase.TheVariants.{Running}
 use Rattle.bz_swap.specs.SwapMemory.{is_target}
 use Rattle.bz_swap.specs.Starts.{MaySwap}
-use Rattle.bz_swap.specs.Parts.{Parts, idle_worker, worker_at, seen}
-use Rattle.bz_swap.specs.Kept.{IsRunning, state_of}
+use Rattle.bz_swap.specs.Inside.Parts.{Parts, idle_worker, worker_at, seen}
+use Rattle.bz_swap.specs.Inside.Kept.{IsRunning, state_of}
 use Rattle.bz_swap.proofs.MaySwaps.{may-begin, values-from}
 use Rattle.bz_swap.proofs.Stepped.{put-here, put-there}
 use Rattle.bz_swap.proofs.Stepping.{workers-within}

@@ -4,7 +4,7 @@ use Rattle.std.proofs.Common.{arith, refl}
 use Rattle.bz_machine.specs.declared.worker.Worker.{Worker}
 use Rattle.bz_cells.specs.Store.{Store, HasRoom, IsStore}
 use Rattle.bz_acts.specs.Ready.{LiesOutside}
-use Rattle.bz_swap.specs.Kept.{IsWorker}
+use Rattle.bz_swap.specs.Inside.Kept.{IsWorker}
 use Rattle.bz_swap.proofs.StepLies.{worker-shape}
 
 abbrev pub one_taken : Store → Store

@@ -5,7 +5,7 @@ use Rattle.std.proofs.lemmas.Bool.{cases_eq}
 use Rattle.std.proofs.lemmas.Grind.{common_steps}
 use Rattle.bz_machine.specs.Machine.{Entries}
 use Rattle.bz_swap.specs.SwapMemory.{is_target}
-use Rattle.bz_swap.specs.Parts.{listed}
+use Rattle.bz_swap.specs.Inside.Parts.{listed}
 
 -- what is at a place of a list
 pub listed-at : {A : Type 0} (f : ℕ → A) (i n j : ℕ) (d : A) → j < n → get_or (listed f i n) j d ≡ f (i + j)

@@ -8,15 +8,22 @@ use Rattle.bz_pm.specs.Acts.{with_range, with_line, flushed}
 use Rattle.bz_pm.specs.Laws.{flush}
 use Rattle.bz_pm.specs.Words.{Words, IsMemory}
 
--- a word that is below a bound, where what is stored at it is
-pub set-below : (words : List ℕ) (a v b n : ℕ) → (b ≡ a → v < n) → slice_index words b < n → slice_index (slice_set words a v) b < n
-set-below words a v b n new old = elim (cases_eq b a) [
+-- what holds of a word and of what is stored holds of the word afterwards
+pub set-keeps : (P : ℕ → Type 0) (words : List ℕ) (a v b : ℕ) → (b ≡ a → P v) → P (slice_index words b) → P (slice_index (slice_set words a v) b)
+set-keeps P words a v b new old = elim (cases_eq b a) [
   | inl here ↦ elim (cases_lt a (length words)) [
     | inl within ↦ (let is : slice_index (slice_set words a v) a ≡ v = get_or-set_same words a v 0 within in rw (here, is) (new here))
-    | inr past ↦ (let is : slice_index (slice_set words a v) a ≡ 0 = get_or_past (slice_set words a v) a 0 (rw (length-set words a v) past) in rw (here, is) (omega (arith, old)))
+    | inr past ↦ (let is : slice_index (slice_set words a v) a ≡ 0 = get_or_past (slice_set words a v) a 0 (rw (length-set words a v) past) in
+        let was : slice_index words a ≡ 0 = get_or_past words a 0 past in
+        let zero : P 0 = rw (here, was) at old in
+        rw (here, is) zero)
   ]
   | inr there ↦ rw (get_or-set_other words a b v 0 there) old
 ]
+
+-- a word that is below a bound, where what is stored at it is
+pub set-below : (words : List ℕ) (a v b n : ℕ) → (b ≡ a → v < n) → slice_index words b < n → slice_index (slice_set words a v) b < n
+set-below words a v b n = set-keeps (λ x. x < n) words a v b
 
 pub set-other : (words : List ℕ) (a v b : ℕ) → b ≢ a → slice_index (slice_set words a v) b ≡ slice_index words b
 set-other words a v b there = get_or-set_other words a b v 0 there
@@ -33,12 +40,16 @@ flushed-other m line b i other = elim (cases_lt (line * 8) (length m.cached)) [
   | inr past ↦ ap (λ (words : List ℕ). slice_index words b) (past-line line m.cached m.durable past (omega (arith, past, i.same)))
 ]
 
-pub flushed-below : (m : Words) (line b n : ℕ) → IsMemory m → slice_index m.cached b < n → slice_index m.durable b < n → slice_index (flushed m line).durable b < n
-flushed-below m line b n i cached durable = elim (cases_lt (line * 8) (length m.cached)) [
+-- what holds of a cached and of a durable word holds of the durable one afterwards
+pub flushed-keeps : (P : ℕ → Type 0) (m : Words) (line b : ℕ) → IsMemory m → P (slice_index m.cached b) → P (slice_index m.durable b) → P (slice_index (flushed m line).durable b)
+flushed-keeps P m line b i cached durable = elim (cases_lt (line * 8) (length m.cached)) [
   | inl within ↦ rw ((flush m line i within).durable b) (either (b / 8 == line))
   | inr past ↦ rw (past-line line m.cached m.durable past (omega (arith, past, i.same))) durable
 ]
   where
-    either : (t : Bool) → (if t then slice_index m.cached b else slice_index m.durable b) < n
+    either : (t : Bool) → P (if t then slice_index m.cached b else slice_index m.durable b)
     either true = cached
     either false = durable
+
+pub flushed-below : (m : Words) (line b n : ℕ) → IsMemory m → slice_index m.cached b < n → slice_index m.durable b < n → slice_index (flushed m line).durable b < n
+flushed-below m line b n = flushed-keeps (λ x. x < n) m line b

@@ -10,8 +10,8 @@ use Rattle.bz_machine.specs.Workers.{local_of}
 use Rattle.bz_acts.specs.Ready.{LiesOutside}
 use Rattle.bz_swap.specs.Starts.{IsAddress, MayRead, IsPrivateStore, IsPrivateFlush}
 use Rattle.bz_swap.specs.SwapMemory.{Idle, Reading, Storing, Flushing, doing_of}
-use Rattle.bz_swap.specs.Parts.{Parts, worker_at, seen}
-use Rattle.bz_swap.specs.Kept.{IsRunning, IsKept, RestsAt, state_of}
+use Rattle.bz_swap.specs.Inside.Parts.{Parts, worker_at, seen}
+use Rattle.bz_swap.specs.Inside.Kept.{IsRunning, IsKept, RestsAt, state_of}
 use Rattle.bz_swap.proofs.Doings.{worker-seen, idle-place}
 use Rattle.bz_swap.proofs.Shown.{shows}
 use Rattle.bz_swap.proofs.Starting.{IsStarted, is-started}

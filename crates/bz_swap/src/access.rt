@@ -1,7 +1,7 @@
 //! The swap memory and its operations.
 
-ghost use Rattle.std.specs.Prelude.{IsTrue, ◌↔◌, ◌≡◌, ◌<◌, length, slice_index};
-ghost use Rattle.bz_swap.specs.Parts.{idle_worker};
+ghost use Rattle.std.specs.Prelude.{IsTrue, ◌↔◌, ◌≡◌, ◌<◌, false, length, slice_index};
+ghost use Rattle.bz_swap.specs.Inside.Parts.{idle_worker};
 ghost use Rattle.bz_swap.specs.SwapMemory.{Idle, worker_of, doing_of};
 
 use crate::phase::Phase;
@@ -21,8 +21,8 @@ pub struct Access {
 
 impl Model for Access {
     ghost use Rattle.bz_swap.specs.SwapMemory.{SwapMemory};
-    ghost use Rattle.bz_swap.specs.Parts.{seen};
-    ghost use Rattle.bz_swap.specs.Kept.{IsKept};
+    ghost use Rattle.bz_swap.specs.Inside.Parts.{seen};
+    ghost use Rattle.bz_swap.specs.Inside.Kept.{IsKept};
 
     ghost Value = { SwapMemory };
 
@@ -93,7 +93,8 @@ impl Access {
     /// Whether the worker's next step is a flush.
     pub fn flush_next(&self, w: u8) -> bool
         requires { w < length self.now.workers }
-        ensures { result ≡ (worker_of self.now w).flush_next }
+        ensures told { result ≡ (worker_of self.now w).flush_next }
+        ensures idle { doing_of self.now w ≡ Idle → result ≡ false }
     {
         self.workers[w as usize].place.is_flush()
     }

@@ -27,7 +27,7 @@ impl EntryList {
     ghost use Rattle.std.specs.Prelude.{◌≡◌, ◌<◌, ◌*◌, ℕ, ◌∷◌, false, [], length, slice_index};
     ghost use Rattle.bz_machine.specs.Machine.{entries_in};
     ghost use Rattle.bz_swap.specs.EntryLists.{IsEntryList, inserted};
-    ghost use Rattle.bz_swap.specs.Parts.{entry_list};
+    ghost use Rattle.bz_swap.specs.Inside.Parts.{entry_list};
     ghost use Rattle.bz_swap.specs.SwapMemory.{is_target};
 
     /// The list of one entry.

@@ -3,7 +3,7 @@
 ghost use Rattle.std.specs.Prelude.{◌≡◌, ◌<◌, length};
 ghost use Rattle.bz_layout.specs.Addresses.{swap_address};
 ghost use Rattle.bz_cells.specs.Store.{IsStore};
-ghost use Rattle.bz_swap.specs.Evicted.{IsEvicted};
+ghost use Rattle.bz_swap.specs.Inside.Evicted.{IsEvicted};
 
 use crate::access::Access;
 use crate::phase::Phase;

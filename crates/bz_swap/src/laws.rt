@@ -1,9 +1,16 @@
 //! Laws of the swap memory, for the crates above. Each function does nothing: its contract is the law.
 
+ghost use Rattle.bz_swap.specs.AtomicCalls.{AccessIsAtomic};
 ghost use Rattle.bz_swap.specs.EffectPlaces.{EffectsStayInside, StatusWords};
 ghost use Rattle.bz_swap.specs.PlainFields.{PlainFieldsStay};
+ghost use Rattle.bz_swap.specs.Settled.{SettledStay, EffectsStay, DroppedStay, OwnedStay};
 ghost use Rattle.bz_swap.specs.Sizes.{SizesStay};
 ghost use Rattle.bz_swap.specs.TakenStatuses.{TakenStatusesStay, BegunStayTaken};
+
+/// What the calls of `Access` do are the events of the atomic swap memory.
+pub fn access_is_atomic()
+    ensures { AccessIsAtomic }
+{}
 
 /// There are as many durable words as cached ones, in whole lines, whatever happens.
 pub fn sizes_stay()
@@ -30,6 +37,27 @@ pub fn taken_statuses_stay()
 /// is not free.
 pub fn begun_stay_taken()
     ensures { BegunStayTaken }
+{}
+
+/// A swap that no worker does any more has had its effect or never will, whatever happens up to the next act of a
+/// recovery.
+pub fn settled_stay()
+    ensures { SettledStay }
+{}
+
+/// An effect is for good, and is told once.
+pub fn effects_stay()
+    ensures { EffectsStay }
+{}
+
+/// A swap without effect at a power cut never has one, where the recovery writes no status but free.
+pub fn dropped_stay()
+    ensures { DroppedStay }
+{}
+
+/// A swap is one worker's operation at most, and when it is answered it is settled as the answer says.
+pub fn owned_stay()
+    ensures { OwnedStay }
 {}
 
 /// The words that spell a status without the dirty bit.

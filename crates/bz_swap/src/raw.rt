@@ -2,8 +2,8 @@
 
 ghost use Rattle.std.specs.Prelude.{◌≢◌};
 ghost use Rattle.bz_machine.specs.declared.place.Place.TheVariants.{Idle as IdlePlace};
-ghost use Rattle.bz_swap.specs.Kept.{RecoversAt};
-ghost use Rattle.bz_swap.specs.Raw.{IsRawAct};
+ghost use Rattle.bz_swap.specs.Inside.Kept.{RecoversAt};
+ghost use Rattle.bz_swap.specs.Inside.Raw.{IsRawAct};
 ghost use Rattle.bz_cells.specs.Store.{HasRoom};
 
 use bz_acts::{Act, Acted};

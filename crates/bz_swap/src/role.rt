@@ -1,7 +1,7 @@
 //! What the word at an address is to the machine.
 
 ghost use Rattle.std.specs.Prelude.{◌≤◌, ◌^◌};
-ghost use Rattle.bz_swap.specs.Roles.{HasRole};
+ghost use Rattle.bz_swap.specs.Inside.Roles.{HasRole};
 
 use bz_layout::{SUPERBLOCK_WORDS, SWAP_COUNT_AT, SWAP_STATUS_AT, SWAP_WORDS};
 

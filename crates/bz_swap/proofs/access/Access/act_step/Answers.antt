@@ -1,8 +1,8 @@
 use Rattle.std.proofs.Common.{sym, subst}
 use Rattle.bz_machine.specs.declared.worker.Worker.{Worker}
 use Rattle.bz_swap.specs.Steps.{IsStep}
-use Rattle.bz_swap.specs.Parts.{Parts, seen}
-use Rattle.bz_swap.specs.Kept.{IsRunning}
+use Rattle.bz_swap.specs.Inside.Parts.{Parts, seen}
+use Rattle.bz_swap.specs.Inside.Kept.{IsRunning}
 use Rattle.bz_swap.proofs.SeenActs.{step-seen}
 use Rattle.bz_swap.proofs.SeenSteps.{told_effect}
 use Rattle.bz_swap.proofs.Stepped.{after_step}

@@ -1,6 +1,6 @@
 use Rattle.std.specs.Prelude.{◌≡◌, length}
 use Rattle.std.specs.Vec.{vec_len}
-use Rattle.bz_swap.specs.Parts.{Parts}
+use Rattle.bz_swap.specs.Inside.Parts.{Parts}
 use Rattle.bz_swap.proofs.Cutting.{cut-kept, cut-seen}
 use Rattle.bz_swap.proofs.access.Access.cut.Goals as goal
 

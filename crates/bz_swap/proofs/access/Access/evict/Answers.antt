@@ -1,4 +1,4 @@
-use Rattle.bz_swap.specs.Parts.{Parts}
+use Rattle.bz_swap.specs.Inside.Parts.{Parts}
 use Rattle.bz_swap.proofs.Evicted.{not-recovering, evicted-kept, evicted-seen}
 use Rattle.bz_swap.proofs.Stepping.{step-holds}
 use Rattle.bz_swap.proofs.access.Access.evict.Goals as goal

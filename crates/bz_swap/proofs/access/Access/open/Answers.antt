@@ -1,6 +1,6 @@
 use Rattle.std.specs.Prelude.{◌≡◌, ◌+◌, replicate}
 use Rattle.std.proofs.Common.{ap, ◌∙◌}
-use Rattle.bz_swap.specs.Parts.{idle_worker}
+use Rattle.bz_swap.specs.Inside.Parts.{idle_worker}
 use Rattle.bz_swap.proofs.Opening.{opened_parts, opened-kept, opened-is}
 use Rattle.bz_swap.proofs.Stepping.{step-holds}
 use Rattle.bz_swap.proofs.access.Access.open.Goals as goal

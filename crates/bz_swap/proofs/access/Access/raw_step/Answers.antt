@@ -1,4 +1,4 @@
-use Rattle.bz_swap.specs.Parts.{Parts}
+use Rattle.bz_swap.specs.Inside.Parts.{Parts}
 use Rattle.bz_swap.proofs.RawSteps.{recovers-at, raw-kept, raw-seen}
 use Rattle.bz_swap.proofs.Stepping.{worker-read, workers-within}
 use Rattle.bz_swap.proofs.access.Access.raw_step.Goals as goal

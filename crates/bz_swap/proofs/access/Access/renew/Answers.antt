@@ -1,6 +1,6 @@
 use Rattle.std.specs.Prelude.{◌≡◌, length, replicate}
 use Rattle.std.proofs.Common.{ap, ◌∙◌}
-use Rattle.bz_swap.specs.Parts.{Parts, idle_worker}
+use Rattle.bz_swap.specs.Inside.Parts.{Parts, idle_worker}
 use Rattle.bz_swap.proofs.Renewing.{renewed_parts, renewed-kept, renewed-seen}
 use Rattle.bz_swap.proofs.Stepping.{step-holds}
 use Rattle.bz_swap.proofs.access.Access.renew.Goals as goal

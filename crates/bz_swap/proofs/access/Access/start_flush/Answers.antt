@@ -1,4 +1,4 @@
-use Rattle.bz_swap.specs.Parts.{Parts}
+use Rattle.bz_swap.specs.Inside.Parts.{Parts}
 use Rattle.bz_swap.proofs.RawStarts.{flush-begun}
 use Rattle.bz_swap.proofs.access.Access.start_flush.Goals as goal
 

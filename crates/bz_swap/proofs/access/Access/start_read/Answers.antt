@@ -1,4 +1,4 @@
-use Rattle.bz_swap.specs.Parts.{Parts}
+use Rattle.bz_swap.specs.Inside.Parts.{Parts}
 use Rattle.bz_swap.proofs.WorkStarts.{read-started}
 use Rattle.bz_swap.proofs.Stepping.{worker-read, workers-within}
 use Rattle.bz_swap.proofs.access.Access.start_read.Goals as goal

@@ -1,5 +1,5 @@
 use Rattle.std.proofs.Common.{refl}
-use Rattle.bz_swap.specs.Parts.{Parts}
+use Rattle.bz_swap.specs.Inside.Parts.{Parts}
 use Rattle.bz_swap.proofs.SeenSwaps.{swap-started}
 use Rattle.bz_swap.proofs.Stepping.{step-holds}
 use Rattle.bz_swap.proofs.access.Access.start_swap.Goals as goal

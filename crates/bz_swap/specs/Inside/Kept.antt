@@ -15,7 +15,7 @@ use Rattle.bz_acts.specs.Ready.{LiesOutside}
 use Rattle.bz_swap.specs.declared.phase.Phase.{Phase}
 use Rattle.bz_swap.specs.declared.phase.Phase.TheVariants.{Opened, Running, Recovering}
 use Rattle.bz_swap.specs.SwapMemory.{is_among}
-use Rattle.bz_swap.specs.Parts.{Parts, worker_at, listed, entry_list}
+use Rattle.bz_swap.specs.Inside.Parts.{Parts, worker_at, listed, entry_list}
 
 -- the machine's state that the parts spell, with what it tells of the past
 abbrev pub state_of : Parts → (ℕ → Entries) → Beside → State
