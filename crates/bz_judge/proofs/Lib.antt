@@ -1,0 +1,4 @@
+pub mod FirstUnlawful
+pub mod LawfulWords
+pub mod ReadKinds
+pub mod Resolved

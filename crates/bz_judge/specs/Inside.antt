@@ -1,0 +1,2 @@
+-- What the program knows on its way, for its own proofs.
+pub mod Kinds

@@ -1,0 +1,7 @@
+//! Images judged: the shape of an image or the first rule that it breaks, and what a well-formed one holds.
+#![tactic(auto)]
+
+mod lawful;
+mod resolving;
+mod scan;
+mod words;
