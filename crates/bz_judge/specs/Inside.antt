@@ -1,2 +1,3 @@
 -- What the program knows on its way, for its own proofs.
 pub mod Kinds
+pub mod Nodes

@@ -2,6 +2,7 @@
 #![tactic(auto)]
 
 mod lawful;
+mod node;
 mod resolving;
 mod scan;
 mod words;
