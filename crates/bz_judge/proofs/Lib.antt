@@ -1,6 +1,9 @@
+pub mod Children
 pub mod FirstUnlawful
 pub mod LawfulWords
 pub mod NodeWords
 pub mod ReadKinds
 pub mod Resolved
 pub mod Scanned
+pub mod Steps
+pub mod Walks

@@ -5,4 +5,6 @@ mod lawful;
 mod node;
 mod resolving;
 mod scan;
+mod visit;
+mod walk;
 mod words;

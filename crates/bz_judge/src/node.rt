@@ -4,7 +4,7 @@ ghost use Rattle.bz_content.specs.Content.{view_in};
 ghost use Rattle.bz_content.specs.Image.{node as node_in};
 ghost use Rattle.bz_content.specs.Resolving.{resolve as resolve_in};
 ghost use Rattle.bz_judge.specs.Inside.Nodes.{IsScanned, IsNodeOf};
-ghost use Rattle.bz_layout.specs.declared.sizes.TheConstants.{STATUS_AT as STATUS, SHARED_WORDS as SHARED};
+ghost use Rattle.bz_layout.specs.declared.sizes.TheConstants.{NODE_WORDS as WORDS, STATUS_AT as STATUS, SHARED_WORDS as SHARED};
 ghost use Rattle.bz_slotted.specs.Page.{page, meta_of, visible};
 ghost use Rattle.bz_slotted.specs.ReadingLaws.{node_of};
 ghost use Rattle.bz_slotted.specs.Readers.{level_of};
@@ -32,7 +32,8 @@ fn node_word(image: &[u64], config: &Config, slot: u32, i: u32) -> u64
 pub(crate) fn node_of_slot(image: &[u64], config: &Config, slot: u32) -> NodeImage
     requires scanned { IsScanned config.now image.now }
     requires slot { slot < config.now.nodes }
-    ensures { IsNodeOf config.now image.now slot result.0 }
+    ensures node { IsNodeOf config.now image.now slot result.0 }
+    ensures whole { length result.0 ≡ WORDS }
 {
     let mut words = [0u64; 128];
     for i in 0..NODE_WORDS {

@@ -12,5 +12,8 @@ loop-i-preserved c = record {
   read = read-more c.loop-i.words c.loop-i.i c.node_word.result (node c.args.config.now (resolve (slice_index c.args.image.now)) c.args.slot) (omega (arith, c.loop-i.invariant.size, c.loop-i-test.true)) c.loop-i.invariant.read c.node_word.ensures;
 }
 
-pub returns : goal.returns
-returns c = all-read c.args.config.now (resolve (slice_index c.args.image.now)) c.args.slot _ c.loop-i.invariant.size (λ i l. c.loop-i.invariant.read i (omega (arith, c.loop-i-test.false)))
+pub returns-clause-whole : goal.returns-clause-whole
+returns-clause-whole c = c.loop-i.invariant.size
+
+pub returns-clause-node : goal.returns-clause-node
+returns-clause-node c = all-read c.args.config.now (resolve (slice_index c.args.image.now)) c.args.slot _ c.loop-i.invariant.size (λ i l. c.loop-i.invariant.read i (omega (arith, c.loop-i-test.false)))
