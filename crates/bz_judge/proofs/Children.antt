@@ -19,6 +19,18 @@ pub stack-push : (items : List Coming) (x : Coming) → stack_of (items ++ x ∷
 unfolding stack_of
 stack-push items x = ap (map visit_of) (reverse-append items (x ∷ []))
 
+pub stack-one : (items : List Coming) (x : Coming) → items ≡ x ∷ [] → stack_of items ≡ visit_of x ∷ []
+unfolding stack_of
+stack-one items x e = ap stack_of e
+
+pub stack-none : (items : List Coming) → length items ≡ 0 → stack_of items ≡ []
+unfolding stack_of
+stack-none [] none = refl
+stack-none (x ∷ items) none = absurd (omega arith)
+
+pub stack-pop : (items rest : List Coming) (x : Coming) → items ≡ rest ++ x ∷ [] → stack_of items ≡ visit_of x ∷ stack_of rest
+stack-pop items rest x e = ap stack_of e ∙ stack-push rest x
+
 -- child j comes before those from i on
 pub kids-more : (v : View) (u w : Visit) (l i j n m : ℕ) (stack before : List Visit) → j + 1 ≡ i → m ≡ suc n → w ≡ kid v u l j → stack ≡ kids v u l i n ++ before → w ∷ stack ≡ kids v u l j m ++ before
 unfolding kids

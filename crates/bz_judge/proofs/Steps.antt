@@ -81,8 +81,8 @@ pub inner-step : InnerKeysRise → (c : Config) (image : List ℕ) (u : Visit) (
     IsOnWay c image ws (set seen u.slot true) found (met + 1)
 inner-step rise c image u us ws seen found met g t f inner stack =
     let goes : IsOnWay c image next (set seen u.slot true) (found + 0) (met + 1) =
-        further v r u us next seen found met 0 g t f (pending-inner v (u.level - 1) u us (omega arith))
-        (kids-below v u (u.level - 1) 0 (v.count u.slot) c.nodes us (λ j from to. children-below rise c (slice_index image) u g.below.0 f inner j (omega arith)) g.below.1) (rw high refl) (omega arith) in
+    further v r u us next seen found met 0 g t f (pending-inner v (u.level - 1) u us (omega arith))
+    (kids-below v u (u.level - 1) 0 (v.count u.slot) c.nodes us (λ j from to. children-below rise c (slice_index image) u g.below.0 f inner j (omega arith)) g.below.1) (rw high refl) (omega arith) in
     let zeros : found + 0 ≡ found = omega arith in
     subst (λ s. IsOnWay c image s (set seen u.slot true) found (met + 1)) (sym stack) (subst (λ n. IsOnWay c image next (set seen u.slot true) n (met + 1)) zeros goes)
   where

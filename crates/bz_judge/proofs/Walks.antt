@@ -90,9 +90,9 @@ further v records u us ws seen pairs reached more g t f next below count fits = 
     table : (k : ℕ) → k < v.top → is_among (u.slot ∷ g.passed) k ≡ get_or (set seen u.slot true) k false
     table k less = elim (cases_eq k u.slot) [
       | inl e ↦
-        let here : (u.slot == k) ≡ true = rw e (same u.slot) in
-        rw here (sym (ap (λ j. get_or (set seen u.slot true) j false) e ∙ get_or-set_same seen u.slot true false inside))
+          let here : (u.slot == k) ≡ true = rw e (same u.slot) in
+          rw here (sym (ap (λ j. get_or (set seen u.slot true) j false) e ∙ get_or-set_same seen u.slot true false inside))
       | inr ne ↦
-        let other : (u.slot == k) ≡ false = no u.slot k (λ e. ne (sym e)) in
-        rw other (g.table k less ∙ sym (get_or-set_other seen u.slot k true false ne))
+          let other : (u.slot == k) ≡ false = no u.slot k (λ e. ne (sym e)) in
+          rw other (g.table k less ∙ sym (get_or-set_other seen u.slot k true false ne))
     ]

@@ -8,7 +8,9 @@ ghost use Rattle.bz_slotted.specs.Tests.{every};
 ghost use Rattle.bz_word.specs.Kinds.{IsKind};
 
 use crate::words::{entry_count, expected, kind_at, new_value, swap_status, target, word};
-use bz_layout::{Config, MAX_ENTRIES, ROOT_AT, ROOT_STATUS_AT, SUPERBLOCK_WORDS, SWAP_STATUS_AT, SWAP_WORDS};
+use bz_layout::{
+    Config, MAX_ENTRIES, ROOT_AT, ROOT_STATUS_AT, SUPERBLOCK_WORDS, SWAP_STATUS_AT, SWAP_WORDS,
+};
 use bz_word::WordKind;
 
 /// What plain values stay below.

@@ -1,10 +1,14 @@
 //! Images judged: the shape of an image or the first rule that it breaks, and what a well-formed one holds.
 #![tactic(auto)]
 
+mod judging;
 mod lawful;
 mod node;
 mod resolving;
+mod root;
 mod scan;
 mod visit;
 mod walk;
 mod words;
+
+pub use judging::check;

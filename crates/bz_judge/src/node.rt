@@ -43,7 +43,13 @@ pub(crate) fn node_of_slot(image: &[u64], config: &Config, slot: u32) -> NodeIma
 }
 
 /// The first rule that the node in a slot breaks which is to stand at a place.
-pub(crate) fn fault_of_node(image: &[u64], config: &Config, slot: u32, node: &NodeImage, place: &Place) -> Option<ShapeRule>
+pub(crate) fn fault_of_node(
+    image: &[u64],
+    config: &Config,
+    slot: u32,
+    node: &NodeImage,
+    place: &Place,
+) -> Option<ShapeRule>
     requires scanned { IsScanned config.now image.now }
     requires slot { slot < config.now.nodes }
     requires node { IsNodeOf config.now image.now slot node.now.0 }
@@ -51,7 +57,12 @@ pub(crate) fn fault_of_node(image: &[u64], config: &Config, slot: u32, node: &No
 {
     bz_layout::addresses_fit();
     let start = config.node_at(slot) as usize;
-    bz_slotted::node_fault(&image[start..start + NODE_WORDS as usize], &node.0, config.nodes, place)
+    bz_slotted::node_fault(
+        &image[start..start + NODE_WORDS as usize],
+        &node.0,
+        config.nodes,
+        place,
+    )
 }
 
 /// The field of the level in a header has 8 bits.

@@ -4,7 +4,9 @@ ghost use Rattle.bz_content.specs.Resolving.{status_in, count_in, target_in, exp
 ghost use Rattle.bz_judge.specs.Inside.Kinds.{kind_read};
 ghost use Rattle.bz_word.specs.Kinds.{IsKind};
 
-use bz_layout::{ENTRIES_AT, ENTRY_WORDS, SUPERBLOCK_WORDS, SWAP_COUNT_AT, SWAP_STATUS_AT, SWAP_WORDS};
+use bz_layout::{
+    ENTRIES_AT, ENTRY_WORDS, SUPERBLOCK_WORDS, SWAP_COUNT_AT, SWAP_STATUS_AT, SWAP_WORDS,
+};
 use bz_word::{WordKind, kind_of};
 
 /// The word at an address, and 0 past the last one.
@@ -28,14 +30,20 @@ const DIRTY_BIT: u64 = 1 << 63;
 pub(crate) fn swap_status(image: &[u64], swap: u16) -> u64
     ensures { result ≡ status_in (slice_index image.now) swap }
 {
-    word(image, SUPERBLOCK_WORDS + SWAP_WORDS * u32::from(swap) + SWAP_STATUS_AT) % DIRTY_BIT
+    word(
+        image,
+        SUPERBLOCK_WORDS + SWAP_WORDS * u32::from(swap) + SWAP_STATUS_AT,
+    ) % DIRTY_BIT
 }
 
 /// How many entries a descriptor has.
 pub(crate) fn entry_count(image: &[u64], swap: u16) -> u64
     ensures { result ≡ count_in (slice_index image.now) swap }
 {
-    word(image, SUPERBLOCK_WORDS + SWAP_WORDS * u32::from(swap) + SWAP_COUNT_AT)
+    word(
+        image,
+        SUPERBLOCK_WORDS + SWAP_WORDS * u32::from(swap) + SWAP_COUNT_AT,
+    )
 }
 
 // A word of an entry.
@@ -44,7 +52,13 @@ fn entry_word(image: &[u64], swap: u16, entry: u32, place: u32) -> u64
     requires place { place < 2 ^ 16 }
     ensures { result ≡ word_of_entry (slice_index image.now) swap entry place }
 {
-    word(image, SUPERBLOCK_WORDS + SWAP_WORDS * u32::from(swap) + (ENTRIES_AT + ENTRY_WORDS * entry) + place)
+    word(
+        image,
+        SUPERBLOCK_WORDS
+            + SWAP_WORDS * u32::from(swap)
+            + (ENTRIES_AT + ENTRY_WORDS * entry)
+            + place,
+    )
 }
 
 /// The address that an entry is about.

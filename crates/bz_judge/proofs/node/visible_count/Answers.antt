@@ -12,9 +12,9 @@ pub loop-j-preserved : goal.loop-j-preserved
 loop-j-preserved c =
     elim c.if-is_visible.branch [
       | then-is_visible w ↦
-        let t : visible ((page (node_of c.args.node.now.0)).meta c.loop-j.j) ≡ true = sym c.is_visible.ensures ∙ w.if-is_visible.true in
-        record { count = omega (arith, w.count-is, c.loop-j.invariant.count, rw t at (shown-more (node_of c.args.node.now.0) (page (node_of c.args.node.now.0)).meta c.loop-j.j)); few = omega (arith, w.count-is, c.loop-j.invariant.few) }
+          let t : visible ((page (node_of c.args.node.now.0)).meta c.loop-j.j) ≡ true = sym c.is_visible.ensures ∙ w.if-is_visible.true in
+          record { count = omega (arith, w.count-is, c.loop-j.invariant.count, rw t at (shown-more (node_of c.args.node.now.0) (page (node_of c.args.node.now.0)).meta c.loop-j.j)); few = omega (arith, w.count-is, c.loop-j.invariant.few) }
       | else-is_visible w ↦
-        let t : visible ((page (node_of c.args.node.now.0)).meta c.loop-j.j) ≡ false = sym c.is_visible.ensures ∙ w.if-is_visible.false in
-        record { count = omega (arith, w.count-is, c.loop-j.invariant.count, rw t at (shown-more (node_of c.args.node.now.0) (page (node_of c.args.node.now.0)).meta c.loop-j.j)); few = omega (arith, w.count-is, c.loop-j.invariant.few) }
+          let t : visible ((page (node_of c.args.node.now.0)).meta c.loop-j.j) ≡ false = sym c.is_visible.ensures ∙ w.if-is_visible.false in
+          record { count = omega (arith, w.count-is, c.loop-j.invariant.count, rw t at (shown-more (node_of c.args.node.now.0) (page (node_of c.args.node.now.0)).meta c.loop-j.j)); few = omega (arith, w.count-is, c.loop-j.invariant.few) }
     ]

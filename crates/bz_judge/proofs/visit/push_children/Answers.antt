@@ -21,10 +21,10 @@ loop-i-preserved c =
       within = omega (arith, c.loop-i.invariant.within);
       high = λ v shows some. next-high v c.args.node.now.0 c.args.visit.now.slot (c.loop-i.i - 1) c.child-child.result c.args.visit.now.place.high shows c.requires.children is some less;
       stack = λ v shows.
-      ap stack_of c.in_ok-push.ensures.items
-      ∙ (stack-push c.loop-i.stack.items c.visit_to_child-next.result
-      ∙ kids-more v (visit_of c.args.visit.now) (visit_of c.visit_to_child-next.result) (c.args.visit.now.place.level - 1) c.loop-i.i (c.loop-i.i - 1) (v.count c.args.visit.now.slot - c.loop-i.i) (v.count c.args.visit.now.slot - (c.loop-i.i - 1)) _ _
-      (omega (arith, c.loop-i-test.true)) (omega (arith, c.loop-i-test.true, c.loop-i.invariant.within, shows.count, count-read c.args.node.now.0 c.requires.children))
-      (next-kid v c.args.node.now.0 c.args.visit.now (c.loop-i.i - 1) c.child-child.result c.loop-i.high (visit_of c.visit_to_child-next.result) shows is (c.loop-i.invariant.high v shows c.loop-i-test.true) c.visit_to_child-next.ensures)
-      (c.loop-i.invariant.stack v shows));
+          ap stack_of c.in_ok-push.ensures.items
+          ∙ (stack-push c.loop-i.stack.items c.visit_to_child-next.result
+          ∙ kids-more v (visit_of c.args.visit.now) (visit_of c.visit_to_child-next.result) (c.args.visit.now.place.level - 1) c.loop-i.i (c.loop-i.i - 1) (v.count c.args.visit.now.slot - c.loop-i.i) (v.count c.args.visit.now.slot - (c.loop-i.i - 1)) _ _
+          (omega (arith, c.loop-i-test.true)) (omega (arith, c.loop-i-test.true, c.loop-i.invariant.within, shows.count, count-read c.args.node.now.0 c.requires.children))
+          (next-kid v c.args.node.now.0 c.args.visit.now (c.loop-i.i - 1) c.child-child.result c.loop-i.high (visit_of c.visit_to_child-next.result) shows is (c.loop-i.invariant.high v shows c.loop-i-test.true) c.visit_to_child-next.ensures)
+          (c.loop-i.invariant.stack v shows));
     }
