@@ -1,16 +1,14 @@
 -- A walk at its root, and at its end.
-use Rattle.std.proofs.Common.{◌≡◌, ◌≢◌, ℕ, zero, suc, ◌+◌, ◌*◌, ◌<◌, ◌≤◌, ◌==◌, ◌||◌, if◌then◌else◌, Bool, true, false, List, [], ◌∷◌, ◌++◌, length, get_or, replicate, arith, refl, sym, ap, ◌∙◌, Option, append-nil, subst}
-use Rattle.std.specs.Prelude.{Some, None, slice_index}
-use Rattle.std.proofs.lemmas.Bool.Decides.{nat_tests}
+use Rattle.std.proofs.Common.{◌≡◌, ℕ, zero, suc, Bool, false, List, [], ◌∷◌, ◌++◌, length, get_or, replicate, arith, refl, sym, ap, ◌∙◌, append-nil, subst}
+use Rattle.std.specs.Prelude.{slice_index}
 use Rattle.std.proofs.lemmas.List.{length-replicate}
 use Rattle.bz_layout.specs.declared.config.Config.{Config}
 use Rattle.bz_shape.specs.Content.{Pairs, pairs_of}
 use Rattle.bz_shape.specs.Stack.{pending}
 use Rattle.bz_shape.specs.View.{View}
-use Rattle.bz_shape.specs.Walk.{Visit, start, walk, first_fault, fault_of, is_among}
+use Rattle.bz_shape.specs.Walk.{Visit, start, walk, first_fault}
 use Rattle.bz_content.specs.Content.{image_of, view_in}
 use Rattle.bz_content.specs.Map.{records_in}
-use Rattle.bz_content.specs.declared.outcomes.Shape.{Shape}
 use Rattle.bz_content.proofs.Honesty.{no}
 use Rattle.bz_judge.specs.Inside.Stacks.{stack_of}
 use Rattle.bz_judge.specs.Inside.Walking.{Goes, IsBefore, IsOnWay, IsRoot, IsTreeOf, Starts, unseen}

@@ -1,10 +1,9 @@
 -- The children of an inner node, put on a stack from the last one to the first.
-use Rattle.std.proofs.Common.{◌≡◌, ℕ, zero, suc, ◌+◌, ◌-◌, ◌<◌, ◌≤◌, ◌==◌, if◌then◌else◌, Bool, true, false, List, [], ◌∷◌, ◌++◌, length, map, arith, refl, sym, ap, ◌∙◌, Option}
-use Rattle.std.specs.Prelude.{Some, None, reverse}
-use Rattle.std.proofs.lemmas.Bool.Decides.{nat_tests}
+use Rattle.std.proofs.Common.{◌≡◌, ℕ, suc, ◌+◌, ◌-◌, ◌<◌, ◌==◌, if◌then◌else◌, Bool, true, false, List, [], ◌∷◌, ◌++◌, length, map, arith, refl, sym, ap, ◌∙◌, Option}
+use Rattle.std.specs.Prelude.{Some, None}
 use Rattle.std.proofs.lemmas.List.{reverse-append}
 use Rattle.std.proofs.lemmas.List.FromFn.{length-map-range_with_len, get_or-map-range_with_len}
-use Rattle.bz_node.specs.Reading.{count_in, child_in, children_in}
+use Rattle.bz_node.specs.Reading.{count_in, child_in}
 use Rattle.bz_node.specs.declared.child.Child.{Child}
 use Rattle.bz_shape.specs.View.{View, low_at, high_at}
 use Rattle.bz_shape.specs.Walk.{Visit, kid, kids}

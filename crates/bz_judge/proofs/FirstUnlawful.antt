@@ -1,6 +1,6 @@
 -- The search for the first unlawful word, and for the first entry of an address, as far as they have come.
-use Rattle.std.proofs.Common.{◌≡◌, ℕ, zero, suc, ◌+◌, ◌-◌, ◌<◌, ◌≤◌, ◌==◌, Bool, true, false, arith, refl, sym, ap, ◌∙◌}
-use Rattle.std.specs.Prelude.{Option, Some, None}
+use Rattle.std.proofs.Common.{◌≡◌, ℕ, zero, suc, ◌+◌, ◌-◌, ◌<◌, ◌≤◌, ◌==◌, true, false, arith, refl, ap, ◌∙◌}
+use Rattle.std.specs.Prelude.{Some, None}
 use Rattle.bz_layout.specs.declared.config.Config.{Config}
 use Rattle.bz_content.specs.Lawful.{is_lawful, first_unlawful}
 use Rattle.bz_content.specs.Resolving.{target_in, entry_for}

@@ -1,5 +1,5 @@
 -- The first fault of an image, by what was asked before the tree.
-use Rattle.std.proofs.Common.{◌≡◌, ℕ, zero, suc, ◌+◌, ◌<◌, ◌≤◌, if◌then◌else◌, Bool, true, false, List, length, arith, refl, sym, ap, ◌∙◌, inl, inr, Option}
+use Rattle.std.proofs.Common.{◌≡◌, ℕ, zero, suc, ◌+◌, ◌<◌, ◌≤◌, if◌then◌else◌, Bool, true, false, List, length, arith, refl, ap, ◌∙◌, inl, inr}
 use Rattle.std.specs.Prelude.{Some, None, Ok, Err, Result, IfOk, IfErr, slice_index}
 use Rattle.std.proofs.lemmas.Bool.{cases_eq}
 use Rattle.bz_layout.specs.Addresses.{words_of}
@@ -7,8 +7,7 @@ use Rattle.bz_layout.specs.Config.{IsConfig}
 use Rattle.bz_layout.specs.declared.config.Config.{Config}
 use Rattle.bz_shape.specs.Walk.{fault_of}
 use Rattle.bz_shape.specs.declared.rule.ShapeRule.TheVariants.{Super, Word}
-use Rattle.bz_shape.specs.declared.rule.ShapeFault.{ShapeFault}
-use Rattle.bz_content.specs.Content.{image_fault, is_super, or_word, view_in}
+use Rattle.bz_content.specs.Content.{image_fault, is_super, view_in}
 use Rattle.bz_content.specs.Lawful.{is_lawful, first_unlawful}
 use Rattle.bz_content.specs.declared.outcomes.CheckError.{CheckError}
 use Rattle.bz_content.specs.declared.outcomes.CheckError.TheVariants.{Shape, Memory}

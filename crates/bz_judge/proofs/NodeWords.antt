@@ -1,9 +1,9 @@
 -- The words of a node as they were read, and as the view of an image sees them.
-use Rattle.std.proofs.Common.{◌≡◌, ◌≢◌, ℕ, suc, ◌+◌, ◌-◌, ◌/◌, ◌%◌, ◌^◌, ◌<◌, ◌≤◌, ◌==◌, if◌then◌else◌, Bool, true, false, List, [], ◌∷◌, ◌++◌, length, get_or, take, drop, arith, refl, sym, ap, ◌∙◌, inl, inr, Option, get_or-set_same, get_or-set_other}
+use Rattle.std.proofs.Common.{◌≡◌, ◌≢◌, ℕ, suc, ◌+◌, ◌-◌, ◌/◌, ◌%◌, ◌^◌, ◌<◌, ◌≤◌, if◌then◌else◌, Bool, true, false, List, [], ◌∷◌, ◌++◌, length, get_or, drop, arith, refl, sym, ap, ◌∙◌, inl, inr, Option, get_or-set_same, get_or-set_other}
 use Rattle.std.specs.Prelude.{nat_lt, slice_index, slice_range}
 use Rattle.std.proofs.lemmas.Bool.{cases_eq, cases_lt}
 use Rattle.std.proofs.lemmas.Bool.Decides.{nat_tests}
-use Rattle.std.proofs.Math.ListN.{set, length-set}
+use Rattle.std.proofs.Math.ListN.{set}
 use Rattle.std.proofs.lemmas.List.{get_or-take, get_or-drop, get_or_past, length-append, length-take, length-drop}
 use Rattle.bz_shape.specs.declared.rule.ShapeRule.{ShapeRule}
 use Rattle.bz_content.specs.Content.{view_in}
@@ -22,8 +22,7 @@ use Rattle.bz_slotted.proofs.Unpacking.{meta-none}
 use Rattle.bz_word.specs.Headers.{header}
 use Rattle.bz_word.specs.Metas.{IsMetaWord}
 use Rattle.bz_word.specs.declared.meta.Meta.{Meta}
-use Rattle.bz_word.specs.declared.meta.Meta.TheVariants.{Unused}
-use Rattle.bz_judge.specs.Inside.Nodes.{IsScanned, IsNodeOf}
+use Rattle.bz_judge.specs.Inside.Nodes.{IsScanned}
 
 pub node-inside : (c : Config) (raw : ℕ → ℕ) (k i : ℕ) → i < NODE_WORDS → node c raw k i ≡ raw (node_address c k + i)
 unfolding node

@@ -1,9 +1,8 @@
 -- What a word stands for, by the kind that was read of it.
-use Rattle.std.proofs.Common.{◌≡◌, ℕ, refl, sym, ap, ◌∙◌, subst}
-use Rattle.bz_content.specs.Resolving.{resolve, stands_for, pointed, expected_in}
-use Rattle.bz_word.specs.Kinds.{kind}
+use Rattle.std.proofs.Common.{◌≡◌, ℕ, sym, ap, ◌∙◌, subst}
+use Rattle.bz_content.specs.Resolving.{resolve, stands_for}
 use Rattle.bz_word.specs.declared.kind.WordKind.{WordKind}
-use Rattle.bz_word.specs.declared.kind.WordKind.TheVariants.{Value, Dirty, Swap, Tag}
+use Rattle.bz_word.specs.declared.kind.WordKind.TheVariants.{Swap}
 use Rattle.bz_judge.specs.Inside.Kinds.{CanBeResolved, HasFewEntries, IsReadableKind}
 use Rattle.bz_judge.proofs.ReadKinds.{IsKindRead}
 

@@ -1,23 +1,21 @@
 -- The superblock's two words of the root, and the visit to the root after them.
-use Rattle.std.proofs.Common.{◌≡◌, ◌≢◌, ℕ, zero, suc, ◌+◌, ◌-◌, ◌^◌, ◌<◌, ◌≤◌, ◌==◌, ◌&&◌, if◌then◌else◌, Bool, true, false, List, [], ◌∷◌, ◌++◌, length, arith, refl, sym, ap, ◌∙◌, Option, append-nil}
+use Rattle.std.proofs.Common.{◌≡◌, ℕ, suc, ◌+◌, ◌-◌, ◌^◌, ◌<◌, ◌≤◌, true, false, List, [], ◌∷◌, ◌++◌, arith, refl, sym, ap, ◌∙◌, append-nil}
 use Rattle.std.specs.Prelude.{Some, None, nat_lt, nat_le, slice_index}
 use Rattle.std.proofs.lemmas.Bool.Decides.{nat_tests}
 use Rattle.bz_layout.specs.declared.config.Config.{Config}
 use Rattle.bz_layout.specs.declared.sizes.TheConstants.{ROOT_AT, ROOT_STATUS_AT}
 use Rattle.bz_shape.specs.Stack.{pending}
-use Rattle.bz_shape.specs.View.{View, low_at, high_at}
-use Rattle.bz_shape.specs.Walk.{Visit, kid, kids, start, visits, walk, first_fault, fault_of, place_of, or_rule}
-use Rattle.bz_shape.specs.declared.rule.ShapeRule.{ShapeRule}
+use Rattle.bz_shape.specs.View.{View}
+use Rattle.bz_shape.specs.Walk.{Visit, kid, kids, start, visits, walk, first_fault, fault_of}
 use Rattle.bz_shape.specs.declared.rule.ShapeRule.TheVariants.{Root}
-use Rattle.bz_shape.specs.declared.rule.ShapeFault.{ShapeFault}
 use Rattle.bz_shape.proofs.Stacks.{pending-inner}
-use Rattle.bz_content.specs.Content.{image_of, view_in}
+use Rattle.bz_content.specs.Content.{view_in}
 use Rattle.bz_content.specs.Image.{node, root}
 use Rattle.bz_content.specs.Resolving.{resolve}
 use Rattle.bz_content.specs.View.{root_fault}
 use Rattle.bz_content.proofs.Reached.{is as same}
 use Rattle.bz_slotted.specs.Readers.{level_of}
-use Rattle.bz_judge.specs.Inside.Walking.{Starts, IsRoot}
+use Rattle.bz_judge.specs.Inside.Walking.{IsRoot}
 
 -- the walk begins with the superblock and the root
 walk-begins : (v : View) (u : Visit) (h : ℕ) → v.count v.top ≡ 1 → h + 1 ≡ v.height → u ≡ kid v (start v) h 0 → walk v ≡ start v ∷ pending v (u ∷ [])

@@ -1,12 +1,11 @@
 -- Words of nodes in an image whose words are all lawful can be resolved.
-use Rattle.std.proofs.Common.{◌≡◌, ℕ, ◌+◌, ◌*◌, ◌<◌, ◌≤◌, ◌&&◌, not, if◌then◌else◌, Bool, true, false, List, length, arith, refl, sym, ap, ◌∙◌}
-use Rattle.std.specs.Prelude.{nat_lt, nat_le, slice_index}
+use Rattle.std.proofs.Common.{◌≡◌, ℕ, ◌+◌, ◌<◌, ◌&&◌, Bool, true, false, List, arith, refl}
+use Rattle.std.specs.Prelude.{slice_index}
 use Rattle.std.proofs.lemmas.Bool.Decides.{nat_tests}
-use Rattle.bz_content.specs.Lawful.{is_word, is_value, is_begun, is_named, is_in_descriptor, is_fixed, is_lawful}
-use Rattle.bz_content.specs.Resolving.{count_in}
+use Rattle.bz_content.specs.Lawful.{is_word, is_begun, is_named, is_in_descriptor, is_fixed, is_lawful}
 use Rattle.bz_layout.specs.Addresses.{words_of, node_address, AddressesFit, HoldsAll}
 use Rattle.bz_layout.specs.declared.config.Config.{Config}
-use Rattle.bz_layout.specs.declared.sizes.TheConstants.{NODE_WORDS, SUPERBLOCK_WORDS, ROOT_AT, ROOT_STATUS_AT}
+use Rattle.bz_layout.specs.declared.sizes.TheConstants.{NODE_WORDS, ROOT_AT, ROOT_STATUS_AT}
 use Rattle.bz_word.specs.Kinds.{kind}
 use Rattle.bz_word.specs.declared.kind.WordKind.{WordKind}
 use Rattle.bz_word.specs.declared.kind.WordKind.TheVariants.{Value, Dirty, Swap, Tag}

@@ -1,14 +1,12 @@
 -- One step of a walk over an image.
-use Rattle.std.proofs.Common.{◌≡◌, ◌≢◌, ℕ, zero, suc, ◌+◌, ◌-◌, ◌<◌, ◌≤◌, ◌==◌, if◌then◌else◌, Bool, true, false, List, [], ◌∷◌, ◌++◌, length, get_or, arith, refl, sym, ap, ◌∙◌, subst, Option}
+use Rattle.std.proofs.Common.{◌≡◌, ℕ, zero, suc, ◌+◌, ◌-◌, ◌<◌, ◌≤◌, ◌==◌, Bool, true, false, List, [], ◌∷◌, ◌++◌, length, get_or, arith, refl, sym, ap, ◌∙◌, subst, Option}
 use Rattle.std.specs.Prelude.{Some, None, slice_index}
 use Rattle.std.proofs.Math.ListN.{set}
 use Rattle.bz_layout.specs.declared.config.Config.{Config}
-use Rattle.bz_layout.specs.declared.limits.TheConstants.{MAX_NODES}
 use Rattle.bz_layout.specs.declared.sizes.TheConstants.{SHARED_WORDS, NODE_WORDS}
 use Rattle.bz_shape.specs.Content.{Pairs}
-use Rattle.bz_shape.specs.Stack.{pending}
 use Rattle.bz_shape.specs.View.{View}
-use Rattle.bz_shape.specs.Walk.{Visit, kid, kids}
+use Rattle.bz_shape.specs.Walk.{Visit, kids}
 use Rattle.bz_shape.specs.declared.rule.ShapeRule.{ShapeRule}
 use Rattle.bz_shape.proofs.Stacks.{pending-inner, pending-leaf}
 use Rattle.bz_content.specs.Content.{image_of, view_in}
@@ -24,7 +22,7 @@ use Rattle.bz_slotted.specs.Records.{records}
 use Rattle.bz_slotted.specs.Rules.{node_fault}
 use Rattle.bz_judge.specs.Inside.Nodes.{IsNodeOf, IsScanned}
 use Rattle.bz_judge.specs.Inside.Stacks.{AreBelow, Shows}
-use Rattle.bz_judge.specs.Inside.Walking.{Goes, IsOnWay}
+use Rattle.bz_judge.specs.Inside.Walking.{IsOnWay}
 use Rattle.bz_judge.proofs.NodeWords.{fault-of-node}
 use Rattle.bz_judge.proofs.Walks.{further}
 

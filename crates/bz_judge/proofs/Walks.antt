@@ -1,18 +1,16 @@
 -- One step of a walk: a slot that was seen, one that breaks a rule, a leaf, and an inner node.
-use Rattle.std.proofs.Common.{◌≡◌, ◌≢◌, ℕ, zero, suc, ◌+◌, ◌*◌, ◌<◌, ◌≤◌, ◌==◌, ◌||◌, if◌then◌else◌, Bool, true, false, List, [], ◌∷◌, ◌++◌, length, get_or, arith, refl, sym, ap, ◌∙◌, inl, inr, Option, append_assoc, append-nil}
+use Rattle.std.proofs.Common.{◌≡◌, ◌≢◌, ℕ, zero, suc, ◌+◌, ◌<◌, ◌≤◌, ◌==◌, if◌then◌else◌, Bool, true, false, List, [], ◌∷◌, ◌++◌, length, get_or, arith, refl, sym, ap, ◌∙◌, inl, inr, append_assoc, append-nil}
 use Rattle.std.specs.Prelude.{Some, None}
 use Rattle.std.proofs.lemmas.Bool.{cases_eq}
-use Rattle.std.proofs.lemmas.Bool.Decides.{nat_tests}
 use Rattle.std.proofs.Math.ListN.{set, length-set}
 use Rattle.std.proofs.lemmas.List.{get_or-set_same, get_or-set_other, length-append}
 use Rattle.bz_layout.specs.declared.sizes.TheConstants.{SHARED_WORDS}
 use Rattle.bz_shape.specs.Content.{Pairs, pairs_of}
 use Rattle.bz_shape.specs.Stack.{pending}
 use Rattle.bz_shape.specs.View.{View}
-use Rattle.bz_shape.specs.Walk.{Visit, kids, walk, first_fault, fault_of, is_among, place_of, or_rule}
+use Rattle.bz_shape.specs.Walk.{Visit, kids, first_fault, fault_of, is_among, place_of}
 use Rattle.bz_shape.specs.declared.rule.ShapeRule.{ShapeRule}
 use Rattle.bz_shape.specs.declared.rule.ShapeRule.TheVariants.{Twice}
-use Rattle.bz_shape.specs.declared.rule.ShapeFault.{ShapeFault}
 use Rattle.bz_shape.proofs.Stacks.{pending-inner, pending-leaf}
 use Rattle.bz_content.proofs.Honesty.{no}
 use Rattle.bz_content.proofs.Reached.{is as same}

@@ -7,6 +7,8 @@ mod node;
 mod resolving;
 mod root;
 mod scan;
+#[cfg(test)]
+mod tests;
 mod visit;
 mod walk;
 mod words;

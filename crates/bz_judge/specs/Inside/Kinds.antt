@@ -1,5 +1,5 @@
 -- The kinds of words as the program reads them, and which words it can resolve.
-use Rattle.std.specs.Prelude.{◌≡◌, ℕ, ◌%◌, ◌^◌, ◌<◌, ◌≤◌, ◌==◌, ◌&&◌, not, nat_le, if◌then◌else◌, Bool, true, Option, Some, None}
+use Rattle.std.specs.Prelude.{◌≡◌, ℕ, ◌%◌, ◌^◌, ◌≤◌, ◌==◌, ◌&&◌, not, nat_le, if◌then◌else◌, Bool, true, Option, Some, None}
 use Rattle.bz_content.specs.Lawful.{is_word, is_value, LAST_STATUS}
 use Rattle.bz_content.specs.Resolving.{count_in, target_in, expected_in, value_in}
 use Rattle.bz_layout.specs.Addresses.{swap_word_of}

@@ -1,6 +1,5 @@
 -- An image whose words are lawful, and the words of a node of it as they were read.
 use Rattle.std.specs.Prelude.{◌≡◌, ℕ, ◌<◌, true, List, length, slice_index}
-use Rattle.bz_content.specs.Content.{is_super}
 use Rattle.bz_content.specs.Image.{node}
 use Rattle.bz_content.specs.Lawful.{is_lawful}
 use Rattle.bz_content.specs.Resolving.{resolve}

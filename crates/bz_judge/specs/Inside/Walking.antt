@@ -1,5 +1,5 @@
 -- A walk on its way: what is behind and what is to come are together the whole walk, and no rule was broken yet.
-use Rattle.std.specs.Prelude.{◌≡◌, ℕ, ◌+◌, ◌*◌, ◌<◌, ◌≤◌, if◌then◌else◌, Bool, true, false, List, [], ◌∷◌, ◌++◌, length, replicate, slice_index, slice_index_or, Option, Some, None}
+use Rattle.std.specs.Prelude.{◌≡◌, ℕ, ◌+◌, ◌*◌, ◌<◌, ◌≤◌, if◌then◌else◌, Bool, false, List, [], ◌∷◌, ◌++◌, length, replicate, slice_index, slice_index_or, Some, None}
 use Rattle.bz_content.specs.Content.{image_of, view_in}
 use Rattle.bz_content.specs.Map.{records_in}
 use Rattle.bz_content.specs.declared.outcomes.CheckError.{CheckError}

@@ -1,4 +1,4 @@
-use Rattle.std.proofs.Common.{◌≡◌, sym, ap, ◌∙◌}
+use Rattle.std.proofs.Common.{sym, ◌∙◌}
 use Rattle.std.specs.Prelude.{slice_index}
 use Rattle.bz_judge.proofs.Judged.{scanned, of-super, of-word, shape-answer, told-answer}
 use Rattle.bz_judge.proofs.judging.check.Goals as goal

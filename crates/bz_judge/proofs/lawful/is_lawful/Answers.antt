@@ -1,4 +1,4 @@
-use Rattle.std.proofs.Common.{◌≡◌, ap, sym, ◌∙◌}
+use Rattle.std.proofs.Common.{ap, sym, ◌∙◌}
 use Rattle.std.specs.Prelude.{slice_index}
 use Rattle.bz_content.specs.Lawful.{is_named, is_value}
 use Rattle.bz_judge.proofs.LawfulWords.{of-no-kind, in-descriptor, fixed, elsewhere}

@@ -1,4 +1,4 @@
-use Rattle.std.proofs.Common.{◌≡◌, ℕ, true, false, sym, ap, ◌∙◌}
+use Rattle.std.proofs.Common.{sym, ap, ◌∙◌}
 use Rattle.std.specs.Prelude.{◌==◌, not, slice_index}
 use Rattle.bz_slotted.proofs.Loops.{every-none, every-more, every-fails}
 use Rattle.bz_slotted.proofs.Readings.{other-test, same-test}

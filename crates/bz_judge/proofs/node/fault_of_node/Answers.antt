@@ -1,4 +1,3 @@
-use Rattle.std.proofs.Common.{◌≡◌}
 use Rattle.std.specs.Prelude.{slice_index}
 use Rattle.bz_judge.proofs.NodeWords.{fault-read, raw-part}
 use Rattle.bz_judge.proofs.node.fault_of_node.Goals as goal

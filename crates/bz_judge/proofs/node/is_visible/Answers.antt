@@ -1,4 +1,4 @@
-use Rattle.std.proofs.Common.{◌≡◌, ap, ◌∙◌}
+use Rattle.std.proofs.Common.{ap, ◌∙◌}
 use Rattle.bz_slotted.specs.Page.{visible}
 use Rattle.bz_slotted.proofs.Unpacking.{meta-some}
 use Rattle.bz_judge.proofs.NodeWords.{unread-hidden}

@@ -1,4 +1,3 @@
-use Rattle.std.proofs.Common.{◌≡◌}
 use Rattle.std.specs.Prelude.{slice_index}
 use Rattle.bz_content.specs.Resolving.{resolve}
 use Rattle.bz_judge.proofs.NodeWords.{level-read}

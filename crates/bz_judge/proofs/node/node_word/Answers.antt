@@ -1,7 +1,6 @@
-use Rattle.std.proofs.Common.{◌≡◌, ◌+◌, sym, ap, ◌∙◌, subst}
+use Rattle.std.proofs.Common.{◌+◌, sym, ap, ◌∙◌, subst}
 use Rattle.std.specs.Prelude.{slice_index}
 use Rattle.bz_content.specs.Resolving.{resolve}
-use Rattle.bz_layout.specs.Addresses.{node_address}
 use Rattle.bz_judge.specs.Inside.Kinds.{CanBeResolved}
 use Rattle.bz_judge.proofs.NodeWords.{node-inside}
 use Rattle.bz_judge.proofs.Scanned.{node-readable}

@@ -1,5 +1,5 @@
-use Rattle.std.proofs.Common.{◌≡◌, sym, ap, ◌∙◌, ◌+◌, ℕ, List, length, Bool, true, false, arith, if◌then◌else◌}
-use Rattle.bz_slotted.specs.Page.{page, visible, meta_of}
+use Rattle.std.proofs.Common.{◌≡◌, sym, ◌∙◌, true, false, arith}
+use Rattle.bz_slotted.specs.Page.{page, visible}
 use Rattle.bz_slotted.specs.ReadingLaws.{node_of}
 use Rattle.bz_judge.proofs.NodeWords.{shown-none, shown-more}
 use Rattle.bz_judge.proofs.node.visible_count.Goals as goal

@@ -1,4 +1,4 @@
-use Rattle.std.proofs.Common.{◌≡◌, sym, ap, ◌∙◌}
+use Rattle.std.proofs.Common.{sym, ap, ◌∙◌}
 use Rattle.std.specs.Prelude.{slice_index, Some}
 use Rattle.bz_content.specs.Resolving.{stands_for, expected_in}
 use Rattle.bz_judge.proofs.ReadKinds.{none-read, some-read}

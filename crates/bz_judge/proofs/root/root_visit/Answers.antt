@@ -1,8 +1,7 @@
-use Rattle.std.proofs.Common.{◌≡◌, ◌+◌, ◌-◌, ◌<◌, ◌≤◌, ◌^◌, refl, sym, ap, ◌∙◌, arith}
+use Rattle.std.proofs.Common.{◌-◌, refl, sym, ap, ◌∙◌, arith}
 use Rattle.std.specs.Prelude.{slice_index}
 use Rattle.bz_content.specs.Resolving.{resolve}
 use Rattle.bz_layout.specs.declared.sizes.TheConstants.{ROOT_AT, ROOT_STATUS_AT}
-use Rattle.bz_judge.specs.Inside.Stacks.{visit_of}
 use Rattle.bz_judge.proofs.Roots.{root-fails, pointer-none, pointer-far, status-set, root-starts}
 use Rattle.bz_judge.proofs.Scanned.{root-readable, status-readable}
 use Rattle.bz_judge.proofs.root.root_visit.Goals as goal

@@ -1,4 +1,4 @@
-use Rattle.std.proofs.Common.{◌≡◌, sym, ap, ◌∙◌, ◌<◌, ◌≤◌, arith}
+use Rattle.std.proofs.Common.{sym, ◌∙◌, arith}
 use Rattle.std.specs.Prelude.{slice_index}
 use Rattle.bz_layout.specs.Addresses.{words_of}
 use Rattle.bz_judge.proofs.FirstUnlawful.{unlawful-next, unlawful-here, unlawful-end}

@@ -1,4 +1,4 @@
-use Rattle.std.proofs.Common.{ℕ, Bool, ◌+◌, ◌-◌, ◌≡◌, sym, ap, ◌∙◌}
+use Rattle.std.proofs.Common.{◌+◌, ◌-◌, sym, ap, ◌∙◌}
 use Rattle.std.specs.Prelude.{◌==◌, slice_index}
 use Rattle.bz_layout.specs.declared.sizes.TheConstants.{SUPERBLOCK_USED, SUPERBLOCK_WORDS}
 use Rattle.bz_slotted.proofs.Loops.{every-none, every-more, every-fails}

@@ -1,6 +1,5 @@
-use Rattle.std.proofs.Common.{◌≡◌, ℕ, ◌+◌, ◌-◌, ◌<◌, ◌≤◌, sym, ap, ◌∙◌, arith}
+use Rattle.std.proofs.Common.{◌≡◌, ◌-◌, ◌<◌, ap, ◌∙◌, arith}
 use Rattle.bz_node.specs.Reading.{count_in}
-use Rattle.bz_slotted.specs.Readers.{count_of}
 use Rattle.bz_slotted.specs.ReadingLaws.{node_of, child_read}
 use Rattle.bz_judge.specs.Inside.Stacks.{visit_of, stack_of}
 use Rattle.bz_judge.proofs.Children.{stack-push, kids-more, kids-none, count-read, child-is, next-kid, next-high, last-high}

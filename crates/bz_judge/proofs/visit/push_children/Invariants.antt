@@ -1,4 +1,4 @@
-use Rattle.std.proofs.Common.{◌≡◌, ◌+◌, ◌-◌, ◌≤◌, ◌<◌, ◌++◌, ℕ}
+use Rattle.std.proofs.Common.{◌≡◌, ◌-◌, ◌≤◌, ◌<◌, ◌++◌}
 use Rattle.bz_node.specs.Reading.{count_in}
 use Rattle.bz_shape.specs.View.{View, high_at}
 use Rattle.bz_shape.specs.Walk.{kids}

@@ -1,4 +1,4 @@
-use Rattle.std.proofs.Common.{◌≡◌, ◌∷◌, ◌++◌, [], ap, ◌∙◌}
+use Rattle.std.proofs.Common.{◌∷◌, ◌++◌, [], ap, ◌∙◌}
 use Rattle.bz_judge.proofs.Children.{stack-one}
 use Rattle.bz_judge.proofs.visit.stack_with.Goals as goal
 

@@ -1,4 +1,4 @@
-use Rattle.std.proofs.Common.{◌≡◌, ◌+◌, sym, ap, subst, ◌∙◌, arith}
+use Rattle.std.proofs.Common.{◌+◌, subst, arith}
 use Rattle.bz_judge.specs.Inside.Stacks.{visit_of, stack_of}
 use Rattle.bz_judge.specs.Inside.Walking.{IsOnWay}
 use Rattle.bz_judge.proofs.Begun.{before, ended}

@@ -1,4 +1,4 @@
-use Rattle.std.proofs.Common.{◌≡◌, ◌-◌}
+use Rattle.std.proofs.Common.{◌-◌}
 use Rattle.bz_judge.specs.Inside.Stacks.{stack_of}
 use Rattle.bz_judge.specs.Inside.Walking.{IsOnWay}
 use Rattle.bz_judge.proofs.walk.walk_tree.Given as goal

@@ -1,5 +1,5 @@
-use Rattle.std.proofs.Common.{◌≡◌, ℕ, ◌+◌, ◌-◌, ◌<◌, ◌≤◌, false, true, get_or, sym, ap, ◌∙◌, arith}
-use Rattle.std.specs.Prelude.{slice_index, None}
+use Rattle.std.proofs.Common.{false, sym, ◌∙◌, arith}
+use Rattle.std.specs.Prelude.{slice_index}
 use Rattle.bz_content.specs.Content.{image_of, view_in}
 use Rattle.bz_content.specs.Map.{records_in}
 use Rattle.bz_judge.specs.Inside.Stacks.{visit_of, stack_of}
