@@ -1,0 +1,12 @@
+pub mod Begun
+pub mod Children
+pub mod FirstUnlawful
+pub mod Judged
+pub mod LawfulWords
+pub mod NodeWords
+pub mod ReadKinds
+pub mod Resolved
+pub mod Roots
+pub mod Scanned
+pub mod Steps
+pub mod Walks
