@@ -1,14 +1,17 @@
 -- How the endings of the parts are those of the program.
-use Rattle.std.proofs.Common.{◌≡◌, inl, inr, ℕ, List, ◌++◌, refl, true, false, arith}
-use Rattle.std.specs.Prelude.{Option, Some, None, codes}
+use Rattle.std.proofs.Common.{◌≡◌, ◌⊎◌, inl, inr, ℕ, ◌+◌, List, ◌++◌, Ok, refl, arith}
+use Rattle.std.specs.Prelude.{Option, None, codes}
 use Rattle.bz_io.specs.Faults.{Rose}
-use Rattle.bz_io.specs.Transfers.{IsReadWhole, GaveCount, GrewByFront}
+use Rattle.bz_io.specs.Transfers.{GaveCount, GrewByFront}
+use Rattle.bz_script.specs.Script.{Job, script_of}
+use Rattle.bz_script.specs.declared.read.TheConstants.{SCRIPT_BYTES}
+use Rattle.bz_words.specs.CommandLine.{IsCommandLine}
+use Rattle.bz_words.specs.declared.command.CommandLine.{CommandLine}
 use Rattle.bz_world.specs.Lab.{Lab}
 use Rattle.bz_text.specs.Report.{report_of}
-use Rattle.bz_top.specs.Commands.{is_command}
 use Rattle.bz_top.specs.Faults.{fault_line, broken_text, limit_text}
-use Rattle.bz_top.specs.Endings.{Outside, IsDone, IsLimited, IsReadFault, IsUsage, IsBroken, IsTooLong, IsWant, IsSoundLab, IsToBeWritten, IsEnded}
-use Rattle.bz_top.specs.Parts.{sunk, Says, SaysOrWants, RanScript, Refuses, Runs, RanBytes}
+use Rattle.bz_top.specs.Endings.{Outside, IsCommand, IsInput, Reads, IsDone, IsLimited, IsReadFault, IsUsage, IsBroken, IsTooLong, IsWant, IsToBeWritten, IsEnded}
+use Rattle.bz_top.specs.Parts.{sunk, Says, Wants, RanWorld, RanScript, Refuses, RanBytes}
 
 -- what the sink said, as the outside has it
 abbrev pub Said : Outside → ℕ → List ℕ → ℕ → Type 0
@@ -118,65 +121,56 @@ is_want o status lab text cause (inl (is, wrote)) = record {
 }
 is_want o status lab text cause (inr (is, rose, grew)) = part o status lab text (inr (inr (inr (inr (inr (inr cause)))))) is rose grew
 
-pub ended_usage : (o : Outside) (status : ℕ) (lab : Option Lab) → is_command o.words ≡ false → o.left_after ≡ o.left → lab ≡ None → Said o 2 (fault_line (codes "usage")) status → IsEnded o status lab
+pub ended_usage : (o : Outside) (status : ℕ) (lab : Option Lab) → ¬ IsCommand o.words → o.left_after ≡ o.left → lab ≡ None → Said o 2 (fault_line (codes "usage")) status → IsEnded o status lab
 ended_usage o status lab words left none said = is_usage o status lab _ (record { no_command = words; left = left; no_lab = none; writes = refl }) said
 
-pub ended_read : (o : Outside) (status : ℕ) (lab : Option Lab) → is_command o.words ≡ true → Rose o.read_faults o.read_faults_after → lab ≡ None → Said o 1 (fault_line (codes "read")) status → IsEnded o status lab
+pub ended_read : (o : Outside) (status : ℕ) (lab : Option Lab) → IsCommand o.words → Rose o.read_faults o.read_faults_after → lab ≡ None → Said o 1 (fault_line (codes "read")) status → IsEnded o status lab
 ended_read o status lab words rose none said = is_read o status lab _ (record { command = words; rose = rose; no_lab = none; writes = refl }) said
 
-pub ended_too_long : (o : Outside) (status : ℕ) (lab : Option Lab) → is_command o.words ≡ true → GaveCount o.left o.left_after 1048577 → lab ≡ None → Said o 3 (fault_line (codes "script too long")) status → IsEnded o status lab
+pub ended_too_long : (o : Outside) (status : ℕ) (lab : Option Lab) → IsCommand o.words → GaveCount o.left o.left_after (SCRIPT_BYTES + 1) → lab ≡ None → Said o 3 (fault_line (codes "script too long")) status → IsEnded o status lab
 ended_too_long o status lab words more none said = is_too_long o status lab _ (record { command = words; more = more; no_lab = none; writes = refl }) said
 
-pub ended_want : (o : Outside) (status : ℕ) (lab : Option Lab) → is_command o.words ≡ true → IsSoundLab lab → Said o 7 (fault_line (codes "memory")) status → IsEnded o status lab
-ended_want o status lab words sound said = is_want o status lab _ (record { command = words; sound = sound; writes = refl }) said
+-- memory was wanting before there was a world
+pub ended_early : (o : Outside) (status : ℕ) (lab : Option Lab) → IsCommand o.words ⊎ (o.left_after ≡ o.left) → lab ≡ None → Said o 7 (fault_line (codes "memory")) status → IsEnded o status lab
+ended_early o status lab asked none said = is_want o status lab _ (record { cause = inl (record { no_lab = none; asked = asked }); writes = refl }) said
 
-pub no_lab_sound : (lab : Option Lab) → lab ≡ None → IsSoundLab lab
-no_lab_sound None none = tt
-no_lab_sound (Some world) none = absurd cc
+-- the bytes that the source gave for a command
+module _ (o : Outside) (status : ℕ) (lab : Option Lab) (line : CommandLine) (command : IsCommandLine o.words line) (bytes : List ℕ) (input : IsInput o bytes) where
+  wants : Wants (sunk o.held o.held_after o.write_faults o.write_faults_after) status lab → IsEnded o status lab
+  wants w = ended_early o status lab (inl (line, command)) w.no_lab w.said
 
-ended_script : (o : Outside) (status : ℕ) (lab : Option Lab) (bytes : List ℕ) → is_command o.words ≡ true → IsReadWhole o.left o.left_after bytes
-    → Runs bytes (sunk o.held o.held_after o.write_faults o.write_faults_after) status lab → IsEnded o status lab
-ended_script o status lab bytes words whole runs = by runs.ran
-  where
-    by : RanScript runs.script (sunk o.held o.held_after o.write_faults o.write_faults_after) status lab → IsEnded o status lab
-    by (inl done) =
+  module _ (script : Job) (is_script : script_of None bytes ≡ Ok script) where
+    reads : Reads o line script
+    reads = record { command = command; bytes = bytes; input = input; is_script = is_script }
+
+    ended-world : RanWorld line.marks script (sunk o.held o.held_after o.write_faults o.write_faults_after) status lab → IsEnded o status lab
+    ended-world (inl done) =
         is_done o status lab (report_of done.world.log)
-        (record {
-          script = runs.script;
-          reads = record { command = words; bytes = bytes; whole = whole; is_script = runs.is_script };
-          world = done.world;
-          is_lab = done.is_lab;
-          finished = done.finished;
-          writes = refl;
-        })
+        (record { line = line; script = script; reads = reads; world = done.world; is_lab = done.is_lab; finished = done.finished; writes = refl })
         done.said
-    by (inr (inl stopped)) =
+    ended-world (inr (inl stopped)) =
         is_limited o status lab (report_of stopped.world.log ++ fault_line (limit_text stopped.which))
-        (record {
-          script = runs.script;
-          reads = record { command = words; bytes = bytes; whole = whole; is_script = runs.is_script };
-          world = stopped.world;
-          is_lab = stopped.is_lab;
-          which = stopped.which;
-          cut_short = stopped.cut_short;
-          writes = refl;
-        })
+        (record { line = line; script = script; reads = reads; world = stopped.world; is_lab = stopped.is_lab; which = stopped.which; cut_short = stopped.cut_short; writes = refl })
         stopped.said
-    by (inr (inr wants)) = ended_want o status lab words wants.sound wants.said
+    ended-world (inr (inr gives_up)) =
+        is_want o status lab (fault_line (codes "memory"))
+        (record { cause = inr (record { line = line; script = script; reads = reads; world = gives_up.world; is_lab = gives_up.is_lab; led = gives_up.led }); writes = refl })
+        gives_up.said
 
-ended_refused : (o : Outside) (status : ℕ) (lab : Option Lab) (bytes : List ℕ) → is_command o.words ≡ true → IsReadWhole o.left o.left_after bytes
-    → Refuses bytes (sunk o.held o.held_after o.write_faults o.write_faults_after) status lab → IsEnded o status lab
-ended_refused o status lab bytes words whole refuses = by refuses.said
-  where
-    by : SaysOrWants (sunk o.held o.held_after o.write_faults o.write_faults_after) 3 (fault_line (broken_text refuses.line refuses.rule)) status → IsEnded o status lab
-    by (inl said) =
+    ended-script : RanScript line.marks script (sunk o.held o.held_after o.write_faults o.write_faults_after) status lab → IsEnded o status lab
+    ended-script (inl ran) = ended-world ran
+    ended-script (inr w) = wants w
+
+  ended-refused : Refuses bytes (sunk o.held o.held_after o.write_faults o.write_faults_after) status lab → IsEnded o status lab
+  ended-refused refuses = elim refuses.said [
+    | inl said ↦
         is_broken o status lab (fault_line (broken_text refuses.line refuses.rule))
-        (record { command = words; bytes = bytes; whole = whole; line = refuses.line; rule = refuses.rule; is_fault = refuses.is_fault; no_lab = refuses.no_lab; writes = refl })
+        (record { command = (line, command); bytes = bytes; input = input; line = refuses.line; rule = refuses.rule; is_fault = refuses.is_fault; no_lab = refuses.no_lab; writes = refl })
         said
-    by (inr said) = ended_want o status lab words (no_lab_sound lab refuses.no_lab) said
+    | inr said ↦ wants (record { no_lab = refuses.no_lab; said = said })
+  ]
 
-pub ended_bytes : (o : Outside) (status : ℕ) (lab : Option Lab) (bytes : List ℕ) → is_command o.words ≡ true → IsReadWhole o.left o.left_after bytes
-    → RanBytes bytes (sunk o.held o.held_after o.write_faults o.write_faults_after) status lab → IsEnded o status lab
-ended_bytes o status lab bytes words whole (inl runs) = ended_script o status lab bytes words whole runs
-ended_bytes o status lab bytes words whole (inr (inl refuses)) = ended_refused o status lab bytes words whole refuses
-ended_bytes o status lab bytes words whole (inr (inr wants)) = ended_want o status lab words wants.sound wants.said
+  pub ended-bytes : RanBytes line.marks bytes (sunk o.held o.held_after o.write_faults o.write_faults_after) status lab → IsEnded o status lab
+  ended-bytes (inl runs) = ended-script runs.script runs.is_script runs.ran
+  ended-bytes (inr (inl refuses)) = ended-refused refuses
+  ended-bytes (inr (inr w)) = wants w

@@ -1,10 +1,8 @@
 -- A world that has followed some items of a script, and one item more.
-use Rattle.std.proofs.Common.{◌≡◌, ◌≤◌, ◌<◌, inl, inr, ℕ, zero, suc, ◌+◌, true, false, List, [], ◌∷◌, ◌++◌, length, get_or, drop, refl, sym, ap, subst, ◌∙◌, arith}
-use Rattle.std.specs.Prelude.{is_some}
+use Rattle.std.proofs.Common.{◌≡◌, ◌≤◌, ◌<◌, inl, inr, ℕ, zero, suc, ◌+◌, false, List, [], ◌∷◌, ◌++◌, length, get_or, drop, refl, sym, ap, subst, ◌∙◌, arith}
 use Rattle.std.proofs.lemmas.Grind.{common_steps}
 use Rattle.std.proofs.lemmas.List.{drop_more}
 use Rattle.bz_call.specs.declared.calls.Call.{Call}
-use Rattle.bz_call.specs.declared.calls.Call.TheVariants.{Insert, Delete, Update, Upsert, Get, Page}
 use Rattle.bz_layout.specs.Addresses.{words_of}
 use Rattle.bz_layout.specs.Config.{IsConfig}
 use Rattle.bz_layout.specs.declared.config.Config.{Config}
@@ -16,10 +14,9 @@ use Rattle.bz_script.specs.declared.item.Plan.{Plan}
 use Rattle.bz_sched.specs.Plans.{LeadsTo, LeadsToInPart, RunsBy, RunsByInPart}
 use Rattle.bz_sched.specs.Queued.{Queued, has_open}
 use Rattle.bz_sched.specs.ReadyLaws.{ready_at_first, ready_when_queued}
-use Rattle.bz_sched.specs.Runs.{point_of, CanBegin, IsReady, IsAtLimit, Keeps, HasRun}
+use Rattle.bz_sched.specs.Runs.{point_of, IsReady, HasRun}
 use Rattle.bz_sched.specs.declared.running.RunEnd.TheVariants.{Finished, Limit}
-use Rattle.bz_sound.specs.Calls.{open_call}
-use Rattle.bz_world.specs.Lab.{Lab, IsWorker}
+use Rattle.bz_world.specs.Lab.{Lab}
 use Rattle.bz_world.specs.declared.answers.Which.{Which}
 use Rattle.bz_top.specs.Endings.{at_first}
 use Rattle.bz_top.specs.Items.{GoesOn, IsLed, IsLedInPart}

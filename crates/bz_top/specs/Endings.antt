@@ -1,5 +1,5 @@
 -- How a run of the program ends: the cause of each status, and what is then written.
-use Rattle.std.specs.Prelude.{◌≡◌, ◌≢◌, ◌≤◌, ◌⊎◌, ℕ, List, [], ◌++◌, Option, Some, None, IfSome, Ok, Err, true, false, codes}
+use Rattle.std.specs.Prelude.{◌≡◌, ◌≢◌, ◌≤◌, ◌+◌, ◌⊎◌, ℕ, List, [], ◌++◌, length, Option, Some, None, Ok, Err, codes}
 use Rattle.std.specs.Io.KnownBytes.{Appends}
 use Rattle.bz_io.specs.Faults.{Rose}
 use Rattle.bz_io.specs.Transfers.{IsReadWhole, GaveCount, GrewByFront}
@@ -8,13 +8,16 @@ use Rattle.bz_layout.specs.Fresh.{fresh_words}
 use Rattle.bz_sound.specs.Memory.Sound.{IsSound}
 use Rattle.bz_script.specs.Script.{Job, script_of}
 use Rattle.bz_script.specs.declared.fault.ScriptRule.{ScriptRule}
+use Rattle.bz_script.specs.declared.read.TheConstants.{SCRIPT_BYTES}
 use Rattle.bz_world.specs.Lab.{Lab}
 use Rattle.bz_world.specs.declared.answers.Which.{Which}
 use Rattle.bz_sched.specs.Runs.{IsAtLimit}
 use Rattle.bz_sched.specs.Points.{Point}
 use Rattle.bz_sched.specs.Plans.{LeadsTo, LeadsToInPart}
 use Rattle.bz_text.specs.Report.{report_of}
-use Rattle.bz_top.specs.Commands.{is_command, config_of}
+use Rattle.bz_words.specs.CommandLine.{IsCommandLine}
+use Rattle.bz_words.specs.declared.command.CommandLine.{CommandLine}
+use Rattle.bz_top.specs.Commands.{config_of}
 use Rattle.bz_top.specs.Faults.{fault_line, broken_text, limit_text}
 
 -- the outside of a run: the words of the command line; what the source has left, and its count of faults,
@@ -30,20 +33,26 @@ pub record Outside : Type 0 where
   pub write_faults : ℕ
   pub write_faults_after : ℕ
 
--- the source was read to its end, and its bytes are this script
-pub record Reads (o : Outside) (script : Job) : Type 0 where
-  pub command : is_command o.words ≡ true
-  pub bytes : List ℕ
+-- the words are a command
+abbrev pub IsCommand : List (List ℕ) → Type 0
+IsCommand words = (line : CommandLine) × IsCommandLine words line
+
+-- the source was read to its end, and gave so many bytes as a script may have
+pub record IsInput (o : Outside) (bytes : List ℕ) : Type 0 where
   pub whole : IsReadWhole o.left o.left_after bytes
+  pub fits : length bytes ≤ SCRIPT_BYTES
+
+-- the words are this command, and the source's bytes are this script
+pub record Reads (o : Outside) (line : CommandLine) (script : Job) : Type 0 where
+  pub command : IsCommandLine o.words line
+  pub bytes : List ℕ
+  pub input : IsInput o bytes
   pub is_script : script_of None bytes ≡ Ok script
 
--- the lab, where there is one, has a sound journal
-abbrev pub IsSoundLab : Option Lab → Type 0
-IsSoundLab lab = IfSome lab (λ world. IsSound world.config world.log)
-
--- the lab is a world of this script: its journal begins with fresh memory, has the fixed limits, and is sound
-pub record IsLab (script : Job) (world : Lab) : Type 0 where
-  pub config : world.config ≡ config_of script.nodes script.swaps
+-- the lab is a world of this script: its journal begins with fresh memory, has this limit on marks and the fixed other ones,
+-- and is sound
+pub record IsLab (marks : ℕ) (script : Job) (world : Lab) : Type 0 where
+  pub config : world.config ≡ config_of marks script.nodes script.swaps
   pub start : world.log.start ≡ fresh_words world.config
   pub limits : world.log.limits ≡ record { marks = world.config.marks; calls = world.config.calls; pages = world.config.pages }
   pub sound : IsSound world.config world.log
@@ -53,55 +62,61 @@ abbrev pub at_first : Point
 at_first = record { past = []; queue = [] }
 
 -- a run that is done: a world of the script, with a sound journal to which the whole script leads
-pub record IsFinished (script : Job) (world : Lab) : Type 0 where
-  pub right : IsLab script world
+pub record IsFinished (marks : ℕ) (script : Job) (world : Lab) : Type 0 where
+  pub right : IsLab marks script world
   pub follows : LeadsTo (words_of world.config) at_first script.items world.log.past
 
 -- a run that met a limit when one more was needed: a world of the script, with a sound journal to which the
 -- script leads up to there
-pub record IsCutShort (script : Job) (world : Lab) (which : Which) : Type 0 where
-  pub right : IsLab script world
+pub record IsCutShort (marks : ℕ) (script : Job) (world : Lab) (which : Which) : Type 0 where
+  pub right : IsLab marks script world
   pub follows : LeadsToInPart which (words_of world.config) at_first script.items world.log.past
   pub met : IsAtLimit world which
 
+-- a world of the script, as the script has led to it: to its end, or up to a limit
+abbrev pub IsLedTo : ℕ → Job → Lab → Type 0
+IsLedTo marks script world = IsFinished marks script world ⊎ ((which : Which) × IsCutShort marks script world which)
+
 -- done: the report of the journal is written
 pub record IsDone (o : Outside) (lab : Option Lab) (text : List ℕ) : Type 0 where
+  pub line : CommandLine
   pub script : Job
-  pub reads : Reads o script
+  pub reads : Reads o line script
   pub world : Lab
   pub is_lab : lab ≡ Some world
-  pub finished : IsFinished script world
+  pub finished : IsFinished line.marks script world
   pub writes : text ≡ report_of world.log
 
 -- a limit was met: the report of the journal is written, and then the fault line
 pub record IsLimited (o : Outside) (lab : Option Lab) (text : List ℕ) : Type 0 where
+  pub line : CommandLine
   pub script : Job
-  pub reads : Reads o script
+  pub reads : Reads o line script
   pub world : Lab
   pub is_lab : lab ≡ Some world
   pub which : Which
-  pub cut_short : IsCutShort script world which
+  pub cut_short : IsCutShort line.marks script world which
   pub writes : text ≡ report_of world.log ++ fault_line (limit_text which)
 
 -- reading failed
 pub record IsReadFault (o : Outside) (lab : Option Lab) (text : List ℕ) : Type 0 where
-  pub command : is_command o.words ≡ true
+  pub command : IsCommand o.words
   pub rose : Rose o.read_faults o.read_faults_after
   pub no_lab : lab ≡ None
   pub writes : text ≡ fault_line (codes "read")
 
 -- the words are no command; the source was not asked
 pub record IsUsage (o : Outside) (lab : Option Lab) (text : List ℕ) : Type 0 where
-  pub no_command : is_command o.words ≡ false
+  pub no_command : ¬ IsCommand o.words
   pub left : o.left_after ≡ o.left
   pub no_lab : lab ≡ None
   pub writes : text ≡ fault_line (codes "usage")
 
 -- the bytes break a rule: the first line that breaks one, and the first rule that it breaks
 pub record IsBroken (o : Outside) (lab : Option Lab) (text : List ℕ) : Type 0 where
-  pub command : is_command o.words ≡ true
+  pub command : IsCommand o.words
   pub bytes : List ℕ
-  pub whole : IsReadWhole o.left o.left_after bytes
+  pub input : IsInput o bytes
   pub line : ℕ
   pub rule : ScriptRule
   pub is_fault : script_of None bytes ≡ Err (record { line = line; rule = rule })
@@ -110,15 +125,28 @@ pub record IsBroken (o : Outside) (lab : Option Lab) (text : List ℕ) : Type 0 
 
 -- the source gave more bytes than a script may have
 pub record IsTooLong (o : Outside) (lab : Option Lab) (text : List ℕ) : Type 0 where
-  pub command : is_command o.words ≡ true
-  pub more : GaveCount o.left o.left_after 1048577
+  pub command : IsCommand o.words
+  pub more : GaveCount o.left o.left_after (SCRIPT_BYTES + 1)
   pub no_lab : lab ≡ None
   pub writes : text ≡ fault_line (codes "script too long")
 
+-- memory was wanting before there was a world: for the words, and then the source was not asked, or for what the command reads
+pub record WantsEarly (o : Outside) (lab : Option Lab) : Type 0 where
+  pub no_lab : lab ≡ None
+  pub asked : IsCommand o.words ⊎ (o.left_after ≡ o.left)
+
+-- memory was wanting for the report of a world, which is told
+pub record WantsLater (o : Outside) (lab : Option Lab) : Type 0 where
+  pub line : CommandLine
+  pub script : Job
+  pub reads : Reads o line script
+  pub world : Lab
+  pub is_lab : lab ≡ Some world
+  pub led : IsLedTo line.marks script world
+
 -- want of memory comes anywhere where memory is taken
 pub record IsWant (o : Outside) (lab : Option Lab) (text : List ℕ) : Type 0 where
-  pub command : is_command o.words ≡ true
-  pub sound : IsSoundLab lab
+  pub cause : WantsEarly o lab ⊎ WantsLater o lab
   pub writes : text ≡ fault_line (codes "memory")
 
 -- a text of this kind was written whole

@@ -6,7 +6,7 @@ use Rattle.bz_world.specs.Lab.{Lab}
 use Rattle.bz_world.specs.declared.answers.Which.{Which}
 use Rattle.bz_text.specs.Report.{report_of}
 use Rattle.bz_top.specs.Faults.{fault_line, broken_text, limit_text}
-use Rattle.bz_top.specs.Endings.{IsFinished, IsCutShort, IsSoundLab}
+use Rattle.bz_top.specs.Endings.{IsFinished, IsCutShort, IsLedTo}
 use Rattle.std.specs.Io.KnownBytes.{Appends}
 use Rattle.bz_io.specs.Faults.{Rose}
 use Rattle.bz_io.specs.Transfers.{GrewByFront}
@@ -31,28 +31,41 @@ Says k status text answer =
 abbrev pub SaysOrWants : Sunk → ℕ → List ℕ → ℕ → Type 0
 SaysOrWants k status text answer = Says k status text answer ⊎ Says k 7 (fault_line (codes "memory")) answer
 
--- memory was wanting
-pub record Wants (k : Sunk) (status : ℕ) (lab : Option Lab) : Type 0 where
-  pub sound : IsSoundLab lab
-  pub said : Says k 7 (fault_line (codes "memory")) status
-
 -- a script was run to its end
-pub record Finishes (script : Job) (k : Sunk) (status : ℕ) (lab : Option Lab) : Type 0 where
+pub record Finishes (marks : ℕ) (script : Job) (k : Sunk) (status : ℕ) (lab : Option Lab) : Type 0 where
   pub world : Lab
   pub is_lab : lab ≡ Some world
-  pub finished : IsFinished script world
+  pub finished : IsFinished marks script world
   pub said : Says k 0 (report_of world.log) status
 
 -- a script was run until a limit was met
-pub record StopsShort (script : Job) (k : Sunk) (status : ℕ) (lab : Option Lab) : Type 0 where
+pub record StopsShort (marks : ℕ) (script : Job) (k : Sunk) (status : ℕ) (lab : Option Lab) : Type 0 where
   pub world : Lab
   pub which : Which
   pub is_lab : lab ≡ Some world
-  pub cut_short : IsCutShort script world which
+  pub cut_short : IsCutShort marks script world which
   pub said : Says k 5 (report_of world.log ++ fault_line (limit_text which)) status
 
-abbrev pub RanScript : Job → Sunk → ℕ → Option Lab → Type 0
-RanScript script k status lab = Finishes script k status lab ⊎ (StopsShort script k status lab ⊎ Wants k status lab)
+-- memory was wanting for the report
+pub record GivesUp (marks : ℕ) (script : Job) (k : Sunk) (status : ℕ) (lab : Option Lab) : Type 0 where
+  pub world : Lab
+  pub is_lab : lab ≡ Some world
+  pub led : IsLedTo marks script world
+  pub said : Says k 7 (fault_line (codes "memory")) status
+
+-- memory was wanting before there was a world
+pub record Wants (k : Sunk) (status : ℕ) (lab : Option Lab) : Type 0 where
+  pub no_lab : lab ≡ None
+  pub said : Says k 7 (fault_line (codes "memory")) status
+
+-- what becomes of a script in a world that was opened for it
+abbrev pub RanWorld : ℕ → Job → Sunk → ℕ → Option Lab → Type 0
+RanWorld marks script k status lab =
+    Finishes marks script k status lab ⊎ (StopsShort marks script k status lab ⊎ GivesUp marks script k status lab)
+
+-- what becomes of a script
+abbrev pub RanScript : ℕ → Job → Sunk → ℕ → Option Lab → Type 0
+RanScript marks script k status lab = RanWorld marks script k status lab ⊎ Wants k status lab
 
 -- bytes were no script
 pub record Refuses (bytes : List ℕ) (k : Sunk) (status : ℕ) (lab : Option Lab) : Type 0 where
@@ -63,10 +76,10 @@ pub record Refuses (bytes : List ℕ) (k : Sunk) (status : ℕ) (lab : Option La
   pub said : SaysOrWants k 3 (fault_line (broken_text line rule)) status
 
 -- bytes were read as a script and run
-pub record Runs (bytes : List ℕ) (k : Sunk) (status : ℕ) (lab : Option Lab) : Type 0 where
+pub record Runs (marks : ℕ) (bytes : List ℕ) (k : Sunk) (status : ℕ) (lab : Option Lab) : Type 0 where
   pub script : Job
   pub is_script : script_of None bytes ≡ Ok script
-  pub ran : RanScript script k status lab
+  pub ran : RanScript marks script k status lab
 
-abbrev pub RanBytes : List ℕ → Sunk → ℕ → Option Lab → Type 0
-RanBytes bytes k status lab = Runs bytes k status lab ⊎ (Refuses bytes k status lab ⊎ Wants k status lab)
+abbrev pub RanBytes : ℕ → List ℕ → Sunk → ℕ → Option Lab → Type 0
+RanBytes marks bytes k status lab = Runs marks bytes k status lab ⊎ (Refuses bytes k status lab ⊎ Wants k status lab)

@@ -1,6 +1,7 @@
 //! Running the items of a script.
 ghost use Rattle.std.specs.Prelude.{◌≡◌, [], ℕ, false, length};
 ghost use Rattle.bz_layout.specs.Config.{IsConfig};
+ghost use Rattle.bz_layout.specs.declared.limits.TheConstants.{MAX_WORKERS};
 ghost use Rattle.bz_sched.specs.Queued.{has_open};
 ghost use Rattle.bz_script.specs.ItemLaws.{AreItems};
 ghost use Rattle.bz_top.specs.Items.{ItemsRan};
@@ -13,7 +14,7 @@ use bz_world::World;
 pub fn run_items(world: &mut World, queue: &mut Queue, items: &[Item]) -> RunEnd
     requires new { world.old.log.past ≡ [] }
     requires config { IsConfig world.old.config }
-    requires workers { world.old.config.workers ≡ 64 }
+    requires workers { world.old.config.workers ≡ MAX_WORKERS }
     requires none_wait { queue.old.calls ≡ [] }
     requires none_open { (w : ℕ) → has_open queue.old w ≡ false }
     requires room { queue.old.room ≡ length items.now }

@@ -1,7 +1,6 @@
 //! The program: all that it does between its source and its sink.
 #![tactic(auto)]
 
-mod commands;
 mod faults;
 mod gates;
 mod items;

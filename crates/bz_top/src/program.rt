@@ -1,24 +1,27 @@
 //! The top call.
-ghost use Rattle.std.specs.Prelude.{◌≡◌, ◌≤◌, length, map, Some, None};
-ghost use Rattle.std.specs.Prelude.{◌++◌, codes};
+ghost use Rattle.std.specs.Prelude.{◌≡◌, ◌≤◌, ◌++◌, [], ℕ, length, map, Some, None, false, codes};
+ghost use Rattle.bz_layout.specs.declared.limits.TheConstants.{MIN_MARKS, MAX_MARKS};
+ghost use Rattle.bz_world.specs.Lab.{new_lab};
+ghost use Rattle.bz_sched.specs.Queued.{has_open};
+ghost use Rattle.bz_top.specs.Commands.{config_of};
 ghost use Rattle.bz_sound.specs.Memory.Sound.{IsSound};
 ghost use Rattle.bz_script.specs.Script.{job_of};
 ghost use Rattle.bz_script.specs.ItemLaws.{IsJob};
 ghost use Rattle.bz_text.specs.Report.{report_of};
 ghost use Rattle.bz_top.specs.Faults.{fault_line, limit_text, broken_text};
 ghost use Rattle.bz_top.specs.Endings.{IsEnded};
-ghost use Rattle.bz_top.specs.Parts.{sunk, Says, SaysOrWants, RanScript, RanBytes};
+ghost use Rattle.bz_top.specs.Parts.{sunk, Says, SaysOrWants, RanWorld, RanScript, RanBytes};
 
-use crate::commands::is_command;
 use crate::faults::{broken_line, limit_line};
 use crate::gates::Gate;
 use crate::items::run_items;
 use bz_io::{Failed, ReadFault, Sink, Source, read_all, write_all};
-use bz_layout::Config;
+use bz_layout::{Config, MAX_CALLS, MAX_PAGES, MAX_WORKERS};
 use bz_memory::Memory;
 use bz_sched::{Queue, RunEnd};
 use bz_script::{SCRIPT_BYTES, Script, ScriptFault, ScriptRule, read_script};
 use bz_text::{TextError, write_report};
+use bz_words::{Command, WordsError, read_words};
 use bz_world::{OpenError, Which, World};
 use std::alloc::Global;
 use std::sync::Wait;
@@ -31,7 +34,7 @@ pub struct Outcome {
     /// 5 a limit was met, 7 want of memory.
     pub status: u8,
 
-    /// The world as the run left it; none where the answer came before a world was opened.
+    /// The world as the run left it; none where the answer came before there was one.
     pub lab: Option<World>,
 }
 
@@ -47,45 +50,76 @@ fn written<K: Sink>(sink: &mut K, text: &[u8], status: u8) -> u8
     }
 }
 
-/// Runs a script that was read.
-fn run_script<K: Sink>(alloc: Global, script: &Script, sink: &mut K) -> Outcome
-    requires { IsJob (job_of script.now) }
-    ensures { RanScript (job_of script.now)
+/// Runs a script in a world that was opened for it.
+fn run_world<K: Sink>(
+    alloc: Global,
+    marks: u32,
+    script: &Script,
+    mut world: World,
+    mut queue: Queue,
+    sink: &mut K,
+) -> Outcome
+    requires script { IsJob (job_of script.now) }
+    requires fresh { world ≡ new_lab (config_of marks script.now.nodes script.now.swaps) }
+    requires none_wait { queue.calls ≡ [] }
+    requires none_open { (w : ℕ) → has_open queue w ≡ false }
+    requires room { queue.room ≡ length (job_of script.now).items }
+    ensures { RanWorld marks (job_of script.now)
         (sunk (K.held sink.old) (K.held sink.new) (K.faults sink.old) (K.faults sink.new))
         result.status result.lab }
 {
-    let items = script.items.items();
-    let config = Config {
-        nodes: script.nodes,
-        swaps: script.swaps,
-        workers: 64,
-        marks: 4_194_304,
-        calls: 65_536,
-        pages: 4096,
-    };
-    let mut world = match World::open(alloc, &config) {
-        Ok(world) => world,
-        Err(OpenError::Memory) => return no_memory(sink, None),
-        Err(OpenError::Config(_)) => unreachable!(),
-    };
-    let mut queue = match Queue::open(alloc, items.len()) {
-        Ok(queue) => queue,
-        Err(Memory) => return no_memory(sink, Some(world)),
-    };
-    match run_items(&mut world, &mut queue, items) {
+    match run_items(&mut world, &mut queue, script.items.items()) {
         RunEnd::Finished => report(alloc, world, sink),
         RunEnd::Limit(which) => report_limit(alloc, world, which, sink),
     }
 }
 
-/// Answers want of memory.
-fn no_memory<K: Sink>(sink: &mut K, lab: Option<World>) -> Outcome
-    ensures lab { result.lab ≡ lab }
+/// Runs a script that was read, with this limit on marks.
+fn run_script<K: Sink>(alloc: Global, marks: u32, script: &Script, sink: &mut K) -> Outcome
+    requires script { IsJob (job_of script.now) }
+    requires marks { (MIN_MARKS ≤ marks) × (marks ≤ MAX_MARKS) }
+    ensures { RanScript marks (job_of script.now)
+        (sunk (K.held sink.old) (K.held sink.new) (K.faults sink.old) (K.faults sink.new))
+        result.status result.lab }
+{
+    let config = Config {
+        nodes: script.nodes,
+        swaps: script.swaps,
+        workers: MAX_WORKERS,
+        marks,
+        calls: MAX_CALLS,
+        pages: MAX_PAGES,
+    };
+    let queue = match Queue::open(alloc, script.items.items().len()) {
+        Ok(queue) => queue,
+        Err(Memory) => return no_memory(sink),
+    };
+    match World::open(alloc, &config) {
+        Ok(world) => run_world(alloc, marks, script, world, queue, sink),
+        Err(OpenError::Memory) => no_memory(sink),
+        Err(OpenError::Config(_)) => unreachable!(),
+    }
+}
+
+/// Answers want of memory before there is a world.
+fn no_memory<K: Sink>(sink: &mut K) -> Outcome
+    ensures lab { result.lab ≡ None }
+    ensures wrote { Says
+        (sunk (K.held sink.old) (K.held sink.new) (K.faults sink.old) (K.faults sink.new))
+        7 (fault_line (codes "memory")) result.status }
+{
+    refuse(sink, b"fault: memory\n", 7)
+}
+
+/// Answers want of memory for a report.
+fn give_up<K: Sink>(world: World, sink: &mut K) -> Outcome
+    ensures lab { result.lab ≡ Some world }
     ensures wrote { Says
         (sunk (K.held sink.old) (K.held sink.new) (K.faults sink.old) (K.faults sink.new))
         7 (fault_line (codes "memory")) result.status }
 {
     let status = written(sink, b"fault: memory\n", 7);
+    let lab = Some(world);
     Outcome { status, lab }
 }
 
@@ -106,7 +140,7 @@ fn report<K: Sink>(alloc: Global, world: World, sink: &mut K) -> Outcome
             status: 4,
             lab: Some(world),
         },
-        Err(TextError::Memory) => no_memory(sink, Some(world)),
+        Err(TextError::Memory) => give_up(world, sink),
     }
 }
 
@@ -130,7 +164,7 @@ fn report_limit<K: Sink>(alloc: Global, world: World, which: Which, sink: &mut K
             status: 4,
             lab: Some(world),
         },
-        Err(TextError::Memory) => no_memory(sink, Some(world)),
+        Err(TextError::Memory) => give_up(world, sink),
     }
 }
 
@@ -146,21 +180,22 @@ fn report_broken<K: Sink>(alloc: Global, line: u32, rule: ScriptRule, sink: &mut
             let status = written(sink, text.as_bytes(), 3);
             Outcome { status, lab: None }
         }
-        Err(Memory) => no_memory(sink, None),
+        Err(Memory) => no_memory(sink),
     }
 }
 
-/// Reads the bytes as a script and runs it.
-fn run_bytes<K: Sink>(alloc: Global, bytes: &[u8], sink: &mut K) -> Outcome
-    requires { length bytes.now ≤ SCRIPT_BYTES }
-    ensures { RanBytes bytes.now
+/// Reads the bytes as a script and runs it, with this limit on marks.
+fn run_bytes<K: Sink>(alloc: Global, marks: u32, bytes: &[u8], sink: &mut K) -> Outcome
+    requires fits { length bytes.now ≤ SCRIPT_BYTES }
+    requires marks { (MIN_MARKS ≤ marks) × (marks ≤ MAX_MARKS) }
+    ensures { RanBytes marks bytes.now
         (sunk (K.held sink.old) (K.held sink.new) (K.faults sink.old) (K.faults sink.new))
         result.status result.lab }
 {
     match read_script(alloc, bytes, None) {
-        Ok(script) => run_script(alloc, &script, sink),
+        Ok(script) => run_script(alloc, marks, &script, sink),
         Err(ScriptFault::Rule { line, rule }) => report_broken(alloc, line, rule, sink),
-        Err(ScriptFault::Memory) => no_memory(sink, None),
+        Err(ScriptFault::Memory) => no_memory(sink),
     }
 }
 
@@ -198,13 +233,17 @@ pub fn top<R: Threads + Wait + Sync, S: Source, K: Sink, G: Gate + Sync>(
         })
         result.status result.lab }
 {
-    if !is_command(words) {
-        return refuse(sink, b"fault: usage\n", 2);
-    }
+    let line = match read_words(alloc, words) {
+        Ok(line) => line,
+        Err(WordsError::Usage) => return refuse(sink, b"fault: usage\n", 2),
+        Err(WordsError::Memory) => return no_memory(sink),
+    };
     match read_all(alloc, source, SCRIPT_BYTES) {
-        Ok(bytes) => run_bytes(alloc, &bytes, sink),
+        Ok(bytes) => match line.command {
+            Command::Run => run_bytes(alloc, line.marks, &bytes, sink),
+        },
         Err(ReadFault::Failed) => refuse(sink, b"fault: read\n", 1),
         Err(ReadFault::TooLong) => refuse(sink, b"fault: script too long\n", 3),
-        Err(ReadFault::Memory) => no_memory(sink, None),
+        Err(ReadFault::Memory) => no_memory(sink),
     }
 }

@@ -176,7 +176,24 @@ fn a_faulty_input_is_refused_by_name(rt: HostRuntime) -> Result<(), Fail> {
 fn words_that_are_no_command_meet_the_usage_line(rt: HostRuntime) -> Result<(), Fail> {
     let input = b"memory 16 64\n".as_slice();
     expect_run(&rt, rt.alloc(), &[], input, "fault: usage\n", 2)?;
-    expect_run(&rt, rt.alloc(), &["run", "now"], input, "fault: usage\n", 2)
+    expect_run(&rt, rt.alloc(), &["run", "now"], input, "fault: usage\n", 2)?;
+    expect_run(
+        &rt,
+        rt.alloc(),
+        &["run", "--marks", "1023"],
+        input,
+        "fault: usage\n",
+        2,
+    )?;
+    expect_run(
+        &rt,
+        rt.alloc(),
+        &["--marks=1024", "run"],
+        input,
+        "fault: usage\n",
+        2,
+    )?;
+    expect_run(&rt, rt.alloc(), &["--help"], input, "fault: usage\n", 2)
 }
 
 // Plans one after the other, over calls that the one before leaves open or queued.
@@ -401,6 +418,48 @@ fn more_marks_than_fit_meet_the_limit(rt: HostRuntime) -> Result<(), Fail> {
     let lines = &held[..held.len().saturating_sub(19)];
     assert!(rt; lines.len() < output.len() && output.as_bytes().starts_with(lines));
     assert!(rt; lines.len() > 39 * 27);
+    Ok(())
+}
+
+// With this limit on marks the gets of a full leaf meet it: the report is the first lines of the whole one.
+fn expect_start_of_report<R: Threads + Wait + Abort + Sync>(
+    rt: &R,
+    alloc: Global,
+    words: &[&str],
+    input: &str,
+    whole: &str,
+) -> Result<(), Fail> {
+    let mut source = MemSource::of(alloc, input.as_bytes())?;
+    let mut sink = MemSink::open(alloc, 65536)?;
+    let got = status(rt, alloc, words, &mut source, &mut sink);
+    assert_eq!(rt; got, 5);
+    let held = sink.bytes();
+    let end = b"\nfault: limit marks\n".as_slice();
+    assert!(rt; held.ends_with(end));
+    let lines = &held[..held.len().saturating_sub(19)];
+    assert!(rt; lines.len() < whole.len() && whole.as_bytes().starts_with(lines));
+    Ok(())
+}
+
+#[test]
+fn the_words_say_the_limit_on_marks(rt: HostRuntime) -> Result<(), Fail> {
+    let alloc = rt.alloc();
+    let (input, output) = many_gets(alloc, 100)?;
+    for words in [
+        ["run", "--marks", "33554432"].as_slice(),
+        ["run", "--marks=33554432"].as_slice(),
+        ["run", "--marks=100000"].as_slice(),
+        ["run"].as_slice(),
+    ] {
+        expect_run(&rt, alloc, words, input.as_bytes(), &output, 0)?;
+    }
+    for words in [
+        ["run", "--marks", "1024"].as_slice(),
+        ["run", "--marks=1024"].as_slice(),
+        ["run", "--marks", "4096"].as_slice(),
+    ] {
+        expect_start_of_report(&rt, alloc, words, &input, &output)?;
+    }
     Ok(())
 }
 

@@ -1,4 +1,4 @@
-use Rattle.std.proofs.Common.{◌∙◌, arith}
+use Rattle.std.proofs.Common.{arith}
 use Rattle.bz_script.specs.declared.item.Item.TheVariants.{Queue, Run}
 use Rattle.bz_script.specs.ItemLaws.{IsItem}
 use Rattle.bz_top.proofs.FollowLemmas.{item_at, staged_queue, staged_run, staged_met, at_item}

@@ -1,0 +1,4 @@
+pub mod ReadLemmas
+pub mod LineLemmas
+pub mod UsageLemmas
+pub mod FoundLemmas

@@ -1,0 +1,64 @@
+-- Which words of the command line ask for what.
+use Rattle.std.specs.Prelude.{◌≡◌, ◌⊎◌, ⊤, ℕ, List, [], ◌∷◌, ◌++◌, Some, codes}
+use Rattle.bz_layout.specs.declared.limits.TheConstants.{MIN_MARKS, MAX_MARKS}
+use Rattle.bz_script.specs.Number.{number_of, within}
+use Rattle.bz_words.specs.declared.command.Command.{Command}
+use Rattle.bz_words.specs.declared.command.Command.TheVariants.{Run}
+use Rattle.bz_words.specs.declared.command.CommandLine.{CommandLine}
+use Rattle.bz_words.specs.declared.command.TheConstants.{RUN_MARKS}
+
+abbrev pub Text : Type 0
+Text = List ℕ
+
+-- a number, and the range in which it has to lie
+pub record Value : Type 0 where
+  pub number : ℕ
+  pub low : ℕ
+  pub high : ℕ
+
+-- The commands, one row each in these three definitions: the name; the values that stand behind it, in their order; and
+-- the limit on marks where the words do not say one.
+abbrev pub name_of : Command → Text
+name_of Run = codes "run"
+
+abbrev pub values_of : Command → List Value
+values_of Run = []
+
+abbrev pub usual_marks : Command → ℕ
+usual_marks Run = RUN_MARKS
+
+-- the word is this number as scripts write numbers, and the number lies in its range
+abbrev pub Writes : Text → Value → Type 0
+Writes word v = within v.low v.high (number_of word) ≡ Some v.number
+
+-- the words are these numbers, one each and in their order
+abbrev pub WriteAll : List Text → List Value → Type 0
+WriteAll [] [] = ⊤
+WriteAll [] (v ∷ values) = ⊥
+WriteAll (word ∷ words) [] = ⊥
+WriteAll (word ∷ words) (v ∷ values) = Writes word v × WriteAll words values
+
+-- `--marks N` or `--marks=N`
+abbrev pub IsMarksOption : List Text → Text → Type 0
+IsMarksOption option word = (option ≡ codes "--marks" ∷ word ∷ []) ⊎ (option ≡ (codes "--marks=" ++ word) ∷ [])
+
+-- the words say this limit on marks
+pub record SaysMarks (option : List Text) (marks : ℕ) : Type 0 where
+  pub word : Text
+  pub writes : Writes word (record { number = marks; low = MIN_MARKS; high = MAX_MARKS })
+  pub is_option : IsMarksOption option word
+
+-- the words say no limit, so that it is the usual one
+pub record LeavesMarks (option : List Text) (command : Command) (marks : ℕ) : Type 0 where
+  pub none : option ≡ []
+  pub usual : marks ≡ usual_marks command
+
+-- The words are a command: its name comes first, and its values follow in their order, with the limit on marks said before,
+-- between or after them, at most once.
+pub record IsCommandLine (words : List Text) (line : CommandLine) : Type 0 where
+  pub before : List Text
+  pub option : List Text
+  pub after : List Text
+  pub are : words ≡ name_of line.command ∷ (before ++ (option ++ after))
+  pub values : WriteAll (before ++ after) (values_of line.command)
+  pub limit : SaysMarks option line.marks ⊎ LeavesMarks option line.command line.marks

@@ -1,0 +1,3 @@
+-- How the words are read. The crate's own functions alone cite it.
+pub mod Parser
+pub mod Arrangement

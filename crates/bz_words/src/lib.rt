@@ -1,0 +1,14 @@
+//! The command line: what its words ask for.
+#![tactic(auto)]
+
+mod command;
+mod error;
+pub mod laws;
+mod parser;
+mod read;
+#[cfg(test)]
+mod tests;
+
+pub use command::{Command, CommandLine, RUN_MARKS};
+pub use error::WordsError;
+pub use read::read_words;
