@@ -1,0 +1,4 @@
+// Threads that write into one log.
+mod counts;
+mod log;
+mod threads;
