@@ -1,3 +1,4 @@
+mod Books
 pub mod Entries
 mod Views
 mod Lines

@@ -1,3 +1,4 @@
 pub mod Entries
 pub mod Passes
 pub mod Inside
+pub mod Tests

@@ -1,4 +1,5 @@
 // Threads that write into one log.
+mod book;
 mod counts;
 mod log;
 mod threads;

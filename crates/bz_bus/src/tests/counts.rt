@@ -4,7 +4,7 @@ ghost use Rattle.bz_bus.specs.Passes.{IsPassOf, IsFree, number_of, passes_of};
 
 use super::log::{Log, Note};
 use super::threads::add_all;
-use crate::{Bus, PASSES, Pass};
+use crate::{Bus, Chronicle, PASSES, Pass};
 use bz_memory::Memory;
 use std::alloc::Global;
 use std::process::Abort;
@@ -14,21 +14,30 @@ use std::thread::Threads;
 
 const MANY: u32 = 500;
 
-fn open(alloc: Global, log: Log, passes: u32) -> Result<(Bus<Log>, Pass<Log>), Memory>
+pub fn open<T: Chronicle + Drop>(
+    alloc: Global,
+    value: T,
+    passes: u32,
+) -> Result<(Bus<T>, Pass<T>), Memory>
     requires { (1 ≤ passes) × (passes ≤ PASSES) }
     ensures { IfOk result (λ r. IsPassOf r.0 r.1 × (number_of r.1 ≡ 0) × (passes_of r.0 ≡ passes)) }
 {
-    match Bus::open(alloc, log, passes) {
+    match Bus::open(alloc, value, passes) {
         Ok(opened) => Ok(opened),
         Err((_, refused)) => Err(refused),
     }
 }
 
-fn split_off<R: Abort>(rt: &R, bus: &Bus<Log>, first: &mut Pass<Log>, number: u32) -> Pass<Log>
+pub fn split_off<T: Chronicle, R: Abort>(
+    rt: &R,
+    bus: &Bus<T>,
+    first: &mut Pass<T>,
+    number: u32,
+) -> Pass<T>
     requires pass { IsPassOf bus.now first.old × (number_of first.old ≡ 0) }
     requires number { number < passes_of bus.now }
     ensures first { IsPassOf bus.now first.new × (number_of first.new ≡ 0) }
-    ensures pass { IsPassOf bus.now result }
+    ensures pass { IsPassOf bus.now result × (number_of result ≡ number) }
 {
     assert!(rt; first.free(number));
     let pass = bus.split(first, number);
@@ -36,7 +45,7 @@ fn split_off<R: Abort>(rt: &R, bus: &Bus<Log>, first: &mut Pass<Log>, number: u3
     pass
 }
 
-fn join_back<R: Abort>(rt: &R, bus: &Bus<Log>, first: &mut Pass<Log>, pass: Pass<Log>)
+pub fn join_back<T: Chronicle, R: Abort>(rt: &R, bus: &Bus<T>, first: &mut Pass<T>, pass: Pass<T>)
     requires first { IsPassOf bus.now first.old × (number_of first.old ≡ 0) }
     requires pass { IsPassOf bus.now pass }
     ensures { IsPassOf bus.now first.new × (number_of first.new ≡ 0) }
@@ -46,7 +55,7 @@ fn join_back<R: Abort>(rt: &R, bus: &Bus<Log>, first: &mut Pass<Log>, pass: Pass
     assert!(rt; first.free(number));
 }
 
-fn close<R: Abort>(rt: &R, bus: Bus<Log>, first: Pass<Log>) -> Log
+pub fn close<T: Chronicle, R: Abort>(rt: &R, bus: Bus<T>, first: Pass<T>) -> T
     requires { IsPassOf bus first × (number_of first ≡ 0) }
 {
     for number in 1..PASSES as u32 {

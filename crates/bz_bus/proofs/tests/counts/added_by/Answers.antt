@@ -20,4 +20,4 @@ pub loop-pass-preserved : goal.loop-pass-preserved
 loop-pass-preserved g c = (c.join_back.ensures.0, c.join_back.ensures.1, all_front (λ p. IsPassOf c.in_ok-bus.bus p) _ _ (subst (λ z. All (λ p. IsPassOf c.in_ok-bus.bus p) z) c.in-Some.ensures.items c.loop-pass.invariant.2))
 
 pub loop-number-preserved : goal.loop-number-preserved
-loop-number-preserved g c = (c.split_off.ensures.first.0, c.split_off.ensures.first.1, rw c.in_ok-push.ensures.items (All-push (λ p. IsPassOf c.in_ok-bus.bus p) _ _ c.loop-number.invariant.2 c.split_off.ensures.pass))
+loop-number-preserved g c = (c.split_off.ensures.first.0, c.split_off.ensures.first.1, rw c.in_ok-push.ensures.items (All-push (λ p. IsPassOf c.in_ok-bus.bus p) _ _ c.loop-number.invariant.2 c.split_off.ensures.pass.0))
