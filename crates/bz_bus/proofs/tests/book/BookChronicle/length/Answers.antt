@@ -1,4 +1,4 @@
-use Rattle.std.proofs.Common.{◌≡◌, ◌∙◌, sym, reverse, length}
+use Rattle.std.proofs.Common.{◌∙◌, sym, reverse}
 use Rattle.std.proofs.lemmas.List.{length-reverse}
 use Rattle.bz_bus.specs.declared.tests.book.Line.{Line}
 use Rattle.bz_bus.specs.declared.tests.book.Told.{Told}
