@@ -30,5 +30,6 @@ pub mod Readings
 pub mod Fills
 pub mod Plain
 pub mod Firsts
+pub mod Neighbours
 pub mod NodeKinds
 pub mod HighFences

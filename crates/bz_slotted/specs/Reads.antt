@@ -4,7 +4,7 @@ use Rattle.bz_key.specs.Packing.{unpacked_key}
 use Rattle.bz_key.specs.declared.limits.TheConstants.{KEY_BYTES}
 use Rattle.bz_layout.specs.declared.sizes.TheConstants.{NODE_WORDS}
 use Rattle.bz_word.specs.declared.meta.Meta.{Meta}
-use Rattle.bz_slotted.specs.Page.{visible, extent_of, Page}
+use Rattle.bz_slotted.specs.Page.{visible, held, extent_of, Page}
 use Rattle.bz_slotted.specs.Records.{key_words, weight, pointer_at}
 
 -- a record lies within the node, and its key, if it has one, can be read
@@ -20,3 +20,7 @@ KeysAreRead p = (j : ℕ) → j < p.count → visible (p.meta j) ≡ true → Ha
 -- the pointers of all records lie within the node
 abbrev pub PointersAreRead : Page → Type 0
 PointersAreRead p = (i : ℕ) → i < p.count → pointer_at p i < NODE_WORDS
+
+-- the first records, so many, hold no word before this place
+abbrev pub BeginsAbove : Page → ℕ → ℕ → Type 0
+BeginsAbove p n place = (k : ℕ) → k < n → held (p.meta k) ≡ true → place ≤ (extent_of (p.meta k)).offset
