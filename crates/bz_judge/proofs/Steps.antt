@@ -58,16 +58,16 @@ leaf-step c image u us seen found met more words g t is f leaf count few =
     r : ℕ → Pairs
     r = records_in c (image_of (slice_index image))
 
-kids-below : (v : View) (u : Visit) (l i n nodes : ℕ) (us : List Visit) → ((j : ℕ) → i ≤ j → j < i + n → v.child u.slot j < nodes) → AreBelow nodes us → AreBelow nodes (kids v u l i n ++ us)
+pub kids-below : (v : View) (u : Visit) (l i n nodes : ℕ) (us : List Visit) → ((j : ℕ) → i ≤ j → j < i + n → v.child u.slot j < nodes) → AreBelow nodes us → AreBelow nodes (kids v u l i n ++ us)
 unfolding kids
 kids-below v u l i zero nodes us each rest = rest
 kids-below v u l i (suc n) nodes us each rest = (each i (omega arith) (omega arith), kids-below v u l (i + 1) n nodes us (λ j from to. each j (omega arith) (omega arith)) rest)
 
 -- the rule of a node, as the laws of nodes ask for it
-node-none : (c : Config) (raw : ℕ → ℕ) (u : Visit) → u.slot < c.nodes → (view_in c raw).fault u.slot u.level u.low u.high ≡ None → node_fault c.nodes (node c raw u.slot) (node c (resolve raw) u.slot) u.level u.low u.high ≡ None
+pub node-none : (c : Config) (raw : ℕ → ℕ) (u : Visit) → u.slot < c.nodes → (view_in c raw).fault u.slot u.level u.low u.high ≡ None → node_fault c.nodes (node c raw u.slot) (node c (resolve raw) u.slot) u.level u.low u.high ≡ None
 node-none c raw u less f = sym (fault-of-node c raw u.slot u.level u.low u.high less) ∙ f
 
-children-below : InnerKeysRise → (c : Config) (raw : ℕ → ℕ) (u : Visit) → u.slot < c.nodes → (view_in c raw).fault u.slot u.level u.low u.high ≡ None → 0 < u.level → (j : ℕ) → j < (view_in c raw).count u.slot → (view_in c raw).child u.slot j < c.nodes
+pub children-below : InnerKeysRise → (c : Config) (raw : ℕ → ℕ) (u : Visit) → u.slot < c.nodes → (view_in c raw).fault u.slot u.level u.low u.high ≡ None → 0 < u.level → (j : ℕ) → j < (view_in c raw).count u.slot → (view_in c raw).child u.slot j < c.nodes
 children-below rise c raw u less f inner j within =
     let other : (u.slot == c.nodes) ≡ false = no u.slot c.nodes (omega arith) in
     let b : RisesBetween c.nodes (node c (resolve raw) u.slot) u.low u.high = rise c.nodes (node c raw u.slot) (node c (resolve raw) u.slot) u.level u.low u.high inner (node-none c raw u less f) in

@@ -55,10 +55,15 @@ unseen-set [] k less t = absurd (omega arith)
 unseen-set (b ∷ bs) zero less t = rw t (omega arith)
 unseen-set (b ∷ bs) (suc k) less t = omega (arith, unseen-set bs k (omega arith) t)
 
-pairs-join : (records : ℕ → Pairs) (us : List Visit) (u : Visit) → pairs_of records (us ++ u ∷ []) ≡ pairs_of records us ++ (if u.level == 0 then records u.slot else [])
+-- the pairs of two lists of visits
+pub pairs-append : (records : ℕ → Pairs) (us ws : List Visit) → pairs_of records (us ++ ws) ≡ pairs_of records us ++ pairs_of records ws
 unfolding pairs_of
-pairs-join records [] u = append-nil (if u.level == 0 then records u.slot else [])
-pairs-join records (x ∷ xs) u = ap (λ t. (if x.level == 0 then records x.slot else []) ++ t) (pairs-join records xs u) ∙ sym (append_assoc (if x.level == 0 then records x.slot else []) (pairs_of records xs) (if u.level == 0 then records u.slot else []))
+pairs-append records [] ws = refl
+pairs-append records (u ∷ us) ws = ap (λ t. (if u.level == 0 then records u.slot else []) ++ t) (pairs-append records us ws) ∙ sym (append_assoc (if u.level == 0 then records u.slot else []) (pairs_of records us) (pairs_of records ws))
+
+pub pairs-join : (records : ℕ → Pairs) (us : List Visit) (u : Visit) → pairs_of records (us ++ u ∷ []) ≡ pairs_of records us ++ (if u.level == 0 then records u.slot else [])
+unfolding pairs_of
+pairs-join records us u = pairs-append records us (u ∷ []) ∙ ap (λ t. pairs_of records us ++ t) (append-nil (if u.level == 0 then records u.slot else []))
 
 -- a node that breaks no rule is behind, and what it leads to is to come
 pub further : (v : View) (records : ℕ → Pairs) (u : Visit) (us ws : List Visit) (seen : List Bool) (pairs reached more : ℕ) → Goes v records (u ∷ us) seen pairs reached → get_or seen u.slot false ≡ false →

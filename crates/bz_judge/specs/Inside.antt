@@ -1,4 +1,5 @@
 -- What the program knows on its way, for its own proofs.
+pub mod Gathers
 pub mod Kinds
 pub mod Nodes
 pub mod Stacks

@@ -1,7 +1,8 @@
-//! A small tree of two levels, and what is told of it with a few words written anew.
+//! A small tree of two levels: its shape and its content, and what is told of it with a few words written anew.
 
-use crate::check;
+use crate::{check, pairs};
 use bz_content::{CheckError, Shape};
+use bz_key::{Key, Payload};
 use bz_layout::Config;
 use bz_shape::{ShapeFault, ShapeRule};
 use std::alloc::Global;
@@ -18,7 +19,7 @@ const SMALL: Config = Config {
 };
 
 /// A word at an address.
-type Written = (usize, u64);
+pub(crate) type Written = (usize, u64);
 
 /// The superblock; slot 1, the root, with the children 0 and 2, parted by `m`; slot 0, which ends at `m`, with the
 /// key `a`; and slot 2, which begins at `m`, with the key `z`.
@@ -65,10 +66,18 @@ fn judged(alloc: Global, written: &[Written]) -> Result<Shape, CheckError> {
     check(alloc, &words, &SMALL)
 }
 
-// The tree with these words breaks this rule first, at this place.
-fn breaks(rt: &impl Abort, alloc: Global, written: &[Written], rule: ShapeRule, place: u32) {
+/// The tree with the words of each of these cases breaks this rule first, at this place.
+pub(crate) fn all_break(
+    rt: &impl Abort,
+    alloc: Global,
+    rule: ShapeRule,
+    place: u32,
+    cases: &[&'static [Written]],
+) {
     let told = Err(CheckError::Shape(ShapeFault { rule, place }));
-    assert_eq!(rt; judged(alloc, written), told);
+    for written in cases {
+        assert_eq!(rt; judged(alloc, written), told, "{written:?}");
+    }
 }
 
 /// A swap of two words of slot 0 on its way, which makes the record of `a` visible.
@@ -109,64 +118,6 @@ fn accepts_trees(rt: HostRuntime) -> Result<(), Fail> {
     Ok(())
 }
 
-#[test]
-fn names_the_superblock_and_the_root(rt: HostRuntime) -> Result<(), Fail> {
-    breaks(&rt, rt.alloc(), &[(0, 2)], ShapeRule::Super, 0);
-    breaks(&rt, rt.alloc(), &[(3, 4)], ShapeRule::Super, 0);
-    breaks(&rt, rt.alloc(), &[(15, 1)], ShapeRule::Super, 0);
-    breaks(
-        &rt,
-        rt.alloc(),
-        &[(4, 3), (200, 3 << 62)],
-        ShapeRule::Super,
-        0,
-    );
-    breaks(&rt, rt.alloc(), &[(1, 0)], ShapeRule::Root, 0);
-    breaks(&rt, rt.alloc(), &[(1, 4)], ShapeRule::Root, 0);
-    breaks(&rt, rt.alloc(), &[(2, 1 << 52)], ShapeRule::Root, 0);
-    Ok(())
-}
-
-#[test]
-fn names_unlawful_words(rt: HostRuntime) -> Result<(), Fail> {
-    breaks(&rt, rt.alloc(), &[(431, 3 << 62)], ShapeRule::Word, 431);
-    breaks(&rt, rt.alloc(), &[(16, 4)], ShapeRule::Word, 16);
-    breaks(&rt, rt.alloc(), &[(47, 1 << 61)], ShapeRule::Word, 47);
-    breaks(&rt, rt.alloc(), &[(60, (1 << 62) + 2)], ShapeRule::Word, 60);
-    breaks(&rt, rt.alloc(), &[(60, 1 << 62)], ShapeRule::Word, 60);
-    let other_target = [(16, 1), (17, 1), (18, 61), (60, 1 << 62)];
-    breaks(&rt, rt.alloc(), &other_target, ShapeRule::Word, 60);
-    let too_many = [(16, 1), (17, 5), (18, 60), (60, 1 << 62)];
-    breaks(&rt, rt.alloc(), &too_many, ShapeRule::Word, 60);
-    let other_entry = [(16, 1), (17, 1), (18, 60), (60, 0x2000_0000_0005_0000)];
-    breaks(&rt, rt.alloc(), &other_entry, ShapeRule::Word, 60);
-    Ok(())
-}
-
-#[test]
-fn names_rules_of_nodes(rt: HostRuntime) -> Result<(), Fail> {
-    breaks(&rt, rt.alloc(), &[(302, 1)], ShapeRule::Twice, 0);
-    breaks(&rt, rt.alloc(), &[(177, 0x0200_0002)], ShapeRule::Level, 0);
-    breaks(&rt, rt.alloc(), &[(306, 0x006E << 48)], ShapeRule::Fence, 2);
-    breaks(
-        &rt,
-        rt.alloc(),
-        &[(176, 0x1020_0C00_0000_0000)],
-        ShapeRule::Status,
-        1,
-    );
-    breaks(
-        &rt,
-        rt.alloc(),
-        &[(174, 0x8061_0000_0000_0000)],
-        ShapeRule::Record,
-        0,
-    );
-    breaks(&rt, rt.alloc(), &[(174, 0x007A << 48)], ShapeRule::Key, 0);
-    breaks(&rt, rt.alloc(), &[(302, 4)], ShapeRule::Child, 1);
-    Ok(())
-}
-
 /// Slot 2 with two records, of the keys `z` and `y`.
 const TWO_RECORDS: [Written; 4] = [
     (304, 0x0020_1000_0000_0002),
@@ -175,29 +126,49 @@ const TWO_RECORDS: [Written; 4] = [
     (429, 0x0033_0000_0000_0000),
 ];
 
+// The content of the tree with these words, and then these, if it is well formed.
+fn content(
+    alloc: Global,
+    written: &[Written],
+    then: &[Written],
+) -> Result<Vec<(Key, Payload)>, CheckError> {
+    let mut words = [0u64; 432];
+    write(&mut words, &TREE);
+    write(&mut words, written);
+    write(&mut words, then);
+    let _shape = check(alloc, &words, &SMALL)?;
+    Ok(pairs(alloc, &words)?)
+}
+
+// A pair of one byte each.
+fn pair(key: u8, payload: u8) -> Result<(Key, Payload), Fail> {
+    Ok((Key::of(&[key])?, Payload::of(&[payload])?))
+}
+
 #[test]
-fn names_the_earlier_of_two_rules(rt: HostRuntime) -> Result<(), Fail> {
-    let unsorted = [
-        TWO_RECORDS[0],
-        TWO_RECORDS[1],
-        TWO_RECORDS[2],
-        TWO_RECORDS[3],
-        (305, 0x0200_0100),
-    ];
-    breaks(&rt, rt.alloc(), &unsorted, ShapeRule::Order, 2);
-    let equal = [
-        TWO_RECORDS[0],
-        TWO_RECORDS[1],
-        (428, 0x007A << 48),
-        TWO_RECORDS[3],
-        (305, 0x0100),
-    ];
-    breaks(&rt, rt.alloc(), &equal, ShapeRule::Key, 2);
-    let child_first = [(302, 4), (49, 1)];
-    breaks(&rt, rt.alloc(), &child_first, ShapeRule::Child, 1);
-    let left_first = [(305, 1), (54, 0)];
-    breaks(&rt, rt.alloc(), &left_first, ShapeRule::Fence, 0);
-    let broken_record = [(58, 0x1000_007E_0003_0002)];
-    breaks(&rt, rt.alloc(), &broken_record, ShapeRule::Status, 0);
+fn gathers_the_pairs_in_the_order_of_keys(rt: HostRuntime) -> Result<(), Fail> {
+    let (a, y, z) = (pair(b'a', b'1')?, pair(b'y', b'3')?, pair(b'z', b'2')?);
+    let tree = content(rt.alloc(), &[], &[])?;
+    assert_eq!(rt; tree.as_slice(), [a, z].as_slice(), "two leaves");
+    let unsorted = content(rt.alloc(), &TWO_RECORDS, &[])?;
+    assert_eq!(rt; unsorted.as_slice(), [a, y, z].as_slice(), "not sorted");
+    let undecided = content(rt.alloc(), &PUBLISHING, &[(16, 1)])?;
+    assert_eq!(rt; undecided.as_slice(), [z].as_slice(), "undecided");
+    let succeeded = content(rt.alloc(), &PUBLISHING, &[(16, 2)])?;
+    assert_eq!(rt; succeeded.as_slice(), [a, z].as_slice(), "succeeded");
+    let empty = content(rt.alloc(), &EMPTY_LEAVES, &[])?;
+    assert!(rt; empty.as_slice().is_empty(), "no record");
     Ok(())
 }
+
+/// Slots 0 and 2 without records.
+const EMPTY_LEAVES: [Written; 8] = [
+    (48, 0),
+    (58, 0),
+    (174, 0),
+    (175, 0),
+    (304, 0),
+    (314, 0),
+    (430, 0),
+    (431, 0),
+];
