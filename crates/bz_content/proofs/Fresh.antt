@@ -21,8 +21,9 @@ use Rattle.bz_word.specs.Statements.{ValuesAreTheirWords}
 use Rattle.bz_word.specs.Statuses.{status}
 use Rattle.bz_content.specs.Content.{image_of, is_super, IsWellFormed}
 use Rattle.bz_content.specs.Image.{node}
-use Rattle.bz_content.specs.Laws.{ViewsAreHonest, FreshMemoryIsEmpty}
+use Rattle.bz_content.specs.Laws.{ViewsAreHonest, FreshMemoryIsEmpty, FreshMemoryReachesSlotZero}
 use Rattle.bz_content.specs.Resolving.{resolve}
+use Rattle.bz_content.proofs.Honesty.{no}
 use Rattle.bz_content.proofs.Reached.{is}
 use Rattle.bz_content.proofs.RootLeaves.{HasRootLeaf, HoldsLeaf, root-leaf}
 use Rattle.bz_content.proofs.Values.{resolve-value, value-lawful}
@@ -132,21 +133,26 @@ pub record Given : Type 0 where
   pub leaf : LeafRulesAreFacts
   pub inner : InnerRulesAreFacts
 
+module _ (b : Given) (c : Config) (config : IsConfig c) where
+  abbrev raw : ℕ → ℕ
+  raw = slice_index (fresh_words c)
+
+  fresh : IsFresh c raw
+  fresh = let s : SaysFresh c (fresh_words c) = b.words c in record { config = config; says = (s.format, s.root, s.root_status, s.nodes, s.swaps); rest = s.rest }
+
+  held : HoldsLeaf c (image_of raw)
+  held = root-leaf b.forms b.tile b.honest b.leaf b.inner c (image_of raw) (fresh-leaf b.values b.leaf c raw fresh)
+
+  rules : IsWellFormed c raw
+  rules = record {
+    super = fresh-super c raw fresh;
+    lawful = λ a l. value-lawful b.values c raw a (fresh-small c raw a fresh) (λ g. fresh.rest a (omega arith));
+    tree = held.tree;
+  }
+
 pub fresh-empty : Given → FreshMemoryIsEmpty
-fresh-empty b c config = ((well-formed b.honest c raw).1 rules, λ key. held.content key ∙ fresh-holds b.values b.leaf c raw key f)
-  where
-    raw : ℕ → ℕ
-    raw = slice_index (fresh_words c)
+fresh-empty b c config =
+    ((well-formed b.honest c (raw b c config)).1 (rules b c config), λ key. (held b c config).content key ∙ fresh-holds b.values b.leaf c (raw b c config) key (fresh b c config))
 
-    f : IsFresh c raw
-    f = let s : SaysFresh c (fresh_words c) = b.words c in record { config = config; says = (s.format, s.root, s.root_status, s.nodes, s.swaps); rest = s.rest }
-
-    held : HoldsLeaf c (image_of raw)
-    held = root-leaf b.forms b.tile b.honest b.leaf b.inner c (image_of raw) (fresh-leaf b.values b.leaf c raw f)
-
-    rules : IsWellFormed c raw
-    rules = record {
-      super = fresh-super c raw f;
-      lawful = λ a l. value-lawful b.values c raw a (fresh-small c raw a f) (λ g. f.rest a (omega arith));
-      tree = held.tree;
-    }
+pub fresh-reaches : Given → FreshMemoryReachesSlotZero
+fresh-reaches b c k config l = (held b c config).inside k ∙ rw (no k c.nodes (λ e. absurd (omega (arith, l, e)))) refl

@@ -83,9 +83,10 @@ lone-fits leaf inner c x h = record {
 pub record HoldsLeaf (c : Config) (x : Image) : Type 0 where
   pub tree : IsTree (view_of c x)
   pub content : (key : List ℕ) → content (view_of c x) key ≡ found_of (node c x.words 0) key
+  pub inside : (k : ℕ) → (form (view_of c x)).inside k ≡ (k == c.nodes) || (k == 0)
 
 pub root-leaf : FormsFitTrees → LeavesTileTheKeys → ViewsAreHonest → LeafRulesAreFacts → InnerRulesAreFacts → (c : Config) (x : Image) → HasRootLeaf c x → HoldsLeaf c x
-root-leaf forms tile honest leaf inner c x h = record { tree = tree; content = said }
+root-leaf forms tile honest leaf inner c x h = record { tree = tree; content = said; inside = agree.inside }
   where
     g : Fits (view_of c x) (lone c)
     g = lone-fits leaf inner c x h

@@ -7,7 +7,7 @@ use Rattle.bz_layout.specs.declared.config.Config.{Config}
 use Rattle.bz_layout.specs.declared.sizes.TheConstants.{ROOT_AT, ROOT_STATUS_AT}
 use Rattle.bz_shape.specs.Form.{IsHonest}
 use Rattle.bz_shape.specs.Descent.{leaf_of, content}
-use Rattle.bz_shape.specs.Walk.{IsTree, is_among}
+use Rattle.bz_shape.specs.Walk.{IsTree, is_among, form}
 use Rattle.bz_shape.specs.Slots.{SameSlot, SameTop, Relinked}
 use Rattle.bz_shape.specs.Outcomes.{SameTree, SameContent, Regrows}
 use Rattle.bz_slotted.specs.Changes.{Rewrites}
@@ -16,7 +16,7 @@ use Rattle.bz_slotted.specs.Records.{key_in, payload_in, key_at}
 use Rattle.bz_word.specs.declared.meta.Meta.{Meta}
 use Rattle.bz_slotted.specs.Readers.{level_of, found_of}
 use Rattle.bz_content.specs.Changes.{SameNode, SameRoot, SameBut, IsUnnamed}
-use Rattle.bz_content.specs.Content.{image_fault, IsWellFormed, content_in}
+use Rattle.bz_content.specs.Content.{image_fault, IsWellFormed, content_in, view_in}
 use Rattle.bz_content.specs.Image.{Image, node, root}
 use Rattle.bz_content.specs.Resolving.{resolve}
 use Rattle.bz_content.specs.Swaps.{form_in, OnLeaf, StaysWhole, IsQuiet, TurnsLink, Consolidates}
@@ -41,6 +41,11 @@ abbrev pub FreshMemoryIsEmpty : Type 0
 FreshMemoryIsEmpty =
     (c : Config) → IsConfig c →
     (image_fault c (slice_index (fresh_words c)) ≡ None) × ((key : List ℕ) → content_in c (slice_index (fresh_words c)) key ≡ None)
+
+-- of fresh memory slot 0 is reached, and no other
+abbrev pub FreshMemoryReachesSlotZero : Type 0
+FreshMemoryReachesSlotZero =
+    (c : Config) (k : ℕ) → IsConfig c → k < c.nodes → (form (view_in c (slice_index (fresh_words c)))).inside k ≡ (k == 0)
 
 -- a swap changes nothing of the slots of which it names no word, nor of the root if it names neither of its words
 pub record UnnamedWordsStay : Type 0 where

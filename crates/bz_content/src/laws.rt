@@ -3,7 +3,7 @@
 ghost use Rattle.bz_content.specs.BrokenImages.{BrokenImages};
 ghost use Rattle.bz_content.specs.TwoLevels.{TwoLevels};
 ghost use Rattle.bz_content.specs.WorkedInsert.{WorkedInsert};
-ghost use Rattle.bz_content.specs.Laws.{ViewsAreHonest, PlainWordsStandForThemselves, WellFormedImagesHaveNoFault, FreshMemoryIsEmpty, MapIsTheContent};
+ghost use Rattle.bz_content.specs.Laws.{ViewsAreHonest, PlainWordsStandForThemselves, WellFormedImagesHaveNoFault, FreshMemoryIsEmpty, FreshMemoryReachesSlotZero, MapIsTheContent};
 ghost use Rattle.bz_content.specs.Laws.{UnnamedWordsStay, UnreachedWordsDoNotMatter, LeafSwapsKeepTheTree, QuietSwapsKeepTheContent, RewritesChangeOneKey, LinksAreTurned};
 ghost use Rattle.bz_content.specs.Laws.{ConsolidationsKeepTheContent, SplitsKeepTheContent, RootSplitsKeepTheContent, MergesKeepTheContent};
 
@@ -37,6 +37,19 @@ pub fn well_formed_images_have_no_fault()
 /// Fresh memory is well formed and holds nothing.
 pub fn fresh_memory_is_empty()
     ensures { FreshMemoryIsEmpty }
+{
+    bz_layout::fresh_words_say();
+    bz_word::laws::values();
+    shape::forms_fit_trees();
+    shape::leaves_tile_the_keys();
+    slotted::leaf_rules_are_facts();
+    slotted::inner_rules_are_facts();
+    views_are_honest();
+}
+
+/// Of fresh memory slot 0 is reached, and no other.
+pub fn fresh_memory_reaches_slot_zero()
+    ensures { FreshMemoryReachesSlotZero }
 {
     bz_layout::fresh_words_say();
     bz_word::laws::values();
