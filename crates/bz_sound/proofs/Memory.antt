@@ -2,6 +2,7 @@
 pub mod Marks
 pub mod MorePages
 pub mod Growth
+pub mod Standing
 pub mod Settled
 pub mod Reads
 pub mod ReadPages
@@ -14,11 +15,11 @@ pub mod Once
 pub mod Acknowledged
 pub mod Counts
 pub mod Held
+pub mod HeldSlots
 pub mod Apart
 pub mod Between
 pub mod Balance
 pub mod RoomLeft
 pub mod OpenEffects
-pub mod Happened
 pub mod OneHistory
 pub mod Worked

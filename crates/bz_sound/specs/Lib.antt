@@ -1,5 +1,5 @@
 pub mod Calls
-pub mod Room
 pub mod Replies
 pub mod CallLaws
 pub mod Memory
+pub mod Power

@@ -3,3 +3,7 @@
 #![tactic(auto)]
 
 pub mod memory_laws;
+mod power;
+pub mod power_laws;
+
+pub use power::Power;

@@ -5,7 +5,7 @@ ghost use Rattle.bz_sound.specs.Memory.History.{OneHistory};
 ghost use Rattle.bz_sound.specs.Memory.Laws.{FreshJournalsAreSound, QuietActsFollow, FlushesFollow, EffectsFollowActs, BeginsFollow, EndsFollow, PageEndsFollow};
 ghost use Rattle.bz_sound.specs.Memory.Laws.{LoadsAreSettled};
 ghost use Rattle.bz_sound.specs.Memory.ImageLaws.{AnswersComeFromTheImage, PagesComeFromTheImage, ChangesFollow, SameContentDecodes};
-ghost use Rattle.bz_sound.specs.Memory.ImageLaws.{EffectsAnswer, SpentAnswersFull, HeldSwapsAreSpent};
+ghost use Rattle.bz_sound.specs.Memory.ImageLaws.{EffectsAnswer, SpentAnswersFull, HeldSwapsAreSpent, HeldSlotsAreSpent};
 ghost use Rattle.bz_sound.specs.Memory.CallLaws.{EffectsStandOnce};
 ghost use Rattle.bz_sound.specs.Memory.OpenCallLaws.{OpenCallsLeaveRoom, EffectsStayOpen};
 ghost use Rattle.bz_sound.specs.Memory.CallLaws.{OpenCallsAreKept, OpenCallsAreLast, ApartCallsAreAlone, ActsAreOfOpenCalls, EffectsComeDirectly, EndsLieWithinTheirCalls, ToldChangesTookEffect, FullHasACause};
@@ -81,6 +81,11 @@ pub fn spent_answers_full()
 /// Descriptors are spent where each is taken or held by another worker with an open call.
 pub fn held_swaps_are_spent()
     ensures { HeldSwapsAreSpent }
+{}
+
+/// Slots are spent where each is used or held by another worker with an open call.
+pub fn held_slots_are_spent()
+    ensures { HeldSlotsAreSpent }
 {}
 
 /// A flush or an eviction that leaves the content needs no Effect.

@@ -10,18 +10,21 @@ use Rattle.bz_call.specs.declared.calls.Call.{Call}
 use Rattle.bz_call.specs.declared.calls.Call.TheVariants.{Insert, Delete, Update, Upsert, Get, Page}
 use Rattle.bz_call.specs.declared.replies.Reply.{Reply}
 use Rattle.bz_call.specs.declared.replies.Reply.TheVariants.{Inserted, Exists, Deleted, Updated, Missing, Value}
+use Rattle.bz_call.specs.declared.replies.Spent.{Spent}
+use Rattle.bz_mark.specs.Log.{Log}
 use Rattle.bz_mark.specs.Moments.{at_moment, mark_at}
 use Rattle.bz_mark.specs.MomentLaws.{length-at_moment, mark_at-at_moment, mark_at-earlier, mark_at-newest}
 use Rattle.bz_mark.specs.declared.marks.Mark.{Mark}
 use Rattle.bz_mark.specs.declared.marks.Mark.TheVariants.{Begin, End, Cut, Effect}
 use Rattle.bz_sound.specs.Calls.{Open, open_call, with_effect}
 use Rattle.bz_sound.specs.Replies.{Pages, AnswersOnly}
-use Rattle.bz_sound.specs.Memory.Calls.{MayFollow, CallsOnce}
 use Rattle.bz_sound.specs.Memory.CallLaws.{TellsAChange, ToldChangesTookEffect}
 use Rattle.bz_sound.specs.Memory.Moments.{map_at_start}
-use Rattle.bz_sound.specs.Memory.Replies.{Answer, IsAnswer}
+use Rattle.bz_sound.specs.Memory.Replies.{Answer, IsAnswerBy}
+use Rattle.bz_sound.specs.Memory.Spent.{IsSpent}
 use Rattle.bz_sound.proofs.Memory.Changed.{with-inserted, with-removed}
 use Rattle.bz_sound.proofs.Memory.Marks.{each-before}
+use Rattle.bz_sound.proofs.Memory.Standing.{MayStand, CallsStand, Stands, unbroken-stands}
 use Rattle.bz_sound.proofs.Memory.Told.{EndsCall, ended}
 
 -- the Effect of an open call
@@ -66,7 +69,7 @@ own-effect false v w n past opened at same number is took before = later (Effect
 same-number : (a b : Open) (v n : ℕ) (past : List Mark) → open_call v past ≡ Some a → a.number ≡ n → open_call v past ≡ Some b → b.number ≡ n
 same-number a b v n past is number also = let same : a ≡ b = cc in subst (λ (o : Open). o.number ≡ n) same number
 
-pub has-effect : (start : Map) (past : List Mark) (w : ℕ) (opened : Open) (at : ℕ) → CallsOnce start past → open_call w past ≡ Some opened → opened.effect ≡ Some at → HasEffect past w opened at
+pub has-effect : (start : Map) (past : List Mark) (w : ℕ) (opened : Open) (at : ℕ) → CallsStand start past → open_call w past ≡ Some opened → opened.effect ≡ Some at → HasEffect past w opened at
 has-effect start [] w opened at once is took = absurd (cc)
 has-effect start (Begin v n call ∷ past) w opened at once is took =
     later (Begin v n call) past w opened at (has-effect start past w opened at once.1 (begin-effect (v == w) n (length past) call (open_call w past) opened at is took) took)
@@ -117,18 +120,22 @@ quiet-not-told : (map : Map) (call : Call) (reply : Reply) → AnswersOnly map c
 quiet-not-told map call reply h told = not-told map call (get map (key_of call)) reply refl h.answers h.stays told
 
 -- an answer that tells a change is one of an effect
-told-effect : (c : Config) (start : List ℕ) (pages : Pages) (past : List Mark) (answer : Answer) (effect : Option ℕ) (reply : Reply) → answer.reply ≡ reply → TellsAChange reply
-    → IsAnswer c start pages past answer effect reply → effect ≡ Some answer.at
-told-effect c start pages past answer (Some effect) reply same told h = ap Some (sym h.moment)
-told-effect c start pages past answer None Inserted same told h = absurd (quiet-not-told _ _ _ h.answers (subst TellsAChange (sym same) told))
-told-effect c start pages past answer None (Deleted had) same told h = absurd (quiet-not-told _ _ _ h.answers (subst TellsAChange (sym same) told))
-told-effect c start pages past answer None reply same told h = absurd told
+told-effect : (Cause : Spent → Type 0) (c : Config) (start : List ℕ) (pages : Pages) (past : List Mark) (answer : Answer) (effect : Option ℕ) (reply : Reply) → answer.reply ≡ reply → TellsAChange reply
+    → IsAnswerBy Cause c start pages past answer effect reply → effect ≡ Some answer.at
+told-effect Cause c start pages past answer (Some effect) reply same told h = ap Some (sym h.moment)
+told-effect Cause c start pages past answer None Inserted same told h = absurd (quiet-not-told _ _ _ h.answers (subst TellsAChange (sym same) told))
+told-effect Cause c start pages past answer None (Deleted had) same told h = absurd (quiet-not-told _ _ _ h.answers (subst TellsAChange (sym same) told))
+told-effect Cause c start pages past answer None reply same told h = absurd told
+
+pub told-took : (Cause : List Mark → ℕ → Open → Spent → Type 0) (c : Config) (log : Log) (moment w n at : ℕ) (reply : Reply) → Stands Cause c log → moment < length log.past
+    → mark_at moment log.past ≡ Some (End w n reply at) → TellsAChange reply → mark_at at log.past ≡ Some (Effect w n)
+told-took Cause c log moment w n at reply stands h is told =
+    let e : EndsCall Cause c log.start log.pages (at_moment moment log.past) w n reply at = ended Cause c log moment w n at reply stands h is in
+    let size : length (at_moment moment log.past) ≡ moment = length-at_moment moment log.past (omega arith) in
+    let took : e.opened.effect ≡ Some at = told-effect (Cause (at_moment moment log.past) w e.opened) c log.start log.pages (at_moment moment log.past) (record { worker = w; opened = e.opened; reply = reply; at = at }) e.opened.effect reply refl told e.right.right in
+    let effect : HasEffect (at_moment moment log.past) w e.opened at =
+    has-effect (map_at_start c log.start) (at_moment moment log.past) w e.opened at (each-before (MayStand (map_at_start c log.start)) moment log.past stands.once) e.is_open took in
+    sym (mark_at-at_moment at moment log.past (omega (arith, effect.before_now)) (omega arith)) ∙ effect.mark ∙ ap (λ (number : ℕ). Some (Effect w number)) e.number
 
 pub told-took-effect : ToldChangesTookEffect
-told-took-effect c log moment w n at reply sound h is told =
-    let e : EndsCall c log.start log.pages (at_moment moment log.past) w n reply at = ended c log moment w n at reply sound h is in
-    let size : length (at_moment moment log.past) ≡ moment = length-at_moment moment log.past (omega arith) in
-    let took : e.opened.effect ≡ Some at = told-effect c log.start log.pages (at_moment moment log.past) (record { worker = w; opened = e.opened; reply = reply; at = at }) e.opened.effect reply refl told e.right.right in
-    let effect : HasEffect (at_moment moment log.past) w e.opened at =
-    has-effect (map_at_start c log.start) (at_moment moment log.past) w e.opened at (each-before (MayFollow (map_at_start c log.start)) moment log.past sound.once) e.is_open took in
-    sym (mark_at-at_moment at moment log.past (omega (arith, effect.before_now)) (omega arith)) ∙ effect.mark ∙ ap (λ (number : ℕ). Some (Effect w number)) e.number
+told-took-effect c log moment w n at reply sound h is told = told-took (IsSpent c log.start) c log moment w n at reply (unbroken-stands c log sound) h is told

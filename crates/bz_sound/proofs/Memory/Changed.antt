@@ -5,7 +5,7 @@ use Rattle.std.proofs.lemmas.Map.Text.{is_eq-slice_cmp}
 use Rattle.std.specs.Cmp.Lexicographic.{nat_list_cmp_total}
 use Rattle.std.specs.FinMap.{get, insert, remove, get-insert, get-remove}
 use Rattle.bz_layout.specs.declared.config.Config.{Config}
-use Rattle.bz_content.specs.Content.{image_fault}
+use Rattle.bz_content.specs.Content.{image_fault, content_in}
 use Rattle.bz_call.specs.Map.{Map, key_of, apply, apply_at, IsChange}
 use Rattle.bz_call.specs.declared.calls.Call.{Call}
 use Rattle.bz_call.specs.declared.calls.Call.TheVariants.{Insert, Delete, Update, Upsert, Get, Page}
@@ -15,7 +15,6 @@ use Rattle.bz_mark.specs.declared.marks.Mark.TheVariants.{Flush, Evict}
 use Rattle.bz_sound.specs.Calls.{Open, open_call, map_after, map_with}
 use Rattle.bz_sound.specs.Memory.ImageLaws.{IsChangeOf, ChangesKey, EffectFollows, ChangesFollow, SameContentDecodes}
 use Rattle.bz_sound.specs.Memory.Moments.{image_after, map_at_start, HoldsMap, Decodes, IsAfterFlush}
-use Rattle.bz_sound.specs.Memory.Sound.{IsSound}
 use Rattle.bz_sound.proofs.Memory.Growth.{decodes-now}
 
 -- a map with this payload, or none, at a key, and else as before
@@ -61,12 +60,11 @@ holds-changed c before after map call old new holds whole change is = record {
 }
 
 -- the two marks that make words durable leave open calls and map
-durable-change : (c : Config) (log : Log) (mark : Mark) (w : ℕ) (opened : Open) (old new : Option (List ℕ)) → IsSound c log → IsAfterFlush (mark ∷ log.past)
+durable-change : (c : Config) (log : Log) (mark : Mark) (w : ℕ) (opened : Open) (old new : Option (List ℕ)) → Decodes c log.start log.past → IsAfterFlush (mark ∷ log.past)
     → open_call w (mark ∷ log.past) ≡ Some opened → map_after (map_at_start c log.start) (mark ∷ log.past) ≡ map_after (map_at_start c log.start) log.past
     → opened.effect ≡ None → IsChangeOf opened.call old new → image_fault c (image_after log.start (mark ∷ log.past)) ≡ None
     → ChangesKey c (image_after log.start log.past) (image_after log.start (mark ∷ log.past)) (key_of opened.call) old new → EffectFollows c log mark w opened old
-durable-change c log mark w opened old new sound flush is same quiet changes whole change =
-    let now : Decodes c log.start log.past = decodes-now c log sound in
+durable-change c log mark w opened old new now flush is same quiet changes whole change =
     let step : Steps (map_after (map_at_start c log.start) log.past) opened.call old new = steps _ opened.call old new changes (sym (now.content (key_of opened.call)) ∙ change.was) in
     record {
       may_follow = (flush, record { opened = opened; is_open = is; number = refl; once = quiet; changes = rw same step.changes });
@@ -76,12 +74,22 @@ durable-change c log mark w opened old new sound flush is same quiet changes who
           (holds-changed c _ _ _ opened.call old new now whole change step.gives));
     }
 
+-- whatever the marks are, the words decode to the map before
+pub change-decodes : (c : Config) (log : Log) (mark : Mark) (w : ℕ) (opened : Open) (old new : Option (List ℕ)) → Decodes c log.start log.past → IsAfterFlush (mark ∷ log.past)
+    → open_call w log.past ≡ Some opened → opened.effect ≡ None → IsChangeOf opened.call old new → image_fault c (image_after log.start (mark ∷ log.past)) ≡ None
+    → ChangesKey c (image_after log.start log.past) (image_after log.start (mark ∷ log.past)) (key_of opened.call) old new → EffectFollows c log mark w opened old
+change-decodes c log (Flush v line) w opened old new now flush is quiet changes whole change = durable-change c log (Flush v line) w opened old new now flush is refl quiet changes whole change
+change-decodes c log (Evict a) w opened old new now flush is quiet changes whole change = durable-change c log (Evict a) w opened old new now flush is refl quiet changes whole change
+change-decodes c log mark w opened old new now flush is quiet changes whole change = absurd flush
+
 pub changes-follow : ChangesFollow
-changes-follow c log (Flush v line) w opened old new sound flush is quiet changes whole change = durable-change c log (Flush v line) w opened old new sound flush is refl quiet changes whole change
-changes-follow c log (Evict a) w opened old new sound flush is quiet changes whole change = durable-change c log (Evict a) w opened old new sound flush is refl quiet changes whole change
-changes-follow c log mark w opened old new sound flush is quiet changes whole change = absurd flush
+changes-follow c log mark w opened old new sound flush is quiet changes whole change = change-decodes c log mark w opened old new (decodes-now c log sound) flush is quiet changes whole change
+
+pub content-decodes : (c : Config) (log : Log) (mark : Mark) → Decodes c log.start log.past → IsAfterFlush (mark ∷ log.past) → image_fault c (image_after log.start (mark ∷ log.past)) ≡ None
+    → ((key : List ℕ) → content_in c (image_after log.start (mark ∷ log.past)) key ≡ content_in c (image_after log.start log.past) key) → Decodes c log.start (mark ∷ log.past)
+content-decodes c log (Flush v line) now flush whole same = record { well_formed = whole; content = λ key. same key ∙ now.content key }
+content-decodes c log (Evict a) now flush whole same = record { well_formed = whole; content = λ key. same key ∙ now.content key }
+content-decodes c log mark now flush whole same = absurd flush
 
 pub same-content : SameContentDecodes
-same-content c log (Flush v line) sound flush whole same = record { well_formed = whole; content = λ key. same key ∙ (decodes-now c log sound).content key }
-same-content c log (Evict a) sound flush whole same = record { well_formed = whole; content = λ key. same key ∙ (decodes-now c log sound).content key }
-same-content c log mark sound flush whole same = absurd flush
+same-content c log mark sound flush whole same = content-decodes c log mark (decodes-now c log sound) flush whole same

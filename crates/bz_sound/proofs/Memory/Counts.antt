@@ -7,11 +7,11 @@ use Rattle.std.proofs.lemmas.Bool.Decides.{nat_tests}
 use Rattle.std.proofs.lemmas.List.Sums.{length-filter}
 
 -- a number that passes counts one
-abbrev counts : Bool → ℕ
+abbrev pub counts : Bool → ℕ
 counts b = cond b 1 0
 
 -- how many of the numbers from one on pass
-pub passing : (ℕ → Bool) → ℕ → ℕ → ℕ
+unfoldable pub passing : (ℕ → Bool) → ℕ → ℕ → ℕ
 passing p a zero = 0
 passing p a (suc n) = counts (p a) + passing p (a + 1) n
 

@@ -1,14 +1,21 @@
 -- An open call that took effect, or finds something spent, is answered rightly.
 use Rattle.std.proofs.Common.{◌≡◌, ◌<◌, ℕ, ◌==◌, suc, Bool, true, false, List, [], ◌∷◌, length, refl, sym, subst, arith, Option, Some, None}
 use Rattle.std.specs.Prelude.{if◌then◌else◌, option_map}
+use Rattle.bz_layout.specs.declared.config.Config.{Config}
+use Rattle.bz_call.specs.Map.{apply}
 use Rattle.bz_call.specs.declared.calls.Call.{Call}
+use Rattle.bz_call.specs.declared.replies.Reply.{Reply}
 use Rattle.bz_call.specs.declared.replies.Reply.TheVariants.{Full}
+use Rattle.bz_call.specs.declared.replies.Spent.{Spent}
+use Rattle.bz_mark.specs.Log.{Log}
 use Rattle.bz_mark.specs.declared.marks.Mark.{Mark}
 use Rattle.bz_mark.specs.declared.marks.Mark.TheVariants.{Begin, End, Cut, Effect}
 use Rattle.bz_sound.specs.CallLaws.{began_before}
-use Rattle.bz_sound.specs.Calls.{Open, open_call, with_effect}
+use Rattle.bz_sound.specs.Calls.{Open, open_call, map_at, with_effect}
 use Rattle.bz_sound.specs.Memory.ImageLaws.{EffectsAnswer, SpentAnswersFull}
-use Rattle.bz_sound.specs.Memory.Replies.{IsAnswer}
+use Rattle.bz_sound.specs.Memory.Moments.{map_at_start}
+use Rattle.bz_sound.specs.Memory.Replies.{IsWrite, IsAnswerBy, IsRightReplyBy}
+use Rattle.bz_sound.specs.Memory.Spent.{IsSpent}
 
 -- an effect lies between the Begin of its call and now
 pub record IsInside (now : ℕ) (opened : Open) (at : ℕ) : Type 0 where
@@ -50,21 +57,32 @@ inside w (Effect v n ∷ past) opened at is took =
 inside w (Cut ∷ past) opened at is took = absurd (cc)
 inside w (mark ∷ past) opened at is took = later (length past) opened at (inside w past opened at is took)
 
-pub effects-answer : EffectsAnswer
-effects-answer c log w at opened reply is took answers =
+-- whatever causes a Full, an Effect answers
+pub effect-answers : (Cause : Spent → Type 0) (c : Config) (log : Log) (w at : ℕ) (opened : Open) (reply : Reply) → open_call w log.past ≡ Some opened → opened.effect ≡ Some at
+    → (apply (map_at (map_at_start c log.start) at log.past) opened.call).reply ≡ Some reply
+    → IsRightReplyBy Cause c log.start log.pages log.past (record { worker = w; opened = opened; reply = reply; at = at })
+effect-answers Cause c log w at opened reply is took answers =
     let h : IsInside (length log.past) opened at = inside w log.past opened at is took in
     record {
       after_begin = h.after_begin;
       before_end = omega (arith, h.before_now);
-      right = subst (λ (effect : Option ℕ). IsAnswer c log.start log.pages log.past (record { worker = w; opened = opened; reply = reply; at = at }) effect reply) (sym took)
+      right = subst (λ (effect : Option ℕ). IsAnswerBy Cause c log.start log.pages log.past (record { worker = w; opened = opened; reply = reply; at = at }) effect reply) (sym took)
           (record { moment = refl; answers = answers });
     }
 
-pub spent-answers : SpentAnswersFull
-spent-answers c log w opened spent is quiet writes cause = record {
+-- and each cause answers a Full
+pub cause-answers : (Cause : Spent → Type 0) (c : Config) (log : Log) (w : ℕ) (opened : Open) (spent : Spent) → open_call w log.past ≡ Some opened → opened.effect ≡ None → IsWrite opened.call → Cause spent
+    → IsRightReplyBy Cause c log.start log.pages log.past (record { worker = w; opened = opened; reply = Full spent; at = length log.past })
+cause-answers Cause c log w opened spent is quiet writes cause = record {
   after_begin = began_before w log.past opened is;
   before_end = omega arith;
   right = subst
-      (λ (effect : Option ℕ). IsAnswer c log.start log.pages log.past (record { worker = w; opened = opened; reply = Full spent; at = length log.past }) effect (Full spent))
+      (λ (effect : Option ℕ). IsAnswerBy Cause c log.start log.pages log.past (record { worker = w; opened = opened; reply = Full spent; at = length log.past }) effect (Full spent))
       (sym quiet) (record { now = refl; writes = writes; cause = cause });
 }
+
+pub effects-answer : EffectsAnswer
+effects-answer c log w at opened reply is took answers = effect-answers (IsSpent c log.start log.past w opened) c log w at opened reply is took answers
+
+pub spent-answers : SpentAnswersFull
+spent-answers c log w opened spent is quiet writes cause = cause-answers (IsSpent c log.start log.past w opened) c log w opened spent is quiet writes cause

@@ -9,7 +9,7 @@ use Rattle.bz_sound.specs.Memory.Moments.{Decodes}
 use Rattle.bz_sound.proofs.Memory.Marks.{holds-last}
 
 -- the start image holds the map at the start
-decodes-start : WellFormedImagesHaveNoFault → MapIsTheContent → (c : Config) (start : List ℕ) → image_fault c (slice_index start) ≡ None → Decodes c start []
+pub decodes-start : WellFormedImagesHaveNoFault → MapIsTheContent → (c : Config) (start : List ℕ) → image_fault c (slice_index start) ≡ None → Decodes c start []
 decodes-start whole law c start none = record {
   well_formed = none;
   content = λ key. sym (law c (image_of (slice_index start)) ((whole c (slice_index start)).0 none).tree key);

@@ -3,18 +3,20 @@ use Rattle.std.proofs.Common.{◌≡◌, ℕ, ◌+◌, Bool, true, false, List, 
 use Rattle.std.specs.Prelude.{if◌then◌else◌}
 use Rattle.bz_layout.specs.declared.config.Config.{Config}
 use Rattle.bz_call.specs.Pages.{names_page}
+use Rattle.bz_call.specs.declared.replies.Spent.{Spent}
 use Rattle.bz_mark.specs.Log.{Log, with_mark, count_page_ends}
 use Rattle.bz_mark.specs.MomentLaws.{mark_at-newest}
 use Rattle.bz_mark.specs.Moments.{IsInner, mark_at}
 use Rattle.bz_mark.specs.WordsAfter.{words_of, Found}
 use Rattle.bz_mark.specs.declared.marks.Mark.{Mark}
 use Rattle.bz_mark.specs.declared.marks.Mark.TheVariants.{Begin, End, Load, Store, Cas, Flush, Evict, Effect}
-use Rattle.bz_sound.specs.Calls.{open_call}
+use Rattle.bz_sound.specs.Calls.{Open, open_call}
 use Rattle.bz_sound.specs.Memory.Calls.{MayFollow}
 use Rattle.bz_sound.specs.Memory.Laws.{QuietActsFollow, FlushesFollow, EffectsFollowActs, BeginsFollow, EndsFollow, PageEndsFollow}
 use Rattle.bz_sound.specs.Memory.Moments.{map_at_start, Decodes}
-use Rattle.bz_sound.specs.Memory.Replies.{Answer, IsRightReply, HasRightReply}
+use Rattle.bz_sound.specs.Memory.Replies.{Answer, IsRightReplyBy, HasRightReplyBy, HasRightReply}
 use Rattle.bz_sound.specs.Memory.Sound.{IsSound}
+use Rattle.bz_sound.specs.Memory.Spent.{IsSpent}
 use Rattle.bz_sound.proofs.Memory.Marks.{holds-now, each-with, each-with_two}
 use Rattle.bz_sound.proofs.Memory.MorePages.{right-with_more}
 
@@ -50,20 +52,21 @@ pub begins : BeginsFollow
 begins c log w n call sound worker may = grown c log (Begin w n call) sound tt (worker, may) tt refl (decodes-now c log sound)
 
 -- what is right of the open call is right of the End
-right-end : (c : Config) (start : List ℕ) (pages : List (List (List ℕ × List ℕ))) (past : List Mark) (answer : Answer) → open_call answer.worker past ≡ Some answer.opened
-    → IsRightReply c start pages past answer → HasRightReply c start pages past (End answer.worker answer.opened.number answer.reply answer.at)
-right-end c start pages past answer is right = rw is right
+pub right-end : (Cause : List Mark → ℕ → Open → Spent → Type 0) (c : Config) (start : List ℕ) (pages : List (List (List ℕ × List ℕ))) (past : List Mark) (answer : Answer)
+    → open_call answer.worker past ≡ Some answer.opened → IsRightReplyBy (Cause past answer.worker answer.opened) c start pages past answer
+    → HasRightReplyBy Cause c start pages past (End answer.worker answer.opened.number answer.reply answer.at)
+right-end Cause c start pages past answer is right = rw is right
 
-same-count : (b : Bool) (count : ℕ) → b ≡ false → (if b then count + 1 else count) ≡ count
+pub same-count : (b : Bool) (count : ℕ) → b ≡ false → (if b then count + 1 else count) ≡ count
 same-count true count is = absurd (cc)
 same-count false count is = refl
 
 pub ends : EndsFollow
 ends c log answer sound is unpaged right =
     grown c log (End answer.worker answer.opened.number answer.reply answer.at) sound tt (record { opened = answer.opened; is_open = is; number = refl })
-    (right-end c log.start log.pages log.past answer is right) (same-count (names_page answer.reply) (count_page_ends log.past) unpaged) (decodes-now c log sound)
+    (right-end (IsSpent c log.start) c log.start log.pages log.past answer is right) (same-count (names_page answer.reply) (count_page_ends log.past) unpaged) (decodes-now c log sound)
 
-one-page : (b : Bool) (pages : List (List (List ℕ × List ℕ))) (pairs : List (List ℕ × List ℕ)) (count : ℕ) → b ≡ true → length pages ≡ count
+pub one-page : (b : Bool) (pages : List (List (List ℕ × List ℕ))) (pairs : List (List ℕ × List ℕ)) (count : ℕ) → b ≡ true → length pages ≡ count
     → length (pages ++ pairs ∷ []) ≡ (if b then count + 1 else count)
 one-page true pages pairs count is same = omega (arith, length-append pages (pairs ∷ []))
 one-page false pages pairs count is same = absurd (cc)
@@ -74,15 +77,15 @@ page-ends c log answer pairs sound is paged right = record {
   truthful = (tt, sound.truthful);
   once = (record { opened = answer.opened; is_open = is; number = refl }, sound.once);
   replies = (
-    right-end c log.start (log.pages ++ pairs ∷ []) log.past answer is right,
-    right-with_more c log.start log.pages (pairs ∷ []) log.past sound.replies,
+    right-end (IsSpent c log.start) c log.start (log.pages ++ pairs ∷ []) log.past answer is right,
+    right-with_more (IsSpent c log.start) c log.start log.pages (pairs ∷ []) log.past sound.replies,
   );
   pages = one-page (names_page answer.reply) log.pages pairs (count_page_ends log.past) paged sound.pages;
   durable = each-with (Decodes c log.start) (End answer.worker answer.opened.number answer.reply answer.at) log.past sound.durable (decodes-now c log sound);
 }
 
 -- the moment directly before an Effect is inner
-inner-effect : (w n : ℕ) (mark : Mark) (past : List Mark) → IsInner (length past + 1) (Effect w n ∷ mark ∷ past)
+pub inner-effect : (w n : ℕ) (mark : Mark) (past : List Mark) → IsInner (length past + 1) (Effect w n ∷ mark ∷ past)
 inner-effect w n mark past =
     let next : length (mark ∷ past) ≡ length past + 1 = omega arith in
     (omega arith, (w, n, subst (λ (k : ℕ). mark_at k (Effect w n ∷ mark ∷ past) ≡ Some (Effect w n)) next (mark_at-newest (Effect w n) (mark ∷ past))))

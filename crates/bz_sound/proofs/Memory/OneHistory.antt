@@ -1,225 +1,55 @@
--- The calls of a sound journal are one history of one map.
-use Rattle.std.proofs.Common.{◌≡◌, ◌≤◌, ◌<◌, ◌+◌, ◌-◌, ◌⊎◌, ℕ, false, List, [], ◌∷◌, length, get_or, refl, sym, ap, ◌∙◌, subst, inl, inr, arith, Option, Some, None}
-use Rattle.std.proofs.lemmas.Option.{slice_get-get_or}
+-- The calls of a journal without power cuts are one history: those that are pending are open at the end.
+use Rattle.std.proofs.Common.{◌≡◌, ◌<◌, ℕ, List, length, inl, inr}
+use Rattle.std.specs.Prelude.{Some}
 use Rattle.bz_layout.specs.declared.config.Config.{Config}
-use Rattle.bz_call.specs.Map.{Map, apply}
-use Rattle.bz_call.specs.Pages.{names_page}
-use Rattle.bz_call.specs.declared.calls.Call.{Call}
-use Rattle.bz_call.specs.declared.replies.Reply.{Reply}
-use Rattle.bz_call.specs.declared.replies.Reply.TheVariants.{Page, Full}
 use Rattle.bz_mark.specs.Log.{Log}
-use Rattle.bz_mark.specs.Moments.{at_moment, mark_at}
-use Rattle.bz_mark.specs.MomentLaws.{at_moment-next, length-at_moment, mark_at-at_moment}
+use Rattle.bz_mark.specs.Moments.{mark_at}
 use Rattle.bz_mark.specs.declared.marks.Mark.{Mark}
-use Rattle.bz_mark.specs.declared.marks.Mark.TheVariants.{End, Load, Cut, Effect}
-use Rattle.bz_sound.specs.Calls.{Open, open_call, map_after, map_at, map_with}
-use Rattle.bz_sound.specs.Replies.{Pages}
-use Rattle.bz_sound.specs.Memory.Calls.{MayFollow, CallsOnce}
-use Rattle.bz_sound.specs.Memory.History.{Happening, IsNoFull, EndedCall, PendingCall, Happens, EndHappens, ShowsRange, SameCall, OneHistory}
-use Rattle.bz_sound.specs.Memory.Moments.{map_at_start, IsAfterLoad}
-use Rattle.bz_sound.specs.Memory.Replies.{Answer, IsRightReply, HasRightReply, IsAnswer}
-use Rattle.bz_sound.specs.Memory.Sound.{IsSound}
-use Rattle.bz_sound.proofs.Memory.Acknowledged.{HasEffect, has-effect}
-use Rattle.bz_sound.proofs.Memory.Between.{at_moment-twice, StaysOpen, open-between}
-use Rattle.bz_sound.proofs.Memory.Ended.{IsInside, inside}
-use Rattle.bz_sound.proofs.Memory.Happened.{Took, happened}
-use Rattle.bz_sound.proofs.Memory.Marks.{each-at, each-before}
-use Rattle.bz_sound.proofs.Memory.NeverTold.{never-page}
-use Rattle.bz_sound.proofs.Memory.Settled.{not-both, after-flush}
+use Rattle.bz_mark.specs.declared.marks.Mark.TheVariants.{Cut}
+use Rattle.bz_sound.specs.Memory.History.{Happening, Happens, AreSteps, OneHistory}
+use Rattle.bz_sound.specs.Memory.Moments.{map_at_start}
+use Rattle.bz_sound.specs.Memory.Spent.{IsSpent}
+use Rattle.bz_sound.specs.Power.History as powered
+use Rattle.bz_sound.specs.Power.Laws.{LeavesPower, IsUnbroken}
+use Rattle.bz_sound.proofs.Cuts.AsBefore.{unbroken-once}
+use Rattle.bz_sound.proofs.Cuts.Left.{pending-now, open-now}
+use Rattle.bz_sound.proofs.Cuts.OneHistory.{one-history}
+use Rattle.bz_sound.proofs.Memory.Marks.{each-at}
+use Rattle.bz_sound.proofs.Memory.Standing.{unbroken-stands}
 
--- a call that happened directly after a load leaves the map as it is
-record IsQuietly (start : Map) (past : List Mark) (w at : ℕ) (call : Call) : Type 0 where
-  pub loaded : IsAfterLoad w (at_moment at past)
-  pub stays : (apply (map_at start at past) call).map ≡ map_at start at past
+no-cut : (past : List Mark) (moment : ℕ) → IsUnbroken past → moment < length past → mark_at moment past ≡ Some Cut → ⊥
+no-cut past moment h within is = each-at LeavesPower past moment Cut h within is
 
--- where a call that happened stands: it is open at its moment, and its moment is one before now
-record IsPlaced (start : Map) (past : List Mark) (h : Happening) : Type 0 where
-  pub after_begin : h.opened.begun < h.at
-  pub before_now : h.at < length past
-  pub stays : StaysOpen past h.worker h.opened h.at
-  pub how : (mark_at h.at past ≡ Some (Effect h.worker h.opened.number)) ⊎ IsQuietly start past h.worker h.at h.opened.call
+-- a call that happened without cuts is one that happened, and the other way round
+happens-powered : (past : List Mark) (h : Happening) → Happens past h → powered.Happens past h
+happens-powered past h happens = elim happens [
+  | inl e ↦ inl e
+  | inr p ↦ inr (record { pending = pending-now past h.worker h.opened p.is_open; took = p.took })
+]
 
--- an answer that is no Full is one of an Effect or after a load
-answered : (c : Config) (start : List ℕ) (pages : Pages) (past : List Mark) (answer : Answer) (effect : Option ℕ) (reply : Reply) → IsNoFull reply
-    → IsAnswer c start pages past answer effect reply → (effect ≡ Some answer.at) ⊎ IsQuietly (map_at_start c start) past answer.worker answer.at answer.opened.call
-answered c start pages past answer (Some effect) reply full h = inl (ap Some (sym h.moment))
-answered c start pages past answer None (Page page next) full h =
-    inr (record { loaded = h.loaded; stays = subst (λ (call : Call). (apply (map_at (map_at_start c start) answer.at past) call).map ≡ map_at (map_at_start c start) answer.at past) (sym h.asked) refl })
-answered c start pages past answer None (Full spent) full h = absurd full
-answered c start pages past answer None reply full h = inr (record { loaded = h.loaded; stays = h.answers.stays })
-
--- the right reply of an ended call
-right-reply : (c : Config) (log : Log) (h : Happening) (moment : ℕ) (reply : Reply) → IsSound c log → EndedCall log.past h moment reply
-    → IsRightReply c log.start log.pages (at_moment moment log.past) (record { worker = h.worker; opened = h.opened; reply = reply; at = h.at })
-right-reply c log h moment reply sound e =
-    let right = each-at (HasRightReply c log.start log.pages) log.past moment (End h.worker h.opened.number reply h.at) sound.replies e.within e.ends in
-    rw e.is_open at right
-
-ended-placed : (c : Config) (log : Log) (h : Happening) (moment : ℕ) (reply : Reply) → IsSound c log → EndedCall log.past h moment reply → IsPlaced (map_at_start c log.start) log.past h
-ended-placed c log h moment reply sound e =
-    let right = right-reply c log h moment reply sound e in
-    let size : length (at_moment moment log.past) ≡ moment = length-at_moment moment log.past (omega (arith, e.within)) in
-    let before : h.at ≤ moment = omega (arith, size, right.before_end) in
-    let within : moment ≤ length log.past = omega (arith, e.within) in
-    let twice : at_moment h.at (at_moment moment log.past) ≡ at_moment h.at log.past = at_moment-twice h.at moment log.past before within in
-    let opened : StaysOpen (at_moment moment log.past) h.worker h.opened h.at = open-between h.worker (at_moment moment log.past) h.opened h.at e.is_open right.after_begin right.before_end in
-    record {
-      after_begin = right.after_begin;
-      before_now = omega (arith, e.within);
-      stays = record { then_open = opened.then_open; is_open = ap (open_call h.worker) (sym twice) ∙ opened.is_open; number = opened.number; call = opened.call };
-      how = elim (answered c log.start log.pages (at_moment moment log.past) (record { worker = h.worker; opened = h.opened; reply = reply; at = h.at }) h.opened.effect reply e.no_full right.right) [
-        | inl took ↦
-            let effect : HasEffect (at_moment moment log.past) h.worker h.opened h.at =
-            has-effect (map_at_start c log.start) (at_moment moment log.past) h.worker h.opened h.at (each-before (MayFollow (map_at_start c log.start)) moment log.past sound.once) e.is_open took in
-            inl (sym (mark_at-at_moment h.at moment log.past (omega (arith, effect.before_now)) within) ∙ effect.mark)
-        | inr quiet ↦ inr (record {
-          loaded = subst (IsAfterLoad h.worker) twice quiet.loaded;
-          stays = subst (λ (marks : List Mark). (apply (map_after (map_at_start c log.start) marks) h.opened.call).map ≡ map_after (map_at_start c log.start) marks) twice quiet.stays;
-        })
-      ];
-    }
-
-pending-placed : (c : Config) (log : Log) (h : Happening) → IsSound c log → PendingCall log.past h → IsPlaced (map_at_start c log.start) log.past h
-pending-placed c log h sound p =
-    let here : IsInside (length log.past) h.opened h.at = inside h.worker log.past h.opened h.at p.is_open p.took in
-    record {
-      after_begin = here.after_begin;
-      before_now = here.before_now;
-      stays = open-between h.worker log.past h.opened h.at p.is_open here.after_begin (omega (arith, here.before_now));
-      how = inl (has-effect (map_at_start c log.start) log.past h.worker h.opened h.at sound.once p.is_open p.took).mark;
-    }
-
-placed : (c : Config) (log : Log) (h : Happening) → IsSound c log → Happens log.past h → IsPlaced (map_at_start c log.start) log.past h
-placed c log h sound happens = elim happens [ inl (moment, reply, e) ↦ ended-placed c log h moment reply sound e | inr p ↦ pending-placed c log h sound p ]
-
--- one load is of one worker
-same-load : (v w : ℕ) (past : List Mark) → IsAfterLoad v past → IsAfterLoad w past → v ≡ w
-same-load v w [] a b = absurd a
-same-load v w (Load u address value ∷ past) a b = sym a ∙ b
-same-load v w (mark ∷ past) a b = absurd a
-
--- no Effect comes directly after a load
-no-effect : (start : Map) (past : List Mark) (at v w n : ℕ) → CallsOnce start past → at < length past → IsAfterLoad v (at_moment at past) → mark_at at past ≡ Some (Effect w n) → ⊥
-no-effect start past at v w n once h load is = not-both v (at_moment at past) load (after-flush start past at w n once h is)
-
--- two open calls of one worker at one moment are one
-one-call : (past : List Mark) (h k : Happening) → h.worker ≡ k.worker → h.at ≡ k.at → StaysOpen past h.worker h.opened h.at → StaysOpen past k.worker k.opened k.at → h.opened.number ≡ k.opened.number
-one-call past h k worker at a b =
-    let both : Some a.then_open ≡ Some b.then_open = sym a.is_open ∙ ap (λ (u : ℕ). open_call u (at_moment h.at past)) worker ∙ ap (λ (m : ℕ). open_call k.worker (at_moment m past)) at ∙ b.is_open in
-    let one : a.then_open ≡ b.then_open = cc in
-    sym a.number ∙ ap (λ (o : Open). o.number) one ∙ b.number
-
-alone : (c : Config) (log : Log) (h k : Happening) → IsSound c log → Happens log.past h → Happens log.past k → h.at ≡ k.at → SameCall h k
-alone c log h k sound hh hk at = elim p.how [
-  | inl effect ↦ elim q.how [
-    | inl other ↦
-        let both : Some (Effect h.worker h.opened.number) ≡ Some (Effect k.worker k.opened.number) = sym effect ∙ ap (λ (m : ℕ). mark_at m log.past) at ∙ other in
-        record { worker = cc; number = cc }
-    | inr quiet ↦ absurd (no-effect (map_at_start c log.start) log.past k.at k.worker h.worker h.opened.number sound.once q.before_now quiet.loaded (ap (λ (m : ℕ). mark_at m log.past) (sym at) ∙ effect))
-  ]
-  | inr quiet ↦ elim q.how [
-    | inl effect ↦ absurd (no-effect (map_at_start c log.start) log.past h.at h.worker k.worker k.opened.number sound.once p.before_now quiet.loaded (ap (λ (m : ℕ). mark_at m log.past) at ∙ effect))
-    | inr other ↦
-        let worker : h.worker ≡ k.worker = same-load h.worker k.worker (at_moment h.at log.past) quiet.loaded (subst (λ (m : ℕ). IsAfterLoad k.worker (at_moment m log.past)) (sym at) other.loaded) in
-        record { worker = worker; number = one-call log.past h k worker at p.stays q.stays }
+happens-unbroken : (past : List Mark) (h : Happening) → IsUnbroken past → powered.Happens past h → Happens past h
+happens-unbroken past h unbroken happens = elim happens [
+  | inl e ↦ inl e
+  | inr p ↦ elim p.pending.breaks [
+    | inl now ↦ inr (record { is_open = open-now past h.worker h.opened p.pending.moment now p.pending.is_open; took = p.took })
+    | inr (within, cut) ↦ absurd (no-cut past p.pending.moment unbroken within cut)
   ]
 ]
-  where
-    p : IsPlaced (map_at_start c log.start) log.past h
-    p = placed c log h sound hh
 
-    q : IsPlaced (map_at_start c log.start) log.past k
-    q = placed c log k sound hk
-
--- the map after a mark that is no Effect
-same-map : (start : Map) (mark : Mark) (past : List Mark) → ((w n : ℕ) → mark ≡ Effect w n → ⊥) → map_after start (mark ∷ past) ≡ map_after start past
-same-map start (Effect w n) past none = absurd (none w n refl)
-same-map start mark past none = refl
-
--- the map of the next moment, where the mark between is no Effect
-still-map : (start : Map) (past : List Mark) (moment : ℕ) → moment < length past → ((w n : ℕ) → mark_at moment past ≡ Some (Effect w n) → ⊥) → map_at start (moment + 1) past ≡ map_at start moment past
-still-map start past moment h none =
-    let mark = get_or past (length past - (moment + 1)) Cut in
-    let is : mark_at moment past ≡ Some mark = slice_get-get_or past (length past - (moment + 1)) Cut (omega arith) in
-    ap (map_after start) (at_moment-next moment mark past is h) ∙ same-map start mark (at_moment moment past) (λ w n same. none w n (is ∙ ap Some same))
-
--- and where it is the Effect of a call that is open
-effect-map : (start : Map) (past : List Mark) (h : Happening) → h.at < length past → mark_at h.at past ≡ Some (Effect h.worker h.opened.number) → StaysOpen past h.worker h.opened h.at
-    → map_at start (h.at + 1) past ≡ (apply (map_at start h.at past) h.opened.call).map
-effect-map start past h within is stays =
-    ap (map_after start) (at_moment-next h.at (Effect h.worker h.opened.number) past is within)
-    ∙ ap (λ (o : Option Open). map_with o (map_at start h.at past)) stays.is_open
-    ∙ ap (λ (call : Call). (apply (map_at start h.at past) call).map) stays.call
-
-steps : (c : Config) (log : Log) (h : Happening) → IsSound c log → Happens log.past h
-    → map_at (map_at_start c log.start) (h.at + 1) log.past ≡ (apply (map_at (map_at_start c log.start) h.at log.past) h.opened.call).map
-steps c log h sound happens =
-    let p : IsPlaced (map_at_start c log.start) log.past h = placed c log h sound happens in
-    elim p.how [
-      | inl effect ↦ effect-map (map_at_start c log.start) log.past h p.before_now effect p.stays
-      | inr quiet ↦ still-map (map_at_start c log.start) log.past h.at p.before_now
-          (λ w n is. no-effect (map_at_start c log.start) log.past h.at h.worker w n sound.once p.before_now quiet.loaded is) ∙ sym quiet.stays
-    ]
-
--- the reply is that of the map
-map-reply : (c : Config) (start : List ℕ) (pages : Pages) (past : List Mark) (answer : Answer) (effect : Option ℕ) (reply : Reply) → answer.reply ≡ reply → IsNoFull reply → names_page reply ≡ false
-    → IsAnswer c start pages past answer effect reply → (apply (map_at (map_at_start c start) answer.at past) answer.opened.call).reply ≡ Some reply
-map-reply c start pages past answer (Some effect) reply same full page h = h.answers ∙ ap Some same
-map-reply c start pages past answer None (Page number next) same full page h = absurd (cc)
-map-reply c start pages past answer None (Full spent) same full page h = absurd full
-map-reply c start pages past answer None reply same full page h = h.answers.answers ∙ ap Some same
-
-replies : (c : Config) (log : Log) (h : Happening) (moment : ℕ) (reply : Reply) → IsSound c log → EndedCall log.past h moment reply → names_page reply ≡ false
-    → (apply (map_at (map_at_start c log.start) h.at log.past) h.opened.call).reply ≡ Some reply
-replies c log h moment reply sound e page =
-    let right = right-reply c log h moment reply sound e in
-    let size : length (at_moment moment log.past) ≡ moment = length-at_moment moment log.past (omega (arith, e.within)) in
-    let twice : at_moment h.at (at_moment moment log.past) ≡ at_moment h.at log.past = at_moment-twice h.at moment log.past (omega (arith, size, right.before_end)) (omega (arith, e.within)) in
-    subst (λ (marks : List Mark). (apply (map_after (map_at_start c log.start) marks) h.opened.call).reply ≡ Some reply) twice
-    (map-reply c log.start log.pages (at_moment moment log.past) (record { worker = h.worker; opened = h.opened; reply = reply; at = h.at }) h.opened.effect reply refl e.no_full page right.right)
-
--- a page is told by a load alone
-page-shown : (c : Config) (start : List ℕ) (pages : Pages) (past : List Mark) (answer : Answer) (effect : Option ℕ) (page : ℕ) (next : Option (List ℕ)) → answer.reply ≡ Page page next
-    → IsAnswer c start pages past answer effect (Page page next) → ShowsRange pages (map_at (map_at_start c start) answer.at past) answer.opened.call page next
-page-shown c start pages past answer (Some effect) page next same h = absurd (never-page _ _ answer.opened.call page next (h.answers ∙ ap Some same))
-page-shown c start pages past answer None page next same h = record { from = h.from; asked = h.asked; pairs = h.pairs }
-
-shown : (c : Config) (log : Log) (h : Happening) (moment page : ℕ) (next : Option (List ℕ)) → IsSound c log → EndedCall log.past h moment (Page page next)
-    → ShowsRange log.pages (map_at (map_at_start c log.start) h.at log.past) h.opened.call page next
-shown c log h moment page next sound e =
-    let right = right-reply c log h moment (Page page next) sound e in
-    let size : length (at_moment moment log.past) ≡ moment = length-at_moment moment log.past (omega (arith, e.within)) in
-    let twice : at_moment h.at (at_moment moment log.past) ≡ at_moment h.at log.past = at_moment-twice h.at moment log.past (omega (arith, size, right.before_end)) (omega (arith, e.within)) in
-    subst (λ (marks : List Mark). ShowsRange log.pages (map_after (map_at_start c log.start) marks) h.opened.call page next) twice
-    (page-shown c log.start log.pages (at_moment moment log.past) (record { worker = h.worker; opened = h.opened; reply = Page page next; at = h.at }) h.opened.effect page next refl right.right)
-
-end-happens : (c : Config) (log : Log) (moment w n at : ℕ) (reply : Reply) → IsSound c log → moment < length log.past → mark_at moment log.past ≡ Some (End w n reply at) → IsNoFull reply
-    → EndHappens log.past moment w n at reply
-end-happens c log moment w n at reply sound within is full =
-    let may = each-at (MayFollow (map_at_start c log.start)) log.past moment (End w n reply at) sound.once within is in
-    record {
-      opened = may.opened;
-      number = may.number;
-      ended = record { within = within; is_open = may.is_open; ends = is ∙ ap (λ (m : ℕ). Some (End w m reply at)) (sym may.number); no_full = full };
-    }
-
-ended-before : (c : Config) (log : Log) (h : Happening) (moment : ℕ) (reply : Reply) → IsSound c log → EndedCall log.past h moment reply → h.at ≤ moment
-ended-before c log h moment reply sound e =
-    let right = right-reply c log h moment reply sound e in
-    omega (arith, length-at_moment moment log.past (omega (arith, e.within)), right.before_end)
-
-no-call : (c : Config) (log : Log) (moment w n : ℕ) → IsSound c log → moment < length log.past → ((h : Happening) → Happens log.past h → h.at ≡ moment → ⊥) → mark_at moment log.past ≡ Some (Effect w n) → ⊥
-no-call c log moment w n sound within none is =
-    let t : Took log.past moment = happened c log.start log.pages log.past moment w n sound.once sound.replies within is in
-    none t.happening t.happens t.at
-
-pub one-history : OneHistory
-one-history c log sound = record {
-  ends = λ moment w n at reply within is full. end-happens c log moment w n at reply sound within is full;
-  alone = λ h k hh hk at. alone c log h k sound hh hk at;
-  steps = λ h happens. steps c log h sound happens;
-  replies = λ h moment reply e page. replies c log h moment reply sound e page;
-  pages = λ h moment page next e. shown c log h moment page next sound e;
-  still = λ moment within none. still-map (map_at_start c log.start) log.past moment within (λ w n is. no-call c log moment w n sound within none is);
-  order = λ h k moment reply e hk before. omega (arith, ended-before c log h moment reply sound e, (placed c log k sound hk).after_begin);
+-- the same calls are the same steps
+same-steps : (A B : Happening → Type 0) (c : Config) (log : Log) → ((h : Happening) → A h → B h) → ((h : Happening) → B h → A h) → AreSteps A c log → AreSteps B c log
+same-steps A B c log there back s = record {
+  ends = s.ends;
+  alone = λ h k hh hk at. s.alone h k (back h hh) (back k hk) at;
+  steps = λ h happens. s.steps h (back h happens);
+  replies = s.replies;
+  pages = s.pages;
+  still = λ moment within none. s.still moment within (λ h happens at. none h (there h happens) at);
+  order = λ h k moment reply e hk before. s.order h k moment reply e (back k hk) before;
 }
+
+pub unbroken-history : OneHistory
+unbroken-history c log sound =
+    let unbroken : IsUnbroken log.past = unbroken-once (map_at_start c log.start) log.past sound.once in
+    same-steps (powered.Happens log.past) (Happens log.past) c log (λ h happens. happens-unbroken log.past h unbroken happens) (λ h happens. happens-powered log.past h happens)
+    (one-history (IsSpent c log.start) c log (unbroken-stands c log sound))

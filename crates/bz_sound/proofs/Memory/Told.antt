@@ -16,18 +16,18 @@ use Rattle.bz_mark.specs.declared.marks.Mark.TheVariants.{Begin, End, Load, Stor
 use Rattle.bz_sound.specs.CallLaws.{began_before, has_begin}
 use Rattle.bz_sound.specs.Calls.{Open, open_call, begun_calls, with_effect}
 use Rattle.bz_sound.specs.Replies.{Pages}
-use Rattle.bz_sound.specs.Memory.Calls.{MayFollow, CallsOnce}
-use Rattle.bz_sound.specs.Memory.CallLaws.{IsLastCall, OpenCallsAreLast, ActsAreOfOpenCalls, EffectsComeDirectly, EndsLieWithinTheirCalls, FullHasACause}
+use Rattle.bz_sound.specs.Memory.Calls.{MayFollow}
+use Rattle.bz_sound.specs.Memory.CallLaws.{LiesWithin, IsLastCall, OpenCallsAreLast, ActsAreOfOpenCalls, EffectsComeDirectly, EndsLieWithinTheirCalls, FullHasACause}
 use Rattle.bz_sound.specs.Memory.Moments.{map_at_start}
-use Rattle.bz_sound.specs.Memory.Replies.{IsAnswer, IsRightReply, HasRightReply}
-use Rattle.bz_sound.specs.Memory.Sound.{IsSound}
+use Rattle.bz_sound.specs.Memory.Replies.{IsAnswerBy, IsRightReplyBy, HasRightReplyBy}
 use Rattle.bz_sound.specs.Memory.Spent.{IsSpent}
 use Rattle.bz_sound.proofs.Memory.Marks.{each-at}
 use Rattle.bz_sound.proofs.Memory.NeverTold.{never-full}
 use Rattle.bz_sound.proofs.Memory.Settled.{after-flush}
+use Rattle.bz_sound.proofs.Memory.Standing.{MayStand, CallsStand, Stands, unbroken-stands}
 
 pub effects-directly : EffectsComeDirectly
-effects-directly c log moment w n sound h is = after-flush _ log.past moment w n sound.once h is
+effects-directly c log moment w n sound h is = after-flush _ log.past moment w n (unbroken-stands c log sound).once h is
 
 pub acts-of-open-calls : ActsAreOfOpenCalls
 acts-of-open-calls c log moment w sound h = record {
@@ -60,7 +60,7 @@ effect-last true w past (Some other) opened is before =
     record { worker = (before other refl).worker; last = sym number ∙ (before other refl).last }
 effect-last false w past rest opened is before = before opened is
 
-pub last-call : (start : Map) (past : List Mark) (w : ℕ) (opened : Open) → CallsOnce start past → open_call w past ≡ Some opened → IsLastCall past w opened
+pub last-call : (start : Map) (past : List Mark) (w : ℕ) (opened : Open) → CallsStand start past → open_call w past ≡ Some opened → IsLastCall past w opened
 last-call start [] w opened once is = absurd (cc)
 last-call start (Begin v n call ∷ past) w opened once is =
     let last : (1 ≤ w) × (opened.number ≡ (if v == w then begun_calls w past + 1 else begun_calls w past)) = begin-last (v == w) v w n past call opened refl once.0.0 once.0.1.numbered is (last-call start past w opened once.1) in
@@ -77,25 +77,27 @@ last-call start (mark ∷ past) w opened once is =
     record { worker = last.worker; last = last.last }
 
 pub calls-are-last : OpenCallsAreLast
-calls-are-last c log w opened sound is = last-call _ log.past w opened sound.once is
+calls-are-last c log w opened sound is = last-call _ log.past w opened (unbroken-stands c log sound).once is
 
 -- the call that an End ends, with its reply
-pub record EndsCall (c : Config) (start : List ℕ) (pages : Pages) (past : List Mark) (w n : ℕ) (reply : Reply) (at : ℕ) : Type 0 where
+pub record EndsCall (Cause : List Mark → ℕ → Open → Spent → Type 0) (c : Config) (start : List ℕ) (pages : Pages) (past : List Mark) (w n : ℕ) (reply : Reply) (at : ℕ) : Type 0 where
   pub opened : Open
   pub is_open : open_call w past ≡ Some opened
   pub number : opened.number ≡ n
-  pub right : IsRightReply c start pages past (record { worker = w; opened = opened; reply = reply; at = at })
+  pub right : IsRightReplyBy (Cause past w opened) c start pages past (record { worker = w; opened = opened; reply = reply; at = at })
 
-pub ended : (c : Config) (log : Log) (moment w n at : ℕ) (reply : Reply) → IsSound c log → moment < length log.past → mark_at moment log.past ≡ Some (End w n reply at)
-    → EndsCall c log.start log.pages (at_moment moment log.past) w n reply at
-ended c log moment w n at reply sound h is =
-    let may = each-at (MayFollow (map_at_start c log.start)) log.past moment (End w n reply at) sound.once h is in
-    let right = each-at (HasRightReply c log.start log.pages) log.past moment (End w n reply at) sound.replies h is in
+pub ended : (Cause : List Mark → ℕ → Open → Spent → Type 0) (c : Config) (log : Log) (moment w n at : ℕ) (reply : Reply) → Stands Cause c log → moment < length log.past
+    → mark_at moment log.past ≡ Some (End w n reply at) → EndsCall Cause c log.start log.pages (at_moment moment log.past) w n reply at
+ended Cause c log moment w n at reply stands h is =
+    let may = each-at (MayStand (map_at_start c log.start)) log.past moment (End w n reply at) stands.once h is in
+    let right = each-at (HasRightReplyBy Cause c log.start log.pages) log.past moment (End w n reply at) stands.replies h is in
     record { opened = may.opened; is_open = may.is_open; number = may.number; right = rw may.is_open at right }
 
-pub ends-within : EndsLieWithinTheirCalls
-ends-within c log moment w n at reply sound h is =
-    let e : EndsCall c log.start log.pages (at_moment moment log.past) w n reply at = ended c log moment w n at reply sound h is in
+-- the moment that an End names lies within its call
+pub lies-within : (Cause : List Mark → ℕ → Open → Spent → Type 0) (c : Config) (log : Log) (moment w n at : ℕ) (reply : Reply) → Stands Cause c log → moment < length log.past
+    → mark_at moment log.past ≡ Some (End w n reply at) → LiesWithin log.past w n at moment
+lies-within Cause c log moment w n at reply stands h is =
+    let e : EndsCall Cause c log.start log.pages (at_moment moment log.past) w n reply at = ended Cause c log moment w n at reply stands h is in
     let size : length (at_moment moment log.past) ≡ moment = length-at_moment moment log.past (omega arith) in
     let early : e.opened.begun < moment = omega (arith, size, began_before w (at_moment moment log.past) e.opened e.is_open) in
     record {
@@ -107,13 +109,16 @@ ends-within c log moment w n at reply sound h is =
       before_end = rw size at e.right.before_end;
     }
 
-full-cause : (c : Config) (start : List ℕ) (pages : Pages) (past : List Mark) (w at : ℕ) (spent : Spent) (opened : Open) (effect : Option ℕ)
-    → IsAnswer c start pages past (record { worker = w; opened = opened; reply = Full spent; at = at }) effect (Full spent) → (effect ≡ None) × IsSpent c start past w opened spent
-full-cause c start pages past w at spent opened None full = (refl, full.cause)
-full-cause c start pages past w at spent opened (Some effect) full = absurd (never-full _ _ opened.call spent full.answers)
+pub ends-within : EndsLieWithinTheirCalls
+ends-within c log moment w n at reply sound h is = lies-within (IsSpent c log.start) c log moment w n at reply (unbroken-stands c log sound) h is
+
+pub full-cause : (Cause : Spent → Type 0) (c : Config) (start : List ℕ) (pages : Pages) (past : List Mark) (w at : ℕ) (spent : Spent) (opened : Open) (effect : Option ℕ)
+    → IsAnswerBy Cause c start pages past (record { worker = w; opened = opened; reply = Full spent; at = at }) effect (Full spent) → (effect ≡ None) × Cause spent
+full-cause Cause c start pages past w at spent opened None full = (refl, full.cause)
+full-cause Cause c start pages past w at spent opened (Some effect) full = absurd (never-full _ _ opened.call spent full.answers)
 
 pub full-has-cause : FullHasACause
 full-has-cause c log moment w n at spent sound h is =
-    let e : EndsCall c log.start log.pages (at_moment moment log.past) w n (Full spent) at = ended c log moment w n at (Full spent) sound h is in
-    let cause = full-cause c log.start log.pages (at_moment moment log.past) w at spent e.opened e.opened.effect e.right.right in
+    let e : EndsCall (IsSpent c log.start) c log.start log.pages (at_moment moment log.past) w n (Full spent) at = ended (IsSpent c log.start) c log moment w n at (Full spent) (unbroken-stands c log sound) h is in
+    let cause = full-cause (IsSpent c log.start (at_moment moment log.past) w e.opened) c log.start log.pages (at_moment moment log.past) w at spent e.opened e.opened.effect e.right.right in
     record { opened = e.opened; is_open = e.is_open; quiet = cause.0; cause = cause.1 }

@@ -62,15 +62,15 @@ pub record SameCall (h k : Happening) : Type 0 where
   pub worker : h.worker ≡ k.worker
   pub number : h.opened.number ≡ k.opened.number
 
--- the calls that happened are steps of one map, in the order of their moments
-pub record IsOneHistory (c : Config) (log : Log) : Type 0 where
+-- these calls are steps of one map, in the order of their moments
+pub record AreSteps (Happened : Happening → Type 0) (c : Config) (log : Log) : Type 0 where
   -- every End but that of a Full is one of a call that happened
   pub ends : (moment w n at : ℕ) (reply : Reply) → moment < length log.past → mark_at moment log.past ≡ Some (End w n reply at) → IsNoFull reply →
       EndHappens log.past moment w n at reply
   -- no two calls happen at one moment
-  pub alone : (h k : Happening) → Happens log.past h → Happens log.past k → h.at ≡ k.at → SameCall h k
+  pub alone : (h k : Happening) → Happened h → Happened k → h.at ≡ k.at → SameCall h k
   -- a call takes the map from its moment to the next by its own step
-  pub steps : (h : Happening) → Happens log.past h →
+  pub steps : (h : Happening) → Happened h →
       map_at (map_at_start c log.start) (h.at + 1) log.past ≡ (apply (map_at (map_at_start c log.start) h.at log.past) h.opened.call).map
   -- its reply is that of the step, and its page one of the map there
   pub replies : (h : Happening) (moment : ℕ) (reply : Reply) → EndedCall log.past h moment reply → names_page reply ≡ false →
@@ -78,10 +78,14 @@ pub record IsOneHistory (c : Config) (log : Log) : Type 0 where
   pub pages : (h : Happening) (moment page : ℕ) (next : Option (List ℕ)) → EndedCall log.past h moment (Page page next) →
       ShowsRange log.pages (map_at (map_at_start c log.start) h.at log.past) h.opened.call page next
   -- where none happens, the map stays
-  pub still : (moment : ℕ) → moment < length log.past → ((h : Happening) → Happens log.past h → h.at ≡ moment → ⊥) →
+  pub still : (moment : ℕ) → moment < length log.past → ((h : Happening) → Happened h → h.at ≡ moment → ⊥) →
       map_at (map_at_start c log.start) (moment + 1) log.past ≡ map_at (map_at_start c log.start) moment log.past
   -- a call that ended before another began happened before it
-  pub order : (h k : Happening) (moment : ℕ) (reply : Reply) → EndedCall log.past h moment reply → Happens log.past k → moment < k.opened.begun → h.at < k.at
+  pub order : (h k : Happening) (moment : ℕ) (reply : Reply) → EndedCall log.past h moment reply → Happened k → moment < k.opened.begun → h.at < k.at
+
+-- the calls that happened are
+abbrev pub IsOneHistory : Config → Log → Type 0
+IsOneHistory c log = AreSteps (Happens log.past) c log
 
 -- so they are in every sound journal
 abbrev pub OneHistory : Type 0

@@ -1,9 +1,10 @@
 -- What the image of a moment says of replies and effects.
-use Rattle.std.specs.Prelude.{◌≡◌, ◌≢◌, false, ◌<◌, ◌≤◌, ℕ, true, if◌then◌else◌, bytes_eq, List, [], ◌∷◌, ◌++◌, length, Option, Some, None}
+use Rattle.std.specs.Prelude.{◌≡◌, ◌≢◌, false, ◌<◌, ◌≤◌, ℕ, Bool, true, if◌then◌else◌, bytes_eq, List, [], ◌∷◌, ◌++◌, length, Option, Some, None}
 use Rattle.std.specs.Ordering.{nat_cmp}
 use Rattle.std.specs.Cmp.Lexicographic.{slice_cmp}
 use Rattle.std.specs.FinMap.{find, is_sorted}
 use Rattle.bz_layout.specs.declared.config.Config.{Config}
+use Rattle.bz_layout.specs.declared.thresholds.TheConstants.{SPLIT_SLOTS}
 use Rattle.bz_content.specs.Content.{image_fault, content_in, leaf_end_in}
 use Rattle.bz_call.specs.Map.{key_of, apply, apply_at}
 use Rattle.bz_call.specs.declared.calls.Call.{Call}
@@ -19,8 +20,8 @@ use Rattle.bz_mark.specs.declared.marks.Mark.TheVariants.{Effect}
 use Rattle.bz_sound.specs.Calls.{Open, open_call, map_after, map_at}
 use Rattle.bz_sound.specs.Memory.Moments.{image_after, image_at, map_at_start, Decodes, IsAfterLoad, IsAfterFlush}
 use Rattle.bz_sound.specs.Memory.Calls.{HasOpenCall, MayFollow}
-use Rattle.bz_sound.specs.Memory.Spent.{is_taken, IsSpent}
-use Rattle.bz_sound.specs.Memory.Replies.{IsWrite, IsRightReply, is_within}
+use Rattle.bz_sound.specs.Memory.Spent.{is_taken, is_used, LacksSlot, IsSpent}
+use Rattle.bz_sound.specs.Memory.Replies.{IsWrite, IsRightReply, IsRightReplyBy, is_within}
 use Rattle.bz_sound.specs.Memory.Sound.{IsSound}
 
 -- an open call that has no Effect, and a moment of it that stands directly after a load of its worker
@@ -31,18 +32,21 @@ pub record ReadsAt (past : List Mark) (w : ℕ) (opened : Open) (at : ℕ) : Typ
   pub before_end : at ≤ length past
   pub loaded : IsAfterLoad w (at_moment at past)
 
--- the right reply there, by what the image has for the key
-pub record ImageAnswers (c : Config) (log : Log) (w : ℕ) (opened : Open) (at : ℕ) : Type 0 where
+-- the right reply there, by what the image has for the key, whatever causes a Full
+pub record ImageAnswersBy (Cause : Spent → Type 0) (c : Config) (log : Log) (w : ℕ) (opened : Open) (at : ℕ) : Type 0 where
   pub exists : (key payload had : List ℕ) → opened.call ≡ call.Insert key payload → content_in c (image_at log.start at log.past) key ≡ Some had →
-      IsRightReply c log.start log.pages log.past (record { worker = w; opened = opened; reply = Exists; at = at })
+      IsRightReplyBy Cause c log.start log.pages log.past (record { worker = w; opened = opened; reply = Exists; at = at })
   pub value : (key had : List ℕ) → opened.call ≡ call.Get key → content_in c (image_at log.start at log.past) key ≡ Some had →
-      IsRightReply c log.start log.pages log.past (record { worker = w; opened = opened; reply = Value had; at = at })
+      IsRightReplyBy Cause c log.start log.pages log.past (record { worker = w; opened = opened; reply = Value had; at = at })
   pub no_value : (key : List ℕ) → opened.call ≡ call.Get key → content_in c (image_at log.start at log.past) key ≡ None →
-      IsRightReply c log.start log.pages log.past (record { worker = w; opened = opened; reply = Missing; at = at })
+      IsRightReplyBy Cause c log.start log.pages log.past (record { worker = w; opened = opened; reply = Missing; at = at })
   pub no_delete : (key : List ℕ) → opened.call ≡ call.Delete key → content_in c (image_at log.start at log.past) key ≡ None →
-      IsRightReply c log.start log.pages log.past (record { worker = w; opened = opened; reply = Missing; at = at })
+      IsRightReplyBy Cause c log.start log.pages log.past (record { worker = w; opened = opened; reply = Missing; at = at })
   pub no_update : (key payload : List ℕ) → opened.call ≡ call.Update key payload → content_in c (image_at log.start at log.past) key ≡ None →
-      IsRightReply c log.start log.pages log.past (record { worker = w; opened = opened; reply = Missing; at = at })
+      IsRightReplyBy Cause c log.start log.pages log.past (record { worker = w; opened = opened; reply = Missing; at = at })
+
+abbrev pub ImageAnswers : Config → Log → ℕ → Open → ℕ → Type 0
+ImageAnswers c log w opened at = ImageAnswersBy (IsSpent c log.start log.past w opened) c log w opened at
 
 -- what the image has at such a moment answers a call
 abbrev pub AnswersComeFromTheImage : Type 0
@@ -111,14 +115,30 @@ pub record IsOther (c : Config) (past : List Mark) (w v : ℕ) : Type 0 where
   pub calls : HasOpenCall past v
 
 -- each descriptor that is not taken is held by such a worker, and each of these holds one at most
-pub record AreHeld (c : Config) (past : List Mark) (w : ℕ) (holder : ℕ → ℕ) : Type 0 where
-  pub held : (swap : ℕ) → swap < c.swaps → is_taken swap past ≡ false → IsOther c past w (holder swap)
-  pub one_each : (swap other : ℕ) → swap < c.swaps → other < c.swaps → is_taken swap past ≡ false → is_taken other past ≡ false → holder swap ≡ holder other → swap ≡ other
+pub record AreHeldBy (taken : ℕ → Bool) (c : Config) (past : List Mark) (w : ℕ) (holder : ℕ → ℕ) : Type 0 where
+  pub held : (swap : ℕ) → swap < c.swaps → taken swap ≡ false → IsOther c past w (holder swap)
+  pub one_each : (swap other : ℕ) → swap < c.swaps → other < c.swaps → taken swap ≡ false → taken other ≡ false → holder swap ≡ holder other → swap ≡ other
+
+abbrev pub AreHeld : Config → List Mark → ℕ → (ℕ → ℕ) → Type 0
+AreHeld c past w holder = AreHeldBy (λ swap. is_taken swap past) c past w holder
 
 -- then descriptors are spent
 abbrev pub HeldSwapsAreSpent : Type 0
 HeldSwapsAreSpent =
     (c : Config) (start : List ℕ) (past : List Mark) (w : ℕ) (opened : Open) (holder : ℕ → ℕ) → AreHeld c past w holder → IsSpent c start past w opened Swaps
+
+-- each slot that is not used is held by another worker with an open call, at a place of its own, of as many as a split takes
+pub record AreSlotsHeldBy (used : ℕ → Bool) (c : Config) (past : List Mark) (w : ℕ) (holder place : ℕ → ℕ) : Type 0 where
+  pub held : (slot : ℕ) → slot < c.nodes → used slot ≡ false → IsOther c past w (holder slot)
+  pub placed : (slot : ℕ) → slot < c.nodes → used slot ≡ false → place slot < SPLIT_SLOTS
+  pub one_each : (slot other : ℕ) → slot < c.nodes → other < c.nodes → used slot ≡ false → used other ≡ false → holder slot ≡ holder other → place slot ≡ place other → slot ≡ other
+
+abbrev pub AreSlotsHeld : Config → List ℕ → List Mark → ℕ → (ℕ → ℕ) → (ℕ → ℕ) → Type 0
+AreSlotsHeld c start past w holder place = AreSlotsHeldBy (λ slot. is_used c start past slot) c past w holder place
+
+-- then none is left for a copy
+abbrev pub HeldSlotsAreSpent : Type 0
+HeldSlotsAreSpent = (c : Config) (start : List ℕ) (past : List Mark) (w : ℕ) (holder place : ℕ → ℕ) → AreSlotsHeld c start past w holder place → LacksSlot c start past w
 
 -- where a flush or an eviction leaves the content, the words decode as before
 abbrev pub SameContentDecodes : Type 0

@@ -63,11 +63,11 @@ IsWrite (Get key) = ⊥
 IsWrite (Page key) = ⊥
 IsWrite call = Unit {0}
 
--- the call may change the map, its End is the moment, and what the reply names is spent
-pub record IsFull (c : Config) (start : List ℕ) (past : List Mark) (answer : Answer) (spent : Spent) : Type 0 where
+-- the call may change the map, its End is the moment, and what the reply names is spent: it has this cause
+pub record IsFullBy (Cause : Type 0) (past : List Mark) (answer : Answer) : Type 0 where
   pub now : answer.at ≡ length past
   pub writes : IsWrite answer.opened.call
-  pub cause : IsSpent c start past answer.worker answer.opened spent
+  pub cause : Cause
 
 -- directly before its Effect the map answers the call so
 pub record IsEffective (c : Config) (start : List ℕ) (past : List Mark) (answer : Answer) (effect : ℕ) : Type 0 where
@@ -75,23 +75,33 @@ pub record IsEffective (c : Config) (start : List ℕ) (past : List Mark) (answe
   pub answers : (apply (map_at (map_at_start c start) answer.at past) answer.opened.call).reply ≡ Some answer.reply
 
 -- a call that has an Effect is answered there; one that has none by a load, unless something is spent
-abbrev pub IsAnswer : Config → List ℕ → Pages → List Mark → Answer → Option ℕ → Reply → Type 0
-IsAnswer c start pages past answer (Some effect) reply = IsEffective c start past answer effect
-IsAnswer c start pages past answer None (reply.Page page next) = IsPageRead c start pages past answer page next
-IsAnswer c start pages past answer None (reply.Full spent) = IsFull c start past answer spent
-IsAnswer c start pages past answer None reply = IsRead c start past answer
+abbrev pub IsAnswerBy : (Spent → Type 0) → Config → List ℕ → Pages → List Mark → Answer → Option ℕ → Reply → Type 0
+IsAnswerBy Cause c start pages past answer (Some effect) reply = IsEffective c start past answer effect
+IsAnswerBy Cause c start pages past answer None (reply.Page page next) = IsPageRead c start pages past answer page next
+IsAnswerBy Cause c start pages past answer None (reply.Full spent) = IsFullBy (Cause spent) past answer
+IsAnswerBy Cause c start pages past answer None reply = IsRead c start past answer
 
 -- the moment lies after the call's Begin and not after its End
-pub record IsRightReply (c : Config) (start : List ℕ) (pages : Pages) (past : List Mark) (answer : Answer) : Type 0 where
+pub record IsRightReplyBy (Cause : Spent → Type 0) (c : Config) (start : List ℕ) (pages : Pages) (past : List Mark) (answer : Answer) : Type 0 where
   pub after_begin : answer.opened.begun < answer.at
   pub before_end : answer.at ≤ length past
-  pub right : IsAnswer c start pages past answer answer.opened.effect answer.reply
+  pub right : IsAnswerBy Cause c start pages past answer answer.opened.effect answer.reply
 
--- an End has the right reply to the open call of its worker
+-- an End has the right reply to the open call of its worker, where causes are told by the marks, the worker and its call
+abbrev pub HasRightReplyBy : (List Mark → ℕ → Open → Spent → Type 0) → Config → List ℕ → Pages → List Mark → Mark → Type 0
+HasRightReplyBy Cause c start pages past (End w n reply at) =
+    IsSomeAnd (open_call w past) (λ opened. IsRightReplyBy (Cause past w opened) c start pages past (record { worker = w; opened = opened; reply = reply; at = at }))
+HasRightReplyBy Cause c start pages past mark = Unit {0}
+
+-- the same with the causes of this stage
+abbrev pub IsAnswer : Config → List ℕ → Pages → List Mark → Answer → Option ℕ → Reply → Type 0
+IsAnswer c start pages past answer effect reply = IsAnswerBy (IsSpent c start past answer.worker answer.opened) c start pages past answer effect reply
+
+abbrev pub IsRightReply : Config → List ℕ → Pages → List Mark → Answer → Type 0
+IsRightReply c start pages past answer = IsRightReplyBy (IsSpent c start past answer.worker answer.opened) c start pages past answer
+
 abbrev pub HasRightReply : Config → List ℕ → Pages → List Mark → Mark → Type 0
-HasRightReply c start pages past (End w n reply at) =
-    IsSomeAnd (open_call w past) (λ opened. IsRightReply c start pages past (record { worker = w; opened = opened; reply = reply; at = at }))
-HasRightReply c start pages past mark = Unit {0}
+HasRightReply c start pages past mark = HasRightReplyBy (IsSpent c start) c start pages past mark
 
 -- each End's reply is right
 abbrev pub RepliesAreRight : Config → List ℕ → Pages → List Mark → Type 0

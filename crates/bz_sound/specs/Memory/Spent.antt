@@ -1,42 +1,57 @@
 -- What must have run out where a call answers Full. The newest mark stands first.
-use Rattle.std.specs.Prelude.{◌≤◌, ◌<◌, ◌+◌, ◌==◌, ◌&&◌, ◌||◌, not, ℕ, Bool, false, List, [], ◌∷◌, length, is_some, count_by}
+use Rattle.std.specs.Prelude.{◌≤◌, ◌<◌, ◌+◌, ◌*◌, ◌==◌, ◌&&◌, ◌||◌, ◌⊎◌, ◌≡◌, not, nat_lt, nat_le, ℕ, Bool, true, false, List, [], ◌∷◌, length, slice_index, is_some, count_by}
 use Rattle.std.specs.List.{range_with_len}
-use Rattle.bz_layout.specs.Addresses.{swap_address}
+use Rattle.bz_layout.specs.Addresses.{swap_address, node_address, slot_of}
 use Rattle.bz_layout.specs.declared.config.Config.{Config}
-use Rattle.bz_layout.specs.declared.sizes.TheConstants.{SHARED_WORDS, SWAP_STATUS_AT}
+use Rattle.bz_layout.specs.declared.sizes.TheConstants.{SWAP_STATUS_AT}
+use Rattle.bz_layout.specs.declared.thresholds.TheConstants.{CONSOLIDATION_SLOTS, SPLIT_ABOVE, SPLIT_SLOTS}
+use Rattle.bz_shape.specs.Walk.{form}
 use Rattle.bz_slotted.specs.Page.{Page, page}
-use Rattle.bz_content.specs.Content.{leaf_in}
+use Rattle.bz_slotted.specs.Records.{live_words}
+use Rattle.bz_content.specs.Content.{leaf_in, view_in}
 use Rattle.bz_content.specs.Image.{node}
 use Rattle.bz_content.specs.Resolving.{resolve}
 use Rattle.bz_call.specs.Map.{key_of}
-use Rattle.bz_call.specs.declared.calls.Call.{Call}
-use Rattle.bz_call.specs.declared.calls.Call.TheVariants.{Insert, Update, Upsert}
 use Rattle.bz_call.specs.declared.replies.Spent.{Spent}
 use Rattle.bz_call.specs.declared.replies.Spent.TheVariants.{Nodes, Swaps, Height}
 use Rattle.bz_mark.specs.declared.marks.Mark.{Mark}
 use Rattle.bz_mark.specs.declared.marks.Mark.TheVariants.{Store}
 use Rattle.bz_sound.specs.Calls.{Open, open_call}
-use Rattle.bz_sound.specs.Room.{record_words}
 use Rattle.bz_sound.specs.Memory.Moments.{image_at}
 
 -- the leaf of a key in an image
 abbrev pub leaf_page : Config → (ℕ → ℕ) → List ℕ → Page
 leaf_page c image key = page (node c (resolve image) (leaf_in c image key))
 
--- Metadata words, block and the words of a pair's record are more than a leaf has. An update asks for the block
--- words of its new record and one free word, which are as many.
-abbrev pub LacksRoom : Page → Call → Type 0
-LacksRoom leaf (Insert key payload) = SHARED_WORDS < leaf.count + leaf.block + record_words (key, payload)
-LacksRoom leaf (Update key payload) = SHARED_WORDS < leaf.count + leaf.block + record_words (key, payload)
-LacksRoom leaf (Upsert key payload) = SHARED_WORDS < leaf.count + leaf.block + record_words (key, payload)
-LacksRoom leaf call = ⊥
-
--- at a moment of the call the leaf of its key had no room for its record
-pub record NodesAreSpent (c : Config) (start : List ℕ) (past : List Mark) (opened : Open) : Type 0 where
+-- at a moment of the call the leaf of its key was frozen, and had more live words than a copy is made of: it would have to be
+-- split
+pub record IsCrowded (c : Config) (start : List ℕ) (past : List Mark) (opened : Open) : Type 0 where
   pub moment : ℕ
   pub after_begin : opened.begun < moment
   pub before_end : moment ≤ length past
-  pub lacks : LacksRoom (leaf_page c (image_at start moment past) (key_of opened.call)) opened.call
+  pub frozen : (leaf_page c (image_at start moment past) (key_of opened.call)).frozen ≡ true
+  pub live : SPLIT_ABOVE < live_words (leaf_page c (image_at start moment past) (key_of opened.call))
+
+-- a slot of a node is reached in an image
+abbrev pub is_reached_in : Config → (ℕ → ℕ) → ℕ → Bool
+is_reached_in c image slot = nat_lt slot c.nodes && (form (view_in c image)).inside slot
+
+-- in that with which the journal starts
+abbrev pub is_reached_at_start : Config → List ℕ → ℕ → Bool
+is_reached_at_start c start slot = is_reached_in c (slice_index start) slot
+
+-- a worker, not that of recovery, has stored into a slot
+abbrev pub is_stored_into : Config → ℕ → List Mark → Bool
+is_stored_into c slot [] = false
+is_stored_into c slot (Store w a v ∷ past) = (not (w == 0) && (nat_le (node_address c 0) a && slot_of c a == slot)) || is_stored_into c slot past
+is_stored_into c slot (mark ∷ past) = is_stored_into c slot past
+
+-- how many slots are used: reached at the start, or stored into since
+abbrev pub is_used : Config → List ℕ → List Mark → ℕ → Bool
+is_used c start past slot = is_reached_at_start c start slot || is_stored_into c slot past
+
+abbrev pub count_used : Config → List ℕ → List Mark → ℕ
+count_used c start past = count_by (λ slot. is_used c start past slot) (range_with_len 0 c.nodes)
 
 -- the status of a swap that has begun
 abbrev pub BEGUN : ℕ
@@ -56,9 +71,18 @@ count_taken c past = count_by (λ swap. is_taken swap past) (range_with_len 0 c.
 abbrev pub count_others : Config → ℕ → List Mark → ℕ
 count_others c w past = count_by (λ v. not (v == w) && is_some (open_call v past)) (range_with_len 1 c.workers)
 
+-- the slots that are used, that of a consolidation and those that the other workers may have taken for splits are more than
+-- there are
+abbrev pub LacksSlot : Config → List ℕ → List Mark → ℕ → Type 0
+LacksSlot c start past w = c.nodes < count_used c start past + CONSOLIDATION_SLOTS + SPLIT_SLOTS * count_others c w past
+
+-- the leaf would have to be split, or no slot is left for its copy
+abbrev pub NodesAreSpent : Config → List ℕ → List Mark → ℕ → Open → Type 0
+NodesAreSpent c start past w opened = IsCrowded c start past opened ⊎ LacksSlot c start past w
+
 -- The cause of a Full that ends the open call of a worker now. Other workers may have taken a descriptor into which
 -- they have not stored yet. No tree of this stage is too high.
 abbrev pub IsSpent : Config → List ℕ → List Mark → ℕ → Open → Spent → Type 0
-IsSpent c start past w opened Nodes = NodesAreSpent c start past opened
+IsSpent c start past w opened Nodes = NodesAreSpent c start past w opened
 IsSpent c start past w opened Swaps = c.swaps ≤ count_taken c past + count_others c w past
 IsSpent c start past w opened Height = ⊥

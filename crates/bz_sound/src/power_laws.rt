@@ -1,0 +1,187 @@
+//! Laws over sound journals over a memory whose power fails and comes on again. Each function does nothing but call
+//! the laws that it follows from: its contract is the law.
+ghost use Rattle.bz_sound.specs.Power.CallLaws.{OpenCallsAreLast, OpenCallsLeaveRoom, ActsAreAllowed, EffectsComeDirectly, EffectsStandOnce, EndsLieWithinTheirCalls, ToldChangesTookEffect, FullHasACause};
+ghost use Rattle.bz_sound.specs.Power.CutLaws.{CutsLeave, PowerMarksLeave};
+ghost use Rattle.bz_sound.specs.Power.Example.{WorkedCuts};
+ghost use Rattle.bz_sound.specs.Power.Growth.{FreshJournalsAreSound, QuietActsFollow, FlushesFollow, EffectsFollowActs, BeginsFollow, EndsFollow, PageEndsFollow, LoadsAreSettled};
+ghost use Rattle.bz_sound.specs.Power.History.{OneHistory};
+ghost use Rattle.bz_sound.specs.Power.ImageLaws.{AnswersComeFromTheImage, PagesComeFromTheImage, ChangesFollow, SameContentDecodes, EffectsAnswer, SpentAnswersFull, HeldSwapsAreSpent, HeldSlotsAreSpent};
+ghost use Rattle.bz_sound.specs.Power.Laws.{SoundAsBefore, PowerTellsWhatFollows, PowerMarksStand, CutsFollow, OnsFollow, ReadysFollow};
+
+/// Without a power cut a journal is sound exactly where it is by the definitions that have none.
+pub fn sound_as_before()
+    ensures { SoundAsBefore }
+{}
+
+/// The power tells which mark may follow: after a Cut nothing but an On, and an On nowhere else.
+pub fn power_tells_what_follows()
+    ensures { PowerTellsWhatFollows }
+{}
+
+/// So each Cut, On, Ready and Begin of a sound journal stands where the power is as it asks.
+pub fn power_marks_stand()
+    ensures { PowerMarksStand }
+{}
+
+/// A power cut keeps a journal sound, wherever the power is not off.
+pub fn cuts_follow()
+    ensures { CutsFollow }
+{}
+
+/// So does an On after a cut.
+pub fn ons_follow()
+    ensures { OnsFollow }
+{}
+
+/// What a cut leaves: the durable words, the map, and the calls that happened.
+pub fn cuts_leave()
+    ensures { CutsLeave }
+{}
+
+/// Power on and the end of recovery leave words, map and open calls.
+pub fn power_marks_leave()
+    ensures { PowerMarksLeave }
+{}
+
+/// So does the end of recovery directly after an act of worker 0.
+pub fn readys_follow()
+    ensures { ReadysFollow }
+{}
+
+/// A journal without marks over a well-formed image is sound.
+pub fn fresh_journals_are_sound()
+    ensures { FreshJournalsAreSound }
+{
+    bz_content::laws::well_formed_images_have_no_fault();
+    bz_content::laws::map_is_the_content();
+}
+
+/// A load, store or compare-and-swap keeps a journal sound, worker 0's in recovery among them.
+pub fn quiet_acts_follow()
+    ensures { QuietActsFollow }
+{}
+
+/// So does a flush or an eviction after which the durable words decode to the map.
+pub fn flushes_follow()
+    ensures { FlushesFollow }
+{}
+
+/// So does a flush or an eviction with the Effect that names what it changed.
+pub fn effects_follow_acts()
+    ensures { EffectsFollowActs }
+{}
+
+/// So does the Begin of a call with the power on.
+pub fn begins_follow()
+    ensures { BeginsFollow }
+{}
+
+/// So does an End with a right reply.
+pub fn ends_follow()
+    ensures { EndsFollow }
+{}
+
+/// So does an End that names the page which comes with it.
+pub fn page_ends_follow()
+    ensures { PageEndsFollow }
+{}
+
+/// Directly after a load the durable words decode to the map.
+pub fn loads_are_settled()
+    ensures { LoadsAreSettled }
+{}
+
+/// An open call is the last that its worker began, and the worker is not 0.
+pub fn open_calls_are_last()
+    ensures { OpenCallsAreLast }
+{}
+
+/// While a call is open there is room for its End, and for its page if it asks for one.
+pub fn open_calls_leave_room()
+    ensures { OpenCallsLeaveRoom }
+{}
+
+/// Acts are of worker 0 in recovery, and of workers whose call is open.
+pub fn acts_are_allowed()
+    ensures { ActsAreAllowed }
+{}
+
+/// An Effect stands directly after a flush or an eviction.
+pub fn effects_come_directly()
+    ensures { EffectsComeDirectly }
+{}
+
+/// No call takes effect twice.
+pub fn effects_stand_once()
+    ensures { EffectsStandOnce }
+{}
+
+/// The moment that an End names lies after the Begin of its call and not after the End.
+pub fn ends_lie_within_their_calls()
+    ensures { EndsLieWithinTheirCalls }
+{}
+
+/// A call that tells of a key inserted or deleted took effect.
+pub fn told_changes_took_effect()
+    ensures { ToldChangesTookEffect }
+{}
+
+/// A Full changed nothing and has a cause since the power came on.
+pub fn full_has_a_cause()
+    ensures { FullHasACause }
+{}
+
+/// What the image has there for a key gives the right reply.
+pub fn answers_come_from_the_image()
+    ensures { AnswersComeFromTheImage }
+{}
+
+/// What the image has there in a leaf gives the right page.
+pub fn pages_come_from_the_image()
+    ensures { PagesComeFromTheImage }
+{}
+
+/// A flush or an eviction that changes the content as an open call does is followed by its Effect.
+pub fn changes_follow()
+    ensures { ChangesFollow }
+{}
+
+/// One that leaves the content, as each does in recovery, needs no Effect.
+pub fn same_content_decodes()
+    ensures { SameContentDecodes }
+{}
+
+/// A call that has an Effect is answered by the map directly before it.
+pub fn effects_answer()
+    ensures { EffectsAnswer }
+{}
+
+/// A call without one is answered Full where something is spent since the power came on.
+pub fn spent_answers_full()
+    ensures { SpentAnswersFull }
+{}
+
+/// Descriptors are spent where each is taken since then or held by another worker with an open call.
+pub fn held_swaps_are_spent()
+    ensures { HeldSwapsAreSpent }
+{}
+
+/// Slots are spent where each is used or held by another worker with an open call.
+pub fn held_slots_are_spent()
+    ensures { HeldSlotsAreSpent }
+{}
+
+/// The calls of a sound journal, those among them that a cut ended after their Effect, are one history of one map.
+pub fn one_history()
+    ensures { OneHistory }
+{}
+
+/// Small journals with power cuts that were worked out by hand are sound, and those that differ from them in one
+/// thing are not.
+pub fn worked_cuts_are_sound()
+    ensures { WorkedCuts }
+{
+    bz_content::laws::well_formed_images_have_no_fault();
+    bz_content::laws::map_is_the_content();
+    bz_content::laws::worked_insert_reads();
+}
