@@ -1,6 +1,7 @@
 -- A reading of a leaf as a task.
 use Rattle.std.specs.Prelude.{ℕ, Option}
 use Rattle.bz_layout.specs.declared.config.Config.{Config}
+use Rattle.bz_task.specs.Outcomes.{IsPath}
 use Rattle.bz_task.specs.Scene.{Scene, Stage}
 use Rattle.bz_task.specs.declared.todo.Outcome.{Outcome}
 use Rattle.bz_task.specs.declared.todo.Seen.{Seen}
@@ -21,10 +22,10 @@ abbrev pub left_of : ReadLeaf → ℕ
 left_of t = leaf_left t.phase
 
 abbrev pub facts_of : ReadLeaf → Stage → Scene → Type 0
-facts_of t = leaf_facts t.key t.link t.image.0 t.phase
+facts_of t stage s = leaf_facts t.key t.link t.image.0 t.phase stage s × IsPath t.key t.path s.past
 
 abbrev pub means_of : ReadLeaf → Outcome → Scene → Type 0
-means_of t = leaf_means t.key
+means_of t = leaf_means t.key t.path
 
 abbrev pub differs_of : ReadLeaf → Seen → Type 0
 differs_of t = leaf_differs t.link t.image.0 t.phase

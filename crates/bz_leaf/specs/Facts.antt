@@ -6,10 +6,11 @@ use Rattle.bz_layout.specs.declared.sizes.TheConstants.{NODE_WORDS, STATUS_AT, M
 use Rattle.bz_shape.specs.Order.{is_within}
 use Rattle.bz_word.specs.Statuses.{status}
 use Rattle.bz_task.specs.Instant.{words, is_inside, form_at}
-use Rattle.bz_task.specs.Outcomes.{IsUnderRoot, IsUnderNode, IsView}
+use Rattle.bz_task.specs.Outcomes.{IsPath, IsUnderRoot, IsUnderNode, IsView}
 use Rattle.bz_task.specs.Scene.{Past, Scene, Stage, Waiting, Took, HasFilled}
 use Rattle.bz_task.specs.Swaps.{Change}
 use Rattle.bz_task.specs.declared.path.Link.{Link}
+use Rattle.bz_task.specs.declared.path.Path.{Path}
 use Rattle.bz_node.specs.declared.image.NodeImage.{NodeImage}
 use Rattle.bz_task.specs.declared.todo.Outcome.{Outcome}
 use Rattle.bz_task.specs.declared.todo.Outcome.TheVariants.{View, Restart}
@@ -135,11 +136,11 @@ leaf_facts key link ws phase Took s = ⊥
 leaf_facts key link ws Fresh Waiting s = IsBlank ws × IsKnownLeaf key link s.past
 leaf_facts key link ws phase Waiting s = HasFilled s × leaf_learnt key link ws phase s.past
 
--- what its end means
-abbrev pub leaf_means : List ℕ → Outcome → Scene → Type 0
-leaf_means key (View view) s = IsView key view s.past
-leaf_means key Restart s = Unit {0}
-leaf_means key outcome s = ⊥
+-- what its end means: the view is one of the key, and so is still the path to it
+abbrev pub leaf_means : List ℕ → Path → Outcome → Scene → Type 0
+leaf_means key path (View view) s = IsView key view s.past × IsPath key path s.past
+leaf_means key path Restart s = Unit {0}
+leaf_means key path outcome s = ⊥
 
 -- a validating load found another value: another status, another link, or a guard that is frozen
 abbrev pub leaf_differs : Link → List ℕ → Phase → Seen → Type 0

@@ -22,6 +22,8 @@ use bz_task::{LeafView, Link, Outcome, Path, Seen, Task, Todo, laws};
 pub struct ReadLeaf {
     config: Config,
     key: Key,
+    // the way to the leaf, and its last link
+    path: Path,
     link: Link,
     // the words that were read so far; the others are 0
     image: NodeImage,
@@ -39,6 +41,7 @@ impl ReadLeaf {
         ensures needs { ⟦<ReadLeaf as Task>⟧.needs result ≡ 0 }
         ensures facts { (s : Scene) → IsScene s → IsPath key path s.past → ⟦<ReadLeaf as Task>⟧.facts result Waiting s }
         ensures view { (view : LeafView) (s : Scene) → ⟦<ReadLeaf as Task>⟧.means result (Outcome.View view) s → IsView key view s.past }
+        ensures leads { (view : LeafView) (s : Scene) → ⟦<ReadLeaf as Task>⟧.means result (Outcome.View view) s → IsPath key path s.past }
         ensures none { (path : Path) (s : Scene) → ⟦<ReadLeaf as Task>⟧.means result (Outcome.Path path) s → ⊥ }
     {
         laws::fronts_stay();
@@ -47,6 +50,7 @@ impl ReadLeaf {
             config: *config,
             key,
             link: last_link(&path),
+            path,
             image: blank(),
             phase: Phase::Fresh,
         }
@@ -67,10 +71,11 @@ impl ReadLeaf {
     // The phase after what came of the last act; a word that was read is kept.
     fn after(&mut self, seen: Seen, moment: u32) -> Phase
         requires hears { Hears (leaf_asks self.old.config self.old.link self.old.image self.old.phase) seen }
-        requires known { IsKnown self.old.config (leaf_facts self.old.key self.old.link self.old.image.0 self.old.phase) (leaf_asks self.old.config self.old.link self.old.image self.old.phase) seen moment }
+        requires known { IsKnown self.old.config (facts_of self.old) (leaf_asks self.old.config self.old.link self.old.image self.old.phase) seen moment }
         ensures config { self.new.config ≡ self.old.config }
         ensures key { self.new.key ≡ self.old.key }
         ensures link { self.new.link ≡ self.old.link }
+        ensures path { self.new.path ≡ self.old.path }
         ensures nearer { leaf_left result < leaf_left self.old.phase }
         ensures restart { result ≡ Phase.Changed → leaf_differs self.old.link self.old.image.0 self.old.phase seen }
         ensures begun { result ≢ Phase.Fresh }
@@ -229,6 +234,7 @@ impl Task for ReadLeaf {
 
     fn learnt(&self) {
         laws::views_stay();
+        laws::paths_stay();
         bz_layout::addresses_fit();
         bz_layout::descriptors_stand_apart();
     }

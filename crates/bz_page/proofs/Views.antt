@@ -1,16 +1,17 @@
 -- What a view says of keys is what the image of its moment says of them.
-use Rattle.std.proofs.Common.{◌≡◌, ℕ, ◌<◌, ◌==◌, if◌then◌else◌, true, false, List, arith, refl, sym, ap, ◌∙◌, inl, inr, Option}
+use Rattle.std.proofs.Common.{◌≡◌, ℕ, ◌<◌, ◌==◌, if◌then◌else◌, true, false, zero, suc, ◌+◌, List, arith, refl, sym, ap, ◌∙◌, inl, inr, Option}
 use Rattle.std.specs.Prelude.{None}
 use Rattle.std.proofs.lemmas.Bool.Decides.{nat_tests}
 use Rattle.bz_layout.specs.declared.config.Config.{Config}
-use Rattle.bz_layout.specs.declared.sizes.TheConstants.{NODE_WORDS, STATUS_AT}
+use Rattle.bz_layout.specs.declared.sizes.TheConstants.{NODE_WORDS, STATUS_AT, META_AT}
 use Rattle.bz_shape.specs.Form.{Holds}
 use Rattle.bz_shape.specs.TreeLaws.{LeavesTileTheKeys}
 use Rattle.bz_shape.specs.Walk.{IsTree}
 use Rattle.bz_slotted.specs.Laws.{LeafRulesAreFacts}
-use Rattle.bz_slotted.specs.Page.{visible, held, page}
+use Rattle.bz_slotted.specs.Page.{visible, held, meta_of, page}
 use Rattle.bz_slotted.specs.ReadingLaws.{node_of}
-use Rattle.bz_slotted.specs.Readers.{found_of}
+use Rattle.bz_slotted.specs.Readers.{found_of, live_of}
+use Rattle.bz_slotted.specs.Records.{live_to}
 use Rattle.bz_slotted.specs.Whole.{Whole}
 use Rattle.bz_word.specs.Statuses.{status}
 use Rattle.bz_word.specs.declared.meta.Meta.{Meta}
@@ -56,6 +57,19 @@ same-records n m s = record {
   words = λ i ne h. s i h;
 }
 
+-- records with the same metadata words are as long
+same-live-to : (m n : ℕ → Meta) (count : ℕ) → ((j : ℕ) → j < count → m j ≡ n j) → live_to m count ≡ live_to n count
+unfolding live_to
+same-live-to m n zero same = refl
+same-live-to m n (suc count) same = rw (same count (omega arith), same-live-to m n count (λ j l. same j (omega (arith, l)))) refl
+
+same-live : (n m : ℕ → ℕ) → SameWords n m → live_of m ≡ live_of n
+unfolding live_of
+same-live n m s = ap (live_to (page m).meta) count ∙ same-live-to (page m).meta (page n).meta (page n).count (λ j l. ap meta_of (s (META_AT + j) (inl (omega (arith, l)))))
+  where
+    count : (page m).count ≡ (page n).count
+    count = (same-records n m s).count
+
 -- a slot is not the superblock
 below-top : (c : Config) (k : ℕ) → k < c.nodes → (k == c.nodes) ≡ false
 below-top c k l = grind (arith, nat_tests)
@@ -83,6 +97,9 @@ module _ (b : ViewLaws) (from : List ℕ) (view : LeafView) (p : Past) (v : IsVi
 
   pub says : (key : List ℕ) → found_of (node_of view.image.0) key ≡ found_of (durable p.config (p.at view.at) view.slot) key
   says = (b.seen p.config.nodes (node p.config (p.at view.at).image view.slot) (durable p.config (p.at view.at) view.slot) (node_of view.image.0) _ _ leaf.whole view-same).found
+
+  pub live : live_of (node_of view.image.0) ≡ live_of (durable p.config (p.at view.at) view.slot)
+  live = same-live (durable p.config (p.at view.at) view.slot) (node_of view.image.0) view-same
 
   -- of each key in the leaf's range the view says what the image holds
   pub says-content : (key : List ℕ) → Holds (form_at p.config (p.at view.at)) key view.slot → found_of (node_of view.image.0) key ≡ content_in p.config (p.at view.at).image key

@@ -7,7 +7,8 @@ use bz_shape::laws as shape;
 use bz_slotted::laws as slotted;
 use bz_task::laws as task;
 
-/// The leaf that a view shows is the key's, and the view says of each key what the image of its moment says there.
+/// The leaf that a view shows is the key's, and the view says of each key what the image of its moment says there, and has
+/// as many live words.
 pub fn views_say_what_images_say()
     ensures { ViewsSayWhatImagesSay }
 {

@@ -6,4 +6,4 @@ mod pages;
 #[cfg(test)]
 mod tests;
 
-pub use pages::{collect, find};
+pub use pages::{collect, find, live_words};

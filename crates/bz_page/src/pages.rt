@@ -4,7 +4,7 @@ ghost use Rattle.std.specs.Prelude.{◌≡◌, ℕ, List, Option, None, length, 
 ghost use Rattle.bz_content.specs.Content.{content_in};
 ghost use Rattle.bz_slotted.specs.Page.{page as page_of};
 ghost use Rattle.bz_slotted.specs.ReadingLaws.{node_of};
-ghost use Rattle.bz_slotted.specs.Readers.{found_of};
+ghost use Rattle.bz_slotted.specs.Readers.{found_of, live_of};
 ghost use Rattle.bz_slotted.specs.Records.{records as records_of};
 ghost use Rattle.bz_slotted.specs.Rules.{node_fault};
 ghost use Rattle.bz_task.specs.Good.{IsGood};
@@ -64,6 +64,16 @@ pub fn find(view: &LeafView, key: &Key, page: &mut PageBuf) -> Option<Payload>
     bz_slotted::laws::whole_leaves_are_readable();
     collect(view, key, page);
     first_of(page.pairs(), key)
+}
+
+/// The words of a leaf's visible records, with their metadata words.
+pub fn live_words(view: &LeafView) -> u32
+    requires { IsLeafByItself view.now.image.0 }
+    ensures { result ≡ live_of (node_of view.now.image.0) }
+{
+    is_whole(&view.image);
+    bz_slotted::laws::whole_leaves_are_readable();
+    view.image.live_words()
 }
 
 // The payload of the first pair, where it is one of the key.

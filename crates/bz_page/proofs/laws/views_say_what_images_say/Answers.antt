@@ -1,4 +1,4 @@
-use Rattle.bz_page.proofs.Views.{ViewLaws, holds, says}
+use Rattle.bz_page.proofs.Views.{ViewLaws, holds, says, live}
 use Rattle.bz_page.proofs.laws.views_say_what_images_say.Goals as goal
 
 pub returns : goal.returns
@@ -11,4 +11,4 @@ returns c from view p v g =
       formed = c.well_formed_images_have_no_fault.ensures;
       tile = c.leaves_tile_the_keys.ensures;
     } in
-    record { holds = holds laws from view p v g; says = says laws from view p v g }
+    record { holds = holds laws from view p v g; says = says laws from view p v g; live = live laws from view p v g }
