@@ -20,16 +20,18 @@ use Rattle.bz_task.specs.Scene.{Scene, Waiting, Took, IsScene, HasFilled, here}
 use Rattle.bz_task.specs.Swaps.{Stand, SwapsTo, IsGoodSwap, Takes}
 use Rattle.bz_task.specs.declared.todo.Todo.{Todo}
 use Rattle.bz_task.specs.declared.todo.Todo.TheVariants.{Store as Stores_at, Flush as Flushes_line, Swap as Swaps_for}
-use Rattle.bz_consol.specs.Facts.{Renewal, IsCopying, WasTurned, NODE_LINES, consol_asks, consol_facts, consol_change}
-use Rattle.bz_consol.specs.Renewals.{renewal, link_entry, guard_entry, IsTurnable, IsCopy, IsRenewable, LinksMayBeTurned, RenewalsAreGood}
+use Rattle.bz_consol.specs.Facts.{Renewal, IsCopying, WasTurned, consol_asks, consol_facts, consol_change}
+use Rattle.bz_renew.specs.Renewals.{renewal, link_entry, guard_entry, IsTurnable, LinksMayBeTurned}
+use Rattle.bz_renew.specs.Writing.{NODE_LINES}
+use Rattle.bz_consol.specs.Copies.{IsCopy, IsRenewable, RenewalsAreGood}
 use Rattle.bz_consol.specs.declared.phase.Phase.{Phase}
 use Rattle.bz_consol.specs.declared.phase.Phase.TheVariants.{Fresh, Store, Flush, Swap, Done, Restart, NoSlot, NoSwap}
-use Rattle.bz_consol.proofs.Restamping.{restamped-plain}
+use Rattle.bz_renew.proofs.Restamping.{restamped-plain}
 use Rattle.bz_consol.proofs.Staying.{viewed-stays}
-use Rattle.bz_consol.proofs.ReadyCopies.{unreached}
-use Rattle.bz_consol.proofs.TwoEntries.{all-two, sets-first}
-use Rattle.bz_consol.proofs.Words.{node-at, node-past}
-use Rattle.bz_consol.proofs.Writes.{may-store, may-flush, writing-stores, writing-flushes, filled-all}
+use Rattle.bz_renew.proofs.FreshSlots.{unreached}
+use Rattle.bz_renew.proofs.TwoEntries.{all-two, sets-first}
+use Rattle.bz_renew.proofs.Words.{node-at, node-past}
+use Rattle.bz_renew.proofs.Writes.{may-store, may-flush, writing-stores, writing-flushes, filled-all}
 
 some-same : (a b : Todo) → Some a ≡ Some b → a ≡ b
 some-same a b e = cc
@@ -70,8 +72,7 @@ module _ (r : Renewal) (s : Scene) (f : IsCopying r NODE_WORDS NODE_LINES s) whe
 
   is-copy : IsCopy r.link.slot r.slot f.viewed.moment s
   is-copy = record {
-    slot = f.writing.slot;
-    own = λ i l. record { mine = f.writing.mine i l; flushed = f.writing.flushed i l (omega (arith, l)) };
+    fresh = record { slot = f.writing.slot; own = λ i l. record { mine = f.writing.mine i l; flushed = f.writing.flushed i l (omega (arith, l)) } };
     whole = (λ t. node_fault s.past.config.nodes (holds-copy t) (holds-copy t) 0 ((form_at s.past.config (s.past.at f.viewed.moment)).low r.link.slot) ((form_at s.past.config (s.past.at f.viewed.moment)).high r.link.slot)) ∙ f.viewed.alike.whole;
     says = λ key. ap (λ n. found_of n key) holds-copy ∙ f.viewed.alike.found key;
   }
@@ -147,7 +148,7 @@ turned may r s after good f takes =
       before = s.past.now;
       since = omega (arith, good.begun, takes.continues.since);
       now = omega (arith, takes.continues.now);
-      unreached = ap (λ (x : Instant). x.reached r.slot) then ∙ unreached s r.link.slot r.slot f.viewed.moment good (renewable r s f).copy;
+      unreached = ap (λ (x : Instant). x.reached r.slot) then ∙ unreached s r.slot good (renewable r s f).copy.fresh;
       led = subst (λ (m : ℕ). (after.past.at m).value r.link.link ≡ r.slot + 1) takes.continues.now
           (takes.swaps.value r.link.link ∙ sets-first (link_entry r.link r.slot) (guard_entry r.link) (here s).value r.link.link refl (λ e. t.apart (sym e)));
       copied = λ i l. subst (λ (m : ℕ). (after.past.at m).value (node_address after.past.config r.slot + i) ≡ slice_index r.image i) takes.continues.now

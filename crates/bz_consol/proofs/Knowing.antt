@@ -14,12 +14,12 @@ use Rattle.bz_task.specs.declared.todo.Seen.{Seen}
 use Rattle.bz_task.specs.declared.todo.Outcome.TheVariants.{Done as IsDone, Restart as Restarts, Full as IsFull}
 use Rattle.bz_call.specs.declared.replies.Spent.TheVariants.{Nodes, Swaps}
 use Rattle.bz_task.specs.declared.todo.Seen.TheVariants.{Start, Read, Stored, Flushed, Swapped, NoSwap as NoneLeft}
-use Rattle.bz_consol.specs.Facts.{Renewal, HasViewed, IsCopying, HasBegun, NODE_LINES, consol_asks, consol_end, consol_left, consol_needs, consol_facts, next_flush, IsReady}
-use Rattle.bz_consol.specs.Renewals.{IsTurnable, LinksMayBeTurned}
-use Rattle.bz_consol.specs.Writing.{IsTaken, IsWriting}
+use Rattle.bz_consol.specs.Facts.{Renewal, HasViewed, IsCopying, HasBegun, consol_asks, consol_end, consol_left, consol_needs, consol_facts, next_flush, IsReady}
+use Rattle.bz_renew.specs.Renewals.{IsTurnable, LinksMayBeTurned}
+use Rattle.bz_renew.specs.Writing.{NODE_LINES, IsTaken, IsWriting}
 use Rattle.bz_consol.specs.declared.phase.Phase.{Phase}
 use Rattle.bz_consol.specs.declared.phase.Phase.TheVariants.{Fresh, Store, Flush, Swap, Done, Restart, NoSlot, NoSwap}
-use Rattle.bz_consol.proofs.Writes.{taken-writing, taken-filled}
+use Rattle.bz_renew.proofs.Writes.{taken-writing, taken-filled}
 
 -- the next flush, or the swap, is ready
 pub ready-flushed : LinksMayBeTurned → (c : Config) (r : Renewal) (n : ℕ) (stage : Stage) (s : Scene) → s.past.config ≡ c → IsScene s → consol_facts r (Flush n) stage s → IsReady c r (next_flush n)

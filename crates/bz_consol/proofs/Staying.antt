@@ -1,64 +1,29 @@
 -- What a consolidation knows stays.
-use Rattle.std.proofs.Common.{◌≡◌, ℕ, ◌+◌, ◌<◌, ◌≤◌, List, slice_index, arith, sym, ap, subst, ◌∙◌, inl, inr}
+use Rattle.std.proofs.Common.{◌≡◌, ℕ, ◌+◌, ◌≤◌, List, slice_index, arith, sym, ap, subst, ◌∙◌}
 use Rattle.bz_layout.specs.Addresses.{node_address}
 use Rattle.bz_layout.specs.declared.config.Config.{Config}
 use Rattle.bz_layout.specs.Slots.{FreeSlots}
-use Rattle.bz_layout.specs.declared.sizes.TheConstants.{STATUS_AT, NODE_WORDS}
+use Rattle.bz_layout.specs.declared.sizes.TheConstants.{NODE_WORDS}
 use Rattle.bz_slotted.specs.ReadingLaws.{node_of}
-use Rattle.bz_task.specs.Instant.{Instant, words, page_at, form_at, is_inside}
+use Rattle.bz_task.specs.Instant.{Instant, words, form_at}
 use Rattle.bz_task.specs.Laws.{NothingIsGained, SaysAlike}
 use Rattle.bz_task.specs.OwnActs.{gained}
-use Rattle.bz_task.specs.Outcomes.{IsUnderNode, IsGuarded}
-use Rattle.bz_task.specs.Requests.{IsPointerPlace}
 use Rattle.bz_task.specs.Scene.{Past, Scene, Stage, Waiting, Took, IsLawful, Continues, HasFilled}
 use Rattle.bz_task.specs.declared.path.Link.{Link}
-use Rattle.bz_consol.specs.Facts.{Renewal, WasTurned, HasViewed, IsCopying, HasFilledBut, NODE_LINES, consol_facts}
-use Rattle.bz_consol.specs.Renewals.{WasFrozenLeaf}
+use Rattle.bz_consol.specs.Facts.{Renewal, WasTurned, HasViewed, IsCopying, consol_facts}
+use Rattle.bz_renew.specs.Writing.{NODE_LINES, HasFilledBut}
+use Rattle.bz_renew.proofs.Staying.{guarded-stays, frozen-leaf-stays}
 use Rattle.bz_consol.specs.declared.phase.Phase.{Phase}
 use Rattle.bz_consol.specs.declared.phase.Phase.TheVariants.{Fresh, Store, Flush, Swap, Done, Restart, NoSlot, NoSwap}
-use Rattle.bz_consol.proofs.Writes.{writing-stays, writing-no-slot, filled-no-slot}
+use Rattle.bz_renew.proofs.Writes.{writing-stays, writing-no-slot, filled-no-slot}
 
 module _ (p q : Past) (c : Continues p q) where
-  under-stays : (link : Link) (m : ℕ) → m ≤ p.now → IsUnderNode p link m → IsUnderNode q link m
-  under-stays link m l u = record {
-    parent = u.parent;
-    place = u.place;
-    reached = ap (λ x. x.reached u.parent) (c.at m l) ∙ u.reached;
-    within = u.within;
-    child = subst (λ z. IsPointerPlace z u.place) (λ t. page_at (sym c.config t) (sym (c.at m l) t) u.parent) u.child;
-    pointer = u.pointer ∙ ap (λ z. node_address z u.parent + u.place) (sym c.config);
-    guard = u.guard ∙ ap (λ z. node_address z u.parent + STATUS_AT) (sym c.config);
-  }
-
-  guarded-stays : (link : Link) → IsGuarded p link → IsGuarded q link
-  guarded-stays link g =
-      let l : g.guarded ≤ p.now = omega (arith, g.order, g.now) in record {
-        guarded = g.guarded;
-        read = g.read;
-        since = omega (arith, g.since, c.since);
-        order = g.order;
-        now = omega (arith, g.now, c.now);
-        under = elim g.under [ inl u ↦ inl u | inr u ↦ inr (under-stays link g.guarded l u) ];
-        status = ap (λ x. x.value link.guard) (c.at g.guarded l) ∙ g.status;
-        slot = ap (λ x. x.value link.link) (c.at g.read g.now) ∙ g.slot;
-      }
-
-  frozen-leaf-stays : (k m : ℕ) → WasFrozenLeaf k m p → WasFrozenLeaf k m q
-  frozen-leaf-stays k m w = record {
-    since = omega (arith, w.since, c.since);
-    now = omega (arith, w.now, c.now);
-    slot = subst (λ z. k < z.nodes) (sym c.config) w.slot;
-    inside = (λ t. is_inside (c.config t) (c.at m w.now t) k) ∙ w.inside;
-    leaf = (λ t. (form_at (c.config t) (c.at m w.now t)).level k) ∙ w.leaf;
-    frozen = (λ t. (page_at (c.config t) (c.at m w.now t) k).frozen) ∙ w.frozen;
-  }
-
   pub viewed-stays : (link : Link) (image : List ℕ) → HasViewed link image p → HasViewed link image q
   viewed-stays link image v = record {
-    guard = guarded-stays link v.guard;
+    guard = guarded-stays p q c link v.guard;
     thawed = v.thawed;
     moment = v.moment;
-    leaf = frozen-leaf-stays link.slot v.moment v.leaf;
+    leaf = frozen-leaf-stays p q c link.slot v.moment v.leaf;
     alike = alike-stays v.moment v.leaf.now v.alike;
     size = v.size;
     plain = v.plain;

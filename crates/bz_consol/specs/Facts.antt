@@ -21,14 +21,12 @@ use Rattle.bz_task.specs.declared.todo.Outcome.{Outcome}
 use Rattle.bz_task.specs.declared.todo.Outcome.TheVariants.{Done as IsDone, Restart as Restarts, Full as IsFull}
 use Rattle.bz_task.specs.declared.todo.Todo.{Todo}
 use Rattle.bz_task.specs.declared.todo.Todo.TheVariants.{Store as Stores_at, Flush as Flushes_line, Swap as Swaps_for, Finish}
-use Rattle.bz_consol.specs.Renewals.{renewal, WasFrozenLeaf}
-use Rattle.bz_consol.specs.Writing.{IsWriting, IsTaken}
+pub use Rattle.bz_renew.specs.Due.{LeadsTo, IsDue}
+use Rattle.bz_renew.specs.FrozenLeaves.{WasFrozenLeaf}
+use Rattle.bz_renew.specs.Renewals.{renewal}
+use Rattle.bz_renew.specs.Writing.{NODE_LINES, IsWriting, HasFilledBut, IsTaken}
 use Rattle.bz_consol.specs.declared.phase.Phase.{Phase}
 use Rattle.bz_consol.specs.declared.phase.Phase.TheVariants.{Fresh, Store, Flush, Swap, Done, Restart, NoSlot, NoSwap}
-
--- the lines of a node
-abbrev pub NODE_LINES : ℕ
-NODE_LINES = 16
 
 -- the link that is turned, the words of the copy, and the slot that they are stored into
 pub record Renewal : Type 0 where
@@ -68,25 +66,6 @@ next_store i = if nat_lt (i + 1) NODE_WORDS then Store (i + 1) else Flush 0
 
 abbrev pub next_flush : ℕ → Phase
 next_flush n = if nat_lt (n + 1) NODE_LINES then Flush (n + 1) else Swap
-
--- the last link of the path leads to this slot, and its guard, as it was read, was no frozen node's
-abbrev pub LeadsTo : Path → ℕ → Type 0
-LeadsTo path k = (link : Link) → slice_get path.links (path.depth - 1) ≡ Some link → (link.slot ≡ k) × ((status link.status).frozen ≡ false)
-
--- the word is the status of a node that is frozen, or of one that is not
-pub record IsStatusOf (frozen : Bool) (st : ℕ) : Type 0 where
-  pub plain : st < 2 ^ 61
-  pub is : (status st).frozen ≡ frozen
-
--- the status that was viewed is that of a frozen node, and the last link of the path leads to the viewed slot; its guard is no
--- frozen node's
-pub record IsDueBy (link : Link) (view : LeafView) : Type 0 where
-  pub viewed : IsStatusOf true view.status
-  pub guard : IsStatusOf false link.status
-  pub leads : link.slot ≡ view.slot
-
-abbrev pub IsDue : Path → LeafView → Type 0
-IsDue path view = (link : Link) → slice_get path.links (path.depth - 1) ≡ Some link → IsDueBy link view
 
 -- the guard of the link was read, and was no frozen node's; the leaf to which it leads was frozen, and the words of the copy
 -- say what it says
@@ -128,10 +107,6 @@ pub record WasRenewed (link : Link) (view : LeafView) (p : Past) : Type 0 where
   pub image : List ℕ
   pub made : IsMadeOf view.image.0 image
   pub turned : WasTurned link image p
-
--- every other slot that this worker took has been stored into
-abbrev pub HasFilledBut : ℕ → Scene → Type 0
-HasFilledBut slot s = (k : ℕ) → s.took k ≡ true → k ≢ slot → s.filled k ≡ true
 
 abbrev pub consol_facts : Renewal → Phase → Stage → Scene → Type 0
 consol_facts r Fresh Waiting s = HasViewed r.link r.image s.past

@@ -1,5 +1,3 @@
+pub mod Copies
 pub mod Duties
 pub mod Facts
-pub mod LinkSwaps
-pub mod Renewals
-pub mod Writing

@@ -12,16 +12,14 @@ ghost use Rattle.bz_task.specs.declared.todo.Seen.TheVariants.{Swapped, NoSwap a
 ghost use Rattle.bz_consol.specs.Duties.{renewal_of, asks_of, end_of, left_of, needs_of, facts_of};
 ghost use Rattle.bz_consol.specs.Facts.{HasBegun, consol_asks, consol_left, consol_facts, consol_means, consol_change, IsReady, LeadsTo, WasRenewed, next_store, next_flush};
 
-use crate::copies::{copy_of, is_whole};
-use crate::due::last_link;
+use crate::copies::copy_of;
 use crate::laws::renewals_are_good;
 use crate::phase::Phase;
-use crate::slot::take_one;
-use crate::swaps::swap_of;
 use bz_call::Spent;
 use bz_key::PageBuf;
 use bz_layout::{Config, LINE_WORDS, NODE_WORDS, Slots};
 use bz_node::NodeImage;
+use bz_renew::{is_whole, last_link, swap_of, take_one};
 use bz_task::{LeafView, Link, Outcome, Path, Seen, Task, Todo, laws};
 
 const NODE_LINES: u32 = NODE_WORDS / LINE_WORDS;
@@ -58,10 +56,7 @@ impl Consolidate {
         ensures no_view { (other : LeafView) (s : Scene) → ⟦<Consolidate as Task>⟧.means result (Outcome.View other) s → ⊥ }
         ensures no_room { (s : Scene) → ⟦<Consolidate as Task>⟧.means result Outcome.NeedsRoom s → ⊥ }
     {
-        laws::leaves_are_in_trees();
-        laws::seen_leaves_are_whole();
-        laws::same_records_show_the_same();
-        bz_page::laws::views_say_what_images_say();
+        bz_renew::laws::views_show_frozen_leaves();
         let image = copy_of(&view, page);
         is_whole(&image);
         Consolidate {

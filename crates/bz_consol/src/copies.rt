@@ -1,54 +1,17 @@
 //! The copy of a leaf: its visible records alone, in the order of their keys.
 
-ghost use Rattle.std.specs.Prelude.{◌≡◌, ◌+◌, ◌<◌, ◌≤◌, ◌^◌, ℕ, List, Option, None, All, length};
-ghost use Rattle.bz_key.specs.Packing.{packed_len, unpacked_key};
-ghost use Rattle.bz_node.specs.Reading.{part};
+ghost use Rattle.std.specs.Prelude.{◌≡◌, ◌<◌, ◌^◌, ℕ, List, Option, None, All};
 ghost use Rattle.bz_page.specs.Pages.{IsLeafByItself};
 ghost use Rattle.bz_slotted.specs.ReadingLaws.{node_of};
 ghost use Rattle.bz_slotted.specs.Rules.{node_fault};
 ghost use Rattle.bz_task.specs.Laws.{SaysAlike};
 ghost use Rattle.bz_consol.specs.Facts.{IsMadeOf};
 
-use bz_key::{Key, PageBuf};
-use bz_layout::{HEADER_AT, LOW_FENCE_AT};
+use bz_key::PageBuf;
 use bz_node::{NodeImage, leaf};
+use bz_renew::sort_records;
 use bz_slotted::laws as slotted;
 use bz_task::LeafView;
-use bz_word::Header;
-
-const BYTES_IN_WORD: u32 = 7;
-
-/// An image has its 128 words. Does nothing.
-pub(crate) fn is_whole(image: &NodeImage)
-    ensures { length image.now.0 ≡ 128 }
-{
-    let _words = image.0;
-}
-
-// The key of so many bytes that stands at a place, if there is one.
-fn key_at(words: &[u64], at: u32, len: u32) -> Option<Key>
-    requires within { at + packed_len len ≤ length words.now }
-    requires small { len < 2 ^ 8 }
-    ensures { result ≡ unpacked_key len (part words.now at (packed_len len)) }
-{
-    let start = at as usize;
-    let end = start + len.div_ceil(BYTES_IN_WORD) as usize;
-    Key::from_words(len as usize, &words[start..end])
-}
-
-// The low fence of a leaf, which no key of it is before: none where its keys have no beginning.
-fn low_of(image: &NodeImage) -> Option<Key>
-    ensures { (nodes : ℕ) (low high : Option (List ℕ)) → node_fault nodes (node_of image.now.0) (node_of image.now.0) 0 low high ≡ None → result ≡ low }
-{
-    is_whole(image);
-    slotted::leaf_rules_are_facts();
-    bz_word::laws::headers();
-    let words = &image.0;
-    match Header::unpack(words[HEADER_AT as usize]) {
-        Some(header) => key_at(words, LOW_FENCE_AT, header.low),
-        None => None,
-    }
-}
 
 /// The leaf of the visible records that a view shows, in the order of their keys, which are left in `page`.
 pub(crate) fn copy_of(view: &LeafView, page: &mut PageBuf) -> NodeImage
@@ -57,17 +20,9 @@ pub(crate) fn copy_of(view: &LeafView, page: &mut PageBuf) -> NodeImage
     ensures plain { All (λ v. v < 2 ^ 61) result.0 }
     ensures made { IsMadeOf view.now.image.0 result.0 }
 {
-    is_whole(&view.image);
-    slotted::leaf_rules_are_facts();
-    slotted::live_words_fit();
-    slotted::whole_leaves_are_readable();
-    slotted::high_fences_are_read();
     slotted::made_leaves_are_whole();
-    bz_page::laws::ordered_pairs_are_found();
-    view.image.records(page);
-    let low = low_of(&view.image);
-    let high = view.image.high();
-    match leaf(page.pairs(), low, high) {
+    let fences = sort_records(&view.image, page);
+    match leaf(page.pairs(), fences.low, fences.high) {
         Some(image) => image,
         None => unreachable!(),
     }

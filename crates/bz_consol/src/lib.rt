@@ -3,11 +3,8 @@
 
 mod consolidate;
 mod copies;
-mod due;
 mod laws;
 mod phase;
-mod slot;
-mod swaps;
 
+pub use bz_renew::is_due;
 pub use consolidate::Consolidate;
-pub use due::is_due;

@@ -5,12 +5,7 @@ use Rattle.bz_consol.proofs.Viewing.{has-viewed}
 use Rattle.bz_consol.proofs.consolidate.Consolidate.new.Goals as goal
 
 pub returns-clause-facts : goal.returns-clause-facts
-returns-clause-facts c key s same good path view = has-viewed (record {
-  leaves = c.leaves_are_in_trees.ensures;
-  seen = c.seen_leaves_are_whole.ensures;
-  shown = c.same_records_show_the_same.ensures;
-  views = c.views_say_what_images_say.ensures;
-}) key c.args.path c.args.view c.last_link.result c.copy_of-image.result.0 s good path view c.requires.frozen c.requires.leads c.last_link.ensures c.is_whole.ensures c.copy_of-image.ensures.plain c.copy_of-image.ensures.alike
+returns-clause-facts c key s same good path view = has-viewed c.views_show_frozen_leaves.ensures key c.args.path c.args.view c.last_link.result c.copy_of-image.result.0 s good path view c.requires.frozen c.requires.leads c.last_link.ensures c.is_whole.ensures c.copy_of-image.ensures.plain c.copy_of-image.ensures.alike
 
 pub returns-clause-done : goal.returns-clause-done
 returns-clause-done c link s is means =

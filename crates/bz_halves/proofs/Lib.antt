@@ -1,0 +1,5 @@
+mod Cuts
+mod Lookups
+mod Parting
+pub mod Roots
+mod Making

@@ -1,0 +1,27 @@
+//! Laws of the halves of a leaf. Each function does nothing: its contract is the law.
+
+ghost use Rattle.bz_halves.specs.Laws.{LeavesPartInHalves, HalvesAreLeaves, RootsStandOverTwo};
+
+use bz_slotted::laws as slotted;
+
+/// The records of a leaf that is split part in two halves, each of which has room for any record.
+pub fn leaves_part_in_halves()
+    ensures { LeavesPartInHalves }
+{
+    bz_layout::leaf_splits_in_halves();
+}
+
+/// The halves are leaves, and say of each key what the leaf says.
+pub fn halves_are_leaves()
+    ensures { HalvesAreLeaves }
+{
+    bz_layout::leaf_splits_in_halves();
+    slotted::made_leaves_are_whole();
+}
+
+/// A new root over two leaves breaks no rule, and takes one more separator.
+pub fn roots_stand_over_two()
+    ensures { RootsStandOverTwo }
+{
+    slotted::made_inners_are_whole();
+}

@@ -1,0 +1,6 @@
+mod RootSplitting
+mod Parting
+mod Staying
+mod Knowing
+mod Acting
+mod Viewing

@@ -1,0 +1,11 @@
+use Rattle.bz_split.specs.Duties.{split_of}
+use Rattle.bz_split.proofs.Acting.{askable}
+use Rattle.bz_split.proofs.Staying.{stable}
+use Rattle.bz_split.proofs.split_root.SplitRootTask.learnt.Goals as goal
+
+pub returns-clause-stable : goal.returns-clause-stable
+returns-clause-stable c stage s after same f good l = stable (split_of c.args.self.now) s after l c.args.self.now.phase stage f
+
+pub returns-clause-askable : goal.returns-clause-askable
+returns-clause-askable c s todo same f good e =
+    let t = c.args.self.now in askable c.links_turn.ensures.asked c.statuses.ensures t.config (split_of t) t.phase s todo same f good e

@@ -1,0 +1,4 @@
+pub mod Duties
+pub mod Facts
+pub mod Parts
+pub mod RootSplits

@@ -1,0 +1,11 @@
+//! The split of a frozen leaf: its records are parted into two fresh leaves, and one swap turns the link to them.
+#![tactic(auto)]
+
+mod due;
+pub mod laws;
+mod parts;
+mod phase;
+mod split_root;
+
+pub use due::is_due;
+pub use split_root::SplitRoot;
