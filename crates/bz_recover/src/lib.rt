@@ -1,0 +1,12 @@
+//! The recovery of a memory after a power cut, by worker 0 alone: every word outside the descriptors is resolved and made
+//! durable, and then every descriptor made free.
+#![tactic(auto)]
+
+pub mod laws;
+mod phase;
+mod recover;
+mod sweep;
+#[cfg(test)]
+mod tests;
+
+pub use recover::Recover;

@@ -1,0 +1,183 @@
+//! The recovery.
+
+ghost use Rattle.std.specs.Prelude.{◌≡◌, ◌≢◌, ◌+◌, ◌<◌, ℕ, Some, None};
+ghost use Rattle.bz_layout.specs.declared.config.Config.{Config};
+ghost use Rattle.bz_recover.specs.Places.{IsSpot, IsPlaced, entry_address, left_in, left_at, swaps_left};
+ghost use Rattle.bz_layout.specs.Config.{IsConfig};
+ghost use Rattle.bz_task.specs.Scene.{Stage, Waiting, Took};
+ghost use Rattle.bz_recover.specs.Duties.{IsSought, knows_before, config_of, asks_of, end_of, left_of, Knows, Hears, Tells, IsReady};
+ghost use Rattle.bz_recover.specs.Memory.{Memory, Stores, Flushes, Evicts};
+ghost use Rattle.bz_recover.specs.Sweep.{IsPoweredOn, IsSwept, IsFreeing, IsImage, IsRecovered};
+ghost use Rattle.bz_recover.specs.Laws.{IsAskable};
+ghost use Rattle.bz_task.specs.declared.todo.Todo.{Todo};
+ghost use Rattle.bz_task.specs.declared.todo.Todo.TheVariants.{Load, Store, Flush};
+ghost use Rattle.bz_task.specs.declared.todo.Outcome.TheVariants.{Recovered};
+
+use crate::phase::{Phase, Pointer, Spot};
+use crate::sweep::{
+    EXPECTED, NEW, TARGET, address_in_entry, address_of_swap, flushed, found, resolved,
+};
+use bz_layout::{Config, LINE_WORDS, MAX_ENTRIES, SWAP_STATUS_AT};
+use bz_task::{Outcome, Seen, Todo};
+
+/// The status of a swap that has succeeded.
+const SUCCEEDED: u64 = 2;
+
+const DIRTY_BIT: u64 = 1 << 63;
+
+/// The recovery of a memory by worker 0, which has it alone. It ends with Recovered.
+#[derive(Drop)]
+pub struct Recover {
+    config: Config,
+    phase: Phase,
+}
+
+impl Recover {
+    /// A recovery of a memory of these sizes, from its first word on.
+    pub fn new(config: &Config) -> Recover
+        requires { IsConfig config.now }
+        ensures ready { IsReady result }
+        ensures config { config_of result ≡ config.now }
+        ensures asks { asks_of result ≡ None }
+        ensures left { left_of result ≡ left_at config.now 0 0 + 1 }
+        // it may begin in every memory whose power has come on again
+        ensures knows { (values : ℕ → ℕ) (m : Memory) → IsPoweredOn config.now values m → Knows result values Took m }
+    {
+        Recover {
+            config: *config,
+            phase: Phase::Fresh,
+        }
+    }
+
+    /// How it has ended: asked of a recovery that asks for nothing more.
+    pub fn ended(&self) -> Option<Outcome>
+        ensures { result ≡ end_of self.now }
+    {
+        match self.phase {
+            Phase::Recovered => Some(Outcome::Recovered),
+            _ => None,
+        }
+    }
+
+    /// The next act, after what came of the last one.
+    pub fn next(&mut self, seen: Seen) -> Todo
+        requires ready { IsReady self.old }
+        requires hears { Hears self.old seen }
+        ensures ready { IsReady self.new }
+        ensures asked { asks_of self.new ≡ Some result }
+        ensures nearer { left_of self.new < left_of self.old }
+        ensures config { config_of self.new ≡ config_of self.old }
+        // what it knows of every memory in which its act is made and the answer is true
+        ensures learns { (values : ℕ → ℕ) (m : Memory) → Knows self.old values Took m → Tells self.old seen m → Knows self.new values Waiting m }
+    {
+        self.phase = self.after(seen);
+        self.asked()
+    }
+
+    /// Laws of what is known. Does nothing.
+    pub fn learnt(&self)
+        requires { IsReady self.now }
+        // no eviction changes what is known, nor a load before it is answered
+        ensures stable { (values : ℕ → ℕ) (stage : Stage) (old new : Memory) (a : ℕ) → Knows self.now values stage old → Evicts old new a → Knows self.now values stage new }
+        ensures loaded { (values : ℕ → ℕ) (m : Memory) (a : ℕ) → asks_of self.now ≡ Some (Load a) → Knows self.now values Waiting m → Knows self.now values Took m }
+        // at every moment the durable words resolve to the same values
+        ensures image { (values : ℕ → ℕ) (stage : Stage) (m : Memory) → Knows self.now values stage m → IsImage (config_of self.now) values m.durable }
+        // what is asked for may be asked for
+        ensures askable { (values : ℕ → ℕ) (m : Memory) (todo : Todo) → Knows self.now values Waiting m → asks_of self.now ≡ Some todo → IsAskable (config_of self.now) todo }
+        // at the end all words are plain and durable, and all descriptors free
+        ensures ends { (values : ℕ → ℕ) (stage : Stage) (m : Memory) → Knows self.now values stage m → end_of self.now ≡ Some Recovered → IsRecovered (config_of self.now) values m }
+    {}
+
+    /// Laws of the acts by which the memory changes. Does nothing.
+    pub fn acted(&self)
+        requires { IsReady self.now }
+        ensures stored { (values : ℕ → ℕ) (old new : Memory) (a x : ℕ) → asks_of self.now ≡ Some (Store a x) → Knows self.now values Waiting old → Stores old new a x → Knows self.now values Took new }
+        ensures flushed { (values : ℕ → ℕ) (old new : Memory) (line : ℕ) → asks_of self.now ≡ Some (Flush line) → Knows self.now values Waiting old → Flushes old new line → Knows self.now values Took new }
+    {}
+
+    // The phase after what came of the last act.
+    fn after(&self, seen: Seen) -> Phase
+        requires place { IsReady self.now }
+        requires hears { Hears self.now seen }
+        ensures place { IsPlaced self.now.config result }
+        ensures begun { result ≢ Phase.Fresh }
+        ensures nearer { left_in self.now.config result < left_of self.now }
+        ensures learns { (v : ℕ → ℕ) (m : Memory) → Knows self.now v Took m → Tells self.now seen m → knows_before self.now.config v m result }
+    {
+        let config = &self.config;
+        match (self.phase, seen) {
+            (Phase::Fresh, _) => Phase::Word(Spot {
+                unflushed: 0,
+                at: 0,
+            }),
+            (Phase::Word(spot), Seen::Read(word)) => found(config, spot, word),
+            (Phase::Status(spot, swap), Seen::Read(status)) => {
+                let succeeded = status % DIRTY_BIT == SUCCEEDED;
+                Phase::Target(spot, Pointer { swap, succeeded }, 0)
+            }
+            (Phase::Target(spot, pointer, entry), Seen::Read(target)) => {
+                sought(spot, pointer, entry, target)
+            }
+            (Phase::Value(spot, _), Seen::Read(value)) => Phase::Resolve(spot, value),
+            (Phase::Resolve(spot, _), Seen::Stored) => resolved(config, spot, true),
+            (Phase::Flush(spot), Seen::Flushed) => flushed(config, spot),
+            (Phase::SwapStatus(swap), Seen::Read(0)) => freed(config, swap),
+            (Phase::SwapStatus(swap), Seen::Read(_)) => Phase::Free(swap),
+            (Phase::Free(swap), Seen::Stored) => Phase::FlushFree(swap),
+            (Phase::FlushFree(swap), Seen::Flushed) => freed(config, swap),
+            _ => Phase::Recovered,
+        }
+    }
+
+    // What a phase asks for.
+    fn asked(&self) -> Todo
+        requires place { IsReady self.now }
+        requires begun { self.now.phase ≢ Phase.Fresh }
+        ensures { asks_of self.now ≡ Some result }
+    {
+        let config = &self.config;
+        match self.phase {
+            Phase::Fresh | Phase::Recovered => Todo::Finish,
+            Phase::Word(spot) => Todo::Load(spot.at),
+            Phase::Status(_, swap) => Todo::Load(address_of_swap(swap) + SWAP_STATUS_AT),
+            Phase::Target(_, pointer, entry) => {
+                Todo::Load(address_in_entry(pointer.swap, entry, TARGET))
+            }
+            Phase::Value(_, at) => Todo::Load(at),
+            Phase::Resolve(spot, value) => Todo::Store(spot.at, value),
+            Phase::Flush(spot) => Todo::Flush(spot.at / LINE_WORDS),
+            Phase::SwapStatus(swap) => Todo::Load(config.swap_at(swap)),
+            Phase::Free(swap) => Todo::Store(config.swap_at(swap), 0),
+            Phase::FlushFree(swap) => Todo::Flush(config.swap_at(swap) / LINE_WORDS),
+        }
+    }
+}
+
+// The phase after the target of an entry that was read: the last entry is the one where no other is.
+fn sought(spot: Spot, pointer: Pointer, entry: u32, target: u64) -> Phase
+    requires { entry < MAX_ENTRIES }
+    ensures place { (c : Config) → IsConfig c → IsSpot c spot → IsPlaced c result }
+    ensures nearer { (c : Config) → IsSpot c spot → left_in c result < left_at c spot.at (2 + entry) }
+    ensures learns { (c : Config) (v : ℕ → ℕ) (m : Memory) → IsSpot c spot → IsSwept c v m spot.unflushed spot.at → IsSought m spot.at pointer entry → m.cached (entry_address pointer.swap entry TARGET) ≡ target → knows_before c v m result }
+{
+    if target == u64::from(spot.at) || entry + 1 == MAX_ENTRIES {
+        let word = if pointer.succeeded { NEW } else { EXPECTED };
+        return Phase::Value(spot, address_in_entry(pointer.swap, entry, word));
+    }
+    Phase::Target(spot, pointer, entry + 1)
+}
+
+// The phase after a descriptor that is free.
+fn freed(config: &Config, swap: u32) -> Phase
+    requires config { IsConfig config.now }
+    requires swap { swap < config.now.swaps }
+    ensures place { IsPlaced config.now result }
+    ensures nearer { left_in config.now result < swaps_left config.now swap 2 }
+    ensures learns { (v : ℕ → ℕ) (m : Memory) → IsFreeing config.now v m (swap + 1) (swap + 1) → knows_before config.now v m result }
+{
+    let next = swap + 1;
+    if next == config.swaps {
+        return Phase::Recovered;
+    }
+    Phase::SwapStatus(next)
+}
