@@ -1,5 +1,5 @@
 -- What a task is told, and what comes of that.
-use Rattle.std.specs.Prelude.{◌≡◌, ℕ, ◌<◌, ◌⊎◌, true, false, List, Some, length}
+use Rattle.std.specs.Prelude.{◌≡◌, ℕ, ◌<◌, ◌⊎◌, true, false, List, Option, Some, length}
 use Rattle.bz_call.specs.declared.replies.Spent.TheVariants.{Nodes, Swaps}
 use Rattle.bz_layout.specs.Slots.{FreeSlots}
 use Rattle.bz_task.specs.OwnActs.{AreTakenFrom, AreUnreached, gained}
@@ -16,10 +16,11 @@ use Rattle.bz_task.specs.declared.view.LeafView.{LeafView}
 use Rattle.bz_running.specs.Duties.{config_of, asks_of, end_of, left_of, needs_of, change_of, facts_of, means_of, differs_of, makes_no_change}
 use Rattle.bz_running.specs.declared.running.Running.{Running}
 
--- a path or a view with which the task ends is one of this key
-pub record IsLookup (key : List ℕ) (t : Running) : Type 0 where
+-- a path or a view with which the task ends is one of this key; and with a view this path, if there is one, still is one
+pub record IsLookup (key : List ℕ) (way : Option Path) (t : Running) : Type 0 where
   pub path : (path : Path) (s : Scene) → means_of t (outcome.Path path) s → IsPath key path s.past
   pub view : (view : LeafView) (s : Scene) → means_of t (outcome.View view) s → IsView key view s.past
+  pub leads : (path : Path) → way ≡ Some path → (view : LeafView) (s : Scene) → means_of t (outcome.View view) s → IsPath key path s.past
 
 -- the task was told this at a moment, and asks for that
 pub record HasHeard (old : Running) (seen : Seen) (moment : ℕ) (free : FreeSlots) (todo : Todo) (new : Running) (left : FreeSlots) : Type 0 where

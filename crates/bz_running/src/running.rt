@@ -1,6 +1,6 @@
 //! Whichever task it is.
 
-ghost use Rattle.std.specs.Prelude.{◌≡◌, ◌<◌, ◌≢◌, ◌≤◌, ℕ, List, true, false, None, Some};
+ghost use Rattle.std.specs.Prelude.{◌≡◌, ◌<◌, ◌≢◌, ◌≤◌, ℕ, List, true, false, Option, None, Some};
 ghost use Rattle.bz_consol.specs.Facts.{LeadsTo};
 ghost use Rattle.bz_layout.specs.declared.thresholds.TheConstants.{CONSOLIDATION_SLOTS};
 ghost use Rattle.bz_page.specs.Pages.{IsLeafByItself};
@@ -47,7 +47,7 @@ impl Running {
         ensures needs { needs_of result ≡ 0 }
         ensures silent { makes_no_change result ≡ true }
         ensures facts { (s : Scene) → HasFilled s → facts_of result Waiting s }
-        ensures ends { IsLookup key result }
+        ensures ends { (way : Option Path) → IsLookup key way result }
     {
         Running::Descending(Descend::begun(config, key))
     }
@@ -62,7 +62,7 @@ impl Running {
         ensures needs { needs_of result ≡ 0 }
         ensures silent { makes_no_change result ≡ true }
         ensures facts { (s : Scene) → IsScene s → IsPath key path s.past → facts_of result Waiting s }
-        ensures ends { IsLookup key result }
+        ensures ends { IsLookup key (Some path) result }
     {
         Running::Reading(ReadLeaf::new(config, path, key))
     }
@@ -82,7 +82,7 @@ impl Running {
         ensures needs { needs_of result ≡ 0 }
         ensures change { change_of result ≡ record { key = key; old = None; new = Some payload } }
         ensures facts { (s : Scene) → s.past.config ≡ config.now → s.effected ≡ false → IsScene s → IsView key view s.past → facts_of result Waiting s }
-        ensures ends { IsLookup key result }
+        ensures ends { (way : Option Path) → IsLookup key way result }
         // NeedsRoom comes exactly where the viewed leaf lacks room
         ensures needs_room { (s : Scene) → means_of result Outcome.NeedsRoom s → LacksRoom view.status (words_for key payload) }
     {
@@ -104,7 +104,7 @@ impl Running {
         ensures needs { needs_of result ≡ 0 }
         ensures change { change_of result ≡ record { key = key; old = found_of (node_of view.image.0) key; new = Some payload } }
         ensures facts { (s : Scene) → s.past.config ≡ config.now → s.effected ≡ false → IsScene s → IsView key view s.past → facts_of result Waiting s }
-        ensures ends { IsLookup key result }
+        ensures ends { (way : Option Path) → IsLookup key way result }
         // NeedsRoom comes exactly where the viewed leaf lacks room
         ensures needs_room { (s : Scene) → means_of result Outcome.NeedsRoom s → LacksRoom view.status (words_for key payload) }
     {
@@ -120,7 +120,7 @@ impl Running {
         ensures needs { needs_of result ≡ 0 }
         ensures change { change_of result ≡ record { key = key; old = found_of (node_of view.image.0) key; new = None } }
         ensures facts { (s : Scene) → s.past.config ≡ config.now → s.effected ≡ false → IsScene s → IsView key view s.past → facts_of result Waiting s }
-        ensures ends { IsLookup key result }
+        ensures ends { (way : Option Path) → IsLookup key way result }
         // NeedsRoom comes exactly where the viewed leaf is frozen
         ensures needs_room { (s : Scene) → means_of result Outcome.NeedsRoom s → (status view.status).frozen ≡ true }
     {
@@ -136,7 +136,7 @@ impl Running {
         ensures needs { needs_of result ≡ 0 }
         ensures silent { makes_no_change result ≡ true }
         ensures facts { (key : List ℕ) (s : Scene) → s.past.config ≡ config.now → IsScene s → IsView key view s.past → facts_of result Waiting s }
-        ensures ends { (key : List ℕ) → IsLookup key result }
+        ensures ends { (key : List ℕ) (way : Option Path) → IsLookup key way result }
     {
         Running::Freezing(Freeze::new(config, path, view))
     }
@@ -154,7 +154,7 @@ impl Running {
         ensures needs { needs_of result ≡ CONSOLIDATION_SLOTS }
         ensures silent { makes_no_change result ≡ true }
         ensures facts { (key : List ℕ) (s : Scene) → s.past.config ≡ config.now → IsScene s → IsPath key path s.past → IsView key view s.past → facts_of result Waiting s }
-        ensures ends { (key : List ℕ) → IsLookup key result }
+        ensures ends { (key : List ℕ) (way : Option Path) → IsLookup key way result }
     {
         Running::Consolidating(Consolidate::new(config, path, view, page))
     }

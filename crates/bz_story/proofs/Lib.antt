@@ -1,5 +1,7 @@
 mod Scenes
+pub mod Storing
 mod Lives
 mod Watching
 mod Striking
 mod Openings
+mod Takings

@@ -68,7 +68,7 @@ step-block c x y a (inl q) b = block-on c x y a b (q.reached b.slot ∙ b.reache
 step-block c x y a (inr e) b = block-on c x y a b (e.reached b.slot b.reached) (node-block c x y b.slot (e.nodes b.slot b.reached))
 
 pub lives-on : ActsPass → LivesGoOn
-lives-on law c old new log story mark filled g = record {
+lives-on law c old new log story mark filled g stores = record {
   seen = subst (IsSeen c new) (sym (now-is story.at (length log.past) y)) passed.seen;
   history = history-on c story.at (length log.past) y g.living.history passed.same.good step;
   words = g.marked;
@@ -76,6 +76,10 @@ lives-on law c old new log story mark filled g = record {
   effects = subst (λ z. z.effects ≤ suc (length log.past)) (sym (now-is story.at (length log.past) y)) (omega (arith, g.living.effects));
   reserved = λ w a o. subst (λ z. IsInBlock c z a) (sym (now-is story.at (length log.past) y)) (step-block c (story.at (length log.past)) y a step (g.living.reserved w a o));
   apart = g.living.apart;
+  took = g.living.took;
+  took_apart = g.living.took_apart;
+  came = λ k r. g.living.came k (sym (passed.rests.quiet.reached k) ∙ (sym (ap (λ z. z.reached k) (now-is story.at (length log.past) y)) ∙ r));
+  stored = stores;
 }
   where
     y : Instant

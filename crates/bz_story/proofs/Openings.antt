@@ -1,5 +1,5 @@
 -- Fresh memory, as it is opened, lives.
-use Rattle.std.proofs.Common.{◌≡◌, ℕ, zero, suc, ◌≤◌, List, [], refl, ap, sym, arith}
+use Rattle.std.proofs.Common.{◌≡◌, ℕ, zero, suc, ◌≤◌, List, [], refl, ap, sym, arith, inl}
 use Rattle.std.proofs.lemmas.Bool.{true≢false}
 use Rattle.bz_layout.specs.Fresh.{fresh_words}
 use Rattle.bz_layout.specs.declared.config.Config.{Config}
@@ -28,4 +28,8 @@ fresh-lives law c m limits fresh = record {
   effects = omega arith;
   reserved = λ w a e. absurd (true≢false (sym e));
   apart = λ v w a e f. absurd (true≢false (sym e));
+  took = λ w k e. absurd (true≢false (sym e));
+  took_apart = λ v w k e f. absurd (true≢false (sym e));
+  came = λ k r. inl r;
+  stored = λ w k e. absurd (true≢false (sym e));
 }

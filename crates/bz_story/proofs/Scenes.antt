@@ -1,6 +1,5 @@
 -- The scene of a worker whose call is open is one of the memory now.
-use Rattle.std.proofs.Common.{◌≡◌, ◌≢◌, ℕ, suc, ◌^◌, ◌<◌, ◌≤◌, ◌==◌, ◌⊎◌, true, false, length, arith, refl, sym, inl, inr}
-use Rattle.std.proofs.lemmas.Bool.{true≢false}
+use Rattle.std.proofs.Common.{◌≡◌, ◌≢◌, ℕ, suc, ◌^◌, ◌<◌, ◌≤◌, ◌==◌, ◌⊎◌, true, false, length, arith, refl, inl, inr}
 use Rattle.std.proofs.lemmas.Bool.Decides.{nat_tests}
 use Rattle.bz_layout.specs.Addresses.{node_address, words_of as size_of}
 use Rattle.bz_layout.specs.declared.config.Config.{Config}
@@ -29,7 +28,7 @@ module _ (law : HiddenWordsAreValues) (c : Config) (m : SwapMemory) (log : Log) 
 
   -- own words lie in a slot of the memory
   in-slot : (a : ℕ) → IsOfTaken (scene c log.past story w opened) a ⊎ (story.reserved w a ≡ true) → (node_address c 0 ≤ a) × (a < size_of c)
-  in-slot a (inl o) = absurd (true≢false (sym o.took))
+  in-slot a (inl o) = let slot : o.slot < c.nodes = living.took w o.slot o.took in (omega (arith, o.address), omega (arith, o.address, o.within, slot))
   in-slot a (inr r) =
       let block : IsInBlock c (story.at (length log.past)) a = living.reserved w a r in
       let slot : block.slot < c.nodes = living.seen.good.slots block.slot block.reached in
@@ -64,7 +63,7 @@ pub scenes-apart : SharersOfNothingAreApart → (c : Config) (m : SwapMemory) (l
 scenes-apart law c m log story w v opened other living ne = law (scene c log.past story w opened) (scene c log.past story v other) (record {
   config = refl;
   here = refl;
-  took = λ k p q. absurd (true≢false (sym p));
+  took = λ k p q. ne (living.took_apart w v k p q);
   reserved = λ a p q. ne (living.apart w v a p q);
   of_first = λ a r. of-reached w opened a (living.reserved w a r);
   of_second = λ a r. of-reached v other a (living.reserved v a r);

@@ -1,6 +1,7 @@
 -- The effect of a swap: what it is to its worker and to the others, and that the memory lives on.
 use Rattle.std.proofs.Common.{◌≡◌, ◌≢◌, ℕ, suc, ◌+◌, ◌<◌, ◌≤◌, ◌⊎◌, ◌||◌, ◌&&◌, ◌==◌, Bool, true, false, List, [], ◌∷◌, length, slice_index, arith, refl, sym, ap, subst, ◌∙◌, inl, inr}
 use Rattle.std.specs.Prelude.{All, nat_le, nat_lt, is_some}
+use Rattle.std.proofs.lemmas.Bool.{true≢false}
 use Rattle.std.proofs.lemmas.Bool.Decides.{nat_tests}
 use Rattle.bz_layout.specs.Addresses.{node_address, slot_of, node_word_of, SlotsApart}
 use Rattle.bz_layout.specs.declared.config.Config.{Config}
@@ -12,12 +13,13 @@ use Rattle.bz_sight.specs.Effects.{TookPlace, EffectsTakePlace, KeepsOwn, Effect
 use Rattle.bz_sight.specs.Sight.{IsSeen}
 use Rattle.bz_sight.specs.Starts.{Sees}
 use Rattle.bz_sound.specs.Calls.{Open}
+use Rattle.bz_sound.specs.Memory.Spent.{is_reached_at_start}
 use Rattle.bz_swap.specs.EntryLists.{AreRising}
 use Rattle.bz_swap.specs.SwapMemory.{SwapMemory, entries_of, is_target}
 use Rattle.bz_task.specs.Instant.{Instant, words, page_at}
 use Rattle.bz_task.specs.Others.{AreApart, SharersOfNothingAreApart, Watches, EffectsAreLawful}
 use Rattle.bz_task.specs.Requests.{IsTarget}
-use Rattle.bz_task.specs.Scene.{Scene, IsLawful, here}
+use Rattle.bz_task.specs.Scene.{Scene, IsMine, IsLawful, here}
 use Rattle.bz_task.specs.Swaps.{Change, SwapsTo, Takes, swapped, grows_over, reserves}
 use Rattle.bz_word.specs.Statuses.{status}
 use Rattle.bz_word.specs.declared.entry.Entry.{Entry}
@@ -26,6 +28,7 @@ use Rattle.bz_story.specs.Living.{IsLiving, IsInBlock}
 use Rattle.bz_story.specs.Story.{Story, scene}
 use Rattle.bz_story.proofs.Lives.{history-on, images-on, step-block}
 use Rattle.bz_story.proofs.Scenes.{now-is, before-is, scenes-apart}
+use Rattle.bz_story.proofs.Storing.{stored-on}
 use Rattle.bz_story.proofs.Watching.{continues}
 
 and-both : (a b : Bool) → (a && b) ≡ true → (a ≡ true) × (b ≡ true)
@@ -231,6 +234,25 @@ module _ (b : Laws) (c : Config) (old new : SwapMemory) (log : Log) (story : Sto
       subst (λ j. NODE_WORDS ≤ node_word_of c a + (page_at c (story.at (length log.past)) j).block) (sym same.0) (omega (arith, block.block, same.1)) in
       omega (arith, held, r.reserves.free, ap (λ z. (status z).block) word)
 
+  -- a slot to which a link leads now and had not led was the worker's own
+  linked-took : (j : ℕ) → (story.at (length log.past)).reached j ≡ false → (effect_instant c new (story.at (length log.past))).reached j ≡ true → story.took w j ≡ true
+  linked-took j was is =
+      let mine : IsMine (scene c log.past story w opened) (node_address c j + 0) = g.good.linked j 0 was is (omega arith) in
+      elim mine.own [
+        | inl o ↦ subst (λ i. story.took w i ≡ true) (sym (b.apart c j o.slot 0 o.place (omega arith) o.within o.address).0) o.took
+        | inr r ↦ absurd (
+            let block : IsInBlock c (story.at (length log.past)) (node_address c j + 0) = g.living.reserved w (node_address c j + 0) r in
+            let same : j ≡ block.slot = (b.apart c j block.slot 0 block.place (omega arith) block.within block.address).0 in
+            true≢false (sym block.reached ∙ (ap (story.at (length log.past)).reached (sym same) ∙ was)))
+      ]
+
+  came-of : (j : ℕ) → (effect_instant c new (story.at (length log.past))).reached j ≡ true → (is_reached_at_start c log.start j ≡ true) ⊎ ((v : ℕ) × (story.took v j ≡ true))
+  came-of j is = go ((story.at (length log.past)).reached j) refl
+    where
+      go : (t : Bool) → (story.at (length log.past)).reached j ≡ t → (is_reached_at_start c log.start j ≡ true) ⊎ ((v : ℕ) × (story.took v j ≡ true))
+      go true e = g.living.came j e
+      go false e = inr (w, linked-took j e is)
+
   effect-living : IsLiving c new (with_mark log mark) (strikes c log story new w (entries_of old k))
   effect-living = record {
     seen = subst (IsSeen c new) (sym (now-is story.at (length log.past) (effect_instant c new (story.at (length log.past))))) (took.seen g.good.good (inr g.good.step));
@@ -240,6 +262,10 @@ module _ (b : Laws) (c : Config) (old new : SwapMemory) (log : Log) (story : Sto
     effects = subst (λ z. z.effects ≤ suc (length log.past)) (sym (now-is story.at (length log.past) (effect_instant c new (story.at (length log.past))))) (omega (arith, g.living.effects));
     reserved = λ v a o. subst (λ z. IsInBlock c z a) (sym (now-is story.at (length log.past) (effect_instant c new (story.at (length log.past))))) (block-of v a (reserved-of v a o));
     apart = λ u v a o p. apart-of u v a (reserved-of u a o) (reserved-of v a p);
+    took = g.living.took;
+    took_apart = g.living.took_apart;
+    came = λ j r. came-of j (subst (λ z. z.reached j ≡ true) (now-is story.at (length log.past) (effect_instant c new (story.at (length log.past)))) r);
+    stored = λ v j f. stored-on c log.past mark j (g.living.stored v j f);
   }
     where
       -- an address that a worker has reserved afterwards it had reserved before, or the swap is its own and reserves it

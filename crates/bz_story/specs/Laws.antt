@@ -1,6 +1,7 @@
 -- How a living memory goes on from mark to mark, and what each mark is to each worker.
-use Rattle.std.specs.Prelude.{◌≡◌, ◌≢◌, ℕ, ◌+◌, ◌^◌, ◌<◌, ◌==◌, ◌&&◌, ◌||◌, if◌then◌else◌, Bool, List, ◌∷◌, length, slice_index}
+use Rattle.std.specs.Prelude.{◌≡◌, ◌≢◌, ℕ, ◌+◌, ◌^◌, ◌<◌, ◌==◌, ◌&&◌, ◌||◌, if◌then◌else◌, Bool, true, false, List, ◌∷◌, length, slice_index}
 use Rattle.bz_layout.specs.Addresses.{slot_of, line_of}
+use Rattle.bz_layout.specs.Slots.{FreeSlots}
 use Rattle.bz_layout.specs.declared.config.Config.{Config}
 use Rattle.bz_mark.specs.Log.{Log, with_mark}
 use Rattle.bz_mark.specs.WordsAfter.{words_of as words_after_marks}
@@ -10,10 +11,11 @@ use Rattle.bz_sight.specs.Passing.{Passes, AllStay, StoresAt}
 use Rattle.bz_sight.specs.Sight.{next_instant}
 use Rattle.bz_sight.specs.Starts.{Sees}
 use Rattle.bz_sound.specs.Calls.{Open, with_effect}
+use Rattle.bz_sound.specs.Memory.Spent.{is_stored_into}
 use Rattle.bz_word.specs.declared.entry.Entry.{Entry}
 use Rattle.bz_swap.specs.EntryLists.{IsEntryList}
 use Rattle.bz_swap.specs.SwapMemory.{SwapMemory, words_of, entries_of}
-use Rattle.bz_task.specs.OwnActs.{Stores, Flushes}
+use Rattle.bz_task.specs.OwnActs.{Stores, Flushes, is_gained, gained}
 use Rattle.bz_task.specs.Requests.{IsOwnStore}
 use Rattle.bz_task.specs.Scene.{IsLawful}
 use Rattle.bz_task.specs.Swaps.{Change, IsGoodSwap, Takes, reserves}
@@ -39,6 +41,7 @@ abbrev pub goes_on : Log → Story → SwapMemory → (ℕ → ℕ → Bool) →
 goes_on log story new filled = record {
   at = and_then story.at (length log.past) (next_instant new (story.at (length log.past)));
   reserved = story.reserved;
+  took = story.took;
   filled = filled;
 }
 
@@ -51,7 +54,7 @@ pub record GoesOn (c : Config) (old new : SwapMemory) (log : Log) (story : Story
 abbrev pub LivesGoOn : Type 0
 LivesGoOn =
     (c : Config) (old new : SwapMemory) (log : Log) (story : Story) (mark : Mark) (filled : ℕ → ℕ → Bool) → GoesOn c old new log story mark →
-    IsLiving c new (with_mark log mark) (goes_on log story new filled)
+    ((v k : ℕ) → filled v k ≡ true → is_stored_into c k (mark ∷ log.past) ≡ true) → IsLiving c new (with_mark log mark) (goes_on log story new filled)
 
 -- which is nobody's private store: a lawful step for every worker
 abbrev pub QuietMarksAreLawful : Type 0
@@ -89,6 +92,7 @@ abbrev pub strikes : Config → Log → Story → SwapMemory → ℕ → List En
 strikes c log story new w entries = record {
   at = and_then story.at (length log.past) (effect_instant c new (story.at (length log.past)));
   reserved = λ v a. story.reserved v a || (v == w && reserves c entries a);
+  took = story.took;
   filled = story.filled;
 }
 
@@ -114,3 +118,18 @@ pub record EffectsAreTold : Type 0 where
   pub others : (c : Config) (old new : SwapMemory) (log : Log) (story : Story) (mark : Mark) (s w : ℕ) (opened : Open) (publishes : Bool) (change : Change) (v : ℕ) (other : Open) → Strikes c old new log story mark s w opened publishes change →
       v ≢ w → HasBegun log other →
       IsLawful (scene c log.past story v other) (scene c (mark ∷ log.past) (strikes c log story new w (entries_of old s)) v other)
+
+-- the story once worker w took the slots that are free no more
+abbrev pub takes_slots : Story → ℕ → FreeSlots → FreeSlots → Story
+takes_slots story w old new = record story { took = λ v k. story.took v k || (v == w && is_gained old new k) }
+
+-- the slots that worker w took are of the memory, and nobody took them before
+pub record MayTake (c : Config) (story : Story) (old new : FreeSlots) : Type 0 where
+  pub slots : (k : ℕ) → is_gained old new k ≡ true → k < c.nodes
+  pub nobody : (v k : ℕ) → is_gained old new k ≡ true → story.took v k ≡ false
+
+-- the memory lives on; to the worker the slots are gained, and to the others nothing happens
+pub record SlotsAreTaken : Type 0 where
+  pub living : (c : Config) (m : SwapMemory) (log : Log) (story : Story) (w : ℕ) (old new : FreeSlots) → IsLiving c m log story → MayTake c story old new → IsLiving c m log (takes_slots story w old new)
+  pub own : (c : Config) (past : List Mark) (story : Story) (w : ℕ) (opened : Open) (old new : FreeSlots) → scene c past (takes_slots story w old new) w opened ≡ gained (scene c past story w opened) old new
+  pub others : (c : Config) (past : List Mark) (story : Story) (w v : ℕ) (opened : Open) (old new : FreeSlots) → v ≢ w → scene c past (takes_slots story w old new) v opened ≡ scene c past story v opened

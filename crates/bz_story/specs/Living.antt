@@ -1,5 +1,5 @@
 -- A swap memory, its journal and its story agree.
-use Rattle.std.specs.Prelude.{◌≡◌, ℕ, ◌+◌, ◌<◌, ◌≤◌, true, length}
+use Rattle.std.specs.Prelude.{◌≡◌, ℕ, ◌+◌, ◌<◌, ◌≤◌, ◌⊎◌, true, length}
 use Rattle.bz_layout.specs.Addresses.{node_address}
 use Rattle.bz_layout.specs.declared.config.Config.{Config}
 use Rattle.bz_layout.specs.declared.sizes.TheConstants.{NODE_WORDS}
@@ -7,6 +7,7 @@ use Rattle.bz_mark.specs.Log.{Log}
 use Rattle.bz_mark.specs.WordsAfter.{words_of as words_after_marks}
 use Rattle.bz_sight.specs.Sight.{IsSeen}
 use Rattle.bz_sound.specs.Memory.Moments.{image_at}
+use Rattle.bz_sound.specs.Memory.Spent.{is_reached_at_start, is_stored_into}
 use Rattle.bz_swap.specs.SwapMemory.{SwapMemory, words_of}
 use Rattle.bz_task.specs.Instant.{Instant, page_at}
 use Rattle.bz_task.specs.Steps.{IsHistory}
@@ -33,3 +34,10 @@ pub record IsLiving (c : Config) (m : SwapMemory) (log : Log) (story : Story) : 
   -- what a worker reserved lies in a block, and no other worker reserved it
   pub reserved : (w a : ℕ) → story.reserved w a ≡ true → IsInBlock c (story.at (length log.past)) a
   pub apart : (v w a : ℕ) → story.reserved v a ≡ true → story.reserved w a ≡ true → v ≡ w
+  -- a slot that a worker took is one of the memory, and no other worker took it
+  pub took : (w k : ℕ) → story.took w k ≡ true → k < c.nodes
+  pub took_apart : (v w k : ℕ) → story.took v k ≡ true → story.took w k ≡ true → v ≡ w
+  -- a slot to which a link has led was reached at the start, or a worker took it
+  pub came : (k : ℕ) → (story.at (length log.past)).reached k ≡ true → (is_reached_at_start c log.start k ≡ true) ⊎ ((w : ℕ) × (story.took w k ≡ true))
+  -- the journal shows a store into each slot that a worker has filled
+  pub stored : (w k : ℕ) → story.filled w k ≡ true → is_stored_into c k log.past ≡ true

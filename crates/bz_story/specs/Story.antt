@@ -13,7 +13,8 @@ pub record Story : Type 0 where
   pub at : ℕ → Instant
   -- the addresses that each worker reserved for a record
   pub reserved : ℕ → ℕ → Bool
-  -- the slots into which each worker has stored
+  -- the slots that each worker took, and those into which it has stored
+  pub took : ℕ → ℕ → Bool
   pub filled : ℕ → ℕ → Bool
 
 -- the mark is a load of this worker
@@ -26,13 +27,13 @@ abbrev pub loaded : List Mark → ℕ → ℕ → Bool
 loaded past w zero = false
 loaded past w (suc moment) = is_load_of w (mark_at moment past)
 
--- what a worker's task knows of: the memory since its call began, and what is the worker's own. No slots are taken yet.
+-- what a worker's task knows of: the memory since its call began, and what is the worker's own
 abbrev pub scene : Config → List Mark → Story → ℕ → Open → Scene
 scene c past story w opened = record {
   past = record { config = c; at = story.at; now = length past; since = suc opened.begun; loads = loaded past w };
   effected = is_some opened.effect;
   reserved = story.reserved w;
-  took = λ k. false;
+  took = story.took w;
   filled = story.filled w;
 }
 

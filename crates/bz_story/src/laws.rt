@@ -1,6 +1,6 @@
 //! Laws of stories. Each function does nothing: its contract is the law.
 
-ghost use Rattle.bz_story.specs.Laws.{ScenesAreSeen, LivesGoOn, QuietMarksAreLawful, StoresAreTold, FlushesAreTold, EffectsAreTold};
+ghost use Rattle.bz_story.specs.Laws.{ScenesAreSeen, LivesGoOn, QuietMarksAreLawful, StoresAreTold, FlushesAreTold, EffectsAreTold, SlotsAreTaken};
 ghost use Rattle.bz_story.specs.Opening.{FreshStoriesLive};
 
 use bz_sight::laws as sight;
@@ -76,6 +76,11 @@ pub fn effects_are_told()
     task::sharers_of_nothing_are_apart();
     bz_layout::slots_apart();
 }
+
+/// Slots that a worker takes are gained by it, and the memory lives on.
+pub fn slots_are_taken()
+    ensures { SlotsAreTaken }
+{}
 
 /// Fresh memory, as it is opened, lives.
 pub fn fresh_stories_live()

@@ -43,6 +43,7 @@ use Rattle.bz_world.specs.Inside.Serving.{IsServing, IsSlot, stage_in}
 use Rattle.bz_world.specs.declared.parts.Parts.{Parts}
 use Rattle.bz_world.specs.declared.serving.Serving.{Serving}
 use Rattle.bz_world.specs.Inside.Laws.{StepLaws}
+use Rattle.bz_story.proofs.Storing.{stored-on}
 use Rattle.bz_world.proofs.Staying.{SameFor}
 use Rattle.bz_world.proofs.Quiet.{serves, sees, askable, goes, same-other, same-own, stays, goes-on, answered}
 
@@ -79,19 +80,20 @@ module _ (b : StepLaws) (old new : Parts) (w : ℕ) (x : Serving) (made : Act) (
 
   pub living : IsLiving old.config new.access (with_mark old.journal (mark_of w made)) after
   living = b.lives old.config old.access new.access old.journal k.story (mark_of w made) k.story.filled (goes b old new w x made answer k is-worker a)
+      (λ v j f. stored-on old.config old.journal.past (mark_of w made) j (k.living.stored v j f))
 
   pub lawful : (v : ℕ) (opened : Open) → HasBegun old.journal opened → IsLawful (scene old.config old.journal.past k.story v opened) (scene old.config (mark_of w made ∷ old.journal.past) after v opened)
   lawful v opened begun = b.quiet old.config old.access new.access old.journal k.story (mark_of w made) v opened (goes b old new w x made answer k is-worker a) all-stay begun
 
   pub slots : (v : ℕ) → SameFor old.access new.access v → IsSlot old.config new.access (with_mark old.journal (mark_of w made)) after old.owners.items v (get_or old.workers.items v None)
-  slots v same = stays b old new w x made answer k is-worker a after v living same (lawful v)
+  slots v same = stays b old new w x made answer k is-worker a after v living same (lawful v) (λ j. refl) (λ j h. h)
 
   pub others : (v : ℕ) → v ≢ w → IsSlot old.config new.access (with_mark old.journal (mark_of w made)) after old.owners.items v (get_or old.workers.items v None)
   others v ne = slots v (same-other b old new w x made answer k is-worker a v ne)
 
   -- it goes on
   pub busy-on : answer ≡ done.Busy → IsKept new
-  busy-on e = goes-on b old new w x made answer k is-worker a after room living (λ v. elim (cases_eq v w) [
+  busy-on e = goes-on b old new w x made answer k is-worker a after room living k.free (λ v. elim (cases_eq v w) [
     | inl same ↦ slots v (subst (SameFor old.access new.access) (sym same) (same-own b old new w x made answer k is-worker a e))
     | inr ne ↦ others v ne
   ])
@@ -106,10 +108,11 @@ module _ (b : StepLaws) (old new : Parts) (w : ℕ) (x : Serving) (made : Act) (
   -- and it is to be told
   pub be-told : (stage : Stage) (what : Seen) → answer ≢ done.Busy → facts_of x.task stage later → Hears (asks_of x.task) what → Tells (asks_of x.task) stage what later → IsTold new w x what
   be-told stage what ne facts hears tells = subst (λ p. IsTold p w x what) (sym a.rest) (record {
-    between = answered b old new w x made answer k is-worker a after room ne living others;
+    between = answered b old new w x made answer k is-worker a after room ne living k.free others;
     tasked = its.tasked;
     stage = stage;
     facts = facts;
+    covered = its.covered;
     hears = hears;
     tells = tells;
   })

@@ -51,6 +51,7 @@ between-pages p w x pairs b = record {
   taken = let t = b.taken in record { shown = t.shown; held = t.held; few = t.few; counted = t.counted; unused = t.unused };
   living = b.living;
   sound = b.sound;
+  free = b.free;
   others = b.others;
   worker = b.worker;
   within = b.within;
@@ -60,7 +61,7 @@ between-pages p w x pairs b = record {
 }
 
 abbrev pub on-pages : (p : Parts) (w : ℕ) (pairs : List (List ℕ × List ℕ)) → MustGoOn p w → MustGoOn (record p { page = pairs }) w
-on-pages p w pairs on = record { serving = on.serving; is = on.is; between = between-pages p w on.serving pairs on.between }
+on-pages p w pairs on = record { serving = on.serving; is = on.is; between = between-pages p w on.serving pairs on.between; filled = on.filled }
 
 -- the mark of a load, and the moment directly after it
 load-by : (w : ℕ) (mark : Option Mark) (past : List Mark) → is_load_of w mark ≡ true → (one : Mark) → mark ≡ Some one → IsAfterLoad w (one ∷ past)
@@ -153,4 +154,4 @@ module _ (b : AnswerLaws) (p : Parts) (w : ℕ) (view : LeafView) (m : MustAnswe
 
   -- the view answers after the page was put together as before
   abbrev pub still-answers : (pairs : List (List ℕ × List ℕ)) → MustAnswer (record p { page = pairs }) w view
-  still-answers pairs = record { on = on-pages p w pairs m.on; viewed = m.viewed; quiet = m.quiet }
+  still-answers pairs = record { on = on-pages p w pairs m.on; viewed = m.viewed; leads = m.leads; quiet = m.quiet }

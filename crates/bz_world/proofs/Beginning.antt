@@ -34,7 +34,8 @@ use Rattle.bz_world.specs.Inside.Serving.{IsSlot, IsAtRest}
 use Rattle.bz_world.specs.Inside.Telling.{MustStart}
 use Rattle.bz_world.specs.declared.parts.Parts.{Parts}
 use Rattle.bz_world.specs.declared.serving.Serving.{Serving}
-use Rattle.bz_world.proofs.Staying.{slot-stays}
+use Rattle.bz_story.proofs.Storing.{stored-on}
+use Rattle.bz_world.proofs.Staying.{none-unfilled, slot-stays}
 use Rattle.bz_world.proofs.Started.{read-kept}
 
 -- a worker has begun no more calls than there are
@@ -67,11 +68,11 @@ module _ (p : Parts) (k : IsKept p) (w : ℕ) (call : Call) (may : MayBegin p w 
   pub few-numbers : (n : ℕ) → n ≡ get_or p.numbers.items w n → n + 1 < 2 ^ 32
   few-numbers n e = omega (arith, number-is n e, few-calls w p.journal.past, k.tabled.begins, k.tabled.few_begins, k.tabled.config.calls_in_range.at_most)
 
-  at-rest : IsAtRest p.access p.journal w
+  at-rest : IsAtRest p.access p.journal k.story w
   at-rest = subst (IsSlot p.config p.access p.journal k.story p.owners.items w) may.none_open (k.workers w)
 
-  module _ (b : EndLaws) (s : StartLaws) (n : ℕ) (numbered : n ≡ begun_calls w p.journal.past + 1) (task : Running) (config : config_of task ≡ p.config) (laws : AreLaws task) (needs : needs_of task ≡ 0) (looks : makes_no_change task ≡ true)
-      (lookup : IsLookup (key_of call) task) (asks : asks_of task ≡ Some (Read 2)) (facts : (z : Scene) → HasFilled z → facts_of task Waiting z) where
+  module _ (b : EndLaws) (s : StartLaws) (n : ℕ) (numbered : n ≡ begun_calls w p.journal.past + 1) (task : Running) (config : config_of task ≡ p.config) (laws : AreLaws task) (looks : makes_no_change task ≡ true)
+      (lookup : IsLookup (key_of call) None task) (asks : asks_of task ≡ Some (Read 2)) (facts : (z : Scene) → HasFilled z → facts_of task Waiting z) where
     abbrev mark : Mark
     mark = Begin w n call
 
@@ -105,7 +106,7 @@ module _ (p : Parts) (k : IsKept p) (w : ℕ) (call : Call) (may : MayBegin p w 
     after = goes_on p.journal k.story p.access k.story.filled
 
     lives : IsLiving p.config p.access (with_mark p.journal mark) after
-    lives = b.lives p.config p.access p.access p.journal k.story mark k.story.filled no-act
+    lives = b.lives p.config p.access p.access p.journal k.story mark k.story.filled no-act (λ v j f. stored-on p.config p.journal.past mark j (k.living.stored v j f))
 
     slot-of : (v : ℕ) → v ≢ w → IsSlot p.config p.access (with_mark p.journal mark) after p.owners.items v (get_or workers.items v None)
     slot-of v ne = subst (IsSlot p.config p.access (with_mark p.journal mark) after p.owners.items v) (sym (get_or-set_other p.workers.items w v (Some fresh) None ne))
@@ -113,6 +114,8 @@ module _ (p : Parts) (k : IsKept p) (w : ℕ) (call : Call) (may : MayBegin p w 
           same = record { doing = refl; begun = refl; taken = refl; size = refl; effects = λ t d. refl };
           calls = (b.calls v p.journal.past).other_begin w n call (λ e. ne (sym e));
           lawful = λ o begins. b.quiet p.config p.access p.access p.journal k.story mark v o no-act (λ a out n. refl) begins;
+          took = λ j. refl;
+          filled = λ j e. e;
         }) (k.workers v))
 
     -- the tables
@@ -167,6 +170,7 @@ module _ (p : Parts) (k : IsKept p) (w : ℕ) (call : Call) (may : MayBegin p w 
       taken = let t = k.taken in record { shown = t.shown; held = t.held; few = t.few; counted = t.counted; unused = t.unused };
       living = lives;
       sound = sound;
+      free = k.free;
       others = slot-of;
       worker = may.worker;
       within = may.within;
@@ -176,7 +180,7 @@ module _ (p : Parts) (k : IsKept p) (w : ℕ) (call : Call) (may : MayBegin p w 
     }
 
     none-taken : HasFilled (scene p.config (mark ∷ p.journal.past) after w opened)
-    none-taken i e = absurd (true≢false (sym e))
+    none-taken i e = at-rest.filled i e
 
     pub must-start : MustStart mid w (Read 2)
     unfolding between
@@ -185,9 +189,10 @@ module _ (p : Parts) (k : IsKept p) (w : ℕ) (call : Call) (may : MayBegin p w 
       is = get_or-set_same p.workers.items w (Some fresh) None (omega (arith, in-table, k.tabled.places));
       asking = record {
         between = between;
-        tasked = record { config = config; laws = laws; needs = needs; lookup = lookup; change = inl looks };
+        tasked = record { config = config; laws = laws; lookup = lookup; change = inl looks };
         asks = asks;
         facts = facts (scene p.config (mark ∷ p.journal.past) after w opened) none-taken;
+        covered = none-unfilled (k.story.took w) (k.story.filled w) (needs_of task) laws.few at-rest.filled;
       };
     }
 

@@ -27,11 +27,12 @@ use Rattle.bz_world.specs.Inside.Serving.{IsSlot}
 use Rattle.bz_world.specs.declared.answers.Applied.TheVariants as applied
 use Rattle.bz_world.specs.declared.parts.Parts.{Parts}
 use Rattle.bz_world.specs.declared.serving.Serving.{Serving}
+use Rattle.bz_story.proofs.Storing.{stored-on}
 use Rattle.bz_world.proofs.Staying.{slot-stays}
 
 -- what is known of a worker does not depend on the journal's pages
 slot-pages : (c : Config) (m : SwapMemory) (log : Log) (pages : Pages) (story : Story) (owners : List ℕ) (v : ℕ) (slot : Option Serving) → IsSlot c m log story owners v slot → IsSlot c m (record log { pages = pages }) story owners v slot
-slot-pages c m log pages story owners v None h = record { none_open = h.none_open; idle = h.idle }
+slot-pages c m log pages story owners v None h = record { none_open = h.none_open; idle = h.idle; filled = h.filled }
 slot-pages c m log pages story owners v (Some x) h = record {
   opened = h.opened;
   call_open = let o = h.call_open in record { is_open = o.is_open; call = o.call; effect = o.effect; begun = o.begun; told = o.told };
@@ -40,10 +41,11 @@ slot-pages c m log pages story owners v (Some x) h = record {
   asks = h.asks;
   doing = h.doing;
   facts = h.facts;
+  covered = h.covered;
 }
 
 living-pages : (c : Config) (m : SwapMemory) (log : Log) (pages : Pages) (story : Story) → IsLiving c m log story → IsLiving c m (record log { pages = pages }) story
-living-pages c m log pages story l = record { seen = l.seen; history = l.history; words = l.words; images = l.images; effects = l.effects; reserved = l.reserved; apart = l.apart }
+living-pages c m log pages story l = record { seen = l.seen; history = l.history; words = l.words; images = l.images; effects = l.effects; reserved = l.reserved; apart = l.apart; took = l.took; took_apart = l.took_apart; came = l.came; stored = l.stored }
 
 module _ (b : EndLaws) (p : Parts) (w : ℕ) (on : MustGoOn p w) where
   abbrev was : IsBetween p w on.serving
@@ -96,13 +98,15 @@ module _ (b : EndLaws) (p : Parts) (w : ℕ) (on : MustGoOn p w) where
     after = goes_on p.journal was.story p.access was.story.filled
 
     lives : IsLiving p.config p.access (with_mark p.journal mark) after
-    lives = b.lives p.config p.access p.access p.journal was.story mark was.story.filled no-act
+    lives = b.lives p.config p.access p.access p.journal was.story mark was.story.filled no-act (λ v j f. stored-on p.config p.journal.past mark j (was.living.stored v j f))
 
     slot-of : (v : ℕ) → v ≢ w → IsSlot p.config p.access (with_mark p.journal mark) after p.owners.items v (get_or p.workers.items v None)
     slot-of v ne = slot-stays b.scenes b.stay p.config p.access p.access p.journal mark was.story after p.owners.items v (get_or p.workers.items v None) lives (record {
       same = record { doing = refl; begun = refl; taken = refl; size = refl; effects = λ t d. refl };
       calls = (b.calls v p.journal.past).other_end w n at reply (λ e. ne (sym e));
       lawful = λ o begins. b.quiet p.config p.access p.access p.journal was.story mark v o no-act (λ a out n. refl) begins;
+      took = λ j. refl;
+      filled = λ j e. e;
     }) (was.others v ne)
 
     module _ (pages : Pages) (sound : IsSound p.config (record (with_mark p.journal mark) { pages = pages })) (room : length p.journal.past < p.config.marks) where
@@ -115,7 +119,7 @@ module _ (b : EndLaws) (p : Parts) (w : ℕ) (on : MustGoOn p w) where
             (slot-pages p.config p.access (with_mark p.journal mark) pages after p.owners.items v (get_or p.workers.items v None) (slot-of v ne))
         | inl e ↦ subst (λ u. IsSlot p.config p.access done.journal after p.owners.items u (get_or done.workers.items u None)) (sym e)
             (subst (IsSlot p.config p.access done.journal after p.owners.items w) (sym (get_or-set_same p.workers.items w None None (omega (arith, in-table, was.tabled.places))))
-            (record { none_open = (b.calls w p.journal.past).own_end n at reply; idle = was.idle }))
+            (record { none_open = (b.calls w p.journal.past).own_end n at reply; idle = was.idle; filled = on.filled }))
       ]
 
       tabled : IsTabled done
@@ -146,6 +150,7 @@ module _ (b : EndLaws) (p : Parts) (w : ℕ) (on : MustGoOn p w) where
         taken = let t = was.taken in record { shown = t.shown; held = t.held; few = t.few; counted = t.counted; unused = t.unused };
         living = living-pages p.config p.access (with_mark p.journal mark) pages after lives;
         sound = sound;
+        free = was.free;
         workers = slots;
       }
 

@@ -26,6 +26,7 @@ use Rattle.bz_world.specs.Inside.Kept.{IsTabled, AreTaken, IsKept}
 use Rattle.bz_world.specs.Inside.Serving.{IsSlot}
 use Rattle.bz_world.specs.declared.parts.Parts.{Parts}
 use Rattle.bz_world.specs.Inside.Laws.{StepLaws}
+use Rattle.bz_story.proofs.Storing.{stored-on}
 use Rattle.bz_world.proofs.Owners.{pending-begun}
 use Rattle.bz_world.proofs.Stepped.{unused-by}
 use Rattle.bz_world.proofs.Staying.{SameFor, slot-stays}
@@ -104,7 +105,7 @@ module _ (b : StepLaws) (sees : EvictionsAreSeen) (old new : Parts) (a : ℕ) (k
   after = goes_on old.journal k.story new.access k.story.filled
 
   living : IsLiving old.config new.access (with_mark old.journal (Evict a)) after
-  living = b.lives old.config old.access new.access old.journal k.story (Evict a) k.story.filled goes
+  living = b.lives old.config old.access new.access old.journal k.story (Evict a) k.story.filled goes (λ v j f. stored-on old.config old.journal.past (Evict a) j (k.living.stored v j f))
 
   quiet : IsQuiet old.access new.access
   quiet = effect-in old.access.phase old.access new.access None k.living.seen.phase e.eviction.effect
@@ -123,6 +124,8 @@ module _ (b : StepLaws) (sees : EvictionsAreSeen) (old new : Parts) (a : ℕ) (k
     same = same v;
     calls = refl;
     lawful = λ o begins. b.quiet old.config old.access new.access old.journal k.story (Evict a) v o goes (sees.leaves old.access new.access a None e.eviction) begins;
+    took = λ j. refl;
+    filled = λ j h. h;
   }) (k.workers v)
 
   was : image_after old.journal.start old.journal.past ≡ (k.story.at (length old.journal.past)).image
@@ -143,5 +146,6 @@ module _ (b : StepLaws) (sees : EvictionsAreSeen) (old new : Parts) (a : ℕ) (k
     taken = subst AreTaken e.rest (evict-taken old new a None k e b.begun);
     living = living;
     sound = sound;
+    free = k.free;
     workers = slots;
   })

@@ -24,4 +24,8 @@ mod Answering
 mod Changing
 mod Beginning
 mod Stepping
+mod FreshSlots
 mod Openings
+mod Takings
+mod SpendingSlots
+mod MakingAnew

@@ -1,9 +1,10 @@
 -- Over fresh memory all that a world keeps is true.
-use Rattle.std.proofs.Common.{◌≡◌, ℕ, ◌+◌, Bool, true, false, if◌then◌else◌, nat_lt, List, [], length, replicate, slice_index, get_or, map, zero, suc, ◌∷◌, arith, refl, sym, ap, subst, ◌∙◌, inl, inr, Option, None}
-use Rattle.std.proofs.lemmas.Bool.{cases_lt}
+use Rattle.std.proofs.Common.{◌≡◌, ℕ, ◌+◌, ◌<◌, Bool, true, false, if◌then◌else◌, nat_lt, List, [], length, replicate, slice_index, get_or, map, zero, suc, ◌∷◌, arith, refl, sym, ap, subst, ◌∙◌, inl, inr, Option, None}
+use Rattle.std.proofs.lemmas.Bool.{cases_lt, true≢false}
+use Rattle.std.proofs.lemmas.Bool.Decides.{nat_tests}
 use Rattle.std.proofs.lemmas.List.{length-replicate, get_or-replicate, get_or_past}
 use Rattle.bz_cells.specs.Store.{status_word, status_of}
-use Rattle.bz_content.specs.Laws.{FreshMemoryIsEmpty}
+use Rattle.bz_content.specs.Laws.{FreshMemoryIsEmpty, FreshMemoryReachesSlotZero}
 use Rattle.bz_layout.specs.Addresses.{swap_address}
 use Rattle.bz_layout.specs.Config.{IsConfig}
 use Rattle.bz_layout.specs.Fresh.{FreshWordsSay, fresh_words}
@@ -22,7 +23,9 @@ use Rattle.bz_swap.specs.SwapMemory.{SwapMemory, Working, Idle, idle, doing_of, 
 use Rattle.bz_swap.specs.TakenStatuses.{BegunStayTaken, BegunAreTaken}
 use Rattle.bz_swap.specs.declared.phase.Phase.{Phase}
 use Rattle.bz_world.specs.Inside.Beginning.{lab_of}
-use Rattle.bz_world.specs.Inside.Kept.{IsTabled, AreTaken, IsKept}
+use Rattle.bz_world.proofs.FreshSlots.{free-below, free-root, free-others}
+use Rattle.bz_world.specs.Inside.Kept.{IsTabled, AreTaken, AreFree, IsKept}
+use Rattle.bz_world.specs.Inside.Opening.{fresh_slots}
 use Rattle.bz_world.specs.Lab.{new_lab}
 use Rattle.bz_world.specs.Inside.Serving.{IsSlot, IsAtRest}
 use Rattle.bz_world.specs.declared.parts.Parts.{Parts}
@@ -32,6 +35,7 @@ use Rattle.bz_world.specs.declared.serving.Serving.{Serving}
 pub record Laws : Type 0 where
   pub says : FreshWordsSay
   pub empty : FreshMemoryIsEmpty
+  pub reaches : FreshMemoryReachesSlotZero
   pub taken : BegunStayTaken
   pub sound : FreshJournalsAreSound
   pub living : FreshStoriesLive
@@ -47,6 +51,7 @@ pub record IsMade (p : Parts) : Type 0 where
   pub numbers : p.numbers.items ≡ replicate 65 0
   pub begun : p.begun ≡ 0
   pub pages_begun : p.pages_begun ≡ 0
+  pub slots : p.slots ≡ fresh_slots p.config
 
 same-everywhere : {A : Type 0} (n w : ℕ) (x : A) → get_or (replicate n x) w x ≡ x
 same-everywhere n w x = elim (cases_lt w n) [
@@ -65,8 +70,8 @@ module _ (b : Laws) (c : Config) (config : IsConfig c) where
   idle-all : (phase : Phase) (w : ℕ) → doing_of (first phase) w ≡ Idle
   idle-all phase w = ap (λ (x : Working). x.doing) (same-everywhere (c.workers + 1) w idle)
 
-  at-rest : (phase : Phase) (w : ℕ) → IsAtRest (first phase) log w
-  at-rest phase w = record { none_open = refl; idle = idle-all phase w }
+  at-rest : (phase : Phase) (w : ℕ) → IsAtRest (first phase) log (fresh_story c) w
+  at-rest phase w = record { none_open = refl; idle = idle-all phase w; filled = λ k e. absurd (true≢false (sym e)) }
 
   -- no descriptor is taken
   untaken : (s : ℕ) → slice_index (fresh_words c) (swap_address s) ≡ status_word Free
@@ -79,6 +84,19 @@ module _ (b : Laws) (c : Config) (config : IsConfig c) where
 
   sound : IsSound c log
   sound = b.sound c (fresh_words c) log.limits (b.says c).size (b.empty c config).0
+
+-- slot 0 is reached, and the others are free
+free-fresh : Laws → (c : Config) → IsConfig c → AreFree c (fresh_words c) (fresh_slots c) (fresh_story c).took
+free-fresh b c config = record {
+  nodes = refl;
+  within = λ k h. free-below c.nodes k h;
+  fresh = λ k h. rw (below k (free-below c.nodes k h), b.reaches c k config (free-below c.nodes k h), free-root c.nodes k h) refl;
+  untaken = λ v k h. refl;
+  others = λ k l h. inl (rw (below k l, b.reaches c k config l, free-others c.nodes k l h) refl);
+}
+  where
+    below : (k : ℕ) → k < c.nodes → nat_lt k c.nodes ≡ true
+    below k l = grind (arith, nat_tests)
 
 tabled : (p : Parts) → IsMade p → IsTabled p
 tabled p made = record {
@@ -120,12 +138,13 @@ kept-open b p made = record {
   taken = taken b p made;
   living = subst (λ l. IsLiving p.config p.access l (fresh_story p.config)) (sym made.journal) (b.living p.config p.access ((new_lab p.config).log.limits) (record { config = made.config; opened = made.opened; holds = made.holds }));
   sound = subst (IsSound p.config) (sym made.journal) (sound b p.config made.config);
+  free = subst (λ log. AreFree p.config log.start p.slots (fresh_story p.config).took) (sym made.journal) (subst (λ slots. AreFree p.config (fresh_words p.config) slots (fresh_story p.config).took) (sym made.slots) (free-fresh b p.config made.config));
   workers = λ w. subst (λ xs. IsSlot p.config p.access p.journal (fresh_story p.config) p.owners.items w (get_or xs w None)) (sym made.workers) (rest w (get_or (replicate 65 None) w None) (same-everywhere 65 w None));
 }
   where
     rest : (w : ℕ) (entry : Option Serving) → entry ≡ None → IsSlot p.config p.access p.journal (fresh_story p.config) p.owners.items w entry
     rest w entry e = subst (IsSlot p.config p.access p.journal (fresh_story p.config) p.owners.items w) (sym e)
-        (subst (λ m. IsAtRest m p.journal w) (sym made.opened.is) (subst (λ l. IsAtRest (opened made.opened.phase (fresh_words p.config) p.config.swaps p.config.workers) l w) (sym made.journal) (at-rest b p.config made.config made.opened.phase w)))
+        (subst (λ m. IsAtRest m p.journal (fresh_story p.config) w) (sym made.opened.is) (subst (λ l. IsAtRest (opened made.opened.phase (fresh_words p.config) p.config.swaps p.config.workers) l (fresh_story p.config) w) (sym made.journal) (at-rest b p.config made.config made.opened.phase w)))
 
 -- the same of parts whose memory and journal are known by other names
 pub kept-made : Laws → (p : Parts) (m : SwapMemory) (j : Log) → m ≡ p.access → j ≡ p.journal → IsMade (record p { access = m; journal = j }) → IsKept p

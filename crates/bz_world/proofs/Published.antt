@@ -32,6 +32,7 @@ use Rattle.bz_world.specs.Inside.Kept.{IsKept, IsTabled, AreTaken}
 use Rattle.bz_world.specs.Inside.Serving.{IsServing, IsSlot, IsToldBy, effect_reply}
 use Rattle.bz_world.specs.declared.parts.Parts.{Parts}
 use Rattle.bz_world.specs.declared.serving.Serving.{Serving}
+use Rattle.bz_story.proofs.Storing.{stored-on}
 use Rattle.bz_world.proofs.Staying.{slot-stays}
 use Rattle.bz_world.specs.Inside.Laws.{StrikeLaws}
 use Rattle.bz_world.proofs.Striking.{flush-calls, old, kept, w, x, its, before, waits, good, after, living, opened, took, others}
@@ -131,13 +132,15 @@ module _ (b : StrikeLaws) (p : Parts) (s : ℕ) (h : IsStriking p s) (publishes 
   }
 
   lives : IsLiving c p.access (with_mark with_flush effect_mark) told_story
-  lives = b.lives c p.access p.access with_flush (after b p s h) effect_mark (after b p s h).filled no-act
+  lives = b.lives c p.access p.access with_flush (after b p s h) effect_mark (after b p s h).filled no-act (λ v j f. stored-on c with_flush.past effect_mark j ((living b p s h).stored v j f))
 
   slot-of : (v : ℕ) → v ≢ worker → IsSlot c p.access (with_mark with_flush effect_mark) told_story (old b p s h).owners.items v (get_or (old b p s h).workers.items v None)
   slot-of v ne = slot-stays b.scenes b.stay c p.access p.access with_flush effect_mark (after b p s h) told_story (old b p s h).owners.items v (get_or (old b p s h).workers.items v None) lives (record {
     same = record { doing = refl; begun = refl; taken = refl; size = refl; effects = λ t d. refl };
     calls = (b.calls v (h.mark ∷ log.past)).other_effect worker its-open.number (λ e. ne (sym e));
     lawful = λ o begins. b.quiet c p.access p.access with_flush (after b p s h) effect_mark v o no-act (λ a out n. refl) begins;
+    took = λ j. refl;
+    filled = λ j e. e;
   }) (others b p s h v ne)
 
   -- the call, with its effect
@@ -189,6 +192,7 @@ module _ (b : StrikeLaws) (p : Parts) (s : ℕ) (h : IsStriking p s) (publishes 
     asks = its-asks b p s h;
     doing = its-swap b p s h (old b p s h).owners.items refl;
     facts = subst (λ z. facts_of (x b p s h).task z (scene c (effect_mark ∷ h.mark ∷ log.past) told_story worker effected)) (sym (stage-is b p s h)) knows;
+    covered = (its b p s h).covered;
   }
 
   slots : (items : List (Option Serving)) → get_or items worker None ≡ Some with_moment → ((v : ℕ) → v ≢ worker → get_or items v None ≡ get_or (old b p s h).workers.items v None)
@@ -235,5 +239,6 @@ module _ (b : StrikeLaws) (p : Parts) (s : ℕ) (h : IsStriking p s) (publishes 
     taken = taken-on workers;
     living = lives;
     sound = sound;
+    free = (kept b p s h).free;
     workers = slots workers.items here-is rest;
   }

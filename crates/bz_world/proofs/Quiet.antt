@@ -1,5 +1,5 @@
 -- An act of a worker by which no swap takes effect: the world but for this worker.
-use Rattle.std.proofs.Common.{◌≡◌, ◌≢◌, ℕ, ◌<◌, ◌≤◌, ◌∷◌, length, arith, refl, sym, ap, subst, ◌∙◌, inl, inr, Some, None}
+use Rattle.std.proofs.Common.{◌≡◌, ◌≢◌, ℕ, ◌<◌, ◌≤◌, ◌∷◌, true, length, arith, refl, sym, ap, subst, ◌∙◌, inl, inr, Some, None}
 use Rattle.std.specs.Prelude.{get_or}
 use Rattle.std.proofs.lemmas.Bool.{cases_eq, cases_lt}
 use Rattle.bz_acts.specs.declared.acted.Act.{Act}
@@ -22,7 +22,7 @@ use Rattle.bz_task.specs.Scene.{IsLawful, Waiting}
 use Rattle.bz_task.specs.declared.todo.Todo.{Todo}
 use Rattle.bz_task.specs.declared.todo.Todo.TheVariants as todo
 use Rattle.bz_world.specs.Inside.Acted.{IsActed, IsBetween}
-use Rattle.bz_world.specs.Inside.Kept.{IsTabled, AreTaken, IsKept}
+use Rattle.bz_world.specs.Inside.Kept.{IsTabled, AreTaken, AreFree, IsKept}
 use Rattle.bz_world.specs.Lab.{mark_of}
 use Rattle.bz_world.specs.Inside.Serving.{IsServing, IsDoing, IsSlot, stage_in}
 use Rattle.bz_world.specs.declared.parts.Parts.{Parts}
@@ -122,11 +122,14 @@ module _ (b : StepLaws) (old new : Parts) (w : ℕ) (x : Serving) (made : Act) (
   -- so what is known of a worker stays, if the mark is a lawful step for it
   pub stays : (after : Story) (v : ℕ) → IsLiving old.config new.access (with_mark old.journal (mark_of w made)) after → SameFor old.access new.access v
       → ((opened : Open) → HasBegun old.journal opened → IsLawful (scene old.config old.journal.past k.story v opened) (scene old.config (mark_of w made ∷ old.journal.past) after v opened))
+      → ((j : ℕ) → after.took v j ≡ k.story.took v j) → ((j : ℕ) → k.story.filled v j ≡ true → after.filled v j ≡ true)
       → IsSlot old.config new.access (with_mark old.journal (mark_of w made)) after old.owners.items v (get_or old.workers.items v None)
-  stays after v living same lawful = slot-stays b.scenes b.stay old.config old.access new.access old.journal (mark_of w made) k.story after old.owners.items v (get_or old.workers.items v None) living (record {
+  stays after v living same lawful took filled = slot-stays b.scenes b.stay old.config old.access new.access old.journal (mark_of w made) k.story after old.owners.items v (get_or old.workers.items v None) living (record {
     same = same;
     calls = act-calls v w old.journal.past made;
     lawful = lawful;
+    took = took;
+    filled = filled;
   }) (k.workers v)
 
   pub tabled : length old.journal.past < old.config.marks → IsTabled new
@@ -137,26 +140,28 @@ module _ (b : StepLaws) (old new : Parts) (w : ℕ) (x : Serving) (made : Act) (
 
   -- the world goes on
   pub goes-on : (after : Story) → length old.journal.past < old.config.marks → IsLiving old.config new.access (with_mark old.journal (mark_of w made)) after
-      → ((v : ℕ) → IsSlot old.config new.access (with_mark old.journal (mark_of w made)) after old.owners.items v (get_or old.workers.items v None)) → IsKept new
-  goes-on after room living slots = subst IsKept (sym a.rest) (record {
+      → AreFree old.config old.journal.start old.slots after.took → ((v : ℕ) → IsSlot old.config new.access (with_mark old.journal (mark_of w made)) after old.owners.items v (get_or old.workers.items v None)) → IsKept new
+  goes-on after room living free slots = subst IsKept (sym a.rest) (record {
     story = after;
     tabled = subst IsTabled a.rest (tabled room);
     taken = subst AreTaken a.rest taken;
     living = living;
     sound = sound;
+    free = free;
     workers = slots;
   })
 
   -- and the worker, whose operation was answered, is to be told
   abbrev pub answered : (after : Story) → length old.journal.past < old.config.marks → done ≢ Busy → IsLiving old.config new.access (with_mark old.journal (mark_of w made)) after
-      → ((v : ℕ) → v ≢ w → IsSlot old.config new.access (with_mark old.journal (mark_of w made)) after old.owners.items v (get_or old.workers.items v None))
+      → AreFree old.config old.journal.start old.slots after.took → ((v : ℕ) → v ≢ w → IsSlot old.config new.access (with_mark old.journal (mark_of w made)) after old.owners.items v (get_or old.workers.items v None))
       → IsBetween (record old { access = new.access; journal = with_mark old.journal (mark_of w made) }) w x
-  answered after room ne living slots = record {
+  answered after room ne living free slots = record {
     story = after;
     tabled = subst IsTabled a.rest (tabled room);
     taken = subst AreTaken a.rest taken;
     living = living;
     sound = sound;
+    free = free;
     others = slots;
     worker = some-worker old k w x is-worker;
     within = within-crew old k w x is-worker;

@@ -37,6 +37,22 @@ slot-holder : (c : Config) (m : SwapMemory) (log : Log) (story : Story) (owners 
 slot-holder c m log story owners v s None h swaps = absurd (cc (h.idle, swaps))
 slot-holder c m log story owners v s (Some x) h swaps = holder-by m log owners v s h.opened h.call_open.is_open swaps h.asked h.doing
 
+-- a worker with an open call, which is not this one, is one of the others
+pub is-other : (p : Parts) (w : ℕ) (x : Serving) → IsBetween p w x → (v : ℕ) → v ≢ w → (opened : Open) → open_call v p.journal.past ≡ Some opened → IsOther p.config p.journal.past w v
+is-other p w x was v other opened is = record { worker = some; configured = within; other = other; calls = record { opened = opened; is_open = is } }
+  where
+    some : 1 ≤ v
+    some = elim (cases_eq v 0) [
+      | inl zero ↦ absurd (cc (is, was.tabled.strangers v (inl zero)))
+      | inr ne ↦ omega (arith, ne)
+    ]
+
+    within : v ≤ p.config.workers
+    within = elim (cases_lt p.config.workers v) [
+      | inl beyond ↦ absurd (cc (is, was.tabled.strangers v (inr beyond)))
+      | inr fits ↦ fits
+    ]
+
 module _ (p : Parts) (w : ℕ) (l : LacksSwap p w) where
   abbrev was : IsBetween p w l.on.serving
   was = l.on.between
@@ -65,25 +81,8 @@ module _ (p : Parts) (w : ℕ) (l : LacksSwap p w) where
     | inr taken ↦ absurd (true≢false (sym (was.taken.shown s l-is taken) ∙ free))
   ]
 
-  some-worker : (v : ℕ) (opened : Open) → open_call v p.journal.past ≡ Some opened → 1 ≤ v
-  some-worker v opened is = elim (cases_eq v 0) [
-    | inl zero ↦ absurd (cc (is, was.tabled.strangers v (inl zero)))
-    | inr ne ↦ omega (arith, ne)
-  ]
-
-  within-crew : (v : ℕ) (opened : Open) → open_call v p.journal.past ≡ Some opened → v ≤ p.config.workers
-  within-crew v opened is = elim (cases_lt p.config.workers v) [
-    | inl beyond ↦ absurd (cc (is, was.tabled.strangers v (inr beyond)))
-    | inr fits ↦ fits
-  ]
-
-  is-other : (s : ℕ) (h : Holds s) → IsOther p.config p.journal.past w (slice_index p.owners.items s)
-  is-other s h = subst (IsOther p.config p.journal.past w) (sym h.is.owner) (record {
-    worker = some-worker h.holder h.is.opened h.is.is_open;
-    configured = within-crew h.holder h.is.opened h.is.is_open;
-    other = h.other;
-    calls = record { opened = h.is.opened; is_open = h.is.is_open };
-  })
+  holder-is-other : (s : ℕ) (h : Holds s) → IsOther p.config p.journal.past w (slice_index p.owners.items s)
+  holder-is-other s h = subst (IsOther p.config p.journal.past w) (sym h.is.owner) (is-other p w l.on.serving was h.holder h.other h.is.opened h.is.is_open)
 
   same-swap : (s t : ℕ) (h : Holds s) (g : Holds t) → slice_index p.owners.items s ≡ slice_index p.owners.items t → s ≡ t
   same-swap s t h g same =
@@ -93,6 +92,6 @@ module _ (p : Parts) (w : ℕ) (l : LacksSwap p w) where
 
   pub are-held : AreHeld p.config p.journal.past w (slice_index p.owners.items)
   are-held = record {
-    held = λ s below free. is-other s (holds s below free);
+    held = λ s below free. holder-is-other s (holds s below free);
     one_each = λ s t s-below t-below s-free t-free same. same-swap s t (holds s s-below s-free) (holds t t-below t-free) same;
   }

@@ -69,6 +69,10 @@ module _ (starts : StartsAreSeen) (begun : BegunStayTaken) (p : Parts) (w : ℕ)
     effects = l.effects;
     reserved = l.reserved;
     apart = l.apart;
+    took = l.took;
+    took_apart = l.took_apart;
+    came = l.came;
+    stored = l.stored;
   }
 
   serves-on : IsServing p.config (started p.access w doing) p.journal between.story p.owners.items w m.serving
@@ -80,6 +84,7 @@ module _ (starts : StartsAreSeen) (begun : BegunStayTaken) (p : Parts) (w : ℕ)
     asks = m.asking.asks;
     doing = does;
     facts = subst (λ z. facts_of m.serving.task z (scene p.config p.journal.past between.story w between.opened)) (sym (ap (stage_in (started p.access w doing)) (starts-it p.access w doing work.within) ∙ waits)) m.asking.facts;
+    covered = m.asking.covered;
   }
 
   same-other : (v : ℕ) → v ≢ w → SameFor p.access (started p.access w doing) v
@@ -114,5 +119,6 @@ module _ (starts : StartsAreSeen) (begun : BegunStayTaken) (p : Parts) (w : ℕ)
     taken = let t = between.taken in record { shown = t.shown; held = begun.start p.access w doing between.idle t.held; few = t.few; counted = t.counted; unused = t.unused };
     living = living;
     sound = between.sound;
+    free = between.free;
     workers = slots;
   }

@@ -1,10 +1,12 @@
 -- What is known of a worker stays by what others do.
-use Rattle.std.proofs.Common.{◌≡◌, ℕ, if◌then◌else◌, List, [], ◌∷◌, length, slice_index, arith, refl, sym, ap, subst, ◌∙◌, Option, Some, None}
+use Rattle.std.proofs.Common.{◌≡◌, ℕ, ◌≤◌, if◌then◌else◌, Bool, true, false, List, [], ◌∷◌, length, slice_index, arith, refl, sym, ap, subst, ◌∙◌, Option, Some, None}
 use Rattle.std.specs.Prelude.{get_or}
+use Rattle.std.proofs.lemmas.Bool.{true≢false}
 use Rattle.bz_layout.specs.declared.config.Config.{Config}
+use Rattle.bz_layout.specs.declared.thresholds.TheConstants.{SPLIT_SLOTS}
 use Rattle.bz_mark.specs.Log.{Log, with_mark}
 use Rattle.bz_mark.specs.declared.marks.Mark.{Mark}
-use Rattle.bz_running.specs.Duties.{facts_of}
+use Rattle.bz_running.specs.Duties.{needs_of, facts_of}
 use Rattle.bz_sound.specs.Calls.{Open, open_call}
 use Rattle.bz_sound.specs.Memory.Moments.{map_at_start}
 use Rattle.bz_sound.specs.Memory.OpenCallLaws.{EffectsStayOpen}
@@ -12,10 +14,10 @@ use Rattle.bz_story.specs.Laws.{HasBegun, ScenesAreSeen}
 use Rattle.bz_story.specs.Living.{IsLiving}
 use Rattle.bz_story.specs.Story.{Story, scene}
 use Rattle.bz_swap.specs.SwapMemory.{SwapMemory, Doing, Idle, Reading, Swapping, Loading, Storing, Flushing, doing_of, has_effect}
-use Rattle.bz_task.specs.Scene.{IsLawful, Waiting, Took}
+use Rattle.bz_task.specs.Scene.{Scene, IsLawful, Waiting, Took}
 use Rattle.bz_task.specs.declared.todo.Todo.{Todo}
 use Rattle.bz_task.specs.declared.todo.Todo.TheVariants as todo
-use Rattle.bz_world.specs.Inside.Serving.{IsServing, IsDoing, IsSlot, IsToldBy, effect_reply, stage_in}
+use Rattle.bz_world.specs.Inside.Serving.{IsServing, IsCovered, IsDoing, IsSlot, IsToldBy, effect_reply, stage_in}
 use Rattle.bz_world.specs.declared.serving.Serving.{Serving}
 
 -- what a worker does is the same in two memories, and so is whether its swap has taken effect
@@ -52,11 +54,28 @@ stage-by m n (Flushing line) e = refl
 stage-stays : (m n : SwapMemory) (v : ℕ) → SameFor m n v → stage_in n (doing_of n v) ≡ stage_in m (doing_of m v)
 stage-stays m n v same = ap (stage_in n) same.doing ∙ stage-by m n (doing_of m v) same.effects
 
+-- what may not be stored into is no more as stores are made
+pub covered-stays : (took later filled more : ℕ → Bool) (needs : ℕ) → ((k : ℕ) → later k ≡ took k) → ((k : ℕ) → filled k ≡ true → more k ≡ true) → IsCovered took filled needs → IsCovered later more needs
+covered-stays took later filled more needs same grows c = record { unfilled = c.unfilled; few = c.few; all = λ k t f. c.all k (sym (same k) ∙ t) (still k f) }
+  where
+    still : (k : ℕ) → more k ≡ false → filled k ≡ false
+    still k f = go (filled k) refl
+      where
+        go : (t : Bool) → filled k ≡ t → filled k ≡ false
+        go false e = e
+        go true e = absurd (true≢false (sym (grows k e) ∙ f))
+
+-- where each slot that a worker took has been stored into, those that its task is to take are few enough
+pub none-unfilled : (took filled : ℕ → Bool) (needs : ℕ) → needs ≤ SPLIT_SLOTS → ((k : ℕ) → took k ≡ true → filled k ≡ true) → IsCovered took filled needs
+none-unfilled took filled needs few all = record { unfilled = []; few = omega (arith, few); all = λ k t f. absurd (true≢false (sym (all k t) ∙ f)) }
+
 -- a mark that is a lawful step for a worker, and leaves what it does
 pub record Leaves (c : Config) (m n : SwapMemory) (log : Log) (mark : Mark) (story after : Story) (v : ℕ) : Type 0 where
   pub same : SameFor m n v
   pub calls : open_call v (mark ∷ log.past) ≡ open_call v log.past
   pub lawful : (opened : Open) → HasBegun log opened → IsLawful (scene c log.past story v opened) (scene c (mark ∷ log.past) after v opened)
+  pub took : (k : ℕ) → after.took v k ≡ story.took v k
+  pub filled : (k : ℕ) → story.filled v k ≡ true → after.filled v k ≡ true
 
 -- the reply that tells its effect stays the map's
 pub told-stays : EffectsStayOpen → (c : Config) (log : Log) (mark : Mark) (w : ℕ) (opened : Open) (had : Option (List ℕ)) → open_call w log.past ≡ Some opened → IsToldBy c log opened had → IsToldBy c (with_mark log mark) opened had
@@ -80,17 +99,18 @@ serving-stays seen stay c m n log mark story after owners v x living l s = recor
   facts = subst (λ z. facts_of x.task z (scene c (mark ∷ log.past) after v s.opened)) (sym (stage-stays m n v l.same))
       (s.tasked.laws.stable (stage_in m (doing_of m v)) (scene c log.past story v s.opened) (scene c (mark ∷ log.past) after v s.opened) (sym s.tasked.config) s.facts
       (seen c n (with_mark log mark) after v s.opened living (omega (arith, s.call_open.begun))).scene (l.lawful s.opened s.call_open.begun));
+  covered = covered-stays (story.took v) (after.took v) (story.filled v) (after.filled v) (needs_of x.task) l.took l.filled s.covered;
 }
 
 pub slot-stays : ScenesAreSeen → EffectsStayOpen → (c : Config) (m n : SwapMemory) (log : Log) (mark : Mark) (story after : Story) (owners : List ℕ) (v : ℕ) (slot : Option Serving) → IsLiving c n (with_mark log mark) after → Leaves c m n log mark story after v
     → IsSlot c m log story owners v slot → IsSlot c n (with_mark log mark) after owners v slot
-slot-stays seen stay c m n log mark story after owners v None living l s = record { none_open = l.calls ∙ s.none_open; idle = l.same.doing ∙ s.idle }
+slot-stays seen stay c m n log mark story after owners v None living l s = record { none_open = l.calls ∙ s.none_open; idle = l.same.doing ∙ s.idle; filled = λ k t. l.filled k (s.filled k (sym (l.took k) ∙ t)) }
 slot-stays seen stay c m n log mark story after owners v (Some x) living l s = serving-stays seen stay c m n log mark story after owners v x living l s
 
 -- without a mark, in a memory in which a worker does the same
 pub slot-same : (c : Config) (m n : SwapMemory) (log : Log) (story : Story) (owners others : List ℕ) (v : ℕ) (slot : Option Serving) → SameFor m n v → ((s : ℕ) → doing_of m v ≡ Swapping s → slice_index others s ≡ slice_index owners s)
     → IsSlot c m log story owners v slot → IsSlot c n log story others v slot
-slot-same c m n log story owners others v None same table s = record { none_open = s.none_open; idle = same.doing ∙ s.idle }
+slot-same c m n log story owners others v None same table s = record { none_open = s.none_open; idle = same.doing ∙ s.idle; filled = s.filled }
 slot-same c m n log story owners others v (Some x) same table s = record {
   opened = s.opened;
   call_open = let o = s.call_open in record { is_open = o.is_open; call = o.call; effect = o.effect; begun = o.begun; told = o.told };
@@ -99,6 +119,7 @@ slot-same c m n log story owners others v (Some x) same table s = record {
   asks = s.asks;
   doing = doing-stays m n others v s.asked same (doing-by m owners others v s.asked table s.doing);
   facts = subst (λ z. facts_of x.task z (scene c log.past story v s.opened)) (sym (stage-stays m n v same)) s.facts;
+  covered = s.covered;
 }
   where
     doing-by : (m : SwapMemory) (owners others : List ℕ) (v : ℕ) (asked : Todo) → ((s : ℕ) → doing_of m v ≡ Swapping s → slice_index others s ≡ slice_index owners s) → IsDoing m owners v asked → IsDoing m others v asked
@@ -108,3 +129,18 @@ slot-same c m n log story owners others v (Some x) same table s = record {
     doing-by m owners others v (todo.Flush line) table d = d
     doing-by m owners others v todo.Finish table d = absurd d
     doing-by m owners others v (todo.Swap entries) table d = record { swap = d.swap; doing = d.doing; same = d.same; owner = table d.swap d.doing ∙ d.owner; begun = d.begun; list = d.list }
+
+-- in another story that tells a worker the same
+pub slot-scenes : (c : Config) (m : SwapMemory) (log : Log) (story after : Story) (owners : List ℕ) (v : ℕ) (slot : Option Serving) (some : Open) → ((opened : Open) → scene c log.past after v opened ≡ scene c log.past story v opened)
+    → ((k : ℕ) → after.filled v k ≡ story.filled v k) → IsSlot c m log story owners v slot → IsSlot c m log after owners v slot
+slot-scenes c m log story after owners v None some same filled s = record { none_open = s.none_open; idle = s.idle; filled = λ k t. filled k ∙ s.filled k (sym (ap (λ (z : Scene). z.took k) (same some)) ∙ t) }
+slot-scenes c m log story after owners v (Some x) some same filled s = record {
+  opened = s.opened;
+  call_open = let o = s.call_open in record { is_open = o.is_open; call = o.call; effect = o.effect; begun = o.begun; told = o.told };
+  tasked = s.tasked;
+  asked = s.asked;
+  asks = s.asks;
+  doing = s.doing;
+  facts = subst (facts_of x.task (stage_in m (doing_of m v))) (sym (same s.opened)) s.facts;
+  covered = covered-stays (story.took v) (after.took v) (story.filled v) (after.filled v) (needs_of x.task) (λ k. ap (λ (z : Scene). z.took k) (same s.opened)) (λ k e. filled k ∙ e) s.covered;
+}

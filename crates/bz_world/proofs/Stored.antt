@@ -1,10 +1,10 @@
 -- What a worker is told of its private store.
-use Rattle.std.proofs.Common.{◌≡◌, ◌≢◌, ℕ, suc, ◌<◌, ◌∷◌, length, arith, sym, ap, subst, ◌∙◌, Some, None}
+use Rattle.std.proofs.Common.{◌≡◌, ◌≢◌, ℕ, suc, ◌<◌, true, ◌∷◌, length, arith, refl, sym, ap, subst, ◌∙◌, Some, None}
 use Rattle.std.specs.Prelude.{get_or}
 use Rattle.bz_acts.specs.declared.acted.Act.{Act}
 use Rattle.bz_machine.specs.declared.done.Done.{Done}
 use Rattle.bz_mark.specs.Log.{with_mark}
-use Rattle.bz_running.specs.Duties.{facts_of}
+use Rattle.bz_running.specs.Duties.{needs_of, facts_of}
 use Rattle.bz_sight.specs.Acts.{IsStoring}
 use Rattle.bz_sight.specs.Starts.{Sees}
 use Rattle.bz_story.specs.Laws.{IsStore, goes_on, fills}
@@ -23,7 +23,10 @@ use Rattle.bz_world.specs.Inside.Serving.{IsServing, IsSlot, stage_in}
 use Rattle.bz_world.specs.declared.parts.Parts.{Parts}
 use Rattle.bz_world.specs.declared.serving.Serving.{Serving}
 use Rattle.bz_world.specs.Inside.Laws.{StepLaws}
-use Rattle.bz_world.proofs.Quiet.{serves, sees, own, goes, same-other, stays, answered}
+use Rattle.bz_sound.specs.Memory.Spent.{is_stored_into}
+use Rattle.bz_story.proofs.Storing.{fills-stored}
+use Rattle.bz_world.proofs.Staying.{covered-stays}
+use Rattle.bz_world.proofs.Quiet.{some-worker, serves, sees, own, goes, same-other, stays, answered}
 
 module _ (b : StepLaws) (old new : Parts) (w : ℕ) (x : Serving) (made : Act) (answer : Done) (k : IsKept old) (is-worker : get_or old.workers.items w None ≡ Some x) (a : IsActed old w made answer None new) (room : length old.journal.past < old.config.marks) where
   abbrev pub its : IsServing old.config old.access old.journal k.story old.owners.items w x
@@ -45,12 +48,20 @@ module _ (b : StepLaws) (old new : Parts) (w : ℕ) (x : Serving) (made : Act) (
     is-store : IsStore old.config old.access new.access old.journal k.story w d u its.opened
     is-store = record { stores = is-storing.stores; begun = its.call_open.begun; own = own b old new w x made answer k is-worker a d u stores }
 
+    -- the journal shows the store
+    shown : (v j : ℕ) → fills old.config k.story w d v j ≡ true → is_stored_into old.config j (mark_of w made ∷ old.journal.past) ≡ true
+    shown = subst (λ (z : Act). (v j : ℕ) → fills old.config k.story w d v j ≡ true → is_stored_into old.config j (mark_of w z ∷ old.journal.past) ≡ true) (sym is-storing.act)
+        (fills-stored old.config old.journal.past k.story w d u (some-worker old k w x is-worker) ((sees b old new w x made answer k is-worker a w x its).scene.mine d (own b old new w x made answer k is-worker a d u stores).mine).0 k.living.stored)
+
+    fills-more : (v j : ℕ) → k.story.filled v j ≡ true → fills old.config k.story w d v j ≡ true
+    fills-more v j h = rw h refl
+
     living : IsLiving old.config new.access (with_mark old.journal (mark_of w made)) after
-    living = b.lives old.config old.access new.access old.journal k.story (mark_of w made) (fills old.config k.story w d) (goes b old new w x made answer k is-worker a)
+    living = b.lives old.config old.access new.access old.journal k.story (mark_of w made) (fills old.config k.story w d) (goes b old new w x made answer k is-worker a) shown
 
     others : (v : ℕ) → v ≢ w → IsSlot old.config new.access (with_mark old.journal (mark_of w made)) after old.owners.items v (get_or old.workers.items v None)
     others v ne = stays b old new w x made answer k is-worker a after v living (same-other b old new w x made answer k is-worker a v ne)
-        (λ opened begun. b.stores.others old.config old.access new.access old.journal k.story (mark_of w made) w d u its.opened v opened (goes b old new w x made answer k is-worker a) is-store ne begun)
+        (λ opened begun. b.stores.others old.config old.access new.access old.journal k.story (mark_of w made) w d u its.opened v opened (goes b old new w x made answer k is-worker a) is-store ne begun) (λ j. refl) (fills-more v)
 
     stored : Stores d u before later
     stored = b.stores.own old.config old.access new.access old.journal k.story (mark_of w made) w d u its.opened (goes b old new w x made answer k is-worker a) is-store
@@ -63,10 +74,11 @@ module _ (b : StepLaws) (old new : Parts) (w : ℕ) (x : Serving) (made : Act) (
 
     pub told-store : IsTold new w x seen.Stored
     told-store = subst (λ p. IsTold p w x seen.Stored) (sym a.rest) (record {
-      between = answered b old new w x made answer k is-worker a after room (λ f. absurd (cc (is-storing.answer, f))) living others;
+      between = answered b old new w x made answer k is-worker a after room (λ f. absurd (cc (is-storing.answer, f))) living k.free others;
       tasked = its.tasked;
       stage = Took;
       facts = took;
+      covered = covered-stays (k.story.took w) (k.story.took w) (k.story.filled w) (fills old.config k.story w d w) (needs_of x.task) (λ j. refl) (fills-more w) its.covered;
       hears = subst (λ z. Hears z seen.Stored) (sym (its.asks ∙ ap Some asked)) tt;
       tells = subst (λ z. Tells z Took seen.Stored later) (sym (its.asks ∙ ap Some asked)) tt;
     })

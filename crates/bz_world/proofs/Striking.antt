@@ -137,4 +137,6 @@ module _ (b : StrikeLaws) (p : Parts) (s : ℕ) (h : IsStriking p s) where
     same = same-other v ne;
     calls = flush-calls v h.mark old.journal.past h.flush;
     lawful = λ o begins. b.told.others old.config old.access p.access old.journal kept.story h.mark s w its.opened (publishing_of x.task) (change_of x.task) v o strikes-it ne begins;
+    took = λ j. refl;
+    filled = λ j e. e;
   }) (kept.workers v)

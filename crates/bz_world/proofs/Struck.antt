@@ -42,6 +42,7 @@ kept-workers p workers k size same = record {
   taken = let t = k.taken in record { shown = t.shown; held = t.held; few = t.few; counted = t.counted; unused = t.unused };
   living = k.living;
   sound = k.sound;
+  free = k.free;
   workers = λ v. subst (IsSlot p.config p.access p.journal k.story p.owners.items v) (sym (same v)) (k.workers v);
 }
 

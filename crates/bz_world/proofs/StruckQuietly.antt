@@ -84,6 +84,7 @@ module _ (b : StrikeLaws) (p : Parts) (s : ℕ) (h : IsStriking p s) where
       doing = its-swap (old b p s h).owners.items refl;
       facts = subst (λ z. facts_of (x b p s h).task z (scene (old b p s h).config (h.mark ∷ (old b p s h).journal.past) (after b p s h) (w b p s h) (its b p s h).opened)) (sym stage-is)
           (subst (λ o. facts_of (x b p s h).task Took (scene (old b p s h).config (h.mark ∷ (old b p s h).journal.past) (after b p s h) (w b p s h) o)) opened-is (took b p s h));
+      covered = (its b p s h).covered;
     }
 
     slots : (v : ℕ) → IsSlot (old b p s h).config p.access (with_mark (old b p s h).journal h.mark) (after b p s h) (old b p s h).owners.items v (get_or (old b p s h).workers.items v None)
@@ -100,5 +101,6 @@ module _ (b : StrikeLaws) (p : Parts) (s : ℕ) (h : IsStriking p s) where
       taken = subst AreTaken h.rest h.taken;
       living = living b p s h;
       sound = sound;
+      free = (kept b p s h).free;
       workers = slots;
     })

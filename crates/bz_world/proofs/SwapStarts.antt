@@ -92,6 +92,10 @@ module _ (starts : StartsAreSeen) (scenes : ScenesAreSeen) (begun : BegunStayTak
     effects = l.effects;
     reserved = l.reserved;
     apart = l.apart;
+    took = l.took;
+    took_apart = l.took_apart;
+    came = l.came;
+    stored = l.stored;
   }
 
   does : doing_of new w ≡ Swapping p.access.taken
@@ -109,6 +113,7 @@ module _ (starts : StartsAreSeen) (scenes : ScenesAreSeen) (begun : BegunStayTak
     asks = m.asking.asks;
     doing = record { swap = p.access.taken; doing = does; same = own-entries; owner = mine; begun = omega arith; list = list };
     facts = subst (λ z. facts_of m.serving.task z (scene p.config p.journal.past was.story w was.opened)) (sym waits) m.asking.facts;
+    covered = m.asking.covered;
   }
 
   -- the others do what they did
@@ -128,7 +133,7 @@ module _ (starts : StartsAreSeen) (scenes : ScenesAreSeen) (begun : BegunStayTak
   other-slot v ne = slot-of (get_or p.workers.items v None) (was.others v ne)
     where
       slot-of : (slot : Option Serving) → IsSlot p.config p.access p.journal was.story p.owners.items v slot → IsSlot p.config new p.journal was.story owners.items v slot
-      slot-of None h = record { none_open = h.none_open; idle = starts-others p.access w v (Swapping p.access.taken) ne ∙ h.idle }
+      slot-of None h = record { none_open = h.none_open; idle = starts-others p.access w v (Swapping p.access.taken) ne ∙ h.idle; filled = h.filled }
       slot-of (Some x) h = record {
         opened = h.opened;
         call_open = let o = h.call_open in record { is_open = o.is_open; call = o.call; effect = o.effect; begun = o.begun; told = o.told };
@@ -137,6 +142,7 @@ module _ (starts : StartsAreSeen) (scenes : ScenesAreSeen) (begun : BegunStayTak
         asks = h.asks;
         doing = doing-of h.asked h.doing;
         facts = subst (λ z. facts_of x.task z (scene p.config p.journal.past was.story v h.opened)) (sym (ap (stage_in new) (starts-others p.access w v (Swapping p.access.taken) ne) ∙ same-stage (doing_of p.access v))) h.facts;
+        covered = h.covered;
       }
         where
           same-stage : (d : Doing) → stage_in new d ≡ stage_in p.access d
@@ -197,5 +203,6 @@ module _ (starts : StartsAreSeen) (scenes : ScenesAreSeen) (begun : BegunStayTak
     };
     living = living;
     sound = was.sound;
+    free = was.free;
     workers = slots;
   }

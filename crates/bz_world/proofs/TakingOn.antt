@@ -3,11 +3,10 @@ use Rattle.std.proofs.Common.{◌≡◌, ◌≢◌, ℕ, true, List, length, ari
 use Rattle.std.specs.Prelude.{get_or}
 use Rattle.std.specs.Global.{Vec}
 use Rattle.std.specs.Vec.{with_item}
-use Rattle.std.proofs.lemmas.Bool.{true≢false}
 use Rattle.std.proofs.lemmas.List.{get_or_read_under, get_or-set_same, get_or-set_other, length-set}
 use Rattle.bz_call.specs.Map.{key_of}
 use Rattle.bz_call.specs.declared.calls.Call.{Call}
-use Rattle.bz_running.specs.Duties.{config_of, asks_of, needs_of, facts_of, makes_no_change}
+use Rattle.bz_running.specs.Duties.{config_of, asks_of, end_of, needs_of, facts_of, makes_no_change}
 use Rattle.bz_running.specs.Hearing.{IsLookup}
 use Rattle.bz_running.specs.Laws.{AreLaws}
 use Rattle.bz_running.specs.declared.running.Running.{Running}
@@ -16,20 +15,70 @@ use Rattle.bz_swap.specs.SwapMemory.{worker_of}
 use Rattle.bz_task.specs.Requests.{Hears, Tells}
 use Rattle.bz_task.specs.Scene.{IsScene, HasFilled, Waiting}
 use Rattle.bz_task.specs.declared.path.Path.{Path}
-use Rattle.bz_task.specs.declared.todo.Seen.TheVariants.{Start}
+use Rattle.bz_call.specs.declared.replies.Spent.TheVariants.{Swaps}
+use Rattle.bz_layout.specs.Slots.{FreeSlots}
+use Rattle.bz_story.specs.Story.{scene}
+use Rattle.bz_task.specs.declared.todo.Outcome.{Outcome}
+use Rattle.bz_task.specs.declared.todo.Outcome.TheVariants.{Full}
+use Rattle.bz_task.specs.declared.todo.Seen.TheVariants.{Start, NoSwap}
 use Rattle.bz_task.specs.declared.todo.Todo.{Todo}
+use Rattle.bz_task.specs.declared.view.LeafView.{LeafView}
 use Rattle.bz_world.specs.Inside.Acted.{IsBetween, MustTell}
-use Rattle.bz_world.specs.Inside.Going.{MustGoOn, MustTakeOn, known, call_in, WentOn}
+use Rattle.bz_world.specs.Inside.Going.{MustGoOn, MustTakeOn, MustAnswer, LacksSwap, known, call_in, end_in, WentOn}
 use Rattle.bz_world.specs.Lab.{GoesOn}
 use Rattle.bz_world.specs.Inside.Serving.{IsOpened, IsSlot, IsToldBy}
-use Rattle.bz_world.specs.Inside.Telling.{MustStart}
+use Rattle.bz_world.specs.Inside.Telling.{MustStart, HasTold, HasToldIn, LacksDescriptor, KnowsLeaf, MustTellOf, MustStartOf}
 use Rattle.bz_world.specs.declared.answers.Applied.{Applied}
 use Rattle.bz_world.specs.declared.parts.Parts.{Parts}
 use Rattle.bz_world.specs.declared.serving.Serving.{Serving}
+use Rattle.bz_world.proofs.Staying.{none-unfilled}
 
--- no slot was taken, so none is left to fill
+-- each slot that was taken has been stored into
 pub has-filled : (p : Parts) (w : ℕ) (on : MustGoOn p w) → HasFilled (known p w on)
-has-filled p w on k e = absurd (true≢false (sym e))
+has-filled p w on k e = on.filled k e
+
+-- what stands in the table of a worker whose task asks for something
+pub serving-is : (p : Parts) (w : ℕ) (todo : Todo) (m : MustStart p w todo) (slot : Option Serving) → slot ≡ get_or p.workers.items w slot → slot ≡ Some m.serving
+serving-is p w todo m slot e = get_or_read_under p.workers.items w (length p.workers.items) slot None e (omega (arith, m.asking.between.within, m.asking.between.tabled.places, m.asking.between.tabled.config.workers_in_range.at_most)) refl ∙ m.is
+
+-- a task that has ended, so that its call goes on
+abbrev pub must-go-on : (p : Parts) (w : ℕ) (todo : Todo) (m : MustStart p w todo) (outcome : Outcome) → end_of m.serving.task ≡ Some outcome → MustGoOn p w
+must-go-on p w todo m outcome ended = record {
+  serving = m.serving;
+  is = m.is;
+  between = m.asking.between;
+  filled = (m.asking.tasked.laws.ends (scene p.config p.journal.past m.asking.between.story w m.asking.between.opened) outcome m.asking.facts ended).1;
+}
+
+pub ended-by : (p : Parts) (w : ℕ) (todo : Todo) (m : MustStart p w todo) (outcome : Outcome) → end_in (get_or p.workers.items w None) ≡ Some outcome → end_of m.serving.task ≡ Some outcome
+ended-by p w todo m outcome ended = subst (λ z. end_in z ≡ Some outcome) m.is ended
+
+-- a task that asks for a swap, for which there is no descriptor, is told so
+pub lacks-told : (p : Parts) (w : ℕ) (todo : Todo) → MustStart p w todo → LacksDescriptor p todo → MustTell p w NoSwap
+lacks-told p w todo m lacks = record {
+  serving = m.serving;
+  is = m.is;
+  told = record {
+    between = m.asking.between;
+    tasked = m.asking.tasked;
+    stage = Waiting;
+    facts = m.asking.facts;
+    covered = m.asking.covered;
+    hears = subst (λ z. Hears z NoSwap) (sym (m.asking.asks ∙ ap Some lacks.is)) tt;
+    tells = subst (λ z. Tells z Waiting NoSwap (scene p.config p.journal.past m.asking.between.story w m.asking.between.opened)) (sym (m.asking.asks ∙ ap Some lacks.is)) tt;
+  };
+}
+
+-- and then it has ended
+pub lacks-swap : (p : Parts) (w : ℕ) (todo then : Todo) (m : MustStart p w todo) → LacksDescriptor p todo → (q : Parts) (moment : ℕ) (free left : FreeSlots) → q ≡ record p { slots = q.slots; workers = q.workers } → MustStart q w then
+    → HasToldIn (get_or p.workers.items w None) NoSwap moment free then (get_or q.workers.items w None) left → LacksSwap q w
+lacks-swap p w todo then m lacks q moment free left rest asks told = record {
+  on = must-go-on q w then asks (Full Swaps) (heard.heard.no_swap refl);
+  spent = ap (λ (z : Parts). z.access.taken) rest ∙ (lacks.spent ∙ sym (ap (λ (z : Parts). z.config.swaps) rest));
+}
+  where
+    heard : HasTold m.serving NoSwap moment free then asks.serving left
+    heard = subst (λ z. HasToldIn z NoSwap moment free then (Some asks.serving) left) m.is (subst (λ z. HasToldIn (get_or p.workers.items w None) NoSwap moment free then z left) asks.is told)
 
 -- the world but for the worker's task
 pub between-tasks : (p : Parts) (w : ℕ) (x y : Serving) (b : IsBetween p w x) (workers : Vec (Option Serving)) → length workers.items ≡ length p.workers.items → ((v : ℕ) → v ≢ w → get_or workers.items v None ≡ get_or p.workers.items v None)
@@ -55,6 +104,7 @@ between-tasks p w x y b workers size rest opened = record {
   taken = let t = b.taken in record { shown = t.shown; held = t.held; few = t.few; counted = t.counted; unused = t.unused };
   living = b.living;
   sound = b.sound;
+  free = b.free;
   others = λ v ne. subst (IsSlot p.config p.access p.journal b.story p.owners.items v) (sym (rest v ne)) (b.others v ne);
   worker = b.worker;
   within = b.within;
@@ -78,16 +128,16 @@ pub known-scene : ScenesAreSeen → (p : Parts) (w : ℕ) (on : MustGoOn p w) �
 known-scene scenes p w on = (scenes p.config p.access p.journal on.between.story w on.between.opened on.between.living on.between.call_open.begun).scene
 
 -- a lookup of the call's key
-abbrev pub lookup-taken : (p : Parts) (w : ℕ) (on : MustGoOn p w) (task : Running) (asked : Option Todo) (key : List ℕ) → config_of task ≡ p.config → AreLaws task → needs_of task ≡ 0 → makes_no_change task ≡ true → IsLookup key task → key ≡ key_of on.serving.call
-    → asks_of task ≡ asked → facts_of task Waiting (known p w on) → MustTakeOn p w task on.serving.had asked
-lookup-taken p w on task asked key config laws needs looks lookup same asks facts = record {
+abbrev pub lookup-taken : (p : Parts) (w : ℕ) (on : MustGoOn p w) (task : Running) (way : Option Path) (asked : Option Todo) (key : List ℕ) → config_of task ≡ p.config → AreLaws task → makes_no_change task ≡ true → IsLookup key way task → key ≡ key_of on.serving.call
+    → asks_of task ≡ asked → facts_of task Waiting (known p w on) → MustTakeOn p w task way on.serving.had asked
+lookup-taken p w on task way asked key config laws looks lookup same asks facts = record {
   on = on;
-  tasked = record { config = config; laws = laws; needs = needs; lookup = subst (λ k. IsLookup k task) same lookup; change = inl looks };
+  tasked = record { config = config; laws = laws; lookup = subst (λ k. IsLookup k way task) same lookup; change = inl looks };
   asks = asks;
   facts = facts;
 }
 
-module _ (p : Parts) (w : ℕ) (task : Running) (had : Option (List ℕ)) (asked : Option Todo) (m : MustTakeOn p w task had asked) (path : Option Path) (slot : Option Serving) (is : slot ≡ Some (record m.on.serving { task = task; path = path; had = had })) (told : IsToldBy p.config p.journal m.on.between.opened had) where
+module _ (p : Parts) (w : ℕ) (task : Running) (had : Option (List ℕ)) (asked : Option Todo) (path : Option Path) (m : MustTakeOn p w task path had asked) (slot : Option Serving) (is : slot ≡ Some (record m.on.serving { task = task; path = path; had = had })) (told : IsToldBy p.config p.journal m.on.between.opened had) where
   abbrev pub next : Serving
   next = record m.on.serving { task = task; path = path; had = had }
 
@@ -109,9 +159,10 @@ module _ (p : Parts) (w : ℕ) (task : Running) (had : Option (List ℕ)) (asked
     is = here-is;
     asking = record {
       between = between;
-      tasked = let t = m.tasked in record { config = t.config; laws = t.laws; needs = t.needs; lookup = t.lookup; change = t.change };
+      tasked = let t = m.tasked in record { config = t.config; laws = t.laws; lookup = t.lookup; change = t.change };
       asks = m.asks ∙ e;
       facts = m.facts;
+      covered = none-unfilled (m.on.between.story.took w) (m.on.between.story.filled w) (needs_of task) m.tasked.laws.few m.on.filled;
     };
   }
 
@@ -123,13 +174,26 @@ module _ (p : Parts) (w : ℕ) (task : Running) (had : Option (List ℕ)) (asked
     is = here-is;
     told = record {
       between = between;
-      tasked = let t = m.tasked in record { config = t.config; laws = t.laws; needs = t.needs; lookup = t.lookup; change = t.change };
+      tasked = let t = m.tasked in record { config = t.config; laws = t.laws; lookup = t.lookup; change = t.change };
       stage = Waiting;
       facts = m.facts;
+      covered = none-unfilled (m.on.between.story.took w) (m.on.between.story.filled w) (needs_of task) m.tasked.laws.few m.on.filled;
       hears = subst (λ z. Hears z Start) (sym (m.asks ∙ e)) tt;
       tells = subst (λ z. Tells z Waiting Start (known p w m.on)) (sym (m.asks ∙ e)) (has-filled p w m.on);
     };
   }
+
+  -- and what was read of its leaf is known as before
+  pub begins-knowing : (e : asked ≡ None) (view : LeafView) → KnowsLeaf p w m.on.serving m.on.between view → path ≡ m.on.serving.path → MustTellOf taken w Start view
+  unfolding taken-begins between between-tasks
+  begins-knowing e view k same = record {
+    must = taken-begins e;
+    knows = record { viewed = k.viewed; leads = λ way is. k.leads way (sym same ∙ is); quiet = k.quiet };
+  }
+
+-- what was read of a call's leaf lets its call go on
+abbrev pub must-answer : (p : Parts) (w : ℕ) (todo : Todo) (view : LeafView) (m : MustStartOf p w todo view) (outcome : Outcome) → end_of m.must.serving.task ≡ Some outcome → MustAnswer p w view
+must-answer p w todo view m outcome ended = record { on = must-go-on p w todo m.must outcome ended; viewed = m.knows.viewed; leads = m.knows.leads; quiet = m.knows.quiet }
 
 -- a call that went on from parts with other slots and tasks
 pub went-told : (old mid : Parts) (w : ℕ) (answer : Applied) (new : Parts) → mid.journal ≡ old.journal → mid.config ≡ old.config → mid.access ≡ old.access → WentOn mid w answer new → WentOn old w answer new

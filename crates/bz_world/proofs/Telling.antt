@@ -1,44 +1,33 @@
 -- A task that was told something asks for something else, and the world but for it is as it was.
-use Rattle.std.proofs.Common.{◌≡◌, ◌≢◌, ℕ, ◌||◌, ◌&&◌, not, Bool, true, false, length, arith, refl, sym, ap, subst, ◌∙◌, inl, inr, Option, Some, None}
+use Rattle.std.proofs.Common.{◌≡◌, ◌≢◌, ℕ, ◌||◌, Bool, true, false, length, arith, refl, sym, ap, subst, ◌∙◌, inl, inr, Option, Some, None}
 use Rattle.std.specs.Prelude.{get_or}
 use Rattle.std.specs.Global.{Vec}
 use Rattle.std.specs.Vec.{with_item}
+use Rattle.std.proofs.lemmas.Bool.{true≢false}
 use Rattle.std.proofs.lemmas.List.{get_or-set_same, get_or-set_other, length-set}
+use Rattle.bz_call.specs.Map.{key_of}
 use Rattle.bz_layout.specs.Slots.{FreeSlots}
+use Rattle.bz_layout.specs.declared.config.Config.{Config}
 use Rattle.bz_running.specs.Duties.{needs_of, facts_of}
-use Rattle.bz_shape.specs.Walk.{is_among}
 use Rattle.bz_sight.specs.Starts.{Sees}
-use Rattle.bz_story.specs.Laws.{ScenesAreSeen}
-use Rattle.bz_story.specs.Story.{scene}
-use Rattle.bz_task.specs.OwnActs.{AreTakenFrom, gained, is_gained}
+use Rattle.bz_sound.specs.Calls.{Open}
+use Rattle.bz_story.specs.Laws.{ScenesAreSeen, SlotsAreTaken, takes_slots}
+use Rattle.bz_story.specs.Living.{IsLiving}
+use Rattle.bz_story.specs.Story.{Story, scene}
+use Rattle.bz_task.specs.OwnActs.{AreUnreached, gained, is_gained}
+use Rattle.bz_task.specs.Outcomes.{IsPath, IsView}
 use Rattle.bz_task.specs.Scene.{Scene, Waiting}
 use Rattle.bz_task.specs.declared.todo.Outcome.TheVariants as outcome
 use Rattle.bz_task.specs.declared.todo.Seen.{Seen}
 use Rattle.bz_task.specs.declared.todo.Todo.{Todo}
+use Rattle.bz_task.specs.declared.view.LeafView.{LeafView}
 use Rattle.bz_world.specs.Inside.Acted.{IsTold, IsAsking, MustTell}
-use Rattle.bz_world.specs.Inside.Serving.{IsOpened, IsTasked, IsSlot, IsChangeFor}
-use Rattle.bz_world.specs.Inside.Telling.{CanHear, HasTold, HasToldIn, MustStart}
+use Rattle.bz_world.specs.Inside.Serving.{IsCovered, IsOpened, IsTasked, IsSlot, IsChangeFor}
+use Rattle.bz_world.specs.Inside.Telling.{CanHear, HasTold, HasToldIn, MustStart, KnowsLeaf, MustStartOf}
 use Rattle.bz_world.specs.declared.parts.Parts.{Parts}
 use Rattle.bz_world.specs.declared.serving.Serving.{Serving}
-
--- a worker that takes no slot gains none
-and-not : (z : Bool) → z && not z ≡ false
-and-not true = refl
-and-not false = refl
-
-or-not : (a z : Bool) → z ≡ false → a || z ≡ a
-or-not true z e = refl
-or-not false z e = e
-
-gained-none : (s : Scene) (f : FreeSlots) → gained s f f ≡ s
-gained-none s f = ap (λ (o : ℕ → Bool). record s { took = o }) (λ t k. took k t)
-  where
-    took : (k : ℕ) → (s.took k || is_gained f f k) ≡ s.took k
-    took k = or-not (s.took k) (is_gained f f k) (and-not (is_among f.free k))
-
-none-taken : (needed left : ℕ) (old new : FreeSlots) → needed ≡ 0 → AreTakenFrom needed left old new → (new ≡ old) × (left ≡ 0)
-none-taken needed left old new e (inl t) = absurd (omega (arith, e, t.some))
-none-taken needed left old new e (inr t) = (t.slots, omega (arith, e, t.fewer))
+use Rattle.bz_world.proofs.Staying.{covered-stays, slot-scenes}
+use Rattle.bz_world.proofs.Takings.{covered-taken, may-take, still-free}
 
 -- the slot has a task that was told
 pub record IsNext (x : Serving) (seen : Seen) (moment : ℕ) (free : FreeSlots) (todo : Todo) (slot : Option Serving) (left : FreeSlots) : Type 0 where
@@ -50,7 +39,7 @@ next-of : (x : Serving) (seen : Seen) (moment : ℕ) (free : FreeSlots) (todo : 
 next-of x seen moment free todo None left h = absurd h
 next-of x seen moment free todo (Some y) left h = record { next = y; is = refl; told = h }
 
-module _ (scenes : ScenesAreSeen) (p : Parts) (w : ℕ) (seen : Seen) (m : MustTell p w seen) where
+module _ (scenes : ScenesAreSeen) (slots : SlotsAreTaken) (p : Parts) (w : ℕ) (seen : Seen) (m : MustTell p w seen) where
   abbrev x : Serving
   x = m.serving
 
@@ -63,8 +52,8 @@ module _ (scenes : ScenesAreSeen) (p : Parts) (w : ℕ) (seen : Seen) (m : MustT
   sees : Sees p.config (told.between.story.at (length p.journal.past)) here
   sees = scenes p.config p.access p.journal told.between.story w told.between.opened told.between.living told.between.call_open.begun
 
-  pub can-hear : (slot : Option Serving) → slot ≡ Some x → CanHear slot seen (length p.journal.past)
-  can-hear slot e = subst (λ z. CanHear z seen (length p.journal.past)) (sym e) (
+  pub can-hear : (slot : Option Serving) → slot ≡ Some x → CanHear slot seen (length p.journal.past) p.slots
+  can-hear slot e = subst (λ z. CanHear z seen (length p.journal.past) p.slots) (sym e) (
     told.hears,
     record {
       stage = told.stage;
@@ -75,18 +64,29 @@ module _ (scenes : ScenesAreSeen) (p : Parts) (w : ℕ) (seen : Seen) (m : MustT
       holds = told.facts;
       tells = told.tells;
     },
-    told.tasked.needs,
+    λ some. told.between.free.nodes ∙ ap (λ (c : Config). c.nodes) (sym told.tasked.config),
   )
 
+  -- no link has led to a free slot
+  unreached : AreUnreached here p.slots
+  unreached k free = go ((told.between.story.at (length p.journal.past)).reached k) refl
+    where
+      go : (t : Bool) → (told.between.story.at (length p.journal.past)).reached k ≡ t → (told.between.story.at (length p.journal.past)).reached k ≡ false
+      go false e = e
+      go true e = absurd (elim (told.between.living.came k e) [
+        | inl start ↦ true≢false (sym start ∙ told.between.free.fresh k free)
+        | inr took ↦ true≢false (sym took.1 ∙ told.between.free.untaken took.0 k free)
+      ])
+
   module _ (todo : Todo) (left : FreeSlots) (y : Serving) (h : HasTold x seen (length p.journal.past) p.slots todo y left) where
-    tasked : IsTasked p.config y.call y.had y.task
-    tasked = subst (λ (z : Serving). IsTasked p.config z.call z.had y.task) (sym h.rest) (record {
+    tasked : IsTasked p.config y.call y.path y.had y.task
+    tasked = subst (λ (z : Serving). IsTasked p.config z.call z.path z.had y.task) (sym h.rest) (record {
       config = h.heard.config ∙ told.tasked.config;
       laws = h.laws;
-      needs = (none-taken (needs_of x.task) (needs_of y.task) p.slots left told.tasked.needs h.heard.slots).1;
       lookup = record {
         path = λ path s means. told.tasked.lookup.path path s (h.heard.meant (outcome.Path path) s means);
         view = λ view s means. told.tasked.lookup.view view s (h.heard.meant (outcome.View view) s means);
+        leads = λ path is view s means. told.tasked.lookup.leads path is view s (h.heard.meant (outcome.View view) s means);
       };
       change = elim told.tasked.change [
         | inl look ↦ inl (h.heard.silent ∙ look)
@@ -94,14 +94,30 @@ module _ (scenes : ScenesAreSeen) (p : Parts) (w : ℕ) (seen : Seen) (m : MustT
       ];
     })
 
-    facts : facts_of y.task Waiting here
-    facts = subst (facts_of y.task Waiting) (subst (λ f. gained here p.slots f ≡ here) (sym (none-taken (needs_of x.task) (needs_of y.task) p.slots left told.tasked.needs h.heard.slots).0) (gained-none here p.slots))
-        (h.heard.learns told.stage here refl (sym told.tasked.config) sees.scene (λ some. absurd (omega (arith, some, told.tasked.needs))) told.facts told.tells)
+    -- what the worker took is its own then
+    abbrev after : Story
+    after = takes_slots told.between.story w p.slots left
+
+    later : scene p.config p.journal.past after w told.between.opened ≡ gained here p.slots left
+    later = slots.own p.config p.journal.past told.between.story w told.between.opened p.slots left
+
+    facts : facts_of y.task Waiting (scene p.config p.journal.past after w told.between.opened)
+    facts = subst (facts_of y.task Waiting) (sym later) (h.heard.learns told.stage here refl (sym told.tasked.config) sees.scene (λ some. unreached) told.facts told.tells)
+
+    covered : IsCovered (after.took w) (told.between.story.filled w) (needs_of y.task)
+    covered = covered-stays (λ k. told.between.story.took w k || is_gained p.slots left k) (after.took w) (told.between.story.filled w) (told.between.story.filled w) (needs_of y.task) (λ k. ap (λ (z : Scene). z.took k) later) (λ k e. e)
+        (covered-taken (told.between.story.took w) (told.between.story.filled w) (needs_of x.task) (needs_of y.task) p.slots left h.heard.slots told.covered)
+
+    living : IsLiving p.config p.access p.journal after
+    living = slots.living p.config p.access p.journal told.between.story w p.slots left told.between.living (may-take p.config p.journal.start told.between.story p.slots left told.between.free)
+
+    other : (v : ℕ) → v ≢ w → (opened : Open) → scene p.config p.journal.past after v opened ≡ scene p.config p.journal.past told.between.story v opened
+    other v ne opened = slots.others p.config p.journal.past told.between.story w v opened p.slots left ne
 
     pub is-asking : (workers : Vec (Option Serving)) → length workers.items ≡ length p.workers.items → ((v : ℕ) → v ≢ w → get_or workers.items v None ≡ get_or p.workers.items v None) → IsAsking (record p { slots = left; workers = workers }) w y todo
     is-asking workers size rest = record {
       between = record {
-        story = told.between.story;
+        story = after;
         tabled = let t = told.between.tabled in record {
           config = t.config;
           limits = t.limits;
@@ -119,9 +135,11 @@ module _ (scenes : ScenesAreSeen) (p : Parts) (w : ℕ) (seen : Seen) (m : MustT
           steps = t.steps;
         };
         taken = let t = told.between.taken in record { shown = t.shown; held = t.held; few = t.few; counted = t.counted; unused = t.unused };
-        living = told.between.living;
+        living = living;
         sound = told.between.sound;
-        others = λ v ne. subst (IsSlot p.config p.access p.journal told.between.story p.owners.items v) (sym (rest v ne)) (told.between.others v ne);
+        free = still-free p.config p.journal.start told.between.story w (needs_of x.task) (needs_of y.task) p.slots left h.heard.slots told.between.free;
+        others = λ v ne. subst (IsSlot p.config p.access p.journal after p.owners.items v) (sym (rest v ne))
+            (slot-scenes p.config p.access p.journal told.between.story after p.owners.items v (get_or p.workers.items v None) told.between.opened (other v ne) (λ k. refl) (told.between.others v ne));
         worker = told.between.worker;
         within = told.between.within;
         opened = told.between.opened;
@@ -131,6 +149,7 @@ module _ (scenes : ScenesAreSeen) (p : Parts) (w : ℕ) (seen : Seen) (m : MustT
       tasked = tasked;
       asks = h.heard.asked;
       facts = facts;
+      covered = covered;
     }
 
   pub must-start : (todo : Todo) (left : FreeSlots) (old slot : Option Serving) → old ≡ Some x → HasToldIn old seen (length p.journal.past) p.slots todo slot left → MustStart (record p { slots = left; workers = with_item p.workers w slot }) w todo
@@ -139,3 +158,17 @@ module _ (scenes : ScenesAreSeen) (p : Parts) (w : ℕ) (seen : Seen) (m : MustT
     is = get_or-set_same p.workers.items w slot None (omega (arith, told.between.within, told.between.tabled.places, told.between.tabled.config.workers_in_range.at_most)) ∙ n.is;
     asking = is-asking todo left n.next n.told (with_item p.workers w slot) (length-set p.workers.items w slot) (λ v ne. get_or-set_other p.workers.items w v slot None ne);
   }
+
+  -- what was read of its leaf is known as before
+  pub still-knows : (view : LeafView) → KnowsLeaf p w x told.between view → (todo : Todo) (left : FreeSlots) (old slot : Option Serving) → old ≡ Some x → HasToldIn old seen (length p.journal.past) p.slots todo slot left → MustStartOf (record p { slots = left; workers = with_item p.workers w slot }) w todo view
+  unfolding must-start is-asking
+  still-knows view k todo left old slot e h =
+      let n = next-of x seen (length p.journal.past) p.slots todo slot left (subst (λ z. HasToldIn z seen (length p.journal.past) p.slots todo slot left) e h) in
+      record {
+        must = must-start todo left old slot e h;
+        knows = record {
+          viewed = subst (λ (z : Serving). IsView (key_of z.call) view here.past) (sym n.told.rest) k.viewed;
+          leads = λ path is. subst (λ (z : Serving). IsPath (key_of z.call) path here.past) (sym n.told.rest) (k.leads path (sym (ap (λ (z : Serving). z.path) n.told.rest) ∙ is));
+          quiet = ap (λ (z : Serving). z.effect) n.told.rest ∙ k.quiet;
+        };
+      }

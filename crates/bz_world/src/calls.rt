@@ -2,7 +2,8 @@
 ghost use Rattle.std.specs.Prelude.{◌≡◌, ◌↔◌, IsTrue, IsSome, Some};
 ghost use Rattle.bz_call.specs.Map.{key_of as key_in};
 ghost use Rattle.bz_sound.specs.Memory.Replies.{IsWrite};
-ghost use Rattle.bz_world.specs.Inside.Going.{call_in, end_in, path_in as way_in, had_in as payload_in, effect_in as moment_in, with_task, with_change};
+ghost use Rattle.bz_task.specs.declared.todo.Todo.TheVariants.{Finish};
+ghost use Rattle.bz_world.specs.Inside.Going.{call_in, end_in, asks_in, path_in as way_in, had_in as payload_in, effect_in as moment_in, with_task, with_change};
 
 use crate::serving::Serving;
 use bz_call::Call;
@@ -47,7 +48,8 @@ pub(crate) fn called(slot: &Option<Serving>) -> Call
 
 /// How its task has ended, if it has.
 pub(crate) fn ended_in(slot: &Option<Serving>) -> Option<Outcome>
-    ensures { result ≡ end_in slot.now }
+    ensures end { result ≡ end_in slot.now }
+    ensures finish { asks_in slot.now ≡ Some Finish → IsSome result }
 {
     match slot {
         Some(serving) => serving.task.ended(),

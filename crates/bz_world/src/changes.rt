@@ -1,23 +1,22 @@
 //! The changes of records: what a leaf has decides whether a call makes one.
-ghost use Rattle.std.specs.Prelude.{◌≡◌, ◌<◌, ◌^◌, true, false, None, Some, length, get_or};
+ghost use Rattle.std.specs.Prelude.{◌≡◌, ◌<◌, true, None, Some, length, get_or};
 ghost use Rattle.bz_call.specs.declared.calls.Call.TheVariants as called;
-ghost use Rattle.bz_call.specs.declared.replies.Spent.TheVariants.{Nodes};
 ghost use Rattle.bz_slotted.specs.Readers.{found_of};
 ghost use Rattle.bz_slotted.specs.ReadingLaws.{node_of};
-ghost use Rattle.bz_word.specs.Statuses.{status};
 ghost use Rattle.bz_task.specs.declared.todo.Outcome.TheVariants.{NeedsRoom};
-ghost use Rattle.bz_world.specs.Inside.Going.{MustAnswer, MustChange, MustInsert, MustUpdate, MustDelete, IsShort, WentOn, call_in, end_in};
-ghost use Rattle.bz_world.specs.Inside.Telling.{MustStart};
+ghost use Rattle.bz_world.specs.Inside.Going.{MustAnswer, MustChange, MustInsert, MustUpdate, MustDelete, WentOn, call_in, end_in};
+ghost use Rattle.bz_world.specs.Inside.Telling.{MustStartOf};
 
 use crate::answers::Applied;
 use crate::calls::{ended_in, path_in, set_change};
 use crate::end::end;
-use crate::going::{end_full, go_on, look_up};
+use crate::going::{go_on, look_up};
 use crate::laws::{answer_laws, start_laws};
 use crate::parts::Parts;
+use crate::restructuring::restructure;
 use crate::serving::Serving;
 use crate::tell::tell;
-use bz_call::{Reply, Spent};
+use bz_call::Reply;
 use bz_key::{Key, Payload};
 use bz_page::find;
 use bz_running::Running;
@@ -33,16 +32,14 @@ fn needs_room(slot: &Option<Serving>) -> bool
     }
 }
 
-// Goes on with a change that was told to begin. Where its leaf, which is not frozen, lacks the room, the call ends.
+// Goes on with a change that was told to begin. Where its leaf is frozen or lacks the room, the leaf is made anew first.
 fn go_on_changing(parts: &mut Parts, w: u8, view: &LeafView, todo: Todo) -> Applied
-    requires asks { MustStart parts.old w todo }
-    requires short { end_in (get_or parts.old.workers.items w None) ≡ Some NeedsRoom → (status view.now.status).frozen ≡ false → IsShort parts.old w Nodes }
-    requires plain { view.now.status < 2 ^ 61 }
+    requires asks { MustStartOf parts.old w todo view.now }
     requires room { length parts.old.journal.past < parts.old.config.marks }
     ensures { WentOn parts.old w result parts.new }
 {
-    if needs_room(&parts.workers[w as usize]) && !view.is_frozen() {
-        end_full(parts, w, Spent::Nodes)
+    if needs_room(&parts.workers[w as usize]) {
+        restructure(parts, w, view)
     } else {
         go_on(parts, w, todo)
     }
@@ -57,7 +54,6 @@ fn begin_change(
     task: Running,
 ) -> Applied
     requires change { MustChange parts.old w view.now had task }
-    requires plain { view.now.status < 2 ^ 61 }
     requires room { length parts.old.journal.past < parts.old.config.marks }
     ensures { WentOn parts.old w result parts.new }
 {

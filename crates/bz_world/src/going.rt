@@ -1,21 +1,23 @@
 //! How a call goes on when its task has ended, or asks for something.
-ghost use Rattle.std.specs.Prelude.{◌≡◌, ◌<◌, false, length};
+ghost use Rattle.std.specs.Prelude.{◌≡◌, ◌<◌, false, None, Some, get_or, length};
+ghost use Rattle.bz_task.specs.declared.todo.Todo.TheVariants.{Finish};
 ghost use Rattle.bz_call.specs.Pages.{names_page};
-ghost use Rattle.bz_world.specs.Inside.Going.{MustGoOn, HadEffect, LacksSwap, IsShort, WentOn};
+ghost use Rattle.bz_world.specs.Inside.Going.{MustGoOn, HadEffect, LacksSwap, IsShort, WentOn, end_in};
 ghost use Rattle.bz_world.specs.Inside.Serving.{effect_reply as reply_in};
 ghost use Rattle.bz_world.specs.Inside.Telling.{MustStart};
 
 use crate::answers::Applied;
-use crate::calls::{called, effect_in, had_in, is_write, key_of, set_task};
+use crate::calls::{called, effect_in, ended_in, had_in, is_write, key_of, set_task};
 use crate::end::end;
 use crate::laws::start_laws;
 use crate::parts::Parts;
 use crate::start::start;
+use crate::tell::tell;
 use bz_call::{Call, Reply, Spent};
 use bz_key::Payload;
 use bz_layout::ROOT_STATUS_AT;
 use bz_running::Running;
-use bz_task::Todo;
+use bz_task::{Outcome, Seen, Todo};
 
 /// Begins the lookup of the call's key, again.
 pub(crate) fn look_up(parts: &mut Parts, w: u8) -> Applied
@@ -84,6 +86,17 @@ fn end_swapless(parts: &mut Parts, w: u8) -> Applied
     }
 }
 
+/// How the task of a worker's call has ended.
+pub(crate) fn outcome_of(parts: &Parts, w: u8) -> Outcome
+    requires { MustStart parts.now w Finish }
+    ensures { end_in (get_or parts.now.workers.items w None) ≡ Some result }
+{
+    match ended_in(&parts.workers[w as usize]) {
+        Some(outcome) => outcome,
+        None => unreachable!(),
+    }
+}
+
 /// Starts what a task asks for; where it has ended at once, its call is looked up again.
 pub(crate) fn go_on(parts: &mut Parts, w: u8, todo: Todo) -> Applied
     requires asks { MustStart parts.old w todo }
@@ -91,11 +104,13 @@ pub(crate) fn go_on(parts: &mut Parts, w: u8, todo: Todo) -> Applied
     ensures { WentOn parts.old w result parts.new }
 {
     if matches!(todo, Todo::Finish) {
+        let _ = outcome_of(parts, w);
         return look_up(parts, w);
     }
     if start(parts, w, todo) {
         Applied::Stepped
     } else {
+        let _ = tell(parts, w, Seen::NoSwap);
         end_swapless(parts, w)
     }
 }

@@ -83,4 +83,5 @@ pub(crate) fn answer_laws()
     sound::pages_come_from_the_image();
     sound::spent_answers_full();
     bz_record::laws::views_show_leaves();
+    bz_page::laws::views_say_what_images_say();
 }

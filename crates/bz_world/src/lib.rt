@@ -11,6 +11,7 @@ mod going;
 mod laws;
 mod open;
 mod parts;
+mod restructuring;
 mod serving;
 mod settle;
 mod start;

@@ -45,6 +45,7 @@ fn fresh_parts(alloc: Global, config: &Config) -> Result<Parts, Memory>
     bz_layout::addresses_fit();
     bz_layout::fresh_words_say();
     bz_content::laws::fresh_memory_is_empty();
+    bz_content::laws::fresh_memory_reaches_slot_zero();
     bz_swap::laws::begun_stay_taken();
     bz_sound::memory_laws::fresh_journals_are_sound();
     bz_story::laws::fresh_stories_live();

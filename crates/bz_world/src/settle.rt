@@ -6,10 +6,10 @@ ghost use Rattle.bz_world.specs.Inside.Going.{MustRead, MustAnswer, HasEnded, We
 ghost use Rattle.bz_world.specs.Inside.Telling.{MustStart};
 
 use crate::answers::Applied;
-use crate::calls::{called, effect_in, ended_in, key_of, set_task};
+use crate::calls::{called, effect_in, key_of, set_task};
 use crate::changes::{answer_delete, answer_insert, answer_update, answer_upsert};
 use crate::end::{end, end_page};
-use crate::going::{end_effective, go_on, look_up};
+use crate::going::{end_effective, go_on, look_up, outcome_of};
 use crate::laws::{answer_laws, start_laws};
 use crate::parts::Parts;
 use crate::tell::tell;
@@ -77,15 +77,15 @@ fn answer(parts: &mut Parts, w: u8, view: &LeafView) -> Applied
     }
 }
 
-// The task of a call without effect has ended.
-fn settle_quiet(parts: &mut Parts, w: u8) -> Applied
-    requires ends { HasEnded parts.old w }
+// The task of a call without effect has ended so.
+fn settle_quiet(parts: &mut Parts, w: u8, outcome: Outcome) -> Applied
+    requires ends { HasEnded parts.old w outcome }
     requires room { length parts.old.journal.past < parts.old.config.marks }
     ensures { WentOn parts.old w result parts.new }
 {
-    match ended_in(&parts.workers[w as usize]) {
-        Some(Outcome::Path(path)) => read_leaf(parts, w, path),
-        Some(Outcome::View(view)) => answer(parts, w, &view),
+    match outcome {
+        Outcome::Path(path) => read_leaf(parts, w, path),
+        Outcome::View(view) => answer(parts, w, &view),
         _ => look_up(parts, w),
     }
 }
@@ -96,8 +96,9 @@ pub(crate) fn settle(parts: &mut Parts, w: u8) -> Applied
     requires room { length parts.old.journal.past < parts.old.config.marks }
     ensures { WentOn parts.old w result parts.new }
 {
+    let outcome = outcome_of(parts, w);
     match effect_in(&parts.workers[w as usize]) {
         Some(at) => end_effective(parts, w, at),
-        None => settle_quiet(parts, w),
+        None => settle_quiet(parts, w, outcome),
     }
 }

@@ -1,17 +1,17 @@
 //! Telling a worker's task what came of what it asked for.
 ghost use Rattle.std.specs.Prelude.{◌≡◌, ◌<◌, None, get_or, length};
 ghost use Rattle.bz_world.specs.Inside.Acted.{MustTell};
-ghost use Rattle.bz_world.specs.Inside.Telling.{CanHear, HasToldIn, MustStart};
+ghost use Rattle.bz_world.specs.Inside.Telling.{CanHear, HasToldIn, MustStart, MustTellOf, MustStartOf};
 
 use crate::parts::Parts;
 use crate::serving::Serving;
 use bz_layout::Slots;
 use bz_story::laws as story;
-use bz_task::{Seen, Todo};
+use bz_task::{LeafView, Seen, Todo};
 
 // Tells the task of a call, if one is served.
 fn hear_task(slot: &mut Option<Serving>, seen: Seen, slots: &mut Slots, moment: u32) -> Todo
-    requires { CanHear slot.old seen moment }
+    requires { CanHear slot.old seen moment slots.old }
     ensures { HasToldIn slot.old seen moment slots.old result slot.new slots.new }
 {
     match slot {
@@ -29,9 +29,12 @@ pub(crate) fn tell(parts: &mut Parts, w: u8, seen: Seen) -> Todo
     requires { MustTell parts.old w seen }
     ensures asks { MustStart parts.new w result }
     ensures told { HasToldIn (get_or parts.old.workers.items w None) seen (length parts.old.journal.past) parts.old.slots result (get_or parts.new.workers.items w None) parts.new.slots }
+    // what was read of the leaf of its call is known as before
+    ensures knows { (view : LeafView) → MustTellOf parts.old w seen view → MustStartOf parts.new w result view }
     ensures rest { parts.new ≡ record parts.old { slots = parts.new.slots; workers = parts.new.workers } }
 {
     story::scenes_are_seen();
+    story::slots_are_taken();
     let moment = parts.journal.length();
     hear_task(
         &mut parts.workers[w as usize],

@@ -7,7 +7,7 @@ use Rattle.bz_machine.specs.declared.done.Done.{Done}
 use Rattle.bz_mark.specs.Log.{with_mark}
 use Rattle.bz_mark.specs.declared.marks.Mark.{Mark}
 use Rattle.bz_mark.specs.declared.marks.Mark.TheVariants.{Evict}
-use Rattle.bz_running.specs.Duties.{asks_of, facts_of}
+use Rattle.bz_running.specs.Duties.{asks_of, needs_of, facts_of}
 use Rattle.bz_sight.specs.Effects.{TakesPlace}
 use Rattle.bz_sound.specs.Calls.{Open}
 use Rattle.bz_sound.specs.Memory.Calls.{MayFollow}
@@ -24,9 +24,9 @@ use Rattle.bz_task.specs.Requests.{Hears, Tells}
 use Rattle.bz_task.specs.Scene.{Stage, Waiting}
 use Rattle.bz_task.specs.declared.todo.Seen.{Seen}
 use Rattle.bz_task.specs.declared.todo.Todo.{Todo}
-use Rattle.bz_world.specs.Inside.Kept.{IsTabled, AreTaken, IsKept}
+use Rattle.bz_world.specs.Inside.Kept.{IsTabled, AreTaken, AreFree, IsKept}
 use Rattle.bz_world.specs.Lab.{mark_of, IsStruck}
-use Rattle.bz_world.specs.Inside.Serving.{IsSlot, IsOpened, IsTasked}
+use Rattle.bz_world.specs.Inside.Serving.{IsCovered, IsSlot, IsOpened, IsTasked}
 use Rattle.bz_world.specs.declared.parts.Parts.{Parts}
 use Rattle.bz_world.specs.declared.serving.Serving.{Serving}
 
@@ -69,6 +69,7 @@ pub record IsBetween (p : Parts) (w : ℕ) (x : Serving) : Type 0 where
   pub taken : AreTaken p
   pub living : IsLiving p.config p.access p.journal story
   pub sound : IsSound p.config p.journal
+  pub free : AreFree p.config p.journal.start p.slots story.took
   pub others : (v : ℕ) → v ≢ w → IsSlot p.config p.access p.journal story p.owners.items v (get_or p.workers.items v None)
   pub worker : 0 < w
   pub within : w ≤ p.config.workers
@@ -79,18 +80,20 @@ pub record IsBetween (p : Parts) (w : ℕ) (x : Serving) : Type 0 where
 -- and its task is to be told this
 pub record IsTold (p : Parts) (w : ℕ) (x : Serving) (seen : Seen) : Type 0 where
   pub between : IsBetween p w x
-  pub tasked : IsTasked p.config x.call x.had x.task
+  pub tasked : IsTasked p.config x.call x.path x.had x.task
   pub stage : Stage
   pub facts : facts_of x.task stage (scene p.config p.journal.past between.story w between.opened)
+  pub covered : IsCovered (between.story.took w) (between.story.filled w) (needs_of x.task)
   pub hears : Hears (asks_of x.task) seen
   pub tells : Tells (asks_of x.task) stage seen (scene p.config p.journal.past between.story w between.opened)
 
 -- and its task asks for this
 pub record IsAsking (p : Parts) (w : ℕ) (x : Serving) (todo : Todo) : Type 0 where
   pub between : IsBetween p w x
-  pub tasked : IsTasked p.config x.call x.had x.task
+  pub tasked : IsTasked p.config x.call x.path x.had x.task
   pub asks : asks_of x.task ≡ Some todo
   pub facts : facts_of x.task Waiting (scene p.config p.journal.past between.story w between.opened)
+  pub covered : IsCovered (between.story.took w) (between.story.filled w) (needs_of x.task)
 
 -- the worker's call is served, and its task is to be told this
 pub record MustTell (p : Parts) (w : ℕ) (seen : Seen) : Type 0 where

@@ -1,5 +1,5 @@
 -- A call whose task has ended: nothing goes on for it, until it is answered or gets another task.
-use Rattle.std.specs.Prelude.{◌≡◌, ◌≢◌, ◌⊎◌, false, ℕ, ◌++◌, ◌∷◌, [], true, List, length, get_or, Option, Some, None, option_map}
+use Rattle.std.specs.Prelude.{◌≡◌, ◌≢◌, ◌<◌, ◌⊎◌, ℕ, ◌++◌, ◌∷◌, [], true, List, length, get_or, Option, Some, None, option_map}
 use Rattle.bz_call.specs.Map.{key_of}
 use Rattle.bz_call.specs.Pages.{is_page}
 use Rattle.bz_call.specs.declared.calls.Call.{Call}
@@ -7,8 +7,9 @@ use Rattle.bz_call.specs.declared.calls.Call.TheVariants as call
 use Rattle.bz_call.specs.declared.replies.Reply.{Reply}
 use Rattle.bz_call.specs.declared.replies.Reply.TheVariants.{Page}
 use Rattle.bz_call.specs.declared.replies.Spent.{Spent}
-use Rattle.bz_call.specs.declared.replies.Spent.TheVariants.{Nodes}
-use Rattle.bz_running.specs.Duties.{asks_of, end_of, facts_of, means_of}
+use Rattle.bz_consol.specs.Facts.{LeadsTo}
+use Rattle.bz_layout.specs.declared.thresholds.TheConstants.{CONSOLIDATION_SLOTS}
+use Rattle.bz_running.specs.Duties.{asks_of, end_of, facts_of}
 use Rattle.bz_running.specs.declared.running.Running.{Running}
 use Rattle.bz_sound.specs.Memory.Replies.{IsRightReply}
 use Rattle.bz_sound.specs.Memory.Spent.{IsSpent}
@@ -19,7 +20,6 @@ use Rattle.bz_task.specs.Scene.{Scene, Waiting}
 use Rattle.bz_task.specs.declared.path.Path.{Path}
 use Rattle.bz_task.specs.declared.todo.Outcome.{Outcome}
 use Rattle.bz_task.specs.declared.todo.Outcome.TheVariants as outcomes
-use Rattle.bz_task.specs.declared.todo.Outcome.TheVariants.{NeedsRoom}
 use Rattle.bz_task.specs.declared.todo.Todo.{Todo}
 use Rattle.bz_task.specs.declared.view.LeafView.{LeafView}
 use Rattle.bz_word.specs.Statuses.{status}
@@ -31,23 +31,28 @@ use Rattle.bz_world.specs.declared.answers.Applied.{Applied}
 use Rattle.bz_world.specs.declared.parts.Parts.{Parts}
 use Rattle.bz_world.specs.declared.serving.Serving.{Serving}
 
--- the worker's call is served, and nothing goes on for it
+-- the worker's call is served, nothing goes on for it, and each slot that the worker took has been stored into
 pub record MustGoOn (p : Parts) (w : ℕ) : Type 0 where
   pub serving : Serving
   pub is : get_or p.workers.items w None ≡ Some serving
   pub between : IsBetween p w serving
+  pub filled : (k : ℕ) → between.story.took w k ≡ true → between.story.filled w k ≡ true
 
 -- what is known of the memory since the call began
 abbrev pub known : (p : Parts) (w : ℕ) → MustGoOn p w → Scene
 known p w m = scene p.config p.journal.past m.between.story w m.between.opened
 
--- the call that is served, how its task has ended, the way to its leaf and its effect
+-- the call that is served, how its task has ended, what it asks for, the way to its leaf and its effect
 abbrev pub call_in : Option Serving → Option Call
 call_in slot = option_map (λ (x : Serving). x.call) slot
 
 abbrev pub end_in : Option Serving → Option Outcome
 end_in None = None
 end_in (Some x) = end_of x.task
+
+abbrev pub asks_in : Option Serving → Option Todo
+asks_in None = None
+asks_in (Some x) = asks_of x.task
 
 abbrev pub path_in : Option Serving → Option Path
 path_in None = None
@@ -69,10 +74,11 @@ with_task slot task path = option_map (λ (x : Serving). record x { task = task;
 abbrev pub with_change : Option Serving → Running → Option (List ℕ) → Option Serving
 with_change slot task had = option_map (λ (x : Serving). record x { task = task; had = had }) slot
 
--- a task that it may get, which asks for this: for the change of the call, where its key had this payload, or none
-pub record MustTakeOn (p : Parts) (w : ℕ) (task : Running) (had : Option (List ℕ)) (asked : Option Todo) : Type 0 where
+-- a task that it may get, which asks for this: after this path was found, if one was, and for the change of the call, where
+-- its key had this payload, or none
+pub record MustTakeOn (p : Parts) (w : ℕ) (task : Running) (way : Option Path) (had : Option (List ℕ)) (asked : Option Todo) : Type 0 where
   pub on : MustGoOn p w
-  pub tasked : IsTasked p.config on.serving.call had task
+  pub tasked : IsTasked p.config on.serving.call way had task
   pub asks : asks_of task ≡ asked
   pub facts : facts_of task Waiting (known p w on)
 
@@ -81,24 +87,38 @@ pub record MustRead (p : Parts) (w : ℕ) (path : Path) : Type 0 where
   pub on : MustGoOn p w
   pub leads : IsPath (key_of on.serving.call) path (known p w on).past
 
--- its task has ended, and it had no effect
-pub record HasEnded (p : Parts) (w : ℕ) : Type 0 where
+-- its task has ended so, and it had no effect
+pub record HasEnded (p : Parts) (w : ℕ) (outcome : Outcome) : Type 0 where
   pub on : MustGoOn p w
   pub quiet : on.serving.effect ≡ None
-  pub path : (path : Path) → end_of on.serving.task ≡ Some (outcomes.Path path) → IsPath (key_of on.serving.call) path (known p w on).past
-  pub view : (view : LeafView) → end_of on.serving.task ≡ Some (outcomes.View view) → IsView (key_of on.serving.call) view (known p w on).past
+  pub path : (path : Path) → outcome ≡ outcomes.Path path → IsPath (key_of on.serving.call) path (known p w on).past
+  pub view : (view : LeafView) → outcome ≡ outcomes.View view → IsView (key_of on.serving.call) view (known p w on).past
+  pub leads : (view : LeafView) → outcome ≡ outcomes.View view → (path : Path) → on.serving.path ≡ Some path → IsPath (key_of on.serving.call) path (known p w on).past
 
--- its leaf was read, and it had no effect
+-- its leaf was read, by the path that was found, and it had no effect
 pub record MustAnswer (p : Parts) (w : ℕ) (view : LeafView) : Type 0 where
   pub on : MustGoOn p w
   pub viewed : IsView (key_of on.serving.call) view (known p w on).past
+  pub leads : (path : Path) → on.serving.path ≡ Some path → IsPath (key_of on.serving.call) path (known p w on).past
   pub quiet : on.serving.effect ≡ None
 
--- a task that makes its change, which is yet to begin; where it ends for want of room in a leaf that is not frozen, nodes are spent
+-- a task that makes its change, which is yet to begin
 pub record MustChange (p : Parts) (w : ℕ) (view : LeafView) (had : Option (List ℕ)) (task : Running) : Type 0 where
-  pub takes : MustTakeOn p w task had None
-  pub quiet : takes.on.serving.effect ≡ None
-  pub short : (s : Scene) → means_of task NeedsRoom s → (status view.status).frozen ≡ false → IsSpent p.config p.journal.start p.journal.past w takes.on.between.opened Nodes
+  pub answer : MustAnswer p w view
+  pub tasked : IsTasked p.config answer.on.serving.call answer.on.serving.path had task
+  pub asks : asks_of task ≡ None
+  pub facts : facts_of task Waiting (known p w answer.on)
+
+-- its leaf, which was found by this path, is to be made anew
+pub record MustMakeAnew (p : Parts) (w : ℕ) (path : Path) (view : LeafView) : Type 0 where
+  pub answer : MustAnswer p w view
+  pub way : IsPath (key_of answer.on.serving.call) path (known p w answer.on).past
+
+-- and is frozen, so that it may be copied
+pub record MustCopy (p : Parts) (w : ℕ) (path : Path) (view : LeafView) : Type 0 where
+  pub anew : MustMakeAnew p w path view
+  pub frozen : (status view.status).frozen ≡ true
+  pub leads : LeadsTo path view.slot
 
 -- the call puts this payload at its key, where the key is absent, or present
 abbrev pub MayInsert : Call → List ℕ → List ℕ → Type 0
@@ -129,6 +149,12 @@ pub record HadEffect (p : Parts) (w at : ℕ) : Type 0 where
 pub record LacksSwap (p : Parts) (w : ℕ) : Type 0 where
   pub on : MustGoOn p w
   pub spent : p.access.taken ≡ p.config.swaps
+
+-- no slot is left, and the call had no effect
+pub record LacksSlots (p : Parts) (w : ℕ) : Type 0 where
+  pub on : MustGoOn p w
+  pub quiet : on.serving.effect ≡ None
+  pub none : length p.slots.free < CONSOLIDATION_SLOTS
 
 -- something is spent, and the call had no effect
 pub record IsShort (p : Parts) (w : ℕ) (spent : Spent) : Type 0 where

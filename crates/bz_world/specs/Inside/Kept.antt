@@ -1,10 +1,13 @@
 -- What a world keeps true of its parts.
-use Rattle.std.specs.Prelude.{◌≡◌, ◌⊎◌, ℕ, ◌+◌, ◌<◌, ◌≤◌, length, slice_index, get_or, true, false, None}
+use Rattle.std.specs.Prelude.{◌≡◌, ◌⊎◌, ℕ, ◌+◌, ◌<◌, ◌≤◌, List, length, slice_index, get_or, Bool, true, false, None}
 use Rattle.bz_layout.specs.Config.{IsConfig}
+use Rattle.bz_layout.specs.Slots.{FreeSlots}
+use Rattle.bz_layout.specs.declared.config.Config.{Config}
 use Rattle.bz_mark.specs.Log.{count_begins, count_page_calls}
 use Rattle.bz_sound.specs.Calls.{open_call, begun_calls}
 use Rattle.bz_sound.specs.Memory.Sound.{IsSound}
-use Rattle.bz_sound.specs.Memory.Spent.{is_taken}
+use Rattle.bz_shape.specs.Walk.{is_among}
+use Rattle.bz_sound.specs.Memory.Spent.{is_taken, is_reached_at_start}
 use Rattle.bz_story.specs.Living.{IsLiving}
 use Rattle.bz_story.specs.Story.{Story}
 use Rattle.bz_swap.specs.SwapMemory.{has_effect}
@@ -38,10 +41,19 @@ pub record AreTaken (p : Parts) : Type 0 where
   pub counted : length p.access.begun ≡ p.access.taken
   pub unused : (s : ℕ) → p.access.taken ≤ s → has_effect p.access s ≡ false
 
+-- a free slot is one of the memory, which was not reached at the start and which nobody took; each other one was reached or taken
+pub record AreFree (c : Config) (start : List ℕ) (slots : FreeSlots) (took : ℕ → ℕ → Bool) : Type 0 where
+  pub nodes : slots.nodes ≡ c.nodes
+  pub within : (k : ℕ) → is_among slots.free k ≡ true → k < c.nodes
+  pub fresh : (k : ℕ) → is_among slots.free k ≡ true → is_reached_at_start c start k ≡ false
+  pub untaken : (v k : ℕ) → is_among slots.free k ≡ true → took v k ≡ false
+  pub others : (k : ℕ) → k < c.nodes → is_among slots.free k ≡ false → (is_reached_at_start c start k ≡ true) ⊎ ((v : ℕ) × (took v k ≡ true))
+
 pub record IsKept (p : Parts) : Type 0 where
   pub story : Story
   pub tabled : IsTabled p
   pub taken : AreTaken p
   pub living : IsLiving p.config p.access p.journal story
   pub sound : IsSound p.config p.journal
+  pub free : AreFree p.config p.journal.start p.slots story.took
   pub workers : (w : ℕ) → IsSlot p.config p.access p.journal story p.owners.items w (get_or p.workers.items w None)

@@ -1,4 +1,5 @@
 -- The laws of the crates below on which the world's acts stand.
+use Rattle.bz_page.specs.Laws.{ViewsSayWhatImagesSay}
 use Rattle.bz_record.specs.Laws.{ViewsShowLeaves}
 use Rattle.bz_sight.specs.Acts.{FlushingStepsFlush, QuietStepsPass, StepsLeaveCaches, StoringStepsStore}
 use Rattle.bz_sight.specs.Effects.{EffectsTakePlace}
@@ -78,3 +79,4 @@ pub record AnswerLaws : Type 0 where
   pub pages : PagesComeFromTheImage
   pub spent : SpentAnswersFull
   pub views : ViewsShowLeaves
+  pub said : ViewsSayWhatImagesSay

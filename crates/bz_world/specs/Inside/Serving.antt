@@ -1,11 +1,13 @@
 -- What is known of each worker.
-use Rattle.std.specs.Prelude.{◌≡◌, ◌⊎◌, ℕ, ◌*◌, ◌<◌, if◌then◌else◌, Bool, true, false, List, length, slice_index, Option, Some, None}
+use Rattle.std.specs.Prelude.{◌≡◌, ◌⊎◌, ℕ, ◌+◌, ◌*◌, ◌<◌, ◌≤◌, if◌then◌else◌, Bool, true, false, List, length, slice_index, Option, Some, None}
 use Rattle.bz_call.specs.Map.{key_of, apply}
 use Rattle.bz_call.specs.declared.calls.Call.{Call}
 use Rattle.bz_call.specs.declared.calls.Call.TheVariants as call
 use Rattle.bz_call.specs.declared.replies.Reply.{Reply}
 use Rattle.bz_call.specs.declared.replies.Reply.TheVariants.{Inserted, Deleted, Updated}
 use Rattle.bz_layout.specs.declared.config.Config.{Config}
+use Rattle.bz_layout.specs.declared.thresholds.TheConstants.{SPLIT_SLOTS}
+use Rattle.bz_shape.specs.Walk.{is_among}
 use Rattle.bz_mark.specs.Log.{Log}
 use Rattle.bz_running.specs.Duties.{config_of, asks_of, needs_of, change_of, publishing_of, facts_of, makes_no_change}
 use Rattle.bz_running.specs.Hearing.{IsLookup}
@@ -19,6 +21,7 @@ use Rattle.bz_swap.specs.EntryLists.{IsEntryList}
 use Rattle.bz_swap.specs.SwapMemory.{SwapMemory, Doing, Idle, Reading, Swapping, Storing, Flushing, doing_of, entries_of, has_effect}
 use Rattle.bz_task.specs.Scene.{Stage, Waiting, Took}
 use Rattle.bz_task.specs.Swaps.{Change}
+use Rattle.bz_task.specs.declared.path.Path.{Path}
 use Rattle.bz_task.specs.declared.todo.Todo.{Todo}
 use Rattle.bz_task.specs.declared.todo.Todo.TheVariants as todo
 use Rattle.bz_word.specs.declared.entry.Entry.{Entry}
@@ -71,31 +74,39 @@ pub record IsOpened (c : Config) (log : Log) (w : ℕ) (opened : Open) (x : Serv
   pub begun : opened.begun < length log.past
   pub told : IsToldBy c log opened x.had
 
--- a task that serves it
-pub record IsTasked (c : Config) (called : Call) (had : Option (List ℕ)) (task : Running) : Type 0 where
+-- slots that a worker took and may not have stored into: with those that its task is still to take they are at most as many
+-- as a split takes
+pub record IsCovered (took filled : ℕ → Bool) (needs : ℕ) : Type 0 where
+  pub unfilled : List ℕ
+  pub few : length unfilled + needs ≤ SPLIT_SLOTS
+  pub all : (k : ℕ) → took k ≡ true → filled k ≡ false → is_among unfilled k ≡ true
+
+-- a task that serves it, after this path was found
+pub record IsTasked (c : Config) (called : Call) (way : Option Path) (had : Option (List ℕ)) (task : Running) : Type 0 where
   pub config : config_of task ≡ c
   pub laws : AreLaws task
-  pub needs : needs_of task ≡ 0
-  pub lookup : IsLookup (key_of called) task
+  pub lookup : IsLookup (key_of called) way task
   pub change : (makes_no_change task ≡ true) ⊎ IsChangeFor called had (change_of task)
 
 -- the task goes on: the worker does what it asked for, and it knows what it should
 pub record IsServing (c : Config) (m : SwapMemory) (log : Log) (story : Story) (owners : List ℕ) (w : ℕ) (x : Serving) : Type 0 where
   pub opened : Open
   pub call_open : IsOpened c log w opened x
-  pub tasked : IsTasked c x.call x.had x.task
+  pub tasked : IsTasked c x.call x.path x.had x.task
   pub asked : Todo
   pub asks : asks_of x.task ≡ Some asked
   pub doing : IsDoing m owners w asked
   pub facts : facts_of x.task (stage_in m (doing_of m w)) (scene c log.past story w opened)
+  pub covered : IsCovered (story.took w) (story.filled w) (needs_of x.task)
 
--- no call of the worker is open, and it does nothing
-pub record IsAtRest (m : SwapMemory) (log : Log) (w : ℕ) : Type 0 where
+-- no call of the worker is open, it does nothing, and it has stored into each slot that it took
+pub record IsAtRest (m : SwapMemory) (log : Log) (story : Story) (w : ℕ) : Type 0 where
   pub none_open : open_call w log.past ≡ None
   pub idle : doing_of m w ≡ Idle
+  pub filled : (k : ℕ) → story.took w k ≡ true → story.filled w k ≡ true
 
 abbrev pub IsSlot : Config → SwapMemory → Log → Story → List ℕ → ℕ → Option Serving → Type 0
-IsSlot c m log story owners w None = IsAtRest m log w
+IsSlot c m log story owners w None = IsAtRest m log story w
 IsSlot c m log story owners w (Some x) = IsServing c m log story owners w x
 
 -- its task's swap makes the change of the call

@@ -1,22 +1,27 @@
 -- A task that is told what came of what it asked for.
-use Rattle.std.specs.Prelude.{◌≡◌, ℕ, List, Option, Some, None, get_or}
+use Rattle.std.specs.Prelude.{◌≡◌, ◌<◌, ℕ, List, Option, Some, None, get_or}
+use Rattle.bz_call.specs.Map.{key_of}
 use Rattle.bz_layout.specs.Slots.{FreeSlots}
 use Rattle.bz_running.specs.Duties.{config_of, asks_of, needs_of, facts_of}
 use Rattle.bz_running.specs.Hearing.{HasHeard}
 use Rattle.bz_running.specs.Laws.{AreLaws}
+use Rattle.bz_story.specs.Story.{scene}
+use Rattle.bz_task.specs.Outcomes.{IsPath, IsView}
 use Rattle.bz_task.specs.Requests.{Hears, IsKnown}
+use Rattle.bz_task.specs.declared.path.Path.{Path}
 use Rattle.bz_task.specs.declared.todo.Seen.{Seen}
 use Rattle.bz_task.specs.declared.todo.Todo.{Todo}
 use Rattle.bz_task.specs.declared.todo.Todo.TheVariants.{Swap}
+use Rattle.bz_task.specs.declared.view.LeafView.{LeafView}
 use Rattle.bz_word.specs.declared.entry.Entry.{Entry}
-use Rattle.bz_world.specs.Inside.Acted.{IsAsking}
+use Rattle.bz_world.specs.Inside.Acted.{IsBetween, IsAsking, MustTell}
 use Rattle.bz_world.specs.declared.parts.Parts.{Parts}
 use Rattle.bz_world.specs.declared.serving.Serving.{Serving}
 
--- the task of the call that is served may be told this; it takes no slots
-abbrev pub CanHear : Option Serving → Seen → ℕ → Type 0
-CanHear None seen moment = ⊥
-CanHear (Some x) seen moment = Hears (asks_of x.task) seen × IsKnown (config_of x.task) (facts_of x.task) (asks_of x.task) seen moment × (needs_of x.task ≡ 0)
+-- the task of the call that is served may be told this, in a memory with these slots
+abbrev pub CanHear : Option Serving → Seen → ℕ → FreeSlots → Type 0
+CanHear None seen moment free = ⊥
+CanHear (Some x) seen moment free = Hears (asks_of x.task) seen × IsKnown (config_of x.task) (facts_of x.task) (asks_of x.task) seen moment × (0 < needs_of x.task → free.nodes ≡ (config_of x.task).nodes)
 
 -- it was told, and asks for something else
 pub record HasTold (x : Serving) (seen : Seen) (moment : ℕ) (free : FreeSlots) (todo : Todo) (y : Serving) (left : FreeSlots) : Type 0 where
@@ -39,3 +44,19 @@ pub record LacksDescriptor (p : Parts) (todo : Todo) : Type 0 where
   pub entries : List Entry
   pub is : todo ≡ Swap entries
   pub spent : p.access.taken ≡ p.config.swaps
+
+-- what was read of the leaf of a call without effect, by the path that was found, is known of the memory since the call began
+pub record KnowsLeaf (p : Parts) (w : ℕ) (x : Serving) (between : IsBetween p w x) (view : LeafView) : Type 0 where
+  pub viewed : IsView (key_of x.call) view (scene p.config p.journal.past between.story w between.opened).past
+  pub leads : (path : Path) → x.path ≡ Some path → IsPath (key_of x.call) path (scene p.config p.journal.past between.story w between.opened).past
+  pub quiet : x.effect ≡ None
+
+-- a task that is to be told this after that
+pub record MustTellOf (p : Parts) (w : ℕ) (seen : Seen) (view : LeafView) : Type 0 where
+  pub must : MustTell p w seen
+  pub knows : KnowsLeaf p w must.serving must.told.between view
+
+-- and one that asks for this then
+pub record MustStartOf (p : Parts) (w : ℕ) (todo : Todo) (view : LeafView) : Type 0 where
+  pub must : MustStart p w todo
+  pub knows : KnowsLeaf p w must.serving must.asking.between view

@@ -61,9 +61,16 @@ fn record(world: &World, at: u32, key: u32, total: u32) -> Option<(usize, u32)>
     Some((place, number_of(&payload)))
 }
 
+// Where the root's slot begins.
+fn root(world: &World) -> u32 {
+    let slot = resolve(world, 1).saturating_sub(1).min(0xFFFF) as u32;
+    let first = world.config().swaps.saturating_mul(16).saturating_add(16);
+    first.saturating_add(slot.saturating_mul(128))
+}
+
 /// The map that the root leaf is in the memory itself; none where it is not a leaf of the reader's keys.
 pub(crate) fn decode(world: &World) -> Option<Map> {
-    let node = world.config().swaps.saturating_mul(16).saturating_add(16);
+    let node = root(world);
     let status = Status::unpack(resolve(world, node))?;
     let mut map = [0; 6];
     for i in 0..status.count {

@@ -127,31 +127,35 @@ fn crowded(rt: &impl Abort, alloc: Global, long: Payload) -> World {
     world
 }
 
-// One of the two calls has taken the last words, and the other answers that there are none.
-fn is_shared(ends: &Outcome, long: Payload) -> bool {
-    let inserted = ends.first.1 == Some(Answer::Inserted)
-        && ends.second.1 == Some(Answer::FullNodes);
-    let updated = ends.first.1 == Some(Answer::FullNodes)
-        && ends.second.1 == Some(Answer::Updated(long));
-    inserted || updated
-}
-
 #[test]
-fn the_last_words_of_a_leaf_go_to_one_call(rt: HostRuntime) -> Result<(), Fail> {
+fn the_call_without_the_last_words_copies_the_leaf(rt: HostRuntime) -> Result<(), Fail> {
     let long = payload(&rt, &[b'x'; 28]);
     let calls = [
         Call::Insert(numbered(&rt, 4), payload(&rt, b"1")),
         Call::Update(numbered(&rt, 1), payload(&rt, b"2")),
     ];
-    for acts in 0..200 {
+    for acts in (0..1_100).step_by(10) {
+        let mut world = crowded(&rt, rt.alloc(), long);
+        let ends = race(&rt, rt.alloc(), &mut world, &calls, acts, acts);
+        assert_eq!(rt; ends.first.1, Some(Answer::Inserted), "{acts} acts");
+        assert_eq!(rt; ends.second.1, Some(Answer::Updated(long)), "{acts} acts");
+    }
+    Ok(())
+}
+
+#[test]
+fn a_stopped_copy_holds_nobody_up(rt: HostRuntime) -> Result<(), Fail> {
+    let long = payload(&rt, &[b'x'; 28]);
+    let calls = [
+        Call::Update(numbered(&rt, 1), long),
+        Call::Insert(numbered(&rt, 4), payload(&rt, b"1")),
+    ];
+    for acts in (0..1_100).step_by(10) {
         let mut world = crowded(&rt, rt.alloc(), long);
         let ends = race(&rt, rt.alloc(), &mut world, &calls, acts, MOST);
-        assert!(rt;
-            is_shared(&ends, long),
-            "{acts} acts: {:?} and {:?}",
-            ends.first,
-            ends.second
-        );
+        assert_eq!(rt; ends.first.1, Some(Answer::Updated(long)), "{acts} acts");
+        assert_eq!(rt; ends.second.1, Some(Answer::Inserted), "{acts} acts");
+        assert!(rt; ends.second.0 <= 1_800, "{acts}: {:?}", ends.second);
     }
     Ok(())
 }

@@ -1,4 +1,5 @@
-//! Random runs of eight workers over six keys, with evictions, beside the plain reader.
+//! Random runs of eight workers over six keys, with evictions, beside the plain reader: over one node, and over so many that
+//! full leaves are copied.
 
 ghost use Rattle.std.specs.Prelude.{◌<◌};
 
@@ -99,13 +100,15 @@ fn tally(world: &World, counts: &mut [u32; 8]) {
 
 // One run: after every tenth event the reader explains the journal, and its map is the memory's own.
 fn run(rt: &impl Abort, alloc: Global, seed: u64) -> Result<World, Memory> {
+    // of every second run the nodes suffice, so that full leaves are copied, and the descriptors nearly do
+    let (nodes, swaps) = if seed % 2 == 0 { (1, 96) } else { (60, 500) };
     let config = Config {
-        nodes: 1,
-        swaps: 96,
+        nodes,
+        swaps,
         workers: 8,
         marks: 1 << 15,
-        calls: 200,
-        pages: 40,
+        calls: 300,
+        pages: 60,
     };
     let mut world = World::open(alloc, &config).expect(rt, "a world");
     let mut reader = Reader::open(alloc)?;

@@ -37,6 +37,24 @@ fn a_leaf_has_room_for_thirty_nine_small_records(rt: HostRuntime) -> Result<(), 
 }
 
 #[test]
+fn each_slot_takes_fifty_seven_updates_of_a_small_record(rt: HostRuntime) -> Result<(), Fail> {
+    let (k, v) = (key(&rt, b"a"), payload(&rt, b"v"));
+    let mut world = open(rt.alloc(), 4, 512, 1)?;
+    answers(&rt, &mut world, &[(Call::Insert(k, v), Answer::Inserted)]);
+    for _ in 0..228 {
+        answers(&rt, &mut world, &[(Call::Update(k, v), Answer::Updated(v))]);
+    }
+    let rows = [
+        (Call::Update(k, v), Answer::FullNodes),
+        (Call::Get(k), Answer::Value(v)),
+        (Call::Delete(k), Answer::FullNodes),
+        (Call::Page(k), Answer::Page(0, false)),
+    ];
+    answers(&rt, &mut world, &rows);
+    Ok(())
+}
+
+#[test]
 fn two_descriptors_are_one_insert(rt: HostRuntime) -> Result<(), Fail> {
     let (a, b) = (key(&rt, b"a"), key(&rt, b"b"));
     let one = payload(&rt, b"1");

@@ -1,16 +1,10 @@
-use Rattle.std.proofs.Common.{◌≡◌, ap, ◌∙◌, Some, None}
+use Rattle.std.proofs.Common.{ap, ◌∙◌, Some, None}
 use Rattle.bz_call.specs.Map.{key_of}
-use Rattle.bz_world.proofs.Changing.{must-change, frozen-only, delete-changes}
+use Rattle.bz_world.proofs.Changing.{must-change, delete-changes}
 use Rattle.bz_world.proofs.changes.delete.Goals as goal
 
 pub begin_change-requires-clause-change : goal.begin_change-requires-clause-change
 begin_change-requires-clause-change c =
-    must-change c.start_laws.ensures.scenes c.answer_laws.ensures c.args.parts.now c.args.w c.args.view.now c.requires.must.answer c.args.key key c.delete-task.result (Some c.args.had) c.delete-task.ensures.config c.laws.ensures c.delete-task.ensures.needs
+    must-change c.start_laws.ensures.scenes c.answer_laws.ensures c.args.parts.now c.args.w c.args.view.now c.requires.must.answer c.args.key (ap key_of c.requires.must.may)
+    c.delete-task.result (Some c.args.had) c.delete-task.ensures.config c.laws.ensures
     (delete-changes c.requires.must.answer.on.serving.call c.args.key c.args.had _ c.requires.must.may (c.delete-task.ensures.change ∙ ap (λ old. record { key = c.args.key; old = old; new = None }) c.requires.present)) c.delete-task.ensures.ends c.delete-task.ensures.asks c.delete-task.ensures.facts
-    (λ s means thawed. absurd (frozen-only (c.delete-task.ensures.needs_room s means) thawed))
-  where
-    key : key_of c.requires.must.answer.on.serving.call ≡ c.args.key
-    key = ap key_of c.requires.must.may
-
-pub begin_change-requires-clause-plain : goal.begin_change-requires-clause-plain
-begin_change-requires-clause-plain c = c.requires.must.answer.viewed.plain

@@ -1,10 +1,14 @@
 use Rattle.std.proofs.Common.{refl, sym, ap, ◌∙◌}
-use Rattle.bz_world.specs.Inside.Going.{MustGoOn, end_in}
-use Rattle.bz_world.proofs.TakingOn.{slot-is}
+use Rattle.bz_task.specs.declared.todo.Outcome.TheVariants.{NeedsRoom}
+use Rattle.bz_world.specs.Inside.Going.{end_in}
+use Rattle.bz_world.proofs.TakingOn.{serving-is, ended-by, must-answer}
 use Rattle.bz_world.proofs.changes.go_on_changing.Goals as goal
 
-pub end_full-requires-clause-short : goal.end_full-requires-clause-short
-end_full-requires-clause-short c =
-    let on : MustGoOn c.args.parts.now c.args.w = record { serving = c.requires.asks.serving; is = c.requires.asks.is; between = c.requires.asks.asking.between } in
-    let slot = slot-is c.args.parts.now c.args.w on c.index.result.now c.index.ensures in
-    c.requires.short (ap end_in (on.is ∙ sym slot) ∙ c.if-needs_room.ensures refl) (sym c.if-not-is_frozen.ensures)
+pub restructure-requires-clause-answer : goal.restructure-requires-clause-answer
+restructure-requires-clause-answer c =
+    let slot = serving-is c.args.parts.now c.args.w c.args.todo c.requires.asks.must c.index.result.now c.index.ensures in
+    must-answer c.args.parts.now c.args.w c.args.todo c.args.view.now c.requires.asks NeedsRoom
+    (ended-by c.args.parts.now c.args.w c.args.todo c.requires.asks.must NeedsRoom (ap end_in (c.requires.asks.must.is ∙ sym slot) ∙ c.if-needs_room.ensures refl))
+
+pub go_on-requires-clause-asks : goal.go_on-requires-clause-asks
+go_on-requires-clause-asks c = c.requires.asks.must

@@ -1,16 +1,9 @@
-use Rattle.std.proofs.Common.{◌≡◌, ap, ◌∙◌, Some}
-use Rattle.bz_call.specs.Map.{key_of}
-use Rattle.bz_world.proofs.Changing.{must-change, nodes-spent, put-key, updates-put, update-changes}
+use Rattle.std.proofs.Common.{ap, ◌∙◌, Some}
+use Rattle.bz_world.proofs.Changing.{must-change, update-key, update-changes}
 use Rattle.bz_world.proofs.changes.update.Goals as goal
 
 pub begin_change-requires-clause-change : goal.begin_change-requires-clause-change
 begin_change-requires-clause-change c =
-    must-change c.start_laws.ensures.scenes c.answer_laws.ensures c.args.parts.now c.args.w c.args.view.now c.requires.must.answer c.args.key key c.update-task.result (Some c.args.had) c.update-task.ensures.config c.laws.ensures c.update-task.ensures.needs
+    must-change c.start_laws.ensures.scenes c.answer_laws.ensures c.args.parts.now c.args.w c.args.view.now c.requires.must.answer c.args.key (update-key c.requires.must.answer.on.serving.call c.args.key c.args.payload c.requires.must.may)
+    c.update-task.result (Some c.args.had) c.update-task.ensures.config c.laws.ensures
     (update-changes c.requires.must.answer.on.serving.call c.args.key c.args.payload c.args.had _ c.requires.must.may (c.update-task.ensures.change ∙ ap (λ old. record { key = c.args.key; old = old; new = Some c.args.payload }) c.requires.present)) c.update-task.ensures.ends c.update-task.ensures.asks c.update-task.ensures.facts
-    (λ s means. nodes-spent c.start_laws.ensures.scenes c.answer_laws.ensures c.args.parts.now c.args.w c.args.view.now c.requires.must.answer c.args.key key c.args.payload (updates-put c.requires.must.answer.on.serving.call c.args.key c.args.payload c.requires.must.may) (c.update-task.ensures.needs_room s means))
-  where
-    key : key_of c.requires.must.answer.on.serving.call ≡ c.args.key
-    key = put-key c.requires.must.answer.on.serving.call c.args.key c.args.payload (updates-put c.requires.must.answer.on.serving.call c.args.key c.args.payload c.requires.must.may)
-
-pub begin_change-requires-clause-plain : goal.begin_change-requires-clause-plain
-begin_change-requires-clause-plain c = c.requires.must.answer.viewed.plain

@@ -1,4 +1,4 @@
-use Rattle.std.proofs.Common.{refl, sym, ◌∙◌}
+use Rattle.std.proofs.Common.{refl, sym, rules, ◌∙◌}
 use Rattle.bz_world.proofs.Openings.{fresh-flushes, kept-made, opened-fresh, fresh-journal}
 use Rattle.bz_world.proofs.open.fresh_parts.Goals as goal
 
@@ -7,6 +7,7 @@ returns-clause-kept c =
     kept-made (record {
       says = c.fresh_words_say.ensures;
       empty = c.fresh_memory_is_empty.ensures;
+      reaches = c.fresh_memory_reaches_slot_zero.ensures;
       taken = c.begun_stay_taken.ensures;
       sound = c.fresh_journals_are_sound.ensures;
       living = c.fresh_stories_live.ensures;
@@ -20,6 +21,7 @@ returns-clause-kept c =
       numbers = c.in_ok-vec-2.ensures.items_if_clones_equal (λ y e. e);
       begun = refl;
       pages_begun = refl;
+      slots = search rules;
     })
 
 pub returns-clause-flushes : goal.returns-clause-flushes

@@ -7,11 +7,11 @@ use Rattle.bz_world.proofs.TakingOn.{taken-begins, lookup-taken, slot-is, call-i
 use Rattle.bz_world.proofs.settle.read_leaf.Goals as goal
 
 pub tell-todo-requires : goal.tell-todo-requires
-tell-todo-requires c = taken-begins c.args.parts.now c.args.w c.read_leaf-task.result c.requires.path.on.serving.had None
-    (lookup-taken c.args.parts.now c.args.w c.requires.path.on c.read_leaf-task.result None c.key_of.result c.read_leaf-task.ensures.config c.laws.ensures c.read_leaf-task.ensures.needs c.read_leaf-task.ensures.silent c.read_leaf-task.ensures.ends
+tell-todo-requires c = taken-begins c.args.parts.now c.args.w c.read_leaf-task.result c.requires.path.on.serving.had None (Some c.args.path)
+    (lookup-taken c.args.parts.now c.args.w c.requires.path.on c.read_leaf-task.result (Some c.args.path) None c.key_of.result c.read_leaf-task.ensures.config c.laws.ensures c.read_leaf-task.ensures.silent c.read_leaf-task.ensures.ends
     key c.read_leaf-task.ensures.asks (c.read_leaf-task.ensures.facts (known c.args.parts.now c.args.w c.requires.path.on) (known-scene c.start_laws.ensures.scenes c.args.parts.now c.args.w c.requires.path.on)
     (subst (λ k. IsPath k c.args.path (known c.args.parts.now c.args.w c.requires.path.on).past) (sym key) c.requires.path.leads)))
-    (Some c.args.path) c.set_task.new.slot (c.set_task.ensures ∙ ap (λ (z : Option Serving). with_task z c.read_leaf-task.result (Some c.args.path)) (slot-is c.args.parts.now c.args.w c.requires.path.on c.index_mut.result.now c.index_mut.ensures.value))
+    c.set_task.new.slot (c.set_task.ensures ∙ ap (λ (z : Option Serving). with_task z c.read_leaf-task.result (Some c.args.path)) (slot-is c.args.parts.now c.args.w c.requires.path.on c.index_mut.result.now c.index_mut.ensures.value))
     c.requires.path.on.between.call_open.told refl
   where
     key : c.key_of.result ≡ key_of c.requires.path.on.serving.call

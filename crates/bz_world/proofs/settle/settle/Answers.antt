@@ -1,23 +1,29 @@
-use Rattle.std.proofs.Common.{sym, ap, ◌∙◌}
+use Rattle.std.proofs.Common.{◌≡◌, sym, ap, ◌∙◌, Some}
+use Rattle.bz_running.specs.Duties.{end_of}
 use Rattle.bz_task.specs.Scene.{Scene}
 use Rattle.bz_task.specs.declared.todo.Outcome.TheVariants.{Path, View}
+use Rattle.bz_task.specs.declared.todo.Todo.TheVariants.{Finish}
 use Rattle.bz_world.specs.Inside.Going.{MustGoOn, effect_in, known}
-use Rattle.bz_world.proofs.TakingOn.{slot-is}
+use Rattle.bz_world.proofs.TakingOn.{slot-is, must-go-on, ended-by}
 use Rattle.bz_world.proofs.settle.settle.Goals as goal
 
 pub end_effective-requires-clause-had : goal.end_effective-requires-clause-had
-end_effective-requires-clause-had c = let on : MustGoOn c.args.parts.now c.args.w = record { serving = c.requires.ends.serving; is = c.requires.ends.is; between = c.requires.ends.asking.between } in
+end_effective-requires-clause-had c =
+    let ended : end_of c.requires.ends.serving.task ≡ Some c.outcome_of-outcome.result = ended-by c.args.parts.now c.args.w Finish c.requires.ends c.outcome_of-outcome.result c.outcome_of-outcome.ensures in
+    let on : MustGoOn c.args.parts.now c.args.w = must-go-on c.args.parts.now c.args.w Finish c.requires.ends c.outcome_of-outcome.result ended in
     record { on = on; effect = ap effect_in (sym (slot-is c.args.parts.now c.args.w on c.index.result.now c.index.ensures)) ∙ sym c.in-Some.ensures }
 
 pub settle_quiet-requires-clause-ends : goal.settle_quiet-requires-clause-ends
 settle_quiet-requires-clause-ends c =
-    let on : MustGoOn c.args.parts.now c.args.w = record { serving = c.requires.ends.serving; is = c.requires.ends.is; between = c.requires.ends.asking.between } in
+    let ended : end_of c.requires.ends.serving.task ≡ Some c.outcome_of-outcome.result = ended-by c.args.parts.now c.args.w Finish c.requires.ends c.outcome_of-outcome.result c.outcome_of-outcome.ensures in
+    let on : MustGoOn c.args.parts.now c.args.w = must-go-on c.args.parts.now c.args.w Finish c.requires.ends c.outcome_of-outcome.result ended in
     let here : Scene = known c.args.parts.now c.args.w on in
     let tasked = c.requires.ends.asking.tasked in
     let facts = c.requires.ends.asking.facts in
     record {
       on = on;
       quiet = ap effect_in (sym (slot-is c.args.parts.now c.args.w on c.index.result.now c.index.ensures)) ∙ sym c.in-None.ensures;
-      path = λ path ended. tasked.lookup.path path here (tasked.laws.ends here (Path path) facts ended).0;
-      view = λ view ended. tasked.lookup.view view here (tasked.laws.ends here (View view) facts ended).0;
+      path = λ path is. tasked.lookup.path path here (tasked.laws.ends here (Path path) facts (ended ∙ ap Some is)).0;
+      view = λ view is. tasked.lookup.view view here (tasked.laws.ends here (View view) facts (ended ∙ ap Some is)).0;
+      leads = λ view is path way. tasked.lookup.leads path way view here (tasked.laws.ends here (View view) facts (ended ∙ ap Some is)).0;
     }

@@ -1,0 +1,21 @@
+use Rattle.std.proofs.Common.{◌≡◌, length, sym, subst, None}
+use Rattle.std.specs.Prelude.{get_or}
+use Rattle.bz_task.specs.declared.todo.Seen.TheVariants.{NoSwap}
+use Rattle.bz_world.specs.Inside.Acted.{MustTell}
+use Rattle.bz_world.specs.Inside.Telling.{HasToldIn}
+use Rattle.bz_world.specs.declared.parts.Parts.{Parts}
+use Rattle.bz_world.proofs.TakingOn.{must-go-on, ended-by, lacks-told, lacks-swap}
+use Rattle.bz_world.proofs.going.go_on.Goals as goal
+
+pub look_up-requires : goal.look_up-requires
+look_up-requires c = must-go-on c.args.parts.now c.args.w c.args.todo c.requires.asks c.outcome_of.result (ended-by c.args.parts.now c.args.w c.args.todo c.requires.asks c.outcome_of.result c.outcome_of.ensures)
+
+pub tell-requires : goal.tell-requires
+tell-requires c = subst (λ (p : Parts). MustTell p c.args.w NoSwap) (sym (c.start.ensures.same c.if-start.false)) (lacks-told c.args.parts.now c.args.w c.args.todo c.requires.asks (c.start.ensures.lacks c.if-start.false))
+
+pub end_swapless-requires-clause-lacks : goal.end_swapless-requires-clause-lacks
+end_swapless-requires-clause-lacks c =
+    let same : c.start.new.parts ≡ c.args.parts.now = c.start.ensures.same c.if-start.false in
+    lacks-swap c.args.parts.now c.args.w c.args.todo c.tell.result c.requires.asks (c.start.ensures.lacks c.if-start.false) c.tell.new.parts (length c.args.parts.now.journal.past) c.args.parts.now.slots c.tell.new.parts.slots
+    (subst (λ (p : Parts). c.tell.new.parts ≡ record p { slots = c.tell.new.parts.slots; workers = c.tell.new.parts.workers }) same c.tell.ensures.rest) c.tell.ensures.asks
+    (subst (λ (p : Parts). HasToldIn (get_or p.workers.items c.args.w None) NoSwap (length p.journal.past) p.slots c.tell.result (get_or c.tell.new.parts.workers.items c.args.w None) c.tell.new.parts.slots) same c.tell.ensures.told)
