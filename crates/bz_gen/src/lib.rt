@@ -1,0 +1,11 @@
+//! A generated workload: the script that a seed gives.
+#![tactic(auto)]
+
+mod calls;
+mod draws;
+mod names;
+#[cfg(test)]
+mod tests;
+mod workload;
+
+pub use workload::{MOST_CALLS, generate};
