@@ -31,6 +31,8 @@ pub mod RangeEvents
 pub mod Ranges
 pub mod Runs
 pub mod Stores
+pub mod TagHomes
+pub mod TagsHome
 pub mod Tags
 pub mod TakenKnowledge
 pub mod Takes

@@ -10,6 +10,7 @@ pub mod Keeps
 pub mod Knows
 pub mod Lawful
 pub mod Machine
+pub mod Progress
 pub mod Promise
 pub mod Ranges
 pub mod Recovery

@@ -4,6 +4,7 @@ ghost use Rattle.bz_machine.specs.Examples.{SwapsAlone};
 ghost use Rattle.bz_machine.specs.Invariance.{BeginsAsState, KeepsState, ActsAtomically, KeepsRange, BeginsInRange, CutRecovers};
 ghost use Rattle.bz_machine.specs.Lawful.{StayInRange};
 ghost use Rattle.bz_machine.specs.Sleeper.{SleeperIsHarmless};
+ghost use Rattle.bz_machine.specs.Progress.{TagsStayHome};
 ghost use Rattle.bz_machine.specs.Promise.{Atomic, EffectsLast, FailuresLast, PlainIsHeld, CutsKeep};
 
 /// Whatever has happened since power on, each further event leaves what every address holds or is the effect
@@ -75,4 +76,9 @@ pub fn keeps_range()
 /// Under the invariant, a power cut leaves what every address holds, and what is needed to resolve it.
 pub fn cut_recovers()
     ensures { CutRecovers }
+{}
+
+/// A tag that stands is one that its worker goes on with.
+pub fn tags_stay_home()
+    ensures { TagsStayHome }
 {}
