@@ -15,19 +15,22 @@ use Rattle.bz_word.specs.declared.entry.Entry.{Entry}
 use Rattle.bz_word.specs.declared.status.Status.{Status}
 use Rattle.bz_task.specs.Instant.{Instant, words, form_at}
 use Rattle.bz_task.specs.OwnActs.{Stores, Flushes}
-use Rattle.bz_task.specs.Requests.{IsEntryToAsk, IsAskable}
+use Rattle.bz_task.specs.Requests.{IsEntryToAsk, IsAskable, IsCause}
 use Rattle.bz_task.specs.Scene.{Scene, Waiting, Took, IsScene, HasFilled, here}
 use Rattle.bz_task.specs.Swaps.{Stand, SwapsTo, IsGoodSwap, Takes}
+use Rattle.bz_task.specs.declared.todo.Seen.{Seen}
+use Rattle.bz_task.specs.declared.todo.Seen.TheVariants.{Start, Read as Was, Stored, Flushed, Swapped, NoSwap as NoneLeft}
 use Rattle.bz_task.specs.declared.todo.Todo.{Todo}
 use Rattle.bz_task.specs.declared.todo.Todo.TheVariants.{Store as Stores_at, Flush as Flushes_line, Swap as Swaps_for}
-use Rattle.bz_consol.specs.Facts.{Renewal, IsCopying, WasTurned, consol_asks, consol_facts, consol_change}
+use Rattle.bz_consol.specs.Facts.{Renewal, IsCopying, WasTurned, consol_asks, consol_facts, consol_differs, consol_change}
 use Rattle.bz_renew.specs.Renewals.{renewal, link_entry, guard_entry, IsTurnable, LinksMayBeTurned}
 use Rattle.bz_renew.specs.Writing.{NODE_LINES}
 use Rattle.bz_consol.specs.Copies.{IsCopy, IsRenewable, RenewalsAreGood}
 use Rattle.bz_consol.specs.declared.phase.Phase.{Phase}
-use Rattle.bz_consol.specs.declared.phase.Phase.TheVariants.{Fresh, Store, Flush, Swap, Done, Restart, NoSlot, NoSwap}
+use Rattle.bz_consol.specs.declared.phase.Phase.TheVariants.{Fresh, Guard, Store, Flush, Swap, Done, Restart, NoSlot, NoSwap}
+use Rattle.bz_renew.proofs.Guards.{guard-readable, guard-differed}
 use Rattle.bz_renew.proofs.Restamping.{restamped-plain}
-use Rattle.bz_consol.proofs.Staying.{viewed-stays}
+use Rattle.bz_consol.proofs.Staying.{viewed-stays, looked-stays}
 use Rattle.bz_renew.proofs.FreshSlots.{unreached}
 use Rattle.bz_renew.proofs.TwoEntries.{all-two, sets-first}
 use Rattle.bz_renew.proofs.Words.{node-at, node-past}
@@ -47,6 +50,7 @@ may-swap turned codec r s good f =
 
 pub askable : LinksMayBeTurned → IsCodec Status IsStatus IsStatusWord status_word status → (c : Config) (r : Renewal) (phase : Phase) (s : Scene) (todo : Todo) → s.past.config ≡ c → consol_facts r phase Waiting s → IsScene s → consol_asks c r phase ≡ Some todo → IsAskable s todo
 askable turned codec c r Fresh s todo same f good e = absurd (cc)
+askable turned codec c r Guard s todo same f good e = subst (IsAskable s) (some-same _ todo e) (guard-readable s r.link good f.1.guard)
 askable turned codec c r (Store i) s todo same f good e =
     subst (IsAskable s) (some-same _ todo e)
     (subst (λ z. IsAskable s (Stores_at (node_address z r.slot + i) (slice_index r.image i))) same (may-store r.slot r.image i s f.1.0 f.1.1.viewed.size f.1.1.viewed.plain f.1.1.writing))
@@ -58,6 +62,23 @@ askable turned codec c r Done s todo same f good e = subst (IsAskable s) (some-s
 askable turned codec c r Restart s todo same f good e = subst (IsAskable s) (some-same _ todo e) tt
 askable turned codec c r NoSlot s todo same f good e = subst (IsAskable s) (some-same _ todo e) tt
 askable turned codec c r NoSwap s todo same f good e = subst (IsAskable s) (some-same _ todo e) tt
+
+-- a guard that differs has been changed since it was read
+pub cause : (c : Config) (r : Renewal) (phase : Phase) (s : Scene) (seen : Seen) → consol_facts r phase Waiting s → consol_differs r.link phase seen → IsCause (consol_asks c r phase) seen s
+cause c r Guard s (Was v) f d = inl (guard-differed s r.link v f.1.guard d)
+cause c r Guard s Start f d = absurd (d)
+cause c r Guard s Stored f d = absurd (d)
+cause c r Guard s Flushed f d = absurd (d)
+cause c r Guard s (Swapped won) f d = absurd (d)
+cause c r Guard s NoneLeft f d = absurd (d)
+cause c r Fresh s seen f d = absurd (d)
+cause c r (Store i) s seen f d = absurd (d)
+cause c r (Flush n) s seen f d = absurd (d)
+cause c r Swap s seen f d = absurd (d)
+cause c r Done s seen f d = absurd (d)
+cause c r Restart s seen f d = absurd (d)
+cause c r NoSlot s seen f d = absurd (d)
+cause c r NoSwap s seen f d = absurd (d)
 
 -- once all words are stored, the slot holds the copy
 module _ (r : Renewal) (s : Scene) (f : IsCopying r NODE_WORDS NODE_LINES s) where
@@ -87,6 +108,7 @@ same-entries a b e = cc
 pub effect : RenewalsAreGood → (c : Config) (r : Renewal) (phase : Phase) (s : Scene) (y : Instant) (entries : List Entry) → consol_facts r phase Waiting s → IsScene s → consol_asks c r phase ≡ Some (Swaps_for entries) → Stand entries (here s)
     → SwapsTo s.past.config entries (here s) y → IsGoodSwap false consol_change entries s y
 effect law c r Fresh s y entries f good e stand swaps = absurd (cc)
+effect law c r Guard s y entries f good e stand swaps = absurd (cc)
 effect law c r (Store i) s y entries f good e stand swaps = absurd (cc)
 effect law c r (Flush n) s y entries f good e stand swaps = absurd (cc)
 effect law c r Swap s y entries f good e stand swaps =
@@ -106,12 +128,20 @@ same-flush a b e = cc
 -- what is known once a store, or a flush, is made
 pub stored : (c : Config) (r : Renewal) (phase : Phase) (s after : Scene) (a v : ℕ) → s.past.config ≡ c → consol_facts r phase Waiting s → consol_asks c r phase ≡ Some (Stores_at a v) → Stores a v s after → consol_facts r phase Took after
 stored c r Fresh s after a v same f e t = absurd (cc)
+stored c r Guard s after a v same f e t = absurd (cc)
 stored c r (Store i) s after a v same f e t =
     let is = same-store (node_address c r.slot + i) a (slice_index r.image i) v e in
     let at : a ≡ node_address s.past.config r.slot + i = sym is.0 ∙ ap (λ z. node_address z r.slot + i) (sym same) in
     let made : Stores (node_address s.past.config r.slot + i) (slice_index r.image i) s after = subst (λ z. Stores z (slice_index r.image i) s after) at (subst (λ z. Stores a z s after) (sym is.1) t) in (
       filled-all r.slot i (slice_index r.image i) s after f.1.0 f.0 made,
-      (f.1.0, record { viewed = viewed-stays s.past after.past t.continues r.link r.image f.1.1.viewed; writing = writing-stores r.slot r.image i s after f.1.1.writing made }),
+      (
+        f.1.0,
+        record {
+          viewed = viewed-stays s.past after.past t.continues r.link r.image f.1.1.viewed;
+          looked = looked-stays s.past after.past t.continues r.link r.image f.1.1.viewed f.1.1.looked;
+          writing = writing-stores r.slot r.image i s after f.1.1.writing made;
+        },
+      ),
     )
 stored c r (Flush n) s after a v same f e t = absurd (cc)
 stored c r Swap s after a v same f e t = absurd (cc)
@@ -122,12 +152,20 @@ stored c r NoSwap s after a v same f e t = absurd (cc)
 
 pub flushed : (c : Config) (r : Renewal) (phase : Phase) (s after : Scene) (line : ℕ) → s.past.config ≡ c → consol_facts r phase Waiting s → consol_asks c r phase ≡ Some (Flushes_line line) → Flushes line s after → consol_facts r phase Took after
 flushed c r Fresh s after line same f e t = absurd (cc)
+flushed c r Guard s after line same f e t = absurd (cc)
 flushed c r (Store i) s after line same f e t = absurd (cc)
 flushed c r (Flush n) s after line same f e t =
     let is : line ≡ line_of (node_address s.past.config r.slot) + n = sym (same-flush (line_of (node_address c r.slot) + n) line e) ∙ ap (λ z. line_of (node_address z r.slot) + n) (sym same) in
     let made : Flushes (line_of (node_address s.past.config r.slot) + n) s after = subst (λ z. Flushes z s after) is t in (
       λ k h. t.filled k ∙ f.0 k (sym (t.took k) ∙ h),
-      (f.1.0, record { viewed = viewed-stays s.past after.past t.continues r.link r.image f.1.1.viewed; writing = writing-flushes r.slot r.image n s after f.1.1.writing made }),
+      (
+        f.1.0,
+        record {
+          viewed = viewed-stays s.past after.past t.continues r.link r.image f.1.1.viewed;
+          looked = looked-stays s.past after.past t.continues r.link r.image f.1.1.viewed f.1.1.looked;
+          writing = writing-flushes r.slot r.image n s after f.1.1.writing made;
+        },
+      ),
     )
 flushed c r Swap s after line same f e t = absurd (cc)
 flushed c r Done s after line same f e t = absurd (cc)
@@ -160,6 +198,7 @@ took may c r Swap s after entries f good e takes =
     let same : renewal r.link r.slot ≡ entries = cc e in
     (filled-after s after f.0 takes, turned may r s after good f.1 (subst (λ (z : List Entry). Takes false z s after) (sym same) takes))
 took may c r Fresh s after entries f good e takes = absurd (cc)
+took may c r Guard s after entries f good e takes = absurd (cc)
 took may c r (Store i) s after entries f good e takes = absurd (cc)
 took may c r (Flush n) s after entries f good e takes = absurd (cc)
 took may c r Done s after entries f good e takes = absurd (cc)

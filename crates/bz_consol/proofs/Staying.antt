@@ -11,10 +11,12 @@ use Rattle.bz_task.specs.OwnActs.{gained}
 use Rattle.bz_task.specs.Scene.{Past, Scene, Stage, Waiting, Took, IsLawful, Continues, HasFilled}
 use Rattle.bz_task.specs.declared.path.Link.{Link}
 use Rattle.bz_consol.specs.Facts.{Renewal, WasTurned, HasViewed, IsCopying, consol_facts}
+use Rattle.bz_renew.specs.Guards.{WasAsRead}
 use Rattle.bz_renew.specs.Writing.{NODE_LINES, HasFilledBut}
+use Rattle.bz_renew.proofs.Guards.{as-read-stays}
 use Rattle.bz_renew.proofs.Staying.{guarded-stays, frozen-leaf-stays}
 use Rattle.bz_consol.specs.declared.phase.Phase.{Phase}
-use Rattle.bz_consol.specs.declared.phase.Phase.TheVariants.{Fresh, Store, Flush, Swap, Done, Restart, NoSlot, NoSwap}
+use Rattle.bz_consol.specs.declared.phase.Phase.TheVariants.{Fresh, Guard, Store, Flush, Swap, Done, Restart, NoSlot, NoSwap}
 use Rattle.bz_renew.proofs.Writes.{writing-stays, writing-no-slot, filled-no-slot}
 
 module _ (p q : Past) (c : Continues p q) where
@@ -34,6 +36,10 @@ module _ (p q : Past) (c : Continues p q) where
       alike-stays m l a = subst (λ z. SaysAlike z.nodes (words z (q.at m) link.slot) (node_of image) ((form_at z (q.at m)).low link.slot) ((form_at z (q.at m)).high link.slot)) (sym c.config)
           (subst (λ z. SaysAlike p.config.nodes (words p.config z link.slot) (node_of image) ((form_at p.config z).low link.slot) ((form_at p.config z).high link.slot)) (sym (c.at m l)) a)
 
+  pub looked-stays : (link : Link) (image : List ℕ) (v : HasViewed link image p) → WasAsRead link v.moment p → WasAsRead link (viewed-stays link image v).moment q
+  unfolding viewed-stays
+  looked-stays link image v w = as-read-stays p q c link v.moment w
+
 pub turned-stays : (p q : Past) → Continues p q → (link : Link) (image : List ℕ) → WasTurned link image p → WasTurned link image q
 turned-stays p q c link image t = record {
   slot = t.slot;
@@ -48,7 +54,11 @@ turned-stays p q c link image t = record {
 
 module _ (r : Renewal) (s after : Scene) (l : IsLawful s after) where
   copying : (count lines : ℕ) → IsCopying r count lines s → IsCopying r count lines after
-  copying count lines f = record { viewed = viewed-stays s.past after.past l.continues r.link r.image f.viewed; writing = writing-stays r.slot r.image count lines s after f.writing l }
+  copying count lines f = record {
+    viewed = viewed-stays s.past after.past l.continues r.link r.image f.viewed;
+    looked = looked-stays s.past after.past l.continues r.link r.image f.viewed f.looked;
+    writing = writing-stays r.slot r.image count lines s after f.writing l;
+  }
 
   filled : HasFilled s → HasFilled after
   filled f k t = l.filled k ∙ f k (sym (l.took k) ∙ t)
@@ -58,6 +68,7 @@ module _ (r : Renewal) (s after : Scene) (l : IsLawful s after) where
 
   pub stable : (phase : Phase) (stage : Stage) → consol_facts r phase stage s → consol_facts r phase stage after
   stable Fresh Waiting f = viewed-stays s.past after.past l.continues r.link r.image f
+  stable Guard Waiting f = (filled f.0, viewed-stays s.past after.past l.continues r.link r.image f.1)
   stable (Store i) Waiting f = (filled-but f.0, (f.1.0, copying i 0 f.1.1))
   stable (Store i) Took f = (filled f.0, (f.1.0, copying (i + 1) 0 f.1.1))
   stable (Flush n) Waiting f = (filled f.0, (f.1.0, copying NODE_WORDS n f.1.1))
@@ -69,6 +80,7 @@ module _ (r : Renewal) (s after : Scene) (l : IsLawful s after) where
   stable NoSlot Waiting f = filled f
   stable NoSwap Waiting f = filled f
   stable Fresh Took f = absurd (f)
+  stable Guard Took f = absurd (f)
   stable Done Took f = absurd (f)
   stable Restart Took f = absurd (f)
   stable NoSlot Took f = absurd (f)
@@ -77,10 +89,11 @@ module _ (r : Renewal) (s after : Scene) (l : IsLawful s after) where
 -- it stays where no slot is taken
 module _ (nothing : NothingIsGained) (r : Renewal) (s : Scene) (free : FreeSlots) where
   copying-too : (count lines : ℕ) → IsCopying r count lines s → IsCopying r count lines (gained s free free)
-  copying-too count lines f = record { viewed = f.viewed; writing = writing-no-slot r.slot r.image count lines s free f.writing }
+  copying-too count lines f = record { viewed = f.viewed; looked = f.looked; writing = writing-no-slot r.slot r.image count lines s free f.writing }
 
   pub no-slot : (phase : Phase) → consol_facts r phase Waiting s → consol_facts r phase Waiting (gained s free free)
   no-slot Fresh f = f
+  no-slot Guard f = (nothing s free f.0, f.1)
   no-slot (Store i) f = (filled-no-slot r.slot s free f.0, (f.1.0, copying-too i 0 f.1.1))
   no-slot (Flush n) f = (nothing s free f.0, (f.1.0, copying-too NODE_WORDS n f.1.1))
   no-slot Swap f = (nothing s free f.0, copying-too NODE_WORDS NODE_LINES f.1)

@@ -2,8 +2,9 @@
 use Rattle.std.specs.Prelude.{ℕ, Option}
 use Rattle.bz_task.specs.Scene.{Scene, Stage}
 use Rattle.bz_task.specs.declared.todo.Outcome.{Outcome}
+use Rattle.bz_task.specs.declared.todo.Seen.{Seen}
 use Rattle.bz_task.specs.declared.todo.Todo.{Todo}
-use Rattle.bz_consol.specs.Facts.{Renewal, consol_asks, consol_end, consol_left, consol_needs, consol_facts}
+use Rattle.bz_consol.specs.Facts.{Renewal, consol_asks, consol_end, consol_left, consol_needs, consol_facts, consol_differs}
 use Rattle.bz_consol.specs.declared.consolidate.Consolidate.{Consolidate}
 
 abbrev pub renewal_of : Consolidate → Renewal
@@ -23,3 +24,6 @@ needs_of t = consol_needs t.phase
 
 abbrev pub facts_of : Consolidate → Stage → Scene → Type 0
 facts_of t = consol_facts (renewal_of t) t.phase
+
+abbrev pub differs_of : Consolidate → Seen → Type 0
+differs_of t = consol_differs t.link t.phase

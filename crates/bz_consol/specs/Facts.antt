@@ -1,10 +1,11 @@
 -- What a consolidation knows, and what it asks for.
-use Rattle.std.specs.Prelude.{◌≡◌, ◌≢◌, ℕ, ◌+◌, ◌-◌, ◌^◌, ◌<◌, ◌≤◌, nat_lt, if◌then◌else◌, Bool, true, false, List, [], All, Option, Some, None, slice_get, slice_index, length}
+use Rattle.std.specs.Prelude.{◌≡◌, ◌≢◌, ℕ, ◌+◌, ◌-◌, ◌^◌, ◌<◌, ◌≤◌, ◌⊎◌, nat_lt, if◌then◌else◌, false, List, [], All, Option, Some, None, slice_index, length}
 use Rattle.bz_call.specs.declared.replies.Spent.TheVariants.{Nodes, Swaps}
 use Rattle.bz_layout.specs.Addresses.{node_address, line_of}
 use Rattle.bz_layout.specs.Slots.{FreeSlots}
 use Rattle.bz_layout.specs.declared.config.Config.{Config}
 use Rattle.bz_layout.specs.declared.sizes.TheConstants.{NODE_WORDS}
+use Rattle.bz_layout.specs.declared.thresholds.TheConstants.{CONSOLIDATION_SLOTS}
 use Rattle.bz_node.specs.Reading.{AreInKeyOrder, pairs_in}
 use Rattle.bz_node.specs.Records.{leaf_words}
 use Rattle.bz_slotted.specs.ReadingLaws.{node_of}
@@ -15,18 +16,20 @@ use Rattle.bz_task.specs.Outcomes.{IsGuarded}
 use Rattle.bz_task.specs.Scene.{Past, Scene, Stage, Waiting, Took, HasFilled}
 use Rattle.bz_task.specs.Swaps.{Change}
 use Rattle.bz_task.specs.declared.path.Link.{Link}
-use Rattle.bz_task.specs.declared.path.Path.{Path}
 use Rattle.bz_task.specs.declared.view.LeafView.{LeafView}
 use Rattle.bz_task.specs.declared.todo.Outcome.{Outcome}
 use Rattle.bz_task.specs.declared.todo.Outcome.TheVariants.{Done as IsDone, Restart as Restarts, Full as IsFull}
+use Rattle.bz_task.specs.declared.todo.Seen.{Seen}
+use Rattle.bz_task.specs.declared.todo.Seen.TheVariants.{Read as Was}
 use Rattle.bz_task.specs.declared.todo.Todo.{Todo}
-use Rattle.bz_task.specs.declared.todo.Todo.TheVariants.{Store as Stores_at, Flush as Flushes_line, Swap as Swaps_for, Finish}
+use Rattle.bz_task.specs.declared.todo.Todo.TheVariants.{Read as Reads, Store as Stores_at, Flush as Flushes_line, Swap as Swaps_for, Finish}
 pub use Rattle.bz_renew.specs.Due.{LeadsTo, IsDue}
 use Rattle.bz_renew.specs.FrozenLeaves.{WasFrozenLeaf}
+use Rattle.bz_renew.specs.Guards.{WasAsRead}
 use Rattle.bz_renew.specs.Renewals.{renewal}
 use Rattle.bz_renew.specs.Writing.{NODE_LINES, IsWriting, HasFilledBut, IsTaken}
 use Rattle.bz_consol.specs.declared.phase.Phase.{Phase}
-use Rattle.bz_consol.specs.declared.phase.Phase.TheVariants.{Fresh, Store, Flush, Swap, Done, Restart, NoSlot, NoSwap}
+use Rattle.bz_consol.specs.declared.phase.Phase.TheVariants.{Fresh, Guard, Store, Flush, Swap, Done, Restart, NoSlot, NoSwap}
 
 -- the link that is turned, the words of the copy, and the slot that they are stored into
 pub record Renewal : Type 0 where
@@ -36,6 +39,7 @@ pub record Renewal : Type 0 where
 
 abbrev pub consol_asks : Config → Renewal → Phase → Option Todo
 consol_asks c r Fresh = None
+consol_asks c r Guard = Some (Reads r.link.guard)
 consol_asks c r (Store i) = Some (Stores_at (node_address c r.slot + i) (slice_index r.image i))
 consol_asks c r (Flush n) = Some (Flushes_line (line_of (node_address c r.slot) + n))
 consol_asks c r Swap = Some (Swaps_for (renewal r.link r.slot))
@@ -48,16 +52,22 @@ consol_end NoSlot = Some (IsFull Nodes)
 consol_end NoSwap = Some (IsFull Swaps)
 consol_end phase = None
 
--- the most acts: a store for each word, a flush for each line, and the swap
+-- the most acts: the load of the guard, a store for each word, a flush for each line, the swap, and the end
+abbrev pub consol_acts : ℕ
+consol_acts = NODE_WORDS + NODE_LINES + 3
+
 abbrev pub consol_left : Phase → ℕ
-consol_left Fresh = 146
-consol_left (Store i) = 145 - i
-consol_left (Flush n) = 17 - n
+consol_left Fresh = consol_acts
+consol_left Guard = NODE_WORDS + NODE_LINES + 2
+consol_left (Store i) = NODE_WORDS + NODE_LINES + 1 - i
+consol_left (Flush n) = NODE_LINES + 1 - n
 consol_left Swap = 1
 consol_left phase = 0
 
+-- the slot is taken when the guard has been looked at again
 abbrev pub consol_needs : Phase → ℕ
-consol_needs Fresh = 1
+consol_needs Fresh = CONSOLIDATION_SLOTS
+consol_needs Guard = CONSOLIDATION_SLOTS
 consol_needs phase = 0
 
 -- after a store comes the next one, or the first flush; after a flush the next one, or the swap
@@ -78,9 +88,11 @@ pub record HasViewed (link : Link) (image : List ℕ) (p : Past) : Type 0 where
   pub size : length image ≡ NODE_WORDS
   pub plain : All (λ v. v < 2 ^ 61) image
 
--- so many of the words of the copy are stored, and so many of its lines durable
+-- since the leaf was frozen the guard was looked at again, and was as the path names it; so many of the words of the copy are
+-- stored, and so many of its lines durable
 pub record IsCopying (r : Renewal) (count lines : ℕ) (s : Scene) : Type 0 where
   pub viewed : HasViewed r.link r.image s.past
+  pub looked : WasAsRead r.link viewed.moment s.past
   pub writing : IsWriting r.slot r.image count lines s
 
 -- the words are a leaf made whole of the records that a viewed leaf shows, in the order of their keys
@@ -110,6 +122,7 @@ pub record WasRenewed (link : Link) (view : LeafView) (p : Past) : Type 0 where
 
 abbrev pub consol_facts : Renewal → Phase → Stage → Scene → Type 0
 consol_facts r Fresh Waiting s = HasViewed r.link r.image s.past
+consol_facts r Guard Waiting s = HasFilled s × HasViewed r.link r.image s.past
 consol_facts r (Store i) Waiting s = HasFilledBut r.slot s × ((i < NODE_WORDS) × IsCopying r i 0 s)
 consol_facts r (Store i) Took s = HasFilled s × ((i < NODE_WORDS) × IsCopying r (i + 1) 0 s)
 consol_facts r (Flush n) Waiting s = HasFilled s × ((n < NODE_LINES) × IsCopying r NODE_WORDS n s)
@@ -118,6 +131,7 @@ consol_facts r Swap Waiting s = HasFilled s × IsCopying r NODE_WORDS NODE_LINES
 consol_facts r Swap Took s = HasFilled s × WasTurned r.link r.image s.past
 consol_facts r Done Waiting s = HasFilled s × WasTurned r.link r.image s.past
 consol_facts r Fresh Took s = ⊥
+consol_facts r Guard Took s = ⊥
 consol_facts r phase Waiting s = HasFilled s
 consol_facts r phase Took s = ⊥
 
@@ -128,6 +142,11 @@ consol_means link image Restarts s = Unit {0}
 consol_means link image (IsFull Nodes) s = Unit {0}
 consol_means link image (IsFull Swaps) s = Unit {0}
 consol_means link image outcome s = ⊥
+
+-- the guard is another one than the path names
+abbrev pub consol_differs : Link → Phase → Seen → Type 0
+consol_differs link Guard (Was v) = v ≢ link.status
+consol_differs link phase seen = ⊥
 
 -- a consolidation makes no change
 abbrev pub consol_change : Change
@@ -143,5 +162,9 @@ IsReady c r phase = Unit {0}
 -- a slot was taken for the copy, or there was none
 abbrev pub HasBegun : ℕ → Phase → FreeSlots → FreeSlots → Type 0
 HasBegun slot (Store i) old new = (i ≡ 0) × (IsTaken slot old new × (new.nodes ≡ old.nodes))
-HasBegun slot NoSlot old new = (length old.free < 1) × (new ≡ old)
+HasBegun slot NoSlot old new = (length old.free < CONSOLIDATION_SLOTS) × (new ≡ old)
 HasBegun slot phase old new = ⊥
+
+-- that is where the guard was as the path names it; elsewhere none was taken
+abbrev pub HasLooked : Renewal → Seen → Phase → FreeSlots → FreeSlots → Type 0
+HasLooked r seen phase old new = ((seen ≡ Was r.link.status) × HasBegun r.slot phase old new) ⊎ ((seen ≢ Was r.link.status) × ((phase ≡ Restart) × (new ≡ old)))

@@ -1,16 +1,17 @@
 //! The task that consolidates a frozen leaf.
 
-ghost use Rattle.std.specs.Prelude.{◌≡◌, ◌≢◌, ◌↔◌, ◌-◌, ◌<◌, ◌≤◌, ◌^◌, ℕ, List, Some, None, true, false, slice_get, length};
+ghost use Rattle.std.specs.Prelude.{◌≡◌, ◌≢◌, ◌↔◌, ◌-◌, ◌<◌, ◌≤◌, ◌^◌, ◌⊎◌, ℕ, List, Some, None, IsTrue, true, false, slice_get, length};
 ghost use Rattle.bz_layout.specs.Config.{IsConfig};
+ghost use Rattle.bz_layout.specs.declared.thresholds.TheConstants.{CONSOLIDATION_SLOTS};
 ghost use Rattle.bz_page.specs.Pages.{IsLeafByItself};
 ghost use Rattle.bz_word.specs.Statuses.{status};
 ghost use Rattle.bz_task.specs.Outcomes.{IsPath, IsView};
 ghost use Rattle.bz_task.specs.OwnActs.{AreTakenFrom, AreUnreached, gained};
 ghost use Rattle.bz_task.specs.Requests.{Hears, Tells, IsKnown};
 ghost use Rattle.bz_task.specs.Scene.{Scene, Stage, Waiting, IsScene};
-ghost use Rattle.bz_task.specs.declared.todo.Seen.TheVariants.{Swapped, NoSwap as NoneLeft};
-ghost use Rattle.bz_consol.specs.Duties.{renewal_of, asks_of, end_of, left_of, needs_of, facts_of};
-ghost use Rattle.bz_consol.specs.Facts.{HasBegun, consol_asks, consol_left, consol_facts, consol_means, consol_change, IsReady, LeadsTo, WasRenewed, next_store, next_flush};
+ghost use Rattle.bz_task.specs.declared.todo.Seen.TheVariants.{Read as Was, Swapped, NoSwap as NoneLeft};
+ghost use Rattle.bz_consol.specs.Duties.{renewal_of, asks_of, end_of, left_of, needs_of, facts_of, differs_of};
+ghost use Rattle.bz_consol.specs.Facts.{HasBegun, HasLooked, consol_acts, consol_asks, consol_left, consol_facts, consol_means, consol_change, IsReady, LeadsTo, WasRenewed, next_store, next_flush};
 
 use crate::copies::copy_of;
 use crate::laws::renewals_are_good;
@@ -47,8 +48,8 @@ impl Consolidate {
         requires leads { LeadsTo path view.slot }
         ensures config { ⟦<Consolidate as Task>⟧.config result ≡ config.now }
         ensures asks { ⟦<Consolidate as Task>⟧.asks result ≡ None }
-        ensures left { ⟦<Consolidate as Task>⟧.left result ≡ 146 }
-        ensures needs { ⟦<Consolidate as Task>⟧.needs result ≡ 1 }
+        ensures left { ⟦<Consolidate as Task>⟧.left result ≡ consol_acts }
+        ensures needs { ⟦<Consolidate as Task>⟧.needs result ≡ CONSOLIDATION_SLOTS }
         ensures change { ⟦<Consolidate as Task>⟧.change result ≡ consol_change }
         ensures facts { (key : List ℕ) (s : Scene) → s.past.config ≡ config.now → IsScene s → IsPath key path s.past → IsView key view s.past → ⟦<Consolidate as Task>⟧.facts result Waiting s }
         ensures done { (link : Link) (s : Scene) → slice_get path.links (path.depth - 1) ≡ Some link → ⟦<Consolidate as Task>⟧.means result Outcome.Done s → WasRenewed link view s.past }
@@ -73,6 +74,7 @@ impl Consolidate {
     // The phase after what came of the last act.
     fn after(&self, seen: Seen, moment: u32) -> Phase
         requires begun { self.now.phase ≢ Phase.Fresh }
+        requires looked { self.now.phase ≢ Phase.Guard }
         requires hears { Hears (asks_of self.now) seen }
         requires known { IsKnown self.now.config (facts_of self.now) (asks_of self.now) seen moment }
         ensures nearer { consol_left result < left_of self.now }
@@ -81,6 +83,7 @@ impl Consolidate {
         ensures no_swap { (result ≡ Phase.NoSwap) ↔ (seen ≡ NoneLeft) }
         ensures slots { result ≢ Phase.NoSlot }
         ensures begun { result ≢ Phase.Fresh }
+        ensures looked { result ≢ Phase.Guard }
         ensures config { IsConfig self.now.config }
         ensures ready { IsReady self.now.config (renewal_of self.now) result }
         ensures learns { (stage : Stage) (s : Scene) → s.past.config ≡ self.now.config → facts_of self.now stage s → Tells (asks_of self.now) stage seen s → consol_facts (renewal_of self.now) result Waiting s }
@@ -96,7 +99,7 @@ impl Consolidate {
         }
     }
 
-    // The first phase: the first store, where a slot is left.
+    // The phase with which the copy begins: the first store, where a slot is left.
     fn begin(&mut self, slots: &mut Slots)
         ensures config { self.new.config ≡ self.old.config }
         ensures link { self.new.link ≡ self.old.link }
@@ -109,6 +112,20 @@ impl Consolidate {
                 self.phase = Phase::Store(0);
             }
             None => self.phase = Phase::NoSlot,
+        }
+    }
+
+    // The phase after another look at the guard: the copy begins where it is as the path names it.
+    fn look(&mut self, seen: Seen, slots: &mut Slots)
+        ensures config { self.new.config ≡ self.old.config }
+        ensures link { self.new.link ≡ self.old.link }
+        ensures image { self.new.image ≡ self.old.image }
+        ensures looked { HasLooked (renewal_of self.new) seen self.new.phase slots.old slots.new }
+    {
+        if is_read(seen, self.link.status) {
+            self.begin(slots);
+        } else {
+            self.phase = Phase::Restart;
         }
     }
 
@@ -126,7 +143,7 @@ impl Consolidate {
         ensures nearer { left_of self.new < left_of self.old }
         ensures slots { AreTakenFrom (needs_of self.old) (needs_of self.new) slots.old slots.new }
         ensures done { end_of self.new ≡ Some Outcome.Done → seen ≡ Swapped true }
-        ensures restart { end_of self.new ≡ Some Outcome.Restart → seen ≡ Swapped false }
+        ensures restart { end_of self.new ≡ Some Outcome.Restart → (seen ≡ Swapped false) ⊎ differs_of self.old seen }
         ensures no_swap { seen ≡ NoneLeft → end_of self.new ≡ Some (Outcome.Full Spent.Swaps) }
         ensures full_swaps { end_of self.new ≡ Some (Outcome.Full Spent.Swaps) → seen ≡ NoneLeft }
         ensures full_nodes { end_of self.new ≡ Some (Outcome.Full Spent.Nodes) → length slots.old.free < needs_of self.old }
@@ -135,7 +152,8 @@ impl Consolidate {
         laws::nothing_is_gained();
         bz_layout::slots_apart();
         match self.phase {
-            Phase::Fresh => self.begin(slots),
+            Phase::Fresh => self.phase = Phase::Guard,
+            Phase::Guard => self.look(seen, slots),
             _ => self.phase = self.after(seen, moment),
         }
     }
@@ -148,6 +166,7 @@ impl Consolidate {
         ensures { asks_of self.now ≡ Some result }
     {
         match self.phase {
+            Phase::Guard => Todo::Read(self.link.guard),
             Phase::Store(i) => {
                 Todo::Store(
                     self.config.node_at(self.slot as u32) + i,
@@ -161,6 +180,16 @@ impl Consolidate {
             Phase::Fresh | Phase::Done | Phase::Restart | Phase::NoSlot | Phase::NoSwap =>
                 Todo::Finish,
         }
+    }
+}
+
+// Whether a load found this value.
+fn is_read(seen: Seen, value: u64) -> bool
+    ensures { IsTrue result ↔ (seen ≡ Was value) }
+{
+    match seen {
+        Seen::Read(found) => found == value,
+        _ => false,
     }
 }
 
@@ -207,7 +236,7 @@ impl Task for Consolidate {
 
     ghost means = { λ t. consol_means t.link t.image.0 };
 
-    ghost differs = { λ t seen. ⊥ };
+    ghost differs = { differs_of };
 
     fn publishes(&self) -> bool {
         false

@@ -1,6 +1,10 @@
-//! What the swap of a consolidation leads to. Each function does nothing: its contract is the law.
+//! Laws of consolidations. Each function does nothing: its contract is the law.
 
+ghost use Rattle.std.specs.Prelude.{◌≤◌};
 ghost use Rattle.bz_consol.specs.Copies.{RenewalsAreGood};
+ghost use Rattle.bz_consol.specs.Duties.{needs_of};
+ghost use Rattle.bz_consol.specs.declared.consolidate.Consolidate.{Consolidate};
+ghost use Rattle.bz_layout.specs.declared.thresholds.TheConstants.{CONSOLIDATION_SLOTS};
 ghost use Rattle.bz_renew.specs.Renewals.{LinksMayBeTurned};
 
 use bz_content::laws as content;
@@ -19,3 +23,8 @@ pub(crate) fn renewals_are_good()
     laws::frozen_leaves_stand_still();
     laws::link_swaps_are_good();
 }
+
+/// A consolidation takes no more than one slot.
+pub fn consolidations_take_one_slot()
+    ensures { (t : Consolidate) → needs_of t ≤ CONSOLIDATION_SLOTS }
+{}

@@ -3,7 +3,7 @@
 
 mod consolidate;
 mod copies;
-mod laws;
+pub mod laws;
 mod phase;
 
 pub use bz_renew::is_due;

@@ -1,6 +1,7 @@
 //! Laws of the halves of a leaf. Each function does nothing: its contract is the law.
 
 ghost use Rattle.bz_halves.specs.Laws.{LeavesPartInHalves, HalvesAreLeaves, RootsStandOverTwo};
+ghost use Rattle.bz_halves.specs.Parents.{ChildrenMayBeParted, ParentsOfHalvesAreWhole};
 
 use bz_slotted::laws as slotted;
 
@@ -22,6 +23,18 @@ pub fn halves_are_leaves()
 /// A new root over two leaves breaks no rule, and takes one more separator.
 pub fn roots_stand_over_two()
     ensures { RootsStandOverTwo }
+{
+    slotted::made_inners_are_whole();
+}
+
+/// The children of a parent of which one is parted in two make a node again, between the same fences.
+pub fn children_may_be_parted()
+    ensures { ChildrenMayBeParted }
+{}
+
+/// Where there is room, that node breaks no rule, and has one child more, the two halves in place of the one.
+pub fn parents_of_halves_are_whole()
+    ensures { ParentsOfHalvesAreWhole }
 {
     slotted::made_inners_are_whole();
 }

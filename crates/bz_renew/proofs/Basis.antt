@@ -11,7 +11,7 @@ use Rattle.bz_content.specs.Content.{IsWellFormed, view_in}
 use Rattle.bz_content.specs.Laws.{WellFormedImagesHaveNoFault}
 use Rattle.bz_task.specs.Good.{IsGood}
 use Rattle.bz_task.specs.Instant.{Instant, form_at}
-use Rattle.bz_task.specs.Laws.{NodesStay, FrontsStay, SeparatorsStay, HeadersSayTheLevel, SwapsShowInSlots}
+use Rattle.bz_task.specs.Laws.{NodesStay, FrontsStay, SeparatorsStay, HeadersSayTheLevel, SwapsShowInSlots, SameRecordsShowTheSame}
 
 pub record Laws : Type 0 where
   pub formed : WellFormedImagesHaveNoFault
@@ -24,6 +24,7 @@ pub record Laws : Type 0 where
   pub separators : SeparatorsStay
   pub headers : HeadersSayTheLevel
   pub slots : SwapsShowInSlots
+  pub shown : SameRecordsShowTheSame
 
 -- a good memory is a tree, which has a form
 pub fits : Laws → (c : Config) (x : Instant) → IsGood c x → Fits (view_in c x.image) (form_at c x)

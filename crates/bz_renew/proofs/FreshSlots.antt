@@ -5,6 +5,8 @@ use Rattle.std.proofs.lemmas.Bool.{true≢false, cases_lt}
 use Rattle.bz_layout.specs.Addresses.{node_address}
 use Rattle.bz_layout.specs.declared.sizes.TheConstants.{NODE_WORDS}
 use Rattle.bz_shape.specs.Walk.{is_among}
+use Rattle.bz_swap.specs.SwapMemory.{is_target}
+use Rattle.bz_word.specs.declared.entry.Entry.{Entry}
 use Rattle.bz_content.specs.Image.{node}
 use Rattle.bz_content.specs.Laws.{PlainWordsStandForThemselves}
 use Rattle.bz_content.specs.Resolving.{resolve}
@@ -13,7 +15,7 @@ use Rattle.bz_task.specs.Instant.{Instant, words, durable, is_inside}
 use Rattle.bz_task.specs.Scene.{Scene, IsScene, here}
 use Rattle.bz_task.specs.Swaps.{SwapsTo, IsMineAndDurable}
 use Rattle.bz_task.specs.declared.path.Link.{Link}
-use Rattle.bz_renew.specs.LinkSwaps.{IsFresh}
+use Rattle.bz_renew.specs.LinkSwaps.{IsChanged, IsFresh}
 use Rattle.bz_renew.specs.Renewals.{renewal}
 use Rattle.bz_renew.specs.Turning.{TurnsAt}
 use Rattle.bz_renew.proofs.Words.{untouched, node-at, node-past}
@@ -43,16 +45,10 @@ module _ (s : Scene) (new : ℕ) (good : IsScene s) (fresh : IsFresh s new) wher
       let v : (here s).value (node_address s.past.config new + i) < 2 ^ 61 = (good.mine (node_address s.past.config new + i) own.mine).1.1 in
       plain (here s).image (node_address s.past.config new + i) (subst (λ z. z < 2 ^ 61) (sym own.flushed) v) ∙ own.flushed
 
-module _ (plain : PlainWordsStandForThemselves) (link : Link) (to : ℕ) (gone : List ℕ) (s : Scene) (y : Instant) (p i : ℕ) (changed : List ℕ) (new : ℕ) (good : IsScene s) (fresh : IsFresh s new) (t : TurnsAt link to gone s y p i changed) (swaps : SwapsTo s.past.config (renewal link to) (here s) y) where
-  unchanged : is_among changed new ≡ false
-  unchanged = go (is_among changed new) refl
-    where
-      go : (b : Bool) → is_among changed new ≡ b → is_among changed new ≡ false
-      go false e = e
-      go true e = absurd (true≢false (sym (t.changes new e).reached ∙ unreached s new good fresh))
-
-  pub raw-is : node s.past.config y.image new ≡ words s.past.config (here s) new
-  raw-is = λ z k. each k z
+-- any swap that names none of its words
+module _ (plain : PlainWordsStandForThemselves) (entries : List Entry) (s : Scene) (y : Instant) (new : ℕ) (good : IsScene s) (fresh : IsFresh s new) (unnamed : (i : ℕ) → i < NODE_WORDS → is_target entries (node_address s.past.config new + i) ≡ false) (swaps : SwapsTo s.past.config entries (here s) y) where
+  pub raw-stays : node s.past.config y.image new ≡ words s.past.config (here s) new
+  raw-stays = λ z k. each k z
     where
       each : (k : ℕ) → node s.past.config y.image new k ≡ words s.past.config (here s) new k
       each k = elim (cases_lt k NODE_WORDS) [
@@ -62,14 +58,32 @@ module _ (plain : PlainWordsStandForThemselves) (link : Link) (to : ℕ) (gone :
         | inr l ↦ node-past s.past.config y.image new k l ∙ sym (node-past s.past.config (here s).value new k l)
       ]
 
-  pub durable-is : durable s.past.config y new ≡ words s.past.config (here s) new
-  durable-is = λ z k. each k z
+  pub durable-stays : durable s.past.config y new ≡ words s.past.config (here s) new
+  durable-stays = λ z k. each k z
     where
       each : (k : ℕ) → durable s.past.config y new k ≡ words s.past.config (here s) new k
       each k = elim (cases_lt k NODE_WORDS) [
         | inl l ↦ (
             let a : ℕ = node_address s.past.config new + k in
             node-at s.past.config (resolve y.image) new k l
-            ∙ (swaps.resolved a (inr (omega arith)) ∙ (untouched (renewal link to) (resolve (here s).image) a (t.others new k unchanged l) ∙ (stored s new good fresh plain k l ∙ sym (node-at s.past.config (here s).value new k l)))))
+            ∙ (swaps.resolved a (inr (omega arith)) ∙ (untouched entries (resolve (here s).image) a (unnamed k l) ∙ (stored s new good fresh plain k l ∙ sym (node-at s.past.config (here s).value new k l)))))
         | inr l ↦ node-past s.past.config (resolve y.image) new k l ∙ sym (node-past s.past.config (here s).value new k l)
       ]
+
+-- a fresh slot is none of those that change, which were reached
+pub fresh-unchanged : (s : Scene) (y : Instant) (changed : List ℕ) (new : ℕ) → IsScene s → IsFresh s new → ((k : ℕ) → is_among changed k ≡ true → IsChanged s y k) → is_among changed new ≡ false
+fresh-unchanged s y changed new good fresh changes = go (is_among changed new) refl
+  where
+    go : (b : Bool) → is_among changed new ≡ b → is_among changed new ≡ false
+    go false e = e
+    go true e = absurd (true≢false (sym (changes new e).reached ∙ unreached s new good fresh))
+
+module _ (plain : PlainWordsStandForThemselves) (link : Link) (to : ℕ) (gone : List ℕ) (s : Scene) (y : Instant) (p i : ℕ) (changed : List ℕ) (new : ℕ) (good : IsScene s) (fresh : IsFresh s new) (t : TurnsAt link to gone s y p i changed) (swaps : SwapsTo s.past.config (renewal link to) (here s) y) where
+  unnamed : (k : ℕ) → k < NODE_WORDS → is_target (renewal link to) (node_address s.past.config new + k) ≡ false
+  unnamed k l = t.others new k (fresh-unchanged s y changed new good fresh t.changes) l
+
+  pub raw-is : node s.past.config y.image new ≡ words s.past.config (here s) new
+  raw-is = raw-stays plain (renewal link to) s y new good fresh unnamed swaps
+
+  pub durable-is : durable s.past.config y new ≡ words s.past.config (here s) new
+  durable-is = durable-stays plain (renewal link to) s y new good fresh unnamed swaps

@@ -1,6 +1,9 @@
 pub mod Words
 mod LinkSwaps
 pub mod TwoEntries
+pub mod Inserting
+pub mod Freezings
+pub mod FrozenNodes
 pub mod Restamping
 mod Basis
 mod InnerNodes
@@ -16,5 +19,6 @@ mod Turnable
 pub mod Writes
 pub mod NodeWrites
 pub mod Staying
+pub mod Guards
 mod Slots
 mod Viewing

@@ -1,13 +1,16 @@
--- The swap of a renewal where the link is the root pointer.
-use Rattle.std.proofs.Common.{◌≡◌, ◌≢◌, ℕ, ◌+◌, ◌-◌, ◌^◌, ◌<◌, ◌==◌, ◌&&◌, if◌then◌else◌, Bool, true, false, List, [], arith, refl, sym, ap, subst, ◌∙◌, inl, inr}
+-- The swap of a renewal where the link is the root pointer, with nodes that are frozen besides.
+use Rattle.std.proofs.Common.{◌≡◌, ◌≢◌, ℕ, ◌+◌, ◌-◌, ◌^◌, ◌<◌, ◌==◌, ◌&&◌, ◌⊎◌, if◌then◌else◌, Bool, true, false, List, [], arith, refl, sym, ap, subst, ◌∙◌, inl, inr}
 use Rattle.std.specs.Prelude.{nat_lt, nat_le, Some, None}
+use Rattle.std.proofs.lemmas.Bool.{true≢false}
 use Rattle.std.proofs.lemmas.Bool.Decides.{nat_tests}
 use Rattle.bz_layout.specs.Addresses.{node_address}
 use Rattle.bz_layout.specs.declared.config.Config.{Config}
-use Rattle.bz_layout.specs.declared.sizes.TheConstants.{ROOT_AT, ROOT_STATUS_AT}
+use Rattle.bz_layout.specs.declared.sizes.TheConstants.{NODE_WORDS, STATUS_AT, ROOT_AT, ROOT_STATUS_AT}
 use Rattle.bz_shape.specs.Form.{Fits, Stands}
 use Rattle.bz_shape.specs.declared.rule.ShapeRule.TheVariants.{Root}
+use Rattle.bz_shape.specs.Walk.{is_among}
 use Rattle.bz_swap.specs.SwapMemory.{is_target}
+use Rattle.bz_word.specs.declared.entry.Entry.{Entry}
 use Rattle.bz_content.specs.Changes.{SameNode}
 use Rattle.bz_content.specs.Content.{image_of, view_in}
 use Rattle.bz_content.specs.Resolving.{resolve}
@@ -21,9 +24,12 @@ use Rattle.bz_task.specs.Scene.{Scene, IsScene, here}
 use Rattle.bz_task.specs.Steps.{next_stamp}
 use Rattle.bz_task.specs.Swaps.{Stand, SwapsTo, swapped}
 use Rattle.bz_task.specs.declared.path.Link.{Link}
-use Rattle.bz_renew.specs.Renewals.{link_entry, guard_entry, renewal}
-use Rattle.bz_renew.specs.Turning.{TurnsAt, RootLinksTurn}
+use Rattle.bz_renew.specs.Freezings.{Freezing, slots_of, renewal_with}
+use Rattle.bz_renew.specs.Renewals.{link_entry, guard_entry}
+use Rattle.bz_renew.specs.Turning.{TurnsWith, AreGoing, RootLinksTurn, RootLinksTurnWith}
 use Rattle.bz_renew.proofs.Basis.{Laws, fits}
+use Rattle.bz_renew.proofs.Freezings.{IsFrozenBy, far-set, far-target, slot-far, named-by, renewal-holds, frozen-by}
+use Rattle.bz_renew.proofs.FrozenNodes.{frozen-after, frozen-changed}
 use Rattle.bz_renew.proofs.Restamping.{root-restamped}
 use Rattle.bz_renew.proofs.TwoEntries.{sets-first, sets-second, leaves, targets-two, no-target, both-stand}
 
@@ -46,12 +52,13 @@ root-status b c x g =
     let e : root_fault c.nodes (resolve x.image ROOT_AT) (resolve x.image ROOT_STATUS_AT) ≡ None = rw (is c.nodes) at (fits b c x g).super in
     subst (λ w. w < 2 ^ 32) g.root_status (root-tested c.nodes (resolve x.image ROOT_AT) (resolve x.image ROOT_STATUS_AT) e)
 
-module _ (b : Laws) (s : Scene) (y : Instant) (link : Link) (new : ℕ) (gone : List ℕ) (good : IsScene s) (slot : new < s.past.config.nodes) (under : IsUnderRoot link) (stand : Stand (renewal link new) (here s)) (swaps : SwapsTo s.past.config (renewal link new) (here s) y) where
+module _ (b : Laws) (s : Scene) (y : Instant) (link : Link) (new : ℕ) (fs : List Freezing) (gone : List ℕ) (good : IsScene s) (slot : new < s.past.config.nodes) (under : IsUnderRoot link) (going : AreGoing fs gone s)
+    (stand : Stand (renewal_with s.past.config link new fs) (here s)) (swaps : SwapsTo s.past.config (renewal_with s.past.config link new fs) (here s) y) where
   g : IsGood s.past.config (here s)
   g = good.history.good s.past.now good.begun (omega arith)
 
   both : ((here s).value link.link ≡ link.slot + 1) × ((here s).value link.guard ≡ link.status)
-  both = both-stand (link_entry link new) (guard_entry link) (here s) stand
+  both = both-stand (link_entry link new) (guard_entry link) (here s) (renewal-holds s.past.config link new (λ (e : Entry). (here s).value e.target ≡ e.expected) fs stand)
 
   pointer-now : (here s).value ROOT_AT ≡ link.slot + 1
   pointer-now = ap (here s).value (sym under.pointer) ∙ both.0
@@ -71,11 +78,12 @@ module _ (b : Laws) (s : Scene) (y : Instant) (link : Link) (new : ℕ) (gone : 
       (f.down s.past.config.nodes 0 f.top (omega (arith, f.height, f.tall)) (omega (arith, f.top_one)))
 
   -- the two words of the root afterwards
-  pointer-set : (f : ℕ → ℕ) → swapped (renewal link new) f ROOT_AT ≡ new + 1
-  pointer-set f = sets-first (link_entry link new) (guard_entry link) f ROOT_AT under.pointer (λ e. absurd (omega (arith, e, under.guard)))
+  pointer-set : (f : ℕ → ℕ) → swapped (renewal_with s.past.config link new fs) f ROOT_AT ≡ new + 1
+  pointer-set f = far-set s.past.config link new fs f ROOT_AT (λ k e q. absurd (omega (arith, q))) ∙ sets-first (link_entry link new) (guard_entry link) f ROOT_AT under.pointer (λ e. absurd (omega (arith, e, under.guard)))
 
-  status-set : (f : ℕ → ℕ) → swapped (renewal link new) f ROOT_STATUS_AT ≡ next_stamp link.status
-  status-set f = sets-second (link_entry link new) (guard_entry link) f ROOT_STATUS_AT (λ e. absurd (omega (arith, e, under.pointer))) under.guard ∙ root-restamped link.status stamp-alone
+  status-set : (f : ℕ → ℕ) → swapped (renewal_with s.past.config link new fs) f ROOT_STATUS_AT ≡ next_stamp link.status
+  status-set f =
+      far-set s.past.config link new fs f ROOT_STATUS_AT (λ k e q. absurd (omega (arith, q))) ∙ (sets-second (link_entry link new) (guard_entry link) f ROOT_STATUS_AT (λ e. absurd (omega (arith, e, under.pointer))) under.guard ∙ root-restamped link.status stamp-alone)
 
   -- no word of a slot is named
   far-link : (k i : ℕ) → link.link ≢ node_address s.past.config k + i
@@ -84,11 +92,25 @@ module _ (b : Laws) (s : Scene) (y : Instant) (link : Link) (new : ℕ) (gone : 
   far-guard : (k i : ℕ) → link.guard ≢ node_address s.past.config k + i
   far-guard k i e = absurd (omega (arith, e, under.guard))
 
-  slot-same : (k : ℕ) → SameNode s.past.config (image_of (here s).image) (image_of y.image) k
-  slot-same k = record {
-    words = λ i l. swaps.resolved (node_address s.past.config k + i) (inr (omega arith)) ∙ leaves (link_entry link new) (guard_entry link) (resolve (here s).image) (node_address s.past.config k + i) (far-link k i) (far-guard k i);
-    stands = λ i from free. (b.slots s.past.config (renewal link new) (here s) y k swaps).raw i;
+  -- what is left of slots: every word but the statuses of the nodes that are frozen
+  left : (f : ℕ → ℕ) (k i : ℕ) → i < NODE_WORDS → (is_among (slots_of fs) k ≡ false) ⊎ (i ≢ STATUS_AT) → swapped (renewal_with s.past.config link new fs) f (node_address s.past.config k + i) ≡ f (node_address s.past.config k + i)
+  left f k i l far = far-set s.past.config link new fs f (node_address s.past.config k + i) (slot-far b.apart s.past.config fs k i l far) ∙ leaves (link_entry link new) (guard_entry link) f (node_address s.past.config k + i) (far-link k i) (far-guard k i)
+
+  kept-out : (k : ℕ) → is_among gone k ≡ false → is_among (slots_of fs) k ≡ false
+  kept-out k out = go (is_among (slots_of fs) k) refl
+    where
+      go : (t : Bool) → is_among (slots_of fs) k ≡ t → is_among (slots_of fs) k ≡ false
+      go false e = e
+      go true e = absurd (true≢false (sym (going.go k e) ∙ out))
+
+  slot-same : (k : ℕ) → is_among (slots_of fs) k ≡ false → SameNode s.past.config (image_of (here s).image) (image_of y.image) k
+  slot-same k out = record {
+    words = λ i l. swaps.resolved (node_address s.past.config k + i) (inr (omega arith)) ∙ left (resolve (here s).image) k i l (inl out);
+    stands = λ i from free. (b.slots s.past.config (renewal_with s.past.config link new fs) (here s) y k swaps).raw i;
   }
+
+  frozen : (k : ℕ) → is_among (slots_of fs) k ≡ true → IsFrozenBy link new fs s k
+  frozen k e = frozen-by b.apart link new s fs going.freezable stand k (no-target (link_entry link new) (guard_entry link) (node_address s.past.config k + STATUS_AT) (far-link k STATUS_AT) (far-guard k STATUS_AT)) e
 
   turns-link : TurnsLink s.past.config (image_of (here s).image) (image_of y.image) s.past.config.nodes 0 new gone
   turns-link =
@@ -104,30 +126,39 @@ module _ (b : Laws) (s : Scene) (y : Instant) (link : Link) (new : ℕ) (gone : 
           status = omega (arith, stamp);
         };
         below_root = λ ne. absurd (ne refl);
-        others = λ j i ne far kept. slot-same j;
+        others = λ j i ne far kept. slot-same j (kept-out j kept);
       }
 
-  named : (a : ℕ) → is_target (renewal link new) a ≡ true → IsTarget s a
-  named a t = elim (targets-two (link_entry link new) (guard_entry link) a t) [
-    | inl e ↦ inl (sym e ∙ under.pointer)
-    | inr e ↦ inr (inl (sym e ∙ under.guard))
+  named : (a : ℕ) → is_target (renewal_with s.past.config link new fs) a ≡ true → IsTarget s a
+  named a t = elim (named-by s.past.config link new fs a t) [
+    | inl r ↦ elim (targets-two (link_entry link new) (guard_entry link) a r) [
+      | inl e ↦ inl (sym e ∙ under.pointer)
+      | inr e ↦ inr (inl (sym e ∙ under.guard))
+    ]
+    | inr w ↦ inr (inr (record { slot = w.0; place = STATUS_AT; address = sym w.1.1; within = omega arith; reached = (frozen w.0 w.1.0).freezable.reached; kind = inl refl }))
   ]
 
   old-slot : link.slot ≡ (here s).value ROOT_AT - 1
   old-slot = omega (arith, pointer-now)
 
-  at-root : TurnsAt link new gone s y s.past.config.nodes 0 []
+  at-root : TurnsWith link new fs gone s y s.past.config.nodes 0 (slots_of fs)
   at-root = record {
     inside = slot-stands.inside;
     up = slot-stands.up;
     index = slot-stands.index;
     turns = turns-link;
     targets = named;
-    others = λ k i f l. no-target (link_entry link new) (guard_entry link) (node_address s.past.config k + i) (far-link k i) (far-guard k i);
-    changes = λ k t. absurd (cc);
-    root = λ frozen. inr (subst (λ k. (page_at s.past.config y k).frozen ≡ true) old-slot frozen);
-    stays = refl;
+    others = λ k i f l. far-target s.past.config link new fs (node_address s.past.config k + i) (slot-far b.apart s.past.config fs k i l (inl f)) ∙ no-target (link_entry link new) (guard_entry link) (node_address s.past.config k + i) (far-link k i) (far-guard k i);
+    changes = λ k t. frozen-changed b.codec b.slots b.shown link new fs s y k swaps (frozen k t) (λ f i l ne. left f k i l (inr ne));
+    root = λ is_frozen. inr (subst (λ k. (page_at s.past.config y k).frozen ≡ true) old-slot is_frozen);
+    freezes = λ k t. frozen-after b.codec b.slots b.shown link new fs s y k swaps (frozen k t) (λ f i l ne. left f k i l (inr ne));
   }
 
+pub root-links-with : Laws → RootLinksTurnWith
+root-links-with b s y link new fs gone good under slot going stand swaps = at-root b s y link new fs gone good slot under going stand swaps
+
+-- where no node is frozen besides
 pub root-links : Laws → RootLinksTurn
-root-links b s y link new gone good under slot stand swaps = at-root b s y link new gone good slot under stand swaps
+root-links b s y link new gone good under slot stand swaps =
+    let t : TurnsWith link new [] gone s y s.past.config.nodes 0 [] = root-links-with b s y link new [] gone good under slot (record { freezable = tt; go = λ k e. absurd (cc) }) stand swaps in
+    record { inside = t.inside; up = t.up; index = t.index; turns = t.turns; targets = t.targets; others = t.others; changes = t.changes; root = t.root; stays = refl }

@@ -96,3 +96,18 @@ not-among a k e q = go (a == k) refl e
     go : (t : Bool) → (a == k) ≡ t → t || false ≡ false → ⊥
     go true p h = absurd (cc)
     go false p h = absurd (grind (arith, nat_tests, q))
+
+-- a slot that is not among a list is not the first of it, nor among the others
+pub not-first : (a : ℕ) (rest : List ℕ) (k : ℕ) → is_among (a ∷ rest) k ≡ false → k ≢ a
+not-first a rest k e q = go (a == k) refl e
+  where
+    go : (t : Bool) → (a == k) ≡ t → t || is_among rest k ≡ false → ⊥
+    go true p h = absurd (cc)
+    go false p h = absurd (grind (arith, nat_tests, q))
+
+pub not-later : (a : ℕ) (rest : List ℕ) (k : ℕ) → is_among (a ∷ rest) k ≡ false → is_among rest k ≡ false
+not-later a rest k e = go (a == k) e
+  where
+    go : (t : Bool) → t || is_among rest k ≡ false → is_among rest k ≡ false
+    go true h = absurd (cc)
+    go false h = h

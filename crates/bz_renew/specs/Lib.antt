@@ -1,8 +1,11 @@
 pub mod Due
+pub mod Freezings
 pub mod FrozenLeaves
+pub mod Guards
 pub mod LinkSwaps
 pub mod Nodes
 pub mod Renewals
 pub mod Sorted
+pub mod Standing
 pub mod Turning
 pub mod Writing

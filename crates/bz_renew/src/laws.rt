@@ -3,7 +3,8 @@
 ghost use Rattle.bz_renew.specs.FrozenLeaves.{FrozenLeavesStandStill, ViewsShowFrozenLeaves};
 ghost use Rattle.bz_renew.specs.LinkSwaps.{LinkSwapsAreGood};
 ghost use Rattle.bz_renew.specs.Renewals.{LinksMayBeTurned};
-ghost use Rattle.bz_renew.specs.Turning.{RootLinksTurn, ChildLinksTurn};
+ghost use Rattle.bz_renew.specs.Standing.{GuardedLinksStand};
+ghost use Rattle.bz_renew.specs.Turning.{RootLinksTurn, ChildLinksTurn, RootLinksTurnWith, ChildLinksTurnWith};
 
 use bz_content::laws as content;
 use bz_shape::laws as shape;
@@ -35,6 +36,43 @@ pub fn links_turn()
     laws::separators_stay();
     laws::headers_say_the_level();
     laws::swaps_show_in_slots();
+    laws::same_records_show_the_same();
+}
+
+/// What the swap of a link that also freezes nodes does to the image, below the root pointer and below an inner node: as above,
+/// and those nodes are frozen.
+pub fn links_turn_and_nodes_freeze()
+    ensures root { RootLinksTurnWith }
+    ensures child { ChildLinksTurnWith }
+{
+    content::well_formed_images_have_no_fault();
+    shape::trees_have_forms();
+    slotted::inner_rules_are_facts();
+    bz_word::laws::statuses();
+    bz_layout::slots_apart();
+    laws::nodes_stay();
+    laws::fronts_stay();
+    laws::separators_stay();
+    laws::headers_say_the_level();
+    laws::swaps_show_in_slots();
+    laws::same_records_show_the_same();
+}
+
+/// While the guard of a link below a parent has the value that was read, the link leads where it led.
+pub fn guarded_links_stand()
+    ensures { GuardedLinksStand }
+{
+    content::well_formed_images_have_no_fault();
+    shape::trees_have_forms();
+    slotted::inner_rules_are_facts();
+    bz_word::laws::statuses();
+    bz_layout::slots_apart();
+    laws::nodes_stay();
+    laws::fronts_stay();
+    laws::separators_stay();
+    laws::headers_say_the_level();
+    laws::swaps_show_in_slots();
+    laws::same_records_show_the_same();
 }
 
 /// A leaf that was frozen stands as it stood.

@@ -13,4 +13,4 @@ pub use due::is_due;
 pub use links::last_link;
 pub use slot::{take_one, take_three};
 pub use sorted::{Fences, is_whole, sort_records};
-pub use swaps::swap_of;
+pub use swaps::{swap_freezing, swap_of};

@@ -18,9 +18,11 @@ use Rattle.bz_word.specs.declared.status.Status.{Status}
 use Rattle.bz_content.specs.Restructures.{children_of}
 use Rattle.bz_task.specs.Instant.{Instant, words}
 use Rattle.bz_task.specs.OwnActs.{Stores, Flushes}
-use Rattle.bz_task.specs.Requests.{IsEntryToAsk, IsAskable}
+use Rattle.bz_task.specs.Requests.{IsEntryToAsk, IsAskable, IsCause}
 use Rattle.bz_task.specs.Scene.{Scene, Waiting, Took, IsScene, HasFilled, here}
 use Rattle.bz_task.specs.Swaps.{Stand, SwapsTo, IsGoodSwap, Takes}
+use Rattle.bz_task.specs.declared.todo.Seen.{Seen}
+use Rattle.bz_task.specs.declared.todo.Seen.TheVariants.{Start, Read as Was, Stored, Flushed, Swapped, NoSwap as NoneLeft}
 use Rattle.bz_task.specs.declared.todo.Todo.{Todo}
 use Rattle.bz_task.specs.declared.todo.Todo.TheVariants.{Store as Stores_at, Flush as Flushes_line, Swap as Swaps_for}
 use Rattle.bz_halves.specs.Laws.{IsRootOver, RootsStandOverTwo}
@@ -29,15 +31,16 @@ use Rattle.bz_renew.specs.LinkSwaps.{IsFresh}
 use Rattle.bz_renew.specs.Nodes.{word_address, word_value, line_number}
 use Rattle.bz_renew.specs.Renewals.{renewal, link_entry, guard_entry, IsTurnable, LinksMayBeTurned}
 use Rattle.bz_renew.proofs.FreshSlots.{unreached}
+use Rattle.bz_renew.proofs.Guards.{guard-readable, guard-differed}
 use Rattle.bz_renew.proofs.NodeWrites.{nodes-store, nodes-flush, begun-store, node-may-store, node-may-flush}
 use Rattle.bz_renew.proofs.Restamping.{restamped-plain}
 use Rattle.bz_renew.proofs.TwoEntries.{all-two, sets-first}
 use Rattle.bz_renew.proofs.Words.{node-at, node-past}
-use Rattle.bz_split.specs.Facts.{Split, nodes_in, SPLIT_WORDS, SPLIT_LINES, IsSplitting, StoodFresh, WasSplit, split_asks, split_facts, split_change}
+use Rattle.bz_split.specs.Facts.{Split, nodes_in, SPLIT_WORDS, SPLIT_LINES, IsSplitting, StoodFresh, WasSplit, split_asks, split_facts, split_differs, split_change}
 use Rattle.bz_split.specs.RootSplits.{StandsReady, AreFreshThree, AreReadyHalves, IsRootSplit, RootLeafSplitsAreGood}
 use Rattle.bz_split.specs.declared.phase.Phase.{Phase}
-use Rattle.bz_split.specs.declared.phase.Phase.TheVariants.{Fresh, Store, Flush, Swap, Done, Restart, NoSlot, NoSwap}
-use Rattle.bz_split.proofs.Staying.{parted-stays}
+use Rattle.bz_split.specs.declared.phase.Phase.TheVariants.{Fresh, Guard, Store, Flush, Swap, Done, Restart, NoSlot, NoSwap}
+use Rattle.bz_split.proofs.Staying.{parted-stays, looked-stays}
 
 some-same : (a b : Todo) → Some a ≡ Some b → a ≡ b
 some-same a b e = cc
@@ -54,6 +57,7 @@ may-swap turned codec r s good f =
 
 pub askable : LinksMayBeTurned → IsCodec Status IsStatus IsStatusWord status_word status → (c : Config) (r : Split) (phase : Phase) (s : Scene) (todo : Todo) → s.past.config ≡ c → split_facts r phase Waiting s → IsScene s → split_asks c r phase ≡ Some todo → IsAskable s todo
 askable turned codec c r Fresh s todo same f good e = absurd (cc)
+askable turned codec c r Guard s todo same f good e = subst (IsAskable s) (some-same _ todo e) (guard-readable s r.link good f.1.guard)
 askable turned codec c r (Store j) s todo same f good e =
     subst (IsAskable s) (some-same _ todo e)
     (subst (λ z. IsAskable s (Stores_at (word_address z (nodes_in r) j) (word_value (nodes_in r) j))) same (node-may-store (nodes_in r) j s (omega (arith, f.1.0)) f.1.1.plain f.1.1.writing))
@@ -65,6 +69,23 @@ askable turned codec c r Done s todo same f good e = subst (IsAskable s) (some-s
 askable turned codec c r Restart s todo same f good e = subst (IsAskable s) (some-same _ todo e) tt
 askable turned codec c r NoSlot s todo same f good e = subst (IsAskable s) (some-same _ todo e) tt
 askable turned codec c r NoSwap s todo same f good e = subst (IsAskable s) (some-same _ todo e) tt
+
+-- a guard that differs has been changed since it was read
+pub cause : (c : Config) (r : Split) (phase : Phase) (s : Scene) (seen : Seen) → split_facts r phase Waiting s → split_differs r.link phase seen → IsCause (split_asks c r phase) seen s
+cause c r Guard s (Was v) f d = inl (guard-differed s r.link v f.1.guard d)
+cause c r Guard s Start f d = absurd (d)
+cause c r Guard s Stored f d = absurd (d)
+cause c r Guard s Flushed f d = absurd (d)
+cause c r Guard s (Swapped won) f d = absurd (d)
+cause c r Guard s NoneLeft f d = absurd (d)
+cause c r Fresh s seen f d = absurd (d)
+cause c r (Store j) s seen f d = absurd (d)
+cause c r (Flush j) s seen f d = absurd (d)
+cause c r Swap s seen f d = absurd (d)
+cause c r Done s seen f d = absurd (d)
+cause c r Restart s seen f d = absurd (d)
+cause c r NoSlot s seen f d = absurd (d)
+cause c r NoSwap s seen f d = absurd (d)
 
 -- once all words are stored and durable, the slots hold the three nodes
 module _ (roots : RootsStandOverTwo) (r : Split) (s : Scene) (good : IsScene s) (f : IsSplitting r SPLIT_WORDS SPLIT_LINES s) where
@@ -124,6 +145,7 @@ same-entries a b e = cc
 pub effect : RootLeafSplitsAreGood → RootsStandOverTwo → (c : Config) (r : Split) (phase : Phase) (s : Scene) (y : Instant) (entries : List Entry) → split_facts r phase Waiting s → IsScene s → split_asks c r phase ≡ Some (Swaps_for entries) → Stand entries (here s)
     → SwapsTo s.past.config entries (here s) y → IsGoodSwap false split_change entries s y
 effect law roots c r Fresh s y entries f good e stand swaps = absurd (cc)
+effect law roots c r Guard s y entries f good e stand swaps = absurd (cc)
 effect law roots c r (Store j) s y entries f good e stand swaps = absurd (cc)
 effect law roots c r (Flush j) s y entries f good e stand swaps = absurd (cc)
 effect law roots c r Swap s y entries f good e stand swaps =
@@ -144,6 +166,7 @@ same-flush a b e = cc
 -- what is known once a store, or a flush, is made
 pub stored : SlotsApart → (c : Config) (r : Split) (phase : Phase) (s after : Scene) (a v : ℕ) → s.past.config ≡ c → split_facts r phase Waiting s → split_asks c r phase ≡ Some (Stores_at a v) → Stores a v s after → split_facts r phase Took after
 stored apart c r Fresh s after a v same f e t = absurd (cc)
+stored apart c r Guard s after a v same f e t = absurd (cc)
 stored apart c r (Store j) s after a v same f e t =
     let is = same-store (word_address c (nodes_in r) j) a (word_value (nodes_in r) j) v e in
     let at : a ≡ word_address s.past.config (nodes_in r) j = sym is.0 ∙ ap (λ z. word_address z (nodes_in r) j) (sym same) in
@@ -154,6 +177,7 @@ stored apart c r (Store j) s after a v same f e t =
         f.1.0,
         record {
           parted = parted-stays s.past after.past t.continues r.link (r.image 1) (r.image 2) r.sep f.1.1.parted;
+          looked = looked-stays s.past after.past t.continues r.link (r.image 1) (r.image 2) r.sep f.1.1.parted f.1.1.looked;
           over = f.1.1.over;
           plain = f.1.1.plain;
           writing = nodes-store apart (nodes_in r) j s after (omega (arith, f.1.0)) f.1.1.writing made;
@@ -169,6 +193,7 @@ stored apart c r NoSwap s after a v same f e t = absurd (cc)
 
 pub flushed : (c : Config) (r : Split) (phase : Phase) (s after : Scene) (line : ℕ) → s.past.config ≡ c → split_facts r phase Waiting s → split_asks c r phase ≡ Some (Flushes_line line) → Flushes line s after → split_facts r phase Took after
 flushed c r Fresh s after line same f e t = absurd (cc)
+flushed c r Guard s after line same f e t = absurd (cc)
 flushed c r (Store j) s after line same f e t = absurd (cc)
 flushed c r (Flush j) s after line same f e t =
     let is : line ≡ line_number s.past.config (nodes_in r) j = sym (same-flush (line_number c (nodes_in r) j) line e) ∙ ap (λ z. line_number z (nodes_in r) j) (sym same) in
@@ -178,6 +203,7 @@ flushed c r (Flush j) s after line same f e t =
         f.1.0,
         record {
           parted = parted-stays s.past after.past t.continues r.link (r.image 1) (r.image 2) r.sep f.1.1.parted;
+          looked = looked-stays s.past after.past t.continues r.link (r.image 1) (r.image 2) r.sep f.1.1.parted f.1.1.looked;
           over = f.1.1.over;
           plain = f.1.1.plain;
           writing = nodes-flush (nodes_in r) j SPLIT_WORDS s after f.1.1.writing made;
@@ -228,6 +254,7 @@ took may roots c r Swap s after entries f good e takes =
     let same : renewal r.link (r.slot 0) ≡ entries = cc e in
     (filled-after s after f.0 takes, was-split may roots r s after good f.1 (subst (λ (z : List Entry). Takes false z s after) (sym same) takes))
 took may roots c r Fresh s after entries f good e takes = absurd (cc)
+took may roots c r Guard s after entries f good e takes = absurd (cc)
 took may roots c r (Store j) s after entries f good e takes = absurd (cc)
 took may roots c r (Flush j) s after entries f good e takes = absurd (cc)
 took may roots c r Done s after entries f good e takes = absurd (cc)

@@ -1,4 +1,5 @@
 mod RootSplitting
+mod BelowSplitting
 mod Parting
 mod Staying
 mod Knowing

@@ -44,7 +44,7 @@ pub record Laws : Type 0 where
   pub leaves : LeavesAreInTrees
 
 -- one of three slots
-among-three : (q l r : ℕ) (s : Scene) → AreFreshThree q l r s → (k : ℕ) → is_among (q ∷ l ∷ r ∷ []) k ≡ true → IsFresh s k
+pub among-three : (q l r : ℕ) (s : Scene) → AreFreshThree q l r s → (k : ℕ) → is_among (q ∷ l ∷ r ∷ []) k ≡ true → IsFresh s k
 among-three q l r s f k e = go (q == k) refl (l == k) refl (r == k) refl e
   where
     go : (a : Bool) → (q == k) ≡ a → (b : Bool) → (l == k) ≡ b → (d : Bool) → (r == k) ≡ d → (a || (b || (d || false))) ≡ true → IsFresh s k

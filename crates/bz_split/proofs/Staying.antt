@@ -12,11 +12,13 @@ use Rattle.bz_task.specs.Laws.{NothingIsGained}
 use Rattle.bz_task.specs.OwnActs.{gained}
 use Rattle.bz_task.specs.Scene.{Past, Scene, Stage, Waiting, Took, IsLawful, Continues, HasFilled}
 use Rattle.bz_task.specs.declared.path.Link.{Link}
+use Rattle.bz_renew.specs.Guards.{WasAsRead}
+use Rattle.bz_renew.proofs.Guards.{as-read-stays}
 use Rattle.bz_renew.proofs.NodeWrites.{nodes-stay, begun-stays, nodes-no-slot, begun-no-slot}
 use Rattle.bz_renew.proofs.Staying.{guarded-stays, frozen-leaf-stays}
 use Rattle.bz_split.specs.Facts.{Split, nodes_in, SPLIT_WORDS, SPLIT_LINES, HasParted, IsSplitting, StoodFresh, WasSplit, split_facts}
 use Rattle.bz_split.specs.declared.phase.Phase.{Phase}
-use Rattle.bz_split.specs.declared.phase.Phase.TheVariants.{Fresh, Store, Flush, Swap, Done, Restart, NoSlot, NoSwap}
+use Rattle.bz_split.specs.declared.phase.Phase.TheVariants.{Fresh, Guard, Store, Flush, Swap, Done, Restart, NoSlot, NoSwap}
 
 module _ (p q : Past) (c : Continues p q) (link : Link) (left right sep : List ℕ) where
   pub parted-stays : HasParted link left right sep p → HasParted link left right sep q
@@ -36,6 +38,10 @@ module _ (p q : Past) (c : Continues p q) (link : Link) (left right sep : List �
     left_plain = v.left_plain;
     right_plain = v.right_plain;
   }
+
+  pub looked-stays : (v : HasParted link left right sep p) → WasAsRead link v.moment p → WasAsRead link (parted-stays v).moment q
+  unfolding parted-stays
+  looked-stays v w = as-read-stays p q c link v.moment w
 
   stood-stays : (slot before : ℕ) (image : List ℕ) → before + 1 ≤ p.now → StoodFresh slot image before p → StoodFresh slot image before q
   stood-stays slot before image now f = record {
@@ -62,6 +68,7 @@ module _ (r : Split) (s after : Scene) (l : IsLawful s after) where
   splitting : (stored lines : ℕ) → IsSplitting r stored lines s → IsSplitting r stored lines after
   splitting stored lines f = record {
     parted = parted-stays s.past after.past l.continues r.link (r.image 1) (r.image 2) r.sep f.parted;
+    looked = looked-stays s.past after.past l.continues r.link (r.image 1) (r.image 2) r.sep f.parted f.looked;
     over = f.over;
     plain = f.plain;
     writing = nodes-stay (nodes_in r) stored lines s after f.writing l;
@@ -72,6 +79,7 @@ module _ (r : Split) (s after : Scene) (l : IsLawful s after) where
 
   pub stable : (phase : Phase) (stage : Stage) → split_facts r phase stage s → split_facts r phase stage after
   stable Fresh Waiting f = parted-stays s.past after.past l.continues r.link (r.image 1) (r.image 2) r.sep f
+  stable Guard Waiting f = (filled f.0, parted-stays s.past after.past l.continues r.link (r.image 1) (r.image 2) r.sep f.1)
   stable (Store j) Waiting f = (begun-stays (nodes_in r) j s after f.0 l, (f.1.0, splitting j 0 f.1.1))
   stable (Store j) Took f = (begun-stays (nodes_in r) (j + 1) s after f.0 l, (f.1.0, splitting (j + 1) 0 f.1.1))
   stable (Flush j) Waiting f = (filled f.0, (f.1.0, splitting SPLIT_WORDS j f.1.1))
@@ -83,6 +91,7 @@ module _ (r : Split) (s after : Scene) (l : IsLawful s after) where
   stable NoSlot Waiting f = filled f
   stable NoSwap Waiting f = filled f
   stable Fresh Took f = absurd (f)
+  stable Guard Took f = absurd (f)
   stable Done Took f = absurd (f)
   stable Restart Took f = absurd (f)
   stable NoSlot Took f = absurd (f)
@@ -91,10 +100,11 @@ module _ (r : Split) (s after : Scene) (l : IsLawful s after) where
 -- it stays where no slot is taken
 module _ (nothing : NothingIsGained) (r : Split) (s : Scene) (free : FreeSlots) where
   splitting-too : (stored lines : ℕ) → IsSplitting r stored lines s → IsSplitting r stored lines (gained s free free)
-  splitting-too stored lines f = record { parted = f.parted; over = f.over; plain = f.plain; writing = nodes-no-slot (nodes_in r) stored lines s free f.writing }
+  splitting-too stored lines f = record { parted = f.parted; looked = f.looked; over = f.over; plain = f.plain; writing = nodes-no-slot (nodes_in r) stored lines s free f.writing }
 
   pub no-slot : (phase : Phase) → split_facts r phase Waiting s → split_facts r phase Waiting (gained s free free)
   no-slot Fresh f = f
+  no-slot Guard f = (nothing s free f.0, f.1)
   no-slot (Store j) f = (begun-no-slot (nodes_in r) j s free f.0, (f.1.0, splitting-too j 0 f.1.1))
   no-slot (Flush j) f = (nothing s free f.0, (f.1.0, splitting-too SPLIT_WORDS j f.1.1))
   no-slot Swap f = (nothing s free f.0, splitting-too SPLIT_WORDS SPLIT_LINES f.1)

@@ -2,8 +2,9 @@
 use Rattle.std.specs.Prelude.{ℕ, zero, suc, List, Option, slice_index}
 use Rattle.bz_task.specs.Scene.{Scene, Stage}
 use Rattle.bz_task.specs.declared.todo.Outcome.{Outcome}
+use Rattle.bz_task.specs.declared.todo.Seen.{Seen}
 use Rattle.bz_task.specs.declared.todo.Todo.{Todo}
-use Rattle.bz_split.specs.Facts.{Split, split_asks, split_end, split_left, split_needs, split_facts}
+use Rattle.bz_split.specs.Facts.{Split, split_asks, split_end, split_left, split_needs, split_facts, split_differs}
 use Rattle.bz_split.specs.declared.split_root.SplitRoot.{SplitRoot}
 
 -- the words of the root, of the left half and of the right half
@@ -29,3 +30,6 @@ needs_of t = split_needs t.phase
 
 abbrev pub facts_of : SplitRoot → Stage → Scene → Type 0
 facts_of t = split_facts (split_of t) t.phase
+
+abbrev pub differs_of : SplitRoot → Seen → Type 0
+differs_of t = split_differs t.link t.phase

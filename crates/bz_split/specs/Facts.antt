@@ -1,11 +1,12 @@
 -- What the split of a root leaf knows, and what it asks for.
-use Rattle.std.specs.Prelude.{◌≡◌, ◌≢◌, ℕ, ◌+◌, ◌-◌, ◌^◌, ◌<◌, ◌≤◌, nat_lt, if◌then◌else◌, true, false, List, [], All, Option, Some, None, slice_get, slice_index, length}
+use Rattle.std.specs.Prelude.{◌≡◌, ◌≢◌, ℕ, ◌+◌, ◌-◌, ◌*◌, ◌^◌, ◌<◌, ◌≤◌, ◌⊎◌, nat_lt, if◌then◌else◌, true, false, List, [], All, Option, Some, None, slice_index, length}
 use Rattle.bz_call.specs.declared.replies.Spent.TheVariants.{Nodes as NoNodes, Swaps as NoSwaps}
 use Rattle.bz_key.specs.Bytes.{IsKey}
 use Rattle.bz_layout.specs.Addresses.{node_address}
 use Rattle.bz_layout.specs.Slots.{FreeSlots}
 use Rattle.bz_layout.specs.declared.config.Config.{Config}
 use Rattle.bz_layout.specs.declared.sizes.TheConstants.{NODE_WORDS}
+use Rattle.bz_layout.specs.declared.thresholds.TheConstants.{SPLIT_SLOTS}
 use Rattle.bz_shape.specs.Order.{is_before}
 use Rattle.bz_slotted.specs.Readers.{found_of}
 use Rattle.bz_slotted.specs.ReadingLaws.{node_of}
@@ -16,26 +17,29 @@ use Rattle.bz_task.specs.Outcomes.{IsUnderRoot, IsGuarded}
 use Rattle.bz_task.specs.Scene.{Past, Scene, Stage, Waiting, Took, HasFilled}
 use Rattle.bz_task.specs.Swaps.{Change}
 use Rattle.bz_task.specs.declared.path.Link.{Link}
-use Rattle.bz_task.specs.declared.path.Path.{Path}
 use Rattle.bz_task.specs.declared.view.LeafView.{LeafView}
 use Rattle.bz_task.specs.declared.todo.Outcome.{Outcome}
 use Rattle.bz_task.specs.declared.todo.Outcome.TheVariants.{Done as IsDone, Restart as Restarts, Full as IsFull}
+use Rattle.bz_task.specs.declared.todo.Seen.{Seen}
+use Rattle.bz_task.specs.declared.todo.Seen.TheVariants.{Read as Was}
 use Rattle.bz_task.specs.declared.todo.Todo.{Todo}
-use Rattle.bz_task.specs.declared.todo.Todo.TheVariants.{Store as Stores_at, Flush as Flushes_line, Swap as Swaps_for, Finish}
+use Rattle.bz_task.specs.declared.todo.Todo.TheVariants.{Read as Reads, Store as Stores_at, Flush as Flushes_line, Swap as Swaps_for, Finish}
 use Rattle.bz_halves.specs.Roots.{root_words}
 use Rattle.bz_renew.specs.FrozenLeaves.{WasFrozenLeaf}
+use Rattle.bz_renew.specs.Guards.{WasAsRead}
 use Rattle.bz_renew.specs.Nodes.{Nodes, word_address, word_value, line_number, AreWriting, ArePlain, HaveSlots, HasFilledBegun, AreSlotsTaken}
 use Rattle.bz_renew.specs.Renewals.{renewal}
+use Rattle.bz_renew.specs.Writing.{NODE_LINES}
 use Rattle.bz_split.specs.Parts.{ArePartsOf}
 use Rattle.bz_split.specs.declared.phase.Phase.{Phase}
-use Rattle.bz_split.specs.declared.phase.Phase.TheVariants.{Fresh, Store, Flush, Swap, Done, Restart, NoSlot, NoSwap}
+use Rattle.bz_split.specs.declared.phase.Phase.TheVariants.{Fresh, Guard, Store, Flush, Swap, Done, Restart, NoSlot, NoSwap}
 
 -- the words and the lines of three nodes
 abbrev pub SPLIT_WORDS : ℕ
-SPLIT_WORDS = 384
+SPLIT_WORDS = NODE_WORDS * SPLIT_SLOTS
 
 abbrev pub SPLIT_LINES : ℕ
-SPLIT_LINES = 48
+SPLIT_LINES = NODE_LINES * SPLIT_SLOTS
 
 -- the link that is turned; the slots and the words of the new root, of the left half and of the right half; and the separator
 pub record Split : Type 0 where
@@ -45,10 +49,11 @@ pub record Split : Type 0 where
   pub sep : List ℕ
 
 abbrev pub nodes_in : Split → Nodes
-nodes_in r = record { count = 3; slot = r.slot; image = r.image }
+nodes_in r = record { count = SPLIT_SLOTS; slot = r.slot; image = r.image }
 
 abbrev pub split_asks : Config → Split → Phase → Option Todo
 split_asks c r Fresh = None
+split_asks c r Guard = Some (Reads r.link.guard)
 split_asks c r (Store j) = Some (Stores_at (word_address c (nodes_in r) j) (word_value (nodes_in r) j))
 split_asks c r (Flush j) = Some (Flushes_line (line_number c (nodes_in r) j))
 split_asks c r Swap = Some (Swaps_for (renewal r.link (r.slot 0)))
@@ -61,16 +66,22 @@ split_end NoSlot = Some (IsFull NoNodes)
 split_end NoSwap = Some (IsFull NoSwaps)
 split_end phase = None
 
--- the most acts: a store for each word, a flush for each line, and the swap
+-- the most acts: the load of the guard, a store for each word, a flush for each line, the swap, and the end
+abbrev pub split_acts : ℕ
+split_acts = SPLIT_WORDS + SPLIT_LINES + 3
+
 abbrev pub split_left : Phase → ℕ
-split_left Fresh = 434
-split_left (Store j) = 433 - j
-split_left (Flush j) = 49 - j
+split_left Fresh = split_acts
+split_left Guard = SPLIT_WORDS + SPLIT_LINES + 2
+split_left (Store j) = SPLIT_WORDS + SPLIT_LINES + 1 - j
+split_left (Flush j) = SPLIT_LINES + 1 - j
 split_left Swap = 1
 split_left phase = 0
 
+-- the slots are taken when the guard has been looked at again
 abbrev pub split_needs : Phase → ℕ
-split_needs Fresh = 3
+split_needs Fresh = SPLIT_SLOTS
+split_needs Guard = SPLIT_SLOTS
 split_needs phase = 0
 
 -- after a store comes the next one, or the first flush; after a flush the next one, or the swap
@@ -97,10 +108,11 @@ pub record HasParted (link : Link) (left right sep : List ℕ) (p : Past) : Type
   pub left_plain : All (λ v. v < 2 ^ 61) left
   pub right_plain : All (λ v. v < 2 ^ 61) right
 
--- the three nodes are being written, the first of them the root over the two others: so many of their words are stored, and so
--- many of their lines durable
+-- since the leaf was frozen the guard was looked at again, and was as the path names it; the three nodes are being written, the
+-- first of them the root over the two others: so many of their words are stored, and so many of their lines durable
 pub record IsSplitting (r : Split) (stored lines : ℕ) (s : Scene) : Type 0 where
   pub parted : HasParted r.link (r.image 1) (r.image 2) r.sep s.past
+  pub looked : WasAsRead r.link parted.moment s.past
   pub over : r.image 0 ≡ root_words (r.slot 1) (r.slot 2) r.sep
   pub plain : ArePlain (nodes_in r)
   pub writing : AreWriting (nodes_in r) stored lines s
@@ -134,6 +146,7 @@ pub record WasParted (link : Link) (view : LeafView) (p : Past) : Type 0 where
 
 abbrev pub split_facts : Split → Phase → Stage → Scene → Type 0
 split_facts r Fresh Waiting s = HasParted r.link (r.image 1) (r.image 2) r.sep s.past
+split_facts r Guard Waiting s = HasFilled s × HasParted r.link (r.image 1) (r.image 2) r.sep s.past
 split_facts r (Store j) Waiting s = HasFilledBegun (nodes_in r) j s × ((j < SPLIT_WORDS) × IsSplitting r j 0 s)
 split_facts r (Store j) Took s = HasFilledBegun (nodes_in r) (j + 1) s × ((j < SPLIT_WORDS) × IsSplitting r (j + 1) 0 s)
 split_facts r (Flush j) Waiting s = HasFilled s × ((j < SPLIT_LINES) × IsSplitting r SPLIT_WORDS j s)
@@ -142,6 +155,7 @@ split_facts r Swap Waiting s = HasFilled s × IsSplitting r SPLIT_WORDS SPLIT_LI
 split_facts r Swap Took s = HasFilled s × WasSplit r.link (r.image 1) (r.image 2) r.sep s.past
 split_facts r Done Waiting s = HasFilled s × WasSplit r.link (r.image 1) (r.image 2) r.sep s.past
 split_facts r Fresh Took s = ⊥
+split_facts r Guard Took s = ⊥
 split_facts r phase Waiting s = HasFilled s
 split_facts r phase Took s = ⊥
 
@@ -152,6 +166,11 @@ split_means link left right sep Restarts s = Unit {0}
 split_means link left right sep (IsFull NoNodes) s = Unit {0}
 split_means link left right sep (IsFull NoSwaps) s = Unit {0}
 split_means link left right sep outcome s = ⊥
+
+-- the guard is another one than the path names
+abbrev pub split_differs : Link → Phase → Seen → Type 0
+split_differs link Guard (Was v) = v ≢ link.status
+split_differs link phase seen = ⊥
 
 -- a split makes no change
 abbrev pub split_change : Change
@@ -167,5 +186,9 @@ IsReady c r phase = Unit {0}
 -- three slots were taken, and the root over the two halves is made; or there were not so many
 abbrev pub HasBegun : Split → Phase → FreeSlots → FreeSlots → Type 0
 HasBegun r (Store j) old new = (j ≡ 0) × (AreSlotsTaken (nodes_in r) old new × ((r.image 0 ≡ root_words (r.slot 1) (r.slot 2) r.sep) × (length (r.image 0) ≡ NODE_WORDS)))
-HasBegun r NoSlot old new = (length old.free < 3) × (new ≡ old)
+HasBegun r NoSlot old new = (length old.free < SPLIT_SLOTS) × (new ≡ old)
 HasBegun r phase old new = ⊥
+
+-- that is where the guard was as the path names it; elsewhere none was taken
+abbrev pub HasLooked : Split → Seen → Phase → FreeSlots → FreeSlots → Type 0
+HasLooked r seen phase old new = ((seen ≡ Was r.link.status) × HasBegun r phase old new) ⊎ ((seen ≢ Was r.link.status) × ((phase ≡ Restart) × (new ≡ old)))

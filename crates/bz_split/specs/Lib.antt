@@ -1,3 +1,4 @@
+pub mod BelowSplits
 pub mod Duties
 pub mod Facts
 pub mod Parts

@@ -1,8 +1,8 @@
 //! The task that splits a frozen root leaf.
 
-ghost use Rattle.std.specs.Prelude.{◌≡◌, ◌≢◌, ◌↔◌, ◌-◌, ◌<◌, ◌≤◌, ◌^◌, ℕ, List, Some, None, true, false, slice_get, length};
+ghost use Rattle.std.specs.Prelude.{◌≡◌, ◌≢◌, ◌↔◌, ◌-◌, ◌<◌, ◌≤◌, ◌^◌, ◌⊎◌, ℕ, List, Some, None, IsTrue, true, false, slice_get, length};
 ghost use Rattle.bz_layout.specs.Config.{IsConfig};
-ghost use Rattle.bz_layout.specs.declared.thresholds.TheConstants.{SPLIT_ABOVE};
+ghost use Rattle.bz_layout.specs.declared.thresholds.TheConstants.{SPLIT_ABOVE, SPLIT_SLOTS};
 ghost use Rattle.bz_page.specs.Pages.{IsLeafByItself};
 ghost use Rattle.bz_renew.specs.Due.{LeadsTo};
 ghost use Rattle.bz_renew.specs.Nodes.{word_value};
@@ -13,9 +13,9 @@ ghost use Rattle.bz_task.specs.Outcomes.{IsPath, IsView};
 ghost use Rattle.bz_task.specs.OwnActs.{AreTakenFrom, AreUnreached, gained};
 ghost use Rattle.bz_task.specs.Requests.{Hears, Tells, IsKnown};
 ghost use Rattle.bz_task.specs.Scene.{Scene, Stage, Waiting, IsScene};
-ghost use Rattle.bz_task.specs.declared.todo.Seen.TheVariants.{Swapped, NoSwap as NoneLeft};
-ghost use Rattle.bz_split.specs.Duties.{split_of, asks_of, end_of, left_of, needs_of, facts_of};
-ghost use Rattle.bz_split.specs.Facts.{HasBegun, nodes_in, split_left, split_facts, split_means, split_change, IsReady, WasParted, next_store, next_flush};
+ghost use Rattle.bz_task.specs.declared.todo.Seen.TheVariants.{Read as Was, Swapped, NoSwap as NoneLeft};
+ghost use Rattle.bz_split.specs.Duties.{split_of, asks_of, end_of, left_of, needs_of, facts_of, differs_of};
+ghost use Rattle.bz_split.specs.Facts.{HasBegun, HasLooked, nodes_in, split_acts, split_left, split_facts, split_means, split_change, IsReady, WasParted, next_store, next_flush};
 
 use crate::laws::root_leaf_splits_are_good;
 use crate::parts::parts_of;
@@ -61,8 +61,8 @@ impl SplitRoot {
         requires leads { LeadsTo path view.slot }
         ensures config { ⟦<SplitRoot as Task>⟧.config result ≡ config.now }
         ensures asks { ⟦<SplitRoot as Task>⟧.asks result ≡ None }
-        ensures left { ⟦<SplitRoot as Task>⟧.left result ≡ 434 }
-        ensures needs { ⟦<SplitRoot as Task>⟧.needs result ≡ 3 }
+        ensures left { ⟦<SplitRoot as Task>⟧.left result ≡ split_acts }
+        ensures needs { ⟦<SplitRoot as Task>⟧.needs result ≡ SPLIT_SLOTS }
         ensures change { ⟦<SplitRoot as Task>⟧.change result ≡ split_change }
         ensures facts { (key : List ℕ) (s : Scene) → s.past.config ≡ config.now → IsScene s → IsPath key path s.past → IsView key view s.past → ⟦<SplitRoot as Task>⟧.facts result Waiting s }
         ensures done { (link : Link) (s : Scene) → slice_get path.links (path.depth - 1) ≡ Some link → ⟦<SplitRoot as Task>⟧.means result Outcome.Done s → WasParted link view s.past }
@@ -87,6 +87,7 @@ impl SplitRoot {
     // The phase after what came of the last act.
     fn after(&self, seen: Seen, moment: u32) -> Phase
         requires begun { self.now.phase ≢ Phase.Fresh }
+        requires looked { self.now.phase ≢ Phase.Guard }
         requires hears { Hears (asks_of self.now) seen }
         requires known { IsKnown self.now.config (facts_of self.now) (asks_of self.now) seen moment }
         ensures nearer { split_left result < left_of self.now }
@@ -95,6 +96,7 @@ impl SplitRoot {
         ensures no_swap { (result ≡ Phase.NoSwap) ↔ (seen ≡ NoneLeft) }
         ensures slots { result ≢ Phase.NoSlot }
         ensures begun { result ≢ Phase.Fresh }
+        ensures looked { result ≢ Phase.Guard }
         ensures config { IsConfig self.now.config }
         ensures ready { IsReady self.now.config (split_of self.now) result }
         ensures learns { (stage : Stage) (s : Scene) → s.past.config ≡ self.now.config → facts_of self.now stage s → Tells (asks_of self.now) stage seen s → split_facts (split_of self.now) result Waiting s }
@@ -110,7 +112,7 @@ impl SplitRoot {
         }
     }
 
-    // The first phase: the first store, where three slots are left.
+    // The phase with which the nodes are begun: the first store, where three slots are left.
     fn begin(&mut self, slots: &mut Slots)
         ensures config { self.new.config ≡ self.old.config }
         ensures link { self.new.link ≡ self.old.link }
@@ -128,6 +130,20 @@ impl SplitRoot {
         }
     }
 
+    // The phase after another look at the guard: the nodes are begun where it is as the path names it.
+    fn look(&mut self, seen: Seen, slots: &mut Slots)
+        ensures config { self.new.config ≡ self.old.config }
+        ensures link { self.new.link ≡ self.old.link }
+        ensures halves { self.new.halves ≡ self.old.halves }
+        ensures looked { HasLooked (split_of self.new) seen self.new.phase slots.old slots.new }
+    {
+        if is_read(seen, self.link.status) {
+            self.begin(slots);
+        } else {
+            self.phase = Phase::Restart;
+        }
+    }
+
     // The next phase, whichever it is.
     fn step(&mut self, seen: Seen, slots: &mut Slots, moment: u32)
         requires hears { Hears (asks_of self.old) seen }
@@ -142,7 +158,7 @@ impl SplitRoot {
         ensures nearer { left_of self.new < left_of self.old }
         ensures slots { AreTakenFrom (needs_of self.old) (needs_of self.new) slots.old slots.new }
         ensures done { end_of self.new ≡ Some Outcome.Done → seen ≡ Swapped true }
-        ensures restart { end_of self.new ≡ Some Outcome.Restart → seen ≡ Swapped false }
+        ensures restart { end_of self.new ≡ Some Outcome.Restart → (seen ≡ Swapped false) ⊎ differs_of self.old seen }
         ensures no_swap { seen ≡ NoneLeft → end_of self.new ≡ Some (Outcome.Full Spent.Swaps) }
         ensures full_swaps { end_of self.new ≡ Some (Outcome.Full Spent.Swaps) → seen ≡ NoneLeft }
         ensures full_nodes { end_of self.new ≡ Some (Outcome.Full Spent.Nodes) → length slots.old.free < needs_of self.old }
@@ -151,7 +167,8 @@ impl SplitRoot {
         laws::nothing_is_gained();
         bz_layout::slots_apart();
         match self.phase {
-            Phase::Fresh => self.begin(slots),
+            Phase::Fresh => self.phase = Phase::Guard,
+            Phase::Guard => self.look(seen, slots),
             _ => self.phase = self.after(seen, moment),
         }
     }
@@ -177,6 +194,7 @@ impl SplitRoot {
         ensures { asks_of self.now ≡ Some result }
     {
         match self.phase {
+            Phase::Guard => Todo::Read(self.link.guard),
             Phase::Store(j) => {
                 let slot = self.slots[(j / NODE_WORDS) as usize] as u32;
                 Todo::Store(self.config.node_at(slot) + j % NODE_WORDS, self.word(j))
@@ -189,6 +207,16 @@ impl SplitRoot {
             Phase::Fresh | Phase::Done | Phase::Restart | Phase::NoSlot | Phase::NoSwap =>
                 Todo::Finish,
         }
+    }
+}
+
+// Whether a load found this value.
+fn is_read(seen: Seen, value: u64) -> bool
+    ensures { IsTrue result ↔ (seen ≡ Was value) }
+{
+    match seen {
+        Seen::Read(found) => found == value,
+        _ => false,
     }
 }
 
@@ -235,7 +263,7 @@ impl Task for SplitRoot {
 
     ghost means = { λ t. split_means t.link t.halves.left.0 t.halves.right.0 t.halves.separator };
 
-    ghost differs = { λ t seen. ⊥ };
+    ghost differs = { differs_of };
 
     fn publishes(&self) -> bool {
         false

@@ -17,5 +17,6 @@ returns c =
       separators = c.separators_stay.ensures;
       headers = c.headers_say_the_level.ensures;
       slots = c.swaps_show_in_slots.ensures;
+      shown = c.same_records_show_the_same.ensures;
     } in
     record { asked = turnable laws; root = root-links laws; child = child-links laws }

@@ -1,18 +1,21 @@
-use Rattle.std.proofs.Common.{◌≡◌, sym, ap, subst, ◌∙◌, refl, arith}
-use Rattle.bz_task.specs.Requests.{Tells}
+use Rattle.std.proofs.Common.{◌≡◌, sym, ap, subst, ◌∙◌, refl, arith, inr, Some}
+use Rattle.bz_task.specs.Requests.{Hears, Tells}
 use Rattle.bz_layout.specs.Config.{IsConfig}
+use Rattle.bz_layout.specs.declared.thresholds.TheConstants.{CONSOLIDATION_SLOTS}
 use Rattle.bz_task.specs.OwnActs.{AreTakenFrom}
-use Rattle.bz_task.specs.declared.todo.Seen.TheVariants.{Start}
+use Rattle.bz_task.specs.declared.path.Link.{Link}
+use Rattle.bz_task.specs.declared.todo.Todo.TheVariants.{Read as Reads}
 use Rattle.bz_consol.specs.Duties.{renewal_of}
 use Rattle.bz_consol.specs.Facts.{consol_facts, consol_asks, consol_needs, consol_left}
-use Rattle.bz_consol.proofs.Knowing.{EndsWell, Begins, ends-well, takes-none, begins, begun-learns, fresh-known}
+use Rattle.bz_consol.specs.declared.phase.Phase.TheVariants.{Guard}
+use Rattle.bz_consol.proofs.Knowing.{EndsWell, Looks, ends-well, first-ends, takes-none, looks, looked-learns, fresh-known}
 use Rattle.bz_consol.proofs.Staying.{no-slot}
 use Rattle.bz_consol.proofs.consolidate.Consolidate.step.Goals as goal
 
 pub returns-in_default : goal.returns-in_default
 returns-in_default c =
     let a = c.after-self.ensures in
-    let e : EndsWell c.args.seen c.after-self.result (consol_needs c.args.self.now.phase) c.args.slots.now = ends-well c.args.seen c.after-self.result (consol_needs c.args.self.now.phase) c.args.slots.now a.done a.restart a.no_swap a.slots in
+    let e : EndsWell c.args.self.now.link c.args.seen c.args.self.now.phase c.after-self.result c.args.slots.now = ends-well c.args.self.now.link c.args.seen c.args.self.now.phase c.after-self.result c.args.slots.now a.done a.restart a.no_swap a.slots in
     record {
       config = refl;
       link = refl;
@@ -21,7 +24,7 @@ returns-in_default c =
       begun = a.begun;
       ready = a.ready;
       nearer = a.nearer;
-      slots = takes-none c.args.self.now.phase c.after-self.result c.args.slots.now a.begun;
+      slots = takes-none c.args.self.now.phase c.after-self.result c.args.slots.now a.begun a.looked;
       done = e.done;
       restart = e.restart;
       no_swap = e.no_swap;
@@ -32,16 +35,43 @@ returns-in_default c =
 
 pub returns-in-Fresh : goal.returns-in-Fresh
 returns-in-Fresh c =
-    let new = c.begin.new.self in
     let k = c.requires.known in
-    let e = c.begin.ensures in
-    let needed : consol_needs c.args.self.now.phase ≡ 1 = ap consol_needs c.in-Fresh.is in
-    let nodes : c.args.slots.now.nodes ≡ c.args.self.now.config.nodes = c.requires.memory (omega (arith, needed)) in
-    let b : Begins (renewal_of new) new.config new.phase c.args.slots.now c.begin.new.slots = begins (renewal_of new) new.config new.phase c.args.slots.now c.begin.new.slots e.begun (nodes ∙ ap (λ z. z.nodes) (sym e.config)) in
-    let start = (fresh-known c.args.self.now.config (renewal_of c.args.self.now) c.args.seen k.stage k.scene
-    (subst (λ z. consol_facts (renewal_of c.args.self.now) z k.stage k.scene) c.in-Fresh.is k.holds)
-    (subst (λ z. Tells (consol_asks c.args.self.now.config (renewal_of c.args.self.now) z) k.stage c.args.seen k.scene) c.in-Fresh.is k.tells)).0 in
-    let ends : EndsWell c.args.seen new.phase (consol_needs c.args.self.now.phase) c.args.slots.now = subst (λ z. EndsWell z new.phase (consol_needs c.args.self.now.phase) c.args.slots.now) (sym start) (subst (λ z. EndsWell Start new.phase z c.args.slots.now) (sym needed) b.ends) in
+    let t = c.args.self.now in
+    let e : EndsWell t.link c.args.seen t.phase Guard c.args.slots.now = subst (λ z. EndsWell t.link c.args.seen z Guard c.args.slots.now) (sym c.in-Fresh.is) (first-ends t.config (renewal_of t) c.args.seen c.args.slots.now
+    (subst (λ z. Hears (consol_asks t.config (renewal_of t) z) c.args.seen) c.in-Fresh.is c.requires.hears)) in
+    record {
+      config = refl;
+      link = refl;
+      image = refl;
+      known = subst IsConfig k.config k.good.config;
+      begun = λ z. absurd (cc);
+      ready = tt;
+      nearer = omega (arith, ap consol_left c.in-Fresh.is);
+      slots = inr (record { fewer = omega (arith, ap consol_needs c.in-Fresh.is); slots = refl });
+      done = e.done;
+      restart = e.restart;
+      no_swap = e.no_swap;
+      full_swaps = e.full_swaps;
+      full_nodes = e.full_nodes;
+      learns = λ stage s same free facts tells. (
+          let f = fresh-known t.config (renewal_of t) c.args.seen stage s (subst (λ z. consol_facts (renewal_of t) z stage s) c.in-Fresh.is facts) (subst (λ z. Tells (consol_asks t.config (renewal_of t) z) stage c.args.seen s) c.in-Fresh.is tells) in
+          no-slot c.nothing_is_gained.ensures (renewal_of t) s c.args.slots.now Guard f
+          );
+    }
+
+pub returns-in-Guard : goal.returns-in-Guard
+returns-in-Guard c =
+    let t = c.args.self.now in
+    let new = c.look.new.self in
+    let left = c.look.new.slots in
+    let k = c.requires.known in
+    let e = c.look.ensures in
+    let needed : consol_needs t.phase ≡ CONSOLIDATION_SLOTS = ap consol_needs c.in-Guard.is in
+    let nodes : c.args.slots.now.nodes ≡ t.config.nodes = c.requires.memory (omega (arith, needed)) in
+    let hears : Hears (consol_asks t.config (renewal_of t) Guard) c.args.seen = subst (λ z. Hears (consol_asks t.config (renewal_of t) z) c.args.seen) c.in-Guard.is c.requires.hears in
+    let b : Looks (renewal_of new) new.config c.args.seen new.phase c.args.slots.now left = looks (renewal_of new) new.config c.args.seen new.phase c.args.slots.now left
+    (subst (λ (z : Link). Hears (Some (Reads z.guard)) c.args.seen) (sym e.link) hears) e.looked (nodes ∙ ap (λ z. z.nodes) (sym e.config)) in
+    let ends : EndsWell t.link c.args.seen t.phase new.phase c.args.slots.now = subst (λ z. EndsWell t.link c.args.seen z new.phase c.args.slots.now) (sym c.in-Guard.is) (subst (λ z. EndsWell z c.args.seen Guard new.phase c.args.slots.now) e.link b.ends) in
     record {
       config = e.config;
       link = e.link;
@@ -49,13 +79,15 @@ returns-in-Fresh c =
       known = subst IsConfig (k.config ∙ sym e.config) k.good.config;
       begun = b.begun;
       ready = b.ready;
-      nearer = omega (arith, b.nearer, ap consol_left c.in-Fresh.is);
-      slots = subst (λ z. AreTakenFrom z (consol_needs new.phase) c.args.slots.now c.begin.new.slots) (sym needed) b.taken;
+      nearer = omega (arith, b.nearer, ap consol_left c.in-Guard.is);
+      slots = subst (λ z. AreTakenFrom z (consol_needs new.phase) c.args.slots.now left) (sym needed) b.taken;
       done = ends.done;
       restart = ends.restart;
       no_swap = ends.no_swap;
       full_swaps = ends.full_swaps;
       full_nodes = ends.full_nodes;
-      learns = begun-learns c.slots_apart.ensures c.nothing_is_gained.ensures c.args.self.now.config (renewal_of c.args.self.now) (renewal_of new) c.args.self.now.phase new.phase c.args.seen c.args.slots.now c.begin.new.slots
-          c.in-Fresh.is e.link (ap (λ z. z.0) e.image) e.begun nodes;
+      learns = λ stage s same free facts tells. looked-learns c.slots_apart.ensures c.nothing_is_gained.ensures t.config (renewal_of t) (renewal_of new) new.phase c.args.seen c.args.slots.now left
+          (record { link = e.link; image = ap (λ z. z.0) e.image }) e.looked nodes stage s same (free (omega (arith, needed)))
+          (subst (λ z. consol_facts (renewal_of t) z stage s) c.in-Guard.is facts)
+          (subst (λ z. Tells (consol_asks t.config (renewal_of t) z) stage c.args.seen s) c.in-Guard.is tells);
     }
