@@ -1,2 +1,11 @@
+mod Arriving
+mod Children
+mod Hearing
+mod Inners
+mod Leading
 mod Learning
+mod Lists
+mod Reading
+mod Separators
 mod Staying
+mod Unpacking

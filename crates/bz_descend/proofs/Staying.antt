@@ -1,20 +1,67 @@
 -- What a descent has learnt stays.
-use Rattle.std.proofs.Common.{◌≡◌, ℕ, ◌<◌, ◌≤◌, List, arith, sym, subst, ◌∙◌}
+use Rattle.std.proofs.Common.{◌≡◌, ℕ, ◌+◌, ◌<◌, ◌≤◌, List, arith, sym, subst, ◌∙◌, inl, inr}
+use Rattle.std.specs.Prelude.{slice_index}
 use Rattle.bz_layout.specs.declared.config.Config.{Config}
-use Rattle.bz_layout.specs.declared.sizes.TheConstants.{ROOT_STATUS_AT}
-use Rattle.bz_task.specs.Instant.{Instant, page_at}
-use Rattle.bz_task.specs.Laws.{HasRoot, PathsStay}
+use Rattle.bz_layout.specs.declared.sizes.TheConstants.{STATUS_AT, ROOT_STATUS_AT}
+use Rattle.bz_layout.specs.declared.thresholds.TheConstants.{MAX_LEVELS}
+use Rattle.bz_slotted.specs.Page.{extent_of, page}
+use Rattle.bz_slotted.specs.Records.{pointer_at}
+use Rattle.bz_word.specs.declared.meta.Extent.{Extent}
+use Rattle.bz_task.specs.Instant.{Instant, words, page_at}
+use Rattle.bz_task.specs.Laws.{PathsStay}
+use Rattle.bz_task.specs.Outcomes.{IsUnderNode, IsGuarded, IsLink}
 use Rattle.bz_task.specs.Scene.{Past, Scene, Stage, Waiting, Took, Continues, IsLawful, HasFilled}
-use Rattle.bz_descend.specs.Facts.{SawGuard, SawRoot, SawTall, descend_learnt, descend_facts}
+use Rattle.bz_task.specs.declared.path.Link.{Link}
+use Rattle.bz_task.specs.declared.path.Path.{Path}
+use Rattle.bz_descend.specs.Facts.{SawGuard, descend_learnt, descend_facts}
+use Rattle.bz_descend.specs.Inners.{IsInner, Opened, HasPassed, Looks, ReadsKey, HasChosen}
+use Rattle.bz_descend.specs.Ways.{HasKey, Chooses, IsWay, Arrives, ArrivesAtInner}
 use Rattle.bz_descend.specs.declared.phase.Phase.{Phase}
-use Rattle.bz_descend.specs.declared.phase.Phase.TheVariants.{Fresh, Guard, Root, Header, Found, Tall}
+use Rattle.bz_descend.specs.declared.phase.Phase.TheVariants.{Fresh, Guard, Root, Header, Status, Meta, Word, Pointer, Found, Changed}
+use Rattle.bz_descend.specs.declared.phase.Probe.{Probe}
 
 module _ (paths : PathsStay) (p q : Past) (n : Continues p q) where
   -- what held of the sizes and the memory at a past moment
   moved : (P : Config → Instant → Type 0) (m : ℕ) → m ≤ p.now → P p.config (p.at m) → P q.config (q.at m)
   moved P m h f = subst (λ c. P c (q.at m)) (sym n.config) (subst (λ x. P p.config x) (sym (n.at m h)) f)
 
-  abbrev guard : (st : ℕ) → SawGuard st p → SawGuard st q
+  under : (link : Link) (m : ℕ) → m ≤ p.now → IsUnderNode p link m → IsUnderNode q link m
+  under link m h u = record {
+    parent = u.parent;
+    place = u.place;
+    reached = rw (n.at m h) u.reached;
+    within = u.within;
+    child = rw (n.config, n.at m h) u.child;
+    pointer = rw n.config u.pointer;
+    guard = rw n.config u.guard;
+  }
+
+  guarded : (link : Link) → IsGuarded p link → IsGuarded q link
+  guarded link g =
+      let h : g.guarded ≤ p.now = omega (arith, g.order, g.now) in record {
+        guarded = g.guarded;
+        read = g.read;
+        since = omega (arith, g.since, n.since);
+        order = g.order;
+        now = omega (arith, g.now, n.now);
+        under = elim g.under [ inl r ↦ inl r | inr u ↦ inr (under link g.guarded h u) ];
+        status = rw (n.at g.guarded h) g.status;
+        slot = rw (n.at g.read g.now) g.slot;
+      }
+
+  link-stays : (key : List ℕ) (link : Link) → IsLink key p link → IsLink key q link
+  link-stays key link l = record {
+    was = l.was;
+    since = omega (arith, l.since, n.since);
+    now = omega (arith, l.now, n.now);
+    inside = rw (n.config, n.at l.was l.now) l.inside;
+    slot = rw n.config l.slot;
+    range = rw (n.config, n.at l.was l.now) l.range;
+    led = rw (n.at l.was l.now) l.led;
+    guarded = guarded link l.guarded;
+  }
+
+  guard : (st : ℕ) → SawGuard st p → SawGuard st q
   guard st g = record {
     guarded = g.guarded;
     begun = omega (arith, g.begun, n.since);
@@ -22,41 +69,93 @@ module _ (paths : PathsStay) (p q : Past) (n : Continues p q) where
     value = moved (λ c x. x.value ROOT_STATUS_AT ≡ st) g.guarded g.until g.value;
   }
 
-  root : (st k : ℕ) → SawRoot st k p → SawRoot st k q
-  root st k r = record {
-    guard = guard st r.guard;
-    read = r.read;
-    order = r.order;
-    until = omega (arith, r.until, n.now);
-    root = moved (λ c x. HasRoot c x k) r.read r.until r.root;
+  way : (key : List ℕ) (path : Path) (k : ℕ) → IsWay key path k p → IsWay key path k q
+  way key path k w = record {
+    some = w.some;
+    links = λ i l h e. link-stays key l (w.links i l h e);
+    first = w.first;
+    below = λ i l next h e f. rw n.config (w.below i l next h e f);
+    last = w.last;
+    thawed = w.thawed;
   }
 
-  tall : SawTall p → SawTall q
-  tall t = record {
-    slot = t.slot;
-    moment = t.moment;
-    begun = omega (arith, t.begun, n.since);
-    until = omega (arith, t.until, n.now);
-    root = moved (λ c x. HasRoot c x t.slot) t.moment t.until t.root;
-    tall = moved (λ c x. 0 < (page_at c x t.slot).level) t.moment t.until t.tall;
+  abbrev arrives : (key : List ℕ) (path : Path) (k : ℕ) → Arrives key path k p → Arrives key path k q
+  arrives key path k a = record {
+    way = way key path k a.way;
+    met = a.met;
+    since = omega (arith, a.since, n.since);
+    until = omega (arith, a.until, n.now);
+    has = moved (λ c x. HasKey key c x k) a.met a.until a.has;
+    low = moved (λ c x. (page_at c x k).level + path.depth ≤ MAX_LEVELS) a.met a.until a.low;
   }
 
-  learnt : (key : List ℕ) (phase : Phase) → descend_learnt key phase p → descend_learnt key phase q
-  learnt key Fresh f = tt
-  learnt key Guard f = tt
-  learnt key (Root st) f = guard st f
-  learnt key (Header st k) f = root st k f
-  learnt key (Found path) f = paths key path p q f n
-  learnt key Tall f = tall f
+  abbrev at-inner : (key : List ℕ) (path : Path) (k : ℕ) → ArrivesAtInner key path k p → ArrivesAtInner key path k q
+  at-inner key path k a = record {
+    node = arrives key path k a.node;
+    inner = moved (λ c x. 0 < (page_at c x k).level) a.node.met a.node.until a.inner;
+  }
 
-both : PathsStay → (key : List ℕ) (phase : Phase) (s after : Scene) → IsLawful s after → HasFilled s × descend_learnt key phase s.past → HasFilled after × descend_learnt key phase after.past
-both paths key phase s after step f = (λ k t. step.filled k ∙ f.0 k (sym (step.took k) ∙ t), learnt paths s.past after.past step.continues key phase f.1)
+  abbrev opened : (key : List ℕ) (path : Path) (k st : ℕ) → Opened key path k st p → Opened key path k st q
+  opened key path k st o = record {
+    at_inner = at-inner key path k o.at_inner;
+    guarded = o.guarded;
+    order = o.order;
+    until = omega (arith, o.until, n.now);
+    value = moved (λ c x. words c x k STATUS_AT ≡ st) o.guarded o.until o.value;
+    thawed = o.thawed;
+    inner = moved (λ c x. IsInner (words c x k)) o.guarded o.until o.inner;
+  }
 
-pub stable : PathsStay → (key : List ℕ) (phase : Phase) (stage : Stage) (s after : Scene) → descend_facts key phase stage s → IsLawful s after → descend_facts key phase stage after
-stable paths key phase Took s after f step = f
-stable paths key Fresh Waiting s after f step = tt
-stable paths key Guard Waiting s after f step = both paths key Guard s after step f
-stable paths key (Root st) Waiting s after f step = both paths key (Root st) s after step f
-stable paths key (Header st k) Waiting s after f step = both paths key (Header st k) s after step f
-stable paths key (Found path) Waiting s after f step = both paths key (Found path) s after step f
-stable paths key Tall Waiting s after f step = both paths key Tall s after step f
+  abbrev looks : (key : List ℕ) (path : Path) (r : Probe) → Looks key path r p → Looks key path r q
+  looks key path r l = record {
+    opened = opened key path r.slot r.status l.opened;
+    all = moved (λ c x. r.count ≡ (page (words c x r.slot)).count) l.opened.guarded l.opened.until l.all;
+    counted = l.counted;
+    start = l.start;
+    passed = λ j e. moved (λ c x. HasPassed key (words c x r.slot) j r.pointer) l.opened.guarded l.opened.until (l.passed j e);
+  }
+
+  reads : (key : List ℕ) (path : Path) (ws : List ℕ) (r : Probe) (e : Extent) (i : ℕ) → ReadsKey key path ws r e i p → ReadsKey key path ws r e i q
+  reads key path ws r e i k = record {
+    looks = looks key path r k.looks;
+    later = k.later;
+    extent = moved (λ c x. extent_of ((page (words c x r.slot)).meta r.index) ≡ e) k.looks.opened.guarded k.looks.opened.until k.extent;
+    within = k.within;
+    read = λ t l. moved (λ c x. slice_index ws t ≡ words c x r.slot (e.offset + t)) k.looks.opened.guarded k.looks.opened.until (k.read t l);
+  }
+
+  chosen : (key : List ℕ) (path : Path) (r : Probe) → HasChosen key path r p → HasChosen key path r q
+  chosen key path r h = record {
+    opened = opened key path r.slot r.status h.opened;
+    child = h.child;
+    chooses = moved (λ c x. Chooses key (words c x r.slot) h.child) h.opened.guarded h.opened.until h.chooses;
+    place = moved (λ c x. r.pointer ≡ pointer_at (page (words c x r.slot)) h.child) h.opened.guarded h.opened.until h.place;
+  }
+
+  learnt : (key : List ℕ) (path : Path) (ws : List ℕ) (phase : Phase) → descend_learnt key path ws phase p → descend_learnt key path ws phase q
+  learnt key path ws Fresh f = tt
+  learnt key path ws Guard f = tt
+  learnt key path ws (Root st) f = guard st f
+  learnt key path ws (Header k) f = arrives key path k f
+  learnt key path ws (Status k) f = at-inner key path k f
+  learnt key path ws (Meta r) f = looks key path r f
+  learnt key path ws (Word r e i) f = reads key path ws r e i f
+  learnt key path ws (Pointer r) f = chosen key path r f
+  learnt key path ws Found f = (paths key path p q f.0 n, f.1)
+  learnt key path ws Changed f = tt
+
+both : PathsStay → (key : List ℕ) (path : Path) (ws : List ℕ) (phase : Phase) (s after : Scene) → IsLawful s after → HasFilled s × descend_learnt key path ws phase s.past → HasFilled after × descend_learnt key path ws phase after.past
+both paths key path ws phase s after step f = (λ k t. step.filled k ∙ f.0 k (sym (step.took k) ∙ t), learnt paths s.past after.past step.continues key path ws phase f.1)
+
+pub stable : PathsStay → (key : List ℕ) (path : Path) (ws : List ℕ) (phase : Phase) (stage : Stage) (s after : Scene) → descend_facts key path ws phase stage s → IsLawful s after → descend_facts key path ws phase stage after
+stable paths key path ws phase Took s after f step = f
+stable paths key path ws Fresh Waiting s after f step = tt
+stable paths key path ws Guard Waiting s after f step = both paths key path ws Guard s after step f
+stable paths key path ws (Root st) Waiting s after f step = both paths key path ws (Root st) s after step f
+stable paths key path ws (Header k) Waiting s after f step = both paths key path ws (Header k) s after step f
+stable paths key path ws (Status k) Waiting s after f step = both paths key path ws (Status k) s after step f
+stable paths key path ws (Meta r) Waiting s after f step = both paths key path ws (Meta r) s after step f
+stable paths key path ws (Word r e i) Waiting s after f step = both paths key path ws (Word r e i) s after step f
+stable paths key path ws (Pointer r) Waiting s after f step = both paths key path ws (Pointer r) s after step f
+stable paths key path ws Found Waiting s after f step = both paths key path ws Found s after step f
+stable paths key path ws Changed Waiting s after f step = both paths key path ws Changed s after step f

@@ -2,6 +2,9 @@
 #![tactic(auto)]
 
 mod descend;
+mod front;
+mod links;
 mod phase;
+mod separator;
 
 pub use descend::Descend;

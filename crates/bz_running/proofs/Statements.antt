@@ -1,16 +1,22 @@
 -- What the contract of tasks says of a task, as statements of the task alone.
-use Rattle.std.proofs.Common.{◌≡◌, ◌<◌, ℕ, List, Some}
+use Rattle.std.proofs.Common.{◌≡◌, ◌<◌, ◌≤◌, ◌⊎◌, ℕ, false, List, Some, arith}
+use Rattle.bz_consol.specs.Duties as consol
+use Rattle.bz_consol.specs.declared.consolidate.Consolidate.{Consolidate}
 use Rattle.bz_layout.specs.Slots.{FreeSlots}
+use Rattle.bz_layout.specs.declared.thresholds.TheConstants.{CONSOLIDATION_SLOTS}
 use Rattle.bz_word.specs.declared.entry.Entry.{Entry}
 use Rattle.bz_task.specs.Instant.{Instant}
 use Rattle.bz_task.specs.OwnActs.{Stores, Flushes, AreUnreached, gained}
 use Rattle.bz_task.specs.Requests.{Tells}
 use Rattle.bz_task.specs.Scene.{Scene, Stage, Waiting, Took as HasTaken, IsScene, here}
 use Rattle.bz_task.specs.Swaps.{Stand, SwapsTo, IsGoodSwap, Takes}
+use Rattle.bz_task.specs.declared.todo.Outcome.TheVariants.{Restart}
 use Rattle.bz_task.specs.declared.todo.Seen.{Seen}
+use Rattle.bz_task.specs.declared.todo.Seen.TheVariants.{Swapped}
 use Rattle.bz_task.specs.declared.todo.Todo.TheVariants.{Store, Flush, Swap}
-use Rattle.bz_running.specs.Duties.{config_of, asks_of, needs_of, change_of, publishing_of, facts_of}
+use Rattle.bz_running.specs.Duties.{config_of, asks_of, needs_of, end_of, change_of, publishing_of, facts_of, differs_of}
 use Rattle.bz_running.specs.declared.running.Running.{Running}
+use Rattle.bz_running.specs.declared.running.Running.TheVariants.{Descending, Reading, Inserting, Updating, Deleting, Freezing, Consolidating}
 
 abbrev pub Effect : Running → Type 0
 Effect t = (s : Scene) (y : Instant) (entries : List Entry) → s.past.config ≡ config_of t → facts_of t Waiting s → IsScene s → asks_of t ≡ Some (Swap entries) → Stand entries (here s) → SwapsTo s.past.config entries (here s) y → IsGoodSwap (publishing_of t) (change_of t) entries s y
@@ -24,6 +30,21 @@ Stored t = (s after : Scene) (a v : ℕ) → s.past.config ≡ config_of t → f
 abbrev pub Flushed : Running → Type 0
 Flushed t = (s after : Scene) (line : ℕ) → s.past.config ≡ config_of t → facts_of t Waiting s → IsScene s → IsScene after → asks_of t ≡ Some (Flush line) → Flushes line s after → facts_of t HasTaken after
 
+-- why a task is to begin again
+abbrev pub Restarts : Seen → Running → Running → Type 0
+Restarts seen new t = end_of new ≡ Some Restart → (seen ≡ Swapped false) ⊎ differs_of t seen
+
 -- what a task is told, and then knows
 abbrev pub Learns : Seen → ℕ → FreeSlots → FreeSlots → Running → Running → Type 0
 Learns seen moment free left new t = (stage : Stage) (s : Scene) → s.past.now ≡ moment → s.past.config ≡ config_of t → IsScene s → (0 < needs_of t → AreUnreached s free) → facts_of t stage s → Tells (asks_of t) stage seen s → facts_of new Waiting (gained s free left)
+
+-- none takes more slots than a consolidation
+pub takes-one : ((t : Consolidate) → consol.needs_of t ≤ CONSOLIDATION_SLOTS) → (t : Running) → needs_of t ≤ CONSOLIDATION_SLOTS
+unfolding needs_of
+takes-one one (Descending t) = omega arith
+takes-one one (Reading t) = omega arith
+takes-one one (Inserting t) = omega arith
+takes-one one (Updating t) = omega arith
+takes-one one (Deleting t) = omega arith
+takes-one one (Freezing t) = omega arith
+takes-one one (Consolidating t) = one t

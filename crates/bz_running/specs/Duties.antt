@@ -101,13 +101,13 @@ means_of (Freezing t) = freeze_means t.slot
 means_of (Consolidating t) = consol_means t.link t.image.0
 
 unfoldable pub differs_of : Running → Seen → Type 0
-differs_of (Descending t) = λ seen. ⊥
+differs_of (Descending t) = descend.differs_of t
 differs_of (Reading t) = leaf.differs_of t
 differs_of (Inserting t) = λ seen. ⊥
 differs_of (Updating t) = λ seen. ⊥
 differs_of (Deleting t) = λ seen. ⊥
 differs_of (Freezing t) = λ seen. ⊥
-differs_of (Consolidating t) = λ seen. ⊥
+differs_of (Consolidating t) = consol.differs_of t
 
 -- it makes no change of a key, and never publishes
 unfoldable pub makes_no_change : Running → Bool

@@ -182,6 +182,7 @@ impl Running {
     pub fn laws(&self)
         ensures { AreLaws self.now }
     {
+        bz_consol::laws::consolidations_take_one_slot();
         self.learnt();
         self.acted();
     }
