@@ -2,7 +2,9 @@ pub mod Entries
 pub mod Finding
 pub mod Freeings
 pub mod Images
+pub mod Keeping
 pub mod Named
+pub mod Nearness
 pub mod Renewing
 pub mod Standing
 pub mod Sweeps

@@ -1,4 +1,6 @@
+pub mod Contents
 pub mod Duties
+pub mod Knowledge
 pub mod Laws
 pub mod Memory
 pub mod Places

@@ -1,5 +1,7 @@
 //! Laws of images in a recovery. Each function does nothing: its contract is the law.
 
+ghost use Rattle.bz_recover.specs.Contents.{ResolvingKeepsTheContent};
+ghost use Rattle.bz_recover.specs.Knowledge.{RecoveriesKnow};
 ghost use Rattle.bz_recover.specs.Laws.{CutsKeepTheImage, ActsAreThese, RecoveredMemoriesMayBeRenewed};
 
 /// A power cut, in a recovery too, leaves an image that resolves to the same values.
@@ -21,3 +23,21 @@ pub fn acts_are_these()
 pub fn recovered_memories_may_be_renewed()
     ensures { RecoveredMemoriesMayBeRenewed }
 {}
+
+/// What every recovery knows of the memory, and what it knows after its own acts and those of others.
+pub fn recoveries_know()
+    ensures { RecoveriesKnow }
+{}
+
+/// Where words outside the descriptors become what they stand for, the image breaks no rule anew and holds the same.
+pub fn resolving_keeps_the_content()
+    ensures { ResolvingKeepsTheContent }
+{
+    bz_content::laws::well_formed_images_have_no_fault();
+    bz_content::laws::views_are_honest();
+    bz_task::laws::settled_memories_are_good();
+    bz_task::laws::roots_are_reached();
+    bz_shape::laws::unreached_slots_do_not_matter();
+    bz_slotted::laws::leaf_rules_are_facts();
+    bz_slotted::laws::inner_rules_are_facts();
+}

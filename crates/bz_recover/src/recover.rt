@@ -5,7 +5,7 @@ ghost use Rattle.bz_layout.specs.declared.config.Config.{Config};
 ghost use Rattle.bz_recover.specs.Places.{IsSpot, IsPlaced, entry_address, left_in, left_at, swaps_left};
 ghost use Rattle.bz_layout.specs.Config.{IsConfig};
 ghost use Rattle.bz_task.specs.Scene.{Stage, Waiting, Took};
-ghost use Rattle.bz_recover.specs.Duties.{IsSought, knows_before, config_of, asks_of, end_of, left_of, Knows, Hears, Tells, IsReady};
+ghost use Rattle.bz_recover.specs.Duties.{IsSought, knows_before, config_of, asks_in, asks_of, end_of, left_of, Knows, Hears, Tells, IsReady};
 ghost use Rattle.bz_recover.specs.Memory.{Memory, Stores, Flushes, Evicts};
 ghost use Rattle.bz_recover.specs.Sweep.{IsPoweredOn, IsSwept, IsFreeing, IsImage, IsRecovered};
 ghost use Rattle.bz_recover.specs.Laws.{IsAskable};
@@ -67,6 +67,8 @@ impl Recover {
         ensures asked { asks_of self.new ≡ Some result }
         ensures nearer { left_of self.new < left_of self.old }
         ensures config { config_of self.new ≡ config_of self.old }
+        // a new one begins with the first word
+        ensures first { asks_of self.old ≡ None → result ≡ Load 0 }
         // what it knows of every memory in which its act is made and the answer is true
         ensures learns { (values : ℕ → ℕ) (m : Memory) → Knows self.old values Took m → Tells self.old seen m → Knows self.new values Waiting m }
     {
@@ -101,6 +103,7 @@ impl Recover {
         requires hears { Hears self.now seen }
         ensures place { IsPlaced self.now.config result }
         ensures begun { result ≢ Phase.Fresh }
+        ensures first { asks_of self.now ≡ None → asks_in result ≡ Some (Load 0) }
         ensures nearer { left_in self.now.config result < left_of self.now }
         ensures learns { (v : ℕ → ℕ) (m : Memory) → Knows self.now v Took m → Tells self.now seen m → knows_before self.now.config v m result }
     {

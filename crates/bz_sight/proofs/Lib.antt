@@ -1,6 +1,7 @@
-mod Passings
-mod Leavings
-mod Effecting
 mod Acting
-mod Starting
+mod Effecting
+mod Leavings
 mod Openings
+mod Passings
+mod Renewals
+mod Starting

@@ -5,3 +5,4 @@ pub mod Acts
 pub mod Starts
 pub mod Opening
 pub mod Laws
+pub mod Renewal

@@ -5,6 +5,7 @@ ghost use Rattle.bz_sight.specs.Effects.{EffectsTakePlace, EffectsKeepOwn};
 ghost use Rattle.bz_sight.specs.Starts.{TasksMayStart, OwnWordsAreHidden, StartsAreSeen};
 ghost use Rattle.bz_sight.specs.Laws.{HiddenWordsAreValues};
 ghost use Rattle.bz_sight.specs.Opening.{FreshMemoryIsSeen};
+ghost use Rattle.bz_sight.specs.Renewal.{RenewedMemoriesAreSeen};
 ghost use Rattle.bz_sight.specs.Passing.{ActsPass, ActsLeaveAll, StoresAreSeen, FlushesAreSeen};
 
 use bz_content::laws as content;
@@ -150,6 +151,15 @@ pub fn fresh_memory_is_seen()
     bz_layout::fresh_words_say();
     content::plain_words_stand_for_themselves();
     content::fresh_memory_is_empty();
+    task::settled_memories_are_good();
+    bz_swap::laws::plain_fields_stay();
+}
+
+/// A memory that is renewed when its recovery has ended is seen as a settled one.
+pub fn renewed_memories_are_seen()
+    ensures { RenewedMemoriesAreSeen }
+{
+    content::plain_words_stand_for_themselves();
     task::settled_memories_are_good();
     bz_swap::laws::plain_fields_stay();
 }

@@ -1,7 +1,13 @@
 mod Scenes
 pub mod Storing
+pub mod Powered
 mod Lives
 mod Watching
 mod Striking
 mod Openings
 mod Takings
+pub mod Booting
+pub mod Powering
+pub mod Recoveries
+pub mod Revivals
+pub mod Rebirths

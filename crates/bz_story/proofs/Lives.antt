@@ -8,6 +8,7 @@ use Rattle.bz_mark.specs.declared.marks.Mark.{Mark}
 use Rattle.bz_sight.specs.Passing.{Passed, ActsPass}
 use Rattle.bz_sight.specs.Sight.{IsSeen, next_instant}
 use Rattle.bz_sound.specs.Memory.Moments.{image_at, image_after}
+use Rattle.bz_sound.specs.Memory.Spent.{is_reached_in}
 use Rattle.bz_task.specs.Good.{IsGood}
 use Rattle.bz_task.specs.Instant.{Instant, words, page_at}
 use Rattle.bz_task.specs.Shown.{SameNode}
@@ -16,11 +17,12 @@ use Rattle.bz_word.specs.Statuses.{status}
 use Rattle.bz_story.specs.Laws.{LivesGoOn}
 use Rattle.bz_story.specs.Living.{IsInBlock}
 use Rattle.bz_story.specs.Story.{and_then}
+use Rattle.bz_story.proofs.Powered.{begins-more, image-as-it-was}
 use Rattle.bz_story.proofs.Scenes.{now-is, before-is}
 
 -- a history with one moment more
-pub history-on : (c : Config) (at : ℕ → Instant) (n : ℕ) (y : Instant) → IsHistory c at 0 n → IsGood c y → IsStep c (at n) y → IsHistory c (and_then at n y) 0 (suc n)
-history-on c at n y h good step = record {
+pub history-on : (c : Config) (at : ℕ → Instant) (first n : ℕ) (y : Instant) → IsHistory c at first n → IsGood c y → IsStep c (at n) y → IsHistory c (and_then at n y) first (suc n)
+history-on c at first n y h good step = record {
   good = λ i from to. elim (cases_eq i (suc n)) [
     | inl e ↦ subst (λ k. IsGood c (and_then at n y k)) (sym e) (subst (IsGood c) (sym (now-is at n y)) good)
     | inr ne ↦ subst (IsGood c) (sym (before-is at n i y (omega (arith, to, ne)))) (h.good i from (omega (arith, to, ne)))
@@ -35,13 +37,13 @@ history-on c at n y h good step = record {
     last-step k e = subst (λ x. IsStep c x (and_then at n y k)) (sym (before-is at n n y (omega arith))) (subst (λ j. IsStep c (at n) (and_then at n y j)) (sym e) (subst (IsStep c (at n)) (sym (now-is at n y)) step))
 
 -- the images of the moments, with one more
-pub images-on : (start : List ℕ) (past : List Mark) (mark : Mark) (at : ℕ → Instant) (y : Instant) → ((i : ℕ) → i ≤ length past → (at i).image ≡ image_at start i past) → y.image ≡ image_after start (mark ∷ past)
-    → (i : ℕ) → i ≤ length (mark ∷ past) → (and_then at (length past) y i).image ≡ image_at start i (mark ∷ past)
-images-on start past mark at y images last i l = elim (cases_eq i (suc (length past))) [
+pub images-on : (start : List ℕ) (past : List Mark) (mark : Mark) (at : ℕ → Instant) (first : ℕ) (y : Instant) → ((i : ℕ) → first ≤ i → i ≤ length past → (at i).image ≡ image_at start i past) → y.image ≡ image_after start (mark ∷ past)
+    → (i : ℕ) → first ≤ i → i ≤ length (mark ∷ past) → (and_then at (length past) y i).image ≡ image_at start i (mark ∷ past)
+images-on start past mark at first y images last i f l = elim (cases_eq i (suc (length past))) [
   | inl e ↦ subst (λ k. (and_then at (length past) y k).image ≡ image_at start k (mark ∷ past)) (sym e) (ap (λ z. z.image) (now-is at (length past) y) ∙ (last ∙ sym (ap (image_after start) (at_moment-now (mark ∷ past)))))
   | inr ne ↦ (
       let before : i ≤ length past = omega (arith, l, ne) in
-      ap (λ z. z.image) (before-is at (length past) i y before) ∙ (images i before ∙ sym (ap (image_after start) (at_moment-earlier i mark past before))))
+      ap (λ z. z.image) (before-is at (length past) i y before) ∙ (images i f before ∙ sym (ap (image_after start) (at_moment-earlier i mark past before))))
 ]
 
 -- what lay in a block still does, where the node's block is no smaller
@@ -69,16 +71,19 @@ step-block c x y a (inr e) b = block-on c x y a b (e.reached b.slot b.reached) (
 
 pub lives-on : ActsPass → LivesGoOn
 lives-on law c old new log story mark filled g stores = record {
+  from = omega (arith, g.living.from);
+  begins = begins-more story.from log.past mark g.living.from g.living.begins;
   seen = subst (IsSeen c new) (sym (now-is story.at (length log.past) y)) passed.seen;
-  history = history-on c story.at (length log.past) y g.living.history passed.same.good step;
+  history = history-on c story.at story.from (length log.past) y g.living.history passed.same.good step;
   words = g.marked;
-  images = images-on log.start log.past mark story.at y g.living.images (ap (λ w. slice_index w.durable) g.marked);
-  effects = subst (λ z. z.effects ≤ suc (length log.past)) (sym (now-is story.at (length log.past) y)) (omega (arith, g.living.effects));
+  images = images-on log.start log.past mark story.at story.from y g.living.images (ap (λ w. slice_index w.durable) g.marked);
+  effects = subst (λ z. story.from + z.effects ≤ suc (length log.past)) (sym (now-is story.at (length log.past) y)) (omega (arith, g.living.effects));
   reserved = λ w a o. subst (λ z. IsInBlock c z a) (sym (now-is story.at (length log.past) y)) (step-block c (story.at (length log.past)) y a step (g.living.reserved w a o));
   apart = g.living.apart;
   took = g.living.took;
   took_apart = g.living.took_apart;
-  came = λ k r. g.living.came k (sym (passed.rests.quiet.reached k) ∙ (sym (ap (λ z. z.reached k) (now-is story.at (length log.past) y)) ∙ r));
+  came = λ k r. subst (λ (image : ℕ → ℕ). (is_reached_in c image k ≡ true) ⊎ ((w : ℕ) × (story.took w k ≡ true))) (sym (image-as-it-was log.start log.past mark g.powered))
+      (g.living.came k (sym (passed.rests.quiet.reached k) ∙ (sym (ap (λ z. z.reached k) (now-is story.at (length log.past) y)) ∙ r)));
   stored = stores;
 }
   where

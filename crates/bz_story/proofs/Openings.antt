@@ -15,12 +15,14 @@ opened-words : (m : SwapMemory) (start : List ℕ) (swaps workers : ℕ) → IsO
 opened-words m start swaps workers o = ap words_of o.is
 
 -- the one moment's image is that of the words
-images : (c : Config) (i : ℕ) → i ≤ 0 → (fresh_instant c).image ≡ image_at (fresh_words c) i []
-images c zero l = refl
-images c (suc i) l = absurd (omega (arith, l))
+images : (c : Config) (i : ℕ) → 0 ≤ i → i ≤ 0 → (fresh_instant c).image ≡ image_at (fresh_words c) i []
+images c zero f l = refl
+images c (suc i) f l = absurd (omega (arith, l))
 
 pub fresh-lives : FreshMemoryIsSeen → FreshStoriesLive
 fresh-lives law c m limits fresh = record {
+  from = omega arith;
+  begins = λ w opened e. omega arith;
   seen = (law c m fresh).seen;
   history = record { good = λ i from to. (law c m fresh).seen.good; step = λ i from to. absurd (omega (arith, from, to)) };
   words = opened-words m (fresh_words c) c.swaps c.workers fresh.opened;

@@ -22,7 +22,7 @@ now-is at n y = let t : (suc n == suc n) ≡ true = grind (arith, nat_tests) in 
 pub before-is : (at : ℕ → Instant) (n m : ℕ) (y : Instant) → m ≤ n → and_then at n y m ≡ at m
 before-is at n m y l = let t : (m == suc n) ≡ false = grind (arith, nat_tests) in rw t refl
 
-module _ (law : HiddenWordsAreValues) (c : Config) (m : SwapMemory) (log : Log) (story : Story) (w : ℕ) (opened : Open) (living : IsLiving c m log story) (begun : HasBegun log opened) where
+module _ (law : HiddenWordsAreValues) (c : Config) (m : SwapMemory) (log : Log) (story : Story) (w : ℕ) (opened : Open) (living : IsLiving c m log story) (begun : HasBegun log story opened) where
   s : Scene
   s = scene c log.past story w opened
 

@@ -13,7 +13,8 @@ use Rattle.bz_sight.specs.Effects.{TookPlace, EffectsTakePlace, KeepsOwn, Effect
 use Rattle.bz_sight.specs.Sight.{IsSeen}
 use Rattle.bz_sight.specs.Starts.{Sees}
 use Rattle.bz_sound.specs.Calls.{Open}
-use Rattle.bz_sound.specs.Memory.Spent.{is_reached_at_start}
+use Rattle.bz_sound.specs.Memory.Spent.{is_reached_in}
+use Rattle.bz_sound.specs.Power.Times.{image_at_on}
 use Rattle.bz_swap.specs.EntryLists.{AreRising}
 use Rattle.bz_swap.specs.SwapMemory.{SwapMemory, entries_of, is_target}
 use Rattle.bz_task.specs.Instant.{Instant, words, page_at}
@@ -28,7 +29,7 @@ use Rattle.bz_story.specs.Living.{IsLiving, IsInBlock}
 use Rattle.bz_story.specs.Story.{Story, scene}
 use Rattle.bz_story.proofs.Lives.{history-on, images-on, step-block}
 use Rattle.bz_story.proofs.Scenes.{now-is, before-is, scenes-apart}
-use Rattle.bz_story.proofs.Storing.{stored-on}
+use Rattle.bz_story.proofs.Powered.{begins-more, image-as-it-was, stored-since}
 use Rattle.bz_story.proofs.Watching.{continues}
 
 and-both : (a b : Bool) → (a && b) ≡ true → (a ≡ true) × (b ≡ true)
@@ -131,7 +132,7 @@ module _ (b : Laws) (c : Config) (old new : SwapMemory) (log : Log) (story : Sto
   abbrev s : Scene
   s = scene c log.past story w opened
 
-  sees : (v : ℕ) (other : Open) → HasBegun log other → Sees c (story.at (length log.past)) (scene c log.past story v other)
+  sees : (v : ℕ) (other : Open) → HasBegun log story other → Sees c (story.at (length log.past)) (scene c log.past story v other)
   sees v other begun = b.seen c old log story v other g.living begun
 
   took : TookPlace c (story.at (length log.past)) old new k
@@ -169,7 +170,7 @@ module _ (b : Laws) (c : Config) (old new : SwapMemory) (log : Log) (story : Sto
       same-effected true = refl
       same-effected false = refl
 
-  effect-others : (v : ℕ) (other : Open) → v ≢ w → HasBegun log other → IsLawful (scene c log.past story v other) (scene c (mark ∷ log.past) (strikes c log story new w (entries_of old k)) v other)
+  effect-others : (v : ℕ) (other : Open) → v ≢ w → HasBegun log story other → IsLawful (scene c log.past story v other) (scene c (mark ∷ log.past) (strikes c log story new w (entries_of old k)) v other)
   effect-others v other ne begun =
       b.lawful publishes change (entries_of old k) (scene c log.past story w opened) (scene c log.past story v other) _ (effect_instant c new (story.at (length log.past))) (sees v other begun).scene apart to g.good watches
     where
@@ -246,26 +247,29 @@ module _ (b : Laws) (c : Config) (old new : SwapMemory) (log : Log) (story : Sto
             true≢false (sym block.reached ∙ (ap (story.at (length log.past)).reached (sym same) ∙ was)))
       ]
 
-  came-of : (j : ℕ) → (effect_instant c new (story.at (length log.past))).reached j ≡ true → (is_reached_at_start c log.start j ≡ true) ⊎ ((v : ℕ) × (story.took v j ≡ true))
+  came-of : (j : ℕ) → (effect_instant c new (story.at (length log.past))).reached j ≡ true → (is_reached_in c (image_at_on log.start log.past) j ≡ true) ⊎ ((v : ℕ) × (story.took v j ≡ true))
   came-of j is = go ((story.at (length log.past)).reached j) refl
     where
-      go : (t : Bool) → (story.at (length log.past)).reached j ≡ t → (is_reached_at_start c log.start j ≡ true) ⊎ ((v : ℕ) × (story.took v j ≡ true))
+      go : (t : Bool) → (story.at (length log.past)).reached j ≡ t → (is_reached_in c (image_at_on log.start log.past) j ≡ true) ⊎ ((v : ℕ) × (story.took v j ≡ true))
       go true e = g.living.came j e
       go false e = inr (w, linked-took j e is)
 
   effect-living : IsLiving c new (with_mark log mark) (strikes c log story new w (entries_of old k))
   effect-living = record {
+    from = omega (arith, g.living.from);
+    begins = begins-more story.from log.past mark g.living.from g.living.begins;
     seen = subst (IsSeen c new) (sym (now-is story.at (length log.past) (effect_instant c new (story.at (length log.past))))) (took.seen g.good.good (inr g.good.step));
-    history = history-on c story.at (length log.past) (effect_instant c new (story.at (length log.past))) g.living.history g.good.good (inr g.good.step);
+    history = history-on c story.at story.from (length log.past) (effect_instant c new (story.at (length log.past))) g.living.history g.good.good (inr g.good.step);
     words = g.marked;
-    images = images-on log.start log.past mark story.at (effect_instant c new (story.at (length log.past))) g.living.images (ap (λ z. slice_index z.durable) g.marked);
-    effects = subst (λ z. z.effects ≤ suc (length log.past)) (sym (now-is story.at (length log.past) (effect_instant c new (story.at (length log.past))))) (omega (arith, g.living.effects));
+    images = images-on log.start log.past mark story.at story.from (effect_instant c new (story.at (length log.past))) g.living.images (ap (λ z. slice_index z.durable) g.marked);
+    effects = subst (λ z. story.from + z.effects ≤ suc (length log.past)) (sym (now-is story.at (length log.past) (effect_instant c new (story.at (length log.past))))) (omega (arith, g.living.effects));
     reserved = λ v a o. subst (λ z. IsInBlock c z a) (sym (now-is story.at (length log.past) (effect_instant c new (story.at (length log.past))))) (block-of v a (reserved-of v a o));
     apart = λ u v a o p. apart-of u v a (reserved-of u a o) (reserved-of v a p);
     took = g.living.took;
     took_apart = g.living.took_apart;
-    came = λ j r. came-of j (subst (λ z. z.reached j ≡ true) (now-is story.at (length log.past) (effect_instant c new (story.at (length log.past)))) r);
-    stored = λ v j f. stored-on c log.past mark j (g.living.stored v j f);
+    came = λ j r. subst (λ (image : ℕ → ℕ). (is_reached_in c image j ≡ true) ⊎ ((v : ℕ) × (story.took v j ≡ true))) (sym (image-as-it-was log.start log.past mark g.powered))
+        (came-of j (subst (λ z. z.reached j ≡ true) (now-is story.at (length log.past) (effect_instant c new (story.at (length log.past)))) r));
+    stored = λ v j f. stored-since c log.past mark j g.powered (g.living.stored v j f);
   }
     where
       -- an address that a worker has reserved afterwards it had reserved before, or the swap is its own and reserves it

@@ -27,6 +27,8 @@ took-or-gains story w v k old new h = go (story.took v k) refl (v == w) refl h
 
 taken-living : (c : Config) (m : SwapMemory) (log : Log) (story : Story) (w : ℕ) (old new : FreeSlots) → IsLiving c m log story → MayTake c story old new → IsLiving c m log (takes_slots story w old new)
 taken-living c m log story w old new l may = record {
+  from = l.from;
+  begins = l.begins;
   seen = l.seen;
   history = l.history;
   words = l.words;

@@ -95,7 +95,7 @@ module _ (b : Laws) (c : Config) (old new : SwapMemory) (log : Log) (story : Sto
   later-here : (filled : ℕ → ℕ → Bool) (w : ℕ) (opened : Open) → here (scene c (mark ∷ log.past) (goes_on log story new filled) w opened) ≡ next_instant new (story.at (length log.past))
   later-here filled w opened = now-is story.at (length log.past) (next_instant new (story.at (length log.past)))
 
-  sees : (w : ℕ) (opened : Open) → HasBegun log opened → Sees c (story.at (length log.past)) (scene c log.past story w opened)
+  sees : (w : ℕ) (opened : Open) → HasBegun log story opened → Sees c (story.at (length log.past)) (scene c log.past story w opened)
   sees w opened begun = b.seen c old log story w opened g.living begun
 
   -- for one who did nothing
@@ -109,10 +109,10 @@ module _ (b : Laws) (c : Config) (old new : SwapMemory) (log : Log) (story : Sto
     filled = same;
   }
 
-  leaves : AllStay old new → (w : ℕ) (opened : Open) → HasBegun log opened → LeavesAll (scene c log.past story w opened) (next_instant new (story.at (length log.past)))
+  leaves : AllStay old new → (w : ℕ) (opened : Open) → HasBegun log story opened → LeavesAll (scene c log.past story w opened) (next_instant new (story.at (length log.past)))
   leaves all w opened begun = b.leave c (story.at (length log.past)) old new (scene c log.past story w opened) g.living.seen g.passes all (sees w opened begun).scene refl refl
 
-  lawful : AllStay old new → (w : ℕ) (opened : Open) → HasBegun log opened → IsLawful (scene c log.past story w opened) (scene c (mark ∷ log.past) (goes_on log story new story.filled) w opened)
+  lawful : AllStay old new → (w : ℕ) (opened : Open) → HasBegun log story opened → IsLawful (scene c log.past story w opened) (scene c (mark ∷ log.past) (goes_on log story new story.filled) w opened)
   lawful all w opened begun = b.quiet (scene c log.past story w opened) _ (next_instant new (story.at (length log.past))) (leaves all w opened begun) (watches story.filled w opened (λ k. refl))
 
   -- own words stay one's own
@@ -120,7 +120,7 @@ module _ (b : Laws) (c : Config) (old new : SwapMemory) (log : Log) (story : Sto
   own-stays filled w opened = mine-stays b.alike (scene c log.past story w opened) (scene c (mark ∷ log.past) (goes_on log story new filled) w opened) refl (subst (IsQuiet c (story.at (length log.past))) (sym (later-here filled w opened)) passed.rests.quiet) (λ a. refl) (λ k. refl)
 
   -- a flush of one's own
-  flushes : AllStay old new → (w line : ℕ) (opened : Open) → HasBegun log opened → ((a : ℕ) → line_of a ≡ line → slice_index new.durable a ≡ slice_index old.cached a)
+  flushes : AllStay old new → (w line : ℕ) (opened : Open) → HasBegun log story opened → ((a : ℕ) → line_of a ≡ line → slice_index new.durable a ≡ slice_index old.cached a)
       → Flushes line (scene c log.past story w opened) (scene c (mark ∷ log.past) (goes_on log story new story.filled) w opened)
   flushes all w line opened begun copies = record {
     continues = continues c log.past mark story (goes_on log story new story.filled) w opened opened refl (before story.filled);
@@ -156,7 +156,7 @@ module _ (b : Laws) (c : Config) (old new : SwapMemory) (log : Log) (story : Sto
       mine = own-stays (fills c story w a) w opened;
     }
 
-    store-others : (u : ℕ) (other : Open) → u ≢ w → HasBegun log other → IsLawful (scene c log.past story u other) (scene c (mark ∷ log.past) (goes_on log story new (fills c story w a)) u other)
+    store-others : (u : ℕ) (other : Open) → u ≢ w → HasBegun log story other → IsLawful (scene c log.past story u other) (scene c (mark ∷ log.past) (goes_on log story new (fills c story w a)) u other)
     store-others u other ne begun =
         b.stores (scene c log.past story w opened) (scene c log.past story u other) _ a v (next_instant new (story.at (length log.past))) (sees w opened s.begun).scene s.own apart to
         (watches (fills c story w a) u other (λ k. let t : (u == w) ≡ false = grind (arith, nat_tests) in rw t (or-off (story.filled u k))))

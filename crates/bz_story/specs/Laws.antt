@@ -1,5 +1,5 @@
 -- How a living memory goes on from mark to mark, and what each mark is to each worker.
-use Rattle.std.specs.Prelude.{◌≡◌, ◌≢◌, ℕ, ◌+◌, ◌^◌, ◌<◌, ◌==◌, ◌&&◌, ◌||◌, if◌then◌else◌, Bool, true, false, List, ◌∷◌, length, slice_index}
+use Rattle.std.specs.Prelude.{◌≡◌, ◌≢◌, ℕ, ◌+◌, ◌^◌, ◌<◌, ◌≤◌, ◌==◌, ◌&&◌, ◌||◌, if◌then◌else◌, Bool, true, false, List, ◌∷◌, length, slice_index}
 use Rattle.bz_layout.specs.Addresses.{slot_of, line_of}
 use Rattle.bz_layout.specs.Slots.{FreeSlots}
 use Rattle.bz_layout.specs.declared.config.Config.{Config}
@@ -12,6 +12,8 @@ use Rattle.bz_sight.specs.Sight.{next_instant}
 use Rattle.bz_sight.specs.Starts.{Sees}
 use Rattle.bz_sound.specs.Calls.{Open, with_effect}
 use Rattle.bz_sound.specs.Memory.Spent.{is_stored_into}
+use Rattle.bz_sound.specs.Power.Laws.{LeavesPower}
+use Rattle.bz_sound.specs.Power.Times.{since_on}
 use Rattle.bz_word.specs.declared.entry.Entry.{Entry}
 use Rattle.bz_swap.specs.EntryLists.{IsEntryList}
 use Rattle.bz_swap.specs.SwapMemory.{SwapMemory, words_of, entries_of}
@@ -22,14 +24,15 @@ use Rattle.bz_task.specs.Swaps.{Change, IsGoodSwap, Takes, reserves}
 use Rattle.bz_story.specs.Living.{IsLiving}
 use Rattle.bz_story.specs.Story.{Story, scene, and_then}
 
--- a call that began before now
-abbrev pub HasBegun : Log → Open → Type 0
-HasBegun log opened = opened.begun < length log.past
+-- a call that began in this life of the memory, before now
+pub record HasBegun (log : Log) (story : Story) (opened : Open) : Type 0 where
+  pub from : story.from ≤ opened.begun
+  pub before : opened.begun < length log.past
 
 -- the scene of such a call is one of the memory now
 abbrev pub ScenesAreSeen : Type 0
 ScenesAreSeen =
-    (c : Config) (m : SwapMemory) (log : Log) (story : Story) (w : ℕ) (opened : Open) → IsLiving c m log story → HasBegun log opened →
+    (c : Config) (m : SwapMemory) (log : Log) (story : Story) (w : ℕ) (opened : Open) → IsLiving c m log story → HasBegun log story opened →
     Sees c (story.at (length log.past)) (scene c log.past story w opened)
 
 -- the memory has the words that the journal has after one mark more
@@ -39,33 +42,35 @@ IsMarked new log mark = words_of new ≡ words_after_marks log.start (mark ∷ l
 -- the story one moment later: with this memory then, and these stores
 abbrev pub goes_on : Log → Story → SwapMemory → (ℕ → ℕ → Bool) → Story
 goes_on log story new filled = record {
+  from = story.from;
   at = and_then story.at (length log.past) (next_instant new (story.at (length log.past)));
   reserved = story.reserved;
   took = story.took;
   filled = filled;
 }
 
--- an act or a mark by which no swap takes effect
+-- an act or a mark by which no swap takes effect, and which is none of the power
 pub record GoesOn (c : Config) (old new : SwapMemory) (log : Log) (story : Story) (mark : Mark) : Type 0 where
   pub living : IsLiving c old log story
   pub passes : Passes c (story.at (length log.past)) old new
   pub marked : IsMarked new log mark
+  pub powered : LeavesPower log.past mark
 
 abbrev pub LivesGoOn : Type 0
 LivesGoOn =
     (c : Config) (old new : SwapMemory) (log : Log) (story : Story) (mark : Mark) (filled : ℕ → ℕ → Bool) → GoesOn c old new log story mark →
-    ((v k : ℕ) → filled v k ≡ true → is_stored_into c k (mark ∷ log.past) ≡ true) → IsLiving c new (with_mark log mark) (goes_on log story new filled)
+    ((v k : ℕ) → filled v k ≡ true → is_stored_into c k (since_on (mark ∷ log.past)) ≡ true) → IsLiving c new (with_mark log mark) (goes_on log story new filled)
 
 -- which is nobody's private store: a lawful step for every worker
 abbrev pub QuietMarksAreLawful : Type 0
 QuietMarksAreLawful =
-    (c : Config) (old new : SwapMemory) (log : Log) (story : Story) (mark : Mark) (w : ℕ) (opened : Open) → GoesOn c old new log story mark → AllStay old new → HasBegun log opened →
+    (c : Config) (old new : SwapMemory) (log : Log) (story : Story) (mark : Mark) (w : ℕ) (opened : Open) → GoesOn c old new log story mark → AllStay old new → HasBegun log story opened →
     IsLawful (scene c log.past story w opened) (scene c (mark ∷ log.past) (goes_on log story new story.filled) w opened)
 
 -- a private store of worker w
 pub record IsStore (c : Config) (old new : SwapMemory) (log : Log) (story : Story) (w a v : ℕ) (opened : Open) : Type 0 where
   pub stores : StoresAt old new a v
-  pub begun : HasBegun log opened
+  pub begun : HasBegun log story opened
   pub own : IsOwnStore (scene c log.past story w opened) a v
 
 -- the slots that have been stored into then
@@ -77,19 +82,20 @@ pub record StoresAreTold : Type 0 where
   pub own : (c : Config) (old new : SwapMemory) (log : Log) (story : Story) (mark : Mark) (w a v : ℕ) (opened : Open) → GoesOn c old new log story mark → IsStore c old new log story w a v opened →
       Stores a v (scene c log.past story w opened) (scene c (mark ∷ log.past) (goes_on log story new (fills c story w a)) w opened)
   pub others : (c : Config) (old new : SwapMemory) (log : Log) (story : Story) (mark : Mark) (w a v : ℕ) (opened : Open) (u : ℕ) (other : Open) → GoesOn c old new log story mark →
-      IsStore c old new log story w a v opened → u ≢ w → HasBegun log other →
+      IsStore c old new log story w a v opened → u ≢ w → HasBegun log story other →
       IsLawful (scene c log.past story u other) (scene c (mark ∷ log.past) (goes_on log story new (fills c story w a)) u other)
 
 -- a private flush is one to its worker
 abbrev pub FlushesAreTold : Type 0
 FlushesAreTold =
-    (c : Config) (old new : SwapMemory) (log : Log) (story : Story) (mark : Mark) (w line : ℕ) (opened : Open) → GoesOn c old new log story mark → AllStay old new → HasBegun log opened →
+    (c : Config) (old new : SwapMemory) (log : Log) (story : Story) (mark : Mark) (w line : ℕ) (opened : Open) → GoesOn c old new log story mark → AllStay old new → HasBegun log story opened →
     ((a : ℕ) → line_of a ≡ line → slice_index new.durable a ≡ slice_index old.cached a) →
     Flushes line (scene c log.past story w opened) (scene c (mark ∷ log.past) (goes_on log story new story.filled) w opened)
 
 -- the story after the effect of a swap of worker w
 abbrev pub strikes : Config → Log → Story → SwapMemory → ℕ → List Entry → Story
 strikes c log story new w entries = record {
+  from = story.from;
   at = and_then story.at (length log.past) (effect_instant c new (story.at (length log.past)));
   reserved = λ v a. story.reserved v a || (v == w && reserves c entries a);
   took = story.took;
@@ -101,7 +107,8 @@ pub record Strikes (c : Config) (old new : SwapMemory) (log : Log) (story : Stor
   pub living : IsLiving c old log story
   pub takes : TakesPlace old new s
   pub marked : IsMarked new log mark
-  pub begun : HasBegun log opened
+  pub powered : LeavesPower log.past mark
+  pub begun : HasBegun log story opened
   pub list : IsEntryList (entries_of old s)
   pub few : length log.past + 1 < 2 ^ 32
   pub good : IsGoodSwap publishes change (entries_of old s) (scene c log.past story w opened) (effect_instant c new (story.at (length log.past)))
@@ -116,7 +123,7 @@ pub record EffectsAreTold : Type 0 where
   pub own : (c : Config) (old new : SwapMemory) (log : Log) (story : Story) (mark : Mark) (s w : ℕ) (opened : Open) (publishes : Bool) (change : Change) (moment : ℕ) → Strikes c old new log story mark s w opened publishes change →
       Takes publishes (entries_of old s) (scene c log.past story w opened) (scene c (mark ∷ log.past) (strikes c log story new w (entries_of old s)) w (opened_after publishes moment opened))
   pub others : (c : Config) (old new : SwapMemory) (log : Log) (story : Story) (mark : Mark) (s w : ℕ) (opened : Open) (publishes : Bool) (change : Change) (v : ℕ) (other : Open) → Strikes c old new log story mark s w opened publishes change →
-      v ≢ w → HasBegun log other →
+      v ≢ w → HasBegun log story other →
       IsLawful (scene c log.past story v other) (scene c (mark ∷ log.past) (strikes c log story new w (entries_of old s)) v other)
 
 -- the story once worker w took the slots that are free no more

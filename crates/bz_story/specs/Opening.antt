@@ -14,7 +14,7 @@ fresh_log c limits = record { start = fresh_words c; past = []; pages = []; limi
 
 -- the memory as it was opened
 abbrev pub fresh_story : Config → Story
-fresh_story c = record { at = λ moment. fresh_instant c; reserved = λ w a. false; took = λ w k. false; filled = λ w k. false }
+fresh_story c = record { from = 0; at = λ moment. fresh_instant c; reserved = λ w a. false; took = λ w k. false; filled = λ w k. false }
 
 abbrev pub FreshStoriesLive : Type 0
 FreshStoriesLive = (c : Config) (m : SwapMemory) (limits : Limits) → IsFresh c m → IsLiving c m (fresh_log c limits) (fresh_story c)

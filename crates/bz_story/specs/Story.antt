@@ -1,4 +1,4 @@
--- What is told of a world beside its marks: the memory at each moment, and what each worker owns.
+-- What is told of a world beside its marks: the memory at each moment since the power is on, and what each worker owns.
 use Rattle.std.specs.Prelude.{ℕ, zero, suc, ◌==◌, if◌then◌else◌, Bool, false, List, length, is_some, Option, Some}
 use Rattle.bz_layout.specs.declared.config.Config.{Config}
 use Rattle.bz_mark.specs.Moments.{mark_at}
@@ -8,12 +8,15 @@ use Rattle.bz_sound.specs.Calls.{Open}
 use Rattle.bz_task.specs.Instant.{Instant}
 use Rattle.bz_task.specs.Scene.{Scene}
 
+-- one life of a memory: it begins when the memory is opened, and anew at each end of a recovery
 pub record Story : Type 0 where
-  -- the memory at each moment, a number of marks
+  -- the moment at which this life began, a number of marks
+  pub from : ℕ
+  -- the memory at each moment since
   pub at : ℕ → Instant
-  -- the addresses that each worker reserved for a record
+  -- the addresses that each worker reserved for a record since
   pub reserved : ℕ → ℕ → Bool
-  -- the slots that each worker took, and those into which it has stored
+  -- the slots that each worker took since, and those into which it has stored
   pub took : ℕ → ℕ → Bool
   pub filled : ℕ → ℕ → Bool
 

@@ -1,0 +1,36 @@
+-- What every recovery knows of the memory, whatever its phase: for those who keep a recovery and make its acts.
+use Rattle.std.specs.Prelude.{◌≡◌, ◌⊎◌, ℕ, ◌^◌, ◌<◌, Bool, Some}
+use Rattle.bz_layout.specs.Addresses.{words_of}
+use Rattle.bz_layout.specs.declared.config.Config.{Config}
+use Rattle.bz_task.specs.Scene.{Stage, Waiting, Took}
+use Rattle.bz_task.specs.declared.todo.Outcome.TheVariants.{Recovered}
+use Rattle.bz_task.specs.declared.todo.Todo.{Todo}
+use Rattle.bz_task.specs.declared.todo.Todo.TheVariants.{Load, Store, Flush, Finish}
+use Rattle.bz_recover.specs.Contents.{ResolvesSome}
+use Rattle.bz_recover.specs.Duties.{config_of, asks_of, end_of, Knows, IsReady}
+use Rattle.bz_recover.specs.Laws.{IsAskable}
+use Rattle.bz_recover.specs.Memory.{Memory, Stores, Copies, Flushes}
+use Rattle.bz_recover.specs.Sweep.{IsShared, IsOfSwap, IsImage, IsRecovered}
+use Rattle.bz_recover.specs.declared.recover.Recover.{Recover}
+
+-- a cached word outside the descriptors is the durable one or the value, and one of a descriptor is the durable one or 0
+pub record IsNear (c : Config) (values : ℕ → ℕ) (m : Memory) : Type 0 where
+  pub shared : (a : ℕ) → IsShared c a → (m.cached a ≡ m.durable a) ⊎ (m.cached a ≡ values a)
+  pub swaps : (a : ℕ) → IsOfSwap c a → (m.cached a ≡ m.durable a) ⊎ (m.cached a ≡ 0)
+
+pub record RecoveriesKnow : Type 0 where
+  -- no flush and no eviction of anybody changes what is known, nor what the words resolve to
+  pub stable : (t : Recover) (values : ℕ → ℕ) (stage : Stage) (old new : Memory) (copied : ℕ → Bool) → IsReady t → Knows t values stage old → Copies old new copied → Knows t values stage new
+  pub resolves : (t : Recover) (values : ℕ → ℕ) (stage : Stage) (old new : Memory) (copied : ℕ → Bool) → IsReady t → Knows t values stage old → Copies old new copied → ResolvesSome (config_of t) values old.durable new.durable
+  -- its own acts
+  pub loaded : (t : Recover) (values : ℕ → ℕ) (m : Memory) (a : ℕ) → IsReady t → asks_of t ≡ Some (Load a) → Knows t values Waiting m → Knows t values Took m
+  pub stored : (t : Recover) (values : ℕ → ℕ) (old new : Memory) (a x : ℕ) → IsReady t → asks_of t ≡ Some (Store a x) → Knows t values Waiting old → Stores old new a x → Knows t values Took new
+  pub flushed : (t : Recover) (values : ℕ → ℕ) (old new : Memory) (line : ℕ) → IsReady t → asks_of t ≡ Some (Flush line) → Knows t values Waiting old → Flushes old new line → Knows t values Took new
+  -- what it knows says of every moment
+  pub image : (t : Recover) (values : ℕ → ℕ) (stage : Stage) (m : Memory) → IsReady t → Knows t values stage m → IsImage (config_of t) values m.durable
+  pub near : (t : Recover) (values : ℕ → ℕ) (stage : Stage) (m : Memory) → IsReady t → Knows t values stage m → IsNear (config_of t) values m
+  pub words : (t : Recover) (values : ℕ → ℕ) (stage : Stage) (m : Memory) (a : ℕ) → IsReady t → Knows t values stage m → a < words_of (config_of t) → m.cached a < 2 ^ 64
+  -- what it asks for may be asked for; where that is nothing more it has ended, and this stands then
+  pub askable : (t : Recover) (values : ℕ → ℕ) (m : Memory) (todo : Todo) → IsReady t → Knows t values Waiting m → asks_of t ≡ Some todo → IsAskable (config_of t) todo
+  pub finishes : (t : Recover) → asks_of t ≡ Some Finish → end_of t ≡ Some Recovered
+  pub ends : (t : Recover) (values : ℕ → ℕ) (stage : Stage) (m : Memory) → IsReady t → Knows t values stage m → end_of t ≡ Some Recovered → IsRecovered (config_of t) values m

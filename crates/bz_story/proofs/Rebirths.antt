@@ -1,0 +1,195 @@
+-- The marks from a power cut to the end of the recovery: memory and journal agree after each of them, and what the durable words
+-- decode to stays; then a new life begins.
+use Rattle.std.proofs.Common.{◌≡◌, ℕ, suc, ◌≤◌, ◌&&◌, List, ◌∷◌, length, slice_index, Some, None, arith, refl, sym, ap, subst, ◌∙◌, inl}
+use Rattle.std.specs.Prelude.{nat_lt}
+use Rattle.std.specs.FinMap.{get}
+use Rattle.std.proofs.lemmas.Bool.{true≢false}
+use Rattle.bz_acts.specs.Rule.{after_act}
+use Rattle.bz_acts.specs.declared.acted.Act.{Act}
+use Rattle.bz_acts.specs.declared.acted.Act.TheVariants as act
+use Rattle.bz_call.specs.Map.{Map}
+use Rattle.bz_content.specs.Content.{image_fault, content_in}
+use Rattle.bz_layout.specs.declared.config.Config.{Config}
+use Rattle.bz_mark.specs.Log.{Log, with_mark}
+use Rattle.bz_mark.specs.MomentLaws.{at_moment-now}
+use Rattle.bz_mark.specs.WordsAfter.{words_of as words_after_marks}
+use Rattle.bz_mark.specs.declared.marks.Mark.{Mark}
+use Rattle.bz_mark.specs.declared.marks.Mark.TheVariants.{Evict, Ready}
+use Rattle.bz_pm.specs.Acts.{evicted, after_cut as words_after_cut}
+use Rattle.bz_pm.specs.Words.{Words}
+use Rattle.bz_recover.specs.Contents.{SaysTheSame}
+use Rattle.bz_recover.specs.declared.recover.Recover.{Recover}
+use Rattle.bz_sight.specs.Renewal.{renewed_instant}
+use Rattle.bz_sight.specs.Sight.{IsSeen}
+use Rattle.bz_sound.specs.Calls.{Open, open_call, map_after}
+use Rattle.bz_sound.specs.Memory.Moments.{image_after, image_at, map_at_start}
+use Rattle.bz_sound.specs.Memory.Spent.{is_taken, is_stored_into}
+use Rattle.bz_sound.specs.Power.Times.{since_on, image_at_on}
+use Rattle.bz_swap.specs.Power.{renewed}
+use Rattle.bz_swap.specs.Steps.{IsRawStep, StepsIn}
+use Rattle.bz_swap.specs.SwapMemory.{SwapMemory, words_of}
+use Rattle.bz_story.specs.Living.{IsLiving}
+use Rattle.bz_story.specs.Recovering.{IsRecovering, Turn, Asked, Made}
+use Rattle.bz_story.specs.RecoveryLaws.{CutsLeaveTheImage, ImagesAreOff, RecoveriesBegin, ActsRecover, Recovers, EvictionsLeaveRecoveries, StaysRecovering, RecoveriesRevive, IsRevived}
+use Rattle.bz_story.specs.Reviving.{IsRecoveringIn, CutsAreMarked, ImagesOpenJournals, PowerOnIsMarked, TurnsMakeNoMark, mark_of, StillDecodes, ActsAreMarked, EvictionsAreMarked, renewed_story, RecoveriesGiveLife}
+
+-- what holds what another image holds, which holds what a third one holds
+says-as : (c : Config) (x y z : ℕ → ℕ) → SaysTheSame c x y → SaysTheSame c y z → SaysTheSame c x z
+says-as c x y z p q = record {
+  well_formed = q.well_formed;
+  inside = λ k. q.inside k ∙ p.inside k;
+  content = λ key. q.content key ∙ p.content key;
+}
+
+-- a mark of a recovery time: it opens no call, changes no map, is no power on, and takes no descriptor and no slot
+record IsQuietMark (start : List ℕ) (past : List Mark) (mark : Mark) : Type 0 where
+  calls : (w : ℕ) → open_call w (mark ∷ past) ≡ open_call w past
+  map : (first : Map) → map_after first (mark ∷ past) ≡ map_after first past
+  on : image_at_on start (mark ∷ past) ≡ image_at_on start past
+  taken : (swap : ℕ) → is_taken swap (since_on (mark ∷ past)) ≡ is_taken swap (since_on past)
+  stored : (c : Config) (slot : ℕ) → is_stored_into c slot (since_on (mark ∷ past)) ≡ is_stored_into c slot (since_on past)
+
+act-quiet : (start : List ℕ) (past : List Mark) (made : Act) → IsQuietMark start past (mark_of 0 made)
+act-quiet start past (act.Load a v) = record { calls = λ w. refl; map = λ first. refl; on = refl; taken = λ swap. refl; stored = λ c slot. refl }
+act-quiet start past (act.Store a v) = record { calls = λ w. refl; map = λ first. refl; on = refl; taken = λ swap. refl; stored = λ c slot. refl }
+act-quiet start past (act.Cas a old new found) = record { calls = λ w. refl; map = λ first. refl; on = refl; taken = λ swap. refl; stored = λ c slot. refl }
+act-quiet start past (act.Flush line) = record { calls = λ w. refl; map = λ first. refl; on = refl; taken = λ swap. refl; stored = λ c slot. refl }
+
+evict-quiet : (start : List ℕ) (past : List Mark) (a : ℕ) → IsQuietMark start past (Evict a)
+evict-quiet start past a = record { calls = λ w. refl; map = λ first. refl; on = refl; taken = λ swap. refl; stored = λ c slot. refl }
+
+-- the words after an act
+act-words : (start : List ℕ) (past : List Mark) (made : Act) → words_after_marks start (mark_of 0 made ∷ past) ≡ after_act (words_after_marks start past) made
+act-words start past (act.Load a v) = refl
+act-words start past (act.Store a v) = refl
+act-words start past (act.Cas a old new found) = refl
+act-words start past (act.Flush line) = refl
+
+-- the durable words before and after such a mark, which hold the same
+record Keeps (c : Config) (old new : SwapMemory) (log : Log) (mark : Mark) : Type 0 where
+  quiet : IsQuietMark log.start log.past mark
+  before : words_of old ≡ words_after_marks log.start log.past
+  after : words_of new ≡ words_after_marks log.start (mark ∷ log.past)
+  same : SaysTheSame c (slice_index old.durable) (slice_index new.durable)
+
+still-decodes : (c : Config) (old new : SwapMemory) (log : Log) (mark : Mark) → Keeps c old new log mark → StillDecodes c log mark
+still-decodes c old new log mark k d = record {
+  well_formed = subst (λ (w : Words). image_fault c (slice_index w.durable) ≡ None) k.after k.same.well_formed;
+  content = λ key.
+      ap (λ (w : Words). content_in c (slice_index w.durable) key) (sym k.after)
+      ∙ (k.same.content key
+      ∙ (ap (λ (w : Words). content_in c (slice_index w.durable) key) k.before
+      ∙ (d.content key ∙ ap (λ m. get m key) (sym (k.quiet.map (map_at_start c log.start))))));
+}
+
+marked : (c : Config) (v : ℕ → ℕ) (old new : SwapMemory) (log : Log) (mark : Mark) (turn next : Turn) (t : Recover) → IsRecoveringIn c v old log turn t → Keeps c old new log mark → IsRecovering c v new next t
+    → IsRecoveringIn c v new (with_mark log mark) next t
+marked c v old new log mark turn next t r k recovering = record {
+  recovering = recovering;
+  words = k.after;
+  calls = λ w. k.quiet.calls w ∙ r.calls w;
+  same = subst (λ x. SaysTheSame c x (slice_index new.durable)) (sym k.quiet.on) (says-as c (image_at_on log.start log.past) (slice_index old.durable) (slice_index new.durable) r.same k.same);
+  untaken = λ swap. k.quiet.taken swap ∙ r.untaken swap;
+  unstored = λ slot. k.quiet.stored c slot ∙ r.unstored slot;
+}
+
+pub cuts-marked : CutsLeaveTheImage → CutsAreMarked
+cuts-marked law = record {
+  living = λ c m log story l workers. record {
+    off = law.seen c (story.at (length log.past)) m l.seen workers;
+    words = ap words_after_cut l.words;
+    calls = λ w. refl;
+  };
+  recovering = λ c v m log turn t r. record {
+    off = law.recovering c v m turn t r.recovering;
+    words = ap words_after_cut r.words;
+    calls = λ w. refl;
+  };
+}
+
+pub images-open : ImagesAreOff → ImagesOpenJournals
+images-open law c m image limits config size none is = record { off = law c m image config size none is; words = ap words_of is.is; calls = λ w. refl }
+
+pub on-marked : RecoveriesBegin → PowerOnIsMarked
+on-marked law c v m log t off is-new = record {
+  recovering = (law c v m t off.off is-new).recovering;
+  words = off.words;
+  calls = off.calls;
+  same = subst (λ (w : Words). SaysTheSame c (slice_index w.durable) (slice_index m.durable)) off.words (record { well_formed = off.off.memory.form; inside = λ k. refl; content = λ key. refl });
+  untaken = λ swap. refl;
+  unstored = λ slot. refl;
+}
+
+pub turns : TurnsMakeNoMark
+turns c v m n log turn next t u r words recovering = record {
+  recovering = recovering;
+  words = words ∙ r.words;
+  calls = r.calls;
+  same = subst (λ (w : Words). SaysTheSame c (image_at_on log.start log.past) (slice_index w.durable)) (sym words) r.same;
+  untaken = r.untaken;
+  unstored = r.unstored;
+}
+
+pub acts-marked : ActsRecover → ActsAreMarked
+acts-marked law c v old new log t made answer told r s =
+    let raw : IsRawStep old 0 made answer told new = subst (λ p. StepsIn p old 0 made answer told new) r.recovering.phase s in
+    let done : Recovers c v old new t made answer told = law c v old new t made answer told r.recovering s in
+    let k : Keeps c old new log (mark_of 0 made) = record {
+      quiet = act-quiet log.start log.past made;
+      before = r.words;
+      after = raw.one.act.after ∙ (ap (λ w. after_act w made) r.words ∙ sym (act-words log.start log.past made));
+      same = done.same;
+    } in
+    record {
+      recovers = done;
+      marked = marked c v old new log (mark_of 0 made) _ Made t r k done.recovering;
+      decodes = still-decodes c old new log (mark_of 0 made) k;
+    }
+
+pub evictions-marked : EvictionsLeaveRecoveries → EvictionsAreMarked
+evictions-marked law c v old new log turn t a told r within h =
+    let stays : StaysRecovering c v old new turn t told = law c v old new turn t a told r.recovering within h in
+    let words : words_of new ≡ evicted (words_of old) a = ap words_of h.is in
+    let k : Keeps c old new log (Evict a) = record {
+      quiet = evict-quiet log.start log.past a;
+      before = r.words;
+      after = words ∙ ap (λ w. evicted w a) r.words;
+      same = stays.same;
+    } in
+    record {
+      stays = stays;
+      marked = marked c v old new log (Evict a) turn turn t r k stays.recovering;
+      decodes = still-decodes c old new log (Evict a) k;
+    }
+
+-- no call is open where a life begins
+none-open : (past : List Mark) (w : ℕ) (opened : Open) → open_call w past ≡ None → open_call w past ≡ Some opened → ⊥
+none-open past w opened none some = let bad : None ≡ Some opened = sym none ∙ some in absurd cc
+
+-- the image of the moment where it begins
+first-image : (start : List ℕ) (past : List Mark) (m : SwapMemory) → words_of m ≡ words_after_marks start past → (i : ℕ) → suc (length past) ≤ i → i ≤ suc (length past) → slice_index m.durable ≡ image_at start i (Ready ∷ past)
+first-image start past m words i from to =
+    let now : i ≡ length (Ready ∷ past) = omega (arith, from, to) in
+    ap (λ (w : Words). slice_index w.durable) words ∙ sym (ap (λ k. image_at start k (Ready ∷ past)) now ∙ ap (image_after start) (at_moment-now (Ready ∷ past)))
+
+lives : (c : Config) (v : ℕ → ℕ) (m : SwapMemory) (log : Log) (t : Recover) → IsRecoveringIn c v m log Asked t → IsSeen c (renewed m) (renewed_instant c m) → IsLiving c (renewed m) (with_mark log Ready) (renewed_story c m log)
+lives c v m log t r seen = record {
+  from = omega arith;
+  begins = λ w opened is. absurd (none-open log.past w opened (r.calls w) is);
+  seen = seen;
+  history = record { good = λ i from to. seen.good; step = λ i from to. absurd (omega (arith, from, to)) };
+  words = r.words;
+  images = first-image log.start log.past m r.words;
+  effects = omega arith;
+  reserved = λ w a e. absurd (true≢false (sym e));
+  apart = λ w u a e f. absurd (true≢false (sym e));
+  took = λ w k e. absurd (true≢false (sym e));
+  took_apart = λ w u k e f. absurd (true≢false (sym e));
+  came = λ k e. inl (ap (λ b. nat_lt k c.nodes && b) (sym (r.same.inside k)) ∙ e);
+  stored = λ w k e. absurd (true≢false (sym e));
+}
+
+pub gives-life : RecoveriesRevive → RecoveriesGiveLife
+gives-life law c v m log t r e =
+    let revived : IsRevived c m = law c v m t r.recovering e in
+    record { revived = revived; untaken = r.untaken; unstored = r.unstored; living = λ holds. lives c v m log t r (revived.seen holds) }
