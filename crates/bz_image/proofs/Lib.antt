@@ -1,0 +1,6 @@
+pub mod WordLemmas
+pub mod HeadLemmas
+pub mod ImageLemmas
+pub mod FaultLemmas
+pub mod FileLemmas
+pub mod Pieces

@@ -1,0 +1,5 @@
+pub mod Form
+pub mod Texts
+pub mod Reads
+pub mod Faults
+pub mod Laws

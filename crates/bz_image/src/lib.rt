@@ -1,0 +1,19 @@
+//! Image files: the words of a memory as bytes, and back.
+#![tactic(auto)]
+
+mod fault;
+mod form;
+mod image;
+pub mod laws;
+mod read;
+#[cfg(test)]
+mod tests;
+mod word_list;
+mod write;
+
+pub use fault::ImageFault;
+pub use form::{HEAD_BYTES, VERSION, WORD_BYTES, image_bytes};
+pub use image::{Head, Image};
+pub use read::{read_front, read_head, read_image};
+pub use word_list::WordList;
+pub use write::write_image;
