@@ -7,16 +7,19 @@ use Rattle.bz_call.specs.declared.calls.Call.{Call}
 use Rattle.bz_mark.specs.Log.{count_begins, count_page_calls}
 use Rattle.bz_mark.specs.declared.marks.Mark.{Mark}
 use Rattle.bz_mark.specs.declared.marks.Mark.TheVariants as mark
+use Rattle.bz_sound.specs.declared.power.Power.TheVariants as power
 use Rattle.bz_sound.specs.Calls.{Open, open_call, begun_calls}
+use Rattle.bz_sound.specs.Power.Times.{power_of}
 use Rattle.bz_world.specs.Lab.{Lab, IsWorker, is_short, lacks_page, begin_answer, after_begin}
 use Rattle.bz_world.specs.declared.answers.Begun.{Begun as BeginAnswer}
-use Rattle.bz_world.specs.declared.answers.Begun.TheVariants.{Begun, NoWorker, Busy, Limit}
+use Rattle.bz_world.specs.declared.answers.Begun.TheVariants.{Begun, NoWorker, Busy, Off, Recovering, Limit}
 use Rattle.bz_world.specs.declared.answers.Which.{Which}
 use Rattle.bz_world.specs.declared.answers.Which.TheVariants as which
 use Rattle.bz_sched.specs.Points.{ready, GetsReady}
 use Rattle.bz_sched.specs.Queued.{Queued, calls_of, without_first, has_open, SetsOpen}
 use Rattle.bz_sched.specs.Runs.{point_of, IsReady, IsAtLimit, Keeps}
 use Rattle.bz_sched.specs.TurnsInPart.{StopsBy}
+use Rattle.bz_sched.proofs.PowerLemmas.{power_is_on}
 use Rattle.bz_sched.proofs.ReadyLemmas.{keeps_none, first_can_begin, others_can_begin, opens, marks_known, openers_known}
 
 -- the answer by its tests
@@ -59,6 +62,18 @@ never_busy false true paged n is = absurd (cc is)
 never_busy false false true n is = absurd (cc is)
 never_busy false false false n is = absurd (cc is)
 
+never_off : (short full paged : Bool) (n : ℕ) → Off ≡ by_begin false short false full paged n → ⊥
+never_off true full paged n is = absurd (cc is)
+never_off false true paged n is = absurd (cc is)
+never_off false false true n is = absurd (cc is)
+never_off false false false n is = absurd (cc is)
+
+never_recovering : (short full paged : Bool) (n : ℕ) → Recovering ≡ by_begin false short false full paged n → ⊥
+never_recovering true full paged n is = absurd (cc is)
+never_recovering false true paged n is = absurd (cc is)
+never_recovering false false true n is = absurd (cc is)
+never_recovering false false false n is = absurd (cc is)
+
 both_true : (a b : Bool) → (a && b) ≡ true → (a ≡ true) × (b ≡ true)
 both_true true b h = (refl, h)
 both_true false b h = absurd (cc h)
@@ -68,7 +83,8 @@ answer_is : (lab : Lab) (queued : Queued) (w : ℕ) (call : Call) → IsReady la
 answer_is lab queued w call ready worker closed =
     let in_range : ((w == 0) || nat_lt lab.config.workers w) ≡ false = grind (arith, nat_tests, worker.some, worker.in_range) in
     let free : is_some (open_call w lab.log.past) ≡ false = sym (ready.begun w) ∙ closed in
-    rw (in_range, free) refl
+    let on : power_of power.On lab.log.past ≡ power.On = power_is_on lab.log.past ready.unbroken in
+    rw (in_range, on, free) refl
 
 -- a worker's call that waits, none of its calls open
 pub record Waits (lab : Lab) (queued : Queued) (w : ℕ) (call : Call) : Type 0 where
@@ -88,6 +104,12 @@ no_stranger lab queued w call h is = never_stranger _ _ _ _ (is ∙ answered lab
 
 pub not_busy : (lab : Lab) (queued : Queued) (w : ℕ) (call : Call) → Waits lab queued w call → Busy ≡ begin_answer lab w call → ⊥
 not_busy lab queued w call h is = never_busy _ _ _ _ (is ∙ answered lab queued w call h)
+
+pub not_off : (lab : Lab) (queued : Queued) (w : ℕ) (call : Call) → Waits lab queued w call → Off ≡ begin_answer lab w call → ⊥
+not_off lab queued w call h is = never_off _ _ _ _ (is ∙ answered lab queued w call h)
+
+pub not_recovering : (lab : Lab) (queued : Queued) (w : ℕ) (call : Call) → Waits lab queued w call → Recovering ≡ begin_answer lab w call → ⊥
+not_recovering lab queued w call h is = never_recovering _ _ _ _ (is ∙ answered lab queued w call h)
 
 none_is : (opened : Option Open) → is_some opened ≡ false → opened ≡ None
 none_is None is = refl
@@ -127,6 +149,7 @@ begun_ready lab queued w n call left h calls begun = record {
   calls = rw calls (others_can_begin lab.config queued.calls w h.ready.calls);
   begun = marks_known queued left (λ v. open_call v lab.log.past) (λ v. open_call v (mark.Begin w n call ∷ lab.log.past)) w true h.ready.begun begun (λ v. begun_opens lab.log.past w v n call);
   openers = openers_known lab.config queued left w true (waits_worker lab queued w call h) h.ready.openers begun;
+  unbroken = (tt, h.ready.unbroken);
 }
 
 begun_point : (lab : Lab) (queued : Queued) (w n : ℕ) (call : Call) (left : Queued) → Waits lab queued w call → Begun n ≡ begin_answer lab w call → left.calls ≡ without_first w queued.calls

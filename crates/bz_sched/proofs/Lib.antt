@@ -1,3 +1,4 @@
+mod PowerLemmas
 pub mod LookLemmas
 pub mod FirstLemmas
 pub mod QueueLemmas

@@ -1,5 +1,5 @@
 -- Steps of a worker's open call.
-use Rattle.std.proofs.Common.{◌≡◌, ◌<◌, ◌⊎◌, inl, inr, ℕ, Bool, true, false, List, [], ◌∷◌, ◌++◌, length, refl, sym, ap, ◌∙◌, arith, Option, Some, None, ◌==◌, nat_lt}
+use Rattle.std.proofs.Common.{◌≡◌, ◌<◌, ◌⊎◌, inl, inr, ℕ, Bool, true, false, List, [], ◌∷◌, ◌++◌, length, refl, sym, ap, subst, ◌∙◌, arith, Option, Some, None, ◌==◌, nat_lt}
 use Rattle.std.specs.Prelude.{is_none, is_some, if◌then◌else◌, MatchOption}
 use Rattle.std.proofs.lemmas.Bool.Decides.{nat_tests}
 use Rattle.std.proofs.lemmas.List.{length-append}
@@ -9,8 +9,11 @@ use Rattle.bz_call.specs.declared.replies.Reply.{Reply}
 use Rattle.bz_mark.specs.Log.{Log}
 use Rattle.bz_mark.specs.declared.marks.Mark.{Mark}
 use Rattle.bz_mark.specs.declared.marks.Mark.TheVariants as mark
+use Rattle.bz_sound.specs.declared.power.Power.TheVariants as power
 use Rattle.bz_sound.specs.Calls.{Open, open_call}
-use Rattle.bz_world.specs.Lab.{Lab, is_short, step_refusal, mark_of, IsStruck, Steps, IsApplied}
+use Rattle.bz_sound.specs.Power.Laws.{IsUnbroken}
+use Rattle.bz_sound.specs.Power.Times.{power_of}
+use Rattle.bz_world.specs.Lab.{Lab, is_short, step_refusal, mark_of, IsStruck, GoesOn, Steps, IsApplied}
 use Rattle.bz_world.specs.declared.answers.Applied.{Applied}
 use Rattle.bz_world.specs.declared.answers.Applied.TheVariants as applied
 use Rattle.bz_world.specs.declared.answers.Event.TheVariants as event
@@ -19,6 +22,7 @@ use Rattle.bz_sched.specs.Points.{actor, IsUpToOneEffect, IsStep, TakesStep}
 use Rattle.bz_sched.specs.Queued.{Queued, has_open, SetsOpen}
 use Rattle.bz_sched.specs.Runs.{point_of, IsReady, IsAtLimit, Keeps}
 use Rattle.bz_sched.specs.TurnsInPart.{StopsEvent}
+use Rattle.bz_sched.proofs.PowerLemmas.{power_is_on, act_leaves, struck_unbroken}
 use Rattle.bz_sched.proofs.ReadyLemmas.{keeps_none, ends, changes_no, marks_known, openers_known}
 
 -- an act, and what follows it at once
@@ -62,7 +66,8 @@ refusal_is lab queued w ready is =
     let worker = ready.openers w is in
     let in_range : nat_lt lab.config.workers w ≡ false = grind (arith, nat_tests, worker.in_range) in
     let busy : is_none (open_call w lab.log.past) ≡ false = none_not_some (open_call w lab.log.past) (sym (ready.begun w) ∙ is) in
-    rw (in_range, busy) refl
+    let on : power_of power.On lab.log.past ≡ power.On = power_is_on lab.log.past ready.unbroken in
+    rw (in_range, on, busy) refl
 
 -- the answer is one of two
 pub record Goes (old : Lab) (w : ℕ) (answer : Applied) (new : Lab) : Type 0 where
@@ -82,7 +87,13 @@ step_cases false old w answer new is h = inr (record { room = is; steps = h })
 
 pub stepped : (old : Lab) (queued : Queued) (w : ℕ) (answer : Applied) (new : Lab) → IsReady old queued → has_open queued w ≡ true → IsApplied old (event.Step w) answer new
     → Refused old answer new ⊎ Goes old w answer new
-stepped old queued w answer new ready is h = step_cases (is_short old.log) old w answer new refl (rw (refusal_is old queued w ready is) at h)
+stepped old queued w answer new ready is h = step_cases (is_short old.log) old w answer new refl (rw (refusal_is old queued w ready is, power_is_on old.log.past ready.unbroken) at h)
+
+-- nothing else is answered
+pub step_answers : (answer : Applied) (log new : Log) (w : ℕ) → GoesOn log w answer new → (answer ≡ applied.Stepped → ⊥) → ((n : ℕ) → answer ≡ applied.Ended n → ⊥) → ⊥
+step_answers applied.Stepped log new w g s e = s refl
+step_answers (applied.Ended n) log new w g s e = e n refl
+step_answers other log new w g s e = absurd g
 
 -- a limit
 pub refused_stops : (old : Lab) (queued : Queued) (answer : Applied) (new : Lab) → IsReady old queued → Refused old answer new
@@ -106,6 +117,7 @@ on_ready old queued w new ready s = record {
   calls = rw s.config ready.calls;
   begun = λ v. ready.begun v ∙ sym (ap (λ (log : Log). is_some (open_call v log.past)) s.ends ∙ (struck_is (mark_of w s.made) old.log.past s.struck s.effect).opens v ∙ ap is_some (act_opens s.made w v old.log.past));
   openers = rw s.config ready.openers;
+  unbroken = subst IsUnbroken (sym (ap (λ (log : Log). log.past) s.ends)) (struck_unbroken (mark_of w s.made) old.log.past s.struck s.effect (act_leaves s.made w old.log.past) ready.unbroken);
 }
 
 pub step_goes_on : (old : Lab) (queued : Queued) (w : ℕ) (new : Lab) → IsReady old queued → Goes old w applied.Stepped new
@@ -150,6 +162,7 @@ ended_ready old queued w n new left ready is s calls marks = record {
   calls = rw (s.config, calls) ready.calls;
   begun = marks_known queued left (λ v. open_call v old.log.past) (λ v. open_call v new.log.past) w false ready.begun marks (ended_opens old w n new s);
   openers = rw s.config (openers_known old.config queued left w false (ready.openers w is) ready.openers marks);
+  unbroken = subst IsUnbroken (sym (ap (λ (log : Log). log.past) s.ends.is)) (tt, struck_unbroken (mark_of w s.made) old.log.past s.struck s.effect (act_leaves s.made w old.log.past) ready.unbroken);
 }
 
 pub step_ends : (old : Lab) (queued : Queued) (w n : ℕ) (new : Lab) (left : Queued) → IsReady old queued → has_open queued w ≡ true → Goes old w (applied.Ended n) new

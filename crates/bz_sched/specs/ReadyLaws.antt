@@ -14,6 +14,7 @@ ready_at_first world queued config new empty closed = record {
   calls = rw empty tt;
   begun = λ w. rw new (closed w);
   openers = λ w is. let opposed : false ≡ true = sym (closed w) ∙ is in absurd (cc opposed);
+  unbroken = rw new tt;
 }
 
 one_more : (config : Config) (calls : List (ℕ × Call)) (w : ℕ) (call : Call) → CanBegin config calls → IsWorker config w → CanBegin config (calls ++ (w, call) ∷ [])
@@ -27,4 +28,5 @@ ready_when_queued world old new w call ready worker calls begun = record {
   calls = rw calls (one_more world.config old.calls w call ready.calls worker);
   begun = λ v. rw begun (ready.begun v);
   openers = λ v is. ready.openers v (rw (← begun) is);
+  unbroken = ready.unbroken;
 }

@@ -7,6 +7,7 @@ use Rattle.bz_layout.specs.declared.config.Config.{Config}
 use Rattle.bz_mark.specs.Log.{count_begins, count_page_calls}
 use Rattle.bz_script.specs.declared.item.Plan.{Plan}
 use Rattle.bz_sound.specs.Calls.{open_call}
+use Rattle.bz_sound.specs.Power.Laws.{IsUnbroken}
 use Rattle.bz_world.specs.Lab.{Lab, IsWorker}
 use Rattle.bz_world.specs.declared.answers.Which.{Which}
 use Rattle.bz_world.specs.declared.answers.Which.TheVariants as which
@@ -26,12 +27,13 @@ CanBegin config [] = Unit {0}
 CanBegin config (call ∷ calls) = IsWorker config call.0 × CanBegin config calls
 
 -- a run may begin: the world has the workers of the calls that wait, and the queue knows which calls are open. Some may
--- be, from an earlier run by a list.
+-- be, from an earlier run by a list. The power has not failed.
 pub record IsReady (world : Lab) (queued : Queued) : Type 0 where
   pub config : IsConfig world.config
   pub calls : CanBegin world.config queued.calls
   pub begun : (w : ℕ) → has_open queued w ≡ is_some (open_call w world.log.past)
   pub openers : (w : ℕ) → has_open queued w ≡ true → IsWorker world.config w
+  pub unbroken : IsUnbroken world.log.past
 
 -- how many places are left for marks
 abbrev pub marks_left : Lab → ℕ

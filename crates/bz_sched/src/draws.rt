@@ -4,6 +4,7 @@ ghost use Rattle.arrayvec.specs.ArrayVec.{array_vec_len};
 ghost use Rattle.bz_layout.specs.Addresses.{words_of};
 ghost use Rattle.bz_layout.specs.Config.{IsConfig};
 ghost use Rattle.bz_script.specs.Draws.{next_state};
+ghost use Rattle.bz_sound.specs.Power.Laws.{IsUnbroken};
 ghost use Rattle.bz_sched.specs.Points.{IsTurn};
 ghost use Rattle.bz_sched.specs.Queued.{Queued, has_work};
 ghost use Rattle.bz_sched.specs.Runs.{point_of, marks_left, IsReady, EndsBy};
@@ -35,6 +36,7 @@ fn list_busy(queue: &Queue) -> ArrayVec<u8, 64>
 fn evict(world: &mut World, a: u32) -> RunEnd
     requires config { IsConfig world.old.config }
     requires in_range { a < words_of world.old.config }
+    requires unbroken { IsUnbroken world.old.log.past }
     ensures ends { (queue : Queued) → IsReady world.old queue → EndsBy (IsEviction a) StopsEvent world.old queue result world.new queue }
     ensures left { result ≡ Finished → marks_left world.new < marks_left world.old }
 {

@@ -28,7 +28,7 @@ fn begin_next(world: &mut World, queue: &mut Queue, w: u8) -> RunEnd
                 RunEnd::Finished
             }
             Begun::Limit(which) => RunEnd::Limit(which),
-            Begun::NoWorker | Begun::Busy => unreachable!(),
+            Begun::NoWorker | Begun::Busy | Begun::Off | Begun::Recovering => unreachable!(),
         },
         None => unreachable!(),
     }

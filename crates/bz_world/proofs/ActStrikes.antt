@@ -12,12 +12,13 @@ use Rattle.bz_swap.specs.Steps.{doing_after}
 use Rattle.bz_swap.specs.SwapMemory.{doing_of}
 use Rattle.bz_swap.specs.TakenStatuses.{TakenStatusesStay, BegunStayTaken}
 use Rattle.bz_world.specs.Inside.Acted.{IsActed, IsStriking}
-use Rattle.bz_world.specs.Inside.Kept.{IsKept}
+use Rattle.bz_world.specs.Inside.Kept.{IsAwake}
 use Rattle.bz_world.specs.Lab.{mark_of}
 use Rattle.bz_world.specs.declared.parts.Parts.{Parts}
 use Rattle.bz_world.specs.declared.serving.Serving.{Serving}
 use Rattle.bz_world.proofs.Owners.{pending-begun}
 use Rattle.bz_world.proofs.Marking.{act-marked, act-follows}
+use Rattle.bz_world.proofs.Powered.{may-act}
 use Rattle.bz_world.proofs.Quiet.{some-worker, call-is-open}
 use Rattle.bz_world.proofs.Stepped.{act-tabled, act-taken, held}
 
@@ -25,7 +26,7 @@ busy-by : (done : Done) (s : ℕ) → (done ≡ Busy) ⊎ (Some s ≡ None) → 
 busy-by done s (inl e) = e
 busy-by done s (inr e) = absurd (cc)
 
-pub act-strikes : EffectStepsTakePlace → EffectsStayInside → TakenStatusesStay → BegunStayTaken → (old new : Parts) (w s : ℕ) (x : Serving) (made : Act) (done : Done) → IsKept old → get_or old.workers.items w None ≡ Some x → IsActed old w made done (Some s) new
+pub act-strikes : EffectStepsTakePlace → EffectsStayInside → TakenStatusesStay → BegunStayTaken → (old new : Parts) (w s : ℕ) (x : Serving) (made : Act) (done : Done) → IsAwake old → get_or old.workers.items w None ≡ Some x → IsActed old w made done (Some s) new
     → length old.journal.past < old.config.marks → IsStriking new s
 act-strikes place inside taken begun old new w s x made done k is-worker a room = record {
   before = old;
@@ -37,7 +38,7 @@ act-strikes place inside taken begun old new w s x made done k is-worker a room 
   taken = act-taken taken begun old new w made done (Some s) k.taken (held old.access k.living.seen.phase k.living.seen.holds) k.living.seen.swaps a (some-worker old k w x is-worker) (pending-begun old k);
   marked = act-marked w old.access new.access old.journal made k.living.words a.step.one.act;
   flush = subst (λ (z : Act). IsAfterFlush (mark_of w z ∷ old.journal.past)) (sym (inside.step old.access new.access w made done s (held old.access k.living.seen.phase k.living.seen.holds).memory a.step).act) tt;
-  follows = act-follows (map_at_start old.config old.journal.start) old.journal.past w made (call-is-open old k w x is-worker);
+  follows = act-follows (map_at_start old.config old.journal.start) old.journal.past w made (may-act old.journal.past w (some-worker old k w x is-worker) (call-is-open old k w x is-worker));
   rest = a.rest;
 }
   where

@@ -10,7 +10,7 @@ use Rattle.bz_task.specs.declared.todo.Seen.{Seen}
 use Rattle.bz_task.specs.declared.todo.Todo.{Todo}
 use Rattle.bz_task.specs.declared.todo.Todo.TheVariants as todo
 use Rattle.bz_world.specs.Inside.Acted.{IsActed, IsTold, MustTell, HasActed}
-use Rattle.bz_world.specs.Inside.Kept.{IsKept}
+use Rattle.bz_world.specs.Inside.Kept.{IsAwake}
 use Rattle.bz_world.specs.Lab.{IsStruck}
 use Rattle.bz_world.specs.Inside.Laws.{StepLaws}
 use Rattle.bz_world.specs.Inside.Serving.{IsServing, IsDoing, IsSlot}
@@ -24,11 +24,11 @@ pub record IsServed (p : Parts) (w : ℕ) (slot : Option Serving) : Type 0 where
   pub serving : Serving
   pub is : slot ≡ Some serving
 
-served-by : (p : Parts) (k : IsKept p) (w : ℕ) (slot : Option Serving) → IsSlot p.config p.access p.journal k.story p.owners.items w slot → open_call w p.journal.past ≢ None → IsServed p w slot
+served-by : (p : Parts) (k : IsAwake p) (w : ℕ) (slot : Option Serving) → IsSlot p.config p.access p.journal k.story p.owners.items w slot → open_call w p.journal.past ≢ None → IsServed p w slot
 served-by p k w None h open_is = absurd (open_is h.none_open)
 served-by p k w (Some x) h open_is = record { serving = x; is = refl }
 
-pub is-served : (p : Parts) (k : IsKept p) (w : ℕ) → open_call w p.journal.past ≢ None → IsServed p w (get_or p.workers.items w None)
+pub is-served : (p : Parts) (k : IsAwake p) (w : ℕ) → open_call w p.journal.past ≢ None → IsServed p w (get_or p.workers.items w None)
 is-served p k w open_is = served-by p k w (get_or p.workers.items w None) (k.workers w) open_is
 
 -- so it does something
@@ -40,11 +40,11 @@ does-asked m owners w (todo.Flush line) d = λ e. absurd (cc (d.0, e))
 does-asked m owners w (todo.Swap entries) d = λ e. absurd (cc (d.doing, e))
 does-asked m owners w todo.Finish d = absurd d
 
-pub is-busy : (p : Parts) (k : IsKept p) (w : ℕ) → open_call w p.journal.past ≢ None → doing_of p.access w ≢ Idle
+pub is-busy : (p : Parts) (k : IsAwake p) (w : ℕ) → open_call w p.journal.past ≢ None → doing_of p.access w ≢ Idle
 is-busy p k w open_is = let s = is-served p k w open_is in let h : IsServing p.config p.access p.journal k.story p.owners.items w s.serving = serves p k w s.serving s.is in does-asked p.access p.owners.items w h.asked h.doing
 
 -- an act without effect
-module _ (b : StepLaws) (old new : Parts) (w : ℕ) (made : Act) (answer : Done) (k : IsKept old) (open_is : open_call w old.journal.past ≢ None) (a : IsActed old w made answer None new) (room : length old.journal.past + 1 < old.config.marks) where
+module _ (b : StepLaws) (old new : Parts) (w : ℕ) (made : Act) (answer : Done) (k : IsAwake old) (open_is : open_call w old.journal.past ≢ None) (a : IsActed old w made answer None new) (room : length old.journal.past + 1 < old.config.marks) where
   pub went-on : (z : Done) → answer ≡ z → Went new w (is-served old k w open_is).serving z
   went-on z e = subst (Went new w (is-served old k w open_is).serving) e (went b old new w (is-served old k w open_is).serving made answer k (is-served old k w open_is).is a (omega (arith, room)))
 

@@ -37,13 +37,14 @@ use Rattle.bz_task.specs.declared.todo.Seen.{Seen}
 use Rattle.bz_task.specs.declared.todo.Seen.TheVariants as seen
 use Rattle.bz_task.specs.declared.todo.Todo.TheVariants as todo
 use Rattle.bz_world.specs.Inside.Acted.{IsActed, IsTold}
-use Rattle.bz_world.specs.Inside.Kept.{IsKept}
+use Rattle.bz_world.specs.Inside.Kept.{IsAwake}
 use Rattle.bz_world.specs.Lab.{mark_of}
 use Rattle.bz_world.specs.Inside.Serving.{IsServing, IsSlot, stage_in}
 use Rattle.bz_world.specs.declared.parts.Parts.{Parts}
 use Rattle.bz_world.specs.declared.serving.Serving.{Serving}
 use Rattle.bz_world.specs.Inside.Laws.{StepLaws}
-use Rattle.bz_story.proofs.Storing.{stored-on}
+use Rattle.bz_story.proofs.Powered.{stored-since}
+use Rattle.bz_world.proofs.Powered.{begun-in, leaves-power}
 use Rattle.bz_world.proofs.Staying.{SameFor}
 use Rattle.bz_world.proofs.Quiet.{serves, sees, askable, goes, same-other, same-own, stays, goes-on, answered}
 
@@ -61,7 +62,7 @@ now-is : (at : ℕ → Instant) (n : ℕ) (y : Instant) → and_then at n y (suc
 now-is at n y = let t : (suc n == suc n) ≡ true = grind (arith, nat_tests) in rw t refl
 
 -- an act that is no private store
-module _ (b : StepLaws) (old new : Parts) (w : ℕ) (x : Serving) (made : Act) (answer : Done) (k : IsKept old) (is-worker : get_or old.workers.items w None ≡ Some x) (a : IsActed old w made answer None new) (room : length old.journal.past < old.config.marks)
+module _ (b : StepLaws) (old new : Parts) (w : ℕ) (x : Serving) (made : Act) (answer : Done) (k : IsAwake old) (is-worker : get_or old.workers.items w None ≡ Some x) (a : IsActed old w made answer None new) (room : length old.journal.past < old.config.marks)
     (no-store : (d u : ℕ) → doing_of old.access w ≢ Storing d u) where
   abbrev pub after : Story
   after = goes_on old.journal k.story new.access k.story.filled
@@ -80,30 +81,30 @@ module _ (b : StepLaws) (old new : Parts) (w : ℕ) (x : Serving) (made : Act) (
 
   pub living : IsLiving old.config new.access (with_mark old.journal (mark_of w made)) after
   living = b.lives old.config old.access new.access old.journal k.story (mark_of w made) k.story.filled (goes b old new w x made answer k is-worker a)
-      (λ v j f. stored-on old.config old.journal.past (mark_of w made) j (k.living.stored v j f))
+      (λ v j f. stored-since old.config old.journal.past (mark_of w made) j (leaves-power w old.journal.past made) (k.living.stored v j f))
 
-  pub lawful : (v : ℕ) (opened : Open) → HasBegun old.journal opened → IsLawful (scene old.config old.journal.past k.story v opened) (scene old.config (mark_of w made ∷ old.journal.past) after v opened)
+  pub lawful : (v : ℕ) (opened : Open) → HasBegun old.journal k.story opened → IsLawful (scene old.config old.journal.past k.story v opened) (scene old.config (mark_of w made ∷ old.journal.past) after v opened)
   lawful v opened begun = b.quiet old.config old.access new.access old.journal k.story (mark_of w made) v opened (goes b old new w x made answer k is-worker a) all-stay begun
 
   pub slots : (v : ℕ) → SameFor old.access new.access v → IsSlot old.config new.access (with_mark old.journal (mark_of w made)) after old.owners.items v (get_or old.workers.items v None)
-  slots v same = stays b old new w x made answer k is-worker a after v living same (lawful v) (λ j. refl) (λ j h. h)
+  slots v same = stays b old new w x made answer k is-worker a after v living refl same (lawful v) (λ j. refl) (λ j h. h)
 
   pub others : (v : ℕ) → v ≢ w → IsSlot old.config new.access (with_mark old.journal (mark_of w made)) after old.owners.items v (get_or old.workers.items v None)
   others v ne = slots v (same-other b old new w x made answer k is-worker a v ne)
 
   -- it goes on
-  pub busy-on : answer ≡ done.Busy → IsKept new
+  pub busy-on : answer ≡ done.Busy → IsAwake new
   busy-on e = goes-on b old new w x made answer k is-worker a after room living k.free (λ v. elim (cases_eq v w) [
     | inl same ↦ slots v (subst (SameFor old.access new.access) (sym same) (same-own b old new w x made answer k is-worker a e))
     | inr ne ↦ others v ne
   ])
 
   pub later-seen : Sees old.config (after.at (suc (length old.journal.past))) later
-  later-seen = b.scenes old.config new.access (with_mark old.journal (mark_of w made)) after w its.opened living (omega (arith, its.call_open.begun))
+  later-seen = b.scenes old.config new.access (with_mark old.journal (mark_of w made)) after w its.opened living (let h : HasBegun old.journal k.story its.opened = begun-in k.living its.call_open in record { from = h.from; before = omega (arith, h.before) })
 
   -- what it knows stays
   pub knows : facts_of x.task (stage_in old.access (doing_of old.access w)) later
-  knows = its.tasked.laws.stable (stage_in old.access (doing_of old.access w)) before later (sym its.tasked.config) its.facts later-seen.scene (lawful w its.opened its.call_open.begun)
+  knows = its.tasked.laws.stable (stage_in old.access (doing_of old.access w)) before later (sym its.tasked.config) its.facts later-seen.scene (lawful w its.opened (begun-in k.living its.call_open))
 
   -- and it is to be told
   pub be-told : (stage : Stage) (what : Seen) → answer ≢ done.Busy → facts_of x.task stage later → Hears (asks_of x.task) what → Tells (asks_of x.task) stage what later → IsTold new w x what
@@ -171,7 +172,7 @@ module _ (b : StepLaws) (old new : Parts) (w : ℕ) (x : Serving) (made : Act) (
     is-flushing = b.flushing old.config (k.story.at (length old.journal.past)) old.access new.access w made answer None line k.living.seen a.step flushes within
 
     flushed : Flushes line before later
-    flushed = b.flushes old.config old.access new.access old.journal k.story (mark_of w made) w line its.opened (goes b old new w x made answer k is-worker a) all-stay its.call_open.begun is-flushing.copies
+    flushed = b.flushes old.config old.access new.access old.journal k.story (mark_of w made) w line its.opened (goes b old new w x made answer k is-worker a) all-stay (begun-in k.living its.call_open) is-flushing.copies
 
     took : facts_of x.task Took later
     took = its.tasked.laws.flushed before later line (sym its.tasked.config) (subst (λ z. facts_of x.task z before) (ap (stage_in old.access) flushes) its.facts) (sees b old new w x made answer k is-worker a w x its).scene later-seen.scene (its.asks ∙ ap Some asked) flushed

@@ -14,9 +14,11 @@ use Rattle.bz_mark.specs.declared.marks.Mark.{Mark}
 use Rattle.bz_mark.specs.declared.marks.Mark.TheVariants.{Begin, End, Load, Store, Cas, Flush, Evict, Cut, On, Ready, Effect}
 use Rattle.bz_page.specs.Pages.{IsPageOf}
 use Rattle.bz_shape.specs.Order as order
-use Rattle.bz_sound.specs.Memory.ImageLaws.{ReadsAt, ImageAnswers}
+use Rattle.bz_sound.specs.Memory.ImageLaws.{ReadsAt, ImageAnswersBy}
 use Rattle.bz_sound.specs.Memory.Moments.{image_at, IsAfterLoad}
 use Rattle.bz_sound.specs.Memory.Replies.{is_below}
+use Rattle.bz_sound.specs.declared.power.Power.TheVariants as power
+use Rattle.bz_sound.specs.Power.Spent.{IsSpent}
 use Rattle.bz_story.specs.Story.{is_load_of, loaded}
 use Rattle.bz_task.specs.Good.{IsGood}
 use Rattle.bz_task.specs.Outcomes.{IsView}
@@ -31,6 +33,7 @@ use Rattle.bz_world.specs.declared.serving.Serving.{Serving}
 -- the page that is put together is nothing to the world
 abbrev pub between-pages : (p : Parts) (w : ℕ) (x : Serving) (pairs : List (List ℕ × List ℕ)) → IsBetween p w x → IsBetween (record p { page = pairs }) w x
 between-pages p w x pairs b = record {
+  on = b.on;
   story = b.story;
   tabled = let t = b.tabled in record {
     config = t.config;
@@ -47,6 +50,7 @@ between-pages p w x pairs b = record {
     page_calls = t.page_calls;
     few_page_calls = t.few_page_calls;
     steps = t.steps;
+    power = t.power;
   };
   taken = let t = b.taken in record { shown = t.shown; held = t.held; few = t.few; counted = t.counted; unused = t.unused };
   living = b.living;
@@ -107,11 +111,15 @@ module _ (b : AnswerLaws) (p : Parts) (w : ℕ) (view : LeafView) (m : MustAnswe
   pub views : IsView (key_of called) view past
   views = subst (λ k. IsView (key_of k) view past) is m.viewed
 
+  -- the view is of this life of the memory
+  since : was.story.from ≤ view.at
+  since = omega (arith, m.viewed.since, was.living.begins w was.opened was.call_open.is_open)
+
   pub good : IsGood p.config (past.at view.at)
-  good = was.living.history.good view.at (omega arith) m.viewed.now
+  good = was.living.history.good view.at since m.viewed.now
 
   pub image-is : (past.at view.at).image ≡ image_at p.journal.start view.at p.journal.past
-  image-is = was.living.images view.at m.viewed.now
+  image-is = was.living.images view.at since m.viewed.now
 
   pub reads : ReadsAt p.journal.past w was.opened view.at
   reads = record {
@@ -122,8 +130,8 @@ module _ (b : AnswerLaws) (p : Parts) (w : ℕ) (view : LeafView) (m : MustAnswe
     loaded = after-load w view.at p.journal.past m.viewed.now m.viewed.loads;
   }
 
-  answers : ImageAnswers p.config p.journal w was.opened view.at
-  answers = b.answers p.config p.journal w view.at was.opened was.sound reads
+  answers : ImageAnswersBy (IsSpent p.config p.journal.start p.journal.past w was.opened) p.config p.journal w was.opened view.at
+  answers = b.answers p.config power.On p.journal w view.at was.opened was.sound reads
 
   pub value-right : (key had : List ℕ) (pairs : List (List ℕ × List ℕ)) → called ≡ call.Get key → content_in p.config (past.at view.at).image key ≡ Some had → MustEnd (record p { page = pairs }) w (Value had) view.at
   value-right key had pairs e has = record { on = on-pages p w pairs m.on; right = answers.value key had (opened-is ∙ e) (ap (λ i. content_in p.config i key) (sym image-is) ∙ has) }
@@ -144,7 +152,7 @@ module _ (b : AnswerLaws) (p : Parts) (w : ℕ) (view : LeafView) (m : MustAnswe
   page-right from next pairs e page = record {
     on = on-pages p w pairs m.on;
     asks = ap is_page (is ∙ e);
-    right = b.pages p.config p.journal w view.at was.opened from next pairs was.sound reads (opened-is ∙ e) (record {
+    right = b.pages p.config power.On p.journal w view.at was.opened from next pairs was.sound reads (opened-is ∙ e) (record {
       leaf_end = page.next ∙ ap (λ i. leaf_end_in p.config i from) image-is;
       rises = page.rises;
       finds = λ key. page.finds key ∙ (ap (λ z. if is_from from key && z then content_in p.config (past.at view.at).image key else None) (same-below next key)

@@ -17,7 +17,8 @@ use Rattle.bz_running.specs.Hearing.{IsLookup}
 use Rattle.bz_running.specs.Laws.{AreLaws}
 use Rattle.bz_running.specs.declared.running.Running.{Running}
 use Rattle.bz_sound.specs.Calls.{Open, begun_calls}
-use Rattle.bz_sound.specs.Memory.Sound.{IsSound}
+use Rattle.bz_sound.specs.declared.power.Power.TheVariants as power
+use Rattle.bz_sound.specs.Power.Sound.{IsSound}
 use Rattle.bz_story.specs.Laws.{GoesOn, goes_on}
 use Rattle.bz_story.specs.Living.{IsLiving}
 use Rattle.bz_story.specs.Story.{Story, scene}
@@ -28,13 +29,14 @@ use Rattle.bz_task.specs.Scene.{Scene, HasFilled, Waiting}
 use Rattle.bz_task.specs.declared.todo.Todo.TheVariants.{Read}
 use Rattle.bz_world.specs.Inside.Acted.{IsBetween}
 use Rattle.bz_world.specs.Inside.Beginning.{MayBegin, HasBegun, pages_asked}
-use Rattle.bz_world.specs.Inside.Kept.{IsTabled, IsKept}
+use Rattle.bz_world.specs.Inside.Kept.{IsTabled, IsAwake}
 use Rattle.bz_world.specs.Inside.Laws.{EndLaws, StartLaws}
 use Rattle.bz_world.specs.Inside.Serving.{IsSlot, IsAtRest}
 use Rattle.bz_world.specs.Inside.Telling.{MustStart}
 use Rattle.bz_world.specs.declared.parts.Parts.{Parts}
 use Rattle.bz_world.specs.declared.serving.Serving.{Serving}
-use Rattle.bz_story.proofs.Storing.{stored-on}
+use Rattle.bz_story.proofs.Powered.{stored-since}
+use Rattle.bz_world.proofs.Powered.{is-on}
 use Rattle.bz_world.proofs.Staying.{none-unfilled, slot-stays}
 use Rattle.bz_world.proofs.Started.{read-kept}
 
@@ -57,7 +59,7 @@ few-calls w (On ∷ past) = few-calls w past
 few-calls w (Ready ∷ past) = few-calls w past
 few-calls w (Effect v n ∷ past) = few-calls w past
 
-module _ (p : Parts) (k : IsKept p) (w : ℕ) (call : Call) (may : MayBegin p w call) where
+module _ (p : Parts) (k : IsAwake p) (w : ℕ) (call : Call) (may : MayBegin p w call) where
   in-table : w < 65
   in-table = omega (arith, may.within, k.tabled.config.workers_in_range.at_most)
 
@@ -100,19 +102,21 @@ module _ (p : Parts) (k : IsKept p) (w : ℕ) (call : Call) (may : MayBegin p w 
         cached = λ a o n. inl refl;
       };
       marked = k.living.words;
+      powered = tt;
     }
 
     abbrev after : Story
     after = goes_on p.journal k.story p.access k.story.filled
 
     lives : IsLiving p.config p.access (with_mark p.journal mark) after
-    lives = b.lives p.config p.access p.access p.journal k.story mark k.story.filled no-act (λ v j f. stored-on p.config p.journal.past mark j (k.living.stored v j f))
+    lives = b.lives p.config p.access p.access p.journal k.story mark k.story.filled no-act (λ v j f. stored-since p.config p.journal.past mark j tt (k.living.stored v j f))
 
     slot-of : (v : ℕ) → v ≢ w → IsSlot p.config p.access (with_mark p.journal mark) after p.owners.items v (get_or workers.items v None)
     slot-of v ne = subst (IsSlot p.config p.access (with_mark p.journal mark) after p.owners.items v) (sym (get_or-set_other p.workers.items w v (Some fresh) None ne))
         (slot-stays b.scenes b.stay p.config p.access p.access p.journal mark k.story after p.owners.items v (get_or p.workers.items v None) lives (record {
           same = record { doing = refl; begun = refl; taken = refl; size = refl; effects = λ t d. refl };
           calls = (b.calls v p.journal.past).other_begin w n call (λ e. ne (sym e));
+          from = refl;
           lawful = λ o begins. b.quiet p.config p.access p.access p.journal k.story mark v o no-act (λ a out n. refl) begins;
           took = λ j. refl;
           filled = λ j e. e;
@@ -158,13 +162,15 @@ module _ (p : Parts) (k : IsKept p) (w : ℕ) (call : Call) (may : MayBegin p w 
       page_calls = page-count (is_page call) p.pages_begun (count_page_calls p.journal.past) t.page_calls;
       few_page_calls = may.pages;
       steps = omega (arith, t.steps);
+      power = t.power;
     }
 
-    sound : IsSound p.config (with_mark p.journal mark)
-    sound = b.begins p.config p.journal w n call k.sound (omega (arith, may.worker)) (record { numbered = numbered; none_open = at-rest.none_open })
+    sound : IsSound p.config power.On (with_mark p.journal mark)
+    sound = b.begins p.config power.On p.journal w n call k.sound (record { worker = omega (arith, may.worker); powered = is-on p k.tabled k.on; begins = record { numbered = numbered; none_open = at-rest.none_open } })
 
     between : IsBetween mid w fresh
     between = record {
+      on = k.on;
       story = after;
       tabled = tabled;
       taken = let t = k.taken in record { shown = t.shown; held = t.held; few = t.few; counted = t.counted; unused = t.unused };

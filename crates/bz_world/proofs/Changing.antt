@@ -1,5 +1,5 @@
 -- A call that makes its change, in the leaf that was read.
-use Rattle.std.proofs.Common.{◌≡◌, ℕ, ◌<◌, true, false, List, arith, refl, sym, ap, subst, ◌∙◌, inl, inr, Option, Some, None}
+use Rattle.std.proofs.Common.{◌≡◌, ℕ, ◌<◌, ◌≤◌, true, false, List, arith, refl, sym, ap, subst, ◌∙◌, inl, inr, Option, Some, None}
 use Rattle.std.specs.Prelude.{is_some}
 use Rattle.bz_call.specs.Map.{key_of}
 use Rattle.bz_call.specs.declared.calls.Call.{Call}
@@ -68,18 +68,22 @@ module _ (scenes : ScenesAreSeen) (b : AnswerLaws) (p : Parts) (w : ℕ) (view :
   viewed : IsViewed key view (known p w m.on).past
   viewed = b.views key view (known p w m.on) good-scene of-key
 
+  -- the view is of this life of the memory
+  since : m.on.between.story.from ≤ view.at
+  since = omega (arith, m.viewed.since, m.on.between.living.begins w m.on.between.opened m.on.between.call_open.is_open)
+
   -- the status of the key's leaf was the one that was viewed
   status-is : durable p.config (m.on.between.story.at view.at) view.slot STATUS_AT ≡ view.status
   status-is =
-      let g : IsGood p.config (m.on.between.story.at view.at) = m.on.between.living.history.good view.at (omega arith) m.viewed.now in
+      let g : IsGood p.config (m.on.between.story.at view.at) = m.on.between.living.history.good view.at since m.viewed.now in
       g.shown view.slot STATUS_AT (g.inside view.slot viewed.leaf.leaf.inside (λ e. absurd (omega (arith, e, viewed.leaf.leaf.slot)))) (inl (omega arith)) ∙ viewed.leaf.leaf.was
 
   leaf-is : leaf_page p.config (image_at p.journal.start view.at p.journal.past) key ≡ page (durable p.config (m.on.between.story.at view.at) view.slot)
-  leaf-is = ap (λ i. leaf_page p.config i key) (sym (m.on.between.living.images view.at m.viewed.now))
+  leaf-is = ap (λ i. leaf_page p.config i key) (sym (m.on.between.living.images view.at since m.viewed.now))
       ∙ ap (λ k. page (durable p.config (m.on.between.story.at view.at) k)) of-key.leaf
 
   said : IsSaidBy key view (known p w m.on).past
-  said = b.said key view (known p w m.on).past of-key (m.on.between.living.history.good view.at (omega arith) m.viewed.now)
+  said = b.said key view (known p w m.on).past of-key (m.on.between.living.history.good view.at since m.viewed.now)
 
   live-is : live_words (leaf_page p.config (image_at p.journal.start view.at p.journal.past) key) ≡ live_of (node_of view.image.0)
   unfolding live_of

@@ -14,20 +14,21 @@ use Rattle.bz_mark.specs.declared.marks.Mark.TheVariants.{End}
 use Rattle.bz_sound.specs.Calls.{open_call}
 use Rattle.bz_sound.specs.Replies.{Pages}
 use Rattle.bz_sound.specs.Memory.OpenCallLaws.{LeavesRoom}
-use Rattle.bz_sound.specs.Memory.Sound.{IsSound}
+use Rattle.bz_sound.specs.declared.power.Power.TheVariants as power
+use Rattle.bz_sound.specs.Power.Sound.{IsSound}
 use Rattle.bz_story.specs.Laws.{GoesOn, goes_on}
 use Rattle.bz_story.specs.Living.{IsLiving}
 use Rattle.bz_story.specs.Story.{Story}
 use Rattle.bz_swap.specs.SwapMemory.{SwapMemory}
 use Rattle.bz_world.specs.Inside.Acted.{IsBetween}
 use Rattle.bz_world.specs.Inside.Going.{MustGoOn, MustEnd, MustEndPage, WentOn}
-use Rattle.bz_world.specs.Inside.Kept.{IsTabled, IsKept}
+use Rattle.bz_world.specs.Inside.Kept.{IsTabled, IsAwake}
 use Rattle.bz_world.specs.Inside.Laws.{EndLaws}
 use Rattle.bz_world.specs.Inside.Serving.{IsSlot}
 use Rattle.bz_world.specs.declared.answers.Applied.TheVariants as applied
 use Rattle.bz_world.specs.declared.parts.Parts.{Parts}
 use Rattle.bz_world.specs.declared.serving.Serving.{Serving}
-use Rattle.bz_story.proofs.Storing.{stored-on}
+use Rattle.bz_story.proofs.Powered.{stored-since}
 use Rattle.bz_world.proofs.Staying.{slot-stays}
 
 -- what is known of a worker does not depend on the journal's pages
@@ -45,14 +46,14 @@ slot-pages c m log pages story owners v (Some x) h = record {
 }
 
 living-pages : (c : Config) (m : SwapMemory) (log : Log) (pages : Pages) (story : Story) → IsLiving c m log story → IsLiving c m (record log { pages = pages }) story
-living-pages c m log pages story l = record { seen = l.seen; history = l.history; words = l.words; images = l.images; effects = l.effects; reserved = l.reserved; apart = l.apart; took = l.took; took_apart = l.took_apart; came = l.came; stored = l.stored }
+living-pages c m log pages story l = record { from = l.from; begins = l.begins; seen = l.seen; history = l.history; words = l.words; images = l.images; effects = l.effects; reserved = l.reserved; apart = l.apart; took = l.took; took_apart = l.took_apart; came = l.came; stored = l.stored }
 
 module _ (b : EndLaws) (p : Parts) (w : ℕ) (on : MustGoOn p w) where
   abbrev was : IsBetween p w on.serving
   was = on.between
 
   leaves-room : LeavesRoom p.journal.past was.opened.call
-  leaves-room = b.room p.config p.journal w was.opened was.sound was.call_open.is_open
+  leaves-room = b.room p.config power.On p.journal w was.opened was.sound was.call_open.is_open
 
   -- there is room for the End, and for its page
   pub end-room : (n : ℕ) (reply : Reply) (at : ℕ) → length p.journal.past < p.config.marks → HasRoom p.journal (End w n reply at)
@@ -70,7 +71,7 @@ module _ (b : EndLaws) (p : Parts) (w : ℕ) (on : MustGoOn p w) where
 
   -- the number of the call
   pub number-is : slice_index p.numbers.items w ≡ was.opened.number
-  number-is = was.tabled.counted w in-table ∙ sym (b.last p.config p.journal w was.opened was.sound was.call_open.is_open).last
+  number-is = was.tabled.counted w in-table ∙ sym (b.last p.config power.On p.journal w was.opened was.sound was.call_open.is_open).last
 
   pub number-read : (n : ℕ) → n ≡ get_or p.numbers.items w n → n ≡ slice_index p.numbers.items w
   number-read n e = get_or_read_under p.numbers.items w (length p.numbers.items) n 0 e (omega (arith, in-table, was.tabled.number_places)) refl
@@ -92,24 +93,26 @@ module _ (b : EndLaws) (p : Parts) (w : ℕ) (on : MustGoOn p w) where
         cached = λ a o n. inl refl;
       };
       marked = was.living.words;
+      powered = tt;
     }
 
     abbrev after : Story
     after = goes_on p.journal was.story p.access was.story.filled
 
     lives : IsLiving p.config p.access (with_mark p.journal mark) after
-    lives = b.lives p.config p.access p.access p.journal was.story mark was.story.filled no-act (λ v j f. stored-on p.config p.journal.past mark j (was.living.stored v j f))
+    lives = b.lives p.config p.access p.access p.journal was.story mark was.story.filled no-act (λ v j f. stored-since p.config p.journal.past mark j tt (was.living.stored v j f))
 
     slot-of : (v : ℕ) → v ≢ w → IsSlot p.config p.access (with_mark p.journal mark) after p.owners.items v (get_or p.workers.items v None)
     slot-of v ne = slot-stays b.scenes b.stay p.config p.access p.access p.journal mark was.story after p.owners.items v (get_or p.workers.items v None) lives (record {
       same = record { doing = refl; begun = refl; taken = refl; size = refl; effects = λ t d. refl };
       calls = (b.calls v p.journal.past).other_end w n at reply (λ e. ne (sym e));
+      from = refl;
       lawful = λ o begins. b.quiet p.config p.access p.access p.journal was.story mark v o no-act (λ a out n. refl) begins;
       took = λ j. refl;
       filled = λ j e. e;
     }) (was.others v ne)
 
-    module _ (pages : Pages) (sound : IsSound p.config (record (with_mark p.journal mark) { pages = pages })) (room : length p.journal.past < p.config.marks) where
+    module _ (pages : Pages) (sound : IsSound p.config power.On (record (with_mark p.journal mark) { pages = pages })) (room : length p.journal.past < p.config.marks) where
       abbrev done : Parts
       done = record p { journal = record (with_mark p.journal mark) { pages = pages }; workers = with_item p.workers w None }
 
@@ -141,10 +144,12 @@ module _ (b : EndLaws) (p : Parts) (w : ℕ) (on : MustGoOn p w) where
         page_calls = t.page_calls;
         few_page_calls = t.few_page_calls;
         steps = omega (arith, t.steps);
+        power = t.power;
       }
 
-      pub ended-kept : IsKept done
+      pub ended-kept : IsAwake done
       ended-kept = record {
+        on = was.on;
         story = after;
         tabled = tabled;
         taken = let t = was.taken in record { shown = t.shown; held = t.held; few = t.few; counted = t.counted; unused = t.unused };
@@ -170,9 +175,9 @@ end-went b p w n reply at m number plain room = record {
   others = λ v ne. refl;
 }
   where
-    sound : IsSound p.config (with_mark p.journal (End w n reply at))
-    sound = subst (λ z. IsSound p.config (with_mark p.journal (End w z reply at))) (sym (number ∙ number-is b p w m.on))
-        (b.ends p.config p.journal (record { worker = w; opened = m.on.between.opened; reply = reply; at = at }) m.on.between.sound m.on.between.call_open.is_open plain m.right)
+    sound : IsSound p.config power.On (with_mark p.journal (End w n reply at))
+    sound = subst (λ z. IsSound p.config power.On (with_mark p.journal (End w z reply at))) (sym (number ∙ number-is b p w m.on))
+        (b.ends p.config power.On p.journal (record { worker = w; opened = m.on.between.opened; reply = reply; at = at }) m.on.between.sound m.on.between.call_open.is_open plain m.right)
 
 -- by the page that was put together
 pub end-page-went : EndLaws → (p : Parts) (w n page : ℕ) (next : Option (List ℕ)) (at : ℕ) → MustEndPage p w next at → n ≡ slice_index p.numbers.items w → page ≡ length p.journal.pages → length p.journal.past < p.config.marks
@@ -190,7 +195,7 @@ end-page-went b p w n page next at m number place room = record {
   others = λ v ne. refl;
 }
   where
-    sound : IsSound p.config (with_mark (with_page p.journal p.page) (End w n (Page page next) at))
-    sound = subst (λ z. IsSound p.config (with_mark (with_page p.journal p.page) (End w z (Page page next) at))) (sym (number ∙ number-is b p w m.on))
-        (subst (λ z. IsSound p.config (with_mark (with_page p.journal p.page) (End w m.on.between.opened.number (Page z next) at))) (sym place)
-        (b.pages p.config p.journal (record { worker = w; opened = m.on.between.opened; reply = Page (length p.journal.pages) next; at = at }) p.page m.on.between.sound m.on.between.call_open.is_open refl m.right))
+    sound : IsSound p.config power.On (with_mark (with_page p.journal p.page) (End w n (Page page next) at))
+    sound = subst (λ z. IsSound p.config power.On (with_mark (with_page p.journal p.page) (End w z (Page page next) at))) (sym (number ∙ number-is b p w m.on))
+        (subst (λ z. IsSound p.config power.On (with_mark (with_page p.journal p.page) (End w m.on.between.opened.number (Page z next) at))) (sym place)
+        (b.pages p.config power.On p.journal (record { worker = w; opened = m.on.between.opened; reply = Page (length p.journal.pages) next; at = at }) p.page m.on.between.sound m.on.between.call_open.is_open refl m.right))

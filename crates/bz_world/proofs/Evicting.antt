@@ -11,7 +11,8 @@ use Rattle.bz_pm.specs.Acts.{evicted}
 use Rattle.bz_sight.specs.Acts.{EvictionsAreSeen}
 use Rattle.bz_sight.specs.Passing.{Passes, Passed}
 use Rattle.bz_sound.specs.Memory.Moments.{image_after}
-use Rattle.bz_sound.specs.Memory.Sound.{IsSound}
+use Rattle.bz_sound.specs.declared.power.Power.TheVariants as power
+use Rattle.bz_sound.specs.Power.Sound.{IsSound}
 use Rattle.bz_story.specs.Laws.{GoesOn, goes_on}
 use Rattle.bz_story.specs.Living.{IsLiving}
 use Rattle.bz_story.specs.Story.{Story}
@@ -22,11 +23,12 @@ use Rattle.bz_swap.specs.TakenStatuses.{BegunStayTaken}
 use Rattle.bz_swap.specs.declared.phase.Phase.{Phase}
 use Rattle.bz_swap.specs.declared.phase.Phase.TheVariants.{Opened, Running, Recovering}
 use Rattle.bz_world.specs.Inside.Acted.{IsEvicted, IsStriking, SameWork}
-use Rattle.bz_world.specs.Inside.Kept.{IsTabled, AreTaken, IsKept}
+use Rattle.bz_world.specs.Inside.Kept.{IsTabled, AreTaken, IsAwake}
 use Rattle.bz_world.specs.Inside.Serving.{IsSlot}
 use Rattle.bz_world.specs.declared.parts.Parts.{Parts}
 use Rattle.bz_world.specs.Inside.Laws.{StepLaws}
-use Rattle.bz_story.proofs.Storing.{stored-on}
+use Rattle.bz_story.proofs.Powered.{stored-since}
+use Rattle.bz_world.proofs.Powered.{is-not-off}
 use Rattle.bz_world.proofs.Owners.{pending-begun}
 use Rattle.bz_world.proofs.Stepped.{unused-by}
 use Rattle.bz_world.proofs.Staying.{SameFor, slot-stays}
@@ -36,7 +38,7 @@ effect-in Opened old new told ne h = h
 effect-in Running old new told ne h = h
 effect-in Recovering old new told ne h = absurd (ne refl)
 
-module _ (old new : Parts) (a : ℕ) (told : Option ℕ) (k : IsKept old) (e : IsEvicted old a told new) where
+module _ (old new : Parts) (a : ℕ) (told : Option ℕ) (k : IsAwake old) (e : IsEvicted old a told new) where
   pub evict-marked : words_of new.access ≡ words_after_marks old.journal.start (Evict a ∷ old.journal.past)
   evict-marked = ap words_of e.eviction.is ∙ ap (λ z. evicted z a) k.living.words
 
@@ -63,6 +65,7 @@ module _ (old new : Parts) (a : ℕ) (told : Option ℕ) (k : IsKept old) (e : I
     page_calls = t.page_calls;
     few_page_calls = t.few_page_calls;
     steps = omega (arith, ap (λ z. z.steps) e.eviction.is, t.steps);
+    power = t.power;
   })
 
   pub evict-taken : BegunStayTaken → AreTaken new
@@ -75,7 +78,7 @@ module _ (old new : Parts) (a : ℕ) (told : Option ℕ) (k : IsKept old) (e : I
   })
 
 -- it gives a swap its effect
-pub evict-strikes : EvictionsAreSeen → BegunStayTaken → (old new : Parts) (a s : ℕ) → IsKept old → IsEvicted old a (Some s) new → length old.journal.past < old.config.marks → IsStriking new s
+pub evict-strikes : EvictionsAreSeen → BegunStayTaken → (old new : Parts) (a s : ℕ) → IsAwake old → IsEvicted old a (Some s) new → length old.journal.past < old.config.marks → IsStriking new s
 evict-strikes sees begun old new a s k e room = record {
   before = old;
   mark = Evict a;
@@ -86,12 +89,12 @@ evict-strikes sees begun old new a s k e room = record {
   taken = evict-taken old new a (Some s) k e begun;
   marked = evict-marked old new a (Some s) k e;
   flush = tt;
-  follows = tt;
+  follows = is-not-off old k.tabled k.on;
   rest = e.rest;
 }
 
 -- or none
-module _ (b : StepLaws) (sees : EvictionsAreSeen) (old new : Parts) (a : ℕ) (k : IsKept old) (e : IsEvicted old a None new) (room : length old.journal.past < old.config.marks) where
+module _ (b : StepLaws) (sees : EvictionsAreSeen) (old new : Parts) (a : ℕ) (k : IsAwake old) (e : IsEvicted old a None new) (room : length old.journal.past < old.config.marks) where
   passes : Passes old.config (k.story.at (length old.journal.past)) old.access new.access
   passes = sees.quiet old.config (k.story.at (length old.journal.past)) old.access new.access a k.living.seen e.eviction e.held
 
@@ -99,13 +102,13 @@ module _ (b : StepLaws) (sees : EvictionsAreSeen) (old new : Parts) (a : ℕ) (k
   passed = b.pass old.config (k.story.at (length old.journal.past)) old.access new.access k.living.seen passes
 
   goes : GoesOn old.config old.access new.access old.journal k.story (Evict a)
-  goes = record { living = k.living; passes = passes; marked = evict-marked old new a None k e }
+  goes = record { living = k.living; passes = passes; marked = evict-marked old new a None k e; powered = tt }
 
   abbrev after : Story
   after = goes_on old.journal k.story new.access k.story.filled
 
   living : IsLiving old.config new.access (with_mark old.journal (Evict a)) after
-  living = b.lives old.config old.access new.access old.journal k.story (Evict a) k.story.filled goes (λ v j f. stored-on old.config old.journal.past (Evict a) j (k.living.stored v j f))
+  living = b.lives old.config old.access new.access old.journal k.story (Evict a) k.story.filled goes (λ v j f. stored-since old.config old.journal.past (Evict a) j tt (k.living.stored v j f))
 
   quiet : IsQuiet old.access new.access
   quiet = effect-in old.access.phase old.access new.access None k.living.seen.phase e.eviction.effect
@@ -123,24 +126,26 @@ module _ (b : StepLaws) (sees : EvictionsAreSeen) (old new : Parts) (a : ℕ) (k
   slots v = slot-stays b.scenes b.stay old.config old.access new.access old.journal (Evict a) k.story after old.owners.items v (get_or old.workers.items v None) living (record {
     same = same v;
     calls = refl;
+    from = refl;
     lawful = λ o begins. b.quiet old.config old.access new.access old.journal k.story (Evict a) v o goes (sees.leaves old.access new.access a None e.eviction) begins;
     took = λ j. refl;
     filled = λ j h. h;
   }) (k.workers v)
 
   was : image_after old.journal.start old.journal.past ≡ (k.story.at (length old.journal.past)).image
-  was = sym (k.living.images (length old.journal.past) (omega arith) ∙ ap (image_after old.journal.start) (at_moment-now old.journal.past))
+  was = sym (k.living.images (length old.journal.past) k.living.from (omega arith) ∙ ap (image_after old.journal.start) (at_moment-now old.journal.past))
 
   is : image_after old.journal.start (Evict a ∷ old.journal.past) ≡ slice_index new.access.durable
   is = ap (λ z. slice_index z.durable) (sym (evict-marked old new a None k e))
 
-  sound : IsSound old.config (with_mark old.journal (Evict a))
-  sound = b.journal.flush old.config old.journal (Evict a) k.sound tt tt (b.journal.same old.config old.journal (Evict a) k.sound tt
+  sound : IsSound old.config power.On (with_mark old.journal (Evict a))
+  sound = b.journal.flush old.config power.On old.journal (Evict a) k.sound tt (is-not-off old k.tabled k.on) (b.journal.same old.config power.On old.journal (Evict a) k.sound tt
       (subst (λ i. image_fault old.config i ≡ None) (sym is) passed.same.good.form)
       (λ key. ap (λ i. content_in old.config i key) is ∙ (passed.same.content key ∙ ap (λ i. content_in old.config i key) (sym was))))
 
-  pub evict-kept : IsKept new
-  evict-kept = subst IsKept (sym e.rest) (record {
+  pub evict-kept : IsAwake new
+  evict-kept = subst IsAwake (sym e.rest) (record {
+    on = k.on;
     story = after;
     tabled = subst IsTabled e.rest (evict-tabled old new a None k e room);
     taken = subst AreTaken e.rest (evict-taken old new a None k e b.begun);

@@ -1,5 +1,6 @@
 mod Staying
 mod Marking
+mod Powered
 mod Stepped
 mod Quiet
 mod Answered
@@ -29,3 +30,8 @@ mod Openings
 mod Takings
 mod SpendingSlots
 mod MakingAnew
+mod Cutting
+mod Recovering
+mod Waking
+mod Refusing
+mod Recovered

@@ -9,7 +9,8 @@ use Rattle.bz_mark.specs.WordsAfter.{words_of as words_after_marks, words_after,
 use Rattle.bz_mark.specs.declared.marks.Mark.{Mark}
 use Rattle.bz_pm.specs.Words.{Words}
 use Rattle.bz_sound.specs.Calls.{open_call, begun_calls}
-use Rattle.bz_sound.specs.Memory.Calls.{HasOpenCall, MayFollow}
+use Rattle.bz_sound.specs.declared.power.Power.TheVariants as power
+use Rattle.bz_sound.specs.Power.Calls.{MayAct, MayFollow}
 use Rattle.bz_call.specs.Map.{Map}
 use Rattle.bz_swap.specs.SwapMemory.{SwapMemory, words_of}
 use Rattle.bz_world.specs.Lab.{mark_of}
@@ -33,8 +34,8 @@ act-found w old new log (Store a v) same act within = tt
 act-found w old new log (Cas a before after found) same act within = subst (λ (z : Words). Found z (mark_of w (Cas a before after found))) same (found-read old.cached a found within act.found)
 act-found w old new log (Flush line) same act within = tt
 
--- it may follow where the worker's call is open, and leaves every open call and every count
-pub act-follows : (start : Map) (past : List Mark) (w : ℕ) (made : Act) → HasOpenCall past w → MayFollow start past (mark_of w made)
+-- it may follow where the worker may act, and leaves every open call and every count
+pub act-follows : (start : Map) (past : List Mark) (w : ℕ) (made : Act) → MayAct power.On past w → MayFollow power.On start past (mark_of w made)
 act-follows start past w (Load a v) h = h
 act-follows start past w (Store a v) h = h
 act-follows start past w (Cas a old new found) h = h

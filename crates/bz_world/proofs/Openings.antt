@@ -13,8 +13,10 @@ use Rattle.bz_machine.specs.declared.status.SwapStatus.TheVariants.{Free}
 use Rattle.bz_machine.specs.Machine.{is_succeeded}
 use Rattle.bz_mark.specs.Log.{Log, count_begins, count_page_calls}
 use Rattle.bz_sound.specs.Calls.{open_call, begun_calls}
-use Rattle.bz_sound.specs.Memory.Laws.{FreshJournalsAreSound}
-use Rattle.bz_sound.specs.Memory.Sound.{IsSound}
+use Rattle.bz_sound.specs.Power.Growth.{FreshJournalsAreSound}
+use Rattle.bz_sound.specs.Power.Times.{power_of, image_at_on}
+use Rattle.bz_sound.specs.declared.power.Power.TheVariants as power
+use Rattle.bz_sound.specs.Power.Sound.{IsSound}
 use Rattle.bz_story.specs.Living.{IsLiving}
 use Rattle.bz_story.specs.Opening.{FreshStoriesLive, fresh_story}
 use Rattle.bz_swap.specs.Held.{Holds}
@@ -23,8 +25,9 @@ use Rattle.bz_swap.specs.SwapMemory.{SwapMemory, Working, Idle, idle, doing_of, 
 use Rattle.bz_swap.specs.TakenStatuses.{BegunStayTaken, BegunAreTaken}
 use Rattle.bz_swap.specs.declared.phase.Phase.{Phase}
 use Rattle.bz_world.specs.Inside.Beginning.{lab_of}
+use Rattle.bz_world.proofs.Powered.{kept-awake}
 use Rattle.bz_world.proofs.FreshSlots.{free-below, free-root, free-others}
-use Rattle.bz_world.specs.Inside.Kept.{IsTabled, AreTaken, AreFree, IsKept}
+use Rattle.bz_world.specs.Inside.Kept.{IsTabled, AreTaken, AreFree, IsAwake, IsKept}
 use Rattle.bz_world.specs.Inside.Opening.{fresh_slots}
 use Rattle.bz_world.specs.Lab.{new_lab}
 use Rattle.bz_world.specs.Inside.Serving.{IsSlot, IsAtRest}
@@ -52,8 +55,10 @@ pub record IsMade (p : Parts) : Type 0 where
   pub begun : p.begun ≡ 0
   pub pages_begun : p.pages_begun ≡ 0
   pub slots : p.slots ≡ fresh_slots p.config
+  pub power : p.power ≡ power.On
+  pub revived : p.revived ≡ false
 
-same-everywhere : {A : Type 0} (n w : ℕ) (x : A) → get_or (replicate n x) w x ≡ x
+pub same-everywhere : {A : Type 0} (n w : ℕ) (x : A) → get_or (replicate n x) w x ≡ x
 same-everywhere n w x = elim (cases_lt w n) [
   | inl l ↦ get_or-replicate n w x x l
   | inr l ↦ get_or_past (replicate n x) w x (omega (arith, l, length-replicate n x))
@@ -82,17 +87,17 @@ module _ (b : Laws) (c : Config) (config : IsConfig c) where
   no-effect s true = ap (λ v. is_succeeded (status_of v)) (untaken s)
   no-effect s false = refl
 
-  sound : IsSound c log
-  sound = b.sound c (fresh_words c) log.limits (b.says c).size (b.empty c config).0
+  sound : IsSound c power.On log
+  sound = b.sound c power.On (fresh_words c) log.limits (b.says c).size (b.empty c config).0
 
 -- slot 0 is reached, and the others are free
-free-fresh : Laws → (c : Config) → IsConfig c → AreFree c (fresh_words c) (fresh_slots c) (fresh_story c).took
+free-fresh : Laws → (c : Config) → IsConfig c → AreFree c (slice_index (fresh_words c)) (fresh_slots c) (fresh_story c).took false
 free-fresh b c config = record {
   nodes = refl;
   within = λ k h. free-below c.nodes k h;
   fresh = λ k h. rw (below k (free-below c.nodes k h), b.reaches c k config (free-below c.nodes k h), free-root c.nodes k h) refl;
   untaken = λ v k h. refl;
-  others = λ k l h. inl (rw (below k l, b.reaches c k config l, free-others c.nodes k l h) refl);
+  others = λ fresh k l h. inl (rw (below k l, b.reaches c k config l, free-others c.nodes k l h) refl);
 }
   where
     below : (k : ℕ) → k < c.nodes → nat_lt k c.nodes ≡ true
@@ -114,6 +119,7 @@ tabled p made = record {
   page_calls = made.pages_begun ∙ ap count_page_calls (sym past);
   few_page_calls = omega (arith, made.pages_begun);
   steps = omega (arith, ap (λ (m : SwapMemory). m.steps) made.opened.is);
+  power = ap (power_of power.On) past ∙ sym made.power;
 }
   where
     past : p.journal.past ≡ []
@@ -131,14 +137,15 @@ taken b p made = record {
   unused = λ s l. ap (λ (m : SwapMemory). has_effect m s) made.opened.is ∙ no-effect b p.config made.config s (nat_lt s p.config.swaps);
 }
 
-kept-open : Laws → (p : Parts) → IsMade p → IsKept p
+kept-open : Laws → (p : Parts) → IsMade p → IsAwake p
 kept-open b p made = record {
+  on = made.power;
   story = fresh_story p.config;
   tabled = tabled p made;
   taken = taken b p made;
   living = subst (λ l. IsLiving p.config p.access l (fresh_story p.config)) (sym made.journal) (b.living p.config p.access ((new_lab p.config).log.limits) (record { config = made.config; opened = made.opened; holds = made.holds }));
-  sound = subst (IsSound p.config) (sym made.journal) (sound b p.config made.config);
-  free = subst (λ log. AreFree p.config log.start p.slots (fresh_story p.config).took) (sym made.journal) (subst (λ slots. AreFree p.config (fresh_words p.config) slots (fresh_story p.config).took) (sym made.slots) (free-fresh b p.config made.config));
+  sound = subst (IsSound p.config power.On) (sym made.journal) (sound b p.config made.config);
+  free = subst (λ log. AreFree p.config (image_at_on log.start log.past) p.slots (fresh_story p.config).took p.revived) (sym made.journal) (subst (λ slots. AreFree p.config (slice_index (fresh_words p.config)) slots (fresh_story p.config).took p.revived) (sym made.slots) (subst (AreFree p.config (slice_index (fresh_words p.config)) (fresh_slots p.config) (fresh_story p.config).took) (sym made.revived) (free-fresh b p.config made.config)));
   workers = λ w. subst (λ xs. IsSlot p.config p.access p.journal (fresh_story p.config) p.owners.items w (get_or xs w None)) (sym made.workers) (rest w (get_or (replicate 65 None) w None) (same-everywhere 65 w None));
 }
   where
@@ -148,7 +155,7 @@ kept-open b p made = record {
 
 -- the same of parts whose memory and journal are known by other names
 pub kept-made : Laws → (p : Parts) (m : SwapMemory) (j : Log) → m ≡ p.access → j ≡ p.journal → IsMade (record p { access = m; journal = j }) → IsKept p
-kept-made b p m j access journal made = subst IsKept (λ t. record p { access = access t; journal = journal t }) (kept-open b (record p { access = m; journal = j }) made)
+kept-made b p m j access journal made = subst IsKept (λ t. record p { access = access t; journal = journal t }) (kept-awake (record p { access = m; journal = j }) (kept-open b (record p { access = m; journal = j }) made))
 
 -- a memory and a journal over these words
 pub opened-fresh : (m : SwapMemory) (start : List ℕ) (c : Config) → IsOpened m start c.swaps c.workers → start ≡ fresh_words c → IsOpened m (fresh_words c) c.swaps c.workers
@@ -159,7 +166,7 @@ pub fresh-journal : (j : Log) (start : List ℕ) (c : Config) → j.start ≡ st
 fresh-journal j start c same fresh past pages limits = λ t. record { start = (same ∙ fresh) t; past = past t; pages = pages t; limits = limits t }
 
 -- no worker's next act is a flush
-map-replicate : {A : Type 0} {B : Type 0} (f : A → B) (n : ℕ) (x : A) → map f (replicate n x) ≡ replicate n (f x)
+pub map-replicate : {A : Type 0} {B : Type 0} (f : A → B) (n : ℕ) (x : A) → map f (replicate n x) ≡ replicate n (f x)
 map-replicate f zero x = refl
 map-replicate f (suc n) x = ap (λ xs. f x ∷ xs) (map-replicate f n x)
 

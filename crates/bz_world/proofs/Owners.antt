@@ -6,13 +6,13 @@ use Rattle.bz_swap.specs.EntryLists.{IsEntryList}
 use Rattle.bz_swap.specs.SwapMemory.{Swapping, doing_of, entries_of}
 use Rattle.bz_task.specs.declared.todo.Todo.{Todo}
 use Rattle.bz_task.specs.declared.todo.Todo.TheVariants as todo
-use Rattle.bz_world.specs.Inside.Kept.{IsKept}
+use Rattle.bz_world.specs.Inside.Kept.{IsAwake}
 use Rattle.bz_world.specs.Inside.Serving.{IsServing, IsDoing, IsSlot}
 use Rattle.bz_world.specs.declared.parts.Parts.{Parts}
 use Rattle.bz_world.specs.declared.serving.Serving.{Serving}
 
 -- a worker that does swap s serves a call whose task asked for its entries, and the table names it
-pub record IsOwner (p : Parts) (k : IsKept p) (w s : ℕ) (slot : Option Serving) : Type 0 where
+pub record IsOwner (p : Parts) (k : IsAwake p) (w s : ℕ) (slot : Option Serving) : Type 0 where
   pub serving : Serving
   pub is : slot ≡ Some serving
   pub serves : IsServing p.config p.access p.journal k.story p.owners.items w serving
@@ -21,7 +21,7 @@ pub record IsOwner (p : Parts) (k : IsKept p) (w s : ℕ) (slot : Option Serving
   pub begun : s < p.access.taken
   pub list : IsEntryList (entries_of p.access s)
 
-module _ (p : Parts) (k : IsKept p) (w s : ℕ) (pending : doing_of p.access w ≡ Swapping s) where
+module _ (p : Parts) (k : IsAwake p) (w s : ℕ) (pending : doing_of p.access w ≡ Swapping s) where
   by-asked : (x : Serving) (h : IsServing p.config p.access p.journal k.story p.owners.items w x) (t : Todo) → h.asked ≡ t → IsDoing p.access p.owners.items w t → IsOwner p k w s (Some x)
   by-asked x h (todo.Read c) e d = absurd (cc (d, pending))
   by-asked x h (todo.Load c) e d = absurd d
@@ -49,5 +49,5 @@ module _ (p : Parts) (k : IsKept p) (w s : ℕ) (pending : doing_of p.access w �
   is-owner = by-slot (get_or p.workers.items w None) (k.workers w)
 
 -- the swaps that workers do have begun
-pub pending-begun : (p : Parts) (k : IsKept p) (v s : ℕ) → doing_of p.access v ≡ Swapping s → s < p.access.taken
+pub pending-begun : (p : Parts) (k : IsAwake p) (v s : ℕ) → doing_of p.access v ≡ Swapping s → s < p.access.taken
 pending-begun p k v s pending = (is-owner p k v s pending).begun

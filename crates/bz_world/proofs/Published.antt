@@ -19,7 +19,8 @@ use Rattle.bz_sight.specs.Starts.{Sees}
 use Rattle.bz_sound.specs.Calls.{Open, open_call, with_effect, map_after, map_at}
 use Rattle.bz_sound.specs.Memory.ImageLaws.{IsChangeOf, ChangesKey, EffectFollows}
 use Rattle.bz_sound.specs.Memory.Moments.{image_after, map_at_start}
-use Rattle.bz_sound.specs.Memory.Sound.{IsSound}
+use Rattle.bz_sound.specs.declared.power.Power.TheVariants as power
+use Rattle.bz_sound.specs.Power.Sound.{IsSound}
 use Rattle.bz_story.specs.Laws.{HasBegun, GoesOn, goes_on, opened_after}
 use Rattle.bz_story.specs.Living.{IsLiving}
 use Rattle.bz_story.specs.Story.{Story, scene}
@@ -28,11 +29,12 @@ use Rattle.bz_task.specs.Scene.{Took, here}
 use Rattle.bz_task.specs.Swaps.{Changes, ContentFollows}
 use Rattle.bz_task.specs.declared.todo.Todo.TheVariants as todo
 use Rattle.bz_world.specs.Inside.Acted.{IsStriking}
-use Rattle.bz_world.specs.Inside.Kept.{IsKept, IsTabled, AreTaken}
+use Rattle.bz_world.specs.Inside.Kept.{IsAwake, IsTabled, AreTaken}
 use Rattle.bz_world.specs.Inside.Serving.{IsServing, IsSlot, IsToldBy, effect_reply}
 use Rattle.bz_world.specs.declared.parts.Parts.{Parts}
 use Rattle.bz_world.specs.declared.serving.Serving.{Serving}
-use Rattle.bz_story.proofs.Storing.{stored-on}
+use Rattle.bz_story.proofs.Powered.{stored-since}
+use Rattle.bz_world.proofs.Powered.{begun-in, flush-leaves, free-on}
 use Rattle.bz_world.proofs.Staying.{slot-stays}
 use Rattle.bz_world.specs.Inside.Laws.{StrikeLaws}
 use Rattle.bz_world.proofs.Striking.{flush-calls, old, kept, w, x, its, before, waits, good, after, living, opened, took, others}
@@ -99,10 +101,10 @@ module _ (b : StrikeLaws) (p : Parts) (s : ℕ) (h : IsStriking p s) (publishes 
   }
 
   follows : EffectFollows c log h.mark worker its-open (change_of (x b p s h).task).old
-  follows = b.changes c log h.mark worker its-open (change_of (x b p s h).task).old (change_of (x b p s h).task).new (kept b p s h).sound h.flush (its b p s h).call_open.is_open first is-change.1 (fault-is b p s h) changes-key
+  follows = b.changes c power.On log h.mark worker its-open (change_of (x b p s h).task).old (change_of (x b p s h).task).new (kept b p s h).sound h.flush (its b p s h).call_open.is_open first is-change.1 (fault-is b p s h) changes-key
 
-  pub sound : IsSound c (with_mark (with_mark log h.mark) (Effect worker its-open.number))
-  sound = b.effects c log h.mark worker its-open.number (kept b p s h).sound h.follows follows.may_follow follows.decodes
+  pub sound : IsSound c power.On (with_mark (with_mark log h.mark) (Effect worker its-open.number))
+  sound = b.effects c power.On log h.mark worker its-open.number (kept b p s h).sound h.follows follows.may_follow follows.decodes
 
   -- the Effect mark is no act: the same memory is seen
   abbrev with_flush : Log
@@ -129,15 +131,17 @@ module _ (b : StrikeLaws) (p : Parts) (s : ℕ) (h : IsStriking p s) (publishes 
       cached = λ a o n. inl refl;
     };
     marked = h.marked;
+    powered = tt;
   }
 
   lives : IsLiving c p.access (with_mark with_flush effect_mark) told_story
-  lives = b.lives c p.access p.access with_flush (after b p s h) effect_mark (after b p s h).filled no-act (λ v j f. stored-on c with_flush.past effect_mark j ((living b p s h).stored v j f))
+  lives = b.lives c p.access p.access with_flush (after b p s h) effect_mark (after b p s h).filled no-act (λ v j f. stored-since c with_flush.past effect_mark j tt ((living b p s h).stored v j f))
 
   slot-of : (v : ℕ) → v ≢ worker → IsSlot c p.access (with_mark with_flush effect_mark) told_story (old b p s h).owners.items v (get_or (old b p s h).workers.items v None)
   slot-of v ne = slot-stays b.scenes b.stay c p.access p.access with_flush effect_mark (after b p s h) told_story (old b p s h).owners.items v (get_or (old b p s h).workers.items v None) lives (record {
     same = record { doing = refl; begun = refl; taken = refl; size = refl; effects = λ t d. refl };
     calls = (b.calls v (h.mark ∷ log.past)).other_effect worker its-open.number (λ e. ne (sym e));
+    from = refl;
     lawful = λ o begins. b.quiet c p.access p.access with_flush (after b p s h) effect_mark v o no-act (λ a out n. refl) begins;
     took = λ j. refl;
     filled = λ j e. e;
@@ -153,11 +157,14 @@ module _ (b : StrikeLaws) (p : Parts) (s : ℕ) (h : IsStriking p s) (publishes 
   is-open : open_call worker (effect_mark ∷ h.mark ∷ log.past) ≡ Some effected
   is-open = (b.calls worker (h.mark ∷ log.past)).own_effect its-open.number ∙ ap (option_map (with_effect (suc (length log.past)))) (flush-calls worker h.mark log.past h.flush ∙ (its b p s h).call_open.is_open)
 
-  begun-effected : HasBegun with_flush effected
-  begun-effected = omega (arith, (its b p s h).call_open.begun)
+  begun-its : HasBegun log (kept b p s h).story its-open
+  begun-its = begun-in (kept b p s h).living (its b p s h).call_open
+
+  begun-effected : HasBegun with_flush (after b p s h) effected
+  begun-effected = record { from = begun-its.from; before = omega (arith, begun-its.before) }
 
   told-scene : Sees c (told_story.at (suc (suc (length log.past)))) (scene c (effect_mark ∷ h.mark ∷ log.past) told_story worker effected)
-  told-scene = b.scenes c p.access (with_mark with_flush effect_mark) told_story worker effected lives (omega (arith, begun-effected))
+  told-scene = b.scenes c p.access (with_mark with_flush effect_mark) told_story worker effected lives (record { from = begun-its.from; before = omega (arith, begun-its.before) })
 
   knows : facts_of (x b p s h).task Took (scene c (effect_mark ∷ h.mark ∷ log.past) told_story worker effected)
   knows = (its b p s h).tasked.laws.stable Took (scene c (h.mark ∷ log.past) (after b p s h) worker effected) (scene c (effect_mark ∷ h.mark ∷ log.past) told_story worker effected) (sym (its b p s h).tasked.config)
@@ -184,7 +191,7 @@ module _ (b : StrikeLaws) (p : Parts) (s : ℕ) (h : IsStriking p s) (publishes 
       is_open = is-open;
       call = (its b p s h).call_open.call;
       effect = refl;
-      begun = omega (arith, begun-effected);
+      begun = omega (arith, begun-its.before);
       told = told;
     };
     tasked = (its b p s h).tasked;
@@ -225,6 +232,7 @@ module _ (b : StrikeLaws) (p : Parts) (s : ℕ) (h : IsStriking p s) (publishes 
     page_calls = t.page_calls;
     few_page_calls = t.few_page_calls;
     steps = omega (arith, t.steps);
+    power = t.power;
   }
 
   taken-on : (workers : Vec (Option Serving)) → AreTaken (record (old b p s h) { access = p.access; journal = with_mark with_flush effect_mark; workers = workers })
@@ -232,13 +240,14 @@ module _ (b : StrikeLaws) (p : Parts) (s : ℕ) (h : IsStriking p s) (publishes 
 
   -- so the world goes on with the Effect, which the worker's call remembers
   pub published : (workers : Vec (Option Serving)) → length workers.items ≡ 65 → length log.past + 1 < c.marks → get_or workers.items worker None ≡ Some with_moment → ((v : ℕ) → v ≢ worker → get_or workers.items v None ≡ get_or (old b p s h).workers.items v None)
-      → IsKept (record (old b p s h) { access = p.access; journal = with_mark with_flush effect_mark; workers = workers })
+      → IsAwake (record (old b p s h) { access = p.access; journal = with_mark with_flush effect_mark; workers = workers })
   published workers places room here-is rest = record {
+    on = (kept b p s h).on;
     story = told_story;
     tabled = tabled-on workers places room;
     taken = taken-on workers;
     living = lives;
     sound = sound;
-    free = (kept b p s h).free;
+    free = free-on c log.start log.past h.mark (old b p s h).slots (after b p s h).took (old b p s h).revived (flush-leaves h.mark log.past h.flush) (kept b p s h).free;
     workers = slots workers.items here-is rest;
   }

@@ -11,7 +11,8 @@ use Rattle.bz_sight.specs.Passing.{Passes, Passed}
 use Rattle.bz_sight.specs.Starts.{Sees}
 use Rattle.bz_sound.specs.Calls.{Open, open_call}
 use Rattle.bz_sound.specs.Memory.Calls.{HasOpenCall}
-use Rattle.bz_sound.specs.Memory.Sound.{IsSound}
+use Rattle.bz_sound.specs.declared.power.Power.TheVariants as power
+use Rattle.bz_sound.specs.Power.Sound.{IsSound}
 use Rattle.bz_story.specs.Laws.{HasBegun, GoesOn}
 use Rattle.bz_story.specs.Living.{IsLiving}
 use Rattle.bz_story.specs.Story.{Story, scene}
@@ -22,11 +23,13 @@ use Rattle.bz_task.specs.Scene.{IsLawful, Waiting}
 use Rattle.bz_task.specs.declared.todo.Todo.{Todo}
 use Rattle.bz_task.specs.declared.todo.Todo.TheVariants as todo
 use Rattle.bz_world.specs.Inside.Acted.{IsActed, IsBetween}
-use Rattle.bz_world.specs.Inside.Kept.{IsTabled, AreTaken, AreFree, IsKept}
+use Rattle.bz_world.specs.Inside.Kept.{IsTabled, AreTaken, AreFree, IsAwake}
 use Rattle.bz_world.specs.Lab.{mark_of}
 use Rattle.bz_world.specs.Inside.Serving.{IsServing, IsDoing, IsSlot, stage_in}
 use Rattle.bz_world.specs.declared.parts.Parts.{Parts}
 use Rattle.bz_world.specs.declared.serving.Serving.{Serving}
+use Rattle.bz_sound.specs.Power.Times.{image_at_on}
+use Rattle.bz_world.proofs.Powered.{begun-in, free-on, leaves-power, may-act}
 use Rattle.bz_world.proofs.Owners.{pending-begun}
 use Rattle.bz_world.proofs.Marking.{act-marked, act-calls}
 use Rattle.bz_world.specs.Inside.Laws.{StepLaws}
@@ -34,7 +37,7 @@ use Rattle.bz_world.proofs.Stepped.{act-tabled, act-taken, act-sound, held}
 use Rattle.bz_world.proofs.Staying.{SameFor, slot-stays, told-stays}
 
 -- the call of a worker that serves one is open, so it is one of the workers
-module _ (p : Parts) (k : IsKept p) (w : ℕ) (x : Serving) (is-worker : get_or p.workers.items w None ≡ Some x) where
+module _ (p : Parts) (k : IsAwake p) (w : ℕ) (x : Serving) (is-worker : get_or p.workers.items w None ≡ Some x) where
   pub serves : IsServing p.config p.access p.journal k.story p.owners.items w x
   serves = subst (IsSlot p.config p.access p.journal k.story p.owners.items w) is-worker (k.workers w)
 
@@ -64,12 +67,12 @@ idle-by d Stored ne = refl
 idle-by d Flushed ne = refl
 
 -- worker w, which serves x, made an act at which no swap took effect
-module _ (b : StepLaws) (old new : Parts) (w : ℕ) (x : Serving) (made : Act) (done : Done) (k : IsKept old) (is-worker : get_or old.workers.items w None ≡ Some x) (a : IsActed old w made done None new) where
+module _ (b : StepLaws) (old new : Parts) (w : ℕ) (x : Serving) (made : Act) (done : Done) (k : IsAwake old) (is-worker : get_or old.workers.items w None ≡ Some x) (a : IsActed old w made done None new) where
   abbrev pub s : IsServing old.config old.access old.journal k.story old.owners.items w x
   s = serves old k w x is-worker
 
   pub sees : (v : ℕ) (y : Serving) → (t : IsServing old.config old.access old.journal k.story old.owners.items v y) → Sees old.config (k.story.at (length old.journal.past)) (scene old.config old.journal.past k.story v t.opened)
-  sees v y t = b.scenes old.config old.access old.journal k.story v t.opened k.living t.call_open.begun
+  sees v y t = b.scenes old.config old.access old.journal k.story v t.opened k.living (begun-in k.living t.call_open)
 
   -- what its task asks for may be asked for
   pub askable : (todo : Todo) → s.asked ≡ todo → stage_in old.access (doing_of old.access w) ≡ Waiting → IsAskable (scene old.config old.journal.past k.story w s.opened) todo
@@ -95,10 +98,10 @@ module _ (b : StepLaws) (old new : Parts) (w : ℕ) (x : Serving) (made : Act) (
   passed = b.pass old.config (k.story.at (length old.journal.past)) old.access new.access k.living.seen passes
 
   pub goes : GoesOn old.config old.access new.access old.journal k.story (mark_of w made)
-  goes = record { living = k.living; passes = passes; marked = act-marked w old.access new.access old.journal made k.living.words a.step.one.act }
+  goes = record { living = k.living; passes = passes; marked = act-marked w old.access new.access old.journal made k.living.words a.step.one.act; powered = leaves-power w old.journal.past made }
 
-  pub sound : IsSound old.config (with_mark old.journal (mark_of w made))
-  sound = act-sound b.journal old new k.story w made done None k.living k.sound a (call-is-open old k w x is-worker) passed
+  pub sound : IsSound old.config power.On (with_mark old.journal (mark_of w made))
+  sound = act-sound b.journal old new k.story w made done None k.living k.sound a (may-act old.journal.past w (some-worker old k w x is-worker) (call-is-open old k w x is-worker)) passed
 
   -- what others do is the same
   pub same-other : (v : ℕ) → v ≢ w → SameFor old.access new.access v
@@ -120,13 +123,14 @@ module _ (b : StepLaws) (old new : Parts) (w : ℕ) (x : Serving) (made : Act) (
   }
 
   -- so what is known of a worker stays, if the mark is a lawful step for it
-  pub stays : (after : Story) (v : ℕ) → IsLiving old.config new.access (with_mark old.journal (mark_of w made)) after → SameFor old.access new.access v
-      → ((opened : Open) → HasBegun old.journal opened → IsLawful (scene old.config old.journal.past k.story v opened) (scene old.config (mark_of w made ∷ old.journal.past) after v opened))
+  pub stays : (after : Story) (v : ℕ) → IsLiving old.config new.access (with_mark old.journal (mark_of w made)) after → after.from ≡ k.story.from → SameFor old.access new.access v
+      → ((opened : Open) → HasBegun old.journal k.story opened → IsLawful (scene old.config old.journal.past k.story v opened) (scene old.config (mark_of w made ∷ old.journal.past) after v opened))
       → ((j : ℕ) → after.took v j ≡ k.story.took v j) → ((j : ℕ) → k.story.filled v j ≡ true → after.filled v j ≡ true)
       → IsSlot old.config new.access (with_mark old.journal (mark_of w made)) after old.owners.items v (get_or old.workers.items v None)
-  stays after v living same lawful took filled = slot-stays b.scenes b.stay old.config old.access new.access old.journal (mark_of w made) k.story after old.owners.items v (get_or old.workers.items v None) living (record {
+  stays after v living from same lawful took filled = slot-stays b.scenes b.stay old.config old.access new.access old.journal (mark_of w made) k.story after old.owners.items v (get_or old.workers.items v None) living (record {
     same = same;
     calls = act-calls v w old.journal.past made;
+    from = from;
     lawful = lawful;
     took = took;
     filled = filled;
@@ -140,28 +144,30 @@ module _ (b : StepLaws) (old new : Parts) (w : ℕ) (x : Serving) (made : Act) (
 
   -- the world goes on
   pub goes-on : (after : Story) → length old.journal.past < old.config.marks → IsLiving old.config new.access (with_mark old.journal (mark_of w made)) after
-      → AreFree old.config old.journal.start old.slots after.took → ((v : ℕ) → IsSlot old.config new.access (with_mark old.journal (mark_of w made)) after old.owners.items v (get_or old.workers.items v None)) → IsKept new
-  goes-on after room living free slots = subst IsKept (sym a.rest) (record {
+      → AreFree old.config (image_at_on old.journal.start old.journal.past) old.slots after.took old.revived → ((v : ℕ) → IsSlot old.config new.access (with_mark old.journal (mark_of w made)) after old.owners.items v (get_or old.workers.items v None)) → IsAwake new
+  goes-on after room living free slots = subst IsAwake (sym a.rest) (record {
+    on = k.on;
     story = after;
     tabled = subst IsTabled a.rest (tabled room);
     taken = subst AreTaken a.rest taken;
     living = living;
     sound = sound;
-    free = free;
+    free = free-on old.config old.journal.start old.journal.past (mark_of w made) old.slots after.took old.revived (leaves-power w old.journal.past made) free;
     workers = slots;
   })
 
   -- and the worker, whose operation was answered, is to be told
   abbrev pub answered : (after : Story) → length old.journal.past < old.config.marks → done ≢ Busy → IsLiving old.config new.access (with_mark old.journal (mark_of w made)) after
-      → AreFree old.config old.journal.start old.slots after.took → ((v : ℕ) → v ≢ w → IsSlot old.config new.access (with_mark old.journal (mark_of w made)) after old.owners.items v (get_or old.workers.items v None))
+      → AreFree old.config (image_at_on old.journal.start old.journal.past) old.slots after.took old.revived → ((v : ℕ) → v ≢ w → IsSlot old.config new.access (with_mark old.journal (mark_of w made)) after old.owners.items v (get_or old.workers.items v None))
       → IsBetween (record old { access = new.access; journal = with_mark old.journal (mark_of w made) }) w x
   answered after room ne living free slots = record {
+    on = k.on;
     story = after;
     tabled = subst IsTabled a.rest (tabled room);
     taken = subst AreTaken a.rest taken;
     living = living;
     sound = sound;
-    free = free;
+    free = free-on old.config old.journal.start old.journal.past (mark_of w made) old.slots after.took old.revived (leaves-power w old.journal.past made) free;
     others = slots;
     worker = some-worker old k w x is-worker;
     within = within-crew old k w x is-worker;

@@ -5,8 +5,9 @@ use Rattle.std.proofs.lemmas.Bool.{cases_eq, cases_lt, true≢false}
 use Rattle.bz_layout.specs.declared.config.Config.{Config}
 use Rattle.bz_mark.specs.Log.{Log}
 use Rattle.bz_sound.specs.Calls.{Open, open_call}
-use Rattle.bz_sound.specs.Memory.ImageLaws.{IsOther, AreHeld}
+use Rattle.bz_sound.specs.Memory.ImageLaws.{IsOther, AreHeldBy}
 use Rattle.bz_sound.specs.Memory.Spent.{is_taken}
+use Rattle.bz_sound.specs.Power.Times.{since_on}
 use Rattle.bz_story.specs.Story.{Story}
 use Rattle.bz_swap.specs.SwapMemory.{SwapMemory, Swapping, doing_of}
 use Rattle.bz_task.specs.declared.todo.Todo.{Todo}
@@ -75,7 +76,7 @@ module _ (p : Parts) (w : ℕ) (l : LacksSwap p w) where
       not-it : v ≢ w
       not-it e = absurd (cc (swaps, ap (doing_of p.access) e, was.idle))
 
-  holds : (s : ℕ) → s < p.config.swaps → is_taken s p.journal.past ≡ false → Holds s
+  holds : (s : ℕ) → s < p.config.swaps → is_taken s (since_on p.journal.past) ≡ false → Holds s
   holds s l-is free = elim (was.taken.held s (omega (arith, l-is, l.spent))) [
     | inl swapping ↦ holds-by s swapping.0 swapping.1
     | inr taken ↦ absurd (true≢false (sym (was.taken.shown s l-is taken) ∙ free))
@@ -90,7 +91,7 @@ module _ (p : Parts) (w : ℕ) (l : LacksSwap p w) where
       let both : Swapping s ≡ Swapping t = sym h.swaps ∙ (ap (doing_of p.access) holders ∙ g.swaps) in
       cc both
 
-  pub are-held : AreHeld p.config p.journal.past w (slice_index p.owners.items)
+  pub are-held : AreHeldBy (λ swap. is_taken swap (since_on p.journal.past)) p.config p.journal.past w (slice_index p.owners.items)
   are-held = record {
     held = λ s below free. holder-is-other s (holds s below free);
     one_each = λ s t s-below t-below s-free t-free same. same-swap s t (holds s s-below s-free) (holds t t-below t-free) same;

@@ -8,8 +8,11 @@ use Rattle.bz_layout.specs.declared.thresholds.TheConstants.{CONSOLIDATION_SLOTS
 use Rattle.bz_mark.specs.Log.{Log}
 use Rattle.bz_shape.specs.Walk.{is_among}
 use Rattle.bz_sound.specs.Calls.{Open, open_call}
-use Rattle.bz_sound.specs.Memory.ImageLaws.{AreSlotsHeld, HeldSlotsAreSpent}
-use Rattle.bz_sound.specs.Memory.Spent.{is_reached_at_start, is_stored_into, is_used, LacksSlot}
+use Rattle.bz_sound.specs.Memory.ImageLaws.{AreSlotsHeldBy}
+use Rattle.bz_sound.specs.Memory.Spent.{is_reached_in, is_stored_into}
+use Rattle.bz_sound.specs.Power.ImageLaws.{HeldSlotsAreSpent}
+use Rattle.bz_sound.specs.Power.Spent.{is_used, LacksSlot}
+use Rattle.bz_sound.specs.Power.Times.{since_on, image_at_on}
 use Rattle.bz_story.specs.Story.{Story}
 use Rattle.bz_swap.specs.SwapMemory.{SwapMemory}
 use Rattle.bz_world.specs.Inside.Acted.{IsBetween}
@@ -67,7 +70,7 @@ unused-both : (a b : Bool) → a || b ≡ false → (a ≡ false) × (b ≡ fals
 unused-both true b e = absurd (cc)
 unused-both false b e = (refl, e)
 
-module _ (p : Parts) (w : ℕ) (l : LacksSlots p w) where
+module _ (p : Parts) (w : ℕ) (l : LacksSlots p w) (first : p.revived ≡ false) where
   abbrev was : IsBetween p w l.on.serving
   was = l.on.between
 
@@ -97,11 +100,11 @@ module _ (p : Parts) (w : ℕ) (l : LacksSlots p w) where
     other : v ≢ w
     holding : IsHolding p.journal v k (list v)
 
-  unfilled-by : (v k : ℕ) → is_stored_into p.config k p.journal.past ≡ false → (b : Bool) → was.story.filled v k ≡ b → was.story.filled v k ≡ false
+  unfilled-by : (v k : ℕ) → is_stored_into p.config k (since_on p.journal.past) ≡ false → (b : Bool) → was.story.filled v k ≡ b → was.story.filled v k ≡ false
   unfilled-by v k unstored true e = absurd (true≢false (sym (was.living.stored v k e) ∙ unstored))
   unfilled-by v k unstored false e = e
 
-  holds-by : (k v : ℕ) → is_stored_into p.config k p.journal.past ≡ false → was.story.took v k ≡ true → HoldsSlot k v
+  holds-by : (k v : ℕ) → is_stored_into p.config k (since_on p.journal.past) ≡ false → was.story.took v k ≡ true → HoldsSlot k v
   unfolding list list-by
   holds-by k v unstored took = record { other = not-it; holding = list-has v k (v == w) refl not-it took unfilled }
     where
@@ -113,8 +116,8 @@ module _ (p : Parts) (w : ℕ) (l : LacksSlots p w) where
 
   holds : (k : ℕ) → k < p.config.nodes → is_used p.config p.journal.start p.journal.past k ≡ false → (v : ℕ) × HoldsSlot k v
   holds k below unused =
-      let apart = unused-both (is_reached_at_start p.config p.journal.start k) (is_stored_into p.config k p.journal.past) unused in
-      elim (was.free.others k below (none-among p.slots.free k l.none)) [
+      let apart = unused-both (is_reached_in p.config (image_at_on p.journal.start p.journal.past) k) (is_stored_into p.config k (since_on p.journal.past)) unused in
+      elim (was.free.others first k below (none-among p.slots.free k l.none)) [
         | inl reached ↦ absurd (true≢false (sym reached ∙ apart.0))
         | inr some ↦ (some.0, holds-by k some.0 apart.1 some.1)
       ]
@@ -156,7 +159,7 @@ module _ (p : Parts) (w : ℕ) (l : LacksSlots p w) where
   one-each k j k-below j-below k-unused j-unused same also =
       sym (found k k-below k-unused).is ∙ (ap (λ v. slice_index (list v) (place k)) same ∙ (ap (slice_index (list (holder j))) also ∙ (found j j-below j-unused).is))
 
-  pub are-slots-held : AreSlotsHeld p.config p.journal.start p.journal.past w holder place
+  pub are-slots-held : AreSlotsHeldBy (λ slot. is_used p.config p.journal.start p.journal.past slot) p.config p.journal.past w holder place
   are-slots-held = record {
     held = λ k below unused. let h = has k below unused in is-other p w l.on.serving was (holder k) h.other h.holding.opened h.holding.is_open;
     placed = λ k below unused. omega (arith, (found k below unused).below, few k);
@@ -164,5 +167,5 @@ module _ (p : Parts) (w : ℕ) (l : LacksSlots p w) where
   }
 
 -- so no slot is left for a copy
-pub slots-are-spent : HeldSlotsAreSpent → (p : Parts) (w : ℕ) (l : LacksSlots p w) → LacksSlot p.config p.journal.start p.journal.past w
-slots-are-spent law p w l = law p.config p.journal.start p.journal.past w (holder p w l) (place p w l) (are-slots-held p w l)
+pub slots-are-spent : HeldSlotsAreSpent → (p : Parts) (w : ℕ) (l : LacksSlots p w) → p.revived ≡ false → LacksSlot p.config p.journal.start p.journal.past w
+slots-are-spent law p w l first = law p.config p.journal.start p.journal.past w (holder p w l first) (place p w l first) (are-slots-held p w l first)

@@ -15,11 +15,12 @@ use Rattle.bz_swap.specs.TakenStatuses.{BegunStayTaken}
 use Rattle.bz_task.specs.Scene.{Scene, Waiting}
 use Rattle.bz_task.specs.declared.todo.Todo.{Todo}
 use Rattle.bz_world.specs.Inside.Acted.{IsBetween}
-use Rattle.bz_world.specs.Inside.Kept.{IsKept}
+use Rattle.bz_world.specs.Inside.Kept.{IsAwake}
 use Rattle.bz_world.specs.Inside.Laws.{StartLaws}
 use Rattle.bz_world.specs.Inside.Serving.{IsServing, IsDoing, IsSlot, stage_in}
 use Rattle.bz_world.specs.Inside.Telling.{MustStart}
 use Rattle.bz_world.specs.declared.parts.Parts.{Parts}
+use Rattle.bz_world.proofs.Powered.{begun-in}
 use Rattle.bz_world.proofs.Staying.{SameFor, slot-same}
 
 -- what a worker does that has started something, and what the others do
@@ -45,7 +46,7 @@ pub record IsAskedFor (p : Parts) (s : Scene) (story : Story) (todo : Todo) : Ty
 
 pub may-ask : StartLaws → (p : Parts) (w : ℕ) (todo : Todo) → (m : MustStart p w todo) → IsAskedFor p (scene p.config p.journal.past m.asking.between.story w m.asking.between.opened) m.asking.between.story todo
 may-ask b p w todo m =
-    let sees : Sees p.config (m.asking.between.story.at (length p.journal.past)) (scene p.config p.journal.past m.asking.between.story w m.asking.between.opened) = b.scenes p.config p.access p.journal m.asking.between.story w m.asking.between.opened m.asking.between.living m.asking.between.call_open.begun in
+    let sees : Sees p.config (m.asking.between.story.at (length p.journal.past)) (scene p.config p.journal.past m.asking.between.story w m.asking.between.opened) = b.scenes p.config p.access p.journal m.asking.between.story w m.asking.between.opened m.asking.between.living (begun-in m.asking.between.living m.asking.between.call_open) in
     record {
       sees = sees;
       askable = m.asking.tasked.laws.askable (scene p.config p.journal.past m.asking.between.story w m.asking.between.opened) todo (sym m.asking.tasked.config) m.asking.facts sees.scene m.asking.asks;
@@ -62,6 +63,8 @@ module _ (starts : StartsAreSeen) (begun : BegunStayTaken) (p : Parts) (w : ℕ)
 
   living : IsLiving p.config (started p.access w doing) p.journal between.story
   living = let l = between.living in record {
+    from = l.from;
+    begins = l.begins;
     seen = starts.start p.config (between.story.at (length p.journal.past)) p.access w doing l.seen work.some holds;
     history = l.history;
     words = l.words;
@@ -97,8 +100,9 @@ module _ (starts : StartsAreSeen) (begun : BegunStayTaken) (p : Parts) (w : ℕ)
         (subst (IsSlot p.config (started p.access w doing) p.journal between.story p.owners.items w) (sym m.is) serves-on)
   ]
 
-  pub started-kept : IsKept (record p { access = started p.access w doing })
+  pub started-kept : IsAwake (record p { access = started p.access w doing })
   started-kept = record {
+    on = between.on;
     story = between.story;
     tabled = let t = between.tabled in record {
       config = t.config;
@@ -115,6 +119,7 @@ module _ (starts : StartsAreSeen) (begun : BegunStayTaken) (p : Parts) (w : ℕ)
       page_calls = t.page_calls;
       few_page_calls = t.few_page_calls;
       steps = t.steps;
+      power = t.power;
     };
     taken = let t = between.taken in record { shown = t.shown; held = begun.start p.access w doing between.idle t.held; few = t.few; counted = t.counted; unused = t.unused };
     living = living;

@@ -73,7 +73,8 @@ none-unfilled took filled needs few all = record { unfilled = []; few = omega (a
 pub record Leaves (c : Config) (m n : SwapMemory) (log : Log) (mark : Mark) (story after : Story) (v : ℕ) : Type 0 where
   pub same : SameFor m n v
   pub calls : open_call v (mark ∷ log.past) ≡ open_call v log.past
-  pub lawful : (opened : Open) → HasBegun log opened → IsLawful (scene c log.past story v opened) (scene c (mark ∷ log.past) after v opened)
+  pub from : after.from ≡ story.from
+  pub lawful : (opened : Open) → HasBegun log story opened → IsLawful (scene c log.past story v opened) (scene c (mark ∷ log.past) after v opened)
   pub took : (k : ℕ) → after.took v k ≡ story.took v k
   pub filled : (k : ℕ) → story.filled v k ≡ true → after.filled v k ≡ true
 
@@ -98,9 +99,12 @@ serving-stays seen stay c m n log mark story after owners v x living l s = recor
   doing = doing-stays m n owners v s.asked l.same s.doing;
   facts = subst (λ z. facts_of x.task z (scene c (mark ∷ log.past) after v s.opened)) (sym (stage-stays m n v l.same))
       (s.tasked.laws.stable (stage_in m (doing_of m v)) (scene c log.past story v s.opened) (scene c (mark ∷ log.past) after v s.opened) (sym s.tasked.config) s.facts
-      (seen c n (with_mark log mark) after v s.opened living (omega (arith, s.call_open.begun))).scene (l.lawful s.opened s.call_open.begun));
+      (seen c n (with_mark log mark) after v s.opened living (record { from = since; before = omega (arith, s.call_open.begun) })).scene (l.lawful s.opened (record { from = omega (arith, since, l.from); before = s.call_open.begun })));
   covered = covered-stays (story.took v) (after.took v) (story.filled v) (after.filled v) (needs_of x.task) l.took l.filled s.covered;
 }
+  where
+    since : after.from ≤ s.opened.begun
+    since = living.begins v s.opened (l.calls ∙ s.call_open.is_open)
 
 pub slot-stays : ScenesAreSeen → EffectsStayOpen → (c : Config) (m n : SwapMemory) (log : Log) (mark : Mark) (story after : Story) (owners : List ℕ) (v : ℕ) (slot : Option Serving) → IsLiving c n (with_mark log mark) after → Leaves c m n log mark story after v
     → IsSlot c m log story owners v slot → IsSlot c n (with_mark log mark) after owners v slot

@@ -11,10 +11,12 @@ use Rattle.bz_mark.specs.MomentLaws.{at_moment-now}
 use Rattle.bz_mark.specs.declared.marks.Mark.{Mark}
 use Rattle.bz_sight.specs.Passing.{Passed}
 use Rattle.bz_sight.specs.Sight.{next_instant}
-use Rattle.bz_sound.specs.Memory.Calls.{HasOpenCall}
 use Rattle.bz_sound.specs.Memory.Laws.{IsQuietAct}
 use Rattle.bz_sound.specs.Memory.Moments.{image_after, IsAfterFlush}
-use Rattle.bz_sound.specs.Memory.Sound.{IsSound}
+use Rattle.bz_sound.specs.declared.power.Power.TheVariants as power
+use Rattle.bz_sound.specs.Power.Calls.{MayAct}
+use Rattle.bz_sound.specs.Power.Sound.{IsSound}
+use Rattle.bz_sound.specs.Power.Times.{since_on}
 use Rattle.bz_sound.specs.Memory.Spent.{is_taken}
 use Rattle.bz_story.specs.Living.{IsLiving}
 use Rattle.bz_story.specs.Story.{Story}
@@ -30,6 +32,8 @@ use Rattle.bz_world.specs.Inside.Kept.{IsTabled, AreTaken}
 use Rattle.bz_world.specs.Lab.{mark_of}
 use Rattle.bz_world.specs.Inside.Laws.{JournalLaws}
 use Rattle.bz_world.specs.declared.parts.Parts.{Parts}
+use Rattle.bz_story.proofs.Powered.{since-more}
+use Rattle.bz_world.proofs.Powered.{leaves-power, power-more}
 use Rattle.bz_world.proofs.Marking.{act-marked, act-found, act-follows, act-calls, act-begun, act-counts}
 
 -- the tables
@@ -49,6 +53,7 @@ act-tabled old new w made done told t a room = subst IsTabled (sym a.rest) (reco
   page_calls = t.page_calls ∙ sym (act-counts w old.journal.past made).page_calls;
   few_page_calls = t.few_page_calls;
   steps = omega (arith, a.step.one.steps, t.steps);
+  power = power-more power.On old.journal.past (mark_of w made) (leaves-power w old.journal.past made) ∙ t.power;
 })
 
 -- a descriptor that the journal shows taken stays so
@@ -88,12 +93,12 @@ act-taken stay begun old new w made done told t held swaps a some pending = subs
     after : BegunAreTaken new.access
     after = begun.step old.access new.access w made done told held a.step t.held
 
-    shown : (s : ℕ) → s < old.config.swaps → IsTaken new.access s → (z : ℕ) → slice_index old.access.cached (swap_address s) ≡ z → is_taken s (mark_of w made ∷ old.journal.past) ≡ true
+    shown : (s : ℕ) → s < old.config.swaps → IsTaken new.access s → (z : ℕ) → slice_index old.access.cached (swap_address s) ≡ z → is_taken s (since_on (mark_of w made ∷ old.journal.past)) ≡ true
     shown s l h z e = elim (cases_eq z 0) [
-      | inr ne ↦ shown-stays s w old.journal.past made (t.shown s l (λ f. ne (sym e ∙ f)))
+      | inr ne ↦ subst (λ (marks : List Mark). is_taken s marks ≡ true) (sym (since-more old.journal.past (mark_of w made) (leaves-power w old.journal.past made))) (shown-stays s w (since_on old.journal.past) made (t.shown s l (λ f. ne (sym e ∙ f))))
       | inl zero ↦ (
           let taking : IsTaking old.access w s made = stay.begins old.access new.access w made done told s a.step (omega (arith, l, swaps)) (e ∙ zero) h in
-          subst (λ (x : Act). is_taken s (mark_of w x ∷ old.journal.past) ≡ true) (sym taking.act) (taking-shown s w old.journal.past some))
+          subst (λ (x : Act). is_taken s (since_on (mark_of w x ∷ old.journal.past)) ≡ true) (sym taking.act) (taking-shown s w (since_on old.journal.past) some))
     ]
 
 -- outside a recovery time
@@ -106,22 +111,22 @@ pub held : (m : SwapMemory) → m.phase ≢ Recovering → Holds m → IsHeld m
 held m ne h = held-in m m.phase ne h
 
 -- by an act that leaves the content the journal stays sound
-pub act-sound : JournalLaws → (old new : Parts) (story : Story) (w : ℕ) (made : Act) (done : Done) (told : Option ℕ) → IsLiving old.config old.access old.journal story → IsSound old.config old.journal → IsActed old w made done told new
-    → HasOpenCall old.journal.past w → Passed old.config (story.at (length old.journal.past)) new.access → IsSound old.config (with_mark old.journal (mark_of w made))
+pub act-sound : JournalLaws → (old new : Parts) (story : Story) (w : ℕ) (made : Act) (done : Done) (told : Option ℕ) → IsLiving old.config old.access old.journal story → IsSound old.config power.On old.journal → IsActed old w made done told new
+    → MayAct power.On old.journal.past w → Passed old.config (story.at (length old.journal.past)) new.access → IsSound old.config power.On (with_mark old.journal (mark_of w made))
 act-sound b old new story w made done told living sound a opened passed = by-act made refl
   where
     was : image_after old.journal.start old.journal.past ≡ (story.at (length old.journal.past)).image
-    was = sym (living.images (length old.journal.past) (omega arith) ∙ ap (image_after old.journal.start) (at_moment-now old.journal.past))
+    was = sym (living.images (length old.journal.past) living.from (omega arith) ∙ ap (image_after old.journal.start) (at_moment-now old.journal.past))
 
     is : image_after old.journal.start (mark_of w made ∷ old.journal.past) ≡ (next_instant new.access (story.at (length old.journal.past))).image
     is = ap (λ z. slice_index z.durable) (sym (act-marked w old.access new.access old.journal made living.words a.step.one.act))
 
-    by-act : (x : Act) → made ≡ x → IsSound old.config (with_mark old.journal (mark_of w made))
-    by-act (Load d v) e = b.quiet old.config old.journal (mark_of w made) sound (subst (λ (z : Act). IsQuietAct (mark_of w z)) (sym e) tt) (act-follows _ old.journal.past w made opened) (act-found w old.access new.access old.journal made living.words a.step.one.act a.step.one.within)
-    by-act (Store d v) e = b.quiet old.config old.journal (mark_of w made) sound (subst (λ (z : Act). IsQuietAct (mark_of w z)) (sym e) tt) (act-follows _ old.journal.past w made opened) (act-found w old.access new.access old.journal made living.words a.step.one.act a.step.one.within)
-    by-act (Cas d o n f) e = b.quiet old.config old.journal (mark_of w made) sound (subst (λ (z : Act). IsQuietAct (mark_of w z)) (sym e) tt) (act-follows _ old.journal.past w made opened) (act-found w old.access new.access old.journal made living.words a.step.one.act a.step.one.within)
+    by-act : (x : Act) → made ≡ x → IsSound old.config power.On (with_mark old.journal (mark_of w made))
+    by-act (Load d v) e = b.quiet old.config power.On old.journal (mark_of w made) sound (subst (λ (z : Act). IsQuietAct (mark_of w z)) (sym e) tt) (act-follows _ old.journal.past w made opened) (act-found w old.access new.access old.journal made living.words a.step.one.act a.step.one.within)
+    by-act (Store d v) e = b.quiet old.config power.On old.journal (mark_of w made) sound (subst (λ (z : Act). IsQuietAct (mark_of w z)) (sym e) tt) (act-follows _ old.journal.past w made opened) (act-found w old.access new.access old.journal made living.words a.step.one.act a.step.one.within)
+    by-act (Cas d o n f) e = b.quiet old.config power.On old.journal (mark_of w made) sound (subst (λ (z : Act). IsQuietAct (mark_of w z)) (sym e) tt) (act-follows _ old.journal.past w made opened) (act-found w old.access new.access old.journal made living.words a.step.one.act a.step.one.within)
     by-act (Flush line) e =
         let flushes : IsAfterFlush (mark_of w made ∷ old.journal.past) = subst (λ (z : Act). IsAfterFlush (mark_of w z ∷ old.journal.past)) (sym e) tt in
-        b.flush old.config old.journal (mark_of w made) sound flushes (act-follows _ old.journal.past w made opened)
-        (b.same old.config old.journal (mark_of w made) sound flushes (subst (λ i. image_fault old.config i ≡ None) (sym is) passed.same.good.form)
+        b.flush old.config power.On old.journal (mark_of w made) sound flushes (act-follows _ old.journal.past w made opened)
+        (b.same old.config power.On old.journal (mark_of w made) sound flushes (subst (λ i. image_fault old.config i ≡ None) (sym is) passed.same.good.form)
         (λ key. ap (λ i. content_in old.config i key) is ∙ (passed.same.content key ∙ ap (λ i. content_in old.config i key) (sym was))))

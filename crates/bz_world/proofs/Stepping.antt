@@ -15,7 +15,7 @@ use Rattle.bz_world.specs.declared.parts.Parts.{Parts}
 pub flush-is : (p : Parts) (v : ℕ) → flush_of (lab_of p) v ≡ (worker_of p.access v).flush_next
 flush-is p v = get_or-map (λ (z : Working). z.flush_next) p.access.workers v idle
 
-flush-same : (old new : Parts) (v : ℕ) → worker_of new.access v ≡ worker_of old.access v → flush_of (lab_of new) v ≡ flush_of (lab_of old) v
+pub flush-same : (old new : Parts) (v : ℕ) → worker_of new.access v ≡ worker_of old.access v → flush_of (lab_of new) v ≡ flush_of (lab_of old) v
 flush-same old new v same = flush-is new v ∙ (ap (λ (z : Working). z.flush_next) same ∙ sym (flush-is old v))
 
 -- an act after which the call goes on as it did

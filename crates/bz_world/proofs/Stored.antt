@@ -7,7 +7,7 @@ use Rattle.bz_mark.specs.Log.{with_mark}
 use Rattle.bz_running.specs.Duties.{needs_of, facts_of}
 use Rattle.bz_sight.specs.Acts.{IsStoring}
 use Rattle.bz_sight.specs.Starts.{Sees}
-use Rattle.bz_story.specs.Laws.{IsStore, goes_on, fills}
+use Rattle.bz_story.specs.Laws.{HasBegun, IsStore, goes_on, fills}
 use Rattle.bz_story.specs.Living.{IsLiving}
 use Rattle.bz_story.specs.Story.{Story, scene}
 use Rattle.bz_swap.specs.SwapMemory.{Storing, doing_of}
@@ -17,18 +17,20 @@ use Rattle.bz_task.specs.Scene.{Scene, Took}
 use Rattle.bz_task.specs.declared.todo.Seen.TheVariants as seen
 use Rattle.bz_task.specs.declared.todo.Todo.TheVariants as todo
 use Rattle.bz_world.specs.Inside.Acted.{IsActed, IsTold}
-use Rattle.bz_world.specs.Inside.Kept.{IsKept}
+use Rattle.bz_world.specs.Inside.Kept.{IsAwake}
 use Rattle.bz_world.specs.Lab.{mark_of}
 use Rattle.bz_world.specs.Inside.Serving.{IsServing, IsSlot, stage_in}
 use Rattle.bz_world.specs.declared.parts.Parts.{Parts}
 use Rattle.bz_world.specs.declared.serving.Serving.{Serving}
 use Rattle.bz_world.specs.Inside.Laws.{StepLaws}
 use Rattle.bz_sound.specs.Memory.Spent.{is_stored_into}
+use Rattle.bz_sound.specs.Power.Times.{since_on}
 use Rattle.bz_story.proofs.Storing.{fills-stored}
+use Rattle.bz_world.proofs.Powered.{begun-in}
 use Rattle.bz_world.proofs.Staying.{covered-stays}
 use Rattle.bz_world.proofs.Quiet.{some-worker, serves, sees, own, goes, same-other, stays, answered}
 
-module _ (b : StepLaws) (old new : Parts) (w : ℕ) (x : Serving) (made : Act) (answer : Done) (k : IsKept old) (is-worker : get_or old.workers.items w None ≡ Some x) (a : IsActed old w made answer None new) (room : length old.journal.past < old.config.marks) where
+module _ (b : StepLaws) (old new : Parts) (w : ℕ) (x : Serving) (made : Act) (answer : Done) (k : IsAwake old) (is-worker : get_or old.workers.items w None ≡ Some x) (a : IsActed old w made answer None new) (room : length old.journal.past < old.config.marks) where
   abbrev pub its : IsServing old.config old.access old.journal k.story old.owners.items w x
   its = serves old k w x is-worker
 
@@ -46,12 +48,12 @@ module _ (b : StepLaws) (old new : Parts) (w : ℕ) (x : Serving) (made : Act) (
     is-storing = b.storing old.config (k.story.at (length old.journal.past)) old.access new.access w made answer None d u k.living.seen a.step stores within
 
     is-store : IsStore old.config old.access new.access old.journal k.story w d u its.opened
-    is-store = record { stores = is-storing.stores; begun = its.call_open.begun; own = own b old new w x made answer k is-worker a d u stores }
+    is-store = record { stores = is-storing.stores; begun = begun-in k.living its.call_open; own = own b old new w x made answer k is-worker a d u stores }
 
     -- the journal shows the store
-    shown : (v j : ℕ) → fills old.config k.story w d v j ≡ true → is_stored_into old.config j (mark_of w made ∷ old.journal.past) ≡ true
-    shown = subst (λ (z : Act). (v j : ℕ) → fills old.config k.story w d v j ≡ true → is_stored_into old.config j (mark_of w z ∷ old.journal.past) ≡ true) (sym is-storing.act)
-        (fills-stored old.config old.journal.past k.story w d u (some-worker old k w x is-worker) ((sees b old new w x made answer k is-worker a w x its).scene.mine d (own b old new w x made answer k is-worker a d u stores).mine).0 k.living.stored)
+    shown : (v j : ℕ) → fills old.config k.story w d v j ≡ true → is_stored_into old.config j (since_on (mark_of w made ∷ old.journal.past)) ≡ true
+    shown = subst (λ (z : Act). (v j : ℕ) → fills old.config k.story w d v j ≡ true → is_stored_into old.config j (since_on (mark_of w z ∷ old.journal.past)) ≡ true) (sym is-storing.act)
+        (fills-stored old.config (since_on old.journal.past) k.story w d u (some-worker old k w x is-worker) ((sees b old new w x made answer k is-worker a w x its).scene.mine d (own b old new w x made answer k is-worker a d u stores).mine).0 k.living.stored)
 
     fills-more : (v j : ℕ) → k.story.filled v j ≡ true → fills old.config k.story w d v j ≡ true
     fills-more v j h = rw h refl
@@ -60,14 +62,14 @@ module _ (b : StepLaws) (old new : Parts) (w : ℕ) (x : Serving) (made : Act) (
     living = b.lives old.config old.access new.access old.journal k.story (mark_of w made) (fills old.config k.story w d) (goes b old new w x made answer k is-worker a) shown
 
     others : (v : ℕ) → v ≢ w → IsSlot old.config new.access (with_mark old.journal (mark_of w made)) after old.owners.items v (get_or old.workers.items v None)
-    others v ne = stays b old new w x made answer k is-worker a after v living (same-other b old new w x made answer k is-worker a v ne)
+    others v ne = stays b old new w x made answer k is-worker a after v living refl (same-other b old new w x made answer k is-worker a v ne)
         (λ opened begun. b.stores.others old.config old.access new.access old.journal k.story (mark_of w made) w d u its.opened v opened (goes b old new w x made answer k is-worker a) is-store ne begun) (λ j. refl) (fills-more v)
 
     stored : Stores d u before later
     stored = b.stores.own old.config old.access new.access old.journal k.story (mark_of w made) w d u its.opened (goes b old new w x made answer k is-worker a) is-store
 
     later-seen : Sees old.config (after.at (suc (length old.journal.past))) later
-    later-seen = b.scenes old.config new.access (with_mark old.journal (mark_of w made)) after w its.opened living (omega (arith, its.call_open.begun))
+    later-seen = b.scenes old.config new.access (with_mark old.journal (mark_of w made)) after w its.opened living (let h : HasBegun old.journal k.story its.opened = begun-in k.living its.call_open in record { from = h.from; before = omega (arith, h.before) })
 
     took : facts_of x.task Took later
     took = its.tasked.laws.stored before later d u (sym its.tasked.config) (subst (λ z. facts_of x.task z before) (ap (stage_in old.access) stores) its.facts) (sees b old new w x made answer k is-worker a w x its).scene later-seen.scene (its.asks ∙ ap Some asked) stored

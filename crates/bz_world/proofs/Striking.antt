@@ -16,10 +16,11 @@ use Rattle.bz_swap.specs.SwapMemory.{Swapping, doing_of, entries_of}
 use Rattle.bz_task.specs.Scene.{Scene, Waiting, Took}
 use Rattle.bz_task.specs.Swaps.{IsGoodSwap, Takes}
 use Rattle.bz_world.specs.Inside.Acted.{IsStriking}
-use Rattle.bz_world.specs.Inside.Kept.{IsKept}
+use Rattle.bz_world.specs.Inside.Kept.{IsAwake}
 use Rattle.bz_world.specs.Inside.Serving.{IsServing, IsSlot, stage_in}
 use Rattle.bz_world.specs.declared.parts.Parts.{Parts}
 use Rattle.bz_world.specs.declared.serving.Serving.{Serving}
+use Rattle.bz_world.proofs.Powered.{begun-in, flush-leaves}
 use Rattle.bz_world.proofs.Owners.{IsOwner, is-owner}
 use Rattle.bz_world.proofs.Staying.{SameFor, slot-stays}
 use Rattle.bz_world.specs.Inside.Laws.{StrikeLaws}
@@ -42,7 +43,7 @@ module _ (b : StrikeLaws) (p : Parts) (s : ℕ) (h : IsStriking p s) where
   abbrev pub old : Parts
   old = h.before
 
-  abbrev pub kept : IsKept old
+  abbrev pub kept : IsAwake old
   kept = h.kept
 
   abbrev pub w : ℕ
@@ -61,7 +62,7 @@ module _ (b : StrikeLaws) (p : Parts) (s : ℕ) (h : IsStriking p s) where
   before = scene old.config old.journal.past kept.story w its.opened
 
   pub before-seen : Sees old.config (kept.story.at (length old.journal.past)) before
-  before-seen = b.scenes old.config old.access old.journal kept.story w its.opened kept.living its.call_open.begun
+  before-seen = b.scenes old.config old.access old.journal kept.story w its.opened kept.living (begun-in kept.living its.call_open)
 
   few : length old.journal.past + 1 < 2 ^ 32
   few = let r = kept.tabled.config.marks_in_range in let t : length p.journal.past ≤ p.config.marks = h.tabled.marks in
@@ -83,7 +84,8 @@ module _ (b : StrikeLaws) (p : Parts) (s : ℕ) (h : IsStriking p s) where
     living = kept.living;
     takes = h.takes;
     marked = h.marked;
-    begun = its.call_open.begun;
+    powered = flush-leaves h.mark old.journal.past h.flush;
+    begun = begun-in kept.living its.call_open;
     list = owner.list;
     few = few;
     good = good;
@@ -105,12 +107,12 @@ module _ (b : StrikeLaws) (p : Parts) (s : ℕ) (h : IsStriking p s) where
   takes-effect : Takes (publishing_of x.task) (entries_of old.access s) before later
   takes-effect = b.told.own old.config old.access p.access old.journal kept.story h.mark s w its.opened (publishing_of x.task) (change_of x.task) (suc (length old.journal.past)) strikes-it
 
-  begun-by : (z : Bool) (moment : ℕ) (o : Open) → HasBegun old.journal o → HasBegun (with_mark old.journal h.mark) (opened_after z moment o)
-  begun-by true moment o l = omega (arith, l)
-  begun-by false moment o l = omega (arith, l)
+  begun-by : (z : Bool) (moment : ℕ) (o : Open) → HasBegun old.journal kept.story o → HasBegun (with_mark old.journal h.mark) after (opened_after z moment o)
+  begun-by true moment o l = record { from = l.from; before = omega (arith, l.before) }
+  begun-by false moment o l = record { from = l.from; before = omega (arith, l.before) }
 
-  pub begun : HasBegun (with_mark old.journal h.mark) opened
-  begun = begun-by (publishing_of x.task) (suc (length old.journal.past)) its.opened its.call_open.begun
+  pub begun : HasBegun (with_mark old.journal h.mark) after opened
+  begun = begun-by (publishing_of x.task) (suc (length old.journal.past)) its.opened (begun-in kept.living its.call_open)
 
   pub later-seen : Sees old.config (after.at (suc (length old.journal.past))) later
   later-seen = b.scenes old.config p.access (with_mark old.journal h.mark) after w opened living begun
@@ -136,6 +138,7 @@ module _ (b : StrikeLaws) (p : Parts) (s : ℕ) (h : IsStriking p s) where
   others v ne = slot-stays b.scenes b.stay old.config old.access p.access old.journal h.mark kept.story after old.owners.items v (get_or old.workers.items v None) living (record {
     same = same-other v ne;
     calls = flush-calls v h.mark old.journal.past h.flush;
+    from = refl;
     lawful = λ o begins. b.told.others old.config old.access p.access old.journal kept.story h.mark s w its.opened (publishing_of x.task) (change_of x.task) v o strikes-it ne begins;
     took = λ j. refl;
     filled = λ j e. e;

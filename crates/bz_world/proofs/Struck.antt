@@ -9,10 +9,11 @@ use Rattle.bz_mark.specs.Log.{with_mark}
 use Rattle.bz_mark.specs.declared.marks.Mark.TheVariants.{Effect}
 use Rattle.bz_running.specs.Duties.{publishing_of}
 use Rattle.bz_world.specs.Inside.Acted.{IsStriking}
-use Rattle.bz_world.specs.Inside.Kept.{IsKept}
+use Rattle.bz_world.specs.Inside.Kept.{IsAwake}
 use Rattle.bz_world.specs.Inside.Serving.{IsSlot, noted}
 use Rattle.bz_world.specs.declared.parts.Parts.{Parts}
 use Rattle.bz_world.specs.declared.serving.Serving.{Serving}
+use Rattle.bz_sound.specs.declared.power.Power.TheVariants as power
 use Rattle.bz_world.proofs.Quiet.{within-crew}
 use Rattle.bz_world.specs.Inside.Laws.{StrikeLaws}
 use Rattle.bz_world.proofs.Striking.{w, x, its, owner}
@@ -20,8 +21,9 @@ use Rattle.bz_world.proofs.StruckQuietly.{struck-quietly}
 use Rattle.bz_world.proofs.Published.{published}
 
 -- a table of the same entries
-pub kept-workers : (p : Parts) (workers : Vec (Option Serving)) → IsKept p → length workers.items ≡ length p.workers.items → ((v : ℕ) → get_or workers.items v None ≡ get_or p.workers.items v None) → IsKept (record p { workers = workers })
+pub kept-workers : (p : Parts) (workers : Vec (Option Serving)) → IsAwake p → length workers.items ≡ length p.workers.items → ((v : ℕ) → get_or workers.items v None ≡ get_or p.workers.items v None) → IsAwake (record p { workers = workers })
 kept-workers p workers k size same = record {
+  on = k.on;
   story = k.story;
   tabled = let t = k.tabled in record {
     config = t.config;
@@ -38,6 +40,7 @@ kept-workers p workers k size same = record {
     page_calls = t.page_calls;
     few_page_calls = t.few_page_calls;
     steps = t.steps;
+    power = t.power;
   };
   taken = let t = k.taken in record { shown = t.shown; held = t.held; few = t.few; counted = t.counted; unused = t.unused };
   living = k.living;
@@ -69,7 +72,7 @@ module _ (b : StrikeLaws) (p : Parts) (s : ℕ) (h : IsStriking p s) (v : ℕ) (
   slot-was = ap (λ z. get_or z.items v None) same-table ∙ (ap (λ u. get_or h.before.workers.items u None) worker-is ∙ (owner b p s h).is)
 
   -- the swap makes no change
-  pub struck-silent : (slot : Option Serving) → slot ≡ noted (Some (x b p s h)) (length p.journal.past) → publishing_of (x b p s h).task ≡ false → IsKept (record p { workers = with_item p.workers v slot })
+  pub struck-silent : (slot : Option Serving) → slot ≡ noted (Some (x b p s h)) (length p.journal.past) → publishing_of (x b p s h).task ≡ false → IsAwake (record p { workers = with_item p.workers v slot })
   struck-silent slot is silent = kept-workers p (with_item p.workers v slot) (struck-quietly b p s h silent) (length-set p.workers.items v slot) same
     where
       slot-is : slot ≡ Some (x b p s h)
@@ -83,15 +86,15 @@ module _ (b : StrikeLaws) (p : Parts) (s : ℕ) (h : IsStriking p s) (v : ℕ) (
 
   -- or it makes it
   pub struck-aloud : (slot : Option Serving) (n : ℕ) → slot ≡ noted (Some (x b p s h)) (length p.journal.past) → publishing_of (x b p s h).task ≡ true → n ≡ slice_index p.numbers.items v → length p.journal.past < p.config.marks
-      → IsKept (record p { journal = with_mark p.journal (Effect v n); workers = with_item p.workers v slot })
-  struck-aloud slot n is publishes number room = subst (λ (q : Parts). IsKept (record q { journal = with_mark q.journal (Effect v n); workers = with_item p.workers v slot })) (sym h.rest)
-      (subst (λ u. IsKept (record h.before { access = p.access; journal = with_mark (with_mark h.before.journal h.mark) (Effect u n); workers = with_item p.workers v slot })) (sym worker-is)
-      (subst (λ m. IsKept (record h.before { access = p.access; journal = with_mark (with_mark h.before.journal h.mark) (Effect (w b p s h) m); workers = with_item p.workers v slot })) (sym number-is)
+      → IsAwake (record p { journal = with_mark p.journal (Effect v n); workers = with_item p.workers v slot })
+  struck-aloud slot n is publishes number room = subst (λ (q : Parts). IsAwake (record q { journal = with_mark q.journal (Effect v n); workers = with_item p.workers v slot })) (sym h.rest)
+      (subst (λ u. IsAwake (record h.before { access = p.access; journal = with_mark (with_mark h.before.journal h.mark) (Effect u n); workers = with_item p.workers v slot })) (sym worker-is)
+      (subst (λ m. IsAwake (record h.before { access = p.access; journal = with_mark (with_mark h.before.journal h.mark) (Effect (w b p s h) m); workers = with_item p.workers v slot })) (sym number-is)
       (published b p s h publishes (with_item p.workers v slot) (length-set p.workers.items v slot ∙ table-size) (let r : length (h.mark ∷ h.before.journal.past) < h.before.config.marks = subst (λ (q : Parts). length q.journal.past < q.config.marks) h.rest room in omega (arith, r)) here-is others-are)))
     where
       number-is : n ≡ (its b p s h).opened.number
       number-is = number ∙ (ap (λ (q : Parts). slice_index q.numbers.items v) h.rest ∙ (ap (λ u. slice_index h.before.numbers.items u) worker-is ∙ (h.kept.tabled.counted (w b p s h) (subst (λ u. u < 65) worker-is in-table)
-          ∙ sym (b.last h.before.config h.before.journal (w b p s h) (its b p s h).opened h.kept.sound (its b p s h).call_open.is_open).last)))
+          ∙ sym (b.last h.before.config power.On h.before.journal (w b p s h) (its b p s h).opened h.kept.sound (its b p s h).call_open.is_open).last)))
 
       moment-is : length p.journal.past ≡ suc (length h.before.journal.past)
       moment-is = ap (λ (q : Parts). length q.journal.past) h.rest

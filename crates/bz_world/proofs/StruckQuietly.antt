@@ -8,7 +8,8 @@ use Rattle.bz_mark.specs.MomentLaws.{at_moment-now}
 use Rattle.bz_running.specs.Duties.{asks_of, facts_of, publishing_of, change_of}
 use Rattle.bz_sight.specs.Effects.{effect_instant}
 use Rattle.bz_sound.specs.Memory.Moments.{image_after}
-use Rattle.bz_sound.specs.Memory.Sound.{IsSound}
+use Rattle.bz_sound.specs.declared.power.Power.TheVariants as power
+use Rattle.bz_sound.specs.Power.Sound.{IsSound}
 use Rattle.bz_story.specs.Laws.{opened_after}
 use Rattle.bz_story.specs.Story.{scene}
 use Rattle.bz_swap.specs.SwapMemory.{Swapping, doing_of, entries_of}
@@ -16,17 +17,18 @@ use Rattle.bz_task.specs.Scene.{Waiting, Took, here}
 use Rattle.bz_task.specs.Swaps.{ContentFollows}
 use Rattle.bz_task.specs.declared.todo.Todo.TheVariants as todo
 use Rattle.bz_world.specs.Inside.Acted.{IsStriking}
-use Rattle.bz_world.specs.Inside.Kept.{IsKept, IsTabled, AreTaken}
+use Rattle.bz_world.specs.Inside.Kept.{IsAwake, IsTabled, AreTaken}
 use Rattle.bz_world.specs.Inside.Serving.{IsServing, IsSlot, IsSwapping, stage_in}
 use Rattle.bz_world.specs.declared.parts.Parts.{Parts}
 use Rattle.bz_world.specs.Inside.Laws.{StrikeLaws}
+use Rattle.bz_world.proofs.Powered.{flush-leaves, free-on}
 use Rattle.bz_world.proofs.Staying.{told-stays}
 use Rattle.bz_world.proofs.Striking.{flush-calls, old, kept, w, x, its, owner, before, good, after, living, opened, took, others}
 
 module _ (b : StrikeLaws) (p : Parts) (s : ℕ) (h : IsStriking p s) where
   -- the image before and after it
   pub image-was : image_after (old b p s h).journal.start (old b p s h).journal.past ≡ ((kept b p s h).story.at (length (old b p s h).journal.past)).image
-  image-was = sym ((kept b p s h).living.images (length (old b p s h).journal.past) (omega arith) ∙ ap (image_after (old b p s h).journal.start) (at_moment-now (old b p s h).journal.past))
+  image-was = sym ((kept b p s h).living.images (length (old b p s h).journal.past) (kept b p s h).living.from (omega arith) ∙ ap (image_after (old b p s h).journal.start) (at_moment-now (old b p s h).journal.past))
 
   pub image-is : image_after (old b p s h).journal.start (h.mark ∷ (old b p s h).journal.past) ≡ slice_index p.access.durable
   image-is = ap (λ z. slice_index z.durable) (sym h.marked)
@@ -65,8 +67,8 @@ module _ (b : StrikeLaws) (p : Parts) (s : ℕ) (h : IsStriking p s) where
         subst (λ z. ContentFollows z (change_of (x b p s h).task) (old b p s h).config (here (before b p s h)) (effect_instant (old b p s h).config p.access ((kept b p s h).story.at (length (old b p s h).journal.past)))) silent (good b p s h).content in
         ap (λ i. content_in (old b p s h).config i key) image-is ∙ (follows key ∙ ap (λ i. content_in (old b p s h).config i key) (sym image-was))
 
-    sound : IsSound (old b p s h).config (with_mark (old b p s h).journal h.mark)
-    sound = b.flushes (old b p s h).config (old b p s h).journal h.mark (kept b p s h).sound h.flush h.follows (b.same (old b p s h).config (old b p s h).journal h.mark (kept b p s h).sound h.flush fault-is same-content)
+    sound : IsSound (old b p s h).config power.On (with_mark (old b p s h).journal h.mark)
+    sound = b.flushes (old b p s h).config power.On (old b p s h).journal h.mark (kept b p s h).sound h.flush h.follows (b.same (old b p s h).config power.On (old b p s h).journal h.mark (kept b p s h).sound h.flush fault-is same-content)
 
     serves-on : IsServing (old b p s h).config p.access (with_mark (old b p s h).journal h.mark) (after b p s h) (old b p s h).owners.items (w b p s h) (x b p s h)
     serves-on = record {
@@ -94,13 +96,14 @@ module _ (b : StrikeLaws) (p : Parts) (s : ℕ) (h : IsStriking p s) where
           (subst (IsSlot (old b p s h).config p.access (with_mark (old b p s h).journal h.mark) (after b p s h) (old b p s h).owners.items (w b p s h)) (sym (owner b p s h).is) serves-on)
     ]
 
-    pub struck-quietly : IsKept p
-    struck-quietly = subst IsKept (sym h.rest) (record {
+    pub struck-quietly : IsAwake p
+    struck-quietly = subst IsAwake (sym h.rest) (record {
+      on = (kept b p s h).on;
       story = after b p s h;
       tabled = subst IsTabled h.rest h.tabled;
       taken = subst AreTaken h.rest h.taken;
       living = living b p s h;
       sound = sound;
-      free = (kept b p s h).free;
+      free = free-on (old b p s h).config (old b p s h).journal.start (old b p s h).journal.past h.mark (old b p s h).slots (after b p s h).took (old b p s h).revived (flush-leaves h.mark (old b p s h).journal.past h.flush) (kept b p s h).free;
       workers = slots;
     })

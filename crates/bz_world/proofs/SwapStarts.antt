@@ -23,11 +23,12 @@ use Rattle.bz_task.specs.declared.todo.Todo.{Todo}
 use Rattle.bz_task.specs.declared.todo.Todo.TheVariants as todo
 use Rattle.bz_word.specs.declared.entry.Entry.{Entry}
 use Rattle.bz_world.specs.Inside.Acted.{IsBetween}
-use Rattle.bz_world.specs.Inside.Kept.{IsKept}
+use Rattle.bz_world.specs.Inside.Kept.{IsAwake}
 use Rattle.bz_world.specs.Inside.Serving.{IsServing, IsDoing, IsSlot, stage_in}
 use Rattle.bz_world.specs.Inside.Telling.{MustStart}
 use Rattle.bz_world.specs.declared.parts.Parts.{Parts}
 use Rattle.bz_world.specs.declared.serving.Serving.{Serving}
+use Rattle.bz_world.proofs.Powered.{begun-in}
 use Rattle.bz_world.proofs.Starting.{starts-it, starts-others}
 
 module _ (scenes : ScenesAreSeen) (hidden : OwnWordsAreHidden) (p : Parts) (w : ℕ) (asked : Todo) (m : MustStart p w asked) where
@@ -43,7 +44,7 @@ module _ (scenes : ScenesAreSeen) (hidden : OwnWordsAreHidden) (p : Parts) (w : 
   store-by v a u x h todo.Finish e d storing = absurd d
   store-by v a u x h (todo.Store c q) e d storing =
       let s : Scene = scene p.config p.journal.past between.story v h.opened in
-      let sees : Sees p.config (between.story.at (length p.journal.past)) (scene p.config p.journal.past between.story v h.opened) = scenes p.config p.access p.journal between.story v h.opened between.living h.call_open.begun in
+      let sees : Sees p.config (between.story.at (length p.journal.past)) (scene p.config p.journal.past between.story v h.opened) = scenes p.config p.access p.journal between.story v h.opened between.living (begun-in between.living h.call_open) in
       let same : todo.Store c q ≡ todo.Store a u = cc (d.0, storing) in
       let own : IsOwnStore (scene p.config p.journal.past between.story v h.opened) a u =
       h.tasked.laws.askable (scene p.config p.journal.past between.story v h.opened) (todo.Store a u) (sym h.tasked.config)
@@ -85,7 +86,9 @@ module _ (starts : StartsAreSeen) (scenes : ScenesAreSeen) (begun : BegunStayTak
 
   living : IsLiving p.config new p.journal was.story
   living = let l = was.living in record {
-    seen = starts.swap p.config (was.story.at (length p.journal.past)) p.access w entries (scene p.config p.journal.past was.story w was.opened) l.seen (scenes p.config p.access p.journal was.story w was.opened l was.call_open.begun) may ask holds;
+    from = l.from;
+    begins = l.begins;
+    seen = starts.swap p.config (was.story.at (length p.journal.past)) p.access w entries (scene p.config p.journal.past was.story w was.opened) l.seen (scenes p.config p.access p.journal was.story w was.opened l (begun-in l was.call_open)) may ask holds;
     history = l.history;
     words = l.words;
     images = l.images;
@@ -175,8 +178,9 @@ module _ (starts : StartsAreSeen) (scenes : ScenesAreSeen) (begun : BegunStayTak
         (subst (IsSlot p.config new p.journal was.story owners.items w) (sym m.is) serves-on)
   ]
 
-  pub swapping-kept : IsKept (record p { access = new; owners = owners })
+  pub swapping-kept : IsAwake (record p { access = new; owners = owners })
   swapping-kept = record {
+    on = was.on;
     story = was.story;
     tabled = let t = was.tabled in record {
       config = t.config;
@@ -193,6 +197,7 @@ module _ (starts : StartsAreSeen) (scenes : ScenesAreSeen) (begun : BegunStayTak
       page_calls = t.page_calls;
       few_page_calls = t.few_page_calls;
       steps = t.steps;
+      power = t.power;
     };
     taken = let t = was.taken in record {
       shown = t.shown;

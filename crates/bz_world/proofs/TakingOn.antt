@@ -31,6 +31,7 @@ use Rattle.bz_world.specs.Inside.Telling.{MustStart, HasTold, HasToldIn, LacksDe
 use Rattle.bz_world.specs.declared.answers.Applied.{Applied}
 use Rattle.bz_world.specs.declared.parts.Parts.{Parts}
 use Rattle.bz_world.specs.declared.serving.Serving.{Serving}
+use Rattle.bz_world.proofs.Powered.{begun-in}
 use Rattle.bz_world.proofs.Staying.{none-unfilled}
 
 -- each slot that was taken has been stored into
@@ -84,6 +85,7 @@ lacks-swap p w todo then m lacks q moment free left rest asks told = record {
 pub between-tasks : (p : Parts) (w : ℕ) (x y : Serving) (b : IsBetween p w x) (workers : Vec (Option Serving)) → length workers.items ≡ length p.workers.items → ((v : ℕ) → v ≢ w → get_or workers.items v None ≡ get_or p.workers.items v None)
     → IsOpened p.config p.journal w b.opened y → IsBetween (record p { workers = workers }) w y
 between-tasks p w x y b workers size rest opened = record {
+  on = b.on;
   story = b.story;
   tabled = let t = b.tabled in record {
     config = t.config;
@@ -100,6 +102,7 @@ between-tasks p w x y b workers size rest opened = record {
     page_calls = t.page_calls;
     few_page_calls = t.few_page_calls;
     steps = t.steps;
+    power = t.power;
   };
   taken = let t = b.taken in record { shown = t.shown; held = t.held; few = t.few; counted = t.counted; unused = t.unused };
   living = b.living;
@@ -125,7 +128,7 @@ called-is p w on call is = let same : Some on.serving.call ≡ Some call = sym (
 
 -- what is known of the memory is of it as it is
 pub known-scene : ScenesAreSeen → (p : Parts) (w : ℕ) (on : MustGoOn p w) → IsScene (known p w on)
-known-scene scenes p w on = (scenes p.config p.access p.journal on.between.story w on.between.opened on.between.living on.between.call_open.begun).scene
+known-scene scenes p w on = (scenes p.config p.access p.journal on.between.story w on.between.opened on.between.living (begun-in on.between.living on.between.call_open)).scene
 
 -- a lookup of the call's key
 abbrev pub lookup-taken : (p : Parts) (w : ℕ) (on : MustGoOn p w) (task : Running) (way : Option Path) (asked : Option Todo) (key : List ℕ) → config_of task ≡ p.config → AreLaws task → makes_no_change task ≡ true → IsLookup key way task → key ≡ key_of on.serving.call

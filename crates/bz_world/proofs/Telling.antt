@@ -1,13 +1,15 @@
 -- A task that was told something asks for something else, and the world but for it is as it was.
-use Rattle.std.proofs.Common.{◌≡◌, ◌≢◌, ℕ, ◌||◌, Bool, true, false, length, arith, refl, sym, ap, subst, ◌∙◌, inl, inr, Option, Some, None}
+use Rattle.std.proofs.Common.{◌≡◌, ◌≢◌, ℕ, ◌<◌, ◌||◌, Bool, true, false, length, arith, refl, sym, ap, subst, ◌∙◌, inl, inr, Option, Some, None}
 use Rattle.std.specs.Prelude.{get_or}
 use Rattle.std.specs.Global.{Vec}
 use Rattle.std.specs.Vec.{with_item}
 use Rattle.std.proofs.lemmas.Bool.{true≢false}
 use Rattle.std.proofs.lemmas.List.{get_or-set_same, get_or-set_other, length-set}
 use Rattle.bz_call.specs.Map.{key_of}
+use Rattle.bz_call.specs.declared.replies.Spent.TheVariants.{Nodes}
 use Rattle.bz_layout.specs.Slots.{FreeSlots}
 use Rattle.bz_layout.specs.declared.config.Config.{Config}
+use Rattle.bz_layout.specs.declared.thresholds.TheConstants.{CONSOLIDATION_SLOTS}
 use Rattle.bz_running.specs.Duties.{needs_of, facts_of}
 use Rattle.bz_sight.specs.Starts.{Sees}
 use Rattle.bz_sound.specs.Calls.{Open}
@@ -22,12 +24,15 @@ use Rattle.bz_task.specs.declared.todo.Seen.{Seen}
 use Rattle.bz_task.specs.declared.todo.Todo.{Todo}
 use Rattle.bz_task.specs.declared.view.LeafView.{LeafView}
 use Rattle.bz_world.specs.Inside.Acted.{IsTold, IsAsking, MustTell}
+use Rattle.bz_world.specs.Inside.Going.{end_in}
 use Rattle.bz_world.specs.Inside.Serving.{IsCovered, IsOpened, IsTasked, IsSlot, IsChangeFor}
 use Rattle.bz_world.specs.Inside.Telling.{CanHear, HasTold, HasToldIn, MustStart, KnowsLeaf, MustStartOf}
 use Rattle.bz_world.specs.declared.parts.Parts.{Parts}
 use Rattle.bz_world.specs.declared.serving.Serving.{Serving}
+use Rattle.bz_sound.specs.Power.Times.{image_at_on}
+use Rattle.bz_world.proofs.Powered.{begun-in}
 use Rattle.bz_world.proofs.Staying.{covered-stays, slot-scenes}
-use Rattle.bz_world.proofs.Takings.{covered-taken, may-take, still-free}
+use Rattle.bz_world.proofs.Takings.{covered-taken, may-take, no-more-free, still-free}
 
 -- the slot has a task that was told
 pub record IsNext (x : Serving) (seen : Seen) (moment : ℕ) (free : FreeSlots) (todo : Todo) (slot : Option Serving) (left : FreeSlots) : Type 0 where
@@ -38,6 +43,13 @@ pub record IsNext (x : Serving) (seen : Seen) (moment : ℕ) (free : FreeSlots) 
 next-of : (x : Serving) (seen : Seen) (moment : ℕ) (free : FreeSlots) (todo : Todo) (slot : Option Serving) (left : FreeSlots) → HasToldIn (Some x) seen moment free todo slot left → IsNext x seen moment free todo slot left
 next-of x seen moment free todo None left h = absurd h
 next-of x seen moment free todo (Some y) left h = record { next = y; is = refl; told = h }
+
+-- a task that has ended for want of a slot found none
+pub full-rightly : (p : Parts) (w : ℕ) (seen : Seen) (m : MustTell p w seen) (moment : ℕ) (todo : Todo) (slot : Option Serving) (left : FreeSlots) → HasToldIn (Some m.serving) seen moment p.slots todo slot left → end_in slot ≡ Some (outcome.Full Nodes) → length left.free < CONSOLIDATION_SLOTS
+full-rightly p w seen m moment todo slot left told ended =
+    let n : IsNext m.serving seen moment p.slots todo slot left = next-of m.serving seen moment p.slots todo slot left told in
+    let lacked = n.told.heard.full_nodes (sym (ap end_in n.is) ∙ ended) in
+    omega (arith, lacked, m.told.tasked.laws.single, no-more-free (needs_of m.serving.task) (needs_of n.next.task) p.slots left n.told.heard.slots)
 
 module _ (scenes : ScenesAreSeen) (slots : SlotsAreTaken) (p : Parts) (w : ℕ) (seen : Seen) (m : MustTell p w seen) where
   abbrev x : Serving
@@ -50,7 +62,7 @@ module _ (scenes : ScenesAreSeen) (slots : SlotsAreTaken) (p : Parts) (w : ℕ) 
   here = scene p.config p.journal.past told.between.story w told.between.opened
 
   sees : Sees p.config (told.between.story.at (length p.journal.past)) here
-  sees = scenes p.config p.access p.journal told.between.story w told.between.opened told.between.living told.between.call_open.begun
+  sees = scenes p.config p.access p.journal told.between.story w told.between.opened told.between.living (begun-in told.between.living told.between.call_open)
 
   pub can-hear : (slot : Option Serving) → slot ≡ Some x → CanHear slot seen (length p.journal.past) p.slots
   can-hear slot e = subst (λ z. CanHear z seen (length p.journal.past) p.slots) (sym e) (
@@ -109,7 +121,7 @@ module _ (scenes : ScenesAreSeen) (slots : SlotsAreTaken) (p : Parts) (w : ℕ) 
         (covered-taken (told.between.story.took w) (told.between.story.filled w) (needs_of x.task) (needs_of y.task) p.slots left h.heard.slots told.covered)
 
     living : IsLiving p.config p.access p.journal after
-    living = slots.living p.config p.access p.journal told.between.story w p.slots left told.between.living (may-take p.config p.journal.start told.between.story p.slots left told.between.free)
+    living = slots.living p.config p.access p.journal told.between.story w p.slots left told.between.living (may-take p.config (image_at_on p.journal.start p.journal.past) p.revived told.between.story p.slots left told.between.free)
 
     other : (v : ℕ) → v ≢ w → (opened : Open) → scene p.config p.journal.past after v opened ≡ scene p.config p.journal.past told.between.story v opened
     other v ne opened = slots.others p.config p.journal.past told.between.story w v opened p.slots left ne
@@ -117,6 +129,7 @@ module _ (scenes : ScenesAreSeen) (slots : SlotsAreTaken) (p : Parts) (w : ℕ) 
     pub is-asking : (workers : Vec (Option Serving)) → length workers.items ≡ length p.workers.items → ((v : ℕ) → v ≢ w → get_or workers.items v None ≡ get_or p.workers.items v None) → IsAsking (record p { slots = left; workers = workers }) w y todo
     is-asking workers size rest = record {
       between = record {
+        on = told.between.on;
         story = after;
         tabled = let t = told.between.tabled in record {
           config = t.config;
@@ -133,11 +146,12 @@ module _ (scenes : ScenesAreSeen) (slots : SlotsAreTaken) (p : Parts) (w : ℕ) 
           page_calls = t.page_calls;
           few_page_calls = t.few_page_calls;
           steps = t.steps;
+          power = t.power;
         };
         taken = let t = told.between.taken in record { shown = t.shown; held = t.held; few = t.few; counted = t.counted; unused = t.unused };
         living = living;
         sound = told.between.sound;
-        free = still-free p.config p.journal.start told.between.story w (needs_of x.task) (needs_of y.task) p.slots left h.heard.slots told.between.free;
+        free = still-free p.config (image_at_on p.journal.start p.journal.past) p.revived told.between.story w (needs_of x.task) (needs_of y.task) p.slots left h.heard.slots told.between.free;
         others = λ v ne. subst (IsSlot p.config p.access p.journal after p.owners.items v) (sym (rest v ne))
             (slot-scenes p.config p.access p.journal told.between.story after p.owners.items v (get_or p.workers.items v None) told.between.opened (other v ne) (λ k. refl) (told.between.others v ne));
         worker = told.between.worker;

@@ -7,3 +7,4 @@ pub mod Telling
 pub mod Opening
 pub mod Going
 pub mod Beginning
+pub mod Powering

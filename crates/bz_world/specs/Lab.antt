@@ -1,5 +1,5 @@
 -- What callers see of a world, and what it answers.
-use Rattle.std.specs.Prelude.{◌≡◌, ◌≢◌, ◌<◌, ◌≤◌, ◌⊎◌, ℕ, ◌+◌, ◌-◌, Bool, false, ◌==◌, ◌||◌, ◌&&◌, nat_lt, nat_le, if◌then◌else◌, is_some, is_none, get_or, slice_set, replicate, List, [], ◌∷◌, ◌++◌, length, Option, Some, None, MatchOption}
+use Rattle.std.specs.Prelude.{◌≡◌, ◌≢◌, ◌<◌, ◌≤◌, ◌⊎◌, ℕ, zero, suc, ◌+◌, ◌-◌, Bool, false, ◌==◌, ◌||◌, ◌&&◌, nat_lt, nat_le, if◌then◌else◌, is_some, is_none, get_or, slice_set, replicate, List, [], ◌∷◌, ◌++◌, length, Option, Some, None, MatchOption}
 use Rattle.bz_acts.specs.Rule.{is_flush_act}
 use Rattle.bz_acts.specs.declared.acted.Act.{Act}
 use Rattle.bz_acts.specs.declared.acted.Act.TheVariants as act
@@ -12,8 +12,11 @@ use Rattle.bz_layout.specs.Fresh.{fresh_words}
 use Rattle.bz_layout.specs.declared.config.Config.{Config}
 use Rattle.bz_mark.specs.Log.{Log, with_mark, count_begins, count_page_calls, count_page_ends}
 use Rattle.bz_mark.specs.declared.marks.Mark.{Mark}
-use Rattle.bz_mark.specs.declared.marks.Mark.TheVariants.{Begin, End, Load, Store, Cas, Flush, Evict, Effect}
+use Rattle.bz_mark.specs.declared.marks.Mark.TheVariants.{Begin, End, Load, Store, Cas, Flush, Evict, Cut, On, Ready, Effect}
+use Rattle.bz_sound.specs.declared.power.Power.{Power}
+use Rattle.bz_sound.specs.declared.power.Power.TheVariants as power
 use Rattle.bz_sound.specs.Calls.{open_call, begun_calls}
+use Rattle.bz_sound.specs.Power.Times.{power_of}
 use Rattle.bz_sound.specs.Replies.{Pages}
 use Rattle.bz_world.specs.declared.answers.Applied.{Applied}
 use Rattle.bz_world.specs.declared.answers.Applied.TheVariants as applied
@@ -43,6 +46,10 @@ new_lab config = record {
   flushes = replicate (config.workers + 1) false;
 }
 
+-- what the power is: on at first
+abbrev pub power_in : Lab → Power
+power_in lab = power_of power.On lab.log.past
+
 -- why no world was opened: the first number out of its range, or want of memory, and then none is
 abbrev pub IsOpenFault : Config → OpenError → Type 0
 IsOpenFault config (open_error.Config error) = IsFirstOutOfRange config error
@@ -61,35 +68,76 @@ is_short log = nat_lt (log.limits.marks - length log.past) 3
 abbrev pub lacks_page : Log → Call → Bool
 lacks_page log called = is_page called && nat_le log.limits.pages (count_page_calls log.past)
 
--- the answer to a begin: the first refusal that applies, or else the call's number
+-- the answer to a begin with the power on: the first refusal that applies, or else the call's number
+abbrev pub powered_answer : Lab → ℕ → Call → Begun
+powered_answer lab w called =
+    if is_some (open_call w lab.log.past) then begun.Busy
+    else (if nat_le lab.log.limits.calls (count_begins lab.log.past) then begun.Limit which.Calls
+    else (if lacks_page lab.log called then begun.Limit which.Pages
+    else begun.Begun (begun_calls w lab.log.past + 1)))
+
+abbrev pub answer_by : Power → Lab → ℕ → Call → Begun
+answer_by power.Off lab w called = begun.Off
+answer_by power.Recovering lab w called = begun.Recovering
+answer_by power.On lab w called = powered_answer lab w called
+
+-- and to any begin
 abbrev pub begin_answer : Lab → ℕ → Call → Begun
 begin_answer lab w called =
     if (w == 0) || nat_lt lab.config.workers w then begun.NoWorker
     else (if is_short lab.log then begun.Limit which.Marks
-    else (if is_some (open_call w lab.log.past) then begun.Busy
-    else (if nat_le lab.log.limits.calls (count_begins lab.log.past) then begun.Limit which.Calls
-    else (if lacks_page lab.log called then begun.Limit which.Pages
-    else begun.Begun (begun_calls w lab.log.past + 1)))))
+    else answer_by (power_in lab) lab w called)
 
 -- a begin adds its mark where it is no refusal, and changes nothing else: a call's first act is no flush
 abbrev pub after_begin : Lab → ℕ → Call → Begun → Lab
 after_begin lab w called (begun.Begun n) = record lab { log = with_mark lab.log (Begin w n called); flushes = slice_set lab.flushes w false }
 after_begin lab w called refusal = lab
 
+-- a worker without an open call makes no step
+abbrev pub idle_refusal : Lab → ℕ → Option Applied
+idle_refusal lab w = if is_none (open_call w lab.log.past) then Some applied.Idle else None
+
+-- in a recovery worker 0 alone acts
+abbrev pub step_by : Power → Lab → ℕ → Option Applied
+step_by power.Off lab w = Some applied.Off
+step_by power.Recovering lab zero = None
+step_by power.Recovering lab (suc w) = Some applied.Recovering
+step_by power.On lab w = idle_refusal lab w
+
 -- the first refusal of a step that applies
 abbrev pub step_refusal : Lab → ℕ → Option Applied
 step_refusal lab w =
     if nat_lt lab.config.workers w then Some applied.NoWorker
     else (if is_short lab.log then Some applied.Limit
-    else (if is_none (open_call w lab.log.past) then Some applied.Idle
-    else None))
+    else step_by (power_in lab) lab w)
+
+-- nothing else than power on happens while the power is off
+abbrev pub off_refusal : Power → Option Applied
+off_refusal power.Off = Some applied.Off
+off_refusal other = None
 
 -- and of an eviction
 abbrev pub evict_refusal : Lab → ℕ → Option Applied
 evict_refusal lab a =
     if nat_le (words_of lab.config) a then Some applied.NoWord
     else (if is_short lab.log then Some applied.Limit
-    else None)
+    else off_refusal (power_in lab))
+
+-- and of a power cut
+abbrev pub cut_refusal : Lab → Option Applied
+cut_refusal lab =
+    if is_short lab.log then Some applied.Limit
+    else off_refusal (power_in lab)
+
+-- and of power on
+abbrev pub on_by : Power → Option Applied
+on_by power.Off = None
+on_by other = Some applied.Powered
+
+abbrev pub on_refusal : Lab → Option Applied
+on_refusal lab =
+    if is_short lab.log then Some applied.Limit
+    else on_by (power_in lab)
 
 -- the mark of an act
 abbrev pub mark_of : ℕ → Act → Mark
@@ -126,6 +174,24 @@ pub record Steps (old : Lab) (w : ℕ) (answer : Applied) (new : Lab) : Type 0 w
   pub config : new.config ≡ old.config
   pub others : (v : ℕ) → v ≢ w → flush_of new v ≡ flush_of old v
 
+-- the recovery goes on, or has ended with this act: its Ready follows directly
+abbrev pub EndsRecovery : Log → Applied → Log → Type 0
+EndsRecovery old applied.Stepped new = new ≡ old
+EndsRecovery old applied.Ready new = new ≡ with_mark old Ready
+EndsRecovery old other new = ⊥
+
+-- a step of the recovery: exactly one act of worker 0, a flush exactly where that was said before
+pub record Recovers (old : Lab) (answer : Applied) (new : Lab) : Type 0 where
+  pub made : Act
+  pub flush : is_flush_act made ≡ flush_of old 0
+  pub ends : EndsRecovery (with_mark old.log (mark_of 0 made)) answer new.log
+  pub config : new.config ≡ old.config
+  pub others : (v : ℕ) → v ≢ 0 → flush_of new v ≡ flush_of old v
+
+abbrev pub StepsBy : Power → Lab → ℕ → Applied → Lab → Type 0
+StepsBy power.Recovering old w answer new = Recovers old answer new
+StepsBy other old w answer new = Steps old w answer new
+
 -- an eviction: its mark, and at most one effect
 pub record Evicts (old : Lab) (a : ℕ) (answer : Applied) (new : Lab) : Type 0 where
   pub answered : answer ≡ applied.Evicted
@@ -133,7 +199,17 @@ pub record Evicts (old : Lab) (a : ℕ) (answer : Applied) (new : Lab) : Type 0 
   pub effect : IsStruck (Evict a ∷ old.log.past) past
   pub rest : new ≡ record old { log = record old.log { past = past } }
 
+-- a power cut adds its mark, and nobody has a next act
+abbrev pub after_cut : Lab → Lab
+after_cut lab = record lab { log = with_mark lab.log Cut; flushes = replicate (lab.config.workers + 1) false }
+
+-- power on adds its mark: the first act of a recovery is no flush
+abbrev pub after_on : Lab → Lab
+after_on lab = record lab { log = with_mark lab.log On; flushes = slice_set lab.flushes 0 false }
+
 -- the answer to an event: a refusal exactly where one applies, and then nothing changes
 abbrev pub IsApplied : Lab → Event → Applied → Lab → Type 0
-IsApplied old (event.Step w) answer new = MatchOption (step_refusal old w) (Steps old w answer new) (λ refusal. (answer ≡ refusal) × (new ≡ old))
+IsApplied old (event.Step w) answer new = MatchOption (step_refusal old w) (StepsBy (power_in old) old w answer new) (λ refusal. (answer ≡ refusal) × (new ≡ old))
 IsApplied old (event.Evict a) answer new = MatchOption (evict_refusal old a) (Evicts old a answer new) (λ refusal. (answer ≡ refusal) × (new ≡ old))
+IsApplied old event.Cut answer new = MatchOption (cut_refusal old) ((answer ≡ applied.Cut) × (new ≡ after_cut old)) (λ refusal. (answer ≡ refusal) × (new ≡ old))
+IsApplied old event.On answer new = MatchOption (on_refusal old) ((answer ≡ applied.On) × (new ≡ after_on old)) (λ refusal. (answer ≡ refusal) × (new ≡ old))

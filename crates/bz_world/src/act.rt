@@ -6,7 +6,7 @@ ghost use Rattle.bz_swap.specs.SwapMemory.{Idle, doing_of};
 ghost use Rattle.bz_swap.specs.declared.phase.Phase.TheVariants.{Recovering};
 ghost use Rattle.bz_sound.specs.Calls.{open_call};
 ghost use Rattle.bz_world.specs.Inside.Acted.{IsActed, MustTell, HasActed};
-ghost use Rattle.bz_world.specs.Inside.Kept.{IsKept};
+ghost use Rattle.bz_world.specs.Inside.Kept.{IsAwake};
 ghost use Rattle.bz_world.specs.Lab.{mark_of as mark_in};
 
 use crate::laws::step_laws;
@@ -18,7 +18,7 @@ use bz_swap::{Act, Done, Progress, laws as swap};
 use bz_task::Seen;
 
 // The mark of an act.
-fn mark_of(w: u8, act: Act) -> Mark
+pub(crate) fn mark_of(w: u8, act: Act) -> Mark
     ensures { result ≡ mark_in w act }
 {
     match act {
@@ -52,10 +52,10 @@ fn make_act(parts: &mut Parts, w: u8) -> Progress
 /// Makes the next act of a worker's open call, and notes its effect. Answers what the call's task is to be told, if the act ended what
 /// it asked for.
 pub(crate) fn act(parts: &mut Parts, w: u8) -> Option<Seen>
-    requires kept { IsKept parts.old }
+    requires kept { IsAwake parts.old }
     requires open { open_call w parts.old.journal.past ≢ None }
     requires room { length parts.old.journal.past + 1 < parts.old.config.marks }
-    ensures on { result ≡ None → IsKept parts.new }
+    ensures on { result ≡ None → IsAwake parts.new }
     ensures told { (seen : Seen) → result ≡ Some seen → MustTell parts.new w seen }
     ensures made { HasActed parts.old w parts.new }
 {

@@ -1,7 +1,7 @@
 //! Begins of calls.
-ghost use Rattle.std.specs.Prelude.{◌≡◌};
-ghost use Rattle.bz_world.specs.Inside.Beginning.{pages_asked as pages_of_call, lab_of, MayBegin, IsRefusal, HasBegun};
-ghost use Rattle.bz_world.specs.Inside.Kept.{IsKept};
+ghost use Rattle.std.specs.Prelude.{◌≡◌, ◌≤◌};
+ghost use Rattle.bz_world.specs.Inside.Beginning.{pages_asked as pages_of_call, lab_of, MayBegin, IsPoweredRefusal, IsRefusal, HasBegun};
+ghost use Rattle.bz_world.specs.Inside.Kept.{IsAwake, IsKept};
 ghost use Rattle.bz_world.specs.Lab.{begin_answer, after_begin};
 
 use crate::answers::{Begun, Which};
@@ -13,6 +13,7 @@ use bz_call::Call;
 use bz_layout::ROOT_STATUS_AT;
 use bz_mark::Mark;
 use bz_running::Running;
+use bz_sound::Power;
 
 // How many pages a call asks for.
 fn pages_asked(call: &Call) -> u32
@@ -22,6 +23,24 @@ fn pages_asked(call: &Call) -> u32
         Call::Page(_) => 1,
         _ => 0,
     }
+}
+
+// The refusal of a begin with the power on, if one applies.
+fn powered_refusal(parts: &Parts, w: u8, call: &Call) -> Option<Begun>
+    requires kept { IsAwake parts.now }
+    requires within { w ≤ parts.now.config.workers }
+    ensures { IsPoweredRefusal parts.now w call.now result }
+{
+    if parts.workers[w as usize].is_some() {
+        return Some(Begun::Busy);
+    }
+    if parts.begun >= parts.config.calls {
+        return Some(Begun::Limit(Which::Calls));
+    }
+    if pages_asked(call) > 0 && parts.pages_begun >= parts.config.pages {
+        return Some(Begun::Limit(Which::Pages));
+    }
+    None
 }
 
 // The refusal of a begin, if one applies.
@@ -35,21 +54,16 @@ fn refusal(parts: &Parts, w: u8, call: &Call) -> Option<Begun>
     if parts.journal.room() < 3 {
         return Some(Begun::Limit(Which::Marks));
     }
-    if parts.workers[w as usize].is_some() {
-        return Some(Begun::Busy);
+    match parts.power {
+        Power::Off => Some(Begun::Off),
+        Power::Recovering => Some(Begun::Recovering),
+        Power::On => powered_refusal(parts, w, call),
     }
-    if parts.begun >= parts.config.calls {
-        return Some(Begun::Limit(Which::Calls));
-    }
-    if pages_asked(call) > 0 && parts.pages_begun >= parts.config.pages {
-        return Some(Begun::Limit(Which::Pages));
-    }
-    None
 }
 
 // Begins a call that is not refused, with the lookup of its key.
 fn open_call(parts: &mut Parts, w: u8, call: Call) -> u32
-    requires kept { IsKept parts.old }
+    requires kept { IsAwake parts.old }
     requires may { MayBegin parts.old w call }
     ensures { HasBegun parts.old w call result parts.new }
 {

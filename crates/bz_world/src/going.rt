@@ -51,7 +51,7 @@ pub(crate) fn end_effective(parts: &mut Parts, w: u8, at: u32) -> Applied
     requires room { length parts.old.journal.past < parts.old.config.marks }
     ensures { WentOn parts.old w result parts.new }
 {
-    bz_sound::memory_laws::effects_answer();
+    bz_sound::power_laws::effects_answer();
     let call = called(&parts.workers[w as usize]);
     let had = had_in(&parts.workers[w as usize]);
     end(parts, w, effect_reply(&call, had), at)
@@ -63,7 +63,7 @@ pub(crate) fn end_full(parts: &mut Parts, w: u8, spent: Spent) -> Applied
     requires room { length parts.old.journal.past < parts.old.config.marks }
     ensures { WentOn parts.old w result parts.new }
 {
-    bz_sound::memory_laws::spent_answers_full();
+    bz_sound::power_laws::spent_answers_full();
     let call = called(&parts.workers[w as usize]);
     if is_write(&call) {
         let now = parts.journal.length();
@@ -79,7 +79,7 @@ fn end_swapless(parts: &mut Parts, w: u8) -> Applied
     requires room { length parts.old.journal.past < parts.old.config.marks }
     ensures { WentOn parts.old w result parts.new }
 {
-    bz_sound::memory_laws::held_swaps_are_spent();
+    bz_sound::power_laws::held_swaps_are_spent();
     match effect_in(&parts.workers[w as usize]) {
         Some(at) => end_effective(parts, w, at),
         None => end_full(parts, w, Spent::Swaps),

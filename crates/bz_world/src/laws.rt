@@ -2,7 +2,7 @@
 ghost use Rattle.bz_world.specs.Inside.Laws.{StepLaws, StrikeLaws, StartLaws, EndLaws, AnswerLaws};
 
 use bz_sight::laws as sight;
-use bz_sound::memory_laws as sound;
+use bz_sound::{memory_laws as calls, power_laws as sound};
 use bz_story::laws as story;
 use bz_swap::laws as swap;
 
@@ -26,7 +26,7 @@ pub(crate) fn step_laws()
     sound::same_content_decodes();
     swap::taken_statuses_stay();
     swap::begun_stay_taken();
-    sound::effects_stay_open();
+    calls::effects_stay_open();
 }
 
 /// And those of an effect.
@@ -43,9 +43,9 @@ pub(crate) fn strike_laws()
     sound::flushes_follow();
     sound::changes_follow();
     sound::effects_follow_acts();
-    sound::open_calls_are_kept();
+    calls::open_calls_are_kept();
     sound::open_calls_are_last();
-    sound::effects_stay_open();
+    calls::effects_stay_open();
 }
 
 /// And those of a start.
@@ -66,13 +66,13 @@ pub(crate) fn end_laws()
     story::scenes_are_seen();
     story::lives_go_on();
     story::quiet_marks_are_lawful();
-    sound::open_calls_are_kept();
+    calls::open_calls_are_kept();
     sound::open_calls_are_last();
     sound::open_calls_leave_room();
     sound::ends_follow();
     sound::page_ends_follow();
     sound::begins_follow();
-    sound::effects_stay_open();
+    calls::effects_stay_open();
 }
 
 /// And those of an answer.

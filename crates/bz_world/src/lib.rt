@@ -11,6 +11,8 @@ mod going;
 mod laws;
 mod open;
 mod parts;
+mod power;
+mod recovery;
 mod restructuring;
 mod serving;
 mod settle;
@@ -23,4 +25,5 @@ mod tests;
 mod world;
 
 pub use answers::{Applied, Begun, Event, OpenError, Which};
+pub use bz_sound::Power;
 pub use world::World;

@@ -13,6 +13,8 @@ use bz_key::PageBuf;
 use bz_layout::{Config, Slots};
 use bz_mark::Journal;
 use bz_memory::Memory;
+use bz_recover::Recover;
+use bz_sound::Power;
 use bz_swap::Access;
 use std::alloc::Global;
 
@@ -47,7 +49,7 @@ fn fresh_parts(alloc: Global, config: &Config) -> Result<Parts, Memory>
     bz_content::laws::fresh_memory_is_empty();
     bz_content::laws::fresh_memory_reaches_slot_zero();
     bz_swap::laws::begun_stay_taken();
-    bz_sound::memory_laws::fresh_journals_are_sound();
+    bz_sound::power_laws::fresh_journals_are_sound();
     bz_story::laws::fresh_stories_live();
     let start = bz_layout::fresh(alloc, config)?;
     let access = Access::open(alloc, &start, config.swaps, config.workers)?;
@@ -59,6 +61,9 @@ fn fresh_parts(alloc: Global, config: &Config) -> Result<Parts, Memory>
         access,
         slots,
         journal,
+        power: Power::On,
+        recovery: Recover::new(config),
+        revived: false,
         workers: none_table(alloc, PLACES)?,
         owners: vec![in alloc; 0u8; config.swaps as usize]?,
         numbers: vec![in alloc; 0u32; PLACES]?,

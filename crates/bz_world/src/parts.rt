@@ -3,6 +3,8 @@ use crate::serving::Serving;
 use bz_key::PageBuf;
 use bz_layout::{Config, Slots};
 use bz_mark::Journal;
+use bz_recover::Recover;
+use bz_sound::Power;
 use bz_swap::Access;
 
 /// The memory, the journal of what happened, and what each worker is doing.
@@ -12,6 +14,11 @@ pub(crate) struct Parts {
     pub access: Access,
     pub slots: Slots,
     pub journal: Journal,
+    pub power: Power,
+    /// What worker 0 does while the power is recovering.
+    pub recovery: Recover,
+    /// The power has come on again: a slot that was taken before may be neither free nor reached.
+    pub revived: bool,
     /// The open call of each worker, from worker 0 on.
     pub workers: Vec<Option<Serving>>,
     /// The worker of each swap, by its number.

@@ -1,19 +1,20 @@
 //! What comes of the end of a task: the next task of its call, or its reply.
 ghost use Rattle.std.specs.Prelude.{◌≡◌, ◌<◌, None, Some, length, get_or};
 ghost use Rattle.bz_call.specs.declared.calls.Call.TheVariants as called;
+ghost use Rattle.bz_task.specs.declared.todo.Outcome.TheVariants.{Full};
 ghost use Rattle.bz_task.specs.declared.todo.Todo.TheVariants.{Finish};
-ghost use Rattle.bz_world.specs.Inside.Going.{MustRead, MustAnswer, HasEnded, WentOn, call_in};
+ghost use Rattle.bz_world.specs.Inside.Going.{MustRead, MustAnswer, HasEnded, IsFullRightly, WentOn, call_in};
 ghost use Rattle.bz_world.specs.Inside.Telling.{MustStart};
 
 use crate::answers::Applied;
 use crate::calls::{called, effect_in, key_of, set_task};
 use crate::changes::{answer_delete, answer_insert, answer_update, answer_upsert};
 use crate::end::{end, end_page};
-use crate::going::{end_effective, go_on, look_up, outcome_of};
+use crate::going::{end_effective, end_full, go_on, look_up, outcome_of};
 use crate::laws::{answer_laws, start_laws};
 use crate::parts::Parts;
 use crate::tell::tell;
-use bz_call::{Call, Reply};
+use bz_call::{Call, Reply, Spent};
 use bz_key::Key;
 use bz_page::{collect, find};
 use bz_running::Running;
@@ -77,6 +78,23 @@ fn answer(parts: &mut Parts, w: u8, view: &LeafView) -> Applied
     }
 }
 
+// The task of a call without effect has ended for want of this. Where it is slots, none is left, and its call ends; after a
+// recovery it is looked up again, since then a slot that is not free need not be used.
+fn settle_full(parts: &mut Parts, w: u8, spent: Spent) -> Applied
+    requires ends { HasEnded parts.old w (Full spent) }
+    requires room { length parts.old.journal.past < parts.old.config.marks }
+    ensures { WentOn parts.old w result parts.new }
+{
+    bz_sound::power_laws::held_slots_are_spent();
+    if parts.revived {
+        return look_up(parts, w);
+    }
+    match spent {
+        Spent::Nodes => end_full(parts, w, spent),
+        Spent::Swaps | Spent::Height => look_up(parts, w),
+    }
+}
+
 // The task of a call without effect has ended so.
 fn settle_quiet(parts: &mut Parts, w: u8, outcome: Outcome) -> Applied
     requires ends { HasEnded parts.old w outcome }
@@ -86,6 +104,7 @@ fn settle_quiet(parts: &mut Parts, w: u8, outcome: Outcome) -> Applied
     match outcome {
         Outcome::Path(path) => read_leaf(parts, w, path),
         Outcome::View(view) => answer(parts, w, &view),
+        Outcome::Full(spent) => settle_full(parts, w, spent),
         _ => look_up(parts, w),
     }
 }
@@ -93,6 +112,7 @@ fn settle_quiet(parts: &mut Parts, w: u8, outcome: Outcome) -> Applied
 /// The task of a worker's call has ended.
 pub(crate) fn settle(parts: &mut Parts, w: u8) -> Applied
     requires ends { MustStart parts.old w Finish }
+    requires full { IsFullRightly parts.old w }
     requires room { length parts.old.journal.past < parts.old.config.marks }
     ensures { WentOn parts.old w result parts.new }
 {

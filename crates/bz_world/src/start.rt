@@ -2,7 +2,7 @@
 ghost use Rattle.std.specs.Prelude.{◌≡◌, ◌≢◌, ℕ, true, false};
 ghost use Rattle.bz_swap.specs.SwapMemory.{worker_of};
 ghost use Rattle.bz_task.specs.declared.todo.Todo.TheVariants.{Swap, Finish};
-ghost use Rattle.bz_world.specs.Inside.Kept.{IsKept};
+ghost use Rattle.bz_world.specs.Inside.Kept.{IsAwake};
 ghost use Rattle.bz_world.specs.Inside.Telling.{MustStart, LacksDescriptor};
 
 use crate::laws::start_laws;
@@ -13,7 +13,7 @@ use bz_task::Todo;
 // Starts a swap. Answers whether there was a descriptor for it.
 fn start_swap(parts: &mut Parts, w: u8, entries: EntryList) -> bool
     requires asks { MustStart parts.old w (Swap entries) }
-    ensures started { result ≡ true → IsKept parts.new }
+    ensures started { result ≡ true → IsAwake parts.new }
     ensures lacks { result ≡ false → LacksDescriptor parts.old (Swap entries) }
     ensures same { result ≡ false → parts.new ≡ parts.old }
     ensures rest { parts.new ≡ record parts.old { access = parts.new.access; owners = parts.new.owners } }
@@ -34,7 +34,7 @@ fn start_swap(parts: &mut Parts, w: u8, entries: EntryList) -> bool
 pub(crate) fn start(parts: &mut Parts, w: u8, todo: Todo) -> bool
     requires asks { MustStart parts.old w todo }
     requires more { todo ≢ Finish }
-    ensures started { result ≡ true → IsKept parts.new }
+    ensures started { result ≡ true → IsAwake parts.new }
     ensures lacks { result ≡ false → LacksDescriptor parts.old todo }
     ensures same { result ≡ false → parts.new ≡ parts.old }
     ensures rest { parts.new ≡ record parts.old { access = parts.new.access; owners = parts.new.owners } }

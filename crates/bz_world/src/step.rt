@@ -1,12 +1,12 @@
 //! Steps of workers, and evictions.
-ghost use Rattle.std.specs.Prelude.{◌≡◌, ◌≢◌, ◌<◌, ◌≤◌, ◌+◌, None, length};
+ghost use Rattle.std.specs.Prelude.{◌≡◌, ◌≢◌, ◌<◌, ◌≤◌, ◌+◌, None, MatchOption, length};
 ghost use Rattle.bz_layout.specs.Addresses.{words_of};
 ghost use Rattle.bz_sound.specs.Calls.{open_call};
 ghost use Rattle.bz_world.specs.Inside.Acted.{IsEvicted};
 ghost use Rattle.bz_world.specs.Inside.Beginning.{lab_of};
-ghost use Rattle.bz_world.specs.Inside.Going.{WentOn};
-ghost use Rattle.bz_world.specs.Inside.Kept.{IsKept};
-ghost use Rattle.bz_world.specs.Lab.{Steps, Evicts, IsApplied};
+ghost use Rattle.bz_world.specs.Inside.Going.{IsFullRightly, WentOn};
+ghost use Rattle.bz_world.specs.Inside.Kept.{IsAwake, IsKept};
+ghost use Rattle.bz_world.specs.Lab.{idle_refusal, Steps, Evicts, IsApplied};
 ghost use Rattle.bz_world.specs.Inside.Telling.{MustStart};
 ghost use Rattle.bz_world.specs.declared.answers.Event.TheVariants as event;
 ghost use Rattle.bz_swap.specs.declared.phase.Phase.TheVariants.{Recovering};
@@ -16,16 +16,19 @@ use crate::answers::Applied;
 use crate::going::go_on;
 use crate::laws::step_laws;
 use crate::parts::Parts;
+use crate::recovery::{evict_recovering, step_recovering};
 use crate::settle::settle;
 use crate::strike::strike;
 use crate::tell::tell;
 use bz_mark::Mark;
 use bz_sight::laws as sight;
+use bz_sound::Power;
 use bz_task::Todo;
 
 // A task asks for something, or has ended.
 fn follow(parts: &mut Parts, w: u8, todo: Todo) -> Applied
     requires asks { MustStart parts.old w todo }
+    requires full { IsFullRightly parts.old w }
     requires room { length parts.old.journal.past < parts.old.config.marks }
     ensures { WentOn parts.old w result parts.new }
 {
@@ -37,10 +40,10 @@ fn follow(parts: &mut Parts, w: u8, todo: Todo) -> Applied
 
 // Makes the next act of a worker's open call, and goes on with it.
 fn step_open(parts: &mut Parts, w: u8) -> Applied
-    requires kept { IsKept parts.old }
+    requires kept { IsAwake parts.old }
     requires open { open_call w parts.old.journal.past ≢ None }
     requires room { length parts.old.journal.past + 3 ≤ parts.old.config.marks }
-    ensures kept { IsKept parts.new }
+    ensures kept { IsAwake parts.new }
     ensures steps { Steps (lab_of parts.old) w result (lab_of parts.new) }
 {
     match act(parts, w) {
@@ -50,6 +53,20 @@ fn step_open(parts: &mut Parts, w: u8) -> Applied
         }
         None => Applied::Stepped,
     }
+}
+
+// Goes on with the open call of a worker, if it has one, with the power on.
+fn step_powered(parts: &mut Parts, w: u8) -> Applied
+    requires kept { IsAwake parts.old }
+    requires within { w ≤ parts.old.config.workers }
+    requires room { length parts.old.journal.past + 3 ≤ parts.old.config.marks }
+    ensures kept { IsAwake parts.new }
+    ensures applied { MatchOption (idle_refusal (lab_of parts.old) w) (Steps (lab_of parts.old) w result (lab_of parts.new)) (λ refusal. (result ≡ refusal) × (lab_of parts.new ≡ lab_of parts.old)) }
+{
+    if parts.workers[w as usize].is_none() {
+        return Applied::Idle;
+    }
+    step_open(parts, w)
 }
 
 /// Goes on with the open call of a worker by one act.
@@ -64,14 +81,15 @@ pub(crate) fn step(parts: &mut Parts, w: u8) -> Applied
     if parts.journal.room() < 3 {
         return Applied::Limit;
     }
-    if parts.workers[w as usize].is_none() {
-        return Applied::Idle;
+    match parts.power {
+        Power::Off => Applied::Off,
+        Power::Recovering => step_recovering(parts, w),
+        Power::On => step_powered(parts, w),
     }
-    step_open(parts, w)
 }
 
 // Makes a word durable.
-fn make_eviction(parts: &mut Parts, a: u32) -> Option<u16>
+pub(crate) fn make_eviction(parts: &mut Parts, a: u32) -> Option<u16>
     requires within { a < length parts.old.access.cached }
     requires room { length parts.old.journal.past < parts.old.journal.limits.marks }
     ensures { IsEvicted parts.old a result parts.new }
@@ -83,10 +101,10 @@ fn make_eviction(parts: &mut Parts, a: u32) -> Option<u16>
 
 // Makes a word durable, and notes the effect that comes of it.
 fn evict_word(parts: &mut Parts, a: u32)
-    requires kept { IsKept parts.old }
+    requires kept { IsAwake parts.old }
     requires within { a < words_of parts.old.config }
     requires room { length parts.old.journal.past + 3 ≤ parts.old.config.marks }
-    ensures kept { IsKept parts.new }
+    ensures kept { IsAwake parts.new }
     ensures evicts { Evicts (lab_of parts.old) a Applied.Evicted (lab_of parts.new) }
 {
     step_laws();
@@ -108,6 +126,10 @@ pub(crate) fn evict(parts: &mut Parts, a: u32) -> Applied
     if parts.journal.room() < 3 {
         return Applied::Limit;
     }
-    evict_word(parts, a);
+    match parts.power {
+        Power::Off => return Applied::Off,
+        Power::Recovering => evict_recovering(parts, a),
+        Power::On => evict_word(parts, a),
+    }
     Applied::Evicted
 }

@@ -1,7 +1,7 @@
 //! The effect of a swap.
 ghost use Rattle.std.specs.Prelude.{◌≡◌, ◌<◌, length};
 ghost use Rattle.bz_world.specs.Inside.Acted.{IsStriking};
-ghost use Rattle.bz_world.specs.Inside.Kept.{IsKept};
+ghost use Rattle.bz_world.specs.Inside.Kept.{IsAwake};
 ghost use Rattle.bz_world.specs.Lab.{IsStruck};
 ghost use Rattle.bz_world.specs.Inside.Serving.{noted, is_publishing};
 
@@ -32,7 +32,7 @@ fn note_effect(slot: &mut Option<Serving>, moment: u32) -> bool
 pub(crate) fn strike(parts: &mut Parts, swap: u16)
     requires striking { IsStriking parts.old swap }
     requires room { length parts.old.journal.past < parts.old.config.marks }
-    ensures kept { IsKept parts.new }
+    ensures kept { IsAwake parts.new }
     ensures struck { IsStruck parts.old.journal.past parts.new.journal.past }
     ensures rest { parts.new ≡ record parts.old { journal = record parts.old.journal { past = parts.new.journal.past }; workers = parts.new.workers } }
 {

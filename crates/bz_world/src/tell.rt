@@ -1,6 +1,7 @@
 //! Telling a worker's task what came of what it asked for.
 ghost use Rattle.std.specs.Prelude.{◌≡◌, ◌<◌, None, get_or, length};
 ghost use Rattle.bz_world.specs.Inside.Acted.{MustTell};
+ghost use Rattle.bz_world.specs.Inside.Going.{IsFullRightly};
 ghost use Rattle.bz_world.specs.Inside.Telling.{CanHear, HasToldIn, MustStart, MustTellOf, MustStartOf};
 
 use crate::parts::Parts;
@@ -29,6 +30,8 @@ pub(crate) fn tell(parts: &mut Parts, w: u8, seen: Seen) -> Todo
     requires { MustTell parts.old w seen }
     ensures asks { MustStart parts.new w result }
     ensures told { HasToldIn (get_or parts.old.workers.items w None) seen (length parts.old.journal.past) parts.old.slots result (get_or parts.new.workers.items w None) parts.new.slots }
+    // it has ended for want of a slot only where none is left
+    ensures full { IsFullRightly parts.new w }
     // what was read of the leaf of its call is known as before
     ensures knows { (view : LeafView) → MustTellOf parts.old w seen view → MustStartOf parts.new w result view }
     ensures rest { parts.new ≡ record parts.old { slots = parts.new.slots; workers = parts.new.workers } }

@@ -7,6 +7,7 @@ mod decode;
 mod limits;
 mod map;
 mod pairs;
+mod power;
 mod random;
 mod reader;
 mod restart;

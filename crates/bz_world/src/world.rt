@@ -1,19 +1,24 @@
 //! Worlds.
-ghost use Rattle.std.specs.Prelude.{◌≡◌, ◌≢◌, ◌<◌, ◌≤◌, OnOk, IfOk, IfErr, None, ℕ, slice_index};
+ghost use Rattle.std.specs.Prelude.{IsTrue, ◌↔◌, ◌≡◌, ◌≢◌, ◌<◌, ◌≤◌, OnOk, IfOk, IfErr, None, ℕ, slice_index};
 ghost use Rattle.bz_layout.specs.Addresses.{words_of as size_of};
 ghost use Rattle.bz_layout.specs.Config.{IsConfig};
 ghost use Rattle.bz_mark.specs.WordsAfter.{words_of};
 ghost use Rattle.bz_sound.specs.Calls.{open_call};
-ghost use Rattle.bz_sound.specs.Memory.Sound.{IsSound};
+ghost use Rattle.bz_sound.specs.declared.power.Power.TheVariants.{On};
+ghost use Rattle.bz_sound.specs.Power.Sound.{IsSound};
+ghost use Rattle.bz_sound.specs.Power.Laws.{IsUnbroken};
+ghost use Rattle.bz_sound.specs.Memory.Sound as before;
 
 use crate::answers::{Applied, Begun, Event, OpenError};
 use crate::begin::begin;
 use crate::open::open_parts;
 use crate::parts::Parts;
+use crate::power::{cut, power_on};
 use crate::step::{evict, step};
 use bz_call::Call;
 use bz_layout::Config;
 use bz_mark::Journal;
+use bz_sound::Power;
 use std::alloc::Global;
 use std::marker::Model;
 
@@ -36,7 +41,7 @@ impl Model for World {
 }
 
 impl World {
-    ghost use Rattle.bz_world.specs.Lab.{Lab, IsWorker, new_lab, IsOpenFault, begin_answer, after_begin, flush_of, IsApplied};
+    ghost use Rattle.bz_world.specs.Lab.{Lab, IsWorker, new_lab, IsOpenFault, power_in, begin_answer, after_begin, flush_of, IsApplied};
 
     /// A world over fresh memory, in which nothing has happened.
     pub fn open(alloc: Global, config: &Config) -> Result<World, OpenError>
@@ -63,16 +68,27 @@ impl World {
         match event {
             Event::Step(w) => step(&mut self.parts, w),
             Event::Evict(a) => evict(&mut self.parts, a),
+            Event::Cut => cut(&mut self.parts),
+            Event::On => power_on(&mut self.parts),
         }
     }
 
     /// The journal, which is sound.
     pub fn journal(&self) -> &Journal
         ensures journal { result.now ≡ self.now.log }
-        ensures sound { IsSound self.now.config self.now.log }
+        ensures sound { IsSound self.now.config On self.now.log }
+        ensures unbroken { IsUnbroken self.now.log.past → before.IsSound self.now.config self.now.log }
         ensures workers { (w : ℕ) → (IsWorker self.now.config w → ⊥) → open_call w self.now.log.past ≡ None }
     {
+        bz_sound::power_laws::sound_as_before();
         &self.parts.journal
+    }
+
+    /// What the power is: on at first, off after a cut, and on again when a recovery has ended.
+    pub fn power(&self) -> Power
+        ensures { result ≡ power_in self.now }
+    {
+        self.parts.power
     }
 
     /// The numbers that the world was made with.
@@ -97,6 +113,14 @@ impl World {
         ensures { result ≡ slice_index (words_of self.now.log.start self.now.log.past).cached a }
     {
         self.parts.access.cached(a)
+    }
+
+    /// Whether a power cut would change the word at an address.
+    pub fn differs(&self, a: u32) -> bool
+        requires { a < size_of self.now.config }
+        ensures { IsTrue result ↔ (slice_index (words_of self.now.log.start self.now.log.past).cached a ≢ slice_index (words_of self.now.log.start self.now.log.past).durable a) }
+    {
+        self.parts.access.cached(a) != self.parts.access.durable(a)
     }
 
     /// The durable word at an address: what a power cut would leave.

@@ -10,9 +10,11 @@ use Rattle.bz_mark.specs.declared.marks.Mark.TheVariants.{Evict}
 use Rattle.bz_running.specs.Duties.{asks_of, needs_of, facts_of}
 use Rattle.bz_sight.specs.Effects.{TakesPlace}
 use Rattle.bz_sound.specs.Calls.{Open}
-use Rattle.bz_sound.specs.Memory.Calls.{MayFollow}
 use Rattle.bz_sound.specs.Memory.Moments.{IsAfterFlush, map_at_start}
-use Rattle.bz_sound.specs.Memory.Sound.{IsSound}
+use Rattle.bz_sound.specs.declared.power.Power.TheVariants as power
+use Rattle.bz_sound.specs.Power.Calls.{MayFollow}
+use Rattle.bz_sound.specs.Power.Sound.{IsSound}
+use Rattle.bz_sound.specs.Power.Times.{image_at_on}
 use Rattle.bz_story.specs.Laws.{IsMarked}
 use Rattle.bz_story.specs.Living.{IsLiving}
 use Rattle.bz_story.specs.Story.{Story, scene}
@@ -24,7 +26,7 @@ use Rattle.bz_task.specs.Requests.{Hears, Tells}
 use Rattle.bz_task.specs.Scene.{Stage, Waiting}
 use Rattle.bz_task.specs.declared.todo.Seen.{Seen}
 use Rattle.bz_task.specs.declared.todo.Todo.{Todo}
-use Rattle.bz_world.specs.Inside.Kept.{IsTabled, AreTaken, AreFree, IsKept}
+use Rattle.bz_world.specs.Inside.Kept.{IsTabled, AreTaken, AreFree, IsAwake}
 use Rattle.bz_world.specs.Lab.{mark_of, IsStruck}
 use Rattle.bz_world.specs.Inside.Serving.{IsCovered, IsSlot, IsOpened, IsTasked}
 use Rattle.bz_world.specs.declared.parts.Parts.{Parts}
@@ -52,24 +54,25 @@ pub record SameWork (old new : SwapMemory) : Type 0 where
 pub record IsStriking (p : Parts) (s : ℕ) : Type 0 where
   pub before : Parts
   pub mark : Mark
-  pub kept : IsKept before
+  pub kept : IsAwake before
   pub takes : TakesPlace before.access p.access s
   pub work : SameWork before.access p.access
   pub tabled : IsTabled p
   pub taken : AreTaken p
   pub marked : IsMarked p.access before.journal mark
   pub flush : IsAfterFlush (mark ∷ before.journal.past)
-  pub follows : MayFollow (map_at_start before.config before.journal.start) before.journal.past mark
+  pub follows : MayFollow power.On (map_at_start before.config before.journal.start) before.journal.past mark
   pub rest : p ≡ record before { access = p.access; journal = with_mark before.journal mark }
 
 -- all is well but for worker w, whose call is open, and which does nothing
 pub record IsBetween (p : Parts) (w : ℕ) (x : Serving) : Type 0 where
+  pub on : p.power ≡ power.On
   pub story : Story
   pub tabled : IsTabled p
   pub taken : AreTaken p
   pub living : IsLiving p.config p.access p.journal story
-  pub sound : IsSound p.config p.journal
-  pub free : AreFree p.config p.journal.start p.slots story.took
+  pub sound : IsSound p.config power.On p.journal
+  pub free : AreFree p.config (image_at_on p.journal.start p.journal.past) p.slots story.took p.revived
   pub others : (v : ℕ) → v ≢ w → IsSlot p.config p.access p.journal story p.owners.items v (get_or p.workers.items v None)
   pub worker : 0 < w
   pub within : w ≤ p.config.workers

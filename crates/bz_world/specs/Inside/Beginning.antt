@@ -2,10 +2,11 @@
 use Rattle.std.specs.Prelude.{◌≡◌, ◌<◌, ◌≤◌, ◌+◌, ℕ, if◌then◌else◌, length, map, get_or, Option, Some, None}
 use Rattle.bz_call.specs.Pages.{is_page}
 use Rattle.bz_call.specs.declared.calls.Call.{Call}
+use Rattle.bz_sound.specs.declared.power.Power.TheVariants as power
 use Rattle.bz_sound.specs.Calls.{begun_calls}
 use Rattle.bz_swap.specs.SwapMemory.{Working}
-use Rattle.bz_world.specs.Inside.Kept.{IsKept}
-use Rattle.bz_world.specs.Lab.{Lab, begin_answer, after_begin}
+use Rattle.bz_world.specs.Inside.Kept.{IsAwake}
+use Rattle.bz_world.specs.Lab.{Lab, powered_answer, begin_answer, after_begin}
 use Rattle.bz_world.specs.declared.answers.Begun.{Begun}
 use Rattle.bz_world.specs.declared.answers.Begun.TheVariants as begun
 use Rattle.bz_world.specs.declared.parts.Parts.{Parts}
@@ -20,6 +21,7 @@ pages_asked called = if is_page called then 1 else 0
 
 -- the call may begin: no refusal applies
 pub record MayBegin (p : Parts) (w : ℕ) (called : Call) : Type 0 where
+  pub on : p.power ≡ power.On
   pub worker : 0 < w
   pub within : w ≤ p.config.workers
   pub room : length p.journal.past + 3 ≤ p.config.marks
@@ -27,7 +29,15 @@ pub record MayBegin (p : Parts) (w : ℕ) (called : Call) : Type 0 where
   pub calls : p.begun < p.config.calls
   pub pages : p.pages_begun + pages_asked called ≤ p.config.pages
 
--- the refusal that is answered, if one applies
+-- the refusal that is answered with the power on, if one applies
+pub record IsPoweredRefusal (p : Parts) (w : ℕ) (called : Call) (refusal : Option Begun) : Type 0 where
+  pub some : (answer : Begun) → refusal ≡ Some answer → (powered_answer (lab_of p) w called ≡ answer) × (after_begin (lab_of p) w called answer ≡ lab_of p)
+  pub none_open : refusal ≡ None → get_or p.workers.items w None ≡ None
+  pub calls : refusal ≡ None → p.begun < p.config.calls
+  pub pages : refusal ≡ None → p.pages_begun + pages_asked called ≤ p.config.pages
+  pub begins : refusal ≡ None → powered_answer (lab_of p) w called ≡ begun.Begun (begun_calls w p.journal.past + 1)
+
+-- and with any power
 pub record IsRefusal (p : Parts) (w : ℕ) (called : Call) (refusal : Option Begun) : Type 0 where
   pub some : (answer : Begun) → refusal ≡ Some answer → (begin_answer (lab_of p) w called ≡ answer) × (after_begin (lab_of p) w called answer ≡ lab_of p)
   pub none : refusal ≡ None → MayBegin p w called
@@ -35,6 +45,6 @@ pub record IsRefusal (p : Parts) (w : ℕ) (called : Call) (refusal : Option Beg
 
 -- the call has begun with this number
 pub record HasBegun (old : Parts) (w : ℕ) (called : Call) (n : ℕ) (new : Parts) : Type 0 where
-  pub kept : IsKept new
+  pub kept : IsAwake new
   pub number : n ≡ begun_calls w old.journal.past + 1
   pub after : lab_of new ≡ after_begin (lab_of old) w called (begun.Begun n)

@@ -7,12 +7,13 @@ use Rattle.bz_call.specs.declared.calls.Call.TheVariants as call
 use Rattle.bz_call.specs.declared.replies.Reply.{Reply}
 use Rattle.bz_call.specs.declared.replies.Reply.TheVariants.{Page}
 use Rattle.bz_call.specs.declared.replies.Spent.{Spent}
+use Rattle.bz_call.specs.declared.replies.Spent.TheVariants.{Nodes}
 use Rattle.bz_consol.specs.Facts.{LeadsTo}
 use Rattle.bz_layout.specs.declared.thresholds.TheConstants.{CONSOLIDATION_SLOTS}
 use Rattle.bz_running.specs.Duties.{asks_of, end_of, facts_of}
 use Rattle.bz_running.specs.declared.running.Running.{Running}
-use Rattle.bz_sound.specs.Memory.Replies.{IsRightReply}
-use Rattle.bz_sound.specs.Memory.Spent.{IsSpent}
+use Rattle.bz_sound.specs.Power.Replies.{IsRightReply}
+use Rattle.bz_sound.specs.Power.Spent.{IsSpent}
 use Rattle.bz_story.specs.Story.{scene}
 use Rattle.bz_swap.specs.SwapMemory.{worker_of}
 use Rattle.bz_task.specs.Outcomes.{IsPath, IsView}
@@ -24,7 +25,7 @@ use Rattle.bz_task.specs.declared.todo.Todo.{Todo}
 use Rattle.bz_task.specs.declared.view.LeafView.{LeafView}
 use Rattle.bz_word.specs.Statuses.{status}
 use Rattle.bz_world.specs.Inside.Acted.{IsBetween}
-use Rattle.bz_world.specs.Inside.Kept.{IsKept}
+use Rattle.bz_world.specs.Inside.Kept.{IsAwake}
 use Rattle.bz_world.specs.Lab.{GoesOn}
 use Rattle.bz_world.specs.Inside.Serving.{IsTasked}
 use Rattle.bz_world.specs.declared.answers.Applied.{Applied}
@@ -66,6 +67,10 @@ abbrev pub had_in : Option Serving → Option (List ℕ)
 had_in None = None
 had_in (Some x) = x.had
 
+-- its task has ended for want of a slot only where none is left
+abbrev pub IsFullRightly : Parts → ℕ → Type 0
+IsFullRightly p w = end_in (get_or p.workers.items w None) ≡ Some (outcomes.Full Nodes) → length p.slots.free < CONSOLIDATION_SLOTS
+
 -- the call gets another task, and with it a way
 abbrev pub with_task : Option Serving → Running → Option Path → Option Serving
 with_task slot task path = option_map (λ (x : Serving). record x { task = task; path = path }) slot
@@ -94,6 +99,7 @@ pub record HasEnded (p : Parts) (w : ℕ) (outcome : Outcome) : Type 0 where
   pub path : (path : Path) → outcome ≡ outcomes.Path path → IsPath (key_of on.serving.call) path (known p w on).past
   pub view : (view : LeafView) → outcome ≡ outcomes.View view → IsView (key_of on.serving.call) view (known p w on).past
   pub leads : (view : LeafView) → outcome ≡ outcomes.View view → (path : Path) → on.serving.path ≡ Some path → IsPath (key_of on.serving.call) path (known p w on).past
+  pub full : outcome ≡ outcomes.Full Nodes → length p.slots.free < CONSOLIDATION_SLOTS
 
 -- its leaf was read, by the path that was found, and it had no effect
 pub record MustAnswer (p : Parts) (w : ℕ) (view : LeafView) : Type 0 where
@@ -175,7 +181,7 @@ pub record MustEndPage (p : Parts) (w : ℕ) (next : Option (List ℕ)) (at : �
 
 -- the call went on without an act: at most its End was added, and what the other workers do is the same
 pub record WentOn (old : Parts) (w : ℕ) (answer : Applied) (new : Parts) : Type 0 where
-  pub kept : IsKept new
+  pub kept : IsAwake new
   pub ends : GoesOn old.journal w answer new.journal
   pub config : new.config ≡ old.config
   pub others : (v : ℕ) → v ≢ w → worker_of new.access v ≡ worker_of old.access v

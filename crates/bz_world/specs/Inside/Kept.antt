@@ -1,16 +1,22 @@
 -- What a world keeps true of its parts.
-use Rattle.std.specs.Prelude.{◌≡◌, ◌⊎◌, ℕ, ◌+◌, ◌<◌, ◌≤◌, List, length, slice_index, get_or, Bool, true, false, None}
+use Rattle.std.specs.Prelude.{◌≡◌, ◌⊎◌, ℕ, ◌+◌, ◌<◌, ◌≤◌, length, slice_index, get_or, Bool, true, false, None}
 use Rattle.bz_layout.specs.Config.{IsConfig}
 use Rattle.bz_layout.specs.Slots.{FreeSlots}
 use Rattle.bz_layout.specs.declared.config.Config.{Config}
 use Rattle.bz_mark.specs.Log.{count_begins, count_page_calls}
+use Rattle.bz_mark.specs.WordsAfter.{words_of as words_after_marks}
 use Rattle.bz_sound.specs.Calls.{open_call, begun_calls}
-use Rattle.bz_sound.specs.Memory.Sound.{IsSound}
+use Rattle.bz_sound.specs.declared.power.Power.{Power}
+use Rattle.bz_sound.specs.declared.power.Power.TheVariants as power
+use Rattle.bz_sound.specs.Power.Sound.{IsSound}
 use Rattle.bz_shape.specs.Walk.{is_among}
-use Rattle.bz_sound.specs.Memory.Spent.{is_taken, is_reached_at_start}
+use Rattle.bz_sound.specs.Memory.Spent.{is_taken, is_reached_in}
+use Rattle.bz_sound.specs.Power.Times.{power_of, since_on, image_at_on}
 use Rattle.bz_story.specs.Living.{IsLiving}
+use Rattle.bz_story.specs.Recovering as recovery
+use Rattle.bz_story.specs.Reviving as reviving
 use Rattle.bz_story.specs.Story.{Story}
-use Rattle.bz_swap.specs.SwapMemory.{has_effect}
+use Rattle.bz_swap.specs.SwapMemory.{has_effect, words_of}
 use Rattle.bz_swap.specs.TakenStatuses.{IsTaken, BegunAreTaken}
 use Rattle.bz_world.specs.Inside.Serving.{IsSlot}
 use Rattle.bz_world.specs.declared.parts.Parts.{Parts}
@@ -31,29 +37,76 @@ pub record IsTabled (p : Parts) : Type 0 where
   pub page_calls : p.pages_begun ≡ count_page_calls p.journal.past
   pub few_page_calls : p.pages_begun ≤ p.config.pages
   pub steps : p.access.steps ≤ length p.journal.past
+  pub power : power_of power.On p.journal.past ≡ p.power
 
--- each descriptor that was taken is one in which the journal shows a swap begun, or one that a worker is about to begin
+-- each descriptor that was taken is one in which the journal shows a swap begun since power on, or one that a worker is about to
+-- begin
 pub record AreTaken (p : Parts) : Type 0 where
-  pub shown : (s : ℕ) → s < p.config.swaps → IsTaken p.access s → is_taken s p.journal.past ≡ true
+  pub shown : (s : ℕ) → s < p.config.swaps → IsTaken p.access s → is_taken s (since_on p.journal.past) ≡ true
   pub held : BegunAreTaken p.access
   pub few : p.access.taken ≤ p.config.swaps
   -- their entries are known, and no other has had an effect
   pub counted : length p.access.begun ≡ p.access.taken
   pub unused : (s : ℕ) → p.access.taken ≤ s → has_effect p.access s ≡ false
 
--- a free slot is one of the memory, which was not reached at the start and which nobody took; each other one was reached or taken
-pub record AreFree (c : Config) (start : List ℕ) (slots : FreeSlots) (took : ℕ → ℕ → Bool) : Type 0 where
+-- a free slot is one of the memory, which was not reached in the image at power on and which nobody took since; each other one
+-- was reached or taken
+pub record AreFree (c : Config) (image : ℕ → ℕ) (slots : FreeSlots) (took : ℕ → ℕ → Bool) (revived : Bool) : Type 0 where
   pub nodes : slots.nodes ≡ c.nodes
   pub within : (k : ℕ) → is_among slots.free k ≡ true → k < c.nodes
-  pub fresh : (k : ℕ) → is_among slots.free k ≡ true → is_reached_at_start c start k ≡ false
+  pub fresh : (k : ℕ) → is_among slots.free k ≡ true → is_reached_in c image k ≡ false
   pub untaken : (v k : ℕ) → is_among slots.free k ≡ true → took v k ≡ false
-  pub others : (k : ℕ) → k < c.nodes → is_among slots.free k ≡ false → (is_reached_at_start c start k ≡ true) ⊎ ((v : ℕ) × (took v k ≡ true))
+  -- since a power cut a slot that was taken before it may be neither
+  pub others : revived ≡ false → (k : ℕ) → k < c.nodes → is_among slots.free k ≡ false → (is_reached_in c image k ≡ true) ⊎ ((v : ℕ) × (took v k ≡ true))
 
-pub record IsKept (p : Parts) : Type 0 where
+-- what holds while the power is on
+pub record IsAwake (p : Parts) : Type 0 where
+  pub on : p.power ≡ power.On
   pub story : Story
   pub tabled : IsTabled p
   pub taken : AreTaken p
   pub living : IsLiving p.config p.access p.journal story
-  pub sound : IsSound p.config p.journal
-  pub free : AreFree p.config p.journal.start p.slots story.took
+  pub sound : IsSound p.config power.On p.journal
+  pub free : AreFree p.config (image_at_on p.journal.start p.journal.past) p.slots story.took p.revived
   pub workers : (w : ℕ) → IsSlot p.config p.access p.journal story p.owners.items w (get_or p.workers.items w None)
+
+-- the free slots over a power cut: those of the memory that were free then, to which no link had led
+pub record AreSpare (c : Config) (image : ℕ → ℕ) (slots : FreeSlots) : Type 0 where
+  pub nodes : slots.nodes ≡ c.nodes
+  pub within : (k : ℕ) → is_among slots.free k ≡ true → k < c.nodes
+  pub fresh : (k : ℕ) → is_among slots.free k ≡ true → is_reached_in c image k ≡ false
+
+-- what holds from a power cut until the power is on again: no call is open
+pub record IsDark (p : Parts) : Type 0 where
+  pub tabled : IsTabled p
+  pub sound : IsSound p.config power.On p.journal
+  pub none : (w : ℕ) → get_or p.workers.items w None ≡ None
+  pub spare : AreSpare p.config (slice_index p.access.durable) p.slots
+  -- the values to which the durable words resolved when the power failed
+  pub values : ℕ → ℕ
+
+-- while it is off nothing goes on
+pub record IsOff (p : Parts) : Type 0 where
+  pub dark : IsDark p
+  pub memory : reviving.IsOffIn p.config dark.values p.access p.journal
+
+-- while it recovers, worker 0 does
+pub record IsRecovering (p : Parts) (turn : recovery.Turn) : Type 0 where
+  pub dark : IsDark p
+  pub memory : reviving.IsRecoveringIn p.config dark.values p.access p.journal turn p.recovery
+
+-- and between events it has started its next act
+abbrev pub IsStarted : Parts → Type 0
+IsStarted p = IsRecovering p recovery.Started
+
+abbrev pub IsKeptIn : Power → Parts → Type 0
+IsKeptIn power.On p = IsAwake p
+IsKeptIn power.Off p = IsOff p
+IsKeptIn power.Recovering p = IsStarted p
+
+-- what always holds, and what does by the power
+pub record IsKept (p : Parts) : Type 0 where
+  pub tabled : IsTabled p
+  pub sound : IsSound p.config power.On p.journal
+  pub words : words_of p.access ≡ words_after_marks p.journal.start p.journal.past
+  pub state : IsKeptIn p.power p

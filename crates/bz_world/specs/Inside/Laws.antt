@@ -5,10 +5,11 @@ use Rattle.bz_sight.specs.Acts.{FlushingStepsFlush, QuietStepsPass, StepsLeaveCa
 use Rattle.bz_sight.specs.Effects.{EffectsTakePlace}
 use Rattle.bz_sight.specs.Passing.{ActsPass}
 use Rattle.bz_sight.specs.Starts.{OwnWordsAreHidden, TasksMayStart, StartsAreSeen}
-use Rattle.bz_sound.specs.Memory.CallLaws.{OpenCallsAreKept, OpenCallsAreLast}
-use Rattle.bz_sound.specs.Memory.ImageLaws.{AnswersComeFromTheImage, ChangesFollow, PagesComeFromTheImage, SameContentDecodes, SpentAnswersFull}
-use Rattle.bz_sound.specs.Memory.Laws.{BeginsFollow, EffectsFollowActs, EndsFollow, FlushesFollow, PageEndsFollow, QuietActsFollow}
-use Rattle.bz_sound.specs.Memory.OpenCallLaws.{OpenCallsLeaveRoom, EffectsStayOpen}
+use Rattle.bz_sound.specs.Memory.CallLaws.{OpenCallsAreKept}
+use Rattle.bz_sound.specs.Memory.OpenCallLaws.{EffectsStayOpen}
+use Rattle.bz_sound.specs.Power.CallLaws.{OpenCallsAreLast, OpenCallsLeaveRoom}
+use Rattle.bz_sound.specs.Power.Growth.{BeginsFollow, EffectsFollowActs, EndsFollow, FlushesFollow, PageEndsFollow, QuietActsFollow}
+use Rattle.bz_sound.specs.Power.ImageLaws.{AnswersComeFromTheImage, ChangesFollow, PagesComeFromTheImage, SameContentDecodes, SpentAnswersFull}
 use Rattle.bz_story.specs.Laws.{EffectsAreTold, FlushesAreTold, LivesGoOn, QuietMarksAreLawful, ScenesAreSeen, StoresAreTold}
 use Rattle.bz_swap.specs.TakenStatuses.{BegunStayTaken, TakenStatusesStay}
 

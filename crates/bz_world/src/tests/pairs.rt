@@ -134,7 +134,7 @@ fn the_call_without_the_last_words_copies_the_leaf(rt: HostRuntime) -> Result<()
         Call::Insert(numbered(&rt, 4), payload(&rt, b"1")),
         Call::Update(numbered(&rt, 1), payload(&rt, b"2")),
     ];
-    for acts in (0..1_100).step_by(10) {
+    for acts in 0..1_100 {
         let mut world = crowded(&rt, rt.alloc(), long);
         let ends = race(&rt, rt.alloc(), &mut world, &calls, acts, acts);
         assert_eq!(rt; ends.first.1, Some(Answer::Inserted), "{acts} acts");
@@ -150,7 +150,7 @@ fn a_stopped_copy_holds_nobody_up(rt: HostRuntime) -> Result<(), Fail> {
         Call::Update(numbered(&rt, 1), long),
         Call::Insert(numbered(&rt, 4), payload(&rt, b"1")),
     ];
-    for acts in (0..1_100).step_by(10) {
+    for acts in 0..1_100 {
         let mut world = crowded(&rt, rt.alloc(), long);
         let ends = race(&rt, rt.alloc(), &mut world, &calls, acts, MOST);
         assert_eq!(rt; ends.first.1, Some(Answer::Updated(long)), "{acts} acts");

@@ -126,6 +126,10 @@ impl Reader {
                 self.set_open(w, None);
                 Ok(right)
             }
+            Mark::Cut => {
+                self.open.fill(None);
+                Ok(true)
+            }
             _ => Ok(true),
         }
     }

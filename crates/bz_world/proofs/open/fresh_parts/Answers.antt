@@ -22,6 +22,8 @@ returns-clause-kept c =
       begun = refl;
       pages_begun = refl;
       slots = search rules;
+      power = refl;
+      revived = refl;
     })
 
 pub returns-clause-flushes : goal.returns-clause-flushes

@@ -1,12 +1,9 @@
 use Rattle.std.proofs.Common.{refl, sym, ap, subst, ◌∙◌, ◌<◌, length, Option, None}
-use Rattle.std.specs.Prelude.{get_or}
-use Rattle.bz_task.specs.declared.todo.Seen.TheVariants.{Start}
 use Rattle.bz_world.specs.Inside.Going.{with_task}
-use Rattle.bz_world.specs.Inside.Telling.{HasToldIn}
 use Rattle.bz_world.specs.declared.parts.Parts.{Parts}
 use Rattle.bz_world.specs.declared.serving.Serving.{Serving}
-use Rattle.bz_world.proofs.MakingAnew.{copy-taken, anew-pages, lacks-slots}
-use Rattle.bz_world.proofs.TakingOn.{taken-begins, here-is, slot-is, went-told}
+use Rattle.bz_world.proofs.MakingAnew.{copy-taken, anew-pages}
+use Rattle.bz_world.proofs.TakingOn.{taken-begins, slot-is, went-told}
 use Rattle.bz_world.proofs.restructuring.consolidate.Goals as goal
 
 pub consolidate-task-requires-clause-alone : goal.consolidate-task-requires-clause-alone
@@ -19,19 +16,8 @@ tell-todo-requires c = taken-begins (record c.args.parts.now { page = c.consolid
     c.set_task.new.slot (c.set_task.ensures ∙ ap (λ (z : Option Serving). with_task z c.consolidate-task.result None) (slot-is (record c.args.parts.now { page = c.consolidate-task.new.page }) c.args.w (anew-pages c.args.parts.now c.args.w c.args.path c.args.view.now c.consolidate-task.new.page c.requires.copy.anew).answer.on c.index_mut.result.now c.index_mut.ensures.value))
     c.requires.copy.anew.answer.on.between.call_open.told refl
 
-pub go_on_taking-requires-clause-lacks : goal.go_on_taking-requires-clause-lacks
-go_on_taking-requires-clause-lacks c ended =
-    lacks-slots c.args.w (record c.requires.copy.anew.answer.on.serving { task = c.consolidate-task.result; path = None }) (length c.args.parts.now.journal.past) c.args.parts.now.slots c.tell-todo.new.parts c.tell-todo.result c.tell-todo.ensures.asks
-    c.requires.copy.anew.answer.quiet c.consolidate-task.ensures.needs
-    (subst (λ z. HasToldIn z Start (length c.args.parts.now.journal.past) c.args.parts.now.slots c.tell-todo.result (get_or c.tell-todo.new.parts.workers.items c.args.w None) c.tell-todo.new.parts.slots)
-    (here-is (record c.args.parts.now { page = c.consolidate-task.new.page }) c.args.w c.consolidate-task.result c.requires.copy.anew.answer.on.serving.had None None
-    (copy-taken c.start_laws.ensures.scenes (record c.args.parts.now { page = c.consolidate-task.new.page }) c.args.w c.args.path c.args.view.now (anew-pages c.args.parts.now c.args.w c.args.path c.args.view.now c.consolidate-task.new.page c.requires.copy.anew)
-    c.consolidate-task.result c.consolidate-task.ensures.config c.laws.ensures c.consolidate-task.ensures.silent c.consolidate-task.ensures.ends c.consolidate-task.ensures.asks c.consolidate-task.ensures.facts)
-    c.set_task.new.slot (c.set_task.ensures ∙ ap (λ (z : Option Serving). with_task z c.consolidate-task.result None) (slot-is (record c.args.parts.now { page = c.consolidate-task.new.page }) c.args.w (anew-pages c.args.parts.now c.args.w c.args.path c.args.view.now c.consolidate-task.new.page c.requires.copy.anew).answer.on c.index_mut.result.now c.index_mut.ensures.value))
-    c.requires.copy.anew.answer.on.between.call_open.told) c.tell-todo.ensures.told) ended
-
-pub go_on_taking-requires-clause-room : goal.go_on_taking-requires-clause-room
-go_on_taking-requires-clause-room c = subst (λ (z : Parts). length z.journal.past < z.config.marks) (sym c.tell-todo.ensures.rest) c.requires.room
+pub go_on-requires-clause-room : goal.go_on-requires-clause-room
+go_on-requires-clause-room c = subst (λ (z : Parts). length z.journal.past < z.config.marks) (sym c.tell-todo.ensures.rest) c.requires.room
 
 pub returns : goal.returns
-returns c = went-told c.args.parts.now c.tell-todo.new.parts c.args.w c.go_on_taking.result c.go_on_taking.new.parts (ap (λ (z : Parts). z.journal) c.tell-todo.ensures.rest) (ap (λ (z : Parts). z.config) c.tell-todo.ensures.rest) (ap (λ (z : Parts). z.access) c.tell-todo.ensures.rest) c.go_on_taking.ensures
+returns c = went-told c.args.parts.now c.tell-todo.new.parts c.args.w c.go_on.result c.go_on.new.parts (ap (λ (z : Parts). z.journal) c.tell-todo.ensures.rest) (ap (λ (z : Parts). z.config) c.tell-todo.ensures.rest) (ap (λ (z : Parts). z.access) c.tell-todo.ensures.rest) c.go_on.ensures

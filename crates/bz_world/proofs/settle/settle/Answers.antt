@@ -25,5 +25,6 @@ settle_quiet-requires-clause-ends c =
       quiet = ap effect_in (sym (slot-is c.args.parts.now c.args.w on c.index.result.now c.index.ensures)) ∙ sym c.in-None.ensures;
       path = λ path is. tasked.lookup.path path here (tasked.laws.ends here (Path path) facts (ended ∙ ap Some is)).0;
       view = λ view is. tasked.lookup.view view here (tasked.laws.ends here (View view) facts (ended ∙ ap Some is)).0;
+      full = λ is. c.requires.full (c.outcome_of-outcome.ensures ∙ ap Some is);
       leads = λ view is path way. tasked.lookup.leads path way view here (tasked.laws.ends here (View view) facts (ended ∙ ap Some is)).0;
     }

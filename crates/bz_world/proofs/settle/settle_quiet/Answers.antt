@@ -1,3 +1,5 @@
+use Rattle.std.proofs.Common.{subst}
+use Rattle.bz_world.specs.Inside.Going.{HasEnded}
 use Rattle.bz_world.proofs.settle.settle_quiet.Goals as goal
 
 pub read_leaf-requires-clause-path : goal.read_leaf-requires-clause-path
@@ -5,3 +7,6 @@ read_leaf-requires-clause-path c = record { on = c.requires.ends.on; leads = c.r
 
 pub answer-requires-clause-view : goal.answer-requires-clause-view
 answer-requires-clause-view c = record { on = c.requires.ends.on; viewed = c.requires.ends.view c.in-View.view c.in-View.is; leads = c.requires.ends.leads c.in-View.view c.in-View.is; quiet = c.requires.ends.quiet }
+
+pub settle_full-requires-clause-ends : goal.settle_full-requires-clause-ends
+settle_full-requires-clause-ends c = subst (HasEnded c.args.parts.now c.args.w) c.in-Full.is c.requires.ends

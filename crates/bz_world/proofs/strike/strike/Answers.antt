@@ -3,7 +3,7 @@ use Rattle.std.specs.Vec.{with_item, vec_len}
 use Rattle.std.proofs.lemmas.List.{get_or_read_under}
 use Rattle.bz_mark.specs.Log.{Log}
 use Rattle.bz_world.specs.Inside.Acted.{IsStriking}
-use Rattle.bz_world.specs.Inside.Kept.{IsKept}
+use Rattle.bz_world.specs.Inside.Kept.{IsAwake}
 use Rattle.bz_world.specs.declared.parts.Parts.{Parts}
 use Rattle.bz_world.specs.Inside.Serving.{noted, is_publishing}
 use Rattle.bz_world.specs.Inside.Laws.{StrikeLaws}
@@ -54,7 +54,7 @@ index-n-requires c = omega (arith, in-table b p c.args.swap h v named, h.tabled.
     vec-is = p.numbers.ok.0
 
 pub returns-then-note_effect-clause-kept : goal.returns-then-note_effect-clause-kept
-returns-then-note_effect-clause-kept c = subst (λ (j : Log). IsKept (record p { journal = j; workers = with_item p.workers v c.note_effect.new.slot })) (sym c.push.ensures)
+returns-then-note_effect-clause-kept c = subst (λ (j : Log). IsAwake (record p { journal = j; workers = with_item p.workers v c.note_effect.new.slot })) (sym c.push.ensures)
     (struck-aloud b p c.args.swap h v named c.note_effect.new.slot c.index-n.result.now slot-is (sym publishes ∙ c.if-note_effect.true)
     (get_or_read_under p.numbers.items v (length p.numbers.items) c.index-n.result.now 0 c.index-n.ensures (omega (arith, in-table b p c.args.swap h v named, h.tabled.number_places)) refl) c.requires.room)
   where

@@ -1,7 +1,8 @@
-use Rattle.std.proofs.Common.{◌≡◌, ◌<◌, length, refl, sym, subst, ◌∙◌, arith, Some, None, get_or, slice_set}
+use Rattle.std.proofs.Common.{◌≡◌, ◌<◌, length, refl, sym, ap, subst, ◌∙◌, arith, Some, None, get_or, slice_set}
 use Rattle.std.proofs.lemmas.List.{get_or_read_under, get_or-set_same}
+use Rattle.bz_world.specs.Inside.Going.{end_in}
 use Rattle.bz_world.specs.Inside.Telling.{CanHear, HasToldIn}
-use Rattle.bz_world.proofs.Telling.{can-hear, must-start, still-knows}
+use Rattle.bz_world.proofs.Telling.{can-hear, full-rightly, must-start, still-knows}
 use Rattle.bz_world.proofs.tell.tell.Goals as goal
 
 pub hear_task-requires : goal.hear_task-requires
@@ -30,6 +31,17 @@ returns-clause-told c =
 
     was : c.index_mut.result.now ≡ get_or c.args.parts.now.workers.items c.args.w None
     was = get_or_read_under c.args.parts.now.workers.items c.args.w (length c.args.parts.now.workers.items) c.index_mut.result.now None c.index_mut.ensures.value in-table refl
+
+pub returns-clause-full : goal.returns-clause-full
+returns-clause-full c ended =
+    full-rightly c.args.parts.now c.args.w c.args.seen c.requires c.length-moment.result c.hear_task.result c.hear_task.new.slot c.hear_task.new.slots (subst (λ z. HasToldIn z c.args.seen c.length-moment.result c.args.parts.now.slots c.hear_task.result c.hear_task.new.slot c.hear_task.new.slots) was c.hear_task.ensures)
+    (ap end_in (sym (get_or-set_same c.args.parts.now.workers.items c.args.w c.hear_task.new.slot None in-table)) ∙ ended)
+  where
+    in-table : c.args.w < length c.args.parts.now.workers.items
+    in-table = omega (arith, c.requires.told.between.within, c.requires.told.between.tabled.places, c.requires.told.between.tabled.config.workers_in_range.at_most)
+
+    was : c.index_mut.result.now ≡ Some c.requires.serving
+    was = get_or_read_under c.args.parts.now.workers.items c.args.w (length c.args.parts.now.workers.items) c.index_mut.result.now None c.index_mut.ensures.value in-table refl ∙ c.requires.is
 
 pub returns-clause-knows : goal.returns-clause-knows
 returns-clause-knows c view m = still-knows c.scenes_are_seen.ensures c.slots_are_taken.ensures c.args.parts.now c.args.w c.args.seen m.must view m.knows c.hear_task.result c.hear_task.new.slots c.index_mut.result.now c.hear_task.new.slot was

@@ -1,0 +1,134 @@
+-- The power fails: what a world keeps then.
+use Rattle.std.proofs.Common.{◌≡◌, ◌≢◌, ℕ, ◌+◌, ◌≤◌, ◌&&◌, nat_lt, Bool, true, false, length, replicate, slice_index, arith, refl, sym, ap, subst, ◌∙◌, inl, inr, Option, None}
+use Rattle.std.specs.Prelude.{get_or}
+use Rattle.std.specs.Global.{Vec}
+use Rattle.std.proofs.lemmas.Bool.{true≢false}
+use Rattle.std.proofs.lemmas.List.{length-replicate}
+use Rattle.bz_content.specs.Resolving.{resolve}
+use Rattle.bz_mark.specs.Log.{with_mark}
+use Rattle.bz_mark.specs.declared.marks.Mark.TheVariants.{Cut}
+use Rattle.bz_shape.specs.Walk.{is_among}
+use Rattle.bz_sound.specs.declared.power.Power.{Power}
+use Rattle.bz_sound.specs.declared.power.Power.TheVariants as power
+use Rattle.bz_sound.specs.Memory.Moments.{map_at_start}
+use Rattle.bz_sound.specs.Memory.Spent.{is_reached_in}
+use Rattle.bz_sound.specs.Power.Laws.{CutsFollow, PowerTellsWhatFollows, IsAfterCut}
+use Rattle.bz_sound.specs.Power.Sound.{IsSound}
+use Rattle.bz_story.specs.Recovering.{Started}
+use Rattle.bz_story.specs.Reviving.{CutsAreMarked}
+use Rattle.bz_swap.specs.Power.{after_cut}
+use Rattle.bz_swap.specs.SwapMemory.{Working, idle}
+use Rattle.bz_task.specs.Instant.{Instant}
+use Rattle.bz_world.specs.Inside.Beginning.{lab_of}
+use Rattle.bz_world.specs.Inside.Kept.{IsTabled, AreSpare, IsAwake, IsOff, IsStarted, IsKept}
+use Rattle.bz_world.specs.Inside.Powering.{IsCut}
+use Rattle.bz_world.specs.Lab as lab
+use Rattle.bz_world.specs.declared.parts.Parts.{Parts}
+use Rattle.bz_world.specs.declared.serving.Serving.{Serving}
+use Rattle.bz_world.proofs.Openings.{map-replicate}
+use Rattle.bz_world.proofs.Powered.{awake-in, started-in, kept-off}
+
+-- the laws that these proofs stand on
+pub record Laws : Type 0 where
+  pub follow : CutsFollow
+  pub tells : PowerTellsWhatFollows
+  pub leave : CutsAreMarked
+
+-- the world after it
+abbrev cut-off : Parts → Vec (Option Serving) → Parts
+cut-off p workers = record p { access = after_cut p.access; journal = with_mark p.journal Cut; power = power.Off; workers = workers }
+
+-- whatever the power was, if it was not off
+module _ (b : Laws) (p : Parts) (t : IsTabled p) (sound : IsSound p.config power.On p.journal) (not-off : p.power ≢ power.Off) (room : length p.journal.past + 3 ≤ p.config.marks)
+    (workers : Vec (Option Serving)) (size : length workers.items ≡ length p.workers.items) where
+  tabled : IsTabled (cut-off p workers)
+  tabled = record {
+    config = t.config;
+    limits = t.limits;
+    marks = omega (arith, room);
+    places = size ∙ t.places;
+    number_places = t.number_places;
+    owner_places = t.owner_places;
+    crew = length-replicate {A = Working} (length p.access.workers) idle ∙ t.crew;
+    counted = t.counted;
+    strangers = λ w o. refl;
+    begins = t.begins;
+    few_begins = t.few_begins;
+    page_calls = t.page_calls;
+    few_page_calls = t.few_page_calls;
+    steps = omega (arith, t.steps);
+    power = refl;
+  }
+
+  no-cut : IsAfterCut power.On p.journal.past → ⊥
+  no-cut after = not-off (sym t.power ∙ (b.tells power.On (map_at_start p.config p.journal.start) p.journal.past sound.once).off.1 after)
+
+  sound-on : IsSound p.config power.On (with_mark p.journal Cut)
+  sound-on = b.follow p.config power.On p.journal sound no-cut
+
+  -- so it is seen
+  lab-cut : lab_of (cut-off p workers) ≡ lab.after_cut (lab_of p)
+  lab-cut = ap (λ fs. record { config = p.config; log = with_mark p.journal Cut; flushes = fs }) (map-replicate (λ (v : Working). v.flush_next) (length p.access.workers) idle ∙ ap (λ n. replicate n false) t.crew)
+
+and-both : (a b : Bool) → a && b ≡ true → (a ≡ true) × (b ≡ true)
+and-both true b e = (refl, e)
+and-both false b e = absurd (cc)
+
+-- a slot that is free is not one of the tree
+spare-now : (p : Parts) (k : IsAwake p) → AreSpare p.config (slice_index p.access.durable) p.slots
+spare-now p k = record { nodes = k.free.nodes; within = k.free.within; fresh = λ j free. go j free (is_reached_in p.config (slice_index p.access.durable) j) refl }
+  where
+    here : Instant
+    here = k.story.at (length p.journal.past)
+
+    reached : (j : ℕ) → is_among p.slots.free j ≡ true → is_reached_in p.config (slice_index p.access.durable) j ≡ true → (k.story.at (length p.journal.past)).reached j ≡ true
+    reached j free e =
+        let inside = (and-both (nat_lt j p.config.nodes) _ (subst (λ (image : ℕ → ℕ). is_reached_in p.config image j ≡ true) (sym k.living.seen.image) e)).1 in
+        k.living.seen.good.inside j inside (λ same. absurd (omega (arith, same, k.free.within j free)))
+
+    go : (j : ℕ) → is_among p.slots.free j ≡ true → (t : Bool) → is_reached_in p.config (slice_index p.access.durable) j ≡ t → is_reached_in p.config (slice_index p.access.durable) j ≡ false
+    go j free false e = e
+    go j free true e = absurd (elim (k.living.came j (reached j free e)) [
+      | inl start ↦ true≢false (sym start ∙ k.free.fresh j free)
+      | inr took ↦ true≢false (sym took.1 ∙ k.free.untaken took.0 j free)
+    ])
+
+module _ (b : Laws) (p : Parts) (room : length p.journal.past + 3 ≤ p.config.marks) (workers : Vec (Option Serving)) (size : length workers.items ≡ length p.workers.items) (none : (w : ℕ) → get_or workers.items w None ≡ None) where
+  awake-off : IsAwake p → IsOff (cut-off p workers)
+  unfolding tabled sound-on
+  awake-off k = record {
+    dark = record {
+      tabled = tabled b p k.tabled k.sound (λ e. let on = k.on in absurd (cc (e, on))) room workers size;
+      sound = sound-on b p k.tabled k.sound (λ e. let on = k.on in absurd (cc (e, on))) room workers size;
+      none = none;
+      spare = spare-now p k;
+      values = resolve (k.story.at (length p.journal.past)).image;
+    };
+    memory = b.leave.living p.config p.access p.journal k.story k.living k.tabled.crew;
+  }
+
+  started-off : IsStarted p → p.power ≡ power.Recovering → IsOff (cut-off p workers)
+  started-off k is = record {
+    dark = record {
+      tabled = tabled b p k.dark.tabled k.dark.sound (λ e. absurd (cc (e, is))) room workers size;
+      sound = sound-on b p k.dark.tabled k.dark.sound (λ e. absurd (cc (e, is))) room workers size;
+      none = none;
+      spare = k.dark.spare;
+      values = k.dark.values;
+    };
+    memory = b.leave.recovering p.config k.dark.values p.access p.journal Started p.recovery k.memory;
+  }
+
+off-by : Laws → (p : Parts) → IsKept p → length p.journal.past + 3 ≤ p.config.marks → (workers : Vec (Option Serving)) → length workers.items ≡ length p.workers.items → ((w : ℕ) → get_or workers.items w None ≡ None) → p.power ≢ power.Off → IsOff (cut-off p workers)
+off-by b p k room workers size none ne = go p.power refl
+  where
+    go : (z : Power) → p.power ≡ z → IsOff (cut-off p workers)
+    go power.Off e = absurd (ne e)
+    go power.On e = awake-off b p room workers size none (awake-in p k e)
+    go power.Recovering e = started-off b p room workers size none (started-in p k e) e
+
+pub cut-kept : Laws → (old new : Parts) → IsKept old → length old.journal.past + 3 ≤ old.config.marks → old.power ≢ power.Off → IsCut old new → IsKept new
+cut-kept b old new k room ne cut = subst IsKept (sym cut.rest) (kept-off (cut-off old new.workers) refl (off-by b old k room new.workers cut.size cut.none ne))
+
+pub cut-seen : Laws → (old new : Parts) → IsKept old → length old.journal.past + 3 ≤ old.config.marks → old.power ≢ power.Off → IsCut old new → lab_of new ≡ lab.after_cut (lab_of old)
+cut-seen b old new k room ne cut = ap lab_of cut.rest ∙ lab-cut b old k.tabled k.sound ne room new.workers cut.size

@@ -1,0 +1,72 @@
+-- What comes of an act of a recovery: the next one is asked for, or it has ended.
+use Rattle.std.proofs.Common.{◌≡◌, ◌≢◌, ℕ, refl, sym, ap, ◌∙◌, Option}
+use Rattle.bz_acts.specs.declared.acted.Act.{Act}
+use Rattle.bz_machine.specs.declared.done.Done.{Done}
+use Rattle.bz_mark.specs.Log.{with_mark}
+use Rattle.bz_mark.specs.declared.marks.Mark.TheVariants.{Ready}
+use Rattle.bz_recover.specs.Duties.{Tells}
+use Rattle.bz_recover.specs.declared.recover.Recover.{Recover}
+use Rattle.bz_story.specs.Recovering as recovery
+use Rattle.bz_story.specs.RecoveryLaws.{RecoveriesGoOn}
+use Rattle.bz_story.specs.Reviving.{TurnsMakeNoMark}
+use Rattle.bz_swap.specs.SwapMemory.{worker_of}
+use Rattle.bz_task.specs.declared.todo.Seen.{Seen}
+use Rattle.bz_world.specs.Inside.Beginning.{lab_of}
+use Rattle.bz_world.specs.Inside.Kept.{IsRecovering}
+use Rattle.bz_world.specs.Inside.Powering.{IsRawAct}
+use Rattle.bz_world.specs.Lab.{Recovers}
+use Rattle.bz_world.specs.declared.answers.Applied.TheVariants as applied
+use Rattle.bz_world.specs.declared.parts.Parts.{Parts}
+use Rattle.bz_world.proofs.Stepping.{flush-is, flush-same}
+
+-- it is told what came of its act, and asks for the next one
+pub asked-on : RecoveriesGoOn → TurnsMakeNoMark → (p : Parts) (seen : Seen) (next : Recover) → IsRecovering p recovery.Made → recovery.IsNext p.recovery seen next → Tells p.recovery seen (recovery.words_in p.access)
+    → IsRecovering (record p { recovery = next }) recovery.Asked
+asked-on go_on turns p seen next k on tells = record {
+  dark = record {
+    tabled = let t = k.dark.tabled in record {
+      config = t.config;
+      limits = t.limits;
+      marks = t.marks;
+      places = t.places;
+      number_places = t.number_places;
+      owner_places = t.owner_places;
+      crew = t.crew;
+      counted = t.counted;
+      strangers = t.strangers;
+      begins = t.begins;
+      few_begins = t.few_begins;
+      page_calls = t.page_calls;
+      few_page_calls = t.few_page_calls;
+      steps = t.steps;
+      power = t.power;
+    };
+    sound = k.dark.sound;
+    none = k.dark.none;
+    spare = k.dark.spare;
+    values = k.dark.values;
+  };
+  memory = turns p.config k.dark.values p.access p.access p.journal recovery.Made recovery.Asked p.recovery next k.memory refl (go_on p.config k.dark.values p.access p.recovery next seen k.memory.recovering on tells);
+}
+
+-- one act, and the recovery goes on
+pub seen-stepped : (old mid new : Parts) (made : Act) (done : Done) (told : Option ℕ) → IsRawAct old made done told mid → new.journal ≡ mid.journal → new.config ≡ mid.config → ((v : ℕ) → v ≢ 0 → worker_of new.access v ≡ worker_of mid.access v)
+    → Recovers (lab_of old) applied.Stepped (lab_of new)
+seen-stepped old mid new made done told a journal config others = record {
+  made = made;
+  flush = a.step.one.flush ∙ sym (flush-is old 0);
+  ends = journal ∙ ap (λ (p : Parts). p.journal) a.rest;
+  config = config ∙ ap (λ (p : Parts). p.config) a.rest;
+  others = λ v ne. flush-same old new v (others v ne ∙ a.step.one.others.workers v ne);
+}
+
+-- or it has ended
+pub seen-woken : (old mid new : Parts) (made : Act) (done : Done) (told : Option ℕ) → IsRawAct old made done told mid → new.journal ≡ with_mark mid.journal Ready → new.config ≡ mid.config → ((v : ℕ) → v ≢ 0 → worker_of new.access v ≡ worker_of mid.access v)
+    → Recovers (lab_of old) applied.Ready (lab_of new)
+seen-woken old mid new made done told a journal config others = record {
+  made = made;
+  flush = a.step.one.flush ∙ sym (flush-is old 0);
+  ends = journal ∙ ap (λ (p : Parts). with_mark p.journal Ready) a.rest;
+  config = config ∙ ap (λ (p : Parts). p.config) a.rest;
+  others = λ v ne. flush-same old new v (others v ne ∙ a.step.one.others.workers v ne);
+}

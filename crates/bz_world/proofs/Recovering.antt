@@ -1,0 +1,234 @@
+-- Acts of a recovery, and evictions between them: what a world keeps.
+use Rattle.std.proofs.Common.{◌≡◌, ◌≢◌, ℕ, ◌+◌, ◌<◌, ◌≤◌, ◌&&◌, nat_lt, List, ◌∷◌, length, slice_index, arith, refl, sym, ap, subst, ◌∙◌, Option, None}
+use Rattle.std.proofs.lemmas.List.{length-set}
+use Rattle.bz_acts.specs.declared.acted.Act.{Act}
+use Rattle.bz_acts.specs.declared.acted.Act.TheVariants as act
+use Rattle.bz_content.specs.Content.{image_fault, content_in}
+use Rattle.bz_layout.specs.declared.config.Config.{Config}
+use Rattle.bz_machine.specs.declared.done.Done.{Done}
+use Rattle.bz_mark.specs.Log.{with_mark}
+use Rattle.bz_mark.specs.WordsAfter.{words_of as words_after_marks}
+use Rattle.bz_mark.specs.declared.marks.Mark.{Mark}
+use Rattle.bz_mark.specs.declared.marks.Mark.TheVariants.{Evict}
+use Rattle.bz_recover.specs.Contents.{SaysTheSame}
+use Rattle.bz_sound.specs.declared.power.Power.TheVariants as power
+use Rattle.bz_sound.specs.Memory.Laws.{IsQuietAct}
+use Rattle.bz_sound.specs.Memory.Moments.{image_after, IsAfterFlush, map_at_start}
+use Rattle.bz_sound.specs.Memory.Spent.{is_reached_in}
+use Rattle.bz_sound.specs.Power.Calls.{MayFollow, IsAfterRecovering}
+use Rattle.bz_sound.specs.Power.Growth.{QuietActsFollow, FlushesFollow}
+use Rattle.bz_sound.specs.Power.ImageLaws.{SameContentDecodes}
+use Rattle.bz_sound.specs.Power.Sound.{IsSound}
+use Rattle.bz_sound.specs.Power.Times.{power_of}
+use Rattle.bz_story.specs.Recovering as recovery
+use Rattle.bz_recover.specs.Duties.{Tells}
+use Rattle.bz_story.specs.RecoveryLaws.{Recovers, StaysRecovering, seen_of}
+use Rattle.bz_task.specs.declared.todo.Seen.{Seen}
+use Rattle.bz_story.specs.Reviving as reviving
+use Rattle.bz_story.specs.Reviving.{ActsAreMarked, EvictionsAreMarked, TurnsMakeNoMark, RecoversIn, EvictsIn}
+use Rattle.bz_swap.specs.Steps.{StepsIn}
+use Rattle.bz_swap.specs.SwapMemory.{Doing, words_of}
+use Rattle.bz_swap.specs.Starts.{started, begins_by_flush}
+use Rattle.bz_world.specs.Inside.Acted.{IsEvicted}
+use Rattle.bz_world.specs.Inside.Kept.{IsTabled, AreSpare, IsDark, IsRecovering, IsStarted, IsKept}
+use Rattle.bz_world.specs.Inside.Powering.{IsRawAct}
+use Rattle.bz_world.specs.Lab.{mark_of}
+use Rattle.bz_world.specs.declared.parts.Parts.{Parts}
+use Rattle.bz_world.proofs.Marking.{act-marked, act-found, act-calls, act-begun, act-counts}
+use Rattle.bz_world.proofs.Powered.{leaves-power, power-more, kept-started}
+
+-- the laws that these proofs stand on
+pub record Laws : Type 0 where
+  pub quiet : QuietActsFollow
+  pub flush : FlushesFollow
+  pub same : SameContentDecodes
+
+-- an image of the same slots reaches the same ones
+reached-same : (c : Config) (x y : ℕ → ℕ) (k : ℕ) → SaysTheSame c x y → is_reached_in c y k ≡ is_reached_in c x k
+reached-same c x y k s = ap (λ b. nat_lt k c.nodes && b) (s.inside k)
+
+-- the mark of an act
+same-mark : (made : Act) → reviving.mark_of 0 made ≡ mark_of 0 made
+same-mark (act.Load a v) = refl
+same-mark (act.Store a v) = refl
+same-mark (act.Cas a old new found) = refl
+same-mark (act.Flush line) = refl
+
+-- the free slots stay spare
+spare-same : (p : Parts) (x y : ℕ → ℕ) → SaysTheSame p.config x y → AreSpare p.config x p.slots → AreSpare p.config y p.slots
+spare-same p x y s a = record { nodes = a.nodes; within = a.within; fresh = λ k free. reached-same p.config x y k s ∙ a.fresh k free }
+
+-- worker 0 may make any act, and its mark is one of recovery
+raw-follows : (p : Parts) (made : Act) → power_of power.On p.journal.past ≡ power.Recovering → MayFollow power.On (map_at_start p.config p.journal.start) p.journal.past (mark_of 0 made)
+raw-follows p (act.Load a v) h = h
+raw-follows p (act.Store a v) h = h
+raw-follows p (act.Cas a old new found) h = h
+raw-follows p (act.Flush line) h = h
+
+raw-after : (past : List Mark) (made : Act) → IsAfterRecovering (mark_of 0 made ∷ past)
+raw-after past (act.Load a v) = refl
+raw-after past (act.Store a v) = refl
+raw-after past (act.Cas a old new found) = refl
+raw-after past (act.Flush line) = refl
+
+module _ (b : Laws) (recovers : ActsAreMarked) (old new : Parts) (made : Act) (done : Done) (told : Option ℕ) (k : IsStarted old) (is : old.power ≡ power.Recovering) (room : length old.journal.past + 3 ≤ old.config.marks) (a : IsRawAct old made done told new) where
+  abbrev dark : IsDark old
+  dark = k.dark
+
+  abbrev log-power : power_of power.On old.journal.past ≡ power.Recovering
+  log-power = k.dark.tabled.power ∙ is
+
+  pub marked-raw : RecoversIn old.config k.dark.values old.access new.access old.journal old.recovery made done told
+  marked-raw = recovers old.config k.dark.values old.access new.access old.journal old.recovery made done told k.memory
+      (subst (λ phase. StepsIn phase old.access 0 made done told new.access) (sym k.memory.recovering.phase) a.step)
+
+  abbrev raw : Recovers old.config k.dark.values old.access new.access old.recovery made done told
+  raw = marked-raw.recovers
+
+  words : words_of new.access ≡ words_after_marks old.journal.start (mark_of 0 made ∷ old.journal.past)
+  words = act-marked 0 old.access new.access old.journal made k.memory.words a.step.one.act
+
+  was : image_after old.journal.start old.journal.past ≡ slice_index old.access.durable
+  was = ap (λ z. slice_index z.durable) (sym k.memory.words)
+
+  becomes : image_after old.journal.start (mark_of 0 made ∷ old.journal.past) ≡ slice_index new.access.durable
+  becomes = ap (λ z. slice_index z.durable) (sym words)
+
+  sound : IsSound old.config power.On (with_mark old.journal (mark_of 0 made))
+  sound = by-act made refl
+    where
+      found-quietly : IsQuietAct (mark_of 0 made) → IsSound old.config power.On (with_mark old.journal (mark_of 0 made))
+      found-quietly q = b.quiet old.config power.On old.journal (mark_of 0 made) k.dark.sound q (raw-follows old made log-power) (act-found 0 old.access new.access old.journal made k.memory.words a.step.one.act a.step.one.within)
+
+      by-act : (x : Act) → made ≡ x → IsSound old.config power.On (with_mark old.journal (mark_of 0 made))
+      by-act (act.Load d v) e = found-quietly (subst (λ (z : Act). IsQuietAct (mark_of 0 z)) (sym e) tt)
+      by-act (act.Store d v) e = found-quietly (subst (λ (z : Act). IsQuietAct (mark_of 0 z)) (sym e) tt)
+      by-act (act.Cas d o n f) e = found-quietly (subst (λ (z : Act). IsQuietAct (mark_of 0 z)) (sym e) tt)
+      by-act (act.Flush line) e =
+          let flushes : IsAfterFlush (mark_of 0 made ∷ old.journal.past) = subst (λ (z : Act). IsAfterFlush (mark_of 0 z ∷ old.journal.past)) (sym e) tt in
+          b.flush old.config power.On old.journal (mark_of 0 made) k.dark.sound flushes (raw-follows old made log-power)
+          (b.same old.config power.On old.journal (mark_of 0 made) k.dark.sound flushes (subst (λ i. image_fault old.config i ≡ None) (sym becomes) raw.same.well_formed)
+          (λ key. ap (λ i. content_in old.config i key) becomes ∙ (raw.same.content key ∙ ap (λ i. content_in old.config i key) (sym was))))
+
+  tabled : IsTabled (record old { access = new.access; journal = with_mark old.journal (mark_of 0 made) })
+  tabled = let t = k.dark.tabled in record {
+    config = t.config;
+    limits = t.limits;
+    marks = omega (arith, room);
+    places = t.places;
+    number_places = t.number_places;
+    owner_places = t.owner_places;
+    crew = a.step.one.others.count ∙ t.crew;
+    counted = λ v l. t.counted v l ∙ sym (act-begun v 0 old.journal.past made);
+    strangers = λ v o. act-calls v 0 old.journal.past made ∙ t.strangers v o;
+    begins = t.begins ∙ sym (act-counts 0 old.journal.past made).begins;
+    few_begins = t.few_begins;
+    page_calls = t.page_calls ∙ sym (act-counts 0 old.journal.past made).page_calls;
+    few_page_calls = t.few_page_calls;
+    steps = omega (arith, a.step.one.steps, t.steps);
+    power = power-more power.On old.journal.past (mark_of 0 made) (leaves-power 0 old.journal.past made) ∙ t.power;
+  }
+
+  -- the act is made, and the recovery is to be told
+  pub raw-made : IsRecovering (record old { access = new.access; journal = with_mark old.journal (mark_of 0 made) }) recovery.Made
+  raw-made = record {
+    dark = record {
+      tabled = tabled;
+      sound = sound;
+      none = k.dark.none;
+      spare = spare-same old (slice_index old.access.durable) (slice_index new.access.durable) raw.same k.dark.spare;
+      values = k.dark.values;
+    };
+    memory = subst (λ mark. reviving.IsRecoveringIn old.config k.dark.values new.access (with_mark old.journal mark) recovery.Made old.recovery) (same-mark made) marked-raw.marked;
+  }
+
+  -- the same of the world with the act made
+  pub made-on : IsRecovering new recovery.Made
+  made-on = subst (λ (p : Parts). IsRecovering p recovery.Made) (sym a.rest) raw-made
+
+  pub told-on : (seen : Seen) → seen ≡ seen_of done → Tells new.recovery seen (recovery.words_in new.access)
+  told-on seen e = subst (λ t. Tells t seen (recovery.words_in new.access)) (sym (ap (λ (p : Parts). p.recovery) a.rest)) (subst (λ z. Tells old.recovery z (recovery.words_in new.access)) (sym e) marked-raw.recovers.tells)
+
+  pub after-on : IsAfterRecovering new.journal.past
+  after-on = subst (λ (p : Parts). IsAfterRecovering p.journal.past) (sym a.rest) (raw-after old.journal.past made)
+
+-- an eviction between two acts
+module _ (b : Laws) (leave : EvictionsAreMarked) (old new : Parts) (a : ℕ) (told : Option ℕ) (k : IsStarted old) (is : old.power ≡ power.Recovering) (within : a < length old.access.cached) (room : length old.journal.past + 3 ≤ old.config.marks) (e : IsEvicted old a told new) where
+  evicts : EvictsIn old.config k.dark.values old.access new.access old.journal recovery.Started old.recovery a told
+  evicts = leave old.config k.dark.values old.access new.access old.journal recovery.Started old.recovery a told k.memory within e.eviction
+
+  abbrev stays : StaysRecovering old.config k.dark.values old.access new.access recovery.Started old.recovery told
+  stays = evicts.stays
+
+  evict-sound : IsSound old.config power.On (with_mark old.journal (Evict a))
+  evict-sound =
+      let follows : power_of power.On old.journal.past ≢ power.Off = λ off. let says = k.dark.tabled.power in absurd (cc (off, says, is)) in
+      let was : image_after old.journal.start old.journal.past ≡ slice_index old.access.durable = ap (λ z. slice_index z.durable) (sym k.memory.words) in
+      let becomes : image_after old.journal.start (Evict a ∷ old.journal.past) ≡ slice_index new.access.durable = ap (λ z. slice_index z.durable) (sym evicts.marked.words) in
+      b.flush old.config power.On old.journal (Evict a) k.dark.sound tt follows
+      (b.same old.config power.On old.journal (Evict a) k.dark.sound tt (subst (λ i. image_fault old.config i ≡ None) (sym becomes) stays.same.well_formed)
+      (λ key. ap (λ i. content_in old.config i key) becomes ∙ (stays.same.content key ∙ ap (λ i. content_in old.config i key) (sym was))))
+
+  evict-tabled : IsTabled (record old { access = new.access; journal = with_mark old.journal (Evict a) })
+  evict-tabled = let t = k.dark.tabled in record {
+    config = t.config;
+    limits = t.limits;
+    marks = omega (arith, room);
+    places = t.places;
+    number_places = t.number_places;
+    owner_places = t.owner_places;
+    crew = ap (λ z. length z.workers) e.eviction.is ∙ t.crew;
+    counted = t.counted;
+    strangers = t.strangers;
+    begins = t.begins;
+    few_begins = t.few_begins;
+    page_calls = t.page_calls;
+    few_page_calls = t.few_page_calls;
+    steps = omega (arith, ap (λ z. z.steps) e.eviction.is, t.steps);
+    power = t.power;
+  }
+
+  pub evict-started : IsKept new
+  evict-started = subst IsKept (sym e.rest) (kept-started (record old { access = new.access; journal = with_mark old.journal (Evict a) }) is (record {
+    dark = record {
+      tabled = evict-tabled;
+      sound = evict-sound;
+      none = k.dark.none;
+      spare = spare-same old (slice_index old.access.durable) (slice_index new.access.durable) stays.same k.dark.spare;
+      values = k.dark.values;
+    };
+    memory = evicts.marked;
+  }))
+
+  pub evict-past : new.journal ≡ with_mark old.journal (Evict a)
+  evict-past = ap (λ (p : Parts). p.journal) e.rest
+
+-- a start of worker 0
+module _ (turns : TurnsMakeNoMark) (p : Parts) (k : IsRecovering p recovery.Asked) (doing : Doing) (memory : recovery.IsRecovering p.config k.dark.values (started p.access 0 doing) recovery.Started p.recovery) where
+  pub started-recovering : IsStarted (record p { access = started p.access 0 doing })
+  started-recovering = record {
+    dark = record {
+      tabled = let t = k.dark.tabled in record {
+        config = t.config;
+        limits = t.limits;
+        marks = t.marks;
+        places = t.places;
+        number_places = t.number_places;
+        owner_places = t.owner_places;
+        crew = length-set p.access.workers 0 (record { doing = doing; flush_next = begins_by_flush doing }) ∙ t.crew;
+        counted = t.counted;
+        strangers = t.strangers;
+        begins = t.begins;
+        few_begins = t.few_begins;
+        page_calls = t.page_calls;
+        few_page_calls = t.few_page_calls;
+        steps = t.steps;
+        power = t.power;
+      };
+      sound = k.dark.sound;
+      none = k.dark.none;
+      spare = k.dark.spare;
+      values = k.dark.values;
+    };
+    memory = turns p.config k.dark.values p.access (started p.access 0 doing) p.journal recovery.Asked recovery.Started p.recovery p.recovery k.memory refl memory;
+  }

@@ -1,0 +1,157 @@
+-- A recovery begins when the power comes on, and when it has ended the memory lives again.
+use Rattle.std.proofs.Common.{◌≡◌, ℕ, ◌+◌, ◌<◌, ◌≤◌, ◌&&◌, nat_lt, true, false, length, arith, refl, sym, ap, subst, ◌∙◌, Option, Some, None}
+use Rattle.std.specs.Prelude.{get_or, map}
+use Rattle.std.proofs.lemmas.Bool.{true≢false}
+use Rattle.std.proofs.lemmas.List.{map-set}
+use Rattle.bz_mark.specs.Log.{Log, with_mark}
+use Rattle.bz_mark.specs.declared.marks.Mark.TheVariants.{On, Ready}
+use Rattle.bz_recover.specs.Duties.{tells_in}
+use Rattle.bz_recover.specs.declared.recover.Recover.{Recover}
+use Rattle.bz_sound.specs.declared.power.Power.TheVariants as power
+use Rattle.bz_sound.specs.Memory.Moments.{map_at_start}
+use Rattle.bz_sound.specs.Power.Laws.{OnsFollow, ReadysFollow, PowerTellsWhatFollows}
+use Rattle.bz_story.specs.Recovering as recovery
+use Rattle.bz_story.specs.RecoveryLaws.{RecoveriesGoOn}
+use Rattle.bz_story.specs.Reviving as reviving
+use Rattle.bz_story.specs.Reviving.{PowerOnIsMarked, TurnsMakeNoMark, RecoveriesGiveLife, IsReborn, renewed_story}
+use Rattle.bz_story.specs.Story.{Story}
+use Rattle.bz_swap.specs.Held.{Holds}
+use Rattle.bz_swap.specs.Power.{MayRenew, renewed}
+use Rattle.bz_swap.specs.Starts.{started}
+use Rattle.bz_swap.specs.SwapMemory.{SwapMemory, Working, Idle, Loading, doing_of}
+use Rattle.bz_swap.specs.TakenStatuses.{BegunStayTaken}
+use Rattle.bz_task.specs.declared.todo.Seen.TheVariants.{Start}
+use Rattle.bz_world.specs.Inside.Kept.{IsTabled, IsAwake, IsOff, IsRecovering}
+use Rattle.bz_world.specs.Inside.Beginning.{lab_of}
+use Rattle.bz_world.specs.Inside.Powering.{MustWake, Wakes}
+use Rattle.bz_world.specs.Lab as lab
+use Rattle.bz_world.specs.Inside.Serving.{IsSlot}
+use Rattle.bz_world.specs.declared.parts.Parts.{Parts}
+use Rattle.bz_world.specs.declared.serving.Serving.{Serving}
+
+-- the laws of a beginning
+pub record Begins : Type 0 where
+  pub follow : OnsFollow
+  pub tells : PowerTellsWhatFollows
+  pub begin : PowerOnIsMarked
+  pub turns : TurnsMakeNoMark
+  pub go_on : RecoveriesGoOn
+
+-- the power is on, and the recovery has asked for its first act
+module _ (b : Begins) (p : Parts) (k : IsOff p) (off : p.power ≡ power.Off) (room : length p.journal.past + 3 ≤ p.config.marks) (first next : Recover) (new : recovery.IsNew p.config first) (on : recovery.IsNext first Start next) where
+  abbrev turned : Parts
+  turned = record p { journal = with_mark p.journal On; power = power.Recovering; recovery = next }
+
+  pub begun : IsRecovering turned recovery.Asked
+  begun = record {
+    dark = record {
+      tabled = let t = k.dark.tabled in record {
+        config = t.config;
+        limits = t.limits;
+        marks = omega (arith, room);
+        places = t.places;
+        number_places = t.number_places;
+        owner_places = t.owner_places;
+        crew = t.crew;
+        counted = t.counted;
+        strangers = t.strangers;
+        begins = t.begins;
+        few_begins = t.few_begins;
+        page_calls = t.page_calls;
+        few_page_calls = t.few_page_calls;
+        steps = omega (arith, t.steps);
+        power = refl;
+      };
+      sound = b.follow p.config power.On p.journal k.dark.sound ((b.tells power.On (map_at_start p.config p.journal.start) p.journal.past k.dark.sound.once).off.0 (k.dark.tabled.power ∙ off));
+      none = k.dark.none;
+      spare = k.dark.spare;
+      values = k.dark.values;
+    };
+    memory = b.turns p.config k.dark.values p.access p.access (with_mark p.journal On) recovery.Made recovery.Asked first next begins refl
+        (b.go_on p.config k.dark.values p.access first next Start begins.recovering on (subst (λ z. tells_in z Start (recovery.words_in p.access)) (sym new.asks) tt));
+  }
+    where
+      begins : reviving.IsRecoveringIn p.config k.dark.values p.access (with_mark p.journal On) recovery.Made first
+      begins = b.begin p.config k.dark.values p.access p.journal first k.memory new
+
+-- the laws of an end
+pub record Ends : Type 0 where
+  pub follow : ReadysFollow
+  pub revive : RecoveriesGiveLife
+  pub taken : BegunStayTaken
+
+module _ (b : Ends) (p : Parts) (k : MustWake p) (holds : Holds (renewed p.access)) (room : length p.journal.past < p.config.marks) where
+  reborn : IsReborn p.config p.access p.journal
+  reborn = b.revive p.config k.recovering.dark.values p.access p.journal p.recovery k.recovering.memory k.asks
+
+  abbrev life : Story
+  life = renewed_story p.config p.access p.journal
+
+  tabled : IsTabled (record p { access = renewed p.access; journal = with_mark p.journal Ready; power = power.On; revived = true })
+  tabled = let t = k.recovering.dark.tabled in record {
+    config = t.config;
+    limits = t.limits;
+    marks = omega (arith, room);
+    places = t.places;
+    number_places = t.number_places;
+    owner_places = t.owner_places;
+    crew = t.crew;
+    counted = t.counted;
+    strangers = t.strangers;
+    begins = t.begins;
+    few_begins = t.few_begins;
+    page_calls = t.page_calls;
+    few_page_calls = t.few_page_calls;
+    steps = omega arith;
+    power = refl;
+  }
+
+  idle-all : (w : ℕ) → doing_of (renewed p.access) w ≡ Idle
+  idle-all w = reborn.revived.may_renew.idle w
+
+  slot-by : (w : ℕ) (slot : Option Serving) → slot ≡ None → IsSlot p.config (renewed p.access) (with_mark p.journal Ready) life p.owners.items w slot
+  slot-by w None e = record { none_open = k.recovering.memory.calls w; idle = idle-all w; filled = λ j t. absurd (true≢false (sym t)) }
+  slot-by w (Some x) e = absurd (cc (e))
+
+  pub woken : IsAwake (record p { access = renewed p.access; journal = with_mark p.journal Ready; power = power.On; revived = true })
+  woken = record {
+    on = refl;
+    story = life;
+    tabled = tabled;
+    taken = record {
+      shown = λ s l t. absurd (reborn.revived.untaken s l t);
+      held = b.taken.renewal p.access;
+      few = omega arith;
+      counted = refl;
+      unused = λ s l. reborn.revived.unused s;
+    };
+    living = reborn.living holds;
+    sound = b.follow p.config power.On p.journal k.recovering.dark.sound k.after;
+    free = record {
+      nodes = k.recovering.dark.spare.nodes;
+      within = k.recovering.dark.spare.within;
+      fresh = λ j f. ap (λ b. nat_lt j p.config.nodes && b) (sym (k.recovering.memory.same.inside j)) ∙ k.recovering.dark.spare.fresh j f;
+      untaken = λ v j f. refl;
+      others = λ e j l f. absurd (true≢false e);
+    };
+    workers = λ w. slot-by w (get_or p.workers.items w None) (k.recovering.dark.none w);
+  }
+
+pub may-renew : RecoveriesGiveLife → (p : Parts) → MustWake p → MayRenew p.access
+may-renew revive p k = (revive p.config k.recovering.dark.values p.access p.journal p.recovery k.recovering.memory k.asks).revived.may_renew
+
+pub wakes : Ends → (p : Parts) → MustWake p → length p.journal.past < p.config.marks → (access : SwapMemory) (journal : Log) → access ≡ renewed p.access → Holds access → journal ≡ with_mark p.journal Ready
+    → Wakes p (record p { access = access; journal = journal; power = power.On; revived = true })
+wakes b p k room access journal is holds marked = subst (λ (j : Log). Wakes p (record p { access = access; journal = j; power = power.On; revived = true })) (sym marked)
+    (subst (λ (m : SwapMemory). Wakes p (record p { access = m; journal = with_mark p.journal Ready; power = power.On; revived = true })) (sym is)
+    (record { awake = woken b p k (subst Holds is holds) room; rest = refl }))
+
+-- power on as it is seen: worker 0's first act is no flush
+pub seen-on : (p q : Parts) (journal : Log) (next : Recover) → journal ≡ with_mark p.journal On → q ≡ record p { access = q.access; journal = journal; power = power.Recovering; recovery = next } → q.access ≡ started p.access 0 (Loading 0) → lab_of q ≡ lab.after_on (lab_of p)
+seen-on p q journal next marked rest is = ap lab_of rest ∙ (ap (λ (m : SwapMemory). record { config = p.config; log = journal; flushes = map (λ (v : Working). v.flush_next) m.workers }) is
+    ∙ (ap (λ (j : Log). record { config = p.config; log = j; flushes = map (λ (v : Working). v.flush_next) (started p.access 0 (Loading 0)).workers }) marked
+    ∙ ap (λ fs. record { config = p.config; log = with_mark p.journal On; flushes = fs }) (map-set (λ (v : Working). v.flush_next) p.access.workers 0 (record { doing = Loading 0; flush_next = false }))))
+
+pub begun-on : (b : Begins) (p : Parts) (k : IsOff p) (off : p.power ≡ power.Off) (room : length p.journal.past + 3 ≤ p.config.marks) (first next : Recover) (new : recovery.IsNew p.config first) (on : recovery.IsNext first Start next) (journal : Log) → journal ≡ with_mark p.journal On
+    → IsRecovering (record p { journal = journal; power = power.Recovering; recovery = next }) recovery.Asked
+begun-on b p k off room first next new on journal is = subst (λ (j : Log). IsRecovering (record p { journal = j; power = power.Recovering; recovery = next }) recovery.Asked) (sym is) (begun b p k off room first next new on)

@@ -1,0 +1,9 @@
+use Rattle.bz_world.proofs.Waking.{may-renew, wakes}
+use Rattle.bz_world.proofs.recovery.wake.Goals as goal
+
+pub renew-requires : goal.renew-requires
+renew-requires c = may-renew c.recoveries_give_life.ensures c.args.parts.now c.requires.wakes
+
+pub returns : goal.returns
+returns c = wakes (record { follow = c.readys_follow.ensures; revive = c.recoveries_give_life.ensures; taken = c.begun_stay_taken.ensures }) c.args.parts.now c.requires.wakes c.requires.room
+    c.renew.new.self c.push.new.self c.renew.ensures.renewed c.renew.ensures.held c.push.ensures

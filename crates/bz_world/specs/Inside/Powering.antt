@@ -1,0 +1,38 @@
+-- What stands between the acts of a recovery, and what a power cut leaves.
+use Rattle.std.specs.Prelude.{◌≡◌, ℕ, length, get_or, Option, Some, None}
+use Rattle.bz_acts.specs.declared.acted.Act.{Act}
+use Rattle.bz_machine.specs.declared.done.Done.{Done}
+use Rattle.bz_mark.specs.Log.{with_mark}
+use Rattle.bz_mark.specs.declared.marks.Mark.TheVariants.{Cut, Ready}
+use Rattle.bz_recover.specs.Duties.{asks_of}
+use Rattle.bz_sound.specs.declared.power.Power.TheVariants as power
+use Rattle.bz_sound.specs.Power.Calls.{IsAfterRecovering}
+use Rattle.bz_story.specs.Recovering.{Asked}
+use Rattle.bz_swap.specs.Power.{after_cut, renewed}
+use Rattle.bz_swap.specs.Steps.{IsRawStep}
+use Rattle.bz_task.specs.declared.todo.Todo.TheVariants.{Finish}
+use Rattle.bz_world.specs.Inside.Kept.{IsAwake, IsRecovering}
+use Rattle.bz_world.specs.Lab.{mark_of}
+use Rattle.bz_world.specs.declared.parts.Parts.{Parts}
+
+-- the durable words are all that is left, and no call is served
+pub record IsCut (old new : Parts) : Type 0 where
+  pub size : length new.workers.items ≡ length old.workers.items
+  pub none : (w : ℕ) → get_or new.workers.items w None ≡ None
+  pub rest : new ≡ record old { access = after_cut old.access; journal = with_mark old.journal Cut; power = power.Off; workers = new.workers }
+
+-- worker 0 made an act, and its mark was added
+pub record IsRawAct (old : Parts) (made : Act) (done : Done) (told : Option ℕ) (new : Parts) : Type 0 where
+  pub step : IsRawStep old.access 0 made done told new.access
+  pub rest : new ≡ record old { access = new.access; journal = with_mark old.journal (mark_of 0 made) }
+
+-- directly after an act of worker 0 the recovery asks for nothing more
+pub record MustWake (p : Parts) : Type 0 where
+  pub recovering : IsRecovering p Asked
+  pub asks : asks_of p.recovery ≡ Some Finish
+  pub after : IsAfterRecovering p.journal.past
+
+-- so the power is on
+pub record Wakes (old new : Parts) : Type 0 where
+  pub awake : IsAwake new
+  pub rest : new ≡ record old { access = renewed old.access; journal = with_mark old.journal Ready; power = power.On; revived = new.revived }

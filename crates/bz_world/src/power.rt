@@ -1,0 +1,107 @@
+//! Power cuts, and power on.
+ghost use Rattle.std.specs.Prelude.{◌≡◌, ◌≤◌, ◌<◌, ◌+◌, ℕ, IsTrue, ◌↔◌, None, get_or, length};
+ghost use Rattle.bz_sound.specs.declared.power.Power.TheVariants as power;
+ghost use Rattle.bz_world.specs.Inside.Beginning.{lab_of};
+ghost use Rattle.bz_world.specs.Inside.Kept.{IsOff, IsStarted, IsKept};
+ghost use Rattle.bz_world.specs.Inside.Powering.{IsCut};
+ghost use Rattle.bz_world.specs.Lab.{IsApplied, after_on};
+ghost use Rattle.bz_world.specs.declared.answers.Event.TheVariants as event;
+
+use crate::answers::Applied;
+use crate::parts::Parts;
+use crate::recovery::start_act;
+use crate::serving::Serving;
+use bz_mark::Mark;
+use bz_recover::Recover;
+use bz_sound::{Power, power_laws as sound};
+use bz_story::recovery_laws as story;
+use bz_task::Seen;
+
+// Whether the power is off.
+fn is_off(state: Power) -> bool
+    ensures { IsTrue result ↔ (state ≡ power.Off) }
+{
+    match state {
+        Power::Off => true,
+        Power::Recovering | Power::On => false,
+    }
+}
+
+// Drops the calls of all workers.
+fn drop_calls(workers: &mut Vec<Option<Serving>>)
+    ensures size { length workers.new.items ≡ length workers.old.items }
+    ensures none { (w : ℕ) → get_or workers.new.items w None ≡ None }
+{
+    let mut w = 0;
+    while w < workers.len() {
+        workers[w] = None;
+        w += 1;
+    }
+}
+
+// Leaves what is durable, and ends every call.
+fn make_cut(parts: &mut Parts)
+    requires room { length parts.old.journal.past < parts.old.journal.limits.marks }
+    ensures { IsCut parts.old parts.new }
+{
+    drop_calls(&mut parts.workers);
+    parts.access.cut();
+    parts.journal.push(Mark::Cut);
+    parts.power = Power::Off;
+}
+
+/// Cuts the power.
+pub(crate) fn cut(parts: &mut Parts) -> Applied
+    requires { IsKept parts.old }
+    ensures kept { IsKept parts.new }
+    ensures applied { IsApplied (lab_of parts.old) event.Cut result (lab_of parts.new) }
+{
+    sound::cuts_follow();
+    sound::power_tells_what_follows();
+    story::cuts_are_marked();
+    if parts.journal.room() < 3 {
+        return Applied::Limit;
+    }
+    if is_off(parts.power) {
+        return Applied::Off;
+    }
+    make_cut(parts);
+    Applied::Cut
+}
+
+// Begins the recovery.
+fn turn_on(parts: &mut Parts)
+    requires off { IsOff parts.old }
+    requires power { parts.old.power ≡ power.Off }
+    requires room { length parts.old.journal.past + 3 ≤ parts.old.config.marks }
+    ensures started { IsStarted parts.new }
+    ensures power { parts.new.power ≡ power.Recovering }
+    ensures after { lab_of parts.new ≡ after_on (lab_of parts.old) }
+{
+    sound::ons_follow();
+    sound::power_tells_what_follows();
+    story::power_on_is_marked();
+    story::turns_make_no_mark();
+    story::recoveries_go_on();
+    parts.recovery = Recover::new(&parts.config);
+    parts.journal.push(Mark::On);
+    parts.power = Power::Recovering;
+    let todo = parts.recovery.next(Seen::Start);
+    start_act(parts, todo);
+}
+
+/// Brings the power on.
+pub(crate) fn power_on(parts: &mut Parts) -> Applied
+    requires { IsKept parts.old }
+    ensures kept { IsKept parts.new }
+    ensures applied { IsApplied (lab_of parts.old) event.On result (lab_of parts.new) }
+{
+    if parts.journal.room() < 3 {
+        return Applied::Limit;
+    }
+    if is_off(parts.power) {
+        turn_on(parts);
+        return Applied::On;
+    }
+    Applied::Powered
+}

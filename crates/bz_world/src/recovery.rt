@@ -1,0 +1,137 @@
+//! The recovery: acts of worker 0, and evictions between them.
+ghost use Rattle.std.specs.Prelude.{◌≡◌, ◌≢◌, ◌≤◌, ◌<◌, ◌+◌, ℕ, Some, MatchOption, length};
+ghost use Rattle.bz_layout.specs.Addresses.{words_of};
+ghost use Rattle.bz_recover.specs.Duties.{asks_of};
+ghost use Rattle.bz_sound.specs.declared.power.Power.TheVariants as power;
+ghost use Rattle.bz_story.specs.Recovering.{Asked};
+ghost use Rattle.bz_story.specs.RecoveryLaws.{seen_of as seen_in};
+ghost use Rattle.bz_swap.specs.Starts.{started};
+ghost use Rattle.bz_swap.specs.SwapMemory.{Loading, worker_of};
+ghost use Rattle.bz_task.specs.declared.todo.Todo.TheVariants.{Load, Finish};
+ghost use Rattle.bz_world.specs.Inside.Beginning.{lab_of};
+ghost use Rattle.bz_world.specs.Inside.Kept.{IsAwake, IsRecovering, IsStarted, IsKept};
+ghost use Rattle.bz_world.specs.Inside.Powering.{IsRawAct, MustWake, Wakes};
+ghost use Rattle.bz_world.specs.Lab.{step_by, StepsBy, Recovers, Evicts};
+
+use crate::act::mark_of;
+use crate::answers::Applied;
+use crate::parts::Parts;
+use crate::step::make_eviction;
+use bz_mark::Mark;
+use bz_sound::{Power, power_laws as sound};
+use bz_story::recovery_laws as story;
+use bz_swap::{Done, Progress, laws as swap};
+use bz_task::{Seen, Todo};
+
+/// Starts what the recovery asks for, which is not the end.
+pub(crate) fn start_act(parts: &mut Parts, todo: Todo)
+    requires asked { IsRecovering parts.old Asked }
+    requires asks { asks_of parts.old.recovery ≡ Some todo }
+    requires more { todo ≢ Finish }
+    ensures started { IsStarted parts.new }
+    ensures rest { parts.new ≡ record parts.old { access = parts.new.access } }
+    ensures first { todo ≡ Load 0 → parts.new.access ≡ started parts.old.access 0 (Loading 0) }
+    ensures others { (v : ℕ) → v ≢ 0 → worker_of parts.new.access v ≡ worker_of parts.old.access v }
+{
+    story::acts_may_start();
+    story::turns_make_no_mark();
+    bz_recover::laws::recoveries_know();
+    match todo {
+        Todo::Load(a) => parts.access.start_load(0, a),
+        Todo::Store(a, v) => parts.access.start_store(0, a, v),
+        Todo::Flush(line) => parts.access.start_flush(0, line),
+        Todo::Read(_) | Todo::Swap(_) | Todo::Finish => unreachable!(),
+    }
+}
+
+// Makes the next act of worker 0.
+fn make_raw_act(parts: &mut Parts) -> Progress
+    requires started { IsStarted parts.old }
+    requires room { length parts.old.journal.past + 3 ≤ parts.old.config.marks }
+    ensures { IsRawAct parts.old result.act result.done result.effect parts.new }
+{
+    let progress = parts.access.step(0);
+    parts.journal.push(mark_of(0, progress.act));
+    progress
+}
+
+// What the recovery is told of its act.
+fn seen_of(done: Done) -> Seen
+    ensures { result ≡ seen_in done }
+{
+    match done {
+        Done::Read(v) => Seen::Read(v),
+        Done::Stored => Seen::Stored,
+        Done::Flushed => Seen::Flushed,
+        _ => Seen::Start,
+    }
+}
+
+// The recovery has ended: the memory is given back to the workers.
+fn wake(parts: &mut Parts)
+    requires wakes { MustWake parts.old }
+    requires room { length parts.old.journal.past < parts.old.config.marks }
+    ensures { Wakes parts.old parts.new }
+{
+    sound::readys_follow();
+    story::recoveries_give_life();
+    swap::begun_stay_taken();
+    parts.access.renew();
+    parts.journal.push(Mark::Ready);
+    parts.power = Power::On;
+    parts.revived = true;
+}
+
+// Goes on with the recovery by one act.
+fn recover(parts: &mut Parts) -> Applied
+    requires started { IsStarted parts.old }
+    requires power { parts.old.power ≡ power.Recovering }
+    requires room { length parts.old.journal.past + 3 ≤ parts.old.config.marks }
+    ensures kept { IsKept parts.new }
+    ensures recovers { Recovers (lab_of parts.old) result (lab_of parts.new) }
+{
+    sound::quiet_acts_follow();
+    sound::flushes_follow();
+    sound::same_content_decodes();
+    story::acts_are_marked();
+    story::turns_make_no_mark();
+    story::recoveries_go_on();
+    let progress = make_raw_act(parts);
+    let todo = parts.recovery.next(seen_of(progress.done));
+    if matches!(todo, Todo::Finish) {
+        wake(parts);
+        return Applied::Ready;
+    }
+    start_act(parts, todo);
+    Applied::Stepped
+}
+
+/// Goes on with the recovery where the step is one of worker 0.
+pub(crate) fn step_recovering(parts: &mut Parts, w: u8) -> Applied
+    requires started { IsStarted parts.old }
+    requires power { parts.old.power ≡ power.Recovering }
+    requires room { length parts.old.journal.past + 3 ≤ parts.old.config.marks }
+    ensures kept { IsKept parts.new }
+    ensures applied { MatchOption (step_by power.Recovering (lab_of parts.old) w) (StepsBy power.Recovering (lab_of parts.old) w result (lab_of parts.new)) (λ refusal. (result ≡ refusal) × (lab_of parts.new ≡ lab_of parts.old)) }
+{
+    if w > 0 {
+        return Applied::Recovering;
+    }
+    recover(parts)
+}
+
+/// Makes a word durable.
+pub(crate) fn evict_recovering(parts: &mut Parts, a: u32)
+    requires started { IsStarted parts.old }
+    requires power { parts.old.power ≡ power.Recovering }
+    requires within { a < words_of parts.old.config }
+    requires room { length parts.old.journal.past + 3 ≤ parts.old.config.marks }
+    ensures kept { IsKept parts.new }
+    ensures evicts { Evicts (lab_of parts.old) a Applied.Evicted (lab_of parts.new) }
+{
+    sound::quiet_acts_follow();
+    sound::flushes_follow();
+    sound::same_content_decodes();
+    story::evictions_are_marked();
+    let _ = make_eviction(parts, a);
+}

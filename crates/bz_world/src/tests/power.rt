@@ -1,0 +1,128 @@
+//! Power cuts, after every tenth act of a call, and recoveries that are cut again.
+
+use super::bench::{Answer, begin, numbered, open, payload, steps, whole};
+use super::decode::decode;
+use super::reader::Reader;
+use crate::{Applied, Begun, Event, Power, World};
+use bz_call::Call;
+use std::alloc::Global;
+use std::process::Abort;
+use std::test::Fail;
+
+// The calls that are cut: the root leaf has k1 before.
+fn call_of(rt: &impl Abort, kind: u32) -> Call {
+    let (k, l) = (numbered(rt, 0), numbered(rt, 1));
+    match kind {
+        0 => Call::Insert(k, payload(rt, b"n")),
+        1 => Call::Update(l, payload(rt, b"nn")),
+        _ => Call::Delete(l),
+    }
+}
+
+// Each word becomes durable by itself.
+fn evict_all(world: &mut World) {
+    for a in 0..world.config().words() {
+        world.apply(Event::Evict(a));
+    }
+}
+
+// The power fails, and comes on again.
+fn restart(rt: &impl Abort, world: &mut World) {
+    assert_eq!(rt; world.apply(Event::Cut), Applied::Cut);
+    assert_eq!(rt; world.power(), Power::Off);
+    assert_eq!(rt; world.apply(Event::On), Applied::On);
+    assert_eq!(rt; world.power(), Power::Recovering);
+}
+
+// At most so many steps of the recovery; whether it has ended.
+fn recover(world: &mut World, most: u32) -> bool {
+    for _ in 0..most {
+        match world.apply(Event::Step(0)) {
+            Applied::Stepped => {}
+            Applied::Ready => return true,
+            _ => return false,
+        }
+    }
+    false
+}
+
+// The reader explains the journal, and the durable words are its map.
+fn agrees(rt: &impl Abort, alloc: Global, world: &World) {
+    let mut reader = Reader::open(alloc).expect(rt, "a reader");
+    assert!(rt; reader.read_on(world).expect(rt, "room for the maps"));
+    assert_eq!(rt; decode(world), Some(reader.map()));
+}
+
+// A world with one key, and so many acts of a call of this kind. Whether the call has ended.
+fn begun(rt: &impl Abort, alloc: Global, kind: u32, acts: u32) -> (World, bool) {
+    let mut world = open(alloc, 4, 16, 2).expect(rt, "a world");
+    let had = Call::Insert(numbered(rt, 1), payload(rt, b"o"));
+    assert_eq!(rt; whole(&mut world, 2, had), Some(Answer::Inserted));
+    assert!(rt; begin(&mut world, 1, call_of(rt, kind)));
+    let (_, answer) = steps(&mut world, 1, acts);
+    (world, answer.is_some())
+}
+
+// A call of this kind is cut after so many acts. Whether it had ended.
+fn cut_after(rt: &impl Abort, alloc: Global, kind: u32, acts: u32, evicts: bool) -> bool {
+    let (mut world, ended) = begun(rt, alloc, kind, acts);
+    if evicts {
+        evict_all(&mut world);
+    }
+    restart(rt, &mut world);
+    agrees(rt, alloc, &world);
+    assert!(rt; recover(&mut world, 4_000));
+    assert_eq!(rt; world.power(), Power::On);
+    agrees(rt, alloc, &world);
+    assert!(rt; whole(&mut world, 1, Call::Get(numbered(rt, 1))).is_some());
+    agrees(rt, alloc, &world);
+    ended
+}
+
+#[test]
+fn a_call_that_is_cut_is_whole_or_nothing(rt: HostRuntime) {
+    for kind in 0..3 {
+        for tenth in 0..12u32 {
+            let acts = tenth.saturating_mul(10);
+            let ended = cut_after(&rt, rt.alloc(), kind, acts, false);
+            assert_eq!(rt; cut_after(&rt, rt.alloc(), kind, acts, true), ended);
+        }
+    }
+}
+
+#[test]
+fn a_recovery_that_is_cut_begins_anew(rt: HostRuntime) {
+    for hundred in 0..9u32 {
+        let (mut world, _) = begun(&rt, rt.alloc(), 1, 50);
+        restart(&rt, &mut world);
+        recover(&mut world, hundred.saturating_mul(100));
+        evict_all(&mut world);
+        agrees(&rt, rt.alloc(), &world);
+        restart(&rt, &mut world);
+        agrees(&rt, rt.alloc(), &world);
+        assert!(rt; recover(&mut world, 4_000));
+        agrees(&rt, rt.alloc(), &world);
+    }
+}
+
+#[test]
+fn the_power_is_told_in_each_refusal(rt: HostRuntime) -> Result<(), Fail> {
+    let k = numbered(&rt, 0);
+    let mut world = open(rt.alloc(), 4, 16, 2)?;
+    assert_eq!(rt; world.apply(Event::On), Applied::Powered);
+    assert_eq!(rt; world.begin(1, Call::Get(k)), Begun::Begun(1));
+    assert_eq!(rt; world.apply(Event::Cut), Applied::Cut);
+    assert_eq!(rt; world.begin(1, Call::Get(k)), Begun::Off);
+    assert_eq!(rt; world.apply(Event::Step(1)), Applied::Off);
+    assert_eq!(rt; world.apply(Event::Evict(0)), Applied::Off);
+    assert_eq!(rt; world.apply(Event::Cut), Applied::Off);
+    assert_eq!(rt; world.apply(Event::On), Applied::On);
+    assert_eq!(rt; world.apply(Event::On), Applied::Powered);
+    assert_eq!(rt; world.begin(1, Call::Get(k)), Begun::Recovering);
+    assert_eq!(rt; world.apply(Event::Step(1)), Applied::Recovering);
+    assert_eq!(rt; world.apply(Event::Evict(0)), Applied::Evicted);
+    assert!(rt; recover(&mut world, 4_000));
+    assert_eq!(rt; world.apply(Event::Step(1)), Applied::Idle);
+    assert_eq!(rt; world.begin(1, Call::Get(k)), Begun::Begun(2));
+    Ok(())
+}
