@@ -1,3 +1,4 @@
 pub mod Decimals
+pub mod Jobs
 pub mod Steps
 pub mod Texts

@@ -3,6 +3,7 @@
 
 mod calls;
 mod draws;
+pub mod laws;
 mod names;
 #[cfg(test)]
 mod tests;

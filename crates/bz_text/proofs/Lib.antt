@@ -1,2 +1,4 @@
 pub mod SortLemmas
 pub mod ReadLemmas
+pub mod KeyLemmas
+pub mod SumLemmas

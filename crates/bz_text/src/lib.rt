@@ -1,13 +1,21 @@
-//! The report of a journal.
+//! The report of a journal, and the summary of a workload.
 #![tactic(auto)]
 
+mod counts;
 mod ended;
+mod keys;
 mod lines;
 mod order;
 mod report;
+mod summary;
+mod summing;
 
+pub use counts::Counts;
 pub use ended::EndedCall;
 pub use report::{TextError, write_report};
+pub use summary::write_summary;
 
+#[cfg(test)]
+mod summary_tests;
 #[cfg(test)]
 mod tests;

@@ -90,10 +90,11 @@ staged_met items i old world new queued left plan why s lt is ran =
       on = goes_on old world new s.on ran.0.config ran.0.start ran.0.limits;
       follows = s.in_part why new.log.past (rw here (inl (point_of new left, run, refl)));
       met = ran.2;
+      unbroken = ran.0.ready.unbroken;
     }
 
 -- all items are done
 pub staged_done : (items : List Item) (i : ℕ) (old world : Lab) (queued : Queued) → Staged items i old world queued → length items ≤ i → IsLed old items world
 staged_done items i old world queued s all =
     let none : drop i items ≡ [] = grind (arith, common_steps) in
-    record { on = s.on; follows = s.follows world.log.past (rw none refl) }
+    record { on = s.on; follows = s.follows world.log.past (rw none refl); unbroken = s.ready.unbroken }

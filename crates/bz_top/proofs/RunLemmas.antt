@@ -6,14 +6,20 @@ use Rattle.bz_layout.specs.declared.config.Config.{Config}
 use Rattle.bz_script.specs.Script.{Job}
 use Rattle.bz_sched.specs.Plans.{LeadsTo, LeadsToInPart}
 use Rattle.bz_sound.specs.Memory.Sound.{IsSound}
-use Rattle.bz_text.specs.Report.{report_of}
+use Rattle.bz_words.specs.declared.command.Command.{Command}
 use Rattle.bz_world.specs.Lab.{Lab, new_lab}
 use Rattle.bz_world.specs.declared.answers.Which.{Which}
 use Rattle.bz_top.specs.Commands.{config_of}
-use Rattle.bz_top.specs.Endings.{IsLab, IsFinished, IsCutShort, at_first}
+use Rattle.bz_top.specs.Endings.{IsLab, IsFinished, IsCutShort, at_first, printed, printed_before}
 use Rattle.bz_top.specs.Faults.{fault_line, limit_text}
 use Rattle.bz_top.specs.Items.{GoesOn, IsLedInPart}
 use Rattle.bz_top.specs.Parts.{Sunk, SaysOrWants, RanWorld}
+
+-- a world that goes on from fresh memory began there
+pub start-fresh : (marks : ℕ) (job : Job) (old new : Lab) → old ≡ new_lab (config_of marks job.nodes job.swaps) → GoesOn old new → new.log.start ≡ fresh_words new.config
+start-fresh marks job old new fresh on =
+    let config : new.config ≡ config_of marks job.nodes job.swaps = on.config ∙ ap (λ (l : Lab). l.config) fresh in
+    on.start ∙ (ap (λ (l : Lab). l.log.start) fresh ∙ ap fresh_words (sym config))
 
 module _ (marks : ℕ) (job : Job) (old new : Lab) (fresh : old ≡ new_lab (config_of marks job.nodes job.swaps)) (on : GoesOn old new) (sound : IsSound new.config new.log) where
   config-is : new.config ≡ config_of marks job.nodes job.swaps
@@ -23,22 +29,22 @@ module _ (marks : ℕ) (job : Job) (old new : Lab) (fresh : old ≡ new_lab (con
   is-lab : IsLab marks job new
   is-lab = record {
     config = config-is;
-    start = on.start ∙ (ap (λ (l : Lab). l.log.start) fresh ∙ ap fresh_words (sym config-is));
+    start = start-fresh marks job old new fresh on;
     limits = on.limits ∙ (ap (λ (l : Lab). l.log.limits) fresh ∙ ap (λ (c : Config). record { marks = c.marks; calls = c.calls; pages = c.pages }) (sym config-is));
     sound = sound;
   }
 
-  pub ran-finished : (k : Sunk) (status : ℕ) (lab : Option Lab) → LeadsTo (words_of old.config) at_first job.items new.log.past → lab ≡ Some new → SaysOrWants k 0 (report_of new.log) status → RanWorld marks job k status lab
-  ran-finished k status lab follows is says =
+  pub ran-finished : (command : Command) (k : Sunk) (status : ℕ) (lab : Option Lab) → LeadsTo (words_of old.config) at_first job.items new.log.past → lab ≡ Some new → SaysOrWants k 0 (printed command new) status → RanWorld command marks job k status lab
+  ran-finished command k status lab follows is says =
       let finished : IsFinished marks job new = record { right = is-lab; follows = subst (λ (c : Config). LeadsTo (words_of c) at_first job.items new.log.past) (sym on.config) follows } in
       elim says [
         | inl said ↦ inl (record { world = new; is_lab = is; finished = finished; said = said })
         | inr said ↦ inr (inr (record { world = new; is_lab = is; led = inl finished; said = said }))
       ]
 
-  pub ran-limited : (k : Sunk) (status : ℕ) (lab : Option Lab) (which : Which) → IsLedInPart old job.items which new → lab ≡ Some new → SaysOrWants k 5 (report_of new.log ++ fault_line (limit_text which)) status
-      → RanWorld marks job k status lab
-  ran-limited k status lab which led is says =
+  pub ran-limited : (command : Command) (k : Sunk) (status : ℕ) (lab : Option Lab) (which : Which) → IsLedInPart old job.items which new → lab ≡ Some new → SaysOrWants k 5 (printed_before command new ++ fault_line (limit_text which)) status
+      → RanWorld command marks job k status lab
+  ran-limited command k status lab which led is says =
       let cut_short : IsCutShort marks job new which = record { right = is-lab; follows = subst (λ (c : Config). LeadsToInPart which (words_of c) at_first job.items new.log.past) (sym on.config) led.follows; met = led.met } in
       elim says [
         | inl said ↦ inr (inl (record { world = new; which = which; is_lab = is; cut_short = cut_short; said = said }))

@@ -14,8 +14,12 @@ use Rattle.bz_world.specs.declared.answers.Which.{Which}
 use Rattle.bz_sched.specs.Runs.{IsAtLimit}
 use Rattle.bz_sched.specs.Points.{Point}
 use Rattle.bz_sched.specs.Plans.{LeadsTo, LeadsToInPart}
+use Rattle.bz_gen.specs.Workload.{workload_of}
 use Rattle.bz_text.specs.Report.{report_of}
+use Rattle.bz_text.specs.Summary.{summary_of}
 use Rattle.bz_words.specs.CommandLine.{IsCommandLine}
+use Rattle.bz_words.specs.declared.command.Command.{Command}
+use Rattle.bz_words.specs.declared.command.Command.TheVariants.{Run, Work}
 use Rattle.bz_words.specs.declared.command.CommandLine.{CommandLine}
 use Rattle.bz_top.specs.Commands.{config_of}
 use Rattle.bz_top.specs.Faults.{fault_line, broken_text, limit_text}
@@ -37,17 +41,30 @@ pub record Outside : Type 0 where
 abbrev pub IsCommand : List (List ℕ) → Type 0
 IsCommand words = (line : CommandLine) × IsCommandLine words line
 
+-- they are `run`
+abbrev pub IsRun : List (List ℕ) → Type 0
+IsRun words = (marks : ℕ) × IsCommandLine words (record { command = Run; marks = marks })
+
 -- the source was read to its end, and gave so many bytes as a script may have
 pub record IsInput (o : Outside) (bytes : List ℕ) : Type 0 where
   pub whole : IsReadWhole o.left o.left_after bytes
   pub fits : length bytes ≤ SCRIPT_BYTES
 
--- the words are this command, and the source's bytes are this script
-pub record Reads (o : Outside) (line : CommandLine) (script : Job) : Type 0 where
-  pub command : IsCommandLine o.words line
+-- the source's bytes are this script
+pub record ReadsScript (o : Outside) (script : Job) : Type 0 where
   pub bytes : List ℕ
   pub input : IsInput o bytes
   pub is_script : script_of None bytes ≡ Ok script
+
+-- the script that a command runs: `run` reads it, and `work` makes that of its seed and reads nothing
+abbrev pub HasScript : Outside → Command → Job → Type 0
+HasScript o Run script = ReadsScript o script
+HasScript o (Work seed calls workers) script = (o.left_after ≡ o.left) × (script ≡ workload_of seed calls workers)
+
+-- the words are this command, and this is its script
+pub record Asks (o : Outside) (line : CommandLine) (script : Job) : Type 0 where
+  pub command : IsCommandLine o.words line
+  pub has_script : HasScript o line.command script
 
 -- the lab is a world of this script: its journal begins with fresh memory, has this limit on marks and the fixed other ones,
 -- and is sound
@@ -77,30 +94,40 @@ pub record IsCutShort (marks : ℕ) (script : Job) (world : Lab) (which : Which)
 abbrev pub IsLedTo : ℕ → Job → Lab → Type 0
 IsLedTo marks script world = IsFinished marks script world ⊎ ((which : Which) × IsCutShort marks script world which)
 
--- done: the report of the journal is written
+-- what a command prints of a world in which its script was run to its end: its report, or its summary
+abbrev pub printed : Command → Lab → List ℕ
+printed Run world = report_of world.log
+printed (Work seed calls workers) world = summary_of world.config calls workers world.log
+
+-- what it prints of one that met a limit, before the fault line
+abbrev pub printed_before : Command → Lab → List ℕ
+printed_before Run world = report_of world.log
+printed_before (Work seed calls workers) world = []
+
+-- done: what the command prints of the world is written
 pub record IsDone (o : Outside) (lab : Option Lab) (text : List ℕ) : Type 0 where
   pub line : CommandLine
   pub script : Job
-  pub reads : Reads o line script
+  pub asks : Asks o line script
   pub world : Lab
   pub is_lab : lab ≡ Some world
   pub finished : IsFinished line.marks script world
-  pub writes : text ≡ report_of world.log
+  pub writes : text ≡ printed line.command world
 
--- a limit was met: the report of the journal is written, and then the fault line
+-- a limit was met: what the command prints before a fault line is written, and then the fault line
 pub record IsLimited (o : Outside) (lab : Option Lab) (text : List ℕ) : Type 0 where
   pub line : CommandLine
   pub script : Job
-  pub reads : Reads o line script
+  pub asks : Asks o line script
   pub world : Lab
   pub is_lab : lab ≡ Some world
   pub which : Which
   pub cut_short : IsCutShort line.marks script world which
-  pub writes : text ≡ report_of world.log ++ fault_line (limit_text which)
+  pub writes : text ≡ printed_before line.command world ++ fault_line (limit_text which)
 
--- reading failed
+-- `run` reads, and reading failed
 pub record IsReadFault (o : Outside) (lab : Option Lab) (text : List ℕ) : Type 0 where
-  pub command : IsCommand o.words
+  pub command : IsRun o.words
   pub rose : Rose o.read_faults o.read_faults_after
   pub no_lab : lab ≡ None
   pub writes : text ≡ fault_line (codes "read")
@@ -112,9 +139,9 @@ pub record IsUsage (o : Outside) (lab : Option Lab) (text : List ℕ) : Type 0 w
   pub no_lab : lab ≡ None
   pub writes : text ≡ fault_line (codes "usage")
 
--- the bytes break a rule: the first line that breaks one, and the first rule that it breaks
+-- the bytes that `run` reads break a rule: the first line that breaks one, and the first rule that it breaks
 pub record IsBroken (o : Outside) (lab : Option Lab) (text : List ℕ) : Type 0 where
-  pub command : IsCommand o.words
+  pub command : IsRun o.words
   pub bytes : List ℕ
   pub input : IsInput o bytes
   pub line : ℕ
@@ -123,23 +150,23 @@ pub record IsBroken (o : Outside) (lab : Option Lab) (text : List ℕ) : Type 0 
   pub no_lab : lab ≡ None
   pub writes : text ≡ fault_line (broken_text line rule)
 
--- the source gave more bytes than a script may have
+-- the source gave `run` more bytes than a script may have
 pub record IsTooLong (o : Outside) (lab : Option Lab) (text : List ℕ) : Type 0 where
-  pub command : IsCommand o.words
+  pub command : IsRun o.words
   pub more : GaveCount o.left o.left_after (SCRIPT_BYTES + 1)
   pub no_lab : lab ≡ None
   pub writes : text ≡ fault_line (codes "script too long")
 
--- memory was wanting before there was a world: for the words, and then the source was not asked, or for what the command reads
+-- memory was wanting before there was a world; only `run` has then asked the source
 pub record WantsEarly (o : Outside) (lab : Option Lab) : Type 0 where
   pub no_lab : lab ≡ None
-  pub asked : IsCommand o.words ⊎ (o.left_after ≡ o.left)
+  pub asked : IsRun o.words ⊎ (o.left_after ≡ o.left)
 
--- memory was wanting for the report of a world, which is told
+-- memory was wanting for what is printed of a world, which is told
 pub record WantsLater (o : Outside) (lab : Option Lab) : Type 0 where
   pub line : CommandLine
   pub script : Job
-  pub reads : Reads o line script
+  pub asks : Asks o line script
   pub world : Lab
   pub is_lab : lab ≡ Some world
   pub led : IsLedTo line.marks script world

@@ -2,6 +2,7 @@
 use Rattle.std.specs.Prelude.{◌≡◌, List}
 use Rattle.bz_layout.specs.Addresses.{words_of}
 use Rattle.bz_script.specs.declared.item.Item.{Item}
+use Rattle.bz_sound.specs.Power.Laws.{IsUnbroken}
 use Rattle.bz_world.specs.Lab.{Lab}
 use Rattle.bz_world.specs.declared.answers.Which.{Which}
 use Rattle.bz_sched.specs.Runs.{IsAtLimit}
@@ -20,12 +21,15 @@ pub record GoesOn (old new : Lab) : Type 0 where
 pub record IsLed (old : Lab) (items : List Item) (new : Lab) : Type 0 where
   pub on : GoesOn old new
   pub follows : LeadsTo (words_of old.config) at_first items new.log.past
+  -- the power has not failed
+  pub unbroken : IsUnbroken new.log.past
 
 -- it has gone on so far, and has met a limit
 pub record IsLedInPart (old : Lab) (items : List Item) (which : Which) (new : Lab) : Type 0 where
   pub on : GoesOn old new
   pub follows : LeadsToInPart which (words_of old.config) at_first items new.log.past
   pub met : IsAtLimit new which
+  pub unbroken : IsUnbroken new.log.past
 
 abbrev pub ItemsRan : Lab → List Item → RunEnd → Lab → Type 0
 ItemsRan old items Finished new = IsLed old items new

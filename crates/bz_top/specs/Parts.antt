@@ -1,12 +1,13 @@
--- How the parts of a run end, from the bytes of a script on.
+-- How the parts of a run end, from the script on.
 use Rattle.std.specs.Prelude.{◌≡◌, ◌⊎◌, ℕ, List, ◌++◌, Option, Some, None, Ok, Err, codes}
 use Rattle.bz_script.specs.Script.{Job, script_of}
 use Rattle.bz_script.specs.declared.fault.ScriptRule.{ScriptRule}
 use Rattle.bz_world.specs.Lab.{Lab}
 use Rattle.bz_world.specs.declared.answers.Which.{Which}
-use Rattle.bz_text.specs.Report.{report_of}
+use Rattle.bz_words.specs.declared.command.Command.{Command}
+use Rattle.bz_words.specs.declared.command.Command.TheVariants.{Run}
 use Rattle.bz_top.specs.Faults.{fault_line, broken_text, limit_text}
-use Rattle.bz_top.specs.Endings.{IsFinished, IsCutShort, IsLedTo}
+use Rattle.bz_top.specs.Endings.{IsFinished, IsCutShort, IsLedTo, printed, printed_before}
 use Rattle.std.specs.Io.KnownBytes.{Appends}
 use Rattle.bz_io.specs.Faults.{Rose}
 use Rattle.bz_io.specs.Transfers.{GrewByFront}
@@ -32,21 +33,21 @@ abbrev pub SaysOrWants : Sunk → ℕ → List ℕ → ℕ → Type 0
 SaysOrWants k status text answer = Says k status text answer ⊎ Says k 7 (fault_line (codes "memory")) answer
 
 -- a script was run to its end
-pub record Finishes (marks : ℕ) (script : Job) (k : Sunk) (status : ℕ) (lab : Option Lab) : Type 0 where
+pub record Finishes (command : Command) (marks : ℕ) (script : Job) (k : Sunk) (status : ℕ) (lab : Option Lab) : Type 0 where
   pub world : Lab
   pub is_lab : lab ≡ Some world
   pub finished : IsFinished marks script world
-  pub said : Says k 0 (report_of world.log) status
+  pub said : Says k 0 (printed command world) status
 
 -- a script was run until a limit was met
-pub record StopsShort (marks : ℕ) (script : Job) (k : Sunk) (status : ℕ) (lab : Option Lab) : Type 0 where
+pub record StopsShort (command : Command) (marks : ℕ) (script : Job) (k : Sunk) (status : ℕ) (lab : Option Lab) : Type 0 where
   pub world : Lab
   pub which : Which
   pub is_lab : lab ≡ Some world
   pub cut_short : IsCutShort marks script world which
-  pub said : Says k 5 (report_of world.log ++ fault_line (limit_text which)) status
+  pub said : Says k 5 (printed_before command world ++ fault_line (limit_text which)) status
 
--- memory was wanting for the report
+-- memory was wanting for what is printed
 pub record GivesUp (marks : ℕ) (script : Job) (k : Sunk) (status : ℕ) (lab : Option Lab) : Type 0 where
   pub world : Lab
   pub is_lab : lab ≡ Some world
@@ -59,13 +60,13 @@ pub record Wants (k : Sunk) (status : ℕ) (lab : Option Lab) : Type 0 where
   pub said : Says k 7 (fault_line (codes "memory")) status
 
 -- what becomes of a script in a world that was opened for it
-abbrev pub RanWorld : ℕ → Job → Sunk → ℕ → Option Lab → Type 0
-RanWorld marks script k status lab =
-    Finishes marks script k status lab ⊎ (StopsShort marks script k status lab ⊎ GivesUp marks script k status lab)
+abbrev pub RanWorld : Command → ℕ → Job → Sunk → ℕ → Option Lab → Type 0
+RanWorld command marks script k status lab =
+    Finishes command marks script k status lab ⊎ (StopsShort command marks script k status lab ⊎ GivesUp marks script k status lab)
 
 -- what becomes of a script
-abbrev pub RanScript : ℕ → Job → Sunk → ℕ → Option Lab → Type 0
-RanScript marks script k status lab = RanWorld marks script k status lab ⊎ Wants k status lab
+abbrev pub RanScript : Command → ℕ → Job → Sunk → ℕ → Option Lab → Type 0
+RanScript command marks script k status lab = RanWorld command marks script k status lab ⊎ Wants k status lab
 
 -- bytes were no script
 pub record Refuses (bytes : List ℕ) (k : Sunk) (status : ℕ) (lab : Option Lab) : Type 0 where
@@ -79,7 +80,7 @@ pub record Refuses (bytes : List ℕ) (k : Sunk) (status : ℕ) (lab : Option La
 pub record Runs (marks : ℕ) (bytes : List ℕ) (k : Sunk) (status : ℕ) (lab : Option Lab) : Type 0 where
   pub script : Job
   pub is_script : script_of None bytes ≡ Ok script
-  pub ran : RanScript marks script k status lab
+  pub ran : RanScript Run marks script k status lab
 
 abbrev pub RanBytes : ℕ → List ℕ → Sunk → ℕ → Option Lab → Type 0
 RanBytes marks bytes k status lab = Runs marks bytes k status lab ⊎ (Refuses bytes k status lab ⊎ Wants k status lab)

@@ -11,3 +11,5 @@ pub use program::{Outcome, top};
 
 #[cfg(test)]
 mod tests;
+#[cfg(test)]
+mod workload_tests;

@@ -1,27 +1,35 @@
 //! The top call.
 ghost use Rattle.std.specs.Prelude.{◌≡◌, ◌≤◌, ◌++◌, [], ℕ, length, map, Some, None, false, codes};
-ghost use Rattle.bz_layout.specs.declared.limits.TheConstants.{MIN_MARKS, MAX_MARKS};
+ghost use Rattle.bz_layout.specs.declared.limits.TheConstants.{MIN_MARKS, MAX_MARKS, MIN_WORKERS, MAX_WORKERS as MOST_WORKERS};
+ghost use Rattle.bz_layout.specs.Fresh.{fresh_words};
+ghost use Rattle.bz_gen.specs.Workload.{workload_of};
+ghost use Rattle.bz_gen.specs.declared.workload.TheConstants.{MOST_CALLS};
 ghost use Rattle.bz_world.specs.Lab.{new_lab};
 ghost use Rattle.bz_sched.specs.Queued.{has_open};
 ghost use Rattle.bz_top.specs.Commands.{config_of};
 ghost use Rattle.bz_sound.specs.Memory.Sound.{IsSound};
+ghost use Rattle.bz_sound.specs.Power.Laws.{IsUnbroken};
 ghost use Rattle.bz_script.specs.Script.{job_of};
 ghost use Rattle.bz_script.specs.ItemLaws.{IsJob};
 ghost use Rattle.bz_text.specs.Report.{report_of};
+ghost use Rattle.bz_text.specs.Summary.{summary_of};
 ghost use Rattle.bz_top.specs.Faults.{fault_line, limit_text, broken_text};
-ghost use Rattle.bz_top.specs.Endings.{IsEnded};
+ghost use Rattle.bz_top.specs.Endings.{IsEnded, printed, printed_before};
 ghost use Rattle.bz_top.specs.Parts.{sunk, Says, SaysOrWants, RanWorld, RanScript, RanBytes};
 
 use crate::faults::{broken_line, limit_line};
 use crate::gates::Gate;
 use crate::items::run_items;
+use bz_content::laws::fresh_memory_is_empty;
+use bz_gen::generate;
+use bz_gen::laws::workloads_are_jobs;
 use bz_io::{Failed, ReadFault, Sink, Source, read_all, write_all};
 use bz_layout::{Config, MAX_CALLS, MAX_PAGES, MAX_WORKERS};
 use bz_memory::Memory;
 use bz_sched::{Queue, RunEnd};
 use bz_script::{SCRIPT_BYTES, Script, ScriptFault, ScriptRule, read_script};
-use bz_text::{TextError, write_report};
-use bz_words::{Command, WordsError, read_words};
+use bz_text::{TextError, write_report, write_summary};
+use bz_words::{Command, CommandLine, WordsError, read_words};
 use bz_world::{OpenError, Which, World};
 use std::alloc::Global;
 use std::sync::Wait;
@@ -53,32 +61,32 @@ fn written<K: Sink>(sink: &mut K, text: &[u8], status: u8) -> u8
 /// Runs a script in a world that was opened for it.
 fn run_world<K: Sink>(
     alloc: Global,
-    marks: u32,
+    line: CommandLine,
     script: &Script,
     mut world: World,
     mut queue: Queue,
     sink: &mut K,
 ) -> Outcome
     requires script { IsJob (job_of script.now) }
-    requires fresh { world ≡ new_lab (config_of marks script.now.nodes script.now.swaps) }
+    requires fresh { world ≡ new_lab (config_of line.marks script.now.nodes script.now.swaps) }
     requires none_wait { queue.calls ≡ [] }
     requires none_open { (w : ℕ) → has_open queue w ≡ false }
     requires room { queue.room ≡ length (job_of script.now).items }
-    ensures { RanWorld marks (job_of script.now)
+    ensures { RanWorld line.command line.marks (job_of script.now)
         (sunk (K.held sink.old) (K.held sink.new) (K.faults sink.old) (K.faults sink.new))
         result.status result.lab }
 {
     match run_items(&mut world, &mut queue, script.items.items()) {
-        RunEnd::Finished => report(alloc, world, sink),
-        RunEnd::Limit(which) => report_limit(alloc, world, which, sink),
+        RunEnd::Finished => print(alloc, line.command, world, sink),
+        RunEnd::Limit(which) => print_limit(alloc, line.command, world, which, sink),
     }
 }
 
-/// Runs a script that was read, with this limit on marks.
-fn run_script<K: Sink>(alloc: Global, marks: u32, script: &Script, sink: &mut K) -> Outcome
+/// Runs the script of a command, with its limit on marks.
+fn run_script<K: Sink>(alloc: Global, line: CommandLine, script: &Script, sink: &mut K) -> Outcome
     requires script { IsJob (job_of script.now) }
-    requires marks { (MIN_MARKS ≤ marks) × (marks ≤ MAX_MARKS) }
-    ensures { RanScript marks (job_of script.now)
+    requires marks { (MIN_MARKS ≤ line.marks) × (line.marks ≤ MAX_MARKS) }
+    ensures { RanScript line.command line.marks (job_of script.now)
         (sunk (K.held sink.old) (K.held sink.new) (K.faults sink.old) (K.faults sink.new))
         result.status result.lab }
 {
@@ -86,7 +94,7 @@ fn run_script<K: Sink>(alloc: Global, marks: u32, script: &Script, sink: &mut K)
         nodes: script.nodes,
         swaps: script.swaps,
         workers: MAX_WORKERS,
-        marks,
+        marks: line.marks,
         calls: MAX_CALLS,
         pages: MAX_PAGES,
     };
@@ -95,7 +103,7 @@ fn run_script<K: Sink>(alloc: Global, marks: u32, script: &Script, sink: &mut K)
         Err(Memory) => return no_memory(sink),
     };
     match World::open(alloc, &config) {
-        Ok(world) => run_world(alloc, marks, script, world, queue, sink),
+        Ok(world) => run_world(alloc, line, script, world, queue, sink),
         Err(OpenError::Memory) => no_memory(sink),
         Err(OpenError::Config(_)) => unreachable!(),
     }
@@ -125,6 +133,7 @@ fn give_up<K: Sink>(world: World, sink: &mut K) -> Outcome
 
 /// Writes the report of a run that is done.
 fn report<K: Sink>(alloc: Global, world: World, sink: &mut K) -> Outcome
+    requires unbroken { IsUnbroken world.log.past }
     ensures lab { result.lab ≡ Some world }
     ensures sound { IsSound world.config world.log }
     ensures wrote { SaysOrWants
@@ -146,6 +155,7 @@ fn report<K: Sink>(alloc: Global, world: World, sink: &mut K) -> Outcome
 
 /// Writes the report of a run that met a limit, and then its fault line.
 fn report_limit<K: Sink>(alloc: Global, world: World, which: Which, sink: &mut K) -> Outcome
+    requires unbroken { IsUnbroken world.log.past }
     ensures lab { result.lab ≡ Some world }
     ensures sound { IsSound world.config world.log }
     ensures wrote { SaysOrWants
@@ -165,6 +175,99 @@ fn report_limit<K: Sink>(alloc: Global, world: World, which: Which, sink: &mut K
             lab: Some(world),
         },
         Err(TextError::Memory) => give_up(world, sink),
+    }
+}
+
+/// Writes the summary of a workload that is done.
+fn summarize<K: Sink>(
+    alloc: Global,
+    calls: u32,
+    workers: u32,
+    world: World,
+    sink: &mut K,
+) -> Outcome
+    requires unbroken { IsUnbroken world.log.past }
+    requires fresh { world.log.start ≡ fresh_words world.config }
+    ensures lab { result.lab ≡ Some world }
+    ensures sound { IsSound world.config world.log }
+    ensures wrote { SaysOrWants
+        (sunk (K.held sink.old) (K.held sink.new) (K.faults sink.old) (K.faults sink.new))
+        0 (summary_of world.config calls workers world.log) result.status }
+{
+    fresh_memory_is_empty();
+    let _config = world.config();
+    match write_summary(alloc, world.journal(), calls, workers, sink) {
+        Ok(()) => Outcome {
+            status: 0,
+            lab: Some(world),
+        },
+        Err(TextError::Write) => Outcome {
+            status: 4,
+            lab: Some(world),
+        },
+        Err(TextError::Memory) => give_up(world, sink),
+    }
+}
+
+/// Writes what a command prints of a run that is done.
+fn print<K: Sink>(alloc: Global, command: Command, world: World, sink: &mut K) -> Outcome
+    requires unbroken { IsUnbroken world.log.past }
+    requires fresh { world.log.start ≡ fresh_words world.config }
+    ensures lab { result.lab ≡ Some world }
+    ensures sound { IsSound world.config world.log }
+    ensures wrote { SaysOrWants
+        (sunk (K.held sink.old) (K.held sink.new) (K.faults sink.old) (K.faults sink.new))
+        0 (printed command world) result.status }
+{
+    match command {
+        Command::Run => report(alloc, world, sink),
+        Command::Work {
+            seed: _,
+            calls,
+            workers,
+        } => summarize(alloc, calls, workers, world, sink),
+    }
+}
+
+/// Writes the fault line of a limit alone.
+fn tell_limit<K: Sink>(world: World, which: Which, sink: &mut K) -> Outcome
+    requires unbroken { IsUnbroken world.log.past }
+    ensures lab { result.lab ≡ Some world }
+    ensures sound { IsSound world.config world.log }
+    ensures wrote { SaysOrWants
+        (sunk (K.held sink.old) (K.held sink.new) (K.faults sink.old) (K.faults sink.new))
+        5 (fault_line (limit_text which)) result.status }
+{
+    let _journal = world.journal();
+    let status = written(sink, limit_line(which), 5);
+    Outcome {
+        status,
+        lab: Some(world),
+    }
+}
+
+/// Writes what a command prints of a run that met a limit: the fault line, and before it the report of `run`.
+fn print_limit<K: Sink>(
+    alloc: Global,
+    command: Command,
+    world: World,
+    which: Which,
+    sink: &mut K,
+) -> Outcome
+    requires unbroken { IsUnbroken world.log.past }
+    ensures lab { result.lab ≡ Some world }
+    ensures sound { IsSound world.config world.log }
+    ensures wrote { SaysOrWants
+        (sunk (K.held sink.old) (K.held sink.new) (K.faults sink.old) (K.faults sink.new))
+        5 (printed_before command world ++ fault_line (limit_text which)) result.status }
+{
+    match command {
+        Command::Run => report_limit(alloc, world, which, sink),
+        Command::Work {
+            seed: _,
+            calls: _,
+            workers: _,
+        } => tell_limit(world, which, sink),
     }
 }
 
@@ -193,9 +296,38 @@ fn run_bytes<K: Sink>(alloc: Global, marks: u32, bytes: &[u8], sink: &mut K) -> 
         result.status result.lab }
 {
     match read_script(alloc, bytes, None) {
-        Ok(script) => run_script(alloc, marks, &script, sink),
+        Ok(script) => {
+            let line = CommandLine {
+                command: Command::Run,
+                marks,
+            };
+            run_script(alloc, line, &script, sink)
+        }
         Err(ScriptFault::Rule { line, rule }) => report_broken(alloc, line, rule, sink),
         Err(ScriptFault::Memory) => no_memory(sink),
+    }
+}
+
+/// Makes the workload of a seed and runs it.
+fn run_workload<K: Sink>(
+    alloc: Global,
+    line: CommandLine,
+    seed: u64,
+    calls: u32,
+    workers: u32,
+    sink: &mut K,
+) -> Outcome
+    requires calls { (1 ≤ calls) × (calls ≤ MOST_CALLS) }
+    requires workers { (MIN_WORKERS ≤ workers) × (workers ≤ MOST_WORKERS) }
+    requires marks { (MIN_MARKS ≤ line.marks) × (line.marks ≤ MAX_MARKS) }
+    ensures { RanScript line.command line.marks (workload_of seed calls workers)
+        (sunk (K.held sink.old) (K.held sink.new) (K.faults sink.old) (K.faults sink.new))
+        result.status result.lab }
+{
+    workloads_are_jobs();
+    match generate(alloc, seed, calls, workers) {
+        Ok(script) => run_script(alloc, line, &script, sink),
+        Err(Memory) => no_memory(sink),
     }
 }
 
@@ -238,12 +370,17 @@ pub fn top<R: Threads + Wait + Sync, S: Source, K: Sink, G: Gate + Sync>(
         Err(WordsError::Usage) => return refuse(sink, b"fault: usage\n", 2),
         Err(WordsError::Memory) => return no_memory(sink),
     };
-    match read_all(alloc, source, SCRIPT_BYTES) {
-        Ok(bytes) => match line.command {
-            Command::Run => run_bytes(alloc, line.marks, &bytes, sink),
+    match line.command {
+        Command::Run => match read_all(alloc, source, SCRIPT_BYTES) {
+            Ok(bytes) => run_bytes(alloc, line.marks, &bytes, sink),
+            Err(ReadFault::Failed) => refuse(sink, b"fault: read\n", 1),
+            Err(ReadFault::TooLong) => refuse(sink, b"fault: script too long\n", 3),
+            Err(ReadFault::Memory) => no_memory(sink),
         },
-        Err(ReadFault::Failed) => refuse(sink, b"fault: read\n", 1),
-        Err(ReadFault::TooLong) => refuse(sink, b"fault: script too long\n", 3),
-        Err(ReadFault::Memory) => no_memory(sink),
+        Command::Work {
+            seed,
+            calls,
+            workers,
+        } => run_workload(alloc, line, seed, calls, workers, sink),
     }
 }

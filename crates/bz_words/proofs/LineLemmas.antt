@@ -1,22 +1,26 @@
 -- What is known of words that are a command.
-use Rattle.std.proofs.Common.{◌≡◌, ◌∙◌, ℕ, Bool, true, false, List, [], ◌∷◌, ◌++◌, Some, None, codes, inl, inr, refl, ap, sym, arith}
+use Rattle.std.proofs.Common.{◌≡◌, ◌∙◌, ◌⊎◌, ℕ, Bool, true, false, List, [], ◌∷◌, ◌++◌, Some, None, codes, inl, inr, refl, ap, sym, arith}
 use Rattle.std.specs.Prelude.{Option}
 use Rattle.std.proofs.lemmas.Grind.{common_steps}
+use Rattle.std.proofs.lemmas.List.{append-nil}
 use Rattle.bz_script.specs.Number.{number_of, within, is_number}
 use Rattle.bz_words.specs.declared.command.Command.{Command}
-use Rattle.bz_words.specs.declared.command.Command.TheVariants.{Run}
+use Rattle.bz_words.specs.declared.command.Command.TheVariants.{Run, Work}
 use Rattle.bz_words.specs.declared.command.CommandLine.{CommandLine}
-use Rattle.bz_words.specs.CommandLine.{Text, Value, Writes, WriteAll, SaysMarks, LeavesMarks, IsCommandLine, name_of}
-use Rattle.bz_words.specs.Inside.Arrangement.{limit_of, IsArranged}
-use Rattle.bz_words.specs.Inside.Parser.{IsReadAs}
-use Rattle.bz_words.proofs.ReadLemmas.{read_unsaid, read_joined, read_apart}
+use Rattle.bz_words.specs.CommandLine.{Text, Value, Writes, WriteAll, SaysMarks, LeavesMarks, IsCommandLine}
+use Rattle.bz_words.specs.Inside.Arrangement.{command_by, limit_of, Say, SayOnly, IsArranged}
+use Rattle.bz_words.specs.Inside.Parser.{Seen, IsReadAs}
+use Rattle.bz_words.proofs.PlainLemmas.{IsPlain, number_plain}
+use Rattle.bz_words.proofs.ReadLemmas.{seen_run, read_unsaid, read_joined, read_apart}
+use Rattle.bz_words.proofs.WorkLemmas.{seen_work, read_values, joined_0, joined_1, joined_2, joined_3, apart_0, apart_1, apart_2, apart_3}
 
 -- what `clap` makes of the words of a command, and what the program makes of that
-pub record IsKnown (words : List Text) (command : Command) (marks : ℕ) : Type 0 where
-  pub text : Option Text
-  pub read : IsReadAs words (name_of command) text
-  pub limit : limit_of command text ≡ Some marks
-  pub arranged : IsArranged words (name_of command) text
+pub record IsKnown (words : List Text) (line : CommandLine) : Type 0 where
+  pub seen : Seen
+  pub read : IsReadAs words seen
+  pub command : command_by seen ≡ Some line.command
+  pub limit : limit_of line.command seen.marks ≡ Some line.marks
+  pub arranged : IsArranged words line.command seen
 
 no_values : (words : List Text) → WriteAll words [] → words ≡ []
 no_values [] all = refl
@@ -35,40 +39,151 @@ writes_number word v writes = by (is_number word) refl
     by true e = e
     by false e = let none : within v.low v.high (number_of word) ≡ None = rw e refl in absurd cc
 
-known_run : (words option : List Text) (marks : ℕ) → words ≡ codes "run" ∷ option → SaysMarks option marks → IsKnown words Run marks
+-- the limit on marks alone
+alone : (option : List Text) (text : Option Text) → SayOnly option text → Say option [] text
+alone option text h = record { before = []; option = option; after = []; are = sym (append-nil option); values_are = refl; say = h }
+
+known_run : (words option : List Text) (marks : ℕ) → words ≡ codes "run" ∷ option → SaysMarks option marks → IsKnown words (record { command = Run; marks = marks })
 known_run words option marks are says = elim says.is_option [
   | inl apart ↦
       let is : words ≡ codes "run" ∷ codes "--marks" ∷ says.word ∷ [] = are ∙ ap (λ (o : List Text). codes "run" ∷ o) apart in
       record {
-        text = Some says.word;
+        seen = seen_run (Some says.word);
         read = rw is (read_apart says.word (writes_number says.word _ says.writes));
+        command = refl;
         limit = says.writes;
-        arranged = record { option = option; are = are; say = inl apart };
+        arranged = record { rest = option; are = are; say = alone option (Some says.word) (inl apart) };
       }
   | inr joined ↦
       let is : words ≡ codes "run" ∷ (codes "--marks=" ++ says.word) ∷ [] = are ∙ ap (λ (o : List Text). codes "run" ∷ o) joined in
       record {
-        text = Some says.word;
+        seen = seen_run (Some says.word);
         read = rw is (read_joined says.word);
+        command = refl;
         limit = says.writes;
-        arranged = record { option = option; are = are; say = inr joined };
+        arranged = record { rest = option; are = are; say = alone option (Some says.word) (inr joined) };
       }
 ]
 
-usual_run : (words option : List Text) (marks : ℕ) → words ≡ codes "run" ∷ option → LeavesMarks option Run marks → IsKnown words Run marks
+usual_run : (words option : List Text) (marks : ℕ) → words ≡ codes "run" ∷ option → LeavesMarks option Run marks → IsKnown words (record { command = Run; marks = marks })
 usual_run words option marks are leaves =
     let is : words ≡ codes "run" ∷ [] = are ∙ ap (λ (o : List Text). codes "run" ∷ o) leaves.none in
     record {
-      text = None;
+      seen = seen_run None;
       read = rw is read_unsaid;
+      command = refl;
       limit = ap Some (sym leaves.usual);
-      arranged = record { option = option; are = are; say = leaves.none };
+      arranged = record { rest = option; are = are; say = alone option None leaves.none };
     }
 
-known : (words : List Text) (command : Command) (marks : ℕ) → IsCommandLine words (record { command = command; marks = marks }) → IsKnown words command marks
+-- three values and no more
+record Three (values : List Text) (u v w : Value) : Type 0 where
+  a : Text
+  b : Text
+  c : Text
+  are : values ≡ a ∷ b ∷ c ∷ []
+  first : Writes a u
+  second : Writes b v
+  third : Writes c w
+
+three : (values : List Text) (u v w : Value) → WriteAll values (u ∷ v ∷ w ∷ []) → Three values u v w
+three [] u v w all = absurd all
+three (a ∷ []) u v w all = absurd all.1
+three (a ∷ b ∷ []) u v w all = absurd all.1.1
+three (a ∷ b ∷ c ∷ []) u v w all = record { a = a; b = b; c = c; are = refl; first = all.0; second = all.1.0; third = all.1.1.0 }
+three (a ∷ b ∷ c ∷ d ∷ rest) u v w all = absurd all.1.1.1
+
+-- where three values are parted
+Parted : (before after : List Text) (a b c : Text) → Type 0
+Parted before after a b c =
+    ((before ≡ []) × (after ≡ a ∷ b ∷ c ∷ []))
+    ⊎ (((before ≡ a ∷ []) × (after ≡ b ∷ c ∷ []))
+    ⊎ (((before ≡ a ∷ b ∷ []) × (after ≡ c ∷ []))
+    ⊎ ((before ≡ a ∷ b ∷ c ∷ []) × (after ≡ []))))
+
+parted : (before after : List Text) (a b c : Text) → before ++ after ≡ a ∷ b ∷ c ∷ [] → Parted before after a b c
+unfolding Parted
+parted [] after a b c e = inl (refl, e)
+parted (x ∷ []) after a b c e = inr (inl (cc, cc))
+parted (x ∷ y ∷ []) after a b c e = inr (inr (inl (cc, cc)))
+parted (x ∷ y ∷ z ∷ []) after a b c e = inr (inr (inr (cc, cc)))
+parted (x ∷ y ∷ z ∷ u ∷ rest) after a b c e = absurd cc
+
+module _ (seed calls workers marks : ℕ) (words before option after : List Text) (are : words ≡ codes "work" ∷ (before ++ (option ++ after)))
+    (h : Three (before ++ after) (record { number = seed; low = 0; high = 18446744073709551615 }) (record { number = calls; low = 1; high = 20000 }) (record { number = workers; low = 1; high = 64 })) where
+  pa : IsPlain h.a
+  pa = number_plain h.a (writes_number h.a _ h.first)
+
+  pb : IsPlain h.b
+  pb = number_plain h.b (writes_number h.b _ h.second)
+
+  pc : IsPlain h.c
+  pc = number_plain h.c (writes_number h.c _ h.third)
+
+  -- the words, where the values are parted so
+  put : (front opt back : List Text) → before ≡ front → option ≡ opt → after ≡ back → words ≡ codes "work" ∷ (front ++ (opt ++ back))
+  put front opt back e f g = rw (e, f, g) at are
+
+  joined : (n : Text) → option ≡ (codes "--marks=" ++ n) ∷ [] → IsReadAs words (seen_work (Some n) h.a h.b h.c)
+  unfolding Parted
+  joined n is = elim (parted before after h.a h.b h.c h.are) [
+    | inl e ↦ rw (put _ _ _ e.0 is e.1) (joined_0 h.a h.b h.c pa pb pc n)
+    | inr (inl e) ↦ rw (put _ _ _ e.0 is e.1) (joined_1 h.a h.b h.c pa pb pc n)
+    | inr (inr (inl e)) ↦ rw (put _ _ _ e.0 is e.1) (joined_2 h.a h.b h.c pa pb pc n)
+    | inr (inr (inr e)) ↦ rw (put _ _ _ e.0 is e.1) (joined_3 h.a h.b h.c pa pb pc n)
+  ]
+
+  apart : (n : Text) → IsPlain n → option ≡ codes "--marks" ∷ n ∷ [] → IsReadAs words (seen_work (Some n) h.a h.b h.c)
+  unfolding Parted
+  apart n pn is = elim (parted before after h.a h.b h.c h.are) [
+    | inl e ↦ rw (put _ _ _ e.0 is e.1) (apart_0 h.a h.b h.c pa pb pc n pn)
+    | inr (inl e) ↦ rw (put _ _ _ e.0 is e.1) (apart_1 h.a h.b h.c pa pb pc n pn)
+    | inr (inr (inl e)) ↦ rw (put _ _ _ e.0 is e.1) (apart_2 h.a h.b h.c pa pb pc n pn)
+    | inr (inr (inr e)) ↦ rw (put _ _ _ e.0 is e.1) (apart_3 h.a h.b h.c pa pb pc n pn)
+  ]
+
+  unsaid : option ≡ [] → IsReadAs words (seen_work None h.a h.b h.c)
+  unsaid is =
+      let all : words ≡ codes "work" ∷ h.a ∷ h.b ∷ h.c ∷ [] = rw is at are ∙ ap (λ (vs : List Text). codes "work" ∷ vs) h.are in
+      rw all (read_values h.a h.b h.c pa pb pc)
+
+  command : (text : Option Text) → command_by (seen_work text h.a h.b h.c) ≡ Some (Work seed calls workers)
+  command text = rw (h.first, h.second, h.third) refl
+
+  arranged : (text : Option Text) → SayOnly option text → IsArranged words (Work seed calls workers) (seen_work text h.a h.b h.c)
+  arranged text say = record { rest = before ++ (option ++ after); are = are; say = record { before = before; option = option; after = after; are = refl; values_are = h.are; say = say } }
+
+  known_work : SaysMarks option marks ⊎ LeavesMarks option (Work seed calls workers) marks → IsKnown words (record { command = Work seed calls workers; marks = marks })
+  known_work (inl says) = elim says.is_option [
+    | inl is ↦ record {
+      seen = seen_work (Some says.word) h.a h.b h.c;
+      read = apart says.word (number_plain says.word (writes_number says.word _ says.writes)) is;
+      command = command (Some says.word);
+      limit = says.writes;
+      arranged = arranged (Some says.word) (inl is);
+    }
+    | inr is ↦ record {
+      seen = seen_work (Some says.word) h.a h.b h.c;
+      read = joined says.word is;
+      command = command (Some says.word);
+      limit = says.writes;
+      arranged = arranged (Some says.word) (inr is);
+    }
+  ]
+  known_work (inr leaves) = record {
+    seen = seen_work None h.a h.b h.c;
+    read = unsaid leaves.none;
+    command = command None;
+    limit = ap Some (sym leaves.usual);
+    arranged = arranged None leaves.none;
+  }
+
+known : (words : List Text) (command : Command) (marks : ℕ) → IsCommandLine words (record { command = command; marks = marks }) → IsKnown words (record { command = command; marks = marks })
 known words Run marks is =
     let are : words ≡ codes "run" ∷ is.option = is.are ∙ ap (λ (o : List Text). codes "run" ∷ o) (option_alone is.before is.option is.after (no_values (is.before ++ is.after) is.values)) in
     elim is.limit [ inl says ↦ known_run words is.option marks are says | inr leaves ↦ usual_run words is.option marks are leaves ]
+known words (Work seed calls workers) marks is =
+    known_work seed calls workers marks words is.before is.option is.after is.are (three (is.before ++ is.after) _ _ _ is.values) is.limit
 
-pub line_known : (words : List Text) (line : CommandLine) → IsCommandLine words line → IsKnown words line.command line.marks
+pub line_known : (words : List Text) (line : CommandLine) → IsCommandLine words line → IsKnown words line
 line_known words line is = known words line.command line.marks is

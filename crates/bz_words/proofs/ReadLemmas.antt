@@ -1,65 +1,70 @@
--- What `clap` makes of the words that are a command.
+-- What `clap` makes of the words of `run`.
 use Rattle.std.proofs.Common.{◌≡◌, ◌≤◌, ◌+◌, ◌⊎◌, ℕ, true, [], ◌∷◌, ◌++◌, Some, None, codes, inl, inr, refl, sym, subst, arith}
+use Rattle.std.specs.Prelude.{Option}
 use Rattle.std.proofs.lemmas.Bool.Decides.{nat_tests}
 use Rattle.clap.proofs.OnLiterals.{clap_on_literals}
 use Rattle.bz_script.specs.Number.{is_number}
 use Rattle.bz_words.specs.CommandLine.{Text}
-use Rattle.bz_words.specs.Inside.Parser.{IsReadAs}
+use Rattle.bz_words.specs.Inside.Parser.{Seen, IsReadAs}
+
+-- what was found of the limit on marks, and no values
+abbrev pub seen_run : Option Text → Seen
+seen_run marks = record { name = codes "run"; marks = marks; seed = None; calls = None; workers = None }
 
 -- the name alone
-pub read_unsaid : IsReadAs (codes "run" ∷ []) (codes "run") None
+pub read_unsaid : IsReadAs (codes "run" ∷ []) (seen_run None)
 unfolding clap_on_literals
-read_unsaid = record { taken = refl; seen = refl }
+read_unsaid = record { taken = refl; found = refl }
 
 -- the limit in one word
-pub read_joined : (number : Text) → IsReadAs (codes "run" ∷ (codes "--marks=" ++ number) ∷ []) (codes "run") (Some number)
+pub read_joined : (number : Text) → IsReadAs (codes "run" ∷ (codes "--marks=" ++ number) ∷ []) (seen_run (Some number))
 unfolding clap_on_literals
-read_joined number = record { taken = refl; seen = refl }
+read_joined number = record { taken = refl; found = refl }
 
 -- the limit in a word of its own
 ReadsApart : Text → Type 0
-ReadsApart number = IsReadAs (codes "run" ∷ codes "--marks" ∷ number ∷ []) (codes "run") (Some number)
+ReadsApart number = IsReadAs (codes "run" ∷ codes "--marks" ∷ number ∷ []) (seen_run (Some number))
 
 -- `clap` looks whether such a word begins with a hyphen, and so at its first byte
 apart_0 : (ds : Text) → ReadsApart (48 ∷ ds)
 unfolding ReadsApart clap_on_literals
-apart_0 ds = record { taken = refl; seen = refl }
+apart_0 ds = record { taken = refl; found = refl }
 
 apart_1 : (ds : Text) → ReadsApart (49 ∷ ds)
 unfolding ReadsApart clap_on_literals
-apart_1 ds = record { taken = refl; seen = refl }
+apart_1 ds = record { taken = refl; found = refl }
 
 apart_2 : (ds : Text) → ReadsApart (50 ∷ ds)
 unfolding ReadsApart clap_on_literals
-apart_2 ds = record { taken = refl; seen = refl }
+apart_2 ds = record { taken = refl; found = refl }
 
 apart_3 : (ds : Text) → ReadsApart (51 ∷ ds)
 unfolding ReadsApart clap_on_literals
-apart_3 ds = record { taken = refl; seen = refl }
+apart_3 ds = record { taken = refl; found = refl }
 
 apart_4 : (ds : Text) → ReadsApart (52 ∷ ds)
 unfolding ReadsApart clap_on_literals
-apart_4 ds = record { taken = refl; seen = refl }
+apart_4 ds = record { taken = refl; found = refl }
 
 apart_5 : (ds : Text) → ReadsApart (53 ∷ ds)
 unfolding ReadsApart clap_on_literals
-apart_5 ds = record { taken = refl; seen = refl }
+apart_5 ds = record { taken = refl; found = refl }
 
 apart_6 : (ds : Text) → ReadsApart (54 ∷ ds)
 unfolding ReadsApart clap_on_literals
-apart_6 ds = record { taken = refl; seen = refl }
+apart_6 ds = record { taken = refl; found = refl }
 
 apart_7 : (ds : Text) → ReadsApart (55 ∷ ds)
 unfolding ReadsApart clap_on_literals
-apart_7 ds = record { taken = refl; seen = refl }
+apart_7 ds = record { taken = refl; found = refl }
 
 apart_8 : (ds : Text) → ReadsApart (56 ∷ ds)
 unfolding ReadsApart clap_on_literals
-apart_8 ds = record { taken = refl; seen = refl }
+apart_8 ds = record { taken = refl; found = refl }
 
 apart_9 : (ds : Text) → ReadsApart (57 ∷ ds)
 unfolding ReadsApart clap_on_literals
-apart_9 ds = record { taken = refl; seen = refl }
+apart_9 ds = record { taken = refl; found = refl }
 
 -- a number is the least one, or greater
 this_or_more : (low d : ℕ) → low ≤ d → (d ≡ low) ⊎ (low + 1 ≤ d)
@@ -103,7 +108,7 @@ first_digit : (d : ℕ) (ds : Text) → is_number (d ∷ ds) ≡ true → (48 �
 first_digit d ds is = grind (arith, nat_tests)
 
 -- the limit in two words
-pub read_apart : (number : Text) → is_number number ≡ true → IsReadAs (codes "run" ∷ codes "--marks" ∷ number ∷ []) (codes "run") (Some number)
+pub read_apart : (number : Text) → is_number number ≡ true → IsReadAs (codes "run" ∷ codes "--marks" ∷ number ∷ []) (seen_run (Some number))
 unfolding ReadsApart
 read_apart [] is = absurd cc
 read_apart (d ∷ ds) is = apart_digit d ds (first_digit d ds is).0 (first_digit d ds is).1

@@ -1,11 +1,12 @@
 -- Which words of the command line ask for what.
-use Rattle.std.specs.Prelude.{◌≡◌, ◌⊎◌, ⊤, ℕ, List, [], ◌∷◌, ◌++◌, Some, codes}
-use Rattle.bz_layout.specs.declared.limits.TheConstants.{MIN_MARKS, MAX_MARKS}
+use Rattle.std.specs.Prelude.{◌≡◌, ◌≤◌, ◌⊎◌, ⊤, ℕ, ◌-◌, ◌^◌, List, [], ◌∷◌, ◌++◌, Some, codes}
+use Rattle.bz_gen.specs.declared.workload.TheConstants.{MOST_CALLS}
+use Rattle.bz_layout.specs.declared.limits.TheConstants.{MIN_MARKS, MAX_MARKS, MIN_WORKERS, MAX_WORKERS}
 use Rattle.bz_script.specs.Number.{number_of, within}
 use Rattle.bz_words.specs.declared.command.Command.{Command}
-use Rattle.bz_words.specs.declared.command.Command.TheVariants.{Run}
+use Rattle.bz_words.specs.declared.command.Command.TheVariants.{Run, Work}
 use Rattle.bz_words.specs.declared.command.CommandLine.{CommandLine}
-use Rattle.bz_words.specs.declared.command.TheConstants.{RUN_MARKS}
+use Rattle.bz_words.specs.declared.command.TheConstants.{RUN_MARKS, WORK_MARKS}
 
 abbrev pub Text : Type 0
 Text = List ℕ
@@ -20,12 +21,19 @@ pub record Value : Type 0 where
 -- the limit on marks where the words do not say one.
 abbrev pub name_of : Command → Text
 name_of Run = codes "run"
+name_of (Work seed calls workers) = codes "work"
 
 abbrev pub values_of : Command → List Value
 values_of Run = []
+values_of (Work seed calls workers) =
+    record { number = seed; low = 0; high = 2 ^ 64 - 1 }
+    ∷ record { number = calls; low = 1; high = MOST_CALLS }
+    ∷ record { number = workers; low = MIN_WORKERS; high = MAX_WORKERS }
+    ∷ []
 
 abbrev pub usual_marks : Command → ℕ
 usual_marks Run = RUN_MARKS
+usual_marks (Work seed calls workers) = WORK_MARKS
 
 -- the word is this number as scripts write numbers, and the number lies in its range
 abbrev pub Writes : Text → Value → Type 0
@@ -62,3 +70,8 @@ pub record IsCommandLine (words : List Text) (line : CommandLine) : Type 0 where
   pub are : words ≡ name_of line.command ∷ (before ++ (option ++ after))
   pub values : WriteAll (before ++ after) (values_of line.command)
   pub limit : SaysMarks option line.marks ⊎ LeavesMarks option line.command line.marks
+
+-- the numbers of a command lie in their ranges
+abbrev pub InRange : Command → Type 0
+InRange Run = ⊤
+InRange (Work seed calls workers) = ((1 ≤ calls) × (calls ≤ MOST_CALLS)) × ((MIN_WORKERS ≤ workers) × (workers ≤ MAX_WORKERS))

@@ -1,13 +1,19 @@
 //! What a command line asks for.
+use bz_layout::MAX_MARKS;
 
 /// The limit on marks of `run` where the words do not say one.
 pub const RUN_MARKS: u32 = 4_194_304;
+
+/// The limit on marks of `work` where the words do not say one: the greatest.
+pub const WORK_MARKS: u32 = MAX_MARKS;
 
 /// The commands.
 #[derive(Clone, Copy, Debug, PartialEq, Eq)]
 pub enum Command {
     /// Runs the script that the source gives.
     Run,
+    /// Runs the workload of a seed, of so many calls of so many workers.
+    Work { seed: u64, calls: u32, workers: u32 },
 }
 
 /// A command, and the limit on marks of the world that it opens.

@@ -1,6 +1,7 @@
 //! The command line: what its words ask for.
 #![tactic(auto)]
 
+mod arrangement;
 mod command;
 mod error;
 pub mod laws;
@@ -9,6 +10,6 @@ mod read;
 #[cfg(test)]
 mod tests;
 
-pub use command::{Command, CommandLine, RUN_MARKS};
+pub use command::{Command, CommandLine, RUN_MARKS, WORK_MARKS};
 pub use error::WordsError;
 pub use read::read_words;

@@ -1,7 +1,9 @@
 //! What `clap` reads of the words.
-ghost use Rattle.std.specs.Prelude.{◌≡◌, ◌≢◌, List, ℕ, Option, Some, IfOk, map, option_map};
-ghost use Rattle.clap.specs.Words.{app_of};
-ghost use Rattle.bz_words.specs.Inside.Parser.{bz_app, seen_in, IsReadAs};
+ghost use Rattle.std.specs.Prelude.{◌≡◌, ◌≢◌, false, List, ℕ, Option, Some, IfOk, map, option_map, codes};
+ghost use Rattle.clap.specs.Words.{app_of, rule_of};
+ghost use Rattle.clap.specs.declared.builder.command.Command.TheViews.{out-Command as fields_of};
+ghost use Rattle.bz_words.specs.Inside.Parser.{bz_app, marks_rule, value_rule, run_app, work_app, seen_in, Seen, IsReadAs};
+ghost use Rattle.bz_words.specs.Inside.Founds.{seen_of};
 ghost use Rattle.clap.specs.Simple.{subcommand_of};
 
 use crate::error::WordsError;
@@ -9,35 +11,70 @@ use clap::error::ErrorKind;
 use clap::{Arg, ArgAction, Command};
 use std::alloc::{AllocError, Global};
 
-/// What `clap` finds: the name of a command, and the text of its limit on marks.
+/// What `clap` finds: the name of a command, and the texts of its limit on marks and of its values.
 #[derive(Clone, Copy)]
 pub(crate) struct Found<'a> {
     pub name: &'a str,
     pub marks: Option<&'a str>,
+    pub seed: Option<&'a str>,
+    pub calls: Option<&'a str>,
+    pub workers: Option<&'a str>,
+}
+
+// The limit on marks, as an option.
+fn marks_option<'a>(alloc: Global) -> Arg<'a>
+    ensures rule { rule_of result ≡ marks_rule }
+    ensures local { result.global ≡ false }
+{
+    Arg::new(alloc, "marks")
+        .long("marks")
+        .action(ArgAction::Set)
+}
+
+// A value, under its name.
+fn value<'a>(alloc: Global, id: &'a str) -> Arg<'a>
+    ensures rule { rule_of result ≡ value_rule id.entry.now }
+    ensures local { result.global ≡ false }
+{
+    Arg::new(alloc, id).action(ArgAction::Set)
+}
+
+fn run<'a>(alloc: Global) -> Result<Command<'a>, AllocError>
+    ensures app { IfOk result (λ run. app_of run ≡ run_app) }
+    ensures local { IfOk result (λ run. (fields_of run).has_globals ≡ false) }
+{
+    Command::new(alloc, "run").arg(marks_option(alloc))
+}
+
+fn work<'a>(alloc: Global) -> Result<Command<'a>, AllocError>
+    ensures app { IfOk result (λ work. app_of work ≡ work_app) }
+    ensures local { IfOk result (λ work. (fields_of work).has_globals ≡ false) }
+{
+    Command::new(alloc, "work")
+        .arg(value(alloc, "seed"))?
+        .arg(value(alloc, "calls"))?
+        .arg(value(alloc, "workers"))?
+        .arg(marks_option(alloc))
 }
 
 // One command with one level of subcommands, without help and version.
 fn parser<'a>(alloc: Global) -> Result<Command<'a>, AllocError>
     ensures { IfOk result (λ parser. app_of parser ≡ bz_app) }
 {
-    let marks = Arg::new(alloc, "marks")
-        .long("marks")
-        .action(ArgAction::Set);
-    let run = Command::new(alloc, "run").arg(marks)?;
+    let run = run(alloc)?;
+    let work = work(alloc)?;
     Command::new(alloc, "bz")
         .no_binary_name(true)
         .disable_help_flag(true)
         .disable_help_subcommand(true)
-        .subcommand(run)
+        .subcommand(run)?
+        .subcommand(work)
 }
 
 /// Reads the words by `clap`.
 pub(crate) fn find<'a>(alloc: Global, words: &'a [&'a str]) -> Result<Found<'a>, WordsError>
-    ensures found { IfOk result (λ found.
-        seen_in (subcommand_of bz_app (map (λ word. word.now) words.entry.now))
-        ≡ Some (found.name.now, option_map (λ word. word.now) found.marks)) }
-    ensures usage { result ≡ Err WordsError.Usage → (name : List ℕ) (marks : Option (List ℕ))
-        → ¬ IsReadAs (map (λ word. word.now) words.entry.now) name marks }
+    ensures found { IfOk result (λ found. seen_in (subcommand_of bz_app (map (λ word. word.now) words.entry.now)) ≡ Some (seen_of found)) }
+    ensures usage { result ≡ Err WordsError.Usage → (seen : Seen) → ¬ IsReadAs (map (λ word. word.now) words.entry.now) seen }
 {
     let parser = parser(alloc)?;
     let matches = match parser.try_get_matches_from(words) {
@@ -48,6 +85,9 @@ pub(crate) fn find<'a>(alloc: Global, words: &'a [&'a str]) -> Result<Found<'a>,
         Some((name, found)) => Ok(Found {
             name,
             marks: found.get_str("marks"),
+            seed: found.get_str("seed"),
+            calls: found.get_str("calls"),
+            workers: found.get_str("workers"),
         }),
         None => Err(WordsError::Usage),
     }

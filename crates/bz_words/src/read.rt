@@ -1,24 +1,84 @@
 //! Reading the words.
-ghost use Rattle.std.specs.Prelude.{◌≡◌, ◌≢◌, ◌↔◌, ◌≤◌, ◌++◌, ◌∷◌, [], None, IfOk, IfSome, IsTrue, map, option_map, codes};
-ghost use Rattle.bz_layout.specs.declared.limits.TheConstants.{MIN_MARKS as least_marks, MAX_MARKS as most_marks};
+ghost use Rattle.std.specs.Prelude.{◌≡◌, ◌≤◌, ◌-◌, ◌^◌, IfOk, IfSome, IsTrue, map, option_map};
+ghost use Rattle.bz_gen.specs.declared.workload.TheConstants.{MOST_CALLS as most_calls};
+ghost use Rattle.bz_layout.specs.declared.limits.TheConstants.{MIN_MARKS as least_marks, MAX_MARKS as most_marks, MIN_WORKERS as least_workers, MAX_WORKERS as most_workers};
 ghost use Rattle.bz_script.specs.Number.{number_of, within};
-ghost use Rattle.bz_words.specs.CommandLine.{IsCommandLine, name_of, usual_marks};
-ghost use Rattle.bz_words.specs.Inside.Arrangement.{limit_of, SayOnly, IsArranged};
+ghost use Rattle.bz_words.specs.CommandLine.{IsCommandLine, InRange, usual_marks};
+ghost use Rattle.bz_words.specs.Inside.Arrangement.{number_in, workload_by, command_by, limit_of, IsArranged};
+ghost use Rattle.bz_words.specs.Inside.Founds.{seen_of};
 
-use crate::command::{Command, CommandLine, RUN_MARKS};
+use crate::arrangement::is_arranged;
+use crate::command::{Command, CommandLine, RUN_MARKS, WORK_MARKS};
 use crate::error::WordsError;
-use crate::parser::find;
-use bz_layout::{MAX_MARKS, MIN_MARKS};
+use crate::parser::{Found, find};
+use bz_gen::MOST_CALLS;
+use bz_layout::{MAX_MARKS, MAX_WORKERS, MIN_MARKS, MIN_WORKERS};
 use bz_script::read_number;
 use std::alloc::Global;
 
-// The command with this name.
-fn command_named(name: &str) -> Option<Command>
-    ensures some { IfSome result (λ command. name.now ≡ name_of command) }
-    ensures none { result ≡ None → (command : Command) → name.now ≢ name_of command }
+// The number that a text says, if it lies in a range.
+fn number_within(text: &str, low: u64, high: u64) -> Option<u64>
+    ensures in_range { IfSome result (λ number. (low ≤ number) × (number ≤ high)) }
+    ensures number { result ≡ within low high (number_of text.now) }
 {
-    if name == "run" {
+    let Some(number) = read_number(text.as_bytes()) else {
+        return None;
+    };
+    if number < low {
+        return None;
+    }
+    if number > high {
+        return None;
+    }
+    Some(number)
+}
+
+// The same of a text that is there.
+fn number_found(text: Option<&str>, low: u64, high: u64) -> Option<u64>
+    ensures in_range { IfSome result (λ number. (low ≤ number) × (number ≤ high)) }
+    ensures number { result ≡ number_in low high (option_map (λ text. text.now) text.entry) }
+{
+    match text {
+        None => None,
+        Some(text) => number_within(text, low, high),
+    }
+}
+
+// The workload that was found.
+fn workload_found(found: &Found) -> Option<Command>
+    ensures command { result ≡ workload_by
+        (number_in 0 (2 ^ 64 - 1) (seen_of found.now).seed)
+        (number_in 1 most_calls (seen_of found.now).calls)
+        (number_in least_workers most_workers (seen_of found.now).workers) }
+    ensures in_range { IfSome result InRange }
+{
+    let Some(seed) = number_found(found.seed, 0, u64::MAX) else {
+        return None;
+    };
+    let Some(calls) = number_found(found.calls, 1, u64::from(MOST_CALLS)) else {
+        return None;
+    };
+    let (low, high) = (u64::from(MIN_WORKERS), u64::from(MAX_WORKERS));
+    let Some(workers) = number_found(found.workers, low, high) else {
+        return None;
+    };
+    Some(Command::Work {
+        seed,
+        calls: calls as u32,
+        workers: workers as u32,
+    })
+}
+
+// The command that was found.
+fn command_found(found: &Found) -> Option<Command>
+    ensures command { result ≡ command_by (seen_of found.now) }
+    ensures in_range { IfSome result InRange }
+{
+    if found.name == "run" {
         return Some(Command::Run);
+    }
+    if found.name == "work" {
+        return workload_found(found);
     }
     None
 }
@@ -30,6 +90,11 @@ fn marks_unsaid(command: Command) -> u32
 {
     match command {
         Command::Run => RUN_MARKS,
+        Command::Work {
+            seed: _,
+            calls: _,
+            workers: _,
+        } => WORK_MARKS,
     }
 }
 
@@ -38,16 +103,10 @@ fn read_marks(text: &str) -> Option<u32>
     ensures in_range { IfSome result (λ marks. (least_marks ≤ marks) × (marks ≤ most_marks)) }
     ensures limit { result ≡ within least_marks most_marks (number_of text.now) }
 {
-    let Some(number) = read_number(text.as_bytes()) else {
-        return None;
-    };
-    if number < u64::from(MIN_MARKS) {
-        return None;
+    match number_within(text, u64::from(MIN_MARKS), u64::from(MAX_MARKS)) {
+        Some(number) => Some(number as u32),
+        None => None,
     }
-    if number > u64::from(MAX_MARKS) {
-        return None;
-    }
-    Some(number as u32)
 }
 
 // The limit on marks of a command.
@@ -61,66 +120,11 @@ fn limit(command: Command, marks: Option<&str>) -> Option<u32>
     }
 }
 
-// Whether the word is `--marks=` and this text.
-fn joins(word: &str, text: &str) -> bool
-    ensures { IsTrue result ↔ (word.now ≡ codes "--marks=" ++ text.now) }
-{
-    match word.as_bytes().strip_prefix(b"--marks=") {
-        Some(number) => number == text.as_bytes(),
-        None => false,
-    }
-}
-
-fn is_text(word: &str, text: &str) -> bool
-    ensures { IsTrue result ↔ (word.now ≡ text.now) }
-{
-    word == text
-}
-
-// Whether the words are `--marks` and this text.
-fn stand_apart(words: &[&str], text: &str) -> bool
-    ensures { IsTrue result ↔ (map (λ word. word.now) words.now ≡ codes "--marks" ∷ text.now ∷ []) }
-{
-    match words {
-        [option, number] => is_text(option, "--marks") && is_text(number, text),
-        _ => false,
-    }
-}
-
-// Whether the words are the one word `--marks=` and this text.
-fn stand_joined(words: &[&str], text: &str) -> bool
-    ensures { IsTrue result ↔ (map (λ word. word.now) words.now ≡ (codes "--marks=" ++ text.now) ∷ []) }
-{
-    match words {
-        [word] => joins(word, text),
-        _ => false,
-    }
-}
-
-// Whether the words say this limit on marks, and nothing else. `clap` takes some others, as those with a word `--`.
-fn say_only(words: &[&str], marks: Option<&str>) -> bool
-    ensures { IsTrue result ↔ SayOnly (map (λ word. word.now) words.now) (option_map (λ word. word.now) marks.entry) }
-{
-    match marks {
-        None => words.is_empty(),
-        Some(text) => stand_apart(words, text) || stand_joined(words, text),
-    }
-}
-
-// Whether the words are this name, and behind it what says this limit on marks.
-fn is_arranged(words: &[&str], name: &str, marks: Option<&str>) -> bool
-    ensures { IsTrue result ↔ IsArranged (map (λ word. word.now) words.now) name.now (option_map (λ word. word.now) marks.entry) }
-{
-    match words.split_first() {
-        Some((first, others)) => is_text(first, name) && say_only(others, marks),
-        None => false,
-    }
-}
-
 /// What the words ask for; the program's name is not among them. This takes memory.
 pub fn read_words(alloc: Global, words: &[&str]) -> Result<CommandLine, WordsError>
     ensures command { IfOk result (IsCommandLine (map (λ word. word.now) words.now)) }
     ensures in_range { IfOk result (λ line. (least_marks ≤ line.marks) × (line.marks ≤ most_marks)) }
+    ensures numbers { IfOk result (λ line. InRange line.command) }
     ensures usage { result ≡ Err WordsError.Usage → (line : CommandLine)
         → ¬ IsCommandLine (map (λ word. word.now) words.now) line }
 {
@@ -128,13 +132,13 @@ pub fn read_words(alloc: Global, words: &[&str]) -> Result<CommandLine, WordsErr
         Ok(found) => found,
         Err(error) => return Err(error),
     };
-    let Some(command) = command_named(found.name) else {
+    let Some(command) = command_found(&found) else {
         return Err(WordsError::Usage);
     };
     let Some(marks) = limit(command, found.marks) else {
         return Err(WordsError::Usage);
     };
-    if !is_arranged(words, found.name, found.marks) {
+    if !is_arranged(words, command, &found) {
         return Err(WordsError::Usage);
     }
     Ok(CommandLine { command, marks })

@@ -47,6 +47,71 @@ fn run_has_a_limit_on_marks_or_the_usual_one(rt: HostRuntime) -> Result<(), Fail
 }
 
 #[test]
+fn work_has_three_numbers_and_the_limit_anywhere_among_them(rt: HostRuntime) -> Result<(), Fail> {
+    for (line, seed, calls, workers, marks) in [
+        ("work 0 1 1", 0, 1, 1, 33_554_432),
+        ("work 7 20000 64", 7, 20_000, 64, 33_554_432),
+        (
+            "work 18446744073709551615 20 2",
+            u64::MAX,
+            20,
+            2,
+            33_554_432,
+        ),
+        ("work --marks 1024 1 20 2", 1, 20, 2, 1024),
+        ("work 1 --marks 1025 20 2", 1, 20, 2, 1025),
+        ("work 1 20 --marks 33554432 2", 1, 20, 2, 33_554_432),
+        ("work 1 20 2 --marks 9999", 1, 20, 2, 9999),
+        ("work --marks=1024 1 20 2", 1, 20, 2, 1024),
+        ("work 1 --marks=2345 20 2", 1, 20, 2, 2345),
+        ("work 1 20 --marks=60000 2", 1, 20, 2, 60_000),
+        ("work 1 20 2 --marks=7890", 1, 20, 2, 7890),
+    ] {
+        let want = CommandLine {
+            command: Command::Work {
+                seed,
+                calls,
+                workers,
+            },
+            marks,
+        };
+        expect_line(&rt, rt.alloc(), line, Ok(want))?;
+    }
+    Ok(())
+}
+
+#[test]
+fn other_words_behind_work_are_no_command(rt: HostRuntime) -> Result<(), Fail> {
+    for line in [
+        "work",
+        "work 1",
+        "work 1 20",
+        "work 1 20 2 3",
+        "work 18446744073709551616 20 2",
+        "work 1 0 2",
+        "work 1 20001 2",
+        "work 1 20 0",
+        "work 1 20 65",
+        "work 01 20 2",
+        "work 1 20 2 ",
+        "work 1 +20 2",
+        "work -1 20 2",
+        "work a 20 2",
+        "work -- 1 20 2",
+        "work 1 20 2 --",
+        "work 1 20 --marks 2",
+        "work 1 20 2 --marks 1023",
+        "work 1 20 2 --marks",
+        "work --marks=1024 1 20 2 --marks 1024",
+        "--marks 1024 work 1 20 2",
+        "work --seed 1 20 2",
+    ] {
+        expect_line(&rt, rt.alloc(), line, Err(WordsError::Usage))?;
+    }
+    Ok(())
+}
+
+#[test]
 fn other_words_are_no_command(rt: HostRuntime) -> Result<(), Fail> {
     for line in [
         "",
@@ -58,8 +123,7 @@ fn other_words_are_no_command(rt: HostRuntime) -> Result<(), Fail> {
         "help",
         "help run",
         "version",
-        "work",
-        "work 1 2 3",
+        "worker 1 2 3",
         "dump",
         "load",
         "now",

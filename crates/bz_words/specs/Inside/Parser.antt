@@ -10,21 +10,46 @@ use Rattle.bz_words.specs.CommandLine.{Text}
 abbrev pub marks_rule : Rule
 marks_rule = record (new_rule (codes "marks")) { long = Some (codes "marks"); action = Some Set }
 
+-- a value of `work`, under a name of its own
+abbrev pub value_rule : Text → Rule
+value_rule id = record (new_rule id) { action = Some Set }
+
 abbrev pub run_app : App
 run_app = with_rule (new_app (codes "run")) marks_rule
+
+abbrev pub work_app : App
+work_app = with_rule (with_rule (with_rule (with_rule (new_app (codes "work")) (value_rule (codes "seed"))) (value_rule (codes "calls"))) (value_rule (codes "workers"))) marks_rule
 
 -- the command with one level of subcommands, without help and version
 abbrev pub bz_app : App
 bz_app =
     with_subcommand
+    (with_subcommand
     (on_top (λ s. record s { no_binary_name = true; disable_help_flag = true; disable_help_subcommand = true })
-    (new_app (codes "bz"))) run_app.top
+    (new_app (codes "bz"))) run_app.top) work_app.top
 
--- the subcommand's name, and the text of its limit on marks
-abbrev pub seen_in : Option (Text × List Row) → Option (Text × Option Text)
-seen_in = option_map (λ p. (p.0, first_of (codes "marks") p.1))
+-- what is found: the subcommand's name, and the texts of its limit on marks and of its values
+pub record Seen : Type 0 where
+  pub name : Text
+  pub marks : Option Text
+  pub seed : Option Text
+  pub calls : Option Text
+  pub workers : Option Text
 
--- `clap` takes the words, and finds this subcommand with this text of the limit on marks
-pub record IsReadAs (words : List Text) (name : Text) (marks : Option Text) : Type 0 where
+-- the same of a subcommand's name and rows
+abbrev pub seen_at : Text × List Row → Seen
+seen_at found = record {
+  name = found.0;
+  marks = first_of (codes "marks") found.1;
+  seed = first_of (codes "seed") found.1;
+  calls = first_of (codes "calls") found.1;
+  workers = first_of (codes "workers") found.1;
+}
+
+abbrev pub seen_in : Option (Text × List Row) → Option Seen
+seen_in = option_map seen_at
+
+-- `clap` takes the words, and finds this
+pub record IsReadAs (words : List Text) (seen : Seen) : Type 0 where
   pub taken : takes bz_app words ≡ true
-  pub seen : seen_in (subcommand_of bz_app words) ≡ Some (name, marks)
+  pub found : seen_in (subcommand_of bz_app words) ≡ Some seen

@@ -1,0 +1,160 @@
+//! Workloads: their summaries, and the reports of their scripts.
+use crate::{NoGate, top};
+use bz_call::Call;
+use bz_gen::{MOST_CALLS, generate};
+use bz_io::{MemSink, MemSource};
+use bz_key::{Key, Payload};
+use bz_layout::MAX_WORKERS;
+use bz_script::Item;
+use std::alloc::Global;
+use std::process::Abort;
+use std::sync::Wait;
+use std::test::Fail;
+use std::thread::Threads;
+
+// What a run of `bz` on these words and this input prints, and the status with which it ends.
+fn run<R: Threads + Wait + Sync>(
+    rt: &R,
+    alloc: Global,
+    words: &[&str],
+    input: &[u8],
+) -> Result<(String, u8), Fail> {
+    let mut source = MemSource::of(alloc, input)?;
+    let mut sink = MemSink::open(alloc, 1_000_000)?;
+    let outcome = top(rt, alloc, words, &mut source, &mut sink, &NoGate);
+    let text = std::str::from_utf8(sink.bytes())?.to_string(alloc)?;
+    Ok((text, outcome.status))
+}
+
+// A call on a key alone, as its words.
+fn asking(alloc: Global, word: &str, key: &Key) -> Result<String, Fail> {
+    let key = std::str::from_utf8(key.bytes())?;
+    Ok(format!(in alloc; "{word} {key}")?)
+}
+
+// A call that puts a payload, as its words.
+fn putting(alloc: Global, word: &str, key: &Key, payload: &Payload) -> Result<String, Fail> {
+    let key = std::str::from_utf8(key.bytes())?;
+    let payload = std::str::from_utf8(payload.bytes())?;
+    Ok(format!(in alloc; "{word} {key} {payload}")?)
+}
+
+fn words_of(alloc: Global, call: &Call) -> Result<String, Fail> {
+    match call {
+        Call::Insert(key, payload) => putting(alloc, "insert", key, payload),
+        Call::Delete(key) => asking(alloc, "delete", key),
+        Call::Update(key, payload) => putting(alloc, "update", key, payload),
+        Call::Upsert(key, payload) => putting(alloc, "upsert", key, payload),
+        Call::Get(key) => asking(alloc, "get", key),
+        Call::Page(key) => asking(alloc, "page", key),
+    }
+}
+
+// The workload of a seed, as a script.
+fn script_of(
+    rt: &impl Abort,
+    alloc: Global,
+    seed: u64,
+    calls: u32,
+    workers: u32,
+) -> Result<String, Fail> {
+    assert!(rt; calls >= 1 && calls <= MOST_CALLS);
+    assert!(rt; workers >= 1 && workers <= MAX_WORKERS);
+    let script = generate(alloc, seed, calls, workers)?;
+    let mut text = String::new(alloc);
+    text.push_str("memory 16384 65536\n")?;
+    for item in script.items.items() {
+        if let Item::Queue(worker, call) = item {
+            let words = words_of(alloc, call)?;
+            text.push_str(&format!(in alloc; "w {worker} {words}\n")?)?;
+        }
+    }
+    text.push_str(&format!(in alloc; "run turns {seed}\n")?)?;
+    Ok(text)
+}
+
+// How many lines of a report tell this reply.
+fn count(report: &str, reply: &str) -> usize {
+    report.lines().filter(|line| line.contains(reply)).count()
+}
+
+// The second line of the summary, by the lines of a report.
+fn counts_of(alloc: Global, report: &str) -> Result<String, Fail> {
+    let mut text = String::new(alloc);
+    for word in [
+        "inserted", "exists", "deleted", "updated", "missing", "value", "page", "full",
+    ] {
+        let reply = format!(in alloc; " = {word}")?;
+        let number = count(report, &reply);
+        text.push_str(&format!(in alloc; "{word} {number} ")?)?;
+    }
+    Ok(text)
+}
+
+#[test]
+fn a_workload_prints_the_same_summary_twice(rt: HostRuntime) -> Result<(), Fail> {
+    let alloc = rt.alloc();
+    for words in [["work", "1", "20", "2"], ["work", "7", "2000", "8"]] {
+        let (first, status) = run(&rt, alloc, words.as_slice(), b"")?;
+        assert_eq!(rt; status, 0);
+        let (again, status) = run(&rt, alloc, words.as_slice(), b"not read")?;
+        assert_eq!(rt; status, 0);
+        assert_eq!(rt; first.as_str(), again.as_str());
+    }
+    Ok(())
+}
+
+#[test]
+fn a_summary_counts_the_lines_of_the_report(rt: HostRuntime) -> Result<(), Fail> {
+    let alloc = rt.alloc();
+    let script = script_of(&rt, alloc, 7, 2000, 8)?;
+    let words = ["run", "--marks", "33554432"];
+    let (report, status) = run(&rt, alloc, words.as_slice(), script.as_bytes())?;
+    assert_eq!(rt; status, 0);
+    let (summary, status) = run(&rt, alloc, ["work", "7", "2000", "8"].as_slice(), b"")?;
+    assert_eq!(rt; status, 0);
+    let mut lines = summary.lines();
+    assert_eq!(rt; lines.next(), Some("work 2000 calls 8 workers"));
+    let counts = counts_of(alloc, &report)?;
+    assert_eq!(rt; lines.next(), Some(counts.trim_end()));
+    // no pair is deleted, so there are as many as were inserted
+    let pairs = format!(in alloc; "pairs {}", count(&report, " = inserted"))?;
+    assert_eq!(rt; count(&report, " = deleted"), 0);
+    assert_eq!(rt; lines.next(), Some(pairs.as_str()));
+    assert_eq!(rt; lines.next(), None);
+    Ok(())
+}
+
+#[test]
+fn a_workload_that_meets_the_limit_tells_it_alone(rt: HostRuntime) -> Result<(), Fail> {
+    let alloc = rt.alloc();
+    let words = ["work", "1", "20", "2", "--marks=1024"];
+    let (text, status) = run(&rt, alloc, words.as_slice(), b"")?;
+    assert_eq!(rt; status, 5);
+    assert_eq!(rt; text.as_str(), "fault: limit marks\n");
+    Ok(())
+}
+
+#[test]
+fn a_workload_has_its_numbers_in_their_ranges(rt: HostRuntime) -> Result<(), Fail> {
+    let alloc = rt.alloc();
+    for words in [
+        ["work", "18446744073709551616", "20", "2"],
+        ["work", "1", "0", "2"],
+        ["work", "1", "20001", "2"],
+        ["work", "1", "20", "0"],
+        ["work", "1", "20", "65"],
+    ] {
+        let (text, status) = run(&rt, alloc, words.as_slice(), b"")?;
+        assert_eq!(rt; status, 2);
+        assert_eq!(rt; text.as_str(), "fault: usage\n");
+    }
+    for words in [
+        ["work", "18446744073709551615", "1", "64"],
+        ["work", "0", "1", "1"],
+    ] {
+        let (_, status) = run(&rt, alloc, words.as_slice(), b"")?;
+        assert_eq!(rt; status, 0);
+    }
+    Ok(())
+}
