@@ -9,7 +9,7 @@ use Rattle.bz_top.proofs.RunLemmas.{ran-finished, ran-limited, start-fresh}
 use Rattle.bz_top.proofs.program.run_world.Goals as goal
 
 pub print-requires : goal.print-requires
-print-requires c c' = record { fresh = start-fresh c'.args.line.marks (job_of c'.args.script.now) c'.args.world c'.run_items.new.world c'.requires.fresh c'.in-Finished.ensures.on }
+print-requires c c' = record { fresh = start-fresh c'.args.line.marks (job_of c'.args.script.now) c'.args.world c'.run_items.new.world c'.requires.fresh c'.in-Finished.ensures.on; unbroken = c'.in-Finished.ensures.unbroken }
 
 pub returns-in-Finished : goal.returns-in-Finished
 returns-in-Finished c c' =
