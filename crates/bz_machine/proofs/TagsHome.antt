@@ -80,7 +80,7 @@ come-act m w l (StoreWord a v) = λ b s i u q is. inl (comes-word m a (Value v) 
 come-act m w l (FlushLine line) = λ b s i u q is. inl is
 
 -- a tag that its worker changes is gone
-untag-gone : (x : Entries) (m : Memory) (s j u p : ℕ) (new : WordKind) (changed unchanged : Next) (found : WordKind) → found ≡ Tag s j u p
+pub untag-gone : (x : Entries) (m : Memory) (s j u p : ℕ) (new : WordKind) (changed unchanged : Next) (found : WordKind) → found ≡ Tag s j u p
     → (after_untag x m s j u p new changed unchanged found).memory.cached (x.target j) ≡ new
 untag-gone x m s j u p new changed unchanged (Value v) is = absurd cc
 untag-gone x m s j u p new changed unchanged (Dirty v) is = absurd cc

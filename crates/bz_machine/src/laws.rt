@@ -1,9 +1,14 @@
 //! The laws of the machine. Each function does nothing: its contract is the law.
 
+ghost use Rattle.bz_machine.specs.Budgets.{BudgetsAreAllowed, StartsAddAllowed, EvictionsKeepBudgets};
+ghost use Rattle.bz_machine.specs.DirtyHomes.{DirtyStayHome};
+ghost use Rattle.bz_machine.specs.Ends.{EndsStayWhole};
 ghost use Rattle.bz_machine.specs.Examples.{SwapsAlone};
+ghost use Rattle.bz_machine.specs.Fronts.{FrontsStay, AllStayRising};
 ghost use Rattle.bz_machine.specs.Invariance.{BeginsAsState, KeepsState, ActsAtomically, KeepsRange, BeginsInRange, CutRecovers};
 ghost use Rattle.bz_machine.specs.Lawful.{StayInRange};
 ghost use Rattle.bz_machine.specs.Sleeper.{SleeperIsHarmless};
+ghost use Rattle.bz_machine.specs.Owners.{OwnersStay};
 ghost use Rattle.bz_machine.specs.Progress.{TagsStayHome};
 ghost use Rattle.bz_machine.specs.Promise.{Atomic, EffectsLast, FailuresLast, PlainIsHeld, CutsKeep};
 
@@ -81,4 +86,44 @@ pub fn cut_recovers()
 /// A tag that stands is one that its worker goes on with.
 pub fn tags_stay_home()
     ensures { TagsStayHome }
+{}
+
+/// A word with a dirty value is one that a worker goes on to clean.
+pub fn dirty_stay_home()
+    ensures { DirtyStayHome }
+{}
+
+/// While a swap is undecided its pointers stand on its first entries, and a tag no further than on the next one.
+pub fn fronts_stay()
+    ensures { FrontsStay }
+{}
+
+/// The targets of all swaps rise, as those of each swap that begins do.
+pub fn all_stay_rising()
+    ensures { AllStayRising }
+{}
+
+/// The last phase of a swap leaves nothing of it behind.
+pub fn ends_stay_whole()
+    ensures { EndsStayWhole }
+{}
+
+/// A swap without an answer is the operation of the worker that began it.
+pub fn owners_stay()
+    ensures { OwnersStay }
+{}
+
+/// The budget of a worker is at most what the workers that are not idle allow.
+pub fn budgets_are_allowed()
+    ensures { BudgetsAreAllowed }
+{}
+
+/// The start of a read, a store or a flush adds to a worker's budget what it allows.
+pub fn starts_add_allowed()
+    ensures { StartsAddAllowed }
+{}
+
+/// No eviction changes a budget.
+pub fn evictions_keep_budgets()
+    ensures { EvictionsKeepBudgets }
 {}

@@ -1,0 +1,34 @@
+-- The laws of budgets: what a worker may have, what starts add, and that each step spends one.
+use Rattle.std.specs.Prelude.{◌≡◌, ℕ, ◌+◌, ◌<◌, ◌≤◌}
+use Rattle.bz_machine.specs.declared.place.Place.TheVariants.{Idle}
+use Rattle.bz_machine.specs.Allowed.{allowed, allowed_by}
+use Rattle.bz_machine.specs.Budget.{budget}
+use Rattle.bz_machine.specs.Machine.{Entries}
+use Rattle.bz_machine.specs.State.{State, StartRead, StartStore, StartFlush, Evict, EvictStatus, EvictField, happens}
+use Rattle.bz_machine.specs.Owners.{AreOwned}
+
+-- each swap has at most four entries
+abbrev pub AreShort : (ℕ → Entries) → Type 0
+AreShort e = (s : ℕ) → (e s).count ≤ 4
+
+-- the budget of one of n workers is at most what those that are not idle allow
+abbrev pub BudgetsAreAllowed : Type 0
+BudgetsAreAllowed = (x : State) (w n : ℕ) → w < n → n ≤ 65 → AreShort x.entries → budget x w n ≤ allowed_by x n
+
+-- the start of a read, a store or a flush adds what it allows
+pub record AddsAllowed (x : State) (w n : ℕ) : Type 0 where
+  pub read : (a : ℕ) → budget (happens x (StartRead w a)) w n ≤ budget x w n + allowed (StartRead w a)
+  pub store : (a v : ℕ) → budget (happens x (StartStore w a v)) w n ≤ budget x w n + allowed (StartStore w a v)
+  pub flush : (line : ℕ) → budget (happens x (StartFlush w line)) w n ≤ budget x w n + allowed (StartFlush w line)
+
+abbrev pub StartsAddAllowed : Type 0
+StartsAddAllowed = (x : State) (w n : ℕ) → AreOwned x → (x.local w).place ≡ Idle → AddsAllowed x w n
+
+-- no eviction changes a budget
+pub record IsKept (x : State) (w n : ℕ) : Type 0 where
+  pub word : (a : ℕ) → budget (happens x (Evict a)) w n ≡ budget x w n
+  pub status : (s : ℕ) → budget (happens x (EvictStatus s)) w n ≡ budget x w n
+  pub field : (s k : ℕ) → budget (happens x (EvictField s k)) w n ≡ budget x w n
+
+abbrev pub EvictionsKeepBudgets : Type 0
+EvictionsKeepBudgets = (x : State) (w n : ℕ) → IsKept x w n
