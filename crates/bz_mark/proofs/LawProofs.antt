@@ -23,7 +23,7 @@ words_stay start more past moment h = ap (words_of start) (at_moment-later momen
 pub swaps_as_found : SwapsAsFound
 swaps_as_found words w a old new found is =
     ap (λ (seen : ℕ). let after : Words = record { cached = if seen == old then slice_set words.cached a new else words.cached; durable = words.durable } in after)
-    (sym (read-found words.cached a found is))
+    (read-found words.cached a found is)
 
 at_moments : (start : List ℕ) (past : List Mark)
     → ((moment : ℕ) (mark : Mark) → moment < length past → mark_at moment past ≡ Some mark → Found (words_of start (at_moment moment past)) mark) → IsTruthful start past

@@ -52,6 +52,6 @@ not_levelled start words mark a same within other = refl
 -- but for a cut, the cached words come from the cached words alone
 pub same_cached : (old new : Words) (mark : Mark) → mark ≢ Cut → old.cached ≡ new.cached → (words_after old mark).cached ≡ (words_after new mark).cached
 same_cached old new (Store w a v) go is = ap (λ (words : List ℕ). slice_set words a v) is
-same_cached old new (Cas w a expected v found) go is = ap (λ (words : List ℕ). if slice_index words a == expected then slice_set words a v else words) is
+same_cached old new (Cas w a expected v found) go is = ap (λ (words : List ℕ). if found == expected then slice_set words a v else words) is
 same_cached old new Cut go is = absurd (go refl)
 same_cached old new mark go is = is

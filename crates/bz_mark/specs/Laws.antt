@@ -1,5 +1,6 @@
 -- What holds of the words after marks whatever the marks are, for the layers above.
 use Rattle.std.specs.Prelude.{◌≡◌, ◌≤◌, ◌<◌, ◌+◌, ◌==◌, ◌⊎◌, ◌↔◌, if◌then◌else◌, ℕ, List, ◌∷◌, ◌++◌, length, slice_index, slice_set, Some}
+use Rattle.bz_pm.specs.Acts.{compared}
 use Rattle.bz_pm.specs.Words.{Words}
 use Rattle.bz_mark.specs.declared.marks.Mark.{Mark}
 use Rattle.bz_mark.specs.declared.marks.Mark.TheVariants.{Cas}
@@ -22,10 +23,9 @@ abbrev pub WordsStay : Type 0
 WordsStay = (start : List ℕ) (more past : List Mark) (moment : ℕ) → moment ≤ length past
     → words_of start (at_moment moment (more ++ past)) ≡ words_of start (at_moment moment past)
 
--- a compare-and-swap that tells what it found stores exactly where that was the expected value
+-- a compare-and-swap that tells what stood there is that act of a memory
 abbrev pub SwapsAsFound : Type 0
-SwapsAsFound = (words : Words) (w a old new found : ℕ) → Found words (Cas w a old new found)
-    → words_after words (Cas w a old new found) ≡ record { cached = if found == old then slice_set words.cached a new else words.cached; durable = words.durable }
+SwapsAsFound = (words : Words) (w a old new found : ℕ) → Found words (Cas w a old new found) → words_after words (Cas w a old new found) ≡ compared words a old new
 
 -- a journal is truthful exactly where each mark found what stood there at its moment
 abbrev pub TruthfulAtEachMoment : Type 0

@@ -1,15 +1,16 @@
 -- The cached and the durable words after marks. The newest mark stands first.
-use Rattle.std.specs.Prelude.{◌≡◌, ℕ, List, [], ◌∷◌, length, slice_get, slice_index, Some}
+use Rattle.std.specs.Prelude.{◌≡◌, ◌==◌, if◌then◌else◌, ℕ, List, [], ◌∷◌, length, slice_get, slice_index, slice_set, Some}
 use Rattle.bz_pm.specs.Words.{Words}
-use Rattle.bz_pm.specs.Acts.{stored, compared, flushed, evicted, after_cut}
+use Rattle.bz_pm.specs.Acts.{stored, flushed, evicted, after_cut}
 use Rattle.bz_mark.specs.Moments.{at_moment}
 use Rattle.bz_mark.specs.declared.marks.Mark.{Mark}
 use Rattle.bz_mark.specs.declared.marks.Mark.TheVariants.{Load, Store, Cas, Flush, Evict, Cut}
 
--- the words after a mark: what the act of the memory leaves, and the same words where the mark is no act that changes some
+-- the words after a mark: what the act of the memory leaves, and the same words where the mark is no act that changes some.
+-- A compare-and-swap changes the word where it found the expected value.
 abbrev pub words_after : Words → Mark → Words
 words_after words (Store w a v) = stored words a v
-words_after words (Cas w a old new found) = compared words a old new
+words_after words (Cas w a old new found) = record { cached = if found == old then slice_set words.cached a new else words.cached; durable = words.durable }
 words_after words (Flush w line) = flushed words line
 words_after words (Evict a) = evicted words a
 words_after words Cut = after_cut words

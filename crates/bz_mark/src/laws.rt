@@ -18,7 +18,7 @@ pub fn words_stay()
     ensures { WordsStay }
 {}
 
-/// A compare-and-swap stores exactly where what it found was the expected value.
+/// A compare-and-swap that tells what stood there is the act of a memory.
 pub fn swaps_as_found()
     ensures { SwapsAsFound }
 {}

@@ -1,10 +1,10 @@
 -- The marks from a power cut to the end of the recovery: memory and journal agree after each of them, and what the durable words
 -- decode to stays; then a new life begins.
 use Rattle.std.proofs.Common.{◌≡◌, ℕ, suc, ◌≤◌, ◌&&◌, List, ◌∷◌, length, slice_index, Some, None, arith, refl, sym, ap, subst, ◌∙◌, inl}
-use Rattle.std.specs.Prelude.{nat_lt}
+use Rattle.std.specs.Prelude.{nat_lt, ◌==◌, if◌then◌else◌, slice_set}
 use Rattle.std.specs.FinMap.{get}
 use Rattle.std.proofs.lemmas.Bool.{true≢false}
-use Rattle.bz_acts.specs.Rule.{after_act}
+use Rattle.bz_acts.specs.Rule.{FoundRightly, after_act}
 use Rattle.bz_acts.specs.declared.acted.Act.{Act}
 use Rattle.bz_acts.specs.declared.acted.Act.TheVariants as act
 use Rattle.bz_call.specs.Map.{Map}
@@ -12,7 +12,7 @@ use Rattle.bz_content.specs.Content.{image_fault, content_in}
 use Rattle.bz_layout.specs.declared.config.Config.{Config}
 use Rattle.bz_mark.specs.Log.{Log, with_mark}
 use Rattle.bz_mark.specs.MomentLaws.{at_moment-now}
-use Rattle.bz_mark.specs.WordsAfter.{words_of as words_after_marks}
+use Rattle.bz_mark.specs.WordsAfter.{words_of as words_after_marks, words_after}
 use Rattle.bz_mark.specs.declared.marks.Mark.{Mark}
 use Rattle.bz_mark.specs.declared.marks.Mark.TheVariants.{Evict, Ready}
 use Rattle.bz_pm.specs.Acts.{evicted, after_cut as words_after_cut}
@@ -59,11 +59,11 @@ evict-quiet : (start : List ℕ) (past : List Mark) (a : ℕ) → IsQuietMark st
 evict-quiet start past a = record { calls = λ w. refl; map = λ first. refl; on = refl; taken = λ swap. refl; stored = λ c slot. refl }
 
 -- the words after an act
-act-words : (start : List ℕ) (past : List Mark) (made : Act) → words_after_marks start (mark_of 0 made ∷ past) ≡ after_act (words_after_marks start past) made
-act-words start past (act.Load a v) = refl
-act-words start past (act.Store a v) = refl
-act-words start past (act.Cas a old new found) = refl
-act-words start past (act.Flush line) = refl
+act-words : (ws : Words) (made : Act) → FoundRightly ws made → words_after ws (mark_of 0 made) ≡ after_act ws made
+act-words ws (act.Load a v) found = refl
+act-words ws (act.Store a v) found = refl
+act-words ws (act.Cas a old new seen) found = ap (λ (x : ℕ). let after : Words = record { cached = if x == old then slice_set ws.cached a new else ws.cached; durable = ws.durable } in after) found
+act-words ws (act.Flush line) found = refl
 
 -- the durable words before and after such a mark, which hold the same
 record Keeps (c : Config) (old new : SwapMemory) (log : Log) (mark : Mark) : Type 0 where
@@ -137,7 +137,7 @@ acts-marked law c v old new log t made answer told r s =
     let k : Keeps c old new log (mark_of 0 made) = record {
       quiet = act-quiet log.start log.past made;
       before = r.words;
-      after = raw.one.act.after ∙ (ap (λ w. after_act w made) r.words ∙ sym (act-words log.start log.past made));
+      after = raw.one.act.after ∙ (sym (act-words (words_of old) made raw.one.act.found) ∙ ap (λ (ws : Words). words_after ws (mark_of 0 made)) r.words);
       same = done.same;
     } in
     record {

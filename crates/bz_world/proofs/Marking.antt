@@ -1,6 +1,7 @@
 -- The mark of an act.
 use Rattle.std.proofs.Common.{◌≡◌, ℕ, List, ◌∷◌, length, refl, sym, ap, subst, ◌∙◌}
-use Rattle.bz_acts.specs.Rule.{IsActOf, IsWithin, after_act}
+use Rattle.std.specs.Prelude.{slice_set, ◌==◌, if◌then◌else◌}
+use Rattle.bz_acts.specs.Rule.{IsActOf, IsWithin, FoundRightly, after_act}
 use Rattle.bz_acts.specs.declared.acted.Act.{Act}
 use Rattle.bz_acts.specs.declared.acted.Act.TheVariants.{Load, Store, Cas, Flush}
 use Rattle.bz_mark.specs.Log.{Log, count_begins, count_page_calls, count_page_ends}
@@ -16,15 +17,15 @@ use Rattle.bz_swap.specs.SwapMemory.{SwapMemory, words_of}
 use Rattle.bz_world.specs.Lab.{mark_of}
 
 -- the words after it
-marked-by : (w : ℕ) (ws : Words) (made : Act) → words_after ws (mark_of w made) ≡ after_act ws made
-marked-by w ws (Load a v) = refl
-marked-by w ws (Store a v) = refl
-marked-by w ws (Cas a old new found) = refl
-marked-by w ws (Flush line) = refl
+marked-by : (w : ℕ) (ws : Words) (made : Act) → FoundRightly ws made → words_after ws (mark_of w made) ≡ after_act ws made
+marked-by w ws (Load a v) found = refl
+marked-by w ws (Store a v) found = refl
+marked-by w ws (Cas a old new seen) found = ap (λ (x : ℕ). let after : Words = record { cached = if x == old then slice_set ws.cached a new else ws.cached; durable = ws.durable } in after) found
+marked-by w ws (Flush line) found = refl
 
 pub act-marked : (w : ℕ) (old new : SwapMemory) (log : Log) (made : Act) → words_of old ≡ words_after_marks log.start log.past → IsActOf (words_of old) made (words_of new)
     → words_of new ≡ words_after_marks log.start (mark_of w made ∷ log.past)
-act-marked w old new log made same act = act.after ∙ (ap (λ z. after_act z made) same ∙ sym (marked-by w (words_after_marks log.start log.past) made))
+act-marked w old new log made same act = act.after ∙ (sym (marked-by w (words_of old) made act.found) ∙ ap (λ (z : Words). words_after z (mark_of w made)) same)
 
 -- what it found
 pub act-found : (w : ℕ) (old new : SwapMemory) (log : Log) (made : Act) → words_of old ≡ words_after_marks log.start log.past → IsActOf (words_of old) made (words_of new) → IsWithin (length old.cached) made
