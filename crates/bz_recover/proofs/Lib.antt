@@ -1,10 +1,17 @@
+pub mod Beginning
+pub mod Between
+pub mod Ending
 pub mod Entries
 pub mod Finding
 pub mod Freeings
 pub mod Images
 pub mod Keeping
+pub mod Learning
 pub mod Named
 pub mod Nearness
+pub mod Onward
+pub mod Reaching
+pub mod Reading
 pub mod Renewing
 pub mod Standing
 pub mod Sweeps

@@ -5,3 +5,4 @@ pub mod Laws
 pub mod Memory
 pub mod Places
 pub mod Sweep
+pub mod Walking

@@ -8,5 +8,9 @@ mod recover;
 mod sweep;
 #[cfg(test)]
 mod tests;
+mod walk;
+#[cfg(test)]
+mod walk_tests;
 
 pub use recover::Recover;
+pub use walk::Walk;
