@@ -5,6 +5,7 @@ pub mod Entries
 pub mod Finding
 pub mod Freeings
 pub mod Images
+pub mod Joining
 pub mod Keeping
 pub mod Learning
 pub mod Named

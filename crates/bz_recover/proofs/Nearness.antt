@@ -18,7 +18,10 @@ use Rattle.bz_recover.specs.Memory.{Memory, Copies}
 use Rattle.bz_recover.specs.Places.{IsPlaced}
 use Rattle.bz_recover.specs.Sweep.{IsImage, IsPoweredOn, IsSwept, IsFreeing}
 use Rattle.bz_recover.specs.declared.phase.Phase.{Phase}
-use Rattle.bz_recover.specs.declared.phase.Phase.TheVariants.{Fresh, Word, Status, Target, Value, Resolve, Flush, SwapStatus, Free, FlushFree, Recovered}
+use Rattle.bz_recover.specs.Walking.{loads_in, end_in_walk}
+use Rattle.bz_recover.specs.declared.walk.Step.{Step}
+use Rattle.bz_recover.specs.declared.walk.Step.TheVariants.{Fresh as Unasked, Root, Header, Status as OfStatus, Meta, Pointer, Done}
+use Rattle.bz_recover.specs.declared.phase.Phase.TheVariants.{Fresh, Word, Status, Target, Value, Resolve, Flush, SwapStatus, Free, FlushFree, Walk}
 
 powered : (c : Config) (v : ℕ → ℕ) (m : Memory) → IsPoweredOn c v m → IsNear c v m
 powered c v m h = record { shared = λ a s. inl (h.same a s.within); swaps = λ a s. inl (h.same a s.within) }
@@ -43,7 +46,7 @@ near-before c v m (Flush p) k = swept c v m _ _ k
 near-before c v m (SwapStatus s) k = freeing c v m _ _ k
 near-before c v m (Free s) k = freeing c v m _ _ k
 near-before c v m (FlushFree s) k = freeing c v m _ _ k
-near-before c v m Recovered k = freeing c v m _ _ k
+near-before c v m Walk k = freeing c v m _ _ k
 
 near-after : (c : Config) (v : ℕ → ℕ) (m : Memory) (p : Phase) → knows_after c v m p → IsNear c v m
 near-after c v m Fresh k = powered c v m k
@@ -56,7 +59,7 @@ near-after c v m (Flush p) k = swept c v m _ _ k
 near-after c v m (SwapStatus s) k = freeing c v m _ _ k
 near-after c v m (Free s) k = freeing c v m _ _ k
 near-after c v m (FlushFree s) k = freeing c v m _ _ k
-near-after c v m Recovered k = freeing c v m _ _ k
+near-after c v m Walk k = freeing c v m _ _ k
 
 pub near : (c : Config) (v : ℕ → ℕ) (m : Memory) (stage : Stage) (p : Phase) → knows_in c v m stage p → IsNear c v m
 near c v m Waiting p k = near-before c v m p k
@@ -94,16 +97,26 @@ copies-resolve c v m n f stage p at k h = record {
   ];
 }
 
--- a recovery that asks for nothing more has ended
-pub finishes : (p : Phase) → asks_in p ≡ Some Finish → end_in p ≡ Some Ended
-finishes Recovered e = refl
-finishes Fresh e = absurd (cc)
-finishes (Word p) e = absurd (cc)
-finishes (Status p s) e = absurd (cc)
-finishes (Target p q i) e = absurd (cc)
-finishes (Value p a) e = absurd (cc)
-finishes (Resolve p x) e = absurd (cc)
-finishes (Flush p) e = absurd (cc)
-finishes (SwapStatus s) e = absurd (cc)
-finishes (Free s) e = absurd (cc)
-finishes (FlushFree s) e = absurd (cc)
+-- a walk that asks for nothing more has ended
+walk-finishes : (c : Config) (step : Step) → loads_in c step ≡ Some Finish → end_in_walk step ≡ Some Ended
+walk-finishes c Done e = refl
+walk-finishes c Unasked e = absurd (cc)
+walk-finishes c Root e = absurd (cc)
+walk-finishes c (Header slot) e = absurd (cc)
+walk-finishes c (OfStatus l slot) e = absurd (cc)
+walk-finishes c (Meta l way) e = absurd (cc)
+walk-finishes c (Pointer l way place) e = absurd (cc)
+
+-- so has a recovery
+pub finishes : (p : Phase) (c : Config) (step : Step) → asks_in p (loads_in c step) ≡ Some Finish → end_in p (end_in_walk step) ≡ Some Ended
+finishes Walk c step e = walk-finishes c step e
+finishes Fresh c step e = absurd (cc)
+finishes (Word p) c step e = absurd (cc)
+finishes (Status p s) c step e = absurd (cc)
+finishes (Target p q i) c step e = absurd (cc)
+finishes (Value p a) c step e = absurd (cc)
+finishes (Resolve p x) c step e = absurd (cc)
+finishes (Flush p) c step e = absurd (cc)
+finishes (SwapStatus s) c step e = absurd (cc)
+finishes (Free s) c step e = absurd (cc)
+finishes (FlushFree s) c step e = absurd (cc)

@@ -1,16 +1,18 @@
 -- What every recovery knows of the memory, whatever its phase: for those who keep a recovery and make its acts.
 use Rattle.std.specs.Prelude.{◌≡◌, ◌⊎◌, ℕ, ◌^◌, ◌<◌, Bool, Some}
 use Rattle.bz_layout.specs.Addresses.{words_of}
+use Rattle.bz_layout.specs.Slots.{FreeSlots}
 use Rattle.bz_layout.specs.declared.config.Config.{Config}
 use Rattle.bz_task.specs.Scene.{Stage, Waiting, Took}
 use Rattle.bz_task.specs.declared.todo.Outcome.TheVariants.{Recovered}
 use Rattle.bz_task.specs.declared.todo.Todo.{Todo}
 use Rattle.bz_task.specs.declared.todo.Todo.TheVariants.{Load, Store, Flush, Finish}
 use Rattle.bz_recover.specs.Contents.{ResolvesSome}
-use Rattle.bz_recover.specs.Duties.{config_of, asks_of, end_of, Knows, IsReady}
+use Rattle.bz_recover.specs.Duties.{config_of, asks_of, end_of, Knows, WalksIn, IsReady}
 use Rattle.bz_recover.specs.Laws.{IsAskable}
 use Rattle.bz_recover.specs.Memory.{Memory, Stores, Copies, Flushes}
 use Rattle.bz_recover.specs.Sweep.{IsShared, IsOfSwap, IsImage, IsRecovered}
+use Rattle.bz_recover.specs.Walking.{IsTreeOf, AreReached}
 use Rattle.bz_recover.specs.declared.recover.Recover.{Recover}
 
 -- a cached word outside the descriptors is the durable one or the value, and one of a descriptor is the durable one or 0
@@ -34,3 +36,5 @@ pub record RecoveriesKnow : Type 0 where
   pub askable : (t : Recover) (values : ℕ → ℕ) (m : Memory) (todo : Todo) → IsReady t → Knows t values Waiting m → asks_of t ≡ Some todo → IsAskable (config_of t) todo
   pub finishes : (t : Recover) → asks_of t ≡ Some Finish → end_of t ≡ Some Recovered
   pub ends : (t : Recover) (values : ℕ → ℕ) (stage : Stage) (m : Memory) → IsReady t → Knows t values stage m → end_of t ≡ Some Recovered → IsRecovered (config_of t) values m
+  -- and exactly the slots of the tree are held
+  pub reached : (t : Recover) (values image : ℕ → ℕ) (slots : FreeSlots) → IsReady t → slots.nodes ≡ (config_of t).nodes → WalksIn t values slots → IsTreeOf (config_of t) values image → end_of t ≡ Some Recovered → AreReached (config_of t) image slots

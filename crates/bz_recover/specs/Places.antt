@@ -5,8 +5,9 @@ use Rattle.bz_layout.specs.Config.{IsConfig}
 use Rattle.bz_layout.specs.declared.config.Config.{Config}
 use Rattle.bz_layout.specs.declared.sizes.TheConstants.{LINE_WORDS, ENTRIES_AT, ENTRY_WORDS, MAX_ENTRIES}
 use Rattle.bz_recover.specs.Sweep.{IsShared}
+use Rattle.bz_recover.specs.Walking.{SLOT_ACTS}
 use Rattle.bz_recover.specs.declared.phase.Phase.{Phase}
-use Rattle.bz_recover.specs.declared.phase.Phase.TheVariants.{Fresh, Word, Status, Target, Value, Resolve, Flush, SwapStatus, Free, FlushFree, Recovered}
+use Rattle.bz_recover.specs.declared.phase.Phase.TheVariants.{Fresh, Word, Status, Target, Value, Resolve, Flush, SwapStatus, Free, FlushFree, Walk}
 use Rattle.bz_recover.specs.declared.phase.Spot.{Spot}
 
 -- the address of a word of an entry: 0 is its target, 1 the expected value, 2 the new one
@@ -40,7 +41,7 @@ IsPlace c (Flush p) = IsSpot c p
 IsPlace c (SwapStatus s) = s < c.swaps
 IsPlace c (Free s) = s < c.swaps
 IsPlace c (FlushFree s) = s < c.swaps
-IsPlace c Recovered = Unit {0}
+IsPlace c Walk = Unit {0}
 
 -- a phase of a recovery of such a memory
 pub record IsPlaced (c : Config) (p : Phase) : Type 0 where
@@ -54,23 +55,27 @@ WORD_ACTS = 9
 abbrev pub SWAP_ACTS : ℕ
 SWAP_ACTS = 3
 
+-- the most acts of the walk, from its first one on
+abbrev pub walk_acts : Config → ℕ
+walk_acts c = SLOT_ACTS * c.nodes + 3
+
 -- acts that are left once this one of a word is asked for, or of a descriptor
 abbrev pub left_at : Config → ℕ → ℕ → ℕ
-left_at c a made = SWAP_ACTS * c.swaps + 1 + WORD_ACTS * (words_of c - a) - made
+left_at c a made = walk_acts c + SWAP_ACTS * c.swaps + 1 + WORD_ACTS * (words_of c - a) - made
 
 abbrev pub swaps_left : Config → ℕ → ℕ → ℕ
-swaps_left c s made = SWAP_ACTS * (c.swaps - s) + 1 - made
+swaps_left c s made = walk_acts c + SWAP_ACTS * (c.swaps - s) + 1 - made
 
--- the most acts that a recovery still asks for
-abbrev pub left_in : Config → Phase → ℕ
-left_in c Fresh = left_at c 0 0 + 1
-left_in c (Word p) = left_at c p.at 0
-left_in c (Status p s) = left_at c p.at 1
-left_in c (Target p q i) = left_at c p.at (2 + i)
-left_in c (Value p a) = left_at c p.at 6
-left_in c (Resolve p x) = left_at c p.at 7
-left_in c (Flush p) = left_at c p.at 8
-left_in c (SwapStatus s) = swaps_left c s 0
-left_in c (Free s) = swaps_left c s 1
-left_in c (FlushFree s) = swaps_left c s 2
-left_in c Recovered = 0
+-- the most acts that a recovery still asks for, where its walk still asks for so many
+abbrev pub left_in : Config → ℕ → Phase → ℕ
+left_in c walks Fresh = left_at c 0 0 + 1
+left_in c walks (Word p) = left_at c p.at 0
+left_in c walks (Status p s) = left_at c p.at 1
+left_in c walks (Target p q i) = left_at c p.at (2 + i)
+left_in c walks (Value p a) = left_at c p.at 6
+left_in c walks (Resolve p x) = left_at c p.at 7
+left_in c walks (Flush p) = left_at c p.at 8
+left_in c walks (SwapStatus s) = swaps_left c s 0
+left_in c walks (Free s) = swaps_left c s 1
+left_in c walks (FlushFree s) = swaps_left c s 2
+left_in c walks Walk = walks

@@ -1,5 +1,5 @@
 //! The recovery of a memory after a power cut, by worker 0 alone: every word outside the descriptors is resolved and made
-//! durable, and then every descriptor made free.
+//! durable, then every descriptor made free, and then each node slot that the tree reaches is held, and no other.
 #![tactic(auto)]
 
 pub mod laws;

@@ -39,6 +39,6 @@ pub(crate) enum Phase {
     Free(u32),
     /// The flush after it.
     FlushFree(u32),
-    /// Nothing more.
-    Recovered,
+    /// What the walk asks for, when every word is plain and every descriptor free.
+    Walk,
 }

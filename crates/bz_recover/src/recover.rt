@@ -1,14 +1,16 @@
 //! The recovery.
 
-ghost use Rattle.std.specs.Prelude.{◌≡◌, ◌≢◌, ◌+◌, ◌<◌, ℕ, Some, None};
+ghost use Rattle.std.specs.Prelude.{◌≡◌, ◌≢◌, ◌+◌, ◌<◌, ◌↔◌, ℕ, Option, Some, None, IsTrue};
 ghost use Rattle.bz_layout.specs.declared.config.Config.{Config};
-ghost use Rattle.bz_recover.specs.Places.{IsSpot, IsPlaced, entry_address, left_in, left_at, swaps_left};
+ghost use Rattle.bz_recover.specs.Places.{IsSpot, IsPlaced, entry_address, left_in, left_at, swaps_left, walk_acts};
 ghost use Rattle.bz_layout.specs.Config.{IsConfig};
+ghost use Rattle.bz_layout.specs.Slots.{FreeSlots};
 ghost use Rattle.bz_task.specs.Scene.{Stage, Waiting, Took};
-ghost use Rattle.bz_recover.specs.Duties.{IsSought, knows_before, config_of, asks_in, asks_of, end_of, left_of, Knows, Hears, Tells, IsReady};
+ghost use Rattle.bz_recover.specs.Duties.{IsSought, knows_before, config_of, asks_in, asks_of, end_of, left_of, Knows, WalksIn, Hears, Tells, IsReady};
 ghost use Rattle.bz_recover.specs.Memory.{Memory, Stores, Flushes, Evicts};
 ghost use Rattle.bz_recover.specs.Sweep.{IsPoweredOn, IsSwept, IsFreeing, IsImage, IsRecovered};
 ghost use Rattle.bz_recover.specs.Laws.{IsAskable};
+ghost use Rattle.bz_recover.specs.Walking.{IsTreeOf, AreReached};
 ghost use Rattle.bz_task.specs.declared.todo.Todo.{Todo};
 ghost use Rattle.bz_task.specs.declared.todo.Todo.TheVariants.{Load, Store, Flush};
 ghost use Rattle.bz_task.specs.declared.todo.Outcome.TheVariants.{Recovered};
@@ -17,7 +19,8 @@ use crate::phase::{Phase, Pointer, Spot};
 use crate::sweep::{
     EXPECTED, NEW, TARGET, address_in_entry, address_of_swap, flushed, found, resolved,
 };
-use bz_layout::{Config, LINE_WORDS, MAX_ENTRIES, SWAP_STATUS_AT};
+use crate::walk::Walk;
+use bz_layout::{Config, LINE_WORDS, MAX_ENTRIES, SWAP_STATUS_AT, Slots};
 use bz_task::{Outcome, Seen, Todo};
 
 /// The status of a swap that has succeeded.
@@ -25,11 +28,13 @@ const SUCCEEDED: u64 = 2;
 
 const DIRTY_BIT: u64 = 1 << 63;
 
-/// The recovery of a memory by worker 0, which has it alone. It ends with Recovered.
+/// The recovery of a memory by worker 0, which has it alone: the sweep, and then the walk. It ends with Recovered.
 #[derive(Drop)]
 pub struct Recover {
     config: Config,
     phase: Phase,
+    // asked for nothing yet until every descriptor is free
+    walk: Walk,
 }
 
 impl Recover {
@@ -40,12 +45,15 @@ impl Recover {
         ensures config { config_of result ≡ config.now }
         ensures asks { asks_of result ≡ None }
         ensures left { left_of result ≡ left_at config.now 0 0 + 1 }
+        // of the slots it knows nothing yet
+        ensures walks { (values : ℕ → ℕ) (slots : FreeSlots) → WalksIn result values slots }
         // it may begin in every memory whose power has come on again
         ensures knows { (values : ℕ → ℕ) (m : Memory) → IsPoweredOn config.now values m → Knows result values Took m }
     {
         Recover {
             config: *config,
             phase: Phase::Fresh,
+            walk: Walk::new(config),
         }
     }
 
@@ -54,16 +62,18 @@ impl Recover {
         ensures { result ≡ end_of self.now }
     {
         match self.phase {
-            Phase::Recovered => Some(Outcome::Recovered),
+            Phase::Walk => self.walk.ended(),
             _ => None,
         }
     }
 
-    /// The next act, after what came of the last one.
-    pub fn next(&mut self, seen: Seen) -> Todo
+    /// The next act, after what came of the last one. The slots change by the walk alone.
+    pub fn next(&mut self, seen: Seen, slots: &mut Slots) -> Todo
         requires ready { IsReady self.old }
+        requires slots { slots.old.nodes ≡ (config_of self.old).nodes }
         requires hears { Hears self.old seen }
         ensures ready { IsReady self.new }
+        ensures slots { slots.new.nodes ≡ slots.old.nodes }
         ensures asked { asks_of self.new ≡ Some result }
         ensures nearer { left_of self.new < left_of self.old }
         ensures config { config_of self.new ≡ config_of self.old }
@@ -71,9 +81,27 @@ impl Recover {
         ensures first { asks_of self.old ≡ None → result ≡ Load 0 }
         // what it knows of every memory in which its act is made and the answer is true
         ensures learns { (values : ℕ → ℕ) (m : Memory) → Knows self.old values Took m → Tells self.old seen m → Knows self.new values Waiting m }
+        // and of the slots
+        ensures walked { (values : ℕ → ℕ) (m : Memory) → Knows self.old values Took m → Tells self.old seen m → WalksIn self.old values slots.old → WalksIn self.new values slots.new }
     {
+        if self.walks() {
+            return self.walk.next(seen, slots);
+        }
         self.phase = self.after(seen);
+        if self.walks() {
+            return self.walk.next(Seen::Start, slots);
+        }
         self.asked()
+    }
+
+    // Whether every descriptor is free, so that the walk goes on.
+    fn walks(&self) -> bool
+        ensures { IsTrue result ↔ (self.now.phase ≡ Phase.Walk) }
+    {
+        match self.phase {
+            Phase::Walk => true,
+            _ => false,
+        }
     }
 
     /// Laws of what is known. Does nothing.
@@ -88,6 +116,8 @@ impl Recover {
         ensures askable { (values : ℕ → ℕ) (m : Memory) (todo : Todo) → Knows self.now values Waiting m → asks_of self.now ≡ Some todo → IsAskable (config_of self.now) todo }
         // at the end all words are plain and durable, and all descriptors free
         ensures ends { (values : ℕ → ℕ) (stage : Stage) (m : Memory) → Knows self.now values stage m → end_of self.now ≡ Some Recovered → IsRecovered (config_of self.now) values m }
+        // and exactly the slots of the tree are held
+        ensures reached { (values image : ℕ → ℕ) (slots : FreeSlots) → slots.nodes ≡ (config_of self.now).nodes → WalksIn self.now values slots → IsTreeOf (config_of self.now) values image → end_of self.now ≡ Some Recovered → AreReached (config_of self.now) image slots }
     {}
 
     /// Laws of the acts by which the memory changes. Does nothing.
@@ -99,12 +129,13 @@ impl Recover {
 
     // The phase after what came of the last act.
     fn after(&self, seen: Seen) -> Phase
-        requires place { IsReady self.now }
+        requires place { IsPlaced self.now.config self.now.phase }
+        requires before { self.now.phase ≢ Phase.Walk }
         requires hears { Hears self.now seen }
         ensures place { IsPlaced self.now.config result }
         ensures begun { result ≢ Phase.Fresh }
-        ensures first { asks_of self.now ≡ None → asks_in result ≡ Some (Load 0) }
-        ensures nearer { left_in self.now.config result < left_of self.now }
+        ensures first { (walks : Option Todo) → asks_of self.now ≡ None → asks_in result walks ≡ Some (Load 0) }
+        ensures nearer { left_in self.now.config (walk_acts self.now.config) result < left_of self.now }
         ensures learns { (v : ℕ → ℕ) (m : Memory) → Knows self.now v Took m → Tells self.now seen m → knows_before self.now.config v m result }
     {
         let config = &self.config;
@@ -128,19 +159,20 @@ impl Recover {
             (Phase::SwapStatus(swap), Seen::Read(_)) => Phase::Free(swap),
             (Phase::Free(swap), Seen::Stored) => Phase::FlushFree(swap),
             (Phase::FlushFree(swap), Seen::Flushed) => freed(config, swap),
-            _ => Phase::Recovered,
+            _ => Phase::Walk,
         }
     }
 
-    // What a phase asks for.
+    // What a phase before the walk asks for.
     fn asked(&self) -> Todo
-        requires place { IsReady self.now }
+        requires place { IsPlaced self.now.config self.now.phase }
         requires begun { self.now.phase ≢ Phase.Fresh }
+        requires before { self.now.phase ≢ Phase.Walk }
         ensures { asks_of self.now ≡ Some result }
     {
         let config = &self.config;
         match self.phase {
-            Phase::Fresh | Phase::Recovered => Todo::Finish,
+            Phase::Fresh | Phase::Walk => Todo::Finish,
             Phase::Word(spot) => Todo::Load(spot.at),
             Phase::Status(_, swap) => Todo::Load(address_of_swap(swap) + SWAP_STATUS_AT),
             Phase::Target(_, pointer, entry) => {
@@ -160,7 +192,8 @@ impl Recover {
 fn sought(spot: Spot, pointer: Pointer, entry: u32, target: u64) -> Phase
     requires { entry < MAX_ENTRIES }
     ensures place { (c : Config) → IsConfig c → IsSpot c spot → IsPlaced c result }
-    ensures nearer { (c : Config) → IsSpot c spot → left_in c result < left_at c spot.at (2 + entry) }
+    ensures begun { result ≢ Phase.Fresh }
+    ensures nearer { (c : Config) → IsSpot c spot → left_in c (walk_acts c) result < left_at c spot.at (2 + entry) }
     ensures learns { (c : Config) (v : ℕ → ℕ) (m : Memory) → IsSpot c spot → IsSwept c v m spot.unflushed spot.at → IsSought m spot.at pointer entry → m.cached (entry_address pointer.swap entry TARGET) ≡ target → knows_before c v m result }
 {
     if target == u64::from(spot.at) || entry + 1 == MAX_ENTRIES {
@@ -175,12 +208,12 @@ fn freed(config: &Config, swap: u32) -> Phase
     requires config { IsConfig config.now }
     requires swap { swap < config.now.swaps }
     ensures place { IsPlaced config.now result }
-    ensures nearer { left_in config.now result < swaps_left config.now swap 2 }
+    ensures nearer { left_in config.now (walk_acts config.now) result < swaps_left config.now swap 2 }
     ensures learns { (v : ℕ → ℕ) (m : Memory) → IsFreeing config.now v m (swap + 1) (swap + 1) → knows_before config.now v m result }
 {
     let next = swap + 1;
     if next == config.swaps {
-        return Phase::Recovered;
+        return Phase::Walk;
     }
     Phase::SwapStatus(next)
 }

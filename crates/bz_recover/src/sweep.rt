@@ -2,7 +2,7 @@
 
 ghost use Rattle.std.specs.Prelude.{◌≡◌, ◌≢◌, ◌+◌, ◌%◌, ◌^◌, ◌<◌, ◌≤◌, if◌then◌else◌, ℕ, true, false};
 ghost use Rattle.bz_layout.specs.Config.{IsConfig};
-ghost use Rattle.bz_recover.specs.Places.{IsSpot, IsPlaced, IsNextShared, entry_address, left_in, left_at};
+ghost use Rattle.bz_recover.specs.Places.{IsSpot, IsPlaced, IsNextShared, entry_address, left_in, left_at, walk_acts};
 ghost use Rattle.bz_recover.specs.Sweep.{IsShared, IsSwept};
 ghost use Rattle.bz_recover.specs.Memory.{Memory};
 ghost use Rattle.bz_recover.specs.Duties.{knows_before};
@@ -58,7 +58,7 @@ fn onward(config: &Config, spot: Spot, changed: bool) -> Phase
     requires spot { IsSpot config.now spot }
     requires line { changed ≡ true → (spot.at + 1) % LINE_WORDS ≢ 0 }
     ensures place { IsPlaced config.now result }
-    ensures nearer { left_in config.now result < left_at config.now spot.at 8 }
+    ensures nearer { left_in config.now (walk_acts config.now) result < left_at config.now spot.at 8 }
     ensures learns { (v : ℕ → ℕ) (m : Memory) → IsSwept config.now v m (if changed then spot.unflushed else spot.at + 1) (spot.at + 1) → knows_before config.now v m result }
 {
     let at = address_after(config, spot.at);
@@ -74,7 +74,7 @@ pub(crate) fn flushed(config: &Config, spot: Spot) -> Phase
     requires config { IsConfig config.now }
     requires spot { IsSpot config.now spot }
     ensures place { IsPlaced config.now result }
-    ensures nearer { left_in config.now result < left_at config.now spot.at 8 }
+    ensures nearer { left_in config.now (walk_acts config.now) result < left_at config.now spot.at 8 }
     ensures learns { (v : ℕ → ℕ) (m : Memory) → IsSwept config.now v m (spot.at + 1) (spot.at + 1) → knows_before config.now v m result }
 {
     onward(config, spot, false)
@@ -85,7 +85,7 @@ pub(crate) fn resolved(config: &Config, spot: Spot, stored: bool) -> Phase
     requires config { IsConfig config.now }
     requires spot { IsSpot config.now spot }
     ensures place { IsPlaced config.now result }
-    ensures nearer { left_in config.now result < left_at config.now spot.at 7 }
+    ensures nearer { left_in config.now (walk_acts config.now) result < left_at config.now spot.at 7 }
     ensures learns { (v : ℕ → ℕ) (m : Memory) → IsSwept config.now v m spot.unflushed (spot.at + 1) → (stored ≡ false → m.durable spot.at ≡ v spot.at) → knows_before config.now v m result }
 {
     let changed = stored || spot.unflushed < spot.at;
@@ -100,7 +100,7 @@ pub(crate) fn found(config: &Config, spot: Spot, word: u64) -> Phase
     requires config { IsConfig config.now }
     requires spot { IsSpot config.now spot }
     ensures place { IsPlaced config.now result }
-    ensures nearer { left_in config.now result < left_at config.now spot.at 0 }
+    ensures nearer { left_in config.now (walk_acts config.now) result < left_at config.now spot.at 0 }
     ensures learns { (v : ℕ → ℕ) (m : Memory) → IsSwept config.now v m spot.unflushed spot.at → m.cached spot.at ≡ word → knows_before config.now v m result }
 {
     match kind_of(word) {

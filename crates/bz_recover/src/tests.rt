@@ -4,7 +4,7 @@ ghost use Rattle.std.specs.Prelude.{◌≡◌, ◌<◌, ◌^◌, ◌*◌, Some, 
 ghost use Rattle.bz_recover.specs.Duties.{hears_in};
 
 use super::*;
-use bz_layout::{Config, MAX_MARKS};
+use bz_layout::{Config, MAX_MARKS, Slots};
 use bz_pm::Pm;
 use bz_task::{Outcome, Seen, Todo};
 use std::alloc::Global;
@@ -38,7 +38,7 @@ const TAG: u64 = (1 << 61) + (1 << 18);
 // An undecided swap of two words, one that has succeeded, one whose success may not be durable, and a failed one, each
 // with its pointers in place, and a tag of the last one's second entry; dirty words at both ends of the memory.
 const UNRESOLVED: [(u32, u64); 38] = [
-    (1, DIRTY + 7),
+    (1, DIRTY + 1),
     // undecided
     (SWAPS, 1),
     (SWAPS + 1, 2),
@@ -84,7 +84,7 @@ const UNRESOLVED: [(u32, u64); 38] = [
 
 // The values of the words that are to be resolved.
 const RESOLVED: [(u32, u64); 8] = [
-    (1, 7),
+    (1, 1),
     (NODE + 1, 11),
     (NODE + 2, 32),
     (NODE + 9, 21),
@@ -148,12 +148,15 @@ struct Made {
 }
 
 // Makes the acts of a recovery, at most so many, with an eviction after each where it is asked for.
-fn recover(rt: &impl Abort, pm: &mut Pm, most: u32, evicts: bool) -> Made {
+fn recover(rt: &impl Abort, pm: &mut Pm, slots: &mut Slots, most: u32, evicts: bool) -> Made
+    requires { slots.old.nodes ≡ 1 }
+    ensures { slots.new.nodes ≡ 1 }
+{
     let mut recover = Recover::new(&CONFIG);
     let mut seen = Seen::Start;
     let mut flushes: u32 = 0;
     for made in 0..most {
-        let todo = recover.next(seen);
+        let todo = recover.next(seen, slots);
         if let Todo::Flush(_) = todo {
             flushes = flushes.wrapping_add(1);
         }
@@ -199,10 +202,12 @@ fn is_recovered(rt: &impl Abort, pm: &Pm, when: u32) {
 
 #[test]
 fn every_kind_of_word_is_resolved(rt: HostRuntime) -> Result<(), Fail> {
+    let mut slots = Slots::open(rt.alloc(), 1)?;
     let mut pm = Pm::open(rt.alloc(), &image())?;
-    let made = recover(&rt, &mut pm, 1000, false);
+    let made = recover(&rt, &mut pm, &mut slots, 1000, false);
     assert!(rt; made.ended);
     is_recovered(&rt, &pm, 0);
+    assert_eq!(rt; slots.left(), 0);
     // words 1, 81 and 82, 89, 100 and 101, 120 and 207 stand in six lines; a flush for each, and for each descriptor
     assert_eq!(rt; made.flushes, 10);
     Ok(())
@@ -210,12 +215,13 @@ fn every_kind_of_word_is_resolved(rt: HostRuntime) -> Result<(), Fail> {
 
 #[test]
 fn a_recovered_memory_is_only_read(rt: HostRuntime) -> Result<(), Fail> {
+    let mut slots = Slots::open(rt.alloc(), 1)?;
     let mut pm = Pm::open(rt.alloc(), &image())?;
-    assert!(rt; recover(&rt, &mut pm, 1000, false).ended);
-    let made = recover(&rt, &mut pm, 1000, false);
+    assert!(rt; recover(&rt, &mut pm, &mut slots, 1000, false).ended);
+    let made = recover(&rt, &mut pm, &mut slots, 1000, false);
     assert!(rt; made.ended);
-    // a load of each word outside the descriptors, and of each status
-    assert_eq!(rt; made.acts, 148);
+    // a load of each word outside the descriptors, and of each status; of the root pointer and the header of a leaf
+    assert_eq!(rt; made.acts, 150);
     assert_eq!(rt; made.flushes, 0);
     is_recovered(&rt, &pm, 0);
     Ok(())
@@ -223,18 +229,19 @@ fn a_recovered_memory_is_only_read(rt: HostRuntime) -> Result<(), Fail> {
 
 // A cut after each number of acts, and again after each number of acts of the next recovery.
 fn is_cut_at_will(rt: &impl Abort, alloc: Global, evicts: bool) -> Result<(), Fail> {
+    let mut slots = Slots::open(alloc, 1)?;
     let mut pm = Pm::open(alloc, &image())?;
-    let whole = recover(rt, &mut pm, 1000, evicts).acts;
+    let whole = recover(rt, &mut pm, &mut slots, 1000, evicts).acts;
     assert!(rt; whole < 1000);
     for first in 0..whole {
         let mut pm = Pm::open(alloc, &image())?;
-        recover(rt, &mut pm, first, evicts);
+        recover(rt, &mut pm, &mut slots, first, evicts);
         pm.cut();
-        recover(rt, &mut pm, whole / 2, evicts);
+        recover(rt, &mut pm, &mut slots, whole / 2, evicts);
         pm.cut();
-        recover(rt, &mut pm, first, evicts);
+        recover(rt, &mut pm, &mut slots, first, evicts);
         pm.cut();
-        assert!(rt; recover(rt, &mut pm, 1000, evicts).ended);
+        assert!(rt; recover(rt, &mut pm, &mut slots, 1000, evicts).ended);
         is_recovered(rt, &pm, first);
     }
     Ok(())

@@ -1,6 +1,6 @@
 -- The marks from a power cut to the end of the recovery: memory and journal agree after each of them, and what the durable words
 -- decode to stays; then a new life begins.
-use Rattle.std.proofs.Common.{◌≡◌, ℕ, suc, ◌≤◌, ◌&&◌, List, ◌∷◌, length, slice_index, Some, None, arith, refl, sym, ap, subst, ◌∙◌, inl}
+use Rattle.std.proofs.Common.{◌≡◌, ◌↔◌, ℕ, suc, ◌≤◌, ◌&&◌, Bool, false, List, ◌∷◌, Contains, length, slice_index, Some, None, arith, refl, sym, ap, subst, ◌∙◌, inl}
 use Rattle.std.specs.Prelude.{nat_lt, ◌==◌, if◌then◌else◌, slice_set}
 use Rattle.std.specs.FinMap.{get}
 use Rattle.std.proofs.lemmas.Bool.{true≢false}
@@ -10,6 +10,7 @@ use Rattle.bz_acts.specs.declared.acted.Act.TheVariants as act
 use Rattle.bz_call.specs.Map.{Map}
 use Rattle.bz_content.specs.Content.{image_fault, content_in}
 use Rattle.bz_layout.specs.declared.config.Config.{Config}
+use Rattle.bz_layout.specs.Slots.{FreeSlots}
 use Rattle.bz_mark.specs.Log.{Log, with_mark}
 use Rattle.bz_mark.specs.MomentLaws.{at_moment-now}
 use Rattle.bz_mark.specs.WordsAfter.{words_of as words_after_marks, words_after}
@@ -18,6 +19,9 @@ use Rattle.bz_mark.specs.declared.marks.Mark.TheVariants.{Evict, Ready}
 use Rattle.bz_pm.specs.Acts.{evicted, after_cut as words_after_cut}
 use Rattle.bz_pm.specs.Words.{Words}
 use Rattle.bz_recover.specs.Contents.{SaysTheSame}
+use Rattle.bz_recover.specs.Duties.{WalksIn}
+use Rattle.bz_recover.specs.Knowledge.{RecoveriesKnow}
+use Rattle.bz_recover.specs.Walking.{IsTreeOf, AreReached}
 use Rattle.bz_recover.specs.declared.recover.Recover.{Recover}
 use Rattle.bz_sight.specs.Renewal.{renewed_instant}
 use Rattle.bz_sight.specs.Sight.{IsSeen}
@@ -29,9 +33,10 @@ use Rattle.bz_swap.specs.Power.{renewed}
 use Rattle.bz_swap.specs.Steps.{IsRawStep, StepsIn}
 use Rattle.bz_swap.specs.SwapMemory.{SwapMemory, words_of}
 use Rattle.bz_story.specs.Living.{IsLiving}
+use Rattle.bz_story.proofs.Powering.{image-now}
 use Rattle.bz_story.specs.Recovering.{IsRecovering, Turn, Asked, Made}
 use Rattle.bz_story.specs.RecoveryLaws.{CutsLeaveTheImage, ImagesAreOff, RecoveriesBegin, ActsRecover, Recovers, EvictionsLeaveRecoveries, StaysRecovering, RecoveriesRevive, IsRevived}
-use Rattle.bz_story.specs.Reviving.{IsRecoveringIn, CutsAreMarked, ImagesOpenJournals, PowerOnIsMarked, TurnsMakeNoMark, mark_of, StillDecodes, ActsAreMarked, EvictionsAreMarked, renewed_story, RecoveriesGiveLife}
+use Rattle.bz_story.specs.Reviving.{IsRecoveringIn, CutsAreMarked, ImagesOpenJournals, PowerOnIsMarked, TurnsMakeNoMark, mark_of, StillDecodes, ActsAreMarked, EvictionsAreMarked, renewed_story, RecoveriesGiveLife, WalksEnd}
 
 -- what holds what another image holds, which holds what a third one holds
 says-as : (c : Config) (x y z : ℕ → ℕ) → SaysTheSame c x y → SaysTheSame c y z → SaysTheSame c x z
@@ -193,3 +198,17 @@ pub gives-life : RecoveriesRevive → RecoveriesGiveLife
 gives-life law c v m log t r e =
     let revived : IsRevived c m = law c v m t r.recovering e in
     record { revived = revived; untaken = r.untaken; unstored = r.unstored; living = λ holds. lives c v m log t r (revived.seen holds) }
+
+-- the slots that the recovery's walk has held
+pub walks-end : RecoveriesKnow → WalksEnd
+walks-end know c v m log t slots r e nodes walks = record {
+  nodes = nodes;
+  free = λ k l. subst (λ (b : Bool). Contains slots.free k ↔ (b ≡ false)) (r.same.inside k) (held.free k l);
+}
+  where
+    tree : IsTreeOf c v (slice_index m.durable)
+    tree = record { is = image-now know c v m Asked t r.recovering; none = r.recovering.memory.form }
+
+    held : AreReached c (slice_index m.durable) slots
+    held = subst (λ (d : Config). AreReached d (slice_index m.durable) slots) r.recovering.config
+        (know.reached t v (slice_index m.durable) slots r.recovering.ready (nodes ∙ ap (λ (d : Config). d.nodes) (sym r.recovering.config)) walks (subst (λ (d : Config). IsTreeOf d v (slice_index m.durable)) (sym r.recovering.config) tree) (know.finishes t e))

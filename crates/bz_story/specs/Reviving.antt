@@ -6,6 +6,7 @@ use Rattle.bz_content.specs.Content.{image_fault}
 use Rattle.bz_content.specs.Resolving.{resolve}
 use Rattle.bz_layout.specs.Addresses.{words_of as size_of}
 use Rattle.bz_layout.specs.Config.{IsConfig}
+use Rattle.bz_layout.specs.Slots.{FreeSlots}
 use Rattle.bz_layout.specs.declared.config.Config.{Config}
 use Rattle.bz_machine.specs.declared.done.Done.{Done}
 use Rattle.bz_mark.specs.Log.{Log, Limits, with_mark}
@@ -13,7 +14,8 @@ use Rattle.bz_mark.specs.WordsAfter.{words_of as words_after_marks}
 use Rattle.bz_mark.specs.declared.marks.Mark.{Mark}
 use Rattle.bz_mark.specs.declared.marks.Mark.TheVariants.{Load, Store, Cas, Flush, Evict, Cut, On, Ready}
 use Rattle.bz_recover.specs.Contents.{SaysTheSame}
-use Rattle.bz_recover.specs.Duties.{asks_of}
+use Rattle.bz_recover.specs.Duties.{asks_of, WalksIn}
+use Rattle.bz_recover.specs.Walking.{AreReached}
 use Rattle.bz_recover.specs.declared.recover.Recover.{Recover}
 use Rattle.bz_sight.specs.Renewal.{renewed_instant}
 use Rattle.bz_sound.specs.Calls.{open_call}
@@ -118,3 +120,9 @@ pub record IsReborn (c : Config) (m : SwapMemory) (log : Log) : Type 0 where
 
 abbrev pub RecoveriesGiveLife : Type 0
 RecoveriesGiveLife = (c : Config) (values : ℕ → ℕ) (m : SwapMemory) (log : Log) (t : Recover) → IsRecoveringIn c values m log Asked t → asks_of t ≡ Some Finish → IsReborn c m log
+
+-- then a slot is free exactly where the tree of the image of power on does not reach it
+abbrev pub WalksEnd : Type 0
+WalksEnd =
+    (c : Config) (values : ℕ → ℕ) (m : SwapMemory) (log : Log) (t : Recover) (slots : FreeSlots) → IsRecoveringIn c values m log Asked t → asks_of t ≡ Some Finish → slots.nodes ≡ c.nodes → WalksIn t values slots →
+    AreReached c (image_at_on log.start log.past) slots

@@ -1,7 +1,7 @@
 //! Laws of a memory that is being recovered. Each function does nothing: its contract is the law.
 
 ghost use Rattle.bz_story.specs.RecoveryLaws.{CutsLeaveTheImage, ImagesAreOff, RecoveriesBegin, RecoveriesKeepTheImage, RecoveriesGoOn, ActsMayStart, ActsRecover, EvictionsLeaveRecoveries, RecoveriesRevive};
-ghost use Rattle.bz_story.specs.Reviving.{CutsAreMarked, ImagesOpenJournals, PowerOnIsMarked, TurnsMakeNoMark, ActsAreMarked, EvictionsAreMarked, RecoveriesGiveLife};
+ghost use Rattle.bz_story.specs.Reviving.{CutsAreMarked, ImagesOpenJournals, PowerOnIsMarked, TurnsMakeNoMark, ActsAreMarked, EvictionsAreMarked, RecoveriesGiveLife, WalksEnd};
 
 use bz_recover::laws as recover;
 
@@ -128,4 +128,11 @@ pub fn recoveries_give_life()
     ensures { RecoveriesGiveLife }
 {
     recoveries_revive();
+}
+
+/// Then exactly the slots of the tree are held.
+pub fn walks_end()
+    ensures { WalksEnd }
+{
+    recover::recoveries_know();
 }

@@ -1,26 +1,22 @@
 -- The power fails: what a world keeps then.
-use Rattle.std.proofs.Common.{◌≡◌, ◌≢◌, ℕ, ◌+◌, ◌≤◌, ◌&&◌, nat_lt, Bool, true, false, length, replicate, slice_index, arith, refl, sym, ap, subst, ◌∙◌, inl, inr, Option, None}
+use Rattle.std.proofs.Common.{◌≡◌, ◌≢◌, ℕ, ◌+◌, ◌≤◌, false, length, replicate, arith, refl, sym, ap, subst, ◌∙◌, Option, None}
 use Rattle.std.specs.Prelude.{get_or}
 use Rattle.std.specs.Global.{Vec}
-use Rattle.std.proofs.lemmas.Bool.{true≢false}
 use Rattle.std.proofs.lemmas.List.{length-replicate}
 use Rattle.bz_content.specs.Resolving.{resolve}
 use Rattle.bz_mark.specs.Log.{with_mark}
 use Rattle.bz_mark.specs.declared.marks.Mark.TheVariants.{Cut}
-use Rattle.bz_shape.specs.Walk.{is_among}
 use Rattle.bz_sound.specs.declared.power.Power.{Power}
 use Rattle.bz_sound.specs.declared.power.Power.TheVariants as power
 use Rattle.bz_sound.specs.Memory.Moments.{map_at_start}
-use Rattle.bz_sound.specs.Memory.Spent.{is_reached_in}
 use Rattle.bz_sound.specs.Power.Laws.{CutsFollow, PowerTellsWhatFollows, IsAfterCut}
 use Rattle.bz_sound.specs.Power.Sound.{IsSound}
 use Rattle.bz_story.specs.Recovering.{Started}
 use Rattle.bz_story.specs.Reviving.{CutsAreMarked}
 use Rattle.bz_swap.specs.Power.{after_cut}
 use Rattle.bz_swap.specs.SwapMemory.{Working, idle}
-use Rattle.bz_task.specs.Instant.{Instant}
 use Rattle.bz_world.specs.Inside.Beginning.{lab_of}
-use Rattle.bz_world.specs.Inside.Kept.{IsTabled, AreSpare, IsAwake, IsOff, IsStarted, IsKept}
+use Rattle.bz_world.specs.Inside.Kept.{IsTabled, IsAwake, IsOff, IsStarted, IsKept}
 use Rattle.bz_world.specs.Inside.Powering.{IsCut}
 use Rattle.bz_world.specs.Lab as lab
 use Rattle.bz_world.specs.declared.parts.Parts.{Parts}
@@ -70,29 +66,6 @@ module _ (b : Laws) (p : Parts) (t : IsTabled p) (sound : IsSound p.config power
   lab-cut : lab_of (cut-off p workers) ≡ lab.after_cut (lab_of p)
   lab-cut = ap (λ fs. record { config = p.config; log = with_mark p.journal Cut; flushes = fs }) (map-replicate (λ (v : Working). v.flush_next) (length p.access.workers) idle ∙ ap (λ n. replicate n false) t.crew)
 
-and-both : (a b : Bool) → a && b ≡ true → (a ≡ true) × (b ≡ true)
-and-both true b e = (refl, e)
-and-both false b e = absurd (cc)
-
--- a slot that is free is not one of the tree
-spare-now : (p : Parts) (k : IsAwake p) → AreSpare p.config (slice_index p.access.durable) p.slots
-spare-now p k = record { nodes = k.free.nodes; within = k.free.within; fresh = λ j free. go j free (is_reached_in p.config (slice_index p.access.durable) j) refl }
-  where
-    here : Instant
-    here = k.story.at (length p.journal.past)
-
-    reached : (j : ℕ) → is_among p.slots.free j ≡ true → is_reached_in p.config (slice_index p.access.durable) j ≡ true → (k.story.at (length p.journal.past)).reached j ≡ true
-    reached j free e =
-        let inside = (and-both (nat_lt j p.config.nodes) _ (subst (λ (image : ℕ → ℕ). is_reached_in p.config image j ≡ true) (sym k.living.seen.image) e)).1 in
-        k.living.seen.good.inside j inside (λ same. absurd (omega (arith, same, k.free.within j free)))
-
-    go : (j : ℕ) → is_among p.slots.free j ≡ true → (t : Bool) → is_reached_in p.config (slice_index p.access.durable) j ≡ t → is_reached_in p.config (slice_index p.access.durable) j ≡ false
-    go j free false e = e
-    go j free true e = absurd (elim (k.living.came j (reached j free e)) [
-      | inl start ↦ true≢false (sym start ∙ k.free.fresh j free)
-      | inr took ↦ true≢false (sym took.1 ∙ k.free.untaken took.0 j free)
-    ])
-
 module _ (b : Laws) (p : Parts) (room : length p.journal.past + 3 ≤ p.config.marks) (workers : Vec (Option Serving)) (size : length workers.items ≡ length p.workers.items) (none : (w : ℕ) → get_or workers.items w None ≡ None) where
   awake-off : IsAwake p → IsOff (cut-off p workers)
   unfolding tabled sound-on
@@ -101,7 +74,7 @@ module _ (b : Laws) (p : Parts) (room : length p.journal.past + 3 ≤ p.config.m
       tabled = tabled b p k.tabled k.sound (λ e. let on = k.on in absurd (cc (e, on))) room workers size;
       sound = sound-on b p k.tabled k.sound (λ e. let on = k.on in absurd (cc (e, on))) room workers size;
       none = none;
-      spare = spare-now p k;
+      slots = k.free.nodes;
       values = resolve (k.story.at (length p.journal.past)).image;
     };
     memory = b.leave.living p.config p.access p.journal k.story k.living k.tabled.crew;
@@ -113,7 +86,7 @@ module _ (b : Laws) (p : Parts) (room : length p.journal.past + 3 ≤ p.config.m
       tabled = tabled b p k.dark.tabled k.dark.sound (λ e. absurd (cc (e, is))) room workers size;
       sound = sound-on b p k.dark.tabled k.dark.sound (λ e. absurd (cc (e, is))) room workers size;
       none = none;
-      spare = k.dark.spare;
+      slots = k.dark.slots;
       values = k.dark.values;
     };
     memory = b.leave.recovering p.config k.dark.values p.access p.journal Started p.recovery k.memory;

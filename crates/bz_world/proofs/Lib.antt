@@ -35,3 +35,4 @@ mod Recovering
 mod Waking
 mod Refusing
 mod Recovered
+mod Contained

@@ -56,7 +56,6 @@ pub record IsMade (p : Parts) : Type 0 where
   pub pages_begun : p.pages_begun ≡ 0
   pub slots : p.slots ≡ fresh_slots p.config
   pub power : p.power ≡ power.On
-  pub revived : p.revived ≡ false
 
 pub same-everywhere : {A : Type 0} (n w : ℕ) (x : A) → get_or (replicate n x) w x ≡ x
 same-everywhere n w x = elim (cases_lt w n) [
@@ -91,13 +90,13 @@ module _ (b : Laws) (c : Config) (config : IsConfig c) where
   sound = b.sound c power.On (fresh_words c) log.limits (b.says c).size (b.empty c config).0
 
 -- slot 0 is reached, and the others are free
-free-fresh : Laws → (c : Config) → IsConfig c → AreFree c (slice_index (fresh_words c)) (fresh_slots c) (fresh_story c).took false
+free-fresh : Laws → (c : Config) → IsConfig c → AreFree c (slice_index (fresh_words c)) (fresh_slots c) (fresh_story c).took
 free-fresh b c config = record {
   nodes = refl;
   within = λ k h. free-below c.nodes k h;
   fresh = λ k h. rw (below k (free-below c.nodes k h), b.reaches c k config (free-below c.nodes k h), free-root c.nodes k h) refl;
   untaken = λ v k h. refl;
-  others = λ fresh k l h. inl (rw (below k l, b.reaches c k config l, free-others c.nodes k l h) refl);
+  others = λ k l h. inl (rw (below k l, b.reaches c k config l, free-others c.nodes k l h) refl);
 }
   where
     below : (k : ℕ) → k < c.nodes → nat_lt k c.nodes ≡ true
@@ -145,7 +144,7 @@ kept-open b p made = record {
   taken = taken b p made;
   living = subst (λ l. IsLiving p.config p.access l (fresh_story p.config)) (sym made.journal) (b.living p.config p.access ((new_lab p.config).log.limits) (record { config = made.config; opened = made.opened; holds = made.holds }));
   sound = subst (IsSound p.config power.On) (sym made.journal) (sound b p.config made.config);
-  free = subst (λ log. AreFree p.config (image_at_on log.start log.past) p.slots (fresh_story p.config).took p.revived) (sym made.journal) (subst (λ slots. AreFree p.config (slice_index (fresh_words p.config)) slots (fresh_story p.config).took p.revived) (sym made.slots) (subst (AreFree p.config (slice_index (fresh_words p.config)) (fresh_slots p.config) (fresh_story p.config).took) (sym made.revived) (free-fresh b p.config made.config)));
+  free = subst (λ log. AreFree p.config (image_at_on log.start log.past) p.slots (fresh_story p.config).took) (sym made.journal) (subst (λ slots. AreFree p.config (slice_index (fresh_words p.config)) slots (fresh_story p.config).took) (sym made.slots) (free-fresh b p.config made.config));
   workers = λ w. subst (λ xs. IsSlot p.config p.access p.journal (fresh_story p.config) p.owners.items w (get_or xs w None)) (sym made.workers) (rest w (get_or (replicate 65 None) w None) (same-everywhere 65 w None));
 }
   where

@@ -88,5 +88,5 @@ pub begun-in : {c : Config} {m : SwapMemory} {log : Log} {story : Story} {w : �
 begun-in {w = w} {opened = opened} living o = record { from = living.begins w opened o.is_open; before = o.begun }
 
 -- slots are free as they were
-pub free-on : (c : Config) (start : List ℕ) (past : List Mark) (mark : Mark) (slots : FreeSlots) (took : ℕ → ℕ → Bool) (revived : Bool) → LeavesPower past mark → AreFree c (image_at_on start past) slots took revived → AreFree c (image_at_on start (mark ∷ past)) slots took revived
-free-on c start past mark slots took revived p free = subst (λ (image : ℕ → ℕ). AreFree c image slots took revived) (sym (image-as-it-was start past mark p)) free
+pub free-on : (c : Config) (start : List ℕ) (past : List Mark) (mark : Mark) (slots : FreeSlots) (took : ℕ → ℕ → Bool) → LeavesPower past mark → AreFree c (image_at_on start past) slots took → AreFree c (image_at_on start (mark ∷ past)) slots took
+free-on c start past mark slots took p free = subst (λ (image : ℕ → ℕ). AreFree c image slots took) (sym (image-as-it-was start past mark p)) free

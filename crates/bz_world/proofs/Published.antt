@@ -248,6 +248,6 @@ module _ (b : StrikeLaws) (p : Parts) (s : ℕ) (h : IsStriking p s) (publishes 
     taken = taken-on workers;
     living = lives;
     sound = sound;
-    free = free-on c log.start log.past h.mark (old b p s h).slots (after b p s h).took (old b p s h).revived (flush-leaves h.mark log.past h.flush) (kept b p s h).free;
+    free = free-on c log.start log.past h.mark (old b p s h).slots (after b p s h).took (flush-leaves h.mark log.past h.flush) (kept b p s h).free;
     workers = slots workers.items here-is rest;
   }

@@ -144,7 +144,7 @@ module _ (b : StepLaws) (old new : Parts) (w : ℕ) (x : Serving) (made : Act) (
 
   -- the world goes on
   pub goes-on : (after : Story) → length old.journal.past < old.config.marks → IsLiving old.config new.access (with_mark old.journal (mark_of w made)) after
-      → AreFree old.config (image_at_on old.journal.start old.journal.past) old.slots after.took old.revived → ((v : ℕ) → IsSlot old.config new.access (with_mark old.journal (mark_of w made)) after old.owners.items v (get_or old.workers.items v None)) → IsAwake new
+      → AreFree old.config (image_at_on old.journal.start old.journal.past) old.slots after.took → ((v : ℕ) → IsSlot old.config new.access (with_mark old.journal (mark_of w made)) after old.owners.items v (get_or old.workers.items v None)) → IsAwake new
   goes-on after room living free slots = subst IsAwake (sym a.rest) (record {
     on = k.on;
     story = after;
@@ -152,13 +152,13 @@ module _ (b : StepLaws) (old new : Parts) (w : ℕ) (x : Serving) (made : Act) (
     taken = subst AreTaken a.rest taken;
     living = living;
     sound = sound;
-    free = free-on old.config old.journal.start old.journal.past (mark_of w made) old.slots after.took old.revived (leaves-power w old.journal.past made) free;
+    free = free-on old.config old.journal.start old.journal.past (mark_of w made) old.slots after.took (leaves-power w old.journal.past made) free;
     workers = slots;
   })
 
   -- and the worker, whose operation was answered, is to be told
   abbrev pub answered : (after : Story) → length old.journal.past < old.config.marks → done ≢ Busy → IsLiving old.config new.access (with_mark old.journal (mark_of w made)) after
-      → AreFree old.config (image_at_on old.journal.start old.journal.past) old.slots after.took old.revived → ((v : ℕ) → v ≢ w → IsSlot old.config new.access (with_mark old.journal (mark_of w made)) after old.owners.items v (get_or old.workers.items v None))
+      → AreFree old.config (image_at_on old.journal.start old.journal.past) old.slots after.took → ((v : ℕ) → v ≢ w → IsSlot old.config new.access (with_mark old.journal (mark_of w made)) after old.owners.items v (get_or old.workers.items v None))
       → IsBetween (record old { access = new.access; journal = with_mark old.journal (mark_of w made) }) w x
   answered after room ne living free slots = record {
     on = k.on;
@@ -167,7 +167,7 @@ module _ (b : StepLaws) (old new : Parts) (w : ℕ) (x : Serving) (made : Act) (
     taken = subst AreTaken a.rest taken;
     living = living;
     sound = sound;
-    free = free-on old.config old.journal.start old.journal.past (mark_of w made) old.slots after.took old.revived (leaves-power w old.journal.past made) free;
+    free = free-on old.config old.journal.start old.journal.past (mark_of w made) old.slots after.took (leaves-power w old.journal.past made) free;
     others = slots;
     worker = some-worker old k w x is-worker;
     within = within-crew old k w x is-worker;

@@ -4,12 +4,15 @@ use Rattle.bz_acts.specs.declared.acted.Act.{Act}
 use Rattle.bz_machine.specs.declared.done.Done.{Done}
 use Rattle.bz_mark.specs.Log.{with_mark}
 use Rattle.bz_mark.specs.declared.marks.Mark.TheVariants.{Ready}
-use Rattle.bz_recover.specs.Duties.{Tells}
+use Rattle.bz_layout.specs.Slots.{FreeSlots}
+use Rattle.bz_recover.specs.Duties.{Knows, Tells, WalksIn}
+use Rattle.bz_recover.specs.Memory.{Memory}
 use Rattle.bz_recover.specs.declared.recover.Recover.{Recover}
 use Rattle.bz_story.specs.Recovering as recovery
 use Rattle.bz_story.specs.RecoveryLaws.{RecoveriesGoOn}
 use Rattle.bz_story.specs.Reviving.{TurnsMakeNoMark}
 use Rattle.bz_swap.specs.SwapMemory.{worker_of}
+use Rattle.bz_task.specs.Scene.{Took}
 use Rattle.bz_task.specs.declared.todo.Seen.{Seen}
 use Rattle.bz_world.specs.Inside.Beginning.{lab_of}
 use Rattle.bz_world.specs.Inside.Kept.{IsRecovering}
@@ -19,10 +22,15 @@ use Rattle.bz_world.specs.declared.answers.Applied.TheVariants as applied
 use Rattle.bz_world.specs.declared.parts.Parts.{Parts}
 use Rattle.bz_world.proofs.Stepping.{flush-is, flush-same}
 
+-- what it knows of the slots after `next`, where it was told what its act made of them
+abbrev pub Learns : Recover → FreeSlots → Seen → Recover → FreeSlots → Type 0
+Learns old slots seen new slots-after =
+    (values : ℕ → ℕ) (m : Memory) → Knows old values Took m → Tells old seen m → WalksIn old values slots → WalksIn new values slots-after
+
 -- it is told what came of its act, and asks for the next one
-pub asked-on : RecoveriesGoOn → TurnsMakeNoMark → (p : Parts) (seen : Seen) (next : Recover) → IsRecovering p recovery.Made → recovery.IsNext p.recovery seen next → Tells p.recovery seen (recovery.words_in p.access)
-    → IsRecovering (record p { recovery = next }) recovery.Asked
-asked-on go_on turns p seen next k on tells = record {
+pub asked-on : RecoveriesGoOn → TurnsMakeNoMark → (p : Parts) (seen : Seen) (next : Recover) (slots : FreeSlots) → IsRecovering p recovery.Made → recovery.IsNext p.recovery seen next → Tells p.recovery seen (recovery.words_in p.access)
+    → slots.nodes ≡ p.slots.nodes → Learns p.recovery p.slots seen next slots → IsRecovering (record p { recovery = next; slots = slots }) recovery.Asked
+asked-on go_on turns p seen next slots k on tells nodes learns = record {
   dark = record {
     tabled = let t = k.dark.tabled in record {
       config = t.config;
@@ -43,9 +51,10 @@ asked-on go_on turns p seen next k on tells = record {
     };
     sound = k.dark.sound;
     none = k.dark.none;
-    spare = k.dark.spare;
+    slots = nodes ∙ k.dark.slots;
     values = k.dark.values;
   };
+  walks = learns k.dark.values (recovery.words_in p.access) k.memory.recovering.knows tells k.walks;
   memory = turns p.config k.dark.values p.access p.access p.journal recovery.Made recovery.Asked p.recovery next k.memory refl (go_on p.config k.dark.values p.access p.recovery next seen k.memory.recovering on tells);
 }
 

@@ -1,5 +1,5 @@
 -- Acts of a recovery, and evictions between them: what a world keeps.
-use Rattle.std.proofs.Common.{◌≡◌, ◌≢◌, ℕ, ◌+◌, ◌<◌, ◌≤◌, ◌&&◌, nat_lt, List, ◌∷◌, length, slice_index, arith, refl, sym, ap, subst, ◌∙◌, Option, None}
+use Rattle.std.proofs.Common.{◌≡◌, ◌≢◌, ℕ, ◌+◌, ◌<◌, ◌≤◌, List, ◌∷◌, length, slice_index, arith, refl, sym, ap, subst, ◌∙◌, Option, None}
 use Rattle.std.proofs.lemmas.List.{length-set}
 use Rattle.bz_acts.specs.declared.acted.Act.{Act}
 use Rattle.bz_acts.specs.declared.acted.Act.TheVariants as act
@@ -10,11 +10,9 @@ use Rattle.bz_mark.specs.Log.{with_mark}
 use Rattle.bz_mark.specs.WordsAfter.{words_of as words_after_marks}
 use Rattle.bz_mark.specs.declared.marks.Mark.{Mark}
 use Rattle.bz_mark.specs.declared.marks.Mark.TheVariants.{Evict}
-use Rattle.bz_recover.specs.Contents.{SaysTheSame}
 use Rattle.bz_sound.specs.declared.power.Power.TheVariants as power
 use Rattle.bz_sound.specs.Memory.Laws.{IsQuietAct}
 use Rattle.bz_sound.specs.Memory.Moments.{image_after, IsAfterFlush, map_at_start}
-use Rattle.bz_sound.specs.Memory.Spent.{is_reached_in}
 use Rattle.bz_sound.specs.Power.Calls.{MayFollow, IsAfterRecovering}
 use Rattle.bz_sound.specs.Power.Growth.{QuietActsFollow, FlushesFollow}
 use Rattle.bz_sound.specs.Power.ImageLaws.{SameContentDecodes}
@@ -30,7 +28,7 @@ use Rattle.bz_swap.specs.Steps.{StepsIn}
 use Rattle.bz_swap.specs.SwapMemory.{Doing, words_of}
 use Rattle.bz_swap.specs.Starts.{started, begins_by_flush}
 use Rattle.bz_world.specs.Inside.Acted.{IsEvicted}
-use Rattle.bz_world.specs.Inside.Kept.{IsTabled, AreSpare, IsDark, IsRecovering, IsStarted, IsKept}
+use Rattle.bz_world.specs.Inside.Kept.{IsTabled, IsDark, IsRecovering, IsStarted, IsKept}
 use Rattle.bz_world.specs.Inside.Powering.{IsRawAct}
 use Rattle.bz_world.specs.Lab.{mark_of}
 use Rattle.bz_world.specs.declared.parts.Parts.{Parts}
@@ -43,20 +41,12 @@ pub record Laws : Type 0 where
   pub flush : FlushesFollow
   pub same : SameContentDecodes
 
--- an image of the same slots reaches the same ones
-reached-same : (c : Config) (x y : ℕ → ℕ) (k : ℕ) → SaysTheSame c x y → is_reached_in c y k ≡ is_reached_in c x k
-reached-same c x y k s = ap (λ b. nat_lt k c.nodes && b) (s.inside k)
-
 -- the mark of an act
 same-mark : (made : Act) → reviving.mark_of 0 made ≡ mark_of 0 made
 same-mark (act.Load a v) = refl
 same-mark (act.Store a v) = refl
 same-mark (act.Cas a old new found) = refl
 same-mark (act.Flush line) = refl
-
--- the free slots stay spare
-spare-same : (p : Parts) (x y : ℕ → ℕ) → SaysTheSame p.config x y → AreSpare p.config x p.slots → AreSpare p.config y p.slots
-spare-same p x y s a = record { nodes = a.nodes; within = a.within; fresh = λ k free. reached-same p.config x y k s ∙ a.fresh k free }
 
 -- worker 0 may make any act, and its mark is one of recovery
 raw-follows : (p : Parts) (made : Act) → power_of power.On p.journal.past ≡ power.Recovering → MayFollow power.On (map_at_start p.config p.journal.start) p.journal.past (mark_of 0 made)
@@ -136,9 +126,10 @@ module _ (b : Laws) (recovers : ActsAreMarked) (old new : Parts) (made : Act) (d
       tabled = tabled;
       sound = sound;
       none = k.dark.none;
-      spare = spare-same old (slice_index old.access.durable) (slice_index new.access.durable) raw.same k.dark.spare;
+      slots = k.dark.slots;
       values = k.dark.values;
     };
+    walks = k.walks;
     memory = subst (λ mark. reviving.IsRecoveringIn old.config k.dark.values new.access (with_mark old.journal mark) recovery.Made old.recovery) (same-mark made) marked-raw.marked;
   }
 
@@ -194,9 +185,10 @@ module _ (b : Laws) (leave : EvictionsAreMarked) (old new : Parts) (a : ℕ) (to
       tabled = evict-tabled;
       sound = evict-sound;
       none = k.dark.none;
-      spare = spare-same old (slice_index old.access.durable) (slice_index new.access.durable) stays.same k.dark.spare;
+      slots = k.dark.slots;
       values = k.dark.values;
     };
+    walks = k.walks;
     memory = evicts.marked;
   }))
 
@@ -227,8 +219,9 @@ module _ (turns : TurnsMakeNoMark) (p : Parts) (k : IsRecovering p recovery.Aske
       };
       sound = k.dark.sound;
       none = k.dark.none;
-      spare = k.dark.spare;
+      slots = k.dark.slots;
       values = k.dark.values;
     };
+    walks = k.walks;
     memory = turns p.config k.dark.values p.access (started p.access 0 doing) p.journal recovery.Asked recovery.Started p.recovery p.recovery k.memory refl memory;
   }

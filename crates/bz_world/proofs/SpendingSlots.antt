@@ -70,7 +70,7 @@ unused-both : (a b : Bool) → a || b ≡ false → (a ≡ false) × (b ≡ fals
 unused-both true b e = absurd (cc)
 unused-both false b e = (refl, e)
 
-module _ (p : Parts) (w : ℕ) (l : LacksSlots p w) (first : p.revived ≡ false) where
+module _ (p : Parts) (w : ℕ) (l : LacksSlots p w) where
   abbrev was : IsBetween p w l.on.serving
   was = l.on.between
 
@@ -117,7 +117,7 @@ module _ (p : Parts) (w : ℕ) (l : LacksSlots p w) (first : p.revived ≡ false
   holds : (k : ℕ) → k < p.config.nodes → is_used p.config p.journal.start p.journal.past k ≡ false → (v : ℕ) × HoldsSlot k v
   holds k below unused =
       let apart = unused-both (is_reached_in p.config (image_at_on p.journal.start p.journal.past) k) (is_stored_into p.config k (since_on p.journal.past)) unused in
-      elim (was.free.others first k below (none-among p.slots.free k l.none)) [
+      elim (was.free.others k below (none-among p.slots.free k l.none)) [
         | inl reached ↦ absurd (true≢false (sym reached ∙ apart.0))
         | inr some ↦ (some.0, holds-by k some.0 apart.1 some.1)
       ]
@@ -167,5 +167,5 @@ module _ (p : Parts) (w : ℕ) (l : LacksSlots p w) (first : p.revived ≡ false
   }
 
 -- so no slot is left for a copy
-pub slots-are-spent : HeldSlotsAreSpent → (p : Parts) (w : ℕ) (l : LacksSlots p w) → p.revived ≡ false → LacksSlot p.config p.journal.start p.journal.past w
-slots-are-spent law p w l first = law p.config p.journal.start p.journal.past w (holder p w l first) (place p w l first) (are-slots-held p w l first)
+pub slots-are-spent : HeldSlotsAreSpent → (p : Parts) (w : ℕ) (l : LacksSlots p w) → LacksSlot p.config p.journal.start p.journal.past w
+slots-are-spent law p w l = law p.config p.journal.start p.journal.past w (holder p w l) (place p w l) (are-slots-held p w l)

@@ -104,6 +104,6 @@ module _ (b : StrikeLaws) (p : Parts) (s : ℕ) (h : IsStriking p s) where
       taken = subst AreTaken h.rest h.taken;
       living = living b p s h;
       sound = sound;
-      free = free-on (old b p s h).config (old b p s h).journal.start (old b p s h).journal.past h.mark (old b p s h).slots (after b p s h).took (old b p s h).revived (flush-leaves h.mark (old b p s h).journal.past h.flush) (kept b p s h).free;
+      free = free-on (old b p s h).config (old b p s h).journal.start (old b p s h).journal.past h.mark (old b p s h).slots (after b p s h).took (flush-leaves h.mark (old b p s h).journal.past h.flush) (kept b p s h).free;
       workers = slots;
     })

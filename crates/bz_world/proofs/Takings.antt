@@ -108,8 +108,8 @@ covered-taken took filled needed left old new (inr t) c = record {
     one k false e h f = let free = gained-free old new k h in absurd (true≢false (sym free.0 ∙ subst (λ (z : FreeSlots). is_among z.free k ≡ false) t.slots free.1))
 
 -- slots that were free may be taken
-pub may-take : (c : Config) (image : ℕ → ℕ) (revived : Bool) (story : Story) (old new : FreeSlots) → AreFree c image old story.took revived → MayTake c story old new
-may-take c image revived story old new free = record {
+pub may-take : (c : Config) (image : ℕ → ℕ) (story : Story) (old new : FreeSlots) → AreFree c image old story.took → MayTake c story old new
+may-take c image story old new free = record {
   slots = λ k h. free.within k (gained-free old new k h).0;
   nobody = λ v k h. free.untaken v k (gained-free old new k h).0;
 }
@@ -128,18 +128,18 @@ took-now t true false n e f g = absurd (cc)
 took-now t true true true e f g = absurd (cc)
 
 -- and the others are free as before
-pub still-free : (c : Config) (image : ℕ → ℕ) (revived : Bool) (story : Story) (w needed left : ℕ) (old new : FreeSlots) → AreTakenFrom needed left old new → AreFree c image old story.took revived → AreFree c image new (takes_slots story w old new).took revived
-still-free c image revived story w needed left old new taken free = record {
+pub still-free : (c : Config) (image : ℕ → ℕ) (story : Story) (w needed left : ℕ) (old new : FreeSlots) → AreTakenFrom needed left old new → AreFree c image old story.took → AreFree c image new (takes_slots story w old new).took
+still-free c image story w needed left old new taken free = record {
   nodes = same-nodes needed left old new taken ∙ free.nodes;
   within = λ k h. free.within k (was-free needed left old new taken k h);
   fresh = λ k h. free.fresh k (was-free needed left old new taken k h);
   untaken = λ v k h. untaken-still (story.took v k) (v == w) (is_among old.free k) (is_among new.free k) (free.untaken v k (was-free needed left old new taken k h)) h;
-  others = λ fresh k l h. one fresh k l h (is_among old.free k) refl;
+  others = λ k l h. one k l h (is_among old.free k) refl;
 }
   where
-    one : revived ≡ false → (k : ℕ) → k < c.nodes → is_among new.free k ≡ false → (b : Bool) → is_among old.free k ≡ b → (is_reached_in c image k ≡ true) ⊎ ((v : ℕ) × ((takes_slots story w old new).took v k ≡ true))
-    one fresh k l h false e = elim (free.others fresh k l e) [
+    one : (k : ℕ) → k < c.nodes → is_among new.free k ≡ false → (b : Bool) → is_among old.free k ≡ b → (is_reached_in c image k ≡ true) ⊎ ((v : ℕ) × ((takes_slots story w old new).took v k ≡ true))
+    one k l h false e = elim (free.others k l e) [
       | inl start_reached ↦ inl start_reached
       | inr some ↦ inr (some.0, or-left (story.took some.0 k) ((some.0 == w) && is_gained old new k) some.1)
     ]
-    one fresh k l h true e = let self : (w == w) ≡ true = grind (arith, nat_tests) in inr (w, took-now (story.took w k) (w == w) (is_among old.free k) (is_among new.free k) self e h)
+    one k l h true e = let self : (w == w) ≡ true = grind (arith, nat_tests) in inr (w, took-now (story.took w k) (w == w) (is_among old.free k) (is_among new.free k) self e h)

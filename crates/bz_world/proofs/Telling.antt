@@ -121,7 +121,7 @@ module _ (scenes : ScenesAreSeen) (slots : SlotsAreTaken) (p : Parts) (w : ℕ) 
         (covered-taken (told.between.story.took w) (told.between.story.filled w) (needs_of x.task) (needs_of y.task) p.slots left h.heard.slots told.covered)
 
     living : IsLiving p.config p.access p.journal after
-    living = slots.living p.config p.access p.journal told.between.story w p.slots left told.between.living (may-take p.config (image_at_on p.journal.start p.journal.past) p.revived told.between.story p.slots left told.between.free)
+    living = slots.living p.config p.access p.journal told.between.story w p.slots left told.between.living (may-take p.config (image_at_on p.journal.start p.journal.past) told.between.story p.slots left told.between.free)
 
     other : (v : ℕ) → v ≢ w → (opened : Open) → scene p.config p.journal.past after v opened ≡ scene p.config p.journal.past told.between.story v opened
     other v ne opened = slots.others p.config p.journal.past told.between.story w v opened p.slots left ne
@@ -151,7 +151,7 @@ module _ (scenes : ScenesAreSeen) (slots : SlotsAreTaken) (p : Parts) (w : ℕ) 
         taken = let t = told.between.taken in record { shown = t.shown; held = t.held; few = t.few; counted = t.counted; unused = t.unused };
         living = living;
         sound = told.between.sound;
-        free = still-free p.config (image_at_on p.journal.start p.journal.past) p.revived told.between.story w (needs_of x.task) (needs_of y.task) p.slots left h.heard.slots told.between.free;
+        free = still-free p.config (image_at_on p.journal.start p.journal.past) told.between.story w (needs_of x.task) (needs_of y.task) p.slots left h.heard.slots told.between.free;
         others = λ v ne. subst (IsSlot p.config p.access p.journal after p.owners.items v) (sym (rest v ne))
             (slot-scenes p.config p.access p.journal told.between.story after p.owners.items v (get_or p.workers.items v None) told.between.opened (other v ne) (λ k. refl) (told.between.others v ne));
         worker = told.between.worker;

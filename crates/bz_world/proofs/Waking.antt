@@ -1,19 +1,27 @@
 -- A recovery begins when the power comes on, and when it has ended the memory lives again.
-use Rattle.std.proofs.Common.{◌≡◌, ℕ, ◌+◌, ◌<◌, ◌≤◌, ◌&&◌, nat_lt, true, false, length, arith, refl, sym, ap, subst, ◌∙◌, Option, Some, None}
+use Rattle.std.proofs.Common.{◌≡◌, ℕ, ◌+◌, ◌<◌, ◌≤◌, ◌&&◌, nat_lt, Bool, true, false, length, arith, refl, sym, ap, subst, ◌∙◌, inl, Option, Some, None}
 use Rattle.std.specs.Prelude.{get_or, map}
 use Rattle.std.proofs.lemmas.Bool.{true≢false}
+use Rattle.std.proofs.lemmas.Bool.Decides.{nat_tests}
 use Rattle.std.proofs.lemmas.List.{map-set}
+use Rattle.std.proofs.lemmas.List.Elements.{All-contains}
 use Rattle.bz_mark.specs.Log.{Log, with_mark}
 use Rattle.bz_mark.specs.declared.marks.Mark.TheVariants.{On, Ready}
-use Rattle.bz_recover.specs.Duties.{tells_in}
+use Rattle.bz_layout.specs.Slots.{FreeSlots, IsInOrder}
+use Rattle.bz_content.specs.Content.{view_in}
+use Rattle.bz_recover.specs.Duties.{tells_in, WalksIn}
+use Rattle.bz_recover.specs.Walking.{AreReached}
 use Rattle.bz_recover.specs.declared.recover.Recover.{Recover}
 use Rattle.bz_sound.specs.declared.power.Power.TheVariants as power
+use Rattle.bz_shape.specs.Walk.{form, is_among}
 use Rattle.bz_sound.specs.Memory.Moments.{map_at_start}
+use Rattle.bz_sound.specs.Memory.Spent.{is_reached_in}
+use Rattle.bz_sound.specs.Power.Times.{image_at_on}
 use Rattle.bz_sound.specs.Power.Laws.{OnsFollow, ReadysFollow, PowerTellsWhatFollows}
 use Rattle.bz_story.specs.Recovering as recovery
 use Rattle.bz_story.specs.RecoveryLaws.{RecoveriesGoOn}
 use Rattle.bz_story.specs.Reviving as reviving
-use Rattle.bz_story.specs.Reviving.{PowerOnIsMarked, TurnsMakeNoMark, RecoveriesGiveLife, IsReborn, renewed_story}
+use Rattle.bz_story.specs.Reviving.{PowerOnIsMarked, TurnsMakeNoMark, RecoveriesGiveLife, WalksEnd, IsReborn, renewed_story}
 use Rattle.bz_story.specs.Story.{Story}
 use Rattle.bz_swap.specs.Held.{Holds}
 use Rattle.bz_swap.specs.Power.{MayRenew, renewed}
@@ -28,6 +36,8 @@ use Rattle.bz_world.specs.Lab as lab
 use Rattle.bz_world.specs.Inside.Serving.{IsSlot}
 use Rattle.bz_world.specs.declared.parts.Parts.{Parts}
 use Rattle.bz_world.specs.declared.serving.Serving.{Serving}
+use Rattle.bz_world.proofs.Recovered.{Learns}
+use Rattle.bz_world.proofs.Contained.{among-contains, contains-among}
 
 -- the laws of a beginning
 pub record Begins : Type 0 where
@@ -38,9 +48,9 @@ pub record Begins : Type 0 where
   pub go_on : RecoveriesGoOn
 
 -- the power is on, and the recovery has asked for its first act
-module _ (b : Begins) (p : Parts) (k : IsOff p) (off : p.power ≡ power.Off) (room : length p.journal.past + 3 ≤ p.config.marks) (first next : Recover) (new : recovery.IsNew p.config first) (on : recovery.IsNext first Start next) where
+module _ (b : Begins) (p : Parts) (k : IsOff p) (off : p.power ≡ power.Off) (room : length p.journal.past + 3 ≤ p.config.marks) (first next : Recover) (slots : FreeSlots) (new : recovery.IsNew p.config first) (on : recovery.IsNext first Start next) (nodes : slots.nodes ≡ p.slots.nodes) (learns : Learns first p.slots Start next slots) (nothing : WalksIn first k.dark.values p.slots) where
   abbrev turned : Parts
-  turned = record p { journal = with_mark p.journal On; power = power.Recovering; recovery = next }
+  turned = record p { journal = with_mark p.journal On; power = power.Recovering; recovery = next; slots = slots }
 
   pub begun : IsRecovering turned recovery.Asked
   begun = record {
@@ -64,9 +74,10 @@ module _ (b : Begins) (p : Parts) (k : IsOff p) (off : p.power ≡ power.Off) (r
       };
       sound = b.follow p.config power.On p.journal k.dark.sound ((b.tells power.On (map_at_start p.config p.journal.start) p.journal.past k.dark.sound.once).off.0 (k.dark.tabled.power ∙ off));
       none = k.dark.none;
-      spare = k.dark.spare;
+      slots = nodes ∙ k.dark.slots;
       values = k.dark.values;
     };
+    walks = learns k.dark.values (recovery.words_in p.access) begins.recovering.knows (subst (λ z. tells_in z Start (recovery.words_in p.access)) (sym new.asks) tt) nothing;
     memory = b.turns p.config k.dark.values p.access p.access (with_mark p.journal On) recovery.Made recovery.Asked first next begins refl
         (b.go_on p.config k.dark.values p.access first next Start begins.recovering on (subst (λ z. tells_in z Start (recovery.words_in p.access)) (sym new.asks) tt));
   }
@@ -74,20 +85,24 @@ module _ (b : Begins) (p : Parts) (k : IsOff p) (off : p.power ≡ power.Off) (r
       begins : reviving.IsRecoveringIn p.config k.dark.values p.access (with_mark p.journal On) recovery.Made first
       begins = b.begin p.config k.dark.values p.access p.journal first k.memory new
 
+is-below : (n j : ℕ) → j < n → nat_lt j n ≡ true
+is-below n j l = grind (arith, nat_tests)
+
 -- the laws of an end
 pub record Ends : Type 0 where
   pub follow : ReadysFollow
   pub revive : RecoveriesGiveLife
+  pub end : WalksEnd
   pub taken : BegunStayTaken
 
-module _ (b : Ends) (p : Parts) (k : MustWake p) (holds : Holds (renewed p.access)) (room : length p.journal.past < p.config.marks) where
+module _ (b : Ends) (p : Parts) (k : MustWake p) (order : IsInOrder p.slots) (holds : Holds (renewed p.access)) (room : length p.journal.past < p.config.marks) where
   reborn : IsReborn p.config p.access p.journal
   reborn = b.revive p.config k.recovering.dark.values p.access p.journal p.recovery k.recovering.memory k.asks
 
   abbrev life : Story
   life = renewed_story p.config p.access p.journal
 
-  tabled : IsTabled (record p { access = renewed p.access; journal = with_mark p.journal Ready; power = power.On; revived = true })
+  tabled : IsTabled (record p { access = renewed p.access; journal = with_mark p.journal Ready; power = power.On })
   tabled = let t = k.recovering.dark.tabled in record {
     config = t.config;
     limits = t.limits;
@@ -113,7 +128,24 @@ module _ (b : Ends) (p : Parts) (k : MustWake p) (holds : Holds (renewed p.acces
   slot-by w None e = record { none_open = k.recovering.memory.calls w; idle = idle-all w; filled = λ j t. absurd (true≢false (sym t)) }
   slot-by w (Some x) e = absurd (cc (e))
 
-  pub woken : IsAwake (record p { access = renewed p.access; journal = with_mark p.journal Ready; power = power.On; revived = true })
+  -- exactly the slots that the tree does not reach are free
+  reached : AreReached p.config (image_at_on p.journal.start p.journal.past) p.slots
+  reached = b.end p.config k.recovering.dark.values p.access p.journal p.recovery p.slots k.recovering.memory k.asks k.recovering.dark.slots k.recovering.walks
+
+  within : (j : ℕ) → is_among p.slots.free j ≡ true → j < p.config.nodes
+  within j f = subst (λ n. j < n) reached.nodes (All-contains (λ slot. slot < p.slots.nodes) p.slots.free j order.within (among-contains p.slots.free j f))
+
+  unreached : (j : ℕ) → is_among p.slots.free j ≡ true → j < p.config.nodes → is_reached_in p.config (image_at_on p.journal.start p.journal.past) j ≡ false
+  unreached j f l = ap (λ b. nat_lt j p.config.nodes && b) ((reached.free j l).0 (among-contains p.slots.free j f)) ∙ rw (is-below p.config.nodes j l) refl
+
+  held : (j : ℕ) → j < p.config.nodes → is_among p.slots.free j ≡ false → is_reached_in p.config (image_at_on p.journal.start p.journal.past) j ≡ true
+  held j l f = by ((form (view_in p.config (image_at_on p.journal.start p.journal.past))).inside j) refl
+    where
+      by : (b : Bool) → (form (view_in p.config (image_at_on p.journal.start p.journal.past))).inside j ≡ b → is_reached_in p.config (image_at_on p.journal.start p.journal.past) j ≡ true
+      by true e = ap (λ b. nat_lt j p.config.nodes && b) e ∙ rw (is-below p.config.nodes j l) refl
+      by false e = absurd (true≢false (sym (contains-among p.slots.free j ((reached.free j l).1 e)) ∙ f))
+
+  pub woken : IsAwake (record p { access = renewed p.access; journal = with_mark p.journal Ready; power = power.On })
   woken = record {
     on = refl;
     story = life;
@@ -128,11 +160,11 @@ module _ (b : Ends) (p : Parts) (k : MustWake p) (holds : Holds (renewed p.acces
     living = reborn.living holds;
     sound = b.follow p.config power.On p.journal k.recovering.dark.sound k.after;
     free = record {
-      nodes = k.recovering.dark.spare.nodes;
-      within = k.recovering.dark.spare.within;
-      fresh = λ j f. ap (λ b. nat_lt j p.config.nodes && b) (sym (k.recovering.memory.same.inside j)) ∙ k.recovering.dark.spare.fresh j f;
+      nodes = reached.nodes;
+      within = within;
+      fresh = λ j f. unreached j f (within j f);
       untaken = λ v j f. refl;
-      others = λ e j l f. absurd (true≢false e);
+      others = λ j l f. inl (held j l f);
     };
     workers = λ w. slot-by w (get_or p.workers.items w None) (k.recovering.dark.none w);
   }
@@ -140,18 +172,20 @@ module _ (b : Ends) (p : Parts) (k : MustWake p) (holds : Holds (renewed p.acces
 pub may-renew : RecoveriesGiveLife → (p : Parts) → MustWake p → MayRenew p.access
 may-renew revive p k = (revive p.config k.recovering.dark.values p.access p.journal p.recovery k.recovering.memory k.asks).revived.may_renew
 
-pub wakes : Ends → (p : Parts) → MustWake p → length p.journal.past < p.config.marks → (access : SwapMemory) (journal : Log) → access ≡ renewed p.access → Holds access → journal ≡ with_mark p.journal Ready
-    → Wakes p (record p { access = access; journal = journal; power = power.On; revived = true })
-wakes b p k room access journal is holds marked = subst (λ (j : Log). Wakes p (record p { access = access; journal = j; power = power.On; revived = true })) (sym marked)
-    (subst (λ (m : SwapMemory). Wakes p (record p { access = m; journal = with_mark p.journal Ready; power = power.On; revived = true })) (sym is)
-    (record { awake = woken b p k (subst Holds is holds) room; rest = refl }))
+pub wakes : Ends → (p : Parts) → MustWake p → IsInOrder p.slots → length p.journal.past < p.config.marks → (access : SwapMemory) (journal : Log) → access ≡ renewed p.access → Holds access → journal ≡ with_mark p.journal Ready
+    → Wakes p (record p { access = access; journal = journal; power = power.On })
+wakes b p k order room access journal is holds marked = subst (λ (j : Log). Wakes p (record p { access = access; journal = j; power = power.On })) (sym marked)
+    (subst (λ (m : SwapMemory). Wakes p (record p { access = m; journal = with_mark p.journal Ready; power = power.On })) (sym is)
+    (record { awake = woken b p k order (subst Holds is holds) room; rest = refl }))
 
 -- power on as it is seen: worker 0's first act is no flush
-pub seen-on : (p q : Parts) (journal : Log) (next : Recover) → journal ≡ with_mark p.journal On → q ≡ record p { access = q.access; journal = journal; power = power.Recovering; recovery = next } → q.access ≡ started p.access 0 (Loading 0) → lab_of q ≡ lab.after_on (lab_of p)
-seen-on p q journal next marked rest is = ap lab_of rest ∙ (ap (λ (m : SwapMemory). record { config = p.config; log = journal; flushes = map (λ (v : Working). v.flush_next) m.workers }) is
+pub seen-on : (p q : Parts) (journal : Log) (next : Recover) (slots : FreeSlots) → journal ≡ with_mark p.journal On → q ≡ record p { access = q.access; journal = journal; power = power.Recovering; recovery = next; slots = slots } → q.access ≡ started p.access 0 (Loading 0) → lab_of q ≡ lab.after_on (lab_of p)
+seen-on p q journal next slots marked rest is = ap lab_of rest ∙ (ap (λ (m : SwapMemory). record { config = p.config; log = journal; flushes = map (λ (v : Working). v.flush_next) m.workers }) is
     ∙ (ap (λ (j : Log). record { config = p.config; log = j; flushes = map (λ (v : Working). v.flush_next) (started p.access 0 (Loading 0)).workers }) marked
     ∙ ap (λ fs. record { config = p.config; log = with_mark p.journal On; flushes = fs }) (map-set (λ (v : Working). v.flush_next) p.access.workers 0 (record { doing = Loading 0; flush_next = false }))))
 
-pub begun-on : (b : Begins) (p : Parts) (k : IsOff p) (off : p.power ≡ power.Off) (room : length p.journal.past + 3 ≤ p.config.marks) (first next : Recover) (new : recovery.IsNew p.config first) (on : recovery.IsNext first Start next) (journal : Log) → journal ≡ with_mark p.journal On
-    → IsRecovering (record p { journal = journal; power = power.Recovering; recovery = next }) recovery.Asked
-begun-on b p k off room first next new on journal is = subst (λ (j : Log). IsRecovering (record p { journal = j; power = power.Recovering; recovery = next }) recovery.Asked) (sym is) (begun b p k off room first next new on)
+pub begun-on : (b : Begins) (p : Parts) (k : IsOff p) (off : p.power ≡ power.Off) (room : length p.journal.past + 3 ≤ p.config.marks) (first next : Recover) (slots : FreeSlots) (new : recovery.IsNew p.config first) (on : recovery.IsNext first Start next)
+    → slots.nodes ≡ p.slots.nodes → Learns first p.slots Start next slots → WalksIn first k.dark.values p.slots → (journal : Log) → journal ≡ with_mark p.journal On
+    → IsRecovering (record p { journal = journal; power = power.Recovering; recovery = next; slots = slots }) recovery.Asked
+begun-on b p k off room first next slots new on nodes learns nothing journal is =
+    subst (λ (j : Log). IsRecovering (record p { journal = j; power = power.Recovering; recovery = next; slots = slots }) recovery.Asked) (sym is) (begun b p k off room first next slots new on nodes learns nothing)

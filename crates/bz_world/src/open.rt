@@ -63,7 +63,6 @@ fn fresh_parts(alloc: Global, config: &Config) -> Result<Parts, Memory>
         journal,
         power: Power::On,
         recovery: Recover::new(config),
-        revived: false,
         workers: none_table(alloc, PLACES)?,
         owners: vec![in alloc; 0u8; config.swaps as usize]?,
         numbers: vec![in alloc; 0u32; PLACES]?,

@@ -17,8 +17,6 @@ pub(crate) struct Parts {
     pub power: Power,
     /// What worker 0 does while the power is recovering.
     pub recovery: Recover,
-    /// The power has come on again: a slot that was taken before may be neither free nor reached.
-    pub revived: bool,
     /// The open call of each worker, from worker 0 on.
     pub workers: Vec<Option<Serving>>,
     /// The worker of each swap, by its number.

@@ -86,7 +86,7 @@ fn turn_on(parts: &mut Parts)
     parts.recovery = Recover::new(&parts.config);
     parts.journal.push(Mark::On);
     parts.power = Power::Recovering;
-    let todo = parts.recovery.next(Seen::Start);
+    let todo = parts.recovery.next(Seen::Start, &mut parts.slots);
     start_act(parts, todo);
 }
 

@@ -75,11 +75,13 @@ fn wake(parts: &mut Parts)
 {
     sound::readys_follow();
     story::recoveries_give_life();
+    story::walks_end();
     swap::begun_stay_taken();
+    // (free slots rise, and are slots of the memory)
+    let _ = parts.slots.left();
     parts.access.renew();
     parts.journal.push(Mark::Ready);
     parts.power = Power::On;
-    parts.revived = true;
 }
 
 // Goes on with the recovery by one act.
@@ -97,7 +99,9 @@ fn recover(parts: &mut Parts) -> Applied
     story::turns_make_no_mark();
     story::recoveries_go_on();
     let progress = make_raw_act(parts);
-    let todo = parts.recovery.next(seen_of(progress.done));
+    let todo = parts
+        .recovery
+        .next(seen_of(progress.done), &mut parts.slots);
     if matches!(todo, Todo::Finish) {
         wake(parts);
         return Applied::Ready;

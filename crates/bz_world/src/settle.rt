@@ -78,17 +78,13 @@ fn answer(parts: &mut Parts, w: u8, view: &LeafView) -> Applied
     }
 }
 
-// The task of a call without effect has ended for want of this. Where it is slots, none is left, and its call ends; after a
-// recovery it is looked up again, since then a slot that is not free need not be used.
+// The task of a call without effect has ended for want of this. Where it is slots, none is left, and its call ends.
 fn settle_full(parts: &mut Parts, w: u8, spent: Spent) -> Applied
     requires ends { HasEnded parts.old w (Full spent) }
     requires room { length parts.old.journal.past < parts.old.config.marks }
     ensures { WentOn parts.old w result parts.new }
 {
     bz_sound::power_laws::held_slots_are_spent();
-    if parts.revived {
-        return look_up(parts, w);
-    }
     match spent {
         Spent::Nodes => end_full(parts, w, spent),
         Spent::Swaps | Spent::Height => look_up(parts, w),

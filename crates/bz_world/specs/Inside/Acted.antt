@@ -72,7 +72,7 @@ pub record IsBetween (p : Parts) (w : ℕ) (x : Serving) : Type 0 where
   pub taken : AreTaken p
   pub living : IsLiving p.config p.access p.journal story
   pub sound : IsSound p.config power.On p.journal
-  pub free : AreFree p.config (image_at_on p.journal.start p.journal.past) p.slots story.took p.revived
+  pub free : AreFree p.config (image_at_on p.journal.start p.journal.past) p.slots story.took
   pub others : (v : ℕ) → v ≢ w → IsSlot p.config p.access p.journal story p.owners.items v (get_or p.workers.items v None)
   pub worker : 0 < w
   pub within : w ≤ p.config.workers

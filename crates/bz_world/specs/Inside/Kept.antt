@@ -1,6 +1,7 @@
 -- What a world keeps true of its parts.
 use Rattle.std.specs.Prelude.{◌≡◌, ◌⊎◌, ℕ, ◌+◌, ◌<◌, ◌≤◌, length, slice_index, get_or, Bool, true, false, None}
 use Rattle.bz_layout.specs.Config.{IsConfig}
+use Rattle.bz_recover.specs.Duties.{WalksIn}
 use Rattle.bz_layout.specs.Slots.{FreeSlots}
 use Rattle.bz_layout.specs.declared.config.Config.{Config}
 use Rattle.bz_mark.specs.Log.{count_begins, count_page_calls}
@@ -51,13 +52,12 @@ pub record AreTaken (p : Parts) : Type 0 where
 
 -- a free slot is one of the memory, which was not reached in the image at power on and which nobody took since; each other one
 -- was reached or taken
-pub record AreFree (c : Config) (image : ℕ → ℕ) (slots : FreeSlots) (took : ℕ → ℕ → Bool) (revived : Bool) : Type 0 where
+pub record AreFree (c : Config) (image : ℕ → ℕ) (slots : FreeSlots) (took : ℕ → ℕ → Bool) : Type 0 where
   pub nodes : slots.nodes ≡ c.nodes
   pub within : (k : ℕ) → is_among slots.free k ≡ true → k < c.nodes
   pub fresh : (k : ℕ) → is_among slots.free k ≡ true → is_reached_in c image k ≡ false
   pub untaken : (v k : ℕ) → is_among slots.free k ≡ true → took v k ≡ false
-  -- since a power cut a slot that was taken before it may be neither
-  pub others : revived ≡ false → (k : ℕ) → k < c.nodes → is_among slots.free k ≡ false → (is_reached_in c image k ≡ true) ⊎ ((v : ℕ) × (took v k ≡ true))
+  pub others : (k : ℕ) → k < c.nodes → is_among slots.free k ≡ false → (is_reached_in c image k ≡ true) ⊎ ((v : ℕ) × (took v k ≡ true))
 
 -- what holds while the power is on
 pub record IsAwake (p : Parts) : Type 0 where
@@ -67,21 +67,15 @@ pub record IsAwake (p : Parts) : Type 0 where
   pub taken : AreTaken p
   pub living : IsLiving p.config p.access p.journal story
   pub sound : IsSound p.config power.On p.journal
-  pub free : AreFree p.config (image_at_on p.journal.start p.journal.past) p.slots story.took p.revived
+  pub free : AreFree p.config (image_at_on p.journal.start p.journal.past) p.slots story.took
   pub workers : (w : ℕ) → IsSlot p.config p.access p.journal story p.owners.items w (get_or p.workers.items w None)
 
--- the free slots over a power cut: those of the memory that were free then, to which no link had led
-pub record AreSpare (c : Config) (image : ℕ → ℕ) (slots : FreeSlots) : Type 0 where
-  pub nodes : slots.nodes ≡ c.nodes
-  pub within : (k : ℕ) → is_among slots.free k ≡ true → k < c.nodes
-  pub fresh : (k : ℕ) → is_among slots.free k ≡ true → is_reached_in c image k ≡ false
-
--- what holds from a power cut until the power is on again: no call is open
+-- what holds from a power cut until the power is on again: no call is open, and nothing is said of which slots are free
 pub record IsDark (p : Parts) : Type 0 where
   pub tabled : IsTabled p
   pub sound : IsSound p.config power.On p.journal
   pub none : (w : ℕ) → get_or p.workers.items w None ≡ None
-  pub spare : AreSpare p.config (slice_index p.access.durable) p.slots
+  pub slots : p.slots.nodes ≡ p.config.nodes
   -- the values to which the durable words resolved when the power failed
   pub values : ℕ → ℕ
 
@@ -90,9 +84,10 @@ pub record IsOff (p : Parts) : Type 0 where
   pub dark : IsDark p
   pub memory : reviving.IsOffIn p.config dark.values p.access p.journal
 
--- while it recovers, worker 0 does
+-- while it recovers, worker 0 does, and its walk knows the slots
 pub record IsRecovering (p : Parts) (turn : recovery.Turn) : Type 0 where
   pub dark : IsDark p
+  pub walks : WalksIn p.recovery dark.values p.slots
   pub memory : reviving.IsRecoveringIn p.config dark.values p.access p.journal turn p.recovery
 
 -- and between events it has started its next act

@@ -35,4 +35,4 @@ pub record MustWake (p : Parts) : Type 0 where
 -- so the power is on
 pub record Wakes (old new : Parts) : Type 0 where
   pub awake : IsAwake new
-  pub rest : new ≡ record old { access = renewed old.access; journal = with_mark old.journal Ready; power = power.On; revived = new.revived }
+  pub rest : new ≡ record old { access = renewed old.access; journal = with_mark old.journal Ready; power = power.On }

@@ -1,4 +1,4 @@
-//! Power cuts, after every tenth act of a call, and recoveries that are cut again.
+//! Power cuts, after every tenth act of a call, recoveries that are cut again, and the slots that are free afterwards.
 
 use super::bench::{Answer, begin, numbered, open, payload, steps, whole};
 use super::decode::decode;
@@ -103,6 +103,38 @@ fn a_recovery_that_is_cut_begins_anew(rt: HostRuntime) {
         assert!(rt; recover(&mut world, 4_000));
         agrees(&rt, rt.alloc(), &world);
     }
+}
+
+// Updates of a key, one after the other, until no slot is left for a copy: how many were made.
+fn updates(rt: &impl Abort, world: &mut World, update: Call) -> u32 {
+    for made in 0..200 {
+        match whole(world, 1, update) {
+            Some(Answer::Updated(_)) => {}
+            answer => {
+                assert_eq!(rt; answer, Some(Answer::FullNodes));
+                return made;
+            }
+        }
+    }
+    200
+}
+
+#[test]
+fn slots_that_the_tree_does_not_reach_serve_again(rt: HostRuntime) -> Result<(), Fail> {
+    let (k, v) = (numbered(&rt, 0), payload(&rt, b"v"));
+    let mut world = open(rt.alloc(), 2, 512, 1)?;
+    assert_eq!(rt;
+        whole(&mut world, 1, Call::Insert(k, v)),
+        Some(Answer::Inserted)
+    );
+    // two slots, and then one of them again
+    for made in [114, 57, 57] {
+        assert_eq!(rt; updates(&rt, &mut world, Call::Update(k, v)), made);
+        restart(&rt, &mut world);
+        assert!(rt; recover(&mut world, 4_000));
+    }
+    agrees(&rt, rt.alloc(), &world);
+    Ok(())
 }
 
 #[test]

@@ -23,7 +23,6 @@ returns-clause-kept c =
       pages_begun = refl;
       slots = search rules;
       power = refl;
-      revived = refl;
     })
 
 pub returns-clause-flushes : goal.returns-clause-flushes

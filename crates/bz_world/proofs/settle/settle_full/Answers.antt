@@ -9,7 +9,7 @@ pub end_full-requires-clause-short : goal.end_full-requires-clause-short
 end_full-requires-clause-short c =
     let e = c.requires.ends in
     let lacks : LacksSlots c.args.parts.now c.args.w = record { on = e.on; quiet = e.quiet; none = e.full (ap Full c.in-Nodes.is) } in
-    let short : IsShort c.args.parts.now c.args.w Nodes = record { on = e.on; quiet = e.quiet; cause = inr (slots-are-spent c.held_slots_are_spent.ensures c.args.parts.now c.args.w lacks c.if-parts.false) } in
+    let short : IsShort c.args.parts.now c.args.w Nodes = record { on = e.on; quiet = e.quiet; cause = inr (slots-are-spent c.held_slots_are_spent.ensures c.args.parts.now c.args.w lacks) } in
     subst (IsShort c.args.parts.now c.args.w) (sym c.in-Nodes.is) short
 
 pub look_up-requires : goal.look_up-requires
