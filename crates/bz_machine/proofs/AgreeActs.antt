@@ -19,7 +19,7 @@ passed-agrees x y i a = rw a.count refl
 finished-agrees : (x y : Entries) (i : ℕ) (d : Verdict) → Agree x y → finished x i d ≡ finished y i d
 finished-agrees x y i d a = rw a.count refl
 
-final-agrees : (x y : Entries) (i : ℕ) (d : Verdict) → Agree x y → i < y.count → final_value x i d ≡ final_value y i d
+pub final-agrees : (x y : Entries) (i : ℕ) (d : Verdict) → Agree x y → i < y.count → final_value x i d ≡ final_value y i d
 final-agrees x y i Succeeded a lt = a.value i lt
 final-agrees x y i Failed a lt = a.expected i lt
 

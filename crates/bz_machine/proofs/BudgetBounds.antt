@@ -24,7 +24,7 @@ if-le false x y k f g = g
 missing-le : (x : Scene) (s : ℕ) → AreShort x.entries → missing x s ≤ 4
 missing-le x s short = if-le (x.decided s) 0 _ 4 (omega arith) (omega (arith, ones-le (λ i. not (x.pointer (target_at x s i) s)) (x.entries s).count, short s))
 
-above-le : (x : Scene) (w n s : ℕ) → open_above x w n s ≤ open_count x w n
+pub above-le : (x : Scene) (w n s : ℕ) → open_above x w n s ≤ open_count x w n
 above-le x w n s = others-le w (λ v. counted (is_open x v && nat_lt (top x s) (top x (swap_of (x.local v).operation))) 1) (λ v. counted (is_open x v) 1) n (λ v. counted-and (is_open x v) _ 1)
 
 walk_from-le : (x : Scene) (u : ℕ) (above : ℕ → ℕ) (s : ℕ) → ((t : ℕ) → above t ≤ u) → walk_from x above s ≤ 18 * u
@@ -34,7 +34,7 @@ walk_back-le : (x : Scene) (u : ℕ) (above : ℕ → ℕ) (l : Local) (back : O
 walk_back-le x u above l None le = omega arith
 walk_back-le x u above l (Some b) le = if-le (is_own l.operation b || is_through x b) (18 * u + 38) (walk_from x above b) (18 * u + 38) (omega arith) (omega (arith, walk_from-le x u above b le))
 
-walk_on-le : (x : Scene) (u : ℕ) (above : ℕ → ℕ) (l : Local) → ((t : ℕ) → above t ≤ u) → walk_on x u above l ≤ 18 * u + 75
+pub walk_on-le : (x : Scene) (u : ℕ) (above : ℕ → ℕ) (l : Local) → ((t : ℕ) → above t ≤ u) → walk_on x u above l ≤ 18 * u + 75
 walk_on-le x u above l le =
     if-le (is_own l.operation l.current) (18 * u) _ (18 * u + 75) (omega arith)
     (if-le (is_through x l.current) (walk_back x u above l l.back + 37) (walk_from x above l.current) (18 * u + 75)

@@ -6,6 +6,7 @@ pub mod Asleep
 pub mod BudgetBounds
 pub mod BudgetStarts
 pub mod Change
+pub mod Compared
 pub mod Copies
 pub mod Decisions
 pub mod Descriptors
@@ -44,6 +45,7 @@ pub mod SpendClears
 pub mod SpendDecides
 pub mod SpendPrepares
 pub mod SpendStale
+pub mod SpendTags
 pub mod SpendTries
 pub mod Spends
 pub mod Stores
@@ -55,8 +57,10 @@ pub mod TakenKnowledge
 pub mod Takes
 pub mod Through
 pub mod Told
+pub mod Truths
 pub mod Untags
 pub mod Values
 pub mod Verdicts
+pub mod Visits
 pub mod WordChanges
 pub mod Words

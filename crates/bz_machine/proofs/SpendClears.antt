@@ -30,14 +30,14 @@ pub record Home (e : ℕ → Entries) (local : ℕ → Local) (w n a v : ℕ) : 
   pub target : (e (local worker).current).target entry ≡ a
   pub value : final_value (e (local worker).current) entry verdict ≡ v
 
-dirty-told : (k : WordKind) (v : ℕ) → is_dirty k v ≡ true → k ≡ Dirty v
+pub dirty-told : (k : WordKind) (v : ℕ) → is_dirty k v ≡ true → k ≡ Dirty v
 dirty-told (Value u) v told = absurd cc
 dirty-told (Dirty u) v told = let same : u ≡ v = grind (arith, common_steps, told) in ap Dirty same
 dirty-told (Swap t) v told = absurd cc
 dirty-told (Tag t i w q) v told = absurd cc
 
 -- a test of words that tells the new word from the old one no more
-test-put : (test : WordKind → Bool) (cached : ℕ → WordKind) (a : ℕ) (new : WordKind) (b : ℕ) → test new ≡ test (cached a) → test (put cached a new b) ≡ test (cached b)
+pub test-put : (test : WordKind → Bool) (cached : ℕ → WordKind) (a : ℕ) (new : WordKind) (b : ℕ) → test new ≡ test (cached a) → test (put cached a new b) ≡ test (cached b)
 test-put test cached a new b same = by_test (b == a) refl
   where
     by_test : (t : Bool) → (b == a) ≡ t → test (if t then new else cached b) ≡ test (cached b)
@@ -77,7 +77,7 @@ home-drops e local m w n l place a v home is none =
 paid : (q a b c d f r f' r' : ℕ) → f' + 1 ≤ f + 3 → r' + 3 ≤ r → q + a + b + c + d + f' + r' + 1 ≤ q + a + b + c + d + f + r
 paid q a b c d f r f' r' h1 h2 = omega (arith, h1, h2)
 
-cleared-to : (m : Memory) (a v : ℕ) → m.cached a ≡ Dirty v → cleared_word m a v (m.cached a) ≡ with_word m a (Value v)
+pub cleared-to : (m : Memory) (a v : ℕ) → m.cached a ≡ Dirty v → cleared_word m a v (m.cached a) ≡ with_word m a (Value v)
 cleared-to m a v is =
     let self : (v == v) ≡ true = grind (arith, common_steps) in
     let told : cleared_word m a v (Dirty v) ≡ with_word m a (Value v) = rw self refl in
@@ -97,7 +97,7 @@ spends-clear_read e local m w n l a v few short home = by_fresh (is_dirty (m.cac
         (home-drops e local m w n l (ClearRead a v) a v (home is) is (λ b u. refl)))
     by_fresh false told = omega (arith, fresh-le (meets e local (cleared_word m a v (m.cached a))) w n (record l { place = ReadWord a }) (ReadWord a) few short)
 
-cleared-same : (m : Memory) (a v : ℕ) (k : WordKind) → is_dirty k v ≡ false → cleared_word m a v k ≡ m
+pub cleared-same : (m : Memory) (a v : ℕ) (k : WordKind) → is_dirty k v ≡ false → cleared_word m a v k ≡ m
 cleared-same m a v (Value u) told = refl
 cleared-same m a v (Swap t) told = refl
 cleared-same m a v (Tag t i w q) told = refl

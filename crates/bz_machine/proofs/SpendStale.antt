@@ -53,7 +53,7 @@ untag-after x m s i v q new changed unchanged (Tag t j u p) P f g = by_test (((t
     by_test false told = g told
 
 -- what the act owes, told by what follows
-abbrev Owes : (ℕ → Entries) → (ℕ → Local) → Memory → ℕ → ℕ → Local → Place → After → Type 0
+abbrev pub Owes : (ℕ → Entries) → (ℕ → Local) → Memory → ℕ → ℕ → Local → Place → After → Type 0
 Owes e local m w n l place a = budget_at (meets e local (after_help l a.memory a.next).memory) w n (after_help l a.memory a.next).local (after_help l a.memory a.next).local.place + 1 ≤ budget_at (meets e local m) w n l place
 
 never : (k j : ℕ) → true ≡ false → k + 1 ≤ j
@@ -87,11 +87,11 @@ if-least : (b : Bool) → 4 ≤ (if b then 7 else 4)
 if-least true = omega arith
 if-least false = omega arith
 
-owes-if : (P : After → Type 0) (t : Bool) (x y : After) → P x → P y → P (if t then x else y)
+pub owes-if : (P : After → Type 0) (t : Bool) (x y : After) → P x → P y → P (if t then x else y)
 owes-if P true x y f g = f
 owes-if P false x y f g = g
 
-next-if : (P : After → Type 0) (m : Memory) (t : Bool) (x y : Next) → P (record { memory = m; next = x }) → P (record { memory = m; next = y }) → P (record { memory = m; next = if t then x else y })
+pub next-if : (P : After → Type 0) (m : Memory) (t : Bool) (x y : Next) → P (record { memory = m; next = x }) → P (record { memory = m; next = y }) → P (record { memory = m; next = if t then x else y })
 next-if P m true x y f g = f
 next-if P m false x y f g = g
 

@@ -18,22 +18,22 @@ use Rattle.bz_machine.specs.Steps.{Local, after_help}
 use Rattle.bz_machine.proofs.Spends.{meets, Spends, fresh-falls, here-falls}
 
 -- what the act owes, told by its outcome, by what follows, and by the word that it found
-abbrev Done : (ℕ → Entries) → (ℕ → Local) → Memory → ℕ → ℕ → Local → ℕ → After → Type 0
+abbrev pub Done : (ℕ → Entries) → (ℕ → Local) → Memory → ℕ → ℕ → Local → ℕ → After → Type 0
 Done e local m w n l i a =
     budget_at (meets e local (after_help l a.memory a.next).memory) w n (after_help l a.memory a.next).local (after_help l a.memory a.next).local.place + 1 ≤ budget_at (meets e local m) w n l (Help (InstallTag i))
 
-abbrev Follows : (ℕ → Entries) → (ℕ → Local) → Memory → ℕ → ℕ → Local → ℕ → Next → Type 0
+abbrev pub Follows : (ℕ → Entries) → (ℕ → Local) → Memory → ℕ → ℕ → Local → ℕ → Next → Type 0
 Follows e local m w n l i next = Done e local m w n l i (record { memory = m; next = next })
 
-abbrev Tried : (ℕ → Entries) → (ℕ → Local) → Memory → ℕ → ℕ → Local → ℕ → WordKind → Type 0
+abbrev pub Tried : (ℕ → Entries) → (ℕ → Local) → Memory → ℕ → ℕ → Local → ℕ → WordKind → Type 0
 Tried e local m w n l i k = Done e local m w n l i (after_install_tag (entries_in l.list) m w l.current i k)
 
-both : (a b : Bool) → a ≡ true → b ≡ true → (a && b) ≡ true
+pub both : (a b : Bool) → a ≡ true → b ≡ true → (a && b) ≡ true
 both true true f g = refl
 both true false f g = g
 both false b f g = f
 
-same-tag : (s i v q : ℕ) → (((s == s) && (i == i)) && ((v == v) && (q == q))) ≡ true
+pub same-tag : (s i v q : ℕ) → (((s == s) && (i == i)) && ((v == v) && (q == q))) ≡ true
 same-tag s i v q = grind (arith, common_steps)
 
 abbrev GoesOn : (ℕ → Entries) → (ℕ → Local) → Memory → ℕ → ℕ → Local → ℕ → HelpStep → Type 0

@@ -1,8 +1,10 @@
 -- Sums below a number.
-use Rattle.std.proofs.Common.{◌≡◌, ◌==◌, ◌&&◌, if◌then◌else◌, ℕ, zero, suc, ◌+◌, ◌*◌, ◌<◌, ◌≤◌, Bool, true, false, arith, refl, subst}
+use Rattle.std.proofs.Common.{◌≡◌, ◌==◌, ◌&&◌, if◌then◌else◌, nat_lt, ℕ, zero, suc, ◌+◌, ◌*◌, ◌<◌, ◌≤◌, Bool, true, false, arith, refl, ap, subst}
+use Rattle.std.proofs.lemmas.Bool.{ltb-true, ltb-false}
 use Rattle.std.proofs.lemmas.Grind.{common_steps}
 use Rattle.bz_machine.specs.Allowed.{sum_below, counted}
 use Rattle.bz_machine.specs.Budget.{sum_others}
+use Rattle.bz_machine.specs.Standing.{greatest}
 
 pub sum-le : (f g : ℕ → ℕ) (n : ℕ) → ((v : ℕ) → f v ≤ g v) → sum_below f n ≤ sum_below g n
 sum-le f g zero le = omega arith
@@ -85,3 +87,93 @@ drop-at w h m f g k false told le other below drops rest =
 pub others-drop : (w h : ℕ) (f g : ℕ → ℕ) (k n : ℕ) → ((v : ℕ) → f v ≤ g v) → (h == w) ≡ false → h < n → f h + k ≤ g h → sum_others w f n + k ≤ sum_others w g n
 others-drop w h f g k zero le other below drops = absurd (omega (arith, below))
 others-drop w h f g k (suc m) le other below drops = drop-at w h m f g k (h == m) refl le other (omega (arith, below)) drops (λ lt. others-drop w h f g k m le other lt drops)
+
+-- functions that are compared at the others alone
+apart-if : (w v : ℕ) (f g : ℕ → ℕ) → ((u : ℕ) → (u == w) ≡ false → f u ≤ g u) → (b : Bool) → (v == w) ≡ b → (if b then 0 else f v) ≤ (if b then 0 else g v)
+apart-if w v f g le true told = omega arith
+apart-if w v f g le false told = le v told
+
+pub others-apart : (w : ℕ) (f g : ℕ → ℕ) (n : ℕ) → ((v : ℕ) → (v == w) ≡ false → f v ≤ g v) → sum_others w f n ≤ sum_others w g n
+others-apart w f g zero le = omega arith
+others-apart w f g (suc n) le = omega (arith, others-apart w f g n le, apart-if w n f g le (n == w) refl)
+
+left-out : (w : ℕ) (f : ℕ → ℕ) (v : ℕ) → (v == w) ≡ false → (if v == w then 0 else f v) ≡ f v
+left-out w f v told = rw told refl
+
+pub apart-drop : (w h : ℕ) (f g : ℕ → ℕ) (k n : ℕ) → ((v : ℕ) → (v == w) ≡ false → f v ≤ g v) → (h == w) ≡ false → h < n → f h + k ≤ g h → sum_others w f n + k ≤ sum_others w g n
+apart-drop w h f g k n le other below drops =
+    let dropped : sum_others w (λ v. if v == w then 0 else f v) n + k ≤ sum_others w (λ v. if v == w then 0 else g v) n =
+    others-drop w h (λ v. if v == w then 0 else f v) (λ v. if v == w then 0 else g v) k n (λ v. apart-if w v f g le (v == w) refl) other below (omega (arith, drops, left-out w f h other, left-out w g h other)) in
+    omega (arith, dropped, others-apart w f (λ v. if v == w then 0 else f v) n (λ v told. omega (arith, left-out w f v told)), others-apart w (λ v. if v == w then 0 else g v) g n (λ v told. omega (arith, left-out w g v told)))
+
+-- a number that counts where a test holds that follows from another
+pub counted-implied : (a b : Bool) (k j : ℕ) → (a ≡ true → b ≡ true) → k ≤ j → counted a k ≤ counted b j
+counted-implied false b k j f le = omega arith
+counted-implied true true k j f le = le
+counted-implied true false k j f le = absurd (bad (f refl))
+  where
+    bad : false ≡ true → ⊥
+    bad is = absurd cc
+
+-- sums below a number of functions that are compared there
+pub sum-less : (f g : ℕ → ℕ) (n : ℕ) → ((i : ℕ) → i < n → f i ≤ g i) → sum_below f n ≤ sum_below g n
+sum-less f g zero le = omega arith
+sum-less f g (suc n) le = omega (arith, sum-less f g n (λ i lt. le i (omega (arith, lt))), le n (omega arith))
+
+drop-last : (f g : ℕ → ℕ) (n h : ℕ) (b : Bool) → (h == n) ≡ b → ((i : ℕ) → i < n + 1 → f i ≤ g i) → h < n + 1 → f h + 1 ≤ g h → (h < n → sum_below f n + 1 ≤ sum_below g n) → sum_below f n + f n + 1 ≤ sum_below g n + g n
+drop-last f g n h true told le below drops rest =
+    let here : h ≡ n = grind (arith, common_steps, told) in
+    let last : f n + 1 ≤ g n = subst (λ u. f u + 1 ≤ g u) here drops in
+    omega (arith, last, sum-less f g n (λ i lt. le i (omega (arith, lt))))
+drop-last f g n h false told le below drops rest =
+    let apart : (h ≡ n) → ⊥ = λ same. absurd (grind (arith, common_steps, told, same)) in
+    omega (arith, rest (omega (arith, below, apart)), le n (omega arith))
+
+pub sum-drop : (f g : ℕ → ℕ) (n h : ℕ) → ((i : ℕ) → i < n → f i ≤ g i) → h < n → f h + 1 ≤ g h → sum_below f n + 1 ≤ sum_below g n
+sum-drop f g zero h le below drops = absurd (omega (arith, below))
+sum-drop f g (suc n) h le below drops = drop-last f g n h (h == n) refl (λ i lt. le i (omega (arith, lt))) (omega (arith, below)) drops (λ lt. sum-drop f g n h (λ i under. le i (omega (arith, under))) lt drops)
+
+at-last : (f : ℕ → ℕ) (n h : ℕ) (b : Bool) → (h == n) ≡ b → h < n + 1 → (h < n → f h ≤ sum_below f n) → f h ≤ sum_below f n + f n
+at-last f n h true told below rest = let here : f h ≡ f n = ap f (grind (arith, common_steps, told)) in omega (arith, here)
+at-last f n h false told below rest =
+    let apart : (h ≡ n) → ⊥ = λ same. absurd (grind (arith, common_steps, told, same)) in
+    omega (arith, rest (omega (arith, below, apart)))
+
+pub sum-at : (f : ℕ → ℕ) (n h : ℕ) → h < n → f h ≤ sum_below f n
+sum-at f zero h below = absurd (omega (arith, below))
+sum-at f (suc n) h below = at-last f n h (h == n) refl (omega (arith, below)) (λ lt. sum-at f n h lt)
+
+pub sum-none : (f : ℕ → ℕ) (n : ℕ) → ((i : ℕ) → i < n → f i ≡ 0) → sum_below f n ≡ 0
+sum-none f zero none = refl
+sum-none f (suc n) none = omega (arith, sum-none f n (λ i lt. none i (omega (arith, lt))), none n (omega arith))
+
+-- the greatest value is one, and none is more
+most-of : (a b : ℕ) (t : Bool) → nat_lt a b ≡ t → (a ≤ (if t then b else a)) × (b ≤ (if t then b else a))
+most-of a b true told = (omega (arith, ltb-true a b told), omega arith)
+most-of a b false told = (omega arith, ltb-false a b told)
+
+most-last : (f : ℕ → ℕ) (n i : ℕ) (b : Bool) → (i == n) ≡ b → i < n + 1 → (i < n → f i ≤ greatest f n) → f i ≤ (if nat_lt (greatest f n) (f n) then f n else greatest f n)
+most-last f n i true told below rest =
+    let here : f i ≡ f n = ap f (grind (arith, common_steps, told)) in
+    omega (arith, here, (most-of (greatest f n) (f n) (nat_lt (greatest f n) (f n)) refl).1)
+most-last f n i false told below rest =
+    let apart : (i ≡ n) → ⊥ = λ same. absurd (grind (arith, common_steps, told, same)) in
+    omega (arith, rest (omega (arith, below, apart)), (most-of (greatest f n) (f n) (nat_lt (greatest f n) (f n)) refl).0)
+
+pub greatest-ge : (f : ℕ → ℕ) (n i : ℕ) → i < n → f i ≤ greatest f n
+greatest-ge f zero i below = absurd (omega (arith, below))
+greatest-ge f (suc n) i below = most-last f n i (i == n) refl (omega (arith, below)) (λ lt. greatest-ge f n i lt)
+
+if-under : (t : Bool) (a b k : ℕ) → a ≤ k → b ≤ k → (if t then b else a) ≤ k
+if-under true a b k f g = g
+if-under false a b k f g = f
+
+pub greatest-le : (f : ℕ → ℕ) (n k : ℕ) → ((i : ℕ) → i < n → f i ≤ k) → greatest f n ≤ k
+greatest-le f zero k le = omega arith
+greatest-le f (suc n) k le = if-under (nat_lt (greatest f n) (f n)) (greatest f n) (f n) k (greatest-le f n k (λ i lt. le i (omega (arith, lt)))) (le n (omega arith))
+
+pub greatest-less : (f g : ℕ → ℕ) (n : ℕ) → ((i : ℕ) → i < n → f i ≤ g i) → greatest f n ≤ greatest g n
+greatest-less f g n le = greatest-le f n (greatest g n) (λ i lt. trans_le (le i lt) (greatest-ge g n i lt))
+  where
+    trans_le : {a b c : ℕ} → a ≤ b → b ≤ c → a ≤ c
+    trans_le f g = omega (arith, f, g)

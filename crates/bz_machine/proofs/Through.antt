@@ -88,7 +88,7 @@ pointer-comes m w l place z (PutsPointer i u p at found puts goes) a s is = by_t
     by_test false told h = inl h
 
 -- targets tell entries apart
-same-entry : (e : ℕ → Entries) (s i j : ℕ) → AreApart e → i < (e s).count → j < (e s).count → (e s).target i ≡ (e s).target j → i ≡ j
+pub same-entry : (e : ℕ → Entries) (s i j : ℕ) → AreApart e → i < (e s).count → j < (e s).count → (e s).target i ≡ (e s).target j → i ≡ j
 same-entry e s i j apart below other same = sym (apart s i below) ∙ ap (e s).index same ∙ apart s j other
 
 pointer-stays : (x : State) (w s j : ℕ) → IsState x → j < (x.entries s).count → IsDone x.entries x.memory.cached x.local s j → (stepped x w).memory.cached ((x.entries s).target j) ≡ Swap s → ⊥
