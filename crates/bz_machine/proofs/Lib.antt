@@ -1,4 +1,5 @@
 pub mod Acts
+pub mod ActsSpend
 pub mod AgreeActs
 pub mod Alone
 pub mod Answered
@@ -6,7 +7,9 @@ pub mod Asleep
 pub mod BudgetBounds
 pub mod BudgetStarts
 pub mod Change
+pub mod Closings
 pub mod Compared
+pub mod Completions
 pub mod Copies
 pub mod Decisions
 pub mod Descriptors
@@ -20,6 +23,7 @@ pub mod EndsStay
 pub mod EventLaws
 pub mod Events
 pub mod Fine
+pub mod Finishing
 pub mod Flushes
 pub mod FrontsStay
 pub mod Good
@@ -29,8 +33,10 @@ pub mod Installs
 pub mod KeptFacts
 pub mod KeptKnowledge
 pub mod Learns
+pub mod Meets
 pub mod Misses
 pub mod NextEnds
+pub mod Openers
 pub mod OwnersStay
 pub mod PowerOn
 pub mod PrepareActs
@@ -42,9 +48,16 @@ pub mod Ranges
 pub mod Runs
 pub mod Scenes
 pub mod SpendClears
+pub mod SpendCloses
 pub mod SpendDecides
+pub mod SpendFinals
+pub mod SpendInstalls
+pub mod SpendMeets
+pub mod SpendPointers
 pub mod SpendPrepares
+pub mod SpendPuts
 pub mod SpendStale
+pub mod SpendStores
 pub mod SpendTags
 pub mod SpendTries
 pub mod Spends

@@ -1,11 +1,15 @@
 -- The laws of budgets: what a worker may have, what starts add, and that each step spends one.
-use Rattle.std.specs.Prelude.{◌≡◌, ℕ, ◌+◌, ◌<◌, ◌≤◌}
+use Rattle.std.specs.Prelude.{◌≡◌, ◌≢◌, ℕ, ◌+◌, ◌<◌, ◌≤◌}
 use Rattle.bz_machine.specs.declared.place.Place.TheVariants.{Idle}
 use Rattle.bz_machine.specs.Allowed.{allowed, allowed_by}
 use Rattle.bz_machine.specs.Budget.{budget}
 use Rattle.bz_machine.specs.Machine.{Entries}
-use Rattle.bz_machine.specs.State.{State, StartRead, StartStore, StartFlush, Evict, EvictStatus, EvictField, happens}
+use Rattle.bz_machine.specs.DirtyHomes.{DirtyAreHome}
+use Rattle.bz_machine.specs.Ends.{EndWhole}
+use Rattle.bz_machine.specs.Fronts.{HaveFronts, AllRise}
 use Rattle.bz_machine.specs.Owners.{AreOwned}
+use Rattle.bz_machine.specs.Progress.{TagsAreHome}
+use Rattle.bz_machine.specs.State.{State, StartRead, StartStore, StartFlush, Act, Evict, EvictStatus, EvictField, happens, IsState}
 
 -- each swap has at most four entries
 abbrev pub AreShort : (ℕ → Entries) → Type 0
@@ -23,6 +27,23 @@ pub record AddsAllowed (x : State) (w n : ℕ) : Type 0 where
 
 abbrev pub StartsAddAllowed : Type 0
 StartsAddAllowed = (x : State) (w n : ℕ) → AreOwned x → (x.local w).place ≡ Idle → AddsAllowed x w n
+
+-- what holds at every moment of a state whose workers have numbers below n: its invariant, and what makes a lone worker end
+pub record IsBounded (x : State) (n : ℕ) : Type 0 where
+  pub state : IsState x
+  pub tags : TagsAreHome x
+  pub dirty : DirtyAreHome x
+  pub fronts : HaveFronts x
+  pub rising : AllRise x
+  pub ends : EndWhole x
+  pub owned : AreOwned x
+  pub short : AreShort x.entries
+  pub few : n ≤ 65
+  pub idle : (v : ℕ) → n ≤ v → (x.local v).place ≡ Idle
+
+-- each act of a worker that is not idle spends one of its budget
+abbrev pub ActsSpend : Type 0
+ActsSpend = (x : State) (w n : ℕ) → IsBounded x n → (x.local w).place ≢ Idle → budget (happens x (Act w)) w n < budget x w n
 
 -- no eviction changes a budget
 pub record IsKept (x : State) (w n : ℕ) : Type 0 where

@@ -1,6 +1,6 @@
 //! The laws of the machine. Each function does nothing: its contract is the law.
 
-ghost use Rattle.bz_machine.specs.Budgets.{BudgetsAreAllowed, StartsAddAllowed, EvictionsKeepBudgets};
+ghost use Rattle.bz_machine.specs.Budgets.{BudgetsAreAllowed, StartsAddAllowed, EvictionsKeepBudgets, ActsSpend};
 ghost use Rattle.bz_machine.specs.DirtyHomes.{DirtyStayHome};
 ghost use Rattle.bz_machine.specs.Ends.{EndsStayWhole};
 ghost use Rattle.bz_machine.specs.Examples.{SwapsAlone};
@@ -126,4 +126,9 @@ pub fn starts_add_allowed()
 /// No eviction changes a budget.
 pub fn evictions_keep_budgets()
     ensures { EvictionsKeepBudgets }
+{}
+
+/// Each act of a worker that is not idle spends one of its budget.
+pub fn acts_spend()
+    ensures { ActsSpend }
 {}
