@@ -11,19 +11,16 @@ use Rattle.bz_machine.specs.declared.place.PrepareStep.TheVariants.{WriteWord, W
 use Rattle.bz_machine.specs.declared.status.SwapStatus.{SwapStatus}
 use Rattle.bz_machine.specs.declared.status.SwapStatus.TheVariants.{Free, Undecided, Deciding, Decided}
 use Rattle.bz_machine.specs.declared.status.Verdict.{Verdict}
-use Rattle.bz_machine.specs.declared.worker.Operation.TheVariants.{Nothing}
 use Rattle.bz_machine.specs.Agrees.{Agree, agree-spell}
 use Rattle.bz_machine.specs.Budget.{is_fresh_at, budget}
 use Rattle.bz_machine.specs.Budgets.{IsBounded, ActsSpend}
-use Rattle.bz_machine.specs.DirtyHomes.{IsAtFinal, Cleans, IsCleaned}
-use Rattle.bz_machine.specs.HelpActs.{final_value}
+use Rattle.bz_machine.specs.DirtyHomes.{IsAtFinal, IsCleaned}
 use Rattle.bz_machine.specs.Knows.{Spell, AtPlace}
-use Rattle.bz_machine.specs.Machine.{Entries, Memory, entries_in}
+use Rattle.bz_machine.specs.Machine.{entries_in}
 use Rattle.bz_machine.specs.Owners.{RestsAt}
 use Rattle.bz_machine.specs.Sound.{Follows}
 use Rattle.bz_machine.specs.Standing.{scene_of}
-use Rattle.bz_machine.specs.State.{State, Act, happens}
-use Rattle.bz_machine.specs.Steps.{Local}
+use Rattle.bz_machine.specs.State.{State}
 use Rattle.bz_machine.proofs.AgreeActs.{final-agrees}
 use Rattle.bz_machine.proofs.Openers.{busy-below}
 use Rattle.bz_machine.proofs.Scenes.{budget-acted}

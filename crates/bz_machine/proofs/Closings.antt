@@ -1,16 +1,16 @@
 -- A swap that becomes through pays for the walk that follows it.
-use Rattle.std.proofs.Common.{◌≡◌, ◌==◌, ◌&&◌, ◌||◌, not, nat_lt, if◌then◌else◌, ℕ, ◌+◌, ◌*◌, ◌<◌, ◌≤◌, Bool, true, false, arith, refl, ap, sym, subst, ◌∙◌, Some, None}
+use Rattle.std.proofs.Common.{◌≡◌, ◌==◌, not, nat_lt, ℕ, ◌+◌, ◌*◌, ◌≤◌, Bool, true, false, arith, refl, subst, Some, None}
 use Rattle.std.proofs.lemmas.Grind.{common_steps}
 use Rattle.std.specs.declared.option.Option.{Option}
 use Rattle.bz_machine.specs.declared.place.HelpStep.{HelpStep}
 use Rattle.bz_machine.specs.declared.place.Place.{Place}
 use Rattle.bz_machine.specs.declared.place.Place.TheVariants.{Idle, Prepare, Help}
 use Rattle.bz_machine.specs.declared.worker.Operation.{Operation}
-use Rattle.bz_machine.specs.declared.worker.Operation.TheVariants.{Nothing, Reading, Swapping}
+use Rattle.bz_machine.specs.declared.worker.Operation.TheVariants.{Swapping}
 use Rattle.bz_machine.specs.Budget.{open_count, open_above, walk_on, lags_back, detour_on, own_missing_by, left_at, left_by_others, for_walks, fresh_budget}
 use Rattle.bz_machine.specs.Budgets.{IsBounded}
 use Rattle.bz_machine.specs.Machine.{Entries, Memory}
-use Rattle.bz_machine.specs.Standing.{is_decided, is_through, top, is_open_at, is_open, scene_of}
+use Rattle.bz_machine.specs.Standing.{is_decided, is_through, top, is_open_at, scene_of}
 use Rattle.bz_machine.specs.State.{State}
 use Rattle.bz_machine.specs.Steps.{Local, is_own}
 use Rattle.bz_machine.proofs.BudgetBounds.{above-le, walk_on-le}

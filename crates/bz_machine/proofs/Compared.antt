@@ -1,5 +1,5 @@
 -- What the others have left in two memories, compared by what stands there.
-use Rattle.std.proofs.Common.{◌≡◌, ◌==◌, ◌&&◌, not, nat_lt, if◌then◌else◌, ℕ, suc, ◌+◌, ◌*◌, ◌<◌, ◌≤◌, Bool, true, false, arith, refl, ap, sym, subst, ◌∙◌, mul-le-mul_left}
+use Rattle.std.proofs.Common.{◌≡◌, ◌==◌, ◌&&◌, not, ℕ, ◌+◌, ◌*◌, ◌<◌, ◌≤◌, Bool, true, false, arith, refl, mul-le-mul_left}
 use Rattle.std.proofs.lemmas.Grind.{common_steps}
 use Rattle.bz_machine.specs.declared.place.HelpStep.{HelpStep}
 use Rattle.bz_machine.specs.declared.place.HelpStep.TheVariants.{LookUnderTag, InstallPointer, RemoveTag, FlushFinal, ClearFinal}
@@ -9,10 +9,10 @@ use Rattle.bz_machine.specs.declared.status.Verdict.{Verdict}
 use Rattle.bz_machine.specs.declared.worker.Operation.{Operation}
 use Rattle.bz_machine.specs.declared.worker.Operation.TheVariants.{Nothing, Reading, Swapping}
 use Rattle.bz_machine.specs.Allowed.{counted}
-use Rattle.bz_machine.specs.Budget.{open_count, open_above, is_over_at, is_swept, cleans_at, left_by_help, left_by_place, left_by, left_by_others, for_walks}
+use Rattle.bz_machine.specs.Budget.{open_count, is_over_at, is_swept, cleans_at, left_by_help, left_by_place, left_by, left_by_others, for_walks}
 use Rattle.bz_machine.specs.HelpActs.{final_value}
 use Rattle.bz_machine.specs.Machine.{Entries, Memory}
-use Rattle.bz_machine.specs.Standing.{is_pointer, stands_for, is_tag, is_dirty, is_decided, is_clean, pointers, is_through, missing, top, swap_of, is_open_by, is_open_at, is_open}
+use Rattle.bz_machine.specs.Standing.{is_pointer, stands_for, is_tag, is_dirty, is_clean, pointers, is_through, missing, top, swap_of, is_open_by, is_open_at, is_open}
 use Rattle.bz_machine.specs.Steps.{Local}
 use Rattle.bz_machine.proofs.Spends.{meets}
 use Rattle.bz_machine.proofs.Sums.{others-le, others-apart, apart-drop, others-drop, counted-implied, sum-less, greatest-less}

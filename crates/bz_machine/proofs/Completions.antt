@@ -1,6 +1,6 @@
 -- A worker that goes on to the next entry of a swap that is decided, or that has completed it, spends one.
-use Rattle.std.proofs.Common.{◌≡◌, ◌≢◌, ◌==◌, ◌&&◌, ◌||◌, not, if◌then◌else◌, ℕ, ◌+◌, ◌-◌, ◌*◌, ◌<◌, ◌≤◌, Bool, true, false, arith, refl, ap, sym, subst, ◌∙◌, Some, None}
-use Rattle.std.proofs.lemmas.Bool.{ltb-true, ltb-false}
+use Rattle.std.proofs.Common.{◌≡◌, ◌==◌, ◌&&◌, ◌||◌, not, if◌then◌else◌, ℕ, ◌+◌, ◌-◌, ◌*◌, ◌<◌, ◌≤◌, Bool, true, false, arith, refl, ap, sym, subst, ◌∙◌, Some, None}
+use Rattle.std.proofs.lemmas.Bool.{ltb-true}
 use Rattle.std.proofs.lemmas.Grind.{common_steps}
 use Rattle.std.specs.Prelude.{nat_lt}
 use Rattle.std.specs.declared.option.Option.{Option}
@@ -13,15 +13,13 @@ use Rattle.bz_machine.specs.declared.place.Place.TheVariants.{Idle, Learn, Help,
 use Rattle.bz_machine.specs.declared.status.Verdict.{Verdict}
 use Rattle.bz_machine.specs.declared.worker.Operation.{Operation}
 use Rattle.bz_machine.specs.declared.worker.Operation.TheVariants.{Nothing, Reading, Swapping}
-use Rattle.bz_machine.specs.Budget.{open_count, open_above, walk_home, walk_from, walk_back, walk_on, walk_at, if_any, reserve_by, lags, lags_back, detour_on, own_missing_by, left_in_help, is_over_at, is_swept, left_by_others, for_walks, fresh_budget}
+use Rattle.bz_machine.specs.Budget.{open_count, open_above, walk_home, walk_from, walk_back, walk_on, if_any, reserve_by, lags, lags_back, detour_on, left_in_help, is_over_at, left_by_others, fresh_budget}
 use Rattle.bz_machine.specs.Budgets.{IsBounded}
-use Rattle.bz_machine.specs.Machine.{Entries, Memory}
 use Rattle.bz_machine.specs.Owners.{RestsAt}
-use Rattle.bz_machine.specs.Sound.{IsEntry}
-use Rattle.bz_machine.specs.Standing.{Scene, is_tag, is_decided, is_through, scene_of}
+use Rattle.bz_machine.specs.Standing.{Scene, is_through, scene_of}
 use Rattle.bz_machine.specs.State.{State}
 use Rattle.bz_machine.specs.Steps.{Local, is_own, helping, resumed}
-use Rattle.bz_machine.proofs.Compared.{NoMore, no-more, open-less, walks-less}
+use Rattle.bz_machine.proofs.Compared.{no-more, open-less, walks-less}
 use Rattle.bz_machine.proofs.Finishing.{Finishing, Sweeps, with_cached, told-false, through-finishing, through-before, missing-finishing, lags-finishing, back-finishing, from-finishing, nothing-finishing}
 use Rattle.bz_machine.proofs.SpendPointers.{tag-told}
 use Rattle.bz_machine.proofs.Spends.{meets}

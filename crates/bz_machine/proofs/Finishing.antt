@@ -1,23 +1,21 @@
 -- An entry that holds its final value: what stands of the swap there is gone, and nothing else of any other swap.
-use Rattle.std.proofs.Common.{◌≡◌, ◌≢◌, ◌==◌, ◌&&◌, ◌||◌, not, nat_lt, if◌then◌else◌, ℕ, ◌+◌, ◌-◌, ◌*◌, ◌<◌, ◌≤◌, Bool, true, false, arith, refl, ap, sym, subst, ◌∙◌, Some, None}
-use Rattle.std.proofs.lemmas.Bool.{lt-ltb, ltb-true, ltb-false}
+use Rattle.std.proofs.Common.{◌≡◌, ◌==◌, ◌&&◌, not, nat_lt, if◌then◌else◌, ℕ, ◌*◌, ◌<◌, ◌≤◌, Bool, true, false, arith, refl, subst, Some, None}
+use Rattle.std.proofs.lemmas.Bool.{lt-ltb}
 use Rattle.std.proofs.lemmas.Grind.{common_steps}
 use Rattle.std.specs.declared.option.Option.{Option}
 use Rattle.bz_word.specs.declared.kind.WordKind.{WordKind}
 use Rattle.bz_machine.specs.declared.place.HelpStep.{HelpStep}
 use Rattle.bz_machine.specs.declared.place.Place.{Place}
 use Rattle.bz_machine.specs.declared.place.Place.TheVariants.{Help}
-use Rattle.bz_machine.specs.declared.status.Verdict.{Verdict}
 use Rattle.bz_machine.specs.declared.worker.Operation.{Operation}
-use Rattle.bz_machine.specs.Budget.{open_count, open_above, walk_home, walk_from, walk_back, walk_on, lags, lags_back, detour_on, is_over, is_over_at, is_swept, swept_in, cleans_at, cleans_in}
-use Rattle.bz_machine.specs.Budgets.{IsBounded}
+use Rattle.bz_machine.specs.Budget.{open_above, walk_from, lags, lags_back, is_over, is_over_at, is_swept, swept_in, cleans_in}
 use Rattle.bz_machine.specs.HelpActs.{final_value}
-use Rattle.bz_machine.specs.Machine.{Entries, Memory}
+use Rattle.bz_machine.specs.Machine.{Memory}
 use Rattle.bz_machine.specs.Standing.{is_pointer, stands_for, is_tag, is_dirty, is_decided, is_through, missing, top, scene_of}
 use Rattle.bz_machine.specs.State.{State}
 use Rattle.bz_machine.specs.Steps.{Local, is_own}
 use Rattle.bz_machine.proofs.Closings.{undecided-apart}
-use Rattle.bz_machine.proofs.Compared.{NoMore, open-less, through-stays, top-less}
+use Rattle.bz_machine.proofs.Compared.{NoMore, through-stays, top-less}
 use Rattle.bz_machine.proofs.Spends.{meets}
 use Rattle.bz_machine.proofs.Truths.{differ}
 use Rattle.bz_machine.proofs.Visits.{above-less, lags-implied, lt-between, missing-less}

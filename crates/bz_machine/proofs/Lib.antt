@@ -4,6 +4,7 @@ pub mod AgreeActs
 pub mod Alone
 pub mod Answered
 pub mod Asleep
+pub mod Bounded
 pub mod BudgetBounds
 pub mod BudgetStarts
 pub mod Change
@@ -33,6 +34,7 @@ pub mod Installs
 pub mod KeptFacts
 pub mod KeptKnowledge
 pub mod Learns
+pub mod LoneRuns
 pub mod Meets
 pub mod Misses
 pub mod NextEnds
@@ -62,6 +64,7 @@ pub mod SpendTags
 pub mod SpendTries
 pub mod Spends
 pub mod Stores
+pub mod SwapStarts
 pub mod TagHomes
 pub mod TagsHome
 pub mod Sums

@@ -1,28 +1,23 @@
 -- What a worker that meets another swap pays the visit by: the swaps between, the tag that stands there, or the detour.
-use Rattle.std.proofs.Common.{◌≡◌, ◌≢◌, ◌==◌, ◌&&◌, ◌||◌, not, nat_lt, if◌then◌else◌, ℕ, ◌+◌, ◌*◌, ◌<◌, ◌≤◌, Bool, true, false, arith, refl, ap, sym, subst, ◌∙◌, Some, None}
+use Rattle.std.proofs.Common.{◌≡◌, ◌≢◌, ◌==◌, ◌&&◌, not, nat_lt, ℕ, ◌+◌, ◌*◌, ◌≤◌, Bool, true, false, arith, refl, ap, sym, subst, ◌∙◌}
 use Rattle.std.proofs.lemmas.Bool.{lt-ltb, ltb-true}
 use Rattle.std.proofs.lemmas.Grind.{common_steps}
-use Rattle.std.specs.declared.option.Option.{Option}
-use Rattle.bz_word.specs.declared.kind.WordKind.{WordKind}
-use Rattle.bz_word.specs.declared.kind.WordKind.TheVariants.{Value, Dirty, Swap, Tag}
+use Rattle.bz_word.specs.declared.kind.WordKind.TheVariants.{Tag}
 use Rattle.bz_machine.specs.declared.place.HelpStep.{HelpStep}
 use Rattle.bz_machine.specs.declared.place.HelpStep.TheVariants.{LookUnderTag, InstallPointer, RemoveTag}
 use Rattle.bz_machine.specs.declared.place.Place.{Place}
-use Rattle.bz_machine.specs.declared.place.Place.TheVariants.{Idle, Learn, Help}
+use Rattle.bz_machine.specs.declared.place.Place.TheVariants.{Idle, Help}
 use Rattle.bz_machine.specs.declared.worker.Operation.{Operation}
-use Rattle.bz_machine.specs.declared.worker.Operation.TheVariants.{Nothing, Reading, Swapping}
 use Rattle.bz_machine.specs.Allowed.{counted}
-use Rattle.bz_machine.specs.Budget.{open_count, open_above, walk_from, walk_on, lags, lags_back, detour_on, is_over_at, is_swept, tag_stands, left_by_help, left_by_place, left_by, left_by_others}
+use Rattle.bz_machine.specs.Budget.{open_count, open_above, walk_on, is_over_at, is_swept, tag_stands, left_by_help, left_by_place, left_by, left_by_others}
 use Rattle.bz_machine.specs.Budgets.{IsBounded}
-use Rattle.bz_machine.specs.Machine.{Entries, Memory}
 use Rattle.bz_machine.specs.Progress.{GoesOnWith, IsAtTag, IsHome}
 use Rattle.bz_machine.specs.Standing.{Scene, is_tag, is_decided, is_through, top, swap_of, is_open, scene_of}
 use Rattle.bz_machine.specs.State.{State}
 use Rattle.bz_machine.specs.Steps.{Local, is_own}
-use Rattle.bz_machine.proofs.Compared.{NoMore, no-more, one-less}
+use Rattle.bz_machine.proofs.Compared.{NoMore, one-less}
 use Rattle.bz_machine.proofs.Openers.{Opener, busy-below}
 use Rattle.bz_machine.proofs.SpendTries.{same-tag}
-use Rattle.bz_machine.proofs.Spends.{meets}
 use Rattle.bz_machine.proofs.Sums.{others-drop, counted-implied, counted-and}
 use Rattle.bz_machine.proofs.Visits.{lt-self, walk-undecided, walk-decided}
 

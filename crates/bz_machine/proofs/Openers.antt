@@ -1,28 +1,26 @@
 -- A swap that is not through is unfinished by the worker that began it, and what stands of it can be met.
-use Rattle.std.proofs.Common.{◌≡◌, ◌≢◌, ◌==◌, ◌&&◌, not, nat_lt, if◌then◌else◌, ℕ, ◌+◌, ◌*◌, ◌<◌, ◌≤◌, Bool, true, false, arith, refl, ap, sym, subst, ◌∙◌, Some, None}
+use Rattle.std.proofs.Common.{◌≡◌, ◌≢◌, ◌==◌, ◌&&◌, not, nat_lt, ℕ, ◌+◌, ◌<◌, ◌≤◌, Bool, true, false, arith, refl, ap, sym, subst, ◌∙◌, Some, None}
 use Rattle.std.proofs.lemmas.Bool.{lt-ltb, ltb-true, ltb-false}
 use Rattle.std.proofs.lemmas.Grind.{common_steps}
 use Rattle.std.specs.declared.option.Option.{Option}
 use Rattle.bz_word.specs.declared.kind.WordKind.{WordKind}
 use Rattle.bz_word.specs.declared.kind.WordKind.TheVariants.{Value, Dirty, Swap, Tag}
 use Rattle.bz_machine.specs.declared.place.Place.{Place}
-use Rattle.bz_machine.specs.declared.place.Place.TheVariants.{Idle, Prepare, Help}
+use Rattle.bz_machine.specs.declared.place.Place.TheVariants.{Idle, Prepare}
 use Rattle.bz_machine.specs.declared.status.SwapStatus.{SwapStatus}
 use Rattle.bz_machine.specs.declared.status.SwapStatus.TheVariants.{Free, Undecided, Deciding, Decided}
 use Rattle.bz_machine.specs.declared.status.Verdict.{Verdict}
-use Rattle.bz_machine.specs.declared.worker.Operation.{Operation}
-use Rattle.bz_machine.specs.declared.worker.Operation.TheVariants.{Nothing, Reading, Swapping}
-use Rattle.bz_machine.specs.Allowed.{sum_below, counted}
+use Rattle.bz_machine.specs.declared.worker.Operation.TheVariants.{Nothing, Swapping}
+use Rattle.bz_machine.specs.Allowed.{counted}
 use Rattle.bz_machine.specs.Budgets.{IsBounded}
-use Rattle.bz_machine.specs.Ends.{IsClean, IsDone}
-use Rattle.bz_machine.specs.Fronts.{StandsFor, Rises}
+use Rattle.bz_machine.specs.Ends.{IsClean}
+use Rattle.bz_machine.specs.Fronts.{StandsFor}
 use Rattle.bz_machine.specs.Knows.{AtPlace}
-use Rattle.bz_machine.specs.Machine.{Entries, Memory}
 use Rattle.bz_machine.specs.Owners.{RestsAt}
 use Rattle.bz_machine.specs.Sound.{Follows, IsTarget, IsEntry}
 use Rattle.bz_machine.specs.Standing.{is_pointer, stands_for, is_decided, is_clean, pointers, is_through, top, is_open_at, is_open, scene_of}
 use Rattle.bz_machine.specs.State.{State}
-use Rattle.bz_machine.specs.Steps.{Local, is_own}
+use Rattle.bz_machine.specs.Steps.{is_own}
 use Rattle.bz_machine.proofs.Sums.{sum-at, sum-none, greatest-ge, greatest-le}
 use Rattle.bz_machine.proofs.Truths.{differ}
 

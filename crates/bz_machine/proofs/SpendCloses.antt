@@ -1,30 +1,27 @@
 -- A worker that clears the dirty bit of a swap's status, or puts a final value for its pointer, spends one, also where the swap is through then.
-use Rattle.std.proofs.Common.{◌≡◌, ◌≢◌, ◌==◌, ◌&&◌, not, nat_lt, if◌then◌else◌, ℕ, ◌+◌, ◌-◌, ◌*◌, ◌<◌, ◌≤◌, Bool, true, false, arith, refl, ap, sym, subst, ◌∙◌}
+use Rattle.std.proofs.Common.{◌≡◌, ◌==◌, ◌&&◌, if◌then◌else◌, ℕ, ◌+◌, ◌-◌, ◌*◌, ◌<◌, ◌≤◌, Bool, true, false, arith, refl, ap, subst}
 use Rattle.std.proofs.lemmas.Grind.{common_steps}
-use Rattle.bz_word.specs.declared.kind.WordKind.{WordKind}
-use Rattle.bz_word.specs.declared.kind.WordKind.TheVariants.{Value, Dirty, Swap, Tag}
+use Rattle.bz_word.specs.declared.kind.WordKind.TheVariants.{Dirty, Swap}
 use Rattle.bz_machine.specs.declared.place.HelpStep.TheVariants.{ClearStatus, PutFinal, FlushFinal}
-use Rattle.bz_machine.specs.declared.place.Next.TheVariants.{Step}
 use Rattle.bz_machine.specs.declared.place.Place.TheVariants.{Help}
 use Rattle.bz_machine.specs.declared.status.SwapStatus.{SwapStatus}
 use Rattle.bz_machine.specs.declared.status.SwapStatus.TheVariants.{Free, Undecided, Deciding, Decided}
 use Rattle.bz_machine.specs.declared.status.Verdict.{Verdict}
 use Rattle.bz_machine.specs.declared.status.Verdict.TheVariants.{Succeeded, Failed}
-use Rattle.bz_machine.specs.Budget.{is_over_at, is_swept, cleans_at, budget_at, fresh_budget}
+use Rattle.bz_machine.specs.Budget.{is_over_at, is_swept, budget_at, fresh_budget}
 use Rattle.bz_machine.specs.Budgets.{IsBounded}
 use Rattle.bz_machine.specs.Changes.{put, with_word, with_status}
-use Rattle.bz_machine.specs.HelpActs.{final_value, finished, cleared_status}
-use Rattle.bz_machine.specs.Machine.{Entries, Memory, entries_in}
+use Rattle.bz_machine.specs.HelpActs.{final_value, cleared_status}
+use Rattle.bz_machine.specs.Machine.{Entries, Memory}
 use Rattle.bz_machine.specs.Standing.{is_pointer, stands_for, is_tag, is_dirty, is_decided, is_clean, is_through, missing, top, scene_of}
 use Rattle.bz_machine.specs.State.{State}
 use Rattle.bz_machine.specs.Steps.{Local}
 use Rattle.bz_machine.proofs.Closings.{Closing, closing-falls}
 use Rattle.bz_machine.proofs.Compared.{NoMore, no-more, through-stays, top-less}
 use Rattle.bz_machine.proofs.Openers.{pointer-unfinished}
-use Rattle.bz_machine.proofs.SpendStale.{Owes}
 use Rattle.bz_machine.proofs.Spends.{meets, Spends, here-falls}
 use Rattle.bz_machine.proofs.Truths.{differ}
-use Rattle.bz_machine.proofs.Visits.{put-implied, put-told, undecided-through, unclean-through, not-over, lt-between, missing-less, own-less}
+use Rattle.bz_machine.proofs.Visits.{put-implied, put-told, unclean-through, not-over, lt-between, missing-less, own-less}
 
 -- the status of a decided swap becomes clean
 abbrev cleaned : Memory → ℕ → Verdict → Memory

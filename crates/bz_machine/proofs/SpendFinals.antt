@@ -1,5 +1,5 @@
 -- The acts that leave an entry its final value, or find it there, spend one: then the next entry is due, or the swap is complete.
-use Rattle.std.proofs.Common.{◌≡◌, ◌≢◌, ◌==◌, ◌&&◌, not, if◌then◌else◌, ℕ, ◌+◌, ◌-◌, ◌*◌, ◌<◌, ◌≤◌, Bool, true, false, arith, refl, ap, sym, subst, ◌∙◌, Some, None}
+use Rattle.std.proofs.Common.{◌≡◌, ◌≢◌, ◌==◌, if◌then◌else◌, ℕ, ◌+◌, ◌-◌, ◌*◌, ◌<◌, ◌≤◌, Bool, true, false, arith, refl, ap, sym, subst, ◌∙◌, Some, None}
 use Rattle.std.proofs.lemmas.Bool.{ltb-true, ltb-false}
 use Rattle.std.proofs.lemmas.Grind.{common_steps}
 use Rattle.std.specs.Prelude.{nat_lt}
@@ -8,8 +8,7 @@ use Rattle.bz_word.specs.declared.kind.WordKind.{WordKind}
 use Rattle.bz_word.specs.declared.kind.WordKind.TheVariants.{Value, Dirty, Swap, Tag}
 use Rattle.bz_machine.specs.declared.done.Done.TheVariants.{Busy, Swapped}
 use Rattle.bz_machine.specs.declared.place.HelpStep.{HelpStep}
-use Rattle.bz_machine.specs.declared.place.HelpStep.TheVariants.{PutFinal, FlushFinal, ClearFinal, SweepTag}
-use Rattle.bz_machine.specs.declared.place.Next.{Next}
+use Rattle.bz_machine.specs.declared.place.HelpStep.TheVariants.{PutFinal, ClearFinal, SweepTag}
 use Rattle.bz_machine.specs.declared.place.Next.TheVariants.{Step, Complete}
 use Rattle.bz_machine.specs.declared.place.Place.TheVariants.{Help}
 use Rattle.bz_machine.specs.declared.status.SwapStatus.{SwapStatus}
@@ -20,24 +19,22 @@ use Rattle.bz_machine.specs.declared.worker.Operation.TheVariants.{Nothing, Read
 use Rattle.bz_machine.specs.Agrees.{agree-spell}
 use Rattle.bz_machine.specs.Budget.{left_in_help, swept_in, cleans_in, fresh_budget, is_fresh_at, budget_at}
 use Rattle.bz_machine.specs.Budgets.{IsBounded}
-use Rattle.bz_machine.specs.Changes.{put, with_word, with_answer}
+use Rattle.bz_machine.specs.Changes.{put, with_answer}
 use Rattle.bz_machine.specs.Ends.{IsClean, IsLast, IsBehind, IsInLast, HasBehind}
-use Rattle.bz_machine.specs.HelpActs.{After, final_value, finished, cleared_word, after_put_final, help_act}
-use Rattle.bz_machine.specs.Knows.{AtPlace, Spell}
-use Rattle.bz_machine.specs.Machine.{Entries, Memory, entries_in}
+use Rattle.bz_machine.specs.HelpActs.{final_value, finished, cleared_word, help_act}
+use Rattle.bz_machine.specs.Knows.{AtPlace}
+use Rattle.bz_machine.specs.Machine.{entries_in}
 use Rattle.bz_machine.specs.Standing.{is_pointer, stands_for, is_tag, is_dirty, is_decided, is_through, Scene, scene_of}
 use Rattle.bz_machine.specs.State.{State}
 use Rattle.bz_machine.specs.Steps.{Local, Stepped, is_own, is_success, answers, resumed, completed, after_help}
 use Rattle.bz_machine.proofs.AgreeActs.{help_act-agrees}
 use Rattle.bz_machine.proofs.Completions.{next-falls, answer-falls, resume-falls}
-use Rattle.bz_machine.proofs.Finishing.{Finishing, with_cached, told-false}
+use Rattle.bz_machine.proofs.Finishing.{Finishing, with_cached}
 use Rattle.bz_machine.proofs.Openers.{through-done}
 use Rattle.bz_machine.proofs.SpendClears.{dirty-told, cleared-to, cleared-same}
-use Rattle.bz_machine.proofs.SpendCloses.{put-falls}
 use Rattle.bz_machine.proofs.SpendPointers.{tag-told}
 use Rattle.bz_machine.proofs.SpendStale.{Owes, untag-after}
-use Rattle.bz_machine.proofs.Spends.{meets, Spends, fresh-falls, here-falls}
-use Rattle.bz_machine.proofs.Through.{same-entry}
+use Rattle.bz_machine.proofs.Spends.{meets, Spends}
 use Rattle.bz_machine.proofs.Truths.{differ}
 use Rattle.bz_machine.proofs.Visits.{put-implied, put-told, put-at}
 

@@ -1,5 +1,5 @@
 -- The try of an entry spends one, whatever stands there: also where another swap stands in the way.
-use Rattle.std.proofs.Common.{◌≡◌, ◌≢◌, ◌==◌, not, if◌then◌else◌, ℕ, ◌+◌, ◌*◌, ◌<◌, ◌≤◌, Bool, true, false, arith, refl, ap, sym, subst, ◌∙◌}
+use Rattle.std.proofs.Common.{◌≡◌, ◌==◌, not, if◌then◌else◌, ℕ, ◌+◌, ◌*◌, ◌<◌, ◌≤◌, Bool, true, false, arith, refl, ap, sym, subst, ◌∙◌}
 use Rattle.std.proofs.lemmas.Grind.{common_steps}
 use Rattle.bz_word.specs.declared.kind.WordKind.{WordKind}
 use Rattle.bz_word.specs.declared.kind.WordKind.TheVariants.{Value, Dirty, Swap, Tag}
@@ -14,9 +14,9 @@ use Rattle.bz_machine.specs.Budgets.{IsBounded}
 use Rattle.bz_machine.specs.HelpActs.{passed}
 use Rattle.bz_machine.specs.Knows.{AtPlace}
 use Rattle.bz_machine.specs.Machine.{entries_in}
-use Rattle.bz_machine.specs.Standing.{stands_for, is_decided, is_through, top, scene_of}
+use Rattle.bz_machine.specs.Standing.{stands_for, is_decided, is_through, scene_of}
 use Rattle.bz_machine.specs.State.{State}
-use Rattle.bz_machine.specs.Steps.{Local, meeting, read_act}
+use Rattle.bz_machine.specs.Steps.{meeting, read_act}
 use Rattle.bz_machine.proofs.Openers.{undecided-told, met-published, meets-higher, pointer-unfinished}
 use Rattle.bz_machine.proofs.SpendDecides.{falls-to}
 use Rattle.bz_machine.proofs.SpendMeets.{meet-falls, read-falls}

@@ -1,10 +1,9 @@
 -- A worker that meets another swap, on its way through a swap or in a read, spends one.
-use Rattle.std.proofs.Common.{◌≡◌, ◌≢◌, ◌==◌, ◌&&◌, ◌||◌, not, nat_lt, if◌then◌else◌, ℕ, ◌+◌, ◌-◌, ◌*◌, ◌<◌, ◌≤◌, Bool, true, false, arith, refl, ap, sym, subst, ◌∙◌, Some, None}
+use Rattle.std.proofs.Common.{◌≡◌, ◌==◌, ◌&&◌, ◌||◌, not, nat_lt, if◌then◌else◌, ℕ, ◌+◌, ◌-◌, ◌*◌, ◌<◌, ◌≤◌, Bool, true, false, arith, refl, ap, sym, subst, Some, None}
 use Rattle.std.proofs.lemmas.Bool.{le-ltb}
 use Rattle.std.proofs.lemmas.Grind.{common_steps}
 use Rattle.std.specs.declared.option.Option.{Option}
-use Rattle.bz_word.specs.declared.kind.WordKind.{WordKind}
-use Rattle.bz_word.specs.declared.kind.WordKind.TheVariants.{Value, Dirty, Swap, Tag}
+use Rattle.bz_word.specs.declared.kind.WordKind.TheVariants.{Tag}
 use Rattle.bz_machine.specs.declared.place.HelpStep.TheVariants.{InstallTag}
 use Rattle.bz_machine.specs.declared.place.Place.{Place}
 use Rattle.bz_machine.specs.declared.place.Place.TheVariants.{Learn, Help, ReadWord}
@@ -13,14 +12,13 @@ use Rattle.bz_machine.specs.declared.worker.Operation.TheVariants.{Nothing, Read
 use Rattle.bz_machine.specs.Budget.{open_count, open_above, walk_home, walk_from, walk_back, walk_on, if_any, reserve_by, lags, lags_back, detour_on, is_over, is_over_at, is_swept, cleans_at, left_by_others, for_walks, fresh_budget}
 use Rattle.bz_machine.specs.Budgets.{IsBounded}
 use Rattle.bz_machine.specs.HelpActs.{final_value}
-use Rattle.bz_machine.specs.Progress.{IsAtTag}
-use Rattle.bz_machine.specs.Standing.{stands_for, is_decided, is_clean, pointers, is_through, top, scene_of}
+use Rattle.bz_machine.specs.Standing.{is_decided, is_through, top, scene_of}
 use Rattle.bz_machine.specs.State.{State}
 use Rattle.bz_machine.specs.Steps.{Local, is_own, helping, meeting}
 use Rattle.bz_machine.proofs.Compared.{NoMore, no-more}
 use Rattle.bz_machine.proofs.Meets.{lt-trans, above-count, above-above, walk-under, tag-pays}
-use Rattle.bz_machine.proofs.Openers.{Opener, opener, met-published, pointer-unfinished, meets-higher}
-use Rattle.bz_machine.proofs.Visits.{clean-decided, undecided-through, not-over, lt-self, walk-own, walk-undecided, walk-through, detour-if}
+use Rattle.bz_machine.proofs.Openers.{Opener, opener}
+use Rattle.bz_machine.proofs.Visits.{undecided-through, not-over, lt-self, walk-own, walk-undecided, walk-through}
 
 -- no more is counted in a visit that has just begun
 begun-less : (x : State) (w : ℕ) (l k : Local) (p : Place) → ((s i : ℕ) → is_swept (is_over_at (scene_of x) l p) l p s i ≡ false) → ((a v : ℕ) → cleans_at (scene_of x) l.current p a v ≡ false) → NoMore x.entries x.local x.memory x.memory w l k p (Learn 0)

@@ -1,25 +1,24 @@
 -- A worker that changes a tag of an undecided swap to the pointer spends one: the swap misses a pointer less.
-use Rattle.std.proofs.Common.{◌≡◌, ◌≢◌, ◌==◌, ◌&&◌, not, nat_lt, if◌then◌else◌, ℕ, ◌+◌, ◌-◌, ◌*◌, ◌<◌, ◌≤◌, Bool, true, false, arith, refl, ap, sym, subst, ◌∙◌}
+use Rattle.std.proofs.Common.{◌≡◌, ◌==◌, ◌&&◌, not, nat_lt, if◌then◌else◌, ℕ, ◌+◌, ◌*◌, ◌<◌, ◌≤◌, Bool, true, false, arith, refl, ap, sym, subst, ◌∙◌}
 use Rattle.std.proofs.lemmas.Grind.{common_steps}
 use Rattle.bz_word.specs.declared.kind.WordKind.{WordKind}
 use Rattle.bz_word.specs.declared.kind.WordKind.TheVariants.{Value, Dirty, Swap, Tag}
 use Rattle.bz_machine.specs.declared.place.HelpStep.{HelpStep}
 use Rattle.bz_machine.specs.declared.place.HelpStep.TheVariants.{InstallTag, InstallPointer, FlushTarget}
 use Rattle.bz_machine.specs.declared.place.Next.TheVariants.{Step}
-use Rattle.bz_machine.specs.declared.place.Place.{Place}
-use Rattle.bz_machine.specs.declared.place.Place.TheVariants.{Idle, Prepare, Help}
+use Rattle.bz_machine.specs.declared.place.Place.TheVariants.{Help}
 use Rattle.bz_machine.specs.declared.worker.Operation.{Operation}
 use Rattle.bz_machine.specs.declared.worker.Operation.TheVariants.{Nothing, Reading, Swapping}
-use Rattle.bz_machine.specs.Allowed.{sum_below, counted}
-use Rattle.bz_machine.specs.Budget.{open_count, own_missing_by, is_over_at, is_swept, left_at, left_by_place, left_by, left_by_others, fresh_budget, is_fresh_at}
+use Rattle.bz_machine.specs.Allowed.{counted}
+use Rattle.bz_machine.specs.Budget.{own_missing_by, is_over_at, is_swept, left_at, left_by_others, fresh_budget, is_fresh_at}
 use Rattle.bz_machine.specs.Budgets.{IsBounded}
 use Rattle.bz_machine.specs.Changes.{with_word}
 use Rattle.bz_machine.specs.HelpActs.{final_value, passed}
 use Rattle.bz_machine.specs.Machine.{Entries, Memory, entries_in}
-use Rattle.bz_machine.specs.Standing.{is_pointer, stands_for, is_tag, is_dirty, is_decided, is_through, missing, top, swap_of, is_open_at, is_open, scene_of}
+use Rattle.bz_machine.specs.Standing.{is_pointer, stands_for, is_tag, is_dirty, is_decided, is_through, missing, top, swap_of, scene_of}
 use Rattle.bz_machine.specs.State.{State}
 use Rattle.bz_machine.specs.Steps.{Local, is_own}
-use Rattle.bz_machine.proofs.Compared.{NoMore, no-more, one-less, place-le, open-implied, open-less, through-stays, top-less}
+use Rattle.bz_machine.proofs.Compared.{NoMore, no-more, one-less, place-le, open-less, through-stays, top-less}
 use Rattle.bz_machine.proofs.Openers.{Opener, opener}
 use Rattle.bz_machine.proofs.SpendDecides.{falls-to}
 use Rattle.bz_machine.proofs.SpendStale.{Owes, untag-after}

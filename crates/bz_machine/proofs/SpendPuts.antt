@@ -1,5 +1,5 @@
 -- The try of the last phase at an entry spends one, whatever stands there.
-use Rattle.std.proofs.Common.{◌≡◌, ◌≢◌, ◌==◌, if◌then◌else◌, ℕ, ◌+◌, ◌-◌, ◌*◌, ◌<◌, ◌≤◌, Bool, true, false, arith, refl, ap, sym, subst, ◌∙◌}
+use Rattle.std.proofs.Common.{◌≡◌, ◌==◌, if◌then◌else◌, ℕ, ◌<◌, Bool, true, false, arith, refl, ap, subst, ◌∙◌}
 use Rattle.std.proofs.lemmas.Grind.{common_steps}
 use Rattle.bz_word.specs.declared.kind.WordKind.{WordKind}
 use Rattle.bz_word.specs.declared.kind.WordKind.TheVariants.{Value, Dirty, Swap, Tag}
@@ -9,12 +9,11 @@ use Rattle.bz_machine.specs.declared.place.Place.TheVariants.{Help}
 use Rattle.bz_machine.specs.declared.status.Verdict.{Verdict}
 use Rattle.bz_machine.specs.Budgets.{IsBounded}
 use Rattle.bz_machine.specs.Changes.{with_word}
-use Rattle.bz_machine.specs.HelpActs.{After, final_value, finished, after_put_final}
+use Rattle.bz_machine.specs.HelpActs.{final_value, finished, after_put_final}
 use Rattle.bz_machine.specs.Knows.{AtPlace}
 use Rattle.bz_machine.specs.Sound.{IsEntry}
 use Rattle.bz_machine.specs.Standing.{is_pointer, is_tag, scene_of}
 use Rattle.bz_machine.specs.State.{State}
-use Rattle.bz_machine.specs.Steps.{Local}
 use Rattle.bz_machine.proofs.SpendCloses.{put-falls}
 use Rattle.bz_machine.proofs.SpendFinals.{Last, last-at, is-clean, clean-settled, by-entries, same-words, finished-falls, swap-not}
 use Rattle.bz_machine.proofs.SpendStale.{Owes}

@@ -1,5 +1,5 @@
 -- A store to a private word spends one: nobody meets such a word.
-use Rattle.std.proofs.Common.{◌≡◌, ◌==◌, ◌&&◌, if◌then◌else◌, ℕ, ◌+◌, ◌≤◌, Bool, true, false, arith, refl, ap, sym, subst, ◌∙◌}
+use Rattle.std.proofs.Common.{◌≡◌, ℕ, ◌+◌, ◌≤◌, Bool, false, arith, refl, ap, sym, subst, ◌∙◌}
 use Rattle.bz_word.specs.declared.kind.WordKind.{WordKind}
 use Rattle.bz_word.specs.declared.kind.WordKind.TheVariants.{Value, Dirty, Swap, Tag}
 use Rattle.bz_machine.specs.declared.place.Place.TheVariants.{Idle, StoreWord}

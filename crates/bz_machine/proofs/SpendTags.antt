@@ -1,22 +1,18 @@
 -- A worker that puts its tag for the expected value spends one: the swap reaches higher, and a worker's own tags do not count.
-use Rattle.std.proofs.Common.{◌≡◌, ◌==◌, ◌&&◌, not, nat_lt, if◌then◌else◌, ℕ, ◌+◌, ◌-◌, ◌*◌, ◌<◌, ◌≤◌, Bool, true, false, arith, refl, ap, sym, subst, ◌∙◌, Some, None}
+use Rattle.std.proofs.Common.{◌≡◌, ◌==◌, not, nat_lt, if◌then◌else◌, ℕ, ◌+◌, ◌-◌, ◌*◌, ◌≤◌, Bool, true, false, arith, refl, ap, sym, subst, ◌∙◌}
 use Rattle.std.proofs.lemmas.Grind.{common_steps}
-use Rattle.std.specs.declared.option.Option.{Option}
 use Rattle.bz_word.specs.declared.kind.WordKind.{WordKind}
-use Rattle.bz_word.specs.declared.kind.WordKind.TheVariants.{Value, Dirty, Swap, Tag}
+use Rattle.bz_word.specs.declared.kind.WordKind.TheVariants.{Value, Tag}
 use Rattle.bz_machine.specs.declared.place.HelpStep.TheVariants.{InstallTag, LookUnderTag, Decide}
 use Rattle.bz_machine.specs.declared.place.Next.TheVariants.{Step}
 use Rattle.bz_machine.specs.declared.place.Place.TheVariants.{Help}
-use Rattle.bz_machine.specs.declared.status.Verdict.{Verdict}
 use Rattle.bz_machine.specs.declared.status.Verdict.TheVariants.{Failed}
-use Rattle.bz_machine.specs.declared.worker.Operation.{Operation}
-use Rattle.bz_machine.specs.declared.worker.Operation.TheVariants.{Swapping}
-use Rattle.bz_machine.specs.Budget.{open_count, open_above, walk_on, lags_back, is_fresh_at, is_over_at, is_swept, budget_at, fresh_budget}
-use Rattle.bz_machine.specs.Changes.{put, with_tag, with_miss}
-use Rattle.bz_machine.specs.HelpActs.{After, final_value}
-use Rattle.bz_machine.specs.Machine.{Entries, Memory, entries_in}
+use Rattle.bz_machine.specs.Budget.{is_fresh_at, is_over_at, is_swept, fresh_budget}
+use Rattle.bz_machine.specs.Changes.{with_tag, with_miss}
+use Rattle.bz_machine.specs.HelpActs.{final_value}
+use Rattle.bz_machine.specs.Machine.{Entries, Memory}
 use Rattle.bz_machine.specs.Standing.{is_pointer, stands_for, is_tag, is_dirty, is_decided, is_through, missing, top}
-use Rattle.bz_machine.specs.Steps.{Local, is_own, after_help}
+use Rattle.bz_machine.specs.Steps.{Local}
 use Rattle.bz_machine.proofs.Compared.{NoMore, no-more, open-less, through-stays, top-less}
 use Rattle.bz_machine.proofs.SpendDecides.{falls-to}
 use Rattle.bz_machine.proofs.SpendTries.{Done, Tried, both, same-tag}

@@ -1,5 +1,5 @@
 -- What a visit costs in two memories, compared: the walk that is still to come, the detour, and all together.
-use Rattle.std.proofs.Common.{◌≡◌, ◌==◌, ◌&&◌, ◌||◌, not, nat_lt, if◌then◌else◌, ℕ, ◌+◌, ◌*◌, ◌<◌, ◌≤◌, Bool, true, false, arith, refl, ap, sym, subst, ◌∙◌, Some, None}
+use Rattle.std.proofs.Common.{◌≡◌, ◌==◌, ◌&&◌, ◌||◌, not, nat_lt, if◌then◌else◌, ℕ, ◌+◌, ◌*◌, ◌<◌, ◌≤◌, Bool, true, false, arith, refl, sym, subst, ◌∙◌, Some, None}
 use Rattle.std.proofs.lemmas.Bool.{lt-ltb, ltb-true}
 use Rattle.std.proofs.lemmas.Grind.{common_steps}
 use Rattle.std.specs.declared.option.Option.{Option}
@@ -10,7 +10,7 @@ use Rattle.bz_machine.specs.declared.status.SwapStatus.TheVariants.{Free, Undeci
 use Rattle.bz_machine.specs.declared.worker.Operation.{Operation}
 use Rattle.bz_machine.specs.declared.worker.Operation.TheVariants.{Nothing, Reading, Swapping}
 use Rattle.bz_machine.specs.Allowed.{sum_below, counted}
-use Rattle.bz_machine.specs.Budget.{open_count, open_above, walk_home, walk_from, walk_back, walk_on, walk_at, reserve, lags, lags_back, detour_on, detour, own_missing_by, own_missing, left_at, left_by_others, is_over, for_walks, fresh_budget}
+use Rattle.bz_machine.specs.Budget.{open_count, open_above, walk_back, walk_on, walk_at, reserve, lags, lags_back, detour_on, detour, own_missing_by, own_missing, left_at, left_by_others, is_over, for_walks, fresh_budget}
 use Rattle.bz_machine.specs.Changes.{put}
 use Rattle.bz_machine.specs.Machine.{Entries, Memory}
 use Rattle.bz_machine.specs.Standing.{Scene, is_pointer, is_decided, is_clean, is_through, missing, top, swap_of, is_open}

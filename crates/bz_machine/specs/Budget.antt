@@ -14,11 +14,52 @@ use Rattle.bz_machine.specs.HelpActs.{final_value}
 use Rattle.bz_machine.specs.State.{State}
 use Rattle.bz_machine.specs.Steps.{Local, is_own}
 use Rattle.bz_machine.specs.Allowed.{sum_below, counted, is_busy, for_worker}
+use Rattle.bz_machine.specs.Sizes.{most_entries, descriptor_words}
 use Rattle.bz_machine.specs.Standing.{Scene, scene_of, target_at, is_through, missing, top, swap_of, is_open_at, is_open}
 
 -- a visit that ends by meeting another swap: thirteen words to learn, the status, and four entries
 abbrev pub level : ℕ
 level = 18
+
+abbrev pub half_level : ℕ
+half_level = 9
+
+-- what the first visit of a walk takes beyond its level
+abbrev pub for_first : ℕ
+for_first = 20
+
+-- a visit to a swap that is through, which sweeps its tags; the visit back that follows; and both, to a tag that is met
+abbrev pub for_sweep : ℕ
+for_sweep = 37
+
+abbrev pub for_return : ℕ
+for_return = 38
+
+abbrev pub for_tag : ℕ
+for_tag = 80
+
+-- a visit that comes by the own swap, on the way to a higher one
+abbrev pub for_detour : ℕ
+for_detour = 40
+
+-- a pointer that a swap has yet to put
+abbrev pub for_pointer : ℕ
+for_pointer = 2
+
+-- a dirty value: its flush, a compare-and-swap, and the act again
+abbrev pub for_dirty : ℕ
+for_dirty = 3
+
+-- a swap that is completed, beside the walk along those that are left
+abbrev pub for_close : ℕ
+for_close = 100
+
+-- what w goes by no longer holds: more than any budget without what the others allow; and each entry that it may yet try
+abbrev pub for_stale : ℕ
+for_stale = 400
+
+abbrev pub for_stale_entry : ℕ
+for_stale_entry = 20
 
 -- the sum over the workers other than w, of so many
 abbrev pub sum_others : ℕ → (ℕ → ℕ) → ℕ → ℕ
@@ -41,7 +82,7 @@ walk_from x above s = if x.decided s then 0 else level * above s
 
 abbrev pub walk_back : Scene → ℕ → (ℕ → ℕ) → Local → Option ℕ → ℕ
 walk_back x u above l None = walk_home u
-walk_back x u above l (Some b) = if is_own l.operation b || is_through x b then walk_home u + 38 else walk_from x above b
+walk_back x u above l (Some b) = if is_own l.operation b || is_through x b then walk_home u + for_return else walk_from x above b
 
 -- the current swap is another's, and through
 abbrev pub is_over : Scene → Local → Bool
@@ -50,7 +91,7 @@ is_over x l = not (is_own l.operation l.current) && is_through x l.current
 abbrev pub walk_on : Scene → ℕ → (ℕ → ℕ) → Local → ℕ
 walk_on x u above l =
     if is_own l.operation l.current then walk_home u
-    else if is_through x l.current then walk_back x u above l l.back + 37
+    else if is_through x l.current then walk_back x u above l l.back + for_sweep
     else walk_from x above l.current
 
 abbrev pub walk_at : Scene → ℕ → (ℕ → ℕ) → Local → Place → ℕ
@@ -60,12 +101,12 @@ walk_at x u above l place = walk_home u
 
 -- kept for the first visit of the next walk
 abbrev pub if_any : ℕ → ℕ
-if_any u = if u == 0 then 0 else 20
+if_any u = if u == 0 then 0 else for_first
 
 abbrev pub reserve_by : Operation → ℕ → ℕ
 reserve_by Nothing k = k
 reserve_by (Reading a) k = k
-reserve_by (Swapping s) k = 20
+reserve_by (Swapping s) k = for_first
 
 abbrev pub reserve : Place → Operation → ℕ → ℕ
 reserve Idle o u = if_any u
@@ -85,7 +126,7 @@ lags_back x o (Some b) = lags x o b
 
 abbrev pub detour_on : Scene → ℕ → Local → ℕ
 detour_on x u l =
-    if not (is_own l.operation l.current) && (lags x l.operation l.current || lags_back x l.operation l.back) then level * u + 40
+    if not (is_own l.operation l.current) && (lags x l.operation l.current || lags_back x l.operation l.back) then level * u + for_detour
     else 0
 
 abbrev pub detour : Scene → ℕ → Local → Place → ℕ
@@ -97,7 +138,7 @@ detour x u l place = 0
 abbrev pub own_missing_by : Scene → Operation → ℕ
 own_missing_by x Nothing = 0
 own_missing_by x (Reading a) = 0
-own_missing_by x (Swapping s) = 2 * missing x s
+own_missing_by x (Swapping s) = for_pointer * missing x s
 
 abbrev pub own_missing : Scene → Place → Operation → ℕ
 own_missing x Idle o = 0
@@ -105,24 +146,24 @@ own_missing x place o = own_missing_by x o
 
 -- the acts left in this visit, where nothing stands in the way
 abbrev pub left_in_prepare : PrepareStep → ℕ
-left_in_prepare (WriteWord k) = 27 + (13 - k)
+left_in_prepare (WriteWord k) = 27 + (descriptor_words - k)
 left_in_prepare WriteStatus = 27
 left_in_prepare FlushHead = 26
 left_in_prepare FlushTail = 25
 
 abbrev pub left_in_help : HelpStep → ℕ
 left_in_help Look = 24
-left_in_help (InstallTag i) = 19 + (4 - i)
-left_in_help (LookUnderTag i v q) = 18 + (4 - i)
-left_in_help (InstallPointer i v q) = 17 + (4 - i)
+left_in_help (InstallTag i) = 19 + (most_entries - i)
+left_in_help (LookUnderTag i v q) = 18 + (most_entries - i)
+left_in_help (InstallPointer i v q) = 17 + (most_entries - i)
 left_in_help (RemoveTag i v q) = 0
-left_in_help (FlushDirty i v) = 18 + (4 - i)
-left_in_help (ClearDirty i v) = 17 + (4 - i)
-left_in_help (FlushTarget i) = 15 + (4 - i)
+left_in_help (FlushDirty i v) = 18 + (most_entries - i)
+left_in_help (ClearDirty i v) = 17 + (most_entries - i)
+left_in_help (FlushTarget i) = 15 + (most_entries - i)
 left_in_help (Decide d) = 15
 left_in_help (FlushStatus d) = 14
 left_in_help (ClearStatus d) = 13
-left_in_help (PutFinal i d) = 3 * (4 - i)
+left_in_help (PutFinal i d) = 3 * (most_entries - i)
 left_in_help (FlushFinal i d) = 2 + 3 * (3 - i)
 left_in_help (ClearFinal i d) = 1 + 3 * (3 - i)
 left_in_help (SweepTag i d v q) = 2 + 3 * (3 - i)
@@ -130,7 +171,7 @@ left_in_help (SweepTag i d v q) = 2 + 3 * (3 - i)
 abbrev pub left_at : Place → ℕ
 left_at Idle = 0
 left_at (Prepare step) = left_in_prepare step
-left_at (Learn k) = 24 + (13 - k)
+left_at (Learn k) = 24 + (descriptor_words - k)
 left_at (Help step) = left_in_help step
 left_at (ReadWord a) = 2
 left_at (FlushRead a v) = 1
@@ -164,10 +205,10 @@ is_over_at x l place = is_visit place && is_over x l
 abbrev pub is_swept : Bool → Local → Place → ℕ → ℕ → Bool
 is_swept over l place s i = over && ((s == l.current) && not (nat_lt i (swept_from place)))
 
--- a tag of worker v, which is k, that stands: a visit to its swap, and the visit back
+-- a tag of worker v, which is k, that stands
 abbrev pub tag_stands : Scene → Bool → Local → Place → ℕ → Local → ℕ → ℕ → ℕ → ℕ
 tag_stands x over l place v k i u q =
-    counted ((u == v) && (x.tag (target_at x k.current i) k.current i v q && not (is_swept over l place k.current i))) 80
+    counted ((u == v) && (x.tag (target_at x k.current i) k.current i v q && not (is_swept over l place k.current i))) for_tag
 
 abbrev pub cleans_in : Scene → ℕ → HelpStep → ℕ → ℕ → Bool
 cleans_in x s (FlushFinal i d) a v = ((x.entries s).target i == a) && (final_value (x.entries s) i d == v)
@@ -179,10 +220,10 @@ abbrev pub cleans_at : Scene → ℕ → Place → ℕ → ℕ → Bool
 cleans_at x s (Help step) a v = cleans_in x s step a v
 cleans_at x s place a v = false
 
--- a dirty value of worker v that stands: a flush, a compare-and-swap, and the act again
+-- a dirty value of worker v that stands
 abbrev pub dirty_stands : Scene → Local → Place → ℕ → ℕ → Verdict → ℕ
 dirty_stands x l place s i d =
-    counted (x.dirty (target_at x s i) (final_value (x.entries s) i d) && not (cleans_at x l.current place ((x.entries s).target i) (final_value (x.entries s) i d))) 3
+    counted (x.dirty (target_at x s i) (final_value (x.entries s) i d) && not (cleans_at x l.current place ((x.entries s).target i) (final_value (x.entries s) i d))) for_dirty
 
 abbrev pub left_by_help : Scene → Bool → Local → Place → ℕ → Local → HelpStep → ℕ
 left_by_help x over l place v k (LookUnderTag i u q) = tag_stands x over l place v k i u q
@@ -198,11 +239,11 @@ left_by_place x over l place v k other = 0
 
 -- what another worker has left for w: a tag or a dirty value, and the pointers of its swap
 abbrev pub left_by : Scene → Bool → Local → Place → ℕ → Local → ℕ
-left_by x over l place v k = left_by_place x over l place v k k.place + counted (is_open_at x k.place k.operation) (2 * missing x (swap_of k.operation))
+left_by x over l place v k = left_by_place x over l place v k k.place + counted (is_open_at x k.place k.operation) (for_pointer * missing x (swap_of k.operation))
 
 -- each open swap that is completed pays for one new walk along those that are left
 abbrev pub for_walks : ℕ → ℕ
-for_walks u = 9 * (u * (u + 1)) + 100 * u
+for_walks u = half_level * (u * (u + 1)) + for_close * u
 
 -- what all others have left
 abbrev pub left_by_others : Scene → ℕ → ℕ → Local → Place → ℕ
@@ -236,13 +277,13 @@ is_fresh_at x s place = true
 
 -- the acts left until it goes by what holds
 abbrev pub stale_in : Scene → ℕ → HelpStep → ℕ
-stale_in x s (InstallTag i) = 20 * (4 - i) + (if x.any_dirty (target_at x s i) then 7 else 4)
+stale_in x s (InstallTag i) = for_stale_entry * (most_entries - i) + (if x.any_dirty (target_at x s i) then 7 else 4)
 stale_in x s (LookUnderTag i v q) = 2
-stale_in x s (InstallPointer i v q) = if x.decided s then 20 * (4 - i) + 8 else 1
+stale_in x s (InstallPointer i v q) = if x.decided s then for_stale_entry * (most_entries - i) + 8 else 1
 stale_in x s (RemoveTag i v q) = 1
-stale_in x s (FlushDirty i v) = 20 * (4 - i) + (if x.dirty (target_at x s i) v then 6 else 9)
-stale_in x s (ClearDirty i v) = 20 * (4 - i) + (if x.dirty (target_at x s i) v then 5 else 8)
-stale_in x s (FlushTarget i) = 6 + (4 - i)
+stale_in x s (FlushDirty i v) = for_stale_entry * (most_entries - i) + (if x.dirty (target_at x s i) v then 6 else 9)
+stale_in x s (ClearDirty i v) = for_stale_entry * (most_entries - i) + (if x.dirty (target_at x s i) v then 5 else 8)
+stale_in x s (FlushTarget i) = 6 + (most_entries - i)
 stale_in x s (Decide d) = 1
 stale_in x s (SweepTag i d v q) = 1
 stale_in x s step = 0
@@ -261,7 +302,7 @@ allowed_by_others x w n = sum_others w (λ v. counted (is_busy (x.local v).place
 abbrev pub budget_at : Scene → ℕ → ℕ → Local → Place → ℕ
 budget_at x w n l place =
     if is_fresh_at x l.current place then fresh_budget x w n l place
-    else allowed_by_others x w n + 400 + stale_at x l.current place
+    else allowed_by_others x w n + for_stale + stale_at x l.current place
 
 abbrev pub budget : State → ℕ → ℕ → ℕ
 budget x w n = budget_at (scene_of x) w n (x.local w) (x.local w).place

@@ -1,23 +1,24 @@
 -- The laws of budgets: what a worker may have, what starts add, and that each step spends one.
-use Rattle.std.specs.Prelude.{◌≡◌, ◌≢◌, ℕ, ◌+◌, ◌<◌, ◌≤◌}
+use Rattle.std.specs.Prelude.{◌≡◌, ◌≢◌, ℕ, ◌+◌, ◌<◌, ◌≤◌, Bool}
 use Rattle.bz_machine.specs.declared.place.Place.TheVariants.{Idle}
 use Rattle.bz_machine.specs.Allowed.{allowed, allowed_by}
 use Rattle.bz_machine.specs.Budget.{budget}
-use Rattle.bz_machine.specs.Machine.{Entries}
+use Rattle.bz_machine.specs.Machine.{Entries, Memory}
 use Rattle.bz_machine.specs.DirtyHomes.{DirtyAreHome}
 use Rattle.bz_machine.specs.Ends.{EndWhole}
-use Rattle.bz_machine.specs.Fronts.{HaveFronts, AllRise}
+use Rattle.bz_machine.specs.Fronts.{Rises, HaveFronts, AllRise}
 use Rattle.bz_machine.specs.Owners.{AreOwned}
 use Rattle.bz_machine.specs.Progress.{TagsAreHome}
-use Rattle.bz_machine.specs.State.{State, StartRead, StartStore, StartFlush, Act, Evict, EvictStatus, EvictField, happens, IsState}
+use Rattle.bz_machine.specs.Sizes.{most_entries, most_workers}
+use Rattle.bz_machine.specs.State.{State, Event, StartRead, StartStore, StartFlush, StartSwap, Act, Evict, EvictStatus, EvictField, happens, MayHappen, IsState, IsRenewable, power_on}
 
 -- each swap has at most four entries
 abbrev pub AreShort : (ℕ → Entries) → Type 0
-AreShort e = (s : ℕ) → (e s).count ≤ 4
+AreShort e = (s : ℕ) → (e s).count ≤ most_entries
 
 -- the budget of one of n workers is at most what those that are not idle allow
 abbrev pub BudgetsAreAllowed : Type 0
-BudgetsAreAllowed = (x : State) (w n : ℕ) → w < n → n ≤ 65 → AreShort x.entries → budget x w n ≤ allowed_by x n
+BudgetsAreAllowed = (x : State) (w n : ℕ) → w < n → n ≤ most_workers → AreShort x.entries → budget x w n ≤ allowed_by x n
 
 -- the start of a read, a store or a flush adds what it allows
 pub record AddsAllowed (x : State) (w n : ℕ) : Type 0 where
@@ -38,8 +39,31 @@ pub record IsBounded (x : State) (n : ℕ) : Type 0 where
   pub ends : EndWhole x
   pub owned : AreOwned x
   pub short : AreShort x.entries
-  pub few : n ≤ 65
+  pub few : n ≤ most_workers
   pub idle : (v : ℕ) → n ≤ v → (x.local v).place ≡ Idle
+
+-- an event of one of n workers; a swap that begins has at most four entries, whose targets rise
+abbrev pub IsAmong : ℕ → Event → Type 0
+IsAmong n (StartRead w a) = w < n
+IsAmong n (StartStore w a v) = w < n
+IsAmong n (StartFlush w line) = w < n
+IsAmong n (StartSwap w new targets) = (w < n) × Rises new × (new.count ≤ most_entries)
+IsAmong n (Act w) = w < n
+IsAmong n (Evict a) = Unit {0}
+IsAmong n (EvictStatus s) = Unit {0}
+IsAmong n (EvictField s k) = Unit {0}
+
+-- so it is at power on, and stays, whatever may happen
+abbrev pub BeginsBounded : Type 0
+BeginsBounded = (m : Memory) (n : ℕ) → IsRenewable m → n ≤ most_workers → IsBounded (power_on m) n
+
+abbrev pub StaysBounded : Type 0
+StaysBounded = (x : State) (n : ℕ) (event : Event) → MayHappen x event → IsAmong n event → IsBounded x n → IsBounded (happens x event) n
+
+-- the start of a swap of at most four entries adds what it allows
+abbrev pub SwapsAddAllowed : Type 0
+SwapsAddAllowed = (x : State) (w n : ℕ) (new : Entries) (targets : ℕ → Bool) → IsBounded x n → MayHappen x (StartSwap w new targets) → new.count ≤ most_entries
+    → budget (happens x (StartSwap w new targets)) w n ≤ budget x w n + allowed (StartSwap w new targets)
 
 -- each act of a worker that is not idle spends one of its budget
 abbrev pub ActsSpend : Type 0

@@ -15,12 +15,14 @@ pub mod Invariance
 pub mod Keeps
 pub mod Knows
 pub mod Lawful
+pub mod LoneRuns
 pub mod Machine
 pub mod Owners
 pub mod Progress
 pub mod Promise
 pub mod Ranges
 pub mod Recovery
+pub mod Sizes
 pub mod Sleeper
 pub mod Sound
 pub mod Standing

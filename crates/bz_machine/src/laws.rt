@@ -1,12 +1,13 @@
 //! The laws of the machine. Each function does nothing: its contract is the law.
 
-ghost use Rattle.bz_machine.specs.Budgets.{BudgetsAreAllowed, StartsAddAllowed, EvictionsKeepBudgets, ActsSpend};
+ghost use Rattle.bz_machine.specs.Budgets.{BeginsBounded, StaysBounded, BudgetsAreAllowed, StartsAddAllowed, SwapsAddAllowed, EvictionsKeepBudgets, ActsSpend};
 ghost use Rattle.bz_machine.specs.DirtyHomes.{DirtyStayHome};
 ghost use Rattle.bz_machine.specs.Ends.{EndsStayWhole};
 ghost use Rattle.bz_machine.specs.Examples.{SwapsAlone};
 ghost use Rattle.bz_machine.specs.Fronts.{FrontsStay, AllStayRising};
 ghost use Rattle.bz_machine.specs.Invariance.{BeginsAsState, KeepsState, ActsAtomically, KeepsRange, BeginsInRange, CutRecovers};
 ghost use Rattle.bz_machine.specs.Lawful.{StayInRange};
+ghost use Rattle.bz_machine.specs.LoneRuns.{LoneStepsAreAllowed};
 ghost use Rattle.bz_machine.specs.Sleeper.{SleeperIsHarmless};
 ghost use Rattle.bz_machine.specs.Owners.{OwnersStay};
 ghost use Rattle.bz_machine.specs.Progress.{TagsStayHome};
@@ -113,6 +114,16 @@ pub fn owners_stay()
     ensures { OwnersStay }
 {}
 
+/// At power on all holds that makes a worker end which steps alone.
+pub fn begins_bounded()
+    ensures { BeginsBounded }
+{}
+
+/// And it holds after each event that may happen.
+pub fn stays_bounded()
+    ensures { StaysBounded }
+{}
+
 /// The budget of a worker is at most what the workers that are not idle allow.
 pub fn budgets_are_allowed()
     ensures { BudgetsAreAllowed }
@@ -131,4 +142,14 @@ pub fn evictions_keep_budgets()
 /// Each act of a worker that is not idle spends one of its budget.
 pub fn acts_spend()
     ensures { ActsSpend }
+{}
+
+/// The start of a swap adds to a worker's budget what it allows.
+pub fn swaps_add_allowed()
+    ensures { SwapsAddAllowed }
+{}
+
+/// A worker that steps alone takes no more steps than its starts allow, and the workers that are not idle at first.
+pub fn lone_steps_are_allowed()
+    ensures { LoneStepsAreAllowed }
 {}

@@ -1,0 +1,40 @@
+-- A run of one worker alone: its starts and its steps, while no other worker does anything, and evictions at any moment.
+use Rattle.std.specs.Prelude.{◌≡◌, ◌≢◌, ℕ, ◌+◌, ◌<◌, ◌≤◌, List, [], ◌∷◌}
+use Rattle.bz_machine.specs.declared.place.Place.TheVariants.{Idle}
+use Rattle.bz_machine.specs.Allowed.{allowed, allowed_by}
+use Rattle.bz_machine.specs.Budgets.{IsBounded}
+use Rattle.bz_machine.specs.Fronts.{Rises}
+use Rattle.bz_machine.specs.Sizes.{most_entries}
+use Rattle.bz_machine.specs.State.{State, Event, StartRead, StartStore, StartFlush, StartSwap, Act, Evict, EvictStatus, EvictField, happens, MayHappen}
+
+-- worker w begins, or steps while it is not idle; a swap that it begins has at most four entries, whose targets rise
+abbrev pub IsLone : State → ℕ → Event → Type 0
+IsLone x w (StartRead u a) = u ≡ w
+IsLone x w (StartStore u a v) = u ≡ w
+IsLone x w (StartFlush u line) = u ≡ w
+IsLone x w (StartSwap u new targets) = (u ≡ w) × Rises new × (new.count ≤ most_entries)
+IsLone x w (Act u) = (u ≡ w) × ((x.local w).place ≢ Idle)
+IsLone x w (Evict a) = Unit {0}
+IsLone x w (EvictStatus s) = Unit {0}
+IsLone x w (EvictField s k) = Unit {0}
+
+abbrev pub AreLone : State → ℕ → List Event → Type 0
+AreLone x w [] = Unit {0}
+AreLone x w (v ∷ vs) = IsLone x w v × MayHappen x v × AreLone (happens x v) w vs
+
+-- the steps of a run, and what its starts allow
+abbrev pub step_of : Event → ℕ
+step_of (Act w) = 1
+step_of event = 0
+
+abbrev pub steps_in : List Event → ℕ
+steps_in [] = 0
+steps_in (v ∷ vs) = step_of v + steps_in vs
+
+abbrev pub allowed_in : List Event → ℕ
+allowed_in [] = 0
+allowed_in (v ∷ vs) = allowed v + allowed_in vs
+
+-- they are no more than what the starts allow, and what each worker that is not idle at first allows once
+abbrev pub LoneStepsAreAllowed : Type 0
+LoneStepsAreAllowed = (x : State) (w n : ℕ) (events : List Event) → w < n → IsBounded x n → AreLone x w events → steps_in events ≤ allowed_by x n + allowed_in events
