@@ -33,7 +33,7 @@ module _ {E : Type 0} (owner : E → ℕ) where
   abbrev Of : ℕ → List E → List E
   Of n xs = entries_of owner n xs
 
-  none_added : (n : ℕ) (a xs : List E) → Of n (a ++ xs) ≡ Of n xs → Of n a ≡ []
+  pub none_added : (n : ℕ) (a xs : List E) → Of n (a ++ xs) ≡ Of n xs → Of n a ≡ []
   none_added n a xs e = empty (Of n a) (let l = ap length (sym (filter-append (λ (x : E). eqb (owner x) n) a xs) ∙ e) in omega (arith, length-append (Of n a) (Of n xs)))
     where
       empty : (zs : List E) → length zs ≡ 0 → zs ≡ []

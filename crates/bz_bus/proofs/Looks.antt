@@ -1,5 +1,5 @@
 -- A look at the ticket that is served keeps the rule.
-use Rattle.std.proofs.Common.{◌≡◌, ℕ, ◌+◌, ◌%◌, ◌^◌, ◌<◌, ◌≤◌, List, [], ◌∷◌, length, set, get_or, sym, ap, ◌∙◌, refl, subst, arith, Option, Some}
+use Rattle.std.proofs.Common.{◌≡◌, ℕ, ◌+◌, ◌%◌, ◌^◌, ◌<◌, ◌≤◌, List, [], ◌∷◌, length, set, get_or, sym, ap, ◌∙◌, refl, subst, arith, Option, Some, Bool}
 use mathlib.Core.Logic.{dite}
 use native.Mathlib.Decide.{ℕ_discrete}
 use mathlib.Core.Option.{some, none, some-injective, some-ne-none}
@@ -8,7 +8,7 @@ use lib.ListN.{get_elem?}
 use Rattle.atomic_table.specs.Table.{State, Me, Act, step, stepped, keeps, takes, Valid, carried_after, Allows}
 use Rattle.bz_bus.specs.declared.rule.View.{View}
 use Rattle.bz_bus.specs.declared.rule.Stage.TheVariants.{Waits, Holds}
-use Rattle.bz_bus.specs.Entries.{entries_of}
+use Rattle.bz_bus.specs.Entries.{entries_of, IsFreeIn}
 use Rattle.bz_bus.specs.Inside.Views.{ticket_of, saw, At, IsLive}
 use Rattle.bz_bus.specs.Inside.Rule.{Orderly, Stands, Sees, Gained, Lies, Place, home, out, fresh}
 use Rattle.bz_bus.specs.Inside.Plays.{looked}
@@ -86,7 +86,7 @@ module _ {T E F : Type 0} (entries : T → List E) (fixed : T → F) (owner : E 
           (λ hit. (
             y,
             ap (λ (z : ℕ). (saw me.0 (Holds z) (entries y), (0, Some y) ∷ me.1)) tu,
-            record { extends = (seen.past.0, tells ∙ seen.past.1); own = sym (of_whole me.0.number) ∙ known.own },
+            record { extends = (seen.past.0, tells ∙ seen.past.1); own = sym (of_whole me.0.number) ∙ known.own; others = λ z k b f. sym (of_whole k) ∙ known.others z k b (subst (λ (l : List Bool). IsFreeIn l k) (known.counts z) f) },
             known.same_fixed ∙ ap Some (sym l.3),
           )),
           (λ miss. absurd (miss (ap (λ (z : List ℕ). get_or z 1 0) r.words ∙ ap (λ (z : ℕ). z % 2 ^ 64) (same ∙ tu)))),

@@ -20,10 +20,12 @@ module _ {E : Type 0} (owner : E → ℕ) where
   abbrev pub entries_of : ℕ → List E → List E
   entries_of n xs = filter (λ e. owner e == n) xs
 
-  -- what a turn of the pass n may find, where the pass has seen `seen`: a list that extends it, with no further entry of n
-  pub record MayFind (n : ℕ) (seen found : List E) : Type 0 where
+  -- what a turn of the pass n may find, where the pass has seen `seen`: a list that extends it, with no further entry of n,
+  -- and, where it is the first pass, of a number that is free
+  pub record MayFind (n : ℕ) (free : List Bool) (seen found : List E) : Type 0 where
     pub extends : Extends seen found
     pub own : entries_of n found ≡ entries_of n seen
+    pub others : n ≡ 0 → (k : ℕ) → k < PASSES → IsFreeIn free k → entries_of k found ≡ entries_of k seen
 
   -- what a turn of the pass n may leave of the list found: one that extends it, by entries of n or of nobody
   pub record MayLeave (n : ℕ) (found left : List E) : Type 0 where

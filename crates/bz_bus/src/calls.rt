@@ -113,10 +113,10 @@ impl<T: Chronicle> Bus<T> {
     /// Draws a ticket, waits until it is served, lets the action change the value in place, and gives the value back.
     pub fn turn<A: Action<T>, R: Wait>(&self, rt: &R, pass: &mut Pass<T>, action: &mut A)
         requires pass { IsPassOf self.now pass.old }
-        requires asks { (found : List T.Entry) → MayFind T.owner (number_of pass.old) (seen_by pass.old) found → A.asks action.old (T.fixed (opened self.now)) found }
-        requires leaves { (found left : List T.Entry) (after : A) → MayFind T.owner (number_of pass.old) (seen_by pass.old) found → A.does action.old (T.fixed (opened self.now)) found left after → MayLeave T.owner (number_of pass.old) found left }
+        requires asks { (found : List T.Entry) → MayFind T.owner (number_of pass.old) (free_in pass.old) (seen_by pass.old) found → A.asks action.old (T.fixed (opened self.now)) found }
+        requires leaves { (found left : List T.Entry) (after : A) → MayFind T.owner (number_of pass.old) (free_in pass.old) (seen_by pass.old) found → A.does action.old (T.fixed (opened self.now)) found left after → MayLeave T.owner (number_of pass.old) found left }
         ensures pass { IsPassOf self.now pass.new × (number_of pass.new ≡ number_of pass.old) × (free_in pass.new ≡ free_in pass.old) }
-        ensures turned { (found : List T.Entry) × MayFind T.owner (number_of pass.old) (seen_by pass.old) found × A.does action.old (T.fixed (opened self.now)) found (seen_by pass.new) action.new }
+        ensures turned { (found : List T.Entry) × MayFind T.owner (number_of pass.old) (free_in pass.old) (seen_by pass.old) found × A.does action.old (T.fixed (opened self.now)) found (seen_by pass.new) action.new }
     {
         let seat = &mut pass.seat;
         let ticket = self.draw(seat);

@@ -28,7 +28,7 @@ module _ {T E F : Type 0} (entries : T → List E) where
   -- a look that is served takes the slot, and sees the whole list; another changes nothing
   abbrev pub looked : (T → F) → (E → ℕ) → Step (Option T) → Me (Option T) (View E F) → ℕ → Me (Option T) (View E F) → Type 0
   looked fixed owner st m n m' = (t : ℕ) → m.0.stage ≡ Waits t
-      → (n ≡ t % 2 ^ 64 → (y : T) × (m' ≡ (saw m.0 (Holds t) (entries y), (0, Some y) ∷ m.1)) × MayFind owner m.0.number m.0.seen (entries y) × (m.0.fixed ≡ Some (fixed y)))
+      → (n ≡ t % 2 ^ 64 → (y : T) × (m' ≡ (saw m.0 (Holds t) (entries y), (0, Some y) ∷ m.1)) × MayFind owner m.0.number m.0.free m.0.seen (entries y) × (m.0.fixed ≡ Some (fixed y)))
       × (n ≢ t % 2 ^ 64 → m' ≡ m)
 
 module _ {T E F : Type 0} (owner : E → ℕ) where

@@ -22,4 +22,4 @@ module _ {T E F : Type 0} (entries : T → List E) (fixed : T → F) (owner : E 
   -- the ticket is served: the seat has the slot, and has seen the whole list
   abbrev pub IsServed : Me (Option T) (View E F) → Me (Option T) (View E F) → Type 0
   IsServed m m' = (t : ℕ) × (y : T) × (m.0.stage ≡ Waits t) × (m' ≡ (saw m.0 (Holds t) (entries y), (0, Some y) ∷ []))
-      × MayFind owner m.0.number m.0.seen (entries y) × (m.0.fixed ≡ Some (fixed y))
+      × MayFind owner m.0.number m.0.free m.0.seen (entries y) × (m.0.fixed ≡ Some (fixed y))
