@@ -1,5 +1,6 @@
 // What a pass is asked.
-ghost use Rattle.std.specs.Prelude.{◌≡◌, ◌↔◌, IsTrue};
+ghost use Rattle.std.specs.Prelude.{◌≡◌, ◌<◌, ◌↔◌, IsTrue};
+ghost use Rattle.bz_bus.specs.declared.TheConstants.{PASSES};
 ghost use Rattle.bz_bus.specs.Passes.{number_of, IsFree};
 
 use crate::bus::Pass;
@@ -8,7 +9,8 @@ use crate::{Chronicle, PASSES};
 impl<T: Chronicle> Pass<T> {
     /// Which pass of its bus it is. The first has 0.
     pub fn number(&self) -> u32
-        ensures { result ≡ number_of self.now }
+        ensures number { result ≡ number_of self.now }
+        ensures below { result < PASSES }
     {
         self.number
     }

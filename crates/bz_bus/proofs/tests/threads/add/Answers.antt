@@ -9,6 +9,6 @@ only_note n x e (suc k) d h = absurd (omega arith)
 
 pub turn-requires-clause-leaves : goal.turn-requires-clause-leaves
 turn-requires-clause-leaves g c = λ found left after may does. ⊎_elim
-    (λ e. record { added = record { by = c.number-by.result; count = c.args.count } ∷ []; is = e; owned = only_note _ _ c.number-by.ensures })
+    (λ e. record { added = record { by = c.number-by.result; count = c.args.count } ∷ []; is = e; owned = only_note _ _ c.number-by.ensures.number })
     (λ e. record { added = []; is = e; owned = λ k d h. absurd (omega arith) })
     does.1
