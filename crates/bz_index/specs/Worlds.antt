@@ -1,0 +1,29 @@
+-- What a turn does to a world, told by its fixed part and by the lists that it finds and leaves: there are views of worlds
+-- with these lists between which the event made the answer.
+use Rattle.std.specs.Prelude.{◌≡◌, List}
+use Rattle.bz_index.specs.Entries.{origin_of, entries_in, log_of}
+use Rattle.bz_index.specs.declared.shared.Origin.{Origin}
+use Rattle.bz_index.specs.declared.shared.IndexEntry.{IndexEntry}
+use Rattle.bz_sound.specs.Power.Sound.{IsSound}
+use Rattle.bz_sound.specs.declared.power.Power.TheVariants as power
+use Rattle.bz_world.specs.Lab.{Lab, IsApplied}
+use Rattle.bz_world.specs.declared.answers.Applied.{Applied}
+use Rattle.bz_world.specs.declared.answers.Event.{Event}
+
+-- with the fixed part the list is a sound journal
+abbrev pub IsSoundList : Origin → List IndexEntry → Type 0
+IsSoundList origin seen = IsSound origin.config origin.at_start (log_of origin seen)
+
+-- a world with this fixed part and these entries, whose journal is sound
+pub record IsWorldOf (origin : Origin) (entries : List IndexEntry) (lab : Lab) : Type 0 where
+  pub stays : origin_of lab ≡ origin
+  pub told : entries_in lab.log ≡ entries
+  pub sound : IsSound lab.config power.On lab.log
+
+-- a turn that makes an event happen
+pub record HasMade (origin : Origin) (found : List IndexEntry) (event : Event) (answer : Applied) (left : List IndexEntry) : Type 0 where
+  pub old : Lab
+  pub new : Lab
+  pub before : IsWorldOf origin found old
+  pub applied : IsApplied old event answer new
+  pub after : IsWorldOf origin left new
