@@ -3,5 +3,7 @@ mod Lookups
 mod Parting
 pub mod Roots
 mod Parents
-mod PartedParents
+pub mod PartedParents
+pub mod PartedChildren
+mod ReadParents
 mod Making

@@ -53,13 +53,13 @@ separators-insert (c ∷ rest) i left right sep some =
         ∙ ap (λ z. insert z (suc i) sep) (map-set-same rest i (record { low = (child_at rest i).low; slot = left }) refl)
 
 -- separator k is the lower bound of child k + 1
-separator-is : (cs : List Child) (k : ℕ) → k + 1 < length cs → get_or (separators_of cs) k [] ≡ bound (child_at cs (k + 1))
+pub separator-is : (cs : List Child) (k : ℕ) → k + 1 < length cs → get_or (separators_of cs) k [] ≡ bound (child_at cs (k + 1))
 separator-is [] k l = absurd (omega (arith, l))
 separator-is (c ∷ rest) k l =
     let e : k + 1 ≡ suc k = omega arith in
     subst (λ z. get_or (map bound rest) k [] ≡ bound (child_at (c ∷ rest) z)) (sym e) (get_or-map bound rest k (record { low = None; slot = 0 }) [] (omega (arith, l)))
 
-separator-count : (cs : List Child) → 0 < length cs → length (separators_of cs) + 1 ≡ length cs
+pub separator-count : (cs : List Child) → 0 < length cs → length (separators_of cs) + 1 ≡ length cs
 separator-count [] some = absurd (omega (arith, some))
 separator-count (c ∷ rest) some = omega (arith, length-map rest bound)
 
@@ -93,7 +93,8 @@ below-there : (high : Option (List ℕ)) (key : List ℕ) → IsSome high → Is
 below-there None key s h = absurd (cc)
 below-there (Some high) key s h = h
 
-module _ (cs : List Child) (low high : Option (List ℕ)) (i left right : ℕ) (sep : List ℕ) (m : MayPart cs low high i sep) where
+-- the parted children, one by one
+module _ (cs : List Child) (i left right : ℕ) (sep : List ℕ) (within : i < length cs) where
   abbrev half : Child
   half = record { low = (child_at cs i).low; slot = left }
 
@@ -107,7 +108,7 @@ module _ (cs : List Child) (low high : Option (List ℕ)) (i left right : ℕ) (
   long = length-set cs i half
 
   fits : i + 1 ≤ length halved
-  fits = omega (arith, long, m.within)
+  fits = omega (arith, long, within)
 
   pub count : length (parted cs i left right sep) ≡ length cs + 1
   count = omega (arith, length-insert halved (i + 1) other fits, long)
@@ -123,7 +124,7 @@ module _ (cs : List Child) (low high : Option (List ℕ)) (i left right : ℕ) (
   at-high j d l = get_or-insert_above halved (i + 1) other d j (omega (arith, l)) fits ∙ get_or-set_other cs i j half d (λ e. absurd (omega (arith, l, e)))
 
   pub at-half : (d : Child) → get_or (parted cs i left right sep) i d ≡ half
-  at-half d = at-low i d (omega arith) ∙ get_or-set_same cs i half d m.within
+  at-half d = at-low i d (omega arith) ∙ get_or-set_same cs i half d within
 
   pub at-before : (j : ℕ) (d : Child) → j < i → get_or (parted cs i left right sep) j d ≡ get_or cs j d
   at-before j d l = at-low j d (omega (arith, l)) ∙ get_or-set_other cs i j half d (λ e. absurd (omega (arith, l, e)))
@@ -135,20 +136,21 @@ module _ (cs : List Child) (low high : Option (List ℕ)) (i left right : ℕ) (
     | inr past ↦ (
         let e : i ≡ j = omega (arith, l, past) in
         subst (λ z. (get_or (parted cs i left right sep) z d).low ≡ (get_or cs z d).low) e
-        (ap (λ (z : Child). z.low) (at-half d ∙ refl) ∙ ap (λ (z : Child). z.low) (get_or_default cs i (record { low = None; slot = 0 }) d m.within)))
+        (ap (λ (z : Child). z.low) (at-half d) ∙ ap (λ (z : Child). z.low) (get_or_default cs i (record { low = None; slot = 0 }) d within)))
   ]
 
+module _ (cs : List Child) (low high : Option (List ℕ)) (i left right : ℕ) (sep : List ℕ) (m : MayPart cs low high i sep) where
   first : (j : ℕ) (d : Child) → j < length (parted cs i left right sep) → j < 1 → (get_or (parted cs i left right sep) j d).low ≡ None
-  first j d l f = low-same j d (omega (arith, f)) ∙ m.list.first j d (omega (arith, f, m.list.some)) f
+  first j d l f = low-same cs i left right sep m.within j d (omega (arith, f)) ∙ m.list.first j d (omega (arith, f, m.list.some)) f
 
   others : (j : ℕ) (d : Child) → j < length (parted cs i left right sep) → 1 ≤ j → IsSome (get_or (parted cs i left right sep) j d).low
   others j d l f = elim (cases_lt j (i + 1)) [
-    | inl low ↦ subst IsSome (sym (low-same j d low)) (m.list.others j d (omega (arith, low, m.within)) f)
+    | inl low ↦ subst IsSome (sym (low-same cs i left right sep m.within j d low)) (m.list.others j d (omega (arith, low, m.within)) f)
     | inr past ↦ elim (cases_lt (i + 1) j) [
       | inl high ↦ (
           let e : j - 1 + 1 ≡ j = omega (arith, high) in
-          subst (λ z. IsSome (get_or (parted cs i left right sep) z d).low) e (subst (λ (z : Child). IsSome z.low) (sym (at-high (j - 1) d (omega (arith, high)))) (m.list.others (j - 1) d (omega (arith, l, count, high)) (omega (arith, high)))))
-      | inr at ↦ (let e : i + 1 ≡ j = omega (arith, past, at) in subst (λ z. IsSome (get_or (parted cs i left right sep) z d).low) e (subst (λ (z : Child). IsSome z.low) (sym (at-sep d)) refl))
+          subst (λ z. IsSome (get_or (parted cs i left right sep) z d).low) e (subst (λ (z : Child). IsSome z.low) (sym (at-high cs i left right sep m.within (j - 1) d (omega (arith, high)))) (m.list.others (j - 1) d (omega (arith, l, count cs i left right sep m.within, high)) (omega (arith, high)))))
+      | inr at ↦ (let e : i + 1 ≡ j = omega (arith, past, at) in subst (λ z. IsSome (get_or (parted cs i left right sep) z d).low) e (subst (λ (z : Child). IsSome z.low) (sym (at-sep cs i left right sep m.within d)) refl))
     ]
   ]
 
@@ -205,7 +207,7 @@ module _ (cs : List Child) (low high : Option (List ℕ)) (i left right : ℕ) (
 
   pub list : IsChildList (parted cs i left right sep) low high
   list = record {
-    some = omega (arith, count);
+    some = omega (arith, count cs i left right sep m.within);
     first = first;
     others = others;
     rising = subst AreRising (sym (separators-insert cs i left right sep m.list.some)) (AreRising-insert (separators_of cs) i sep m.list.rising place before after);
@@ -216,8 +218,8 @@ module _ (cs : List Child) (low high : Option (List ℕ)) (i left right : ℕ) (
   pub words : needed (map child_entry (parted cs i left right sep)) ≡ needed (map child_entry cs) + 2 + length (packed sep)
   words = omega (
     arith,
-    needed-insert halved (i + 1) other,
-    needed-set cs i half m.within (
+    needed-insert (halved cs i left right sep m.within) (i + 1) (other cs i left right sep m.within),
+    needed-set cs i (half cs i left right sep m.within) m.within (
         let a = length-append (packed (bound (child_at cs i))) ((left + 1) ∷ []) in
         let b = length-append (packed (bound (child_at cs i))) (((child_at cs i).slot + 1) ∷ []) in
         omega (arith, a, b)
@@ -226,4 +228,4 @@ module _ (cs : List Child) (low high : Option (List ℕ)) (i left right : ℕ) (
   )
 
 pub may-be-parted : ChildrenMayBeParted
-may-be-parted cs low high i left right sep m = record { list = list cs low high i left right sep m; count = count cs low high i left right sep m; words = words cs low high i left right sep m }
+may-be-parted cs low high i left right sep m = record { list = list cs low high i left right sep m; count = count cs i left right sep m.within; words = words cs low high i left right sep m }

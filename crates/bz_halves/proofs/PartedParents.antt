@@ -4,6 +4,7 @@ use Rattle.std.specs.Prelude.{All, Some, None, nat_lt}
 use Rattle.std.proofs.lemmas.Bool.{cases_lt}
 use Rattle.std.proofs.lemmas.Bool.Decides.{nat_tests}
 use Rattle.std.proofs.lemmas.List.{get_or-set_same, get_or-set_other, length-set}
+use Rattle.bz_layout.specs.declared.limits.TheConstants.{MAX_NODES}
 use Rattle.bz_node.specs.Layout.{bound_of}
 use Rattle.bz_node.specs.Records.{IsChild}
 use Rattle.bz_node.specs.declared.child.Child.{Child}
@@ -32,6 +33,15 @@ All-set P xs i x within all new k d l = elim (cases_lt k i) [
   ]
 ]
 
+-- each of the parted children is one
+pub parted-each : (cs : List Child) (low high : Option (List ℕ)) (i left right : ℕ) (sep : List ℕ) → MayPart cs low high i sep → left < MAX_NODES → right < MAX_NODES → All IsChild (parted cs i left right sep)
+parted-each cs low high i left right sep m l r =
+    let half : Child = record { low = (child_at cs i).low; slot = left } in
+    let other : Child = record { low = Some sep; slot = right } in
+    All-insert IsChild (slice_set cs i half) (i + 1) other (omega (arith, length-set cs i half, m.within))
+    (All-set IsChild cs i half m.within m.each (record { low = (m.each i (record { low = None; slot = 0 }) m.within).low; slot = omega (arith, l) }))
+    (record { low = m.key; slot = omega (arith, r) })
+
 module _ (made : MadeInnersAreWhole) (nodes : ℕ) (old : ℕ → ℕ) (cs : List Child) (low high : Option (List ℕ)) (level i left right : ℕ) (sep : List ℕ) (m : MayPart cs low high i sep) (room : HasRoomToPart nodes cs level left right sep) (tells : HasChildren old cs) where
   abbrev none : Child
   none = record { low = None; slot = 0 }
@@ -51,7 +61,7 @@ module _ (made : MadeInnersAreWhole) (nodes : ℕ) (old : ℕ → ℕ) (cs : Lis
   new = node_of (parted_words cs i left right sep low high level)
 
   long : length (parted cs i left right sep) ≡ length cs + 1
-  long = count cs low high i left right sep m
+  long = count cs i left right sep m.within
 
   child-is : (j : ℕ) → j < length cs + 1 → child_of new j ≡ (get_or (parted cs i left right sep) j none).slot
   child-is j l = inner.child j none (omega (arith, l, long))
@@ -61,25 +71,25 @@ module _ (made : MadeInnersAreWhole) (nodes : ℕ) (old : ℕ → ℕ) (cs : Lis
 
   child-after : (j : ℕ) → i < j → child_of new (j + 1) ≡ child_of old j
   child-after j l = elim (cases_lt j (length cs)) [
-    | inl within ↦ child-is (j + 1) (omega (arith, within)) ∙ (ap (λ (z : Child). z.slot) (at-high cs low high i left right sep m j none l) ∙ sym (tells.child j within))
+    | inl within ↦ child-is (j + 1) (omega (arith, within)) ∙ (ap (λ (z : Child). z.slot) (at-high cs i left right sep m.within j none l) ∙ sym (tells.child j within))
     | inr past ↦ child-past new (j + 1) (omega (arith, past, inner.count, long)) ∙ sym (child-past old j (omega (arith, past, tells.count)))
   ]
 
   key-after : (j : ℕ) → i < j → key_of new (j + 1) ≡ key_of old j
   key-after j l = elim (cases_lt j (length cs)) [
-    | inl within ↦ key-is (j + 1) (omega (arith, within)) ∙ (ap (λ (z : Child). bound_of z.low) (at-high cs low high i left right sep m j none l) ∙ sym (tells.key j within))
+    | inl within ↦ key-is (j + 1) (omega (arith, within)) ∙ (ap (λ (z : Child). bound_of z.low) (at-high cs i left right sep m.within j none l) ∙ sym (tells.key j within))
     | inr past ↦ key-past new (j + 1) (omega (arith, past, inner.count, long)) ∙ sym (key-past old j (omega (arith, past, tells.count)))
   ]
 
   wider : Wider (children_told old) (children_told new) i left right sep
   wider = record {
     count = omega (arith, inner.count, long, tells.count);
-    child_before = λ j l. child-is j (omega (arith, l, m.within)) ∙ (ap (λ (z : Child). z.slot) (at-before cs low high i left right sep m j none l) ∙ sym (tells.child j (omega (arith, l, m.within))));
-    child_l = child-is i (omega (arith, m.within)) ∙ ap (λ (z : Child). z.slot) (at-half cs low high i left right sep m none);
-    child_r = child-is (i + 1) (omega (arith, m.within)) ∙ ap (λ (z : Child). z.slot) (at-sep cs low high i left right sep m none);
+    child_before = λ j l. child-is j (omega (arith, l, m.within)) ∙ (ap (λ (z : Child). z.slot) (at-before cs i left right sep m.within j none l) ∙ sym (tells.child j (omega (arith, l, m.within))));
+    child_l = child-is i (omega (arith, m.within)) ∙ ap (λ (z : Child). z.slot) (at-half cs i left right sep m.within none);
+    child_r = child-is (i + 1) (omega (arith, m.within)) ∙ ap (λ (z : Child). z.slot) (at-sep cs i left right sep m.within none);
     child_after = child-after;
-    key_before = λ j l. key-is j (omega (arith, l, m.within)) ∙ (ap bound_of (low-same cs low high i left right sep m j none (omega (arith, l))) ∙ sym (tells.key j (omega (arith, l, m.within))));
-    parted = key-is (i + 1) (omega (arith, m.within)) ∙ ap (λ (z : Child). bound_of z.low) (at-sep cs low high i left right sep m none);
+    key_before = λ j l. key-is j (omega (arith, l, m.within)) ∙ (ap bound_of (low-same cs i left right sep m.within j none (omega (arith, l))) ∙ sym (tells.key j (omega (arith, l, m.within))));
+    parted = key-is (i + 1) (omega (arith, m.within)) ∙ ap (λ (z : Child). bound_of z.low) (at-sep cs i left right sep m.within none);
     key_after = key-after;
   }
 

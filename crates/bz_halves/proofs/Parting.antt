@@ -1,6 +1,6 @@
 -- The records of a leaf that is split part in two halves, which are leaves and say what it says.
 use Rattle.std.proofs.Common.{◌≡◌, ◌≢◌, ℕ, ◌+◌, ◌<◌, ◌≤◌, true, false, List, [], length, take, drop, get_or, arith, refl, sym, ap, subst, ◌∙◌, inl, inr, Option}
-use Rattle.std.specs.Prelude.{All, Some}
+use Rattle.std.specs.Prelude.{All, Some, None}
 use Rattle.std.specs.Cmp.Lexicographic.{slice_cmp}
 use Rattle.std.specs.FinMap.{find}
 use Rattle.std.specs.Ordering.{nat_cmp}
@@ -9,8 +9,8 @@ use Rattle.std.proofs.lemmas.List.{length-take, length-drop, get_or-take, get_or
 use Rattle.std.proofs.lemmas.List.Elements.{All-take, All-drop}
 use Rattle.bz_key.specs.Bytes.{IsKey}
 use Rattle.bz_layout.specs.Rooms.{LeafSplitsInHalves}
-use Rattle.bz_node.specs.Records.{keys_of, IsPair, IsBefore, IsAtLeast, IsBelow, AreRising, IsLeafList}
-use Rattle.bz_node.proofs.Orders.{IsBefore-trans, IsBefore-other, get_or-keys_of, length-keys_of}
+use Rattle.bz_node.specs.Records.{keys_of, IsPair, IsBefore, IsAtLeast, IsAbove, IsBelow, AreRising, IsLeafList}
+use Rattle.bz_node.proofs.Orders.{IsBefore-trans, IsBefore-other, is_before_other, get_or-keys_of, length-keys_of}
 use Rattle.bz_shape.specs.Order.{is_before}
 use Rattle.bz_slotted.specs.ReadingLaws.{node_of, IsLeafOf, MadeLeavesAreWhole}
 use Rattle.bz_slotted.proofs.MadeLeaves.{before-test, test-before}
@@ -29,6 +29,11 @@ rising-drop ks n rising i j less inside = rw (get_or-drop n ks i [], get_or-drop
 
 never-both : (a b : List ℕ) → IsBefore a b → IsBefore b a → ⊥
 never-both a b p q = IsBefore-other a a (IsBefore-trans a b a p q) refl
+
+-- what is after a key that is not before the low fence is after that
+above-of : (low : Option (List ℕ)) (a b : List ℕ) → IsAtLeast low a → IsBefore a b → IsAbove low b
+above-of None a b from l = tt
+above-of (Some key) a b from l = is_before_other b key (λ e. from (subst (IsBefore a) (sym e) l)) (λ h. from (IsBefore-trans a b key l h))
 
 module _ (law : LeafSplitsInHalves) (rs : List (List ℕ × List ℕ)) (low high : Option (List ℕ)) (cut : ℕ) (s : IsSplitLeaf rs low high) (c : IsCut rs cut) where
   abbrev sep : List ℕ
@@ -88,6 +93,8 @@ module _ (law : LeafSplitsInHalves) (rs : List (List ℕ × List ℕ)) (low high
     more = more law rs low high cut s c;
     joined = take-append-drop cut rs;
     separator = sep-key;
+    above = above-of low (get_or (keys_of rs) 0 []) sep (s.leaf.from 0 [] (omega (arith, within))) (s.leaf.rising 0 cut (some law rs low high cut s c) within);
+    below = s.leaf.below cut [] within;
     left = left-list;
     right = right-list;
     words = words-parts rs cut;

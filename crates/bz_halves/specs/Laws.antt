@@ -8,7 +8,7 @@ use Rattle.bz_layout.specs.declared.limits.TheConstants.{MAX_NODES}
 use Rattle.bz_layout.specs.declared.sizes.TheConstants.{SHARED_WORDS}
 use Rattle.bz_layout.specs.declared.thresholds.TheConstants.{SPLIT_ABOVE, INNER_LIMIT}
 use Rattle.bz_node.specs.Layout.{needed}
-use Rattle.bz_node.specs.Records.{child_entry, IsPair, IsBound, IsLeafList}
+use Rattle.bz_node.specs.Records.{child_entry, IsPair, IsBound, IsLeafList, IsAbove, IsBelow}
 use Rattle.bz_shape.specs.Order.{is_before}
 use Rattle.bz_shape.specs.Slots.{AreTwo}
 use Rattle.bz_slotted.specs.Readers.{count_of, child_of, key_of, found_of}
@@ -26,13 +26,15 @@ pub record IsSplitLeaf (records : List (List ℕ × List ℕ)) (low high : Optio
   pub many : SPLIT_ABOVE < words_of records
   pub room : words_of records ≤ SHARED_WORDS
 
--- neither half is empty; both together are the records; the left one ends where the right one begins; and each leaves room for
--- any record, and one word more
+-- neither half is empty; both together are the records; the left one ends where the right one begins, at a key between the fences,
+-- which is not the lower one; and each leaves room for any record, and one word more
 pub record AreLeafHalves (records : List (List ℕ × List ℕ)) (low high : Option (List ℕ)) (cut : ℕ) : Type 0 where
   pub some : 0 < cut
   pub more : cut < length records
   pub joined : take cut records ++ drop cut records ≡ records
   pub separator : IsKey (separator_of records cut)
+  pub above : IsAbove low (separator_of records cut)
+  pub below : IsBelow high (separator_of records cut)
   pub left : IsLeafList (take cut records) low (Some (separator_of records cut))
   pub right : IsLeafList (drop cut records) (Some (separator_of records cut)) high
   pub words : words_of (take cut records) + words_of (drop cut records) ≡ words_of records

@@ -4,14 +4,16 @@ use Rattle.std.specs.List.{insert}
 use Rattle.bz_key.specs.Bytes.{IsKey}
 use Rattle.bz_key.specs.Packing.{packed}
 use Rattle.bz_layout.specs.declared.limits.TheConstants.{MAX_NODES}
-use Rattle.bz_layout.specs.declared.sizes.TheConstants.{SHARED_WORDS}
+use Rattle.bz_layout.specs.declared.sizes.TheConstants.{NODE_WORDS, SHARED_WORDS}
 use Rattle.bz_layout.specs.declared.thresholds.TheConstants.{MAX_LEVELS}
 use Rattle.bz_node.specs.Layout.{bound_of, needed}
+use Rattle.bz_node.specs.Reading.{children_in, IsReadableInner}
 use Rattle.bz_node.specs.Records.{child_entry, inner_words, IsChild, IsBound, IsChildList, IsAbove, IsBelow}
 use Rattle.bz_node.specs.declared.child.Child.{Child}
 use Rattle.bz_shape.specs.Slots.{Children, Wider}
 use Rattle.bz_slotted.specs.Readers.{count_of, child_of, key_of}
 use Rattle.bz_slotted.specs.ReadingLaws.{node_of, IsInnerOf}
+use Rattle.bz_slotted.specs.Rules.{node_fault}
 
 -- child i, or one of no place
 abbrev pub child_at : List Child → ℕ → Child
@@ -84,3 +86,16 @@ abbrev pub ParentsOfHalvesAreWhole : Type 0
 ParentsOfHalvesAreWhole =
     (nodes : ℕ) (old : ℕ → ℕ) (children : List Child) (low high : Option (List ℕ)) (level i left right : ℕ) (separator : List ℕ) → MayPart children low high i separator → HasRoomToPart nodes children level left right separator →
     HasChildren old children → IsPartedParent nodes old children low high level i left right separator
+
+-- the words of an inner node are read as its children, each in a slot of a memory, and one of them may be parted by this key
+pub record IsPartable (nodes : ℕ) (words : List ℕ) (low high : Option (List ℕ)) (i : ℕ) (separator : List ℕ) : Type 0 where
+  pub readable : IsReadableInner words
+  pub may : MayPart (children_in words) low high i separator
+  pub has : HasChildren (node_of words) (children_in words)
+  pub slots : (j : ℕ) (d : Child) → j < length (children_in words) → (slice_index_or (children_in words) j d).slot < nodes
+
+-- a key between the bounds of a child, which is not the lower one, parts it, where the node breaks no rule
+abbrev pub ReadChildrenMayBeParted : Type 0
+ReadChildrenMayBeParted =
+    (nodes : ℕ) (raw : ℕ → ℕ) (words : List ℕ) (level : ℕ) (low high : Option (List ℕ)) (i : ℕ) (separator : List ℕ) → nodes ≤ MAX_NODES → 0 < level → length words ≡ NODE_WORDS → node_fault nodes raw (node_of words) level low high ≡ None →
+    i < length (children_in words) → IsKey separator → IsAbove (low_of (children_in words) low i) separator → IsBelow (high_of (children_in words) high i) separator → IsPartable nodes words low high i separator

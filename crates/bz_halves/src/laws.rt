@@ -1,7 +1,7 @@
 //! Laws of the halves of a leaf. Each function does nothing: its contract is the law.
 
 ghost use Rattle.bz_halves.specs.Laws.{LeavesPartInHalves, HalvesAreLeaves, RootsStandOverTwo};
-ghost use Rattle.bz_halves.specs.Parents.{ChildrenMayBeParted, ParentsOfHalvesAreWhole};
+ghost use Rattle.bz_halves.specs.Parents.{ChildrenMayBeParted, ParentsOfHalvesAreWhole, ReadChildrenMayBeParted};
 
 use bz_slotted::laws as slotted;
 
@@ -37,4 +37,14 @@ pub fn parents_of_halves_are_whole()
     ensures { ParentsOfHalvesAreWhole }
 {
     slotted::made_inners_are_whole();
+}
+
+/// The children that are read of an inner node that breaks no rule make a node, of which any one may be parted by a key between its
+/// bounds.
+pub fn read_children_may_be_parted()
+    ensures { ReadChildrenMayBeParted }
+{
+    slotted::inner_rules_are_facts();
+    slotted::inner_keys_rise();
+    slotted::whole_inners_are_readable();
 }
