@@ -83,7 +83,7 @@ pub fn held_swaps_are_spent()
     ensures { HeldSwapsAreSpent }
 {}
 
-/// Slots are spent where each is used or held by another worker with an open call.
+/// More slots are lacking than are free where each other one is used or held by another worker with an open call.
 pub fn held_slots_are_spent()
     ensures { HeldSlotsAreSpent }
 {}

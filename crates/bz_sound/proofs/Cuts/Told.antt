@@ -14,7 +14,7 @@ use Rattle.bz_sound.proofs.Memory.Acknowledged.{told-took}
 use Rattle.bz_sound.proofs.Memory.Changed.{change-decodes, content-decodes}
 use Rattle.bz_sound.proofs.Memory.Ended.{effect-answers, cause-answers}
 use Rattle.bz_sound.proofs.Memory.Held.{held-count}
-use Rattle.bz_sound.proofs.Memory.HeldSlots.{slots-count}
+use Rattle.bz_sound.proofs.Memory.HeldSlots.{others-count}
 use Rattle.bz_sound.proofs.Memory.Marks.{each-at}
 use Rattle.bz_sound.proofs.Memory.Once.{stands-once}
 use Rattle.bz_sound.proofs.Memory.ReadPages.{pages-by}
@@ -81,4 +81,4 @@ pub held-spent : HeldSwapsAreSpent
 held-spent c start past w opened holder h = held-count (λ s. is_taken s (since_on past)) c past w holder h
 
 pub slots-spent : HeldSlotsAreSpent
-slots-spent c start past w holder place h = slots-count (λ s. is_used c start past s) c past w holder place h
+slots-spent c start past w slots free holder place fewer h = others-count (λ s. is_used c start past s) c past w slots free holder place fewer h

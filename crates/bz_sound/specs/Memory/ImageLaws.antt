@@ -1,10 +1,11 @@
 -- What the image of a moment says of replies and effects.
-use Rattle.std.specs.Prelude.{◌≡◌, ◌≢◌, false, ◌<◌, ◌≤◌, ℕ, Bool, true, if◌then◌else◌, bytes_eq, List, [], ◌∷◌, ◌++◌, length, Option, Some, None}
+use Rattle.std.specs.Prelude.{◌≡◌, ◌≢◌, false, ◌<◌, ◌≤◌, ◌||◌, ℕ, Bool, true, if◌then◌else◌, bytes_eq, List, [], ◌∷◌, ◌++◌, length, Option, Some, None}
 use Rattle.std.specs.Ordering.{nat_cmp}
 use Rattle.std.specs.Cmp.Lexicographic.{slice_cmp}
 use Rattle.std.specs.FinMap.{find, is_sorted}
 use Rattle.bz_layout.specs.declared.config.Config.{Config}
 use Rattle.bz_layout.specs.declared.thresholds.TheConstants.{SPLIT_SLOTS}
+use Rattle.bz_shape.specs.Walk.{is_among}
 use Rattle.bz_content.specs.Content.{image_fault, content_in, leaf_end_in}
 use Rattle.bz_call.specs.Map.{key_of, apply, apply_at}
 use Rattle.bz_call.specs.declared.calls.Call.{Call}
@@ -20,7 +21,7 @@ use Rattle.bz_mark.specs.declared.marks.Mark.TheVariants.{Effect}
 use Rattle.bz_sound.specs.Calls.{Open, open_call, map_after, map_at}
 use Rattle.bz_sound.specs.Memory.Moments.{image_after, image_at, map_at_start, Decodes, IsAfterLoad, IsAfterFlush}
 use Rattle.bz_sound.specs.Memory.Calls.{HasOpenCall, MayFollow}
-use Rattle.bz_sound.specs.Memory.Spent.{is_taken, is_used, LacksSlot, IsSpent}
+use Rattle.bz_sound.specs.Memory.Spent.{is_taken, is_used, count_used, LacksSlots, IsSpent}
 use Rattle.bz_sound.specs.Memory.Replies.{IsWrite, IsRightReply, IsRightReplyBy, is_within}
 use Rattle.bz_sound.specs.Memory.Sound.{IsSound}
 
@@ -133,12 +134,15 @@ pub record AreSlotsHeldBy (used : ℕ → Bool) (c : Config) (past : List Mark) 
   pub placed : (slot : ℕ) → slot < c.nodes → used slot ≡ false → place slot < SPLIT_SLOTS
   pub one_each : (slot other : ℕ) → slot < c.nodes → other < c.nodes → used slot ≡ false → used other ≡ false → holder slot ≡ holder other → place slot ≡ place other → slot ≡ other
 
-abbrev pub AreSlotsHeld : Config → List ℕ → List Mark → ℕ → (ℕ → ℕ) → (ℕ → ℕ) → Type 0
-AreSlotsHeld c start past w holder place = AreSlotsHeldBy (λ slot. is_used c start past slot) c past w holder place
+-- the same of the slots that are not among the free ones either
+abbrev pub AreOthersHeld : (ℕ → Bool) → List ℕ → Config → List Mark → ℕ → (ℕ → ℕ) → (ℕ → ℕ) → Type 0
+AreOthersHeld used free c past w holder place = AreSlotsHeldBy (λ slot. used slot || is_among free slot) c past w holder place
 
--- then none is left for a copy
+-- then more slots are lacking than are free
 abbrev pub HeldSlotsAreSpent : Type 0
-HeldSlotsAreSpent = (c : Config) (start : List ℕ) (past : List Mark) (w : ℕ) (holder place : ℕ → ℕ) → AreSlotsHeld c start past w holder place → LacksSlot c start past w
+HeldSlotsAreSpent =
+    (c : Config) (start : List ℕ) (past : List Mark) (w slots : ℕ) (free : List ℕ) (holder place : ℕ → ℕ) → length free < slots → AreOthersHeld (λ slot. is_used c start past slot) free c past w holder place →
+    LacksSlots c (count_used c start past) slots w past
 
 -- where a flush or an eviction leaves the content, the words decode as before
 abbrev pub SameContentDecodes : Type 0

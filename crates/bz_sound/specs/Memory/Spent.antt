@@ -1,5 +1,5 @@
 -- What must have run out where a call answers Full. The newest mark stands first.
-use Rattle.std.specs.Prelude.{◌≤◌, ◌<◌, ◌+◌, ◌*◌, ◌==◌, ◌&&◌, ◌||◌, ◌⊎◌, ◌≡◌, not, nat_lt, nat_le, ℕ, Bool, true, false, List, [], ◌∷◌, length, slice_index, is_some, count_by}
+use Rattle.std.specs.Prelude.{◌≤◌, ◌<◌, ◌+◌, ◌*◌, ◌==◌, ◌&&◌, ◌||◌, ◌⊎◌, ◌≡◌, if◌then◌else◌, not, nat_lt, nat_le, ℕ, Bool, true, false, List, [], ◌∷◌, length, slice_index, is_some, count_by}
 use Rattle.std.specs.List.{range_with_len}
 use Rattle.bz_layout.specs.Addresses.{swap_address, node_address, slot_of}
 use Rattle.bz_layout.specs.declared.config.Config.{Config}
@@ -23,14 +23,27 @@ use Rattle.bz_sound.specs.Memory.Moments.{image_at}
 abbrev pub leaf_page : Config → (ℕ → ℕ) → List ℕ → Page
 leaf_page c image key = page (node c (resolve image) (leaf_in c image key))
 
--- at a moment of the call the leaf of its key was frozen, and had more live words than a copy is made of: it would have to be
--- split
-pub record IsCrowded (c : Config) (start : List ℕ) (past : List Mark) (opened : Open) : Type 0 where
+-- how many slots it takes to make a frozen leaf of so many live words anew: those of a split where they are more than a copy is
+-- made of, else that of a copy
+abbrev pub slots_for : ℕ → ℕ
+slots_for live = if nat_lt SPLIT_ABOVE live then SPLIT_SLOTS else CONSOLIDATION_SLOTS
+
+-- at a moment of the call the leaf of its key was frozen, and to make it anew took so many slots
+pub record NeedsSlots (c : Config) (start : List ℕ) (past : List Mark) (opened : Open) (slots : ℕ) : Type 0 where
   pub moment : ℕ
   pub after_begin : opened.begun < moment
   pub before_end : moment ≤ length past
   pub frozen : (leaf_page c (image_at start moment past) (key_of opened.call)).frozen ≡ true
-  pub live : SPLIT_ABOVE < live_words (leaf_page c (image_at start moment past) (key_of opened.call))
+  pub needed : slots_for (live_words (leaf_page c (image_at start moment past) (key_of opened.call))) ≡ slots
+
+-- FOR NOW, while leaves below a parent are not split: at a moment of the call the leaf of its key was frozen and would have to
+-- be split, and at a moment of the call the tree had more than one level. This record, and its place in LackNodes, go when they are.
+pub record IsUnsplit (c : Config) (start : List ℕ) (past : List Mark) (opened : Open) : Type 0 where
+  pub crowded : NeedsSlots c start past opened SPLIT_SLOTS
+  pub moment : ℕ
+  pub after_begin : opened.begun < moment
+  pub before_end : moment ≤ length past
+  pub levels : 1 < (view_in c (image_at start moment past)).height
 
 -- a slot of a node is reached in an image
 abbrev pub is_reached_in : Config → (ℕ → ℕ) → ℕ → Bool
@@ -71,18 +84,23 @@ count_taken c past = count_by (λ swap. is_taken swap past) (range_with_len 0 c.
 abbrev pub count_others : Config → ℕ → List Mark → ℕ
 count_others c w past = count_by (λ v. not (v == w) && is_some (open_call v past)) (range_with_len 1 c.workers)
 
--- the slots that are used, that of a consolidation and those that the other workers may have taken for splits are more than
--- there are
-abbrev pub LacksSlot : Config → List ℕ → List Mark → ℕ → Type 0
-LacksSlot c start past w = c.nodes < count_used c start past + CONSOLIDATION_SLOTS + SPLIT_SLOTS * count_others c w past
+-- the slots that are used, so many more, and those that the other workers may have taken for splits are more than there are
+abbrev pub LacksSlots : Config → ℕ → ℕ → ℕ → List Mark → Type 0
+LacksSlots c used slots w past = c.nodes < used + slots + SPLIT_SLOTS * count_others c w past
 
--- the leaf would have to be split, or no slot is left for its copy
-abbrev pub NodesAreSpent : Config → List ℕ → List Mark → ℕ → Open → Type 0
-NodesAreSpent c start past w opened = IsCrowded c start past opened ⊎ LacksSlot c start past w
+-- the leaf had to be made anew, and the slots for that are not left
+pub record NodesAreSpent (c : Config) (start : List ℕ) (past : List Mark) (used w : ℕ) (opened : Open) : Type 0 where
+  pub slots : ℕ
+  pub needs : NeedsSlots c start past opened slots
+  pub lacks : LacksSlots c used slots w past
+
+-- why nodes are lacking, where so many slots are used
+abbrev pub LackNodes : Config → List ℕ → List Mark → ℕ → ℕ → Open → Type 0
+LackNodes c start past used w opened = NodesAreSpent c start past used w opened ⊎ IsUnsplit c start past opened
 
 -- The cause of a Full that ends the open call of a worker now. Other workers may have taken a descriptor into which
 -- they have not stored yet. No tree of this stage is too high.
 abbrev pub IsSpent : Config → List ℕ → List Mark → ℕ → Open → Spent → Type 0
-IsSpent c start past w opened Nodes = NodesAreSpent c start past w opened
+IsSpent c start past w opened Nodes = LackNodes c start past (count_used c start past) w opened
 IsSpent c start past w opened Swaps = c.swaps ≤ count_taken c past + count_others c w past
 IsSpent c start past w opened Height = ⊥

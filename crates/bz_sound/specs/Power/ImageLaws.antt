@@ -1,5 +1,5 @@
 -- What the image of a moment says of replies and effects where the power fails and comes on again.
-use Rattle.std.specs.Prelude.{◌≡◌, ℕ, List, [], ◌∷◌, ◌++◌, length, Option, Some, None}
+use Rattle.std.specs.Prelude.{◌≡◌, ◌<◌, ℕ, List, [], ◌∷◌, ◌++◌, length, Option, Some, None}
 use Rattle.bz_layout.specs.declared.config.Config.{Config}
 use Rattle.bz_content.specs.Content.{image_fault, content_in}
 use Rattle.bz_call.specs.Map.{key_of, apply}
@@ -12,13 +12,13 @@ use Rattle.bz_mark.specs.Log.{Log}
 use Rattle.bz_mark.specs.declared.marks.Mark.{Mark}
 use Rattle.bz_sound.specs.declared.power.Power.{Power}
 use Rattle.bz_sound.specs.Calls.{Open, open_call, map_at}
-use Rattle.bz_sound.specs.Memory.ImageLaws.{ReadsAt, ImageAnswersBy, IsPageOf, ChangesKey, IsChangeOf, EffectFollows, AreHeldBy, AreSlotsHeldBy}
+use Rattle.bz_sound.specs.Memory.ImageLaws.{ReadsAt, ImageAnswersBy, IsPageOf, ChangesKey, IsChangeOf, EffectFollows, AreHeldBy, AreOthersHeld}
 use Rattle.bz_sound.specs.Memory.Moments.{image_after, image_at, map_at_start, Decodes, IsAfterFlush}
 use Rattle.bz_sound.specs.Memory.Replies.{IsWrite}
-use Rattle.bz_sound.specs.Memory.Spent.{is_taken}
+use Rattle.bz_sound.specs.Memory.Spent.{is_taken, LacksSlots}
 use Rattle.bz_sound.specs.Power.Replies.{IsRightReply}
 use Rattle.bz_sound.specs.Power.Sound.{IsSound}
-use Rattle.bz_sound.specs.Power.Spent.{is_used, LacksSlot, IsSpent}
+use Rattle.bz_sound.specs.Power.Spent.{is_used, count_used, IsSpent}
 use Rattle.bz_sound.specs.Power.Times.{since_on}
 
 -- what the image has directly after a load answers a call
@@ -71,8 +71,8 @@ HeldSwapsAreSpent =
     (c : Config) (start : List ℕ) (past : List Mark) (w : ℕ) (opened : Open) (holder : ℕ → ℕ) → AreHeldBy (λ swap. is_taken swap (since_on past)) c past w holder →
     IsSpent c start past w opened Swaps
 
--- no slot is left for a copy where each is used or held by another worker with an open call
+-- more slots are lacking than are free where each other one is used since then, or held by another worker with an open call
 abbrev pub HeldSlotsAreSpent : Type 0
 HeldSlotsAreSpent =
-    (c : Config) (start : List ℕ) (past : List Mark) (w : ℕ) (holder place : ℕ → ℕ) → AreSlotsHeldBy (λ slot. is_used c start past slot) c past w holder place →
-    LacksSlot c start past w
+    (c : Config) (start : List ℕ) (past : List Mark) (w slots : ℕ) (free : List ℕ) (holder place : ℕ → ℕ) → length free < slots → AreOthersHeld (λ slot. is_used c start past slot) free c past w holder place →
+    LacksSlots c (count_used c start past) slots w past

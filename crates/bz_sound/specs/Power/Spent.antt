@@ -1,14 +1,13 @@
 -- What must have run out where a call answers Full: slots and descriptors are used again when the power comes on, so
 -- that what was used and taken is counted since then. The newest mark stands first.
-use Rattle.std.specs.Prelude.{◌≤◌, ◌<◌, ◌+◌, ◌*◌, ◌||◌, ◌⊎◌, ℕ, Bool, List, count_by}
+use Rattle.std.specs.Prelude.{◌≤◌, ◌+◌, ◌||◌, ℕ, Bool, List, count_by}
 use Rattle.std.specs.List.{range_with_len}
 use Rattle.bz_layout.specs.declared.config.Config.{Config}
-use Rattle.bz_layout.specs.declared.thresholds.TheConstants.{CONSOLIDATION_SLOTS, SPLIT_SLOTS}
 use Rattle.bz_call.specs.declared.replies.Spent.{Spent}
 use Rattle.bz_call.specs.declared.replies.Spent.TheVariants.{Nodes, Swaps, Height}
 use Rattle.bz_mark.specs.declared.marks.Mark.{Mark}
 use Rattle.bz_sound.specs.Calls.{Open}
-use Rattle.bz_sound.specs.Memory.Spent.{IsCrowded, is_reached_in, is_stored_into, count_taken, count_others}
+use Rattle.bz_sound.specs.Memory.Spent.{LackNodes, is_reached_in, is_stored_into, count_taken, count_others}
 use Rattle.bz_sound.specs.Power.Times.{since_on, image_at_on}
 
 -- a slot is used: reached in the durable words at the last On, or stored into since
@@ -19,14 +18,9 @@ is_used c start past slot = is_reached_in c (image_at_on start past) slot || is_
 abbrev pub count_used : Config → List ℕ → List Mark → ℕ
 count_used c start past = count_by (λ slot. is_used c start past slot) (range_with_len 0 c.nodes)
 
--- the slots that are used, that of a consolidation and those that the other workers may have taken for splits are more than
--- there are
-abbrev pub LacksSlot : Config → List ℕ → List Mark → ℕ → Type 0
-LacksSlot c start past w = c.nodes < count_used c start past + CONSOLIDATION_SLOTS + SPLIT_SLOTS * count_others c w past
-
 -- The cause of a Full that ends the open call of a worker now. A moment of the call lies since the last On. Other workers
 -- may have taken a descriptor into which they have not stored yet. No tree of this stage is too high.
 abbrev pub IsSpent : Config → List ℕ → List Mark → ℕ → Open → Spent → Type 0
-IsSpent c start past w opened Nodes = IsCrowded c start past opened ⊎ LacksSlot c start past w
+IsSpent c start past w opened Nodes = LackNodes c start past (count_used c start past) w opened
 IsSpent c start past w opened Swaps = c.swaps ≤ count_taken c (since_on past) + count_others c w past
 IsSpent c start past w opened Height = ⊥
