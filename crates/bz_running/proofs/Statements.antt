@@ -3,20 +3,23 @@ use Rattle.std.proofs.Common.{◌≡◌, ◌<◌, ◌≤◌, ◌⊎◌, ℕ, fal
 use Rattle.bz_consol.specs.Duties as consol
 use Rattle.bz_consol.specs.declared.consolidate.Consolidate.{Consolidate}
 use Rattle.bz_layout.specs.Slots.{FreeSlots}
-use Rattle.bz_layout.specs.declared.thresholds.TheConstants.{CONSOLIDATION_SLOTS}
+use Rattle.bz_layout.specs.declared.thresholds.TheConstants.{CONSOLIDATION_SLOTS, SPLIT_SLOTS}
 use Rattle.bz_word.specs.declared.entry.Entry.{Entry}
 use Rattle.bz_task.specs.Instant.{Instant}
 use Rattle.bz_task.specs.OwnActs.{Stores, Flushes, AreUnreached, gained}
 use Rattle.bz_task.specs.Requests.{Tells}
-use Rattle.bz_task.specs.Scene.{Scene, Stage, Waiting, Took as HasTaken, IsScene, here}
+use Rattle.bz_task.specs.Scene.{Scene, Stage, Waiting, Took as HasTaken, IsScene, IsLawful, here}
 use Rattle.bz_task.specs.Swaps.{Stand, SwapsTo, IsGoodSwap, Takes}
 use Rattle.bz_task.specs.declared.todo.Outcome.TheVariants.{Restart}
 use Rattle.bz_task.specs.declared.todo.Seen.{Seen}
 use Rattle.bz_task.specs.declared.todo.Seen.TheVariants.{Swapped}
 use Rattle.bz_task.specs.declared.todo.Todo.TheVariants.{Store, Flush, Swap}
-use Rattle.bz_running.specs.Duties.{config_of, asks_of, needs_of, end_of, change_of, publishing_of, facts_of, differs_of}
+use Rattle.bz_running.specs.Duties.{config_of, asks_of, needs_of, wants_of, end_of, change_of, publishing_of, facts_of, differs_of}
 use Rattle.bz_running.specs.declared.running.Running.{Running}
-use Rattle.bz_running.specs.declared.running.Running.TheVariants.{Descending, Reading, Inserting, Updating, Deleting, Freezing, Consolidating}
+use Rattle.bz_running.specs.declared.running.Running.TheVariants.{Descending, Reading, Inserting, Updating, Deleting, Freezing, Consolidating, Splitting}
+
+abbrev pub Stable : Running → Type 0
+Stable t = (stage : Stage) (s after : Scene) → s.past.config ≡ config_of t → facts_of t stage s → IsScene after → IsLawful s after → facts_of t stage after
 
 abbrev pub Effect : Running → Type 0
 Effect t = (s : Scene) (y : Instant) (entries : List Entry) → s.past.config ≡ config_of t → facts_of t Waiting s → IsScene s → asks_of t ≡ Some (Swap entries) → Stand entries (here s) → SwapsTo s.past.config entries (here s) y → IsGoodSwap (publishing_of t) (change_of t) entries s y
@@ -38,13 +41,26 @@ Restarts seen new t = end_of new ≡ Some Restart → (seen ≡ Swapped false) �
 abbrev pub Learns : Seen → ℕ → FreeSlots → FreeSlots → Running → Running → Type 0
 Learns seen moment free left new t = (stage : Stage) (s : Scene) → s.past.now ≡ moment → s.past.config ≡ config_of t → IsScene s → (0 < needs_of t → AreUnreached s free) → facts_of t stage s → Tells (asks_of t) stage seen s → facts_of new Waiting (gained s free left)
 
--- none takes more slots than a consolidation
-pub takes-one : ((t : Consolidate) → consol.needs_of t ≤ CONSOLIDATION_SLOTS) → (t : Running) → needs_of t ≤ CONSOLIDATION_SLOTS
-unfolding needs_of
-takes-one one (Descending t) = omega arith
-takes-one one (Reading t) = omega arith
-takes-one one (Inserting t) = omega arith
-takes-one one (Updating t) = omega arith
-takes-one one (Deleting t) = omega arith
-takes-one one (Freezing t) = omega arith
-takes-one one (Consolidating t) = one t
+-- what a task still is to take is no more than what it takes in all
+pub takes-few : ((t : Consolidate) → consol.needs_of t ≤ CONSOLIDATION_SLOTS) → (t : Running) → needs_of t ≤ SPLIT_SLOTS → needs_of t ≤ wants_of t
+unfolding needs_of wants_of
+takes-few one (Descending t) few = omega arith
+takes-few one (Reading t) few = omega arith
+takes-few one (Inserting t) few = omega arith
+takes-few one (Updating t) few = omega arith
+takes-few one (Deleting t) few = omega arith
+takes-few one (Freezing t) few = omega arith
+takes-few one (Consolidating t) few = one t
+takes-few one (Splitting t) few = few
+
+-- and no more than a split takes
+pub wants-few : (t : Running) → wants_of t ≤ SPLIT_SLOTS
+unfolding wants_of
+wants-few (Descending t) = omega arith
+wants-few (Reading t) = omega arith
+wants-few (Inserting t) = omega arith
+wants-few (Updating t) = omega arith
+wants-few (Deleting t) = omega arith
+wants-few (Freezing t) = omega arith
+wants-few (Consolidating t) = omega arith
+wants-few (Splitting t) = omega arith

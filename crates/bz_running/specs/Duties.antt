@@ -1,6 +1,7 @@
 -- What a task asks for and knows, whichever it is.
 use Rattle.std.specs.Prelude.{◌≡◌, ℕ, Bool, true, false, Option, refl}
 use Rattle.bz_layout.specs.declared.config.Config.{Config}
+use Rattle.bz_layout.specs.declared.thresholds.TheConstants.{CONSOLIDATION_SLOTS, SPLIT_SLOTS}
 use Rattle.bz_task.specs.Scene.{Scene, Stage}
 use Rattle.bz_task.specs.Swaps.{Change}
 use Rattle.bz_task.specs.declared.todo.Outcome.{Outcome}
@@ -16,8 +17,10 @@ use Rattle.bz_leaf.specs.Duties as leaf
 use Rattle.bz_leaf.specs.Facts.{leaf_change}
 use Rattle.bz_mutate.specs.DeleteDuties as delete
 use Rattle.bz_mutate.specs.UpdateDuties as update
+use Rattle.bz_split.specs.Duties as split
+use Rattle.bz_split.specs.Facts.{split_change, split_means}
 use Rattle.bz_running.specs.declared.running.Running.{Running}
-use Rattle.bz_running.specs.declared.running.Running.TheVariants.{Descending, Reading, Inserting, Updating, Deleting, Freezing, Consolidating}
+use Rattle.bz_running.specs.declared.running.Running.TheVariants.{Descending, Reading, Inserting, Updating, Deleting, Freezing, Consolidating, Splitting}
 
 unfoldable pub config_of : Running → Config
 config_of (Descending t) = descend.config_of t
@@ -27,6 +30,7 @@ config_of (Updating t) = update.config_of t
 config_of (Deleting t) = delete.config_of t
 config_of (Freezing t) = t.config
 config_of (Consolidating t) = t.config
+config_of (Splitting t) = t.config
 
 unfoldable pub asks_of : Running → Option Todo
 asks_of (Descending t) = descend.asks_of t
@@ -36,6 +40,7 @@ asks_of (Updating t) = update.asks_of t
 asks_of (Deleting t) = delete.asks_of t
 asks_of (Freezing t) = freeze_asks t.config t.slot t.status t.phase
 asks_of (Consolidating t) = consol.asks_of t
+asks_of (Splitting t) = split.asks_of t
 
 unfoldable pub end_of : Running → Option Outcome
 end_of (Descending t) = descend.end_of t
@@ -45,6 +50,7 @@ end_of (Updating t) = update.end_of t
 end_of (Deleting t) = delete.end_of t
 end_of (Freezing t) = freeze_end t.phase
 end_of (Consolidating t) = consol.end_of t
+end_of (Splitting t) = split.end_of t
 
 unfoldable pub left_of : Running → ℕ
 left_of (Descending t) = descend.left_of t
@@ -54,6 +60,7 @@ left_of (Updating t) = update.left_of t
 left_of (Deleting t) = delete.left_of t
 left_of (Freezing t) = freeze_left t.phase
 left_of (Consolidating t) = consol.left_of t
+left_of (Splitting t) = split.left_of t
 
 unfoldable pub needs_of : Running → ℕ
 needs_of (Descending t) = 0
@@ -63,6 +70,18 @@ needs_of (Updating t) = 0
 needs_of (Deleting t) = 0
 needs_of (Freezing t) = 0
 needs_of (Consolidating t) = consol.needs_of t
+needs_of (Splitting t) = split.needs_of t
+
+-- how many slots it takes from its begin to its end, if it takes any
+unfoldable pub wants_of : Running → ℕ
+wants_of (Descending t) = 0
+wants_of (Reading t) = 0
+wants_of (Inserting t) = 0
+wants_of (Updating t) = 0
+wants_of (Deleting t) = 0
+wants_of (Freezing t) = 0
+wants_of (Consolidating t) = CONSOLIDATION_SLOTS
+wants_of (Splitting t) = SPLIT_SLOTS
 
 unfoldable pub change_of : Running → Change
 change_of (Descending t) = descend_change
@@ -72,6 +91,7 @@ change_of (Updating t) = update.change_of t
 change_of (Deleting t) = delete.change_of t
 change_of (Freezing t) = freeze_change
 change_of (Consolidating t) = consol_change
+change_of (Splitting t) = split_change
 
 unfoldable pub publishing_of : Running → Bool
 publishing_of (Descending t) = false
@@ -81,6 +101,7 @@ publishing_of (Updating t) = update.publishing_of t
 publishing_of (Deleting t) = delete.publishing_of t
 publishing_of (Freezing t) = false
 publishing_of (Consolidating t) = false
+publishing_of (Splitting t) = false
 
 unfoldable pub facts_of : Running → Stage → Scene → Type 0
 facts_of (Descending t) = descend.facts_of t
@@ -90,6 +111,7 @@ facts_of (Updating t) = update.facts_of t
 facts_of (Deleting t) = delete.facts_of t
 facts_of (Freezing t) = freeze_facts t.slot t.status t.phase
 facts_of (Consolidating t) = consol.facts_of t
+facts_of (Splitting t) = split.facts_of t
 
 unfoldable pub means_of : Running → Outcome → Scene → Type 0
 means_of (Descending t) = descend.means_of t
@@ -99,6 +121,7 @@ means_of (Updating t) = update.means_of t
 means_of (Deleting t) = delete.means_of t
 means_of (Freezing t) = freeze_means t.slot
 means_of (Consolidating t) = consol_means t.link t.image.0
+means_of (Splitting t) = split_means t.link t.halves.left.0 t.halves.right.0 t.halves.separator
 
 unfoldable pub differs_of : Running → Seen → Type 0
 differs_of (Descending t) = descend.differs_of t
@@ -108,6 +131,7 @@ differs_of (Updating t) = λ seen. ⊥
 differs_of (Deleting t) = λ seen. ⊥
 differs_of (Freezing t) = λ seen. ⊥
 differs_of (Consolidating t) = consol.differs_of t
+differs_of (Splitting t) = split.differs_of t
 
 -- it makes no change of a key, and never publishes
 unfoldable pub makes_no_change : Running → Bool
@@ -118,6 +142,7 @@ makes_no_change (Updating t) = false
 makes_no_change (Deleting t) = false
 makes_no_change (Freezing t) = true
 makes_no_change (Consolidating t) = true
+makes_no_change (Splitting t) = true
 
 pub no-change-is-published : (t : Running) → makes_no_change t ≡ true → publishing_of t ≡ false
 unfolding makes_no_change publishing_of
@@ -128,3 +153,4 @@ no-change-is-published (Updating t) e = absurd (cc)
 no-change-is-published (Deleting t) e = absurd (cc)
 no-change-is-published (Freezing t) e = refl
 no-change-is-published (Consolidating t) e = refl
+no-change-is-published (Splitting t) e = refl

@@ -13,7 +13,7 @@ use Rattle.bz_task.specs.declared.todo.Seen.{Seen}
 use Rattle.bz_task.specs.declared.todo.Seen.TheVariants.{Swapped, NoSwap}
 use Rattle.bz_task.specs.declared.todo.Todo.{Todo}
 use Rattle.bz_task.specs.declared.view.LeafView.{LeafView}
-use Rattle.bz_running.specs.Duties.{config_of, asks_of, end_of, left_of, needs_of, change_of, facts_of, means_of, differs_of, makes_no_change}
+use Rattle.bz_running.specs.Duties.{config_of, asks_of, end_of, left_of, needs_of, wants_of, change_of, facts_of, means_of, differs_of, makes_no_change}
 use Rattle.bz_running.specs.declared.running.Running.{Running}
 
 -- a path or a view with which the task ends is one of this key; and with a view this path, if there is one, still is one
@@ -27,6 +27,7 @@ pub record HasHeard (old : Running) (seen : Seen) (moment : ℕ) (free : FreeSlo
   pub asked : asks_of new ≡ Some todo
   pub nearer : left_of new < left_of old
   pub config : config_of new ≡ config_of old
+  pub wants : wants_of new ≡ wants_of old
   pub change : change_of new ≡ change_of old
   pub silent : makes_no_change new ≡ makes_no_change old
   pub meant : (o : Outcome) (s : Scene) → means_of new o s → means_of old o s

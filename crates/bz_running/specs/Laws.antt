@@ -1,6 +1,6 @@
 -- The laws of a task, whichever it is: those that its contract gives.
 use Rattle.std.specs.Prelude.{◌≡◌, ◌≤◌, ℕ, true, false, List, Some}
-use Rattle.bz_layout.specs.declared.thresholds.TheConstants.{CONSOLIDATION_SLOTS, SPLIT_SLOTS}
+use Rattle.bz_layout.specs.declared.thresholds.TheConstants.{SPLIT_SLOTS}
 use Rattle.bz_word.specs.declared.entry.Entry.{Entry}
 use Rattle.bz_task.specs.Instant.{Instant}
 use Rattle.bz_task.specs.OwnActs.{Stores, Flushes}
@@ -11,16 +11,16 @@ use Rattle.bz_task.specs.declared.todo.Outcome.{Outcome}
 use Rattle.bz_task.specs.declared.todo.Seen.{Seen}
 use Rattle.bz_task.specs.declared.todo.Todo.{Todo}
 use Rattle.bz_task.specs.declared.todo.Todo.TheVariants.{Store, Flush, Swap}
-use Rattle.bz_running.specs.Duties.{config_of, asks_of, end_of, needs_of, change_of, publishing_of, facts_of, means_of, differs_of}
+use Rattle.bz_running.specs.Duties.{config_of, asks_of, end_of, needs_of, wants_of, change_of, publishing_of, facts_of, means_of, differs_of}
 use Rattle.bz_running.specs.declared.running.Running.{Running}
 
 pub record AreLaws (t : Running) : Type 0 where
   pub stable : (stage : Stage) (s after : Scene) → s.past.config ≡ config_of t → facts_of t stage s → IsScene after → IsLawful s after → facts_of t stage after
   pub askable : (s : Scene) (todo : Todo) → s.past.config ≡ config_of t → facts_of t Waiting s → IsScene s → asks_of t ≡ Some todo → IsAskable s todo
   pub cause : (s : Scene) (seen : Seen) → s.past.config ≡ config_of t → facts_of t Waiting s → differs_of t seen → IsCause (asks_of t) seen s
-  pub few : needs_of t ≤ SPLIT_SLOTS
-  -- until leaves are split, none takes more than a consolidation
-  pub single : needs_of t ≤ CONSOLIDATION_SLOTS
+  -- what it still is to take is no more than what it takes in all, and that no more than a split takes
+  pub few : needs_of t ≤ wants_of t
+  pub most : wants_of t ≤ SPLIT_SLOTS
   pub once : (s : Scene) → facts_of t Waiting s → publishing_of t ≡ true → s.effected ≡ false
   pub ends : (s : Scene) (outcome : Outcome) → facts_of t Waiting s → end_of t ≡ Some outcome → means_of t outcome s × HasFilled s
   pub effect : (s : Scene) (y : Instant) (entries : List Entry) → s.past.config ≡ config_of t → facts_of t Waiting s → IsScene s → asks_of t ≡ Some (Swap entries) → Stand entries (here s)

@@ -2,10 +2,10 @@
 
 ghost use Rattle.std.specs.Prelude.{◌≡◌, ◌<◌, ◌≢◌, ◌≤◌, ℕ, List, true, false, Option, None, Some};
 ghost use Rattle.bz_consol.specs.Facts.{LeadsTo};
-ghost use Rattle.bz_layout.specs.declared.thresholds.TheConstants.{CONSOLIDATION_SLOTS};
+ghost use Rattle.bz_layout.specs.declared.thresholds.TheConstants.{CONSOLIDATION_SLOTS, SPLIT_ABOVE, SPLIT_SLOTS};
 ghost use Rattle.bz_page.specs.Pages.{IsLeafByItself};
 ghost use Rattle.bz_record.specs.Records.{words_for, LacksRoom};
-ghost use Rattle.bz_slotted.specs.Readers.{found_of};
+ghost use Rattle.bz_slotted.specs.Readers.{found_of, live_of};
 ghost use Rattle.bz_slotted.specs.ReadingLaws.{node_of};
 ghost use Rattle.bz_word.specs.Statuses.{status};
 ghost use Rattle.bz_task.specs.Outcomes.{IsPath, IsView};
@@ -13,7 +13,7 @@ ghost use Rattle.bz_task.specs.Requests.{Hears, IsKnown};
 ghost use Rattle.bz_task.specs.Scene.{Scene, Waiting, IsScene, HasFilled};
 ghost use Rattle.bz_task.specs.declared.todo.Todo.TheVariants.{Read};
 ghost use Rattle.bz_running.specs.Hearing.{IsLookup, HasHeard};
-ghost use Rattle.bz_running.specs.Duties.{config_of, asks_of, end_of, left_of, needs_of, change_of, publishing_of, facts_of, means_of, differs_of, makes_no_change};
+ghost use Rattle.bz_running.specs.Duties.{config_of, asks_of, end_of, left_of, needs_of, wants_of, change_of, publishing_of, facts_of, means_of, differs_of, makes_no_change};
 ghost use Rattle.bz_running.specs.Laws.{AreLaws};
 
 use bz_consol::Consolidate;
@@ -24,6 +24,7 @@ use bz_key::{Key, PageBuf, Payload};
 use bz_layout::{Config, ROOT_STATUS_AT, Slots};
 use bz_leaf::ReadLeaf;
 use bz_mutate::{Delete, Update};
+use bz_split::SplitRoot;
 use bz_task::{LeafView, Outcome, Path, Seen, Task, Todo};
 
 /// A task on the tree.
@@ -36,15 +37,17 @@ pub enum Running {
     Deleting(Delete),
     Freezing(Freeze),
     Consolidating(Consolidate),
+    Splitting(SplitRoot),
 }
 
 impl Running {
     /// The way to the leaf of a key. It asks for the root status first.
-    #[tactic(auto, unfolding(crate::specs::Duties::config_of, crate::specs::Duties::asks_of, crate::specs::Duties::needs_of, crate::specs::Duties::facts_of, crate::specs::Duties::means_of, crate::specs::Duties::makes_no_change))]
+    #[tactic(auto, unfolding(crate::specs::Duties::config_of, crate::specs::Duties::asks_of, crate::specs::Duties::needs_of, crate::specs::Duties::wants_of, crate::specs::Duties::facts_of, crate::specs::Duties::means_of, crate::specs::Duties::makes_no_change))]
     pub fn descend(config: &Config, key: Key) -> Running
         ensures config { config_of result ≡ config.now }
         ensures asks { asks_of result ≡ Some (Read ROOT_STATUS_AT) }
         ensures needs { needs_of result ≡ 0 }
+        ensures wants { wants_of result ≡ 0 }
         ensures silent { makes_no_change result ≡ true }
         ensures facts { (s : Scene) → HasFilled s → facts_of result Waiting s }
         ensures ends { (way : Option Path) → IsLookup key way result }
@@ -53,13 +56,14 @@ impl Running {
     }
 
     /// A reading of the last leaf of a path.
-    #[tactic(auto, unfolding(crate::specs::Duties::config_of, crate::specs::Duties::asks_of, crate::specs::Duties::needs_of, crate::specs::Duties::facts_of, crate::specs::Duties::means_of, crate::specs::Duties::makes_no_change))]
+    #[tactic(auto, unfolding(crate::specs::Duties::config_of, crate::specs::Duties::asks_of, crate::specs::Duties::needs_of, crate::specs::Duties::wants_of, crate::specs::Duties::facts_of, crate::specs::Duties::means_of, crate::specs::Duties::makes_no_change))]
     pub fn read_leaf(config: &Config, path: Path, key: Key) -> Running
         requires some { 1 ≤ path.depth }
         requires few { path.depth ≤ 12 }
         ensures config { config_of result ≡ config.now }
         ensures asks { asks_of result ≡ None }
         ensures needs { needs_of result ≡ 0 }
+        ensures wants { wants_of result ≡ 0 }
         ensures silent { makes_no_change result ≡ true }
         ensures facts { (s : Scene) → IsScene s → IsPath key path s.past → facts_of result Waiting s }
         ensures ends { IsLookup key (Some path) result }
@@ -68,7 +72,7 @@ impl Running {
     }
 
     /// The insert of a key that is absent from its viewed leaf.
-    #[tactic(auto, unfolding(crate::specs::Duties::config_of, crate::specs::Duties::asks_of, crate::specs::Duties::needs_of, crate::specs::Duties::change_of, crate::specs::Duties::facts_of, crate::specs::Duties::means_of))]
+    #[tactic(auto, unfolding(crate::specs::Duties::config_of, crate::specs::Duties::asks_of, crate::specs::Duties::needs_of, crate::specs::Duties::wants_of, crate::specs::Duties::change_of, crate::specs::Duties::facts_of, crate::specs::Duties::means_of))]
     pub fn insert(
         config: &Config,
         path: Path,
@@ -80,6 +84,7 @@ impl Running {
         ensures config { config_of result ≡ config.now }
         ensures asks { asks_of result ≡ None }
         ensures needs { needs_of result ≡ 0 }
+        ensures wants { wants_of result ≡ 0 }
         ensures change { change_of result ≡ record { key = key; old = None; new = Some payload } }
         ensures facts { (s : Scene) → s.past.config ≡ config.now → s.effected ≡ false → IsScene s → IsView key view s.past → facts_of result Waiting s }
         ensures ends { (way : Option Path) → IsLookup key way result }
@@ -90,7 +95,7 @@ impl Running {
     }
 
     /// The update of a key that its viewed leaf has.
-    #[tactic(auto, unfolding(crate::specs::Duties::config_of, crate::specs::Duties::asks_of, crate::specs::Duties::needs_of, crate::specs::Duties::change_of, crate::specs::Duties::facts_of, crate::specs::Duties::means_of))]
+    #[tactic(auto, unfolding(crate::specs::Duties::config_of, crate::specs::Duties::asks_of, crate::specs::Duties::needs_of, crate::specs::Duties::wants_of, crate::specs::Duties::change_of, crate::specs::Duties::facts_of, crate::specs::Duties::means_of))]
     pub fn update(
         config: &Config,
         path: Path,
@@ -102,6 +107,7 @@ impl Running {
         ensures config { config_of result ≡ config.now }
         ensures asks { asks_of result ≡ None }
         ensures needs { needs_of result ≡ 0 }
+        ensures wants { wants_of result ≡ 0 }
         ensures change { change_of result ≡ record { key = key; old = found_of (node_of view.image.0) key; new = Some payload } }
         ensures facts { (s : Scene) → s.past.config ≡ config.now → s.effected ≡ false → IsScene s → IsView key view s.past → facts_of result Waiting s }
         ensures ends { (way : Option Path) → IsLookup key way result }
@@ -112,12 +118,13 @@ impl Running {
     }
 
     /// The delete of a key that its viewed leaf has.
-    #[tactic(auto, unfolding(crate::specs::Duties::config_of, crate::specs::Duties::asks_of, crate::specs::Duties::needs_of, crate::specs::Duties::change_of, crate::specs::Duties::facts_of, crate::specs::Duties::means_of))]
+    #[tactic(auto, unfolding(crate::specs::Duties::config_of, crate::specs::Duties::asks_of, crate::specs::Duties::needs_of, crate::specs::Duties::wants_of, crate::specs::Duties::change_of, crate::specs::Duties::facts_of, crate::specs::Duties::means_of))]
     pub fn delete(config: &Config, path: Path, view: LeafView, key: Key) -> Running
         requires present { found_of (node_of view.image.0) key ≢ None }
         ensures config { config_of result ≡ config.now }
         ensures asks { asks_of result ≡ None }
         ensures needs { needs_of result ≡ 0 }
+        ensures wants { wants_of result ≡ 0 }
         ensures change { change_of result ≡ record { key = key; old = found_of (node_of view.image.0) key; new = None } }
         ensures facts { (s : Scene) → s.past.config ≡ config.now → s.effected ≡ false → IsScene s → IsView key view s.past → facts_of result Waiting s }
         ensures ends { (way : Option Path) → IsLookup key way result }
@@ -128,12 +135,13 @@ impl Running {
     }
 
     /// The freeze of a leaf that was not frozen when it was viewed.
-    #[tactic(auto, unfolding(crate::specs::Duties::config_of, crate::specs::Duties::asks_of, crate::specs::Duties::needs_of, crate::specs::Duties::facts_of, crate::specs::Duties::means_of, crate::specs::Duties::makes_no_change))]
+    #[tactic(auto, unfolding(crate::specs::Duties::config_of, crate::specs::Duties::asks_of, crate::specs::Duties::needs_of, crate::specs::Duties::wants_of, crate::specs::Duties::facts_of, crate::specs::Duties::means_of, crate::specs::Duties::makes_no_change))]
     pub fn freeze(config: &Config, path: Path, view: LeafView) -> Running
         requires thawed { (status view.status).frozen ≡ false }
         ensures config { config_of result ≡ config.now }
         ensures asks { asks_of result ≡ None }
         ensures needs { needs_of result ≡ 0 }
+        ensures wants { wants_of result ≡ 0 }
         ensures silent { makes_no_change result ≡ true }
         ensures facts { (key : List ℕ) (s : Scene) → s.past.config ≡ config.now → IsScene s → IsView key view s.past → facts_of result Waiting s }
         ensures ends { (key : List ℕ) (way : Option Path) → IsLookup key way result }
@@ -142,7 +150,7 @@ impl Running {
     }
 
     /// The consolidation of a frozen leaf, to which the path leads.
-    #[tactic(auto, unfolding(crate::specs::Duties::config_of, crate::specs::Duties::asks_of, crate::specs::Duties::needs_of, crate::specs::Duties::facts_of, crate::specs::Duties::means_of, crate::specs::Duties::makes_no_change))]
+    #[tactic(auto, unfolding(crate::specs::Duties::config_of, crate::specs::Duties::asks_of, crate::specs::Duties::needs_of, crate::specs::Duties::wants_of, crate::specs::Duties::facts_of, crate::specs::Duties::means_of, crate::specs::Duties::makes_no_change))]
     pub fn consolidate(config: &Config, path: Path, view: LeafView, page: &mut PageBuf) -> Running
         requires some { 1 ≤ path.depth }
         requires few { path.depth ≤ 12 }
@@ -152,6 +160,7 @@ impl Running {
         ensures config { config_of result ≡ config.now }
         ensures asks { asks_of result ≡ None }
         ensures needs { needs_of result ≡ CONSOLIDATION_SLOTS }
+        ensures wants { wants_of result ≡ CONSOLIDATION_SLOTS }
         ensures silent { makes_no_change result ≡ true }
         ensures facts { (key : List ℕ) (s : Scene) → s.past.config ≡ config.now → IsScene s → IsPath key path s.past → IsView key view s.past → facts_of result Waiting s }
         ensures ends { (key : List ℕ) (way : Option Path) → IsLookup key way result }
@@ -159,8 +168,27 @@ impl Running {
         Running::Consolidating(Consolidate::new(config, path, view, page))
     }
 
+    /// The split of a frozen root leaf with more live words than it may keep, to which the path leads.
+    #[tactic(auto, unfolding(crate::specs::Duties::config_of, crate::specs::Duties::asks_of, crate::specs::Duties::needs_of, crate::specs::Duties::wants_of, crate::specs::Duties::facts_of, crate::specs::Duties::means_of, crate::specs::Duties::makes_no_change))]
+    pub fn split_root(config: &Config, path: Path, view: LeafView, page: &mut PageBuf) -> Running
+        requires root { path.depth ≡ 1 }
+        requires alone { IsLeafByItself view.image.0 }
+        requires many { SPLIT_ABOVE < live_of (node_of view.image.0) }
+        requires frozen { (status view.status).frozen ≡ true }
+        requires leads { LeadsTo path view.slot }
+        ensures config { config_of result ≡ config.now }
+        ensures asks { asks_of result ≡ None }
+        ensures needs { needs_of result ≡ SPLIT_SLOTS }
+        ensures wants { wants_of result ≡ SPLIT_SLOTS }
+        ensures silent { makes_no_change result ≡ true }
+        ensures facts { (key : List ℕ) (s : Scene) → s.past.config ≡ config.now → IsScene s → IsPath key path s.past → IsView key view s.past → facts_of result Waiting s }
+        ensures ends { (key : List ℕ) (way : Option Path) → IsLookup key way result }
+    {
+        Running::Splitting(SplitRoot::new(config, path, view, page))
+    }
+
     /// Tells the task what came of its last act, and answers what it asks for next: `next`, and that one which makes no change makes none later.
-    #[tactic(auto, unfolding(crate::specs::Duties::config_of, crate::specs::Duties::asks_of, crate::specs::Duties::end_of, crate::specs::Duties::left_of, crate::specs::Duties::needs_of, crate::specs::Duties::change_of, crate::specs::Duties::facts_of, crate::specs::Duties::means_of, crate::specs::Duties::differs_of, crate::specs::Duties::makes_no_change))]
+    #[tactic(auto, unfolding(crate::specs::Duties::config_of, crate::specs::Duties::asks_of, crate::specs::Duties::end_of, crate::specs::Duties::left_of, crate::specs::Duties::needs_of, crate::specs::Duties::wants_of, crate::specs::Duties::change_of, crate::specs::Duties::facts_of, crate::specs::Duties::means_of, crate::specs::Duties::differs_of, crate::specs::Duties::makes_no_change))]
     pub fn hear(&mut self, seen: Seen, slots: &mut Slots, moment: u32) -> Todo
         requires hears { Hears (asks_of self.old) seen }
         requires known { IsKnown (config_of self.old) (facts_of self.old) (asks_of self.old) seen moment }
@@ -175,6 +203,7 @@ impl Running {
             Running::Deleting(task) => task.next(seen, slots, moment),
             Running::Freezing(task) => task.next(seen, slots, moment),
             Running::Consolidating(task) => task.next(seen, slots, moment),
+            Running::Splitting(task) => task.next(seen, slots, moment),
         }
     }
 
@@ -219,6 +248,7 @@ impl Task for Running {
             Running::Deleting(task) => task.publishes(),
             Running::Freezing(task) => task.publishes(),
             Running::Consolidating(task) => task.publishes(),
+            Running::Splitting(task) => task.publishes(),
         }
     }
 
@@ -232,10 +262,11 @@ impl Task for Running {
             Running::Deleting(task) => task.ended(),
             Running::Freezing(task) => task.ended(),
             Running::Consolidating(task) => task.ended(),
+            Running::Splitting(task) => task.ended(),
         }
     }
 
-    #[tactic(auto, unfolding(crate::specs::Duties::config_of, crate::specs::Duties::asks_of, crate::specs::Duties::end_of, crate::specs::Duties::left_of, crate::specs::Duties::needs_of, crate::specs::Duties::change_of, crate::specs::Duties::facts_of, crate::specs::Duties::means_of, crate::specs::Duties::differs_of))]
+    #[tactic(auto, unfolding(crate::specs::Duties::config_of, crate::specs::Duties::asks_of, crate::specs::Duties::end_of, crate::specs::Duties::left_of, crate::specs::Duties::needs_of, crate::specs::Duties::wants_of, crate::specs::Duties::change_of, crate::specs::Duties::facts_of, crate::specs::Duties::means_of, crate::specs::Duties::differs_of))]
     fn next(&mut self, seen: Seen, slots: &mut Slots, moment: u32) -> Todo {
         match self {
             Running::Descending(task) => task.next(seen, slots, moment),
@@ -245,10 +276,11 @@ impl Task for Running {
             Running::Deleting(task) => task.next(seen, slots, moment),
             Running::Freezing(task) => task.next(seen, slots, moment),
             Running::Consolidating(task) => task.next(seen, slots, moment),
+            Running::Splitting(task) => task.next(seen, slots, moment),
         }
     }
 
-    #[tactic(auto, unfolding(crate::specs::Duties::config_of, crate::specs::Duties::needs_of, crate::specs::Duties::asks_of, crate::specs::Duties::end_of, crate::specs::Duties::publishing_of, crate::specs::Duties::facts_of, crate::specs::Duties::means_of, crate::specs::Duties::differs_of))]
+    #[tactic(auto, unfolding(crate::specs::Duties::config_of, crate::specs::Duties::needs_of, crate::specs::Duties::wants_of, crate::specs::Duties::asks_of, crate::specs::Duties::end_of, crate::specs::Duties::publishing_of, crate::specs::Duties::facts_of, crate::specs::Duties::means_of, crate::specs::Duties::differs_of))]
     fn learnt(&self) {
         match self {
             Running::Descending(task) => task.learnt(),
@@ -258,6 +290,7 @@ impl Task for Running {
             Running::Deleting(task) => task.learnt(),
             Running::Freezing(task) => task.learnt(),
             Running::Consolidating(task) => task.learnt(),
+            Running::Splitting(task) => task.learnt(),
         }
     }
 
@@ -271,6 +304,7 @@ impl Task for Running {
             Running::Deleting(task) => task.acted(),
             Running::Freezing(task) => task.acted(),
             Running::Consolidating(task) => task.acted(),
+            Running::Splitting(task) => task.acted(),
         }
     }
 }

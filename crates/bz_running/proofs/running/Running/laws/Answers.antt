@@ -1,4 +1,4 @@
-use Rattle.bz_running.proofs.Statements.{takes-one}
+use Rattle.bz_running.proofs.Statements.{takes-few, wants-few}
 use Rattle.bz_running.proofs.running.Running.laws.Goals as goal
 
 pub returns : goal.returns
@@ -6,8 +6,8 @@ returns c = let l = c.learnt.ensures in let a = c.acted.ensures in record {
   stable = l.stable;
   askable = l.askable;
   cause = l.cause;
-  few = l.few;
-  single = takes-one c.consolidations_take_one_slot.ensures c.args.self.now;
+  few = takes-few c.consolidations_take_one_slot.ensures c.args.self.now l.few;
+  most = wants-few c.args.self.now;
   once = l.once;
   ends = l.ends;
   effect = a.effect;

@@ -82,3 +82,19 @@ returns-in-Consolidating-clause-stored c = subst Stored (sym c.in-Consolidating.
 pub returns-in-Consolidating-clause-flushed : goal.returns-in-Consolidating-clause-flushed
 unfolding config_of asks_of change_of publishing_of facts_of
 returns-in-Consolidating-clause-flushed c = subst Flushed (sym c.in-Consolidating.is) c.acted-in-Consolidating.ensures.flushed
+
+pub returns-in-Splitting-clause-effect : goal.returns-in-Splitting-clause-effect
+unfolding config_of asks_of change_of publishing_of facts_of
+returns-in-Splitting-clause-effect c = subst Effect (sym c.in-Splitting.is) c.acted-in-Splitting.ensures.effect
+
+pub returns-in-Splitting-clause-took : goal.returns-in-Splitting-clause-took
+unfolding config_of asks_of change_of publishing_of facts_of
+returns-in-Splitting-clause-took c = subst Took (sym c.in-Splitting.is) c.acted-in-Splitting.ensures.took
+
+pub returns-in-Splitting-clause-stored : goal.returns-in-Splitting-clause-stored
+unfolding config_of asks_of change_of publishing_of facts_of
+returns-in-Splitting-clause-stored c = subst Stored (sym c.in-Splitting.is) c.acted-in-Splitting.ensures.stored
+
+pub returns-in-Splitting-clause-flushed : goal.returns-in-Splitting-clause-flushed
+unfolding config_of asks_of change_of publishing_of facts_of
+returns-in-Splitting-clause-flushed c = subst Flushed (sym c.in-Splitting.is) c.acted-in-Splitting.ensures.flushed

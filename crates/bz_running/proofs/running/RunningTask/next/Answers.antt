@@ -1,6 +1,6 @@
 use Rattle.std.proofs.Common.{sym, subst}
 use Rattle.bz_running.specs.Duties.{config_of, asks_of, end_of, needs_of, facts_of, differs_of}
-use Rattle.bz_running.specs.declared.running.Running.TheVariants.{Consolidating}
+use Rattle.bz_running.specs.declared.running.Running.TheVariants.{Consolidating, Splitting}
 use Rattle.bz_running.proofs.Statements.{Learns, Restarts}
 use Rattle.bz_running.proofs.running.RunningTask.next.Goals as goal
 
@@ -12,3 +12,12 @@ returns-in-Consolidating-clause-learns c =
 pub returns-in-Consolidating-clause-restart : goal.returns-in-Consolidating-clause-restart
 unfolding end_of differs_of
 returns-in-Consolidating-clause-restart c = subst (Restarts c.args.seen (Consolidating c.next-in-Consolidating.new.self)) (sym c.in-Consolidating.is) c.next-in-Consolidating.ensures.restart
+
+pub returns-in-Splitting-clause-learns : goal.returns-in-Splitting-clause-learns
+unfolding config_of asks_of needs_of facts_of
+returns-in-Splitting-clause-learns c =
+    subst (Learns c.args.seen c.args.moment c.args.slots.now c.next-in-Splitting.new.slots (Splitting c.next-in-Splitting.new.self)) (sym c.in-Splitting.is) c.next-in-Splitting.ensures.learns
+
+pub returns-in-Splitting-clause-restart : goal.returns-in-Splitting-clause-restart
+unfolding end_of differs_of
+returns-in-Splitting-clause-restart c = subst (Restarts c.args.seen (Splitting c.next-in-Splitting.new.self)) (sym c.in-Splitting.is) c.next-in-Splitting.ensures.restart
