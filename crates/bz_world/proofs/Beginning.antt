@@ -12,7 +12,7 @@ use Rattle.bz_call.specs.declared.calls.Call.{Call}
 use Rattle.bz_mark.specs.Log.{with_mark, count_begins, count_page_calls}
 use Rattle.bz_mark.specs.declared.marks.Mark.{Mark}
 use Rattle.bz_mark.specs.declared.marks.Mark.TheVariants.{Begin, End, Load, Store, Cas, Flush, Evict, Cut, On, Ready, Effect}
-use Rattle.bz_running.specs.Duties.{config_of, asks_of, needs_of, facts_of, makes_no_change}
+use Rattle.bz_running.specs.Duties.{config_of, asks_of, needs_of, wants_of, facts_of, makes_no_change}
 use Rattle.bz_running.specs.Hearing.{IsLookup}
 use Rattle.bz_running.specs.Laws.{AreLaws}
 use Rattle.bz_running.specs.declared.running.Running.{Running}
@@ -74,7 +74,7 @@ module _ (p : Parts) (k : IsAwake p) (w : ℕ) (call : Call) (may : MayBegin p w
   at-rest = subst (IsSlot p.config p.access p.journal k.story p.owners.items w) may.none_open (k.workers w)
 
   module _ (b : EndLaws) (s : StartLaws) (n : ℕ) (numbered : n ≡ begun_calls w p.journal.past + 1) (task : Running) (config : config_of task ≡ p.config) (laws : AreLaws task) (looks : makes_no_change task ≡ true)
-      (lookup : IsLookup (key_of call) None task) (asks : asks_of task ≡ Some (Read 2)) (facts : (z : Scene) → HasFilled z → facts_of task Waiting z) where
+      (lookup : IsLookup (key_of call) None task) (asks : asks_of task ≡ Some (Read 2)) (facts : (z : Scene) → HasFilled z → facts_of task Waiting z) (wants : wants_of task ≡ 0) where
     abbrev mark : Mark
     mark = Begin w n call
 
@@ -181,7 +181,7 @@ module _ (p : Parts) (k : IsAwake p) (w : ℕ) (call : Call) (may : MayBegin p w
       worker = may.worker;
       within = may.within;
       opened = opened;
-      call_open = record { is_open = (b.calls w p.journal.past).own_begin n call; call = refl; effect = refl; begun = omega arith; told = λ at e. absurd (cc e) };
+      call_open = record { is_open = (b.calls w p.journal.past).own_begin n call; call = refl; effect = refl; begun = omega arith; told = λ at e. absurd (cc e); wanted = λ some. absurd (omega (arith, some, wants)) };
       idle = at-rest.idle;
     }
 
@@ -198,7 +198,7 @@ module _ (p : Parts) (k : IsAwake p) (w : ℕ) (call : Call) (may : MayBegin p w
         tasked = record { config = config; laws = laws; lookup = lookup; change = inl looks };
         asks = asks;
         facts = facts (scene p.config (mark ∷ p.journal.past) after w opened) none-taken;
-        covered = none-unfilled (k.story.took w) (k.story.filled w) (needs_of task) laws.few at-rest.filled;
+        covered = none-unfilled (k.story.took w) (k.story.filled w) (needs_of task) (omega (arith, laws.few, laws.most)) at-rest.filled;
       };
     }
 

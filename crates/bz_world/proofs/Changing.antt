@@ -1,14 +1,15 @@
 -- A call that makes its change, in the leaf that was read.
-use Rattle.std.proofs.Common.{◌≡◌, ℕ, ◌<◌, ◌≤◌, true, false, List, arith, refl, sym, ap, subst, ◌∙◌, inl, inr, Option, Some, None}
+use Rattle.std.proofs.Common.{◌≡◌, ℕ, ◌<◌, ◌≤◌, nat_lt, true, false, List, arith, refl, sym, ap, subst, ◌∙◌, inl, inr, Option, Some, None}
 use Rattle.std.specs.Prelude.{is_some}
+use Rattle.std.proofs.lemmas.Bool.Decides.{nat_tests}
 use Rattle.bz_call.specs.Map.{key_of}
 use Rattle.bz_call.specs.declared.calls.Call.{Call}
 use Rattle.bz_call.specs.declared.calls.Call.TheVariants as call
 use Rattle.bz_layout.specs.declared.sizes.TheConstants.{STATUS_AT}
-use Rattle.bz_layout.specs.declared.thresholds.TheConstants.{SPLIT_ABOVE}
+use Rattle.bz_layout.specs.declared.thresholds.TheConstants.{CONSOLIDATION_SLOTS, SPLIT_ABOVE, SPLIT_SLOTS}
 use Rattle.bz_page.specs.Laws.{IsSaidBy}
 use Rattle.bz_record.specs.Laws.{IsViewed}
-use Rattle.bz_running.specs.Duties.{config_of, asks_of, change_of, facts_of}
+use Rattle.bz_running.specs.Duties.{config_of, asks_of, wants_of, change_of, facts_of}
 use Rattle.bz_running.specs.Hearing.{IsLookup}
 use Rattle.bz_running.specs.Laws.{AreLaws}
 use Rattle.bz_running.specs.declared.running.Running.{Running}
@@ -17,7 +18,7 @@ use Rattle.bz_slotted.specs.Readers.{live_of}
 use Rattle.bz_slotted.specs.ReadingLaws.{node_of}
 use Rattle.bz_slotted.specs.Records.{live_words}
 use Rattle.bz_sound.specs.Memory.Moments.{image_at}
-use Rattle.bz_sound.specs.Memory.Spent.{leaf_page, IsCrowded}
+use Rattle.bz_sound.specs.Memory.Spent.{leaf_page, slots_for, NeedsSlots}
 use Rattle.bz_story.specs.Laws.{ScenesAreSeen}
 use Rattle.bz_task.specs.Good.{IsGood}
 use Rattle.bz_task.specs.Instant.{durable}
@@ -32,7 +33,7 @@ use Rattle.bz_world.specs.Inside.Laws.{AnswerLaws}
 use Rattle.bz_world.specs.Inside.Serving.{IsChangeFor, IsToldBy}
 use Rattle.bz_world.specs.Inside.Telling.{KnowsLeaf}
 use Rattle.bz_world.specs.declared.parts.Parts.{Parts}
-use Rattle.bz_world.proofs.TakingOn.{known-scene}
+use Rattle.bz_world.proofs.TakingOn.{known-scene, none-wanted}
 
 abbrev quiet-by : (o : Option ℕ) → o ≡ None → is_some o ≡ false
 quiet-by o e = ap is_some e
@@ -57,6 +58,13 @@ update-changes called key payload had change (inr e) is = subst (λ k. IsChangeF
 
 pub delete-changes : (called : Call) (key had : List ℕ) (change : Change) → called ≡ call.Delete key → change ≡ record { key = key; old = Some had; new = None } → IsChangeFor called (Some had) change
 delete-changes called key had change e is = subst (λ k. IsChangeFor k (Some had) change) (sym e) (subst (IsChangeFor (call.Delete key) (Some had)) (sym is) (record { key = refl; old = refl; is = refl }))
+
+-- how many slots that takes
+copy-slots : (live : ℕ) → live ≤ SPLIT_ABOVE → slots_for live ≡ CONSOLIDATION_SLOTS
+copy-slots live few = let t : nat_lt SPLIT_ABOVE live ≡ false = grind (arith, nat_tests) in rw t refl
+
+split-slots : (live : ℕ) → SPLIT_ABOVE < live → slots_for live ≡ SPLIT_SLOTS
+split-slots live many = let t : nat_lt SPLIT_ABOVE live ≡ true = grind (arith, nat_tests) in rw t refl
 
 module _ (scenes : ScenesAreSeen) (b : AnswerLaws) (p : Parts) (w : ℕ) (view : LeafView) (m : MustAnswer p w view) (key : List ℕ) (key-is : key_of m.on.serving.call ≡ key) where
   abbrev good-scene : IsScene (known p w m.on)
@@ -89,27 +97,34 @@ module _ (scenes : ScenesAreSeen) (b : AnswerLaws) (p : Parts) (w : ℕ) (view :
   unfolding live_of
   live-is = ap live_words leaf-is ∙ sym said.live
 
-  -- a frozen leaf with many live words is crowded
-  pub crowded : (status view.status).frozen ≡ true → SPLIT_ABOVE < live_of (node_of view.image.0) → IsCrowded p.config p.journal.start p.journal.past m.on.between.opened
-  crowded frozen many = record {
+  -- a frozen leaf has to be made anew, by a copy or by a split
+  needs-anew : (slots : ℕ) → slots_for (live_of (node_of view.image.0)) ≡ slots → (status view.status).frozen ≡ true → NeedsSlots p.config p.journal.start p.journal.past m.on.between.opened slots
+  needs-anew slots same frozen = record {
     moment = view.at;
     after_begin = omega (arith, m.viewed.since);
     before_end = m.viewed.now;
     frozen = subst (λ k. (leaf_page p.config (image_at p.journal.start view.at p.journal.past) k).frozen ≡ true) key-back (ap (λ (z : Page). z.frozen) leaf-is ∙ (ap (λ st. (status st).frozen) status-is ∙ frozen));
-    live = subst (λ k. SPLIT_ABOVE < live_words (leaf_page p.config (image_at p.journal.start view.at p.journal.past) k)) key-back (omega (arith, many, live-is));
+    needed = subst (λ k. slots_for (live_words (leaf_page p.config (image_at p.journal.start view.at p.journal.past) k)) ≡ slots) key-back (ap slots_for live-is ∙ same);
   }
     where
       key-back : key ≡ key_of m.on.between.opened.call
       key-back = sym key-is ∙ ap key_of (sym m.on.between.call_open.call)
 
+  pub needs-copy : (status view.status).frozen ≡ true → live_of (node_of view.image.0) ≤ SPLIT_ABOVE → NeedsSlots p.config p.journal.start p.journal.past m.on.between.opened CONSOLIDATION_SLOTS
+  needs-copy frozen few = needs-anew CONSOLIDATION_SLOTS (copy-slots (live_of (node_of view.image.0)) few) frozen
+
+  pub needs-split : (status view.status).frozen ≡ true → SPLIT_ABOVE < live_of (node_of view.image.0) → NeedsSlots p.config p.journal.start p.journal.past m.on.between.opened SPLIT_SLOTS
+  needs-split frozen many = needs-anew SPLIT_SLOTS (split-slots (live_of (node_of view.image.0)) many) frozen
+
   -- a task that makes the call's change may be begun
-  pub must-change : (task : Running) (had : Option (List ℕ)) → config_of task ≡ p.config → AreLaws task → IsChangeFor m.on.serving.call had (change_of task) → ((way : Option Path) → IsLookup key way task) → asks_of task ≡ None
+  pub must-change : (task : Running) (had : Option (List ℕ)) → config_of task ≡ p.config → AreLaws task → IsChangeFor m.on.serving.call had (change_of task) → ((way : Option Path) → IsLookup key way task) → asks_of task ≡ None → wants_of task ≡ 0
       → ((s : Scene) → s.past.config ≡ p.config → s.effected ≡ false → IsScene s → IsView key view s.past → facts_of task Waiting s) → MustChange p w view had task
-  must-change task had config laws change lookup asks facts = record {
+  must-change task had config laws change lookup asks wants facts = record {
     answer = m;
     tasked = record { config = config; laws = laws; lookup = subst (λ k. IsLookup k m.on.serving.path task) (sym key-is) (lookup m.on.serving.path); change = inr change };
     asks = asks;
     facts = facts (known p w m.on) refl (quiet-by m.on.between.opened.effect (m.on.between.call_open.effect ∙ m.quiet)) good-scene of-key;
+    wants = wants;
   }
 
 -- the call has told nothing yet
@@ -118,7 +133,7 @@ tells-nothing p w on had quiet at e = absurd (cc (e, on.between.call_open.effect
 
 -- the task that it takes on, and what is known of its leaf
 abbrev pub takes : (p : Parts) (w : ℕ) (view : LeafView) (had : Option (List ℕ)) (task : Running) (m : MustChange p w view had task) → MustTakeOn p w task m.answer.on.serving.path had None
-takes p w view had task m = record { on = m.answer.on; tasked = m.tasked; asks = m.asks; facts = m.facts }
+takes p w view had task m = record { on = m.answer.on; tasked = m.tasked; asks = m.asks; facts = m.facts; wanted = none-wanted p w m.answer.on task m.wants }
 
 abbrev pub knows : (p : Parts) (w : ℕ) (view : LeafView) (m : MustAnswer p w view) → KnowsLeaf p w m.on.serving m.on.between view
 knows p w view m = record { viewed = m.viewed; leads = m.leads; quiet = m.quiet }

@@ -36,7 +36,7 @@ slot-pages : (c : Config) (m : SwapMemory) (log : Log) (pages : Pages) (story : 
 slot-pages c m log pages story owners v None h = record { none_open = h.none_open; idle = h.idle; filled = h.filled }
 slot-pages c m log pages story owners v (Some x) h = record {
   opened = h.opened;
-  call_open = let o = h.call_open in record { is_open = o.is_open; call = o.call; effect = o.effect; begun = o.begun; told = o.told };
+  call_open = let o = h.call_open in record { is_open = o.is_open; call = o.call; effect = o.effect; begun = o.begun; told = o.told; wanted = o.wanted };
   tasked = h.tasked;
   asked = h.asked;
   asks = h.asks;

@@ -30,6 +30,7 @@ mod Openings
 mod Takings
 mod SpendingSlots
 mod MakingAnew
+mod TallTrees
 mod Cutting
 mod Recovering
 mod Waking

@@ -6,7 +6,7 @@ use Rattle.bz_acts.specs.declared.acted.Act.{Act}
 use Rattle.bz_machine.specs.declared.done.Done.{Done}
 use Rattle.bz_machine.specs.declared.done.Done.TheVariants.{Busy, Read, Swapped, Stored, Flushed}
 use Rattle.bz_mark.specs.Log.{with_mark}
-use Rattle.bz_running.specs.Duties.{facts_of}
+use Rattle.bz_running.specs.Duties.{wants_of, facts_of}
 use Rattle.bz_sight.specs.Passing.{Passes, Passed}
 use Rattle.bz_sight.specs.Starts.{Sees}
 use Rattle.bz_sound.specs.Calls.{Open, open_call}
@@ -34,7 +34,7 @@ use Rattle.bz_world.proofs.Owners.{pending-begun}
 use Rattle.bz_world.proofs.Marking.{act-marked, act-calls}
 use Rattle.bz_world.specs.Inside.Laws.{StepLaws}
 use Rattle.bz_world.proofs.Stepped.{act-tabled, act-taken, act-sound, held}
-use Rattle.bz_world.proofs.Staying.{SameFor, slot-stays, told-stays}
+use Rattle.bz_world.proofs.Staying.{SameFor, slot-stays, told-stays, wanted-stays}
 
 -- the call of a worker that serves one is open, so it is one of the workers
 module _ (p : Parts) (k : IsAwake p) (w : ℕ) (x : Serving) (is-worker : get_or p.workers.items w None ≡ Some x) where
@@ -178,6 +178,7 @@ module _ (b : StepLaws) (old new : Parts) (w : ℕ) (x : Serving) (made : Act) (
       effect = s.call_open.effect;
       begun = omega (arith, s.call_open.begun);
       told = told-stays b.stay old.config old.journal (mark_of w made) w s.opened x.had s.call_open.is_open s.call_open.told;
+      wanted = wanted-stays old.config old.journal (mark_of w made) s.opened (wants_of x.task) s.call_open.wanted;
     };
     idle = a.step.one.doing ∙ idle-by (doing_of old.access w) done ne;
   }

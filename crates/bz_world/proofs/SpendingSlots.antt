@@ -1,22 +1,23 @@
--- Where no slot is left, the others hold those that are not used.
+-- Where a task finds fewer slots than it takes, the others hold those that are neither free nor used.
 use Rattle.std.proofs.Common.{◌≡◌, ◌≢◌, ℕ, suc, ◌<◌, ◌≤◌, ◌==◌, ◌||◌, if◌then◌else◌, nat_lt, Bool, true, false, List, [], ◌∷◌, length, slice_index, arith, refl, sym, ap, subst, ◌∙◌, inl, inr, Option, Some, None}
 use Rattle.std.specs.Prelude.{get_or}
 use Rattle.std.proofs.lemmas.Bool.{true≢false}
 use Rattle.std.proofs.lemmas.Bool.Decides.{nat_tests}
 use Rattle.bz_layout.specs.declared.config.Config.{Config}
-use Rattle.bz_layout.specs.declared.thresholds.TheConstants.{CONSOLIDATION_SLOTS, SPLIT_SLOTS}
+use Rattle.bz_layout.specs.declared.thresholds.TheConstants.{SPLIT_SLOTS}
 use Rattle.bz_mark.specs.Log.{Log}
+use Rattle.bz_running.specs.Duties.{wants_of}
 use Rattle.bz_shape.specs.Walk.{is_among}
 use Rattle.bz_sound.specs.Calls.{Open, open_call}
-use Rattle.bz_sound.specs.Memory.ImageLaws.{AreSlotsHeldBy}
-use Rattle.bz_sound.specs.Memory.Spent.{is_reached_in, is_stored_into}
+use Rattle.bz_sound.specs.Memory.ImageLaws.{AreOthersHeld}
+use Rattle.bz_sound.specs.Memory.Spent.{NodesAreSpent, is_reached_in, is_stored_into}
 use Rattle.bz_sound.specs.Power.ImageLaws.{HeldSlotsAreSpent}
-use Rattle.bz_sound.specs.Power.Spent.{is_used, LacksSlot}
+use Rattle.bz_sound.specs.Power.Spent.{is_used, count_used}
 use Rattle.bz_sound.specs.Power.Times.{since_on, image_at_on}
 use Rattle.bz_story.specs.Story.{Story}
 use Rattle.bz_swap.specs.SwapMemory.{SwapMemory}
 use Rattle.bz_world.specs.Inside.Acted.{IsBetween}
-use Rattle.bz_world.specs.Inside.Going.{LacksSlots}
+use Rattle.bz_world.specs.Inside.Going.{IsOutOfSlots}
 use Rattle.bz_world.specs.Inside.Serving.{IsSlot}
 use Rattle.bz_world.specs.declared.parts.Parts.{Parts}
 use Rattle.bz_world.specs.declared.serving.Serving.{Serving}
@@ -40,10 +41,6 @@ is-at : (xs : List ℕ) (k : ℕ) → is_among xs k ≡ true → IsAt xs k (plac
 unfolding place-in
 is-at [] k h = absurd (cc)
 is-at (x ∷ xs) k h = at-test x xs k (x == k) refl h (is-at xs k)
-
-none-among : (xs : List ℕ) (k : ℕ) → length xs < CONSOLIDATION_SLOTS → is_among xs k ≡ false
-none-among [] k l = refl
-none-among (x ∷ xs) k l = absurd (omega (arith, l))
 
 -- the slots that a worker took and may not have stored into
 unfilled-of : (c : Config) (m : SwapMemory) (log : Log) (story : Story) (owners : List ℕ) (v : ℕ) (slot : Option Serving) → IsSlot c m log story owners v slot → List ℕ
@@ -70,9 +67,13 @@ unused-both : (a b : Bool) → a || b ≡ false → (a ≡ false) × (b ≡ fals
 unused-both true b e = absurd (cc)
 unused-both false b e = (refl, e)
 
-module _ (p : Parts) (w : ℕ) (l : LacksSlots p w) where
+module _ (p : Parts) (w : ℕ) (l : IsOutOfSlots p w) where
   abbrev was : IsBetween p w l.on.serving
   was = l.on.between
+
+  -- a slot is used or free
+  abbrev gone : ℕ → Bool
+  gone k = is_used p.config p.journal.start p.journal.past k || is_among p.slots.free k
 
   differs : (v : ℕ) → (v == w) ≡ false → v ≢ w
   differs v e same = absurd (true≢false (sym (let t : (v == w) ≡ true = grind (arith, nat_tests) in t) ∙ e))
@@ -114,10 +115,11 @@ module _ (p : Parts) (w : ℕ) (l : LacksSlots p w) where
       not-it : v ≢ w
       not-it e = absurd (true≢false (sym (l.on.filled k (subst (λ z. was.story.took z k ≡ true) e took)) ∙ subst (λ z. was.story.filled z k ≡ false) e unfilled))
 
-  holds : (k : ℕ) → k < p.config.nodes → is_used p.config p.journal.start p.journal.past k ≡ false → (v : ℕ) × HoldsSlot k v
+  holds : (k : ℕ) → k < p.config.nodes → gone k ≡ false → (v : ℕ) × HoldsSlot k v
   holds k below unused =
-      let apart = unused-both (is_reached_in p.config (image_at_on p.journal.start p.journal.past) k) (is_stored_into p.config k (since_on p.journal.past)) unused in
-      elim (was.free.others k below (none-among p.slots.free k l.none)) [
+      let neither = unused-both (is_used p.config p.journal.start p.journal.past k) (is_among p.slots.free k) unused in
+      let apart = unused-both (is_reached_in p.config (image_at_on p.journal.start p.journal.past) k) (is_stored_into p.config k (since_on p.journal.past)) neither.0 in
+      elim (was.free.others k below neither.1) [
         | inl reached ↦ absurd (true≢false (sym reached ∙ apart.0))
         | inr some ↦ (some.0, holds-by k some.0 apart.1 some.1)
       ]
@@ -126,28 +128,28 @@ module _ (p : Parts) (w : ℕ) (l : LacksSlots p w) where
   below-by k e = grind (arith, nat_tests)
 
   -- who holds it
-  holder-by : (k : ℕ) (a : Bool) → nat_lt k p.config.nodes ≡ a → (b : Bool) → is_used p.config p.journal.start p.journal.past k ≡ b → ℕ
+  holder-by : (k : ℕ) (a : Bool) → nat_lt k p.config.nodes ≡ a → (b : Bool) → gone k ≡ b → ℕ
   holder-by k true below false unused = (holds k (below-by k below) unused).0
   holder-by k true below true used = 0
   holder-by k false beyond b used = 0
 
   pub holder : ℕ → ℕ
-  holder k = holder-by k (nat_lt k p.config.nodes) refl (is_used p.config p.journal.start p.journal.past k) refl
+  holder k = holder-by k (nat_lt k p.config.nodes) refl (gone k) refl
 
-  holder-has : (k : ℕ) (a : Bool) (below : nat_lt k p.config.nodes ≡ a) (b : Bool) (unused : is_used p.config p.journal.start p.journal.past k ≡ b) → a ≡ true → b ≡ false → HoldsSlot k (holder-by k a below b unused)
+  holder-has : (k : ℕ) (a : Bool) (below : nat_lt k p.config.nodes ≡ a) (b : Bool) (unused : gone k ≡ b) → a ≡ true → b ≡ false → HoldsSlot k (holder-by k a below b unused)
   unfolding holder-by
   holder-has k true below false unused is not = (holds k (below-by k below) unused).1
   holder-has k true below true used is not = absurd (cc)
   holder-has k false beyond b used is not = absurd (cc)
 
-  has : (k : ℕ) → k < p.config.nodes → is_used p.config p.journal.start p.journal.past k ≡ false → HoldsSlot k (holder k)
+  has : (k : ℕ) → k < p.config.nodes → gone k ≡ false → HoldsSlot k (holder k)
   unfolding holder
-  has k below unused = holder-has k (nat_lt k p.config.nodes) refl (is_used p.config p.journal.start p.journal.past k) refl (let t : nat_lt k p.config.nodes ≡ true = grind (arith, nat_tests) in t) unused
+  has k below unused = holder-has k (nat_lt k p.config.nodes) refl (gone k) refl (let t : nat_lt k p.config.nodes ≡ true = grind (arith, nat_tests) in t) unused
 
   pub place : ℕ → ℕ
   place k = place-in (list (holder k)) k
 
-  found : (k : ℕ) → k < p.config.nodes → is_used p.config p.journal.start p.journal.past k ≡ false → IsAt (list (holder k)) k (place k)
+  found : (k : ℕ) → k < p.config.nodes → gone k ≡ false → IsAt (list (holder k)) k (place k)
   unfolding place
   found k below unused = is-at (list (holder k)) k (has k below unused).holding.among
 
@@ -155,17 +157,21 @@ module _ (p : Parts) (w : ℕ) (l : LacksSlots p w) where
   unfolding list
   few k = list-few (holder k) (holder k == w) refl
 
-  one-each : (k j : ℕ) → k < p.config.nodes → j < p.config.nodes → is_used p.config p.journal.start p.journal.past k ≡ false → is_used p.config p.journal.start p.journal.past j ≡ false → holder k ≡ holder j → place k ≡ place j → k ≡ j
+  one-each : (k j : ℕ) → k < p.config.nodes → j < p.config.nodes → gone k ≡ false → gone j ≡ false → holder k ≡ holder j → place k ≡ place j → k ≡ j
   one-each k j k-below j-below k-unused j-unused same also =
       sym (found k k-below k-unused).is ∙ (ap (λ v. slice_index (list v) (place k)) same ∙ (ap (slice_index (list (holder j))) also ∙ (found j j-below j-unused).is))
 
-  pub are-slots-held : AreSlotsHeldBy (λ slot. is_used p.config p.journal.start p.journal.past slot) p.config p.journal.past w holder place
+  pub are-slots-held : AreOthersHeld (λ slot. is_used p.config p.journal.start p.journal.past slot) p.slots.free p.config p.journal.past w holder place
   are-slots-held = record {
     held = λ k below unused. let h = has k below unused in is-other p w l.on.serving was (holder k) h.other h.holding.opened h.holding.is_open;
     placed = λ k below unused. omega (arith, (found k below unused).below, few k);
     one_each = one-each;
   }
 
--- so no slot is left for a copy
-pub slots-are-spent : HeldSlotsAreSpent → (p : Parts) (w : ℕ) (l : LacksSlots p w) → LacksSlot p.config p.journal.start p.journal.past w
-slots-are-spent law p w l = law p.config p.journal.start p.journal.past w (holder p w l) (place p w l) (are-slots-held p w l)
+-- so the slots that its task takes are not left
+pub slots-are-spent : HeldSlotsAreSpent → (p : Parts) (w : ℕ) (l : IsOutOfSlots p w) → NodesAreSpent p.config p.journal.start p.journal.past (count_used p.config p.journal.start p.journal.past) w l.on.between.opened
+slots-are-spent law p w l = record {
+  slots = wants_of l.on.serving.task;
+  needs = l.on.between.call_open.wanted (omega (arith, l.fewer));
+  lacks = law p.config p.journal.start p.journal.past w (wants_of l.on.serving.task) p.slots.free (holder p w l) (place p w l) l.fewer (are-slots-held p w l);
+}

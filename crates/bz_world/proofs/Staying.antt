@@ -2,14 +2,18 @@
 use Rattle.std.proofs.Common.{◌≡◌, ℕ, ◌≤◌, if◌then◌else◌, Bool, true, false, List, [], ◌∷◌, length, slice_index, arith, refl, sym, ap, subst, ◌∙◌, Option, Some, None}
 use Rattle.std.specs.Prelude.{get_or}
 use Rattle.std.proofs.lemmas.Bool.{true≢false}
+use Rattle.bz_call.specs.Map.{key_of}
 use Rattle.bz_layout.specs.declared.config.Config.{Config}
 use Rattle.bz_layout.specs.declared.thresholds.TheConstants.{SPLIT_SLOTS}
 use Rattle.bz_mark.specs.Log.{Log, with_mark}
+use Rattle.bz_mark.specs.MomentLaws.{at_moment-earlier}
 use Rattle.bz_mark.specs.declared.marks.Mark.{Mark}
-use Rattle.bz_running.specs.Duties.{needs_of, facts_of}
+use Rattle.bz_running.specs.Duties.{needs_of, wants_of, facts_of}
+use Rattle.bz_slotted.specs.Records.{live_words}
 use Rattle.bz_sound.specs.Calls.{Open, open_call}
-use Rattle.bz_sound.specs.Memory.Moments.{map_at_start}
+use Rattle.bz_sound.specs.Memory.Moments.{map_at_start, image_after}
 use Rattle.bz_sound.specs.Memory.OpenCallLaws.{EffectsStayOpen}
+use Rattle.bz_sound.specs.Memory.Spent.{NeedsSlots, leaf_page, slots_for}
 use Rattle.bz_story.specs.Laws.{HasBegun, ScenesAreSeen}
 use Rattle.bz_story.specs.Living.{IsLiving}
 use Rattle.bz_story.specs.Story.{Story, scene}
@@ -17,7 +21,7 @@ use Rattle.bz_swap.specs.SwapMemory.{SwapMemory, Doing, Idle, Reading, Swapping,
 use Rattle.bz_task.specs.Scene.{Scene, IsLawful, Waiting, Took}
 use Rattle.bz_task.specs.declared.todo.Todo.{Todo}
 use Rattle.bz_task.specs.declared.todo.Todo.TheVariants as todo
-use Rattle.bz_world.specs.Inside.Serving.{IsServing, IsCovered, IsDoing, IsSlot, IsToldBy, effect_reply, stage_in}
+use Rattle.bz_world.specs.Inside.Serving.{IsServing, IsCovered, IsDoing, IsSlot, IsToldBy, IsWanted, effect_reply, stage_in}
 use Rattle.bz_world.specs.declared.serving.Serving.{Serving}
 
 -- what a worker does is the same in two memories, and so is whether its swap has taken effect
@@ -82,6 +86,16 @@ pub record Leaves (c : Config) (m n : SwapMemory) (log : Log) (mark : Mark) (sto
 pub told-stays : EffectsStayOpen → (c : Config) (log : Log) (mark : Mark) (w : ℕ) (opened : Open) (had : Option (List ℕ)) → open_call w log.past ≡ Some opened → IsToldBy c log opened had → IsToldBy c (with_mark log mark) opened had
 told-stays stay c log mark w opened had is told at e = (stay (map_at_start c log.start) log.past mark w at opened is e).same_reply (effect_reply opened.call had) (told at e)
 
+-- and so does why its task takes slots
+pub wanted-stays : (c : Config) (log : Log) (mark : Mark) (opened : Open) (wants : ℕ) → IsWanted c log opened wants → IsWanted c (with_mark log mark) opened wants
+wanted-stays c log mark opened wants why some = let n : NeedsSlots c log.start log.past opened wants = why some in record {
+  moment = n.moment;
+  after_begin = n.after_begin;
+  before_end = omega (arith, n.before_end);
+  frozen = subst (λ (marks : List Mark). (leaf_page c (image_after log.start marks) (key_of opened.call)).frozen ≡ true) (sym (at_moment-earlier n.moment mark log.past n.before_end)) n.frozen;
+  needed = subst (λ (marks : List Mark). slots_for (live_words (leaf_page c (image_after log.start marks) (key_of opened.call))) ≡ wants) (sym (at_moment-earlier n.moment mark log.past n.before_end)) n.needed;
+}
+
 pub serving-stays : ScenesAreSeen → EffectsStayOpen → (c : Config) (m n : SwapMemory) (log : Log) (mark : Mark) (story after : Story) (owners : List ℕ) (v : ℕ) (x : Serving) → IsLiving c n (with_mark log mark) after → Leaves c m n log mark story after v
     → IsServing c m log story owners v x → IsServing c n (with_mark log mark) after owners v x
 serving-stays seen stay c m n log mark story after owners v x living l s = record {
@@ -92,6 +106,7 @@ serving-stays seen stay c m n log mark story after owners v x living l s = recor
     effect = s.call_open.effect;
     begun = omega (arith, s.call_open.begun);
     told = told-stays stay c log mark v s.opened x.had s.call_open.is_open s.call_open.told;
+    wanted = wanted-stays c log mark s.opened (wants_of x.task) s.call_open.wanted;
   };
   tasked = s.tasked;
   asked = s.asked;
@@ -117,7 +132,7 @@ pub slot-same : (c : Config) (m n : SwapMemory) (log : Log) (story : Story) (own
 slot-same c m n log story owners others v None same table s = record { none_open = s.none_open; idle = same.doing ∙ s.idle; filled = s.filled }
 slot-same c m n log story owners others v (Some x) same table s = record {
   opened = s.opened;
-  call_open = let o = s.call_open in record { is_open = o.is_open; call = o.call; effect = o.effect; begun = o.begun; told = o.told };
+  call_open = let o = s.call_open in record { is_open = o.is_open; call = o.call; effect = o.effect; begun = o.begun; told = o.told; wanted = o.wanted };
   tasked = s.tasked;
   asked = s.asked;
   asks = s.asks;
@@ -140,7 +155,7 @@ pub slot-scenes : (c : Config) (m : SwapMemory) (log : Log) (story after : Story
 slot-scenes c m log story after owners v None some same filled s = record { none_open = s.none_open; idle = s.idle; filled = λ k t. filled k ∙ s.filled k (sym (ap (λ (z : Scene). z.took k) (same some)) ∙ t) }
 slot-scenes c m log story after owners v (Some x) some same filled s = record {
   opened = s.opened;
-  call_open = let o = s.call_open in record { is_open = o.is_open; call = o.call; effect = o.effect; begun = o.begun; told = o.told };
+  call_open = let o = s.call_open in record { is_open = o.is_open; call = o.call; effect = o.effect; begun = o.begun; told = o.told; wanted = o.wanted };
   tasked = s.tasked;
   asked = s.asked;
   asks = s.asks;

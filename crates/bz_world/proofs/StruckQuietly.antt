@@ -5,7 +5,7 @@ use Rattle.std.proofs.lemmas.Bool.{cases_eq}
 use Rattle.bz_content.specs.Content.{image_fault, content_in}
 use Rattle.bz_mark.specs.Log.{with_mark}
 use Rattle.bz_mark.specs.MomentLaws.{at_moment-now}
-use Rattle.bz_running.specs.Duties.{asks_of, facts_of, publishing_of, change_of}
+use Rattle.bz_running.specs.Duties.{asks_of, wants_of, facts_of, publishing_of, change_of}
 use Rattle.bz_sight.specs.Effects.{effect_instant}
 use Rattle.bz_sound.specs.Memory.Moments.{image_after}
 use Rattle.bz_sound.specs.declared.power.Power.TheVariants as power
@@ -22,7 +22,7 @@ use Rattle.bz_world.specs.Inside.Serving.{IsServing, IsSlot, IsSwapping, stage_i
 use Rattle.bz_world.specs.declared.parts.Parts.{Parts}
 use Rattle.bz_world.specs.Inside.Laws.{StrikeLaws}
 use Rattle.bz_world.proofs.Powered.{flush-leaves, free-on}
-use Rattle.bz_world.proofs.Staying.{told-stays}
+use Rattle.bz_world.proofs.Staying.{told-stays, wanted-stays}
 use Rattle.bz_world.proofs.Striking.{flush-calls, old, kept, w, x, its, owner, before, good, after, living, opened, took, others}
 
 module _ (b : StrikeLaws) (p : Parts) (s : ℕ) (h : IsStriking p s) where
@@ -79,6 +79,7 @@ module _ (b : StrikeLaws) (p : Parts) (s : ℕ) (h : IsStriking p s) where
         effect = (its b p s h).call_open.effect;
         begun = omega (arith, (its b p s h).call_open.begun);
         told = told-stays b.stay (old b p s h).config (old b p s h).journal h.mark (w b p s h) (its b p s h).opened (x b p s h).had (its b p s h).call_open.is_open (its b p s h).call_open.told;
+        wanted = wanted-stays (old b p s h).config (old b p s h).journal h.mark (its b p s h).opened (wants_of (x b p s h).task) (its b p s h).call_open.wanted;
       };
       tasked = (its b p s h).tasked;
       asked = todo.Swap (entries_of (old b p s h).access s);

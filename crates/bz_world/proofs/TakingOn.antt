@@ -6,7 +6,7 @@ use Rattle.std.specs.Vec.{with_item}
 use Rattle.std.proofs.lemmas.List.{get_or_read_under, get_or-set_same, get_or-set_other, length-set}
 use Rattle.bz_call.specs.Map.{key_of}
 use Rattle.bz_call.specs.declared.calls.Call.{Call}
-use Rattle.bz_running.specs.Duties.{config_of, asks_of, end_of, needs_of, facts_of, makes_no_change}
+use Rattle.bz_running.specs.Duties.{config_of, asks_of, end_of, needs_of, wants_of, facts_of, makes_no_change}
 use Rattle.bz_running.specs.Hearing.{IsLookup}
 use Rattle.bz_running.specs.Laws.{AreLaws}
 use Rattle.bz_running.specs.declared.running.Running.{Running}
@@ -26,7 +26,7 @@ use Rattle.bz_task.specs.declared.view.LeafView.{LeafView}
 use Rattle.bz_world.specs.Inside.Acted.{IsBetween, MustTell}
 use Rattle.bz_world.specs.Inside.Going.{MustGoOn, MustTakeOn, MustAnswer, LacksSwap, known, call_in, end_in, WentOn}
 use Rattle.bz_world.specs.Lab.{GoesOn}
-use Rattle.bz_world.specs.Inside.Serving.{IsOpened, IsSlot, IsToldBy}
+use Rattle.bz_world.specs.Inside.Serving.{IsOpened, IsSlot, IsToldBy, IsWanted}
 use Rattle.bz_world.specs.Inside.Telling.{MustStart, HasTold, HasToldIn, LacksDescriptor, KnowsLeaf, MustTellOf, MustStartOf}
 use Rattle.bz_world.specs.declared.answers.Applied.{Applied}
 use Rattle.bz_world.specs.declared.parts.Parts.{Parts}
@@ -130,14 +130,19 @@ called-is p w on call is = let same : Some on.serving.call ≡ Some call = sym (
 pub known-scene : ScenesAreSeen → (p : Parts) (w : ℕ) (on : MustGoOn p w) → IsScene (known p w on)
 known-scene scenes p w on = (scenes p.config p.access p.journal on.between.story w on.between.opened on.between.living (begun-in on.between.living on.between.call_open)).scene
 
--- a lookup of the call's key
+-- a task that takes no slot needs no reason
+pub none-wanted : (p : Parts) (w : ℕ) (on : MustGoOn p w) (task : Running) → wants_of task ≡ 0 → IsWanted p.config p.journal on.between.opened (wants_of task)
+none-wanted p w on task none some = absurd (omega (arith, none, some))
+
+-- a task that makes no change, for the call's key
 abbrev pub lookup-taken : (p : Parts) (w : ℕ) (on : MustGoOn p w) (task : Running) (way : Option Path) (asked : Option Todo) (key : List ℕ) → config_of task ≡ p.config → AreLaws task → makes_no_change task ≡ true → IsLookup key way task → key ≡ key_of on.serving.call
-    → asks_of task ≡ asked → facts_of task Waiting (known p w on) → MustTakeOn p w task way on.serving.had asked
-lookup-taken p w on task way asked key config laws looks lookup same asks facts = record {
+    → asks_of task ≡ asked → facts_of task Waiting (known p w on) → IsWanted p.config p.journal on.between.opened (wants_of task) → MustTakeOn p w task way on.serving.had asked
+lookup-taken p w on task way asked key config laws looks lookup same asks facts wanted = record {
   on = on;
   tasked = record { config = config; laws = laws; lookup = subst (λ k. IsLookup k way task) same lookup; change = inl looks };
   asks = asks;
   facts = facts;
+  wanted = wanted;
 }
 
 module _ (p : Parts) (w : ℕ) (task : Running) (had : Option (List ℕ)) (asked : Option Todo) (path : Option Path) (m : MustTakeOn p w task path had asked) (slot : Option Serving) (is : slot ≡ Some (record m.on.serving { task = task; path = path; had = had })) (told : IsToldBy p.config p.journal m.on.between.opened had) where
@@ -149,7 +154,7 @@ module _ (p : Parts) (w : ℕ) (task : Running) (had : Option (List ℕ)) (asked
 
   between : IsBetween taken w next
   between = between-tasks p w m.on.serving next m.on.between (with_item p.workers w slot) (length-set p.workers.items w slot) (λ v ne. get_or-set_other p.workers.items w v slot None ne)
-      (let o = m.on.between.call_open in record { is_open = o.is_open; call = o.call; effect = o.effect; begun = o.begun; told = told })
+      (let o = m.on.between.call_open in record { is_open = o.is_open; call = o.call; effect = o.effect; begun = o.begun; told = told; wanted = m.wanted })
 
   pub here-is : get_or taken.workers.items w None ≡ Some next
   here-is = get_or-set_same p.workers.items w slot None (omega (arith, m.on.between.within, m.on.between.tabled.places, m.on.between.tabled.config.workers_in_range.at_most)) ∙ is
@@ -165,7 +170,7 @@ module _ (p : Parts) (w : ℕ) (task : Running) (had : Option (List ℕ)) (asked
       tasked = let t = m.tasked in record { config = t.config; laws = t.laws; lookup = t.lookup; change = t.change };
       asks = m.asks ∙ e;
       facts = m.facts;
-      covered = none-unfilled (m.on.between.story.took w) (m.on.between.story.filled w) (needs_of task) m.tasked.laws.few m.on.filled;
+      covered = none-unfilled (m.on.between.story.took w) (m.on.between.story.filled w) (needs_of task) (omega (arith, m.tasked.laws.few, m.tasked.laws.most)) m.on.filled;
     };
   }
 
@@ -180,7 +185,7 @@ module _ (p : Parts) (w : ℕ) (task : Running) (had : Option (List ℕ)) (asked
       tasked = let t = m.tasked in record { config = t.config; laws = t.laws; lookup = t.lookup; change = t.change };
       stage = Waiting;
       facts = m.facts;
-      covered = none-unfilled (m.on.between.story.took w) (m.on.between.story.filled w) (needs_of task) m.tasked.laws.few m.on.filled;
+      covered = none-unfilled (m.on.between.story.took w) (m.on.between.story.filled w) (needs_of task) (omega (arith, m.tasked.laws.few, m.tasked.laws.most)) m.on.filled;
       hears = subst (λ z. Hears z Start) (sym (m.asks ∙ e)) tt;
       tells = subst (λ z. Tells z Waiting Start (known p w m.on)) (sym (m.asks ∙ e)) (has-filled p w m.on);
     };

@@ -9,10 +9,10 @@ use Rattle.bz_call.specs.Map.{key_of}
 use Rattle.bz_call.specs.declared.replies.Spent.TheVariants.{Nodes}
 use Rattle.bz_layout.specs.Slots.{FreeSlots}
 use Rattle.bz_layout.specs.declared.config.Config.{Config}
-use Rattle.bz_layout.specs.declared.thresholds.TheConstants.{CONSOLIDATION_SLOTS}
 use Rattle.bz_running.specs.Duties.{needs_of, facts_of}
 use Rattle.bz_sight.specs.Starts.{Sees}
 use Rattle.bz_sound.specs.Calls.{Open}
+use Rattle.bz_sound.specs.Memory.Spent.{NeedsSlots}
 use Rattle.bz_story.specs.Laws.{ScenesAreSeen, SlotsAreTaken, takes_slots}
 use Rattle.bz_story.specs.Living.{IsLiving}
 use Rattle.bz_story.specs.Story.{Story, scene}
@@ -24,7 +24,7 @@ use Rattle.bz_task.specs.declared.todo.Seen.{Seen}
 use Rattle.bz_task.specs.declared.todo.Todo.{Todo}
 use Rattle.bz_task.specs.declared.view.LeafView.{LeafView}
 use Rattle.bz_world.specs.Inside.Acted.{IsTold, IsAsking, MustTell}
-use Rattle.bz_world.specs.Inside.Going.{end_in}
+use Rattle.bz_world.specs.Inside.Going.{end_in, wants_in}
 use Rattle.bz_world.specs.Inside.Serving.{IsCovered, IsOpened, IsTasked, IsSlot, IsChangeFor}
 use Rattle.bz_world.specs.Inside.Telling.{CanHear, HasTold, HasToldIn, MustStart, KnowsLeaf, MustStartOf}
 use Rattle.bz_world.specs.declared.parts.Parts.{Parts}
@@ -44,12 +44,12 @@ next-of : (x : Serving) (seen : Seen) (moment : ℕ) (free : FreeSlots) (todo : 
 next-of x seen moment free todo None left h = absurd h
 next-of x seen moment free todo (Some y) left h = record { next = y; is = refl; told = h }
 
--- a task that has ended for want of a slot found none
-pub full-rightly : (p : Parts) (w : ℕ) (seen : Seen) (m : MustTell p w seen) (moment : ℕ) (todo : Todo) (slot : Option Serving) (left : FreeSlots) → HasToldIn (Some m.serving) seen moment p.slots todo slot left → end_in slot ≡ Some (outcome.Full Nodes) → length left.free < CONSOLIDATION_SLOTS
+-- a task that has ended for want of slots found fewer than it takes in all
+pub full-rightly : (p : Parts) (w : ℕ) (seen : Seen) (m : MustTell p w seen) (moment : ℕ) (todo : Todo) (slot : Option Serving) (left : FreeSlots) → HasToldIn (Some m.serving) seen moment p.slots todo slot left → end_in slot ≡ Some (outcome.Full Nodes) → length left.free < wants_in slot
 full-rightly p w seen m moment todo slot left told ended =
     let n : IsNext m.serving seen moment p.slots todo slot left = next-of m.serving seen moment p.slots todo slot left told in
     let lacked = n.told.heard.full_nodes (sym (ap end_in n.is) ∙ ended) in
-    omega (arith, lacked, m.told.tasked.laws.single, no-more-free (needs_of m.serving.task) (needs_of n.next.task) p.slots left n.told.heard.slots)
+    omega (arith, lacked, m.told.tasked.laws.few, n.told.heard.wants, ap wants_in n.is, no-more-free (needs_of m.serving.task) (needs_of n.next.task) p.slots left n.told.heard.slots)
 
 module _ (scenes : ScenesAreSeen) (slots : SlotsAreTaken) (p : Parts) (w : ℕ) (seen : Seen) (m : MustTell p w seen) where
   abbrev x : Serving
@@ -157,7 +157,7 @@ module _ (scenes : ScenesAreSeen) (slots : SlotsAreTaken) (p : Parts) (w : ℕ) 
         worker = told.between.worker;
         within = told.between.within;
         opened = told.between.opened;
-        call_open = subst (λ (z : Serving). IsOpened p.config p.journal w told.between.opened z) (sym h.rest) (let o = told.between.call_open in record { is_open = o.is_open; call = o.call; effect = o.effect; begun = o.begun; told = o.told });
+        call_open = subst (λ (z : Serving). IsOpened p.config p.journal w told.between.opened z) (sym h.rest) (let o = told.between.call_open in record { is_open = o.is_open; call = o.call; effect = o.effect; begun = o.begun; told = o.told; wanted = λ some. subst (NeedsSlots p.config p.journal.start p.journal.past told.between.opened) (sym h.heard.wants) (o.wanted (omega (arith, some, h.heard.wants))) });
         idle = told.between.idle;
       };
       tasked = tasked;

@@ -78,7 +78,7 @@ fn answer(parts: &mut Parts, w: u8, view: &LeafView) -> Applied
     }
 }
 
-// The task of a call without effect has ended for want of this. Where it is slots, none is left, and its call ends.
+// The task of a call without effect has ended for want of this. Where it is slots, fewer are left than it takes, and its call ends.
 fn settle_full(parts: &mut Parts, w: u8, spent: Spent) -> Applied
     requires ends { HasEnded parts.old w (Full spent) }
     requires room { length parts.old.journal.past < parts.old.config.marks }

@@ -30,7 +30,7 @@ pub(crate) fn tell(parts: &mut Parts, w: u8, seen: Seen) -> Todo
     requires { MustTell parts.old w seen }
     ensures asks { MustStart parts.new w result }
     ensures told { HasToldIn (get_or parts.old.workers.items w None) seen (length parts.old.journal.past) parts.old.slots result (get_or parts.new.workers.items w None) parts.new.slots }
-    // it has ended for want of a slot only where none is left
+    // it has ended for want of slots only where fewer are left than it takes
     ensures full { IsFullRightly parts.new w }
     // what was read of the leaf of its call is known as before
     ensures knows { (view : LeafView) → MustTellOf parts.old w seen view → MustStartOf parts.new w result view }

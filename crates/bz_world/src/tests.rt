@@ -12,4 +12,5 @@ mod random;
 mod reader;
 mod restart;
 mod spent;
+mod split;
 mod worked;

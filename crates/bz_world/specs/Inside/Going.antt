@@ -1,5 +1,5 @@
 -- A call whose task has ended: nothing goes on for it, until it is answered or gets another task.
-use Rattle.std.specs.Prelude.{◌≡◌, ◌≢◌, ◌<◌, ◌⊎◌, ℕ, ◌++◌, ◌∷◌, [], true, List, length, get_or, Option, Some, None, option_map}
+use Rattle.std.specs.Prelude.{◌≡◌, ◌≢◌, ◌<◌, ◌≤◌, ◌⊎◌, ℕ, ◌++◌, ◌∷◌, [], true, List, length, get_or, Option, Some, None, option_map}
 use Rattle.bz_call.specs.Map.{key_of}
 use Rattle.bz_call.specs.Pages.{is_page}
 use Rattle.bz_call.specs.declared.calls.Call.{Call}
@@ -9,9 +9,11 @@ use Rattle.bz_call.specs.declared.replies.Reply.TheVariants.{Page}
 use Rattle.bz_call.specs.declared.replies.Spent.{Spent}
 use Rattle.bz_call.specs.declared.replies.Spent.TheVariants.{Nodes}
 use Rattle.bz_consol.specs.Facts.{LeadsTo}
-use Rattle.bz_layout.specs.declared.thresholds.TheConstants.{CONSOLIDATION_SLOTS}
-use Rattle.bz_running.specs.Duties.{asks_of, end_of, facts_of}
+use Rattle.bz_layout.specs.declared.thresholds.TheConstants.{SPLIT_ABOVE}
+use Rattle.bz_running.specs.Duties.{asks_of, end_of, wants_of, facts_of}
 use Rattle.bz_running.specs.declared.running.Running.{Running}
+use Rattle.bz_slotted.specs.Readers.{live_of}
+use Rattle.bz_slotted.specs.ReadingLaws.{node_of}
 use Rattle.bz_sound.specs.Power.Replies.{IsRightReply}
 use Rattle.bz_sound.specs.Power.Spent.{IsSpent}
 use Rattle.bz_story.specs.Story.{scene}
@@ -27,7 +29,7 @@ use Rattle.bz_word.specs.Statuses.{status}
 use Rattle.bz_world.specs.Inside.Acted.{IsBetween}
 use Rattle.bz_world.specs.Inside.Kept.{IsAwake}
 use Rattle.bz_world.specs.Lab.{GoesOn}
-use Rattle.bz_world.specs.Inside.Serving.{IsTasked}
+use Rattle.bz_world.specs.Inside.Serving.{IsTasked, IsWanted}
 use Rattle.bz_world.specs.declared.answers.Applied.{Applied}
 use Rattle.bz_world.specs.declared.parts.Parts.{Parts}
 use Rattle.bz_world.specs.declared.serving.Serving.{Serving}
@@ -67,9 +69,14 @@ abbrev pub had_in : Option Serving → Option (List ℕ)
 had_in None = None
 had_in (Some x) = x.had
 
--- its task has ended for want of a slot only where none is left
+-- how many slots its task takes from its begin to its end
+abbrev pub wants_in : Option Serving → ℕ
+wants_in None = 0
+wants_in (Some x) = wants_of x.task
+
+-- its task has ended for want of slots only where fewer are left
 abbrev pub IsFullRightly : Parts → ℕ → Type 0
-IsFullRightly p w = end_in (get_or p.workers.items w None) ≡ Some (outcomes.Full Nodes) → length p.slots.free < CONSOLIDATION_SLOTS
+IsFullRightly p w = end_in (get_or p.workers.items w None) ≡ Some (outcomes.Full Nodes) → length p.slots.free < wants_in (get_or p.workers.items w None)
 
 -- the call gets another task, and with it a way
 abbrev pub with_task : Option Serving → Running → Option Path → Option Serving
@@ -86,6 +93,7 @@ pub record MustTakeOn (p : Parts) (w : ℕ) (task : Running) (way : Option Path)
   pub tasked : IsTasked p.config on.serving.call way had task
   pub asks : asks_of task ≡ asked
   pub facts : facts_of task Waiting (known p w on)
+  pub wanted : IsWanted p.config p.journal on.between.opened (wants_of task)
 
 -- the way to its leaf was found
 pub record MustRead (p : Parts) (w : ℕ) (path : Path) : Type 0 where
@@ -99,7 +107,7 @@ pub record HasEnded (p : Parts) (w : ℕ) (outcome : Outcome) : Type 0 where
   pub path : (path : Path) → outcome ≡ outcomes.Path path → IsPath (key_of on.serving.call) path (known p w on).past
   pub view : (view : LeafView) → outcome ≡ outcomes.View view → IsView (key_of on.serving.call) view (known p w on).past
   pub leads : (view : LeafView) → outcome ≡ outcomes.View view → (path : Path) → on.serving.path ≡ Some path → IsPath (key_of on.serving.call) path (known p w on).past
-  pub full : outcome ≡ outcomes.Full Nodes → length p.slots.free < CONSOLIDATION_SLOTS
+  pub full : outcome ≡ outcomes.Full Nodes → length p.slots.free < wants_of on.serving.task
 
 -- its leaf was read, by the path that was found, and it had no effect
 pub record MustAnswer (p : Parts) (w : ℕ) (view : LeafView) : Type 0 where
@@ -114,6 +122,7 @@ pub record MustChange (p : Parts) (w : ℕ) (view : LeafView) (had : Option (Lis
   pub tasked : IsTasked p.config answer.on.serving.call answer.on.serving.path had task
   pub asks : asks_of task ≡ None
   pub facts : facts_of task Waiting (known p w answer.on)
+  pub wants : wants_of task ≡ 0
 
 -- its leaf, which was found by this path, is to be made anew
 pub record MustMakeAnew (p : Parts) (w : ℕ) (path : Path) (view : LeafView) : Type 0 where
@@ -124,6 +133,15 @@ pub record MustMakeAnew (p : Parts) (w : ℕ) (path : Path) (view : LeafView) : 
 pub record MustCopy (p : Parts) (w : ℕ) (path : Path) (view : LeafView) : Type 0 where
   pub anew : MustMakeAnew p w path view
   pub frozen : (status view.status).frozen ≡ true
+  pub few : live_of (node_of view.image.0) ≤ SPLIT_ABOVE
+  pub leads : LeadsTo path view.slot
+
+-- or has more live words than it may keep, and is the root, so that it may be split
+pub record MustSplit (p : Parts) (w : ℕ) (path : Path) (view : LeafView) : Type 0 where
+  pub anew : MustMakeAnew p w path view
+  pub frozen : (status view.status).frozen ≡ true
+  pub many : SPLIT_ABOVE < live_of (node_of view.image.0)
+  pub root : path.depth ≡ 1
   pub leads : LeadsTo path view.slot
 
 -- the call puts this payload at its key, where the key is absent, or present
@@ -156,11 +174,11 @@ pub record LacksSwap (p : Parts) (w : ℕ) : Type 0 where
   pub on : MustGoOn p w
   pub spent : p.access.taken ≡ p.config.swaps
 
--- no slot is left, and the call had no effect
-pub record LacksSlots (p : Parts) (w : ℕ) : Type 0 where
+-- fewer slots are left than its task takes, and the call had no effect
+pub record IsOutOfSlots (p : Parts) (w : ℕ) : Type 0 where
   pub on : MustGoOn p w
   pub quiet : on.serving.effect ≡ None
-  pub none : length p.slots.free < CONSOLIDATION_SLOTS
+  pub fewer : length p.slots.free < wants_of on.serving.task
 
 -- something is spent, and the call had no effect
 pub record IsShort (p : Parts) (w : ℕ) (spent : Spent) : Type 0 where

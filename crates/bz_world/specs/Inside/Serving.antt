@@ -9,13 +9,14 @@ use Rattle.bz_layout.specs.declared.config.Config.{Config}
 use Rattle.bz_layout.specs.declared.thresholds.TheConstants.{SPLIT_SLOTS}
 use Rattle.bz_shape.specs.Walk.{is_among}
 use Rattle.bz_mark.specs.Log.{Log}
-use Rattle.bz_running.specs.Duties.{config_of, asks_of, needs_of, change_of, publishing_of, facts_of, makes_no_change}
+use Rattle.bz_running.specs.Duties.{config_of, asks_of, needs_of, wants_of, change_of, publishing_of, facts_of, makes_no_change}
 use Rattle.bz_running.specs.Hearing.{IsLookup}
 use Rattle.bz_running.specs.Laws.{AreLaws}
 use Rattle.bz_running.specs.declared.running.Running.{Running}
 use Rattle.bz_sound.specs.Calls.{Open, open_call, map_at}
 use Rattle.bz_sound.specs.Memory.ImageLaws.{IsChangeOf}
 use Rattle.bz_sound.specs.Memory.Moments.{map_at_start}
+use Rattle.bz_sound.specs.Memory.Spent.{NeedsSlots}
 use Rattle.bz_story.specs.Story.{Story, scene}
 use Rattle.bz_swap.specs.EntryLists.{IsEntryList}
 use Rattle.bz_swap.specs.SwapMemory.{SwapMemory, Doing, Idle, Reading, Swapping, Storing, Flushing, doing_of, entries_of, has_effect}
@@ -66,6 +67,10 @@ abbrev pub stage_in : SwapMemory → Doing → Stage
 stage_in m (Swapping s) = if has_effect m s then Took else Waiting
 stage_in m doing = Waiting
 
+-- its task takes so many slots from its begin to its end, if it takes any, because the leaf of its key had to be made anew
+abbrev pub IsWanted : Config → Log → Open → ℕ → Type 0
+IsWanted c log opened wants = 0 < wants → NeedsSlots c log.start log.past opened wants
+
 -- a call that is open, as it is served
 pub record IsOpened (c : Config) (log : Log) (w : ℕ) (opened : Open) (x : Serving) : Type 0 where
   pub is_open : open_call w log.past ≡ Some opened
@@ -73,6 +78,7 @@ pub record IsOpened (c : Config) (log : Log) (w : ℕ) (opened : Open) (x : Serv
   pub effect : opened.effect ≡ x.effect
   pub begun : opened.begun < length log.past
   pub told : IsToldBy c log opened x.had
+  pub wanted : IsWanted c log opened (wants_of x.task)
 
 -- slots that a worker took and may not have stored into: with those that its task is still to take they are at most as many
 -- as a split takes

@@ -6,7 +6,7 @@ use super::bench::durable;
 use super::map::{Map, number_of, place_of};
 use crate::World;
 use bz_key::{Key, Payload};
-use bz_word::{Meta, Status, WordKind, kind_of};
+use bz_word::{Header, Meta, Status, WordKind, kind_of};
 
 // A word of an entry of a descriptor: its target at 0, its expected value at 1, its new one at 2.
 fn entry_word(world: &World, swap: u16, entry: u8, word: u32) -> u64 {
@@ -61,11 +61,73 @@ fn record(world: &World, at: u32, key: u32, total: u32) -> Option<(usize, u32)>
     Some((place, number_of(&payload)))
 }
 
-// Where the root's slot begins.
-fn root(world: &World) -> u32 {
-    let slot = resolve(world, 1).saturating_sub(1).min(0xFFFF) as u32;
+// Where the slot begins to which a pointer leads.
+fn slot_of(world: &World, pointer: u64) -> u32 {
+    let slot = pointer.saturating_sub(1).min(0xFFFF) as u32;
     let first = world.config().swaps.saturating_mul(16).saturating_add(16);
     first.saturating_add(slot.saturating_mul(128))
+}
+
+// Where the root's slot begins.
+fn root(world: &World) -> u32 {
+    slot_of(world, resolve(world, 1))
+}
+
+// Notes the key of a record, `k` and two digits, which was not noted yet.
+fn note(world: &World, at: u32, length: u32, seen: &mut [bool; 100]) -> Option<()> {
+    let length = length as usize;
+    let first = words(world, at);
+    let key = Key::from_words(length, first.get(..length.div_ceil(7))?)?;
+    let &[b'k', tens, ones] = key.bytes() else {
+        return None;
+    };
+    let tens = (tens as usize).checked_sub(48)?;
+    let ones = (ones as usize).checked_sub(48)?;
+    let noted = seen.get_mut(10 * tens + ones)?;
+    if *noted {
+        return None;
+    }
+    *noted = true;
+    Some(())
+}
+
+// Notes the visible records of a leaf.
+fn note_leaf(world: &World, node: u32, seen: &mut [bool; 100]) -> Option<()> {
+    let status = Status::unpack(resolve(world, node))?;
+    for i in 0..status.count {
+        let a = node.saturating_add(10).saturating_add(i);
+        if let Meta::Visible(extent) = Meta::unpack(resolve(world, a))? {
+            note(world, node.saturating_add(extent.offset), extent.key, seen)?;
+        }
+    }
+    Some(())
+}
+
+// Notes those of the leaves below a parent.
+fn note_children(world: &World, node: u32, seen: &mut [bool; 100]) -> Option<()> {
+    let status = Status::unpack(resolve(world, node))?;
+    for i in 0..status.count {
+        let a = node.saturating_add(10).saturating_add(i);
+        if let Meta::Visible(extent) = Meta::unpack(resolve(world, a))? {
+            let at = node.saturating_add(extent.offset);
+            let pointer = resolve(world, at.saturating_add(extent.key.div_ceil(7)));
+            note_leaf(world, slot_of(world, pointer), seen)?;
+        }
+    }
+    Some(())
+}
+
+/// Which numbers the keys have of a tree of one level or two in the memory itself; none where a key is there twice.
+pub(crate) fn decode_keys(world: &World) -> Option<[bool; 100]> {
+    let mut seen = [false; 100];
+    let node = root(world);
+    let header = Header::unpack(resolve(world, node.saturating_add(1)))?;
+    if header.level == 0 {
+        note_leaf(world, node, &mut seen)?;
+    } else {
+        note_children(world, node, &mut seen)?;
+    }
+    Some(seen)
 }
 
 /// The map that the root leaf is in the memory itself; none where it is not a leaf of the reader's keys.

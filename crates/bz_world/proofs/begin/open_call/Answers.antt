@@ -30,4 +30,4 @@ returns c =
     (has-begun c.args.parts.now c.requires.kept c.args.w c.args.call c.requires.may c.end_laws.ensures c.start_laws.ensures (c.index.result.now + 1)
     (ap (λ m. m + 1) (number-is c.args.parts.now c.requires.kept c.args.w c.args.call c.requires.may c.index.result.now c.index.ensures))
     c.descend-task.result c.descend-task.ensures.config c.laws.ensures c.descend-task.ensures.silent (subst (λ k. IsLookup k None c.descend-task.result) c.key_of.ensures (c.descend-task.ensures.ends None))
-    c.descend-task.ensures.asks c.descend-task.ensures.facts c.start_read.new.self c.start_read.ensures.started c.start_read.ensures.held))
+    c.descend-task.ensures.asks c.descend-task.ensures.facts c.descend-task.ensures.wants c.start_read.new.self c.start_read.ensures.started c.start_read.ensures.held))

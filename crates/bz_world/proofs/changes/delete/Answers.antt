@@ -7,4 +7,4 @@ pub begin_change-requires-clause-change : goal.begin_change-requires-clause-chan
 begin_change-requires-clause-change c =
     must-change c.start_laws.ensures.scenes c.answer_laws.ensures c.args.parts.now c.args.w c.args.view.now c.requires.must.answer c.args.key (ap key_of c.requires.must.may)
     c.delete-task.result (Some c.args.had) c.delete-task.ensures.config c.laws.ensures
-    (delete-changes c.requires.must.answer.on.serving.call c.args.key c.args.had _ c.requires.must.may (c.delete-task.ensures.change ∙ ap (λ old. record { key = c.args.key; old = old; new = None }) c.requires.present)) c.delete-task.ensures.ends c.delete-task.ensures.asks c.delete-task.ensures.facts
+    (delete-changes c.requires.must.answer.on.serving.call c.args.key c.args.had _ c.requires.must.may (c.delete-task.ensures.change ∙ ap (λ old. record { key = c.args.key; old = old; new = None }) c.requires.present)) c.delete-task.ensures.ends c.delete-task.ensures.asks c.delete-task.ensures.wants c.delete-task.ensures.facts

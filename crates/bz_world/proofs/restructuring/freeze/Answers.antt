@@ -8,7 +8,7 @@ use Rattle.bz_world.proofs.restructuring.freeze.Goals as goal
 
 pub tell-todo-requires : goal.tell-todo-requires
 tell-todo-requires c = taken-begins c.args.parts.now c.args.w c.freeze-task.result c.requires.answer.on.serving.had None None
-    (freeze-taken c.start_laws.ensures.scenes c.args.parts.now c.args.w c.args.view.now c.requires.answer c.freeze-task.result c.freeze-task.ensures.config c.laws.ensures c.freeze-task.ensures.silent c.freeze-task.ensures.ends c.freeze-task.ensures.asks c.freeze-task.ensures.facts)
+    (freeze-taken c.start_laws.ensures.scenes c.args.parts.now c.args.w c.args.view.now c.requires.answer c.freeze-task.result c.freeze-task.ensures.config c.laws.ensures c.freeze-task.ensures.silent c.freeze-task.ensures.ends c.freeze-task.ensures.asks c.freeze-task.ensures.wants c.freeze-task.ensures.facts)
     c.set_task.new.slot (c.set_task.ensures ∙ ap (λ (z : Option Serving). with_task z c.freeze-task.result None) (slot-is c.args.parts.now c.args.w c.requires.answer.on c.index_mut.result.now c.index_mut.ensures.value))
     c.requires.answer.on.between.call_open.told refl
 

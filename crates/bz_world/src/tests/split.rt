@@ -1,0 +1,186 @@
+//! A root leaf that is split, and a tree of two levels.
+
+use super::bench::{Answer, begin, mark, numbered, open, payload, steps, whole};
+use super::decode::decode_keys;
+use crate::World;
+use bz_call::{Call, Reply};
+use bz_key::Key;
+use bz_mark::Mark;
+use std::alloc::Global;
+use std::process::Abort;
+use std::test::Fail;
+
+// More acts than any of these calls makes.
+const MOST: u32 = 4_000;
+
+// Makes a whole call of worker 1, which is answered so.
+fn makes(rt: &impl Abort, world: &mut World, call: Call, answer: Answer) {
+    assert_eq!(rt; whole(world, 1, call), Some(answer));
+}
+
+// Inserts the keys with these numbers, each of them new.
+fn inserts(rt: &impl Abort, world: &mut World, numbers: &[u8]) {
+    for number in numbers {
+        let call = Call::Insert(numbered(rt, *number), payload(rt, b"v"));
+        makes(rt, world, call, Answer::Inserted);
+    }
+}
+
+// The page and the next key of the last reply.
+fn last_page(world: &World) -> Option<(u32, Option<Key>)> {
+    let last = world.journal().length().saturating_sub(1);
+    match mark(world, last) {
+        Some(
+            Mark::End {
+                reply: Reply::Page { page, next },
+                ..
+            },
+        ) => Some((page, next)),
+        _ => None,
+    }
+}
+
+// The lengths of the first two pages from a key on, each of which begins where the one before ends.
+fn walk(rt: &impl Abort, world: &mut World, from: Key) -> [usize; 2] {
+    let mut lengths = [0; 2];
+    let mut from = Some(from);
+    for length in &mut lengths {
+        let Some(key) = from else {
+            break;
+        };
+        whole(world, 1, Call::Page(key));
+        let (page, next) = last_page(world).expect(rt, "a page");
+        let journal = world.journal();
+        assert!(rt; page < journal.page_count());
+        let pairs = journal.page(page);
+        *length = pairs.len();
+        assert!(rt; pairs.first().is_some_and(|pair| pair.0 == key));
+        from = next;
+    }
+    assert!(rt; from.is_none());
+    lengths
+}
+
+// The durable words have exactly the keys with numbers from 1 to the last one.
+fn holds_up_to(rt: &impl Abort, world: &World, last: usize) {
+    let seen = decode_keys(world).expect(rt, "a tree");
+    for (number, found) in seen.iter().enumerate() {
+        assert_eq!(rt; *found, number >= 1 && number <= last, "{number}");
+    }
+}
+
+// The numbers from 1 on, rising.
+fn rising() -> [u8; 41] {
+    let mut numbers = [0; 41];
+    let mut next = 1u8;
+    for number in &mut numbers {
+        *number = next;
+        next = next.wrapping_add(1);
+    }
+    numbers
+}
+
+// The forty keys go into four slots, with as many descriptors as they take; each is there, and the two pages are so long.
+fn splits(rt: &impl Abort, alloc: Global, numbers: &[u8], lengths: [usize; 2]) {
+    let v = payload(rt, b"v");
+    let mut world = open(alloc, 4, 82, 1).expect(rt, "a world");
+    inserts(rt, &mut world, numbers);
+    for number in numbers {
+        makes(
+            rt,
+            &mut world,
+            Call::Get(numbered(rt, *number)),
+            Answer::Value(v),
+        );
+    }
+    assert_eq!(rt; walk(rt, &mut world, numbered(rt, 1)), lengths);
+    holds_up_to(rt, &world, 40);
+}
+
+#[test]
+fn forty_keys_rising(rt: HostRuntime) {
+    let numbers = rising();
+    splits(&rt, rt.alloc(), numbers.get(..40).unwrap_or(&[]), [20, 20]);
+}
+
+#[test]
+fn forty_keys_falling(rt: HostRuntime) {
+    let mut numbers = rising();
+    numbers.reverse();
+    splits(&rt, rt.alloc(), numbers.get(1..).unwrap_or(&[]), [21, 19]);
+}
+
+// The fortieth key does not go into so few slots, of which it takes none.
+fn lacks_nodes(rt: &impl Abort, alloc: Global, nodes: u32) {
+    let v = payload(rt, b"v");
+    let mut world = open(alloc, nodes, 128, 1).expect(rt, "a world");
+    inserts(rt, &mut world, rising().get(..39).unwrap_or(&[]));
+    let (first, last) = (numbered(rt, 1), numbered(rt, 40));
+    for (call, answer) in [
+        (Call::Insert(last, v), Answer::FullNodes),
+        (Call::Insert(first, v), Answer::Exists),
+        (Call::Get(last), Answer::Missing),
+        (Call::Delete(first), Answer::FullNodes),
+    ] {
+        makes(rt, &mut world, call, answer);
+    }
+    holds_up_to(rt, &world, 39);
+}
+
+#[test]
+fn a_split_takes_three_slots(rt: HostRuntime) {
+    for nodes in 1..4 {
+        lacks_nodes(&rt, rt.alloc(), nodes);
+    }
+}
+
+#[test]
+fn leaves_below_a_parent_change_and_are_copied(rt: HostRuntime) -> Result<(), Fail> {
+    let (v, two) = (payload(&rt, b"v"), payload(&rt, b"2"));
+    let first = numbered(&rt, 1);
+    let mut world = open(rt.alloc(), 6, 400, 1)?;
+    inserts(&rt, &mut world, rising().get(..40).unwrap_or(&[]));
+    for _ in 0..40 {
+        makes(&rt, &mut world, Call::Update(first, v), Answer::Updated(v));
+    }
+    for (call, answer) in [
+        (Call::Update(first, two), Answer::Updated(v)),
+        (Call::Delete(first), Answer::Deleted(two)),
+        (Call::Get(first), Answer::Missing),
+        (Call::Insert(first, two), Answer::Inserted),
+        (Call::Get(first), Answer::Value(two)),
+    ] {
+        makes(&rt, &mut world, call, answer);
+    }
+    holds_up_to(&rt, &world, 40);
+    Ok(())
+}
+
+// Nineteen records of six words each fill the root leaf but for four words. Worker 1 stops after so many acts of an insert that
+// splits it; worker 2 makes its own, and then worker 1 the rest.
+fn beside(rt: &impl Abort, alloc: Global, acts: u32, first: u8, second: u8) {
+    let long = payload(rt, &[b'v'; 28]);
+    let mut world = open(alloc, 16, 256, 2).expect(rt, "a world");
+    for number in rising().get(1..20).unwrap_or(&[]) {
+        let call = Call::Insert(numbered(rt, *number), long);
+        makes(rt, &mut world, call, Answer::Inserted);
+    }
+    assert!(rt; begin(&mut world, 1, Call::Insert(numbered(rt, first), long)));
+    let mut ended = steps(&mut world, 1, acts).1;
+    assert!(rt; begin(&mut world, 2, Call::Insert(numbered(rt, second), long)));
+    let other = steps(&mut world, 2, MOST).1;
+    assert_eq!(rt; other, Some(Answer::Inserted), "{acts}");
+    if ended.is_none() {
+        ended = steps(&mut world, 1, MOST).1;
+    }
+    assert_eq!(rt; ended, Some(Answer::Inserted), "{acts}");
+    holds_up_to(rt, &world, 21);
+}
+
+#[test]
+fn a_stopped_split_holds_nobody_up(rt: HostRuntime) {
+    for turn in 0..17 {
+        beside(&rt, rt.alloc(), 50 * turn, 21, 1);
+        beside(&rt, rt.alloc(), 50 * turn, 1, 21);
+    }
+}
