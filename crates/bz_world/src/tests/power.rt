@@ -106,9 +106,9 @@ fn a_recovery_that_is_cut_begins_anew(rt: HostRuntime) {
 }
 
 // Updates of a key, one after the other, until no slot is left for a copy: how many were made.
-fn updates(rt: &impl Abort, world: &mut World, update: Call) -> u32 {
+fn updates(rt: &impl Abort, world: &mut World, update: &Call) -> u32 {
     for made in 0..200 {
-        match whole(world, 1, update) {
+        match whole(world, 1, *update) {
             Some(Answer::Updated(_)) => {}
             answer => {
                 assert_eq!(rt; answer, Some(Answer::FullNodes));
@@ -129,7 +129,7 @@ fn slots_that_the_tree_does_not_reach_serve_again(rt: HostRuntime) -> Result<(),
     );
     // two slots, and then one of them again
     for made in [114, 57, 57] {
-        assert_eq!(rt; updates(&rt, &mut world, Call::Update(k, v)), made);
+        assert_eq!(rt; updates(&rt, &mut world, &Call::Update(k, v)), made);
         restart(&rt, &mut world);
         assert!(rt; recover(&mut world, 4_000));
     }
