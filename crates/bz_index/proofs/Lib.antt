@@ -5,3 +5,12 @@ mod OpenCalls
 mod Rests
 mod Origins
 mod Placed
+mod OpenStays
+mod Steps
+mod Begins
+mod Beginning
+mod Runs
+mod Going
+mod Ends
+mod Turned
+mod Meanings

@@ -9,7 +9,7 @@ use Rattle.bz_mark.specs.declared.marks.Mark.{Mark}
 use Rattle.bz_mark.specs.declared.marks.Mark.TheVariants.{Begin, End, Cut, Effect}
 use Rattle.bz_sound.specs.Calls.{Open, open_call, with_effect}
 
-skip_begin : (b : Bool) (w v : ℕ) (new : Option Open) (rest : Option Open) → (v == w) ≡ b → v ≢ w → (if b then new else rest) ≡ rest
+pub skip_begin : (b : Bool) (w v : ℕ) (new : Option Open) (rest : Option Open) → (v == w) ≡ b → v ≢ w → (if b then new else rest) ≡ rest
 skip_begin true w v new rest is ne = absurd (ne (eqb-true v w is))
 skip_begin false w v new rest is ne = refl
 
@@ -17,7 +17,7 @@ effect_none : (b : Bool) (moment : ℕ) (rest : Option Open) → rest ≡ None �
 effect_none true moment rest is = rw is refl
 effect_none false moment rest is = is
 
-one_none : (w : ℕ) (mark : Mark) (past : List Mark) → maker_of mark ≢ w → open_call w past ≡ None → open_call w (mark ∷ past) ≡ None
+pub one_none : (w : ℕ) (mark : Mark) (past : List Mark) → maker_of mark ≢ w → open_call w past ≡ None → open_call w (mark ∷ past) ≡ None
 one_none w (Begin v k call) past ne none = skip_begin (v == w) w v _ (open_call w past) refl ne ∙ none
 one_none w (End v k reply at) past ne none = skip_begin (v == w) w v None (open_call w past) refl ne ∙ none
 one_none w (Effect v k) past ne none = effect_none (v == w) (length past) (open_call w past) none
@@ -29,7 +29,7 @@ not_owned : (b : Bool) (w : ℕ) (entry : IndexEntry) (rest : List IndexEntry) �
 not_owned true w entry rest is none = absurd cc
 not_owned false w entry rest is none = (eqb-false (owner_of entry) w is, none)
 
-none_of : (w : ℕ) (entry : IndexEntry) (entries : List IndexEntry) → entries_of owner_of w (entry ∷ entries) ≡ [] → (owner_of entry ≢ w) × (entries_of owner_of w entries ≡ [])
+pub none_of : (w : ℕ) (entry : IndexEntry) (entries : List IndexEntry) → entries_of owner_of w (entry ∷ entries) ≡ [] → (owner_of entry ≢ w) × (entries_of owner_of w entries ≡ [])
 none_of w entry entries none = not_owned (owner_of entry == w) w entry (entries_of owner_of w entries) refl none
 
 -- while others add their entries, no call of the worker comes to be open

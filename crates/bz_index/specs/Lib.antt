@@ -1,3 +1,6 @@
 pub mod Entries
 pub mod Worlds
 pub mod Passes
+pub mod Calls
+pub mod Meaning
+pub mod Inside

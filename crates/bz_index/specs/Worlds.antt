@@ -1,13 +1,15 @@
 -- What a turn does to a world, told by its fixed part and by the lists that it finds and leaves: there are views of worlds
 -- with these lists between which the event made the answer.
-use Rattle.std.specs.Prelude.{◌≡◌, List}
-use Rattle.bz_index.specs.Entries.{origin_of, entries_in, log_of}
+use Rattle.std.specs.Prelude.{◌≡◌, ℕ, List}
+use Rattle.bz_call.specs.declared.calls.Call.{Call}
+use Rattle.bz_index.specs.Entries.{entries_in, origin_of, log_of}
 use Rattle.bz_index.specs.declared.shared.Origin.{Origin}
 use Rattle.bz_index.specs.declared.shared.IndexEntry.{IndexEntry}
 use Rattle.bz_sound.specs.Power.Sound.{IsSound}
 use Rattle.bz_sound.specs.declared.power.Power.TheVariants as power
-use Rattle.bz_world.specs.Lab.{Lab, IsApplied}
+use Rattle.bz_world.specs.Lab.{Lab, begin_answer, after_begin, IsApplied}
 use Rattle.bz_world.specs.declared.answers.Applied.{Applied}
+use Rattle.bz_world.specs.declared.answers.Begun.{Begun}
 use Rattle.bz_world.specs.declared.answers.Event.{Event}
 
 -- with the fixed part the list is a sound journal
@@ -19,6 +21,13 @@ pub record IsWorldOf (origin : Origin) (entries : List IndexEntry) (lab : Lab) :
   pub stays : origin_of lab ≡ origin
   pub told : entries_in lab.log ≡ entries
   pub sound : IsSound lab.config power.On lab.log
+
+-- a turn that begins a call of a worker
+pub record HasBegun (origin : Origin) (found : List IndexEntry) (worker : ℕ) (call : Call) (answer : Begun) (left : List IndexEntry) : Type 0 where
+  pub lab : Lab
+  pub before : IsWorldOf origin found lab
+  pub answered : answer ≡ begin_answer lab worker call
+  pub after : IsWorldOf origin left (after_begin lab worker call answer)
 
 -- a turn that makes an event happen
 pub record HasMade (origin : Origin) (found : List IndexEntry) (event : Event) (answer : Applied) (left : List IndexEntry) : Type 0 where
