@@ -41,6 +41,8 @@ fn shown(alloc: Global, item: &Item) -> Result<String, Fail> {
         }
         Item::Run(Plan::Turns(seed)) => Ok(format!(in alloc; "run turns {seed}")?),
         Item::Run(_) => Ok(format!(in alloc; "run")?),
+        Item::Arm { flush, seed } => Ok(format!(in alloc; "cut {flush} {seed}")?),
+        Item::Power => Ok(format!(in alloc; "power")?),
     }
 }
 

@@ -2,10 +2,12 @@
 use Rattle.std.proofs.Common.{◌≡◌, ◌<◌, ℕ, ◌+◌, List, [], ◌∷◌, ◌++◌, length, drop, get_or, refl, sym, ap, ◌∙◌, append_assoc, Bor, Result, Ok, Err, arith}
 use Rattle.std.proofs.lemmas.List.{drop_more}
 use Rattle.bz_script.specs.Items.{Items}
+use Rattle.bz_script.specs.Order.{at_first, after}
 use Rattle.bz_script.specs.Words.{texts_of, words_of}
 use Rattle.bz_script.specs.Script.{Fault, item_of, items_of, then_items}
 use Rattle.bz_script.specs.declared.fault.ScriptRule.{ScriptRule}
 use Rattle.bz_script.specs.declared.item.Item.{Item}
+use Rattle.bz_script.specs.declared.order.Standing.{Standing}
 
 -- items, and then those that follow
 abbrev pub onto_items : List Item → Result (List Item) Fault → Result (List Item) Fault
@@ -13,8 +15,8 @@ onto_items items (Err fault) = Err fault
 onto_items items (Ok more) = Ok (items ++ more)
 
 -- the lines before a place were read into these items, and there is room for one from each other line but the last
-pub record IsRead (items : Items) (place last : ℕ) (lines : List (Bor (List ℕ))) : Type 0 where
-  pub so_far : onto_items items.items (items_of (place + 2) (texts_of (drop place lines))) ≡ items_of 2 (texts_of lines)
+pub record IsRead (items : Items) (standing : Standing) (place last : ℕ) (lines : List (Bor (List ℕ))) : Type 0 where
+  pub so_far : onto_items items.items (items_of (place + 2) standing (texts_of (drop place lines))) ≡ items_of 2 at_first (texts_of lines)
   pub room : items.room + place ≡ last
 
 onto_none : (rest : Result (List Item) Fault) → onto_items [] rest ≡ rest
@@ -32,36 +34,36 @@ two_on lines i d h =
     drop_more lines i d here ∙ ap (λ rest. get_or lines i d ∷ rest) (drop_more lines (i + 1) d h)
 
 -- a line that gives an item
-items_more : (number : ℕ) (lines : List (Bor (List ℕ))) (i : ℕ) (d : Bor (List ℕ)) (item : Item) (items : List Item) → i + 1 < length lines → item_of (words_of (get_or lines i d).now) ≡ Ok item
-    → onto_items (items ++ item ∷ []) (items_of (number + 1) (texts_of (drop (i + 1) lines))) ≡ onto_items items (items_of number (texts_of (drop i lines)))
-items_more number lines i d item items h read =
-    rw (two_on lines i d h, drop_more lines (i + 1) d h, read) (sym (onto_then number items item (items_of (number + 1) (texts_of (get_or lines (i + 1) d ∷ drop (i + 1 + 1) lines)))))
+items_more : (number : ℕ) (standing : Standing) (lines : List (Bor (List ℕ))) (i : ℕ) (d : Bor (List ℕ)) (item : Item) (items : List Item) → i + 1 < length lines → item_of standing (words_of (get_or lines i d).now) ≡ Ok item
+    → onto_items (items ++ item ∷ []) (items_of (number + 1) (after standing item) (texts_of (drop (i + 1) lines))) ≡ onto_items items (items_of number standing (texts_of (drop i lines)))
+items_more number standing lines i d item items h read =
+    rw (two_on lines i d h, drop_more lines (i + 1) d h, read) (sym (onto_then number items item (items_of (number + 1) (after standing item) (texts_of (get_or lines (i + 1) d ∷ drop (i + 1 + 1) lines)))))
 
 -- a line that breaks a rule
-items_fault : (number : ℕ) (lines : List (Bor (List ℕ))) (i : ℕ) (d : Bor (List ℕ)) (rule : ScriptRule) → i + 1 < length lines → item_of (words_of (get_or lines i d).now) ≡ Err rule
-    → items_of number (texts_of (drop i lines)) ≡ Err (record { line = number; rule = rule })
-items_fault number lines i d rule h read = rw (two_on lines i d h, read) refl
+items_fault : (number : ℕ) (standing : Standing) (lines : List (Bor (List ℕ))) (i : ℕ) (d : Bor (List ℕ)) (rule : ScriptRule) → i + 1 < length lines → item_of standing (words_of (get_or lines i d).now) ≡ Err rule
+    → items_of number standing (texts_of (drop i lines)) ≡ Err (record { line = number; rule = rule })
+items_fault number standing lines i d rule h read = rw (two_on lines i d h, read) refl
 
 -- nothing was read
-pub read_none : (items : Items) (last : ℕ) (lines : List (Bor (List ℕ))) → items.items ≡ [] → items.room ≡ last → IsRead items 0 last lines
+pub read_none : (items : Items) (last : ℕ) (lines : List (Bor (List ℕ))) → items.items ≡ [] → items.room ≡ last → IsRead items at_first 0 last lines
 read_none items last lines none room = record {
-  so_far = rw none (onto_none (items_of 2 (texts_of lines)));
+  so_far = rw none (onto_none (items_of 2 at_first (texts_of lines)));
   room = omega arith;
 }
 
 -- one item more was read
-pub read_more : (items longer : Items) (i last : ℕ) (lines : List (Bor (List ℕ))) (d : Bor (List ℕ)) (item : Item) → i < last → last + 1 ≡ length lines → item_of (words_of (get_or lines i d).now) ≡ Ok item
-    → longer.items ≡ items.items ++ item ∷ [] → longer.room + 1 ≡ items.room → IsRead items i last lines → IsRead longer (i + 1) last lines
-read_more items longer i last lines d item h counted read added room before =
+pub read_more : (items longer : Items) (standing next : Standing) (i last : ℕ) (lines : List (Bor (List ℕ))) (d : Bor (List ℕ)) (item : Item) → i < last → last + 1 ≡ length lines → item_of standing (words_of (get_or lines i d).now) ≡ Ok item
+    → next ≡ after standing item → longer.items ≡ items.items ++ item ∷ [] → longer.room + 1 ≡ items.room → IsRead items standing i last lines → IsRead longer next (i + 1) last lines
+read_more items longer standing next i last lines d item h counted read follows added room before =
     let number : i + 1 + 2 ≡ i + 2 + 1 = omega arith in
     let before_room : items.room + i ≡ last = before.room in
     record {
-      so_far = rw (added, number) (items_more (i + 2) lines i d item items.items (omega arith) read ∙ before.so_far);
+      so_far = rw (added, follows, number) (items_more (i + 2) standing lines i d item items.items (omega arith) read ∙ before.so_far);
       room = omega arith;
     }
 
 -- the first fault
-pub read_fault : (items : Items) (i last : ℕ) (lines : List (Bor (List ℕ))) (d : Bor (List ℕ)) (rule : ScriptRule) → i < last → last + 1 ≡ length lines → item_of (words_of (get_or lines i d).now) ≡ Err rule
-    → IsRead items i last lines → items_of 2 (texts_of lines) ≡ Err (record { line = i + 2; rule = rule })
-read_fault items i last lines d rule h counted read before =
-    sym before.so_far ∙ rw (items_fault (i + 2) lines i d rule (omega arith) read) refl
+pub read_fault : (items : Items) (standing : Standing) (i last : ℕ) (lines : List (Bor (List ℕ))) (d : Bor (List ℕ)) (rule : ScriptRule) → i < last → last + 1 ≡ length lines → item_of standing (words_of (get_or lines i d).now) ≡ Err rule
+    → IsRead items standing i last lines → items_of 2 at_first (texts_of lines) ≡ Err (record { line = i + 2; rule = rule })
+read_fault items standing i last lines d rule h counted read before =
+    sym before.so_far ∙ rw (items_fault (i + 2) standing lines i d rule (omega arith) read) refl

@@ -4,6 +4,7 @@ use Rattle.std.specs.List.{slice_split}
 use Rattle.std.proofs.lemmas.List.{length-map}
 use Rattle.std.proofs.lemmas.List.Splits.{length-slice_split}
 use Rattle.std.proofs.lemmas.List.Sums.{count_by-le-length}
+use Rattle.bz_script.specs.Order.{at_first}
 use Rattle.bz_script.specs.Words.{texts_of, words_of}
 use Rattle.bz_script.specs.Script.{Fault, IsFault, first_of, items_of, then_job, script_of_lines}
 use Rattle.bz_script.specs.declared.fault.ScriptFault.{ScriptFault}
@@ -26,7 +27,7 @@ parts_counted p parts bytes same =
 
 -- where a further part follows, the first line is read and then the later ones
 two_parts : (image : Option (ℕ × ℕ)) (parts : List (Bor (List ℕ))) (d : Bor (List ℕ)) → 1 < length parts
-    → script_of_lines image (texts_of parts) ≡ then_job (first_of image (words_of (get_or parts 0 d).now)) (items_of 2 (texts_of (drop 1 parts)))
+    → script_of_lines image (texts_of parts) ≡ then_job (first_of image (words_of (get_or parts 0 d).now)) (items_of 2 at_first (texts_of (drop 1 parts)))
 two_parts image [] d h = absurd (omega arith)
 two_parts image (line ∷ []) d h = absurd (omega arith)
 two_parts image (line ∷ next ∷ lines) d h = refl
@@ -38,7 +39,7 @@ first_fault image parts d rule more read = two_parts image parts d more ∙ rw r
 
 -- a first line that breaks none
 pub first_read : (image : Option (ℕ × ℕ)) (parts : List (Bor (List ℕ))) (d : Bor (List ℕ)) (sizes : Sizes) → 1 < length parts → first_of image (words_of (get_or parts 0 d).now) ≡ Ok sizes
-    → script_of_lines image (texts_of parts) ≡ then_job (Ok sizes) (items_of 2 (texts_of (drop 1 parts)))
+    → script_of_lines image (texts_of parts) ≡ then_job (Ok sizes) (items_of 2 at_first (texts_of (drop 1 parts)))
 first_read image parts d sizes more read = two_parts image parts d more ∙ rw read refl
 
 -- a fault of the later lines is that of the script, where the first line breaks no rule

@@ -1,28 +1,33 @@
--- What the parts of a script are: its sizes are in range, and its queued calls and the turns of its runs are of workers from 1
--- to 64.
+-- What the parts of a script are: its sizes are in range, its queued calls and the turns of its runs are of workers from 1
+-- to 64, its cuts wait for a flush from 1 on, and each line may stand where it does.
 use Rattle.std.proofs.Common.{◌≡◌, ◌≤◌, ℕ, ◌+◌, Bool, true, false, List, [], ◌∷◌, refl, Option, Some, None, ◌==◌}
 use Rattle.std.specs.Prelude.{if◌then◌else◌, nat_lt, ◌&&◌, length, codes, Ok, Err, Result}
 use Rattle.bz_key.specs.Spelling.{key_of_word, payload_of_word}
 use Rattle.bz_call.specs.declared.calls.Call.{Call}
 use Rattle.bz_call.specs.declared.calls.Call.TheVariants.{Insert, Delete, Update, Upsert, Get, Page}
 use Rattle.bz_script.specs.declared.item.Item.{Item}
-use Rattle.bz_script.specs.declared.item.Item.TheVariants.{Queue, Run}
+use Rattle.bz_script.specs.declared.item.Item.TheVariants.{Queue, Arm, Run, Power}
 use Rattle.bz_script.specs.declared.forms.Line.{Line}
 use Rattle.bz_script.specs.declared.forms.Line.TheVariants.{Memory, Entry}
 use Rattle.bz_script.specs.declared.forms.Sizes.{Sizes}
 use Rattle.bz_script.specs.declared.fault.ScriptRule.{ScriptRule}
-use Rattle.bz_script.specs.declared.fault.ScriptRule.TheVariants.{Unknown, Words, Number, NoMemoryLine}
+use Rattle.bz_script.specs.declared.fault.ScriptRule.TheVariants.{Unknown, Words, Number, NoMemoryLine, Order}
+use Rattle.bz_script.specs.declared.order.Standing.{Standing}
 use Rattle.bz_script.specs.Number.{within, number_of, worker_of}
 use Rattle.bz_script.specs.Words.{word, is_word, words_of, lines_of}
 use Rattle.bz_script.specs.Forms.{sizes_by, memory_of, queued, put_by, put_of, keyed_by, keyed_of, call_of, sized, entered, line_of}
+use Rattle.bz_script.specs.Order.{at_first, may_stand, AreInOrder}
+use Rattle.bz_script.specs.PowerForms.{cut_by, cut_of, power_of}
 use Rattle.bz_script.specs.RangeLaws.{either_way, in_range}
 use Rattle.bz_script.specs.RunForms.{run_of}
 use Rattle.bz_script.specs.RunLaws.{IsPlan, run_runs}
-use Rattle.bz_script.specs.Script.{Job, Fault, same_as, first_of, in_order, item_of, then_items, items_of, then_job, script_of_lines, script_of}
+use Rattle.bz_script.specs.Script.{Job, Fault, same_as, first_of, in_order, item_of, standing_by, then_items, items_of, then_job, script_of_lines, script_of}
 
 abbrev pub IsItem : Item → Type 0
 IsItem (Queue w call) = (1 ≤ w) × (w ≤ 64)
+IsItem (Arm flush seed) = (1 ≤ flush) × (flush ≤ 33554432)
 IsItem (Run plan) = IsPlan plan
+IsItem Power = Unit {0}
 
 abbrev pub AreItems : List Item → Type 0
 AreItems [] = Unit {0}
@@ -34,6 +39,7 @@ pub record IsJob (job : Job) : Type 0 where
   pub some_swaps : 1 ≤ job.swaps
   pub few_swaps : job.swaps ≤ 65536
   pub items : AreItems job.items
+  pub ordered : AreInOrder at_first job.items
 
 -- a call of a worker, once it was read
 queued_item : (found : Result (ℕ × Call) ScriptRule) (item : Item) → ((called : ℕ × Call) → found ≡ Ok called → (1 ≤ called.0) × (called.0 ≤ 64)) → queued found ≡ Ok item → IsItem item
@@ -86,6 +92,18 @@ call_item words item =
 run_item : (words : List (List ℕ)) (item : Item) → run_of words ≡ Ok item → IsItem item
 run_item words item is = let run = run_runs words item is in rw run.is run.sound
 
+cut_numbers : (flush seed : Option ℕ) (item : Item) → ((n : ℕ) → flush ≡ Some n → (1 ≤ n) × (n ≤ 33554432)) → cut_by flush seed ≡ Ok item → IsItem item
+cut_numbers None seed item h is = absurd cc
+cut_numbers (Some flush) None item h is = absurd cc
+cut_numbers (Some flush) (Some seed) item h is = let same : Arm flush seed ≡ item = cc in rw (← same) (h flush refl)
+
+cut_item : (words : List (List ℕ)) (item : Item) → cut_of words ≡ Ok item → IsItem item
+cut_item words item =
+    either_way IsItem (length words == 3) _ (Err Words) item (cut_numbers (within 1 33554432 (number_of (word words 1))) (number_of (word words 2)) item (in_range 1 33554432 (number_of (word words 1)))) (no_item Words item)
+
+power_item : (words : List (List ℕ)) (item : Item) → power_of words ≡ Ok item → IsItem item
+power_item words item = either_way IsItem (length words == 1) (Ok Power) (Err Words) item (λ is. let same : Power ≡ item = cc in rw (← same) tt) (no_item Words item)
+
 abbrev IsLine : Line → Type 0
 IsLine (Memory sizes) = Unit {0}
 IsLine (Entry item) = IsItem item
@@ -105,28 +123,55 @@ line_item : (words : List (List ℕ)) (line : Line) → line_of words ≡ Ok lin
 line_item words line =
     either_way IsLine (is_word words 0 (codes "memory")) (sized (memory_of words)) _ line (sized_line (memory_of words) line)
     (either_way IsLine (is_word words 0 (codes "w")) (entered (call_of words)) _ line (entered_line (call_of words) line (call_item words))
-    (either_way IsLine (is_word words 0 (codes "run")) (entered (run_of words)) (Err Unknown) line (entered_line (run_of words) line (run_item words)) (no_line Unknown line)))
+    (either_way IsLine (is_word words 0 (codes "run")) (entered (run_of words)) _ line (entered_line (run_of words) line (run_item words))
+    (either_way IsLine (is_word words 0 (codes "cut")) (entered (cut_of words)) _ line (entered_line (cut_of words) line (cut_item words))
+    (either_way IsLine (is_word words 0 (codes "power")) (entered (power_of words)) (Err Unknown) line (entered_line (power_of words) line (power_item words)) (no_line Unknown line)))))
 
-ordered_item : (found : Result Line ScriptRule) (item : Item) → ((line : Line) → found ≡ Ok line → IsLine line) → in_order found ≡ Ok item → IsItem item
-ordered_item (Err rule) item h is = absurd cc
-ordered_item (Ok (Memory sizes)) item h is = absurd cc
-ordered_item (Ok (Entry entry)) item h is = let same : entry ≡ item = cc in rw (← same) (h (Entry entry) refl)
+-- an item that may stand where it does
+record Stands (standing : Standing) (item : Item) : Type 0 where
+  sound : IsItem item
+  order : may_stand standing item ≡ true
 
-item_is : (words : List (List ℕ)) (item : Item) → item_of words ≡ Ok item → IsItem item
-item_is words item = ordered_item (line_of words) item (line_item words)
+entry_stands : (b : Bool) (standing : Standing) (entry item : Item) → may_stand standing entry ≡ b → IsItem entry → (if b then Ok entry else Err Order) ≡ Ok item → Stands standing item
+entry_stands true standing entry item may h is = let same : entry ≡ item = cc in rw (← same) (record { sound = h; order = may })
+entry_stands false standing entry item may h is = absurd cc
 
-items_then : (number : ℕ) (found : Result Item ScriptRule) (rest : Result (List Item) Fault) (items : List Item) → ((item : Item) → found ≡ Ok item → IsItem item)
-    → ((more : List Item) → rest ≡ Ok more → AreItems more) → then_items number found rest ≡ Ok items → AreItems items
-items_then number (Err rule) rest items h k is = absurd cc
-items_then number (Ok item) (Err fault) items h k is = absurd cc
-items_then number (Ok item) (Ok more) items h k is = let same : item ∷ more ≡ items = cc in rw (← same) (h item refl, k more refl)
+ordered_item : (standing : Standing) (found : Result Line ScriptRule) (item : Item) → ((line : Line) → found ≡ Ok line → IsLine line) → in_order standing found ≡ Ok item → Stands standing item
+ordered_item standing (Err rule) item h is = absurd cc
+ordered_item standing (Ok (Memory sizes)) item h is = absurd cc
+ordered_item standing (Ok (Entry entry)) item h is = entry_stands (may_stand standing entry) standing entry item refl (h (Entry entry) refl) is
 
-items_are : (number : ℕ) (lines : List (List ℕ)) (items : List Item) → items_of number lines ≡ Ok items → AreItems items
-items_are number [] items is = let same : [] ≡ items = cc in rw (← same) tt
-items_are number ([] ∷ []) items is = let same : [] ≡ items = cc in rw (← same) tt
-items_are number ((b ∷ line) ∷ []) items is = absurd cc
-items_are number ([] ∷ next ∷ lines) items is = items_then number (item_of (words_of [])) (items_of (number + 1) (next ∷ lines)) items (item_is (words_of [])) (items_are (number + 1) (next ∷ lines)) is
-items_are number ((b ∷ line) ∷ next ∷ lines) items is = items_then number (item_of (words_of (b ∷ line))) (items_of (number + 1) (next ∷ lines)) items (item_is (words_of (b ∷ line))) (items_are (number + 1) (next ∷ lines)) is
+item_stands : (standing : Standing) (words : List (List ℕ)) (item : Item) → item_of standing words ≡ Ok item → Stands standing item
+item_stands standing words item = ordered_item standing (line_of words) item (line_item words)
+
+-- the items of later lines
+record AreGood (standing : Standing) (items : List Item) : Type 0 where
+  sound : AreItems items
+  ordered : AreInOrder standing items
+
+items_then : (number : ℕ) (standing : Standing) (found : Result Item ScriptRule) (rest : Result (List Item) Fault) (items : List Item) → ((item : Item) → found ≡ Ok item → Stands standing item)
+    → ((more : List Item) → rest ≡ Ok more → AreGood (standing_by standing found) more) → then_items number found rest ≡ Ok items → AreGood standing items
+items_then number standing (Err rule) rest items h k is = absurd cc
+items_then number standing (Ok item) (Err fault) items h k is = absurd cc
+items_then number standing (Ok item) (Ok more) items h k is =
+    let same : item ∷ more ≡ items = cc in
+    let one = h item refl in
+    let others = k more refl in
+    rw (← same) (record { sound = (one.sound, others.sound); ordered = (one.order, others.ordered) })
+
+no_items : (standing : Standing) (items : List Item) → [] ≡ items → AreGood standing items
+no_items standing items same = rw (← same) (record { sound = tt; ordered = tt })
+
+items_are : (number : ℕ) (standing : Standing) (lines : List (List ℕ)) (items : List Item) → items_of number standing lines ≡ Ok items → AreGood standing items
+items_are number standing [] items is = no_items standing items cc
+items_are number standing ([] ∷ []) items is = no_items standing items cc
+items_are number standing ((b ∷ line) ∷ []) items is = absurd cc
+items_are number standing ([] ∷ next ∷ lines) items is =
+    items_then number standing (item_of standing (words_of [])) (items_of (number + 1) (standing_by standing (item_of standing (words_of []))) (next ∷ lines)) items (item_stands standing (words_of []))
+    (items_are (number + 1) (standing_by standing (item_of standing (words_of []))) (next ∷ lines)) is
+items_are number standing ((b ∷ line) ∷ next ∷ lines) items is =
+    items_then number standing (item_of standing (words_of (b ∷ line))) (items_of (number + 1) (standing_by standing (item_of standing (words_of (b ∷ line)))) (next ∷ lines)) items (item_stands standing (words_of (b ∷ line)))
+    (items_are (number + 1) (standing_by standing (item_of standing (words_of (b ∷ line)))) (next ∷ lines)) is
 
 pub record AreSizes (sizes : Sizes) : Type 0 where
   pub some_nodes : 1 ≤ sizes.nodes
@@ -157,19 +202,20 @@ same_sizes (Some image) (Ok found) sizes h is = either_way AreSizes ((found.node
 first_sizes : (image : Option (ℕ × ℕ)) (words : List (List ℕ)) (sizes : Sizes) → first_of image words ≡ Ok sizes → AreSizes sizes
 first_sizes image words sizes = either_way AreSizes (is_word words 0 (codes "memory")) (same_as image (memory_of words)) (Err NoMemoryLine) sizes (same_sizes image (memory_of words) sizes (memory_sizes words)) (no_sizes NoMemoryLine sizes)
 
-job_is : (first : Result Sizes ScriptRule) (rest : Result (List Item) Fault) (job : Job) → ((sizes : Sizes) → first ≡ Ok sizes → AreSizes sizes) → ((items : List Item) → rest ≡ Ok items → AreItems items) → then_job first rest ≡ Ok job → IsJob job
+job_is : (first : Result Sizes ScriptRule) (rest : Result (List Item) Fault) (job : Job) → ((sizes : Sizes) → first ≡ Ok sizes → AreSizes sizes) → ((items : List Item) → rest ≡ Ok items → AreGood at_first items) → then_job first rest ≡ Ok job → IsJob job
 job_is (Err rule) rest job h k is = absurd cc
 job_is (Ok sizes) (Err fault) job h k is = absurd cc
 job_is (Ok sizes) (Ok items) job h k is =
     let same : ◌≡◌ {A = Job} (record { nodes = sizes.nodes; swaps = sizes.swaps; items = items }) job = cc in
     let s = h sizes refl in
-    rw (← same) (record { some_nodes = s.some_nodes; few_nodes = s.few_nodes; some_swaps = s.some_swaps; few_swaps = s.few_swaps; items = k items refl })
+    let good = k items refl in
+    rw (← same) (record { some_nodes = s.some_nodes; few_nodes = s.few_nodes; some_swaps = s.some_swaps; few_swaps = s.few_swaps; items = good.sound; ordered = good.ordered })
 
 lines_job : (image : Option (ℕ × ℕ)) (lines : List (List ℕ)) (job : Job) → script_of_lines image lines ≡ Ok job → IsJob job
 lines_job image [] job is = absurd cc
 lines_job image (bytes ∷ []) job is = absurd cc
-lines_job image (line ∷ next ∷ lines) job is = job_is (first_of image (words_of line)) (items_of 2 (next ∷ lines)) job (first_sizes image (words_of line)) (items_are 2 (next ∷ lines)) is
+lines_job image (line ∷ next ∷ lines) job is = job_is (first_of image (words_of line)) (items_of 2 at_first (next ∷ lines)) job (first_sizes image (words_of line)) (items_are 2 at_first (next ∷ lines)) is
 
--- a script's sizes are in range, and its items are queued calls that scripts have, and runs
+-- a script's sizes are in range, its items are those that scripts have, and each may stand where it does
 pub scripts_are_jobs : (image : Option (ℕ × ℕ)) (bytes : List ℕ) (job : Job) → script_of image bytes ≡ Ok job → IsJob job
 scripts_are_jobs image bytes job is = lines_job image (lines_of bytes) job is

@@ -4,6 +4,8 @@ pub mod Forms
 pub mod Asks
 pub mod Items
 pub mod Number
+pub mod Order
+pub mod PowerForms
 pub mod RangeLaws
 pub mod Reads
 pub mod RunForms

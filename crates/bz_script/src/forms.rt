@@ -8,6 +8,7 @@ ghost use Rattle.bz_script.specs.Words.{texts_of};
 use crate::fault::{LineFault, ScriptRule};
 use crate::item::Item;
 use crate::number::{number_to, read_worker};
+use crate::power_forms::{read_cut, read_power};
 use crate::run_forms::read_run;
 use crate::words::{is_word, word};
 use bz_call::Call;
@@ -154,6 +155,14 @@ pub(crate) fn read_line(alloc: Global, words: &[&[u8]]) -> Result<Line, LineFaul
     }
     if is_word(words, 0, b"run") {
         let item = read_run(alloc, words)?;
+        return Ok(Line::Entry(item));
+    }
+    if is_word(words, 0, b"cut") {
+        let item = read_cut(words)?;
+        return Ok(Line::Entry(item));
+    }
+    if is_word(words, 0, b"power") {
+        let item = read_power(words)?;
         return Ok(Line::Entry(item));
     }
     Err(LineFault::Rule(ScriptRule::Unknown))

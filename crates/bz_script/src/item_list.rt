@@ -40,6 +40,8 @@ impl ItemList {
         // Taken apart by its variants, since the prover has to meet the type of the call here.
         match item {
             Item::Queue(w, call) => self.items.push_reserved(Item::Queue(w, call)),
+            Item::Arm { flush, seed } => self.items.push_reserved(Item::Arm { flush, seed }),
+            Item::Power => self.items.push_reserved(Item::Power),
             Item::Run(Plan::Alone) => self.items.push_reserved(Item::Run(Plan::Alone)),
             Item::Run(Plan::List(turns)) => self.items.push_reserved(Item::Run(Plan::List(turns))),
             Item::Run(Plan::Turns(seed)) => self.items.push_reserved(Item::Run(Plan::Turns(seed))),

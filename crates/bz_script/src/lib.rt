@@ -8,6 +8,8 @@ mod item;
 mod item_list;
 pub mod laws;
 mod number;
+mod order;
+mod power_forms;
 mod read;
 mod run_forms;
 mod script;

@@ -1,5 +1,6 @@
 //! Reading a script.
 ghost use Rattle.std.specs.Prelude.{◌≡◌, ◌≤◌, ◌<◌, ◌+◌, length, MatchResult, Ok};
+ghost use Rattle.bz_script.specs.Order.{at_first as first};
 ghost use Rattle.bz_script.specs.Reads.{Reads};
 ghost use Rattle.bz_script.specs.Script.{script_of, script_of_lines, items_of, item_of, first_of, unended, job_of, IsFault};
 ghost use Rattle.bz_script.specs.Words.{texts_of};
@@ -8,6 +9,7 @@ use crate::fault::{LineFault, ScriptFault, ScriptRule};
 use crate::forms::{Line, Sizes, read_line, read_memory};
 use crate::item::Item;
 use crate::item_list::ItemList;
+use crate::order::{Standing, at_first, follow, may_stand};
 use crate::script::Script;
 use crate::words::{is_word, parts};
 use std::alloc::Global;
@@ -36,12 +38,17 @@ fn read_sizes(words: &[&[u8]], image: Option<(u32, u32)>) -> Result<Sizes, Scrip
 }
 
 // The item that a later line gives.
-fn read_item(alloc: Global, words: &[&[u8]]) -> Result<Item, LineFault>
-    ensures { Reads (item_of (texts_of words.now)) result }
+fn read_item(alloc: Global, words: &[&[u8]], standing: Standing) -> Result<Item, LineFault>
+    ensures { Reads (item_of standing (texts_of words.now)) result }
 {
     match read_line(alloc, words)? {
         Line::Memory(_) => Err(LineFault::Rule(ScriptRule::Order)),
-        Line::Entry(item) => Ok(item),
+        Line::Entry(item) => {
+            if !may_stand(standing, &item) {
+                return Err(LineFault::Rule(ScriptRule::Order));
+            }
+            Ok(item)
+        }
     }
 }
 
@@ -49,14 +56,18 @@ fn read_item(alloc: Global, words: &[&[u8]]) -> Result<Item, LineFault>
 fn read_items(alloc: Global, lines: &[&[u8]]) -> Result<ItemList, ScriptFault>
     requires some { 0 < length lines.now }
     requires fits { length lines.now ≤ SCRIPT_BYTES }
-    ensures { MatchResult result (λ list. items_of 2 (texts_of lines.now) ≡ Ok list.items) (IsFault (items_of 2 (texts_of lines.now))) }
+    ensures { MatchResult result (λ list. items_of 2 first (texts_of lines.now) ≡ Ok list.items) (IsFault (items_of 2 first (texts_of lines.now))) }
 {
     let last = lines.len() - 1;
     let mut items = ItemList::open(alloc, last)?;
+    let mut standing = at_first();
     for place in 0..last {
         let words = parts(alloc, lines[place], b' ')?;
-        match read_item(alloc, &words) {
-            Ok(item) => items.push(item),
+        match read_item(alloc, &words, standing) {
+            Ok(item) => {
+                standing = follow(standing, &item);
+                items.push(item);
+            }
             Err(LineFault::Rule(rule)) => {
                 return Err(ScriptFault::Rule {
                     line: place as u32 + 2,

@@ -88,8 +88,8 @@ fn answers_the_first_broken_rule(rt: HostRuntime) -> Result<(), Fail> {
         ("memory 1 1\nw 0 Page a\n", "line 2: unknown word"),
         ("memory 1 1\nw  1 get a\n", "line 2: unknown word"),
         ("memory 1 1\nrun threads\n", "line 2: unknown word"),
-        ("memory 1 1\ncut 1 1\n", "line 2: unknown word"),
-        ("memory 1 1\npower\n", "line 2: unknown word"),
+        ("memory 1 1\ncuts 1 1\n", "line 2: unknown word"),
+        ("memory 1 1\npower on\n", "line 2: wrong number of words"),
         (
             "memory 1 1\nrun alone now\n",
             "line 2: wrong number of words",
@@ -160,6 +160,48 @@ fn answers_the_first_broken_rule_of_a_page(rt: HostRuntime) -> Result<(), Fail> 
         ("memory 1 1\nw 1 page \n", "line 2: bad key"),
     ];
     for (text, want) in cases {
+        expect_reading(&rt, rt.alloc(), text.as_bytes(), None, want)?;
+    }
+    Ok(())
+}
+
+#[test]
+fn answers_the_first_broken_rule_of_cuts_and_power(rt: HostRuntime) -> Result<(), Fail> {
+    let cases = [
+        ("cut\n", "line 2: wrong number of words"),
+        ("cut x\n", "line 2: wrong number of words"),
+        ("cut 0 x y\n", "line 2: wrong number of words"),
+        ("cut 0 x\n", "line 2: bad number"),
+        ("cut 33554433 0\n", "line 2: bad number"),
+        ("cut 1 18446744073709551616\n", "line 2: bad number"),
+        ("cut 33554432 18446744073709551615\n", "1 1 1"),
+        ("power \n", "line 2: wrong number of words"),
+        ("power\npower\n", "1 1 2"),
+        // a second cut while one is armed
+        ("cut 1 0\ncut 1 0\n", "line 3: wrong order"),
+        ("cut 1 0\nw 1 get a\ncut 2 1\n", "line 4: wrong order"),
+        ("cut 1 0\nrun alone\ncut 1 0\npower\n", "1 1 4"),
+        // a run after an armed one, or after an armed power on
+        ("cut 1 0\nrun alone\nrun alone\n", "line 4: wrong order"),
+        ("cut 1 0\nrun alone\nrun list 1\n", "line 4: wrong order"),
+        ("cut 1 0\npower\nrun turns 1\n", "line 4: wrong order"),
+        (
+            "cut 1 0\nrun alone\ncut 1 0\npower\nrun alone\n",
+            "line 6: wrong order",
+        ),
+        (
+            "cut 1 0\nrun alone\ncut 1 0\npower\npower\nrun alone\n",
+            "1 1 6",
+        ),
+        ("cut 1 0\nrun alone\npower\nrun alone\nrun alone\n", "1 1 5"),
+        // Order comes last
+        ("cut 1 0\ncut 1 x\n", "line 3: bad number"),
+        ("cut 1 0\nrun alone\nrun list 0\n", "line 4: bad worker"),
+        // a cut that no line uses
+        ("run alone\ncut 1 0\n", "1 1 2"),
+    ];
+    for (lines, want) in cases {
+        let text = format!(in rt.alloc(); "memory 1 1\n{lines}")?;
         expect_reading(&rt, rt.alloc(), text.as_bytes(), None, want)?;
     }
     Ok(())
