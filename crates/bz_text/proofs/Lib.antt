@@ -2,3 +2,5 @@ pub mod SortLemmas
 pub mod ReadLemmas
 pub mod KeyLemmas
 pub mod SumLemmas
+pub mod OpenLemmas
+pub mod PartLemmas

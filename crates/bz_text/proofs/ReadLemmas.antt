@@ -19,19 +19,19 @@ use Rattle.bz_text.specs.Reading.{IsReadTo, ended_since}
 abbrev pub began : Option Open → Option ℕ
 began opened = option_map (λ call. call.begun) opened
 
-same_number : (w : ℕ) → (w == w) ≡ true
+pub same_number : (w : ℕ) → (w == w) ≡ true
 same_number w = grind (arith, nat_tests)
 
-other_number : (w v : ℕ) → v ≢ w → (w == v) ≡ false
+pub other_number : (w v : ℕ) → v ≢ w → (w == v) ≡ false
 other_number w v h = grind (arith, nat_tests)
 
-either : (v w : ℕ) → (v ≡ w) ⊎ (v ≢ w)
+pub either : (v w : ℕ) → (v ≡ w) ⊎ (v ≢ w)
 either v w = grind (arith, nat_tests)
 
-set_same : {A : Type 0} (xs : List A) (w : ℕ) (x d : A) → w < length xs → get_or (set xs w x) w d ≡ x
+pub set_same : {A : Type 0} (xs : List A) (w : ℕ) (x d : A) → w < length xs → get_or (set xs w x) w d ≡ x
 set_same xs w x d h = grind (arith, common_steps)
 
-set_other : {A : Type 0} (xs : List A) (v w : ℕ) (x d : A) → v ≢ w → get_or (set xs w x) v d ≡ get_or xs v d
+pub set_other : {A : Type 0} (xs : List A) (v w : ℕ) (x d : A) → v ≢ w → get_or (set xs w x) v d ≡ get_or xs v d
 set_other xs v w x d h = grind (arith, common_steps)
 
 effect_began : (b : Bool) (now : ℕ) (rest : Option Open) → began (if b then option_map (with_effect now) rest else rest) ≡ began rest
@@ -103,15 +103,19 @@ some_open past moment begins calls w begun small le h is = since_of (open_call w
         let same : opened.begun ≡ begun = cc in
         record { opened = opened; is = here; same = same; before = omega (arith, began_before w (at_moment moment past) opened here, length-at_moment moment past le) }
 
-pub read_cut : (past : List Mark) (moment : ℕ) (begins after : List (Option ℕ)) (calls : List EndedCall) → moment < length past
-    → mark_at moment past ≡ Some Cut → IsReadTo past moment begins calls → after ≡ replicate 256 None → IsReadTo past (moment + 1) after calls
-read_cut past moment begins after calls lt is h none =
+pub read_cut : (past : List Mark) (moment : ℕ) (begins after : List (Option ℕ)) (calls more : List EndedCall) → moment < length past
+    → mark_at moment past ≡ Some Cut → IsReadTo past moment begins calls → after ≡ replicate 256 None → more ≡ [] → IsReadTo past (moment + 1) after more
+read_cut past moment begins after calls more lt is h none empty =
     let next = at_moment-next moment Cut past is lt in
-    rw none (record {
+    rw (none, empty) (record {
       places = length-replicate {A = Option ℕ} 256 None;
       begun = λ v few. rw (next, get_or-replicate {A = Option ℕ} 256 v None None few) refl;
-      ended = rw next h.ended;
+      ended = rw next refl;
     })
+
+-- what is read is told by the marks
+pub settled : (past : List Mark) (moment : ℕ) (begins : List (Option ℕ)) (calls : List EndedCall) → IsReadTo past moment begins calls → IsReadTo past moment begins (ended_calls (at_moment moment past))
+settled past moment begins calls h = record { places = h.places; begun = h.begun; ended = refl }
 
 -- the marks that neither open nor close a call
 abbrev pub IsOther : Mark → Type 0

@@ -11,14 +11,12 @@ use Rattle.bz_mark.specs.declared.marks.Mark.{Mark}
 use Rattle.bz_mark.specs.declared.marks.Mark.TheVariants.{Begin, End, Cut, Effect}
 use Rattle.bz_sound.specs.Calls.{Open, open_call, map_after}
 use Rattle.bz_sound.specs.CallLaws.{began_before, has_begin}
-use Rattle.bz_text.specs.Reading.{IsReadTo}
 use Rattle.bz_text.specs.Report.{ended_calls}
 use Rattle.bz_text.specs.RightSummary.{total, counts_are_the_ends}
 use Rattle.bz_text.specs.Summary.{no_counts, counted, counts_of}
 use Rattle.bz_text.specs.Summing.{AreBelow, AreKeysOf, IsCountedTo}
 use Rattle.bz_text.specs.declared.counts.Counts.{Counts}
-use Rattle.bz_text.specs.declared.ended.EndedCall.{EndedCall}
-use Rattle.bz_text.proofs.ReadLemmas.{IsOther, read_none, read_begin, read_end, read_cut, read_other}
+use Rattle.bz_text.proofs.ReadLemmas.{IsOther, read_none, read_begin, read_end, read_cut, read_other, settled}
 
 ends_within : (past : List Mark) → count_ends past ≤ length past
 ends_within [] = omega arith
@@ -41,9 +39,6 @@ counts_below past moment begins counts most lt le h =
       page = omega (arith, few);
       full = omega (arith, few);
     }
-
-settled : (past : List Mark) (moment : ℕ) (begins : List (Option ℕ)) (calls : List EndedCall) → IsReadTo past moment begins calls → IsReadTo past moment begins (ended_calls (at_moment moment past))
-settled past moment begins calls h = record { places = h.places; begun = h.begun; ended = refl }
 
 -- nothing is summed up yet
 pub counted-none : (past : List Mark) (begins : List (Option ℕ)) (counts : Counts) → begins ≡ replicate 256 None → counts ≡ no_counts → IsCountedTo past 0 begins counts
@@ -71,7 +66,7 @@ module _ (past : List Mark) (moment : ℕ) (begins : List (Option ℕ)) (counts 
 
   pub counted-cut : (after : List (Option ℕ)) → mark_at moment past ≡ Some Cut → after ≡ replicate 256 None → IsCountedTo past (moment + 1) after counts
   counted-cut after is none = record {
-    table = settled past (moment + 1) _ _ (read_cut past moment begins after (ended_calls (at_moment moment past)) lt is h.table none);
+    table = settled past (moment + 1) _ _ (read_cut past moment begins after (ended_calls (at_moment moment past)) [] lt is h.table none refl);
     so_far = h.so_far ∙ ap counts_of (sym (at_moment-next moment Cut past is lt));
   }
 

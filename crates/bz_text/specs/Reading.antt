@@ -1,15 +1,16 @@
--- How far a journal has been read for its ended calls.
-use Rattle.std.specs.Prelude.{◌≡◌, ◌<◌, ℕ, List, [], ◌∷◌, length, Option, Some, None, option_map}
+-- How far a journal has been read for its calls.
+use Rattle.std.specs.Prelude.{◌≡◌, ◌<◌, ℕ, Bool, false, List, [], ◌∷◌, length, Option, Some, None, option_map, is_some}
 use Rattle.std.proofs.Common.{get_or}
 use Rattle.bz_call.specs.declared.replies.Reply.{Reply}
 use Rattle.bz_mark.specs.Moments.{at_moment}
 use Rattle.bz_mark.specs.declared.marks.Mark.{Mark}
 use Rattle.bz_mark.specs.declared.marks.Mark.TheVariants.{Begin}
-use Rattle.bz_sound.specs.Calls.{open_call}
+use Rattle.bz_sound.specs.Calls.{Open, open_call}
 use Rattle.bz_text.specs.declared.ended.EndedCall.{EndedCall}
+use Rattle.bz_text.specs.Lines.{fate_line}
 use Rattle.bz_text.specs.Report.{ended_calls}
 
--- the moments at which the open calls began, and the calls that have ended, before this moment
+-- the moments at which the open calls began, and the calls that have ended since the last cut, before this moment
 pub record IsReadTo (past : List Mark) (moment : ℕ) (begins : List (Option ℕ)) (calls : List EndedCall) : Type 0 where
   pub places : length begins ≡ 256
   pub begun : (w : ℕ) → w < 256 → get_or begins w None ≡ option_map (λ opened. opened.begun) (open_call w (at_moment moment past))
@@ -19,3 +20,13 @@ pub record IsReadTo (past : List Mark) (moment : ℕ) (begins : List (Option ℕ
 abbrev pub ended_since : ℕ → Reply → ℕ → Option Mark → List EndedCall
 ended_since w reply at (Some (Begin v n call)) = record { worker = w; number = n; call = call; reply = reply; at = at } ∷ []
 ended_since w reply at other = []
+
+-- of each worker whether its open call has taken effect, before this moment
+pub record AreTold (past : List Mark) (moment : ℕ) (effects : List Bool) : Type 0 where
+  pub places : length effects ≡ 256
+  pub told : (w : ℕ) (opened : Open) → w < 256 → open_call w (at_moment moment past) ≡ Some opened → get_or effects w false ≡ is_some opened.effect
+
+-- the line of the open call whose Begin this mark is
+abbrev pub line_since : ℕ → Bool → Option Mark → List ℕ
+line_since w effective (Some (Begin v n call)) = fate_line w n call effective
+line_since w effective other = []

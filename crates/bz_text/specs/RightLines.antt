@@ -1,5 +1,5 @@
 -- Of a sound journal the report has a line for each End, and tells the right reply to its call.
-use Rattle.std.proofs.Common.{◌≡◌, ◌<◌, ℕ, suc, true, false, List, [], ◌∷◌, ◌++◌, length, refl, sym, ap, ◌∙◌, arith, length-append}
+use Rattle.std.proofs.Common.{◌≡◌, ◌<◌, ℕ, suc, ◌+◌, true, false, List, [], ◌∷◌, ◌++◌, length, refl, sym, ap, ◌∙◌, arith, length-append}
 use Rattle.std.specs.Prelude.{nat_le, if◌then◌else◌, Some}
 use Rattle.bz_call.specs.declared.replies.Reply.{Reply}
 use Rattle.bz_layout.specs.declared.config.Config.{Config}
@@ -7,12 +7,13 @@ use Rattle.bz_mark.specs.Log.{Log, count_ends}
 use Rattle.bz_mark.specs.MomentLaws.{at_moment-earlier, at_moment-before, mark_at-newest, mark_at-earlier}
 use Rattle.bz_mark.specs.Moments.{at_moment, mark_at}
 use Rattle.bz_mark.specs.declared.marks.Mark.{Mark}
-use Rattle.bz_mark.specs.declared.marks.Mark.TheVariants.{End}
+use Rattle.bz_mark.specs.declared.marks.Mark.TheVariants.{End, Cut}
 use Rattle.bz_sound.specs.Calls.{Open, open_call, MayEnd}
-use Rattle.bz_sound.specs.Memory.Calls.{CallsOnce}
 use Rattle.bz_sound.specs.Memory.Moments.{map_at_start}
-use Rattle.bz_sound.specs.Memory.Replies.{IsRightReply, HasRightReply, RepliesAreRight}
-use Rattle.bz_sound.specs.Memory.Sound.{IsSound}
+use Rattle.bz_sound.specs.Power.Calls.{CallsOnce}
+use Rattle.bz_sound.specs.Power.Replies.{IsRightReply, HasRightReply, RepliesAreRight}
+use Rattle.bz_sound.specs.Power.Sound.{IsSound}
+use Rattle.bz_sound.specs.declared.power.Power.{Power}
 use Rattle.bz_sound.specs.Replies.{Pages}
 use Rattle.bz_text.specs.Report.{ended_by, ended_calls, rank, put, in_order}
 use Rattle.bz_text.specs.declared.ended.EndedCall.{EndedCall}
@@ -31,10 +32,20 @@ abbrev pub HaveRightEnds : Config → List ℕ → Pages → List Mark → List 
 HaveRightEnds c start pages past [] = Unit {0}
 HaveRightEnds c start pages past (ended ∷ calls) = HasRightEnd c start pages past ended × HaveRightEnds c start pages past calls
 
+-- the ended calls whose lines stand in the parts that a cut has ended, in the order of the lines
+abbrev pub calls_before : List Mark → List EndedCall
+calls_before [] = []
+calls_before (Cut ∷ past) = calls_before past ++ in_order (ended_calls past)
+calls_before (mark ∷ past) = calls_before past
+
+-- those of the whole report
+abbrev pub reported_calls : List Mark → List EndedCall
+reported_calls past = calls_before past ++ in_order (ended_calls past)
+
 -- each line tells a right reply, and there is one for each End
 pub record IsRightReport (c : Config) (log : Log) : Type 0 where
-  pub right : HaveRightEnds c log.start log.pages log.past (in_order (ended_calls log.past))
-  pub all : length (in_order (ended_calls log.past)) ≡ count_ends log.past
+  pub right : HaveRightEnds c log.start log.pages log.past (reported_calls log.past)
+  pub all : length (reported_calls log.past) ≡ count_ends log.past
 
 module _ (c : Config) (start : List ℕ) (pages : Pages) where
   -- a mark more
@@ -80,11 +91,12 @@ module _ (c : Config) (start : List ℕ) (pages : Pages) where
       let told : IsRightReply c start pages past (record { worker = w; opened = may.opened; reply = reply; at = at }) = rw may.is_open at right in
       rw may.is_open (newest past w n at reply may.opened may.is_open may.number told, tt)
 
-  ended_right : (past : List Mark) → CallsOnce (map_at_start c start) past → RepliesAreRight c start pages past → HaveRightEnds c start pages past (ended_calls past)
-  ended_right [] once right = tt
-  ended_right (End w n reply at ∷ past) once right =
-      both (End w n reply at ∷ past) (ended_calls past) (ended_by w reply at (open_call w past)) (later_all (End w n reply at) past (ended_calls past) (ended_right past once.1 right.1)) (of_end past w n at reply once.0 right.0)
-  ended_right (mark ∷ past) once right = later_all mark past (ended_calls past) (ended_right past once.1 right.1)
+  ended_right : (at_start : Power) (past : List Mark) → CallsOnce at_start (map_at_start c start) past → RepliesAreRight c start pages past → HaveRightEnds c start pages past (ended_calls past)
+  ended_right at_start [] once right = tt
+  ended_right at_start (Cut ∷ past) once right = tt
+  ended_right at_start (End w n reply at ∷ past) once right =
+      both (End w n reply at ∷ past) (ended_calls past) (ended_by w reply at (open_call w past)) (later_all (End w n reply at) past (ended_calls past) (ended_right at_start past once.1 right.1)) (of_end past w n at reply once.0 right.0)
+  ended_right at_start (mark ∷ past) once right = later_all mark past (ended_calls past) (ended_right at_start past once.1 right.1)
 
   put_right : (past : List Mark) (one : EndedCall) (calls : List EndedCall) → HasRightEnd c start pages past one → HaveRightEnds c start pages past calls → HaveRightEnds c start pages past (put one calls)
   put_right past one [] h k = (h, tt)
@@ -96,6 +108,16 @@ module _ (c : Config) (start : List ℕ) (pages : Pages) where
   in_order_right : (past : List Mark) (calls : List EndedCall) → HaveRightEnds c start pages past calls → HaveRightEnds c start pages past (in_order calls)
   in_order_right past [] h = tt
   in_order_right past (one ∷ calls) h = put_right past one (in_order calls) h.0 (in_order_right past calls h.1)
+
+  part_right : (at_start : Power) (past : List Mark) → CallsOnce at_start (map_at_start c start) past → RepliesAreRight c start pages past → HaveRightEnds c start pages past (in_order (ended_calls past))
+  part_right at_start past once right = in_order_right past (ended_calls past) (ended_right at_start past once right)
+
+  before_right : (at_start : Power) (past : List Mark) → CallsOnce at_start (map_at_start c start) past → RepliesAreRight c start pages past → HaveRightEnds c start pages past (calls_before past)
+  before_right at_start [] once right = tt
+  before_right at_start (Cut ∷ past) once right =
+      both (Cut ∷ past) (calls_before past) (in_order (ended_calls past)) (later_all Cut past (calls_before past) (before_right at_start past once.1 right.1))
+      (later_all Cut past (in_order (ended_calls past)) (part_right at_start past once.1 right.1))
+  before_right at_start (mark ∷ past) once right = later_all mark past (calls_before past) (before_right at_start past once.1 right.1)
 
 -- no line is lost
 length-put : (one : EndedCall) (calls : List EndedCall) → length (put one calls) ≡ suc (length calls)
@@ -112,15 +134,18 @@ length-in_order (one ∷ calls) = length-put one (in_order calls) ∙ ap suc (le
 one_ends : (past : List Mark) (w n at : ℕ) (reply : Reply) → MayEnd past w n → length (ended_by w reply at (open_call w past)) ≡ 1
 one_ends past w n at reply may = rw may.is_open refl
 
-length-ended : (c : Config) (start : List ℕ) (past : List Mark) → CallsOnce (map_at_start c start) past → length (ended_calls past) ≡ count_ends past
-length-ended c start [] once = refl
-length-ended c start (End w n reply at ∷ past) once =
-    omega (arith, length-append (ended_calls past) (ended_by w reply at (open_call w past)), one_ends past w n at reply once.0, length-ended c start past once.1)
-length-ended c start (mark ∷ past) once = length-ended c start past once.1
+all_ended : (c : Config) (at_start : Power) (start : List ℕ) (past : List Mark) → CallsOnce at_start (map_at_start c start) past → length (calls_before past) + length (ended_calls past) ≡ count_ends past
+all_ended c at_start start [] once = refl
+all_ended c at_start start (Cut ∷ past) once =
+    omega (arith, length-append (calls_before past) (in_order (ended_calls past)), length-in_order (ended_calls past), all_ended c at_start start past once.1)
+all_ended c at_start start (End w n reply at ∷ past) once =
+    omega (arith, length-append (ended_calls past) (ended_by w reply at (open_call w past)), one_ends past w n at reply once.0, all_ended c at_start start past once.1)
+all_ended c at_start start (mark ∷ past) once = all_ended c at_start start past once.1
 
 -- the report of a sound journal is right
-pub reports_are_right : (c : Config) (log : Log) → IsSound c log → IsRightReport c log
-reports_are_right c log sound = record {
-  right = in_order_right c log.start log.pages log.past (ended_calls log.past) (ended_right c log.start log.pages log.past sound.once sound.replies);
-  all = length-in_order (ended_calls log.past) ∙ length-ended c log.start log.past sound.once;
+pub reports_are_right : (c : Config) (at_start : Power) (log : Log) → IsSound c at_start log → IsRightReport c log
+reports_are_right c at_start log sound = record {
+  right = both c log.start log.pages log.past (calls_before log.past) (in_order (ended_calls log.past)) (before_right c log.start log.pages at_start log.past sound.once sound.replies)
+      (part_right c log.start log.pages at_start log.past sound.once sound.replies);
+  all = omega (arith, length-append (calls_before log.past) (in_order (ended_calls log.past)), length-in_order (ended_calls log.past), all_ended c at_start log.start log.past sound.once);
 }

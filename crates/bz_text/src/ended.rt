@@ -1,13 +1,11 @@
-//! The calls that have ended.
-ghost use Rattle.std.specs.Prelude.{◌≡◌, ◌<◌, ◌≤◌, ◌+◌, ◌++◌, ◌∷◌, [], ℕ, length, Some, IfOk, OnOk};
+//! The calls that have ended since the last cut.
+ghost use Rattle.std.specs.Prelude.{◌≡◌, ◌<◌, ◌≤◌, ◌+◌, ◌++◌, length, OnOk};
 ghost use Rattle.bz_mark.specs.Moments.{mark_at};
-ghost use Rattle.bz_text.specs.Report.{ended_calls};
 ghost use Rattle.bz_text.specs.Reading.{IsReadTo, ended_since};
 
 use bz_call::{Call, Reply};
 use bz_mark::{Journal, Mark};
 use bz_memory::Memory;
-use std::alloc::Global;
 
 /// A call that has ended, with what its line shows.
 #[derive(Clone, Copy)]
@@ -19,20 +17,8 @@ pub struct EndedCall {
     pub at: u32,
 }
 
-/// The ended calls of a journal, in the order of their Ends.
-pub fn find_ended(alloc: Global, journal: &Journal) -> Result<Vec<EndedCall>, Memory>
-    ensures { IfOk result (λ ended. ended.items ≡ ended_calls journal.now.past) }
-{
-    let mut begins: [Option<u32>; 256] = [None; 256];
-    let mut ended: Vec<EndedCall> = Vec::new(alloc);
-    for moment in 0..journal.length() {
-        read_mark(journal, moment, &mut begins, &mut ended)?;
-    }
-    Ok(ended)
-}
-
-/// Looks at one mark: keeps where each open call began, and adds the call that an End ends.
-fn read_mark(
+/// Looks at one mark: keeps where each open call began, and the calls that have ended since the last cut.
+pub(crate) fn read_mark(
     journal: &Journal,
     moment: u32,
     begins: &mut [Option<u32>; 256],
@@ -55,6 +41,7 @@ fn read_mark(
         }
         Mark::Cut => {
             begins.fill(None);
+            ended.clear();
         }
         _ => {}
     }

@@ -5,6 +5,7 @@ mod counts;
 mod ended;
 mod keys;
 mod lines;
+mod open;
 mod order;
 mod report;
 mod summary;

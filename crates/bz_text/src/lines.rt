@@ -4,7 +4,7 @@ ghost use Rattle.std.specs.List.{flat_map};
 ghost use Rattle.std.proofs.Common.{get_or};
 ghost use Rattle.std.specs.Fmt.{decimal};
 ghost use Rattle.bz_key.specs.Spelling.{spelled};
-ghost use Rattle.bz_text.specs.Lines.{call_text, next_text, spent_text, reply_text, pair_text, name_of, line_of};
+ghost use Rattle.bz_text.specs.Lines.{call_text, next_text, spent_text, reply_text, pair_text, name_of, line_start, line_of, fate_text, fate_line, power_line};
 
 use crate::ended::EndedCall;
 use bz_call::{Call, Reply, Spent};
@@ -170,8 +170,24 @@ fn put_name(alloc: Global, out: &mut Vec<u8>, worker: u8, number: u32) -> Result
     put_number(alloc, out, u64::from(number))
 }
 
+/// Puts what stands before the result in the line of a call.
+fn put_start(
+    alloc: Global,
+    out: &mut Vec<u8>,
+    worker: u8,
+    number: u32,
+    call: Call,
+) -> Result<(), Memory>
+    ensures { OnOk result (out.new.items ≡ out.old.items ++ line_start worker number call) }
+{
+    put_name(alloc, out, worker, number)?;
+    put(out, b" ")?;
+    put_call(out, call)?;
+    put(out, b" = ")
+}
+
 /// Puts the line of a call that has ended.
-pub fn put_line(
+pub(crate) fn put_line(
     alloc: Global,
     out: &mut Vec<u8>,
     journal: &Journal,
@@ -179,10 +195,47 @@ pub fn put_line(
 ) -> Result<(), Memory>
     ensures { OnOk result (out.new.items ≡ out.old.items ++ line_of journal.now.pages ended) }
 {
-    put_name(alloc, out, ended.worker, ended.number)?;
-    put(out, b" ")?;
-    put_call(out, ended.call)?;
-    put(out, b" = ")?;
+    put_start(alloc, out, ended.worker, ended.number, ended.call)?;
     put_reply(out, journal, ended.reply)?;
     put(out, b"\n")
+}
+
+fn put_fate(out: &mut Vec<u8>, effective: bool) -> Result<(), Memory>
+    ensures { OnOk result (out.new.items ≡ out.old.items ++ fate_text effective) }
+{
+    if effective {
+        put(out, b"kept")
+    } else {
+        put(out, b"lost")
+    }
+}
+
+/// Puts the line of a call that was open when the power was cut: it is kept where it had taken effect, and lost otherwise.
+pub(crate) fn put_fate_line(
+    alloc: Global,
+    out: &mut Vec<u8>,
+    worker: u8,
+    number: u32,
+    call: Call,
+    effective: bool,
+) -> Result<(), Memory>
+    ensures { OnOk result (out.new.items ≡ out.old.items ++ fate_line worker number call effective) }
+{
+    put_start(alloc, out, worker, number, call)?;
+    put_fate(out, effective)?;
+    put(out, b"\n")
+}
+
+/// Puts the line of the power, if it came on.
+pub(crate) fn put_power(alloc: Global, out: &mut Vec<u8>, pairs: Option<u64>) -> Result<(), Memory>
+    ensures { OnOk result (out.new.items ≡ out.old.items ++ power_line pairs) }
+{
+    match pairs {
+        Some(pairs) => {
+            put(out, b"power on ")?;
+            put_number(alloc, out, pairs)?;
+            put(out, b" pairs\n")
+        }
+        None => put(out, b""),
+    }
 }

@@ -6,6 +6,8 @@ ghost use Rattle.bz_judge.specs.Held.{IsImage, IsImageOf};
 ghost use Rattle.bz_layout.specs.declared.config.Config.{Config};
 ghost use Rattle.bz_mark.specs.Moments.{at_moment, mark_at};
 ghost use Rattle.bz_sound.specs.Calls.{map_after};
+ghost use Rattle.bz_text.specs.Reading.{IsReadTo};
+ghost use Rattle.bz_text.specs.Report.{ended_calls};
 ghost use Rattle.bz_text.specs.Summary.{counts_of, pairs_left};
 ghost use Rattle.bz_text.specs.Summing.{AreKeysOf, IsCountedTo};
 
@@ -34,32 +36,23 @@ pub(crate) fn sum_up(alloc: Global, journal: &Journal) -> Result<Sums, Memory>
     let mut counts = count_none();
     let mut keys = keys_at_start(alloc, journal.start())?;
     for moment in 0..journal.length() {
-        sum_mark(journal, moment, &mut begins, &mut counts, &mut keys)?;
+        follow_effect(journal, moment, &begins, &mut keys)?;
+        sum_mark(journal, moment, &mut begins, &mut counts);
     }
     let pairs = keys.len() as u64;
     Ok(Sums { counts, pairs })
 }
 
-/// Looks at one mark: keeps where each open call began, counts an End by its reply, and makes the step of a call that
-/// takes effect.
-fn sum_mark(
-    journal: &Journal,
-    moment: u32,
-    begins: &mut [Option<u32>; 256],
-    counts: &mut Counts,
-    keys: &mut BTreeSet<Key>,
-) -> Result<(), Memory>
+/// Looks at one mark: keeps where each open call began, and counts an End by its reply.
+fn sum_mark(journal: &Journal, moment: u32, begins: &mut [Option<u32>; 256], counts: &mut Counts)
     requires within { moment < length journal.now.past }
     requires few { length journal.now.past < 2 ^ 32 }
     requires before { IsCountedTo journal.now.past moment begins.old counts.old }
-    ensures counted { OnOk result (IsCountedTo journal.now.past (moment + 1) begins.new counts.new) }
-    ensures keys { OnOk result ((start : Map) → AreKeysOf (map_after start (at_moment moment journal.now.past)) keys.old.keys
-        → AreKeysOf (map_after start (at_moment (moment + 1) journal.now.past)) keys.new.keys) }
+    ensures { IsCountedTo journal.now.past (moment + 1) begins.new counts.new }
 {
     match journal.mark(moment) {
         Mark::Begin { w, n: _, call: _ } => {
             begins[w as usize] = Some(moment);
-            Ok(())
         }
         Mark::End {
             w,
@@ -69,8 +62,27 @@ fn sum_mark(
         } => {
             begins[w as usize] = None;
             count(counts, reply);
-            Ok(())
         }
+        Mark::Cut => {
+            begins.fill(None);
+        }
+        _ => {}
+    }
+}
+
+/// Looks at one mark: where it is an effect, makes the step of its call in the map.
+pub(crate) fn follow_effect(
+    journal: &Journal,
+    moment: u32,
+    begins: &[Option<u32>; 256],
+    keys: &mut BTreeSet<Key>,
+) -> Result<(), Memory>
+    requires within { moment < length journal.now.past }
+    requires table { IsReadTo journal.now.past moment begins.now (ended_calls (at_moment moment journal.now.past)) }
+    ensures { OnOk result ((start : Map) → AreKeysOf (map_after start (at_moment moment journal.now.past)) keys.old.keys
+        → AreKeysOf (map_after start (at_moment (moment + 1) journal.now.past)) keys.new.keys) }
+{
+    match journal.mark(moment) {
         Mark::Effect { w, n: _ } => match begins[w as usize] {
             Some(begun) => {
                 take_effect(journal, begun, keys)?;
@@ -78,10 +90,6 @@ fn sum_mark(
             }
             None => Ok(()),
         },
-        Mark::Cut => {
-            begins.fill(None);
-            Ok(())
-        }
         _ => Ok(()),
     }
 }

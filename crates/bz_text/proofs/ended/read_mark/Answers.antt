@@ -26,8 +26,8 @@ returns-in_default-begun c =
 
 pub returns-in-Cut : goal.returns-in-Cut
 returns-in-Cut c =
-    read_cut c.args.journal.now.past c.args.moment c.args.begins.now _ c.args.ended.now.items c.requires.within (rw c.in-Cut.is at c.mark.ensures) c.requires.before
-    (c.fill.ensures.after (λ y h. search rules) ∙ ap (λ n. replicate n None) c.told-begins)
+    read_cut c.args.journal.now.past c.args.moment c.args.begins.now _ c.args.ended.now.items c.clear.new.self.items c.requires.within (rw c.in-Cut.is at c.mark.ensures) c.requires.before
+    (c.fill.ensures.after (λ y h. search rules) ∙ ap (λ n. replicate n None) c.told-begins) c.clear.ensures.items
 
 pub returns-in_default : goal.returns-in_default
 returns-in_default c =
