@@ -1,10 +1,10 @@
 -- One worker after the other.
 use Rattle.std.proofs.Common.{◌≡◌, ◌≤◌, ◌<◌, ℕ, suc, ◌+◌, ◌-◌, refl, sym, subst, arith, inl, inr}
 use Rattle.bz_world.specs.Lab.{Lab}
-use Rattle.bz_world.specs.declared.answers.Which.{Which}
+use Rattle.bz_sched.specs.declared.turn.Stop.{Stop}
 use Rattle.bz_sched.specs.Points.{Point}
 use Rattle.bz_sched.specs.Queued.{Queued}
-use Rattle.bz_sched.specs.Runs.{point_of, IsReady, IsAtLimit, Keeps}
+use Rattle.bz_sched.specs.Runs.{point_of, IsReady, IsStopped, Keeps}
 use Rattle.bz_sched.specs.Turns.{EndsOne, EndsFrom, EndsAlone}
 use Rattle.bz_sched.specs.TurnsInPart.{EndsOneInPart, EndsFromInPart, EndsAloneInPart}
 use Rattle.bz_sched.proofs.ReadyLemmas.{keeps_none, keeps_both}
@@ -13,7 +13,7 @@ use Rattle.bz_sched.proofs.ReadyLemmas.{keeps_none, keeps_both}
 pub record Ending (w : ℕ) (old : Lab) (queued : Queued) (world : Lab) (left : Queued) : Type 0 where
   pub keeps : Keeps old queued world left
   pub whole : (new : Point) → EndsFrom w (65 - w) (point_of world left) new → EndsAlone (point_of old queued) new
-  pub part : (why : Which) (new : Point) → EndsFromInPart why w (65 - w) (point_of world left) new → EndsAloneInPart why (point_of old queued) new
+  pub part : (why : Stop) (new : Point) → EndsFromInPart why w (65 - w) (point_of world left) new → EndsAloneInPart why (point_of old queued) new
 
 pub ending_none : (old : Lab) (queued : Queued) → IsReady old queued → Ending 1 old queued old queued
 ending_none old queued ready = record { keeps = keeps_none old queued ready; whole = λ new ends. ends; part = λ why new ends. ends }
@@ -28,9 +28,9 @@ ending_more w old queued world left new after few e (keeps, one) =
       part = λ why end ends. e.part why end (subst (λ (count : ℕ). EndsFromInPart why w count (point_of world left) end) (sym more) (inr (point_of new after, one, ends)));
     }
 
-pub ending_stops : (w : ℕ) (old : Lab) (queued : Queued) (world : Lab) (left : Queued) (why : Which) (new : Lab) (after : Queued) → w < 65 → Ending w old queued world left
-    → Keeps world left new after × EndsOneInPart why w (point_of world left) (point_of new after) × IsAtLimit new why
-    → Keeps old queued new after × EndsAloneInPart why (point_of old queued) (point_of new after) × IsAtLimit new why
+pub ending_stops : (w : ℕ) (old : Lab) (queued : Queued) (world : Lab) (left : Queued) (why : Stop) (new : Lab) (after : Queued) → w < 65 → Ending w old queued world left
+    → Keeps world left new after × EndsOneInPart why w (point_of world left) (point_of new after) × IsStopped new after why
+    → Keeps old queued new after × EndsAloneInPart why (point_of old queued) (point_of new after) × IsStopped new after why
 ending_stops w old queued world left why new after few e (keeps, one, met) =
     let more : 65 - w ≡ suc (65 - (w + 1)) = omega arith in (
       keeps_both old world new queued left after e.keeps keeps,

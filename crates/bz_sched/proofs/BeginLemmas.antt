@@ -7,9 +7,7 @@ use Rattle.bz_call.specs.declared.calls.Call.{Call}
 use Rattle.bz_mark.specs.Log.{count_begins, count_page_calls}
 use Rattle.bz_mark.specs.declared.marks.Mark.{Mark}
 use Rattle.bz_mark.specs.declared.marks.Mark.TheVariants as mark
-use Rattle.bz_sound.specs.declared.power.Power.TheVariants as power
 use Rattle.bz_sound.specs.Calls.{Open, open_call, begun_calls}
-use Rattle.bz_sound.specs.Power.Times.{power_of}
 use Rattle.bz_world.specs.Lab.{Lab, IsWorker, is_short, lacks_page, begin_answer, after_begin}
 use Rattle.bz_world.specs.declared.answers.Begun.{Begun as BeginAnswer}
 use Rattle.bz_world.specs.declared.answers.Begun.TheVariants.{Begun, NoWorker, Busy, Off, Recovering, Limit}
@@ -19,7 +17,8 @@ use Rattle.bz_sched.specs.Points.{ready, GetsReady}
 use Rattle.bz_sched.specs.Queued.{Queued, calls_of, without_first, has_open, SetsOpen}
 use Rattle.bz_sched.specs.Runs.{point_of, IsReady, IsAtLimit, Keeps}
 use Rattle.bz_sched.specs.TurnsInPart.{StopsBy}
-use Rattle.bz_sched.proofs.PowerLemmas.{power_is_on}
+use Rattle.bz_sched.specs.declared.turn.Stop.TheVariants as stop
+use Rattle.bz_sched.proofs.BurnLemmas.{burns_same}
 use Rattle.bz_sched.proofs.ReadyLemmas.{keeps_none, first_can_begin, others_can_begin, opens, marks_known, openers_known}
 
 -- the answer by its tests
@@ -83,8 +82,7 @@ answer_is : (lab : Lab) (queued : Queued) (w : ℕ) (call : Call) → IsReady la
 answer_is lab queued w call ready worker closed =
     let in_range : ((w == 0) || nat_lt lab.config.workers w) ≡ false = grind (arith, nat_tests, worker.some, worker.in_range) in
     let free : is_some (open_call w lab.log.past) ≡ false = sym (ready.begun w) ∙ closed in
-    let on : power_of power.On lab.log.past ≡ power.On = power_is_on lab.log.past ready.unbroken in
-    rw (in_range, on, free) refl
+    rw (in_range, ready.powered, free) refl
 
 -- a worker's call that waits, none of its calls open
 pub record Waits (lab : Lab) (queued : Queued) (w : ℕ) (call : Call) : Type 0 where
@@ -117,7 +115,7 @@ none_is (Some opened) is = absurd cc
 
 stops_by : (lab : Lab) (queued : Queued) (w : ℕ) (call : Call) (why : Which) → Waits lab queued w call
     → Gave (is_short lab.log) (nat_le lab.log.limits.calls (count_begins lab.log.past)) (lacks_page lab.log call) why
-    → StopsBy why w (point_of lab queued) (point_of lab queued) × IsAtLimit lab why
+    → StopsBy (stop.Limit why) w (point_of lab queued) (point_of lab queued) × IsAtLimit lab why
 stops_by lab queued w call which.Marks h gave = (inl refl, grind (arith, nat_tests, gave))
 stops_by lab queued w call which.Calls h gave = ((none_is (open_call w lab.log.past) (sym (h.ready.begun w) ∙ h.closed), refl), grind (arith, nat_tests, gave))
 stops_by lab queued w call which.Pages h gave =
@@ -127,7 +125,7 @@ stops_by lab queued w call which.Pages h gave =
 
 -- a begin that meets a limit changes nothing
 pub begin_stops : (lab : Lab) (queued : Queued) (w : ℕ) (call : Call) (why : Which) (new : Lab) → Waits lab queued w call → Limit why ≡ begin_answer lab w call → new ≡ lab
-    → Keeps lab queued new queued × StopsBy why w (point_of lab queued) (point_of new queued) × IsAtLimit new why
+    → Keeps lab queued new queued × StopsBy (stop.Limit why) w (point_of lab queued) (point_of new queued) × IsAtLimit new why
 begin_stops lab queued w call why new h is same =
     let stops = stops_by lab queued w call why h (which_gave _ _ _ (begun_calls w lab.log.past + 1) why (is ∙ answered lab queued w call h)) in
     rw same (keeps_none lab queued h.ready, stops.0, stops.1)
@@ -142,6 +140,7 @@ pub record Begins (lab : Lab) (queued : Queued) (w : ℕ) (call : Call) (n : ℕ
   pub calls : left.calls ≡ without_first w queued.calls
   pub room : left.room ≡ queued.room
   pub begun : SetsOpen queued w true left
+  pub fuse : left.fuse ≡ queued.fuse
 
 begun_ready : (lab : Lab) (queued : Queued) (w n : ℕ) (call : Call) (left : Queued) → Waits lab queued w call → left.calls ≡ without_first w queued.calls → SetsOpen queued w true left → IsReady (after_begin lab w call (Begun n)) left
 begun_ready lab queued w n call left h calls begun = record {
@@ -149,7 +148,7 @@ begun_ready lab queued w n call left h calls begun = record {
   calls = rw calls (others_can_begin lab.config queued.calls w h.ready.calls);
   begun = marks_known queued left (λ v. open_call v lab.log.past) (λ v. open_call v (mark.Begin w n call ∷ lab.log.past)) w true h.ready.begun begun (λ v. begun_opens lab.log.past w v n call);
   openers = openers_known lab.config queued left w true (waits_worker lab queued w call h) h.ready.openers begun;
-  unbroken = (tt, h.ready.unbroken);
+  powered = h.ready.powered;
 }
 
 begun_point : (lab : Lab) (queued : Queued) (w n : ℕ) (call : Call) (left : Queued) → Waits lab queued w call → Begun n ≡ begin_answer lab w call → left.calls ≡ without_first w queued.calls
@@ -163,7 +162,7 @@ begun_point lab queued w n call left h answer calls =
 pub begins : (lab : Lab) (queued : Queued) (w : ℕ) (call : Call) (n : ℕ) (new : Lab) (left : Queued) → Waits lab queued w call → Begins lab queued w call n new left
     → Keeps lab queued new left × GetsReady w (point_of lab queued) (point_of new left)
 begins lab queued w call n new left h b = rw b.after (
-  record { ready = begun_ready lab queued w n call left h b.calls b.begun; config = refl; start = refl; limits = refl; room = b.room },
+  record { ready = begun_ready lab queued w n call left h b.calls b.begun; config = refl; start = refl; limits = refl; room = b.room; fuse = burns_same lab.log.past (mark.Begin w n call ∷ lab.log.past) queued.fuse left.fuse b.fuse refl },
   begun_point lab queued w n call left h b.answer b.calls,
 )
 

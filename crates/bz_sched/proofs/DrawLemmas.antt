@@ -4,12 +4,12 @@ use Rattle.std.proofs.lemmas.Bool.Decides.{nat_tests}
 use Rattle.bz_layout.specs.Addresses.{words_of}
 use Rattle.bz_script.specs.Draws.{next_state, draw_of}
 use Rattle.bz_world.specs.Lab.{Lab}
-use Rattle.bz_world.specs.declared.answers.Which.{Which}
+use Rattle.bz_sched.specs.declared.turn.Stop.{Stop}
 use Rattle.bz_sched.specs.Points.{Point, is_busy, IsTurn}
 use Rattle.bz_sched.specs.Queued.{Queued, has_work}
-use Rattle.bz_sched.specs.Runs.{point_of, IsReady, IsAtLimit, Keeps, EndsBy}
-use Rattle.bz_sched.specs.declared.running.RunEnd.{RunEnd}
-use Rattle.bz_sched.specs.declared.running.RunEnd.TheVariants.{Finished, Limit}
+use Rattle.bz_sched.specs.Runs.{point_of, IsReady, IsStopped, Keeps, EndsBy}
+use Rattle.bz_sched.specs.declared.turn.Turned.{Turned}
+use Rattle.bz_sched.specs.declared.turn.Turned.TheVariants.{Finished, Stopped}
 use Rattle.bz_sched.specs.Turns.{passing_from, busy_workers, drawn_worker, IsEviction, evicts, IsRoundBy, IsRound, after_round, RunsRounds, RunsTurns}
 use Rattle.bz_sched.specs.TurnsInPart.{StopsEvent, StopsTurn, StopsRoundBy, StopsRound, RunsRoundsInPart, RunsTurnsInPart}
 use Rattle.bz_sched.proofs.ReadyLemmas.{keeps_none, keeps_both, work_is}
@@ -23,7 +23,7 @@ workers_are world queued ready = same_list (has_work queued) (λ w. is_busy w (p
 pub record Drawing (words seed state : ℕ) (old : Lab) (queued : Queued) (world : Lab) (left : Queued) : Type 0 where
   pub keeps : Keeps old queued world left
   pub whole : (rounds : ℕ) (new : Point) → RunsRounds words rounds state (point_of world left) new → RunsTurns words seed (point_of old queued) new
-  pub part : (why : Which) (rounds : ℕ) (new : Point) → RunsRoundsInPart why words rounds state (point_of world left) new → RunsTurnsInPart why words seed (point_of old queued) new
+  pub part : (why : Stop) (rounds : ℕ) (new : Point) → RunsRoundsInPart why words rounds state (point_of world left) new → RunsTurnsInPart why words seed (point_of old queued) new
 
 pub drawing_none : (seed : ℕ) (old : Lab) (queued : Queued) → IsReady old queued → Drawing (words_of old.config) seed seed old queued old queued
 drawing_none seed old queued ready = record {
@@ -61,9 +61,9 @@ pub drawing_done : (words seed state : ℕ) (old : Lab) (queued : Queued) (world
     → Keeps old queued world left × RunsTurns words seed (point_of old queued) (point_of world left)
 drawing_done words seed state old queued world left d none = (d.keeps, d.whole 0 (point_of world left) (none, refl))
 
-pub drawing_stops : (words seed state : ℕ) (old : Lab) (queued : Queued) (world : Lab) (left : Queued) (why : Which) (new : Lab) (after : Queued) → Drawing words seed state old queued world left
-    → busy_workers (point_of world left) ≢ [] → Keeps world left new after × StopsRound why (next_state state) (point_of world left) (point_of new after) × IsAtLimit new why
-    → Keeps old queued new after × RunsTurnsInPart why words seed (point_of old queued) (point_of new after) × IsAtLimit new why
+pub drawing_stops : (words seed state : ℕ) (old : Lab) (queued : Queued) (world : Lab) (left : Queued) (why : Stop) (new : Lab) (after : Queued) → Drawing words seed state old queued world left
+    → busy_workers (point_of world left) ≢ [] → Keeps world left new after × StopsRound why (next_state state) (point_of world left) (point_of new after) × IsStopped new after why
+    → Keeps old queued new after × RunsTurnsInPart why words seed (point_of old queued) (point_of new after) × IsStopped new after why
 drawing_stops words seed state old queued world left why new after d some (keeps, stops, met) =
     (keeps_both old world new queued left after d.keeps keeps, d.part why 0 (point_of new after) (some, stops), met)
 
@@ -72,7 +72,7 @@ drawn_is : (world : Lab) (queued : Queued) (busy shown : List ℕ) (draw count :
     → slice_index shown ((draw / 8) % count) ≡ drawn_worker draw (point_of world queued)
 drawn_is world queued busy shown draw count ready listed same is = rw (same, is) (ap (λ (list : List ℕ). slice_index list ((draw / 8) % length list)) (listed ∙ workers_are world queued ready))
 
-pub drawn_turn : (world : Lab) (queued : Queued) (busy shown : List ℕ) (draw count : ℕ) (end : RunEnd) (new : Lab) (left : Queued) → IsReady world queued → busy ≡ passing_from (has_work queued) 1 64 → shown ≡ busy → count ≡ length busy
+pub drawn_turn : (world : Lab) (queued : Queued) (busy shown : List ℕ) (draw count : ℕ) (end : Turned) (new : Lab) (left : Queued) → IsReady world queued → busy ≡ passing_from (has_work queued) 1 64 → shown ≡ busy → count ≡ length busy
     → EndsBy (IsTurn (slice_index shown ((draw / 8) % count))) (λ why. StopsTurn why (slice_index shown ((draw / 8) % count))) world queued end new left
     → EndsBy (IsTurn (drawn_worker draw (point_of world queued))) (λ why. StopsTurn why (drawn_worker draw (point_of world queued))) world queued end new left
 drawn_turn world queued busy shown draw count end new left ready listed same is ends =
@@ -86,20 +86,20 @@ word_is draw other size words same whole = ap (λ (n : ℕ). n % size) same ∙ 
 round_of : (words state : ℕ) (b : Bool) (old new : Point) → evicts state ≡ b → IsRoundBy b words state old new → IsRound words state old new
 round_of words state b old new is round = subst (λ (way : Bool). IsRoundBy way words state old new) (sym is) round
 
-stop_of : (why : Which) (state : ℕ) (b : Bool) (old new : Point) → evicts state ≡ b → StopsRoundBy b why state old new → StopsRound why state old new
+stop_of : (why : Stop) (state : ℕ) (b : Bool) (old new : Point) → evicts state ≡ b → StopsRoundBy b why state old new → StopsRound why state old new
 stop_of why state b old new is stops = subst (λ (way : Bool). StopsRoundBy way why state old new) (sym is) stops
 
-pub eviction_round : (state words a : ℕ) (old : Lab) (queued : Queued) (end : RunEnd) (new : Lab) (left : Queued) → evicts state ≡ true → a ≡ draw_of (next_state state) % words
+pub eviction_round : (state words a : ℕ) (old : Lab) (queued : Queued) (end : Turned) (new : Lab) (left : Queued) → evicts state ≡ true → a ≡ draw_of (next_state state) % words
     → EndsBy (IsEviction a) StopsEvent old queued end new left → EndsBy (IsRound words state) (λ why. StopsRound why state) old queued end new left
 eviction_round state words a old queued Finished new left is drawn (keeps, evicted) =
     (keeps, round_of words state true (point_of old queued) (point_of new left) is (subst (λ (word : ℕ). IsEviction word (point_of old queued) (point_of new left)) drawn evicted))
-eviction_round state words a old queued (Limit why) new left is drawn (keeps, stops, met) = (keeps, stop_of why state true (point_of old queued) (point_of new left) is stops, met)
+eviction_round state words a old queued (Stopped why) new left is drawn (keeps, stops, met) = (keeps, stop_of why state true (point_of old queued) (point_of new left) is stops, met)
 
-pub turn_round : (state words w : ℕ) (old : Lab) (queued : Queued) (end : RunEnd) (new : Lab) (left : Queued) → evicts state ≡ false → w ≡ drawn_worker (draw_of state) (point_of old queued)
+pub turn_round : (state words w : ℕ) (old : Lab) (queued : Queued) (end : Turned) (new : Lab) (left : Queued) → evicts state ≡ false → w ≡ drawn_worker (draw_of state) (point_of old queued)
     → EndsBy (IsTurn w) (λ why. StopsTurn why w) old queued end new left → EndsBy (IsRound words state) (λ why. StopsRound why state) old queued end new left
 turn_round state words w old queued Finished new left is drawn (keeps, turn) =
     (keeps, round_of words state false (point_of old queued) (point_of new left) is (subst (λ (v : ℕ). IsTurn v (point_of old queued) (point_of new left)) drawn turn))
-turn_round state words w old queued (Limit why) new left is drawn (keeps, stops, met) =
+turn_round state words w old queued (Stopped why) new left is drawn (keeps, stops, met) =
     (keeps, stop_of why state false (point_of old queued) (point_of new left) is (subst (λ (v : ℕ). StopsTurn why v (point_of old queued) (point_of new left)) drawn stops), met)
 
 pub after_turn : (state : ℕ) → evicts state ≡ false → state ≡ after_round state

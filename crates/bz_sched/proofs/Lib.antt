@@ -1,4 +1,5 @@
-mod PowerLemmas
+pub mod PowerLemmas
+pub mod BurnLemmas
 pub mod LookLemmas
 pub mod FirstLemmas
 pub mod QueueLemmas
@@ -6,7 +7,12 @@ pub mod ReadyLemmas
 pub mod BeginLemmas
 pub mod StepLemmas
 pub mod EvictionLemmas
+pub mod PassLemmas
+pub mod CutLemmas
 pub mod TurnLemmas
+pub mod RunLemmas
+pub mod RecoveryLemmas
+pub mod WakeLemmas
 pub mod WordLemmas
 pub mod AloneLemmas
 pub mod BusyLemmas

@@ -27,3 +27,11 @@ list_stays queued left w works still others = same_list (has_work queued) (has_w
     by_owner : (v : ℕ) (b : Bool) → (v == w) ≡ b → has_work queued v ≡ has_work left v
     by_owner v true is = rw (same_owner v w is) (works ∙ sym still)
     by_owner v false is = sym (others v (λ same. grind (arith, nat_tests)))
+
+-- an act was counted
+pub others_burnt : (queued left : Queued) → left.calls ≡ queued.calls → left.begun ≡ queued.begun → (v : ℕ) → has_work left v ≡ has_work queued v
+others_burnt queued left calls begun v = rw (calls, begun) refl
+
+-- and then the call of a worker has ended
+pub others_then : (queued between left : Queued) (w : ℕ) → between.calls ≡ queued.calls → between.begun ≡ queued.begun → ((v : ℕ) → v ≢ w → has_work left v ≡ has_work between v) → (v : ℕ) → v ≢ w → has_work left v ≡ has_work queued v
+others_then queued between left w calls begun others v other = others v other ∙ others_burnt queued between calls begun v

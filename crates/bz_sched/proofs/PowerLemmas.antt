@@ -1,27 +1,35 @@
--- The power of a world in which a run may begin is on, and no mark of a run is one of the power.
-use Rattle.std.proofs.Common.{◌≡◌, ◌⊎◌, inl, inr, ℕ, List, [], ◌∷◌, refl, sym, subst}
+-- What the marks of a run leave: the power, and how many flushes were made.
+use Rattle.std.proofs.Common.{◌≡◌, inl, inr, ℕ, ◌+◌, Bool, List, ◌∷◌, refl, ap}
+use Rattle.std.specs.Prelude.{if◌then◌else◌}
+use Rattle.bz_acts.specs.Rule.{is_flush_act}
 use Rattle.bz_acts.specs.declared.acted.Act.{Act}
 use Rattle.bz_acts.specs.declared.acted.Act.TheVariants as act
 use Rattle.bz_mark.specs.declared.marks.Mark.{Mark}
-use Rattle.bz_mark.specs.declared.marks.Mark.TheVariants.{Cut, On, Ready, Effect}
-use Rattle.bz_sound.specs.declared.power.Power.TheVariants as power
-use Rattle.bz_sound.specs.Power.Laws.{LeavesPower, IsUnbroken}
+use Rattle.bz_sound.specs.declared.power.Power.{Power}
 use Rattle.bz_sound.specs.Power.Times.{power_of}
 use Rattle.bz_world.specs.Lab.{IsStruck, mark_of}
+use Rattle.bz_sched.specs.Points.{flushes_of}
 
-pub power_is_on : (past : List Mark) → IsUnbroken past → power_of power.On past ≡ power.On
-power_is_on [] h = refl
-power_is_on (Cut ∷ past) h = absurd h.0
-power_is_on (On ∷ past) h = absurd h.0
-power_is_on (Ready ∷ past) h = absurd h.0
-power_is_on (mark ∷ past) h = power_is_on past h.1
+pub act_power : (at_start : Power) (made : Act) (w : ℕ) (past : List Mark) → power_of at_start (mark_of w made ∷ past) ≡ power_of at_start past
+act_power at_start (act.Load a v) w past = refl
+act_power at_start (act.Store a v) w past = refl
+act_power at_start (act.Cas a old new found) w past = refl
+act_power at_start (act.Flush line) w past = refl
 
-pub act_leaves : (made : Act) (w : ℕ) (past : List Mark) → LeavesPower past (mark_of w made)
-act_leaves (act.Load a v) w past = tt
-act_leaves (act.Store a v) w past = tt
-act_leaves (act.Cas a old new found) w past = tt
-act_leaves (act.Flush line) w past = tt
+pub struck_power : (at_start : Power) (first : Mark) (past struck : List Mark) → IsStruck (first ∷ past) struck → power_of at_start struck ≡ power_of at_start (first ∷ past)
+struck_power at_start first past struck (inl same) = ap (power_of at_start) same
+struck_power at_start first past struck (inr (w, (n, is))) = ap (power_of at_start) is
 
-pub struck_unbroken : (first : Mark) (past struck : List Mark) → IsStruck (first ∷ past) struck → LeavesPower past first → IsUnbroken past → IsUnbroken struck
-struck_unbroken first past struck (inl same) leaves h = subst IsUnbroken (sym same) (leaves, h)
-struck_unbroken first past struck (inr (w, (n, is))) leaves h = subst IsUnbroken (sym is) (tt, (leaves, h))
+-- one flush more, if the act was one
+abbrev pub one_flush : Bool → ℕ → ℕ
+one_flush flush count = if flush then count + 1 else count
+
+pub act_flushes : (made : Act) (w : ℕ) (past : List Mark) → flushes_of (mark_of w made ∷ past) ≡ one_flush (is_flush_act made) (flushes_of past)
+act_flushes (act.Load a v) w past = refl
+act_flushes (act.Store a v) w past = refl
+act_flushes (act.Cas a old new found) w past = refl
+act_flushes (act.Flush line) w past = refl
+
+pub struck_flushes : (first : Mark) (past struck : List Mark) → IsStruck (first ∷ past) struck → flushes_of struck ≡ flushes_of (first ∷ past)
+struck_flushes first past struck (inl same) = ap flushes_of same
+struck_flushes first past struck (inr (w, (n, is))) = ap flushes_of is

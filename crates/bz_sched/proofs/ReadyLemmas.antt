@@ -10,9 +10,10 @@ use Rattle.bz_sched.specs.Points.{ready, ready_by, is_busy}
 use Rattle.bz_sched.specs.QueueLaws.{same_owner}
 use Rattle.bz_sched.specs.Queued.{Queued, calls_of, without_first, is_busy_by, has_open, has_work, SetsOpen}
 use Rattle.bz_sched.specs.Runs.{point_of, CanBegin, IsReady, marks_left, Keeps}
+use Rattle.bz_sched.proofs.BurnLemmas.{burns_none, burns_both}
 
 pub keeps_none : (world : Lab) (queued : Queued) → IsReady world queued → Keeps world queued world queued
-keeps_none world queued ready = record { ready = ready; config = refl; start = refl; limits = refl; room = refl }
+keeps_none world queued ready = record { ready = ready; config = refl; start = refl; limits = refl; room = refl; fuse = burns_none world.log.past world.log.past queued.fuse refl }
 
 pub keeps_both : (a b c : Lab) (p q r : Queued) → Keeps a p b q → Keeps b q c r → Keeps a p c r
 keeps_both a b c p q r h k = record {
@@ -21,6 +22,7 @@ keeps_both a b c p q r h k = record {
   start = k.start ∙ h.start;
   limits = k.limits ∙ h.limits;
   room = k.room ∙ h.room;
+  fuse = burns_both a.log.past b.log.past c.log.past p.fuse q.fuse r.fuse h.fuse k.fuse;
 }
 
 -- the queue's own test of a worker is that of the point

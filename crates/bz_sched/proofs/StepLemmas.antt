@@ -1,8 +1,9 @@
 -- Steps of a worker's open call.
-use Rattle.std.proofs.Common.{◌≡◌, ◌<◌, ◌⊎◌, inl, inr, ℕ, Bool, true, false, List, [], ◌∷◌, ◌++◌, length, refl, sym, ap, subst, ◌∙◌, arith, Option, Some, None, ◌==◌, nat_lt}
+use Rattle.std.proofs.Common.{◌≡◌, ◌<◌, ◌⊎◌, inl, inr, ℕ, Bool, true, false, List, [], ◌∷◌, ◌++◌, length, get_or, refl, sym, ap, ◌∙◌, arith, Option, Some, None, ◌==◌, nat_lt}
 use Rattle.std.specs.Prelude.{is_none, is_some, if◌then◌else◌, MatchOption}
 use Rattle.std.proofs.lemmas.Bool.Decides.{nat_tests}
 use Rattle.std.proofs.lemmas.List.{length-append}
+use Rattle.bz_acts.specs.Rule.{is_flush_act}
 use Rattle.bz_acts.specs.declared.acted.Act.{Act}
 use Rattle.bz_acts.specs.declared.acted.Act.TheVariants as act
 use Rattle.bz_call.specs.declared.replies.Reply.{Reply}
@@ -11,18 +12,19 @@ use Rattle.bz_mark.specs.declared.marks.Mark.{Mark}
 use Rattle.bz_mark.specs.declared.marks.Mark.TheVariants as mark
 use Rattle.bz_sound.specs.declared.power.Power.TheVariants as power
 use Rattle.bz_sound.specs.Calls.{Open, open_call}
-use Rattle.bz_sound.specs.Power.Laws.{IsUnbroken}
 use Rattle.bz_sound.specs.Power.Times.{power_of}
-use Rattle.bz_world.specs.Lab.{Lab, is_short, step_refusal, mark_of, IsStruck, GoesOn, Steps, IsApplied}
+use Rattle.bz_world.specs.Lab.{Lab, flush_of, is_short, step_refusal, mark_of, IsStruck, GoesOn, Steps, IsApplied}
 use Rattle.bz_world.specs.declared.answers.Applied.{Applied}
 use Rattle.bz_world.specs.declared.answers.Applied.TheVariants as applied
 use Rattle.bz_world.specs.declared.answers.Event.TheVariants as event
 use Rattle.bz_world.specs.declared.answers.Which.TheVariants as which
-use Rattle.bz_sched.specs.Points.{actor, IsUpToOneEffect, IsStep, TakesStep}
-use Rattle.bz_sched.specs.Queued.{Queued, has_open, SetsOpen}
-use Rattle.bz_sched.specs.Runs.{point_of, IsReady, IsAtLimit, Keeps}
-use Rattle.bz_sched.specs.TurnsInPart.{StopsEvent}
-use Rattle.bz_sched.proofs.PowerLemmas.{power_is_on, act_leaves, struck_unbroken}
+use Rattle.bz_sched.specs.Points.{actor, flushes_of, IsUpToOneEffect, IsStep, TakesStep}
+use Rattle.bz_sched.specs.Queued.{Queued, has_open, SetsOpen, lets, burnt}
+use Rattle.bz_sched.specs.Runs.{point_of, IsReady, IsAtLimit, IsStopped, Keeps}
+use Rattle.bz_sched.specs.TurnsInPart.{StopsStep}
+use Rattle.bz_sched.specs.declared.turn.Stop.TheVariants.{Due, Limit}
+use Rattle.bz_sched.proofs.BurnLemmas.{burns_act}
+use Rattle.bz_sched.proofs.PowerLemmas.{act_power, struck_power, act_flushes, struck_flushes, one_flush}
 use Rattle.bz_sched.proofs.ReadyLemmas.{keeps_none, ends, changes_no, marks_known, openers_known}
 
 -- an act, and what follows it at once
@@ -66,8 +68,7 @@ refusal_is lab queued w ready is =
     let worker = ready.openers w is in
     let in_range : nat_lt lab.config.workers w ≡ false = grind (arith, nat_tests, worker.in_range) in
     let busy : is_none (open_call w lab.log.past) ≡ false = none_not_some (open_call w lab.log.past) (sym (ready.begun w) ∙ is) in
-    let on : power_of power.On lab.log.past ≡ power.On = power_is_on lab.log.past ready.unbroken in
-    rw (in_range, on, busy) refl
+    rw (in_range, ready.powered, busy) refl
 
 -- the answer is one of two
 pub record Goes (old : Lab) (w : ℕ) (answer : Applied) (new : Lab) : Type 0 where
@@ -87,7 +88,7 @@ step_cases false old w answer new is h = inr (record { room = is; steps = h })
 
 pub stepped : (old : Lab) (queued : Queued) (w : ℕ) (answer : Applied) (new : Lab) → IsReady old queued → has_open queued w ≡ true → IsApplied old (event.Step w) answer new
     → Refused old answer new ⊎ Goes old w answer new
-stepped old queued w answer new ready is h = step_cases (is_short old.log) old w answer new refl (rw (refusal_is old queued w ready is, power_is_on old.log.past ready.unbroken) at h)
+stepped old queued w answer new ready is h = step_cases (is_short old.log) old w answer new refl (rw (refusal_is old queued w ready is, ready.powered) at h)
 
 -- nothing else is answered
 pub step_answers : (answer : Applied) (log new : Log) (w : ℕ) → GoesOn log w answer new → (answer ≡ applied.Stepped → ⊥) → ((n : ℕ) → answer ≡ applied.Ended n → ⊥) → ⊥
@@ -96,41 +97,58 @@ step_answers (applied.Ended n) log new w g s e = e n refl
 step_answers other log new w g s e = absurd g
 
 -- a limit
-pub refused_stops : (old : Lab) (queued : Queued) (answer : Applied) (new : Lab) → IsReady old queued → Refused old answer new
-    → Keeps old queued new queued × StopsEvent which.Marks (point_of old queued) (point_of new queued) × IsAtLimit new which.Marks
-refused_stops old queued answer new ready r =
-    let short = r.short in
+pub short_stops : (old : Lab) (queued : Queued) (new : Lab) → IsReady old queued → is_short old.log ≡ true → new ≡ old
+    → Keeps old queued new queued × ((which.Marks ≡ which.Marks) × (point_of new queued ≡ point_of old queued)) × IsAtLimit new which.Marks
+short_stops old queued new ready short same =
     let met : IsAtLimit old which.Marks = grind (arith, nat_tests, short) in
-    rw r.same (keeps_none old queued ready, (refl, refl), met)
+    rw same (keeps_none old queued ready, (refl, refl), met)
 
 pub step_limit : (old : Lab) (queued : Queued) (w : ℕ) (new : Lab) → IsReady old queued → has_open queued w ≡ true → IsApplied old (event.Step w) applied.Limit new
-    → Keeps old queued new queued × StopsEvent which.Marks (point_of old queued) (point_of new queued) × IsAtLimit new which.Marks
+    → Keeps old queued new queued × StopsStep (Limit which.Marks) w (point_of old queued) (point_of new queued) × IsAtLimit new which.Marks
 step_limit old queued w new ready is h = elim (stepped old queued w applied.Limit new ready is h) [
-  | inl r ↦ refused_stops old queued applied.Limit new ready r
+  | inl r ↦ short_stops old queued new ready r.short r.same
   | inr g ↦ absurd g.steps.ends
 ]
 
+-- the step is the flush at which the power is cut
+pub step_due : (lab : Lab) (queued : Queued) (w : ℕ) → IsReady lab queued → (flush_of lab w ≡ true) × (queued.fuse ≡ Some 0)
+    → Keeps lab queued lab queued × StopsStep (Due w) w (point_of lab queued) (point_of lab queued) × IsStopped lab queued (Due w)
+step_due lab queued w ready due = (keeps_none lab queued ready, (refl, refl), due)
+
+-- the queue after an act: it has the same calls, and a flush is counted
+pub record Burnt (flush : Bool) (queued left : Queued) : Type 0 where
+  pub calls : left.calls ≡ queued.calls
+  pub room : left.room ≡ queued.room
+  pub begun : left.begun ≡ queued.begun
+  pub may : lets queued.fuse flush ≡ true
+  pub fuse : left.fuse ≡ burnt flush queued.fuse
+
 -- the call goes on
-on_ready : (old : Lab) (queued : Queued) (w : ℕ) (new : Lab) → IsReady old queued → Steps old w applied.Stepped new → IsReady new queued
-on_ready old queued w new ready s = record {
+on_ready : (old : Lab) (queued left : Queued) (w : ℕ) (new : Lab) → left.calls ≡ queued.calls → left.begun ≡ queued.begun → IsReady old queued → Steps old w applied.Stepped new → IsReady new left
+on_ready old queued left w new calls begun ready s = record {
   config = rw s.config ready.config;
-  calls = rw s.config ready.calls;
-  begun = λ v. ready.begun v ∙ sym (ap (λ (log : Log). is_some (open_call v log.past)) s.ends ∙ (struck_is (mark_of w s.made) old.log.past s.struck s.effect).opens v ∙ ap is_some (act_opens s.made w v old.log.past));
-  openers = rw s.config ready.openers;
-  unbroken = subst IsUnbroken (sym (ap (λ (log : Log). log.past) s.ends)) (struck_unbroken (mark_of w s.made) old.log.past s.struck s.effect (act_leaves s.made w old.log.past) ready.unbroken);
+  calls = rw (s.config, calls) ready.calls;
+  begun = λ v. ap (λ (flags : List Bool). get_or flags v false) begun ∙ ready.begun v ∙ sym (ap (λ (log : Log). is_some (open_call v log.past)) s.ends ∙ (struck_is (mark_of w s.made) old.log.past s.struck s.effect).opens v ∙ ap is_some (act_opens s.made w v old.log.past));
+  openers = λ v is. rw s.config (ready.openers v (sym (ap (λ (flags : List Bool). get_or flags v false) begun) ∙ is));
+  powered = ap (λ (log : Log). power_of power.On log.past) s.ends ∙ struck_power power.On (mark_of w s.made) old.log.past s.struck s.effect ∙ act_power power.On s.made w old.log.past ∙ ready.powered;
 }
 
-pub step_goes_on : (old : Lab) (queued : Queued) (w : ℕ) (new : Lab) → IsReady old queued → Goes old w applied.Stepped new
-    → Keeps old queued new queued × TakesStep w (point_of old queued) (point_of new queued)
-step_goes_on old queued w new ready g =
+-- how many flushes were made by then
+step_flushes : (old : Lab) (w : ℕ) (made : Act) (struck : List Mark) → is_flush_act made ≡ flush_of old w → IsStruck (mark_of w made ∷ old.log.past) struck → flushes_of struck ≡ one_flush (flush_of old w) (flushes_of old.log.past)
+step_flushes old w made struck flush effect = struck_flushes (mark_of w made) old.log.past struck effect ∙ act_flushes made w old.log.past ∙ ap (λ (b : Bool). one_flush b (flushes_of old.log.past)) flush
+
+pub step_goes_on : (old : Lab) (queued left : Queued) (w : ℕ) (new : Lab) → IsReady old queued → Goes old w applied.Stepped new → Burnt (flush_of old w) queued left
+    → Keeps old queued new left × TakesStep w (point_of old queued) (point_of new left)
+step_goes_on old queued left w new ready g b =
     let s = g.steps in
     let struck = struck_is (mark_of w s.made) old.log.past s.struck s.effect in (
       record {
-        ready = on_ready old queued w new ready s;
+        ready = on_ready old queued left w new b.calls b.begun ready s;
         config = s.config;
         start = ap (λ (log : Log). log.start) s.ends;
         limits = ap (λ (log : Log). log.limits) s.ends;
-        room = refl;
+        room = b.room;
+        fuse = burns_act old.log.past new.log.past queued.fuse left.fuse (flush_of old w) b.may (ap (λ (log : Log). flushes_of log.past) s.ends ∙ step_flushes old w s.made s.struck s.flush s.effect) b.fuse;
       },
       (
         record {
@@ -142,7 +160,7 @@ step_goes_on old queued w new ready g =
           one_effect = struck.one_effect;
           one_end = tt;
         },
-        refl,
+        b.calls,
       ),
     )
 
@@ -162,14 +180,17 @@ ended_ready old queued w n new left ready is s calls marks = record {
   calls = rw (s.config, calls) ready.calls;
   begun = marks_known queued left (λ v. open_call v old.log.past) (λ v. open_call v new.log.past) w false ready.begun marks (ended_opens old w n new s);
   openers = rw s.config (openers_known old.config queued left w false (ready.openers w is) ready.openers marks);
-  unbroken = subst IsUnbroken (sym (ap (λ (log : Log). log.past) s.ends.is)) (tt, struck_unbroken (mark_of w s.made) old.log.past s.struck s.effect (act_leaves s.made w old.log.past) ready.unbroken);
+  powered = ap (λ (log : Log). power_of power.On log.past) s.ends.is ∙ struck_power power.On (mark_of w s.made) old.log.past s.struck s.effect ∙ act_power power.On s.made w old.log.past ∙ ready.powered;
 }
 
-pub step_ends : (old : Lab) (queued : Queued) (w n : ℕ) (new : Lab) (left : Queued) → IsReady old queued → has_open queued w ≡ true → Goes old w (applied.Ended n) new
-    → left.calls ≡ queued.calls → left.room ≡ queued.room → SetsOpen queued w false left
+pub step_ends : (old : Lab) (queued between : Queued) (w n : ℕ) (new : Lab) (left : Queued) → IsReady old queued → has_open queued w ≡ true → Goes old w (applied.Ended n) new → Burnt (flush_of old w) queued between
+    → left.calls ≡ between.calls → left.room ≡ between.room → SetsOpen between w false left → left.fuse ≡ between.fuse
     → Keeps old queued new left × TakesStep w (point_of old queued) (point_of new left)
-step_ends old queued w n new left ready is g calls room marks =
+step_ends old queued between w n new left ready is g b same_calls same_room same_marks same_fuse =
     let s = g.steps in
+    let calls : left.calls ≡ queued.calls = same_calls ∙ b.calls in
+    let room : left.room ≡ queued.room = same_room ∙ b.room in
+    let marks : SetsOpen queued w false left = λ v. same_marks v ∙ ap (λ (flags : List Bool). if w == v then false else get_or flags v false) b.begun in
     let struck = struck_is (mark_of w s.made) old.log.past s.struck s.effect in (
       record {
         ready = ended_ready old queued w n new left ready is s calls marks;
@@ -177,6 +198,7 @@ step_ends old queued w n new left ready is g calls room marks =
         start = ap (λ (log : Log). log.start) s.ends.is;
         limits = ap (λ (log : Log). log.limits) s.ends.is;
         room = room;
+        fuse = burns_act old.log.past new.log.past queued.fuse left.fuse (flush_of old w) b.may (ap (λ (log : Log). flushes_of log.past) s.ends.is ∙ step_flushes old w s.made s.struck s.flush s.effect) (same_fuse ∙ b.fuse);
       },
       (
         record {

@@ -4,10 +4,10 @@ use Rattle.std.proofs.lemmas.List.{drop_more}
 use Rattle.bz_script.specs.declared.turn_list.Turn.{Turn}
 use Rattle.bz_script.specs.RunLaws.{IsTurn as IsWord, AreTurns}
 use Rattle.bz_world.specs.Lab.{Lab}
-use Rattle.bz_world.specs.declared.answers.Which.{Which}
+use Rattle.bz_sched.specs.declared.turn.Stop.{Stop}
 use Rattle.bz_sched.specs.Points.{Point, is_busy, IsTurn}
 use Rattle.bz_sched.specs.Queued.{Queued, has_work}
-use Rattle.bz_sched.specs.Runs.{point_of, IsReady, IsAtLimit, Keeps}
+use Rattle.bz_sched.specs.Runs.{point_of, IsReady, IsStopped, Keeps}
 use Rattle.bz_sched.specs.Turns.{TakesTurns, TakesWord, EndsOne, RunsList}
 use Rattle.bz_sched.specs.TurnsInPart.{StopsTurn, TakesTurnsInPart, TakesWordInPart, EndsOneInPart, RunsListInPart}
 use Rattle.bz_sched.proofs.ReadyLemmas.{keeps_none, keeps_both, work_is}
@@ -16,7 +16,7 @@ use Rattle.bz_sched.proofs.ReadyLemmas.{keeps_none, keeps_both, work_is}
 pub record Taking (w taken : ℕ) (old : Lab) (queued : Queued) (world : Lab) (left : Queued) : Type 0 where
   pub keeps : Keeps old queued world left
   pub whole : (more : ℕ) (new : Point) → TakesTurns w more (point_of world left) new → TakesTurns w (taken + more) (point_of old queued) new
-  pub part : (why : Which) (more : ℕ) (new : Point) → TakesTurnsInPart why w more (point_of world left) new → TakesTurnsInPart why w (taken + more) (point_of old queued) new
+  pub part : (why : Stop) (more : ℕ) (new : Point) → TakesTurnsInPart why w more (point_of world left) new → TakesTurnsInPart why w (taken + more) (point_of old queued) new
 
 pub taking_none : (w : ℕ) (old : Lab) (queued : Queued) → IsReady old queued → Taking w 0 old queued old queued
 taking_none w old queued ready = record {
@@ -58,13 +58,13 @@ taking_idle w taken count old queued world left few none t =
     (t.keeps, subst (λ (n : ℕ). TakesTurns w n (point_of old queued) (point_of world left)) all (t.whole (count - taken) (point_of world left) (idle_takes w (count - taken) (point_of world left) idle)))
 
 -- a limit is met
-taking_stops : (w taken more : ℕ) (old : Lab) (queued : Queued) (world : Lab) (left : Queued) (why : Which) (new : Lab) (after : Queued) → Taking w taken old queued world left
+taking_stops : (w taken more : ℕ) (old : Lab) (queued : Queued) (world : Lab) (left : Queued) (why : Stop) (new : Lab) (after : Queued) → Taking w taken old queued world left
     → StopsTurn why w (point_of world left) (point_of new after) → TakesTurnsInPart why w (taken + suc more) (point_of old queued) (point_of new after)
 taking_stops w taken more old queued world left why new after t stops = t.part why (suc more) (point_of new after) (inl stops)
 
-pub word_stops : (w taken count : ℕ) (old : Lab) (queued : Queued) (world : Lab) (left : Queued) (why : Which) (new : Lab) (after : Queued) → taken < count → Taking w taken old queued world left
-    → Keeps world left new after × StopsTurn why w (point_of world left) (point_of new after) × IsAtLimit new why
-    → Keeps old queued new after × TakesTurnsInPart why w count (point_of old queued) (point_of new after) × IsAtLimit new why
+pub word_stops : (w taken count : ℕ) (old : Lab) (queued : Queued) (world : Lab) (left : Queued) (why : Stop) (new : Lab) (after : Queued) → taken < count → Taking w taken old queued world left
+    → Keeps world left new after × StopsTurn why w (point_of world left) (point_of new after) × IsStopped new after why
+    → Keeps old queued new after × TakesTurnsInPart why w count (point_of old queued) (point_of new after) × IsStopped new after why
 word_stops w taken count old queued world left why new after few t (keeps, stops, met) =
     let all : taken + suc (count - (taken + 1)) ≡ count = omega arith in (
       keeps_both old world new queued left after t.keeps keeps,
@@ -90,9 +90,9 @@ one_ends w old queued world left none s =
     let idle : is_busy w (point_of world left) ≡ false = sym (work_is world left w s.taking.keeps.ready) ∙ none in
     (s.taking.keeps, (s.taken + 0, s.taking.whole 0 (point_of world left) refl, idle))
 
-pub one_stops : (w : ℕ) (old : Lab) (queued : Queued) (world : Lab) (left : Queued) (why : Which) (new : Lab) (after : Queued) → TakingSome w old queued world left
-    → Keeps world left new after × StopsTurn why w (point_of world left) (point_of new after) × IsAtLimit new why
-    → Keeps old queued new after × EndsOneInPart why w (point_of old queued) (point_of new after) × IsAtLimit new why
+pub one_stops : (w : ℕ) (old : Lab) (queued : Queued) (world : Lab) (left : Queued) (why : Stop) (new : Lab) (after : Queued) → TakingSome w old queued world left
+    → Keeps world left new after × StopsTurn why w (point_of world left) (point_of new after) × IsStopped new after why
+    → Keeps old queued new after × EndsOneInPart why w (point_of old queued) (point_of new after) × IsStopped new after why
 one_stops w old queued world left why new after s (keeps, stops, met) = (
   keeps_both old world new queued left after s.taking.keeps keeps,
   (s.taken + 1, taking_stops w s.taken 0 old queued world left why new after s.taking stops),
@@ -103,7 +103,7 @@ one_stops w old queued world left why new after s (keeps, stops, met) = (
 pub record Listing (turns : List Turn) (i : ℕ) (old : Lab) (queued : Queued) (world : Lab) (left : Queued) : Type 0 where
   pub keeps : Keeps old queued world left
   pub whole : (new : Point) → RunsList (drop i turns) (point_of world left) new → RunsList turns (point_of old queued) new
-  pub part : (why : Which) (new : Point) → RunsListInPart why (drop i turns) (point_of world left) new → RunsListInPart why turns (point_of old queued) new
+  pub part : (why : Stop) (new : Point) → RunsListInPart why (drop i turns) (point_of world left) new → RunsListInPart why turns (point_of old queued) new
 
 pub listing_none : (turns : List Turn) (old : Lab) (queued : Queued) → IsReady old queued → Listing turns 0 old queued old queued
 listing_none turns old queued ready = record { keeps = keeps_none old queued ready; whole = λ new runs. runs; part = λ why new runs. runs }
@@ -130,9 +130,9 @@ listing_more turns i turn old queued world left new after lt is l (keeps, takes)
   part = λ why end runs. l.part why end (subst (λ (words : List Turn). RunsListInPart why words (point_of world left) end) (sym (word_here turns i turn lt is)) (inr (point_of new after, takes, runs)));
 }
 
-pub listing_stops : (turns : List Turn) (i : ℕ) (turn : Turn) (old : Lab) (queued : Queued) (world : Lab) (left : Queued) (why : Which) (new : Lab) (after : Queued) → i < length turns → turn ≡ get_or turns i turn
-    → Listing turns i old queued world left → Keeps world left new after × TakesWordInPart why turn (point_of world left) (point_of new after) × IsAtLimit new why
-    → Keeps old queued new after × RunsListInPart why turns (point_of old queued) (point_of new after) × IsAtLimit new why
+pub listing_stops : (turns : List Turn) (i : ℕ) (turn : Turn) (old : Lab) (queued : Queued) (world : Lab) (left : Queued) (why : Stop) (new : Lab) (after : Queued) → i < length turns → turn ≡ get_or turns i turn
+    → Listing turns i old queued world left → Keeps world left new after × TakesWordInPart why turn (point_of world left) (point_of new after) × IsStopped new after why
+    → Keeps old queued new after × RunsListInPart why turns (point_of old queued) (point_of new after) × IsStopped new after why
 listing_stops turns i turn old queued world left why new after lt is l (keeps, takes, met) = (
   keeps_both old world new queued left after l.keeps keeps,
   l.part why (point_of new after) (subst (λ (words : List Turn). RunsListInPart why words (point_of world left) (point_of new after)) (sym (word_here turns i turn lt is)) (inl takes)),

@@ -4,8 +4,13 @@ pub mod QueueLaws
 pub mod Points
 pub mod Turns
 pub mod TurnsInPart
+pub mod Cuts
 pub mod Plans
+pub mod Recoveries
+pub mod Scripts
 pub mod Runs
+pub mod Cutting
+pub mod Powering
 pub mod ReadyLaws
 pub mod TurnLaws
 pub mod IdleLaws

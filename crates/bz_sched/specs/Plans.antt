@@ -1,15 +1,17 @@
--- What a script's items add to a journal, run by run. The newest mark stands first.
-use Rattle.std.specs.Prelude.{◌≡◌, ℕ, List, [], ◌∷◌, ◌++◌, ◌⊎◌}
-use Rattle.bz_call.specs.declared.calls.Call.{Call}
+-- What a run by a plan adds to a journal, with a cut armed or without. The newest mark stands first.
+use Rattle.std.specs.Prelude.{◌≡◌, ◌<◌, ℕ, ◌+◌, List, ◌⊎◌, Option, Some, None}
 use Rattle.bz_mark.specs.declared.marks.Mark.{Mark}
-use Rattle.bz_script.specs.declared.item.Item.{Item}
-use Rattle.bz_script.specs.declared.item.Item.TheVariants.{Queue, Run}
 use Rattle.bz_script.specs.declared.item.Plan.{Plan}
 use Rattle.bz_script.specs.declared.item.Plan.TheVariants.{Alone, List as ByList, Turns as ByTurns}
 use Rattle.bz_world.specs.declared.answers.Which.{Which}
-use Rattle.bz_sched.specs.Points.{Point}
+use Rattle.bz_world.specs.declared.answers.Which.TheVariants as which
+use Rattle.bz_sched.specs.Cuts.{CutsOff, CutsOffInPart}
+use Rattle.bz_sched.specs.Points.{Point, flushes_of}
 use Rattle.bz_sched.specs.Turns.{EndsAlone, RunsList, RunsTurns}
 use Rattle.bz_sched.specs.TurnsInPart.{EndsAloneInPart, RunsListInPart, RunsTurnsInPart}
+use Rattle.bz_sched.specs.declared.cut.CutPlan.{CutPlan}
+use Rattle.bz_sched.specs.declared.turn.Stop.{Stop}
+use Rattle.bz_sched.specs.declared.turn.Stop.TheVariants.{Due, Limit}
 
 -- a run by a plan, over a memory of so many words. Calls that a list leaves open or queued stay so.
 abbrev pub RunsBy : ℕ → Plan → Point → Point → Type 0
@@ -17,26 +19,38 @@ RunsBy words Alone old new = EndsAlone old new
 RunsBy words (ByList turns) old new = RunsList turns old new
 RunsBy words (ByTurns seed) old new = RunsTurns words seed old new
 
--- the same up to a limit, where one more was needed
-abbrev pub RunsByInPart : Which → ℕ → Plan → Point → Point → Type 0
+-- the same up to where it stops
+abbrev pub RunsByInPart : Stop → ℕ → Plan → Point → Point → Type 0
 RunsByInPart why words Alone old new = EndsAloneInPart why old new
 RunsByInPart why words (ByList turns) old new = RunsListInPart why turns old new
 RunsByInPart why words (ByTurns seed) old new = RunsTurnsInPart why words seed old new
 
--- the point at which a `w` line has put its call behind those that wait
-abbrev pub queued : ℕ × Call → Point → Point
-queued call point = record { past = point.past; queue = point.queue ++ call ∷ [] }
+-- where a cut is armed, fewer flushes were made than it waits for
+abbrev pub IsBefore : Option CutPlan → List Mark → List Mark → Type 0
+IsBefore None old new = Unit {0}
+IsBefore (Some cut) old new = flushes_of new < flushes_of old + cut.flush
 
--- from this point the items lead to these marks
-abbrev pub LeadsTo : ℕ → Point → List Item → List Mark → Type 0
-LeadsTo words old [] new = new ≡ old.past
-LeadsTo words old (Queue w call ∷ items) new = LeadsTo words (queued (w, call) old) items new
-LeadsTo words old (Run plan ∷ items) new = (mid : Point) × RunsBy words plan old mid × LeadsTo words mid items new
+-- a run that came to its end
+abbrev pub RunsWhole : ℕ → Option CutPlan → Plan → Point → Point → Type 0
+RunsWhole words cut plan old new = RunsBy words plan old new × IsBefore cut old.past new.past
 
--- they lead there up to a run that met a limit; the items behind it are left out
-abbrev pub LeadsToInPart : Which → ℕ → Point → List Item → List Mark → Type 0
-LeadsToInPart why words old [] new = ⊥
-LeadsToInPart why words old (Queue w call ∷ items) new = LeadsToInPart why words (queued (w, call) old) items new
-LeadsToInPart why words old (Run plan ∷ items) new =
-    ((end : Point) × RunsByInPart why words plan old end × (new ≡ end.past))
-    ⊎ ((mid : Point) × RunsBy words plan old mid × LeadsToInPart why words mid items new)
+-- a run up to where the power is cut: a step of this worker was to come, and all but one of the flushes that the cut waits for
+-- were made
+pub record IsDueInRun (words : ℕ) (cut : CutPlan) (plan : Plan) (old mid : Point) : Type 0 where
+  pub worker : ℕ
+  pub runs : RunsByInPart (Due worker) words plan old mid
+  pub flushes : flushes_of mid.past + 1 ≡ flushes_of old.past + cut.flush
+
+-- a run in which the cut was made, over a memory with this start and of so many words
+abbrev pub RunsCut : List ℕ → ℕ → Option CutPlan → Plan → Point → Point → Type 0
+RunsCut start words None plan old new = ⊥
+RunsCut start words (Some cut) plan old new = (mid : Point) × IsDueInRun words cut plan old mid × CutsOff start words cut.seed mid new
+
+abbrev pub CutInPart : List ℕ → ℕ → Option CutPlan → Plan → Point → Point → Type 0
+CutInPart start words None plan old new = ⊥
+CutInPart start words (Some cut) plan old new = (mid : Point) × IsDueInRun words cut plan old mid × CutsOffInPart start words cut.seed mid new
+
+-- a run that met a limit: by itself, or in what belongs to the cut
+abbrev pub RunsInPart : Which → List ℕ → ℕ → Option CutPlan → Plan → Point → Point → Type 0
+RunsInPart why start words cut plan old new =
+    (RunsByInPart (Limit why) words plan old new × IsBefore cut old.past new.past) ⊎ ((why ≡ which.Marks) × CutInPart start words cut plan old new)

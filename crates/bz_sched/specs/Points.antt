@@ -19,6 +19,12 @@ actor (Cas w a old new found) = Some w
 actor (Flush w line) = Some w
 actor mark = None
 
+-- how many of these marks are flushes
+abbrev pub flushes_of : List Mark → ℕ
+flushes_of [] = 0
+flushes_of (Flush w line ∷ past) = flushes_of past + 1
+flushes_of (mark ∷ past) = flushes_of past
+
 -- at most the effect of one call, of whatever worker
 abbrev pub IsUpToOneEffect : List Mark → Type 0
 IsUpToOneEffect [] = Unit {0}

@@ -1,4 +1,5 @@
--- Runs up to a limit, where one more was needed. The newest mark stands first.
+-- Runs that stop: at a limit, where one more was needed, or before the flush at which the power is cut. The newest mark stands
+-- first.
 use Rattle.std.specs.Prelude.{◌≡◌, ◌≢◌, ℕ, zero, suc, ◌+◌, Bool, true, false, List, [], ◌∷◌, ◌⊎◌, None}
 use Rattle.bz_call.specs.Pages.{is_page}
 use Rattle.bz_call.specs.declared.calls.Call.{Call}
@@ -6,8 +7,9 @@ use Rattle.bz_sound.specs.Calls.{open_call}
 use Rattle.bz_script.specs.Draws.{next_state, draw_of}
 use Rattle.bz_script.specs.declared.turn_list.Turn.{Turn}
 use Rattle.bz_script.specs.declared.turn_list.Turn.TheVariants.{Times}
-use Rattle.bz_world.specs.declared.answers.Which.{Which}
 use Rattle.bz_world.specs.declared.answers.Which.TheVariants as which
+use Rattle.bz_sched.specs.declared.turn.Stop.{Stop}
+use Rattle.bz_sched.specs.declared.turn.Stop.TheVariants.{Due, Limit}
 use Rattle.bz_sched.specs.Queued.{calls_of}
 use Rattle.bz_sched.specs.Points.{Point, ready, is_busy, IsTurn}
 use Rattle.bz_sched.specs.Turns.{TakesWord, EndsOne, drawn_worker, busy_workers, evicts, IsRound, after_round}
@@ -17,65 +19,72 @@ abbrev pub IsPageNext : List (ℕ × Call) → Type 0
 IsPageNext [] = ⊥
 IsPageNext (call ∷ calls) = is_page call.1 ≡ true
 
--- an act or an eviction was to come, and the limit is one of marks
-abbrev pub StopsEvent : Which → Point → Point → Type 0
-StopsEvent why old new = (why ≡ which.Marks) × (new ≡ old)
+-- an eviction was to come, and the limit is one of marks
+abbrev pub StopsEvent : Stop → Point → Point → Type 0
+StopsEvent (Limit why) old new = (why ≡ which.Marks) × (new ≡ old)
+StopsEvent (Due v) old new = ⊥
 
--- where a turn meets a limit: its call was to begin, one that asks for a page where the limit is one of those;
--- or, where it is one of marks, the step was to come
-abbrev pub StopsBy : Which → ℕ → Point → Point → Type 0
-StopsBy which.Marks w old new = (new ≡ old) ⊎ (new ≡ ready w old)
-StopsBy which.Calls w old new = (open_call w old.past ≡ None) × (new ≡ old)
-StopsBy which.Pages w old new = (open_call w old.past ≡ None) × IsPageNext (calls_of w old.queue) × (new ≡ old)
+-- a step of a worker was to come: the limit is one of marks, or the step is the flush
+abbrev pub StopsStep : Stop → ℕ → Point → Point → Type 0
+StopsStep (Limit why) w old new = (why ≡ which.Marks) × (new ≡ old)
+StopsStep (Due v) w old new = (v ≡ w) × (new ≡ old)
 
--- a turn of a worker that has an open or a queued call meets a limit
-abbrev pub StopsTurn : Which → ℕ → Point → Point → Type 0
+-- where a turn stops. At a limit: its call was to begin, one that asks for a page where the limit is one of those; or, where
+-- it is one of marks, the step was to come. Before the flush: the step was to come, of that worker.
+abbrev pub StopsBy : Stop → ℕ → Point → Point → Type 0
+StopsBy (Limit which.Marks) w old new = (new ≡ old) ⊎ (new ≡ ready w old)
+StopsBy (Limit which.Calls) w old new = (open_call w old.past ≡ None) × (new ≡ old)
+StopsBy (Limit which.Pages) w old new = (open_call w old.past ≡ None) × IsPageNext (calls_of w old.queue) × (new ≡ old)
+StopsBy (Due v) w old new = (v ≡ w) × (new ≡ ready w old)
+
+-- a turn of a worker that has an open or a queued call stops
+abbrev pub StopsTurn : Stop → ℕ → Point → Point → Type 0
 StopsTurn why w old new = (is_busy w old ≡ true) × StopsBy why w old new
 
--- so many turns of a worker up to a limit
-abbrev pub TakesTurnsInPart : Which → ℕ → ℕ → Point → Point → Type 0
+-- so many turns of a worker up to where they stop
+abbrev pub TakesTurnsInPart : Stop → ℕ → ℕ → Point → Point → Type 0
 TakesTurnsInPart why w zero old new = ⊥
 TakesTurnsInPart why w (suc count) old new =
     StopsTurn why w old new ⊎ ((mid : Point) × IsTurn w old mid × TakesTurnsInPart why w count mid new)
 
--- turns of a worker up to a limit
-abbrev pub EndsOneInPart : Which → ℕ → Point → Point → Type 0
+-- turns of a worker up to where they stop
+abbrev pub EndsOneInPart : Stop → ℕ → Point → Point → Type 0
 EndsOneInPart why w old new = (count : ℕ) × TakesTurnsInPart why w count old new
 
--- of so many workers from one on, each in ascending order has its turns, up to a limit
-abbrev pub EndsFromInPart : Which → ℕ → ℕ → Point → Point → Type 0
+-- of so many workers from one on, each in ascending order has its turns, up to where they stop
+abbrev pub EndsFromInPart : Stop → ℕ → ℕ → Point → Point → Type 0
 EndsFromInPart why w zero old new = ⊥
 EndsFromInPart why w (suc more) old new =
     EndsOneInPart why w old new ⊎ ((mid : Point) × EndsOne w old mid × EndsFromInPart why (w + 1) more mid new)
 
--- `run alone` up to a limit
-abbrev pub EndsAloneInPart : Which → Point → Point → Type 0
+-- `run alone` up to where it stops
+abbrev pub EndsAloneInPart : Stop → Point → Point → Type 0
 EndsAloneInPart why old new = EndsFromInPart why 1 64 old new
 
--- a turn word up to a limit
-abbrev pub TakesWordInPart : Which → Turn → Point → Point → Type 0
+-- a turn word up to where it stops
+abbrev pub TakesWordInPart : Stop → Turn → Point → Point → Type 0
 TakesWordInPart why (Times w count) old new = TakesTurnsInPart why w count old new
 
--- `run list` up to a limit
-abbrev pub RunsListInPart : Which → List Turn → Point → Point → Type 0
+-- `run list` up to where it stops
+abbrev pub RunsListInPart : Stop → List Turn → Point → Point → Type 0
 RunsListInPart why [] old new = ⊥
 RunsListInPart why (turn ∷ turns) old new =
     TakesWordInPart why turn old new ⊎ ((mid : Point) × TakesWord turn old mid × RunsListInPart why turns mid new)
 
--- a round that meets a limit, with the state after its first draw
-abbrev pub StopsRoundBy : Bool → Which → ℕ → Point → Point → Type 0
+-- a round that stops, with the state after its first draw
+abbrev pub StopsRoundBy : Bool → Stop → ℕ → Point → Point → Type 0
 StopsRoundBy true why state old new = StopsEvent why old new
 StopsRoundBy false why state old new = StopsTurn why (drawn_worker (draw_of state) old) old new
 
-abbrev pub StopsRound : Which → ℕ → Point → Point → Type 0
+abbrev pub StopsRound : Stop → ℕ → Point → Point → Type 0
 StopsRound why state old new = StopsRoundBy (evicts state) why state old new
 
--- so many rounds from a state, and then one that meets a limit
-abbrev pub RunsRoundsInPart : Which → ℕ → ℕ → ℕ → Point → Point → Type 0
+-- so many rounds from a state, and then one that stops
+abbrev pub RunsRoundsInPart : Stop → ℕ → ℕ → ℕ → Point → Point → Type 0
 RunsRoundsInPart why words zero state old new = (busy_workers old ≢ []) × StopsRound why (next_state state) old new
 RunsRoundsInPart why words (suc rounds) state old new =
     (busy_workers old ≢ []) × ((mid : Point) × IsRound words (next_state state) old mid × RunsRoundsInPart why words rounds (after_round (next_state state)) mid new)
 
--- `run turns SEED` up to a limit
-abbrev pub RunsTurnsInPart : Which → ℕ → ℕ → Point → Point → Type 0
+-- `run turns SEED` up to where it stops
+abbrev pub RunsTurnsInPart : Stop → ℕ → ℕ → Point → Point → Type 0
 RunsTurnsInPart why words seed old new = (rounds : ℕ) × RunsRoundsInPart why words rounds seed old new

@@ -4,20 +4,21 @@ ghost use Rattle.arrayvec.specs.ArrayVec.{array_vec_len};
 ghost use Rattle.bz_layout.specs.Addresses.{words_of};
 ghost use Rattle.bz_layout.specs.Config.{IsConfig};
 ghost use Rattle.bz_script.specs.Draws.{next_state};
-ghost use Rattle.bz_sound.specs.Power.Laws.{IsUnbroken};
+ghost use Rattle.bz_sound.specs.declared.power.Power.TheVariants.{On};
+ghost use Rattle.bz_world.specs.Lab.{power_in};
 ghost use Rattle.bz_sched.specs.Points.{IsTurn};
 ghost use Rattle.bz_sched.specs.Queued.{Queued, has_work};
 ghost use Rattle.bz_sched.specs.Runs.{point_of, marks_left, IsReady, EndsBy};
 ghost use Rattle.bz_sched.specs.Turns.{passing_from, drawn_worker, IsEviction, IsRound, after_round, RunsTurns};
 ghost use Rattle.bz_sched.specs.TurnsInPart.{StopsEvent, StopsTurn, StopsRound, RunsTurnsInPart};
-ghost use Rattle.bz_sched.specs.declared.running.RunEnd.TheVariants.{Finished};
+ghost use Rattle.bz_sched.specs.declared.turn.Turned.TheVariants.{Finished};
 
+use crate::cut::evict_word;
 use crate::queue::Queue;
-use crate::running::RunEnd;
-use crate::turn::take_turn;
+use crate::turn::{Stop, Turned, take_turn};
 use arrayvec::ArrayVec;
 use bz_script::next_draw;
-use bz_world::{Applied, Event, Which, World};
+use bz_world::{Which, World};
 
 // The workers that have something to do, in ascending order.
 fn list_busy(queue: &Queue) -> ArrayVec<u8, 64>
@@ -33,17 +34,17 @@ fn list_busy(queue: &Queue) -> ArrayVec<u8, 64>
 }
 
 // Has a word become durable by itself.
-fn evict(world: &mut World, a: u32) -> RunEnd
+fn evict(world: &mut World, a: u32) -> Turned
     requires config { IsConfig world.old.config }
     requires in_range { a < words_of world.old.config }
-    requires unbroken { IsUnbroken world.old.log.past }
+    requires powered { power_in world.old ≡ On }
     ensures ends { (queue : Queued) → IsReady world.old queue → EndsBy (IsEviction a) StopsEvent world.old queue result world.new queue }
     ensures left { result ≡ Finished → marks_left world.new < marks_left world.old }
 {
-    match world.apply(Event::Evict(a)) {
-        Applied::Evicted => RunEnd::Finished,
-        Applied::Limit => RunEnd::Limit(Which::Marks),
-        _ => unreachable!(),
+    if evict_word(world, a) {
+        Turned::Finished
+    } else {
+        Turned::Stopped(Stop::Limit(Which::Marks))
     }
 }
 
@@ -53,7 +54,7 @@ fn take_drawn(
     queue: &mut Queue,
     busy: &mut ArrayVec<u8, 64>,
     draw: u32,
-) -> RunEnd
+) -> Turned
     requires ready { IsReady world.old queue.old }
     requires busy { busy.old.items ≡ passing_from (has_work queue.old) 1 64 }
     requires some { 0 < array_vec_len busy.old }
@@ -75,7 +76,7 @@ fn run_round(
     queue: &mut Queue,
     state: &mut u64,
     busy: &mut ArrayVec<u8, 64>,
-) -> RunEnd
+) -> Turned
     requires ready { IsReady world.old queue.old }
     requires busy { busy.old.items ≡ passing_from (has_work queue.old) 1 64 }
     requires some { 0 < array_vec_len busy.old }
@@ -94,7 +95,7 @@ fn run_round(
 }
 
 /// Makes evictions and turns by the draws from a seed, until no worker has anything to do.
-pub(crate) fn run_turns(world: &mut World, queue: &mut Queue, seed: u64) -> RunEnd
+pub(crate) fn run_turns(world: &mut World, queue: &mut Queue, seed: u64) -> Turned
     requires ready { IsReady world.old queue.old }
     ensures { EndsBy (RunsTurns (words_of world.old.config) seed) (λ why. RunsTurnsInPart why (words_of world.old.config) seed) world.old queue.old result world.new queue.new }
 {
@@ -102,9 +103,9 @@ pub(crate) fn run_turns(world: &mut World, queue: &mut Queue, seed: u64) -> RunE
     let mut busy = list_busy(queue);
     while !busy.is_empty() {
         match run_round(world, queue, &mut state, &mut busy) {
-            RunEnd::Finished => {}
-            RunEnd::Limit(which) => return RunEnd::Limit(which),
+            Turned::Finished => {}
+            Turned::Stopped(why) => return Turned::Stopped(why),
         }
     }
-    RunEnd::Finished
+    Turned::Finished
 }

@@ -1,6 +1,6 @@
 //! Calls that wait.
 ghost use Rattle.std.specs.Prelude.{◌≡◌, ◌≢◌, ◌<◌, ◌≤◌, ◌+◌, ◌++◌, ◌∷◌, [], ℕ, IfOk, length, true, false};
-ghost use Rattle.bz_sched.specs.Queued.{calls_of, without_first, has_open, has_work, SetsOpen, IsFirst};
+ghost use Rattle.bz_sched.specs.Queued.{calls_of, without_first, has_open, has_work, SetsOpen, IsFirst, lets as may_be_made, burnt};
 ghost use Rattle.bz_sched.specs.QueueKept.{IsFound};
 
 use bz_call::Call;
@@ -8,8 +8,8 @@ use bz_memory::Memory;
 use std::alloc::Global;
 use std::marker::Model;
 
-/// The calls that wait for their workers, 1 to 64, in the order in which they came, and who has a call under way.
-/// It takes no memory after its opening.
+/// The calls that wait for their workers, 1 to 64, in the order in which they came, who has a call under way, and where a cut
+/// of the power is armed, after how many flushes it comes. It takes no memory after its opening.
 #[derive(Drop)]
 pub struct Queue {
     calls: Vec<(u8, Call)>,
@@ -22,6 +22,9 @@ pub struct Queue {
 
     // of each worker whether a call of it has begun and has not ended
     begun: [bool; 65],
+
+    // how many flushes are made before the one at which the power is cut, if a cut is armed
+    fuse: Option<u32>,
     most: usize,
 }
 
@@ -32,7 +35,7 @@ impl Model for Queue {
 
     ghost Value = { Queued };
 
-    ghost view = { λ q. record { calls = waiting_from 0 q.next q.calls.items; room = q.most - length q.calls.items; begun = q.begun } };
+    ghost view = { λ q. record { calls = waiting_from 0 q.next q.calls.items; room = q.most - length q.calls.items; begun = q.begun; fuse = q.fuse } };
 
     ghost invariant = { λ q. IsKept q.calls.items q.next q.waiting q.most (vec_capacity q.calls) };
 }
@@ -52,6 +55,7 @@ impl Queue {
             next,
             waiting,
             begun,
+            fuse: None,
             most: calls,
         })
     }
@@ -63,6 +67,7 @@ impl Queue {
         ensures calls { self.new.calls ≡ self.old.calls ++ (w, call) ∷ [] }
         ensures room { self.new.room + 1 ≡ self.old.room }
         ensures begun { self.new.begun ≡ self.old.begun }
+        ensures fuse { self.new.fuse ≡ self.old.fuse }
     {
         match self.calls.extend_from_slice(&[(w, call)]) {
             Ok(()) => self.waiting[w as usize] += 1,
@@ -107,6 +112,7 @@ impl Queue {
         ensures calls { self.new.calls ≡ without_first w self.old.calls }
         ensures room { self.new.room ≡ self.old.room }
         ensures begun { SetsOpen self.old w true self.new }
+        ensures fuse { self.new.fuse ≡ self.old.fuse }
     {
         match find_call(&self.calls, self.next[w as usize], w) {
             Some(at) => {
@@ -124,8 +130,67 @@ impl Queue {
         ensures calls { self.new.calls ≡ self.old.calls }
         ensures room { self.new.room ≡ self.old.room }
         ensures begun { SetsOpen self.old w false self.new }
+        ensures fuse { self.new.fuse ≡ self.old.fuse }
     {
         self.begun[w as usize] = false;
+    }
+
+    /// No call is under way any more: the power was cut.
+    pub(crate) fn close_all(&mut self)
+        ensures calls { self.new.calls ≡ self.old.calls }
+        ensures room { self.new.room ≡ self.old.room }
+        ensures closed { (w : ℕ) → has_open self.new w ≡ false }
+        ensures fuse { self.new.fuse ≡ self.old.fuse }
+    {
+        self.begun.fill(false);
+    }
+
+    /// Drops all calls, also those under way.
+    pub fn clear(&mut self)
+        ensures calls { self.new.calls ≡ [] }
+        ensures room { self.old.room ≤ self.new.room }
+        ensures closed { (w : ℕ) → has_open self.new w ≡ false }
+        ensures fuse { self.new.fuse ≡ self.old.fuse }
+    {
+        self.calls.clear();
+        self.next.fill(0);
+        self.waiting.fill(0);
+        self.begun.fill(false);
+    }
+
+    /// Has the power cut after so many flushes, or not at all.
+    pub(crate) fn arm(&mut self, fuse: Option<u32>)
+        ensures calls { self.new.calls ≡ self.old.calls }
+        ensures room { self.new.room ≡ self.old.room }
+        ensures begun { self.new.begun ≡ self.old.begun }
+        ensures fuse { self.new.fuse ≡ fuse }
+    {
+        self.fuse = fuse;
+    }
+
+    /// Whether an act may be made: it is no flush, or not the one at which the power is cut.
+    pub(crate) fn lets(&self, flush: bool) -> bool
+        ensures { result ≡ may_be_made self.now.fuse flush }
+    {
+        match self.fuse {
+            Some(0) => !flush,
+            _ => true,
+        }
+    }
+
+    /// An act was made: where it was a flush, one fewer is made before the cut.
+    pub(crate) fn burn(&mut self, flush: bool)
+        requires { may_be_made self.old.fuse flush ≡ true }
+        ensures calls { self.new.calls ≡ self.old.calls }
+        ensures room { self.new.room ≡ self.old.room }
+        ensures begun { self.new.begun ≡ self.old.begun }
+        ensures fuse { self.new.fuse ≡ burnt flush self.old.fuse }
+    {
+        if flush {
+            if let Some(left) = self.fuse {
+                self.fuse = Some(left - 1);
+            }
+        }
     }
 }
 

@@ -1,33 +1,84 @@
 //! Runs.
+ghost use Rattle.std.specs.Prelude.{◌≡◌, ◌≤◌, None, Some};
+ghost use Rattle.bz_layout.specs.Addresses.{words_of};
 ghost use Rattle.bz_script.specs.RunLaws.{IsPlan};
-ghost use Rattle.bz_sched.specs.Runs.{IsReady, HasRun};
+ghost use Rattle.bz_sched.specs.Plans.{RunsBy, RunsByInPart};
+ghost use Rattle.bz_sched.specs.Runs.{IsReady, EndsBy, IsCutPlan, HasRun};
 
 use crate::alone::run_alone;
+use crate::cut::{CutPlan, cut_off};
 use crate::draws::run_turns;
 use crate::list::run_list;
 use crate::queue::Queue;
+use crate::turn::{Stop, Turned};
 use bz_script::Plan;
 use bz_world::{Which, World};
 
-/// How a run ended.
+/// How a run, or power on, ended.
 #[derive(Clone, Copy, Debug, PartialEq, Eq)]
 pub enum RunEnd {
-    /// The plan is done.
+    /// The plan is done, or the recovery has ended.
     Finished,
+
+    /// The power was cut where a cut was armed.
+    Cut,
 
     /// A limit of the journal was met, and one more was needed.
     Limit(Which),
 }
 
-/// Runs the calls that wait, and those that are open, by a plan.
-pub fn run(world: &mut World, queue: &mut Queue, plan: &Plan) -> RunEnd
+// Takes the turns of a plan.
+fn run_plan(world: &mut World, queue: &mut Queue, plan: &Plan) -> Turned
     requires plan { IsPlan plan.now }
     requires ready { IsReady world.old queue.old }
-    ensures { HasRun plan.now world.old queue.old result world.new queue.new }
+    ensures { EndsBy (RunsBy (words_of world.old.config) plan.now) (λ why. RunsByInPart why (words_of world.old.config) plan.now) world.old queue.old result world.new queue.new }
 {
     match plan {
         Plan::Alone => run_alone(world, queue),
         Plan::List(turns) => run_list(world, queue, turns.turns()),
         Plan::Turns(seed) => run_turns(world, queue, *seed),
+    }
+}
+
+// Runs with no cut armed.
+fn run_unarmed(world: &mut World, queue: &mut Queue, plan: &Plan) -> RunEnd
+    requires plan { IsPlan plan.now }
+    requires ready { IsReady world.old queue.old }
+    ensures { HasRun None plan.now world.old queue.old result world.new queue.new }
+{
+    queue.arm(None);
+    match run_plan(world, queue, plan) {
+        Turned::Finished => RunEnd::Finished,
+        Turned::Stopped(Stop::Limit(which)) => RunEnd::Limit(which),
+        Turned::Stopped(Stop::Due(_)) => unreachable!(),
+    }
+}
+
+// Runs with a cut armed.
+fn run_armed(world: &mut World, queue: &mut Queue, plan: &Plan, cut: CutPlan) -> RunEnd
+    requires plan { IsPlan plan.now }
+    requires ready { IsReady world.old queue.old }
+    requires cut { 1 ≤ cut.flush }
+    ensures { HasRun (Some cut) plan.now world.old queue.old result world.new queue.new }
+{
+    queue.arm(Some(cut.flush - 1));
+    match run_plan(world, queue, plan) {
+        Turned::Finished => RunEnd::Finished,
+        Turned::Stopped(Stop::Limit(which)) => RunEnd::Limit(which),
+        Turned::Stopped(Stop::Due(_)) => cut_off(world, queue, cut.seed),
+    }
+}
+
+/// Runs the calls that wait, and those that are open, by a plan. Where a cut is armed, the power is cut before that flush of the
+/// run is made, and the calls that wait are dropped; a run that ends before it makes no cut.
+pub fn run(world: &mut World, queue: &mut Queue, plan: &Plan, cut: Option<CutPlan>) -> RunEnd
+    requires plan { IsPlan plan.now }
+    requires ready { IsReady world.old queue.old }
+    requires cut { IsCutPlan cut }
+    ensures { HasRun cut plan.now world.old queue.old result world.new queue.new }
+{
+    match cut {
+        None => run_unarmed(world, queue, plan),
+        Some(cut) => run_armed(world, queue, plan, cut),
     }
 }

@@ -3,15 +3,31 @@ ghost use Rattle.std.specs.Prelude.{◌≡◌, ◌≢◌, ◌<◌, ◌≤◌, �
 ghost use Rattle.bz_sched.specs.Points.{GetsReady, TakesStep, IsTurn};
 ghost use Rattle.bz_sched.specs.Queued.{calls_of, has_open, has_work};
 ghost use Rattle.bz_sched.specs.Runs.{marks_left, IsReady, EndsBy};
-ghost use Rattle.bz_sched.specs.TurnsInPart.{StopsEvent, StopsBy, StopsTurn};
-ghost use Rattle.bz_sched.specs.declared.running.RunEnd.TheVariants.{Finished};
+ghost use Rattle.bz_sched.specs.TurnsInPart.{StopsStep, StopsBy, StopsTurn};
+ghost use Rattle.bz_sched.specs.declared.turn.Turned.TheVariants.{Finished};
 
 use crate::queue::Queue;
-use crate::running::RunEnd;
 use bz_world::{Applied, Begun, Event, Which, World};
 
+/// Why the turns of a run stopped before its plan was done.
+#[derive(Clone, Copy, Debug, PartialEq, Eq)]
+pub(crate) enum Stop {
+    /// The next act of this worker is the flush at which the power is cut.
+    Due(u8),
+
+    /// A limit of the journal was met, and one more was needed.
+    Limit(Which),
+}
+
+/// How the turns of a run, or a part of them, ended.
+#[derive(Clone, Copy, Debug, PartialEq, Eq)]
+pub(crate) enum Turned {
+    Finished,
+    Stopped(Stop),
+}
+
 // Begins the first call that waits for a worker.
-fn begin_next(world: &mut World, queue: &mut Queue, w: u8) -> RunEnd
+fn begin_next(world: &mut World, queue: &mut Queue, w: u8) -> Turned
     requires worker { w < 65 }
     requires ready { IsReady world.old queue.old }
     requires closed { has_open queue.old w ≡ false }
@@ -25,9 +41,9 @@ fn begin_next(world: &mut World, queue: &mut Queue, w: u8) -> RunEnd
         Some(call) => match world.begin(w, call) {
             Begun::Begun(_) => {
                 queue.begin(w);
-                RunEnd::Finished
+                Turned::Finished
             }
-            Begun::Limit(which) => RunEnd::Limit(which),
+            Begun::Limit(which) => Turned::Stopped(Stop::Limit(which)),
             Begun::NoWorker | Begun::Busy | Begun::Off | Begun::Recovering => unreachable!(),
         },
         None => unreachable!(),
@@ -35,7 +51,7 @@ fn begin_next(world: &mut World, queue: &mut Queue, w: u8) -> RunEnd
 }
 
 // Has a call of a worker open: begins the first that waits, if none is.
-fn get_ready(world: &mut World, queue: &mut Queue, w: u8) -> RunEnd
+fn get_ready(world: &mut World, queue: &mut Queue, w: u8) -> Turned
     requires worker { w < 65 }
     requires ready { IsReady world.old queue.old }
     requires busy { has_work queue.old w ≡ true }
@@ -45,33 +61,41 @@ fn get_ready(world: &mut World, queue: &mut Queue, w: u8) -> RunEnd
     ensures left { marks_left world.new ≤ marks_left world.old }
 {
     if queue.has_open(w) {
-        return RunEnd::Finished;
+        return Turned::Finished;
     }
     begin_next(world, queue, w)
 }
 
 // Takes the next step of a worker's open call.
-fn step(world: &mut World, queue: &mut Queue, w: u8) -> RunEnd
+fn step(world: &mut World, queue: &mut Queue, w: u8) -> Turned
     requires worker { w < 65 }
     requires ready { IsReady world.old queue.old }
     requires open { has_open queue.old w ≡ true }
-    ensures ends { EndsBy (TakesStep w) StopsEvent world.old queue.old result world.new queue.new }
+    ensures ends { EndsBy (TakesStep w) (λ why. StopsStep why w) world.old queue.old result world.new queue.new }
     ensures others { (v : ℕ) → v ≢ w → has_work queue.new v ≡ has_work queue.old v }
     ensures left { result ≡ Finished → marks_left world.new < marks_left world.old }
 {
+    let flush = world.flush_next(w);
+    if !queue.lets(flush) {
+        return Turned::Stopped(Stop::Due(w));
+    }
     match world.apply(Event::Step(w)) {
-        Applied::Stepped => RunEnd::Finished,
-        Applied::Ended(_) => {
-            queue.end(w);
-            RunEnd::Finished
+        Applied::Stepped => {
+            queue.burn(flush);
+            Turned::Finished
         }
-        Applied::Limit => RunEnd::Limit(Which::Marks),
+        Applied::Ended(_) => {
+            queue.burn(flush);
+            queue.end(w);
+            Turned::Finished
+        }
+        Applied::Limit => Turned::Stopped(Stop::Limit(Which::Marks)),
         _ => unreachable!(),
     }
 }
 
 /// Takes a turn of a worker that has something to do.
-pub(crate) fn take_turn(world: &mut World, queue: &mut Queue, w: u8) -> RunEnd
+pub(crate) fn take_turn(world: &mut World, queue: &mut Queue, w: u8) -> Turned
     requires worker { w < 65 }
     requires ready { IsReady world.old queue.old }
     requires busy { has_work queue.old w ≡ true }
@@ -80,7 +104,7 @@ pub(crate) fn take_turn(world: &mut World, queue: &mut Queue, w: u8) -> RunEnd
     ensures left { result ≡ Finished → marks_left world.new < marks_left world.old }
 {
     match get_ready(world, queue, w) {
-        RunEnd::Finished => step(world, queue, w),
-        RunEnd::Limit(which) => RunEnd::Limit(which),
+        Turned::Finished => step(world, queue, w),
+        Turned::Stopped(why) => Turned::Stopped(why),
     }
 }

@@ -8,8 +8,8 @@ loop-world-init c = some_none c.args.w c.args.world.now c.args.queue.now c.requi
 pub loop-world-preserved : goal.loop-world-preserved
 loop-world-preserved c = some_more c.args.w c.args.world.now c.args.queue.now c.loop-world.world c.loop-world.queue _ _ c.loop-world.invariant c.in-Finished.ensures.ends
 
-pub returns-in-Limit : goal.returns-in-Limit
-returns-in-Limit c = one_stops c.args.w c.args.world.now c.args.queue.now c.loop-world.world c.loop-world.queue c.in-Limit.which _ _ c.loop-world.invariant c.in-Limit.ensures.ends
+pub returns-in-Stopped : goal.returns-in-Stopped
+returns-in-Stopped c = one_stops c.args.w c.args.world.now c.args.queue.now c.loop-world.world c.loop-world.queue c.in-Stopped.why _ _ c.loop-world.invariant c.in-Stopped.ensures.ends
 
 pub returns : goal.returns
 returns c = one_ends c.args.w c.args.world.now c.args.queue.now c.loop-world.world c.loop-world.queue (sym c.loop-world-test.ensures) c.loop-world.invariant

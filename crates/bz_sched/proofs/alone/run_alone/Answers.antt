@@ -8,8 +8,8 @@ loop-w-init c = ending_none c.args.world.now c.args.queue.now c.requires.ready
 pub loop-w-preserved : goal.loop-w-preserved
 loop-w-preserved c = ending_more c.loop-w.w c.args.world.now c.args.queue.now c.loop-w.world c.loop-w.queue _ _ c.loop-w-test.true c.loop-w.invariant c.in-Finished.ensures
 
-pub returns-in-Limit : goal.returns-in-Limit
-returns-in-Limit c = ending_stops c.loop-w.w c.args.world.now c.args.queue.now c.loop-w.world c.loop-w.queue c.in-Limit.which _ _ c.loop-w-test.true c.loop-w.invariant c.in-Limit.ensures
+pub returns-in-Stopped : goal.returns-in-Stopped
+returns-in-Stopped c = ending_stops c.loop-w.w c.args.world.now c.args.queue.now c.loop-w.world c.loop-w.queue c.in-Stopped.why _ _ c.loop-w-test.true c.loop-w.invariant c.in-Stopped.ensures
 
 pub returns : goal.returns
 returns c = ending_done c.loop-w.w c.args.world.now c.args.queue.now c.loop-w.world c.loop-w.queue (omega (arith, c.loop-w-test.false)) c.loop-w.invariant

@@ -12,11 +12,11 @@ loop-busy-preserved c =
       listed = c.in-Finished.ensures.busy;
     }
 
-pub returns-in-Limit : goal.returns-in-Limit
-returns-in-Limit c =
+pub returns-in-Stopped : goal.returns-in-Stopped
+returns-in-Stopped c =
     let some = some_busy c.loop-busy.world c.loop-busy.queue c.loop-busy.busy.items c.loop-busy.invariant.drawing.keeps.ready c.loop-busy.invariant.listed (sym c.is_empty.ensures ∙ c.loop-busy-test.true) in
-    drawing_stops (words_of c.args.world.now.config) c.args.seed c.loop-busy.state c.args.world.now c.args.queue.now c.loop-busy.world c.loop-busy.queue c.in-Limit.which c.run_round.new.world c.run_round.new.queue
-    c.loop-busy.invariant.drawing some c.in-Limit.ensures.ends
+    drawing_stops (words_of c.args.world.now.config) c.args.seed c.loop-busy.state c.args.world.now c.args.queue.now c.loop-busy.world c.loop-busy.queue c.in-Stopped.why c.run_round.new.world c.run_round.new.queue
+    c.loop-busy.invariant.drawing some c.in-Stopped.ensures.ends
 
 pub returns : goal.returns
 returns c =

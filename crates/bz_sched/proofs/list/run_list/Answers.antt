@@ -14,8 +14,8 @@ take_word-requires-clause-ready c = c.loop-turn.invariant.keeps.ready
 pub loop-turn-preserved : goal.loop-turn-preserved
 loop-turn-preserved c = listing_more c.args.turns.now c.loop-turn.turn-index _ c.args.world.now c.args.queue.now c.loop-turn.world c.loop-turn.queue _ _ c.loop-turn-test.true (word_is c.args.turns.now c.loop-turn.turn-index _ c.loop-turn-test.true) c.loop-turn.invariant c.in-Finished.ensures
 
-pub returns-in-Limit : goal.returns-in-Limit
-returns-in-Limit c = listing_stops c.args.turns.now c.loop-turn.turn-index _ c.args.world.now c.args.queue.now c.loop-turn.world c.loop-turn.queue c.in-Limit.which _ _ c.loop-turn-test.true (word_is c.args.turns.now c.loop-turn.turn-index _ c.loop-turn-test.true) c.loop-turn.invariant c.in-Limit.ensures
+pub returns-in-Stopped : goal.returns-in-Stopped
+returns-in-Stopped c = listing_stops c.args.turns.now c.loop-turn.turn-index _ c.args.world.now c.args.queue.now c.loop-turn.world c.loop-turn.queue c.in-Stopped.why _ _ c.loop-turn-test.true (word_is c.args.turns.now c.loop-turn.turn-index _ c.loop-turn-test.true) c.loop-turn.invariant c.in-Stopped.ensures
 
 pub returns : goal.returns
 returns c = listing_done c.args.turns.now c.loop-turn.turn-index c.args.world.now c.args.queue.now c.loop-turn.world c.loop-turn.queue (omega (arith, c.loop-turn-test.false)) c.loop-turn.invariant

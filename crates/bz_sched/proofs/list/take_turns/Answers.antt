@@ -15,8 +15,8 @@ pub returns-then-not-has_work : goal.returns-then-not-has_work
 returns-then-not-has_work c =
     taking_idle c.args.w c.loop-taken._taken c.args.count c.args.world.now c.args.queue.now c.loop-taken.world c.loop-taken.queue c.loop-taken.auto._taken-end (sym c.if-not-has_work.ensures) c.loop-taken.invariant
 
-pub returns-in-Limit : goal.returns-in-Limit
-returns-in-Limit c = word_stops c.args.w c.loop-taken._taken c.args.count c.args.world.now c.args.queue.now c.loop-taken.world c.loop-taken.queue c.in-Limit.which _ _ c.loop-taken-test.true c.loop-taken.invariant c.in-Limit.ensures.ends
+pub returns-in-Stopped : goal.returns-in-Stopped
+returns-in-Stopped c = word_stops c.args.w c.loop-taken._taken c.args.count c.args.world.now c.args.queue.now c.loop-taken.world c.loop-taken.queue c.in-Stopped.why _ _ c.loop-taken-test.true c.loop-taken.invariant c.in-Stopped.ensures.ends
 
 pub returns : goal.returns
 returns c = taking_all c.args.w c.loop-taken._taken c.args.count c.args.world.now c.args.queue.now c.loop-taken.world c.loop-taken.queue (omega (arith, c.loop-taken-test.false, c.loop-taken.auto._taken-end)) c.loop-taken.invariant

@@ -23,6 +23,7 @@ returns-in-Begun-clause-ends c =
       calls = c.begin-in-Begun.ensures.calls;
       room = c.begin-in-Begun.ensures.room;
       begun = c.begin-in-Begun.ensures.begun;
+      fuse = c.begin-in-Begun.ensures.fuse;
     })
 
 pub returns-in-Begun-clause-others : goal.returns-in-Begun-clause-others

@@ -1,9 +1,9 @@
 use Rattle.bz_sched.proofs.TurnLemmas.{turn_stops, turn_ends}
 use Rattle.bz_sched.proofs.turn.take_turn.Goals as goal
 
-pub returns-in-Limit-clause-ends : goal.returns-in-Limit-clause-ends
-returns-in-Limit-clause-ends c =
-    turn_stops c.args.world.now c.args.queue.now c.args.w c.in-Limit.which _ _ c.requires.ready c.requires.busy c.in-Limit.ensures.ends
+pub returns-in-Stopped-clause-ends : goal.returns-in-Stopped-clause-ends
+returns-in-Stopped-clause-ends c =
+    turn_stops c.args.world.now c.args.queue.now c.args.w c.in-Stopped.why _ _ c.requires.ready c.requires.busy c.in-Stopped.ensures.ends
 
 pub returns-in-Finished-clause-ends : goal.returns-in-Finished-clause-ends
 returns-in-Finished-clause-ends c =

@@ -1,0 +1,73 @@
+-- The cut of the power.
+use Rattle.std.proofs.Common.{◌≡◌, ◌≢◌, ◌≤◌, ◌<◌, ◌⊎◌, inl, inr, ℕ, Bool, true, false, [], refl, sym, subst, ◌∙◌, arith, Option, Some, None}
+use Rattle.std.specs.Prelude.{if◌then◌else◌, MatchOption}
+use Rattle.std.proofs.lemmas.Bool.Decides.{nat_tests}
+use Rattle.bz_layout.specs.Addresses.{words_of}
+use Rattle.bz_layout.specs.Config.{IsConfig}
+use Rattle.bz_sound.specs.declared.power.Power.TheVariants as power
+use Rattle.bz_world.specs.Lab.{Lab, power_in, is_short, cut_refusal, after_cut, IsApplied}
+use Rattle.bz_world.specs.declared.answers.Applied.{Applied}
+use Rattle.bz_world.specs.declared.answers.Applied.TheVariants as applied
+use Rattle.bz_world.specs.declared.answers.Event.TheVariants as event
+use Rattle.bz_world.specs.declared.answers.Which.TheVariants as which
+use Rattle.bz_sched.specs.Cutting.{Evolves, HasNoPlace, AreEvicted, EvictionsStopped, IsCutOff}
+use Rattle.bz_sched.specs.Queued.{Queued, has_open}
+use Rattle.bz_sched.specs.Runs.{marks_left, IsSteady}
+use Rattle.bz_sched.specs.declared.running.RunEnd.TheVariants as end
+use Rattle.bz_sched.proofs.EvictionLemmas.{not_off}
+
+-- the power was cut
+pub record WasCut (old new : Lab) : Type 0 where
+  pub room : is_short old.log ≡ false
+  pub is : new ≡ after_cut old
+
+abbrev by_cut : Bool → Option Applied
+by_cut short = if short then Some applied.Limit else None
+
+cut_refusal_is : (lab : Lab) → power_in lab ≢ power.Off → cut_refusal lab ≡ by_cut (is_short lab.log)
+cut_refusal_is lab powered = rw (not_off (power_in lab) powered) refl
+
+cut_cases : (short : Bool) (old : Lab) (answer : Applied) (new : Lab) → is_short old.log ≡ short
+    → MatchOption (by_cut short) ((answer ≡ applied.Cut) × (new ≡ after_cut old)) (λ refusal. (answer ≡ refusal) × (new ≡ old)) → ((answer ≡ applied.Limit) × HasNoPlace old new) ⊎ ((answer ≡ applied.Cut) × WasCut old new)
+cut_cases true old answer new is (e, same) = inl (e, record { short = is; same = same })
+cut_cases false old answer new is (e, same) = inr (e, record { room = is; is = same })
+
+-- the answer is one of two
+pub cut_made : (old : Lab) (answer : Applied) (new : Lab) → power_in old ≢ power.Off → IsApplied old event.Cut answer new → ((answer ≡ applied.Limit) × HasNoPlace old new) ⊎ ((answer ≡ applied.Cut) × WasCut old new)
+cut_made old answer new powered h = cut_cases (is_short old.log) old answer new refl (rw (cut_refusal_is old powered) at h)
+
+pub limit_met : (old : Lab) → is_short old.log ≡ true → marks_left old < 3
+limit_met old short = grind (arith, nat_tests, short)
+
+-- the power stays as it is while words are evicted
+pub still_powered : (old mid : Lab) → Evolves old mid → power_in old ≢ power.Off → power_in mid ≢ power.Off
+still_powered old mid e powered off = powered (sym e.power ∙ off)
+
+-- no eviction was left a place, and the cut was left none
+pub eviction_stops : (seed : ℕ) (old new : Lab) (queued : Queued) → EvictionsStopped (words_of old.config) seed old new → IsCutOff seed old queued (end.Limit which.Marks) new queued
+eviction_stops seed old new queued h = (h.evolves.stays, refl, (inl h.evicts, refl), h.met)
+
+pub cut_stops : (seed : ℕ) (old mid new : Lab) (queued : Queued) → AreEvicted (words_of old.config) seed old mid → HasNoPlace mid new → IsCutOff seed old queued (end.Limit which.Marks) new queued
+cut_stops seed old mid new queued h none = rw none.same (h.evolves.stays, refl, (inr h.evicts, refl), limit_met mid none.short)
+
+closed_steady : (world : Lab) (left : Queued) → IsConfig world.config → left.calls ≡ [] → ((w : ℕ) → has_open left w ≡ false) → IsSteady (after_cut world) left
+closed_steady world left config empty closed = record {
+  config = config;
+  calls = rw empty tt;
+  begun = λ w. closed w;
+  openers = λ w is. let opposed : false ≡ true = sym (closed w) ∙ is in absurd (cc opposed);
+  steady = λ recovering. absurd (cc recovering);
+}
+
+-- the power was cut, and the calls were dropped
+pub cut_is_made : (seed : ℕ) (old mid new : Lab) (queued left : Queued) → IsConfig old.config → AreEvicted (words_of old.config) seed old mid → WasCut mid new
+    → left.calls ≡ [] → queued.room ≤ left.room → ((w : ℕ) → has_open left w ≡ false) → IsCutOff seed old queued end.Cut new left
+cut_is_made seed old mid new queued left config h cut empty room closed = rw cut.is (
+  record {
+    stays = record { config = h.evolves.stays.config; start = h.evolves.stays.start; limits = h.evolves.stays.limits };
+    steady = closed_steady mid left (subst IsConfig (sym h.evolves.stays.config) config) empty closed;
+    room = room;
+  },
+  refl,
+  (mid.log.past, h.evicts, rw empty refl),
+)

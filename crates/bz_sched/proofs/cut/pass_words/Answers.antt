@@ -1,0 +1,30 @@
+use Rattle.std.proofs.Common.{refl, ap, ◌∙◌, arith}
+use Rattle.bz_layout.specs.Addresses.{words_of}
+use Rattle.bz_sched.proofs.PassLemmas.{passing_none, passing_more, passing_stops, passing_done, still_on, word_within}
+use Rattle.bz_sched.proofs.cut.pass_words.Goals as goal
+
+pub loop-a-init : goal.loop-a-init
+loop-a-init c = passing_none (words_of c.args.world.now.config) c.args.seed c.args.world.now
+
+pub pass_word-requires-clause-config : goal.pass_word-requires-clause-config
+pass_word-requires-clause-config c = rw c.loop-a.invariant.evolves.stays.config c.requires.config
+
+pub pass_word-requires-clause-in_range : goal.pass_word-requires-clause-in_range
+pass_word-requires-clause-in_range c = rw c.loop-a.invariant.evolves.stays.config (word_within c.loop-a.a c.words-words.result _ c.loop-a-test.true (c.words-words.ensures ∙ ap words_of c.config.ensures.config))
+
+pub pass_word-requires-clause-powered : goal.pass_word-requires-clause-powered
+pass_word-requires-clause-powered c = still_on c.args.world.now c.loop-a.world c.loop-a.invariant.evolves c.requires.powered
+
+pub returns-then-not-pass_word-clause-stopped : goal.returns-then-not-pass_word-clause-stopped
+returns-then-not-pass_word-clause-stopped c = λ is.
+    passing_stops (words_of c.args.world.now.config) c.args.seed c.loop-a.a c.loop-a.state c.args.world.now c.loop-a.world c.loop-a.invariant _ (word_within c.loop-a.a c.words-words.result _ c.loop-a-test.true (c.words-words.ensures ∙ ap words_of c.config.ensures.config))
+    (c.if-not-pass_word.ensures.stopped refl)
+
+pub loop-a-preserved : goal.loop-a-preserved
+loop-a-preserved c =
+    passing_more (words_of c.args.world.now.config) c.args.seed c.loop-a.a c.loop-a.state c.args.world.now c.loop-a.world c.loop-a.invariant _ _ (word_within c.loop-a.a c.words-words.result _ c.loop-a-test.true (c.words-words.ensures ∙ ap words_of c.config.ensures.config))
+    (c.pass_word.ensures.passed c.if-not-pass_word.false) (c.pass_word.ensures.state c.if-not-pass_word.false)
+
+pub returns-clause-passed : goal.returns-clause-passed
+returns-clause-passed c = λ is.
+    passing_done (words_of c.args.world.now.config) c.args.seed c.loop-a.a c.loop-a.state c.args.world.now c.loop-a.world c.loop-a.invariant (rw (← (c.words-words.ensures ∙ ap words_of c.config.ensures.config)) (omega (arith, c.loop-a-test.false)))

@@ -1,0 +1,70 @@
+-- Power on, and the recovery that follows. The newest mark stands first.
+use Rattle.std.specs.Prelude.{◌≡◌, ℕ, zero, suc, ◌+◌, List, ◌∷◌, ◌⊎◌, Option, Some, None}
+use Rattle.bz_mark.specs.declared.marks.Mark.{Mark}
+use Rattle.bz_mark.specs.declared.marks.Mark.TheVariants.{Cut, On, Ready}
+use Rattle.bz_sound.specs.Power.Times.{power_of}
+use Rattle.bz_sound.specs.declared.power.Power.{Power}
+use Rattle.bz_sound.specs.declared.power.Power.TheVariants as power
+use Rattle.bz_world.specs.declared.answers.Which.{Which}
+use Rattle.bz_world.specs.declared.answers.Which.TheVariants as which
+use Rattle.bz_sched.specs.Cuts.{CutsOff, CutsOffInPart}
+use Rattle.bz_sched.specs.Points.{Point, actor, flushes_of}
+use Rattle.bz_sched.specs.Plans.{IsBefore}
+use Rattle.bz_sched.specs.declared.cut.CutPlan.{CutPlan}
+
+-- the power is cut where it is on, without evictions; the calls that wait stay
+abbrev pub off_by : Power → List Mark → List Mark
+off_by power.On past = Cut ∷ past
+off_by other past = past
+
+abbrev pub turned_off : List Mark → List Mark
+turned_off past = off_by (power_of power.On past) past
+
+-- then it comes on
+abbrev pub turned_on : List Mark → List Mark
+turned_on past = On ∷ turned_off past
+
+-- an act of the recovery
+pub record Recovers (old new : List Mark) : Type 0 where
+  pub act : Mark
+  pub own : actor act ≡ Some 0
+  pub is : new ≡ act ∷ old
+
+-- so many of them
+abbrev pub RecoversTimes : ℕ → List Mark → List Mark → Type 0
+RecoversTimes zero old new = new ≡ old
+RecoversTimes (suc count) old new = (mid : List Mark) × Recovers old mid × RecoversTimes count mid new
+
+-- a whole recovery: its last act is followed by a Ready
+abbrev pub RecoversWhole : List Mark → List Mark → Type 0
+RecoversWhole old new = (count : ℕ) × (mid : List Mark) × (last : List Mark) × RecoversTimes count old mid × Recovers mid last × (new ≡ Ready ∷ last)
+
+-- power on, to the end of the recovery
+abbrev pub Powers : Option CutPlan → Point → Point → Type 0
+Powers cut old new = RecoversWhole (turned_on old.past) new.past × IsBefore cut (turned_on old.past) new.past × (new.queue ≡ old.queue)
+
+-- up to the flush at which the power is cut
+pub record IsDueInRecovery (cut : CutPlan) (old mid : Point) : Type 0 where
+  pub count : ℕ
+  pub recovers : RecoversTimes count (turned_on old.past) mid.past
+  pub flushes : flushes_of mid.past + 1 ≡ flushes_of (turned_on old.past) + cut.flush
+  pub queue : mid.queue ≡ old.queue
+
+-- the cut was made
+abbrev pub PowersCut : List ℕ → ℕ → Option CutPlan → Point → Point → Type 0
+PowersCut start words None old new = ⊥
+PowersCut start words (Some cut) old new = (mid : Point) × IsDueInRecovery cut old mid × CutsOff start words cut.seed mid new
+
+abbrev pub CutInRecoveryInPart : List ℕ → ℕ → Option CutPlan → Point → Point → Type 0
+CutInRecoveryInPart start words None old new = ⊥
+CutInRecoveryInPart start words (Some cut) old new = (mid : Point) × IsDueInRecovery cut old mid × CutsOffInPart start words cut.seed mid new
+
+-- the limit on marks forbade what was to come: the cut of the power that is on, power on, an act of the recovery, or what
+-- belongs to the armed cut
+abbrev pub PowersInPart : Which → List ℕ → ℕ → Option CutPlan → Point → Point → Type 0
+PowersInPart why start words cut old new =
+    (why ≡ which.Marks)
+    × (((new.past ≡ old.past) × (new.queue ≡ old.queue))
+    ⊎ (((new.past ≡ turned_off old.past) × (new.queue ≡ old.queue))
+    ⊎ (((count : ℕ) × RecoversTimes count (turned_on old.past) new.past × IsBefore cut (turned_on old.past) new.past × (new.queue ≡ old.queue))
+    ⊎ CutInRecoveryInPart start words cut old new)))

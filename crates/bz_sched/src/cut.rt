@@ -1,0 +1,108 @@
+//! Cutting the power where a cut is armed.
+ghost use Rattle.std.specs.Prelude.{◌≡◌, ◌≢◌, ◌<◌, true, false};
+ghost use Rattle.bz_layout.specs.Addresses.{words_of};
+ghost use Rattle.bz_layout.specs.Config.{IsConfig};
+ghost use Rattle.bz_sound.specs.declared.power.Power.TheVariants.{Off};
+ghost use Rattle.bz_world.specs.Lab.{power_in};
+ghost use Rattle.bz_sched.specs.Cuts.{differs_at, state_behind};
+ghost use Rattle.bz_sched.specs.Cutting.{WordEvicted, HasNoPlace, WordPassed, PassStopped, WordsPassed, PassesStopped, AreEvicted, EvictionsStopped, IsCutOff};
+
+use crate::queue::Queue;
+use crate::running::RunEnd;
+use bz_script::next_draw;
+use bz_world::{Applied, Event, Which, World};
+
+/// A cut of the power in a run, or in a recovery.
+#[derive(Clone, Copy, Debug, PartialEq, Eq)]
+pub struct CutPlan {
+    /// The flush before which the power is cut, counted from 1.
+    pub flush: u32,
+
+    /// Where it is not 0, words that are not durable yet are evicted by the draws from it.
+    pub seed: u64,
+}
+
+/// A word is evicted where its draw is at least this: half of the draws.
+pub const EVICTED_FROM: u32 = 2_147_483_648;
+
+/// Has a word become durable by itself, and tells whether a place was left in the journal for that.
+pub(crate) fn evict_word(world: &mut World, a: u32) -> bool
+    requires config { IsConfig world.old.config }
+    requires in_range { a < words_of world.old.config }
+    requires powered { power_in world.old ≢ Off }
+    ensures evicted { result ≡ true → WordEvicted world.old a world.new }
+    ensures refused { result ≡ false → HasNoPlace world.old world.new }
+{
+    match world.apply(Event::Evict(a)) {
+        Applied::Evicted => true,
+        Applied::Limit => false,
+        _ => unreachable!(),
+    }
+}
+
+// Passes a word: draws for it where it differs, and has it evicted where the draw says so.
+fn pass_word(world: &mut World, a: u32, state: &mut u64) -> bool
+    requires config { IsConfig world.old.config }
+    requires in_range { a < words_of world.old.config }
+    requires powered { power_in world.old ≢ Off }
+    ensures passed { result ≡ true → WordPassed a state.old world.old world.new }
+    ensures state { result ≡ true → state.new ≡ state_behind (differs_at world.old.log.start world.old.log.past a) state.old }
+    ensures stopped { result ≡ false → PassStopped a state.old world.old world.new }
+{
+    if !world.differs(a) {
+        return true;
+    }
+    if next_draw(state) < EVICTED_FROM {
+        return true;
+    }
+    evict_word(world, a)
+}
+
+// Passes all words, by the draws from a seed.
+fn pass_words(world: &mut World, seed: u64) -> bool
+    requires config { IsConfig world.old.config }
+    requires powered { power_in world.old ≢ Off }
+    ensures passed { result ≡ true → WordsPassed (words_of world.old.config) seed world.old world.new }
+    ensures stopped { result ≡ false → PassesStopped (words_of world.old.config) seed world.old world.new }
+{
+    let words = world.config().words();
+    let mut state = seed;
+    for a in 0..words {
+        if !pass_word(world, a, &mut state) {
+            return false;
+        }
+    }
+    true
+}
+
+// Has the words evicted that the draws from a seed name, and none where it is 0.
+fn evict_drawn(world: &mut World, seed: u64) -> bool
+    requires config { IsConfig world.old.config }
+    requires powered { power_in world.old ≢ Off }
+    ensures evicted { result ≡ true → AreEvicted (words_of world.old.config) seed world.old world.new }
+    ensures stopped { result ≡ false → EvictionsStopped (words_of world.old.config) seed world.old world.new }
+{
+    if seed == 0 {
+        return true;
+    }
+    pass_words(world, seed)
+}
+
+/// Cuts the power, after the evictions by the draws from a seed where it is not 0, and drops the calls that wait.
+pub(crate) fn cut_off(world: &mut World, queue: &mut Queue, seed: u64) -> RunEnd
+    requires config { IsConfig world.old.config }
+    requires powered { power_in world.old ≢ Off }
+    ensures { IsCutOff seed world.old queue.old result world.new queue.new }
+{
+    if !evict_drawn(world, seed) {
+        return RunEnd::Limit(Which::Marks);
+    }
+    match world.apply(Event::Cut) {
+        Applied::Cut => {
+            queue.clear();
+            RunEnd::Cut
+        }
+        Applied::Limit => RunEnd::Limit(Which::Marks),
+        _ => unreachable!(),
+    }
+}
