@@ -1,100 +1,162 @@
 -- A world that has followed some items of a script, and one item more.
-use Rattle.std.proofs.Common.{◌≡◌, ◌≤◌, ◌<◌, inl, inr, ℕ, zero, suc, ◌+◌, false, List, [], ◌∷◌, ◌++◌, length, get_or, drop, refl, sym, ap, subst, ◌∙◌, arith}
+use Rattle.std.proofs.Common.{◌≡◌, ◌≤◌, ◌<◌, inl, inr, ℕ, zero, suc, ◌+◌, Bool, true, false, List, [], ◌∷◌, length, get_or, drop, refl, sym, ap, subst, ◌∙◌, arith, Option, Some, None}
+use Rattle.std.specs.Prelude.{is_some, not}
 use Rattle.std.proofs.lemmas.Grind.{common_steps}
 use Rattle.std.proofs.lemmas.List.{drop_more}
-use Rattle.bz_call.specs.declared.calls.Call.{Call}
 use Rattle.bz_layout.specs.Addresses.{words_of}
 use Rattle.bz_layout.specs.Config.{IsConfig}
 use Rattle.bz_layout.specs.declared.config.Config.{Config}
 use Rattle.bz_mark.specs.declared.marks.Mark.{Mark}
 use Rattle.bz_script.specs.ItemLaws.{IsItem, AreItems}
+use Rattle.bz_script.specs.Order.{at_first as first_standing, may_stand, after, AreInOrder}
 use Rattle.bz_script.specs.declared.item.Item.{Item}
-use Rattle.bz_script.specs.declared.item.Item.TheVariants.{Queue, Run}
-use Rattle.bz_script.specs.declared.item.Plan.{Plan}
-use Rattle.bz_sched.specs.Plans.{LeadsTo, LeadsToInPart, RunsBy, RunsByInPart}
+use Rattle.bz_script.specs.declared.item.Item.TheVariants.{Queue, Arm, Run, Power}
+use Rattle.bz_sound.specs.declared.power.Power.TheVariants as power
+use Rattle.bz_sched.specs.Points.{Point}
 use Rattle.bz_sched.specs.Queued.{Queued, has_open}
-use Rattle.bz_sched.specs.ReadyLaws.{ready_at_first, ready_when_queued}
-use Rattle.bz_sched.specs.Runs.{point_of, IsReady, HasRun}
-use Rattle.bz_sched.specs.declared.running.RunEnd.TheVariants.{Finished, Limit}
-use Rattle.bz_world.specs.Lab.{Lab}
+use Rattle.bz_sched.specs.ReadyLaws.{ready_at_first, steady_when_ready}
+use Rattle.bz_sched.specs.Runs.{point_of, IsSteady, Stays, IsCutPlan}
+use Rattle.bz_sched.specs.Scripts.{LeadsTo, LeadsToInPart}
+use Rattle.bz_sched.specs.declared.cut.CutPlan.{CutPlan}
+use Rattle.bz_world.specs.Lab.{Lab, power_in}
 use Rattle.bz_world.specs.declared.answers.Which.{Which}
 use Rattle.bz_top.specs.Endings.{at_first}
-use Rattle.bz_top.specs.Items.{GoesOn, IsLed, IsLedInPart}
+use Rattle.bz_top.specs.Items.{IsReadyFor, Leads, LeadsInPart, LeavesPower, IsDoneItem, IsStoppedItem, IsLed, IsLedInPart}
 
--- so many items are done, and what the others lead to is what all of them lead to
-pub record Staged (items : List Item) (i : ℕ) (old world : Lab) (queued : Queued) : Type 0 where
-  pub on : GoesOn old world
-  pub ready : IsReady world queued
-  pub room : length items ≤ queued.room + i
-  pub follows : (new : List Mark) → LeadsTo (words_of old.config) (point_of world queued) (drop i items) new → LeadsTo (words_of old.config) at_first items new
-  pub in_part : (why : Which) (new : List Mark) → LeadsToInPart why (words_of old.config) (point_of world queued) (drop i items) new → LeadsToInPart why (words_of old.config) at_first items new
+-- so many items are done, and what the others lead to is what all of them lead to. These may stand where they do, with the cut
+-- that is armed, if one is, and whether one was used up; and where none was, so that a run may follow, the power is on.
+pub record Staged (items : List Item) (i : ℕ) (armed : Option CutPlan) (old world : Lab) (queue : Queued) : Type 0 where
+  pub on : Stays old world
+  pub steady : IsSteady world queue
+  pub room : length items ≤ queue.room + i
+  pub used : Bool
+  pub order : AreInOrder (record { armed = is_some armed; used = used }) (drop i items)
+  pub powered : used ≡ false → power_in world ≡ power.On
+  pub cut : IsCutPlan armed
+  pub follows : (new : List Mark) → LeadsTo old.log.start (words_of old.config) armed (point_of world queue) (drop i items) new → LeadsTo old.log.start (words_of old.config) None at_first items new
+  pub in_part : (why : Which) (new : List Mark) → LeadsToInPart why old.log.start (words_of old.config) armed (point_of world queue) (drop i items) new → LeadsToInPart why old.log.start (words_of old.config) None at_first items new
 
 pub item_at : (items : List Item) (i : ℕ) (item : Item) → AreItems items → i < length items → item ≡ get_or items i item → IsItem item
 item_at [] i item all lt is = absurd (omega arith)
 item_at (x ∷ items) zero item all lt is = rw is all.0
 item_at (x ∷ items) (suc i) item all lt is = item_at items i item all.1 (omega arith) is
 
--- the item at a place, by what it is
-pub at_item : (items : List Item) (i : ℕ) (item other : Item) → item ≡ get_or items i item → item ≡ other → other ≡ get_or items i other
-at_item items i item other is same = subst (λ (x : Item). x ≡ get_or items i x) same is
+here_is : (items : List Item) (i : ℕ) (item : Item) → i < length items → item ≡ get_or items i item → drop i items ≡ item ∷ drop (i + 1) items
+here_is items i item lt is = drop_more items i item lt ∙ ap (λ (x : Item). x ∷ drop (i + 1) items) (sym is)
 
 -- nothing is done yet
-pub staged_none : (items : List Item) (old : Lab) (queued : Queued) → old.log.past ≡ [] → IsConfig old.config → queued.calls ≡ [] → ((w : ℕ) → has_open queued w ≡ false) → queued.room ≡ length items
-    → Staged items 0 old old queued
-staged_none items old queued new config empty closed fits = record {
-  on = record { config = refl; start = refl; limits = refl };
-  ready = ready_at_first old queued config new empty closed;
-  room = omega (arith, fits);
-  follows = λ marks h. rw (new, empty) at h;
-  in_part = λ why marks h. rw (new, empty) at h;
-}
-
--- a call is queued
-pub staged_queue : (items : List Item) (i : ℕ) (old world : Lab) (queued more : Queued) (w : ℕ) (call : Call) → Staged items i old world queued → i < length items → Queue w call ≡ get_or items i (Queue w call)
-    → old.config.workers ≡ 64 → IsItem (Queue w call) → more.calls ≡ queued.calls ++ (w, call) ∷ [] → more.room + 1 ≡ queued.room → more.begun ≡ queued.begun → Staged items (i + 1) old world more
-staged_queue items i old world queued more w call s lt is workers item calls fits same =
-    let here : drop i items ≡ Queue w call ∷ drop (i + 1) items = drop_more items i (Queue w call) lt ∙ ap (λ (x : Item). x ∷ drop (i + 1) items) (sym is) in
-    let many : world.config.workers ≡ 64 = ap (λ (c : Config). c.workers) s.on.config ∙ workers in
+pub staged_none : (items : List Item) (old : Lab) (queue : Queued) → old.log.past ≡ [] → IsConfig old.config → queue.calls ≡ [] → ((w : ℕ) → has_open queue w ≡ false) → queue.room ≡ length items → AreInOrder first_standing items
+    → Staged items 0 None old old queue
+staged_none items old queue new config empty closed fits order =
+    let ready = ready_at_first old queue config new empty closed in
     record {
-      on = s.on;
-      ready = ready_when_queued world queued more w call s.ready (record { some = omega (arith, item.0); in_range = omega (arith, item.1, many) }) calls same;
-      room = omega (arith, s.room, fits);
-      follows = λ new h. s.follows new (rw here (rw calls at h));
-      in_part = λ why new h. s.in_part why new (rw here (rw calls at h));
+      on = record { config = refl; start = refl; limits = refl };
+      steady = steady_when_ready old queue ready;
+      room = omega (arith, fits);
+      used = false;
+      order = order;
+      powered = λ free. ready.powered;
+      cut = tt;
+      follows = λ marks h. rw (new, empty) at h;
+      in_part = λ why marks h. rw (new, empty) at h;
     }
 
-goes_on : (old mid new : Lab) → GoesOn old mid → new.config ≡ mid.config → new.log.start ≡ mid.log.start → new.log.limits ≡ mid.log.limits → GoesOn old new
-goes_on old mid new on config start limits = record { config = config ∙ on.config; start = start ∙ on.start; limits = limits ∙ on.limits }
+-- the item may be done now
+not_used : (used : Bool) → not used ≡ true → used ≡ false
+not_used true h = absurd (cc h)
+not_used false h = refl
 
--- a run is done
-pub staged_run : (items : List Item) (i : ℕ) (old world new : Lab) (queued left : Queued) (plan : Plan) → Staged items i old world queued → i < length items → Run plan ≡ get_or items i (Run plan)
-    → HasRun plan world queued Finished new left → Staged items (i + 1) old new left
-staged_run items i old world new queued left plan s lt is ran =
-    let here : drop i items ≡ Run plan ∷ drop (i + 1) items = drop_more items i (Run plan) lt ∙ ap (λ (x : Item). x ∷ drop (i + 1) items) (sym is) in
-    let run : RunsBy (words_of old.config) plan (point_of world queued) (point_of new left) = rw s.on.config at ran.1 in
-    record {
-      on = goes_on old world new s.on ran.0.config ran.0.start ran.0.limits;
-      ready = ran.0.ready;
-      room = omega (arith, s.room, ran.0.room);
-      follows = λ marks h. s.follows marks (rw here (point_of new left, run, h));
-      in_part = λ why marks h. s.in_part why marks (rw here (inr (point_of new left, run, h)));
-    }
+ready_by : (world : Lab) (armed used : Bool) (item : Item) → IsItem item → may_stand (record { armed = armed; used = used }) item ≡ true → (used ≡ false → power_in world ≡ power.On) → IsReadyFor world item
+ready_by world armed used (Queue w call) is may powered = is
+ready_by world armed used (Arm flush seed) is may powered = is
+ready_by world armed used (Run plan) is may powered = (is, powered (not_used used may))
+ready_by world armed used Power is may powered = tt
 
--- a run meets a limit
-pub staged_met : (items : List Item) (i : ℕ) (old world new : Lab) (queued left : Queued) (plan : Plan) (why : Which) → Staged items i old world queued → i < length items → Run plan ≡ get_or items i (Run plan)
-    → HasRun plan world queued (Limit why) new left → IsLedInPart old items why new
-staged_met items i old world new queued left plan why s lt is ran =
-    let here : drop i items ≡ Run plan ∷ drop (i + 1) items = drop_more items i (Run plan) lt ∙ ap (λ (x : Item). x ∷ drop (i + 1) items) (sym is) in
-    let run : RunsByInPart why (words_of old.config) plan (point_of world queued) (point_of new left) = rw s.on.config at ran.1 in
-    record {
-      on = goes_on old world new s.on ran.0.config ran.0.start ran.0.limits;
-      follows = s.in_part why new.log.past (rw here (inl (point_of new left, run, refl)));
-      met = ran.2;
-      unbroken = ran.0.ready.unbroken;
-    }
+pub staged_ready : (items : List Item) (i : ℕ) (item : Item) (armed : Option CutPlan) (old world : Lab) (queue : Queued) → Staged items i armed old world queue → AreItems items → i < length items → item ≡ get_or items i item → IsReadyFor world item
+staged_ready items i item armed old world queue s all lt is =
+    let order : AreInOrder (record { armed = is_some armed; used = s.used }) (item ∷ drop (i + 1) items) = subst (AreInOrder (record { armed = is_some armed; used = s.used })) (here_is items i item lt is) s.order in
+    ready_by world (is_some armed) s.used item (item_at items i item all lt is) order.0 s.powered
+
+-- whether a cut was used up after an item, and what follows may stand where it does
+abbrev used_then : Bool → Option CutPlan → Item → Bool
+used_then used armed (Queue w call) = used
+used_then used armed (Arm flush seed) = used
+used_then used armed (Run plan) = is_some armed
+used_then used armed Power = is_some armed
+
+order_then : (start : List ℕ) (words : ℕ) (armed next : Option CutPlan) (used : Bool) (p q : Point) (item : Item) (items : List Item) → Leads start words armed p item next q
+    → AreInOrder (after (record { armed = is_some armed; used = used }) item) items → AreInOrder (record { armed = is_some next; used = used_then used armed item }) items
+order_then start words armed next used p q (Queue w call) items leads order = rw leads.0 order
+order_then start words armed next used p q (Arm flush seed) items leads order = rw leads.0 order
+order_then start words armed next used p q (Run plan) items leads order = rw leads.0 order
+order_then start words armed next used p q Power items leads order = rw leads.0 order
+
+none_armed : (armed : Option CutPlan) → is_some armed ≡ false → armed ≡ None
+none_armed None is = refl
+none_armed (Some cut) is = absurd (cc is)
+
+powered_then : (armed : Option CutPlan) (used : Bool) (old new : Lab) (item : Item) → LeavesPower armed old item new → (used ≡ false → power_in old ≡ power.On) → used_then used armed item ≡ false → power_in new ≡ power.On
+powered_then armed used old new (Queue w call) leaves powered free = leaves ∙ powered free
+powered_then armed used old new (Arm flush seed) leaves powered free = leaves ∙ powered free
+powered_then armed used old new (Run plan) leaves powered free = leaves (none_armed armed free)
+powered_then armed used old new Power leaves powered free = leaves (none_armed armed free)
+
+-- an item, and then those behind it
+then_leads : (start : List ℕ) (words : ℕ) (armed next : Option CutPlan) (p q : Point) (item : Item) (items : List Item) (new : List Mark) → Leads start words armed p item next q → LeadsTo start words next q items new → LeadsTo start words armed p (item ∷ items) new
+then_leads start words armed next p q (Queue w call) items new leads rest = rw (leads.0, leads.1) at rest
+then_leads start words armed next p q (Arm flush seed) items new leads rest = rw (leads.0, leads.1) at rest
+then_leads start words armed next p q (Run plan) items new leads rest = (q, leads.1, rw leads.0 at rest)
+then_leads start words armed next p q Power items new leads rest = (q, leads.1, rw leads.0 at rest)
+
+then_in_part : (why : Which) (start : List ℕ) (words : ℕ) (armed next : Option CutPlan) (p q : Point) (item : Item) (items : List Item) (new : List Mark) → Leads start words armed p item next q → LeadsToInPart why start words next q items new
+    → LeadsToInPart why start words armed p (item ∷ items) new
+then_in_part why start words armed next p q (Queue w call) items new leads rest = rw (leads.0, leads.1) at rest
+then_in_part why start words armed next p q (Arm flush seed) items new leads rest = rw (leads.0, leads.1) at rest
+then_in_part why start words armed next p q (Run plan) items new leads rest = inr (q, leads.1, rw leads.0 at rest)
+then_in_part why start words armed next p q Power items new leads rest = inr (q, leads.1, rw leads.0 at rest)
+
+here_in_part : (why : Which) (start : List ℕ) (words : ℕ) (armed : Option CutPlan) (p q : Point) (item : Item) (items : List Item) → LeadsInPart why start words armed p item q → LeadsToInPart why start words armed p (item ∷ items) q.past
+here_in_part why start words armed p q (Queue w call) items stops = absurd stops
+here_in_part why start words armed p q (Arm flush seed) items stops = absurd stops
+here_in_part why start words armed p q (Run plan) items stops = inl (q, stops, refl)
+here_in_part why start words armed p q Power items stops = inl (q, stops, refl)
+
+module _ (items : List Item) (i : ℕ) (item : Item) (armed : Option CutPlan) (old world : Lab) (queue : Queued) (s : Staged items i armed old world queue) (lt : i < length items) (is : item ≡ get_or items i item) where
+  -- an item more is done
+  pub staged_more : (next : Option CutPlan) (new : Lab) (left : Queued) → IsDoneItem armed world queue item next new left → Staged items (i + 1) next old new left
+  staged_more next new left d =
+      let here = here_is items i item lt is in
+      let order : AreInOrder (record { armed = is_some armed; used = s.used }) (item ∷ drop (i + 1) items) = subst (AreInOrder (record { armed = is_some armed; used = s.used })) here s.order in
+      let leads : Leads old.log.start (words_of old.config) armed (point_of world queue) item next (point_of new left) =
+      subst (λ (start : List ℕ). Leads start (words_of old.config) armed (point_of world queue) item next (point_of new left)) s.on.start
+      (subst (λ (c : Config). Leads world.log.start (words_of c) armed (point_of world queue) item next (point_of new left)) s.on.config d.leads) in
+      record {
+        on = record { config = d.stays.config ∙ s.on.config; start = d.stays.start ∙ s.on.start; limits = d.stays.limits ∙ s.on.limits };
+        steady = d.steady;
+        room = omega (arith, s.room, d.room);
+        used = used_then s.used armed item;
+        order = order_then _ _ armed next s.used _ _ item (drop (i + 1) items) leads order.1;
+        powered = powered_then armed s.used world new item d.power s.powered;
+        cut = d.cut;
+        follows = λ marks rest. s.follows marks (rw here (then_leads _ _ armed next _ _ item (drop (i + 1) items) marks leads rest));
+        in_part = λ why marks rest. s.in_part why marks (rw here (then_in_part why _ _ armed next _ _ item (drop (i + 1) items) marks leads rest));
+      }
+
+  -- it meets a limit
+  pub staged_met : (why : Which) (new : Lab) (left : Queued) → IsStoppedItem why armed world queue item new left → IsLedInPart old items why new
+  staged_met why new left d =
+      let here = here_is items i item lt is in
+      let leads : LeadsInPart why old.log.start (words_of old.config) armed (point_of world queue) item (point_of new left) =
+      subst (λ (start : List ℕ). LeadsInPart why start (words_of old.config) armed (point_of world queue) item (point_of new left)) s.on.start
+      (subst (λ (c : Config). LeadsInPart why world.log.start (words_of c) armed (point_of world queue) item (point_of new left)) s.on.config d.leads) in
+      record {
+        on = record { config = d.stays.config ∙ s.on.config; start = d.stays.start ∙ s.on.start; limits = d.stays.limits ∙ s.on.limits };
+        follows = s.in_part why new.log.past (rw here (here_in_part why _ _ armed _ (point_of new left) item (drop (i + 1) items) leads));
+        met = d.met;
+      }
 
 -- all items are done
-pub staged_done : (items : List Item) (i : ℕ) (old world : Lab) (queued : Queued) → Staged items i old world queued → length items ≤ i → IsLed old items world
-staged_done items i old world queued s all =
+pub staged_done : (items : List Item) (i : ℕ) (armed : Option CutPlan) (old world : Lab) (queue : Queued) → Staged items i armed old world queue → length items ≤ i → IsLed old items world
+staged_done items i armed old world queue s all =
     let none : drop i items ≡ [] = grind (arith, common_steps) in
-    record { on = s.on; follows = s.follows world.log.past (rw none refl); unbroken = s.ready.unbroken }
+    record { on = s.on; follows = s.follows world.log.past (rw none refl) }

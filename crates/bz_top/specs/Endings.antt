@@ -5,7 +5,8 @@ use Rattle.bz_io.specs.Faults.{Rose}
 use Rattle.bz_io.specs.Transfers.{IsReadWhole, GaveCount, GrewByFront}
 use Rattle.bz_layout.specs.Addresses.{words_of}
 use Rattle.bz_layout.specs.Fresh.{fresh_words}
-use Rattle.bz_sound.specs.Memory.Sound.{IsSound}
+use Rattle.bz_sound.specs.Power.Sound.{IsSound}
+use Rattle.bz_sound.specs.declared.power.Power.TheVariants.{On}
 use Rattle.bz_script.specs.Script.{Job, script_of}
 use Rattle.bz_script.specs.declared.fault.ScriptRule.{ScriptRule}
 use Rattle.bz_script.specs.declared.read.TheConstants.{SCRIPT_BYTES}
@@ -13,7 +14,7 @@ use Rattle.bz_world.specs.Lab.{Lab}
 use Rattle.bz_world.specs.declared.answers.Which.{Which}
 use Rattle.bz_sched.specs.Runs.{IsAtLimit}
 use Rattle.bz_sched.specs.Points.{Point}
-use Rattle.bz_sched.specs.Plans.{LeadsTo, LeadsToInPart}
+use Rattle.bz_sched.specs.Scripts.{LeadsTo, LeadsToInPart}
 use Rattle.bz_gen.specs.Workload.{workload_of}
 use Rattle.bz_text.specs.Report.{report_of}
 use Rattle.bz_text.specs.Summary.{summary_of}
@@ -67,12 +68,12 @@ pub record Asks (o : Outside) (line : CommandLine) (script : Job) : Type 0 where
   pub has_script : HasScript o line.command script
 
 -- the lab is a world of this script: its journal begins with fresh memory, has this limit on marks and the fixed other ones,
--- and is sound
+-- and is sound, with the power on at first
 pub record IsLab (marks : ℕ) (script : Job) (world : Lab) : Type 0 where
   pub config : world.config ≡ config_of marks script.nodes script.swaps
   pub start : world.log.start ≡ fresh_words world.config
   pub limits : world.log.limits ≡ record { marks = world.config.marks; calls = world.config.calls; pages = world.config.pages }
-  pub sound : IsSound world.config world.log
+  pub sound : IsSound world.config On world.log
 
 -- the point at which nothing has happened and no call waits
 abbrev pub at_first : Point
@@ -81,13 +82,13 @@ at_first = record { past = []; queue = [] }
 -- a run that is done: a world of the script, with a sound journal to which the whole script leads
 pub record IsFinished (marks : ℕ) (script : Job) (world : Lab) : Type 0 where
   pub right : IsLab marks script world
-  pub follows : LeadsTo (words_of world.config) at_first script.items world.log.past
+  pub follows : LeadsTo world.log.start (words_of world.config) None at_first script.items world.log.past
 
 -- a run that met a limit when one more was needed: a world of the script, with a sound journal to which the
 -- script leads up to there
 pub record IsCutShort (marks : ℕ) (script : Job) (world : Lab) (which : Which) : Type 0 where
   pub right : IsLab marks script world
-  pub follows : LeadsToInPart which (words_of world.config) at_first script.items world.log.past
+  pub follows : LeadsToInPart which world.log.start (words_of world.config) None at_first script.items world.log.past
   pub met : IsAtLimit world which
 
 -- a world of the script, as the script has led to it: to its end, or up to a limit
@@ -96,12 +97,12 @@ IsLedTo marks script world = IsFinished marks script world ⊎ ((which : Which) 
 
 -- what a command prints of a world in which its script was run to its end: its report, or its summary
 abbrev pub printed : Command → Lab → List ℕ
-printed Run world = report_of world.log
+printed Run world = report_of world.config world.log
 printed (Work seed calls workers) world = summary_of world.config calls workers world.log
 
 -- what it prints of one that met a limit, before the fault line
 abbrev pub printed_before : Command → Lab → List ℕ
-printed_before Run world = report_of world.log
+printed_before Run world = report_of world.config world.log
 printed_before (Work seed calls workers) world = []
 
 -- done: what the command prints of the world is written

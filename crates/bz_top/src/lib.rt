@@ -10,6 +10,8 @@ pub use gates::{Gate, NoGate};
 pub use program::{Outcome, top};
 
 #[cfg(test)]
+mod power_tests;
+#[cfg(test)]
 mod tests;
 #[cfg(test)]
 mod workload_tests;

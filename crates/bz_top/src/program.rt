@@ -1,14 +1,15 @@
 //! The top call.
 ghost use Rattle.std.specs.Prelude.{◌≡◌, ◌≤◌, ◌++◌, [], ℕ, length, map, Some, None, false, codes};
 ghost use Rattle.bz_layout.specs.declared.limits.TheConstants.{MIN_MARKS, MAX_MARKS, MIN_WORKERS, MAX_WORKERS as MOST_WORKERS};
+ghost use Rattle.bz_judge.specs.Held.{IsImageOf};
 ghost use Rattle.bz_layout.specs.Fresh.{fresh_words};
 ghost use Rattle.bz_gen.specs.Workload.{workload_of};
 ghost use Rattle.bz_gen.specs.declared.workload.TheConstants.{MOST_CALLS};
 ghost use Rattle.bz_world.specs.Lab.{new_lab};
 ghost use Rattle.bz_sched.specs.Queued.{has_open};
 ghost use Rattle.bz_top.specs.Commands.{config_of};
-ghost use Rattle.bz_sound.specs.Memory.Sound.{IsSound};
-ghost use Rattle.bz_sound.specs.Power.Laws.{IsUnbroken};
+ghost use Rattle.bz_sound.specs.Power.Sound.{IsSound};
+ghost use Rattle.bz_sound.specs.declared.power.Power.TheVariants.{On};
 ghost use Rattle.bz_script.specs.Script.{job_of};
 ghost use Rattle.bz_script.specs.ItemLaws.{IsJob};
 ghost use Rattle.bz_text.specs.Report.{report_of};
@@ -26,7 +27,7 @@ use bz_gen::laws::workloads_are_jobs;
 use bz_io::{Failed, ReadFault, Sink, Source, read_all, write_all};
 use bz_layout::{Config, MAX_CALLS, MAX_PAGES, MAX_WORKERS};
 use bz_memory::Memory;
-use bz_sched::{Queue, RunEnd};
+use bz_sched::Queue;
 use bz_script::{SCRIPT_BYTES, Script, ScriptFault, ScriptRule, read_script};
 use bz_text::{TextError, write_report, write_summary};
 use bz_words::{Command, CommandLine, WordsError, read_words};
@@ -77,8 +78,8 @@ fn run_world<K: Sink>(
         result.status result.lab }
 {
     match run_items(&mut world, &mut queue, script.items.items()) {
-        RunEnd::Finished => print(alloc, line.command, world, sink),
-        RunEnd::Limit(which) => print_limit(alloc, line.command, world, which, sink),
+        None => print(alloc, line.command, world, sink),
+        Some(which) => print_limit(alloc, line.command, world, which, sink),
     }
 }
 
@@ -131,15 +132,26 @@ fn give_up<K: Sink>(world: World, sink: &mut K) -> Outcome
     Outcome { status, lab }
 }
 
+/// The journal of a world over fresh memory goes on from a well-formed image. The call does nothing.
+fn starts_with_an_image(world: &World)
+    requires { world.now.log.start ≡ fresh_words world.now.config }
+    ensures { IsImageOf world.now.config world.now.log.start }
+{
+    fresh_memory_is_empty();
+    let _config = world.config();
+    let _journal = world.journal();
+}
+
 /// Writes the report of a run that is done.
 fn report<K: Sink>(alloc: Global, world: World, sink: &mut K) -> Outcome
-    requires unbroken { IsUnbroken world.log.past }
+    requires fresh { world.log.start ≡ fresh_words world.config }
     ensures lab { result.lab ≡ Some world }
-    ensures sound { IsSound world.config world.log }
+    ensures sound { IsSound world.config On world.log }
     ensures wrote { SaysOrWants
         (sunk (K.held sink.old) (K.held sink.new) (K.faults sink.old) (K.faults sink.new))
-        0 (report_of world.log) result.status }
+        0 (report_of world.config world.log) result.status }
 {
+    starts_with_an_image(&world);
     match write_report(alloc, world.journal(), sink) {
         Ok(()) => Outcome {
             status: 0,
@@ -155,13 +167,14 @@ fn report<K: Sink>(alloc: Global, world: World, sink: &mut K) -> Outcome
 
 /// Writes the report of a run that met a limit, and then its fault line.
 fn report_limit<K: Sink>(alloc: Global, world: World, which: Which, sink: &mut K) -> Outcome
-    requires unbroken { IsUnbroken world.log.past }
+    requires fresh { world.log.start ≡ fresh_words world.config }
     ensures lab { result.lab ≡ Some world }
-    ensures sound { IsSound world.config world.log }
+    ensures sound { IsSound world.config On world.log }
     ensures wrote { SaysOrWants
         (sunk (K.held sink.old) (K.held sink.new) (K.faults sink.old) (K.faults sink.new))
-        5 (report_of world.log ++ fault_line (limit_text which)) result.status }
+        5 (report_of world.config world.log ++ fault_line (limit_text which)) result.status }
 {
+    starts_with_an_image(&world);
     match write_report(alloc, world.journal(), sink) {
         Ok(()) => {
             let status = written(sink, limit_line(which), 5);
@@ -186,10 +199,9 @@ fn summarize<K: Sink>(
     world: World,
     sink: &mut K,
 ) -> Outcome
-    requires unbroken { IsUnbroken world.log.past }
     requires fresh { world.log.start ≡ fresh_words world.config }
     ensures lab { result.lab ≡ Some world }
-    ensures sound { IsSound world.config world.log }
+    ensures sound { IsSound world.config On world.log }
     ensures wrote { SaysOrWants
         (sunk (K.held sink.old) (K.held sink.new) (K.faults sink.old) (K.faults sink.new))
         0 (summary_of world.config calls workers world.log) result.status }
@@ -211,10 +223,9 @@ fn summarize<K: Sink>(
 
 /// Writes what a command prints of a run that is done.
 fn print<K: Sink>(alloc: Global, command: Command, world: World, sink: &mut K) -> Outcome
-    requires unbroken { IsUnbroken world.log.past }
     requires fresh { world.log.start ≡ fresh_words world.config }
     ensures lab { result.lab ≡ Some world }
-    ensures sound { IsSound world.config world.log }
+    ensures sound { IsSound world.config On world.log }
     ensures wrote { SaysOrWants
         (sunk (K.held sink.old) (K.held sink.new) (K.faults sink.old) (K.faults sink.new))
         0 (printed command world) result.status }
@@ -231,9 +242,8 @@ fn print<K: Sink>(alloc: Global, command: Command, world: World, sink: &mut K) -
 
 /// Writes the fault line of a limit alone.
 fn tell_limit<K: Sink>(world: World, which: Which, sink: &mut K) -> Outcome
-    requires unbroken { IsUnbroken world.log.past }
     ensures lab { result.lab ≡ Some world }
-    ensures sound { IsSound world.config world.log }
+    ensures sound { IsSound world.config On world.log }
     ensures wrote { SaysOrWants
         (sunk (K.held sink.old) (K.held sink.new) (K.faults sink.old) (K.faults sink.new))
         5 (fault_line (limit_text which)) result.status }
@@ -254,9 +264,9 @@ fn print_limit<K: Sink>(
     which: Which,
     sink: &mut K,
 ) -> Outcome
-    requires unbroken { IsUnbroken world.log.past }
+    requires fresh { world.log.start ≡ fresh_words world.config }
     ensures lab { result.lab ≡ Some world }
-    ensures sound { IsSound world.config world.log }
+    ensures sound { IsSound world.config On world.log }
     ensures wrote { SaysOrWants
         (sunk (K.held sink.old) (K.held sink.new) (K.faults sink.old) (K.faults sink.new))
         5 (printed_before command world ++ fault_line (limit_text which)) result.status }
