@@ -111,7 +111,10 @@ fn a_faulty_input_is_refused_by_name(rt: HostRuntime) -> Result<(), Fail> {
             "memory 16 64\nrun threads\n",
             "fault: line 2: unknown word\n",
         ),
-        ("memory 16 64\ncut 1 0\n", "fault: line 2: unknown word\n"),
+        (
+            "memory 16 64\ncut 1 0\ncut 1 0\n",
+            "fault: line 3: wrong order\n",
+        ),
         (
             "memory 16 64\nw 1 rename a b\n",
             "fault: line 2: unknown word\n",
