@@ -11,11 +11,12 @@ use Rattle.bz_swap.specs.Power.{after_cut}
 use Rattle.bz_swap.specs.SwapMemory.{idle}
 use Rattle.bz_swap.specs.Inside.Parts.{Parts, idle_worker, working, seen}
 use Rattle.bz_swap.specs.Inside.Kept.{IsKept, RecoversAt}
+use Rattle.bz_swap.proofs.Allowing.{allowed-none}
 use Rattle.bz_swap.proofs.Doings.{working-idle}
 
 -- the parts after a cut
 abbrev pub cut_parts : Parts → Parts
-cut_parts p = record { store = with_words p.store (words_after_cut (words_of p.store)); workers = replicate (length p.workers) idle_worker; phase = Recovering; steps = p.steps }
+cut_parts p = record { store = with_words p.store (words_after_cut (words_of p.store)); workers = replicate (length p.workers) idle_worker; phase = Recovering; steps = p.steps; allowance = record p.allowance { all = 0 } }
 
 each-idle : (n w : ℕ) → get_or (replicate n idle_worker) w idle_worker ≡ idle_worker
 each-idle zero w = refl
@@ -44,10 +45,12 @@ cut-kept p k room = record {
   workers = length-replicate (length p.workers) idle_worker ∙ k.workers;
   few = rw (length-replicate (length p.workers) idle_worker) k.few;
   some = rw (length-replicate (length p.workers) idle_worker) k.some;
+  allowed = sym (allowed-none (replicate (length p.workers) idle_worker) (λ w. rw (each-idle (length p.workers) w) idle-place));
   kept = record {
     recoverer = rw (each-idle (length p.workers) 0) (recovers-idle (cut_parts p).store);
     others = λ w some. rw (each-idle (length p.workers) w) idle-place;
     rest = λ w. rw (each-idle (length p.workers) w) idle-nothing;
+    enough = λ ne. absurd (ne (rw (each-idle (length p.workers) 0) idle-place));
   };
 }
 

@@ -82,13 +82,6 @@ rising-apart (e ∷ xs) i zero d rising less within = absurd (omega (arith, less
 rising-apart (e ∷ xs) zero (suc j) d rising less within = All-get_or (λ (x : Entry). e.target < x.target) xs j d (omega (arith, within)) rising.0
 rising-apart (e ∷ xs) (suc i) (suc j) d rising less within = rising-apart xs i j d rising.1 (omega (arith, less)) (omega (arith, within))
 
--- two entries have different targets
-pub targets-differ : (xs : List Entry) (i j : ℕ) (d : Entry) → IsEntryList xs → i < length xs → j < length xs → i ≢ j → (get_or xs i d).target ≢ (get_or xs j d).target
-targets-differ xs i j d is first second other same = elim (cases_lt i j) [
-  | inl less ↦ (let apart = rising-apart xs i j d is.rising less second in omega (arith, apart, same))
-  | inr le ↦ (let apart = rising-apart xs j i d is.rising (omega (arith, le, other)) first in omega (arith, apart, same))
-]
-
 -- an entry list with one more entry is one
 pub list-inserted : (a : Entry) (xs : List Entry) → IsEntryList xs → length xs < 4 → is_target xs a.target ≡ false → IsEntryList (inserted a xs)
 list-inserted a xs is room new = (let n = length-inserted a xs in record {

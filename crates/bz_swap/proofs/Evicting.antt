@@ -1,14 +1,15 @@
 -- An eviction: the parts after it are the machine's state after its event.
-use Rattle.std.specs.Prelude.{◌≡◌, ◌≢◌, ℕ}
+use Rattle.std.specs.Prelude.{◌≡◌, ◌≢◌, ℕ, length}
 use Rattle.std.proofs.Common.{refl, sym, subst}
 use Rattle.std.specs.declared.option.Option.{Option}
 use Rattle.bz_pm.specs.Acts.{evicted}
 use Rattle.bz_machine.specs.declared.worker.Worker.{Worker}
 use Rattle.bz_machine.specs.Machine.{Entries}
+use Rattle.bz_machine.specs.Budgets.{IsBounded, IsAmong}
 use Rattle.bz_machine.specs.Lawful.{AreInRange, MayHold}
 use Rattle.bz_machine.specs.State.{State, IsState, MayHappen, happens}
 use Rattle.bz_machine.specs.Workers.{local_of}
-use Rattle.bz_machine.proofs.EventLaws.{keeps_state, keeps_range}
+use Rattle.bz_machine.proofs.EventLaws.{keeps_state, keeps_range, stays_bounded}
 use Rattle.bz_cells.specs.Store.{Store, Beside, typed, words_of, with_words}
 use Rattle.bz_acts.specs.Ready.{LiesOutside}
 use Rattle.bz_swap.specs.declared.phase.Phase.{Phase}
@@ -17,9 +18,10 @@ use Rattle.bz_swap.specs.declared.role.WordRole.{WordRole}
 use Rattle.bz_swap.specs.declared.role.WordRole.TheVariants.{Outside, Status, Field}
 use Rattle.bz_swap.specs.Inside.Evicted.{IsEvicted, event_of, memory_after}
 use Rattle.bz_swap.specs.Inside.Parts.{Parts, worker_at}
-use Rattle.bz_swap.specs.Inside.Kept.{IsRunning, IsWorker, IsKept, KeptIn, state_of}
+use Rattle.bz_swap.specs.Inside.Kept.{IsRunning, IsWorker, IsEnough, IsKept, KeptIn, state_of}
 use Rattle.bz_swap.proofs.StepLies.{worker-shape}
 use Rattle.bz_swap.proofs.Stepping.{running}
+use Rattle.bz_swap.proofs.StepsLeft.{enough-evicted}
 
 -- the parts with the word at an address durable
 abbrev pub evicted_store : Store → ℕ → Store
@@ -46,6 +48,11 @@ holds-evict x a Outside = tt
 holds-evict x a (Status s) = tt
 holds-evict x a (Field s k) = tt
 
+among-evict : (n a : ℕ) (role : WordRole) → IsAmong n (event_of a role)
+among-evict n a Outside = tt
+among-evict n a (Status s) = tt
+among-evict n a (Field s k) = tt
+
 -- the machine's state after an eviction
 pub eviction-path : (p : Parts) (e : ℕ → Entries) (b : Beside) (a : ℕ) (role : WordRole) → typed (evicted_store p.store a) b ≡ memory_after a role (typed p.store b)
     → state_of (after_eviction p a) e b ≡ happens (state_of p e b) (event_of a role)
@@ -70,6 +77,8 @@ eviction-running p r a told h =
         words = h.readable;
         state = subst IsState (sym path) (keeps_state x (event_of a h.role) (may-evict x a h.role) r.state);
         range = subst AreInRange (sym path) (keeps_range x (event_of a h.role) (holds-evict x a h.role) r.state r.range);
+        bounded = subst (λ (y : State). IsBounded y (length p.workers)) (sym path) (stays_bounded x (length p.workers) (event_of a h.role) (may-evict x a h.role) (among-evict (length p.workers) a h.role) r.bounded);
+        enough = subst (λ (y : State). IsEnough y p.allowance (length p.workers)) (sym path) (enough-evicted x p.allowance (length p.workers) a h.role r.enough);
         lies = λ s i below. lies-kept p.store a ((r.entries s).target i) (r.lies s i below);
         named = r.named;
         owned = λ s begun none. (let o = r.owned s begun none in record { owner = o.owner; operation = o.operation });
@@ -95,5 +104,6 @@ eviction-kept p k a told phase h = record {
   workers = k.workers;
   few = k.few;
   some = k.some;
+  allowed = k.allowed;
   kept = kept-still p.phase p a phase k.kept (eviction-running p (running p.phase p phase k.kept) a told h).running;
 }

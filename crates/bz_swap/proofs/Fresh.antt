@@ -1,20 +1,24 @@
 -- Parts of which nothing was asked yet, on words that need no recovery, are the machine's state at power on.
-use Rattle.std.specs.Prelude.{◌≡◌, ℕ, suc, false, List, [], ◌∷◌, map, length, get_or, slice_index, replicate, None}
+use Rattle.std.specs.Prelude.{◌≡◌, ℕ, ◌≤◌, suc, false, List, [], ◌∷◌, map, length, get_or, slice_index, replicate, None}
 use Rattle.std.proofs.Common.{arith, refl, ap, ◌∙◌, inl, inr}
 use Rattle.std.proofs.lemmas.Bool.{cases_lt}
 use Rattle.std.proofs.lemmas.List.{get_or-replicate, get_or_past, length-replicate}
 use Rattle.bz_machine.specs.declared.place.Place.TheVariants as place
 use Rattle.bz_machine.specs.declared.worker.Operation.TheVariants as operation
 use Rattle.bz_machine.specs.declared.worker.Worker.{Worker}
+use Rattle.bz_machine.specs.Budgets.{IsBounded}
 use Rattle.bz_machine.specs.Changes.{no_entries}
+use Rattle.bz_machine.specs.Sizes.{most_workers}
 use Rattle.bz_machine.specs.State.{IsRenewable, idle, power_on}
 use Rattle.bz_machine.specs.Workers.{local_of}
-use Rattle.bz_machine.proofs.EventLaws.{begins_as_state, begins_in_range}
+use Rattle.bz_machine.proofs.EventLaws.{begins_as_state, begins_in_range, begins_bounded}
 use Rattle.bz_cells.specs.Store.{Store, Beside, HasRoom, IsOutside, typed}
 use Rattle.bz_swap.specs.Power.{AreRecovered}
 use Rattle.bz_swap.specs.SwapMemory.{idle as seen_idle}
 use Rattle.bz_swap.specs.Inside.Parts.{Parts, idle_worker, worker_at, working}
 use Rattle.bz_swap.specs.Inside.Kept.{IsRunning, IsUntouched, IsWorker, state_of}
+use Rattle.bz_swap.proofs.Allowing.{allowed-none}
+use Rattle.bz_swap.proofs.StepsLeft.{enough-idle}
 use Rattle.bz_swap.proofs.Recovered.{fitting, fitting-plain, fitting-kind, same-kinds, free-status, recovered-words}
 
 -- nothing was asked yet, and nothing is kept of what was asked before
@@ -27,6 +31,7 @@ pub record IsFresh (p : Parts) : Type 0 where
   pub missed : (s : ℕ) → get_or p.store.missed s false ≡ false
   pub taken : p.store.taken ≡ 0
   pub workers : (w : ℕ) → worker_at p w ≡ idle_worker
+  pub few : length p.workers ≤ most_workers
 
 -- a list of one value has it everywhere, and past its end too where it is the default
 pub all-same : {A : Type 0} (n i : ℕ) (x : A) → get_or (replicate n x) i x ≡ x
@@ -79,12 +84,15 @@ unfolding fresh_beside
 fresh-running p f =
     let path = fresh-path p f in
     let m = typed p.store fresh_beside in
+    let bounded : IsBounded (state_of p no_entries fresh_beside) (length p.workers) = rw path (begins_bounded m (length p.workers) (fresh-renewable p f) f.few) in
     record {
       entries = no_entries;
       beside = fresh_beside;
       words = record { has_room = f.room; cached = recovered-words p.store.swaps p.store.cached f.cached; durable = recovered-words p.store.swaps p.store.durable f.durable };
       state = rw path (begins_as_state m (fresh-renewable p f));
       range = rw path (begins_in_range m (λ a. (fitting-kind _ (fitting p.store.swaps p.store.cached a f.cached), fitting-kind _ (fitting p.store.swaps p.store.durable a f.durable))));
+      bounded = bounded;
+      enough = enough-idle (state_of p no_entries fresh_beside) p.allowance (length p.workers) bounded (allowed-none p.workers (λ w. fresh-place p w (f.workers w)));
       lies = λ s i below. absurd (omega (arith, below));
       named = λ a. rw f.taken refl;
       owned = λ s begun none. absurd (omega (arith, begun, f.taken));

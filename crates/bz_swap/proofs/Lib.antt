@@ -1,3 +1,5 @@
+pub mod Allowing
+pub mod Alone
 pub mod AtomicAnswers
 pub mod AtomicCalls
 pub mod AtomicStarts
@@ -19,6 +21,7 @@ pub mod Fresh
 pub mod Going
 pub mod HeldWords
 pub mod Listed
+pub mod LoneRuns
 pub mod MaySwaps
 pub mod Opening
 pub mod OwnedStay
@@ -46,6 +49,7 @@ pub mod StepOwners
 pub mod Stepped
 pub mod Stepping
 pub mod StepRuns
+pub mod StepsLeft
 pub mod StillDone
 pub mod SwapKeeps
 pub mod SwapLists

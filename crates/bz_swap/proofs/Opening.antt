@@ -3,6 +3,7 @@ use Rattle.std.specs.Prelude.{◌≡◌, ◌≢◌, ◌↔◌, ℕ, ◌+◌, ◌
 use Rattle.std.proofs.Common.{arith, refl, ap, sym, ◌∙◌}
 use Rattle.std.proofs.lemmas.List.{length-replicate}
 use Rattle.bz_machine.specs.declared.worker.Worker.{Worker}
+use Rattle.bz_layout.specs.declared.limits.TheConstants.{MAX_WORKERS}
 use Rattle.bz_cells.specs.Store.{Store, HasRoom}
 use Rattle.bz_swap.specs.declared.phase.Phase.{Phase}
 use Rattle.bz_swap.specs.declared.phase.Phase.TheVariants.{Opened, Running, Recovering}
@@ -10,6 +11,7 @@ use Rattle.bz_swap.specs.SwapMemory.{idle}
 use Rattle.bz_swap.specs.Power.{AreRecovered, IsOpened, opened}
 use Rattle.bz_swap.specs.Inside.Parts.{Parts, idle_worker, worker_at, working, begun_seen, seen}
 use Rattle.bz_swap.specs.Inside.Kept.{IsKept, KeptIn}
+use Rattle.bz_swap.proofs.Allowing.{allowed-none}
 use Rattle.bz_swap.proofs.Fresh.{all-same, fresh-untouched, fresh-place, idle-operation, all-idle}
 
 -- no swap was begun where none is taken
@@ -25,11 +27,12 @@ opened_parts phase start swaps workers = record {
   workers = replicate (workers + 1) idle_worker;
   phase = phase;
   steps = 0;
+  allowance = record { runner = 0; left = 0; all = 0 };
 }
 
-opened-kept_in : (phase : Phase) (start : List ℕ) (swaps workers : ℕ) → HasRoom (opened_parts phase start swaps workers).store → (phase ≡ Opened → AreRecovered swaps start) → phase ≢ Running
+opened-kept_in : (phase : Phase) (start : List ℕ) (swaps workers : ℕ) → workers ≤ MAX_WORKERS → HasRoom (opened_parts phase start swaps workers).store → (phase ≡ Opened → AreRecovered swaps start) → phase ≢ Running
     → KeptIn phase (opened_parts phase start swaps workers)
-opened-kept_in Opened start swaps workers room recovered not = fresh-untouched (opened_parts Opened start swaps workers) (record {
+opened-kept_in Opened start swaps workers few room recovered not = fresh-untouched (opened_parts Opened start swaps workers) (record {
   room = room;
   same = λ a out. refl;
   cached = recovered refl;
@@ -38,18 +41,20 @@ opened-kept_in Opened start swaps workers room recovered not = fresh-untouched (
   missed = λ s. all-same swaps s false;
   taken = refl;
   workers = λ w. all-same (workers + 1) w idle_worker;
+  few = rw length-replicate (omega (arith, few));
 })
-opened-kept_in Running start swaps workers room recovered not = absurd (not refl)
-opened-kept_in Recovering start swaps workers room recovered not =
+opened-kept_in Running start swaps workers few room recovered not = absurd (not refl)
+opened-kept_in Recovering start swaps workers few room recovered not =
     let p : Parts = opened_parts Recovering start swaps workers in
     let is : (w : ℕ) → worker_at p w ≡ idle_worker = λ w. all-same (workers + 1) w idle_worker in
     record {
       recoverer = rw (fresh-place p 0 (is 0)) tt;
       others = λ w some. fresh-place p w (is w);
       rest = λ w. ap (λ (l : Worker). l.operation) (is w) ∙ idle-operation;
+      enough = λ ne. absurd (ne (fresh-place p 0 (is 0)));
     }
 
-pub opened-kept : (phase : Phase) (start : List ℕ) (swaps workers : ℕ) → 1 ≤ swaps → workers ≤ 64 → HasRoom (opened_parts phase start swaps workers).store → (phase ≡ Opened → AreRecovered swaps start) → phase ≢ Running
+pub opened-kept : (phase : Phase) (start : List ℕ) (swaps workers : ℕ) → 1 ≤ swaps → workers ≤ MAX_WORKERS → HasRoom (opened_parts phase start swaps workers).store → (phase ≡ Opened → AreRecovered swaps start) → phase ≢ Running
     → IsKept (opened_parts phase start swaps workers)
 opened-kept phase start swaps workers some few room recovered not =
     let count : length (replicate (workers + 1) idle_worker) ≡ workers + 1 = length-replicate (workers + 1) idle_worker in
@@ -59,7 +64,8 @@ opened-kept phase start swaps workers some few room recovered not =
       workers = count ∙ sym (length-replicate (workers + 1) 0);
       few = omega (arith, count, few);
       some = omega (arith, count);
-      kept = opened-kept_in phase start swaps workers room recovered not;
+      allowed = sym (allowed-none (replicate (workers + 1) idle_worker) (λ w. fresh-place (opened_parts phase start swaps workers) w (all-same (workers + 1) w idle_worker)));
+      kept = opened-kept_in phase start swaps workers few room recovered not;
     }
 
 pub opened-seen : (phase : Phase) (start : List ℕ) (swaps workers : ℕ) → seen (opened_parts phase start swaps workers) ≡ opened phase start swaps workers

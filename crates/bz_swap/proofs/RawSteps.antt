@@ -1,5 +1,5 @@
 -- A step of worker 0 in a recovery time.
-use Rattle.std.specs.Prelude.{◌≡◌, ◌≢◌, ℕ, ◌<◌, ◌==◌, if◌then◌else◌, Bool, true, false, List, length, slice_index, slice_set, None}
+use Rattle.std.specs.Prelude.{◌≡◌, ◌≢◌, ℕ, ◌<◌, ◌≤◌, ◌==◌, if◌then◌else◌, Bool, true, false, List, length, slice_index, slice_set, None}
 use Rattle.std.proofs.Common.{arith, refl, ap, sym, subst, ◌∙◌, inl, inr}
 use Rattle.std.proofs.lemmas.Bool.{cases_eq, cases_lt}
 use Rattle.std.proofs.lemmas.List.{length-set}
@@ -8,6 +8,7 @@ use Rattle.bz_machine.specs.declared.place.Place.TheVariants as place
 use Rattle.bz_machine.specs.declared.worker.Operation.{Operation}
 use Rattle.bz_machine.specs.declared.worker.Operation.TheVariants as operation
 use Rattle.bz_machine.specs.declared.worker.Worker.{Worker}
+use Rattle.bz_machine.specs.Allowed.{for_worker}
 use Rattle.bz_machine.specs.Flushes.{is_flush}
 use Rattle.bz_cells.specs.Store.{Store, words_of}
 use Rattle.bz_acts.specs.Rule.{IsWithin, after_act, is_flush_act}
@@ -17,15 +18,20 @@ use Rattle.bz_pm.specs.Words.{Words}
 use Rattle.bz_acts.specs.declared.acted.Acted.{Acted}
 use Rattle.bz_swap.specs.declared.phase.Phase.{Phase}
 use Rattle.bz_swap.specs.declared.phase.Phase.TheVariants.{Opened, Running, Recovering}
+use Rattle.bz_swap.specs.Alone.{steps_left}
+use Rattle.bz_swap.specs.Inside.Allowances.{all_after}
 use Rattle.bz_swap.specs.Inside.Raw.{IsAsked, IsRawAct}
 use Rattle.bz_swap.specs.Steps.{IsAnswer, IsRawStep, doing_after}
 use Rattle.bz_swap.specs.SwapMemory.{SwapMemory, Idle, Working, worker_of, doing_of}
 use Rattle.bz_swap.specs.Inside.Parts.{Parts, worker_at, working, doing_at, begun_seen, seen}
 use Rattle.bz_swap.specs.Inside.Kept.{IsRecovering, IsKept, KeptIn, RecoversAt}
+use Rattle.bz_swap.proofs.Alone.{left-seen, left-spent}
+use Rattle.bz_swap.proofs.Allowing.{allowed-some, allowed-stepped}
 use Rattle.bz_swap.proofs.Doings.{worker-seen}
 use Rattle.bz_swap.proofs.SeenActs.{counted}
 use Rattle.bz_swap.proofs.Stepping.{workers-within, busy-place}
 use Rattle.bz_swap.proofs.Stepped.{after_step, same-worker, other-worker}
+use Rattle.bz_swap.proofs.StepsLeft.{least}
 use Rattle.bz_swap.proofs.WorkStarts.{placed}
 
 pub recovering : (p : Parts) → IsKept p → p.phase ≡ Recovering → IsRecovering p
@@ -107,6 +113,7 @@ raw-kept p k w store l acted phase within busy is made =
       workers = length-set p.workers w _ ∙ k.workers ∙ ap (λ (u : Store). length u.next_tags) (sym made.after);
       few = rw (length-set p.workers w (placed l place.Idle)) k.few;
       some = rw (length-set p.workers w (placed l place.Idle)) k.some;
+      allowed = ap (λ n. all_after n place.Idle) k.allowed ∙ sym (allowed-stepped p.workers w (placed l place.Idle) inside (busy-place p w busy));
       kept = subst (λ x. KeptIn x (after_step p w store (placed l place.Idle))) (sym phase) (record {
         recoverer = (let zero = is-zero p r w busy in let same = same-worker p w store (placed l place.Idle) inside in rw (ap (worker_at (after_step p w store (placed l place.Idle))) (sym zero) ∙ same) tt);
         others = λ v some. (let zero = is-zero p r w busy in rw (other-worker p w v store (placed l place.Idle) (omega (arith, some, zero))) (r.others v some));
@@ -114,6 +121,7 @@ raw-kept p k w store l acted phase within busy is made =
           | inl e ↦ rw (e, same-worker p w store (placed l place.Idle) inside) idle
           | inr ne ↦ rw (other-worker p w v store (placed l place.Idle) ne) (r.rest v)
         ];
+        enough = λ ne. absurd (ne (ap (λ v. (worker_at (after_step p w store (placed l place.Idle)) v).place) (sym (is-zero p r w busy)) ∙ ap (λ (u : Worker). u.place) (same-worker p w store (placed l place.Idle) inside)));
       });
     }
 
@@ -132,6 +140,15 @@ none-begun : (phase : Phase) (p : Parts) → phase ≡ Recovering → (st : Stor
 none-begun Recovering p is st q = refl
 none-begun Opened p is st q = absurd cc
 none-begun Running p is st q = absurd cc
+
+-- the worker has a step left
+raw-left : (p : Parts) (k : IsKept p) (w : ℕ) → p.phase ≡ Recovering → w < length p.workers → doing_of (seen p) w ≢ Idle → 0 < steps_left p.allowance.runner p.allowance.left p.allowance.all w
+raw-left p k w phase within busy =
+    let r = recovering p k phase in
+    let at = busy-place p w busy in
+    let left : 0 < p.allowance.left = r.enough (λ idle. at (ap (λ v. (worker_at p v).place) (is-zero p r w busy) ∙ idle)) in
+    let all : for_worker ≤ p.allowance.all = rw k.allowed (allowed-some p.workers w within at) in
+    omega (arith, least 1 p.allowance.runner p.allowance.left p.allowance.all w (omega (arith, all)) (λ _. omega (arith, left)))
 
 pub raw-seen : (p : Parts) (k : IsKept p) (w : ℕ) (store : Store) (l : Worker) (acted : Acted) → p.phase ≡ Recovering → w < length (seen p).workers → doing_of (seen p) w ≢ Idle → l ≡ worker_at p w
     → IsRawAct p.store l.place acted store → IsRawStep (seen p) w acted.act acted.done None (seen (after_step p w store (placed l place.Idle)))
@@ -156,6 +173,7 @@ raw-seen p k w store l acted phase within busy is made =
           workers = λ v ne. worker-seen q v ∙ ap working (other-worker p w v store (placed l place.Idle) ne) ∙ sym (worker-seen p v);
         };
         answer = subst (λ d. IsAnswer (seen q) d acted.act acted.done) (ap (λ (u : Working). u.doing) (sym was)) (asked-answer (seen q) l.place l.operation acted made.asked);
+        spent = left-spent p w store (placed l place.Idle) (left-seen p k w) (raw-left p k w phase (workers-within p w within) busy);
       };
       effect = refl;
       missed = ap (λ (u : Store). u.missed) made.after;

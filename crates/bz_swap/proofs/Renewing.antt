@@ -12,6 +12,7 @@ use Rattle.bz_swap.specs.SwapMemory.{Idle, idle, doing_of}
 use Rattle.bz_swap.specs.Power.{MayRenew, renewed}
 use Rattle.bz_swap.specs.Inside.Parts.{Parts, idle_worker, worker_at, working, doing_at, seen}
 use Rattle.bz_swap.specs.Inside.Kept.{IsKept, KeptIn, RecoversAt}
+use Rattle.bz_swap.proofs.Allowing.{allowed-none}
 use Rattle.bz_swap.proofs.Doings.{worker-seen, idle-place}
 use Rattle.bz_swap.proofs.Fresh.{IsFresh, all-same, fresh-running, fresh-place, all-idle}
 
@@ -42,7 +43,7 @@ abbrev pub clear_store : Store → Store
 clear_store st = record st { next_tags = replicate (length st.next_tags) 0; missed = replicate (length st.missed) false; taken = 0 }
 
 abbrev pub renewed_parts : Parts → Parts
-renewed_parts p = record { store = clear_store p.store; workers = replicate (length p.workers) idle_worker; phase = Running; steps = 0 }
+renewed_parts p = record { store = clear_store p.store; workers = replicate (length p.workers) idle_worker; phase = Running; steps = 0; allowance = record p.allowance { all = 0 } }
 
 clear-room : (st : Store) → HasRoom st → HasRoom (clear_store st)
 clear-room st r = record { memory = r.memory; room = r.room; numbered = r.numbered; noted = length-replicate (length st.missed) false ∙ r.noted; taken = omega arith }
@@ -57,6 +58,7 @@ renewed-fresh p k may = record {
   missed = λ s. all-same (length p.store.missed) s false;
   taken = refl;
   workers = λ w. all-same (length p.workers) w idle_worker;
+  few = rw length-replicate k.few;
 }
 
 pub renewed-kept : (p : Parts) → IsKept p → MayRenew (seen p) → IsKept (renewed_parts p)
@@ -68,6 +70,7 @@ renewed-kept p k may =
       workers = count ∙ k.workers ∙ sym (length-replicate (length p.store.next_tags) 0);
       few = rw count k.few;
       some = rw count k.some;
+      allowed = sym (allowed-none (replicate (length p.workers) idle_worker) (λ w. fresh-place (renewed_parts p) w (all-same (length p.workers) w idle_worker)));
       kept = fresh-running (renewed_parts p) (renewed-fresh p k may);
     }
 

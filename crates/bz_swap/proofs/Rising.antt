@@ -1,16 +1,16 @@
 -- Words that list entries in the rising order of their targets list what a swap may have.
-use Rattle.std.specs.Prelude.{◌≡◌, ◌≢◌, ℕ, ◌+◌, ◌*◌, ◌<◌, List, length, get_or}
+use Rattle.std.specs.Prelude.{◌≡◌, ℕ, ◌+◌, ◌*◌, ◌<◌, List, length, get_or}
 use Rattle.std.proofs.Common.{arith, ap, sym, ◌∙◌}
 use Rattle.bz_word.specs.declared.entry.Entry.{Entry}
 use Rattle.bz_machine.specs.Machine.{entries_in}
 use Rattle.bz_swap.specs.EntryLists.{IsEntryList}
 use Rattle.bz_swap.specs.Inside.Parts.{entry_of, entry_list}
-use Rattle.bz_swap.proofs.EntryLists.{targets-differ}
+use Rattle.bz_swap.proofs.EntryLists.{rising-apart}
 use Rattle.bz_swap.proofs.SwapLists.{Lists}
 use Rattle.bz_swap.proofs.Values.{listed-at, length-listed}
 
 pub lists-rising : (words : ℕ → ℕ) (entries : List Entry) → entry_list (entries_in words) ≡ entries → IsEntryList entries → Lists words entries
-lists-rising words entries list h = record { list = list; some = h.some; few = h.few; apart = apart }
+lists-rising words entries list h = record { list = list; some = h.some; few = h.few; rising = rising }
   where
     default : Entry
     default = entry_of (entries_in words) 0
@@ -25,8 +25,9 @@ lists-rising words entries list h = record { list = list; some = h.some; few = h
         ∙ ap (λ (e : Entry). e.target) (listed-at (entry_of (entries_in words)) 0 (words 0) i default below)
         ∙ ap (λ k. words (1 + 3 * k)) start
 
-    apart : (i j : ℕ) → i < j → j < words 0 → words (1 + 3 * i) ≢ words (1 + 3 * j)
-    apart i j before below same =
-        let first : i < words 0 = omega (arith, before, below) in
-        let other : i ≢ j = omega (arith, before) in
-        targets-differ entries i j default h (omega (arith, first, count)) (omega (arith, below, count)) other (target i first ∙ same ∙ sym (target j below))
+    rising : (i j : ℕ) → i < j → j < words 0 → words (1 + 3 * i) < words (1 + 3 * j)
+    rising i j before below =
+        let one = target i (omega (arith, before, below)) in
+        let other = target j below in
+        let less = rising-apart entries i j default h.rising before (omega (arith, below, count)) in
+        omega (arith, one, other, less)

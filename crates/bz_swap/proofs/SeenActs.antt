@@ -31,6 +31,7 @@ use Rattle.bz_swap.specs.Steps.{IsAnswer, IsStep, doing_after}
 use Rattle.bz_swap.specs.SwapMemory.{SwapMemory, Storing, Working, worker_of}
 use Rattle.bz_swap.specs.Inside.Parts.{Parts, worker_at, listed, entry_list, seen, working, doing_at, doing_operation}
 use Rattle.bz_swap.specs.Inside.Kept.{IsRunning, PlaceLies, state_of}
+use Rattle.bz_swap.proofs.Alone.{left-running, left-spent}
 use Rattle.bz_swap.proofs.Frames.{frame-act}
 use Rattle.bz_swap.proofs.Going.{IsGoing, ReadsAt, Leads, leads-act}
 use Rattle.bz_swap.proofs.Doings.{worker-seen, doing-going, done-idle}
@@ -43,6 +44,7 @@ use Rattle.bz_swap.proofs.Shown.{shows, begun-running, misses-shown}
 use Rattle.bz_swap.proofs.Untouched.{kept-act}
 use Rattle.bz_swap.proofs.Stepped.{Acts, MayStep, after_step, same-worker, other-worker}
 use Rattle.bz_swap.proofs.StepRuns.{step-running}
+use Rattle.bz_swap.proofs.StepsLeft.{step-left}
 use Rattle.bz_swap.proofs.StepLies.{busy-going}
 
 -- the act that was made
@@ -183,6 +185,7 @@ step-seen p r w store l done told may phase a made_act =
           workers = λ v ne. worker-seen q v ∙ ap working (other-worker p w v store l ne) ∙ sym (worker-seen p v);
         };
         answer = subst (λ d. IsAnswer (seen q) d told done) (ap (λ (u : Working). u.doing) (sym was)) answer;
+        spent = left-spent p w store l (left-running p r may.allowed w) (step-left (state_of p r.entries r.beside) p.allowance w (length p.workers) r.bounded r.enough may.allowed may.within may.busy);
       };
       effect = step-effect p r w store l done may phase a;
       misses = misses-shown (seen p) (seen q) r.entries (typed p.store r.beside) after.memory (shows p r phase) (after-shows p r w store l done may phase a) (λ s past. (r.state.sound.not_begun s past).0) atomic.misses;

@@ -4,6 +4,7 @@ use Rattle.std.proofs.Common.{arith, refl, ap, sym, ◌∙◌}
 use Rattle.std.proofs.lemmas.List.{length-set, map-set}
 use Rattle.bz_word.specs.declared.entry.Entry.{Entry}
 use Rattle.bz_machine.specs.declared.descriptor.DescriptorWords.{DescriptorWords}
+use Rattle.bz_machine.specs.Allowed.{for_swap, for_worker}
 use Rattle.bz_machine.specs.Machine.{entries_in}
 use Rattle.bz_swap.specs.declared.phase.Phase.TheVariants.{Running}
 use Rattle.bz_swap.specs.Held.{Holds}
@@ -11,15 +12,18 @@ use Rattle.bz_swap.specs.EntryLists.{IsEntryList}
 use Rattle.bz_swap.specs.Starts.{MaySwap, phase_of, swapping}
 use Rattle.bz_swap.specs.Inside.Parts.{Parts, working, listed, entry_list, begun_seen, seen}
 use Rattle.bz_swap.specs.Inside.Kept.{IsRunning, IsKept}
+use Rattle.bz_swap.proofs.Alone.{left-running}
+use Rattle.bz_swap.proofs.Allowing.{allowed-begun}
 use Rattle.bz_swap.proofs.Begun.{begun_is}
 use Rattle.bz_swap.proofs.Listed.{begun-more}
 use Rattle.bz_swap.proofs.Rising.{lists-rising}
 use Rattle.bz_swap.proofs.Shown.{begun-running}
-use Rattle.bz_swap.proofs.Stepping.{running, step-holds}
+use Rattle.bz_swap.proofs.Stepping.{running, workers-within, step-holds}
 use Rattle.bz_swap.proofs.SwapLists.{entries_from}
 use Rattle.bz_swap.proofs.SwapKeeps.{swap-running}
 use Rattle.bz_swap.proofs.Swapping.{Begins, swapper, with_swap}
 use Rattle.bz_swap.proofs.Taken.{one_taken, room-taken}
+use Rattle.bz_swap.proofs.WorkStarts.{idle-at}
 
 phase-some : (w : ℕ) → 0 < w → Running ≡ phase_of w
 phase-some zero some = absurd (omega (arith, some))
@@ -40,7 +44,8 @@ swap-seen p r w words entries h =
     let begun = begun-swap p r w words entries h in
     let workers = map-set working p.workers w (swapper p.store.taken words) in
     let phase = phase-some w h.may.work.some in
-    λ i. record (seen (with_swap p w words)) { phase = phase i; begun = begun i; workers = workers i }
+    let left = left-running p r h.allowed w in
+    λ i. record (seen (with_swap p w words)) { phase = phase i; begun = begun i; workers = workers i; left = sym left i + for_swap }
 
 -- all that the start owes
 pub record IsBegun (p : Parts) (w : ℕ) (words : DescriptorWords) (entries : List Entry) : Type 0 where
@@ -59,6 +64,7 @@ swap-begun p k w words entries h =
       workers = same ∙ k.workers;
       few = rw same k.few;
       some = rw same k.some;
+      allowed = ap (λ n. n + for_worker) k.allowed ∙ sym (allowed-begun p.workers w (swapper p.store.taken words) (workers-within p w h.may.work.within) (idle-at p r w h.may.work.idle) (λ idle. (let bad = idle in absurd cc)));
       kept = after.running;
     } in
     record { kept = kept; is = swap-seen p r w words entries h; holds = step-holds (with_swap p w words) kept }
@@ -67,4 +73,4 @@ swap-begun p k w words entries h =
 pub swap-started : (p : Parts) (k : IsKept p) (w : ℕ) (words : DescriptorWords) (entries : List Entry) → MaySwap (seen p) w entries
     → entry_list (entries_in (slice_index words.words)) ≡ entries → IsEntryList entries → p.store.taken < p.store.swaps → IsBegun p w words entries
 swap-started p k w words entries may list rising left =
-    swap-begun p k w words entries (record { may = may; lists = lists-rising (slice_index words.words) entries list rising; left = left })
+    swap-begun p k w words entries (record { may = may; lists = lists-rising (slice_index words.words) entries list rising; left = left; allowed = k.allowed })

@@ -1,28 +1,36 @@
 -- An operation of one act, or a read, is started: the parts after it are the machine's state.
-use Rattle.std.specs.Prelude.{◌≡◌, ◌≢◌, ◌⊎◌, ℕ, zero, suc, ◌<◌, length, map, slice_set}
+use Rattle.std.specs.Prelude.{◌≡◌, ◌≢◌, ◌⊎◌, ℕ, zero, suc, ◌+◌, ◌<◌, ◌≤◌, length, map, slice_set}
 use Rattle.std.proofs.Common.{arith, refl, ap, sym, ◌∙◌, inl, inr}
 use Rattle.std.proofs.lemmas.Bool.{cases_eq}
 use Rattle.std.proofs.lemmas.List.{get_or-set_same, get_or-set_other, length-set, map-set}
 use Rattle.bz_machine.specs.declared.place.Place.TheVariants as place
 use Rattle.bz_machine.specs.declared.worker.Operation.TheVariants as operation
 use Rattle.bz_machine.specs.declared.worker.Worker.{Worker}
+use Rattle.bz_machine.specs.Allowed.{for_act, for_worker}
+use Rattle.bz_machine.specs.Budget.{budget}
+use Rattle.bz_machine.specs.Budgets.{IsAmong}
 use Rattle.bz_machine.specs.Lawful.{MayHold}
 use Rattle.bz_machine.specs.State.{State, Event, MayHappen, happens, with_local}
 use Rattle.bz_machine.specs.Workers.{local_of}
-use Rattle.bz_machine.proofs.EventLaws.{keeps_state, keeps_range}
+use Rattle.bz_machine.proofs.EventLaws.{keeps_state, keeps_range, stays_bounded}
 use Rattle.bz_swap.specs.declared.phase.Phase.TheVariants.{Running, Recovering}
 use Rattle.bz_swap.specs.Held.{Holds}
+use Rattle.bz_swap.specs.Alone.{allowed_for}
 use Rattle.bz_swap.specs.Starts.{started, phase_of, begins_by_flush}
 use Rattle.bz_swap.specs.SwapMemory.{Doing}
 use Rattle.bz_swap.specs.Inside.Parts.{Parts, idle_worker, worker_at, working, listed, entry_list, begun_seen, seen}
-use Rattle.bz_swap.specs.Inside.Kept.{IsRunning, IsWorker, IsOwned, IsPrepared, IsKept, state_of}
+use Rattle.bz_swap.specs.Inside.Allowances.{after_start}
+use Rattle.bz_swap.specs.Inside.Kept.{IsRunning, IsWorker, IsOwned, IsPrepared, IsKept, state_of, allowed_at}
+use Rattle.bz_swap.proofs.Alone.{left-running}
+use Rattle.bz_swap.proofs.Allowing.{allowed-begun}
 use Rattle.bz_swap.proofs.Begun.{begun_is}
 use Rattle.bz_swap.proofs.Shown.{begun-running}
 use Rattle.bz_swap.proofs.Stepped.{put-here, put-there}
 use Rattle.bz_swap.proofs.Stepping.{running, step-holds}
+use Rattle.bz_swap.proofs.StepsLeft.{enough-started}
 
 abbrev pub with_worker : Parts → ℕ → Worker → Parts
-with_worker p w l = record p { workers = slice_set p.workers w l; phase = Running }
+with_worker p w l = record p { workers = slice_set p.workers w l; phase = Running; allowance = after_start p.allowance w for_act }
 
 here : (p : Parts) (w : ℕ) (l : Worker) → w < length p.workers → worker_at (with_worker p w l) w ≡ l
 here p w l within = get_or-set_same p.workers w l idle_worker within
@@ -37,8 +45,12 @@ pub record Starts (p : Parts) (r : IsRunning p) (w : ℕ) (l : Worker) (v : Even
   pub idle : (worker_at p w).place ≡ place.Idle
   pub may : MayHappen (state_of p r.entries r.beside) v
   pub hold : MayHold (state_of p r.entries r.beside) v
+  pub among : IsAmong (length p.workers) v
   pub becomes : happens (state_of p r.entries r.beside) v ≡ with_local (state_of p r.entries r.beside) w (local_of l)
   pub worker : IsWorker p.store l
+  pub allowed : p.allowance.all ≡ allowed_at p.workers
+  pub busy : l.place ≢ place.Idle
+  pub adds : budget (happens (state_of p r.entries r.beside) v) w (length p.workers) ≤ budget (state_of p r.entries r.beside) w (length p.workers) + for_act
 
 pub record RunsAfter (p : Parts) (r : IsRunning p) (w : ℕ) (l : Worker) : Type 0 where
   pub running : IsRunning (with_worker p w l)
@@ -63,6 +75,8 @@ start-running p r w l v h =
         words = r.words;
         state = rw path (keeps_state x v h.may r.state);
         range = rw path (keeps_range x v h.hold r.state r.range);
+        bounded = rw (path, length-set p.workers w l) (stays_bounded x (length p.workers) v h.may h.among r.bounded);
+        enough = rw (path, length-set p.workers w l) (enough-started x p.allowance w (length p.workers) for_act v r.bounded r.enough h.allowed h.within h.adds);
         lies = r.lies;
         named = r.named;
         owned = λ s begun none. own s (r.owned s begun none) (cases_eq (r.beside.owner s) w);
@@ -96,15 +110,16 @@ phase-some zero some = absurd (omega (arith, some))
 phase-some (suc w) some = refl
 
 -- what callers see after a start
-pub start-seen : (p : Parts) (r : IsRunning p) (w : ℕ) (l : Worker) (v : Event) (d : Doing) → p.phase ≢ Recovering → Starts p r w l v → working l ≡ record { doing = d; flush_next = begins_by_flush d }
+pub start-seen : (p : Parts) (r : IsRunning p) (w : ℕ) (l : Worker) (v : Event) (d : Doing) → p.phase ≢ Recovering → Starts p r w l v → working l ≡ record { doing = d; flush_next = begins_by_flush d } → allowed_for d ≡ for_act
     → seen (with_worker p w l) ≡ started (seen p) w d
-start-seen p r w l v d phase h is =
+start-seen p r w l v d phase h is act =
     let after = start-running p r w l v h in
     let begun : begun_seen Running p.store (slice_set p.workers w l) ≡ begun_seen p.phase p.store p.workers =
     begun_is (with_worker p w l) after.running ∙ ap (λ e. listed (λ s. entry_list (e s)) 0 p.store.taken) after.entries ∙ sym (begun-running p r p.phase phase) in
     let workers = map-set working p.workers w l ∙ ap (slice_set (map working p.workers) w) is in
     let some = sym (phase-some w h.some) in
-    λ i. record (seen p) { phase = some i; begun = begun i; workers = workers i }
+    let left = left-running p r h.allowed w in
+    λ i. record (seen p) { phase = some i; begun = begun i; workers = workers i; runner = w; left = sym left i + sym act i }
 
 -- all that a start owes
 pub record IsStarted (p : Parts) (w : ℕ) (l : Worker) (d : Doing) : Type 0 where
@@ -113,8 +128,8 @@ pub record IsStarted (p : Parts) (w : ℕ) (l : Worker) (d : Doing) : Type 0 whe
   pub holds : Holds (seen (with_worker p w l))
 
 pub is-started : (p : Parts) (k : IsKept p) (phase : p.phase ≢ Recovering) (w : ℕ) (l : Worker) (v : Event) (d : Doing) → Starts p (running p.phase p phase k.kept) w l v
-    → working l ≡ record { doing = d; flush_next = begins_by_flush d } → IsStarted p w l d
-is-started p k phase w l v d h is =
+    → working l ≡ record { doing = d; flush_next = begins_by_flush d } → allowed_for d ≡ for_act → IsStarted p w l d
+is-started p k phase w l v d h is act =
     let r = running p.phase p phase k.kept in
     let after = start-running p r w l v h in
     let kept : IsKept (with_worker p w l) = record {
@@ -123,6 +138,7 @@ is-started p k phase w l v d h is =
       workers = length-set p.workers w l ∙ k.workers;
       few = rw (length-set p.workers w l) k.few;
       some = rw (length-set p.workers w l) k.some;
+      allowed = ap (λ n. n + for_worker) k.allowed ∙ sym (allowed-begun p.workers w l h.within h.idle h.busy);
       kept = after.running;
     } in
-    record { kept = kept; is = start-seen p r w l v d phase h is; holds = step-holds (with_worker p w l) kept }
+    record { kept = kept; is = start-seen p r w l v d phase h is act; holds = step-holds (with_worker p w l) kept }

@@ -1,7 +1,8 @@
 -- The parts after a step are the machine's state after the act.
-use Rattle.std.specs.Prelude.{◌≡◌, ℕ, slice_index}
+use Rattle.std.specs.Prelude.{◌≡◌, ℕ, length, slice_index}
 use Rattle.std.proofs.Common.{arith, refl, ap, subst, ◌∙◌, inl, inr}
 use Rattle.std.proofs.lemmas.Bool.{cases_eq}
+use Rattle.std.proofs.lemmas.List.{length-set}
 use Rattle.bz_machine.specs.declared.worker.Worker.{Worker}
 use Rattle.bz_machine.specs.declared.done.Done.{Done}
 use Rattle.bz_machine.specs.Machine.{Memory}
@@ -9,7 +10,7 @@ use Rattle.bz_machine.specs.Knows.{Knows}
 use Rattle.bz_machine.specs.Steps.{Stepped}
 use Rattle.bz_machine.specs.State.{State, Act, IsState}
 use Rattle.bz_machine.specs.Workers.{local_of}
-use Rattle.bz_machine.proofs.EventLaws.{keeps_state, keeps_range}
+use Rattle.bz_machine.proofs.EventLaws.{keeps_state, keeps_range, stays_bounded}
 use Rattle.bz_cells.specs.Store.{Store, typed}
 use Rattle.bz_acts.specs.Made.{made, beside_in}
 use Rattle.bz_swap.specs.Inside.Parts.{Parts, worker_at}
@@ -18,6 +19,7 @@ use Rattle.bz_swap.proofs.Frames.{frame-act}
 use Rattle.bz_swap.proofs.Going.{Leads, leads-act}
 use Rattle.bz_swap.proofs.Stepped.{Acts, MayStep, after_step, same-worker, other-worker, state-path}
 use Rattle.bz_swap.proofs.StepLies.{lies-shape, worker-shape, stepped-worker, busy-going}
+use Rattle.bz_swap.proofs.StepsLeft.{enough-stepped}
 use Rattle.bz_swap.proofs.StepOwners.{stepped-owned, stepped-prepares}
 
 -- the parts after a step are the machine's state after the act
@@ -46,6 +48,8 @@ step-running p r w store l done may a =
         words = a.words;
         state = state;
         range = rw path (keeps_range x (Act w) (omega (arith, may.some), omega (arith, may.within, may.few), omega (arith, r.tags w, may.steps)) r.state r.range);
+        bounded = rw (path, length-set p.workers w l) (stays_bounded x (length p.workers) (Act w) tt may.within r.bounded);
+        enough = rw (path, length-set p.workers w l) (enough-stepped x p.allowance w (length p.workers) l.place r.bounded r.enough may.allowed may.within may.busy);
         lies = λ s i below. lies-shape p.store store ((r.entries s).target i) a.shape (r.lies s i below);
         named = λ c. rw taken (f.named c ∙ r.named c);
         owned = λ s begun none. stepped-owned p r w store l done may a leads s (omega (arith, begun, taken)) none;

@@ -9,12 +9,14 @@ use Rattle.bz_machine.specs.declared.worker.Worker.{Worker}
 use Rattle.bz_machine.specs.declared.done.Done.{Done}
 use Rattle.bz_machine.specs.Machine.{Entries}
 use Rattle.bz_machine.specs.Changes.{put}
+use Rattle.bz_machine.specs.Sizes.{most_workers}
 use Rattle.bz_machine.specs.State.{Act, happens}
 use Rattle.bz_machine.specs.Workers.{local_of}
 use Rattle.bz_cells.specs.Store.{Store, Beside, IsStore, SameShape, typed}
 use Rattle.bz_acts.specs.Made.{made, beside_in}
+use Rattle.bz_swap.specs.Inside.Allowances.{after_step as allowance_after}
 use Rattle.bz_swap.specs.Inside.Parts.{Parts, idle_worker, worker_at}
-use Rattle.bz_swap.specs.Inside.Kept.{state_of}
+use Rattle.bz_swap.specs.Inside.Kept.{state_of, allowed_at}
 
 -- the act of worker w was made: the words and the worker after it
 pub record Acts (p : Parts) (b : Beside) (w : ℕ) (store : Store) (l : Worker) (done : Done) : Type 0 where
@@ -28,12 +30,13 @@ pub record Acts (p : Parts) (b : Beside) (w : ℕ) (store : Store) (l : Worker) 
 pub record MayStep (p : Parts) (w : ℕ) : Type 0 where
   pub some : 0 < w
   pub within : w < length p.workers
-  pub few : length p.workers ≤ 65
+  pub few : length p.workers ≤ most_workers
   pub busy : (worker_at p w).place ≢ place.Idle
   pub steps : p.steps < 2 ^ 36
+  pub allowed : p.allowance.all ≡ allowed_at p.workers
 
 abbrev pub after_step : Parts → ℕ → Store → Worker → Parts
-after_step p w store l = record { store = store; workers = slice_set p.workers w l; phase = p.phase; steps = p.steps + 1 }
+after_step p w store l = record { store = store; workers = slice_set p.workers w l; phase = p.phase; steps = p.steps + 1; allowance = allowance_after p.allowance w l.place }
 
 -- the worker that stepped, and the others
 pub same-worker : (p : Parts) (w : ℕ) (store : Store) (l : Worker) → w < length p.workers → worker_at (after_step p w store l) w ≡ l

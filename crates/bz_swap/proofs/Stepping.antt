@@ -18,8 +18,10 @@ use Rattle.bz_swap.specs.declared.phase.Phase.{Phase}
 use Rattle.bz_swap.specs.declared.phase.Phase.TheVariants.{Opened, Running, Recovering}
 use Rattle.bz_swap.specs.Held.{Holds}
 use Rattle.bz_swap.specs.SwapMemory.{Idle, doing_of}
+use Rattle.bz_swap.specs.Inside.Allowances.{all_after}
 use Rattle.bz_swap.specs.Inside.Parts.{Parts, idle_worker, worker_at, working, seen}
 use Rattle.bz_swap.specs.Inside.Kept.{IsRunning, IsKept, KeptIn}
+use Rattle.bz_swap.proofs.Allowing.{allowed-stepped}
 use Rattle.bz_swap.proofs.Doings.{worker-seen, place-idle}
 use Rattle.bz_swap.proofs.HeldWords.{held, holds}
 use Rattle.bz_swap.proofs.Readies.{ready}
@@ -47,7 +49,7 @@ pub may-step : (p : Parts) (k : IsKept p) (w : ℕ) → p.phase ≢ Recovering �
 may-step p k w phase within busy steps =
     let r = running p.phase p phase k.kept in
     let at = busy-place p w busy in
-    record { some = positive r at (cases_lt 0 w); within = workers-within p w within; few = k.few; busy = at; steps = steps }
+    record { some = positive r at (cases_lt 0 w); within = workers-within p w within; few = k.few; busy = at; steps = steps; allowed = k.allowed }
   where
     positive : IsRunning p → (worker_at p w).place ≢ place.Idle → (0 < w) ⊎ (w ≤ 0) → 0 < w
     positive r at (inl some) = some
@@ -70,6 +72,7 @@ step-kept p k w store l done phase may a =
       workers = length-set p.workers w l ∙ k.workers ∙ sym a.shape.workers;
       few = rw (length-set p.workers w l) k.few;
       some = rw (length-set p.workers w l) k.some;
+      allowed = ap (λ n. all_after n l.place) k.allowed ∙ sym (allowed-stepped p.workers w l may.within may.busy);
       kept = kept-stepped p.phase p _ w phase k.kept may.busy on.running;
     }
 

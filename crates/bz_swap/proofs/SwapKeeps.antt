@@ -1,5 +1,5 @@
 -- A swap is started: what is kept of the parts is kept of those after it.
-use Rattle.std.specs.Prelude.{◌≡◌, ◌≢◌, if◌then◌else◌, ℕ, ◌+◌, ◌<◌, true, false, List, [], ◌∷◌, ◌++◌, slice_index, None}
+use Rattle.std.specs.Prelude.{◌≡◌, ◌≢◌, if◌then◌else◌, ℕ, ◌+◌, ◌<◌, ◌≤◌, true, false, List, [], ◌∷◌, ◌++◌, length, slice_index, None}
 use Rattle.std.proofs.Common.{arith, refl, ap, sym, ◌∙◌, inl, inr}
 use Rattle.std.proofs.lemmas.Bool.{cases_eq}
 use Rattle.std.proofs.lemmas.List.{length-set}
@@ -8,8 +8,12 @@ use Rattle.bz_machine.specs.declared.place.Place.TheVariants as place
 use Rattle.bz_machine.specs.declared.place.PrepareStep.TheVariants.{WriteWord}
 use Rattle.bz_machine.specs.declared.worker.Operation.TheVariants as operation
 use Rattle.bz_machine.specs.declared.descriptor.DescriptorWords.{DescriptorWords}
-use Rattle.bz_machine.specs.State.{State}
-use Rattle.bz_machine.proofs.EventLaws.{keeps_state, keeps_range}
+use Rattle.bz_machine.specs.Allowed.{for_swap}
+use Rattle.bz_machine.specs.Budget.{budget}
+use Rattle.bz_machine.specs.State.{State, happens}
+use Rattle.bz_machine.specs.Budgets.{IsAmong}
+use Rattle.bz_machine.proofs.EventLaws.{keeps_state, keeps_range, stays_bounded}
+use Rattle.bz_machine.proofs.SwapStarts.{swaps_add_allowed}
 use Rattle.bz_acts.specs.Ready.{LiesOutside}
 use Rattle.bz_swap.specs.SwapMemory.{is_target, is_among}
 use Rattle.bz_swap.specs.Inside.Parts.{Parts, worker_at, listed, entry_list}
@@ -18,8 +22,9 @@ use Rattle.bz_swap.proofs.Listed.{begun-more, among-more}
 use Rattle.bz_swap.proofs.MaySwaps.{lies-from}
 use Rattle.bz_swap.proofs.Stepped.{put-here, put-there}
 use Rattle.bz_swap.proofs.Stepping.{workers-within}
+use Rattle.bz_swap.proofs.StepsLeft.{enough-started}
 use Rattle.bz_swap.proofs.Taken.{one_taken, store-taken, lies-taken, worker-taken}
-use Rattle.bz_swap.proofs.SwapLists.{entries_from}
+use Rattle.bz_swap.proofs.SwapLists.{entries_from, count-listed}
 use Rattle.bz_swap.proofs.WorkStarts.{idle-at, nothing-at}
 use Rattle.bz_swap.proofs.Swapping.{swapper, with_swap, beside_swap, Begins, here, there, event, happening, holding, entries_swap, state-begun}
 
@@ -93,6 +98,18 @@ workers-begun p r w words entries h u = elim (cases_eq u w) [
   | inr ne ↦ rw (there p w u words ne) (worker-taken p.store (worker_at p u) (r.workers u))
 ]
 
+-- the swap has few entries, whose targets rise
+among-begun : (p : Parts) (w : ℕ) (words : DescriptorWords) (entries : List Entry) → Begins p w words entries → IsAmong (length p.workers) (event p w words entries)
+among-begun p w words entries h =
+    let count : slice_index words.words 0 ≡ length entries = count-listed (slice_index words.words) entries h.lists in
+    (workers-within p w h.may.work.within, h.lists.rising, omega (arith, count, h.lists.few))
+
+-- the start adds to the worker's budget what it allows
+swap-adds : (p : Parts) (r : IsRunning p) (w : ℕ) (words : DescriptorWords) (entries : List Entry) → Begins p w words entries
+    → budget (happens (state_of p r.entries r.beside) (event p w words entries)) w (length p.workers) ≤ budget (state_of p r.entries r.beside) w (length p.workers) + for_swap
+swap-adds p r w words entries h =
+    swaps_add_allowed (state_of p r.entries r.beside) w (length p.workers) (entries_from (slice_index words.words)) (is_target entries) r.bounded (happening p r w words entries h) (among-begun p w words entries h).2
+
 -- the parts after the start, and the entries of its swaps
 pub record RunsBegun (p : Parts) (r : IsRunning p) (w : ℕ) (words : DescriptorWords) : Type 0 where
   pub running : IsRunning (with_swap p w words)
@@ -109,6 +126,8 @@ swap-running p r w words entries h =
         words = store-taken p.store r.words h.left;
         state = rw path (keeps_state x (event p w words entries) (happening p r w words entries h) r.state);
         range = rw path (keeps_range x (event p w words entries) (holding p r w words entries h) r.state r.range);
+        bounded = rw (path, length-set p.workers w (swapper p.store.taken words)) (stays_bounded x (length p.workers) (event p w words entries) (happening p r w words entries h) (among-begun p w words entries h) r.bounded);
+        enough = rw (path, length-set p.workers w (swapper p.store.taken words)) (enough-started x p.allowance w (length p.workers) for_swap (event p w words entries) r.bounded r.enough h.allowed (workers-within p w h.may.work.within) (swap-adds p r w words entries h));
         lies = lies-begun p r w words entries h;
         named = named-begun p r w words entries h;
         owned = owned-begun p r w words entries h;

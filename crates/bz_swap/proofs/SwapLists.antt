@@ -16,12 +16,12 @@ entries_from words =
     let x = entries_in words in
     record x { index = λ a. first_entry x a x.count 0 }
 
--- the words list the entries, of which there are one to four, with different targets
+-- the words list the entries, of which there are one to four, whose targets rise
 pub record Lists (words : ℕ → ℕ) (entries : List Entry) : Type 0 where
   pub list : entry_list (entries_in words) ≡ entries
   pub some : 0 < length entries
   pub few : length entries ≤ 4
-  pub apart : (i j : ℕ) → i < j → j < words 0 → words (1 + 3 * i) ≢ words (1 + 3 * j)
+  pub rising : (i j : ℕ) → i < j → j < words 0 → words (1 + 3 * i) < words (1 + 3 * j)
 
 -- each word is the one that its place asks for
 word-place : (words : ℕ → ℕ) (k : ℕ) (zeroth first second : Bool) → (k == 0) ≡ zeroth → (k % 3 == 1) ≡ first → (k % 3 == 2) ≡ second
@@ -45,7 +45,7 @@ count-listed words entries h = sym (length-listed (entry_of (entries_in words)) 
 -- each address has its own entry
 pub apart-from : (words : ℕ → ℕ) (entries : List Entry) → Lists words entries → (i : ℕ) → i < words 0 → (entries_from words).index (words (1 + 3 * i)) ≡ i
 apart-from words entries h i below =
-    first-found (entries_in words) ((entries_in words).target i) i (words 0) 0 (omega arith) (omega (arith, below)) refl (λ k before. h.apart k i before below)
+    first-found (entries_in words) ((entries_in words).target i) i (words 0) 0 (omega arith) (omega (arith, below)) refl (λ k before same. (let less : words (1 + 3 * k) < words (1 + 3 * i) = h.rising k i before below in omega (arith, less, same)))
 
 -- the targets are the entries' own
 pub told-from : (words : ℕ → ℕ) (entries : List Entry) → Lists words entries → (i : ℕ) → i < words 0 → is_target entries (words (1 + 3 * i)) ≡ true

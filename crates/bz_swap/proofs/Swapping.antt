@@ -9,6 +9,7 @@ use Rattle.bz_machine.specs.declared.place.PrepareStep.TheVariants.{WriteWord}
 use Rattle.bz_machine.specs.declared.worker.Operation.TheVariants as operation
 use Rattle.bz_machine.specs.declared.worker.Worker.{Worker}
 use Rattle.bz_machine.specs.declared.descriptor.DescriptorWords.{DescriptorWords}
+use Rattle.bz_machine.specs.Allowed.{for_swap}
 use Rattle.bz_machine.specs.Machine.{Entries}
 use Rattle.bz_machine.specs.Changes.{put}
 use Rattle.bz_machine.specs.Lawful.{MayHold}
@@ -20,7 +21,8 @@ use Rattle.bz_swap.specs.declared.phase.Phase.TheVariants.{Running}
 use Rattle.bz_swap.specs.SwapMemory.{is_target}
 use Rattle.bz_swap.specs.Starts.{MaySwap}
 use Rattle.bz_swap.specs.Inside.Parts.{Parts, idle_worker, worker_at, seen}
-use Rattle.bz_swap.specs.Inside.Kept.{IsRunning, state_of}
+use Rattle.bz_swap.specs.Inside.Allowances.{after_start}
+use Rattle.bz_swap.specs.Inside.Kept.{IsRunning, state_of, allowed_at}
 use Rattle.bz_swap.proofs.MaySwaps.{may-begin, values-from}
 use Rattle.bz_swap.proofs.Stepped.{put-here, put-there}
 use Rattle.bz_swap.proofs.Stepping.{workers-within}
@@ -33,7 +35,7 @@ abbrev pub swapper : ℕ → DescriptorWords → Worker
 swapper s words = record { operation = operation.Swapping s; place = place.Prepare (WriteWord 0); current = s; back = None; list = words }
 
 abbrev pub with_swap : Parts → ℕ → DescriptorWords → Parts
-with_swap p w words = record p { store = one_taken p.store; workers = slice_set p.workers w (swapper p.store.taken words); phase = Running }
+with_swap p w words = record p { store = one_taken p.store; workers = slice_set p.workers w (swapper p.store.taken words); phase = Running; allowance = after_start p.allowance w for_swap }
 
 -- what is told of the past, with the swap that worker w begins
 abbrev pub beside_swap : Beside → ℕ → ℕ → List Entry → Beside
@@ -44,6 +46,7 @@ pub record Begins (p : Parts) (w : ℕ) (words : DescriptorWords) (entries : Lis
   pub may : MaySwap (seen p) w entries
   pub lists : Lists (slice_index words.words) entries
   pub left : p.store.taken < p.store.swaps
+  pub allowed : p.allowance.all ≡ allowed_at p.workers
 
 pub here : (p : Parts) (w : ℕ) (words : DescriptorWords) → w < length p.workers → worker_at (with_swap p w words) w ≡ swapper p.store.taken words
 here p w words within = get_or-set_same p.workers w (swapper p.store.taken words) idle_worker within

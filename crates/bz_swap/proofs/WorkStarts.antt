@@ -1,5 +1,5 @@
 -- Starts of workers from 1 on: a read, a private store, a private flush.
-use Rattle.std.specs.Prelude.{◌≡◌, ℕ, ◌*◌, None}
+use Rattle.std.specs.Prelude.{◌≡◌, ℕ, ◌*◌, length, None}
 use Rattle.std.proofs.Common.{refl, ap, sym, subst, ◌∙◌}
 use Rattle.bz_machine.specs.declared.place.Place.{Place}
 use Rattle.bz_machine.specs.declared.place.Place.TheVariants as place
@@ -7,6 +7,7 @@ use Rattle.bz_machine.specs.declared.worker.Operation.TheVariants as operation
 use Rattle.bz_machine.specs.declared.worker.Worker.{Worker}
 use Rattle.bz_machine.specs.State.{StartRead, StartStore, StartFlush, with_local}
 use Rattle.bz_machine.specs.Workers.{local_of}
+use Rattle.bz_machine.proofs.BudgetStarts.{starts_add_allowed}
 use Rattle.bz_acts.specs.Ready.{LiesOutside}
 use Rattle.bz_swap.specs.Starts.{IsAddress, MayRead, IsPrivateStore, IsPrivateFlush}
 use Rattle.bz_swap.specs.SwapMemory.{Idle, Reading, Storing, Flushing, doing_of}
@@ -45,9 +46,13 @@ read-started p k w a l may is =
       idle = at;
       may = at;
       hold = tt;
+      among = workers-within p w may.work.within;
       becomes = ap (λ u. with_local (state_of p r.entries r.beside) w (local_of (reading u a))) (sym is);
       worker = record { rests = tt; operation = lies; place = lies };
-    }) refl
+      allowed = k.allowed;
+      busy = λ is_idle. (let bad = is_idle in absurd cc);
+      adds = (starts_add_allowed (state_of p r.entries r.beside) w (length p.workers) r.bounded.owned at).read a;
+    }) refl refl
 
 pub store-started : (p : Parts) (k : IsKept p) (w a v : ℕ) (l : Worker) → IsPrivateStore (seen p) w a v → l ≡ worker_at p w → IsStarted p w (placed l (place.StoreWord a v)) (Storing a v)
 store-started p k w a v l may is =
@@ -61,9 +66,13 @@ store-started p k w a v l may is =
       idle = at;
       may = (at, sym ((shows p r may.work.phase).named a) ∙ may.private);
       hold = may.value;
+      among = workers-within p w may.work.within;
       becomes = ap (λ u. with_local (state_of p r.entries r.beside) w (local_of (placed u (place.StoreWord a v)))) (sym is);
       worker = record { rests = nothing; operation = rw nothing tt; place = lies };
-    }) refl
+      allowed = k.allowed;
+      busy = λ is_idle. (let bad = is_idle in absurd cc);
+      adds = (starts_add_allowed (state_of p r.entries r.beside) w (length p.workers) r.bounded.owned at).store a v;
+    }) refl refl
 
 pub flush-started : (p : Parts) (k : IsKept p) (w line : ℕ) (l : Worker) → IsPrivateFlush (seen p) w line → l ≡ worker_at p w → IsStarted p w (placed l (place.FlushLine line)) (Flushing line)
 flush-started p k w line l may is =
@@ -77,6 +86,10 @@ flush-started p k w line l may is =
       idle = at;
       may = at;
       hold = tt;
+      among = workers-within p w may.work.within;
       becomes = ap (λ u. with_local (state_of p r.entries r.beside) w (local_of (placed u (place.FlushLine line)))) (sym is);
       worker = record { rests = nothing; operation = rw nothing tt; place = lies };
-    }) refl
+      allowed = k.allowed;
+      busy = λ is_idle. (let bad = is_idle in absurd cc);
+      adds = (starts_add_allowed (state_of p r.entries r.beside) w (length p.workers) r.bounded.owned at).flush line;
+    }) refl refl

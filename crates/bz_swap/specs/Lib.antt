@@ -1,3 +1,4 @@
+pub mod Alone
 pub mod Atomic
 pub mod AtomicCalls
 pub mod EffectPlaces
@@ -7,6 +8,8 @@ pub mod Evictions
 pub mod Held
 pub mod Inside
 pub mod Lawful
+pub mod LayoutSizes
+pub mod LoneRuns
 pub mod PlainFields
 pub mod Power
 pub mod Resolve

@@ -31,6 +31,8 @@ opened phase start swaps workers = record {
   taken = 0;
   steps = 0;
   workers = replicate (workers + 1) idle;
+  runner = 0;
+  left = 0;
 }
 
 -- opened for work where the words need no recovery, and otherwise in a recovery time

@@ -4,6 +4,7 @@ use Rattle.bz_word.specs.declared.entry.Entry.{Entry}
 use Rattle.bz_cells.specs.Store.{IsOutside}
 use Rattle.bz_swap.specs.declared.phase.Phase.{Phase}
 use Rattle.bz_swap.specs.declared.phase.Phase.TheVariants.{Running, Recovering}
+use Rattle.bz_swap.specs.Alone.{allowed_for, left_to}
 use Rattle.bz_swap.specs.SwapMemory.{SwapMemory, Doing, Idle, Swapping, Storing, Flushing, is_named, doing_of}
 
 -- an address of the memory outside the descriptors
@@ -82,9 +83,14 @@ abbrev pub phase_of : ℕ → Phase
 phase_of zero = Recovering
 phase_of (suc w) = Running
 
--- worker w has started this, and nothing else is changed
+-- worker w has started this, which adds to the steps that are left to it, and nothing else is changed
 abbrev pub started : SwapMemory → ℕ → Doing → SwapMemory
-started m w doing = record m { phase = phase_of w; workers = slice_set m.workers w (record { doing = doing; flush_next = begins_by_flush doing }) }
+started m w doing = record m {
+  phase = phase_of w;
+  workers = slice_set m.workers w (record { doing = doing; flush_next = begins_by_flush doing });
+  runner = w;
+  left = left_to m w + allowed_for doing;
+}
 
 -- worker w has begun a swap of these entries, whose number is the next one
 abbrev pub swapping : SwapMemory → ℕ → List Entry → SwapMemory

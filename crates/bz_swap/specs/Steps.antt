@@ -8,6 +8,7 @@ use Rattle.bz_machine.specs.declared.done.Done.{Done}
 use Rattle.bz_machine.specs.declared.done.Done.TheVariants.{Busy, Read, Swapped, Stored, Flushed}
 use Rattle.bz_swap.specs.declared.phase.Phase.{Phase}
 use Rattle.bz_swap.specs.declared.phase.Phase.TheVariants.{Opened, Running, Recovering}
+use Rattle.bz_swap.specs.Alone.{left_to}
 use Rattle.bz_swap.specs.SwapMemory.{SwapMemory, Doing, Idle, Reading, Swapping, Loading, Storing, Flushing, words_of, value_at, has_effect, is_missed, is_named, worker_of, doing_of}
 use Rattle.bz_swap.specs.Effects.{EffectIs, NotesMisses}
 use Rattle.bz_swap.specs.Writes.{WritesLawfully, IsDecided}
@@ -55,6 +56,8 @@ pub record IsOneAct (old : SwapMemory) (w : ℕ) (made : Act) (done : Done) (new
   pub steps : new.steps ≡ old.steps + 1
   pub others : KeepsOthers old new w
   pub answer : IsAnswer new (doing_of old w) made done
+  -- of the steps that are left to it alone
+  pub spent : left_to new w < left_to old w
 
 -- and outside a recovery time: the effect that is told; misses; a private word changes in the caches only by the
 -- private store at it; an act that gives a swap its effect answers nothing; what is written into descriptors; a swap that

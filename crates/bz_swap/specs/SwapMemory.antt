@@ -36,6 +36,9 @@ pub record SwapMemory : Type 0 where
   pub steps : ℕ
   -- each worker, from worker 0 on
   pub workers : List Working
+  -- the worker that started or stepped last, and what is left of the steps that it may make alone
+  pub runner : ℕ
+  pub left : ℕ
 
 abbrev pub words_of : SwapMemory → Words
 words_of m = record { cached = m.cached; durable = m.durable }

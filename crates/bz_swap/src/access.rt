@@ -1,9 +1,11 @@
 //! The swap memory and its operations.
 
 ghost use Rattle.std.specs.Prelude.{IsTrue, ◌↔◌, ◌≡◌, ◌<◌, false, length, slice_index};
+ghost use Rattle.bz_swap.specs.Alone.{left_to};
 ghost use Rattle.bz_swap.specs.Inside.Parts.{idle_worker};
 ghost use Rattle.bz_swap.specs.SwapMemory.{Idle, worker_of, doing_of};
 
+use crate::allowance::Allowance;
 use crate::phase::Phase;
 use bz_cells::Cells;
 use bz_machine::{DescriptorWords, Operation, Place, Worker};
@@ -17,6 +19,7 @@ pub struct Access {
     pub(crate) workers: Vec<Worker>,
     pub(crate) phase: Phase,
     pub(crate) steps: u64,
+    pub(crate) allowance: Allowance,
 }
 
 impl Model for Access {
@@ -26,9 +29,9 @@ impl Model for Access {
 
     ghost Value = { SwapMemory };
 
-    ghost view = { λ a. seen (record { store = a.cells; workers = a.workers.items; phase = a.phase; steps = a.steps }) };
+    ghost view = { λ a. seen (record { store = a.cells; workers = a.workers.items; phase = a.phase; steps = a.steps; allowance = a.allowance }) };
 
-    ghost invariant = { λ a. IsKept (record { store = a.cells; workers = a.workers.items; phase = a.phase; steps = a.steps }) };
+    ghost invariant = { λ a. IsKept (record { store = a.cells; workers = a.workers.items; phase = a.phase; steps = a.steps; allowance = a.allowance }) };
 }
 
 // A worker that was never asked for anything.
@@ -57,6 +60,14 @@ impl Access {
         ensures { result ≡ self.now.steps }
     {
         self.steps
+    }
+
+    /// How many more steps the worker makes at most, while no other worker steps: over any list of its starts, each of which
+    /// adds what it allows.
+    pub fn left(&self, w: u8) -> u32
+        ensures { result ≡ left_to self.now w }
+    {
+        self.allowance.left_to(w)
     }
 
     /// Which operations may start.

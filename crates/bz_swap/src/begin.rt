@@ -1,6 +1,7 @@
 //! The start of a swap. A start makes no act.
 
 use crate::access::Access;
+use crate::allowance::SWAP_STEPS;
 use crate::entry_list::EntryList;
 use crate::phase::Phase;
 use crate::progress::NoSwap;
@@ -30,6 +31,7 @@ impl Access {
         worker.list = entries.words();
         self.workers[w as usize] = worker;
         self.phase = Phase::Running;
+        self.allowance = self.allowance.started(w, SWAP_STEPS);
         Ok(swap)
     }
 }

@@ -16,5 +16,6 @@ impl Access {
         self.cells.cut();
         self.workers.fill(idle_worker());
         self.phase = Phase::Recovering;
+        self.allowance.all = 0;
     }
 }

@@ -2,6 +2,8 @@
 
 ghost use Rattle.bz_swap.specs.AtomicCalls.{AccessIsAtomic};
 ghost use Rattle.bz_swap.specs.EffectPlaces.{EffectsStayInside, StatusWords};
+ghost use Rattle.bz_swap.specs.LayoutSizes.{SizesAreOfLayout};
+ghost use Rattle.bz_swap.specs.LoneRuns.{LoneStepsAreAllowed};
 ghost use Rattle.bz_swap.specs.PlainFields.{PlainFieldsStay};
 ghost use Rattle.bz_swap.specs.Settled.{SettledStay, EffectsStay, DroppedStay, OwnedStay};
 ghost use Rattle.bz_swap.specs.Sizes.{SizesStay};
@@ -63,4 +65,15 @@ pub fn owned_stay()
 /// The words that spell a status without the dirty bit.
 pub fn status_words()
     ensures { StatusWords }
+{}
+
+/// What is left to a worker falls with each of its steps, and its starts add what they allow: so a worker that steps alone makes
+/// no more steps than are allowed.
+pub fn lone_steps_are_allowed()
+    ensures { LoneStepsAreAllowed }
+{}
+
+/// The sizes that the machine speaks of, which knows no layout, are those of the layout.
+pub fn sizes_are_of_layout()
+    ensures { SizesAreOfLayout }
 {}

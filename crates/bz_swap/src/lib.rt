@@ -3,6 +3,7 @@
 #![tactic(auto)]
 
 mod access;
+mod allowance;
 mod begin;
 mod cut;
 mod entry_list;

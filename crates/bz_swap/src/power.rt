@@ -7,6 +7,7 @@ ghost use Rattle.bz_swap.specs.Power.{AreRecovered};
 ghost use Rattle.bz_swap.specs.declared.phase.Phase.TheVariants.{Opened, Running};
 
 use crate::access::{Access, idle_worker};
+use crate::allowance::Allowance;
 use crate::phase::Phase;
 use bz_cells::Cells;
 use bz_layout::{SUPERBLOCK_WORDS, SWAP_WORDS};
@@ -62,6 +63,7 @@ fn first_phase(swaps: u32, words: &[u64]) -> Phase
 impl Access {
     ghost use Rattle.std.specs.Prelude.{◌≡◌, ◌<◌, ◌≤◌, ◌%◌, ◌^◌, length, IfOk};
     ghost use Rattle.bz_layout.specs.Addresses.{swap_address};
+    ghost use Rattle.bz_layout.specs.declared.limits.TheConstants.{MIN_WORKERS, MAX_WORKERS};
     ghost use Rattle.bz_swap.specs.Held.{Holds};
     ghost use Rattle.bz_swap.specs.Power.{IsOpened, MayRenew, renewed};
 
@@ -72,7 +74,7 @@ impl Access {
         requires some { 1 ≤ swaps }
         requires numbered { swaps ≤ 2 ^ 16 }
         requires room { swap_address swaps ≤ length start.now }
-        requires workers { (1 ≤ workers) × (workers ≤ 64) }
+        requires workers { (MIN_WORKERS ≤ workers) × (workers ≤ MAX_WORKERS) }
         ensures opened { IfOk result (λ m. IsOpened m start.now swaps workers) }
         ensures held { IfOk result Holds }
     {
@@ -84,6 +86,7 @@ impl Access {
             workers,
             phase,
             steps: 0,
+            allowance: Allowance::NONE,
         })
     }
 
@@ -97,5 +100,6 @@ impl Access {
         self.workers.fill(idle_worker());
         self.phase = Phase::Running;
         self.steps = 0;
+        self.allowance.all = 0;
     }
 }

@@ -4,6 +4,7 @@ ghost use Rattle.std.specs.Prelude.{◌≡◌};
 ghost use Rattle.bz_swap.specs.Starts.{phase_of};
 
 use crate::access::Access;
+use crate::allowance::ACT_STEPS;
 use crate::phase::Phase;
 use bz_machine::{Operation, Place};
 
@@ -36,6 +37,7 @@ impl Access {
         worker.back = None;
         self.workers[w as usize] = worker;
         self.phase = Phase::Running;
+        self.allowance = self.allowance.started(w, ACT_STEPS);
     }
 
     /// Starts a load of a word as it is, in a recovery time: worker 0.
@@ -48,6 +50,7 @@ impl Access {
         worker.place = Place::LoadWord(a);
         self.workers[w as usize] = worker;
         self.phase = phase_after(w);
+        self.allowance = self.allowance.started(w, ACT_STEPS);
     }
 
     /// Starts a store of a private word; in a recovery time of any word, by worker 0.
@@ -63,6 +66,7 @@ impl Access {
         };
         self.workers[w as usize] = worker;
         self.phase = phase_after(w);
+        self.allowance = self.allowance.started(w, ACT_STEPS);
     }
 
     /// Starts a flush of a line outside the descriptors; in a recovery time of any line, by worker 0.
@@ -75,5 +79,6 @@ impl Access {
         worker.place = Place::FlushLine(line);
         self.workers[w as usize] = worker;
         self.phase = phase_after(w);
+        self.allowance = self.allowance.started(w, ACT_STEPS);
     }
 }

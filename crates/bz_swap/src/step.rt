@@ -43,6 +43,7 @@ impl Access {
         let has_effect = self.cells.has_effect(swap);
         self.workers[w as usize] = worker;
         self.steps += 1;
+        self.allowance = self.allowance.stepped(w, worker.place);
         Progress {
             act: acted.act,
             done: acted.done,
@@ -63,6 +64,7 @@ impl Access {
         worker.place = Place::Idle;
         self.workers[w as usize] = worker;
         self.steps += 1;
+        self.allowance = self.allowance.stepped(w, Place::Idle);
         Progress {
             act: acted.act,
             done: acted.done,

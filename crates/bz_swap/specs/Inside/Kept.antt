@@ -1,5 +1,5 @@
 -- What a swap memory keeps true of its parts: outside a recovery time they are the machine's state.
-use Rattle.std.specs.Prelude.{◌≡◌, ℕ, ◌*◌, ◌<◌, ◌≤◌, false, length, slice_index, None}
+use Rattle.std.specs.Prelude.{◌≡◌, ◌≢◌, ℕ, ◌*◌, ◌<◌, ◌≤◌, false, List, length, get_or, slice_index, None}
 use Rattle.bz_machine.specs.declared.place.Place.{Place}
 use Rattle.bz_machine.specs.declared.place.Place.TheVariants as place
 use Rattle.bz_machine.specs.declared.place.PrepareStep.{PrepareStep}
@@ -7,19 +7,32 @@ use Rattle.bz_machine.specs.declared.worker.Operation.{Operation}
 use Rattle.bz_machine.specs.declared.worker.Operation.TheVariants as operation
 use Rattle.bz_machine.specs.declared.worker.Worker.{Worker}
 use Rattle.bz_machine.specs.Machine.{Entries}
+use Rattle.bz_machine.specs.Allowed.{for_worker, sum_below, counted, is_busy}
+use Rattle.bz_machine.specs.Budget.{budget}
+use Rattle.bz_machine.specs.Budgets.{IsBounded}
+use Rattle.bz_machine.specs.Sizes.{most_workers}
 use Rattle.bz_machine.specs.State.{State, IsState}
 use Rattle.bz_machine.specs.Lawful.{AreInRange}
 use Rattle.bz_machine.specs.Workers.{local_of}
 use Rattle.bz_cells.specs.Store.{Store, Beside, HasRoom, IsStore, typed}
 use Rattle.bz_acts.specs.Ready.{LiesOutside}
+use Rattle.bz_swap.specs.declared.allowance.Allowance.{Allowance}
 use Rattle.bz_swap.specs.declared.phase.Phase.{Phase}
 use Rattle.bz_swap.specs.declared.phase.Phase.TheVariants.{Opened, Running, Recovering}
 use Rattle.bz_swap.specs.SwapMemory.{is_among}
-use Rattle.bz_swap.specs.Inside.Parts.{Parts, worker_at, listed, entry_list}
+use Rattle.bz_swap.specs.Inside.Parts.{Parts, idle_worker, worker_at, listed, entry_list}
 
 -- the machine's state that the parts spell, with what it tells of the past
 abbrev pub state_of : Parts → (ℕ → Entries) → Beside → State
 state_of p e b = record { entries = e; memory = typed p.store b; local = λ w. local_of (worker_at p w) }
+
+-- what all workers allow, where they stand at these places
+abbrev pub allowed_at : List Worker → ℕ
+allowed_at workers = sum_below (λ v. counted (is_busy (get_or workers v idle_worker).place) for_worker) (length workers)
+
+-- what is left to the worker that started or stepped last is enough
+pub record IsEnough (x : State) (a : Allowance) (n : ℕ) : Type 0 where
+  pub budget : a.runner < n → budget x a.runner n ≤ a.left
 
 -- a swap without an answer is the operation of its owner
 pub record IsOwned (p : Parts) (b : Beside) (s : ℕ) : Type 0 where
@@ -72,6 +85,8 @@ pub record IsRunning (p : Parts) : Type 0 where
   pub words : IsStore p.store
   pub state : IsState (state_of p entries beside)
   pub range : AreInRange (state_of p entries beside)
+  pub bounded : IsBounded (state_of p entries beside) (length p.workers)
+  pub enough : IsEnough (state_of p entries beside) p.allowance (length p.workers)
   pub lies : (s i : ℕ) → i < (entries s).count → LiesOutside p.store ((entries s).target i)
   pub named : (a : ℕ) → beside.named a ≡ is_among (listed (λ s. entry_list (entries s)) 0 p.store.taken) a
   pub owned : (s : ℕ) → s < p.store.taken → beside.answer s ≡ None → IsOwned p beside s
@@ -92,6 +107,7 @@ pub record IsRecovering (p : Parts) : Type 0 where
   pub recoverer : RecoversAt p.store (worker_at p 0).place
   pub others : (w : ℕ) → 0 < w → (worker_at p w).place ≡ place.Idle
   pub rest : (w : ℕ) → (worker_at p w).operation ≡ operation.Nothing
+  pub enough : (worker_at p 0).place ≢ place.Idle → 0 < p.allowance.left
 
 -- nothing was started yet
 pub record IsUntouched (p : Parts) : Type 0 where
@@ -108,6 +124,7 @@ pub record IsKept (p : Parts) : Type 0 where
   pub room : HasRoom p.store
   pub swaps : 0 < p.store.swaps
   pub workers : length p.workers ≡ length p.store.next_tags
-  pub few : length p.workers ≤ 65
+  pub few : length p.workers ≤ most_workers
   pub some : 0 < length p.workers
+  pub allowed : p.allowance.all ≡ allowed_at p.workers
   pub kept : KeptIn p.phase p

@@ -9,6 +9,7 @@ use Rattle.bz_machine.specs.declared.worker.Worker.{Worker}
 use Rattle.bz_machine.specs.Machine.{Entries, entries_in}
 use Rattle.bz_machine.specs.Flushes.{is_flush}
 use Rattle.bz_cells.specs.Store.{Store, descriptor_word_at}
+use Rattle.bz_swap.specs.declared.allowance.Allowance.{Allowance}
 use Rattle.bz_swap.specs.declared.phase.Phase.{Phase}
 use Rattle.bz_swap.specs.declared.phase.Phase.TheVariants.{Opened, Running, Recovering}
 use Rattle.bz_swap.specs.SwapMemory.{SwapMemory, Doing, Idle, Reading, Swapping, Loading, Storing, Flushing, Working}
@@ -18,6 +19,7 @@ pub record Parts : Type 0 where
   pub workers : List Worker
   pub phase : Phase
   pub steps : ℕ
+  pub allowance : Allowance
 
 -- a worker that was never asked for anything
 unfoldable pub idle_worker : Worker
@@ -92,4 +94,6 @@ seen p = record {
   taken = p.store.taken;
   steps = p.steps;
   workers = map working p.workers;
+  runner = p.allowance.runner;
+  left = p.allowance.left;
 }

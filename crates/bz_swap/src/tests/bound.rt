@@ -142,7 +142,8 @@ fn scatter(world: &mut World, random: &mut Random, places: u32) {
     }
 }
 
-// How many steps a worker makes alone until it answers, and how many it may make.
+// How many steps a worker makes alone until it answers, and how many it may make: no more than are left to it, nor than is
+// allowed.
 fn count_alone(world: &mut World, alone: Alone) -> (u32, u32) {
     let busy = (1..=64u8).filter(|w| !world.idle(*w)).count() as u32;
     let (w, own) = match alone {
@@ -157,7 +158,8 @@ fn count_alone(world: &mut World, alone: Alone) -> (u32, u32) {
         }
         Alone::Own(w) => (w, 0),
     };
-    let limit = busy.saturating_mul(1_024).saturating_add(own);
+    let allowed = busy.saturating_mul(1_024).saturating_add(own);
+    let limit = world.left(w).min(allowed);
     (steps(world, w, limit.saturating_add(1)), limit)
 }
 

@@ -138,6 +138,11 @@ impl World {
         w >= self.count || self.access.idle(w)
     }
 
+    /// How many more steps a worker makes at most while it steps alone.
+    pub(crate) fn left(&self, w: u8) -> u32 {
+        self.access.left(w)
+    }
+
     // Whether an address lies outside the descriptors, within the memory.
     fn is_address(&self, a: u32) -> bool
         ensures { result ≡ true → IsAddress self.now a }

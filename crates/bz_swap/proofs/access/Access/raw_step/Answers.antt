@@ -5,7 +5,7 @@ use Rattle.bz_swap.proofs.access.Access.raw_step.Goals as goal
 
 pub raw_act-acted-requires-clause-lies : goal.raw_act-acted-requires-clause-lies
 raw_act-acted-requires-clause-lies c =
-    let p : Parts = record { store = c.self.inside.cells; workers = c.self.inside.workers.items; phase = c.self.inside.phase; steps = c.self.inside.steps } in
+    let p : Parts = record { store = c.self.inside.cells; workers = c.self.inside.workers.items; phase = c.self.inside.phase; steps = c.self.inside.steps; allowance = c.self.inside.allowance } in
     let within = rw (← c.self.view_is) at c.requires.worker in
     let busy = rw (← c.self.view_is) at c.requires.busy in
     let phase = rw (← c.self.view_is) at c.requires.phase in
@@ -14,7 +14,7 @@ raw_act-acted-requires-clause-lies c =
 
 pub raw_act-acted-requires-clause-busy : goal.raw_act-acted-requires-clause-busy
 raw_act-acted-requires-clause-busy c =
-    let p : Parts = record { store = c.self.inside.cells; workers = c.self.inside.workers.items; phase = c.self.inside.phase; steps = c.self.inside.steps } in
+    let p : Parts = record { store = c.self.inside.cells; workers = c.self.inside.workers.items; phase = c.self.inside.phase; steps = c.self.inside.steps; allowance = c.self.inside.allowance } in
     let within = rw (← c.self.view_is) at c.requires.worker in
     let busy = rw (← c.self.view_is) at c.requires.busy in
     let phase = rw (← c.self.view_is) at c.requires.phase in
@@ -23,18 +23,18 @@ raw_act-acted-requires-clause-busy c =
 
 pub invariant_of-self : goal.invariant_of-self
 invariant_of-self c =
-    let p : Parts = record { store = c.self.inside.cells; workers = c.self.inside.workers.items; phase = c.self.inside.phase; steps = c.self.inside.steps } in
+    let p : Parts = record { store = c.self.inside.cells; workers = c.self.inside.workers.items; phase = c.self.inside.phase; steps = c.self.inside.steps; allowance = c.self.inside.allowance } in
     let within = rw (← c.self.view_is) at c.requires.worker in
     let busy = rw (← c.self.view_is) at c.requires.busy in
     let phase = rw (← c.self.view_is) at c.requires.phase in
     let is = worker-read p c.args.w c.index-worker.result.now (workers-within p c.args.w within) c.index-worker.ensures in
-    raw-kept p c.self.invariant c.args.w c.raw_act-acted.new.cells c.index-worker.result.now c.raw_act-acted.result phase within busy is c.raw_act-acted.ensures
+    rw c.stepped-self-inside.ensures (raw-kept p c.self.invariant c.args.w c.raw_act-acted.new.cells c.index-worker.result.now c.raw_act-acted.result phase within busy is c.raw_act-acted.ensures)
 
 pub returns : goal.returns
 returns c =
-    let p : Parts = record { store = c.self.inside.cells; workers = c.self.inside.workers.items; phase = c.self.inside.phase; steps = c.self.inside.steps } in
+    let p : Parts = record { store = c.self.inside.cells; workers = c.self.inside.workers.items; phase = c.self.inside.phase; steps = c.self.inside.steps; allowance = c.self.inside.allowance } in
     let within = rw (← c.self.view_is) at c.requires.worker in
     let busy = rw (← c.self.view_is) at c.requires.busy in
     let phase = rw (← c.self.view_is) at c.requires.phase in
     let is = worker-read p c.args.w c.index-worker.result.now (workers-within p c.args.w within) c.index-worker.ensures in
-    rw (← c.self.view_is) (raw-seen p c.self.invariant c.args.w c.raw_act-acted.new.cells c.index-worker.result.now c.raw_act-acted.result phase within busy is c.raw_act-acted.ensures)
+    rw (c.stepped-self-inside.ensures, ← c.self.view_is) (raw-seen p c.self.invariant c.args.w c.raw_act-acted.new.cells c.index-worker.result.now c.raw_act-acted.result phase within busy is c.raw_act-acted.ensures)

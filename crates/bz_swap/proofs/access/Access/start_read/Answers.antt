@@ -1,22 +1,28 @@
 use Rattle.bz_swap.specs.Inside.Parts.{Parts}
+use Rattle.bz_swap.proofs.Alone.{allowed-fits}
 use Rattle.bz_swap.proofs.WorkStarts.{read-started}
 use Rattle.bz_swap.proofs.Stepping.{worker-read, workers-within}
 use Rattle.bz_swap.proofs.access.Access.start_read.Goals as goal
 
+pub started-self-inside-requires-clause-all : goal.started-self-inside-requires-clause-all
+started-self-inside-requires-clause-all c =
+    let p : Parts = record { store = c.self.inside.cells; workers = c.self.inside.workers.items; phase = c.self.inside.phase; steps = c.self.inside.steps; allowance = c.self.inside.allowance } in
+    allowed-fits p c.self.invariant
+
 pub invariant_of-self : goal.invariant_of-self
 invariant_of-self c =
-    let p : Parts = record { store = c.self.inside.cells; workers = c.self.inside.workers.items; phase = c.self.inside.phase; steps = c.self.inside.steps } in
+    let p : Parts = record { store = c.self.inside.cells; workers = c.self.inside.workers.items; phase = c.self.inside.phase; steps = c.self.inside.steps; allowance = c.self.inside.allowance } in
     let may = rw (← c.self.view_is) at c.requires in
-    (read-started p c.self.invariant c.args.w c.args.a c.index-worker.result.now may (worker-read p c.args.w c.index-worker.result.now (workers-within p c.args.w may.work.within) c.index-worker.ensures)).kept
+    rw c.started-self-inside.ensures (read-started p c.self.invariant c.args.w c.args.a c.index-worker.result.now may (worker-read p c.args.w c.index-worker.result.now (workers-within p c.args.w may.work.within) c.index-worker.ensures)).kept
 
 pub returns-clause-started : goal.returns-clause-started
 returns-clause-started c =
-    let p : Parts = record { store = c.self.inside.cells; workers = c.self.inside.workers.items; phase = c.self.inside.phase; steps = c.self.inside.steps } in
+    let p : Parts = record { store = c.self.inside.cells; workers = c.self.inside.workers.items; phase = c.self.inside.phase; steps = c.self.inside.steps; allowance = c.self.inside.allowance } in
     let may = rw (← c.self.view_is) at c.requires in
-    rw (← c.self.view_is) (read-started p c.self.invariant c.args.w c.args.a c.index-worker.result.now may (worker-read p c.args.w c.index-worker.result.now (workers-within p c.args.w may.work.within) c.index-worker.ensures)).is
+    rw (c.started-self-inside.ensures, ← c.self.view_is) (read-started p c.self.invariant c.args.w c.args.a c.index-worker.result.now may (worker-read p c.args.w c.index-worker.result.now (workers-within p c.args.w may.work.within) c.index-worker.ensures)).is
 
 pub returns-clause-held : goal.returns-clause-held
 returns-clause-held c =
-    let p : Parts = record { store = c.self.inside.cells; workers = c.self.inside.workers.items; phase = c.self.inside.phase; steps = c.self.inside.steps } in
+    let p : Parts = record { store = c.self.inside.cells; workers = c.self.inside.workers.items; phase = c.self.inside.phase; steps = c.self.inside.steps; allowance = c.self.inside.allowance } in
     let may = rw (← c.self.view_is) at c.requires in
-    (read-started p c.self.invariant c.args.w c.args.a c.index-worker.result.now may (worker-read p c.args.w c.index-worker.result.now (workers-within p c.args.w may.work.within) c.index-worker.ensures)).holds
+    rw c.started-self-inside.ensures (read-started p c.self.invariant c.args.w c.args.a c.index-worker.result.now may (worker-read p c.args.w c.index-worker.result.now (workers-within p c.args.w may.work.within) c.index-worker.ensures)).holds
