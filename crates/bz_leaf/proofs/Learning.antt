@@ -88,7 +88,7 @@ word-at : (c : Config) (x : Instant) (k i : ℕ) → i < NODE_WORDS → x.value 
 unfolding node
 word-at c x k i l = let t : nat_lt i NODE_WORDS ≡ true = grind (arith, nat_tests) in rw t refl
 
-module _ (s : Scene) (good : IsScene s) (key : List ℕ) (link : Link) (ws : List ℕ) (full : length ws ≡ 128) where
+module _ (s : Scene) (good : IsScene s) (key : List ℕ) (link : Link) (ws : List ℕ) (full : length ws ≡ NODE_WORDS) where
   pub reads-status : IsBlank ws → IsKnownLeaf key link s.past → (v : ℕ) → Answers s (node_address s.past.config link.slot + STATUS_AT) v → Reading key link (slice_set ws 0 v) 1 s.past
   reads-status blank k v a = record {
     known = k;
@@ -215,7 +215,7 @@ pub by-phase : (key : List ℕ) (link : Link) (image : NodeImage) (ws : List ℕ
 by-phase key link image ws c P stage s phase other seen told e g h f t =
     h (subst (λ z. leaf_facts key link ws z stage s) e f) (subst (λ z. Tells (leaf_asks c link image z) stage told s) e (subst (λ z. Tells (leaf_asks c link image phase) stage z s) g t))
 
-module _ (key : List ℕ) (link : Link) (image : NodeImage) (ws : List ℕ) (full : length ws ≡ 128) (c : Config) (s : Scene) (same : s.past.config ≡ c) (good : IsScene s) where
+module _ (key : List ℕ) (link : Link) (image : NodeImage) (ws : List ℕ) (full : length ws ≡ NODE_WORDS) (c : Config) (s : Scene) (same : s.past.config ≡ c) (good : IsScene s) where
   in-slot : (i v : ℕ) → Answers s (node_address c link.slot + i) v → Answers s (node_address s.past.config link.slot + i) v
   in-slot i v t = subst (λ z. Answers s (node_address z link.slot + i) v) (sym same) t
 

@@ -52,14 +52,21 @@ leaf_end link image (Viewed at) = Some (View (view_of link image at))
 leaf_end link image Changed = Some Restart
 leaf_end link image phase = None
 
--- the most reads: the status, the words after it, and the link with its guard
+-- the most reads that validate: the link and its guard
+abbrev pub validating_reads : ℕ
+validating_reads = 2
+
+-- the most acts: the reads of the status and of the words after it, those that validate, and the end
+abbrev pub leaf_acts : ℕ
+leaf_acts = NODE_WORDS + validating_reads + 1
+
 abbrev pub leaf_left : Phase → ℕ
-leaf_left Fresh = 133
-leaf_left Status = 132
-leaf_left (Word i) = 130 - i + 2
-leaf_left Again = 2
-leaf_left Of_link = 2
-leaf_left (Guard at) = 1
+leaf_left Fresh = leaf_acts
+leaf_left Status = leaf_acts - 1
+leaf_left (Word i) = NODE_WORDS - i + validating_reads
+leaf_left Again = validating_reads
+leaf_left Of_link = validating_reads
+leaf_left (Guard at) = validating_reads - 1
 leaf_left phase = 0
 
 -- the slot was a leaf of the tree, with the key in its range, at a moment since the call began, at which the

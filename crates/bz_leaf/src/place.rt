@@ -33,13 +33,13 @@ pub(crate) fn is_frozen(word: u64) -> bool
     status_of(word).frozen
 }
 
-/// The next word in use after a place, of a leaf with this status; 128 where there is none.
+/// The next word in use after a place, of a leaf with this status; the number of its words where there is none.
 pub(crate) fn next_place(word: u64, place: usize) -> usize
     requires word { word < 2 ^ 61 }
-    requires place { place < 128 }
+    requires place { place < NODE_WORDS }
     ensures after { place < result }
-    ensures within { result ≤ 128 }
-    ensures used { result < 128 → is_used word result ≡ true }
+    ensures within { result ≤ NODE_WORDS }
+    ensures used { result < NODE_WORDS → is_used word result ≡ true }
     ensures skipped { (i : ℕ) → place < i → i < result → is_used word i ≡ false }
 {
     let status = status_of(word);

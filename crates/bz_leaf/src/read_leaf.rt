@@ -6,12 +6,12 @@ ghost use Rattle.bz_task.specs.Outcomes.{IsPath, IsView};
 ghost use Rattle.bz_task.specs.Requests.{Hears, Tells, IsKnown};
 ghost use Rattle.bz_task.specs.Scene.{Scene, Stage, Waiting, IsScene, HasFilled};
 ghost use Rattle.bz_leaf.specs.Duties.{config_of, asks_of, end_of, left_of, facts_of, means_of, differs_of};
-ghost use Rattle.bz_leaf.specs.Facts.{leaf_asks, leaf_left, leaf_learnt, leaf_facts, leaf_means, leaf_differs, leaf_change, leaf_places, IsAfter, IsBlank, view_of};
+ghost use Rattle.bz_leaf.specs.Facts.{leaf_acts, leaf_asks, leaf_left, leaf_learnt, leaf_facts, leaf_means, leaf_differs, leaf_change, leaf_places, IsAfter, IsBlank, view_of};
 
 use crate::phase::Phase;
 use crate::place::{is_frozen, next_place};
 use bz_key::Key;
-use bz_layout::{Config, STATUS_AT, Slots};
+use bz_layout::{Config, NODE_WORDS, STATUS_AT, Slots};
 use bz_node::NodeImage;
 use bz_task::{LeafView, Link, Outcome, Path, Seen, Task, Todo, laws};
 
@@ -37,7 +37,7 @@ impl ReadLeaf {
         requires few { path.depth ≤ 12 }
         ensures config { ⟦<ReadLeaf as Task>⟧.config result ≡ config.now }
         ensures asks { ⟦<ReadLeaf as Task>⟧.asks result ≡ None }
-        ensures left { ⟦<ReadLeaf as Task>⟧.left result ≡ 133 }
+        ensures left { ⟦<ReadLeaf as Task>⟧.left result ≡ leaf_acts }
         ensures needs { ⟦<ReadLeaf as Task>⟧.needs result ≡ 0 }
         ensures facts { (s : Scene) → IsScene s → IsPath key path s.past → ⟦<ReadLeaf as Task>⟧.facts result Waiting s }
         ensures view { (view : LeafView) (s : Scene) → ⟦<ReadLeaf as Task>⟧.means result (Outcome.View view) s → IsView key view s.past }
@@ -162,9 +162,9 @@ fn last_link(path: &Path) -> Link
     path.links[path.depth as usize - 1]
 }
 
-// An image has its 128 words. Does nothing.
+// An image has a node's words. Does nothing.
 fn is_whole(image: &NodeImage)
-    ensures { length image.now.0 ≡ 128 }
+    ensures { length image.now.0 ≡ NODE_WORDS }
 {
     let _words = image.0;
 }
@@ -173,17 +173,17 @@ fn is_whole(image: &NodeImage)
 fn blank() -> NodeImage
     ensures { IsBlank result.0 }
 {
-    NodeImage([0; 128])
+    NodeImage([0; NODE_WORDS as usize])
 }
 
 // The phase after the word at a place, of a leaf with this status.
 fn after_word(status: u64, place: usize) -> Phase
     requires status { status < 2 ^ 61 }
-    requires place { place < 128 }
+    requires place { place < NODE_WORDS }
     ensures next { IsAfter status place result }
 {
     let next = next_place(status, place);
-    if next < 128 {
+    if next < NODE_WORDS as usize {
         Phase::Word(next)
     } else if is_frozen(status) {
         Phase::Link
