@@ -35,7 +35,7 @@ pub(crate) fn node_of_slot(image: &[u64], config: &Config, slot: u32) -> NodeIma
     ensures node { IsNodeOf config.now image.now slot result.0 }
     ensures whole { length result.0 ≡ WORDS }
 {
-    let mut words = [0u64; 128];
+    let mut words = [0u64; NODE_WORDS as usize];
     for i in 0..NODE_WORDS {
         words[i as usize] = node_word(image, config, slot, i);
     }
