@@ -23,11 +23,13 @@ use Rattle.bz_task.specs.Swaps.{Stand, SwapsTo, IsGoodSwap, Takes}
 use Rattle.bz_task.specs.declared.todo.Todo.{Todo}
 use Rattle.bz_task.specs.declared.todo.Todo.TheVariants.{Swap as Swaps_for}
 use Rattle.bz_task.specs.declared.view.LeafView.{LeafView}
-use Rattle.bz_freeze.specs.Facts.{WasLeaf, WasFrozen, frozen_word, entry_of, freeze_asks, freeze_facts, freeze_change}
+use Rattle.bz_task.specs.Steps.{frozen_word}
+use Rattle.bz_task.proofs.FrozenWords.{frozen-plain, frozen-reads}
+use Rattle.bz_freeze.specs.Facts.{WasLeaf, WasFrozen, entry_of, freeze_asks, freeze_facts, freeze_change}
 use Rattle.bz_freeze.specs.Laws.{FreezesAreGood}
 use Rattle.bz_freeze.specs.declared.phase.Phase.{Phase}
 use Rattle.bz_freeze.specs.declared.phase.Phase.TheVariants.{Fresh, Swap, Done, Restart, Full}
-use Rattle.bz_freeze.proofs.Freezing.{frozen-plain, frozen-reads, set-one}
+use Rattle.bz_freeze.proofs.Freezing.{set-one}
 
 -- the leaf of a view
 pub was-leaf : LeavesTileTheKeys → WellFormedImagesHaveNoFault → (key : List ℕ) (view : LeafView) (s : Scene) → IsScene s → IsView key view s.past → (status view.status).frozen ≡ false → WasLeaf view.slot view.status s.past

@@ -20,9 +20,10 @@ use Rattle.bz_task.specs.LeafSwaps.{IsWordOf, IsLeafSwap, LeafSwapsAreGood}
 use Rattle.bz_task.specs.Requests.{IsTarget}
 use Rattle.bz_task.specs.Scene.{Scene, IsScene, here}
 use Rattle.bz_task.specs.Shown.{SameRecords}
-use Rattle.bz_task.specs.Steps.{Moves, next_stamp}
+use Rattle.bz_task.specs.Steps.{Moves, next_stamp, frozen_word}
 use Rattle.bz_task.specs.Swaps.{Stand, SwapsTo, swapped}
-use Rattle.bz_freeze.specs.Facts.{WasLeaf, frozen_word, entry_of, freeze_change}
+use Rattle.bz_task.proofs.FrozenWords.{frozen-plain, frozen-reads}
+use Rattle.bz_freeze.specs.Facts.{WasLeaf, entry_of, freeze_change}
 use Rattle.bz_freeze.specs.Laws.{FreezesAreGood}
 
 -- the laws that these proofs stand on
@@ -33,16 +34,6 @@ pub record Laws : Type 0 where
   pub swaps : LeafSwapsAreGood
   pub quiet : FreezeIsQuiet
   pub codec : IsCodec Status IsStatus IsStatusWord status_word status
-
--- the status of the frozen word
-frozen-status : IsCodec Status IsStatus IsStatusWord status_word status → (st : ℕ) → st < 2 ^ 61 → IsStatus (record (status st) { frozen = true; stamp = next_stamp (status st).stamp })
-frozen-status codec st l = let r = codec.range st l in record { count = r.count; block = r.block; dead = r.dead; stamp = omega arith }
-
-pub frozen-plain : IsCodec Status IsStatus IsStatusWord status_word status → (st : ℕ) → st < 2 ^ 61 → frozen_word st < 2 ^ 61
-frozen-plain codec st l = codec.lawful _ (frozen-status codec st l)
-
-pub frozen-reads : IsCodec Status IsStatus IsStatusWord status_word status → (st : ℕ) → st < 2 ^ 61 → status (frozen_word st) ≡ record (status st) { frozen = true; stamp = next_stamp (status st).stamp }
-frozen-reads codec st l = codec.value _ (frozen-status codec st l)
 
 -- what one entry sets and leaves
 pub set-one : (e : Entry) (f : ℕ → ℕ) (a : ℕ) → e.target ≡ a → swapped (e ∷ []) f a ≡ e.new

@@ -4,11 +4,11 @@ use Rattle.bz_call.specs.declared.replies.Spent.TheVariants.{Swaps}
 use Rattle.bz_layout.specs.Addresses.{node_address}
 use Rattle.bz_layout.specs.declared.config.Config.{Config}
 use Rattle.bz_layout.specs.declared.sizes.TheConstants.{STATUS_AT}
-use Rattle.bz_word.specs.Statuses.{status, status_word}
+use Rattle.bz_word.specs.Statuses.{status}
 use Rattle.bz_word.specs.declared.entry.Entry.{Entry}
 use Rattle.bz_task.specs.Instant.{words, page_at, is_inside, form_at}
 use Rattle.bz_task.specs.Scene.{Past, Scene, Stage, Waiting, Took, HasFilled}
-use Rattle.bz_task.specs.Steps.{next_stamp}
+use Rattle.bz_task.specs.Steps.{frozen_word}
 use Rattle.bz_task.specs.Swaps.{Change}
 use Rattle.bz_task.specs.declared.todo.Outcome.{Outcome}
 use Rattle.bz_task.specs.declared.todo.Outcome.TheVariants.{Done as IsDone, Restart as Restarts, Full as IsFull}
@@ -16,10 +16,6 @@ use Rattle.bz_task.specs.declared.todo.Todo.{Todo}
 use Rattle.bz_task.specs.declared.todo.Todo.TheVariants.{Swap as Swaps_for, Finish}
 use Rattle.bz_freeze.specs.declared.phase.Phase.{Phase}
 use Rattle.bz_freeze.specs.declared.phase.Phase.TheVariants.{Fresh, Swap, Done, Restart, Full}
-
--- the status word of a node, frozen, with its next stamp
-abbrev pub frozen_word : ℕ → ℕ
-frozen_word st = status_word (record (status st) { frozen = true; stamp = next_stamp (status st).stamp })
 
 -- the one entry of the swap
 abbrev pub entry_of : Config → ℕ → ℕ → Entry

@@ -8,7 +8,8 @@ ghost use Rattle.bz_task.specs.Outcomes.{IsView};
 ghost use Rattle.bz_task.specs.Requests.{Hears, Tells, IsKnown};
 ghost use Rattle.bz_task.specs.Scene.{Scene, Stage, Waiting, IsScene};
 ghost use Rattle.bz_task.specs.declared.todo.Seen.TheVariants.{Swapped, NoSwap};
-ghost use Rattle.bz_freeze.specs.Facts.{WasFrozen, frozen_word, freeze_asks, freeze_end, freeze_left, freeze_facts, freeze_means, freeze_change, entry_of};
+ghost use Rattle.bz_task.specs.Steps.{frozen_word};
+ghost use Rattle.bz_freeze.specs.Facts.{WasFrozen, freeze_asks, freeze_end, freeze_left, freeze_facts, freeze_means, freeze_change, entry_of};
 
 use crate::laws::freezes_are_good;
 use crate::phase::Phase;

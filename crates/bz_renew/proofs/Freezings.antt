@@ -12,7 +12,8 @@ use Rattle.bz_word.specs.declared.entry.Entry.{Entry}
 use Rattle.bz_task.specs.Scene.{Scene, here}
 use Rattle.bz_task.specs.Swaps.{Stand, swapped}
 use Rattle.bz_task.specs.declared.path.Link.{Link}
-use Rattle.bz_renew.specs.Freezings.{Freezing, slots_of, frozen_word, freezing_entry, renewal_with, IsFreezable, AreFreezable}
+use Rattle.bz_task.specs.Steps.{frozen_word}
+use Rattle.bz_renew.specs.Freezings.{Freezing, slots_of, freezing_entry, renewal_with, IsFreezable, AreFreezable}
 use Rattle.bz_renew.specs.Renewals.{renewal}
 use Rattle.bz_renew.proofs.Inserting.{inserted-other, inserted-hit, all-inserted-first, all-inserted-others}
 use Rattle.bz_renew.proofs.Words.{or-right}

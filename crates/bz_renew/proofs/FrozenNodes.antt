@@ -12,10 +12,11 @@ use Rattle.bz_task.specs.Instant.{Instant, words, page_at}
 use Rattle.bz_task.specs.Laws.{SlotWords, SwapsShowInSlots, SameRecordsShowTheSame}
 use Rattle.bz_task.specs.Scene.{Scene, here}
 use Rattle.bz_task.specs.Shown.{SameRecords}
-use Rattle.bz_task.specs.Steps.{Moves, next_stamp}
+use Rattle.bz_task.specs.Steps.{Moves, next_stamp, frozen_word}
 use Rattle.bz_task.specs.Swaps.{SwapsTo, swapped}
 use Rattle.bz_task.specs.declared.path.Link.{Link}
-use Rattle.bz_renew.specs.Freezings.{Freezing, frozen_word, renewal_with}
+use Rattle.bz_task.proofs.FrozenWords.{frozen-reads}
+use Rattle.bz_renew.specs.Freezings.{Freezing, renewal_with}
 use Rattle.bz_renew.specs.LinkSwaps.{IsChanged}
 use Rattle.bz_renew.proofs.Freezings.{IsFrozenBy}
 use Rattle.bz_renew.proofs.Words.{node-at}
@@ -29,15 +30,9 @@ pub record IsFrozenNow (st : ℕ) (n m : ℕ → ℕ) : Type 0 where
 abbrev frozen_with_stamp : ℕ → Status
 frozen_with_stamp st = record (status st) { frozen = true; stamp = next_stamp (status st).stamp }
 
-is-status : IsCodec Status IsStatus IsStatusWord status_word status → (st : ℕ) → st < 2 ^ 61 → IsStatus (frozen_with_stamp st)
-is-status codec st l = let r = codec.range st l in record { count = r.count; block = r.block; dead = r.dead; stamp = omega arith }
-
-pub frozen-plain : IsCodec Status IsStatus IsStatusWord status_word status → (st : ℕ) → st < 2 ^ 61 → frozen_word st < 2 ^ 61
-frozen-plain codec st l = codec.lawful _ (is-status codec st l)
-
 module _ (codec : IsCodec Status IsStatus IsStatusWord status_word status) (st : ℕ) (n m : ℕ → ℕ) (plain : st < 2 ^ 61) (t : IsFrozenNow st n m) where
   reads : status (m STATUS_AT) ≡ frozen_with_stamp st
-  reads = ap status t.status ∙ codec.value _ (is-status codec st plain)
+  reads = ap status t.status ∙ frozen-reads codec st plain
 
   field-stays : (f : Status → ℕ) → f (frozen_with_stamp st) ≡ f (status st) → f (status (m STATUS_AT)) ≡ f (status (n STATUS_AT))
   field-stays f e = ap f reads ∙ (e ∙ ap (λ z. f (status z)) (sym t.was))

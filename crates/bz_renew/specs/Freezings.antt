@@ -5,10 +5,10 @@ use Rattle.bz_layout.specs.declared.config.Config.{Config}
 use Rattle.bz_layout.specs.declared.sizes.TheConstants.{STATUS_AT}
 use Rattle.bz_shape.specs.Walk.{is_among}
 use Rattle.bz_swap.specs.EntryLists.{inserted}
-use Rattle.bz_word.specs.Statuses.{status, status_word}
+use Rattle.bz_word.specs.Statuses.{status}
 use Rattle.bz_word.specs.declared.entry.Entry.{Entry}
 use Rattle.bz_task.specs.Scene.{Scene, here}
-use Rattle.bz_task.specs.Steps.{next_stamp}
+use Rattle.bz_task.specs.Steps.{frozen_word}
 use Rattle.bz_task.specs.declared.path.Link.{Link}
 use Rattle.bz_renew.specs.Renewals.{renewal}
 
@@ -20,10 +20,6 @@ pub record Freezing : Type 0 where
 abbrev pub slots_of : List Freezing → List ℕ
 slots_of [] = []
 slots_of (f ∷ rest) = f.slot ∷ slots_of rest
-
--- a node's status word, frozen, with the next stamp
-abbrev pub frozen_word : ℕ → ℕ
-frozen_word st = status_word (record (status st) { frozen = true; stamp = next_stamp (status st).stamp })
 
 abbrev pub freezing_entry : Config → Freezing → Entry
 freezing_entry c f = record { target = node_address c f.slot + STATUS_AT; expected = f.status; new = frozen_word f.status }

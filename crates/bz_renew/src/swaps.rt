@@ -4,8 +4,8 @@ ghost use Rattle.std.specs.Prelude.{◌≡◌, ◌≢◌, ◌+◌, ◌<◌, ◌^
 ghost use Rattle.bz_layout.specs.Addresses.{node_address};
 ghost use Rattle.bz_layout.specs.Config.{IsConfig};
 ghost use Rattle.bz_swap.specs.SwapMemory.{is_target};
-ghost use Rattle.bz_task.specs.Steps.{next_stamp};
-ghost use Rattle.bz_renew.specs.Freezings.{frozen_word, renewal_with};
+ghost use Rattle.bz_task.specs.Steps.{next_stamp, frozen_word};
+ghost use Rattle.bz_renew.specs.Freezings.{renewal_with};
 ghost use Rattle.bz_renew.specs.Renewals.{restamped as restamped_word, renewal};
 
 use bz_layout::{Config, STATUS_AT};

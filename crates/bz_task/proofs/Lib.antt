@@ -2,6 +2,7 @@ mod Walks
 mod Sames
 mod Ages
 mod Frozen
+pub mod FrozenWords
 mod Inside
 mod Roots
 mod Ranges

@@ -3,6 +3,7 @@ use Rattle.std.specs.Prelude.{◌≡◌, ◌≢◌, ℕ, ◌+◌, ◌-◌, ◌%�
 use Rattle.bz_layout.specs.declared.config.Config.{Config}
 use Rattle.bz_layout.specs.declared.sizes.TheConstants.{STATUS_AT, META_AT, SHARED_WORDS, ROOT_AT}
 use Rattle.bz_slotted.specs.Page.{page}
+use Rattle.bz_word.specs.Statuses.{status, status_word}
 use Rattle.bz_task.specs.Good.{IsGood}
 use Rattle.bz_task.specs.Instant.{Instant, words, page_at}
 use Rattle.bz_task.specs.Shown.{SameNode, SameRecords, SameSeparators, SameRoot}
@@ -10,6 +11,10 @@ use Rattle.bz_task.specs.Shown.{SameNode, SameRecords, SameSeparators, SameRoot}
 -- the stamp after the next change
 abbrev pub next_stamp : ℕ → ℕ
 next_stamp stamp = (stamp + 1) % 2 ^ 32
+
+-- a node's status word, frozen, with the next stamp
+abbrev pub frozen_word : ℕ → ℕ
+frozen_word st = status_word (record (status st) { frozen = true; stamp = next_stamp (status st).stamp })
 
 -- a swap changed a node, whose words were n and are m
 pub record Moves (n m : ℕ → ℕ) : Type 0 where
