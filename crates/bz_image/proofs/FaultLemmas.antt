@@ -89,6 +89,10 @@ head_found bytes Sizes breaks = parts_found bytes Sizes (breaks.0, is_magic byte
 head_found bytes Long breaks = absurd breaks
 head_found bytes Memory breaks = absurd breaks
 
+-- bytes of another version are no head
+pub version_is : (bytes : List ℕ) → 20 ≤ length bytes → bytes_eq (take 8 bytes) magic ≡ true → ¬ (number_at 8 bytes ≡ 1) → head_of bytes ≡ Err Version
+version_is bytes enough good other = parts_found bytes Version (enough, good, other)
+
 -- the head that bytes tell
 abbrev pub told_head : List ℕ → Head
 told_head bytes = record { nodes = number_at 12 bytes; swaps = number_at 16 bytes }

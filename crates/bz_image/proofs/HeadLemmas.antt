@@ -1,5 +1,5 @@
 -- The head of an image, read and written.
-use Rattle.std.proofs.Common.{◌≡◌, ◌≤◌, ℕ, ◌+◌, Bool, true, List, ◌++◌, length, take, drop, refl, sym, ap, ◌∙◌, Result, Ok, Err, arith, length-append}
+use Rattle.std.proofs.Common.{◌≡◌, ◌≤◌, ℕ, ◌+◌, ◌-◌, Bool, true, List, ◌++◌, length, take, drop, refl, sym, ap, ◌∙◌, Result, Ok, Err, arith, length-append, take_all}
 use Rattle.std.specs.Prelude.{◌==◌, nat_lt, bytes_eq, if◌then◌else◌}
 use Rattle.std.proofs.Math.Seq.{take-add}
 use Rattle.std.proofs.lemmas.Bool.Decides.{nat_tests}
@@ -104,6 +104,10 @@ head_again bytes head are good =
     let twelve : take 12 bytes ≡ magic ++ little_bytes 4 1 = more_bytes 8 bytes _ _ first version in
     let sixteen : take 16 bytes ≡ (magic ++ little_bytes 4 1) ++ little_bytes 4 head.nodes = more_bytes 12 bytes _ _ twelve nodes in
     more_bytes 16 bytes _ _ sixteen swaps
+
+-- a number that is read from a place on
+pub read_there : (place : ℕ) (bytes : List ℕ) → little_number 4 (take (length bytes - place) (drop place bytes)) ≡ number_at place bytes
+read_there place bytes = ap (little_number 4) (take_all (length bytes - place) (drop place bytes) (omega (arith, length-drop place bytes)))
 
 -- a head reads no byte behind it
 number_alone : (place : ℕ) (bytes rest : List ℕ) → place + 4 ≤ length bytes → number_at place (bytes ++ rest) ≡ number_at place bytes

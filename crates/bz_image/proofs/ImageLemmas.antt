@@ -122,6 +122,22 @@ image_written bytes image are is =
       bytes_are = sym (take_all (file_length image.nodes image.swaps) bytes parts.1) ∙ written.bytes_are;
     }
 
+-- what a reader finds behind a head
+pub front_is : (bytes : List ℕ) (head : Head) (image : Image) (count : ℕ) → Ok head ≡ head_of bytes → count ≡ file_length head.nodes head.swaps → count ≤ length bytes → image ≡ image_at head bytes
+    → (front_of bytes ≡ Ok image) × (count ≡ file_length image.nodes image.swaps)
+front_is bytes head image count read long fits is = (
+  ap (λ (found : Result Head ImageFault). front_behind found bytes) (sym read)
+      ∙ enough (length bytes) (file_length head.nodes head.swaps) (image_at head bytes) (omega (arith, long, fits))
+      ∙ ap (λ (i : Image). Ok i) (sym is),
+  long ∙ ap (λ (i : Image). file_length i.nodes i.swaps) (sym is),
+)
+
+pub image_is : (bytes : List ℕ) (head : Head) (image : Image) (count : ℕ) → Ok head ≡ head_of bytes → count ≡ file_length head.nodes head.swaps → count ≤ length bytes → length bytes ≤ count → image ≡ image_at head bytes → image_of bytes ≡ Ok image
+image_is bytes head image count read long fits ends_there is =
+    let front = front_is bytes head image count read long fits is in
+    ap (λ (found : Result Image ImageFault). whole_of found bytes) front.0
+    ∙ ends (length bytes) (file_length image.nodes image.swaps) image (omega (arith, front.1, fits, ends_there))
+
 -- what was read has the size of a memory
 pub image_sized : (bytes : List ℕ) (image : Image) → AreBytes bytes → image_of bytes ≡ Ok image → IsSized image
 image_sized bytes image are is = (image_written bytes image are is).is_sized

@@ -1,9 +1,11 @@
-use Rattle.std.proofs.Common.{◌≡◌, Ok, arith, rules}
-use Rattle.bz_image.specs.Reads.{image_of}
-use Rattle.bz_image.proofs.ImageLemmas.{image_sized}
+use Rattle.std.proofs.Common.{arith}
+use Rattle.bz_image.proofs.ImageLemmas.{image_is, image_sized}
 use Rattle.bz_image.proofs.read.read_image.Goals as goal
+
+pub returns-clause-image : goal.returns-clause-image
+returns-clause-image c = image_is c.args.bytes.now c.in_ok-head.head c.in_ok-image.image c.image_bytes-length.result c.in_ok-head.ensures.head c.image_bytes-length.ensures c.if-bytes-length.false c.if-length-bytes.false c.in_ok-image.ensures
 
 pub returns-clause-sized : goal.returns-clause-sized
 returns-clause-sized c =
-    let is : image_of c.args.bytes.now ≡ Ok c.in_ok-image.image = search rules in
-    image_sized c.args.bytes.now c.in_ok-image.image (λ i. omega (arith, c.type_inv.bytes i)) is
+    let found = image_is c.args.bytes.now c.in_ok-head.head c.in_ok-image.image c.image_bytes-length.result c.in_ok-head.ensures.head c.image_bytes-length.ensures c.if-bytes-length.false c.if-length-bytes.false c.in_ok-image.ensures in
+    image_sized c.args.bytes.now c.in_ok-image.image (λ i. omega (arith, c.type_inv.bytes i)) found
