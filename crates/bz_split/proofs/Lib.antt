@@ -1,7 +1,7 @@
 mod RootSplitting
 mod BelowSplitting
 mod Parting
-mod Staying
+pub mod Staying
 mod Knowing
 mod Acting
 mod Viewing

@@ -5,7 +5,7 @@ use Rattle.std.proofs.lemmas.List.Elements.{All-take, All-drop}
 use Rattle.bz_key.specs.Bytes.{IsKey}
 use Rattle.bz_layout.specs.declared.sizes.TheConstants.{NODE_WORDS}
 use Rattle.bz_layout.specs.declared.thresholds.TheConstants.{SPLIT_ABOVE}
-use Rattle.bz_node.specs.Records.{IsPair}
+use Rattle.bz_node.specs.Records.{IsPair, IsAbove, IsBelow}
 use Rattle.bz_shape.specs.Order.{is_before}
 use Rattle.bz_slotted.specs.Readers.{found_of, live_of}
 use Rattle.bz_slotted.specs.ReadingLaws.{node_of}
@@ -47,6 +47,8 @@ module _ (part : LeavesPartInHalves) (are : HalvesAreLeaves) (words : List ℕ) 
   are-parts left_size right_size = record {
     halves = record { pairs = records; low = low; high = high; cut = of.cut; order = r.order; is_cut = of.is_cut; separator = of.separator; left_is = of.left; right_is = of.right };
     separator = subst IsKey (sym of.separator) parts.separator;
+    above = λ nodes lo hi none. subst (IsAbove lo) (sym of.separator) (subst (λ z. IsAbove z (separator_of records of.cut)) (r.fences nodes lo hi none).0 parts.above);
+    below = λ nodes lo hi none. subst (IsBelow hi) (sym of.separator) (subst (λ z. IsBelow z (separator_of records of.cut)) (r.fences nodes lo hi none).1 parts.below);
     left_whole = left-whole;
     right_whole = right-whole;
     before = λ key e. (λ t. found_of (node_of (of.left t)) key) ∙ ((leaves 0).before key (subst (λ z. is_before key z ≡ true) of.separator e) ∙ r.says key);

@@ -43,7 +43,7 @@ module _ (p q : Past) (c : Continues p q) (link : Link) (left right sep : List �
   unfolding parted-stays
   looked-stays v w = as-read-stays p q c link v.moment w
 
-  stood-stays : (slot before : ℕ) (image : List ℕ) → before + 1 ≤ p.now → StoodFresh slot image before p → StoodFresh slot image before q
+  pub stood-stays : (slot before : ℕ) (image : List ℕ) → before + 1 ≤ p.now → StoodFresh slot image before p → StoodFresh slot image before q
   stood-stays slot before image now f = record {
     unreached = ap (λ (x : Instant). x.reached slot) (c.at before (omega (arith, now))) ∙ f.unreached;
     copied = λ i l. subst (λ (k : Config). (q.at (before + 1)).value (node_address k slot + i) ≡ slice_index image i) (sym c.config)

@@ -10,7 +10,7 @@ use Rattle.bz_word.specs.declared.entry.Entry.{Entry}
 use Rattle.bz_content.specs.Restructures.{children_of}
 use Rattle.bz_task.specs.Instant.{Instant, words, form_at}
 use Rattle.bz_task.specs.Outcomes.{IsUnderNode, IsGuarded}
-use Rattle.bz_task.specs.Scene.{Scene, IsScene, here}
+use Rattle.bz_task.specs.Scene.{Past, Scene, IsScene, here}
 use Rattle.bz_task.specs.Swaps.{Change, Stand, SwapsTo, IsGoodSwap}
 use Rattle.bz_task.specs.declared.path.Link.{Link}
 use Rattle.bz_renew.specs.Freezings.{Freezing, renewal_with}
@@ -26,12 +26,12 @@ abbrev pub below_swap : Config → Link → Link → ℕ → List Entry
 below_swap c upper lower to = renewal_with c upper to (parent_freezing upper lower ∷ [])
 
 -- both guards were read, and were no frozen nodes'; the lower link stands in the node to which the upper one leads
-pub record AreLinksDown (upper lower : Link) (s : Scene) : Type 0 where
-  pub upper_guard : IsGuarded s.past upper
+pub record AreLinksDown (upper lower : Link) (p : Past) : Type 0 where
+  pub upper_guard : IsGuarded p upper
   pub upper_thawed : (status upper.status).frozen ≡ false
-  pub guard : IsGuarded s.past lower
+  pub guard : IsGuarded p lower
   pub thawed : (status lower.status).frozen ≡ false
-  pub under : IsUnderNode s.past lower guard.guarded
+  pub under : IsUnderNode p lower guard.guarded
   pub parent : under.parent ≡ upper.slot
 
 -- three slots are the worker's own and durable: the new parent, which breaks no rule in the place that the parent had when its
@@ -48,7 +48,7 @@ pub record AreReadyBelow (parent leaf g i m q l r : ℕ) (sep : List ℕ) (s : S
 
 -- the leaf was frozen, and its halves and the new parent are ready
 pub record IsBelowSplit (upper lower : Link) (q l r m : ℕ) (sep : List ℕ) (s : Scene) : Type 0 where
-  pub links : AreLinksDown upper lower s
+  pub links : AreLinksDown upper lower s.past
   pub leaf : WasFrozenLeaf lower.slot m s.past
   pub ready : AreReadyBelow upper.slot lower.slot links.guard.guarded links.under.child.child m q l r sep s
 

@@ -3,6 +3,7 @@ use Rattle.std.specs.Prelude.{◌≡◌, ℕ, ◌^◌, ◌<◌, true, false, Lis
 use Rattle.bz_key.specs.Bytes.{IsKey}
 use Rattle.bz_layout.specs.declared.sizes.TheConstants.{NODE_WORDS}
 use Rattle.bz_node.specs.Reading.{AreInKeyOrder, pairs_in}
+use Rattle.bz_node.specs.Records.{IsAbove, IsBelow}
 use Rattle.bz_shape.specs.Order.{is_before}
 use Rattle.bz_slotted.specs.Readers.{found_of}
 use Rattle.bz_slotted.specs.ReadingLaws.{node_of}
@@ -21,11 +22,13 @@ pub record AreHalvesFrom (words left right sep : List ℕ) : Type 0 where
   pub left_is : left ≡ left_words pairs low cut
   pub right_is : right ≡ right_words pairs high cut
 
--- between whatever bounds the words are a leaf, the parts are two, the one up to the separator and the other from it on; of each
--- key one of them says what the leaf says
+-- between whatever bounds the words are a leaf, the separator lies between them, and is not the lower one, and the parts are two,
+-- the one up to the separator and the other from it on; of each key one of them says what the leaf says
 pub record ArePartsOf (words left right sep : List ℕ) : Type 0 where
   pub halves : AreHalvesFrom words left right sep
   pub separator : IsKey sep
+  pub above : (nodes : ℕ) (low high : Option (List ℕ)) → node_fault nodes (node_of words) (node_of words) 0 low high ≡ None → IsAbove low sep
+  pub below : (nodes : ℕ) (low high : Option (List ℕ)) → node_fault nodes (node_of words) (node_of words) 0 low high ≡ None → IsBelow high sep
   pub left_whole : (nodes : ℕ) (low high : Option (List ℕ)) → node_fault nodes (node_of words) (node_of words) 0 low high ≡ None → node_fault nodes (node_of left) (node_of left) 0 low (Some sep) ≡ None
   pub right_whole : (nodes : ℕ) (low high : Option (List ℕ)) → node_fault nodes (node_of words) (node_of words) 0 low high ≡ None → node_fault nodes (node_of right) (node_of right) 0 (Some sep) high ≡ None
   pub before : (key : List ℕ) → is_before key sep ≡ true → found_of (node_of left) key ≡ found_of (node_of words) key

@@ -29,8 +29,8 @@ pub fn is_due(path: &Path, view: &LeafView) -> bool
     is_large(view) && bz_renew::is_due(path, view)
 }
 
-// Whether a leaf has more live words than it may keep.
-fn is_large(view: &LeafView) -> bool
+/// Whether a viewed leaf has more live words than it may keep.
+pub fn is_large(view: &LeafView) -> bool
     requires { IsLeafByItself view.now.image.0 }
     ensures { IsTrue result ↔ (SPLIT_ABOVE < live_of (node_of view.now.image.0)) }
 {

@@ -7,5 +7,6 @@ mod parts;
 mod phase;
 mod split_root;
 
-pub use due::is_due;
+pub use due::{is_due, is_large};
+pub use parts::parts_of;
 pub use split_root::SplitRoot;

@@ -13,7 +13,7 @@ use bz_renew::{is_whole, sort_records};
 use bz_task::LeafView;
 
 /// The halves of a viewed leaf with more live words than it may keep. Its records are left in `page`.
-pub(crate) fn parts_of(view: &LeafView, page: &mut PageBuf) -> Halves
+pub fn parts_of(view: &LeafView, page: &mut PageBuf) -> Halves
     requires leaf { IsLeafByItself view.now.image.0 }
     requires many { SPLIT_ABOVE < live_of (node_of view.now.image.0) }
     ensures { ArePartsOf view.now.image.0 result.left.0 result.right.0 result.separator }
