@@ -1,0 +1,13 @@
+mod OpenNodes
+mod ReadingParents
+mod Fronts
+mod Staying
+mod Acting
+mod Ending
+mod Making
+mod Reading
+mod Telling
+mod Looking
+mod Writing
+mod Viewing
+mod NewParents

@@ -1,0 +1,35 @@
+-- The split of a leaf below a parent as a task.
+use Rattle.std.specs.Prelude.{ℕ, zero, suc, List, Option, slice_index}
+use Rattle.bz_task.specs.Scene.{Scene, Stage}
+use Rattle.bz_task.specs.declared.todo.Outcome.{Outcome}
+use Rattle.bz_task.specs.declared.todo.Seen.{Seen}
+use Rattle.bz_task.specs.declared.todo.Todo.{Todo}
+use Rattle.bz_below.specs.Facts.{Below, below_asks, below_end, below_left, below_needs, below_facts, below_differs}
+use Rattle.bz_below.specs.declared.split_below.SplitBelow.{SplitBelow}
+
+-- the words of the new parent, of the left half and of the right half
+abbrev pub three : List ℕ → List ℕ → List ℕ → ℕ → List ℕ
+three parent left right zero = parent
+three parent left right (suc zero) = left
+three parent left right (suc (suc n)) = right
+
+abbrev pub below_of : SplitBelow → Below
+below_of t = record { upper = t.upper; lower = t.lower; slot = slice_index t.slots; image = three t.parent.0 t.halves.left.0 t.halves.right.0; read = t.read.0; sep = t.halves.separator }
+
+abbrev pub asks_below : SplitBelow → Option Todo
+asks_below t = below_asks t.config (below_of t) t.phase
+
+abbrev pub end_below : SplitBelow → Option Outcome
+end_below t = below_end t.phase
+
+abbrev pub left_below : SplitBelow → ℕ
+left_below t = below_left t.phase
+
+abbrev pub needs_below : SplitBelow → ℕ
+needs_below t = below_needs t.phase
+
+abbrev pub facts_below : SplitBelow → Stage → Scene → Type 0
+facts_below t = below_facts (below_of t) t.phase
+
+abbrev pub differs_below : SplitBelow → Seen → Type 0
+differs_below t = below_differs t.upper t.lower t.phase

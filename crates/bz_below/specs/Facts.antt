@@ -1,0 +1,295 @@
+-- What the split of a leaf below a parent knows, and what it asks for.
+use Rattle.std.specs.Prelude.{◌≡◌, ◌≢◌, ℕ, ◌+◌, ◌-◌, ◌^◌, ◌<◌, ◌≤◌, ◌⊎◌, nat_lt, if◌then◌else◌, true, false, List, map, All, Option, Some, None, slice_get, length}
+use Rattle.bz_call.specs.declared.replies.Spent.TheVariants.{Nodes as NoNodes, Swaps as NoSwaps}
+use Rattle.bz_key.specs.Bytes.{IsKey}
+use Rattle.bz_key.specs.Packing.{packed}
+use Rattle.bz_layout.specs.Addresses.{node_address}
+use Rattle.bz_layout.specs.Slots.{FreeSlots}
+use Rattle.bz_layout.specs.declared.config.Config.{Config}
+use Rattle.bz_layout.specs.declared.sizes.TheConstants.{NODE_WORDS, STATUS_AT, SHARED_WORDS}
+use Rattle.bz_layout.specs.declared.thresholds.TheConstants.{SPLIT_SLOTS}
+use Rattle.bz_node.specs.Layout.{needed}
+use Rattle.bz_node.specs.Reading.{children_in}
+use Rattle.bz_node.specs.Records.{child_entry, IsAbove, IsBelow}
+use Rattle.bz_shape.specs.Order.{is_before}
+use Rattle.bz_slotted.specs.Readers.{found_of}
+use Rattle.bz_slotted.specs.ReadingLaws.{node_of}
+use Rattle.bz_slotted.specs.Rules.{node_fault}
+use Rattle.bz_task.specs.Instant.{words, form_at}
+use Rattle.bz_task.specs.Scene.{Past, Scene, Stage, Waiting, Took, HasFilled}
+use Rattle.bz_task.specs.declared.path.Link.{Link}
+use Rattle.bz_task.specs.declared.path.Path.{Path}
+use Rattle.bz_task.specs.declared.view.LeafView.{LeafView}
+use Rattle.bz_task.specs.declared.todo.Outcome.{Outcome}
+use Rattle.bz_task.specs.declared.todo.Outcome.TheVariants.{Done as IsDone, Restart as Restarts, Full as IsFull, NeedsRoom as NoneFits}
+use Rattle.bz_task.specs.declared.todo.Seen.{Seen}
+use Rattle.bz_task.specs.declared.todo.Seen.TheVariants.{Read as Was}
+use Rattle.bz_task.specs.declared.todo.Todo.{Todo}
+use Rattle.bz_task.specs.declared.todo.Todo.TheVariants.{Read as Reads, Store as Stores_at, Flush as Flushes_line, Swap as Swaps_for, Finish}
+use Rattle.bz_halves.specs.Parents.{parted_words}
+use Rattle.bz_renew.specs.Due.{IsStatusOf}
+use Rattle.bz_renew.specs.FrozenLeaves.{WasFrozenLeaf}
+use Rattle.bz_renew.specs.Guards.{WasAsRead}
+use Rattle.bz_renew.specs.Renewals.{renewal}
+use Rattle.bz_swap.specs.SwapMemory.{is_target}
+use Rattle.bz_renew.specs.Nodes.{Nodes, word_address, word_value, line_number, AreWriting, ArePlain, HaveSlots, HasFilledBegun, AreSlotsTaken}
+use Rattle.bz_split.specs.BelowSplits.{AreLinksDown, below_swap}
+use Rattle.bz_split.specs.Facts.{SPLIT_WORDS, SPLIT_LINES, StoodFresh}
+use Rattle.bz_below.specs.Parents.{WereRead, IsParentOf, WasParent}
+use Rattle.bz_split.specs.Parts.{ArePartsOf}
+use Rattle.bz_below.specs.declared.phase.Phase.{Phase}
+use Rattle.bz_below.specs.declared.phase.Phase.TheVariants.{Fresh, Word, Again, Guard, Store, Flush, Swap, Done, Restart, NoRoom, NoSlot, NoSwap}
+
+-- the link to the parent and the link to the leaf; the slots and the words of the new parent, of the left half and of the right
+-- half; the words that were read of the parent so far; and the separator
+pub record Below : Type 0 where
+  pub upper : Link
+  pub lower : Link
+  pub slot : ℕ → ℕ
+  pub image : ℕ → List ℕ
+  pub read : List ℕ
+  pub sep : List ℕ
+
+abbrev pub below_nodes : Below → Nodes
+below_nodes r = record { count = SPLIT_SLOTS; slot = r.slot; image = r.image }
+
+abbrev pub below_asks : Config → Below → Phase → Option Todo
+below_asks c r Fresh = None
+below_asks c r (Word i) = Some (Reads (node_address c r.upper.slot + i))
+below_asks c r Again = Some (Reads r.lower.guard)
+below_asks c r Guard = Some (Reads r.upper.guard)
+below_asks c r (Store j) = Some (Stores_at (word_address c (below_nodes r) j) (word_value (below_nodes r) j))
+below_asks c r (Flush j) = Some (Flushes_line (line_number c (below_nodes r) j))
+below_asks c r Swap = Some (Swaps_for (below_swap c r.upper r.lower (r.slot 0)))
+below_asks c r phase = Some Finish
+
+abbrev pub below_end : Phase → Option Outcome
+below_end Done = Some IsDone
+below_end Restart = Some Restarts
+below_end NoRoom = Some NoneFits
+below_end NoSlot = Some (IsFull NoNodes)
+below_end NoSwap = Some (IsFull NoSwaps)
+below_end phase = None
+
+-- the most acts: the loads of the parent's words and of the two guards, a store for each word, a flush for each line, the swap, and
+-- the end
+abbrev pub below_acts : ℕ
+below_acts = NODE_WORDS + SPLIT_WORDS + SPLIT_LINES + 3
+
+abbrev pub below_left : Phase → ℕ
+below_left Fresh = below_acts
+below_left (Word i) = below_acts - i
+below_left Again = SPLIT_WORDS + SPLIT_LINES + 3
+below_left Guard = SPLIT_WORDS + SPLIT_LINES + 2
+below_left (Store j) = SPLIT_WORDS + SPLIT_LINES + 1 - j
+below_left (Flush j) = SPLIT_LINES + 1 - j
+below_left Swap = 1
+below_left phase = 0
+
+-- the slots are taken when both guards have been looked at again
+abbrev pub below_needs : Phase → ℕ
+below_needs Fresh = SPLIT_SLOTS
+below_needs (Word i) = SPLIT_SLOTS
+below_needs Again = SPLIT_SLOTS
+below_needs Guard = SPLIT_SLOTS
+below_needs phase = 0
+
+-- after a word comes the next one, or the parent's status once more
+abbrev pub word_after : ℕ → Phase
+word_after i = if nat_lt (i + 1) NODE_WORDS then Word (i + 1) else Again
+
+-- after a store comes the next one, or the first flush; after a flush the next one, or the swap
+abbrev pub store_after : ℕ → Phase
+store_after j = if nat_lt (j + 1) SPLIT_WORDS then Store (j + 1) else Flush 0
+
+abbrev pub flush_after : ℕ → Phase
+flush_after j = if nat_lt (j + 1) SPLIT_LINES then Flush (j + 1) else Swap
+
+-- both links were read; the leaf was frozen, and the two parts say what it says. The lower guard was read at moment `guarded`, and
+-- the lower link was that to child `child`
+pub record HasPartedBelow (upper lower : Link) (left right sep : List ℕ) (p : Past) : Type 0 where
+  pub links : AreLinksDown upper lower p
+  pub guarded : ℕ
+  pub is_guarded : links.guard.guarded ≡ guarded
+  pub child : ℕ
+  pub is_child : links.under.child.child ≡ child
+  pub moment : ℕ
+  pub leaf : WasFrozenLeaf lower.slot moment p
+  pub separator : IsKey sep
+  pub above : IsAbove ((form_at p.config (p.at moment)).low lower.slot) sep
+  pub below : IsBelow ((form_at p.config (p.at moment)).high lower.slot) sep
+  pub left_whole : node_fault p.config.nodes (node_of left) (node_of left) 0 ((form_at p.config (p.at moment)).low lower.slot) (Some sep) ≡ None
+  pub right_whole : node_fault p.config.nodes (node_of right) (node_of right) 0 (Some sep) ((form_at p.config (p.at moment)).high lower.slot) ≡ None
+  pub before : (key : List ℕ) → is_before key sep ≡ true → found_of (node_of left) key ≡ found_of (words p.config (p.at moment) lower.slot) key
+  pub from : (key : List ℕ) → is_before key sep ≡ false → found_of (node_of right) key ≡ found_of (words p.config (p.at moment) lower.slot) key
+  pub left_size : length left ≡ NODE_WORDS
+  pub right_size : length right ≡ NODE_WORDS
+  pub left_plain : All (λ v. v < 2 ^ 61) left
+  pub right_plain : All (λ v. v < 2 ^ 61) right
+
+-- the parent's words before a place were read
+pub record IsReading (r : Below) (place : ℕ) (p : Past) : Type 0 where
+  pub parted : HasPartedBelow r.upper r.lower (r.image 1) (r.image 2) r.sep p
+  pub were : WereRead r.upper.slot parted.guarded r.lower.status place r.read p
+
+-- the parent as it was read has room for the separator
+abbrev pub HasRoom : List ℕ → List ℕ → Type 0
+HasRoom read sep = needed (map child_entry (children_in read)) + 2 + length (packed sep) ≤ SHARED_WORDS
+
+-- the parent's words were those that were read; and it has room for the separator
+pub record IsPlan (upper lower : Link) (left right sep read : List ℕ) (p : Past) : Type 0 where
+  pub parted : HasPartedBelow upper lower left right sep p
+  pub parent : WasParent upper lower parted.guarded parted.child sep read p
+  pub room : HasRoom read sep
+
+abbrev pub IsPlanned : Below → Past → Type 0
+IsPlanned r p = IsPlan r.upper r.lower (r.image 1) (r.image 2) r.sep r.read p
+
+-- the parent as it was read lacked that room: then the split of the leaf is not the one to be made
+pub record LackedRoom (upper lower : Link) (sep : List ℕ) (p : Past) : Type 0 where
+  pub moment : ℕ
+  pub child : ℕ
+  pub read : List ℕ
+  pub since : p.since ≤ moment
+  pub now : moment ≤ p.now
+  pub parent : WasParent upper lower moment child sep read p
+  pub room : SHARED_WORDS < needed (map child_entry (children_in read)) + 2 + length (packed sep)
+
+-- the words of the new parent
+abbrev pub parent_words : (r : Below) (child level : ℕ) → Option (List ℕ) → Option (List ℕ) → List ℕ
+parent_words r child level low high = parted_words (children_in r.read) child (r.slot 1) (r.slot 2) r.sep low high level
+
+-- since the leaf was frozen the upper guard was looked at again, and was as the path names it; the three nodes are being written,
+-- the first of them the new parent: so many of their words are stored, and so many of their lines durable. The upper link is no word
+-- of the parent itself
+pub record IsSplittingBelow (r : Below) (stored lines : ℕ) (s : Scene) : Type 0 where
+  pub planned : IsPlanned r s.past
+  pub looked : WasAsRead r.upper planned.parted.moment s.past
+  pub link_apart : r.upper.link ≢ node_address s.past.config r.upper.slot + STATUS_AT
+  pub guard_apart : r.upper.guard ≢ node_address s.past.config r.upper.slot + STATUS_AT
+  pub over : r.image 0 ≡ parent_words r planned.parted.child planned.parent.level planned.parent.low planned.parent.high
+  pub plain : ArePlain (below_nodes r)
+  pub writing : AreWriting (below_nodes r) stored lines s
+
+-- at a moment since the call began the upper link led to a new parent: what the old one was at an earlier one, with the two leaves in
+-- the place of the child to which the lower link led. To none of the three a link had led one moment before, and the leaves were these
+pub record WasSplitBelow (upper lower : Link) (left right sep : List ℕ) (p : Past) : Type 0 where
+  pub parent_slot : ℕ
+  pub left_slot : ℕ
+  pub right_slot : ℕ
+  pub read : List ℕ
+  pub child : ℕ
+  pub moment : ℕ
+  pub before : ℕ
+  pub since : p.since ≤ moment
+  pub order : moment ≤ before
+  pub now : before + 1 ≤ p.now
+  pub old : WasParent upper lower moment child sep read p
+  pub led : (p.at (before + 1)).value upper.link ≡ parent_slot + 1
+  pub parent : StoodFresh parent_slot (parted_words (children_in read) child left_slot right_slot sep old.low old.high old.level) before p
+  pub left_half : StoodFresh left_slot left before p
+  pub right_half : StoodFresh right_slot right before p
+
+-- these are the parts of the viewed leaf
+pub record WasPartedBelow (upper lower : Link) (view : LeafView) (p : Past) : Type 0 where
+  pub left : List ℕ
+  pub right : List ℕ
+  pub sep : List ℕ
+  pub parts : ArePartsOf view.image.0 left right sep
+  pub split : WasSplitBelow upper lower left right sep p
+
+-- the parent of the leaf, as it was read, lacked the room for the separator of these parts of the viewed leaf
+pub record LackedPart (upper lower : Link) (view : LeafView) (p : Past) : Type 0 where
+  pub left : List ℕ
+  pub right : List ℕ
+  pub sep : List ℕ
+  pub parts : ArePartsOf view.image.0 left right sep
+  pub lacked : LackedRoom upper lower sep p
+
+abbrev pub below_facts : Below → Phase → Stage → Scene → Type 0
+below_facts r Fresh Waiting s = IsReading r 1 s.past
+below_facts r (Word i) Waiting s = HasFilled s × ((0 < i) × ((i < NODE_WORDS) × IsReading r i s.past))
+below_facts r Again Waiting s = HasFilled s × IsReading r NODE_WORDS s.past
+below_facts r Guard Waiting s = HasFilled s × IsPlanned r s.past
+below_facts r (Store j) Waiting s = HasFilledBegun (below_nodes r) j s × ((j < SPLIT_WORDS) × IsSplittingBelow r j 0 s)
+below_facts r (Store j) Took s = HasFilledBegun (below_nodes r) (j + 1) s × ((j < SPLIT_WORDS) × IsSplittingBelow r (j + 1) 0 s)
+below_facts r (Flush j) Waiting s = HasFilled s × ((j < SPLIT_LINES) × IsSplittingBelow r SPLIT_WORDS j s)
+below_facts r (Flush j) Took s = HasFilled s × ((j < SPLIT_LINES) × IsSplittingBelow r SPLIT_WORDS (j + 1) s)
+below_facts r Swap Waiting s = HasFilled s × IsSplittingBelow r SPLIT_WORDS SPLIT_LINES s
+below_facts r Swap Took s = HasFilled s × WasSplitBelow r.upper r.lower (r.image 1) (r.image 2) r.sep s.past
+below_facts r Done Waiting s = HasFilled s × WasSplitBelow r.upper r.lower (r.image 1) (r.image 2) r.sep s.past
+below_facts r NoRoom Waiting s = HasFilled s × LackedRoom r.upper r.lower r.sep s.past
+below_facts r Fresh Took s = ⊥
+below_facts r (Word i) Took s = ⊥
+below_facts r Again Took s = ⊥
+below_facts r Guard Took s = ⊥
+below_facts r phase Waiting s = HasFilled s
+below_facts r phase Took s = ⊥
+
+-- what its end means: the upper link led to a fresh parent with the two parts; or the parent lacked the room; else nothing is known
+-- beyond why it ended
+abbrev pub below_means : Link → Link → List ℕ → List ℕ → List ℕ → Outcome → Scene → Type 0
+below_means upper lower left right sep IsDone s = WasSplitBelow upper lower left right sep s.past
+below_means upper lower left right sep NoneFits s = LackedRoom upper lower sep s.past
+below_means upper lower left right sep Restarts s = Unit {0}
+below_means upper lower left right sep (IsFull NoNodes) s = Unit {0}
+below_means upper lower left right sep (IsFull NoSwaps) s = Unit {0}
+below_means upper lower left right sep outcome s = ⊥
+
+-- a guard is another one than the path names
+abbrev pub below_differs : Link → Link → Phase → Seen → Type 0
+below_differs upper lower Again (Was v) = v ≢ lower.status
+below_differs upper lower Guard (Was v) = v ≢ upper.status
+below_differs upper lower phase seen = ⊥
+
+-- the swap may be made: its targets are different words
+pub record IsSwapReady (c : Config) (r : Below) : Type 0 where
+  pub upper_plain : r.upper.status < 2 ^ 61
+  pub lower_plain : r.lower.status < 2 ^ 61
+  pub apart : r.upper.link ≢ r.upper.guard
+  pub slot : r.upper.slot < c.nodes
+  pub target : is_target (renewal r.upper (r.slot 0)) (node_address c r.upper.slot + STATUS_AT) ≡ false
+
+-- what is named is there; and before the slots are taken, the parent is one that may be parted, and has the room
+abbrev pub IsReadyBelow : Config → Below → Phase → Type 0
+IsReadyBelow c r (Word i) = (r.upper.slot < c.nodes) × (i < NODE_WORDS)
+IsReadyBelow c r (Store j) = HaveSlots c.nodes (below_nodes r) × (j < SPLIT_WORDS)
+IsReadyBelow c r (Flush j) = HaveSlots c.nodes (below_nodes r) × (j < SPLIT_LINES)
+IsReadyBelow c r Swap = HaveSlots c.nodes (below_nodes r) × IsSwapReady c r
+IsReadyBelow c r phase = Unit {0}
+
+-- the words are those of a parent whose child in the slot may be parted there
+pub record HasParent (nodes slot : ℕ) (sep read : List ℕ) : Type 0 where
+  pub level : ℕ
+  pub child : ℕ
+  pub low : Option (List ℕ)
+  pub high : Option (List ℕ)
+  pub is : IsParentOf nodes slot sep read level child low high
+
+-- these are the words of the new parent, of whatever parent these were the words
+abbrev pub IsNewParent : (nodes slot left right : ℕ) → List ℕ → List ℕ → List ℕ → Type 0
+IsNewParent nodes slot left right sep read image =
+    (level child : ℕ) (low high : Option (List ℕ)) → IsParentOf nodes slot sep read level child low high → image ≡ parted_words (children_in read) child left right sep low high level
+
+-- three slots were taken, and the new parent is made; or there were not so many
+abbrev pub HasBegunBelow : ℕ → Below → Phase → FreeSlots → FreeSlots → Type 0
+HasBegunBelow nodes r (Store j) old new =
+    (j ≡ 0) × (AreSlotsTaken (below_nodes r) old new × (IsNewParent nodes r.lower.slot (r.slot 1) (r.slot 2) r.sep r.read (r.image 0) × (length (r.image 0) ≡ NODE_WORDS)))
+HasBegunBelow nodes r NoSlot old new = (length old.free < SPLIT_SLOTS) × (new ≡ old)
+HasBegunBelow nodes r phase old new = ⊥
+
+-- that is where the upper guard was as the path names it; elsewhere none was taken
+abbrev pub HasLookedBelow : ℕ → Below → Seen → Phase → FreeSlots → FreeSlots → Type 0
+HasLookedBelow nodes r seen phase old new =
+    ((seen ≡ Was r.upper.status) × HasBegunBelow nodes r phase old new) ⊎ ((seen ≢ Was r.upper.status) × ((phase ≡ Restart) × (new ≡ old)))
+
+-- where the parent's status is as it was, its words tell whether there is room
+abbrev pub HasTold : Below → Seen → Phase → Type 0
+HasTold r seen Guard = (seen ≡ Was r.lower.status) × HasRoom r.read r.sep
+HasTold r seen NoRoom = (seen ≡ Was r.lower.status) × (SHARED_WORDS < needed (map child_entry (children_in r.read)) + 2 + length (packed r.sep))
+HasTold r seen Restart = seen ≢ Was r.lower.status
+HasTold r seen phase = ⊥
+
+-- the guard of the link before the last, as it was read, was no frozen node's
+abbrev pub IsThawedAbove : Path → Type 0
+IsThawedAbove path = (link : Link) → slice_get path.links (path.depth - 2) ≡ Some link → IsStatusOf false link.status

@@ -1,0 +1,27 @@
+//! What is known of a parent that was read word by word. The function does nothing: its contract is the law.
+
+ghost use Rattle.bz_below.specs.Parents.{ReadParentsWere};
+
+use bz_content::laws as content;
+use bz_halves::laws as halves;
+use bz_renew::laws as renew;
+use bz_shape::laws as shape;
+use bz_slotted::laws as slotted;
+use bz_task::laws;
+
+/// The words of a parent that were read one by one are those of one moment, where its status is found again; and the leaf's place
+/// may be parted there.
+pub fn read_parents_were()
+    ensures { ReadParentsWere }
+{
+    content::well_formed_images_have_no_fault();
+    shape::trees_have_forms();
+    slotted::inner_rules_are_facts();
+    slotted::whole_inners_are_readable();
+    laws::nodes_stay();
+    laws::headers_say_the_level();
+    laws::ranges_stay();
+    renew::guarded_links_stand();
+    renew::frozen_leaves_stand_still();
+    halves::read_children_may_be_parted();
+}

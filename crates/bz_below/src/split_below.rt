@@ -1,0 +1,425 @@
+//! The task that splits a frozen leaf below a parent.
+
+ghost use Rattle.std.specs.Prelude.{◌≡◌, ◌≢◌, ◌↔◌, ◌+◌, ◌-◌, ◌<◌, ◌≤◌, ◌^◌, ◌⊎◌, ℕ, List, Option, Some, None, IsTrue, IsSome, IfSome, true, false, slice_get, slice_index, length};
+ghost use Rattle.bz_layout.specs.Config.{IsConfig};
+ghost use Rattle.bz_layout.specs.declared.thresholds.TheConstants.{SPLIT_ABOVE, SPLIT_SLOTS};
+ghost use Rattle.bz_page.specs.Pages.{IsLeafByItself};
+ghost use Rattle.bz_renew.specs.Due.{LeadsTo};
+ghost use Rattle.bz_renew.specs.Nodes.{word_value};
+ghost use Rattle.bz_slotted.specs.Readers.{live_of};
+ghost use Rattle.bz_slotted.specs.ReadingLaws.{node_of};
+ghost use Rattle.bz_word.specs.Statuses.{status};
+ghost use Rattle.bz_task.specs.Outcomes.{IsPath, IsView};
+ghost use Rattle.bz_task.specs.OwnActs.{AreTakenFrom, AreUnreached, gained};
+ghost use Rattle.bz_task.specs.Requests.{Hears, Tells, IsKnown};
+ghost use Rattle.bz_task.specs.Scene.{Scene, Stage, Waiting, IsScene};
+ghost use Rattle.bz_task.specs.declared.todo.Seen.TheVariants.{Read as Was, Swapped, NoSwap as NoneLeft};
+ghost use Rattle.bz_below.specs.Duties.{below_of, asks_below, end_below, left_below, needs_below, facts_below, differs_below};
+ghost use Rattle.bz_below.specs.Facts.{below_nodes, below_acts, below_left, below_facts, below_means, HasRoom, HasParent, IsNewParent, HasBegunBelow, HasLookedBelow, HasTold, IsReadyBelow, IsThawedAbove, WasPartedBelow, LackedPart, below_needs, word_after, store_after, flush_after};
+ghost use Rattle.bz_split.specs.Facts.{split_change};
+
+use crate::front::{level_of, low_fence};
+use crate::laws::read_parents_were;
+use crate::links::upper_link;
+use crate::phase::Phase;
+use bz_call::Spent;
+use bz_halves::{Halves, ParentChange, parent_over, place_of};
+use bz_key::PageBuf;
+use bz_layout::{Config, LINE_WORDS, NODE_WORDS, SPLIT_SLOTS, Slots};
+use bz_node::NodeImage;
+use bz_renew::{is_whole, last_link, swap_freezing, take_three};
+use bz_split::laws::leaf_splits_below_are_good;
+use bz_split::parts_of;
+use bz_task::{LeafView, Link, Outcome, Path, Seen, Task, Todo, laws};
+
+const NODE_LINES: u32 = NODE_WORDS / LINE_WORDS;
+
+const SPLIT_WORDS: u32 = NODE_WORDS * SPLIT_SLOTS;
+
+const SPLIT_LINES: u32 = NODE_LINES * SPLIT_SLOTS;
+
+/// The split of the frozen leaf that a view shows, below a parent. It ends with Done where a new parent, with the leaf's halves in
+/// its place, has taken the old one's place, which is frozen; with Restart where a link or a guard was another one; with NeedsRoom
+/// where the parent has no room for the separator; and with Full where fewer than three slots or no descriptor were left.
+#[derive(Drop)]
+pub struct SplitBelow {
+    config: Config,
+    // the link to the parent, which is turned, and the link to the leaf
+    upper: Link,
+    lower: Link,
+    // the words of the halves; those that were read of the parent; and those of the new parent once the slots are known
+    halves: Halves,
+    read: NodeImage,
+    parent: NodeImage,
+    // the slots of the new parent, of the left half and of the right half
+    slots: [u16; 3],
+    phase: Phase,
+}
+
+impl SplitBelow {
+    /// The split of a leaf below a parent that was frozen when it was viewed, and had more live words than a leaf may keep. Its
+    /// records are left in `page`.
+    pub fn new(config: &Config, path: Path, view: LeafView, page: &mut PageBuf) -> SplitBelow
+        requires deep { 2 ≤ path.depth }
+        requires few { path.depth ≤ 12 }
+        requires leaf { IsLeafByItself view.image.0 }
+        requires many { SPLIT_ABOVE < live_of (node_of view.image.0) }
+        requires frozen { (status view.status).frozen ≡ true }
+        requires leads { LeadsTo path view.slot }
+        requires thawed { IsThawedAbove path }
+        ensures config { ⟦<SplitBelow as Task>⟧.config result ≡ config.now }
+        ensures asks { ⟦<SplitBelow as Task>⟧.asks result ≡ None }
+        ensures left { ⟦<SplitBelow as Task>⟧.left result ≡ below_acts }
+        ensures needs { ⟦<SplitBelow as Task>⟧.needs result ≡ SPLIT_SLOTS }
+        ensures change { ⟦<SplitBelow as Task>⟧.change result ≡ split_change }
+        ensures facts { (key : List ℕ) (s : Scene) → s.past.config ≡ config.now → IsScene s → IsPath key path s.past → IsView key view s.past → ⟦<SplitBelow as Task>⟧.facts result Waiting s }
+        ensures done { (upper lower : Link) (s : Scene) → slice_get path.links (path.depth - 2) ≡ Some upper → slice_get path.links (path.depth - 1) ≡ Some lower → ⟦<SplitBelow as Task>⟧.means result Outcome.Done s → WasPartedBelow upper lower view s.past }
+        ensures no_path { (other : Path) (s : Scene) → ⟦<SplitBelow as Task>⟧.means result (Outcome.Path other) s → ⊥ }
+        ensures no_view { (other : LeafView) (s : Scene) → ⟦<SplitBelow as Task>⟧.means result (Outcome.View other) s → ⊥ }
+        ensures no_room { (upper lower : Link) (s : Scene) → slice_get path.links (path.depth - 2) ≡ Some upper → slice_get path.links (path.depth - 1) ≡ Some lower → ⟦<SplitBelow as Task>⟧.means result Outcome.NeedsRoom s → LackedPart upper lower view s.past }
+    {
+        bz_renew::laws::views_show_frozen_leaves();
+        bz_layout::slots_apart();
+        let halves = parts_of(&view, page);
+        let lower = last_link(&path);
+        SplitBelow {
+            config: *config,
+            upper: upper_link(&path),
+            lower,
+            read: first_word(lower.status),
+            parent: halves.left,
+            halves,
+            slots: [0; 3],
+            phase: Phase::Fresh,
+        }
+    }
+
+    // The new parent, with the halves in these slots; none where the old one has no room for the separator.
+    fn parent_with(&self, left: u16, right: u16) -> Option<NodeImage>
+        requires { HasParent self.now.config.nodes self.now.lower.slot self.now.halves.separator self.now.read.0 }
+        ensures room { IsSome result ↔ HasRoom self.now.read.0 self.now.halves.separator }
+        ensures words { IfSome result (λ image. IsNewParent self.now.config.nodes self.now.lower.slot left right self.now.halves.separator self.now.read.0 image.0) }
+    {
+        is_whole(&self.read);
+        bz_halves::laws::children_may_be_parted();
+        bz_slotted::laws::high_fences_are_read();
+        let Some(place) = place_of(&self.read, self.lower.slot) else {
+            unreachable!();
+        };
+        let low = low_fence(&self.read);
+        let high = self.read.high();
+        let level = level_of(&self.read);
+        let change = ParentChange {
+            place,
+            left,
+            right,
+            separator: self.halves.separator,
+        };
+        parent_over(&self.read, &change, low, high, level)
+    }
+}
+
+impl SplitBelow {
+    // The phase after the parent's status, once more: its words tell whether there is room, where it is as it was.
+    fn told(&self, seen: Seen) -> Phase
+        requires { seen ≡ Was self.now.lower.status → HasParent self.now.config.nodes self.now.lower.slot self.now.halves.separator self.now.read.0 }
+        ensures { HasTold (below_of self.now) seen result }
+    {
+        if !is_read(seen, self.lower.status) {
+            return Phase::Restart;
+        }
+        match self.parent_with(0, 0) {
+            Some(_) => Phase::Guard,
+            None => Phase::NoRoom,
+        }
+    }
+
+    // The new parent, with the halves in these slots, where the old one has the room.
+    fn new_parent(&self, left: u16, right: u16) -> NodeImage
+        requires parent { HasParent self.now.config.nodes self.now.lower.slot self.now.halves.separator self.now.read.0 }
+        requires room { HasRoom self.now.read.0 self.now.halves.separator }
+        ensures words { IsNewParent self.now.config.nodes self.now.lower.slot left right self.now.halves.separator self.now.read.0 result.0 }
+        ensures size { length result.0 ≡ 128 }
+    {
+        let Some(parent) = self.parent_with(left, right) else {
+            unreachable!();
+        };
+        is_whole(&parent);
+        parent
+    }
+
+    // The phase with which the nodes are begun: the first store, where three slots are left.
+    fn begin(&mut self, slots: &mut Slots)
+        requires parent { HasParent self.old.config.nodes self.old.lower.slot self.old.halves.separator self.old.read.0 }
+        requires room { HasRoom self.old.read.0 self.old.halves.separator }
+        ensures config { self.new.config ≡ self.old.config }
+        ensures upper { self.new.upper ≡ self.old.upper }
+        ensures lower { self.new.lower ≡ self.old.lower }
+        ensures halves { self.new.halves ≡ self.old.halves }
+        ensures read { self.new.read ≡ self.old.read }
+        ensures begun { HasBegunBelow self.old.config.nodes (below_of self.new) self.new.phase slots.old slots.new }
+    {
+        match take_three(slots) {
+            Some(taken) => {
+                self.parent = self.new_parent(taken[1], taken[2]);
+                self.slots = taken;
+                self.phase = Phase::Store(0);
+            }
+            None => self.phase = Phase::NoSlot,
+        }
+    }
+
+    // The phase after another look at the upper guard: the nodes are begun where it is as the path names it.
+    fn look(&mut self, seen: Seen, slots: &mut Slots)
+        requires parent { HasParent self.old.config.nodes self.old.lower.slot self.old.halves.separator self.old.read.0 }
+        requires room { HasRoom self.old.read.0 self.old.halves.separator }
+        ensures config { self.new.config ≡ self.old.config }
+        ensures upper { self.new.upper ≡ self.old.upper }
+        ensures lower { self.new.lower ≡ self.old.lower }
+        ensures halves { self.new.halves ≡ self.old.halves }
+        ensures read { self.new.read ≡ self.old.read }
+        ensures looked { HasLookedBelow self.old.config.nodes (below_of self.new) seen self.new.phase slots.old slots.new }
+    {
+        if is_read(seen, self.upper.status) {
+            self.begin(slots);
+        } else {
+            self.phase = Phase::Restart;
+        }
+    }
+
+    // The phase after what came of a store, a flush or the swap.
+    fn after(&self, seen: Seen, moment: u32) -> Phase
+        requires begun { self.now.phase ≢ Phase.Fresh }
+        requires read { (i : ℕ) → self.now.phase ≢ Phase.Word i }
+        requires told { self.now.phase ≢ Phase.Again }
+        requires looked { self.now.phase ≢ Phase.Guard }
+        requires hears { Hears (asks_below self.now) seen }
+        requires known { IsKnown self.now.config (facts_below self.now) (asks_below self.now) seen moment }
+        ensures nearer { below_left result < left_below self.now }
+        ensures needs { below_needs result ≡ 0 }
+        ensures done { result ≡ Phase.Done → seen ≡ Swapped true }
+        ensures restart { result ≡ Phase.Restart → seen ≡ Swapped false }
+        ensures no_swap { (result ≡ Phase.NoSwap) ↔ (seen ≡ NoneLeft) }
+        ensures slots { result ≢ Phase.NoSlot }
+        ensures begun { result ≢ Phase.Fresh }
+        ensures config { IsConfig self.now.config }
+        ensures ready { IsReadyBelow self.now.config (below_of self.now) result }
+        ensures learns { (stage : Stage) (s : Scene) → s.past.config ≡ self.now.config → facts_below self.now stage s → Tells (asks_below self.now) stage seen s → below_facts (below_of self.now) result Waiting s }
+    {
+        let _moment = moment;
+        bz_renew::laws::links_turn();
+        match (self.phase, seen) {
+            (Phase::Store(j), Seen::Stored) => after_store(j),
+            (Phase::Flush(j), Seen::Flushed) => after_flush(j),
+            (Phase::Swap, Seen::Swapped(true)) => Phase::Done,
+            (Phase::Swap, Seen::NoSwap) => Phase::NoSwap,
+            _ => Phase::Restart,
+        }
+    }
+
+    // The next phase, whichever it is.
+    fn step(&mut self, seen: Seen, slots: &mut Slots, moment: u32)
+        requires hears { Hears (asks_below self.old) seen }
+        requires known { IsKnown self.old.config (facts_below self.old) (asks_below self.old) seen moment }
+        requires memory { 0 < needs_below self.old → slots.old.nodes ≡ self.old.config.nodes }
+        ensures config { self.new.config ≡ self.old.config }
+        ensures upper { self.new.upper ≡ self.old.upper }
+        ensures lower { self.new.lower ≡ self.old.lower }
+        ensures halves { self.new.halves ≡ self.old.halves }
+        ensures known { IsConfig self.new.config }
+        ensures begun { self.new.phase ≢ Phase.Fresh }
+        ensures ready { IsReadyBelow self.new.config (below_of self.new) self.new.phase }
+        ensures nearer { left_below self.new < left_below self.old }
+        ensures slots { AreTakenFrom (needs_below self.old) (needs_below self.new) slots.old slots.new }
+        ensures done { end_below self.new ≡ Some Outcome.Done → seen ≡ Swapped true }
+        ensures restart { end_below self.new ≡ Some Outcome.Restart → (seen ≡ Swapped false) ⊎ differs_below self.old seen }
+        ensures no_swap { seen ≡ NoneLeft → end_below self.new ≡ Some (Outcome.Full Spent.Swaps) }
+        ensures full_swaps { end_below self.new ≡ Some (Outcome.Full Spent.Swaps) → seen ≡ NoneLeft }
+        ensures full_nodes { end_below self.new ≡ Some (Outcome.Full Spent.Nodes) → length slots.old.free < needs_below self.old }
+        ensures learns { (stage : Stage) (s : Scene) → s.past.config ≡ self.old.config → IsScene s → (0 < needs_below self.old → AreUnreached s slots.old) → facts_below self.old stage s → Tells (asks_below self.old) stage seen s → facts_below self.new Waiting (gained s slots.old slots.new) }
+    {
+        laws::nothing_is_gained();
+        bz_layout::slots_apart();
+        bz_renew::laws::guarded_links_stand();
+        bz_halves::laws::children_may_be_parted();
+        read_parents_were();
+        match self.phase {
+            Phase::Fresh => self.phase = Phase::Word(1),
+            Phase::Word(i) => {
+                self.read.0[i as usize] = word_in(seen);
+                self.phase = after_word(i);
+            }
+            Phase::Again => self.phase = self.told(seen),
+            Phase::Guard => self.look(seen, slots),
+            _ => self.phase = self.after(seen, moment),
+        }
+    }
+
+    // One of the words of the three nodes, counted through.
+    fn word(&self, j: u32) -> u64
+        requires { j < SPLIT_WORDS }
+        ensures { result ≡ word_value (below_nodes (below_of self.now)) j }
+    {
+        let place = (j % NODE_WORDS) as usize;
+        match j / NODE_WORDS {
+            0 => self.parent.0[place],
+            1 => self.halves.left.0[place],
+            _ => self.halves.right.0[place],
+        }
+    }
+
+    // What a phase asks for.
+    fn asked(&self) -> Todo
+        requires begun { self.now.phase ≢ Phase.Fresh }
+        requires config { IsConfig self.now.config }
+        requires ready { IsReadyBelow self.now.config (below_of self.now) self.now.phase }
+        ensures { asks_below self.now ≡ Some result }
+    {
+        match self.phase {
+            Phase::Word(i) => Todo::Read(self.config.node_at(self.upper.slot as u32) + i),
+            Phase::Again => Todo::Read(self.lower.guard),
+            Phase::Guard => Todo::Read(self.upper.guard),
+            Phase::Store(j) => {
+                let slot = self.slots[(j / NODE_WORDS) as usize] as u32;
+                Todo::Store(self.config.node_at(slot) + j % NODE_WORDS, self.word(j))
+            }
+            Phase::Flush(j) => {
+                let slot = self.slots[(j / NODE_LINES) as usize] as u32;
+                Todo::Flush(self.config.node_at(slot) / LINE_WORDS + j % NODE_LINES)
+            }
+            Phase::Swap => Todo::Swap(swap_freezing(
+                &self.config,
+                &self.upper,
+                self.slots[0],
+                self.upper.slot,
+                self.lower.status,
+            )),
+            Phase::Fresh
+            | Phase::Done
+            | Phase::Restart
+            | Phase::NoRoom
+            | Phase::NoSlot
+            | Phase::NoSwap => Todo::Finish,
+        }
+    }
+}
+
+// The words of a node of which the status alone was read.
+fn first_word(status: u64) -> NodeImage
+    ensures first { slice_index result.0 0 ≡ status }
+    ensures size { length result.0 ≡ 128 }
+{
+    let mut words = [0; NODE_WORDS as usize];
+    words[0] = status;
+    NodeImage(words)
+}
+
+// The word that a load found.
+fn word_in(seen: Seen) -> u64
+    ensures { (v : ℕ) → seen ≡ Was v → result ≡ v }
+{
+    match seen {
+        Seen::Read(word) => word,
+        _ => 0,
+    }
+}
+
+// Whether a load found this value.
+fn is_read(seen: Seen, value: u64) -> bool
+    ensures { IsTrue result ↔ (seen ≡ Was value) }
+{
+    match seen {
+        Seen::Read(found) => found == value,
+        _ => false,
+    }
+}
+
+// The phase after the load of a word of the parent: that of the next one, or its status once more.
+fn after_word(i: u32) -> Phase
+    requires { i < NODE_WORDS }
+    ensures { result ≡ word_after i }
+{
+    if i + 1 < NODE_WORDS {
+        Phase::Word(i + 1)
+    } else {
+        Phase::Again
+    }
+}
+
+// The phase after the store of a word: that of the next one, or the first flush.
+fn after_store(j: u32) -> Phase
+    requires { j < SPLIT_WORDS }
+    ensures { result ≡ store_after j }
+{
+    if j + 1 < SPLIT_WORDS {
+        Phase::Store(j + 1)
+    } else {
+        Phase::Flush(0)
+    }
+}
+
+// The phase after the flush of a line: that of the next one, or the swap.
+fn after_flush(j: u32) -> Phase
+    requires { j < SPLIT_LINES }
+    ensures { result ≡ flush_after j }
+{
+    if j + 1 < SPLIT_LINES {
+        Phase::Flush(j + 1)
+    } else {
+        Phase::Swap
+    }
+}
+
+impl Task for SplitBelow {
+    ghost config = { λ t. t.config };
+
+    ghost asks = { asks_below };
+
+    ghost end = { end_below };
+
+    ghost left = { left_below };
+
+    ghost needs = { needs_below };
+
+    ghost change = { λ t. split_change };
+
+    ghost publishing = { λ t. false };
+
+    ghost facts = { facts_below };
+
+    ghost means = { λ t. below_means t.upper t.lower t.halves.left.0 t.halves.right.0 t.halves.separator };
+
+    ghost differs = { differs_below };
+
+    fn publishes(&self) -> bool {
+        false
+    }
+
+    fn ended(&self) -> Option<Outcome> {
+        match self.phase {
+            Phase::Done => Some(Outcome::Done),
+            Phase::Restart => Some(Outcome::Restart),
+            Phase::NoRoom => Some(Outcome::NeedsRoom),
+            Phase::NoSlot => Some(Outcome::Full(Spent::Nodes)),
+            Phase::NoSwap => Some(Outcome::Full(Spent::Swaps)),
+            _ => None,
+        }
+    }
+
+    fn next(&mut self, seen: Seen, slots: &mut Slots, moment: u32) -> Todo {
+        self.step(seen, slots, moment);
+        self.asked()
+    }
+
+    fn learnt(&self) {
+        bz_renew::laws::links_turn();
+        bz_word::laws::statuses();
+    }
+
+    fn acted(&self) {
+        bz_renew::laws::links_turn();
+        bz_halves::laws::parents_of_halves_are_whole();
+        bz_layout::slots_apart();
+        leaf_splits_below_are_good();
+    }
+}
