@@ -1,5 +1,6 @@
 -- What the contract of tasks says of a task, as statements of the task alone.
 use Rattle.std.proofs.Common.{◌≡◌, ◌<◌, ◌≤◌, ◌⊎◌, ℕ, false, List, Some, arith}
+use Rattle.bz_below.specs.declared.split_below.SplitBelow.{SplitBelow}
 use Rattle.bz_consol.specs.Duties as consol
 use Rattle.bz_consol.specs.declared.consolidate.Consolidate.{Consolidate}
 use Rattle.bz_layout.specs.Slots.{FreeSlots}
@@ -10,13 +11,14 @@ use Rattle.bz_task.specs.OwnActs.{Stores, Flushes, AreUnreached, gained}
 use Rattle.bz_task.specs.Requests.{Tells}
 use Rattle.bz_task.specs.Scene.{Scene, Stage, Waiting, Took as HasTaken, IsScene, IsLawful, here}
 use Rattle.bz_task.specs.Swaps.{Stand, SwapsTo, IsGoodSwap, Takes}
-use Rattle.bz_task.specs.declared.todo.Outcome.TheVariants.{Restart}
+use Rattle.bz_task.specs.declared.todo.Outcome.TheVariants.{Restart, NeedsRoom}
 use Rattle.bz_task.specs.declared.todo.Seen.{Seen}
 use Rattle.bz_task.specs.declared.todo.Seen.TheVariants.{Swapped}
 use Rattle.bz_task.specs.declared.todo.Todo.TheVariants.{Store, Flush, Swap}
-use Rattle.bz_running.specs.Duties.{config_of, asks_of, needs_of, wants_of, end_of, change_of, publishing_of, facts_of, differs_of}
+use Rattle.bz_running.specs.Duties.{config_of, asks_of, needs_of, wants_of, end_of, change_of, publishing_of, facts_of, means_of, differs_of}
+use Rattle.bz_running.specs.Hearing.{WasCrowded}
 use Rattle.bz_running.specs.declared.running.Running.{Running}
-use Rattle.bz_running.specs.declared.running.Running.TheVariants.{Descending, Reading, Inserting, Updating, Deleting, Freezing, Consolidating, Splitting}
+use Rattle.bz_running.specs.declared.running.Running.TheVariants.{Descending, Reading, Inserting, Updating, Deleting, Freezing, Consolidating, Splitting, SplittingBelow}
 
 abbrev pub Stable : Running → Type 0
 Stable t = (stage : Stage) (s after : Scene) → s.past.config ≡ config_of t → facts_of t stage s → IsScene after → IsLawful s after → facts_of t stage after
@@ -52,6 +54,7 @@ takes-few one (Deleting t) few = omega arith
 takes-few one (Freezing t) few = omega arith
 takes-few one (Consolidating t) few = one t
 takes-few one (Splitting t) few = few
+takes-few one (SplittingBelow t) few = few
 
 -- and no more than a split takes
 pub wants-few : (t : Running) → wants_of t ≤ SPLIT_SLOTS
@@ -64,3 +67,9 @@ wants-few (Deleting t) = omega arith
 wants-few (Freezing t) = omega arith
 wants-few (Consolidating t) = omega arith
 wants-few (Splitting t) = omega arith
+wants-few (SplittingBelow t) = omega arith
+
+-- a split below a parent that ends for want of room
+pub lacks-room : (t : SplitBelow) (s : Scene) → means_of (SplittingBelow t) NeedsRoom s → WasCrowded s.past
+unfolding means_of
+lacks-room t s lacked = record { upper = t.upper; lower = t.lower; sep = t.halves.separator; lacked = lacked }

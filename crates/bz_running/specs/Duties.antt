@@ -7,6 +7,8 @@ use Rattle.bz_task.specs.Swaps.{Change}
 use Rattle.bz_task.specs.declared.todo.Outcome.{Outcome}
 use Rattle.bz_task.specs.declared.todo.Seen.{Seen}
 use Rattle.bz_task.specs.declared.todo.Todo.{Todo}
+use Rattle.bz_below.specs.Duties.{asks_below, end_below, left_below, needs_below, facts_below, differs_below}
+use Rattle.bz_below.specs.Facts.{below_means}
 use Rattle.bz_consol.specs.Duties as consol
 use Rattle.bz_consol.specs.Facts.{consol_change, consol_means}
 use Rattle.bz_descend.specs.Duties as descend
@@ -20,7 +22,7 @@ use Rattle.bz_mutate.specs.UpdateDuties as update
 use Rattle.bz_split.specs.Duties as split
 use Rattle.bz_split.specs.Facts.{split_change, split_means}
 use Rattle.bz_running.specs.declared.running.Running.{Running}
-use Rattle.bz_running.specs.declared.running.Running.TheVariants.{Descending, Reading, Inserting, Updating, Deleting, Freezing, Consolidating, Splitting}
+use Rattle.bz_running.specs.declared.running.Running.TheVariants.{Descending, Reading, Inserting, Updating, Deleting, Freezing, Consolidating, Splitting, SplittingBelow}
 
 unfoldable pub config_of : Running → Config
 config_of (Descending t) = descend.config_of t
@@ -31,6 +33,7 @@ config_of (Deleting t) = delete.config_of t
 config_of (Freezing t) = t.config
 config_of (Consolidating t) = t.config
 config_of (Splitting t) = t.config
+config_of (SplittingBelow t) = t.config
 
 unfoldable pub asks_of : Running → Option Todo
 asks_of (Descending t) = descend.asks_of t
@@ -41,6 +44,7 @@ asks_of (Deleting t) = delete.asks_of t
 asks_of (Freezing t) = freeze_asks t.config t.slot t.status t.phase
 asks_of (Consolidating t) = consol.asks_of t
 asks_of (Splitting t) = split.asks_of t
+asks_of (SplittingBelow t) = asks_below t
 
 unfoldable pub end_of : Running → Option Outcome
 end_of (Descending t) = descend.end_of t
@@ -51,6 +55,7 @@ end_of (Deleting t) = delete.end_of t
 end_of (Freezing t) = freeze_end t.phase
 end_of (Consolidating t) = consol.end_of t
 end_of (Splitting t) = split.end_of t
+end_of (SplittingBelow t) = end_below t
 
 unfoldable pub left_of : Running → ℕ
 left_of (Descending t) = descend.left_of t
@@ -61,6 +66,7 @@ left_of (Deleting t) = delete.left_of t
 left_of (Freezing t) = freeze_left t.phase
 left_of (Consolidating t) = consol.left_of t
 left_of (Splitting t) = split.left_of t
+left_of (SplittingBelow t) = left_below t
 
 unfoldable pub needs_of : Running → ℕ
 needs_of (Descending t) = 0
@@ -71,6 +77,7 @@ needs_of (Deleting t) = 0
 needs_of (Freezing t) = 0
 needs_of (Consolidating t) = consol.needs_of t
 needs_of (Splitting t) = split.needs_of t
+needs_of (SplittingBelow t) = needs_below t
 
 -- how many slots it takes from its begin to its end, if it takes any
 unfoldable pub wants_of : Running → ℕ
@@ -82,6 +89,7 @@ wants_of (Deleting t) = 0
 wants_of (Freezing t) = 0
 wants_of (Consolidating t) = CONSOLIDATION_SLOTS
 wants_of (Splitting t) = SPLIT_SLOTS
+wants_of (SplittingBelow t) = SPLIT_SLOTS
 
 unfoldable pub change_of : Running → Change
 change_of (Descending t) = descend_change
@@ -92,6 +100,7 @@ change_of (Deleting t) = delete.change_of t
 change_of (Freezing t) = freeze_change
 change_of (Consolidating t) = consol_change
 change_of (Splitting t) = split_change
+change_of (SplittingBelow t) = split_change
 
 unfoldable pub publishing_of : Running → Bool
 publishing_of (Descending t) = false
@@ -102,6 +111,7 @@ publishing_of (Deleting t) = delete.publishing_of t
 publishing_of (Freezing t) = false
 publishing_of (Consolidating t) = false
 publishing_of (Splitting t) = false
+publishing_of (SplittingBelow t) = false
 
 unfoldable pub facts_of : Running → Stage → Scene → Type 0
 facts_of (Descending t) = descend.facts_of t
@@ -112,6 +122,7 @@ facts_of (Deleting t) = delete.facts_of t
 facts_of (Freezing t) = freeze_facts t.slot t.status t.phase
 facts_of (Consolidating t) = consol.facts_of t
 facts_of (Splitting t) = split.facts_of t
+facts_of (SplittingBelow t) = facts_below t
 
 unfoldable pub means_of : Running → Outcome → Scene → Type 0
 means_of (Descending t) = descend.means_of t
@@ -122,6 +133,7 @@ means_of (Deleting t) = delete.means_of t
 means_of (Freezing t) = freeze_means t.slot
 means_of (Consolidating t) = consol_means t.link t.image.0
 means_of (Splitting t) = split_means t.link t.halves.left.0 t.halves.right.0 t.halves.separator
+means_of (SplittingBelow t) = below_means t.upper t.lower t.halves.left.0 t.halves.right.0 t.halves.separator
 
 unfoldable pub differs_of : Running → Seen → Type 0
 differs_of (Descending t) = descend.differs_of t
@@ -132,6 +144,7 @@ differs_of (Deleting t) = λ seen. ⊥
 differs_of (Freezing t) = λ seen. ⊥
 differs_of (Consolidating t) = consol.differs_of t
 differs_of (Splitting t) = split.differs_of t
+differs_of (SplittingBelow t) = differs_below t
 
 -- it makes no change of a key, and never publishes
 unfoldable pub makes_no_change : Running → Bool
@@ -143,6 +156,7 @@ makes_no_change (Deleting t) = false
 makes_no_change (Freezing t) = true
 makes_no_change (Consolidating t) = true
 makes_no_change (Splitting t) = true
+makes_no_change (SplittingBelow t) = true
 
 pub no-change-is-published : (t : Running) → makes_no_change t ≡ true → publishing_of t ≡ false
 unfolding makes_no_change publishing_of
@@ -154,3 +168,4 @@ no-change-is-published (Deleting t) e = absurd (cc)
 no-change-is-published (Freezing t) e = refl
 no-change-is-published (Consolidating t) e = refl
 no-change-is-published (Splitting t) e = refl
+no-change-is-published (SplittingBelow t) e = refl

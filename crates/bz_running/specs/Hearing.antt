@@ -1,11 +1,14 @@
 -- What a task is told, and what comes of that.
 use Rattle.std.specs.Prelude.{◌≡◌, ℕ, ◌<◌, ◌⊎◌, true, false, List, Option, Some, length}
+use Rattle.bz_below.specs.Facts.{LackedRoom}
 use Rattle.bz_call.specs.declared.replies.Spent.TheVariants.{Nodes, Swaps}
 use Rattle.bz_layout.specs.Slots.{FreeSlots}
+use Rattle.bz_layout.specs.declared.thresholds.TheConstants.{SPLIT_SLOTS}
 use Rattle.bz_task.specs.OwnActs.{AreTakenFrom, AreUnreached, gained}
 use Rattle.bz_task.specs.Outcomes.{IsPath, IsView}
 use Rattle.bz_task.specs.Requests.{Tells}
-use Rattle.bz_task.specs.Scene.{Scene, Stage, Waiting, IsScene}
+use Rattle.bz_task.specs.Scene.{Past, Scene, Stage, Waiting, IsScene}
+use Rattle.bz_task.specs.declared.path.Link.{Link}
 use Rattle.bz_task.specs.declared.path.Path.{Path}
 use Rattle.bz_task.specs.declared.todo.Outcome.{Outcome}
 use Rattle.bz_task.specs.declared.todo.Outcome.TheVariants as outcome
@@ -16,11 +19,20 @@ use Rattle.bz_task.specs.declared.view.LeafView.{LeafView}
 use Rattle.bz_running.specs.Duties.{config_of, asks_of, end_of, left_of, needs_of, wants_of, change_of, facts_of, means_of, differs_of, makes_no_change}
 use Rattle.bz_running.specs.declared.running.Running.{Running}
 
--- a path or a view with which the task ends is one of this key; and with a view this path, if there is one, still is one
+-- a parent in the tree lacked the room for a separator
+pub record WasCrowded (p : Past) : Type 0 where
+  pub upper : Link
+  pub lower : Link
+  pub sep : List ℕ
+  pub lacked : LackedRoom upper lower sep p
+
+-- a path or a view with which the task ends is one of this key; and with a view this path, if there is one, still is one. One that
+-- takes slots ends for want of room only where it is a split, and the parent lacked the room
 pub record IsLookup (key : List ℕ) (way : Option Path) (t : Running) : Type 0 where
   pub path : (path : Path) (s : Scene) → means_of t (outcome.Path path) s → IsPath key path s.past
   pub view : (view : LeafView) (s : Scene) → means_of t (outcome.View view) s → IsView key view s.past
   pub leads : (path : Path) → way ≡ Some path → (view : LeafView) (s : Scene) → means_of t (outcome.View view) s → IsPath key path s.past
+  pub room : (s : Scene) → 0 < wants_of t → means_of t outcome.NeedsRoom s → (wants_of t ≡ SPLIT_SLOTS) × WasCrowded s.past
 
 -- the task was told this at a moment, and asks for that
 pub record HasHeard (old : Running) (seen : Seen) (moment : ℕ) (free : FreeSlots) (todo : Todo) (new : Running) (left : FreeSlots) : Type 0 where

@@ -1,6 +1,7 @@
 //! Whichever task it is.
 
-ghost use Rattle.std.specs.Prelude.{◌≡◌, ◌<◌, ◌≢◌, ◌≤◌, ℕ, List, true, false, Option, None, Some};
+ghost use Rattle.std.specs.Prelude.{◌≡◌, ◌↔◌, ◌-◌, ◌<◌, ◌≢◌, ◌≤◌, ℕ, List, true, false, Option, None, Some, IsTrue, slice_get};
+ghost use Rattle.bz_below.specs.Facts.{IsThawedAbove, LackedPart};
 ghost use Rattle.bz_consol.specs.Facts.{LeadsTo};
 ghost use Rattle.bz_layout.specs.declared.thresholds.TheConstants.{CONSOLIDATION_SLOTS, SPLIT_ABOVE, SPLIT_SLOTS};
 ghost use Rattle.bz_page.specs.Pages.{IsLeafByItself};
@@ -16,6 +17,7 @@ ghost use Rattle.bz_running.specs.Hearing.{IsLookup, HasHeard};
 ghost use Rattle.bz_running.specs.Duties.{config_of, asks_of, end_of, left_of, needs_of, wants_of, change_of, publishing_of, facts_of, means_of, differs_of, makes_no_change};
 ghost use Rattle.bz_running.specs.Laws.{AreLaws};
 
+use bz_below::SplitBelow;
 use bz_consol::Consolidate;
 use bz_descend::Descend;
 use bz_freeze::Freeze;
@@ -25,7 +27,7 @@ use bz_layout::{Config, ROOT_STATUS_AT, Slots};
 use bz_leaf::ReadLeaf;
 use bz_mutate::{Delete, Update};
 use bz_split::SplitRoot;
-use bz_task::{LeafView, Outcome, Path, Seen, Task, Todo};
+use bz_task::{LeafView, Link, Outcome, Path, Seen, Task, Todo};
 
 /// A task on the tree.
 #[derive(Drop)]
@@ -38,6 +40,7 @@ pub enum Running {
     Freezing(Freeze),
     Consolidating(Consolidate),
     Splitting(SplitRoot),
+    SplittingBelow(SplitBelow),
 }
 
 impl Running {
@@ -187,6 +190,40 @@ impl Running {
         Running::Splitting(SplitRoot::new(config, path, view, page))
     }
 
+    /// The split of a frozen leaf below a parent, with more live words than it may keep, to which the path leads.
+    #[tactic(auto, unfolding(crate::specs::Duties::config_of, crate::specs::Duties::asks_of, crate::specs::Duties::needs_of, crate::specs::Duties::wants_of, crate::specs::Duties::facts_of, crate::specs::Duties::means_of, crate::specs::Duties::makes_no_change))]
+    pub fn split_below(config: &Config, path: Path, view: LeafView, page: &mut PageBuf) -> Running
+        requires deep { 2 ≤ path.depth }
+        requires few { path.depth ≤ 12 }
+        requires alone { IsLeafByItself view.image.0 }
+        requires many { SPLIT_ABOVE < live_of (node_of view.image.0) }
+        requires frozen { (status view.status).frozen ≡ true }
+        requires leads { LeadsTo path view.slot }
+        requires thawed { IsThawedAbove path }
+        ensures config { config_of result ≡ config.now }
+        ensures asks { asks_of result ≡ None }
+        ensures needs { needs_of result ≡ SPLIT_SLOTS }
+        ensures wants { wants_of result ≡ SPLIT_SLOTS }
+        ensures silent { makes_no_change result ≡ true }
+        ensures facts { (key : List ℕ) (s : Scene) → s.past.config ≡ config.now → IsScene s → IsPath key path s.past → IsView key view s.past → facts_of result Waiting s }
+        ensures ends { (key : List ℕ) (way : Option Path) → IsLookup key way result }
+        // NeedsRoom comes only where the parent lacked room for the separator
+        ensures needs_room { (upper lower : Link) (s : Scene) → slice_get path.links (path.depth - 2) ≡ Some upper → slice_get path.links (path.depth - 1) ≡ Some lower → means_of result Outcome.NeedsRoom s → LackedPart upper lower view s.past }
+    {
+        Running::SplittingBelow(SplitBelow::new(config, path, view, page))
+    }
+
+    /// Whether the task takes slots.
+    #[tactic(auto, unfolding(crate::specs::Duties::wants_of))]
+    pub fn takes_slots(&self) -> bool
+        ensures { IsTrue result ↔ (0 < wants_of self.now) }
+    {
+        matches!(
+            self,
+            Running::Consolidating(_) | Running::Splitting(_) | Running::SplittingBelow(_),
+        )
+    }
+
     /// Tells the task what came of its last act, and answers what it asks for next: `next`, and that one which makes no change makes none later.
     #[tactic(auto, unfolding(crate::specs::Duties::config_of, crate::specs::Duties::asks_of, crate::specs::Duties::end_of, crate::specs::Duties::left_of, crate::specs::Duties::needs_of, crate::specs::Duties::wants_of, crate::specs::Duties::change_of, crate::specs::Duties::facts_of, crate::specs::Duties::means_of, crate::specs::Duties::differs_of, crate::specs::Duties::makes_no_change))]
     pub fn hear(&mut self, seen: Seen, slots: &mut Slots, moment: u32) -> Todo
@@ -204,6 +241,7 @@ impl Running {
             Running::Freezing(task) => task.next(seen, slots, moment),
             Running::Consolidating(task) => task.next(seen, slots, moment),
             Running::Splitting(task) => task.next(seen, slots, moment),
+            Running::SplittingBelow(task) => task.next(seen, slots, moment),
         }
     }
 
@@ -249,6 +287,7 @@ impl Task for Running {
             Running::Freezing(task) => task.publishes(),
             Running::Consolidating(task) => task.publishes(),
             Running::Splitting(task) => task.publishes(),
+            Running::SplittingBelow(task) => task.publishes(),
         }
     }
 
@@ -263,6 +302,7 @@ impl Task for Running {
             Running::Freezing(task) => task.ended(),
             Running::Consolidating(task) => task.ended(),
             Running::Splitting(task) => task.ended(),
+            Running::SplittingBelow(task) => task.ended(),
         }
     }
 
@@ -277,6 +317,7 @@ impl Task for Running {
             Running::Freezing(task) => task.next(seen, slots, moment),
             Running::Consolidating(task) => task.next(seen, slots, moment),
             Running::Splitting(task) => task.next(seen, slots, moment),
+            Running::SplittingBelow(task) => task.next(seen, slots, moment),
         }
     }
 
@@ -291,6 +332,7 @@ impl Task for Running {
             Running::Freezing(task) => task.learnt(),
             Running::Consolidating(task) => task.learnt(),
             Running::Splitting(task) => task.learnt(),
+            Running::SplittingBelow(task) => task.learnt(),
         }
     }
 
@@ -305,6 +347,7 @@ impl Task for Running {
             Running::Freezing(task) => task.acted(),
             Running::Consolidating(task) => task.acted(),
             Running::Splitting(task) => task.acted(),
+            Running::SplittingBelow(task) => task.acted(),
         }
     }
 }

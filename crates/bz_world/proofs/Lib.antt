@@ -30,7 +30,7 @@ mod Openings
 mod Takings
 mod SpendingSlots
 mod MakingAnew
-mod TallTrees
+mod CrowdedTrees
 mod Cutting
 mod Recovering
 mod Waking

@@ -1,9 +1,9 @@
 //! What a served call asks for, and how far it has come.
-ghost use Rattle.std.specs.Prelude.{◌≡◌, ◌↔◌, IsTrue, IsSome, Some};
+ghost use Rattle.std.specs.Prelude.{◌≡◌, ◌↔◌, ◌<◌, IsTrue, IsSome, Some};
 ghost use Rattle.bz_call.specs.Map.{key_of as key_in};
 ghost use Rattle.bz_sound.specs.Memory.Replies.{IsWrite};
 ghost use Rattle.bz_task.specs.declared.todo.Todo.TheVariants.{Finish};
-ghost use Rattle.bz_world.specs.Inside.Going.{call_in, end_in, asks_in, path_in as way_in, had_in as payload_in, effect_in as moment_in, with_task, with_change};
+ghost use Rattle.bz_world.specs.Inside.Going.{call_in, end_in, asks_in, path_in as way_in, had_in as payload_in, effect_in as moment_in, wants_in, with_task, with_change};
 
 use crate::serving::Serving;
 use bz_call::Call;
@@ -74,6 +74,16 @@ pub(crate) fn had_in(slot: &Option<Serving>) -> Option<Payload>
     match slot {
         Some(serving) => serving.had,
         None => None,
+    }
+}
+
+/// Whether its task takes slots.
+pub(crate) fn takes_slots(slot: &Option<Serving>) -> bool
+    ensures { IsTrue result ↔ (0 < wants_in slot.now) }
+{
+    match slot {
+        Some(serving) => serving.task.takes_slots(),
+        None => false,
     }
 }
 

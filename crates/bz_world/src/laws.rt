@@ -1,5 +1,5 @@
 //! The laws on which the world's acts stand, from the crates below. Each function does nothing.
-ghost use Rattle.bz_world.specs.Inside.Laws.{StepLaws, StrikeLaws, StartLaws, EndLaws, TreeLaws, AnswerLaws};
+ghost use Rattle.bz_world.specs.Inside.Laws.{StepLaws, StrikeLaws, StartLaws, EndLaws, AnswerLaws};
 
 use bz_sight::laws as sight;
 use bz_sound::{memory_laws as calls, power_laws as sound};
@@ -73,16 +73,6 @@ pub(crate) fn end_laws()
     sound::page_ends_follow();
     sound::begins_follow();
     calls::effects_stay_open();
-}
-
-/// And those of how high a tree is.
-pub(crate) fn tree_laws()
-    ensures { TreeLaws }
-{
-    bz_content::laws::well_formed_images_have_no_fault();
-    bz_shape::laws::trees_have_forms();
-    bz_task::laws::headers_say_the_level();
-    bz_task::laws::fronts_stay();
 }
 
 /// And those of an answer.

@@ -1,28 +1,20 @@
 //! What a leaf needs that is frozen or has no room: to be frozen, and then to be copied without the records that are gone, or to be split.
-ghost use Rattle.std.specs.Prelude.{◌≡◌, ◌≢◌, ◌<◌, true, false, length};
-ghost use Rattle.bz_layout.specs.declared.thresholds.TheConstants.{SPLIT_ABOVE};
-ghost use Rattle.bz_slotted.specs.Readers.{live_of};
-ghost use Rattle.bz_slotted.specs.ReadingLaws.{node_of};
+ghost use Rattle.std.specs.Prelude.{◌≡◌, ◌<◌, true, false, length};
 ghost use Rattle.bz_word.specs.Statuses.{status};
-ghost use Rattle.bz_world.specs.Inside.Going.{MustAnswer, MustMakeAnew, MustCopy, MustSplit, WentOn};
+ghost use Rattle.bz_world.specs.Inside.Going.{MustAnswer, MustMakeAnew, MustCopy, MustSplit, MustSplitBelow, WentOn};
 
 use crate::answers::Applied;
 use crate::calls::{path_in, set_task};
-use crate::going::{end_full, go_on, look_up};
-use crate::laws::{answer_laws, start_laws, tree_laws};
+use crate::going::{go_on, look_up};
+use crate::laws::{answer_laws, start_laws};
 use crate::parts::Parts;
 use crate::tell::tell;
-use bz_call::Spent;
+use bz_below::is_due as is_due_below;
 use bz_consol::is_due;
 use bz_layout::SPLIT_ABOVE;
 use bz_page::live_words;
 use bz_running::Running;
-use bz_task::{LeafView, Link, Path, Seen};
-
-// A path has room for twelve links. Does nothing.
-fn is_whole(links: &[Link; 12])
-    ensures { length links.now ≡ 12 }
-{}
+use bz_task::{LeafView, Path, Seen};
 
 // Freezes the leaf that was read.
 fn freeze(parts: &mut Parts, w: u8, path: Path, view: &LeafView) -> Applied
@@ -69,24 +61,22 @@ fn split_root(parts: &mut Parts, w: u8, path: Path, view: &LeafView) -> Applied
     go_on(parts, w, todo)
 }
 
-// The leaf would have to be split, and stands below a parent. For now, while such leaves are not split, its call ends for want
-// of nodes.
-fn end_unsplit(parts: &mut Parts, w: u8, path: &Path, view: &LeafView) -> Applied
-    requires anew { MustMakeAnew parts.old w path.now view.now }
-    requires frozen { (status view.now.status).frozen ≡ true }
-    requires many { SPLIT_ABOVE < live_of (node_of view.now.image.0) }
-    requires below { path.now.depth ≢ 1 }
+// Splits the frozen leaf that was read, below a parent.
+fn split_below(parts: &mut Parts, w: u8, path: Path, view: &LeafView) -> Applied
+    requires split { MustSplitBelow parts.old w path view.now }
     requires room { length parts.old.journal.past < parts.old.config.marks }
     ensures { WentOn parts.old w result parts.new }
 {
     start_laws();
     answer_laws();
-    tree_laws();
-    is_whole(&path.links);
-    end_full(parts, w, Spent::Nodes)
+    let task = Running::split_below(&parts.config, path, *view, &mut parts.page);
+    task.laws();
+    set_task(&mut parts.workers[w as usize], task, None);
+    let todo = tell(parts, w, Seen::Start);
+    go_on(parts, w, todo)
 }
 
-// Copies or splits a frozen leaf, where the link to it can be turned.
+// Copies or splits a frozen leaf, where the link to it, or to its parent, can be turned.
 fn make_anew(parts: &mut Parts, w: u8, path: Path, view: &LeafView) -> Applied
     requires anew { MustMakeAnew parts.old w path view.now }
     requires frozen { (status view.now.status).frozen ≡ true }
@@ -99,8 +89,10 @@ fn make_anew(parts: &mut Parts, w: u8, path: Path, view: &LeafView) -> Applied
         consolidate(parts, w, path, view)
     } else if path.depth == 1 {
         split_root(parts, w, path, view)
+    } else if is_due_below(&path, view) {
+        split_below(parts, w, path, view)
     } else {
-        end_unsplit(parts, w, &path, view)
+        look_up(parts, w)
     }
 }
 

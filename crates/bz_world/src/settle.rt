@@ -1,13 +1,13 @@
 //! What comes of the end of a task: the next task of its call, or its reply.
 ghost use Rattle.std.specs.Prelude.{◌≡◌, ◌<◌, None, Some, length, get_or};
 ghost use Rattle.bz_call.specs.declared.calls.Call.TheVariants as called;
-ghost use Rattle.bz_task.specs.declared.todo.Outcome.TheVariants.{Full};
+ghost use Rattle.bz_task.specs.declared.todo.Outcome.TheVariants.{Full, NeedsRoom};
 ghost use Rattle.bz_task.specs.declared.todo.Todo.TheVariants.{Finish};
 ghost use Rattle.bz_world.specs.Inside.Going.{MustRead, MustAnswer, HasEnded, IsFullRightly, WentOn, call_in};
 ghost use Rattle.bz_world.specs.Inside.Telling.{MustStart};
 
 use crate::answers::Applied;
-use crate::calls::{called, effect_in, key_of, set_task};
+use crate::calls::{called, effect_in, key_of, set_task, takes_slots};
 use crate::changes::{answer_delete, answer_insert, answer_update, answer_upsert};
 use crate::end::{end, end_page};
 use crate::going::{end_effective, end_full, go_on, look_up, outcome_of};
@@ -91,6 +91,22 @@ fn settle_full(parts: &mut Parts, w: u8, spent: Spent) -> Applied
     }
 }
 
+// The task of a call without effect has ended for want of room: a change, because its leaf has none, which is to be looked up again;
+// or a split, because the parent of the leaf has none. Such a parent is not split yet, and the call ends for want of nodes.
+fn settle_crowded(parts: &mut Parts, w: u8) -> Applied
+    requires ends { HasEnded parts.old w NeedsRoom }
+    requires room { length parts.old.journal.past < parts.old.config.marks }
+    ensures { WentOn parts.old w result parts.new }
+{
+    start_laws();
+    bz_task::laws::headers_say_the_level();
+    if takes_slots(&parts.workers[w as usize]) {
+        end_full(parts, w, Spent::Nodes)
+    } else {
+        look_up(parts, w)
+    }
+}
+
 // The task of a call without effect has ended so.
 fn settle_quiet(parts: &mut Parts, w: u8, outcome: Outcome) -> Applied
     requires ends { HasEnded parts.old w outcome }
@@ -101,6 +117,7 @@ fn settle_quiet(parts: &mut Parts, w: u8, outcome: Outcome) -> Applied
         Outcome::Path(path) => read_leaf(parts, w, path),
         Outcome::View(view) => answer(parts, w, &view),
         Outcome::Full(spent) => settle_full(parts, w, spent),
+        Outcome::NeedsRoom => settle_crowded(parts, w),
         _ => look_up(parts, w),
     }
 }

@@ -1,5 +1,6 @@
 //! Worlds and their journals, beside plain readers.
 
+mod below;
 mod bench;
 mod calls;
 mod costs;

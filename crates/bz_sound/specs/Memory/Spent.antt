@@ -1,12 +1,18 @@
 -- What must have run out where a call answers Full. The newest mark stands first.
-use Rattle.std.specs.Prelude.{◌≤◌, ◌<◌, ◌+◌, ◌*◌, ◌==◌, ◌&&◌, ◌||◌, ◌⊎◌, ◌≡◌, if◌then◌else◌, not, nat_lt, nat_le, ℕ, Bool, true, false, List, [], ◌∷◌, length, slice_index, is_some, count_by}
+use Rattle.std.specs.Prelude.{◌≤◌, ◌<◌, ◌+◌, ◌*◌, ◌==◌, ◌&&◌, ◌||◌, ◌⊎◌, ◌≡◌, if◌then◌else◌, not, nat_lt, nat_le, ℕ, Bool, true, false, List, [], ◌∷◌, length, map, slice_index, is_some, count_by}
 use Rattle.std.specs.List.{range_with_len}
 use Rattle.bz_layout.specs.Addresses.{swap_address, node_address, slot_of}
 use Rattle.bz_layout.specs.declared.config.Config.{Config}
-use Rattle.bz_layout.specs.declared.sizes.TheConstants.{SWAP_STATUS_AT}
+use Rattle.bz_key.specs.Bytes.{IsKey}
+use Rattle.bz_key.specs.Packing.{packed}
+use Rattle.bz_layout.specs.declared.sizes.TheConstants.{SWAP_STATUS_AT, NODE_WORDS, SHARED_WORDS}
 use Rattle.bz_layout.specs.declared.thresholds.TheConstants.{CONSOLIDATION_SLOTS, SPLIT_ABOVE, SPLIT_SLOTS}
+use Rattle.bz_node.specs.Layout.{needed}
+use Rattle.bz_node.specs.Reading.{children_in}
+use Rattle.bz_node.specs.Records.{child_entry}
 use Rattle.bz_shape.specs.Walk.{form}
 use Rattle.bz_slotted.specs.Page.{Page, page}
+use Rattle.bz_slotted.specs.ReadingLaws.{node_of}
 use Rattle.bz_slotted.specs.Records.{live_words}
 use Rattle.bz_content.specs.Content.{leaf_in, view_in}
 use Rattle.bz_content.specs.Image.{node}
@@ -36,18 +42,27 @@ pub record NeedsSlots (c : Config) (start : List ℕ) (past : List Mark) (opened
   pub frozen : (leaf_page c (image_at start moment past) (key_of opened.call)).frozen ≡ true
   pub needed : slots_for (live_words (leaf_page c (image_at start moment past) (key_of opened.call))) ≡ slots
 
--- FOR NOW, while leaves below a parent are not split: at a moment of the call the leaf of its key was frozen and would have to
--- be split, and at a moment of the call the tree had more than one level. This record, and its place in LackNodes, go when they are.
+-- a slot of a node is reached in an image
+abbrev pub is_reached_in : Config → (ℕ → ℕ) → ℕ → Bool
+is_reached_in c image slot = nat_lt slot c.nodes && (form (view_in c image)).inside slot
+
+-- FOR NOW, while inner nodes are not split: at a moment of the call the leaf of its key was frozen and would have to be split, and at
+-- a moment of the call an inner node of the tree had these words, which leave less room than a child takes that comes below this key.
+-- This record, and its place in LackNodes, go when they are.
 pub record IsUnsplit (c : Config) (start : List ℕ) (past : List Mark) (opened : Open) : Type 0 where
   pub crowded : NeedsSlots c start past opened SPLIT_SLOTS
   pub moment : ℕ
   pub after_begin : opened.begun < moment
   pub before_end : moment ≤ length past
-  pub levels : 1 < (view_in c (image_at start moment past)).height
-
--- a slot of a node is reached in an image
-abbrev pub is_reached_in : Config → (ℕ → ℕ) → ℕ → Bool
-is_reached_in c image slot = nat_lt slot c.nodes && (form (view_in c image)).inside slot
+  pub parent : ℕ
+  pub inside : is_reached_in c (image_at start moment past) parent ≡ true
+  pub words : List ℕ
+  pub size : length words ≡ NODE_WORDS
+  pub has : (i : ℕ) → node c (resolve (image_at start moment past)) parent i ≡ slice_index words i
+  pub inner : 0 < (page (node_of words)).level
+  pub separator : List ℕ
+  pub key : IsKey separator
+  pub room : SHARED_WORDS < needed (map child_entry (children_in words)) + 2 + length (packed separator)
 
 -- in that with which the journal starts
 abbrev pub is_reached_at_start : Config → List ℕ → ℕ → Bool

@@ -8,9 +8,11 @@ use Rattle.bz_call.specs.declared.replies.Reply.{Reply}
 use Rattle.bz_call.specs.declared.replies.Reply.TheVariants.{Page}
 use Rattle.bz_call.specs.declared.replies.Spent.{Spent}
 use Rattle.bz_call.specs.declared.replies.Spent.TheVariants.{Nodes}
+use Rattle.bz_below.specs.Facts.{IsThawedAbove}
 use Rattle.bz_consol.specs.Facts.{LeadsTo}
-use Rattle.bz_layout.specs.declared.thresholds.TheConstants.{SPLIT_ABOVE}
+use Rattle.bz_layout.specs.declared.thresholds.TheConstants.{SPLIT_ABOVE, SPLIT_SLOTS}
 use Rattle.bz_running.specs.Duties.{asks_of, end_of, wants_of, facts_of}
+use Rattle.bz_running.specs.Hearing.{WasCrowded}
 use Rattle.bz_running.specs.declared.running.Running.{Running}
 use Rattle.bz_slotted.specs.Readers.{live_of}
 use Rattle.bz_slotted.specs.ReadingLaws.{node_of}
@@ -108,6 +110,7 @@ pub record HasEnded (p : Parts) (w : ℕ) (outcome : Outcome) : Type 0 where
   pub view : (view : LeafView) → outcome ≡ outcomes.View view → IsView (key_of on.serving.call) view (known p w on).past
   pub leads : (view : LeafView) → outcome ≡ outcomes.View view → (path : Path) → on.serving.path ≡ Some path → IsPath (key_of on.serving.call) path (known p w on).past
   pub full : outcome ≡ outcomes.Full Nodes → length p.slots.free < wants_of on.serving.task
+  pub crowded : outcome ≡ outcomes.NeedsRoom → 0 < wants_of on.serving.task → (wants_of on.serving.task ≡ SPLIT_SLOTS) × WasCrowded (known p w on).past
 
 -- its leaf was read, by the path that was found, and it had no effect
 pub record MustAnswer (p : Parts) (w : ℕ) (view : LeafView) : Type 0 where
@@ -143,6 +146,15 @@ pub record MustSplit (p : Parts) (w : ℕ) (path : Path) (view : LeafView) : Typ
   pub many : SPLIT_ABOVE < live_of (node_of view.image.0)
   pub root : path.depth ≡ 1
   pub leads : LeadsTo path view.slot
+
+-- or stands below a parent, to which the path leads by a guard that was no frozen node's, so that it may be split there
+pub record MustSplitBelow (p : Parts) (w : ℕ) (path : Path) (view : LeafView) : Type 0 where
+  pub anew : MustMakeAnew p w path view
+  pub frozen : (status view.status).frozen ≡ true
+  pub many : SPLIT_ABOVE < live_of (node_of view.image.0)
+  pub deep : 2 ≤ path.depth
+  pub leads : LeadsTo path view.slot
+  pub thawed : IsThawedAbove path
 
 -- the call puts this payload at its key, where the key is absent, or present
 abbrev pub MayInsert : Call → List ℕ → List ℕ → Type 0

@@ -1,8 +1,6 @@
 -- The laws of the crates below on which the world's acts stand.
-use Rattle.bz_content.specs.Laws.{WellFormedImagesHaveNoFault}
 use Rattle.bz_page.specs.Laws.{ViewsSayWhatImagesSay}
 use Rattle.bz_record.specs.Laws.{ViewsShowLeaves}
-use Rattle.bz_shape.specs.TreeLaws.{TreesHaveForms}
 use Rattle.bz_sight.specs.Acts.{FlushingStepsFlush, QuietStepsPass, StepsLeaveCaches, StoringStepsStore}
 use Rattle.bz_sight.specs.Effects.{EffectsTakePlace}
 use Rattle.bz_sight.specs.Passing.{ActsPass}
@@ -14,7 +12,6 @@ use Rattle.bz_sound.specs.Power.Growth.{BeginsFollow, EffectsFollowActs, EndsFol
 use Rattle.bz_sound.specs.Power.ImageLaws.{AnswersComeFromTheImage, ChangesFollow, PagesComeFromTheImage, SameContentDecodes, SpentAnswersFull}
 use Rattle.bz_story.specs.Laws.{EffectsAreTold, FlushesAreTold, LivesGoOn, QuietMarksAreLawful, ScenesAreSeen, StoresAreTold}
 use Rattle.bz_swap.specs.TakenStatuses.{BegunStayTaken, TakenStatusesStay}
-use Rattle.bz_task.specs.Laws.{FrontsStay, HeadersSayTheLevel}
 
 -- by which the journal stays sound
 pub record JournalLaws : Type 0 where
@@ -76,13 +73,6 @@ pub record EndLaws : Type 0 where
   pub pages : PageEndsFollow
   pub begins : BeginsFollow
   pub stay : EffectsStayOpen
-
--- and by which a path of more than one link leads through a tree of more than one level
-pub record TreeLaws : Type 0 where
-  pub formed : WellFormedImagesHaveNoFault
-  pub forms : TreesHaveForms
-  pub headers : HeadersSayTheLevel
-  pub fronts : FrontsStay
 
 -- and by which a view answers a call
 pub record AnswerLaws : Type 0 where

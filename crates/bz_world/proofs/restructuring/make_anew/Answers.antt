@@ -10,5 +10,12 @@ consolidate-requires-clause-copy c = record { anew = c.requires.anew; frozen = c
 pub split_root-requires-clause-split : goal.split_root-requires-clause-split
 split_root-requires-clause-split c = record { anew = c.requires.anew; frozen = c.requires.frozen; many = omega (arith, c.if-live_words-le-SPLIT_ABOVE.false, c.live_words.ensures); root = c.if-path-eq1.true; leads = c.is_due.ensures.leads c.if-not-is_due.false }
 
-pub end_unsplit-requires-clause-many : goal.end_unsplit-requires-clause-many
-end_unsplit-requires-clause-many c = omega (arith, c.if-live_words-le-SPLIT_ABOVE.false, c.live_words.ensures)
+pub split_below-requires-clause-split : goal.split_below-requires-clause-split
+split_below-requires-clause-split c = record {
+  anew = c.requires.anew;
+  frozen = c.requires.frozen;
+  many = omega (arith, c.if-live_words-le-SPLIT_ABOVE.false, c.live_words.ensures);
+  deep = omega (arith, c.requires.anew.way.some, c.if-path-eq1.false);
+  leads = c.is_due.ensures.leads c.if-not-is_due.false;
+  thawed = c.is_due-else-path-eq1.ensures.thawed c.if-is_due.true;
+}

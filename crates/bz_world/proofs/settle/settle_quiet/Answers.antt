@@ -10,3 +10,6 @@ answer-requires-clause-view c = record { on = c.requires.ends.on; viewed = c.req
 
 pub settle_full-requires-clause-ends : goal.settle_full-requires-clause-ends
 settle_full-requires-clause-ends c = subst (HasEnded c.args.parts.now c.args.w) c.in-Full.is c.requires.ends
+
+pub settle_crowded-requires-clause-ends : goal.settle_crowded-requires-clause-ends
+settle_crowded-requires-clause-ends c = subst (HasEnded c.args.parts.now c.args.w) c.in-NeedsRoom.is c.requires.ends

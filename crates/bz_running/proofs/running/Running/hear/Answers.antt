@@ -1,7 +1,7 @@
 use Rattle.std.proofs.Common.{sym, subst, refl}
 use Rattle.bz_running.specs.Duties.{config_of, asks_of, end_of, left_of, needs_of, wants_of, change_of, facts_of, means_of, differs_of, makes_no_change}
 use Rattle.bz_running.specs.Hearing.{HasHeard}
-use Rattle.bz_running.specs.declared.running.Running.TheVariants.{Consolidating, Splitting}
+use Rattle.bz_running.specs.declared.running.Running.TheVariants.{Consolidating, Splitting, SplittingBelow}
 use Rattle.bz_running.proofs.running.Running.hear.Goals as goal
 
 pub returns-in-Consolidating : goal.returns-in-Consolidating
@@ -29,6 +29,27 @@ pub returns-in-Splitting : goal.returns-in-Splitting
 unfolding config_of asks_of end_of left_of needs_of wants_of change_of facts_of means_of differs_of makes_no_change
 returns-in-Splitting c = record {
   heard = subst (λ t. HasHeard t c.args.seen c.args.moment c.args.slots.now c.next-in-Splitting.result (Splitting c.next-in-Splitting.new.self) c.next-in-Splitting.new.slots) (sym c.in-Splitting.is) (let e = c.next-in-Splitting.ensures in record {
+    asked = e.asked;
+    nearer = e.nearer;
+    config = e.config;
+    wants = refl;
+    change = e.change;
+    silent = refl;
+    meant = e.meant;
+    slots = e.slots;
+    done = e.done;
+    restart = e.restart;
+    no_swap = e.no_swap;
+    full_swaps = e.full_swaps;
+    full_nodes = e.full_nodes;
+    learns = e.learns;
+  });
+}
+
+pub returns-in-SplittingBelow : goal.returns-in-SplittingBelow
+unfolding config_of asks_of end_of left_of needs_of wants_of change_of facts_of means_of differs_of makes_no_change
+returns-in-SplittingBelow c = record {
+  heard = subst (λ t. HasHeard t c.args.seen c.args.moment c.args.slots.now c.next-in-SplittingBelow.result (SplittingBelow c.next-in-SplittingBelow.new.self) c.next-in-SplittingBelow.new.slots) (sym c.in-SplittingBelow.is) (let e = c.next-in-SplittingBelow.ensures in record {
     asked = e.asked;
     nearer = e.nearer;
     config = e.config;

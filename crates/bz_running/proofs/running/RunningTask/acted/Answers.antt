@@ -98,3 +98,19 @@ returns-in-Splitting-clause-stored c = subst Stored (sym c.in-Splitting.is) c.ac
 pub returns-in-Splitting-clause-flushed : goal.returns-in-Splitting-clause-flushed
 unfolding config_of asks_of change_of publishing_of facts_of
 returns-in-Splitting-clause-flushed c = subst Flushed (sym c.in-Splitting.is) c.acted-in-Splitting.ensures.flushed
+
+pub returns-in-SplittingBelow-clause-effect : goal.returns-in-SplittingBelow-clause-effect
+unfolding config_of asks_of change_of publishing_of facts_of
+returns-in-SplittingBelow-clause-effect c = subst Effect (sym c.in-SplittingBelow.is) c.acted-in-SplittingBelow.ensures.effect
+
+pub returns-in-SplittingBelow-clause-took : goal.returns-in-SplittingBelow-clause-took
+unfolding config_of asks_of change_of publishing_of facts_of
+returns-in-SplittingBelow-clause-took c = subst Took (sym c.in-SplittingBelow.is) c.acted-in-SplittingBelow.ensures.took
+
+pub returns-in-SplittingBelow-clause-stored : goal.returns-in-SplittingBelow-clause-stored
+unfolding config_of asks_of change_of publishing_of facts_of
+returns-in-SplittingBelow-clause-stored c = subst Stored (sym c.in-SplittingBelow.is) c.acted-in-SplittingBelow.ensures.stored
+
+pub returns-in-SplittingBelow-clause-flushed : goal.returns-in-SplittingBelow-clause-flushed
+unfolding config_of asks_of change_of publishing_of facts_of
+returns-in-SplittingBelow-clause-flushed c = subst Flushed (sym c.in-SplittingBelow.is) c.acted-in-SplittingBelow.ensures.flushed

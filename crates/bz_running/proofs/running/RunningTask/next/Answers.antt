@@ -1,6 +1,6 @@
 use Rattle.std.proofs.Common.{sym, subst}
 use Rattle.bz_running.specs.Duties.{config_of, asks_of, end_of, needs_of, facts_of, differs_of}
-use Rattle.bz_running.specs.declared.running.Running.TheVariants.{Consolidating, Splitting}
+use Rattle.bz_running.specs.declared.running.Running.TheVariants.{Consolidating, Splitting, SplittingBelow}
 use Rattle.bz_running.proofs.Statements.{Learns, Restarts}
 use Rattle.bz_running.proofs.running.RunningTask.next.Goals as goal
 
@@ -21,3 +21,12 @@ returns-in-Splitting-clause-learns c =
 pub returns-in-Splitting-clause-restart : goal.returns-in-Splitting-clause-restart
 unfolding end_of differs_of
 returns-in-Splitting-clause-restart c = subst (Restarts c.args.seen (Splitting c.next-in-Splitting.new.self)) (sym c.in-Splitting.is) c.next-in-Splitting.ensures.restart
+
+pub returns-in-SplittingBelow-clause-learns : goal.returns-in-SplittingBelow-clause-learns
+unfolding config_of asks_of needs_of facts_of
+returns-in-SplittingBelow-clause-learns c =
+    subst (Learns c.args.seen c.args.moment c.args.slots.now c.next-in-SplittingBelow.new.slots (SplittingBelow c.next-in-SplittingBelow.new.self)) (sym c.in-SplittingBelow.is) c.next-in-SplittingBelow.ensures.learns
+
+pub returns-in-SplittingBelow-clause-restart : goal.returns-in-SplittingBelow-clause-restart
+unfolding end_of differs_of
+returns-in-SplittingBelow-clause-restart c = subst (Restarts c.args.seen (SplittingBelow c.next-in-SplittingBelow.new.self)) (sym c.in-SplittingBelow.is) c.next-in-SplittingBelow.ensures.restart

@@ -1,0 +1,223 @@
+//! Leaves below a parent that are split, and trees of two levels.
+
+use super::bench::{Answer, begin, key, mark, open, payload, steps, whole};
+use crate::World;
+use bz_call::{Call, Reply};
+use bz_key::Key;
+use bz_mark::Mark;
+use std::alloc::Global;
+use std::process::Abort;
+
+// More acts than any of these calls makes.
+const MOST: u32 = 6_000;
+
+// The last digit of a number.
+fn digit(number: u32) -> u8 {
+    b'0' + (number % 10) as u8
+}
+
+// The key `k` and three digits.
+fn numbered(rt: &impl Abort, number: u32) -> Key {
+    let digits = [digit(number / 100), digit(number / 10), digit(number)];
+    key(rt, &[b'k', digits[0], digits[1], digits[2]])
+}
+
+// Inserts the key with this number, which is new.
+fn inserts(rt: &impl Abort, world: &mut World, number: u32) {
+    let call = Call::Insert(numbered(rt, number), payload(rt, b"v"));
+    assert_eq!(rt; whole(world, 1, call), Some(Answer::Inserted), "{number}");
+}
+
+// The key with this number is there.
+fn has(rt: &impl Abort, world: &mut World, number: u32) {
+    let call = Call::Get(numbered(rt, number));
+    let value = Answer::Value(payload(rt, b"v"));
+    assert_eq!(rt; whole(world, 1, call), Some(value), "{number}");
+}
+
+// The page and the next key of the last reply.
+fn last_page(world: &World) -> Option<(u32, Option<Key>)> {
+    let last = world.journal().length().saturating_sub(1);
+    match mark(world, last) {
+        Some(
+            Mark::End {
+                reply: Reply::Page { page, next },
+                ..
+            },
+        ) => Some((page, next)),
+        _ => None,
+    }
+}
+
+// The lengths of the pages from the first key on, each of which begins where the one before ends.
+fn walk(rt: &impl Abort, world: &mut World) -> [usize; 12] {
+    let mut lengths = [0; 12];
+    let mut from = Some(numbered(rt, 1));
+    for length in &mut lengths {
+        let Some(first) = from else {
+            break;
+        };
+        whole(world, 1, Call::Page(first));
+        let (page, next) = last_page(world).expect(rt, "a page");
+        let journal = world.journal();
+        assert!(rt; page < journal.page_count());
+        let pairs = journal.page(page);
+        *length = pairs.len();
+        assert!(rt; pairs.first().is_some_and(|pair| pair.0 == first));
+        from = next;
+    }
+    assert!(rt; from.is_none());
+    lengths
+}
+
+// How many pairs the pages have together.
+fn count_pairs(rt: &impl Abort, world: &mut World) -> usize {
+    let mut count = 0usize;
+    for length in &walk(rt, world) {
+        count = count.saturating_add(*length);
+    }
+    count
+}
+
+// The keys from 1 to 99, rising: each leaf is split when it has thirty-nine records, and keeps twenty of them.
+#[test]
+fn keys_rising(rt: HostRuntime) {
+    let mut world = open(rt.alloc(), 10, 204, 1).expect(&rt, "a world");
+    for number in 1..100 {
+        inserts(&rt, &mut world, number);
+    }
+    for number in 1..100 {
+        has(&rt, &mut world, number);
+    }
+    assert_eq!(rt;
+        walk(&rt, &mut world),
+        [20, 20, 20, 39, 0, 0, 0, 0, 0, 0, 0, 0]
+    );
+}
+
+// And falling: the first leaf is split, and its right half keeps nineteen.
+#[test]
+fn keys_falling(rt: HostRuntime) {
+    let mut world = open(rt.alloc(), 13, 206, 1).expect(&rt, "a world");
+    for number in 1..100 {
+        inserts(&rt, &mut world, 100 - number);
+    }
+    for number in 1..100 {
+        has(&rt, &mut world, number);
+    }
+    assert_eq!(rt;
+        walk(&rt, &mut world),
+        [23, 19, 19, 19, 19, 0, 0, 0, 0, 0, 0, 0]
+    );
+}
+
+// And shuffled.
+#[test]
+fn keys_shuffled(rt: HostRuntime) {
+    let mut world = open(rt.alloc(), 16, 256, 1).expect(&rt, "a world");
+    for number in 1..100 {
+        inserts(&rt, &mut world, 1 + number * 37 % 99);
+    }
+    for number in 1..100 {
+        has(&rt, &mut world, number);
+    }
+    assert_eq!(rt; count_pairs(&rt, &mut world), 99);
+}
+
+// The right one of two leaves is full. Worker 1 stops after so many acts of an insert that splits it; worker 2 makes its own, into the
+// left half, the right half or the other leaf; and then worker 1 makes the rest.
+fn beside(rt: &impl Abort, alloc: Global, acts: u32, other: u32) {
+    let v = payload(rt, b"v");
+    let mut world = open(alloc, 16, 256, 2).expect(rt, "a world");
+    for number in 1..61 {
+        if number != 10 && number != 30 {
+            inserts(rt, &mut world, number);
+        }
+    }
+    inserts(rt, &mut world, 61);
+    assert!(rt; begin(&mut world, 1, Call::Insert(numbered(rt, 62), v)));
+    let mut ended = steps(&mut world, 1, acts).1;
+    assert!(rt; begin(&mut world, 2, Call::Insert(numbered(rt, other), v)));
+    let second = steps(&mut world, 2, MOST).1;
+    assert_eq!(rt; second, Some(Answer::Inserted), "{acts} {other}");
+    if ended.is_none() {
+        ended = steps(&mut world, 1, MOST).1;
+    }
+    assert_eq!(rt; ended, Some(Answer::Inserted), "{acts} {other}");
+    assert_eq!(rt; count_pairs(rt, &mut world), 61);
+}
+
+#[test]
+fn a_stopped_split_holds_nobody_up(rt: HostRuntime) {
+    for turn in 0..9 {
+        for other in [30, 63, 10] {
+            beside(&rt, rt.alloc(), 110 * turn, other);
+        }
+    }
+}
+
+// Two full leaves below one parent, which are split at once: one of the swaps comes first, and the other call begins again.
+#[test]
+fn two_splits_below_one_parent(rt: HostRuntime) {
+    let v = payload(&rt, b"v");
+    let mut world = open(rt.alloc(), 16, 400, 2).expect(&rt, "a world");
+    for number in 1..41 {
+        inserts(&rt, &mut world, 2 * number);
+    }
+    for number in 1..20 {
+        inserts(&rt, &mut world, 2 * number + 1);
+        inserts(&rt, &mut world, 2 * number + 41);
+    }
+    assert!(rt; begin(&mut world, 1, Call::Insert(numbered(&rt, 1), v)));
+    assert!(rt; begin(&mut world, 2, Call::Insert(numbered(&rt, 90), v)));
+    let mut first = None;
+    let mut second = None;
+    for _ in 0..MOST {
+        if first.is_none() {
+            first = steps(&mut world, 1, 1).1;
+        }
+        if second.is_none() {
+            second = steps(&mut world, 2, 1).1;
+        }
+    }
+    assert_eq!(rt; first, Some(Answer::Inserted));
+    assert_eq!(rt; second, Some(Answer::Inserted));
+    assert_eq!(rt; count_pairs(&rt, &mut world), 80);
+}
+
+// A key of twenty-eight bytes, of which the last three are digits.
+fn long(rt: &impl Abort, number: u32) -> Key {
+    let mut bytes = [b'k'; 28];
+    bytes[25] = digit(number / 100);
+    bytes[26] = digit(number / 10);
+    bytes[27] = digit(number);
+    key(rt, &bytes)
+}
+
+// A parent has room for twenty children below such keys: each leaf keeps ten records, and the twentieth child may get nineteen. Then
+// the call ends for want of nodes, and takes none.
+#[test]
+fn a_parent_that_lacks_room(rt: HostRuntime) {
+    let v = payload(&rt, b"v");
+    let mut world = open(rt.alloc(), 80, 600, 1).expect(&rt, "a world");
+    for number in 1..210 {
+        let call = Call::Insert(long(&rt, number), v);
+        assert_eq!(rt;
+            whole(&mut world, 1, call),
+            Some(Answer::Inserted),
+            "{number}"
+        );
+    }
+    for _ in 0..2 {
+        let call = Call::Insert(long(&rt, 210), v);
+        assert_eq!(rt; whole(&mut world, 1, call), Some(Answer::FullNodes));
+    }
+    for tens in 1..21 {
+        let call = Call::Get(long(&rt, 10 * tens));
+        assert_eq!(rt;
+            whole(&mut world, 1, call),
+            Some(Answer::Value(v)),
+            "{tens}"
+        );
+    }
+}
