@@ -13,16 +13,18 @@ use std::test::Fail;
 // More acts than any of these calls makes.
 const MOST: u32 = 4_000;
 
-// Makes a whole call of worker 1, which is answered so.
-fn makes(rt: &impl Abort, world: &mut World, call: Call, answer: Answer) {
-    assert_eq!(rt; whole(world, 1, call), Some(answer));
+// Each call of worker 1 is answered so, one after the other.
+fn answers(rt: &impl Abort, world: &mut World, rows: &[(Call, Answer)]) {
+    for (call, answer) in rows {
+        assert_eq!(rt; whole(world, 1, *call), Some(*answer));
+    }
 }
 
 // Inserts the keys with these numbers, each of them new.
 fn inserts(rt: &impl Abort, world: &mut World, numbers: &[u8]) {
     for number in numbers {
         let call = Call::Insert(numbered(rt, *number), payload(rt, b"v"));
-        makes(rt, world, call, Answer::Inserted);
+        answers(rt, world, &[(call, Answer::Inserted)]);
     }
 }
 
@@ -40,25 +42,23 @@ fn last_page(world: &World) -> Option<(u32, Option<Key>)> {
     }
 }
 
-// The lengths of the first two pages from a key on, each of which begins where the one before ends.
+// How many pairs the page from a key on has, and the key with which the next one begins.
+fn read_page(rt: &impl Abort, world: &mut World, key: Key) -> (usize, Option<Key>) {
+    whole(world, 1, Call::Page(key));
+    let (page, next) = last_page(world).expect(rt, "a page");
+    let journal = world.journal();
+    assert!(rt; page < journal.page_count());
+    let pairs = journal.page(page);
+    assert!(rt; pairs.first().is_some_and(|pair| pair.0 == key));
+    (pairs.len(), next)
+}
+
+// The lengths of the two pages from a key on, the second of which begins where the first ends.
 fn walk(rt: &impl Abort, world: &mut World, from: Key) -> [usize; 2] {
-    let mut lengths = [0; 2];
-    let mut from = Some(from);
-    for length in &mut lengths {
-        let Some(key) = from else {
-            break;
-        };
-        whole(world, 1, Call::Page(key));
-        let (page, next) = last_page(world).expect(rt, "a page");
-        let journal = world.journal();
-        assert!(rt; page < journal.page_count());
-        let pairs = journal.page(page);
-        *length = pairs.len();
-        assert!(rt; pairs.first().is_some_and(|pair| pair.0 == key));
-        from = next;
-    }
-    assert!(rt; from.is_none());
-    lengths
+    let (first, next) = read_page(rt, world, from);
+    let (second, end) = read_page(rt, world, next.expect(rt, "a second page"));
+    assert!(rt; end.is_none());
+    [first, second]
 }
 
 // The durable words have exactly the keys with numbers from 1 to the last one.
@@ -80,19 +80,19 @@ fn rising() -> [u8; 41] {
     numbers
 }
 
+// Each of the keys has its payload.
+fn finds(rt: &impl Abort, world: &mut World, numbers: &[u8]) {
+    for number in numbers {
+        let call = Call::Get(numbered(rt, *number));
+        answers(rt, world, &[(call, Answer::Value(payload(rt, b"v")))]);
+    }
+}
+
 // The forty keys go into four slots, with as many descriptors as they take; each is there, and the two pages are so long.
 fn splits(rt: &impl Abort, alloc: Global, numbers: &[u8], lengths: [usize; 2]) {
-    let v = payload(rt, b"v");
     let mut world = open(alloc, 4, 82, 1).expect(rt, "a world");
     inserts(rt, &mut world, numbers);
-    for number in numbers {
-        makes(
-            rt,
-            &mut world,
-            Call::Get(numbered(rt, *number)),
-            Answer::Value(v),
-        );
-    }
+    finds(rt, &mut world, numbers);
     assert_eq!(rt; walk(rt, &mut world, numbered(rt, 1)), lengths);
     holds_up_to(rt, &world, 40);
 }
@@ -116,14 +116,13 @@ fn lacks_nodes(rt: &impl Abort, alloc: Global, nodes: u32) {
     let mut world = open(alloc, nodes, 128, 1).expect(rt, "a world");
     inserts(rt, &mut world, rising().get(..39).unwrap_or(&[]));
     let (first, last) = (numbered(rt, 1), numbered(rt, 40));
-    for (call, answer) in [
+    let rows = [
         (Call::Insert(last, v), Answer::FullNodes),
         (Call::Insert(first, v), Answer::Exists),
         (Call::Get(last), Answer::Missing),
         (Call::Delete(first), Answer::FullNodes),
-    ] {
-        makes(rt, &mut world, call, answer);
-    }
+    ];
+    answers(rt, &mut world, &rows);
     holds_up_to(rt, &world, 39);
 }
 
@@ -134,37 +133,47 @@ fn a_split_takes_three_slots(rt: HostRuntime) {
     }
 }
 
+// A key has its payload put to itself, forty times.
+fn updates(rt: &impl Abort, world: &mut World, key: &Key) {
+    for _ in 0..40 {
+        let v = payload(rt, b"v");
+        answers(rt, world, &[(Call::Update(*key, v), Answer::Updated(v))]);
+    }
+}
+
 #[test]
 fn leaves_below_a_parent_change_and_are_copied(rt: HostRuntime) -> Result<(), Fail> {
     let (v, two) = (payload(&rt, b"v"), payload(&rt, b"2"));
     let first = numbered(&rt, 1);
     let mut world = open(rt.alloc(), 6, 400, 1)?;
     inserts(&rt, &mut world, rising().get(..40).unwrap_or(&[]));
-    for _ in 0..40 {
-        makes(&rt, &mut world, Call::Update(first, v), Answer::Updated(v));
-    }
-    for (call, answer) in [
+    updates(&rt, &mut world, &first);
+    let rows = [
         (Call::Update(first, two), Answer::Updated(v)),
         (Call::Delete(first), Answer::Deleted(two)),
         (Call::Get(first), Answer::Missing),
         (Call::Insert(first, two), Answer::Inserted),
         (Call::Get(first), Answer::Value(two)),
-    ] {
-        makes(&rt, &mut world, call, answer);
-    }
+    ];
+    answers(&rt, &mut world, &rows);
     holds_up_to(&rt, &world, 40);
     Ok(())
 }
 
-// Nineteen records of six words each fill the root leaf but for four words. Worker 1 stops after so many acts of an insert that
+// Nineteen records of six words each fill the root leaf but for four words.
+fn fills(rt: &impl Abort, world: &mut World) {
+    for number in rising().get(1..20).unwrap_or(&[]) {
+        let call = Call::Insert(numbered(rt, *number), payload(rt, &[b'v'; 28]));
+        answers(rt, world, &[(call, Answer::Inserted)]);
+    }
+}
+
+// Over such a leaf worker 1 stops after so many acts of an insert that
 // splits it; worker 2 makes its own, and then worker 1 the rest.
 fn beside(rt: &impl Abort, alloc: Global, acts: u32, first: u8, second: u8) {
     let long = payload(rt, &[b'v'; 28]);
     let mut world = open(alloc, 16, 256, 2).expect(rt, "a world");
-    for number in rising().get(1..20).unwrap_or(&[]) {
-        let call = Call::Insert(numbered(rt, *number), long);
-        makes(rt, &mut world, call, Answer::Inserted);
-    }
+    fills(rt, &mut world);
     assert!(rt; begin(&mut world, 1, Call::Insert(numbered(rt, first), long)));
     let mut ended = steps(&mut world, 1, acts).1;
     assert!(rt; begin(&mut world, 2, Call::Insert(numbered(rt, second), long)));
