@@ -185,7 +185,8 @@ impl Journal {
     /// The pairs of the page with this number.
     pub fn page(&self, p: u32) -> &[(Key, Payload)]
         requires { p < length self.now.pages }
-        ensures { slice_get self.now.pages p ≡ Some result.now }
+        ensures pairs { slice_get self.now.pages p ≡ Some result.now }
+        ensures few { length result.now ≤ PAGE_PAIRS }
     {
         let page = &self.pages[p as usize];
         page.pairs()
