@@ -5,7 +5,6 @@ use Rattle.bz_call.specs.declared.replies.Reply.{Reply}
 use Rattle.bz_index.proofs.Steps.{read_step}
 use Rattle.bz_index.specs.Entries.{entries_in, told}
 use Rattle.bz_index.specs.Inside.Outcomes.{EndsWith, HasEnded}
-use Rattle.bz_key.specs.declared.limits.TheConstants.{PAGE_PAIRS}
 use Rattle.bz_mark.specs.Log.{Log}
 use Rattle.bz_mark.specs.declared.marks.Mark.{Mark}
 use Rattle.bz_mark.specs.declared.marks.Mark.TheVariants.{End}
@@ -32,11 +31,11 @@ has_ended old w n new some within h sound = ⊎_elim
     (read_step old w (applied.Ended n) new some within h)
 
 ends_told : (w n : ℕ) (reply : Reply) (moment : ℕ) (past : List Mark) (pages : Pages) (page : List (List ℕ × List ℕ))
-    → (names_page reply ≡ true → length (get_or pages 0 []) ≤ PAGE_PAIRS → page ≡ get_or pages 0 []) → EndsWith (told (End w n reply moment ∷ past) pages) reply page
-ends_told w n reply moment past pages page shown = (w, n, moment, refl, (λ yes few. rw yes (shown yes (rw yes at few))))
+    → (names_page reply ≡ true → page ≡ get_or pages 0 []) → EndsWith (told (End w n reply moment ∷ past) pages) reply page
+ends_told w n reply moment past pages page shown = (w, n, moment, refl, (λ yes. rw yes (shown yes)))
 
 -- what was read of it
 pub ends_with : (log : Log) (w n : ℕ) (reply : Reply) (moment : ℕ) (past : List Mark) (page : List (List ℕ × List ℕ)) → log.past ≡ End w n reply moment ∷ past
-    → (names_page reply ≡ true → length (get_or (reverse log.pages) 0 []) ≤ PAGE_PAIRS → page ≡ get_or (reverse log.pages) 0 []) → EndsWith (entries_in log) reply page
+    → (names_page reply ≡ true → page ≡ get_or (reverse log.pages) 0 []) → EndsWith (entries_in log) reply page
 ends_with log w n reply moment past page is shown =
     subst (λ (marks : List Mark). EndsWith (told marks (reverse log.pages)) reply page) (sym is) (ends_told w n reply moment past (reverse log.pages) page shown)

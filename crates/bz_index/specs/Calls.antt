@@ -9,7 +9,6 @@ use Rattle.bz_index.specs.declared.answer.Answer.{Answer}
 use Rattle.bz_index.specs.declared.answer.Answer.TheVariants as answer
 use Rattle.bz_index.specs.declared.shared.IndexEntry.{IndexEntry}
 use Rattle.bz_index.specs.declared.shared.Origin.{Origin}
-use Rattle.bz_key.specs.declared.limits.TheConstants.{PAGE_PAIRS}
 use Rattle.bz_mark.specs.Log.{count_begins}
 use Rattle.bz_mark.specs.declared.marks.Mark.{Mark}
 use Rattle.bz_mark.specs.declared.marks.Mark.TheVariants.{Begin, End, Cut}
@@ -28,14 +27,14 @@ abbrev pub begin_entry : ℕ → ℕ → Call → IndexEntry
 begin_entry w n call = record { mark = Begin w n call; page = [] }
 
 -- the worker's call was answered: exactly its Begin and its End were added of the worker's, the End has the reply, its
--- moment lies after all that was seen before, and the page, which has room for PAGE_PAIRS pairs, is the one that comes with it
+-- moment lies after all that was seen before, and the page is the one that comes with it
 pub record HasReply (w : ℕ) (call : Call) (first now : List IndexEntry) (reply : Reply) (page : List (List ℕ × List ℕ)) : Type 0 where
   pub number : ℕ
   pub at : ℕ
   pub its_page : List (List ℕ × List ℕ)
   pub own : entries_of owner_of w now ≡ record { mark = End w number reply at; page = its_page } ∷ begin_entry w number call ∷ entries_of owner_of w first
   pub later : length first < at
-  pub shown : names_page reply ≡ true → length its_page ≤ PAGE_PAIRS → page ≡ its_page
+  pub shown : names_page reply ≡ true → page ≡ its_page
 
 -- nothing of the worker's was added
 abbrev pub HasNotBegun : ℕ → List IndexEntry → List IndexEntry → Type 0

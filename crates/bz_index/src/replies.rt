@@ -34,10 +34,7 @@ fn newest_reply(journal: &Journal, out: &mut PageBuf) -> Reply
         unreachable!()
     };
     if let Reply::Page { .. } = reply {
-        let pairs = journal.page(journal.page_count() - 1);
-        if pairs.len() <= PAGE_PAIRS {
-            fill(out, pairs);
-        }
+        fill(out, journal.page(journal.page_count() - 1));
     }
     reply
 }

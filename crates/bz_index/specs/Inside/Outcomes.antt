@@ -12,7 +12,6 @@ use Rattle.bz_index.specs.declared.answer.Answer.{Answer}
 use Rattle.bz_index.specs.declared.answer.Answer.TheVariants as answer
 use Rattle.bz_index.specs.declared.shared.IndexEntry.{IndexEntry}
 use Rattle.bz_index.specs.declared.shared.Origin.{Origin}
-use Rattle.bz_key.specs.declared.limits.TheConstants.{PAGE_PAIRS}
 use Rattle.bz_mark.specs.Log.{Log, count_page_ends}
 use Rattle.bz_mark.specs.declared.marks.Mark.{Mark}
 use Rattle.bz_mark.specs.declared.marks.Mark.TheVariants.{End}
@@ -27,7 +26,7 @@ use Rattle.bz_world.specs.declared.answers.Which.TheVariants as which
 -- the newest entry is an End with this reply, and if it names a page this is it
 abbrev pub EndsWith : List IndexEntry → Reply → List (List ℕ × List ℕ) → Type 0
 EndsWith [] reply page = ⊥
-EndsWith (entry ∷ entries) reply page = (w : ℕ) × (n : ℕ) × (at : ℕ) × (entry.mark ≡ End w n reply at) × (names_page reply ≡ true → length entry.page ≤ PAGE_PAIRS → page ≡ entry.page)
+EndsWith (entry ∷ entries) reply page = (w : ℕ) × (n : ℕ) × (at : ℕ) × (entry.mark ≡ End w n reply at) × (names_page reply ≡ true → page ≡ entry.page)
 
 -- the call has begun and the power was cut since then
 abbrev pub WasCut : ℕ → Call → List IndexEntry → List IndexEntry → Type 0
