@@ -69,5 +69,6 @@ cut_is_made seed old mid new queued left config h cut empty room closed = rw cut
     room = room;
   },
   refl,
+  h.evolves.flushes,
   (mid.log.past, h.evicts, rw empty refl),
 )

@@ -1,10 +1,10 @@
 -- Runs with a cut armed, and without.
-use Rattle.std.proofs.Common.{◌≡◌, ◌≤◌, inl, inr, ℕ, ◌-◌, List, ap, subst, ◌∙◌, arith, Option, Some, None}
+use Rattle.std.proofs.Common.{◌≡◌, ◌≤◌, inl, inr, ℕ, ◌-◌, Bool, true, false, List, get_or, ap, subst, ◌∙◌, arith, Option, Some, None}
 use Rattle.bz_layout.specs.Addresses.{words_of}
 use Rattle.bz_layout.specs.declared.config.Config.{Config}
 use Rattle.bz_call.specs.declared.calls.Call.{Call}
 use Rattle.bz_script.specs.declared.item.Plan.{Plan}
-use Rattle.bz_world.specs.Lab.{Lab}
+use Rattle.bz_world.specs.Lab.{Lab, flush_of}
 use Rattle.bz_world.specs.declared.answers.Which.{Which}
 use Rattle.bz_sched.specs.Cuts.{CutsOff, CutsOffInPart}
 use Rattle.bz_sched.specs.Cutting.{IsCutOff}
@@ -89,18 +89,17 @@ module _ (cut : CutPlan) (plan : Plan) (old new : Lab) (queued armed left : Queu
 
   -- the flush is due
   pub armed_due : (w : ℕ) → Keeps old armed new left × RunsByInPart (Due w) (words_of old.config) plan (point_of old armed) (point_of new left) × IsStopped new left (Due w)
-      → IsDueInRun (words_of old.config) cut plan (point_of old queued) (point_of new left)
+      → IsDueInRun (words_of old.config) cut plan w (point_of old queued) (point_of new left)
   armed_due w (keeps, runs, due) = record {
-    worker = w;
     runs = subst (λ (point : Point). RunsByInPart (Due w) (words_of old.config) plan point (point_of new left)) (armed_point old queued armed _ a) runs;
     flushes = due_flushes cut old.log.past new.log.past armed.fuse left.fuse some a.fuse due.1 keeps.fuse;
   }
 
   -- and the power is cut
-  pub armed_cut : (end : RunEnd) (after : Lab) (dropped : Queued) → Keeps old armed new left → IsDueInRun (words_of old.config) cut plan (point_of old queued) (point_of new left)
+  pub armed_cut : (w : ℕ) (end : RunEnd) (after : Lab) (dropped : Queued) → Keeps old armed new left → IsDueInRun (words_of old.config) cut plan w (point_of old queued) (point_of new left) → flush_of new w ≡ true
       → IsCutOff cut.seed new left end after dropped → HasRun (Some cut) plan old queued end after dropped
-  armed_cut end.Finished after dropped keeps due h = absurd h
-  armed_cut end.Cut after dropped keeps due (leaves, off, cuts) = (
+  armed_cut w end.Finished after dropped keeps due flush h = absurd h
+  armed_cut w end.Cut after dropped keeps due flush (leaves, off, left_out, cuts) = (
     record {
       stays = record { config = leaves.stays.config ∙ keeps.config; start = leaves.stays.start ∙ keeps.start; limits = leaves.stays.limits ∙ keeps.limits };
       steady = leaves.steady;
@@ -108,19 +107,23 @@ module _ (cut : CutPlan) (plan : Plan) (old new : Lab) (queued armed left : Queu
     },
     off,
     (
-      point_of new left,
-      due,
-      subst (λ (start : List ℕ). CutsOff start (words_of old.config) cut.seed (point_of new left) (point_of after dropped)) keeps.start
-          (subst (λ (c : Config). CutsOff new.log.start (words_of c) cut.seed (point_of new left) (point_of after dropped)) keeps.config cuts),
+      w,
+      (
+        point_of new left,
+        due,
+        subst (λ (start : List ℕ). CutsOff start (words_of old.config) cut.seed (point_of new left) (point_of after dropped)) keeps.start
+            (subst (λ (c : Config). CutsOff new.log.start (words_of c) cut.seed (point_of new left) (point_of after dropped)) keeps.config cuts),
+      ),
+      ap (λ (flags : List Bool). get_or flags w false) left_out ∙ flush,
     ),
   )
-  armed_cut (end.Limit why) after dropped keeps due (stays, is, cuts, met) = (
+  armed_cut w (end.Limit why) after dropped keeps due flush (stays, is, cuts, met) = (
     record { config = stays.config ∙ keeps.config; start = stays.start ∙ keeps.start; limits = stays.limits ∙ keeps.limits },
     inr (
       is,
       (
         point_of new left,
-        due,
+        (w, due),
         subst (λ (start : List ℕ). CutsOffInPart start (words_of old.config) cut.seed (point_of new left) (point_of after dropped)) keeps.start
             (subst (λ (c : Config). CutsOffInPart new.log.start (words_of c) cut.seed (point_of new left) (point_of after dropped)) keeps.config cuts),
       ),

@@ -1,5 +1,5 @@
 -- How power on ends, with a cut armed and without.
-use Rattle.std.proofs.Common.{◌≡◌, ◌≤◌, inl, inr, ℕ, ◌+◌, ◌-◌, false, Bool, List, get_or, refl, sym, ap, subst, ◌∙◌, arith, Option, Some}
+use Rattle.std.proofs.Common.{◌≡◌, ◌≤◌, inl, inr, ℕ, ◌+◌, ◌-◌, true, false, Bool, List, get_or, refl, sym, ap, subst, ◌∙◌, arith, Option, Some}
 use Rattle.std.specs.Prelude.{is_some}
 use Rattle.bz_layout.specs.Addresses.{words_of}
 use Rattle.bz_layout.specs.Config.{IsConfig}
@@ -7,7 +7,7 @@ use Rattle.bz_layout.specs.declared.config.Config.{Config}
 use Rattle.bz_mark.specs.declared.marks.Mark.{Mark}
 use Rattle.bz_sound.specs.Power.Times.{power_of}
 use Rattle.bz_sound.specs.declared.power.Power.TheVariants as power
-use Rattle.bz_world.specs.Lab.{Lab, IsWorker, power_in}
+use Rattle.bz_world.specs.Lab.{Lab, IsWorker, power_in, flush_of}
 use Rattle.bz_world.specs.declared.answers.Which.{Which}
 use Rattle.bz_world.specs.declared.answers.Which.TheVariants as which
 use Rattle.bz_sched.specs.Cuts.{CutsOff, CutsOffInPart}
@@ -88,9 +88,9 @@ module _ (old mid new : Lab) (queued between armed left : Queued) (fuse : Option
     queue = calls_are;
   }
 
-  pub wake_cut : (cut : CutPlan) (end : RunEnd) (after : Lab) (dropped : Queued) → IsDueInRecovery cut (point_of old queued) (point_of new left) → IsCutOff cut.seed new left end after dropped → HasPower (Some cut) old queued end after dropped
-  wake_cut cut end.Finished after dropped due h = absurd h
-  wake_cut cut end.Cut after dropped due (leaves, off, cuts) = (
+  pub wake_cut : (cut : CutPlan) (end : RunEnd) (after : Lab) (dropped : Queued) → IsDueInRecovery cut (point_of old queued) (point_of new left) → flush_of new 0 ≡ true → IsCutOff cut.seed new left end after dropped → HasPower (Some cut) old queued end after dropped
+  wake_cut cut end.Finished after dropped due flush h = absurd h
+  wake_cut cut end.Cut after dropped due flush (leaves, off, left_out, cuts) = (
     record { stays = stays_both old new after all_stay leaves.stays; steady = leaves.steady; room = omega (arith, leaves.room, r.queue.room, a.room, s.room) },
     off,
     (
@@ -99,8 +99,9 @@ module _ (old mid new : Lab) (queued between armed left : Queued) (fuse : Option
       subst (λ (start : List ℕ). CutsOff start (words_of old.config) cut.seed (point_of new left) (point_of after dropped)) all_stay.start
           (subst (λ (c : Config). CutsOff new.log.start (words_of c) cut.seed (point_of new left) (point_of after dropped)) all_stay.config cuts),
     ),
+    ap (λ (flags : List Bool). get_or flags 0 false) left_out ∙ flush,
   )
-  wake_cut cut (end.Limit why) after dropped due (stays, is, cuts, met) = (
+  wake_cut cut (end.Limit why) after dropped due flush (stays, is, cuts, met) = (
     stays_both old new after all_stay stays,
     (
       is,

@@ -12,10 +12,11 @@ use Rattle.bz_sched.specs.Runs.{point_of, marks_left, IsAtLimit, Stays, Leaves}
 use Rattle.bz_sched.specs.declared.running.RunEnd.{RunEnd}
 use Rattle.bz_sched.specs.declared.running.RunEnd.TheVariants as end
 
--- the world is the same one, and so is what the power is
+-- the world is the same one, and so are what the power is and which of the next acts are flushes
 pub record Evolves (old new : Lab) : Type 0 where
   pub stays : Stays old new
   pub power : power_in new ≡ power_in old
+  pub flushes : new.flushes ≡ old.flushes
 
 -- a word was evicted
 pub record WordEvicted (old : Lab) (a : ℕ) (new : Lab) : Type 0 where
@@ -59,10 +60,10 @@ pub record EvictionsStopped (words seed : ℕ) (old new : Lab) : Type 0 where
   pub evicts : EvictsInPart old.log.start words seed old.log.past new.log.past
   pub met : marks_left new < 3
 
--- the power was cut, or the limit on marks forbade an eviction or the cut
+-- the power was cut, and the acts that it left out are the next ones of before; or the limit on marks forbade an eviction or the cut
 abbrev pub IsCutOff : ℕ → Lab → Queued → RunEnd → Lab → Queued → Type 0
 IsCutOff seed old queued end.Finished new left = ⊥
 IsCutOff seed old queued end.Cut new left =
-    Leaves old queued new left × (power_in new ≡ power.Off) × CutsOff old.log.start (words_of old.config) seed (point_of old queued) (point_of new left)
+    Leaves old queued new left × (power_in new ≡ power.Off) × (new.left_out ≡ old.flushes) × CutsOff old.log.start (words_of old.config) seed (point_of old queued) (point_of new left)
 IsCutOff seed old queued (end.Limit why) new left =
     Stays old new × (why ≡ which.Marks) × CutsOffInPart old.log.start (words_of old.config) seed (point_of old queued) (point_of new left) × IsAtLimit new why

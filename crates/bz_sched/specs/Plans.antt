@@ -36,19 +36,23 @@ RunsWhole words cut plan old new = RunsBy words plan old new × IsBefore cut old
 
 -- a run up to where the power is cut: a step of this worker was to come, and all but one of the flushes that the cut waits for
 -- were made
-pub record IsDueInRun (words : ℕ) (cut : CutPlan) (plan : Plan) (old mid : Point) : Type 0 where
-  pub worker : ℕ
-  pub runs : RunsByInPart (Due worker) words plan old mid
+pub record IsDueInRun (words : ℕ) (cut : CutPlan) (plan : Plan) (w : ℕ) (old mid : Point) : Type 0 where
+  pub runs : RunsByInPart (Due w) words plan old mid
   pub flushes : flushes_of mid.past + 1 ≡ flushes_of old.past + cut.flush
 
--- a run in which the cut was made, over a memory with this start and of so many words
+-- a run in which the cut was made before a step of this worker, over a memory with this start and of so many words
+abbrev pub RunsCutBefore : List ℕ → ℕ → Option CutPlan → Plan → ℕ → Point → Point → Type 0
+RunsCutBefore start words None plan w old new = ⊥
+RunsCutBefore start words (Some cut) plan w old new = (mid : Point) × IsDueInRun words cut plan w old mid × CutsOff start words cut.seed mid new
+
+-- before a step of some worker
 abbrev pub RunsCut : List ℕ → ℕ → Option CutPlan → Plan → Point → Point → Type 0
 RunsCut start words None plan old new = ⊥
-RunsCut start words (Some cut) plan old new = (mid : Point) × IsDueInRun words cut plan old mid × CutsOff start words cut.seed mid new
+RunsCut start words (Some cut) plan old new = (w : ℕ) × RunsCutBefore start words (Some cut) plan w old new
 
 abbrev pub CutInPart : List ℕ → ℕ → Option CutPlan → Plan → Point → Point → Type 0
 CutInPart start words None plan old new = ⊥
-CutInPart start words (Some cut) plan old new = (mid : Point) × IsDueInRun words cut plan old mid × CutsOffInPart start words cut.seed mid new
+CutInPart start words (Some cut) plan old new = (mid : Point) × ((w : ℕ) × IsDueInRun words cut plan w old mid) × CutsOffInPart start words cut.seed mid new
 
 -- a run that met a limit: by itself, or in what belongs to the cut
 abbrev pub RunsInPart : Which → List ℕ → ℕ → Option CutPlan → Plan → Point → Point → Type 0

@@ -9,11 +9,11 @@ use Rattle.bz_mark.specs.declared.marks.Mark.{Mark}
 use Rattle.bz_script.specs.declared.item.Plan.{Plan}
 use Rattle.bz_sound.specs.Calls.{open_call}
 use Rattle.bz_sound.specs.declared.power.Power.TheVariants as power
-use Rattle.bz_world.specs.Lab.{Lab, IsWorker, power_in, flush_of}
+use Rattle.bz_world.specs.Lab.{Lab, IsWorker, power_in, flush_of, flush_left_out}
 use Rattle.bz_world.specs.declared.answers.Which.{Which}
 use Rattle.bz_world.specs.declared.answers.Which.TheVariants as which
 use Rattle.bz_sched.specs.Points.{Point, flushes_of}
-use Rattle.bz_sched.specs.Plans.{RunsWhole, RunsCut, RunsInPart}
+use Rattle.bz_sched.specs.Plans.{RunsWhole, RunsCutBefore, RunsInPart}
 use Rattle.bz_sched.specs.Queued.{Queued, has_open}
 use Rattle.bz_sched.specs.Recoveries.{Powers, PowersCut, PowersInPart}
 use Rattle.bz_sched.specs.declared.cut.CutPlan.{CutPlan}
@@ -104,20 +104,22 @@ abbrev pub IsCutPlan : Option CutPlan → Type 0
 IsCutPlan None = Unit {0}
 IsCutPlan (Some cut) = 1 ≤ cut.flush
 
--- how a run by a plan ends, with this cut armed or none
+-- how a run by a plan ends, with this cut armed or none. A cut comes before a step of a worker, and the act that it left out of it
+-- was a flush.
 abbrev pub HasRun : Option CutPlan → Plan → Lab → Queued → RunEnd → Lab → Queued → Type 0
 HasRun cut plan old queued end.Finished new left =
     Leaves old queued new left × (power_in new ≡ power.On) × RunsWhole (words_of old.config) cut plan (point_of old queued) (point_of new left)
 HasRun cut plan old queued end.Cut new left =
-    Leaves old queued new left × (power_in new ≡ power.Off) × RunsCut old.log.start (words_of old.config) cut plan (point_of old queued) (point_of new left)
+    Leaves old queued new left × (power_in new ≡ power.Off)
+    × ((w : ℕ) × RunsCutBefore old.log.start (words_of old.config) cut plan w (point_of old queued) (point_of new left) × (flush_left_out new w ≡ true))
 HasRun cut plan old queued (end.Limit why) new left =
     Stays old new × RunsInPart why old.log.start (words_of old.config) cut plan (point_of old queued) (point_of new left) × IsAtLimit new why
 
--- how power on ends, with this cut armed or none
+-- how power on ends, with this cut armed or none: the act of worker 0 that a cut left out was a flush
 abbrev pub HasPower : Option CutPlan → Lab → Queued → RunEnd → Lab → Queued → Type 0
 HasPower cut old queued end.Finished new left =
     Leaves old queued new left × (power_in new ≡ power.On) × Powers cut (point_of old queued) (point_of new left)
 HasPower cut old queued end.Cut new left =
-    Leaves old queued new left × (power_in new ≡ power.Off) × PowersCut old.log.start (words_of old.config) cut (point_of old queued) (point_of new left)
+    Leaves old queued new left × (power_in new ≡ power.Off) × PowersCut old.log.start (words_of old.config) cut (point_of old queued) (point_of new left) × (flush_left_out new 0 ≡ true)
 HasPower cut old queued (end.Limit why) new left =
     Stays old new × PowersInPart why old.log.start (words_of old.config) cut (point_of old queued) (point_of new left) × IsAtLimit new why

@@ -42,13 +42,13 @@ run_done old new queue left armed plan Finished (leaves, on, runs) = record {
   leads = (refl, inl runs);
   power = λ none. on;
 }
-run_done old new queue left None plan Cut (leaves, off, runs) = absurd runs
-run_done old new queue left (Some cut) plan Cut (leaves, off, runs) = record {
+run_done old new queue left None plan Cut (leaves, off, (w, runs, flush)) = absurd runs
+run_done old new queue left (Some cut) plan Cut (leaves, off, (w, runs, flush)) = record {
   stays = leaves.stays;
   steady = leaves.steady;
   room = omega (arith, leaves.room);
   cut = tt;
-  leads = (refl, inr runs);
+  leads = (refl, inr (w, runs));
   power = λ none. absurd (cc none);
 }
 run_done old new queue left armed plan (Limit which) (stays, runs, met) = record { stays = stays; leads = runs; met = met }
@@ -62,8 +62,8 @@ power_done old new queue left armed Finished (leaves, on, powers) = record {
   leads = (refl, inl powers);
   power = λ none. on;
 }
-power_done old new queue left None Cut (leaves, off, powers) = absurd powers
-power_done old new queue left (Some cut) Cut (leaves, off, powers) = record {
+power_done old new queue left None Cut (leaves, off, powers, flush) = absurd powers
+power_done old new queue left (Some cut) Cut (leaves, off, powers, flush) = record {
   stays = leaves.stays;
   steady = leaves.steady;
   room = omega (arith, leaves.room);

@@ -207,7 +207,7 @@ module _ (p : Parts) (k : IsAwake p) (w : ℕ) (call : Call) (may : MayBegin p w
     has-begun new is holds = record {
       kept = read-kept s mid w 2 must-start new is holds;
       number = numbered;
-      after = ap (λ fs. record { config = p.config; log = with_mark p.journal mark; flushes = fs }) flushes;
+      after = ap (λ fs. record { config = p.config; log = with_mark p.journal mark; flushes = fs; left_out = p.left_out.items }) flushes;
     }
       where
         flushes : map (λ (v : Working). v.flush_next) new.workers ≡ slice_set (map (λ (v : Working). v.flush_next) p.access.workers) w false

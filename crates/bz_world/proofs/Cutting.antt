@@ -1,6 +1,7 @@
 -- The power fails: what a world keeps then.
-use Rattle.std.proofs.Common.{◌≡◌, ◌≢◌, ℕ, ◌+◌, ◌≤◌, false, length, replicate, arith, refl, sym, ap, subst, ◌∙◌, Option, None}
-use Rattle.std.specs.Prelude.{get_or}
+use Rattle.std.proofs.Common.{◌≡◌, ◌≢◌, ℕ, ◌+◌, ◌≤◌, Bool, false, length, replicate, arith, refl, sym, ap, subst, ◌∙◌, Option, None}
+use Rattle.std.specs.Prelude.{get_or, map}
+use Rattle.arrayvec.specs.ArrayVec.{ArrayVec}
 use Rattle.std.specs.Global.{Vec}
 use Rattle.std.proofs.lemmas.List.{length-replicate}
 use Rattle.bz_content.specs.Resolving.{resolve}
@@ -31,13 +32,13 @@ pub record Laws : Type 0 where
   pub leave : CutsAreMarked
 
 -- the world after it
-abbrev cut-off : Parts → Vec (Option Serving) → Parts
-cut-off p workers = record p { access = after_cut p.access; journal = with_mark p.journal Cut; power = power.Off; workers = workers }
+abbrev cut-off : Parts → Vec (Option Serving) → ArrayVec Bool → Parts
+cut-off p workers flags = record p { access = after_cut p.access; journal = with_mark p.journal Cut; power = power.Off; workers = workers; left_out = flags }
 
 -- whatever the power was, if it was not off
 module _ (b : Laws) (p : Parts) (t : IsTabled p) (sound : IsSound p.config power.On p.journal) (not-off : p.power ≢ power.Off) (room : length p.journal.past + 3 ≤ p.config.marks)
-    (workers : Vec (Option Serving)) (size : length workers.items ≡ length p.workers.items) where
-  tabled : IsTabled (cut-off p workers)
+    (workers : Vec (Option Serving)) (size : length workers.items ≡ length p.workers.items) (flags : ArrayVec Bool) where
+  tabled : IsTabled (cut-off p workers flags)
   tabled = record {
     config = t.config;
     limits = t.limits;
@@ -63,16 +64,17 @@ module _ (b : Laws) (p : Parts) (t : IsTabled p) (sound : IsSound p.config power
   sound-on = b.follow p.config power.On p.journal sound no-cut
 
   -- so it is seen
-  lab-cut : lab_of (cut-off p workers) ≡ lab.after_cut (lab_of p)
-  lab-cut = ap (λ fs. record { config = p.config; log = with_mark p.journal Cut; flushes = fs }) (map-replicate (λ (v : Working). v.flush_next) (length p.access.workers) idle ∙ ap (λ n. replicate n false) t.crew)
+  lab-cut : flags.items ≡ map (λ (v : Working). v.flush_next) p.access.workers → lab_of (cut-off p workers flags) ≡ lab.after_cut (lab_of p)
+  lab-cut same = ap (λ left. record { config = p.config; log = with_mark p.journal Cut; flushes = map (λ (v : Working). v.flush_next) (after_cut p.access).workers; left_out = left }) same
+      ∙ ap (λ fs. record { config = p.config; log = with_mark p.journal Cut; flushes = fs; left_out = map (λ (v : Working). v.flush_next) p.access.workers }) (map-replicate (λ (v : Working). v.flush_next) (length p.access.workers) idle ∙ ap (λ n. replicate n false) t.crew)
 
-module _ (b : Laws) (p : Parts) (room : length p.journal.past + 3 ≤ p.config.marks) (workers : Vec (Option Serving)) (size : length workers.items ≡ length p.workers.items) (none : (w : ℕ) → get_or workers.items w None ≡ None) where
-  awake-off : IsAwake p → IsOff (cut-off p workers)
+module _ (b : Laws) (p : Parts) (room : length p.journal.past + 3 ≤ p.config.marks) (workers : Vec (Option Serving)) (size : length workers.items ≡ length p.workers.items) (flags : ArrayVec Bool) (none : (w : ℕ) → get_or workers.items w None ≡ None) where
+  awake-off : IsAwake p → IsOff (cut-off p workers flags)
   unfolding tabled sound-on
   awake-off k = record {
     dark = record {
-      tabled = tabled b p k.tabled k.sound (λ e. let on = k.on in absurd (cc (e, on))) room workers size;
-      sound = sound-on b p k.tabled k.sound (λ e. let on = k.on in absurd (cc (e, on))) room workers size;
+      tabled = tabled b p k.tabled k.sound (λ e. let on = k.on in absurd (cc (e, on))) room workers size flags;
+      sound = sound-on b p k.tabled k.sound (λ e. let on = k.on in absurd (cc (e, on))) room workers size flags;
       none = none;
       slots = k.free.nodes;
       values = resolve (k.story.at (length p.journal.past)).image;
@@ -80,11 +82,11 @@ module _ (b : Laws) (p : Parts) (room : length p.journal.past + 3 ≤ p.config.m
     memory = b.leave.living p.config p.access p.journal k.story k.living k.tabled.crew;
   }
 
-  started-off : IsStarted p → p.power ≡ power.Recovering → IsOff (cut-off p workers)
+  started-off : IsStarted p → p.power ≡ power.Recovering → IsOff (cut-off p workers flags)
   started-off k is = record {
     dark = record {
-      tabled = tabled b p k.dark.tabled k.dark.sound (λ e. absurd (cc (e, is))) room workers size;
-      sound = sound-on b p k.dark.tabled k.dark.sound (λ e. absurd (cc (e, is))) room workers size;
+      tabled = tabled b p k.dark.tabled k.dark.sound (λ e. absurd (cc (e, is))) room workers size flags;
+      sound = sound-on b p k.dark.tabled k.dark.sound (λ e. absurd (cc (e, is))) room workers size flags;
       none = none;
       slots = k.dark.slots;
       values = k.dark.values;
@@ -92,16 +94,16 @@ module _ (b : Laws) (p : Parts) (room : length p.journal.past + 3 ≤ p.config.m
     memory = b.leave.recovering p.config k.dark.values p.access p.journal Started p.recovery k.memory;
   }
 
-off-by : Laws → (p : Parts) → IsKept p → length p.journal.past + 3 ≤ p.config.marks → (workers : Vec (Option Serving)) → length workers.items ≡ length p.workers.items → ((w : ℕ) → get_or workers.items w None ≡ None) → p.power ≢ power.Off → IsOff (cut-off p workers)
-off-by b p k room workers size none ne = go p.power refl
+off-by : Laws → (p : Parts) → IsKept p → length p.journal.past + 3 ≤ p.config.marks → (workers : Vec (Option Serving)) → length workers.items ≡ length p.workers.items → (flags : ArrayVec Bool) → ((w : ℕ) → get_or workers.items w None ≡ None) → p.power ≢ power.Off → IsOff (cut-off p workers flags)
+off-by b p k room workers size flags none ne = go p.power refl
   where
-    go : (z : Power) → p.power ≡ z → IsOff (cut-off p workers)
+    go : (z : Power) → p.power ≡ z → IsOff (cut-off p workers flags)
     go power.Off e = absurd (ne e)
-    go power.On e = awake-off b p room workers size none (awake-in p k e)
-    go power.Recovering e = started-off b p room workers size none (started-in p k e) e
+    go power.On e = awake-off b p room workers size flags none (awake-in p k e)
+    go power.Recovering e = started-off b p room workers size flags none (started-in p k e) e
 
 pub cut-kept : Laws → (old new : Parts) → IsKept old → length old.journal.past + 3 ≤ old.config.marks → old.power ≢ power.Off → IsCut old new → IsKept new
-cut-kept b old new k room ne cut = subst IsKept (sym cut.rest) (kept-off (cut-off old new.workers) refl (off-by b old k room new.workers cut.size cut.none ne))
+cut-kept b old new k room ne cut = subst IsKept (sym cut.rest) (kept-off (cut-off old new.workers new.left_out) refl (off-by b old k room new.workers cut.size new.left_out cut.none ne))
 
 pub cut-seen : Laws → (old new : Parts) → IsKept old → length old.journal.past + 3 ≤ old.config.marks → old.power ≢ power.Off → IsCut old new → lab_of new ≡ lab.after_cut (lab_of old)
-cut-seen b old new k room ne cut = ap lab_of cut.rest ∙ lab-cut b old k.tabled k.sound ne room new.workers cut.size
+cut-seen b old new k room ne cut = ap lab_of cut.rest ∙ lab-cut b old k.tabled k.sound ne room new.workers cut.size new.left_out cut.flags

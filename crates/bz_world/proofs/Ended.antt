@@ -172,6 +172,7 @@ end-went b p w n reply at m number plain room = record {
     pages = ap (λ z. if z then count_page_ends p.journal.past + 1 else count_page_ends p.journal.past) plain ∙ omega arith;
   };
   config = refl;
+  left_out = refl;
   others = λ v ne. refl;
 }
   where
@@ -192,6 +193,7 @@ end-page-went b p w n page next at m number place room = record {
     pages = omega arith;
   };
   config = refl;
+  left_out = refl;
   others = λ v ne. refl;
 }
   where

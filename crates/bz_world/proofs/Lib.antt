@@ -31,6 +31,7 @@ mod Takings
 mod SpendingSlots
 mod MakingAnew
 mod CrowdedTrees
+mod Flags
 mod Cutting
 mod Recovering
 mod Waking

@@ -173,5 +173,5 @@ pub fresh-flushes : (access m : SwapMemory) (start : List ℕ) (c : Config) → 
 fresh-flushes access m start c same o = ap (λ (z : SwapMemory). map (λ (v : Working). v.flush_next) z.workers) (sym same) ∙ (ap (λ (z : SwapMemory). map (λ (v : Working). v.flush_next) z.workers) o.is ∙ map-replicate (λ (v : Working). v.flush_next) (c.workers + 1) idle)
 
 -- so it is seen as new
-pub new-lab : (p : Parts) (c : Config) → p.config ≡ c → p.journal ≡ (new_lab c).log → (lab_of p).flushes ≡ (new_lab c).flushes → lab_of p ≡ new_lab c
-new-lab p c config journal flushes = λ t. record { config = config t; log = journal t; flushes = flushes t }
+pub new-lab : (p : Parts) (c : Config) → p.config ≡ c → p.journal ≡ (new_lab c).log → (lab_of p).flushes ≡ (new_lab c).flushes → p.left_out.items ≡ (new_lab c).left_out → lab_of p ≡ new_lab c
+new-lab p c config journal flushes left_out = λ t. record { config = config t; log = journal t; flushes = flushes t; left_out = left_out t }

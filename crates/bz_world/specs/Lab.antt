@@ -28,15 +28,21 @@ use Rattle.bz_world.specs.declared.answers.OpenError.{OpenError}
 use Rattle.bz_world.specs.declared.answers.OpenError.TheVariants as open_error
 use Rattle.bz_world.specs.declared.answers.Which.TheVariants as which
 
--- the numbers that the world was made with, its journal, and of each worker, from worker 0 on, whether its next act is a flush
+-- the numbers that the world was made with, its journal, and of each worker, from worker 0 on, whether its next act is a flush, and
+-- whether it was one when the power was cut last; before the first cut nobody has a flag of that kind
 pub record Lab : Type 0 where
   pub config : Config
   pub log : Log
   pub flushes : List Bool
+  pub left_out : List Bool
 
 -- whether the next act of a worker is a flush
 abbrev pub flush_of : Lab → ℕ → Bool
 flush_of lab w = get_or lab.flushes w false
+
+-- whether the act of a worker that the last power cut left out was a flush
+abbrev pub flush_left_out : Lab → ℕ → Bool
+flush_left_out lab w = get_or lab.left_out w false
 
 -- a world over fresh memory, in which nothing has happened
 abbrev pub new_lab : Config → Lab
@@ -44,6 +50,7 @@ new_lab config = record {
   config = config;
   log = record { start = fresh_words config; past = []; pages = []; limits = record { marks = config.marks; calls = config.calls; pages = config.pages } };
   flushes = replicate (config.workers + 1) false;
+  left_out = [];
 }
 
 -- what the power is: on at first
@@ -172,6 +179,7 @@ pub record Steps (old : Lab) (w : ℕ) (answer : Applied) (new : Lab) : Type 0 w
   pub effect : IsStruck (mark_of w made ∷ old.log.past) struck
   pub ends : GoesOn (record old.log { past = struck }) w answer new.log
   pub config : new.config ≡ old.config
+  pub left_out : new.left_out ≡ old.left_out
   pub others : (v : ℕ) → v ≢ w → flush_of new v ≡ flush_of old v
 
 -- the recovery goes on, or has ended with this act: its Ready follows directly
@@ -186,6 +194,7 @@ pub record Recovers (old : Lab) (answer : Applied) (new : Lab) : Type 0 where
   pub flush : is_flush_act made ≡ flush_of old 0
   pub ends : EndsRecovery (with_mark old.log (mark_of 0 made)) answer new.log
   pub config : new.config ≡ old.config
+  pub left_out : new.left_out ≡ old.left_out
   pub others : (v : ℕ) → v ≢ 0 → flush_of new v ≡ flush_of old v
 
 abbrev pub StepsBy : Power → Lab → ℕ → Applied → Lab → Type 0
@@ -199,9 +208,9 @@ pub record Evicts (old : Lab) (a : ℕ) (answer : Applied) (new : Lab) : Type 0 
   pub effect : IsStruck (Evict a ∷ old.log.past) past
   pub rest : new ≡ record old { log = record old.log { past = past } }
 
--- a power cut adds its mark, and nobody has a next act
+-- a power cut adds its mark, and nobody has a next act: which of them were flushes is kept
 abbrev pub after_cut : Lab → Lab
-after_cut lab = record lab { log = with_mark lab.log Cut; flushes = replicate (lab.config.workers + 1) false }
+after_cut lab = record lab { log = with_mark lab.log Cut; flushes = replicate (lab.config.workers + 1) false; left_out = lab.flushes }
 
 -- power on adds its mark: the first act of a recovery is no flush
 abbrev pub after_on : Lab → Lab

@@ -9,6 +9,7 @@ ghost use Rattle.bz_world.specs.Inside.Opening.{fresh_slots};
 use crate::answers::OpenError;
 use crate::parts::Parts;
 use crate::serving::Serving;
+use arrayvec::ArrayVec;
 use bz_key::PageBuf;
 use bz_layout::{Config, Slots};
 use bz_mark::Journal;
@@ -42,6 +43,7 @@ fn fresh_parts(alloc: Global, config: &Config) -> Result<Parts, Memory>
     ensures journal { IfOk result (λ parts. parts.journal ≡ (new_lab config.now).log) }
     ensures slots { IfOk result (λ parts. parts.slots ≡ fresh_slots config.now) }
     ensures flushes { IfOk result (λ parts. (lab_of parts).flushes ≡ (new_lab config.now).flushes) }
+    ensures left_out { IfOk result (λ parts. parts.left_out.items ≡ (new_lab config.now).left_out) }
     ensures kept { IfOk result IsKept }
 {
     bz_layout::addresses_fit();
@@ -67,6 +69,7 @@ fn fresh_parts(alloc: Global, config: &Config) -> Result<Parts, Memory>
         owners: vec![in alloc; 0u8; config.swaps as usize]?,
         numbers: vec![in alloc; 0u32; PLACES]?,
         page: PageBuf::open(alloc)?,
+        left_out: ArrayVec::new(),
         begun: 0,
         pages_begun: 0,
     })

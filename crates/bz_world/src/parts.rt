@@ -1,5 +1,6 @@
 //! What a world is made of.
 use crate::serving::Serving;
+use arrayvec::ArrayVec;
 use bz_key::PageBuf;
 use bz_layout::{Config, Slots};
 use bz_mark::Journal;
@@ -25,6 +26,8 @@ pub(crate) struct Parts {
     pub numbers: Vec<u32>,
     /// Where the pairs of a page are put together.
     pub page: PageBuf,
+    /// Of each worker, whether its next act was a flush when the power was cut last.
+    pub left_out: ArrayVec<bool, 65>,
     /// How many calls have begun.
     pub begun: u32,
     /// How many of them ask for a page.

@@ -1,6 +1,7 @@
 //! Power cuts, and power on.
-ghost use Rattle.std.specs.Prelude.{◌≡◌, ◌≤◌, ◌<◌, ◌+◌, ℕ, IsTrue, ◌↔◌, None, get_or, length};
+ghost use Rattle.std.specs.Prelude.{◌≡◌, ◌≤◌, ◌<◌, ◌+◌, ℕ, IsTrue, ◌↔◌, None, get_or, length, map};
 ghost use Rattle.bz_sound.specs.declared.power.Power.TheVariants as power;
+ghost use Rattle.bz_swap.specs.SwapMemory.{Working};
 ghost use Rattle.bz_world.specs.Inside.Beginning.{lab_of};
 ghost use Rattle.bz_world.specs.Inside.Kept.{IsOff, IsStarted, IsKept};
 ghost use Rattle.bz_world.specs.Inside.Powering.{IsCut};
@@ -11,10 +12,12 @@ use crate::answers::Applied;
 use crate::parts::Parts;
 use crate::recovery::start_act;
 use crate::serving::Serving;
+use arrayvec::ArrayVec;
 use bz_mark::Mark;
 use bz_recover::Recover;
 use bz_sound::{Power, power_laws as sound};
 use bz_story::recovery_laws as story;
+use bz_swap::Access;
 use bz_task::Seen;
 
 // Whether the power is off.
@@ -39,12 +42,28 @@ fn drop_calls(workers: &mut Vec<Option<Serving>>)
     }
 }
 
+// Of each worker, from worker 0 on, whether its next act is a flush.
+fn flags_of(access: &Access, workers: u32) -> ArrayVec<bool, 65>
+    requires few { workers ≤ 64 }
+    requires crew { length access.now.workers ≡ workers + 1 }
+    ensures { result.items ≡ map (λ (v : Working). v.flush_next) access.now.workers }
+{
+    let mut flags = ArrayVec::new();
+    for w in 0..workers + 1 {
+        flags.push(access.flush_next(w as u8));
+    }
+    flags
+}
+
 // Leaves what is durable, and ends every call.
 fn make_cut(parts: &mut Parts)
+    requires few { parts.old.config.workers ≤ 64 }
+    requires crew { length parts.old.access.workers ≡ parts.old.config.workers + 1 }
     requires room { length parts.old.journal.past < parts.old.journal.limits.marks }
     ensures { IsCut parts.old parts.new }
 {
     drop_calls(&mut parts.workers);
+    parts.left_out = flags_of(&parts.access, parts.config.workers);
     parts.access.cut();
     parts.journal.push(Mark::Cut);
     parts.power = Power::Off;

@@ -214,4 +214,5 @@ pub record WentOn (old : Parts) (w : ℕ) (answer : Applied) (new : Parts) : Typ
   pub kept : IsAwake new
   pub ends : GoesOn old.journal w answer new.journal
   pub config : new.config ≡ old.config
+  pub left_out : new.left_out ≡ old.left_out
   pub others : (v : ℕ) → v ≢ w → worker_of new.access v ≡ worker_of old.access v

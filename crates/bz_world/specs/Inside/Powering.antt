@@ -1,5 +1,5 @@
 -- What stands between the acts of a recovery, and what a power cut leaves.
-use Rattle.std.specs.Prelude.{◌≡◌, ℕ, length, get_or, Option, Some, None}
+use Rattle.std.specs.Prelude.{◌≡◌, ℕ, length, map, get_or, Option, Some, None}
 use Rattle.bz_acts.specs.declared.acted.Act.{Act}
 use Rattle.bz_machine.specs.declared.done.Done.{Done}
 use Rattle.bz_mark.specs.Log.{with_mark}
@@ -10,16 +10,18 @@ use Rattle.bz_sound.specs.Power.Calls.{IsAfterRecovering}
 use Rattle.bz_story.specs.Recovering.{Asked}
 use Rattle.bz_swap.specs.Power.{after_cut, renewed}
 use Rattle.bz_swap.specs.Steps.{IsRawStep}
+use Rattle.bz_swap.specs.SwapMemory.{Working}
 use Rattle.bz_task.specs.declared.todo.Todo.TheVariants.{Finish}
 use Rattle.bz_world.specs.Inside.Kept.{IsAwake, IsRecovering}
 use Rattle.bz_world.specs.Lab.{mark_of}
 use Rattle.bz_world.specs.declared.parts.Parts.{Parts}
 
--- the durable words are all that is left, and no call is served
+-- the durable words are all that is left, and no call is served; which of the next acts were flushes is kept
 pub record IsCut (old new : Parts) : Type 0 where
   pub size : length new.workers.items ≡ length old.workers.items
   pub none : (w : ℕ) → get_or new.workers.items w None ≡ None
-  pub rest : new ≡ record old { access = after_cut old.access; journal = with_mark old.journal Cut; power = power.Off; workers = new.workers }
+  pub flags : new.left_out.items ≡ map (λ (v : Working). v.flush_next) old.access.workers
+  pub rest : new ≡ record old { access = after_cut old.access; journal = with_mark old.journal Cut; power = power.Off; workers = new.workers; left_out = new.left_out }
 
 -- worker 0 made an act, and its mark was added
 pub record IsRawAct (old : Parts) (made : Act) (done : Done) (told : Option ℕ) (new : Parts) : Type 0 where

@@ -1,5 +1,6 @@
-use Rattle.std.proofs.Common.{Some, refl, sym, subst, ◌∙◌, ◌-◌}
+use Rattle.std.proofs.Common.{◌≡◌, ℕ, true, Some, refl, sym, subst, ◌∙◌, ◌-◌}
 use Rattle.bz_layout.specs.Config.{IsConfig}
+use Rattle.bz_world.specs.Lab.{flush_of}
 use Rattle.bz_sched.proofs.BurnLemmas.{before_cut}
 use Rattle.bz_sched.proofs.RecoveryLemmas.{recovering_is_not_off}
 use Rattle.bz_sched.proofs.RunLemmas.{Armed}
@@ -34,7 +35,7 @@ returns-in-Stopped-Due c =
     let armed : Armed (Some (c.args.cut.flush - 1)) c.start_recovery.new.queue c.arm.new.self = record { calls = c.arm.ensures.calls; room = c.arm.ensures.room; begun = c.arm.ensures.begun; fuse = c.arm.ensures.fuse } in
     let e = rw c.in-Stopped-Due.field-0-is at c.in-Stopped-Due.ensures in
     let due = wake_due c.args.world.now c.start_recovery.new.world c.recover.new.world c.args.queue.now c.start_recovery.new.queue c.arm.new.self c.recover.new.queue _ c.requires.steady s armed e.0 c.args.cut c.requires.cut refl e.1 e.4.1 in
-    wake_cut c.args.world.now c.start_recovery.new.world c.recover.new.world c.args.queue.now c.start_recovery.new.queue c.arm.new.self c.recover.new.queue _ c.requires.steady s armed e.0 c.args.cut c.cut_off.result c.cut_off.new.world c.cut_off.new.queue due c.cut_off.ensures
+    wake_cut c.args.world.now c.start_recovery.new.world c.recover.new.world c.args.queue.now c.start_recovery.new.queue c.arm.new.self c.recover.new.queue _ c.requires.steady s armed e.0 c.args.cut c.cut_off.result c.cut_off.new.world c.cut_off.new.queue due (subst (λ (w : ℕ). flush_of c.recover.new.world w ≡ true) e.3 e.4.0) c.cut_off.ensures
 
 pub cut_off-requires-clause-config : goal.cut_off-requires-clause-config
 cut_off-requires-clause-config c =

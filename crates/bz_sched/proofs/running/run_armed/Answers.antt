@@ -21,8 +21,9 @@ returns-in-Stopped-Limit c =
 pub returns-in-Stopped-Due : goal.returns-in-Stopped-Due
 returns-in-Stopped-Due c =
     let armed : Armed (Some (c.args.cut.flush - 1)) c.args.queue.now c.arm.new.self = record { calls = c.arm.ensures.calls; room = c.arm.ensures.room; begun = c.arm.ensures.begun; fuse = c.arm.ensures.fuse } in
-    let due = armed_due c.args.cut c.args.plan.now c.args.world.now c.run_plan.new.world c.args.queue.now c.arm.new.self c.run_plan.new.queue c.requires.cut armed _ (rw c.in-Stopped-Due.field-0-is at c.in-Stopped-Due.ensures) in
-    armed_cut c.args.cut c.args.plan.now c.args.world.now c.run_plan.new.world c.args.queue.now c.arm.new.self c.run_plan.new.queue c.requires.cut armed c.cut_off.result c.cut_off.new.world c.cut_off.new.queue c.in-Stopped-Due.ensures.0 due c.cut_off.ensures
+    let e = rw c.in-Stopped-Due.field-0-is at c.in-Stopped-Due.ensures in
+    let due = armed_due c.args.cut c.args.plan.now c.args.world.now c.run_plan.new.world c.args.queue.now c.arm.new.self c.run_plan.new.queue c.requires.cut armed _ e in
+    armed_cut c.args.cut c.args.plan.now c.args.world.now c.run_plan.new.world c.args.queue.now c.arm.new.self c.run_plan.new.queue c.requires.cut armed _ c.cut_off.result c.cut_off.new.world c.cut_off.new.queue c.in-Stopped-Due.ensures.0 due e.2.0 c.cut_off.ensures
 
 pub cut_off-requires-clause-config : goal.cut_off-requires-clause-config
 cut_off-requires-clause-config c = c.in-Stopped-Due.ensures.0.ready.config
