@@ -1,5 +1,5 @@
 //! The calls that have ended since the last cut.
-ghost use Rattle.std.specs.Prelude.{◌≡◌, ◌<◌, ◌≤◌, ◌+◌, ◌++◌, length, OnOk};
+ghost use Rattle.std.specs.Prelude.{◌≡◌, ◌<◌, ◌≤◌, ◌+◌, ◌++◌, length, OnOk, Some};
 ghost use Rattle.bz_mark.specs.Moments.{mark_at};
 ghost use Rattle.bz_text.specs.Reading.{IsReadTo, ended_since};
 
@@ -21,14 +21,16 @@ pub struct EndedCall {
 pub(crate) fn read_mark(
     journal: &Journal,
     moment: u32,
+    mark: &Mark,
     begins: &mut [Option<u32>; 256],
     ended: &mut Vec<EndedCall>,
 ) -> Result<(), Memory>
     requires within { moment < length journal.now.past }
+    requires seen { mark_at moment journal.now.past ≡ Some mark.now }
     requires before { IsReadTo journal.now.past moment begins.old ended.old.items }
     ensures { OnOk result (IsReadTo journal.now.past (moment + 1) begins.new ended.new.items) }
 {
-    match journal.mark(moment) {
+    match *mark {
         Mark::Begin { w, n: _, call: _ } => {
             begins[w as usize] = Some(moment);
         }

@@ -1,5 +1,5 @@
 //! The calls that are open when the power is cut.
-ghost use Rattle.std.specs.Prelude.{◌≡◌, ◌<◌, ◌≤◌, ◌+◌, ◌++◌, length, OnOk};
+ghost use Rattle.std.specs.Prelude.{◌≡◌, ◌<◌, ◌≤◌, ◌+◌, ◌++◌, length, OnOk, Some};
 ghost use Rattle.bz_mark.specs.Moments.{at_moment, mark_at};
 ghost use Rattle.bz_sound.specs.Calls.{open_call};
 ghost use Rattle.bz_text.specs.Lines.{open_line};
@@ -12,12 +12,13 @@ use bz_memory::Memory;
 use std::alloc::Global;
 
 /// Looks at one mark: keeps whether each open call has taken effect.
-pub(crate) fn tell_effect(journal: &Journal, moment: u32, effects: &mut [bool; 256])
+pub(crate) fn tell_effect(journal: &Journal, moment: u32, mark: &Mark, effects: &mut [bool; 256])
     requires within { moment < length journal.now.past }
+    requires seen { mark_at moment journal.now.past ≡ Some mark.now }
     requires before { AreTold journal.now.past moment effects.old }
     ensures { AreTold journal.now.past (moment + 1) effects.new }
 {
-    match journal.mark(moment) {
+    match *mark {
         Mark::Begin { w, n: _, call: _ } => {
             effects[w as usize] = false;
         }

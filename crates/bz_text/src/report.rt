@@ -1,5 +1,5 @@
 //! Writing the report.
-ghost use Rattle.std.specs.Prelude.{◌≡◌, ◌≤◌, ◌<◌, ◌+◌, ◌++◌, length, OnOk, IfOk, IsErrOf};
+ghost use Rattle.std.specs.Prelude.{◌≡◌, ◌≤◌, ◌<◌, ◌+◌, ◌++◌, length, OnOk, IfOk, IsErrOf, Some};
 ghost use Rattle.std.specs.List.{flat_map};
 ghost use Rattle.std.specs.Io.KnownBytes.{Appends};
 ghost use Rattle.bz_call.specs.Map.{Map};
@@ -7,7 +7,7 @@ ghost use Rattle.bz_io.specs.Faults.{Rose};
 ghost use Rattle.bz_io.specs.Transfers.{GrewByFront};
 ghost use Rattle.bz_judge.specs.Held.{IsImage, IsImageOf};
 ghost use Rattle.bz_layout.specs.declared.config.Config.{Config};
-ghost use Rattle.bz_mark.specs.Moments.{at_moment};
+ghost use Rattle.bz_mark.specs.Moments.{at_moment, mark_at};
 ghost use Rattle.bz_sound.specs.Calls.{map_after};
 ghost use Rattle.bz_sound.specs.Memory.Moments.{map_at_start};
 ghost use Rattle.bz_text.specs.Lines.{line_of, power_line};
@@ -76,18 +76,20 @@ fn put_cut(
     out: &mut Vec<u8>,
     journal: &Journal,
     moment: u32,
+    mark: &Mark,
     on: Option<u64>,
     ended: &[EndedCall],
     begins: &[Option<u32>; 256],
     effects: &[bool; 256],
 ) -> Result<(), Memory>
     requires within { moment < length journal.now.past }
+    requires seen { mark_at moment journal.now.past ≡ Some mark.now }
     requires table { IsReadTo journal.now.past moment begins.now ended.now }
     requires told { AreTold journal.now.past moment effects.now }
     ensures { OnOk result ((c : Config) → on ≡ pairs_at_on (map_at_start c journal.now.start) (at_moment moment journal.now.past)
         → out.old.items ≡ parts_text c journal.now (at_moment moment journal.now.past) → out.new.items ≡ parts_text c journal.now (at_moment (moment + 1) journal.now.past)) }
 {
-    match journal.mark(moment) {
+    match *mark {
         Mark::Cut => {
             put_part(alloc, out, journal, on, ended)?;
             put_open_calls(alloc, out, journal, moment, begins, effects)?;
@@ -99,12 +101,19 @@ fn put_cut(
 }
 
 /// Looks at one mark: keeps how many pairs there were when the power came on, if it did since the last cut.
-fn tell_power(journal: &Journal, moment: u32, keys: &BTreeSet<Key>, on: &mut Option<u64>)
-    requires { moment < length journal.now.past }
+fn tell_power(
+    journal: &Journal,
+    moment: u32,
+    mark: &Mark,
+    keys: &BTreeSet<Key>,
+    on: &mut Option<u64>,
+)
+    requires within { moment < length journal.now.past }
+    requires seen { mark_at moment journal.now.past ≡ Some mark.now }
     ensures { (start : Map) → AreKeysOf (map_after start (at_moment moment journal.now.past)) keys.now.keys
         → on.old ≡ pairs_at_on start (at_moment moment journal.now.past) → on.new ≡ pairs_at_on start (at_moment (moment + 1) journal.now.past) }
 {
-    match journal.mark(moment) {
+    match *mark {
         Mark::On => {
             *on = Some(keys.len() as u64);
         }
@@ -127,13 +136,14 @@ fn report_text(alloc: Global, journal: &Journal) -> Result<Vec<u8>, Memory>
     let mut out: Vec<u8> = Vec::new(alloc);
     let mut keys = keys_at_start(alloc, journal.start())?;
     for moment in 0..journal.length() {
+        let mark = journal.mark(moment);
         put_cut(
-            alloc, &mut out, journal, moment, on, &ended, &begins, &effects,
+            alloc, &mut out, journal, moment, &mark, on, &ended, &begins, &effects,
         )?;
-        tell_power(journal, moment, &keys, &mut on);
-        follow_effect(journal, moment, &begins, &mut keys)?;
-        tell_effect(journal, moment, &mut effects);
-        read_mark(journal, moment, &mut begins, &mut ended)?;
+        tell_power(journal, moment, &mark, &keys, &mut on);
+        follow_effect(journal, moment, &mark, &begins, &mut keys)?;
+        tell_effect(journal, moment, &mark, &mut effects);
+        read_mark(journal, moment, &mark, &mut begins, &mut ended)?;
     }
     put_part(alloc, &mut out, journal, on, &ended)?;
     Ok(out)

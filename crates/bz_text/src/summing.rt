@@ -36,21 +36,29 @@ pub(crate) fn sum_up(alloc: Global, journal: &Journal) -> Result<Sums, Memory>
     let mut counts = count_none();
     let mut keys = keys_at_start(alloc, journal.start())?;
     for moment in 0..journal.length() {
-        follow_effect(journal, moment, &begins, &mut keys)?;
-        sum_mark(journal, moment, &mut begins, &mut counts);
+        let mark = journal.mark(moment);
+        follow_effect(journal, moment, &mark, &begins, &mut keys)?;
+        sum_mark(journal, moment, &mark, &mut begins, &mut counts);
     }
     let pairs = keys.len() as u64;
     Ok(Sums { counts, pairs })
 }
 
 /// Looks at one mark: keeps where each open call began, and counts an End by its reply.
-fn sum_mark(journal: &Journal, moment: u32, begins: &mut [Option<u32>; 256], counts: &mut Counts)
+fn sum_mark(
+    journal: &Journal,
+    moment: u32,
+    mark: &Mark,
+    begins: &mut [Option<u32>; 256],
+    counts: &mut Counts,
+)
     requires within { moment < length journal.now.past }
+    requires seen { mark_at moment journal.now.past ≡ Some mark.now }
     requires few { length journal.now.past < 2 ^ 32 }
     requires before { IsCountedTo journal.now.past moment begins.old counts.old }
     ensures { IsCountedTo journal.now.past (moment + 1) begins.new counts.new }
 {
-    match journal.mark(moment) {
+    match *mark {
         Mark::Begin { w, n: _, call: _ } => {
             begins[w as usize] = Some(moment);
         }
@@ -74,15 +82,17 @@ fn sum_mark(journal: &Journal, moment: u32, begins: &mut [Option<u32>; 256], cou
 pub(crate) fn follow_effect(
     journal: &Journal,
     moment: u32,
+    mark: &Mark,
     begins: &[Option<u32>; 256],
     keys: &mut BTreeSet<Key>,
 ) -> Result<(), Memory>
     requires within { moment < length journal.now.past }
+    requires seen { mark_at moment journal.now.past ≡ Some mark.now }
     requires table { IsReadTo journal.now.past moment begins.now (ended_calls (at_moment moment journal.now.past)) }
     ensures { OnOk result ((start : Map) → AreKeysOf (map_after start (at_moment moment journal.now.past)) keys.old.keys
         → AreKeysOf (map_after start (at_moment (moment + 1) journal.now.past)) keys.new.keys) }
 {
-    match journal.mark(moment) {
+    match *mark {
         Mark::Effect { w, n: _ } => match begins[w as usize] {
             Some(begun) => {
                 take_effect(journal, begun, keys)?;

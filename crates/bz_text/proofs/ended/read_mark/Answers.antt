@@ -9,27 +9,27 @@ add_ended-requires c =
     s.before
 
 pub returns-in-Begin : goal.returns-in-Begin
-returns-in-Begin c = read_begin c.args.journal.now.past c.args.moment c.args.begins.now c.args.ended.now.items c.in-Begin.w c.in-Begin.n c.in-Begin.call c.requires.within (search rules) c.in-Begin.ensures c.requires.before
+returns-in-Begin c = read_begin c.args.journal.now.past c.args.moment c.args.begins.now c.args.ended.now.items c.in-Begin.w c.in-Begin.n c.in-Begin.call c.requires.within (search rules) (rw c.in-Begin.is at c.requires.seen) c.requires.before
 
 pub returns-in_ok-add_ended-in-End : goal.returns-in_ok-add_ended-in-End
 returns-in_ok-add_ended-in-End c =
     let s = some_open c.args.journal.now.past c.args.moment c.args.begins.now c.args.ended.now.items c.in-End.w c.in-Some.begun (search rules) (omega (arith, c.requires.within)) c.requires.before c.in-Some.is in
     let e = since_is c.in-End.w c.in-End.at c.in-End.reply c.args.journal.now.past c.args.moment s.opened (omega (arith, c.requires.within)) s.is in
-    read_end c.args.journal.now.past c.args.moment c.args.begins.now c.args.ended.now.items _ c.in-End.w c.in-End.n c.in-End.at c.in-End.reply c.requires.within (search rules) c.in-End.ensures c.requires.before
+    read_end c.args.journal.now.past c.args.moment c.args.begins.now c.args.ended.now.items _ c.in-End.w c.in-End.n c.in-End.at c.in-End.reply c.requires.within (search rules) (rw c.in-End.is at c.requires.seen) c.requires.before
     (c.in_ok-add_ended-in-End.ensures ∙ ap (λ (more : List EndedCall). c.args.ended.now.items ++ more) (rw s.same at e))
 
 pub returns-in_default-begun : goal.returns-in_default-begun
 returns-in_default-begun c =
     let none = none_open c.args.journal.now.past c.args.moment c.args.begins.now c.args.ended.now.items c.in-End.w (search rules) c.requires.before c.in_default-begun.is in
-    read_end c.args.journal.now.past c.args.moment c.args.begins.now c.args.ended.now.items _ c.in-End.w c.in-End.n c.in-End.at c.in-End.reply c.requires.within (search rules) c.in-End.ensures c.requires.before
+    read_end c.args.journal.now.past c.args.moment c.args.begins.now c.args.ended.now.items _ c.in-End.w c.in-End.n c.in-End.at c.in-End.reply c.requires.within (search rules) (rw c.in-End.is at c.requires.seen) c.requires.before
     (rw none (sym (append-nil c.args.ended.now.items)))
 
 pub returns-in-Cut : goal.returns-in-Cut
 returns-in-Cut c =
-    read_cut c.args.journal.now.past c.args.moment c.args.begins.now _ c.args.ended.now.items c.clear.new.self.items c.requires.within (rw c.in-Cut.is at c.mark.ensures) c.requires.before
+    read_cut c.args.journal.now.past c.args.moment c.args.begins.now _ c.args.ended.now.items c.clear.new.self.items c.requires.within (rw c.in-Cut.is at c.requires.seen) c.requires.before
     (c.fill.ensures.after (λ y h. search rules) ∙ ap (λ n. replicate n None) c.told-begins) c.clear.ensures.items
 
 pub returns-in_default : goal.returns-in_default
 returns-in_default c =
-    read_other c.args.journal.now.past c.args.moment c.args.begins.now c.args.ended.now.items c.mark.result c.requires.within c.mark.ensures
-    (other_from c.mark.result c.in_default.not-Begin c.in_default.not-End c.in_default.not-Cut) c.requires.before
+    read_other c.args.journal.now.past c.args.moment c.args.begins.now c.args.ended.now.items c.args.mark.now c.requires.within c.requires.seen
+    (other_from c.args.mark.now c.in_default.not-Begin c.in_default.not-End c.in_default.not-Cut) c.requires.before

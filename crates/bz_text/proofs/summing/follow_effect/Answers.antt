@@ -17,13 +17,13 @@ returns-in_ok-take_effect-in-Some c start h =
     let w = c.in-Effect.w in
     let s = some_open past moment c.args.begins.now _ w c.in-Some.begun (search rules) (omega (arith, c.requires.within)) c.requires.table c.in-Some.is in
     let found = begin-found past moment w s.opened (omega (arith, c.requires.within)) s.is in
-    keys-follow start past moment w c.in-Effect.n s.opened c.take_effect.new.keys.keys c.requires.within c.in-Effect.ensures s.is
+    keys-follow start past moment w c.in-Effect.n s.opened c.take_effect.new.keys.keys c.requires.within (rw c.in-Effect.is at c.requires.seen) s.is
     (c.in_ok-take_effect-in-Some.ensures w s.opened.number s.opened.call (map_after start (at_moment moment past)) (rw s.same at found) h)
 
 pub returns-in-None : goal.returns-in-None
 returns-in-None c start =
-    keys-alone start c.args.journal.now.past c.args.moment c.in-Effect.w c.in-Effect.n c.args.keys.now.keys c.requires.within c.in-Effect.ensures
+    keys-alone start c.args.journal.now.past c.args.moment c.in-Effect.w c.in-Effect.n c.args.keys.now.keys c.requires.within (rw c.in-Effect.is at c.requires.seen)
     (none_open c.args.journal.now.past c.args.moment c.args.begins.now _ c.in-Effect.w (search rules) c.requires.table c.in-None.is)
 
 pub returns-in_default : goal.returns-in_default
-returns-in_default c start = keys-stay start c.args.journal.now.past c.args.moment c.mark.result c.args.keys.now.keys c.requires.within c.mark.ensures (no_effect_from c.mark.result c.in_default.not-Effect)
+returns-in_default c start = keys-stay start c.args.journal.now.past c.args.moment c.args.mark.now c.args.keys.now.keys c.requires.within c.requires.seen (no_effect_from c.args.mark.now c.in_default.not-Effect)
