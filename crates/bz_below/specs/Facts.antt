@@ -236,6 +236,15 @@ below_means upper lower left right sep (IsFull NoNodes) s = Unit {0}
 below_means upper lower left right sep (IsFull NoSwaps) s = Unit {0}
 below_means upper lower left right sep outcome s = ⊥
 
+-- a split below a parent ends so and in no other way
+abbrev pub IsEndOfSplitBelow : Outcome → Type 0
+IsEndOfSplitBelow IsDone = Unit {0}
+IsEndOfSplitBelow NoneFits = Unit {0}
+IsEndOfSplitBelow Restarts = Unit {0}
+IsEndOfSplitBelow (IsFull NoNodes) = Unit {0}
+IsEndOfSplitBelow (IsFull NoSwaps) = Unit {0}
+IsEndOfSplitBelow outcome = ⊥
+
 -- a guard is another one than the path names
 abbrev pub below_differs : Link → Link → Phase → Seen → Type 0
 below_differs upper lower Again (Was v) = v ≢ lower.status

@@ -15,7 +15,7 @@ ghost use Rattle.bz_task.specs.Requests.{Hears, Tells, IsKnown};
 ghost use Rattle.bz_task.specs.Scene.{Scene, Stage, Waiting, IsScene};
 ghost use Rattle.bz_task.specs.declared.todo.Seen.TheVariants.{Read as Was, Swapped, NoSwap as NoneLeft};
 ghost use Rattle.bz_below.specs.Duties.{below_of, asks_below, end_below, left_below, needs_below, facts_below, differs_below};
-ghost use Rattle.bz_below.specs.Facts.{below_nodes, below_acts, below_left, below_facts, below_means, HasRoom, HasParent, IsNewParent, HasBegunBelow, HasLookedBelow, HasTold, IsReadyBelow, IsThawedAbove, WasPartedBelow, LackedPart, below_needs, word_after, store_after, flush_after};
+ghost use Rattle.bz_below.specs.Facts.{IsEndOfSplitBelow, below_nodes, below_acts, below_left, below_facts, below_means, HasRoom, HasParent, IsNewParent, HasBegunBelow, HasLookedBelow, HasTold, IsReadyBelow, IsThawedAbove, WasPartedBelow, LackedPart, below_needs, word_after, store_after, flush_after};
 ghost use Rattle.bz_split.specs.Facts.{split_change};
 
 use crate::front::{level_of, low_fence};
@@ -77,6 +77,7 @@ impl SplitBelow {
         ensures no_path { (other : Path) (s : Scene) → ⟦<SplitBelow as Task>⟧.means result (Outcome.Path other) s → ⊥ }
         ensures no_view { (other : LeafView) (s : Scene) → ⟦<SplitBelow as Task>⟧.means result (Outcome.View other) s → ⊥ }
         ensures no_room { (upper lower : Link) (s : Scene) → slice_get path.links (path.depth - 2) ≡ Some upper → slice_get path.links (path.depth - 1) ≡ Some lower → ⟦<SplitBelow as Task>⟧.means result Outcome.NeedsRoom s → LackedPart upper lower view s.past }
+        ensures only { (outcome : Outcome) (s : Scene) → ⟦<SplitBelow as Task>⟧.means result outcome s → IsEndOfSplitBelow outcome }
     {
         bz_renew::laws::views_show_frozen_leaves();
         bz_layout::slots_apart();

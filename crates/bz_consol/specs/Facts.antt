@@ -143,6 +143,14 @@ consol_means link image (IsFull Nodes) s = Unit {0}
 consol_means link image (IsFull Swaps) s = Unit {0}
 consol_means link image outcome s = ⊥
 
+-- a consolidation ends so and in no other way
+abbrev pub IsEndOfConsolidation : Outcome → Type 0
+IsEndOfConsolidation IsDone = Unit {0}
+IsEndOfConsolidation Restarts = Unit {0}
+IsEndOfConsolidation (IsFull Nodes) = Unit {0}
+IsEndOfConsolidation (IsFull Swaps) = Unit {0}
+IsEndOfConsolidation outcome = ⊥
+
 -- the guard is another one than the path names
 abbrev pub consol_differs : Link → Phase → Seen → Type 0
 consol_differs link Guard (Was v) = v ≢ link.status

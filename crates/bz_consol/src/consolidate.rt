@@ -11,7 +11,7 @@ ghost use Rattle.bz_task.specs.Requests.{Hears, Tells, IsKnown};
 ghost use Rattle.bz_task.specs.Scene.{Scene, Stage, Waiting, IsScene};
 ghost use Rattle.bz_task.specs.declared.todo.Seen.TheVariants.{Read as Was, Swapped, NoSwap as NoneLeft};
 ghost use Rattle.bz_consol.specs.Duties.{renewal_of, asks_of, end_of, left_of, needs_of, facts_of, differs_of};
-ghost use Rattle.bz_consol.specs.Facts.{HasBegun, HasLooked, consol_acts, consol_asks, consol_left, consol_facts, consol_means, consol_change, IsReady, LeadsTo, WasRenewed, next_store, next_flush};
+ghost use Rattle.bz_consol.specs.Facts.{IsEndOfConsolidation, HasBegun, HasLooked, consol_acts, consol_asks, consol_left, consol_facts, consol_means, consol_change, IsReady, LeadsTo, WasRenewed, next_store, next_flush};
 
 use crate::copies::copy_of;
 use crate::laws::renewals_are_good;
@@ -56,6 +56,7 @@ impl Consolidate {
         ensures no_path { (other : Path) (s : Scene) → ⟦<Consolidate as Task>⟧.means result (Outcome.Path other) s → ⊥ }
         ensures no_view { (other : LeafView) (s : Scene) → ⟦<Consolidate as Task>⟧.means result (Outcome.View other) s → ⊥ }
         ensures no_room { (s : Scene) → ⟦<Consolidate as Task>⟧.means result Outcome.NeedsRoom s → ⊥ }
+        ensures only { (outcome : Outcome) (s : Scene) → ⟦<Consolidate as Task>⟧.means result outcome s → IsEndOfConsolidation outcome }
     {
         bz_renew::laws::views_show_frozen_leaves();
         let image = copy_of(&view, page);

@@ -63,6 +63,13 @@ freeze_means k Restarts s = Unit {0}
 freeze_means k (IsFull Swaps) s = Unit {0}
 freeze_means k outcome s = ⊥
 
+-- a freeze ends so and in no other way
+abbrev pub IsEndOfFreeze : Outcome → Type 0
+IsEndOfFreeze IsDone = Unit {0}
+IsEndOfFreeze Restarts = Unit {0}
+IsEndOfFreeze (IsFull Swaps) = Unit {0}
+IsEndOfFreeze outcome = ⊥
+
 abbrev pub freeze_facts : ℕ → ℕ → Phase → Stage → Scene → Type 0
 freeze_facts k st Fresh Waiting s = WasLeaf k st s.past
 freeze_facts k st Swap Waiting s = HasFilled s × WasLeaf k st s.past

@@ -9,7 +9,7 @@ ghost use Rattle.bz_task.specs.Requests.{Hears, Tells, IsKnown};
 ghost use Rattle.bz_task.specs.Scene.{Scene, Stage, Waiting, IsScene};
 ghost use Rattle.bz_task.specs.declared.todo.Seen.TheVariants.{Swapped, NoSwap};
 ghost use Rattle.bz_task.specs.Steps.{frozen_word};
-ghost use Rattle.bz_freeze.specs.Facts.{WasFrozen, freeze_asks, freeze_end, freeze_left, freeze_facts, freeze_means, freeze_change, entry_of};
+ghost use Rattle.bz_freeze.specs.Facts.{IsEndOfFreeze, WasFrozen, freeze_asks, freeze_end, freeze_left, freeze_facts, freeze_means, freeze_change, entry_of};
 
 use crate::laws::freezes_are_good;
 use crate::phase::Phase;
@@ -39,6 +39,7 @@ impl Freeze {
         ensures needs { ⟦<Freeze as Task>⟧.needs result ≡ 0 }
         ensures facts { (key : List ℕ) (s : Scene) → s.past.config ≡ config.now → IsScene s → IsView key view s.past → ⟦<Freeze as Task>⟧.facts result Waiting s }
         ensures frozen { (s : Scene) → ⟦<Freeze as Task>⟧.means result Outcome.Done s → WasFrozen view.slot s.past }
+        ensures only { (outcome : Outcome) (s : Scene) → ⟦<Freeze as Task>⟧.means result outcome s → IsEndOfFreeze outcome }
     {
         bz_shape::laws::leaves_tile_the_keys();
         bz_content::laws::well_formed_images_have_no_fault();

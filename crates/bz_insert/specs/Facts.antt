@@ -121,6 +121,14 @@ insert_means r Needs s = LacksRoom r.status (size_of r)
 insert_means r (IsFull Swaps) s = HasRoom r.status (size_of r)
 insert_means r outcome s = ⊥
 
+-- an insert ends so and in no other way
+abbrev pub IsEndOfInsert : Outcome → Type 0
+IsEndOfInsert IsDone = Unit {0}
+IsEndOfInsert Restarts = Unit {0}
+IsEndOfInsert Needs = Unit {0}
+IsEndOfInsert (IsFull Swaps) = Unit {0}
+IsEndOfInsert outcome = ⊥
+
 -- what is named is there
 abbrev pub IsReady : Config → NewRecord → Phase → Type 0
 IsReady c r Reserve = Fits r × (r.slot < c.nodes)

@@ -11,7 +11,7 @@ ghost use Rattle.bz_task.specs.declared.todo.Seen.TheVariants.{Swapped, NoSwap};
 ghost use Rattle.bz_record.specs.Laws.{inserts};
 ghost use Rattle.bz_record.specs.Records.{words_for, size_of, HasRoom, LacksRoom};
 ghost use Rattle.bz_insert.specs.Duties.{config_of, asks_of, end_of, left_of, change_of, publishing_of, facts_of, means_of};
-ghost use Rattle.bz_insert.specs.Facts.{insert_asks, insert_left, insert_publishes, insert_facts, insert_means, IsReady, next_store, next_flush};
+ghost use Rattle.bz_insert.specs.Facts.{IsEndOfInsert, insert_asks, insert_left, insert_publishes, insert_facts, insert_means, IsReady, next_store, next_flush};
 
 use crate::phase::Phase;
 use bz_call::Spent;
@@ -46,6 +46,7 @@ impl Insert {
         // NeedsRoom comes exactly where the viewed leaf lacks room
         ensures needs_room { (s : Scene) → ⟦<Insert as Task>⟧.means result Outcome.NeedsRoom s → LacksRoom view.status (words_for key payload) }
         ensures room { (s : Scene) (outcome : Outcome) → ⟦<Insert as Task>⟧.means result outcome s → outcome ≢ Outcome.NeedsRoom → HasRoom view.status (words_for key payload) }
+        ensures only { (outcome : Outcome) (s : Scene) → ⟦<Insert as Task>⟧.means result outcome s → IsEndOfInsert outcome }
     {
         bz_record::laws::views_show_leaves();
         bz_key::laws::packing_is_small();

@@ -149,6 +149,12 @@ leaf_means key path (View view) s = IsView key view s.past × IsPath key path s.
 leaf_means key path Restart s = Unit {0}
 leaf_means key path outcome s = ⊥
 
+-- a reading ends so and in no other way
+abbrev pub IsEndOfReading : Outcome → Type 0
+IsEndOfReading (View view) = Unit {0}
+IsEndOfReading Restart = Unit {0}
+IsEndOfReading outcome = ⊥
+
 -- a validating load found another value: another status, another link, or a guard that is frozen
 abbrev pub leaf_differs : Link → List ℕ → Phase → Seen → Type 0
 leaf_differs link ws Again (Was v) = v ≢ slice_index ws 0

@@ -6,7 +6,7 @@ ghost use Rattle.bz_task.specs.Outcomes.{IsPath, IsView};
 ghost use Rattle.bz_task.specs.Requests.{Hears, Tells, IsKnown};
 ghost use Rattle.bz_task.specs.Scene.{Scene, Stage, Waiting, IsScene, HasFilled};
 ghost use Rattle.bz_leaf.specs.Duties.{config_of, asks_of, end_of, left_of, facts_of, means_of, differs_of};
-ghost use Rattle.bz_leaf.specs.Facts.{leaf_acts, leaf_asks, leaf_left, leaf_learnt, leaf_facts, leaf_means, leaf_differs, leaf_change, leaf_places, IsAfter, IsBlank, view_of};
+ghost use Rattle.bz_leaf.specs.Facts.{IsEndOfReading, leaf_acts, leaf_asks, leaf_left, leaf_learnt, leaf_facts, leaf_means, leaf_differs, leaf_change, leaf_places, IsAfter, IsBlank, view_of};
 
 use crate::phase::Phase;
 use crate::place::{is_frozen, next_place};
@@ -43,6 +43,7 @@ impl ReadLeaf {
         ensures view { (view : LeafView) (s : Scene) → ⟦<ReadLeaf as Task>⟧.means result (Outcome.View view) s → IsView key view s.past }
         ensures leads { (view : LeafView) (s : Scene) → ⟦<ReadLeaf as Task>⟧.means result (Outcome.View view) s → IsPath key path s.past }
         ensures none { (path : Path) (s : Scene) → ⟦<ReadLeaf as Task>⟧.means result (Outcome.Path path) s → ⊥ }
+        ensures only { (outcome : Outcome) (s : Scene) → ⟦<ReadLeaf as Task>⟧.means result outcome s → IsEndOfReading outcome }
     {
         laws::fronts_stay();
         laws::headers_say_the_level();

@@ -83,6 +83,14 @@ delete_means v Needs s = (status v.status).frozen ≡ true
 delete_means v (IsFull Swaps) s = (status v.status).frozen ≡ false
 delete_means v outcome s = ⊥
 
+-- a delete ends so and in no other way
+abbrev pub IsEndOfDelete : Outcome → Type 0
+IsEndOfDelete IsDone = Unit {0}
+IsEndOfDelete Restarts = Unit {0}
+IsEndOfDelete Needs = Unit {0}
+IsEndOfDelete (IsFull Swaps) = Unit {0}
+IsEndOfDelete outcome = ⊥
+
 -- the record that is named is one of a leaf
 pub record IsRemovable (c : Config) (v : LeafView) (f : FoundRecord) : Type 0 where
   pub slot : v.slot < c.nodes

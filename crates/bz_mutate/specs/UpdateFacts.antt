@@ -143,6 +143,14 @@ update_means r Needs s = LacksRoom r.status (size_of r)
 update_means r (IsFull Swaps) s = HasRoom r.status (size_of r)
 update_means r outcome s = ⊥
 
+-- an update ends so and in no other way
+abbrev pub IsEndOfUpdate : Outcome → Type 0
+IsEndOfUpdate IsDone = Unit {0}
+IsEndOfUpdate Restarts = Unit {0}
+IsEndOfUpdate Needs = Unit {0}
+IsEndOfUpdate (IsFull Swaps) = Unit {0}
+IsEndOfUpdate outcome = ⊥
+
 -- what is named is there
 pub record IsNamed (c : Config) (v : LeafView) (r : NewRecord) (f : FoundRecord) : Type 0 where
   pub pair : IsPair v r f

@@ -12,7 +12,7 @@ ghost use Rattle.bz_task.specs.declared.todo.Seen.TheVariants.{Swapped, NoSwap};
 ghost use Rattle.bz_record.specs.declared.found_record.FoundRecord.{FoundRecord};
 ghost use Rattle.bz_mutate.specs.Viewed.{CanBeFound, HasOthers};
 ghost use Rattle.bz_mutate.specs.DeleteDuties.{config_of, asks_of, end_of, left_of, change_of, publishing_of, facts_of, means_of};
-ghost use Rattle.bz_mutate.specs.DeleteFacts.{delete_asks, delete_left, delete_facts, IsFirst, IsReady};
+ghost use Rattle.bz_mutate.specs.DeleteFacts.{IsEndOfDelete, delete_asks, delete_left, delete_facts, IsFirst, IsReady};
 
 use crate::delete_phase::DeletePhase;
 use bz_call::Spent;
@@ -47,6 +47,7 @@ impl Delete {
         // NeedsRoom comes exactly where the viewed leaf is frozen
         ensures needs_room { (s : Scene) → ⟦<Delete as Task>⟧.means result Outcome.NeedsRoom s → (status view.status).frozen ≡ true }
         ensures thawed { (s : Scene) (outcome : Outcome) → ⟦<Delete as Task>⟧.means result outcome s → outcome ≢ Outcome.NeedsRoom → (status view.status).frozen ≡ false }
+        ensures only { (outcome : Outcome) (s : Scene) → ⟦<Delete as Task>⟧.means result outcome s → IsEndOfDelete outcome }
     {
         Delete {
             config: *config,

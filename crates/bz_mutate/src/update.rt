@@ -13,7 +13,7 @@ ghost use Rattle.bz_record.specs.Records.{words_for, size_of, HasRoom, LacksRoom
 ghost use Rattle.bz_record.specs.declared.found_record.FoundRecord.{FoundRecord};
 ghost use Rattle.bz_mutate.specs.Viewed.{CanBeFound, HasOthers};
 ghost use Rattle.bz_mutate.specs.UpdateDuties.{config_of, asks_of, end_of, left_of, change_of, publishing_of, facts_of, means_of};
-ghost use Rattle.bz_mutate.specs.UpdateFacts.{update_asks, update_left, update_facts, IsFirst, IsReady, next_store, next_flush};
+ghost use Rattle.bz_mutate.specs.UpdateFacts.{IsEndOfUpdate, update_asks, update_left, update_facts, IsFirst, IsReady, next_store, next_flush};
 
 use crate::update_phase::UpdatePhase;
 use bz_call::Spent;
@@ -49,6 +49,7 @@ impl Update {
         // NeedsRoom comes exactly where the viewed leaf lacks room
         ensures needs_room { (s : Scene) → ⟦<Update as Task>⟧.means result Outcome.NeedsRoom s → LacksRoom view.status (words_for key payload) }
         ensures room { (s : Scene) (outcome : Outcome) → ⟦<Update as Task>⟧.means result outcome s → outcome ≢ Outcome.NeedsRoom → HasRoom view.status (words_for key payload) }
+        ensures only { (outcome : Outcome) (s : Scene) → ⟦<Update as Task>⟧.means result outcome s → IsEndOfUpdate outcome }
     {
         bz_key::laws::packing_is_small();
         let _key = key.bytes();

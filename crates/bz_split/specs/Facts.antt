@@ -167,6 +167,14 @@ split_means link left right sep (IsFull NoNodes) s = Unit {0}
 split_means link left right sep (IsFull NoSwaps) s = Unit {0}
 split_means link left right sep outcome s = ⊥
 
+-- the split of a root leaf ends so and in no other way
+abbrev pub IsEndOfSplit : Outcome → Type 0
+IsEndOfSplit IsDone = Unit {0}
+IsEndOfSplit Restarts = Unit {0}
+IsEndOfSplit (IsFull NoNodes) = Unit {0}
+IsEndOfSplit (IsFull NoSwaps) = Unit {0}
+IsEndOfSplit outcome = ⊥
+
 -- the guard is another one than the path names
 abbrev pub split_differs : Link → Phase → Seen → Type 0
 split_differs link Guard (Was v) = v ≢ link.status

@@ -15,7 +15,7 @@ ghost use Rattle.bz_task.specs.Requests.{Hears, Tells, IsKnown};
 ghost use Rattle.bz_task.specs.Scene.{Scene, Stage, Waiting, IsScene};
 ghost use Rattle.bz_task.specs.declared.todo.Seen.TheVariants.{Read as Was, Swapped, NoSwap as NoneLeft};
 ghost use Rattle.bz_split.specs.Duties.{split_of, asks_of, end_of, left_of, needs_of, facts_of, differs_of};
-ghost use Rattle.bz_split.specs.Facts.{HasBegun, HasLooked, nodes_in, split_acts, split_left, split_facts, split_means, split_change, IsReady, WasParted, next_store, next_flush};
+ghost use Rattle.bz_split.specs.Facts.{IsEndOfSplit, HasBegun, HasLooked, nodes_in, split_acts, split_left, split_facts, split_means, split_change, IsReady, WasParted, next_store, next_flush};
 
 use crate::laws::root_leaf_splits_are_good;
 use crate::parts::parts_of;
@@ -69,6 +69,7 @@ impl SplitRoot {
         ensures no_path { (other : Path) (s : Scene) → ⟦<SplitRoot as Task>⟧.means result (Outcome.Path other) s → ⊥ }
         ensures no_view { (other : LeafView) (s : Scene) → ⟦<SplitRoot as Task>⟧.means result (Outcome.View other) s → ⊥ }
         ensures no_room { (s : Scene) → ⟦<SplitRoot as Task>⟧.means result Outcome.NeedsRoom s → ⊥ }
+        ensures only { (outcome : Outcome) (s : Scene) → ⟦<SplitRoot as Task>⟧.means result outcome s → IsEndOfSplit outcome }
     {
         bz_renew::laws::views_show_frozen_leaves();
         let halves = parts_of(&view, page);
