@@ -1,0 +1,6 @@
+mod Cuts
+mod Parting
+mod Nodes
+mod Roots
+mod ReadNodes
+mod Rows

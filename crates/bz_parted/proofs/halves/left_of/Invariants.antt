@@ -1,0 +1,7 @@
+use Rattle.std.proofs.Common.{◌≡◌, ◌<◌, ℕ, length}
+use Rattle.bz_node.specs.Reading.{child_in}
+use Rattle.bz_halves.specs.Parents.{child_at}
+use Rattle.bz_parted.proofs.halves.left_of.Given as goal
+
+abbrev pub invariant-loop-j : goal.invariant-loop-j
+invariant-loop-j l = (length l.children ≡ 118) × ((k : ℕ) → k < l.j → child_at l.children k ≡ child_in l.old.0 k)

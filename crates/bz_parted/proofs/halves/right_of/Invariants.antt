@@ -1,0 +1,8 @@
+use Rattle.std.proofs.Common.{◌≡◌, ◌<◌, ℕ, length}
+use Rattle.bz_node.specs.Reading.{children_in}
+use Rattle.bz_halves.specs.Parents.{child_at}
+use Rattle.bz_parted.specs.Parting.{right_half}
+use Rattle.bz_parted.proofs.halves.right_of.Given as goal
+
+abbrev pub invariant-loop-j : goal.invariant-loop-j
+invariant-loop-j l = (length l.children ≡ 118) × ((k : ℕ) → k < l.j → child_at l.children k ≡ child_at (right_half (children_in l.old.0) l.cut) k)
