@@ -1,0 +1,4 @@
+pub mod InnerSplits
+pub mod Nodes
+pub mod Parts
+pub mod RootSplits
