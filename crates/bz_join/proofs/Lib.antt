@@ -1,0 +1,11 @@
+mod Fronts
+mod Sorting
+mod Lookups
+mod Joining
+mod Children
+mod Weights
+mod JoinedParents
+mod JoinedChildren
+mod OneLeaf
+mod Inserting
+mod MadeParents

@@ -1,0 +1,2 @@
+mod FrozenLeaves
+mod Merging

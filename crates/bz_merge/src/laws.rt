@@ -1,0 +1,28 @@
+//! What the swap of a merge leads to. The function does nothing: its contract is the law.
+
+ghost use Rattle.bz_merge.specs.Merges.{MergesAreGood};
+
+use bz_content::laws as content;
+use bz_renew::laws as renew;
+use bz_shape::laws as shape;
+use bz_task::laws;
+
+/// The swap by which a new parent takes its place, with one leaf in the place of two frozen neighbours, and the old parent is frozen,
+/// is lawful for everybody and changes no content.
+pub fn merges_are_good()
+    ensures { MergesAreGood }
+{
+    content::well_formed_images_have_no_fault();
+    content::plain_words_stand_for_themselves();
+    content::merges_keep_the_content();
+    shape::trees_have_forms();
+    laws::ranges_stay();
+    laws::frozen_nodes_stay();
+    laws::same_records_show_the_same();
+    laws::seen_leaves_are_whole();
+    laws::leaves_are_in_trees();
+    renew::links_turn();
+    renew::links_turn_and_nodes_freeze();
+    renew::guarded_links_stand();
+    renew::link_swaps_are_good();
+}
