@@ -1,2 +1,5 @@
 mod FrozenLeaves
+mod Standing
 mod Merging
+mod ReadingParents
+mod ReadingLeaves

@@ -42,19 +42,18 @@ use Rattle.bz_renew.proofs.TwoEntries.{both-stand}
 use Rattle.bz_renew.proofs.Words.{untouched, node-at, node-same, or-right}
 use Rattle.bz_split.specs.BelowSplits.{parent_freezing, below_swap}
 use Rattle.bz_merge.specs.Merges.{low_in, high_in, IsMerge, MergesAreGood}
+use Rattle.bz_merge.proofs.Standing.{Laws as Standing, not-equal, leads as still-leads, stands-at, flat, slot-of, same-place, same-words, low-is, high-is}
 use Rattle.bz_merge.proofs.FrozenLeaves.{Laws as LeafLaws, still-frozen, still-says}
 
 -- the laws on which the swap rests
 pub record Laws : Type 0 where
   pub formed : WellFormedImagesHaveNoFault
   pub plain : PlainWordsStandForThemselves
-  pub forms : TreesHaveForms
   pub keep : MergesKeepTheContent
   pub may : LinksMayBeTurned
   pub root : RootLinksTurnWith
   pub child : ChildLinksTurnWith
-  pub stand : GuardedLinksStand
-  pub ranges : RangesStay
+  pub below : Standing
   pub links : LinkSwapsAreGood
   pub leaf : LeafLaws
 
@@ -81,14 +80,6 @@ among-three P a b p k f g h e = go (a == k) refl e
     go : (t : Bool) → (a == k) ≡ t → (t || is_among (b ∷ p ∷ []) k) ≡ true → P k
     go true q z = let same : a ≡ k = grind (arith, nat_tests) in subst P same f
     go false q z = among-two P b p k g h z
-
-not-equal : (a b : ℕ) → a ≢ b → (a == b) ≡ false
-not-equal a b ne = grind (arith, nat_tests)
-
--- where two choices by a test agree
-choose-same : (t : Bool) (x z y w : Option (List ℕ)) → x ≡ z → y ≡ w → (if t then x else y) ≡ (if t then z else w)
-choose-same true x z y w e f = e
-choose-same false x z y w e f = f
 
 -- a key in a range that ends at a separator is before it, and one in a range that begins there is not
 ends-before : (key sep : List ℕ) (high : Option (List ℕ)) → high ≡ Some sep → is_below key high ≡ true → is_before key sep ≡ true
@@ -117,19 +108,14 @@ module _ (b : Laws) (s : Scene) (upper lower : Link) (i x z q m : ℕ) (left rig
   abbrev old : ℕ → ℕ
   old = words s.past.config (s.past.at once) p
 
+  guard-now : (here s).value lower.guard ≡ lower.status
+  guard-now = ap (here s).value (f.links.under.guard ∙ ap (λ w. node_address s.past.config w + STATUS_AT) f.links.parent) ∙ all-inserted-first (λ (e : Entry). (here s).value e.target ≡ e.expected) (freezing_entry s.past.config (parent_freezing upper lower)) (renewal upper q) stand
+
   g : IsGood s.past.config (here s)
   g = good.history.good s.past.now good.begun (omega arith)
 
-  -- the parent's status is as it was read
-  guard-is : lower.guard ≡ node_address s.past.config p + STATUS_AT
-  guard-is = f.links.under.guard ∙ ap (λ w. node_address s.past.config w + STATUS_AT) f.links.parent
-
-  guard-now : (here s).value lower.guard ≡ lower.status
-  guard-now = ap (here s).value guard-is ∙ all-inserted-first (λ (e : Entry). (here s).value e.target ≡ e.expected) (freezing_entry s.past.config (parent_freezing upper lower)) (renewal upper q) stand
-
-  -- so the link's slot is its child still
-  pub leads : StillLeads lower s once p f.links.under.child.child
-  leads = subst (λ w. StillLeads lower s once w f.links.under.child.child) f.links.parent (b.stand s lower good f.links.guard f.links.thawed f.links.under guard-now)
+  leads : StillLeads lower s once p f.links.under.child.child
+  leads = still-leads b.below s upper lower good f.links f.leaf guard-now
 
   pub going : AreGoing frozen gone s
   going = record {
@@ -137,97 +123,46 @@ module _ (b : Laws) (s : Scene) (upper lower : Link) (i x z q m : ℕ) (left rig
     go = λ k e. or-right (x == k) (is_among (z ∷ p ∷ []) k) (or-right (z == k) (is_among (p ∷ []) k) e);
   }
 
-  -- the parent stood where it stands
-  then-good : IsGood s.past.config (s.past.at once)
-  then-good = good.history.good once f.links.guard.since (omega (arith, f.links.guard.order, f.links.guard.now))
-
-  then-reached : (s.past.at once).reached p ≡ true
-  then-reached = subst (λ w. (s.past.at once).reached w ≡ true) f.links.parent f.links.under.reached
-
-  then-inner : 0 < (page_at s.past.config (s.past.at once) p).level
-  then-inner = subst (λ w. 0 < (page_at s.past.config (s.past.at once) w).level) f.links.parent f.links.under.child.inner
-
-  then-thawed : (page_at s.past.config (s.past.at once) p).frozen ≡ false
-  then-thawed =
-      let was : old STATUS_AT ≡ lower.status = node-at s.past.config (s.past.at once).value p STATUS_AT (omega arith) ∙ (ap (s.past.at once).value (sym guard-is) ∙ f.links.guard.status) in
-      ap (λ w. (status w).frozen) was ∙ f.links.thawed
-
-  then-inside : is_inside s.past.config (s.past.at once) p ≡ true
-  then-inside = elim (then-good.placed p then-reached) [ inl t ↦ t | inr o ↦ absurd (true≢false (sym o ∙ then-thawed)) ]
-
-  below : p ≢ s.past.config.nodes
-  below e = absurd (omega (arith, e, g.slots p leads.reached))
-
-  same-place : SamePlace s.past.config (s.past.at once) (here s) p
-  same-place = b.ranges s.past.config s.past.at s.past.since s.past.now once s.past.now p good.history
-      (record { since = f.links.guard.since; order = omega (arith, f.links.guard.order, f.links.guard.now); until = omega arith }) below then-inside leads.inside
-
-  -- and its words are those that were read
-  same-words : durable s.past.config (here s) p ≡ old
-  same-words = (λ t k. g.shown p k leads.reached (inr (inr (inl leads.inner))) t) ∙ (λ t k. leads.same k (inr (inr (inl then-inner))) t)
-
-  -- the level of the parent: a leaf is its child
   abbrev fm : Form
   fm = form_at s.past.config (here s)
 
   abbrev v : View
   v = view_in s.past.config (here s).image
 
-  leaf-place : SamePlace s.past.config (s.past.at f.leaf.moment) (here s) lower.slot
-  leaf-place = b.ranges s.past.config s.past.at s.past.since s.past.now f.leaf.moment s.past.now lower.slot good.history
-      (record { since = f.leaf.since; order = f.leaf.now; until = omega arith }) (λ e. absurd (omega (arith, e, f.leaf.slot))) f.leaf.inside leads.stands.inside
+  first : Stands v fm p i x
+  first = stands-at b.below s upper lower good f.links f.leaf guard-now i x (omega (arith, f.had.counted)) f.had.first
 
-  level-one : fm.level p ≡ 1
-  level-one = omega (arith, leads.stands.level, leaf-place.level, f.leaf.leaf)
+  second : Stands v fm p (i + 1) z
+  second = stands-at b.below s upper lower good f.links f.leaf guard-now (i + 1) z f.had.counted f.had.second
 
-  fits : Fits v fm
-  fits = let w : IsWellFormed s.past.config (here s).image = (b.formed s.past.config (here s).image).0 g.form in b.forms v w.tree.one w.tree.tall w.tree.none
+  first-flat : fm.level x ≡ 0
+  first-flat = flat b.below s upper lower good f.links f.leaf guard-now x i first
 
-  -- what the tree says of the parent's children is what was read
-  view-count : v.count p ≡ count_of old
-  view-count = let t : (p == s.past.config.nodes) ≡ false = not-equal p s.past.config.nodes below in rw t (ap count_of same-words)
+  second-flat : fm.level z ≡ 0
+  second-flat = flat b.below s upper lower good f.links f.leaf guard-now z (i + 1) second
 
-  view-child : (j : ℕ) → v.child p j ≡ child_of old j
-  view-child j = let t : (p == s.past.config.nodes) ≡ false = not-equal p s.past.config.nodes below in rw t (ap (λ n. child_of n j) same-words)
+  stood : SamePlace s.past.config (s.past.at once) (here s) p
+  stood = same-place b.below s upper lower good f.links f.leaf guard-now
 
-  view-key : (j : ℕ) → v.key p j ≡ key_of old j
-  view-key j = let t : (p == s.past.config.nodes) ≡ false = not-equal p s.past.config.nodes below in rw t (ap (λ n. key_of n j) same-words)
+  were : durable s.past.config (here s) p ≡ old
+  were = same-words b.below s upper lower good f.links f.leaf guard-now
 
-  stands-at : (j c : ℕ) → j < count_of old → child_of old j ≡ c → Stands v fm p j c
-  stands-at j c l e = subst (Stands v fm p j) (view-child j ∙ e) (fits.down p j leads.inside (omega (arith, level-one)) (subst (λ w. j < w) (sym view-count) l))
-
-  pub first : Stands v fm p i x
-  first = stands-at i x (omega (arith, f.had.counted)) f.had.first
-
-  pub second : Stands v fm p (i + 1) z
-  second = stands-at (i + 1) z f.had.counted f.had.second
-
-  slot-of : (k j : ℕ) → Stands v fm p j k → k < s.past.config.nodes
-  slot-of k j t = g.slots k (g.inside k t.inside (λ e. absurd (top-high e)))
-    where
-      top-high : k ≡ s.past.config.nodes → ⊥
-      top-high e = omega (arith, t.level, level-one, ap fm.level e, fits.height, fits.tall)
-
-  flat : (k j : ℕ) → Stands v fm p j k → fm.level k ≡ 0
-  flat k j t = omega (arith, t.level, level-one)
-
-  -- their bounds
   low-first : fm.low x ≡ low_in (children_of old) ((form_at s.past.config (s.past.at once)).low p) i
-  low-first = first.low ∙ choose-same (i == 0) (fm.low p) ((form_at s.past.config (s.past.at once)).low p) (Some (v.key p i)) (Some (key_of old i)) same-place.low (ap Some (view-key i))
+  low-first = low-is b.below s upper lower good f.links f.leaf guard-now x i first
 
+  -- they meet at the separator
   high-first : fm.high x ≡ Some (key_of old (i + 1))
   high-first =
-      let t : (i + 1 == v.count p) ≡ false = not-equal (i + 1) (v.count p) (λ e. absurd (omega (arith, e, view-count, f.had.counted))) in
-      first.high ∙ (ap (λ w. if w then fm.high p else Some (v.key p (i + 1))) t ∙ ap Some (view-key (i + 1)))
+      let t : (i + 1 == count_of old) ≡ false = not-equal (i + 1) (count_of old) (λ e. absurd (omega (arith, e, f.had.counted))) in
+      high-is b.below s upper lower good f.links f.leaf guard-now x i first ∙ ap (λ w. if w then (form_at s.past.config (s.past.at once)).high p else Some (key_of old (i + 1))) t
 
   low-second : fm.low z ≡ Some (key_of old (i + 1))
-  low-second = let t : (i + 1 == 0) ≡ false = not-equal (i + 1) 0 (λ e. absurd (omega (arith, e))) in second.low ∙ (ap (λ w. if w then fm.low p else Some (v.key p (i + 1))) t ∙ ap Some (view-key (i + 1)))
+  low-second =
+      let t : (i + 1 == 0) ≡ false = not-equal (i + 1) 0 (λ e. absurd (omega (arith, e))) in
+      low-is b.below s upper lower good f.links f.leaf guard-now z (i + 1) second ∙ ap (λ w. if w then (form_at s.past.config (s.past.at once)).low p else Some (key_of old (i + 1))) t
 
   high-second : fm.high z ≡ high_in (children_of old) ((form_at s.past.config (s.past.at once)).high p) (i + 1)
-  high-second =
-      second.high
-      ∙ (ap (λ w. if i + 1 + 1 == w then fm.high p else Some (v.key p (i + 1 + 1))) view-count
-      ∙ choose-same (i + 1 + 1 == count_of old) (fm.high p) ((form_at s.past.config (s.past.at once)).high p) (Some (v.key p (i + 1 + 1))) (Some (key_of old (i + 1 + 1))) same-place.high (ap Some (view-key (i + 1 + 1))))
+  high-second = high-is b.below s upper lower good f.links f.leaf guard-now z (i + 1) second
 
   -- where the upper link stands
   module _ (y : Instant) (gp gi : ℕ) (changed : List ℕ) (t : TurnsWith upper q frozen gone s y gp gi changed) (out_first : is_among changed x ≡ false) (out_second : is_among changed z ≡ false) (swaps : SwapsTo s.past.config (below_swap s.past.config upper lower q) (here s) y) where
@@ -249,11 +184,11 @@ module _ (b : Laws) (s : Scene) (upper lower : Link) (i x z q m : ℕ) (left rig
 
     narrower : Wider (children_of (durable s.past.config y q)) (children_of (durable s.past.config (here s) p)) i x z (key_of old (i + 1))
     narrower = subst (λ n. Wider (children_of n) (children_of (durable s.past.config (here s) p)) i x z (key_of old (i + 1))) (sym (after q f.ready.parent_fresh))
-        (subst (λ n. Wider (children_of (words s.past.config (here s) q)) (children_of n) i x z (key_of old (i + 1))) (sym same-words) f.ready.narrower)
+        (subst (λ n. Wider (children_of (words s.past.config (here s) q)) (children_of n) i x z (key_of old (i + 1))) (sym were) f.ready.narrower)
 
     parent-whole : StandsWhole s.past.config (image_of y.image) q (fm.level p) (fm.low p) (fm.high p)
     parent-whole =
-        (λ w. node_fault s.past.config.nodes (raw-stays b.plain (below_swap s.past.config upper lower q) s y q good f.ready.parent_fresh (unnamed q f.ready.parent_fresh) swaps w) (after q f.ready.parent_fresh w) (same-place.level w) (same-place.low w) (same-place.high w))
+        (λ w. node_fault s.past.config.nodes (raw-stays b.plain (below_swap s.past.config upper lower q) s y q good f.ready.parent_fresh (unnamed q f.ready.parent_fresh) swaps w) (after q f.ready.parent_fresh w) (stood.level w) (stood.low w) (stood.high w))
         ∙ f.ready.parent_whole
 
     leaf-whole : StandsWhole s.past.config (image_of y.image) m 0 (fm.low x) (fm.high z)
@@ -263,10 +198,10 @@ module _ (b : Laws) (s : Scene) (upper lower : Link) (i x z q m : ℕ) (left rig
     merges = record {
       inside = first.inside;
       inside_b = second.inside;
-      leaf = flat x i first;
+      leaf = first-flat;
       same_up = second.up ∙ sym first.up;
       next = omega (arith, second.index, first.index);
-      deep = λ e. absurd (below (sym first.up ∙ e));
+      deep = λ e. absurd (omega (arith, first.up, e, g.slots p leads.reached));
       fresh_q = outside-tree s q good f.ready.parent_fresh;
       fresh_m = outside-tree s m good f.ready.leaf_fresh;
       two = f.ready.two;
@@ -274,8 +209,8 @@ module _ (b : Laws) (s : Scene) (upper lower : Link) (i x z q m : ℕ) (left rig
       child = subst (λ w. child_of (durable s.past.config y q) w ≡ m) (sym first.index) (ap (λ n. child_of n i) (after q f.ready.parent_fresh) ∙ f.ready.child);
       narrower = subst (λ w. Wider (children_of (durable s.past.config y q)) (children_of (durable s.past.config (here s) w)) (fm.index x) x z (key_of old (i + 1))) (sym first.up)
           (subst (λ w. Wider (children_of (durable s.past.config y q)) (children_of (durable s.past.config (here s) p)) w x z (key_of old (i + 1))) (sym first.index) narrower);
-      says_a = λ key h. ap (λ n. found_of n key) (after m f.ready.leaf_fresh) ∙ (f.ready.before key (ends-before key (key_of old (i + 1)) (fm.high x) high-first h.high) ∙ sym (still-says b.leaf s x left good f.first (slot-of x i first) first.inside (flat x i first) key));
-      says_b = λ key h. ap (λ n. found_of n key) (after m f.ready.leaf_fresh) ∙ (f.ready.from key (begins-from key (key_of old (i + 1)) (fm.low z) low-second h.low) ∙ sym (still-says b.leaf s z right good f.second (slot-of z (i + 1) second) second.inside (flat z (i + 1) second) key));
+      says_a = λ key h. ap (λ n. found_of n key) (after m f.ready.leaf_fresh) ∙ (f.ready.before key (ends-before key (key_of old (i + 1)) (fm.high x) high-first h.high) ∙ sym (still-says b.leaf s x left good f.first (slot-of b.below s upper lower good f.links f.leaf guard-now x i first) first.inside first-flat key));
+      says_b = λ key h. ap (λ n. found_of n key) (after m f.ready.leaf_fresh) ∙ (f.ready.from key (begins-from key (key_of old (i + 1)) (fm.low z) low-second h.low) ∙ sym (still-says b.leaf s z right good f.second (slot-of b.below s upper lower good f.links f.leaf guard-now z (i + 1) second) second.inside second-flat key));
       whole_q = subst (λ w. StandsWhole s.past.config (image_of y.image) q (fm.level w) (fm.low w) (fm.high w)) (sym first.up) parent-whole;
       whole_m = leaf-whole;
     }
@@ -318,7 +253,7 @@ module _ (b : Laws) (s : Scene) (upper lower : Link) (i x z q m : ℕ) (left rig
     upper-now = (both-stand (link_entry upper q) (guard_entry upper) (here s) (renewal-holds s.past.config upper q (λ (e : Entry). (here s).value e.target ≡ e.expected) frozen stand)).1
 
     above : StillLeads upper s f.links.upper_guard.guarded under.parent under.child.child
-    above = b.stand s upper good f.links.upper_guard f.links.upper_thawed under upper-now
+    above = b.below.stand s upper good f.links.upper_guard f.links.upper_thawed under upper-now
 
     pub not-parent : p ≢ under.parent
     not-parent e = absurd (omega (arith, ap fm.level e, above.stands.level))
