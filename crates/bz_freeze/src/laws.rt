@@ -4,8 +4,8 @@ ghost use Rattle.bz_freeze.specs.Laws.{FreezesAreGood};
 
 use bz_task::laws;
 
-// Where the status is the one that was read, the swap is lawful for everybody and changes no content.
-pub(crate) fn freezes_are_good()
+/// Where the status is the one that was read, the swap is lawful for everybody and changes no content.
+pub fn freezes_are_good()
     ensures { FreezesAreGood }
 {
     laws::thawed_leaves_stay();

@@ -2,7 +2,7 @@
 #![tactic(auto)]
 
 mod freeze;
-mod laws;
+pub mod laws;
 mod phase;
 
 pub use freeze::Freeze;
