@@ -56,7 +56,7 @@ module _ (origin : Origin) (w : ℕ) (call : Call) (first : List IndexEntry) whe
     same : log_of origin (entries_in lab.log) ≡ lab.log
     same = log-told origin (entries_in lab.log) lab is
 
-    power_is : (p : Power) → power_of power.On lab.log.past ≡ p → power_of origin.at_start (marks_in (entries_in lab.log)) ≡ p
+    power_is : (p : Power) → power_of lab.at_start lab.log.past ≡ p → power_of origin.at_start (marks_in (entries_in lab.log)) ≡ p
     power_is p tells =
         ap (λ (log : Log). power_of origin.at_start log.past) same ∙ (ap (λ (o : Origin). power_of o.at_start lab.log.past) (sym is.stays) ∙ tells)
 

@@ -25,6 +25,7 @@ use Rattle.bz_sound.specs.Calls.{Open, open_call}
 use Rattle.bz_sound.specs.Memory.Moments.{map_at_start}
 use Rattle.bz_sound.specs.Power.Laws.{PowerTellsWhatFollows}
 use Rattle.bz_sound.specs.Power.Sound.{IsSound}
+use Rattle.bz_sound.specs.declared.power.Power.{Power}
 use Rattle.bz_sound.specs.declared.power.Power.TheVariants as power
 use Rattle.bz_world.specs.Lab as world
 use Rattle.bz_world.specs.Lab.{Lab, is_short, power_in, IsEnding, IsApplied}
@@ -46,10 +47,10 @@ module _ (origin : Origin) (w : ℕ) (call : Call) (first : List IndexEntry) whe
       let past : new.past ≡ End w n ends.reply ends.at ∷ log.past = ap (λ (l : Log). l.past) ends.is in
       inl (ap (open_call w) (marks-told new.past _ ∙ past) ∙ own_end (w == w) w (open_call w log.past) refl)
 
-  going : (config : Config) (log : Log) (answer : Applied) (new : Log) → world.GoesOn log w answer new → IsSound config power.On new → IsRunning w call first (entries_in log) → Tells new answer
-  going config log applied.Stepped new goes sound run = subst (λ (l : Log). IsRunning w call first (entries_in l)) (sym goes) run
-  going config log (applied.Ended n) new goes sound run = (ended_rests log n new goes, replied w call first log run config n new goes sound)
-  going config log other new goes sound run = absurd goes
+  going : (config : Config) (at_start : Power) (log : Log) (answer : Applied) (new : Log) → world.GoesOn log w answer new → IsSound config at_start new → IsRunning w call first (entries_in log) → Tells new answer
+  going config at_start log applied.Stepped new goes sound run = subst (λ (l : Log). IsRunning w call first (entries_in l)) (sym goes) run
+  going config at_start log (applied.Ended n) new goes sound run = (ended_rests log n new goes, replied w call first log run config at_start n new goes sound)
+  going config at_start log other new goes sound run = absurd goes
 
   module _ (law : PowerTellsWhatFollows) (old : Lab) (is : IsWorldOf origin (entries_in old.log) old) (run : IsRunning w call first (entries_in old.log)) where
     -- the call is open no more only if the power was cut
@@ -60,7 +61,7 @@ module _ (origin : Origin) (w : ℕ) (call : Call) (first : List IndexEntry) whe
         run.state
 
     powered : (opened : Open) → open_call w old.log.past ≡ Some opened → power_in old ≡ power.On
-    powered opened is_open = (law power.On (map_at_start old.config old.log.start) old.log.past is.sound.once).stays_open w opened is_open
+    powered opened is_open = (law old.at_start (map_at_start old.config old.log.start) old.log.past is.sound.once).stays_open w opened is_open
 
     stopped : (answer : Applied) → RefusalTells old w answer → Tells old.log answer
     stopped applied.Limit tells =
@@ -71,10 +72,10 @@ module _ (origin : Origin) (w : ℕ) (call : Call) (first : List IndexEntry) whe
     stopped applied.Idle tells = cut_since (λ opened is_open. absurd cc)
     stopped other tells = absurd tells
 
-    pub stepped : (answer : Applied) (new : Lab) → 0 < w → w ≤ old.config.workers → w < PASSES → IsSound new.config power.On new.log → IsApplied old (event.Step w) answer new → Tells new.log answer
+    pub stepped : (answer : Applied) (new : Lab) → 0 < w → w ≤ old.config.workers → w < PASSES → IsSound new.config new.at_start new.log → IsApplied old (event.Step w) answer new → Tells new.log answer
     stepped answer new some within below sound h = ⊎_elim
         (λ made. let s = made.steps in
-        going new.config (record old.log { past = s.struck }) answer new.log s.ends sound
+        going new.config new.at_start (record old.log { past = s.struck }) answer new.log s.ends sound
         (run_acted w call first w old.log (record old.log { past = s.struck }) below (leaves-acted w s.made old.log s.struck s.effect) run))
         (λ stays. subst (λ (lab : Lab). Tells lab.log answer) (sym stays.0) (stopped answer stays.1))
         (read_step old w answer new some within h)

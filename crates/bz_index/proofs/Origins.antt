@@ -23,11 +23,11 @@ record Same (old new : Log) : Type 0 where
   pub start : new.start ≡ old.start
   pub limits : new.limits ≡ old.limits
 
-origin_by : (old new : Lab) → new.config ≡ old.config → Same old.log new.log → origin_of new ≡ origin_of old
-origin_by old new config same = λ i. record {
+origin_by : (old new : Lab) → new.config ≡ old.config → new.at_start ≡ old.at_start → Same old.log new.log → origin_of new ≡ origin_of old
+origin_by old new config at_start same = λ i. record {
   config = config i;
   start = same.start i;
-  at_start = power.On;
+  at_start = at_start i;
   marks = ap (λ (l : Limits). l.marks) same.limits i;
   calls = ap (λ (l : Limits). l.calls) same.limits i;
   pages = ap (λ (l : Limits). l.pages) same.limits i;
@@ -48,11 +48,11 @@ recovering_same old other new goes = absurd goes
 
 module _ (old : Lab) (answer : Applied) (new : Lab) where
   steps_origin : (w : ℕ) → Steps old w answer new → origin_of new ≡ origin_of old
-  steps_origin w s = let same = going_same _ w answer new.log s.ends in origin_by old new s.config (record { start = same.start; limits = same.limits })
+  steps_origin w s = let same = going_same _ w answer new.log s.ends in origin_by old new s.config s.at_start (record { start = same.start; limits = same.limits })
 
   by_power : (p : Power) (w : ℕ) → StepsBy p old w answer new → origin_of new ≡ origin_of old
   by_power power.Off w s = steps_origin w s
-  by_power power.Recovering w s = let same = recovering_same _ answer new.log s.ends in origin_by old new s.config (record { start = same.start; limits = same.limits })
+  by_power power.Recovering w s = let same = recovering_same _ answer new.log s.ends in origin_by old new s.config s.at_start (record { start = same.start; limits = same.limits })
   by_power power.On w s = steps_origin w s
 
   either : {A : Type 0} (o : Option Applied) → (A → origin_of new ≡ origin_of old) → MatchOption o A (λ refusal. (answer ≡ refusal) × (new ≡ old)) → origin_of new ≡ origin_of old

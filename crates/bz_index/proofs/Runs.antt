@@ -23,7 +23,7 @@ use Rattle.bz_mark.specs.declared.marks.Mark.TheVariants.{End}
 use Rattle.bz_sound.specs.Calls.{Open, open_call, MayEnd}
 use Rattle.bz_sound.specs.Power.Replies.{IsRightReply}
 use Rattle.bz_sound.specs.Power.Sound.{IsSound}
-use Rattle.bz_sound.specs.declared.power.Power.TheVariants as power
+use Rattle.bz_sound.specs.declared.power.Power.{Power}
 use Rattle.bz_world.specs.Lab.{IsEnding}
 
 module _ (w : ℕ) (call : Call) (first : List IndexEntry) where
@@ -83,12 +83,12 @@ module _ (w : ℕ) (call : Call) (first : List IndexEntry) (log : Log) (run : Is
       (λ cut. let none : open_call w log.past ≡ None = ap (open_call w) (sym (marks-told log.past _)) ∙ cut.1 in let some = may.is_open in absurd cc)
       run.state
 
-  module _ (config : Config) (n : ℕ) (new : Log) (ends : IsEnding log w n new) (sound : IsSound config power.On new) where
+  module _ (config : Config) (at_start : Power) (n : ℕ) (new : Log) (ends : IsEnding log w n new) (sound : IsSound config at_start new) where
     abbrev ended : Log
     ended = record log { past = End w n ends.reply ends.at ∷ log.past; pages = log.pages ++ ends.added }
 
-    sound_end : IsSound config power.On ended
-    sound_end = subst (IsSound config power.On) ends.is sound
+    sound_end : IsSound config at_start ended
+    sound_end = subst (IsSound config at_start) ends.is sound
 
     may_end : MayEnd log.past w n
     may_end = sound_end.once.0

@@ -8,7 +8,6 @@ use Rattle.bz_mark.specs.Log.{Log}
 use Rattle.bz_mark.specs.declared.marks.Mark.{Mark}
 use Rattle.bz_mark.specs.declared.marks.Mark.TheVariants.{Begin, End, Evict, Cut, On, Ready}
 use Rattle.bz_sound.specs.Replies.{Pages}
-use Rattle.bz_sound.specs.declared.power.Power.TheVariants as power
 use Rattle.bz_world.specs.Lab.{Lab}
 
 -- the mark is an End that names a page
@@ -39,12 +38,12 @@ told (mark ∷ past) pages =
 abbrev pub entries_in : Log → List IndexEntry
 entries_in log = told log.past (reverse log.pages)
 
--- what stays of a world: the power is on at its start
+-- what stays of a world
 abbrev pub origin_of : Lab → Origin
 origin_of lab = record {
   config = lab.config;
   start = lab.log.start;
-  at_start = power.On;
+  at_start = lab.at_start;
   marks = lab.log.limits.marks;
   calls = lab.log.limits.calls;
   pages = lab.log.limits.pages;

@@ -6,7 +6,6 @@ use Rattle.bz_index.specs.Entries.{entries_in, origin_of, log_of}
 use Rattle.bz_index.specs.declared.shared.Origin.{Origin}
 use Rattle.bz_index.specs.declared.shared.IndexEntry.{IndexEntry}
 use Rattle.bz_sound.specs.Power.Sound.{IsSound}
-use Rattle.bz_sound.specs.declared.power.Power.TheVariants as power
 use Rattle.bz_world.specs.Lab.{Lab, begin_answer, after_begin, IsApplied}
 use Rattle.bz_world.specs.declared.answers.Applied.{Applied}
 use Rattle.bz_world.specs.declared.answers.Begun.{Begun}
@@ -20,7 +19,7 @@ IsSoundList origin seen = IsSound origin.config origin.at_start (log_of origin s
 pub record IsWorldOf (origin : Origin) (entries : List IndexEntry) (lab : Lab) : Type 0 where
   pub stays : origin_of lab ≡ origin
   pub told : entries_in lab.log ≡ entries
-  pub sound : IsSound lab.config power.On lab.log
+  pub sound : IsSound lab.config lab.at_start lab.log
 
 -- a turn that begins a call of a worker
 pub record HasBegun (origin : Origin) (found : List IndexEntry) (worker : ℕ) (call : Call) (answer : Begun) (left : List IndexEntry) : Type 0 where

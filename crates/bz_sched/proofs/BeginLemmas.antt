@@ -162,7 +162,7 @@ begun_point lab queued w n call left h answer calls =
 pub begins : (lab : Lab) (queued : Queued) (w : ℕ) (call : Call) (n : ℕ) (new : Lab) (left : Queued) → Waits lab queued w call → Begins lab queued w call n new left
     → Keeps lab queued new left × GetsReady w (point_of lab queued) (point_of new left)
 begins lab queued w call n new left h b = rw b.after (
-  record { ready = begun_ready lab queued w n call left h b.calls b.begun; config = refl; start = refl; limits = refl; room = b.room; fuse = burns_same lab.log.past (mark.Begin w n call ∷ lab.log.past) queued.fuse left.fuse b.fuse refl },
+  record { ready = begun_ready lab queued w n call left h b.calls b.begun; config = refl; at_start = refl; start = refl; limits = refl; room = b.room; fuse = burns_same lab.log.past (mark.Begin w n call ∷ lab.log.past) queued.fuse left.fuse b.fuse refl },
   begun_point lab queued w n call left h b.answer b.calls,
 )
 

@@ -64,7 +64,7 @@ pub cut_is_made : (seed : ℕ) (old mid new : Lab) (queued left : Queued) → Is
     → left.calls ≡ [] → queued.room ≤ left.room → ((w : ℕ) → has_open left w ≡ false) → IsCutOff seed old queued end.Cut new left
 cut_is_made seed old mid new queued left config h cut empty room closed = rw cut.is (
   record {
-    stays = record { config = h.evolves.stays.config; start = h.evolves.stays.start; limits = h.evolves.stays.limits };
+    stays = record { config = h.evolves.stays.config; at_start = h.evolves.stays.at_start; start = h.evolves.stays.start; limits = h.evolves.stays.limits };
     steady = closed_steady mid left (subst IsConfig (sym h.evolves.stays.config) config) empty closed;
     room = room;
   },

@@ -56,8 +56,9 @@ eviction_made old queued a new ready e =
     let struck = struck_is (mark.Evict a) old.log.past e.past e.effect in
     rw e.rest (
       record {
-        ready = record { config = ready.config; calls = ready.calls; begun = λ v. ready.begun v ∙ sym (struck.opens v); openers = ready.openers; powered = struck_power power.On (mark.Evict a) old.log.past e.past e.effect ∙ ready.powered };
+        ready = record { config = ready.config; calls = ready.calls; begun = λ v. ready.begun v ∙ sym (struck.opens v); openers = ready.openers; powered = struck_power old.at_start (mark.Evict a) old.log.past e.past e.effect ∙ ready.powered };
         config = refl;
+        at_start = refl;
         start = refl;
         limits = refl;
         room = refl;

@@ -14,11 +14,11 @@ use Rattle.bz_sched.proofs.PowerLemmas.{struck_power}
 use Rattle.bz_sched.proofs.StepLemmas.{struck_is}
 
 pub evolves_none : (world : Lab) → Evolves world world
-evolves_none world = record { stays = record { config = refl; start = refl; limits = refl }; power = refl; flushes = refl }
+evolves_none world = record { stays = record { config = refl; at_start = refl; start = refl; limits = refl }; power = refl; flushes = refl }
 
 pub evolves_both : (a b c : Lab) → Evolves a b → Evolves b c → Evolves a c
 evolves_both a b c h k = record {
-  stays = record { config = k.stays.config ∙ h.stays.config; start = k.stays.start ∙ h.stays.start; limits = k.stays.limits ∙ h.stays.limits };
+  stays = record { config = k.stays.config ∙ h.stays.config; at_start = k.stays.at_start ∙ h.stays.at_start; start = k.stays.start ∙ h.stays.start; limits = k.stays.limits ∙ h.stays.limits };
   power = k.power ∙ h.power;
   flushes = k.flushes ∙ h.flushes;
 }
@@ -27,7 +27,7 @@ evolves_both a b c h k = record {
 evicted_evolves : (old : Lab) (a : ℕ) (new : Lab) → WordEvicted old a new → Evolves old new
 evicted_evolves old a new h =
     let e = h.evicts in
-    rw e.rest (record { stays = record { config = refl; start = refl; limits = refl }; power = struck_power power.On (mark.Evict a) old.log.past e.past e.effect; flushes = refl })
+    rw e.rest (record { stays = record { config = refl; at_start = refl; start = refl; limits = refl }; power = struck_power old.at_start (mark.Evict a) old.log.past e.past e.effect; flushes = refl })
 
 evicted_is : (old : Lab) (a : ℕ) (new : Lab) → WordEvicted old a new → Evicts a old.log.past new.log.past
 evicted_is old a new h =

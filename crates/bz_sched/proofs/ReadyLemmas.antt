@@ -13,12 +13,13 @@ use Rattle.bz_sched.specs.Runs.{point_of, CanBegin, IsReady, marks_left, Keeps}
 use Rattle.bz_sched.proofs.BurnLemmas.{burns_none, burns_both}
 
 pub keeps_none : (world : Lab) (queued : Queued) → IsReady world queued → Keeps world queued world queued
-keeps_none world queued ready = record { ready = ready; config = refl; start = refl; limits = refl; room = refl; fuse = burns_none world.log.past world.log.past queued.fuse refl }
+keeps_none world queued ready = record { ready = ready; config = refl; at_start = refl; start = refl; limits = refl; room = refl; fuse = burns_none world.log.past world.log.past queued.fuse refl }
 
 pub keeps_both : (a b c : Lab) (p q r : Queued) → Keeps a p b q → Keeps b q c r → Keeps a p c r
 keeps_both a b c p q r h k = record {
   ready = k.ready;
   config = k.config ∙ h.config;
+  at_start = k.at_start ∙ h.at_start;
   start = k.start ∙ h.start;
   limits = k.limits ∙ h.limits;
   room = k.room ∙ h.room;

@@ -40,7 +40,7 @@ recovering_is_not_off world on off = let opposed : power.Recovering ≡ power.Of
 -- the power is off already
 pub off_already : (old : Lab) (queued : Queued) → IsSteady old queued → power_in old ≡ power.Off → IsOff old queued old queued
 off_already old queued steady off = record {
-  stays = record { config = refl; start = refl; limits = refl };
+  stays = record { config = refl; at_start = refl; start = refl; limits = refl };
   off = off;
   past = ap (λ (p : Power). off_by p old.log.past) (sym off);
   calls = refl;
@@ -51,7 +51,7 @@ off_already old queued steady off = record {
 -- it was cut
 pub off_now : (old new : Lab) (queued left : Queued) → IsSteady old queued → power_in old ≡ power.On → WasCut old new → left.calls ≡ queued.calls → left.room ≡ queued.room → ((w : ℕ) → has_open left w ≡ false) → IsOff old queued new left
 off_now old new queued left steady on cut calls room closed = rw cut.is (record {
-  stays = record { config = refl; start = refl; limits = refl };
+  stays = record { config = refl; at_start = refl; start = refl; limits = refl };
   off = refl;
   past = ap (λ (p : Power). off_by p old.log.past) (sym on);
   calls = calls;
@@ -75,7 +75,7 @@ on_refusal_is world off = rw off refl
 on_cases : (short : Bool) (old : Lab) (answer : Applied) (new : Lab) → is_short old.log ≡ short
     → MatchOption (by_on short) ((answer ≡ applied.On) × (new ≡ after_on old)) (λ refusal. (answer ≡ refusal) × (new ≡ old)) → ((answer ≡ applied.Limit) × HasNoPlace old new) ⊎ ((answer ≡ applied.On) × IsOn old new)
 on_cases true old answer new is (e, same) = inl (e, record { short = is; same = same })
-on_cases false old answer new is (e, same) = inr (e, rw same (record { stays = record { config = refl; start = refl; limits = refl }; past = refl }))
+on_cases false old answer new is (e, same) = inr (e, rw same (record { stays = record { config = refl; at_start = refl; start = refl; limits = refl }; past = refl }))
 
 pub on_made : (old : Lab) (answer : Applied) (new : Lab) → power_in old ≡ power.Off → IsApplied old event.On answer new → ((answer ≡ applied.Limit) × HasNoPlace old new) ⊎ ((answer ≡ applied.On) × IsOn old new)
 on_made old answer new off h = on_cases (is_short old.log) old answer new refl (rw (on_refusal_is old off) at h)
@@ -83,7 +83,7 @@ on_made old answer new off h = on_cases (is_short old.log) old answer new refl (
 -- the recovery may begin, or a place was wanting
 pub started : (old mid new : Lab) (queued left : Queued) → IsOff old queued mid left → IsOn mid new → IsStarted old queued new left
 started old mid new queued left off on = record {
-  stays = record { config = on.stays.config ∙ off.stays.config; start = on.stays.start ∙ off.stays.start; limits = on.stays.limits ∙ off.stays.limits };
+  stays = record { config = on.stays.config ∙ off.stays.config; at_start = on.stays.at_start ∙ off.stays.at_start; start = on.stays.start ∙ off.stays.start; limits = on.stays.limits ∙ off.stays.limits };
   past = on.past ∙ ap (λ (past : List Mark). mark.On ∷ past) off.past;
   calls = off.calls;
   room = off.room;
@@ -93,7 +93,7 @@ started old mid new queued left off on = record {
 
 pub refused_start : (old new : Lab) (queued left : Queued) → IsRefused old queued new left → StartStopped old queued new left
 refused_start old new queued left r = rw (r.none.same, r.queue) (record {
-  stays = record { config = refl; start = refl; limits = refl };
+  stays = record { config = refl; at_start = refl; start = refl; limits = refl };
   past = inl refl;
   calls = refl;
   met = limit_met old r.none.short;
@@ -138,16 +138,16 @@ EitherWay other = ⊥
 
 pub recovered_once : (old new : Lab) (queued left : Queued) (answer : Applied) → power_in old ≡ power.Recovering → EitherWay answer → lab.Recovers old answer new → Burnt (flush_of old 0) queued left → RecoversOnce old queued new left
 recovered_once old new queued left applied.Stepped recovering way r b = record {
-  stays = record { config = r.config; start = ap (λ (log : Log). log.start) r.ends; limits = ap (λ (log : Log). log.limits) r.ends };
+  stays = record { config = r.config; at_start = r.at_start; start = ap (λ (log : Log). log.start) r.ends; limits = ap (λ (log : Log). log.limits) r.ends };
   queue = record { calls = b.calls; room = b.room; begun = b.begun };
   fuse = burns_act old.log.past new.log.past queued.fuse left.fuse (flush_of old 0) b.may (ap (λ (log : Log). flushes_of log.past) r.ends ∙ act_flushes r.made 0 old.log.past ∙ ap (λ (flush : Bool). one_flush flush (flushes_of old.log.past)) r.flush) b.fuse;
   goes = inl (
     record { act = mark_of 0 r.made; own = act_own r.made; is = ap (λ (log : Log). log.past) r.ends },
-    ap (λ (log : Log). power_of power.On log.past) r.ends ∙ act_power power.On r.made 0 old.log.past ∙ recovering,
+    ap (λ (p : Power). power_of p new.log.past) r.at_start ∙ (ap (λ (log : Log). power_of old.at_start log.past) r.ends ∙ act_power old.at_start r.made 0 old.log.past ∙ recovering),
   );
 }
 recovered_once old new queued left applied.Ready recovering way r b = record {
-  stays = record { config = r.config; start = ap (λ (log : Log). log.start) r.ends; limits = ap (λ (log : Log). log.limits) r.ends };
+  stays = record { config = r.config; at_start = r.at_start; start = ap (λ (log : Log). log.start) r.ends; limits = ap (λ (log : Log). log.limits) r.ends };
   queue = record { calls = b.calls; room = b.room; begun = b.begun };
   fuse = burns_act old.log.past new.log.past queued.fuse left.fuse (flush_of old 0) b.may (ap (λ (log : Log). flushes_of log.past) r.ends ∙ act_flushes r.made 0 old.log.past ∙ ap (λ (flush : Bool). one_flush flush (flushes_of old.log.past)) r.flush) b.fuse;
   goes = inr (mark_of 0 r.made ∷ old.log.past, record { act = mark_of 0 r.made; own = act_own r.made; is = refl }, ap (λ (log : Log). log.past) r.ends);
@@ -187,7 +187,7 @@ pub record Waking (old : Lab) (queued : Queued) (world : Lab) (left : Queued) : 
 pub waking_none : (old : Lab) (queued : Queued) → power_in old ≡ power.Recovering → Waking old queued old queued
 waking_none old queued recovering = record {
   on = record {
-    stays = record { config = refl; start = refl; limits = refl };
+    stays = record { config = refl; at_start = refl; start = refl; limits = refl };
     queue = record { calls = refl; room = refl; begun = refl };
     fuse = burns_none old.log.past old.log.past queued.fuse refl;
     opens = λ w. refl;
@@ -214,12 +214,12 @@ once_way old world new queued left count times r = by_way r.goes
   where
     by_way : (Recovers world.log.past new.log.past × (power_in new ≡ power.Recovering)) ⊎ ((last : List Mark) × Recovers world.log.past last × (new.log.past ≡ mark.Ready ∷ last)) → IsOnTheWay old new
     by_way (inl (act, still)) = inl ((suc count, more_times count old.log.past world.log.past new.log.past times act), still)
-    by_way (inr (last, act, is)) = inr ((count, world.log.past, last, times, act, is), ap (power_of power.On) is)
+    by_way (inr (last, act, is)) = inr ((count, world.log.past, last, times, act, is), ap (power_of new.at_start) is)
 
 pub waking_more : (old world new : Lab) (queued left after : Queued) → Waking old queued world left → power_in world ≡ power.Recovering → RecoversOnce world left new after → Waking old queued new after
 waking_more old world new queued left after h recovering r = record {
   on = record {
-    stays = record { config = r.stays.config ∙ h.on.stays.config; start = r.stays.start ∙ h.on.stays.start; limits = r.stays.limits ∙ h.on.stays.limits };
+    stays = record { config = r.stays.config ∙ h.on.stays.config; at_start = r.stays.at_start ∙ h.on.stays.at_start; start = r.stays.start ∙ h.on.stays.start; limits = r.stays.limits ∙ h.on.stays.limits };
     queue = record { calls = r.queue.calls ∙ h.on.queue.calls; room = r.queue.room ∙ h.on.queue.room; begun = r.queue.begun ∙ h.on.queue.begun };
     fuse = burns_both old.log.past world.log.past new.log.past queued.fuse left.fuse after.fuse h.on.fuse r.fuse;
     opens = λ w. once_opens world new left after r w ∙ h.on.opens w;

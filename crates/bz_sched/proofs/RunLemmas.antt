@@ -40,7 +40,7 @@ armed_point world queued armed fuse a = ap (λ (calls : List (ℕ × Call)). rec
 
 kept_leaves : (old new : Lab) (queued armed left : Queued) (fuse : Option ℕ) → Armed fuse queued armed → Keeps old armed new left → Leaves old queued new left
 kept_leaves old new queued armed left fuse a k = record {
-  stays = record { config = k.config; start = k.start; limits = k.limits };
+  stays = record { config = k.config; at_start = k.at_start; start = k.start; limits = k.limits };
   steady = steady_when_ready new left k.ready;
   room = omega (arith, k.room, a.room);
 }
@@ -56,7 +56,7 @@ unarmed_ends plan old new queued armed left a (keeps, runs) = (
 pub unarmed_limit : (plan : Plan) (why : Which) (old new : Lab) (queued armed left : Queued) → Armed None queued armed
     → Keeps old armed new left × RunsByInPart (Limit why) (words_of old.config) plan (point_of old armed) (point_of new left) × IsAtLimit new why → HasRun None plan old queued (end.Limit why) new left
 unarmed_limit plan why old new queued armed left a (keeps, runs, met) = (
-  record { config = keeps.config; start = keeps.start; limits = keeps.limits },
+  record { config = keeps.config; at_start = keeps.at_start; start = keeps.start; limits = keeps.limits },
   inl (subst (λ (point : Point). RunsByInPart (Limit why) (words_of old.config) plan point (point_of new left)) (armed_point old queued armed None a) runs, tt),
   met,
 )
@@ -79,7 +79,7 @@ module _ (cut : CutPlan) (plan : Plan) (old new : Lab) (queued armed left : Queu
 
   pub armed_limit : (why : Which) → Keeps old armed new left × RunsByInPart (Limit why) (words_of old.config) plan (point_of old armed) (point_of new left) × IsAtLimit new why → HasRun (Some cut) plan old queued (end.Limit why) new left
   armed_limit why (keeps, runs, met) = (
-    record { config = keeps.config; start = keeps.start; limits = keeps.limits },
+    record { config = keeps.config; at_start = keeps.at_start; start = keeps.start; limits = keeps.limits },
     inl (
       subst (λ (point : Point). RunsByInPart (Limit why) (words_of old.config) plan point (point_of new left)) (armed_point old queued armed _ a) runs,
       before_cut cut old.log.past new.log.past armed.fuse left.fuse some a.fuse keeps.fuse,
@@ -101,7 +101,7 @@ module _ (cut : CutPlan) (plan : Plan) (old new : Lab) (queued armed left : Queu
   armed_cut w end.Finished after dropped keeps due flush h = absurd h
   armed_cut w end.Cut after dropped keeps due flush (leaves, off, left_out, cuts) = (
     record {
-      stays = record { config = leaves.stays.config ∙ keeps.config; start = leaves.stays.start ∙ keeps.start; limits = leaves.stays.limits ∙ keeps.limits };
+      stays = record { config = leaves.stays.config ∙ keeps.config; at_start = leaves.stays.at_start ∙ keeps.at_start; start = leaves.stays.start ∙ keeps.start; limits = leaves.stays.limits ∙ keeps.limits };
       steady = leaves.steady;
       room = omega (arith, leaves.room, keeps.room, a.room);
     },
@@ -118,7 +118,7 @@ module _ (cut : CutPlan) (plan : Plan) (old new : Lab) (queued armed left : Queu
     ),
   )
   armed_cut w (end.Limit why) after dropped keeps due flush (stays, is, cuts, met) = (
-    record { config = stays.config ∙ keeps.config; start = stays.start ∙ keeps.start; limits = stays.limits ∙ keeps.limits },
+    record { config = stays.config ∙ keeps.config; at_start = stays.at_start ∙ keeps.at_start; start = stays.start ∙ keeps.start; limits = stays.limits ∙ keeps.limits },
     inr (
       is,
       (

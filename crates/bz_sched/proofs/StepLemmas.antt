@@ -10,6 +10,7 @@ use Rattle.bz_call.specs.declared.replies.Reply.{Reply}
 use Rattle.bz_mark.specs.Log.{Log}
 use Rattle.bz_mark.specs.declared.marks.Mark.{Mark}
 use Rattle.bz_mark.specs.declared.marks.Mark.TheVariants as mark
+use Rattle.bz_sound.specs.declared.power.Power.{Power}
 use Rattle.bz_sound.specs.declared.power.Power.TheVariants as power
 use Rattle.bz_sound.specs.Calls.{Open, open_call}
 use Rattle.bz_sound.specs.Power.Times.{power_of}
@@ -130,7 +131,7 @@ on_ready old queued left w new calls begun ready s = record {
   calls = rw (s.config, calls) ready.calls;
   begun = λ v. ap (λ (flags : List Bool). get_or flags v false) begun ∙ ready.begun v ∙ sym (ap (λ (log : Log). is_some (open_call v log.past)) s.ends ∙ (struck_is (mark_of w s.made) old.log.past s.struck s.effect).opens v ∙ ap is_some (act_opens s.made w v old.log.past));
   openers = λ v is. rw s.config (ready.openers v (sym (ap (λ (flags : List Bool). get_or flags v false) begun) ∙ is));
-  powered = ap (λ (log : Log). power_of power.On log.past) s.ends ∙ struck_power power.On (mark_of w s.made) old.log.past s.struck s.effect ∙ act_power power.On s.made w old.log.past ∙ ready.powered;
+  powered = ap (λ (p : Power). power_of p new.log.past) s.at_start ∙ ap (λ (log : Log). power_of old.at_start log.past) s.ends ∙ struck_power old.at_start (mark_of w s.made) old.log.past s.struck s.effect ∙ act_power old.at_start s.made w old.log.past ∙ ready.powered;
 }
 
 -- how many flushes were made by then
@@ -145,6 +146,7 @@ step_goes_on old queued left w new ready g b =
       record {
         ready = on_ready old queued left w new b.calls b.begun ready s;
         config = s.config;
+        at_start = s.at_start;
         start = ap (λ (log : Log). log.start) s.ends;
         limits = ap (λ (log : Log). log.limits) s.ends;
         room = b.room;
@@ -180,7 +182,7 @@ ended_ready old queued w n new left ready is s calls marks = record {
   calls = rw (s.config, calls) ready.calls;
   begun = marks_known queued left (λ v. open_call v old.log.past) (λ v. open_call v new.log.past) w false ready.begun marks (ended_opens old w n new s);
   openers = rw s.config (openers_known old.config queued left w false (ready.openers w is) ready.openers marks);
-  powered = ap (λ (log : Log). power_of power.On log.past) s.ends.is ∙ struck_power power.On (mark_of w s.made) old.log.past s.struck s.effect ∙ act_power power.On s.made w old.log.past ∙ ready.powered;
+  powered = ap (λ (p : Power). power_of p new.log.past) s.at_start ∙ ap (λ (log : Log). power_of old.at_start log.past) s.ends.is ∙ struck_power old.at_start (mark_of w s.made) old.log.past s.struck s.effect ∙ act_power old.at_start s.made w old.log.past ∙ ready.powered;
 }
 
 pub step_ends : (old : Lab) (queued between : Queued) (w n : ℕ) (new : Lab) (left : Queued) → IsReady old queued → has_open queued w ≡ true → Goes old w (applied.Ended n) new → Burnt (flush_of old w) queued between
@@ -195,6 +197,7 @@ step_ends old queued between w n new left ready is g b same_calls same_room same
       record {
         ready = ended_ready old queued w n new left ready is s calls marks;
         config = s.config;
+        at_start = s.at_start;
         start = ap (λ (log : Log). log.start) s.ends.is;
         limits = ap (λ (log : Log). log.limits) s.ends.is;
         room = room;

@@ -25,11 +25,11 @@ use Rattle.bz_sched.proofs.BurnLemmas.{due_flushes}
 use Rattle.bz_sched.proofs.RunLemmas.{Armed}
 
 stays_both : (a b c : Lab) → Stays a b → Stays b c → Stays a c
-stays_both a b c h k = record { config = k.config ∙ h.config; start = k.start ∙ h.start; limits = k.limits ∙ h.limits }
+stays_both a b c h k = record { config = k.config ∙ h.config; at_start = k.at_start ∙ h.at_start; start = k.start ∙ h.start; limits = k.limits ∙ h.limits }
 
 -- a recovery that has begun is under way
 pub on_recovers : (old new : Lab) (queued left : Queued) → IsStarted old queued new left → power_in new ≡ power.Recovering
-on_recovers old new queued left s = ap (power_of power.On) s.past
+on_recovers old new queued left s = ap (power_of new.at_start) s.past
 
 -- a place was wanting before the recovery
 pub start_stops : (cut : Option CutPlan) (old new : Lab) (queued left : Queued) → StartStopped old queued new left → HasPower cut old queued (end.Limit which.Marks) new left
@@ -67,7 +67,7 @@ module _ (old mid new : Lab) (queued between armed left : Queued) (fuse : Option
 
   pub wakes : (cut : Option CutPlan) → IsBefore cut mid.log.past new.log.past → RecoversWhole mid.log.past new.log.past → HasPower cut old queued end.Finished new left
   wakes cut before whole =
-      let on : power_in new ≡ power.On = ap (power_of power.On) whole.5 in (
+      let on : power_in new ≡ power.On = ap (power_of new.at_start) whole.5 in (
         awake on,
         on,
         (subst (λ (past : List Mark). RecoversWhole past new.log.past) s.past whole, subst (λ (past : List Mark). IsBefore cut past new.log.past) s.past before, calls_are),
@@ -80,7 +80,7 @@ module _ (old mid new : Lab) (queued between armed left : Queued) (fuse : Option
     met,
   )
 
-  pub wake_due : (cut : CutPlan) → 1 ≤ cut.flush → fuse ≡ Some (cut.flush - 1) → (count : ℕ) × RecoversTimes count mid.log.past new.log.past → left.fuse ≡ Some 0 → IsDueInRecovery cut (point_of old queued) (point_of new left)
+  pub wake_due : (cut : CutPlan) → 1 ≤ cut.flush → fuse ≡ Some (cut.flush - 1) → (count : ℕ) × RecoversTimes count mid.log.past new.log.past → left.fuse ≡ Some 0 → IsDueInRecovery old.at_start cut (point_of old queued) (point_of new left)
   wake_due cut some armed_so (count, times) none = record {
     count = count;
     recovers = subst (λ (past : List Mark). RecoversTimes count past new.log.past) s.past times;
@@ -88,7 +88,7 @@ module _ (old mid new : Lab) (queued between armed left : Queued) (fuse : Option
     queue = calls_are;
   }
 
-  pub wake_cut : (cut : CutPlan) (end : RunEnd) (after : Lab) (dropped : Queued) → IsDueInRecovery cut (point_of old queued) (point_of new left) → flush_of new 0 ≡ true → IsCutOff cut.seed new left end after dropped → HasPower (Some cut) old queued end after dropped
+  pub wake_cut : (cut : CutPlan) (end : RunEnd) (after : Lab) (dropped : Queued) → IsDueInRecovery old.at_start cut (point_of old queued) (point_of new left) → flush_of new 0 ≡ true → IsCutOff cut.seed new left end after dropped → HasPower (Some cut) old queued end after dropped
   wake_cut cut end.Finished after dropped due flush h = absurd h
   wake_cut cut end.Cut after dropped due flush (leaves, off, left_out, cuts) = (
     record { stays = stays_both old new after all_stay leaves.stays; steady = leaves.steady; room = omega (arith, leaves.room, r.queue.room, a.room, s.room) },

@@ -25,7 +25,7 @@ pub record QueueStays (queued left : Queued) : Type 0 where
 pub record IsOff (old : Lab) (queued : Queued) (new : Lab) (left : Queued) : Type 0 where
   pub stays : Stays old new
   pub off : power_in new ≡ power.Off
-  pub past : new.log.past ≡ turned_off old.log.past
+  pub past : new.log.past ≡ turned_off old.at_start old.log.past
   pub calls : left.calls ≡ queued.calls
   pub room : left.room ≡ queued.room
   pub steady : IsSteady new left
@@ -43,7 +43,7 @@ pub record IsOn (old new : Lab) : Type 0 where
 -- a recovery may begin, from the marks after which the power has come on
 pub record IsStarted (old : Lab) (queued : Queued) (new : Lab) (left : Queued) : Type 0 where
   pub stays : Stays old new
-  pub past : new.log.past ≡ turned_on old.log.past
+  pub past : new.log.past ≡ turned_on old.at_start old.log.past
   pub calls : left.calls ≡ queued.calls
   pub room : left.room ≡ queued.room
   pub begun : (w : ℕ) → has_open left w ≡ is_some (open_call w new.log.past)
@@ -52,7 +52,7 @@ pub record IsStarted (old : Lab) (queued : Queued) (new : Lab) (left : Queued) :
 -- no place was left for the cut of the power that is on, or for power on
 pub record StartStopped (old : Lab) (queued : Queued) (new : Lab) (left : Queued) : Type 0 where
   pub stays : Stays old new
-  pub past : (new.log.past ≡ old.log.past) ⊎ (new.log.past ≡ turned_off old.log.past)
+  pub past : (new.log.past ≡ old.log.past) ⊎ (new.log.past ≡ turned_off old.at_start old.log.past)
   pub calls : left.calls ≡ queued.calls
   pub met : marks_left new < 3
 

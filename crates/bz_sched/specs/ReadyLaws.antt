@@ -9,14 +9,14 @@ use Rattle.bz_world.specs.Lab.{Lab, IsWorker, power_in}
 use Rattle.bz_sched.specs.Queued.{Queued, has_open}
 use Rattle.bz_sched.specs.Runs.{CanBegin, IsSteady, IsReady}
 
--- nothing has happened, and no call waits
-pub ready_at_first : (world : Lab) (queued : Queued) → IsConfig world.config → world.log.past ≡ [] → queued.calls ≡ [] → ((w : ℕ) → has_open queued w ≡ false) → IsReady world queued
-ready_at_first world queued config new empty closed = record {
+-- nothing has happened in a world whose power is on, and no call waits
+pub ready_at_first : (world : Lab) (queued : Queued) → IsConfig world.config → world.at_start ≡ power.On → world.log.past ≡ [] → queued.calls ≡ [] → ((w : ℕ) → has_open queued w ≡ false) → IsReady world queued
+ready_at_first world queued config on new empty closed = record {
   config = config;
   calls = rw empty tt;
   begun = λ w. rw new (closed w);
   openers = λ w is. let opposed : false ≡ true = sym (closed w) ∙ is in absurd (cc opposed);
-  powered = rw new refl;
+  powered = rw new on;
 }
 
 one_more : (config : Config) (calls : List (ℕ × Call)) (w : ℕ) (call : Call) → CanBegin config calls → IsWorker config w → CanBegin config (calls ++ (w, call) ∷ [])

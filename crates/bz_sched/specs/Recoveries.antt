@@ -17,12 +17,12 @@ abbrev pub off_by : Power → List Mark → List Mark
 off_by power.On past = Cut ∷ past
 off_by other past = past
 
-abbrev pub turned_off : List Mark → List Mark
-turned_off past = off_by (power_of power.On past) past
+abbrev pub turned_off : Power → List Mark → List Mark
+turned_off at_start past = off_by (power_of at_start past) past
 
 -- then it comes on
-abbrev pub turned_on : List Mark → List Mark
-turned_on past = On ∷ turned_off past
+abbrev pub turned_on : Power → List Mark → List Mark
+turned_on at_start past = On ∷ turned_off at_start past
 
 -- an act of the recovery
 pub record Recovers (old new : List Mark) : Type 0 where
@@ -40,31 +40,31 @@ abbrev pub RecoversWhole : List Mark → List Mark → Type 0
 RecoversWhole old new = (count : ℕ) × (mid : List Mark) × (last : List Mark) × RecoversTimes count old mid × Recovers mid last × (new ≡ Ready ∷ last)
 
 -- power on, to the end of the recovery
-abbrev pub Powers : Option CutPlan → Point → Point → Type 0
-Powers cut old new = RecoversWhole (turned_on old.past) new.past × IsBefore cut (turned_on old.past) new.past × (new.queue ≡ old.queue)
+abbrev pub Powers : Power → Option CutPlan → Point → Point → Type 0
+Powers at_start cut old new = RecoversWhole (turned_on at_start old.past) new.past × IsBefore cut (turned_on at_start old.past) new.past × (new.queue ≡ old.queue)
 
 -- up to the flush at which the power is cut
-pub record IsDueInRecovery (cut : CutPlan) (old mid : Point) : Type 0 where
+pub record IsDueInRecovery (at_start : Power) (cut : CutPlan) (old mid : Point) : Type 0 where
   pub count : ℕ
-  pub recovers : RecoversTimes count (turned_on old.past) mid.past
-  pub flushes : flushes_of mid.past + 1 ≡ flushes_of (turned_on old.past) + cut.flush
+  pub recovers : RecoversTimes count (turned_on at_start old.past) mid.past
+  pub flushes : flushes_of mid.past + 1 ≡ flushes_of (turned_on at_start old.past) + cut.flush
   pub queue : mid.queue ≡ old.queue
 
 -- the cut was made
-abbrev pub PowersCut : List ℕ → ℕ → Option CutPlan → Point → Point → Type 0
-PowersCut start words None old new = ⊥
-PowersCut start words (Some cut) old new = (mid : Point) × IsDueInRecovery cut old mid × CutsOff start words cut.seed mid new
+abbrev pub PowersCut : Power → List ℕ → ℕ → Option CutPlan → Point → Point → Type 0
+PowersCut at_start start words None old new = ⊥
+PowersCut at_start start words (Some cut) old new = (mid : Point) × IsDueInRecovery at_start cut old mid × CutsOff start words cut.seed mid new
 
-abbrev pub CutInRecoveryInPart : List ℕ → ℕ → Option CutPlan → Point → Point → Type 0
-CutInRecoveryInPart start words None old new = ⊥
-CutInRecoveryInPart start words (Some cut) old new = (mid : Point) × IsDueInRecovery cut old mid × CutsOffInPart start words cut.seed mid new
+abbrev pub CutInRecoveryInPart : Power → List ℕ → ℕ → Option CutPlan → Point → Point → Type 0
+CutInRecoveryInPart at_start start words None old new = ⊥
+CutInRecoveryInPart at_start start words (Some cut) old new = (mid : Point) × IsDueInRecovery at_start cut old mid × CutsOffInPart start words cut.seed mid new
 
 -- the limit on marks forbade what was to come: the cut of the power that is on, power on, an act of the recovery, or what
 -- belongs to the armed cut
-abbrev pub PowersInPart : Which → List ℕ → ℕ → Option CutPlan → Point → Point → Type 0
-PowersInPart why start words cut old new =
+abbrev pub PowersInPart : Which → Power → List ℕ → ℕ → Option CutPlan → Point → Point → Type 0
+PowersInPart why at_start start words cut old new =
     (why ≡ which.Marks)
     × (((new.past ≡ old.past) × (new.queue ≡ old.queue))
-    ⊎ (((new.past ≡ turned_off old.past) × (new.queue ≡ old.queue))
-    ⊎ (((count : ℕ) × RecoversTimes count (turned_on old.past) new.past × IsBefore cut (turned_on old.past) new.past × (new.queue ≡ old.queue))
-    ⊎ CutInRecoveryInPart start words cut old new)))
+    ⊎ (((new.past ≡ turned_off at_start old.past) × (new.queue ≡ old.queue))
+    ⊎ (((count : ℕ) × RecoversTimes count (turned_on at_start old.past) new.past × IsBefore cut (turned_on at_start old.past) new.past × (new.queue ≡ old.queue))
+    ⊎ CutInRecoveryInPart at_start start words cut old new)))

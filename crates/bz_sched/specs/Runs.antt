@@ -76,6 +76,7 @@ Burns past (Some some) new (Some fewer) = flushes_of new + fewer ≡ flushes_of 
 pub record Keeps (old : Lab) (queued : Queued) (new : Lab) (left : Queued) : Type 0 where
   pub ready : IsReady new left
   pub config : new.config ≡ old.config
+  pub at_start : new.at_start ≡ old.at_start
   pub start : new.log.start ≡ old.log.start
   pub limits : new.log.limits ≡ old.log.limits
   pub room : left.room ≡ queued.room
@@ -87,9 +88,10 @@ EndsBy Whole InPart old queued Finished new left = Keeps old queued new left × 
 EndsBy Whole InPart old queued (Stopped why) new left =
     Keeps old queued new left × InPart why (point_of old queued) (point_of new left) × IsStopped new left why
 
--- the world is the same one: its numbers stay, and so do the start and the limits of its journal
+-- the world is the same one: its numbers stay, what the power was at first, and the start and the limits of its journal
 pub record Stays (old new : Lab) : Type 0 where
   pub config : new.config ≡ old.config
+  pub at_start : new.at_start ≡ old.at_start
   pub start : new.log.start ≡ old.log.start
   pub limits : new.log.limits ≡ old.log.limits
 
@@ -118,8 +120,8 @@ HasRun cut plan old queued (end.Limit why) new left =
 -- how power on ends, with this cut armed or none: the act of worker 0 that a cut left out was a flush
 abbrev pub HasPower : Option CutPlan → Lab → Queued → RunEnd → Lab → Queued → Type 0
 HasPower cut old queued end.Finished new left =
-    Leaves old queued new left × (power_in new ≡ power.On) × Powers cut (point_of old queued) (point_of new left)
+    Leaves old queued new left × (power_in new ≡ power.On) × Powers old.at_start cut (point_of old queued) (point_of new left)
 HasPower cut old queued end.Cut new left =
-    Leaves old queued new left × (power_in new ≡ power.Off) × PowersCut old.log.start (words_of old.config) cut (point_of old queued) (point_of new left) × (flush_left_out new 0 ≡ true)
+    Leaves old queued new left × (power_in new ≡ power.Off) × PowersCut old.at_start old.log.start (words_of old.config) cut (point_of old queued) (point_of new left) × (flush_left_out new 0 ≡ true)
 HasPower cut old queued (end.Limit why) new left =
-    Stays old new × PowersInPart why old.log.start (words_of old.config) cut (point_of old queued) (point_of new left) × IsAtLimit new why
+    Stays old new × PowersInPart why old.at_start old.log.start (words_of old.config) cut (point_of old queued) (point_of new left) × IsAtLimit new why

@@ -4,6 +4,7 @@ use Rattle.bz_call.specs.declared.calls.Call.{Call}
 use Rattle.bz_mark.specs.declared.marks.Mark.{Mark}
 use Rattle.bz_script.specs.declared.item.Item.{Item}
 use Rattle.bz_script.specs.declared.item.Item.TheVariants.{Queue, Arm, Run, Power}
+use Rattle.bz_sound.specs.declared.power.Power.{Power as State}
 use Rattle.bz_world.specs.declared.answers.Which.{Which}
 use Rattle.bz_sched.specs.Plans.{RunsWhole, RunsCut, RunsInPart}
 use Rattle.bz_sched.specs.Points.{Point}
@@ -14,25 +15,25 @@ use Rattle.bz_sched.specs.declared.cut.CutPlan.{CutPlan}
 abbrev pub queued : ℕ × Call → Point → Point
 queued call point = record { past = point.past; queue = point.queue ++ call ∷ [] }
 
--- From this point the items lead to these marks, over a memory with this start and of so many words. A `cut` line arms the next
+-- From this point the items lead to these marks, over a memory with this start and of so many words, with this power at first. A `cut` line arms the next
 -- run or power on, which ends as if it were not armed, or with the cut.
-abbrev pub LeadsTo : List ℕ → ℕ → Option CutPlan → Point → List Item → List Mark → Type 0
-LeadsTo start words armed old [] new = new ≡ old.past
-LeadsTo start words armed old (Queue w call ∷ items) new = LeadsTo start words armed (queued (w, call) old) items new
-LeadsTo start words armed old (Arm flush seed ∷ items) new = LeadsTo start words (Some (record { flush = flush; seed = seed })) old items new
-LeadsTo start words armed old (Run plan ∷ items) new =
-    (mid : Point) × (RunsWhole words armed plan old mid ⊎ RunsCut start words armed plan old mid) × LeadsTo start words None mid items new
-LeadsTo start words armed old (Power ∷ items) new =
-    (mid : Point) × (Powers armed old mid ⊎ PowersCut start words armed old mid) × LeadsTo start words None mid items new
+abbrev pub LeadsTo : State → List ℕ → ℕ → Option CutPlan → Point → List Item → List Mark → Type 0
+LeadsTo at_start start words armed old [] new = new ≡ old.past
+LeadsTo at_start start words armed old (Queue w call ∷ items) new = LeadsTo at_start start words armed (queued (w, call) old) items new
+LeadsTo at_start start words armed old (Arm flush seed ∷ items) new = LeadsTo at_start start words (Some (record { flush = flush; seed = seed })) old items new
+LeadsTo at_start start words armed old (Run plan ∷ items) new =
+    (mid : Point) × (RunsWhole words armed plan old mid ⊎ RunsCut start words armed plan old mid) × LeadsTo at_start start words None mid items new
+LeadsTo at_start start words armed old (Power ∷ items) new =
+    (mid : Point) × (Powers at_start armed old mid ⊎ PowersCut at_start start words armed old mid) × LeadsTo at_start start words None mid items new
 
 -- they lead there up to an item that met a limit; the items behind it are left out
-abbrev pub LeadsToInPart : Which → List ℕ → ℕ → Option CutPlan → Point → List Item → List Mark → Type 0
-LeadsToInPart why start words armed old [] new = ⊥
-LeadsToInPart why start words armed old (Queue w call ∷ items) new = LeadsToInPart why start words armed (queued (w, call) old) items new
-LeadsToInPart why start words armed old (Arm flush seed ∷ items) new = LeadsToInPart why start words (Some (record { flush = flush; seed = seed })) old items new
-LeadsToInPart why start words armed old (Run plan ∷ items) new =
+abbrev pub LeadsToInPart : Which → State → List ℕ → ℕ → Option CutPlan → Point → List Item → List Mark → Type 0
+LeadsToInPart why at_start start words armed old [] new = ⊥
+LeadsToInPart why at_start start words armed old (Queue w call ∷ items) new = LeadsToInPart why at_start start words armed (queued (w, call) old) items new
+LeadsToInPart why at_start start words armed old (Arm flush seed ∷ items) new = LeadsToInPart why at_start start words (Some (record { flush = flush; seed = seed })) old items new
+LeadsToInPart why at_start start words armed old (Run plan ∷ items) new =
     ((end : Point) × RunsInPart why start words armed plan old end × (new ≡ end.past))
-    ⊎ ((mid : Point) × (RunsWhole words armed plan old mid ⊎ RunsCut start words armed plan old mid) × LeadsToInPart why start words None mid items new)
-LeadsToInPart why start words armed old (Power ∷ items) new =
-    ((end : Point) × PowersInPart why start words armed old end × (new ≡ end.past))
-    ⊎ ((mid : Point) × (Powers armed old mid ⊎ PowersCut start words armed old mid) × LeadsToInPart why start words None mid items new)
+    ⊎ ((mid : Point) × (RunsWhole words armed plan old mid ⊎ RunsCut start words armed plan old mid) × LeadsToInPart why at_start start words None mid items new)
+LeadsToInPart why at_start start words armed old (Power ∷ items) new =
+    ((end : Point) × PowersInPart why at_start start words armed old end × (new ≡ end.past))
+    ⊎ ((mid : Point) × (Powers at_start armed old mid ⊎ PowersCut at_start start words armed old mid) × LeadsToInPart why at_start start words None mid items new)

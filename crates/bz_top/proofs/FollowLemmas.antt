@@ -11,6 +11,7 @@ use Rattle.bz_script.specs.ItemLaws.{IsItem, AreItems}
 use Rattle.bz_script.specs.Order.{at_first as first_standing, may_stand, after, AreInOrder}
 use Rattle.bz_script.specs.declared.item.Item.{Item}
 use Rattle.bz_script.specs.declared.item.Item.TheVariants.{Queue, Arm, Run, Power}
+use Rattle.bz_sound.specs.declared.power.Power.{Power as State}
 use Rattle.bz_sound.specs.declared.power.Power.TheVariants as power
 use Rattle.bz_sched.specs.Points.{Point}
 use Rattle.bz_sched.specs.Queued.{Queued, has_open}
@@ -33,8 +34,8 @@ pub record Staged (items : List Item) (i : ℕ) (armed : Option CutPlan) (old wo
   pub order : AreInOrder (record { armed = is_some armed; used = used }) (drop i items)
   pub powered : used ≡ false → power_in world ≡ power.On
   pub cut : IsCutPlan armed
-  pub follows : (new : List Mark) → LeadsTo old.log.start (words_of old.config) armed (point_of world queue) (drop i items) new → LeadsTo old.log.start (words_of old.config) None at_first items new
-  pub in_part : (why : Which) (new : List Mark) → LeadsToInPart why old.log.start (words_of old.config) armed (point_of world queue) (drop i items) new → LeadsToInPart why old.log.start (words_of old.config) None at_first items new
+  pub follows : (new : List Mark) → LeadsTo old.at_start old.log.start (words_of old.config) armed (point_of world queue) (drop i items) new → LeadsTo old.at_start old.log.start (words_of old.config) None at_first items new
+  pub in_part : (why : Which) (new : List Mark) → LeadsToInPart why old.at_start old.log.start (words_of old.config) armed (point_of world queue) (drop i items) new → LeadsToInPart why old.at_start old.log.start (words_of old.config) None at_first items new
 
 pub item_at : (items : List Item) (i : ℕ) (item : Item) → AreItems items → i < length items → item ≡ get_or items i item → IsItem item
 item_at [] i item all lt is = absurd (omega arith)
@@ -45,12 +46,12 @@ here_is : (items : List Item) (i : ℕ) (item : Item) → i < length items → i
 here_is items i item lt is = drop_more items i item lt ∙ ap (λ (x : Item). x ∷ drop (i + 1) items) (sym is)
 
 -- nothing is done yet
-pub staged_none : (items : List Item) (old : Lab) (queue : Queued) → old.log.past ≡ [] → IsConfig old.config → queue.calls ≡ [] → ((w : ℕ) → has_open queue w ≡ false) → queue.room ≡ length items → AreInOrder first_standing items
+pub staged_none : (items : List Item) (old : Lab) (queue : Queued) → old.at_start ≡ power.On → old.log.past ≡ [] → IsConfig old.config → queue.calls ≡ [] → ((w : ℕ) → has_open queue w ≡ false) → queue.room ≡ length items → AreInOrder first_standing items
     → Staged items 0 None old old queue
-staged_none items old queue new config empty closed fits order =
-    let ready = ready_at_first old queue config new empty closed in
+staged_none items old queue on new config empty closed fits order =
+    let ready = ready_at_first old queue config on new empty closed in
     record {
-      on = record { config = refl; start = refl; limits = refl };
+      on = record { config = refl; at_start = refl; start = refl; limits = refl };
       steady = steady_when_ready old queue ready;
       room = omega (arith, fits);
       used = false;
@@ -84,12 +85,12 @@ used_then used armed (Arm flush seed) = used
 used_then used armed (Run plan) = is_some armed
 used_then used armed Power = is_some armed
 
-order_then : (start : List ℕ) (words : ℕ) (armed next : Option CutPlan) (used : Bool) (p q : Point) (item : Item) (items : List Item) → Leads start words armed p item next q
+order_then : (at_start : State) (start : List ℕ) (words : ℕ) (armed next : Option CutPlan) (used : Bool) (p q : Point) (item : Item) (items : List Item) → Leads at_start start words armed p item next q
     → AreInOrder (after (record { armed = is_some armed; used = used }) item) items → AreInOrder (record { armed = is_some next; used = used_then used armed item }) items
-order_then start words armed next used p q (Queue w call) items leads order = rw leads.0 order
-order_then start words armed next used p q (Arm flush seed) items leads order = rw leads.0 order
-order_then start words armed next used p q (Run plan) items leads order = rw leads.0 order
-order_then start words armed next used p q Power items leads order = rw leads.0 order
+order_then at_start start words armed next used p q (Queue w call) items leads order = rw leads.0 order
+order_then at_start start words armed next used p q (Arm flush seed) items leads order = rw leads.0 order
+order_then at_start start words armed next used p q (Run plan) items leads order = rw leads.0 order
+order_then at_start start words armed next used p q Power items leads order = rw leads.0 order
 
 none_armed : (armed : Option CutPlan) → is_some armed ≡ false → armed ≡ None
 none_armed None is = refl
@@ -102,24 +103,24 @@ powered_then armed used old new (Run plan) leaves powered free = leaves (none_ar
 powered_then armed used old new Power leaves powered free = leaves (none_armed armed free)
 
 -- an item, and then those behind it
-then_leads : (start : List ℕ) (words : ℕ) (armed next : Option CutPlan) (p q : Point) (item : Item) (items : List Item) (new : List Mark) → Leads start words armed p item next q → LeadsTo start words next q items new → LeadsTo start words armed p (item ∷ items) new
-then_leads start words armed next p q (Queue w call) items new leads rest = rw (leads.0, leads.1) at rest
-then_leads start words armed next p q (Arm flush seed) items new leads rest = rw (leads.0, leads.1) at rest
-then_leads start words armed next p q (Run plan) items new leads rest = (q, leads.1, rw leads.0 at rest)
-then_leads start words armed next p q Power items new leads rest = (q, leads.1, rw leads.0 at rest)
+then_leads : (at_start : State) (start : List ℕ) (words : ℕ) (armed next : Option CutPlan) (p q : Point) (item : Item) (items : List Item) (new : List Mark) → Leads at_start start words armed p item next q → LeadsTo at_start start words next q items new → LeadsTo at_start start words armed p (item ∷ items) new
+then_leads at_start start words armed next p q (Queue w call) items new leads rest = rw (leads.0, leads.1) at rest
+then_leads at_start start words armed next p q (Arm flush seed) items new leads rest = rw (leads.0, leads.1) at rest
+then_leads at_start start words armed next p q (Run plan) items new leads rest = (q, leads.1, rw leads.0 at rest)
+then_leads at_start start words armed next p q Power items new leads rest = (q, leads.1, rw leads.0 at rest)
 
-then_in_part : (why : Which) (start : List ℕ) (words : ℕ) (armed next : Option CutPlan) (p q : Point) (item : Item) (items : List Item) (new : List Mark) → Leads start words armed p item next q → LeadsToInPart why start words next q items new
-    → LeadsToInPart why start words armed p (item ∷ items) new
-then_in_part why start words armed next p q (Queue w call) items new leads rest = rw (leads.0, leads.1) at rest
-then_in_part why start words armed next p q (Arm flush seed) items new leads rest = rw (leads.0, leads.1) at rest
-then_in_part why start words armed next p q (Run plan) items new leads rest = inr (q, leads.1, rw leads.0 at rest)
-then_in_part why start words armed next p q Power items new leads rest = inr (q, leads.1, rw leads.0 at rest)
+then_in_part : (why : Which) (at_start : State) (start : List ℕ) (words : ℕ) (armed next : Option CutPlan) (p q : Point) (item : Item) (items : List Item) (new : List Mark) → Leads at_start start words armed p item next q → LeadsToInPart why at_start start words next q items new
+    → LeadsToInPart why at_start start words armed p (item ∷ items) new
+then_in_part why at_start start words armed next p q (Queue w call) items new leads rest = rw (leads.0, leads.1) at rest
+then_in_part why at_start start words armed next p q (Arm flush seed) items new leads rest = rw (leads.0, leads.1) at rest
+then_in_part why at_start start words armed next p q (Run plan) items new leads rest = inr (q, leads.1, rw leads.0 at rest)
+then_in_part why at_start start words armed next p q Power items new leads rest = inr (q, leads.1, rw leads.0 at rest)
 
-here_in_part : (why : Which) (start : List ℕ) (words : ℕ) (armed : Option CutPlan) (p q : Point) (item : Item) (items : List Item) → LeadsInPart why start words armed p item q → LeadsToInPart why start words armed p (item ∷ items) q.past
-here_in_part why start words armed p q (Queue w call) items stops = absurd stops
-here_in_part why start words armed p q (Arm flush seed) items stops = absurd stops
-here_in_part why start words armed p q (Run plan) items stops = inl (q, stops, refl)
-here_in_part why start words armed p q Power items stops = inl (q, stops, refl)
+here_in_part : (why : Which) (at_start : State) (start : List ℕ) (words : ℕ) (armed : Option CutPlan) (p q : Point) (item : Item) (items : List Item) → LeadsInPart why at_start start words armed p item q → LeadsToInPart why at_start start words armed p (item ∷ items) q.past
+here_in_part why at_start start words armed p q (Queue w call) items stops = absurd stops
+here_in_part why at_start start words armed p q (Arm flush seed) items stops = absurd stops
+here_in_part why at_start start words armed p q (Run plan) items stops = inl (q, stops, refl)
+here_in_part why at_start start words armed p q Power items stops = inl (q, stops, refl)
 
 module _ (items : List Item) (i : ℕ) (item : Item) (armed : Option CutPlan) (old world : Lab) (queue : Queued) (s : Staged items i armed old world queue) (lt : i < length items) (is : item ≡ get_or items i item) where
   -- an item more is done
@@ -127,31 +128,33 @@ module _ (items : List Item) (i : ℕ) (item : Item) (armed : Option CutPlan) (o
   staged_more next new left d =
       let here = here_is items i item lt is in
       let order : AreInOrder (record { armed = is_some armed; used = s.used }) (item ∷ drop (i + 1) items) = subst (AreInOrder (record { armed = is_some armed; used = s.used })) here s.order in
-      let leads : Leads old.log.start (words_of old.config) armed (point_of world queue) item next (point_of new left) =
-      subst (λ (start : List ℕ). Leads start (words_of old.config) armed (point_of world queue) item next (point_of new left)) s.on.start
-      (subst (λ (c : Config). Leads world.log.start (words_of c) armed (point_of world queue) item next (point_of new left)) s.on.config d.leads) in
+      let leads : Leads old.at_start old.log.start (words_of old.config) armed (point_of world queue) item next (point_of new left) =
+      subst (λ (at_start : State). Leads at_start old.log.start (words_of old.config) armed (point_of world queue) item next (point_of new left)) s.on.at_start
+      (subst (λ (start : List ℕ). Leads world.at_start start (words_of old.config) armed (point_of world queue) item next (point_of new left)) s.on.start
+      (subst (λ (c : Config). Leads world.at_start world.log.start (words_of c) armed (point_of world queue) item next (point_of new left)) s.on.config d.leads)) in
       record {
-        on = record { config = d.stays.config ∙ s.on.config; start = d.stays.start ∙ s.on.start; limits = d.stays.limits ∙ s.on.limits };
+        on = record { config = d.stays.config ∙ s.on.config; at_start = d.stays.at_start ∙ s.on.at_start; start = d.stays.start ∙ s.on.start; limits = d.stays.limits ∙ s.on.limits };
         steady = d.steady;
         room = omega (arith, s.room, d.room);
         used = used_then s.used armed item;
-        order = order_then _ _ armed next s.used _ _ item (drop (i + 1) items) leads order.1;
+        order = order_then _ _ _ armed next s.used _ _ item (drop (i + 1) items) leads order.1;
         powered = powered_then armed s.used world new item d.power s.powered;
         cut = d.cut;
-        follows = λ marks rest. s.follows marks (rw here (then_leads _ _ armed next _ _ item (drop (i + 1) items) marks leads rest));
-        in_part = λ why marks rest. s.in_part why marks (rw here (then_in_part why _ _ armed next _ _ item (drop (i + 1) items) marks leads rest));
+        follows = λ marks rest. s.follows marks (rw here (then_leads _ _ _ armed next _ _ item (drop (i + 1) items) marks leads rest));
+        in_part = λ why marks rest. s.in_part why marks (rw here (then_in_part why _ _ _ armed next _ _ item (drop (i + 1) items) marks leads rest));
       }
 
   -- it meets a limit
   pub staged_met : (why : Which) (new : Lab) (left : Queued) → IsStoppedItem why armed world queue item new left → IsLedInPart old items why new
   staged_met why new left d =
       let here = here_is items i item lt is in
-      let leads : LeadsInPart why old.log.start (words_of old.config) armed (point_of world queue) item (point_of new left) =
-      subst (λ (start : List ℕ). LeadsInPart why start (words_of old.config) armed (point_of world queue) item (point_of new left)) s.on.start
-      (subst (λ (c : Config). LeadsInPart why world.log.start (words_of c) armed (point_of world queue) item (point_of new left)) s.on.config d.leads) in
+      let leads : LeadsInPart why old.at_start old.log.start (words_of old.config) armed (point_of world queue) item (point_of new left) =
+      subst (λ (at_start : State). LeadsInPart why at_start old.log.start (words_of old.config) armed (point_of world queue) item (point_of new left)) s.on.at_start
+      (subst (λ (start : List ℕ). LeadsInPart why world.at_start start (words_of old.config) armed (point_of world queue) item (point_of new left)) s.on.start
+      (subst (λ (c : Config). LeadsInPart why world.at_start world.log.start (words_of c) armed (point_of world queue) item (point_of new left)) s.on.config d.leads)) in
       record {
-        on = record { config = d.stays.config ∙ s.on.config; start = d.stays.start ∙ s.on.start; limits = d.stays.limits ∙ s.on.limits };
-        follows = s.in_part why new.log.past (rw here (here_in_part why _ _ armed _ (point_of new left) item (drop (i + 1) items) leads));
+        on = record { config = d.stays.config ∙ s.on.config; at_start = d.stays.at_start ∙ s.on.at_start; start = d.stays.start ∙ s.on.start; limits = d.stays.limits ∙ s.on.limits };
+        follows = s.in_part why new.log.past (rw here (here_in_part why _ _ _ armed _ (point_of new left) item (drop (i + 1) items) leads));
         met = d.met;
       }
 

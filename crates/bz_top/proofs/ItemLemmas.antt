@@ -15,7 +15,7 @@ use Rattle.bz_top.specs.Items.{HasDone, limit_in}
 pub queue_done : (world : Lab) (queue left : Queued) (armed : Option CutPlan) (w : ℕ) (call : Call) → IsSteady world queue → world.config.workers ≡ 64 → (1 ≤ w) × (w ≤ 64) → IsCutPlan armed
     → left.calls ≡ queue.calls ++ (w, call) ∷ [] → left.room + 1 ≡ queue.room → left.begun ≡ queue.begun → HasDone armed world queue (Queue w call) None armed world left
 queue_done world queue left armed w call steady many item cut calls fits same = record {
-  stays = record { config = refl; start = refl; limits = refl };
+  stays = record { config = refl; at_start = refl; start = refl; limits = refl };
   steady = steady_when_queued world queue left w call steady (record { some = omega (arith, item.0); in_range = omega (arith, item.1, many) }) calls same;
   room = omega (arith, fits);
   cut = cut;
@@ -25,7 +25,7 @@ queue_done world queue left armed w call steady many item cut calls fits same = 
 
 pub arm_done : (world : Lab) (queue : Queued) (armed : Option CutPlan) (flush seed : ℕ) → IsSteady world queue → 1 ≤ flush → HasDone armed world queue (Arm flush seed) None (Some (record { flush = flush; seed = seed })) world queue
 arm_done world queue armed flush seed steady some = record {
-  stays = record { config = refl; start = refl; limits = refl };
+  stays = record { config = refl; at_start = refl; start = refl; limits = refl };
   steady = steady;
   room = omega arith;
   cut = some;

@@ -71,9 +71,10 @@ pub record Asks (o : Outside) (line : CommandLine) (script : Job) : Type 0 where
 -- and is sound, with the power on at first
 pub record IsLab (marks : ℕ) (script : Job) (world : Lab) : Type 0 where
   pub config : world.config ≡ config_of marks script.nodes script.swaps
+  pub at_start : world.at_start ≡ On
   pub start : world.log.start ≡ fresh_words world.config
   pub limits : world.log.limits ≡ record { marks = world.config.marks; calls = world.config.calls; pages = world.config.pages }
-  pub sound : IsSound world.config On world.log
+  pub sound : IsSound world.config world.at_start world.log
 
 -- the point at which nothing has happened and no call waits
 abbrev pub at_first : Point
@@ -82,13 +83,13 @@ at_first = record { past = []; queue = [] }
 -- a run that is done: a world of the script, with a sound journal to which the whole script leads
 pub record IsFinished (marks : ℕ) (script : Job) (world : Lab) : Type 0 where
   pub right : IsLab marks script world
-  pub follows : LeadsTo world.log.start (words_of world.config) None at_first script.items world.log.past
+  pub follows : LeadsTo world.at_start world.log.start (words_of world.config) None at_first script.items world.log.past
 
 -- a run that met a limit when one more was needed: a world of the script, with a sound journal to which the
 -- script leads up to there
 pub record IsCutShort (marks : ℕ) (script : Job) (world : Lab) (which : Which) : Type 0 where
   pub right : IsLab marks script world
-  pub follows : LeadsToInPart which world.log.start (words_of world.config) None at_first script.items world.log.past
+  pub follows : LeadsToInPart which world.at_start world.log.start (words_of world.config) None at_first script.items world.log.past
   pub met : IsAtLimit world which
 
 -- a world of the script, as the script has led to it: to its end, or up to a limit

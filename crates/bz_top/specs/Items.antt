@@ -4,6 +4,7 @@ use Rattle.bz_layout.specs.Addresses.{words_of}
 use Rattle.bz_script.specs.ItemLaws.{IsItem}
 use Rattle.bz_script.specs.declared.item.Item.{Item}
 use Rattle.bz_script.specs.declared.item.Item.TheVariants.{Queue, Arm, Run, Power}
+use Rattle.bz_sound.specs.declared.power.Power.{Power as State}
 use Rattle.bz_sound.specs.declared.power.Power.TheVariants as power
 use Rattle.bz_world.specs.Lab.{Lab, power_in}
 use Rattle.bz_world.specs.declared.answers.Which.{Which}
@@ -32,17 +33,17 @@ IsReadyFor world (Run plan) = IsItem (Run plan) × (power_in world ≡ power.On)
 IsReadyFor world Power = Unit {0}
 
 -- one item, from a point and with the cut that is armed: where it leads, and what is armed then
-abbrev pub Leads : List ℕ → ℕ → Option CutPlan → Point → Item → Option CutPlan → Point → Type 0
-Leads start words armed old (Queue w call) next new = (next ≡ armed) × (new ≡ queued (w, call) old)
-Leads start words armed old (Arm flush seed) next new = (next ≡ Some (record { flush = flush; seed = seed })) × (new ≡ old)
-Leads start words armed old (Run plan) next new = (next ≡ None) × (RunsWhole words armed plan old new ⊎ RunsCut start words armed plan old new)
-Leads start words armed old Power next new = (next ≡ None) × (Powers armed old new ⊎ PowersCut start words armed old new)
+abbrev pub Leads : State → List ℕ → ℕ → Option CutPlan → Point → Item → Option CutPlan → Point → Type 0
+Leads at_start start words armed old (Queue w call) next new = (next ≡ armed) × (new ≡ queued (w, call) old)
+Leads at_start start words armed old (Arm flush seed) next new = (next ≡ Some (record { flush = flush; seed = seed })) × (new ≡ old)
+Leads at_start start words armed old (Run plan) next new = (next ≡ None) × (RunsWhole words armed plan old new ⊎ RunsCut start words armed plan old new)
+Leads at_start start words armed old Power next new = (next ≡ None) × (Powers at_start armed old new ⊎ PowersCut at_start start words armed old new)
 
 -- and where it leads up to a limit
-abbrev pub LeadsInPart : Which → List ℕ → ℕ → Option CutPlan → Point → Item → Point → Type 0
-LeadsInPart why start words armed old (Run plan) new = RunsInPart why start words armed plan old new
-LeadsInPart why start words armed old Power new = PowersInPart why start words armed old new
-LeadsInPart why start words armed old other new = ⊥
+abbrev pub LeadsInPart : Which → State → List ℕ → ℕ → Option CutPlan → Point → Item → Point → Type 0
+LeadsInPart why at_start start words armed old (Run plan) new = RunsInPart why start words armed plan old new
+LeadsInPart why at_start start words armed old Power new = PowersInPart why at_start start words armed old new
+LeadsInPart why at_start start words armed old other new = ⊥
 
 -- after a run or a power on for which no cut was armed the power is on; a line of another kind leaves it
 abbrev pub LeavesPower : Option CutPlan → Lab → Item → Lab → Type 0
@@ -57,13 +58,13 @@ pub record IsDoneItem (armed : Option CutPlan) (old : Lab) (queue : Queued) (ite
   pub steady : IsSteady new left
   pub room : queue.room ≤ left.room + 1
   pub cut : IsCutPlan next
-  pub leads : Leads old.log.start (words_of old.config) armed (point_of old queue) item next (point_of new left)
+  pub leads : Leads old.at_start old.log.start (words_of old.config) armed (point_of old queue) item next (point_of new left)
   pub power : LeavesPower armed old item new
 
 -- it met a limit
 pub record IsStoppedItem (which : Which) (armed : Option CutPlan) (old : Lab) (queue : Queued) (item : Item) (new : Lab) (left : Queued) : Type 0 where
   pub stays : Stays old new
-  pub leads : LeadsInPart which old.log.start (words_of old.config) armed (point_of old queue) item (point_of new left)
+  pub leads : LeadsInPart which old.at_start old.log.start (words_of old.config) armed (point_of old queue) item (point_of new left)
   pub met : IsAtLimit new which
 
 abbrev pub HasDone : Option CutPlan → Lab → Queued → Item → Option Which → Option CutPlan → Lab → Queued → Type 0
@@ -73,12 +74,12 @@ HasDone armed old queue item (Some which) next new left = IsStoppedItem which ar
 -- a world in which nothing had happened has gone on as the items lead
 pub record IsLed (old : Lab) (items : List Item) (new : Lab) : Type 0 where
   pub on : Stays old new
-  pub follows : LeadsTo old.log.start (words_of old.config) None at_first items new.log.past
+  pub follows : LeadsTo old.at_start old.log.start (words_of old.config) None at_first items new.log.past
 
 -- it has gone on so far, and has met a limit
 pub record IsLedInPart (old : Lab) (items : List Item) (which : Which) (new : Lab) : Type 0 where
   pub on : Stays old new
-  pub follows : LeadsToInPart which old.log.start (words_of old.config) None at_first items new.log.past
+  pub follows : LeadsToInPart which old.at_start old.log.start (words_of old.config) None at_first items new.log.past
   pub met : IsAtLimit new which
 
 abbrev pub ItemsRan : Lab → List Item → Option Which → Lab → Type 0

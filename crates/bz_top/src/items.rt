@@ -2,6 +2,7 @@
 ghost use Rattle.std.specs.Prelude.{◌≡◌, ◌<◌, [], ℕ, false, length, None};
 ghost use Rattle.bz_layout.specs.Config.{IsConfig};
 ghost use Rattle.bz_layout.specs.declared.limits.TheConstants.{MAX_WORKERS};
+ghost use Rattle.bz_sound.specs.declared.power.Power.TheVariants.{On};
 ghost use Rattle.bz_sched.specs.Queued.{has_open};
 ghost use Rattle.bz_sched.specs.Runs.{IsSteady, IsCutPlan};
 ghost use Rattle.bz_script.specs.ItemLaws.{AreItems};
@@ -65,6 +66,7 @@ fn do_item(
 /// Does what the items ask for, one after the other, over a world in which nothing has happened, and tells the limit that was
 /// met, if one was.
 pub fn run_items(world: &mut World, queue: &mut Queue, items: &[Item]) -> Option<Which>
+    requires powered { world.old.at_start ≡ On }
     requires new { world.old.log.past ≡ [] }
     requires config { IsConfig world.old.config }
     requires workers { world.old.config.workers ≡ MAX_WORKERS }

@@ -9,7 +9,6 @@ ghost use Rattle.bz_world.specs.Lab.{new_lab};
 ghost use Rattle.bz_sched.specs.Queued.{has_open};
 ghost use Rattle.bz_top.specs.Commands.{config_of};
 ghost use Rattle.bz_sound.specs.Power.Sound.{IsSound};
-ghost use Rattle.bz_sound.specs.declared.power.Power.TheVariants.{On};
 ghost use Rattle.bz_script.specs.Script.{job_of};
 ghost use Rattle.bz_script.specs.ItemLaws.{IsJob};
 ghost use Rattle.bz_text.specs.Report.{report_of};
@@ -146,7 +145,7 @@ fn starts_with_an_image(world: &World)
 fn report<K: Sink>(alloc: Global, world: World, sink: &mut K) -> Outcome
     requires fresh { world.log.start ≡ fresh_words world.config }
     ensures lab { result.lab ≡ Some world }
-    ensures sound { IsSound world.config On world.log }
+    ensures sound { IsSound world.config world.at_start world.log }
     ensures wrote { SaysOrWants
         (sunk (K.held sink.old) (K.held sink.new) (K.faults sink.old) (K.faults sink.new))
         0 (report_of world.config world.log) result.status }
@@ -169,7 +168,7 @@ fn report<K: Sink>(alloc: Global, world: World, sink: &mut K) -> Outcome
 fn report_limit<K: Sink>(alloc: Global, world: World, which: Which, sink: &mut K) -> Outcome
     requires fresh { world.log.start ≡ fresh_words world.config }
     ensures lab { result.lab ≡ Some world }
-    ensures sound { IsSound world.config On world.log }
+    ensures sound { IsSound world.config world.at_start world.log }
     ensures wrote { SaysOrWants
         (sunk (K.held sink.old) (K.held sink.new) (K.faults sink.old) (K.faults sink.new))
         5 (report_of world.config world.log ++ fault_line (limit_text which)) result.status }
@@ -201,7 +200,7 @@ fn summarize<K: Sink>(
 ) -> Outcome
     requires fresh { world.log.start ≡ fresh_words world.config }
     ensures lab { result.lab ≡ Some world }
-    ensures sound { IsSound world.config On world.log }
+    ensures sound { IsSound world.config world.at_start world.log }
     ensures wrote { SaysOrWants
         (sunk (K.held sink.old) (K.held sink.new) (K.faults sink.old) (K.faults sink.new))
         0 (summary_of world.config calls workers world.log) result.status }
@@ -225,7 +224,7 @@ fn summarize<K: Sink>(
 fn print<K: Sink>(alloc: Global, command: Command, world: World, sink: &mut K) -> Outcome
     requires fresh { world.log.start ≡ fresh_words world.config }
     ensures lab { result.lab ≡ Some world }
-    ensures sound { IsSound world.config On world.log }
+    ensures sound { IsSound world.config world.at_start world.log }
     ensures wrote { SaysOrWants
         (sunk (K.held sink.old) (K.held sink.new) (K.faults sink.old) (K.faults sink.new))
         0 (printed command world) result.status }
@@ -243,7 +242,7 @@ fn print<K: Sink>(alloc: Global, command: Command, world: World, sink: &mut K) -
 /// Writes the fault line of a limit alone.
 fn tell_limit<K: Sink>(world: World, which: Which, sink: &mut K) -> Outcome
     ensures lab { result.lab ≡ Some world }
-    ensures sound { IsSound world.config On world.log }
+    ensures sound { IsSound world.config world.at_start world.log }
     ensures wrote { SaysOrWants
         (sunk (K.held sink.old) (K.held sink.new) (K.faults sink.old) (K.faults sink.new))
         5 (fault_line (limit_text which)) result.status }
@@ -266,7 +265,7 @@ fn print_limit<K: Sink>(
 ) -> Outcome
     requires fresh { world.log.start ≡ fresh_words world.config }
     ensures lab { result.lab ≡ Some world }
-    ensures sound { IsSound world.config On world.log }
+    ensures sound { IsSound world.config world.at_start world.log }
     ensures wrote { SaysOrWants
         (sunk (K.held sink.old) (K.held sink.new) (K.faults sink.old) (K.faults sink.new))
         5 (printed_before command world ++ fault_line (limit_text which)) result.status }

@@ -38,7 +38,7 @@ act-strikes place inside taken begun old new w s x made done k is-worker a room 
   taken = act-taken taken begun old new w made done (Some s) k.taken (held old.access k.living.seen.phase k.living.seen.holds) k.living.seen.swaps a (some-worker old k w x is-worker) (pending-begun old k);
   marked = act-marked w old.access new.access old.journal made k.living.words a.step.one.act;
   flush = subst (λ (z : Act). IsAfterFlush (mark_of w z ∷ old.journal.past)) (sym (inside.step old.access new.access w made done s (held old.access k.living.seen.phase k.living.seen.holds).memory a.step).act) tt;
-  follows = act-follows (map_at_start old.config old.journal.start) old.journal.past w made (may-act old.journal.past w (some-worker old k w x is-worker) (call-is-open old k w x is-worker));
+  follows = act-follows _ (map_at_start old.config old.journal.start) old.journal.past w made (may-act old.at_start old.journal.past w (some-worker old k w x is-worker) (call-is-open old k w x is-worker));
   rest = a.rest;
 }
   where

@@ -131,7 +131,7 @@ module _ (b : AnswerLaws) (p : Parts) (w : ℕ) (view : LeafView) (m : MustAnswe
   }
 
   answers : ImageAnswersBy (IsSpent p.config p.journal.start p.journal.past w was.opened) p.config p.journal w was.opened view.at
-  answers = b.answers p.config power.On p.journal w view.at was.opened was.sound reads
+  answers = b.answers p.config p.at_start p.journal w view.at was.opened was.sound reads
 
   pub value-right : (key had : List ℕ) (pairs : List (List ℕ × List ℕ)) → called ≡ call.Get key → content_in p.config (past.at view.at).image key ≡ Some had → MustEnd (record p { page = pairs }) w (Value had) view.at
   value-right key had pairs e has = record { on = on-pages p w pairs m.on; right = answers.value key had (opened-is ∙ e) (ap (λ i. content_in p.config i key) (sym image-is) ∙ has) }
@@ -152,7 +152,7 @@ module _ (b : AnswerLaws) (p : Parts) (w : ℕ) (view : LeafView) (m : MustAnswe
   page-right from next pairs e page = record {
     on = on-pages p w pairs m.on;
     asks = ap is_page (is ∙ e);
-    right = b.pages p.config power.On p.journal w view.at was.opened from next pairs was.sound reads (opened-is ∙ e) (record {
+    right = b.pages p.config p.at_start p.journal w view.at was.opened from next pairs was.sound reads (opened-is ∙ e) (record {
       leaf_end = page.next ∙ ap (λ i. leaf_end_in p.config i from) image-is;
       rises = page.rises;
       finds = λ key. page.finds key ∙ (ap (λ z. if is_from from key && z then content_in p.config (past.at view.at).image key else None) (same-below next key)

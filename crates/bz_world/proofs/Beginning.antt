@@ -165,8 +165,8 @@ module _ (p : Parts) (k : IsAwake p) (w : ℕ) (call : Call) (may : MayBegin p w
       power = t.power;
     }
 
-    sound : IsSound p.config power.On (with_mark p.journal mark)
-    sound = b.begins p.config power.On p.journal w n call k.sound (record { worker = omega (arith, may.worker); powered = is-on p k.tabled k.on; begins = record { numbered = numbered; none_open = at-rest.none_open } })
+    sound : IsSound p.config p.at_start (with_mark p.journal mark)
+    sound = b.begins p.config p.at_start p.journal w n call k.sound (record { worker = omega (arith, may.worker); powered = is-on p k.tabled k.on; begins = record { numbered = numbered; none_open = at-rest.none_open } })
 
     between : IsBetween mid w fresh
     between = record {
@@ -207,7 +207,7 @@ module _ (p : Parts) (k : IsAwake p) (w : ℕ) (call : Call) (may : MayBegin p w
     has-begun new is holds = record {
       kept = read-kept s mid w 2 must-start new is holds;
       number = numbered;
-      after = ap (λ fs. record { config = p.config; log = with_mark p.journal mark; flushes = fs; left_out = p.left_out.items }) flushes;
+      after = ap (λ fs. record { config = p.config; at_start = p.at_start; log = with_mark p.journal mark; flushes = fs; left_out = p.left_out.items }) flushes;
     }
       where
         flushes : map (λ (v : Working). v.flush_next) new.workers ≡ slice_set (map (λ (v : Working). v.flush_next) p.access.workers) w false

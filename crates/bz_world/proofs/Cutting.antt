@@ -36,7 +36,7 @@ abbrev cut-off : Parts → Vec (Option Serving) → ArrayVec Bool → Parts
 cut-off p workers flags = record p { access = after_cut p.access; journal = with_mark p.journal Cut; power = power.Off; workers = workers; left_out = flags }
 
 -- whatever the power was, if it was not off
-module _ (b : Laws) (p : Parts) (t : IsTabled p) (sound : IsSound p.config power.On p.journal) (not-off : p.power ≢ power.Off) (room : length p.journal.past + 3 ≤ p.config.marks)
+module _ (b : Laws) (p : Parts) (t : IsTabled p) (sound : IsSound p.config p.at_start p.journal) (not-off : p.power ≢ power.Off) (room : length p.journal.past + 3 ≤ p.config.marks)
     (workers : Vec (Option Serving)) (size : length workers.items ≡ length p.workers.items) (flags : ArrayVec Bool) where
   tabled : IsTabled (cut-off p workers flags)
   tabled = record {
@@ -57,16 +57,16 @@ module _ (b : Laws) (p : Parts) (t : IsTabled p) (sound : IsSound p.config power
     power = refl;
   }
 
-  no-cut : IsAfterCut power.On p.journal.past → ⊥
-  no-cut after = not-off (sym t.power ∙ (b.tells power.On (map_at_start p.config p.journal.start) p.journal.past sound.once).off.1 after)
+  no-cut : IsAfterCut p.at_start p.journal.past → ⊥
+  no-cut after = not-off (sym t.power ∙ (b.tells p.at_start (map_at_start p.config p.journal.start) p.journal.past sound.once).off.1 after)
 
-  sound-on : IsSound p.config power.On (with_mark p.journal Cut)
-  sound-on = b.follow p.config power.On p.journal sound no-cut
+  sound-on : IsSound p.config p.at_start (with_mark p.journal Cut)
+  sound-on = b.follow p.config p.at_start p.journal sound no-cut
 
   -- so it is seen
   lab-cut : flags.items ≡ map (λ (v : Working). v.flush_next) p.access.workers → lab_of (cut-off p workers flags) ≡ lab.after_cut (lab_of p)
-  lab-cut same = ap (λ left. record { config = p.config; log = with_mark p.journal Cut; flushes = map (λ (v : Working). v.flush_next) (after_cut p.access).workers; left_out = left }) same
-      ∙ ap (λ fs. record { config = p.config; log = with_mark p.journal Cut; flushes = fs; left_out = map (λ (v : Working). v.flush_next) p.access.workers }) (map-replicate (λ (v : Working). v.flush_next) (length p.access.workers) idle ∙ ap (λ n. replicate n false) t.crew)
+  lab-cut same = ap (λ left. record { config = p.config; at_start = p.at_start; log = with_mark p.journal Cut; flushes = map (λ (v : Working). v.flush_next) (after_cut p.access).workers; left_out = left }) same
+      ∙ ap (λ fs. record { config = p.config; at_start = p.at_start; log = with_mark p.journal Cut; flushes = fs; left_out = map (λ (v : Working). v.flush_next) p.access.workers }) (map-replicate (λ (v : Working). v.flush_next) (length p.access.workers) idle ∙ ap (λ n. replicate n false) t.crew)
 
 module _ (b : Laws) (p : Parts) (room : length p.journal.past + 3 ≤ p.config.marks) (workers : Vec (Option Serving)) (size : length workers.items ≡ length p.workers.items) (flags : ArrayVec Bool) (none : (w : ℕ) → get_or workers.items w None ≡ None) where
   awake-off : IsAwake p → IsOff (cut-off p workers flags)

@@ -53,7 +53,7 @@ module _ (b : EndLaws) (p : Parts) (w : ℕ) (on : MustGoOn p w) where
   was = on.between
 
   leaves-room : LeavesRoom p.journal.past was.opened.call
-  leaves-room = b.room p.config power.On p.journal w was.opened was.sound was.call_open.is_open
+  leaves-room = b.room p.config p.at_start p.journal w was.opened was.sound was.call_open.is_open
 
   -- there is room for the End, and for its page
   pub end-room : (n : ℕ) (reply : Reply) (at : ℕ) → length p.journal.past < p.config.marks → HasRoom p.journal (End w n reply at)
@@ -71,7 +71,7 @@ module _ (b : EndLaws) (p : Parts) (w : ℕ) (on : MustGoOn p w) where
 
   -- the number of the call
   pub number-is : slice_index p.numbers.items w ≡ was.opened.number
-  number-is = was.tabled.counted w in-table ∙ sym (b.last p.config power.On p.journal w was.opened was.sound was.call_open.is_open).last
+  number-is = was.tabled.counted w in-table ∙ sym (b.last p.config p.at_start p.journal w was.opened was.sound was.call_open.is_open).last
 
   pub number-read : (n : ℕ) → n ≡ get_or p.numbers.items w n → n ≡ slice_index p.numbers.items w
   number-read n e = get_or_read_under p.numbers.items w (length p.numbers.items) n 0 e (omega (arith, in-table, was.tabled.number_places)) refl
@@ -112,7 +112,7 @@ module _ (b : EndLaws) (p : Parts) (w : ℕ) (on : MustGoOn p w) where
       filled = λ j e. e;
     }) (was.others v ne)
 
-    module _ (pages : Pages) (sound : IsSound p.config power.On (record (with_mark p.journal mark) { pages = pages })) (room : length p.journal.past < p.config.marks) where
+    module _ (pages : Pages) (sound : IsSound p.config p.at_start (record (with_mark p.journal mark) { pages = pages })) (room : length p.journal.past < p.config.marks) where
       abbrev done : Parts
       done = record p { journal = record (with_mark p.journal mark) { pages = pages }; workers = with_item p.workers w None }
 
@@ -172,13 +172,14 @@ end-went b p w n reply at m number plain room = record {
     pages = ap (λ z. if z then count_page_ends p.journal.past + 1 else count_page_ends p.journal.past) plain ∙ omega arith;
   };
   config = refl;
+  at_start = refl;
   left_out = refl;
   others = λ v ne. refl;
 }
   where
-    sound : IsSound p.config power.On (with_mark p.journal (End w n reply at))
-    sound = subst (λ z. IsSound p.config power.On (with_mark p.journal (End w z reply at))) (sym (number ∙ number-is b p w m.on))
-        (b.ends p.config power.On p.journal (record { worker = w; opened = m.on.between.opened; reply = reply; at = at }) m.on.between.sound m.on.between.call_open.is_open plain m.right)
+    sound : IsSound p.config p.at_start (with_mark p.journal (End w n reply at))
+    sound = subst (λ z. IsSound p.config p.at_start (with_mark p.journal (End w z reply at))) (sym (number ∙ number-is b p w m.on))
+        (b.ends p.config p.at_start p.journal (record { worker = w; opened = m.on.between.opened; reply = reply; at = at }) m.on.between.sound m.on.between.call_open.is_open plain m.right)
 
 -- by the page that was put together
 pub end-page-went : EndLaws → (p : Parts) (w n page : ℕ) (next : Option (List ℕ)) (at : ℕ) → MustEndPage p w next at → n ≡ slice_index p.numbers.items w → page ≡ length p.journal.pages → length p.journal.past < p.config.marks
@@ -193,11 +194,12 @@ end-page-went b p w n page next at m number place room = record {
     pages = omega arith;
   };
   config = refl;
+  at_start = refl;
   left_out = refl;
   others = λ v ne. refl;
 }
   where
-    sound : IsSound p.config power.On (with_mark (with_page p.journal p.page) (End w n (Page page next) at))
-    sound = subst (λ z. IsSound p.config power.On (with_mark (with_page p.journal p.page) (End w z (Page page next) at))) (sym (number ∙ number-is b p w m.on))
-        (subst (λ z. IsSound p.config power.On (with_mark (with_page p.journal p.page) (End w m.on.between.opened.number (Page z next) at))) (sym place)
-        (b.pages p.config power.On p.journal (record { worker = w; opened = m.on.between.opened; reply = Page (length p.journal.pages) next; at = at }) p.page m.on.between.sound m.on.between.call_open.is_open refl m.right))
+    sound : IsSound p.config p.at_start (with_mark (with_page p.journal p.page) (End w n (Page page next) at))
+    sound = subst (λ z. IsSound p.config p.at_start (with_mark (with_page p.journal p.page) (End w z (Page page next) at))) (sym (number ∙ number-is b p w m.on))
+        (subst (λ z. IsSound p.config p.at_start (with_mark (with_page p.journal p.page) (End w m.on.between.opened.number (Page z next) at))) (sym place)
+        (b.pages p.config p.at_start p.journal (record { worker = w; opened = m.on.between.opened; reply = Page (length p.journal.pages) next; at = at }) p.page m.on.between.sound m.on.between.call_open.is_open refl m.right))

@@ -138,8 +138,8 @@ module _ (b : StepLaws) (sees : EvictionsAreSeen) (old new : Parts) (a : ℕ) (k
   is : image_after old.journal.start (Evict a ∷ old.journal.past) ≡ slice_index new.access.durable
   is = ap (λ z. slice_index z.durable) (sym (evict-marked old new a None k e))
 
-  sound : IsSound old.config power.On (with_mark old.journal (Evict a))
-  sound = b.journal.flush old.config power.On old.journal (Evict a) k.sound tt (is-not-off old k.tabled k.on) (b.journal.same old.config power.On old.journal (Evict a) k.sound tt
+  sound : IsSound old.config old.at_start (with_mark old.journal (Evict a))
+  sound = b.journal.flush old.config old.at_start old.journal (Evict a) k.sound tt (is-not-off old k.tabled k.on) (b.journal.same old.config old.at_start old.journal (Evict a) k.sound tt
       (subst (λ i. image_fault old.config i ≡ None) (sym is) passed.same.good.form)
       (λ key. ap (λ i. content_in old.config i key) is ∙ (passed.same.content key ∙ ap (λ i. content_in old.config i key) (sym was))))
 

@@ -27,6 +27,7 @@ mod Beginning
 mod Stepping
 mod FreshSlots
 mod Openings
+mod Booting
 mod Takings
 mod SpendingSlots
 mod MakingAnew

@@ -10,7 +10,7 @@ use Rattle.bz_mark.specs.WordsAfter.{words_of as words_after_marks, words_after,
 use Rattle.bz_mark.specs.declared.marks.Mark.{Mark}
 use Rattle.bz_pm.specs.Words.{Words}
 use Rattle.bz_sound.specs.Calls.{open_call, begun_calls}
-use Rattle.bz_sound.specs.declared.power.Power.TheVariants as power
+use Rattle.bz_sound.specs.declared.power.Power.{Power}
 use Rattle.bz_sound.specs.Power.Calls.{MayAct, MayFollow}
 use Rattle.bz_call.specs.Map.{Map}
 use Rattle.bz_swap.specs.SwapMemory.{SwapMemory, words_of}
@@ -36,11 +36,11 @@ act-found w old new log (Cas a before after found) same act within = subst (λ (
 act-found w old new log (Flush line) same act within = tt
 
 -- it may follow where the worker may act, and leaves every open call and every count
-pub act-follows : (start : Map) (past : List Mark) (w : ℕ) (made : Act) → MayAct power.On past w → MayFollow power.On start past (mark_of w made)
-act-follows start past w (Load a v) h = h
-act-follows start past w (Store a v) h = h
-act-follows start past w (Cas a old new found) h = h
-act-follows start past w (Flush line) h = h
+pub act-follows : (at_start : Power) (start : Map) (past : List Mark) (w : ℕ) (made : Act) → MayAct at_start past w → MayFollow at_start start past (mark_of w made)
+act-follows at_start start past w (Load a v) h = h
+act-follows at_start start past w (Store a v) h = h
+act-follows at_start start past w (Cas a old new found) h = h
+act-follows at_start start past w (Flush line) h = h
 
 pub act-calls : (v w : ℕ) (past : List Mark) (made : Act) → open_call v (mark_of w made ∷ past) ≡ open_call v past
 act-calls v w past (Load a x) = refl

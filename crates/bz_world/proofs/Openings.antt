@@ -15,6 +15,7 @@ use Rattle.bz_mark.specs.Log.{Log, count_begins, count_page_calls}
 use Rattle.bz_sound.specs.Calls.{open_call, begun_calls}
 use Rattle.bz_sound.specs.Power.Growth.{FreshJournalsAreSound}
 use Rattle.bz_sound.specs.Power.Times.{power_of, image_at_on}
+use Rattle.bz_sound.specs.declared.power.Power.{Power}
 use Rattle.bz_sound.specs.declared.power.Power.TheVariants as power
 use Rattle.bz_sound.specs.Power.Sound.{IsSound}
 use Rattle.bz_story.specs.Living.{IsLiving}
@@ -28,8 +29,8 @@ use Rattle.bz_world.specs.Inside.Beginning.{lab_of}
 use Rattle.bz_world.proofs.Powered.{kept-awake}
 use Rattle.bz_world.proofs.FreshSlots.{free-below, free-root, free-others}
 use Rattle.bz_world.specs.Inside.Kept.{IsTabled, AreTaken, AreFree, IsAwake, IsKept}
-use Rattle.bz_world.specs.Inside.Opening.{fresh_slots}
-use Rattle.bz_world.specs.Lab.{new_lab}
+use Rattle.bz_world.specs.Inside.Opening.{fresh_slots, IsMadeOver}
+use Rattle.bz_world.specs.Lab.{new_lab, lab_over}
 use Rattle.bz_world.specs.Inside.Serving.{IsSlot, IsAtRest}
 use Rattle.bz_world.specs.declared.parts.Parts.{Parts}
 use Rattle.bz_world.specs.declared.serving.Serving.{Serving}
@@ -42,20 +43,6 @@ pub record Laws : Type 0 where
   pub taken : BegunStayTaken
   pub sound : FreshJournalsAreSound
   pub living : FreshStoriesLive
-
--- what the opening has made
-pub record IsMade (p : Parts) : Type 0 where
-  pub config : IsConfig p.config
-  pub opened : IsOpened p.access (fresh_words p.config) p.config.swaps p.config.workers
-  pub holds : Holds p.access
-  pub journal : p.journal ≡ (new_lab p.config).log
-  pub workers : p.workers.items ≡ replicate 65 None
-  pub owners : p.owners.items ≡ replicate p.config.swaps 0
-  pub numbers : p.numbers.items ≡ replicate 65 0
-  pub begun : p.begun ≡ 0
-  pub pages_begun : p.pages_begun ≡ 0
-  pub slots : p.slots ≡ fresh_slots p.config
-  pub power : p.power ≡ power.On
 
 pub same-everywhere : {A : Type 0} (n w : ℕ) (x : A) → get_or (replicate n x) w x ≡ x
 same-everywhere n w x = elim (cases_lt w n) [
@@ -102,8 +89,8 @@ free-fresh b c config = record {
     below : (k : ℕ) → k < c.nodes → nat_lt k c.nodes ≡ true
     below k l = grind (arith, nat_tests)
 
-tabled : (p : Parts) → IsMade p → IsTabled p
-tabled p made = record {
+pub tabled : (start : List ℕ) (at_start : Power) (p : Parts) → IsMadeOver start at_start p → IsTabled p
+tabled start at_start p made = record {
   config = made.config;
   limits = ap (λ (l : Log). l.limits) made.journal;
   marks = omega (arith, no-marks);
@@ -118,7 +105,7 @@ tabled p made = record {
   page_calls = made.pages_begun ∙ ap count_page_calls (sym past);
   few_page_calls = omega (arith, made.pages_begun);
   steps = omega (arith, ap (λ (m : SwapMemory). m.steps) made.opened.is);
-  power = ap (power_of power.On) past ∙ sym made.power;
+  power = ap (λ (s : Power). power_of s p.journal.past) made.at_start ∙ (ap (power_of at_start) past ∙ sym made.power);
 }
   where
     past : p.journal.past ≡ []
@@ -127,7 +114,7 @@ tabled p made = record {
     no-marks : length p.journal.past ≡ 0
     no-marks = ap length past
 
-taken : Laws → (p : Parts) → IsMade p → AreTaken p
+taken : Laws → (p : Parts) → IsMadeOver (fresh_words p.config) power.On p → AreTaken p
 taken b p made = record {
   shown = λ s l t. absurd (t (ap (λ (m : SwapMemory). slice_index m.cached (swap_address s)) made.opened.is ∙ untaken b p.config made.config s));
   held = subst BegunAreTaken (sym made.opened.is) (b.taken.opening made.opened.phase (fresh_words p.config) p.config.swaps p.config.workers);
@@ -136,15 +123,15 @@ taken b p made = record {
   unused = λ s l. ap (λ (m : SwapMemory). has_effect m s) made.opened.is ∙ no-effect b p.config made.config s (nat_lt s p.config.swaps);
 }
 
-kept-open : Laws → (p : Parts) → IsMade p → IsAwake p
-kept-open b p made = record {
+kept-open : Laws → (p : Parts) → IsMadeOver (fresh_words p.config) power.On p → p.slots ≡ fresh_slots p.config → IsAwake p
+kept-open b p made slots = record {
   on = made.power;
   story = fresh_story p.config;
-  tabled = tabled p made;
+  tabled = tabled (fresh_words p.config) power.On p made;
   taken = taken b p made;
   living = subst (λ l. IsLiving p.config p.access l (fresh_story p.config)) (sym made.journal) (b.living p.config p.access ((new_lab p.config).log.limits) (record { config = made.config; opened = made.opened; holds = made.holds }));
-  sound = subst (IsSound p.config power.On) (sym made.journal) (sound b p.config made.config);
-  free = subst (λ log. AreFree p.config (image_at_on log.start log.past) p.slots (fresh_story p.config).took) (sym made.journal) (subst (λ slots. AreFree p.config (slice_index (fresh_words p.config)) slots (fresh_story p.config).took) (sym made.slots) (free-fresh b p.config made.config));
+  sound = subst (λ (s : Power). IsSound p.config s p.journal) (sym made.at_start) (subst (IsSound p.config power.On) (sym made.journal) (sound b p.config made.config));
+  free = subst (λ log. AreFree p.config (image_at_on log.start log.past) p.slots (fresh_story p.config).took) (sym made.journal) (subst (λ free. AreFree p.config (slice_index (fresh_words p.config)) free (fresh_story p.config).took) (sym slots) (free-fresh b p.config made.config));
   workers = λ w. subst (λ xs. IsSlot p.config p.access p.journal (fresh_story p.config) p.owners.items w (get_or xs w None)) (sym made.workers) (rest w (get_or (replicate 65 None) w None) (same-everywhere 65 w None));
 }
   where
@@ -152,26 +139,28 @@ kept-open b p made = record {
     rest w entry e = subst (IsSlot p.config p.access p.journal (fresh_story p.config) p.owners.items w) (sym e)
         (subst (λ m. IsAtRest m p.journal (fresh_story p.config) w) (sym made.opened.is) (subst (λ l. IsAtRest (opened made.opened.phase (fresh_words p.config) p.config.swaps p.config.workers) l (fresh_story p.config) w) (sym made.journal) (at-rest b p.config made.config made.opened.phase w)))
 
--- the same of parts whose memory and journal are known by other names
-pub kept-made : Laws → (p : Parts) (m : SwapMemory) (j : Log) → m ≡ p.access → j ≡ p.journal → IsMade (record p { access = m; journal = j }) → IsKept p
-kept-made b p m j access journal made = subst IsKept (λ t. record p { access = access t; journal = journal t }) (kept-awake (record p { access = m; journal = j }) (kept-open b (record p { access = m; journal = j }) made))
+-- over fresh memory a world is kept
+pub kept-fresh : Laws → (c : Config) (start : List ℕ) (p : Parts) → start ≡ fresh_words c → p.config ≡ c → p.slots ≡ fresh_slots c → IsMadeOver start power.On p → IsKept p
+kept-fresh b c start p fresh config slots made =
+    kept-awake p (kept-open b p (subst (λ words. IsMadeOver words power.On p) (fresh ∙ ap fresh_words (sym config)) made) (slots ∙ ap fresh_slots (sym config)))
 
--- a memory and a journal over these words
-pub opened-fresh : (m : SwapMemory) (start : List ℕ) (c : Config) → IsOpened m start c.swaps c.workers → start ≡ fresh_words c → IsOpened m (fresh_words c) c.swaps c.workers
-opened-fresh m start c o e = subst (λ words. IsOpened m words c.swaps c.workers) e o
+-- what is made, of parts whose memory and journal are known by other names
+pub made-over : (start : List ℕ) (at_start : Power) (p : Parts) (m : SwapMemory) (j : Log) → m ≡ p.access → j ≡ p.journal → IsMadeOver start at_start (record p { access = m; journal = j }) → IsMadeOver start at_start p
+made-over start at_start p m j access journal made = subst (IsMadeOver start at_start) (λ t. record p { access = access t; journal = journal t }) made
 
-pub fresh-journal : (j : Log) (start : List ℕ) (c : Config) → j.start ≡ start → start ≡ fresh_words c → j.past ≡ [] → j.pages ≡ [] → j.limits ≡ record { marks = c.marks; calls = c.calls; pages = c.pages }
-    → j ≡ (new_lab c).log
-fresh-journal j start c same fresh past pages limits = λ t. record { start = (same ∙ fresh) t; past = past t; pages = pages t; limits = limits t }
+pub opened-journal : (j : Log) (start : List ℕ) (at_start : Power) (c : Config) → j.start ≡ start → j.past ≡ [] → j.pages ≡ [] → j.limits ≡ record { marks = c.marks; calls = c.calls; pages = c.pages }
+    → j ≡ (lab_over c start at_start).log
+opened-journal j start at_start c same past pages limits = λ t. record { start = same t; past = past t; pages = pages t; limits = limits t }
 
 -- no worker's next act is a flush
 pub map-replicate : {A : Type 0} {B : Type 0} (f : A → B) (n : ℕ) (x : A) → map f (replicate n x) ≡ replicate n (f x)
 map-replicate f zero x = refl
 map-replicate f (suc n) x = ap (λ xs. f x ∷ xs) (map-replicate f n x)
 
-pub fresh-flushes : (access m : SwapMemory) (start : List ℕ) (c : Config) → m ≡ access → IsOpened m start c.swaps c.workers → map (λ (v : Working). v.flush_next) access.workers ≡ (new_lab c).flushes
-fresh-flushes access m start c same o = ap (λ (z : SwapMemory). map (λ (v : Working). v.flush_next) z.workers) (sym same) ∙ (ap (λ (z : SwapMemory). map (λ (v : Working). v.flush_next) z.workers) o.is ∙ map-replicate (λ (v : Working). v.flush_next) (c.workers + 1) idle)
-
--- so it is seen as new
-pub new-lab : (p : Parts) (c : Config) → p.config ≡ c → p.journal ≡ (new_lab c).log → (lab_of p).flushes ≡ (new_lab c).flushes → p.left_out.items ≡ (new_lab c).left_out → lab_of p ≡ new_lab c
-new-lab p c config journal flushes left_out = λ t. record { config = config t; log = journal t; flushes = flushes t; left_out = left_out t }
+-- so it is seen
+pub lab-made : (c : Config) (start : List ℕ) (at_start : Power) (p : Parts) → p.config ≡ c → IsMadeOver start at_start p → lab_of p ≡ lab_over c start at_start
+lab-made c start at_start p config made =
+    (λ t. record { config = p.config; at_start = made.at_start t; log = made.journal t; flushes = flushes t; left_out = made.left_out t }) ∙ ap (λ (d : Config). lab_over d start at_start) config
+  where
+    flushes : map (λ (v : Working). v.flush_next) p.access.workers ≡ replicate (p.config.workers + 1) false
+    flushes = ap (λ (m : SwapMemory). map (λ (v : Working). v.flush_next) m.workers) made.opened.is ∙ map-replicate (λ (v : Working). v.flush_next) (p.config.workers + 1) idle

@@ -47,9 +47,9 @@ flush-leaves Ready past f = absurd f
 flush-leaves (Effect w n) past f = absurd f
 
 -- a worker other than 0 may act while its call is open
-pub may-act : (past : List Mark) (w : ℕ) → 0 < w → HasOpenCall past w → MayAct power.On past w
-may-act past zero some h = absurd (omega (arith, some))
-may-act past (suc w) some h = h
+pub may-act : (at_start : Power) (past : List Mark) (w : ℕ) → 0 < w → HasOpenCall past w → MayAct at_start past w
+may-act at_start past zero some h = absurd (omega (arith, some))
+may-act at_start past (suc w) some h = h
 
 pub power-more : (at_start : Power) (past : List Mark) (mark : Mark) → LeavesPower past mark → power_of at_start (mark ∷ past) ≡ power_of at_start past
 power-more at_start past Cut h = absurd h
@@ -58,11 +58,11 @@ power-more at_start past Ready h = absurd h
 power-more at_start past mark h = refl
 
 -- the journal of a world whose power is on says so
-pub is-on : (p : Parts) → IsTabled p → p.power ≡ power.On → power_of power.On p.journal.past ≡ power.On
+pub is-on : (p : Parts) → IsTabled p → p.power ≡ power.On → power_of p.at_start p.journal.past ≡ power.On
 is-on p t on = t.power ∙ on
 
-pub is-not-off : (p : Parts) → IsTabled p → p.power ≡ power.On → power_of power.On p.journal.past ≢ power.Off
-is-not-off p t on e = let says : power_of power.On p.journal.past ≡ power.On = is-on p t on in absurd (cc (says, e))
+pub is-not-off : (p : Parts) → IsTabled p → p.power ≡ power.On → power_of p.at_start p.journal.past ≢ power.Off
+is-not-off p t on e = let says : power_of p.at_start p.journal.past ≡ power.On = is-on p t on in absurd (cc (says, e))
 
 -- what is kept by the power
 pub awake-in : (p : Parts) → IsKept p → p.power ≡ power.On → IsAwake p

@@ -20,7 +20,7 @@ use Rattle.bz_sound.specs.Calls.{Open, open_call, with_effect, map_after, map_at
 use Rattle.bz_sound.specs.Memory.ImageLaws.{IsChangeOf, ChangesKey, EffectFollows}
 use Rattle.bz_sound.specs.Memory.Moments.{image_after, map_at_start}
 use Rattle.bz_sound.specs.Memory.Spent.{NeedsSlots}
-use Rattle.bz_sound.specs.declared.power.Power.TheVariants as power
+use Rattle.bz_sound.specs.declared.power.Power.{Power}
 use Rattle.bz_sound.specs.Power.Sound.{IsSound}
 use Rattle.bz_story.specs.Laws.{HasBegun, GoesOn, goes_on, opened_after}
 use Rattle.bz_story.specs.Living.{IsLiving}
@@ -67,6 +67,9 @@ module _ (b : StrikeLaws) (p : Parts) (s : ℕ) (h : IsStriking p s) (publishes 
   abbrev log : Log
   log = (old b p s h).journal
 
+  abbrev at_start : Power
+  at_start = (old b p s h).at_start
+
   abbrev worker : ℕ
   worker = w b p s h
 
@@ -102,10 +105,10 @@ module _ (b : StrikeLaws) (p : Parts) (s : ℕ) (h : IsStriking p s) (publishes 
   }
 
   follows : EffectFollows c log h.mark worker its-open (change_of (x b p s h).task).old
-  follows = b.changes c power.On log h.mark worker its-open (change_of (x b p s h).task).old (change_of (x b p s h).task).new (kept b p s h).sound h.flush (its b p s h).call_open.is_open first is-change.1 (fault-is b p s h) changes-key
+  follows = b.changes c at_start log h.mark worker its-open (change_of (x b p s h).task).old (change_of (x b p s h).task).new (kept b p s h).sound h.flush (its b p s h).call_open.is_open first is-change.1 (fault-is b p s h) changes-key
 
-  pub sound : IsSound c power.On (with_mark (with_mark log h.mark) (Effect worker its-open.number))
-  sound = b.effects c power.On log h.mark worker its-open.number (kept b p s h).sound h.follows follows.may_follow follows.decodes
+  pub sound : IsSound c at_start (with_mark (with_mark log h.mark) (Effect worker its-open.number))
+  sound = b.effects c at_start log h.mark worker its-open.number (kept b p s h).sound h.follows follows.may_follow follows.decodes
 
   -- the Effect mark is no act: the same memory is seen
   abbrev with_flush : Log

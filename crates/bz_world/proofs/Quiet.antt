@@ -100,8 +100,8 @@ module _ (b : StepLaws) (old new : Parts) (w : ℕ) (x : Serving) (made : Act) (
   pub goes : GoesOn old.config old.access new.access old.journal k.story (mark_of w made)
   goes = record { living = k.living; passes = passes; marked = act-marked w old.access new.access old.journal made k.living.words a.step.one.act; powered = leaves-power w old.journal.past made }
 
-  pub sound : IsSound old.config power.On (with_mark old.journal (mark_of w made))
-  sound = act-sound b.journal old new k.story w made done None k.living k.sound a (may-act old.journal.past w (some-worker old k w x is-worker) (call-is-open old k w x is-worker)) passed
+  pub sound : IsSound old.config old.at_start (with_mark old.journal (mark_of w made))
+  sound = act-sound b.journal old new k.story w made done None k.living k.sound a (may-act old.at_start old.journal.past w (some-worker old k w x is-worker) (call-is-open old k w x is-worker)) passed
 
   -- what others do is the same
   pub same-other : (v : ℕ) → v ≢ w → SameFor old.access new.access v

@@ -60,25 +60,27 @@ asked-on go_on turns p seen next slots k on tells nodes learns = record {
 }
 
 -- one act, and the recovery goes on
-pub seen-stepped : (old mid new : Parts) (made : Act) (done : Done) (told : Option ℕ) → IsRawAct old made done told mid → new.journal ≡ mid.journal → new.config ≡ mid.config → new.left_out ≡ mid.left_out → ((v : ℕ) → v ≢ 0 → worker_of new.access v ≡ worker_of mid.access v)
+pub seen-stepped : (old mid new : Parts) (made : Act) (done : Done) (told : Option ℕ) → IsRawAct old made done told mid → new.journal ≡ mid.journal → new.config ≡ mid.config → new.at_start ≡ mid.at_start → new.left_out ≡ mid.left_out → ((v : ℕ) → v ≢ 0 → worker_of new.access v ≡ worker_of mid.access v)
     → Recovers (lab_of old) applied.Stepped (lab_of new)
-seen-stepped old mid new made done told a journal config left_out others = record {
+seen-stepped old mid new made done told a journal config at_start left_out others = record {
   made = made;
   flush = a.step.one.flush ∙ sym (flush-is old 0);
   ends = journal ∙ ap (λ (p : Parts). p.journal) a.rest;
   config = config ∙ ap (λ (p : Parts). p.config) a.rest;
+  at_start = at_start ∙ ap (λ (p : Parts). p.at_start) a.rest;
   left_out = ap (λ (flags : ArrayVec Bool). flags.items) (left_out ∙ ap (λ (p : Parts). p.left_out) a.rest);
   others = λ v ne. flush-same old new v (others v ne ∙ a.step.one.others.workers v ne);
 }
 
 -- or it has ended
-pub seen-woken : (old mid new : Parts) (made : Act) (done : Done) (told : Option ℕ) → IsRawAct old made done told mid → new.journal ≡ with_mark mid.journal Ready → new.config ≡ mid.config → new.left_out ≡ mid.left_out → ((v : ℕ) → v ≢ 0 → worker_of new.access v ≡ worker_of mid.access v)
+pub seen-woken : (old mid new : Parts) (made : Act) (done : Done) (told : Option ℕ) → IsRawAct old made done told mid → new.journal ≡ with_mark mid.journal Ready → new.config ≡ mid.config → new.at_start ≡ mid.at_start → new.left_out ≡ mid.left_out → ((v : ℕ) → v ≢ 0 → worker_of new.access v ≡ worker_of mid.access v)
     → Recovers (lab_of old) applied.Ready (lab_of new)
-seen-woken old mid new made done told a journal config left_out others = record {
+seen-woken old mid new made done told a journal config at_start left_out others = record {
   made = made;
   flush = a.step.one.flush ∙ sym (flush-is old 0);
   ends = journal ∙ ap (λ (p : Parts). with_mark p.journal Ready) a.rest;
   config = config ∙ ap (λ (p : Parts). p.config) a.rest;
+  at_start = at_start ∙ ap (λ (p : Parts). p.at_start) a.rest;
   left_out = ap (λ (flags : ArrayVec Bool). flags.items) (left_out ∙ ap (λ (p : Parts). p.left_out) a.rest);
   others = λ v ne. flush-same old new v (others v ne ∙ a.step.one.others.workers v ne);
 }

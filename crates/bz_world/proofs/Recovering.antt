@@ -49,7 +49,7 @@ same-mark (act.Cas a old new found) = refl
 same-mark (act.Flush line) = refl
 
 -- worker 0 may make any act, and its mark is one of recovery
-raw-follows : (p : Parts) (made : Act) → power_of power.On p.journal.past ≡ power.Recovering → MayFollow power.On (map_at_start p.config p.journal.start) p.journal.past (mark_of 0 made)
+raw-follows : (p : Parts) (made : Act) → power_of p.at_start p.journal.past ≡ power.Recovering → MayFollow p.at_start (map_at_start p.config p.journal.start) p.journal.past (mark_of 0 made)
 raw-follows p (act.Load a v) h = h
 raw-follows p (act.Store a v) h = h
 raw-follows p (act.Cas a old new found) h = h
@@ -65,7 +65,7 @@ module _ (b : Laws) (recovers : ActsAreMarked) (old new : Parts) (made : Act) (d
   abbrev dark : IsDark old
   dark = k.dark
 
-  abbrev log-power : power_of power.On old.journal.past ≡ power.Recovering
+  abbrev log-power : power_of old.at_start old.journal.past ≡ power.Recovering
   log-power = k.dark.tabled.power ∙ is
 
   pub marked-raw : RecoversIn old.config k.dark.values old.access new.access old.journal old.recovery made done told
@@ -84,20 +84,20 @@ module _ (b : Laws) (recovers : ActsAreMarked) (old new : Parts) (made : Act) (d
   becomes : image_after old.journal.start (mark_of 0 made ∷ old.journal.past) ≡ slice_index new.access.durable
   becomes = ap (λ z. slice_index z.durable) (sym words)
 
-  sound : IsSound old.config power.On (with_mark old.journal (mark_of 0 made))
+  sound : IsSound old.config old.at_start (with_mark old.journal (mark_of 0 made))
   sound = by-act made refl
     where
-      found-quietly : IsQuietAct (mark_of 0 made) → IsSound old.config power.On (with_mark old.journal (mark_of 0 made))
-      found-quietly q = b.quiet old.config power.On old.journal (mark_of 0 made) k.dark.sound q (raw-follows old made log-power) (act-found 0 old.access new.access old.journal made k.memory.words a.step.one.act a.step.one.within)
+      found-quietly : IsQuietAct (mark_of 0 made) → IsSound old.config old.at_start (with_mark old.journal (mark_of 0 made))
+      found-quietly q = b.quiet old.config old.at_start old.journal (mark_of 0 made) k.dark.sound q (raw-follows old made log-power) (act-found 0 old.access new.access old.journal made k.memory.words a.step.one.act a.step.one.within)
 
-      by-act : (x : Act) → made ≡ x → IsSound old.config power.On (with_mark old.journal (mark_of 0 made))
+      by-act : (x : Act) → made ≡ x → IsSound old.config old.at_start (with_mark old.journal (mark_of 0 made))
       by-act (act.Load d v) e = found-quietly (subst (λ (z : Act). IsQuietAct (mark_of 0 z)) (sym e) tt)
       by-act (act.Store d v) e = found-quietly (subst (λ (z : Act). IsQuietAct (mark_of 0 z)) (sym e) tt)
       by-act (act.Cas d o n f) e = found-quietly (subst (λ (z : Act). IsQuietAct (mark_of 0 z)) (sym e) tt)
       by-act (act.Flush line) e =
           let flushes : IsAfterFlush (mark_of 0 made ∷ old.journal.past) = subst (λ (z : Act). IsAfterFlush (mark_of 0 z ∷ old.journal.past)) (sym e) tt in
-          b.flush old.config power.On old.journal (mark_of 0 made) k.dark.sound flushes (raw-follows old made log-power)
-          (b.same old.config power.On old.journal (mark_of 0 made) k.dark.sound flushes (subst (λ i. image_fault old.config i ≡ None) (sym becomes) raw.same.well_formed)
+          b.flush old.config old.at_start old.journal (mark_of 0 made) k.dark.sound flushes (raw-follows old made log-power)
+          (b.same old.config old.at_start old.journal (mark_of 0 made) k.dark.sound flushes (subst (λ i. image_fault old.config i ≡ None) (sym becomes) raw.same.well_formed)
           (λ key. ap (λ i. content_in old.config i key) becomes ∙ (raw.same.content key ∙ ap (λ i. content_in old.config i key) (sym was))))
 
   tabled : IsTabled (record old { access = new.access; journal = with_mark old.journal (mark_of 0 made) })
@@ -116,7 +116,7 @@ module _ (b : Laws) (recovers : ActsAreMarked) (old new : Parts) (made : Act) (d
     page_calls = t.page_calls ∙ sym (act-counts 0 old.journal.past made).page_calls;
     few_page_calls = t.few_page_calls;
     steps = omega (arith, a.step.one.steps, t.steps);
-    power = power-more power.On old.journal.past (mark_of 0 made) (leaves-power 0 old.journal.past made) ∙ t.power;
+    power = power-more old.at_start old.journal.past (mark_of 0 made) (leaves-power 0 old.journal.past made) ∙ t.power;
   }
 
   -- the act is made, and the recovery is to be told
@@ -151,13 +151,13 @@ module _ (b : Laws) (leave : EvictionsAreMarked) (old new : Parts) (a : ℕ) (to
   abbrev stays : StaysRecovering old.config k.dark.values old.access new.access recovery.Started old.recovery told
   stays = evicts.stays
 
-  evict-sound : IsSound old.config power.On (with_mark old.journal (Evict a))
+  evict-sound : IsSound old.config old.at_start (with_mark old.journal (Evict a))
   evict-sound =
-      let follows : power_of power.On old.journal.past ≢ power.Off = λ off. let says = k.dark.tabled.power in absurd (cc (off, says, is)) in
+      let follows : power_of old.at_start old.journal.past ≢ power.Off = λ off. let says = k.dark.tabled.power in absurd (cc (off, says, is)) in
       let was : image_after old.journal.start old.journal.past ≡ slice_index old.access.durable = ap (λ z. slice_index z.durable) (sym k.memory.words) in
       let becomes : image_after old.journal.start (Evict a ∷ old.journal.past) ≡ slice_index new.access.durable = ap (λ z. slice_index z.durable) (sym evicts.marked.words) in
-      b.flush old.config power.On old.journal (Evict a) k.dark.sound tt follows
-      (b.same old.config power.On old.journal (Evict a) k.dark.sound tt (subst (λ i. image_fault old.config i ≡ None) (sym becomes) stays.same.well_formed)
+      b.flush old.config old.at_start old.journal (Evict a) k.dark.sound tt follows
+      (b.same old.config old.at_start old.journal (Evict a) k.dark.sound tt (subst (λ i. image_fault old.config i ≡ None) (sym becomes) stays.same.well_formed)
       (λ key. ap (λ i. content_in old.config i key) becomes ∙ (stays.same.content key ∙ ap (λ i. content_in old.config i key) (sym was))))
 
   evict-tabled : IsTabled (record old { access = new.access; journal = with_mark old.journal (Evict a) })

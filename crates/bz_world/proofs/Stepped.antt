@@ -53,7 +53,7 @@ act-tabled old new w made done told t a room = subst IsTabled (sym a.rest) (reco
   page_calls = t.page_calls ∙ sym (act-counts w old.journal.past made).page_calls;
   few_page_calls = t.few_page_calls;
   steps = omega (arith, a.step.one.steps, t.steps);
-  power = power-more power.On old.journal.past (mark_of w made) (leaves-power w old.journal.past made) ∙ t.power;
+  power = power-more old.at_start old.journal.past (mark_of w made) (leaves-power w old.journal.past made) ∙ t.power;
 })
 
 -- a descriptor that the journal shows taken stays so
@@ -111,8 +111,8 @@ pub held : (m : SwapMemory) → m.phase ≢ Recovering → Holds m → IsHeld m
 held m ne h = held-in m m.phase ne h
 
 -- by an act that leaves the content the journal stays sound
-pub act-sound : JournalLaws → (old new : Parts) (story : Story) (w : ℕ) (made : Act) (done : Done) (told : Option ℕ) → IsLiving old.config old.access old.journal story → IsSound old.config power.On old.journal → IsActed old w made done told new
-    → MayAct power.On old.journal.past w → Passed old.config (story.at (length old.journal.past)) new.access → IsSound old.config power.On (with_mark old.journal (mark_of w made))
+pub act-sound : JournalLaws → (old new : Parts) (story : Story) (w : ℕ) (made : Act) (done : Done) (told : Option ℕ) → IsLiving old.config old.access old.journal story → IsSound old.config old.at_start old.journal → IsActed old w made done told new
+    → MayAct old.at_start old.journal.past w → Passed old.config (story.at (length old.journal.past)) new.access → IsSound old.config old.at_start (with_mark old.journal (mark_of w made))
 act-sound b old new story w made done told living sound a opened passed = by-act made refl
   where
     was : image_after old.journal.start old.journal.past ≡ (story.at (length old.journal.past)).image
@@ -121,12 +121,12 @@ act-sound b old new story w made done told living sound a opened passed = by-act
     is : image_after old.journal.start (mark_of w made ∷ old.journal.past) ≡ (next_instant new.access (story.at (length old.journal.past))).image
     is = ap (λ z. slice_index z.durable) (sym (act-marked w old.access new.access old.journal made living.words a.step.one.act))
 
-    by-act : (x : Act) → made ≡ x → IsSound old.config power.On (with_mark old.journal (mark_of w made))
-    by-act (Load d v) e = b.quiet old.config power.On old.journal (mark_of w made) sound (subst (λ (z : Act). IsQuietAct (mark_of w z)) (sym e) tt) (act-follows _ old.journal.past w made opened) (act-found w old.access new.access old.journal made living.words a.step.one.act a.step.one.within)
-    by-act (Store d v) e = b.quiet old.config power.On old.journal (mark_of w made) sound (subst (λ (z : Act). IsQuietAct (mark_of w z)) (sym e) tt) (act-follows _ old.journal.past w made opened) (act-found w old.access new.access old.journal made living.words a.step.one.act a.step.one.within)
-    by-act (Cas d o n f) e = b.quiet old.config power.On old.journal (mark_of w made) sound (subst (λ (z : Act). IsQuietAct (mark_of w z)) (sym e) tt) (act-follows _ old.journal.past w made opened) (act-found w old.access new.access old.journal made living.words a.step.one.act a.step.one.within)
+    by-act : (x : Act) → made ≡ x → IsSound old.config old.at_start (with_mark old.journal (mark_of w made))
+    by-act (Load d v) e = b.quiet old.config old.at_start old.journal (mark_of w made) sound (subst (λ (z : Act). IsQuietAct (mark_of w z)) (sym e) tt) (act-follows _ _ old.journal.past w made opened) (act-found w old.access new.access old.journal made living.words a.step.one.act a.step.one.within)
+    by-act (Store d v) e = b.quiet old.config old.at_start old.journal (mark_of w made) sound (subst (λ (z : Act). IsQuietAct (mark_of w z)) (sym e) tt) (act-follows _ _ old.journal.past w made opened) (act-found w old.access new.access old.journal made living.words a.step.one.act a.step.one.within)
+    by-act (Cas d o n f) e = b.quiet old.config old.at_start old.journal (mark_of w made) sound (subst (λ (z : Act). IsQuietAct (mark_of w z)) (sym e) tt) (act-follows _ _ old.journal.past w made opened) (act-found w old.access new.access old.journal made living.words a.step.one.act a.step.one.within)
     by-act (Flush line) e =
         let flushes : IsAfterFlush (mark_of w made ∷ old.journal.past) = subst (λ (z : Act). IsAfterFlush (mark_of w z ∷ old.journal.past)) (sym e) tt in
-        b.flush old.config power.On old.journal (mark_of w made) sound flushes (act-follows _ old.journal.past w made opened)
-        (b.same old.config power.On old.journal (mark_of w made) sound flushes (subst (λ i. image_fault old.config i ≡ None) (sym is) passed.same.good.form)
+        b.flush old.config old.at_start old.journal (mark_of w made) sound flushes (act-follows _ _ old.journal.past w made opened)
+        (b.same old.config old.at_start old.journal (mark_of w made) sound flushes (subst (λ i. image_fault old.config i ≡ None) (sym is) passed.same.good.form)
         (λ key. ap (λ i. content_in old.config i key) is ∙ (passed.same.content key ∙ ap (λ i. content_in old.config i key) (sym was))))

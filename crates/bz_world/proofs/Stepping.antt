@@ -28,19 +28,21 @@ stepped-on old new w a = record {
   effect = a.struck;
   ends = a.journal;
   config = ap (λ (p : Parts). p.config) a.rest;
+  at_start = ap (λ (p : Parts). p.at_start) a.rest;
   left_out = ap (λ (p : Parts). p.left_out.items) a.rest;
   others = λ v ne. flush-same old new v (a.others v ne);
 }
 
 -- an act that ended what was asked for, and then what comes of that
-pub stepped-through : (old mid told new : Parts) (w : ℕ) (answer : Applied) → HasActed old w mid → told.journal ≡ mid.journal → told.config ≡ mid.config → told.left_out ≡ mid.left_out → told.access ≡ mid.access → WentOn told w answer new → Steps (lab_of old) w answer (lab_of new)
-stepped-through old mid told new w answer a journal config left_out access went = record {
+pub stepped-through : (old mid told new : Parts) (w : ℕ) (answer : Applied) → HasActed old w mid → told.journal ≡ mid.journal → told.config ≡ mid.config → told.at_start ≡ mid.at_start → told.left_out ≡ mid.left_out → told.access ≡ mid.access → WentOn told w answer new → Steps (lab_of old) w answer (lab_of new)
+stepped-through old mid told new w answer a journal config at_start left_out access went = record {
   made = a.made;
   flush = a.flush ∙ sym (flush-is old w);
   struck = mid.journal.past;
   effect = a.struck;
   ends = subst (λ (j : Log). GoesOn j w answer new.journal) (journal ∙ a.journal) went.ends;
   config = went.config ∙ (config ∙ ap (λ (p : Parts). p.config) a.rest);
+  at_start = went.at_start ∙ (at_start ∙ ap (λ (p : Parts). p.at_start) a.rest);
   left_out = ap (λ (flags : ArrayVec Bool). flags.items) (went.left_out ∙ (left_out ∙ ap (λ (p : Parts). p.left_out) a.rest));
   others = λ v ne. flush-same old new v (went.others v ne ∙ (ap (λ (m : SwapMemory). worker_of m v) access ∙ a.others v ne));
 }

@@ -94,7 +94,7 @@ module _ (b : StrikeLaws) (p : Parts) (s : ℕ) (h : IsStriking p s) (v : ℕ) (
     where
       number-is : n ≡ (its b p s h).opened.number
       number-is = number ∙ (ap (λ (q : Parts). slice_index q.numbers.items v) h.rest ∙ (ap (λ u. slice_index h.before.numbers.items u) worker-is ∙ (h.kept.tabled.counted (w b p s h) (subst (λ u. u < 65) worker-is in-table)
-          ∙ sym (b.last h.before.config power.On h.before.journal (w b p s h) (its b p s h).opened h.kept.sound (its b p s h).call_open.is_open).last)))
+          ∙ sym (b.last h.before.config h.before.at_start h.before.journal (w b p s h) (its b p s h).opened h.kept.sound (its b p s h).call_open.is_open).last)))
 
       moment-is : length p.journal.past ≡ suc (length h.before.journal.past)
       moment-is = ap (λ (q : Parts). length q.journal.past) h.rest

@@ -67,8 +67,8 @@ module _ (b : StrikeLaws) (p : Parts) (s : ℕ) (h : IsStriking p s) where
         subst (λ z. ContentFollows z (change_of (x b p s h).task) (old b p s h).config (here (before b p s h)) (effect_instant (old b p s h).config p.access ((kept b p s h).story.at (length (old b p s h).journal.past)))) silent (good b p s h).content in
         ap (λ i. content_in (old b p s h).config i key) image-is ∙ (follows key ∙ ap (λ i. content_in (old b p s h).config i key) (sym image-was))
 
-    sound : IsSound (old b p s h).config power.On (with_mark (old b p s h).journal h.mark)
-    sound = b.flushes (old b p s h).config power.On (old b p s h).journal h.mark (kept b p s h).sound h.flush h.follows (b.same (old b p s h).config power.On (old b p s h).journal h.mark (kept b p s h).sound h.flush fault-is same-content)
+    sound : IsSound (old b p s h).config (old b p s h).at_start (with_mark (old b p s h).journal h.mark)
+    sound = b.flushes (old b p s h).config (old b p s h).at_start (old b p s h).journal h.mark (kept b p s h).sound h.flush h.follows (b.same (old b p s h).config (old b p s h).at_start (old b p s h).journal h.mark (kept b p s h).sound h.flush fault-is same-content)
 
     serves-on : IsServing (old b p s h).config p.access (with_mark (old b p s h).journal h.mark) (after b p s h) (old b p s h).owners.items (w b p s h) (x b p s h)
     serves-on = record {

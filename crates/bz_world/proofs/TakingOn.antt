@@ -204,11 +204,12 @@ abbrev pub must-answer : (p : Parts) (w : ℕ) (todo : Todo) (view : LeafView) (
 must-answer p w todo view m outcome ended = record { on = must-go-on p w todo m.must outcome ended; viewed = m.knows.viewed; leads = m.knows.leads; quiet = m.knows.quiet }
 
 -- a call that went on from parts with other slots and tasks
-pub went-told : (old mid : Parts) (w : ℕ) (answer : Applied) (new : Parts) → mid.journal ≡ old.journal → mid.config ≡ old.config → mid.left_out ≡ old.left_out → mid.access ≡ old.access → WentOn mid w answer new → WentOn old w answer new
-went-told old mid w answer new journal config left_out access went = record {
+pub went-told : (old mid : Parts) (w : ℕ) (answer : Applied) (new : Parts) → mid.journal ≡ old.journal → mid.config ≡ old.config → mid.at_start ≡ old.at_start → mid.left_out ≡ old.left_out → mid.access ≡ old.access → WentOn mid w answer new → WentOn old w answer new
+went-told old mid w answer new journal config at_start left_out access went = record {
   kept = went.kept;
   ends = subst (λ j. GoesOn j w answer new.journal) journal went.ends;
   config = went.config ∙ config;
+  at_start = went.at_start ∙ at_start;
   left_out = went.left_out ∙ left_out;
   others = λ v ne. went.others v ne ∙ ap (λ m. worker_of m v) access;
 }

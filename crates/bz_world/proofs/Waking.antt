@@ -72,7 +72,7 @@ module _ (b : Begins) (p : Parts) (k : IsOff p) (off : p.power ≡ power.Off) (r
         steps = omega (arith, t.steps);
         power = refl;
       };
-      sound = b.follow p.config power.On p.journal k.dark.sound ((b.tells power.On (map_at_start p.config p.journal.start) p.journal.past k.dark.sound.once).off.0 (k.dark.tabled.power ∙ off));
+      sound = b.follow p.config p.at_start p.journal k.dark.sound ((b.tells p.at_start (map_at_start p.config p.journal.start) p.journal.past k.dark.sound.once).off.0 (k.dark.tabled.power ∙ off));
       none = k.dark.none;
       slots = nodes ∙ k.dark.slots;
       values = k.dark.values;
@@ -158,7 +158,7 @@ module _ (b : Ends) (p : Parts) (k : MustWake p) (order : IsInOrder p.slots) (ho
       unused = λ s l. reborn.revived.unused s;
     };
     living = reborn.living holds;
-    sound = b.follow p.config power.On p.journal k.recovering.dark.sound k.after;
+    sound = b.follow p.config p.at_start p.journal k.recovering.dark.sound k.after;
     free = record {
       nodes = reached.nodes;
       within = within;
@@ -180,9 +180,9 @@ wakes b p k order room access journal is holds marked = subst (λ (j : Log). Wak
 
 -- power on as it is seen: worker 0's first act is no flush
 pub seen-on : (p q : Parts) (journal : Log) (next : Recover) (slots : FreeSlots) → journal ≡ with_mark p.journal On → q ≡ record p { access = q.access; journal = journal; power = power.Recovering; recovery = next; slots = slots } → q.access ≡ started p.access 0 (Loading 0) → lab_of q ≡ lab.after_on (lab_of p)
-seen-on p q journal next slots marked rest is = ap lab_of rest ∙ (ap (λ (m : SwapMemory). record { config = p.config; log = journal; flushes = map (λ (v : Working). v.flush_next) m.workers; left_out = p.left_out.items }) is
-    ∙ (ap (λ (j : Log). record { config = p.config; log = j; flushes = map (λ (v : Working). v.flush_next) (started p.access 0 (Loading 0)).workers; left_out = p.left_out.items }) marked
-    ∙ ap (λ fs. record { config = p.config; log = with_mark p.journal On; flushes = fs; left_out = p.left_out.items }) (map-set (λ (v : Working). v.flush_next) p.access.workers 0 (record { doing = Loading 0; flush_next = false }))))
+seen-on p q journal next slots marked rest is = ap lab_of rest ∙ (ap (λ (m : SwapMemory). record { config = p.config; at_start = p.at_start; log = journal; flushes = map (λ (v : Working). v.flush_next) m.workers; left_out = p.left_out.items }) is
+    ∙ (ap (λ (j : Log). record { config = p.config; at_start = p.at_start; log = j; flushes = map (λ (v : Working). v.flush_next) (started p.access 0 (Loading 0)).workers; left_out = p.left_out.items }) marked
+    ∙ ap (λ fs. record { config = p.config; at_start = p.at_start; log = with_mark p.journal On; flushes = fs; left_out = p.left_out.items }) (map-set (λ (v : Working). v.flush_next) p.access.workers 0 (record { doing = Loading 0; flush_next = false }))))
 
 pub begun-on : (b : Begins) (p : Parts) (k : IsOff p) (off : p.power ≡ power.Off) (room : length p.journal.past + 3 ≤ p.config.marks) (first next : Recover) (slots : FreeSlots) (new : recovery.IsNew p.config first) (on : recovery.IsNext first Start next)
     → slots.nodes ≡ p.slots.nodes → Learns first p.slots Start next slots → WalksIn first k.dark.values p.slots → (journal : Log) → journal ≡ with_mark p.journal On

@@ -1,11 +1,12 @@
 -- What callers see of a world, and what it answers.
-use Rattle.std.specs.Prelude.{◌≡◌, ◌≢◌, ◌<◌, ◌≤◌, ◌⊎◌, ℕ, zero, suc, ◌+◌, ◌-◌, Bool, false, ◌==◌, ◌||◌, ◌&&◌, nat_lt, nat_le, if◌then◌else◌, is_some, is_none, get_or, slice_set, replicate, List, [], ◌∷◌, ◌++◌, length, Option, Some, None, MatchOption}
+use Rattle.std.specs.Prelude.{◌≡◌, ◌≢◌, ◌<◌, ◌≤◌, ◌⊎◌, ℕ, zero, suc, ◌+◌, ◌-◌, Bool, false, ◌==◌, ◌||◌, ◌&&◌, nat_lt, nat_le, if◌then◌else◌, is_some, is_none, get_or, slice_set, slice_index, replicate, List, [], ◌∷◌, ◌++◌, length, Option, Some, None, MatchOption}
 use Rattle.bz_acts.specs.Rule.{is_flush_act}
 use Rattle.bz_acts.specs.declared.acted.Act.{Act}
 use Rattle.bz_acts.specs.declared.acted.Act.TheVariants as act
 use Rattle.bz_call.specs.Pages.{is_page}
 use Rattle.bz_call.specs.declared.calls.Call.{Call}
 use Rattle.bz_call.specs.declared.replies.Reply.{Reply}
+use Rattle.bz_content.specs.Content.{image_fault}
 use Rattle.bz_layout.specs.Addresses.{words_of}
 use Rattle.bz_layout.specs.Config.{IsConfig, IsFirstOutOfRange}
 use Rattle.bz_layout.specs.Fresh.{fresh_words}
@@ -24,14 +25,17 @@ use Rattle.bz_world.specs.declared.answers.Begun.{Begun}
 use Rattle.bz_world.specs.declared.answers.Begun.TheVariants as begun
 use Rattle.bz_world.specs.declared.answers.Event.{Event}
 use Rattle.bz_world.specs.declared.answers.Event.TheVariants as event
+use Rattle.bz_world.specs.declared.answers.BootError.{BootError}
+use Rattle.bz_world.specs.declared.answers.BootError.TheVariants as boot_error
 use Rattle.bz_world.specs.declared.answers.OpenError.{OpenError}
 use Rattle.bz_world.specs.declared.answers.OpenError.TheVariants as open_error
 use Rattle.bz_world.specs.declared.answers.Which.TheVariants as which
 
--- the numbers that the world was made with, its journal, and of each worker, from worker 0 on, whether its next act is a flush, and
+-- the numbers that the world was made with, what the power was at first, its journal, and of each worker, from worker 0 on, whether its next act is a flush, and
 -- whether it was one when the power was cut last; before the first cut nobody has a flag of that kind
 pub record Lab : Type 0 where
   pub config : Config
+  pub at_start : Power
   pub log : Log
   pub flushes : List Bool
   pub left_out : List Bool
@@ -44,23 +48,38 @@ flush_of lab w = get_or lab.flushes w false
 abbrev pub flush_left_out : Lab → ℕ → Bool
 flush_left_out lab w = get_or lab.left_out w false
 
--- a world over fresh memory, in which nothing has happened
-abbrev pub new_lab : Config → Lab
-new_lab config = record {
+-- a world over these words, in which nothing has happened
+abbrev pub lab_over : Config → List ℕ → Power → Lab
+lab_over config start at_start = record {
   config = config;
-  log = record { start = fresh_words config; past = []; pages = []; limits = record { marks = config.marks; calls = config.calls; pages = config.pages } };
+  at_start = at_start;
+  log = record { start = start; past = []; pages = []; limits = record { marks = config.marks; calls = config.calls; pages = config.pages } };
   flushes = replicate (config.workers + 1) false;
   left_out = [];
 }
 
--- what the power is: on at first
+-- over fresh memory its power is on
+abbrev pub new_lab : Config → Lab
+new_lab config = lab_over config (fresh_words config) power.On
+
+-- over an image, such as a power cut leaves, it is off
+abbrev pub image_lab : Config → List ℕ → Lab
+image_lab config image = lab_over config image power.Off
+
+-- what the power is
 abbrev pub power_in : Lab → Power
-power_in lab = power_of power.On lab.log.past
+power_in lab = power_of lab.at_start lab.log.past
 
 -- why no world was opened: the first number out of its range, or want of memory, and then none is
 abbrev pub IsOpenFault : Config → OpenError → Type 0
 IsOpenFault config (open_error.Config error) = IsFirstOutOfRange config error
 IsOpenFault config open_error.Memory = IsConfig config
+
+-- why none was opened over an image: the first number out of its range, the first rule that the image breaks, or want of memory
+abbrev pub IsBootFault : Config → List ℕ → BootError → Type 0
+IsBootFault config image (boot_error.Config error) = IsFirstOutOfRange config error
+IsBootFault config image (boot_error.Shape fault) = IsConfig config × (image_fault config (slice_index image) ≡ Some fault)
+IsBootFault config image boot_error.Memory = IsConfig config
 
 -- the workers that make calls
 pub record IsWorker (config : Config) (w : ℕ) : Type 0 where
@@ -179,6 +198,7 @@ pub record Steps (old : Lab) (w : ℕ) (answer : Applied) (new : Lab) : Type 0 w
   pub effect : IsStruck (mark_of w made ∷ old.log.past) struck
   pub ends : GoesOn (record old.log { past = struck }) w answer new.log
   pub config : new.config ≡ old.config
+  pub at_start : new.at_start ≡ old.at_start
   pub left_out : new.left_out ≡ old.left_out
   pub others : (v : ℕ) → v ≢ w → flush_of new v ≡ flush_of old v
 
@@ -194,6 +214,7 @@ pub record Recovers (old : Lab) (answer : Applied) (new : Lab) : Type 0 where
   pub flush : is_flush_act made ≡ flush_of old 0
   pub ends : EndsRecovery (with_mark old.log (mark_of 0 made)) answer new.log
   pub config : new.config ≡ old.config
+  pub at_start : new.at_start ≡ old.at_start
   pub left_out : new.left_out ≡ old.left_out
   pub others : (v : ℕ) → v ≢ 0 → flush_of new v ≡ flush_of old v
 

@@ -1,5 +1,6 @@
 //! What is asked of a world, and what it answers.
 use bz_layout::ConfigError;
+use bz_shape::ShapeFault;
 
 /// A limit of the journal.
 #[derive(Clone, Copy, Debug, PartialEq, Eq)]
@@ -29,6 +30,14 @@ pub enum Event {
 #[derive(Clone, Copy, Debug, PartialEq, Eq)]
 pub enum OpenError {
     Config(ConfigError),
+    Memory,
+}
+
+/// Why no world was opened over an image.
+#[derive(Clone, Copy, Debug, PartialEq, Eq)]
+pub enum BootError {
+    Config(ConfigError),
+    Shape(ShapeFault),
     Memory,
 }
 

@@ -4,6 +4,7 @@
 mod act;
 mod answers;
 mod begin;
+mod boot;
 mod calls;
 mod changes;
 mod end;
@@ -24,6 +25,6 @@ mod tell;
 mod tests;
 mod world;
 
-pub use answers::{Applied, Begun, Event, OpenError, Which};
+pub use answers::{Applied, Begun, BootError, Event, OpenError, Which};
 pub use bz_sound::Power;
 pub use world::World;

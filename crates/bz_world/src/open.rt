@@ -1,10 +1,11 @@
 //! Openings: a world over fresh memory.
-ghost use Rattle.std.specs.Prelude.{◌≡◌, IfOk, IfErr, replicate, None};
+ghost use Rattle.std.specs.Prelude.{◌≡◌, IfOk, IfErr, replicate, None, length};
 ghost use Rattle.bz_layout.specs.Config.{IsConfig};
+ghost use Rattle.bz_layout.specs.Addresses.{words_of};
 ghost use Rattle.bz_world.specs.Inside.Beginning.{lab_of};
 ghost use Rattle.bz_world.specs.Inside.Kept.{IsKept};
 ghost use Rattle.bz_world.specs.Lab.{IsOpenFault, new_lab};
-ghost use Rattle.bz_world.specs.Inside.Opening.{fresh_slots};
+ghost use Rattle.bz_world.specs.Inside.Opening.{fresh_slots, IsMadeOver};
 
 use crate::answers::OpenError;
 use crate::parts::Parts;
@@ -36,36 +37,33 @@ fn none_table<T: Drop>(alloc: Global, places: usize) -> Result<Vec<Option<T>>, M
     Ok(table)
 }
 
-// The parts of a world over fresh memory.
-fn fresh_parts(alloc: Global, config: &Config) -> Result<Parts, Memory>
-    requires { IsConfig config.now }
+/// The parts of a world over these words, in which nothing has happened.
+pub(crate) fn parts_over(
+    alloc: Global,
+    config: &Config,
+    start: &[u64],
+    at_start: Power,
+    slots: Slots,
+) -> Result<Parts, Memory>
+    requires config { IsConfig config.now }
+    requires whole { length start.now ≡ words_of config.now }
     ensures config { IfOk result (λ parts. parts.config ≡ config.now) }
-    ensures journal { IfOk result (λ parts. parts.journal ≡ (new_lab config.now).log) }
-    ensures slots { IfOk result (λ parts. parts.slots ≡ fresh_slots config.now) }
-    ensures flushes { IfOk result (λ parts. (lab_of parts).flushes ≡ (new_lab config.now).flushes) }
-    ensures left_out { IfOk result (λ parts. parts.left_out.items ≡ (new_lab config.now).left_out) }
-    ensures kept { IfOk result IsKept }
+    ensures slots { IfOk result (λ parts. parts.slots ≡ slots) }
+    ensures made { IfOk result (IsMadeOver start.now at_start) }
 {
     bz_layout::addresses_fit();
-    bz_layout::fresh_words_say();
-    bz_content::laws::fresh_memory_is_empty();
-    bz_content::laws::fresh_memory_reaches_slot_zero();
-    bz_swap::laws::begun_stay_taken();
-    bz_sound::power_laws::fresh_journals_are_sound();
-    bz_story::laws::fresh_stories_live();
-    let start = bz_layout::fresh(alloc, config)?;
-    let access = Access::open(alloc, &start, config.swaps, config.workers)?;
-    let journal = Journal::open(alloc, &start, config.marks, config.calls, config.pages)?;
-    let mut slots = Slots::open(alloc, config.nodes)?;
-    slots.hold(ROOT_SLOT);
+    let access = Access::open(alloc, start, config.swaps, config.workers)?;
+    let journal = Journal::open(alloc, start, config.marks, config.calls, config.pages)?;
+    let workers = none_table(alloc, PLACES)?;
     Ok(Parts {
         config: *config,
         access,
         slots,
         journal,
-        power: Power::On,
+        at_start,
+        power: at_start,
         recovery: Recover::new(config),
-        workers: none_table(alloc, PLACES)?,
+        workers,
         owners: vec![in alloc; 0u8; config.swaps as usize]?,
         numbers: vec![in alloc; 0u32; PLACES]?,
         page: PageBuf::open(alloc)?,
@@ -73,6 +71,26 @@ fn fresh_parts(alloc: Global, config: &Config) -> Result<Parts, Memory>
         begun: 0,
         pages_begun: 0,
     })
+}
+
+// The parts of a world over fresh memory.
+fn fresh_parts(alloc: Global, config: &Config) -> Result<Parts, Memory>
+    requires { IsConfig config.now }
+    ensures kept { IfOk result IsKept }
+    ensures slots { IfOk result (λ parts. parts.slots ≡ fresh_slots config.now) }
+    ensures lab { IfOk result (λ parts. lab_of parts ≡ new_lab config.now) }
+{
+    bz_layout::fresh_words_say();
+    bz_content::laws::fresh_memory_is_empty();
+    bz_content::laws::fresh_memory_reaches_slot_zero();
+    bz_swap::laws::begun_stay_taken();
+    bz_sound::power_laws::fresh_journals_are_sound();
+    bz_story::laws::fresh_stories_live();
+    let start = bz_layout::fresh(alloc, config)?;
+    let mut slots = Slots::open(alloc, config.nodes)?;
+    slots.hold(ROOT_SLOT);
+    let parts = parts_over(alloc, config, &start, Power::On, slots)?;
+    Ok(parts)
 }
 
 /// A world over fresh memory, in which nothing has happened.

@@ -15,6 +15,8 @@ pub(crate) struct Parts {
     pub access: Access,
     pub slots: Slots,
     pub journal: Journal,
+    /// What the power was when the journal began.
+    pub at_start: Power,
     pub power: Power,
     /// What worker 0 does while the power is recovering.
     pub recovery: Recover,

@@ -2,6 +2,7 @@
 
 mod below;
 mod bench;
+mod boot;
 mod calls;
 mod costs;
 mod decode;

@@ -1,5 +1,6 @@
 //! Worlds.
-ghost use Rattle.std.specs.Prelude.{IsTrue, ◌↔◌, ◌≡◌, ◌≢◌, ◌<◌, ◌≤◌, OnOk, IfOk, IfErr, None, ℕ, slice_index};
+ghost use Rattle.std.specs.Prelude.{IsTrue, ◌↔◌, ◌≡◌, ◌≢◌, ◌<◌, ◌≤◌, OnOk, IfOk, length, IfErr, None, ℕ, slice_index};
+ghost use Rattle.bz_content.specs.Content.{image_fault};
 ghost use Rattle.bz_layout.specs.Addresses.{words_of as size_of};
 ghost use Rattle.bz_layout.specs.Config.{IsConfig};
 ghost use Rattle.bz_mark.specs.WordsAfter.{words_of};
@@ -9,8 +10,9 @@ ghost use Rattle.bz_sound.specs.Power.Sound.{IsSound};
 ghost use Rattle.bz_sound.specs.Power.Laws.{IsUnbroken};
 ghost use Rattle.bz_sound.specs.Memory.Sound as before;
 
-use crate::answers::{Applied, Begun, Event, OpenError};
+use crate::answers::{Applied, Begun, BootError, Event, OpenError};
 use crate::begin::begin;
+use crate::boot::boot_parts;
 use crate::open::open_parts;
 use crate::parts::Parts;
 use crate::power::{cut, power_on};
@@ -41,7 +43,7 @@ impl Model for World {
 }
 
 impl World {
-    ghost use Rattle.bz_world.specs.Lab.{Lab, IsWorker, new_lab, IsOpenFault, power_in, begin_answer, after_begin, flush_of, IsApplied};
+    ghost use Rattle.bz_world.specs.Lab.{Lab, IsWorker, new_lab, image_lab, IsOpenFault, IsBootFault, power_in, begin_answer, after_begin, flush_of, IsApplied};
 
     /// A world over fresh memory, in which nothing has happened.
     pub fn open(alloc: Global, config: &Config) -> Result<World, OpenError>
@@ -50,6 +52,19 @@ impl World {
         ensures err { IfErr result (IsOpenFault config.now) }
     {
         let parts = open_parts(alloc, config)?;
+        Ok(World { parts })
+    }
+
+    /// A world over an image that breaks no rule, as a power cut may leave one: its power is off, and nothing has happened in
+    /// it. The image is refused by the first rule that it breaks, once the numbers are in their ranges.
+    pub fn boot(alloc: Global, config: &Config, image: &[u64]) -> Result<World, BootError>
+        requires { IsConfig config.now → length image.now ≡ size_of config.now }
+        ensures ok { IfOk result (λ world. world ≡ image_lab config.now image.now) }
+        ensures config { OnOk result (IsConfig config.now) }
+        ensures form { OnOk result (image_fault config.now (slice_index image.now) ≡ None) }
+        ensures err { IfErr result (IsBootFault config.now image.now) }
+    {
+        let parts = boot_parts(alloc, config, image)?;
         Ok(World { parts })
     }
 
@@ -76,15 +91,15 @@ impl World {
     /// The journal, which is sound.
     pub fn journal(&self) -> &Journal
         ensures journal { result.now ≡ self.now.log }
-        ensures sound { IsSound self.now.config On self.now.log }
-        ensures unbroken { IsUnbroken self.now.log.past → before.IsSound self.now.config self.now.log }
+        ensures sound { IsSound self.now.config self.now.at_start self.now.log }
+        ensures unbroken { self.now.at_start ≡ On → IsUnbroken self.now.log.past → before.IsSound self.now.config self.now.log }
         ensures workers { (w : ℕ) → (IsWorker self.now.config w → ⊥) → open_call w self.now.log.past ≡ None }
     {
         bz_sound::power_laws::sound_as_before();
         &self.parts.journal
     }
 
-    /// What the power is: on at first, off after a cut, and on again when a recovery has ended.
+    /// What the power is: as at first, off after a cut, and on again when a recovery has ended.
     pub fn power(&self) -> Power
         ensures { result ≡ power_in self.now }
     {

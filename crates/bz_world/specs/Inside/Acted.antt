@@ -61,7 +61,7 @@ pub record IsStriking (p : Parts) (s : ℕ) : Type 0 where
   pub taken : AreTaken p
   pub marked : IsMarked p.access before.journal mark
   pub flush : IsAfterFlush (mark ∷ before.journal.past)
-  pub follows : MayFollow power.On (map_at_start before.config before.journal.start) before.journal.past mark
+  pub follows : MayFollow before.at_start (map_at_start before.config before.journal.start) before.journal.past mark
   pub rest : p ≡ record before { access = p.access; journal = with_mark before.journal mark }
 
 -- all is well but for worker w, whose call is open, and which does nothing
@@ -71,7 +71,7 @@ pub record IsBetween (p : Parts) (w : ℕ) (x : Serving) : Type 0 where
   pub tabled : IsTabled p
   pub taken : AreTaken p
   pub living : IsLiving p.config p.access p.journal story
-  pub sound : IsSound p.config power.On p.journal
+  pub sound : IsSound p.config p.at_start p.journal
   pub free : AreFree p.config (image_at_on p.journal.start p.journal.past) p.slots story.took
   pub others : (v : ℕ) → v ≢ w → IsSlot p.config p.access p.journal story p.owners.items v (get_or p.workers.items v None)
   pub worker : 0 < w

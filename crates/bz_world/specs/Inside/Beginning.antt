@@ -13,7 +13,7 @@ use Rattle.bz_world.specs.declared.parts.Parts.{Parts}
 
 -- what callers see of a world of these parts
 abbrev pub lab_of : Parts → Lab
-lab_of p = record { config = p.config; log = p.journal; flushes = map (λ (v : Working). v.flush_next) p.access.workers; left_out = p.left_out.items }
+lab_of p = record { config = p.config; at_start = p.at_start; log = p.journal; flushes = map (λ (v : Working). v.flush_next) p.access.workers; left_out = p.left_out.items }
 
 -- how many pages a call asks for
 abbrev pub pages_asked : Call → ℕ

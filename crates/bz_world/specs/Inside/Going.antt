@@ -214,5 +214,6 @@ pub record WentOn (old : Parts) (w : ℕ) (answer : Applied) (new : Parts) : Typ
   pub kept : IsAwake new
   pub ends : GoesOn old.journal w answer new.journal
   pub config : new.config ≡ old.config
+  pub at_start : new.at_start ≡ old.at_start
   pub left_out : new.left_out ≡ old.left_out
   pub others : (v : ℕ) → v ≢ w → worker_of new.access v ≡ worker_of old.access v

@@ -38,7 +38,7 @@ pub record IsTabled (p : Parts) : Type 0 where
   pub page_calls : p.pages_begun ≡ count_page_calls p.journal.past
   pub few_page_calls : p.pages_begun ≤ p.config.pages
   pub steps : p.access.steps ≤ length p.journal.past
-  pub power : power_of power.On p.journal.past ≡ p.power
+  pub power : power_of p.at_start p.journal.past ≡ p.power
 
 -- each descriptor that was taken is one in which the journal shows a swap begun since power on, or one that a worker is about to
 -- begin
@@ -66,14 +66,14 @@ pub record IsAwake (p : Parts) : Type 0 where
   pub tabled : IsTabled p
   pub taken : AreTaken p
   pub living : IsLiving p.config p.access p.journal story
-  pub sound : IsSound p.config power.On p.journal
+  pub sound : IsSound p.config p.at_start p.journal
   pub free : AreFree p.config (image_at_on p.journal.start p.journal.past) p.slots story.took
   pub workers : (w : ℕ) → IsSlot p.config p.access p.journal story p.owners.items w (get_or p.workers.items w None)
 
 -- what holds from a power cut until the power is on again: no call is open, and nothing is said of which slots are free
 pub record IsDark (p : Parts) : Type 0 where
   pub tabled : IsTabled p
-  pub sound : IsSound p.config power.On p.journal
+  pub sound : IsSound p.config p.at_start p.journal
   pub none : (w : ℕ) → get_or p.workers.items w None ≡ None
   pub slots : p.slots.nodes ≡ p.config.nodes
   -- the values to which the durable words resolved when the power failed
@@ -102,6 +102,6 @@ IsKeptIn power.Recovering p = IsStarted p
 -- what always holds, and what does by the power
 pub record IsKept (p : Parts) : Type 0 where
   pub tabled : IsTabled p
-  pub sound : IsSound p.config power.On p.journal
+  pub sound : IsSound p.config p.at_start p.journal
   pub words : words_of p.access ≡ words_after_marks p.journal.start p.journal.past
   pub state : IsKeptIn p.power p

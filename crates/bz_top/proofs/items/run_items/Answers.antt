@@ -4,7 +4,7 @@ use Rattle.bz_top.proofs.FollowLemmas.{staged_none, staged_ready, staged_more, s
 use Rattle.bz_top.proofs.items.run_items.Goals as goal
 
 pub loop-item-init : goal.loop-item-init
-loop-item-init c = staged_none c.args.items.now c.args.world.now c.args.queue.now c.requires.new c.requires.config c.requires.none_wait c.requires.none_open c.requires.room c.requires.order
+loop-item-init c = staged_none c.args.items.now c.args.world.now c.args.queue.now c.requires.powered c.requires.new c.requires.config c.requires.none_wait c.requires.none_open c.requires.room c.requires.order
 
 pub do_item-requires-clause-workers : goal.do_item-requires-clause-workers
 do_item-requires-clause-workers c = ap (λ (config : Config). config.workers) c.loop-item.invariant.on.config ∙ c.requires.workers

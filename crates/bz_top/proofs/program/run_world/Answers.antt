@@ -18,7 +18,7 @@ pub returns-in-None : goal.returns-in-None
 returns-in-None c c' =
     ran-finished c'.args.line.marks (job_of c'.args.script.now) c'.args.world c'.run_items.new.world c'.requires.fresh c'.in-None.ensures.on c'.print.ensures.sound c'.args.line.command
     (sunk (c.K.Sink.held c'.args.sink.now) (c.K.Sink.held c'.print.new.sink) (c.K.Sink.faults c'.args.sink.now) (c.K.Sink.faults c'.print.new.sink))
-    c'.print.result.status c'.print.result.lab (subst (λ items. LeadsTo c'.args.world.log.start (words_of c'.args.world.config) None at_first items c'.run_items.new.world.log.past) c'.items.ensures c'.in-None.ensures.follows) c'.print.ensures.lab c'.print.ensures.wrote
+    c'.print.result.status c'.print.result.lab (subst (λ items. LeadsTo c'.args.world.at_start c'.args.world.log.start (words_of c'.args.world.config) None at_first items c'.run_items.new.world.log.past) c'.items.ensures c'.in-None.ensures.follows) c'.print.ensures.lab c'.print.ensures.wrote
 
 pub returns : goal.returns
 returns c c' =

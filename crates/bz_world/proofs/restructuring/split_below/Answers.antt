@@ -25,4 +25,4 @@ pub go_on-requires-clause-room : goal.go_on-requires-clause-room
 go_on-requires-clause-room c = subst (λ (z : Parts). length z.journal.past < z.config.marks) (sym c.tell-todo.ensures.rest) c.requires.room
 
 pub returns : goal.returns
-returns c = went-told c.args.parts.now c.tell-todo.new.parts c.args.w c.go_on.result c.go_on.new.parts (ap (λ (z : Parts). z.journal) c.tell-todo.ensures.rest) (ap (λ (z : Parts). z.config) c.tell-todo.ensures.rest) (ap (λ (z : Parts). z.left_out) c.tell-todo.ensures.rest) (ap (λ (z : Parts). z.access) c.tell-todo.ensures.rest) c.go_on.ensures
+returns c = went-told c.args.parts.now c.tell-todo.new.parts c.args.w c.go_on.result c.go_on.new.parts (ap (λ (z : Parts). z.journal) c.tell-todo.ensures.rest) (ap (λ (z : Parts). z.config) c.tell-todo.ensures.rest) (ap (λ (z : Parts). z.at_start) c.tell-todo.ensures.rest) (ap (λ (z : Parts). z.left_out) c.tell-todo.ensures.rest) (ap (λ (z : Parts). z.access) c.tell-todo.ensures.rest) c.go_on.ensures
