@@ -1,0 +1,9 @@
+mod Staying
+mod Acting
+mod Ending
+mod Making
+mod Reading
+mod Telling
+mod Looking
+mod Writing
+mod Viewing
