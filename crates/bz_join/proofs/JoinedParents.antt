@@ -65,8 +65,12 @@ module _ (made : MadeInnersAreWhole) (nodes : ℕ) (raw : ℕ → ℕ) (words : 
   room =
       let one : Child = record { low = (child_at cs i).low; slot = slot } in
       let all : needed (map child_entry cs) ≤ SHARED_WORDS = subst (λ z. needed (map child_entry z) ≤ SHARED_WORDS) (sym in-order) (all-needed nodes raw words level low high w) in
-      omega (arith, all, needed-remove (slice_set cs i one) (i + 1),
-      needed-set cs i one (omega (arith, two)) (omega (arith, length-append (packed (bound_of (child_at cs i).low)) ((slot + 1) ∷ []), length-append (packed (bound_of (child_at cs i).low)) (((child_at cs i).slot + 1) ∷ []))))
+      omega (
+        arith,
+        all,
+        needed-remove (slice_set cs i one) (i + 1),
+        needed-set cs i one (omega (arith, two)) (omega (arith, length-append (packed (bound_of (child_at cs i).low)) ((slot + 1) ∷ []), length-append (packed (bound_of (child_at cs i).low)) (((child_at cs i).slot + 1) ∷ []))),
+      )
 
   inner : IsInnerOf nodes new js level low high
   inner = made nodes js level low high (each nodes raw words level low high t.few reads w rise i slot t.within new_slot) (low-bound nodes raw words level low high t.few reads w rise) (high-bound nodes raw words level low high t.few reads w rise)
