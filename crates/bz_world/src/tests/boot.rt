@@ -8,6 +8,7 @@ use crate::{Applied, Begun, BootError, Event, Power, World};
 use bz_call::Call;
 use bz_layout::{Config, ConfigError};
 use bz_shape::{ShapeFault, ShapeRule};
+use std::alloc::Global;
 use std::process::Abort;
 use std::test::Fail;
 
@@ -41,27 +42,46 @@ fn answers(world: &mut World, rt: &impl Abort) -> (Option<Answer>, Option<Answer
     (first, whole(world, 1, Call::Get(numbered(rt, 1))))
 }
 
+// A call that is stopped.
+fn inserting(rt: &impl Abort) -> Call {
+    Call::Insert(numbered(rt, 0), payload(rt, b"n"))
+}
+
+// A world with one key, and so many acts of an insert of the other.
+fn stopped(rt: &impl Abort, alloc: Global, acts: u32) -> World {
+    let mut world = open(alloc, 4, 16, 2).expect(rt, "a world");
+    let had = Call::Insert(numbered(rt, 1), payload(rt, b"o"));
+    assert_eq!(rt; whole(&mut world, 2, had), Some(Answer::Inserted));
+    assert!(rt; begin(&mut world, 1, inserting(rt)));
+    steps(&mut world, 1, acts);
+    world
+}
+
+// A world over what a power cut would leave of another.
+fn booted(rt: &impl Abort, alloc: Global, world: &World) -> World {
+    let config = world.config();
+    let mut words = bz_layout::fresh(alloc, &config).expect(rt, "the words");
+    copy_durable(world, &mut words);
+    World::boot(alloc, &config, &words).expect(rt, "a world")
+}
+
+// Both go on alike.
+fn goes_on(rt: &impl Abort, alloc: Global, acts: u32) {
+    let mut world = stopped(rt, alloc, acts);
+    let mut image = booted(rt, alloc, &world);
+    assert_eq!(rt; image.power(), Power::Off);
+    assert_eq!(rt; image.begin(1, inserting(rt)), Begun::Off);
+    come_on(rt, &mut image);
+    assert_eq!(rt; world.apply(Event::Cut), Applied::Cut);
+    come_on(rt, &mut world);
+    assert_eq!(rt; answers(&mut image, rt), answers(&mut world, rt));
+}
+
 #[test]
-fn a_world_boots_from_what_a_cut_leaves(rt: HostRuntime) -> Result<(), Fail> {
+fn a_world_boots_from_what_a_cut_leaves(rt: HostRuntime) {
     for tenth in 0..12u32 {
-        let mut world = open(rt.alloc(), 4, 16, 2)?;
-        let had = Call::Insert(numbered(&rt, 1), payload(&rt, b"o"));
-        assert_eq!(rt; whole(&mut world, 2, had), Some(Answer::Inserted));
-        let call = Call::Insert(numbered(&rt, 0), payload(&rt, b"n"));
-        assert!(rt; begin(&mut world, 1, call));
-        steps(&mut world, 1, tenth.saturating_mul(10));
-        let config = world.config();
-        let mut words = bz_layout::fresh(rt.alloc(), &config)?;
-        copy_durable(&world, &mut words);
-        let mut booted = World::boot(rt.alloc(), &config, &words)?;
-        assert_eq!(rt; booted.power(), Power::Off);
-        assert_eq!(rt; booted.begin(1, call), Begun::Off);
-        come_on(&rt, &mut booted);
-        assert_eq!(rt; world.apply(Event::Cut), Applied::Cut);
-        come_on(&rt, &mut world);
-        assert_eq!(rt; answers(&mut booted, &rt), answers(&mut world, &rt));
+        goes_on(&rt, rt.alloc(), tenth.saturating_mul(10));
     }
-    Ok(())
 }
 
 #[test]
