@@ -57,7 +57,7 @@ module _ (b : StepLaws) (old new : Parts) (w : ℕ) (made : Act) (answer : Done)
 
 -- an act with its effect noted is one act still
 pub struck-acted : (old mid new : Parts) (w : ℕ) (made : Act) (answer : Done) (effect : Option ℕ) → IsActed old w made answer effect mid → IsStruck mid.journal.past new.journal.past
-    → new ≡ record mid { journal = record mid.journal { past = new.journal.past }; workers = new.workers } → HasActed old w new
+    → new ≡ record mid { journal = record mid.journal { past = new.journal.past }; workers = new.workers; pairs = new.pairs } → HasActed old w new
 struck-acted old mid new w made answer effect a struck rest = record {
   made = made;
   flush = a.step.one.flush;
@@ -73,7 +73,7 @@ struck-acted old mid new w made answer effect a struck rest = record {
     journal-is : new.journal ≡ record mid.journal { past = new.journal.past }
     journal-is = ap (λ (p : Parts). p.journal) rest
 
-    whole : new ≡ record old { access = new.access; journal = new.journal; workers = new.workers }
-    whole = rest ∙ (ap (λ (p : Parts). record p { journal = record mid.journal { past = new.journal.past }; workers = new.workers }) a.rest
-        ∙ (ap (λ (m : SwapMemory). record old { access = m; journal = record mid.journal { past = new.journal.past }; workers = new.workers }) (sym access-is)
-        ∙ ap (λ (j : Log). record old { access = new.access; journal = j; workers = new.workers }) (sym journal-is)))
+    whole : new ≡ record old { access = new.access; journal = new.journal; workers = new.workers; pairs = new.pairs }
+    whole = rest ∙ (ap (λ (p : Parts). record p { journal = record mid.journal { past = new.journal.past }; workers = new.workers; pairs = new.pairs }) a.rest
+        ∙ (ap (λ (m : SwapMemory). record old { access = m; journal = record mid.journal { past = new.journal.past }; workers = new.workers; pairs = new.pairs }) (sym access-is)
+        ∙ ap (λ (j : Log). record old { access = new.access; journal = j; workers = new.workers; pairs = new.pairs }) (sym journal-is)))

@@ -36,6 +36,7 @@ use Rattle.bz_world.specs.Inside.Telling.{MustStart}
 use Rattle.bz_world.specs.declared.parts.Parts.{Parts}
 use Rattle.bz_world.specs.declared.serving.Serving.{Serving}
 use Rattle.bz_story.proofs.Powered.{stored-since}
+use Rattle.bz_world.proofs.Counting.{pairs-stay}
 use Rattle.bz_world.proofs.Powered.{is-on}
 use Rattle.bz_world.proofs.Staying.{none-unfilled, slot-stays}
 use Rattle.bz_world.proofs.Started.{read-kept}
@@ -162,6 +163,7 @@ module _ (p : Parts) (k : IsAwake p) (w : ℕ) (call : Call) (may : MayBegin p w
       page_calls = page-count (is_page call) p.pages_begun (count_page_calls p.journal.past) t.page_calls;
       few_page_calls = may.pages;
       steps = omega (arith, t.steps);
+      pairs = pairs-stay p.config p.journal.start p.journal.past mark p.pairs (λ map. refl) t.pairs;
       power = t.power;
     }
 

@@ -22,6 +22,7 @@ use Rattle.bz_world.specs.Inside.Powering.{IsCut}
 use Rattle.bz_world.specs.Lab as lab
 use Rattle.bz_world.specs.declared.parts.Parts.{Parts}
 use Rattle.bz_world.specs.declared.serving.Serving.{Serving}
+use Rattle.bz_world.proofs.Counting.{pairs-stay}
 use Rattle.bz_world.proofs.Openings.{map-replicate}
 use Rattle.bz_world.proofs.Powered.{awake-in, started-in, kept-off}
 
@@ -54,6 +55,7 @@ module _ (b : Laws) (p : Parts) (t : IsTabled p) (sound : IsSound p.config p.at_
     page_calls = t.page_calls;
     few_page_calls = t.few_page_calls;
     steps = omega (arith, t.steps);
+    pairs = pairs-stay p.config p.journal.start p.journal.past Cut p.pairs (λ map. refl) t.pairs;
     power = refl;
   }
 

@@ -29,6 +29,7 @@ use Rattle.bz_world.specs.declared.answers.Applied.TheVariants as applied
 use Rattle.bz_world.specs.declared.parts.Parts.{Parts}
 use Rattle.bz_world.specs.declared.serving.Serving.{Serving}
 use Rattle.bz_story.proofs.Powered.{stored-since}
+use Rattle.bz_world.proofs.Counting.{pairs-stay}
 use Rattle.bz_world.proofs.Staying.{slot-stays}
 
 -- what is known of a worker does not depend on the journal's pages
@@ -144,6 +145,7 @@ module _ (b : EndLaws) (p : Parts) (w : ℕ) (on : MustGoOn p w) where
         page_calls = t.page_calls;
         few_page_calls = t.few_page_calls;
         steps = omega (arith, t.steps);
+        pairs = pairs-stay p.config p.journal.start p.journal.past mark p.pairs (λ map. refl) t.pairs;
         power = t.power;
       }
 

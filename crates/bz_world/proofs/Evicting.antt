@@ -28,6 +28,7 @@ use Rattle.bz_world.specs.Inside.Serving.{IsSlot}
 use Rattle.bz_world.specs.declared.parts.Parts.{Parts}
 use Rattle.bz_world.specs.Inside.Laws.{StepLaws}
 use Rattle.bz_story.proofs.Powered.{stored-since}
+use Rattle.bz_world.proofs.Counting.{pairs-stay}
 use Rattle.bz_world.proofs.Powered.{is-not-off}
 use Rattle.bz_world.proofs.Owners.{pending-begun}
 use Rattle.bz_world.proofs.Stepped.{unused-by}
@@ -65,6 +66,7 @@ module _ (old new : Parts) (a : ℕ) (told : Option ℕ) (k : IsAwake old) (e : 
     page_calls = t.page_calls;
     few_page_calls = t.few_page_calls;
     steps = omega (arith, ap (λ z. z.steps) e.eviction.is, t.steps);
+    pairs = pairs-stay old.config old.journal.start old.journal.past (Evict a) old.pairs (λ map. refl) t.pairs;
     power = t.power;
   })
 

@@ -39,3 +39,5 @@ mod Waking
 mod Refusing
 mod Recovered
 mod Contained
+mod Counting
+mod Numbers

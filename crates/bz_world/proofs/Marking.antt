@@ -9,7 +9,7 @@ use Rattle.bz_mark.specs.WordLaws.{found-read}
 use Rattle.bz_mark.specs.WordsAfter.{words_of as words_after_marks, words_after, Found}
 use Rattle.bz_mark.specs.declared.marks.Mark.{Mark}
 use Rattle.bz_pm.specs.Words.{Words}
-use Rattle.bz_sound.specs.Calls.{open_call, begun_calls}
+use Rattle.bz_sound.specs.Calls.{open_call, begun_calls, map_after}
 use Rattle.bz_sound.specs.declared.power.Power.{Power}
 use Rattle.bz_sound.specs.Power.Calls.{MayAct, MayFollow}
 use Rattle.bz_call.specs.Map.{Map}
@@ -35,7 +35,7 @@ act-found w old new log (Store a v) same act within = tt
 act-found w old new log (Cas a before after found) same act within = subst (λ (z : Words). Found z (mark_of w (Cas a before after found))) same (found-read old.cached a found within act.found)
 act-found w old new log (Flush line) same act within = tt
 
--- it may follow where the worker may act, and leaves every open call and every count
+-- it may follow where the worker may act, and leaves every open call, the map and every count
 pub act-follows : (at_start : Power) (start : Map) (past : List Mark) (w : ℕ) (made : Act) → MayAct at_start past w → MayFollow at_start start past (mark_of w made)
 act-follows at_start start past w (Load a v) h = h
 act-follows at_start start past w (Store a v) h = h
@@ -53,6 +53,12 @@ act-begun v w past (Load a x) = refl
 act-begun v w past (Store a x) = refl
 act-begun v w past (Cas a old new found) = refl
 act-begun v w past (Flush line) = refl
+
+pub act-map : (map : Map) (w : ℕ) (past : List Mark) (made : Act) → map_after map (mark_of w made ∷ past) ≡ map_after map past
+act-map map w past (Load a x) = refl
+act-map map w past (Store a x) = refl
+act-map map w past (Cas a old new found) = refl
+act-map map w past (Flush line) = refl
 
 pub record SameCounts (new past : List Mark) : Type 0 where
   pub begins : count_begins new ≡ count_begins past

@@ -3,6 +3,11 @@ use Rattle.std.proofs.Common.{◌≡◌, ℕ, ◌+◌, ◌<◌, Bool, true, fals
 use Rattle.std.proofs.lemmas.Bool.{cases_lt, true≢false}
 use Rattle.std.proofs.lemmas.Bool.Decides.{nat_tests}
 use Rattle.std.proofs.lemmas.List.{length-replicate, get_or-replicate, get_or_past}
+use Rattle.std.proofs.lemmas.Cmp.{nat_list_cmp_total}
+use Rattle.std.specs.Cmp.Lexicographic.{slice_cmp}
+use Rattle.std.specs.FinMap.{empty, len, get-empty, len-empty, same_map, slice_cmp-IsAntisymmetric, nat_cmp-IsAntisymmetric}
+use Rattle.std.specs.Ordering.{nat_cmp}
+use Rattle.bz_call.specs.Map.{Map}
 use Rattle.bz_cells.specs.Store.{status_word, status_of}
 use Rattle.bz_content.specs.Laws.{FreshMemoryIsEmpty, FreshMemoryReachesSlotZero}
 use Rattle.bz_layout.specs.Addresses.{swap_address}
@@ -12,7 +17,8 @@ use Rattle.bz_layout.specs.declared.config.Config.{Config}
 use Rattle.bz_machine.specs.declared.status.SwapStatus.TheVariants.{Free}
 use Rattle.bz_machine.specs.Machine.{is_succeeded}
 use Rattle.bz_mark.specs.Log.{Log, count_begins, count_page_calls}
-use Rattle.bz_sound.specs.Calls.{open_call, begun_calls}
+use Rattle.bz_sound.specs.Calls.{open_call, begun_calls, map_after}
+use Rattle.bz_sound.specs.Memory.Moments.{map_at_start, HoldsMap}
 use Rattle.bz_sound.specs.Power.Growth.{FreshJournalsAreSound}
 use Rattle.bz_sound.specs.Power.Times.{power_of, image_at_on}
 use Rattle.bz_sound.specs.declared.power.Power.{Power}
@@ -76,6 +82,13 @@ module _ (b : Laws) (c : Config) (config : IsConfig c) where
   sound : IsSound c power.On log
   sound = b.sound c power.On (fresh_words c) log.limits (b.says c).size (b.empty c config).0
 
+  -- the map is empty
+  pub no-pairs : len (map_at_start c (fresh_words c)) ≡ 0
+  no-pairs =
+      let holds : HoldsMap c (slice_index (fresh_words c)) (map_at_start c (fresh_words c)) = sound.durable 0 (omega arith) (λ inner. absurd (omega (arith, inner.0))) in
+      ap (λ (m : Map). len m) (same_map nat_list_cmp_total (slice_cmp-IsAntisymmetric nat_cmp-IsAntisymmetric) (map_at_start c (fresh_words c)) empty
+      (λ key. sym (holds.content key) ∙ ((b.empty c config).1 key ∙ sym (get-empty (slice_cmp nat_cmp) key)))) ∙ len-empty (slice_cmp nat_cmp) (List ℕ)
+
 -- slot 0 is reached, and the others are free
 free-fresh : Laws → (c : Config) → IsConfig c → AreFree c (slice_index (fresh_words c)) (fresh_slots c) (fresh_story c).took
 free-fresh b c config = record {
@@ -105,6 +118,7 @@ tabled start at_start p made = record {
   page_calls = made.pages_begun ∙ ap count_page_calls (sym past);
   few_page_calls = omega (arith, made.pages_begun);
   steps = omega (arith, ap (λ (m : SwapMemory). m.steps) made.opened.is);
+  pairs = record { size = made.pairs ∙ ap (λ (l : Log). len (map_after (map_at_start p.config l.start) l.past)) (sym made.journal); few = omega (arith, made.few_pairs) };
   power = ap (λ (s : Power). power_of s p.journal.past) made.at_start ∙ (ap (power_of at_start) past ∙ sym made.power);
 }
   where

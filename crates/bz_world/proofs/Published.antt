@@ -30,11 +30,12 @@ use Rattle.bz_task.specs.Scene.{Took, here}
 use Rattle.bz_task.specs.Swaps.{Changes, ContentFollows}
 use Rattle.bz_task.specs.declared.todo.Todo.TheVariants as todo
 use Rattle.bz_world.specs.Inside.Acted.{IsStriking}
-use Rattle.bz_world.specs.Inside.Kept.{IsAwake, IsTabled, AreTaken}
-use Rattle.bz_world.specs.Inside.Serving.{IsServing, IsSlot, IsToldBy, effect_reply}
+use Rattle.bz_world.specs.Inside.Kept.{CountsPairs, IsAwake, IsTabled, AreTaken}
+use Rattle.bz_world.specs.Inside.Serving.{IsServing, IsSlot, IsToldBy, effect_reply, size_after, pairs_after}
 use Rattle.bz_world.specs.declared.parts.Parts.{Parts}
 use Rattle.bz_world.specs.declared.serving.Serving.{Serving}
 use Rattle.bz_story.proofs.Powered.{stored-since}
+use Rattle.bz_world.proofs.Counting.{pairs-change}
 use Rattle.bz_world.proofs.Powered.{begun-in, flush-leaves, free-on}
 use Rattle.bz_world.proofs.Staying.{slot-stays, wanted-stays}
 use Rattle.bz_world.specs.Inside.Laws.{StrikeLaws}
@@ -179,14 +180,17 @@ module _ (b : StrikeLaws) (p : Parts) (s : ℕ) (h : IsStriking p s) (publishes 
   with_moment = record (x b p s h) { effect = Some (suc (length log.past)) }
 
   -- so the map answers it directly before its effect
+  replied : (apply (map_after (map_at_start c log.start) (h.mark ∷ log.past)) its-open.call).reply ≡ Some (effect_reply its-open.call (x b p s h).had)
+  replied = ap (λ (a : Applied). a.reply) follows.step
+      ∙ (reply-of its-open.call (change_of (x b p s h).task).old (change_of (x b p s h).task).new (map_after (map_at_start c log.start) (h.mark ∷ log.past)) is-change.1
+      ∙ ap (λ had. Some (effect_reply its-open.call had)) had-is)
+
   told : IsToldBy c (with_mark with_flush effect_mark) effected (x b p s h).had
   told at e =
       let when : at ≡ suc (length log.past) = cc e in
       let before-it : map_at (map_at_start c log.start) at (effect_mark ∷ h.mark ∷ log.past) ≡ map_after (map_at_start c log.start) (h.mark ∷ log.past) =
       ap (λ k. map_at (map_at_start c log.start) k (effect_mark ∷ h.mark ∷ log.past)) when ∙ ap (map_after (map_at_start c log.start)) (at_moment-before effect_mark (h.mark ∷ log.past)) in
-      ap (λ map. (apply map its-open.call).reply) before-it ∙ (ap (λ (a : Applied). a.reply) follows.step
-      ∙ (reply-of its-open.call (change_of (x b p s h).task).old (change_of (x b p s h).task).new (map_after (map_at_start c log.start) (h.mark ∷ log.past)) is-change.1
-      ∙ ap (λ had. Some (effect_reply its-open.call had)) had-is))
+      ap (λ map. (apply map its-open.call).reply) before-it ∙ replied
 
   serves-on : IsServing c p.access (with_mark with_flush effect_mark) told_story (old b p s h).owners.items worker with_moment
   serves-on = record {
@@ -220,8 +224,14 @@ module _ (b : StrikeLaws) (p : Parts) (s : ℕ) (h : IsStriking p s) (publishes 
   own-call : ¬ (open_call worker log.past ≡ None)
   own-call e = absurd (cc (e, (its b p s h).call_open.is_open))
 
-  tabled-on : (workers : Vec (Option Serving)) → length workers.items ≡ 65 → length log.past + 1 < c.marks → IsTabled (record (old b p s h) { access = p.access; journal = with_mark with_flush effect_mark; workers = workers })
-  tabled-on workers places room = let t : IsTabled (record (old b p s h) { access = p.access; journal = with_flush }) = subst IsTabled h.rest h.tabled in record {
+  -- and the map has as many pairs as that reply tells
+  counted : CountsPairs c log.start (h.mark ∷ log.past) (old b p s h).pairs → (count : ℕ) → count ≡ pairs_after (Some (x b p s h)) (old b p s h).pairs → CountsPairs c log.start (effect_mark ∷ h.mark ∷ log.past) count
+  counted was count is = subst (CountsPairs c log.start (effect_mark ∷ h.mark ∷ log.past)) (sym (is ∙ ap (λ called. size_after (Some (effect_reply called (x b p s h).had)) (old b p s h).pairs) (sym (its b p s h).call_open.call)))
+      (pairs-change c log.start (h.mark ∷ log.past) worker its-open.number (old b p s h).pairs its-open (Some (effect_reply its-open.call (x b p s h).had)) (flush-calls worker h.mark log.past h.flush ∙ (its b p s h).call_open.is_open) replied was)
+
+  tabled-on : (workers : Vec (Option Serving)) → length workers.items ≡ 65 → length log.past + 1 < c.marks → (count : ℕ) → count ≡ pairs_after (Some (x b p s h)) (old b p s h).pairs
+      → IsTabled (record (old b p s h) { access = p.access; journal = with_mark with_flush effect_mark; workers = workers; pairs = count })
+  tabled-on workers places room count is = let t : IsTabled (record (old b p s h) { access = p.access; journal = with_flush }) = subst IsTabled h.rest h.tabled in record {
     config = t.config;
     limits = t.limits;
     marks = omega (arith, room);
@@ -239,20 +249,21 @@ module _ (b : StrikeLaws) (p : Parts) (s : ℕ) (h : IsStriking p s) (publishes 
     page_calls = t.page_calls;
     few_page_calls = t.few_page_calls;
     steps = omega (arith, t.steps);
+    pairs = counted t.pairs count is;
     power = t.power;
   }
 
-  taken-on : (workers : Vec (Option Serving)) → AreTaken (record (old b p s h) { access = p.access; journal = with_mark with_flush effect_mark; workers = workers })
-  taken-on workers = let t : AreTaken (record (old b p s h) { access = p.access; journal = with_flush }) = subst AreTaken h.rest h.taken in record { shown = t.shown; held = t.held; few = t.few; counted = t.counted; unused = t.unused }
+  taken-on : (workers : Vec (Option Serving)) (count : ℕ) → AreTaken (record (old b p s h) { access = p.access; journal = with_mark with_flush effect_mark; workers = workers; pairs = count })
+  taken-on workers count = let t : AreTaken (record (old b p s h) { access = p.access; journal = with_flush }) = subst AreTaken h.rest h.taken in record { shown = t.shown; held = t.held; few = t.few; counted = t.counted; unused = t.unused }
 
   -- so the world goes on with the Effect, which the worker's call remembers
   pub published : (workers : Vec (Option Serving)) → length workers.items ≡ 65 → length log.past + 1 < c.marks → get_or workers.items worker None ≡ Some with_moment → ((v : ℕ) → v ≢ worker → get_or workers.items v None ≡ get_or (old b p s h).workers.items v None)
-      → IsAwake (record (old b p s h) { access = p.access; journal = with_mark with_flush effect_mark; workers = workers })
-  published workers places room here-is rest = record {
+      → (count : ℕ) → count ≡ pairs_after (Some (x b p s h)) (old b p s h).pairs → IsAwake (record (old b p s h) { access = p.access; journal = with_mark with_flush effect_mark; workers = workers; pairs = count })
+  published workers places room here-is rest count is = record {
     on = (kept b p s h).on;
     story = told_story;
-    tabled = tabled-on workers places room;
-    taken = taken-on workers;
+    tabled = tabled-on workers places room count is;
+    taken = taken-on workers count;
     living = lives;
     sound = sound;
     free = free-on c log.start log.past h.mark (old b p s h).slots (after b p s h).took (flush-leaves h.mark log.past h.flush) (kept b p s h).free;

@@ -48,6 +48,7 @@ asked-on go_on turns p seen next slots k on tells nodes learns = record {
       page_calls = t.page_calls;
       few_page_calls = t.few_page_calls;
       steps = t.steps;
+      pairs = t.pairs;
       power = t.power;
     };
     sound = k.dark.sound;

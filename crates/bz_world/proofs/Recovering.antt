@@ -32,7 +32,8 @@ use Rattle.bz_world.specs.Inside.Kept.{IsTabled, IsDark, IsRecovering, IsStarted
 use Rattle.bz_world.specs.Inside.Powering.{IsRawAct}
 use Rattle.bz_world.specs.Lab.{mark_of}
 use Rattle.bz_world.specs.declared.parts.Parts.{Parts}
-use Rattle.bz_world.proofs.Marking.{act-marked, act-found, act-calls, act-begun, act-counts}
+use Rattle.bz_world.proofs.Counting.{pairs-stay}
+use Rattle.bz_world.proofs.Marking.{act-marked, act-found, act-calls, act-begun, act-map, act-counts}
 use Rattle.bz_world.proofs.Powered.{leaves-power, power-more, kept-started}
 
 -- the laws that these proofs stand on
@@ -116,6 +117,7 @@ module _ (b : Laws) (recovers : ActsAreMarked) (old new : Parts) (made : Act) (d
     page_calls = t.page_calls ∙ sym (act-counts 0 old.journal.past made).page_calls;
     few_page_calls = t.few_page_calls;
     steps = omega (arith, a.step.one.steps, t.steps);
+    pairs = pairs-stay old.config old.journal.start old.journal.past (mark_of 0 made) old.pairs (λ map. act-map map 0 old.journal.past made) t.pairs;
     power = power-more old.at_start old.journal.past (mark_of 0 made) (leaves-power 0 old.journal.past made) ∙ t.power;
   }
 
@@ -176,6 +178,7 @@ module _ (b : Laws) (leave : EvictionsAreMarked) (old new : Parts) (a : ℕ) (to
     page_calls = t.page_calls;
     few_page_calls = t.few_page_calls;
     steps = omega (arith, ap (λ z. z.steps) e.eviction.is, t.steps);
+    pairs = pairs-stay old.config old.journal.start old.journal.past (Evict a) old.pairs (λ map. refl) t.pairs;
     power = t.power;
   }
 
@@ -215,6 +218,7 @@ module _ (turns : TurnsMakeNoMark) (p : Parts) (k : IsRecovering p recovery.Aske
         page_calls = t.page_calls;
         few_page_calls = t.few_page_calls;
         steps = t.steps;
+        pairs = t.pairs;
         power = t.power;
       };
       sound = k.dark.sound;

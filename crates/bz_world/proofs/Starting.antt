@@ -119,6 +119,7 @@ module _ (starts : StartsAreSeen) (begun : BegunStayTaken) (p : Parts) (w : ℕ)
       page_calls = t.page_calls;
       few_page_calls = t.few_page_calls;
       steps = t.steps;
+      pairs = t.pairs;
       power = t.power;
     };
     taken = let t = between.taken in record { shown = t.shown; held = begun.start p.access w doing between.idle t.held; few = t.few; counted = t.counted; unused = t.unused };

@@ -34,7 +34,8 @@ use Rattle.bz_world.specs.Inside.Laws.{JournalLaws}
 use Rattle.bz_world.specs.declared.parts.Parts.{Parts}
 use Rattle.bz_story.proofs.Powered.{since-more}
 use Rattle.bz_world.proofs.Powered.{leaves-power, power-more}
-use Rattle.bz_world.proofs.Marking.{act-marked, act-found, act-follows, act-calls, act-begun, act-counts}
+use Rattle.bz_world.proofs.Counting.{pairs-stay}
+use Rattle.bz_world.proofs.Marking.{act-marked, act-found, act-follows, act-calls, act-begun, act-map, act-counts}
 
 -- the tables
 pub act-tabled : (old new : Parts) (w : ℕ) (made : Act) (done : Done) (told : Option ℕ) → IsTabled old → IsActed old w made done told new → length old.journal.past < old.config.marks → IsTabled new
@@ -53,6 +54,7 @@ act-tabled old new w made done told t a room = subst IsTabled (sym a.rest) (reco
   page_calls = t.page_calls ∙ sym (act-counts w old.journal.past made).page_calls;
   few_page_calls = t.few_page_calls;
   steps = omega (arith, a.step.one.steps, t.steps);
+  pairs = pairs-stay old.config old.journal.start old.journal.past (mark_of w made) old.pairs (λ map. act-map map w old.journal.past made) t.pairs;
   power = power-more old.at_start old.journal.past (mark_of w made) (leaves-power w old.journal.past made) ∙ t.power;
 })
 

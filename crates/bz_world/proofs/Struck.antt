@@ -10,7 +10,7 @@ use Rattle.bz_mark.specs.declared.marks.Mark.TheVariants.{Effect}
 use Rattle.bz_running.specs.Duties.{publishing_of}
 use Rattle.bz_world.specs.Inside.Acted.{IsStriking}
 use Rattle.bz_world.specs.Inside.Kept.{IsAwake}
-use Rattle.bz_world.specs.Inside.Serving.{IsSlot, noted}
+use Rattle.bz_world.specs.Inside.Serving.{IsSlot, noted, pairs_after}
 use Rattle.bz_world.specs.declared.parts.Parts.{Parts}
 use Rattle.bz_world.specs.declared.serving.Serving.{Serving}
 use Rattle.bz_sound.specs.declared.power.Power.TheVariants as power
@@ -40,6 +40,7 @@ kept-workers p workers k size same = record {
     page_calls = t.page_calls;
     few_page_calls = t.few_page_calls;
     steps = t.steps;
+    pairs = t.pairs;
     power = t.power;
   };
   taken = let t = k.taken in record { shown = t.shown; held = t.held; few = t.few; counted = t.counted; unused = t.unused };
@@ -86,11 +87,11 @@ module _ (b : StrikeLaws) (p : Parts) (s : ℕ) (h : IsStriking p s) (v : ℕ) (
 
   -- or it makes it
   pub struck-aloud : (slot : Option Serving) (n : ℕ) → slot ≡ noted (Some (x b p s h)) (length p.journal.past) → publishing_of (x b p s h).task ≡ true → n ≡ slice_index p.numbers.items v → length p.journal.past < p.config.marks
-      → IsAwake (record p { journal = with_mark p.journal (Effect v n); workers = with_item p.workers v slot })
-  struck-aloud slot n is publishes number room = subst (λ (q : Parts). IsAwake (record q { journal = with_mark q.journal (Effect v n); workers = with_item p.workers v slot })) (sym h.rest)
-      (subst (λ u. IsAwake (record h.before { access = p.access; journal = with_mark (with_mark h.before.journal h.mark) (Effect u n); workers = with_item p.workers v slot })) (sym worker-is)
-      (subst (λ m. IsAwake (record h.before { access = p.access; journal = with_mark (with_mark h.before.journal h.mark) (Effect (w b p s h) m); workers = with_item p.workers v slot })) (sym number-is)
-      (published b p s h publishes (with_item p.workers v slot) (length-set p.workers.items v slot ∙ table-size) (let r : length (h.mark ∷ h.before.journal.past) < h.before.config.marks = subst (λ (q : Parts). length q.journal.past < q.config.marks) h.rest room in omega (arith, r)) here-is others-are)))
+      → (count : ℕ) → count ≡ pairs_after slot p.pairs → IsAwake (record p { journal = with_mark p.journal (Effect v n); workers = with_item p.workers v slot; pairs = count })
+  struck-aloud slot n is publishes number room count counted = subst (λ (q : Parts). IsAwake (record q { journal = with_mark q.journal (Effect v n); workers = with_item p.workers v slot; pairs = count })) (sym h.rest)
+      (subst (λ u. IsAwake (record h.before { access = p.access; journal = with_mark (with_mark h.before.journal h.mark) (Effect u n); workers = with_item p.workers v slot; pairs = count })) (sym worker-is)
+      (subst (λ m. IsAwake (record h.before { access = p.access; journal = with_mark (with_mark h.before.journal h.mark) (Effect (w b p s h) m); workers = with_item p.workers v slot; pairs = count })) (sym number-is)
+      (published b p s h publishes (with_item p.workers v slot) (length-set p.workers.items v slot ∙ table-size) (let r : length (h.mark ∷ h.before.journal.past) < h.before.config.marks = subst (λ (q : Parts). length q.journal.past < q.config.marks) h.rest room in omega (arith, r)) here-is others-are count count-is)))
     where
       number-is : n ≡ (its b p s h).opened.number
       number-is = number ∙ (ap (λ (q : Parts). slice_index q.numbers.items v) h.rest ∙ (ap (λ u. slice_index h.before.numbers.items u) worker-is ∙ (h.kept.tabled.counted (w b p s h) (subst (λ u. u < 65) worker-is in-table)
@@ -101,6 +102,9 @@ module _ (b : StrikeLaws) (p : Parts) (s : ℕ) (h : IsStriking p s) (v : ℕ) (
 
       slot-is : slot ≡ Some (record (x b p s h) { effect = Some (suc (length h.before.journal.past)) })
       slot-is = is ∙ (ap (λ z. Some (if z then record (x b p s h) { effect = Some (length p.journal.past) } else x b p s h)) publishes ∙ ap (λ m. Some (record (x b p s h) { effect = Some m })) moment-is)
+
+      count-is : count ≡ pairs_after (Some (x b p s h)) h.before.pairs
+      count-is = counted ∙ (ap (λ z. pairs_after z p.pairs) slot-is ∙ ap (λ (q : Parts). pairs_after (Some (x b p s h)) q.pairs) h.rest)
 
       here-is : get_or (slice_set p.workers.items v slot) (w b p s h) None ≡ Some (record (x b p s h) { effect = Some (suc (length h.before.journal.past)) })
       here-is = ap (λ t. get_or (slice_set p.workers.items v slot) t None) (sym worker-is) ∙ (get_or-set_same p.workers.items v slot None (omega (arith, table-size, in-table)) ∙ slot-is)

@@ -197,6 +197,7 @@ module _ (starts : StartsAreSeen) (scenes : ScenesAreSeen) (begun : BegunStayTak
       page_calls = t.page_calls;
       few_page_calls = t.few_page_calls;
       steps = t.steps;
+      pairs = t.pairs;
       power = t.power;
     };
     taken = let t = was.taken in record {

@@ -102,6 +102,7 @@ between-tasks p w x y b workers size rest opened = record {
     page_calls = t.page_calls;
     few_page_calls = t.few_page_calls;
     steps = t.steps;
+    pairs = t.pairs;
     power = t.power;
   };
   taken = let t = b.taken in record { shown = t.shown; held = t.held; few = t.few; counted = t.counted; unused = t.unused };

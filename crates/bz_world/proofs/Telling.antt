@@ -150,6 +150,7 @@ module _ (scenes : ScenesAreSeen) (slots : SlotsAreTaken) (p : Parts) (w : ℕ) 
           page_calls = t.page_calls;
           few_page_calls = t.few_page_calls;
           steps = t.steps;
+          pairs = t.pairs;
           power = t.power;
         };
         taken = let t = told.between.taken in record { shown = t.shown; held = t.held; few = t.few; counted = t.counted; unused = t.unused };

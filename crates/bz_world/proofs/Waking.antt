@@ -36,6 +36,7 @@ use Rattle.bz_world.specs.Lab as lab
 use Rattle.bz_world.specs.Inside.Serving.{IsSlot}
 use Rattle.bz_world.specs.declared.parts.Parts.{Parts}
 use Rattle.bz_world.specs.declared.serving.Serving.{Serving}
+use Rattle.bz_world.proofs.Counting.{pairs-stay}
 use Rattle.bz_world.proofs.Recovered.{Learns}
 use Rattle.bz_world.proofs.Contained.{among-contains, contains-among}
 
@@ -70,6 +71,7 @@ module _ (b : Begins) (p : Parts) (k : IsOff p) (off : p.power ≡ power.Off) (r
         page_calls = t.page_calls;
         few_page_calls = t.few_page_calls;
         steps = omega (arith, t.steps);
+        pairs = pairs-stay p.config p.journal.start p.journal.past On p.pairs (λ map. refl) t.pairs;
         power = refl;
       };
       sound = b.follow p.config p.at_start p.journal k.dark.sound ((b.tells p.at_start (map_at_start p.config p.journal.start) p.journal.past k.dark.sound.once).off.0 (k.dark.tabled.power ∙ off));
@@ -118,6 +120,7 @@ module _ (b : Ends) (p : Parts) (k : MustWake p) (order : IsInOrder p.slots) (ho
     page_calls = t.page_calls;
     few_page_calls = t.few_page_calls;
     steps = omega arith;
+    pairs = pairs-stay p.config p.journal.start p.journal.past Ready p.pairs (λ map. refl) t.pairs;
     power = refl;
   }
 

@@ -1,5 +1,6 @@
 -- What callers see of a world, and what it answers.
-use Rattle.std.specs.Prelude.{◌≡◌, ◌≢◌, ◌<◌, ◌≤◌, ◌⊎◌, ℕ, zero, suc, ◌+◌, ◌-◌, Bool, false, ◌==◌, ◌||◌, ◌&&◌, nat_lt, nat_le, if◌then◌else◌, is_some, is_none, get_or, slice_set, slice_index, replicate, List, [], ◌∷◌, ◌++◌, length, Option, Some, None, MatchOption}
+use Rattle.std.specs.Prelude.{◌≡◌, ◌≢◌, ◌<◌, ◌≤◌, ◌⊎◌, ℕ, zero, suc, ◌+◌, ◌-◌, Bool, false, ◌==◌, ◌||◌, ◌&&◌, nat_lt, nat_le, if◌then◌else◌, is_some, is_none, get_or, slice_set, slice_index, replicate, List, [], ◌∷◌, ◌++◌, length, Option, Some, None, option_map, MatchOption}
+use Rattle.std.specs.FinMap.{len}
 use Rattle.bz_acts.specs.Rule.{is_flush_act}
 use Rattle.bz_acts.specs.declared.acted.Act.{Act}
 use Rattle.bz_acts.specs.declared.acted.Act.TheVariants as act
@@ -16,7 +17,8 @@ use Rattle.bz_mark.specs.declared.marks.Mark.{Mark}
 use Rattle.bz_mark.specs.declared.marks.Mark.TheVariants.{Begin, End, Load, Store, Cas, Flush, Evict, Cut, On, Ready, Effect}
 use Rattle.bz_sound.specs.declared.power.Power.{Power}
 use Rattle.bz_sound.specs.declared.power.Power.TheVariants as power
-use Rattle.bz_sound.specs.Calls.{open_call, begun_calls}
+use Rattle.bz_sound.specs.Calls.{Open, open_call, begun_calls, map_after}
+use Rattle.bz_sound.specs.Memory.Moments.{map_at_start}
 use Rattle.bz_sound.specs.Power.Times.{power_of}
 use Rattle.bz_sound.specs.Replies.{Pages}
 use Rattle.bz_world.specs.declared.answers.Applied.{Applied}
@@ -69,6 +71,20 @@ image_lab config image = lab_over config image power.Off
 -- what the power is
 abbrev pub power_in : Lab → Power
 power_in lab = power_of lab.at_start lab.log.past
+
+-- the number of a worker's open call, if one is open
+abbrev pub open_number : Lab → ℕ → Option ℕ
+open_number lab w = option_map (λ (opened : Open). opened.number) (open_call w lab.log.past)
+
+-- the reply of the call with this number of a worker, if the marks have its End
+abbrev pub reply_of : ℕ → ℕ → List Mark → Option Reply
+reply_of w n [] = None
+reply_of w n (End v m reply at ∷ past) = if (v == w) && (m == n) then Some reply else reply_of w n past
+reply_of w n (mark ∷ past) = reply_of w n past
+
+-- how many pairs the map has after all effects
+abbrev pub pairs_in : Lab → ℕ
+pairs_in lab = len (map_after (map_at_start lab.config lab.log.start) lab.log.past)
 
 -- why no world was opened: the first number out of its range, or want of memory, and then none is
 abbrev pub IsOpenFault : Config → OpenError → Type 0

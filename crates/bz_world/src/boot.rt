@@ -1,8 +1,10 @@
 //! Openings over an image, such as a power cut leaves.
-ghost use Rattle.std.specs.Prelude.{◌≡◌, IfOk, IfErr, OnOk, length, slice_index, None};
+ghost use Rattle.std.specs.Prelude.{◌≡◌, ◌<◌, ◌^◌, IfOk, IfErr, OnOk, length, slice_index, None};
+ghost use Rattle.std.specs.FinMap.{len};
 ghost use Rattle.bz_content.specs.Content.{image_fault};
 ghost use Rattle.bz_layout.specs.Addresses.{words_of};
 ghost use Rattle.bz_layout.specs.Config.{IsConfig};
+ghost use Rattle.bz_sound.specs.Memory.Moments.{map_at_start};
 ghost use Rattle.bz_world.specs.Inside.Beginning.{lab_of};
 ghost use Rattle.bz_world.specs.Inside.Kept.{IsKept};
 ghost use Rattle.bz_world.specs.Lab.{IsBootFault, image_lab};
@@ -17,6 +19,18 @@ use bz_memory::Memory;
 use bz_sound::Power;
 use std::alloc::Global;
 
+// How many pairs an image holds that breaks no rule.
+fn count_held(alloc: Global, config: &Config, image: &[u64]) -> Result<u64, Memory>
+    requires config { IsConfig config.now }
+    requires whole { length image.now ≡ words_of config.now }
+    requires form { image_fault config.now (slice_index image.now) ≡ None }
+    ensures counted { IfOk result (λ count. count ≡ len (map_at_start config.now image.now)) }
+    ensures few { IfOk result (λ count. count < 2 ^ 63) }
+{
+    let held = bz_judge::pairs(alloc, image)?;
+    Ok(held.len() as u64)
+}
+
 // The parts of a world over an image that breaks no rule.
 fn image_parts(alloc: Global, config: &Config, image: &[u64]) -> Result<Parts, Memory>
     requires config { IsConfig config.now }
@@ -27,8 +41,9 @@ fn image_parts(alloc: Global, config: &Config, image: &[u64]) -> Result<Parts, M
 {
     bz_sound::power_laws::fresh_journals_are_sound();
     bz_story::recovery_laws::images_open_journals();
+    let count = count_held(alloc, config, image)?;
     let slots = Slots::open(alloc, config.nodes)?;
-    let parts = parts_over(alloc, config, image, Power::Off, slots)?;
+    let parts = parts_over(alloc, config, image, Power::Off, slots, count)?;
     Ok(parts)
 }
 

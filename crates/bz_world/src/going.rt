@@ -33,8 +33,8 @@ pub(crate) fn look_up(parts: &mut Parts, w: u8) -> Applied
     Applied::Stepped
 }
 
-// The reply to a call that made its change, where its key had this payload, or none.
-fn effect_reply(call: &Call, had: Option<Payload>) -> Reply
+/// The reply to a call that made its change, where its key had this payload, or none.
+pub(crate) fn effect_reply(call: &Call, had: Option<Payload>) -> Reply
     ensures reply { result ≡ reply_in call.now had }
     ensures plain { names_page result ≡ false }
 {

@@ -14,6 +14,7 @@ mod open;
 mod parts;
 mod power;
 mod recovery;
+mod replies;
 mod restructuring;
 mod serving;
 mod settle;

@@ -1,7 +1,9 @@
 //! Openings: a world over fresh memory.
-ghost use Rattle.std.specs.Prelude.{◌≡◌, IfOk, IfErr, replicate, None, length};
+ghost use Rattle.std.specs.Prelude.{◌≡◌, ◌<◌, ◌^◌, IfOk, IfErr, replicate, None, length};
+ghost use Rattle.std.specs.FinMap.{len};
 ghost use Rattle.bz_layout.specs.Config.{IsConfig};
 ghost use Rattle.bz_layout.specs.Addresses.{words_of};
+ghost use Rattle.bz_sound.specs.Memory.Moments.{map_at_start};
 ghost use Rattle.bz_world.specs.Inside.Beginning.{lab_of};
 ghost use Rattle.bz_world.specs.Inside.Kept.{IsKept};
 ghost use Rattle.bz_world.specs.Lab.{IsOpenFault, new_lab};
@@ -44,9 +46,12 @@ pub(crate) fn parts_over(
     start: &[u64],
     at_start: Power,
     slots: Slots,
+    pairs: u64,
 ) -> Result<Parts, Memory>
     requires config { IsConfig config.now }
     requires whole { length start.now ≡ words_of config.now }
+    requires counted { pairs ≡ len (map_at_start config.now start.now) }
+    requires few { pairs < 2 ^ 63 }
     ensures config { IfOk result (λ parts. parts.config ≡ config.now) }
     ensures slots { IfOk result (λ parts. parts.slots ≡ slots) }
     ensures made { IfOk result (IsMadeOver start.now at_start) }
@@ -68,6 +73,7 @@ pub(crate) fn parts_over(
         numbers: vec![in alloc; 0u32; PLACES]?,
         page: PageBuf::open(alloc)?,
         left_out: ArrayVec::new(),
+        pairs,
         begun: 0,
         pages_begun: 0,
     })
@@ -89,7 +95,7 @@ fn fresh_parts(alloc: Global, config: &Config) -> Result<Parts, Memory>
     let start = bz_layout::fresh(alloc, config)?;
     let mut slots = Slots::open(alloc, config.nodes)?;
     slots.hold(ROOT_SLOT);
-    let parts = parts_over(alloc, config, &start, Power::On, slots)?;
+    let parts = parts_over(alloc, config, &start, Power::On, slots, 0)?;
     Ok(parts)
 }
 

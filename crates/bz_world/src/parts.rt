@@ -30,6 +30,8 @@ pub(crate) struct Parts {
     pub page: PageBuf,
     /// Of each worker, whether its next act was a flush when the power was cut last.
     pub left_out: ArrayVec<bool, 65>,
+    /// How many pairs the map has.
+    pub pairs: u64,
     /// How many calls have begun.
     pub begun: u32,
     /// How many of them ask for a page.

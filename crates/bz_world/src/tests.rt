@@ -5,6 +5,7 @@ mod bench;
 mod boot;
 mod calls;
 mod costs;
+mod cuts;
 mod decode;
 mod limits;
 mod map;

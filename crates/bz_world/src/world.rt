@@ -16,8 +16,9 @@ use crate::boot::boot_parts;
 use crate::open::open_parts;
 use crate::parts::Parts;
 use crate::power::{cut, power_on};
+use crate::replies::{number_of, reply_in};
 use crate::step::{evict, step};
-use bz_call::Call;
+use bz_call::{Call, Reply};
 use bz_layout::Config;
 use bz_mark::Journal;
 use bz_sound::Power;
@@ -43,7 +44,7 @@ impl Model for World {
 }
 
 impl World {
-    ghost use Rattle.bz_world.specs.Lab.{Lab, IsWorker, new_lab, image_lab, IsOpenFault, IsBootFault, power_in, begin_answer, after_begin, flush_of, IsApplied};
+    ghost use Rattle.bz_world.specs.Lab.{Lab, IsWorker, new_lab, image_lab, IsOpenFault, IsBootFault, power_in, begin_answer, after_begin, flush_of, open_number, reply_of, pairs_in, IsApplied};
 
     /// A world over fresh memory, in which nothing has happened.
     pub fn open(alloc: Global, config: &Config) -> Result<World, OpenError>
@@ -104,6 +105,28 @@ impl World {
         ensures { result ≡ power_in self.now }
     {
         self.parts.power
+    }
+
+    /// The number of a worker's open call, if one is open.
+    pub fn open_call(&self, w: u8) -> Option<u32>
+        ensures { result ≡ open_number self.now w }
+    {
+        number_of(&self.parts, w)
+    }
+
+    /// The reply of a worker's call with this number, if it has ended. It goes back over the marks to the call's end, or
+    /// over all of them.
+    pub fn reply(&self, w: u8, n: u32) -> Option<Reply>
+        ensures { result ≡ reply_of w n self.now.log.past }
+    {
+        reply_in(&self.parts.journal, w, n)
+    }
+
+    /// How many pairs the map has after all effects.
+    pub fn pairs(&self) -> u64
+        ensures { result ≡ pairs_in self.now }
+    {
+        self.parts.pairs
     }
 
     /// The numbers that the world was made with.

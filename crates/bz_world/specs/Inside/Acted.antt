@@ -111,4 +111,4 @@ pub record HasActed (old : Parts) (w : ℕ) (new : Parts) : Type 0 where
   pub struck : IsStruck (mark_of w made ∷ old.journal.past) new.journal.past
   pub journal : new.journal ≡ record old.journal { past = new.journal.past }
   pub others : (v : ℕ) → v ≢ w → worker_of new.access v ≡ worker_of old.access v
-  pub rest : new ≡ record old { access = new.access; journal = new.journal; workers = new.workers }
+  pub rest : new ≡ record old { access = new.access; journal = new.journal; workers = new.workers; pairs = new.pairs }

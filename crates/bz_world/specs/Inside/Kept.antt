@@ -1,12 +1,15 @@
 -- What a world keeps true of its parts.
-use Rattle.std.specs.Prelude.{◌≡◌, ◌⊎◌, ℕ, ◌+◌, ◌<◌, ◌≤◌, length, slice_index, get_or, Bool, true, false, None}
+use Rattle.std.specs.Prelude.{◌≡◌, ◌⊎◌, ℕ, ◌+◌, ◌^◌, ◌<◌, ◌≤◌, length, slice_index, get_or, Bool, true, false, List, None}
+use Rattle.std.specs.FinMap.{len}
 use Rattle.bz_layout.specs.Config.{IsConfig}
 use Rattle.bz_recover.specs.Duties.{WalksIn}
 use Rattle.bz_layout.specs.Slots.{FreeSlots}
 use Rattle.bz_layout.specs.declared.config.Config.{Config}
 use Rattle.bz_mark.specs.Log.{count_begins, count_page_calls}
 use Rattle.bz_mark.specs.WordsAfter.{words_of as words_after_marks}
-use Rattle.bz_sound.specs.Calls.{open_call, begun_calls}
+use Rattle.bz_mark.specs.declared.marks.Mark.{Mark}
+use Rattle.bz_sound.specs.Calls.{open_call, begun_calls, map_after}
+use Rattle.bz_sound.specs.Memory.Moments.{map_at_start}
 use Rattle.bz_sound.specs.declared.power.Power.{Power}
 use Rattle.bz_sound.specs.declared.power.Power.TheVariants as power
 use Rattle.bz_sound.specs.Power.Sound.{IsSound}
@@ -21,6 +24,11 @@ use Rattle.bz_swap.specs.SwapMemory.{has_effect, words_of}
 use Rattle.bz_swap.specs.TakenStatuses.{IsTaken, BegunAreTaken}
 use Rattle.bz_world.specs.Inside.Serving.{IsSlot}
 use Rattle.bz_world.specs.declared.parts.Parts.{Parts}
+
+-- so many pairs the map has: fewer than a list has room for at first, and each mark adds at most one
+pub record CountsPairs (c : Config) (start : List ℕ) (past : List Mark) (n : ℕ) : Type 0 where
+  pub size : n ≡ len (map_after (map_at_start c start) past)
+  pub few : n < 2 ^ 63 + length past
 
 -- the tables have their sizes, and the counts are the journal's
 pub record IsTabled (p : Parts) : Type 0 where
@@ -38,6 +46,7 @@ pub record IsTabled (p : Parts) : Type 0 where
   pub page_calls : p.pages_begun ≡ count_page_calls p.journal.past
   pub few_page_calls : p.pages_begun ≤ p.config.pages
   pub steps : p.access.steps ≤ length p.journal.past
+  pub pairs : CountsPairs p.config p.journal.start p.journal.past p.pairs
   pub power : power_of p.at_start p.journal.past ≡ p.power
 
 -- each descriptor that was taken is one in which the journal shows a swap begun since power on, or one that a worker is about to

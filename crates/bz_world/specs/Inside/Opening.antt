@@ -1,8 +1,10 @@
 -- What an opening makes, and the slots that a world over fresh memory may hand out.
-use Rattle.std.specs.Prelude.{◌≡◌, ℕ, List, [], replicate, None}
+use Rattle.std.specs.Prelude.{◌≡◌, ◌<◌, ◌^◌, ℕ, List, [], replicate, None}
+use Rattle.std.specs.FinMap.{len}
 use Rattle.bz_layout.specs.Config.{IsConfig}
 use Rattle.bz_layout.specs.Slots.{FreeSlots, all_free, without}
 use Rattle.bz_layout.specs.declared.config.Config.{Config}
+use Rattle.bz_sound.specs.Memory.Moments.{map_at_start}
 use Rattle.bz_sound.specs.declared.power.Power.{Power}
 use Rattle.bz_swap.specs.Held.{Holds}
 use Rattle.bz_swap.specs.Power.{IsOpened}
@@ -23,6 +25,8 @@ pub record IsMadeOver (start : List ℕ) (first : Power) (p : Parts) : Type 0 wh
   pub owners : p.owners.items ≡ replicate p.config.swaps 0
   pub numbers : p.numbers.items ≡ replicate 65 0
   pub left_out : p.left_out.items ≡ []
+  pub pairs : p.pairs ≡ len (map_at_start p.config start)
+  pub few_pairs : p.pairs < 2 ^ 63
   pub begun : p.begun ≡ 0
   pub pages_begun : p.pages_begun ≡ 0
   pub at_start : p.at_start ≡ first

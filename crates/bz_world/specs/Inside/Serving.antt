@@ -1,5 +1,5 @@
 -- What is known of each worker.
-use Rattle.std.specs.Prelude.{◌≡◌, ◌⊎◌, ℕ, ◌+◌, ◌*◌, ◌<◌, ◌≤◌, if◌then◌else◌, Bool, true, false, List, length, slice_index, Option, Some, None}
+use Rattle.std.specs.Prelude.{◌≡◌, ◌⊎◌, ℕ, ◌+◌, ◌-◌, ◌*◌, ◌<◌, ◌≤◌, if◌then◌else◌, Bool, true, false, List, length, slice_index, Option, Some, None}
 use Rattle.bz_call.specs.Map.{key_of, apply}
 use Rattle.bz_call.specs.declared.calls.Call.{Call}
 use Rattle.bz_call.specs.declared.calls.Call.TheVariants as call
@@ -40,6 +40,12 @@ effect_reply (call.Delete key) (Some had) = Deleted had
 effect_reply (call.Update key payload) (Some had) = Updated had
 effect_reply (call.Upsert key payload) (Some had) = Updated had
 effect_reply called had = Inserted
+
+-- how many pairs a map of so many has once a call was answered so
+abbrev pub size_after : Option Reply → ℕ → ℕ
+size_after (Some Inserted) n = n + 1
+size_after (Some (Deleted had)) n = n - 1
+size_after other n = n
 
 -- directly before its effect, if it has had one, the map answers it so
 abbrev pub IsToldBy : Config → Log → Open → Option (List ℕ) → Type 0
@@ -124,3 +130,8 @@ is_publishing (Some x) = publishing_of x.task
 abbrev pub noted : Option Serving → ℕ → Option Serving
 noted None moment = None
 noted (Some x) moment = Some (if publishing_of x.task then record x { effect = Some moment } else x)
+
+-- and how many pairs there are then
+abbrev pub pairs_after : Option Serving → ℕ → ℕ
+pairs_after None n = n
+pairs_after (Some x) n = size_after (Some (effect_reply x.call x.had)) n

@@ -110,6 +110,14 @@ pub(crate) fn last_answer(world: &World) -> Option<Answer> {
     }
 }
 
+/// What the call with this number of a worker answered, if it has ended.
+pub(crate) fn answered(world: &World, w: u8, n: u32) -> Option<Answer> {
+    match world.reply(w, n) {
+        Some(reply) => Some(answer_of(&reply)),
+        None => None,
+    }
+}
+
 /// Makes at most so many steps of a worker, until its call ends: how many were made, and what was answered.
 pub(crate) fn steps(world: &mut World, w: u8, most: u32) -> (u32, Option<Answer>) {
     for made in 0..most {

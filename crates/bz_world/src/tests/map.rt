@@ -12,6 +12,17 @@ pub(crate) const KEYS: u8 = 6;
 /// Of each key, in the order of the keys, a number for its payload; 0 where the key is absent.
 pub(crate) type Map = [u32; 6];
 
+/// How many keys are there.
+pub(crate) fn count(map: &Map) -> u32 {
+    let mut count = 0u32;
+    for number in map {
+        if *number != 0 {
+            count = count.saturating_add(1);
+        }
+    }
+    count
+}
+
 /// A reply, with numbers for payloads.
 #[derive(Clone, Copy, Debug, PartialEq, Eq)]
 pub(crate) enum Told {

@@ -1,7 +1,8 @@
-//! Power cuts, after every tenth act of a call, recoveries that are cut again, and the slots that are free afterwards.
+//! Power cuts, after every number of acts of a call, recoveries that are cut again, and the slots that are free afterwards.
 
-use super::bench::{Answer, begin, numbered, open, payload, steps, whole};
+use super::bench::{Answer, answered, begin, numbered, open, payload, steps, whole};
 use super::decode::decode;
+use super::map::count;
 use super::reader::Reader;
 use crate::{Applied, Begun, Event, Power, World};
 use bz_call::Call;
@@ -19,23 +20,23 @@ fn call_of(rt: &impl Abort, kind: u32) -> Call {
     }
 }
 
-// Each word becomes durable by itself.
-fn evict_all(world: &mut World) {
+/// Each word becomes durable by itself.
+pub(crate) fn evict_all(world: &mut World) {
     for a in 0..world.config().words() {
         world.apply(Event::Evict(a));
     }
 }
 
-// The power fails, and comes on again.
-fn restart(rt: &impl Abort, world: &mut World) {
+/// The power fails, and comes on again.
+pub(crate) fn restart(rt: &impl Abort, world: &mut World) {
     assert_eq!(rt; world.apply(Event::Cut), Applied::Cut);
     assert_eq!(rt; world.power(), Power::Off);
     assert_eq!(rt; world.apply(Event::On), Applied::On);
     assert_eq!(rt; world.power(), Power::Recovering);
 }
 
-// At most so many steps of the recovery; whether it has ended.
-fn recover(world: &mut World, most: u32) -> bool {
+/// At most so many steps of the recovery; whether it has ended.
+pub(crate) fn recover(world: &mut World, most: u32) -> bool {
     for _ in 0..most {
         match world.apply(Event::Step(0)) {
             Applied::Stepped => {}
@@ -46,11 +47,12 @@ fn recover(world: &mut World, most: u32) -> bool {
     false
 }
 
-// The reader explains the journal, and the durable words are its map.
+// The reader explains the journal, and the durable words are its map, of so many pairs.
 fn agrees(rt: &impl Abort, alloc: Global, world: &World) {
     let mut reader = Reader::open(alloc).expect(rt, "a reader");
     assert!(rt; reader.read_on(world).expect(rt, "room for the maps"));
     assert_eq!(rt; decode(world), Some(reader.map()));
+    assert_eq!(rt; world.pairs(), count(&reader.map()));
 }
 
 // A world with one key, and so many acts of a call of this kind. Whether the call has ended.
@@ -74,34 +76,62 @@ fn cut_after(rt: &impl Abort, alloc: Global, kind: u32, acts: u32, evicts: bool)
     assert!(rt; recover(&mut world, 4_000));
     assert_eq!(rt; world.power(), Power::On);
     agrees(rt, alloc, &world);
-    assert!(rt; whole(&mut world, 1, Call::Get(numbered(rt, 1))).is_some());
+    let got = whole(&mut world, 1, Call::Get(numbered(rt, 1)));
+    assert!(rt; got.is_some());
+    assert_eq!(rt; answered(&world, 1, 2), got);
+    assert_eq!(rt; answered(&world, 1, 1).is_some(), ended);
     agrees(rt, alloc, &world);
     ended
+}
+
+// It is cut after every number of acts, up to its last one: how many these are.
+fn cut_at_will(rt: &impl Abort, alloc: Global, kind: u32, evicts: bool) -> u32 {
+    for acts in 0..4_000 {
+        if cut_after(rt, alloc, kind, acts, evicts) {
+            return acts;
+        }
+    }
+    4_000
 }
 
 #[test]
 fn a_call_that_is_cut_is_whole_or_nothing(rt: HostRuntime) {
     for kind in 0..3 {
-        for tenth in 0..12u32 {
-            let acts = tenth.saturating_mul(10);
-            let ended = cut_after(&rt, rt.alloc(), kind, acts, false);
-            assert_eq!(rt; cut_after(&rt, rt.alloc(), kind, acts, true), ended);
+        let acts = cut_at_will(&rt, rt.alloc(), kind, false);
+        assert!(rt; acts >= 50 && acts < 200, "{acts}");
+        assert_eq!(rt; cut_at_will(&rt, rt.alloc(), kind, true), acts);
+    }
+}
+
+// A call of this kind is cut after so many acts, and its recovery after so many more. Whether that had ended.
+fn cut_again(rt: &impl Abort, alloc: Global, kind: u32, acts: u32, more: u32) -> bool {
+    let (mut world, _) = begun(rt, alloc, kind, acts);
+    restart(rt, &mut world);
+    let ended = recover(&mut world, more);
+    evict_all(&mut world);
+    agrees(rt, alloc, &world);
+    restart(rt, &mut world);
+    agrees(rt, alloc, &world);
+    assert!(rt; recover(&mut world, 4_000));
+    agrees(rt, alloc, &world);
+    ended
+}
+
+// It is cut after every number of acts, up to its last one: how many these are.
+fn recovery_cut_at_will(rt: &impl Abort, alloc: Global, kind: u32, acts: u32) -> u32 {
+    for more in 0..4_000 {
+        if cut_again(rt, alloc, kind, acts, more) {
+            return more;
         }
     }
+    4_000
 }
 
 #[test]
 fn a_recovery_that_is_cut_begins_anew(rt: HostRuntime) {
-    for hundred in 0..9u32 {
-        let (mut world, _) = begun(&rt, rt.alloc(), 1, 50);
-        restart(&rt, &mut world);
-        recover(&mut world, hundred.saturating_mul(100));
-        evict_all(&mut world);
-        agrees(&rt, rt.alloc(), &world);
-        restart(&rt, &mut world);
-        agrees(&rt, rt.alloc(), &world);
-        assert!(rt; recover(&mut world, 4_000));
-        agrees(&rt, rt.alloc(), &world);
+    for kind in 0..3 {
+        let acts = recovery_cut_at_will(&rt, rt.alloc(), kind, 50);
+        assert!(rt; acts >= 500 && acts < 1_000, "{acts}");
     }
 }
 
@@ -143,7 +173,9 @@ fn the_power_is_told_in_each_refusal(rt: HostRuntime) -> Result<(), Fail> {
     let mut world = open(rt.alloc(), 4, 16, 2)?;
     assert_eq!(rt; world.apply(Event::On), Applied::Powered);
     assert_eq!(rt; world.begin(1, Call::Get(k)), Begun::Begun(1));
+    assert_eq!(rt; world.open_call(1), Some(1));
     assert_eq!(rt; world.apply(Event::Cut), Applied::Cut);
+    assert_eq!(rt; world.open_call(1), None);
     assert_eq!(rt; world.begin(1, Call::Get(k)), Begun::Off);
     assert_eq!(rt; world.apply(Event::Step(1)), Applied::Off);
     assert_eq!(rt; world.apply(Event::Evict(0)), Applied::Off);
@@ -156,5 +188,6 @@ fn the_power_is_told_in_each_refusal(rt: HostRuntime) -> Result<(), Fail> {
     assert!(rt; recover(&mut world, 4_000));
     assert_eq!(rt; world.apply(Event::Step(1)), Applied::Idle);
     assert_eq!(rt; world.begin(1, Call::Get(k)), Begun::Begun(2));
+    assert_eq!(rt; world.open_call(1), Some(2));
     Ok(())
 }

@@ -1,9 +1,22 @@
-use Rattle.std.proofs.Common.{ap, ◌∙◌}
+use Rattle.std.proofs.Common.{ap, sym, ◌∙◌}
+use Rattle.std.specs.FinMap.{len}
+use Rattle.bz_sound.specs.Memory.Moments.{map_at_start}
 use Rattle.bz_layout.specs.Slots.{FreeSlots, without}
 use Rattle.bz_sound.specs.declared.power.Power.TheVariants as power
 use Rattle.bz_world.specs.Lab.{lab_over}
-use Rattle.bz_world.proofs.Openings.{kept-fresh, lab-made}
+use Rattle.bz_world.proofs.Openings.{kept-fresh, lab-made, no-pairs}
 use Rattle.bz_world.proofs.open.fresh_parts.Goals as goal
+
+pub parts_over-requires-clause-counted : goal.parts_over-requires-clause-counted
+parts_over-requires-clause-counted c =
+    sym (ap (λ words. len (map_at_start c.args.config.now words)) (c.deref.ensures.value ∙ c.in_ok-start.ensures) ∙ no-pairs (record {
+      says = c.fresh_words_say.ensures;
+      empty = c.fresh_memory_is_empty.ensures;
+      reaches = c.fresh_memory_reaches_slot_zero.ensures;
+      taken = c.begun_stay_taken.ensures;
+      sound = c.fresh_journals_are_sound.ensures;
+      living = c.fresh_stories_live.ensures;
+    }) c.args.config.now c.requires)
 
 pub returns-clause-kept : goal.returns-clause-kept
 returns-clause-kept c =

@@ -1,11 +1,11 @@
-use Rattle.std.proofs.Common.{◌≡◌, length, ℕ, refl, sym, ap, subst, ◌∙◌, arith, slice_index, Some, None}
+use Rattle.std.proofs.Common.{◌≡◌, length, ℕ, refl, sym, ap, subst, ◌∙◌, ◌<◌, arith, slice_index, slice_set, Some, None}
 use Rattle.std.specs.Vec.{with_item, vec_len}
-use Rattle.std.proofs.lemmas.List.{get_or_read_under}
+use Rattle.std.proofs.lemmas.List.{get_or_read_under, get_or-set_same, length-set}
 use Rattle.bz_mark.specs.Log.{Log}
 use Rattle.bz_world.specs.Inside.Acted.{IsStriking}
 use Rattle.bz_world.specs.Inside.Kept.{IsAwake}
 use Rattle.bz_world.specs.declared.parts.Parts.{Parts}
-use Rattle.bz_world.specs.Inside.Serving.{noted, is_publishing}
+use Rattle.bz_world.specs.Inside.Serving.{noted, is_publishing, pairs_after}
 use Rattle.bz_world.specs.Inside.Laws.{StrikeLaws}
 use Rattle.bz_world.proofs.Striking.{x}
 use Rattle.bz_world.proofs.Struck.{in-owners, in-table, slot-was, struck-silent, struck-aloud}
@@ -53,10 +53,31 @@ index-n-requires c = omega (arith, in-table b p c.args.swap h v named, h.tabled.
     vec-is : vec_len p.numbers ≡ length p.numbers.items
     vec-is = p.numbers.ok.0
 
+pub index-requires : goal.index-requires
+index-requires c = omega (arith, in-table b p c.args.swap h v named, h.tabled.places, vec-is, length-set p.workers.items v c.note_effect.new.slot)
+  where
+    b : StrikeLaws
+    b = c.strike_laws.ensures
+
+    p : Parts
+    p = c.args.parts.now
+
+    h : IsStriking p c.args.swap
+    h = c.requires.striking
+
+    v : ℕ
+    v = c.index-w.result.now
+
+    named : v ≡ slice_index p.owners.items c.args.swap
+    named = get_or_read_under p.owners.items c.args.swap (length p.owners.items) v 0 c.index-w.ensures (in-owners b p c.args.swap h) refl
+
+    vec-is : vec_len (with_item p.workers v c.note_effect.new.slot) ≡ length (slice_set p.workers.items v c.note_effect.new.slot)
+    vec-is = (with_item p.workers v c.note_effect.new.slot).ok.0
+
 pub returns-then-note_effect-clause-kept : goal.returns-then-note_effect-clause-kept
-returns-then-note_effect-clause-kept c = subst (λ (j : Log). IsAwake (record p { journal = j; workers = with_item p.workers v c.note_effect.new.slot })) (sym c.push.ensures)
+returns-then-note_effect-clause-kept c = subst (λ (j : Log). IsAwake (record p { journal = j; workers = with_item p.workers v c.note_effect.new.slot; pairs = c.count_pairs-parts.result })) (sym c.push.ensures)
     (struck-aloud b p c.args.swap h v named c.note_effect.new.slot c.index-n.result.now slot-is (sym publishes ∙ c.if-note_effect.true)
-    (get_or_read_under p.numbers.items v (length p.numbers.items) c.index-n.result.now 0 c.index-n.ensures (omega (arith, in-table b p c.args.swap h v named, h.tabled.number_places)) refl) c.requires.room)
+    (get_or_read_under p.numbers.items v (length p.numbers.items) c.index-n.result.now 0 c.index-n.ensures (omega (arith, in-table b p c.args.swap h v named, h.tabled.number_places)) refl) c.requires.room c.count_pairs-parts.result counted)
   where
     b : StrikeLaws
     b = c.strike_laws.ensures
@@ -81,6 +102,14 @@ returns-then-note_effect-clause-kept c = subst (λ (j : Log). IsAwake (record p 
 
     publishes : c.note_effect.result ≡ is_publishing (Some (x b p c.args.swap h))
     publishes = c.note_effect.ensures.publishes ∙ ap is_publishing was
+
+    within : v < length p.workers.items
+    within = omega (arith, in-table b p c.args.swap h v named, h.tabled.places)
+
+    counted : c.count_pairs-parts.result ≡ pairs_after c.note_effect.new.slot p.pairs
+    counted = c.count_pairs-parts.ensures ∙ ap (λ z. pairs_after z p.pairs)
+        (get_or_read_under (slice_set p.workers.items v c.note_effect.new.slot) v (length p.workers.items) c.index.result.now None c.index.ensures within (sym (length-set p.workers.items v c.note_effect.new.slot))
+        ∙ get_or-set_same p.workers.items v c.note_effect.new.slot None within)
 
 pub returns-else-note_effect-clause-kept : goal.returns-else-note_effect-clause-kept
 returns-else-note_effect-clause-kept c = struck-silent b p c.args.swap h v named c.note_effect.new.slot slot-is (sym publishes ∙ c.if-note_effect.false)
