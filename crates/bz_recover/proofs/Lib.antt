@@ -16,3 +16,4 @@ pub mod Reading
 pub mod Renewing
 pub mod Standing
 pub mod Sweeps
+pub mod Ahead

@@ -184,7 +184,7 @@ flushed c v m n line (Value p b) walks may at e k h = absurd (cc)
 flushed c v m n line (Resolve p y) walks may at e k h = absurd (cc)
 flushed c v m n line (Flush p) walks may at e k h =
     let same : line ≡ line_of p.at = cc in
-    sweep.flushed c v m n p.unflushed p.at at.order at.line h (subst (Flushes m n) same k)
+    sweep.flushed c v m n p.unflushed p.at at.0.order at.0.line h (subst (Flushes m n) same k)
 flushed c v m n line (SwapStatus s) walks may at e k h = absurd (cc)
 flushed c v m n line (Free s) walks may at e k h = absurd (cc)
 flushed c v m n line (FlushFree s) walks may at e k h =
@@ -221,7 +221,7 @@ told c v m (Status p s) walks may at h = let t : Pointed c m.durable p.at s = po
 told c v m (Target p q i) walks may at h = let t : Pointed c m.durable p.at q.swap = pointer-found c v m p.unflushed p.at q.swap at.0.shared h.0 h.1.pointer in (of-entry c q.swap i 0 t.has.begun.number at.1 (omega arith)).within
 told c v m (Value p a) walks may at h = h.1.place.within
 told c v m (Resolve p x) walks may at h = (at.shared.within, rw h.1 (plain-value c v m.durable h.0.image p.at at.shared))
-told c v m (Flush p) walks may at h = line-within p.at (words_of c) at.shared.within
+told c v m (Flush p) walks may at h = line-within p.at (words_of c) at.0.shared.within
 told c v m (SwapStatus s) walks may at h = (first-of-swap c s at).within
 told c v m (Free s) walks may at h = ((first-of-swap c s at).within, omega arith)
 told c v m (FlushFree s) walks may at h = line-within (swap_address s) (words_of c) (first-of-swap c s at).within

@@ -1,7 +1,7 @@
 -- What a recovery asks for and what it knows, phase by phase.
-use Rattle.std.specs.Prelude.{◌≡◌, ◌≢◌, ℕ, ◌+◌, ◌^◌, ◌<◌, ◌==◌, Option, Some, None}
+use Rattle.std.specs.Prelude.{◌≡◌, ◌≢◌, ℕ, ◌+◌, ◌-◌, ◌^◌, ◌<◌, ◌==◌, Option, Some, None}
 use Rattle.bz_content.specs.Resolving.{status_in, target_in, SUCCEEDED}
-use Rattle.bz_layout.specs.Addresses.{swap_address, line_of}
+use Rattle.bz_layout.specs.Addresses.{swap_address, words_of, line_of}
 use Rattle.bz_layout.specs.Slots.{FreeSlots}
 use Rattle.bz_layout.specs.declared.config.Config.{Config}
 use Rattle.bz_layout.specs.declared.sizes.TheConstants.{SWAP_STATUS_AT}
@@ -14,7 +14,7 @@ use Rattle.bz_task.specs.Scene.{Stage, Waiting, Took}
 use Rattle.bz_word.specs.Kinds.{kind}
 use Rattle.bz_word.specs.declared.kind.WordKind.TheVariants.{Swap}
 use Rattle.bz_recover.specs.Memory.{Memory}
-use Rattle.bz_recover.specs.Places.{entry_address, left_in, IsPlaced}
+use Rattle.bz_recover.specs.Places.{entry_address, left_in, pointers_in, IsPlaced}
 use Rattle.bz_recover.specs.Sweep.{IsPoweredOn, IsSwept, IsFreeing, IsOfSwap}
 use Rattle.bz_recover.specs.Walking.{Walks, IsWalking, asks_of_walk, end_in_walk, walk_left}
 use Rattle.bz_recover.specs.declared.phase.Phase.{Phase}
@@ -102,8 +102,16 @@ asks_of t = asks_in t.phase (asks_of_walk t.walk)
 abbrev pub end_of : Recover → Option Outcome
 end_of t = end_in t.phase (end_in_walk t.walk.step)
 
+abbrev pub left_with : (ℕ → ℕ) → Recover → ℕ
+left_with pointers t = left_in t.config pointers (walk_left t.walk.left t.walk.step) t.phase
+
+-- the most acts that it still asks for, whatever the words are: each may be a pointer
 abbrev pub left_of : Recover → ℕ
-left_of t = left_in t.config (walk_left t.walk.left t.walk.step) t.phase
+left_of t = left_with (λ a. words_of t.config - a) t
+
+-- and over a memory that it knows
+abbrev pub acts_left : Recover → Memory → ℕ
+acts_left t m = left_with (pointers_in t.config m.durable) t
 
 abbrev pub Knows : Recover → (ℕ → ℕ) → Stage → Memory → Type 0
 Knows t values stage m = knows_in t.config values m stage t.phase

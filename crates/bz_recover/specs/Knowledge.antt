@@ -8,7 +8,7 @@ use Rattle.bz_task.specs.declared.todo.Outcome.TheVariants.{Recovered}
 use Rattle.bz_task.specs.declared.todo.Todo.{Todo}
 use Rattle.bz_task.specs.declared.todo.Todo.TheVariants.{Load, Store, Flush, Finish}
 use Rattle.bz_recover.specs.Contents.{ResolvesSome}
-use Rattle.bz_recover.specs.Duties.{config_of, asks_of, end_of, Knows, WalksIn, IsReady}
+use Rattle.bz_recover.specs.Duties.{config_of, asks_of, end_of, acts_left, Knows, WalksIn, IsReady}
 use Rattle.bz_recover.specs.Laws.{IsAskable}
 use Rattle.bz_recover.specs.Memory.{Memory, Stores, Copies, Flushes}
 use Rattle.bz_recover.specs.Sweep.{IsShared, IsOfSwap, IsImage, IsRecovered}
@@ -38,3 +38,8 @@ pub record RecoveriesKnow : Type 0 where
   pub ends : (t : Recover) (values : ℕ → ℕ) (stage : Stage) (m : Memory) → IsReady t → Knows t values stage m → end_of t ≡ Some Recovered → IsRecovered (config_of t) values m
   -- and exactly the slots of the tree are held
   pub reached : (t : Recover) (values image : ℕ → ℕ) (slots : FreeSlots) → IsReady t → slots.nodes ≡ (config_of t).nodes → WalksIn t values slots → IsTreeOf (config_of t) values image → end_of t ≡ Some Recovered → AreReached (config_of t) image slots
+
+-- how many acts are left changes by what a recovery is told alone
+pub record ActsLeftStay : Type 0 where
+  pub copied : (t : Recover) (values : ℕ → ℕ) (stage : Stage) (old new : Memory) (copied : ℕ → Bool) → Knows t values stage old → Copies old new copied → acts_left t new ≡ acts_left t old
+  pub stored : (t : Recover) (old new : Memory) (a x : ℕ) → Stores old new a x → acts_left t new ≡ acts_left t old

@@ -1,7 +1,7 @@
 //! Laws of images in a recovery. Each function does nothing: its contract is the law.
 
 ghost use Rattle.bz_recover.specs.Contents.{ResolvingKeepsTheContent};
-ghost use Rattle.bz_recover.specs.Knowledge.{RecoveriesKnow};
+ghost use Rattle.bz_recover.specs.Knowledge.{ActsLeftStay, RecoveriesKnow};
 ghost use Rattle.bz_recover.specs.Laws.{CutsKeepTheImage, ActsAreThese, RecoveredMemoriesMayBeRenewed};
 
 /// A power cut, in a recovery too, leaves an image that resolves to the same values.
@@ -27,6 +27,11 @@ pub fn recovered_memories_may_be_renewed()
 /// What every recovery knows of the memory, and what it knows after its own acts and those of others.
 pub fn recoveries_know()
     ensures { RecoveriesKnow }
+{}
+
+/// No store, flush or eviction of anybody changes how many acts are left.
+pub fn acts_left_stay()
+    ensures { ActsLeftStay }
 {}
 
 /// Where words outside the descriptors become what they stand for, the image breaks no rule anew and holds the same.

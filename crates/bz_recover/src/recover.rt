@@ -1,12 +1,13 @@
 //! The recovery.
 
-ghost use Rattle.std.specs.Prelude.{◌≡◌, ◌≢◌, ◌+◌, ◌<◌, ◌↔◌, ℕ, Option, Some, None, IsTrue};
+ghost use Rattle.std.specs.Prelude.{◌≡◌, ◌≢◌, ◌+◌, ◌*◌, ◌<◌, ◌↔◌, ℕ, Option, Some, None, IsTrue};
 ghost use Rattle.bz_layout.specs.declared.config.Config.{Config};
-ghost use Rattle.bz_recover.specs.Places.{IsSpot, IsPlaced, entry_address, left_in, left_at, swaps_left, walk_acts};
+ghost use Rattle.bz_recover.specs.Places.{IsSpot, IsPlaced, entry_address, left_in, left_at, swaps_left, walk_acts, MOST_ACTS, IsFalling, IsCounted};
+ghost use Rattle.bz_layout.specs.Addresses.{words_of};
 ghost use Rattle.bz_layout.specs.Config.{IsConfig};
 ghost use Rattle.bz_layout.specs.Slots.{FreeSlots};
 ghost use Rattle.bz_task.specs.Scene.{Stage, Waiting, Took};
-ghost use Rattle.bz_recover.specs.Duties.{IsSought, knows_before, config_of, asks_in, asks_of, end_of, left_of, Knows, WalksIn, Hears, Tells, IsReady};
+ghost use Rattle.bz_recover.specs.Duties.{IsSought, knows_before, config_of, asks_in, asks_of, end_of, left_with, left_of, acts_left, Knows, WalksIn, Hears, Tells, IsReady};
 ghost use Rattle.bz_recover.specs.Memory.{Memory, Stores, Flushes, Evicts};
 ghost use Rattle.bz_recover.specs.Sweep.{IsPoweredOn, IsSwept, IsFreeing, IsImage, IsRecovered};
 ghost use Rattle.bz_recover.specs.Laws.{IsAskable};
@@ -44,7 +45,7 @@ impl Recover {
         ensures ready { IsReady result }
         ensures config { config_of result ≡ config.now }
         ensures asks { asks_of result ≡ None }
-        ensures left { left_of result ≡ left_at config.now 0 0 + 1 }
+        ensures left { (m : Memory) → acts_left result m < MOST_ACTS * words_of config.now }
         // of the slots it knows nothing yet
         ensures walks { (values : ℕ → ℕ) (slots : FreeSlots) → WalksIn result values slots }
         // it may begin in every memory whose power has come on again
@@ -76,6 +77,8 @@ impl Recover {
         ensures slots { slots.new.nodes ≡ slots.old.nodes }
         ensures asked { asks_of self.new ≡ Some result }
         ensures nearer { left_of self.new < left_of self.old }
+        // and over a memory that it knows
+        ensures sooner { (values : ℕ → ℕ) (m : Memory) → Knows self.old values Took m → acts_left self.new m < acts_left self.old m }
         ensures config { config_of self.new ≡ config_of self.old }
         // a new one begins with the first word
         ensures first { asks_of self.old ≡ None → result ≡ Load 0 }
@@ -135,7 +138,7 @@ impl Recover {
         ensures place { IsPlaced self.now.config result }
         ensures begun { result ≢ Phase.Fresh }
         ensures first { (walks : Option Todo) → asks_of self.now ≡ None → asks_in result walks ≡ Some (Load 0) }
-        ensures nearer { left_in self.now.config (walk_acts self.now.config) result < left_of self.now }
+        ensures nearer { (pointers : ℕ → ℕ) → IsFalling pointers → IsCounted pointers self.now.phase → left_in self.now.config pointers (walk_acts self.now.config) result < left_with pointers self.now }
         ensures learns { (v : ℕ → ℕ) (m : Memory) → Knows self.now v Took m → Tells self.now seen m → knows_before self.now.config v m result }
     {
         let config = &self.config;
@@ -193,7 +196,7 @@ fn sought(spot: Spot, pointer: Pointer, entry: u32, target: u64) -> Phase
     requires { entry < MAX_ENTRIES }
     ensures place { (c : Config) → IsConfig c → IsSpot c spot → IsPlaced c result }
     ensures begun { result ≢ Phase.Fresh }
-    ensures nearer { (c : Config) → IsSpot c spot → left_in c (walk_acts c) result < left_at c spot.at (2 + entry) }
+    ensures nearer { (c : Config) (pointers : ℕ → ℕ) → IsSpot c spot → pointers (spot.at + 1) < pointers spot.at → left_in c pointers (walk_acts c) result < left_at c (pointers spot.at) spot.at (2 + entry) }
     ensures learns { (c : Config) (v : ℕ → ℕ) (m : Memory) → IsSpot c spot → IsSwept c v m spot.unflushed spot.at → IsSought m spot.at pointer entry → m.cached (entry_address pointer.swap entry TARGET) ≡ target → knows_before c v m result }
 {
     if target == u64::from(spot.at) || entry + 1 == MAX_ENTRIES {
@@ -208,7 +211,8 @@ fn freed(config: &Config, swap: u32) -> Phase
     requires config { IsConfig config.now }
     requires swap { swap < config.now.swaps }
     ensures place { IsPlaced config.now result }
-    ensures nearer { left_in config.now (walk_acts config.now) result < swaps_left config.now swap 2 }
+    ensures begun { result ≢ Phase.Fresh }
+    ensures nearer { (pointers : ℕ → ℕ) → left_in config.now pointers (walk_acts config.now) result < swaps_left config.now swap 2 }
     ensures learns { (v : ℕ → ℕ) (m : Memory) → IsFreeing config.now v m (swap + 1) (swap + 1) → knows_before config.now v m result }
 {
     let next = swap + 1;

@@ -2,7 +2,7 @@
 
 ghost use Rattle.std.specs.Prelude.{◌≡◌, ◌≢◌, ◌+◌, ◌%◌, ◌^◌, ◌<◌, ◌≤◌, if◌then◌else◌, ℕ, true, false};
 ghost use Rattle.bz_layout.specs.Config.{IsConfig};
-ghost use Rattle.bz_recover.specs.Places.{IsSpot, IsPlaced, IsNextShared, entry_address, left_in, left_at, walk_acts};
+ghost use Rattle.bz_recover.specs.Places.{IsSpot, IsPlaced, IsNextShared, entry_address, left_in, left_at, walk_acts, IsFalling};
 ghost use Rattle.bz_recover.specs.Sweep.{IsShared, IsSwept};
 ghost use Rattle.bz_recover.specs.Memory.{Memory};
 ghost use Rattle.bz_recover.specs.Duties.{knows_before};
@@ -58,7 +58,9 @@ fn onward(config: &Config, spot: Spot, changed: bool) -> Phase
     requires spot { IsSpot config.now spot }
     requires line { changed ≡ true → (spot.at + 1) % LINE_WORDS ≢ 0 }
     ensures place { IsPlaced config.now result }
-    ensures nearer { left_in config.now (walk_acts config.now) result < left_at config.now spot.at 8 }
+    ensures begun { result ≢ Phase.Fresh }
+    ensures nearer { (pointers : ℕ → ℕ) → IsFalling pointers → left_in config.now pointers (walk_acts config.now) result < left_at config.now (pointers (spot.at + 1)) spot.at 2 }
+    ensures past_line { (pointers : ℕ → ℕ) → IsFalling pointers → (spot.at + 1) % LINE_WORDS ≡ 0 → left_in config.now pointers (walk_acts config.now) result < left_at config.now (pointers (spot.at + 1)) spot.at 3 }
     ensures learns { (v : ℕ → ℕ) (m : Memory) → IsSwept config.now v m (if changed then spot.unflushed else spot.at + 1) (spot.at + 1) → knows_before config.now v m result }
 {
     let at = address_after(config, spot.at);
@@ -73,8 +75,10 @@ fn onward(config: &Config, spot: Spot, changed: bool) -> Phase
 pub(crate) fn flushed(config: &Config, spot: Spot) -> Phase
     requires config { IsConfig config.now }
     requires spot { IsSpot config.now spot }
+    requires line { (spot.at + 1) % LINE_WORDS ≡ 0 }
     ensures place { IsPlaced config.now result }
-    ensures nearer { left_in config.now (walk_acts config.now) result < left_at config.now spot.at 8 }
+    ensures begun { result ≢ Phase.Fresh }
+    ensures nearer { (pointers : ℕ → ℕ) → IsFalling pointers → left_in config.now pointers (walk_acts config.now) result < left_at config.now (pointers (spot.at + 1)) spot.at 3 }
     ensures learns { (v : ℕ → ℕ) (m : Memory) → IsSwept config.now v m (spot.at + 1) (spot.at + 1) → knows_before config.now v m result }
 {
     onward(config, spot, false)
@@ -85,7 +89,8 @@ pub(crate) fn resolved(config: &Config, spot: Spot, stored: bool) -> Phase
     requires config { IsConfig config.now }
     requires spot { IsSpot config.now spot }
     ensures place { IsPlaced config.now result }
-    ensures nearer { left_in config.now (walk_acts config.now) result < left_at config.now spot.at 7 }
+    ensures begun { result ≢ Phase.Fresh }
+    ensures nearer { (pointers : ℕ → ℕ) → IsFalling pointers → left_in config.now pointers (walk_acts config.now) result < left_at config.now (pointers (spot.at + 1)) spot.at 2 }
     ensures learns { (v : ℕ → ℕ) (m : Memory) → IsSwept config.now v m spot.unflushed (spot.at + 1) → (stored ≡ false → m.durable spot.at ≡ v spot.at) → knows_before config.now v m result }
 {
     let changed = stored || spot.unflushed < spot.at;
@@ -100,7 +105,8 @@ pub(crate) fn found(config: &Config, spot: Spot, word: u64) -> Phase
     requires config { IsConfig config.now }
     requires spot { IsSpot config.now spot }
     ensures place { IsPlaced config.now result }
-    ensures nearer { left_in config.now (walk_acts config.now) result < left_at config.now spot.at 0 }
+    ensures begun { result ≢ Phase.Fresh }
+    ensures nearer { (pointers : ℕ → ℕ) → IsFalling pointers → left_in config.now pointers (walk_acts config.now) result < left_at config.now (pointers spot.at) spot.at 0 }
     ensures learns { (v : ℕ → ℕ) (m : Memory) → IsSwept config.now v m spot.unflushed spot.at → m.cached spot.at ≡ word → knows_before config.now v m result }
 {
     match kind_of(word) {

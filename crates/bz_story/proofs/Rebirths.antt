@@ -1,6 +1,6 @@
 -- The marks from a power cut to the end of the recovery: memory and journal agree after each of them, and what the durable words
 -- decode to stays; then a new life begins.
-use Rattle.std.proofs.Common.{◌≡◌, ◌↔◌, ℕ, suc, ◌≤◌, ◌&&◌, Bool, false, List, ◌∷◌, Contains, length, slice_index, Some, None, arith, refl, sym, ap, subst, ◌∙◌, inl}
+use Rattle.std.proofs.Common.{◌≡◌, ◌↔◌, ℕ, suc, ◌+◌, ◌≤◌, ◌&&◌, Bool, false, List, ◌∷◌, Contains, length, slice_index, Some, None, arith, refl, sym, ap, subst, ◌∙◌, inl}
 use Rattle.std.specs.Prelude.{nat_lt, ◌==◌, if◌then◌else◌, slice_set}
 use Rattle.std.specs.FinMap.{get}
 use Rattle.std.proofs.lemmas.Bool.{true≢false}
@@ -19,7 +19,7 @@ use Rattle.bz_mark.specs.declared.marks.Mark.TheVariants.{Evict, Ready}
 use Rattle.bz_pm.specs.Acts.{evicted, after_cut as words_after_cut}
 use Rattle.bz_pm.specs.Words.{Words}
 use Rattle.bz_recover.specs.Contents.{SaysTheSame}
-use Rattle.bz_recover.specs.Duties.{WalksIn}
+use Rattle.bz_recover.specs.Duties.{acts_left, WalksIn}
 use Rattle.bz_recover.specs.Knowledge.{RecoveriesKnow}
 use Rattle.bz_recover.specs.Walking.{IsTreeOf, AreReached}
 use Rattle.bz_recover.specs.declared.recover.Recover.{Recover}
@@ -34,9 +34,9 @@ use Rattle.bz_swap.specs.Steps.{IsRawStep, StepsIn}
 use Rattle.bz_swap.specs.SwapMemory.{SwapMemory, words_of}
 use Rattle.bz_story.specs.Living.{IsLiving}
 use Rattle.bz_story.proofs.Powering.{image-now}
-use Rattle.bz_story.specs.Recovering.{IsRecovering, Turn, Asked, Made}
+use Rattle.bz_story.specs.Recovering.{IsRecovering, Turn, Asked, Made, words_in}
 use Rattle.bz_story.specs.RecoveryLaws.{CutsLeaveTheImage, ImagesAreOff, RecoveriesBegin, ActsRecover, Recovers, EvictionsLeaveRecoveries, StaysRecovering, RecoveriesRevive, IsRevived}
-use Rattle.bz_story.specs.Reviving.{IsRecoveringIn, CutsAreMarked, ImagesOpenJournals, PowerOnIsMarked, TurnsMakeNoMark, mark_of, StillDecodes, ActsAreMarked, EvictionsAreMarked, renewed_story, RecoveriesGiveLife, WalksEnd}
+use Rattle.bz_story.specs.Reviving.{acts_by, to_come, IsRecoveringIn, CutsAreMarked, ImagesOpenJournals, PowerOnIsMarked, TurnsMakeNoMark, mark_of, StillDecodes, ActsAreMarked, EvictionsAreMarked, renewed_story, RecoveriesGiveLife, WalksEnd}
 
 -- what holds what another image holds, which holds what a third one holds
 says-as : (c : Config) (x y z : ℕ → ℕ) → SaysTheSame c x y → SaysTheSame c y z → SaysTheSame c x z
@@ -63,6 +63,16 @@ act-quiet start past (act.Flush line) = record { calls = λ w. refl; map = λ fi
 evict-quiet : (start : List ℕ) (past : List Mark) (a : ℕ) → IsQuietMark start past (Evict a)
 evict-quiet start past a = record { calls = λ w. refl; map = λ first. refl; on = refl; taken = λ swap. refl; stored = λ c slot. refl }
 
+-- an act of worker 0 is one act more
+act-counted : (past : List Mark) (made : Act) → acts_by 0 (since_on (mark_of 0 made ∷ past)) ≡ acts_by 0 (since_on past) + 1
+act-counted past (act.Load a v) = refl
+act-counted past (act.Store a v) = refl
+act-counted past (act.Cas a old new found) = refl
+act-counted past (act.Flush line) = refl
+
+one-made : (acts left was : ℕ) → left ≡ was → acts + 1 + left ≡ acts + suc was
+one-made acts left was same = omega (arith, same)
+
 -- the words after an act
 act-words : (ws : Words) (made : Act) → FoundRightly ws made → words_after ws (mark_of 0 made) ≡ after_act ws made
 act-words ws (act.Load a v) found = refl
@@ -88,14 +98,15 @@ still-decodes c old new log mark k d = record {
 }
 
 marked : (c : Config) (v : ℕ → ℕ) (old new : SwapMemory) (log : Log) (mark : Mark) (turn next : Turn) (t : Recover) → IsRecoveringIn c v old log turn t → Keeps c old new log mark → IsRecovering c v new next t
-    → IsRecoveringIn c v new (with_mark log mark) next t
-marked c v old new log mark turn next t r k recovering = record {
+    → acts_by 0 (since_on (mark ∷ log.past)) + to_come next (acts_left t (words_in new)) ≡ acts_by 0 (since_on log.past) + to_come turn (acts_left t (words_in old)) → IsRecoveringIn c v new (with_mark log mark) next t
+marked c v old new log mark turn next t r k recovering spent = record {
   recovering = recovering;
   words = k.after;
   calls = λ w. k.quiet.calls w ∙ r.calls w;
   same = subst (λ x. SaysTheSame c x (slice_index new.durable)) (sym k.quiet.on) (says-as c (image_at_on log.start log.past) (slice_index old.durable) (slice_index new.durable) r.same k.same);
   untaken = λ swap. k.quiet.taken swap ∙ r.untaken swap;
   unstored = λ slot. k.quiet.stored c slot ∙ r.unstored slot;
+  spent = omega (arith, spent, r.spent);
 }
 
 pub cuts-marked : CutsLeaveTheImage → CutsAreMarked
@@ -123,16 +134,18 @@ on-marked law c v m log t off is-new = record {
   same = subst (λ (w : Words). SaysTheSame c (slice_index w.durable) (slice_index m.durable)) off.words (record { well_formed = off.off.memory.form; inside = λ k. refl; content = λ key. refl });
   untaken = λ swap. refl;
   unstored = λ slot. refl;
+  spent = omega (arith, is-new.left (words_in m));
 }
 
 pub turns : TurnsMakeNoMark
-turns c v m n log turn next t u r words recovering = record {
+turns c v m n log turn next t u r words recovering fewer = record {
   recovering = recovering;
   words = words ∙ r.words;
   calls = r.calls;
   same = subst (λ (w : Words). SaysTheSame c (image_at_on log.start log.past) (slice_index w.durable)) (sym words) r.same;
   untaken = r.untaken;
   unstored = r.unstored;
+  spent = omega (arith, fewer, r.spent);
 }
 
 pub acts-marked : ActsRecover → ActsAreMarked
@@ -147,7 +160,7 @@ acts-marked law c v old new log t made answer told r s =
     } in
     record {
       recovers = done;
-      marked = marked c v old new log (mark_of 0 made) _ Made t r k done.recovering;
+      marked = marked c v old new log (mark_of 0 made) _ Made t r k done.recovering (ap (λ n. n + acts_left t (words_in new)) (act-counted log.past made) ∙ one-made (acts_by 0 (since_on log.past)) (acts_left t (words_in new)) (acts_left t (words_in old)) done.left);
       decodes = still-decodes c old new log (mark_of 0 made) k;
     }
 
@@ -163,7 +176,7 @@ evictions-marked law c v old new log turn t a told r within h =
     } in
     record {
       stays = stays;
-      marked = marked c v old new log (Evict a) turn turn t r k stays.recovering;
+      marked = marked c v old new log (Evict a) turn turn t r k stays.recovering (ap (λ n. acts_by 0 (since_on log.past) + to_come turn n) stays.left);
       decodes = still-decodes c old new log (Evict a) k;
     }
 

@@ -12,8 +12,8 @@ use Rattle.bz_machine.specs.declared.done.Done.TheVariants as done
 use Rattle.bz_pm.specs.Acts.{stored, flushed, evicted}
 use Rattle.bz_pm.specs.Words.{Words, IsMemory}
 use Rattle.bz_recover.specs.Contents.{ResolvesSome, SaysTheSame, ResolvingKeepsTheContent}
-use Rattle.bz_recover.specs.Duties.{config_of, asks_of, Knows, hears_in, tells_in}
-use Rattle.bz_recover.specs.Knowledge.{RecoveriesKnow}
+use Rattle.bz_recover.specs.Duties.{config_of, asks_of, acts_left, Knows, hears_in, tells_in}
+use Rattle.bz_recover.specs.Knowledge.{RecoveriesKnow, ActsLeftStay}
 use Rattle.bz_recover.specs.Laws.{ActsAreThese}
 use Rattle.bz_recover.specs.Memory.{Stores, Flushes, Evicts, memory_of}
 use Rattle.bz_recover.specs.declared.recover.Recover.{Recover}
@@ -38,6 +38,7 @@ pub record Laws : Type 0 where
   pub sizes : SizesStay
   pub acts : ActsAreThese
   pub know : RecoveriesKnow
+  pub left : ActsLeftStay
   pub content : ResolvingKeepsTheContent
 
 -- an image holds what it holds
@@ -97,6 +98,7 @@ module _ (b : Laws) (c : Config) (v : ℕ → ℕ) (old new : SwapMemory) (t : R
       doing = s.one.doing ∙ subst (λ d. doing_after (doing_of old 0) d ≡ Idle) (sym is) refl;
       knows = known (words_of old) words (b.know.loaded t v (words_in old) a r.ready e r.knows);
     };
+    left = ap (λ (z : Words). acts_left t (memory_of z)) words;
     same = same;
   }
     where
@@ -127,6 +129,7 @@ module _ (b : Laws) (c : Config) (v : ℕ → ℕ) (old new : SwapMemory) (t : R
       doing = s.one.doing ∙ subst (λ d. doing_after (doing_of old 0) d ≡ Idle) (sym is) refl;
       knows = known (stored (words_of old) a x) words (b.know.stored t v (words_in old) (memory_of (stored (words_of old) a x)) a x r.ready e r.knows changes);
     };
+    left = ap (λ (z : Words). acts_left t (memory_of z)) words ∙ b.left.stored t (words_in old) (memory_of (stored (words_of old) a x)) a x changes;
     same = same;
   }
     where
@@ -157,6 +160,7 @@ module _ (b : Laws) (c : Config) (v : ℕ → ℕ) (old new : SwapMemory) (t : R
       doing = s.one.doing ∙ subst (λ d. doing_after (doing_of old 0) d ≡ Idle) (sym is) refl;
       knows = known (flushed (words_of old) line) words (b.know.flushed t v (words_in old) (memory_of (flushed (words_of old) line)) line r.ready e r.knows changes);
     };
+    left = ap (λ (z : Words). acts_left t (memory_of z)) words ∙ b.left.copied t v Waiting (words_in old) (memory_of (flushed (words_of old) line)) (λ k. line_of k == line) r.knows changes;
     same = same;
   }
     where
@@ -237,6 +241,7 @@ evictions-leave b c v old new turn t a told r within h = record {
     busy = subst (IsBusyIn turn) (sym (ap (λ z. doing_of z 0) h.is)) r.busy;
     knows = subst (λ z. Knows t v (stage_of turn) (memory_of z)) (sym words) (b.know.stable t v (stage_of turn) (words_in old) (memory_of (evicted (words_of old) a)) (λ k. k == a) r.ready r.knows evicts);
   };
+  left = ap (λ (z : Words). acts_left t (memory_of z)) words ∙ b.left.copied t v (stage_of turn) (words_in old) (memory_of (evicted (words_of old) a)) (λ k. k == a) r.knows evicts;
   same = same;
 }
   where

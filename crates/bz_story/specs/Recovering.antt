@@ -1,12 +1,13 @@
 -- A swap memory whose power has failed, and the recovery that makes it ready again: what holds of both from the power cut to
 -- the renewal.
-use Rattle.std.specs.Prelude.{◌≡◌, ◌≢◌, ℕ, ◌+◌, ◌<◌, length, slice_index, Option, Some, None}
+use Rattle.std.specs.Prelude.{◌≡◌, ◌≢◌, ℕ, ◌+◌, ◌*◌, ◌<◌, length, slice_index, Option, Some, None}
 use Rattle.bz_content.specs.Content.{image_fault}
 use Rattle.bz_layout.specs.Addresses.{words_of as size_of}
 use Rattle.bz_layout.specs.Config.{IsConfig}
 use Rattle.bz_layout.specs.declared.config.Config.{Config}
-use Rattle.bz_recover.specs.Duties.{config_of, asks_of, Knows, Tells, IsReady}
+use Rattle.bz_recover.specs.Duties.{config_of, asks_of, acts_left, Knows, Tells, IsReady}
 use Rattle.bz_recover.specs.Memory.{Memory, memory_of}
+use Rattle.bz_recover.specs.Places.{MOST_ACTS}
 use Rattle.bz_recover.specs.Sweep.{IsPoweredOn}
 use Rattle.bz_recover.specs.declared.recover.Recover.{Recover}
 use Rattle.bz_swap.specs.PlainFields.{HavePlainFields}
@@ -89,9 +90,11 @@ pub record IsNew (c : Config) (t : Recover) : Type 0 where
   pub ready : IsReady t
   pub asks : asks_of t ≡ None
   pub knows : (values : ℕ → ℕ) (m : Memory) → IsPoweredOn c values m → Knows t values Took m
+  pub left : (m : Memory) → acts_left t m < MOST_ACTS * size_of c
 
 -- the same recovery after `next`, which was told this
 pub record IsNext (old : Recover) (seen : Seen) (new : Recover) : Type 0 where
   pub config : config_of new ≡ config_of old
   pub ready : IsReady new
   pub learns : (values : ℕ → ℕ) (m : Memory) → Knows old values Took m → Tells old seen m → Knows new values Waiting m
+  pub sooner : (values : ℕ → ℕ) (m : Memory) → Knows old values Took m → acts_left new m < acts_left old m

@@ -10,7 +10,7 @@ use Rattle.bz_layout.specs.declared.config.Config.{Config}
 use Rattle.bz_machine.specs.declared.done.Done.{Done}
 use Rattle.bz_machine.specs.declared.done.Done.TheVariants as done
 use Rattle.bz_recover.specs.Contents.{SaysTheSame}
-use Rattle.bz_recover.specs.Duties.{asks_of, Hears, Tells}
+use Rattle.bz_recover.specs.Duties.{asks_of, acts_left, Hears, Tells}
 use Rattle.bz_recover.specs.Sweep.{IsImage}
 use Rattle.bz_recover.specs.declared.recover.Recover.{Recover}
 use Rattle.bz_sight.specs.Sight.{IsSeen}
@@ -83,14 +83,15 @@ seen_of done.Stored = seen.Stored
 seen_of done.Flushed = seen.Flushed
 seen_of other = seen.Start
 
--- worker 0 makes the act: it gives no swap its effect, the recovery hears what it should and goes on knowing the memory, and
--- the durable words hold what they held
+-- worker 0 makes the act: it gives no swap its effect, the recovery hears what it should and goes on knowing the memory, with
+-- as many acts left, and the durable words hold what they held
 pub record Recovers (c : Config) (values : ℕ → ℕ) (old new : SwapMemory) (t : Recover) (made : Act) (done : Done) (told : Option ℕ) : Type 0 where
   pub asked : IsAsked (asks_of t) made
   pub quiet : told ≡ None
   pub hears : Hears t (seen_of done)
   pub tells : Tells t (seen_of done) (words_in new)
   pub recovering : IsRecovering c values new Made t
+  pub left : acts_left t (words_in new) ≡ acts_left t (words_in old)
   pub same : SaysTheSame c (slice_index old.durable) (slice_index new.durable)
 
 abbrev pub ActsRecover : Type 0
@@ -102,6 +103,7 @@ ActsRecover =
 pub record StaysRecovering (c : Config) (values : ℕ → ℕ) (old new : SwapMemory) (turn : Turn) (t : Recover) (told : Option ℕ) : Type 0 where
   pub quiet : told ≡ None
   pub recovering : IsRecovering c values new turn t
+  pub left : acts_left t (words_in new) ≡ acts_left t (words_in old)
   pub same : SaysTheSame c (slice_index old.durable) (slice_index new.durable)
 
 abbrev pub EvictionsLeaveRecoveries : Type 0

@@ -1,5 +1,5 @@
 -- The journal of a memory whose power has failed, from the power cut to the end of its recovery, where a new life begins.
-use Rattle.std.specs.Prelude.{◌≡◌, ℕ, suc, ◌+◌, ◌<◌, false, List, [], ◌∷◌, length, slice_index, Option, Some, None}
+use Rattle.std.specs.Prelude.{◌≡◌, ℕ, suc, ◌+◌, ◌*◌, ◌<◌, ◌≤◌, ◌==◌, if◌then◌else◌, false, List, [], ◌∷◌, length, slice_index, Option, Some, None}
 use Rattle.bz_acts.specs.declared.acted.Act.{Act}
 use Rattle.bz_acts.specs.declared.acted.Act.TheVariants as act
 use Rattle.bz_content.specs.Content.{image_fault}
@@ -14,7 +14,8 @@ use Rattle.bz_mark.specs.WordsAfter.{words_of as words_after_marks}
 use Rattle.bz_mark.specs.declared.marks.Mark.{Mark}
 use Rattle.bz_mark.specs.declared.marks.Mark.TheVariants.{Load, Store, Cas, Flush, Evict, Cut, On, Ready}
 use Rattle.bz_recover.specs.Contents.{SaysTheSame}
-use Rattle.bz_recover.specs.Duties.{asks_of, WalksIn}
+use Rattle.bz_recover.specs.Duties.{asks_of, acts_left, WalksIn}
+use Rattle.bz_recover.specs.Places.{MOST_ACTS}
 use Rattle.bz_recover.specs.Walking.{AreReached}
 use Rattle.bz_recover.specs.declared.recover.Recover.{Recover}
 use Rattle.bz_sight.specs.Renewal.{renewed_instant}
@@ -29,9 +30,23 @@ use Rattle.bz_swap.specs.Steps.{StepsIn}
 use Rattle.bz_swap.specs.SwapMemory.{SwapMemory, words_of}
 use Rattle.bz_task.specs.declared.todo.Todo.TheVariants.{Finish}
 use Rattle.bz_story.specs.Living.{IsLiving}
-use Rattle.bz_story.specs.Recovering.{IsOff, Turn, Asked, Started, Made, IsRecovering, IsNew}
+use Rattle.bz_story.specs.Recovering.{IsOff, Turn, Asked, Started, Made, IsRecovering, IsNew, words_in}
 use Rattle.bz_story.specs.RecoveryLaws.{IsRevived, Recovers, StaysRecovering}
 use Rattle.bz_story.specs.Story.{Story}
+
+-- how many of these marks are acts of a worker
+abbrev pub acts_by : ℕ → List Mark → ℕ
+acts_by w [] = 0
+acts_by w (Load v a x ∷ past) = if v == w then acts_by w past + 1 else acts_by w past
+acts_by w (Store v a x ∷ past) = if v == w then acts_by w past + 1 else acts_by w past
+acts_by w (Cas v a old new found ∷ past) = if v == w then acts_by w past + 1 else acts_by w past
+acts_by w (Flush v line ∷ past) = if v == w then acts_by w past + 1 else acts_by w past
+acts_by w (mark ∷ past) = acts_by w past
+
+-- the acts that are left to a recovery, with the one that it has asked for if that is not made yet
+abbrev pub to_come : Turn → ℕ → ℕ
+to_come Made n = n
+to_come turn n = suc n
 
 -- the power is off: the journal's words are the memory's, and no call is open
 pub record IsOffIn (c : Config) (values : ℕ → ℕ) (m : SwapMemory) (log : Log) : Type 0 where
@@ -40,7 +55,7 @@ pub record IsOffIn (c : Config) (values : ℕ → ℕ) (m : SwapMemory) (log : L
   pub calls : (w : ℕ) → open_call w log.past ≡ None
 
 -- a recovery goes on: so it is too, and the durable words hold what they held when the power came on; since then no descriptor was
--- taken, and no slot stored into
+-- taken, and no slot stored into, and with the acts that are left worker 0 makes fewer than so many a word
 pub record IsRecoveringIn (c : Config) (values : ℕ → ℕ) (m : SwapMemory) (log : Log) (turn : Turn) (t : Recover) : Type 0 where
   pub recovering : IsRecovering c values m turn t
   pub words : words_of m ≡ words_after_marks log.start log.past
@@ -48,6 +63,7 @@ pub record IsRecoveringIn (c : Config) (values : ℕ → ℕ) (m : SwapMemory) (
   pub same : SaysTheSame c (image_at_on log.start log.past) (slice_index m.durable)
   pub untaken : (swap : ℕ) → is_taken swap (since_on log.past) ≡ false
   pub unstored : (slot : ℕ) → is_stored_into c slot (since_on log.past) ≡ false
+  pub spent : acts_by 0 (since_on log.past) + to_come turn (acts_left t (words_in m)) < MOST_ACTS * size_of c
 
 -- a power cut ends a life, or cuts a recovery short
 pub record CutsAreMarked : Type 0 where
@@ -68,10 +84,11 @@ ImagesOpenJournals =
 abbrev pub PowerOnIsMarked : Type 0
 PowerOnIsMarked = (c : Config) (values : ℕ → ℕ) (m : SwapMemory) (log : Log) (t : Recover) → IsOffIn c values m log → IsNew c t → IsRecoveringIn c values m (with_mark log On) Made t
 
--- what a recovery is told, and what worker 0 starts, makes no mark
+-- what a recovery is told, and what worker 0 starts, makes no mark, where no more acts are left than before
 abbrev pub TurnsMakeNoMark : Type 0
 TurnsMakeNoMark =
     (c : Config) (values : ℕ → ℕ) (m n : SwapMemory) (log : Log) (turn next : Turn) (t u : Recover) → IsRecoveringIn c values m log turn t → words_of n ≡ words_of m → IsRecovering c values n next u →
+    to_come next (acts_left u (words_in n)) ≤ to_come turn (acts_left t (words_in m)) →
     IsRecoveringIn c values n log next u
 
 -- the mark of an act

@@ -59,6 +59,7 @@ pub fn acts_recover()
     bz_swap::laws::sizes_stay();
     recover::acts_are_these();
     recover::recoveries_know();
+    recover::acts_left_stay();
     recover::resolving_keeps_the_content();
 }
 
@@ -71,6 +72,7 @@ pub fn evictions_leave_recoveries()
     bz_swap::laws::sizes_stay();
     recover::acts_are_these();
     recover::recoveries_know();
+    recover::acts_left_stay();
     recover::resolving_keeps_the_content();
 }
 

@@ -34,7 +34,7 @@ number-open law p kept w x some within = go p.power refl
     go : (z : Power) → p.power ≡ z → number-in p w ≡ Some (slice_index p.numbers.items w)
     go power.On e =
         let s : IsServing p.config p.access p.journal (awake-in p kept e).story p.owners.items w x = slot-in p (awake-in p kept e) w (Some x) some in
-        ap (option_map (λ (o : Open). o.number)) s.call_open.is_open ∙ ap Some ((law p.config power.On p.journal w s.opened kept.sound s.call_open.is_open).last ∙ sym (kept.tabled.counted w in-table))
+        ap (option_map (λ (o : Open). o.number)) s.call_open.is_open ∙ ap Some ((law p.config p.at_start p.journal w s.opened kept.sound s.call_open.is_open).last ∙ sym (kept.tabled.counted w in-table))
     go power.Off e = no-call ((off-in p kept e).dark.none w)
     go power.Recovering e = no-call ((started-in p kept e).dark.none w)
 

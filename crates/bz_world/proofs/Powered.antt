@@ -1,7 +1,8 @@
 -- The marks of a world whose power is on, and the calls that began since.
-use Rattle.std.proofs.Common.{◌≡◌, ◌≢◌, ℕ, zero, suc, ◌<◌, Bool, List, ◌∷◌, arith, refl, sym, subst, ◌∙◌}
+use Rattle.std.proofs.Common.{◌≡◌, ◌≢◌, ℕ, zero, suc, ◌*◌, ◌<◌, Bool, List, ◌∷◌, arith, refl, sym, subst, ◌∙◌}
 use Rattle.bz_acts.specs.declared.acted.Act.{Act}
 use Rattle.bz_acts.specs.declared.acted.Act.TheVariants as act
+use Rattle.bz_layout.specs.Addresses.{words_of}
 use Rattle.bz_layout.specs.Slots.{FreeSlots}
 use Rattle.bz_layout.specs.declared.config.Config.{Config}
 use Rattle.bz_mark.specs.Log.{Log}
@@ -14,7 +15,9 @@ use Rattle.bz_sound.specs.Memory.Calls.{HasOpenCall}
 use Rattle.bz_sound.specs.Memory.Moments.{IsAfterFlush}
 use Rattle.bz_sound.specs.Power.Calls.{MayAct}
 use Rattle.bz_sound.specs.Power.Laws.{LeavesPower}
-use Rattle.bz_sound.specs.Power.Times.{power_of, image_at_on}
+use Rattle.bz_sound.specs.Power.Times.{power_of, since_on, image_at_on}
+use Rattle.bz_recover.specs.Places.{MOST_ACTS}
+use Rattle.bz_story.specs.Reviving.{acts_by}
 use Rattle.bz_story.proofs.Powered.{image-as-it-was}
 use Rattle.bz_story.specs.Laws.{HasBegun}
 use Rattle.bz_story.specs.Living.{IsLiving}
@@ -73,6 +76,10 @@ off-in p k off = subst (λ (z : Power). IsKeptIn z p) off k.state
 
 pub started-in : (p : Parts) → IsKept p → p.power ≡ power.Recovering → IsStarted p
 started-in p k is = subst (λ (z : Power). IsKeptIn z p) is k.state
+
+-- while it recovers worker 0 has acts left
+pub few-acts : (p : Parts) → IsKept p → power_of p.at_start p.journal.past ≡ power.Recovering → acts_by 0 (since_on p.journal.past) < MOST_ACTS * words_of p.config
+few-acts p k is = omega (arith, (started-in p k (sym k.tabled.power ∙ is)).memory.spent)
 
 pub kept-awake : (p : Parts) → IsAwake p → IsKept p
 kept-awake p a = record { tabled = a.tabled; sound = a.sound; words = a.living.words; state = subst (λ (z : Power). IsKeptIn z p) (sym a.on) a }

@@ -1,5 +1,5 @@
 -- What comes of an act of a recovery: the next one is asked for, or it has ended.
-use Rattle.std.proofs.Common.{◌≡◌, ◌≢◌, ℕ, Bool, refl, sym, ap, ◌∙◌, Option}
+use Rattle.std.proofs.Common.{◌≡◌, ◌≢◌, ℕ, Bool, arith, refl, sym, ap, ◌∙◌, Option}
 use Rattle.arrayvec.specs.ArrayVec.{ArrayVec}
 use Rattle.bz_acts.specs.declared.acted.Act.{Act}
 use Rattle.bz_machine.specs.declared.done.Done.{Done}
@@ -57,7 +57,8 @@ asked-on go_on turns p seen next slots k on tells nodes learns = record {
     values = k.dark.values;
   };
   walks = learns k.dark.values (recovery.words_in p.access) k.memory.recovering.knows tells k.walks;
-  memory = turns p.config k.dark.values p.access p.access p.journal recovery.Made recovery.Asked p.recovery next k.memory refl (go_on p.config k.dark.values p.access p.recovery next seen k.memory.recovering on tells);
+  memory = turns p.config k.dark.values p.access p.access p.journal recovery.Made recovery.Asked p.recovery next k.memory refl (go_on p.config k.dark.values p.access p.recovery next seen k.memory.recovering on tells)
+      (omega (arith, on.sooner k.dark.values (recovery.words_in p.access) k.memory.recovering.knows));
 }
 
 -- one act, and the recovery goes on

@@ -19,7 +19,7 @@ use Rattle.bz_sound.specs.Power.ImageLaws.{SameContentDecodes}
 use Rattle.bz_sound.specs.Power.Sound.{IsSound}
 use Rattle.bz_sound.specs.Power.Times.{power_of}
 use Rattle.bz_story.specs.Recovering as recovery
-use Rattle.bz_recover.specs.Duties.{Tells}
+use Rattle.bz_recover.specs.Duties.{acts_left, Tells}
 use Rattle.bz_story.specs.RecoveryLaws.{Recovers, StaysRecovering, seen_of}
 use Rattle.bz_task.specs.declared.todo.Seen.{Seen}
 use Rattle.bz_story.specs.Reviving as reviving
@@ -227,5 +227,6 @@ module _ (turns : TurnsMakeNoMark) (p : Parts) (k : IsRecovering p recovery.Aske
       values = k.dark.values;
     };
     walks = k.walks;
-    memory = turns p.config k.dark.values p.access (started p.access 0 doing) p.journal recovery.Asked recovery.Started p.recovery p.recovery k.memory refl memory;
+    memory = turns p.config k.dark.values p.access (started p.access 0 doing) p.journal recovery.Asked recovery.Started p.recovery p.recovery k.memory refl memory
+        (let same : acts_left p.recovery (recovery.words_in (started p.access 0 doing)) ≡ acts_left p.recovery (recovery.words_in p.access) = refl in omega (arith, same));
   }

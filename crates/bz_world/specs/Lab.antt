@@ -1,5 +1,5 @@
 -- What callers see of a world, and what it answers.
-use Rattle.std.specs.Prelude.{◌≡◌, ◌≢◌, ◌<◌, ◌≤◌, ◌⊎◌, ℕ, zero, suc, ◌+◌, ◌-◌, Bool, false, ◌==◌, ◌||◌, ◌&&◌, nat_lt, nat_le, if◌then◌else◌, is_some, is_none, get_or, slice_set, slice_index, replicate, List, [], ◌∷◌, ◌++◌, length, Option, Some, None, option_map, MatchOption}
+use Rattle.std.specs.Prelude.{◌≡◌, ◌≢◌, ◌<◌, ◌≤◌, ◌⊎◌, ℕ, zero, suc, ◌+◌, ◌-◌, ◌*◌, Bool, false, ◌==◌, ◌||◌, ◌&&◌, nat_lt, nat_le, if◌then◌else◌, is_some, is_none, get_or, slice_set, slice_index, replicate, List, [], ◌∷◌, ◌++◌, length, Option, Some, None, option_map, MatchOption}
 use Rattle.std.specs.FinMap.{len}
 use Rattle.bz_acts.specs.Rule.{is_flush_act}
 use Rattle.bz_acts.specs.declared.acted.Act.{Act}
@@ -15,12 +15,14 @@ use Rattle.bz_layout.specs.declared.config.Config.{Config}
 use Rattle.bz_mark.specs.Log.{Log, with_mark, count_begins, count_page_calls, count_page_ends}
 use Rattle.bz_mark.specs.declared.marks.Mark.{Mark}
 use Rattle.bz_mark.specs.declared.marks.Mark.TheVariants.{Begin, End, Load, Store, Cas, Flush, Evict, Cut, On, Ready, Effect}
+use Rattle.bz_recover.specs.Places.{MOST_ACTS}
 use Rattle.bz_sound.specs.declared.power.Power.{Power}
 use Rattle.bz_sound.specs.declared.power.Power.TheVariants as power
 use Rattle.bz_sound.specs.Calls.{Open, open_call, begun_calls, map_after}
 use Rattle.bz_sound.specs.Memory.Moments.{map_at_start}
-use Rattle.bz_sound.specs.Power.Times.{power_of}
+use Rattle.bz_sound.specs.Power.Times.{power_of, since_on}
 use Rattle.bz_sound.specs.Replies.{Pages}
+use Rattle.bz_story.specs.Reviving.{acts_by}
 use Rattle.bz_world.specs.declared.answers.Applied.{Applied}
 use Rattle.bz_world.specs.declared.answers.Applied.TheVariants as applied
 use Rattle.bz_world.specs.declared.answers.Begun.{Begun}
@@ -71,6 +73,13 @@ image_lab config image = lab_over config image power.Off
 -- what the power is
 abbrev pub power_in : Lab → Power
 power_in lab = power_of lab.at_start lab.log.past
+
+-- how many acts worker 0 has made since the power came on last, and in a recovery fewer than this
+abbrev pub recovery_acts : Lab → ℕ
+recovery_acts lab = acts_by 0 (since_on lab.log.past)
+
+abbrev pub recovery_most : Config → ℕ
+recovery_most c = MOST_ACTS * words_of c
 
 -- the number of a worker's open call, if one is open
 abbrev pub open_number : Lab → ℕ → Option ℕ

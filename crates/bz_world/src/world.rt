@@ -5,7 +5,7 @@ ghost use Rattle.bz_layout.specs.Addresses.{words_of as size_of};
 ghost use Rattle.bz_layout.specs.Config.{IsConfig};
 ghost use Rattle.bz_mark.specs.WordsAfter.{words_of};
 ghost use Rattle.bz_sound.specs.Calls.{open_call};
-ghost use Rattle.bz_sound.specs.declared.power.Power.TheVariants.{On};
+ghost use Rattle.bz_sound.specs.declared.power.Power.TheVariants.{Recovering, On};
 ghost use Rattle.bz_sound.specs.Power.Sound.{IsSound};
 ghost use Rattle.bz_sound.specs.Power.Laws.{IsUnbroken};
 ghost use Rattle.bz_sound.specs.Memory.Sound as before;
@@ -44,7 +44,7 @@ impl Model for World {
 }
 
 impl World {
-    ghost use Rattle.bz_world.specs.Lab.{Lab, IsWorker, new_lab, image_lab, IsOpenFault, IsBootFault, power_in, begin_answer, after_begin, flush_of, open_number, reply_of, pairs_in, IsApplied};
+    ghost use Rattle.bz_world.specs.Lab.{Lab, IsWorker, new_lab, image_lab, IsOpenFault, IsBootFault, power_in, begin_answer, after_begin, flush_of, open_number, reply_of, pairs_in, recovery_acts, recovery_most, IsApplied};
 
     /// A world over fresh memory, in which nothing has happened.
     pub fn open(alloc: Global, config: &Config) -> Result<World, OpenError>
@@ -93,6 +93,8 @@ impl World {
     pub fn journal(&self) -> &Journal
         ensures journal { result.now ≡ self.now.log }
         ensures sound { IsSound self.now.config self.now.at_start self.now.log }
+        // a recovery is bounded
+        ensures bounded { power_in self.now ≡ Recovering → recovery_acts self.now < recovery_most self.now.config }
         ensures unbroken { self.now.at_start ≡ On → IsUnbroken self.now.log.past → before.IsSound self.now.config self.now.log }
         ensures workers { (w : ℕ) → (IsWorker self.now.config w → ⊥) → open_call w self.now.log.past ≡ None }
     {

@@ -8,5 +8,6 @@ returns c = acts-recover (record {
   sizes = c.sizes_stay.ensures;
   acts = c.acts_are_these.ensures;
   know = c.recoveries_know.ensures;
+  left = c.acts_left_stay.ensures;
   content = c.resolving_keeps_the_content.ensures;
 })

@@ -10,8 +10,8 @@ pub start_act-requires-clause-asked : goal.start_act-requires-clause-asked
 start_act-requires-clause-asked c =
     begun-on (record { follow = c.ons_follow.ensures; tells = c.power_tells_what_follows.ensures; begin = c.power_on_is_marked.ensures; turns = c.turns_make_no_mark.ensures; go_on = c.recoveries_go_on.ensures })
     c.args.parts.now c.requires.off c.requires.power c.requires.room c.new-parts.result c.next-todo.new.self c.next-todo.new.slots
-    (record { config = c.new-parts.ensures.config; ready = c.new-parts.ensures.ready; asks = c.new-parts.ensures.asks; knows = c.new-parts.ensures.knows })
-    (record { config = c.next-todo.ensures.config; ready = c.next-todo.ensures.ready; learns = c.next-todo.ensures.learns })
+    (record { config = c.new-parts.ensures.config; ready = c.new-parts.ensures.ready; asks = c.new-parts.ensures.asks; knows = c.new-parts.ensures.knows; left = c.new-parts.ensures.left })
+    (record { config = c.next-todo.ensures.config; ready = c.next-todo.ensures.ready; learns = c.next-todo.ensures.learns; sooner = c.next-todo.ensures.sooner })
     c.next-todo.ensures.slots c.next-todo.ensures.walked (c.new-parts.ensures.walks c.requires.off.dark.values c.args.parts.now.slots)
     c.push.new.self c.push.ensures
 

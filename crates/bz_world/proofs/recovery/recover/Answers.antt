@@ -19,7 +19,7 @@ wake-requires-clause-wakes c =
     record {
       recovering = asked-on c.recoveries_go_on.ensures c.turns_make_no_mark.ensures c.make_raw_act-progress.new.parts c.seen_of.result c.next-todo.new.self c.next-todo.new.slots
           (made-on (record { quiet = c.quiet_acts_follow.ensures; flush = c.flushes_follow.ensures; same = c.same_content_decodes.ensures }) c.acts_are_marked.ensures c.args.parts.now c.make_raw_act-progress.new.parts c.make_raw_act-progress.result.act c.make_raw_act-progress.result.done c.make_raw_act-progress.result.effect c.requires.started c.requires.power c.requires.room c.make_raw_act-progress.ensures)
-          (record { config = c.next-todo.ensures.config; ready = c.next-todo.ensures.ready; learns = c.next-todo.ensures.learns })
+          (record { config = c.next-todo.ensures.config; ready = c.next-todo.ensures.ready; learns = c.next-todo.ensures.learns; sooner = c.next-todo.ensures.sooner })
           (told-on (record { quiet = c.quiet_acts_follow.ensures; flush = c.flushes_follow.ensures; same = c.same_content_decodes.ensures }) c.acts_are_marked.ensures c.args.parts.now c.make_raw_act-progress.new.parts c.make_raw_act-progress.result.act c.make_raw_act-progress.result.done c.make_raw_act-progress.result.effect c.requires.started c.requires.power c.requires.room c.make_raw_act-progress.ensures c.seen_of.result c.seen_of.ensures)
           c.next-todo.ensures.slots c.next-todo.ensures.walked;
       asks = elim c.match-matches.branch [
@@ -40,7 +40,7 @@ pub start_act-requires-clause-asked : goal.start_act-requires-clause-asked
 start_act-requires-clause-asked c =
     asked-on c.recoveries_go_on.ensures c.turns_make_no_mark.ensures c.make_raw_act-progress.new.parts c.seen_of.result c.next-todo.new.self c.next-todo.new.slots
     (made-on (record { quiet = c.quiet_acts_follow.ensures; flush = c.flushes_follow.ensures; same = c.same_content_decodes.ensures }) c.acts_are_marked.ensures c.args.parts.now c.make_raw_act-progress.new.parts c.make_raw_act-progress.result.act c.make_raw_act-progress.result.done c.make_raw_act-progress.result.effect c.requires.started c.requires.power c.requires.room c.make_raw_act-progress.ensures)
-    (record { config = c.next-todo.ensures.config; ready = c.next-todo.ensures.ready; learns = c.next-todo.ensures.learns })
+    (record { config = c.next-todo.ensures.config; ready = c.next-todo.ensures.ready; learns = c.next-todo.ensures.learns; sooner = c.next-todo.ensures.sooner })
     (told-on (record { quiet = c.quiet_acts_follow.ensures; flush = c.flushes_follow.ensures; same = c.same_content_decodes.ensures }) c.acts_are_marked.ensures c.args.parts.now c.make_raw_act-progress.new.parts c.make_raw_act-progress.result.act c.make_raw_act-progress.result.done c.make_raw_act-progress.result.effect c.requires.started c.requires.power c.requires.room c.make_raw_act-progress.ensures c.seen_of.result c.seen_of.ensures)
     c.next-todo.ensures.slots c.next-todo.ensures.walked
 

@@ -1,14 +1,18 @@
-use Rattle.std.proofs.Common.{◌≡◌, subst}
+use Rattle.std.proofs.Common.{◌≡◌, ◌<◌, subst}
 use Rattle.bz_sound.specs.declared.power.Power.{Power}
-use Rattle.bz_sound.specs.declared.power.Power.TheVariants.{On}
+use Rattle.bz_sound.specs.declared.power.Power.TheVariants.{Recovering, On}
 use Rattle.bz_sound.specs.Memory.Sound as before
 use Rattle.bz_sound.specs.Power.Laws.{IsUnbroken}
 use Rattle.bz_sound.specs.Power.Sound.{IsSound}
-use Rattle.bz_world.specs.Lab.{Lab}
+use Rattle.bz_world.specs.Lab.{Lab, power_in, recovery_acts, recovery_most}
+use Rattle.bz_world.proofs.Powered.{few-acts}
 use Rattle.bz_world.proofs.world.World.journal.Goals as goal
 
 pub returns-clause-sound : goal.returns-clause-sound
 returns-clause-sound c = subst (λ (l : Lab). IsSound l.config l.at_start l.log) c.self.view_is c.self.invariant.sound
+
+pub returns-clause-bounded : goal.returns-clause-bounded
+returns-clause-bounded c = subst (λ (l : Lab). power_in l ≡ Recovering → recovery_acts l < recovery_most l.config) c.self.view_is (few-acts c.self.inside.parts c.self.invariant)
 
 pub returns-clause-unbroken : goal.returns-clause-unbroken
 returns-clause-unbroken c =
