@@ -1,0 +1,15 @@
+mod Uniting
+mod NewParents
+mod Viewing
+mod Staying
+mod Acting
+mod Ending
+mod Ends
+mod Making
+mod Clearing
+mod Reading
+mod ReadingAbove
+mod ReadingOn
+mod Telling
+mod Looking
+mod Writing

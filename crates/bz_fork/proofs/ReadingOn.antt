@@ -1,0 +1,98 @@
+-- What the node's status tells, found once more: its words are those of one moment.
+use Rattle.std.proofs.Common.{◌≡◌, ◌≢◌, ◌<◌, ◌≤◌, arith, refl, sym, ap, subst, inr}
+use Rattle.bz_layout.specs.Slots.{FreeSlots}
+use Rattle.bz_layout.specs.declared.config.Config.{Config}
+use Rattle.bz_layout.specs.declared.sizes.TheConstants.{NODE_WORDS}
+use Rattle.bz_layout.specs.declared.thresholds.TheConstants.{INNER_LIMIT, SPLIT_SLOTS}
+use Rattle.bz_node.specs.Reading.{children_in}
+use Rattle.bz_parted.specs.Parting.{words_of}
+use Rattle.bz_word.specs.Statuses.{status}
+use Rattle.bz_task.specs.Requests.{Hears, Tells}
+use Rattle.bz_task.specs.Scene.{Scene, Stage, Waiting, Took, IsScene, HasFilled, here}
+use Rattle.bz_task.specs.declared.todo.Seen.{Seen}
+use Rattle.bz_task.specs.declared.todo.Seen.TheVariants.{Read as Was}
+use Rattle.bz_below.specs.Parents.{WereRead}
+use Rattle.bz_branch.specs.Nodes.{WasInner, ReadNodesWere}
+use Rattle.bz_fork.specs.Facts.{Fork, IsReading, IsReadingAbove, HasRead, fork_asks, fork_left, fork_needs, fork_facts, IsReadyFork}
+use Rattle.bz_fork.specs.declared.phase.Phase.{Phase}
+use Rattle.bz_fork.specs.declared.phase.Phase.TheVariants.{Fresh, Word, Again, Above, Check, Guard, Store, Flush, Swap, Done, Restart, NoRoom, NoSlot, NoSwap}
+use Rattle.bz_fork.proofs.Acting.{upper-slot}
+use Rattle.bz_fork.proofs.Ending.{EndsWell, goes-on, other-lower, read-answers, was-no-swap}
+
+-- the node, where its status is found as it was
+was-inner : ReadNodesWere → (r : Fork) (s : Scene) → IsScene s → (f : IsReading r NODE_WORDS s.past) → (here s).value r.lower.guard ≡ r.lower.status → WasInner r.middle.slot f.links.counted r.read s.past
+was-inner law r s good f now =
+    let v = f.links in
+    let w : WasInner r.middle.slot v.node.guard.guarded r.read s.past = law s r.middle.slot r.lower r.read good v.node now
+    (subst (λ z. WereRead r.middle.slot z r.lower.status NODE_WORDS r.read s.past) (sym v.is_counted) f.were) in
+    subst (λ z. WasInner r.middle.slot z r.read s.past) v.is_counted w
+
+-- it takes the words that its status counts
+is-many : (r : Fork) (s : Scene) (f : IsReading r NODE_WORDS s.past) → WasInner r.middle.slot f.links.counted r.read s.past → INNER_LIMIT < words_of (children_in r.read)
+is-many r s f w = omega (arith, w.node.node.taken, ap (λ z. (status z).count) f.were.first, ap (λ z. (status z).block) f.were.first, f.links.many)
+
+found-now : (c : Config) (r : Fork) (seen : Seen) (stage : Stage) (s : Scene) → Tells (fork_asks c r Again) stage seen s → seen ≡ Was r.lower.status → (here s).value r.lower.guard ≡ r.lower.status
+found-now c r seen stage s t e = (read-answers r.lower.guard r.lower.status stage s (subst (λ z. Tells (fork_asks c r Again) stage z s) e t)).1.value
+
+waits : (r : Fork) (stage : Stage) (s : Scene) → fork_facts r Again stage s → HasFilled s × IsReading r NODE_WORDS s.past
+waits r Waiting s f = f
+waits r Took s f = absurd (f)
+
+-- what the status of the node, once more, teaches
+pub read-learns : ReadNodesWere → (c : Config) (r : Fork) (p : Phase) (seen : Seen) (stage : Stage) (s : Scene) → HasRead r seen p → s.past.config ≡ c → IsScene s → fork_facts r Again stage s → Tells (fork_asks c r Again) stage seen s → fork_facts r p Waiting s
+read-learns law c r (Above i) seen stage s h same good f t =
+    let g = waits r stage s f in
+    let w = was-inner law r s good g.1 (found-now c r seen stage s t h.0) in
+    let first : IsReadingAbove r 1 s.past = record { links = g.1.links; node = w; many = is-many r s g.1 w; above = g.1.above } in
+    (g.0, (omega (arith, h.1), (omega (arith, h.1), subst (λ z. IsReadingAbove r z s.past) (sym h.1) first)))
+read-learns law c r Restart seen stage s h same good f t = (waits r stage s f).0
+read-learns law c r Fresh seen stage s h same good f t = absurd (h)
+read-learns law c r (Word i) seen stage s h same good f t = absurd (h)
+read-learns law c r Again seen stage s h same good f t = absurd (h)
+read-learns law c r Check seen stage s h same good f t = absurd (h)
+read-learns law c r Guard seen stage s h same good f t = absurd (h)
+read-learns law c r (Store j) seen stage s h same good f t = absurd (h)
+read-learns law c r (Flush j) seen stage s h same good f t = absurd (h)
+read-learns law c r Swap seen stage s h same good f t = absurd (h)
+read-learns law c r Done seen stage s h same good f t = absurd (h)
+read-learns law c r NoRoom seen stage s h same good f t = absurd (h)
+read-learns law c r NoSlot seen stage s h same good f t = absurd (h)
+read-learns law c r NoSwap seen stage s h same good f t = absurd (h)
+
+-- what it leads to
+pub record Ons (r : Fork) (c : Config) (seen : Seen) (p : Phase) (free : FreeSlots) : Type 0 where
+  pub begun : p ≢ Fresh
+  pub ready : IsReadyFork c r p
+  pub nearer : fork_left p < fork_left Again
+  pub fewer : fork_needs p ≤ SPLIT_SLOTS
+  pub ends : EndsWell r.upper r.middle r.lower seen Again p free
+
+pub reads : (r : Fork) (c : Config) (seen : Seen) (p : Phase) (free : FreeSlots) (stage : Stage) (s : Scene) → s.past.config ≡ c → IsScene s → fork_facts r Again stage s → Hears (fork_asks c r Again) seen → HasRead r seen p → Ons r c seen p free
+reads r c seen (Above i) free stage s same good f hears h =
+    let slot : r.upper.slot < c.nodes = subst (λ (z : Config). r.upper.slot < z.nodes) same (upper-slot r.upper r.middle r.lower s good (waits r stage s f).1.links) in
+    record { begun = λ e. absurd (cc); ready = (slot, omega (arith, h.1)); nearer = omega (arith, h.1); fewer = omega arith; ends = goes-on r.upper r.middle r.lower seen Again (Above i) free refl (was-no-swap r.lower.guard seen hears) }
+reads r c seen Restart free stage s same good f hears h = record {
+  begun = λ e. absurd (cc);
+  ready = tt;
+  nearer = omega arith;
+  fewer = omega arith;
+  ends = record {
+    done = λ e. absurd (cc);
+    restart = λ e. inr (other-lower r.upper r.middle r.lower seen hears h);
+    no_swap = λ e. absurd (was-no-swap r.lower.guard seen hears e);
+    full_swaps = λ e. absurd (cc);
+    full_nodes = λ e. absurd (cc);
+  };
+}
+reads r c seen Fresh free stage s same good f hears h = absurd (h)
+reads r c seen (Word i) free stage s same good f hears h = absurd (h)
+reads r c seen Again free stage s same good f hears h = absurd (h)
+reads r c seen Check free stage s same good f hears h = absurd (h)
+reads r c seen Guard free stage s same good f hears h = absurd (h)
+reads r c seen (Store j) free stage s same good f hears h = absurd (h)
+reads r c seen (Flush j) free stage s same good f hears h = absurd (h)
+reads r c seen Swap free stage s same good f hears h = absurd (h)
+reads r c seen Done free stage s same good f hears h = absurd (h)
+reads r c seen NoRoom free stage s same good f hears h = absurd (h)
+reads r c seen NoSlot free stage s same good f hears h = absurd (h)
+reads r c seen NoSwap free stage s same good f hears h = absurd (h)

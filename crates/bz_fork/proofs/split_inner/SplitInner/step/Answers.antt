@@ -1,0 +1,239 @@
+use Rattle.std.proofs.Common.{◌≡◌, ◌<◌, ℕ, slice_index, slice_set, sym, ap, subst, ◌∙◌, refl, arith, inl, Some}
+use Rattle.bz_task.specs.Requests.{Hears, Tells}
+use Rattle.bz_layout.specs.Config.{IsConfig}
+use Rattle.bz_layout.specs.declared.sizes.TheConstants.{NODE_WORDS}
+use Rattle.bz_layout.specs.declared.thresholds.TheConstants.{SPLIT_SLOTS}
+use Rattle.bz_task.specs.OwnActs.{AreTakenFrom, gained}
+use Rattle.bz_task.specs.Scene.{Waiting}
+use Rattle.bz_task.specs.declared.todo.Todo.TheVariants.{Read as Reads}
+use Rattle.bz_fork.specs.Duties.{fork_of, three}
+use Rattle.bz_fork.specs.Facts.{Fork, fork_facts, fork_asks, fork_needs, fork_left, word_after, above_after, IsReadyFork}
+use Rattle.bz_fork.specs.declared.phase.Phase.TheVariants.{Fresh, Word, Again, Above, Check, Guard}
+use Rattle.bz_fork.specs.declared.split_inner.SplitInner.{SplitInner}
+use Rattle.bz_fork.proofs.Ending.{EndsWell, ends-well, first-ends, takes-none}
+use Rattle.bz_fork.proofs.Telling.{Tolds, tolds, told-learns, has-node}
+use Rattle.bz_fork.proofs.Looking.{Looks, looks, looked-learns, planned-place}
+use Rattle.bz_fork.proofs.Reading.{Words, fresh-ready, word-within, words-on, fresh-known, word-known, word-ready}
+use Rattle.bz_fork.proofs.ReadingAbove.{Aboves, above-within, aboves-on, above-known, above-ready}
+use Rattle.bz_fork.proofs.ReadingOn.{Ons, reads, read-learns}
+use Rattle.bz_fork.proofs.Staying.{no-slot}
+use Rattle.bz_fork.proofs.split_inner.SplitInner.step.Goals as goal
+
+-- the task with one word more
+abbrev kept-of : SplitInner → ℕ → ℕ → Fork
+kept-of t i v = record { upper = t.upper; middle = t.middle; lower = t.lower; slot = slice_index t.slots; image = three t.parent.0 t.left.0 t.right.0; read = slice_set t.read.0 i v; above = t.above.0 }
+
+-- and with one word more of the parent
+abbrev kept-above : SplitInner → ℕ → ℕ → Fork
+kept-above t i v = record { upper = t.upper; middle = t.middle; lower = t.lower; slot = slice_index t.slots; image = three t.parent.0 t.left.0 t.right.0; read = t.read.0; above = slice_set t.above.0 i v }
+
+pub told-self-requires : goal.told-self-requires
+told-self-requires c e =
+    let t = c.args.self.now in
+    let k = c.requires.known in
+    has-node c.parents_of_nodes_were.ensures t.config (fork_of t) c.args.seen k.stage k.scene k.config k.good
+    (subst (λ z. fork_facts (fork_of t) z k.stage k.scene) c.in-Check.is k.holds)
+    (subst (λ z. Tells (fork_asks t.config (fork_of t) z) k.stage c.args.seen k.scene) c.in-Check.is k.tells) e
+
+pub look-requires : goal.look-requires
+look-requires c =
+    let t = c.args.self.now in
+    let k = c.requires.known in
+    planned-place t.config (fork_of t) k.stage k.scene k.config (subst (λ z. fork_facts (fork_of t) z k.stage k.scene) c.in-Guard.is k.holds)
+
+pub returns-in-Again : goal.returns-in-Again
+returns-in-Again c =
+    let t = c.args.self.now in
+    let k = c.requires.known in
+    let hears : Hears (fork_asks t.config (fork_of t) Again) c.args.seen = subst (λ z. Hears (fork_asks t.config (fork_of t) z) c.args.seen) c.in-Again.is c.requires.hears in
+    let b : Ons (fork_of t) t.config c.args.seen c.read_on-self.result c.args.slots.now = reads (fork_of t) t.config c.args.seen c.read_on-self.result c.args.slots.now k.stage k.scene k.config k.good (subst (λ z. fork_facts (fork_of t) z k.stage k.scene) c.in-Again.is k.holds) hears c.read_on-self.ensures in
+    let e : EndsWell t.upper t.middle t.lower c.args.seen t.phase c.read_on-self.result c.args.slots.now = subst (λ z. EndsWell t.upper t.middle t.lower c.args.seen z c.read_on-self.result c.args.slots.now) (sym c.in-Again.is) b.ends in
+    record {
+      config = refl;
+      upper = refl;
+      middle = refl;
+      known = subst IsConfig k.config k.good.config;
+      begun = b.begun;
+      ready = b.ready;
+      nearer = omega (arith, b.nearer, ap fork_left c.in-Again.is);
+      slots = takes-none t.phase c.read_on-self.result c.args.slots.now (omega (arith, b.fewer, ap fork_needs c.in-Again.is));
+      done = e.done;
+      restart = e.restart;
+      no_swap = e.no_swap;
+      full_swaps = e.full_swaps;
+      full_nodes = e.full_nodes;
+      learns = λ stage s same good free facts tells. no-slot c.nothing_is_gained.ensures (fork_of t) s c.args.slots.now c.read_on-self.result
+          (read-learns c.read_nodes_were.ensures t.config (fork_of t) c.read_on-self.result c.args.seen stage s c.read_on-self.ensures same good
+          (subst (λ z. fork_facts (fork_of t) z stage s) c.in-Again.is facts)
+          (subst (λ z. Tells (fork_asks t.config (fork_of t) z) stage c.args.seen s) c.in-Again.is tells));
+    }
+
+pub returns-in-Check : goal.returns-in-Check
+returns-in-Check c =
+    let t = c.args.self.now in
+    let k = c.requires.known in
+    let hears : Hears (fork_asks t.config (fork_of t) Check) c.args.seen = subst (λ z. Hears (fork_asks t.config (fork_of t) z) c.args.seen) c.in-Check.is c.requires.hears in
+    let b : Tolds (fork_of t) t.config c.args.seen c.told-self.result c.args.slots.now = tolds (fork_of t) t.config c.args.seen c.told-self.result c.args.slots.now hears c.told-self.ensures in
+    let needed : fork_needs t.phase ≡ SPLIT_SLOTS = ap fork_needs c.in-Check.is in
+    let ends : EndsWell t.upper t.middle t.lower c.args.seen t.phase c.told-self.result c.args.slots.now = subst (λ z. EndsWell t.upper t.middle t.lower c.args.seen z c.told-self.result c.args.slots.now) (sym c.in-Check.is) b.ends in
+    record {
+      config = refl;
+      upper = refl;
+      middle = refl;
+      known = subst IsConfig k.config k.good.config;
+      begun = b.begun;
+      ready = b.ready;
+      nearer = omega (arith, b.nearer, ap fork_left c.in-Check.is);
+      slots = subst (λ z. AreTakenFrom z (fork_needs c.told-self.result) c.args.slots.now c.args.slots.now) (sym needed) b.taken;
+      done = ends.done;
+      restart = ends.restart;
+      no_swap = ends.no_swap;
+      full_swaps = ends.full_swaps;
+      full_nodes = ends.full_nodes;
+      learns = λ stage s same good free facts tells. no-slot c.nothing_is_gained.ensures (fork_of t) s c.args.slots.now c.told-self.result
+          (told-learns c.parents_of_nodes_were.ensures c.guarded_links_stand.ensures c.ranges_stay.ensures t.config (fork_of t) c.told-self.result c.args.seen stage s c.told-self.ensures same good
+          (subst (λ z. fork_facts (fork_of t) z stage s) c.in-Check.is facts)
+          (subst (λ z. Tells (fork_asks t.config (fork_of t) z) stage c.args.seen s) c.in-Check.is tells));
+    }
+
+pub returns-in-Guard : goal.returns-in-Guard
+returns-in-Guard c =
+    let t = c.args.self.now in
+    let new = c.look.new.self in
+    let left = c.look.new.slots in
+    let k = c.requires.known in
+    let e = c.look.ensures in
+    let needed : fork_needs t.phase ≡ SPLIT_SLOTS = ap fork_needs c.in-Guard.is in
+    let nodes : c.args.slots.now.nodes ≡ t.config.nodes = c.requires.memory (omega (arith, needed)) in
+    let hears : Hears (fork_asks t.config (fork_of t) Guard) c.args.seen = subst (λ z. Hears (fork_asks t.config (fork_of t) z) c.args.seen) c.in-Guard.is c.requires.hears in
+    let b : Looks (fork_of new) new.config c.args.seen new.phase c.args.slots.now left = looks t.config.nodes (fork_of new) new.config c.args.seen new.phase c.args.slots.now left
+    (subst (λ z. Hears (Some (Reads z.guard)) c.args.seen) (sym e.upper) hears) e.looked (nodes ∙ ap (λ z. z.nodes) (sym e.config)) in
+    let ends : EndsWell t.upper t.middle t.lower c.args.seen t.phase new.phase c.args.slots.now = subst (λ z. EndsWell t.upper t.middle t.lower c.args.seen z new.phase c.args.slots.now) (sym c.in-Guard.is)
+    (subst (λ z. EndsWell z t.middle t.lower c.args.seen Guard new.phase c.args.slots.now) e.upper (subst (λ z. EndsWell new.upper z t.lower c.args.seen Guard new.phase c.args.slots.now) e.middle (subst (λ z. EndsWell new.upper new.middle z c.args.seen Guard new.phase c.args.slots.now) e.lower b.ends))) in
+    record {
+      config = e.config;
+      upper = e.upper;
+      middle = e.middle;
+      known = subst IsConfig (k.config ∙ sym e.config) k.good.config;
+      begun = b.begun;
+      ready = b.ready;
+      nearer = omega (arith, b.nearer, ap fork_left c.in-Guard.is);
+      slots = subst (λ z. AreTakenFrom z (fork_needs new.phase) c.args.slots.now left) (sym needed) b.taken;
+      done = ends.done;
+      restart = ends.restart;
+      no_swap = ends.no_swap;
+      full_swaps = ends.full_swaps;
+      full_nodes = ends.full_nodes;
+      learns = λ stage s same good free facts tells. looked-learns (record { apart = c.slots_apart.ensures; may = c.children_may_be_parted.ensures; turned = c.links_turn.ensures.asked; stand = c.guarded_links_stand.ensures; ranges = c.ranges_stay.ensures; nothing = c.nothing_is_gained.ensures }) t.config (fork_of t) (fork_of new) new.phase c.args.seen c.args.slots.now left
+          (record { upper = e.upper; middle = e.middle; lower = e.lower; read = ap (λ z. z.0) e.read; above = ap (λ z. z.0) e.above }) e.looked nodes stage s same good (free (omega (arith, needed)))
+          (subst (λ z. fork_facts (fork_of t) z stage s) c.in-Guard.is facts)
+          (subst (λ z. Tells (fork_asks t.config (fork_of t) z) stage c.args.seen s) c.in-Guard.is tells);
+    }
+
+pub returns-in_default : goal.returns-in_default
+returns-in_default c =
+    let t = c.args.self.now in
+    let a = c.after-self.ensures in
+    let e : EndsWell t.upper t.middle t.lower c.args.seen t.phase c.after-self.result c.args.slots.now = ends-well t.upper t.middle t.lower c.args.seen t.phase c.after-self.result c.args.slots.now a.done (λ q. inl (a.restart q)) a.no_swap a.slots in
+    record {
+      config = refl;
+      upper = refl;
+      middle = refl;
+      known = a.config;
+      begun = a.begun;
+      ready = a.ready;
+      nearer = a.nearer;
+      slots = takes-none t.phase c.after-self.result c.args.slots.now (omega (arith, a.needs));
+      done = e.done;
+      restart = e.restart;
+      no_swap = e.no_swap;
+      full_swaps = e.full_swaps;
+      full_nodes = e.full_nodes;
+      learns = λ stage s same good free facts tells. no-slot c.nothing_is_gained.ensures (fork_of t) s c.args.slots.now c.after-self.result (a.learns stage s same facts tells);
+    }
+
+pub returns-in-Fresh : goal.returns-in-Fresh
+returns-in-Fresh c =
+    let t = c.args.self.now in
+    let k = c.requires.known in
+    let hears : Hears (fork_asks t.config (fork_of t) Fresh) c.args.seen = subst (λ z. Hears (fork_asks t.config (fork_of t) z) c.args.seen) c.in-Fresh.is c.requires.hears in
+    let e : EndsWell t.upper t.middle t.lower c.args.seen t.phase (Word 1) c.args.slots.now = subst (λ z. EndsWell t.upper t.middle t.lower c.args.seen z (Word 1) c.args.slots.now) (sym c.in-Fresh.is) (first-ends t.config (fork_of t) c.args.seen c.args.slots.now hears) in
+    record {
+      config = refl;
+      upper = refl;
+      middle = refl;
+      known = subst IsConfig k.config k.good.config;
+      begun = λ z. absurd (cc);
+      ready = fresh-ready t.config (fork_of t) c.args.seen k.stage k.scene k.config k.good (subst (λ z. fork_facts (fork_of t) z k.stage k.scene) c.in-Fresh.is k.holds);
+      nearer = omega (arith, ap fork_left c.in-Fresh.is);
+      slots = takes-none t.phase (Word 1) c.args.slots.now (omega (arith, ap fork_needs c.in-Fresh.is));
+      done = e.done;
+      restart = e.restart;
+      no_swap = e.no_swap;
+      full_swaps = e.full_swaps;
+      full_nodes = e.full_nodes;
+      learns = λ stage s same good free facts tells. no-slot c.nothing_is_gained.ensures (fork_of t) s c.args.slots.now (Word 1)
+          (fresh-known t.config (fork_of t) c.args.seen stage s (subst (λ z. fork_facts (fork_of t) z stage s) c.in-Fresh.is facts) (subst (λ z. Tells (fork_asks t.config (fork_of t) z) stage c.args.seen s) c.in-Fresh.is tells));
+    }
+
+pub returns-in-Word : goal.returns-in-Word
+returns-in-Word c =
+    let t = c.args.self.now in
+    let i = c.in-Word.i in
+    let k = c.requires.known in
+    let v = c.word_in.result in
+    let hears : Hears (fork_asks t.config (fork_of t) (Word i)) c.args.seen = subst (λ z. Hears (fork_asks t.config (fork_of t) z) c.args.seen) c.in-Word.is c.requires.hears in
+    let l : i < NODE_WORDS = word-within (fork_of t) i k.stage k.scene (subst (λ z. fork_facts (fork_of t) z k.stage k.scene) c.in-Word.is k.holds) in
+    let b : Words t.config (fork_of t) i c.args.seen c.after_word-self.result c.args.slots.now = subst (λ z. Words t.config (fork_of t) i c.args.seen z c.args.slots.now) (sym c.after_word-self.ensures)
+    (words-on t.config (fork_of t) i c.args.seen k.stage k.scene c.args.slots.now k.config k.good hears (subst (λ z. fork_facts (fork_of t) z k.stage k.scene) c.in-Word.is k.holds)) in
+    let e : EndsWell t.upper t.middle t.lower c.args.seen t.phase c.after_word-self.result c.args.slots.now = subst (λ z. EndsWell t.upper t.middle t.lower c.args.seen z c.after_word-self.result c.args.slots.now) (sym c.in-Word.is) b.ends in
+    record {
+      config = refl;
+      upper = refl;
+      middle = refl;
+      known = subst IsConfig k.config k.good.config;
+      begun = b.begun;
+      ready = subst (IsReadyFork t.config (kept-of t i v)) (sym c.after_word-self.ensures)
+          (word-ready t.config (fork_of t) (slice_set t.read.0 i v) i (subst (IsReadyFork t.config (fork_of t)) c.after_word-self.ensures b.ready));
+      nearer = omega (arith, b.nearer, ap fork_left c.in-Word.is);
+      slots = takes-none t.phase c.after_word-self.result c.args.slots.now (omega (arith, b.fewer, ap fork_needs c.in-Word.is));
+      done = e.done;
+      restart = e.restart;
+      no_swap = e.no_swap;
+      full_swaps = e.full_swaps;
+      full_nodes = e.full_nodes;
+      learns = λ stage s same good free facts tells. subst (λ z. fork_facts (kept-of t i v) z Waiting (gained s c.args.slots.now c.args.slots.now)) (sym c.after_word-self.ensures)
+          (no-slot c.nothing_is_gained.ensures (kept-of t i v) s c.args.slots.now (word_after i)
+          (word-known t.config (fork_of t) i v c.args.seen stage s same good (λ w q. c.word_in.ensures w q) (subst (λ z. fork_facts (fork_of t) z stage s) c.in-Word.is facts) (subst (λ z. Tells (fork_asks t.config (fork_of t) z) stage c.args.seen s) c.in-Word.is tells)));
+    }
+
+pub returns-in-Above : goal.returns-in-Above
+returns-in-Above c =
+    let t = c.args.self.now in
+    let i = c.in-Above.i in
+    let k = c.requires.known in
+    let v = c.word_in-in-Above.result in
+    let hears : Hears (fork_asks t.config (fork_of t) (Above i)) c.args.seen = subst (λ z. Hears (fork_asks t.config (fork_of t) z) c.args.seen) c.in-Above.is c.requires.hears in
+    let l : i < NODE_WORDS = above-within (fork_of t) i k.stage k.scene (subst (λ z. fork_facts (fork_of t) z k.stage k.scene) c.in-Above.is k.holds) in
+    let b : Aboves t.config (fork_of t) i c.args.seen c.after_above-self.result c.args.slots.now = subst (λ z. Aboves t.config (fork_of t) i c.args.seen z c.args.slots.now) (sym c.after_above-self.ensures)
+    (aboves-on t.config (fork_of t) i c.args.seen k.stage k.scene c.args.slots.now k.config k.good hears (subst (λ z. fork_facts (fork_of t) z k.stage k.scene) c.in-Above.is k.holds)) in
+    let e : EndsWell t.upper t.middle t.lower c.args.seen t.phase c.after_above-self.result c.args.slots.now = subst (λ z. EndsWell t.upper t.middle t.lower c.args.seen z c.after_above-self.result c.args.slots.now) (sym c.in-Above.is) b.ends in
+    record {
+      config = refl;
+      upper = refl;
+      middle = refl;
+      known = subst IsConfig k.config k.good.config;
+      begun = b.begun;
+      ready = subst (IsReadyFork t.config (kept-above t i v)) (sym c.after_above-self.ensures)
+          (above-ready t.config (fork_of t) (slice_set t.above.0 i v) i (subst (IsReadyFork t.config (fork_of t)) c.after_above-self.ensures b.ready));
+      nearer = omega (arith, b.nearer, ap fork_left c.in-Above.is);
+      slots = takes-none t.phase c.after_above-self.result c.args.slots.now (omega (arith, b.fewer, ap fork_needs c.in-Above.is));
+      done = e.done;
+      restart = e.restart;
+      no_swap = e.no_swap;
+      full_swaps = e.full_swaps;
+      full_nodes = e.full_nodes;
+      learns = λ stage s same good free facts tells. subst (λ z. fork_facts (kept-above t i v) z Waiting (gained s c.args.slots.now c.args.slots.now)) (sym c.after_above-self.ensures)
+          (no-slot c.nothing_is_gained.ensures (kept-above t i v) s c.args.slots.now (above_after i)
+          (above-known t.config (fork_of t) i v c.args.seen stage s same good (λ w q. c.word_in-in-Above.ensures w q) (subst (λ z. fork_facts (fork_of t) z stage s) c.in-Above.is facts) (subst (λ z. Tells (fork_asks t.config (fork_of t) z) stage c.args.seen s) c.in-Above.is tells)));
+    }

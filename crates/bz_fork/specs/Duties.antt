@@ -1,0 +1,35 @@
+-- The split of an inner node below a parent as a task.
+use Rattle.std.specs.Prelude.{ℕ, zero, suc, List, Option, slice_index}
+use Rattle.bz_task.specs.Scene.{Scene, Stage}
+use Rattle.bz_task.specs.declared.todo.Outcome.{Outcome}
+use Rattle.bz_task.specs.declared.todo.Seen.{Seen}
+use Rattle.bz_task.specs.declared.todo.Todo.{Todo}
+use Rattle.bz_fork.specs.Facts.{Fork, fork_asks, fork_end, fork_left, fork_needs, fork_facts, fork_differs}
+use Rattle.bz_fork.specs.declared.split_inner.SplitInner.{SplitInner}
+
+-- the words of the new parent, of the left half and of the right half
+abbrev pub three : List ℕ → List ℕ → List ℕ → ℕ → List ℕ
+three parent left right zero = parent
+three parent left right (suc zero) = left
+three parent left right (suc (suc n)) = right
+
+abbrev pub fork_of : SplitInner → Fork
+fork_of t = record { upper = t.upper; middle = t.middle; lower = t.lower; slot = slice_index t.slots; image = three t.parent.0 t.left.0 t.right.0; read = t.read.0; above = t.above.0 }
+
+abbrev pub asks_fork : SplitInner → Option Todo
+asks_fork t = fork_asks t.config (fork_of t) t.phase
+
+abbrev pub end_fork : SplitInner → Option Outcome
+end_fork t = fork_end t.phase
+
+abbrev pub left_fork : SplitInner → ℕ
+left_fork t = fork_left t.phase
+
+abbrev pub needs_fork : SplitInner → ℕ
+needs_fork t = fork_needs t.phase
+
+abbrev pub facts_fork : SplitInner → Stage → Scene → Type 0
+facts_fork t = fork_facts (fork_of t) t.phase
+
+abbrev pub differs_fork : SplitInner → Seen → Type 0
+differs_fork t = fork_differs t.upper t.middle t.lower t.phase

@@ -1,0 +1,347 @@
+-- What the split of an inner node below a parent knows, and what it asks for.
+use Rattle.std.specs.Prelude.{◌≡◌, ◌≢◌, ℕ, ◌+◌, ◌-◌, ◌^◌, ◌<◌, ◌≤◌, ◌⊎◌, nat_lt, if◌then◌else◌, true, false, List, [], ◌∷◌, map, Option, Some, None, length}
+use Rattle.bz_call.specs.declared.replies.Spent.TheVariants.{Nodes as NoNodes, Swaps as NoSwaps}
+use Rattle.bz_key.specs.Packing.{packed}
+use Rattle.bz_layout.specs.Addresses.{node_address}
+use Rattle.bz_layout.specs.Slots.{FreeSlots}
+use Rattle.bz_layout.specs.declared.config.Config.{Config}
+use Rattle.bz_layout.specs.declared.sizes.TheConstants.{NODE_WORDS, STATUS_AT, SHARED_WORDS}
+use Rattle.bz_layout.specs.declared.thresholds.TheConstants.{INNER_LIMIT, SPLIT_SLOTS}
+use Rattle.bz_node.specs.Layout.{needed}
+use Rattle.bz_node.specs.Reading.{children_in}
+use Rattle.bz_node.specs.Records.{child_entry}
+use Rattle.bz_swap.specs.SwapMemory.{is_target}
+use Rattle.bz_word.specs.Statuses.{status}
+use Rattle.bz_task.specs.Scene.{Past, Scene, Stage, Waiting, Took, HasFilled}
+use Rattle.bz_task.specs.declared.path.Link.{Link}
+use Rattle.bz_task.specs.declared.todo.Outcome.{Outcome}
+use Rattle.bz_task.specs.declared.todo.Outcome.TheVariants.{Done as IsDone, Restart as Restarts, Full as IsFull, NeedsRoom as NoneFits}
+use Rattle.bz_task.specs.declared.todo.Seen.{Seen}
+use Rattle.bz_task.specs.declared.todo.Seen.TheVariants.{Read as Was, Swapped, NoSwap as NoneLeft}
+use Rattle.bz_task.specs.declared.todo.Todo.{Todo}
+use Rattle.bz_task.specs.declared.todo.Todo.TheVariants.{Read as Reads, Store as Stores_at, Flush as Flushes_line, Swap as Swaps_for, Finish}
+use Rattle.bz_halves.specs.Parents.{parted_words}
+use Rattle.bz_parted.specs.Parting.{words_of}
+use Rattle.bz_renew.specs.Freezings.{renewal_with}
+use Rattle.bz_renew.specs.Guards.{WasAsRead}
+use Rattle.bz_renew.specs.Nodes.{Nodes, word_address, word_value, line_number, AreWriting, ArePlain, HaveSlots, HasFilledBegun, AreSlotsTaken}
+use Rattle.bz_renew.specs.Renewals.{renewal}
+use Rattle.bz_split.specs.BelowSplits.{AreLinksDown, parent_freezing}
+use Rattle.bz_split.specs.Facts.{SPLIT_WORDS, SPLIT_LINES, StoodFresh}
+use Rattle.bz_below.specs.Facts.{HasRoom, HasParent, IsNewParent, LackedRoom}
+use Rattle.bz_below.specs.Parents.{WereRead, WasParent}
+use Rattle.bz_branch.specs.InnerSplits.{inner_swap}
+use Rattle.bz_branch.specs.Nodes.{IsOpenLink, WasInner}
+use Rattle.bz_branch.specs.Parts.{IsFullNode, AreHalvesOfNode, ArePartsOfNode}
+use Rattle.bz_fork.specs.declared.phase.Phase.{Phase}
+use Rattle.bz_fork.specs.declared.phase.Phase.TheVariants.{Fresh, Word, Again, Above, Check, Guard, Store, Flush, Swap, Done, Restart, NoRoom, NoSlot, NoSwap}
+
+-- the links to the parent and to the node, and one in the node; the slots and the words of the new parent, of the left half and of
+-- the right half; and the words that were read of the node and of the parent so far
+pub record Fork : Type 0 where
+  pub upper : Link
+  pub middle : Link
+  pub lower : Link
+  pub slot : ℕ → ℕ
+  pub image : ℕ → List ℕ
+  pub read : List ℕ
+  pub above : List ℕ
+
+abbrev pub fork_nodes : Fork → Nodes
+fork_nodes r = record { count = SPLIT_SLOTS; slot = r.slot; image = r.image }
+
+abbrev pub fork_asks : Config → Fork → Phase → Option Todo
+fork_asks c r Fresh = None
+fork_asks c r (Word i) = Some (Reads (node_address c r.middle.slot + i))
+fork_asks c r Again = Some (Reads r.lower.guard)
+fork_asks c r (Above i) = Some (Reads (node_address c r.upper.slot + i))
+fork_asks c r Check = Some (Reads r.middle.guard)
+fork_asks c r Guard = Some (Reads r.upper.guard)
+fork_asks c r (Store j) = Some (Stores_at (word_address c (fork_nodes r) j) (word_value (fork_nodes r) j))
+fork_asks c r (Flush j) = Some (Flushes_line (line_number c (fork_nodes r) j))
+fork_asks c r Swap = Some (Swaps_for (inner_swap c r.upper r.middle r.lower (r.slot 0)))
+fork_asks c r phase = Some Finish
+
+abbrev pub fork_end : Phase → Option Outcome
+fork_end Done = Some IsDone
+fork_end Restart = Some Restarts
+fork_end NoRoom = Some NoneFits
+fork_end NoSlot = Some (IsFull NoNodes)
+fork_end NoSwap = Some (IsFull NoSwaps)
+fork_end phase = None
+
+-- the most acts: the loads of the words of node and parent and of the three guards, a store for each word, a flush for each line, the
+-- swap, and the end
+abbrev pub fork_acts : ℕ
+fork_acts = NODE_WORDS + (NODE_WORDS + SPLIT_WORDS + SPLIT_LINES + 3)
+
+abbrev pub fork_left : Phase → ℕ
+fork_left Fresh = fork_acts
+fork_left (Word i) = fork_acts - i
+fork_left Again = NODE_WORDS + SPLIT_WORDS + SPLIT_LINES + 3
+fork_left (Above i) = NODE_WORDS + SPLIT_WORDS + SPLIT_LINES + 3 - i
+fork_left Check = SPLIT_WORDS + SPLIT_LINES + 3
+fork_left Guard = SPLIT_WORDS + SPLIT_LINES + 2
+fork_left (Store j) = SPLIT_WORDS + SPLIT_LINES + 1 - j
+fork_left (Flush j) = SPLIT_LINES + 1 - j
+fork_left Swap = 1
+fork_left phase = 0
+
+-- the slots are taken when all guards have been looked at again
+abbrev pub fork_needs : Phase → ℕ
+fork_needs Fresh = SPLIT_SLOTS
+fork_needs (Word i) = SPLIT_SLOTS
+fork_needs Again = SPLIT_SLOTS
+fork_needs (Above i) = SPLIT_SLOTS
+fork_needs Check = SPLIT_SLOTS
+fork_needs Guard = SPLIT_SLOTS
+fork_needs phase = 0
+
+-- after a word comes the next one, or the status once more
+abbrev pub word_after : ℕ → Phase
+word_after i = if nat_lt (i + 1) NODE_WORDS then Word (i + 1) else Again
+
+abbrev pub above_after : ℕ → Phase
+above_after i = if nat_lt (i + 1) NODE_WORDS then Above (i + 1) else Check
+
+-- after a store comes the next one, or the first flush; after a flush the next one, or the swap
+abbrev pub store_after : ℕ → Phase
+store_after j = if nat_lt (j + 1) SPLIT_WORDS then Store (j + 1) else Flush 0
+
+abbrev pub flush_after : ℕ → Phase
+flush_after j = if nat_lt (j + 1) SPLIT_LINES then Flush (j + 1) else Swap
+
+-- after the swap comes an end
+abbrev pub swap_after : Seen → Phase
+swap_after (Swapped true) = Done
+swap_after NoneLeft = NoSwap
+swap_after seen = Restart
+
+-- the three links were read, each in the node to which the one before leads. The status of the parent was read at moment `guarded`,
+-- that of the node at moment `counted`, and counts more words than an inner node may keep; the middle link was that to child `child`
+pub record HasLinks (upper middle lower : Link) (p : Past) : Type 0 where
+  pub down : AreLinksDown upper middle p
+  pub node : IsOpenLink middle.slot lower p
+  pub guarded : ℕ
+  pub is_guarded : down.guard.guarded ≡ guarded
+  pub child : ℕ
+  pub is_child : down.under.child.child ≡ child
+  pub counted : ℕ
+  pub is_counted : node.guard.guarded ≡ counted
+  pub many : INNER_LIMIT < (status lower.status).count + (status lower.status).block
+
+-- the node's words before a place were read, and of the parent the status alone
+pub record IsReading (r : Fork) (place : ℕ) (p : Past) : Type 0 where
+  pub links : HasLinks r.upper r.middle r.lower p
+  pub were : WereRead r.middle.slot links.counted r.lower.status place r.read p
+  pub above : WereRead r.upper.slot links.guarded r.middle.status 1 r.above p
+
+-- the node's words were those that were read, and it is above its limit; the parent's words before a place were read
+pub record IsReadingAbove (r : Fork) (place : ℕ) (p : Past) : Type 0 where
+  pub links : HasLinks r.upper r.middle r.lower p
+  pub node : WasInner r.middle.slot links.counted r.read p
+  pub many : INNER_LIMIT < words_of (children_in r.read)
+  pub above : WereRead r.upper.slot links.guarded r.middle.status place r.above p
+
+-- the parent's words were those that were read too, one level above the node; and it has room for the separator of the node's halves
+pub record IsPlan (upper middle lower : Link) (read above : List ℕ) (p : Past) : Type 0 where
+  pub links : HasLinks upper middle lower p
+  pub node : WasInner middle.slot links.counted read p
+  pub many : INNER_LIMIT < words_of (children_in read)
+  pub left : List ℕ
+  pub right : List ℕ
+  pub sep : List ℕ
+  pub parts : AreHalvesOfNode p.config.nodes read left right sep node.level node.low node.high
+  pub parent : WasParent upper middle links.guarded links.child sep above p
+  pub levels : parent.level ≡ node.level + 1
+  pub two : upper.slot ≢ middle.slot
+  pub room : HasRoom above sep
+
+abbrev pub IsPlanned : Fork → Past → Type 0
+IsPlanned r p = IsPlan r.upper r.middle r.lower r.read r.above p
+
+-- the node had these words, and was above its limit; and the parent lacked the room for the separator of its halves: then the split of
+-- the node is not the one to be made
+pub record LackedPart (upper middle : Link) (p : Past) : Type 0 where
+  pub moment : ℕ
+  pub read : List ℕ
+  pub left : List ℕ
+  pub right : List ℕ
+  pub sep : List ℕ
+  pub since : p.since ≤ moment
+  pub now : moment ≤ p.now
+  pub node : WasInner middle.slot moment read p
+  pub parts : AreHalvesOfNode p.config.nodes read left right sep node.level node.low node.high
+  pub lacked : LackedRoom upper middle sep p
+
+-- the words of the new parent
+abbrev pub parent_words : (r : Fork) (sep : List ℕ) (child level : ℕ) → Option (List ℕ) → Option (List ℕ) → List ℕ
+parent_words r sep child level low high = parted_words (children_in r.above) child (r.slot 1) (r.slot 2) sep low high level
+
+-- the upper link and its guard are no statuses of the parent and of the node, which are two
+pub record AreClear (c : Config) (upper middle : Link) : Type 0 where
+  pub link_parent : upper.link ≢ node_address c upper.slot + STATUS_AT
+  pub guard_parent : upper.guard ≢ node_address c upper.slot + STATUS_AT
+  pub link_node : upper.link ≢ node_address c middle.slot + STATUS_AT
+  pub guard_node : upper.guard ≢ node_address c middle.slot + STATUS_AT
+  pub two : upper.slot ≢ middle.slot
+
+-- since the node's status was read the upper guard was looked at again, and was as the path names it; the three nodes are being
+-- written, the first of them the new parent, the others the node's halves: so many of their words are stored, and so many of their
+-- lines durable
+pub record IsSplitting (r : Fork) (stored lines : ℕ) (s : Scene) : Type 0 where
+  pub planned : IsPlanned r s.past
+  pub looked : WasAsRead r.upper planned.links.counted s.past
+  pub clear : AreClear s.past.config r.upper r.middle
+  pub halves : AreHalvesOfNode s.past.config.nodes r.read (r.image 1) (r.image 2) planned.sep planned.node.level planned.node.low planned.node.high
+  pub over : r.image 0 ≡ parent_words r planned.sep planned.links.child planned.parent.level planned.parent.low planned.parent.high
+  pub plain : ArePlain (fork_nodes r)
+  pub writing : AreWriting (fork_nodes r) stored lines s
+
+-- at a moment since the call began the upper link led to a new parent: what the old one was at an earlier one, with the two halves of
+-- what the node was in the place of the child to which the middle link led. To none of the three a link had led one moment before
+pub record WasSplitInner (upper middle : Link) (p : Past) : Type 0 where
+  pub parent_slot : ℕ
+  pub left_slot : ℕ
+  pub right_slot : ℕ
+  pub read : List ℕ
+  pub above : List ℕ
+  pub left : List ℕ
+  pub right : List ℕ
+  pub sep : List ℕ
+  pub child : ℕ
+  pub moment : ℕ
+  pub counted : ℕ
+  pub before : ℕ
+  pub since : p.since ≤ moment
+  pub order : moment ≤ before
+  pub counted_since : p.since ≤ counted
+  pub counted_order : counted ≤ before
+  pub now : before + 1 ≤ p.now
+  pub old : WasParent upper middle moment child sep above p
+  pub node : WasInner middle.slot counted read p
+  pub parts : AreHalvesOfNode p.config.nodes read left right sep node.level node.low node.high
+  pub led : (p.at (before + 1)).value upper.link ≡ parent_slot + 1
+  pub parent : StoodFresh parent_slot (parted_words (children_in above) child left_slot right_slot sep old.low old.high old.level) before p
+  pub left_half : StoodFresh left_slot left before p
+  pub right_half : StoodFresh right_slot right before p
+
+abbrev pub fork_facts : Fork → Phase → Stage → Scene → Type 0
+fork_facts r Fresh Waiting s = IsReading r 1 s.past
+fork_facts r (Word i) Waiting s = HasFilled s × ((0 < i) × ((i < NODE_WORDS) × IsReading r i s.past))
+fork_facts r Again Waiting s = HasFilled s × IsReading r NODE_WORDS s.past
+fork_facts r (Above i) Waiting s = HasFilled s × ((0 < i) × ((i < NODE_WORDS) × IsReadingAbove r i s.past))
+fork_facts r Check Waiting s = HasFilled s × IsReadingAbove r NODE_WORDS s.past
+fork_facts r Guard Waiting s = HasFilled s × IsPlanned r s.past
+fork_facts r (Store j) Waiting s = HasFilledBegun (fork_nodes r) j s × ((j < SPLIT_WORDS) × IsSplitting r j 0 s)
+fork_facts r (Store j) Took s = HasFilledBegun (fork_nodes r) (j + 1) s × ((j < SPLIT_WORDS) × IsSplitting r (j + 1) 0 s)
+fork_facts r (Flush j) Waiting s = HasFilled s × ((j < SPLIT_LINES) × IsSplitting r SPLIT_WORDS j s)
+fork_facts r (Flush j) Took s = HasFilled s × ((j < SPLIT_LINES) × IsSplitting r SPLIT_WORDS (j + 1) s)
+fork_facts r Swap Waiting s = HasFilled s × IsSplitting r SPLIT_WORDS SPLIT_LINES s
+fork_facts r Swap Took s = HasFilled s × WasSplitInner r.upper r.middle s.past
+fork_facts r Done Waiting s = HasFilled s × WasSplitInner r.upper r.middle s.past
+fork_facts r NoRoom Waiting s = HasFilled s × LackedPart r.upper r.middle s.past
+fork_facts r Fresh Took s = ⊥
+fork_facts r (Word i) Took s = ⊥
+fork_facts r Again Took s = ⊥
+fork_facts r (Above i) Took s = ⊥
+fork_facts r Check Took s = ⊥
+fork_facts r Guard Took s = ⊥
+fork_facts r phase Waiting s = HasFilled s
+fork_facts r phase Took s = ⊥
+
+-- what its end means: the upper link led to a fresh parent with the two halves; or the parent lacked the room; else nothing is known
+-- beyond why it ended
+abbrev pub fork_means : Link → Link → Outcome → Scene → Type 0
+fork_means upper middle IsDone s = WasSplitInner upper middle s.past
+fork_means upper middle NoneFits s = LackedPart upper middle s.past
+fork_means upper middle Restarts s = Unit {0}
+fork_means upper middle (IsFull NoNodes) s = Unit {0}
+fork_means upper middle (IsFull NoSwaps) s = Unit {0}
+fork_means upper middle outcome s = ⊥
+
+-- a guard is another one than the path names
+abbrev pub fork_differs : Link → Link → Link → Phase → Seen → Type 0
+fork_differs upper middle lower Again (Was v) = v ≢ lower.status
+fork_differs upper middle lower Check (Was v) = v ≢ middle.status
+fork_differs upper middle lower Guard (Was v) = v ≢ upper.status
+fork_differs upper middle lower phase seen = ⊥
+
+-- the swap may be made: its targets are different words
+pub record IsSwapReady (c : Config) (r : Fork) : Type 0 where
+  pub upper_plain : r.upper.status < 2 ^ 61
+  pub middle_plain : r.middle.status < 2 ^ 61
+  pub lower_plain : r.lower.status < 2 ^ 61
+  pub apart : r.upper.link ≢ r.upper.guard
+  pub upper_slot : r.upper.slot < c.nodes
+  pub slot : r.middle.slot < c.nodes
+  pub target : is_target (renewal r.upper (r.slot 0)) (node_address c r.upper.slot + STATUS_AT) ≡ false
+  pub node_target : is_target (renewal_with c r.upper (r.slot 0) (parent_freezing r.upper r.middle ∷ [])) (node_address c r.middle.slot + STATUS_AT) ≡ false
+
+-- what is named is there
+abbrev pub IsReadyFork : Config → Fork → Phase → Type 0
+IsReadyFork c r (Word i) = (r.middle.slot < c.nodes) × (i < NODE_WORDS)
+IsReadyFork c r (Above i) = (r.upper.slot < c.nodes) × (i < NODE_WORDS)
+IsReadyFork c r (Store j) = HaveSlots c.nodes (fork_nodes r) × (j < SPLIT_WORDS)
+IsReadyFork c r (Flush j) = HaveSlots c.nodes (fork_nodes r) × (j < SPLIT_LINES)
+IsReadyFork c r Swap = HaveSlots c.nodes (fork_nodes r) × IsSwapReady c r
+IsReadyFork c r phase = Unit {0}
+
+-- the node's words are those of one above its limit; the parent's words are those of one that may be parted at the node's place by the
+-- separator of its halves
+pub record HasNode (nodes slot : ℕ) (read above : List ℕ) : Type 0 where
+  pub full : IsFullNode read
+  pub parent : (left right sep : List ℕ) → ArePartsOfNode read left right sep → HasParent nodes slot sep above
+
+-- and it has the room
+pub record HasPlace (nodes slot : ℕ) (read above : List ℕ) : Type 0 where
+  pub node : HasNode nodes slot read above
+  pub room : (left right sep : List ℕ) → ArePartsOfNode read left right sep → HasRoom above sep
+
+-- the three nodes are a parent with the halves of the node with these words, in these slots, and these halves
+pub record AreMadeOf (nodes slot : ℕ) (read above parent left right : List ℕ) (left_slot right_slot : ℕ) : Type 0 where
+  pub sep : List ℕ
+  pub parts : ArePartsOfNode read left right sep
+  pub over : IsNewParent nodes slot left_slot right_slot sep above parent
+  pub size : length parent ≡ NODE_WORDS
+
+-- three slots were taken, and the nodes are made; or there were not so many
+abbrev pub HasBegunFork : ℕ → Fork → Phase → FreeSlots → FreeSlots → Type 0
+HasBegunFork nodes r (Store j) old new =
+    (j ≡ 0) × (AreSlotsTaken (fork_nodes r) old new × AreMadeOf nodes r.middle.slot r.read r.above (r.image 0) (r.image 1) (r.image 2) (r.slot 1) (r.slot 2))
+HasBegunFork nodes r NoSlot old new = (length old.free < SPLIT_SLOTS) × (new ≡ old)
+HasBegunFork nodes r phase old new = ⊥
+
+-- that is where the upper guard was as the path names it; elsewhere none was taken
+abbrev pub HasLookedFork : ℕ → Fork → Seen → Phase → FreeSlots → FreeSlots → Type 0
+HasLookedFork nodes r seen phase old new =
+    ((seen ≡ Was r.upper.status) × HasBegunFork nodes r phase old new) ⊎ ((seen ≢ Was r.upper.status) × ((phase ≡ Restart) × (new ≡ old)))
+
+-- where the node's status is as it was, the parent's words are read
+abbrev pub HasRead : Fork → Seen → Phase → Type 0
+HasRead r seen (Above i) = (seen ≡ Was r.lower.status) × (i ≡ 1)
+HasRead r seen Restart = seen ≢ Was r.lower.status
+HasRead r seen phase = ⊥
+
+-- the halves of the node, and their separator
+pub record HasParts (read : List ℕ) : Type 0 where
+  pub left : List ℕ
+  pub right : List ℕ
+  pub sep : List ℕ
+  pub parts : ArePartsOfNode read left right sep
+
+-- the parent as it was read has room for their separator, or lacks it
+pub record FitsParts (read above : List ℕ) : Type 0 where
+  pub has : HasParts read
+  pub room : HasRoom above has.sep
+
+pub record LacksParts (read above : List ℕ) : Type 0 where
+  pub has : HasParts read
+  pub room : SHARED_WORDS < needed (map child_entry (children_in above)) + 2 + length (packed has.sep)
+
+-- where the parent's status is as it was, its words tell whether there is room
+abbrev pub HasTold : Fork → Seen → Phase → Type 0
+HasTold r seen Guard = (seen ≡ Was r.middle.status) × FitsParts r.read r.above
+HasTold r seen NoRoom = (seen ≡ Was r.middle.status) × LacksParts r.read r.above
+HasTold r seen Restart = seen ≢ Was r.middle.status
+HasTold r seen phase = ⊥

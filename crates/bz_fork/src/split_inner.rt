@@ -1,0 +1,453 @@
+//! The task that splits an inner node below a parent.
+
+ghost use Rattle.std.specs.Prelude.{◌≡◌, ◌≢◌, ◌↔◌, ◌+◌, ◌-◌, ◌<◌, ◌≤◌, ◌^◌, ◌⊎◌, ℕ, List, Option, Some, None, IsTrue, true, false, slice_get, slice_index, length};
+ghost use Rattle.bz_layout.specs.Config.{IsConfig};
+ghost use Rattle.bz_layout.specs.declared.thresholds.TheConstants.{SPLIT_SLOTS};
+ghost use Rattle.bz_renew.specs.Nodes.{word_value};
+ghost use Rattle.bz_task.specs.Outcomes.{IsPath};
+ghost use Rattle.bz_task.specs.OwnActs.{AreTakenFrom, AreUnreached, gained};
+ghost use Rattle.bz_task.specs.Requests.{Hears, Tells, IsKnown};
+ghost use Rattle.bz_task.specs.Scene.{Scene, Stage, Waiting, IsScene};
+ghost use Rattle.bz_task.specs.declared.todo.Seen.TheVariants.{Read as Was, Swapped, NoSwap as NoneLeft};
+ghost use Rattle.bz_split.specs.Facts.{split_change};
+ghost use Rattle.bz_fork.specs.Due.{IsDue};
+ghost use Rattle.bz_fork.specs.Duties.{fork_of, asks_fork, end_fork, left_fork, needs_fork, facts_fork, differs_fork};
+ghost use Rattle.bz_fork.specs.Facts.{fork_nodes, fork_acts, fork_left, fork_facts, fork_means, HasBegunFork, HasLookedFork, HasRead, HasTold, AreMadeOf, HasNode, HasPlace, IsReadyFork, WasSplitInner, LackedPart, fork_needs, word_after, above_after, store_after, flush_after, swap_after};
+
+use crate::links::link_at;
+use crate::parent::parent_with;
+use crate::phase::Phase;
+use bz_branch::laws::{inner_splits_are_good, parents_of_nodes_were, read_nodes_were};
+use bz_branch::{parts_of, swap_freezing_two};
+use bz_call::Spent;
+use bz_layout::{Config, LINE_WORDS, NODE_WORDS, SPLIT_SLOTS, Slots};
+use bz_node::NodeImage;
+use bz_renew::{is_whole, take_three};
+use bz_task::{LeafView, Link, Outcome, Path, Seen, Task, Todo, laws};
+
+const NODE_LINES: u32 = NODE_WORDS / LINE_WORDS;
+
+const SPLIT_WORDS: u32 = NODE_WORDS * SPLIT_SLOTS;
+
+const SPLIT_LINES: u32 = NODE_LINES * SPLIT_SLOTS;
+
+/// The split of an inner node of a path, below a parent. It ends with Done where a new parent, with the node's halves in its place, has
+/// taken the old one's place, and both are frozen; with Restart where a link or a status was another one; with NeedsRoom where the
+/// parent has no room for the separator; and with Full where fewer than three slots or no descriptor were left.
+#[derive(Drop)]
+pub struct SplitInner {
+    config: Config,
+    // the link to the parent, which is turned, the link to the node, and the path's link in the node
+    upper: Link,
+    middle: Link,
+    lower: Link,
+    // the words that were read of the node and of the parent; and those of the new parent and of the halves once the slots are known
+    read: NodeImage,
+    above: NodeImage,
+    parent: NodeImage,
+    left: NodeImage,
+    right: NodeImage,
+    // the slots of the new parent, of the left half and of the right half
+    slots: [u16; 3],
+    phase: Phase,
+}
+
+impl SplitInner {
+    /// The split of the node to which the link after this place of a path leads, whose status counts more words than an inner node may
+    /// keep.
+    pub fn new(config: &Config, path: Path, place: u32) -> SplitInner
+        requires few { path.depth ≤ 12 }
+        requires within { place < 12 }
+        requires due { IsDue path place }
+        ensures config { ⟦<SplitInner as Task>⟧.config result ≡ config.now }
+        ensures asks { ⟦<SplitInner as Task>⟧.asks result ≡ None }
+        ensures left { ⟦<SplitInner as Task>⟧.left result ≡ fork_acts }
+        ensures needs { ⟦<SplitInner as Task>⟧.needs result ≡ SPLIT_SLOTS }
+        ensures change { ⟦<SplitInner as Task>⟧.change result ≡ split_change }
+        ensures facts { (key : List ℕ) (s : Scene) → s.past.config ≡ config.now → IsScene s → IsPath key path s.past → ⟦<SplitInner as Task>⟧.facts result Waiting s }
+        ensures done { (upper middle : Link) (s : Scene) → slice_get path.links place ≡ Some upper → slice_get path.links (place + 1) ≡ Some middle → ⟦<SplitInner as Task>⟧.means result Outcome.Done s → WasSplitInner upper middle s.past }
+        ensures no_room { (upper middle : Link) (s : Scene) → slice_get path.links place ≡ Some upper → slice_get path.links (place + 1) ≡ Some middle → ⟦<SplitInner as Task>⟧.means result Outcome.NeedsRoom s → LackedPart upper middle s.past }
+        ensures no_path { (other : Path) (s : Scene) → ⟦<SplitInner as Task>⟧.means result (Outcome.Path other) s → ⊥ }
+        ensures no_view { (other : LeafView) (s : Scene) → ⟦<SplitInner as Task>⟧.means result (Outcome.View other) s → ⊥ }
+    {
+        bz_layout::slots_apart();
+        let middle = link_at(&path, place + 1);
+        let lower = link_at(&path, place + 2);
+        let read = first_word(lower.status);
+        let above = first_word(middle.status);
+        SplitInner {
+            config: *config,
+            upper: link_at(&path, place),
+            middle,
+            lower,
+            parent: read,
+            left: read,
+            right: read,
+            read,
+            above,
+            slots: [0; 3],
+            phase: Phase::Fresh,
+        }
+    }
+}
+
+impl SplitInner {
+    // The phase after the node's status, once more: the parent is read, where it is as it was.
+    fn read_on(&self, seen: Seen) -> Phase
+        ensures { HasRead (fork_of self.now) seen result }
+    {
+        if is_read(seen, self.lower.status) {
+            Phase::Above(1)
+        } else {
+            Phase::Restart
+        }
+    }
+
+    // The phase after the parent's status, once more: its words tell whether there is room, where it is as it was.
+    fn told(&self, seen: Seen) -> Phase
+        requires { seen ≡ Was self.now.middle.status → HasNode self.now.config.nodes self.now.middle.slot self.now.read.0 self.now.above.0 }
+        ensures { HasTold (fork_of self.now) seen result }
+    {
+        if !is_read(seen, self.middle.status) {
+            return Phase::Restart;
+        }
+        let separator = parts_of(&self.read).separator;
+        match parent_with(&self.above, self.middle.slot, 0, 0, separator) {
+            Some(_) => Phase::Guard,
+            None => Phase::NoRoom,
+        }
+    }
+
+    // Makes the new parent and the halves, for these slots.
+    fn make(&mut self, slots: [u16; 3])
+        requires { HasPlace self.old.config.nodes self.old.middle.slot self.old.read.0 self.old.above.0 }
+        ensures config { self.new.config ≡ self.old.config }
+        ensures upper { self.new.upper ≡ self.old.upper }
+        ensures middle { self.new.middle ≡ self.old.middle }
+        ensures lower { self.new.lower ≡ self.old.lower }
+        ensures read { self.new.read ≡ self.old.read }
+        ensures above { self.new.above ≡ self.old.above }
+        ensures slots { self.new.slots ≡ slots }
+        ensures phase { self.new.phase ≡ self.old.phase }
+        ensures made { AreMadeOf self.old.config.nodes self.new.middle.slot self.new.read.0 self.new.above.0 self.new.parent.0 self.new.left.0 self.new.right.0 (slice_index slots 1) (slice_index slots 2) }
+    {
+        let halves = parts_of(&self.read);
+        let slot = self.middle.slot;
+        let Some(parent) = parent_with(&self.above, slot, slots[1], slots[2], halves.separator)
+        else {
+            unreachable!();
+        };
+        is_whole(&parent);
+        self.parent = parent;
+        self.left = halves.left;
+        self.right = halves.right;
+        self.slots = slots;
+    }
+
+    // The phase with which the nodes are begun: the first store, where three slots are left.
+    fn begin(&mut self, slots: &mut Slots)
+        requires { HasPlace self.old.config.nodes self.old.middle.slot self.old.read.0 self.old.above.0 }
+        ensures config { self.new.config ≡ self.old.config }
+        ensures upper { self.new.upper ≡ self.old.upper }
+        ensures middle { self.new.middle ≡ self.old.middle }
+        ensures lower { self.new.lower ≡ self.old.lower }
+        ensures read { self.new.read ≡ self.old.read }
+        ensures above { self.new.above ≡ self.old.above }
+        ensures begun { HasBegunFork self.old.config.nodes (fork_of self.new) self.new.phase slots.old slots.new }
+    {
+        match take_three(slots) {
+            Some(taken) => {
+                self.make(taken);
+                self.phase = Phase::Store(0);
+            }
+            None => self.phase = Phase::NoSlot,
+        }
+    }
+
+    // The phase after another look at the upper guard: the nodes are begun where it is as the path names it.
+    fn look(&mut self, seen: Seen, slots: &mut Slots)
+        requires { HasPlace self.old.config.nodes self.old.middle.slot self.old.read.0 self.old.above.0 }
+        ensures config { self.new.config ≡ self.old.config }
+        ensures upper { self.new.upper ≡ self.old.upper }
+        ensures middle { self.new.middle ≡ self.old.middle }
+        ensures lower { self.new.lower ≡ self.old.lower }
+        ensures read { self.new.read ≡ self.old.read }
+        ensures above { self.new.above ≡ self.old.above }
+        ensures looked { HasLookedFork self.old.config.nodes (fork_of self.new) seen self.new.phase slots.old slots.new }
+    {
+        if is_read(seen, self.upper.status) {
+            self.begin(slots);
+        } else {
+            self.phase = Phase::Restart;
+        }
+    }
+
+    // The phase after what came of a store, a flush or the swap.
+    fn after(&self, seen: Seen, moment: u32) -> Phase
+        requires begun { self.now.phase ≢ Phase.Fresh }
+        requires read { (i : ℕ) → self.now.phase ≢ Phase.Word i }
+        requires again { self.now.phase ≢ Phase.Again }
+        requires above { (i : ℕ) → self.now.phase ≢ Phase.Above i }
+        requires told { self.now.phase ≢ Phase.Check }
+        requires looked { self.now.phase ≢ Phase.Guard }
+        requires hears { Hears (asks_fork self.now) seen }
+        requires known { IsKnown self.now.config (facts_fork self.now) (asks_fork self.now) seen moment }
+        ensures nearer { fork_left result < left_fork self.now }
+        ensures needs { fork_needs result ≡ 0 }
+        ensures done { result ≡ Phase.Done → seen ≡ Swapped true }
+        ensures restart { result ≡ Phase.Restart → seen ≡ Swapped false }
+        ensures no_swap { (result ≡ Phase.NoSwap) ↔ (seen ≡ NoneLeft) }
+        ensures slots { result ≢ Phase.NoSlot }
+        ensures begun { result ≢ Phase.Fresh }
+        ensures config { IsConfig self.now.config }
+        ensures ready { IsReadyFork self.now.config (fork_of self.now) result }
+        ensures learns { (stage : Stage) (s : Scene) → s.past.config ≡ self.now.config → facts_fork self.now stage s → Tells (asks_fork self.now) stage seen s → fork_facts (fork_of self.now) result Waiting s }
+    {
+        let _moment = moment;
+        bz_renew::laws::links_turn();
+        bz_layout::slots_apart();
+        match self.phase {
+            Phase::Store(j) => after_store(j),
+            Phase::Flush(j) => after_flush(j),
+            _ => after_swap(seen),
+        }
+    }
+
+    // The next phase, whichever it is.
+    fn step(&mut self, seen: Seen, slots: &mut Slots, moment: u32)
+        requires hears { Hears (asks_fork self.old) seen }
+        requires known { IsKnown self.old.config (facts_fork self.old) (asks_fork self.old) seen moment }
+        requires memory { 0 < needs_fork self.old → slots.old.nodes ≡ self.old.config.nodes }
+        ensures config { self.new.config ≡ self.old.config }
+        ensures upper { self.new.upper ≡ self.old.upper }
+        ensures middle { self.new.middle ≡ self.old.middle }
+        ensures known { IsConfig self.new.config }
+        ensures begun { self.new.phase ≢ Phase.Fresh }
+        ensures ready { IsReadyFork self.new.config (fork_of self.new) self.new.phase }
+        ensures nearer { left_fork self.new < left_fork self.old }
+        ensures slots { AreTakenFrom (needs_fork self.old) (needs_fork self.new) slots.old slots.new }
+        ensures done { end_fork self.new ≡ Some Outcome.Done → seen ≡ Swapped true }
+        ensures restart { end_fork self.new ≡ Some Outcome.Restart → (seen ≡ Swapped false) ⊎ differs_fork self.old seen }
+        ensures no_swap { seen ≡ NoneLeft → end_fork self.new ≡ Some (Outcome.Full Spent.Swaps) }
+        ensures full_swaps { end_fork self.new ≡ Some (Outcome.Full Spent.Swaps) → seen ≡ NoneLeft }
+        ensures full_nodes { end_fork self.new ≡ Some (Outcome.Full Spent.Nodes) → length slots.old.free < needs_fork self.old }
+        ensures learns { (stage : Stage) (s : Scene) → s.past.config ≡ self.old.config → IsScene s → (0 < needs_fork self.old → AreUnreached s slots.old) → facts_fork self.old stage s → Tells (asks_fork self.old) stage seen s → facts_fork self.new Waiting (gained s slots.old slots.new) }
+    {
+        laws::nothing_is_gained();
+        laws::ranges_stay();
+        bz_layout::slots_apart();
+        bz_renew::laws::links_turn();
+        bz_renew::laws::guarded_links_stand();
+        bz_halves::laws::children_may_be_parted();
+        read_nodes_were();
+        parents_of_nodes_were();
+        match self.phase {
+            Phase::Fresh => self.phase = Phase::Word(1),
+            Phase::Word(i) => {
+                self.read.0[i as usize] = word_in(seen);
+                self.phase = after_word(i);
+            }
+            Phase::Again => self.phase = self.read_on(seen),
+            Phase::Above(i) => {
+                self.above.0[i as usize] = word_in(seen);
+                self.phase = after_above(i);
+            }
+            Phase::Check => self.phase = self.told(seen),
+            Phase::Guard => self.look(seen, slots),
+            _ => self.phase = self.after(seen, moment),
+        }
+    }
+
+    // One of the words of the three nodes, counted through.
+    fn word(&self, j: u32) -> u64
+        requires { j < SPLIT_WORDS }
+        ensures { result ≡ word_value (fork_nodes (fork_of self.now)) j }
+    {
+        let place = (j % NODE_WORDS) as usize;
+        match j / NODE_WORDS {
+            0 => self.parent.0[place],
+            1 => self.left.0[place],
+            _ => self.right.0[place],
+        }
+    }
+
+    // What a phase asks for.
+    fn asked(&self) -> Todo
+        requires begun { self.now.phase ≢ Phase.Fresh }
+        requires config { IsConfig self.now.config }
+        requires ready { IsReadyFork self.now.config (fork_of self.now) self.now.phase }
+        ensures { asks_fork self.now ≡ Some result }
+    {
+        match self.phase {
+            Phase::Word(i) => Todo::Read(self.config.node_at(self.middle.slot as u32) + i),
+            Phase::Again => Todo::Read(self.lower.guard),
+            Phase::Above(i) => Todo::Read(self.config.node_at(self.upper.slot as u32) + i),
+            Phase::Check => Todo::Read(self.middle.guard),
+            Phase::Guard => Todo::Read(self.upper.guard),
+            Phase::Store(j) => {
+                let slot = self.slots[(j / NODE_WORDS) as usize] as u32;
+                Todo::Store(self.config.node_at(slot) + j % NODE_WORDS, self.word(j))
+            }
+            Phase::Flush(j) => {
+                let slot = self.slots[(j / NODE_LINES) as usize] as u32;
+                Todo::Flush(self.config.node_at(slot) / LINE_WORDS + j % NODE_LINES)
+            }
+            Phase::Swap => Todo::Swap(swap_freezing_two(
+                &self.config,
+                &self.upper,
+                self.slots[0],
+                &self.middle,
+                self.lower.status,
+            )),
+            Phase::Fresh
+            | Phase::Done
+            | Phase::Restart
+            | Phase::NoRoom
+            | Phase::NoSlot
+            | Phase::NoSwap => Todo::Finish,
+        }
+    }
+}
+
+// The words of a node of which the status alone was read.
+fn first_word(status: u64) -> NodeImage
+    ensures first { slice_index result.0 0 ≡ status }
+    ensures size { length result.0 ≡ 128 }
+{
+    let mut words = [0; NODE_WORDS as usize];
+    words[0] = status;
+    NodeImage(words)
+}
+
+// The word that a load found.
+fn word_in(seen: Seen) -> u64
+    ensures { (v : ℕ) → seen ≡ Was v → result ≡ v }
+{
+    match seen {
+        Seen::Read(word) => word,
+        _ => 0,
+    }
+}
+
+// Whether a load found this value.
+fn is_read(seen: Seen, value: u64) -> bool
+    ensures { IsTrue result ↔ (seen ≡ Was value) }
+{
+    match seen {
+        Seen::Read(found) => found == value,
+        _ => false,
+    }
+}
+
+// The phase after the load of a word of the node: that of the next one, or its status once more.
+fn after_word(i: u32) -> Phase
+    requires { i < NODE_WORDS }
+    ensures { result ≡ word_after i }
+{
+    if i + 1 < NODE_WORDS {
+        Phase::Word(i + 1)
+    } else {
+        Phase::Again
+    }
+}
+
+// The same of the parent.
+fn after_above(i: u32) -> Phase
+    requires { i < NODE_WORDS }
+    ensures { result ≡ above_after i }
+{
+    if i + 1 < NODE_WORDS {
+        Phase::Above(i + 1)
+    } else {
+        Phase::Check
+    }
+}
+
+// The phase after the store of a word: that of the next one, or the first flush.
+fn after_store(j: u32) -> Phase
+    requires { j < SPLIT_WORDS }
+    ensures { result ≡ store_after j }
+{
+    if j + 1 < SPLIT_WORDS {
+        Phase::Store(j + 1)
+    } else {
+        Phase::Flush(0)
+    }
+}
+
+// The phase after the flush of a line: that of the next one, or the swap.
+fn after_flush(j: u32) -> Phase
+    requires { j < SPLIT_LINES }
+    ensures { result ≡ flush_after j }
+{
+    if j + 1 < SPLIT_LINES {
+        Phase::Flush(j + 1)
+    } else {
+        Phase::Swap
+    }
+}
+
+// The phase after the swap.
+fn after_swap(seen: Seen) -> Phase
+    ensures { result ≡ swap_after seen }
+{
+    match seen {
+        Seen::Swapped(true) => Phase::Done,
+        Seen::NoSwap => Phase::NoSwap,
+        _ => Phase::Restart,
+    }
+}
+
+impl Task for SplitInner {
+    ghost config = { λ t. t.config };
+
+    ghost asks = { asks_fork };
+
+    ghost end = { end_fork };
+
+    ghost left = { left_fork };
+
+    ghost needs = { needs_fork };
+
+    ghost change = { λ t. split_change };
+
+    ghost publishing = { λ t. false };
+
+    ghost facts = { facts_fork };
+
+    ghost means = { λ t. fork_means t.upper t.middle };
+
+    ghost differs = { differs_fork };
+
+    fn publishes(&self) -> bool {
+        false
+    }
+
+    fn ended(&self) -> Option<Outcome> {
+        match self.phase {
+            Phase::Done => Some(Outcome::Done),
+            Phase::Restart => Some(Outcome::Restart),
+            Phase::NoRoom => Some(Outcome::NeedsRoom),
+            Phase::NoSlot => Some(Outcome::Full(Spent::Nodes)),
+            Phase::NoSwap => Some(Outcome::Full(Spent::Swaps)),
+            _ => None,
+        }
+    }
+
+    fn next(&mut self, seen: Seen, slots: &mut Slots, moment: u32) -> Todo {
+        self.step(seen, slots, moment);
+        self.asked()
+    }
+
+    fn learnt(&self) {
+        bz_renew::laws::links_turn();
+        bz_word::laws::statuses();
+    }
+
+    fn acted(&self) {
+        bz_renew::laws::links_turn();
+        bz_halves::laws::parents_of_halves_are_whole();
+        bz_layout::slots_apart();
+        inner_splits_are_good();
+    }
+}
