@@ -168,14 +168,22 @@ fn slots_that_the_tree_does_not_reach_serve_again(rt: HostRuntime) -> Result<(),
 }
 
 #[test]
+fn an_open_call_has_its_number_until_a_cut(rt: HostRuntime) {
+    let mut world = open(rt.alloc(), 1, 1, 2).expect(&rt, "a world");
+    assert!(rt; begin(&mut world, 1, Call::Get(numbered(&rt, 0))));
+    assert_eq!(rt; world.open_call(1), Some(1));
+    assert_eq!(rt; world.open_call(2), None);
+    restart(&rt, &mut world);
+    assert_eq!(rt; world.open_call(1), None);
+}
+
+#[test]
 fn the_power_is_told_in_each_refusal(rt: HostRuntime) -> Result<(), Fail> {
     let k = numbered(&rt, 0);
     let mut world = open(rt.alloc(), 4, 16, 2)?;
     assert_eq!(rt; world.apply(Event::On), Applied::Powered);
     assert_eq!(rt; world.begin(1, Call::Get(k)), Begun::Begun(1));
-    assert_eq!(rt; world.open_call(1), Some(1));
     assert_eq!(rt; world.apply(Event::Cut), Applied::Cut);
-    assert_eq!(rt; world.open_call(1), None);
     assert_eq!(rt; world.begin(1, Call::Get(k)), Begun::Off);
     assert_eq!(rt; world.apply(Event::Step(1)), Applied::Off);
     assert_eq!(rt; world.apply(Event::Evict(0)), Applied::Off);
@@ -188,6 +196,5 @@ fn the_power_is_told_in_each_refusal(rt: HostRuntime) -> Result<(), Fail> {
     assert!(rt; recover(&mut world, 4_000));
     assert_eq!(rt; world.apply(Event::Step(1)), Applied::Idle);
     assert_eq!(rt; world.begin(1, Call::Get(k)), Begun::Begun(2));
-    assert_eq!(rt; world.open_call(1), Some(2));
     Ok(())
 }
