@@ -77,7 +77,7 @@ fn holds(rt: &impl Abort, world: &World, last: u8) {
             assert!(rt; number == 0 || number > last as usize, "{number}");
         }
     }
-    assert_eq!(rt; count, world.pairs());
+    assert_eq!(rt; u64::from(count), world.pairs());
     assert!(rt; count <= u32::from(last) + 1, "{count}");
 }
 

@@ -52,7 +52,7 @@ fn agrees(rt: &impl Abort, alloc: Global, world: &World) {
     let mut reader = Reader::open(alloc).expect(rt, "a reader");
     assert!(rt; reader.read_on(world).expect(rt, "room for the maps"));
     assert_eq!(rt; decode(world), Some(reader.map()));
-    assert_eq!(rt; world.pairs(), count(&reader.map()));
+    assert_eq!(rt; world.pairs(), u64::from(count(&reader.map())));
 }
 
 // A world with one key, and so many acts of a call of this kind. Whether the call has ended.
