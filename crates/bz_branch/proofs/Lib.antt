@@ -1,9 +1,10 @@
 mod OpenNodes
 mod ReadingNodes
 mod ReadingParents
-mod Standing
+pub mod Standing
 mod InnerSplitting
 mod RootSplitting
 mod Fronts
 mod Halving
 pub mod Staying
+pub mod Paths

@@ -1,3 +1,4 @@
+pub mod Due
 pub mod InnerSplits
 pub mod Nodes
 pub mod Parts

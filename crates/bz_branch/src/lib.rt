@@ -1,12 +1,16 @@
-//! What splits of inner nodes do: the laws of their swaps, the halves of an inner node that was read word by word, and the swap that
+//! What splits of inner nodes do: the laws of their swaps, an inner node that is read word by word, its halves, and the swap that
 //! freezes two nodes.
 #![tactic(auto)]
 
 mod front;
 pub mod laws;
+mod links;
 mod parts;
+mod reading;
 mod swaps;
 
 pub use front::{level_of, low_fence};
+pub use links::{is_full, is_thawed, link_at};
 pub use parts::parts_of;
+pub use reading::{first_word, is_read, word_in};
 pub use swaps::swap_freezing_two;

@@ -47,16 +47,14 @@ use Rattle.bz_split.specs.Facts.{SPLIT_WORDS, SPLIT_LINES, StoodFresh, split_cha
 use Rattle.bz_split.specs.RootSplits.{AreFreshThree}
 use Rattle.bz_crown.specs.declared.phase.Phase.{Phase}
 use Rattle.bz_crown.specs.declared.phase.Phase.TheVariants.{Fresh, Word, Again, Guard, Store, Flush, Swap, Done, Restart, TooHigh, NoSlot, NoSwap}
+use Rattle.bz_branch.proofs.Standing.{guard-is, node-below}
 use Rattle.bz_crown.proofs.Staying.{links-stay, guarded-now, planned-stays, looked-stays, parts-stay, over-stays}
 
 some-same : (a b : Todo) → Some a ≡ Some b → a ≡ b
 some-same a b e = cc
 
--- the root's slot, and the address of its own status; the root pointer and the root status are others
+-- the root pointer and the root status are others than the root's own status
 module _ (upper lower : Link) (s : Scene) (v : HasLinks upper lower s.past) where
-  pub guard-is : lower.guard ≡ node_address s.past.config upper.slot + STATUS_AT
-  guard-is = v.node.under.guard ∙ ap (λ z. node_address s.past.config z + STATUS_AT) v.node.parent
-
   pub link-apart : upper.link ≢ node_address s.past.config upper.slot + STATUS_AT
   link-apart e = absurd (omega (arith, e, v.under.pointer))
 
@@ -65,9 +63,7 @@ module _ (upper lower : Link) (s : Scene) (v : HasLinks upper lower s.past) wher
 
 module _ (upper lower : Link) (s : Scene) (good : IsScene s) (v : HasLinks upper lower s.past) where
   pub upper-slot : upper.slot < s.past.config.nodes
-  upper-slot =
-      let g = v.node.guard in
-      subst (λ z. z < s.past.config.nodes) v.node.parent ((good.history.good g.guarded g.since (omega (arith, g.order, g.now))).slots v.node.under.parent v.node.under.reached)
+  upper-slot = node-below s upper.slot lower good v.node
 
   word-readable : (i : ℕ) → i < NODE_WORDS → IsReadable s (node_address s.past.config upper.slot + i)
   word-readable i l = record { outside = inr (omega arith); within = omega (arith, upper-slot, l) }
@@ -80,7 +76,7 @@ may-swap turned codec r s good f =
     let u : IsTurnable r.lower s = turned s r.lower good v.node.guard v.node.thawed in
     let old : r.upper.slot < s.past.config.nodes = upper-slot r.upper r.lower s good v in
     let new : r.slot 0 < s.past.config.nodes = f.writing.slots.within 0 (omega arith) in
-    let status_target : IsTarget s (node_address s.past.config r.upper.slot + STATUS_AT) = subst (IsTarget s) (guard-is r.upper r.lower s v) u.guard_target in
+    let status_target : IsTarget s (node_address s.past.config r.upper.slot + STATUS_AT) = subst (IsTarget s) (guard-is s r.upper.slot r.lower good v.node) u.guard_target in
     All-inserted (IsEntryToAsk s) (freezing_entry s.past.config (parent_freezing r.upper r.lower)) (renewal r.upper (r.slot 0))
     (record { target = status_target; expected = u.plain; new = frozen-plain codec r.lower.status u.plain })
     (all-two (IsEntryToAsk s) (link_entry r.upper (r.slot 0)) (guard_entry r.upper)

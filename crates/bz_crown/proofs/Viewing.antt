@@ -1,12 +1,13 @@
 -- What a path with a link in the root shows.
-use Rattle.std.proofs.Common.{◌≡◌, ℕ, ◌+◌, List, arith, refl, sym, ◌∙◌, inl, inr, Some}
+use Rattle.std.proofs.Common.{◌≡◌, ℕ, List, arith, refl, Some}
 use Rattle.std.specs.Prelude.{slice_get}
-use Rattle.bz_layout.specs.Addresses.{node_address, SlotsApart}
-use Rattle.bz_layout.specs.declared.sizes.TheConstants.{STATUS_AT}
-use Rattle.bz_task.specs.Outcomes.{IsPath, IsLink, IsUnderNode}
+use Rattle.bz_layout.specs.Addresses.{SlotsApart}
+use Rattle.bz_task.specs.Outcomes.{IsPath}
 use Rattle.bz_task.specs.Scene.{Past}
 use Rattle.bz_task.specs.declared.path.Link.{Link}
 use Rattle.bz_task.specs.declared.path.Path.{Path}
+use Rattle.bz_branch.specs.Nodes.{IsOpenLink}
+use Rattle.bz_branch.proofs.Paths.{open-link}
 use Rattle.bz_crown.specs.Due.{IsDue, AreDue}
 use Rattle.bz_crown.specs.Facts.{HasLinks}
 
@@ -14,25 +15,16 @@ module _ (apart : SlotsApart) (key : List ℕ) (path : Path) (p : Past) (is : Is
   are : AreDue upper lower
   are = due.links upper lower first second
 
-  on : IsLink key p lower
-  on = is.links 1 lower (omega (arith, due.deep)) second
-
-  guard-is : lower.guard ≡ node_address p.config upper.slot + STATUS_AT
-  guard-is = is.below 0 upper lower (omega (arith, due.deep)) first second
-
-  down : (u : IsUnderNode p lower on.guarded.guarded) × (u.parent ≡ upper.slot)
-  down = elim on.guarded.under [
-    | inl root ↦ absurd (omega (arith, root.guard, guard-is))
-    | inr u ↦ (u, (apart p.config u.parent upper.slot STATUS_AT STATUS_AT (omega arith) (omega arith) (sym u.guard ∙ guard-is)).0)
-  ]
+  node : IsOpenLink upper.slot lower p
+  node = open-link apart key path p is 0 (omega (arith, due.deep)) upper lower first second are.full.thawed.is
 
   pub has-links : HasLinks upper lower p
   has-links = record {
     under = is.first upper first;
     guard = (is.links 0 upper (omega (arith, due.deep)) first).guarded;
     thawed = are.thawed.is;
-    node = record { guard = on.guarded; thawed = are.full.thawed.is; under = down.0; parent = down.1 };
-    guarded = on.guarded.guarded;
+    node = node;
+    guarded = node.guard.guarded;
     is_guarded = refl;
     many = are.full.many;
   }

@@ -1,17 +1,12 @@
 -- When the split of an inner root may begin.
-use Rattle.std.specs.Prelude.{◌≡◌, ℕ, ◌+◌, ◌<◌, ◌≤◌, false, Some, slice_get}
-use Rattle.bz_layout.specs.declared.thresholds.TheConstants.{INNER_LIMIT}
-use Rattle.bz_word.specs.Statuses.{status}
+use Rattle.std.specs.Prelude.{◌≡◌, ◌≤◌, false, Some, slice_get}
 use Rattle.bz_task.specs.declared.path.Link.{Link}
 use Rattle.bz_task.specs.declared.path.Path.{Path}
 use Rattle.bz_renew.specs.Due.{IsStatusOf}
+use Rattle.bz_branch.specs.Due.{IsFullStatus}
 
--- the status is that of a node that is not frozen, and counts more words than an inner node may keep
-pub record IsFullStatus (st : ℕ) : Type 0 where
-  pub thawed : IsStatusOf false st
-  pub many : INNER_LIMIT < (status st).count + (status st).block
-
--- the guard of the root link, as it was read, was no frozen node's; and that of the link below it, the root's own status, was such
+-- the guard of the root link, as it was read, was no frozen node's; and that of the link below it, the root's own status, was that of
+-- a node that may be split
 pub record AreDue (upper lower : Link) : Type 0 where
   pub thawed : IsStatusOf false upper.status
   pub full : IsFullStatus lower.status

@@ -2,7 +2,6 @@
 #![tactic(auto)]
 
 mod due;
-mod links;
 mod phase;
 mod split_inner_root;
 

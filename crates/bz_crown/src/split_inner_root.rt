@@ -15,10 +15,9 @@ ghost use Rattle.bz_crown.specs.Due.{IsDue};
 ghost use Rattle.bz_crown.specs.Duties.{crown_of, asks_crown, end_crown, left_crown, needs_crown, facts_crown, differs_crown};
 ghost use Rattle.bz_crown.specs.Facts.{crown_nodes, crown_acts, crown_left, crown_facts, crown_means, HasBegunCrown, HasLookedCrown, HasTold, AreMadeOf, IsReadyCrown, IsSplittable, WasSplitAtRoot, WasTooHigh, crown_needs, word_after, store_after, flush_after};
 
-use crate::links::link_at;
 use crate::phase::Phase;
 use bz_branch::laws::{inner_root_splits_are_good, read_nodes_were};
-use bz_branch::{level_of, parts_of};
+use bz_branch::{first_word, is_read, level_of, link_at, parts_of, word_in};
 use bz_call::Spent;
 use bz_layout::{Config, LINE_WORDS, MAX_LEVELS, NODE_WORDS, SPLIT_SLOTS, Slots};
 use bz_node::NodeImage;
@@ -268,36 +267,6 @@ impl SplitInnerRoot {
             | Phase::NoSlot
             | Phase::NoSwap => Todo::Finish,
         }
-    }
-}
-
-// The words of a node of which the status alone was read.
-fn first_word(status: u64) -> NodeImage
-    ensures first { slice_index result.0 0 ≡ status }
-    ensures size { length result.0 ≡ 128 }
-{
-    let mut words = [0; NODE_WORDS as usize];
-    words[0] = status;
-    NodeImage(words)
-}
-
-// The word that a load found.
-fn word_in(seen: Seen) -> u64
-    ensures { (v : ℕ) → seen ≡ Was v → result ≡ v }
-{
-    match seen {
-        Seen::Read(word) => word,
-        _ => 0,
-    }
-}
-
-// Whether a load found this value.
-fn is_read(seen: Seen, value: u64) -> bool
-    ensures { IsTrue result ↔ (seen ≡ Was value) }
-{
-    match seen {
-        Seen::Read(found) => found == value,
-        _ => false,
     }
 }
 

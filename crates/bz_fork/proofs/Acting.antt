@@ -47,29 +47,23 @@ use Rattle.bz_split.specs.Facts.{SPLIT_WORDS, SPLIT_LINES, StoodFresh, split_cha
 use Rattle.bz_split.specs.RootSplits.{AreFreshThree}
 use Rattle.bz_fork.specs.declared.phase.Phase.{Phase}
 use Rattle.bz_fork.specs.declared.phase.Phase.TheVariants.{Fresh, Word, Again, Above, Check, Guard, Store, Flush, Swap, Done, Restart, NoRoom, NoSlot, NoSwap}
+use Rattle.bz_branch.specs.Nodes.{IsOpenLink}
+use Rattle.bz_branch.proofs.Standing.{guard-is, node-below}
 use Rattle.bz_fork.proofs.Staying.{has-links-stay, guarded-now, counted-now, planned-stays, looked-stays, parts-stay, over-stays, clear-stays}
 
 some-same : (a b : Todo) → Some a ≡ Some b → a ≡ b
 some-same a b e = cc
 
--- the slots of parent and node, and the addresses of their statuses
-module _ (upper middle lower : Link) (s : Scene) (v : HasLinks upper middle lower s.past) where
-  parent-is : middle.guard ≡ node_address s.past.config upper.slot + STATUS_AT
-  parent-is = v.down.under.guard ∙ ap (λ z. node_address s.past.config z + STATUS_AT) v.down.parent
-
-  node-is : lower.guard ≡ node_address s.past.config middle.slot + STATUS_AT
-  node-is = v.node.under.guard ∙ ap (λ z. node_address s.past.config z + STATUS_AT) v.node.parent
+-- the middle link, as one of the open parent
+above-of : (upper middle lower : Link) (s : Scene) → HasLinks upper middle lower s.past → IsOpenLink upper.slot middle s.past
+above-of upper middle lower s v = record { guard = v.down.guard; thawed = v.down.thawed; under = v.down.under; parent = v.down.parent }
 
 module _ (upper middle lower : Link) (s : Scene) (good : IsScene s) (v : HasLinks upper middle lower s.past) where
   pub upper-slot : upper.slot < s.past.config.nodes
-  upper-slot =
-      let g = v.down.guard in
-      subst (λ z. z < s.past.config.nodes) v.down.parent ((good.history.good g.guarded g.since (omega (arith, g.order, g.now))).slots v.down.under.parent v.down.under.reached)
+  upper-slot = node-below s upper.slot middle good (above-of upper middle lower s v)
 
   pub middle-slot : middle.slot < s.past.config.nodes
-  middle-slot =
-      let g = v.node.guard in
-      subst (λ z. z < s.past.config.nodes) v.node.parent ((good.history.good g.guarded g.since (omega (arith, g.order, g.now))).slots v.node.under.parent v.node.under.reached)
+  middle-slot = node-below s middle.slot lower good v.node
 
   above-readable : (i : ℕ) → i < NODE_WORDS → IsReadable s (node_address s.past.config upper.slot + i)
   above-readable i l = record { outside = inr (omega arith); within = omega (arith, upper-slot, l) }
@@ -86,8 +80,8 @@ may-swap turned codec r s good f =
     let u : IsTurnable r.lower s = turned s r.lower good v.node.guard v.node.thawed in
     let old : r.upper.slot < s.past.config.nodes = upper-slot r.upper r.middle r.lower s good v in
     let new : r.slot 0 < s.past.config.nodes = f.writing.slots.within 0 (omega arith) in
-    let parent_target : IsTarget s (node_address s.past.config r.upper.slot + STATUS_AT) = subst (IsTarget s) (parent-is r.upper r.middle r.lower s v) m.guard_target in
-    let node_target : IsTarget s (node_address s.past.config r.middle.slot + STATUS_AT) = subst (IsTarget s) (node-is r.upper r.middle r.lower s v) u.guard_target in
+    let parent_target : IsTarget s (node_address s.past.config r.upper.slot + STATUS_AT) = subst (IsTarget s) (guard-is s r.upper.slot r.middle good (above-of r.upper r.middle r.lower s v)) m.guard_target in
+    let node_target : IsTarget s (node_address s.past.config r.middle.slot + STATUS_AT) = subst (IsTarget s) (guard-is s r.middle.slot r.lower good v.node) u.guard_target in
     All-inserted (IsEntryToAsk s) (freezing_entry s.past.config (parent_freezing r.middle r.lower)) (renewal_with s.past.config r.upper (r.slot 0) (parent_freezing r.upper r.middle ∷ []))
     (record { target = node_target; expected = u.plain; new = frozen-plain codec r.lower.status u.plain })
     (All-inserted (IsEntryToAsk s) (freezing_entry s.past.config (parent_freezing r.upper r.middle)) (renewal r.upper (r.slot 0))

@@ -1,18 +1,12 @@
 -- When the split of an inner node below a parent may begin.
-use Rattle.std.specs.Prelude.{◌≡◌, ◌+◌, ◌<◌, ◌≤◌, ℕ, false, Some, slice_get}
-use Rattle.bz_layout.specs.declared.thresholds.TheConstants.{INNER_LIMIT}
-use Rattle.bz_word.specs.Statuses.{status}
+use Rattle.std.specs.Prelude.{◌≡◌, ◌+◌, ◌≤◌, ℕ, false, Some, slice_get}
 use Rattle.bz_task.specs.declared.path.Link.{Link}
 use Rattle.bz_task.specs.declared.path.Path.{Path}
 use Rattle.bz_renew.specs.Due.{IsStatusOf}
-
--- the status is that of a node that is not frozen, and counts more words than an inner node may keep
-pub record IsFullStatus (st : ℕ) : Type 0 where
-  pub thawed : IsStatusOf false st
-  pub many : INNER_LIMIT < (status st).count + (status st).block
+use Rattle.bz_branch.specs.Due.{IsFullStatus}
 
 -- the guards of the link to the parent and of that to the node, as they were read, were no frozen nodes'; and that of the link below
--- them, the node's own status, was such
+-- them, the node's own status, was that of a node that may be split
 pub record AreDue (upper middle lower : Link) : Type 0 where
   pub upper_thawed : IsStatusOf false upper.status
   pub thawed : IsStatusOf false middle.status

@@ -2,7 +2,6 @@
 #![tactic(auto)]
 
 mod due;
-mod links;
 mod parent;
 mod phase;
 mod split_inner;

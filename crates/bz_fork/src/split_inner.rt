@@ -14,11 +14,10 @@ ghost use Rattle.bz_fork.specs.Due.{IsDue};
 ghost use Rattle.bz_fork.specs.Duties.{fork_of, asks_fork, end_fork, left_fork, needs_fork, facts_fork, differs_fork};
 ghost use Rattle.bz_fork.specs.Facts.{fork_nodes, fork_acts, fork_left, fork_facts, fork_means, HasBegunFork, HasLookedFork, HasRead, HasTold, AreMadeOf, HasNode, HasPlace, IsReadyFork, WasSplitInner, LackedPart, fork_needs, word_after, above_after, store_after, flush_after, swap_after};
 
-use crate::links::link_at;
 use crate::parent::parent_with;
 use crate::phase::Phase;
 use bz_branch::laws::{inner_splits_are_good, parents_of_nodes_were, read_nodes_were};
-use bz_branch::{parts_of, swap_freezing_two};
+use bz_branch::{first_word, is_read, link_at, parts_of, swap_freezing_two, word_in};
 use bz_call::Spent;
 use bz_layout::{Config, LINE_WORDS, NODE_WORDS, SPLIT_SLOTS, Slots};
 use bz_node::NodeImage;
@@ -306,36 +305,6 @@ impl SplitInner {
             | Phase::NoSlot
             | Phase::NoSwap => Todo::Finish,
         }
-    }
-}
-
-// The words of a node of which the status alone was read.
-fn first_word(status: u64) -> NodeImage
-    ensures first { slice_index result.0 0 ≡ status }
-    ensures size { length result.0 ≡ 128 }
-{
-    let mut words = [0; NODE_WORDS as usize];
-    words[0] = status;
-    NodeImage(words)
-}
-
-// The word that a load found.
-fn word_in(seen: Seen) -> u64
-    ensures { (v : ℕ) → seen ≡ Was v → result ≡ v }
-{
-    match seen {
-        Seen::Read(word) => word,
-        _ => 0,
-    }
-}
-
-// Whether a load found this value.
-fn is_read(seen: Seen, value: u64) -> bool
-    ensures { IsTrue result ↔ (seen ≡ Was value) }
-{
-    match seen {
-        Seen::Read(found) => found == value,
-        _ => false,
     }
 }
 
