@@ -1,13 +1,12 @@
 -- A leaf that was frozen is frozen still, and where it is a leaf of the tree it says what it said.
-use Rattle.std.proofs.Common.{◌≡◌, ◌≢◌, ℕ, ◌<◌, true, List, arith, sym, ap, ◌∙◌, inl}
-use Rattle.bz_layout.specs.declared.config.Config.{Config}
+use Rattle.std.proofs.Common.{◌≡◌, ℕ, ◌<◌, true, List, arith, sym, ap, ◌∙◌, inl}
 use Rattle.bz_layout.specs.declared.sizes.TheConstants.{STATUS_AT}
 use Rattle.bz_slotted.specs.Readers.{found_of}
 use Rattle.bz_slotted.specs.ReadingLaws.{node_of}
 use Rattle.bz_word.specs.Statuses.{status}
 use Rattle.bz_task.specs.Good.{IsGood}
 use Rattle.bz_task.specs.Instant.{words, durable, page_at, form_at, is_inside}
-use Rattle.bz_task.specs.Laws.{AreMoments, IsLeafInTree, SaysAlike, FrozenNodesStay, SameRecordsShowTheSame, SeenLeavesAreWhole, LeavesAreInTrees}
+use Rattle.bz_task.specs.Laws.{IsLeafInTree, SaysAlike, FrozenNodesStay, SameRecordsShowTheSame, SeenLeavesAreWhole, LeavesAreInTrees}
 use Rattle.bz_task.specs.Scene.{Scene, IsScene, here}
 use Rattle.bz_task.specs.Shown.{SameWords, SameNode}
 use Rattle.bz_renew.proofs.FrozenLeaves.{same-records, read-alike}

@@ -1,31 +1,28 @@
 -- The swap of a merge is lawful for everybody and changes no content.
 use Rattle.std.proofs.Common.{◌≡◌, ◌≢◌, ℕ, ◌+◌, ◌<◌, ◌==◌, ◌||◌, if◌then◌else◌, Bool, true, false, List, [], ◌∷◌, arith, refl, sym, ap, subst, ◌∙◌, inl, inr, Option}
 use Rattle.std.specs.Prelude.{Some, None, not}
-use Rattle.std.proofs.lemmas.Bool.{true≢false, cases_eq}
+use Rattle.std.proofs.lemmas.Bool.{true≢false}
 use Rattle.std.proofs.lemmas.Bool.Decides.{nat_tests}
 use Rattle.bz_layout.specs.Addresses.{node_address}
 use Rattle.bz_layout.specs.declared.sizes.TheConstants.{NODE_WORDS, STATUS_AT}
-use Rattle.bz_shape.specs.Form.{Fits, Form, Stands, Holds}
+use Rattle.bz_shape.specs.Form.{Form, Stands}
 use Rattle.bz_shape.specs.Order.{is_before, is_at_least, is_below}
 use Rattle.bz_shape.specs.Outcomes.{Regrows}
-use Rattle.bz_shape.specs.Slots.{Children, Wider}
-use Rattle.bz_shape.specs.TreeLaws.{TreesHaveForms}
+use Rattle.bz_shape.specs.Slots.{Wider}
 use Rattle.bz_shape.specs.View.{View}
 use Rattle.bz_shape.specs.Walk.{is_among}
 use Rattle.bz_slotted.specs.Page.{page}
 use Rattle.bz_slotted.specs.Readers.{count_of, child_of, key_of, found_of}
-use Rattle.bz_slotted.specs.ReadingLaws.{node_of}
 use Rattle.bz_slotted.specs.Rules.{node_fault}
 use Rattle.bz_swap.specs.SwapMemory.{is_target}
-use Rattle.bz_word.specs.Statuses.{status}
 use Rattle.bz_word.specs.declared.entry.Entry.{Entry}
 use Rattle.bz_content.specs.Content.{image_of, view_in, IsWellFormed}
 use Rattle.bz_content.specs.Laws.{WellFormedImagesHaveNoFault, PlainWordsStandForThemselves, MergesKeepTheContent}
 use Rattle.bz_content.specs.Restructures.{children_of, Merges, StandsWhole}
 use Rattle.bz_content.specs.Swaps.{TurnsLink}
 use Rattle.bz_task.specs.Good.{IsGood}
-use Rattle.bz_task.specs.Instant.{Instant, words, durable, page_at, form_at, is_inside}
-use Rattle.bz_task.specs.Laws.{SamePlace, RangesStay}
+use Rattle.bz_task.specs.Instant.{Instant, words, durable, page_at, form_at}
+use Rattle.bz_task.specs.Laws.{SamePlace}
 use Rattle.bz_task.specs.Outcomes.{IsUnderNode}
 use Rattle.bz_task.specs.Scene.{Scene, IsScene, here}
 use Rattle.bz_task.specs.Swaps.{Change, Stand, SwapsTo, IsGoodSwap}
@@ -33,13 +30,13 @@ use Rattle.bz_task.specs.declared.path.Link.{Link}
 use Rattle.bz_renew.specs.Freezings.{Freezing, freezing_entry}
 use Rattle.bz_renew.specs.LinkSwaps.{IsFresh, IsLinkSwap, LinkSwapsAreGood}
 use Rattle.bz_renew.specs.Renewals.{renewal, link_entry, guard_entry, LinksMayBeTurned}
-use Rattle.bz_renew.specs.Standing.{StillLeads, GuardedLinksStand}
+use Rattle.bz_renew.specs.Standing.{StillLeads}
 use Rattle.bz_renew.specs.Turning.{TurnsWith, AreGoing, RootLinksTurnWith, ChildLinksTurnWith}
 use Rattle.bz_renew.proofs.Freezings.{renewal-holds}
 use Rattle.bz_renew.proofs.FreshSlots.{outside-tree, fresh-unchanged, raw-stays, durable-stays}
 use Rattle.bz_renew.proofs.Inserting.{all-inserted-first}
 use Rattle.bz_renew.proofs.TwoEntries.{both-stand}
-use Rattle.bz_renew.proofs.Words.{untouched, node-at, node-same, or-right}
+use Rattle.bz_renew.proofs.Words.{untouched, node-same, or-right}
 use Rattle.bz_split.specs.BelowSplits.{parent_freezing, below_swap}
 use Rattle.bz_merge.specs.Merges.{low_in, high_in, IsMerge, MergesAreGood}
 use Rattle.bz_merge.proofs.Standing.{Laws as Standing, not-equal, leads as still-leads, stands-at, flat, slot-of, same-place, same-words, low-is, high-is}

@@ -1,6 +1,5 @@
 -- The words that were read of a leaf are those of one moment.
-use Rattle.std.proofs.Common.{◌≡◌, ℕ, ◌<◌, ◌≤◌, ◌^◌, true, List, slice_index, arith, refl, sym, ap, subst, ◌∙◌, inl, inr, Option}
-use Rattle.std.specs.Prelude.{None}
+use Rattle.std.proofs.Common.{◌≡◌, ℕ, ◌<◌, ◌≤◌, ◌^◌, true, List, slice_index, arith, sym, subst, ◌∙◌, inl, inr, Option}
 use Rattle.std.proofs.lemmas.Bool.{cases_lt, cases_eq}
 use Rattle.std.proofs.lemmas.List.{get_or_past}
 use Rattle.bz_layout.specs.declared.sizes.TheConstants.{NODE_WORDS, STATUS_AT}
@@ -8,7 +7,7 @@ use Rattle.bz_slotted.specs.ReadingLaws.{node_of}
 use Rattle.bz_slotted.specs.Rules.{node_fault}
 use Rattle.bz_task.specs.Good.{IsGood}
 use Rattle.bz_task.specs.Instant.{words, durable, form_at}
-use Rattle.bz_task.specs.Laws.{AreMoments, NodesStay, IsLeafInTree, SaysAlike, SameRecordsShowTheSame, SeenLeavesAreWhole, LeavesAreInTrees}
+use Rattle.bz_task.specs.Laws.{NodesStay, IsLeafInTree, SaysAlike, SameRecordsShowTheSame, SeenLeavesAreWhole, LeavesAreInTrees}
 use Rattle.bz_task.specs.Scene.{Scene, IsScene, here}
 use Rattle.bz_task.specs.Shown.{SameWords, SameNode, IsShown}
 use Rattle.bz_renew.proofs.FrozenLeaves.{same-records, read-alike}

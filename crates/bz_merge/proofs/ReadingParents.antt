@@ -1,28 +1,28 @@
 -- The words that were read of a parent are those of one moment, and its children stand in the tree as they tell.
-use Rattle.std.proofs.Common.{◌≡◌, ◌≢◌, ℕ, ◌+◌, ◌<◌, ◌≤◌, ◌==◌, true, false, List, slice_index, arith, refl, sym, ap, subst, ◌∙◌, inl, inr, Option}
-use Rattle.std.specs.Prelude.{Some, None}
+use Rattle.std.proofs.Common.{◌≡◌, ◌≢◌, ℕ, ◌<◌, ◌≤◌, ◌==◌, true, false, List, slice_index, arith, refl, sym, ap, subst, ◌∙◌, inl, inr}
+use Rattle.std.specs.Prelude.{None}
 use Rattle.std.proofs.lemmas.Bool.{cases_lt, cases_eq}
 use Rattle.std.proofs.lemmas.List.{get_or_past}
 use Rattle.bz_layout.specs.declared.config.Config.{Config}
 use Rattle.bz_layout.specs.declared.limits.TheConstants.{MAX_NODES}
 use Rattle.bz_layout.specs.declared.sizes.TheConstants.{NODE_WORDS, STATUS_AT}
 use Rattle.bz_shape.specs.Form.{Fits, Stands, Hangs}
-use Rattle.bz_slotted.specs.Readers.{count_of, child_of, key_of}
-use Rattle.bz_slotted.specs.ReadingLaws.{node_of, ReadsAsChildren, WholeInnersAreReadable}
+use Rattle.bz_slotted.specs.Readers.{count_of, child_of}
+use Rattle.bz_slotted.specs.ReadingLaws.{node_of, WholeInnersAreReadable}
 use Rattle.bz_slotted.specs.Rules.{node_fault}
 use Rattle.bz_content.specs.Content.{view_in, IsWellFormed}
 use Rattle.bz_content.specs.Image.{node}
 use Rattle.bz_content.specs.Restructures.{children_of}
 use Rattle.bz_task.specs.Good.{IsGood}
 use Rattle.bz_task.specs.Instant.{Instant, words, durable, page_at, form_at}
-use Rattle.bz_task.specs.Laws.{AreMoments, NodesStay}
+use Rattle.bz_task.specs.Laws.{NodesStay}
 use Rattle.bz_task.specs.Scene.{Scene, IsScene, here}
 use Rattle.bz_task.specs.Shown.{SameNode}
 use Rattle.bz_task.specs.declared.path.Link.{Link}
 use Rattle.bz_renew.proofs.Words.{node-at, node-past}
 use Rattle.bz_split.specs.BelowSplits.{AreLinksDown}
 use Rattle.bz_merge.specs.Merges.{low_in, high_in, WasLeafOnce}
-use Rattle.bz_merge.specs.Siblings.{WasWord, WereRead, WasParentNode, IsChildAt, ParentsReadWere, StoodAsChild, ChildrenStand}
+use Rattle.bz_merge.specs.Siblings.{WasWord, WereRead, WasParentNode, IsChildAt, ParentsReadWere, ChildrenStand}
 use Rattle.bz_merge.proofs.Standing.{Laws as Standing, not-equal, guard-is, leads, then-reached, then-inner, then-status, then-inside, below, same-place, level-one, fits, view-child, view-count, stands-at, slot-of, flat, low-is, high-is}
 
 -- the laws on which it rests

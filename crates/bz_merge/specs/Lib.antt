@@ -1,2 +1,7 @@
+pub mod Decisions
+pub mod Duties
+pub mod Facts
 pub mod Merges
+pub mod Plans
 pub mod Siblings
+pub mod Thawed

@@ -1,15 +1,13 @@
 -- The parent and a neighbour of a leaf, read word by word: what they are where their statuses are found again.
-use Rattle.std.specs.Prelude.{◌≡◌, ℕ, ◌+◌, ◌^◌, ◌<◌, ◌≤◌, true, List, Option, Some, None, length, slice_index}
+use Rattle.std.specs.Prelude.{◌≡◌, ℕ, ◌^◌, ◌<◌, ◌≤◌, true, List, Option, None, length, slice_index}
 use Rattle.bz_layout.specs.declared.limits.TheConstants.{MAX_NODES}
 use Rattle.bz_layout.specs.declared.sizes.TheConstants.{NODE_WORDS, STATUS_AT}
-use Rattle.bz_node.specs.Records.{IsAbove, IsBelow}
-use Rattle.bz_slotted.specs.Readers.{count_of, child_of, key_of, found_of}
+use Rattle.bz_slotted.specs.Readers.{count_of, child_of, found_of}
 use Rattle.bz_slotted.specs.ReadingLaws.{node_of, ReadsAsChildren}
 use Rattle.bz_slotted.specs.Rules.{node_fault}
 use Rattle.bz_content.specs.Restructures.{children_of}
 use Rattle.bz_task.specs.Instant.{words, form_at, is_inside}
 use Rattle.bz_task.specs.Scene.{Past, Scene, IsScene, here}
-use Rattle.bz_task.specs.Shown.{SameWords}
 use Rattle.bz_task.specs.declared.path.Link.{Link}
 use Rattle.bz_split.specs.BelowSplits.{AreLinksDown}
 use Rattle.bz_merge.specs.Merges.{low_in, high_in, WasLeafOnce}

@@ -1,0 +1,194 @@
+-- What is known after a swap, and what it leads to.
+use Rattle.std.proofs.Common.{◌≡◌, ◌≢◌, ℕ, ◌<◌, ◌≤◌, ◌^◌, Bool, true, false, arith, refl, sym, ap, subst, ◌∙◌, inl, inr}
+use Rattle.std.specs.Prelude.{◌↔◌, slice_index}
+use Rattle.bz_layout.specs.declared.config.Config.{Config}
+use Rattle.bz_layout.specs.declared.sizes.TheConstants.{STATUS_AT}
+use Rattle.bz_task.specs.Requests.{Hears, Tells}
+use Rattle.bz_task.specs.Scene.{Scene, Stage, Waiting, Took, IsScene, HasFilled}
+use Rattle.bz_task.specs.declared.todo.Seen.{Seen}
+use Rattle.bz_task.specs.declared.todo.Seen.TheVariants.{Start, Read as Was, Stored, Flushed, Swapped, NoSwap as NoneLeft}
+use Rattle.bz_merge.specs.Decisions.{HasSwapped}
+use Rattle.bz_merge.specs.Facts.{IsSwapping, IsWriting, merge_asks, merge_facts, merge_left, merge_needs}
+use Rattle.bz_merge.specs.Plans.{Merging}
+use Rattle.bz_merge.specs.declared.phase.Phase.{Phase}
+use Rattle.bz_merge.specs.declared.phase.Phase.TheVariants.{Fresh, Word, Again, Beside, Parent, Still, Freeze, FreezeBeside, Guard, Store, Flush, Swap, Done, Restart, NoNeighbour, NoSlot, NoSwap}
+use Rattle.bz_merge.proofs.Asking.{other-once}
+use Rattle.bz_merge.proofs.Writing.{freeze-learns, beside-learns, swap-learns}
+
+-- of the phases in which something is written the others are those of swaps
+pub swapping-of : (phase : Phase) → IsWriting phase → ((j : ℕ) → phase ≢ Store j) → ((j : ℕ) → phase ≢ Flush j) → IsSwapping phase
+swapping-of Freeze w a b = tt
+swapping-of FreezeBeside w a b = tt
+swapping-of Swap w a b = tt
+swapping-of (Store j) w a b = absurd (a j refl)
+swapping-of (Flush j) w a b = absurd (b j refl)
+swapping-of Fresh w a b = absurd (w)
+swapping-of (Word i) w a b = absurd (w)
+swapping-of Again w a b = absurd (w)
+swapping-of (Beside i) w a b = absurd (w)
+swapping-of Parent w a b = absurd (w)
+swapping-of Still w a b = absurd (w)
+swapping-of Guard w a b = absurd (w)
+swapping-of Done w a b = absurd (w)
+swapping-of Restart w a b = absurd (w)
+swapping-of NoNeighbour w a b = absurd (w)
+swapping-of NoSlot w a b = absurd (w)
+swapping-of NoSwap w a b = absurd (w)
+
+-- what a store and a flush are told
+pub store-seen : (c : Config) (r : Merging) (j : ℕ) (seen : Seen) → Hears (merge_asks c r (Store j)) seen → seen ≡ Stored
+store-seen c r j Stored h = refl
+store-seen c r j Start h = absurd (h)
+store-seen c r j (Was v) h = absurd (h)
+store-seen c r j Flushed h = absurd (h)
+store-seen c r j (Swapped won) h = absurd (h)
+store-seen c r j NoneLeft h = absurd (h)
+
+pub flush-seen : (c : Config) (r : Merging) (j : ℕ) (seen : Seen) → Hears (merge_asks c r (Flush j)) seen → seen ≡ Flushed
+flush-seen c r j Flushed h = refl
+flush-seen c r j Start h = absurd (h)
+flush-seen c r j (Was v) h = absurd (h)
+flush-seen c r j Stored h = absurd (h)
+flush-seen c r j (Swapped won) h = absurd (h)
+flush-seen c r j NoneLeft h = absurd (h)
+
+-- what is known while a swap is asked for
+some-left : (right : Bool) (phase : Phase) → IsSwapping phase → 0 < merge_left right phase
+some-left right Freeze w = omega arith
+some-left right FreezeBeside w = omega arith
+some-left right Swap w = omega arith
+some-left right Fresh w = absurd (w)
+some-left right (Word i) w = absurd (w)
+some-left right Again w = absurd (w)
+some-left right (Beside i) w = absurd (w)
+some-left right Parent w = absurd (w)
+some-left right Still w = absurd (w)
+some-left right Guard w = absurd (w)
+some-left right (Store j) w = absurd (w)
+some-left right (Flush j) w = absurd (w)
+some-left right Done w = absurd (w)
+some-left right Restart w = absurd (w)
+some-left right NoNeighbour w = absurd (w)
+some-left right NoSlot w = absurd (w)
+some-left right NoSwap w = absurd (w)
+
+swap-filled : (c : Config) (r : Merging) (phase : Phase) (stage : Stage) (s : Scene) → IsSwapping phase → merge_facts r phase stage s → HasFilled s
+swap-filled c r Freeze Waiting s w f = f.0
+swap-filled c r Freeze Took s w f = f.0
+swap-filled c r FreezeBeside Waiting s w f = f.0
+swap-filled c r FreezeBeside Took s w f = f.0
+swap-filled c r Swap Waiting s w f = f.0
+swap-filled c r Swap Took s w f = f.0
+swap-filled c r Fresh stage s w f = absurd (w)
+swap-filled c r (Word i) stage s w f = absurd (w)
+swap-filled c r Again stage s w f = absurd (w)
+swap-filled c r (Beside i) stage s w f = absurd (w)
+swap-filled c r Parent stage s w f = absurd (w)
+swap-filled c r Still stage s w f = absurd (w)
+swap-filled c r Guard stage s w f = absurd (w)
+swap-filled c r (Store j) stage s w f = absurd (w)
+swap-filled c r (Flush j) stage s w f = absurd (w)
+swap-filled c r Done stage s w f = absurd (w)
+swap-filled c r Restart stage s w f = absurd (w)
+swap-filled c r NoNeighbour stage s w f = absurd (w)
+swap-filled c r NoSlot stage s w f = absurd (w)
+swap-filled c r NoSwap stage s w f = absurd (w)
+
+-- the neighbour's status is a plain value
+freeze-plain : (r : Merging) (stage : Stage) (s : Scene) → merge_facts r Freeze stage s → slice_index r.beside STATUS_AT < 2 ^ 61
+freeze-plain r Waiting s f = (other-once r s.past f.1.0).seen.plain
+freeze-plain r Took s f = (other-once r s.past f.1.0).seen.plain
+
+pub swap-plain : (r : Merging) (phase : Phase) (stage : Stage) (s : Scene) → merge_facts r phase stage s → phase ≡ Freeze → slice_index r.beside STATUS_AT < 2 ^ 61
+swap-plain r phase stage s f e = freeze-plain r stage s (subst (λ z. merge_facts r z stage s) e f)
+
+-- what comes of a swap
+pub record Comes (r : Merging) (phase : Phase) (seen : Seen) (q : Phase) : Type 0 where
+  pub nearer : merge_left r.right q < merge_left r.right phase
+  pub needs : merge_needs q ≤ merge_needs phase
+  pub done : q ≡ Done → seen ≡ Swapped true
+  pub restart : q ≡ Restart → seen ≡ Swapped false
+  pub no_swap : (q ≡ NoSwap) ↔ (seen ≡ NoneLeft)
+  pub slots : q ≢ NoSlot
+  pub begun : q ≢ Fresh
+
+none-won : (seen : Seen) (won : Bool) → seen ≡ Swapped won → seen ≡ NoneLeft → ⊥
+none-won seen won a b = let h = sym a ∙ b in absurd (cc)
+
+pub comes : (r : Merging) (phase : Phase) (seen : Seen) (q : Phase) → IsSwapping phase → HasSwapped r phase seen q → Comes r phase seen q
+comes r phase seen NoSwap w h = record {
+  nearer = some-left r.right phase w;
+  needs = omega arith;
+  done = λ e. absurd (cc);
+  restart = λ e. absurd (cc);
+  no_swap = (λ e. h, λ e. refl);
+  slots = λ e. absurd (cc);
+  begun = λ e. absurd (cc);
+}
+comes r phase seen Restart w h = record {
+  nearer = some-left r.right phase w;
+  needs = omega arith;
+  done = λ e. absurd (cc);
+  restart = λ e. h;
+  no_swap = (λ e. absurd (cc), λ e. absurd (none-won seen false h e));
+  slots = λ e. absurd (cc);
+  begun = λ e. absurd (cc);
+}
+comes r phase seen FreezeBeside w h = record {
+  nearer = omega (arith, ap (merge_left r.right) h.1.0);
+  needs = omega (arith, ap merge_needs h.1.0);
+  done = λ e. absurd (cc);
+  restart = λ e. absurd (cc);
+  no_swap = (λ e. absurd (cc), λ e. absurd (none-won seen true h.0 e));
+  slots = λ e. absurd (cc);
+  begun = λ e. absurd (cc);
+}
+comes r phase seen Guard w h = record {
+  nearer = elim h.1 [ inl a ↦ omega (arith, ap (merge_left r.right) a.0) | inr a ↦ omega (arith, ap (merge_left r.right) a) ];
+  needs = elim h.1 [ inl a ↦ omega (arith, ap merge_needs a.0) | inr a ↦ omega (arith, ap merge_needs a) ];
+  done = λ e. absurd (cc);
+  restart = λ e. absurd (cc);
+  no_swap = (λ e. absurd (cc), λ e. absurd (none-won seen true h.0 e));
+  slots = λ e. absurd (cc);
+  begun = λ e. absurd (cc);
+}
+comes r phase seen Done w h = record {
+  nearer = omega (arith, ap (merge_left r.right) h.1);
+  needs = omega arith;
+  done = λ e. h.0;
+  restart = λ e. absurd (cc);
+  no_swap = (λ e. absurd (cc), λ e. absurd (none-won seen true h.0 e));
+  slots = λ e. absurd (cc);
+  begun = λ e. absurd (cc);
+}
+comes r phase seen Fresh w h = absurd (h)
+comes r phase seen (Word i) w h = absurd (h)
+comes r phase seen Again w h = absurd (h)
+comes r phase seen (Beside i) w h = absurd (h)
+comes r phase seen Parent w h = absurd (h)
+comes r phase seen Still w h = absurd (h)
+comes r phase seen Freeze w h = absurd (h)
+comes r phase seen (Store j) w h = absurd (h)
+comes r phase seen (Flush j) w h = absurd (h)
+comes r phase seen Swap w h = absurd (h)
+comes r phase seen NoNeighbour w h = absurd (h)
+comes r phase seen NoSlot w h = absurd (h)
+
+pub learns-swapped : (c : Config) (r : Merging) (phase q : Phase) (seen : Seen) (stage : Stage) (s : Scene) → IsScene s → IsSwapping phase → HasSwapped r phase seen q → merge_facts r phase stage s → Tells (merge_asks c r phase) stage seen s → merge_facts r q Waiting s
+learns-swapped c r phase NoSwap seen stage s good w h f t = swap-filled c r phase stage s w f
+learns-swapped c r phase Restart seen stage s good w h f t = swap-filled c r phase stage s w f
+learns-swapped c r phase FreezeBeside seen stage s good w h f t = freeze-learns c r phase FreezeBeside seen stage s f t good h.1.0 h.0 h.1.1
+learns-swapped c r phase Guard seen stage s good w h f t = elim h.1 [ inl a ↦ freeze-learns c r phase Guard seen stage s f t good a.0 h.0 a.1 | inr a ↦ beside-learns c r phase Guard seen stage s f t a h.0 ]
+learns-swapped c r phase Done seen stage s good w h f t = swap-learns c r phase Done seen stage s f t h.1 h.0
+learns-swapped c r phase Fresh seen stage s good w h f t = absurd (h)
+learns-swapped c r phase (Word i) seen stage s good w h f t = absurd (h)
+learns-swapped c r phase Again seen stage s good w h f t = absurd (h)
+learns-swapped c r phase (Beside i) seen stage s good w h f t = absurd (h)
+learns-swapped c r phase Parent seen stage s good w h f t = absurd (h)
+learns-swapped c r phase Still seen stage s good w h f t = absurd (h)
+learns-swapped c r phase Freeze seen stage s good w h f t = absurd (h)
+learns-swapped c r phase (Store j) seen stage s good w h f t = absurd (h)
+learns-swapped c r phase (Flush j) seen stage s good w h f t = absurd (h)
+learns-swapped c r phase Swap seen stage s good w h f t = absurd (h)
+learns-swapped c r phase NoNeighbour seen stage s good w h f t = absurd (h)
+learns-swapped c r phase NoSlot seen stage s good w h f t = absurd (h)

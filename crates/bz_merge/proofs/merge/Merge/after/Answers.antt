@@ -1,0 +1,63 @@
+use Rattle.std.proofs.Common.{subst}
+use Rattle.bz_layout.specs.Config.{IsConfig}
+use Rattle.bz_task.specs.Requests.{Hears}
+use Rattle.bz_merge.specs.Duties.{merging_of}
+use Rattle.bz_merge.specs.Facts.{merge_asks}
+use Rattle.bz_merge.proofs.Ready.{ready-of}
+use Rattle.bz_merge.proofs.Swapping.{swapping-of, store-seen, flush-seen, swap-plain, comes, learns-swapped}
+use Rattle.bz_merge.proofs.Writing.{store-learns, flush-learns}
+use Rattle.bz_merge.proofs.merge.Merge.after.Goals as goal
+
+pub after_swap-requires : goal.after_swap-requires
+after_swap-requires c =
+    let t = c.args.self.now in
+    let k = c.requires.known in record {
+      swapping = swapping-of t.phase c.requires.begun c.in_default.not-Store c.in_default.not-Flush;
+      hears = c.requires.hears;
+      plain = swap-plain (merging_of t) t.phase k.stage k.scene k.holds;
+    }
+
+pub returns-in-Store-clause-ready : goal.returns-in-Store-clause-ready
+returns-in-Store-clause-ready c =
+    let t = c.args.self.now in
+    let k = c.requires.known in
+    let seen = store-seen t.config (merging_of t) c.in-Store.j c.args.seen (subst (λ z. Hears (merge_asks t.config (merging_of t) z) c.args.seen) c.in-Store.is c.requires.hears) in
+    ready-of c.links_turn.ensures.asked t.config (merging_of t) c.after_store.result k.scene k.config k.good (store-learns t.config (merging_of t) t.phase c.after_store.result c.args.seen k.stage k.scene k.holds k.tells c.in-Store.j c.in-Store.is seen c.after_store.ensures)
+
+pub returns-in-Store-clause-learns : goal.returns-in-Store-clause-learns
+returns-in-Store-clause-learns c stage s same good f told =
+    let t = c.args.self.now in
+    let seen = store-seen t.config (merging_of t) c.in-Store.j c.args.seen (subst (λ z. Hears (merge_asks t.config (merging_of t) z) c.args.seen) c.in-Store.is c.requires.hears) in
+    store-learns t.config (merging_of t) t.phase c.after_store.result c.args.seen stage s f told c.in-Store.j c.in-Store.is seen c.after_store.ensures
+
+pub returns-in-Flush-clause-ready : goal.returns-in-Flush-clause-ready
+returns-in-Flush-clause-ready c =
+    let t = c.args.self.now in
+    let k = c.requires.known in
+    let seen = flush-seen t.config (merging_of t) c.in-Flush.j c.args.seen (subst (λ z. Hears (merge_asks t.config (merging_of t) z) c.args.seen) c.in-Flush.is c.requires.hears) in
+    ready-of c.links_turn.ensures.asked t.config (merging_of t) c.after_flush.result k.scene k.config k.good (flush-learns t.config (merging_of t) t.phase c.after_flush.result c.args.seen k.stage k.scene k.holds k.tells c.in-Flush.j c.in-Flush.is seen c.after_flush.ensures)
+
+pub returns-in-Flush-clause-learns : goal.returns-in-Flush-clause-learns
+returns-in-Flush-clause-learns c stage s same good f told =
+    let t = c.args.self.now in
+    let seen = flush-seen t.config (merging_of t) c.in-Flush.j c.args.seen (subst (λ z. Hears (merge_asks t.config (merging_of t) z) c.args.seen) c.in-Flush.is c.requires.hears) in
+    flush-learns t.config (merging_of t) t.phase c.after_flush.result c.args.seen stage s f told c.in-Flush.j c.in-Flush.is seen c.after_flush.ensures
+
+pub returns-in_default : goal.returns-in_default
+returns-in_default c =
+    let t = c.args.self.now in
+    let k = c.requires.known in
+    let w = swapping-of t.phase c.requires.begun c.in_default.not-Store c.in_default.not-Flush in
+    let h = comes (merging_of t) t.phase c.args.seen c.after_swap.result w c.after_swap.ensures in
+    record {
+      nearer = h.nearer;
+      needs = h.needs;
+      done = h.done;
+      restart = h.restart;
+      no_swap = h.no_swap;
+      slots = h.slots;
+      begun = h.begun;
+      config = subst IsConfig k.config k.good.config;
+      ready = ready-of c.links_turn.ensures.asked t.config (merging_of t) c.after_swap.result k.scene k.config k.good (learns-swapped t.config (merging_of t) t.phase c.after_swap.result c.args.seen k.stage k.scene k.good w c.after_swap.ensures k.holds k.tells);
+      learns = λ stage s same good f told. learns-swapped t.config (merging_of t) t.phase c.after_swap.result c.args.seen stage s good w c.after_swap.ensures f told;
+    }

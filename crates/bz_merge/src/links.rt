@@ -1,0 +1,14 @@
+//! The links at the end of a path.
+
+ghost use Rattle.std.specs.Prelude.{◌≡◌, ◌≤◌, ◌-◌, Some, slice_get};
+
+use bz_task::{Link, Path};
+
+/// The link before the last of a path.
+pub(crate) fn upper_link(path: &Path) -> Link
+    requires deep { 2 ≤ path.now.depth }
+    requires few { path.now.depth ≤ 12 }
+    ensures { slice_get path.now.links (path.now.depth - 2) ≡ Some result }
+{
+    path.links[path.depth as usize - 2]
+}

@@ -1,0 +1,584 @@
+//! The task that merges two sibling leaves.
+
+ghost use Rattle.std.specs.Prelude.{◌≡◌, ◌≢◌, ◌↔◌, ◌+◌, ◌-◌, ◌<◌, ◌≤◌, ◌^◌, ◌⊎◌, ℕ, List, Option, Some, None, IsTrue, true, false, slice_get, slice_index, length};
+ghost use Rattle.bz_layout.specs.Config.{IsConfig};
+ghost use Rattle.bz_layout.specs.declared.thresholds.TheConstants.{MERGE_SLOTS, SPLIT_ABOVE};
+ghost use Rattle.bz_page.specs.Pages.{IsLeafByItself};
+ghost use Rattle.bz_join.specs.Leaves.{MayJoin, IsOneOf};
+ghost use Rattle.bz_renew.specs.Due.{LeadsTo};
+ghost use Rattle.bz_renew.specs.Nodes.{word_value};
+ghost use Rattle.bz_slotted.specs.Readers.{live_of};
+ghost use Rattle.bz_slotted.specs.ReadingLaws.{node_of};
+ghost use Rattle.bz_task.specs.Outcomes.{IsPath, IsView};
+ghost use Rattle.bz_task.specs.OwnActs.{AreTakenFrom, AreUnreached, gained};
+ghost use Rattle.bz_task.specs.Requests.{Hears, Tells, IsKnown};
+ghost use Rattle.bz_task.specs.Scene.{Scene, Stage, Waiting, IsScene};
+ghost use Rattle.bz_task.specs.declared.todo.Seen.TheVariants.{Read as Was, Swapped, NoSwap as NoneLeft};
+ghost use Rattle.bz_merge.specs.Decisions.{IsParentOfLeaf, HasTold, IsWeighable, HasSettled, HasFrozen, HasFirst, HasWon, HasSwapped, MayMerge, HasBegun, HasLooked};
+ghost use Rattle.bz_merge.specs.Duties.{merging_of, asks_of, end_of, left_of, needs_of, facts_of, differs_of};
+ghost use Rattle.bz_merge.specs.Facts.{merge_acts, merge_left, merge_needs, merge_facts, merge_means, merge_change, WasMerged, NoneFitted, IsReady, IsWriting, IsSwapping, word_after, beside_after, store_after, flush_after};
+ghost use Rattle.bz_merge.specs.Plans.{merge_nodes, viewed_leaf, beside_leaf, first_of, second_of};
+ghost use Rattle.bz_merge.specs.Thawed.{IsThawedAbove};
+
+use crate::freeze::freeze_of;
+use crate::laws::{leaves_read_were, merges_are_good, parents_read_were};
+use crate::links::upper_link;
+use crate::phase::Phase;
+use crate::seen::{is_frozen, is_read, word_in};
+use crate::sibling::{Sibling, left_of, right_of};
+use crate::slots::take_two;
+use bz_call::Spent;
+use bz_join::{ParentJoin, joined_leaf, parent_joined};
+use bz_layout::{Config, LINE_WORDS, MERGE_SLOTS, NODE_WORDS, SPLIT_ABOVE, STATUS_AT, Slots};
+use bz_node::NodeImage;
+use bz_renew::{is_whole, last_link, swap_freezing};
+use bz_task::{LeafView, Link, Outcome, Path, Seen, Task, Todo, laws};
+
+const NODE_LINES: u32 = NODE_WORDS / LINE_WORDS;
+
+const MERGE_WORDS: u32 = NODE_WORDS * MERGE_SLOTS;
+
+const MERGE_LINES: u32 = NODE_LINES * MERGE_SLOTS;
+
+// What a decision leads to: the neighbour that is tried, and the next phase.
+#[derive(Clone, Copy, Drop)]
+struct Step {
+    side: Sibling,
+    phase: Phase,
+}
+
+/// The merge of the leaf that a view shows with a neighbour below the same parent. It ends with Done where a new parent, with one
+/// leaf in the place of both, has taken the old one's place, which is frozen; with NeedsRoom where no neighbour has room for it;
+/// with Restart where a status or a link was another one; and with Full where fewer than two slots or no descriptor were left.
+#[derive(Drop)]
+pub struct Merge {
+    config: Config,
+    // the link to the parent, which is turned, and the link to the viewed leaf
+    upper: Link,
+    lower: Link,
+    // the status and the words that were viewed
+    status: u64,
+    leaf: NodeImage,
+    // the words that were read of the parent; the neighbour that is tried, and the words that were read of it
+    read: NodeImage,
+    side: Sibling,
+    beside: NodeImage,
+    // the merged leaf and the new parent, and the slots of the new parent and of the leaf
+    merged: NodeImage,
+    parent: NodeImage,
+    slots: [u16; 3],
+    phase: Phase,
+}
+
+impl Merge {
+    /// The merge of a viewed leaf below a parent; whoever asks for it decides that the leaf is worth it.
+    pub fn new(config: &Config, path: Path, view: LeafView) -> Merge
+        requires deep { 2 ≤ path.depth }
+        requires few { path.depth ≤ 12 }
+        requires leads { LeadsTo path view.slot }
+        requires thawed { IsThawedAbove path }
+        ensures config { ⟦<Merge as Task>⟧.config result ≡ config.now }
+        ensures asks { ⟦<Merge as Task>⟧.asks result ≡ None }
+        ensures left { ⟦<Merge as Task>⟧.left result ≡ merge_acts }
+        ensures needs { ⟦<Merge as Task>⟧.needs result ≡ MERGE_SLOTS }
+        ensures change { ⟦<Merge as Task>⟧.change result ≡ merge_change }
+        ensures facts { (key : List ℕ) (s : Scene) → s.past.config ≡ config.now → IsScene s → IsPath key path s.past → IsView key view s.past → ⟦<Merge as Task>⟧.facts result Waiting s }
+        ensures done { (upper lower : Link) (s : Scene) → slice_get path.links (path.depth - 2) ≡ Some upper → slice_get path.links (path.depth - 1) ≡ Some lower → ⟦<Merge as Task>⟧.means result Outcome.Done s → WasMerged upper lower view.image.0 s.past }
+        ensures no_path { (other : Path) (s : Scene) → ⟦<Merge as Task>⟧.means result (Outcome.Path other) s → ⊥ }
+        ensures no_view { (other : LeafView) (s : Scene) → ⟦<Merge as Task>⟧.means result (Outcome.View other) s → ⊥ }
+        ensures no_room { (upper lower : Link) (s : Scene) → slice_get path.links (path.depth - 2) ≡ Some upper → slice_get path.links (path.depth - 1) ≡ Some lower → ⟦<Merge as Task>⟧.means result Outcome.NeedsRoom s → NoneFitted upper lower view.image.0 s.past }
+    {
+        bz_page::laws::views_say_what_images_say();
+        laws::leaves_are_in_trees();
+        laws::seen_leaves_are_whole();
+        laws::same_records_show_the_same();
+        bz_layout::slots_apart();
+        is_whole(&view.image);
+        let lower = last_link(&path);
+        Merge {
+            config: *config,
+            upper: upper_link(&path),
+            lower,
+            status: view.status,
+            leaf: view.image,
+            read: first_word(lower.status),
+            side: Sibling {
+                right: true,
+                place: 0,
+                slot: 0,
+            },
+            beside: view.image,
+            merged: view.image,
+            parent: view.image,
+            slots: [0; 3],
+            phase: Phase::Fresh,
+        }
+    }
+}
+
+impl Merge {
+    // A phase with the neighbour as it is.
+    fn on(&self, phase: Phase) -> Step
+        ensures phase { result.phase ≡ phase }
+        ensures side { result.side ≡ self.now.side }
+    {
+        Step {
+            side: self.side,
+            phase,
+        }
+    }
+
+    // The reading of a neighbour, if there is one.
+    fn reading(&self, sibling: Option<Sibling>) -> Step
+        ensures some { (side : Sibling) → sibling ≡ Some side → (result.phase ≡ Phase.Beside 0) × (result.side ≡ side) }
+        ensures none { sibling ≡ None → (result.phase ≡ Phase.NoNeighbour) × (result.side ≡ self.now.side) }
+    {
+        match sibling {
+            Some(side) => Step {
+                side,
+                phase: Phase::Beside(0),
+            },
+            None => self.on(Phase::NoNeighbour),
+        }
+    }
+
+    // What the parent's status, once more, tells: the neighbour that is tried, the right one before the left one.
+    fn told(&self, seen: Seen) -> Step
+        requires { seen ≡ Was self.now.lower.status → IsParentOfLeaf self.now.read.0 self.now.lower.slot }
+        ensures { HasTold (merging_of self.now) seen result.side result.phase }
+    {
+        if !is_read(seen, self.lower.status) {
+            return self.on(Phase::Restart);
+        }
+        match right_of(&self.read, self.lower.slot) {
+            Some(side) => self.reading(Some(side)),
+            None => self.reading(left_of(&self.read, self.lower.slot)),
+        }
+    }
+
+    // Whether the leaf and the neighbour have room in one.
+    fn fits(&self) -> bool
+        requires own { IsLeafByItself self.now.leaf.0 }
+        requires other { IsLeafByItself self.now.beside.0 }
+        ensures { IsTrue result ↔ (live_of (node_of self.now.leaf.0) + live_of (node_of self.now.beside.0) ≤ SPLIT_ABOVE) }
+    {
+        bz_slotted::laws::whole_leaves_are_readable();
+        bz_slotted::laws::live_words_fit();
+        is_whole(&self.leaf);
+        is_whole(&self.beside);
+        self.leaf.live_words() + self.beside.live_words() <= SPLIT_ABOVE
+    }
+
+    // The phase once the viewed leaf is frozen.
+    fn after_freeze(&self) -> Phase
+        requires { slice_index self.now.beside.0 0 < 2 ^ 61 }
+        ensures { HasFrozen (merging_of self.now) result }
+    {
+        is_whole(&self.beside);
+        if is_frozen(self.beside.0[STATUS_AT as usize]) {
+            Phase::Guard
+        } else {
+            Phase::FreezeBeside
+        }
+    }
+
+    // The phase once the two were found to fit.
+    fn first_freeze(&self) -> Phase
+        requires own { self.now.status < 2 ^ 61 }
+        requires other { slice_index self.now.beside.0 0 < 2 ^ 61 }
+        ensures { HasFirst (merging_of self.now) result }
+    {
+        if is_frozen(self.status) {
+            self.after_freeze()
+        } else {
+            Phase::Freeze
+        }
+    }
+
+    // What the neighbour's status, once more, tells: what is frozen next, or that the other neighbour is tried.
+    fn settled(&self, seen: Seen) -> Step
+        requires { seen ≡ Was (slice_index self.now.beside.0 0) → IsWeighable (merging_of self.now) }
+        ensures settled { HasSettled (merging_of self.now) seen result.side result.phase }
+        ensures side { ((i : ℕ) → result.phase ≢ Phase.Beside i) → result.side ≡ self.now.side }
+    {
+        is_whole(&self.beside);
+        if !is_read(seen, self.beside.0[STATUS_AT as usize]) {
+            return self.on(Phase::Restart);
+        }
+        if self.fits() {
+            return self.on(self.first_freeze());
+        }
+        if !self.side.right {
+            return self.on(Phase::NoNeighbour);
+        }
+        self.reading(left_of(&self.read, self.lower.slot))
+    }
+}
+
+impl Merge {
+    // The leaf with the records of both, the left one of which is first.
+    fn merged_leaf(&self) -> NodeImage
+        requires { MayJoin (first_of self.now.side.right (viewed_leaf (merging_of self.now)) (beside_leaf (merging_of self.now))).image (second_of self.now.side.right (viewed_leaf (merging_of self.now)) (beside_leaf (merging_of self.now))).image }
+        ensures { IsOneOf (first_of self.now.side.right (viewed_leaf (merging_of self.now)) (beside_leaf (merging_of self.now))).image (second_of self.now.side.right (viewed_leaf (merging_of self.now)) (beside_leaf (merging_of self.now))).image result.0 }
+    {
+        if self.side.right {
+            joined_leaf(&self.leaf, &self.beside)
+        } else {
+            joined_leaf(&self.beside, &self.leaf)
+        }
+    }
+
+    // The phase with which the nodes are begun: the first store, where two slots are left.
+    fn begin(&mut self, slots: &mut Slots)
+        requires { MayMerge slots.old.nodes (merging_of self.old) }
+        ensures config { self.new.config ≡ self.old.config }
+        ensures upper { self.new.upper ≡ self.old.upper }
+        ensures lower { self.new.lower ≡ self.old.lower }
+        ensures status { self.new.status ≡ self.old.status }
+        ensures leaf { self.new.leaf ≡ self.old.leaf }
+        ensures read { self.new.read ≡ self.old.read }
+        ensures side { self.new.side ≡ self.old.side }
+        ensures beside { self.new.beside ≡ self.old.beside }
+        ensures begun { HasBegun (merging_of self.new) self.new.phase slots.old slots.new }
+    {
+        match take_two(slots) {
+            Some(taken) => {
+                let join = ParentJoin {
+                    place: self.side.place,
+                    slot: taken[1],
+                };
+                self.merged = self.merged_leaf();
+                self.parent = parent_joined(&self.read, &join);
+                self.slots = taken;
+                self.phase = Phase::Store(0);
+            }
+            None => self.phase = Phase::NoSlot,
+        }
+    }
+
+    // The phase after another look at the upper guard: the nodes are begun where it is as the path names it.
+    fn look(&mut self, seen: Seen, slots: &mut Slots)
+        requires { MayMerge slots.old.nodes (merging_of self.old) }
+        ensures config { self.new.config ≡ self.old.config }
+        ensures upper { self.new.upper ≡ self.old.upper }
+        ensures lower { self.new.lower ≡ self.old.lower }
+        ensures status { self.new.status ≡ self.old.status }
+        ensures leaf { self.new.leaf ≡ self.old.leaf }
+        ensures read { self.new.read ≡ self.old.read }
+        ensures side { self.new.side ≡ self.old.side }
+        ensures beside { self.new.beside ≡ self.old.beside }
+        ensures looked { HasLooked (merging_of self.new) seen self.new.phase slots.old slots.new }
+    {
+        if is_read(seen, self.upper.status) {
+            self.begin(slots);
+        } else {
+            self.phase = Phase::Restart;
+        }
+    }
+
+    // The phase after another look at the parent's status, once the neighbour was read.
+    fn checked(&self, seen: Seen) -> Phase
+        ensures { ((seen ≡ Was self.now.lower.status) × (result ≡ Phase.Still)) ⊎ ((seen ≢ Was self.now.lower.status) × (result ≡ Phase.Restart)) }
+    {
+        if is_read(seen, self.lower.status) {
+            Phase::Still
+        } else {
+            Phase::Restart
+        }
+    }
+
+    // The phase once a swap took effect.
+    fn after_won(&self) -> Phase
+        requires swapping { IsSwapping self.now.phase }
+        requires plain { self.now.phase ≡ Phase.Freeze → slice_index self.now.beside.0 0 < 2 ^ 61 }
+        ensures { HasWon (merging_of self.now) self.now.phase result }
+    {
+        match self.phase {
+            Phase::Freeze => self.after_freeze(),
+            Phase::FreezeBeside => Phase::Guard,
+            _ => Phase::Done,
+        }
+    }
+
+    // The phase after what came of a swap.
+    fn after_swap(&self, seen: Seen) -> Phase
+        requires swapping { IsSwapping self.now.phase }
+        requires hears { Hears (asks_of self.now) seen }
+        requires plain { self.now.phase ≡ Phase.Freeze → slice_index self.now.beside.0 0 < 2 ^ 61 }
+        ensures { HasSwapped (merging_of self.now) self.now.phase seen result }
+    {
+        match seen {
+            Seen::NoSwap => Phase::NoSwap,
+            Seen::Swapped(won) => {
+                if won {
+                    self.after_won()
+                } else {
+                    Phase::Restart
+                }
+            }
+            _ => unreachable!(),
+        }
+    }
+
+    // The phase after what came of a store, a flush or a swap.
+    fn after(&self, seen: Seen, moment: u32) -> Phase
+        requires begun { IsWriting self.now.phase }
+        requires hears { Hears (asks_of self.now) seen }
+        requires known { IsKnown self.now.config (facts_of self.now) (asks_of self.now) seen moment }
+        ensures nearer { merge_left self.now.side.right result < left_of self.now }
+        ensures needs { merge_needs result ≤ needs_of self.now }
+        ensures done { result ≡ Phase.Done → seen ≡ Swapped true }
+        ensures restart { result ≡ Phase.Restart → seen ≡ Swapped false }
+        ensures no_swap { (result ≡ Phase.NoSwap) ↔ (seen ≡ NoneLeft) }
+        ensures slots { result ≢ Phase.NoSlot }
+        ensures begun { result ≢ Phase.Fresh }
+        ensures config { IsConfig self.now.config }
+        ensures ready { IsReady self.now.config (merging_of self.now) result }
+        ensures learns { (stage : Stage) (s : Scene) → s.past.config ≡ self.now.config → IsScene s → facts_of self.now stage s → Tells (asks_of self.now) stage seen s → merge_facts (merging_of self.now) result Waiting s }
+    {
+        let _moment = moment;
+        bz_renew::laws::links_turn();
+        match self.phase {
+            Phase::Store(j) => after_store(j),
+            Phase::Flush(j) => after_flush(j),
+            _ => self.after_swap(seen),
+        }
+    }
+
+    // The next phase, whichever it is.
+    fn step(&mut self, seen: Seen, slots: &mut Slots, moment: u32)
+        requires hears { Hears (asks_of self.old) seen }
+        requires known { IsKnown self.old.config (facts_of self.old) (asks_of self.old) seen moment }
+        requires memory { 0 < needs_of self.old → slots.old.nodes ≡ self.old.config.nodes }
+        ensures config { self.new.config ≡ self.old.config }
+        ensures upper { self.new.upper ≡ self.old.upper }
+        ensures lower { self.new.lower ≡ self.old.lower }
+        ensures leaf { self.new.leaf ≡ self.old.leaf }
+        ensures known { IsConfig self.new.config }
+        ensures begun { self.new.phase ≢ Phase.Fresh }
+        ensures ready { IsReady self.new.config (merging_of self.new) self.new.phase }
+        ensures nearer { left_of self.new < left_of self.old }
+        ensures slots { AreTakenFrom (needs_of self.old) (needs_of self.new) slots.old slots.new }
+        ensures done { end_of self.new ≡ Some Outcome.Done → seen ≡ Swapped true }
+        ensures restart { end_of self.new ≡ Some Outcome.Restart → (seen ≡ Swapped false) ⊎ differs_of self.old seen }
+        ensures no_swap { seen ≡ NoneLeft → end_of self.new ≡ Some (Outcome.Full Spent.Swaps) }
+        ensures full_swaps { end_of self.new ≡ Some (Outcome.Full Spent.Swaps) → seen ≡ NoneLeft }
+        ensures full_nodes { end_of self.new ≡ Some (Outcome.Full Spent.Nodes) → length slots.old.free < needs_of self.old }
+        ensures learns { (stage : Stage) (s : Scene) → s.past.config ≡ self.old.config → IsScene s → (0 < needs_of self.old → AreUnreached s slots.old) → facts_of self.old stage s → Tells (asks_of self.old) stage seen s → facts_of self.new Waiting (gained s slots.old slots.new) }
+    {
+        laws::nothing_is_gained();
+        bz_layout::slots_apart();
+        bz_renew::laws::links_turn();
+        bz_renew::laws::guarded_links_stand();
+        bz_slotted::laws::inner_keys_rise();
+        laws::fronts_stay();
+        laws::ranges_stay();
+        bz_join::laws::children_join();
+        parents_read_were();
+        leaves_read_were();
+        is_whole(&self.beside);
+        match self.phase {
+            Phase::Fresh => self.phase = Phase::Word(1),
+            Phase::Word(i) => {
+                self.read.0[i as usize] = word_in(seen);
+                self.phase = after_word(i);
+            }
+            Phase::Again => {
+                let next = self.told(seen);
+                self.side = next.side;
+                self.phase = next.phase;
+            }
+            Phase::Beside(i) => {
+                self.beside.0[i as usize] = word_in(seen);
+                self.phase = after_beside(i);
+            }
+            Phase::Parent => self.phase = self.checked(seen),
+            Phase::Still => {
+                let next = self.settled(seen);
+                self.side = next.side;
+                self.phase = next.phase;
+            }
+            Phase::Guard => self.look(seen, slots),
+            _ => self.phase = self.after(seen, moment),
+        }
+    }
+
+    // One of the words of the two nodes, counted through.
+    fn word(&self, j: u32) -> u64
+        requires { j < MERGE_WORDS }
+        ensures { result ≡ word_value (merge_nodes (merging_of self.now)) j }
+    {
+        let place = (j % NODE_WORDS) as usize;
+        match j / NODE_WORDS {
+            0 => self.parent.0[place],
+            _ => self.merged.0[place],
+        }
+    }
+
+    // What a phase asks for.
+    fn asked(&self) -> Todo
+        requires begun { self.now.phase ≢ Phase.Fresh }
+        requires config { IsConfig self.now.config }
+        requires ready { IsReady self.now.config (merging_of self.now) self.now.phase }
+        ensures { asks_of self.now ≡ Some result }
+    {
+        is_whole(&self.beside);
+        match self.phase {
+            Phase::Word(i) => Todo::Read(self.config.node_at(self.upper.slot as u32) + i),
+            Phase::Again | Phase::Parent => Todo::Read(self.lower.guard),
+            Phase::Beside(i) => Todo::Read(self.config.node_at(self.side.slot as u32) + i),
+            Phase::Still => Todo::Read(self.config.node_at(self.side.slot as u32) + STATUS_AT),
+            Phase::Freeze => Todo::Swap(freeze_of(&self.config, self.lower.slot, self.status)),
+            Phase::FreezeBeside => Todo::Swap(freeze_of(
+                &self.config,
+                self.side.slot,
+                self.beside.0[STATUS_AT as usize],
+            )),
+            Phase::Guard => Todo::Read(self.upper.guard),
+            Phase::Store(j) => {
+                let slot = self.slots[(j / NODE_WORDS) as usize] as u32;
+                Todo::Store(self.config.node_at(slot) + j % NODE_WORDS, self.word(j))
+            }
+            Phase::Flush(j) => {
+                let slot = self.slots[(j / NODE_LINES) as usize] as u32;
+                Todo::Flush(self.config.node_at(slot) / LINE_WORDS + j % NODE_LINES)
+            }
+            Phase::Swap => Todo::Swap(swap_freezing(
+                &self.config,
+                &self.upper,
+                self.slots[0],
+                self.upper.slot,
+                self.lower.status,
+            )),
+            Phase::Fresh
+            | Phase::Done
+            | Phase::Restart
+            | Phase::NoNeighbour
+            | Phase::NoSlot
+            | Phase::NoSwap => Todo::Finish,
+        }
+    }
+}
+
+// The words of a node of which the status alone was read.
+fn first_word(status: u64) -> NodeImage
+    ensures first { slice_index result.0 0 ≡ status }
+    ensures size { length result.0 ≡ 128 }
+{
+    let mut words = [0; NODE_WORDS as usize];
+    words[0] = status;
+    NodeImage(words)
+}
+
+// The phase after the load of a word of the parent: that of the next one, or its status once more.
+fn after_word(i: u32) -> Phase
+    requires { i < NODE_WORDS }
+    ensures { result ≡ word_after i }
+{
+    if i + 1 < NODE_WORDS {
+        Phase::Word(i + 1)
+    } else {
+        Phase::Again
+    }
+}
+
+// The phase after the load of a word of the neighbour: that of the next one, or the parent's status.
+fn after_beside(i: u32) -> Phase
+    requires { i < NODE_WORDS }
+    ensures { result ≡ beside_after i }
+{
+    if i + 1 < NODE_WORDS {
+        Phase::Beside(i + 1)
+    } else {
+        Phase::Parent
+    }
+}
+
+// The phase after the store of a word: that of the next one, or the first flush.
+fn after_store(j: u32) -> Phase
+    requires { j < MERGE_WORDS }
+    ensures { result ≡ store_after j }
+{
+    if j + 1 < MERGE_WORDS {
+        Phase::Store(j + 1)
+    } else {
+        Phase::Flush(0)
+    }
+}
+
+// The phase after the flush of a line: that of the next one, or the swap.
+fn after_flush(j: u32) -> Phase
+    requires { j < MERGE_LINES }
+    ensures { result ≡ flush_after j }
+{
+    if j + 1 < MERGE_LINES {
+        Phase::Flush(j + 1)
+    } else {
+        Phase::Swap
+    }
+}
+
+impl Task for Merge {
+    ghost config = { λ t. t.config };
+
+    ghost asks = { asks_of };
+
+    ghost end = { end_of };
+
+    ghost left = { left_of };
+
+    ghost needs = { needs_of };
+
+    ghost change = { λ t. merge_change };
+
+    ghost publishing = { λ t. false };
+
+    ghost facts = { facts_of };
+
+    ghost means = { λ t. merge_means t.upper t.lower t.leaf.0 };
+
+    ghost differs = { differs_of };
+
+    fn publishes(&self) -> bool {
+        false
+    }
+
+    fn ended(&self) -> Option<Outcome> {
+        match self.phase {
+            Phase::Done => Some(Outcome::Done),
+            Phase::Restart => Some(Outcome::Restart),
+            Phase::NoNeighbour => Some(Outcome::NeedsRoom),
+            Phase::NoSlot => Some(Outcome::Full(Spent::Nodes)),
+            Phase::NoSwap => Some(Outcome::Full(Spent::Swaps)),
+            _ => None,
+        }
+    }
+
+    fn next(&mut self, seen: Seen, slots: &mut Slots, moment: u32) -> Todo {
+        self.step(seen, slots, moment);
+        self.asked()
+    }
+
+    fn learnt(&self) {
+        bz_renew::laws::links_turn();
+        bz_word::laws::statuses();
+        laws::fronts_stay();
+    }
+
+    fn acted(&self) {
+        bz_renew::laws::links_turn();
+        bz_join::laws::children_join();
+        bz_layout::slots_apart();
+        bz_freeze::laws::freezes_are_good();
+        bz_slotted::laws::freeze_is_quiet();
+        bz_word::laws::statuses();
+        laws::thawed_leaves_stay();
+        laws::fronts_stay();
+        laws::nodes_stay();
+        laws::swaps_show_in_slots();
+        laws::same_records_show_the_same();
+        laws::seen_leaves_are_whole();
+        laws::leaves_are_in_trees();
+        merges_are_good();
+    }
+}
