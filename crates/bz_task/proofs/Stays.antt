@@ -2,7 +2,7 @@
 use Rattle.std.proofs.Common.{◌≡◌, ℕ, ◌≤◌, ◌&&◌, ◌||◌, Bool, true, false, List, arith, refl, sym, ◌∙◌, inl, inr}
 use Rattle.std.specs.Prelude.{not}
 use Rattle.bz_layout.specs.Slots.{FreeSlots}
-use Rattle.bz_task.specs.Laws.{PathsStay, ViewsStay, NothingIsGained}
+use Rattle.bz_task.specs.Laws.{PathsStay, ViewsStay, KeyViewsStay, NothingIsGained}
 use Rattle.bz_task.specs.Outcomes.{IsUnderNode, IsGuarded, IsLink, EndsAtLeaf}
 use Rattle.bz_task.specs.OwnActs.{is_gained, gained}
 use Rattle.bz_task.specs.Scene.{Past, Scene, IsMine, Continues}
@@ -84,6 +84,19 @@ views-stay key view p q v n = record {
   plain = v.plain;
   words = rw (n.config, n.at view.at v.now) v.words;
   whole = rw (n.config, n.at view.at v.now) v.whole;
+}
+
+pub key-views-stay : KeyViewsStay
+key-views-stay key view p q v n = record {
+  since = begun p q n view.at v.since;
+  now = later p q n view.at v.now;
+  loads = n.loads view.at v.now ∙ v.loads;
+  leaf = rw (n.config, n.at view.at v.now) v.leaf;
+  slot = rw n.config v.slot;
+  status = rw (n.config, n.at view.at v.now) v.status;
+  plain = v.plain;
+  says = rw (n.config, n.at view.at v.now) v.says;
+  shows = rw (n.config, n.at view.at v.now) v.shows;
 }
 
 never : (b : Bool) → (b && not b) ≡ false

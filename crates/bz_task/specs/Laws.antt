@@ -12,13 +12,14 @@ use Rattle.bz_content.specs.Image.{node}
 use Rattle.bz_content.specs.Resolving.{resolve}
 use Rattle.bz_task.specs.Good.{IsGood}
 use Rattle.bz_task.specs.Instant.{Instant, words, durable, page_at, form_at, is_inside}
-use Rattle.bz_task.specs.Outcomes.{IsPath, IsView}
+use Rattle.bz_task.specs.Outcomes.{IsPath, IsView, IsKeyView}
 use Rattle.bz_task.specs.OwnActs.{gained}
 use Rattle.bz_task.specs.Scene.{Past, Scene, Continues, HasFilled}
 use Rattle.bz_task.specs.Shown.{IsShown, SameWords, SameNode, SameRecords, SameSeparators}
 use Rattle.bz_task.specs.Steps.{IsHistory}
 use Rattle.bz_task.specs.Swaps.{swapped, SwapsTo}
 use Rattle.bz_task.specs.declared.path.Path.{Path}
+use Rattle.bz_task.specs.declared.view.KeyView.{KeyView}
 use Rattle.bz_task.specs.declared.view.LeafView.{LeafView}
 
 -- moments of a time, in their order
@@ -171,6 +172,9 @@ PathsStay = (key : List ℕ) (path : Path) (p q : Past) → IsPath key path p �
 
 abbrev pub ViewsStay : Type 0
 ViewsStay = (key : List ℕ) (view : LeafView) (p q : Past) → IsView key view p → Continues p q → IsView key view q
+
+abbrev pub KeyViewsStay : Type 0
+KeyViewsStay = (key : List ℕ) (view : KeyView) (p q : Past) → IsKeyView key view p → Continues p q → IsKeyView key view q
 
 -- where no slot is taken, all that were taken have been stored into
 abbrev pub NothingIsGained : Type 0

@@ -1,18 +1,23 @@
--- What a path and a view are: facts of moments since the call began, which no later step can change.
-use Rattle.std.specs.Prelude.{◌≡◌, ℕ, ◌+◌, ◌^◌, ◌<◌, ◌≤◌, ◌⊎◌, true, List, Some, None, slice_get, slice_index}
+-- What a path, a view of a leaf and a view of a key are: facts of moments since the call began, which no later step can change.
+use Rattle.std.specs.Prelude.{◌≡◌, ℕ, ◌+◌, ◌^◌, ◌<◌, ◌≤◌, ◌⊎◌, true, List, Option, Some, None, slice_get, slice_index}
 use Rattle.bz_layout.specs.Addresses.{node_address}
-use Rattle.bz_layout.specs.declared.sizes.TheConstants.{NODE_WORDS, STATUS_AT, ROOT_AT, ROOT_STATUS_AT}
+use Rattle.bz_layout.specs.declared.sizes.TheConstants.{NODE_WORDS, STATUS_AT, META_AT, ROOT_AT, ROOT_STATUS_AT}
 use Rattle.bz_layout.specs.declared.thresholds.TheConstants.{MAX_LEVELS}
 use Rattle.bz_shape.specs.Order.{is_within}
+use Rattle.bz_slotted.specs.Page.{visible, meta_of, extent_of, page}
+use Rattle.bz_slotted.specs.Readers.{found_of}
 use Rattle.bz_slotted.specs.ReadingLaws.{node_of}
+use Rattle.bz_slotted.specs.Records.{key_in, payload_in}
 use Rattle.bz_slotted.specs.Rules.{node_fault}
 use Rattle.bz_content.specs.Content.{leaf_in}
-use Rattle.bz_task.specs.Instant.{words, page_at, form_at, is_inside}
+use Rattle.bz_task.specs.Instant.{words, durable, page_at, form_at, is_inside}
 use Rattle.bz_task.specs.Requests.{IsPointerPlace}
 use Rattle.bz_task.specs.Scene.{Past}
 use Rattle.bz_task.specs.Shown.{IsShown}
 use Rattle.bz_task.specs.declared.path.Link.{Link}
 use Rattle.bz_task.specs.declared.path.Path.{Path}
+use Rattle.bz_task.specs.declared.view.Found.{Found}
+use Rattle.bz_task.specs.declared.view.KeyView.{KeyView}
 use Rattle.bz_task.specs.declared.view.LeafView.{LeafView}
 
 -- the link and its guard are those of the root
@@ -81,3 +86,29 @@ pub record IsView (key : List ℕ) (view : LeafView) (p : Past) : Type 0 where
   pub words : (i : ℕ) → i < NODE_WORDS → IsShown (words p.config (p.at view.at) view.slot) i → slice_index view.image.0 i ≡ words p.config (p.at view.at) view.slot i
   -- as a leaf by itself the view breaks no rule, so that it can be read
   pub whole : node_fault p.config.nodes (node_of view.image.0) (node_of view.image.0) 0 ((form_at p.config (p.at view.at)).low view.slot) ((form_at p.config (p.at view.at)).high view.slot) ≡ None
+
+-- the key's record among those of a leaf with these words: its metadata word, where that stands, and its payload
+pub record IsRecordOf (key : List ℕ) (n : ℕ → ℕ) (found : Found) : Type 0 where
+  pub counted : found.index < (page n).count
+  pub word : n (META_AT + found.index) ≡ found.meta
+  pub visible : visible (meta_of found.meta) ≡ true
+  pub same : key_in n (extent_of (meta_of found.meta)) ≡ key
+  pub payload : payload_in n (extent_of (meta_of found.meta)) ≡ found.payload
+
+-- what a leaf says that has this record of a key, or none
+abbrev pub payload_of : Option Found → Option (List ℕ)
+payload_of None = None
+payload_of (Some found) = Some found.payload
+
+-- the record of the key in its leaf, or that there is none, in the durable image at a moment directly after a load of the
+-- task's own
+pub record IsKeyView (key : List ℕ) (view : KeyView) (p : Past) : Type 0 where
+  pub since : p.since ≤ view.at
+  pub now : view.at ≤ p.now
+  pub loads : p.loads view.at ≡ true
+  pub leaf : leaf_in p.config (p.at view.at).image key ≡ view.slot
+  pub slot : view.slot < p.config.nodes
+  pub status : words p.config (p.at view.at) view.slot STATUS_AT ≡ view.status
+  pub plain : view.status < 2 ^ 61
+  pub says : found_of (durable p.config (p.at view.at) view.slot) key ≡ payload_of view.found
+  pub shows : (found : Found) → view.found ≡ Some found → IsRecordOf key (durable p.config (p.at view.at) view.slot) found

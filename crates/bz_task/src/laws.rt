@@ -1,6 +1,6 @@
 //! Laws of lawful steps. Each function does nothing: its contract is the law.
 
-ghost use Rattle.bz_task.specs.Laws.{NodesStay, ThawedRootsStay, FrozenNodesStay, SeparatorsStay, FrontsStay, RangesStay, NodesWereInside, RootsAreReached, HeadersSayTheLevel, SameRecordsShowTheSame, SwapsShowInSlots, SeenLeavesAreWhole, LeavesAreInTrees, ChildrenAreInTrees, ThawedLeavesStay, PathsStay, ViewsStay, NothingIsGained};
+ghost use Rattle.bz_task.specs.Laws.{NodesStay, ThawedRootsStay, FrozenNodesStay, SeparatorsStay, FrontsStay, RangesStay, NodesWereInside, RootsAreReached, HeadersSayTheLevel, SameRecordsShowTheSame, SwapsShowInSlots, SeenLeavesAreWhole, LeavesAreInTrees, ChildrenAreInTrees, ThawedLeavesStay, PathsStay, ViewsStay, KeyViewsStay, NothingIsGained};
 ghost use Rattle.bz_task.specs.LeafSwaps.{LeafSwapsAreGood};
 ghost use Rattle.bz_task.specs.Resting.{RestingMemoriesAreGood};
 ghost use Rattle.bz_task.specs.Settled.{SettledMemoriesAreGood};
@@ -139,6 +139,11 @@ pub fn paths_stay()
 /// A view stays what it is.
 pub fn views_stay()
     ensures { ViewsStay }
+{}
+
+/// What was found of a key stays what it is.
+pub fn key_views_stay()
+    ensures { KeyViewsStay }
 {}
 
 /// Where no slot is taken, all that were taken have been stored into.

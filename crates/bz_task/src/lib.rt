@@ -11,4 +11,4 @@ mod view;
 pub use path::{Link, Path};
 pub use task::Task;
 pub use todo::{Outcome, Seen, Todo};
-pub use view::LeafView;
+pub use view::{Found, KeyView, LeafView};

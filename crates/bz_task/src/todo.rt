@@ -1,7 +1,7 @@
 //! What a task asks for, what it is told of it, and how it ends.
 
 use crate::path::Path;
-use crate::view::LeafView;
+use crate::view::{KeyView, LeafView};
 use bz_call::Spent;
 use bz_swap::EntryList;
 
@@ -43,6 +43,8 @@ pub enum Outcome {
     Path(Path),
     /// The key's leaf.
     View(LeafView),
+    /// What the key's leaf says of the key.
+    Key(KeyView),
     /// The swap that was to be made has taken effect.
     Done,
     /// A swap failed, or a validating load found another value: begin again with the lookup.
