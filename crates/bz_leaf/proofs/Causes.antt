@@ -17,7 +17,7 @@ use Rattle.bz_leaf.specs.declared.phase.Phase.TheVariants.{Fresh, Status, Word, 
 use Rattle.bz_leaf.proofs.Viewing.{status-word}
 
 -- the status was another one when it was read first
-other-status : (c : Config) (key : List ℕ) (link : Link) (ws : List ℕ) (v : ℕ) (s : Scene) → s.past.config ≡ c → Reading key link ws NODE_WORDS s.past → v ≢ slice_index ws 0 → Differed s (node_address c link.slot + STATUS_AT) v
+pub other-status : (c : Config) (key : List ℕ) (link : Link) (ws : List ℕ) (v : ℕ) (s : Scene) → s.past.config ≡ c → Reading key link ws NODE_WORDS s.past → v ≢ slice_index ws 0 → Differed s (node_address c link.slot + STATUS_AT) v
 other-status c key link ws v s same r ne = record {
   moment = r.read_at;
   since = omega (arith, r.known.since, r.order);
@@ -26,7 +26,7 @@ other-status c key link ws v s same r ne = record {
 }
 
 -- the link led to the leaf once
-other-link : (key : List ℕ) (link : Link) (ws : List ℕ) (v : ℕ) (s : Scene) → Reading key link ws NODE_WORDS s.past → v ≢ link.slot + 1 → Differed s link.link v
+pub other-link : (key : List ℕ) (link : Link) (ws : List ℕ) (v : ℕ) (s : Scene) → Reading key link ws NODE_WORDS s.past → v ≢ link.slot + 1 → Differed s link.link v
 other-link key link ws v s r ne = record { moment = r.known.moment; since = r.known.since; now = r.known.now; other = λ e. ne (sym e ∙ r.known.led) }
 
 pub cause : (c : Config) (key : List ℕ) (link : Link) (image : NodeImage) (ws : List ℕ) (phase : Phase) (s : Scene) (seen : Seen) → s.past.config ≡ c → leaf_facts key link ws phase Waiting s → leaf_differs link ws phase seen → IsCause (leaf_asks c link image phase) seen s

@@ -84,7 +84,7 @@ goes-on key link ws place p (Guard at) short r a = absurd (a)
 goes-on key link ws place p (Viewed at) short r a = absurd (a)
 goes-on key link ws place p Changed short r a = absurd (a)
 
-word-at : (c : Config) (x : Instant) (k i : ℕ) → i < NODE_WORDS → x.value (node_address c k + i) ≡ words c x k i
+pub word-at : (c : Config) (x : Instant) (k i : ℕ) → i < NODE_WORDS → x.value (node_address c k + i) ≡ words c x k i
 unfolding node
 word-at c x k i l = let t : nat_lt i NODE_WORDS ≡ true = grind (arith, nat_tests) in rw t refl
 

@@ -1,5 +1,5 @@
-mod Known
-mod Staying
-mod Viewing
-mod Learning
-mod Causes
+pub mod Known
+pub mod Staying
+pub mod Viewing
+pub mod Learning
+pub mod Causes

@@ -16,10 +16,10 @@ use Rattle.bz_leaf.specs.declared.phase.Phase.TheVariants.{Fresh, Status, Word, 
 
 module _ (p q : Past) (n : Continues p q) where
   -- what held of the sizes and the memory at a past moment
-  moved : (P : Config → Instant → Type 0) (m : ℕ) → m ≤ p.now → P p.config (p.at m) → P q.config (q.at m)
+  pub moved : (P : Config → Instant → Type 0) (m : ℕ) → m ≤ p.now → P p.config (p.at m) → P q.config (q.at m)
   moved P m h f = subst (λ c. P c (q.at m)) (sym n.config) (subst (λ x. P p.config x) (sym (n.at m h)) f)
 
-  under : (link : Link) (m : ℕ) → m ≤ p.now → IsUnderNode p link m → IsUnderNode q link m
+  pub under : (link : Link) (m : ℕ) → m ≤ p.now → IsUnderNode p link m → IsUnderNode q link m
   under link m h u = record {
     parent = u.parent;
     place = u.place;
@@ -30,7 +30,7 @@ module _ (p q : Past) (n : Continues p q) where
     guard = rw n.config u.guard;
   }
 
-  abbrev known : (key : List ℕ) (link : Link) → IsKnownLeaf key link p → IsKnownLeaf key link q
+  abbrev pub known : (key : List ℕ) (link : Link) → IsKnownLeaf key link p → IsKnownLeaf key link q
   known key link k = record {
     moment = k.moment;
     since = omega (arith, k.since, n.since);
@@ -46,10 +46,10 @@ module _ (p q : Past) (n : Continues p q) where
     under = elim k.under [ inl r ↦ inl r | inr u ↦ inr (under link k.hung k.hung_now u) ];
   }
 
-  word : (k i v g : ℕ) → WasWord k i v g p → WasWord k i v g q
+  pub word : (k i v g : ℕ) → WasWord k i v g p → WasWord k i v g q
   word k i v g w = record { moment = w.moment; order = w.order; now = omega (arith, w.now, n.now); word = moved (λ c x. words c x k i ≡ v) w.moment w.now w.word }
 
-  abbrev reading : (key : List ℕ) (link : Link) (ws : List ℕ) (place : ℕ) → Reading key link ws place p → Reading key link ws place q
+  abbrev pub reading : (key : List ℕ) (link : Link) (ws : List ℕ) (place : ℕ) → Reading key link ws place p → Reading key link ws place q
   reading key link ws place r = record {
     known = known key link r.known;
     read_at = r.read_at;
@@ -65,10 +65,10 @@ module _ (p q : Past) (n : Continues p q) where
   on : (key : List ℕ) (link : Link) (ws : List ℕ) (place : ℕ) → ReadsOn key link ws place p → ReadsOn key link ws place q
   on key link ws place r = record { so_far = reading key link ws place r.so_far; some = r.some; within = r.within; used = r.used }
 
-  abbrev has-read : (key : List ℕ) (link : Link) (ws : List ℕ) (frozen : Bool) → HasRead key link ws frozen p → HasRead key link ws frozen q
+  abbrev pub has-read : (key : List ℕ) (link : Link) (ws : List ℕ) (frozen : Bool) → HasRead key link ws frozen p → HasRead key link ws frozen q
   has-read key link ws frozen r = record { all = reading key link ws NODE_WORDS r.all; is = r.is }
 
-  has-link : (key : List ℕ) (link : Link) (ws : List ℕ) (at : ℕ) → HasLink key link ws at p → HasLink key link ws at q
+  abbrev pub has-link : (key : List ℕ) (link : Link) (ws : List ℕ) (at : ℕ) → HasLink key link ws at p → HasLink key link ws at q
   has-link key link ws at h = record {
     leaf = has-read key link ws true h.leaf;
     order = h.order;

@@ -82,7 +82,7 @@ Stayed s k from = (m : ℕ) → from ≤ m → m ≤ s.past.now → SameNode s.p
 
 module _ (b : Laws) (s : Scene) (good : IsScene s) (key : List ℕ) (link : Link) (ws : List ℕ) (r : Reading key link ws NODE_WORDS s.past) (a : ℕ) (from : r.read_at ≤ a) (to : a ≤ s.past.now)
     (stayed : Stayed s link.slot r.read_at) (leaf : IsLeafInTree s.past.config (s.past.at a) link.slot) where
-  since-a : s.past.since ≤ a
+  pub since-a : s.past.since ≤ a
   since-a = omega (arith, r.known.since, r.order, from)
 
   g : IsGood s.past.config (s.past.at a)
@@ -94,7 +94,7 @@ module _ (b : Laws) (s : Scene) (good : IsScene s) (key : List ℕ) (link : Link
   same-a : SameNode s.past.config (s.past.at r.read_at) (s.past.at a) link.slot
   same-a = stayed a from to
 
-  status-a : words s.past.config (s.past.at a) link.slot STATUS_AT ≡ slice_index ws 0
+  pub status-a : words s.past.config (s.past.at a) link.slot STATUS_AT ≡ slice_index ws 0
   status-a = same-a STATUS_AT (inl (omega arith)) ∙ r.was
 
   durable-same : SameWords (words s.past.config (s.past.at a) link.slot) (durable s.past.config (s.past.at a) link.slot)
@@ -132,13 +132,13 @@ module _ (b : Laws) (s : Scene) (good : IsScene s) (key : List ℕ) (link : Link
       go some true e = word-used i some l e h
       go some false e = word-free i some e h
 
-  word-durable : SameWords (durable s.past.config (s.past.at a) link.slot) (node_of ws)
+  pub word-durable : SameWords (durable s.past.config (s.past.at a) link.slot) (node_of ws)
   word-durable i h =
       let l : i < NODE_WORDS = shown-within _ _ _ _ w i h in
       let h' : IsShown (words s.past.config (s.past.at a) link.slot) i = (b.shown _ _ (same-records _ _ durable-same) i).1 h in
       word-a i l h' ∙ sym (durable-same i h')
 
-  whole-view : node_fault s.past.config.nodes (node_of ws) (node_of ws) 0 ((form_at s.past.config (s.past.at a)).low link.slot) ((form_at s.past.config (s.past.at a)).high link.slot) ≡ None
+  pub whole-view : node_fault s.past.config.nodes (node_of ws) (node_of ws) 0 ((form_at s.past.config (s.past.at a)).low link.slot) ((form_at s.past.config (s.past.at a)).high link.slot) ≡ None
   whole-view = (b.seen s.past.config.nodes (node s.past.config (s.past.at a).image link.slot) (durable s.past.config (s.past.at a) link.slot) (node_of ws) _ _ leaf.whole word-durable).whole
 
   below : link.slot ≢ s.past.config.nodes
@@ -150,7 +150,7 @@ module _ (b : Laws) (s : Scene) (good : IsScene s) (key : List ℕ) (link : Link
   in-range : is_within key ((form_at s.past.config (s.past.at a)).low link.slot) ((form_at s.past.config (s.past.at a)).high link.slot) ≡ true
   in-range = rw (place.low, place.high) r.known.range
 
-  leaf-of : leaf_in s.past.config (s.past.at a).image key ≡ link.slot
+  pub leaf-of : leaf_in s.past.config (s.past.at a).image key ≡ link.slot
   leaf-of =
       let formed : IsWellFormed s.past.config (s.past.at a).image = (b.formed s.past.config (s.past.at a).image).0 g.form in
       let low = (form_at s.past.config (s.past.at a)).low link.slot in
@@ -185,49 +185,57 @@ module _ (b : Laws) (s : Scene) (good : IsScene s) (key : List ℕ) (link : Link
     since-read : s.past.since ≤ r.read_at
     since-read = omega (arith, r.known.since, r.order)
 
-    reached-at : (m : ℕ) → r.known.moment ≤ m → m ≤ s.past.now → (s.past.at m).reached link.slot ≡ true
+    pub reached-at : (m : ℕ) → r.known.moment ≤ m → m ≤ s.past.now → (s.past.at m).reached link.slot ≡ true
     reached-at m from to =
         let gm : IsGood s.past.config (s.past.at r.known.moment) = good.history.good r.known.moment r.known.since (omega (arith, from, to)) in
         let was : (s.past.at r.known.moment).reached link.slot ≡ true = gm.inside link.slot r.known.inside (λ e. omega (arith, e, r.known.slot)) in
         (b.fronts s.past.config s.past.at s.past.since s.past.now r.known.moment m link.slot good.history (record { since = r.known.since; order = from; until = to }) was).reached
 
     -- a slot that is in the tree is the leaf that it was
-    leaf-at : (m : ℕ) → r.known.moment ≤ m → m ≤ s.past.now → is_inside s.past.config (s.past.at m) link.slot ≡ true → IsLeafInTree s.past.config (s.past.at m) link.slot
+    pub leaf-at : (m : ℕ) → r.known.moment ≤ m → m ≤ s.past.now → is_inside s.past.config (s.past.at m) link.slot ≡ true → IsLeafInTree s.past.config (s.past.at m) link.slot
     leaf-at m from to i =
         let p : SamePlace s.past.config (s.past.at r.known.moment) (s.past.at m) link.slot =
         b.ranges s.past.config s.past.at s.past.since s.past.now r.known.moment m link.slot good.history (record { since = r.known.since; order = from; until = to }) (λ e. omega (arith, e, r.known.slot)) r.known.inside i in
         b.leaves s.past.config (s.past.at m) link.slot (good.history.good m (omega (arith, r.known.since, from)) to) r.known.slot i (p.level ∙ r.known.leaf)
 
   -- not frozen: the status is the same now
-  pub thawed-view : HasRead key link ws false s.past → Answers s (node_address s.past.config link.slot + STATUS_AT) (slice_index ws 0) → (view : LeafView) → IsMade view link.slot s.past.now ws → IsView key view s.past
-  thawed-view h a view m = is-view b s good key link ws h.all s.past.now h.all.until (omega arith) stayed (leaf-at h.all s.past.now (omega (arith, h.all.order, h.all.until)) (omega arith) inside) view m a.loads
-    where
-      now-status : words s.past.config (here s) link.slot STATUS_AT ≡ slice_index ws 0
-      now-status = sym (status-word s.past.config (here s) link.slot) ∙ a.value
+  module _ (h : HasRead key link ws false s.past) (a : Answers s (node_address s.past.config link.slot + STATUS_AT) (slice_index ws 0)) where
+    now-status : words s.past.config (here s) link.slot STATUS_AT ≡ slice_index ws 0
+    now-status = sym (status-word s.past.config (here s) link.slot) ∙ a.value
 
-      reached-then : (s.past.at h.all.read_at).reached link.slot ≡ true
-      reached-then = reached-at h.all h.all.read_at h.all.order h.all.until
+    reached-then : (s.past.at h.all.read_at).reached link.slot ≡ true
+    reached-then = reached-at h.all h.all.read_at h.all.order h.all.until
 
-      stayed : Stayed s link.slot h.all.read_at
-      stayed i from to =
-          b.nodes s.past.config s.past.at s.past.since s.past.now h.all.read_at i s.past.now link.slot good.history (record { since = since-read h.all; order = h.all.until; until = omega arith }) from to reached-then (now-status ∙ sym h.all.was)
+    pub thawed-stays : Stayed s link.slot h.all.read_at
+    thawed-stays i from to =
+        b.nodes s.past.config s.past.at s.past.since s.past.now h.all.read_at i s.past.now link.slot good.history (record { since = since-read h.all; order = h.all.until; until = omega arith }) from to reached-then (now-status ∙ sym h.all.was)
 
-      gn : IsGood s.past.config (here s)
-      gn = good.history.good s.past.now good.begun (omega arith)
+    gn : IsGood s.past.config (here s)
+    gn = good.history.good s.past.now good.begun (omega arith)
 
-      inside : is_inside s.past.config (here s) link.slot ≡ true
-      inside = elim (gn.placed link.slot (reached-at h.all s.past.now (omega (arith, h.all.order, h.all.until)) (omega arith))) [
-        | inl i ↦ i
-        | inr f ↦ absurd (true≢false (sym f ∙ (ap (λ z. (status z).frozen) now-status ∙ h.is)))
-      ]
+    inside : is_inside s.past.config (here s) link.slot ≡ true
+    inside = elim (gn.placed link.slot (reached-at h.all s.past.now (omega (arith, h.all.order, h.all.until)) (omega arith))) [
+      | inl i ↦ i
+      | inr f ↦ absurd (true≢false (sym f ∙ (ap (λ z. (status z).frozen) now-status ∙ h.is)))
+    ]
+
+    pub thawed-leaf : IsLeafInTree s.past.config (here s) link.slot
+    thawed-leaf = leaf-at h.all s.past.now (omega (arith, h.all.order, h.all.until)) (omega arith) inside
+
+    pub thawed-view : (view : LeafView) → IsMade view link.slot s.past.now ws → IsView key view s.past
+    thawed-view view m = is-view b s good key link ws h.all s.past.now h.all.until (omega arith) thawed-stays thawed-leaf view m a.loads
 
   -- frozen: the link led to it, and its guard is not frozen now
-  pub frozen-view : (at : ℕ) (h : HasLink key link ws at s.past) → is_inside s.past.config (s.past.at at) link.slot ≡ true → (view : LeafView) → IsMade view link.slot at ws → IsView key view s.past
-  frozen-view at h i view m = is-view b s good key link ws h.leaf.all at h.order h.until stayed (leaf-at h.leaf.all at (omega (arith, h.leaf.all.order, h.order)) h.until i) view m h.loads
-    where
-      reached-then : (s.past.at h.leaf.all.read_at).reached link.slot ≡ true
-      reached-then = reached-at h.leaf.all h.leaf.all.read_at h.leaf.all.order h.leaf.all.until
+  module _ (at : ℕ) (h : HasLink key link ws at s.past) where
+    frozen-reached : (s.past.at h.leaf.all.read_at).reached link.slot ≡ true
+    frozen-reached = reached-at h.leaf.all h.leaf.all.read_at h.leaf.all.order h.leaf.all.until
 
-      stayed : Stayed s link.slot h.leaf.all.read_at
-      stayed i from to =
-          b.frozen s.past.config s.past.at s.past.since s.past.now h.leaf.all.read_at i link.slot good.history (record { since = since-read h.leaf.all; order = from; until = to }) reached-then (ap (λ z. (status z).frozen) h.leaf.all.was ∙ h.leaf.is)
+    pub frozen-stays : Stayed s link.slot h.leaf.all.read_at
+    frozen-stays i from to =
+        b.frozen s.past.config s.past.at s.past.since s.past.now h.leaf.all.read_at i link.slot good.history (record { since = since-read h.leaf.all; order = from; until = to }) frozen-reached (ap (λ z. (status z).frozen) h.leaf.all.was ∙ h.leaf.is)
+
+    pub frozen-leaf : is_inside s.past.config (s.past.at at) link.slot ≡ true → IsLeafInTree s.past.config (s.past.at at) link.slot
+    frozen-leaf i = leaf-at h.leaf.all at (omega (arith, h.leaf.all.order, h.order)) h.until i
+
+    pub frozen-view : is_inside s.past.config (s.past.at at) link.slot ≡ true → (view : LeafView) → IsMade view link.slot at ws → IsView key view s.past
+    frozen-view i view m = is-view b s good key link ws h.leaf.all at h.order h.until frozen-stays (frozen-leaf i) view m h.loads
