@@ -1,0 +1,37 @@
+use Rattle.std.proofs.Common.{◌≡◌, subst, sym, ◌∙◌, inr}
+use Rattle.std.specs.Prelude.{Some}
+use Rattle.bz_task.specs.Outcomes.{IsPath}
+use Rattle.bz_task.specs.OwnActs.{gained}
+use Rattle.bz_task.specs.Scene.{Waiting}
+use Rattle.bz_task.specs.declared.todo.Outcome.TheVariants.{Restart}
+use Rattle.bz_find.specs.Duties.{end_of, facts_of}
+use Rattle.bz_find.specs.Phases.{told, counted}
+use Rattle.bz_find.proofs.Keeping.{keeps-at}
+use Rattle.bz_find.proofs.Restarts.{restarts-at, end-counted}
+use Rattle.bz_find.proofs.Stepping.{steps}
+use Rattle.bz_find.proofs.Telling.{tells, no-slot}
+use Rattle.bz_find.proofs.find.FindTask.next.Goals as goal
+
+pub returns-clause-nearer : goal.returns-clause-nearer
+returns-clause-nearer c =
+    let t = c.args.self.now in
+    rw c.answered.ensures.new (steps t c.args.seen c.args.moment c.heard.ensures.bounded c.requires.hears c.heard.ensures.plain).1
+
+pub returns-clause-restart : goal.returns-clause-restart
+returns-clause-restart c e =
+    let t = c.args.self.now in
+    let u = told t t.phase c.args.seen c.args.moment in
+    let new : c.answered.new.self ≡ counted u = c.answered.ensures.new in
+    inr (restarts-at t t.phase c.args.seen c.args.moment c.requires.hears (sym (end-counted u u.phase) ∙ subst (λ z. end_of z ≡ Some Restart) new e))
+
+pub returns-clause-learns : goal.returns-clause-learns
+returns-clause-learns c stage s now same good free facts told-so =
+    let t = c.args.self.now in
+    let u = told t t.phase c.args.seen c.args.moment in
+    let k = keeps-at t t.phase c.args.seen c.args.moment c.requires.hears in
+    let new : c.answered.new.self ≡ counted u = c.answered.ensures.new in
+    let path : IsPath u.key u.path s.past = rw (k.key, k.path) facts.1 in
+    let learnt = tells c.on_leaves.ensures t s same good stage c.args.seen c.args.moment now facts.2 facts.0 told-so in
+    let all : facts_of (counted u) Waiting (gained s c.args.slots.now c.args.slots.now) =
+    (no-slot c.nothing_is_gained.ensures (counted u) u.phase s c.args.slots.now learnt, path, (steps t c.args.seen c.args.moment c.heard.ensures.bounded c.requires.hears c.heard.ensures.plain).0) in
+    subst (λ z. facts_of z Waiting (gained s c.args.slots.now c.args.slots.now)) (sym new) all

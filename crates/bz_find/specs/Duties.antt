@@ -1,0 +1,53 @@
+-- A look-up of a key as a task.
+use Rattle.std.specs.Prelude.{ℕ, ◌+◌, List, Option}
+use Rattle.bz_layout.specs.declared.config.Config.{Config}
+use Rattle.bz_layout.specs.declared.thresholds.TheConstants.{FIND_READS_BESIDES}
+use Rattle.bz_task.specs.Outcomes.{IsPath}
+use Rattle.bz_task.specs.Scene.{Scene, Stage}
+use Rattle.bz_task.specs.declared.todo.Outcome.{Outcome}
+use Rattle.bz_task.specs.declared.todo.Seen.{Seen}
+use Rattle.bz_task.specs.declared.todo.Todo.{Todo}
+use Rattle.bz_task.specs.declared.todo.Todo.TheVariants.{Read}
+use Rattle.bz_find.specs.Costs.{compare_reads}
+use Rattle.bz_find.specs.Facts.{left_at, IsBounded, find_facts, find_means, find_differs}
+use Rattle.bz_find.specs.Phases.{find_asks, find_end}
+use Rattle.bz_find.specs.declared.find.Find.{Find}
+
+abbrev pub config_of : Find → Config
+config_of t = t.config
+
+-- the key that is looked up
+abbrev pub key_of : Find → List ℕ
+key_of t = t.key
+
+-- how many reads it has asked for
+abbrev pub asked_of : Find → ℕ
+asked_of t = t.asked
+
+-- the most reads of one that has ended: of each record after the sorted ones, of a sorted one for each binary digit of their
+-- number, and of each sorted one that was met and is not visible its metadata word, by the counts that it read, and besides
+abbrev pub ended_reads : Find → ℕ
+ended_reads t = compare_reads t.search + FIND_READS_BESIDES
+
+-- an answer that asks for a read
+abbrev pub asked_by : Todo → ℕ
+asked_by (Read a) = 1
+asked_by todo = 0
+
+abbrev pub asks_of : Find → Option Todo
+asks_of t = find_asks t t.phase
+
+abbrev pub end_of : Find → Option Outcome
+end_of t = find_end t t.phase
+
+abbrev pub left_of : Find → ℕ
+left_of t = left_at t.search t.phase
+
+abbrev pub facts_of : Find → Stage → Scene → Type 0
+facts_of t stage s = find_facts t t.phase stage s × IsPath t.key t.path s.past × IsBounded t
+
+abbrev pub means_of : Find → Outcome → Scene → Type 0
+means_of t = find_means t.key t.path
+
+abbrev pub differs_of : Find → Seen → Type 0
+differs_of t = find_differs t t.phase

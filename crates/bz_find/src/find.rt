@@ -1,0 +1,289 @@
+//! The task that looks a key up in a leaf.
+
+ghost use Rattle.std.specs.Prelude.{◌≡◌, ◌≢◌, ◌+◌, ◌-◌, ◌<◌, ◌≤◌, ◌^◌, ℕ, Some, None, false, slice_get};
+ghost use Rattle.bz_layout.specs.Config.{IsConfig};
+ghost use Rattle.bz_task.specs.Instant.{durable};
+ghost use Rattle.bz_task.specs.Outcomes.{IsPath, IsKeyView};
+ghost use Rattle.bz_task.specs.Requests.{Hears, Tells, IsKnown};
+ghost use Rattle.bz_task.specs.Scene.{Scene, Stage, Waiting, IsScene, HasFilled};
+ghost use Rattle.bz_find.specs.Duties.{config_of, key_of, asked_of, asked_by, ended_reads, asks_of, end_of, left_of, facts_of, means_of, differs_of};
+ghost use Rattle.bz_find.specs.Facts.{find_acts, find_change, find_reads, IsBounded};
+ghost use Rattle.bz_find.specs.Grounds.{Grounds};
+ghost use Rattle.bz_find.specs.Phases.{find_asks, gone_on, told, counted, view_of, IsPlain};
+
+use crate::front::{count_of, is_frozen, sorted_of};
+use crate::phase::Phase;
+use crate::search::{Search, Step};
+use bz_key::Key;
+use bz_layout::{Config, HEADER_AT, STATUS_AT, Slots};
+use bz_task::{KeyView, Link, Outcome, Path, Seen, Task, Todo, laws};
+
+/// A key looked up in the leaf of a path, validated: where the leaf is not frozen by a second look at its status, where it is by a
+/// second look at the link to it and then at the link's guard. It ends with Key, or with Restart where a validating load found
+/// another value.
+#[derive(Drop)]
+pub struct Find {
+    config: Config,
+    key: Key,
+    // the way to the leaf, and its last link
+    path: Path,
+    link: Link,
+    phase: Phase,
+    // the leaf's status, once it was read
+    status: u64,
+    search: Search,
+    // how many reads were asked for
+    asked: u32,
+}
+
+impl Find {
+    /// A look-up of a key in the last leaf of a path.
+    pub fn new(config: &Config, path: Path, key: Key) -> Find
+        requires some { 1 ≤ path.depth }
+        requires few { path.depth ≤ 12 }
+        ensures config { ⟦<Find as Task>⟧.config result ≡ config.now }
+        ensures asks { ⟦<Find as Task>⟧.asks result ≡ None }
+        ensures left { ⟦<Find as Task>⟧.left result ≡ find_acts }
+        ensures needs { ⟦<Find as Task>⟧.needs result ≡ 0 }
+        ensures asked { asked_of result ≡ 0 }
+        ensures facts { (s : Scene) → IsScene s → IsPath key path s.past → ⟦<Find as Task>⟧.facts result Waiting s }
+        ensures view { (view : KeyView) (s : Scene) → ⟦<Find as Task>⟧.means result (Outcome.Key view) s → IsKeyView key view s.past }
+        ensures leads { (view : KeyView) (s : Scene) → ⟦<Find as Task>⟧.means result (Outcome.Key view) s → IsPath key path s.past }
+        ensures none { (path : Path) (s : Scene) → ⟦<Find as Task>⟧.means result (Outcome.Path path) s → ⊥ }
+    {
+        laws::fronts_stay();
+        laws::headers_say_the_level();
+        Find {
+            config: *config,
+            key,
+            link: last_link(&path),
+            path,
+            phase: Phase::Fresh,
+            status: 0,
+            search: Search::new(key, 0, 0),
+            asked: 0,
+        }
+    }
+
+    /// How many times `next` has answered that it reads.
+    pub fn asked(&self) -> u32
+        ensures asked { result ≡ asked_of self.now }
+        // where it has ended: with a view of the key, by the leaf as it was then; and so also without one, by what it has read
+        ensures found { (view : KeyView) (s : Scene) → ⟦<Find as Task>⟧.facts self.now Waiting s → ⟦<Find as Task>⟧.end self.now ≡ Some (Outcome.Key view) → result ≤ find_reads (durable s.past.config (s.past.at view.at) view.slot) (key_of self.now) }
+        ensures ended { (s : Scene) → ⟦<Find as Task>⟧.facts self.now Waiting s → ⟦<Find as Task>⟧.asks self.now ≡ Some Todo.Finish → result ≤ ended_reads self.now }
+    {
+        self.asked
+    }
+
+    // What it may rely on when it is told an answer. Does nothing.
+    fn heard(&self, seen: Seen, moment: u32)
+        requires hears { Hears (asks_of self.now) seen }
+        requires known { IsKnown self.now.config (facts_of self.now) (asks_of self.now) seen moment }
+        ensures config { IsConfig self.now.config }
+        ensures slot { self.now.link.slot < self.now.config.nodes }
+        ensures bounded { IsBounded self.now }
+        ensures plain { IsPlain seen }
+    {}
+
+    // Takes what came of the last act, and says the next one: each read is counted.
+    fn answered(&mut self, seen: Seen, moment: u32) -> Todo
+        requires hears { Hears (asks_of self.old) seen }
+        requires config { IsConfig self.old.config }
+        requires slot { self.old.link.slot < self.old.config.nodes }
+        requires bounded { IsBounded self.old }
+        requires plain { IsPlain seen }
+        ensures new { self.new ≡ counted (told self.old self.old.phase seen moment) }
+        ensures asked { asks_of self.new ≡ Some result }
+        ensures counts { asked_of self.new ≡ asked_of self.old + asked_by result }
+    {
+        self.hear(seen, moment);
+        self.count();
+        self.todo()
+    }
+
+    // Takes what came of the last act.
+    fn hear(&mut self, seen: Seen, moment: u32)
+        requires bounded { IsBounded self.old }
+        requires plain { IsPlain seen }
+        ensures { self.new ≡ told self.old self.old.phase seen moment }
+    {
+        match (self.phase, seen) {
+            (Phase::Status, Seen::Read(word)) => {
+                self.status = word;
+                self.phase = Phase::Header;
+            }
+            (Phase::Header, Seen::Read(word)) => {
+                let count = count_of(self.status);
+                self.search = Search::new(self.key, count, sorted_of(word, count));
+                self.go_on();
+            }
+            (Phase::Searching, Seen::Read(word)) => {
+                self.search.hear(word);
+                self.go_on();
+            }
+            (Phase::Again, Seen::Read(word)) => {
+                self.phase = if word == self.status {
+                    Phase::Viewed(moment)
+                } else {
+                    Phase::Changed
+                };
+            }
+            (Phase::Link, Seen::Read(word)) => {
+                self.phase = if word == self.link.slot as u64 + 1 {
+                    Phase::Guard(moment)
+                } else {
+                    Phase::Changed
+                };
+            }
+            (Phase::Guard(at), Seen::Read(word)) => {
+                self.phase = if is_frozen(word) {
+                    Phase::Changed
+                } else {
+                    Phase::Viewed(at)
+                };
+            }
+            _ => self.phase = Phase::Status,
+        }
+    }
+
+    // The search goes on, or has ended, and what it found is to be validated.
+    fn go_on(&mut self)
+        requires { self.old.status < 2 ^ 61 }
+        ensures { self.new ≡ gone_on self.old }
+    {
+        self.phase = match self.search.step {
+            Step::Done => {
+                if is_frozen(self.status) {
+                    Phase::Link
+                } else {
+                    Phase::Again
+                }
+            }
+            _ => Phase::Searching,
+        };
+    }
+
+    // Counts the read that is asked for next.
+    fn count(&mut self)
+        requires { self.old.asked < find_acts }
+        ensures { self.new ≡ counted self.old }
+    {
+        match self.phase {
+            Phase::Viewed(_) | Phase::Changed => {}
+            _ => self.asked += 1,
+        }
+    }
+
+    // What a phase asks for.
+    fn todo(&self) -> Todo
+        requires config { IsConfig self.now.config }
+        requires slot { self.now.link.slot < self.now.config.nodes }
+        requires bounded { IsBounded self.now }
+        requires begun { self.now.phase ≢ Phase.Fresh }
+        ensures { find_asks self.now self.now.phase ≡ Some result }
+    {
+        match self.phase {
+            Phase::Fresh | Phase::Status | Phase::Again => Todo::Read(
+                self.config.node_at(self.link.slot as u32) + STATUS_AT,
+            ),
+            Phase::Header => Todo::Read(self.config.node_at(self.link.slot as u32) + HEADER_AT),
+            Phase::Searching => Todo::Read(
+                self.config.node_at(self.link.slot as u32) + self.search.place(),
+            ),
+            Phase::Link => Todo::Read(self.link.link),
+            Phase::Guard(_) => Todo::Read(self.link.guard),
+            Phase::Viewed(_) | Phase::Changed => Todo::Finish,
+        }
+    }
+
+    // What was found, at this moment.
+    fn view(&self, at: u32) -> KeyView
+        ensures { result ≡ view_of self.now at }
+    {
+        KeyView {
+            slot: self.link.slot,
+            status: self.status,
+            found: self.search.found,
+            at,
+        }
+    }
+}
+
+// The laws of leaves and of links to them that a look-up stands on. Does nothing.
+fn on_leaves()
+    ensures { Grounds }
+{
+    laws::nodes_stay();
+    laws::frozen_nodes_stay();
+    laws::fronts_stay();
+    laws::ranges_stay();
+    laws::separators_stay();
+    laws::roots_are_reached();
+    laws::leaves_are_in_trees();
+    laws::children_are_in_trees();
+    laws::seen_leaves_are_whole();
+    laws::same_records_show_the_same();
+    bz_slotted::laws::leaf_rules_are_facts();
+    bz_content::laws::well_formed_images_have_no_fault();
+    bz_shape::laws::leaves_tile_the_keys();
+}
+
+// The last link of a path.
+fn last_link(path: &Path) -> Link
+    requires some { 1 ≤ path.now.depth }
+    requires few { path.now.depth ≤ 12 }
+    ensures { slice_get path.now.links (path.now.depth - 1) ≡ Some result }
+{
+    path.links[path.depth as usize - 1]
+}
+
+impl Task for Find {
+    ghost config = { config_of };
+
+    ghost asks = { asks_of };
+
+    ghost end = { end_of };
+
+    ghost left = { left_of };
+
+    ghost needs = { λ t. 0 };
+
+    ghost change = { λ t. find_change };
+
+    ghost publishing = { λ t. false };
+
+    ghost facts = { facts_of };
+
+    ghost means = { means_of };
+
+    ghost differs = { differs_of };
+
+    fn publishes(&self) -> bool {
+        false
+    }
+
+    fn ended(&self) -> Option<Outcome> {
+        match self.phase {
+            Phase::Viewed(at) => Some(Outcome::Key(self.view(at))),
+            Phase::Changed => Some(Outcome::Restart),
+            _ => None,
+        }
+    }
+
+    fn next(&mut self, seen: Seen, slots: &mut Slots, moment: u32) -> Todo {
+        let _slots = slots;
+        on_leaves();
+        laws::nothing_is_gained();
+        self.heard(seen, moment);
+        self.answered(seen, moment)
+    }
+
+    fn learnt(&self) {
+        laws::key_views_stay();
+        laws::paths_stay();
+        bz_layout::addresses_fit();
+        bz_layout::descriptors_stand_apart();
+    }
+
+    fn acted(&self) {}
+}
