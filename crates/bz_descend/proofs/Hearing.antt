@@ -26,14 +26,14 @@ use Rattle.bz_descend.proofs.Leading.{word-of, front-later, inner-later, led}
 use Rattle.bz_descend.proofs.Reading.{header-was, meta-read}
 
 -- a record of an inner node lies in it
-record-in : (n : ℕ → ℕ) (j : ℕ) → IsInner n → j < (page n).count → IsInNode (extent_of ((page n).meta j))
+pub record-in : (n : ℕ → ℕ) (j : ℕ) → IsInner n → j < (page n).count → IsInNode (extent_of ((page n).meta j))
 record-in n j w c = record {
   key = (w.lengths j c).short;
   ends = omega (arith, (w.inside j c).ends, (w.lengths j c).pointer);
 }
 
 module _ (key : List ℕ) (path : Path) (p : Past) where
-  is-at : (k : ℕ) → ArrivesAtInner key path k p → IsAt p.config path.depth k
+  pub is-at : (k : ℕ) → ArrivesAtInner key path k p → IsAt p.config path.depth k
   is-at k a = record { slot = a.node.has.slot; some = a.node.way.some; fits = omega (arith, a.node.low, a.inner) }
 
   is-probe : (r : Probe) → Looks key path r p → IsProbe p.config path.depth r
@@ -83,14 +83,14 @@ heard-at c depth phase other seen told e g h = subst (λ z. descend_heard c dept
 
 module _ (b : Laws) (roots : RootsAreReached) (separators : SeparatorsStay) (key : List ℕ) (path : Path) (ws : List ℕ) (s : Scene) (good : IsScene s) where
   -- the header is a plain one, and says of the levels what the path allows
-  header-heard : (k v : ℕ) (a : Arrives key path k s.past) → Answers s (node_address s.past.config k + HEADER_AT) v → (v < 2 ^ 32) × ((header v).level + path.depth ≤ MAX_LEVELS)
+  pub header-heard : (k v : ℕ) (a : Arrives key path k s.past) → Answers s (node_address s.past.config k + HEADER_AT) v → (v < 2 ^ 32) × ((header v).level + path.depth ≤ MAX_LEVELS)
   header-heard k v a t =
       let h = b.headers s.past.config (s.past.at a.met) k (good.history.good a.met a.since a.until) (λ e. omega (arith, e, a.has.slot)) a.has.inside in
       let w : words s.past.config (s.past.at a.met) k HEADER_AT ≡ v =
       sym ((front-later b key path s good k s.past.now a a.until (omega arith)).front HEADER_AT (λ e. omega (arith, e)) (omega arith)) ∙ (sym (word-of s.past.config (here s) k HEADER_AT (omega arith)) ∙ t.value) in
       (subst (λ z. z < 2 ^ 32) w h.header, omega (arith, a.low, header-was b key path s good k v a t))
 
-  status-heard : (k v : ℕ) (a : ArrivesAtInner key path k s.past) → Answers s (node_address s.past.config k + STATUS_AT) v → (v < 2 ^ 61) × (0 < (status v).count) × ((status v).count ≤ most_records)
+  pub status-heard : (k v : ℕ) (a : ArrivesAtInner key path k s.past) → Answers s (node_address s.past.config k + STATUS_AT) v → (v < 2 ^ 61) × (0 < (status v).count) × ((status v).count ≤ most_records)
   status-heard k v a t =
       let w : IsInner (words s.past.config (here s) k) = inner-later b key path s good k s.past.now a a.node.until (omega arith) in
       let n : (page_at s.past.config (here s) k).count ≡ (status v).count = ap (λ z. (status z).count) (sym (word-of s.past.config (here s) k STATUS_AT (omega arith)) ∙ t.value) in

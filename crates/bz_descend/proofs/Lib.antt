@@ -9,3 +9,9 @@ mod Reading
 mod Separators
 mod Staying
 mod Unpacking
+mod Separating
+mod Narrowing
+mod Moving
+mod SeekStaying
+mod SeekHearing
+mod Seeking

@@ -135,7 +135,7 @@ chosen-before key path r p l later t =
       place = f.place;
     }
 
-words-are : (n : ℕ → ℕ) (from count : ℕ) (ws : List ℕ) → count ≤ length ws → ((i : ℕ) → i < count → slice_index ws i ≡ n (from + i)) → take count ws ≡ words_at n from count
+pub words-are : (n : ℕ → ℕ) (from count : ℕ) (ws : List ℕ) → count ≤ length ws → ((i : ℕ) → i < count → slice_index ws i ≡ n (from + i)) → take count ws ≡ words_at n from count
 unfolding words_at
 words-are n from count ws e h =
     let l : length (take count ws) ≡ count = omega (arith, length-take count ws, e) in
@@ -143,7 +143,7 @@ words-are n from count ws e h =
     let within : i < count = omega (arith, d, l) in
     get_or-take count ws i 0 within ∙ (h i within ∙ sym (get_or-map-range_with_len n from count i (from + i) 0 within refl)))
 
-is-some : (len : ℕ) (ws : List ℕ) → IsSome (unpacked_key len ws) → unpacked_key len ws ≡ Some (unpacked len ws)
+pub is-some : (len : ℕ) (ws : List ℕ) → IsSome (unpacked_key len ws) → unpacked_key len ws ≡ Some (unpacked len ws)
 is-some len ws h = go (unpacked_key len ws) refl h
   where
     go : (o : Option (List ℕ)) → unpacked_key len ws ≡ o → IsSome o → unpacked_key len ws ≡ Some (unpacked len ws)

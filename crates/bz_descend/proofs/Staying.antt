@@ -22,10 +22,10 @@ use Rattle.bz_descend.specs.declared.phase.Probe.{Probe}
 
 module _ (paths : PathsStay) (p q : Past) (n : Continues p q) where
   -- what held of the sizes and the memory at a past moment
-  moved : (P : Config → Instant → Type 0) (m : ℕ) → m ≤ p.now → P p.config (p.at m) → P q.config (q.at m)
+  pub moved : (P : Config → Instant → Type 0) (m : ℕ) → m ≤ p.now → P p.config (p.at m) → P q.config (q.at m)
   moved P m h f = subst (λ c. P c (q.at m)) (sym n.config) (subst (λ x. P p.config x) (sym (n.at m h)) f)
 
-  under : (link : Link) (m : ℕ) → m ≤ p.now → IsUnderNode p link m → IsUnderNode q link m
+  pub under : (link : Link) (m : ℕ) → m ≤ p.now → IsUnderNode p link m → IsUnderNode q link m
   under link m h u = record {
     parent = u.parent;
     place = u.place;
@@ -36,7 +36,7 @@ module _ (paths : PathsStay) (p q : Past) (n : Continues p q) where
     guard = rw n.config u.guard;
   }
 
-  guarded : (link : Link) → IsGuarded p link → IsGuarded q link
+  pub guarded : (link : Link) → IsGuarded p link → IsGuarded q link
   guarded link g =
       let h : g.guarded ≤ p.now = omega (arith, g.order, g.now) in record {
         guarded = g.guarded;
@@ -49,7 +49,7 @@ module _ (paths : PathsStay) (p q : Past) (n : Continues p q) where
         slot = rw (n.at g.read g.now) g.slot;
       }
 
-  link-stays : (key : List ℕ) (link : Link) → IsLink key p link → IsLink key q link
+  pub link-stays : (key : List ℕ) (link : Link) → IsLink key p link → IsLink key q link
   link-stays key link l = record {
     was = l.was;
     since = omega (arith, l.since, n.since);
@@ -61,7 +61,7 @@ module _ (paths : PathsStay) (p q : Past) (n : Continues p q) where
     guarded = guarded link l.guarded;
   }
 
-  guard : (st : ℕ) → SawGuard st p → SawGuard st q
+  pub guard : (st : ℕ) → SawGuard st p → SawGuard st q
   guard st g = record {
     guarded = g.guarded;
     begun = omega (arith, g.begun, n.since);
@@ -69,7 +69,7 @@ module _ (paths : PathsStay) (p q : Past) (n : Continues p q) where
     value = moved (λ c x. x.value ROOT_STATUS_AT ≡ st) g.guarded g.until g.value;
   }
 
-  way : (key : List ℕ) (path : Path) (k : ℕ) → IsWay key path k p → IsWay key path k q
+  pub way : (key : List ℕ) (path : Path) (k : ℕ) → IsWay key path k p → IsWay key path k q
   way key path k w = record {
     some = w.some;
     links = λ i l h e. link-stays key l (w.links i l h e);
@@ -79,7 +79,7 @@ module _ (paths : PathsStay) (p q : Past) (n : Continues p q) where
     thawed = w.thawed;
   }
 
-  abbrev arrives : (key : List ℕ) (path : Path) (k : ℕ) → Arrives key path k p → Arrives key path k q
+  abbrev pub arrives : (key : List ℕ) (path : Path) (k : ℕ) → Arrives key path k p → Arrives key path k q
   arrives key path k a = record {
     way = way key path k a.way;
     met = a.met;
@@ -89,13 +89,13 @@ module _ (paths : PathsStay) (p q : Past) (n : Continues p q) where
     low = moved (λ c x. (page_at c x k).level + path.depth ≤ MAX_LEVELS) a.met a.until a.low;
   }
 
-  abbrev at-inner : (key : List ℕ) (path : Path) (k : ℕ) → ArrivesAtInner key path k p → ArrivesAtInner key path k q
+  abbrev pub at-inner : (key : List ℕ) (path : Path) (k : ℕ) → ArrivesAtInner key path k p → ArrivesAtInner key path k q
   at-inner key path k a = record {
     node = arrives key path k a.node;
     inner = moved (λ c x. 0 < (page_at c x k).level) a.node.met a.node.until a.inner;
   }
 
-  abbrev opened : (key : List ℕ) (path : Path) (k st : ℕ) → Opened key path k st p → Opened key path k st q
+  abbrev pub opened : (key : List ℕ) (path : Path) (k st : ℕ) → Opened key path k st p → Opened key path k st q
   opened key path k st o = record {
     at_inner = at-inner key path k o.at_inner;
     guarded = o.guarded;
@@ -124,7 +124,7 @@ module _ (paths : PathsStay) (p q : Past) (n : Continues p q) where
     read = λ t l. moved (λ c x. slice_index ws t ≡ words c x r.slot (e.offset + t)) k.looks.opened.guarded k.looks.opened.until (k.read t l);
   }
 
-  chosen : (key : List ℕ) (path : Path) (r : Probe) → HasChosen key path r p → HasChosen key path r q
+  pub chosen : (key : List ℕ) (path : Path) (r : Probe) → HasChosen key path r p → HasChosen key path r q
   chosen key path r h = record {
     opened = opened key path r.slot r.status h.opened;
     child = h.child;

@@ -5,6 +5,9 @@ mod descend;
 mod front;
 mod links;
 mod phase;
+mod seek;
 mod separator;
+mod sight;
 
 pub use descend::Descend;
+pub use seek::Seek;

@@ -1,0 +1,29 @@
+use Rattle.std.proofs.Common.{◌≡◌, ◌<◌, arith, subst, sym, inr}
+use Rattle.std.specs.Prelude.{Some}
+use Rattle.bz_task.specs.OwnActs.{gained}
+use Rattle.bz_task.specs.Scene.{Waiting}
+use Rattle.bz_task.specs.declared.todo.Outcome.TheVariants.{Restart}
+use Rattle.bz_descend.specs.SeekDuties.{end_of, left_of, facts_of}
+use Rattle.bz_descend.specs.SeekFacts.{seek_facts}
+use Rattle.bz_descend.proofs.Moving.{counted-on, restarts}
+use Rattle.bz_descend.proofs.Seeking.{seek-no-slot}
+use Rattle.bz_descend.proofs.seek.SeekTask.next.Goals as goal
+
+pub asks_for-requires-clause-few : goal.asks_for-requires-clause-few
+asks_for-requires-clause-few c = let a = c.after-self.ensures in omega (arith, a.asked, a.nearer, c.heard.ensures.counted.few)
+
+pub returns-clause-nearer : goal.returns-clause-nearer
+returns-clause-nearer c = let t = c.args.self.now in subst (λ z. left_of z < left_of t) (sym c.asks_for.ensures.new) c.after-self.ensures.nearer
+
+pub returns-clause-restart : goal.returns-clause-restart
+returns-clause-restart c e =
+    let u = c.after-self.new.self in
+    inr (c.after-self.ensures.restart (restarts u.path c.after-self.result (subst (λ z. end_of z ≡ Some Restart) c.asks_for.ensures.new e)))
+
+pub returns-clause-learns : goal.returns-clause-learns
+returns-clause-learns c stage s now same good free facts tells =
+    let t = c.args.self.now in let a = c.after-self.ensures in let u = c.after-self.new.self in
+    let learnt : seek_facts u.key u.path u.words c.after-self.result Waiting (gained s c.args.slots.now c.args.slots.now) =
+    rw a.key (seek-no-slot c.nothing_is_gained.ensures t.key u.path u.words s c.args.slots.now c.after-self.result a.begun (a.learns stage s same good facts.0 tells)) in
+    subst (λ z. facts_of z Waiting (gained s c.args.slots.now c.args.slots.now)) (sym c.asks_for.ensures.new)
+    (learnt, counted-on t.config u.config t.path u.path t.phase c.after-self.result t.asked u.asked facts.1 a.config a.bounds a.nearer a.reads a.asked)

@@ -1,0 +1,39 @@
+-- A descent by halving as a task.
+use Rattle.std.specs.Prelude.{ℕ, Option}
+use Rattle.bz_layout.specs.declared.config.Config.{Config}
+use Rattle.bz_task.specs.Scene.{Scene, Stage}
+use Rattle.bz_task.specs.declared.todo.Outcome.{Outcome}
+use Rattle.bz_task.specs.declared.todo.Seen.{Seen}
+use Rattle.bz_task.specs.declared.todo.Todo.{Todo}
+use Rattle.bz_descend.specs.Facts.{descend_means}
+use Rattle.bz_descend.specs.SeekFacts.{seek_asks, seek_end, seek_left, seek_facts, seek_differs, path_reads, IsCounted}
+use Rattle.bz_descend.specs.declared.seek.Seek.{Seek}
+
+abbrev pub config_of : Seek → Config
+config_of t = t.config
+
+-- how many reads it has asked for
+abbrev pub asked_of : Seek → ℕ
+asked_of t = t.asked
+
+-- the most reads along the nodes that it has gone through
+abbrev pub path_reads_of : Seek → ℕ
+path_reads_of t = path_reads t.path
+
+abbrev pub asks_of : Seek → Option Todo
+asks_of t = seek_asks t.config t.phase
+
+abbrev pub end_of : Seek → Option Outcome
+end_of t = seek_end t.path t.phase
+
+abbrev pub left_of : Seek → ℕ
+left_of t = seek_left t.path.depth t.phase
+
+abbrev pub facts_of : Seek → Stage → Scene → Type 0
+facts_of t stage s = seek_facts t.key t.path t.words t.phase stage s × IsCounted t.config t.path t.phase t.asked
+
+abbrev pub means_of : Seek → Outcome → Scene → Type 0
+means_of t = descend_means t.key
+
+abbrev pub differs_of : Seek → Seen → Type 0
+differs_of t = seek_differs t.phase
