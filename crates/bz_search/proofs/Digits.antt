@@ -10,7 +10,7 @@ unfolding digits_in
 digits-none zero = refl
 digits-none (suc k) = refl
 
-digits-more : (k n : ℕ) → 0 < n → digits_in (suc k) n ≡ 1 + digits_in k (n / 2)
+pub digits-more : (k n : ℕ) → 0 < n → digits_in (suc k) n ≡ 1 + digits_in k (n / 2)
 unfolding digits_in
 digits-more k n h = let t : (n == 0) ≡ false = grind (arith, nat_tests) in rw t refl
 
