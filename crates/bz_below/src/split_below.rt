@@ -1,6 +1,7 @@
 //! The task that splits a frozen leaf below a parent.
 
 ghost use Rattle.std.specs.Prelude.{◌≡◌, ◌≢◌, ◌↔◌, ◌+◌, ◌-◌, ◌<◌, ◌≤◌, ◌^◌, ◌⊎◌, ℕ, List, Option, Some, None, IsTrue, IsSome, IfSome, true, false, slice_get, slice_index, length};
+ghost use Rattle.bz_layout.specs.declared.sizes.TheConstants.{NODE_WORDS};
 ghost use Rattle.bz_layout.specs.Config.{IsConfig};
 ghost use Rattle.bz_layout.specs.declared.thresholds.TheConstants.{SPLIT_ABOVE, SPLIT_SLOTS};
 ghost use Rattle.bz_page.specs.Pages.{IsLeafByItself};
@@ -140,7 +141,7 @@ impl SplitBelow {
         requires parent { HasParent self.now.config.nodes self.now.lower.slot self.now.halves.separator self.now.read.0 }
         requires room { HasRoom self.now.read.0 self.now.halves.separator }
         ensures words { IsNewParent self.now.config.nodes self.now.lower.slot left right self.now.halves.separator self.now.read.0 result.0 }
-        ensures size { length result.0 ≡ 128 }
+        ensures size { length result.0 ≡ NODE_WORDS }
     {
         let Some(parent) = self.parent_with(left, right) else {
             unreachable!();
@@ -308,7 +309,7 @@ impl SplitBelow {
 // The words of a node of which the status alone was read.
 fn first_word(status: u64) -> NodeImage
     ensures first { slice_index result.0 0 ≡ status }
-    ensures size { length result.0 ≡ 128 }
+    ensures size { length result.0 ≡ NODE_WORDS }
 {
     let mut words = [0; NODE_WORDS as usize];
     words[0] = status;

@@ -1,7 +1,7 @@
 //! The parent that has one leaf in the place of two.
 
 ghost use Rattle.std.specs.Prelude.{◌≡◌, ◌+◌, ◌<◌, ◌≤◌, map, length};
-ghost use Rattle.bz_layout.specs.declared.sizes.TheConstants.{SHARED_WORDS};
+ghost use Rattle.bz_layout.specs.declared.sizes.TheConstants.{NODE_WORDS, SHARED_WORDS};
 ghost use Rattle.bz_layout.specs.declared.thresholds.TheConstants.{MAX_LEVELS};
 ghost use Rattle.bz_node.specs.Layout.{needed};
 ghost use Rattle.bz_node.specs.Reading.{IsReadableInner, children_in, count_in};
@@ -79,7 +79,7 @@ fn node_with_one(
 pub fn parent_joined(old: &NodeImage, join: &ParentJoin) -> NodeImage
     requires { HasTwoChildren old.now.0 join.now.place join.now.slot }
     ensures words { IsJoinedOf old.now.0 join.now.place join.now.slot result.0 }
-    ensures size { length result.0 ≡ 128 }
+    ensures size { length result.0 ≡ NODE_WORDS }
 {
     is_whole(old);
     children_join();

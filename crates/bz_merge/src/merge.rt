@@ -1,6 +1,7 @@
 //! The task that merges two sibling leaves.
 
 ghost use Rattle.std.specs.Prelude.{◌≡◌, ◌≢◌, ◌↔◌, ◌+◌, ◌-◌, ◌<◌, ◌≤◌, ◌^◌, ◌⊎◌, ℕ, List, Option, Some, None, IsTrue, true, false, slice_get, slice_index, length};
+ghost use Rattle.bz_layout.specs.declared.sizes.TheConstants.{NODE_WORDS};
 ghost use Rattle.bz_layout.specs.Config.{IsConfig};
 ghost use Rattle.bz_layout.specs.declared.thresholds.TheConstants.{MERGE_SLOTS, SPLIT_ABOVE};
 ghost use Rattle.bz_page.specs.Pages.{IsLeafByItself};
@@ -463,7 +464,7 @@ impl Merge {
 // The words of a node of which the status alone was read.
 fn first_word(status: u64) -> NodeImage
     ensures first { slice_index result.0 0 ≡ status }
-    ensures size { length result.0 ≡ 128 }
+    ensures size { length result.0 ≡ NODE_WORDS }
 {
     let mut words = [0; NODE_WORDS as usize];
     words[0] = status;

@@ -1,6 +1,7 @@
 //! The page of a leaf, and one pair of it.
 
 ghost use Rattle.std.specs.Prelude.{◌≡◌, ℕ, List, Option, None, length, slice_get};
+ghost use Rattle.bz_layout.specs.declared.sizes.TheConstants.{NODE_WORDS};
 ghost use Rattle.bz_content.specs.Content.{content_in};
 ghost use Rattle.bz_slotted.specs.Page.{page as page_of};
 ghost use Rattle.bz_slotted.specs.ReadingLaws.{node_of};
@@ -18,7 +19,7 @@ use bz_task::{LeafView, laws};
 
 // An image has its 128 words. Does nothing.
 fn is_whole(image: &NodeImage)
-    ensures { length image.now.0 ≡ 128 }
+    ensures { length image.now.0 ≡ NODE_WORDS }
 {
     let _words = image.0;
 }

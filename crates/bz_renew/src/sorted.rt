@@ -1,6 +1,7 @@
 //! What is read of a leaf that is made anew: its visible records alone, in the order of their keys, and its fences.
 
 ghost use Rattle.std.specs.Prelude.{◌≡◌, ◌+◌, ◌<◌, ◌≤◌, ◌^◌, ℕ, List, Option, None, length};
+ghost use Rattle.bz_layout.specs.declared.sizes.TheConstants.{NODE_WORDS};
 ghost use Rattle.bz_key.specs.Packing.{packed_len, unpacked_key};
 ghost use Rattle.bz_node.specs.Reading.{part};
 ghost use Rattle.bz_page.specs.Pages.{IsLeafByItself};
@@ -25,7 +26,7 @@ pub struct Fences {
 
 /// An image has its 128 words. Does nothing.
 pub fn is_whole(image: &NodeImage)
-    ensures { length image.now.0 ≡ 128 }
+    ensures { length image.now.0 ≡ NODE_WORDS }
 {
     let _words = image.0;
 }
