@@ -4,3 +4,5 @@ pub mod KeyLemmas
 pub mod SumLemmas
 pub mod OpenLemmas
 pub mod PartLemmas
+pub mod RightReports
+pub mod RightSummaries

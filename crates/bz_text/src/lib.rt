@@ -4,6 +4,7 @@
 mod counts;
 mod ended;
 mod keys;
+pub mod laws;
 mod lines;
 mod open;
 mod order;
