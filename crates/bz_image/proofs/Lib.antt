@@ -4,3 +4,5 @@ pub mod ImageLemmas
 pub mod FaultLemmas
 pub mod FileLemmas
 pub mod Pieces
+pub mod FetchLemmas
+pub mod DurableLemmas

@@ -3,3 +3,5 @@ pub mod Texts
 pub mod Reads
 pub mod Faults
 pub mod Laws
+pub mod Fetches
+pub mod Worlds

@@ -2,6 +2,7 @@
 #![tactic(auto)]
 
 mod fault;
+mod fetch;
 mod form;
 mod image;
 pub mod laws;
@@ -12,6 +13,7 @@ mod word_list;
 mod write;
 
 pub use fault::ImageFault;
+pub use fetch::{FetchFault, fetch_image};
 pub use form::{HEAD_BYTES, VERSION, WORD_BYTES, image_bytes};
 pub use image::{Head, Image};
 pub use read::{read_front, read_head, read_image};

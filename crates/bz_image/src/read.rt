@@ -1,6 +1,6 @@
 //! Reading an image.
 ghost use Rattle.std.specs.Prelude.{◌≡◌, ◌≤◌, ◌*◌, length, take, bytes_eq, IfOk};
-ghost use Rattle.bz_image.specs.Form.{magic, file_length, AreSizes, IsSized};
+ghost use Rattle.bz_image.specs.Form.{magic, file_length, file_of_image, AreSizes, IsSized};
 ghost use Rattle.bz_image.specs.Reads.{head_of, front_of, image_of, image_at, words_in, Reads, ReadsFront};
 
 use crate::fault::ImageFault;
@@ -49,6 +49,7 @@ fn is_magic(bytes: &[u8]) -> bool
 /// The image that the bytes are, or their first fault.
 pub fn read_image(alloc: Global, bytes: &[u8]) -> Result<Image, ImageFault>
     ensures image { Reads (image_of bytes.now) result }
+    ensures file { IfOk result (λ image. bytes.now ≡ file_of_image image) }
     ensures sized { IfOk result (λ image. IsSized image) }
 {
     let head = read_head(bytes)?;

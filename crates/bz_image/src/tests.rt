@@ -1,6 +1,13 @@
 //! The smallest file, byte by byte: what no clause says is that these are the bytes.
-use super::{Image, ImageFault, image_bytes, read_front, read_head, read_image, write_image};
-use bz_io::{FailSink, FailSource, Failed, MemSink, ReadFault, read_all};
+use super::{
+    FetchFault, Image, ImageFault, fetch_image, image_bytes, read_front, read_head, read_image,
+    write_image,
+};
+use bz_io::{FailSink, FailSource, Failed, MemSink, MemSource};
+use bz_layout::Config;
+use bz_world::World;
+use std::alloc::Global;
+use std::process::Abort;
 use std::test::Fail;
 
 /// The bytes of the file of one node slot and one descriptor.
@@ -40,7 +47,20 @@ fn fresh() -> [u64; COUNT] {
     words
 }
 
-fn fault_of<T: Drop>(answer: Result<T, ImageFault>) -> Option<ImageFault> {
+/// A world of the smallest memory, in which nothing has happened.
+fn world(rt: &impl Abort, alloc: Global) -> World {
+    let config = Config {
+        nodes: 1,
+        swaps: 1,
+        workers: 1,
+        marks: 1_024,
+        calls: 1,
+        pages: 0,
+    };
+    World::open(alloc, &config).expect(rt, "a world")
+}
+
+fn fault_of<T: Drop, E>(answer: Result<T, E>) -> Option<E> {
     match answer {
         Ok(_) => None,
         Err(fault) => Some(fault),
@@ -50,16 +70,15 @@ fn fault_of<T: Drop>(answer: Result<T, ImageFault>) -> Option<ImageFault> {
 #[test]
 fn the_smallest_file_is_written_and_read(rt: HostRuntime) -> Result<(), Fail> {
     let file = smallest();
-    let words = fresh();
     assert_eq!(rt; image_bytes(1, 1), SIZE);
     assert_eq!(rt; image_bytes(16, 64), 24_724);
     assert_eq!(rt; image_bytes(16_384, 65_536), 25_165_972);
     let mut sink = MemSink::open(rt.alloc(), SIZE)?;
-    assert_eq!(rt; write_image(1, 1, &words, &mut sink), Ok(()));
+    assert_eq!(rt; write_image(&world(&rt, rt.alloc()), &mut sink), Ok(()));
     assert_eq!(rt; sink.bytes(), file.as_slice());
     let image: Image = read_image(rt.alloc(), &file)?;
     assert_eq!(rt; (image.nodes, image.swaps), (1, 1));
-    assert_eq!(rt; image.words.words(), words.as_slice());
+    assert_eq!(rt; image.words.words(), fresh().as_slice());
     Ok(())
 }
 
@@ -68,9 +87,6 @@ fn each_byte_of_a_word_has_its_place(rt: HostRuntime) -> Result<(), Fail> {
     let file = with_word_seven([8, 7, 6, 5, 4, 3, 2, 0xF1]);
     let mut words = fresh();
     words[7] = 0xF102_0304_0506_0708;
-    let mut sink = MemSink::open(rt.alloc(), SIZE)?;
-    assert_eq!(rt; write_image(1, 1, &words, &mut sink), Ok(()));
-    assert_eq!(rt; sink.bytes(), file.as_slice());
     let image = read_image(rt.alloc(), &file)?;
     assert_eq!(rt; image.words.words(), words.as_slice());
     Ok(())
@@ -190,11 +206,11 @@ fn the_first_fault_is_told(rt: HostRuntime) {
 #[test]
 fn a_sink_that_fails_has_a_front_part(rt: HostRuntime) -> Result<(), Fail> {
     let file = smallest();
-    let words = fresh();
+    let world = world(&rt, rt.alloc());
     // the head takes one call, and 64 bytes of the words one each
     for call in 1..23u64 {
         let mut sink = FailSink::open(rt.alloc(), SIZE, 64, &[call])?;
-        let answer = write_image(1, 1, &words, &mut sink);
+        let answer = write_image(&world, &mut sink);
         let whole = call == 22;
         let length = match call {
             1 => 0,
@@ -206,7 +222,7 @@ fn a_sink_that_fails_has_a_front_part(rt: HostRuntime) -> Result<(), Fail> {
     }
     for room in 0..SIZE {
         let mut sink = MemSink::open(rt.alloc(), room)?;
-        assert_eq!(rt; write_image(1, 1, &words, &mut sink), Err(Failed), "{room}");
+        assert_eq!(rt; write_image(&world, &mut sink), Err(Failed), "{room}");
         assert_eq!(rt; sink.bytes(), &file[..room], "{room}");
     }
     Ok(())
@@ -215,19 +231,30 @@ fn a_sink_that_fails_has_a_front_part(rt: HostRuntime) -> Result<(), Fail> {
 #[test]
 fn a_source_that_fails_gives_no_image(rt: HostRuntime) -> Result<(), Fail> {
     let file = smallest();
-    // 21 calls give 64 bytes each or the rest, and one the end
-    for call in 1..24u64 {
+    // the head takes one call, and 64 bytes of the words one each
+    for call in 1..23u64 {
         let mut source = FailSource::of(rt.alloc(), &file, 64, &[call])?;
-        match read_all(rt.alloc(), &mut source, SIZE) {
-            Ok(bytes) => {
-                assert!(rt; call == 23, "{call}");
-                let image = read_image(rt.alloc(), &bytes)?;
+        match fetch_image(rt.alloc(), &mut source) {
+            Ok(image) => {
+                assert!(rt; call == 22, "{call}");
                 assert_eq!(rt; image.words.words(), fresh().as_slice());
             }
-            Err(ReadFault::Failed) => assert!(rt; call < 23, "{call}"),
-            Err(_) => assert!(rt; false, "{call}"),
+            Err(fault) => assert!(rt; call < 22 && fault == FetchFault::Read, "{call}"),
         }
     }
+    Ok(())
+}
+
+#[test]
+fn what_follows_an_image_is_left_to_the_source(rt: HostRuntime) -> Result<(), Fail> {
+    let mut bytes = [7u8; SIZE + 2];
+    bytes[..SIZE].copy_from_slice(&smallest());
+    let mut source = MemSource::of(rt.alloc(), &bytes)?;
+    assert!(rt; fetch_image(rt.alloc(), &mut source).is_ok());
+    assert_eq!(rt;
+        fault_of(fetch_image(rt.alloc(), &mut source)),
+        Some(FetchFault::Image(ImageFault::Short))
+    );
     Ok(())
 }
 
