@@ -62,6 +62,7 @@ bad_head a b head fault filled is = record {
   given = subst (Consumes a b) (sym filled.is) filled.consumed;
   is_fault = ap (λ (found : Result Head ImageFault). front_behind found head) is;
   ended = λ short. let few : BreaksHead head Short = head_told head Short (is ∙ ap (λ (f : ImageFault). Err f) short) in filled.ended (by_few (length head) few);
+  alone = λ other. filled.fits;
 }
   where
     by_few : (n : ℕ) → ¬ (20 ≤ n) → n < 20
@@ -79,6 +80,7 @@ bad_rest a b c start bytes head count fault first second long read told known = 
   given = subst (Consumes a c) (ap (λ (xs : List ℕ). xs ++ second.given) (sym first.is) ∙ sym second.is) (consumes_twice a b c first.given second.given first.consumed second.consumed);
   is_fault = front_is ∙ short-front (length bytes) (file_length head.nodes head.swaps) few.0 ∙ ap (λ (f : ImageFault). Err f) (sym few.1);
   ended = λ short. second.ended (omega (arith, few.0, long));
+  alone = λ other. absurd (other few.1);
 }
   where
     told_by : (f : ImageFault) → Reads (image_of bytes) (Err f) → f ≢ Memory → image_of bytes ≡ Err f
