@@ -4,7 +4,6 @@ use Rattle.std.specs.Prelude.{is_some, not}
 use Rattle.std.proofs.lemmas.Grind.{common_steps}
 use Rattle.std.proofs.lemmas.List.{drop_more}
 use Rattle.bz_layout.specs.Addresses.{words_of}
-use Rattle.bz_layout.specs.Config.{IsConfig}
 use Rattle.bz_layout.specs.declared.config.Config.{Config}
 use Rattle.bz_mark.specs.declared.marks.Mark.{Mark}
 use Rattle.bz_script.specs.ItemLaws.{IsItem, AreItems}
@@ -14,19 +13,17 @@ use Rattle.bz_script.specs.declared.item.Item.TheVariants.{Queue, Arm, Run, Powe
 use Rattle.bz_sound.specs.declared.power.Power.{Power as State}
 use Rattle.bz_sound.specs.declared.power.Power.TheVariants as power
 use Rattle.bz_sched.specs.Points.{Point}
-use Rattle.bz_sched.specs.Queued.{Queued, has_open}
-use Rattle.bz_sched.specs.ReadyLaws.{ready_at_first, steady_when_ready}
+use Rattle.bz_sched.specs.Queued.{Queued}
 use Rattle.bz_sched.specs.Runs.{point_of, IsSteady, Stays, IsCutPlan}
 use Rattle.bz_sched.specs.Scripts.{LeadsTo, LeadsToInPart}
 use Rattle.bz_sched.specs.declared.cut.CutPlan.{CutPlan}
 use Rattle.bz_world.specs.Lab.{Lab, power_in}
 use Rattle.bz_world.specs.declared.answers.Which.{Which}
-use Rattle.bz_top.specs.Endings.{at_first}
-use Rattle.bz_top.specs.Items.{IsReadyFor, Leads, LeadsInPart, LeavesPower, IsDoneItem, IsStoppedItem, IsLed, IsLedInPart}
+use Rattle.bz_top.specs.Items.{IsReadyFor, Leads, LeadsInPart, LeavesPower, IsDoneItem, IsStoppedItem, IsLedFrom, IsLedFromInPart}
 
 -- so many items are done, and what the others lead to is what all of them lead to. These may stand where they do, with the cut
 -- that is armed, if one is, and whether one was used up; and where none was, so that a run may follow, the power is on.
-pub record Staged (items : List Item) (i : ℕ) (armed : Option CutPlan) (old world : Lab) (queue : Queued) : Type 0 where
+pub record Staged (items : List Item) (i : ℕ) (armed : Option CutPlan) (first : Point) (old world : Lab) (queue : Queued) : Type 0 where
   pub on : Stays old world
   pub steady : IsSteady world queue
   pub room : length items ≤ queue.room + i
@@ -34,8 +31,8 @@ pub record Staged (items : List Item) (i : ℕ) (armed : Option CutPlan) (old wo
   pub order : AreInOrder (record { armed = is_some armed; used = used }) (drop i items)
   pub powered : used ≡ false → power_in world ≡ power.On
   pub cut : IsCutPlan armed
-  pub follows : (new : List Mark) → LeadsTo old.at_start old.log.start (words_of old.config) armed (point_of world queue) (drop i items) new → LeadsTo old.at_start old.log.start (words_of old.config) None at_first items new
-  pub in_part : (why : Which) (new : List Mark) → LeadsToInPart why old.at_start old.log.start (words_of old.config) armed (point_of world queue) (drop i items) new → LeadsToInPart why old.at_start old.log.start (words_of old.config) None at_first items new
+  pub follows : (new : List Mark) → LeadsTo old.at_start old.log.start (words_of old.config) armed (point_of world queue) (drop i items) new → LeadsTo old.at_start old.log.start (words_of old.config) None first items new
+  pub in_part : (why : Which) (new : List Mark) → LeadsToInPart why old.at_start old.log.start (words_of old.config) armed (point_of world queue) (drop i items) new → LeadsToInPart why old.at_start old.log.start (words_of old.config) None first items new
 
 pub item_at : (items : List Item) (i : ℕ) (item : Item) → AreItems items → i < length items → item ≡ get_or items i item → IsItem item
 item_at [] i item all lt is = absurd (omega arith)
@@ -46,21 +43,18 @@ here_is : (items : List Item) (i : ℕ) (item : Item) → i < length items → i
 here_is items i item lt is = drop_more items i item lt ∙ ap (λ (x : Item). x ∷ drop (i + 1) items) (sym is)
 
 -- nothing is done yet
-pub staged_none : (items : List Item) (old : Lab) (queue : Queued) → old.at_start ≡ power.On → old.log.past ≡ [] → IsConfig old.config → queue.calls ≡ [] → ((w : ℕ) → has_open queue w ≡ false) → queue.room ≡ length items → AreInOrder first_standing items
-    → Staged items 0 None old old queue
-staged_none items old queue on new config empty closed fits order =
-    let ready = ready_at_first old queue config on new empty closed in
-    record {
-      on = record { config = refl; at_start = refl; start = refl; limits = refl };
-      steady = steady_when_ready old queue ready;
-      room = omega (arith, fits);
-      used = false;
-      order = order;
-      powered = λ free. ready.powered;
-      cut = tt;
-      follows = λ marks h. rw (new, empty) at h;
-      in_part = λ why marks h. rw (new, empty) at h;
-    }
+pub staged_none : (items : List Item) (old : Lab) (queue : Queued) → IsSteady old queue → power_in old ≡ power.On → length items ≤ queue.room → AreInOrder first_standing items → Staged items 0 None (point_of old queue) old old queue
+staged_none items old queue steady on fits order = record {
+  on = record { config = refl; at_start = refl; start = refl; limits = refl };
+  steady = steady;
+  room = omega (arith, fits);
+  used = false;
+  order = order;
+  powered = λ free. on;
+  cut = tt;
+  follows = λ marks h. h;
+  in_part = λ why marks h. h;
+}
 
 -- the item may be done now
 not_used : (used : Bool) → not used ≡ true → used ≡ false
@@ -73,8 +67,8 @@ ready_by world armed used (Arm flush seed) is may powered = is
 ready_by world armed used (Run plan) is may powered = (is, powered (not_used used may))
 ready_by world armed used Power is may powered = tt
 
-pub staged_ready : (items : List Item) (i : ℕ) (item : Item) (armed : Option CutPlan) (old world : Lab) (queue : Queued) → Staged items i armed old world queue → AreItems items → i < length items → item ≡ get_or items i item → IsReadyFor world item
-staged_ready items i item armed old world queue s all lt is =
+pub staged_ready : (items : List Item) (i : ℕ) (item : Item) (armed : Option CutPlan) (first : Point) (old world : Lab) (queue : Queued) → Staged items i armed first old world queue → AreItems items → i < length items → item ≡ get_or items i item → IsReadyFor world item
+staged_ready items i item armed first old world queue s all lt is =
     let order : AreInOrder (record { armed = is_some armed; used = s.used }) (item ∷ drop (i + 1) items) = subst (AreInOrder (record { armed = is_some armed; used = s.used })) (here_is items i item lt is) s.order in
     ready_by world (is_some armed) s.used item (item_at items i item all lt is) order.0 s.powered
 
@@ -122,9 +116,9 @@ here_in_part why at_start start words armed p q (Arm flush seed) items stops = a
 here_in_part why at_start start words armed p q (Run plan) items stops = inl (q, stops, refl)
 here_in_part why at_start start words armed p q Power items stops = inl (q, stops, refl)
 
-module _ (items : List Item) (i : ℕ) (item : Item) (armed : Option CutPlan) (old world : Lab) (queue : Queued) (s : Staged items i armed old world queue) (lt : i < length items) (is : item ≡ get_or items i item) where
+module _ (items : List Item) (i : ℕ) (item : Item) (armed : Option CutPlan) (first : Point) (old world : Lab) (queue : Queued) (s : Staged items i armed first old world queue) (lt : i < length items) (is : item ≡ get_or items i item) where
   -- an item more is done
-  pub staged_more : (next : Option CutPlan) (new : Lab) (left : Queued) → IsDoneItem armed world queue item next new left → Staged items (i + 1) next old new left
+  pub staged_more : (next : Option CutPlan) (new : Lab) (left : Queued) → IsDoneItem armed world queue item next new left → Staged items (i + 1) next first old new left
   staged_more next new left d =
       let here = here_is items i item lt is in
       let order : AreInOrder (record { armed = is_some armed; used = s.used }) (item ∷ drop (i + 1) items) = subst (AreInOrder (record { armed = is_some armed; used = s.used })) here s.order in
@@ -145,7 +139,7 @@ module _ (items : List Item) (i : ℕ) (item : Item) (armed : Option CutPlan) (o
       }
 
   -- it meets a limit
-  pub staged_met : (why : Which) (new : Lab) (left : Queued) → IsStoppedItem why armed world queue item new left → IsLedInPart old items why new
+  pub staged_met : (why : Which) (new : Lab) (left : Queued) → IsStoppedItem why armed world queue item new left → IsLedFromInPart first old items why new
   staged_met why new left d =
       let here = here_is items i item lt is in
       let leads : LeadsInPart why old.at_start old.log.start (words_of old.config) armed (point_of world queue) item (point_of new left) =
@@ -159,7 +153,7 @@ module _ (items : List Item) (i : ℕ) (item : Item) (armed : Option CutPlan) (o
       }
 
 -- all items are done
-pub staged_done : (items : List Item) (i : ℕ) (armed : Option CutPlan) (old world : Lab) (queue : Queued) → Staged items i armed old world queue → length items ≤ i → IsLed old items world
-staged_done items i armed old world queue s all =
+pub staged_done : (items : List Item) (i : ℕ) (armed : Option CutPlan) (first : Point) (old world : Lab) (queue : Queued) → Staged items i armed first old world queue → length items ≤ i → IsLedFrom first old items world
+staged_done items i armed first old world queue s all =
     let none : drop i items ≡ [] = grind (arith, common_steps) in
     record { on = s.on; follows = s.follows world.log.past (rw none refl) }

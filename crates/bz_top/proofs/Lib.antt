@@ -1,7 +1,11 @@
 pub mod FollowLemmas
 pub mod ItemLemmas
 pub mod WriteLemmas
+pub mod StatusLemmas
 pub mod EndLemmas
+pub mod LoadLemmas
+pub mod BaseLemmas
+pub mod FirstLemmas
 mod RunLemmas
 pub mod FreshLemmas
 pub mod ReportLemmas

@@ -13,7 +13,7 @@ appends_twice (Some xs0) None c xs ys h k = absurd h
 appends_twice (Some xs0) (Some bs) None xs ys h k = absurd k
 appends_twice (Some xs0) (Some bs) (Some cs) xs ys h k = rw (k, h, append_assoc) refl
 
-rose_later : (a b c : ℕ) → a ≤ b → Rose b c → Rose a c
+pub rose_later : (a b c : ℕ) → a ≤ b → Rose b c → Rose a c
 rose_later a b c le rose = omega (arith, rose)
 
 front_later : (a b c : Option (List ℕ)) (xs ys : List ℕ) → Appends a b xs → GrewByFront b c ys → GrewByFront a c (xs ++ ys)

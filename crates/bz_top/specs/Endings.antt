@@ -1,14 +1,23 @@
 -- How a run of the program ends: the cause of each status, and what is then written.
-use Rattle.std.specs.Prelude.{◌≡◌, ◌≢◌, ◌≤◌, ◌+◌, ◌⊎◌, ℕ, List, [], ◌++◌, length, Option, Some, None, Ok, Err, codes}
-use Rattle.std.specs.Io.KnownBytes.{Appends}
+use Rattle.std.specs.Prelude.{◌≡◌, ◌≤◌, ◌+◌, ◌⊎◌, ℕ, List, [], ◌∷◌, ◌++◌, length, slice_index, Option, Some, None, Ok, Err, codes}
+use Rattle.std.specs.Io.KnownBytes.{Consumes, Appends}
+use Rattle.bz_content.specs.Content.{image_fault}
+use Rattle.bz_image.specs.Fetches.{GaveFault}
+use Rattle.bz_image.specs.Form.{file_of_image, IsSized}
+use Rattle.bz_image.specs.Worlds.{file_of_world}
+use Rattle.bz_image.specs.declared.fault.ImageFault.{ImageFault}
+use Rattle.bz_image.specs.declared.image.Image.{Image}
 use Rattle.bz_io.specs.Faults.{Rose}
-use Rattle.bz_io.specs.Transfers.{IsReadWhole, GaveCount, GrewByFront}
+use Rattle.bz_io.specs.Transfers.{IsReadWhole, GrewByFront}
 use Rattle.bz_layout.specs.Addresses.{words_of}
-use Rattle.bz_layout.specs.Fresh.{fresh_words}
 use Rattle.bz_sound.specs.Power.Sound.{IsSound}
-use Rattle.bz_sound.specs.declared.power.Power.TheVariants.{On}
+use Rattle.bz_sound.specs.declared.power.Power.{Power as State}
+use Rattle.bz_sound.specs.declared.power.Power.TheVariants as power
+use Rattle.bz_shape.specs.declared.rule.ShapeFault.{ShapeFault}
 use Rattle.bz_script.specs.Script.{Job, script_of}
 use Rattle.bz_script.specs.declared.fault.ScriptRule.{ScriptRule}
+use Rattle.bz_script.specs.declared.item.Item.{Item}
+use Rattle.bz_script.specs.declared.item.Item.TheVariants.{Power}
 use Rattle.bz_script.specs.declared.read.TheConstants.{SCRIPT_BYTES}
 use Rattle.bz_world.specs.Lab.{Lab}
 use Rattle.bz_world.specs.declared.answers.Which.{Which}
@@ -20,10 +29,11 @@ use Rattle.bz_text.specs.Report.{report_of}
 use Rattle.bz_text.specs.Summary.{summary_of}
 use Rattle.bz_words.specs.CommandLine.{IsCommandLine}
 use Rattle.bz_words.specs.declared.command.Command.{Command}
-use Rattle.bz_words.specs.declared.command.Command.TheVariants.{Run, Work}
+use Rattle.bz_words.specs.declared.command.Command.TheVariants.{Run, Dump, Load, Work}
 use Rattle.bz_words.specs.declared.command.CommandLine.{CommandLine}
 use Rattle.bz_top.specs.Commands.{config_of}
-use Rattle.bz_top.specs.Faults.{fault_line, broken_text, limit_text}
+use Rattle.bz_top.specs.Bases.{Base, power_over, words_over, front_over, numbers_over, IsBase, Reads, ReadsOver}
+use Rattle.bz_top.specs.Faults.{fault_line, broken_text, limit_text, image_text, shape_text}
 
 -- the outside of a run: the words of the command line; what the source has left, and its count of faults,
 -- before and after; and what the sink holds, and its count, before and after
@@ -42,97 +52,155 @@ pub record Outside : Type 0 where
 abbrev pub IsCommand : List (List ℕ) → Type 0
 IsCommand words = (line : CommandLine) × IsCommandLine words line
 
--- they are `run`
-abbrev pub IsRun : List (List ℕ) → Type 0
-IsRun words = (marks : ℕ) × IsCommandLine words (record { command = Run; marks = marks })
+-- they are a command that reads the source
+abbrev pub IsReading : List (List ℕ) → Type 0
+IsReading words = (line : CommandLine) × IsCommandLine words line × Reads line.command
 
--- the source was read to its end, and gave so many bytes as a script may have
-pub record IsInput (o : Outside) (bytes : List ℕ) : Type 0 where
-  pub whole : IsReadWhole o.left o.left_after bytes
+-- they are `load`, with this limit on marks
+abbrev pub IsLoad : List (List ℕ) → ℕ → Type 0
+IsLoad words marks = IsCommandLine words (record { command = Load; marks = marks })
+
+-- the words are a command that reads a script, behind what this base has there, and one may run over that
+pub record ComesTo (o : Outside) (base : Base) : Type 0 where
+  pub line : CommandLine
+  pub command : IsCommandLine o.words line
+  pub reads : ReadsOver line.command base
+  pub is_base : IsBase line.marks base
+
+-- the source was read to its end: what stands before the script, and then so many bytes as a script may have
+pub record IsInput (o : Outside) (base : Base) (bytes : List ℕ) : Type 0 where
+  pub whole : IsReadWhole o.left o.left_after (front_over base ++ bytes)
   pub fits : length bytes ≤ SCRIPT_BYTES
 
--- the source's bytes are this script
-pub record ReadsScript (o : Outside) (script : Job) : Type 0 where
+-- the source gave what stands before the script, and then more bytes than a script may have
+pub record IsOverlong (o : Outside) (base : Base) : Type 0 where
   pub bytes : List ℕ
-  pub input : IsInput o bytes
-  pub is_script : script_of None bytes ≡ Ok script
+  pub given : Consumes o.left o.left_after (front_over base ++ bytes)
+  pub counted : length bytes ≡ SCRIPT_BYTES + 1
 
--- the script that a command runs: `run` reads it, and `work` makes that of its seed and reads nothing
-abbrev pub HasScript : Outside → Command → Job → Type 0
-HasScript o Run script = ReadsScript o script
-HasScript o (Work seed calls workers) script = (o.left_after ≡ o.left) × (script ≡ workload_of seed calls workers)
+-- the source's bytes are this script, behind what stands before it
+pub record ReadsScript (o : Outside) (base : Base) (script : Job) : Type 0 where
+  pub bytes : List ℕ
+  pub input : IsInput o base bytes
+  pub is_script : script_of (numbers_over base) bytes ≡ Ok script
+
+-- the script that a command runs, and over what: `run` and `dump` read it; `load` reads an image and then the script; and `work`
+-- makes that of its seed, and reads nothing
+abbrev pub HasScript : Outside → Command → Base → Job → Type 0
+HasScript o Run base script = (base ≡ None) × ReadsScript o None script
+HasScript o Dump base script = (base ≡ None) × ReadsScript o None script
+HasScript o Load base script = (image : Image) × (base ≡ Some image) × ReadsScript o (Some image) script
+HasScript o (Work seed calls workers) base script = (base ≡ None) × (o.left_after ≡ o.left) × (script ≡ workload_of seed calls workers)
 
 -- the words are this command, and this is its script
-pub record Asks (o : Outside) (line : CommandLine) (script : Job) : Type 0 where
+pub record Asks (o : Outside) (line : CommandLine) (base : Base) (script : Job) : Type 0 where
   pub command : IsCommandLine o.words line
-  pub has_script : HasScript o line.command script
+  pub is_base : IsBase line.marks base
+  pub has_script : HasScript o line.command base script
 
--- the lab is a world of this script: its journal begins with fresh memory, has this limit on marks and the fixed other ones,
--- and is sound, with the power on at first
-pub record IsLab (marks : ℕ) (script : Job) (world : Lab) : Type 0 where
+-- a world is made for this script: it has the script's sizes, this limit on marks and the fixed other ones, and it begins as
+-- the base has it
+pub record IsMadeFor (marks : ℕ) (base : Base) (script : Job) (world : Lab) : Type 0 where
   pub config : world.config ≡ config_of marks script.nodes script.swaps
-  pub at_start : world.at_start ≡ On
-  pub start : world.log.start ≡ fresh_words world.config
+  pub at_start : world.at_start ≡ power_over base
+  pub start : world.log.start ≡ words_over world.config base
   pub limits : world.log.limits ≡ record { marks = world.config.marks; calls = world.config.calls; pages = world.config.pages }
+
+-- the lab is such a world, and its journal is sound
+pub record IsLab (marks : ℕ) (base : Base) (script : Job) (world : Lab) : Type 0 where
+  pub made : IsMadeFor marks base script world
   pub sound : IsSound world.config world.at_start world.log
 
 -- the point at which nothing has happened and no call waits
 abbrev pub at_first : Point
 at_first = record { past = []; queue = [] }
 
+-- what is done: where the power is off at first, it comes on and worker 0 recovers to the end before the items of the script
+abbrev pub items_from : State → List Item → List Item
+items_from power.On items = items
+items_from other items = Power ∷ items
+
 -- a run that is done: a world of the script, with a sound journal to which the whole script leads
-pub record IsFinished (marks : ℕ) (script : Job) (world : Lab) : Type 0 where
-  pub right : IsLab marks script world
-  pub follows : LeadsTo world.at_start world.log.start (words_of world.config) None at_first script.items world.log.past
+pub record IsFinished (marks : ℕ) (base : Base) (script : Job) (world : Lab) : Type 0 where
+  pub right : IsLab marks base script world
+  pub follows : LeadsTo world.at_start world.log.start (words_of world.config) None at_first (items_from world.at_start script.items) world.log.past
 
 -- a run that met a limit when one more was needed: a world of the script, with a sound journal to which the
 -- script leads up to there
-pub record IsCutShort (marks : ℕ) (script : Job) (world : Lab) (which : Which) : Type 0 where
-  pub right : IsLab marks script world
-  pub follows : LeadsToInPart which world.at_start world.log.start (words_of world.config) None at_first script.items world.log.past
+pub record IsCutShort (marks : ℕ) (base : Base) (script : Job) (world : Lab) (which : Which) : Type 0 where
+  pub right : IsLab marks base script world
+  pub follows : LeadsToInPart which world.at_start world.log.start (words_of world.config) None at_first (items_from world.at_start script.items) world.log.past
   pub met : IsAtLimit world which
 
 -- a world of the script, as the script has led to it: to its end, or up to a limit
-abbrev pub IsLedTo : ℕ → Job → Lab → Type 0
-IsLedTo marks script world = IsFinished marks script world ⊎ ((which : Which) × IsCutShort marks script world which)
+abbrev pub IsLedTo : ℕ → Base → Job → Lab → Type 0
+IsLedTo marks base script world = IsFinished marks base script world ⊎ ((which : Which) × IsCutShort marks base script world which)
 
--- what a command prints of a world in which its script was run to its end: its report, or its summary
+-- what a command writes of a world in which its script was run to its end: its report, the file of the durable words that it has
+-- left, or its summary
 abbrev pub printed : Command → Lab → List ℕ
 printed Run world = report_of world.config world.log
+printed Dump world = file_of_world world
+printed Load world = report_of world.config world.log
 printed (Work seed calls workers) world = summary_of world.config calls workers world.log
 
--- what it prints of one that met a limit, before the fault line
+-- what it writes of one that met a limit, before the fault line
 abbrev pub printed_before : Command → Lab → List ℕ
 printed_before Run world = report_of world.config world.log
+printed_before Dump world = []
+printed_before Load world = report_of world.config world.log
 printed_before (Work seed calls workers) world = []
 
--- done: what the command prints of the world is written
+-- done: what the command writes of the world is written
 pub record IsDone (o : Outside) (lab : Option Lab) (text : List ℕ) : Type 0 where
   pub line : CommandLine
+  pub base : Base
   pub script : Job
-  pub asks : Asks o line script
+  pub asks : Asks o line base script
   pub world : Lab
   pub is_lab : lab ≡ Some world
-  pub finished : IsFinished line.marks script world
+  pub finished : IsFinished line.marks base script world
   pub writes : text ≡ printed line.command world
 
--- a limit was met: what the command prints before a fault line is written, and then the fault line
+-- a limit was met: what the command writes before a fault line is written, and then the fault line
 pub record IsLimited (o : Outside) (lab : Option Lab) (text : List ℕ) : Type 0 where
   pub line : CommandLine
+  pub base : Base
   pub script : Job
-  pub asks : Asks o line script
+  pub asks : Asks o line base script
   pub world : Lab
   pub is_lab : lab ≡ Some world
   pub which : Which
-  pub cut_short : IsCutShort line.marks script world which
+  pub cut_short : IsCutShort line.marks base script world which
   pub writes : text ≡ printed_before line.command world ++ fault_line (limit_text which)
 
--- `run` reads, and reading failed
+-- the command reads, and reading failed
 pub record IsReadFault (o : Outside) (lab : Option Lab) (text : List ℕ) : Type 0 where
-  pub command : IsRun o.words
+  pub command : IsReading o.words
   pub rose : Rose o.read_faults o.read_faults_after
   pub no_lab : lab ≡ None
   pub writes : text ≡ fault_line (codes "read")
+
+-- what `load` reads first is no image file, and no script was asked for
+pub record IsNoImage (o : Outside) (lab : Option Lab) (text : List ℕ) : Type 0 where
+  pub marks : ℕ
+  pub command : IsLoad o.words marks
+  pub fault : ImageFault
+  pub gave : GaveFault o.left o.left_after fault
+  pub no_lab : lab ≡ None
+  pub writes : text ≡ fault_line (image_text fault)
+
+-- it is the file of an image that breaks a rule of shape: the first one, and where; no script was asked for
+pub record IsMisshapen (o : Outside) (lab : Option Lab) (text : List ℕ) : Type 0 where
+  pub marks : ℕ
+  pub command : IsLoad o.words marks
+  pub image : Image
+  pub sized : IsSized image
+  pub given : Consumes o.left o.left_after (file_of_image image)
+  pub fault : ShapeFault
+  pub is_fault : image_fault (config_of marks image.nodes image.swaps) (slice_index image.words) ≡ Some fault
+  pub no_lab : lab ≡ None
+  pub writes : text ≡ fault_line (shape_text fault)
 
 -- the words are no command; the source was not asked
 pub record IsUsage (o : Outside) (lab : Option Lab) (text : List ℕ) : Type 0 where
@@ -141,37 +209,40 @@ pub record IsUsage (o : Outside) (lab : Option Lab) (text : List ℕ) : Type 0 w
   pub no_lab : lab ≡ None
   pub writes : text ≡ fault_line (codes "usage")
 
--- the bytes that `run` reads break a rule: the first line that breaks one, and the first rule that it breaks
+-- the bytes of the script break a rule: the first line that breaks one, and the first rule that it breaks
 pub record IsBroken (o : Outside) (lab : Option Lab) (text : List ℕ) : Type 0 where
-  pub command : IsRun o.words
+  pub base : Base
+  pub comes : ComesTo o base
   pub bytes : List ℕ
-  pub input : IsInput o bytes
+  pub input : IsInput o base bytes
   pub line : ℕ
   pub rule : ScriptRule
-  pub is_fault : script_of None bytes ≡ Err (record { line = line; rule = rule })
+  pub is_fault : script_of (numbers_over base) bytes ≡ Err (record { line = line; rule = rule })
   pub no_lab : lab ≡ None
   pub writes : text ≡ fault_line (broken_text line rule)
 
--- the source gave `run` more bytes than a script may have
+-- they are more than a script may have
 pub record IsTooLong (o : Outside) (lab : Option Lab) (text : List ℕ) : Type 0 where
-  pub command : IsRun o.words
-  pub more : GaveCount o.left o.left_after (SCRIPT_BYTES + 1)
+  pub base : Base
+  pub comes : ComesTo o base
+  pub more : IsOverlong o base
   pub no_lab : lab ≡ None
   pub writes : text ≡ fault_line (codes "script too long")
 
--- memory was wanting before there was a world; only `run` has then asked the source
+-- memory was wanting before there was a world; only a command that reads has then asked the source
 pub record WantsEarly (o : Outside) (lab : Option Lab) : Type 0 where
   pub no_lab : lab ≡ None
-  pub asked : IsRun o.words ⊎ (o.left_after ≡ o.left)
+  pub asked : IsReading o.words ⊎ (o.left_after ≡ o.left)
 
--- memory was wanting for what is printed of a world, which is told
+-- memory was wanting for what is written of a world, which is told
 pub record WantsLater (o : Outside) (lab : Option Lab) : Type 0 where
   pub line : CommandLine
+  pub base : Base
   pub script : Job
-  pub asks : Asks o line script
+  pub asks : Asks o line base script
   pub world : Lab
   pub is_lab : lab ≡ Some world
-  pub led : IsLedTo line.marks script world
+  pub led : IsLedTo line.marks base script world
 
 -- want of memory comes anywhere where memory is taken
 pub record IsWant (o : Outside) (lab : Option Lab) (text : List ℕ) : Type 0 where
@@ -189,7 +260,10 @@ WritesPart IsText o = (text : List ℕ) × IsText text × GrewByFront o.held o.h
 -- what is to be written, whatever the ending
 abbrev pub IsToBeWritten : Outside → Option Lab → List ℕ → Type 0
 IsToBeWritten o lab text =
-    IsDone o lab text ⊎ (IsReadFault o lab text ⊎ (IsUsage o lab text ⊎ (IsBroken o lab text ⊎ (IsTooLong o lab text ⊎ (IsLimited o lab text ⊎ IsWant o lab text)))))
+    IsDone o lab text
+    ⊎ (IsReadFault o lab text
+    ⊎ (IsUsage o lab text
+    ⊎ (IsBroken o lab text ⊎ (IsTooLong o lab text ⊎ (IsLimited o lab text ⊎ (IsWant o lab text ⊎ (IsNoImage o lab text ⊎ IsMisshapen o lab text)))))))
 
 -- Each status has its cause, and with each the sink has grown by exactly what is said. Status 4 comes only
 -- where the sink failed; it then has a part of what another ending whose cause holds writes.
@@ -200,5 +274,6 @@ pub record IsEnded (o : Outside) (status : ℕ) (lab : Option Lab) : Type 0 wher
   pub refused : status ≡ 3 → WritesWhole (IsBroken o lab) o ⊎ WritesWhole (IsTooLong o lab) o
   pub write : status ≡ 4 → Rose o.write_faults o.write_faults_after × WritesPart (IsToBeWritten o lab) o
   pub limit : status ≡ 5 → WritesWhole (IsLimited o lab) o
+  pub image : status ≡ 6 → WritesWhole (IsNoImage o lab) o ⊎ WritesWhole (IsMisshapen o lab) o
   pub memory : status ≡ 7 → WritesWhole (IsWant o lab) o
-  pub no_other : status ≢ 6 × (status ≤ 7)
+  pub no_other : status ≤ 7

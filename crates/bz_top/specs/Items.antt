@@ -1,6 +1,7 @@
 -- What the items of a script do to a world.
 use Rattle.std.specs.Prelude.{◌≡◌, ◌≤◌, ◌⊎◌, ℕ, ◌+◌, List, Option, Some, None}
 use Rattle.bz_layout.specs.Addresses.{words_of}
+use Rattle.bz_mark.specs.declared.marks.Mark.{Mark}
 use Rattle.bz_script.specs.ItemLaws.{IsItem}
 use Rattle.bz_script.specs.declared.item.Item.{Item}
 use Rattle.bz_script.specs.declared.item.Item.TheVariants.{Queue, Arm, Run, Power}
@@ -17,7 +18,7 @@ use Rattle.bz_sched.specs.Scripts.{queued, LeadsTo, LeadsToInPart}
 use Rattle.bz_sched.specs.declared.cut.CutPlan.{CutPlan}
 use Rattle.bz_sched.specs.declared.running.RunEnd.{RunEnd}
 use Rattle.bz_sched.specs.declared.running.RunEnd.TheVariants.{Finished, Cut, Limit}
-use Rattle.bz_top.specs.Endings.{at_first}
+use Rattle.bz_top.specs.Endings.{at_first, items_from}
 
 -- the limit that a run met, if it met one
 abbrev pub limit_in : RunEnd → Option Which
@@ -71,17 +72,36 @@ abbrev pub HasDone : Option CutPlan → Lab → Queued → Item → Option Which
 HasDone armed old queue item None next new left = IsDoneItem armed old queue item next new left
 HasDone armed old queue item (Some which) next new left = IsStoppedItem which armed old queue item new left
 
--- a world in which nothing had happened has gone on as the items lead
-pub record IsLed (old : Lab) (items : List Item) (new : Lab) : Type 0 where
+-- a world has gone on as the items lead from this point
+pub record IsLedFrom (first : Point) (old : Lab) (items : List Item) (new : Lab) : Type 0 where
   pub on : Stays old new
-  pub follows : LeadsTo old.at_start old.log.start (words_of old.config) None at_first items new.log.past
+  pub follows : LeadsTo old.at_start old.log.start (words_of old.config) None first items new.log.past
 
 -- it has gone on so far, and has met a limit
-pub record IsLedInPart (old : Lab) (items : List Item) (which : Which) (new : Lab) : Type 0 where
+pub record IsLedFromInPart (first : Point) (old : Lab) (items : List Item) (which : Which) (new : Lab) : Type 0 where
   pub on : Stays old new
-  pub follows : LeadsToInPart which old.at_start old.log.start (words_of old.config) None at_first items new.log.past
+  pub follows : LeadsToInPart which old.at_start old.log.start (words_of old.config) None first items new.log.past
   pub met : IsAtLimit new which
 
+abbrev pub ItemsDone : Point → Lab → List Item → Option Which → Lab → Type 0
+ItemsDone first old items None new = IsLedFrom first old items new
+ItemsDone first old items (Some which) new = IsLedFromInPart first old items which new
+
+-- the same of a world in which nothing had happened, and of the items that it begins with
 abbrev pub ItemsRan : Lab → List Item → Option Which → Lab → Type 0
-ItemsRan old items None new = IsLed old items new
-ItemsRan old items (Some which) new = IsLedInPart old items which new
+ItemsRan old items which new = ItemsDone at_first old (items_from old.at_start items) which new
+
+-- the power is on, as it was or because it has come on
+pub record IsTurnedOn (old : Lab) (queue : Queued) (new : Lab) (left : Queued) : Type 0 where
+  pub stays : Stays old new
+  pub steady : IsSteady new left
+  pub room : queue.room ≤ left.room
+  pub on : power_in new ≡ power.On
+  pub items : (items : List Item) (past : List Mark) → LeadsTo old.at_start old.log.start (words_of old.config) None (point_of new left) items past
+      → LeadsTo old.at_start old.log.start (words_of old.config) None at_first (items_from old.at_start items) past
+  pub in_part : (why : Which) (items : List Item) (past : List Mark) → LeadsToInPart why old.at_start old.log.start (words_of old.config) None (point_of new left) items past
+      → LeadsToInPart why old.at_start old.log.start (words_of old.config) None at_first (items_from old.at_start items) past
+
+abbrev pub TurnsOn : Lab → Queued → Option Which → Lab → Queued → Type 0
+TurnsOn old queue None new left = IsTurnedOn old queue new left
+TurnsOn old queue (Some which) new left = (items : List Item) → IsLedFromInPart at_first old (items_from old.at_start items) which new

@@ -1,4 +1,5 @@
 pub mod Commands
+pub mod Bases
 pub mod Faults
 pub mod Items
 pub mod Endings

@@ -1,17 +1,18 @@
 //! Running the items of a script.
-ghost use Rattle.std.specs.Prelude.{◌≡◌, ◌<◌, [], ℕ, false, length, None};
+ghost use Rattle.std.specs.Prelude.{◌≡◌, ◌≢◌, ◌≤◌, ◌<◌, [], ℕ, false, length, None};
 ghost use Rattle.bz_layout.specs.Config.{IsConfig};
 ghost use Rattle.bz_layout.specs.declared.limits.TheConstants.{MAX_WORKERS};
-ghost use Rattle.bz_sound.specs.declared.power.Power.TheVariants.{On};
+ghost use Rattle.bz_sound.specs.declared.power.Power.TheVariants.{On, Recovering};
+ghost use Rattle.bz_world.specs.Lab.{power_in};
 ghost use Rattle.bz_sched.specs.Queued.{has_open};
-ghost use Rattle.bz_sched.specs.Runs.{IsSteady, IsCutPlan};
+ghost use Rattle.bz_sched.specs.Runs.{point_of, IsSteady, IsCutPlan};
 ghost use Rattle.bz_script.specs.ItemLaws.{AreItems};
 ghost use Rattle.bz_script.specs.Order.{at_first, AreInOrder};
-ghost use Rattle.bz_top.specs.Items.{ItemsRan, IsReadyFor, HasDone, limit_in};
+ghost use Rattle.bz_top.specs.Items.{ItemsRan, ItemsDone, TurnsOn, IsReadyFor, HasDone, limit_in};
 
 use bz_sched::{CutPlan, Queue, RunEnd, power, run};
 use bz_script::Item;
-use bz_world::{Which, World};
+use bz_world::{Power, Which, World};
 
 // The limit that a run met, if it met one.
 fn limit_of(end: RunEnd) -> Option<Which>
@@ -63,10 +64,44 @@ fn do_item(
     }
 }
 
-/// Does what the items ask for, one after the other, over a world in which nothing has happened, and tells the limit that was
-/// met, if one was.
+// Does what the items ask for, one after the other, and tells the limit that was met, if one was.
+fn do_items(world: &mut World, queue: &mut Queue, items: &[Item]) -> Option<Which>
+    requires steady { IsSteady world.old queue.old }
+    requires powered { power_in world.old ≡ On }
+    requires workers { world.old.config.workers ≡ MAX_WORKERS }
+    requires room { length items.now ≤ queue.old.room }
+    requires items { AreItems items.now }
+    requires order { AreInOrder at_first items.now }
+    ensures { ItemsDone (point_of world.old queue.old) world.old items.now result world.new }
+{
+    let mut armed: Option<CutPlan> = None;
+    for item in items {
+        match do_item(world, queue, &mut armed, item) {
+            None => {}
+            Some(which) => return Some(which),
+        }
+    }
+    None
+}
+
+// Turns the power on where it is off, and tells the limit that was met, if one was. Nothing has happened in the world.
+fn turn_on(world: &mut World, queue: &mut Queue) -> Option<Which>
+    requires steady { IsSteady world.old queue.old }
+    requires new { world.old.log.past ≡ [] }
+    requires none_wait { queue.old.calls ≡ [] }
+    ensures { TurnsOn world.old queue.old result world.new queue.new }
+{
+    match world.power() {
+        Power::On => None,
+        Power::Off => limit_of(power(world, queue, None)),
+        Power::Recovering => unreachable!(),
+    }
+}
+
+/// Does what the items ask for, over a world in which nothing has happened, and tells the limit that was met, if one was. Where
+/// the power is off it comes on before them.
 pub fn run_items(world: &mut World, queue: &mut Queue, items: &[Item]) -> Option<Which>
-    requires powered { world.old.at_start ≡ On }
+    requires first { world.old.at_start ≢ Recovering }
     requires new { world.old.log.past ≡ [] }
     requires config { IsConfig world.old.config }
     requires workers { world.old.config.workers ≡ MAX_WORKERS }
@@ -77,12 +112,8 @@ pub fn run_items(world: &mut World, queue: &mut Queue, items: &[Item]) -> Option
     requires order { AreInOrder at_first items.now }
     ensures { ItemsRan world.old items.now result world.new }
 {
-    let mut armed: Option<CutPlan> = None;
-    for item in items {
-        match do_item(world, queue, &mut armed, item) {
-            None => {}
-            Some(which) => return Some(which),
-        }
+    match turn_on(world, queue) {
+        None => do_items(world, queue, items),
+        Some(which) => Some(which),
     }
-    None
 }

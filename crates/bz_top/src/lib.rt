@@ -1,14 +1,19 @@
 //! The program: all that it does between its source and its sink.
 #![tactic(auto)]
 
+mod dump;
 mod faults;
 mod gates;
 mod items;
+mod load;
+mod open;
 mod program;
 
 pub use gates::{Gate, NoGate};
 pub use program::{Outcome, top};
 
+#[cfg(test)]
+mod image_tests;
 #[cfg(test)]
 mod power_tests;
 #[cfg(test)]

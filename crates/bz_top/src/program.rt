@@ -1,11 +1,10 @@
 //! The top call.
-ghost use Rattle.std.specs.Prelude.{◌≡◌, ◌≤◌, ◌++◌, [], ℕ, length, map, Some, None, false, codes};
+ghost use Rattle.std.specs.Prelude.{◌≡◌, ◌≢◌, ◌≤◌, ◌++◌, [], ℕ, length, map, Some, None, false, codes};
 ghost use Rattle.bz_layout.specs.declared.limits.TheConstants.{MIN_MARKS, MAX_MARKS, MIN_WORKERS, MAX_WORKERS as MOST_WORKERS};
 ghost use Rattle.bz_judge.specs.Held.{IsImageOf};
-ghost use Rattle.bz_layout.specs.Fresh.{fresh_words};
 ghost use Rattle.bz_gen.specs.Workload.{workload_of};
 ghost use Rattle.bz_gen.specs.declared.workload.TheConstants.{MOST_CALLS};
-ghost use Rattle.bz_world.specs.Lab.{new_lab};
+ghost use Rattle.bz_sound.specs.declared.power.Power.TheVariants.{Recovering};
 ghost use Rattle.bz_sched.specs.Queued.{has_open};
 ghost use Rattle.bz_top.specs.Commands.{config_of};
 ghost use Rattle.bz_sound.specs.Power.Sound.{IsSound};
@@ -14,15 +13,19 @@ ghost use Rattle.bz_script.specs.ItemLaws.{IsJob};
 ghost use Rattle.bz_text.specs.Report.{report_of};
 ghost use Rattle.bz_text.specs.Summary.{summary_of};
 ghost use Rattle.bz_top.specs.Faults.{fault_line, limit_text, broken_text};
-ghost use Rattle.bz_top.specs.Endings.{IsEnded, printed, printed_before};
-ghost use Rattle.bz_top.specs.Parts.{sunk, Says, SaysOrWants, RanWorld, RanScript, RanBytes};
+ghost use Rattle.bz_top.specs.Bases.{Base, IsBase, IsBaseOf};
+ghost use Rattle.bz_top.specs.Endings.{IsEnded, IsMadeFor, printed, printed_before};
+ghost use Rattle.bz_top.specs.Parts.{given, sunk, Says, SaysOrWants, RanWorld, RanScript, RanBytes, RanSource};
 
+use crate::dump::dump;
 use crate::faults::{broken_line, limit_line};
 use crate::gates::Gate;
 use crate::items::run_items;
-use bz_content::laws::fresh_memory_is_empty;
+use crate::load::load;
+use crate::open::{numbers_of, open_world};
 use bz_gen::generate;
 use bz_gen::laws::workloads_are_jobs;
+use bz_image::Image;
 use bz_io::{Failed, ReadFault, Sink, Source, read_all, write_all};
 use bz_layout::{Config, MAX_CALLS, MAX_PAGES, MAX_WORKERS};
 use bz_memory::Memory;
@@ -30,7 +33,7 @@ use bz_sched::Queue;
 use bz_script::{SCRIPT_BYTES, Script, ScriptFault, ScriptRule, read_script};
 use bz_text::{TextError, write_report, write_summary};
 use bz_words::{Command, CommandLine, WordsError, read_words};
-use bz_world::{OpenError, Which, World};
+use bz_world::{Which, World};
 use std::alloc::Global;
 use std::sync::Wait;
 use std::thread::Threads;
@@ -39,7 +42,7 @@ use std::thread::Threads;
 #[derive(Drop)]
 pub struct Outcome {
     /// The exit status: 0 done, 1 reading failed, 2 usage, 3 the script was refused, 4 writing failed,
-    /// 5 a limit was met, 7 want of memory.
+    /// 5 a limit was met, 6 the image was refused, 7 want of memory.
     pub status: u8,
 
     /// The world as the run left it; none where the answer came before there was one.
@@ -47,7 +50,7 @@ pub struct Outcome {
 }
 
 /// Writes a text to its end, and answers the status that goes with it, or 4 where the sink fails.
-fn written<K: Sink>(sink: &mut K, text: &[u8], status: u8) -> u8
+pub(crate) fn written<K: Sink>(sink: &mut K, text: &[u8], status: u8) -> u8
     ensures { Says
         (sunk (K.held sink.old) (K.held sink.new) (K.faults sink.old) (K.faults sink.new))
         status text.now result }
@@ -68,11 +71,14 @@ fn run_world<K: Sink>(
     sink: &mut K,
 ) -> Outcome
     requires script { IsJob (job_of script.now) }
-    requires fresh { world ≡ new_lab (config_of line.marks script.now.nodes script.now.swaps) }
+    requires first { world.at_start ≢ Recovering }
+    requires new { world.log.past ≡ [] }
+    requires workers { world.config.workers ≡ MOST_WORKERS }
+    requires image { IsImageOf world.config world.log.start }
     requires none_wait { queue.calls ≡ [] }
     requires none_open { (w : ℕ) → has_open queue w ≡ false }
     requires room { queue.room ≡ length (job_of script.now).items }
-    ensures { RanWorld line.command line.marks (job_of script.now)
+    ensures { (base : Base) → IsMadeFor line.marks base (job_of script.now) world → RanWorld line.command line.marks base (job_of script.now)
         (sunk (K.held sink.old) (K.held sink.new) (K.faults sink.old) (K.faults sink.new))
         result.status result.lab }
 {
@@ -82,35 +88,48 @@ fn run_world<K: Sink>(
     }
 }
 
-/// Runs the script of a command, with its limit on marks.
-fn run_script<K: Sink>(alloc: Global, line: CommandLine, script: &Script, sink: &mut K) -> Outcome
+/// The numbers of a world with this limit on marks and these sizes.
+pub(crate) fn config_for(marks: u32, nodes: u32, swaps: u32) -> Config
+    ensures { result ≡ config_of marks nodes swaps }
+{
+    Config {
+        nodes,
+        swaps,
+        workers: MAX_WORKERS,
+        marks,
+        calls: MAX_CALLS,
+        pages: MAX_PAGES,
+    }
+}
+
+/// Runs the script of a command over fresh memory or an image, with its limit on marks.
+fn run_script<K: Sink>(
+    alloc: Global,
+    line: CommandLine,
+    base: Option<Image>,
+    script: &Script,
+    sink: &mut K,
+) -> Outcome
     requires script { IsJob (job_of script.now) }
     requires marks { (MIN_MARKS ≤ line.marks) × (line.marks ≤ MAX_MARKS) }
-    ensures { RanScript line.command line.marks (job_of script.now)
+    requires base { IsBaseOf (config_of line.marks script.now.nodes script.now.swaps) base }
+    ensures { RanScript line.command line.marks base (job_of script.now)
         (sunk (K.held sink.old) (K.held sink.new) (K.faults sink.old) (K.faults sink.new))
         result.status result.lab }
 {
-    let config = Config {
-        nodes: script.nodes,
-        swaps: script.swaps,
-        workers: MAX_WORKERS,
-        marks: line.marks,
-        calls: MAX_CALLS,
-        pages: MAX_PAGES,
-    };
+    let config = config_for(line.marks, script.nodes, script.swaps);
     let queue = match Queue::open(alloc, script.items.items().len()) {
         Ok(queue) => queue,
         Err(Memory) => return no_memory(sink),
     };
-    match World::open(alloc, &config) {
+    match open_world(alloc, &config, base) {
         Ok(world) => run_world(alloc, line, script, world, queue, sink),
-        Err(OpenError::Memory) => no_memory(sink),
-        Err(OpenError::Config(_)) => unreachable!(),
+        Err(Memory) => no_memory(sink),
     }
 }
 
 /// Answers want of memory before there is a world.
-fn no_memory<K: Sink>(sink: &mut K) -> Outcome
+pub(crate) fn no_memory<K: Sink>(sink: &mut K) -> Outcome
     ensures lab { result.lab ≡ None }
     ensures wrote { Says
         (sunk (K.held sink.old) (K.held sink.new) (K.faults sink.old) (K.faults sink.new))
@@ -131,26 +150,15 @@ fn give_up<K: Sink>(world: World, sink: &mut K) -> Outcome
     Outcome { status, lab }
 }
 
-/// The journal of a world over fresh memory goes on from a well-formed image. The call does nothing.
-fn starts_with_an_image(world: &World)
-    requires { world.now.log.start ≡ fresh_words world.now.config }
-    ensures { IsImageOf world.now.config world.now.log.start }
-{
-    fresh_memory_is_empty();
-    let _config = world.config();
-    let _journal = world.journal();
-}
-
 /// Writes the report of a run that is done.
 fn report<K: Sink>(alloc: Global, world: World, sink: &mut K) -> Outcome
-    requires fresh { world.log.start ≡ fresh_words world.config }
+    requires image { IsImageOf world.config world.log.start }
     ensures lab { result.lab ≡ Some world }
     ensures sound { IsSound world.config world.at_start world.log }
     ensures wrote { SaysOrWants
         (sunk (K.held sink.old) (K.held sink.new) (K.faults sink.old) (K.faults sink.new))
         0 (report_of world.config world.log) result.status }
 {
-    starts_with_an_image(&world);
     match write_report(alloc, world.journal(), sink) {
         Ok(()) => Outcome {
             status: 0,
@@ -166,14 +174,13 @@ fn report<K: Sink>(alloc: Global, world: World, sink: &mut K) -> Outcome
 
 /// Writes the report of a run that met a limit, and then its fault line.
 fn report_limit<K: Sink>(alloc: Global, world: World, which: Which, sink: &mut K) -> Outcome
-    requires fresh { world.log.start ≡ fresh_words world.config }
+    requires image { IsImageOf world.config world.log.start }
     ensures lab { result.lab ≡ Some world }
     ensures sound { IsSound world.config world.at_start world.log }
     ensures wrote { SaysOrWants
         (sunk (K.held sink.old) (K.held sink.new) (K.faults sink.old) (K.faults sink.new))
         5 (report_of world.config world.log ++ fault_line (limit_text which)) result.status }
 {
-    starts_with_an_image(&world);
     match write_report(alloc, world.journal(), sink) {
         Ok(()) => {
             let status = written(sink, limit_line(which), 5);
@@ -198,15 +205,13 @@ fn summarize<K: Sink>(
     world: World,
     sink: &mut K,
 ) -> Outcome
-    requires fresh { world.log.start ≡ fresh_words world.config }
+    requires image { IsImageOf world.config world.log.start }
     ensures lab { result.lab ≡ Some world }
     ensures sound { IsSound world.config world.at_start world.log }
     ensures wrote { SaysOrWants
         (sunk (K.held sink.old) (K.held sink.new) (K.faults sink.old) (K.faults sink.new))
         0 (summary_of world.config calls workers world.log) result.status }
 {
-    fresh_memory_is_empty();
-    let _config = world.config();
     match write_summary(alloc, world.journal(), calls, workers, sink) {
         Ok(()) => Outcome {
             status: 0,
@@ -220,9 +225,9 @@ fn summarize<K: Sink>(
     }
 }
 
-/// Writes what a command prints of a run that is done.
+/// Writes what a command writes of a run that is done.
 fn print<K: Sink>(alloc: Global, command: Command, world: World, sink: &mut K) -> Outcome
-    requires fresh { world.log.start ≡ fresh_words world.config }
+    requires image { IsImageOf world.config world.log.start }
     ensures lab { result.lab ≡ Some world }
     ensures sound { IsSound world.config world.at_start world.log }
     ensures wrote { SaysOrWants
@@ -230,7 +235,8 @@ fn print<K: Sink>(alloc: Global, command: Command, world: World, sink: &mut K) -
         0 (printed command world) result.status }
 {
     match command {
-        Command::Run => report(alloc, world, sink),
+        Command::Run | Command::Load => report(alloc, world, sink),
+        Command::Dump => dump(world, sink),
         Command::Work {
             seed: _,
             calls,
@@ -255,7 +261,7 @@ fn tell_limit<K: Sink>(world: World, which: Which, sink: &mut K) -> Outcome
     }
 }
 
-/// Writes what a command prints of a run that met a limit: the fault line, and before it the report of `run`.
+/// Writes what a command writes of a run that met a limit: the fault line, and before it the report of `run` and `load`.
 fn print_limit<K: Sink>(
     alloc: Global,
     command: Command,
@@ -263,7 +269,7 @@ fn print_limit<K: Sink>(
     which: Which,
     sink: &mut K,
 ) -> Outcome
-    requires fresh { world.log.start ≡ fresh_words world.config }
+    requires image { IsImageOf world.config world.log.start }
     ensures lab { result.lab ≡ Some world }
     ensures sound { IsSound world.config world.at_start world.log }
     ensures wrote { SaysOrWants
@@ -271,7 +277,8 @@ fn print_limit<K: Sink>(
         5 (printed_before command world ++ fault_line (limit_text which)) result.status }
 {
     match command {
-        Command::Run => report_limit(alloc, world, which, sink),
+        Command::Run | Command::Load => report_limit(alloc, world, which, sink),
+        Command::Dump => tell_limit(world, which, sink),
         Command::Work {
             seed: _,
             calls: _,
@@ -297,23 +304,47 @@ fn report_broken<K: Sink>(alloc: Global, line: u32, rule: ScriptRule, sink: &mut
 }
 
 /// Reads the bytes as a script and runs it, with this limit on marks.
-fn run_bytes<K: Sink>(alloc: Global, marks: u32, bytes: &[u8], sink: &mut K) -> Outcome
+fn run_bytes<K: Sink>(
+    alloc: Global,
+    line: CommandLine,
+    base: Option<Image>,
+    bytes: &[u8],
+    sink: &mut K,
+) -> Outcome
     requires fits { length bytes.now ≤ SCRIPT_BYTES }
-    requires marks { (MIN_MARKS ≤ marks) × (marks ≤ MAX_MARKS) }
-    ensures { RanBytes marks bytes.now
+    requires marks { (MIN_MARKS ≤ line.marks) × (line.marks ≤ MAX_MARKS) }
+    requires base { IsBase line.marks base }
+    ensures { RanBytes line.command line.marks base bytes.now
         (sunk (K.held sink.old) (K.held sink.new) (K.faults sink.old) (K.faults sink.new))
         result.status result.lab }
 {
-    match read_script(alloc, bytes, None) {
-        Ok(script) => {
-            let line = CommandLine {
-                command: Command::Run,
-                marks,
-            };
-            run_script(alloc, line, &script, sink)
-        }
+    match read_script(alloc, bytes, numbers_of(&base)) {
+        Ok(script) => run_script(alloc, line, base, &script, sink),
         Err(ScriptFault::Rule { line, rule }) => report_broken(alloc, line, rule, sink),
         Err(ScriptFault::Memory) => no_memory(sink),
+    }
+}
+
+/// Runs the script that the source has left, with this limit on marks.
+pub(crate) fn run_source<S: Source, K: Sink>(
+    alloc: Global,
+    line: CommandLine,
+    base: Option<Image>,
+    source: &mut S,
+    sink: &mut K,
+) -> Outcome
+    requires marks { (MIN_MARKS ≤ line.marks) × (line.marks ≤ MAX_MARKS) }
+    requires base { IsBase line.marks base }
+    ensures { RanSource line.command line.marks base
+        (given (S.left source.old) (S.left source.new) (S.faults source.old) (S.faults source.new))
+        (sunk (K.held sink.old) (K.held sink.new) (K.faults sink.old) (K.faults sink.new))
+        result.status result.lab }
+{
+    match read_all(alloc, source, SCRIPT_BYTES) {
+        Ok(bytes) => run_bytes(alloc, line, base, &bytes, sink),
+        Err(ReadFault::Failed) => refuse(sink, b"fault: read\n", 1),
+        Err(ReadFault::TooLong) => refuse(sink, b"fault: script too long\n", 3),
+        Err(ReadFault::Memory) => no_memory(sink),
     }
 }
 
@@ -329,19 +360,19 @@ fn run_workload<K: Sink>(
     requires calls { (1 ≤ calls) × (calls ≤ MOST_CALLS) }
     requires workers { (MIN_WORKERS ≤ workers) × (workers ≤ MOST_WORKERS) }
     requires marks { (MIN_MARKS ≤ line.marks) × (line.marks ≤ MAX_MARKS) }
-    ensures { RanScript line.command line.marks (workload_of seed calls workers)
+    ensures { RanScript line.command line.marks None (workload_of seed calls workers)
         (sunk (K.held sink.old) (K.held sink.new) (K.faults sink.old) (K.faults sink.new))
         result.status result.lab }
 {
     workloads_are_jobs();
     match generate(alloc, seed, calls, workers) {
-        Ok(script) => run_script(alloc, line, &script, sink),
+        Ok(script) => run_script(alloc, line, None, &script, sink),
         Err(Memory) => no_memory(sink),
     }
 }
 
 /// Ends a run that has read nothing that it can run.
-fn refuse<K: Sink>(sink: &mut K, text: &[u8], status: u8) -> Outcome
+pub(crate) fn refuse<K: Sink>(sink: &mut K, text: &[u8], status: u8) -> Outcome
     ensures lab { result.lab ≡ None }
     ensures wrote { Says
         (sunk (K.held sink.old) (K.held sink.new) (K.faults sink.old) (K.faults sink.new))
@@ -380,12 +411,9 @@ pub fn top<R: Threads + Wait + Sync, S: Source, K: Sink, G: Gate + Sync>(
         Err(WordsError::Memory) => return no_memory(sink),
     };
     match line.command {
-        Command::Run => match read_all(alloc, source, SCRIPT_BYTES) {
-            Ok(bytes) => run_bytes(alloc, line.marks, &bytes, sink),
-            Err(ReadFault::Failed) => refuse(sink, b"fault: read\n", 1),
-            Err(ReadFault::TooLong) => refuse(sink, b"fault: script too long\n", 3),
-            Err(ReadFault::Memory) => no_memory(sink),
-        },
+        Command::Run => run_source(alloc, line, None, source, sink),
+        Command::Dump => run_source(alloc, line, None, source, sink),
+        Command::Load => load(alloc, line, source, sink),
         Command::Work {
             seed,
             calls,

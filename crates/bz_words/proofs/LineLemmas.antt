@@ -1,17 +1,17 @@
 -- What is known of words that are a command.
-use Rattle.std.proofs.Common.{◌≡◌, ◌∙◌, ◌⊎◌, ℕ, Bool, true, false, List, [], ◌∷◌, ◌++◌, Some, None, codes, inl, inr, refl, ap, sym, arith}
+use Rattle.std.proofs.Common.{◌≡◌, ◌∙◌, ◌⊎◌, ℕ, Bool, true, false, List, [], ◌∷◌, ◌++◌, Some, None, codes, inl, inr, refl, ap, sym, subst, arith}
 use Rattle.std.specs.Prelude.{Option}
 use Rattle.std.proofs.lemmas.Grind.{common_steps}
 use Rattle.std.proofs.lemmas.List.{append-nil}
 use Rattle.bz_script.specs.Number.{number_of, within, is_number}
 use Rattle.bz_words.specs.declared.command.Command.{Command}
-use Rattle.bz_words.specs.declared.command.Command.TheVariants.{Run, Work}
+use Rattle.bz_words.specs.declared.command.Command.TheVariants.{Run, Dump, Load, Work}
 use Rattle.bz_words.specs.declared.command.CommandLine.{CommandLine}
-use Rattle.bz_words.specs.CommandLine.{Text, Value, Writes, WriteAll, SaysMarks, LeavesMarks, IsCommandLine}
-use Rattle.bz_words.specs.Inside.Arrangement.{command_by, limit_of, Say, SayOnly, IsArranged}
+use Rattle.bz_words.specs.CommandLine.{Text, Value, Writes, WriteAll, SaysMarks, LeavesMarks, IsCommandLine, name_of, values_of, usual_marks}
+use Rattle.bz_words.specs.Inside.Arrangement.{command_by, limit_of, values_found, Say, SayOnly, IsArranged}
 use Rattle.bz_words.specs.Inside.Parser.{Seen, IsReadAs}
 use Rattle.bz_words.proofs.PlainLemmas.{IsPlain, number_plain}
-use Rattle.bz_words.proofs.ReadLemmas.{seen_run, read_unsaid, read_joined, read_apart}
+use Rattle.bz_words.proofs.ReadLemmas.{seen_bare, read_unsaid, read_joined, read_apart}
 use Rattle.bz_words.proofs.WorkLemmas.{seen_work, read_values, joined_0, joined_1, joined_2, joined_3, apart_0, apart_1, apart_2, apart_3}
 
 -- what `clap` makes of the words of a command, and what the program makes of that
@@ -43,38 +43,80 @@ writes_number word v writes = by (is_number word) refl
 alone : (option : List Text) (text : Option Text) → SayOnly option text → Say option [] text
 alone option text h = record { before = []; option = option; after = []; are = sym (append-nil option); values_are = refl; say = h }
 
-known_run : (words option : List Text) (marks : ℕ) → words ≡ codes "run" ∷ option → SaysMarks option marks → IsKnown words (record { command = Run; marks = marks })
-known_run words option marks are says = elim says.is_option [
-  | inl apart ↦
-      let is : words ≡ codes "run" ∷ codes "--marks" ∷ says.word ∷ [] = are ∙ ap (λ (o : List Text). codes "run" ∷ o) apart in
-      record {
-        seen = seen_run (Some says.word);
-        read = rw is (read_apart says.word (writes_number says.word _ says.writes));
-        command = refl;
-        limit = says.writes;
-        arranged = record { rest = option; are = are; say = alone option (Some says.word) (inl apart) };
-      }
-  | inr joined ↦
-      let is : words ≡ codes "run" ∷ (codes "--marks=" ++ says.word) ∷ [] = are ∙ ap (λ (o : List Text). codes "run" ∷ o) joined in
-      record {
-        seen = seen_run (Some says.word);
-        read = rw is (read_joined says.word);
-        command = refl;
-        limit = says.writes;
-        arranged = record { rest = option; are = are; say = alone option (Some says.word) (inr joined) };
-      }
-]
+-- what is known of a command without values
+record IsBare (command : Command) : Type 0 where
+  none : values_of command ≡ []
+  found : (text : Option Text) → command_by (seen_bare (name_of command) text) ≡ Some command
+  values : (seen : Seen) → values_found command seen ≡ []
+  unsaid : IsReadAs (name_of command ∷ []) (seen_bare (name_of command) None)
+  joined : (number : Text) → IsReadAs (name_of command ∷ (codes "--marks=" ++ number) ∷ []) (seen_bare (name_of command) (Some number))
+  apart : (number : Text) → is_number number ≡ true → IsReadAs (name_of command ∷ codes "--marks" ∷ number ∷ []) (seen_bare (name_of command) (Some number))
 
-usual_run : (words option : List Text) (marks : ℕ) → words ≡ codes "run" ∷ option → LeavesMarks option Run marks → IsKnown words (record { command = Run; marks = marks })
-usual_run words option marks are leaves =
-    let is : words ≡ codes "run" ∷ [] = are ∙ ap (λ (o : List Text). codes "run" ∷ o) leaves.none in
-    record {
-      seen = seen_run None;
-      read = rw is read_unsaid;
-      command = refl;
-      limit = ap Some (sym leaves.usual);
-      arranged = record { rest = option; are = are; say = alone option None leaves.none };
+run_bare : IsBare Run
+run_bare = record {
+  none = refl;
+  found = λ text. refl;
+  values = λ seen. refl;
+  unsaid = read_unsaid.run;
+  joined = λ number. (read_joined number).run;
+  apart = λ number is. (read_apart number is).run;
+}
+
+dump_bare : IsBare Dump
+dump_bare = record {
+  none = refl;
+  found = λ text. refl;
+  values = λ seen. refl;
+  unsaid = read_unsaid.dump;
+  joined = λ number. (read_joined number).dump;
+  apart = λ number is. (read_apart number is).dump;
+}
+
+load_bare : IsBare Load
+load_bare = record {
+  none = refl;
+  found = λ text. refl;
+  values = λ seen. refl;
+  unsaid = read_unsaid.load;
+  joined = λ number. (read_joined number).load;
+  apart = λ number is. (read_apart number is).load;
+}
+
+module _ (command : Command) (bare : IsBare command) (words option : List Text) (marks : ℕ) (are : words ≡ name_of command ∷ option) where
+  bare-arranged : (text : Option Text) → SayOnly option text → IsArranged words command (seen_bare (name_of command) text)
+  bare-arranged text h = record {
+    rest = option;
+    are = are;
+    say = subst (λ (values : List Text). Say option values text) (sym (bare.values (seen_bare (name_of command) text))) (alone option text h);
+  }
+
+  words-are : (opt : List Text) → option ≡ opt → words ≡ name_of command ∷ opt
+  words-are opt is = are ∙ ap (λ (o : List Text). name_of command ∷ o) is
+
+  known_bare : SaysMarks option marks ⊎ LeavesMarks option command marks → IsKnown words (record { command = command; marks = marks })
+  known_bare (inl says) = elim says.is_option [
+    | inl is ↦ record {
+      seen = seen_bare (name_of command) (Some says.word);
+      read = rw (words-are _ is) (bare.apart says.word (writes_number says.word _ says.writes));
+      command = bare.found (Some says.word);
+      limit = says.writes;
+      arranged = bare-arranged (Some says.word) (inl is);
     }
+    | inr is ↦ record {
+      seen = seen_bare (name_of command) (Some says.word);
+      read = rw (words-are _ is) (bare.joined says.word);
+      command = bare.found (Some says.word);
+      limit = says.writes;
+      arranged = bare-arranged (Some says.word) (inr is);
+    }
+  ]
+  known_bare (inr leaves) = record {
+    seen = seen_bare (name_of command) None;
+    read = rw (words-are _ leaves.none) bare.unsaid;
+    command = bare.found None;
+    limit = ap Some (sym leaves.usual);
+    arranged = bare-arranged None leaves.none;
+  }
 
 -- three values and no more
 record Three (values : List Text) (u v w : Value) : Type 0 where
@@ -178,10 +220,15 @@ module _ (seed calls workers marks : ℕ) (words before option after : List Text
     arranged = arranged None leaves.none;
   }
 
+of_bare : (words : List Text) (command : Command) → IsBare command → (marks : ℕ) → IsCommandLine words (record { command = command; marks = marks }) → IsKnown words (record { command = command; marks = marks })
+of_bare words command bare marks is =
+    let none = no_values (is.before ++ is.after) (subst (WriteAll (is.before ++ is.after)) bare.none is.values) in
+    known_bare command bare words is.option marks (is.are ∙ ap (λ (o : List Text). name_of command ∷ o) (option_alone is.before is.option is.after none)) is.limit
+
 known : (words : List Text) (command : Command) (marks : ℕ) → IsCommandLine words (record { command = command; marks = marks }) → IsKnown words (record { command = command; marks = marks })
-known words Run marks is =
-    let are : words ≡ codes "run" ∷ is.option = is.are ∙ ap (λ (o : List Text). codes "run" ∷ o) (option_alone is.before is.option is.after (no_values (is.before ++ is.after) is.values)) in
-    elim is.limit [ inl says ↦ known_run words is.option marks are says | inr leaves ↦ usual_run words is.option marks are leaves ]
+known words Run marks is = of_bare words Run run_bare marks is
+known words Dump marks is = of_bare words Dump dump_bare marks is
+known words Load marks is = of_bare words Load load_bare marks is
 known words (Work seed calls workers) marks is =
     known_work seed calls workers marks words is.before is.option is.after is.are (three (is.before ++ is.after) _ _ _ is.values) is.limit
 

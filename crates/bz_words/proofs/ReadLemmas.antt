@@ -1,5 +1,5 @@
--- What `clap` makes of the words of `run`.
-use Rattle.std.proofs.Common.{◌≡◌, ◌≤◌, ◌+◌, ◌⊎◌, ℕ, true, [], ◌∷◌, ◌++◌, Some, None, codes, inl, inr, refl, sym, subst, arith}
+-- What `clap` makes of the words of the commands without values.
+use Rattle.std.proofs.Common.{◌≡◌, ◌≤◌, ◌+◌, ◌⊎◌, ℕ, true, List, [], ◌∷◌, ◌++◌, Some, None, codes, inl, inr, refl, sym, subst, arith}
 use Rattle.std.specs.Prelude.{Option}
 use Rattle.std.proofs.lemmas.Bool.Decides.{nat_tests}
 use Rattle.clap.proofs.OnLiterals.{clap_on_literals}
@@ -7,64 +7,70 @@ use Rattle.bz_script.specs.Number.{is_number}
 use Rattle.bz_words.specs.CommandLine.{Text}
 use Rattle.bz_words.specs.Inside.Parser.{Seen, IsReadAs}
 
--- what was found of the limit on marks, and no values
-abbrev pub seen_run : Option Text → Seen
-seen_run marks = record { name = codes "run"; marks = marks; seed = None; calls = None; workers = None }
+-- the name, what was found of the limit on marks, and no values
+abbrev pub seen_bare : Text → Option Text → Seen
+seen_bare name marks = record { name = name; marks = marks; seed = None; calls = None; workers = None }
+
+-- `clap` reads these words behind the name of each such command
+pub record ReadsBehind (words : List Text) (marks : Option Text) : Type 0 where
+  pub run : IsReadAs (codes "run" ∷ words) (seen_bare (codes "run") marks)
+  pub dump : IsReadAs (codes "dump" ∷ words) (seen_bare (codes "dump") marks)
+  pub load : IsReadAs (codes "load" ∷ words) (seen_bare (codes "load") marks)
 
 -- the name alone
-pub read_unsaid : IsReadAs (codes "run" ∷ []) (seen_run None)
+pub read_unsaid : ReadsBehind [] None
 unfolding clap_on_literals
-read_unsaid = record { taken = refl; found = refl }
+read_unsaid = record { run = record { taken = refl; found = refl }; dump = record { taken = refl; found = refl }; load = record { taken = refl; found = refl } }
 
 -- the limit in one word
-pub read_joined : (number : Text) → IsReadAs (codes "run" ∷ (codes "--marks=" ++ number) ∷ []) (seen_run (Some number))
+pub read_joined : (number : Text) → ReadsBehind ((codes "--marks=" ++ number) ∷ []) (Some number)
 unfolding clap_on_literals
-read_joined number = record { taken = refl; found = refl }
+read_joined number = record { run = record { taken = refl; found = refl }; dump = record { taken = refl; found = refl }; load = record { taken = refl; found = refl } }
 
 -- the limit in a word of its own
 ReadsApart : Text → Type 0
-ReadsApart number = IsReadAs (codes "run" ∷ codes "--marks" ∷ number ∷ []) (seen_run (Some number))
+ReadsApart number = ReadsBehind (codes "--marks" ∷ number ∷ []) (Some number)
 
 -- `clap` looks whether such a word begins with a hyphen, and so at its first byte
 apart_0 : (ds : Text) → ReadsApart (48 ∷ ds)
 unfolding ReadsApart clap_on_literals
-apart_0 ds = record { taken = refl; found = refl }
+apart_0 ds = record { run = record { taken = refl; found = refl }; dump = record { taken = refl; found = refl }; load = record { taken = refl; found = refl } }
 
 apart_1 : (ds : Text) → ReadsApart (49 ∷ ds)
 unfolding ReadsApart clap_on_literals
-apart_1 ds = record { taken = refl; found = refl }
+apart_1 ds = record { run = record { taken = refl; found = refl }; dump = record { taken = refl; found = refl }; load = record { taken = refl; found = refl } }
 
 apart_2 : (ds : Text) → ReadsApart (50 ∷ ds)
 unfolding ReadsApart clap_on_literals
-apart_2 ds = record { taken = refl; found = refl }
+apart_2 ds = record { run = record { taken = refl; found = refl }; dump = record { taken = refl; found = refl }; load = record { taken = refl; found = refl } }
 
 apart_3 : (ds : Text) → ReadsApart (51 ∷ ds)
 unfolding ReadsApart clap_on_literals
-apart_3 ds = record { taken = refl; found = refl }
+apart_3 ds = record { run = record { taken = refl; found = refl }; dump = record { taken = refl; found = refl }; load = record { taken = refl; found = refl } }
 
 apart_4 : (ds : Text) → ReadsApart (52 ∷ ds)
 unfolding ReadsApart clap_on_literals
-apart_4 ds = record { taken = refl; found = refl }
+apart_4 ds = record { run = record { taken = refl; found = refl }; dump = record { taken = refl; found = refl }; load = record { taken = refl; found = refl } }
 
 apart_5 : (ds : Text) → ReadsApart (53 ∷ ds)
 unfolding ReadsApart clap_on_literals
-apart_5 ds = record { taken = refl; found = refl }
+apart_5 ds = record { run = record { taken = refl; found = refl }; dump = record { taken = refl; found = refl }; load = record { taken = refl; found = refl } }
 
 apart_6 : (ds : Text) → ReadsApart (54 ∷ ds)
 unfolding ReadsApart clap_on_literals
-apart_6 ds = record { taken = refl; found = refl }
+apart_6 ds = record { run = record { taken = refl; found = refl }; dump = record { taken = refl; found = refl }; load = record { taken = refl; found = refl } }
 
 apart_7 : (ds : Text) → ReadsApart (55 ∷ ds)
 unfolding ReadsApart clap_on_literals
-apart_7 ds = record { taken = refl; found = refl }
+apart_7 ds = record { run = record { taken = refl; found = refl }; dump = record { taken = refl; found = refl }; load = record { taken = refl; found = refl } }
 
 apart_8 : (ds : Text) → ReadsApart (56 ∷ ds)
 unfolding ReadsApart clap_on_literals
-apart_8 ds = record { taken = refl; found = refl }
+apart_8 ds = record { run = record { taken = refl; found = refl }; dump = record { taken = refl; found = refl }; load = record { taken = refl; found = refl } }
 
 apart_9 : (ds : Text) → ReadsApart (57 ∷ ds)
 unfolding ReadsApart clap_on_literals
-apart_9 ds = record { taken = refl; found = refl }
+apart_9 ds = record { run = record { taken = refl; found = refl }; dump = record { taken = refl; found = refl }; load = record { taken = refl; found = refl } }
 
 -- a number is the least one, or greater
 this_or_more : (low d : ℕ) → low ≤ d → (d ≡ low) ⊎ (low + 1 ≤ d)
@@ -108,7 +114,7 @@ first_digit : (d : ℕ) (ds : Text) → is_number (d ∷ ds) ≡ true → (48 �
 first_digit d ds is = grind (arith, nat_tests)
 
 -- the limit in two words
-pub read_apart : (number : Text) → is_number number ≡ true → IsReadAs (codes "run" ∷ codes "--marks" ∷ number ∷ []) (seen_run (Some number))
+pub read_apart : (number : Text) → is_number number ≡ true → ReadsBehind (codes "--marks" ∷ number ∷ []) (Some number)
 unfolding ReadsApart
 read_apart [] is = absurd cc
 read_apart (d ∷ ds) is = apart_digit d ds (first_digit d ds is).0 (first_digit d ds is).1

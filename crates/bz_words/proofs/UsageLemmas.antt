@@ -6,7 +6,7 @@ use Rattle.std.proofs.lemmas.Slice.Eq.{bytes_eq-Decides}
 use Rattle.clap.specs.Simple.{subcommand_of}
 use Rattle.bz_script.specs.Number.{number_of, within}
 use Rattle.bz_words.specs.declared.command.Command.{Command}
-use Rattle.bz_words.specs.declared.command.Command.TheVariants.{Run}
+use Rattle.bz_words.specs.declared.command.Command.TheVariants.{Run, Dump, Load}
 use Rattle.bz_words.specs.declared.command.CommandLine.{CommandLine}
 use Rattle.bz_words.specs.CommandLine.{Text, WriteAll, SaysMarks, LeavesMarks, IsCommandLine, name_of, values_of}
 use Rattle.bz_words.specs.Inside.Arrangement.{number_in, workload_by, command_by, limit_of, values_found, SayOnly, IsArranged}
@@ -72,13 +72,15 @@ named_work name marks (Some a) (Some b) (Some c) command e is = by (within 0 184
         (record { name = e; values = (f, (g, (h, tt))) })
 
 named_by : (seen : Seen) (command : Command) → command_by seen ≡ Some command → IsNamed seen command
-named_by seen command is = by (bytes_eq seen.name (codes "run")) (bytes_eq seen.name (codes "work")) refl refl is
+named_by seen command is = by (bytes_eq seen.name (codes "run")) (bytes_eq seen.name (codes "dump")) (bytes_eq seen.name (codes "load")) (bytes_eq seen.name (codes "work")) refl refl refl refl is
   where
-    by : (b c : Bool) → bytes_eq seen.name (codes "run") ≡ b → bytes_eq seen.name (codes "work") ≡ c
-        → (if b then Some Run else if c then workload_by (number_in 0 18446744073709551615 seen.seed) (number_in 1 20000 seen.calls) (number_in 1 64 seen.workers) else None) ≡ Some command → IsNamed seen command
-    by true c e f is = subst (λ (d : Command). IsNamed seen d) (some_injective _ _ is) (record { name = (bytes_eq-Decides seen.name (codes "run")).0 e; values = tt })
-    by false true e f is = named_work seen.name seen.marks seen.seed seen.calls seen.workers command ((bytes_eq-Decides seen.name (codes "work")).0 f) is
-    by false false e f is = absurd cc
+    by : (r d l w : Bool) → bytes_eq seen.name (codes "run") ≡ r → bytes_eq seen.name (codes "dump") ≡ d → bytes_eq seen.name (codes "load") ≡ l → bytes_eq seen.name (codes "work") ≡ w
+        → (if r then Some Run else if d then Some Dump else if l then Some Load else if w then workload_by (number_in 0 18446744073709551615 seen.seed) (number_in 1 20000 seen.calls) (number_in 1 64 seen.workers) else None) ≡ Some command → IsNamed seen command
+    by true d l w is_run is_dump is_load is_work is = subst (λ (c : Command). IsNamed seen c) (some_injective _ _ is) (record { name = (bytes_eq-Decides seen.name (codes "run")).0 is_run; values = tt })
+    by false true l w is_run is_dump is_load is_work is = subst (λ (c : Command). IsNamed seen c) (some_injective _ _ is) (record { name = (bytes_eq-Decides seen.name (codes "dump")).0 is_dump; values = tt })
+    by false false true w is_run is_dump is_load is_work is = subst (λ (c : Command). IsNamed seen c) (some_injective _ _ is) (record { name = (bytes_eq-Decides seen.name (codes "load")).0 is_load; values = tt })
+    by false false false true is_run is_dump is_load is_work is = named_work seen.name seen.marks seen.seed seen.calls seen.workers command ((bytes_eq-Decides seen.name (codes "work")).0 is_work) is
+    by false false false false is_run is_dump is_load is_work is = absurd cc
 
 -- the words are the command that was found in them
 pub line_found : (words : List Text) (seen : Seen) (command : Command) (number : ℕ) → IsArranged words command seen → command_by seen ≡ Some command → limit_of command seen.marks ≡ Some number

@@ -127,7 +127,7 @@ pub(crate) fn is_arranged(words: &[&str], command: Command, found: &Found) -> bo
         Some((first, words)) => {
             is_text(first, found.name)
                 && match command {
-                    Command::Run => say(words, &[], found.marks),
+                    Command::Run | Command::Dump | Command::Load => { say(words, &[], found.marks) }
                     Command::Work {
                         seed: _,
                         calls: _,

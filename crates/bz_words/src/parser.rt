@@ -2,7 +2,7 @@
 ghost use Rattle.std.specs.Prelude.{◌≡◌, ◌≢◌, false, List, ℕ, Option, Some, IfOk, map, option_map, codes};
 ghost use Rattle.clap.specs.Words.{app_of, rule_of};
 ghost use Rattle.clap.specs.declared.builder.command.Command.TheViews.{out-Command as fields_of};
-ghost use Rattle.bz_words.specs.Inside.Parser.{bz_app, marks_rule, value_rule, run_app, work_app, seen_in, Seen, IsReadAs};
+ghost use Rattle.bz_words.specs.Inside.Parser.{bz_app, marks_rule, value_rule, bare_app, work_app, seen_in, Seen, IsReadAs};
 ghost use Rattle.bz_words.specs.Inside.Founds.{seen_of};
 ghost use Rattle.clap.specs.Simple.{subcommand_of};
 
@@ -39,11 +39,12 @@ fn value<'a>(alloc: Global, id: &'a str) -> Arg<'a>
     Arg::new(alloc, id).action(ArgAction::Set)
 }
 
-fn run<'a>(alloc: Global) -> Result<Command<'a>, AllocError>
-    ensures app { IfOk result (λ run. app_of run ≡ run_app) }
-    ensures local { IfOk result (λ run. (fields_of run).has_globals ≡ false) }
+// A command without values, under its name.
+fn bare<'a>(alloc: Global, name: &'a str) -> Result<Command<'a>, AllocError>
+    ensures app { IfOk result (λ bare. app_of bare ≡ bare_app name.entry.now) }
+    ensures local { IfOk result (λ bare. (fields_of bare).has_globals ≡ false) }
 {
-    Command::new(alloc, "run").arg(marks_option(alloc))
+    Command::new(alloc, name).arg(marks_option(alloc))
 }
 
 fn work<'a>(alloc: Global) -> Result<Command<'a>, AllocError>
@@ -61,13 +62,17 @@ fn work<'a>(alloc: Global) -> Result<Command<'a>, AllocError>
 fn parser<'a>(alloc: Global) -> Result<Command<'a>, AllocError>
     ensures { IfOk result (λ parser. app_of parser ≡ bz_app) }
 {
-    let run = run(alloc)?;
+    let run = bare(alloc, "run")?;
+    let dump = bare(alloc, "dump")?;
+    let load = bare(alloc, "load")?;
     let work = work(alloc)?;
     Command::new(alloc, "bz")
         .no_binary_name(true)
         .disable_help_flag(true)
         .disable_help_subcommand(true)
         .subcommand(run)?
+        .subcommand(dump)?
+        .subcommand(load)?
         .subcommand(work)
 }
 

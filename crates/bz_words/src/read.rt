@@ -77,6 +77,12 @@ fn command_found(found: &Found) -> Option<Command>
     if found.name == "run" {
         return Some(Command::Run);
     }
+    if found.name == "dump" {
+        return Some(Command::Dump);
+    }
+    if found.name == "load" {
+        return Some(Command::Load);
+    }
     if found.name == "work" {
         return workload_found(found);
     }
@@ -89,7 +95,7 @@ fn marks_unsaid(command: Command) -> u32
     ensures in_range { (least_marks ≤ result) × (result ≤ most_marks) }
 {
     match command {
-        Command::Run => RUN_MARKS,
+        Command::Run | Command::Dump | Command::Load => RUN_MARKS,
         Command::Work {
             seed: _,
             calls: _,

@@ -47,6 +47,33 @@ fn run_has_a_limit_on_marks_or_the_usual_one(rt: HostRuntime) -> Result<(), Fail
 }
 
 #[test]
+fn dump_and_load_have_the_same(rt: HostRuntime) -> Result<(), Fail> {
+    for (line, command, marks) in [
+        ("dump", Command::Dump, 4_194_304),
+        ("dump --marks 1024", Command::Dump, 1024),
+        ("dump --marks=33554432", Command::Dump, 33_554_432),
+        ("load", Command::Load, 4_194_304),
+        ("load --marks 5000000", Command::Load, 5_000_000),
+        ("load --marks=2345", Command::Load, 2345),
+    ] {
+        expect_line(&rt, rt.alloc(), line, Ok(CommandLine { command, marks }))?;
+    }
+    for line in [
+        "dump 1",
+        "dump --",
+        "dump dump",
+        "dump --marks 1023",
+        "load load",
+        "load --marks",
+        "load image.bz",
+        "--marks 1024 load",
+    ] {
+        expect_line(&rt, rt.alloc(), line, Err(WordsError::Usage))?;
+    }
+    Ok(())
+}
+
+#[test]
 fn work_has_three_numbers_and_the_limit_anywhere_among_them(rt: HostRuntime) -> Result<(), Fail> {
     for (line, seed, calls, workers, marks) in [
         ("work 0 1 1", 0, 1, 1, 33_554_432),
@@ -124,8 +151,8 @@ fn other_words_are_no_command(rt: HostRuntime) -> Result<(), Fail> {
         "help run",
         "version",
         "worker 1 2 3",
-        "dump",
-        "load",
+        "dumps",
+        "loa",
         "now",
         "--help",
         "-h",

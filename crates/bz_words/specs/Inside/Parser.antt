@@ -14,8 +14,9 @@ marks_rule = record (new_rule (codes "marks")) { long = Some (codes "marks"); ac
 abbrev pub value_rule : Text → Rule
 value_rule id = record (new_rule id) { action = Some Set }
 
-abbrev pub run_app : App
-run_app = with_rule (new_app (codes "run")) marks_rule
+-- a command without values
+abbrev pub bare_app : Text → App
+bare_app name = with_rule (new_app name) marks_rule
 
 abbrev pub work_app : App
 work_app = with_rule (with_rule (with_rule (with_rule (new_app (codes "work")) (value_rule (codes "seed"))) (value_rule (codes "calls"))) (value_rule (codes "workers"))) marks_rule
@@ -25,8 +26,10 @@ abbrev pub bz_app : App
 bz_app =
     with_subcommand
     (with_subcommand
+    (with_subcommand
+    (with_subcommand
     (on_top (λ s. record s { no_binary_name = true; disable_help_flag = true; disable_help_subcommand = true })
-    (new_app (codes "bz"))) run_app.top) work_app.top
+    (new_app (codes "bz"))) (bare_app (codes "run")).top) (bare_app (codes "dump")).top) (bare_app (codes "load")).top) work_app.top
 
 -- what is found: the subcommand's name, and the texts of its limit on marks and of its values
 pub record Seen : Type 0 where
