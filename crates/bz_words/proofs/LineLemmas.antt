@@ -7,7 +7,7 @@ use Rattle.bz_script.specs.Number.{number_of, within, is_number}
 use Rattle.bz_words.specs.declared.command.Command.{Command}
 use Rattle.bz_words.specs.declared.command.Command.TheVariants.{Run, Dump, Load, Work}
 use Rattle.bz_words.specs.declared.command.CommandLine.{CommandLine}
-use Rattle.bz_words.specs.CommandLine.{Text, Value, Writes, WriteAll, SaysMarks, LeavesMarks, IsCommandLine, name_of, values_of, usual_marks}
+use Rattle.bz_words.specs.CommandLine.{Text, Value, Writes, WriteAll, SaysMarks, LeavesMarks, IsCommandLine, name_of, values_of}
 use Rattle.bz_words.specs.Inside.Arrangement.{command_by, limit_of, values_found, Say, SayOnly, IsArranged}
 use Rattle.bz_words.specs.Inside.Parser.{Seen, IsReadAs}
 use Rattle.bz_words.proofs.PlainLemmas.{IsPlain, number_plain}
