@@ -1,5 +1,5 @@
 use Rattle.std.proofs.Common.{◌≡◌}
-use Rattle.bz_index.proofs.tests.recover.Given as goal
+use Rattle.bz_index.proofs.tests.bench.recover.Given as goal
 use Rattle.bz_index.specs.Passes.{worker_of, IsPassOf}
 
 abbrev pub invariant-loop-step : goal.invariant-loop-step

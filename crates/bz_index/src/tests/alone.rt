@@ -1,0 +1,133 @@
+//! An index on one thread, from its opening to its close.
+ghost use Rattle.std.specs.Prelude.{◌≡◌, ◌<◌};
+ghost use Rattle.bz_index.specs.Passes.{worker_of, IsPassOf};
+
+use super::bench::{Said, close, join_back, key, open, payload, recover, short, split_off};
+use crate::{Gate, Index, IndexPass, NoGate};
+use bz_call::Call;
+use bz_key::PageBuf;
+use bz_layout::Config;
+use bz_mark::Mark;
+use bz_world::{Applied, Event, World};
+use std::sync::Wait;
+use std::sync::atomic::{AtomicU32, Ordering};
+use std::test::*;
+
+const TWO_WORKERS: Config = Config {
+    nodes: 4,
+    swaps: 32,
+    workers: 2,
+    marks: 1 << 16,
+    calls: 16,
+    pages: 2,
+};
+
+// What the pass's worker is answered to a call.
+fn answer_to<R: Wait>(
+    rt: &R,
+    index: &Index,
+    pass: &mut IndexPass,
+    page: &mut PageBuf,
+    call: Call,
+) -> Said
+    requires { IsPassOf index.now pass.old × (0 < worker_of pass.old) }
+    ensures { IsPassOf index.now pass.new × (worker_of pass.new ≡ worker_of pass.old) }
+{
+    let answer = index.call(rt, pass, call, page, &NoGate);
+    short(&answer)
+}
+
+// How many marks of a world are Begins, and how many Ends.
+fn calls_of(world: &World) -> (u32, u32) {
+    let journal = world.journal();
+    let (mut begun, mut ended) = (0u32, 0u32);
+    for i in 0..journal.length() {
+        match journal.mark(i) {
+            Mark::Begin { .. } => begun = begun.saturating_add(1),
+            Mark::End { .. } => ended = ended.saturating_add(1),
+            _ => {}
+        }
+    }
+    (begun, ended)
+}
+
+#[test]
+fn calls_of_two_workers_are_answered_by_one_map(rt: HostRuntime) -> Result<(), Fail> {
+    let (index, mut first) = open(rt.alloc(), &TWO_WORKERS)?;
+    let mut page = PageBuf::open(rt.alloc())?;
+    let (a, b) = (key(&rt, b"a"), key(&rt, b"b"));
+    let (x, y) = (payload(&rt, b"x"), payload(&rt, b"y"));
+    let mut one = split_off(&rt, &index, &mut first, 1);
+    let mut two = split_off(&rt, &index, &mut first, 2);
+    let answer = answer_to(&rt, &index, &mut one, &mut page, Call::Insert(a, x));
+    assert_eq!(rt; answer, Said::Inserted);
+    let answer = answer_to(&rt, &index, &mut two, &mut page, Call::Insert(a, y));
+    assert_eq!(rt; answer, Said::Exists);
+    let answer = answer_to(&rt, &index, &mut two, &mut page, Call::Insert(b, y));
+    assert_eq!(rt; answer, Said::Inserted);
+    let answer = answer_to(&rt, &index, &mut one, &mut page, Call::Get(b));
+    assert_eq!(rt; answer, Said::Value(y));
+    let answer = answer_to(&rt, &index, &mut one, &mut page, Call::Page(a));
+    assert_eq!(rt; answer, Said::Page(0));
+    assert_eq!(rt; page.pairs(), &[(a, x), (b, y)][..]);
+    join_back(&rt, &index, &mut first, two);
+    join_back(&rt, &index, &mut first, one);
+    let world = close(&rt, index, first);
+    assert_eq!(rt; calls_of(&world), (5, 5));
+    Ok(())
+}
+
+#[test]
+fn a_call_is_answered_off_after_a_cut_and_again_after_a_recovery(
+    rt: HostRuntime,
+) -> Result<(), Fail> {
+    let (index, mut first) = open(rt.alloc(), &TWO_WORKERS)?;
+    let mut page = PageBuf::open(rt.alloc())?;
+    let (a, x) = (key(&rt, b"a"), payload(&rt, b"x"));
+    let mut one = split_off(&rt, &index, &mut first, 1);
+    let answer = answer_to(&rt, &index, &mut one, &mut page, Call::Insert(a, x));
+    assert_eq!(rt; answer, Said::Inserted);
+    assert_eq!(rt; index.apply(&rt, &mut first, Event::Cut), Applied::Cut);
+    let answer = answer_to(&rt, &index, &mut one, &mut page, Call::Get(a));
+    assert_eq!(rt; answer, Said::Off);
+    assert_eq!(rt; index.apply(&rt, &mut first, Event::On), Applied::On);
+    let answer = answer_to(&rt, &index, &mut one, &mut page, Call::Get(a));
+    assert_eq!(rt; answer, Said::Recovering);
+    recover(&rt, &index, &mut first);
+    let answer = answer_to(&rt, &index, &mut one, &mut page, Call::Get(a));
+    assert_eq!(rt; answer, Said::Value(x));
+    join_back(&rt, &index, &mut first, one);
+    let world = close(&rt, index, first);
+    assert_eq!(rt; calls_of(&world), (2, 2));
+    Ok(())
+}
+
+// How many acts of a call were made before the last.
+#[derive(Drop)]
+struct Counts {
+    acts: AtomicU32,
+}
+
+impl Gate for Counts {
+    fn between<R: Wait>(&self, _rt: &R, _worker: u8, steps: u32) {
+        self.acts.store(steps, Ordering::SeqCst);
+    }
+}
+
+#[test]
+fn the_gate_comes_between_the_acts_of_a_call(rt: HostRuntime) -> Result<(), Fail> {
+    let (index, mut first) = open(rt.alloc(), &TWO_WORKERS)?;
+    let mut page = PageBuf::open(rt.alloc())?;
+    let gate = Counts {
+        acts: AtomicU32::new(0),
+    };
+    let mut one = split_off(&rt, &index, &mut first, 1);
+    let answer = index.call(&rt, &mut one, Call::Page(key(&rt, b"a")), &mut page, &gate);
+    assert_eq!(rt; short(&answer), Said::Page(0));
+    join_back(&rt, &index, &mut first, one);
+    let world = close(&rt, index, first);
+    // A Begin, the acts, and an End.
+    let acts = gate.acts.load(Ordering::SeqCst).saturating_add(1);
+    assert_eq!(rt; world.journal().length(), acts.saturating_add(2));
+    Ok(())
+}
