@@ -23,10 +23,10 @@ const CONFIG: Config = Config {
     pages: 64,
 };
 
-fn open_engine(alloc: Global) -> Result<(Index, IndexPass), OpenError>
-    ensures { IfOk result (λ r. IsPassOf r.0 r.1 × (worker_of r.1 ≡ 0) × ((w : ℕ) → 0 < w → IsFree r.1 w) × ((origin_in r.0).config.workers ≡ 8)) }
+fn open_engine(alloc: Global, config: &Config) -> Result<(Index, IndexPass), OpenError>
+    ensures { IfOk result (λ r. IsPassOf r.0 r.1 × (worker_of r.1 ≡ 0) × ((w : ℕ) → 0 < w → IsFree r.1 w) × ((origin_in r.0).config.workers ≡ config.now.workers)) }
 {
-    let world = World::open(alloc, &CONFIG)?;
+    let world = World::open(alloc, config)?;
     match Index::open(alloc, world) {
         Ok(opened) => Ok(opened),
         Err((_world, Memory)) => Err(OpenError::Memory),
@@ -55,6 +55,13 @@ fn get<R: Wait>(rt: &R, index: &Index, pass: &mut IndexPass, page: &mut PageBuf,
     index.call(rt, pass, Call::Get(key), page, &NoGate)
 }
 
+fn is_value(answer: &Answer, payload: &Payload) -> bool {
+    match answer {
+        Answer::Reply(Reply::Value(value)) => value == payload,
+        _ => false,
+    }
+}
+
 // Cuts the power, turns it on and recovers; the answer of the last event, Ready where it was made.
 fn restart<R: Wait>(rt: &R, index: &Index, first: &mut IndexPass) -> Applied
     requires { IsPassOf index.now first.old × (worker_of first.old ≡ 0) }
@@ -75,7 +82,7 @@ fn restart<R: Wait>(rt: &R, index: &Index, first: &mut IndexPass) -> Applied
 fn a_storage_engine_finds_after_a_power_cut_what_it_was_answered(
     rt: HostRuntime,
 ) -> Result<(), Fail> {
-    let (index, mut first) = open_engine(rt.alloc())?;
+    let (index, mut first) = open_engine(rt.alloc(), &CONFIG)?;
     let mut page = PageBuf::open(rt.alloc())?;
     let key = Key::of(b"user:1001/name")?;
     let ada = Payload::of(b"Ada")?;
@@ -84,11 +91,11 @@ fn a_storage_engine_finds_after_a_power_cut_what_it_was_answered(
     let answer = insert(&rt, &index, &mut pass, &mut page, (key, ada));
     assert!(rt; matches!(answer, Answer::Reply(Reply::Inserted)));
     let answer = get(&rt, &index, &mut pass, &mut page, key);
-    assert!(rt; matches!(answer, Answer::Reply(Reply::Value(value)) if value == ada));
+    assert!(rt; is_value(&answer, &ada));
 
     assert_eq!(rt; restart(&rt, &index, &mut first), Applied::Ready);
     let answer = get(&rt, &index, &mut pass, &mut page, key);
-    assert!(rt; matches!(answer, Answer::Reply(Reply::Value(value)) if value == ada));
+    assert!(rt; is_value(&answer, &ada));
 
     index.join(&mut first, pass);
     let world = index.close(first);
