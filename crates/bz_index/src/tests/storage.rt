@@ -4,6 +4,7 @@ ghost use Rattle.std.specs.Prelude.{◌≡◌, ◌<◌, ℕ, IfOk};
 ghost use Rattle.bz_index.specs.Calls.{IsAnswered};
 ghost use Rattle.bz_index.specs.Passes.{origin_in, worker_of, seen_by, IsFree, IsPassOf};
 
+use super::bench::close;
 use crate::{Answer, Index, IndexPass, NoGate};
 use bz_call::{Call, Reply};
 use bz_key::{Key, PageBuf, Payload};
@@ -98,7 +99,7 @@ fn a_storage_engine_finds_after_a_power_cut_what_it_was_answered(
     assert!(rt; is_value(&answer, &ada));
 
     index.join(&mut first, pass);
-    let world = index.close(first);
+    let world = close(&rt, index, first);
     assert!(rt; matches!(world.power(), Power::On));
     Ok(())
 }
