@@ -12,10 +12,11 @@ use Rattle.bz_mark.specs.declared.marks.Mark.TheVariants.{Begin, End, Cut, Effec
 use Rattle.bz_sound.specs.Calls.{Open, open_call, map_after}
 use Rattle.bz_sound.specs.CallLaws.{began_before, has_begin}
 use Rattle.bz_text.specs.Report.{ended_calls}
-use Rattle.bz_text.specs.RightSummary.{total, counts_are_the_ends}
+use Rattle.bz_text.specs.RightSummary.{total}
 use Rattle.bz_text.specs.Summary.{no_counts, counted, counts_of}
 use Rattle.bz_text.specs.Summing.{AreBelow, AreKeysOf, IsCountedTo}
 use Rattle.bz_text.specs.declared.counts.Counts.{Counts}
+use Rattle.bz_text.proofs.RightSummaries.{counts-are-the-ends}
 use Rattle.bz_text.proofs.ReadLemmas.{IsOther, read_none, read_begin, read_end, read_cut, read_other, settled}
 
 ends_within : (past : List Mark) → count_ends past ≤ length past
@@ -27,7 +28,7 @@ ends_within (mark ∷ past) = omega (arith, ends_within past)
 pub counts_below : (past : List Mark) (moment : ℕ) (begins : List (Option ℕ)) (counts : Counts) (most : ℕ) → moment < most → moment ≤ length past → IsCountedTo past moment begins counts → AreBelow most counts
 counts_below past moment begins counts most lt le h =
     let read = at_moment moment past in
-    let all : total counts ≡ count_ends read = ap total h.so_far ∙ counts_are_the_ends read in
+    let all : total counts ≡ count_ends read = ap total h.so_far ∙ counts-are-the-ends read in
     let few : total counts < most = omega (arith, all, ends_within read, length-at_moment moment past le) in
     record {
       inserted = omega (arith, few);
