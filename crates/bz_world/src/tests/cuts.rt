@@ -50,7 +50,7 @@ fn inserts(rt: &impl Abort, world: &mut World, last: u8) {
 // Updates the first key, until its leaf has no room.
 fn updates(rt: &impl Abort, world: &mut World) {
     let long = payload(rt, &[b'v'; 28]);
-    for _ in 0..18 {
+    for _ in 0..22 {
         let call = Call::Update(numbered(rt, 1), long);
         assert_eq!(rt; whole(world, 1, call), Some(Answer::Updated(long)));
     }
