@@ -1,6 +1,7 @@
 mod Staying
 mod Marking
 mod Powered
+mod Idling
 mod Stepped
 mod Quiet
 mod Answered

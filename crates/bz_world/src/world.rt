@@ -1,11 +1,12 @@
 //! Worlds.
-ghost use Rattle.std.specs.Prelude.{IsTrue, ◌↔◌, ◌≡◌, ◌≢◌, ◌<◌, ◌≤◌, OnOk, IfOk, length, IfErr, None, ℕ, slice_index};
+ghost use Rattle.std.specs.Prelude.{IsTrue, ◌↔◌, ◌≡◌, ◌≢◌, ◌<◌, ◌≤◌, OnOk, IfOk, length, IfErr, None, ℕ, false, slice_index};
 ghost use Rattle.bz_content.specs.Content.{image_fault};
 ghost use Rattle.bz_layout.specs.Addresses.{words_of as size_of};
 ghost use Rattle.bz_layout.specs.Config.{IsConfig};
 ghost use Rattle.bz_mark.specs.WordsAfter.{words_of};
 ghost use Rattle.bz_sound.specs.Calls.{open_call};
 ghost use Rattle.bz_sound.specs.declared.power.Power.TheVariants.{Recovering, On};
+ghost use Rattle.bz_sound.specs.Power.Calls.{MayAct};
 ghost use Rattle.bz_sound.specs.Power.Sound.{IsSound};
 ghost use Rattle.bz_sound.specs.Power.Laws.{IsUnbroken};
 ghost use Rattle.bz_sound.specs.Memory.Sound as before;
@@ -142,7 +143,9 @@ impl World {
     /// Whether the next act of a worker is a flush.
     pub fn flush_next(&self, w: u8) -> bool
         requires { w ≤ self.now.config.workers }
-        ensures { result ≡ flush_of self.now w }
+        ensures told { result ≡ flush_of self.now w }
+        // one that may make no act has no flush to come
+        ensures idle { (MayAct self.now.at_start self.now.log.past w → ⊥) → result ≡ false }
     {
         self.parts.access.flush_next(w)
     }
