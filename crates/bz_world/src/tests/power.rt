@@ -167,6 +167,31 @@ fn slots_that_the_tree_does_not_reach_serve_again(rt: HostRuntime) -> Result<(),
     Ok(())
 }
 
+// An insert or a delete of one of seven keys, cut after some of its acts, at times with all words evicted, and the recovery.
+fn cut_and_recover(rt: &impl Abort, world: &mut World, number: u8) {
+    let k = numbered(rt, number % 7);
+    let call = match number % 3 {
+        2 => Call::Delete(k),
+        _ => Call::Insert(k, payload(rt, b"n")),
+    };
+    assert!(rt; begin(world, 1, call));
+    steps(world, 1, u32::from(number));
+    if number % 4 == 0 {
+        evict_all(world);
+    }
+    restart(rt, world);
+    assert!(rt; recover(world, 4_000));
+}
+
+#[test]
+fn a_hundred_power_cuts_in_one_journal(rt: HostRuntime) {
+    let mut world = open(rt.alloc(), 4, 16, 1).expect(&rt, "a world");
+    for number in 0..100 {
+        cut_and_recover(&rt, &mut world, number);
+    }
+    agrees(&rt, rt.alloc(), &world);
+}
+
 #[test]
 fn an_open_call_has_its_number_until_a_cut(rt: HostRuntime) {
     let mut world = open(rt.alloc(), 1, 1, 2).expect(&rt, "a world");
