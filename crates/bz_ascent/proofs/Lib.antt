@@ -1,0 +1,4 @@
+mod Staying
+mod Places
+mod Parents
+mod Rising

@@ -1,0 +1,3 @@
+pub mod Full
+pub mod Ascents
+pub mod Laws
