@@ -137,14 +137,12 @@ used-since c start past h =
     ∙ ap (λ (marks : List Mark). count_by (λ slot. is_reached_in c (slice_index start) slot || is_stored_into c slot marks) (range_with_len 0 c.nodes)) (since-start past h)
 
 spent-after : (c : Config) (start : List ℕ) (past : List Mark) → IsUnbroken past → (w : ℕ) (opened : Open) (spent : Spent) → unbroken_spent.IsSpent c start past w opened spent → IsSpent c start past w opened spent
-spent-after c start past h w opened Nodes (inl spent) = inl (record { slots = spent.slots; needs = spent.needs; lacks = omega (arith, spent.lacks, used-since c start past h) })
-spent-after c start past h w opened Nodes (inr unsplit) = inr unsplit
+spent-after c start past h w opened Nodes spent = record { slots = spent.slots; needs = spent.needs; lacks = omega (arith, spent.lacks, used-since c start past h) }
 spent-after c start past h w opened Swaps cause = rw (since-start past h) cause
 spent-after c start past h w opened Height cause = cause
 
 spent-before : (c : Config) (start : List ℕ) (past : List Mark) → IsUnbroken past → (w : ℕ) (opened : Open) (spent : Spent) → IsSpent c start past w opened spent → unbroken_spent.IsSpent c start past w opened spent
-spent-before c start past h w opened Nodes (inl spent) = inl (record { slots = spent.slots; needs = spent.needs; lacks = omega (arith, spent.lacks, used-since c start past h) })
-spent-before c start past h w opened Nodes (inr unsplit) = inr unsplit
+spent-before c start past h w opened Nodes spent = record { slots = spent.slots; needs = spent.needs; lacks = omega (arith, spent.lacks, used-since c start past h) }
 spent-before c start past h w opened Swaps cause = rw (since-start past h) at cause
 spent-before c start past h w opened Height cause = cause
 

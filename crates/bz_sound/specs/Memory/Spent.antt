@@ -1,18 +1,16 @@
 -- What must have run out where a call answers Full. The newest mark stands first.
-use Rattle.std.specs.Prelude.{◌≤◌, ◌<◌, ◌+◌, ◌*◌, ◌==◌, ◌&&◌, ◌||◌, ◌⊎◌, ◌≡◌, if◌then◌else◌, not, nat_lt, nat_le, ℕ, Bool, true, false, List, [], ◌∷◌, length, map, slice_index, is_some, count_by}
+use Rattle.std.specs.Prelude.{◌≤◌, ◌<◌, ◌+◌, ◌*◌, ◌==◌, ◌&&◌, ◌||◌, ◌≡◌, if◌then◌else◌, not, nat_lt, nat_le, ℕ, Bool, true, false, List, [], ◌∷◌, length, map, slice_index, is_some, count_by}
 use Rattle.std.specs.List.{range_with_len}
 use Rattle.bz_layout.specs.Addresses.{swap_address, node_address, slot_of}
 use Rattle.bz_layout.specs.declared.config.Config.{Config}
-use Rattle.bz_key.specs.Bytes.{IsKey}
-use Rattle.bz_key.specs.Packing.{packed}
-use Rattle.bz_layout.specs.declared.sizes.TheConstants.{SWAP_STATUS_AT, NODE_WORDS, SHARED_WORDS}
-use Rattle.bz_layout.specs.declared.thresholds.TheConstants.{CONSOLIDATION_SLOTS, SPLIT_ABOVE, SPLIT_SLOTS}
+use Rattle.bz_layout.specs.declared.sizes.TheConstants.{SWAP_STATUS_AT, NODE_WORDS}
+use Rattle.bz_layout.specs.declared.thresholds.TheConstants.{CONSOLIDATION_SLOTS, INNER_LIMIT, MAX_LEVELS, SPLIT_ABOVE, SPLIT_SLOTS}
 use Rattle.bz_node.specs.Layout.{needed}
 use Rattle.bz_node.specs.Reading.{children_in}
 use Rattle.bz_node.specs.Records.{child_entry}
+use Rattle.bz_shape.specs.Order.{is_within}
 use Rattle.bz_shape.specs.Walk.{form}
 use Rattle.bz_slotted.specs.Page.{Page, page}
-use Rattle.bz_slotted.specs.ReadingLaws.{node_of}
 use Rattle.bz_slotted.specs.Records.{live_words}
 use Rattle.bz_content.specs.Content.{leaf_in, view_in}
 use Rattle.bz_content.specs.Image.{node}
@@ -46,23 +44,26 @@ pub record NeedsSlots (c : Config) (start : List ℕ) (past : List Mark) (opened
 abbrev pub is_reached_in : Config → (ℕ → ℕ) → ℕ → Bool
 is_reached_in c image slot = nat_lt slot c.nodes && (form (view_in c image)).inside slot
 
--- FOR NOW, while inner nodes are not split: at a moment of the call the leaf of its key was frozen and would have to be split, and at
--- a moment of the call an inner node of the tree had these words, which leave less room than a child takes that comes below this key.
--- This record, and its place in LackNodes, go when they are.
-pub record IsUnsplit (c : Config) (start : List ℕ) (past : List Mark) (opened : Open) : Type 0 where
-  pub crowded : NeedsSlots c start past opened SPLIT_SLOTS
+-- at a moment of the call a reached inner node of this level, in whose range its key is, had these words; and its entries took more
+-- than an inner node may keep
+pub record IsFullAt (c : Config) (start : List ℕ) (past : List Mark) (opened : Open) (level : ℕ) : Type 0 where
   pub moment : ℕ
   pub after_begin : opened.begun < moment
   pub before_end : moment ≤ length past
-  pub parent : ℕ
-  pub inside : is_reached_in c (image_at start moment past) parent ≡ true
+  pub slot : ℕ
+  pub inside : is_reached_in c (image_at start moment past) slot ≡ true
+  pub at_level : (form (view_in c (image_at start moment past))).level slot ≡ level
+  pub range : is_within (key_of opened.call) ((form (view_in c (image_at start moment past))).low slot) ((form (view_in c (image_at start moment past))).high slot) ≡ true
   pub words : List ℕ
   pub size : length words ≡ NODE_WORDS
-  pub has : (i : ℕ) → node c (resolve (image_at start moment past)) parent i ≡ slice_index words i
-  pub inner : 0 < (page (node_of words)).level
-  pub separator : List ℕ
-  pub key : IsKey separator
-  pub room : SHARED_WORDS < needed (map child_entry (children_in words)) + 2 + length (packed separator)
+  pub has : (i : ℕ) → node c (resolve (image_at start moment past)) slot i ≡ slice_index words i
+  pub many : INNER_LIMIT < needed (map child_entry (children_in words))
+
+-- at a moment of the call the leaf of its key was frozen and would have to be split; and on the way to it an inner node of each level
+-- that a tree may have was full
+pub record IsTooHigh (c : Config) (start : List ℕ) (past : List Mark) (opened : Open) : Type 0 where
+  pub crowded : NeedsSlots c start past opened SPLIT_SLOTS
+  pub full : (level : ℕ) → 0 < level → level < MAX_LEVELS → IsFullAt c start past opened level
 
 -- in that with which the journal starts
 abbrev pub is_reached_at_start : Config → List ℕ → ℕ → Bool
@@ -109,13 +110,9 @@ pub record NodesAreSpent (c : Config) (start : List ℕ) (past : List Mark) (use
   pub needs : NeedsSlots c start past opened slots
   pub lacks : LacksSlots c used slots w past
 
--- why nodes are lacking, where so many slots are used
-abbrev pub LackNodes : Config → List ℕ → List Mark → ℕ → ℕ → Open → Type 0
-LackNodes c start past used w opened = NodesAreSpent c start past used w opened ⊎ IsUnsplit c start past opened
-
 -- The cause of a Full that ends the open call of a worker now. Other workers may have taken a descriptor into which
--- they have not stored yet. No tree of this stage is too high.
+-- they have not stored yet.
 abbrev pub IsSpent : Config → List ℕ → List Mark → ℕ → Open → Spent → Type 0
-IsSpent c start past w opened Nodes = LackNodes c start past (count_used c start past) w opened
+IsSpent c start past w opened Nodes = NodesAreSpent c start past (count_used c start past) w opened
 IsSpent c start past w opened Swaps = c.swaps ≤ count_taken c past + count_others c w past
-IsSpent c start past w opened Height = ⊥
+IsSpent c start past w opened Height = IsTooHigh c start past opened

@@ -7,7 +7,7 @@ use Rattle.bz_call.specs.declared.replies.Spent.{Spent}
 use Rattle.bz_call.specs.declared.replies.Spent.TheVariants.{Nodes, Swaps, Height}
 use Rattle.bz_mark.specs.declared.marks.Mark.{Mark}
 use Rattle.bz_sound.specs.Calls.{Open}
-use Rattle.bz_sound.specs.Memory.Spent.{LackNodes, is_reached_in, is_stored_into, count_taken, count_others}
+use Rattle.bz_sound.specs.Memory.Spent.{NodesAreSpent, IsTooHigh, is_reached_in, is_stored_into, count_taken, count_others}
 use Rattle.bz_sound.specs.Power.Times.{since_on, image_at_on}
 
 -- a slot is used: reached in the durable words at the last On, or stored into since
@@ -19,8 +19,8 @@ abbrev pub count_used : Config → List ℕ → List Mark → ℕ
 count_used c start past = count_by (λ slot. is_used c start past slot) (range_with_len 0 c.nodes)
 
 -- The cause of a Full that ends the open call of a worker now. A moment of the call lies since the last On. Other workers
--- may have taken a descriptor into which they have not stored yet. No tree of this stage is too high.
+-- may have taken a descriptor into which they have not stored yet.
 abbrev pub IsSpent : Config → List ℕ → List Mark → ℕ → Open → Spent → Type 0
-IsSpent c start past w opened Nodes = LackNodes c start past (count_used c start past) w opened
+IsSpent c start past w opened Nodes = NodesAreSpent c start past (count_used c start past) w opened
 IsSpent c start past w opened Swaps = c.swaps ≤ count_taken c (since_on past) + count_others c w past
-IsSpent c start past w opened Height = ⊥
+IsSpent c start past w opened Height = IsTooHigh c start past opened
