@@ -1,1 +1,4 @@
 mod Statements
+mod Ascending
+mod Heights
+mod Rising

@@ -1,6 +1,5 @@
 -- What the contract of tasks says of a task, as statements of the task alone.
-use Rattle.std.proofs.Common.{◌≡◌, ◌<◌, ◌≤◌, ◌⊎◌, ℕ, false, List, Some, arith}
-use Rattle.bz_below.specs.declared.split_below.SplitBelow.{SplitBelow}
+use Rattle.std.proofs.Common.{◌≡◌, ◌<◌, ◌≤◌, ◌⊎◌, ℕ, true, false, List, Some, arith}
 use Rattle.bz_consol.specs.Duties as consol
 use Rattle.bz_consol.specs.declared.consolidate.Consolidate.{Consolidate}
 use Rattle.bz_layout.specs.Slots.{FreeSlots}
@@ -8,20 +7,33 @@ use Rattle.bz_layout.specs.declared.thresholds.TheConstants.{CONSOLIDATION_SLOTS
 use Rattle.bz_word.specs.declared.entry.Entry.{Entry}
 use Rattle.bz_task.specs.Instant.{Instant}
 use Rattle.bz_task.specs.OwnActs.{Stores, Flushes, AreUnreached, gained}
-use Rattle.bz_task.specs.Requests.{Tells}
-use Rattle.bz_task.specs.Scene.{Scene, Stage, Waiting, Took as HasTaken, IsScene, IsLawful, here}
+use Rattle.bz_task.specs.Requests.{IsAskable, IsCause, Tells}
+use Rattle.bz_task.specs.Scene.{Scene, Stage, Waiting, Took as HasTaken, IsScene, IsLawful, HasFilled, here}
 use Rattle.bz_task.specs.Swaps.{Stand, SwapsTo, IsGoodSwap, Takes}
-use Rattle.bz_task.specs.declared.todo.Outcome.TheVariants.{Restart, NeedsRoom}
+use Rattle.bz_task.specs.declared.todo.Outcome.{Outcome}
+use Rattle.bz_task.specs.declared.todo.Outcome.TheVariants.{Restart}
 use Rattle.bz_task.specs.declared.todo.Seen.{Seen}
 use Rattle.bz_task.specs.declared.todo.Seen.TheVariants.{Swapped}
+use Rattle.bz_task.specs.declared.todo.Todo.{Todo}
 use Rattle.bz_task.specs.declared.todo.Todo.TheVariants.{Store, Flush, Swap}
 use Rattle.bz_running.specs.Duties.{config_of, asks_of, needs_of, wants_of, end_of, change_of, publishing_of, facts_of, means_of, differs_of}
-use Rattle.bz_running.specs.Hearing.{WasCrowded}
 use Rattle.bz_running.specs.declared.running.Running.{Running}
-use Rattle.bz_running.specs.declared.running.Running.TheVariants.{Descending, Reading, Inserting, Updating, Deleting, Freezing, Consolidating, Splitting, SplittingBelow}
+use Rattle.bz_running.specs.declared.running.Running.TheVariants.{Descending, Reading, Inserting, Updating, Deleting, Freezing, Consolidating, Splitting, SplittingBelow, SplittingInner, SplittingInnerRoot}
 
 abbrev pub Stable : Running → Type 0
 Stable t = (stage : Stage) (s after : Scene) → s.past.config ≡ config_of t → facts_of t stage s → IsScene after → IsLawful s after → facts_of t stage after
+
+abbrev pub Askable : Running → Type 0
+Askable t = (s : Scene) (todo : Todo) → s.past.config ≡ config_of t → facts_of t Waiting s → IsScene s → asks_of t ≡ Some todo → IsAskable s todo
+
+abbrev pub Cause : Running → Type 0
+Cause t = (s : Scene) (seen : Seen) → s.past.config ≡ config_of t → facts_of t Waiting s → differs_of t seen → IsCause (asks_of t) seen s
+
+abbrev pub Once : Running → Type 0
+Once t = (s : Scene) → facts_of t Waiting s → publishing_of t ≡ true → s.effected ≡ false
+
+abbrev pub Ends : Running → Type 0
+Ends t = (s : Scene) (outcome : Outcome) → facts_of t Waiting s → end_of t ≡ Some outcome → means_of t outcome s × HasFilled s
 
 abbrev pub Effect : Running → Type 0
 Effect t = (s : Scene) (y : Instant) (entries : List Entry) → s.past.config ≡ config_of t → facts_of t Waiting s → IsScene s → asks_of t ≡ Some (Swap entries) → Stand entries (here s) → SwapsTo s.past.config entries (here s) y → IsGoodSwap (publishing_of t) (change_of t) entries s y
@@ -54,7 +66,9 @@ takes-few one (Deleting t) few = omega arith
 takes-few one (Freezing t) few = omega arith
 takes-few one (Consolidating t) few = one t
 takes-few one (Splitting t) few = few
-takes-few one (SplittingBelow t) few = few
+takes-few one (SplittingBelow t a) few = few
+takes-few one (SplittingInner t a) few = few
+takes-few one (SplittingInnerRoot t a) few = few
 
 -- and no more than a split takes
 pub wants-few : (t : Running) → wants_of t ≤ SPLIT_SLOTS
@@ -67,9 +81,6 @@ wants-few (Deleting t) = omega arith
 wants-few (Freezing t) = omega arith
 wants-few (Consolidating t) = omega arith
 wants-few (Splitting t) = omega arith
-wants-few (SplittingBelow t) = omega arith
-
--- a split below a parent that ends for want of room
-pub lacks-room : (t : SplitBelow) (s : Scene) → means_of (SplittingBelow t) NeedsRoom s → WasCrowded s.past
-unfolding means_of
-lacks-room t s lacked = record { upper = t.upper; lower = t.lower; sep = t.halves.separator; lacked = lacked }
+wants-few (SplittingBelow t a) = omega arith
+wants-few (SplittingInner t a) = omega arith
+wants-few (SplittingInnerRoot t a) = omega arith

@@ -1,5 +1,5 @@
 -- What a task asks for and knows, whichever it is.
-use Rattle.std.specs.Prelude.{◌≡◌, ℕ, Bool, true, false, Option, refl}
+use Rattle.std.specs.Prelude.{◌≡◌, ℕ, Bool, true, false, Option, Some, None, refl}
 use Rattle.bz_layout.specs.declared.config.Config.{Config}
 use Rattle.bz_layout.specs.declared.thresholds.TheConstants.{CONSOLIDATION_SLOTS, SPLIT_SLOTS}
 use Rattle.bz_task.specs.Scene.{Scene, Stage}
@@ -7,12 +7,20 @@ use Rattle.bz_task.specs.Swaps.{Change}
 use Rattle.bz_task.specs.declared.todo.Outcome.{Outcome}
 use Rattle.bz_task.specs.declared.todo.Seen.{Seen}
 use Rattle.bz_task.specs.declared.todo.Todo.{Todo}
+use Rattle.bz_ascent.specs.declared.ascent.Ascent.{Ascent}
 use Rattle.bz_below.specs.Duties.{asks_below, end_below, left_below, needs_below, facts_below, differs_below}
 use Rattle.bz_below.specs.Facts.{below_means}
+use Rattle.bz_below.specs.declared.split_below.SplitBelow.{SplitBelow}
 use Rattle.bz_consol.specs.Duties as consol
 use Rattle.bz_consol.specs.Facts.{consol_change, consol_means}
+use Rattle.bz_crown.specs.Duties.{asks_crown, end_crown, left_crown, needs_crown, facts_crown, differs_crown}
+use Rattle.bz_crown.specs.Facts.{crown_means}
+use Rattle.bz_crown.specs.declared.split_inner_root.SplitInnerRoot.{SplitInnerRoot}
 use Rattle.bz_descend.specs.Duties as descend
 use Rattle.bz_descend.specs.Facts.{descend_change}
+use Rattle.bz_fork.specs.Duties.{asks_fork, end_fork, left_fork, needs_fork, facts_fork, differs_fork}
+use Rattle.bz_fork.specs.Facts.{fork_means}
+use Rattle.bz_fork.specs.declared.split_inner.SplitInner.{SplitInner}
 use Rattle.bz_freeze.specs.Facts.{freeze_asks, freeze_end, freeze_left, freeze_facts, freeze_means, freeze_change}
 use Rattle.bz_insert.specs.Duties as insert
 use Rattle.bz_leaf.specs.Duties as leaf
@@ -21,8 +29,9 @@ use Rattle.bz_mutate.specs.DeleteDuties as delete
 use Rattle.bz_mutate.specs.UpdateDuties as update
 use Rattle.bz_split.specs.Duties as split
 use Rattle.bz_split.specs.Facts.{split_change, split_means}
+use Rattle.bz_running.specs.Ascending.{on_ascent}
 use Rattle.bz_running.specs.declared.running.Running.{Running}
-use Rattle.bz_running.specs.declared.running.Running.TheVariants.{Descending, Reading, Inserting, Updating, Deleting, Freezing, Consolidating, Splitting, SplittingBelow}
+use Rattle.bz_running.specs.declared.running.Running.TheVariants.{Descending, Reading, Inserting, Updating, Deleting, Freezing, Consolidating, Splitting, SplittingBelow, SplittingInner, SplittingInnerRoot}
 
 unfoldable pub config_of : Running → Config
 config_of (Descending t) = descend.config_of t
@@ -33,7 +42,9 @@ config_of (Deleting t) = delete.config_of t
 config_of (Freezing t) = t.config
 config_of (Consolidating t) = t.config
 config_of (Splitting t) = t.config
-config_of (SplittingBelow t) = t.config
+config_of (SplittingBelow t a) = t.config
+config_of (SplittingInner t a) = t.config
+config_of (SplittingInnerRoot t a) = t.config
 
 unfoldable pub asks_of : Running → Option Todo
 asks_of (Descending t) = descend.asks_of t
@@ -44,7 +55,9 @@ asks_of (Deleting t) = delete.asks_of t
 asks_of (Freezing t) = freeze_asks t.config t.slot t.status t.phase
 asks_of (Consolidating t) = consol.asks_of t
 asks_of (Splitting t) = split.asks_of t
-asks_of (SplittingBelow t) = asks_below t
+asks_of (SplittingBelow t a) = asks_below t
+asks_of (SplittingInner t a) = asks_fork t
+asks_of (SplittingInnerRoot t a) = asks_crown t
 
 unfoldable pub end_of : Running → Option Outcome
 end_of (Descending t) = descend.end_of t
@@ -55,7 +68,9 @@ end_of (Deleting t) = delete.end_of t
 end_of (Freezing t) = freeze_end t.phase
 end_of (Consolidating t) = consol.end_of t
 end_of (Splitting t) = split.end_of t
-end_of (SplittingBelow t) = end_below t
+end_of (SplittingBelow t a) = end_below t
+end_of (SplittingInner t a) = end_fork t
+end_of (SplittingInnerRoot t a) = end_crown t
 
 unfoldable pub left_of : Running → ℕ
 left_of (Descending t) = descend.left_of t
@@ -66,7 +81,9 @@ left_of (Deleting t) = delete.left_of t
 left_of (Freezing t) = freeze_left t.phase
 left_of (Consolidating t) = consol.left_of t
 left_of (Splitting t) = split.left_of t
-left_of (SplittingBelow t) = left_below t
+left_of (SplittingBelow t a) = left_below t
+left_of (SplittingInner t a) = left_fork t
+left_of (SplittingInnerRoot t a) = left_crown t
 
 unfoldable pub needs_of : Running → ℕ
 needs_of (Descending t) = 0
@@ -77,7 +94,9 @@ needs_of (Deleting t) = 0
 needs_of (Freezing t) = 0
 needs_of (Consolidating t) = consol.needs_of t
 needs_of (Splitting t) = split.needs_of t
-needs_of (SplittingBelow t) = needs_below t
+needs_of (SplittingBelow t a) = needs_below t
+needs_of (SplittingInner t a) = needs_fork t
+needs_of (SplittingInnerRoot t a) = needs_crown t
 
 -- how many slots it takes from its begin to its end, if it takes any
 unfoldable pub wants_of : Running → ℕ
@@ -89,7 +108,9 @@ wants_of (Deleting t) = 0
 wants_of (Freezing t) = 0
 wants_of (Consolidating t) = CONSOLIDATION_SLOTS
 wants_of (Splitting t) = SPLIT_SLOTS
-wants_of (SplittingBelow t) = SPLIT_SLOTS
+wants_of (SplittingBelow t a) = SPLIT_SLOTS
+wants_of (SplittingInner t a) = SPLIT_SLOTS
+wants_of (SplittingInnerRoot t a) = SPLIT_SLOTS
 
 unfoldable pub change_of : Running → Change
 change_of (Descending t) = descend_change
@@ -100,7 +121,9 @@ change_of (Deleting t) = delete.change_of t
 change_of (Freezing t) = freeze_change
 change_of (Consolidating t) = consol_change
 change_of (Splitting t) = split_change
-change_of (SplittingBelow t) = split_change
+change_of (SplittingBelow t a) = split_change
+change_of (SplittingInner t a) = split_change
+change_of (SplittingInnerRoot t a) = split_change
 
 unfoldable pub publishing_of : Running → Bool
 publishing_of (Descending t) = false
@@ -111,7 +134,19 @@ publishing_of (Deleting t) = delete.publishing_of t
 publishing_of (Freezing t) = false
 publishing_of (Consolidating t) = false
 publishing_of (Splitting t) = false
-publishing_of (SplittingBelow t) = false
+publishing_of (SplittingBelow t a) = false
+publishing_of (SplittingInner t a) = false
+publishing_of (SplittingInnerRoot t a) = false
+
+-- what the end of a split on the way up means
+abbrev pub means_below : SplitBelow → Outcome → Scene → Type 0
+means_below t = below_means t.upper t.lower t.halves.left.0 t.halves.right.0 t.halves.separator
+
+abbrev pub means_fork : SplitInner → Outcome → Scene → Type 0
+means_fork t = fork_means t.upper t.middle
+
+abbrev pub means_crown : SplitInnerRoot → Outcome → Scene → Type 0
+means_crown t = crown_means t.upper
 
 unfoldable pub facts_of : Running → Stage → Scene → Type 0
 facts_of (Descending t) = descend.facts_of t
@@ -122,7 +157,9 @@ facts_of (Deleting t) = delete.facts_of t
 facts_of (Freezing t) = freeze_facts t.slot t.status t.phase
 facts_of (Consolidating t) = consol.facts_of t
 facts_of (Splitting t) = split.facts_of t
-facts_of (SplittingBelow t) = facts_below t
+facts_of (SplittingBelow t a) = on_ascent a (means_below t) (facts_below t)
+facts_of (SplittingInner t a) = on_ascent a (means_fork t) (facts_fork t)
+facts_of (SplittingInnerRoot t a) = on_ascent a (means_crown t) (facts_crown t)
 
 unfoldable pub means_of : Running → Outcome → Scene → Type 0
 means_of (Descending t) = descend.means_of t
@@ -133,7 +170,9 @@ means_of (Deleting t) = delete.means_of t
 means_of (Freezing t) = freeze_means t.slot
 means_of (Consolidating t) = consol_means t.link t.image.0
 means_of (Splitting t) = split_means t.link t.halves.left.0 t.halves.right.0 t.halves.separator
-means_of (SplittingBelow t) = below_means t.upper t.lower t.halves.left.0 t.halves.right.0 t.halves.separator
+means_of (SplittingBelow t a) = means_below t
+means_of (SplittingInner t a) = means_fork t
+means_of (SplittingInnerRoot t a) = means_crown t
 
 unfoldable pub differs_of : Running → Seen → Type 0
 differs_of (Descending t) = descend.differs_of t
@@ -144,7 +183,23 @@ differs_of (Deleting t) = λ seen. ⊥
 differs_of (Freezing t) = λ seen. ⊥
 differs_of (Consolidating t) = consol.differs_of t
 differs_of (Splitting t) = split.differs_of t
-differs_of (SplittingBelow t) = differs_below t
+differs_of (SplittingBelow t a) = differs_below t
+differs_of (SplittingInner t a) = differs_fork t
+differs_of (SplittingInnerRoot t a) = differs_crown t
+
+-- how far up the way from the leaf it splits, if it does
+unfoldable pub ascent_of : Running → Option Ascent
+ascent_of (Descending t) = None
+ascent_of (Reading t) = None
+ascent_of (Inserting t) = None
+ascent_of (Updating t) = None
+ascent_of (Deleting t) = None
+ascent_of (Freezing t) = None
+ascent_of (Consolidating t) = None
+ascent_of (Splitting t) = None
+ascent_of (SplittingBelow t a) = Some a
+ascent_of (SplittingInner t a) = Some a
+ascent_of (SplittingInnerRoot t a) = Some a
 
 -- it makes no change of a key, and never publishes
 unfoldable pub makes_no_change : Running → Bool
@@ -156,7 +211,9 @@ makes_no_change (Deleting t) = false
 makes_no_change (Freezing t) = true
 makes_no_change (Consolidating t) = true
 makes_no_change (Splitting t) = true
-makes_no_change (SplittingBelow t) = true
+makes_no_change (SplittingBelow t a) = true
+makes_no_change (SplittingInner t a) = true
+makes_no_change (SplittingInnerRoot t a) = true
 
 pub no-change-is-published : (t : Running) → makes_no_change t ≡ true → publishing_of t ≡ false
 unfolding makes_no_change publishing_of
@@ -168,4 +225,6 @@ no-change-is-published (Deleting t) e = absurd (cc)
 no-change-is-published (Freezing t) e = refl
 no-change-is-published (Consolidating t) e = refl
 no-change-is-published (Splitting t) e = refl
-no-change-is-published (SplittingBelow t) e = refl
+no-change-is-published (SplittingBelow t a) e = refl
+no-change-is-published (SplittingInner t a) e = refl
+no-change-is-published (SplittingInnerRoot t a) e = refl

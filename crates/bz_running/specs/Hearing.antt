@@ -1,14 +1,12 @@
 -- What a task is told, and what comes of that.
 use Rattle.std.specs.Prelude.{◌≡◌, ℕ, ◌<◌, ◌⊎◌, true, false, List, Option, Some, length}
-use Rattle.bz_below.specs.Facts.{LackedRoom}
+use Rattle.bz_ascent.specs.declared.ascent.Ascent.{Ascent}
 use Rattle.bz_call.specs.declared.replies.Spent.TheVariants.{Nodes, Swaps}
 use Rattle.bz_layout.specs.Slots.{FreeSlots}
-use Rattle.bz_layout.specs.declared.thresholds.TheConstants.{SPLIT_SLOTS}
 use Rattle.bz_task.specs.OwnActs.{AreTakenFrom, AreUnreached, gained}
 use Rattle.bz_task.specs.Outcomes.{IsPath, IsView}
 use Rattle.bz_task.specs.Requests.{Tells}
-use Rattle.bz_task.specs.Scene.{Past, Scene, Stage, Waiting, IsScene}
-use Rattle.bz_task.specs.declared.path.Link.{Link}
+use Rattle.bz_task.specs.Scene.{Scene, Stage, Waiting, IsScene}
 use Rattle.bz_task.specs.declared.path.Path.{Path}
 use Rattle.bz_task.specs.declared.todo.Outcome.{Outcome}
 use Rattle.bz_task.specs.declared.todo.Outcome.TheVariants as outcome
@@ -16,23 +14,16 @@ use Rattle.bz_task.specs.declared.todo.Seen.{Seen}
 use Rattle.bz_task.specs.declared.todo.Seen.TheVariants.{Swapped, NoSwap}
 use Rattle.bz_task.specs.declared.todo.Todo.{Todo}
 use Rattle.bz_task.specs.declared.view.LeafView.{LeafView}
-use Rattle.bz_running.specs.Duties.{config_of, asks_of, end_of, left_of, needs_of, wants_of, change_of, facts_of, means_of, differs_of, makes_no_change}
+use Rattle.bz_running.specs.Duties.{config_of, asks_of, end_of, left_of, needs_of, wants_of, change_of, ascent_of, facts_of, means_of, differs_of, makes_no_change}
 use Rattle.bz_running.specs.declared.running.Running.{Running}
 
--- a parent in the tree lacked the room for a separator
-pub record WasCrowded (p : Past) : Type 0 where
-  pub upper : Link
-  pub lower : Link
-  pub sep : List ℕ
-  pub lacked : LackedRoom upper lower sep p
-
--- a path or a view with which the task ends is one of this key; and with a view this path, if there is one, still is one. One that
--- takes slots ends for want of room only where it is a split, and the parent lacked the room
+-- a path or a view with which the task ends is one of this key; and with a view this path, if there is one, still is one. A split on
+-- the way up goes along a path of this key
 pub record IsLookup (key : List ℕ) (way : Option Path) (t : Running) : Type 0 where
   pub path : (path : Path) (s : Scene) → means_of t (outcome.Path path) s → IsPath key path s.past
   pub view : (view : LeafView) (s : Scene) → means_of t (outcome.View view) s → IsView key view s.past
   pub leads : (path : Path) → way ≡ Some path → (view : LeafView) (s : Scene) → means_of t (outcome.View view) s → IsPath key path s.past
-  pub room : (s : Scene) → 0 < wants_of t → means_of t outcome.NeedsRoom s → (wants_of t ≡ SPLIT_SLOTS) × WasCrowded s.past
+  pub ascent : (a : Ascent) → ascent_of t ≡ Some a → a.key ≡ key
 
 -- the task was told this at a moment, and asks for that
 pub record HasHeard (old : Running) (seen : Seen) (moment : ℕ) (free : FreeSlots) (todo : Todo) (new : Running) (left : FreeSlots) : Type 0 where
@@ -41,6 +32,7 @@ pub record HasHeard (old : Running) (seen : Seen) (moment : ℕ) (free : FreeSlo
   pub config : config_of new ≡ config_of old
   pub wants : wants_of new ≡ wants_of old
   pub change : change_of new ≡ change_of old
+  pub ascent : ascent_of new ≡ ascent_of old
   pub silent : makes_no_change new ≡ makes_no_change old
   pub meant : (o : Outcome) (s : Scene) → means_of new o s → means_of old o s
   pub slots : AreTakenFrom (needs_of old) (needs_of new) free left

@@ -1,18 +1,27 @@
 -- The laws of a task, whichever it is: those that its contract gives.
-use Rattle.std.specs.Prelude.{◌≡◌, ◌≤◌, ℕ, true, false, List, Some}
+use Rattle.std.specs.Prelude.{◌≡◌, ◌≤◌, ℕ, true, false, List, Option, Some, None}
+use Rattle.bz_ascent.specs.Full.{AreAllFull}
+use Rattle.bz_ascent.specs.declared.ascent.Ascent.{Ascent}
+use Rattle.bz_call.specs.declared.replies.Spent.TheVariants.{Height}
 use Rattle.bz_layout.specs.declared.thresholds.TheConstants.{SPLIT_SLOTS}
 use Rattle.bz_word.specs.declared.entry.Entry.{Entry}
 use Rattle.bz_task.specs.Instant.{Instant}
 use Rattle.bz_task.specs.OwnActs.{Stores, Flushes}
 use Rattle.bz_task.specs.Requests.{IsAskable, IsCause}
-use Rattle.bz_task.specs.Scene.{Scene, Stage, Waiting, Took, IsScene, IsLawful, HasFilled, here}
+use Rattle.bz_task.specs.Scene.{Past, Scene, Stage, Waiting, Took, IsScene, IsLawful, HasFilled, here}
 use Rattle.bz_task.specs.Swaps.{Stand, SwapsTo, IsGoodSwap, Takes}
 use Rattle.bz_task.specs.declared.todo.Outcome.{Outcome}
+use Rattle.bz_task.specs.declared.todo.Outcome.TheVariants.{Full}
 use Rattle.bz_task.specs.declared.todo.Seen.{Seen}
 use Rattle.bz_task.specs.declared.todo.Todo.{Todo}
 use Rattle.bz_task.specs.declared.todo.Todo.TheVariants.{Store, Flush, Swap}
-use Rattle.bz_running.specs.Duties.{config_of, asks_of, end_of, needs_of, wants_of, change_of, publishing_of, facts_of, means_of, differs_of}
+use Rattle.bz_running.specs.Duties.{config_of, asks_of, end_of, needs_of, wants_of, ascent_of, change_of, publishing_of, facts_of, means_of, differs_of}
 use Rattle.bz_running.specs.declared.running.Running.{Running}
+
+-- on the way up each level that inner nodes may have was full
+abbrev pub HaveFilledUp : Option Ascent → Past → Type 0
+HaveFilledUp None p = ⊥
+HaveFilledUp (Some a) p = AreAllFull a.key p
 
 pub record AreLaws (t : Running) : Type 0 where
   pub stable : (stage : Stage) (s after : Scene) → s.past.config ≡ config_of t → facts_of t stage s → IsScene after → IsLawful s after → facts_of t stage after
@@ -23,6 +32,8 @@ pub record AreLaws (t : Running) : Type 0 where
   pub most : wants_of t ≤ SPLIT_SLOTS
   pub once : (s : Scene) → facts_of t Waiting s → publishing_of t ≡ true → s.effected ≡ false
   pub ends : (s : Scene) (outcome : Outcome) → facts_of t Waiting s → end_of t ≡ Some outcome → means_of t outcome s × HasFilled s
+  -- the tree is too high only where an inner node of each level above the leaf of its key was full
+  pub height : (s : Scene) → IsScene s → facts_of t Waiting s → end_of t ≡ Some (Full Height) → (wants_of t ≡ SPLIT_SLOTS) × HaveFilledUp (ascent_of t) s.past
   pub effect : (s : Scene) (y : Instant) (entries : List Entry) → s.past.config ≡ config_of t → facts_of t Waiting s → IsScene s → asks_of t ≡ Some (Swap entries) → Stand entries (here s)
       → SwapsTo s.past.config entries (here s) y → IsGoodSwap (publishing_of t) (change_of t) entries s y
   pub took : (s after : Scene) (entries : List Entry) → s.past.config ≡ config_of t → facts_of t Waiting s → IsScene s → IsScene after → asks_of t ≡ Some (Swap entries) → Stand entries (here s)

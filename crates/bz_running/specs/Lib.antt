@@ -1,3 +1,5 @@
+pub mod Ascending
 pub mod Duties
 pub mod Laws
 pub mod Hearing
+pub mod GoingUp

@@ -1,6 +1,6 @@
 //! Whichever task it is.
 
-ghost use Rattle.std.specs.Prelude.{◌≡◌, ◌↔◌, ◌-◌, ◌<◌, ◌≢◌, ◌≤◌, ℕ, List, true, false, Option, None, Some, IsTrue, slice_get};
+ghost use Rattle.std.specs.Prelude.{◌≡◌, ◌-◌, ◌<◌, ◌≢◌, ◌≤◌, ℕ, List, true, false, Option, None, Some, slice_get};
 ghost use Rattle.bz_below.specs.Facts.{IsThawedAbove, LackedPart};
 ghost use Rattle.bz_consol.specs.Facts.{LeadsTo};
 ghost use Rattle.bz_layout.specs.declared.thresholds.TheConstants.{CONSOLIDATION_SLOTS, SPLIT_ABOVE, SPLIT_SLOTS};
@@ -14,12 +14,15 @@ ghost use Rattle.bz_task.specs.Requests.{Hears, IsKnown};
 ghost use Rattle.bz_task.specs.Scene.{Scene, Waiting, IsScene, HasFilled};
 ghost use Rattle.bz_task.specs.declared.todo.Todo.TheVariants.{Read};
 ghost use Rattle.bz_running.specs.Hearing.{IsLookup, HasHeard};
-ghost use Rattle.bz_running.specs.Duties.{config_of, asks_of, end_of, left_of, needs_of, wants_of, change_of, publishing_of, facts_of, means_of, differs_of, makes_no_change};
+ghost use Rattle.bz_running.specs.Duties.{config_of, asks_of, end_of, left_of, needs_of, wants_of, change_of, ascent_of, publishing_of, facts_of, means_of, differs_of, makes_no_change};
 ghost use Rattle.bz_running.specs.Laws.{AreLaws};
 
+use bz_ascent::Ascent;
 use bz_below::SplitBelow;
 use bz_consol::Consolidate;
+use bz_crown::SplitInnerRoot;
 use bz_descend::Descend;
+use bz_fork::SplitInner;
 use bz_freeze::Freeze;
 use bz_insert::Insert;
 use bz_key::{Key, PageBuf, Payload};
@@ -40,12 +43,14 @@ pub enum Running {
     Freezing(Freeze),
     Consolidating(Consolidate),
     Splitting(SplitRoot),
-    SplittingBelow(SplitBelow),
+    SplittingBelow(SplitBelow, Ascent),
+    SplittingInner(SplitInner, Ascent),
+    SplittingInnerRoot(SplitInnerRoot, Ascent),
 }
 
 impl Running {
     /// The way to the leaf of a key. It asks for the root status first.
-    #[tactic(auto, unfolding(crate::specs::Duties::config_of, crate::specs::Duties::asks_of, crate::specs::Duties::needs_of, crate::specs::Duties::wants_of, crate::specs::Duties::facts_of, crate::specs::Duties::means_of, crate::specs::Duties::makes_no_change))]
+    #[tactic(auto, unfolding(crate::specs::Duties::config_of, crate::specs::Duties::asks_of, crate::specs::Duties::needs_of, crate::specs::Duties::wants_of, crate::specs::Duties::facts_of, crate::specs::Duties::means_of, crate::specs::Duties::ascent_of, crate::specs::Duties::makes_no_change))]
     pub fn descend(config: &Config, key: Key) -> Running
         ensures config { config_of result ≡ config.now }
         ensures asks { asks_of result ≡ Some (Read ROOT_STATUS_AT) }
@@ -59,7 +64,7 @@ impl Running {
     }
 
     /// A reading of the last leaf of a path.
-    #[tactic(auto, unfolding(crate::specs::Duties::config_of, crate::specs::Duties::asks_of, crate::specs::Duties::needs_of, crate::specs::Duties::wants_of, crate::specs::Duties::facts_of, crate::specs::Duties::means_of, crate::specs::Duties::makes_no_change))]
+    #[tactic(auto, unfolding(crate::specs::Duties::config_of, crate::specs::Duties::asks_of, crate::specs::Duties::needs_of, crate::specs::Duties::wants_of, crate::specs::Duties::facts_of, crate::specs::Duties::means_of, crate::specs::Duties::ascent_of, crate::specs::Duties::makes_no_change))]
     pub fn read_leaf(config: &Config, path: Path, key: Key) -> Running
         requires some { 1 ≤ path.depth }
         requires few { path.depth ≤ 12 }
@@ -75,7 +80,7 @@ impl Running {
     }
 
     /// The insert of a key that is absent from its viewed leaf.
-    #[tactic(auto, unfolding(crate::specs::Duties::config_of, crate::specs::Duties::asks_of, crate::specs::Duties::needs_of, crate::specs::Duties::wants_of, crate::specs::Duties::change_of, crate::specs::Duties::facts_of, crate::specs::Duties::means_of))]
+    #[tactic(auto, unfolding(crate::specs::Duties::config_of, crate::specs::Duties::asks_of, crate::specs::Duties::needs_of, crate::specs::Duties::wants_of, crate::specs::Duties::change_of, crate::specs::Duties::facts_of, crate::specs::Duties::means_of, crate::specs::Duties::ascent_of))]
     pub fn insert(
         config: &Config,
         path: Path,
@@ -98,7 +103,7 @@ impl Running {
     }
 
     /// The update of a key that its viewed leaf has.
-    #[tactic(auto, unfolding(crate::specs::Duties::config_of, crate::specs::Duties::asks_of, crate::specs::Duties::needs_of, crate::specs::Duties::wants_of, crate::specs::Duties::change_of, crate::specs::Duties::facts_of, crate::specs::Duties::means_of))]
+    #[tactic(auto, unfolding(crate::specs::Duties::config_of, crate::specs::Duties::asks_of, crate::specs::Duties::needs_of, crate::specs::Duties::wants_of, crate::specs::Duties::change_of, crate::specs::Duties::facts_of, crate::specs::Duties::means_of, crate::specs::Duties::ascent_of))]
     pub fn update(
         config: &Config,
         path: Path,
@@ -121,7 +126,7 @@ impl Running {
     }
 
     /// The delete of a key that its viewed leaf has.
-    #[tactic(auto, unfolding(crate::specs::Duties::config_of, crate::specs::Duties::asks_of, crate::specs::Duties::needs_of, crate::specs::Duties::wants_of, crate::specs::Duties::change_of, crate::specs::Duties::facts_of, crate::specs::Duties::means_of))]
+    #[tactic(auto, unfolding(crate::specs::Duties::config_of, crate::specs::Duties::asks_of, crate::specs::Duties::needs_of, crate::specs::Duties::wants_of, crate::specs::Duties::change_of, crate::specs::Duties::facts_of, crate::specs::Duties::means_of, crate::specs::Duties::ascent_of))]
     pub fn delete(config: &Config, path: Path, view: LeafView, key: Key) -> Running
         requires present { found_of (node_of view.image.0) key ≢ None }
         ensures config { config_of result ≡ config.now }
@@ -138,7 +143,7 @@ impl Running {
     }
 
     /// The freeze of a leaf that was not frozen when it was viewed.
-    #[tactic(auto, unfolding(crate::specs::Duties::config_of, crate::specs::Duties::asks_of, crate::specs::Duties::needs_of, crate::specs::Duties::wants_of, crate::specs::Duties::facts_of, crate::specs::Duties::means_of, crate::specs::Duties::makes_no_change))]
+    #[tactic(auto, unfolding(crate::specs::Duties::config_of, crate::specs::Duties::asks_of, crate::specs::Duties::needs_of, crate::specs::Duties::wants_of, crate::specs::Duties::facts_of, crate::specs::Duties::means_of, crate::specs::Duties::ascent_of, crate::specs::Duties::makes_no_change))]
     pub fn freeze(config: &Config, path: Path, view: LeafView) -> Running
         requires thawed { (status view.status).frozen ≡ false }
         ensures config { config_of result ≡ config.now }
@@ -153,7 +158,7 @@ impl Running {
     }
 
     /// The consolidation of a frozen leaf, to which the path leads.
-    #[tactic(auto, unfolding(crate::specs::Duties::config_of, crate::specs::Duties::asks_of, crate::specs::Duties::needs_of, crate::specs::Duties::wants_of, crate::specs::Duties::facts_of, crate::specs::Duties::means_of, crate::specs::Duties::makes_no_change))]
+    #[tactic(auto, unfolding(crate::specs::Duties::config_of, crate::specs::Duties::asks_of, crate::specs::Duties::needs_of, crate::specs::Duties::wants_of, crate::specs::Duties::facts_of, crate::specs::Duties::means_of, crate::specs::Duties::ascent_of, crate::specs::Duties::makes_no_change))]
     pub fn consolidate(config: &Config, path: Path, view: LeafView, page: &mut PageBuf) -> Running
         requires some { 1 ≤ path.depth }
         requires few { path.depth ≤ 12 }
@@ -172,7 +177,7 @@ impl Running {
     }
 
     /// The split of a frozen root leaf with more live words than it may keep, to which the path leads.
-    #[tactic(auto, unfolding(crate::specs::Duties::config_of, crate::specs::Duties::asks_of, crate::specs::Duties::needs_of, crate::specs::Duties::wants_of, crate::specs::Duties::facts_of, crate::specs::Duties::means_of, crate::specs::Duties::makes_no_change))]
+    #[tactic(auto, unfolding(crate::specs::Duties::config_of, crate::specs::Duties::asks_of, crate::specs::Duties::needs_of, crate::specs::Duties::wants_of, crate::specs::Duties::facts_of, crate::specs::Duties::means_of, crate::specs::Duties::ascent_of, crate::specs::Duties::makes_no_change))]
     pub fn split_root(config: &Config, path: Path, view: LeafView, page: &mut PageBuf) -> Running
         requires root { path.depth ≡ 1 }
         requires alone { IsLeafByItself view.image.0 }
@@ -191,8 +196,14 @@ impl Running {
     }
 
     /// The split of a frozen leaf below a parent, with more live words than it may keep, to which the path leads.
-    #[tactic(auto, unfolding(crate::specs::Duties::config_of, crate::specs::Duties::asks_of, crate::specs::Duties::needs_of, crate::specs::Duties::wants_of, crate::specs::Duties::facts_of, crate::specs::Duties::means_of, crate::specs::Duties::makes_no_change))]
-    pub fn split_below(config: &Config, path: Path, view: LeafView, page: &mut PageBuf) -> Running
+    #[tactic(auto, unfolding(crate::specs::Duties::config_of, crate::specs::Duties::asks_of, crate::specs::Duties::needs_of, crate::specs::Duties::wants_of, crate::specs::Duties::facts_of, crate::specs::Duties::means_of, crate::specs::Duties::ascent_of, crate::specs::Duties::makes_no_change))]
+    pub fn split_below(
+        config: &Config,
+        path: Path,
+        view: LeafView,
+        key: Key,
+        page: &mut PageBuf,
+    ) -> Running
         requires deep { 2 ≤ path.depth }
         requires few { path.depth ≤ 12 }
         requires alone { IsLeafByItself view.image.0 }
@@ -205,27 +216,18 @@ impl Running {
         ensures needs { needs_of result ≡ SPLIT_SLOTS }
         ensures wants { wants_of result ≡ SPLIT_SLOTS }
         ensures silent { makes_no_change result ≡ true }
-        ensures facts { (key : List ℕ) (s : Scene) → s.past.config ≡ config.now → IsScene s → IsPath key path s.past → IsView key view s.past → facts_of result Waiting s }
-        ensures ends { (key : List ℕ) (way : Option Path) → IsLookup key way result }
+        ensures facts { (s : Scene) → s.past.config ≡ config.now → IsScene s → IsPath key path s.past → IsView key view s.past → facts_of result Waiting s }
+        ensures ends { (way : Option Path) → IsLookup key way result }
         // NeedsRoom comes only where the parent lacked room for the separator
         ensures needs_room { (upper lower : Link) (s : Scene) → slice_get path.links (path.depth - 2) ≡ Some upper → slice_get path.links (path.depth - 1) ≡ Some lower → means_of result Outcome.NeedsRoom s → LackedPart upper lower view s.past }
     {
-        Running::SplittingBelow(SplitBelow::new(config, path, view, page))
-    }
-
-    /// Whether the task takes slots.
-    #[tactic(auto, unfolding(crate::specs::Duties::wants_of))]
-    pub fn takes_slots(&self) -> bool
-        ensures { IsTrue result ↔ (0 < wants_of self.now) }
-    {
-        matches!(
-            self,
-            Running::Consolidating(_) | Running::Splitting(_) | Running::SplittingBelow(_),
-        )
+        bz_ascent::laws::ascents_begin();
+        let task = SplitBelow::new(config, path, view, page);
+        Running::SplittingBelow(task, Ascent::from_leaf(key, path))
     }
 
     /// Tells the task what came of its last act, and answers what it asks for next: `next`, and that one which makes no change makes none later.
-    #[tactic(auto, unfolding(crate::specs::Duties::config_of, crate::specs::Duties::asks_of, crate::specs::Duties::end_of, crate::specs::Duties::left_of, crate::specs::Duties::needs_of, crate::specs::Duties::wants_of, crate::specs::Duties::change_of, crate::specs::Duties::facts_of, crate::specs::Duties::means_of, crate::specs::Duties::differs_of, crate::specs::Duties::makes_no_change))]
+    #[tactic(auto, unfolding(crate::specs::Duties::config_of, crate::specs::Duties::asks_of, crate::specs::Duties::end_of, crate::specs::Duties::left_of, crate::specs::Duties::needs_of, crate::specs::Duties::wants_of, crate::specs::Duties::change_of, crate::specs::Duties::facts_of, crate::specs::Duties::means_of, crate::specs::Duties::differs_of, crate::specs::Duties::ascent_of, crate::specs::Duties::makes_no_change))]
     pub fn hear(&mut self, seen: Seen, slots: &mut Slots, moment: u32) -> Todo
         requires hears { Hears (asks_of self.old) seen }
         requires known { IsKnown (config_of self.old) (facts_of self.old) (asks_of self.old) seen moment }
@@ -241,7 +243,9 @@ impl Running {
             Running::Freezing(task) => task.next(seen, slots, moment),
             Running::Consolidating(task) => task.next(seen, slots, moment),
             Running::Splitting(task) => task.next(seen, slots, moment),
-            Running::SplittingBelow(task) => task.next(seen, slots, moment),
+            Running::SplittingBelow(task, _) => task.next(seen, slots, moment),
+            Running::SplittingInner(task, _) => task.next(seen, slots, moment),
+            Running::SplittingInnerRoot(task, _) => task.next(seen, slots, moment),
         }
     }
 
@@ -250,6 +254,7 @@ impl Running {
         ensures { AreLaws self.now }
     {
         bz_consol::laws::consolidations_take_one_slot();
+        bz_ascent::laws::ascents_end();
         self.learnt();
         self.acted();
     }
@@ -287,7 +292,9 @@ impl Task for Running {
             Running::Freezing(task) => task.publishes(),
             Running::Consolidating(task) => task.publishes(),
             Running::Splitting(task) => task.publishes(),
-            Running::SplittingBelow(task) => task.publishes(),
+            Running::SplittingBelow(task, _) => task.publishes(),
+            Running::SplittingInner(task, _) => task.publishes(),
+            Running::SplittingInnerRoot(task, _) => task.publishes(),
         }
     }
 
@@ -302,7 +309,9 @@ impl Task for Running {
             Running::Freezing(task) => task.ended(),
             Running::Consolidating(task) => task.ended(),
             Running::Splitting(task) => task.ended(),
-            Running::SplittingBelow(task) => task.ended(),
+            Running::SplittingBelow(task, _) => task.ended(),
+            Running::SplittingInner(task, _) => task.ended(),
+            Running::SplittingInnerRoot(task, _) => task.ended(),
         }
     }
 
@@ -317,12 +326,15 @@ impl Task for Running {
             Running::Freezing(task) => task.next(seen, slots, moment),
             Running::Consolidating(task) => task.next(seen, slots, moment),
             Running::Splitting(task) => task.next(seen, slots, moment),
-            Running::SplittingBelow(task) => task.next(seen, slots, moment),
+            Running::SplittingBelow(task, _) => task.next(seen, slots, moment),
+            Running::SplittingInner(task, _) => task.next(seen, slots, moment),
+            Running::SplittingInnerRoot(task, _) => task.next(seen, slots, moment),
         }
     }
 
     #[tactic(auto, unfolding(crate::specs::Duties::config_of, crate::specs::Duties::needs_of, crate::specs::Duties::wants_of, crate::specs::Duties::asks_of, crate::specs::Duties::end_of, crate::specs::Duties::publishing_of, crate::specs::Duties::facts_of, crate::specs::Duties::means_of, crate::specs::Duties::differs_of))]
     fn learnt(&self) {
+        bz_ascent::laws::ascents_stay();
         match self {
             Running::Descending(task) => task.learnt(),
             Running::Reading(task) => task.learnt(),
@@ -332,12 +344,15 @@ impl Task for Running {
             Running::Freezing(task) => task.learnt(),
             Running::Consolidating(task) => task.learnt(),
             Running::Splitting(task) => task.learnt(),
-            Running::SplittingBelow(task) => task.learnt(),
+            Running::SplittingBelow(task, _) => task.learnt(),
+            Running::SplittingInner(task, _) => task.learnt(),
+            Running::SplittingInnerRoot(task, _) => task.learnt(),
         }
     }
 
     #[tactic(auto, unfolding(crate::specs::Duties::config_of, crate::specs::Duties::asks_of, crate::specs::Duties::publishing_of, crate::specs::Duties::change_of, crate::specs::Duties::facts_of))]
     fn acted(&self) {
+        bz_ascent::laws::ascents_stay();
         match self {
             Running::Descending(task) => task.acted(),
             Running::Reading(task) => task.acted(),
@@ -347,7 +362,9 @@ impl Task for Running {
             Running::Freezing(task) => task.acted(),
             Running::Consolidating(task) => task.acted(),
             Running::Splitting(task) => task.acted(),
-            Running::SplittingBelow(task) => task.acted(),
+            Running::SplittingBelow(task, _) => task.acted(),
+            Running::SplittingInner(task, _) => task.acted(),
+            Running::SplittingInnerRoot(task, _) => task.acted(),
         }
     }
 }

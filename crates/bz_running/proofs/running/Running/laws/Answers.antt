@@ -1,3 +1,4 @@
+use Rattle.bz_running.proofs.Heights.{filled-up}
 use Rattle.bz_running.proofs.Statements.{takes-few, wants-few}
 use Rattle.bz_running.proofs.running.Running.laws.Goals as goal
 
@@ -10,6 +11,7 @@ returns c = let l = c.learnt.ensures in let a = c.acted.ensures in record {
   most = wants-few c.args.self.now;
   once = l.once;
   ends = l.ends;
+  height = filled-up c.ascents_end.ensures c.args.self.now l.ends;
   effect = a.effect;
   took = a.took;
   stored = a.stored;

@@ -1,13 +1,29 @@
-use Rattle.std.proofs.Common.{refl}
-use Rattle.bz_running.specs.Duties.{wants_of, means_of}
-use Rattle.bz_running.proofs.Statements.{lacks-room}
+use Rattle.std.proofs.Common.{sym, ap, ◌∙◌}
+use Rattle.bz_ascent.specs.declared.ascent.Ascent.{Ascent}
+use Rattle.bz_running.specs.Duties.{facts_of, means_of, ascent_of}
+use Rattle.bz_running.proofs.Ascending.{same-ascent, lower-link, upper-link}
 use Rattle.bz_running.proofs.running.Running.split_below.Goals as goal
 
 pub returns-clause-ends : goal.returns-clause-ends
-unfolding wants_of means_of
-returns-clause-ends c key way = record {
-  path = λ path s means. absurd (c.new.ensures.no_path path s means);
-  view = λ view s means. absurd (c.new.ensures.no_view view s means);
-  leads = λ path is view s means. absurd (c.new.ensures.no_view view s means);
-  room = λ s some means. (refl, lacks-room c.new.result s means);
+unfolding means_of ascent_of
+returns-clause-ends c way = record {
+  path = λ path s means. absurd (c.new-task.ensures.no_path path s means);
+  view = λ view s means. absurd (c.new-task.ensures.no_view view s means);
+  leads = λ path is view s means. absurd (c.new-task.ensures.no_view view s means);
+  ascent = λ a is. ap (λ (z : Ascent). z.key) (sym (same-ascent c.from_leaf.result a is)) ∙ c.from_leaf.ensures.key_is;
 }
+
+pub returns-clause-facts : goal.returns-clause-facts
+unfolding facts_of
+returns-clause-facts c s same good path view = (
+  c.new-task.ensures.facts c.args.key s same good path view,
+  (
+    c.ascents_begin.ensures c.from_leaf.result c.args.key c.args.path c.args.view s c.from_leaf.ensures good path view c.requires.frozen c.requires.leads,
+    record {
+      lacks = λ next s one means. (
+          let p = c.new-task.ensures.no_room next.node c.from_leaf.result.node s (upper-link c.from_leaf.result next c.args.key c.args.path c.from_leaf.ensures one) (lower-link c.from_leaf.result next c.args.key c.args.path c.from_leaf.ensures one) means in
+          record { sep = p.sep; lacked = p.lacked });
+      high = λ s means. absurd means;
+    },
+  ),
+)

@@ -1,6 +1,7 @@
 use Rattle.std.proofs.Common.{sym, subst}
 use Rattle.bz_running.specs.Duties.{config_of, asks_of, change_of, publishing_of, facts_of}
 use Rattle.bz_running.proofs.Statements.{Effect, Took, Stored, Flushed}
+use Rattle.bz_running.proofs.Ascending.{goes-on}
 use Rattle.bz_running.proofs.running.RunningTask.acted.Goals as goal
 
 pub returns-in-Inserting-clause-effect : goal.returns-in-Inserting-clause-effect
@@ -101,16 +102,48 @@ returns-in-Splitting-clause-flushed c = subst Flushed (sym c.in-Splitting.is) c.
 
 pub returns-in-SplittingBelow-clause-effect : goal.returns-in-SplittingBelow-clause-effect
 unfolding config_of asks_of change_of publishing_of facts_of
-returns-in-SplittingBelow-clause-effect c = subst Effect (sym c.in-SplittingBelow.is) c.acted-in-SplittingBelow.ensures.effect
+returns-in-SplittingBelow-clause-effect c = subst Effect (sym c.in-SplittingBelow.is) (λ s y entries same f good e. c.acted-in-SplittingBelow.ensures.effect s y entries same f.0 good e)
 
 pub returns-in-SplittingBelow-clause-took : goal.returns-in-SplittingBelow-clause-took
 unfolding config_of asks_of change_of publishing_of facts_of
-returns-in-SplittingBelow-clause-took c = subst Took (sym c.in-SplittingBelow.is) c.acted-in-SplittingBelow.ensures.took
+returns-in-SplittingBelow-clause-took c = subst Took (sym c.in-SplittingBelow.is) (λ s after entries same f good later e stand takes. (c.acted-in-SplittingBelow.ensures.took s after entries same f.0 good later e stand takes, goes-on _ _ c.ascents_stay.ensures s after takes.continues f.1))
 
 pub returns-in-SplittingBelow-clause-stored : goal.returns-in-SplittingBelow-clause-stored
 unfolding config_of asks_of change_of publishing_of facts_of
-returns-in-SplittingBelow-clause-stored c = subst Stored (sym c.in-SplittingBelow.is) c.acted-in-SplittingBelow.ensures.stored
+returns-in-SplittingBelow-clause-stored c = subst Stored (sym c.in-SplittingBelow.is) (λ s after a v same f good later e made. (c.acted-in-SplittingBelow.ensures.stored s after a v same f.0 good later e made, goes-on _ _ c.ascents_stay.ensures s after made.continues f.1))
 
 pub returns-in-SplittingBelow-clause-flushed : goal.returns-in-SplittingBelow-clause-flushed
 unfolding config_of asks_of change_of publishing_of facts_of
-returns-in-SplittingBelow-clause-flushed c = subst Flushed (sym c.in-SplittingBelow.is) c.acted-in-SplittingBelow.ensures.flushed
+returns-in-SplittingBelow-clause-flushed c = subst Flushed (sym c.in-SplittingBelow.is) (λ s after line same f good later e made. (c.acted-in-SplittingBelow.ensures.flushed s after line same f.0 good later e made, goes-on _ _ c.ascents_stay.ensures s after made.continues f.1))
+
+pub returns-in-SplittingInner-clause-effect : goal.returns-in-SplittingInner-clause-effect
+unfolding config_of asks_of change_of publishing_of facts_of
+returns-in-SplittingInner-clause-effect c = subst Effect (sym c.in-SplittingInner.is) (λ s y entries same f good e. c.acted-in-SplittingInner.ensures.effect s y entries same f.0 good e)
+
+pub returns-in-SplittingInner-clause-took : goal.returns-in-SplittingInner-clause-took
+unfolding config_of asks_of change_of publishing_of facts_of
+returns-in-SplittingInner-clause-took c = subst Took (sym c.in-SplittingInner.is) (λ s after entries same f good later e stand takes. (c.acted-in-SplittingInner.ensures.took s after entries same f.0 good later e stand takes, goes-on _ _ c.ascents_stay.ensures s after takes.continues f.1))
+
+pub returns-in-SplittingInner-clause-stored : goal.returns-in-SplittingInner-clause-stored
+unfolding config_of asks_of change_of publishing_of facts_of
+returns-in-SplittingInner-clause-stored c = subst Stored (sym c.in-SplittingInner.is) (λ s after a v same f good later e made. (c.acted-in-SplittingInner.ensures.stored s after a v same f.0 good later e made, goes-on _ _ c.ascents_stay.ensures s after made.continues f.1))
+
+pub returns-in-SplittingInner-clause-flushed : goal.returns-in-SplittingInner-clause-flushed
+unfolding config_of asks_of change_of publishing_of facts_of
+returns-in-SplittingInner-clause-flushed c = subst Flushed (sym c.in-SplittingInner.is) (λ s after line same f good later e made. (c.acted-in-SplittingInner.ensures.flushed s after line same f.0 good later e made, goes-on _ _ c.ascents_stay.ensures s after made.continues f.1))
+
+pub returns-in-SplittingInnerRoot-clause-effect : goal.returns-in-SplittingInnerRoot-clause-effect
+unfolding config_of asks_of change_of publishing_of facts_of
+returns-in-SplittingInnerRoot-clause-effect c = subst Effect (sym c.in-SplittingInnerRoot.is) (λ s y entries same f good e. c.acted-in-SplittingInnerRoot.ensures.effect s y entries same f.0 good e)
+
+pub returns-in-SplittingInnerRoot-clause-took : goal.returns-in-SplittingInnerRoot-clause-took
+unfolding config_of asks_of change_of publishing_of facts_of
+returns-in-SplittingInnerRoot-clause-took c = subst Took (sym c.in-SplittingInnerRoot.is) (λ s after entries same f good later e stand takes. (c.acted-in-SplittingInnerRoot.ensures.took s after entries same f.0 good later e stand takes, goes-on _ _ c.ascents_stay.ensures s after takes.continues f.1))
+
+pub returns-in-SplittingInnerRoot-clause-stored : goal.returns-in-SplittingInnerRoot-clause-stored
+unfolding config_of asks_of change_of publishing_of facts_of
+returns-in-SplittingInnerRoot-clause-stored c = subst Stored (sym c.in-SplittingInnerRoot.is) (λ s after a v same f good later e made. (c.acted-in-SplittingInnerRoot.ensures.stored s after a v same f.0 good later e made, goes-on _ _ c.ascents_stay.ensures s after made.continues f.1))
+
+pub returns-in-SplittingInnerRoot-clause-flushed : goal.returns-in-SplittingInnerRoot-clause-flushed
+unfolding config_of asks_of change_of publishing_of facts_of
+returns-in-SplittingInnerRoot-clause-flushed c = subst Flushed (sym c.in-SplittingInnerRoot.is) (λ s after line same f good later e made. (c.acted-in-SplittingInnerRoot.ensures.flushed s after line same f.0 good later e made, goes-on _ _ c.ascents_stay.ensures s after made.continues f.1))

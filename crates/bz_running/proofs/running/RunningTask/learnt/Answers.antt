@@ -1,6 +1,7 @@
 use Rattle.std.proofs.Common.{sym, subst}
-use Rattle.bz_running.specs.Duties.{config_of, facts_of}
-use Rattle.bz_running.proofs.Statements.{Stable}
+use Rattle.bz_running.specs.Duties.{config_of, asks_of, facts_of}
+use Rattle.bz_running.proofs.Ascending.{goes-on}
+use Rattle.bz_running.proofs.Statements.{Stable, Askable}
 use Rattle.bz_running.proofs.running.RunningTask.learnt.Goals as goal
 
 pub returns-in-Splitting-clause-stable : goal.returns-in-Splitting-clause-stable
@@ -9,4 +10,24 @@ returns-in-Splitting-clause-stable c = subst Stable (sym c.in-Splitting.is) c.le
 
 pub returns-in-SplittingBelow-clause-stable : goal.returns-in-SplittingBelow-clause-stable
 unfolding config_of facts_of
-returns-in-SplittingBelow-clause-stable c = subst Stable (sym c.in-SplittingBelow.is) c.learnt-in-SplittingBelow.ensures.stable
+returns-in-SplittingBelow-clause-stable c = subst Stable (sym c.in-SplittingBelow.is) (λ stage s after same f good l. (c.learnt-in-SplittingBelow.ensures.stable stage s after same f.0 good l, goes-on _ _ c.ascents_stay.ensures s after l.continues f.1))
+
+pub returns-in-SplittingBelow-clause-askable : goal.returns-in-SplittingBelow-clause-askable
+unfolding config_of asks_of facts_of
+returns-in-SplittingBelow-clause-askable c = subst Askable (sym c.in-SplittingBelow.is) (λ s todo same f good e. c.learnt-in-SplittingBelow.ensures.askable s todo same f.0 good e)
+
+pub returns-in-SplittingInner-clause-stable : goal.returns-in-SplittingInner-clause-stable
+unfolding config_of facts_of
+returns-in-SplittingInner-clause-stable c = subst Stable (sym c.in-SplittingInner.is) (λ stage s after same f good l. (c.learnt-in-SplittingInner.ensures.stable stage s after same f.0 good l, goes-on _ _ c.ascents_stay.ensures s after l.continues f.1))
+
+pub returns-in-SplittingInner-clause-askable : goal.returns-in-SplittingInner-clause-askable
+unfolding config_of asks_of facts_of
+returns-in-SplittingInner-clause-askable c = subst Askable (sym c.in-SplittingInner.is) (λ s todo same f good e. c.learnt-in-SplittingInner.ensures.askable s todo same f.0 good e)
+
+pub returns-in-SplittingInnerRoot-clause-stable : goal.returns-in-SplittingInnerRoot-clause-stable
+unfolding config_of facts_of
+returns-in-SplittingInnerRoot-clause-stable c = subst Stable (sym c.in-SplittingInnerRoot.is) (λ stage s after same f good l. (c.learnt-in-SplittingInnerRoot.ensures.stable stage s after same f.0 good l, goes-on _ _ c.ascents_stay.ensures s after l.continues f.1))
+
+pub returns-in-SplittingInnerRoot-clause-askable : goal.returns-in-SplittingInnerRoot-clause-askable
+unfolding config_of asks_of facts_of
+returns-in-SplittingInnerRoot-clause-askable c = subst Askable (sym c.in-SplittingInnerRoot.is) (λ s todo same f good e. c.learnt-in-SplittingInnerRoot.ensures.askable s todo same f.0 good e)

@@ -1,0 +1,29 @@
+-- Only the split of an inner root ends because the tree is too high, and then each level that inner nodes may have was full.
+use Rattle.std.proofs.Common.{◌≡◌, refl, arith, Some}
+use Rattle.bz_call.specs.declared.replies.Spent.TheVariants.{Height}
+use Rattle.bz_layout.specs.declared.thresholds.TheConstants.{SPLIT_SLOTS}
+use Rattle.bz_ascent.specs.Laws.{AscentsEnd}
+use Rattle.bz_task.specs.Scene.{Scene, Waiting, IsScene}
+use Rattle.bz_task.specs.declared.todo.Outcome.TheVariants.{Full}
+use Rattle.bz_running.specs.Duties.{end_of, wants_of, ascent_of, facts_of, means_of}
+use Rattle.bz_running.specs.Laws.{HaveFilledUp}
+use Rattle.bz_running.specs.declared.running.Running.{Running}
+use Rattle.bz_running.specs.declared.running.Running.TheVariants.{Descending, Reading, Inserting, Updating, Deleting, Freezing, Consolidating, Splitting, SplittingBelow, SplittingInner, SplittingInnerRoot}
+use Rattle.bz_running.proofs.Statements.{Ends}
+
+by-end : AscentsEnd → (t : Running) (s : Scene) → IsScene s → facts_of t Waiting s → means_of t (Full Height) s → (wants_of t ≡ SPLIT_SLOTS) × HaveFilledUp (ascent_of t) s.past
+unfolding wants_of ascent_of facts_of means_of
+by-end law (Descending t) s good f m = absurd m
+by-end law (Reading t) s good f m = absurd m
+by-end law (Inserting t) s good f m = absurd m
+by-end law (Updating t) s good f m = absurd m
+by-end law (Deleting t) s good f m = absurd m
+by-end law (Freezing t) s good f m = absurd m
+by-end law (Consolidating t) s good f m = absurd m
+by-end law (Splitting t) s good f m = absurd m
+by-end law (SplittingBelow t a) s good f m = absurd m
+by-end law (SplittingInner t a) s good f m = absurd m
+by-end law (SplittingInnerRoot t a) s good f m = let w = f.1.1.high s m in (refl, law a s w.moment good f.1.0 w.since w.now w.node.inside (omega (arith, w.highest, w.node.level_is)))
+
+pub filled-up : AscentsEnd → (t : Running) → Ends t → (s : Scene) → IsScene s → facts_of t Waiting s → end_of t ≡ Some (Full Height) → (wants_of t ≡ SPLIT_SLOTS) × HaveFilledUp (ascent_of t) s.past
+filled-up law t ends s good f e = by-end law t s good f (ends s (Full Height) f e).0

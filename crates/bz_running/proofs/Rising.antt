@@ -1,0 +1,49 @@
+-- The split of the node above knows what it must where the one below lacked the room there.
+use Rattle.std.proofs.Common.{◌≡◌, refl, subst, ◌∙◌, Some}
+use Rattle.bz_ascent.specs.Ascents.{IsAscent, IsOneUp}
+use Rattle.bz_ascent.specs.Laws.{AscentsRise}
+use Rattle.bz_ascent.specs.declared.ascent.Ascent.{Ascent}
+use Rattle.bz_task.specs.Scene.{Scene, Waiting}
+use Rattle.bz_task.specs.declared.todo.Outcome.TheVariants.{NeedsRoom}
+use Rattle.bz_layout.specs.declared.thresholds.TheConstants.{SPLIT_SLOTS}
+use Rattle.bz_running.specs.Ascending.{LooksUp}
+use Rattle.bz_running.specs.Duties.{config_of, wants_of, ascent_of, facts_of, means_of}
+use Rattle.bz_running.specs.GoingUp.{IsSplitAt, GoesUp}
+use Rattle.bz_running.specs.Hearing.{IsLookup}
+use Rattle.bz_running.specs.declared.running.Running.{Running}
+use Rattle.bz_running.specs.declared.running.Running.TheVariants.{Descending, Reading, Inserting, Updating, Deleting, Freezing, Consolidating, Splitting, SplittingBelow, SplittingInner, SplittingInnerRoot}
+use Rattle.bz_running.proofs.Ascending.{same-ascent}
+use Rattle.bz_running.proofs.Statements.{Ends}
+
+-- a split on the way up
+pub record IsRising (t : Running) (a : Ascent) : Type 0 where
+  pub wants : wants_of t ≡ SPLIT_SLOTS
+  pub knows : (s : Scene) → facts_of t Waiting s → IsAscent a s.past × LooksUp a (means_of t)
+
+pub is-rising : (t : Running) (a : Ascent) → ascent_of t ≡ Some a → IsRising t a
+unfolding wants_of ascent_of facts_of means_of
+is-rising (Descending t) a e = absurd (cc)
+is-rising (Reading t) a e = absurd (cc)
+is-rising (Inserting t) a e = absurd (cc)
+is-rising (Updating t) a e = absurd (cc)
+is-rising (Deleting t) a e = absurd (cc)
+is-rising (Freezing t) a e = absurd (cc)
+is-rising (Consolidating t) a e = absurd (cc)
+is-rising (Splitting t) a e = absurd (cc)
+is-rising (SplittingBelow t b) a e = subst (IsRising (SplittingBelow t b)) (same-ascent b a e) (record { wants = refl; knows = λ s f. f.1 })
+is-rising (SplittingInner t b) a e = subst (IsRising (SplittingInner t b)) (same-ascent b a e) (record { wants = refl; knows = λ s f. f.1 })
+is-rising (SplittingInnerRoot t b) a e = subst (IsRising (SplittingInnerRoot t b)) (same-ascent b a e) (record { wants = refl; knows = λ s f. f.1 })
+
+pub goes-up : AscentsRise → (t next : Running) (a up : Ascent) → Ends t → ascent_of t ≡ Some a → IsOneUp a up → IsSplitAt (config_of t) up next → GoesUp t next
+goes-up law t next a up ends is one it = record {
+  config = it.config;
+  asks = it.asks;
+  wanted = (is-rising t a is).wants;
+  wants = it.wants;
+  silent = it.silent;
+  facts = λ s same good f e. (
+      let k = (is-rising t a is).knows s f in
+      let l = k.1.lacks up s one (ends s NeedsRoom f e).0 in
+      it.facts s same good (law a up s l.sep one good k.0 l.lacked));
+  ends = λ key way other h. subst (λ k. IsLookup k other next) (one.key_is ∙ h.ascent a is) (it.ends other);
+}

@@ -1,0 +1,37 @@
+use Rattle.std.proofs.Common.{◌≡◌, ◌+◌, ◌-◌, arith, refl, sym, ap, subst, Some}
+use Rattle.std.specs.Prelude.{slice_get}
+use Rattle.bz_ascent.specs.declared.ascent.Ascent.{Ascent}
+use Rattle.bz_running.specs.Duties.{config_of, asks_of, wants_of, ascent_of, facts_of, means_of, makes_no_change}
+use Rattle.bz_running.proofs.Ascending.{same-ascent}
+use Rattle.bz_running.proofs.above.split_inner.Goals as goal
+
+pub returns : goal.returns
+unfolding config_of asks_of wants_of ascent_of facts_of means_of makes_no_change
+returns c = record {
+  config = c.new-task.ensures.config;
+  asks = c.new-task.ensures.asks;
+  wants = refl;
+  silent = refl;
+  facts = λ s same good a. (
+    c.new-task.ensures.facts c.args.ascent.key s same good a.path,
+    (
+      a,
+      record {
+        lacks = λ next s one means. (
+            let up : next.place ≡ c.args.ascent.place - 1 = omega (arith, one.before) in
+            let down : c.args.ascent.place ≡ c.args.ascent.place - 1 + 1 = omega (arith, c.requires.below) in
+            let p = c.new-task.ensures.no_room next.node c.args.ascent.node s
+            (subst (λ z. slice_get c.args.ascent.path.links z ≡ Some next.node) up one.node)
+            (subst (λ z. slice_get c.args.ascent.path.links z ≡ Some c.args.ascent.node) down c.requires.node) means in
+            record { sep = p.sep; lacked = p.lacked });
+        high = λ s means. absurd means;
+      },
+    ),
+  );
+  ends = λ way. record {
+    path = λ path s means. absurd (c.new-task.ensures.no_path path s means);
+    view = λ view s means. absurd (c.new-task.ensures.no_view view s means);
+    leads = λ path is view s means. absurd (c.new-task.ensures.no_view view s means);
+    ascent = λ a is. ap (λ (z : Ascent). z.key) (sym (same-ascent c.args.ascent a is));
+  };
+}

@@ -1,0 +1,31 @@
+use Rattle.std.proofs.Common.{◌≡◌, arith, refl, sym, ap, subst, Some}
+use Rattle.std.specs.Prelude.{slice_get}
+use Rattle.bz_ascent.specs.declared.ascent.Ascent.{Ascent}
+use Rattle.bz_running.specs.Duties.{config_of, asks_of, wants_of, ascent_of, facts_of, means_of, makes_no_change}
+use Rattle.bz_running.proofs.Ascending.{same-ascent}
+use Rattle.bz_running.proofs.above.split_inner_root.Goals as goal
+
+pub returns : goal.returns
+unfolding config_of asks_of wants_of ascent_of facts_of means_of makes_no_change
+returns c = record {
+  config = c.new-task.ensures.config;
+  asks = c.new-task.ensures.asks;
+  wants = refl;
+  silent = refl;
+  facts = λ s same good a. (
+    c.new-task.ensures.facts c.args.ascent.key s same good a.path,
+    (
+      a,
+      record {
+        lacks = λ next s one means. absurd (omega (arith, one.before, c.requires.root));
+        high = λ s means. c.new-task.ensures.too_high c.args.ascent.node s (subst (λ z. slice_get c.args.ascent.path.links z ≡ Some c.args.ascent.node) c.requires.root c.requires.node) means;
+      },
+    ),
+  );
+  ends = λ way. record {
+    path = λ path s means. absurd (c.new-task.ensures.no_path path s means);
+    view = λ view s means. absurd (c.new-task.ensures.no_view view s means);
+    leads = λ path is view s means. absurd (c.new-task.ensures.no_view view s means);
+    ascent = λ a is. ap (λ (z : Ascent). z.key) (sym (same-ascent c.args.ascent a is));
+  };
+}

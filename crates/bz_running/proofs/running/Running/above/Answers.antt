@@ -1,0 +1,35 @@
+use Rattle.std.proofs.Common.{◌≡◌, arith, sym, ap, subst, ◌∙◌, Option, Some, None}
+use Rattle.std.specs.Prelude.{IfSome}
+use Rattle.bz_ascent.specs.Ascents.{IsOneUp}
+use Rattle.bz_ascent.specs.Laws.{AscentsRise}
+use Rattle.bz_ascent.specs.declared.ascent.Ascent.{Ascent}
+use Rattle.bz_task.specs.declared.path.Path.{Path}
+use Rattle.bz_running.specs.Duties.{config_of, ascent_of}
+use Rattle.bz_running.specs.GoingUp.{IsSplitAt, GoesUp}
+use Rattle.bz_running.specs.declared.running.Running.{Running}
+use Rattle.bz_running.proofs.Rising.{goes-up, is-rising}
+use Rattle.bz_running.proofs.Statements.{Ends}
+use Rattle.bz_running.proofs.running.Running.above.Goals as goal
+
+-- where the split of the node above may begin, it goes on from this one
+up : AscentsRise → (t : Running) (a next : Ascent) → Ends t → ascent_of t ≡ Some a → IsOneUp a next → (found : Option Running) → IfSome found (IsSplitAt (config_of t) next) → IfSome found (GoesUp t)
+up law t a next ends is one None it = tt
+up law t a next ends is one (Some other) it = goes-up law t other a next ends is one it
+
+pub one_up-requires-clause-few : goal.one_up-requires-clause-few
+one_up-requires-clause-few c =
+    let k = (is-rising c.args.self.now c.in_ok-ascent.ascent (sym c.ascent.ensures ∙ c.in_ok-ascent.was)).knows c.requires.known.scene c.requires.known.facts in
+    omega (arith, k.0.within, k.0.path.few)
+
+pub split_at-requires-clause-few : goal.split_at-requires-clause-few
+split_at-requires-clause-few c =
+    let k = (is-rising c.args.self.now c.in_ok-ascent.ascent (sym c.ascent.ensures ∙ c.in_ok-ascent.was)).knows c.requires.known.scene c.requires.known.facts in
+    omega (arith, k.0.path.few, ap (λ (z : Path). z.depth) c.one_up.ensures.path_is)
+
+pub split_at-requires-clause-within : goal.split_at-requires-clause-within
+split_at-requires-clause-within c =
+    let k = (is-rising c.args.self.now c.in_ok-ascent.ascent (sym c.ascent.ensures ∙ c.in_ok-ascent.was)).knows c.requires.known.scene c.requires.known.facts in
+    omega (arith, k.0.within, k.0.path.few, c.one_up.ensures.before)
+
+pub returns : goal.returns
+returns c = up c.ascents_rise.ensures c.args.self.now c.in_ok-ascent.ascent c.one_up.result c.learnt.ensures.ends (sym c.ascent.ensures ∙ c.in_ok-ascent.was) c.one_up.ensures c.split_at.result (subst (λ z. IfSome c.split_at.result (IsSplitAt z c.one_up.result)) (sym c.requires.config) c.split_at.ensures)

@@ -1,0 +1,36 @@
+-- The split of the node above, where a split lacked the room there.
+use Rattle.std.specs.Prelude.{◌≡◌, ℕ, true, List, Option, Some, None}
+use Rattle.bz_layout.specs.declared.config.Config.{Config}
+use Rattle.bz_layout.specs.declared.thresholds.TheConstants.{SPLIT_SLOTS}
+use Rattle.bz_ascent.specs.Ascents.{IsAscent}
+use Rattle.bz_ascent.specs.declared.ascent.Ascent.{Ascent}
+use Rattle.bz_task.specs.Scene.{Scene, Waiting, IsScene}
+use Rattle.bz_task.specs.declared.path.Path.{Path}
+use Rattle.bz_task.specs.declared.todo.Outcome.TheVariants.{NeedsRoom}
+use Rattle.bz_running.specs.Duties.{config_of, asks_of, end_of, wants_of, facts_of, makes_no_change}
+use Rattle.bz_running.specs.Hearing.{IsLookup}
+use Rattle.bz_running.specs.declared.running.Running.{Running}
+
+-- the task knows what it should, in some scene
+pub record IsInScene (t : Running) : Type 0 where
+  pub scene : Scene
+  pub facts : facts_of t Waiting scene
+
+-- a split of the node to which an ascent has come, which is yet to begin
+pub record IsSplitAt (c : Config) (a : Ascent) (t : Running) : Type 0 where
+  pub config : config_of t ≡ c
+  pub asks : asks_of t ≡ None
+  pub wants : wants_of t ≡ SPLIT_SLOTS
+  pub silent : makes_no_change t ≡ true
+  pub facts : (s : Scene) → s.past.config ≡ c → IsScene s → IsAscent a s.past → facts_of t Waiting s
+  pub ends : (way : Option Path) → IsLookup a.key way t
+
+-- a split that lacked room, and the one that is to be made first
+pub record GoesUp (t next : Running) : Type 0 where
+  pub config : config_of next ≡ config_of t
+  pub asks : asks_of next ≡ None
+  pub wanted : wants_of t ≡ SPLIT_SLOTS
+  pub wants : wants_of next ≡ SPLIT_SLOTS
+  pub silent : makes_no_change next ≡ true
+  pub facts : (s : Scene) → s.past.config ≡ config_of t → IsScene s → facts_of t Waiting s → end_of t ≡ Some NeedsRoom → facts_of next Waiting s
+  pub ends : (key : List ℕ) (way other : Option Path) → IsLookup key way t → IsLookup key other next

@@ -1,0 +1,87 @@
+//! The split of the node above, where a split lacked the room there.
+
+ghost use Rattle.std.specs.Prelude.{◌≡◌, ◌<◌, ◌≤◌, IfSome, Some, slice_get};
+ghost use Rattle.bz_running.specs.Duties.{config_of, ascent_of};
+ghost use Rattle.bz_running.specs.GoingUp.{IsInScene, IsSplitAt, GoesUp};
+
+use crate::running::Running;
+use bz_ascent::Ascent;
+use bz_crown::SplitInnerRoot;
+use bz_fork::SplitInner;
+use bz_layout::Config;
+use bz_task::Task;
+
+// The split of the inner node to which an ascent has come, below a parent.
+fn split_inner(config: &Config, ascent: Ascent) -> Option<Running>
+    requires few { ascent.path.depth ≤ 12 }
+    requires within { ascent.place < 12 }
+    requires below { 0 < ascent.place }
+    requires node { slice_get ascent.path.links ascent.place ≡ Some ascent.node }
+    ensures { IfSome result (IsSplitAt config.now ascent) }
+{
+    let upper = ascent.place - 1;
+    if !bz_fork::is_due(&ascent.path, upper) {
+        return None;
+    }
+    let task = SplitInner::new(config, ascent.path, upper);
+    Some(Running::SplittingInner(task, ascent))
+}
+
+// The split of the inner root.
+fn split_inner_root(config: &Config, ascent: Ascent) -> Option<Running>
+    requires few { ascent.path.depth ≤ 12 }
+    requires root { ascent.place ≡ 0 }
+    requires node { slice_get ascent.path.links ascent.place ≡ Some ascent.node }
+    ensures { IfSome result (IsSplitAt config.now ascent) }
+{
+    if !bz_crown::is_due(&ascent.path) {
+        return None;
+    }
+    let task = SplitInnerRoot::new(config, ascent.path);
+    Some(Running::SplittingInnerRoot(task, ascent))
+}
+
+// The split of the node to which an ascent has come.
+fn split_at(config: &Config, ascent: Ascent) -> Option<Running>
+    requires few { ascent.path.depth ≤ 12 }
+    requires within { ascent.place < 12 }
+    requires node { slice_get ascent.path.links ascent.place ≡ Some ascent.node }
+    ensures { IfSome result (IsSplitAt config.now ascent) }
+{
+    if ascent.place == 0 {
+        split_inner_root(config, ascent)
+    } else {
+        split_inner(config, ascent)
+    }
+}
+
+impl Running {
+    // How far up the way from a leaf it splits, if it does.
+    #[tactic(auto, unfolding(crate::specs::Duties::ascent_of))]
+    fn ascent(&self) -> Option<Ascent>
+        ensures { result ≡ ascent_of self.now }
+    {
+        match self {
+            Running::SplittingBelow(_, ascent) => Some(*ascent),
+            Running::SplittingInner(_, ascent) => Some(*ascent),
+            Running::SplittingInnerRoot(_, ascent) => Some(*ascent),
+            _ => None,
+        }
+    }
+
+    /// The split of the node above, where this one has ended because that lacked the room. None where this is no split below a parent,
+    /// or the path is not one by which that node may be split.
+    pub fn above(&self, config: &Config) -> Option<Running>
+        requires config { config_of self.now ≡ config.now }
+        requires known { IsInScene self.now }
+        ensures { IfSome result (GoesUp self.now) }
+    {
+        bz_ascent::laws::ascents_rise();
+        self.learnt();
+        let ascent = self.ascent()?;
+        if ascent.place == 0 {
+            return None;
+        }
+        split_at(config, ascent.one_up())
+    }
+}
