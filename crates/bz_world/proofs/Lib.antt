@@ -32,7 +32,8 @@ mod Booting
 mod Takings
 mod SpendingSlots
 mod MakingAnew
-mod CrowdedTrees
+mod HighTrees
+mod GoingUp
 mod Flags
 mod Cutting
 mod Recovering

@@ -99,10 +99,7 @@ module _ (scenes : ScenesAreSeen) (slots : SlotsAreTaken) (p : Parts) (w : ℕ) 
         path = λ path s means. told.tasked.lookup.path path s (h.heard.meant (outcome.Path path) s means);
         view = λ view s means. told.tasked.lookup.view view s (h.heard.meant (outcome.View view) s means);
         leads = λ path is view s means. told.tasked.lookup.leads path is view s (h.heard.meant (outcome.View view) s means);
-        room = λ s some means. (
-            let was : 0 < wants_of x.task = subst (λ n. 0 < n) h.heard.wants some in
-            let crowded = told.tasked.lookup.room s was (h.heard.meant outcome.NeedsRoom s means) in
-            (h.heard.wants ∙ crowded.0, crowded.1));
+        ascent = λ a is. told.tasked.lookup.ascent a (sym h.heard.ascent ∙ is);
       };
       change = elim told.tasked.change [
         | inl look ↦ inl (h.heard.silent ∙ look)

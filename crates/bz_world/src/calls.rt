@@ -1,13 +1,14 @@
 //! What a served call asks for, and how far it has come.
-ghost use Rattle.std.specs.Prelude.{◌≡◌, ◌↔◌, ◌<◌, IsTrue, IsSome, Some};
+ghost use Rattle.std.specs.Prelude.{◌≡◌, ◌↔◌, IsTrue, IsSome, IfSome, Some};
 ghost use Rattle.bz_call.specs.Map.{key_of as key_in};
 ghost use Rattle.bz_sound.specs.Memory.Replies.{IsWrite};
 ghost use Rattle.bz_task.specs.declared.todo.Todo.TheVariants.{Finish};
-ghost use Rattle.bz_world.specs.Inside.Going.{call_in, end_in, asks_in, path_in as way_in, had_in as payload_in, effect_in as moment_in, wants_in, with_task, with_change};
+ghost use Rattle.bz_world.specs.Inside.Going.{call_in, end_in, asks_in, path_in as way_in, had_in as payload_in, effect_in as moment_in, CanGoUpIn, GoesUpIn, with_task, with_change};
 
 use crate::serving::Serving;
 use bz_call::Call;
 use bz_key::{Key, Payload};
+use bz_layout::Config;
 use bz_running::Running;
 use bz_task::{Outcome, Path, Task};
 
@@ -77,13 +78,14 @@ pub(crate) fn had_in(slot: &Option<Serving>) -> Option<Payload>
     }
 }
 
-/// Whether its task takes slots.
-pub(crate) fn takes_slots(slot: &Option<Serving>) -> bool
-    ensures { IsTrue result ↔ (0 < wants_in slot.now) }
+/// The split of the node above, where its split lacked the room there.
+pub(crate) fn above(slot: &Option<Serving>, config: &Config) -> Option<Running>
+    requires { CanGoUpIn slot.now config.now }
+    ensures { IfSome result (GoesUpIn slot.now) }
 {
     match slot {
-        Some(serving) => serving.task.takes_slots(),
-        None => false,
+        Some(serving) => serving.task.above(config),
+        None => None,
     }
 }
 

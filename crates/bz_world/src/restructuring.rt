@@ -1,10 +1,11 @@
-//! What a leaf needs that is frozen or has no room: to be frozen, and then to be copied without the records that are gone, or to be split.
+//! What a leaf needs that is frozen or has no room: to be frozen, and then to be copied without the records that are gone, or to be
+//! split; and what its parent needs, where that has no room for the split.
 ghost use Rattle.std.specs.Prelude.{◌≡◌, ◌<◌, true, false, length};
 ghost use Rattle.bz_word.specs.Statuses.{status};
-ghost use Rattle.bz_world.specs.Inside.Going.{MustAnswer, MustMakeAnew, MustCopy, MustSplit, MustSplitBelow, WentOn};
+ghost use Rattle.bz_world.specs.Inside.Going.{MustAnswer, MustMakeAnew, MustCopy, MustSplit, MustSplitBelow, MustGoUp, WentOn};
 
 use crate::answers::Applied;
-use crate::calls::{path_in, set_task};
+use crate::calls::{called, key_of, path_in, set_task};
 use crate::going::{go_on, look_up};
 use crate::laws::{answer_laws, start_laws};
 use crate::parts::Parts;
@@ -69,7 +70,21 @@ fn split_below(parts: &mut Parts, w: u8, path: Path, view: &LeafView) -> Applied
 {
     start_laws();
     answer_laws();
-    let task = Running::split_below(&parts.config, path, *view, &mut parts.page);
+    let call = called(&parts.workers[w as usize]);
+    let task = Running::split_below(&parts.config, path, *view, key_of(&call), &mut parts.page);
+    task.laws();
+    set_task(&mut parts.workers[w as usize], task, None);
+    let todo = tell(parts, w, Seen::Start);
+    go_on(parts, w, todo)
+}
+
+/// Splits the node above the one whose split lacked the room there. Its call begins again afterwards.
+pub(crate) fn split_above(parts: &mut Parts, w: u8, task: Running) -> Applied
+    requires up { MustGoUp parts.old w task }
+    requires room { length parts.old.journal.past < parts.old.config.marks }
+    ensures { WentOn parts.old w result parts.new }
+{
+    start_laws();
     task.laws();
     set_task(&mut parts.workers[w as usize], task, None);
     let todo = tell(parts, w, Seen::Start);

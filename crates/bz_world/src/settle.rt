@@ -7,12 +7,13 @@ ghost use Rattle.bz_world.specs.Inside.Going.{MustRead, MustAnswer, HasEnded, Is
 ghost use Rattle.bz_world.specs.Inside.Telling.{MustStart};
 
 use crate::answers::Applied;
-use crate::calls::{called, effect_in, key_of, set_task, takes_slots};
+use crate::calls::{above, called, effect_in, key_of, set_task};
 use crate::changes::{answer_delete, answer_insert, answer_update, answer_upsert};
 use crate::end::{end, end_page};
 use crate::going::{end_effective, end_full, go_on, look_up, outcome_of};
 use crate::laws::{answer_laws, start_laws};
 use crate::parts::Parts;
+use crate::restructuring::split_above;
 use crate::tell::tell;
 use bz_call::{Call, Reply, Spent};
 use bz_key::Key;
@@ -78,32 +79,32 @@ fn answer(parts: &mut Parts, w: u8, view: &LeafView) -> Applied
     }
 }
 
-// The task of a call without effect has ended for want of this. Where it is slots, fewer are left than it takes, and its call ends.
+// The task of a call without effect has ended for want of this. Where it is slots, fewer are left than it takes, and its call ends; so
+// it does where the tree is too high.
 fn settle_full(parts: &mut Parts, w: u8, spent: Spent) -> Applied
     requires ends { HasEnded parts.old w (Full spent) }
     requires room { length parts.old.journal.past < parts.old.config.marks }
     ensures { WentOn parts.old w result parts.new }
 {
     bz_sound::power_laws::held_slots_are_spent();
+    start_laws();
     match spent {
         Spent::Nodes => end_full(parts, w, spent),
-        Spent::Swaps | Spent::Height => look_up(parts, w),
+        Spent::Height => end_full(parts, w, spent),
+        Spent::Swaps => look_up(parts, w),
     }
 }
 
-// The task of a call without effect has ended for want of room: a change, because its leaf has none, which is to be looked up again;
-// or a split, because the parent of the leaf has none. Such a parent is not split yet, and the call ends for want of nodes.
+// The task of a call without effect has ended for want of room: a split, because the node above has none, which is then to be split
+// first; or a change, because its leaf has none, which is to be looked up again.
 fn settle_crowded(parts: &mut Parts, w: u8) -> Applied
     requires ends { HasEnded parts.old w NeedsRoom }
     requires room { length parts.old.journal.past < parts.old.config.marks }
     ensures { WentOn parts.old w result parts.new }
 {
-    start_laws();
-    bz_task::laws::headers_say_the_level();
-    if takes_slots(&parts.workers[w as usize]) {
-        end_full(parts, w, Spent::Nodes)
-    } else {
-        look_up(parts, w)
+    match above(&parts.workers[w as usize], &parts.config) {
+        Some(task) => split_above(parts, w, task),
+        None => look_up(parts, w),
     }
 }
 

@@ -10,9 +10,10 @@ use Rattle.bz_call.specs.declared.replies.Spent.{Spent}
 use Rattle.bz_call.specs.declared.replies.Spent.TheVariants.{Nodes}
 use Rattle.bz_below.specs.Facts.{IsThawedAbove}
 use Rattle.bz_consol.specs.Facts.{LeadsTo}
-use Rattle.bz_layout.specs.declared.thresholds.TheConstants.{SPLIT_ABOVE, SPLIT_SLOTS}
-use Rattle.bz_running.specs.Duties.{asks_of, end_of, wants_of, facts_of}
-use Rattle.bz_running.specs.Hearing.{WasCrowded}
+use Rattle.bz_layout.specs.declared.config.Config.{Config}
+use Rattle.bz_layout.specs.declared.thresholds.TheConstants.{SPLIT_ABOVE}
+use Rattle.bz_running.specs.Duties.{config_of, asks_of, end_of, wants_of, facts_of}
+use Rattle.bz_running.specs.GoingUp.{GoesUp, IsInScene}
 use Rattle.bz_running.specs.declared.running.Running.{Running}
 use Rattle.bz_slotted.specs.Readers.{live_of}
 use Rattle.bz_slotted.specs.ReadingLaws.{node_of}
@@ -76,6 +77,20 @@ abbrev pub wants_in : Option Serving → ℕ
 wants_in None = 0
 wants_in (Some x) = wants_of x.task
 
+-- its task knows what it should, of a memory of these sizes
+pub record CanGoUp (x : Serving) (c : Config) : Type 0 where
+  pub config : config_of x.task ≡ c
+  pub known : IsInScene x.task
+
+abbrev pub CanGoUpIn : Option Serving → Config → Type 0
+CanGoUpIn None c = ⊥
+CanGoUpIn (Some x) c = CanGoUp x c
+
+-- a split may come before its own
+abbrev pub GoesUpIn : Option Serving → Running → Type 0
+GoesUpIn None next = ⊥
+GoesUpIn (Some x) next = GoesUp x.task next
+
 -- its task has ended for want of slots only where fewer are left
 abbrev pub IsFullRightly : Parts → ℕ → Type 0
 IsFullRightly p w = end_in (get_or p.workers.items w None) ≡ Some (outcomes.Full Nodes) → length p.slots.free < wants_in (get_or p.workers.items w None)
@@ -105,12 +120,14 @@ pub record MustRead (p : Parts) (w : ℕ) (path : Path) : Type 0 where
 -- its task has ended so, and it had no effect
 pub record HasEnded (p : Parts) (w : ℕ) (outcome : Outcome) : Type 0 where
   pub on : MustGoOn p w
+  pub tasked : IsTasked p.config on.serving.call on.serving.path on.serving.had on.serving.task
+  pub facts : facts_of on.serving.task Waiting (known p w on)
+  pub end : end_of on.serving.task ≡ Some outcome
   pub quiet : on.serving.effect ≡ None
   pub path : (path : Path) → outcome ≡ outcomes.Path path → IsPath (key_of on.serving.call) path (known p w on).past
   pub view : (view : LeafView) → outcome ≡ outcomes.View view → IsView (key_of on.serving.call) view (known p w on).past
   pub leads : (view : LeafView) → outcome ≡ outcomes.View view → (path : Path) → on.serving.path ≡ Some path → IsPath (key_of on.serving.call) path (known p w on).past
   pub full : outcome ≡ outcomes.Full Nodes → length p.slots.free < wants_of on.serving.task
-  pub crowded : outcome ≡ outcomes.NeedsRoom → 0 < wants_of on.serving.task → (wants_of on.serving.task ≡ SPLIT_SLOTS) × WasCrowded (known p w on).past
 
 -- its leaf was read, by the path that was found, and it had no effect
 pub record MustAnswer (p : Parts) (w : ℕ) (view : LeafView) : Type 0 where
@@ -155,6 +172,11 @@ pub record MustSplitBelow (p : Parts) (w : ℕ) (path : Path) (view : LeafView) 
   pub deep : 2 ≤ path.depth
   pub leads : LeadsTo path view.slot
   pub thawed : IsThawedAbove path
+
+-- its split has ended because the node above lacked the room, and this is the split of that one, which is yet to begin
+pub record MustGoUp (p : Parts) (w : ℕ) (task : Running) : Type 0 where
+  pub ends : HasEnded p w outcomes.NeedsRoom
+  pub up : GoesUp ends.on.serving.task task
 
 -- the call puts this payload at its key, where the key is absent, or present
 abbrev pub MayInsert : Call → List ℕ → List ℕ → Type 0

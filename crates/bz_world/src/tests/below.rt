@@ -11,8 +11,8 @@ use std::process::Abort;
 // More acts than any of these calls makes.
 const MOST: u32 = 6_000;
 
-// The last digit of a number.
-fn digit(number: u32) -> u8 {
+/// The last digit of a number.
+pub(super) fn digit(number: u32) -> u8 {
     b'0' + (number % 10) as u8
 }
 
@@ -35,8 +35,8 @@ fn has(rt: &impl Abort, world: &mut World, number: u32) {
     assert_eq!(rt; whole(world, 1, call), Some(value), "{number}");
 }
 
-// The page and the next key of the last reply.
-fn last_page(world: &World) -> Option<(u32, Option<Key>)> {
+/// The page and the next key of the last reply.
+pub(super) fn last_page(world: &World) -> Option<(u32, Option<Key>)> {
     let last = world.journal().length().saturating_sub(1);
     match mark(world, last) {
         Some(
@@ -183,41 +183,4 @@ fn two_splits_below_one_parent(rt: HostRuntime) {
     assert_eq!(rt; first, Some(Answer::Inserted));
     assert_eq!(rt; second, Some(Answer::Inserted));
     assert_eq!(rt; count_pairs(&rt, &mut world), 80);
-}
-
-// A key of twenty-eight bytes, of which the last three are digits.
-fn long(rt: &impl Abort, number: u32) -> Key {
-    let mut bytes = [b'k'; 28];
-    bytes[25] = digit(number / 100);
-    bytes[26] = digit(number / 10);
-    bytes[27] = digit(number);
-    key(rt, &bytes)
-}
-
-// A parent has room for twenty children below such keys: each leaf keeps ten records, and the twentieth child may get nineteen. Then
-// the call ends for want of nodes, and takes none.
-#[test]
-fn a_parent_that_lacks_room(rt: HostRuntime) {
-    let v = payload(&rt, b"v");
-    let mut world = open(rt.alloc(), 80, 600, 1).expect(&rt, "a world");
-    for number in 1..210 {
-        let call = Call::Insert(long(&rt, number), v);
-        assert_eq!(rt;
-            whole(&mut world, 1, call),
-            Some(Answer::Inserted),
-            "{number}"
-        );
-    }
-    for _ in 0..2 {
-        let call = Call::Insert(long(&rt, 210), v);
-        assert_eq!(rt; whole(&mut world, 1, call), Some(Answer::FullNodes));
-    }
-    for tens in 1..21 {
-        let call = Call::Get(long(&rt, 10 * tens));
-        assert_eq!(rt;
-            whole(&mut world, 1, call),
-            Some(Answer::Value(v)),
-            "{tens}"
-        );
-    }
 }

@@ -130,6 +130,14 @@ pub(crate) fn decode_keys(world: &World) -> Option<[bool; 100]> {
     Some(seen)
 }
 
+/// The level of the root in the memory itself, and how many records or children it has.
+pub(crate) fn decode_root(world: &World) -> Option<(u32, u32)> {
+    let node = root(world);
+    let header = Header::unpack(resolve(world, node.saturating_add(1)))?;
+    let status = Status::unpack(resolve(world, node))?;
+    Some((header.level, status.count))
+}
+
 /// The map that the root leaf is in the memory itself; none where it is not a leaf of the reader's keys.
 pub(crate) fn decode(world: &World) -> Option<Map> {
     let node = root(world);

@@ -1,7 +1,7 @@
 use Rattle.std.proofs.Common.{◌≡◌, ◌<◌, length, sym, ap, subst, ◌∙◌, Some}
 use Rattle.bz_running.specs.Duties.{end_of}
 use Rattle.bz_task.specs.Scene.{Scene}
-use Rattle.bz_task.specs.declared.todo.Outcome.TheVariants.{Path, View, NeedsRoom}
+use Rattle.bz_task.specs.declared.todo.Outcome.TheVariants.{Path, View}
 use Rattle.bz_task.specs.declared.todo.Todo.TheVariants.{Finish}
 use Rattle.bz_world.specs.Inside.Going.{MustGoOn, effect_in, wants_in, known}
 use Rattle.bz_world.proofs.TakingOn.{slot-is, must-go-on, ended-by}
@@ -22,10 +22,12 @@ settle_quiet-requires-clause-ends c =
     let facts = c.requires.ends.asking.facts in
     record {
       on = on;
+      tasked = tasked;
+      facts = facts;
+      end = ended;
       quiet = ap effect_in (sym (slot-is c.args.parts.now c.args.w on c.index.result.now c.index.ensures)) ∙ sym c.in-None.ensures;
       path = λ path is. tasked.lookup.path path here (tasked.laws.ends here (Path path) facts (ended ∙ ap Some is)).0;
       view = λ view is. tasked.lookup.view view here (tasked.laws.ends here (View view) facts (ended ∙ ap Some is)).0;
       full = λ is. subst (λ z. length c.args.parts.now.slots.free < wants_in z) c.requires.ends.is (c.requires.full (c.outcome_of-outcome.ensures ∙ ap Some is));
-      crowded = λ is some. tasked.lookup.room here some (tasked.laws.ends here NeedsRoom facts (ended ∙ ap Some is)).0;
       leads = λ view is path way. tasked.lookup.leads path way view here (tasked.laws.ends here (View view) facts (ended ∙ ap Some is)).0;
     }

@@ -1,0 +1,158 @@
+//! Inner nodes that are split, and trees of three levels.
+
+use super::below::{digit, last_page};
+use super::bench::{Answer, begin, key, payload, steps};
+use super::decode::decode_root;
+use crate::World;
+use bz_call::Call;
+use bz_key::Key;
+use bz_layout::Config;
+use std::alloc::Global;
+use std::process::Abort;
+
+// More acts than any of these calls makes.
+const MOST: u32 = 10_000;
+
+// How many keys make a tree of three levels, in whatever order: an inner node has at most twenty children, and a leaf nineteen records.
+const MANY: u32 = 400;
+
+// A world of these workers with room for so many keys.
+fn open(rt: &impl Abort, alloc: Global, workers: u32) -> World {
+    let config = Config {
+        nodes: 400,
+        swaps: 1_600,
+        workers,
+        marks: 1 << 19,
+        calls: 1_024,
+        pages: 64,
+    };
+    World::open(alloc, &config).expect(rt, "a world")
+}
+
+// A key of twenty-eight bytes, of which the last three are digits.
+fn long(rt: &impl Abort, number: u32) -> Key {
+    let mut bytes = [b'k'; 28];
+    bytes[25] = digit(number / 100);
+    bytes[26] = digit(number / 10);
+    bytes[27] = digit(number);
+    key(rt, &bytes)
+}
+
+// The insert of the key with this number.
+fn insert(rt: &impl Abort, number: u32) -> Call {
+    Call::Insert(long(rt, number), payload(rt, b"v"))
+}
+
+// Inserts the key with this number, which is new.
+fn inserts(rt: &impl Abort, world: &mut World, w: u8, number: u32) {
+    assert!(rt; begin(world, w, insert(rt, number)));
+    let answer = steps(world, w, MOST).1;
+    assert_eq!(rt; answer, Some(Answer::Inserted), "{number}");
+}
+
+// How many pairs the pages have from a key on, each of which begins where the one before ends.
+fn count_pairs(rt: &impl Abort, world: &mut World, first: u32) -> usize {
+    let mut count = 0usize;
+    let mut from = Some(long(rt, first));
+    for _ in 0..64 {
+        let Some(first) = from else {
+            break;
+        };
+        assert!(rt; begin(world, 1, Call::Page(first)));
+        steps(world, 1, MOST);
+        let (page, next) = last_page(world).expect(rt, "a page");
+        let journal = world.journal();
+        assert!(rt; page < journal.page_count());
+        let pairs = journal.page(page);
+        assert!(rt; pairs.first().is_some_and(|pair| pair.0 == first));
+        count = count.saturating_add(pairs.len());
+        from = next;
+    }
+    assert!(rt; from.is_none());
+    count
+}
+
+// The tree has three levels, and all of the keys from 1 on.
+fn is_tall(rt: &impl Abort, world: &mut World) {
+    assert!(rt; decode_root(world).is_some_and(|root| root.0 == 2));
+    assert_eq!(rt; count_pairs(rt, world, 1), MANY as usize);
+}
+
+#[test]
+fn long_keys_rising(rt: HostRuntime) {
+    let mut world = open(&rt, rt.alloc(), 1);
+    for number in 1..MANY + 1 {
+        inserts(&rt, &mut world, 1, number);
+    }
+    is_tall(&rt, &mut world);
+}
+
+#[test]
+fn long_keys_falling(rt: HostRuntime) {
+    let mut world = open(&rt, rt.alloc(), 1);
+    for number in 0..MANY {
+        inserts(&rt, &mut world, 1, MANY - number);
+    }
+    is_tall(&rt, &mut world);
+}
+
+#[test]
+fn long_keys_shuffled(rt: HostRuntime) {
+    let mut world = open(&rt, rt.alloc(), 1);
+    for number in 0..MANY {
+        inserts(&rt, &mut world, 1, 1 + number * 37 % MANY);
+    }
+    is_tall(&rt, &mut world);
+}
+
+// Rising keys up to this one; the insert of the next splits an inner node. Worker 1 stops after so many acts of it; worker 2 makes an
+// insert of its own; and then worker 1 makes the rest. The root is told before and after.
+fn beside(
+    rt: &impl Abort,
+    alloc: Global,
+    last: u32,
+    acts: u32,
+    other: u32,
+) -> [Option<(u32, u32)>; 2] {
+    let mut world = open(rt, alloc, 2);
+    for number in 1..last {
+        inserts(rt, &mut world, 1, number);
+    }
+    inserts(rt, &mut world, 1, last);
+    let before = decode_root(&world);
+    assert!(rt; begin(&mut world, 1, insert(rt, last.saturating_add(1))));
+    let mut ended = steps(&mut world, 1, acts).1;
+    inserts(rt, &mut world, 2, other);
+    if ended.is_none() {
+        ended = steps(&mut world, 1, MOST).1;
+    }
+    assert_eq!(rt; ended, Some(Answer::Inserted), "{acts} {other}");
+    let first = if other == 0 { 0 } else { 1 };
+    assert_eq!(rt;
+        count_pairs(rt, &mut world, first),
+        last.saturating_add(2) as usize
+    );
+    [before, decode_root(&world)]
+}
+
+// Twenty leaves below one root, of which the last is full: the root is split into eleven and nine, and a root stands over them.
+#[test]
+fn a_stopped_split_of_an_inner_root(rt: HostRuntime) {
+    for turn in 0..16 {
+        for other in [0, 500] {
+            let roots = beside(&rt, rt.alloc(), 209, 150 * turn, other);
+            assert_eq!(rt; roots, [Some((1, 20)), Some((2, 2))]);
+        }
+    }
+}
+
+// Two nodes below the root, of which the last has twenty leaves: it is split, and the root has three.
+#[test]
+fn a_stopped_split_of_an_inner_node(rt: HostRuntime) {
+    for turn in 0..16 {
+        for other in [0, 500] {
+            let roots = beside(&rt, rt.alloc(), 319, 200 * turn, other);
+            assert_eq!(rt; roots, [Some((2, 2)), Some((2, 3))]);
+        }
+    }
+}
