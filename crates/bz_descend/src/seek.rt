@@ -5,7 +5,7 @@ ghost use Rattle.bz_key.specs.Packing.{packed_len, unpacked_key};
 ghost use Rattle.bz_layout.specs.Addresses.{node_address};
 ghost use Rattle.bz_layout.specs.declared.config.Config.{Config as Sizes};
 ghost use Rattle.bz_layout.specs.Config.{IsConfig};
-ghost use Rattle.bz_layout.specs.declared.sizes.TheConstants.{NODE_WORDS, SHARED_WORDS, STATUS_AT};
+ghost use Rattle.bz_layout.specs.declared.sizes.TheConstants.{NODE_WORDS, SHARED_WORDS, STATUS_AT, ROOT_STATUS_AT};
 ghost use Rattle.bz_search.specs.Probes.{middle};
 ghost use Rattle.bz_shape.specs.Order.{is_before as before};
 ghost use Rattle.bz_word.specs.Statuses.{status};
@@ -13,6 +13,7 @@ ghost use Rattle.bz_task.specs.Outcomes.{IsPath};
 ghost use Rattle.bz_task.specs.Requests.{Hears, Tells, IsKnown};
 ghost use Rattle.bz_task.specs.Scene.{Scene, Stage, Waiting, IsScene, HasFilled};
 ghost use Rattle.bz_task.specs.declared.todo.Outcome.{Outcome as Ends};
+ghost use Rattle.bz_task.specs.declared.todo.Todo.TheVariants.{Read};
 ghost use Rattle.bz_descend.specs.Facts.{descend_change, IsEndOfDescent, IsInNode};
 ghost use Rattle.bz_descend.specs.Grounds.{Laws};
 ghost use Rattle.bz_descend.specs.Halving.{sight_in, settled};
@@ -67,6 +68,28 @@ impl Seek {
             path: to_root(0, 0),
             words: [0; 4],
             asked: 0,
+        }
+    }
+
+    /// A descent that asks for its first read, that of the root status.
+    pub fn begun(config: &Config, key: Key) -> Seek
+        ensures config { ⟦<Seek as Task>⟧.config result ≡ config.now }
+        ensures asks { ⟦<Seek as Task>⟧.asks result ≡ Some (Read ROOT_STATUS_AT) }
+        ensures left { ⟦<Seek as Task>⟧.left result ≡ seek_reads }
+        ensures needs { ⟦<Seek as Task>⟧.needs result ≡ 0 }
+        ensures asked { asked_of result ≡ 1 }
+        ensures facts { (s : Scene) → HasFilled s → ⟦<Seek as Task>⟧.facts result Waiting s }
+        ensures path { (path : Path) (s : Scene) → ⟦<Seek as Task>⟧.means result (Outcome.Path path) s → IsPath key path s.past }
+        ensures thawed { (path : Path) (s : Scene) → ⟦<Seek as Task>⟧.means result (Outcome.Path path) s → AreThawed path }
+        ensures only { (outcome : Ends) (s : Scene) → ⟦<Seek as Task>⟧.means result outcome s → IsEndOfDescent outcome }
+    {
+        Seek {
+            config: *config,
+            key,
+            phase: Way::Guard,
+            path: to_root(0, 0),
+            words: [0; 4],
+            asked: 1,
         }
     }
 
