@@ -2,9 +2,7 @@
 
 ghost use Rattle.std.specs.Prelude.{◌≡◌, ◌≢◌, ◌↔◌, ◌-◌, ◌<◌, ◌^◌, ◌⊎◌, ℕ, Some, None, true, false};
 ghost use Rattle.bz_layout.specs.Config.{IsConfig};
-ghost use Rattle.bz_slotted.specs.ReadingLaws.{node_of};
-ghost use Rattle.bz_slotted.specs.Readers.{found_of};
-ghost use Rattle.bz_task.specs.Outcomes.{IsView};
+ghost use Rattle.bz_task.specs.Outcomes.{IsKeyView};
 ghost use Rattle.bz_task.specs.Requests.{Hears, Tells, IsKnown};
 ghost use Rattle.bz_task.specs.Scene.{Scene, Stage, Waiting, IsScene};
 ghost use Rattle.bz_task.specs.declared.todo.Seen.TheVariants.{Swapped, NoSwap};
@@ -18,11 +16,11 @@ use bz_call::Spent;
 use bz_key::{Key, Payload};
 use bz_layout::{Config, Slots};
 use bz_record::NewRecord;
-use bz_task::{LeafView, Outcome, Path, Seen, Task, Todo, laws};
+use bz_task::{KeyView, LeafView, Outcome, Path, Seen, Task, Todo, laws};
 
-/// The insert of a key and its payload into the leaf that a view shows. It ends with Done where the record is visible, with
-/// NeedsRoom where the viewed leaf is frozen or lacks the words, with Restart where a swap found another status, and with
-/// Full(Swaps).
+/// The insert of a key and its payload into the leaf in which a view found no such key. It ends with Done where the record is
+/// visible, with NeedsRoom where the viewed leaf is frozen or lacks the words, with Restart where a swap found another status,
+/// and with Full(Swaps).
 #[derive(Drop)]
 pub struct Insert {
     config: Config,
@@ -32,14 +30,14 @@ pub struct Insert {
 
 impl Insert {
     /// The insert of a key that is absent from its leaf.
-    pub fn new(config: &Config, _path: Path, view: LeafView, key: Key, payload: Payload) -> Insert
-        requires absent { found_of (node_of view.image.0) key ≡ None }
+    pub fn new(config: &Config, _path: Path, view: KeyView, key: Key, payload: Payload) -> Insert
+        requires absent { view.found ≡ None }
         ensures config { ⟦<Insert as Task>⟧.config result ≡ config.now }
         ensures asks { ⟦<Insert as Task>⟧.asks result ≡ None }
         ensures left { ⟦<Insert as Task>⟧.left result ≡ 13 }
         ensures needs { ⟦<Insert as Task>⟧.needs result ≡ 0 }
         ensures change { ⟦<Insert as Task>⟧.change result ≡ record { key = key; old = None; new = Some payload } }
-        ensures facts { (s : Scene) → s.past.config ≡ config.now → s.effected ≡ false → IsScene s → IsView key view s.past → ⟦<Insert as Task>⟧.facts result Waiting s }
+        ensures facts { (s : Scene) → s.past.config ≡ config.now → s.effected ≡ false → IsScene s → IsKeyView key view s.past → ⟦<Insert as Task>⟧.facts result Waiting s }
         ensures done { (s : Scene) → ⟦<Insert as Task>⟧.means result Outcome.Done s → s.effected ≡ true }
         ensures no_path { (path : Path) (s : Scene) → ⟦<Insert as Task>⟧.means result (Outcome.Path path) s → ⊥ }
         ensures no_view { (other : LeafView) (s : Scene) → ⟦<Insert as Task>⟧.means result (Outcome.View other) s → ⊥ }
@@ -48,7 +46,7 @@ impl Insert {
         ensures room { (s : Scene) (outcome : Outcome) → ⟦<Insert as Task>⟧.means result outcome s → outcome ≢ Outcome.NeedsRoom → HasRoom view.status (words_for key payload) }
         ensures only { (outcome : Outcome) (s : Scene) → ⟦<Insert as Task>⟧.means result outcome s → IsEndOfInsert outcome }
     {
-        bz_record::laws::views_show_leaves();
+        bz_record::laws::key_views_show_leaves();
         bz_key::laws::packing_is_small();
         let _key = key.bytes();
         let _payload = payload.bytes();

@@ -9,7 +9,7 @@ use Rattle.bz_task.specs.Scene.{Scene, Waiting, IsScene, here}
 use Rattle.bz_task.specs.Swaps.{Stand, SwapsTo, IsGoodSwap}
 use Rattle.bz_task.specs.declared.todo.Todo.{Todo}
 use Rattle.bz_task.specs.declared.todo.Todo.TheVariants.{Swap as Swaps_for}
-use Rattle.bz_task.specs.declared.view.LeafView.{LeafView}
+use Rattle.bz_task.specs.declared.view.KeyView.{KeyView}
 use Rattle.bz_record.specs.Replacing.{removal}
 use Rattle.bz_record.specs.ReplacingLaws.{RemovalsAreGood, ChangesMayBeAsked}
 use Rattle.bz_record.specs.Swaps.{entries_of}
@@ -23,7 +23,7 @@ some-same a b e = cc
 same-entries : (a b : List Entry) → Some (Swaps_for a) ≡ Some (Swaps_for b) → a ≡ b
 same-entries a b e = cc
 
-pub askable : ChangesMayBeAsked → (c : Config) (key : List ℕ) (v : LeafView) (phase : DeletePhase) (s : Scene) (todo : Todo) → s.past.config ≡ c → delete_facts key v phase Waiting s → IsScene s → delete_asks c v phase ≡ Some todo → IsAskable s todo
+pub askable : ChangesMayBeAsked → (c : Config) (key : List ℕ) (v : KeyView) (phase : DeletePhase) (s : Scene) (todo : Todo) → s.past.config ≡ c → delete_facts key v phase Waiting s → IsScene s → delete_asks c v phase ≡ Some todo → IsAskable s todo
 askable asked c key v Fresh s todo same f good e = absurd (cc)
 askable asked c key v (Remove r) s todo same f good e =
     subst (IsAskable s) (ap (λ z. Swaps_for (entries_of z (removal v.slot v.status r.place r.extent))) same ∙ some-same _ todo e) (asked.removes s key f.1.payload v.slot v.status r.place r.extent good f.1.was)
@@ -32,7 +32,7 @@ askable asked c key v Restart s todo same f good e = subst (IsAskable s) (some-s
 askable asked c key v NeedsRoom s todo same f good e = subst (IsAskable s) (some-same _ todo e) tt
 askable asked c key v Full s todo same f good e = subst (IsAskable s) (some-same _ todo e) tt
 
-pub effect : RemovalsAreGood → (c : Config) (key : List ℕ) (v : LeafView) (phase : DeletePhase) (s : Scene) (y : Instant) (entries : List Entry) → s.past.config ≡ c → delete_facts key v phase Waiting s → IsScene s
+pub effect : RemovalsAreGood → (c : Config) (key : List ℕ) (v : KeyView) (phase : DeletePhase) (s : Scene) (y : Instant) (entries : List Entry) → s.past.config ≡ c → delete_facts key v phase Waiting s → IsScene s
     → delete_asks c v phase ≡ Some (Swaps_for entries) → Stand entries (here s) → SwapsTo s.past.config entries (here s) y → IsGoodSwap (delete_publishes phase) (deletion key v) entries s y
 effect law c key v Fresh s y entries same f good e stand swaps = absurd (cc)
 effect law c key v (Remove r) s y entries same f good e stand swaps =

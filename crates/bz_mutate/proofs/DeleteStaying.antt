@@ -3,17 +3,17 @@ use Rattle.std.proofs.Common.{◌≡◌, ℕ, List, sym, ◌∙◌}
 use Rattle.std.specs.Prelude.{Some}
 use Rattle.bz_layout.specs.declared.config.Config.{Config}
 use Rattle.bz_word.specs.declared.entry.Entry.{Entry}
-use Rattle.bz_task.specs.Laws.{ViewsStay}
+use Rattle.bz_task.specs.Laws.{KeyViewsStay}
 use Rattle.bz_task.specs.Scene.{Scene, Stage, Waiting, Took, IsLawful, HasFilled}
 use Rattle.bz_task.specs.Swaps.{Takes}
 use Rattle.bz_task.specs.declared.todo.Todo.TheVariants.{Swap as Swaps_for}
-use Rattle.bz_task.specs.declared.view.LeafView.{LeafView}
+use Rattle.bz_task.specs.declared.view.KeyView.{KeyView}
 use Rattle.bz_record.specs.ReplacingLaws.{RecordsWere}
 use Rattle.bz_mutate.specs.DeleteFacts.{HasRemoved, delete_asks, delete_publishes, delete_learnt, delete_facts}
 use Rattle.bz_mutate.specs.declared.delete_phase.DeletePhase.{DeletePhase}
 use Rattle.bz_mutate.specs.declared.delete_phase.DeletePhase.TheVariants.{Fresh, Remove, Done, Restart, NeedsRoom, Full}
 
-module _ (views : ViewsStay) (were : RecordsWere) (key : List ℕ) (v : LeafView) (s after : Scene) (l : IsLawful s after) where
+module _ (views : KeyViewsStay) (were : RecordsWere) (key : List ℕ) (v : KeyView) (s after : Scene) (l : IsLawful s after) where
   filled : HasFilled s → HasFilled after
   filled f k t = l.filled k ∙ f k (sym (l.took k) ∙ t)
 
@@ -43,7 +43,7 @@ module _ (views : ViewsStay) (were : RecordsWere) (key : List ℕ) (v : LeafView
   stable Full stage k = (filled k.0, learnt Full stage k.1)
 
 -- the swap took effect
-pub took : (c : Config) (key : List ℕ) (v : LeafView) (phase : DeletePhase) (s after : Scene) (entries : List Entry) → delete_facts key v phase Waiting s → delete_asks c v phase ≡ Some (Swaps_for entries)
+pub took : (c : Config) (key : List ℕ) (v : KeyView) (phase : DeletePhase) (s after : Scene) (entries : List Entry) → delete_facts key v phase Waiting s → delete_asks c v phase ≡ Some (Swaps_for entries)
     → Takes (delete_publishes phase) entries s after → delete_facts key v phase Took after
 took c key v Fresh s after entries facts asks t = absurd (cc)
 took c key v (Remove f) s after entries facts asks t = (λ k h. t.filled k ∙ facts.0 k (sym (t.took k) ∙ h), record { thawed = facts.1.thawed; effected = t.effected })

@@ -9,7 +9,7 @@ use Rattle.bz_task.specs.Scene.{Scene, Waiting, IsScene, here}
 use Rattle.bz_task.specs.Swaps.{Stand, SwapsTo, IsGoodSwap}
 use Rattle.bz_task.specs.declared.todo.Todo.{Todo}
 use Rattle.bz_task.specs.declared.todo.Todo.TheVariants.{Store as Stores_at, Flush as Flushes_line, Swap as Swaps_for}
-use Rattle.bz_task.specs.declared.view.LeafView.{LeafView}
+use Rattle.bz_task.specs.declared.view.KeyView.{KeyView}
 use Rattle.bz_record.specs.Records.{words_in, address_of}
 use Rattle.bz_record.specs.Replacing.{growth, replacement}
 use Rattle.bz_record.specs.ReplacingLaws.{ChangesMayBeAsked, GrowthsAreGood, ReplacementsAreGood}
@@ -26,7 +26,7 @@ some-same a b e = cc
 same-entries : (a b : List Entry) → Some (Swaps_for a) ≡ Some (Swaps_for b) → a ≡ b
 same-entries a b e = cc
 
-pub askable : ChangesMayBeAsked → RecordsAreWritten → (c : Config) (v : LeafView) (r : NewRecord) (phase : UpdatePhase) (s : Scene) (todo : Todo) → s.past.config ≡ c → update_facts v r phase Waiting s → IsScene s → update_asks c r phase ≡ Some todo → IsAskable s todo
+pub askable : ChangesMayBeAsked → RecordsAreWritten → (c : Config) (v : KeyView) (r : NewRecord) (phase : UpdatePhase) (s : Scene) (todo : Todo) → s.past.config ≡ c → update_facts v r phase Waiting s → IsScene s → update_asks c r phase ≡ Some todo → IsAskable s todo
 askable asked written c v r Fresh s todo same f good e = absurd (cc)
 askable asked written c v r (Grow old) s todo same f good e =
     subst (IsAskable s) (ap (λ z. Swaps_for (growth z r ∷ [])) same ∙ some-same _ todo e) (asked.grows s r f.1.was.moment good f.1.pair.fits f.1.was.leaf.leaf)
@@ -41,7 +41,7 @@ askable asked written c v r Restart s todo same f good e = subst (IsAskable s) (
 askable asked written c v r NeedsRoom s todo same f good e = subst (IsAskable s) (some-same _ todo e) tt
 askable asked written c v r Full s todo same f good e = subst (IsAskable s) (some-same _ todo e) tt
 
-pub effect : GrowthsAreGood → ReplacementsAreGood → (c : Config) (v : LeafView) (r : NewRecord) (phase : UpdatePhase) (s : Scene) (y : Instant) (entries : List Entry) → s.past.config ≡ c → update_facts v r phase Waiting s → IsScene s
+pub effect : GrowthsAreGood → ReplacementsAreGood → (c : Config) (v : KeyView) (r : NewRecord) (phase : UpdatePhase) (s : Scene) (y : Instant) (entries : List Entry) → s.past.config ≡ c → update_facts v r phase Waiting s → IsScene s
     → update_asks c r phase ≡ Some (Swaps_for entries) → Stand entries (here s) → SwapsTo s.past.config entries (here s) y → IsGoodSwap (update_publishes phase) (revision v r) entries s y
 effect first second c v r Fresh s y entries same f good e stand swaps = absurd (cc)
 effect first second c v r (Grow old) s y entries same f good e stand swaps =

@@ -7,7 +7,7 @@ use Rattle.bz_task.specs.Requests.{Tells}
 use Rattle.bz_task.specs.Scene.{Scene, Stage, Waiting, Took}
 use Rattle.bz_task.specs.declared.todo.Seen.{Seen}
 use Rattle.bz_task.specs.declared.todo.Seen.TheVariants.{Flushed, Swapped}
-use Rattle.bz_task.specs.declared.view.LeafView.{LeafView}
+use Rattle.bz_task.specs.declared.view.KeyView.{KeyView}
 use Rattle.bz_record.specs.Writing.{first_line, last_line}
 use Rattle.bz_record.specs.Written.{written}
 use Rattle.bz_record.specs.declared.found_record.FoundRecord.{FoundRecord}
@@ -17,7 +17,7 @@ use Rattle.bz_mutate.specs.declared.update_phase.UpdatePhase.{UpdatePhase}
 use Rattle.bz_mutate.specs.declared.update_phase.UpdatePhase.TheVariants.{Grow, Store, Flush, Replace}
 
 -- what is known in a phase is known of the phase that it is
-pub in-phase : (v : LeafView) (r : NewRecord) (stage : Stage) (s : Scene) (phase other : UpdatePhase) → phase ≡ other → update_facts v r phase stage s → update_facts v r other stage s
+pub in-phase : (v : KeyView) (r : NewRecord) (stage : Stage) (s : Scene) (phase other : UpdatePhase) → phase ≡ other → update_facts v r phase stage s → update_facts v r other stage s
 in-phase v r stage s phase other e f = subst (λ z. update_facts v r z stage s) e f
 
 -- what is told in a phase is told in the phase that it is
@@ -25,12 +25,12 @@ pub tells-in : (c : Config) (r : NewRecord) (stage : Stage) (s : Scene) (phase o
 tells-in c r stage s phase other seen told e g t = subst (λ z. Tells (update_asks c r z) stage told s) e (subst (λ z. Tells (update_asks c r phase) stage z s) g t)
 
 -- after the growth the first word
-pub told-grown : (c : Config) (v : LeafView) (r : NewRecord) (f : FoundRecord) (stage : Stage) (s : Scene) → update_facts v r (Grow f) stage s → Tells (update_asks c r (Grow f)) stage (Swapped true) s → update_facts v r (Store f 0) Waiting s
+pub told-grown : (c : Config) (v : KeyView) (r : NewRecord) (f : FoundRecord) (stage : Stage) (s : Scene) → update_facts v r (Grow f) stage s → Tells (update_asks c r (Grow f)) stage (Swapped true) s → update_facts v r (Store f 0) Waiting s
 told-grown c v r f Waiting s k t = absurd (cc)
 told-grown c v r f Took s k t = (k.0, (k.1.pair.fits.some, k.1))
 
 -- after a flush the next line, or all is written
-pub told-flushed : (c : Config) (v : LeafView) (r : NewRecord) (f : FoundRecord) (n : ℕ) (stage : Stage) (s : Scene) → s.past.config ≡ c → update_facts v r (Flush f n) stage s → Tells (update_asks c r (Flush f n)) stage Flushed s → update_facts v r (next_flush c r f n) Waiting s
+pub told-flushed : (c : Config) (v : KeyView) (r : NewRecord) (f : FoundRecord) (n : ℕ) (stage : Stage) (s : Scene) → s.past.config ≡ c → update_facts v r (Flush f n) stage s → Tells (update_asks c r (Flush f n)) stage Flushed s → update_facts v r (next_flush c r f n) Waiting s
 told-flushed c v r f n Waiting s same k t = absurd (t)
 told-flushed c v r f n Took s same k t = subst (λ z. update_facts v r (next_flush z r f n) Waiting s) same (go (nat_lt (first_line s.past.config r + n) (last_line s.past.config r)) refl)
   where

@@ -1,10 +1,10 @@
 -- What an update knows stays.
 use Rattle.std.proofs.Common.{ℕ, ◌+◌, sym, subst, ◌∙◌}
 use Rattle.bz_layout.specs.Slots.{FreeSlots}
-use Rattle.bz_task.specs.Laws.{NothingIsGained, ViewsStay}
+use Rattle.bz_task.specs.Laws.{NothingIsGained, KeyViewsStay}
 use Rattle.bz_task.specs.OwnActs.{gained}
 use Rattle.bz_task.specs.Scene.{Scene, Stage, Waiting, Took, IsLawful, HasFilled}
-use Rattle.bz_task.specs.declared.view.LeafView.{LeafView}
+use Rattle.bz_task.specs.declared.view.KeyView.{KeyView}
 use Rattle.bz_record.specs.Records.{size_of}
 use Rattle.bz_record.specs.ReplacingLaws.{RecordsWere}
 use Rattle.bz_record.specs.Writing.{RecordsAreWritten}
@@ -14,7 +14,7 @@ use Rattle.bz_mutate.specs.UpdateFacts.{HasViewedFor, CanGrow, HasGrown, HasRepl
 use Rattle.bz_mutate.specs.declared.update_phase.UpdatePhase.{UpdatePhase}
 use Rattle.bz_mutate.specs.declared.update_phase.UpdatePhase.TheVariants.{Fresh, Grow, Store, Flush, Replace, Done, Restart, NeedsRoom, Full}
 
-module _ (views : ViewsStay) (were : RecordsWere) (written : RecordsAreWritten) (v : LeafView) (r : NewRecord) (s after : Scene) (l : IsLawful s after) where
+module _ (views : KeyViewsStay) (were : RecordsWere) (written : RecordsAreWritten) (v : KeyView) (r : NewRecord) (s after : Scene) (l : IsLawful s after) where
   viewed : HasViewedFor v r s → HasViewedFor v r after
   viewed h = record {
     viewed = record { view = views r.key v s.past after.past h.viewed.view l.continues; present = h.viewed.present; going = l.effected ∙ h.viewed.going };
@@ -73,7 +73,7 @@ module _ (views : ViewsStay) (were : RecordsWere) (written : RecordsAreWritten) 
   stable Full stage k = (filled k.0, learnt Full stage k.1)
 
 -- it stays where no slot is taken
-module _ (nothing : NothingIsGained) (written : RecordsAreWritten) (v : LeafView) (r : NewRecord) (s : Scene) (free : FreeSlots) where
+module _ (nothing : NothingIsGained) (written : RecordsAreWritten) (v : KeyView) (r : NewRecord) (s : Scene) (free : FreeSlots) where
   grown-too : (f : FoundRecord) (words lines : ℕ) → HasGrown v r f words lines s → HasGrown v r f words lines (gained s free free)
   grown-too f words lines h = record { pair = h.pair; grown = h.grown; writing = written.no_slot r words lines s free h.writing; going = h.going }
 

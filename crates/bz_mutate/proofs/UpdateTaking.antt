@@ -7,7 +7,7 @@ use Rattle.bz_task.specs.OwnActs.{Stores, Flushes}
 use Rattle.bz_task.specs.Scene.{Scene, Waiting, Took, IsScene, HasFilled, here}
 use Rattle.bz_task.specs.Swaps.{Stand, Takes}
 use Rattle.bz_task.specs.declared.todo.Todo.TheVariants.{Store as Stores_at, Flush as Flushes_line, Swap as Swaps_for}
-use Rattle.bz_task.specs.declared.view.LeafView.{LeafView}
+use Rattle.bz_task.specs.declared.view.KeyView.{KeyView}
 use Rattle.bz_record.specs.Records.{words_in, address_of}
 use Rattle.bz_record.specs.Replacing.{growth}
 use Rattle.bz_record.specs.ReplacingLaws.{RecordsWere, GrowthsTakeWords, IsGrown}
@@ -24,7 +24,7 @@ same-entries a b e = cc
 filled-after : (publishes : Bool) (entries : List Entry) (s after : Scene) → Takes publishes entries s after → HasFilled s → HasFilled after
 filled-after publishes entries s after t f j h = t.filled j ∙ f j (sym (t.took j) ∙ h)
 
-pub took : GrowthsTakeWords → (c : Config) (v : LeafView) (r : NewRecord) (phase : UpdatePhase) (s after : Scene) (entries : List Entry) → s.past.config ≡ c → update_facts v r phase Waiting s → IsScene s → IsScene after
+pub took : GrowthsTakeWords → (c : Config) (v : KeyView) (r : NewRecord) (phase : UpdatePhase) (s after : Scene) (entries : List Entry) → s.past.config ≡ c → update_facts v r phase Waiting s → IsScene s → IsScene after
     → update_asks c r phase ≡ Some (Swaps_for entries) → Stand entries (here s) → Takes (update_publishes phase) entries s after → update_facts v r phase Took after
 took law c v r Fresh s after entries same k good later e stand t = absurd (cc)
 took law c v r (Grow f) s after entries same k good later e stand t =
@@ -48,7 +48,7 @@ same-store a b v w e = (cc, cc)
 same-flush : (a b : ℕ) → Some (Flushes_line a) ≡ Some (Flushes_line b) → a ≡ b
 same-flush a b e = cc
 
-pub stored : RecordsWere → RecordsAreWritten → (c : Config) (v : LeafView) (r : NewRecord) (phase : UpdatePhase) (s after : Scene) (a w : ℕ) → s.past.config ≡ c → update_facts v r phase Waiting s → update_asks c r phase ≡ Some (Stores_at a w) → Stores a w s after → update_facts v r phase Took after
+pub stored : RecordsWere → RecordsAreWritten → (c : Config) (v : KeyView) (r : NewRecord) (phase : UpdatePhase) (s after : Scene) (a w : ℕ) → s.past.config ≡ c → update_facts v r phase Waiting s → update_asks c r phase ≡ Some (Stores_at a w) → Stores a w s after → update_facts v r phase Took after
 stored were written c v r Fresh s after a w same k e t = absurd (cc)
 stored were written c v r (Grow f) s after a w same k e t = absurd (cc)
 stored were written c v r (Store f i) s after a w same k e t =
@@ -65,7 +65,7 @@ stored were written c v r Restart s after a w same k e t = absurd (cc)
 stored were written c v r NeedsRoom s after a w same k e t = absurd (cc)
 stored were written c v r Full s after a w same k e t = absurd (cc)
 
-pub flushed : RecordsWere → RecordsAreWritten → (c : Config) (v : LeafView) (r : NewRecord) (phase : UpdatePhase) (s after : Scene) (line : ℕ) → s.past.config ≡ c → update_facts v r phase Waiting s → update_asks c r phase ≡ Some (Flushes_line line) → Flushes line s after → update_facts v r phase Took after
+pub flushed : RecordsWere → RecordsAreWritten → (c : Config) (v : KeyView) (r : NewRecord) (phase : UpdatePhase) (s after : Scene) (line : ℕ) → s.past.config ≡ c → update_facts v r phase Waiting s → update_asks c r phase ≡ Some (Flushes_line line) → Flushes line s after → update_facts v r phase Took after
 flushed were written c v r Fresh s after line same k e t = absurd (cc)
 flushed were written c v r (Grow f) s after line same k e t = absurd (cc)
 flushed were written c v r (Store f i) s after line same k e t = absurd (cc)

@@ -4,17 +4,16 @@ use Rattle.bz_call.specs.declared.replies.Spent.TheVariants.{Swaps}
 use Rattle.bz_layout.specs.declared.config.Config.{Config}
 use Rattle.bz_layout.specs.declared.sizes.TheConstants.{SHARED_WORDS}
 use Rattle.bz_node.specs.Reading.{words_of}
-use Rattle.bz_slotted.specs.ReadingLaws.{node_of}
-use Rattle.bz_slotted.specs.Readers.{found_of}
 use Rattle.bz_word.specs.Metas.{IsExtent}
 use Rattle.bz_word.specs.Statuses.{status}
+use Rattle.bz_task.specs.Outcomes.{payload_of}
 use Rattle.bz_task.specs.Scene.{Scene, Stage, Waiting, Took, HasFilled}
 use Rattle.bz_task.specs.Swaps.{Change}
 use Rattle.bz_task.specs.declared.todo.Outcome.{Outcome}
 use Rattle.bz_task.specs.declared.todo.Outcome.TheVariants.{Done as IsDone, Restart as Restarts, NeedsRoom as Needs, Full as IsFull}
 use Rattle.bz_task.specs.declared.todo.Todo.{Todo}
 use Rattle.bz_task.specs.declared.todo.Todo.TheVariants.{Swap as Swaps_for, Finish}
-use Rattle.bz_task.specs.declared.view.LeafView.{LeafView}
+use Rattle.bz_task.specs.declared.view.KeyView.{KeyView}
 use Rattle.bz_record.specs.Replacing.{removal, WasRecord}
 use Rattle.bz_record.specs.Swaps.{entries_of}
 use Rattle.bz_record.specs.declared.found_record.FoundRecord.{FoundRecord}
@@ -22,7 +21,7 @@ use Rattle.bz_mutate.specs.Viewed.{HasViewed}
 use Rattle.bz_mutate.specs.declared.delete_phase.DeletePhase.{DeletePhase}
 use Rattle.bz_mutate.specs.declared.delete_phase.DeletePhase.TheVariants.{Fresh, Remove, Done, Restart, NeedsRoom, Full}
 
-abbrev pub delete_asks : Config → LeafView → DeletePhase → Option Todo
+abbrev pub delete_asks : Config → KeyView → DeletePhase → Option Todo
 delete_asks c v Fresh = None
 delete_asks c v (Remove f) = Some (Swaps_for (entries_of c (removal v.slot v.status f.place f.extent)))
 delete_asks c v phase = Some Finish
@@ -44,23 +43,23 @@ delete_publishes (Remove f) = true
 delete_publishes phase = false
 
 -- the key is gone, which had what the view says of it
-abbrev pub deletion : List ℕ → LeafView → Change
-deletion key v = record { key = key; old = found_of (node_of v.image.0) key; new = None }
+abbrev pub deletion : List ℕ → KeyView → Change
+deletion key v = record { key = key; old = payload_of v.found; new = None }
 
 -- its record was found, in a leaf that was not frozen
-pub record CanRemove (key : List ℕ) (v : LeafView) (f : FoundRecord) (s : Scene) : Type 0 where
+pub record CanRemove (key : List ℕ) (v : KeyView) (f : FoundRecord) (s : Scene) : Type 0 where
   pub payload : List ℕ
-  pub said : found_of (node_of v.image.0) key ≡ Some payload
+  pub said : payload_of v.found ≡ Some payload
   pub was : WasRecord key payload v.slot v.status f.place f.extent s.past
   pub thawed : (status v.status).frozen ≡ false
   pub going : s.effected ≡ false
 
 -- the call has had its effect
-pub record HasRemoved (v : LeafView) (s : Scene) : Type 0 where
+pub record HasRemoved (v : KeyView) (s : Scene) : Type 0 where
   pub thawed : (status v.status).frozen ≡ false
   pub effected : s.effected ≡ true
 
-abbrev pub delete_learnt : List ℕ → LeafView → DeletePhase → Stage → Scene → Type 0
+abbrev pub delete_learnt : List ℕ → KeyView → DeletePhase → Stage → Scene → Type 0
 delete_learnt key v Fresh Waiting s = HasViewed key v s
 delete_learnt key v (Remove f) Waiting s = CanRemove key v f s
 delete_learnt key v (Remove f) Took s = HasRemoved v s
@@ -71,12 +70,12 @@ delete_learnt key v NeedsRoom Waiting s = (status v.status).frozen ≡ true
 delete_learnt key v phase Took s = ⊥
 
 -- from the first act on each slot that was taken has been stored into
-abbrev pub delete_facts : List ℕ → LeafView → DeletePhase → Stage → Scene → Type 0
+abbrev pub delete_facts : List ℕ → KeyView → DeletePhase → Stage → Scene → Type 0
 delete_facts key v Fresh stage s = delete_learnt key v Fresh stage s
 delete_facts key v phase stage s = HasFilled s × delete_learnt key v phase stage s
 
 -- it ends for want of room exactly where the viewed leaf is frozen
-abbrev pub delete_means : LeafView → Outcome → Scene → Type 0
+abbrev pub delete_means : KeyView → Outcome → Scene → Type 0
 delete_means v IsDone s = HasRemoved v s
 delete_means v Restarts s = (status v.status).frozen ≡ false
 delete_means v Needs s = (status v.status).frozen ≡ true
@@ -92,7 +91,7 @@ IsEndOfDelete (IsFull Swaps) = Unit {0}
 IsEndOfDelete outcome = ⊥
 
 -- the record that is named is one of a leaf
-pub record IsRemovable (c : Config) (v : LeafView) (f : FoundRecord) : Type 0 where
+pub record IsRemovable (c : Config) (v : KeyView) (f : FoundRecord) : Type 0 where
   pub slot : v.slot < c.nodes
   pub place : f.place < SHARED_WORDS
   pub plain : v.status < 2 ^ 61
@@ -101,7 +100,7 @@ pub record IsRemovable (c : Config) (v : LeafView) (f : FoundRecord) : Type 0 wh
   pub small : words_of f.extent ≤ SHARED_WORDS
   pub dead : (status v.status).dead ≤ SHARED_WORDS
 
-abbrev pub IsReady : Config → LeafView → DeletePhase → Type 0
+abbrev pub IsReady : Config → KeyView → DeletePhase → Type 0
 IsReady c v (Remove f) = IsRemovable c v f
 IsReady c v phase = Unit {0}
 

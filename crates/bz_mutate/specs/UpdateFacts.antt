@@ -5,16 +5,15 @@ use Rattle.bz_key.specs.Bytes.{IsKey, IsPayload}
 use Rattle.bz_layout.specs.declared.config.Config.{Config}
 use Rattle.bz_layout.specs.declared.sizes.TheConstants.{SHARED_WORDS}
 use Rattle.bz_node.specs.Reading.{words_of}
-use Rattle.bz_slotted.specs.ReadingLaws.{node_of}
-use Rattle.bz_slotted.specs.Readers.{found_of}
 use Rattle.bz_word.specs.Metas.{IsExtent}
+use Rattle.bz_task.specs.Outcomes.{payload_of}
 use Rattle.bz_task.specs.Scene.{Scene, Stage, Waiting, Took, HasFilled}
 use Rattle.bz_task.specs.Swaps.{Change}
 use Rattle.bz_task.specs.declared.todo.Outcome.{Outcome}
 use Rattle.bz_task.specs.declared.todo.Outcome.TheVariants.{Done as IsDone, Restart as Restarts, NeedsRoom as Needs, Full as IsFull}
 use Rattle.bz_task.specs.declared.todo.Todo.{Todo}
 use Rattle.bz_task.specs.declared.todo.Todo.TheVariants.{Store as Stores_at, Flush as Flushes_line, Swap as Swaps_for, Finish}
-use Rattle.bz_task.specs.declared.view.LeafView.{LeafView}
+use Rattle.bz_task.specs.declared.view.KeyView.{KeyView}
 use Rattle.bz_record.specs.Records.{words_in, size_of, address_of, HasRoom, LacksRoom, Fits}
 use Rattle.bz_record.specs.Replacing.{growth, replacement, WasRecord, WasGrown}
 use Rattle.bz_record.specs.Swaps.{entries_of}
@@ -62,11 +61,11 @@ update_publishes (Replace f) = true
 update_publishes phase = false
 
 -- the key has the new payload in place of what the view says of it
-abbrev pub revision : LeafView → NewRecord → Change
-revision v r = record { key = r.key; old = found_of (node_of v.image.0) r.key; new = Some r.payload }
+abbrev pub revision : KeyView → NewRecord → Change
+revision v r = record { key = r.key; old = payload_of v.found; new = Some r.payload }
 
 -- the key's leaf was viewed, with the key in it, and the new record is one for this leaf
-pub record HasViewedFor (v : LeafView) (r : NewRecord) (s : Scene) : Type 0 where
+pub record HasViewedFor (v : KeyView) (r : NewRecord) (s : Scene) : Type 0 where
   pub viewed : HasViewed r.key v s
   pub slot : r.slot ≡ v.slot
   pub status : r.status ≡ v.status
@@ -76,9 +75,9 @@ pub record HasViewedFor (v : LeafView) (r : NewRecord) (s : Scene) : Type 0 wher
   pub few : size_of r ≤ 8
 
 -- the record that was found is one of a leaf, and has what the view says of the key; the leaf has room for the new one
-pub record IsPair (v : LeafView) (r : NewRecord) (f : FoundRecord) : Type 0 where
+pub record IsPair (v : KeyView) (r : NewRecord) (f : FoundRecord) : Type 0 where
   pub old : List ℕ
-  pub said : found_of (node_of v.image.0) r.key ≡ Some old
+  pub said : payload_of v.found ≡ Some old
   pub fits : Fits r
   pub place : f.place < SHARED_WORDS
   pub extent : IsExtent f.extent
@@ -86,20 +85,20 @@ pub record IsPair (v : LeafView) (r : NewRecord) (f : FoundRecord) : Type 0 wher
   pub small : words_of f.extent ≤ SHARED_WORDS
 
 -- it was in the leaf as viewed
-pub record CanGrow (v : LeafView) (r : NewRecord) (f : FoundRecord) (s : Scene) : Type 0 where
+pub record CanGrow (v : KeyView) (r : NewRecord) (f : FoundRecord) (s : Scene) : Type 0 where
   pub pair : IsPair v r f
   pub was : WasRecord r.key pair.old r.slot r.status f.place f.extent s.past
   pub going : s.effected ≡ false
 
 -- the block has the new record's words; so many are stored, and so many lines durable
-pub record HasGrown (v : LeafView) (r : NewRecord) (f : FoundRecord) (words lines : ℕ) (s : Scene) : Type 0 where
+pub record HasGrown (v : KeyView) (r : NewRecord) (f : FoundRecord) (words lines : ℕ) (s : Scene) : Type 0 where
   pub pair : IsPair v r f
   pub grown : WasGrown r pair.old f.place f.extent s.past
   pub writing : IsWriting r words lines s
   pub going : s.effected ≡ false
 
 -- all of them are
-pub record CanReplace (v : LeafView) (r : NewRecord) (f : FoundRecord) (s : Scene) : Type 0 where
+pub record CanReplace (v : KeyView) (r : NewRecord) (f : FoundRecord) (s : Scene) : Type 0 where
   pub pair : IsPair v r f
   pub grown : WasGrown r pair.old f.place f.extent s.past
   pub written : HasWritten r s
@@ -114,7 +113,7 @@ pub record HasReplaced (r : NewRecord) (s : Scene) : Type 0 where
 abbrev pub IsLineOf : Config → NewRecord → ℕ → Type 0
 IsLineOf c r n = first_line c r + n ≤ last_line c r
 
-abbrev pub update_learnt : LeafView → NewRecord → UpdatePhase → Stage → Scene → Type 0
+abbrev pub update_learnt : KeyView → NewRecord → UpdatePhase → Stage → Scene → Type 0
 update_learnt v r Fresh Waiting s = HasViewedFor v r s
 update_learnt v r (Grow f) Waiting s = CanGrow v r f s
 update_learnt v r (Grow f) Took s = HasGrown v r f 0 0 s
@@ -131,7 +130,7 @@ update_learnt v r NeedsRoom Waiting s = LacksRoom r.status (size_of r)
 update_learnt v r phase Took s = ⊥
 
 -- from the first act on each slot that was taken has been stored into
-abbrev pub update_facts : LeafView → NewRecord → UpdatePhase → Stage → Scene → Type 0
+abbrev pub update_facts : KeyView → NewRecord → UpdatePhase → Stage → Scene → Type 0
 update_facts v r Fresh stage s = update_learnt v r Fresh stage s
 update_facts v r phase stage s = HasFilled s × update_learnt v r phase stage s
 
@@ -152,11 +151,11 @@ IsEndOfUpdate (IsFull Swaps) = Unit {0}
 IsEndOfUpdate outcome = ⊥
 
 -- what is named is there
-pub record IsNamed (c : Config) (v : LeafView) (r : NewRecord) (f : FoundRecord) : Type 0 where
+pub record IsNamed (c : Config) (v : KeyView) (r : NewRecord) (f : FoundRecord) : Type 0 where
   pub pair : IsPair v r f
   pub slot : r.slot < c.nodes
 
-abbrev pub IsReady : Config → LeafView → NewRecord → UpdatePhase → Type 0
+abbrev pub IsReady : Config → KeyView → NewRecord → UpdatePhase → Type 0
 IsReady c v r (Grow f) = IsNamed c v r f
 IsReady c v r (Store f i) = IsNamed c v r f × (i < size_of r)
 IsReady c v r (Flush f n) = IsNamed c v r f × (n < 2)

@@ -2,45 +2,44 @@
 
 ghost use Rattle.std.specs.Prelude.{◌≡◌, ◌≢◌, ◌↔◌, ◌≤◌, ◌<◌, ◌^◌, Some, None, true, false};
 ghost use Rattle.bz_layout.specs.Config.{IsConfig};
-ghost use Rattle.bz_slotted.specs.ReadingLaws.{node_of};
-ghost use Rattle.bz_slotted.specs.Readers.{found_of};
 ghost use Rattle.bz_word.specs.Statuses.{status};
-ghost use Rattle.bz_task.specs.Outcomes.{IsView};
+ghost use Rattle.bz_task.specs.Outcomes.{IsKeyView, payload_of};
 ghost use Rattle.bz_task.specs.Requests.{Hears, Tells, IsKnown};
 ghost use Rattle.bz_task.specs.Scene.{Scene, Stage, Waiting, IsScene};
 ghost use Rattle.bz_task.specs.declared.todo.Seen.TheVariants.{Swapped, NoSwap};
 ghost use Rattle.bz_record.specs.declared.found_record.FoundRecord.{FoundRecord};
-ghost use Rattle.bz_mutate.specs.Viewed.{CanBeFound, HasOthers};
+ghost use Rattle.bz_mutate.specs.Viewed.{IsVisible, IsFound};
 ghost use Rattle.bz_mutate.specs.DeleteDuties.{config_of, asks_of, end_of, left_of, change_of, publishing_of, facts_of, means_of};
 ghost use Rattle.bz_mutate.specs.DeleteFacts.{IsEndOfDelete, delete_asks, delete_left, delete_facts, IsFirst, IsReady};
 
 use crate::delete_phase::DeletePhase;
 use bz_call::Spent;
 use bz_key::Key;
-use bz_layout::{Config, SHARED_WORDS, Slots};
+use bz_layout::{Config, Slots};
 use bz_record::FoundRecord;
-use bz_task::{LeafView, Outcome, Path, Seen, Task, Todo, laws};
+use bz_task::{KeyView, LeafView, Outcome, Path, Seen, Task, Todo, laws};
+use bz_word::Status;
 
-/// The delete of a key from the leaf that a view shows. It ends with Done where the record is gone, with NeedsRoom where the
+/// The delete of a key from the leaf in which a view found it. It ends with Done where the record is gone, with NeedsRoom where the
 /// viewed leaf is frozen, with Restart where the swap found another status, and with Full(Swaps).
 #[derive(Drop)]
 pub struct Delete {
     config: Config,
-    view: LeafView,
+    view: KeyView,
     key: Key,
     phase: DeletePhase,
 }
 
 impl Delete {
     /// The delete of a key that its leaf has.
-    pub fn new(config: &Config, _path: Path, view: LeafView, key: Key) -> Delete
-        requires present { found_of (node_of view.image.0) key ≢ None }
+    pub fn new(config: &Config, _path: Path, view: KeyView, key: Key) -> Delete
+        requires present { view.found ≢ None }
         ensures config { ⟦<Delete as Task>⟧.config result ≡ config.now }
         ensures asks { ⟦<Delete as Task>⟧.asks result ≡ None }
         ensures left { ⟦<Delete as Task>⟧.left result ≡ 2 }
         ensures needs { ⟦<Delete as Task>⟧.needs result ≡ 0 }
-        ensures change { ⟦<Delete as Task>⟧.change result ≡ record { key = key; old = found_of (node_of view.image.0) key; new = None } }
-        ensures facts { (s : Scene) → s.past.config ≡ config.now → s.effected ≡ false → IsScene s → IsView key view s.past → ⟦<Delete as Task>⟧.facts result Waiting s }
+        ensures change { ⟦<Delete as Task>⟧.change result ≡ record { key = key; old = payload_of view.found; new = None } }
+        ensures facts { (s : Scene) → s.past.config ≡ config.now → s.effected ≡ false → IsScene s → IsKeyView key view s.past → ⟦<Delete as Task>⟧.facts result Waiting s }
         ensures done { (s : Scene) → ⟦<Delete as Task>⟧.means result Outcome.Done s → s.effected ≡ true }
         ensures no_path { (path : Path) (s : Scene) → ⟦<Delete as Task>⟧.means result (Outcome.Path path) s → ⊥ }
         ensures no_view { (other : LeafView) (s : Scene) → ⟦<Delete as Task>⟧.means result (Outcome.View other) s → ⊥ }
@@ -71,9 +70,8 @@ impl Delete {
         ensures learns { (stage : Stage) (s : Scene) → s.past.config ≡ self.now.config → IsScene s → delete_facts self.now.key self.now.view self.now.phase stage s → Tells (delete_asks self.now.config self.now.view self.now.phase) stage seen s → delete_facts self.now.key self.now.view result Waiting s }
     {
         let _moment = moment;
-        bz_record::laws::views_show_leaves();
-        bz_record::laws::views_show_records();
-        bz_record::laws::said_keys_are_found();
+        bz_record::laws::key_views_show_leaves();
+        bz_record::laws::key_views_show_records();
         match (self.phase, seen) {
             (DeletePhase::Fresh, _) => self.begun(),
             (DeletePhase::Remove(_), Seen::Swapped(true)) => DeletePhase::Done,
@@ -87,18 +85,18 @@ impl Delete {
     // The first phase: the removal of the key's record, of a leaf that is not frozen.
     fn begun(&self) -> DeletePhase
         requires plain { self.now.view.status < 2 ^ 61 }
-        requires room { (status self.now.view.status).count ≤ SHARED_WORDS }
+        requires visible { IsVisible self.now.view }
         ensures frozen { (status self.now.view.status).frozen ≡ true → result ≡ DeletePhase.NeedsRoom }
-        ensures found { (f : FoundRecord) → result ≡ DeletePhase.Remove f → CanBeFound self.now.key self.now.view f }
+        ensures found { (f : FoundRecord) → result ≡ DeletePhase.Remove f → IsFound self.now.view f }
         ensures thawed { (f : FoundRecord) → result ≡ DeletePhase.Remove f → (status self.now.view.status).frozen ≡ false }
-        ensures none { result ≡ DeletePhase.NeedsRoom → (status self.now.view.status).frozen ≡ false → HasOthers self.now.key self.now.view }
+        ensures none { result ≡ DeletePhase.NeedsRoom → (status self.now.view.status).frozen ≡ false → self.now.view.found ≡ None }
         ensures either { IsFirst result }
     {
-        if self.view.is_frozen() {
+        if is_frozen(self.view.status) {
             return DeletePhase::NeedsRoom;
         }
-        match FoundRecord::find(&self.view.image, self.view.status, &self.key) {
-            Some(found) => DeletePhase::Remove(found),
+        match &self.view.found {
+            Some(found) => DeletePhase::Remove(FoundRecord::of(found)),
             None => DeletePhase::NeedsRoom,
         }
     }
@@ -122,6 +120,18 @@ impl Delete {
             | DeletePhase::NeedsRoom
             | DeletePhase::Full => Todo::Finish,
         }
+    }
+}
+
+// Whether the status is that of a frozen leaf.
+fn is_frozen(word: u64) -> bool
+    requires { word < 2 ^ 61 }
+    ensures { result ≡ (status word).frozen }
+{
+    bz_word::laws::statuses();
+    match Status::unpack(word) {
+        Some(status) => status.frozen,
+        None => false,
     }
 }
 
@@ -171,7 +181,7 @@ impl Task for Delete {
     }
 
     fn learnt(&self) {
-        laws::views_stay();
+        laws::key_views_stay();
         bz_record::laws::records_were();
         bz_record::laws::changes_may_be_asked();
     }

@@ -2,47 +2,45 @@
 
 ghost use Rattle.std.specs.Prelude.{◌≡◌, ◌≢◌, ◌↔◌, ◌-◌, ◌<◌, ◌≤◌, ◌^◌, ◌⊎◌, Some, None, true, false};
 ghost use Rattle.bz_layout.specs.Config.{IsConfig};
-ghost use Rattle.bz_slotted.specs.ReadingLaws.{node_of};
-ghost use Rattle.bz_slotted.specs.Readers.{found_of};
 ghost use Rattle.bz_word.specs.Statuses.{status};
-ghost use Rattle.bz_task.specs.Outcomes.{IsView};
+ghost use Rattle.bz_task.specs.Outcomes.{IsKeyView, payload_of};
 ghost use Rattle.bz_task.specs.Requests.{Hears, Tells, IsKnown};
 ghost use Rattle.bz_task.specs.Scene.{Scene, Stage, Waiting, IsScene};
 ghost use Rattle.bz_task.specs.declared.todo.Seen.TheVariants.{Swapped, NoSwap};
 ghost use Rattle.bz_record.specs.Records.{words_for, size_of, HasRoom, LacksRoom};
 ghost use Rattle.bz_record.specs.declared.found_record.FoundRecord.{FoundRecord};
-ghost use Rattle.bz_mutate.specs.Viewed.{CanBeFound, HasOthers};
+ghost use Rattle.bz_mutate.specs.Viewed.{IsVisible, IsFound};
 ghost use Rattle.bz_mutate.specs.UpdateDuties.{config_of, asks_of, end_of, left_of, change_of, publishing_of, facts_of, means_of};
 ghost use Rattle.bz_mutate.specs.UpdateFacts.{IsEndOfUpdate, update_asks, update_left, update_facts, IsFirst, IsReady, next_store, next_flush};
 
 use crate::update_phase::UpdatePhase;
 use bz_call::Spent;
 use bz_key::{Key, Payload};
-use bz_layout::{Config, SHARED_WORDS, Slots};
+use bz_layout::{Config, Slots};
 use bz_record::{FoundRecord, NewRecord};
-use bz_task::{LeafView, Outcome, Path, Seen, Task, Todo, laws};
+use bz_task::{KeyView, LeafView, Outcome, Path, Seen, Task, Todo, laws};
 
-/// The update of a key in the leaf that a view shows. It ends with Done where the new record is in the place of the old one,
+/// The update of a key in the leaf in which a view found it. It ends with Done where the new record is in the place of the old one,
 /// with NeedsRoom where the viewed leaf is frozen or lacks the words, with Restart where a swap found another status, and with
 /// Full(Swaps).
 #[derive(Drop)]
 pub struct Update {
     config: Config,
-    view: LeafView,
+    view: KeyView,
     added: NewRecord,
     phase: UpdatePhase,
 }
 
 impl Update {
     /// The update of a key that its leaf has.
-    pub fn new(config: &Config, _path: Path, view: LeafView, key: Key, payload: Payload) -> Update
-        requires present { found_of (node_of view.image.0) key ≢ None }
+    pub fn new(config: &Config, _path: Path, view: KeyView, key: Key, payload: Payload) -> Update
+        requires present { view.found ≢ None }
         ensures config { ⟦<Update as Task>⟧.config result ≡ config.now }
         ensures asks { ⟦<Update as Task>⟧.asks result ≡ None }
         ensures left { ⟦<Update as Task>⟧.left result ≡ 13 }
         ensures needs { ⟦<Update as Task>⟧.needs result ≡ 0 }
-        ensures change { ⟦<Update as Task>⟧.change result ≡ record { key = key; old = found_of (node_of view.image.0) key; new = Some payload } }
-        ensures facts { (s : Scene) → s.past.config ≡ config.now → s.effected ≡ false → IsScene s → IsView key view s.past → ⟦<Update as Task>⟧.facts result Waiting s }
+        ensures change { ⟦<Update as Task>⟧.change result ≡ record { key = key; old = payload_of view.found; new = Some payload } }
+        ensures facts { (s : Scene) → s.past.config ≡ config.now → s.effected ≡ false → IsScene s → IsKeyView key view s.past → ⟦<Update as Task>⟧.facts result Waiting s }
         ensures done { (s : Scene) → ⟦<Update as Task>⟧.means result Outcome.Done s → s.effected ≡ true }
         ensures no_path { (path : Path) (s : Scene) → ⟦<Update as Task>⟧.means result (Outcome.Path path) s → ⊥ }
         ensures no_view { (other : LeafView) (s : Scene) → ⟦<Update as Task>⟧.means result (Outcome.View other) s → ⊥ }
@@ -82,9 +80,8 @@ impl Update {
         ensures learns { (stage : Stage) (s : Scene) → s.past.config ≡ self.now.config → IsScene s → update_facts self.now.view self.now.added self.now.phase stage s → Tells (update_asks self.now.config self.now.added self.now.phase) stage seen s → update_facts self.now.view self.now.added result Waiting s }
     {
         let _moment = moment;
-        bz_record::laws::views_show_leaves();
-        bz_record::laws::views_show_records();
-        bz_record::laws::said_keys_are_found();
+        bz_record::laws::key_views_show_leaves();
+        bz_record::laws::key_views_show_records();
         match (self.phase, seen) {
             (UpdatePhase::Fresh, _) => self.begun(),
             (UpdatePhase::Grow(old), Seen::Swapped(true)) => UpdatePhase::Store(old, 0),
@@ -98,21 +95,20 @@ impl Update {
 }
 
 impl Update {
-    // The first phase: the growth, where the leaf has room and the key's record is found.
+    // The first phase: the growth, where the leaf has room for the new record.
     fn begun(&self) -> UpdatePhase
         requires plain { self.now.added.status < 2 ^ 61 }
-        requires viewed { self.now.view.status < 2 ^ 61 }
-        requires count { (status self.now.view.status).count ≤ SHARED_WORDS }
-        ensures found { (f : FoundRecord) → result ≡ UpdatePhase.Grow f → CanBeFound self.now.added.key self.now.view f }
+        requires visible { IsVisible self.now.view }
+        ensures found { (f : FoundRecord) → result ≡ UpdatePhase.Grow f → IsFound self.now.view f }
         ensures room { (f : FoundRecord) → result ≡ UpdatePhase.Grow f → HasRoom self.now.added.status (size_of self.now.added) }
-        ensures none { result ≡ UpdatePhase.NeedsRoom → LacksRoom self.now.added.status (size_of self.now.added) ⊎ HasOthers self.now.added.key self.now.view }
+        ensures none { result ≡ UpdatePhase.NeedsRoom → LacksRoom self.now.added.status (size_of self.now.added) ⊎ (self.now.view.found ≡ None) }
         ensures either { IsFirst result }
     {
         if !self.added.has_room() {
             return UpdatePhase::NeedsRoom;
         }
-        match FoundRecord::find(&self.view.image, self.view.status, &self.added.key) {
-            Some(found) => UpdatePhase::Grow(found),
+        match &self.view.found {
+            Some(found) => UpdatePhase::Grow(FoundRecord::of(found)),
             None => UpdatePhase::NeedsRoom,
         }
     }
@@ -220,7 +216,7 @@ impl Task for Update {
     }
 
     fn learnt(&self) {
-        laws::views_stay();
+        laws::key_views_stay();
         bz_record::laws::records_were();
         bz_record::laws::records_are_written();
         bz_record::laws::changes_may_be_asked();

@@ -1,29 +1,32 @@
--- A leaf that was not frozen is as it was while its status is the one that was read, and a view shows such a leaf.
-use Rattle.std.proofs.Common.{◌≡◌, ℕ, ◌<◌, ◌+◌, ◌≤◌, ◌&&◌, Bool, true, false, List, arith, refl, sym, ap, subst, ◌∙◌, inl, inr, Option}
+-- A leaf that was not frozen is as it was while its status is the one that was read, and a view shows such a leaf, of its words
+-- or of one key.
+use Rattle.std.proofs.Common.{◌≡◌, ℕ, ◌<◌, ◌+◌, ◌≤◌, ◌^◌, ◌&&◌, Bool, true, false, List, arith, refl, sym, ap, subst, ◌∙◌, inl, inr, Option}
 use Rattle.bz_layout.specs.declared.config.Config.{Config}
-use Rattle.bz_layout.specs.declared.sizes.TheConstants.{NODE_WORDS, STATUS_AT}
+use Rattle.bz_layout.specs.declared.sizes.TheConstants.{NODE_WORDS, STATUS_AT, SHARED_WORDS}
 use Rattle.bz_shape.specs.Form.{Holds}
 use Rattle.bz_shape.specs.Order.{is_at_least, is_below}
 use Rattle.bz_shape.specs.TreeLaws.{LeavesTileTheKeys}
 use Rattle.bz_slotted.specs.Laws.{LeafRulesAreFacts}
 use Rattle.bz_slotted.specs.Page.{visible, held, page}
 use Rattle.bz_slotted.specs.ReadingLaws.{node_of}
+use Rattle.bz_slotted.specs.Readers.{found_of}
 use Rattle.bz_slotted.specs.Whole.{Whole}
 use Rattle.bz_word.specs.Statuses.{status}
 use Rattle.bz_word.specs.declared.meta.Meta.{Meta}
 use Rattle.bz_word.specs.declared.meta.Meta.TheVariants.{Unused, Reserved, Visible, Deleted}
-use Rattle.bz_content.specs.Content.{view_in, IsWellFormed}
+use Rattle.bz_content.specs.Content.{leaf_in, view_in, IsWellFormed}
 use Rattle.bz_content.specs.Image.{node}
 use Rattle.bz_content.specs.Laws.{WellFormedImagesHaveNoFault}
 use Rattle.bz_task.specs.Good.{IsGood}
 use Rattle.bz_task.specs.Instant.{Instant, words, durable, form_at}
 use Rattle.bz_task.specs.Laws.{AreMoments, ThawedLeavesStay, StillLeaf, RangesStay, IsLeafInTree, LeavesAreInTrees, SeenLeavesAreWhole, SameRecordsShowTheSame}
-use Rattle.bz_task.specs.Outcomes.{IsView}
-use Rattle.bz_task.specs.Scene.{Scene, IsScene, here}
+use Rattle.bz_task.specs.Outcomes.{payload_of, IsView, IsKeyView}
+use Rattle.bz_task.specs.Scene.{Past, Scene, IsScene, here}
 use Rattle.bz_task.specs.Shown.{IsShown, SameWords, SameRecords}
+use Rattle.bz_task.specs.declared.view.KeyView.{KeyView}
 use Rattle.bz_task.specs.declared.view.LeafView.{LeafView}
-use Rattle.bz_record.specs.Laws.{SameLeaf, LeavesStay, IsViewed, ViewsShowLeaves}
-use Rattle.bz_record.specs.Leaves.{WasLeaf}
+use Rattle.bz_record.specs.Laws.{SameLeaf, LeavesStay, IsViewed, ViewsShowLeaves, KeyViewsShowLeaves}
+use Rattle.bz_record.specs.Leaves.{WasLeaf, WasLeafOf}
 
 pub same-records : (n m : ℕ → ℕ) → SameWords n m → SameRecords n m
 same-records n m s = record {
@@ -91,38 +94,88 @@ shown-within raw n lo hi w i (inr (inr (inr r))) = omega (arith, r.1.to, (w.insi
 both : (a b : Bool) → a ≡ true → b ≡ true → (a && b) ≡ true
 both a b e h = rw (e, h) refl
 
-module _ (leaves : LeavesAreInTrees) (shown : SameRecordsShowTheSame) (seen : SeenLeavesAreWhole) (rules : LeafRulesAreFacts) (formed : WellFormedImagesHaveNoFault) (tile : LeavesTileTheKeys) (key : List ℕ) (view : LeafView) (s : Scene) (good : IsScene s) (v : IsView key view s.past) where
+-- the leaf of a key at a moment, and its status
+pub record IsSeen (key : List ℕ) (k st at : ℕ) (p : Past) : Type 0 where
+  pub since : p.since ≤ at
+  pub now : at ≤ p.now
+  pub leaf : leaf_in p.config (p.at at).image key ≡ k
+  pub slot : k < p.config.nodes
+  pub status : words p.config (p.at at) k STATUS_AT ≡ st
+  pub plain : st < 2 ^ 61
+
+-- the laws of trees and leaves that these proofs stand on
+pub record Laws : Type 0 where
+  pub leaves : LeavesAreInTrees
+  pub rules : LeafRulesAreFacts
+  pub formed : WellFormedImagesHaveNoFault
+  pub tile : LeavesTileTheKeys
+
+module _ (b : Laws) (key : List ℕ) (k st at : ℕ) (s : Scene) (good : IsScene s) (v : IsSeen key k st at s.past) where
+  pub then-good : IsGood s.past.config (s.past.at at)
+  then-good = good.history.good at v.since v.now
+
+  holds : Holds (form_at s.past.config (s.past.at at)) key k
+  holds = let f : IsWellFormed s.past.config (s.past.at at).image = (b.formed s.past.config (s.past.at at).image).0 then-good.form in
+      (b.tile (view_in s.past.config (s.past.at at).image) f.tree key k).1 v.leaf
+
+  pub leaf : IsLeafInTree s.past.config (s.past.at at) k
+  leaf = b.leaves s.past.config (s.past.at at) k then-good v.slot holds.inside holds.leaf
+
+  pub whole : Whole (node s.past.config (s.past.at at).image k) (page (durable s.past.config (s.past.at at) k)) ((form_at s.past.config (s.past.at at)).low k) ((form_at s.past.config (s.past.at at)).high k)
+  whole = (b.rules s.past.config.nodes (node s.past.config (s.past.at at).image k) (durable s.past.config (s.past.at at) k) _ _).0 leaf.whole
+
+  pub durable-status : durable s.past.config (s.past.at at) k STATUS_AT ≡ st
+  durable-status = then-good.shown k STATUS_AT leaf.reached (inl (omega arith)) ∙ v.status
+
+  pub is-leaf-of : (said : Option (List ℕ)) → found_of (durable s.past.config (s.past.at at) k) key ≡ said → WasLeafOf key said k st at s.past
+  is-leaf-of said e = record {
+    leaf = record { since = v.since; now = v.now; slot = v.slot; inside = holds.inside; leaf = holds.leaf; was = v.status; plain = v.plain };
+    range = both (is_at_least key ((form_at s.past.config (s.past.at at)).low k)) (is_below key ((form_at s.past.config (s.past.at at)).high k)) holds.low holds.high;
+    found = e;
+  }
+
+  pub dead : (status st).dead ≤ (status st).block
+  dead = subst (λ z. (status z).dead ≤ (status z).block) durable-status (omega (arith, whole.filled.dead))
+
+  pub room : (status st).count + (status st).block ≤ SHARED_WORDS
+  room = subst (λ z. (status z).count + (status z).block ≤ SHARED_WORDS) durable-status whole.filled.room
+
+-- a view of a leaf
+abbrev seen-leaf : (key : List ℕ) (view : LeafView) (p : Past) → IsView key view p → IsSeen key view.slot view.status view.at p
+seen-leaf key view p v = record { since = v.since; now = v.now; leaf = v.leaf; slot = v.slot; status = v.status; plain = v.plain }
+
+module _ (b : Laws) (shown : SameRecordsShowTheSame) (seen : SeenLeavesAreWhole) (key : List ℕ) (view : LeafView) (s : Scene) (good : IsScene s) (v : IsView key view s.past) where
+  abbrev is : IsSeen key view.slot view.status view.at s.past
+  is = seen-leaf key view s.past v
+
   view-good : IsGood s.past.config (s.past.at view.at)
-  view-good = good.history.good view.at v.since v.now
+  view-good = then-good b key view.slot view.status view.at s good is
 
-  holds : Holds (form_at s.past.config (s.past.at view.at)) key view.slot
-  holds = let f : IsWellFormed s.past.config (s.past.at view.at).image = (formed s.past.config (s.past.at view.at).image).0 view-good.form in
-      (tile (view_in s.past.config (s.past.at view.at).image) f.tree key view.slot).1 v.leaf
+  there : IsLeafInTree s.past.config (s.past.at view.at) view.slot
+  there = leaf b key view.slot view.status view.at s good is
 
-  leaf : IsLeafInTree s.past.config (s.past.at view.at) view.slot
-  leaf = leaves s.past.config (s.past.at view.at) view.slot view-good v.slot holds.inside holds.leaf
-
-  whole : Whole (node s.past.config (s.past.at view.at).image view.slot) (page (durable s.past.config (s.past.at view.at) view.slot)) ((form_at s.past.config (s.past.at view.at)).low view.slot) ((form_at s.past.config (s.past.at view.at)).high view.slot)
-  whole = (rules s.past.config.nodes (node s.past.config (s.past.at view.at).image view.slot) (durable s.past.config (s.past.at view.at) view.slot) _ _).0 leaf.whole
-
-  pub durable-view : SameWords (durable s.past.config (s.past.at view.at) view.slot) (node_of view.image.0)
+  durable-view : SameWords (durable s.past.config (s.past.at view.at) view.slot) (node_of view.image.0)
   durable-view i h =
-      let a : IsShown (words s.past.config (s.past.at view.at) view.slot) i = (shown _ _ (same-records _ _ (durable-same s.past.config (s.past.at view.at) view.slot view-good leaf.reached)) i).1 h in
-      v.words i (shown-within _ _ _ _ whole i h) a ∙ sym (view-good.shown view.slot i leaf.reached a)
-
-  pub durable-status : durable s.past.config (s.past.at view.at) view.slot STATUS_AT ≡ view.status
-  durable-status = view-good.shown view.slot STATUS_AT leaf.reached (inl (omega arith)) ∙ v.status
+      let a : IsShown (words s.past.config (s.past.at view.at) view.slot) i = (shown _ _ (same-records _ _ (durable-same s.past.config (s.past.at view.at) view.slot view-good there.reached)) i).1 h in
+      v.words i (shown-within _ _ _ _ (whole b key view.slot view.status view.at s good is) i h) a ∙ sym (view-good.shown view.slot i there.reached a)
 
   viewed : IsViewed key view s.past
   viewed = record {
-    leaf = record {
-      leaf = record { since = v.since; now = v.now; slot = v.slot; inside = holds.inside; leaf = holds.leaf; was = v.status; plain = v.plain };
-      range = both (is_at_least key ((form_at s.past.config (s.past.at view.at)).low view.slot)) (is_below key ((form_at s.past.config (s.past.at view.at)).high view.slot)) holds.low holds.high;
-      found = sym ((seen s.past.config.nodes (node s.past.config (s.past.at view.at).image view.slot) (durable s.past.config (s.past.at view.at) view.slot) (node_of view.image.0) _ _ leaf.whole durable-view).found key);
-    };
-    dead = subst (λ z. (status z).dead ≤ (status z).block) durable-status (omega (arith, whole.filled.dead));
-    room = subst (λ z. (status z).count + (status z).block ≤ 118) durable-status whole.filled.room;
+    leaf = is-leaf-of b key view.slot view.status view.at s good is (found_of (node_of view.image.0) key) (sym ((seen s.past.config.nodes (node s.past.config (s.past.at view.at).image view.slot) (durable s.past.config (s.past.at view.at) view.slot) (node_of view.image.0) _ _ there.whole durable-view).found key));
+    dead = dead b key view.slot view.status view.at s good is;
+    room = room b key view.slot view.status view.at s good is;
   }
 
-pub views-show : LeavesAreInTrees → SameRecordsShowTheSame → SeenLeavesAreWhole → LeafRulesAreFacts → WellFormedImagesHaveNoFault → LeavesTileTheKeys → ViewsShowLeaves
-views-show leaves shown seen rules formed tile key view s good v = viewed leaves shown seen rules formed tile key view s good v
+pub views-show : Laws → SameRecordsShowTheSame → SeenLeavesAreWhole → ViewsShowLeaves
+views-show b shown seen key view s good v = viewed b shown seen key view s good v
+
+-- a view of a key
+abbrev pub seen-key : (key : List ℕ) (view : KeyView) (p : Past) → IsKeyView key view p → IsSeen key view.slot view.status view.at p
+seen-key key view p v = record { since = v.since; now = v.now; leaf = v.leaf; slot = v.slot; status = v.status; plain = v.plain }
+
+pub key-views-show : Laws → KeyViewsShowLeaves
+key-views-show b key view s good v = record {
+  leaf = is-leaf-of b key view.slot view.status view.at s good (seen-key key view s.past v) (payload_of view.found) v.says;
+  dead = dead b key view.slot view.status view.at s good (seen-key key view s.past v);
+  room = room b key view.slot view.status view.at s good (seen-key key view s.past v);
+}

@@ -19,4 +19,3 @@ mod Changing
 mod Remembering
 mod Finding
 mod Viewing
-mod Said

@@ -13,12 +13,13 @@ use Rattle.bz_word.specs.declared.meta.Meta.{Meta}
 use Rattle.bz_content.specs.Image.{node}
 use Rattle.bz_task.specs.Instant.{Instant, words, durable}
 use Rattle.bz_task.specs.Laws.{SamePlace, IsLeafInTree}
-use Rattle.bz_task.specs.Outcomes.{IsView}
+use Rattle.bz_task.specs.Outcomes.{payload_of, IsView, IsKeyView}
 use Rattle.bz_task.specs.Requests.{IsEntryToAsk}
 use Rattle.bz_task.specs.Scene.{Past, Scene, IsScene, Continues, here}
 use Rattle.bz_task.specs.Shown.{SameWords, SameNode}
 use Rattle.bz_task.specs.Steps.{next_stamp}
 use Rattle.bz_task.specs.Swaps.{Change, Stand, SwapsTo, IsMineAndDurable, IsGoodSwap, Takes}
+use Rattle.bz_task.specs.declared.view.KeyView.{KeyView}
 use Rattle.bz_task.specs.declared.view.LeafView.{LeafView}
 use Rattle.bz_record.specs.Leaves.{WasLeaf, WasLeafOf, WasReserved}
 use Rattle.bz_record.specs.Records.{Fits}
@@ -49,6 +50,15 @@ pub record IsViewed (key : List ℕ) (view : LeafView) (p : Past) : Type 0 where
 
 abbrev pub ViewsShowLeaves : Type 0
 ViewsShowLeaves = (key : List ℕ) (view : LeafView) (s : Scene) → IsScene s → IsView key view s.past → IsViewed key view s.past
+
+-- so does a view of the key alone
+pub record IsKeyViewed (key : List ℕ) (view : KeyView) (p : Past) : Type 0 where
+  pub leaf : WasLeafOf key (payload_of view.found) view.slot view.status view.at p
+  pub dead : (status view.status).dead ≤ (status view.status).block
+  pub room : (status view.status).count + (status view.status).block ≤ SHARED_WORDS
+
+abbrev pub KeyViewsShowLeaves : Type 0
+KeyViewsShowLeaves = (key : List ℕ) (view : KeyView) (s : Scene) → IsScene s → IsKeyView key view s.past → IsKeyViewed key view s.past
 
 -- what was so, was so
 pub record LeavesWere : Type 0 where

@@ -1,16 +1,15 @@
 -- What the swaps lead to by which a record is replaced or taken out.
-use Rattle.std.specs.Prelude.{◌≡◌, ℕ, false, true, List, [], ◌∷◌, All, Some, None, ◌<◌, ◌≤◌}
-use Rattle.bz_slotted.specs.ReadingLaws.{node_of}
-use Rattle.bz_slotted.specs.Readers.{found_of}
+use Rattle.std.specs.Prelude.{◌≡◌, ℕ, false, true, List, [], ◌∷◌, All, Some, None}
 use Rattle.bz_word.specs.Statuses.{status}
 use Rattle.bz_word.specs.declared.meta.Extent.{Extent}
 use Rattle.bz_task.specs.Instant.{Instant}
-use Rattle.bz_task.specs.Outcomes.{IsView}
+use Rattle.bz_task.specs.Outcomes.{IsKeyView}
 use Rattle.bz_task.specs.Requests.{IsEntryToAsk}
 use Rattle.bz_task.specs.Scene.{Past, Scene, IsScene, Continues, here}
 use Rattle.bz_task.specs.Swaps.{Change, Stand, SwapsTo, IsGoodSwap, Takes}
-use Rattle.bz_task.specs.declared.view.LeafView.{LeafView}
-use Rattle.bz_record.specs.Finding.{IsKeyAt, IsOtherAt}
+use Rattle.bz_task.specs.declared.view.Found.{Found}
+use Rattle.bz_task.specs.declared.view.KeyView.{KeyView}
+use Rattle.bz_record.specs.Finding.{record_of}
 use Rattle.bz_record.specs.Leaves.{WasLeaf}
 use Rattle.bz_record.specs.Records.{Fits}
 use Rattle.bz_record.specs.Replacing.{growth, replacement, removal, WasRecord, WasGrown}
@@ -68,13 +67,8 @@ pub record ChangesMayBeAsked : Type 0 where
   pub grows : (s : Scene) (r : NewRecord) (moment : ℕ) → IsScene s → Fits r → WasLeaf r.slot r.status moment s.past → All (IsEntryToAsk s) (growth s.past.config r ∷ [])
   pub replaces : (s : Scene) (r : NewRecord) (old : List ℕ) (place : ℕ) (e : Extent) → IsScene s → Fits r → WasGrown r old place e s.past → All (IsEntryToAsk s) (entries_of s.past.config (replacement r place e))
 
--- a record that is found in a view is one of its key's leaf
-abbrev pub ViewsShowRecords : Type 0
-ViewsShowRecords =
-    (key payload : List ℕ) (view : LeafView) (place : ℕ) (e : Extent) (s : Scene) → IsScene s → IsView key view s.past → found_of (node_of view.image.0) key ≡ Some payload → place < (status view.status).count → IsKeyAt view.image.0 key place e →
-    WasRecord key payload view.slot view.status place e s.past × ((status view.status).dead ≤ (status view.status).block)
-
--- and one is found where the view says something of the key
-abbrev pub SaidKeysAreFound : Type 0
-SaidKeysAreFound =
-    (key payload : List ℕ) (view : LeafView) (s : Scene) → IsScene s → IsView key view s.past → found_of (node_of view.image.0) key ≡ Some payload → ((i : ℕ) → i < (status view.status).count → IsOtherAt view.image.0 key i) → ⊥
+-- the record that was found of a key is one of the key's leaf
+abbrev pub KeyViewsShowRecords : Type 0
+KeyViewsShowRecords =
+    (key : List ℕ) (view : KeyView) (found : Found) (s : Scene) → IsScene s → IsKeyView key view s.past → view.found ≡ Some found →
+    WasRecord key found.payload view.slot view.status (record_of found).place (record_of found).extent s.past

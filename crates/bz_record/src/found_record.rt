@@ -1,22 +1,20 @@
 //! A record of a leaf, found by its key.
 
-ghost use Rattle.std.specs.Prelude.{◌≡◌, ◌≢◌, ◌+◌, ◌<◌, ◌≤◌, ◌^◌, ℕ, true, false, IfSome, IsSome, None};
-ghost use Rattle.bz_key.specs.Packing.{packed_len, unpacked_key};
-ghost use Rattle.bz_slotted.specs.ReadingLaws.{node_of};
-ghost use Rattle.bz_slotted.specs.Records.{key_words, key_in};
+ghost use Rattle.std.specs.Prelude.{◌≡◌, ◌+◌, ◌<◌, ◌≤◌, ◌^◌, true};
+ghost use Rattle.bz_key.specs.Packing.{packed_len};
+ghost use Rattle.bz_slotted.specs.Page.{meta_of, visible, extent_of as extent_in};
 ghost use Rattle.bz_word.specs.Metas.{IsExtent};
 ghost use Rattle.bz_word.specs.Statuses.{status};
 ghost use Rattle.bz_node.specs.Reading.{words_of};
 ghost use Rattle.bz_record.specs.Records.{Fits};
 ghost use Rattle.bz_record.specs.Replacing.{removal, replacement, status_grown};
 ghost use Rattle.bz_record.specs.Swaps.{counted_status};
-ghost use Rattle.bz_record.specs.Finding.{IsKeyAt, IsOtherAt};
+ghost use Rattle.bz_record.specs.Finding.{record_of};
 
 use crate::new_record::{NewRecord, status_of};
 use crate::record_swap::RecordSwap;
-use bz_key::Key;
-use bz_layout::{META_AT, NODE_WORDS, SHARED_WORDS};
-use bz_node::NodeImage;
+use bz_layout::SHARED_WORDS;
+use bz_task::Found;
 use bz_word::{Extent, Meta, Status};
 
 const BYTES_IN_WORD: u32 = 7;
@@ -29,19 +27,19 @@ pub struct FoundRecord {
 }
 
 impl FoundRecord {
-    /// The record of a key, in a leaf with this status.
-    pub fn find(image: &NodeImage, word: u64, key: &Key) -> Option<FoundRecord>
-        requires plain { word < 2 ^ 61 }
-        requires room { (status word).count ≤ SHARED_WORDS }
-        ensures found { IfSome result (λ f. (f.place < (status word).count) × IsKeyAt image.now.0 key.now f.place f.extent) }
-        ensures none { result ≡ None → (i : ℕ) → i < (status word).count → IsOtherAt image.now.0 key.now i }
+    /// The record that a look-up of a key found.
+    pub fn of(found: &Found) -> FoundRecord
+        requires { visible (meta_of found.now.meta) ≡ true }
+        ensures { result ≡ record_of found.now }
     {
-        for place in 0..status_of(word).count {
-            if let Some(extent) = extent_at(image, place, key) {
-                return Some(FoundRecord { place, extent });
-            }
+        bz_word::laws::metas();
+        match Meta::unpack(found.meta) {
+            Some(meta) => FoundRecord {
+                place: found.index,
+                extent: extent_of(meta),
+            },
+            None => unreachable!(),
         }
-        None
     }
 
     /// The swap that takes it out of the leaf of a slot with this status.
@@ -128,43 +126,23 @@ fn word_count(bytes: u32) -> u32
     bytes.div_ceil(BYTES_IN_WORD)
 }
 
-// Where the record of a metadata word lies, if it is visible and has the key.
-fn extent_at(image: &NodeImage, place: u32, key: &Key) -> Option<Extent>
-    requires { place < SHARED_WORDS }
-    ensures found { IfSome result (IsKeyAt image.now.0 key.now place) }
-    ensures none { result ≡ None → IsOtherAt image.now.0 key.now place }
+// Where a record lies, and its lengths.
+#[tactic(auto, unfolding(bz_slotted::specs::Page::extent_of))]
+fn extent_of(meta: Meta) -> Extent
+    ensures { result ≡ extent_in meta }
 {
-    bz_word::laws::metas();
-    let Some(meta) = Meta::unpack(image.0[(META_AT + place) as usize]) else {
-        return None;
-    };
     match meta {
-        Meta::Visible(extent) => {
-            if has_key(image, extent, key) {
-                Some(extent)
-            } else {
-                None
-            }
-        }
-        Meta::Unused => None,
-        Meta::Reserved(_) => None,
-        Meta::Deleted { .. } => None,
-    }
-}
-
-// Whether the key of a record is this one.
-fn has_key(image: &NodeImage, extent: Extent, key: &Key) -> bool
-    requires { IsExtent extent }
-    ensures yes { result ≡ true → key_in (node_of image.now.0) extent ≡ key.now }
-    ensures no { result ≡ false → extent.offset + packed_len extent.key ≤ NODE_WORDS → IsSome (unpacked_key extent.key (key_words (node_of image.now.0) extent)) → key_in (node_of image.now.0) extent ≢ key.now }
-{
-    let from = extent.offset as usize;
-    let to = from + word_count(extent.key) as usize;
-    if to > NODE_WORDS as usize {
-        return false;
-    }
-    match Key::from_words(extent.key as usize, &image.0[from..to]) {
-        Some(found) => found == *key,
-        None => false,
+        Meta::Unused => Extent {
+            offset: 0,
+            key: 0,
+            total: 0,
+        },
+        Meta::Reserved(extent) => extent,
+        Meta::Visible(extent) => extent,
+        Meta::Deleted { key, total } => Extent {
+            offset: 0,
+            key,
+            total,
+        },
     }
 }

@@ -1,8 +1,8 @@
 //! Laws of the records of a leaf. Each function does nothing: its contract is the law.
 
-ghost use Rattle.bz_record.specs.Laws.{LeavesStay, ViewsShowLeaves, LeavesWere, RecordSwapsMayBeAsked, NewRecordSwapsMayBeAsked, ReservationsAreGood, ReservationsTakeWords, RewritesAreGood, PublicationsAreGood};
+ghost use Rattle.bz_record.specs.Laws.{LeavesStay, ViewsShowLeaves, KeyViewsShowLeaves, LeavesWere, RecordSwapsMayBeAsked, NewRecordSwapsMayBeAsked, ReservationsAreGood, ReservationsTakeWords, RewritesAreGood, PublicationsAreGood};
 ghost use Rattle.bz_record.specs.Writing.{RecordsAreWritten};
-ghost use Rattle.bz_record.specs.ReplacingLaws.{RecordsWere, RemovalsAreGood, GrowthsAreGood, GrowthsTakeWords, ReplacementsAreGood, ChangesMayBeAsked, ViewsShowRecords, SaidKeysAreFound};
+ghost use Rattle.bz_record.specs.ReplacingLaws.{RecordsWere, RemovalsAreGood, GrowthsAreGood, GrowthsTakeWords, ReplacementsAreGood, ChangesMayBeAsked, KeyViewsShowRecords};
 
 use bz_task::laws;
 
@@ -24,6 +24,16 @@ pub fn views_show_leaves()
     laws::leaves_are_in_trees();
     laws::same_records_show_the_same();
     laws::seen_leaves_are_whole();
+    bz_slotted::laws::leaf_rules_are_facts();
+    bz_content::laws::well_formed_images_have_no_fault();
+    bz_shape::laws::leaves_tile_the_keys();
+}
+
+/// A view of a key shows the key's leaf, and says of the key what the leaf says.
+pub fn key_views_show_leaves()
+    ensures { KeyViewsShowLeaves }
+{
+    laws::leaves_are_in_trees();
     bz_slotted::laws::leaf_rules_are_facts();
     bz_content::laws::well_formed_images_have_no_fault();
     bz_shape::laws::leaves_tile_the_keys();
@@ -188,23 +198,14 @@ pub fn changes_may_be_asked()
     bz_key::laws::packing_is_small();
 }
 
-/// A record that is found in a view is one of its key's leaf.
-pub fn views_show_records()
-    ensures { ViewsShowRecords }
+/// The record that was found of a key is one of the key's leaf.
+pub fn key_views_show_records()
+    ensures { KeyViewsShowRecords }
 {
-    views_show_leaves();
+    key_views_show_leaves();
     laws::leaves_are_in_trees();
-    laws::same_records_show_the_same();
-    laws::seen_leaves_are_whole();
     bz_slotted::laws::leaf_rules_are_facts();
     bz_content::laws::well_formed_images_have_no_fault();
     bz_shape::laws::leaves_tile_the_keys();
     bz_word::laws::metas();
-}
-
-/// Where a view says something of a key, one of its records is found.
-pub fn said_keys_are_found()
-    ensures { SaidKeysAreFound }
-{
-    bz_slotted::laws::leaf_rules_are_facts();
 }

@@ -4,7 +4,7 @@ use Rattle.bz_mutate.proofs.delete.DeleteTask.learnt.Goals as goal
 
 pub returns-clause-stable : goal.returns-clause-stable
 returns-clause-stable c stage s after same facts good step =
-    let t = c.args.self.now in stable c.views_stay.ensures c.records_were.ensures t.key t.view s after step t.phase stage facts
+    let t = c.args.self.now in stable c.key_views_stay.ensures c.records_were.ensures t.key t.view s after step t.phase stage facts
 
 pub returns-clause-askable : goal.returns-clause-askable
 returns-clause-askable c s todo same facts good asks =
