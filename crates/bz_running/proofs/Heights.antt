@@ -8,12 +8,13 @@ use Rattle.bz_task.specs.declared.todo.Outcome.TheVariants.{Full}
 use Rattle.bz_running.specs.Duties.{end_of, wants_of, ascent_of, facts_of, means_of}
 use Rattle.bz_running.specs.Laws.{HaveFilledUp}
 use Rattle.bz_running.specs.declared.running.Running.{Running}
-use Rattle.bz_running.specs.declared.running.Running.TheVariants.{Descending, Reading, Inserting, Updating, Deleting, Freezing, Consolidating, Splitting, SplittingBelow, SplittingInner, SplittingInnerRoot}
+use Rattle.bz_running.specs.declared.running.Running.TheVariants.{Seeking, Finding, Reading, Inserting, Updating, Deleting, Freezing, Consolidating, Splitting, SplittingBelow, SplittingInner, SplittingInnerRoot}
 use Rattle.bz_running.proofs.Statements.{Ends}
 
 by-end : AscentsEnd → (t : Running) (s : Scene) → IsScene s → facts_of t Waiting s → means_of t (Full Height) s → (wants_of t ≡ SPLIT_SLOTS) × HaveFilledUp (ascent_of t) s.past
 unfolding wants_of ascent_of facts_of means_of
-by-end law (Descending t) s good f m = absurd m
+by-end law (Seeking t) s good f m = absurd m
+by-end law (Finding t) s good f m = absurd m
 by-end law (Reading t) s good f m = absurd m
 by-end law (Inserting t) s good f m = absurd m
 by-end law (Updating t) s good f m = absurd m

@@ -11,7 +11,7 @@ use Rattle.bz_running.specs.Duties.{config_of, wants_of, ascent_of, facts_of, me
 use Rattle.bz_running.specs.GoingUp.{IsSplitAt, GoesUp}
 use Rattle.bz_running.specs.Hearing.{IsLookup}
 use Rattle.bz_running.specs.declared.running.Running.{Running}
-use Rattle.bz_running.specs.declared.running.Running.TheVariants.{Descending, Reading, Inserting, Updating, Deleting, Freezing, Consolidating, Splitting, SplittingBelow, SplittingInner, SplittingInnerRoot}
+use Rattle.bz_running.specs.declared.running.Running.TheVariants.{Seeking, Finding, Reading, Inserting, Updating, Deleting, Freezing, Consolidating, Splitting, SplittingBelow, SplittingInner, SplittingInnerRoot}
 use Rattle.bz_running.proofs.Ascending.{same-ascent}
 use Rattle.bz_running.proofs.Statements.{Ends}
 
@@ -22,7 +22,8 @@ pub record IsRising (t : Running) (a : Ascent) : Type 0 where
 
 pub is-rising : (t : Running) (a : Ascent) → ascent_of t ≡ Some a → IsRising t a
 unfolding wants_of ascent_of facts_of means_of
-is-rising (Descending t) a e = absurd (cc)
+is-rising (Seeking t) a e = absurd (cc)
+is-rising (Finding t) a e = absurd (cc)
 is-rising (Reading t) a e = absurd (cc)
 is-rising (Inserting t) a e = absurd (cc)
 is-rising (Updating t) a e = absurd (cc)

@@ -18,7 +18,7 @@ use Rattle.bz_task.specs.declared.todo.Todo.{Todo}
 use Rattle.bz_task.specs.declared.todo.Todo.TheVariants.{Store, Flush, Swap}
 use Rattle.bz_running.specs.Duties.{config_of, asks_of, needs_of, wants_of, end_of, change_of, publishing_of, facts_of, means_of, differs_of}
 use Rattle.bz_running.specs.declared.running.Running.{Running}
-use Rattle.bz_running.specs.declared.running.Running.TheVariants.{Descending, Reading, Inserting, Updating, Deleting, Freezing, Consolidating, Splitting, SplittingBelow, SplittingInner, SplittingInnerRoot}
+use Rattle.bz_running.specs.declared.running.Running.TheVariants.{Seeking, Finding, Reading, Inserting, Updating, Deleting, Freezing, Consolidating, Splitting, SplittingBelow, SplittingInner, SplittingInnerRoot}
 
 abbrev pub Stable : Running → Type 0
 Stable t = (stage : Stage) (s after : Scene) → s.past.config ≡ config_of t → facts_of t stage s → IsScene after → IsLawful s after → facts_of t stage after
@@ -58,7 +58,8 @@ Learns seen moment free left new t = (stage : Stage) (s : Scene) → s.past.now 
 -- what a task still is to take is no more than what it takes in all
 pub takes-few : ((t : Consolidate) → consol.needs_of t ≤ CONSOLIDATION_SLOTS) → (t : Running) → needs_of t ≤ SPLIT_SLOTS → needs_of t ≤ wants_of t
 unfolding needs_of wants_of
-takes-few one (Descending t) few = omega arith
+takes-few one (Seeking t) few = omega arith
+takes-few one (Finding t) few = omega arith
 takes-few one (Reading t) few = omega arith
 takes-few one (Inserting t) few = omega arith
 takes-few one (Updating t) few = omega arith
@@ -73,7 +74,8 @@ takes-few one (SplittingInnerRoot t a) few = few
 -- and no more than a split takes
 pub wants-few : (t : Running) → wants_of t ≤ SPLIT_SLOTS
 unfolding wants_of
-wants-few (Descending t) = omega arith
+wants-few (Seeking t) = omega arith
+wants-few (Finding t) = omega arith
 wants-few (Reading t) = omega arith
 wants-few (Inserting t) = omega arith
 wants-few (Updating t) = omega arith

@@ -16,8 +16,10 @@ use Rattle.bz_consol.specs.Facts.{consol_change, consol_means}
 use Rattle.bz_crown.specs.Duties.{asks_crown, end_crown, left_crown, needs_crown, facts_crown, differs_crown}
 use Rattle.bz_crown.specs.Facts.{crown_means}
 use Rattle.bz_crown.specs.declared.split_inner_root.SplitInnerRoot.{SplitInnerRoot}
-use Rattle.bz_descend.specs.Duties as descend
+use Rattle.bz_descend.specs.SeekDuties as seek
 use Rattle.bz_descend.specs.Facts.{descend_change}
+use Rattle.bz_find.specs.Duties as find
+use Rattle.bz_find.specs.Facts.{find_change}
 use Rattle.bz_fork.specs.Duties.{asks_fork, end_fork, left_fork, needs_fork, facts_fork, differs_fork}
 use Rattle.bz_fork.specs.Facts.{fork_means}
 use Rattle.bz_fork.specs.declared.split_inner.SplitInner.{SplitInner}
@@ -31,10 +33,11 @@ use Rattle.bz_split.specs.Duties as split
 use Rattle.bz_split.specs.Facts.{split_change, split_means}
 use Rattle.bz_running.specs.Ascending.{on_ascent}
 use Rattle.bz_running.specs.declared.running.Running.{Running}
-use Rattle.bz_running.specs.declared.running.Running.TheVariants.{Descending, Reading, Inserting, Updating, Deleting, Freezing, Consolidating, Splitting, SplittingBelow, SplittingInner, SplittingInnerRoot}
+use Rattle.bz_running.specs.declared.running.Running.TheVariants.{Seeking, Finding, Reading, Inserting, Updating, Deleting, Freezing, Consolidating, Splitting, SplittingBelow, SplittingInner, SplittingInnerRoot}
 
 unfoldable pub config_of : Running → Config
-config_of (Descending t) = descend.config_of t
+config_of (Seeking t) = seek.config_of t
+config_of (Finding t) = find.config_of t
 config_of (Reading t) = leaf.config_of t
 config_of (Inserting t) = insert.config_of t
 config_of (Updating t) = update.config_of t
@@ -47,7 +50,8 @@ config_of (SplittingInner t a) = t.config
 config_of (SplittingInnerRoot t a) = t.config
 
 unfoldable pub asks_of : Running → Option Todo
-asks_of (Descending t) = descend.asks_of t
+asks_of (Seeking t) = seek.asks_of t
+asks_of (Finding t) = find.asks_of t
 asks_of (Reading t) = leaf.asks_of t
 asks_of (Inserting t) = insert.asks_of t
 asks_of (Updating t) = update.asks_of t
@@ -60,7 +64,8 @@ asks_of (SplittingInner t a) = asks_fork t
 asks_of (SplittingInnerRoot t a) = asks_crown t
 
 unfoldable pub end_of : Running → Option Outcome
-end_of (Descending t) = descend.end_of t
+end_of (Seeking t) = seek.end_of t
+end_of (Finding t) = find.end_of t
 end_of (Reading t) = leaf.end_of t
 end_of (Inserting t) = insert.end_of t
 end_of (Updating t) = update.end_of t
@@ -73,7 +78,8 @@ end_of (SplittingInner t a) = end_fork t
 end_of (SplittingInnerRoot t a) = end_crown t
 
 unfoldable pub left_of : Running → ℕ
-left_of (Descending t) = descend.left_of t
+left_of (Seeking t) = seek.left_of t
+left_of (Finding t) = find.left_of t
 left_of (Reading t) = leaf.left_of t
 left_of (Inserting t) = insert.left_of t
 left_of (Updating t) = update.left_of t
@@ -86,7 +92,8 @@ left_of (SplittingInner t a) = left_fork t
 left_of (SplittingInnerRoot t a) = left_crown t
 
 unfoldable pub needs_of : Running → ℕ
-needs_of (Descending t) = 0
+needs_of (Seeking t) = 0
+needs_of (Finding t) = 0
 needs_of (Reading t) = 0
 needs_of (Inserting t) = 0
 needs_of (Updating t) = 0
@@ -100,7 +107,8 @@ needs_of (SplittingInnerRoot t a) = needs_crown t
 
 -- how many slots it takes from its begin to its end, if it takes any
 unfoldable pub wants_of : Running → ℕ
-wants_of (Descending t) = 0
+wants_of (Seeking t) = 0
+wants_of (Finding t) = 0
 wants_of (Reading t) = 0
 wants_of (Inserting t) = 0
 wants_of (Updating t) = 0
@@ -113,7 +121,8 @@ wants_of (SplittingInner t a) = SPLIT_SLOTS
 wants_of (SplittingInnerRoot t a) = SPLIT_SLOTS
 
 unfoldable pub change_of : Running → Change
-change_of (Descending t) = descend_change
+change_of (Seeking t) = descend_change
+change_of (Finding t) = find_change
 change_of (Reading t) = leaf_change
 change_of (Inserting t) = insert.change_of t
 change_of (Updating t) = update.change_of t
@@ -126,7 +135,8 @@ change_of (SplittingInner t a) = split_change
 change_of (SplittingInnerRoot t a) = split_change
 
 unfoldable pub publishing_of : Running → Bool
-publishing_of (Descending t) = false
+publishing_of (Seeking t) = false
+publishing_of (Finding t) = false
 publishing_of (Reading t) = false
 publishing_of (Inserting t) = insert.publishing_of t
 publishing_of (Updating t) = update.publishing_of t
@@ -149,7 +159,8 @@ abbrev pub means_crown : SplitInnerRoot → Outcome → Scene → Type 0
 means_crown t = crown_means t.upper
 
 unfoldable pub facts_of : Running → Stage → Scene → Type 0
-facts_of (Descending t) = descend.facts_of t
+facts_of (Seeking t) = seek.facts_of t
+facts_of (Finding t) = find.facts_of t
 facts_of (Reading t) = leaf.facts_of t
 facts_of (Inserting t) = insert.facts_of t
 facts_of (Updating t) = update.facts_of t
@@ -162,7 +173,8 @@ facts_of (SplittingInner t a) = on_ascent a (means_fork t) (facts_fork t)
 facts_of (SplittingInnerRoot t a) = on_ascent a (means_crown t) (facts_crown t)
 
 unfoldable pub means_of : Running → Outcome → Scene → Type 0
-means_of (Descending t) = descend.means_of t
+means_of (Seeking t) = seek.means_of t
+means_of (Finding t) = find.means_of t
 means_of (Reading t) = leaf.means_of t
 means_of (Inserting t) = insert.means_of t
 means_of (Updating t) = update.means_of t
@@ -175,7 +187,8 @@ means_of (SplittingInner t a) = means_fork t
 means_of (SplittingInnerRoot t a) = means_crown t
 
 unfoldable pub differs_of : Running → Seen → Type 0
-differs_of (Descending t) = descend.differs_of t
+differs_of (Seeking t) = seek.differs_of t
+differs_of (Finding t) = find.differs_of t
 differs_of (Reading t) = leaf.differs_of t
 differs_of (Inserting t) = λ seen. ⊥
 differs_of (Updating t) = λ seen. ⊥
@@ -189,7 +202,8 @@ differs_of (SplittingInnerRoot t a) = differs_crown t
 
 -- how far up the way from the leaf it splits, if it does
 unfoldable pub ascent_of : Running → Option Ascent
-ascent_of (Descending t) = None
+ascent_of (Seeking t) = None
+ascent_of (Finding t) = None
 ascent_of (Reading t) = None
 ascent_of (Inserting t) = None
 ascent_of (Updating t) = None
@@ -203,7 +217,8 @@ ascent_of (SplittingInnerRoot t a) = Some a
 
 -- it makes no change of a key, and never publishes
 unfoldable pub makes_no_change : Running → Bool
-makes_no_change (Descending t) = true
+makes_no_change (Seeking t) = true
+makes_no_change (Finding t) = true
 makes_no_change (Reading t) = true
 makes_no_change (Inserting t) = false
 makes_no_change (Updating t) = false
@@ -217,7 +232,8 @@ makes_no_change (SplittingInnerRoot t a) = true
 
 pub no-change-is-published : (t : Running) → makes_no_change t ≡ true → publishing_of t ≡ false
 unfolding makes_no_change publishing_of
-no-change-is-published (Descending t) e = refl
+no-change-is-published (Seeking t) e = refl
+no-change-is-published (Finding t) e = refl
 no-change-is-published (Reading t) e = refl
 no-change-is-published (Inserting t) e = absurd (cc)
 no-change-is-published (Updating t) e = absurd (cc)

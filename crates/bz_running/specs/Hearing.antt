@@ -4,7 +4,7 @@ use Rattle.bz_ascent.specs.declared.ascent.Ascent.{Ascent}
 use Rattle.bz_call.specs.declared.replies.Spent.TheVariants.{Nodes, Swaps}
 use Rattle.bz_layout.specs.Slots.{FreeSlots}
 use Rattle.bz_task.specs.OwnActs.{AreTakenFrom, AreUnreached, gained}
-use Rattle.bz_task.specs.Outcomes.{IsPath, IsView}
+use Rattle.bz_task.specs.Outcomes.{IsPath, IsView, IsKeyView}
 use Rattle.bz_task.specs.Requests.{Tells}
 use Rattle.bz_task.specs.Scene.{Scene, Stage, Waiting, IsScene}
 use Rattle.bz_task.specs.declared.path.Path.{Path}
@@ -13,16 +13,19 @@ use Rattle.bz_task.specs.declared.todo.Outcome.TheVariants as outcome
 use Rattle.bz_task.specs.declared.todo.Seen.{Seen}
 use Rattle.bz_task.specs.declared.todo.Seen.TheVariants.{Swapped, NoSwap}
 use Rattle.bz_task.specs.declared.todo.Todo.{Todo}
+use Rattle.bz_task.specs.declared.view.KeyView.{KeyView}
 use Rattle.bz_task.specs.declared.view.LeafView.{LeafView}
 use Rattle.bz_running.specs.Duties.{config_of, asks_of, end_of, left_of, needs_of, wants_of, change_of, ascent_of, facts_of, means_of, differs_of, makes_no_change}
 use Rattle.bz_running.specs.declared.running.Running.{Running}
 
--- a path or a view with which the task ends is one of this key; and with a view this path, if there is one, still is one. A split on
--- the way up goes along a path of this key
+-- a path or a view with which the task ends is one of this key; and with a view, of the leaf or of the key alone, this path, if there
+-- is one, still is one. A split on the way up goes along a path of this key
 pub record IsLookup (key : List ℕ) (way : Option Path) (t : Running) : Type 0 where
   pub path : (path : Path) (s : Scene) → means_of t (outcome.Path path) s → IsPath key path s.past
   pub view : (view : LeafView) (s : Scene) → means_of t (outcome.View view) s → IsView key view s.past
+  pub found : (view : KeyView) (s : Scene) → means_of t (outcome.Key view) s → IsKeyView key view s.past
   pub leads : (path : Path) → way ≡ Some path → (view : LeafView) (s : Scene) → means_of t (outcome.View view) s → IsPath key path s.past
+  pub leads_found : (path : Path) → way ≡ Some path → (view : KeyView) (s : Scene) → means_of t (outcome.Key view) s → IsPath key path s.past
   pub ascent : (a : Ascent) → ascent_of t ≡ Some a → a.key ≡ key
 
 -- the task was told this at a moment, and asks for that

@@ -6,10 +6,10 @@ ghost use Rattle.bz_consol.specs.Facts.{LeadsTo};
 ghost use Rattle.bz_layout.specs.declared.thresholds.TheConstants.{CONSOLIDATION_SLOTS, SPLIT_ABOVE, SPLIT_SLOTS};
 ghost use Rattle.bz_page.specs.Pages.{IsLeafByItself};
 ghost use Rattle.bz_record.specs.Records.{words_for, LacksRoom};
-ghost use Rattle.bz_slotted.specs.Readers.{found_of, live_of};
+ghost use Rattle.bz_slotted.specs.Readers.{live_of};
 ghost use Rattle.bz_slotted.specs.ReadingLaws.{node_of};
 ghost use Rattle.bz_word.specs.Statuses.{status};
-ghost use Rattle.bz_task.specs.Outcomes.{IsPath, IsView};
+ghost use Rattle.bz_task.specs.Outcomes.{payload_of, IsPath, IsView, IsKeyView};
 ghost use Rattle.bz_task.specs.Requests.{Hears, IsKnown};
 ghost use Rattle.bz_task.specs.Scene.{Scene, Waiting, IsScene, HasFilled};
 ghost use Rattle.bz_task.specs.declared.todo.Todo.TheVariants.{Read};
@@ -21,7 +21,8 @@ use bz_ascent::Ascent;
 use bz_below::SplitBelow;
 use bz_consol::Consolidate;
 use bz_crown::SplitInnerRoot;
-use bz_descend::Descend;
+use bz_descend::Seek;
+use bz_find::Find;
 use bz_fork::SplitInner;
 use bz_freeze::Freeze;
 use bz_insert::Insert;
@@ -30,12 +31,13 @@ use bz_layout::{Config, ROOT_STATUS_AT, Slots};
 use bz_leaf::ReadLeaf;
 use bz_mutate::{Delete, Update};
 use bz_split::SplitRoot;
-use bz_task::{LeafView, Link, Outcome, Path, Seen, Task, Todo};
+use bz_task::{KeyView, LeafView, Link, Outcome, Path, Seen, Task, Todo};
 
 /// A task on the tree.
 #[derive(Drop)]
 pub enum Running {
-    Descending(Descend),
+    Seeking(Seek),
+    Finding(Find),
     Reading(ReadLeaf),
     Inserting(Insert),
     Updating(Update),
@@ -49,9 +51,9 @@ pub enum Running {
 }
 
 impl Running {
-    /// The way to the leaf of a key. It asks for the root status first.
+    /// The way to the leaf of a key, by halving. It asks for the root status first.
     #[tactic(auto, unfolding(crate::specs::Duties::config_of, crate::specs::Duties::asks_of, crate::specs::Duties::needs_of, crate::specs::Duties::wants_of, crate::specs::Duties::facts_of, crate::specs::Duties::means_of, crate::specs::Duties::ascent_of, crate::specs::Duties::makes_no_change))]
-    pub fn descend(config: &Config, key: Key) -> Running
+    pub fn seek(config: &Config, key: Key) -> Running
         ensures config { config_of result ≡ config.now }
         ensures asks { asks_of result ≡ Some (Read ROOT_STATUS_AT) }
         ensures needs { needs_of result ≡ 0 }
@@ -60,7 +62,23 @@ impl Running {
         ensures facts { (s : Scene) → HasFilled s → facts_of result Waiting s }
         ensures ends { (way : Option Path) → IsLookup key way result }
     {
-        Running::Descending(Descend::begun(config, key))
+        Running::Seeking(Seek::begun(config, key))
+    }
+
+    /// A look-up of a key in the last leaf of a path.
+    #[tactic(auto, unfolding(crate::specs::Duties::config_of, crate::specs::Duties::asks_of, crate::specs::Duties::needs_of, crate::specs::Duties::wants_of, crate::specs::Duties::facts_of, crate::specs::Duties::means_of, crate::specs::Duties::ascent_of, crate::specs::Duties::makes_no_change))]
+    pub fn find(config: &Config, path: Path, key: Key) -> Running
+        requires some { 1 ≤ path.depth }
+        requires few { path.depth ≤ 12 }
+        ensures config { config_of result ≡ config.now }
+        ensures asks { asks_of result ≡ None }
+        ensures needs { needs_of result ≡ 0 }
+        ensures wants { wants_of result ≡ 0 }
+        ensures silent { makes_no_change result ≡ true }
+        ensures facts { (s : Scene) → IsScene s → IsPath key path s.past → facts_of result Waiting s }
+        ensures ends { IsLookup key (Some path) result }
+    {
+        Running::Finding(Find::new(config, path, key))
     }
 
     /// A reading of the last leaf of a path.
@@ -79,22 +97,16 @@ impl Running {
         Running::Reading(ReadLeaf::new(config, path, key))
     }
 
-    /// The insert of a key that is absent from its viewed leaf.
+    /// The insert of a key that was not found in its leaf.
     #[tactic(auto, unfolding(crate::specs::Duties::config_of, crate::specs::Duties::asks_of, crate::specs::Duties::needs_of, crate::specs::Duties::wants_of, crate::specs::Duties::change_of, crate::specs::Duties::facts_of, crate::specs::Duties::means_of, crate::specs::Duties::ascent_of))]
-    pub fn insert(
-        config: &Config,
-        path: Path,
-        view: LeafView,
-        key: Key,
-        payload: Payload,
-    ) -> Running
-        requires absent { found_of (node_of view.image.0) key ≡ None }
+    pub fn insert(config: &Config, path: Path, view: KeyView, key: Key, payload: Payload) -> Running
+        requires absent { view.found ≡ None }
         ensures config { config_of result ≡ config.now }
         ensures asks { asks_of result ≡ None }
         ensures needs { needs_of result ≡ 0 }
         ensures wants { wants_of result ≡ 0 }
         ensures change { change_of result ≡ record { key = key; old = None; new = Some payload } }
-        ensures facts { (s : Scene) → s.past.config ≡ config.now → s.effected ≡ false → IsScene s → IsView key view s.past → facts_of result Waiting s }
+        ensures facts { (s : Scene) → s.past.config ≡ config.now → s.effected ≡ false → IsScene s → IsKeyView key view s.past → facts_of result Waiting s }
         ensures ends { (way : Option Path) → IsLookup key way result }
         // NeedsRoom comes exactly where the viewed leaf lacks room
         ensures needs_room { (s : Scene) → means_of result Outcome.NeedsRoom s → LacksRoom view.status (words_for key payload) }
@@ -102,22 +114,16 @@ impl Running {
         Running::Inserting(Insert::new(config, path, view, key, payload))
     }
 
-    /// The update of a key that its viewed leaf has.
+    /// The update of a key that was found in its leaf.
     #[tactic(auto, unfolding(crate::specs::Duties::config_of, crate::specs::Duties::asks_of, crate::specs::Duties::needs_of, crate::specs::Duties::wants_of, crate::specs::Duties::change_of, crate::specs::Duties::facts_of, crate::specs::Duties::means_of, crate::specs::Duties::ascent_of))]
-    pub fn update(
-        config: &Config,
-        path: Path,
-        view: LeafView,
-        key: Key,
-        payload: Payload,
-    ) -> Running
-        requires present { found_of (node_of view.image.0) key ≢ None }
+    pub fn update(config: &Config, path: Path, view: KeyView, key: Key, payload: Payload) -> Running
+        requires present { view.found ≢ None }
         ensures config { config_of result ≡ config.now }
         ensures asks { asks_of result ≡ None }
         ensures needs { needs_of result ≡ 0 }
         ensures wants { wants_of result ≡ 0 }
-        ensures change { change_of result ≡ record { key = key; old = found_of (node_of view.image.0) key; new = Some payload } }
-        ensures facts { (s : Scene) → s.past.config ≡ config.now → s.effected ≡ false → IsScene s → IsView key view s.past → facts_of result Waiting s }
+        ensures change { change_of result ≡ record { key = key; old = payload_of view.found; new = Some payload } }
+        ensures facts { (s : Scene) → s.past.config ≡ config.now → s.effected ≡ false → IsScene s → IsKeyView key view s.past → facts_of result Waiting s }
         ensures ends { (way : Option Path) → IsLookup key way result }
         // NeedsRoom comes exactly where the viewed leaf lacks room
         ensures needs_room { (s : Scene) → means_of result Outcome.NeedsRoom s → LacksRoom view.status (words_for key payload) }
@@ -125,16 +131,16 @@ impl Running {
         Running::Updating(Update::new(config, path, view, key, payload))
     }
 
-    /// The delete of a key that its viewed leaf has.
+    /// The delete of a key that was found in its leaf.
     #[tactic(auto, unfolding(crate::specs::Duties::config_of, crate::specs::Duties::asks_of, crate::specs::Duties::needs_of, crate::specs::Duties::wants_of, crate::specs::Duties::change_of, crate::specs::Duties::facts_of, crate::specs::Duties::means_of, crate::specs::Duties::ascent_of))]
-    pub fn delete(config: &Config, path: Path, view: LeafView, key: Key) -> Running
-        requires present { found_of (node_of view.image.0) key ≢ None }
+    pub fn delete(config: &Config, path: Path, view: KeyView, key: Key) -> Running
+        requires present { view.found ≢ None }
         ensures config { config_of result ≡ config.now }
         ensures asks { asks_of result ≡ None }
         ensures needs { needs_of result ≡ 0 }
         ensures wants { wants_of result ≡ 0 }
-        ensures change { change_of result ≡ record { key = key; old = found_of (node_of view.image.0) key; new = None } }
-        ensures facts { (s : Scene) → s.past.config ≡ config.now → s.effected ≡ false → IsScene s → IsView key view s.past → facts_of result Waiting s }
+        ensures change { change_of result ≡ record { key = key; old = payload_of view.found; new = None } }
+        ensures facts { (s : Scene) → s.past.config ≡ config.now → s.effected ≡ false → IsScene s → IsKeyView key view s.past → facts_of result Waiting s }
         ensures ends { (way : Option Path) → IsLookup key way result }
         // NeedsRoom comes exactly where the viewed leaf is frozen
         ensures needs_room { (s : Scene) → means_of result Outcome.NeedsRoom s → (status view.status).frozen ≡ true }
@@ -235,7 +241,8 @@ impl Running {
         ensures heard { HasHeard self.old seen moment slots.old result self.new slots.new }
     {
         match self {
-            Running::Descending(task) => task.next(seen, slots, moment),
+            Running::Seeking(task) => task.next(seen, slots, moment),
+            Running::Finding(task) => task.next(seen, slots, moment),
             Running::Reading(task) => task.next(seen, slots, moment),
             Running::Inserting(task) => task.next(seen, slots, moment),
             Running::Updating(task) => task.next(seen, slots, moment),
@@ -284,7 +291,8 @@ impl Task for Running {
     #[tactic(auto, unfolding(crate::specs::Duties::publishing_of))]
     fn publishes(&self) -> bool {
         match self {
-            Running::Descending(task) => task.publishes(),
+            Running::Seeking(task) => task.publishes(),
+            Running::Finding(task) => task.publishes(),
             Running::Reading(task) => task.publishes(),
             Running::Inserting(task) => task.publishes(),
             Running::Updating(task) => task.publishes(),
@@ -301,7 +309,8 @@ impl Task for Running {
     #[tactic(auto, unfolding(crate::specs::Duties::asks_of, crate::specs::Duties::end_of))]
     fn ended(&self) -> Option<Outcome> {
         match self {
-            Running::Descending(task) => task.ended(),
+            Running::Seeking(task) => task.ended(),
+            Running::Finding(task) => task.ended(),
             Running::Reading(task) => task.ended(),
             Running::Inserting(task) => task.ended(),
             Running::Updating(task) => task.ended(),
@@ -318,7 +327,8 @@ impl Task for Running {
     #[tactic(auto, unfolding(crate::specs::Duties::config_of, crate::specs::Duties::asks_of, crate::specs::Duties::end_of, crate::specs::Duties::left_of, crate::specs::Duties::needs_of, crate::specs::Duties::wants_of, crate::specs::Duties::change_of, crate::specs::Duties::facts_of, crate::specs::Duties::means_of, crate::specs::Duties::differs_of))]
     fn next(&mut self, seen: Seen, slots: &mut Slots, moment: u32) -> Todo {
         match self {
-            Running::Descending(task) => task.next(seen, slots, moment),
+            Running::Seeking(task) => task.next(seen, slots, moment),
+            Running::Finding(task) => task.next(seen, slots, moment),
             Running::Reading(task) => task.next(seen, slots, moment),
             Running::Inserting(task) => task.next(seen, slots, moment),
             Running::Updating(task) => task.next(seen, slots, moment),
@@ -336,7 +346,8 @@ impl Task for Running {
     fn learnt(&self) {
         bz_ascent::laws::ascents_stay();
         match self {
-            Running::Descending(task) => task.learnt(),
+            Running::Seeking(task) => task.learnt(),
+            Running::Finding(task) => task.learnt(),
             Running::Reading(task) => task.learnt(),
             Running::Inserting(task) => task.learnt(),
             Running::Updating(task) => task.learnt(),
@@ -354,7 +365,8 @@ impl Task for Running {
     fn acted(&self) {
         bz_ascent::laws::ascents_stay();
         match self {
-            Running::Descending(task) => task.acted(),
+            Running::Seeking(task) => task.acted(),
+            Running::Finding(task) => task.acted(),
             Running::Reading(task) => task.acted(),
             Running::Inserting(task) => task.acted(),
             Running::Updating(task) => task.acted(),

@@ -32,6 +32,8 @@ returns c = record {
     path = λ path s means. absurd (c.new-task.ensures.no_path path s means);
     view = λ view s means. absurd (c.new-task.ensures.no_view view s means);
     leads = λ path is view s means. absurd (c.new-task.ensures.no_view view s means);
+    found = λ view s means. absurd means;
+    leads_found = λ path is view s means. absurd means;
     ascent = λ a is. ap (λ (z : Ascent). z.key) (sym (same-ascent c.args.ascent a is));
   };
 }
