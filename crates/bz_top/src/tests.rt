@@ -409,7 +409,7 @@ fn many_gets(alloc: Global, gets: u32) -> Result<(String, String), Fail> {
 #[test]
 fn more_marks_than_fit_meet_the_limit(rt: HostRuntime) -> Result<(), Fail> {
     let alloc = rt.alloc();
-    let (input, output) = many_gets(alloc, 40_000)?;
+    let (input, output) = many_gets(alloc, 50_000)?;
     let mut source = MemSource::of(alloc, input.as_bytes())?;
     let mut sink = MemSink::open(alloc, 2_000_000)?;
     let got = status(&rt, alloc, &["run"], &mut source, &mut sink);

@@ -1,5 +1,5 @@
--- A call whose leaf was read is answered as of the view's moment.
-use Rattle.std.proofs.Common.{◌≡◌, ℕ, zero, suc, ◌<◌, ◌≤◌, ◌&&◌, if◌then◌else◌, true, List, ◌∷◌, length, arith, refl, sym, ap, subst, ◌∙◌, Option, Some, None}
+-- A call whose leaf was read, or whose key was looked up there, is answered as of the view's moment.
+use Rattle.std.proofs.Common.{◌≡◌, ℕ, zero, suc, ◌<◌, ◌≤◌, ◌&&◌, if◌then◌else◌, ◌==◌, true, false, List, ◌∷◌, length, arith, refl, sym, ap, subst, ◌∙◌, Option, Some, None}
 use Rattle.std.proofs.lemmas.Bool.{true≢false}
 use Rattle.std.proofs.lemmas.Bool.Decides.{nat_tests}
 use Rattle.bz_call.specs.Map.{key_of}
@@ -7,13 +7,14 @@ use Rattle.bz_call.specs.Pages.{is_from, is_page}
 use Rattle.bz_call.specs.declared.calls.Call.{Call}
 use Rattle.bz_call.specs.declared.calls.Call.TheVariants as call
 use Rattle.bz_call.specs.declared.replies.Reply.TheVariants.{Exists, Missing, Value}
-use Rattle.bz_content.specs.Content.{content_in, leaf_end_in}
+use Rattle.bz_content.specs.Content.{content_in, leaf_end_in, view_in}
 use Rattle.bz_mark.specs.Moments.{at_moment, mark_at}
 use Rattle.bz_mark.specs.MomentLaws.{at_moment-next}
 use Rattle.bz_mark.specs.declared.marks.Mark.{Mark}
 use Rattle.bz_mark.specs.declared.marks.Mark.TheVariants.{Begin, End, Load, Store, Cas, Flush, Evict, Cut, On, Ready, Effect}
 use Rattle.bz_page.specs.Pages.{IsPageOf}
 use Rattle.bz_shape.specs.Order as order
+use Rattle.bz_slotted.specs.Readers.{found_of}
 use Rattle.bz_sound.specs.Memory.ImageLaws.{ReadsAt, ImageAnswersBy}
 use Rattle.bz_sound.specs.Memory.Moments.{image_at, IsAfterLoad}
 use Rattle.bz_sound.specs.Memory.Replies.{is_below}
@@ -21,11 +22,14 @@ use Rattle.bz_sound.specs.declared.power.Power.TheVariants as power
 use Rattle.bz_sound.specs.Power.Spent.{IsSpent}
 use Rattle.bz_story.specs.Story.{is_load_of, loaded}
 use Rattle.bz_task.specs.Good.{IsGood}
-use Rattle.bz_task.specs.Outcomes.{IsView}
+use Rattle.bz_task.specs.Instant.{durable}
+use Rattle.bz_task.specs.Outcomes.{payload_of, IsView, IsKeyView}
 use Rattle.bz_task.specs.Scene.{Past}
+use Rattle.bz_task.specs.declared.view.Found.{Found}
+use Rattle.bz_task.specs.declared.view.KeyView.{KeyView}
 use Rattle.bz_task.specs.declared.view.LeafView.{LeafView}
 use Rattle.bz_world.specs.Inside.Acted.{IsBetween}
-use Rattle.bz_world.specs.Inside.Going.{MustGoOn, MustAnswer, MustEnd, MustEndPage, known}
+use Rattle.bz_world.specs.Inside.Going.{MustGoOn, MustAnswer, MustAnswerKey, MustEnd, MustEndPage, known}
 use Rattle.bz_world.specs.Inside.Laws.{AnswerLaws}
 use Rattle.bz_world.specs.declared.parts.Parts.{Parts}
 use Rattle.bz_world.specs.declared.serving.Serving.{Serving}
@@ -99,68 +103,89 @@ unfolding order.is_before
 same-below None key = refl
 same-below (Some next) key = refl
 
-module _ (b : AnswerLaws) (p : Parts) (w : ℕ) (view : LeafView) (m : MustAnswer p w view) (called : Call) (is : m.on.serving.call ≡ called) where
-  abbrev was : IsBetween p w m.on.serving
-  was = m.on.between
+-- a moment directly after a load of the worker's own, since its call began, which had no effect
+pub record IsLooking (p : Parts) (w at : ℕ) (on : MustGoOn p w) : Type 0 where
+  pub since : (known p w on).past.since ≤ at
+  pub now : at ≤ (known p w on).past.now
+  pub loads : (known p w on).past.loads at ≡ true
+  pub quiet : on.serving.effect ≡ None
+
+-- that of a view of a leaf, and of a key
+abbrev pub looking-leaf : (p : Parts) (w : ℕ) (view : LeafView) (m : MustAnswer p w view) → IsLooking p w view.at m.on
+looking-leaf p w view m = record { since = m.viewed.since; now = m.viewed.now; loads = m.viewed.loads; quiet = m.quiet }
+
+abbrev pub looking-key : (p : Parts) (w : ℕ) (view : KeyView) (m : MustAnswerKey p w view) → IsLooking p w view.at m.on
+looking-key p w view m = record { since = m.viewed.since; now = m.viewed.now; loads = m.viewed.loads; quiet = m.quiet }
+
+module _ (b : AnswerLaws) (p : Parts) (w at : ℕ) (on : MustGoOn p w) (l : IsLooking p w at on) (called : Call) (is : on.serving.call ≡ called) where
+  abbrev was : IsBetween p w on.serving
+  was = on.between
 
   abbrev pub past : Past
-  past = (known p w m.on).past
+  past = (known p w on).past
 
   pub opened-is : was.opened.call ≡ called
   opened-is = was.call_open.call ∙ is
 
-  pub views : IsView (key_of called) view past
-  views = subst (λ k. IsView (key_of k) view past) is m.viewed
+  -- the moment is of this life of the memory
+  since : was.story.from ≤ at
+  since = omega (arith, l.since, was.living.begins w was.opened was.call_open.is_open)
 
-  -- the view is of this life of the memory
-  since : was.story.from ≤ view.at
-  since = omega (arith, m.viewed.since, was.living.begins w was.opened was.call_open.is_open)
+  pub good : IsGood p.config (past.at at)
+  good = was.living.history.good at since l.now
 
-  pub good : IsGood p.config (past.at view.at)
-  good = was.living.history.good view.at since m.viewed.now
+  pub image-is : (past.at at).image ≡ image_at p.journal.start at p.journal.past
+  image-is = was.living.images at since l.now
 
-  pub image-is : (past.at view.at).image ≡ image_at p.journal.start view.at p.journal.past
-  image-is = was.living.images view.at since m.viewed.now
-
-  pub reads : ReadsAt p.journal.past w was.opened view.at
+  pub reads : ReadsAt p.journal.past w was.opened at
   reads = record {
     is_open = was.call_open.is_open;
-    quiet = was.call_open.effect ∙ m.quiet;
-    after_begin = omega (arith, m.viewed.since);
-    before_end = m.viewed.now;
-    loaded = after-load w view.at p.journal.past m.viewed.now m.viewed.loads;
+    quiet = was.call_open.effect ∙ l.quiet;
+    after_begin = omega (arith, l.since);
+    before_end = l.now;
+    loaded = after-load w at p.journal.past l.now l.loads;
   }
 
-  answers : ImageAnswersBy (IsSpent p.config p.journal.start p.journal.past w was.opened) p.config p.journal w was.opened view.at
-  answers = b.answers p.config p.at_start p.journal w view.at was.opened was.sound reads
+  answers : ImageAnswersBy (IsSpent p.config p.journal.start p.journal.past w was.opened) p.config p.journal w was.opened at
+  answers = b.answers p.config p.at_start p.journal w at was.opened was.sound reads
 
-  pub value-right : (key had : List ℕ) (pairs : List (List ℕ × List ℕ)) → called ≡ call.Get key → content_in p.config (past.at view.at).image key ≡ Some had → MustEnd (record p { page = pairs }) w (Value had) view.at
-  value-right key had pairs e has = record { on = on-pages p w pairs m.on; right = answers.value key had (opened-is ∙ e) (ap (λ i. content_in p.config i key) (sym image-is) ∙ has) }
+  pub value-right : (key had : List ℕ) → called ≡ call.Get key → content_in p.config (past.at at).image key ≡ Some had → MustEnd p w (Value had) at
+  value-right key had e has = record { on = on; right = answers.value key had (opened-is ∙ e) (ap (λ i. content_in p.config i key) (sym image-is) ∙ has) }
 
-  pub missing-right : (key : List ℕ) (pairs : List (List ℕ × List ℕ)) → called ≡ call.Get key → content_in p.config (past.at view.at).image key ≡ None → MustEnd (record p { page = pairs }) w Missing view.at
-  missing-right key pairs e has = record { on = on-pages p w pairs m.on; right = answers.no_value key (opened-is ∙ e) (ap (λ i. content_in p.config i key) (sym image-is) ∙ has) }
+  pub missing-right : (key : List ℕ) → called ≡ call.Get key → content_in p.config (past.at at).image key ≡ None → MustEnd p w Missing at
+  missing-right key e has = record { on = on; right = answers.no_value key (opened-is ∙ e) (ap (λ i. content_in p.config i key) (sym image-is) ∙ has) }
 
-  pub exists-right : (key payload had : List ℕ) (pairs : List (List ℕ × List ℕ)) → called ≡ call.Insert key payload → content_in p.config (past.at view.at).image key ≡ Some had → MustEnd (record p { page = pairs }) w Exists view.at
-  exists-right key payload had pairs e has = record { on = on-pages p w pairs m.on; right = answers.exists key payload had (opened-is ∙ e) (ap (λ i. content_in p.config i key) (sym image-is) ∙ has) }
+  pub exists-right : (key payload had : List ℕ) → called ≡ call.Insert key payload → content_in p.config (past.at at).image key ≡ Some had → MustEnd p w Exists at
+  exists-right key payload had e has = record { on = on; right = answers.exists key payload had (opened-is ∙ e) (ap (λ i. content_in p.config i key) (sym image-is) ∙ has) }
 
-  pub no-delete-right : (key : List ℕ) (pairs : List (List ℕ × List ℕ)) → called ≡ call.Delete key → content_in p.config (past.at view.at).image key ≡ None → MustEnd (record p { page = pairs }) w Missing view.at
-  no-delete-right key pairs e has = record { on = on-pages p w pairs m.on; right = answers.no_delete key (opened-is ∙ e) (ap (λ i. content_in p.config i key) (sym image-is) ∙ has) }
+  pub no-delete-right : (key : List ℕ) → called ≡ call.Delete key → content_in p.config (past.at at).image key ≡ None → MustEnd p w Missing at
+  no-delete-right key e has = record { on = on; right = answers.no_delete key (opened-is ∙ e) (ap (λ i. content_in p.config i key) (sym image-is) ∙ has) }
 
-  pub no-update-right : (key payload : List ℕ) (pairs : List (List ℕ × List ℕ)) → called ≡ call.Update key payload → content_in p.config (past.at view.at).image key ≡ None → MustEnd (record p { page = pairs }) w Missing view.at
-  no-update-right key payload pairs e has = record { on = on-pages p w pairs m.on; right = answers.no_update key payload (opened-is ∙ e) (ap (λ i. content_in p.config i key) (sym image-is) ∙ has) }
+  pub no-update-right : (key payload : List ℕ) → called ≡ call.Update key payload → content_in p.config (past.at at).image key ≡ None → MustEnd p w Missing at
+  no-update-right key payload e has = record { on = on; right = answers.no_update key payload (opened-is ∙ e) (ap (λ i. content_in p.config i key) (sym image-is) ∙ has) }
 
-  pub page-right : (from : List ℕ) (next : Option (List ℕ)) (pairs : List (List ℕ × List ℕ)) → called ≡ call.Page from → IsPageOf p.config (past.at view.at).image from pairs next → MustEndPage (record p { page = pairs }) w next view.at
+  pub page-right : (from : List ℕ) (next : Option (List ℕ)) (pairs : List (List ℕ × List ℕ)) → called ≡ call.Page from → IsPageOf p.config (past.at at).image from pairs next → MustEndPage (record p { page = pairs }) w next at
   page-right from next pairs e page = record {
-    on = on-pages p w pairs m.on;
+    on = on-pages p w pairs on;
     asks = ap is_page (is ∙ e);
-    right = b.pages p.config p.at_start p.journal w view.at was.opened from next pairs was.sound reads (opened-is ∙ e) (record {
+    right = b.pages p.config p.at_start p.journal w at was.opened from next pairs was.sound reads (opened-is ∙ e) (record {
       leaf_end = page.next ∙ ap (λ i. leaf_end_in p.config i from) image-is;
       rises = page.rises;
-      finds = λ key. page.finds key ∙ (ap (λ z. if is_from from key && z then content_in p.config (past.at view.at).image key else None) (same-below next key)
+      finds = λ key. page.finds key ∙ (ap (λ z. if is_from from key && z then content_in p.config (past.at at).image key else None) (same-below next key)
           ∙ ap (λ i. if is_from from key && is_below next key then content_in p.config i key else None) image-is);
     });
   }
 
-  -- the view answers after the page was put together as before
-  abbrev pub still-answers : (pairs : List (List ℕ × List ℕ)) → MustAnswer (record p { page = pairs }) w view
-  still-answers pairs = record { on = on-pages p w pairs m.on; viewed = m.viewed; leads = m.leads; quiet = m.quiet }
+-- the leaf that was read is the one of the call's key
+pub views : (p : Parts) (w : ℕ) (view : LeafView) (m : MustAnswer p w view) (called : Call) → m.on.serving.call ≡ called → IsView (key_of called) view (known p w m.on).past
+views p w view m called is = subst (λ k. IsView (key_of k) view (known p w m.on).past) is m.viewed
+
+-- what was found of a key is what the image has
+key-content : (key : List ℕ) (view : KeyView) (p : Past) → IsKeyView key view p → content_in p.config (p.at view.at).image key ≡ payload_of view.found
+key-content key view p v =
+    let below : (view.slot == p.config.nodes) ≡ false = grind (arith, nat_tests, v.slot) in
+    let here : content_in p.config (p.at view.at).image key ≡ (if view.slot == p.config.nodes then None else found_of (durable p.config (p.at view.at) view.slot) key) = ap (λ k. (view_in p.config (p.at view.at).image).found k key) v.leaf in
+    rw below at here ∙ v.says
+
+pub content-is : (p : Parts) (w : ℕ) (view : KeyView) (m : MustAnswerKey p w view) (called : Call) → m.on.serving.call ≡ called → (found : Option Found) → view.found ≡ found → content_in p.config ((known p w m.on).past.at view.at).image (key_of called) ≡ payload_of found
+content-is p w view m called is found e = key-content (key_of called) view (known p w m.on).past (subst (λ k. IsKeyView (key_of k) view (known p w m.on).past) is m.viewed) ∙ ap payload_of e

@@ -1,5 +1,5 @@
--- A call that makes its change, in the leaf that was read.
-use Rattle.std.proofs.Common.{◌≡◌, ℕ, ◌<◌, ◌≤◌, nat_lt, true, false, List, arith, refl, sym, ap, subst, ◌∙◌, inl, inr, Option, Some, None}
+-- A call that makes its change, in the leaf that was looked into, or has it made anew.
+use Rattle.std.proofs.Common.{◌≡◌, ◌≢◌, ℕ, ◌<◌, ◌≤◌, nat_lt, true, false, List, arith, refl, sym, ap, subst, ◌∙◌, inl, inr, Option, Some, None}
 use Rattle.std.specs.Prelude.{is_some}
 use Rattle.std.proofs.lemmas.Bool.Decides.{nat_tests}
 use Rattle.bz_call.specs.Map.{key_of}
@@ -22,16 +22,18 @@ use Rattle.bz_sound.specs.Memory.Spent.{leaf_page, slots_for, NeedsSlots}
 use Rattle.bz_story.specs.Laws.{ScenesAreSeen}
 use Rattle.bz_task.specs.Good.{IsGood}
 use Rattle.bz_task.specs.Instant.{durable}
-use Rattle.bz_task.specs.Outcomes.{IsView}
+use Rattle.bz_task.specs.Outcomes.{payload_of, IsView, IsKeyView}
 use Rattle.bz_task.specs.Scene.{Scene, IsScene, Waiting}
 use Rattle.bz_task.specs.Swaps.{Change}
 use Rattle.bz_task.specs.declared.path.Path.{Path}
+use Rattle.bz_task.specs.declared.view.Found.{Found}
+use Rattle.bz_task.specs.declared.view.KeyView.{KeyView}
 use Rattle.bz_task.specs.declared.view.LeafView.{LeafView}
 use Rattle.bz_word.specs.Statuses.{status}
-use Rattle.bz_world.specs.Inside.Going.{MustGoOn, MustTakeOn, MustAnswer, MustChange, MayInsert, MayUpdate, known}
+use Rattle.bz_world.specs.Inside.Going.{MustGoOn, MustTakeOn, MustAnswer, MustAnswerKey, MustReadWhole, MustChange, MayInsert, MayUpdate, known}
 use Rattle.bz_world.specs.Inside.Laws.{AnswerLaws}
 use Rattle.bz_world.specs.Inside.Serving.{IsChangeFor, IsToldBy}
-use Rattle.bz_world.specs.Inside.Telling.{KnowsLeaf}
+use Rattle.bz_world.specs.Inside.Telling.{KnowsWay}
 use Rattle.bz_world.specs.declared.parts.Parts.{Parts}
 use Rattle.bz_world.proofs.TakingOn.{known-scene, none-wanted}
 
@@ -116,24 +118,29 @@ module _ (scenes : ScenesAreSeen) (b : AnswerLaws) (p : Parts) (w : ℕ) (view :
   pub needs-split : (status view.status).frozen ≡ true → SPLIT_ABOVE < live_of (node_of view.image.0) → NeedsSlots p.config p.journal.start p.journal.past m.on.between.opened SPLIT_SLOTS
   needs-split frozen many = needs-anew SPLIT_SLOTS (split-slots (live_of (node_of view.image.0)) many) frozen
 
-  -- a task that makes the call's change may be begun
-  pub must-change : (task : Running) (had : Option (List ℕ)) → config_of task ≡ p.config → AreLaws task → IsChangeFor m.on.serving.call had (change_of task) → ((way : Option Path) → IsLookup key way task) → asks_of task ≡ None → wants_of task ≡ 0
-      → ((s : Scene) → s.past.config ≡ p.config → s.effected ≡ false → IsScene s → IsView key view s.past → facts_of task Waiting s) → MustChange p w view had task
-  must-change task had config laws change lookup asks wants facts = record {
-    answer = m;
-    tasked = record { config = config; laws = laws; lookup = subst (λ k. IsLookup k m.on.serving.path task) (sym key-is) (lookup m.on.serving.path); change = inr change };
-    asks = asks;
-    facts = facts (known p w m.on) refl (quiet-by m.on.between.opened.effect (m.on.between.call_open.effect ∙ m.quiet)) good-scene of-key;
-    wants = wants;
-  }
+-- a task that makes the call's change may be begun, where its key was looked up
+pub must-change : ScenesAreSeen → (p : Parts) (w : ℕ) (view : KeyView) (m : MustAnswerKey p w view) (key : List ℕ) → key_of m.on.serving.call ≡ key → (task : Running) (had : Option (List ℕ)) → config_of task ≡ p.config → AreLaws task → IsChangeFor m.on.serving.call had (change_of task)
+    → ((way : Option Path) → IsLookup key way task) → asks_of task ≡ None → wants_of task ≡ 0 → ((s : Scene) → s.past.config ≡ p.config → s.effected ≡ false → IsScene s → IsKeyView key view s.past → facts_of task Waiting s) → MustChange p w had task
+must-change scenes p w view m key key-is task had config laws change lookup asks wants facts = record {
+  reads = record { on = m.on; leads = m.leads; quiet = m.quiet };
+  tasked = record { config = config; laws = laws; lookup = subst (λ k. IsLookup k m.on.serving.path task) (sym key-is) (lookup m.on.serving.path); change = inr change };
+  asks = asks;
+  facts = facts (known p w m.on) refl (quiet-by m.on.between.opened.effect (m.on.between.call_open.effect ∙ m.quiet)) (known-scene scenes p w m.on) (subst (λ k. IsKeyView k view (known p w m.on).past) key-is m.viewed);
+  wants = wants;
+}
 
 -- the call has told nothing yet
 pub tells-nothing : (p : Parts) (w : ℕ) (on : MustGoOn p w) (had : Option (List ℕ)) → on.serving.effect ≡ None → IsToldBy p.config p.journal on.between.opened had
 tells-nothing p w on had quiet at e = absurd (cc (e, on.between.call_open.effect, quiet))
 
--- the task that it takes on, and what is known of its leaf
-abbrev pub takes : (p : Parts) (w : ℕ) (view : LeafView) (had : Option (List ℕ)) (task : Running) (m : MustChange p w view had task) → MustTakeOn p w task m.answer.on.serving.path had None
-takes p w view had task m = record { on = m.answer.on; tasked = m.tasked; asks = m.asks; facts = m.facts; wanted = none-wanted p w m.answer.on task m.wants }
+-- the task that it takes on, and what is known of the way to its leaf
+abbrev pub takes : (p : Parts) (w : ℕ) (had : Option (List ℕ)) (task : Running) (m : MustChange p w had task) → MustTakeOn p w task m.reads.on.serving.path had None
+takes p w had task m = record { on = m.reads.on; tasked = m.tasked; asks = m.asks; facts = m.facts; wanted = none-wanted p w m.reads.on task m.wants }
 
-abbrev pub knows : (p : Parts) (w : ℕ) (view : LeafView) (m : MustAnswer p w view) → KnowsLeaf p w m.on.serving m.on.between view
-knows p w view m = record { viewed = m.viewed; leads = m.leads; quiet = m.quiet }
+abbrev pub knows : (p : Parts) (w : ℕ) (m : MustReadWhole p w) → KnowsWay p w m.on.serving m.on.between
+knows p w m = record { leads = m.leads; quiet = m.quiet }
+
+-- where something was said of a key, it was found
+pub some-found : (o : Option Found) (had : List ℕ) → payload_of o ≡ Some had → o ≢ None
+some-found None had e none = absurd (cc)
+some-found (Some found) had e none = absurd (cc)

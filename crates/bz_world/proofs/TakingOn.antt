@@ -22,12 +22,11 @@ use Rattle.bz_task.specs.declared.todo.Outcome.{Outcome}
 use Rattle.bz_task.specs.declared.todo.Outcome.TheVariants.{Full}
 use Rattle.bz_task.specs.declared.todo.Seen.TheVariants.{Start, NoSwap}
 use Rattle.bz_task.specs.declared.todo.Todo.{Todo}
-use Rattle.bz_task.specs.declared.view.LeafView.{LeafView}
 use Rattle.bz_world.specs.Inside.Acted.{IsBetween, MustTell}
-use Rattle.bz_world.specs.Inside.Going.{MustGoOn, MustTakeOn, MustAnswer, LacksSwap, known, call_in, end_in, WentOn}
+use Rattle.bz_world.specs.Inside.Going.{MustGoOn, MustTakeOn, MustReadWhole, LacksSwap, known, call_in, end_in, WentOn}
 use Rattle.bz_world.specs.Lab.{GoesOn}
 use Rattle.bz_world.specs.Inside.Serving.{IsOpened, IsSlot, IsToldBy, IsWanted}
-use Rattle.bz_world.specs.Inside.Telling.{MustStart, HasTold, HasToldIn, LacksDescriptor, KnowsLeaf, MustTellOf, MustStartOf}
+use Rattle.bz_world.specs.Inside.Telling.{MustStart, HasTold, HasToldIn, LacksDescriptor, KnowsWay, MustTellOf, MustStartOf}
 use Rattle.bz_world.specs.declared.answers.Applied.{Applied}
 use Rattle.bz_world.specs.declared.parts.Parts.{Parts}
 use Rattle.bz_world.specs.declared.serving.Serving.{Serving}
@@ -192,17 +191,17 @@ module _ (p : Parts) (w : ℕ) (task : Running) (had : Option (List ℕ)) (asked
     };
   }
 
-  -- and what was read of its leaf is known as before
-  pub begins-knowing : (e : asked ≡ None) (view : LeafView) → KnowsLeaf p w m.on.serving m.on.between view → path ≡ m.on.serving.path → MustTellOf taken w Start view
+  -- and the way to its leaf is known as before
+  pub begins-knowing : (e : asked ≡ None) → KnowsWay p w m.on.serving m.on.between → path ≡ m.on.serving.path → MustTellOf taken w Start
   unfolding taken-begins between between-tasks
-  begins-knowing e view k same = record {
+  begins-knowing e k same = record {
     must = taken-begins e;
-    knows = record { viewed = k.viewed; leads = λ way is. k.leads way (sym same ∙ is); quiet = k.quiet };
+    knows = record { leads = λ way is. k.leads way (sym same ∙ is); quiet = k.quiet };
   }
 
--- what was read of a call's leaf lets its call go on
-abbrev pub must-answer : (p : Parts) (w : ℕ) (todo : Todo) (view : LeafView) (m : MustStartOf p w todo view) (outcome : Outcome) → end_of m.must.serving.task ≡ Some outcome → MustAnswer p w view
-must-answer p w todo view m outcome ended = record { on = must-go-on p w todo m.must outcome ended; viewed = m.knows.viewed; leads = m.knows.leads; quiet = m.knows.quiet }
+-- where its task has ended the leaf may be read whole
+abbrev pub must-read-whole : (p : Parts) (w : ℕ) (todo : Todo) (m : MustStartOf p w todo) (outcome : Outcome) → end_of m.must.serving.task ≡ Some outcome → MustReadWhole p w
+must-read-whole p w todo m outcome ended = record { on = must-go-on p w todo m.must outcome ended; leads = m.knows.leads; quiet = m.knows.quiet }
 
 -- a call that went on from parts with other slots and tasks
 pub went-told : (old mid : Parts) (w : ℕ) (answer : Applied) (new : Parts) → mid.journal ≡ old.journal → mid.config ≡ old.config → mid.at_start ≡ old.at_start → mid.left_out ≡ old.left_out → mid.access ≡ old.access → WentOn mid w answer new → WentOn old w answer new

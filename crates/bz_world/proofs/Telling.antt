@@ -17,16 +17,15 @@ use Rattle.bz_story.specs.Laws.{ScenesAreSeen, SlotsAreTaken, takes_slots}
 use Rattle.bz_story.specs.Living.{IsLiving}
 use Rattle.bz_story.specs.Story.{Story, scene}
 use Rattle.bz_task.specs.OwnActs.{AreUnreached, gained, is_gained}
-use Rattle.bz_task.specs.Outcomes.{IsPath, IsView}
+use Rattle.bz_task.specs.Outcomes.{IsPath}
 use Rattle.bz_task.specs.Scene.{Scene, Waiting}
 use Rattle.bz_task.specs.declared.todo.Outcome.TheVariants as outcome
 use Rattle.bz_task.specs.declared.todo.Seen.{Seen}
 use Rattle.bz_task.specs.declared.todo.Todo.{Todo}
-use Rattle.bz_task.specs.declared.view.LeafView.{LeafView}
 use Rattle.bz_world.specs.Inside.Acted.{IsTold, IsAsking, MustTell}
 use Rattle.bz_world.specs.Inside.Going.{end_in, wants_in}
 use Rattle.bz_world.specs.Inside.Serving.{IsCovered, IsOpened, IsTasked, IsSlot, IsChangeFor}
-use Rattle.bz_world.specs.Inside.Telling.{CanHear, HasTold, HasToldIn, MustStart, KnowsLeaf, MustStartOf}
+use Rattle.bz_world.specs.Inside.Telling.{CanHear, HasTold, HasToldIn, MustStart, KnowsWay, MustStartOf}
 use Rattle.bz_world.specs.declared.parts.Parts.{Parts}
 use Rattle.bz_world.specs.declared.serving.Serving.{Serving}
 use Rattle.bz_sound.specs.Power.Times.{image_at_on}
@@ -98,8 +97,10 @@ module _ (scenes : ScenesAreSeen) (slots : SlotsAreTaken) (p : Parts) (w : ℕ) 
       lookup = record {
         path = λ path s means. told.tasked.lookup.path path s (h.heard.meant (outcome.Path path) s means);
         view = λ view s means. told.tasked.lookup.view view s (h.heard.meant (outcome.View view) s means);
+        found = λ view s means. told.tasked.lookup.found view s (h.heard.meant (outcome.Key view) s means);
         leads = λ path is view s means. told.tasked.lookup.leads path is view s (h.heard.meant (outcome.View view) s means);
         ascent = λ a is. told.tasked.lookup.ascent a (sym h.heard.ascent ∙ is);
+        leads_found = λ path is view s means. told.tasked.lookup.leads_found path is view s (h.heard.meant (outcome.Key view) s means);
       };
       change = elim told.tasked.change [
         | inl look ↦ inl (h.heard.silent ∙ look)
@@ -175,15 +176,14 @@ module _ (scenes : ScenesAreSeen) (slots : SlotsAreTaken) (p : Parts) (w : ℕ) 
     asking = is-asking todo left n.next n.told (with_item p.workers w slot) (length-set p.workers.items w slot) (λ v ne. get_or-set_other p.workers.items w v slot None ne);
   }
 
-  -- what was read of its leaf is known as before
-  pub still-knows : (view : LeafView) → KnowsLeaf p w x told.between view → (todo : Todo) (left : FreeSlots) (old slot : Option Serving) → old ≡ Some x → HasToldIn old seen (length p.journal.past) p.slots todo slot left → MustStartOf (record p { slots = left; workers = with_item p.workers w slot }) w todo view
+  -- the way to its leaf is known as before
+  pub still-knows : KnowsWay p w x told.between → (todo : Todo) (left : FreeSlots) (old slot : Option Serving) → old ≡ Some x → HasToldIn old seen (length p.journal.past) p.slots todo slot left → MustStartOf (record p { slots = left; workers = with_item p.workers w slot }) w todo
   unfolding must-start is-asking
-  still-knows view k todo left old slot e h =
+  still-knows k todo left old slot e h =
       let n = next-of x seen (length p.journal.past) p.slots todo slot left (subst (λ z. HasToldIn z seen (length p.journal.past) p.slots todo slot left) e h) in
       record {
         must = must-start todo left old slot e h;
         knows = record {
-          viewed = subst (λ (z : Serving). IsView (key_of z.call) view here.past) (sym n.told.rest) k.viewed;
           leads = λ path is. subst (λ (z : Serving). IsPath (key_of z.call) path here.past) (sym n.told.rest) (k.leads path (sym (ap (λ (z : Serving). z.path) n.told.rest) ∙ is));
           quiet = ap (λ (z : Serving). z.effect) n.told.rest ∙ k.quiet;
         };

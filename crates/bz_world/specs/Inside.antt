@@ -8,3 +8,4 @@ pub mod Opening
 pub mod Going
 pub mod Beginning
 pub mod Powering
+pub mod Room

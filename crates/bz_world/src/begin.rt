@@ -70,7 +70,7 @@ fn open_call(parts: &mut Parts, w: u8, call: Call) -> u32
     end_laws();
     start_laws();
     let n = parts.numbers[w as usize] + 1;
-    let task = Running::descend(&parts.config, key_of(&call));
+    let task = Running::seek(&parts.config, key_of(&call));
     task.laws();
     parts.numbers[w as usize] = n;
     parts.begun += 1;

@@ -26,7 +26,7 @@ pub(crate) fn look_up(parts: &mut Parts, w: u8) -> Applied
 {
     start_laws();
     let call = called(&parts.workers[w as usize]);
-    let task = Running::descend(&parts.config, key_of(&call));
+    let task = Running::seek(&parts.config, key_of(&call));
     task.laws();
     set_task(&mut parts.workers[w as usize], task, None);
     start(parts, w, Todo::Read(ROOT_STATUS_AT));

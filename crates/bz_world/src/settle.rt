@@ -3,49 +3,35 @@ ghost use Rattle.std.specs.Prelude.{◌≡◌, ◌<◌, None, Some, length, get_
 ghost use Rattle.bz_call.specs.declared.calls.Call.TheVariants as called;
 ghost use Rattle.bz_task.specs.declared.todo.Outcome.TheVariants.{Full, NeedsRoom};
 ghost use Rattle.bz_task.specs.declared.todo.Todo.TheVariants.{Finish};
-ghost use Rattle.bz_world.specs.Inside.Going.{MustRead, MustAnswer, HasEnded, IsFullRightly, WentOn, call_in};
+ghost use Rattle.bz_world.specs.Inside.Going.{MustAnswer, MustAnswerKey, HasEnded, IsFullRightly, WentOn, call_in};
 ghost use Rattle.bz_world.specs.Inside.Telling.{MustStart};
 
 use crate::answers::Applied;
-use crate::calls::{above, called, effect_in, key_of, set_task};
+use crate::calls::{above, called, effect_in};
 use crate::changes::{answer_delete, answer_insert, answer_update, answer_upsert};
 use crate::end::{end, end_page};
-use crate::going::{end_effective, end_full, go_on, look_up, outcome_of};
+use crate::going::{end_effective, end_full, look_up, outcome_of};
 use crate::laws::{answer_laws, start_laws};
+use crate::lookups::look_into;
 use crate::parts::Parts;
-use crate::restructuring::split_above;
-use crate::tell::tell;
+use crate::restructuring::{restructure, split_above};
+use crate::room::lacks_room;
 use bz_call::{Call, Reply, Spent};
 use bz_key::Key;
-use bz_page::{collect, find};
-use bz_running::Running;
-use bz_task::{LeafView, Outcome, Path, Seen};
-
-// Reads the leaf to which a path leads.
-fn read_leaf(parts: &mut Parts, w: u8, path: Path) -> Applied
-    requires path { MustRead parts.old w path }
-    requires room { length parts.old.journal.past < parts.old.config.marks }
-    ensures { WentOn parts.old w result parts.new }
-{
-    start_laws();
-    let call = called(&parts.workers[w as usize]);
-    let task = Running::read_leaf(&parts.config, path, key_of(&call));
-    task.laws();
-    set_task(&mut parts.workers[w as usize], task, Some(path));
-    let todo = tell(parts, w, Seen::Start);
-    go_on(parts, w, todo)
-}
+use bz_page::collect;
+use bz_task::{KeyView, LeafView, Outcome};
 
 // Answers a get by what its leaf has.
-fn answer_get(parts: &mut Parts, w: u8, view: &LeafView, key: &Key) -> Applied
-    requires view { MustAnswer parts.old w view.now }
+fn answer_get(parts: &mut Parts, w: u8, view: &KeyView, key: &Key) -> Applied
+    requires view { MustAnswerKey parts.old w view.now }
     requires call { call_in (get_or parts.old.workers.items w None) ≡ Some (called.Get key.now) }
     requires room { length parts.old.journal.past < parts.old.config.marks }
     ensures { WentOn parts.old w result parts.new }
 {
     answer_laws();
-    let reply = match find(view, key, &mut parts.page) {
-        Some(payload) => Reply::Value(payload),
+    let _key = key;
+    let reply = match view.found {
+        Some(found) => Reply::Value(found.payload),
         None => Reply::Missing,
     };
     end(parts, w, reply, view.at)
@@ -63,19 +49,38 @@ fn answer_page(parts: &mut Parts, w: u8, view: &LeafView, from: &Key) -> Applied
     end_page(parts, w, next, view.at)
 }
 
-// Answers a call by its leaf, or gives it the task that makes its change.
-fn answer(parts: &mut Parts, w: u8, view: &LeafView) -> Applied
-    requires view { MustAnswer parts.old w view.now }
+// Answers a call by what its leaf has of its key, or gives it the task that makes its change.
+fn answer(parts: &mut Parts, w: u8, view: &KeyView) -> Applied
+    requires view { MustAnswerKey parts.old w view.now }
     requires room { length parts.old.journal.past < parts.old.config.marks }
     ensures { WentOn parts.old w result parts.new }
 {
     match called(&parts.workers[w as usize]) {
         Call::Get(key) => answer_get(parts, w, view, &key),
-        Call::Page(from) => answer_page(parts, w, view, &from),
         Call::Insert(key, payload) => answer_insert(parts, w, view, key, payload),
         Call::Delete(key) => answer_delete(parts, w, view, key),
         Call::Update(key, payload) => answer_update(parts, w, view, key, payload),
         Call::Upsert(key, payload) => answer_upsert(parts, w, view, key, payload),
+        // a page reads its leaf whole
+        Call::Page(_) => look_up(parts, w),
+    }
+}
+
+// Answers a page by its whole leaf. Any other call has read it whole because it has no room there: it is made anew, if so still.
+fn answer_whole(parts: &mut Parts, w: u8, view: &LeafView) -> Applied
+    requires view { MustAnswer parts.old w view.now }
+    requires room { length parts.old.journal.past < parts.old.config.marks }
+    ensures { WentOn parts.old w result parts.new }
+{
+    match called(&parts.workers[w as usize]) {
+        Call::Page(from) => answer_page(parts, w, view, &from),
+        call => {
+            if lacks_room(&call, view) {
+                restructure(parts, w, view)
+            } else {
+                look_up(parts, w)
+            }
+        }
     }
 }
 
@@ -115,8 +120,9 @@ fn settle_quiet(parts: &mut Parts, w: u8, outcome: Outcome) -> Applied
     ensures { WentOn parts.old w result parts.new }
 {
     match outcome {
-        Outcome::Path(path) => read_leaf(parts, w, path),
-        Outcome::View(view) => answer(parts, w, &view),
+        Outcome::Path(path) => look_into(parts, w, path),
+        Outcome::Key(view) => answer(parts, w, &view),
+        Outcome::View(view) => answer_whole(parts, w, &view),
         Outcome::Full(spent) => settle_full(parts, w, spent),
         Outcome::NeedsRoom => settle_crowded(parts, w),
         _ => look_up(parts, w),

@@ -8,7 +8,7 @@ use crate::parts::Parts;
 use crate::serving::Serving;
 use bz_layout::Slots;
 use bz_story::laws as story;
-use bz_task::{LeafView, Seen, Todo};
+use bz_task::{Seen, Todo};
 
 // Tells the task of a call, if one is served.
 fn hear_task(slot: &mut Option<Serving>, seen: Seen, slots: &mut Slots, moment: u32) -> Todo
@@ -32,8 +32,8 @@ pub(crate) fn tell(parts: &mut Parts, w: u8, seen: Seen) -> Todo
     ensures told { HasToldIn (get_or parts.old.workers.items w None) seen (length parts.old.journal.past) parts.old.slots result (get_or parts.new.workers.items w None) parts.new.slots }
     // it has ended for want of slots only where fewer are left than it takes
     ensures full { IsFullRightly parts.new w }
-    // what was read of the leaf of its call is known as before
-    ensures knows { (view : LeafView) → MustTellOf parts.old w seen view → MustStartOf parts.new w result view }
+    // the way to the leaf of its call is known as before
+    ensures knows { MustTellOf parts.old w seen → MustStartOf parts.new w result }
     ensures rest { parts.new ≡ record parts.old { slots = parts.new.slots; workers = parts.new.workers } }
 {
     story::scenes_are_seen();

@@ -21,12 +21,13 @@ use Rattle.bz_sound.specs.Power.Replies.{IsRightReply}
 use Rattle.bz_sound.specs.Power.Spent.{IsSpent}
 use Rattle.bz_story.specs.Story.{scene}
 use Rattle.bz_swap.specs.SwapMemory.{worker_of}
-use Rattle.bz_task.specs.Outcomes.{IsPath, IsView}
+use Rattle.bz_task.specs.Outcomes.{IsPath, IsView, IsKeyView}
 use Rattle.bz_task.specs.Scene.{Scene, Waiting}
 use Rattle.bz_task.specs.declared.path.Path.{Path}
 use Rattle.bz_task.specs.declared.todo.Outcome.{Outcome}
 use Rattle.bz_task.specs.declared.todo.Outcome.TheVariants as outcomes
 use Rattle.bz_task.specs.declared.todo.Todo.{Todo}
+use Rattle.bz_task.specs.declared.view.KeyView.{KeyView}
 use Rattle.bz_task.specs.declared.view.LeafView.{LeafView}
 use Rattle.bz_word.specs.Statuses.{status}
 use Rattle.bz_world.specs.Inside.Acted.{IsBetween}
@@ -126,6 +127,8 @@ pub record HasEnded (p : Parts) (w : ℕ) (outcome : Outcome) : Type 0 where
   pub quiet : on.serving.effect ≡ None
   pub path : (path : Path) → outcome ≡ outcomes.Path path → IsPath (key_of on.serving.call) path (known p w on).past
   pub view : (view : LeafView) → outcome ≡ outcomes.View view → IsView (key_of on.serving.call) view (known p w on).past
+  pub found : (view : KeyView) → outcome ≡ outcomes.Key view → IsKeyView (key_of on.serving.call) view (known p w on).past
+  pub leads_found : (view : KeyView) → outcome ≡ outcomes.Key view → (path : Path) → on.serving.path ≡ Some path → IsPath (key_of on.serving.call) path (known p w on).past
   pub leads : (view : LeafView) → outcome ≡ outcomes.View view → (path : Path) → on.serving.path ≡ Some path → IsPath (key_of on.serving.call) path (known p w on).past
   pub full : outcome ≡ outcomes.Full Nodes → length p.slots.free < wants_of on.serving.task
 
@@ -136,12 +139,25 @@ pub record MustAnswer (p : Parts) (w : ℕ) (view : LeafView) : Type 0 where
   pub leads : (path : Path) → on.serving.path ≡ Some path → IsPath (key_of on.serving.call) path (known p w on).past
   pub quiet : on.serving.effect ≡ None
 
+-- or its key was looked up there
+pub record MustAnswerKey (p : Parts) (w : ℕ) (view : KeyView) : Type 0 where
+  pub on : MustGoOn p w
+  pub viewed : IsKeyView (key_of on.serving.call) view (known p w on).past
+  pub leads : (path : Path) → on.serving.path ≡ Some path → IsPath (key_of on.serving.call) path (known p w on).past
+  pub quiet : on.serving.effect ≡ None
+
+-- the way to its leaf, if it was found, is known, and it had no effect
+pub record MustReadWhole (p : Parts) (w : ℕ) : Type 0 where
+  pub on : MustGoOn p w
+  pub leads : (path : Path) → on.serving.path ≡ Some path → IsPath (key_of on.serving.call) path (known p w on).past
+  pub quiet : on.serving.effect ≡ None
+
 -- a task that makes its change, which is yet to begin
-pub record MustChange (p : Parts) (w : ℕ) (view : LeafView) (had : Option (List ℕ)) (task : Running) : Type 0 where
-  pub answer : MustAnswer p w view
-  pub tasked : IsTasked p.config answer.on.serving.call answer.on.serving.path had task
+pub record MustChange (p : Parts) (w : ℕ) (had : Option (List ℕ)) (task : Running) : Type 0 where
+  pub reads : MustReadWhole p w
+  pub tasked : IsTasked p.config reads.on.serving.call reads.on.serving.path had task
   pub asks : asks_of task ≡ None
-  pub facts : facts_of task Waiting (known p w answer.on)
+  pub facts : facts_of task Waiting (known p w reads.on)
   pub wants : wants_of task ≡ 0
 
 -- its leaf, which was found by this path, is to be made anew
@@ -185,17 +201,17 @@ MayInsert called key payload = (called ≡ call.Insert key payload) ⊎ (called 
 abbrev pub MayUpdate : Call → List ℕ → List ℕ → Type 0
 MayUpdate called key payload = (called ≡ call.Update key payload) ⊎ (called ≡ call.Upsert key payload)
 
-pub record MustInsert (p : Parts) (w : ℕ) (view : LeafView) (key payload : List ℕ) : Type 0 where
-  pub answer : MustAnswer p w view
+pub record MustInsert (p : Parts) (w : ℕ) (view : KeyView) (key payload : List ℕ) : Type 0 where
+  pub answer : MustAnswerKey p w view
   pub may : MayInsert answer.on.serving.call key payload
 
-pub record MustUpdate (p : Parts) (w : ℕ) (view : LeafView) (key payload : List ℕ) : Type 0 where
-  pub answer : MustAnswer p w view
+pub record MustUpdate (p : Parts) (w : ℕ) (view : KeyView) (key payload : List ℕ) : Type 0 where
+  pub answer : MustAnswerKey p w view
   pub may : MayUpdate answer.on.serving.call key payload
 
 -- or takes it out
-pub record MustDelete (p : Parts) (w : ℕ) (view : LeafView) (key : List ℕ) : Type 0 where
-  pub answer : MustAnswer p w view
+pub record MustDelete (p : Parts) (w : ℕ) (view : KeyView) (key : List ℕ) : Type 0 where
+  pub answer : MustAnswerKey p w view
   pub may : answer.on.serving.call ≡ call.Delete key
 
 -- it had its effect at this moment

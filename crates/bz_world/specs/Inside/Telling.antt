@@ -6,13 +6,12 @@ use Rattle.bz_running.specs.Duties.{config_of, asks_of, needs_of, facts_of}
 use Rattle.bz_running.specs.Hearing.{HasHeard}
 use Rattle.bz_running.specs.Laws.{AreLaws}
 use Rattle.bz_story.specs.Story.{scene}
-use Rattle.bz_task.specs.Outcomes.{IsPath, IsView}
+use Rattle.bz_task.specs.Outcomes.{IsPath}
 use Rattle.bz_task.specs.Requests.{Hears, IsKnown}
 use Rattle.bz_task.specs.declared.path.Path.{Path}
 use Rattle.bz_task.specs.declared.todo.Seen.{Seen}
 use Rattle.bz_task.specs.declared.todo.Todo.{Todo}
 use Rattle.bz_task.specs.declared.todo.Todo.TheVariants.{Swap}
-use Rattle.bz_task.specs.declared.view.LeafView.{LeafView}
 use Rattle.bz_word.specs.declared.entry.Entry.{Entry}
 use Rattle.bz_world.specs.Inside.Acted.{IsBetween, IsAsking, MustTell}
 use Rattle.bz_world.specs.declared.parts.Parts.{Parts}
@@ -45,18 +44,17 @@ pub record LacksDescriptor (p : Parts) (todo : Todo) : Type 0 where
   pub is : todo ≡ Swap entries
   pub spent : p.access.taken ≡ p.config.swaps
 
--- what was read of the leaf of a call without effect, by the path that was found, is known of the memory since the call began
-pub record KnowsLeaf (p : Parts) (w : ℕ) (x : Serving) (between : IsBetween p w x) (view : LeafView) : Type 0 where
-  pub viewed : IsView (key_of x.call) view (scene p.config p.journal.past between.story w between.opened).past
+-- the way to the leaf of a call without effect, if it was found, is one of the memory since the call began
+pub record KnowsWay (p : Parts) (w : ℕ) (x : Serving) (between : IsBetween p w x) : Type 0 where
   pub leads : (path : Path) → x.path ≡ Some path → IsPath (key_of x.call) path (scene p.config p.journal.past between.story w between.opened).past
   pub quiet : x.effect ≡ None
 
--- a task that is to be told this after that
-pub record MustTellOf (p : Parts) (w : ℕ) (seen : Seen) (view : LeafView) : Type 0 where
+-- a task that is to be told this, with such a way
+pub record MustTellOf (p : Parts) (w : ℕ) (seen : Seen) : Type 0 where
   pub must : MustTell p w seen
-  pub knows : KnowsLeaf p w must.serving must.told.between view
+  pub knows : KnowsWay p w must.serving must.told.between
 
 -- and one that asks for this then
-pub record MustStartOf (p : Parts) (w : ℕ) (todo : Todo) (view : LeafView) : Type 0 where
+pub record MustStartOf (p : Parts) (w : ℕ) (todo : Todo) : Type 0 where
   pub must : MustStart p w todo
-  pub knows : KnowsLeaf p w must.serving must.asking.between view
+  pub knows : KnowsWay p w must.serving must.asking.between

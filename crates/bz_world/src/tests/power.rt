@@ -98,7 +98,7 @@ fn cut_at_will(rt: &impl Abort, alloc: Global, kind: u32, evicts: bool) -> u32 {
 fn a_call_that_is_cut_is_whole_or_nothing(rt: HostRuntime) {
     for kind in 0..3 {
         let acts = cut_at_will(&rt, rt.alloc(), kind, false);
-        assert!(rt; acts >= 40 && acts < 200, "{acts}");
+        assert!(rt; acts >= 30 && acts < 200, "{acts}");
         assert_eq!(rt; cut_at_will(&rt, rt.alloc(), kind, true), acts);
     }
 }

@@ -14,7 +14,7 @@ returns c =
     subst (λ m. HasBegun c.args.parts.now c.args.w c.args.call (c.index.result.now + 1) (record c.args.parts.now {
       access = c.start_read.new.self;
       journal = c.push.new.self;
-      workers = with_item c.args.parts.now.workers c.args.w (Some record { call = c.args.call; task = c.descend-task.result; path = None; had = None; effect = None });
+      workers = with_item c.args.parts.now.workers c.args.w (Some record { call = c.args.call; task = c.seek-task.result; path = None; had = None; effect = None });
       numbers = with_item c.args.parts.now.numbers c.args.w (c.index.result.now + 1);
       begun = c.args.parts.now.begun + 1;
       pages_begun = c.args.parts.now.pages_begun + m;
@@ -22,12 +22,12 @@ returns c =
     (subst (λ (j : Log). HasBegun c.args.parts.now c.args.w c.args.call (c.index.result.now + 1) (record c.args.parts.now {
       access = c.start_read.new.self;
       journal = j;
-      workers = with_item c.args.parts.now.workers c.args.w (Some record { call = c.args.call; task = c.descend-task.result; path = None; had = None; effect = None });
+      workers = with_item c.args.parts.now.workers c.args.w (Some record { call = c.args.call; task = c.seek-task.result; path = None; had = None; effect = None });
       numbers = with_item c.args.parts.now.numbers c.args.w (c.index.result.now + 1);
       begun = c.args.parts.now.begun + 1;
       pages_begun = c.args.parts.now.pages_begun + pages_asked c.args.call;
     })) (sym c.push.ensures)
     (has-begun c.args.parts.now c.requires.kept c.args.w c.args.call c.requires.may c.end_laws.ensures c.start_laws.ensures (c.index.result.now + 1)
     (ap (λ m. m + 1) (number-is c.args.parts.now c.requires.kept c.args.w c.args.call c.requires.may c.index.result.now c.index.ensures))
-    c.descend-task.result c.descend-task.ensures.config c.laws.ensures c.descend-task.ensures.silent (subst (λ k. IsLookup k None c.descend-task.result) c.key_of.ensures (c.descend-task.ensures.ends None))
-    c.descend-task.ensures.asks c.descend-task.ensures.facts c.descend-task.ensures.wants c.start_read.new.self c.start_read.ensures.started c.start_read.ensures.held))
+    c.seek-task.result c.seek-task.ensures.config c.laws.ensures c.seek-task.ensures.silent (subst (λ k. IsLookup k None c.seek-task.result) c.key_of.ensures (c.seek-task.ensures.ends None))
+    c.seek-task.ensures.asks c.seek-task.ensures.facts c.seek-task.ensures.wants c.start_read.new.self c.start_read.ensures.started c.start_read.ensures.held))

@@ -7,19 +7,19 @@ use Rattle.bz_world.proofs.TakingOn.{taken-begins, begins-knowing, slot-is, went
 use Rattle.bz_world.proofs.changes.begin_change.Goals as goal
 
 pub tell-todo-requires : goal.tell-todo-requires
-tell-todo-requires c = taken-begins c.args.parts.now c.args.w c.args.task c.args.had None c.requires.change.answer.on.serving.path (takes c.args.parts.now c.args.w c.args.view.now c.args.had c.args.task c.requires.change) c.set_change.new.slot slot
-    (tells-nothing c.args.parts.now c.args.w c.requires.change.answer.on c.args.had c.requires.change.answer.quiet) refl
+tell-todo-requires c = taken-begins c.args.parts.now c.args.w c.args.task c.args.had None c.requires.change.reads.on.serving.path (takes c.args.parts.now c.args.w c.args.had c.args.task c.requires.change) c.set_change.new.slot slot
+    (tells-nothing c.args.parts.now c.args.w c.requires.change.reads.on c.args.had c.requires.change.reads.quiet) refl
   where
-    slot : c.set_change.new.slot ≡ Some (record c.requires.change.answer.on.serving { task = c.args.task; had = c.args.had })
-    slot = c.set_change.ensures ∙ ap (λ (z : Option Serving). with_change z c.args.task c.args.had) (slot-is c.args.parts.now c.args.w c.requires.change.answer.on c.index_mut.result.now c.index_mut.ensures.value)
+    slot : c.set_change.new.slot ≡ Some (record c.requires.change.reads.on.serving { task = c.args.task; had = c.args.had })
+    slot = c.set_change.ensures ∙ ap (λ (z : Option Serving). with_change z c.args.task c.args.had) (slot-is c.args.parts.now c.args.w c.requires.change.reads.on c.index_mut.result.now c.index_mut.ensures.value)
 
 pub go_on_changing-requires-clause-asks : goal.go_on_changing-requires-clause-asks
-go_on_changing-requires-clause-asks c = c.tell-todo.ensures.knows c.args.view.now
-    (begins-knowing c.args.parts.now c.args.w c.args.task c.args.had None c.requires.change.answer.on.serving.path (takes c.args.parts.now c.args.w c.args.view.now c.args.had c.args.task c.requires.change) c.set_change.new.slot slot
-    (tells-nothing c.args.parts.now c.args.w c.requires.change.answer.on c.args.had c.requires.change.answer.quiet) refl c.args.view.now (knows c.args.parts.now c.args.w c.args.view.now c.requires.change.answer) refl)
+go_on_changing-requires-clause-asks c = c.tell-todo.ensures.knows
+    (begins-knowing c.args.parts.now c.args.w c.args.task c.args.had None c.requires.change.reads.on.serving.path (takes c.args.parts.now c.args.w c.args.had c.args.task c.requires.change) c.set_change.new.slot slot
+    (tells-nothing c.args.parts.now c.args.w c.requires.change.reads.on c.args.had c.requires.change.reads.quiet) refl (knows c.args.parts.now c.args.w c.requires.change.reads) refl)
   where
-    slot : c.set_change.new.slot ≡ Some (record c.requires.change.answer.on.serving { task = c.args.task; had = c.args.had })
-    slot = c.set_change.ensures ∙ ap (λ (z : Option Serving). with_change z c.args.task c.args.had) (slot-is c.args.parts.now c.args.w c.requires.change.answer.on c.index_mut.result.now c.index_mut.ensures.value)
+    slot : c.set_change.new.slot ≡ Some (record c.requires.change.reads.on.serving { task = c.args.task; had = c.args.had })
+    slot = c.set_change.ensures ∙ ap (λ (z : Option Serving). with_change z c.args.task c.args.had) (slot-is c.args.parts.now c.args.w c.requires.change.reads.on c.index_mut.result.now c.index_mut.ensures.value)
 
 pub go_on_changing-requires-clause-room : goal.go_on_changing-requires-clause-room
 go_on_changing-requires-clause-room c = subst (λ (z : Parts). length z.journal.past < z.config.marks) (sym c.tell-todo.ensures.rest) c.requires.room

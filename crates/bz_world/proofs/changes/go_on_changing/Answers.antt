@@ -1,13 +1,13 @@
 use Rattle.std.proofs.Common.{refl, sym, ap, ◌∙◌}
 use Rattle.bz_task.specs.declared.todo.Outcome.TheVariants.{NeedsRoom}
 use Rattle.bz_world.specs.Inside.Going.{end_in}
-use Rattle.bz_world.proofs.TakingOn.{serving-is, ended-by, must-answer}
+use Rattle.bz_world.proofs.TakingOn.{serving-is, ended-by, must-read-whole}
 use Rattle.bz_world.proofs.changes.go_on_changing.Goals as goal
 
-pub restructure-requires-clause-answer : goal.restructure-requires-clause-answer
-restructure-requires-clause-answer c =
+pub read_whole-requires-clause-way : goal.read_whole-requires-clause-way
+read_whole-requires-clause-way c =
     let slot = serving-is c.args.parts.now c.args.w c.args.todo c.requires.asks.must c.index.result.now c.index.ensures in
-    must-answer c.args.parts.now c.args.w c.args.todo c.args.view.now c.requires.asks NeedsRoom
+    must-read-whole c.args.parts.now c.args.w c.args.todo c.requires.asks NeedsRoom
     (ended-by c.args.parts.now c.args.w c.args.todo c.requires.asks.must NeedsRoom (ap end_in (c.requires.asks.must.is ∙ sym slot) ∙ c.if-needs_room.ensures refl))
 
 pub go_on-requires-clause-asks : goal.go_on-requires-clause-asks

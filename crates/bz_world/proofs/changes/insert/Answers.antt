@@ -4,6 +4,6 @@ use Rattle.bz_world.proofs.changes.insert.Goals as goal
 
 pub begin_change-requires-clause-change : goal.begin_change-requires-clause-change
 begin_change-requires-clause-change c =
-    must-change c.start_laws.ensures.scenes c.answer_laws.ensures c.args.parts.now c.args.w c.args.view.now c.requires.must.answer c.args.key (insert-key c.requires.must.answer.on.serving.call c.args.key c.args.payload c.requires.must.may)
+    must-change c.start_laws.ensures.scenes c.args.parts.now c.args.w c.args.view.now c.requires.must.answer c.args.key (insert-key c.requires.must.answer.on.serving.call c.args.key c.args.payload c.requires.must.may)
     c.insert-task.result None c.insert-task.ensures.config c.laws.ensures
     (insert-changes c.requires.must.answer.on.serving.call c.args.key c.args.payload _ c.requires.must.may c.insert-task.ensures.change) c.insert-task.ensures.ends c.insert-task.ensures.asks c.insert-task.ensures.wants c.insert-task.ensures.facts

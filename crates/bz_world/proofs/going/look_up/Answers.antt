@@ -7,10 +7,10 @@ use Rattle.bz_world.proofs.TakingOn.{taken-asks, lookup-taken, none-wanted, slot
 use Rattle.bz_world.proofs.going.look_up.Goals as goal
 
 pub start-requires-clause-asks : goal.start-requires-clause-asks
-start-requires-clause-asks c = taken-asks c.args.parts.now c.args.w c.descend-task.result c.requires.serving.had (Some (Read 2)) None
-    (lookup-taken c.args.parts.now c.args.w c.requires c.descend-task.result None (Some (Read 2)) c.key_of.result c.descend-task.ensures.config c.laws.ensures c.descend-task.ensures.silent (c.descend-task.ensures.ends None)
+start-requires-clause-asks c = taken-asks c.args.parts.now c.args.w c.seek-task.result c.requires.serving.had (Some (Read 2)) None
+    (lookup-taken c.args.parts.now c.args.w c.requires c.seek-task.result None (Some (Read 2)) c.key_of.result c.seek-task.ensures.config c.laws.ensures c.seek-task.ensures.silent (c.seek-task.ensures.ends None)
     (c.key_of.ensures ∙ ap key_of (sym (call-is c.args.parts.now c.args.w c.requires c.index.result.now c.called-call.result c.index.ensures c.called-call.ensures)))
-    c.descend-task.ensures.asks (c.descend-task.ensures.facts (known c.args.parts.now c.args.w c.requires) (has-filled c.args.parts.now c.args.w c.requires))
-    (none-wanted c.args.parts.now c.args.w c.requires c.descend-task.result c.descend-task.ensures.wants))
-    c.set_task.new.slot (c.set_task.ensures ∙ ap (λ (z : Option Serving). with_task z c.descend-task.result None) (slot-is c.args.parts.now c.args.w c.requires c.index_mut.result.now c.index_mut.ensures.value))
+    c.seek-task.ensures.asks (c.seek-task.ensures.facts (known c.args.parts.now c.args.w c.requires) (has-filled c.args.parts.now c.args.w c.requires))
+    (none-wanted c.args.parts.now c.args.w c.requires c.seek-task.result c.seek-task.ensures.wants))
+    c.set_task.new.slot (c.set_task.ensures ∙ ap (λ (z : Option Serving). with_task z c.seek-task.result None) (slot-is c.args.parts.now c.args.w c.requires c.index_mut.result.now c.index_mut.ensures.value))
     c.requires.between.call_open.told (Read 2) refl

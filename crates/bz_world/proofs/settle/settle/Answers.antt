@@ -1,7 +1,7 @@
 use Rattle.std.proofs.Common.{◌≡◌, ◌<◌, length, sym, ap, subst, ◌∙◌, Some}
 use Rattle.bz_running.specs.Duties.{end_of}
 use Rattle.bz_task.specs.Scene.{Scene}
-use Rattle.bz_task.specs.declared.todo.Outcome.TheVariants.{Path, View}
+use Rattle.bz_task.specs.declared.todo.Outcome.TheVariants.{Path, View, Key}
 use Rattle.bz_task.specs.declared.todo.Todo.TheVariants.{Finish}
 use Rattle.bz_world.specs.Inside.Going.{MustGoOn, effect_in, wants_in, known}
 use Rattle.bz_world.proofs.TakingOn.{slot-is, must-go-on, ended-by}
@@ -29,5 +29,7 @@ settle_quiet-requires-clause-ends c =
       path = λ path is. tasked.lookup.path path here (tasked.laws.ends here (Path path) facts (ended ∙ ap Some is)).0;
       view = λ view is. tasked.lookup.view view here (tasked.laws.ends here (View view) facts (ended ∙ ap Some is)).0;
       full = λ is. subst (λ z. length c.args.parts.now.slots.free < wants_in z) c.requires.ends.is (c.requires.full (c.outcome_of-outcome.ensures ∙ ap Some is));
+      found = λ view is. tasked.lookup.found view here (tasked.laws.ends here (Key view) facts (ended ∙ ap Some is)).0;
+      leads_found = λ view is path way. tasked.lookup.leads_found path way view here (tasked.laws.ends here (Key view) facts (ended ∙ ap Some is)).0;
       leads = λ view is path way. tasked.lookup.leads path way view here (tasked.laws.ends here (View view) facts (ended ∙ ap Some is)).0;
     }

@@ -2,11 +2,14 @@ use Rattle.std.proofs.Common.{subst}
 use Rattle.bz_world.specs.Inside.Going.{HasEnded}
 use Rattle.bz_world.proofs.settle.settle_quiet.Goals as goal
 
-pub read_leaf-requires-clause-path : goal.read_leaf-requires-clause-path
-read_leaf-requires-clause-path c = record { on = c.requires.ends.on; leads = c.requires.ends.path c.in-Path.path c.in-Path.is }
+pub look_into-requires-clause-path : goal.look_into-requires-clause-path
+look_into-requires-clause-path c = record { on = c.requires.ends.on; leads = c.requires.ends.path c.in-Path.path c.in-Path.is }
 
 pub answer-requires-clause-view : goal.answer-requires-clause-view
-answer-requires-clause-view c = record { on = c.requires.ends.on; viewed = c.requires.ends.view c.in-View.view c.in-View.is; leads = c.requires.ends.leads c.in-View.view c.in-View.is; quiet = c.requires.ends.quiet }
+answer-requires-clause-view c = record { on = c.requires.ends.on; viewed = c.requires.ends.found c.in-Key.view c.in-Key.is; leads = c.requires.ends.leads_found c.in-Key.view c.in-Key.is; quiet = c.requires.ends.quiet }
+
+pub answer_whole-requires-clause-view : goal.answer_whole-requires-clause-view
+answer_whole-requires-clause-view c = record { on = c.requires.ends.on; viewed = c.requires.ends.view c.in-View.view c.in-View.is; leads = c.requires.ends.leads c.in-View.view c.in-View.is; quiet = c.requires.ends.quiet }
 
 pub settle_full-requires-clause-ends : goal.settle_full-requires-clause-ends
 settle_full-requires-clause-ends c = subst (HasEnded c.args.parts.now c.args.w) c.in-Full.is c.requires.ends

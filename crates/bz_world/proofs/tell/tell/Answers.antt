@@ -44,7 +44,7 @@ returns-clause-full c ended = subst (λ z. length c.hear_task.new.slots.free < w
     was = get_or_read_under c.args.parts.now.workers.items c.args.w (length c.args.parts.now.workers.items) c.index_mut.result.now None c.index_mut.ensures.value in-table refl ∙ c.requires.is
 
 pub returns-clause-knows : goal.returns-clause-knows
-returns-clause-knows c view m = still-knows c.scenes_are_seen.ensures c.slots_are_taken.ensures c.args.parts.now c.args.w c.args.seen m.must view m.knows c.hear_task.result c.hear_task.new.slots c.index_mut.result.now c.hear_task.new.slot was
+returns-clause-knows c m = still-knows c.scenes_are_seen.ensures c.slots_are_taken.ensures c.args.parts.now c.args.w c.args.seen m.must m.knows c.hear_task.result c.hear_task.new.slots c.index_mut.result.now c.hear_task.new.slot was
     (subst (λ n. HasToldIn c.index_mut.result.now c.args.seen n c.args.parts.now.slots c.hear_task.result c.hear_task.new.slot c.hear_task.new.slots) c.length-moment.ensures c.hear_task.ensures)
   where
     was : c.index_mut.result.now ≡ Some m.must.serving

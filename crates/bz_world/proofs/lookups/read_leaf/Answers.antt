@@ -4,7 +4,7 @@ use Rattle.bz_task.specs.Outcomes.{IsPath}
 use Rattle.bz_world.specs.Inside.Going.{known, with_task}
 use Rattle.bz_world.specs.declared.serving.Serving.{Serving}
 use Rattle.bz_world.proofs.TakingOn.{taken-begins, lookup-taken, none-wanted, slot-is, call-is, known-scene}
-use Rattle.bz_world.proofs.settle.read_leaf.Goals as goal
+use Rattle.bz_world.proofs.lookups.read_leaf.Goals as goal
 
 pub tell-todo-requires : goal.tell-todo-requires
 tell-todo-requires c = taken-begins c.args.parts.now c.args.w c.read_leaf-task.result c.requires.path.on.serving.had None (Some c.args.path)

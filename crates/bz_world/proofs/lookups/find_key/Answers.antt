@@ -1,0 +1,19 @@
+use Rattle.std.proofs.Common.{◌≡◌, refl, sym, ap, subst, ◌∙◌, Option, Some, None}
+use Rattle.bz_call.specs.Map.{key_of}
+use Rattle.bz_task.specs.Outcomes.{IsPath}
+use Rattle.bz_world.specs.Inside.Going.{known, with_task}
+use Rattle.bz_world.specs.declared.serving.Serving.{Serving}
+use Rattle.bz_world.proofs.TakingOn.{taken-begins, lookup-taken, none-wanted, slot-is, call-is, known-scene}
+use Rattle.bz_world.proofs.lookups.find_key.Goals as goal
+
+pub tell-todo-requires : goal.tell-todo-requires
+tell-todo-requires c = taken-begins c.args.parts.now c.args.w c.find-task.result c.requires.path.on.serving.had None (Some c.args.path)
+    (lookup-taken c.args.parts.now c.args.w c.requires.path.on c.find-task.result (Some c.args.path) None c.key_of.result c.find-task.ensures.config c.laws.ensures c.find-task.ensures.silent c.find-task.ensures.ends
+    key c.find-task.ensures.asks (c.find-task.ensures.facts (known c.args.parts.now c.args.w c.requires.path.on) (known-scene c.start_laws.ensures.scenes c.args.parts.now c.args.w c.requires.path.on)
+    (subst (λ k. IsPath k c.args.path (known c.args.parts.now c.args.w c.requires.path.on).past) (sym key) c.requires.path.leads))
+    (none-wanted c.args.parts.now c.args.w c.requires.path.on c.find-task.result c.find-task.ensures.wants))
+    c.set_task.new.slot (c.set_task.ensures ∙ ap (λ (z : Option Serving). with_task z c.find-task.result (Some c.args.path)) (slot-is c.args.parts.now c.args.w c.requires.path.on c.index_mut.result.now c.index_mut.ensures.value))
+    c.requires.path.on.between.call_open.told refl
+  where
+    key : c.key_of.result ≡ key_of c.requires.path.on.serving.call
+    key = c.key_of.ensures ∙ ap key_of (sym (call-is c.args.parts.now c.args.w c.requires.path.on c.index.result.now c.called-call.result c.index.ensures c.called-call.ensures))

@@ -1,0 +1,59 @@
+//! Looking into the leaf to which a path leads.
+ghost use Rattle.std.specs.Prelude.{◌<◌, length};
+ghost use Rattle.bz_world.specs.Inside.Going.{MustRead, WentOn};
+
+use crate::answers::Applied;
+use crate::calls::{called, key_of, set_task};
+use crate::going::go_on;
+use crate::laws::start_laws;
+use crate::parts::Parts;
+use crate::tell::tell;
+use bz_call::Call;
+use bz_running::Running;
+use bz_task::{Path, Seen};
+
+/// Reads the leaf whole.
+pub(crate) fn read_leaf(parts: &mut Parts, w: u8, path: Path) -> Applied
+    requires path { MustRead parts.old w path }
+    requires room { length parts.old.journal.past < parts.old.config.marks }
+    ensures { WentOn parts.old w result parts.new }
+{
+    start_laws();
+    let call = called(&parts.workers[w as usize]);
+    let task = Running::read_leaf(&parts.config, path, key_of(&call));
+    task.laws();
+    set_task(&mut parts.workers[w as usize], task, Some(path));
+    let todo = tell(parts, w, Seen::Start);
+    go_on(parts, w, todo)
+}
+
+// Looks the call's key up there.
+fn find_key(parts: &mut Parts, w: u8, path: Path) -> Applied
+    requires path { MustRead parts.old w path }
+    requires room { length parts.old.journal.past < parts.old.config.marks }
+    ensures { WentOn parts.old w result parts.new }
+{
+    start_laws();
+    let call = called(&parts.workers[w as usize]);
+    let task = Running::find(&parts.config, path, key_of(&call));
+    task.laws();
+    set_task(&mut parts.workers[w as usize], task, Some(path));
+    let todo = tell(parts, w, Seen::Start);
+    go_on(parts, w, todo)
+}
+
+/// Looks there for what the call asks: at the whole leaf for a page, and at the call's key for any other.
+pub(crate) fn look_into(parts: &mut Parts, w: u8, path: Path) -> Applied
+    requires path { MustRead parts.old w path }
+    requires room { length parts.old.journal.past < parts.old.config.marks }
+    ensures { WentOn parts.old w result parts.new }
+{
+    match called(&parts.workers[w as usize]) {
+        Call::Page(_) => read_leaf(parts, w, path),
+        Call::Get(_)
+        | Call::Insert(_, _)
+        | Call::Delete(_)
+        | Call::Update(_, _)
+        | Call::Upsert(_, _) => find_key(parts, w, path),
+    }
+}

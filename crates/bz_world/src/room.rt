@@ -1,0 +1,37 @@
+//! Whether a leaf has room for the change of a call.
+ghost use Rattle.std.specs.Prelude.{◌≡◌, ◌<◌, ◌^◌, true};
+ghost use Rattle.bz_record.specs.Records.{words_for, LacksRoom};
+ghost use Rattle.bz_world.specs.Inside.Room.{LacksRoomFor};
+
+use bz_call::Call;
+use bz_key::{Key, Payload};
+use bz_record::NewRecord;
+use bz_task::LeafView;
+
+// Whether it has none for a record of this key and payload.
+fn lacks_words(view: &LeafView, key: Key, payload: Payload) -> bool
+    requires plain { view.now.status < 2 ^ 61 }
+    ensures { result ≡ true → LacksRoom view.now.status (words_for key payload) }
+{
+    let record = NewRecord {
+        slot: view.slot,
+        status: view.status,
+        key,
+        payload,
+    };
+    !record.has_room()
+}
+
+/// Whether a leaf that was viewed is frozen, or has no room for what a call puts there.
+pub(crate) fn lacks_room(call: &Call, view: &LeafView) -> bool
+    requires plain { view.now.status < 2 ^ 61 }
+    ensures { result ≡ true → LacksRoomFor call.now view.now.status }
+{
+    match call {
+        Call::Insert(key, payload) | Call::Update(key, payload) | Call::Upsert(key, payload) => {
+            lacks_words(view, *key, *payload)
+        }
+        Call::Delete(_) => view.is_frozen(),
+        Call::Get(_) | Call::Page(_) => false,
+    }
+}
