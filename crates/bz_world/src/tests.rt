@@ -7,6 +7,7 @@ mod calls;
 mod costs;
 mod cuts;
 mod decode;
+mod gets;
 mod inner;
 mod limits;
 mod map;

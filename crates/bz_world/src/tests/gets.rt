@@ -1,0 +1,56 @@
+//! What gets cost that run alone: as many acts as their look-ups read words.
+use super::below::numbered;
+use super::bench::{Answer, begin, open, payload, steps};
+use crate::World;
+use bz_call::Call;
+use std::alloc::Global;
+use std::process::Abort;
+
+// More acts than any of these calls makes.
+const MOST: u32 = 4_000;
+
+// How many acts a call makes that runs alone.
+fn acts(rt: &impl Abort, world: &mut World, call: Call) -> u32 {
+    assert!(rt; begin(world, 1, call));
+    let (made, answer) = steps(world, 1, MOST);
+    assert!(rt; answer.is_some() && answer != Some(Answer::FullNodes));
+    made
+}
+
+// How many acts gets make, of the keys with even numbers, which are there, and of those after them.
+fn of_gets(rt: &impl Abort, alloc: Global, count: u32, step: u32) -> (u32, u32) {
+    let mut world = open(alloc, 64, 640, 1).expect(rt, "a world");
+    assert!(rt; count > 0 && count <= 100);
+    for i in 0..count {
+        let number = (i.saturating_mul(step) % count).saturating_mul(2);
+        acts(
+            rt,
+            &mut world,
+            Call::Insert(numbered(rt, number), payload(rt, b"v")),
+        );
+    }
+    let (mut there, mut missing) = (0u32, 0u32);
+    for i in 0..count {
+        let number = i.saturating_mul(2);
+        there = there.saturating_add(acts(rt, &mut world, Call::Get(numbered(rt, number))));
+        let next = Call::Get(numbered(rt, number.saturating_add(1)));
+        missing = missing.saturating_add(acts(rt, &mut world, next));
+    }
+    (there, missing)
+}
+
+#[test]
+fn gets_cost_what_their_look_ups_read(rt: HostRuntime) {
+    for (count, step, sums) in [
+        (10, 1, (180, 260)),
+        (10, 7, (180, 260)),
+        (100, 1, (2_270, 2_326)),
+        (100, 37, (3_005, 3_319)),
+    ] {
+        assert_eq!(rt;
+            of_gets(&rt, rt.alloc(), count, step),
+            sums,
+            "{count} {step}"
+        );
+    }
+}
