@@ -18,4 +18,5 @@ mod reader;
 mod restart;
 mod spent;
 mod split;
+mod tall;
 mod worked;

@@ -1,0 +1,254 @@
+//! The tallest tree, made word by word: an insert into its full leaf, below inner nodes that are all full, is answered Full(Height).
+//!
+//! On the path of the least key the inner node of each level has a first child, which the path goes on to, and nineteen more.
+//! Below each of these hangs a chain of inner nodes with one child, down to an empty leaf. A node of the path comes right before
+//! its chains, and these before the next node of the path.
+
+ghost use Rattle.std.specs.Prelude.{◌≡◌, length};
+ghost use Rattle.bz_layout.specs.Addresses.{words_of};
+
+use super::bench::{Answer, begin, key, payload, steps};
+use crate::{Applied, Event, World};
+use bz_call::Call;
+use bz_layout::{Config, MAX_LEVELS, NODE_WORDS};
+use std::alloc::Global;
+use std::process::Abort;
+
+const CHAINS: u32 = 19;
+
+// A bound of keys: none, or the first key of this chain below the path's node of this level.
+type Bound = Option<(u32, u32)>;
+
+// Writes a word, if it lies in the memory.
+fn put(words: &mut Vec<u64>, at: u32, word: u64)
+    ensures { length words.new.items ≡ length words.old.items }
+{
+    if let Some(place) = words.get_mut(at as usize) {
+        *place = word;
+    }
+}
+
+// The four words of the key of a chain: a letter for the level, one for the chain, and then `x`.
+fn put_key(words: &mut Vec<u64>, at: u32, level: u32, chain: u32)
+    ensures { length words.new.items ≡ length words.old.items }
+{
+    let letters = u64::from(level.min(20)) << 48 | u64::from(chain.min(20)) << 40;
+    put(words, at, 0x61_61_78_78_78_78_78 + letters);
+    for i in 1..4 {
+        put(words, at.saturating_add(i), 0x78_78_78_78_78_78_78);
+    }
+}
+
+// The lengths of a bound.
+fn length_of(bound: Bound) -> u64 {
+    if bound.is_some() { 28 } else { 0 }
+}
+
+// The header and the fences of a node.
+fn put_front(words: &mut Vec<u64>, node: u32, level: u32, count: u32, low: Bound, high: Bound)
+    ensures { length words.new.items ≡ length words.old.items }
+{
+    let sorted = u64::from(count.min(99)) << 24;
+    let lengths = length_of(low) << 8 | length_of(high) << 16;
+    put(
+        words,
+        node.saturating_add(1),
+        u64::from(level.min(20)) | lengths | sorted,
+    );
+    if let Some((level, chain)) = low {
+        put_key(words, node.saturating_add(2), level, chain);
+    }
+    if let Some((level, chain)) = high {
+        put_key(words, node.saturating_add(6), level, chain);
+    }
+}
+
+// The metadata word of a visible record, the one with this number in its node.
+fn put_meta(words: &mut Vec<u64>, node: u32, number: u32, offset: u32, lengths: u64)
+    ensures { length words.new.items ≡ length words.old.items }
+{
+    let at = node.saturating_add(10).saturating_add(number);
+    put(
+        words,
+        at,
+        1 << 60 | u64::from(offset.min(127)) << 32 | lengths,
+    );
+}
+
+// The status of a node that no swap has changed.
+fn put_status(words: &mut Vec<u64>, node: u32, count: u32, block: u32)
+    ensures { length words.new.items ≡ length words.old.items }
+{
+    put(
+        words,
+        node,
+        u64::from(count.min(99)) << 52 | u64::from(block.min(118)) << 42,
+    );
+}
+
+// The first child, whose key is empty, in the last word of the node.
+fn put_first(words: &mut Vec<u64>, node: u32, child: u32)
+    ensures { length words.new.items ≡ length words.old.items }
+{
+    put_meta(words, node, 0, NODE_WORDS - 1, 7);
+    put(
+        words,
+        node.saturating_add(NODE_WORDS - 1),
+        u64::from(child) + 1,
+    );
+}
+
+// A child with a key, in five words before those of the children before.
+fn put_child(words: &mut Vec<u64>, node: u32, level: u32, chain: u32, child: u32)
+    ensures { length words.new.items ≡ length words.old.items }
+{
+    let offset = (NODE_WORDS - 1).saturating_sub(chain.saturating_mul(5));
+    put_meta(words, node, chain, offset, 28 << 16 | 35);
+    let at = node.saturating_add(offset);
+    put_key(words, at, level, chain);
+    put(words, at.saturating_add(4), u64::from(child) + 1);
+}
+
+// Where a slot begins.
+fn node_at(config: &Config, slot: u32) -> u32 {
+    let first = config.swaps.saturating_add(1).saturating_mul(16);
+    first.saturating_add(slot.saturating_mul(NODE_WORDS))
+}
+
+// A chain of nodes with one child each, from the slot on: of so many levels, the last of them an empty leaf.
+fn put_chain(words: &mut Vec<u64>, config: &Config, slot: u32, levels: u32, low: Bound, high: Bound)
+    ensures { length words.new.items ≡ length words.old.items }
+{
+    for below in 0..levels {
+        let node = node_at(config, slot.saturating_add(below));
+        let level = levels.saturating_sub(below).saturating_sub(1);
+        let count = level.min(1);
+        put_front(words, node, level, count, low, high);
+        put_status(words, node, count, count);
+        if level > 0 {
+            put_first(words, node, slot.saturating_add(below).saturating_add(1));
+        }
+    }
+}
+
+// The bound after a chain: the key of the next one, or the end of the node's range.
+fn bound_after(level: u32, chain: u32) -> Bound {
+    if chain < CHAINS {
+        Some((level, chain.saturating_add(1)))
+    } else {
+        above(level)
+    }
+}
+
+// The end of the range of the path's node at a level: none for the root.
+fn above(level: u32) -> Bound {
+    if level < MAX_LEVELS - 1 {
+        Some((level.saturating_add(1), 1))
+    } else {
+        None
+    }
+}
+
+// The slot of the path's node below one.
+fn next_slot(slot: u32, level: u32) -> u32 {
+    slot.saturating_add(1)
+        .saturating_add(level.saturating_mul(CHAINS))
+}
+
+// The path's node at a level, with its chains.
+fn put_path(words: &mut Vec<u64>, config: &Config, slot: u32, level: u32)
+    ensures { length words.new.items ≡ length words.old.items }
+{
+    let node = node_at(config, slot);
+    put_front(words, node, level, CHAINS + 1, None, above(level));
+    put_status(words, node, CHAINS + 1, 5 * CHAINS + 1);
+    put_first(words, node, next_slot(slot, level));
+    for chain in 1..=CHAINS {
+        let first = slot
+            .saturating_add(1)
+            .saturating_add(level.saturating_mul(chain.saturating_sub(1)));
+        put_child(words, node, level, chain, first);
+        put_chain(
+            words,
+            config,
+            first,
+            level,
+            Some((level, chain)),
+            bound_after(level, chain),
+        );
+    }
+}
+
+// The leaf of the path: thirty-nine records of three words.
+fn put_leaf(words: &mut Vec<u64>, config: &Config, slot: u32)
+    ensures { length words.new.items ≡ length words.old.items }
+{
+    let node = node_at(config, slot);
+    put_front(words, node, 0, 39, None, above(0));
+    put_status(words, node, 39, 78);
+    for number in 0..39u32 {
+        let offset = (NODE_WORDS - 2).saturating_sub(number.saturating_mul(2));
+        put_meta(words, node, number, offset, 3 << 16 | 4);
+        let digits = u64::from(number / 10 % 10) << 40 | u64::from(number % 10) << 32;
+        let at = node.saturating_add(offset);
+        put(words, at, 0x61_30_30_00_00_00_00 + digits);
+        put(words, at.saturating_add(1), 0x76 << 48);
+    }
+}
+
+// The tree, level by level from the root, in fresh memory.
+fn put_tree(words: &mut Vec<u64>, config: &Config)
+    ensures { length words.new.items ≡ length words.old.items }
+{
+    let mut slot = 0u32;
+    for down in 1..MAX_LEVELS {
+        let level = MAX_LEVELS - down;
+        put_path(words, config, slot, level);
+        slot = next_slot(slot, level);
+    }
+    put_leaf(words, config, slot);
+}
+
+// A world over the tree, once it has recovered.
+fn tall(rt: &impl Abort, alloc: Global, nodes: u32) -> World {
+    let config = Config {
+        nodes,
+        swaps: 64,
+        workers: 1,
+        marks: 1 << 19,
+        calls: 16,
+        pages: 1,
+    };
+    let mut words = bz_layout::fresh(alloc, &config).expect(rt, "the words");
+    put_tree(&mut words, &config);
+    let mut world = World::boot(alloc, &config, &words).expect(rt, "a world");
+    assert_eq!(rt; world.apply(Event::On), Applied::On);
+    while_recovering(rt, &mut world);
+    world
+}
+
+// The recovery goes to its end.
+fn while_recovering(rt: &impl Abort, world: &mut World) {
+    for _ in 0..1 << 19 {
+        match world.apply(Event::Step(0)) {
+            Applied::Stepped => {}
+            other => {
+                assert_eq!(rt; other, Applied::Ready);
+                return;
+            }
+        }
+    }
+}
+
+#[test]
+fn a_tree_of_the_greatest_height_takes_no_more_leaves(rt: HostRuntime) {
+    // also where no slot is left
+    for nodes in [2_048, 1_266] {
+        let mut world = tall(&rt, rt.alloc(), nodes);
+        assert_eq!(rt; world.pairs(), 39);
+        let insert = Call::Insert(key(&rt, b"a40"), payload(&rt, b"v"));
+        assert!(rt; begin(&mut world, 1, insert));
+        let (_, answer) = steps(&mut world, 1, 40_000);
+        assert_eq!(rt; answer, Some(Answer::FullHeight));
+    }
+}
