@@ -1,18 +1,17 @@
 -- Over an image that breaks no rule all that a world keeps with its power off is true.
-use Rattle.std.proofs.Common.{◌≡◌, ℕ, List, length, replicate, slice_index, get_or, refl, sym, ap, subst, ◌∙◌, None, Option}
+use Rattle.std.proofs.Common.{◌≡◌, ℕ, List, length, slice_index, get_or, sym, ap, subst, ◌∙◌, None, Option}
 use Rattle.bz_content.specs.Content.{image_fault}
 use Rattle.bz_content.specs.Resolving.{resolve}
 use Rattle.bz_layout.specs.Addresses.{words_of}
 use Rattle.bz_layout.specs.Config.{IsConfig}
 use Rattle.bz_layout.specs.Slots.{FreeSlots, all_free}
 use Rattle.bz_layout.specs.declared.config.Config.{Config}
-use Rattle.bz_mark.specs.Log.{Log}
 use Rattle.bz_sound.specs.Power.Growth.{FreshJournalsAreSound}
 use Rattle.bz_sound.specs.Power.Sound.{IsSound}
 use Rattle.bz_sound.specs.declared.power.Power.{Power}
 use Rattle.bz_sound.specs.declared.power.Power.TheVariants as power
 use Rattle.bz_story.specs.Reviving.{IsOffIn, ImagesOpenJournals}
-use Rattle.bz_world.specs.Inside.Kept.{IsOff, IsKept}
+use Rattle.bz_world.specs.Inside.Kept.{IsKept}
 use Rattle.bz_world.specs.Inside.Opening.{IsMadeOver}
 use Rattle.bz_world.specs.Lab.{lab_over}
 use Rattle.bz_world.specs.declared.parts.Parts.{Parts}

@@ -1,5 +1,5 @@
 -- How many pairs the map has: an Effect alone changes that.
-use Rattle.std.proofs.Common.{◌≡◌, ◌≤◌, ℕ, ◌+◌, ◌-◌, cond, List, ◌∷◌, length, arith, refl, sym, ap, ◌∙◌, Option, Some, None}
+use Rattle.std.proofs.Common.{◌≡◌, ◌≤◌, ℕ, ◌+◌, ◌-◌, cond, List, ◌∷◌, arith, refl, sym, ap, ◌∙◌, Option, Some, None}
 use Rattle.std.specs.Prelude.{is_some}
 use Rattle.std.specs.FinMap.{get, insert, len, len-insert, len-remove}
 use Rattle.std.proofs.lemmas.Cmp.{nat_list_cmp_total}

@@ -11,7 +11,6 @@ use Rattle.bz_pm.specs.Acts.{evicted}
 use Rattle.bz_sight.specs.Acts.{EvictionsAreSeen}
 use Rattle.bz_sight.specs.Passing.{Passes, Passed}
 use Rattle.bz_sound.specs.Memory.Moments.{image_after}
-use Rattle.bz_sound.specs.declared.power.Power.TheVariants as power
 use Rattle.bz_sound.specs.Power.Sound.{IsSound}
 use Rattle.bz_story.specs.Laws.{GoesOn, goes_on}
 use Rattle.bz_story.specs.Living.{IsLiving}

@@ -1,5 +1,5 @@
 -- A call that gets a split on the way up from its leaf.
-use Rattle.std.proofs.Common.{◌≡◌, ℕ, ◌<◌, true, List, arith, refl, sym, subst, ◌∙◌, inl, Option, None}
+use Rattle.std.proofs.Common.{◌≡◌, ℕ, true, List, arith, refl, sym, subst, ◌∙◌, Option, None}
 use Rattle.bz_call.specs.Map.{key_of}
 use Rattle.bz_running.specs.Duties.{config_of, asks_of, wants_of, facts_of, makes_no_change}
 use Rattle.bz_running.specs.Hearing.{IsLookup}

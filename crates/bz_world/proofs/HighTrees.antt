@@ -1,11 +1,10 @@
 -- A split of an inner root that ended because the tree has as many levels as there may be: why the call ends so.
-use Rattle.std.proofs.Common.{◌≡◌, ℕ, ◌<◌, ◌&&◌, nat_lt, true, List, arith, refl, sym, ap, subst, ◌∙◌, Option, Some, None}
+use Rattle.std.proofs.Common.{◌≡◌, ℕ, ◌<◌, nat_lt, true, List, arith, refl, sym, ap, subst, ◌∙◌, Option, Some, None}
 use Rattle.std.specs.Prelude.{slice_index}
 use Rattle.std.proofs.lemmas.Bool.Decides.{nat_tests}
 use Rattle.bz_ascent.specs.Full.{WasFull, WasLevelFull, AreAllFull}
 use Rattle.bz_ascent.specs.declared.ascent.Ascent.{Ascent}
 use Rattle.bz_call.specs.Map.{key_of}
-use Rattle.bz_call.specs.declared.calls.Call.{Call}
 use Rattle.bz_call.specs.declared.replies.Spent.TheVariants.{Height}
 use Rattle.bz_content.specs.Content.{view_in}
 use Rattle.bz_content.specs.Image.{node}
@@ -13,7 +12,6 @@ use Rattle.bz_content.specs.Resolving.{resolve}
 use Rattle.bz_layout.specs.declared.thresholds.TheConstants.{MAX_LEVELS, SPLIT_SLOTS}
 use Rattle.bz_running.specs.Duties.{wants_of, ascent_of}
 use Rattle.bz_running.specs.Laws.{HaveFilledUp}
-use Rattle.bz_running.specs.declared.running.Running.{Running}
 use Rattle.bz_shape.specs.Order.{is_within}
 use Rattle.bz_shape.specs.Walk.{form}
 use Rattle.bz_sound.specs.Memory.Moments.{image_at}

@@ -26,8 +26,7 @@ use Rattle.bz_sound.specs.declared.power.Power.TheVariants as power
 use Rattle.bz_sound.specs.Power.Sound.{IsSound}
 use Rattle.bz_story.specs.Living.{IsLiving}
 use Rattle.bz_story.specs.Opening.{FreshStoriesLive, fresh_story}
-use Rattle.bz_swap.specs.Held.{Holds}
-use Rattle.bz_swap.specs.Power.{IsOpened, opened}
+use Rattle.bz_swap.specs.Power.{opened}
 use Rattle.bz_swap.specs.SwapMemory.{SwapMemory, Working, Idle, idle, doing_of, has_effect}
 use Rattle.bz_swap.specs.TakenStatuses.{BegunStayTaken, BegunAreTaken}
 use Rattle.bz_swap.specs.declared.phase.Phase.{Phase}

@@ -11,7 +11,6 @@ use Rattle.bz_sight.specs.Passing.{Passes, Passed}
 use Rattle.bz_sight.specs.Starts.{Sees}
 use Rattle.bz_sound.specs.Calls.{Open, open_call}
 use Rattle.bz_sound.specs.Memory.Calls.{HasOpenCall}
-use Rattle.bz_sound.specs.declared.power.Power.TheVariants as power
 use Rattle.bz_sound.specs.Power.Sound.{IsSound}
 use Rattle.bz_story.specs.Laws.{HasBegun, GoesOn}
 use Rattle.bz_story.specs.Living.{IsLiving}

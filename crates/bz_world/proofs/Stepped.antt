@@ -13,7 +13,6 @@ use Rattle.bz_sight.specs.Passing.{Passed}
 use Rattle.bz_sight.specs.Sight.{next_instant}
 use Rattle.bz_sound.specs.Memory.Laws.{IsQuietAct}
 use Rattle.bz_sound.specs.Memory.Moments.{image_after, IsAfterFlush}
-use Rattle.bz_sound.specs.declared.power.Power.TheVariants as power
 use Rattle.bz_sound.specs.Power.Calls.{MayAct}
 use Rattle.bz_sound.specs.Power.Sound.{IsSound}
 use Rattle.bz_sound.specs.Power.Times.{since_on}

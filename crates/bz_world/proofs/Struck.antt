@@ -13,7 +13,6 @@ use Rattle.bz_world.specs.Inside.Kept.{IsAwake}
 use Rattle.bz_world.specs.Inside.Serving.{IsSlot, noted, pairs_after}
 use Rattle.bz_world.specs.declared.parts.Parts.{Parts}
 use Rattle.bz_world.specs.declared.serving.Serving.{Serving}
-use Rattle.bz_sound.specs.declared.power.Power.TheVariants as power
 use Rattle.bz_world.proofs.Quiet.{within-crew}
 use Rattle.bz_world.specs.Inside.Laws.{StrikeLaws}
 use Rattle.bz_world.proofs.Striking.{w, x, its, owner}

@@ -8,7 +8,6 @@ use Rattle.bz_mark.specs.MomentLaws.{at_moment-now}
 use Rattle.bz_running.specs.Duties.{asks_of, wants_of, facts_of, publishing_of, change_of}
 use Rattle.bz_sight.specs.Effects.{effect_instant}
 use Rattle.bz_sound.specs.Memory.Moments.{image_after}
-use Rattle.bz_sound.specs.declared.power.Power.TheVariants as power
 use Rattle.bz_sound.specs.Power.Sound.{IsSound}
 use Rattle.bz_story.specs.Laws.{opened_after}
 use Rattle.bz_story.specs.Story.{scene}

@@ -10,4 +10,4 @@ begin_change-requires-clause-change c =
     (delete-changes c.requires.must.answer.on.serving.call c.args.key c.args.had _ c.requires.must.may (c.delete-task.ensures.change ∙ ap (λ old. record { key = c.args.key; old = old; new = None }) c.requires.present)) c.delete-task.ensures.ends c.delete-task.ensures.asks c.delete-task.ensures.wants c.delete-task.ensures.facts
 
 pub delete-task-requires : goal.delete-task-requires
-delete-task-requires c = some-found c.args.view.now.found c.args.had c.requires.present
+delete-task-requires c = record { present = some-found c.args.view.now.found c.args.had c.requires.present }

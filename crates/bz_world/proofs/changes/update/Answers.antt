@@ -9,4 +9,4 @@ begin_change-requires-clause-change c =
     (update-changes c.requires.must.answer.on.serving.call c.args.key c.args.payload c.args.had _ c.requires.must.may (c.update-task.ensures.change ∙ ap (λ old. record { key = c.args.key; old = old; new = Some c.args.payload }) c.requires.present)) c.update-task.ensures.ends c.update-task.ensures.asks c.update-task.ensures.wants c.update-task.ensures.facts
 
 pub update-task-requires : goal.update-task-requires
-update-task-requires c = some-found c.args.view.now.found c.args.had c.requires.present
+update-task-requires c = record { present = some-found c.args.view.now.found c.args.had c.requires.present }

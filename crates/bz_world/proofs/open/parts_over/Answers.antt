@@ -1,4 +1,4 @@
-use Rattle.std.proofs.Common.{refl, sym, rules, ◌∙◌}
+use Rattle.std.proofs.Common.{refl, sym, rules}
 use Rattle.bz_world.proofs.Openings.{made-over, opened-journal}
 use Rattle.bz_world.proofs.open.parts_over.Goals as goal
 

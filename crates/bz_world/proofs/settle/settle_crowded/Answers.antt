@@ -1,5 +1,5 @@
 use Rattle.std.proofs.Common.{sym, subst}
-use Rattle.std.specs.Prelude.{IfSome, Some, Option}
+use Rattle.std.specs.Prelude.{IfSome, Option}
 use Rattle.bz_running.specs.declared.running.Running.{Running}
 use Rattle.bz_world.specs.Inside.Going.{CanGoUpIn, GoesUpIn, known}
 use Rattle.bz_world.specs.declared.serving.Serving.{Serving}
