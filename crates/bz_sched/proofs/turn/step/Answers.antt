@@ -11,7 +11,7 @@ flush_next-flush-requires c = (c.requires.ready.openers c.args.w c.requires.«op
 pub returns-then-not-lets-clause-ends : goal.returns-then-not-lets-clause-ends
 returns-then-not-lets-clause-ends c =
     step_due c.args.world.now c.args.queue.now c.args.w c.requires.ready
-    (rw c.flush_next-flush.ensures at (due_is c.args.queue.now.fuse c.flush_next-flush.result (sym c.if-not-lets.ensures)))
+    (rw c.flush_next-flush.ensures.told at (due_is c.args.queue.now.fuse c.flush_next-flush.result (sym c.if-not-lets.ensures)))
 
 pub burn-requires : goal.burn-requires
 burn-requires c = sym c.lets.ensures ∙ c.if-not-lets.false
@@ -30,7 +30,7 @@ returns-in-Stepped-clause-ends c =
     } in
     elim (stepped c.args.world.now c.args.queue.now c.args.w applied.Stepped c.apply.new.self c.requires.ready c.requires.«open» c.in-Stepped.ensures) [
       | inl refused ↦ absurd (let other = refused.answered in cc)
-      | inr goes ↦ step_goes_on c.args.world.now c.args.queue.now c.burn.new.self c.args.w c.apply.new.self c.requires.ready goes (rw c.flush_next-flush.ensures at burnt)
+      | inr goes ↦ step_goes_on c.args.world.now c.args.queue.now c.burn.new.self c.args.w c.apply.new.self c.requires.ready goes (rw c.flush_next-flush.ensures.told at burnt)
     ]
 
 pub returns-in-Stepped-clause-others : goal.returns-in-Stepped-clause-others
@@ -47,7 +47,7 @@ returns-in-Ended-clause-ends c =
     } in
     elim (stepped c.args.world.now c.args.queue.now c.args.w (applied.Ended c.in-Ended.field-0) c.apply.new.self c.requires.ready c.requires.«open» c.in-Ended.ensures) [
       | inl refused ↦ absurd (let other = refused.answered in cc)
-      | inr goes ↦ step_ends c.args.world.now c.args.queue.now c.burn-in-Ended.new.self c.args.w c.in-Ended.field-0 c.apply.new.self c.end.new.self c.requires.ready c.requires.«open» goes (rw c.flush_next-flush.ensures at burnt)
+      | inr goes ↦ step_ends c.args.world.now c.args.queue.now c.burn-in-Ended.new.self c.args.w c.in-Ended.field-0 c.apply.new.self c.end.new.self c.requires.ready c.requires.«open» goes (rw c.flush_next-flush.ensures.told at burnt)
           c.end.ensures.calls c.end.ensures.room c.end.ensures.begun c.end.ensures.fuse
     ]
 
