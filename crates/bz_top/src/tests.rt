@@ -258,7 +258,7 @@ const EVICTIONS: &str =
     "memory 1 16\nw 1 insert a 1\nw 1 insert b 2\nrun turns 1\nw 1 get a\nw 2 get b\nw 3 page a\nrun turns 193\n";
 
 const EVICTIONS_REPORT: &str =
-    "w1.1 insert a 1 = inserted\nw1.2 insert b 2 = inserted\nw2.1 get b = value 2\nw3.1 page a = page a=1 b=2 end\nw1.3 get a = value 1\n";
+    "w1.1 insert a 1 = inserted\nw1.2 insert b 2 = inserted\nw2.1 get b = value 2\nw1.3 get a = value 1\nw3.1 page a = page a=1 b=2 end\n";
 
 #[test]
 fn the_examples_print_what_is_said_of_them(rt: HostRuntime) -> Result<(), Fail> {
