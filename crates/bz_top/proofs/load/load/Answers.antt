@@ -20,7 +20,7 @@ check-requires g c =
     rw (c.config_for-config.ensures, c.words.ensures) (record { config = config; whole = fetched_words c.args.line.marks c.in-Ok.image c.in-Ok.ensures.sized })
 
 pub run_source-requires-clause-base : goal.run_source-requires-clause-base
-run_source-requires-clause-base g c =
+run_source-requires-clause-base g c = λ lives outlive.
     record {
       config = fetched_config c.args.line.marks c.in-Ok.image c.requires.marks.0 c.requires.marks.1 c.in-Ok.ensures.sized;
       size = fetched_words c.args.line.marks c.in-Ok.image c.in-Ok.ensures.sized;
