@@ -171,3 +171,31 @@ fn threads_come_after_other_runs_and_before_them(rt: HostRuntime) -> Result<(), 
     }
     Ok(())
 }
+
+// What a command writes, which has to end with status 0.
+fn written<R: Threads + Wait + Sync + Abort>(
+    rt: &R,
+    alloc: Global,
+    word: &str,
+    input: &[u8],
+) -> Result<Vec<u8>, Fail> {
+    let mut source = MemSource::of(alloc, input)?;
+    let mut sink = MemSink::open(alloc, 24_724)?;
+    let outcome = top(rt, alloc, &[word], &mut source, &mut sink, &NoGate);
+    assert_eq!(rt; outcome.status, 0, "{word}");
+    Ok(Vec::from_slice(alloc, sink.bytes())?)
+}
+
+#[test]
+fn threads_run_over_an_image(rt: HostRuntime) -> Result<(), Fail> {
+    let script = "memory 16 64\nw 1 insert a 1\nw 2 insert b 2\nrun threads\n";
+    let mut input = written(&rt, rt.alloc(), "dump", script.as_bytes())?;
+    input.extend_from_slice(
+        b"memory 16 64\nw 1 get a\nrun threads\npower\nw 2 get b\nrun threads\n",
+    )?;
+    let text = written(&rt, rt.alloc(), "load", &input)?;
+    assert_eq!(rt; std::str::from_utf8(&text)?,
+        "power on 2 pairs\nw1.1 get a = value 1\npower cut\npower on 2 pairs\nw2.1 get b = value 2\n"
+    );
+    Ok(())
+}

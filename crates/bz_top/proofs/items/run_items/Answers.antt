@@ -31,8 +31,8 @@ pub returns-in-Finished : goal.returns-in-Finished
 returns-in-Finished g c =
     done_behind c.args.world c.turn_on.new.world c.do_items.result.0 c.args.queue.now c.turn_on.new.queue c.args.items.now c.do_items.result.1 (rw c.in-Finished.is at c.turn_on.ensures) c.do_items.ensures
 
-pub returns : goal.returns
-returns g c = (rw c.in-Limit.is at c.turn_on.ensures) c.args.items.now
+pub returns-in-Limit : goal.returns-in-Limit
+returns-in-Limit g c = (rw c.in-Limit.is at c.turn_on.ensures) c.args.items.now
 
 pub unreachable-requires : goal.unreachable-requires
 unreachable-requires g c = rw c.in-Memory.is at c.turn_on.ensures
