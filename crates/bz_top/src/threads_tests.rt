@@ -194,7 +194,8 @@ fn threads_run_over_an_image(rt: HostRuntime) -> Result<(), Fail> {
         b"memory 16 64\nw 1 get a\nrun threads\npower\nw 2 get b\nrun threads\n",
     )?;
     let text = written(&rt, rt.alloc(), "load", &input)?;
-    assert_eq!(rt; std::str::from_utf8(&text)?,
+    assert_eq!(rt;
+        std::str::from_utf8(&text)?,
         "power on 2 pairs\nw1.1 get a = value 1\npower cut\npower on 2 pairs\nw2.1 get b = value 2\n"
     );
     Ok(())
