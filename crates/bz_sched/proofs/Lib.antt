@@ -18,3 +18,4 @@ pub mod AloneLemmas
 pub mod BusyLemmas
 pub mod OthersLemmas
 pub mod DrawLemmas
+pub mod OpenLemmas

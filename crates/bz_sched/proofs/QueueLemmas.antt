@@ -128,3 +128,12 @@ flag_set begun w now small v = by_owner (w == v) refl
     by_owner : (b : Bool) → (w == v) ≡ b → get_or (set begun w now) v false ≡ (if b then now else get_or begun v false)
     by_owner true is = let same : w ≡ v = same_owner w v is in rw (← same) (flag_same begun w now small)
     by_owner false is = flag_other begun v w now (λ same. grind (arith, nat_tests))
+
+-- where none of a worker's calls waits none is taken out
+pub without_none : (w : ℕ) (calls : List (ℕ × Call)) → calls_of w calls ≡ [] → calls ≡ without_first w calls
+without_none w [] none = refl
+without_none w (call ∷ calls) none = by_test (call.0 == w) none (without_none w calls)
+  where
+    by_test : (mine : Bool) → (if mine then call ∷ calls_of w calls else calls_of w calls) ≡ [] → (calls_of w calls ≡ [] → calls ≡ without_first w calls) → call ∷ calls ≡ (if mine then calls else call ∷ without_first w calls)
+    by_test true none rest = absurd (cc none)
+    by_test false none rest = ap (λ (xs : List (ℕ × Call)). call ∷ xs) (rest none)

@@ -35,10 +35,10 @@ armed_ready world queued armed fuse a ready = record {
   powered = ready.powered;
 }
 
-armed_point : (world : Lab) (queued armed : Queued) (fuse : Option ℕ) → Armed fuse queued armed → point_of world armed ≡ point_of world queued
+pub armed_point : (world : Lab) (queued armed : Queued) (fuse : Option ℕ) → Armed fuse queued armed → point_of world armed ≡ point_of world queued
 armed_point world queued armed fuse a = ap (λ (calls : List (ℕ × Call)). record { past = world.log.past; queue = calls }) a.calls
 
-kept_leaves : (old new : Lab) (queued armed left : Queued) (fuse : Option ℕ) → Armed fuse queued armed → Keeps old armed new left → Leaves old queued new left
+pub kept_leaves : (old new : Lab) (queued armed left : Queued) (fuse : Option ℕ) → Armed fuse queued armed → Keeps old armed new left → Leaves old queued new left
 kept_leaves old new queued armed left fuse a k = record {
   stays = record { config = k.config; at_start = k.at_start; start = k.start; limits = k.limits };
   steady = steady_when_ready new left k.ready;

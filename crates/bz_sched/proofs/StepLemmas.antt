@@ -11,7 +11,6 @@ use Rattle.bz_mark.specs.Log.{Log}
 use Rattle.bz_mark.specs.declared.marks.Mark.{Mark}
 use Rattle.bz_mark.specs.declared.marks.Mark.TheVariants as mark
 use Rattle.bz_sound.specs.declared.power.Power.{Power}
-use Rattle.bz_sound.specs.declared.power.Power.TheVariants as power
 use Rattle.bz_sound.specs.Calls.{Open, open_call}
 use Rattle.bz_sound.specs.Power.Times.{power_of}
 use Rattle.bz_world.specs.Lab.{Lab, flush_of, is_short, step_refusal, mark_of, IsStruck, GoesOn, Steps, IsApplied}

@@ -38,7 +38,7 @@ none_effected true at rest none = rw none refl
 none_effected false at rest none = none
 
 -- marks of another worker open no call of this one
-open_stays_none : (w v : ℕ) (added past : List Mark) → w ≢ v → AreOwn v added → open_call w past ≡ None → open_call w (added ++ past) ≡ None
+pub open_stays_none : (w v : ℕ) (added past : List Mark) → w ≢ v → AreOwn v added → open_call w past ≡ None → open_call w (added ++ past) ≡ None
 open_stays_none w v [] past other own none = none
 open_stays_none w v (Begin u n call ∷ added) past other own none = none_begun (u == w) _ _ (not_same v w u own.0 other) (open_stays_none w v added past other own.1 none)
 open_stays_none w v (End u n reply at ∷ added) past other own none = none_ended (u == w) _ (open_stays_none w v added past other own.1 none)
@@ -74,7 +74,7 @@ ends_keep w v (suc more) old new before run idle =
     ends_keep w (v + 1) more run.0 new (omega arith) run.2 (turns_keep w v run.1.0 old run.0 (λ same. absurd (omega arith)) run.1.1 idle)
 
 -- a worker from one on is that one or a later one
-first_or_later : (P : Type 0) (w v : ℕ) (b : Bool) → (w == v) ≡ b → v ≤ w → (w ≡ v → P) → (v + 1 ≤ w → P) → P
+pub first_or_later : (P : Type 0) (w v : ℕ) (b : Bool) → (w == v) ≡ b → v ≤ w → (w ≡ v → P) → (v + 1 ≤ w → P) → P
 first_or_later P w v true is from here later = here (same_owner w v is)
 first_or_later P w v false is from here later = later (grind (arith, nat_tests))
 

@@ -4,6 +4,8 @@ pub mod QueueLaws
 pub mod Points
 pub mod Turns
 pub mod TurnsInPart
+pub mod OpenCalls
+pub mod Together
 pub mod Cuts
 pub mod Plans
 pub mod Recoveries
@@ -14,4 +16,5 @@ pub mod Powering
 pub mod ReadyLaws
 pub mod TurnLaws
 pub mod IdleLaws
+pub mod OpenLaws
 pub mod TurnExample

@@ -2,11 +2,12 @@
 use Rattle.std.specs.Prelude.{◌≡◌, ◌<◌, ℕ, ◌+◌, List, ◌⊎◌, Option, Some, None}
 use Rattle.bz_mark.specs.declared.marks.Mark.{Mark}
 use Rattle.bz_script.specs.declared.item.Plan.{Plan}
-use Rattle.bz_script.specs.declared.item.Plan.TheVariants.{Alone, List as ByList, Turns as ByTurns}
+use Rattle.bz_script.specs.declared.item.Plan.TheVariants.{Alone, List as ByList, Turns as ByTurns, Threads}
 use Rattle.bz_world.specs.declared.answers.Which.{Which}
 use Rattle.bz_world.specs.declared.answers.Which.TheVariants as which
 use Rattle.bz_sched.specs.Cuts.{CutsOff, CutsOffInPart}
 use Rattle.bz_sched.specs.Points.{Point, flushes_of}
+use Rattle.bz_sched.specs.Together.{RunsThreads, RunsThreadsInPart}
 use Rattle.bz_sched.specs.Turns.{EndsAlone, RunsList, RunsTurns}
 use Rattle.bz_sched.specs.TurnsInPart.{EndsAloneInPart, RunsListInPart, RunsTurnsInPart}
 use Rattle.bz_sched.specs.declared.cut.CutPlan.{CutPlan}
@@ -18,12 +19,14 @@ abbrev pub RunsBy : ℕ → Plan → Point → Point → Type 0
 RunsBy words Alone old new = EndsAlone old new
 RunsBy words (ByList turns) old new = RunsList turns old new
 RunsBy words (ByTurns seed) old new = RunsTurns words seed old new
+RunsBy words Threads old new = RunsThreads old new
 
 -- the same up to where it stops
 abbrev pub RunsByInPart : Stop → ℕ → Plan → Point → Point → Type 0
 RunsByInPart why words Alone old new = EndsAloneInPart why old new
 RunsByInPart why words (ByList turns) old new = RunsListInPart why turns old new
 RunsByInPart why words (ByTurns seed) old new = RunsTurnsInPart why words seed old new
+RunsByInPart why words Threads old new = RunsThreadsInPart why old new
 
 -- where a cut is armed, fewer flushes were made than it waits for
 abbrev pub IsBefore : Option CutPlan → List Mark → List Mark → Type 0

@@ -1,5 +1,5 @@
 -- What runs and power on ask of a world and a queue, and what they do to them.
-use Rattle.std.specs.Prelude.{◌≡◌, ◌≢◌, ◌<◌, ◌≤◌, ℕ, ◌+◌, ◌-◌, is_some, true, List, [], ◌∷◌, length, Option, Some, None}
+use Rattle.std.specs.Prelude.{◌≡◌, ◌≢◌, ◌<◌, ◌≤◌, ℕ, ◌+◌, ◌-◌, is_some, true, false, List, [], ◌∷◌, length, Option, Some, None}
 use Rattle.bz_call.specs.declared.calls.Call.{Call}
 use Rattle.bz_layout.specs.Addresses.{words_of}
 use Rattle.bz_layout.specs.Config.{IsConfig}
@@ -7,11 +7,13 @@ use Rattle.bz_layout.specs.declared.config.Config.{Config}
 use Rattle.bz_mark.specs.Log.{count_begins, count_page_calls}
 use Rattle.bz_mark.specs.declared.marks.Mark.{Mark}
 use Rattle.bz_script.specs.declared.item.Plan.{Plan}
+use Rattle.bz_script.specs.declared.item.Plan.TheVariants.{Threads}
 use Rattle.bz_sound.specs.Calls.{open_call}
 use Rattle.bz_sound.specs.declared.power.Power.TheVariants as power
 use Rattle.bz_world.specs.Lab.{Lab, IsWorker, power_in, flush_of, flush_left_out}
 use Rattle.bz_world.specs.declared.answers.Which.{Which}
 use Rattle.bz_world.specs.declared.answers.Which.TheVariants as which
+use Rattle.bz_sched.specs.OpenCalls.{EndsCalls, EndsCallsInPart}
 use Rattle.bz_sched.specs.Points.{Point, flushes_of}
 use Rattle.bz_sched.specs.Plans.{RunsWhole, RunsCutBefore, RunsInPart}
 use Rattle.bz_sched.specs.Queued.{Queued, has_open}
@@ -101,6 +103,11 @@ pub record Leaves (old : Lab) (queued : Queued) (new : Lab) (left : Queued) : Ty
   pub steady : IsSteady new left
   pub room : queued.room ≤ left.room
 
+-- the turns of the plan are taken one after the other, and not on threads
+abbrev pub IsOfTurns : Plan → Type 0
+IsOfTurns Threads = ⊥
+IsOfTurns other = Unit {0}
+
 -- a cut waits for a flush from 1 on
 abbrev pub IsCutPlan : Option CutPlan → Type 0
 IsCutPlan None = Unit {0}
@@ -116,6 +123,12 @@ HasRun cut plan old queued end.Cut new left =
     × ((w : ℕ) × RunsCutBefore old.log.start (words_of old.config) cut plan w (point_of old queued) (point_of new left) × (flush_left_out new w ≡ true))
 HasRun cut plan old queued (end.Limit why) new left =
     Stays old new × RunsInPart why old.log.start (words_of old.config) cut plan (point_of old queued) (point_of new left) × IsAtLimit new why
+
+-- how the ending of the calls that are open ends: none is open then, or a limit was met
+abbrev pub HasEndedCalls : Lab → Queued → Option Which → Lab → Queued → Type 0
+HasEndedCalls old queued None new left =
+    Leaves old queued new left × (power_in new ≡ power.On) × ((w : ℕ) → has_open left w ≡ false) × EndsCalls (point_of old queued) (point_of new left)
+HasEndedCalls old queued (Some why) new left = Stays old new × EndsCallsInPart (stop.Limit why) (point_of old queued) (point_of new left) × IsAtLimit new why
 
 -- how power on ends, with this cut armed or none: the act of worker 0 that a cut left out was a flush
 abbrev pub HasPower : Option CutPlan → Lab → Queued → RunEnd → Lab → Queued → Type 0

@@ -4,8 +4,11 @@ use Rattle.bz_call.specs.declared.calls.Call.{Call}
 use Rattle.bz_mark.specs.declared.marks.Mark.{Mark}
 use Rattle.bz_script.specs.declared.item.Item.{Item}
 use Rattle.bz_script.specs.declared.item.Item.TheVariants.{Queue, Arm, Run, Power}
+use Rattle.bz_script.specs.declared.item.Plan.{Plan}
+use Rattle.bz_script.specs.declared.item.Plan.TheVariants.{Threads}
 use Rattle.bz_sound.specs.declared.power.Power.{Power as State}
 use Rattle.bz_world.specs.declared.answers.Which.{Which}
+use Rattle.bz_sched.specs.OpenCalls.{EndsCalls}
 use Rattle.bz_sched.specs.Plans.{RunsWhole, RunsCut, RunsInPart}
 use Rattle.bz_sched.specs.Points.{Point}
 use Rattle.bz_sched.specs.Recoveries.{Powers, PowersCut, PowersInPart}
@@ -37,3 +40,19 @@ LeadsToInPart why at_start start words armed old (Run plan ∷ items) new =
 LeadsToInPart why at_start start words armed old (Power ∷ items) new =
     ((end : Point) × PowersInPart why at_start start words armed old end × (new ≡ end.past))
     ⊎ ((mid : Point) × (Powers at_start armed old mid ⊎ PowersCut at_start start words armed old mid) × LeadsToInPart why at_start start words None mid items new)
+
+-- a run on threads for which memory was wanting: the calls that were open have been ended, and none was begun
+abbrev pub WantsMemory : Plan → Point → Point → Type 0
+WantsMemory Threads old new = EndsCalls old new
+WantsMemory other old new = ⊥
+
+-- they lead there up to such a run; the items behind it are left out
+abbrev pub LeadsToWant : State → List ℕ → ℕ → Option CutPlan → Point → List Item → List Mark → Type 0
+LeadsToWant at_start start words armed old [] new = ⊥
+LeadsToWant at_start start words armed old (Queue w call ∷ items) new = LeadsToWant at_start start words armed (queued (w, call) old) items new
+LeadsToWant at_start start words armed old (Arm flush seed ∷ items) new = LeadsToWant at_start start words (Some (record { flush = flush; seed = seed })) old items new
+LeadsToWant at_start start words armed old (Run plan ∷ items) new =
+    ((end : Point) × WantsMemory plan old end × (new ≡ end.past))
+    ⊎ ((mid : Point) × (RunsWhole words armed plan old mid ⊎ RunsCut start words armed plan old mid) × LeadsToWant at_start start words None mid items new)
+LeadsToWant at_start start words armed old (Power ∷ items) new =
+    (mid : Point) × (Powers at_start armed old mid ⊎ PowersCut at_start start words armed old mid) × LeadsToWant at_start start words None mid items new

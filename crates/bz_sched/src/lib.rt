@@ -5,12 +5,14 @@ mod alone;
 mod cut;
 mod draws;
 mod list;
+mod open_calls;
 mod power_on;
 mod queue;
 mod running;
 mod turn;
 
 pub use cut::{CutPlan, EVICTED_FROM};
+pub use open_calls::end_open_calls;
 pub use power_on::power;
 pub use queue::Queue;
 pub use running::{RunEnd, run};

@@ -1,6 +1,6 @@
 //! Calls that wait.
 ghost use Rattle.std.specs.Prelude.{◌≡◌, ◌≢◌, ◌<◌, ◌≤◌, ◌+◌, ◌++◌, ◌∷◌, [], ℕ, IfOk, length, true, false};
-ghost use Rattle.bz_sched.specs.Queued.{calls_of, without_first, has_open, has_work, SetsOpen, IsFirst, lets as may_be_made, burnt};
+ghost use Rattle.bz_sched.specs.Queued.{calls_of, without_first, has_open, has_work, is_busy_by, SetsOpen, IsFirst, lets as may_be_made, burnt};
 ghost use Rattle.bz_sched.specs.QueueKept.{IsFound};
 
 use bz_call::Call;
@@ -121,6 +121,34 @@ impl Queue {
                 self.begun[w as usize] = true;
             }
             None => unreachable!(),
+        }
+    }
+
+    /// Whether a call waits for a worker.
+    pub fn waits(&self, w: u8) -> bool
+        requires { w < 65 }
+        ensures { result ≡ is_busy_by false (calls_of w self.now.calls) }
+    {
+        self.waiting[w as usize] > 0
+    }
+
+    /// Takes out the first call that waits for a worker.
+    pub fn take(&mut self, w: u8) -> Option<Call>
+        requires worker { w < 65 }
+        requires closed { has_open self.old w ≡ false }
+        ensures first { IsFirst w (calls_of w self.old.calls) result }
+        ensures calls { self.new.calls ≡ without_first w self.old.calls }
+        ensures room { self.new.room ≡ self.old.room }
+        ensures begun { (v : ℕ) → has_open self.new v ≡ has_open self.old v }
+        ensures fuse { self.new.fuse ≡ self.old.fuse }
+    {
+        match self.first(w) {
+            Some(call) => {
+                self.begin(w);
+                self.end(w);
+                Some(call)
+            }
+            None => None,
         }
     }
 

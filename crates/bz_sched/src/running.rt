@@ -3,7 +3,7 @@ ghost use Rattle.std.specs.Prelude.{◌≡◌, ◌≤◌, None, Some};
 ghost use Rattle.bz_layout.specs.Addresses.{words_of};
 ghost use Rattle.bz_script.specs.RunLaws.{IsPlan};
 ghost use Rattle.bz_sched.specs.Plans.{RunsBy, RunsByInPart};
-ghost use Rattle.bz_sched.specs.Runs.{IsReady, EndsBy, IsCutPlan, HasRun};
+ghost use Rattle.bz_sched.specs.Runs.{IsReady, EndsBy, IsOfTurns, IsCutPlan, HasRun};
 
 use crate::alone::run_alone;
 use crate::cut::{CutPlan, cut_off};
@@ -29,7 +29,7 @@ pub enum RunEnd {
 
 // Takes the turns of a plan.
 fn run_plan(world: &mut World, queue: &mut Queue, plan: &Plan) -> Turned
-    requires plan { IsPlan plan.now }
+    requires plan { IsPlan plan.now × IsOfTurns plan.now }
     requires ready { IsReady world.old queue.old }
     ensures { EndsBy (RunsBy (words_of world.old.config) plan.now) (λ why. RunsByInPart why (words_of world.old.config) plan.now) world.old queue.old result world.new queue.new }
 {
@@ -37,12 +37,13 @@ fn run_plan(world: &mut World, queue: &mut Queue, plan: &Plan) -> Turned
         Plan::Alone => run_alone(world, queue),
         Plan::List(turns) => run_list(world, queue, turns.turns()),
         Plan::Turns(seed) => run_turns(world, queue, *seed),
+        Plan::Threads => unreachable!(),
     }
 }
 
 // Runs with no cut armed.
 fn run_unarmed(world: &mut World, queue: &mut Queue, plan: &Plan) -> RunEnd
-    requires plan { IsPlan plan.now }
+    requires plan { IsPlan plan.now × IsOfTurns plan.now }
     requires ready { IsReady world.old queue.old }
     ensures { HasRun None plan.now world.old queue.old result world.new queue.new }
 {
@@ -56,7 +57,7 @@ fn run_unarmed(world: &mut World, queue: &mut Queue, plan: &Plan) -> RunEnd
 
 // Runs with a cut armed.
 fn run_armed(world: &mut World, queue: &mut Queue, plan: &Plan, cut: CutPlan) -> RunEnd
-    requires plan { IsPlan plan.now }
+    requires plan { IsPlan plan.now × IsOfTurns plan.now }
     requires ready { IsReady world.old queue.old }
     requires cut { 1 ≤ cut.flush }
     ensures { HasRun (Some cut) plan.now world.old queue.old result world.new queue.new }
@@ -72,7 +73,7 @@ fn run_armed(world: &mut World, queue: &mut Queue, plan: &Plan, cut: CutPlan) ->
 /// Runs the calls that wait, and those that are open, by a plan. Where a cut is armed, the power is cut before that flush of the
 /// run is made, and the calls that wait are dropped; a run that ends before it makes no cut.
 pub fn run(world: &mut World, queue: &mut Queue, plan: &Plan, cut: Option<CutPlan>) -> RunEnd
-    requires plan { IsPlan plan.now }
+    requires plan { IsPlan plan.now × IsOfTurns plan.now }
     requires ready { IsReady world.old queue.old }
     requires cut { IsCutPlan cut }
     ensures { HasRun cut plan.now world.old queue.old result world.new queue.new }

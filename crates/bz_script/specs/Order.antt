@@ -1,18 +1,26 @@
 -- Where a line may stand: what is armed is told by the script's text alone.
-use Rattle.std.specs.Prelude.{◌≡◌, Bool, true, false, not, List, [], ◌∷◌}
+use Rattle.std.specs.Prelude.{◌≡◌, Bool, true, false, not, ◌&&◌, List, [], ◌∷◌}
 use Rattle.bz_script.specs.declared.item.Item.{Item}
 use Rattle.bz_script.specs.declared.item.Item.TheVariants.{Queue, Arm, Run, Power}
+use Rattle.bz_script.specs.declared.item.Plan.{Plan}
+use Rattle.bz_script.specs.declared.item.Plan.TheVariants.{Threads}
 use Rattle.bz_script.specs.declared.order.Standing.{Standing}
 
 -- no cut is armed, and none was used up
 abbrev pub at_first : Standing
 at_first = record { armed = false; used = false }
 
--- no second cut while one is armed; and no run after a run or a power on that used a cut up, until a power on without one
+-- the plan takes no cut: none may be armed
+abbrev pub takes_no_cut : Plan → Bool
+takes_no_cut Threads = true
+takes_no_cut other = false
+
+-- no second cut while one is armed; no run after a run or a power on that used a cut up, until a power on without one; and
+-- no run on threads while a cut is armed
 abbrev pub may_stand : Standing → Item → Bool
 may_stand standing (Queue w call) = true
 may_stand standing (Arm flush seed) = not standing.armed
-may_stand standing (Run plan) = not standing.used
+may_stand standing (Run plan) = not standing.used && not (standing.armed && takes_no_cut plan)
 may_stand standing Power = true
 
 -- a cut is armed, and the next run or power on uses it up

@@ -7,7 +7,7 @@ use Rattle.bz_script.specs.declared.fault.ScriptRule.{ScriptRule}
 use Rattle.bz_script.specs.declared.fault.ScriptRule.TheVariants.{Unknown, Words, Number, Worker}
 use Rattle.bz_script.specs.declared.item.Item.{Item}
 use Rattle.bz_script.specs.declared.item.Item.TheVariants.{Run}
-use Rattle.bz_script.specs.declared.item.Plan.TheVariants.{Alone, List as Listed, Turns}
+use Rattle.bz_script.specs.declared.item.Plan.TheVariants.{Alone, List as Listed, Turns, Threads}
 use Rattle.bz_script.specs.declared.turn_list.Turn.{Turn}
 use Rattle.bz_script.specs.declared.turn_list.Turn.TheVariants.{Times}
 
@@ -67,6 +67,10 @@ list_of words = if nat_lt (length words) 3 then Err Words else listed (turns_of 
 abbrev pub drawn_of : List (List ℕ) → Result Item ScriptRule
 drawn_of words = if length words == 3 then drawn (number_of (word words 2)) else Err Words
 
+-- `run threads`
+abbrev pub threads_of : List (List ℕ) → Result Item ScriptRule
+threads_of words = if length words == 2 then Ok (Run Threads) else Err Words
+
 -- a line that begins with `run`, by its second word
 abbrev pub run_of : List (List ℕ) → Result Item ScriptRule
 run_of words =
@@ -74,4 +78,5 @@ run_of words =
     else (if is_word words 1 (codes "alone") then alone_of words
     else (if is_word words 1 (codes "list") then list_of words
     else (if is_word words 1 (codes "turns") then drawn_of words
-    else Err Unknown)))
+    else (if is_word words 1 (codes "threads") then threads_of words
+    else Err Unknown))))

@@ -4,14 +4,14 @@ use Rattle.std.specs.Prelude.{nat_lt, ◌+◌, length, take, drop, codes, Ok, Er
 use Rattle.bz_script.specs.declared.item.Item.{Item}
 use Rattle.bz_script.specs.declared.item.Item.TheVariants.{Run}
 use Rattle.bz_script.specs.declared.item.Plan.{Plan}
-use Rattle.bz_script.specs.declared.item.Plan.TheVariants.{Alone, List as Listed, Turns}
+use Rattle.bz_script.specs.declared.item.Plan.TheVariants.{Alone, List as Listed, Turns, Threads}
 use Rattle.bz_script.specs.declared.turn_list.Turn.{Turn}
 use Rattle.bz_script.specs.declared.turn_list.Turn.TheVariants.{Times}
 use Rattle.bz_script.specs.declared.fault.ScriptRule.{ScriptRule}
 use Rattle.bz_script.specs.declared.fault.ScriptRule.TheVariants.{Unknown, Words}
 use Rattle.bz_script.specs.Number.{number_of, worker_of}
 use Rattle.bz_script.specs.RangeLaws.{either_way, in_range}
-use Rattle.bz_script.specs.RunForms.{first_star, times_by, count_of, turn_at, turn_of, then_turns, turns_of, listed, drawn, alone_of, list_of, drawn_of, run_of}
+use Rattle.bz_script.specs.RunForms.{first_star, times_by, count_of, turn_at, turn_of, then_turns, turns_of, listed, drawn, alone_of, list_of, drawn_of, threads_of, run_of}
 use Rattle.bz_script.specs.Words.{word, is_word}
 
 -- a turn of a script
@@ -27,6 +27,7 @@ abbrev pub IsPlan : Plan → Type 0
 IsPlan Alone = Unit {0}
 IsPlan (Listed turns) = AreTurns turns
 IsPlan (Turns seed) = Unit {0}
+IsPlan Threads = Unit {0}
 
 times_turn : (worker count : Option ℕ) (turn : Turn) → ((w : ℕ) → worker ≡ Some w → (1 ≤ w) × (w ≤ 64)) → ((k : ℕ) → count ≡ Some k → (1 ≤ k) × (k ≤ 65536)) → times_by worker count ≡ Ok turn → IsTurn turn
 times_turn None count turn h k is = absurd cc
@@ -82,6 +83,8 @@ run_runs words item =
     (either_way IsRun (length words == 2) (Ok (Run Alone)) (Err Words) item (some_run Alone item tt) (no_run Words item))
     (either_way IsRun (is_word words 1 (codes "list")) (list_of words) _ item
     (either_way IsRun (nat_lt (length words) 3) (Err Words) (listed (turns_of (drop 2 words))) item (no_run Words item) (listed_run (turns_of (drop 2 words)) item (turns_are (drop 2 words))))
-    (either_way IsRun (is_word words 1 (codes "turns")) (drawn_of words) (Err Unknown) item
+    (either_way IsRun (is_word words 1 (codes "turns")) (drawn_of words) _ item
     (either_way IsRun (length words == 3) (drawn (number_of (word words 2))) (Err Words) item (drawn_run (number_of (word words 2)) item) (no_run Words item))
-    (no_run Unknown item))))
+    (either_way IsRun (is_word words 1 (codes "threads")) (threads_of words) (Err Unknown) item
+    (either_way IsRun (length words == 2) (Ok (Run Threads)) (Err Words) item (some_run Threads item tt) (no_run Words item))
+    (no_run Unknown item)))))

@@ -13,6 +13,9 @@ pub enum Plan {
 
     /// By the draws of the generator from a seed.
     Turns(u64),
+
+    /// Each worker's by a thread of its own, whatever the order in which their acts come.
+    Threads,
 }
 
 /// What a line after the first asks for.

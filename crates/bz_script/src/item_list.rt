@@ -45,6 +45,7 @@ impl ItemList {
             Item::Run(Plan::Alone) => self.items.push_reserved(Item::Run(Plan::Alone)),
             Item::Run(Plan::List(turns)) => self.items.push_reserved(Item::Run(Plan::List(turns))),
             Item::Run(Plan::Turns(seed)) => self.items.push_reserved(Item::Run(Plan::Turns(seed))),
+            Item::Run(Plan::Threads) => self.items.push_reserved(Item::Run(Plan::Threads)),
         }
     }
 

@@ -1,8 +1,8 @@
 //! Where a line may stand.
 ghost use Rattle.std.specs.Prelude.{◌≡◌};
-ghost use Rattle.bz_script.specs.Order.{at_first as first, may_stand as stands, after as following};
+ghost use Rattle.bz_script.specs.Order.{at_first as first, takes_no_cut as refuses_cut, may_stand as stands, after as following};
 
-use crate::item::Item;
+use crate::item::{Item, Plan};
 
 /// What the lines so far leave for the next one.
 #[derive(Clone, Copy, Debug, PartialEq, Eq)]
@@ -24,6 +24,17 @@ pub(crate) fn at_first() -> Standing
     }
 }
 
+fn takes_no_cut(plan: &Plan) -> bool
+    ensures { result ≡ refuses_cut plan.now }
+{
+    match plan {
+        Plan::Alone => false,
+        Plan::List(_) => false,
+        Plan::Turns(_) => false,
+        Plan::Threads => true,
+    }
+}
+
 /// Whether an item may stand here.
 pub(crate) fn may_stand(standing: Standing, item: &Item) -> bool
     ensures { result ≡ stands standing item.now }
@@ -31,7 +42,7 @@ pub(crate) fn may_stand(standing: Standing, item: &Item) -> bool
     match item {
         Item::Queue(_, _) => true,
         Item::Arm { flush: _, seed: _ } => !standing.armed,
-        Item::Run(_) => !standing.used,
+        Item::Run(plan) => !standing.used && !(standing.armed && takes_no_cut(plan)),
         Item::Power => true,
     }
 }

@@ -2,7 +2,7 @@
 ghost use Rattle.std.specs.Prelude.{◌≡◌, ◌==◌, Some};
 ghost use Rattle.bz_script.specs.Number.{worker_of};
 ghost use Rattle.bz_script.specs.Reads.{Reads};
-ghost use Rattle.bz_script.specs.RunForms.{first_star as star_of, times_by, count_of, turn_of, turns_of, alone_of, list_of, drawn_of, run_of};
+ghost use Rattle.bz_script.specs.RunForms.{first_star as star_of, times_by, count_of, turn_of, turns_of, alone_of, list_of, drawn_of, threads_of, run_of};
 ghost use Rattle.bz_script.specs.Words.{texts_of};
 
 use crate::fault::{LineFault, ScriptRule};
@@ -100,6 +100,16 @@ fn read_drawn(words: &[&[u8]]) -> Result<Item, ScriptRule>
     Ok(Item::Run(Plan::Turns(seed)))
 }
 
+// `run threads`.
+fn read_threads(words: &[&[u8]]) -> Result<Item, ScriptRule>
+    ensures { result ≡ threads_of (texts_of words.now) }
+{
+    if words.len() != 2 {
+        return Err(ScriptRule::Words);
+    }
+    Ok(Item::Run(Plan::Threads))
+}
+
 /// A line that begins with `run`.
 pub(crate) fn read_run(alloc: Global, words: &[&[u8]]) -> Result<Item, LineFault>
     ensures { Reads (run_of (texts_of words.now)) result }
@@ -115,6 +125,9 @@ pub(crate) fn read_run(alloc: Global, words: &[&[u8]]) -> Result<Item, LineFault
     }
     if is_word(words, 1, b"turns") {
         return Ok(read_drawn(words)?);
+    }
+    if is_word(words, 1, b"threads") {
+        return Ok(read_threads(words)?);
     }
     Err(LineFault::Rule(ScriptRule::Unknown))
 }

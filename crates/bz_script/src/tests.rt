@@ -87,7 +87,7 @@ fn answers_the_first_broken_rule(rt: HostRuntime) -> Result<(), Fail> {
         ("memory 1 1\nw 1 upsert a !\n", "line 2: bad payload"),
         ("memory 1 1\nw 0 Page a\n", "line 2: unknown word"),
         ("memory 1 1\nw  1 get a\n", "line 2: unknown word"),
-        ("memory 1 1\nrun threads\n", "line 2: unknown word"),
+        ("memory 1 1\nrun thread\n", "line 2: unknown word"),
         ("memory 1 1\ncuts 1 1\n", "line 2: unknown word"),
         ("memory 1 1\npower on\n", "line 2: wrong number of words"),
         (
@@ -194,6 +194,13 @@ fn answers_the_first_broken_rule_of_cuts_and_power(rt: HostRuntime) -> Result<()
             "1 1 6",
         ),
         ("cut 1 0\nrun alone\npower\nrun alone\nrun alone\n", "1 1 5"),
+        // threads while a cut is armed, or after an armed run or power on
+        ("cut 1 0\nrun threads\n", "line 3: wrong order"),
+        ("cut 1 0\nw 1 get a\nrun threads\n", "line 4: wrong order"),
+        ("cut 1 0\nrun alone\nrun threads\n", "line 4: wrong order"),
+        ("cut 1 0\npower\nrun threads\n", "line 4: wrong order"),
+        ("cut 1 0\nrun alone\npower\nrun threads\n", "1 1 4"),
+        ("run threads\ncut 1 0\npower\npower\nrun threads\n", "1 1 5"),
         // Order comes last
         ("cut 1 0\ncut 1 x\n", "line 3: bad number"),
         ("cut 1 0\nrun alone\nrun list 0\n", "line 4: bad worker"),
@@ -242,6 +249,9 @@ fn answers_the_first_broken_rule_of_a_run(rt: HostRuntime) -> Result<(), Fail> {
         ("run turns 01", "line 2: bad number"),
         ("run turns -1", "line 2: bad number"),
         ("run turns 18446744073709551616", "line 2: bad number"),
+        ("run Threads", "line 2: unknown word"),
+        ("run threads 1", "line 2: wrong number of words"),
+        ("run threads ", "line 2: wrong number of words"),
         ("run list 1\nbad", "line 3: unknown word"),
         (
             "run list 1*1 2\nrun turns 1\nmemory 1 1",
@@ -442,12 +452,14 @@ fn reads_numbers(rt: HostRuntime) {
 
 #[test]
 fn takes_as_many_items_as_there_is_room_for(rt: HostRuntime) -> Result<(), Fail> {
-    let mut items = ItemList::open(rt.alloc(), 4)?;
+    let mut items = ItemList::open(rt.alloc(), 5)?;
     items.push(Item::Run(Plan::Alone));
+    items.push(Item::Run(Plan::Threads));
     items.push(Item::Queue(9, Call::Get(Key::of(b"a")?)));
     items.push(Item::Run(Plan::Turns(1)));
     items.push(Item::Run(Plan::List(TurnList::open(rt.alloc(), &[])?)));
-    assert_eq!(rt; items.items().len(), 4);
+    assert_eq!(rt; items.items().len(), 5);
+    assert!(rt; matches!(items.items()[1], Item::Run(Plan::Threads)));
     Ok(())
 }
 

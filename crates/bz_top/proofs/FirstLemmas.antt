@@ -1,5 +1,5 @@
 -- A world in which nothing has happened, and its power coming on.
-use Rattle.std.proofs.Common.{◌≡◌, ◌≢◌, inl, inr, ℕ, true, false, List, [], ◌∷◌, refl, sym, ap₂, subst, ◌∙◌, arith, Option, Some, None}
+use Rattle.std.proofs.Common.{◌≡◌, ◌≢◌, inl, inr, ℕ, true, false, List, [], ◌∷◌, refl, sym, ap₂, subst, ◌∙◌, arith, None}
 use Rattle.bz_call.specs.declared.calls.Call.{Call}
 use Rattle.bz_layout.specs.Addresses.{words_of}
 use Rattle.bz_layout.specs.Config.{IsConfig}
@@ -13,13 +13,14 @@ use Rattle.bz_sched.specs.Points.{Point}
 use Rattle.bz_sched.specs.Queued.{Queued, has_open}
 use Rattle.bz_sched.specs.Recoveries.{Powers, PowersInPart}
 use Rattle.bz_sched.specs.Runs.{point_of, IsSteady, Stays, HasPower}
-use Rattle.bz_sched.specs.Scripts.{LeadsTo, LeadsToInPart}
+use Rattle.bz_sched.specs.Scripts.{LeadsTo, LeadsToInPart, LeadsToWant}
 use Rattle.bz_sched.specs.declared.running.RunEnd.{RunEnd}
 use Rattle.bz_sched.specs.declared.running.RunEnd.TheVariants.{Finished, Cut, Limit}
 use Rattle.bz_world.specs.Lab.{Lab, power_in}
-use Rattle.bz_world.specs.declared.answers.Which.{Which}
 use Rattle.bz_top.specs.Endings.{at_first, items_from}
-use Rattle.bz_top.specs.Items.{limit_in, ItemsDone, ItemsRan, IsTurnedOn, TurnsOn}
+use Rattle.bz_top.specs.Items.{end_in, ItemsDone, ItemsRan, IsTurnedOn, TurnsOn}
+use Rattle.bz_top.specs.declared.items.ItemsEnd.{ItemsEnd}
+use Rattle.bz_top.specs.declared.items.ItemsEnd.TheVariants as end
 
 pub steady_at_first : (world : Lab) (queue : Queued) → IsConfig world.config → world.at_start ≢ power.Recovering → world.log.past ≡ [] → queue.calls ≡ [] → ((w : ℕ) → has_open queue w ≡ false) → IsSteady world queue
 steady_at_first world queue config known new empty closed = record {
@@ -56,10 +57,13 @@ module _ (old : Lab) (queue : Queued) (new_world : old.log.past ≡ []) (empty :
         in_part = λ why items past h.
             subst (λ (is : List Item). LeadsToInPart why old.at_start old.log.start (words_of old.config) None at_first is past) (sym (from_on old.at_start items first))
             (subst (λ (p : Point). LeadsToInPart why old.at_start old.log.start (words_of old.config) None p items past) (first_point old queue new_world empty) h);
+        to_want = λ items past h.
+            subst (λ (is : List Item). LeadsToWant old.at_start old.log.start (words_of old.config) None at_first is past) (sym (from_on old.at_start items first))
+            (subst (λ (p : Point). LeadsToWant old.at_start old.log.start (words_of old.config) None p items past) (first_point old queue new_world empty) h);
       }
 
   -- or it comes on
-  pub turns_on : (new : Lab) (left : Queued) (end : RunEnd) → power_in old ≡ power.Off → HasPower None old queue end new left → TurnsOn old queue (limit_in end) new left
+  pub turns_on : (new : Lab) (left : Queued) (how : RunEnd) → power_in old ≡ power.Off → HasPower None old queue how new left → TurnsOn old queue (end_in how) new left
   turns_on new left Finished off (leaves, on, powers) =
       let first : old.at_start ≡ power.Off = rw new_world at off in
       let begun : Powers old.at_start None at_first (point_of new left) = subst (λ (p : Point). Powers old.at_start None p (point_of new left)) (first_point old queue new_world empty) powers in
@@ -72,6 +76,8 @@ module _ (old : Lab) (queue : Queued) (new_world : old.log.past ≡ []) (empty :
             subst (λ (is : List Item). LeadsTo old.at_start old.log.start (words_of old.config) None at_first is past) (sym (from_off old.at_start items first)) (point_of new left, inl begun, h);
         in_part = λ why items past h.
             subst (λ (is : List Item). LeadsToInPart why old.at_start old.log.start (words_of old.config) None at_first is past) (sym (from_off old.at_start items first)) (inr (point_of new left, inl begun, h));
+        to_want = λ items past h.
+            subst (λ (is : List Item). LeadsToWant old.at_start old.log.start (words_of old.config) None at_first is past) (sym (from_off old.at_start items first)) (point_of new left, inl begun, h);
       }
   turns_on new left Cut off (leaves, cut, powers, flush) = absurd powers
   turns_on new left (Limit which) off (stays, powers, met) =
@@ -87,19 +93,26 @@ module _ (old : Lab) (queue : Queued) (new_world : old.log.past ≡ []) (empty :
 both_stay : (old mid new : Lab) → Stays old mid → Stays mid new → Stays old new
 both_stay old mid new h k = record { config = k.config ∙ h.config; at_start = k.at_start ∙ h.at_start; start = k.start ∙ h.start; limits = k.limits ∙ h.limits }
 
-pub done_behind : (old mid new : Lab) (queue left : Queued) (items : List Item) (which : Option Which) → IsTurnedOn old queue mid left → ItemsDone (point_of mid left) mid items which new → ItemsRan old items which new
-done_behind old mid new queue left items None turned done = record {
+pub done_behind : (old mid new : Lab) (queue left : Queued) (items : List Item) (how : ItemsEnd) → IsTurnedOn old queue mid left → ItemsDone (point_of mid left) mid items how new → ItemsRan old items how new
+done_behind old mid new queue left items end.Finished turned done = record {
   on = both_stay old mid new turned.stays done.on;
   follows = turned.items items new.log.past
       (subst (λ (s : State). LeadsTo s old.log.start (words_of old.config) None (point_of mid left) items new.log.past) turned.stays.at_start
       (subst (λ (start : List ℕ). LeadsTo mid.at_start start (words_of old.config) None (point_of mid left) items new.log.past) turned.stays.start
       (subst (λ (c : Config). LeadsTo mid.at_start mid.log.start (words_of c) None (point_of mid left) items new.log.past) turned.stays.config done.follows)));
 }
-done_behind old mid new queue left items (Some why) turned done = record {
+done_behind old mid new queue left items (end.Limit why) turned done = record {
   on = both_stay old mid new turned.stays done.on;
   follows = turned.in_part why items new.log.past
       (subst (λ (s : State). LeadsToInPart why s old.log.start (words_of old.config) None (point_of mid left) items new.log.past) turned.stays.at_start
       (subst (λ (start : List ℕ). LeadsToInPart why mid.at_start start (words_of old.config) None (point_of mid left) items new.log.past) turned.stays.start
       (subst (λ (c : Config). LeadsToInPart why mid.at_start mid.log.start (words_of c) None (point_of mid left) items new.log.past) turned.stays.config done.follows)));
   met = done.met;
+}
+done_behind old mid new queue left items end.Memory turned done = record {
+  on = both_stay old mid new turned.stays done.on;
+  follows = turned.to_want items new.log.past
+      (subst (λ (s : State). LeadsToWant s old.log.start (words_of old.config) None (point_of mid left) items new.log.past) turned.stays.at_start
+      (subst (λ (start : List ℕ). LeadsToWant mid.at_start start (words_of old.config) None (point_of mid left) items new.log.past) turned.stays.start
+      (subst (λ (c : Config). LeadsToWant mid.at_start mid.log.start (words_of c) None (point_of mid left) items new.log.past) turned.stays.config done.follows)));
 }

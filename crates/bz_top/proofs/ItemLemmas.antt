@@ -1,19 +1,25 @@
 -- One item of a script.
-use Rattle.std.proofs.Common.{◌≡◌, ◌≤◌, inl, inr, ℕ, ◌+◌, [], ◌∷◌, ◌++◌, refl, arith, Option, Some, None}
+use Rattle.std.proofs.Common.{◌≡◌, ◌≤◌, inl, inr, sym, subst, ℕ, ◌+◌, true, false, [], ◌∷◌, ◌++◌, refl, arith, Option, Some, None}
 use Rattle.bz_call.specs.declared.calls.Call.{Call}
 use Rattle.bz_script.specs.declared.item.Item.TheVariants.{Queue, Arm, Run, Power}
+use Rattle.bz_script.specs.Order.{takes_no_cut}
 use Rattle.bz_script.specs.declared.item.Plan.{Plan}
+use Rattle.bz_script.specs.declared.item.Plan.TheVariants.{Alone, List as Listed, Turns, Threads}
 use Rattle.bz_sched.specs.Queued.{Queued}
 use Rattle.bz_sched.specs.ReadyLaws.{steady_when_queued}
-use Rattle.bz_sched.specs.Runs.{IsSteady, IsCutPlan, HasRun, HasPower}
+use Rattle.bz_sched.specs.Runs.{point_of, IsSteady, IsOfTurns, IsCutPlan, HasRun, HasPower}
 use Rattle.bz_sched.specs.declared.cut.CutPlan.{CutPlan}
 use Rattle.bz_sched.specs.declared.running.RunEnd.{RunEnd}
 use Rattle.bz_sched.specs.declared.running.RunEnd.TheVariants.{Finished, Cut, Limit}
 use Rattle.bz_world.specs.Lab.{Lab}
-use Rattle.bz_top.specs.Items.{HasDone, limit_in}
+use Rattle.bz_threads.specs.Ends.{HasRunThreads}
+use Rattle.bz_threads.specs.declared.running.ThreadsEnd.{ThreadsEnd}
+use Rattle.bz_threads.specs.declared.running.ThreadsEnd.TheVariants as threads
+use Rattle.bz_top.specs.Items.{HasDone, end_in, end_of_threads}
+use Rattle.bz_top.specs.declared.items.ItemsEnd.TheVariants as end
 
 pub queue_done : (world : Lab) (queue left : Queued) (armed : Option CutPlan) (w : ℕ) (call : Call) → IsSteady world queue → world.config.workers ≡ 64 → (1 ≤ w) × (w ≤ 64) → IsCutPlan armed
-    → left.calls ≡ queue.calls ++ (w, call) ∷ [] → left.room + 1 ≡ queue.room → left.begun ≡ queue.begun → HasDone armed world queue (Queue w call) None armed world left
+    → left.calls ≡ queue.calls ++ (w, call) ∷ [] → left.room + 1 ≡ queue.room → left.begun ≡ queue.begun → HasDone armed world queue (Queue w call) end.Finished armed world left
 queue_done world queue left armed w call steady many item cut calls fits same = record {
   stays = record { config = refl; at_start = refl; start = refl; limits = refl };
   steady = steady_when_queued world queue left w call steady (record { some = omega (arith, item.0); in_range = omega (arith, item.1, many) }) calls same;
@@ -23,7 +29,7 @@ queue_done world queue left armed w call steady many item cut calls fits same = 
   power = refl;
 }
 
-pub arm_done : (world : Lab) (queue : Queued) (armed : Option CutPlan) (flush seed : ℕ) → IsSteady world queue → 1 ≤ flush → HasDone armed world queue (Arm flush seed) None (Some (record { flush = flush; seed = seed })) world queue
+pub arm_done : (world : Lab) (queue : Queued) (armed : Option CutPlan) (flush seed : ℕ) → IsSteady world queue → 1 ≤ flush → HasDone armed world queue (Arm flush seed) end.Finished (Some (record { flush = flush; seed = seed })) world queue
 arm_done world queue armed flush seed steady some = record {
   stays = record { config = refl; at_start = refl; start = refl; limits = refl };
   steady = steady;
@@ -33,7 +39,7 @@ arm_done world queue armed flush seed steady some = record {
   power = refl;
 }
 
-pub run_done : (old new : Lab) (queue left : Queued) (armed : Option CutPlan) (plan : Plan) (end : RunEnd) → HasRun armed plan old queue end new left → HasDone armed old queue (Run plan) (limit_in end) None new left
+pub run_done : (old new : Lab) (queue left : Queued) (armed : Option CutPlan) (plan : Plan) (end : RunEnd) → HasRun armed plan old queue end new left → HasDone armed old queue (Run plan) (end_in end) None new left
 run_done old new queue left armed plan Finished (leaves, on, runs) = record {
   stays = leaves.stays;
   steady = leaves.steady;
@@ -51,9 +57,9 @@ run_done old new queue left (Some cut) plan Cut (leaves, off, (w, runs, flush)) 
   leads = (refl, inr (w, runs));
   power = λ none. absurd (cc none);
 }
-run_done old new queue left armed plan (Limit which) (stays, runs, met) = record { stays = stays; leads = runs; met = met }
+run_done old new queue left armed plan (Limit which) (stays, runs, met) = record { stays = stays; at = point_of new left; leads = runs; past = refl; met = met }
 
-pub power_done : (old new : Lab) (queue left : Queued) (armed : Option CutPlan) (end : RunEnd) → HasPower armed old queue end new left → HasDone armed old queue Power (limit_in end) None new left
+pub power_done : (old new : Lab) (queue left : Queued) (armed : Option CutPlan) (end : RunEnd) → HasPower armed old queue end new left → HasDone armed old queue Power (end_in end) None new left
 power_done old new queue left armed Finished (leaves, on, powers) = record {
   stays = leaves.stays;
   steady = leaves.steady;
@@ -71,4 +77,35 @@ power_done old new queue left (Some cut) Cut (leaves, off, powers, flush) = reco
   leads = (refl, inr powers);
   power = λ none. absurd (cc none);
 }
-power_done old new queue left armed (Limit which) (stays, powers, met) = record { stays = stays; leads = powers; met = met }
+power_done old new queue left armed (Limit which) (stays, powers, met) = record { stays = stays; at = point_of new left; leads = powers; past = refl; met = met }
+
+-- a plan that takes a cut takes turns, and the other one is that of threads
+pub of_turns : (plan : Plan) → takes_no_cut plan ≡ false → IsOfTurns plan
+of_turns Alone takes = tt
+of_turns (Listed turns) takes = tt
+of_turns (Turns seed) takes = tt
+of_turns Threads takes = absurd (cc takes)
+
+of_threads : (plan : Plan) → takes_no_cut plan ≡ true → plan ≡ Threads
+of_threads Alone takes = absurd (cc takes)
+of_threads (Listed turns) takes = absurd (cc takes)
+of_threads (Turns seed) takes = absurd (cc takes)
+of_threads Threads takes = refl
+
+by_threads : (old new : Lab) (queue left : Queued) (how : ThreadsEnd) → HasRunThreads old queue how new left → HasDone None old queue (Run Threads) (end_of_threads how) None new left
+by_threads old new queue left threads.Finished (leaves, on, runs) = record {
+  stays = leaves.stays;
+  steady = leaves.steady;
+  room = omega (arith, leaves.room);
+  cut = tt;
+  leads = (refl, inl runs);
+  power = λ none. on;
+}
+by_threads old new queue left (threads.Limit which) (stays, (at, runs, past), met) = record { stays = stays; at = at; leads = inl (runs, tt); past = past; met = met }
+by_threads old new queue left threads.Memory (stays, (at, ends, past)) = record { stays = stays; at = at; leads = ends; past = past }
+
+pub threads_done : (old new : Lab) (queue left : Queued) (armed : Option CutPlan) (plan : Plan) (how : ThreadsEnd) → takes_no_cut plan ≡ true → (takes_no_cut plan ≡ true → armed ≡ None) → HasRunThreads old queue how new left
+    → HasDone armed old queue (Run plan) (end_of_threads how) None new left
+threads_done old new queue left armed plan how is none run =
+    subst (λ (p : Plan). HasDone armed old queue (Run p) (end_of_threads how) None new left) (sym (of_threads plan is))
+    (subst (λ (a : Option CutPlan). HasDone a old queue (Run Threads) (end_of_threads how) None new left) (sym (none is)) (by_threads old new queue left how run))

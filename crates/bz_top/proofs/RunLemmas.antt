@@ -1,23 +1,25 @@
--- A script that was run over a new world, to its end or to a limit.
+-- A script that was run over a new world: to its end, to a limit, or to want of memory.
 use Rattle.std.proofs.Common.{◌≡◌, ◌++◌, Option, Some, None, List, ℕ, sym, subst, inl, inr}
+use Rattle.std.specs.Prelude.{codes}
 use Rattle.bz_layout.specs.Addresses.{words_of}
 use Rattle.bz_layout.specs.declared.config.Config.{Config}
 use Rattle.bz_script.specs.Script.{Job}
-use Rattle.bz_sched.specs.Scripts.{LeadsTo, LeadsToInPart}
+use Rattle.bz_sched.specs.Scripts.{LeadsTo, LeadsToInPart, LeadsToWant}
 use Rattle.bz_sound.specs.Power.Sound.{IsSound}
 use Rattle.bz_sound.specs.declared.power.Power.{Power as State}
 use Rattle.bz_words.specs.declared.command.Command.{Command}
 use Rattle.bz_world.specs.Lab.{Lab}
 use Rattle.bz_world.specs.declared.answers.Which.{Which}
 use Rattle.bz_top.specs.Bases.{Base}
-use Rattle.bz_top.specs.Endings.{IsLab, IsMadeFor, IsFinished, IsCutShort, at_first, items_from, printed, printed_before}
+use Rattle.bz_top.specs.Endings.{IsLab, IsMadeFor, IsFinished, IsCutShort, IsHeldUp, at_first, items_from, printed, printed_before}
 use Rattle.bz_top.specs.Faults.{fault_line, limit_text}
 use Rattle.bz_top.specs.Items.{ItemsRan}
-use Rattle.bz_top.specs.Parts.{Sunk, SaysOrWants, RanWorld}
+use Rattle.bz_top.specs.Parts.{Sunk, Says, SaysOrWants, RanWorld}
+use Rattle.bz_top.specs.declared.items.ItemsEnd.TheVariants.{Finished, Limit, Memory}
 use Rattle.bz_top.proofs.BaseLemmas.{made_still}
 
 module _ (marks : ℕ) (base : Base) (job : Job) (old new : Lab) (made : IsMadeFor marks base job old) (sound : IsSound new.config new.at_start new.log) where
-  pub ran-finished : (command : Command) (k : Sunk) (status : ℕ) (lab : Option Lab) → ItemsRan old job.items None new → lab ≡ Some new → SaysOrWants k 0 (printed command new) status → RanWorld command marks base job k status lab
+  pub ran-finished : (command : Command) (k : Sunk) (status : ℕ) (lab : Option Lab) → ItemsRan old job.items Finished new → lab ≡ Some new → SaysOrWants k 0 (printed command new) status → RanWorld command marks base job k status lab
   ran-finished command k status lab ran is says =
       let right : IsLab marks base job new = record { made = made_still marks base job old new made ran.on; sound = sound } in
       let finished : IsFinished marks base job new = record {
@@ -31,7 +33,7 @@ module _ (marks : ℕ) (base : Base) (job : Job) (old new : Lab) (made : IsMadeF
         | inr said ↦ inr (inr (record { world = new; is_lab = is; led = inl finished; said = said }))
       ]
 
-  pub ran-limited : (command : Command) (k : Sunk) (status : ℕ) (lab : Option Lab) (which : Which) → ItemsRan old job.items (Some which) new → lab ≡ Some new → SaysOrWants k 5 (printed_before command new ++ fault_line (limit_text which)) status
+  pub ran-limited : (command : Command) (k : Sunk) (status : ℕ) (lab : Option Lab) (which : Which) → ItemsRan old job.items (Limit which) new → lab ≡ Some new → SaysOrWants k 5 (printed_before command new ++ fault_line (limit_text which)) status
       → RanWorld command marks base job k status lab
   ran-limited command k status lab which ran is says =
       let right : IsLab marks base job new = record { made = made_still marks base job old new made ran.on; sound = sound } in
@@ -44,5 +46,17 @@ module _ (marks : ℕ) (base : Base) (job : Job) (old new : Lab) (made : IsMadeF
       } in
       elim says [
         | inl said ↦ inr (inl (record { world = new; which = which; is_lab = is; cut_short = cut_short; said = said }))
-        | inr said ↦ inr (inr (record { world = new; is_lab = is; led = inr (which, cut_short); said = said }))
+        | inr said ↦ inr (inr (record { world = new; is_lab = is; led = inr (inl (which, cut_short)); said = said }))
       ]
+
+  -- memory was wanting for threads
+  pub ran-held : (command : Command) (k : Sunk) (status : ℕ) (lab : Option Lab) → ItemsRan old job.items Memory new → lab ≡ Some new → Says k 7 (fault_line (codes "memory")) status → RanWorld command marks base job k status lab
+  ran-held command k status lab ran is said =
+      let right : IsLab marks base job new = record { made = made_still marks base job old new made ran.on; sound = sound } in
+      let held : IsHeldUp marks base job new = record {
+        right = right;
+        follows = subst (λ (s : State). LeadsToWant s new.log.start (words_of new.config) None at_first (items_from s job.items) new.log.past) (sym ran.on.at_start)
+            (subst (λ (start : List ℕ). LeadsToWant old.at_start start (words_of new.config) None at_first (items_from old.at_start job.items) new.log.past) (sym ran.on.start)
+            (subst (λ (c : Config). LeadsToWant old.at_start old.log.start (words_of c) None at_first (items_from old.at_start job.items) new.log.past) (sym ran.on.config) ran.follows));
+      } in
+      inr (inr (record { world = new; is_lab = is; led = inr (inr held); said = said }))

@@ -23,7 +23,7 @@ use Rattle.bz_world.specs.Lab.{Lab}
 use Rattle.bz_world.specs.declared.answers.Which.{Which}
 use Rattle.bz_sched.specs.Runs.{IsAtLimit}
 use Rattle.bz_sched.specs.Points.{Point}
-use Rattle.bz_sched.specs.Scripts.{LeadsTo, LeadsToInPart}
+use Rattle.bz_sched.specs.Scripts.{LeadsTo, LeadsToInPart, LeadsToWant}
 use Rattle.bz_gen.specs.Workload.{workload_of}
 use Rattle.bz_text.specs.Report.{report_of}
 use Rattle.bz_text.specs.Summary.{summary_of}
@@ -132,9 +132,15 @@ pub record IsCutShort (marks : ℕ) (base : Base) (script : Job) (world : Lab) (
   pub follows : LeadsToInPart which world.at_start world.log.start (words_of world.config) None at_first (items_from world.at_start script.items) world.log.past
   pub met : IsAtLimit world which
 
--- a world of the script, as the script has led to it: to its end, or up to a limit
+-- a run for which memory was wanting: a world of the script, with a sound journal to which the script leads up to a run on
+-- threads, of which no call was begun
+pub record IsHeldUp (marks : ℕ) (base : Base) (script : Job) (world : Lab) : Type 0 where
+  pub right : IsLab marks base script world
+  pub follows : LeadsToWant world.at_start world.log.start (words_of world.config) None at_first (items_from world.at_start script.items) world.log.past
+
+-- a world of the script, as the script has led to it: to its end, up to a limit, or up to want of memory
 abbrev pub IsLedTo : ℕ → Base → Job → Lab → Type 0
-IsLedTo marks base script world = IsFinished marks base script world ⊎ ((which : Which) × IsCutShort marks base script world which)
+IsLedTo marks base script world = IsFinished marks base script world ⊎ (((which : Which) × IsCutShort marks base script world which) ⊎ IsHeldUp marks base script world)
 
 -- what a command writes of a world in which its script was run to its end: its report, the file of the durable words that it has
 -- left, or its summary
@@ -234,7 +240,7 @@ pub record WantsEarly (o : Outside) (lab : Option Lab) : Type 0 where
   pub no_lab : lab ≡ None
   pub asked : IsReading o.words ⊎ (o.left_after ≡ o.left)
 
--- memory was wanting for what is written of a world, which is told
+-- memory was wanting for threads, or for what is written of a world, and the world is told
 pub record WantsLater (o : Outside) (lab : Option Lab) : Type 0 where
   pub line : CommandLine
   pub base : Base

@@ -1,8 +1,9 @@
 -- What the items of a script do to a world.
-use Rattle.std.specs.Prelude.{◌≡◌, ◌≤◌, ◌⊎◌, ℕ, ◌+◌, List, Option, Some, None}
+use Rattle.std.specs.Prelude.{◌≡◌, true, ◌≤◌, ◌⊎◌, ℕ, ◌+◌, List, Option, Some, None}
 use Rattle.bz_layout.specs.Addresses.{words_of}
 use Rattle.bz_mark.specs.declared.marks.Mark.{Mark}
 use Rattle.bz_script.specs.ItemLaws.{IsItem}
+use Rattle.bz_script.specs.Order.{takes_no_cut}
 use Rattle.bz_script.specs.declared.item.Item.{Item}
 use Rattle.bz_script.specs.declared.item.Item.TheVariants.{Queue, Arm, Run, Power}
 use Rattle.bz_sound.specs.declared.power.Power.{Power as State}
@@ -14,24 +15,33 @@ use Rattle.bz_sched.specs.Points.{Point}
 use Rattle.bz_sched.specs.Queued.{Queued}
 use Rattle.bz_sched.specs.Recoveries.{Powers, PowersCut, PowersInPart}
 use Rattle.bz_sched.specs.Runs.{point_of, IsAtLimit, IsSteady, Stays, IsCutPlan}
-use Rattle.bz_sched.specs.Scripts.{queued, LeadsTo, LeadsToInPart}
+use Rattle.bz_sched.specs.Scripts.{queued, LeadsTo, LeadsToInPart, WantsMemory, LeadsToWant}
 use Rattle.bz_sched.specs.declared.cut.CutPlan.{CutPlan}
 use Rattle.bz_sched.specs.declared.running.RunEnd.{RunEnd}
 use Rattle.bz_sched.specs.declared.running.RunEnd.TheVariants.{Finished, Cut, Limit}
+use Rattle.bz_threads.specs.declared.running.ThreadsEnd.{ThreadsEnd}
+use Rattle.bz_threads.specs.declared.running.ThreadsEnd.TheVariants as threads
 use Rattle.bz_top.specs.Endings.{at_first, items_from}
+use Rattle.bz_top.specs.declared.items.ItemsEnd.{ItemsEnd}
+use Rattle.bz_top.specs.declared.items.ItemsEnd.TheVariants as end
 
--- the limit that a run met, if it met one
-abbrev pub limit_in : RunEnd → Option Which
-limit_in (Limit which) = Some which
-limit_in Finished = None
-limit_in Cut = None
+-- how a run ended, as the end of its item: after a cut that was armed the script goes on
+abbrev pub end_in : RunEnd → ItemsEnd
+end_in (Limit which) = end.Limit which
+end_in Finished = end.Finished
+end_in Cut = end.Finished
 
--- an item may be done now: a run asks for the power
-abbrev pub IsReadyFor : Lab → Item → Type 0
-IsReadyFor world (Queue w call) = IsItem (Queue w call)
-IsReadyFor world (Arm flush seed) = IsItem (Arm flush seed)
-IsReadyFor world (Run plan) = IsItem (Run plan) × (power_in world ≡ power.On)
-IsReadyFor world Power = Unit {0}
+abbrev pub end_of_threads : ThreadsEnd → ItemsEnd
+end_of_threads (threads.Limit which) = end.Limit which
+end_of_threads threads.Memory = end.Memory
+end_of_threads threads.Finished = end.Finished
+
+-- an item may be done now: a run asks for the power, and one on threads that no cut is armed
+abbrev pub IsReadyFor : Option CutPlan → Lab → Item → Type 0
+IsReadyFor armed world (Queue w call) = IsItem (Queue w call)
+IsReadyFor armed world (Arm flush seed) = IsItem (Arm flush seed)
+IsReadyFor armed world (Run plan) = IsItem (Run plan) × (power_in world ≡ power.On) × (takes_no_cut plan ≡ true → armed ≡ None)
+IsReadyFor armed world Power = Unit {0}
 
 -- one item, from a point and with the cut that is armed: where it leads, and what is armed then
 abbrev pub Leads : State → List ℕ → ℕ → Option CutPlan → Point → Item → Option CutPlan → Point → Type 0
@@ -45,6 +55,11 @@ abbrev pub LeadsInPart : Which → State → List ℕ → ℕ → Option CutPlan
 LeadsInPart why at_start start words armed old (Run plan) new = RunsInPart why start words armed plan old new
 LeadsInPart why at_start start words armed old Power new = PowersInPart why at_start start words armed old new
 LeadsInPart why at_start start words armed old other new = ⊥
+
+-- and where it leads up to want of memory
+abbrev pub LeadsToWantIn : Point → Item → Point → Type 0
+LeadsToWantIn old (Run plan) new = WantsMemory plan old new
+LeadsToWantIn old other new = ⊥
 
 -- after a run or a power on for which no cut was armed the power is on; a line of another kind leaves it
 abbrev pub LeavesPower : Option CutPlan → Lab → Item → Lab → Type 0
@@ -63,14 +78,24 @@ pub record IsDoneItem (armed : Option CutPlan) (old : Lab) (queue : Queued) (ite
   pub power : LeavesPower armed old item new
 
 -- it met a limit
-pub record IsStoppedItem (which : Which) (armed : Option CutPlan) (old : Lab) (queue : Queued) (item : Item) (new : Lab) (left : Queued) : Type 0 where
+pub record IsStoppedItem (which : Which) (armed : Option CutPlan) (old : Lab) (queue : Queued) (item : Item) (new : Lab) : Type 0 where
   pub stays : Stays old new
-  pub leads : LeadsInPart which old.at_start old.log.start (words_of old.config) armed (point_of old queue) item (point_of new left)
+  pub at : Point
+  pub leads : LeadsInPart which old.at_start old.log.start (words_of old.config) armed (point_of old queue) item at
+  pub past : at.past ≡ new.log.past
   pub met : IsAtLimit new which
 
-abbrev pub HasDone : Option CutPlan → Lab → Queued → Item → Option Which → Option CutPlan → Lab → Queued → Type 0
-HasDone armed old queue item None next new left = IsDoneItem armed old queue item next new left
-HasDone armed old queue item (Some which) next new left = IsStoppedItem which armed old queue item new left
+-- memory was wanting for it
+pub record IsWantingItem (old : Lab) (queue : Queued) (item : Item) (new : Lab) : Type 0 where
+  pub stays : Stays old new
+  pub at : Point
+  pub leads : LeadsToWantIn (point_of old queue) item at
+  pub past : at.past ≡ new.log.past
+
+abbrev pub HasDone : Option CutPlan → Lab → Queued → Item → ItemsEnd → Option CutPlan → Lab → Queued → Type 0
+HasDone armed old queue item end.Finished next new left = IsDoneItem armed old queue item next new left
+HasDone armed old queue item (end.Limit which) next new left = IsStoppedItem which armed old queue item new
+HasDone armed old queue item end.Memory next new left = IsWantingItem old queue item new
 
 -- a world has gone on as the items lead from this point
 pub record IsLedFrom (first : Point) (old : Lab) (items : List Item) (new : Lab) : Type 0 where
@@ -83,13 +108,19 @@ pub record IsLedFromInPart (first : Point) (old : Lab) (items : List Item) (whic
   pub follows : LeadsToInPart which old.at_start old.log.start (words_of old.config) None first items new.log.past
   pub met : IsAtLimit new which
 
-abbrev pub ItemsDone : Point → Lab → List Item → Option Which → Lab → Type 0
-ItemsDone first old items None new = IsLedFrom first old items new
-ItemsDone first old items (Some which) new = IsLedFromInPart first old items which new
+-- it has gone on so far, and memory was wanting for a run on threads
+pub record IsLedFromToWant (first : Point) (old : Lab) (items : List Item) (new : Lab) : Type 0 where
+  pub on : Stays old new
+  pub follows : LeadsToWant old.at_start old.log.start (words_of old.config) None first items new.log.past
+
+abbrev pub ItemsDone : Point → Lab → List Item → ItemsEnd → Lab → Type 0
+ItemsDone first old items end.Finished new = IsLedFrom first old items new
+ItemsDone first old items (end.Limit which) new = IsLedFromInPart first old items which new
+ItemsDone first old items end.Memory new = IsLedFromToWant first old items new
 
 -- the same of a world in which nothing had happened, and of the items that it begins with
-abbrev pub ItemsRan : Lab → List Item → Option Which → Lab → Type 0
-ItemsRan old items which new = ItemsDone at_first old (items_from old.at_start items) which new
+abbrev pub ItemsRan : Lab → List Item → ItemsEnd → Lab → Type 0
+ItemsRan old items how new = ItemsDone at_first old (items_from old.at_start items) how new
 
 -- the power is on, as it was or because it has come on
 pub record IsTurnedOn (old : Lab) (queue : Queued) (new : Lab) (left : Queued) : Type 0 where
@@ -101,7 +132,11 @@ pub record IsTurnedOn (old : Lab) (queue : Queued) (new : Lab) (left : Queued) :
       → LeadsTo old.at_start old.log.start (words_of old.config) None at_first (items_from old.at_start items) past
   pub in_part : (why : Which) (items : List Item) (past : List Mark) → LeadsToInPart why old.at_start old.log.start (words_of old.config) None (point_of new left) items past
       → LeadsToInPart why old.at_start old.log.start (words_of old.config) None at_first (items_from old.at_start items) past
+  pub to_want : (items : List Item) (past : List Mark) → LeadsToWant old.at_start old.log.start (words_of old.config) None (point_of new left) items past
+      → LeadsToWant old.at_start old.log.start (words_of old.config) None at_first (items_from old.at_start items) past
 
-abbrev pub TurnsOn : Lab → Queued → Option Which → Lab → Queued → Type 0
-TurnsOn old queue None new left = IsTurnedOn old queue new left
-TurnsOn old queue (Some which) new left = (items : List Item) → IsLedFromInPart at_first old (items_from old.at_start items) which new
+-- power on asks for no memory
+abbrev pub TurnsOn : Lab → Queued → ItemsEnd → Lab → Queued → Type 0
+TurnsOn old queue end.Finished new left = IsTurnedOn old queue new left
+TurnsOn old queue (end.Limit which) new left = (items : List Item) → IsLedFromInPart at_first old (items_from old.at_start items) which new
+TurnsOn old queue end.Memory new left = ⊥

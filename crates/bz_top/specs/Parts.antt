@@ -58,7 +58,7 @@ pub record StopsShort (command : Command) (marks : ℕ) (base : Base) (script : 
   pub cut_short : IsCutShort marks base script world which
   pub said : Says k 5 (printed_before command world ++ fault_line (limit_text which)) status
 
--- memory was wanting for what is printed
+-- memory was wanting for threads, or for what is printed
 pub record GivesUp (marks : ℕ) (base : Base) (script : Job) (k : Sunk) (status : ℕ) (lab : Option Lab) : Type 0 where
   pub world : Lab
   pub is_lab : lab ≡ Some world

@@ -7,113 +7,202 @@ ghost use Rattle.bz_world.specs.Lab.{power_in};
 ghost use Rattle.bz_sched.specs.Queued.{has_open};
 ghost use Rattle.bz_sched.specs.Runs.{point_of, IsSteady, IsCutPlan};
 ghost use Rattle.bz_script.specs.ItemLaws.{AreItems};
-ghost use Rattle.bz_script.specs.Order.{at_first, AreInOrder};
-ghost use Rattle.bz_top.specs.Items.{ItemsRan, ItemsDone, TurnsOn, IsReadyFor, HasDone, limit_in};
+ghost use Rattle.bz_script.specs.Order.{at_first, takes_no_cut, AreInOrder};
+ghost use Rattle.bz_script.specs.declared.item.Item.TheVariants.{Run};
+ghost use Rattle.bz_top.specs.Items.{ItemsRan, ItemsDone, TurnsOn, IsReadyFor, HasDone, end_in, end_of_threads};
 
+use bz_index::Gate;
 use bz_sched::{CutPlan, Queue, RunEnd, power, run};
-use bz_script::Item;
+use bz_script::{Item, Plan};
+use bz_threads::{ThreadsEnd, run_threads};
 use bz_world::{Power, Which, World};
+use std::alloc::Global;
+use std::sync::Wait;
+use std::thread::Threads;
 
-// The limit that a run met, if it met one.
-fn limit_of(end: RunEnd) -> Option<Which>
-    ensures { result ≡ limit_in end }
+/// How an item of a script ended, or all of them.
+#[derive(Clone, Copy, Debug, PartialEq, Eq)]
+pub enum ItemsEnd {
+    Finished,
+
+    /// A limit of the journal was met, and one more was needed.
+    Limit(Which),
+
+    /// Want of memory, before a thread began.
+    Memory,
+}
+
+// How a run, or power on, ended; a cut that was armed is no reason to stop.
+fn end_of(end: RunEnd) -> ItemsEnd
+    ensures { result ≡ end_in end }
 {
     match end {
-        RunEnd::Limit(which) => Some(which),
-        RunEnd::Finished => None,
-        RunEnd::Cut => None,
+        RunEnd::Limit(which) => ItemsEnd::Limit(which),
+        RunEnd::Finished => ItemsEnd::Finished,
+        RunEnd::Cut => ItemsEnd::Finished,
     }
 }
 
-// Does what an item asks for, and tells the limit that was met, if one was. A cut is armed for the next run or power on.
-fn do_item(
-    world: &mut World,
+// How a run on threads ended.
+fn threads_end(end: ThreadsEnd) -> ItemsEnd
+    ensures { result ≡ end_of_threads end }
+{
+    match end {
+        ThreadsEnd::Limit(which) => ItemsEnd::Limit(which),
+        ThreadsEnd::Memory => ItemsEnd::Memory,
+        ThreadsEnd::Finished => ItemsEnd::Finished,
+    }
+}
+
+fn is_on_threads(plan: &Plan) -> bool
+    ensures { result ≡ takes_no_cut plan.now }
+{
+    match plan {
+        Plan::Threads => true,
+        Plan::Alone => false,
+        Plan::List(_) => false,
+        Plan::Turns(_) => false,
+    }
+}
+
+// Runs by a plan, with the cut that is armed, if one is.
+fn run_plan<R: Threads + Wait + Sync, G: Gate + Sync>(
+    rt: &R,
+    alloc: Global,
+    world: World,
+    queue: &mut Queue,
+    armed: Option<CutPlan>,
+    plan: &Plan,
+    gate: &G,
+) -> (World, ItemsEnd)
+    requires steady { IsSteady world queue.old }
+    requires armed { IsCutPlan armed }
+    requires item { IsReadyFor armed world (Run plan.now) }
+    ensures { HasDone armed world queue.old (Run plan.now) result.1 None result.0 queue.new }
+{
+    if is_on_threads(plan) {
+        let (world, end) = run_threads(rt, alloc, world, queue, gate);
+        (world, threads_end(end))
+    } else {
+        let mut world = world;
+        let end = run(&mut world, queue, plan, armed);
+        (world, end_of(end))
+    }
+}
+
+// Does what an item asks for. A cut is armed for the next run or power on.
+fn do_item<R: Threads + Wait + Sync, G: Gate + Sync>(
+    rt: &R,
+    alloc: Global,
+    world: World,
     queue: &mut Queue,
     armed: &mut Option<CutPlan>,
     item: &Item,
-) -> Option<Which>
-    requires steady { IsSteady world.old queue.old }
-    requires workers { world.old.config.workers ≡ MAX_WORKERS }
+    gate: &G,
+) -> (World, ItemsEnd)
+    requires steady { IsSteady world queue.old }
+    requires workers { world.config.workers ≡ MAX_WORKERS }
     requires room { 0 < queue.old.room }
     requires armed { IsCutPlan armed.old }
-    requires item { IsReadyFor world.old item.now }
-    ensures { HasDone armed.old world.old queue.old item.now result armed.new world.new queue.new }
+    requires item { IsReadyFor armed.old world item.now }
+    ensures { HasDone armed.old world queue.old item.now result.1 armed.new result.0 queue.new }
 {
     match item {
         Item::Queue(w, call) => {
             queue.push(*w, *call);
-            None
+            (world, ItemsEnd::Finished)
         }
         Item::Arm { flush, seed } => {
             *armed = Some(CutPlan {
                 flush: *flush,
                 seed: *seed,
             });
-            None
+            (world, ItemsEnd::Finished)
         }
         Item::Run(plan) => {
-            let end = run(world, queue, plan, *armed);
+            let done = run_plan(rt, alloc, world, queue, *armed, plan, gate);
             *armed = None;
-            limit_of(end)
+            done
         }
         Item::Power => {
-            let end = power(world, queue, *armed);
+            let mut world = world;
+            let end = power(&mut world, queue, *armed);
             *armed = None;
-            limit_of(end)
+            (world, end_of(end))
         }
     }
 }
 
-// Does what the items ask for, one after the other, and tells the limit that was met, if one was.
-fn do_items(world: &mut World, queue: &mut Queue, items: &[Item]) -> Option<Which>
-    requires steady { IsSteady world.old queue.old }
-    requires powered { power_in world.old ≡ On }
-    requires workers { world.old.config.workers ≡ MAX_WORKERS }
+// Does what the items ask for, one after the other, up to one that does not finish.
+fn do_items<R: Threads + Wait + Sync, G: Gate + Sync>(
+    rt: &R,
+    alloc: Global,
+    world: World,
+    queue: &mut Queue,
+    items: &[Item],
+    gate: &G,
+) -> (World, ItemsEnd)
+    requires steady { IsSteady world queue.old }
+    requires powered { power_in world ≡ On }
+    requires workers { world.config.workers ≡ MAX_WORKERS }
     requires room { length items.now ≤ queue.old.room }
     requires items { AreItems items.now }
     requires order { AreInOrder at_first items.now }
-    ensures { ItemsDone (point_of world.old queue.old) world.old items.now result world.new }
+    ensures { ItemsDone (point_of world queue.old) world items.now result.1 result.0 }
 {
+    let mut world = world;
     let mut armed: Option<CutPlan> = None;
     for item in items {
-        match do_item(world, queue, &mut armed, item) {
-            None => {}
-            Some(which) => return Some(which),
+        let (next, end) = do_item(rt, alloc, world, queue, &mut armed, item, gate);
+        world = next;
+        match end {
+            ItemsEnd::Finished => {}
+            ItemsEnd::Limit(which) => return (world, ItemsEnd::Limit(which)),
+            ItemsEnd::Memory => return (world, ItemsEnd::Memory),
         }
     }
-    None
+    (world, ItemsEnd::Finished)
 }
 
-// Turns the power on where it is off, and tells the limit that was met, if one was. Nothing has happened in the world.
-fn turn_on(world: &mut World, queue: &mut Queue) -> Option<Which>
+// Turns the power on where it is off. Nothing has happened in the world.
+fn turn_on(world: &mut World, queue: &mut Queue) -> ItemsEnd
     requires steady { IsSteady world.old queue.old }
     requires new { world.old.log.past ≡ [] }
     requires none_wait { queue.old.calls ≡ [] }
     ensures { TurnsOn world.old queue.old result world.new queue.new }
 {
     match world.power() {
-        Power::On => None,
-        Power::Off => limit_of(power(world, queue, None)),
+        Power::On => ItemsEnd::Finished,
+        Power::Off => end_of(power(world, queue, None)),
         Power::Recovering => unreachable!(),
     }
 }
 
-/// Does what the items ask for, over a world in which nothing has happened, and tells the limit that was met, if one was. Where
-/// the power is off it comes on before them.
-pub fn run_items(world: &mut World, queue: &mut Queue, items: &[Item]) -> Option<Which>
-    requires first { world.old.at_start ≢ Recovering }
-    requires new { world.old.log.past ≡ [] }
-    requires config { IsConfig world.old.config }
-    requires workers { world.old.config.workers ≡ MAX_WORKERS }
+/// Does what the items ask for, one after the other, over a world in which nothing has happened, up to one that does not
+/// finish. Where the power is off it comes on before them.
+pub fn run_items<R: Threads + Wait + Sync, G: Gate + Sync>(
+    rt: &R,
+    alloc: Global,
+    world: World,
+    queue: &mut Queue,
+    items: &[Item],
+    gate: &G,
+) -> (World, ItemsEnd)
+    requires first { world.at_start ≢ Recovering }
+    requires new { world.log.past ≡ [] }
+    requires config { IsConfig world.config }
+    requires workers { world.config.workers ≡ MAX_WORKERS }
     requires none_wait { queue.old.calls ≡ [] }
     requires none_open { (w : ℕ) → has_open queue.old w ≡ false }
     requires room { queue.old.room ≡ length items.now }
     requires items { AreItems items.now }
     requires order { AreInOrder at_first items.now }
-    ensures { ItemsRan world.old items.now result world.new }
+    ensures { ItemsRan world items.now result.1 result.0 }
 {
-    match turn_on(world, queue) {
-        None => do_items(world, queue, items),
-        Some(which) => Some(which),
+    let mut world = world;
+    match turn_on(&mut world, queue) {
+        ItemsEnd::Finished => do_items(rt, alloc, world, queue, items, gate),
+        ItemsEnd::Limit(which) => (world, ItemsEnd::Limit(which)),
+        ItemsEnd::Memory => unreachable!(),
     }
 }

@@ -3,13 +3,12 @@
 
 mod dump;
 mod faults;
-mod gates;
 mod items;
 mod load;
 mod open;
 mod program;
 
-pub use gates::{Gate, NoGate};
+pub use bz_index::{Gate, NoGate};
 pub use program::{Outcome, top};
 
 #[cfg(test)]
@@ -18,5 +17,7 @@ mod image_tests;
 mod power_tests;
 #[cfg(test)]
 mod tests;
+#[cfg(test)]
+mod threads_tests;
 #[cfg(test)]
 mod workload_tests;

@@ -12,12 +12,15 @@ use crate::faults::{image_line, shape_line};
 use crate::program::{Outcome, config_for, no_memory, refuse, run_source, written};
 use bz_content::CheckError;
 use bz_image::{FetchFault, ImageFault, fetch_image};
+use bz_index::Gate;
 use bz_io::{Sink, Source};
 use bz_judge::check;
 use bz_memory::Memory;
 use bz_shape::ShapeFault;
 use bz_words::CommandLine;
 use std::alloc::Global;
+use std::sync::Wait;
+use std::thread::Threads;
 
 // Answers bytes that are no image, or want of memory for them.
 fn refuse_image<K: Sink>(fault: ImageFault, sink: &mut K) -> Outcome
@@ -52,11 +55,13 @@ fn refuse_shape<K: Sink>(alloc: Global, fault: ShapeFault, sink: &mut K) -> Outc
 }
 
 /// Goes on from the image that the source gives, by the script behind it. The image is judged before the script is asked for.
-pub(crate) fn load<S: Source, K: Sink>(
+pub(crate) fn load<R: Threads + Wait + Sync, S: Source, K: Sink, G: Gate + Sync>(
+    rt: &R,
     alloc: Global,
     line: CommandLine,
     source: &mut S,
     sink: &mut K,
+    gate: &G,
 ) -> Outcome
     requires command { line.command ≡ Load }
     requires marks { (MIN_MARKS ≤ line.marks) × (line.marks ≤ MAX_MARKS) }
@@ -81,7 +86,7 @@ pub(crate) fn load<S: Source, K: Sink>(
     };
     let config = config_for(line.marks, image.nodes, image.swaps);
     match check(alloc, image.words.words(), &config) {
-        Ok(_) => run_source(alloc, line, Some(image), source, sink),
+        Ok(_) => run_source(rt, alloc, line, Some(image), source, sink, gate),
         Err(CheckError::Shape(fault)) => refuse_shape(alloc, fault, sink),
         Err(CheckError::Memory) => no_memory(sink),
     }

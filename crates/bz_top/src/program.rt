@@ -19,13 +19,13 @@ ghost use Rattle.bz_top.specs.Parts.{given, sunk, Says, SaysOrWants, RanWorld, R
 
 use crate::dump::dump;
 use crate::faults::{broken_line, limit_line};
-use crate::gates::Gate;
-use crate::items::run_items;
+use crate::items::{ItemsEnd, run_items};
 use crate::load::load;
 use crate::open::{numbers_of, open_world};
 use bz_gen::generate;
 use bz_gen::laws::workloads_are_jobs;
 use bz_image::Image;
+use bz_index::Gate;
 use bz_io::{Failed, ReadFault, Sink, Source, read_all, write_all};
 use bz_layout::{Config, MAX_CALLS, MAX_PAGES, MAX_WORKERS};
 use bz_memory::Memory;
@@ -62,13 +62,15 @@ pub(crate) fn written<K: Sink>(sink: &mut K, text: &[u8], status: u8) -> u8
 }
 
 /// Runs a script in a world that was opened for it.
-fn run_world<K: Sink>(
+fn run_world<R: Threads + Wait + Sync, K: Sink, G: Gate + Sync>(
+    rt: &R,
     alloc: Global,
     line: CommandLine,
     script: &Script,
-    mut world: World,
+    world: World,
     mut queue: Queue,
     sink: &mut K,
+    gate: &G,
 ) -> Outcome
     requires script { IsJob (job_of script.now) }
     requires first { world.at_start ≢ Recovering }
@@ -82,9 +84,11 @@ fn run_world<K: Sink>(
         (sunk (K.held sink.old) (K.held sink.new) (K.faults sink.old) (K.faults sink.new))
         result.status result.lab }
 {
-    match run_items(&mut world, &mut queue, script.items.items()) {
-        None => print(alloc, line.command, world, sink),
-        Some(which) => print_limit(alloc, line.command, world, which, sink),
+    let (world, end) = run_items(rt, alloc, world, &mut queue, script.items.items(), gate);
+    match end {
+        ItemsEnd::Finished => print(alloc, line.command, world, sink),
+        ItemsEnd::Limit(which) => print_limit(alloc, line.command, world, which, sink),
+        ItemsEnd::Memory => hold_up(world, sink),
     }
 }
 
@@ -103,12 +107,14 @@ pub(crate) fn config_for(marks: u32, nodes: u32, swaps: u32) -> Config
 }
 
 /// Runs the script of a command over fresh memory or an image, with its limit on marks.
-fn run_script<K: Sink>(
+fn run_script<R: Threads + Wait + Sync, K: Sink, G: Gate + Sync>(
+    rt: &R,
     alloc: Global,
     line: CommandLine,
     base: Option<Image>,
     script: &Script,
     sink: &mut K,
+    gate: &G,
 ) -> Outcome
     requires script { IsJob (job_of script.now) }
     requires marks { (MIN_MARKS ≤ line.marks) × (line.marks ≤ MAX_MARKS) }
@@ -123,7 +129,7 @@ fn run_script<K: Sink>(
         Err(Memory) => return no_memory(sink),
     };
     match open_world(alloc, &config, base) {
-        Ok(world) => run_world(alloc, line, script, world, queue, sink),
+        Ok(world) => run_world(rt, alloc, line, script, world, queue, sink, gate),
         Err(Memory) => no_memory(sink),
     }
 }
@@ -148,6 +154,18 @@ fn give_up<K: Sink>(world: World, sink: &mut K) -> Outcome
     let status = written(sink, b"fault: memory\n", 7);
     let lab = Some(world);
     Outcome { status, lab }
+}
+
+/// Answers want of memory for threads.
+fn hold_up<K: Sink>(world: World, sink: &mut K) -> Outcome
+    ensures lab { result.lab ≡ Some world }
+    ensures sound { IsSound world.config world.at_start world.log }
+    ensures wrote { Says
+        (sunk (K.held sink.old) (K.held sink.new) (K.faults sink.old) (K.faults sink.new))
+        7 (fault_line (codes "memory")) result.status }
+{
+    let _journal = world.journal();
+    give_up(world, sink)
 }
 
 /// Writes the report of a run that is done.
@@ -304,12 +322,14 @@ fn report_broken<K: Sink>(alloc: Global, line: u32, rule: ScriptRule, sink: &mut
 }
 
 /// Reads the bytes as a script and runs it, with this limit on marks.
-fn run_bytes<K: Sink>(
+fn run_bytes<R: Threads + Wait + Sync, K: Sink, G: Gate + Sync>(
+    rt: &R,
     alloc: Global,
     line: CommandLine,
     base: Option<Image>,
     bytes: &[u8],
     sink: &mut K,
+    gate: &G,
 ) -> Outcome
     requires fits { length bytes.now ≤ SCRIPT_BYTES }
     requires marks { (MIN_MARKS ≤ line.marks) × (line.marks ≤ MAX_MARKS) }
@@ -319,19 +339,21 @@ fn run_bytes<K: Sink>(
         result.status result.lab }
 {
     match read_script(alloc, bytes, numbers_of(&base)) {
-        Ok(script) => run_script(alloc, line, base, &script, sink),
+        Ok(script) => run_script(rt, alloc, line, base, &script, sink, gate),
         Err(ScriptFault::Rule { line, rule }) => report_broken(alloc, line, rule, sink),
         Err(ScriptFault::Memory) => no_memory(sink),
     }
 }
 
 /// Runs the script that the source has left, with this limit on marks.
-pub(crate) fn run_source<S: Source, K: Sink>(
+pub(crate) fn run_source<R: Threads + Wait + Sync, S: Source, K: Sink, G: Gate + Sync>(
+    rt: &R,
     alloc: Global,
     line: CommandLine,
     base: Option<Image>,
     source: &mut S,
     sink: &mut K,
+    gate: &G,
 ) -> Outcome
     requires marks { (MIN_MARKS ≤ line.marks) × (line.marks ≤ MAX_MARKS) }
     requires base { IsBase line.marks base }
@@ -341,7 +363,7 @@ pub(crate) fn run_source<S: Source, K: Sink>(
         result.status result.lab }
 {
     match read_all(alloc, source, SCRIPT_BYTES) {
-        Ok(bytes) => run_bytes(alloc, line, base, &bytes, sink),
+        Ok(bytes) => run_bytes(rt, alloc, line, base, &bytes, sink, gate),
         Err(ReadFault::Failed) => refuse(sink, b"fault: read\n", 1),
         Err(ReadFault::TooLong) => refuse(sink, b"fault: script too long\n", 3),
         Err(ReadFault::Memory) => no_memory(sink),
@@ -349,13 +371,15 @@ pub(crate) fn run_source<S: Source, K: Sink>(
 }
 
 /// Makes the workload of a seed and runs it.
-fn run_workload<K: Sink>(
+fn run_workload<R: Threads + Wait + Sync, K: Sink, G: Gate + Sync>(
+    rt: &R,
     alloc: Global,
     line: CommandLine,
     seed: u64,
     calls: u32,
     workers: u32,
     sink: &mut K,
+    gate: &G,
 ) -> Outcome
     requires calls { (1 ≤ calls) × (calls ≤ MOST_CALLS) }
     requires workers { (MIN_WORKERS ≤ workers) × (workers ≤ MOST_WORKERS) }
@@ -366,7 +390,7 @@ fn run_workload<K: Sink>(
 {
     workloads_are_jobs();
     match generate(alloc, seed, calls, workers) {
-        Ok(script) => run_script(alloc, line, None, &script, sink),
+        Ok(script) => run_script(rt, alloc, line, None, &script, sink, gate),
         Err(Memory) => no_memory(sink),
     }
 }
@@ -384,12 +408,12 @@ pub(crate) fn refuse<K: Sink>(sink: &mut K, text: &[u8], status: u8) -> Outcome
 
 /// All that the program does: `words` are the command line's words without the program's name.
 pub fn top<R: Threads + Wait + Sync, S: Source, K: Sink, G: Gate + Sync>(
-    _rt: &R,
+    rt: &R,
     alloc: Global,
     words: &[&str],
     source: &mut S,
     sink: &mut K,
-    _gate: &G,
+    gate: &G,
 ) -> Outcome
     ensures ended { IsEnded
         (record {
@@ -411,13 +435,13 @@ pub fn top<R: Threads + Wait + Sync, S: Source, K: Sink, G: Gate + Sync>(
         Err(WordsError::Memory) => return no_memory(sink),
     };
     match line.command {
-        Command::Run => run_source(alloc, line, None, source, sink),
-        Command::Dump => run_source(alloc, line, None, source, sink),
-        Command::Load => load(alloc, line, source, sink),
+        Command::Run => run_source(rt, alloc, line, None, source, sink, gate),
+        Command::Dump => run_source(rt, alloc, line, None, source, sink, gate),
+        Command::Load => load(rt, alloc, line, source, sink, gate),
         Command::Work {
             seed,
             calls,
             workers,
-        } => run_workload(alloc, line, seed, calls, workers, sink),
+        } => run_workload(rt, alloc, line, seed, calls, workers, sink, gate),
     }
 }

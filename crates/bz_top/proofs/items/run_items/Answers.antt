@@ -1,16 +1,38 @@
 use Rattle.std.proofs.Common.{ap, ◌∙◌, arith}
 use Rattle.bz_layout.specs.declared.config.Config.{Config}
+use Rattle.bz_top.specs.Items.{IsTurnedOn}
 use Rattle.bz_top.proofs.FirstLemmas.{steady_at_first, done_behind}
 use Rattle.bz_top.proofs.items.run_items.Goals as goal
 
 pub turn_on-requires-clause-steady : goal.turn_on-requires-clause-steady
-turn_on-requires-clause-steady c = steady_at_first c.args.world.now c.args.queue.now c.requires.config c.requires.first c.requires.new c.requires.none_wait c.requires.none_open
+turn_on-requires-clause-steady g c = steady_at_first c.args.world c.args.queue.now c.requires.config c.requires.first c.requires.new c.requires.none_wait c.requires.none_open
+
+pub do_items-requires-clause-steady : goal.do_items-requires-clause-steady
+do_items-requires-clause-steady g c = λ lives outlive.
+    let turned : IsTurnedOn c.args.world c.args.queue.now c.turn_on.new.world c.turn_on.new.queue = rw c.in-Finished.is at c.turn_on.ensures in
+    turned.steady
+
+pub do_items-requires-clause-powered : goal.do_items-requires-clause-powered
+do_items-requires-clause-powered g c = λ lives outlive.
+    let turned : IsTurnedOn c.args.world c.args.queue.now c.turn_on.new.world c.turn_on.new.queue = rw c.in-Finished.is at c.turn_on.ensures in
+    turned.on
 
 pub do_items-requires-clause-workers : goal.do_items-requires-clause-workers
-do_items-requires-clause-workers c = ap (λ (config : Config). config.workers) c.in-None.ensures.stays.config ∙ c.requires.workers
+do_items-requires-clause-workers g c = λ lives outlive.
+    let turned : IsTurnedOn c.args.world c.args.queue.now c.turn_on.new.world c.turn_on.new.queue = rw c.in-Finished.is at c.turn_on.ensures in
+    ap (λ (config : Config). config.workers) turned.stays.config ∙ c.requires.workers
 
 pub do_items-requires-clause-room : goal.do_items-requires-clause-room
-do_items-requires-clause-room c = omega (arith, c.in-None.ensures.room, c.requires.room)
+do_items-requires-clause-room g c = λ lives outlive.
+    let turned : IsTurnedOn c.args.world c.args.queue.now c.turn_on.new.world c.turn_on.new.queue = rw c.in-Finished.is at c.turn_on.ensures in
+    omega (arith, turned.room, c.requires.room)
 
-pub returns-in-None : goal.returns-in-None
-returns-in-None c = done_behind c.args.world.now c.turn_on.new.world c.do_items.new.world c.args.queue.now c.turn_on.new.queue c.args.items.now c.do_items.result c.in-None.ensures c.do_items.ensures
+pub returns-in-Finished : goal.returns-in-Finished
+returns-in-Finished g c =
+    done_behind c.args.world c.turn_on.new.world c.do_items.result.0 c.args.queue.now c.turn_on.new.queue c.args.items.now c.do_items.result.1 (rw c.in-Finished.is at c.turn_on.ensures) c.do_items.ensures
+
+pub returns-in-Limit : goal.returns-in-Limit
+returns-in-Limit g c = (rw c.in-Limit.is at c.turn_on.ensures) c.args.items.now
+
+pub unreachable-requires : goal.unreachable-requires
+unreachable-requires g c = rw c.in-Memory.is at c.turn_on.ensures

@@ -7,5 +7,5 @@ returns-in-On c = turned_already c.args.world.now c.args.queue.now c.requires.ne
 
 pub returns-in-Off : goal.returns-in-Off
 returns-in-Off c =
-    rw c.limit_of.ensures
+    rw c.end_of.ensures
     (turns_on c.args.world.now c.args.queue.now c.requires.new c.requires.none_wait c.power-in-Off.new.world c.power-in-Off.new.queue c.power-in-Off.result (sym c.power.ensures ∙ c.in-Off.is) c.power-in-Off.ensures)

@@ -1,7 +1,7 @@
-use Rattle.std.proofs.Common.{ap, Err}
+use Rattle.std.proofs.Common.{inl, ap, Err}
 use Rattle.std.specs.Prelude.{Some}
 use Rattle.bz_top.proofs.BaseLemmas.{fetched_config, fetched_words}
-use Rattle.bz_top.proofs.EndLemmas.{ended_read, ended-source}
+use Rattle.bz_top.proofs.EndLemmas.{ended_read, ended_early, ended-source}
 use Rattle.bz_top.proofs.LoadLemmas.{load_reads_over, load_reading, ended-fetch, ended-misshapen}
 use Rattle.bz_top.proofs.load.load.Goals as goal
 
@@ -20,7 +20,7 @@ check-requires g c =
     rw (c.config_for-config.ensures, c.words.ensures) (record { config = config; whole = fetched_words c.args.line.marks c.in-Ok.image c.in-Ok.ensures.sized })
 
 pub run_source-requires-clause-base : goal.run_source-requires-clause-base
-run_source-requires-clause-base g c =
+run_source-requires-clause-base g c = λ lives outlive.
     record {
       config = fetched_config c.args.line.marks c.in-Ok.image c.requires.marks.0 c.requires.marks.1 c.in-Ok.ensures.sized;
       size = fetched_words c.args.line.marks c.in-Ok.image c.in-Ok.ensures.sized;
@@ -40,3 +40,6 @@ pub returns-in-Err-Shape : goal.returns-in-Err-Shape
 returns-in-Err-Shape g c words command =
     ended-misshapen _ _ _ c.args.line command c.requires.command c.refuse_shape.ensures.lab c.in-Ok.image c.in-Ok.ensures.sized c.in-Ok.ensures.image _ _ _ c.in-Err-Shape.fault _ (cc c.in-Err-Shape.fault-is) c.in-Err-Shape.field-0-is
     c.config_for-config.ensures c.words.ensures c.in-Err-Shape.ensures.fault c.refuse_shape.ensures.wrote
+
+pub returns : goal.returns
+returns g c words command = ended_early _ _ _ (inl (load_reading words c.args.line command c.requires.command)) c.no_memory.ensures.lab c.no_memory.ensures.wrote

@@ -5,10 +5,10 @@ use Rattle.bz_top.proofs.BaseLemmas.{base_of_script, refused_bytes}
 use Rattle.bz_top.proofs.program.run_bytes.Goals as goal
 
 pub run_script-requires-clause-script : goal.run_script-requires-clause-script
-run_script-requires-clause-script g c = scripts_are_jobs _ c.args.bytes.now _ c.in-Ok.ensures
+run_script-requires-clause-script g c = λ lives outlive. scripts_are_jobs _ c.args.bytes.now _ c.in-Ok.ensures
 
 pub run_script-requires-clause-base : goal.run_script-requires-clause-base
-run_script-requires-clause-base g c = base_of_script c.args.line.marks c.args.base c.args.bytes.now (job_of c.in-Ok.script) c.requires.base (rw c.numbers_of.ensures at c.in-Ok.ensures)
+run_script-requires-clause-base g c = λ lives outlive. base_of_script c.args.line.marks c.args.base c.args.bytes.now (job_of c.in-Ok.script) c.requires.base (rw c.numbers_of.ensures at c.in-Ok.ensures)
 
 pub returns-in-Err-Rule : goal.returns-in-Err-Rule
 returns-in-Err-Rule g c =

@@ -1,25 +1,39 @@
-use Rattle.std.proofs.Common.{subst, Some, None}
+use Rattle.std.proofs.Common.{subst}
 use Rattle.bz_script.specs.Script.{job_of}
 use Rattle.bz_top.specs.Items.{ItemsRan}
 use Rattle.bz_top.specs.Parts.{sunk}
+use Rattle.bz_top.specs.declared.items.ItemsEnd.TheVariants.{Finished, Limit, Memory}
 use Rattle.bz_top.proofs.BaseLemmas.{image_still}
-use Rattle.bz_top.proofs.RunLemmas.{ran-finished, ran-limited}
+use Rattle.bz_top.proofs.RunLemmas.{ran-finished, ran-limited, ran-held}
 use Rattle.bz_top.proofs.program.run_world.Goals as goal
 
 pub print-requires : goal.print-requires
-print-requires g c = record { image = image_still c.args.world c.run_items.new.world c.requires.image c.in-None.ensures.on }
+print-requires g c =
+    let ran : ItemsRan c.args.world _ Finished c.run_items-world.result.0 = rw c.in-Finished.is at c.run_items-world.ensures in
+    record { image = image_still c.args.world c.run_items-world.result.0 c.requires.image ran.on }
 
 pub print_limit-requires : goal.print_limit-requires
-print_limit-requires g c = record { image = image_still c.args.world c.run_items.new.world c.requires.image c.in-Some.ensures.on }
+print_limit-requires g c =
+    let ran : ItemsRan c.args.world _ (Limit c.in-Limit.which) c.run_items-world.result.0 = rw c.in-Limit.is at c.run_items-world.ensures in
+    record { image = image_still c.args.world c.run_items-world.result.0 c.requires.image ran.on }
 
-pub returns-in-None : goal.returns-in-None
-returns-in-None g c base made =
-    ran-finished c.args.line.marks base (job_of c.args.script.now) c.args.world c.run_items.new.world made c.print.ensures.sound c.args.line.command
+pub returns-in-Finished : goal.returns-in-Finished
+returns-in-Finished g c base made =
+    let ran : ItemsRan c.args.world _ Finished c.run_items-world.result.0 = rw c.in-Finished.is at c.run_items-world.ensures in
+    ran-finished c.args.line.marks base (job_of c.args.script.now) c.args.world c.run_items-world.result.0 made c.print.ensures.sound c.args.line.command
     (sunk (g.K.Sink.held c.args.sink.now) (g.K.Sink.held c.print.new.sink) (g.K.Sink.faults c.args.sink.now) (g.K.Sink.faults c.print.new.sink))
-    c.print.result.status c.print.result.lab (subst (λ items. ItemsRan c.args.world items None c.run_items.new.world) c.items.ensures c.in-None.ensures) c.print.ensures.lab c.print.ensures.wrote
+    c.print.result.status c.print.result.lab (subst (λ items. ItemsRan c.args.world items Finished c.run_items-world.result.0) c.items.ensures ran) c.print.ensures.lab c.print.ensures.wrote
+
+pub returns-in-Limit : goal.returns-in-Limit
+returns-in-Limit g c base made =
+    let ran : ItemsRan c.args.world _ (Limit c.in-Limit.which) c.run_items-world.result.0 = rw c.in-Limit.is at c.run_items-world.ensures in
+    ran-limited c.args.line.marks base (job_of c.args.script.now) c.args.world c.run_items-world.result.0 made c.print_limit.ensures.sound c.args.line.command
+    (sunk (g.K.Sink.held c.args.sink.now) (g.K.Sink.held c.print_limit.new.sink) (g.K.Sink.faults c.args.sink.now) (g.K.Sink.faults c.print_limit.new.sink))
+    c.print_limit.result.status c.print_limit.result.lab c.in-Limit.which (subst (λ items. ItemsRan c.args.world items (Limit c.in-Limit.which) c.run_items-world.result.0) c.items.ensures ran) c.print_limit.ensures.lab c.print_limit.ensures.wrote
 
 pub returns : goal.returns
 returns g c base made =
-    ran-limited c.args.line.marks base (job_of c.args.script.now) c.args.world c.run_items.new.world made c.print_limit.ensures.sound c.args.line.command
-    (sunk (g.K.Sink.held c.args.sink.now) (g.K.Sink.held c.print_limit.new.sink) (g.K.Sink.faults c.args.sink.now) (g.K.Sink.faults c.print_limit.new.sink))
-    c.print_limit.result.status c.print_limit.result.lab c.in-Some.which (subst (λ items. ItemsRan c.args.world items (Some c.in-Some.which) c.run_items.new.world) c.items.ensures c.in-Some.ensures) c.print_limit.ensures.lab c.print_limit.ensures.wrote
+    let ran : ItemsRan c.args.world _ Memory c.run_items-world.result.0 = rw c.in-Memory.is at c.run_items-world.ensures in
+    ran-held c.args.line.marks base (job_of c.args.script.now) c.args.world c.run_items-world.result.0 made c.hold_up.ensures.sound c.args.line.command
+    (sunk (g.K.Sink.held c.args.sink.now) (g.K.Sink.held c.hold_up.new.sink) (g.K.Sink.faults c.args.sink.now) (g.K.Sink.faults c.hold_up.new.sink))
+    c.hold_up.result.status c.hold_up.result.lab (subst (λ items. ItemsRan c.args.world items Memory c.run_items-world.result.0) c.items.ensures ran) c.hold_up.ensures.lab c.hold_up.ensures.wrote

@@ -1,0 +1,26 @@
+use Rattle.std.proofs.Common.{◌≤◌, sym, ap, subst, ◌∙◌, arith}
+use Rattle.bz_index.specs.declared.shared.Origin.{Origin}
+use Rattle.bz_layout.specs.declared.limits.TheConstants.{MAX_WORKERS}
+use Rattle.bz_mark.specs.Log.{Log}
+use Rattle.bz_threads.proofs.Ending.{ended, ended_before, ended_early}
+use Rattle.bz_threads.proofs.running.run_threads.Goals as goal
+use Rattle.bz_threads.specs.Ends.{HasRunThreads}
+use Rattle.bz_threads.specs.declared.running.ThreadsEnd.TheVariants.{Memory}
+use Rattle.bz_world.specs.Lab.{Lab}
+
+pub returns-in-Some : goal.returns-in-Some
+returns-in-Some g c = ended_before c.args.world c.end_open_calls.new.world c.args.queue.now c.end_open_calls.new.queue c.in-Some.which c.in-Some.ensures
+
+pub returns-in-Ok : goal.returns-in-Ok
+returns-in-Ok g c =
+    let ends = c.in-None.ensures in
+    let origin = c.in-Ok.ensures.index in
+    let closed = c.close-world.ensures.world.0 in
+    let few = subst (λ (o : Origin). o.config.workers ≤ MAX_WORKERS) (sym (closed ∙ origin)) ends.0.steady.config.workers_in_range.at_most in
+    ended c.args.world c.end_open_calls.new.world c.close-world.result c.args.queue.now c.end_open_calls.new.queue c.clear.new.self c.in-Ok.index c.in-Ok.first c.run_on-end.new.first ends origin c.in-Ok.ensures.pass.2 closed
+    (ap (λ (log : Log). log.past) c.close-world.ensures.log) c.journal.ensures.workers few c.clear.ensures.calls c.clear.ensures.closed (omega (arith, ends.0.room, c.run_on-end.ensures.room, c.clear.ensures.room)) c.run_on-end.result c.run_on-end.ensures.end
+
+pub returns-in-Err : goal.returns-in-Err
+returns-in-Err g c =
+    subst (λ (world : Lab). HasRunThreads c.args.world c.args.queue.now Memory world c.end_open_calls.new.queue) (sym c.in-Err.ensures.err)
+    (ended_early c.args.world c.end_open_calls.new.world c.args.queue.now c.end_open_calls.new.queue c.in-None.ensures)
