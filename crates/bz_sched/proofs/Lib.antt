@@ -1,3 +1,6 @@
+pub mod TurnAdds
+pub mod IdleRuns
+pub mod OpenEnds
 pub mod PowerLemmas
 pub mod BurnLemmas
 pub mod LookLemmas

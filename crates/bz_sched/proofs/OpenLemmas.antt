@@ -7,7 +7,7 @@ use Rattle.bz_world.specs.declared.answers.Which.{Which}
 use Rattle.bz_sched.specs.declared.turn.Stop.{Stop}
 use Rattle.bz_sched.specs.declared.turn.Stop.TheVariants.{Due, Limit}
 use Rattle.bz_sched.specs.OpenCalls.{EndsCall, EndsCallsFrom, EndsCalls, EndsCallInPart, EndsCallsFromInPart, EndsCallsInPart}
-use Rattle.bz_sched.specs.OpenLaws.{none_open}
+use Rattle.bz_sched.proofs.OpenEnds.{none_open}
 use Rattle.bz_sched.specs.Points.{Point, IsTurn}
 use Rattle.bz_sched.specs.Queued.{Queued, has_open}
 use Rattle.bz_sched.specs.Runs.{point_of, IsReady, IsAtLimit, IsStopped, Keeps, HasEndedCalls}

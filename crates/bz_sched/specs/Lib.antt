@@ -15,6 +15,4 @@ pub mod Cutting
 pub mod Powering
 pub mod ReadyLaws
 pub mod TurnLaws
-pub mod IdleLaws
-pub mod OpenLaws
 pub mod TurnExample

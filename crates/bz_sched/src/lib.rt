@@ -4,6 +4,7 @@
 mod alone;
 mod cut;
 mod draws;
+pub mod laws;
 mod list;
 mod open_calls;
 mod power_on;

@@ -1,10 +1,10 @@
 -- That no call is open, of workers from 1 to 64, once those that were open have been ended.
 use Rattle.std.proofs.Common.{◌≡◌, ◌≢◌, ◌≤◌, ◌<◌, ℕ, zero, suc, ◌+◌, ◌==◌, refl, arith, None}
 use Rattle.bz_sound.specs.Calls.{open_call}
-use Rattle.bz_sched.specs.IdleLaws.{open_stays_none, first_or_later}
+use Rattle.bz_sched.proofs.IdleRuns.{open_stays_none, first_or_later}
 use Rattle.bz_sched.specs.OpenCalls.{TurnsWhileOpen, EndsCallsFrom, EndsCalls}
 use Rattle.bz_sched.specs.Points.{Point, IsTurn}
-use Rattle.bz_sched.specs.TurnLaws.{turn_adds}
+use Rattle.bz_sched.proofs.TurnAdds.{turn_adds}
 
 -- a turn of another worker opens no call of this one
 turn_opens_none : (w v : ℕ) (old new : Point) → w ≢ v → IsTurn v old new → open_call w old.past ≡ None → open_call w new.past ≡ None

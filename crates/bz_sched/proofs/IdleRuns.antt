@@ -10,7 +10,8 @@ use Rattle.bz_sched.specs.Queued.{calls_of, is_busy_by}
 use Rattle.bz_sched.specs.Points.{Point, ready_by, is_busy, IsTurn}
 use Rattle.bz_sched.specs.Turns.{TakesTurns, EndsFrom, EndsAlone, passing_from, RunsRounds, RunsTurns}
 use Rattle.bz_sched.specs.QueueLaws.{not_same, same_owner, calls_of-without}
-use Rattle.bz_sched.specs.TurnLaws.{AreOwn, turn_adds}
+use Rattle.bz_sched.specs.TurnLaws.{AreOwn, AloneEndsIdle, TurnsEndIdle}
+use Rattle.bz_sched.proofs.TurnAdds.{turn_adds}
 
 -- no call of this worker is open, and none waits
 pub record IsIdle (w : ℕ) (opened : Option Open) (calls : List (ℕ × Call)) : Type 0 where
@@ -86,9 +87,8 @@ ends_idle w v (suc more) old new from to run =
     (λ same. ends_keep w (v + 1) more mid new (omega arith) run.2 (rw same run.1.2))
     (λ later. ends_idle w (v + 1) more mid new later (omega arith) run.2)
 
--- `run alone` leaves no call open or queued
-pub alone_idle : (w : ℕ) (old new : Point) → 1 ≤ w → w ≤ 64 → EndsAlone old new → is_busy w new ≡ false
-alone_idle w old new low high run = ends_idle w 1 64 old new low (omega arith) run
+pub alone-ends-idle : AloneEndsIdle
+alone-ends-idle w old new low high run = ends_idle w 1 64 old new low (omega arith) run
 
 none_listed : (b : Bool) (v : ℕ) (rest : List ℕ) → (if b then v ∷ rest else rest) ≡ [] → (b ≡ false) × (rest ≡ [])
 none_listed true v rest is = absurd cc
@@ -106,6 +106,5 @@ rounds_idle : (w words rounds state : ℕ) (old new : Point) → 1 ≤ w → w �
 rounds_idle w words zero state old new low high run = rw run.1 (none_busy w 1 64 old low (omega arith) run.0)
 rounds_idle w words (suc rounds) state old new low high run = rounds_idle w words rounds _ run.1.0 new low high run.1.2
 
--- `run turns` leaves no call open or queued
-pub turns_idle : (w words seed : ℕ) (old new : Point) → 1 ≤ w → w ≤ 64 → RunsTurns words seed old new → is_busy w new ≡ false
-turns_idle w words seed old new low high run = rounds_idle w words run.0 seed old new low high run.1
+pub turns-end-idle : TurnsEndIdle
+turns-end-idle w words seed old new low high run = rounds_idle w words run.0 seed old new low high run.1

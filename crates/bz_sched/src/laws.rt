@@ -1,0 +1,19 @@
+//! The laws of runs. Each function does nothing: its contract is the law.
+
+ghost use Rattle.bz_sched.specs.TurnLaws.{AloneEndsIdle, TurnsEndIdle, WordsAreKept};
+
+/// A turn word adds acts of its worker alone, at most as many as it says, and fewer only where no call of that worker is then
+/// open or waits; and no eviction.
+pub fn words_are_kept()
+    ensures { WordsAreKept }
+{}
+
+/// After `run alone` no call of the workers 1 to 64 is open or waits.
+pub fn alone_ends_idle()
+    ensures { AloneEndsIdle }
+{}
+
+/// After `run turns` no call of the workers 1 to 64 is open or waits.
+pub fn turns_end_idle()
+    ensures { TurnsEndIdle }
+{}
