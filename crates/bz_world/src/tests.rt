@@ -8,6 +8,7 @@ mod costs;
 mod cuts;
 mod decode;
 mod gets;
+mod images;
 mod inner;
 mod limits;
 mod map;
