@@ -13,6 +13,8 @@ pub use gates::{Gate, NoGate};
 pub use program::{Outcome, top};
 
 #[cfg(test)]
+mod failing_tests;
+#[cfg(test)]
 mod image_tests;
 #[cfg(test)]
 mod power_tests;
