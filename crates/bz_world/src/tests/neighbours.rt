@@ -71,7 +71,7 @@ fn split_at_once(rt: &impl Abort, alloc: Global, acts: u32, evicts: bool) {
 
 #[test]
 fn two_neighbours_are_split_at_once(rt: HostRuntime) {
-    for turn in 0..10 {
-        split_at_once(&rt, rt.alloc(), 250 * turn, turn % 2 == 1);
+    for turn in 0..4 {
+        split_at_once(&rt, rt.alloc(), 650 * turn, turn % 2 == 1);
     }
 }
