@@ -4,6 +4,10 @@ ghost use Rattle.std.specs.Prelude.{◌≡◌, length};
 ghost use Rattle.bz_layout.specs.Addresses.{words_of};
 
 use super::bench::{Answer, begin, numbered, open, payload, steps, whole};
+use super::decode::decode;
+use super::map::{Map, count};
+use super::random::{Random, act};
+use super::reader::Reader;
 use crate::{Applied, Begun, BootError, Event, Power, World};
 use bz_call::Call;
 use bz_layout::{Config, ConfigError};
@@ -22,18 +26,15 @@ fn copy_durable(world: &World, words: &mut Vec<u64>)
     }
 }
 
-// The power comes on, and the recovery goes to its end.
-fn come_on(rt: &impl Abort, world: &mut World) {
+/// The power comes on, and the recovery goes to its end.
+pub(super) fn come_on(rt: &impl Abort, world: &mut World) {
     assert_eq!(rt; world.apply(Event::On), Applied::On);
-    for _ in 0..4_000 {
-        match world.apply(Event::Step(0)) {
-            Applied::Stepped => {}
-            other => {
-                assert_eq!(rt; other, Applied::Ready);
-                return;
-            }
+    for _ in 0..10_000 {
+        if world.apply(Event::Step(0)) != Applied::Stepped {
+            break;
         }
     }
+    assert_eq!(rt; world.power(), Power::On);
 }
 
 // What both keys have.
@@ -104,4 +105,33 @@ fn an_image_that_breaks_a_rule_is_refused(rt: HostRuntime) -> Result<(), Fail> {
         )
     );
     Ok(())
+}
+
+// What a power cut would leave of a world with this map goes on for so many events, which the reader explains.
+fn goes_on_from(rt: &impl Abort, alloc: Global, world: &World, map: Map, mut random: Random) {
+    let mut image = booted(rt, alloc, world);
+    assert_eq!(rt; image.pairs(), u64::from(count(&map)));
+    assert_eq!(rt; decode(&image), Some(map));
+    come_on(rt, &mut image);
+    let mut reader = Reader::over(alloc, map).expect(rt, "a reader");
+    for _ in 0..500 {
+        act(rt, &mut image, &mut random);
+    }
+    assert!(rt; reader.read_on(&image).expect(rt, "room for the maps"));
+    assert_eq!(rt; decode(&image), Some(reader.map()));
+}
+
+#[test]
+fn a_schedule_goes_on_from_every_tenth_event(rt: HostRuntime) {
+    let mut world = open(rt.alloc(), 4, 48, 8).expect(&rt, "a world");
+    let mut reader = Reader::open(rt.alloc()).expect(&rt, "a reader");
+    let mut random = Random { state: 3 };
+    for event in 0..200u64 {
+        for _ in 0..10 {
+            act(&rt, &mut world, &mut random);
+        }
+        assert!(rt; reader.read_on(&world).expect(&rt, "room for the maps"));
+        let other = Random { state: event };
+        goes_on_from(&rt, rt.alloc(), &world, reader.map(), other);
+    }
 }

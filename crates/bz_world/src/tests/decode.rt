@@ -27,8 +27,8 @@ fn through(world: &World, swap: u16, a: u32) -> u64 {
     u64::MAX
 }
 
-// The value at an address.
-fn resolve(world: &World, a: u32) -> u64 {
+/// The value at an address.
+pub(super) fn resolve(world: &World, a: u32) -> u64 {
     match kind_of(durable(world, a)) {
         Some(WordKind::Value(value)) => value,
         Some(WordKind::Dirty(value)) => value,
@@ -38,8 +38,8 @@ fn resolve(world: &World, a: u32) -> u64 {
     }
 }
 
-// Four words from an address on.
-fn words(world: &World, at: u32) -> [u64; 4] {
+/// Four words from an address on.
+pub(super) fn words(world: &World, at: u32) -> [u64; 4] {
     let mut words = [0; 4];
     for (i, word) in words.iter_mut().enumerate() {
         *word = resolve(world, at.saturating_add(i as u32));
@@ -68,8 +68,8 @@ fn slot_of(world: &World, pointer: u64) -> u32 {
     first.saturating_add(slot.saturating_mul(128))
 }
 
-// Where the root's slot begins.
-fn root(world: &World) -> u32 {
+/// Where the root's slot begins.
+pub(super) fn root(world: &World) -> u32 {
     slot_of(world, resolve(world, 1))
 }
 
@@ -103,16 +103,22 @@ fn note_leaf(world: &World, node: u32, seen: &mut [bool; 100]) -> Option<()> {
     Some(())
 }
 
+/// Where the slot begins of the child with this number in its parent; none where there is no such record.
+pub(super) fn child_of(world: &World, node: u32, number: u32) -> Option<u32> {
+    let a = node.saturating_add(10).saturating_add(number);
+    let Meta::Visible(extent) = Meta::unpack(resolve(world, a))? else {
+        return None;
+    };
+    let at = node.saturating_add(extent.offset);
+    let pointer = resolve(world, at.saturating_add(extent.key.div_ceil(7)));
+    Some(slot_of(world, pointer))
+}
+
 // Notes those of the leaves below a parent.
 fn note_children(world: &World, node: u32, seen: &mut [bool; 100]) -> Option<()> {
     let status = Status::unpack(resolve(world, node))?;
     for i in 0..status.count {
-        let a = node.saturating_add(10).saturating_add(i);
-        if let Meta::Visible(extent) = Meta::unpack(resolve(world, a))? {
-            let at = node.saturating_add(extent.offset);
-            let pointer = resolve(world, at.saturating_add(extent.key.div_ceil(7)));
-            note_leaf(world, slot_of(world, pointer), seen)?;
-        }
+        note_leaf(world, child_of(world, node, i)?, seen)?;
     }
     Some(())
 }

@@ -10,14 +10,14 @@ use bz_layout::Config;
 use std::alloc::Global;
 use std::process::Abort;
 
-// More acts than any of these calls makes.
-const MOST: u32 = 10_000;
+/// More acts than any of these calls makes.
+pub(super) const MOST: u32 = 10_000;
 
 // How many keys make a tree of three levels, in whatever order: an inner node has at most twenty children, and a leaf nineteen records.
 const MANY: u32 = 400;
 
-// A world of these workers with room for so many keys.
-fn open(rt: &impl Abort, alloc: Global, workers: u32) -> World {
+/// A world of these workers with room for so many keys.
+pub(super) fn open(rt: &impl Abort, alloc: Global, workers: u32) -> World {
     let config = Config {
         nodes: 400,
         swaps: 1_600,
@@ -29,8 +29,8 @@ fn open(rt: &impl Abort, alloc: Global, workers: u32) -> World {
     World::open(alloc, &config).expect(rt, "a world")
 }
 
-// A key of twenty-eight bytes, of which the last three are digits.
-fn long(rt: &impl Abort, number: u32) -> Key {
+/// A key of twenty-eight bytes, of which the last three are digits.
+pub(super) fn long(rt: &impl Abort, number: u32) -> Key {
     let mut bytes = [b'k'; 28];
     bytes[25] = digit(number / 100);
     bytes[26] = digit(number / 10);
@@ -38,20 +38,20 @@ fn long(rt: &impl Abort, number: u32) -> Key {
     key(rt, &bytes)
 }
 
-// The insert of the key with this number.
-fn insert(rt: &impl Abort, number: u32) -> Call {
+/// The insert of the key with this number.
+pub(super) fn insert(rt: &impl Abort, number: u32) -> Call {
     Call::Insert(long(rt, number), payload(rt, b"v"))
 }
 
-// Inserts the key with this number, which is new.
-fn inserts(rt: &impl Abort, world: &mut World, w: u8, number: u32) {
+/// Inserts the key with this number, which is new.
+pub(super) fn inserts(rt: &impl Abort, world: &mut World, w: u8, number: u32) {
     assert!(rt; begin(world, w, insert(rt, number)));
     let answer = steps(world, w, MOST).1;
     assert_eq!(rt; answer, Some(Answer::Inserted), "{number}");
 }
 
-// How many pairs the pages have from a key on, each of which begins where the one before ends.
-fn count_pairs(rt: &impl Abort, world: &mut World, first: u32) -> usize {
+/// How many pairs the pages have from a key on, each of which begins where the one before ends.
+pub(super) fn count_pairs(rt: &impl Abort, world: &mut World, first: u32) -> usize {
     let mut count = 0usize;
     let mut from = Some(long(rt, first));
     for _ in 0..64 {

@@ -21,20 +21,22 @@ const SEEDS: u64 = 20;
 
 const EVENTS: u32 = 24_000;
 
-// The generator of scripts.
+/// The generator of scripts.
 #[derive(Clone, Copy)]
-struct Random {
-    state: u64,
+pub(super) struct Random {
+    pub(super) state: u64,
 }
 
 impl Random {
-    fn draw(&mut self) -> u32 {
+    /// The next number.
+    pub(super) fn draw(&mut self) -> u32 {
         let product = self.state.wrapping_mul(6_364_136_223_846_793_005);
         self.state = product.wrapping_add(1_442_695_040_888_963_407);
         (self.state >> 32) as u32
     }
 
-    fn below(&mut self, limit: u8) -> u8
+    /// A number below this limit.
+    pub(super) fn below(&mut self, limit: u8) -> u8
         requires { 0 < limit }
         ensures { result < limit }
     {
@@ -63,8 +65,8 @@ fn some_call(rt: &impl Abort, random: &mut Random) -> Call {
     }
 }
 
-// A step of some worker, of which the last ones act seldom; or a begin; or an eviction.
-fn act(rt: &impl Abort, world: &mut World, random: &mut Random) {
+/// A step of some worker, of which the last ones act seldom; or a begin; or an eviction.
+pub(super) fn act(rt: &impl Abort, world: &mut World, random: &mut Random) {
     if random.below(10) == 0 {
         let a = random.draw() % world.config().words().max(1);
         world.apply(Event::Evict(a));

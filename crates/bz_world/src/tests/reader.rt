@@ -36,6 +36,13 @@ impl Reader {
         })
     }
 
+    /// Nothing was read yet of a world that began with this map.
+    pub(crate) fn over(alloc: Global, map: Map) -> Result<Reader, Memory> {
+        let mut reader = Reader::open(alloc)?;
+        reader.maps.push((0, map))?;
+        Ok(reader)
+    }
+
     // The map at a moment.
     fn map_at(&self, moment: u32) -> Map {
         let mut found = [0; 6];

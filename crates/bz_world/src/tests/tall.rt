@@ -19,8 +19,8 @@ const CHAINS: u32 = 19;
 // A bound of keys: none, or the first key of this chain below the path's node of this level.
 type Bound = Option<(u32, u32)>;
 
-// Writes a word, if it lies in the memory.
-fn put(words: &mut Vec<u64>, at: u32, word: u64)
+/// Writes a word, if it lies in the memory.
+pub(super) fn put(words: &mut Vec<u64>, at: u32, word: u64)
     ensures { length words.new.items ≡ length words.old.items }
 {
     if let Some(place) = words.get_mut(at as usize) {
@@ -211,7 +211,7 @@ fn put_tree(words: &mut Vec<u64>, config: &Config)
 
 // A world over the tree, once it has recovered.
 fn tall(rt: &impl Abort, alloc: Global, nodes: u32) -> World {
-    let config = Config {
+    let numbers = Config {
         nodes,
         swaps: 64,
         workers: 1,
@@ -219,6 +219,7 @@ fn tall(rt: &impl Abort, alloc: Global, nodes: u32) -> World {
         calls: 16,
         pages: 1,
     };
+    let config = World::open(alloc, &numbers).expect(rt, "a world").config();
     let mut words = bz_layout::fresh(alloc, &config).expect(rt, "the words");
     put_tree(&mut words, &config);
     let mut world = World::boot(alloc, &config, &words).expect(rt, "a world");

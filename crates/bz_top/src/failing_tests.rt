@@ -1,0 +1,75 @@
+//! A source and a sink that fail at each of their calls, over forty keys rising.
+use crate::{NoGate, top};
+use bz_io::{FailSink, FailSource, MemSink, MemSource};
+use std::alloc::Global;
+use std::process::Abort;
+use std::sync::Wait;
+use std::test::Fail;
+use std::thread::Threads;
+
+// How many bytes a source gives or a sink takes in a call.
+const PIECE: usize = 64;
+
+// Forty inserts in the order of their keys, the last of which splits the root leaf, and what they print.
+fn rising(alloc: Global) -> Result<(String, String), Fail> {
+    let mut input = format!(in alloc; "memory 16 128\n")?;
+    let mut output = String::new(alloc);
+    for before in 0..40u32 {
+        let number = before + 1;
+        input.push_str(&format!(in alloc; "w 1 insert k{number:02} v\n")?)?;
+        output.push_str(&format!(in alloc; "w1.{number} insert k{number:02} v = inserted\n")?)?;
+    }
+    input.push_str("run alone\n")?;
+    Ok((input, output))
+}
+
+// The source fails at this call.
+fn expect_read_fault<R: Threads + Wait + Abort + Sync>(
+    rt: &R,
+    alloc: Global,
+    input: &[u8],
+    call: u64,
+) -> Result<(), Fail> {
+    let mut source = FailSource::of(alloc, input, PIECE, &[call])?;
+    let mut sink = MemSink::open(alloc, 100)?;
+    let outcome = top(rt, alloc, &["run"], &mut source, &mut sink, &NoGate);
+    assert_eq!(rt; outcome.status, 1, "{call}");
+    assert_eq!(rt; sink.bytes(), b"fault: read\n".as_slice(), "{call}");
+    Ok(())
+}
+
+// The sink fails at this call, and has what it took before.
+fn expect_write_fault<R: Threads + Wait + Abort + Sync>(
+    rt: &R,
+    alloc: Global,
+    input: &[u8],
+    output: &[u8],
+    call: u64,
+) -> Result<(), Fail> {
+    let mut source = MemSource::of(alloc, input)?;
+    let mut sink = FailSink::open(alloc, 4_096, PIECE, &[call])?;
+    let outcome = top(rt, alloc, &["run"], &mut source, &mut sink, &NoGate);
+    let taken = match call {
+        1..20 => (64 * (call - 1)) as usize,
+        _ => output.len(),
+    };
+    assert_eq!(rt; outcome.status, 4, "{call}");
+    assert_eq!(rt; sink.bytes(), &output[..taken.min(output.len())], "{call}");
+    Ok(())
+}
+
+#[test]
+fn a_source_and_a_sink_fail_at_each_call(rt: HostRuntime) -> Result<(), Fail> {
+    let (input, output) = rising(rt.alloc())?;
+    assert_eq!(rt; (input.len(), output.len()), (704, 1_191));
+    // eleven reads give all of the input, and the next one its end
+    for call in 1..13u64 {
+        expect_read_fault(&rt, rt.alloc(), input.as_bytes(), call)?;
+    }
+    // nineteen writes take all of the output
+    for call in 1..20u64 {
+        let (input, output) = (input.as_bytes(), output.as_bytes());
+        expect_write_fault(&rt, rt.alloc(), input, output, call)?;
+    }
+    Ok(())
+}

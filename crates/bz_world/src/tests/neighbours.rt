@@ -1,0 +1,77 @@
+//! Two neighbours below the root, both full, that are split at once.
+
+use super::bench::{Answer, begin, mark, steps};
+use super::decode::{child_of, decode_root, resolve, root};
+use super::inner::{MOST, count_pairs, insert, inserts, open};
+use crate::{Event, World};
+use bz_mark::Mark;
+use bz_word::Status;
+use std::alloc::Global;
+use std::process::Abort;
+
+// Two nodes below the root with twenty leaves each. The first one's last leaf but one is full, and so is the second one's last leaf.
+// Even numbers rising make leaves of ten records, eleven below the first node and twenty below the second; odd numbers split the
+// first nine of them, and fill the tenth.
+fn two_full(rt: &impl Abort, alloc: Global) -> World {
+    let mut world = open(rt, alloc, 2);
+    for number in 1..320 {
+        inserts(rt, &mut world, 1, 2 * number);
+    }
+    for number in 1..100 {
+        inserts(rt, &mut world, 1, 2 * number + 1);
+    }
+    world
+}
+
+// How many children the first two nodes below the root have.
+fn widths(world: &World) -> Option<[u32; 2]> {
+    let node = root(world);
+    let first = Status::unpack(resolve(world, child_of(world, node, 0)?))?;
+    let second = Status::unpack(resolve(world, child_of(world, node, 1)?))?;
+    Some([first.count, second.count])
+}
+
+/// What the last act has written becomes durable by itself.
+pub(super) fn evict_written(world: &mut World) {
+    let last = world.journal().length().saturating_sub(1);
+    if let Some(Mark::Store { a, .. } | Mark::Cas { a, .. }) = mark(world, last) {
+        world.apply(Event::Evict(a));
+    }
+}
+
+// A step of a worker whose call has not ended, with an eviction after it where this is asked for.
+fn go_on(world: &mut World, w: u8, evicts: bool, ended: &mut Option<Answer>) {
+    if ended.is_none() {
+        *ended = steps(world, w, 1).1;
+        if evicts {
+            evict_written(world);
+        }
+    }
+}
+
+// Worker 1, whose insert splits the first node, has made so many acts when worker 2 begins, whose insert splits the second one; then
+// they take turns.
+fn split_at_once(rt: &impl Abort, alloc: Global, acts: u32, evicts: bool) {
+    let mut world = two_full(rt, alloc);
+    assert_eq!(rt; widths(&world), Some([20, 20]));
+    let mut ends = [None, None];
+    assert!(rt; begin(&mut world, 1, insert(rt, 201)));
+    for _ in 0..acts {
+        go_on(&mut world, 1, evicts, &mut ends[0]);
+    }
+    assert!(rt; begin(&mut world, 2, insert(rt, 640)));
+    for _ in 0..MOST {
+        go_on(&mut world, 1, evicts, &mut ends[0]);
+        go_on(&mut world, 2, evicts, &mut ends[1]);
+    }
+    assert_eq!(rt; ends, [Some(Answer::Inserted); 2], "{acts}");
+    assert_eq!(rt; decode_root(&world), Some((2, 4)), "{acts}");
+    assert_eq!(rt; count_pairs(rt, &mut world, 2), 420, "{acts}");
+}
+
+#[test]
+fn two_neighbours_are_split_at_once(rt: HostRuntime) {
+    for turn in 0..4 {
+        split_at_once(&rt, rt.alloc(), 650 * turn, turn % 2 == 1);
+    }
+}
