@@ -58,10 +58,10 @@ fn put_words(rt: &impl Abort, leaf: &mut Leaf, from: u32, key: &Key, payload: &P
 
 // Adds a record, of which readers see nothing if it is deleted.
 fn add(rt: &impl Abort, leaf: &mut Leaf, key: &Key, payload: &Payload, deleted: bool) {
-    let size = key.words() + payload.words();
-    assert!(rt;
-        size <= 8 && leaf.start > 8 && leaf.start <= NODE_WORDS && leaf.count < SHARED_WORDS
-    );
+    let (first, second) = (key.words(), payload.words());
+    assert!(rt; first <= 4 && second <= 4);
+    assert!(rt; leaf.start > 8 && leaf.start <= NODE_WORDS && leaf.count < SHARED_WORDS);
+    let size = first + second;
     let offset = leaf.start - size as u32;
     put_words(rt, leaf, offset, key, payload);
     let (len, more) = (key.bytes().len() as u32, payload.bytes().len() as u32);
