@@ -3,7 +3,7 @@
 use super::bench::{Answer, begin, mark, steps};
 use super::decode::{child_of, decode_root, resolve, root};
 use super::inner::{MOST, count_pairs, insert, inserts, open};
-use crate::{Event, World};
+use bz_world::{Event, World};
 use bz_mark::Mark;
 use bz_word::Status;
 use std::alloc::Global;
@@ -71,7 +71,7 @@ fn split_at_once(rt: &impl Abort, alloc: Global, acts: u32, evicts: bool) {
 
 #[test]
 fn two_neighbours_are_split_at_once(rt: HostRuntime) {
-    for turn in 0..10 {
-        split_at_once(&rt, rt.alloc(), 250 * turn, turn % 2 == 1);
+    for turn in 0..4 {
+        split_at_once(&rt, rt.alloc(), 650 * turn, turn % 2 == 1);
     }
 }

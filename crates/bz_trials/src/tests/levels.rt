@@ -9,12 +9,12 @@ use super::inner::{inserts, long};
 use super::neighbours::evict_written;
 use super::power::restart;
 use super::random::Random;
-use crate::{Applied, Event, World};
 use bz_call::Call;
 use bz_key::Key;
 use bz_layout::Config;
 use bz_mark::Mark;
 use bz_word::{Header, Meta, Status};
+use bz_world::{Applied, Event, World};
 use std::alloc::Global;
 use std::process::Abort;
 
@@ -145,8 +145,16 @@ fn act(rt: &impl Abort, world: &mut World, random: &mut Random) {
     }
 }
 
-// A world of four workers, whose root is an inner node with twenty leaves: the next split of its last leaf splits the root too.
-fn grown(rt: &impl Abort, alloc: Global) -> World {
+// How a run begins and ends: so many keys rising by a step, and how many children its root has at the end, at least.
+#[derive(Clone, Copy)]
+struct Growth {
+    keys: u32,
+    step: u32,
+    widest: u32,
+}
+
+// A world of four workers with so many keys.
+fn grown(rt: &impl Abort, alloc: Global, growth: Growth) -> World {
     let config = Config {
         nodes: 800,
         swaps: 3_000,
@@ -156,16 +164,18 @@ fn grown(rt: &impl Abort, alloc: Global) -> World {
         pages: 1,
     };
     let mut world = World::open(alloc, &config).expect(rt, "a world");
-    for number in 1..210 {
-        inserts(rt, &mut world, 1, 4 * number);
+    for number in 1..=growth.keys {
+        inserts(rt, &mut world, 1, number.saturating_mul(growth.step));
     }
     world
 }
 
-// Random events: every five hundred of them the memory has the keys that the effects tell; and so it is after a power cut.
-fn run(rt: &impl Abort, alloc: Global, seed: u64) {
-    let mut world = grown(rt, alloc);
-    let mut random = Random { state: seed };
+// Random events: after every five hundred of them the memory has the keys that the effects tell; and so it has after a power cut.
+fn run(rt: &impl Abort, alloc: Global, growth: Growth) {
+    let mut world = grown(rt, alloc, growth);
+    let mut random = Random {
+        state: u64::from(growth.keys),
+    };
     let mut effects = Effects {
         keys: [false; 1_000],
         calls: [None; 5],
@@ -180,12 +190,18 @@ fn run(rt: &impl Abort, alloc: Global, seed: u64) {
     restart(rt, &mut world);
     effects.agree(rt, &world);
     let root = decode_root(&world).expect(rt, "a root");
-    assert!(rt; root.0 == 2 && root.1 >= 3, "{root:?}");
+    assert!(rt; root.0 == 2 && root.1 >= growth.widest, "{root:?}");
 }
 
 #[test]
 fn random_runs_over_a_growing_tree(rt: HostRuntime) {
-    for seed in 0..2 {
-        run(&rt, rt.alloc(), seed);
+    let rows = [
+        // the root has twenty leaves, and is split
+        (209, 4, 2),
+        // the second of two nodes has twenty leaves, and is split
+        (319, 3, 3),
+    ];
+    for (keys, step, widest) in rows {
+        run(&rt, rt.alloc(), Growth { keys, step, widest });
     }
 }
