@@ -24,8 +24,6 @@ mod start;
 mod step;
 mod strike;
 mod tell;
-#[cfg(test)]
-mod tests;
 mod world;
 
 pub use answers::{Applied, Begun, BootError, Event, OpenError, Which};

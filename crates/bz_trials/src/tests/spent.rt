@@ -1,8 +1,8 @@
 //! Nodes and swaps that run out.
 
 use super::bench::{Answer, begin, key, last_answer, numbered, open, payload, whole};
-use crate::{Applied, Event, World};
 use bz_call::Call;
+use bz_world::{Applied, Event, World};
 use std::process::Abort;
 use std::test::Fail;
 

@@ -1,8 +1,8 @@
 //! An insert, a delete and an update, word for word.
 
 use super::bench::{Answer, begin, cached, durable, key, open, payload, steps};
-use crate::World;
 use bz_call::Call;
+use bz_world::World;
 use std::alloc::Global;
 use std::process::Abort;
 

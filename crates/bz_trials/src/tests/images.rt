@@ -8,10 +8,10 @@ ghost use Rattle.bz_layout.specs.Config.{IsConfig};
 use super::bench::{Answer, key, open, payload, whole};
 use super::boot::come_on;
 use super::tall::put;
-use crate::{BootError, World};
 use bz_call::Call;
 use bz_layout::Config;
 use bz_shape::{ShapeFault, ShapeRule};
+use bz_world::{BootError, World};
 use std::alloc::Global;
 use std::process::Abort;
 

@@ -1,8 +1,8 @@
 //! What gets cost that run alone: as many acts as their look-ups read words.
 use super::below::numbered;
 use super::bench::{Answer, begin, open, payload, steps};
-use crate::World;
 use bz_call::Call;
+use bz_world::World;
 use std::alloc::Global;
 use std::process::Abort;
 

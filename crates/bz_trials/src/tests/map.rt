@@ -2,9 +2,9 @@
 
 ghost use Rattle.std.specs.Prelude.{◌<◌, IfSome};
 
-use crate::World;
 use bz_call::{Call, Reply};
 use bz_key::{Key, Payload};
+use bz_world::World;
 
 /// The keys are k00 to k05.
 pub(crate) const KEYS: u8 = 6;
@@ -43,6 +43,18 @@ pub(crate) fn number_of(payload: &Payload) -> u32 {
         return u32::MAX;
     }
     1 + 256 * (bytes.len() as u32 % 32) + u32::from(first)
+}
+
+/// The key of a call.
+pub(crate) fn key_of(call: &Call) -> Key {
+    match call {
+        Call::Insert(key, _)
+        | Call::Delete(key)
+        | Call::Update(key, _)
+        | Call::Upsert(key, _)
+        | Call::Get(key)
+        | Call::Page(key) => *key,
+    }
 }
 
 /// The place of a key in a map.

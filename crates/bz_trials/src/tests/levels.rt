@@ -9,12 +9,12 @@ use super::inner::{inserts, long};
 use super::neighbours::evict_written;
 use super::power::restart;
 use super::random::Random;
-use crate::{Applied, Event, World};
 use bz_call::Call;
 use bz_key::Key;
 use bz_layout::Config;
 use bz_mark::Mark;
 use bz_word::{Header, Meta, Status};
+use bz_world::{Applied, Event, World};
 use std::alloc::Global;
 use std::process::Abort;
 

@@ -1,9 +1,9 @@
 //! The six calls, made by one worker.
 
 use super::bench::{Answer, key, open, payload, whole};
-use crate::World;
 use bz_call::Call;
 use bz_key::{Key, Payload};
+use bz_world::World;
 use std::process::Abort;
 use std::test::Fail;
 

@@ -3,8 +3,8 @@
 use super::bench::{Answer, begin, numbered, open, payload, steps, whole};
 use super::decode::decode_keys;
 use super::power::{evict_all, recover, restart};
-use crate::World;
 use bz_call::Call;
+use bz_world::World;
 use std::alloc::Global;
 use std::process::Abort;
 

@@ -8,9 +8,9 @@ ghost use Rattle.std.specs.Prelude.{◌≡◌, length};
 ghost use Rattle.bz_layout.specs.Addresses.{words_of};
 
 use super::bench::{Answer, begin, key, payload, steps};
-use crate::{Applied, Event, World};
 use bz_call::Call;
 use bz_layout::{Config, MAX_LEVELS, NODE_WORDS};
+use bz_world::{Applied, Event, World};
 use std::alloc::Global;
 use std::process::Abort;
 

@@ -1,10 +1,10 @@
 //! Leaves below a parent that are split, and trees of two levels.
 
 use super::bench::{Answer, begin, key, mark, open, payload, steps, whole};
-use crate::World;
 use bz_call::{Call, Reply};
 use bz_key::Key;
 use bz_mark::Mark;
+use bz_world::World;
 use std::alloc::Global;
 use std::process::Abort;
 

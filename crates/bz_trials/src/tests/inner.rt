@@ -3,10 +3,10 @@
 use super::below::{digit, last_page};
 use super::bench::{Answer, begin, key, payload, steps};
 use super::decode::decode_root;
-use crate::World;
 use bz_call::Call;
 use bz_key::Key;
 use bz_layout::Config;
+use bz_world::World;
 use std::alloc::Global;
 use std::process::Abort;
 

@@ -3,9 +3,9 @@
 use super::bench::{Answer, begin, numbered, open, payload, steps, whole};
 use super::decode::decode;
 use super::reader::Reader;
-use crate::World;
 use bz_call::Call;
 use bz_key::{Key, Payload};
+use bz_world::World;
 use std::alloc::Global;
 use std::process::Abort;
 use std::test::Fail;

@@ -1,9 +1,9 @@
 //! What the calls cost beyond their lookup, which only loads.
 
 use super::bench::{Answer, begin, key, mark, open, payload, steps};
-use crate::World;
 use bz_call::Call;
 use bz_mark::Mark;
+use bz_world::World;
 use std::process::Abort;
 use std::test::Fail;
 

@@ -4,8 +4,8 @@ use super::bench::{Answer, answered, begin, numbered, open, payload, steps, whol
 use super::decode::decode;
 use super::map::count;
 use super::reader::Reader;
-use crate::{Applied, Begun, Event, Power, World};
 use bz_call::Call;
+use bz_world::{Applied, Begun, Event, Power, World};
 use std::alloc::Global;
 use std::process::Abort;
 use std::test::Fail;

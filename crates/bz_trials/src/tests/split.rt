@@ -2,10 +2,10 @@
 
 use super::bench::{Answer, begin, mark, numbered, open, payload, steps, whole};
 use super::decode::decode_keys;
-use crate::World;
 use bz_call::{Call, Reply};
 use bz_key::Key;
 use bz_mark::Mark;
+use bz_world::World;
 use std::alloc::Global;
 use std::process::Abort;
 use std::test::Fail;

@@ -4,9 +4,9 @@ ghost use Rattle.std.specs.Prelude.{◌<◌, IfSome};
 
 use super::bench::durable;
 use super::map::{Map, number_of, place_of};
-use crate::World;
 use bz_key::{Key, Payload};
 use bz_word::{Header, Meta, Status, WordKind, kind_of};
+use bz_world::World;
 
 // A word of an entry of a descriptor: its target at 0, its expected value at 1, its new one at 2.
 fn entry_word(world: &World, swap: u16, entry: u8, word: u32) -> u64 {

@@ -2,10 +2,10 @@
 
 use super::bench::{Answer, begin, mark, numbered, open, payload, steps, whole};
 use super::reader::Reader;
-use crate::World;
 use bz_call::Call;
 use bz_key::{Key, Payload};
 use bz_mark::Mark;
+use bz_world::World;
 use std::alloc::Global;
 use std::process::Abort;
 

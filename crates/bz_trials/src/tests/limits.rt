@@ -1,9 +1,9 @@
 //! What a world refuses.
 
 use super::bench::{begin, key, payload, steps};
-use crate::{Applied, Begun, Event, OpenError, Which, World};
 use bz_call::Call;
 use bz_layout::{Config, ConfigError};
+use bz_world::{Applied, Begun, Event, OpenError, Which, World};
 use std::process::Abort;
 use std::test::Fail;
 

@@ -1,10 +1,10 @@
 //! A world of a few workers, and what its calls answered.
 
-use crate::{Applied, Begun, Event, OpenError, World};
 use bz_call::{Call, Reply, Spent};
 use bz_key::{Key, Payload};
 use bz_layout::Config;
 use bz_mark::Mark;
+use bz_world::{Applied, Begun, Event, OpenError, World};
 use std::alloc::Global;
 use std::process::Abort;
 

@@ -1,12 +1,11 @@
 //! A plain reader of journals: a map that each Effect changes, which explains each reply at the moment that its End names.
 
 use super::bench::mark;
-use super::map::{Map, Told, is_page, place_of, step, told_by};
-use crate::World;
-use crate::calls::key_of;
+use super::map::{Map, Told, is_page, key_of, place_of, step, told_by};
 use bz_call::{Call, Reply};
 use bz_mark::Mark;
 use bz_memory::Memory;
+use bz_world::World;
 use std::alloc::Global;
 
 // An open call, how many marks stood before its Begin, and before its Effect.
