@@ -1,5 +1,5 @@
 -- What the split of a leaf below a parent knows, and what it asks for.
-use Rattle.std.specs.Prelude.{◌≡◌, ◌≢◌, ℕ, ◌+◌, ◌-◌, ◌^◌, ◌<◌, ◌≤◌, ◌⊎◌, nat_lt, if◌then◌else◌, true, false, List, map, All, Option, Some, None, slice_get, length}
+use Rattle.std.specs.Prelude.{◌≡◌, ◌≢◌, ℕ, ◌+◌, ◌-◌, ◌*◌, ◌^◌, ◌<◌, ◌≤◌, ◌⊎◌, nat_lt, if◌then◌else◌, true, false, List, map, All, Option, Some, None, slice_get, length}
 use Rattle.bz_call.specs.declared.replies.Spent.TheVariants.{Nodes as NoNodes, Swaps as NoSwaps}
 use Rattle.bz_key.specs.Bytes.{IsKey}
 use Rattle.bz_key.specs.Packing.{packed}
@@ -38,6 +38,7 @@ use Rattle.bz_split.specs.Facts.{SPLIT_WORDS, SPLIT_LINES, StoodFresh}
 use Rattle.bz_below.specs.Parents.{WereRead, IsParentOf, WasParent}
 use Rattle.bz_split.specs.Parts.{ArePartsOf}
 use Rattle.bz_below.specs.declared.phase.Phase.{Phase}
+use Rattle.bz_below.specs.declared.phase.TheConstants.{MOST_WAITS}
 use Rattle.bz_below.specs.declared.phase.Phase.TheVariants.{Fresh, Word, Again, Guard, Store, Flush, Swap, Done, Restart, NoRoom, NoSlot, NoSwap}
 
 -- the link to the parent and the link to the leaf; the slots and the words of the new parent, of the left half and of the right
@@ -71,14 +72,18 @@ below_end NoSlot = Some (IsFull NoNodes)
 below_end NoSwap = Some (IsFull NoSwaps)
 below_end phase = None
 
--- the most acts: the loads of the parent's words and of the two guards, a store for each word, a flush for each line, the swap, and
--- the end
+-- the most acts where the parent is read once: the loads of its words and of the two guards, a store for each word, a flush for each
+-- line, the swap, and the end
+abbrev pub below_once : ℕ
+below_once = NODE_WORDS + SPLIT_WORDS + SPLIT_LINES + 3
+
+-- the parent may be read anew so many times
 abbrev pub below_acts : ℕ
-below_acts = NODE_WORDS + SPLIT_WORDS + SPLIT_LINES + 3
+below_acts = NODE_WORDS * MOST_WAITS + below_once
 
 abbrev pub below_left : Phase → ℕ
-below_left Fresh = below_acts
-below_left (Word i) = below_acts - i
+below_left Fresh = below_once
+below_left (Word i) = below_once - i
 below_left Again = SPLIT_WORDS + SPLIT_LINES + 3
 below_left Guard = SPLIT_WORDS + SPLIT_LINES + 2
 below_left (Store j) = SPLIT_WORDS + SPLIT_LINES + 1 - j
@@ -298,6 +303,10 @@ HasTold r seen Guard = (seen ≡ Was r.lower.status) × HasRoom r.read r.sep
 HasTold r seen NoRoom = (seen ≡ Was r.lower.status) × (SHARED_WORDS < needed (map child_entry (children_in r.read)) + 2 + length (packed r.sep))
 HasTold r seen Restart = seen ≢ Was r.lower.status
 HasTold r seen phase = ⊥
+
+-- or it is as it was, and the parent is read anew, which may happen so many times
+abbrev pub HasHeard : ℕ → ℕ → Below → Seen → Phase → Type 0
+HasHeard old new r seen phase = ((seen ≡ Was r.lower.status) × ((phase ≡ Word 1) × (new + 1 ≡ old))) ⊎ (HasTold r seen phase × (new ≡ old))
 
 -- the guard of the link before the last, as it was read, was no frozen node's
 abbrev pub IsThawedAbove : Path → Type 0

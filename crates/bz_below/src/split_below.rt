@@ -16,13 +16,13 @@ ghost use Rattle.bz_task.specs.Requests.{Hears, Tells, IsKnown};
 ghost use Rattle.bz_task.specs.Scene.{Scene, Stage, Waiting, IsScene};
 ghost use Rattle.bz_task.specs.declared.todo.Seen.TheVariants.{Read as Was, Swapped, NoSwap as NoneLeft};
 ghost use Rattle.bz_below.specs.Duties.{below_of, asks_below, end_below, left_below, needs_below, facts_below, differs_below};
-ghost use Rattle.bz_below.specs.Facts.{IsEndOfSplitBelow, below_nodes, below_acts, below_left, below_facts, below_means, HasRoom, HasParent, IsNewParent, HasBegunBelow, HasLookedBelow, HasTold, IsReadyBelow, IsThawedAbove, WasPartedBelow, LackedPart, below_needs, word_after, store_after, flush_after};
+ghost use Rattle.bz_below.specs.Facts.{IsEndOfSplitBelow, below_nodes, below_acts, below_left, below_facts, below_means, HasRoom, HasParent, IsNewParent, HasBegunBelow, HasLookedBelow, HasTold, HasHeard, IsReadyBelow, IsThawedAbove, WasPartedBelow, LackedPart, below_needs, word_after, store_after, flush_after};
 ghost use Rattle.bz_split.specs.Facts.{split_change};
 
 use crate::front::{level_of, low_fence};
 use crate::laws::read_parents_were;
 use crate::links::upper_link;
-use crate::phase::Phase;
+use crate::phase::{MOST_WAITS, Phase};
 use bz_call::Spent;
 use bz_halves::{Halves, ParentChange, parent_over, place_of};
 use bz_key::PageBuf;
@@ -54,6 +54,9 @@ pub struct SplitBelow {
     parent: NodeImage,
     // the slots of the new parent, of the left half and of the right half
     slots: [u16; 3],
+    // how many slots were left when the reading of the parent began, and how many times it may begin anew
+    left: u32,
+    waits: u32,
     phase: Phase,
 }
 
@@ -92,6 +95,8 @@ impl SplitBelow {
             parent: halves.left,
             halves,
             slots: [0; 3],
+            left: 0,
+            waits: MOST_WAITS,
             phase: Phase::Fresh,
         }
     }
@@ -136,6 +141,36 @@ impl SplitBelow {
         }
     }
 
+    // Whether others have taken slots while the parent was read, whose status is as it was, and it may be read once more.
+    fn is_overtaken(&self, seen: Seen, slots: &Slots) -> bool
+        ensures { result ≡ true → (seen ≡ Was self.now.lower.status) × (0 < self.now.waits) }
+    {
+        if self.waits == 0 || slots.left() == self.left {
+            return false;
+        }
+        is_read(seen, self.lower.status)
+    }
+
+    // The phase after the parent's status, once more. Where others have taken slots meanwhile, one of them may be about to turn the
+    // same link: the parent is read anew, so that this split takes no slots for nothing.
+    fn hear(&mut self, seen: Seen, slots: &Slots)
+        requires { seen ≡ Was self.old.lower.status → HasParent self.old.config.nodes self.old.lower.slot self.old.halves.separator self.old.read.0 }
+        ensures config { self.new.config ≡ self.old.config }
+        ensures upper { self.new.upper ≡ self.old.upper }
+        ensures lower { self.new.lower ≡ self.old.lower }
+        ensures halves { self.new.halves ≡ self.old.halves }
+        ensures parts { below_of self.new ≡ below_of self.old }
+        ensures heard { HasHeard self.old.waits self.new.waits (below_of self.old) seen self.new.phase }
+    {
+        if self.is_overtaken(seen, slots) {
+            self.waits -= 1;
+            self.left = slots.left();
+            self.phase = Phase::Word(1);
+        } else {
+            self.phase = self.told(seen);
+        }
+    }
+
     // The new parent, with the halves in these slots, where the old one has the room.
     fn new_parent(&self, left: u16, right: u16) -> NodeImage
         requires parent { HasParent self.now.config.nodes self.now.lower.slot self.now.halves.separator self.now.read.0 }
@@ -159,6 +194,7 @@ impl SplitBelow {
         ensures lower { self.new.lower ≡ self.old.lower }
         ensures halves { self.new.halves ≡ self.old.halves }
         ensures read { self.new.read ≡ self.old.read }
+        ensures waits { self.new.waits ≡ self.old.waits }
         ensures begun { HasBegunBelow self.old.config.nodes (below_of self.new) self.new.phase slots.old slots.new }
     {
         match take_three(slots) {
@@ -180,6 +216,7 @@ impl SplitBelow {
         ensures lower { self.new.lower ≡ self.old.lower }
         ensures halves { self.new.halves ≡ self.old.halves }
         ensures read { self.new.read ≡ self.old.read }
+        ensures waits { self.new.waits ≡ self.old.waits }
         ensures looked { HasLookedBelow self.old.config.nodes (below_of self.new) seen self.new.phase slots.old slots.new }
     {
         if is_read(seen, self.upper.status) {
@@ -197,7 +234,7 @@ impl SplitBelow {
         requires looked { self.now.phase ≢ Phase.Guard }
         requires hears { Hears (asks_below self.now) seen }
         requires known { IsKnown self.now.config (facts_below self.now) (asks_below self.now) seen moment }
-        ensures nearer { below_left result < left_below self.now }
+        ensures nearer { below_left result < below_left self.now.phase }
         ensures needs { below_needs result ≡ 0 }
         ensures done { result ≡ Phase.Done → seen ≡ Swapped true }
         ensures restart { result ≡ Phase.Restart → seen ≡ Swapped false }
@@ -246,12 +283,15 @@ impl SplitBelow {
         bz_halves::laws::children_may_be_parted();
         read_parents_were();
         match self.phase {
-            Phase::Fresh => self.phase = Phase::Word(1),
+            Phase::Fresh => {
+                self.left = slots.left();
+                self.phase = Phase::Word(1);
+            }
             Phase::Word(i) => {
                 self.read.0[i as usize] = word_in(seen);
                 self.phase = after_word(i);
             }
-            Phase::Again => self.phase = self.told(seen),
+            Phase::Again => self.hear(seen, slots),
             Phase::Guard => self.look(seen, slots),
             _ => self.phase = self.after(seen, moment),
         }

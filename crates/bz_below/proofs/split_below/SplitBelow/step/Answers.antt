@@ -11,7 +11,7 @@ use Rattle.bz_below.specs.Facts.{Below, below_facts, below_asks, below_needs, be
 use Rattle.bz_below.specs.declared.phase.Phase.TheVariants.{Fresh, Word, Again, Guard}
 use Rattle.bz_below.specs.declared.split_below.SplitBelow.{SplitBelow}
 use Rattle.bz_below.proofs.Ending.{EndsWell, ends-well, first-ends, takes-none}
-use Rattle.bz_below.proofs.Telling.{Tolds, tolds, told-learns, has-parent}
+use Rattle.bz_below.proofs.Telling.{Heards, heards, heard-learns, has-parent, parent-within}
 use Rattle.bz_below.proofs.Looking.{Looks, looks, looked-learns, planned-parent, planned-room}
 use Rattle.bz_below.proofs.Reading.{Words, fresh-ready, word-within, words-on, fresh-known, word-known, word-ready}
 use Rattle.bz_below.proofs.Staying.{no-slot}
@@ -21,8 +21,8 @@ use Rattle.bz_below.proofs.split_below.SplitBelow.step.Goals as goal
 abbrev kept-of : SplitBelow → ℕ → ℕ → Below
 kept-of t i v = record { upper = t.upper; lower = t.lower; slot = slice_index t.slots; image = three t.parent.0 t.halves.left.0 t.halves.right.0; read = slice_set t.read.0 i v; sep = t.halves.separator }
 
-pub told-self-requires : goal.told-self-requires
-told-self-requires c e =
+pub hear-requires : goal.hear-requires
+hear-requires c e =
     let t = c.args.self.now in
     let k = c.requires.known in
     has-parent c.read_parents_were.ensures t.config (below_of t) c.args.seen k.stage k.scene k.config k.good
@@ -39,30 +39,35 @@ look-requires c =
 pub returns-in-Again : goal.returns-in-Again
 returns-in-Again c =
     let t = c.args.self.now in
+    let new = c.hear.new.self in
     let k = c.requires.known in
+    let e = c.hear.ensures in
+    let known = subst (λ z. below_facts (below_of t) z k.stage k.scene) c.in-Again.is k.holds in
     let hears : Hears (below_asks t.config (below_of t) Again) c.args.seen = subst (λ z. Hears (below_asks t.config (below_of t) z) c.args.seen) c.in-Again.is c.requires.hears in
-    let b : Tolds (below_of t) t.config c.args.seen c.told-self.result c.args.slots.now = tolds (below_of t) t.config c.args.seen c.told-self.result c.args.slots.now hears c.told-self.ensures in
+    let b : Heards t.waits new.waits (below_of t) t.config c.args.seen new.phase c.args.slots.now = heards t.waits new.waits (below_of t) t.config c.args.seen new.phase c.args.slots.now
+    (parent-within t.config (below_of t) k.stage k.scene k.config k.good known) hears e.heard in
     let needed : below_needs t.phase ≡ SPLIT_SLOTS = ap below_needs c.in-Again.is in
-    let ends : EndsWell t.upper t.lower c.args.seen t.phase c.told-self.result c.args.slots.now = subst (λ z. EndsWell t.upper t.lower c.args.seen z c.told-self.result c.args.slots.now) (sym c.in-Again.is) b.ends in
+    let ends : EndsWell t.upper t.lower c.args.seen t.phase new.phase c.args.slots.now = subst (λ z. EndsWell t.upper t.lower c.args.seen z new.phase c.args.slots.now) (sym c.in-Again.is) b.ends in
     record {
-      config = refl;
-      upper = refl;
-      lower = refl;
-      halves = refl;
-      known = subst IsConfig k.config k.good.config;
+      config = e.config;
+      upper = e.upper;
+      lower = e.lower;
+      halves = e.halves;
+      known = subst IsConfig (k.config ∙ sym e.config) k.good.config;
       begun = b.begun;
-      ready = b.ready;
+      ready = subst (λ z. IsReadyBelow z (below_of new) new.phase) (sym e.config) (subst (λ z. IsReadyBelow t.config z new.phase) (sym e.parts) b.ready);
       nearer = omega (arith, b.nearer, ap below_left c.in-Again.is);
-      slots = subst (λ z. AreTakenFrom z (below_needs c.told-self.result) c.args.slots.now c.args.slots.now) (sym needed) b.taken;
+      slots = subst (λ z. AreTakenFrom z (below_needs new.phase) c.args.slots.now c.args.slots.now) (sym needed) b.taken;
       done = ends.done;
       restart = ends.restart;
       no_swap = ends.no_swap;
       full_swaps = ends.full_swaps;
       full_nodes = ends.full_nodes;
-      learns = λ stage s same good free facts tells. no-slot c.nothing_is_gained.ensures (below_of t) s c.args.slots.now c.told-self.result
-          (told-learns c.read_parents_were.ensures t.config (below_of t) c.told-self.result c.args.seen stage s c.told-self.ensures same good
+      learns = λ stage s same good free facts tells. no-slot c.nothing_is_gained.ensures (below_of new) s c.args.slots.now new.phase
+          (subst (λ z. below_facts z new.phase Waiting s) (sym e.parts)
+          (heard-learns c.read_parents_were.ensures t.config t.waits new.waits (below_of t) new.phase c.args.seen stage s e.heard same good
           (subst (λ z. below_facts (below_of t) z stage s) c.in-Again.is facts)
-          (subst (λ z. Tells (below_asks t.config (below_of t) z) stage c.args.seen s) c.in-Again.is tells));
+          (subst (λ z. Tells (below_asks t.config (below_of t) z) stage c.args.seen s) c.in-Again.is tells)));
     }
 
 pub returns-in-Guard : goal.returns-in-Guard
@@ -87,7 +92,7 @@ returns-in-Guard c =
       known = subst IsConfig (k.config ∙ sym e.config) k.good.config;
       begun = b.begun;
       ready = b.ready;
-      nearer = omega (arith, b.nearer, ap below_left c.in-Guard.is);
+      nearer = omega (arith, b.nearer, ap below_left c.in-Guard.is, e.waits);
       slots = subst (λ z. AreTakenFrom z (below_needs new.phase) c.args.slots.now left) (sym needed) b.taken;
       done = ends.done;
       restart = ends.restart;
@@ -113,7 +118,7 @@ returns-in_default c =
       known = a.config;
       begun = a.begun;
       ready = a.ready;
-      nearer = a.nearer;
+      nearer = omega (arith, a.nearer);
       slots = takes-none t.phase c.after-self.result c.args.slots.now (omega (arith, a.needs));
       done = e.done;
       restart = e.restart;
