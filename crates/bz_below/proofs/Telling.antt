@@ -1,5 +1,5 @@
 -- What the parent's status tells, found once more: its words are those of one moment, and there is room or not.
-use Rattle.std.proofs.Common.{◌≡◌, ◌≢◌, ◌<◌, ◌+◌, ◌*◌, ℕ, ap, arith, refl, sym, subst, inl, inr}
+use Rattle.std.proofs.Common.{◌≡◌, ◌≢◌, ◌<◌, arith, refl, sym, subst, inr}
 use Rattle.bz_layout.specs.Slots.{FreeSlots}
 use Rattle.bz_layout.specs.declared.config.Config.{Config}
 use Rattle.bz_layout.specs.declared.sizes.TheConstants.{NODE_WORDS}
@@ -9,12 +9,11 @@ use Rattle.bz_task.specs.Requests.{Hears, Tells}
 use Rattle.bz_task.specs.Scene.{Scene, Stage, Waiting, Took, IsScene, HasFilled, here}
 use Rattle.bz_task.specs.declared.todo.Seen.{Seen}
 use Rattle.bz_task.specs.declared.todo.Seen.TheVariants.{Read as Was}
-use Rattle.bz_below.specs.Facts.{Below, IsReading, HasParent, HasTold, HasHeard, below_asks, below_left, below_needs, below_facts, IsReadyBelow}
+use Rattle.bz_below.specs.Facts.{Below, IsReading, HasParent, HasTold, below_asks, below_left, below_needs, below_facts, IsReadyBelow}
 use Rattle.bz_below.specs.Parents.{WereRead, WasParent, ReadParentsWere}
 use Rattle.bz_below.specs.declared.phase.Phase.{Phase}
 use Rattle.bz_below.specs.declared.phase.Phase.TheVariants.{Fresh, Word, Again, Guard, Store, Flush, Swap, Done, Restart, NoRoom, NoSlot, NoSwap}
 use Rattle.bz_below.proofs.Ending.{EndsWell, goes-on, other-lower, read-answers, was-no-swap}
-use Rattle.bz_below.proofs.Acting.{upper-slot}
 
 -- the parent, where its status is found as it was
 was-parent : ReadParentsWere → (r : Below) (s : Scene) → IsScene s → (f : IsReading r NODE_WORDS s.past) → (here s).value r.lower.guard ≡ r.lower.status → WasParent r.upper r.lower f.parted.guarded f.parted.child r.sep r.read s.past
@@ -37,7 +36,7 @@ has-parent law c r seen stage s same good f t e =
     subst (λ (z : Config). HasParent z.nodes r.lower.slot r.sep r.read) same (record { level = w.level; child = (waits r stage s f).1.parted.child; low = w.low; high = w.high; is = w.parent })
 
 -- what the status of the parent, once more, teaches
-told-learns : ReadParentsWere → (c : Config) (r : Below) (p : Phase) (seen : Seen) (stage : Stage) (s : Scene) → HasTold r seen p → s.past.config ≡ c → IsScene s → below_facts r Again stage s → Tells (below_asks c r Again) stage seen s → below_facts r p Waiting s
+pub told-learns : ReadParentsWere → (c : Config) (r : Below) (p : Phase) (seen : Seen) (stage : Stage) (s : Scene) → HasTold r seen p → s.past.config ≡ c → IsScene s → below_facts r Again stage s → Tells (below_asks c r Again) stage seen s → below_facts r p Waiting s
 told-learns law c r Guard seen stage s h same good f t =
     let g = waits r stage s f in
     (g.0, record { parted = g.1.parted; parent = was-parent law r s good g.1 (found-now c r seen stage s t h.0); room = h.1 })
@@ -66,14 +65,14 @@ told-learns law c r NoSlot seen stage s h same good f t = absurd (h)
 told-learns law c r NoSwap seen stage s h same good f t = absurd (h)
 
 -- what it leads to
-record Tolds (r : Below) (c : Config) (seen : Seen) (p : Phase) (free : FreeSlots) : Type 0 where
+pub record Tolds (r : Below) (c : Config) (seen : Seen) (p : Phase) (free : FreeSlots) : Type 0 where
   pub begun : p ≢ Fresh
   pub ready : IsReadyBelow c r p
   pub nearer : below_left p < below_left Again
   pub taken : AreTakenFrom SPLIT_SLOTS (below_needs p) free free
   pub ends : EndsWell r.upper r.lower seen Again p free
 
-tolds : (r : Below) (c : Config) (seen : Seen) (p : Phase) (free : FreeSlots) → Hears (below_asks c r Again) seen → HasTold r seen p → Tolds r c seen p free
+pub tolds : (r : Below) (c : Config) (seen : Seen) (p : Phase) (free : FreeSlots) → Hears (below_asks c r Again) seen → HasTold r seen p → Tolds r c seen p free
 tolds r c seen Guard free hears h =
     record { begun = λ e. absurd (cc); ready = tt; nearer = omega arith; taken = inr (record { fewer = omega arith; slots = refl }); ends = goes-on r.upper r.lower seen Again Guard free refl (was-no-swap r.lower.guard seen hears) }
 tolds r c seen NoRoom free hears h = record {
@@ -105,44 +104,3 @@ tolds r c seen Swap free hears h = absurd (h)
 tolds r c seen Done free hears h = absurd (h)
 tolds r c seen NoSlot free hears h = absurd (h)
 tolds r c seen NoSwap free hears h = absurd (h)
-
--- the parent is read anew: nothing that was read counts, and all else stays known
-anew-learns : (c : Config) (r : Below) (stage : Stage) (s : Scene) → below_facts r Again stage s → below_facts r (Word 1) Waiting s
-anew-learns c r stage s f =
-    let g = waits r stage s f in
-    (g.0, (omega arith, (omega arith, record { parted = g.1.parted; were = record { size = g.1.were.size; first = g.1.were.first; rest = λ i some l. absurd (omega (arith, some, l)) } })))
-
-pub heard-learns : ReadParentsWere → (c : Config) (old new : ℕ) (r : Below) (p : Phase) (seen : Seen) (stage : Stage) (s : Scene) → HasHeard old new r seen p → s.past.config ≡ c → IsScene s → below_facts r Again stage s → Tells (below_asks c r Again) stage seen s → below_facts r p Waiting s
-heard-learns law c old new r p seen stage s h same good f t = elim h [
-  | inl a ↦ subst (λ z. below_facts r z Waiting s) (sym a.1.0) (anew-learns c r stage s f)
-  | inr b ↦ told-learns law c r p seen stage s b.0 same good f t
-]
-
--- what it leads to, and how often it may
-pub record Heards (old new : ℕ) (r : Below) (c : Config) (seen : Seen) (p : Phase) (free : FreeSlots) : Type 0 where
-  pub begun : p ≢ Fresh
-  pub ready : IsReadyBelow c r p
-  pub nearer : NODE_WORDS * new + below_left p < NODE_WORDS * old + below_left Again
-  pub taken : AreTakenFrom SPLIT_SLOTS (below_needs p) free free
-  pub ends : EndsWell r.upper r.lower seen Again p free
-
-anew : (old new : ℕ) (r : Below) (c : Config) (seen : Seen) (free : FreeSlots) → r.upper.slot < c.nodes → Hears (below_asks c r Again) seen → new + 1 ≡ old → Heards old new r c seen (Word 1) free
-anew old new r c seen free slot hears e = record {
-  begun = λ q. absurd (cc);
-  ready = (slot, omega arith);
-  nearer = omega (arith, e);
-  taken = inr (record { fewer = omega arith; slots = refl });
-  ends = goes-on r.upper r.lower seen Again (Word 1) free refl (was-no-swap r.lower.guard seen hears);
-}
-
--- the slot of the parent
-pub parent-within : (c : Config) (r : Below) (stage : Stage) (s : Scene) → s.past.config ≡ c → IsScene s → below_facts r Again stage s → r.upper.slot < c.nodes
-parent-within c r stage s same good f = subst (λ (z : Config). r.upper.slot < z.nodes) same (upper-slot r.upper r.lower (r.image 1) (r.image 2) r.sep s good (waits r stage s f).1.parted)
-
-pub heards : (old new : ℕ) (r : Below) (c : Config) (seen : Seen) (p : Phase) (free : FreeSlots) → r.upper.slot < c.nodes → Hears (below_asks c r Again) seen → HasHeard old new r seen p → Heards old new r c seen p free
-heards old new r c seen p free slot hears h = elim h [
-  | inl a ↦ subst (λ z. Heards old new r c seen z free) (sym a.1.0) (anew old new r c seen free slot hears a.1.1)
-  | inr b ↦ (
-      let t : Tolds r c seen p free = tolds r c seen p free hears b.0 in
-      record { begun = t.begun; ready = t.ready; nearer = omega (arith, t.nearer, b.1); taken = t.taken; ends = t.ends })
-]

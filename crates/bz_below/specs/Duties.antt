@@ -24,7 +24,7 @@ abbrev pub end_below : SplitBelow → Option Outcome
 end_below t = below_end t.phase
 
 abbrev pub left_below : SplitBelow → ℕ
-left_below t = NODE_WORDS * t.waits + below_left t.phase
+left_below t = (NODE_WORDS + 1) * t.waits + below_left t.phase
 
 abbrev pub needs_below : SplitBelow → ℕ
 needs_below t = below_needs t.phase

@@ -77,9 +77,9 @@ below_end phase = None
 abbrev pub below_once : ℕ
 below_once = NODE_WORDS + SPLIT_WORDS + SPLIT_LINES + 3
 
--- the parent may be read anew so many times
+-- the parent may be read anew so many times, and each time both guards are looked at
 abbrev pub below_acts : ℕ
-below_acts = NODE_WORDS * MOST_WAITS + below_once
+below_acts = (NODE_WORDS + 1) * MOST_WAITS + below_once
 
 abbrev pub below_left : Phase → ℕ
 below_left Fresh = below_once
@@ -292,10 +292,15 @@ HasBegunBelow nodes r (Store j) old new =
 HasBegunBelow nodes r NoSlot old new = (length old.free < SPLIT_SLOTS) × (new ≡ old)
 HasBegunBelow nodes r phase old new = ⊥
 
+-- or the parent is read anew, which may happen so many times, and none was taken
+abbrev pub HasBegunOrWaits : (nodes before after : ℕ) → Below → Phase → FreeSlots → FreeSlots → Type 0
+HasBegunOrWaits nodes before after r phase old new =
+    (HasBegunBelow nodes r phase old new × (after ≡ before)) ⊎ ((phase ≡ Word 1) × ((after + 1 ≡ before) × (new ≡ old)))
+
 -- that is where the upper guard was as the path names it; elsewhere none was taken
-abbrev pub HasLookedBelow : ℕ → Below → Seen → Phase → FreeSlots → FreeSlots → Type 0
-HasLookedBelow nodes r seen phase old new =
-    ((seen ≡ Was r.upper.status) × HasBegunBelow nodes r phase old new) ⊎ ((seen ≢ Was r.upper.status) × ((phase ≡ Restart) × (new ≡ old)))
+abbrev pub HasLookedBelow : (nodes before after : ℕ) → Below → Seen → Phase → FreeSlots → FreeSlots → Type 0
+HasLookedBelow nodes before after r seen phase old new =
+    ((seen ≡ Was r.upper.status) × HasBegunOrWaits nodes before after r phase old new) ⊎ ((seen ≢ Was r.upper.status) × ((phase ≡ Restart) × ((after ≡ before) × (new ≡ old))))
 
 -- where the parent's status is as it was, its words tell whether there is room
 abbrev pub HasTold : Below → Seen → Phase → Type 0
@@ -303,10 +308,6 @@ HasTold r seen Guard = (seen ≡ Was r.lower.status) × HasRoom r.read r.sep
 HasTold r seen NoRoom = (seen ≡ Was r.lower.status) × (SHARED_WORDS < needed (map child_entry (children_in r.read)) + 2 + length (packed r.sep))
 HasTold r seen Restart = seen ≢ Was r.lower.status
 HasTold r seen phase = ⊥
-
--- or it is as it was, and the parent is read anew, which may happen so many times
-abbrev pub HasHeard : ℕ → ℕ → Below → Seen → Phase → Type 0
-HasHeard old new r seen phase = ((seen ≡ Was r.lower.status) × ((phase ≡ Word 1) × (new + 1 ≡ old))) ⊎ (HasTold r seen phase × (new ≡ old))
 
 -- the guard of the link before the last, as it was read, was no frozen node's
 abbrev pub IsThawedAbove : Path → Type 0

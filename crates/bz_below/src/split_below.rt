@@ -16,7 +16,7 @@ ghost use Rattle.bz_task.specs.Requests.{Hears, Tells, IsKnown};
 ghost use Rattle.bz_task.specs.Scene.{Scene, Stage, Waiting, IsScene};
 ghost use Rattle.bz_task.specs.declared.todo.Seen.TheVariants.{Read as Was, Swapped, NoSwap as NoneLeft};
 ghost use Rattle.bz_below.specs.Duties.{below_of, asks_below, end_below, left_below, needs_below, facts_below, differs_below};
-ghost use Rattle.bz_below.specs.Facts.{IsEndOfSplitBelow, below_nodes, below_acts, below_left, below_facts, below_means, HasRoom, HasParent, IsNewParent, HasBegunBelow, HasLookedBelow, HasTold, HasHeard, IsReadyBelow, IsThawedAbove, WasPartedBelow, LackedPart, below_needs, word_after, store_after, flush_after};
+ghost use Rattle.bz_below.specs.Facts.{IsEndOfSplitBelow, below_nodes, below_acts, below_left, below_facts, below_means, HasRoom, HasParent, IsNewParent, HasBegunBelow, HasLookedBelow, HasTold, HasBegunOrWaits, IsReadyBelow, IsThawedAbove, WasPartedBelow, LackedPart, below_needs, word_after, store_after, flush_after};
 ghost use Rattle.bz_split.specs.Facts.{split_change};
 
 use crate::front::{level_of, low_fence};
@@ -54,7 +54,7 @@ pub struct SplitBelow {
     parent: NodeImage,
     // the slots of the new parent, of the left half and of the right half
     slots: [u16; 3],
-    // how many slots were left when the reading of the parent began, and how many times it may begin anew
+    // how many slots were left when the parent was first read, and how many times it may be read anew
     left: u32,
     waits: u32,
     phase: Phase,
@@ -141,36 +141,6 @@ impl SplitBelow {
         }
     }
 
-    // Whether others have taken slots while the parent was read, whose status is as it was, and it may be read once more.
-    fn is_overtaken(&self, seen: Seen, slots: &Slots) -> bool
-        ensures { result ≡ true → (seen ≡ Was self.now.lower.status) × (0 < self.now.waits) }
-    {
-        if self.waits == 0 || slots.left() == self.left {
-            return false;
-        }
-        is_read(seen, self.lower.status)
-    }
-
-    // The phase after the parent's status, once more. Where others have taken slots meanwhile, one of them may be about to turn the
-    // same link: the parent is read anew, so that this split takes no slots for nothing.
-    fn hear(&mut self, seen: Seen, slots: &Slots)
-        requires { seen ≡ Was self.old.lower.status → HasParent self.old.config.nodes self.old.lower.slot self.old.halves.separator self.old.read.0 }
-        ensures config { self.new.config ≡ self.old.config }
-        ensures upper { self.new.upper ≡ self.old.upper }
-        ensures lower { self.new.lower ≡ self.old.lower }
-        ensures halves { self.new.halves ≡ self.old.halves }
-        ensures parts { below_of self.new ≡ below_of self.old }
-        ensures heard { HasHeard self.old.waits self.new.waits (below_of self.old) seen self.new.phase }
-    {
-        if self.is_overtaken(seen, slots) {
-            self.waits -= 1;
-            self.left = slots.left();
-            self.phase = Phase::Word(1);
-        } else {
-            self.phase = self.told(seen);
-        }
-    }
-
     // The new parent, with the halves in these slots, where the old one has the room.
     fn new_parent(&self, left: u16, right: u16) -> NodeImage
         requires parent { HasParent self.now.config.nodes self.now.lower.slot self.now.halves.separator self.now.read.0 }
@@ -207,7 +177,34 @@ impl SplitBelow {
         }
     }
 
-    // The phase after another look at the upper guard: the nodes are begun where it is as the path names it.
+    // Whether others have taken slots since the parent was first read, and it may be read once more.
+    fn is_overtaken(&self, slots: &Slots) -> bool
+        ensures { result ≡ true → 0 < self.now.waits }
+    {
+        self.waits > 0 && slots.left() != self.left
+    }
+
+    // The phase where the upper guard is as the path names it: the nodes are begun. Where others have taken slots meanwhile, one of them
+    // may be about to turn the same link: the parent is read anew, for as long as that may take, and no slots are taken for nothing.
+    fn wait_or_begin(&mut self, slots: &mut Slots)
+        requires parent { HasParent self.old.config.nodes self.old.lower.slot self.old.halves.separator self.old.read.0 }
+        requires room { HasRoom self.old.read.0 self.old.halves.separator }
+        ensures config { self.new.config ≡ self.old.config }
+        ensures upper { self.new.upper ≡ self.old.upper }
+        ensures lower { self.new.lower ≡ self.old.lower }
+        ensures halves { self.new.halves ≡ self.old.halves }
+        ensures read { self.new.read ≡ self.old.read }
+        ensures begun { HasBegunOrWaits self.old.config.nodes self.old.waits self.new.waits (below_of self.new) self.new.phase slots.old slots.new }
+    {
+        if self.is_overtaken(slots) {
+            self.waits -= 1;
+            self.phase = Phase::Word(1);
+        } else {
+            self.begin(slots);
+        }
+    }
+
+    // The phase after another look at the upper guard: it goes on where that is as the path names it.
     fn look(&mut self, seen: Seen, slots: &mut Slots)
         requires parent { HasParent self.old.config.nodes self.old.lower.slot self.old.halves.separator self.old.read.0 }
         requires room { HasRoom self.old.read.0 self.old.halves.separator }
@@ -216,11 +213,10 @@ impl SplitBelow {
         ensures lower { self.new.lower ≡ self.old.lower }
         ensures halves { self.new.halves ≡ self.old.halves }
         ensures read { self.new.read ≡ self.old.read }
-        ensures waits { self.new.waits ≡ self.old.waits }
-        ensures looked { HasLookedBelow self.old.config.nodes (below_of self.new) seen self.new.phase slots.old slots.new }
+        ensures looked { HasLookedBelow self.old.config.nodes self.old.waits self.new.waits (below_of self.new) seen self.new.phase slots.old slots.new }
     {
         if is_read(seen, self.upper.status) {
-            self.begin(slots);
+            self.wait_or_begin(slots);
         } else {
             self.phase = Phase::Restart;
         }
@@ -291,7 +287,7 @@ impl SplitBelow {
                 self.read.0[i as usize] = word_in(seen);
                 self.phase = after_word(i);
             }
-            Phase::Again => self.hear(seen, slots),
+            Phase::Again => self.phase = self.told(seen),
             Phase::Guard => self.look(seen, slots),
             _ => self.phase = self.after(seen, moment),
         }

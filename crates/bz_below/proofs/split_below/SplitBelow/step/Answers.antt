@@ -11,8 +11,8 @@ use Rattle.bz_below.specs.Facts.{Below, below_facts, below_asks, below_needs, be
 use Rattle.bz_below.specs.declared.phase.Phase.TheVariants.{Fresh, Word, Again, Guard}
 use Rattle.bz_below.specs.declared.split_below.SplitBelow.{SplitBelow}
 use Rattle.bz_below.proofs.Ending.{EndsWell, ends-well, first-ends, takes-none}
-use Rattle.bz_below.proofs.Telling.{Heards, heards, heard-learns, has-parent, parent-within}
-use Rattle.bz_below.proofs.Looking.{Looks, looks, looked-learns, planned-parent, planned-room}
+use Rattle.bz_below.proofs.Telling.{Tolds, tolds, told-learns, has-parent}
+use Rattle.bz_below.proofs.Looking.{Looks, looks, looked-learns, guard-within, planned-parent, planned-room}
 use Rattle.bz_below.proofs.Reading.{Words, fresh-ready, word-within, words-on, fresh-known, word-known, word-ready}
 use Rattle.bz_below.proofs.Staying.{no-slot}
 use Rattle.bz_below.proofs.split_below.SplitBelow.step.Goals as goal
@@ -21,8 +21,8 @@ use Rattle.bz_below.proofs.split_below.SplitBelow.step.Goals as goal
 abbrev kept-of : SplitBelow → ℕ → ℕ → Below
 kept-of t i v = record { upper = t.upper; lower = t.lower; slot = slice_index t.slots; image = three t.parent.0 t.halves.left.0 t.halves.right.0; read = slice_set t.read.0 i v; sep = t.halves.separator }
 
-pub hear-requires : goal.hear-requires
-hear-requires c e =
+pub told-self-requires : goal.told-self-requires
+told-self-requires c e =
     let t = c.args.self.now in
     let k = c.requires.known in
     has-parent c.read_parents_were.ensures t.config (below_of t) c.args.seen k.stage k.scene k.config k.good
@@ -39,35 +39,30 @@ look-requires c =
 pub returns-in-Again : goal.returns-in-Again
 returns-in-Again c =
     let t = c.args.self.now in
-    let new = c.hear.new.self in
     let k = c.requires.known in
-    let e = c.hear.ensures in
-    let known = subst (λ z. below_facts (below_of t) z k.stage k.scene) c.in-Again.is k.holds in
     let hears : Hears (below_asks t.config (below_of t) Again) c.args.seen = subst (λ z. Hears (below_asks t.config (below_of t) z) c.args.seen) c.in-Again.is c.requires.hears in
-    let b : Heards t.waits new.waits (below_of t) t.config c.args.seen new.phase c.args.slots.now = heards t.waits new.waits (below_of t) t.config c.args.seen new.phase c.args.slots.now
-    (parent-within t.config (below_of t) k.stage k.scene k.config k.good known) hears e.heard in
+    let b : Tolds (below_of t) t.config c.args.seen c.told-self.result c.args.slots.now = tolds (below_of t) t.config c.args.seen c.told-self.result c.args.slots.now hears c.told-self.ensures in
     let needed : below_needs t.phase ≡ SPLIT_SLOTS = ap below_needs c.in-Again.is in
-    let ends : EndsWell t.upper t.lower c.args.seen t.phase new.phase c.args.slots.now = subst (λ z. EndsWell t.upper t.lower c.args.seen z new.phase c.args.slots.now) (sym c.in-Again.is) b.ends in
+    let ends : EndsWell t.upper t.lower c.args.seen t.phase c.told-self.result c.args.slots.now = subst (λ z. EndsWell t.upper t.lower c.args.seen z c.told-self.result c.args.slots.now) (sym c.in-Again.is) b.ends in
     record {
-      config = e.config;
-      upper = e.upper;
-      lower = e.lower;
-      halves = e.halves;
-      known = subst IsConfig (k.config ∙ sym e.config) k.good.config;
+      config = refl;
+      upper = refl;
+      lower = refl;
+      halves = refl;
+      known = subst IsConfig k.config k.good.config;
       begun = b.begun;
-      ready = subst (λ z. IsReadyBelow z (below_of new) new.phase) (sym e.config) (subst (λ z. IsReadyBelow t.config z new.phase) (sym e.parts) b.ready);
+      ready = b.ready;
       nearer = omega (arith, b.nearer, ap below_left c.in-Again.is);
-      slots = subst (λ z. AreTakenFrom z (below_needs new.phase) c.args.slots.now c.args.slots.now) (sym needed) b.taken;
+      slots = subst (λ z. AreTakenFrom z (below_needs c.told-self.result) c.args.slots.now c.args.slots.now) (sym needed) b.taken;
       done = ends.done;
       restart = ends.restart;
       no_swap = ends.no_swap;
       full_swaps = ends.full_swaps;
       full_nodes = ends.full_nodes;
-      learns = λ stage s same good free facts tells. no-slot c.nothing_is_gained.ensures (below_of new) s c.args.slots.now new.phase
-          (subst (λ z. below_facts z new.phase Waiting s) (sym e.parts)
-          (heard-learns c.read_parents_were.ensures t.config t.waits new.waits (below_of t) new.phase c.args.seen stage s e.heard same good
+      learns = λ stage s same good free facts tells. no-slot c.nothing_is_gained.ensures (below_of t) s c.args.slots.now c.told-self.result
+          (told-learns c.read_parents_were.ensures t.config (below_of t) c.told-self.result c.args.seen stage s c.told-self.ensures same good
           (subst (λ z. below_facts (below_of t) z stage s) c.in-Again.is facts)
-          (subst (λ z. Tells (below_asks t.config (below_of t) z) stage c.args.seen s) c.in-Again.is tells)));
+          (subst (λ z. Tells (below_asks t.config (below_of t) z) stage c.args.seen s) c.in-Again.is tells));
     }
 
 pub returns-in-Guard : goal.returns-in-Guard
@@ -80,7 +75,9 @@ returns-in-Guard c =
     let needed : below_needs t.phase ≡ SPLIT_SLOTS = ap below_needs c.in-Guard.is in
     let nodes : c.args.slots.now.nodes ≡ t.config.nodes = c.requires.memory (omega (arith, needed)) in
     let hears : Hears (below_asks t.config (below_of t) Guard) c.args.seen = subst (λ z. Hears (below_asks t.config (below_of t) z) c.args.seen) c.in-Guard.is c.requires.hears in
-    let b : Looks (below_of new) new.config c.args.seen new.phase c.args.slots.now left = looks t.config.nodes (below_of new) new.config c.args.seen new.phase c.args.slots.now left
+    let known = subst (λ z. below_facts (below_of t) z k.stage k.scene) c.in-Guard.is k.holds in
+    let within : new.upper.slot < new.config.nodes = subst (λ z. z.slot < new.config.nodes) (sym e.upper) (subst (λ z. t.upper.slot < z.nodes) (sym e.config) (guard-within t.config (below_of t) k.stage k.scene k.config k.good known)) in
+    let b : Looks t.waits new.waits (below_of new) new.config c.args.seen new.phase c.args.slots.now left = looks t.config.nodes t.waits new.waits (below_of new) new.config c.args.seen new.phase c.args.slots.now left within
     (subst (λ z. Hears (Some (Reads z.guard)) c.args.seen) (sym e.upper) hears) e.looked (nodes ∙ ap (λ z. z.nodes) (sym e.config)) in
     let ends : EndsWell t.upper t.lower c.args.seen t.phase new.phase c.args.slots.now = subst (λ z. EndsWell t.upper t.lower c.args.seen z new.phase c.args.slots.now) (sym c.in-Guard.is)
     (subst (λ z. EndsWell z t.lower c.args.seen Guard new.phase c.args.slots.now) e.upper (subst (λ z. EndsWell new.upper z c.args.seen Guard new.phase c.args.slots.now) e.lower b.ends)) in
@@ -92,14 +89,14 @@ returns-in-Guard c =
       known = subst IsConfig (k.config ∙ sym e.config) k.good.config;
       begun = b.begun;
       ready = b.ready;
-      nearer = omega (arith, b.nearer, ap below_left c.in-Guard.is, e.waits);
+      nearer = omega (arith, b.nearer, ap below_left c.in-Guard.is);
       slots = subst (λ z. AreTakenFrom z (below_needs new.phase) c.args.slots.now left) (sym needed) b.taken;
       done = ends.done;
       restart = ends.restart;
       no_swap = ends.no_swap;
       full_swaps = ends.full_swaps;
       full_nodes = ends.full_nodes;
-      learns = λ stage s same good free facts tells. looked-learns c.slots_apart.ensures c.children_may_be_parted.ensures c.guarded_links_stand.ensures c.nothing_is_gained.ensures t.config (below_of t) (below_of new) new.phase c.args.seen c.args.slots.now left
+      learns = λ stage s same good free facts tells. looked-learns c.slots_apart.ensures c.children_may_be_parted.ensures c.guarded_links_stand.ensures c.nothing_is_gained.ensures t.config t.waits new.waits (below_of t) (below_of new) new.phase c.args.seen c.args.slots.now left
           (record { upper = e.upper; lower = e.lower; left = ap (λ z. z.left.0) e.halves; right = ap (λ z. z.right.0) e.halves; read = ap (λ z. z.0) e.read; sep = ap (λ z. z.separator) e.halves }) e.looked nodes stage s same good (free (omega (arith, needed)))
           (subst (λ z. below_facts (below_of t) z stage s) c.in-Guard.is facts)
           (subst (λ z. Tells (below_asks t.config (below_of t) z) stage c.args.seen s) c.in-Guard.is tells);
