@@ -74,9 +74,9 @@ reads-anew before after r c old slot e = record {
   ends = record { done = λ q. absurd (cc); restart = λ q. absurd (cc); no_swap = λ q. absurd (cc); full_swaps = λ q. absurd (cc); full_nodes = λ q. absurd (cc) };
 }
 
-begins-or-waits : (nodes before after : ℕ) (r : Below) (c : Config) (p : Phase) (old new : FreeSlots) → r.upper.slot < c.nodes → HasBegunOrWaits nodes before after r p old new → old.nodes ≡ c.nodes → Looks before after r c (Was r.upper.status) p old new
-begins-or-waits k before after r c p old new slot h nodes = elim h [
-  | inl b ↦ subst (λ z. Looks before z r c (Was r.upper.status) p old new) (sym b.1) (begins k before r c p old new b.0 nodes)
+begins-or-waits : (nodes left before after : ℕ) (r : Below) (c : Config) (p : Phase) (old new : FreeSlots) → r.upper.slot < c.nodes → HasBegunOrWaits nodes left before after r p old new → old.nodes ≡ c.nodes → Looks before after r c (Was r.upper.status) p old new
+begins-or-waits k left before after r c p old new slot h nodes = elim h [
+  | inl b ↦ subst (λ z. Looks before z r c (Was r.upper.status) p old new) (sym b.1.0) (begins k before r c p old new b.0 nodes)
   | inr w ↦ subst (λ z. Looks before after r c (Was r.upper.status) z old new) (sym w.0) (subst (λ z. Looks before after r c (Was r.upper.status) (Word 1) old z) (sym w.1.1) (reads-anew before after r c old slot w.1.0))
 ]
 
@@ -96,9 +96,9 @@ differs-ends n r c seen old hears ne = record {
   };
 }
 
-pub looks : (n before after : ℕ) (r : Below) (c : Config) (seen : Seen) (p : Phase) (old new : FreeSlots) → r.upper.slot < c.nodes → Hears (below_asks c r Guard) seen → HasLookedBelow n before after r seen p old new → old.nodes ≡ c.nodes → Looks before after r c seen p old new
-looks n before after r c seen p old new slot hears h nodes = elim h [
-  | inl g ↦ subst (λ z. Looks before after r c z p old new) (sym g.0) (begins-or-waits n before after r c p old new slot g.1 nodes)
+pub looks : (n left before after : ℕ) (r : Below) (c : Config) (seen : Seen) (p : Phase) (old new : FreeSlots) → r.upper.slot < c.nodes → Hears (below_asks c r Guard) seen → HasLookedBelow n left before after r seen p old new → old.nodes ≡ c.nodes → Looks before after r c seen p old new
+looks n left before after r c seen p old new slot hears h nodes = elim h [
+  | inl g ↦ subst (λ z. Looks before after r c z p old new) (sym g.0) (begins-or-waits n left before after r c p old new slot g.1 nodes)
   | inr g ↦ subst (λ z. Looks before z r c seen p old new) (sym g.1.1.0)
       (subst (λ z. Looks before before r c seen z old new) (sym g.1.0) (subst (λ z. Looks before before r c seen Restart old z) (sym g.1.1.1) (differs-ends before r c seen old hears g.0)))
 ]
@@ -146,9 +146,9 @@ planned-anew r s good v =
     record { parted = v.parted; were = record { size = v.parent.parent.size; first = status; rest = λ i some l. absurd (omega (arith, some, l)) } }
 
 -- what another look at the upper guard teaches, of a task that had these facts and was told this
-pub looked-learns : SlotsApart → ChildrenMayBeParted → GuardedLinksStand → NothingIsGained → (c : Config) (before after : ℕ) (o r : Below) (q : Phase) (seen : Seen) (old new : FreeSlots) → SameParts o r → HasLookedBelow c.nodes before after r seen q old new → old.nodes ≡ c.nodes
+pub looked-learns : SlotsApart → ChildrenMayBeParted → GuardedLinksStand → NothingIsGained → (c : Config) (left before after : ℕ) (o r : Below) (q : Phase) (seen : Seen) (old new : FreeSlots) → SameParts o r → HasLookedBelow c.nodes left before after r seen q old new → old.nodes ≡ c.nodes
     → (stage : Stage) (s : Scene) → s.past.config ≡ c → IsScene s → AreUnreached s old → below_facts o Guard stage s → Tells (below_asks c o Guard) stage seen s → below_facts r q Waiting (gained s old new)
-looked-learns apart parts stand nothing c before after o r q seen old new same h nodes stage s config good free facts tells =
+looked-learns apart parts stand nothing c left before after o r q seen old new same h nodes stage s config good free facts tells =
     let known = plan-waits o stage s facts in
     let plan : IsPlanned r s.past = moved-plan o r same s known.1 in
     let told : Tells (Some (Reads r.upper.guard)) stage seen s = subst (λ (z : Link). Tells (Some (Reads z.guard)) stage seen s) (sym same.upper) tells in

@@ -292,15 +292,20 @@ HasBegunBelow nodes r (Store j) old new =
 HasBegunBelow nodes r NoSlot old new = (length old.free < SPLIT_SLOTS) × (new ≡ old)
 HasBegunBelow nodes r phase old new = ⊥
 
--- or the parent is read anew, which may happen so many times, and none was taken
-abbrev pub HasBegunOrWaits : (nodes before after : ℕ) → Below → Phase → FreeSlots → FreeSlots → Type 0
-HasBegunOrWaits nodes before after r phase old new =
-    (HasBegunBelow nodes r phase old new × (after ≡ before)) ⊎ ((phase ≡ Word 1) × ((after + 1 ≡ before) × (new ≡ old)))
+-- as many slots are left as when the parent was first read, or it may not be read anew once more
+abbrev pub IsNotOvertaken : (left waits : ℕ) → FreeSlots → Type 0
+IsNotOvertaken left waits old = (waits ≡ 0) ⊎ (length old.free ≡ left)
+
+-- slots are taken where nobody else has taken any since then; else the parent is read anew, which may happen so many times, and none
+-- was taken
+abbrev pub HasBegunOrWaits : (nodes left before after : ℕ) → Below → Phase → FreeSlots → FreeSlots → Type 0
+HasBegunOrWaits nodes left before after r phase old new =
+    (HasBegunBelow nodes r phase old new × ((after ≡ before) × IsNotOvertaken left before old)) ⊎ ((phase ≡ Word 1) × ((after + 1 ≡ before) × (new ≡ old)))
 
 -- that is where the upper guard was as the path names it; elsewhere none was taken
-abbrev pub HasLookedBelow : (nodes before after : ℕ) → Below → Seen → Phase → FreeSlots → FreeSlots → Type 0
-HasLookedBelow nodes before after r seen phase old new =
-    ((seen ≡ Was r.upper.status) × HasBegunOrWaits nodes before after r phase old new) ⊎ ((seen ≢ Was r.upper.status) × ((phase ≡ Restart) × ((after ≡ before) × (new ≡ old))))
+abbrev pub HasLookedBelow : (nodes left before after : ℕ) → Below → Seen → Phase → FreeSlots → FreeSlots → Type 0
+HasLookedBelow nodes left before after r seen phase old new =
+    ((seen ≡ Was r.upper.status) × HasBegunOrWaits nodes left before after r phase old new) ⊎ ((seen ≢ Was r.upper.status) × ((phase ≡ Restart) × ((after ≡ before) × (new ≡ old))))
 
 -- where the parent's status is as it was, its words tell whether there is room
 abbrev pub HasTold : Below → Seen → Phase → Type 0

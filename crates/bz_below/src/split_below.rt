@@ -16,7 +16,7 @@ ghost use Rattle.bz_task.specs.Requests.{Hears, Tells, IsKnown};
 ghost use Rattle.bz_task.specs.Scene.{Scene, Stage, Waiting, IsScene};
 ghost use Rattle.bz_task.specs.declared.todo.Seen.TheVariants.{Read as Was, Swapped, NoSwap as NoneLeft};
 ghost use Rattle.bz_below.specs.Duties.{below_of, asks_below, end_below, left_below, needs_below, facts_below, differs_below};
-ghost use Rattle.bz_below.specs.Facts.{IsEndOfSplitBelow, below_nodes, below_acts, below_left, below_facts, below_means, HasRoom, HasParent, IsNewParent, HasBegunBelow, HasLookedBelow, HasTold, HasBegunOrWaits, IsReadyBelow, IsThawedAbove, WasPartedBelow, LackedPart, below_needs, word_after, store_after, flush_after};
+ghost use Rattle.bz_below.specs.Facts.{IsEndOfSplitBelow, below_nodes, below_acts, below_left, below_facts, below_means, HasRoom, HasParent, IsNewParent, HasBegunBelow, HasLookedBelow, HasTold, IsNotOvertaken, HasBegunOrWaits, IsReadyBelow, IsThawedAbove, WasPartedBelow, LackedPart, below_needs, word_after, store_after, flush_after};
 ghost use Rattle.bz_split.specs.Facts.{split_change};
 
 use crate::front::{level_of, low_fence};
@@ -179,9 +179,13 @@ impl SplitBelow {
 
     // Whether others have taken slots since the parent was first read, and it may be read once more.
     fn is_overtaken(&self, slots: &Slots) -> bool
-        ensures { result ≡ true → 0 < self.now.waits }
+        ensures more { result ≡ true → 0 < self.now.waits }
+        ensures none { result ≡ false → IsNotOvertaken self.now.left self.now.waits slots.now }
     {
-        self.waits > 0 && slots.left() != self.left
+        if self.waits == 0 {
+            return false;
+        }
+        slots.left() != self.left
     }
 
     // The phase where the upper guard is as the path names it: the nodes are begun. Where others have taken slots meanwhile, one of them
@@ -194,7 +198,7 @@ impl SplitBelow {
         ensures lower { self.new.lower ≡ self.old.lower }
         ensures halves { self.new.halves ≡ self.old.halves }
         ensures read { self.new.read ≡ self.old.read }
-        ensures begun { HasBegunOrWaits self.old.config.nodes self.old.waits self.new.waits (below_of self.new) self.new.phase slots.old slots.new }
+        ensures begun { HasBegunOrWaits self.old.config.nodes self.old.left self.old.waits self.new.waits (below_of self.new) self.new.phase slots.old slots.new }
     {
         if self.is_overtaken(slots) {
             self.waits -= 1;
@@ -213,7 +217,7 @@ impl SplitBelow {
         ensures lower { self.new.lower ≡ self.old.lower }
         ensures halves { self.new.halves ≡ self.old.halves }
         ensures read { self.new.read ≡ self.old.read }
-        ensures looked { HasLookedBelow self.old.config.nodes self.old.waits self.new.waits (below_of self.new) seen self.new.phase slots.old slots.new }
+        ensures looked { HasLookedBelow self.old.config.nodes self.old.left self.old.waits self.new.waits (below_of self.new) seen self.new.phase slots.old slots.new }
     {
         if is_read(seen, self.upper.status) {
             self.wait_or_begin(slots);

@@ -77,7 +77,7 @@ returns-in-Guard c =
     let hears : Hears (below_asks t.config (below_of t) Guard) c.args.seen = subst (λ z. Hears (below_asks t.config (below_of t) z) c.args.seen) c.in-Guard.is c.requires.hears in
     let known = subst (λ z. below_facts (below_of t) z k.stage k.scene) c.in-Guard.is k.holds in
     let within : new.upper.slot < new.config.nodes = subst (λ z. z.slot < new.config.nodes) (sym e.upper) (subst (λ z. t.upper.slot < z.nodes) (sym e.config) (guard-within t.config (below_of t) k.stage k.scene k.config k.good known)) in
-    let b : Looks t.waits new.waits (below_of new) new.config c.args.seen new.phase c.args.slots.now left = looks t.config.nodes t.waits new.waits (below_of new) new.config c.args.seen new.phase c.args.slots.now left within
+    let b : Looks t.waits new.waits (below_of new) new.config c.args.seen new.phase c.args.slots.now left = looks t.config.nodes t.left t.waits new.waits (below_of new) new.config c.args.seen new.phase c.args.slots.now left within
     (subst (λ z. Hears (Some (Reads z.guard)) c.args.seen) (sym e.upper) hears) e.looked (nodes ∙ ap (λ z. z.nodes) (sym e.config)) in
     let ends : EndsWell t.upper t.lower c.args.seen t.phase new.phase c.args.slots.now = subst (λ z. EndsWell t.upper t.lower c.args.seen z new.phase c.args.slots.now) (sym c.in-Guard.is)
     (subst (λ z. EndsWell z t.lower c.args.seen Guard new.phase c.args.slots.now) e.upper (subst (λ z. EndsWell new.upper z c.args.seen Guard new.phase c.args.slots.now) e.lower b.ends)) in
@@ -96,7 +96,7 @@ returns-in-Guard c =
       no_swap = ends.no_swap;
       full_swaps = ends.full_swaps;
       full_nodes = ends.full_nodes;
-      learns = λ stage s same good free facts tells. looked-learns c.slots_apart.ensures c.children_may_be_parted.ensures c.guarded_links_stand.ensures c.nothing_is_gained.ensures t.config t.waits new.waits (below_of t) (below_of new) new.phase c.args.seen c.args.slots.now left
+      learns = λ stage s same good free facts tells. looked-learns c.slots_apart.ensures c.children_may_be_parted.ensures c.guarded_links_stand.ensures c.nothing_is_gained.ensures t.config t.left t.waits new.waits (below_of t) (below_of new) new.phase c.args.seen c.args.slots.now left
           (record { upper = e.upper; lower = e.lower; left = ap (λ z. z.left.0) e.halves; right = ap (λ z. z.right.0) e.halves; read = ap (λ z. z.0) e.read; sep = ap (λ z. z.separator) e.halves }) e.looked nodes stage s same good (free (omega (arith, needed)))
           (subst (λ z. below_facts (below_of t) z stage s) c.in-Guard.is facts)
           (subst (λ z. Tells (below_asks t.config (below_of t) z) stage c.args.seen s) c.in-Guard.is tells);
