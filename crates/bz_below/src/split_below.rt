@@ -41,7 +41,8 @@ const SPLIT_LINES: u32 = NODE_LINES * SPLIT_SLOTS;
 
 /// The split of the frozen leaf that a view shows, below a parent. It ends with Done where a new parent, with the leaf's halves in
 /// its place, has taken the old one's place, which is frozen; with Restart where a link or a guard was another one; with NeedsRoom
-/// where the parent has no room for the separator; and with Full where fewer than three slots or no descriptor were left.
+/// where the parent has no room for the separator; and with Full where fewer than three slots or no descriptor were left. Where others
+/// take slots while it reads the parent, it reads the parent anew before it takes its own, up to `MOST_WAITS` times.
 #[derive(Drop)]
 pub struct SplitBelow {
     config: Config,
