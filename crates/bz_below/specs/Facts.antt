@@ -1,5 +1,5 @@
 -- What the split of a leaf below a parent knows, and what it asks for.
-use Rattle.std.specs.Prelude.{◌≡◌, ◌≢◌, ℕ, ◌+◌, ◌-◌, ◌^◌, ◌<◌, ◌≤◌, ◌⊎◌, nat_lt, if◌then◌else◌, true, false, List, map, All, Option, Some, None, slice_get, length}
+use Rattle.std.specs.Prelude.{◌≡◌, ◌≢◌, ℕ, ◌+◌, ◌-◌, ◌*◌, ◌^◌, ◌<◌, ◌≤◌, ◌⊎◌, nat_lt, if◌then◌else◌, true, false, List, map, All, Option, Some, None, slice_get, length}
 use Rattle.bz_call.specs.declared.replies.Spent.TheVariants.{Nodes as NoNodes, Swaps as NoSwaps}
 use Rattle.bz_key.specs.Bytes.{IsKey}
 use Rattle.bz_key.specs.Packing.{packed}
@@ -38,6 +38,7 @@ use Rattle.bz_split.specs.Facts.{SPLIT_WORDS, SPLIT_LINES, StoodFresh}
 use Rattle.bz_below.specs.Parents.{WereRead, IsParentOf, WasParent}
 use Rattle.bz_split.specs.Parts.{ArePartsOf}
 use Rattle.bz_below.specs.declared.phase.Phase.{Phase}
+use Rattle.bz_below.specs.declared.phase.TheConstants.{MOST_WAITS}
 use Rattle.bz_below.specs.declared.phase.Phase.TheVariants.{Fresh, Word, Again, Guard, Store, Flush, Swap, Done, Restart, NoRoom, NoSlot, NoSwap}
 
 -- the link to the parent and the link to the leaf; the slots and the words of the new parent, of the left half and of the right
@@ -71,14 +72,18 @@ below_end NoSlot = Some (IsFull NoNodes)
 below_end NoSwap = Some (IsFull NoSwaps)
 below_end phase = None
 
--- the most acts: the loads of the parent's words and of the two guards, a store for each word, a flush for each line, the swap, and
--- the end
+-- the most acts where the parent is read once: the loads of its words and of the two guards, a store for each word, a flush for each
+-- line, the swap, and the end
+abbrev pub below_once : ℕ
+below_once = NODE_WORDS + SPLIT_WORDS + SPLIT_LINES + 3
+
+-- the parent may be read anew so many times, and each time both guards are looked at
 abbrev pub below_acts : ℕ
-below_acts = NODE_WORDS + SPLIT_WORDS + SPLIT_LINES + 3
+below_acts = (NODE_WORDS + 1) * MOST_WAITS + below_once
 
 abbrev pub below_left : Phase → ℕ
-below_left Fresh = below_acts
-below_left (Word i) = below_acts - i
+below_left Fresh = below_once
+below_left (Word i) = below_once - i
 below_left Again = SPLIT_WORDS + SPLIT_LINES + 3
 below_left Guard = SPLIT_WORDS + SPLIT_LINES + 2
 below_left (Store j) = SPLIT_WORDS + SPLIT_LINES + 1 - j
@@ -287,10 +292,20 @@ HasBegunBelow nodes r (Store j) old new =
 HasBegunBelow nodes r NoSlot old new = (length old.free < SPLIT_SLOTS) × (new ≡ old)
 HasBegunBelow nodes r phase old new = ⊥
 
+-- as many slots are left as when the parent was first read, or it may not be read anew once more
+abbrev pub IsNotOvertaken : (left waits : ℕ) → FreeSlots → Type 0
+IsNotOvertaken left waits old = (waits ≡ 0) ⊎ (length old.free ≡ left)
+
+-- slots are taken where nobody else has taken any since then; else the parent is read anew, which may happen so many times, and none
+-- was taken
+abbrev pub HasBegunOrWaits : (nodes left before after : ℕ) → Below → Phase → FreeSlots → FreeSlots → Type 0
+HasBegunOrWaits nodes left before after r phase old new =
+    (HasBegunBelow nodes r phase old new × ((after ≡ before) × IsNotOvertaken left before old)) ⊎ ((phase ≡ Word 1) × ((after + 1 ≡ before) × (new ≡ old)))
+
 -- that is where the upper guard was as the path names it; elsewhere none was taken
-abbrev pub HasLookedBelow : ℕ → Below → Seen → Phase → FreeSlots → FreeSlots → Type 0
-HasLookedBelow nodes r seen phase old new =
-    ((seen ≡ Was r.upper.status) × HasBegunBelow nodes r phase old new) ⊎ ((seen ≢ Was r.upper.status) × ((phase ≡ Restart) × (new ≡ old)))
+abbrev pub HasLookedBelow : (nodes left before after : ℕ) → Below → Seen → Phase → FreeSlots → FreeSlots → Type 0
+HasLookedBelow nodes left before after r seen phase old new =
+    ((seen ≡ Was r.upper.status) × HasBegunOrWaits nodes left before after r phase old new) ⊎ ((seen ≢ Was r.upper.status) × ((phase ≡ Restart) × ((after ≡ before) × (new ≡ old))))
 
 -- where the parent's status is as it was, its words tell whether there is room
 abbrev pub HasTold : Below → Seen → Phase → Type 0

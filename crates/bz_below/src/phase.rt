@@ -1,5 +1,9 @@
 //! The phases of a split below a parent.
 
+/// How many times a split reads the parent anew, at most, because others have taken slots meanwhile. That takes about as many acts
+/// as it takes another split from its slots to its swap.
+pub const MOST_WAITS: u32 = 4;
+
 /// What a split below a parent asks for next.
 #[derive(Clone, Copy, Drop)]
 pub(crate) enum Phase {

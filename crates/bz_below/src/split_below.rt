@@ -16,13 +16,13 @@ ghost use Rattle.bz_task.specs.Requests.{Hears, Tells, IsKnown};
 ghost use Rattle.bz_task.specs.Scene.{Scene, Stage, Waiting, IsScene};
 ghost use Rattle.bz_task.specs.declared.todo.Seen.TheVariants.{Read as Was, Swapped, NoSwap as NoneLeft};
 ghost use Rattle.bz_below.specs.Duties.{below_of, asks_below, end_below, left_below, needs_below, facts_below, differs_below};
-ghost use Rattle.bz_below.specs.Facts.{IsEndOfSplitBelow, below_nodes, below_acts, below_left, below_facts, below_means, HasRoom, HasParent, IsNewParent, HasBegunBelow, HasLookedBelow, HasTold, IsReadyBelow, IsThawedAbove, WasPartedBelow, LackedPart, below_needs, word_after, store_after, flush_after};
+ghost use Rattle.bz_below.specs.Facts.{IsEndOfSplitBelow, below_nodes, below_acts, below_left, below_facts, below_means, HasRoom, HasParent, IsNewParent, HasBegunBelow, HasLookedBelow, HasTold, IsNotOvertaken, HasBegunOrWaits, IsReadyBelow, IsThawedAbove, WasPartedBelow, LackedPart, below_needs, word_after, store_after, flush_after};
 ghost use Rattle.bz_split.specs.Facts.{split_change};
 
 use crate::front::{level_of, low_fence};
 use crate::laws::read_parents_were;
 use crate::links::upper_link;
-use crate::phase::Phase;
+use crate::phase::{MOST_WAITS, Phase};
 use bz_call::Spent;
 use bz_halves::{Halves, ParentChange, parent_over, place_of};
 use bz_key::PageBuf;
@@ -41,7 +41,8 @@ const SPLIT_LINES: u32 = NODE_LINES * SPLIT_SLOTS;
 
 /// The split of the frozen leaf that a view shows, below a parent. It ends with Done where a new parent, with the leaf's halves in
 /// its place, has taken the old one's place, which is frozen; with Restart where a link or a guard was another one; with NeedsRoom
-/// where the parent has no room for the separator; and with Full where fewer than three slots or no descriptor were left.
+/// where the parent has no room for the separator; and with Full where fewer than three slots or no descriptor were left. Where others
+/// take slots while it reads the parent, it reads the parent anew before it takes its own, up to `MOST_WAITS` times.
 #[derive(Drop)]
 pub struct SplitBelow {
     config: Config,
@@ -54,6 +55,9 @@ pub struct SplitBelow {
     parent: NodeImage,
     // the slots of the new parent, of the left half and of the right half
     slots: [u16; 3],
+    // how many slots were left when the parent was first read, and how many times it may be read anew
+    left: u32,
+    waits: u32,
     phase: Phase,
 }
 
@@ -92,6 +96,8 @@ impl SplitBelow {
             parent: halves.left,
             halves,
             slots: [0; 3],
+            left: 0,
+            waits: MOST_WAITS,
             phase: Phase::Fresh,
         }
     }
@@ -159,6 +165,7 @@ impl SplitBelow {
         ensures lower { self.new.lower ≡ self.old.lower }
         ensures halves { self.new.halves ≡ self.old.halves }
         ensures read { self.new.read ≡ self.old.read }
+        ensures waits { self.new.waits ≡ self.old.waits }
         ensures begun { HasBegunBelow self.old.config.nodes (below_of self.new) self.new.phase slots.old slots.new }
     {
         match take_three(slots) {
@@ -171,7 +178,38 @@ impl SplitBelow {
         }
     }
 
-    // The phase after another look at the upper guard: the nodes are begun where it is as the path names it.
+    // Whether others have taken slots since the parent was first read, and it may be read once more.
+    fn is_overtaken(&self, slots: &Slots) -> bool
+        ensures more { result ≡ true → 0 < self.now.waits }
+        ensures none { result ≡ false → IsNotOvertaken self.now.left self.now.waits slots.now }
+    {
+        if self.waits == 0 {
+            return false;
+        }
+        slots.left() != self.left
+    }
+
+    // The phase where the upper guard is as the path names it: the nodes are begun. Where others have taken slots meanwhile, one of them
+    // may be about to turn the same link: the parent is read anew, for as long as that may take, and no slots are taken for nothing.
+    fn wait_or_begin(&mut self, slots: &mut Slots)
+        requires parent { HasParent self.old.config.nodes self.old.lower.slot self.old.halves.separator self.old.read.0 }
+        requires room { HasRoom self.old.read.0 self.old.halves.separator }
+        ensures config { self.new.config ≡ self.old.config }
+        ensures upper { self.new.upper ≡ self.old.upper }
+        ensures lower { self.new.lower ≡ self.old.lower }
+        ensures halves { self.new.halves ≡ self.old.halves }
+        ensures read { self.new.read ≡ self.old.read }
+        ensures begun { HasBegunOrWaits self.old.config.nodes self.old.left self.old.waits self.new.waits (below_of self.new) self.new.phase slots.old slots.new }
+    {
+        if self.is_overtaken(slots) {
+            self.waits -= 1;
+            self.phase = Phase::Word(1);
+        } else {
+            self.begin(slots);
+        }
+    }
+
+    // The phase after another look at the upper guard: it goes on where that is as the path names it.
     fn look(&mut self, seen: Seen, slots: &mut Slots)
         requires parent { HasParent self.old.config.nodes self.old.lower.slot self.old.halves.separator self.old.read.0 }
         requires room { HasRoom self.old.read.0 self.old.halves.separator }
@@ -180,10 +218,10 @@ impl SplitBelow {
         ensures lower { self.new.lower ≡ self.old.lower }
         ensures halves { self.new.halves ≡ self.old.halves }
         ensures read { self.new.read ≡ self.old.read }
-        ensures looked { HasLookedBelow self.old.config.nodes (below_of self.new) seen self.new.phase slots.old slots.new }
+        ensures looked { HasLookedBelow self.old.config.nodes self.old.left self.old.waits self.new.waits (below_of self.new) seen self.new.phase slots.old slots.new }
     {
         if is_read(seen, self.upper.status) {
-            self.begin(slots);
+            self.wait_or_begin(slots);
         } else {
             self.phase = Phase::Restart;
         }
@@ -197,7 +235,7 @@ impl SplitBelow {
         requires looked { self.now.phase ≢ Phase.Guard }
         requires hears { Hears (asks_below self.now) seen }
         requires known { IsKnown self.now.config (facts_below self.now) (asks_below self.now) seen moment }
-        ensures nearer { below_left result < left_below self.now }
+        ensures nearer { below_left result < below_left self.now.phase }
         ensures needs { below_needs result ≡ 0 }
         ensures done { result ≡ Phase.Done → seen ≡ Swapped true }
         ensures restart { result ≡ Phase.Restart → seen ≡ Swapped false }
@@ -246,7 +284,10 @@ impl SplitBelow {
         bz_halves::laws::children_may_be_parted();
         read_parents_were();
         match self.phase {
-            Phase::Fresh => self.phase = Phase::Word(1),
+            Phase::Fresh => {
+                self.left = slots.left();
+                self.phase = Phase::Word(1);
+            }
             Phase::Word(i) => {
                 self.read.0[i as usize] = word_in(seen);
                 self.phase = after_word(i);

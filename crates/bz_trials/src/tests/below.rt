@@ -156,11 +156,12 @@ fn a_stopped_split_holds_nobody_up(rt: HostRuntime) {
     }
 }
 
-// Two full leaves below one parent, which are split at once: one of the swaps comes first, and the other call begins again.
+// Two full leaves below one parent, which are split at once: one of the swaps comes first, and the other call begins again. It has
+// waited and taken no slots for nothing: there are just enough for the first leaf and three splits.
 #[test]
 fn two_splits_below_one_parent(rt: HostRuntime) {
     let v = payload(&rt, b"v");
-    let mut world = open(rt.alloc(), 16, 400, 2).expect(&rt, "a world");
+    let mut world = open(rt.alloc(), 10, 400, 2).expect(&rt, "a world");
     for number in 1..41 {
         inserts(&rt, &mut world, 2 * number);
     }

@@ -12,7 +12,7 @@ use Rattle.bz_below.specs.declared.phase.Phase.TheVariants.{Fresh, Word, Again, 
 use Rattle.bz_below.specs.declared.split_below.SplitBelow.{SplitBelow}
 use Rattle.bz_below.proofs.Ending.{EndsWell, ends-well, first-ends, takes-none}
 use Rattle.bz_below.proofs.Telling.{Tolds, tolds, told-learns, has-parent}
-use Rattle.bz_below.proofs.Looking.{Looks, looks, looked-learns, planned-parent, planned-room}
+use Rattle.bz_below.proofs.Looking.{Looks, looks, looked-learns, guard-within, planned-parent, planned-room}
 use Rattle.bz_below.proofs.Reading.{Words, fresh-ready, word-within, words-on, fresh-known, word-known, word-ready}
 use Rattle.bz_below.proofs.Staying.{no-slot}
 use Rattle.bz_below.proofs.split_below.SplitBelow.step.Goals as goal
@@ -75,7 +75,9 @@ returns-in-Guard c =
     let needed : below_needs t.phase ≡ SPLIT_SLOTS = ap below_needs c.in-Guard.is in
     let nodes : c.args.slots.now.nodes ≡ t.config.nodes = c.requires.memory (omega (arith, needed)) in
     let hears : Hears (below_asks t.config (below_of t) Guard) c.args.seen = subst (λ z. Hears (below_asks t.config (below_of t) z) c.args.seen) c.in-Guard.is c.requires.hears in
-    let b : Looks (below_of new) new.config c.args.seen new.phase c.args.slots.now left = looks t.config.nodes (below_of new) new.config c.args.seen new.phase c.args.slots.now left
+    let known = subst (λ z. below_facts (below_of t) z k.stage k.scene) c.in-Guard.is k.holds in
+    let within : new.upper.slot < new.config.nodes = subst (λ z. z.slot < new.config.nodes) (sym e.upper) (subst (λ z. t.upper.slot < z.nodes) (sym e.config) (guard-within t.config (below_of t) k.stage k.scene k.config k.good known)) in
+    let b : Looks t.waits new.waits (below_of new) new.config c.args.seen new.phase c.args.slots.now left = looks t.config.nodes t.left t.waits new.waits (below_of new) new.config c.args.seen new.phase c.args.slots.now left within
     (subst (λ z. Hears (Some (Reads z.guard)) c.args.seen) (sym e.upper) hears) e.looked (nodes ∙ ap (λ z. z.nodes) (sym e.config)) in
     let ends : EndsWell t.upper t.lower c.args.seen t.phase new.phase c.args.slots.now = subst (λ z. EndsWell t.upper t.lower c.args.seen z new.phase c.args.slots.now) (sym c.in-Guard.is)
     (subst (λ z. EndsWell z t.lower c.args.seen Guard new.phase c.args.slots.now) e.upper (subst (λ z. EndsWell new.upper z c.args.seen Guard new.phase c.args.slots.now) e.lower b.ends)) in
@@ -94,7 +96,7 @@ returns-in-Guard c =
       no_swap = ends.no_swap;
       full_swaps = ends.full_swaps;
       full_nodes = ends.full_nodes;
-      learns = λ stage s same good free facts tells. looked-learns c.slots_apart.ensures c.children_may_be_parted.ensures c.guarded_links_stand.ensures c.nothing_is_gained.ensures t.config (below_of t) (below_of new) new.phase c.args.seen c.args.slots.now left
+      learns = λ stage s same good free facts tells. looked-learns c.slots_apart.ensures c.children_may_be_parted.ensures c.guarded_links_stand.ensures c.nothing_is_gained.ensures t.config t.left t.waits new.waits (below_of t) (below_of new) new.phase c.args.seen c.args.slots.now left
           (record { upper = e.upper; lower = e.lower; left = ap (λ z. z.left.0) e.halves; right = ap (λ z. z.right.0) e.halves; read = ap (λ z. z.0) e.read; sep = ap (λ z. z.separator) e.halves }) e.looked nodes stage s same good (free (omega (arith, needed)))
           (subst (λ z. below_facts (below_of t) z stage s) c.in-Guard.is facts)
           (subst (λ z. Tells (below_asks t.config (below_of t) z) stage c.args.seen s) c.in-Guard.is tells);
@@ -113,7 +115,7 @@ returns-in_default c =
       known = a.config;
       begun = a.begun;
       ready = a.ready;
-      nearer = a.nearer;
+      nearer = omega (arith, a.nearer);
       slots = takes-none t.phase c.after-self.result c.args.slots.now (omega (arith, a.needs));
       done = e.done;
       restart = e.restart;
