@@ -139,10 +139,10 @@ guard-within c r stage s same good f = subst (λ (z : Config). r.upper.slot < z.
 planned-anew : (r : Below) (s : Scene) → IsScene s → IsPlanned r s.past → IsReading r 1 s.past
 planned-anew r s good v =
     let status : slice_index r.read STATUS_AT ≡ r.lower.status =
-        sym (ap (λ (n : ℕ → ℕ). n STATUS_AT) v.parent.were)
-        ∙ (node-at s.past.config (s.past.at v.parted.guarded).value r.upper.slot STATUS_AT (omega arith)
-        ∙ (ap (λ a. (s.past.at v.parted.guarded).value a) (sym (guard-is r.upper r.lower (r.image 1) (r.image 2) r.sep s good v.parted))
-        ∙ subst (λ m. (s.past.at m).value r.lower.guard ≡ r.lower.status) v.parted.is_guarded v.parted.links.guard.status)) in
+    sym (ap (λ (n : ℕ → ℕ). n STATUS_AT) v.parent.were)
+    ∙ (node-at s.past.config (s.past.at v.parted.guarded).value r.upper.slot STATUS_AT (omega arith)
+    ∙ (ap (λ a. (s.past.at v.parted.guarded).value a) (sym (guard-is r.upper r.lower (r.image 1) (r.image 2) r.sep s good v.parted))
+    ∙ subst (λ m. (s.past.at m).value r.lower.guard ≡ r.lower.status) v.parted.is_guarded v.parted.links.guard.status)) in
     record { parted = v.parted; were = record { size = v.parent.parent.size; first = status; rest = λ i some l. absurd (omega (arith, some, l)) } }
 
 -- what another look at the upper guard teaches, of a task that had these facts and was told this
@@ -154,13 +154,13 @@ looked-learns apart parts stand nothing c left before after o r q seen old new s
     let told : Tells (Some (Reads r.upper.guard)) stage seen s = subst (λ (z : Link). Tells (Some (Reads z.guard)) stage seen s) (sym same.upper) tells in
     elim h [
       | inl g ↦ elim g.1 [
-          | inl b ↦ (
-              let a : Answers s r.upper.guard r.upper.status = (read-answers r.upper.guard r.upper.status stage s (subst (λ z. Tells (Some (Reads r.upper.guard)) stage z s) g.0 told)).1 in
-              let clear : IsClear s r.upper = clear-of stand apart s r.upper good plan.parted.links.upper_guard plan.parted.links.upper_thawed a.value in
-              begun-knows apart parts nothing r q s old new good (subst (λ (z : Config). HasBegunBelow z.nodes r q old new) (sym config) b.0) (nodes ∙ ap (λ (z : Config). z.nodes) (sym config)) free known.0 plan
-              (answered-as-read s r.upper plan.parted.moment plan.parted.leaf.now a) clear)
-          | inr w ↦ subst (λ z. below_facts r z Waiting (gained s old new)) (sym w.0)
-              (subst (λ z. below_facts r (Word 1) Waiting (gained s old z)) (sym w.1.1) (nothing s old known.0, (omega arith, (omega arith, planned-anew r s good plan))))
-        ]
+        | inl b ↦ (
+            let a : Answers s r.upper.guard r.upper.status = (read-answers r.upper.guard r.upper.status stage s (subst (λ z. Tells (Some (Reads r.upper.guard)) stage z s) g.0 told)).1 in
+            let clear : IsClear s r.upper = clear-of stand apart s r.upper good plan.parted.links.upper_guard plan.parted.links.upper_thawed a.value in
+            begun-knows apart parts nothing r q s old new good (subst (λ (z : Config). HasBegunBelow z.nodes r q old new) (sym config) b.0) (nodes ∙ ap (λ (z : Config). z.nodes) (sym config)) free known.0 plan
+            (answered-as-read s r.upper plan.parted.moment plan.parted.leaf.now a) clear)
+        | inr w ↦ subst (λ z. below_facts r z Waiting (gained s old new)) (sym w.0)
+            (subst (λ z. below_facts r (Word 1) Waiting (gained s old z)) (sym w.1.1) (nothing s old known.0, (omega arith, (omega arith, planned-anew r s good plan))))
+      ]
       | inr g ↦ subst (λ z. below_facts r z Waiting (gained s old new)) (sym g.1.0) (subst (λ z. HasFilled (gained s old z)) (sym g.1.1.1) (nothing s old known.0))
     ]
