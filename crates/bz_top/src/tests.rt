@@ -108,8 +108,8 @@ fn a_faulty_input_is_refused_by_name(rt: HostRuntime) -> Result<(), Fail> {
         ("memory 16 64\nrun fast\n", "fault: line 2: unknown word\n"),
         ("memory 16 64\n\nrun\n", "fault: line 2: unknown word\n"),
         (
-            "memory 16 64\nrun threads\n",
-            "fault: line 2: unknown word\n",
+            "memory 16 64\nrun threads 1\n",
+            "fault: line 2: wrong number of words\n",
         ),
         (
             "memory 16 64\ncut 1 0\ncut 1 0\n",

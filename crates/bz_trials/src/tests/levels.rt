@@ -89,15 +89,20 @@ struct Effects {
 }
 
 impl Effects {
-    // An effect of a worker.
+    // An effect of a worker: its call's key is there, or is not.
     fn read_effect(&mut self, w: u8) {
-        let (key, there) = match self.calls.get(w as usize).copied().unwrap_or(None) {
-            Some(Call::Insert(key, _)) => (key, true),
-            Some(Call::Delete(key)) => (key, false),
-            _ => return,
-        };
-        if let Some(number) = number_of(&key) {
-            self.keys[number] = there;
+        match self.calls.get(w as usize) {
+            Some(Some(Call::Insert(key, _))) => {
+                if let Some(number) = number_of(key) {
+                    self.keys[number] = true;
+                }
+            }
+            Some(Some(Call::Delete(key))) => {
+                if let Some(number) = number_of(key) {
+                    self.keys[number] = false;
+                }
+            }
+            _ => {}
         }
     }
 
