@@ -1,0 +1,4 @@
+pub mod Examples
+pub mod Paths
+pub mod Rooms
+pub mod Stages
