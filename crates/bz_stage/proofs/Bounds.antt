@@ -1,16 +1,14 @@
 -- How great a stage is, and how many nodes above a leaf are full.
-use Rattle.std.proofs.Common.{◌≡◌, ℕ, zero, suc, ◌+◌, ◌<◌, ◌≤◌, List, arith, refl, ap, subst, Option}
+use Rattle.std.proofs.Common.{◌≡◌, ℕ, zero, suc, ◌+◌, ◌<◌, List, arith, Option}
 use Rattle.std.specs.Prelude.{None}
-use Rattle.bz_layout.specs.declared.config.Config.{Config}
 use Rattle.bz_layout.specs.declared.thresholds.TheConstants.{INNER_LIMIT, MAX_LEVELS}
 use Rattle.bz_shape.proofs.TreeForms.{fits}
 use Rattle.bz_shape.specs.Form.{Fits, Stands}
-use Rattle.bz_shape.specs.Walk.{IsTree}
 use Rattle.bz_slotted.specs.Laws.{LeafRulesAreFacts, InnerRulesAreFacts}
 use Rattle.bz_slotted.specs.Rules.{node_fault}
 use Rattle.bz_content.proofs.Honesty.{no}
 use Rattle.bz_content.proofs.Reached.{root-stands, root-below}
-use Rattle.bz_content.specs.Image.{Image, node, root}
+use Rattle.bz_content.specs.Image.{node, root}
 use Rattle.bz_content.specs.Swaps.{form_in}
 use Rattle.bz_content.specs.View.{view_of}
 use Rattle.bz_stage.proofs.Leaves.{less, not-less, stage-at-most}

@@ -1,5 +1,5 @@
 -- A copy of the key's leaf has room.
-use Rattle.std.proofs.Common.{◌≡◌, ℕ, ◌==◌, true, false, [], ◌∷◌, arith, refl, sym, subst}
+use Rattle.std.proofs.Common.{◌≡◌, ℕ, true, [], ◌∷◌, arith, refl, sym, subst}
 use Rattle.std.proofs.lemmas.Bool.Decides.{nat_tests}
 use Rattle.bz_layout.specs.Rooms.{SettledLeafTakesRecord}
 use Rattle.bz_shape.proofs.Trees.{among-first}

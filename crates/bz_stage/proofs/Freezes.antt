@@ -1,5 +1,5 @@
 -- A freeze of a leaf that lacks the words lowers the stage by one: the leaf keeps its live words, and the nodes above it stay.
-use Rattle.std.proofs.Common.{◌≡◌, ◌≢◌, ℕ, ◌+◌, ◌<◌, ◌≤◌, if◌then◌else◌, Bool, List, arith, refl, sym, ap, subst, ◌∙◌, inl, inr}
+use Rattle.std.proofs.Common.{◌≡◌, ℕ, ◌+◌, ◌<◌, ◌≤◌, if◌then◌else◌, List, arith, sym, ap, subst, ◌∙◌, inl, inr}
 use Rattle.std.specs.Prelude.{nat_lt}
 use Rattle.bz_layout.specs.declared.config.Config.{Config}
 use Rattle.bz_layout.specs.declared.sizes.TheConstants.{META_AT, SHARED_WORDS}
@@ -23,7 +23,7 @@ use Rattle.bz_stage.proofs.Paths.{below-top, path-found, path-unique}
 use Rattle.bz_stage.proofs.Runs.{run-same}
 use Rattle.bz_stage.specs.Laws.{FreezesLowerTheStage}
 use Rattle.bz_stage.specs.Paths.{on_path, run_from, StandsOver}
-use Rattle.bz_stage.specs.Rooms.{words_taken, is_crowded, is_full}
+use Rattle.bz_stage.specs.Rooms.{words_taken, is_full}
 use Rattle.bz_stage.specs.Stages.{leaf_page, page_on_path, root_level, full_above, frozen_stage, stage}
 use Rattle.bz_stage.specs.Swaps.{FreezesLeaf}
 

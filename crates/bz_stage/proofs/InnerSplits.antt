@@ -1,8 +1,8 @@
 -- The split of a full node above the key's leaf lowers the stage, below an inner node and at the root.
-use Rattle.std.proofs.Common.{◌≡◌, ◌≢◌, ℕ, ◌+◌, ◌<◌, ◌≤◌, true, false, List, [], ◌∷◌, arith, refl, sym, ap, subst, ◌∙◌, inl, inr}
+use Rattle.std.proofs.Common.{◌≡◌, ◌≢◌, ℕ, ◌+◌, ◌<◌, false, List, [], ◌∷◌, arith, refl, sym, ap, subst, inl, inr}
 use Rattle.std.proofs.lemmas.Bool.{cases_lt}
 use Rattle.bz_layout.specs.declared.config.Config.{Config}
-use Rattle.bz_shape.proofs.Descents.{Home, home}
+use Rattle.bz_shape.proofs.Descents.{home}
 use Rattle.bz_shape.proofs.TreeForms.{fits}
 use Rattle.bz_shape.proofs.Trees.{among-first, not-among}
 use Rattle.bz_shape.specs.Descent.{leaf_of}

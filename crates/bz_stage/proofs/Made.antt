@@ -1,5 +1,5 @@
 -- The words that nodes made whole have taken, and those of an inner node that is read.
-use Rattle.std.proofs.Common.{◌≡◌, ℕ, ◌+◌, ◌<◌, ◌≤◌, List, length, map, arith, refl, sym, ap}
+use Rattle.std.proofs.Common.{◌+◌, ◌≤◌, map, arith, sym, ap}
 use Rattle.bz_layout.specs.Rooms.{SettledLeafTakesRecord}
 use Rattle.bz_layout.specs.declared.sizes.TheConstants.{SHARED_WORDS}
 use Rattle.bz_node.specs.Laws.{ReadsAsLeaf, LeavesAreRead, ReadsAsInner, InnerNodesAreRead}

@@ -2,13 +2,11 @@
 use Rattle.std.specs.Prelude.{◌≡◌, ℕ, ◌<◌, ◌≤◌, true, false, List}
 use Rattle.bz_layout.specs.declared.config.Config.{Config}
 use Rattle.bz_layout.specs.declared.thresholds.TheConstants.{SPLIT_ABOVE, INNER_LIMIT}
-use Rattle.bz_shape.specs.Descent.{leaf_of}
 use Rattle.bz_slotted.specs.Changes.{Restamps}
 use Rattle.bz_slotted.specs.Page.{Page, page}
 use Rattle.bz_slotted.specs.Records.{live_words}
 use Rattle.bz_content.specs.Image.{Image, node}
 use Rattle.bz_content.specs.Swaps.{OnLeaf}
-use Rattle.bz_content.specs.View.{view_of}
 use Rattle.bz_stage.specs.Rooms.{words_taken}
 use Rattle.bz_stage.specs.Stages.{leaf_page, page_on_path}
 
