@@ -1,0 +1,12 @@
+pub mod Anew
+pub mod Bounds
+pub mod Copies
+pub mod Examples
+pub mod Exchanges
+pub mod Freezes
+pub mod InnerSplits
+pub mod LeafSplits
+pub mod Leaves
+pub mod Made
+pub mod Paths
+pub mod Runs

@@ -1,0 +1,7 @@
+pub mod Examples
+pub mod Laws
+pub mod Made
+pub mod Paths
+pub mod Rooms
+pub mod Stages
+pub mod Swaps
