@@ -60,8 +60,8 @@ fn ends(rt: &impl Abort, alloc: Global, keys: &[Key; 2], acts: u32, turn: u32) -
 fn one_of_two_inserts_of_a_key_finds_it(rt: HostRuntime) -> Result<(), Fail> {
     let key = numbered(&rt, 0);
     let (whole, _) = ends(&rt, rt.alloc(), &[key, key], MOST, MOST).first;
-    // a lookup of 14 loads, two swaps of two words, and the two words of the record and their flush
-    assert_eq!(rt; whole, 14 + 27 + 3 + 27);
+    // a lookup of 6 loads, two swaps of two words, and the two words of the record and their flush
+    assert_eq!(rt; whole, 6 + 27 + 3 + 27);
     for acts in 0..=whole {
         for turn in [acts, MOST] {
             let ends = ends(&rt, rt.alloc(), &[key, key], acts, turn);

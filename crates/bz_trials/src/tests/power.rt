@@ -167,9 +167,9 @@ fn slots_that_the_tree_does_not_reach_serve_again(rt: HostRuntime) -> Result<(),
     Ok(())
 }
 
-// An insert or a delete of one of seven keys, cut after some of its acts, at times with all words evicted, and the recovery.
+// An insert or a delete of one of five keys, cut after some of its acts, at times with all words evicted, and the recovery.
 fn cut_and_recover(rt: &impl Abort, world: &mut World, number: u8) {
-    let k = numbered(rt, number % 7);
+    let k = numbered(rt, number % 5);
     let call = match number % 3 {
         2 => Call::Delete(k),
         _ => Call::Insert(k, payload(rt, b"n")),
