@@ -31,3 +31,7 @@ returns-in-SplittingInnerRoot-clause-stable c = subst Stable (sym c.in-Splitting
 pub returns-in-SplittingInnerRoot-clause-askable : goal.returns-in-SplittingInnerRoot-clause-askable
 unfolding config_of asks_of facts_of
 returns-in-SplittingInnerRoot-clause-askable c = subst Askable (sym c.in-SplittingInnerRoot.is) (λ s todo same f good e. c.learnt-in-SplittingInnerRoot.ensures.askable s todo same f.0 good e)
+
+pub returns-in-Merging-clause-stable : goal.returns-in-Merging-clause-stable
+unfolding config_of facts_of
+returns-in-Merging-clause-stable c = subst Stable (sym c.in-Merging.is) c.learnt-in-Merging.ensures.stable
