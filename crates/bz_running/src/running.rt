@@ -4,7 +4,6 @@ ghost use Rattle.std.specs.Prelude.{◌≡◌, ◌-◌, ◌<◌, ◌≢◌, ◌�
 ghost use Rattle.bz_below.specs.Facts.{IsThawedAbove, LackedPart};
 ghost use Rattle.bz_consol.specs.Facts.{LeadsTo};
 ghost use Rattle.bz_layout.specs.declared.thresholds.TheConstants.{CONSOLIDATION_SLOTS, MERGE_SLOTS, SPLIT_ABOVE, SPLIT_SLOTS};
-ghost use Rattle.bz_merge.specs.Thawed.{IsThawedAbove as IsThawedOver};
 ghost use Rattle.bz_page.specs.Pages.{IsLeafByItself};
 ghost use Rattle.bz_record.specs.Records.{words_for, LacksRoom};
 ghost use Rattle.bz_slotted.specs.Readers.{live_of};
@@ -241,7 +240,7 @@ impl Running {
         requires deep { 2 ≤ path.depth }
         requires few { path.depth ≤ 12 }
         requires leads { LeadsTo path view.slot }
-        requires thawed { IsThawedOver path }
+        requires thawed { IsThawedAbove path }
         ensures config { config_of result ≡ config.now }
         ensures asks { asks_of result ≡ None }
         ensures needs { needs_of result ≡ MERGE_SLOTS }
@@ -275,6 +274,14 @@ impl Running {
             Running::SplittingInner(task, _) => task.next(seen, slots, moment),
             Running::SplittingInnerRoot(task, _) => task.next(seen, slots, moment),
             Running::Merging(task) => task.next(seen, slots, moment),
+        }
+    }
+
+    /// Whether it is a delete that leaves so little in its leaf that this may be merged.
+    pub fn leaves_few(&self) -> bool {
+        match self {
+            Running::Deleting(task) => task.leaves_few(),
+            _ => false,
         }
     }
 
