@@ -21,4 +21,4 @@ mod Sides
 mod Looking
 mod Viewing
 mod Ending
-mod Slots
+mod Needing

@@ -114,7 +114,10 @@ fn merge_or_copy(parts: &mut Parts, w: u8, path: Path, view: &LeafView) -> Appli
 {
     start_laws();
     answer_laws();
-    if is_due_beside(&path, view) && !is_alone(&parts.workers[w as usize]) {
+    if is_alone(&parts.workers[w as usize]) {
+        return consolidate(parts, w, path, view);
+    }
+    if is_due_beside(&path, view) {
         merge(parts, w, path, view)
     } else {
         consolidate(parts, w, path, view)

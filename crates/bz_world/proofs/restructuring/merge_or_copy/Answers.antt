@@ -4,7 +4,7 @@ use Rattle.bz_world.proofs.Changing.{needs-merge}
 use Rattle.bz_world.proofs.restructuring.merge_or_copy.Goals as goal
 
 pub merge-requires-clause-merge : goal.merge-requires-clause-merge
-merge-requires-clause-merge c = let due = c.is_due.ensures.due.0 c.if-not-is_due.false in record {
+merge-requires-clause-merge c = let due = c.is_due.ensures.due.0 c.if-is_due.true in record {
   on = c.requires.copy.anew.answer.on;
   viewed = c.requires.copy.anew.answer.viewed;
   way = c.requires.copy.anew.way;
