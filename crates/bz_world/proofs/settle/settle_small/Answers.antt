@@ -1,8 +1,4 @@
-use Rattle.std.proofs.Common.{sym, ap, ◌∙◌}
-use Rattle.bz_task.specs.Outcomes.{IsPath}
-use Rattle.bz_call.specs.Map.{key_of}
-use Rattle.bz_world.specs.Inside.Going.{known, path_in}
-use Rattle.bz_world.proofs.TakingOn.{slot-is, read-way, none-wanted-after}
+use Rattle.bz_world.proofs.TakingOn.{read-way, none-wanted-after}
 use Rattle.bz_world.proofs.settle.settle_small.Goals as goal
 
 pub end_effective-requires-clause-had : goal.end_effective-requires-clause-had
