@@ -4,8 +4,8 @@ use super::below::{last_page, numbered};
 use super::bench::{Answer, begin, open, payload, steps, whole};
 use super::decode::decode_root;
 use super::power::{evict_all, recover, restart};
-use crate::World;
 use bz_call::Call;
+use bz_world::World;
 use std::alloc::Global;
 use std::process::Abort;
 
