@@ -3,9 +3,9 @@
 use super::bench::{Answer, begin, mark, steps};
 use super::decode::{child_of, decode_root, resolve, root};
 use super::inner::{MOST, count_pairs, insert, inserts, open};
-use bz_world::{Event, World};
 use bz_mark::Mark;
 use bz_word::Status;
+use bz_world::{Event, World};
 use std::alloc::Global;
 use std::process::Abort;
 
