@@ -1,4 +1,4 @@
-use Rattle.std.proofs.Common.{sym, ap, ◌+◌, ◌<◌, ◌^◌, subst, rules, Some, None}
+use Rattle.std.proofs.Common.{false, sym, ap, ◌+◌, ◌<◌, ◌^◌, subst, rules, Some, None}
 use Rattle.std.specs.Vec.{with_item}
 use Rattle.bz_mark.specs.Log.{Log}
 use Rattle.bz_running.specs.Hearing.{IsLookup}
