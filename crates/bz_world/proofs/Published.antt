@@ -12,7 +12,7 @@ use Rattle.bz_mark.specs.Log.{Log, with_mark}
 use Rattle.bz_mark.specs.MomentLaws.{at_moment-before}
 use Rattle.bz_mark.specs.declared.marks.Mark.{Mark}
 use Rattle.bz_mark.specs.declared.marks.Mark.TheVariants.{Effect}
-use Rattle.bz_running.specs.Duties.{wants_of, facts_of, publishing_of, change_of, no-change-is-published}
+use Rattle.bz_running.specs.Duties.{facts_of, publishing_of, change_of, no-change-is-published}
 use Rattle.bz_sight.specs.Effects.{effect_instant}
 use Rattle.bz_sight.specs.Sight.{IsSeen}
 use Rattle.bz_sight.specs.Starts.{Sees}
