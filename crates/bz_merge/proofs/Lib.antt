@@ -21,3 +21,4 @@ mod Sides
 mod Looking
 mod Viewing
 mod Ending
+mod Needing

@@ -1,6 +1,10 @@
 //! What the swap of a merge leads to, and what is known of nodes that were read word by word. Each function does nothing: its
 //! contract is the law.
 
+ghost use Rattle.std.specs.Prelude.{◌≤◌};
+ghost use Rattle.bz_layout.specs.declared.thresholds.TheConstants.{MERGE_SLOTS};
+ghost use Rattle.bz_merge.specs.Duties.{needs_of};
+ghost use Rattle.bz_merge.specs.declared.merge.Merge.{Merge};
 ghost use Rattle.bz_merge.specs.Merges.{MergesAreGood};
 ghost use Rattle.bz_merge.specs.Siblings.{ParentsReadWere, ChildrenStand, LeavesReadWere};
 
@@ -53,3 +57,8 @@ pub fn leaves_read_were()
     laws::seen_leaves_are_whole();
     laws::leaves_are_in_trees();
 }
+
+/// A merge takes no more than two slots.
+pub fn merges_take_two_slots()
+    ensures { (t : Merge) → needs_of t ≤ MERGE_SLOTS }
+{}

@@ -15,8 +15,8 @@ ghost use Rattle.bz_mutate.specs.DeleteFacts.{IsEndOfDelete, delete_asks, delete
 use crate::delete_phase::DeletePhase;
 use bz_call::Spent;
 use bz_key::Key;
-use bz_layout::{Config, Slots};
-use bz_record::FoundRecord;
+use bz_layout::{Config, MERGE_BELOW, Slots};
+use bz_record::{FoundRecord, NewRecord};
 use bz_task::{KeyView, LeafView, Outcome, Path, Seen, Task, Todo, laws};
 use bz_word::Status;
 
@@ -54,6 +54,25 @@ impl Delete {
             key,
             phase: DeletePhase::Fresh,
         }
+    }
+
+    /// Whether fewer words of the leaf's block are live, once the record is gone, than a leaf needs to stand alone. Each live record has
+    /// a metadata word besides, so where this is false the leaf has enough.
+    pub fn leaves_few(&self) -> bool {
+        let Some(found) = &self.view.found else {
+            return false;
+        };
+        let Some(status) = Status::unpack(self.view.status) else {
+            return false;
+        };
+        let gone = NewRecord {
+            slot: self.view.slot,
+            status: self.view.status,
+            key: self.key,
+            payload: found.payload,
+        };
+        let live = status.block.saturating_sub(status.dead);
+        live.saturating_sub(gone.size()) < MERGE_BELOW
     }
 
     // The phase after what came of the last act.

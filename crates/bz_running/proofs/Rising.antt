@@ -11,7 +11,7 @@ use Rattle.bz_running.specs.Duties.{config_of, wants_of, ascent_of, facts_of, me
 use Rattle.bz_running.specs.GoingUp.{IsSplitAt, GoesUp}
 use Rattle.bz_running.specs.Hearing.{IsLookup}
 use Rattle.bz_running.specs.declared.running.Running.{Running}
-use Rattle.bz_running.specs.declared.running.Running.TheVariants.{Seeking, Finding, Reading, Inserting, Updating, Deleting, Freezing, Consolidating, Splitting, SplittingBelow, SplittingInner, SplittingInnerRoot}
+use Rattle.bz_running.specs.declared.running.Running.TheVariants.{Seeking, Finding, Reading, Inserting, Updating, Deleting, Freezing, Consolidating, Splitting, SplittingBelow, SplittingInner, SplittingInnerRoot, Merging}
 use Rattle.bz_running.proofs.Ascending.{same-ascent}
 use Rattle.bz_running.proofs.Statements.{Ends}
 
@@ -34,6 +34,7 @@ is-rising (Splitting t) a e = absurd (cc)
 is-rising (SplittingBelow t b) a e = subst (IsRising (SplittingBelow t b)) (same-ascent b a e) (record { wants = refl; knows = λ s f. f.1 })
 is-rising (SplittingInner t b) a e = subst (IsRising (SplittingInner t b)) (same-ascent b a e) (record { wants = refl; knows = λ s f. f.1 })
 is-rising (SplittingInnerRoot t b) a e = subst (IsRising (SplittingInnerRoot t b)) (same-ascent b a e) (record { wants = refl; knows = λ s f. f.1 })
+is-rising (Merging t) a e = absurd (cc)
 
 pub goes-up : AscentsRise → (t next : Running) (a up : Ascent) → Ends t → ascent_of t ≡ Some a → IsOneUp a up → IsSplitAt (config_of t) up next → GoesUp t next
 goes-up law t next a up ends is one it = record {

@@ -3,7 +3,9 @@ use Rattle.std.proofs.Common.{◌≡◌, ◌<◌, ◌≤◌, ◌⊎◌, ℕ, tru
 use Rattle.bz_consol.specs.Duties as consol
 use Rattle.bz_consol.specs.declared.consolidate.Consolidate.{Consolidate}
 use Rattle.bz_layout.specs.Slots.{FreeSlots}
-use Rattle.bz_layout.specs.declared.thresholds.TheConstants.{CONSOLIDATION_SLOTS, SPLIT_SLOTS}
+use Rattle.bz_layout.specs.declared.thresholds.TheConstants.{CONSOLIDATION_SLOTS, MERGE_SLOTS, SPLIT_SLOTS}
+use Rattle.bz_merge.specs.Duties as merge
+use Rattle.bz_merge.specs.declared.merge.Merge.{Merge}
 use Rattle.bz_word.specs.declared.entry.Entry.{Entry}
 use Rattle.bz_task.specs.Instant.{Instant}
 use Rattle.bz_task.specs.OwnActs.{Stores, Flushes, AreUnreached, gained}
@@ -18,7 +20,7 @@ use Rattle.bz_task.specs.declared.todo.Todo.{Todo}
 use Rattle.bz_task.specs.declared.todo.Todo.TheVariants.{Store, Flush, Swap}
 use Rattle.bz_running.specs.Duties.{config_of, asks_of, needs_of, wants_of, end_of, change_of, publishing_of, facts_of, means_of, differs_of}
 use Rattle.bz_running.specs.declared.running.Running.{Running}
-use Rattle.bz_running.specs.declared.running.Running.TheVariants.{Seeking, Finding, Reading, Inserting, Updating, Deleting, Freezing, Consolidating, Splitting, SplittingBelow, SplittingInner, SplittingInnerRoot}
+use Rattle.bz_running.specs.declared.running.Running.TheVariants.{Seeking, Finding, Reading, Inserting, Updating, Deleting, Freezing, Consolidating, Splitting, SplittingBelow, SplittingInner, SplittingInnerRoot, Merging}
 
 abbrev pub Stable : Running → Type 0
 Stable t = (stage : Stage) (s after : Scene) → s.past.config ≡ config_of t → facts_of t stage s → IsScene after → IsLawful s after → facts_of t stage after
@@ -56,20 +58,21 @@ abbrev pub Learns : Seen → ℕ → FreeSlots → FreeSlots → Running → Run
 Learns seen moment free left new t = (stage : Stage) (s : Scene) → s.past.now ≡ moment → s.past.config ≡ config_of t → IsScene s → (0 < needs_of t → AreUnreached s free) → facts_of t stage s → Tells (asks_of t) stage seen s → facts_of new Waiting (gained s free left)
 
 -- what a task still is to take is no more than what it takes in all
-pub takes-few : ((t : Consolidate) → consol.needs_of t ≤ CONSOLIDATION_SLOTS) → (t : Running) → needs_of t ≤ SPLIT_SLOTS → needs_of t ≤ wants_of t
+pub takes-few : ((t : Consolidate) → consol.needs_of t ≤ CONSOLIDATION_SLOTS) → ((t : Merge) → merge.needs_of t ≤ MERGE_SLOTS) → (t : Running) → needs_of t ≤ SPLIT_SLOTS → needs_of t ≤ wants_of t
 unfolding needs_of wants_of
-takes-few one (Seeking t) few = omega arith
-takes-few one (Finding t) few = omega arith
-takes-few one (Reading t) few = omega arith
-takes-few one (Inserting t) few = omega arith
-takes-few one (Updating t) few = omega arith
-takes-few one (Deleting t) few = omega arith
-takes-few one (Freezing t) few = omega arith
-takes-few one (Consolidating t) few = one t
-takes-few one (Splitting t) few = few
-takes-few one (SplittingBelow t a) few = few
-takes-few one (SplittingInner t a) few = few
-takes-few one (SplittingInnerRoot t a) few = few
+takes-few one merging (Seeking t) few = omega arith
+takes-few one merging (Finding t) few = omega arith
+takes-few one merging (Reading t) few = omega arith
+takes-few one merging (Inserting t) few = omega arith
+takes-few one merging (Updating t) few = omega arith
+takes-few one merging (Deleting t) few = omega arith
+takes-few one merging (Freezing t) few = omega arith
+takes-few one merging (Consolidating t) few = one t
+takes-few one merging (Splitting t) few = few
+takes-few one merging (SplittingBelow t a) few = few
+takes-few one merging (SplittingInner t a) few = few
+takes-few one merging (SplittingInnerRoot t a) few = few
+takes-few one merging (Merging t) few = merging t
 
 -- and no more than a split takes
 pub wants-few : (t : Running) → wants_of t ≤ SPLIT_SLOTS
@@ -86,3 +89,4 @@ wants-few (Splitting t) = omega arith
 wants-few (SplittingBelow t a) = omega arith
 wants-few (SplittingInner t a) = omega arith
 wants-few (SplittingInnerRoot t a) = omega arith
+wants-few (Merging t) = omega arith

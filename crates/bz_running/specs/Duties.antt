@@ -1,7 +1,7 @@
 -- What a task asks for and knows, whichever it is.
 use Rattle.std.specs.Prelude.{◌≡◌, ℕ, Bool, true, false, Option, Some, None, refl}
 use Rattle.bz_layout.specs.declared.config.Config.{Config}
-use Rattle.bz_layout.specs.declared.thresholds.TheConstants.{CONSOLIDATION_SLOTS, SPLIT_SLOTS}
+use Rattle.bz_layout.specs.declared.thresholds.TheConstants.{CONSOLIDATION_SLOTS, MERGE_SLOTS, SPLIT_SLOTS}
 use Rattle.bz_task.specs.Scene.{Scene, Stage}
 use Rattle.bz_task.specs.Swaps.{Change}
 use Rattle.bz_task.specs.declared.todo.Outcome.{Outcome}
@@ -27,13 +27,15 @@ use Rattle.bz_freeze.specs.Facts.{freeze_asks, freeze_end, freeze_left, freeze_f
 use Rattle.bz_insert.specs.Duties as insert
 use Rattle.bz_leaf.specs.Duties as leaf
 use Rattle.bz_leaf.specs.Facts.{leaf_change}
+use Rattle.bz_merge.specs.Duties as merge
+use Rattle.bz_merge.specs.Facts.{merge_change, merge_means}
 use Rattle.bz_mutate.specs.DeleteDuties as delete
 use Rattle.bz_mutate.specs.UpdateDuties as update
 use Rattle.bz_split.specs.Duties as split
 use Rattle.bz_split.specs.Facts.{split_change, split_means}
 use Rattle.bz_running.specs.Ascending.{on_ascent}
 use Rattle.bz_running.specs.declared.running.Running.{Running}
-use Rattle.bz_running.specs.declared.running.Running.TheVariants.{Seeking, Finding, Reading, Inserting, Updating, Deleting, Freezing, Consolidating, Splitting, SplittingBelow, SplittingInner, SplittingInnerRoot}
+use Rattle.bz_running.specs.declared.running.Running.TheVariants.{Seeking, Finding, Reading, Inserting, Updating, Deleting, Freezing, Consolidating, Splitting, SplittingBelow, SplittingInner, SplittingInnerRoot, Merging}
 
 unfoldable pub config_of : Running → Config
 config_of (Seeking t) = seek.config_of t
@@ -48,6 +50,7 @@ config_of (Splitting t) = t.config
 config_of (SplittingBelow t a) = t.config
 config_of (SplittingInner t a) = t.config
 config_of (SplittingInnerRoot t a) = t.config
+config_of (Merging t) = t.config
 
 unfoldable pub asks_of : Running → Option Todo
 asks_of (Seeking t) = seek.asks_of t
@@ -62,6 +65,7 @@ asks_of (Splitting t) = split.asks_of t
 asks_of (SplittingBelow t a) = asks_below t
 asks_of (SplittingInner t a) = asks_fork t
 asks_of (SplittingInnerRoot t a) = asks_crown t
+asks_of (Merging t) = merge.asks_of t
 
 unfoldable pub end_of : Running → Option Outcome
 end_of (Seeking t) = seek.end_of t
@@ -76,6 +80,7 @@ end_of (Splitting t) = split.end_of t
 end_of (SplittingBelow t a) = end_below t
 end_of (SplittingInner t a) = end_fork t
 end_of (SplittingInnerRoot t a) = end_crown t
+end_of (Merging t) = merge.end_of t
 
 unfoldable pub left_of : Running → ℕ
 left_of (Seeking t) = seek.left_of t
@@ -90,6 +95,7 @@ left_of (Splitting t) = split.left_of t
 left_of (SplittingBelow t a) = left_below t
 left_of (SplittingInner t a) = left_fork t
 left_of (SplittingInnerRoot t a) = left_crown t
+left_of (Merging t) = merge.left_of t
 
 unfoldable pub needs_of : Running → ℕ
 needs_of (Seeking t) = 0
@@ -104,6 +110,7 @@ needs_of (Splitting t) = split.needs_of t
 needs_of (SplittingBelow t a) = needs_below t
 needs_of (SplittingInner t a) = needs_fork t
 needs_of (SplittingInnerRoot t a) = needs_crown t
+needs_of (Merging t) = merge.needs_of t
 
 -- how many slots it takes from its begin to its end, if it takes any
 unfoldable pub wants_of : Running → ℕ
@@ -119,6 +126,7 @@ wants_of (Splitting t) = SPLIT_SLOTS
 wants_of (SplittingBelow t a) = SPLIT_SLOTS
 wants_of (SplittingInner t a) = SPLIT_SLOTS
 wants_of (SplittingInnerRoot t a) = SPLIT_SLOTS
+wants_of (Merging t) = MERGE_SLOTS
 
 unfoldable pub change_of : Running → Change
 change_of (Seeking t) = descend_change
@@ -133,6 +141,7 @@ change_of (Splitting t) = split_change
 change_of (SplittingBelow t a) = split_change
 change_of (SplittingInner t a) = split_change
 change_of (SplittingInnerRoot t a) = split_change
+change_of (Merging t) = merge_change
 
 unfoldable pub publishing_of : Running → Bool
 publishing_of (Seeking t) = false
@@ -147,6 +156,7 @@ publishing_of (Splitting t) = false
 publishing_of (SplittingBelow t a) = false
 publishing_of (SplittingInner t a) = false
 publishing_of (SplittingInnerRoot t a) = false
+publishing_of (Merging t) = false
 
 -- what the end of a split on the way up means
 abbrev pub means_below : SplitBelow → Outcome → Scene → Type 0
@@ -171,6 +181,7 @@ facts_of (Splitting t) = split.facts_of t
 facts_of (SplittingBelow t a) = on_ascent a (means_below t) (facts_below t)
 facts_of (SplittingInner t a) = on_ascent a (means_fork t) (facts_fork t)
 facts_of (SplittingInnerRoot t a) = on_ascent a (means_crown t) (facts_crown t)
+facts_of (Merging t) = merge.facts_of t
 
 unfoldable pub means_of : Running → Outcome → Scene → Type 0
 means_of (Seeking t) = seek.means_of t
@@ -185,6 +196,7 @@ means_of (Splitting t) = split_means t.link t.halves.left.0 t.halves.right.0 t.h
 means_of (SplittingBelow t a) = means_below t
 means_of (SplittingInner t a) = means_fork t
 means_of (SplittingInnerRoot t a) = means_crown t
+means_of (Merging t) = merge_means t.upper t.lower t.leaf.0
 
 unfoldable pub differs_of : Running → Seen → Type 0
 differs_of (Seeking t) = seek.differs_of t
@@ -199,6 +211,7 @@ differs_of (Splitting t) = split.differs_of t
 differs_of (SplittingBelow t a) = differs_below t
 differs_of (SplittingInner t a) = differs_fork t
 differs_of (SplittingInnerRoot t a) = differs_crown t
+differs_of (Merging t) = merge.differs_of t
 
 -- how far up the way from the leaf it splits, if it does
 unfoldable pub ascent_of : Running → Option Ascent
@@ -214,6 +227,7 @@ ascent_of (Splitting t) = None
 ascent_of (SplittingBelow t a) = Some a
 ascent_of (SplittingInner t a) = Some a
 ascent_of (SplittingInnerRoot t a) = Some a
+ascent_of (Merging t) = None
 
 -- it makes no change of a key, and never publishes
 unfoldable pub makes_no_change : Running → Bool
@@ -229,6 +243,7 @@ makes_no_change (Splitting t) = true
 makes_no_change (SplittingBelow t a) = true
 makes_no_change (SplittingInner t a) = true
 makes_no_change (SplittingInnerRoot t a) = true
+makes_no_change (Merging t) = true
 
 pub no-change-is-published : (t : Running) → makes_no_change t ≡ true → publishing_of t ≡ false
 unfolding makes_no_change publishing_of
@@ -244,3 +259,4 @@ no-change-is-published (Splitting t) e = refl
 no-change-is-published (SplittingBelow t a) e = refl
 no-change-is-published (SplittingInner t a) e = refl
 no-change-is-published (SplittingInnerRoot t a) e = refl
+no-change-is-published (Merging t) e = refl

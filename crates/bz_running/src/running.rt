@@ -3,7 +3,7 @@
 ghost use Rattle.std.specs.Prelude.{◌≡◌, ◌-◌, ◌<◌, ◌≢◌, ◌≤◌, ℕ, List, true, false, Option, None, Some, slice_get};
 ghost use Rattle.bz_below.specs.Facts.{IsThawedAbove, LackedPart};
 ghost use Rattle.bz_consol.specs.Facts.{LeadsTo};
-ghost use Rattle.bz_layout.specs.declared.thresholds.TheConstants.{CONSOLIDATION_SLOTS, SPLIT_ABOVE, SPLIT_SLOTS};
+ghost use Rattle.bz_layout.specs.declared.thresholds.TheConstants.{CONSOLIDATION_SLOTS, MERGE_SLOTS, SPLIT_ABOVE, SPLIT_SLOTS};
 ghost use Rattle.bz_page.specs.Pages.{IsLeafByItself};
 ghost use Rattle.bz_record.specs.Records.{words_for, LacksRoom};
 ghost use Rattle.bz_slotted.specs.Readers.{live_of};
@@ -29,6 +29,7 @@ use bz_insert::Insert;
 use bz_key::{Key, PageBuf, Payload};
 use bz_layout::{Config, ROOT_STATUS_AT, Slots};
 use bz_leaf::ReadLeaf;
+use bz_merge::Merge;
 use bz_mutate::{Delete, Update};
 use bz_split::SplitRoot;
 use bz_task::{KeyView, LeafView, Link, Outcome, Path, Seen, Task, Todo};
@@ -48,6 +49,7 @@ pub enum Running {
     SplittingBelow(SplitBelow, Ascent),
     SplittingInner(SplitInner, Ascent),
     SplittingInnerRoot(SplitInnerRoot, Ascent),
+    Merging(Merge),
 }
 
 impl Running {
@@ -232,6 +234,24 @@ impl Running {
         Running::SplittingBelow(task, Ascent::from_leaf(key, path))
     }
 
+    /// The merge of a leaf below a parent, frozen or not, to which the path leads, with a neighbour.
+    #[tactic(auto, unfolding(crate::specs::Duties::config_of, crate::specs::Duties::asks_of, crate::specs::Duties::needs_of, crate::specs::Duties::wants_of, crate::specs::Duties::facts_of, crate::specs::Duties::means_of, crate::specs::Duties::ascent_of, crate::specs::Duties::makes_no_change))]
+    pub fn merge(config: &Config, path: Path, view: LeafView) -> Running
+        requires deep { 2 ≤ path.depth }
+        requires few { path.depth ≤ 12 }
+        requires leads { LeadsTo path view.slot }
+        requires thawed { IsThawedAbove path }
+        ensures config { config_of result ≡ config.now }
+        ensures asks { asks_of result ≡ None }
+        ensures needs { needs_of result ≡ MERGE_SLOTS }
+        ensures wants { wants_of result ≡ MERGE_SLOTS }
+        ensures silent { makes_no_change result ≡ true }
+        ensures facts { (key : List ℕ) (s : Scene) → s.past.config ≡ config.now → IsScene s → IsPath key path s.past → IsView key view s.past → facts_of result Waiting s }
+        ensures ends { (key : List ℕ) (way : Option Path) → IsLookup key way result }
+    {
+        Running::Merging(Merge::new(config, path, view))
+    }
+
     /// Tells the task what came of its last act, and answers what it asks for next: `next`, and that one which makes no change makes none later.
     #[tactic(auto, unfolding(crate::specs::Duties::config_of, crate::specs::Duties::asks_of, crate::specs::Duties::end_of, crate::specs::Duties::left_of, crate::specs::Duties::needs_of, crate::specs::Duties::wants_of, crate::specs::Duties::change_of, crate::specs::Duties::facts_of, crate::specs::Duties::means_of, crate::specs::Duties::differs_of, crate::specs::Duties::ascent_of, crate::specs::Duties::makes_no_change))]
     pub fn hear(&mut self, seen: Seen, slots: &mut Slots, moment: u32) -> Todo
@@ -253,6 +273,15 @@ impl Running {
             Running::SplittingBelow(task, _) => task.next(seen, slots, moment),
             Running::SplittingInner(task, _) => task.next(seen, slots, moment),
             Running::SplittingInnerRoot(task, _) => task.next(seen, slots, moment),
+            Running::Merging(task) => task.next(seen, slots, moment),
+        }
+    }
+
+    /// Whether it is a delete that leaves so little in its leaf that this may be merged.
+    pub fn leaves_few(&self) -> bool {
+        match self {
+            Running::Deleting(task) => task.leaves_few(),
+            _ => false,
         }
     }
 
@@ -261,6 +290,7 @@ impl Running {
         ensures { AreLaws self.now }
     {
         bz_consol::laws::consolidations_take_one_slot();
+        bz_merge::laws::merges_take_two_slots();
         bz_ascent::laws::ascents_end();
         self.learnt();
         self.acted();
@@ -303,6 +333,7 @@ impl Task for Running {
             Running::SplittingBelow(task, _) => task.publishes(),
             Running::SplittingInner(task, _) => task.publishes(),
             Running::SplittingInnerRoot(task, _) => task.publishes(),
+            Running::Merging(task) => task.publishes(),
         }
     }
 
@@ -321,6 +352,7 @@ impl Task for Running {
             Running::SplittingBelow(task, _) => task.ended(),
             Running::SplittingInner(task, _) => task.ended(),
             Running::SplittingInnerRoot(task, _) => task.ended(),
+            Running::Merging(task) => task.ended(),
         }
     }
 
@@ -339,6 +371,7 @@ impl Task for Running {
             Running::SplittingBelow(task, _) => task.next(seen, slots, moment),
             Running::SplittingInner(task, _) => task.next(seen, slots, moment),
             Running::SplittingInnerRoot(task, _) => task.next(seen, slots, moment),
+            Running::Merging(task) => task.next(seen, slots, moment),
         }
     }
 
@@ -358,6 +391,7 @@ impl Task for Running {
             Running::SplittingBelow(task, _) => task.learnt(),
             Running::SplittingInner(task, _) => task.learnt(),
             Running::SplittingInnerRoot(task, _) => task.learnt(),
+            Running::Merging(task) => task.learnt(),
         }
     }
 
@@ -377,6 +411,7 @@ impl Task for Running {
             Running::SplittingBelow(task, _) => task.acted(),
             Running::SplittingInner(task, _) => task.acted(),
             Running::SplittingInnerRoot(task, _) => task.acted(),
+            Running::Merging(task) => task.acted(),
         }
     }
 }

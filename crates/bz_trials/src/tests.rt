@@ -13,6 +13,7 @@ mod inner;
 mod levels;
 mod limits;
 mod map;
+mod merging;
 mod neighbours;
 mod pairs;
 mod power;

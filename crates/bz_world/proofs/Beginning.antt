@@ -79,7 +79,7 @@ module _ (p : Parts) (k : IsAwake p) (w : ℕ) (call : Call) (may : MayBegin p w
     mark = Begin w n call
 
     abbrev fresh : Serving
-    fresh = record { call = call; task = task; path = None; had = None; effect = None }
+    fresh = record { call = call; task = task; path = None; had = None; effect = None; alone = false }
 
     abbrev opened : Open
     opened = record { number = n; call = call; begun = length p.journal.past; effect = None }
@@ -182,7 +182,7 @@ module _ (p : Parts) (k : IsAwake p) (w : ℕ) (call : Call) (may : MayBegin p w
       worker = may.worker;
       within = may.within;
       opened = opened;
-      call_open = record { is_open = (b.calls w p.journal.past).own_begin n call; call = refl; effect = refl; begun = omega arith; told = λ at e. absurd (cc e); wanted = λ some. absurd (omega (arith, some, wants)) };
+      call_open = record { is_open = (b.calls w p.journal.past).own_begin n call; call = refl; effect = refl; begun = omega arith; told = λ at e. absurd (cc e); wanted = λ quiet some. absurd (omega (arith, some, wants)) };
       idle = at-rest.idle;
     }
 

@@ -1,12 +1,11 @@
 -- A call that makes its change, in the leaf that was looked into, or has it made anew.
-use Rattle.std.proofs.Common.{◌≡◌, ◌≢◌, ℕ, ◌<◌, ◌≤◌, nat_lt, true, false, List, arith, refl, sym, ap, subst, ◌∙◌, inl, inr, Option, Some, None}
+use Rattle.std.proofs.Common.{◌≡◌, ◌≢◌, ℕ, ◌<◌, ◌≤◌, true, false, List, arith, refl, sym, ap, subst, ◌∙◌, inl, inr, Option, Some, None}
 use Rattle.std.specs.Prelude.{is_some}
-use Rattle.std.proofs.lemmas.Bool.Decides.{nat_tests}
 use Rattle.bz_call.specs.Map.{key_of}
 use Rattle.bz_call.specs.declared.calls.Call.{Call}
 use Rattle.bz_call.specs.declared.calls.Call.TheVariants as call
 use Rattle.bz_layout.specs.declared.sizes.TheConstants.{STATUS_AT}
-use Rattle.bz_layout.specs.declared.thresholds.TheConstants.{CONSOLIDATION_SLOTS, SPLIT_ABOVE, SPLIT_SLOTS}
+use Rattle.bz_layout.specs.declared.thresholds.TheConstants.{CONSOLIDATION_SLOTS, MERGE_BELOW, MERGE_SLOTS, SPLIT_ABOVE, SPLIT_SLOTS}
 use Rattle.bz_page.specs.Laws.{IsSaidBy}
 use Rattle.bz_record.specs.Laws.{IsViewed}
 use Rattle.bz_running.specs.Duties.{config_of, asks_of, wants_of, change_of, facts_of}
@@ -18,7 +17,7 @@ use Rattle.bz_slotted.specs.Readers.{live_of}
 use Rattle.bz_slotted.specs.ReadingLaws.{node_of}
 use Rattle.bz_slotted.specs.Records.{live_words}
 use Rattle.bz_sound.specs.Memory.Moments.{image_at}
-use Rattle.bz_sound.specs.Memory.Spent.{leaf_page, slots_for, NeedsSlots}
+use Rattle.bz_sound.specs.Memory.Spent.{leaf_page, slots_for}
 use Rattle.bz_story.specs.Laws.{ScenesAreSeen}
 use Rattle.bz_task.specs.Good.{IsGood}
 use Rattle.bz_task.specs.Instant.{durable}
@@ -32,9 +31,10 @@ use Rattle.bz_task.specs.declared.view.LeafView.{LeafView}
 use Rattle.bz_word.specs.Statuses.{status}
 use Rattle.bz_world.specs.Inside.Going.{MustGoOn, MustTakeOn, MustAnswer, MustAnswerKey, MustReadWhole, MustChange, MayInsert, MayUpdate, known}
 use Rattle.bz_world.specs.Inside.Laws.{AnswerLaws}
-use Rattle.bz_world.specs.Inside.Serving.{IsChangeFor, IsToldBy}
+use Rattle.bz_world.specs.Inside.Serving.{IsChangeFor, IsToldBy, NeedsAtLeast}
 use Rattle.bz_world.specs.Inside.Telling.{KnowsWay}
 use Rattle.bz_world.specs.declared.parts.Parts.{Parts}
+use Rattle.bz_world.proofs.SlotsFor.{least-slots, merge-slots, split-slots}
 use Rattle.bz_world.proofs.TakingOn.{known-scene, none-wanted}
 
 abbrev quiet-by : (o : Option ℕ) → o ≡ None → is_some o ≡ false
@@ -60,13 +60,6 @@ update-changes called key payload had change (inr e) is = subst (λ k. IsChangeF
 
 pub delete-changes : (called : Call) (key had : List ℕ) (change : Change) → called ≡ call.Delete key → change ≡ record { key = key; old = Some had; new = None } → IsChangeFor called (Some had) change
 delete-changes called key had change e is = subst (λ k. IsChangeFor k (Some had) change) (sym e) (subst (IsChangeFor (call.Delete key) (Some had)) (sym is) (record { key = refl; old = refl; is = refl }))
-
--- how many slots that takes
-copy-slots : (live : ℕ) → live ≤ SPLIT_ABOVE → slots_for live ≡ CONSOLIDATION_SLOTS
-copy-slots live few = let t : nat_lt SPLIT_ABOVE live ≡ false = grind (arith, nat_tests) in rw t refl
-
-split-slots : (live : ℕ) → SPLIT_ABOVE < live → slots_for live ≡ SPLIT_SLOTS
-split-slots live many = let t : nat_lt SPLIT_ABOVE live ≡ true = grind (arith, nat_tests) in rw t refl
 
 module _ (scenes : ScenesAreSeen) (b : AnswerLaws) (p : Parts) (w : ℕ) (view : LeafView) (m : MustAnswer p w view) (key : List ℕ) (key-is : key_of m.on.serving.call ≡ key) where
   abbrev good-scene : IsScene (known p w m.on)
@@ -99,23 +92,30 @@ module _ (scenes : ScenesAreSeen) (b : AnswerLaws) (p : Parts) (w : ℕ) (view :
   unfolding live_of
   live-is = ap live_words leaf-is ∙ sym said.live
 
-  -- a frozen leaf has to be made anew, by a copy or by a split
-  needs-anew : (slots : ℕ) → slots_for (live_of (node_of view.image.0)) ≡ slots → (status view.status).frozen ≡ true → NeedsSlots p.config p.journal.start p.journal.past m.on.between.opened slots
-  needs-anew slots same frozen = record {
-    moment = view.at;
-    after_begin = omega (arith, m.viewed.since);
-    before_end = m.viewed.now;
-    frozen = subst (λ k. (leaf_page p.config (image_at p.journal.start view.at p.journal.past) k).frozen ≡ true) key-back (ap (λ (z : Page). z.frozen) leaf-is ∙ (ap (λ st. (status st).frozen) status-is ∙ frozen));
-    needed = subst (λ k. slots_for (live_words (leaf_page p.config (image_at p.journal.start view.at p.journal.past) k)) ≡ slots) key-back (ap slots_for live-is ∙ same);
+  -- a frozen leaf has to be made anew, by a copy, a merge or a split
+  needs-anew : (slots : ℕ) → slots ≤ slots_for (live_of (node_of view.image.0)) → (status view.status).frozen ≡ true → NeedsAtLeast p.config p.journal.start p.journal.past m.on.between.opened slots
+  needs-anew slots enough frozen = record {
+    slots = slots_for (live_of (node_of view.image.0));
+    enough = enough;
+    needs = record {
+      moment = view.at;
+      after_begin = omega (arith, m.viewed.since);
+      before_end = m.viewed.now;
+      frozen = subst (λ k. (leaf_page p.config (image_at p.journal.start view.at p.journal.past) k).frozen ≡ true) key-back (ap (λ (z : Page). z.frozen) leaf-is ∙ (ap (λ st. (status st).frozen) status-is ∙ frozen));
+      needed = subst (λ k. slots_for (live_words (leaf_page p.config (image_at p.journal.start view.at p.journal.past) k)) ≡ slots_for (live_of (node_of view.image.0))) key-back (ap slots_for live-is);
+    };
   }
     where
       key-back : key ≡ key_of m.on.between.opened.call
       key-back = sym key-is ∙ ap key_of (sym m.on.between.call_open.call)
 
-  pub needs-copy : (status view.status).frozen ≡ true → live_of (node_of view.image.0) ≤ SPLIT_ABOVE → NeedsSlots p.config p.journal.start p.journal.past m.on.between.opened CONSOLIDATION_SLOTS
-  needs-copy frozen few = needs-anew CONSOLIDATION_SLOTS (copy-slots (live_of (node_of view.image.0)) few) frozen
+  pub needs-copy : (status view.status).frozen ≡ true → NeedsAtLeast p.config p.journal.start p.journal.past m.on.between.opened CONSOLIDATION_SLOTS
+  needs-copy frozen = needs-anew CONSOLIDATION_SLOTS (least-slots (live_of (node_of view.image.0))) frozen
 
-  pub needs-split : (status view.status).frozen ≡ true → SPLIT_ABOVE < live_of (node_of view.image.0) → NeedsSlots p.config p.journal.start p.journal.past m.on.between.opened SPLIT_SLOTS
+  pub needs-merge : (status view.status).frozen ≡ true → live_of (node_of view.image.0) < MERGE_BELOW → NeedsAtLeast p.config p.journal.start p.journal.past m.on.between.opened MERGE_SLOTS
+  needs-merge frozen few = needs-anew MERGE_SLOTS (merge-slots (live_of (node_of view.image.0)) few) frozen
+
+  pub needs-split : (status view.status).frozen ≡ true → SPLIT_ABOVE < live_of (node_of view.image.0) → NeedsAtLeast p.config p.journal.start p.journal.past m.on.between.opened SPLIT_SLOTS
   needs-split frozen many = needs-anew SPLIT_SLOTS (split-slots (live_of (node_of view.image.0)) many) frozen
 
 -- a task that makes the call's change may be begun, where its key was looked up

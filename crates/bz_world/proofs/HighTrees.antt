@@ -15,12 +15,15 @@ use Rattle.bz_running.specs.Laws.{HaveFilledUp}
 use Rattle.bz_shape.specs.Order.{is_within}
 use Rattle.bz_shape.specs.Walk.{form}
 use Rattle.bz_sound.specs.Memory.Moments.{image_at}
-use Rattle.bz_sound.specs.Memory.Spent.{IsFullAt, IsTooHigh, NeedsSlots, is_reached_in}
+use Rattle.bz_slotted.specs.Records.{live_words}
+use Rattle.bz_sound.specs.Memory.Spent.{IsFullAt, IsTooHigh, NeedsSlots, is_reached_in, leaf_page}
 use Rattle.bz_story.specs.Laws.{ScenesAreSeen}
 use Rattle.bz_task.specs.Scene.{Past}
 use Rattle.bz_task.specs.declared.todo.Outcome.TheVariants.{Full}
 use Rattle.bz_world.specs.Inside.Going.{MustGoOn, HasEnded, known}
+use Rattle.bz_world.specs.Inside.Serving.{NeedsAtLeast}
 use Rattle.bz_world.specs.declared.parts.Parts.{Parts}
+use Rattle.bz_world.proofs.SlotsFor.{most-slots}
 use Rattle.bz_world.proofs.TakingOn.{known-scene}
 
 both : (a b : ℕ) → a < b → nat_lt a b ≡ true
@@ -64,9 +67,16 @@ module _ (p : Parts) (w : ℕ) (on : MustGoOn p w) where
 
 pub too-high : ScenesAreSeen → (p : Parts) (w : ℕ) (e : HasEnded p w (Full Height)) → IsTooHigh p.config p.journal.start p.journal.past e.on.between.opened
 too-high scenes p w e = record {
-  crowded = subst (NeedsSlots p.config p.journal.start p.journal.past e.on.between.opened) high.0 (e.on.between.call_open.wanted (omega (arith, high.0)));
+  crowded = subst (NeedsSlots p.config p.journal.start p.journal.past e.on.between.opened) all needed.needs;
   full = filled p w e.on (ascent_of e.on.serving.task) (λ a is. e.tasked.lookup.ascent a is ∙ ap key_of (sym e.on.between.call_open.call)) high.1;
 }
   where
     high : (wants_of e.on.serving.task ≡ SPLIT_SLOTS) × HaveFilledUp (ascent_of e.on.serving.task) (known p w e.on).past
     high = e.tasked.laws.height (known p w e.on) (known-scene scenes p w e.on) e.facts e.end
+
+    needed : NeedsAtLeast p.config p.journal.start p.journal.past e.on.between.opened (wants_of e.on.serving.task)
+    needed = e.on.between.call_open.wanted (e.on.between.call_open.effect ∙ e.quiet) (omega (arith, high.0))
+
+    -- nothing takes more slots than a split
+    all : needed.slots ≡ SPLIT_SLOTS
+    all = omega (arith, high.0, needed.enough, needed.needs.needed, most-slots (live_words (leaf_page p.config (image_at p.journal.start needed.needs.moment p.journal.past) (key_of e.on.between.opened.call))))

@@ -23,6 +23,7 @@ mod Ended
 mod TakingOn
 mod Spending
 mod Answering
+mod SlotsFor
 mod Changing
 mod Beginning
 mod Stepping

@@ -12,14 +12,13 @@ use Rattle.bz_mark.specs.Log.{Log, with_mark}
 use Rattle.bz_mark.specs.MomentLaws.{at_moment-before}
 use Rattle.bz_mark.specs.declared.marks.Mark.{Mark}
 use Rattle.bz_mark.specs.declared.marks.Mark.TheVariants.{Effect}
-use Rattle.bz_running.specs.Duties.{wants_of, facts_of, publishing_of, change_of, no-change-is-published}
+use Rattle.bz_running.specs.Duties.{facts_of, publishing_of, change_of, no-change-is-published}
 use Rattle.bz_sight.specs.Effects.{effect_instant}
 use Rattle.bz_sight.specs.Sight.{IsSeen}
 use Rattle.bz_sight.specs.Starts.{Sees}
 use Rattle.bz_sound.specs.Calls.{Open, open_call, with_effect, map_after, map_at}
 use Rattle.bz_sound.specs.Memory.ImageLaws.{IsChangeOf, ChangesKey, EffectFollows}
 use Rattle.bz_sound.specs.Memory.Moments.{image_after, map_at_start}
-use Rattle.bz_sound.specs.Memory.Spent.{NeedsSlots}
 use Rattle.bz_sound.specs.declared.power.Power.{Power}
 use Rattle.bz_sound.specs.Power.Sound.{IsSound}
 use Rattle.bz_story.specs.Laws.{HasBegun, GoesOn, goes_on, opened_after}
@@ -37,7 +36,7 @@ use Rattle.bz_world.specs.declared.serving.Serving.{Serving}
 use Rattle.bz_story.proofs.Powered.{stored-since}
 use Rattle.bz_world.proofs.Counting.{pairs-change}
 use Rattle.bz_world.proofs.Powered.{begun-in, flush-leaves, free-on}
-use Rattle.bz_world.proofs.Staying.{slot-stays, wanted-stays}
+use Rattle.bz_world.proofs.Staying.{slot-stays}
 use Rattle.bz_world.specs.Inside.Laws.{StrikeLaws}
 use Rattle.bz_world.proofs.Striking.{flush-calls, old, kept, w, x, its, before, waits, good, after, living, opened, took, others}
 use Rattle.bz_world.proofs.StruckQuietly.{image-was, image-is, fault-is, stage-is, its-swap, its-asks}
@@ -201,9 +200,8 @@ module _ (b : StrikeLaws) (p : Parts) (s : ℕ) (h : IsStriking p s) (publishes 
       effect = refl;
       begun = omega (arith, begun-its.before);
       told = told;
-      wanted = λ some. let n : NeedsSlots c log.start (effect_mark ∷ h.mark ∷ log.past) its-open (wants_of (x b p s h).task) =
-          wanted-stays c with_flush effect_mark its-open (wants_of (x b p s h).task) (wanted-stays c log h.mark its-open (wants_of (x b p s h).task) (its b p s h).call_open.wanted) some in
-          record { moment = n.moment; after_begin = n.after_begin; before_end = n.before_end; frozen = n.frozen; needed = n.needed };
+      -- once its change is made nobody asks why it takes slots
+      wanted = λ quiet some. absurd (cc quiet);
     };
     tasked = (its b p s h).tasked;
     asked = todo.Swap (entries_of (old b p s h).access s);

@@ -18,7 +18,7 @@ use Rattle.bz_story.specs.Story.{Story}
 use Rattle.bz_swap.specs.SwapMemory.{SwapMemory}
 use Rattle.bz_world.specs.Inside.Acted.{IsBetween}
 use Rattle.bz_world.specs.Inside.Going.{IsOutOfSlots}
-use Rattle.bz_world.specs.Inside.Serving.{IsSlot}
+use Rattle.bz_world.specs.Inside.Serving.{IsSlot, NeedsAtLeast}
 use Rattle.bz_world.specs.declared.parts.Parts.{Parts}
 use Rattle.bz_world.specs.declared.serving.Serving.{Serving}
 use Rattle.bz_world.proofs.Spending.{is-other}
@@ -171,7 +171,10 @@ module _ (p : Parts) (w : ℕ) (l : IsOutOfSlots p w) where
 -- so the slots that its task takes are not left
 pub slots-are-spent : HeldSlotsAreSpent → (p : Parts) (w : ℕ) (l : IsOutOfSlots p w) → NodesAreSpent p.config p.journal.start p.journal.past (count_used p.config p.journal.start p.journal.past) w l.on.between.opened
 slots-are-spent law p w l = record {
-  slots = wants_of l.on.serving.task;
-  needs = l.on.between.call_open.wanted (omega (arith, l.fewer));
-  lacks = law p.config p.journal.start p.journal.past w (wants_of l.on.serving.task) p.slots.free (holder p w l) (place p w l) l.fewer (are-slots-held p w l);
+  slots = needed.slots;
+  needs = needed.needs;
+  lacks = law p.config p.journal.start p.journal.past w needed.slots p.slots.free (holder p w l) (place p w l) (omega (arith, l.fewer, needed.enough)) (are-slots-held p w l);
 }
+  where
+    needed : NeedsAtLeast p.config p.journal.start p.journal.past l.on.between.opened (wants_of l.on.serving.task)
+    needed = l.on.between.call_open.wanted (l.on.between.call_open.effect ∙ l.quiet) (omega (arith, l.fewer))

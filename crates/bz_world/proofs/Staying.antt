@@ -21,7 +21,7 @@ use Rattle.bz_swap.specs.SwapMemory.{SwapMemory, Doing, Idle, Reading, Swapping,
 use Rattle.bz_task.specs.Scene.{Scene, IsLawful, Waiting, Took}
 use Rattle.bz_task.specs.declared.todo.Todo.{Todo}
 use Rattle.bz_task.specs.declared.todo.Todo.TheVariants as todo
-use Rattle.bz_world.specs.Inside.Serving.{IsServing, IsCovered, IsDoing, IsSlot, IsToldBy, IsWanted, effect_reply, stage_in}
+use Rattle.bz_world.specs.Inside.Serving.{IsServing, IsCovered, IsDoing, IsSlot, IsToldBy, IsWanted, NeedsAtLeast, effect_reply, stage_in}
 use Rattle.bz_world.specs.declared.serving.Serving.{Serving}
 
 -- what a worker does is the same in two memories, and so is whether its swap has taken effect
@@ -88,13 +88,20 @@ told-stays stay c log mark w opened had is told at e = (stay (map_at_start c log
 
 -- and so does why its task takes slots
 pub wanted-stays : (c : Config) (log : Log) (mark : Mark) (opened : Open) (wants : ℕ) → IsWanted c log opened wants → IsWanted c (with_mark log mark) opened wants
-wanted-stays c log mark opened wants why some = let n : NeedsSlots c log.start log.past opened wants = why some in record {
-  moment = n.moment;
-  after_begin = n.after_begin;
-  before_end = omega (arith, n.before_end);
-  frozen = subst (λ (marks : List Mark). (leaf_page c (image_after log.start marks) (key_of opened.call)).frozen ≡ true) (sym (at_moment-earlier n.moment mark log.past n.before_end)) n.frozen;
-  needed = subst (λ (marks : List Mark). slots_for (live_words (leaf_page c (image_after log.start marks) (key_of opened.call))) ≡ wants) (sym (at_moment-earlier n.moment mark log.past n.before_end)) n.needed;
-}
+wanted-stays c log mark opened wants why quiet some =
+    let w : NeedsAtLeast c log.start log.past opened wants = why quiet some in
+    let n : NeedsSlots c log.start log.past opened w.slots = w.needs in
+    record {
+      slots = w.slots;
+      enough = w.enough;
+      needs = record {
+        moment = n.moment;
+        after_begin = n.after_begin;
+        before_end = omega (arith, n.before_end);
+        frozen = subst (λ (marks : List Mark). (leaf_page c (image_after log.start marks) (key_of opened.call)).frozen ≡ true) (sym (at_moment-earlier n.moment mark log.past n.before_end)) n.frozen;
+        needed = subst (λ (marks : List Mark). slots_for (live_words (leaf_page c (image_after log.start marks) (key_of opened.call))) ≡ w.slots) (sym (at_moment-earlier n.moment mark log.past n.before_end)) n.needed;
+      };
+    }
 
 pub serving-stays : ScenesAreSeen → EffectsStayOpen → (c : Config) (m n : SwapMemory) (log : Log) (mark : Mark) (story after : Story) (owners : List ℕ) (v : ℕ) (x : Serving) → IsLiving c n (with_mark log mark) after → Leaves c m n log mark story after v
     → IsServing c m log story owners v x → IsServing c n (with_mark log mark) after owners v x

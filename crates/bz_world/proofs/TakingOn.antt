@@ -1,5 +1,5 @@
 -- A call that gets another task.
-use Rattle.std.proofs.Common.{◌≡◌, ◌≢◌, ℕ, true, List, length, arith, refl, sym, ap, subst, ◌∙◌, inl, Option, Some, None}
+use Rattle.std.proofs.Common.{◌≡◌, ◌≢◌, ℕ, Bool, true, List, length, arith, refl, sym, ap, subst, ◌∙◌, inl, Option, Some, None}
 use Rattle.std.specs.Prelude.{get_or}
 use Rattle.std.specs.Global.{Vec}
 use Rattle.std.specs.Vec.{with_item}
@@ -12,9 +12,11 @@ use Rattle.bz_running.specs.Laws.{AreLaws}
 use Rattle.bz_running.specs.declared.running.Running.{Running}
 use Rattle.bz_story.specs.Laws.{ScenesAreSeen}
 use Rattle.bz_swap.specs.SwapMemory.{worker_of}
+use Rattle.bz_task.specs.Outcomes.{IsPath}
 use Rattle.bz_task.specs.Requests.{Hears, Tells}
 use Rattle.bz_task.specs.Scene.{IsScene, HasFilled, Waiting}
 use Rattle.bz_task.specs.declared.path.Path.{Path}
+use Rattle.bz_task.specs.declared.view.LeafView.{LeafView}
 use Rattle.bz_call.specs.declared.replies.Spent.TheVariants.{Swaps}
 use Rattle.bz_layout.specs.Slots.{FreeSlots}
 use Rattle.bz_story.specs.Story.{scene}
@@ -23,7 +25,7 @@ use Rattle.bz_task.specs.declared.todo.Outcome.TheVariants.{Full}
 use Rattle.bz_task.specs.declared.todo.Seen.TheVariants.{Start, NoSwap}
 use Rattle.bz_task.specs.declared.todo.Todo.{Todo}
 use Rattle.bz_world.specs.Inside.Acted.{IsBetween, MustTell}
-use Rattle.bz_world.specs.Inside.Going.{MustGoOn, MustTakeOn, MustReadWhole, LacksSwap, known, call_in, end_in, WentOn}
+use Rattle.bz_world.specs.Inside.Going.{MustGoOn, MustTakeOn, MustReadWhole, HadEffect, HasReadAfter, LacksSwap, known, call_in, end_in, path_in, WentOn}
 use Rattle.bz_world.specs.Lab.{GoesOn}
 use Rattle.bz_world.specs.Inside.Serving.{IsOpened, IsSlot, IsToldBy, IsWanted}
 use Rattle.bz_world.specs.Inside.Telling.{MustStart, HasTold, HasToldIn, LacksDescriptor, KnowsWay, MustTellOf, MustStartOf}
@@ -132,7 +134,7 @@ known-scene scenes p w on = (scenes p.config p.access p.journal on.between.story
 
 -- a task that takes no slot needs no reason
 pub none-wanted : (p : Parts) (w : ℕ) (on : MustGoOn p w) (task : Running) → wants_of task ≡ 0 → IsWanted p.config p.journal on.between.opened (wants_of task)
-none-wanted p w on task none some = absurd (omega (arith, none, some))
+none-wanted p w on task none quiet some = absurd (omega (arith, none, some))
 
 -- a task that makes no change, for the call's key
 abbrev pub lookup-taken : (p : Parts) (w : ℕ) (on : MustGoOn p w) (task : Running) (way : Option Path) (asked : Option Todo) (key : List ℕ) → config_of task ≡ p.config → AreLaws task → makes_no_change task ≡ true → IsLookup key way task → key ≡ key_of on.serving.call
@@ -143,6 +145,25 @@ lookup-taken p w on task way asked key config laws looks lookup same asks facts 
   asks = asks;
   facts = facts;
   wanted = wanted;
+}
+
+-- and one that begins once the change was made needs none either
+pub none-wanted-after : (p : Parts) (w at : ℕ) (had : HadEffect p w at) (wants : ℕ) → IsWanted p.config p.journal had.on.between.opened wants
+none-wanted-after p w at had wants quiet some = let told : had.on.between.opened.effect ≡ Some at = had.on.between.call_open.effect ∙ had.effect in absurd (cc (told, quiet))
+
+-- the way by which its leaf was read since is one of its key
+pub read-way : (p : Parts) (w at : ℕ) (view : LeafView) (r : HasReadAfter p w at view) (slot : Option Serving) → slot ≡ get_or p.workers.items w slot → (way : Option Path) → way ≡ path_in slot → (path : Path) → way ≡ Some path → IsPath (key_of r.had.on.serving.call) path (known p w r.had.on).past
+read-way p w at view r slot e way named path is = r.leads path (ap path_in (sym (slot-is p w r.had.on slot e)) ∙ (sym named ∙ is))
+
+-- whether its leaf is copied alone is nothing to what is known
+pub said-alone : (p : Parts) (w : ℕ) (on : MustGoOn p w) (alone : Bool) (slot : Option Serving) → slot ≡ Some (record on.serving { alone = alone }) → MustGoOn (record p { workers = with_item p.workers w slot }) w
+unfolding between-tasks
+said-alone p w on alone slot is = record {
+  serving = record on.serving { alone = alone };
+  is = get_or-set_same p.workers.items w slot None (omega (arith, on.between.within, on.between.tabled.places, on.between.tabled.config.workers_in_range.at_most)) ∙ is;
+  between = between-tasks p w on.serving (record on.serving { alone = alone }) on.between (with_item p.workers w slot) (length-set p.workers.items w slot) (λ v ne. get_or-set_other p.workers.items w v slot None ne)
+      (let o = on.between.call_open in record { is_open = o.is_open; call = o.call; effect = o.effect; begun = o.begun; told = o.told; wanted = o.wanted });
+  filled = on.filled;
 }
 
 module _ (p : Parts) (w : ℕ) (task : Running) (had : Option (List ℕ)) (asked : Option Todo) (path : Option Path) (m : MustTakeOn p w task path had asked) (slot : Option Serving) (is : slot ≡ Some (record m.on.serving { task = task; path = path; had = had })) (told : IsToldBy p.config p.journal m.on.between.opened had) where

@@ -12,7 +12,6 @@ use Rattle.bz_layout.specs.declared.config.Config.{Config}
 use Rattle.bz_running.specs.Duties.{needs_of, facts_of}
 use Rattle.bz_sight.specs.Starts.{Sees}
 use Rattle.bz_sound.specs.Calls.{Open}
-use Rattle.bz_sound.specs.Memory.Spent.{NeedsSlots}
 use Rattle.bz_story.specs.Laws.{ScenesAreSeen, SlotsAreTaken, takes_slots}
 use Rattle.bz_story.specs.Living.{IsLiving}
 use Rattle.bz_story.specs.Story.{Story, scene}
@@ -24,7 +23,7 @@ use Rattle.bz_task.specs.declared.todo.Seen.{Seen}
 use Rattle.bz_task.specs.declared.todo.Todo.{Todo}
 use Rattle.bz_world.specs.Inside.Acted.{IsTold, IsAsking, MustTell}
 use Rattle.bz_world.specs.Inside.Going.{end_in, wants_in}
-use Rattle.bz_world.specs.Inside.Serving.{IsCovered, IsOpened, IsTasked, IsSlot, IsChangeFor}
+use Rattle.bz_world.specs.Inside.Serving.{IsCovered, IsOpened, IsTasked, IsSlot, IsChangeFor, NeedsAtLeast}
 use Rattle.bz_world.specs.Inside.Telling.{CanHear, HasTold, HasToldIn, MustStart, KnowsWay, MustStartOf}
 use Rattle.bz_world.specs.declared.parts.Parts.{Parts}
 use Rattle.bz_world.specs.declared.serving.Serving.{Serving}
@@ -160,7 +159,7 @@ module _ (scenes : ScenesAreSeen) (slots : SlotsAreTaken) (p : Parts) (w : ℕ) 
         worker = told.between.worker;
         within = told.between.within;
         opened = told.between.opened;
-        call_open = subst (λ (z : Serving). IsOpened p.config p.journal w told.between.opened z) (sym h.rest) (let o = told.between.call_open in record { is_open = o.is_open; call = o.call; effect = o.effect; begun = o.begun; told = o.told; wanted = λ some. subst (NeedsSlots p.config p.journal.start p.journal.past told.between.opened) (sym h.heard.wants) (o.wanted (omega (arith, some, h.heard.wants))) });
+        call_open = subst (λ (z : Serving). IsOpened p.config p.journal w told.between.opened z) (sym h.rest) (let o = told.between.call_open in record { is_open = o.is_open; call = o.call; effect = o.effect; begun = o.begun; told = o.told; wanted = λ quiet some. subst (NeedsAtLeast p.config p.journal.start p.journal.past told.between.opened) (sym h.heard.wants) (o.wanted quiet (omega (arith, some, h.heard.wants))) });
         idle = told.between.idle;
       };
       tasked = tasked;

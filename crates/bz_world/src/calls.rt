@@ -3,7 +3,7 @@ ghost use Rattle.std.specs.Prelude.{◌≡◌, ◌↔◌, IsTrue, IsSome, IfSome
 ghost use Rattle.bz_call.specs.Map.{key_of as key_in};
 ghost use Rattle.bz_sound.specs.Memory.Replies.{IsWrite};
 ghost use Rattle.bz_task.specs.declared.todo.Todo.TheVariants.{Finish};
-ghost use Rattle.bz_world.specs.Inside.Going.{call_in, end_in, asks_in, path_in as way_in, had_in as payload_in, effect_in as moment_in, CanGoUpIn, GoesUpIn, with_task, with_change};
+ghost use Rattle.bz_world.specs.Inside.Going.{call_in, end_in, asks_in, path_in as way_in, had_in as payload_in, effect_in as moment_in, CanGoUpIn, GoesUpIn, with_task, with_change, with_alone};
 
 use crate::serving::Serving;
 use bz_call::Call;
@@ -96,6 +96,47 @@ pub(crate) fn effect_in(slot: &Option<Serving>) -> Option<u32>
     match slot {
         Some(serving) => serving.effect,
         None => None,
+    }
+}
+
+/// Whether its leaf is to be copied alone.
+pub(crate) fn is_alone(slot: &Option<Serving>) -> bool {
+    match slot {
+        Some(serving) => serving.alone,
+        None => false,
+    }
+}
+
+/// Whether its task merges its leaf.
+pub(crate) fn is_merging(slot: &Option<Serving>) -> bool {
+    match slot {
+        Some(serving) => matches!(serving.task, Running::Merging(_)),
+        None => false,
+    }
+}
+
+/// Whether its task is a delete that leaves so little in its leaf, below a parent, that this may be merged.
+pub(crate) fn leaves_few(slot: &Option<Serving>) -> bool {
+    match slot {
+        Some(serving) => is_deep(&serving.path) && serving.task.leaves_few(),
+        None => false,
+    }
+}
+
+// Whether a path leads to a leaf below a parent.
+fn is_deep(path: &Option<Path>) -> bool {
+    match path {
+        Some(path) => path.depth > 1,
+        None => false,
+    }
+}
+
+/// Says whether its leaf is to be copied alone.
+pub(crate) fn set_alone(slot: &mut Option<Serving>, alone: bool)
+    ensures { slot.new ≡ with_alone slot.old alone }
+{
+    if let Some(serving) = slot {
+        serving.alone = alone;
     }
 }
 

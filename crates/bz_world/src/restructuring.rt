@@ -1,11 +1,11 @@
-//! What a leaf needs that is frozen or has no room: to be frozen, and then to be copied without the records that are gone, or to be
-//! split; and what its parent needs, where that has no room for the split.
+//! What a leaf needs that is frozen or has no room: to be frozen, and then to be copied without the records that are gone, to be
+//! split, or to be merged with a neighbour; and what its parent needs, where that has no room for the split.
 ghost use Rattle.std.specs.Prelude.{◌≡◌, ◌<◌, true, false, length};
 ghost use Rattle.bz_word.specs.Statuses.{status};
-ghost use Rattle.bz_world.specs.Inside.Going.{MustAnswer, MustMakeAnew, MustCopy, MustSplit, MustSplitBelow, MustGoUp, WentOn};
+ghost use Rattle.bz_world.specs.Inside.Going.{MustAnswer, MustMakeAnew, MustCopy, MustMerge, MustSplit, MustSplitBelow, MustGoUp, WentOn};
 
 use crate::answers::Applied;
-use crate::calls::{called, key_of, path_in, set_task};
+use crate::calls::{called, is_alone, key_of, path_in, set_task};
 use crate::going::{go_on, look_up};
 use crate::laws::{answer_laws, start_laws};
 use crate::parts::Parts;
@@ -13,6 +13,7 @@ use crate::tell::tell;
 use bz_below::is_due as is_due_below;
 use bz_consol::is_due;
 use bz_layout::SPLIT_ABOVE;
+use bz_merge::is_due as is_due_beside;
 use bz_page::live_words;
 use bz_running::Running;
 use bz_task::{LeafView, Path, Seen};
@@ -41,6 +42,20 @@ fn consolidate(parts: &mut Parts, w: u8, path: Path, view: &LeafView) -> Applied
     start_laws();
     answer_laws();
     let task = Running::consolidate(&parts.config, path, *view, &mut parts.page);
+    task.laws();
+    set_task(&mut parts.workers[w as usize], task, None);
+    let todo = tell(parts, w, Seen::Start);
+    go_on(parts, w, todo)
+}
+
+/// Merges the leaf that was read, frozen or not, with a neighbour.
+pub(crate) fn merge(parts: &mut Parts, w: u8, path: Path, view: &LeafView) -> Applied
+    requires merge { MustMerge parts.old w path view.now }
+    requires room { length parts.old.journal.past < parts.old.config.marks }
+    ensures { WentOn parts.old w result parts.new }
+{
+    start_laws();
+    let task = Running::merge(&parts.config, path, *view);
     task.laws();
     set_task(&mut parts.workers[w as usize], task, None);
     let todo = tell(parts, w, Seen::Start);
@@ -91,7 +106,25 @@ pub(crate) fn split_above(parts: &mut Parts, w: u8, task: Running) -> Applied
     go_on(parts, w, todo)
 }
 
-// Copies or splits a frozen leaf, where the link to it, or to its parent, can be turned.
+// Merges a frozen leaf, where it has too few live words to stand alone and no neighbour was found without room for it, or copies it.
+fn merge_or_copy(parts: &mut Parts, w: u8, path: Path, view: &LeafView) -> Applied
+    requires copy { MustCopy parts.old w path view.now }
+    requires room { length parts.old.journal.past < parts.old.config.marks }
+    ensures { WentOn parts.old w result parts.new }
+{
+    start_laws();
+    answer_laws();
+    if is_alone(&parts.workers[w as usize]) {
+        return consolidate(parts, w, path, view);
+    }
+    if is_due_beside(&path, view) {
+        merge(parts, w, path, view)
+    } else {
+        consolidate(parts, w, path, view)
+    }
+}
+
+// Copies, merges or splits a frozen leaf, where the link to it, or to its parent, can be turned.
 fn make_anew(parts: &mut Parts, w: u8, path: Path, view: &LeafView) -> Applied
     requires anew { MustMakeAnew parts.old w path view.now }
     requires frozen { (status view.now.status).frozen ≡ true }
@@ -101,7 +134,7 @@ fn make_anew(parts: &mut Parts, w: u8, path: Path, view: &LeafView) -> Applied
     if !is_due(&path, view) {
         look_up(parts, w)
     } else if live_words(view) <= SPLIT_ABOVE {
-        consolidate(parts, w, path, view)
+        merge_or_copy(parts, w, path, view)
     } else if path.depth == 1 {
         split_root(parts, w, path, view)
     } else if is_due_below(&path, view) {

@@ -16,4 +16,6 @@ pub(crate) struct Serving {
     pub had: Option<Payload>,
     /// The moment before its effect, if it has had one.
     pub effect: Option<u32>,
+    /// Whether its leaf is to be copied alone, since no neighbour had room for it.
+    pub alone: bool,
 }

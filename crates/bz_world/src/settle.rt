@@ -3,21 +3,22 @@ ghost use Rattle.std.specs.Prelude.{◌≡◌, ◌<◌, None, Some, length, get_
 ghost use Rattle.bz_call.specs.declared.calls.Call.TheVariants as called;
 ghost use Rattle.bz_task.specs.declared.todo.Outcome.TheVariants.{Full, NeedsRoom};
 ghost use Rattle.bz_task.specs.declared.todo.Todo.TheVariants.{Finish};
-ghost use Rattle.bz_world.specs.Inside.Going.{MustAnswer, MustAnswerKey, HasEnded, IsFullRightly, WentOn, call_in};
+ghost use Rattle.bz_world.specs.Inside.Going.{MustAnswer, MustAnswerKey, HasEnded, HasEndedAfter, HasReadAfter, IsFullRightly, MustGoOn, WentOn, call_in};
 ghost use Rattle.bz_world.specs.Inside.Telling.{MustStart};
 
 use crate::answers::Applied;
-use crate::calls::{above, called, effect_in};
+use crate::calls::{above, called, effect_in, is_merging, leaves_few, path_in, set_alone};
 use crate::changes::{answer_delete, answer_insert, answer_update, answer_upsert};
 use crate::end::{end, end_page};
 use crate::going::{end_effective, end_full, look_up, outcome_of};
 use crate::laws::{answer_laws, start_laws};
-use crate::lookups::look_into;
+use crate::lookups::{look_into, read_leaf};
 use crate::parts::Parts;
-use crate::restructuring::{restructure, split_above};
+use crate::restructuring::{merge, restructure, split_above};
 use crate::room::lacks_room;
 use bz_call::{Call, Reply, Spent};
 use bz_key::Key;
+use bz_merge::is_due;
 use bz_page::collect;
 use bz_task::{KeyView, LeafView, Outcome};
 
@@ -100,8 +101,18 @@ fn settle_full(parts: &mut Parts, w: u8, spent: Spent) -> Applied
     }
 }
 
+// Looks the call's key up again. Where its leaf was to be merged, no neighbour had room for it, and it is copied then.
+fn look_up_alone(parts: &mut Parts, w: u8) -> Applied
+    requires { MustGoOn parts.old w }
+    ensures { WentOn parts.old w result parts.new }
+{
+    let alone = is_merging(&parts.workers[w as usize]);
+    set_alone(&mut parts.workers[w as usize], alone);
+    look_up(parts, w)
+}
+
 // The task of a call without effect has ended for want of room: a split, because the node above has none, which is then to be split
-// first; or a change, because its leaf has none, which is to be looked up again.
+// first; a merge, because no neighbour has any; or a change, because its leaf has none. After these the key is looked up again.
 fn settle_crowded(parts: &mut Parts, w: u8) -> Applied
     requires ends { HasEnded parts.old w NeedsRoom }
     requires room { length parts.old.journal.past < parts.old.config.marks }
@@ -109,7 +120,7 @@ fn settle_crowded(parts: &mut Parts, w: u8) -> Applied
 {
     match above(&parts.workers[w as usize], &parts.config) {
         Some(task) => split_above(parts, w, task),
-        None => look_up(parts, w),
+        None => look_up_alone(parts, w),
     }
 }
 
@@ -129,6 +140,43 @@ fn settle_quiet(parts: &mut Parts, w: u8, outcome: Outcome) -> Applied
     }
 }
 
+// Merges the leaf of a delete that has made its change, where it has too few live words to stand alone; or ends the call.
+fn settle_small(parts: &mut Parts, w: u8, at: u32, view: &LeafView) -> Applied
+    requires read { HasReadAfter parts.old w at view.now }
+    requires room { length parts.old.journal.past < parts.old.config.marks }
+    ensures { WentOn parts.old w result parts.new }
+{
+    let Some(path) = path_in(&parts.workers[w as usize]) else {
+        return end_effective(parts, w, at);
+    };
+    if is_due(&path, view) {
+        merge(parts, w, path, view)
+    } else {
+        end_effective(parts, w, at)
+    }
+}
+
+// The task of a call that has made its change has ended so. A delete that leaves little in its leaf looks its key up again and reads the
+// leaf, to merge it with a neighbour; whatever stands against that, or comes of it, its reply is of the moment of its effect.
+fn settle_effective(parts: &mut Parts, w: u8, at: u32, outcome: Outcome) -> Applied
+    requires ends { HasEndedAfter parts.old w at outcome }
+    requires room { length parts.old.journal.past < parts.old.config.marks }
+    ensures { WentOn parts.old w result parts.new }
+{
+    match outcome {
+        Outcome::Done => {
+            if leaves_few(&parts.workers[w as usize]) {
+                look_up(parts, w)
+            } else {
+                end_effective(parts, w, at)
+            }
+        }
+        Outcome::Path(path) => read_leaf(parts, w, path),
+        Outcome::View(view) => settle_small(parts, w, at, &view),
+        _ => end_effective(parts, w, at),
+    }
+}
+
 /// The task of a worker's call has ended.
 pub(crate) fn settle(parts: &mut Parts, w: u8) -> Applied
     requires ends { MustStart parts.old w Finish }
@@ -138,7 +186,7 @@ pub(crate) fn settle(parts: &mut Parts, w: u8) -> Applied
 {
     let outcome = outcome_of(parts, w);
     match effect_in(&parts.workers[w as usize]) {
-        Some(at) => end_effective(parts, w, at),
+        Some(at) => settle_effective(parts, w, at, outcome),
         None => settle_quiet(parts, w, outcome),
     }
 }

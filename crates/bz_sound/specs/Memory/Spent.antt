@@ -4,7 +4,7 @@ use Rattle.std.specs.List.{range_with_len}
 use Rattle.bz_layout.specs.Addresses.{swap_address, node_address, slot_of}
 use Rattle.bz_layout.specs.declared.config.Config.{Config}
 use Rattle.bz_layout.specs.declared.sizes.TheConstants.{SWAP_STATUS_AT, NODE_WORDS}
-use Rattle.bz_layout.specs.declared.thresholds.TheConstants.{CONSOLIDATION_SLOTS, INNER_LIMIT, MAX_LEVELS, SPLIT_ABOVE, SPLIT_SLOTS}
+use Rattle.bz_layout.specs.declared.thresholds.TheConstants.{CONSOLIDATION_SLOTS, INNER_LIMIT, MAX_LEVELS, MERGE_BELOW, MERGE_SLOTS, SPLIT_ABOVE, SPLIT_SLOTS}
 use Rattle.bz_node.specs.Layout.{needed}
 use Rattle.bz_node.specs.Reading.{children_in}
 use Rattle.bz_node.specs.Records.{child_entry}
@@ -28,9 +28,9 @@ abbrev pub leaf_page : Config → (ℕ → ℕ) → List ℕ → Page
 leaf_page c image key = page (node c (resolve image) (leaf_in c image key))
 
 -- how many slots it takes to make a frozen leaf of so many live words anew: those of a split where they are more than a copy is
--- made of, else that of a copy
+-- made of, those of a merge where they are too few to stand alone, else that of a copy
 abbrev pub slots_for : ℕ → ℕ
-slots_for live = if nat_lt SPLIT_ABOVE live then SPLIT_SLOTS else CONSOLIDATION_SLOTS
+slots_for live = if nat_lt SPLIT_ABOVE live then SPLIT_SLOTS else (if nat_lt live MERGE_BELOW then MERGE_SLOTS else CONSOLIDATION_SLOTS)
 
 -- at a moment of the call the leaf of its key was frozen, and to make it anew took so many slots
 pub record NeedsSlots (c : Config) (start : List ℕ) (past : List Mark) (opened : Open) (slots : ℕ) : Type 0 where

@@ -1,5 +1,5 @@
 -- A call whose task has ended: nothing goes on for it, until it is answered or gets another task.
-use Rattle.std.specs.Prelude.{◌≡◌, ◌≢◌, ◌<◌, ◌≤◌, ◌⊎◌, ℕ, ◌++◌, ◌∷◌, [], true, List, length, get_or, Option, Some, None, option_map}
+use Rattle.std.specs.Prelude.{◌≡◌, ◌≢◌, ◌<◌, ◌≤◌, ◌⊎◌, ℕ, ◌++◌, ◌∷◌, [], Bool, true, List, length, get_or, Option, Some, None, option_map}
 use Rattle.bz_call.specs.Map.{key_of}
 use Rattle.bz_call.specs.Pages.{is_page}
 use Rattle.bz_call.specs.declared.calls.Call.{Call}
@@ -11,7 +11,7 @@ use Rattle.bz_call.specs.declared.replies.Spent.TheVariants.{Nodes}
 use Rattle.bz_below.specs.Facts.{IsThawedAbove}
 use Rattle.bz_consol.specs.Facts.{LeadsTo}
 use Rattle.bz_layout.specs.declared.config.Config.{Config}
-use Rattle.bz_layout.specs.declared.thresholds.TheConstants.{SPLIT_ABOVE}
+use Rattle.bz_layout.specs.declared.thresholds.TheConstants.{MERGE_SLOTS, SPLIT_ABOVE}
 use Rattle.bz_running.specs.Duties.{config_of, asks_of, end_of, wants_of, facts_of}
 use Rattle.bz_running.specs.GoingUp.{GoesUp, IsInScene}
 use Rattle.bz_running.specs.declared.running.Running.{Running}
@@ -104,6 +104,10 @@ with_task slot task path = option_map (λ (x : Serving). record x { task = task;
 abbrev pub with_change : Option Serving → Running → Option (List ℕ) → Option Serving
 with_change slot task had = option_map (λ (x : Serving). record x { task = task; had = had }) slot
 
+-- or it is said whether its leaf is copied alone
+abbrev pub with_alone : Option Serving → Bool → Option Serving
+with_alone slot alone = option_map (λ (x : Serving). record x { alone = alone }) slot
+
 -- a task that it may get, which asks for this: after this path was found, if one was, and for the change of the call, where
 -- its key had this payload, or none
 pub record MustTakeOn (p : Parts) (w : ℕ) (task : Running) (way : Option Path) (had : Option (List ℕ)) (asked : Option Todo) : Type 0 where
@@ -189,6 +193,17 @@ pub record MustSplitBelow (p : Parts) (w : ℕ) (path : Path) (view : LeafView) 
   pub leads : LeadsTo path view.slot
   pub thawed : IsThawedAbove path
 
+-- or it was read, frozen or not, and has too few live words to stand alone below a parent, to which the path leads by guards that were
+-- no frozen nodes': it may be merged with a neighbour, where that is wanted
+pub record MustMerge (p : Parts) (w : ℕ) (path : Path) (view : LeafView) : Type 0 where
+  pub on : MustGoOn p w
+  pub viewed : IsView (key_of on.serving.call) view (known p w on).past
+  pub way : IsPath (key_of on.serving.call) path (known p w on).past
+  pub deep : 2 ≤ path.depth
+  pub leads : LeadsTo path view.slot
+  pub thawed : IsThawedAbove path
+  pub wanted : IsWanted p.config p.journal on.between.opened MERGE_SLOTS
+
 -- its split has ended because the node above lacked the room, and this is the split of that one, which is yet to begin
 pub record MustGoUp (p : Parts) (w : ℕ) (task : Running) : Type 0 where
   pub ends : HasEnded p w outcomes.NeedsRoom
@@ -218,6 +233,19 @@ pub record MustDelete (p : Parts) (w : ℕ) (view : KeyView) (key : List ℕ) : 
 pub record HadEffect (p : Parts) (w at : ℕ) : Type 0 where
   pub on : MustGoOn p w
   pub effect : on.serving.effect ≡ Some at
+
+-- and its task has ended so
+pub record HasEndedAfter (p : Parts) (w at : ℕ) (outcome : Outcome) : Type 0 where
+  pub had : HadEffect p w at
+  pub path : (path : Path) → outcome ≡ outcomes.Path path → IsPath (key_of had.on.serving.call) path (known p w had.on).past
+  pub view : (view : LeafView) → outcome ≡ outcomes.View view → IsView (key_of had.on.serving.call) view (known p w had.on).past
+  pub leads : (view : LeafView) → outcome ≡ outcomes.View view → (path : Path) → had.on.serving.path ≡ Some path → IsPath (key_of had.on.serving.call) path (known p w had.on).past
+
+-- or its leaf was read since, by the path that was found
+pub record HasReadAfter (p : Parts) (w at : ℕ) (view : LeafView) : Type 0 where
+  pub had : HadEffect p w at
+  pub viewed : IsView (key_of had.on.serving.call) view (known p w had.on).past
+  pub leads : (path : Path) → had.on.serving.path ≡ Some path → IsPath (key_of had.on.serving.call) path (known p w had.on).past
 
 -- no descriptor is left
 pub record LacksSwap (p : Parts) (w : ℕ) : Type 0 where

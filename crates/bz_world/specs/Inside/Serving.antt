@@ -9,6 +9,7 @@ use Rattle.bz_layout.specs.declared.config.Config.{Config}
 use Rattle.bz_layout.specs.declared.thresholds.TheConstants.{SPLIT_SLOTS}
 use Rattle.bz_shape.specs.Walk.{is_among}
 use Rattle.bz_mark.specs.Log.{Log}
+use Rattle.bz_mark.specs.declared.marks.Mark.{Mark}
 use Rattle.bz_running.specs.Duties.{config_of, asks_of, needs_of, wants_of, change_of, publishing_of, facts_of, makes_no_change}
 use Rattle.bz_running.specs.Hearing.{IsLookup}
 use Rattle.bz_running.specs.Laws.{AreLaws}
@@ -73,9 +74,16 @@ abbrev pub stage_in : SwapMemory → Doing → Stage
 stage_in m (Swapping s) = if has_effect m s then Took else Waiting
 stage_in m doing = Waiting
 
--- its task takes so many slots from its begin to its end, if it takes any, because the leaf of its key had to be made anew
+-- to make the leaf of its key anew took at least so many slots, at a moment of the call
+pub record NeedsAtLeast (c : Config) (start : List ℕ) (past : List Mark) (opened : Open) (wants : ℕ) : Type 0 where
+  pub slots : ℕ
+  pub enough : wants ≤ slots
+  pub needs : NeedsSlots c start past opened slots
+
+-- its task takes so many slots from its begin to its end, if it takes any, because the leaf of its key had to be made anew; once its
+-- change is made, a delete may take them for a merge without that
 abbrev pub IsWanted : Config → Log → Open → ℕ → Type 0
-IsWanted c log opened wants = 0 < wants → NeedsSlots c log.start log.past opened wants
+IsWanted c log opened wants = opened.effect ≡ None → 0 < wants → NeedsAtLeast c log.start log.past opened wants
 
 -- a call that is open, as it is served
 pub record IsOpened (c : Config) (log : Log) (w : ℕ) (opened : Open) (x : Serving) : Type 0 where

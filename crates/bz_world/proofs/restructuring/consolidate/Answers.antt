@@ -16,7 +16,7 @@ pub tell-todo-requires : goal.tell-todo-requires
 tell-todo-requires c = taken-begins (record c.args.parts.now { page = c.consolidate-task.new.page }) c.args.w c.consolidate-task.result c.requires.copy.anew.answer.on.serving.had None None
     (anew-taken c.start_laws.ensures.scenes (record c.args.parts.now { page = c.consolidate-task.new.page }) c.args.w c.args.path c.args.view.now (anew-pages c.args.parts.now c.args.w c.args.path c.args.view.now c.consolidate-task.new.page c.requires.copy.anew)
     c.consolidate-task.result c.consolidate-task.ensures.config c.laws.ensures c.consolidate-task.ensures.silent c.consolidate-task.ensures.ends c.consolidate-task.ensures.asks CONSOLIDATION_SLOTS c.consolidate-task.ensures.wants
-    (needs-copy c.start_laws.ensures.scenes c.answer_laws.ensures c.args.parts.now c.args.w c.args.view.now c.requires.copy.anew.answer (key_of c.requires.copy.anew.answer.on.serving.call) refl c.requires.copy.frozen c.requires.copy.few)
+    (needs-copy c.start_laws.ensures.scenes c.answer_laws.ensures c.args.parts.now c.args.w c.args.view.now c.requires.copy.anew.answer (key_of c.requires.copy.anew.answer.on.serving.call) refl c.requires.copy.frozen)
     c.consolidate-task.ensures.facts)
     c.set_task.new.slot (c.set_task.ensures ∙ ap (λ (z : Option Serving). with_task z c.consolidate-task.result None) (slot-is (record c.args.parts.now { page = c.consolidate-task.new.page }) c.args.w (anew-pages c.args.parts.now c.args.w c.args.path c.args.view.now c.consolidate-task.new.page c.requires.copy.anew).answer.on c.index_mut.result.now c.index_mut.ensures.value))
     c.requires.copy.anew.answer.on.between.call_open.told refl

@@ -7,11 +7,19 @@ use Rattle.bz_world.specs.Inside.Going.{MustGoOn, effect_in, wants_in, known}
 use Rattle.bz_world.proofs.TakingOn.{slot-is, must-go-on, ended-by}
 use Rattle.bz_world.proofs.settle.settle.Goals as goal
 
-pub end_effective-requires-clause-had : goal.end_effective-requires-clause-had
-end_effective-requires-clause-had c =
+pub settle_effective-requires-clause-ends : goal.settle_effective-requires-clause-ends
+settle_effective-requires-clause-ends c =
     let ended : end_of c.requires.ends.serving.task ≡ Some c.outcome_of-outcome.result = ended-by c.args.parts.now c.args.w Finish c.requires.ends c.outcome_of-outcome.result c.outcome_of-outcome.ensures in
     let on : MustGoOn c.args.parts.now c.args.w = must-go-on c.args.parts.now c.args.w Finish c.requires.ends c.outcome_of-outcome.result ended in
-    record { on = on; effect = ap effect_in (sym (slot-is c.args.parts.now c.args.w on c.index.result.now c.index.ensures)) ∙ sym c.in-Some.ensures }
+    let here : Scene = known c.args.parts.now c.args.w on in
+    let tasked = c.requires.ends.asking.tasked in
+    let facts = c.requires.ends.asking.facts in
+    record {
+      had = record { on = on; effect = ap effect_in (sym (slot-is c.args.parts.now c.args.w on c.index.result.now c.index.ensures)) ∙ sym c.in-Some.ensures };
+      path = λ path is. tasked.lookup.path path here (tasked.laws.ends here (Path path) facts (ended ∙ ap Some is)).0;
+      view = λ view is. tasked.lookup.view view here (tasked.laws.ends here (View view) facts (ended ∙ ap Some is)).0;
+      leads = λ view is path way. tasked.lookup.leads path way view here (tasked.laws.ends here (View view) facts (ended ∙ ap Some is)).0;
+    }
 
 pub settle_quiet-requires-clause-ends : goal.settle_quiet-requires-clause-ends
 settle_quiet-requires-clause-ends c =

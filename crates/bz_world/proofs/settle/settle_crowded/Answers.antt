@@ -18,5 +18,5 @@ split_above-requires-clause-up c =
     let found = subst (λ (z : Option Running). IfSome z (GoesUpIn c.index.result.now)) c.in-Some.is c.above.ensures in
     record { ends = e; up = subst (λ (z : Option Serving). GoesUpIn z c.in-Some.task) (slot-is c.args.parts.now c.args.w e.on c.index.result.now c.index.ensures) found }
 
-pub look_up-requires : goal.look_up-requires
-look_up-requires c = c.requires.ends.on
+pub look_up_alone-requires : goal.look_up_alone-requires
+look_up_alone-requires c = c.requires.ends.on

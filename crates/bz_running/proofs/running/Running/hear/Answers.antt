@@ -1,7 +1,7 @@
 use Rattle.std.proofs.Common.{sym, subst, refl}
 use Rattle.bz_running.specs.Duties.{config_of, asks_of, end_of, left_of, needs_of, wants_of, change_of, facts_of, means_of, ascent_of, differs_of, makes_no_change}
 use Rattle.bz_running.specs.Hearing.{HasHeard}
-use Rattle.bz_running.specs.declared.running.Running.TheVariants.{Consolidating, Splitting, SplittingBelow, SplittingInner, SplittingInnerRoot}
+use Rattle.bz_running.specs.declared.running.Running.TheVariants.{Consolidating, Splitting, SplittingBelow, SplittingInner, SplittingInnerRoot, Merging}
 use Rattle.bz_running.proofs.Ascending.{meant-so}
 use Rattle.bz_running.proofs.running.Running.hear.Goals as goal
 
@@ -112,5 +112,27 @@ returns-in-SplittingInnerRoot c = record {
     full_swaps = e.full_swaps;
     full_nodes = e.full_nodes;
     learns = λ stage s now same good free f tells. (e.learns stage s now same good free f.0 tells, meant-so _ _ _ s e.meant f.1);
+  });
+}
+
+pub returns-in-Merging : goal.returns-in-Merging
+unfolding config_of asks_of end_of left_of needs_of wants_of change_of facts_of means_of ascent_of differs_of makes_no_change
+returns-in-Merging c = record {
+  heard = subst (λ t. HasHeard t c.args.seen c.args.moment c.args.slots.now c.next-in-Merging.result (Merging c.next-in-Merging.new.self) c.next-in-Merging.new.slots) (sym c.in-Merging.is) (let e = c.next-in-Merging.ensures in record {
+    asked = e.asked;
+    nearer = e.nearer;
+    config = e.config;
+    wants = refl;
+    change = e.change;
+    ascent = refl;
+    silent = refl;
+    meant = e.meant;
+    slots = e.slots;
+    done = e.done;
+    restart = e.restart;
+    no_swap = e.no_swap;
+    full_swaps = e.full_swaps;
+    full_nodes = e.full_nodes;
+    learns = e.learns;
   });
 }

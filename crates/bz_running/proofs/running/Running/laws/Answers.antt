@@ -7,7 +7,7 @@ returns c = let l = c.learnt.ensures in let a = c.acted.ensures in record {
   stable = l.stable;
   askable = l.askable;
   cause = l.cause;
-  few = takes-few c.consolidations_take_one_slot.ensures c.args.self.now l.few;
+  few = takes-few c.consolidations_take_one_slot.ensures c.merges_take_two_slots.ensures c.args.self.now l.few;
   most = wants-few c.args.self.now;
   once = l.once;
   ends = l.ends;

@@ -147,3 +147,19 @@ returns-in-SplittingInnerRoot-clause-stored c = subst Stored (sym c.in-Splitting
 pub returns-in-SplittingInnerRoot-clause-flushed : goal.returns-in-SplittingInnerRoot-clause-flushed
 unfolding config_of asks_of change_of publishing_of facts_of
 returns-in-SplittingInnerRoot-clause-flushed c = subst Flushed (sym c.in-SplittingInnerRoot.is) (λ s after line same f good later e made. (c.acted-in-SplittingInnerRoot.ensures.flushed s after line same f.0 good later e made, goes-on _ _ c.ascents_stay.ensures s after made.continues f.1))
+
+pub returns-in-Merging-clause-effect : goal.returns-in-Merging-clause-effect
+unfolding config_of asks_of change_of publishing_of facts_of
+returns-in-Merging-clause-effect c = subst Effect (sym c.in-Merging.is) c.acted-in-Merging.ensures.effect
+
+pub returns-in-Merging-clause-took : goal.returns-in-Merging-clause-took
+unfolding config_of asks_of change_of publishing_of facts_of
+returns-in-Merging-clause-took c = subst Took (sym c.in-Merging.is) c.acted-in-Merging.ensures.took
+
+pub returns-in-Merging-clause-stored : goal.returns-in-Merging-clause-stored
+unfolding config_of asks_of change_of publishing_of facts_of
+returns-in-Merging-clause-stored c = subst Stored (sym c.in-Merging.is) c.acted-in-Merging.ensures.stored
+
+pub returns-in-Merging-clause-flushed : goal.returns-in-Merging-clause-flushed
+unfolding config_of asks_of change_of publishing_of facts_of
+returns-in-Merging-clause-flushed c = subst Flushed (sym c.in-Merging.is) c.acted-in-Merging.ensures.flushed

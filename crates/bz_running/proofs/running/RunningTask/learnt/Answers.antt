@@ -1,7 +1,7 @@
 use Rattle.std.proofs.Common.{sym, subst}
-use Rattle.bz_running.specs.Duties.{config_of, asks_of, facts_of}
+use Rattle.bz_running.specs.Duties.{config_of, asks_of, facts_of, differs_of}
 use Rattle.bz_running.proofs.Ascending.{goes-on}
-use Rattle.bz_running.proofs.Statements.{Stable, Askable}
+use Rattle.bz_running.proofs.Statements.{Stable, Askable, Cause}
 use Rattle.bz_running.proofs.running.RunningTask.learnt.Goals as goal
 
 pub returns-in-Splitting-clause-stable : goal.returns-in-Splitting-clause-stable
@@ -31,3 +31,11 @@ returns-in-SplittingInnerRoot-clause-stable c = subst Stable (sym c.in-Splitting
 pub returns-in-SplittingInnerRoot-clause-askable : goal.returns-in-SplittingInnerRoot-clause-askable
 unfolding config_of asks_of facts_of
 returns-in-SplittingInnerRoot-clause-askable c = subst Askable (sym c.in-SplittingInnerRoot.is) (λ s todo same f good e. c.learnt-in-SplittingInnerRoot.ensures.askable s todo same f.0 good e)
+
+pub returns-in-Merging-clause-stable : goal.returns-in-Merging-clause-stable
+unfolding config_of facts_of
+returns-in-Merging-clause-stable c = subst Stable (sym c.in-Merging.is) c.learnt-in-Merging.ensures.stable
+
+pub returns-in-Merging-clause-cause : goal.returns-in-Merging-clause-cause
+unfolding config_of asks_of facts_of differs_of
+returns-in-Merging-clause-cause c = subst Cause (sym c.in-Merging.is) c.learnt-in-Merging.ensures.cause

@@ -1,6 +1,6 @@
 use Rattle.std.proofs.Common.{sym, subst}
 use Rattle.bz_running.specs.Duties.{config_of, asks_of, end_of, needs_of, facts_of, differs_of}
-use Rattle.bz_running.specs.declared.running.Running.TheVariants.{Consolidating, Splitting, SplittingBelow, SplittingInner, SplittingInnerRoot}
+use Rattle.bz_running.specs.declared.running.Running.TheVariants.{Consolidating, Splitting, SplittingBelow, SplittingInner, SplittingInnerRoot, Merging}
 use Rattle.bz_running.proofs.Ascending.{meant-so}
 use Rattle.bz_running.proofs.Statements.{Learns, Restarts}
 use Rattle.bz_running.proofs.running.RunningTask.next.Goals as goal
@@ -52,3 +52,12 @@ returns-in-SplittingInnerRoot-clause-learns c =
 pub returns-in-SplittingInnerRoot-clause-restart : goal.returns-in-SplittingInnerRoot-clause-restart
 unfolding end_of differs_of
 returns-in-SplittingInnerRoot-clause-restart c = subst (Restarts c.args.seen (SplittingInnerRoot c.next-in-SplittingInnerRoot.new.self c.in-SplittingInnerRoot.field-1)) (sym c.in-SplittingInnerRoot.is) c.next-in-SplittingInnerRoot.ensures.restart
+
+pub returns-in-Merging-clause-learns : goal.returns-in-Merging-clause-learns
+unfolding config_of asks_of needs_of facts_of
+returns-in-Merging-clause-learns c =
+    subst (Learns c.args.seen c.args.moment c.args.slots.now c.next-in-Merging.new.slots (Merging c.next-in-Merging.new.self)) (sym c.in-Merging.is) c.next-in-Merging.ensures.learns
+
+pub returns-in-Merging-clause-restart : goal.returns-in-Merging-clause-restart
+unfolding end_of differs_of
+returns-in-Merging-clause-restart c = subst (Restarts c.args.seen (Merging c.next-in-Merging.new.self)) (sym c.in-Merging.is) c.next-in-Merging.ensures.restart

@@ -1,0 +1,182 @@
+//! Leaves with few live words, which are merged with a neighbour.
+
+use super::below::{last_page, numbered};
+use super::bench::{Answer, begin, open, payload, steps, whole};
+use super::decode::decode_root;
+use super::power::{evict_all, recover, restart};
+use bz_call::Call;
+use bz_world::World;
+use std::alloc::Global;
+use std::process::Abort;
+
+// More acts than any of these calls makes, or a recovery after it.
+const MOST: u32 = 10_000;
+
+fn insert(rt: &impl Abort, number: u32) -> Call {
+    Call::Insert(numbered(rt, number), payload(rt, b"v"))
+}
+
+fn delete(rt: &impl Abort, number: u32) -> Call {
+    Call::Delete(numbered(rt, number))
+}
+
+// A tree of the keys from 1 to this one, three live words each. Put in as they rise they make leaves of twenty.
+fn grown(rt: &impl Abort, alloc: Global, nodes: u32, swaps: u32, last: u32) -> World {
+    let mut world = open(alloc, nodes, swaps, 2).expect(rt, "a world");
+    for number in 0..last {
+        let call = insert(rt, number.saturating_add(1));
+        assert_eq!(rt; whole(&mut world, 1, call), Some(Answer::Inserted));
+    }
+    world
+}
+
+// Deletes the keys from one to another.
+fn deletes(rt: &impl Abort, world: &mut World, first: u32, last: u32) {
+    let gone = Some(Answer::Deleted(payload(rt, b"v")));
+    for number in first..last.saturating_add(1) {
+        assert_eq!(rt; whole(world, 1, delete(rt, number)), gone, "{number}");
+    }
+}
+
+// How long the pages are, each of which begins where the one before ends.
+fn lengths(rt: &impl Abort, world: &mut World) -> [usize; 4] {
+    let mut lengths = [0; 4];
+    let mut from = Some(numbered(rt, 0));
+    for length in &mut lengths {
+        let Some(first) = from else {
+            break;
+        };
+        whole(world, 2, Call::Page(first));
+        let (page, next) = last_page(world).expect(rt, "a page");
+        let journal = world.journal();
+        assert!(rt; page < journal.page_count());
+        *length = journal.page(page).len();
+        from = next;
+    }
+    assert!(rt; from.is_none());
+    lengths
+}
+
+// Of three leaves of twenty keys, the last of which has so many more, these keys are deleted. How long the leaves are then.
+fn after(rt: &impl Abort, alloc: Global, last: u32, first: u32, end: u32) -> [usize; 4] {
+    let mut world = grown(rt, alloc, 32, 400, last);
+    deletes(rt, &mut world, first, end);
+    let children = lengths(rt, &mut world);
+    let count = children.iter().filter(|length| **length > 0).count() as u32;
+    assert_eq!(rt; decode_root(&world), Some((1, count)));
+    let gone = end.saturating_add(1).saturating_sub(first);
+    assert_eq!(rt; world.pairs(), u64::from(last.saturating_sub(gone)));
+    children
+}
+
+// The right neighbour is tried first, then the left one; where neither has room the leaf stays alone.
+#[test]
+fn a_leaf_is_merged_with_a_neighbour_that_has_room(rt: HostRuntime) {
+    for (last, first, end, lengths) in [
+        (60, 1, 15, [5, 20, 20, 0]),
+        (60, 1, 16, [24, 20, 0, 0]),
+        (60, 21, 36, [20, 24, 0, 0]),
+        (61, 21, 36, [24, 21, 0, 0]),
+        (61, 21, 37, [23, 21, 0, 0]),
+        (60, 45, 60, [20, 24, 0, 0]),
+        (62, 43, 62, [20, 22, 0, 0]),
+    ] {
+        let found = after(&rt, rt.alloc(), last, first, end);
+        assert_eq!(rt; found, lengths, "{last} {first} {end}");
+    }
+}
+
+// Forty keys, ten deleted at each end: one leaf of twenty below a parent with one child.
+#[test]
+fn deletes_at_both_ends_leave_one_leaf(rt: HostRuntime) {
+    for (nodes, root, leaf, told) in [
+        (5, (1, 2), 10, Answer::FullNodes),
+        (6, (1, 1), 20, Answer::Inserted),
+    ] {
+        let mut world = grown(&rt, rt.alloc(), nodes, 128, 40);
+        deletes(&rt, &mut world, 31, 40);
+        deletes(&rt, &mut world, 1, 10);
+        assert_eq!(rt; lengths(&rt, &mut world)[0], leaf);
+        assert_eq!(rt; decode_root(&world), Some(root));
+        // with one slot left both leaves stay frozen, and are not copied
+        let answer = whole(&mut world, 1, insert(&rt, 1));
+        assert_eq!(rt; answer, Some(told));
+    }
+}
+
+// A tree in which the delete of the tenth key merges both leaves.
+fn ready(rt: &impl Abort, alloc: Global) -> World {
+    let mut world = grown(rt, alloc, 16, 160, 40);
+    deletes(rt, &mut world, 31, 40);
+    deletes(rt, &mut world, 1, 9);
+    world
+}
+
+// It is stopped after so many acts, and another worker makes a call of its own; then it makes the rest. How many acts it made first.
+fn beside(rt: &impl Abort, alloc: Global, acts: u32, call: Call, answer: Answer) -> u32 {
+    let gone = Some(Answer::Deleted(payload(rt, b"v")));
+    let mut world = ready(rt, alloc);
+    assert!(rt; begin(&mut world, 1, delete(rt, 10)));
+    let (made, mut ended) = steps(&mut world, 1, acts);
+    assert_eq!(rt; whole(&mut world, 2, call), Some(answer), "{acts}");
+    if ended.is_none() {
+        ended = steps(&mut world, 1, MOST).1;
+    }
+    assert_eq!(rt; ended, gone, "{acts}");
+    let mut count = 0usize;
+    for length in &lengths(rt, &mut world) {
+        count = count.saturating_add(*length);
+    }
+    assert_eq!(rt; world.pairs(), count as u64, "{acts}");
+    made
+}
+
+#[test]
+fn a_stopped_merge_holds_nobody_up(rt: HostRuntime) {
+    let gone = Answer::Deleted(payload(&rt, b"v"));
+    for turn in 0..25 {
+        let acts = 41 * turn;
+        for number in [5, 35] {
+            beside(&rt, rt.alloc(), acts, insert(&rt, number), Answer::Inserted);
+        }
+        beside(&rt, rt.alloc(), acts, delete(&rt, 20), gone);
+        beside(&rt, rt.alloc(), acts, delete(&rt, 30), gone);
+    }
+}
+
+// Its power fails after so many acts. Whether it had ended.
+fn cut_after(rt: &impl Abort, alloc: Global, acts: u32) -> bool {
+    let mut world = ready(rt, alloc);
+    assert!(rt; begin(&mut world, 1, delete(rt, 10)));
+    let ended = steps(&mut world, 1, acts).1.is_some();
+    if acts % 2 == 0 {
+        evict_all(&mut world);
+    }
+    restart(rt, &mut world);
+    assert!(rt; recover(&mut world, MOST));
+    let mut count = 0u64;
+    for length in &lengths(rt, &mut world) {
+        count = count.saturating_add(*length as u64);
+    }
+    assert_eq!(rt; world.pairs(), count, "{acts}");
+    assert!(rt; count == 20 || !ended && count == 21, "{acts}");
+    // both leaves are merged, or may be still
+    whole(&mut world, 1, delete(rt, 10));
+    let gone = Some(Answer::Deleted(payload(rt, b"v")));
+    assert_eq!(rt; whole(&mut world, 1, delete(rt, 30)), gone, "{acts}");
+    assert_eq!(rt; decode_root(&world), Some((1, 1)), "{acts}");
+    ended
+}
+
+#[test]
+fn a_merge_that_is_cut_is_whole_or_nothing(rt: HostRuntime) {
+    let mut made = 0u32;
+    for turn in 0..200 {
+        let acts = 7 * turn;
+        if cut_after(&rt, rt.alloc(), acts) {
+            made = acts;
+            break;
+        }
+    }
+    assert!(rt; made >= 600 && made < 1_200, "{made}");
+}

@@ -1,0 +1,25 @@
+use Rattle.bz_world.proofs.TakingOn.{read-way, none-wanted-after}
+use Rattle.bz_world.proofs.settle.settle_small.Goals as goal
+
+pub end_effective-requires-clause-had : goal.end_effective-requires-clause-had
+end_effective-requires-clause-had c = c.requires.read.had
+
+pub is_due-requires-clause-some : goal.is_due-requires-clause-some
+is_due-requires-clause-some c = (read-way c.args.parts.now c.args.w c.args.at c.args.view.now c.requires.read c.index.result.now c.index.ensures c.path_in.result c.path_in.ensures c.in-Some.path c.in-Some.is).some
+
+pub is_due-requires-clause-few : goal.is_due-requires-clause-few
+is_due-requires-clause-few c = (read-way c.args.parts.now c.args.w c.args.at c.args.view.now c.requires.read c.index.result.now c.index.ensures c.path_in.result c.path_in.ensures c.in-Some.path c.in-Some.is).few
+
+pub is_due-requires-clause-leaf : goal.is_due-requires-clause-leaf
+is_due-requires-clause-leaf c = record { nodes = _; low = _; high = _; whole = c.requires.read.viewed.whole }
+
+pub merge-requires-clause-merge : goal.merge-requires-clause-merge
+merge-requires-clause-merge c = let due = c.is_due.ensures.due.0 c.if-is_due.true in record {
+  on = c.requires.read.had.on;
+  viewed = c.requires.read.viewed;
+  way = read-way c.args.parts.now c.args.w c.args.at c.args.view.now c.requires.read c.index.result.now c.index.ensures c.path_in.result c.path_in.ensures c.in-Some.path c.in-Some.is;
+  deep = due.0;
+  leads = c.is_due.ensures.leads c.if-is_due.true;
+  thawed = due.1.0;
+  wanted = none-wanted-after c.args.parts.now c.args.w c.args.at c.requires.read.had _;
+}
