@@ -16,8 +16,8 @@ pub(super) fn digit(number: u32) -> u8 {
     b'0' + (number % 10) as u8
 }
 
-/// The key `k` and three digits.
-pub(crate) fn numbered(rt: &impl Abort, number: u32) -> Key {
+// The key `k` and three digits.
+fn numbered(rt: &impl Abort, number: u32) -> Key {
     let digits = [digit(number / 100), digit(number / 10), digit(number)];
     key(rt, &[b'k', digits[0], digits[1], digits[2]])
 }
