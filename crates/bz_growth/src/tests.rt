@@ -7,6 +7,7 @@ mod decode;
 mod inner;
 mod levels;
 mod neighbours;
+mod pages;
 mod random;
 mod split;
 mod tall;
