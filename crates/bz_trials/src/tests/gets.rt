@@ -1,13 +1,24 @@
 //! What gets cost that run alone: as many acts as their look-ups read words.
-use super::below::numbered;
-use super::bench::{Answer, begin, open, payload, steps};
+use super::bench::{Answer, begin, key, open, payload, steps};
 use bz_call::Call;
+use bz_key::Key;
 use bz_world::World;
 use std::alloc::Global;
 use std::process::Abort;
 
 // More acts than any of these calls makes.
 const MOST: u32 = 4_000;
+
+// The last digit of a number.
+fn digit(number: u32) -> u8 {
+    b'0' + (number % 10) as u8
+}
+
+// The key `k` and three digits.
+fn numbered(rt: &impl Abort, number: u32) -> Key {
+    let digits = [digit(number / 100), digit(number / 10), digit(number)];
+    key(rt, &[b'k', digits[0], digits[1], digits[2]])
+}
 
 // How many acts a call makes that runs alone.
 fn acts(rt: &impl Abort, world: &mut World, call: Call) -> u32 {

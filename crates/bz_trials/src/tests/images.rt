@@ -7,7 +7,6 @@ ghost use Rattle.bz_layout.specs.Config.{IsConfig};
 
 use super::bench::{Answer, key, open, payload, whole};
 use super::boot::come_on;
-use super::tall::put;
 use bz_call::Call;
 use bz_layout::Config;
 use bz_shape::{ShapeFault, ShapeRule};
@@ -99,6 +98,15 @@ const STATES: [State; 17] = [
     (0, OLD, RESERVED, false),
     (0, NEW, VISIBLE, true),
 ];
+
+// Writes a word, if it lies in the memory.
+fn put(words: &mut Vec<u64>, at: u32, word: u64)
+    ensures { length words.new.items ≡ length words.old.items }
+{
+    if let Some(place) = words.get_mut(at as usize) {
+        *place = word;
+    }
+}
 
 // Writes words of an image.
 fn write(words: &mut Vec<u64>, written: &[Written])

@@ -20,23 +20,23 @@ fn call_of(rt: &impl Abort, kind: u32) -> Call {
     }
 }
 
-/// Each word becomes durable by itself.
-pub(crate) fn evict_all(world: &mut World) {
+// Each word becomes durable by itself.
+fn evict_all(world: &mut World) {
     for a in 0..world.config().words() {
         world.apply(Event::Evict(a));
     }
 }
 
-/// The power fails, and comes on again.
-pub(crate) fn restart(rt: &impl Abort, world: &mut World) {
+// The power fails, and comes on again.
+fn restart(rt: &impl Abort, world: &mut World) {
     assert_eq!(rt; world.apply(Event::Cut), Applied::Cut);
     assert_eq!(rt; world.power(), Power::Off);
     assert_eq!(rt; world.apply(Event::On), Applied::On);
     assert_eq!(rt; world.power(), Power::Recovering);
 }
 
-/// At most so many steps of the recovery; whether it has ended.
-pub(crate) fn recover(world: &mut World, most: u32) -> bool {
+// At most so many steps of the recovery; whether it has ended.
+fn recover(world: &mut World, most: u32) -> bool {
     for _ in 0..most {
         match world.apply(Event::Step(0)) {
             Applied::Stepped => {}

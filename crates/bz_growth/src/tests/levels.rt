@@ -3,11 +3,10 @@
 
 ghost use Rattle.std.specs.Prelude.{◌<◌, IfSome};
 
-use super::bench::{begin, mark, payload};
+use super::bench::{begin, mark, payload, restart};
 use super::decode::{child_of, decode_root, resolve, root, words};
 use super::inner::{inserts, long};
 use super::neighbours::evict_written;
-use super::power::restart;
 use super::random::Random;
 use bz_call::Call;
 use bz_key::Key;

@@ -1,10 +1,10 @@
 //! A root leaf that is split, and a tree of two levels.
 
-use super::bench::{Answer, begin, mark, numbered, open, payload, steps, whole};
+use super::bench::{Answer, begin, numbered, open, payload, steps, whole};
 use super::decode::decode_keys;
-use bz_call::{Call, Reply};
+use super::pages::read_page;
+use bz_call::Call;
 use bz_key::Key;
-use bz_mark::Mark;
 use bz_world::World;
 use std::alloc::Global;
 use std::process::Abort;
@@ -26,31 +26,6 @@ fn inserts(rt: &impl Abort, world: &mut World, numbers: &[u8]) {
         let call = Call::Insert(numbered(rt, *number), payload(rt, b"v"));
         answers(rt, world, &[(call, Answer::Inserted)]);
     }
-}
-
-// The page and the next key of the last reply.
-fn last_page(world: &World) -> Option<(u32, Option<Key>)> {
-    let last = world.journal().length().saturating_sub(1);
-    match mark(world, last) {
-        Some(
-            Mark::End {
-                reply: Reply::Page { page, next },
-                ..
-            },
-        ) => Some((page, next)),
-        _ => None,
-    }
-}
-
-// How many pairs the page from a key on has, and the key with which the next one begins.
-fn read_page(rt: &impl Abort, world: &mut World, key: Key) -> (usize, Option<Key>) {
-    whole(world, 1, Call::Page(key));
-    let (page, next) = last_page(world).expect(rt, "a page");
-    let journal = world.journal();
-    assert!(rt; page < journal.page_count());
-    let pairs = journal.page(page);
-    assert!(rt; pairs.first().is_some_and(|pair| pair.0 == key));
-    (pairs.len(), next)
 }
 
 // The lengths of the two pages from a key on, the second of which begins where the first ends.

@@ -1,8 +1,9 @@
 //! Power cuts after every number of acts of calls that have a leaf copied or split.
 
-use super::bench::{Answer, begin, numbered, open, payload, steps, whole};
+use super::bench::{
+    Answer, begin, evict_all, numbered, open, payload, recover, restart, steps, whole,
+};
 use super::decode::decode_keys;
-use super::power::{evict_all, recover, restart};
 use bz_call::Call;
 use bz_world::World;
 use std::alloc::Global;

@@ -1,9 +1,9 @@
 //! Leaves with few live words, which are merged with a neighbour.
 
-use super::below::{last_page, numbered};
-use super::bench::{Answer, begin, open, payload, steps, whole};
+use super::below::numbered;
+use super::bench::{Answer, begin, evict_all, open, payload, recover, restart, steps, whole};
 use super::decode::decode_root;
-use super::power::{evict_all, recover, restart};
+use super::pages::last_page;
 use bz_call::Call;
 use bz_world::World;
 use std::alloc::Global;

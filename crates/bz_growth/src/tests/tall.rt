@@ -19,8 +19,8 @@ const CHAINS: u32 = 19;
 // A bound of keys: none, or the first key of this chain below the path's node of this level.
 type Bound = Option<(u32, u32)>;
 
-/// Writes a word, if it lies in the memory.
-pub(super) fn put(words: &mut Vec<u64>, at: u32, word: u64)
+// Writes a word, if it lies in the memory.
+fn put(words: &mut Vec<u64>, at: u32, word: u64)
     ensures { length words.new.items ≡ length words.old.items }
 {
     if let Some(place) = words.get_mut(at as usize) {

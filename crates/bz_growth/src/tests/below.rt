@@ -1,9 +1,9 @@
 //! Leaves below a parent that are split, and trees of two levels.
 
-use super::bench::{Answer, begin, key, mark, open, payload, steps, whole};
-use bz_call::{Call, Reply};
+use super::bench::{Answer, begin, key, open, payload, steps, whole};
+use super::pages::read_page;
+use bz_call::Call;
 use bz_key::Key;
-use bz_mark::Mark;
 use bz_world::World;
 use std::alloc::Global;
 use std::process::Abort;
@@ -17,7 +17,7 @@ pub(super) fn digit(number: u32) -> u8 {
 }
 
 /// The key `k` and three digits.
-pub(crate) fn numbered(rt: &impl Abort, number: u32) -> Key {
+pub(super) fn numbered(rt: &impl Abort, number: u32) -> Key {
     let digits = [digit(number / 100), digit(number / 10), digit(number)];
     key(rt, &[b'k', digits[0], digits[1], digits[2]])
 }
@@ -35,20 +35,6 @@ fn has(rt: &impl Abort, world: &mut World, number: u32) {
     assert_eq!(rt; whole(world, 1, call), Some(value), "{number}");
 }
 
-/// The page and the next key of the last reply.
-pub(super) fn last_page(world: &World) -> Option<(u32, Option<Key>)> {
-    let last = world.journal().length().saturating_sub(1);
-    match mark(world, last) {
-        Some(
-            Mark::End {
-                reply: Reply::Page { page, next },
-                ..
-            },
-        ) => Some((page, next)),
-        _ => None,
-    }
-}
-
 // The lengths of the pages from the first key on, each of which begins where the one before ends.
 fn walk(rt: &impl Abort, world: &mut World) -> [usize; 12] {
     let mut lengths = [0; 12];
@@ -57,13 +43,8 @@ fn walk(rt: &impl Abort, world: &mut World) -> [usize; 12] {
         let Some(first) = from else {
             break;
         };
-        whole(world, 1, Call::Page(first));
-        let (page, next) = last_page(world).expect(rt, "a page");
-        let journal = world.journal();
-        assert!(rt; page < journal.page_count());
-        let pairs = journal.page(page);
-        *length = pairs.len();
-        assert!(rt; pairs.first().is_some_and(|pair| pair.0 == first));
+        let (count, next) = read_page(rt, world, first);
+        *length = count;
         from = next;
     }
     assert!(rt; from.is_none());

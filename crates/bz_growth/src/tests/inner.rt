@@ -1,8 +1,9 @@
 //! Inner nodes that are split, and trees of three levels.
 
-use super::below::{digit, last_page};
+use super::below::digit;
 use super::bench::{Answer, begin, key, payload, steps};
 use super::decode::decode_root;
+use super::pages::read_page;
 use bz_call::Call;
 use bz_key::Key;
 use bz_layout::Config;
@@ -58,14 +59,8 @@ pub(super) fn count_pairs(rt: &impl Abort, world: &mut World, first: u32) -> usi
         let Some(first) = from else {
             break;
         };
-        assert!(rt; begin(world, 1, Call::Page(first)));
-        steps(world, 1, MOST);
-        let (page, next) = last_page(world).expect(rt, "a page");
-        let journal = world.journal();
-        assert!(rt; page < journal.page_count());
-        let pairs = journal.page(page);
-        assert!(rt; pairs.first().is_some_and(|pair| pair.0 == first));
-        count = count.saturating_add(pairs.len());
+        let (more, next) = read_page(rt, world, first);
+        count = count.saturating_add(more);
         from = next;
     }
     assert!(rt; from.is_none());

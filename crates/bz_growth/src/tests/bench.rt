@@ -1,0 +1,155 @@
+//! A world of a few workers, what its calls answered, and its power cuts.
+
+use bz_call::{Call, Reply, Spent};
+use bz_key::{Key, Payload};
+use bz_layout::Config;
+use bz_mark::Mark;
+use bz_world::{Applied, Begun, Event, OpenError, Power, World};
+use std::alloc::Global;
+use std::process::Abort;
+
+/// What a call answered.
+#[derive(Clone, Copy, Debug, PartialEq, Eq)]
+pub(crate) enum Answer {
+    Inserted,
+    Exists,
+    Deleted(Payload),
+    Updated(Payload),
+    Missing,
+    Value(Payload),
+    /// The page's number, and whether a next one begins anywhere.
+    Page(u32, bool),
+    FullNodes,
+    FullSwaps,
+    FullHeight,
+}
+
+/// A key of these bytes.
+pub(crate) fn key(rt: &impl Abort, bytes: &[u8]) -> Key {
+    Key::of(bytes).expect(rt, "a key")
+}
+
+/// A payload of these bytes.
+pub(crate) fn payload(rt: &impl Abort, bytes: &[u8]) -> Payload {
+    Payload::of(bytes).expect(rt, "a payload")
+}
+
+/// The key `k` and two digits.
+pub(crate) fn numbered(rt: &impl Abort, number: u8) -> Key {
+    key(rt, &[b'k', b'0' + number / 10 % 10, b'0' + number % 10])
+}
+
+// What a reply says.
+fn answer_of(reply: &Reply) -> Answer {
+    match reply {
+        Reply::Inserted => Answer::Inserted,
+        Reply::Exists => Answer::Exists,
+        Reply::Deleted(old) => Answer::Deleted(*old),
+        Reply::Updated(old) => Answer::Updated(*old),
+        Reply::Missing => Answer::Missing,
+        Reply::Value(value) => Answer::Value(*value),
+        Reply::Page { page, next } => Answer::Page(*page, next.is_some()),
+        Reply::Full(Spent::Nodes) => Answer::FullNodes,
+        Reply::Full(Spent::Swaps) => Answer::FullSwaps,
+        Reply::Full(Spent::Height) => Answer::FullHeight,
+    }
+}
+
+/// A world of this many nodes, swaps and workers, with much room in its journal.
+pub(crate) fn open(
+    alloc: Global,
+    nodes: u32,
+    swaps: u32,
+    workers: u32,
+) -> Result<World, OpenError> {
+    let config = Config {
+        nodes,
+        swaps,
+        workers,
+        marks: 1 << 17,
+        calls: 1_024,
+        pages: 64,
+    };
+    World::open(alloc, &config)
+}
+
+/// The durable word at an address; 0 past the memory.
+pub(crate) fn durable(world: &World, a: u32) -> u64 {
+    if a < world.config().words() {
+        world.durable(a)
+    } else {
+        0
+    }
+}
+
+/// The mark with this number; none past the last.
+pub(crate) fn mark(world: &World, i: u32) -> Option<Mark> {
+    let journal = world.journal();
+    if i < journal.length() {
+        Some(journal.mark(i))
+    } else {
+        None
+    }
+}
+
+// The last reply of the journal, where its last mark is an End.
+fn last_answer(world: &World) -> Option<Answer> {
+    let last = world.journal().length().saturating_sub(1);
+    match mark(world, last) {
+        Some(Mark::End { reply, .. }) => Some(answer_of(&reply)),
+        _ => None,
+    }
+}
+
+/// Makes at most so many steps of a worker, until its call ends: how many were made, and what was answered.
+pub(crate) fn steps(world: &mut World, w: u8, most: u32) -> (u32, Option<Answer>) {
+    for made in 0..most {
+        match world.apply(Event::Step(w)) {
+            Applied::Stepped => {}
+            Applied::Ended(_) => return (made.saturating_add(1), last_answer(world)),
+            _ => return (made, None),
+        }
+    }
+    (most, None)
+}
+
+/// Begins a call; whether it has begun.
+pub(crate) fn begin(world: &mut World, w: u8, call: Call) -> bool {
+    matches!(world.begin(w, call), Begun::Begun(_))
+}
+
+/// Makes a whole call, if it takes no more than 4,000 steps.
+pub(crate) fn whole(world: &mut World, w: u8, call: Call) -> Option<Answer> {
+    if !begin(world, w, call) {
+        return None;
+    }
+    let (_, answer) = steps(world, w, 4_000);
+    answer
+}
+
+/// Each word becomes durable by itself.
+pub(crate) fn evict_all(world: &mut World) {
+    for a in 0..world.config().words() {
+        world.apply(Event::Evict(a));
+    }
+}
+
+/// The power fails, and comes on again.
+pub(crate) fn restart(rt: &impl Abort, world: &mut World) {
+    assert_eq!(rt; world.apply(Event::Cut), Applied::Cut);
+    assert_eq!(rt; world.power(), Power::Off);
+    assert_eq!(rt; world.apply(Event::On), Applied::On);
+    assert_eq!(rt; world.power(), Power::Recovering);
+}
+
+/// At most so many steps of the recovery; whether it has ended.
+pub(crate) fn recover(world: &mut World, most: u32) -> bool {
+    for _ in 0..most {
+        match world.apply(Event::Step(0)) {
+            Applied::Stepped => {}
+            Applied::Ready => return true,
+            _ => return false,
+        }
+    }
+    false
+}
