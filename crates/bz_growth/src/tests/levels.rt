@@ -1,4 +1,4 @@
-//! Random runs over long keys, in which inner nodes are split, with evictions throughout: the tree in the memory itself has at every
+//! Random runs over long keys, in which inner nodes are split, or leaves merged, with evictions throughout: the tree in the memory itself has at every
 //! moment the keys that the effects tell.
 
 ghost use Rattle.std.specs.Prelude.{◌<◌, IfSome};
@@ -128,32 +128,37 @@ impl Effects {
     }
 }
 
-// A call with a random key: mostly an insert.
-fn some_call(rt: &impl Abort, random: &mut Random) -> Call {
+// A call with a random key: of eight so many are deletes, one is an update, and the others are inserts.
+fn some_call(rt: &impl Abort, random: &mut Random, deletes: u8) -> Call {
     let (key, new) = (long(rt, random.draw() % 1_000), payload(rt, b"w"));
-    match random.below(8) {
-        0 => Call::Delete(key),
-        1 => Call::Update(key, new),
-        _ => Call::Insert(key, new),
+    let kind = random.below(8);
+    if kind < deletes {
+        Call::Delete(key)
+    } else if kind == deletes {
+        Call::Update(key, new)
+    } else {
+        Call::Insert(key, new)
     }
 }
 
 // A step of one of four workers, or a begin; and often what it has written is evicted.
-fn act(rt: &impl Abort, world: &mut World, random: &mut Random) {
+fn act(rt: &impl Abort, world: &mut World, random: &mut Random, deletes: u8) {
     let w = 1 + random.below(4);
     if world.apply(Event::Step(w)) == Applied::Idle {
-        let call = some_call(rt, random);
+        let call = some_call(rt, random, deletes);
         begin(world, w, call);
     } else if random.below(2) == 0 {
         evict_written(world);
     }
 }
 
-// How a run begins and ends: so many keys rising by a step, and how many children its root has at the end, at least.
+// How a run begins and ends: so many keys rising by a step, of eight calls so many deletes, and how many children its root has at the
+// end, at least.
 #[derive(Clone, Copy)]
 struct Growth {
     keys: u32,
     step: u32,
+    deletes: u8,
     widest: u32,
 }
 
@@ -187,7 +192,7 @@ fn run(rt: &impl Abort, alloc: Global, growth: Growth) {
     };
     for _ in 0..200 {
         for _ in 0..500 {
-            act(rt, &mut world, &mut random);
+            act(rt, &mut world, &mut random, growth.deletes);
         }
         effects.agree(rt, &world);
     }
@@ -198,14 +203,22 @@ fn run(rt: &impl Abort, alloc: Global, growth: Growth) {
 }
 
 #[test]
-fn random_runs_over_a_growing_tree(rt: HostRuntime) {
+fn random_runs_over_a_tree_that_grows_or_shrinks(rt: HostRuntime) {
     let rows = [
         // the root has twenty leaves, and is split
-        (209, 4, 2),
+        (209, 4, 1, 2),
         // the second of two nodes has twenty leaves, and is split
-        (319, 3, 3),
+        (319, 3, 1, 3),
+        // deletes, after which leaves are merged
+        (319, 3, 6, 1),
     ];
-    for (keys, step, widest) in rows {
-        run(&rt, rt.alloc(), Growth { keys, step, widest });
+    for (keys, step, deletes, widest) in rows {
+        let growth = Growth {
+            keys,
+            step,
+            deletes,
+            widest,
+        };
+        run(&rt, rt.alloc(), growth);
     }
 }

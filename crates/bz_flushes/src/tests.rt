@@ -1,0 +1,4 @@
+//! A split, a merge and a copy over images, each cut before each of its flushes, and its recovery before each of its own.
+
+mod images;
+mod table;
