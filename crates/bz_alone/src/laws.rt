@@ -1,0 +1,30 @@
+//! Laws of a worker that is alone. Each function does nothing but call the laws that it follows from: its contract is the law.
+
+ghost use Rattle.bz_alone.specs.Quiet.{EffectsNeverFall, QuietTimesStay, ReadValuesStand, LonelyTimesAreQuiet};
+
+use bz_task::laws as task;
+
+/// No effect is ever undone.
+pub fn effects_never_fall()
+    ensures { EffectsNeverFall }
+{}
+
+/// Between two moments with as many effects none came, and nothing changed for readers.
+pub fn quiet_times_stay()
+    ensures { QuietTimesStay }
+{
+    task::nodes_stay();
+}
+
+/// In a time without effects a value that readers read stands.
+pub fn read_values_stand()
+    ensures { ReadValuesStand }
+{
+    effects_never_fall();
+    quiet_times_stay();
+}
+
+/// The time since the look-up began is such a time, where the worker is alone and made no swap itself.
+pub fn lonely_times_are_quiet()
+    ensures { LonelyTimesAreQuiet }
+{}
