@@ -1,1 +1,4 @@
 mod Quiet
+mod Going
+mod Standing
+mod Freezing

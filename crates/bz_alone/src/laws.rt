@@ -1,5 +1,6 @@
 //! Laws of a worker that is alone. Each function does nothing but call the laws that it follows from: its contract is the law.
 
+ghost use Rattle.bz_alone.specs.Laws.{FreezesGoOn};
 ghost use Rattle.bz_alone.specs.Quiet.{EffectsNeverFall, QuietTimesStay, ReadValuesStand, LonelyTimesAreQuiet};
 
 use bz_task::laws as task;
@@ -28,3 +29,11 @@ pub fn read_values_stand()
 pub fn lonely_times_are_quiet()
     ensures { LonelyTimesAreQuiet }
 {}
+
+/// A freeze goes on.
+pub fn freezes_go_on()
+    ensures { FreezesGoOn }
+{
+    read_values_stand();
+    lonely_times_are_quiet();
+}
