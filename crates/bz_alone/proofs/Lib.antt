@@ -1,4 +1,7 @@
 mod Quiet
 mod Going
 mod Standing
+mod Basis
 mod Freezing
+mod Records
+mod Deleting

@@ -1,8 +1,9 @@
 //! Laws of a worker that is alone. Each function does nothing but call the laws that it follows from: its contract is the law.
 
-ghost use Rattle.bz_alone.specs.Laws.{FreezesGoOn};
+ghost use Rattle.bz_alone.specs.Laws.{FreezesGoOn, DeletesGoOn};
 ghost use Rattle.bz_alone.specs.Quiet.{EffectsNeverFall, QuietTimesStay, ReadValuesStand, LonelyTimesAreQuiet};
 
+use bz_slotted::laws as slotted;
 use bz_task::laws as task;
 
 /// No effect is ever undone.
@@ -36,4 +37,14 @@ pub fn freezes_go_on()
 {
     read_values_stand();
     lonely_times_are_quiet();
+}
+
+/// A delete goes on.
+pub fn deletes_go_on()
+    ensures { DeletesGoOn }
+{
+    read_values_stand();
+    lonely_times_are_quiet();
+    task::leaves_are_in_trees();
+    slotted::leaf_rules_are_facts();
 }
