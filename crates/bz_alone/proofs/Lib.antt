@@ -5,3 +5,9 @@ mod Basis
 mod Freezing
 mod Records
 mod Deleting
+mod Links
+mod Consolidating
+mod Splitting
+mod SplittingBelow
+mod SplittingInner
+mod SplittingRoot

@@ -1,6 +1,6 @@
 //! Laws of a worker that is alone. Each function does nothing but call the laws that it follows from: its contract is the law.
 
-ghost use Rattle.bz_alone.specs.Laws.{FreezesGoOn, DeletesGoOn};
+ghost use Rattle.bz_alone.specs.Laws.{FreezesGoOn, DeletesGoOn, ConsolidationsGoOn, RootSplitsGoOn, SplitsBelowGoOn, InnerSplitsGoOn, InnerRootSplitsGoOn};
 ghost use Rattle.bz_alone.specs.Quiet.{EffectsNeverFall, QuietTimesStay, ReadValuesStand, LonelyTimesAreQuiet};
 
 use bz_slotted::laws as slotted;
@@ -42,6 +42,56 @@ pub fn freezes_go_on()
 /// A delete goes on.
 pub fn deletes_go_on()
     ensures { DeletesGoOn }
+{
+    read_values_stand();
+    lonely_times_are_quiet();
+    task::leaves_are_in_trees();
+    slotted::leaf_rules_are_facts();
+}
+
+/// So does a consolidation.
+pub fn consolidations_go_on()
+    ensures { ConsolidationsGoOn }
+{
+    read_values_stand();
+    lonely_times_are_quiet();
+    task::leaves_are_in_trees();
+    slotted::leaf_rules_are_facts();
+}
+
+/// So does the split of a root leaf.
+pub fn root_splits_go_on()
+    ensures { RootSplitsGoOn }
+{
+    read_values_stand();
+    lonely_times_are_quiet();
+    task::leaves_are_in_trees();
+    slotted::leaf_rules_are_facts();
+}
+
+/// So does the split of a leaf below a parent.
+pub fn splits_below_go_on()
+    ensures { SplitsBelowGoOn }
+{
+    read_values_stand();
+    lonely_times_are_quiet();
+    task::leaves_are_in_trees();
+    slotted::leaf_rules_are_facts();
+}
+
+/// So does that of an inner node below a parent.
+pub fn inner_splits_go_on()
+    ensures { InnerSplitsGoOn }
+{
+    read_values_stand();
+    lonely_times_are_quiet();
+    task::leaves_are_in_trees();
+    slotted::leaf_rules_are_facts();
+}
+
+/// So does that of an inner root.
+pub fn inner_root_splits_go_on()
+    ensures { InnerRootSplitsGoOn }
 {
     read_values_stand();
     lonely_times_are_quiet();
