@@ -20,4 +20,4 @@ goes b s good q r Swap f = swaps (renewal r.link r.slot) (consol_differs r.link 
 goes b s good q r phase f = idles _ (consol_differs r.link phase) s (λ entries e. absurd (cc)) (λ seen d. d)
 
 pub consolidations-go-on : Laws → ConsolidationsGoOn
-consolidations-go-on b t s same good f a = subst (λ z. GoesOn (consol_asks z (renewal_of t) t.phase) (consol_differs t.link t.phase) s) same (goes b s good (b.lonely s good a) (renewal_of t) t.phase f)
+consolidations-go-on b t s same good f a = subst (λ z. GoesOn (consol_asks z (renewal_of t) t.phase) (consol_differs t.link t.phase) s) same (goes b s good (b.lonely.whole s good a) (renewal_of t) t.phase f)

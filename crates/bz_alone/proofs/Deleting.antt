@@ -21,4 +21,4 @@ goes b s good q key v (Remove f) h =
 goes b s good q key v phase h = idles _ (λ seen. ⊥) s (λ entries e. absurd (cc)) (λ seen d. d)
 
 pub deletes-go-on : Laws → DeletesGoOn
-deletes-go-on b t s same good f a = subst (λ z. GoesOn (delete_asks z t.view t.phase) (λ seen. ⊥) s) same (goes b s good (b.lonely s good a) t.key t.view t.phase f)
+deletes-go-on b t s same good f a = subst (λ z. GoesOn (delete_asks z t.view t.phase) (λ seen. ⊥) s) same (goes b s good (b.lonely.whole s good a) t.key t.view t.phase f)

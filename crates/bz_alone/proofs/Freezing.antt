@@ -29,4 +29,4 @@ module _ (values : ReadValuesStand) (s : Scene) (good : IsScene s) (q : IsQuietS
   goes k st phase f = idles _ (λ seen. ⊥) s (λ entries e. absurd (cc)) (λ seen d. d)
 
 pub freezes-go-on : ReadValuesStand → LonelyTimesAreQuiet → FreezesGoOn
-freezes-go-on values lonely t s same good f a = subst (λ z. GoesOn (freeze_asks z t.slot t.status t.phase) (λ seen. ⊥) s) same (goes values s good (lonely s good a) t.slot t.status t.phase f)
+freezes-go-on values lonely t s same good f a = subst (λ z. GoesOn (freeze_asks z t.slot t.status t.phase) (λ seen. ⊥) s) same (goes values s good (lonely.whole s good a) t.slot t.status t.phase f)

@@ -2,14 +2,15 @@
 use Rattle.std.proofs.Common.{◌≡◌, ℕ, zero, suc, ◌+◌, ◌-◌, ◌<◌, ◌≤◌, ◌⊎◌, true, arith, refl, sym, ap, subst, ◌∙◌, inl, inr}
 use Rattle.bz_layout.specs.declared.config.Config.{Config}
 use Rattle.bz_layout.specs.declared.sizes.TheConstants.{STATUS_AT, ROOT_AT, ROOT_STATUS_AT}
+use Rattle.bz_word.specs.Statuses.{status}
 use Rattle.bz_task.specs.Instant.{Instant, words}
-use Rattle.bz_task.specs.Laws.{AreMoments, NodesStay}
+use Rattle.bz_task.specs.Laws.{AreMoments, NodesStay, SameRecordsShowTheSame}
 use Rattle.bz_task.specs.Scene.{Scene, IsScene}
-use Rattle.bz_task.specs.Shown.{SameRoot}
+use Rattle.bz_task.specs.Shown.{SameWords, SameRecords, SameRoot}
 use Rattle.bz_task.specs.Steps.{IsQuiet, IsEffect, IsStep, IsHistory}
 use Rattle.bz_renew.proofs.Words.{node-at}
 use Rattle.bz_alone.specs.Alone.{IsAlone}
-use Rattle.bz_alone.specs.Quiet.{EffectsNeverFall, QuietTimesStay, IsQuietSince, IsShownWord, IsRead, ReadValuesStand, LonelyTimesAreQuiet}
+use Rattle.bz_alone.specs.Quiet.{EffectsNeverFall, QuietTimesStay, IsQuietSince, IsShownWord, IsRead, IsIn, HadEffects, ReadValuesStand, LonelyTimesAreQuiet}
 
 -- no effect came so far: the same nodes are reached, with the status words that they had, and the root is the same
 record IsStill (c : Config) (x y : Instant) : Type 0 where
@@ -73,13 +74,40 @@ stands c x y a q (inr (inl r)) = subst (λ z. y.value z ≡ x.value z) (sym r) q
 stands c x y a q (inr (inr w)) =
     subst (λ z. y.value z ≡ x.value z) (sym w.address) (sym (node-at c y.value w.slot w.place w.within) ∙ (q.nodes w.slot w.reached w.place w.shown ∙ node-at c x.value w.slot w.place w.within))
 
-pub read-values : QuietTimesStay → EffectsNeverFall → ReadValuesStand
-read-values quiet fall s m i j a good q from order to r =
-    let p = s.past in
-    let up : (p.at m).effects ≤ (p.at i).effects = fall p.config p.at p.since p.now m i good.history (record { since = q.since; order = from; until = omega (arith, order, to) }) in
-    let on : (p.at i).effects ≤ (p.at p.now).effects = fall p.config p.at p.since p.now i p.now good.history (record { since = omega (arith, q.since, from); order = omega (arith, order, to); until = omega arith }) in
-    stands p.config (p.at i) (p.at j) a
-    (quiet p.config p.at p.since p.now i j p.now good.history (record { since = omega (arith, q.since, from); order = omega (arith, order, to); until = omega arith }) order to (omega (arith, up, on, q.effects))) r
+same-records : (n m : ℕ → ℕ) → SameWords n m → SameRecords n m
+same-records n m s = record {
+  count = ap (λ z. (status z).count) (s STATUS_AT (inl (omega arith)));
+  block = ap (λ z. (status z).block) (s STATUS_AT (inl (omega arith)));
+  words = λ i ne h. s i h;
+}
 
-pub lonely : LonelyTimesAreQuiet
-lonely s good a = record { since = omega arith; now = good.begun; effects = omega (arith, a) }
+-- what readers read afterwards they read before
+back : SameRecordsShowTheSame → (c : Config) (x y : Instant) (a : ℕ) → IsQuiet c x y → IsRead c y a → IsRead c x a
+back alike c x y a q (inl r) = inl r
+back alike c x y a q (inr (inl r)) = inr (inl r)
+back alike c x y a q (inr (inr w)) =
+    let r : x.reached w.slot ≡ true = sym (q.reached w.slot) ∙ w.reached in
+    inr (inr (record {
+      slot = w.slot;
+      place = w.place;
+      address = w.address;
+      within = w.within;
+      reached = r;
+      shown = (alike (words c x w.slot) (words c y w.slot) (same-records (words c x w.slot) (words c y w.slot) (q.nodes w.slot r)) w.place).1 w.shown;
+    }))
+
+pub read-values : QuietTimesStay → SameRecordsShowTheSame → ReadValuesStand
+read-values quiet alike s m k a good q in-k r i j in-i in-j =
+    let p = s.past in
+    let o : AreMoments p.since p.now m p.now = record { since = q.since; order = q.now; until = omega arith } in
+    let at-m : IsRead p.config (p.at m) a = back alike p.config (p.at m) (p.at k) a (quiet p.config p.at p.since p.now m k p.now good.history o in-k.from in-k.to q.effects) r in
+    stands p.config (p.at m) (p.at i) a (quiet p.config p.at p.since p.now m i p.now good.history o in-i.from in-i.to q.effects) at-m
+    ∙ sym (stands p.config (p.at m) (p.at j) a (quiet p.config p.at p.since p.now m j p.now good.history o in-j.from in-j.to q.effects) at-m)
+
+pub lonely : EffectsNeverFall → LonelyTimesAreQuiet
+lonely fall = record {
+  later = λ s made m good a h.
+      let up : (s.past.at m).effects ≤ (s.past.at s.past.now).effects = fall s.past.config s.past.at s.past.since s.past.now m s.past.now good.history (record { since = h.since; order = h.now; until = omega arith }) in
+      record { since = h.since; now = h.now; effects = omega (arith, a, h.effects, up) };
+  whole = λ s good a. record { since = omega arith; now = good.begun; effects = omega (arith, a) };
+}

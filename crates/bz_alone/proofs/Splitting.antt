@@ -19,4 +19,4 @@ goes b s good q r Swap f = swaps (renewal r.link (r.slot 0)) (split_differs r.li
 goes b s good q r phase f = idles _ (split_differs r.link phase) s (λ entries e. absurd (cc)) (λ seen d. d)
 
 pub root-splits-go-on : Laws → RootSplitsGoOn
-root-splits-go-on b t s same good f a = subst (λ z. GoesOn (split_asks z (split_of t) t.phase) (split_differs t.link t.phase) s) same (goes b s good (b.lonely s good a) (split_of t) t.phase f)
+root-splits-go-on b t s same good f a = subst (λ z. GoesOn (split_asks z (split_of t) t.phase) (split_differs t.link t.phase) s) same (goes b s good (b.lonely.whole s good a) (split_of t) t.phase f)

@@ -23,4 +23,4 @@ goes b s good q r Swap f =
 goes b s good q r phase f = idles _ (below_differs r.upper r.lower phase) s (λ entries e. absurd (cc)) (λ seen d. d)
 
 pub splits-below-go-on : Laws → SplitsBelowGoOn
-splits-below-go-on b t s same good f a = subst (λ z. GoesOn (below_asks z (below_of t) t.phase) (below_differs t.upper t.lower t.phase) s) same (goes b s good (b.lonely s good a) (below_of t) t.phase f)
+splits-below-go-on b t s same good f a = subst (λ z. GoesOn (below_asks z (below_of t) t.phase) (below_differs t.upper t.lower t.phase) s) same (goes b s good (b.lonely.whole s good a) (below_of t) t.phase f)

@@ -25,4 +25,4 @@ goes b s good q r Swap f =
 goes b s good q r phase f = idles _ (fork_differs r.upper r.middle r.lower phase) s (λ entries e. absurd (cc)) (λ seen d. d)
 
 pub inner-splits-go-on : Laws → InnerSplitsGoOn
-inner-splits-go-on b t s same good f a = subst (λ z. GoesOn (fork_asks z (fork_of t) t.phase) (fork_differs t.upper t.middle t.lower t.phase) s) same (goes b s good (b.lonely s good a) (fork_of t) t.phase f)
+inner-splits-go-on b t s same good f a = subst (λ z. GoesOn (fork_asks z (fork_of t) t.phase) (fork_differs t.upper t.middle t.lower t.phase) s) same (goes b s good (b.lonely.whole s good a) (fork_of t) t.phase f)

@@ -22,4 +22,4 @@ goes b s good q r Swap f =
 goes b s good q r phase f = idles _ (crown_differs r.upper r.lower phase) s (λ entries e. absurd (cc)) (λ seen d. d)
 
 pub inner-root-splits-go-on : Laws → InnerRootSplitsGoOn
-inner-root-splits-go-on b t s same good f a = subst (λ z. GoesOn (crown_asks z (crown_of t) t.phase) (crown_differs t.upper t.lower t.phase) s) same (goes b s good (b.lonely s good a) (crown_of t) t.phase f)
+inner-root-splits-go-on b t s same good f a = subst (λ z. GoesOn (crown_asks z (crown_of t) t.phase) (crown_differs t.upper t.lower t.phase) s) same (goes b s good (b.lonely.whole s good a) (crown_of t) t.phase f)

@@ -19,14 +19,15 @@ module _ (values : ReadValuesStand) (s : Scene) (good : IsScene s) (m : ℕ) (q 
   pub reached-in : (i k : ℕ) → m ≤ i → i ≤ s.past.now → k < s.past.config.nodes → is_inside s.past.config (s.past.at i) k ≡ true → (s.past.at i).reached k ≡ true
   reached-in i k from to l e = (good-at i from to).inside k e (λ z. omega (arith, z, l))
 
-  pub now-as : (i a : ℕ) → m ≤ i → i ≤ s.past.now → IsRead s.past.config (s.past.at i) a → (here s).value a ≡ (s.past.at i).value a
-  now-as i a from to r = values s m i s.past.now a good q from to (omega arith) r
+  -- an address that was read at one moment has one value, and has it now
+  pub now-as : (k i a : ℕ) → m ≤ k → k ≤ s.past.now → IsRead s.past.config (s.past.at k) a → m ≤ i → i ≤ s.past.now → (here s).value a ≡ (s.past.at i).value a
+  now-as k i a from to r later until = values s m k a good q (record { from = from; to = to }) r s.past.now i (record { from = q.now; to = omega arith }) (record { from = later; to = until })
 
   -- a word that readers read
   pub word-stands : (k place i v : ℕ) → m ≤ i → i ≤ s.past.now → (s.past.at i).reached k ≡ true → place < NODE_WORDS → IsShown (words s.past.config (s.past.at i) k) place
       → words s.past.config (s.past.at i) k place ≡ v → (here s).value (node_address s.past.config k + place) ≡ v
   word-stands k place i v from to r l h e =
-      now-as i (node_address s.past.config k + place) from to (inr (inr (record { slot = k; place = place; address = refl; within = l; reached = r; shown = h })))
+      now-as i i (node_address s.past.config k + place) from to (inr (inr (record { slot = k; place = place; address = refl; within = l; reached = r; shown = h }))) from to
       ∙ (sym (node-at s.past.config (s.past.at i).value k place l) ∙ e)
 
   -- a status
@@ -48,9 +49,7 @@ module _ (values : ReadValuesStand) (s : Scene) (good : IsScene s) (m : ℕ) (q 
 
     -- the guard of a link, and the link
     pub guard-stands : (here s).value link.guard ≡ link.status
-    guard-stands = now-as g.guarded link.guard from (omega (arith, g.order, g.now)) guard-read ∙ g.status
+    guard-stands = now-as g.guarded g.guarded link.guard from (omega (arith, g.order, g.now)) guard-read from (omega (arith, g.order, g.now)) ∙ g.status
 
     pub link-stands : (here s).value link.link ≡ link.slot + 1
-    link-stands =
-        now-as g.guarded link.link from (omega (arith, g.order, g.now)) link-read
-        ∙ (sym (values s m g.guarded g.read link.link good q from g.order g.now link-read) ∙ g.slot)
+    link-stands = now-as g.guarded g.read link.link from (omega (arith, g.order, g.now)) link-read (omega (arith, from, g.order)) g.now ∙ g.slot

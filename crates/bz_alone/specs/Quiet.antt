@@ -5,7 +5,7 @@ use Rattle.bz_layout.specs.declared.config.Config.{Config}
 use Rattle.bz_layout.specs.declared.sizes.TheConstants.{NODE_WORDS, ROOT_AT, ROOT_STATUS_AT}
 use Rattle.bz_task.specs.Instant.{Instant, words}
 use Rattle.bz_task.specs.Laws.{AreMoments}
-use Rattle.bz_task.specs.Scene.{Past, IsScene, Scene, here}
+use Rattle.bz_task.specs.Scene.{Past, IsScene, Scene}
 use Rattle.bz_task.specs.Shown.{IsShown}
 use Rattle.bz_task.specs.Steps.{IsQuiet, IsHistory}
 use Rattle.bz_alone.specs.Alone.{IsAlone}
@@ -38,11 +38,24 @@ pub record IsShownWord (c : Config) (x : Instant) (a : ℕ) : Type 0 where
 abbrev pub IsRead : Config → Instant → ℕ → Type 0
 IsRead c x a = (a ≡ ROOT_AT) ⊎ ((a ≡ ROOT_STATUS_AT) ⊎ IsShownWord c x a)
 
--- the value that it had at a moment of a quiet time it has at every later one, and now
+-- a moment of such a time
+pub record IsIn (m : ℕ) (p : Past) (i : ℕ) : Type 0 where
+  pub from : m ≤ i
+  pub to : i ≤ p.now
+
+-- an address that readers read at one moment of a quiet time has one value in all of it
 abbrev pub ReadValuesStand : Type 0
 ReadValuesStand =
-    (s : Scene) (m i j a : ℕ) → IsScene s → IsQuietSince m s.past → m ≤ i → i ≤ j → j ≤ s.past.now → IsRead s.past.config (s.past.at i) a → (s.past.at j).value a ≡ (s.past.at i).value a
+    (s : Scene) (m k a : ℕ) → IsScene s → IsQuietSince m s.past → IsIn m s.past k → IsRead s.past.config (s.past.at k) a →
+    (i j : ℕ) → IsIn m s.past i → IsIn m s.past j → (s.past.at i).value a ≡ (s.past.at j).value a
 
--- where the worker is alone and made no swap itself, the time since its look-up began is quiet
-abbrev pub LonelyTimesAreQuiet : Type 0
-LonelyTimesAreQuiet = (s : Scene) → IsScene s → IsAlone 0 s.past → IsQuietSince s.past.since s.past
+-- so many swaps took effect since the look-up began, up to this moment
+pub record HadEffects (made m : ℕ) (p : Past) : Type 0 where
+  pub since : p.since ≤ m
+  pub now : m ≤ p.now
+  pub effects : (p.at p.since).effects + made ≤ (p.at m).effects
+
+-- where the worker is alone, the time since its own last swap is quiet, and the whole time since its look-up began where it made none
+pub record LonelyTimesAreQuiet : Type 0 where
+  pub later : (s : Scene) (made m : ℕ) → IsScene s → IsAlone made s.past → HadEffects made m s.past → IsQuietSince m s.past
+  pub whole : (s : Scene) → IsScene s → IsAlone 0 s.past → IsQuietSince s.past.since s.past

@@ -18,18 +18,20 @@ pub fn quiet_times_stay()
     task::nodes_stay();
 }
 
-/// In a time without effects a value that readers read stands.
+/// In a time without effects an address that readers read has one value.
 pub fn read_values_stand()
     ensures { ReadValuesStand }
 {
-    effects_never_fall();
     quiet_times_stay();
+    task::same_records_show_the_same();
 }
 
-/// The time since the look-up began is such a time, where the worker is alone and made no swap itself.
+/// Where a worker is alone, the time since its own last swap is such a time, and all of it since its look-up began where it made none.
 pub fn lonely_times_are_quiet()
     ensures { LonelyTimesAreQuiet }
-{}
+{
+    effects_never_fall();
+}
 
 /// A freeze goes on.
 pub fn freezes_go_on()
