@@ -11,3 +11,5 @@ mod Splitting
 mod SplittingBelow
 mod SplittingInner
 mod SplittingRoot
+mod Inners
+mod Seeking

@@ -1,8 +1,11 @@
 //! Laws of a worker that is alone. Each function does nothing but call the laws that it follows from: its contract is the law.
 
 ghost use Rattle.bz_alone.specs.Laws.{FreezesGoOn, DeletesGoOn, ConsolidationsGoOn, RootSplitsGoOn, SplitsBelowGoOn, InnerSplitsGoOn, InnerRootSplitsGoOn};
+ghost use Rattle.bz_alone.specs.Lookups.{SeeksGoOn};
 ghost use Rattle.bz_alone.specs.Quiet.{EffectsNeverFall, QuietTimesStay, ReadValuesStand, LonelyTimesAreQuiet};
 
+use bz_content::laws as content;
+use bz_shape::laws as shape;
 use bz_slotted::laws as slotted;
 use bz_task::laws as task;
 
@@ -99,4 +102,16 @@ pub fn inner_root_splits_go_on()
     lonely_times_are_quiet();
     task::leaves_are_in_trees();
     slotted::leaf_rules_are_facts();
+}
+
+/// A descent goes on.
+pub fn seeks_go_on()
+    ensures { SeeksGoOn }
+{
+    read_values_stand();
+    lonely_times_are_quiet();
+    content::well_formed_images_have_no_fault();
+    shape::trees_have_forms();
+    slotted::inner_rules_are_facts();
+    task::headers_say_the_level();
 }
