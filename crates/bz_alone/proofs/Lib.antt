@@ -13,3 +13,6 @@ mod SplittingInner
 mod SplittingRoot
 mod Inners
 mod Seeking
+mod LastLinks
+mod Reading
+mod Finding

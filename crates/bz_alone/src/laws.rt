@@ -1,7 +1,7 @@
 //! Laws of a worker that is alone. Each function does nothing but call the laws that it follows from: its contract is the law.
 
 ghost use Rattle.bz_alone.specs.Laws.{FreezesGoOn, DeletesGoOn, ConsolidationsGoOn, RootSplitsGoOn, SplitsBelowGoOn, InnerSplitsGoOn, InnerRootSplitsGoOn};
-ghost use Rattle.bz_alone.specs.Lookups.{SeeksGoOn};
+ghost use Rattle.bz_alone.specs.Lookups.{SeeksGoOn, FindsGoOn, ReadingsGoOn};
 ghost use Rattle.bz_alone.specs.Quiet.{EffectsNeverFall, QuietTimesStay, ReadValuesStand, LonelyTimesAreQuiet};
 
 use bz_content::laws as content;
@@ -107,6 +107,30 @@ pub fn inner_root_splits_go_on()
 /// A descent goes on.
 pub fn seeks_go_on()
     ensures { SeeksGoOn }
+{
+    read_values_stand();
+    lonely_times_are_quiet();
+    content::well_formed_images_have_no_fault();
+    shape::trees_have_forms();
+    slotted::inner_rules_are_facts();
+    task::headers_say_the_level();
+}
+
+/// A look-up of a key in a leaf goes on.
+pub fn finds_go_on()
+    ensures { FindsGoOn }
+{
+    read_values_stand();
+    lonely_times_are_quiet();
+    content::well_formed_images_have_no_fault();
+    shape::trees_have_forms();
+    slotted::inner_rules_are_facts();
+    task::headers_say_the_level();
+}
+
+/// So does a reading of a leaf.
+pub fn readings_go_on()
+    ensures { ReadingsGoOn }
 {
     read_values_stand();
     lonely_times_are_quiet();
