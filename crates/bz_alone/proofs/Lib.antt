@@ -16,3 +16,5 @@ mod Seeking
 mod LastLinks
 mod Reading
 mod Finding
+mod Changing
+mod Merging

@@ -1,4 +1,5 @@
 pub mod Alone
+pub mod Changes
 pub mod Laws
 pub mod Lookups
 pub mod Quiet

@@ -1,5 +1,6 @@
 //! Laws of a worker that is alone. Each function does nothing but call the laws that it follows from: its contract is the law.
 
+ghost use Rattle.bz_alone.specs.Changes.{InsertsGoOn, UpdatesGoOn, MergesGoOn, PublicationsStand, ReplacementsStand};
 ghost use Rattle.bz_alone.specs.Laws.{FreezesGoOn, DeletesGoOn, ConsolidationsGoOn, RootSplitsGoOn, SplitsBelowGoOn, InnerSplitsGoOn, InnerRootSplitsGoOn};
 ghost use Rattle.bz_alone.specs.Lookups.{SeeksGoOn, FindsGoOn, ReadingsGoOn};
 ghost use Rattle.bz_alone.specs.Quiet.{EffectsNeverFall, QuietTimesStay, ReadValuesStand, LonelyTimesAreQuiet};
@@ -138,4 +139,58 @@ pub fn readings_go_on()
     shape::trees_have_forms();
     slotted::inner_rules_are_facts();
     task::headers_say_the_level();
+}
+
+/// An insert goes on.
+pub fn inserts_go_on()
+    ensures { InsertsGoOn }
+{
+    bz_word::laws::statuses();
+    read_values_stand();
+    lonely_times_are_quiet();
+    task::leaves_are_in_trees();
+    slotted::leaf_rules_are_facts();
+}
+
+/// So does an update.
+pub fn updates_go_on()
+    ensures { UpdatesGoOn }
+{
+    bz_word::laws::statuses();
+    read_values_stand();
+    lonely_times_are_quiet();
+    task::leaves_are_in_trees();
+    slotted::leaf_rules_are_facts();
+}
+
+/// The second swap of an insert stands after the first, where nobody else's took effect.
+pub fn publications_stand()
+    ensures { PublicationsStand }
+{
+    bz_word::laws::statuses();
+    read_values_stand();
+    lonely_times_are_quiet();
+    task::leaves_are_in_trees();
+    slotted::leaf_rules_are_facts();
+}
+
+/// So does that of an update.
+pub fn replacements_stand()
+    ensures { ReplacementsStand }
+{
+    bz_word::laws::statuses();
+    read_values_stand();
+    lonely_times_are_quiet();
+    task::leaves_are_in_trees();
+    slotted::leaf_rules_are_facts();
+}
+
+/// A merge goes on.
+pub fn merges_go_on()
+    ensures { MergesGoOn }
+{
+    read_values_stand();
+    lonely_times_are_quiet();
+    task::leaves_are_in_trees();
+    slotted::leaf_rules_are_facts();
 }

@@ -1,0 +1,39 @@
+-- Tasks that ask for more than one swap go on where their worker is alone and none of them has taken effect; and where an insert, or an
+-- update, made its first one, its second one stands.
+use Rattle.std.specs.Prelude.{ℕ, List}
+use Rattle.bz_word.specs.declared.meta.Extent.{Extent}
+use Rattle.bz_insert.specs.Duties as insert
+use Rattle.bz_insert.specs.declared.insert.Insert.{Insert}
+use Rattle.bz_merge.specs.Duties as merge
+use Rattle.bz_merge.specs.declared.merge.Merge.{Merge}
+use Rattle.bz_mutate.specs.UpdateDuties as update
+use Rattle.bz_mutate.specs.declared.update.Update.{Update}
+use Rattle.bz_record.specs.Leaves.{WasReserved}
+use Rattle.bz_record.specs.Records.{Fits}
+use Rattle.bz_record.specs.Replacing.{replacement, WasGrown}
+use Rattle.bz_record.specs.Swaps.{entries_of, publication}
+use Rattle.bz_record.specs.declared.new_record.NewRecord.{NewRecord}
+use Rattle.bz_task.specs.Scene.{Scene, IsScene, here}
+use Rattle.bz_task.specs.Swaps.{Stand}
+use Rattle.bz_alone.specs.Alone.{IsAlone, GoesOnAlone}
+use Rattle.bz_alone.specs.Quiet.{HadEffects}
+
+abbrev pub InsertsGoOn : Type 0
+InsertsGoOn = (t : Insert) → GoesOnAlone 0 t.config (insert.asks_of t) (insert.facts_of t) (λ seen. ⊥)
+
+abbrev pub UpdatesGoOn : Type 0
+UpdatesGoOn = (t : Update) → GoesOnAlone 0 t.config (update.asks_of t) (update.facts_of t) (λ seen. ⊥)
+
+abbrev pub MergesGoOn : Type 0
+MergesGoOn = (t : Merge) → GoesOnAlone 0 t.config (merge.asks_of t) (merge.facts_of t) (merge.differs_of t)
+
+-- the second swaps, where the moment at which the first one is known to have changed the leaf is one after its effect
+abbrev pub PublicationsStand : Type 0
+PublicationsStand =
+    (r : NewRecord) (s : Scene) → IsScene s → Fits r → (was : WasReserved r s.past) → IsAlone 1 s.past → HadEffects 1 was.moment s.past →
+    Stand (entries_of s.past.config (publication r)) (here s)
+
+abbrev pub ReplacementsStand : Type 0
+ReplacementsStand =
+    (r : NewRecord) (old : List ℕ) (place : ℕ) (e : Extent) (s : Scene) → IsScene s → (grown : WasGrown r old place e s.past) → IsAlone 1 s.past → HadEffects 1 grown.was.moment s.past →
+    Stand (entries_of s.past.config (replacement r place e)) (here s)
