@@ -23,8 +23,9 @@ use Rattle.bz_insert.specs.declared.phase.Phase.TheVariants.{Fresh, Reserve, Sto
 use Rattle.bz_mutate.specs.UpdateFacts.{update_asks, update_facts}
 use Rattle.bz_mutate.specs.declared.update_phase.UpdatePhase.{UpdatePhase}
 use Rattle.bz_mutate.specs.declared.update_phase.UpdatePhase.TheVariants.{Grow, Replace}
-use Rattle.bz_alone.specs.Alone.{GoesOn}
+use Rattle.bz_alone.specs.Alone.{IsAlone, GoesOn}
 use Rattle.bz_alone.specs.Changes.{InsertsGoOn, UpdatesGoOn, PublicationsStand, ReplacementsStand}
+use Rattle.bz_alone.specs.Made.{made_by_insert, made_by_update, HasSeenReservation, HasSeenGrowth}
 use Rattle.bz_alone.specs.Quiet.{IsQuietSince}
 use Rattle.bz_alone.proofs.Basis.{Laws}
 use Rattle.bz_alone.proofs.Freezing.{one-stands}
@@ -64,30 +65,30 @@ module _ (b : Laws) (codec : Statuses) (s : Scene) (good : IsScene s) (m : ℕ) 
   pub replacement-stands : (r : NewRecord) (old : List ℕ) (place : ℕ) (e : Extent) (grown : WasGrown r old place e s.past) → m ≤ grown.was.moment → Stand (entries_of s.past.config (replacement r place e)) (here s)
   replacement-stands r old place e grown from = swap-stands b s good m q (replacement r place e) r.key old e grown.was from refl
 
-module _ (b : Laws) (codec : Statuses) (s : Scene) (good : IsScene s) (q : IsQuietSince s.past.since s.past) where
-  insert-goes : (r : NewRecord) (phase : Phase) → insert_facts r phase Waiting s → GoesOn (insert_asks s.past.config r phase) (λ seen. ⊥) s
-  insert-goes r Reserve f =
+module _ (b : Laws) (codec : Statuses) (s : Scene) (good : IsScene s) where
+  insert-goes : (r : NewRecord) (phase : Phase) (f : insert_facts r phase Waiting s) → HasSeenReservation r phase s f → IsAlone (made_by_insert phase) s.past → GoesOn (insert_asks s.past.config r phase) (λ seen. ⊥) s
+  insert-goes r Reserve f h a =
       let v = f.1.viewed in
-      swaps (entries_of s.past.config (reservation r)) (λ seen. ⊥) s (reservation-stands b codec s good s.past.since q r v.moment v.leaf.leaf v.leaf.leaf.since f.1.room) (λ seen d. d)
-  insert-goes r Publish f =
+      swaps (entries_of s.past.config (reservation r)) (λ seen. ⊥) s (reservation-stands b codec s good s.past.since (b.lonely.whole s good a) r v.moment v.leaf.leaf v.leaf.leaf.since f.1.room) (λ seen d. d)
+  insert-goes r Publish f h a =
       let w = f.1.reserved in
-      swaps (entries_of s.past.config (publication r)) (λ seen. ⊥) s (publication-stands b codec s good s.past.since q r f.1.fits w w.leaf.leaf.since) (λ seen d. d)
-  insert-goes r phase f = idles _ (λ seen. ⊥) s (λ entries e. absurd (cc)) (λ seen d. d)
+      swaps (entries_of s.past.config (publication r)) (λ seen. ⊥) s (publication-stands b codec s good w.moment (b.lonely.later s 1 w.moment good a h) r f.1.fits w (omega arith)) (λ seen d. d)
+  insert-goes r phase f h a = idles _ (λ seen. ⊥) s (λ entries e. absurd (cc)) (λ seen d. d)
 
-  update-goes : (v : KeyView) (r : NewRecord) (phase : UpdatePhase) → update_facts v r phase Waiting s → GoesOn (update_asks s.past.config r phase) (λ seen. ⊥) s
-  update-goes v r (Grow f) h =
-      let w = h.1.was in
-      swaps (growth s.past.config r ∷ []) (λ seen. ⊥) s (growth-stands b codec s good s.past.since q r w.moment w.leaf.leaf w.leaf.leaf.since) (λ seen d. d)
-  update-goes v r (Replace f) h =
-      let g = h.1.grown in
-      swaps (entries_of s.past.config (replacement r f.place f.extent)) (λ seen. ⊥) s (replacement-stands b codec s good s.past.since q r h.1.pair.old f.place f.extent g g.was.leaf.leaf.since) (λ seen d. d)
-  update-goes v r phase h = idles _ (λ seen. ⊥) s (λ entries e. absurd (cc)) (λ seen d. d)
+  update-goes : (v : KeyView) (r : NewRecord) (phase : UpdatePhase) (f : update_facts v r phase Waiting s) → HasSeenGrowth v r phase s f → IsAlone (made_by_update phase) s.past → GoesOn (update_asks s.past.config r phase) (λ seen. ⊥) s
+  update-goes v r (Grow f) k h a =
+      let w = k.1.was in
+      swaps (growth s.past.config r ∷ []) (λ seen. ⊥) s (growth-stands b codec s good s.past.since (b.lonely.whole s good a) r w.moment w.leaf.leaf w.leaf.leaf.since) (λ seen d. d)
+  update-goes v r (Replace f) k h a =
+      let g = k.1.grown in
+      swaps (entries_of s.past.config (replacement r f.place f.extent)) (λ seen. ⊥) s (replacement-stands b codec s good g.was.moment (b.lonely.later s 1 g.was.moment good a h) r k.1.pair.old f.place f.extent g (omega arith)) (λ seen d. d)
+  update-goes v r phase k h a = idles _ (λ seen. ⊥) s (λ entries e. absurd (cc)) (λ seen d. d)
 
 pub inserts-go-on : Laws → Statuses → InsertsGoOn
-inserts-go-on b codec t s same good f a = subst (λ z. GoesOn (insert_asks z t.added t.phase) (λ seen. ⊥) s) same (insert-goes b codec s good (b.lonely.whole s good a) t.added t.phase f)
+inserts-go-on b codec t s same good f h a = subst (λ z. GoesOn (insert_asks z t.added t.phase) (λ seen. ⊥) s) same (insert-goes b codec s good t.added t.phase f h a)
 
 pub updates-go-on : Laws → Statuses → UpdatesGoOn
-updates-go-on b codec t s same good f a = subst (λ z. GoesOn (update_asks z t.added t.phase) (λ seen. ⊥) s) same (update-goes b codec s good (b.lonely.whole s good a) t.view t.added t.phase f)
+updates-go-on b codec t s same good f h a = subst (λ z. GoesOn (update_asks z t.added t.phase) (λ seen. ⊥) s) same (update-goes b codec s good t.view t.added t.phase f h a)
 
 pub publications-stand : Laws → Statuses → PublicationsStand
 publications-stand b codec r s good f was a h = publication-stands b codec s good was.moment (b.lonely.later s 1 was.moment good a h) r f was (omega arith)

@@ -18,3 +18,4 @@ mod Reading
 mod Finding
 mod Changing
 mod Merging
+mod Tasks

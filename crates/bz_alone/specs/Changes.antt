@@ -1,6 +1,6 @@
--- Tasks that ask for more than one swap go on where their worker is alone and none of them has taken effect; and where an insert, or an
--- update, made its first one, its second one stands.
-use Rattle.std.specs.Prelude.{ℕ, List}
+-- Tasks that ask for more than one swap go on where their worker is alone; an insert and an update after their first one too, where the
+-- moment at which this is known to have changed the leaf is one after its effect.
+use Rattle.std.specs.Prelude.{◌≡◌, ℕ, List}
 use Rattle.bz_word.specs.declared.meta.Extent.{Extent}
 use Rattle.bz_insert.specs.Duties as insert
 use Rattle.bz_insert.specs.declared.insert.Insert.{Insert}
@@ -13,21 +13,27 @@ use Rattle.bz_record.specs.Records.{Fits}
 use Rattle.bz_record.specs.Replacing.{replacement, WasGrown}
 use Rattle.bz_record.specs.Swaps.{entries_of, publication}
 use Rattle.bz_record.specs.declared.new_record.NewRecord.{NewRecord}
-use Rattle.bz_task.specs.Scene.{Scene, IsScene, here}
+use Rattle.bz_task.specs.Scene.{Scene, Waiting, IsScene, here}
 use Rattle.bz_task.specs.Swaps.{Stand}
-use Rattle.bz_alone.specs.Alone.{IsAlone, GoesOnAlone}
+use Rattle.bz_alone.specs.Alone.{IsAlone, GoesOn, GoesOnAlone}
+use Rattle.bz_alone.specs.Made.{made_by_insert, made_by_update, HasSeenReservation, HasSeenGrowth}
 use Rattle.bz_alone.specs.Quiet.{HadEffects}
 
 abbrev pub InsertsGoOn : Type 0
-InsertsGoOn = (t : Insert) → GoesOnAlone 0 t.config (insert.asks_of t) (insert.facts_of t) (λ seen. ⊥)
+InsertsGoOn =
+    (t : Insert) (s : Scene) → s.past.config ≡ t.config → IsScene s → (f : insert.facts_of t Waiting s) → HasSeenReservation t.added t.phase s f → IsAlone (made_by_insert t.phase) s.past →
+    GoesOn (insert.asks_of t) (λ seen. ⊥) s
 
 abbrev pub UpdatesGoOn : Type 0
-UpdatesGoOn = (t : Update) → GoesOnAlone 0 t.config (update.asks_of t) (update.facts_of t) (λ seen. ⊥)
+UpdatesGoOn =
+    (t : Update) (s : Scene) → s.past.config ≡ t.config → IsScene s → (f : update.facts_of t Waiting s) → HasSeenGrowth t.view t.added t.phase s f → IsAlone (made_by_update t.phase) s.past →
+    GoesOn (update.asks_of t) (λ seen. ⊥) s
 
+-- a merge, where no swap took effect at all
 abbrev pub MergesGoOn : Type 0
 MergesGoOn = (t : Merge) → GoesOnAlone 0 t.config (merge.asks_of t) (merge.facts_of t) (merge.differs_of t)
 
--- the second swaps, where the moment at which the first one is known to have changed the leaf is one after its effect
+-- the second swaps alone
 abbrev pub PublicationsStand : Type 0
 PublicationsStand =
     (r : NewRecord) (s : Scene) → IsScene s → Fits r → (was : WasReserved r s.past) → IsAlone 1 s.past → HadEffects 1 was.moment s.past →

@@ -5,6 +5,8 @@ ghost use Rattle.bz_alone.specs.Laws.{FreezesGoOn, DeletesGoOn, ConsolidationsGo
 ghost use Rattle.bz_alone.specs.Lookups.{SeeksGoOn, FindsGoOn, ReadingsGoOn};
 ghost use Rattle.bz_alone.specs.Quiet.{EffectsNeverFall, QuietTimesStay, ReadValuesStand, LonelyTimesAreQuiet};
 
+ghost use Rattle.bz_alone.specs.Tasks.{LonersGoOn};
+
 use bz_content::laws as content;
 use bz_shape::laws as shape;
 use bz_slotted::laws as slotted;
@@ -193,4 +195,23 @@ pub fn merges_go_on()
     lonely_times_are_quiet();
     task::leaves_are_in_trees();
     slotted::leaf_rules_are_facts();
+}
+
+/// Whichever task it is, it goes on where its worker is alone.
+pub fn loners_go_on()
+    ensures { LonersGoOn }
+{
+    seeks_go_on();
+    finds_go_on();
+    readings_go_on();
+    inserts_go_on();
+    updates_go_on();
+    deletes_go_on();
+    freezes_go_on();
+    consolidations_go_on();
+    root_splits_go_on();
+    splits_below_go_on();
+    inner_splits_go_on();
+    inner_root_splits_go_on();
+    merges_go_on();
 }
