@@ -1,7 +1,6 @@
 -- An insert and an update go on: the leaf has the status that was viewed, or that which their first swap gave it, and the metadata word is
 -- as it was.
-use Rattle.std.proofs.Common.{◌≡◌, ℕ, ◌+◌, ◌^◌, ◌<◌, ◌≤◌, List, [], ◌∷◌, arith, refl, ap, subst, ◌∙◌, inl, inr}
-use Rattle.bz_layout.specs.declared.sizes.TheConstants.{META_AT, SHARED_WORDS}
+use Rattle.std.proofs.Common.{◌≡◌, ℕ, ◌+◌, ◌≤◌, List, [], ◌∷◌, arith, refl, ap, subst, inl, inr}
 use Rattle.bz_word.specs.Metas.{meta_word}
 use Rattle.bz_word.specs.Statements.{IsCodec}
 use Rattle.bz_word.specs.Statuses.{status_word, status, IsStatus, IsStatusWord}
@@ -19,7 +18,7 @@ use Rattle.bz_record.specs.Swaps.{entries_of, status_entry, meta_entry, reservat
 use Rattle.bz_record.specs.declared.new_record.NewRecord.{NewRecord}
 use Rattle.bz_insert.specs.Facts.{insert_asks, insert_facts}
 use Rattle.bz_insert.specs.declared.phase.Phase.{Phase}
-use Rattle.bz_insert.specs.declared.phase.Phase.TheVariants.{Fresh, Reserve, Store, Flush, Publish, Done, Restart, NeedsRoom, Full}
+use Rattle.bz_insert.specs.declared.phase.Phase.TheVariants.{Reserve, Publish}
 use Rattle.bz_mutate.specs.UpdateFacts.{update_asks, update_facts}
 use Rattle.bz_mutate.specs.declared.update_phase.UpdatePhase.{UpdatePhase}
 use Rattle.bz_mutate.specs.declared.update_phase.UpdatePhase.TheVariants.{Grow, Replace}
@@ -48,16 +47,16 @@ module _ (b : Laws) (codec : Statuses) (s : Scene) (good : IsScene s) (m : ℕ) 
       two-stand (status_entry s.past.config (reservation r)) (meta_entry s.past.config (reservation r)) s
       (leaf-status b s good m q r.slot r.status moment w from)
       (meta-stands b s good m q r.slot r.status moment w from (status r.status).count 0 (omega (arith, h.fits))
-        (inr (inl (omega (arith, h.fits, blocked-as b s good m q r.slot r.status moment w from))))
-        (free-word b s good m q r.slot r.status moment w from (omega (arith, h.fits))))
+      (inr (inl (omega (arith, h.fits, blocked-as b s good m q r.slot r.status moment w from))))
+      (free-word b s good m q r.slot r.status moment w from (omega (arith, h.fits))))
 
   pub publication-stands : (r : NewRecord) → Fits r → (was : WasReserved r s.past) → m ≤ was.moment → Stand (entries_of s.past.config (publication r)) (here s)
   publication-stands r f was from =
       two-stand (status_entry s.past.config (publication r)) (meta_entry s.past.config (publication r)) s
       (leaf-status b s good m q r.slot (status_reserved r) was.moment was.leaf.leaf from)
       (meta-stands b s good m q r.slot (status_reserved r) was.moment was.leaf.leaf from (status r.status).count (meta_word (Reserved (place_of r))) (omega (arith, f.room.fits))
-        (inl (omega (arith, counted-as b s good m q r.slot (status_reserved r) was.moment was.leaf.leaf from, reserved-count codec r f)))
-        was.meta)
+      (inl (omega (arith, counted-as b s good m q r.slot (status_reserved r) was.moment was.leaf.leaf from, reserved-count codec r f)))
+      was.meta)
 
   growth-stands : (r : NewRecord) (moment : ℕ) (w : WasLeaf r.slot r.status moment s.past) → m ≤ moment → Stand (growth s.past.config r ∷ []) (here s)
   growth-stands r moment w from = one-stands (growth s.past.config r) s (leaf-status b s good m q r.slot r.status moment w from)

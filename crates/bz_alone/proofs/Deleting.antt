@@ -1,12 +1,12 @@
 -- A delete goes on: the leaf has the status that was viewed, and the record its metadata word.
-use Rattle.std.proofs.Common.{◌≡◌, ℕ, List, refl, subst}
+use Rattle.std.proofs.Common.{ℕ, List, refl, subst}
 use Rattle.bz_task.specs.Scene.{Scene, Waiting, IsScene}
 use Rattle.bz_task.specs.declared.view.KeyView.{KeyView}
 use Rattle.bz_record.specs.Replacing.{removal}
 use Rattle.bz_record.specs.Swaps.{entries_of}
 use Rattle.bz_mutate.specs.DeleteFacts.{delete_asks, delete_facts}
 use Rattle.bz_mutate.specs.declared.delete_phase.DeletePhase.{DeletePhase}
-use Rattle.bz_mutate.specs.declared.delete_phase.DeletePhase.TheVariants.{Fresh, Remove, Done, Restart, NeedsRoom, Full}
+use Rattle.bz_mutate.specs.declared.delete_phase.DeletePhase.TheVariants.{Remove}
 use Rattle.bz_alone.specs.Alone.{GoesOn}
 use Rattle.bz_alone.specs.Laws.{DeletesGoOn}
 use Rattle.bz_alone.specs.Quiet.{IsQuietSince}

@@ -1,5 +1,5 @@
 -- So does a look-up of a key in a leaf.
-use Rattle.std.proofs.Common.{◌≡◌, ℕ, ◌+◌, sym, ap, ◌∙◌, true, false}
+use Rattle.std.proofs.Common.{◌≡◌, ◌+◌, sym, ap, ◌∙◌}
 use Rattle.std.proofs.lemmas.Bool.{true≢false}
 use Rattle.bz_layout.specs.Addresses.{node_address}
 use Rattle.bz_layout.specs.declared.config.Config.{Config}
@@ -10,7 +10,7 @@ use Rattle.bz_find.specs.Facts.{find_facts, find_differs}
 use Rattle.bz_find.specs.Phases.{find_asks}
 use Rattle.bz_find.specs.declared.find.Find.{Find}
 use Rattle.bz_find.specs.declared.phase.Phase.{Phase}
-use Rattle.bz_find.specs.declared.phase.Phase.TheVariants.{Fresh, Status, Header, Searching, Again, Link as Of_link, Guard, Viewed, Changed}
+use Rattle.bz_find.specs.declared.phase.Phase.TheVariants.{Again, Link as Of_link, Guard}
 use Rattle.bz_alone.specs.Alone.{GoesOn}
 use Rattle.bz_alone.specs.Lookups.{IsLastLink, FindsGoOn}
 use Rattle.bz_alone.specs.Quiet.{IsQuietSince, ReadValuesStand, LonelyTimesAreQuiet}

@@ -1,5 +1,5 @@
 -- An inner node of the tree is not frozen, and the root status is never that of a frozen node: both are rules of images.
-use Rattle.std.proofs.Common.{◌≡◌, ◌≢◌, ℕ, ◌^◌, ◌<◌, ◌==◌, ◌/◌, ◌%◌, ◌&&◌, if◌then◌else◌, Bool, true, false, None, Some, arith, refl, ap, subst, ◌∙◌, inl}
+use Rattle.std.proofs.Common.{◌≡◌, ◌≢◌, ℕ, ◌^◌, ◌<◌, ◌==◌, ◌/◌, ◌%◌, ◌&&◌, if◌then◌else◌, Bool, true, false, None, Some, arith, refl, subst, inl}
 use Rattle.std.specs.Prelude.{nat_lt, nat_le}
 use Rattle.std.proofs.lemmas.Bool.Decides.{nat_tests}
 use Rattle.bz_layout.specs.declared.config.Config.{Config}

@@ -1,11 +1,11 @@
 -- A leaf that is read at the end of a path: its status, the link to it and the link's guard are as they were, and the guard is that of no
 -- frozen node.
-use Rattle.std.proofs.Common.{◌≡◌, ℕ, ◌+◌, ◌-◌, ◌*◌, ◌<◌, ◌≤◌, ◌⊎◌, List, length, true, false, Some, None, arith, refl, sym, ap, subst, ◌∙◌, inl, inr}
+use Rattle.std.proofs.Common.{◌≡◌, ℕ, ◌+◌, ◌-◌, ◌<◌, ◌≤◌, List, length, true, false, Some, arith, refl, sym, ap, subst, ◌∙◌, inl, inr}
 use Rattle.std.specs.Prelude.{slice_get, slice_index}
 use Rattle.std.proofs.lemmas.Bool.{cases_lt}
 use Rattle.std.proofs.lemmas.Option.{slice_get_within, slice_get_cases}
 use Rattle.bz_layout.specs.Addresses.{node_address}
-use Rattle.bz_layout.specs.declared.sizes.TheConstants.{NODE_WORDS, STATUS_AT, HEADER_AT, ROOT_STATUS_AT}
+use Rattle.bz_layout.specs.declared.sizes.TheConstants.{STATUS_AT, HEADER_AT, ROOT_STATUS_AT}
 use Rattle.bz_word.specs.Headers.{header}
 use Rattle.bz_word.specs.Statuses.{status}
 use Rattle.bz_task.specs.Instant.{words, page_at}

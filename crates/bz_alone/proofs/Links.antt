@@ -1,5 +1,5 @@
 -- The swaps that turn a link: link, guard and the statuses of the nodes that are frozen besides are as they were read.
-use Rattle.std.proofs.Common.{◌≡◌, ℕ, ◌+◌, ◌≤◌, List, [], ◌∷◌, sym, ap, ◌∙◌}
+use Rattle.std.proofs.Common.{◌≡◌, ℕ, ◌+◌, sym, ap, ◌∙◌}
 use Rattle.bz_layout.specs.Addresses.{node_address}
 use Rattle.bz_layout.specs.declared.sizes.TheConstants.{STATUS_AT}
 use Rattle.bz_swap.proofs.EntryLists.{All-inserted}
@@ -10,10 +10,10 @@ use Rattle.bz_task.specs.Scene.{Scene, IsScene, here}
 use Rattle.bz_task.specs.Swaps.{Stand}
 use Rattle.bz_task.specs.declared.path.Link.{Link}
 use Rattle.bz_renew.proofs.TwoEntries.{all-two}
-use Rattle.bz_renew.specs.Freezings.{freezing_entry, renewal_with}
+use Rattle.bz_renew.specs.Freezings.{freezing_entry}
 use Rattle.bz_renew.specs.Renewals.{link_entry, guard_entry, renewal}
 use Rattle.bz_split.specs.BelowSplits.{AreLinksDown, parent_freezing, below_swap}
-use Rattle.bz_branch.specs.InnerSplits.{inner_swap, both_freezings}
+use Rattle.bz_branch.specs.InnerSplits.{inner_swap}
 use Rattle.bz_branch.specs.Nodes.{IsOpenLink}
 use Rattle.bz_alone.specs.Quiet.{IsQuietSince, ReadValuesStand}
 use Rattle.bz_alone.proofs.Standing.{guard-stands, link-stands}

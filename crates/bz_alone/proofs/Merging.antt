@@ -1,5 +1,5 @@
 -- A merge goes on, while it has frozen nothing: guards and the neighbour's status are as they were read, and so is all that its swaps name.
-use Rattle.std.proofs.Common.{◌≡◌, ℕ, ◌+◌, [], ◌∷◌, Bool, true, false, sym, subst, ◌∙◌}
+use Rattle.std.proofs.Common.{ℕ, ◌+◌, [], ◌∷◌, Bool, true, false, sym, subst, ◌∙◌}
 use Rattle.std.specs.Prelude.{List, Option, slice_index}
 use Rattle.bz_layout.specs.Addresses.{node_address}
 use Rattle.bz_layout.specs.declared.sizes.TheConstants.{STATUS_AT}
@@ -12,7 +12,7 @@ use Rattle.bz_merge.specs.Facts.{merge_asks, merge_facts, merge_differs}
 use Rattle.bz_merge.specs.Plans.{Merging, viewed_leaf, beside_leaf, first_of, second_of, IsPlanned}
 use Rattle.bz_merge.specs.Siblings.{SeenLeaf, WasSeen}
 use Rattle.bz_merge.specs.declared.phase.Phase.{Phase}
-use Rattle.bz_merge.specs.declared.phase.Phase.TheVariants.{Fresh, Word, Again, Beside, Parent, Still, Freeze, FreezeBeside, Guard, Store, Flush, Swap, Done, Restart, NoNeighbour, NoSlot, NoSwap}
+use Rattle.bz_merge.specs.declared.phase.Phase.TheVariants.{Again, Parent, Still, Freeze, FreezeBeside, Guard, Swap}
 use Rattle.bz_alone.specs.Alone.{GoesOn}
 use Rattle.bz_alone.specs.Changes.{MergesGoOn}
 use Rattle.bz_alone.specs.Quiet.{IsQuietSince}

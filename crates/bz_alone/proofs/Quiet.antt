@@ -1,16 +1,14 @@
 -- Between two moments with as many effects each step is quiet, since an effect adds one and no step takes one away.
 use Rattle.std.proofs.Common.{◌≡◌, ℕ, zero, suc, ◌+◌, ◌-◌, ◌<◌, ◌≤◌, ◌⊎◌, true, arith, refl, sym, ap, subst, ◌∙◌, inl, inr}
 use Rattle.bz_layout.specs.declared.config.Config.{Config}
-use Rattle.bz_layout.specs.declared.sizes.TheConstants.{STATUS_AT, ROOT_AT, ROOT_STATUS_AT}
+use Rattle.bz_layout.specs.declared.sizes.TheConstants.{STATUS_AT}
 use Rattle.bz_word.specs.Statuses.{status}
 use Rattle.bz_task.specs.Instant.{Instant, words}
 use Rattle.bz_task.specs.Laws.{AreMoments, NodesStay, SameRecordsShowTheSame}
-use Rattle.bz_task.specs.Scene.{Scene, IsScene}
 use Rattle.bz_task.specs.Shown.{SameWords, SameRecords, SameRoot}
-use Rattle.bz_task.specs.Steps.{IsQuiet, IsEffect, IsStep, IsHistory}
+use Rattle.bz_task.specs.Steps.{IsQuiet, IsStep, IsHistory}
 use Rattle.bz_renew.proofs.Words.{node-at}
-use Rattle.bz_alone.specs.Alone.{IsAlone}
-use Rattle.bz_alone.specs.Quiet.{EffectsNeverFall, QuietTimesStay, IsQuietSince, IsShownWord, IsRead, IsIn, HadEffects, ReadValuesStand, LonelyTimesAreQuiet}
+use Rattle.bz_alone.specs.Quiet.{EffectsNeverFall, QuietTimesStay, IsRead, ReadValuesStand, LonelyTimesAreQuiet}
 
 -- no effect came so far: the same nodes are reached, with the status words that they had, and the root is the same
 record IsStill (c : Config) (x y : Instant) : Type 0 where
@@ -60,11 +58,11 @@ quiet-times stay c at first last m i j h o from to e =
     elim (went c at first last m h o.since i from (omega (arith, to, o.until))) [
       | inr l ↦ absurd (omega (arith, l, rest, e))
       | inl s ↦ record {
-          effects = s.effects;
-          reached = s.reached;
-          nodes = λ k r. stay c at first last m i i k h (record { since = o.since; order = from; until = omega (arith, to, o.until) }) from (omega arith) r (s.status k r);
-          root = s.root;
-        }
+        effects = s.effects;
+        reached = s.reached;
+        nodes = λ k r. stay c at first last m i i k h (record { since = o.since; order = from; until = omega (arith, to, o.until) }) from (omega arith) r (s.status k r);
+        root = s.root;
+      }
     ]
 
 -- so a value that readers read stands

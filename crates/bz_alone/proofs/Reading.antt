@@ -1,18 +1,16 @@
 -- A reading of a leaf, and a look-up in one, go on: what they look at again is as it was.
-use Rattle.std.proofs.Common.{◌≡◌, ℕ, ◌+◌, List, sym, ap, subst, ◌∙◌, true, false}
-use Rattle.std.specs.Prelude.{slice_index}
+use Rattle.std.proofs.Common.{ℕ, ◌+◌, List, sym, subst, ◌∙◌}
 use Rattle.std.proofs.lemmas.Bool.{true≢false}
 use Rattle.bz_layout.specs.Addresses.{node_address}
-use Rattle.bz_layout.specs.declared.config.Config.{Config}
 use Rattle.bz_layout.specs.declared.sizes.TheConstants.{STATUS_AT}
 use Rattle.bz_node.specs.declared.image.NodeImage.{NodeImage}
 use Rattle.bz_task.specs.Outcomes.{IsPath}
-use Rattle.bz_task.specs.Scene.{Scene, Waiting, IsScene, here}
+use Rattle.bz_task.specs.Scene.{Scene, Waiting, IsScene}
 use Rattle.bz_task.specs.declared.path.Link.{Link}
 use Rattle.bz_task.specs.declared.path.Path.{Path}
 use Rattle.bz_leaf.specs.Facts.{leaf_asks, leaf_facts, leaf_differs}
 use Rattle.bz_leaf.specs.declared.phase.Phase.{Phase}
-use Rattle.bz_leaf.specs.declared.phase.Phase.TheVariants.{Fresh, Status, Word, Again, Link as Of_link, Guard, Viewed, Changed}
+use Rattle.bz_leaf.specs.declared.phase.Phase.TheVariants.{Again, Link as Of_link, Guard}
 use Rattle.bz_alone.specs.Alone.{GoesOn}
 use Rattle.bz_alone.specs.Lookups.{IsLastLink, ReadingsGoOn}
 use Rattle.bz_alone.specs.Quiet.{IsQuietSince, ReadValuesStand, LonelyTimesAreQuiet}

@@ -1,8 +1,8 @@
 -- The swaps on a leaf's status and a metadata word: both have the values that were read of the leaf.
-use Rattle.std.proofs.Common.{◌≡◌, ℕ, ◌+◌, ◌<◌, ◌≤◌, List, [], ◌∷◌, true, arith, refl, sym, ap, subst, ◌∙◌, inl, inr}
+use Rattle.std.proofs.Common.{◌≡◌, ℕ, ◌+◌, ◌<◌, ◌≤◌, List, [], ◌∷◌, true, arith, sym, ap, subst, ◌∙◌, inl, inr}
 use Rattle.std.proofs.lemmas.List.Elements.{All-cons}
 use Rattle.bz_layout.specs.Addresses.{node_address}
-use Rattle.bz_layout.specs.declared.sizes.TheConstants.{NODE_WORDS, STATUS_AT, META_AT, SHARED_WORDS}
+use Rattle.bz_layout.specs.declared.sizes.TheConstants.{STATUS_AT, META_AT, SHARED_WORDS}
 use Rattle.bz_slotted.specs.Page.{page}
 use Rattle.bz_slotted.specs.Whole.{Whole}
 use Rattle.bz_word.specs.Metas.{meta_word}
@@ -17,7 +17,7 @@ use Rattle.bz_task.specs.Scene.{Scene, IsScene, here}
 use Rattle.bz_task.specs.Shown.{IsShown}
 use Rattle.bz_task.specs.Swaps.{Stand}
 use Rattle.bz_record.specs.Leaves.{WasLeaf}
-use Rattle.bz_record.specs.Replacing.{removal, WasRecord}
+use Rattle.bz_record.specs.Replacing.{WasRecord}
 use Rattle.bz_record.specs.Swaps.{entries_of, status_entry, meta_entry}
 use Rattle.bz_record.specs.declared.record_swap.RecordSwap.{RecordSwap}
 use Rattle.bz_word.specs.declared.meta.Extent.{Extent}
@@ -75,6 +75,6 @@ module _ (b : Laws) (s : Scene) (good : IsScene s) (m : ℕ) (q : IsQuietSince m
       two-stand (status_entry s.past.config w) (meta_entry s.past.config w) s
       (leaf-status b s good m q w.slot w.status was.moment was.leaf.leaf from)
       (meta-stands b s good m q w.slot w.status was.moment was.leaf.leaf from w.place w.meta
-        (omega (arith, was.counted, room b s good m q w.slot w.status was.moment was.leaf.leaf from))
-        (inl (omega (arith, was.counted, counted-as b s good m q w.slot w.status was.moment was.leaf.leaf from)))
-        (was.meta ∙ is))
+      (omega (arith, was.counted, room b s good m q w.slot w.status was.moment was.leaf.leaf from))
+      (inl (omega (arith, was.counted, counted-as b s good m q w.slot w.status was.moment was.leaf.leaf from)))
+      (was.meta ∙ is))

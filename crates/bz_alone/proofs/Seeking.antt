@@ -1,5 +1,5 @@
 -- A descent goes on: each inner node to which it comes was in the tree when it was met, and is not frozen.
-use Rattle.std.proofs.Common.{◌≡◌, ℕ, ◌+◌, List, refl, sym, ap, subst, ◌∙◌, true, false}
+use Rattle.std.proofs.Common.{◌≡◌, ℕ, ◌+◌, List, refl, sym, subst, ◌∙◌, false}
 use Rattle.std.proofs.lemmas.Bool.{true≢false}
 use Rattle.bz_layout.specs.Addresses.{node_address}
 use Rattle.bz_layout.specs.declared.sizes.TheConstants.{STATUS_AT}
@@ -11,7 +11,7 @@ use Rattle.bz_task.specs.declared.path.Path.{Path}
 use Rattle.bz_descend.specs.SeekFacts.{seek_asks, seek_facts, seek_differs}
 use Rattle.bz_descend.specs.Ways.{ArrivesAtInner}
 use Rattle.bz_descend.specs.declared.sight.Way.{Way}
-use Rattle.bz_descend.specs.declared.sight.Way.TheVariants.{Fresh, Guard, Root, Header, Status, Meta, Word, First, Pointer, Found, Changed}
+use Rattle.bz_descend.specs.declared.sight.Way.TheVariants.{Status}
 use Rattle.bz_alone.specs.Alone.{GoesOn}
 use Rattle.bz_alone.specs.Lookups.{SeeksGoOn}
 use Rattle.bz_alone.specs.Quiet.{IsQuietSince, ReadValuesStand, LonelyTimesAreQuiet}

@@ -1,11 +1,11 @@
 -- The split of a root leaf goes on: the root status that it looks at again is as it was read, and so are both words of its swap.
-use Rattle.std.proofs.Common.{◌≡◌, subst}
+use Rattle.std.proofs.Common.{subst}
 use Rattle.bz_task.specs.Scene.{Scene, Waiting, IsScene}
 use Rattle.bz_renew.specs.Renewals.{renewal}
 use Rattle.bz_split.specs.Duties.{split_of}
 use Rattle.bz_split.specs.Facts.{Split, split_asks, split_facts, split_differs}
 use Rattle.bz_split.specs.declared.phase.Phase.{Phase}
-use Rattle.bz_split.specs.declared.phase.Phase.TheVariants.{Fresh, Guard, Store, Flush, Swap, Done, Restart, NoSlot, NoSwap}
+use Rattle.bz_split.specs.declared.phase.Phase.TheVariants.{Guard, Swap}
 use Rattle.bz_alone.specs.Alone.{GoesOn}
 use Rattle.bz_alone.specs.Laws.{RootSplitsGoOn}
 use Rattle.bz_alone.specs.Quiet.{IsQuietSince}

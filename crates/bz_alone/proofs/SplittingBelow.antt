@@ -1,11 +1,11 @@
 -- The split of a leaf below a parent goes on: both guards that it looks at again are as they were read, and so are the words of its
 -- swap.
-use Rattle.std.proofs.Common.{◌≡◌, subst}
+use Rattle.std.proofs.Common.{subst}
 use Rattle.bz_task.specs.Scene.{Scene, Waiting, IsScene}
 use Rattle.bz_below.specs.Duties.{below_of}
 use Rattle.bz_below.specs.Facts.{Below, below_asks, below_facts, below_differs}
 use Rattle.bz_below.specs.declared.phase.Phase.{Phase}
-use Rattle.bz_below.specs.declared.phase.Phase.TheVariants.{Fresh, Word, Again, Guard, Store, Flush, Swap, Done, Restart, NoRoom, NoSlot, NoSwap}
+use Rattle.bz_below.specs.declared.phase.Phase.TheVariants.{Again, Guard, Swap}
 use Rattle.bz_split.specs.BelowSplits.{below_swap}
 use Rattle.bz_alone.specs.Alone.{GoesOn}
 use Rattle.bz_alone.specs.Laws.{SplitsBelowGoOn}

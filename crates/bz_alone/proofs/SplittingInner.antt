@@ -1,12 +1,12 @@
 -- The split of an inner node below a parent goes on: the three guards that it looks at again are as they were read, and so are the words
 -- of its swap.
-use Rattle.std.proofs.Common.{◌≡◌, subst}
+use Rattle.std.proofs.Common.{subst}
 use Rattle.bz_task.specs.Scene.{Scene, Waiting, IsScene}
 use Rattle.bz_branch.specs.InnerSplits.{inner_swap}
 use Rattle.bz_fork.specs.Duties.{fork_of}
 use Rattle.bz_fork.specs.Facts.{Fork, fork_asks, fork_facts, fork_differs}
 use Rattle.bz_fork.specs.declared.phase.Phase.{Phase}
-use Rattle.bz_fork.specs.declared.phase.Phase.TheVariants.{Fresh, Word, Again, Above, Check, Guard, Store, Flush, Swap, Done, Restart, NoRoom, NoSlot, NoSwap}
+use Rattle.bz_fork.specs.declared.phase.Phase.TheVariants.{Again, Check, Guard, Swap}
 use Rattle.bz_alone.specs.Alone.{GoesOn}
 use Rattle.bz_alone.specs.Laws.{InnerSplitsGoOn}
 use Rattle.bz_alone.specs.Quiet.{IsQuietSince}

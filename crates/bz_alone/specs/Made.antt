@@ -14,7 +14,7 @@ use Rattle.bz_mutate.specs.declared.update_phase.UpdatePhase.TheVariants.{Store 
 use Rattle.bz_record.specs.declared.new_record.NewRecord.{NewRecord}
 use Rattle.bz_running.specs.Duties.{facts_of}
 use Rattle.bz_running.specs.declared.running.Running.{Running}
-use Rattle.bz_running.specs.declared.running.Running.TheVariants.{Seeking, Finding, Reading, Inserting, Updating, Deleting, Freezing, Consolidating, Splitting, SplittingBelow, SplittingInner, SplittingInnerRoot, Merging}
+use Rattle.bz_running.specs.declared.running.Running.TheVariants.{Finding, Reading, Inserting, Updating, Merging}
 use Rattle.bz_task.specs.Scene.{Scene, Waiting}
 use Rattle.bz_task.specs.declared.view.KeyView.{KeyView}
 use Rattle.bz_merge.specs.Duties.{merging_of}
