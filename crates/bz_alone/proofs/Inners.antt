@@ -33,7 +33,8 @@ is a = grind (arith, nat_tests)
 apart : (a b : ℕ) → a ≢ b → (a == b) ≡ false
 apart a b ne = grind (arith, nat_tests)
 
-fits : Rules → (c : Config) (x : Instant) → IsGood c x → Fits (view_in c x.image) (form_at c x)
+-- a good memory is a tree, which has a form
+pub fits : Rules → (c : Config) (x : Instant) → IsGood c x → Fits (view_in c x.image) (form_at c x)
 fits b c x g =
     let w : IsWellFormed c x.image = (b.formed c x.image).0 g.form in
     b.forms (view_in c x.image) w.tree.one w.tree.tall w.tree.none

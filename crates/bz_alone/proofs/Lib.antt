@@ -19,3 +19,4 @@ mod Finding
 mod Changing
 mod Merging
 mod Tasks
+mod Trees

@@ -94,6 +94,17 @@ back alike c x y a q (inr (inr w)) =
       shown = (alike (words c x w.slot) (words c y w.slot) (same-records (words c x w.slot) (words c y w.slot) (q.nodes w.slot r)) w.place).1 w.shown;
     }))
 
+-- and nothing changes the other way either
+pub quiet-back : SameRecordsShowTheSame → (c : Config) (x y : Instant) → IsQuiet c x y → IsQuiet c y x
+quiet-back alike c x y q = record {
+  effects = sym q.effects;
+  reached = λ k. sym (q.reached k);
+  nodes = λ k r i h.
+      let was : x.reached k ≡ true = sym (q.reached k) ∙ r in
+      sym (q.nodes k was i ((alike (words c x k) (words c y k) (same-records (words c x k) (words c y k) (q.nodes k was)) i).1 h));
+  root = record { pointer = sym q.root.pointer; status = sym q.root.status };
+}
+
 pub read-values : QuietTimesStay → SameRecordsShowTheSame → ReadValuesStand
 read-values quiet alike s m k a good q in-k r i j in-i in-j =
     let p = s.past in

@@ -5,3 +5,4 @@ pub mod Lookups
 pub mod Made
 pub mod Quiet
 pub mod Tasks
+pub mod Trees

@@ -5,6 +5,7 @@ ghost use Rattle.bz_alone.specs.Laws.{FreezesGoOn, DeletesGoOn, ConsolidationsGo
 ghost use Rattle.bz_alone.specs.Lookups.{SeeksGoOn, FindsGoOn, ReadingsGoOn};
 ghost use Rattle.bz_alone.specs.Quiet.{EffectsNeverFall, QuietTimesStay, ReadValuesStand, LonelyTimesAreQuiet};
 ghost use Rattle.bz_alone.specs.Tasks.{LonersGoOn};
+ghost use Rattle.bz_alone.specs.Trees.{TreesStand};
 
 use bz_content::laws as content;
 use bz_shape::laws as shape;
@@ -36,6 +37,21 @@ pub fn lonely_times_are_quiet()
     ensures { LonelyTimesAreQuiet }
 {
     effects_never_fall();
+}
+
+/// In such a time the tree stands, and each key has the leaf that it had.
+pub fn trees_stand()
+    ensures { TreesStand }
+{
+    effects_never_fall();
+    quiet_times_stay();
+    content::well_formed_images_have_no_fault();
+    shape::trees_have_forms();
+    shape::leaves_tile_the_keys();
+    slotted::inner_rules_are_facts();
+    task::headers_say_the_level();
+    task::same_records_show_the_same();
+    task::ranges_stay();
 }
 
 /// A freeze goes on.
