@@ -20,3 +20,4 @@ mod Changing
 mod Merging
 mod Tasks
 mod Trees
+mod Leads

@@ -1,9 +1,9 @@
 -- In a quiet time the same slots are in the tree: from the root down each child pointer leads where it led.
-use Rattle.std.proofs.Common.{◌≡◌, ◌≢◌, ℕ, zero, suc, ◌+◌, ◌-◌, ◌<◌, ◌≤◌, ◌==◌, ◌⊎◌, if◌then◌else◌, Bool, true, false, List, arith, refl, sym, ap, subst, ◌∙◌, inl, inr}
-use Rattle.std.proofs.lemmas.Bool.{cases_lt, cases_eq, true≢false}
+use Rattle.std.proofs.Common.{◌≡◌, ◌≢◌, ℕ, zero, suc, ◌+◌, ◌-◌, ◌<◌, ◌≤◌, ◌==◌, if◌then◌else◌, Bool, true, false, List, arith, refl, sym, ap, subst, ◌∙◌, inl, inr}
+use Rattle.std.proofs.lemmas.Bool.{cases_lt, cases_eq}
 use Rattle.std.proofs.lemmas.Bool.Decides.{nat_tests}
 use Rattle.bz_layout.specs.declared.config.Config.{Config}
-use Rattle.bz_layout.specs.declared.sizes.TheConstants.{STATUS_AT, HEADER_AT}
+use Rattle.bz_layout.specs.declared.sizes.TheConstants.{HEADER_AT}
 use Rattle.bz_shape.specs.Form.{Fits, Stands, Hangs, Holds}
 use Rattle.bz_shape.specs.Order.{is_at_least, is_below}
 use Rattle.bz_shape.specs.TreeLaws.{LeavesTileTheKeys}
@@ -18,7 +18,7 @@ use Rattle.bz_task.specs.Instant.{Instant, words, durable, page_at, form_at, is_
 use Rattle.bz_task.specs.Laws.{RangesStay, SamePlace, SameRecordsShowTheSame}
 use Rattle.bz_task.specs.Scene.{Scene, IsScene}
 use Rattle.bz_task.specs.Steps.{IsQuiet}
-use Rattle.bz_alone.specs.Quiet.{EffectsNeverFall, QuietTimesStay, IsQuietSince, IsIn}
+use Rattle.bz_alone.specs.Quiet.{EffectsNeverFall, QuietTimesStay, IsQuietSince}
 use Rattle.bz_alone.specs.Trees.{SameTree, TreesStand}
 use Rattle.bz_alone.proofs.Inners.{Rules, fits}
 use Rattle.bz_alone.proofs.Quiet.{quiet-back}

@@ -5,7 +5,7 @@ ghost use Rattle.bz_alone.specs.Laws.{FreezesGoOn, DeletesGoOn, ConsolidationsGo
 ghost use Rattle.bz_alone.specs.Lookups.{SeeksGoOn, FindsGoOn, ReadingsGoOn};
 ghost use Rattle.bz_alone.specs.Quiet.{EffectsNeverFall, QuietTimesStay, ReadValuesStand, LonelyTimesAreQuiet};
 ghost use Rattle.bz_alone.specs.Tasks.{LonersGoOn};
-ghost use Rattle.bz_alone.specs.Trees.{TreesStand};
+ghost use Rattle.bz_alone.specs.Trees.{TreesStand, PathsLeadToLeaves};
 
 use bz_content::laws as content;
 use bz_shape::laws as shape;
@@ -52,6 +52,20 @@ pub fn trees_stand()
     task::headers_say_the_level();
     task::same_records_show_the_same();
     task::ranges_stay();
+}
+
+/// So a path that was found while the worker was alone leads to the leaf of its key now.
+pub fn paths_lead_to_leaves()
+    ensures { PathsLeadToLeaves }
+{
+    read_values_stand();
+    trees_stand();
+    lonely_times_are_quiet();
+    content::well_formed_images_have_no_fault();
+    shape::trees_have_forms();
+    shape::leaves_tile_the_keys();
+    slotted::inner_rules_are_facts();
+    task::headers_say_the_level();
 }
 
 /// A freeze goes on.
