@@ -1,8 +1,6 @@
 -- Whichever task it is, by the law of its own kind.
-use Rattle.std.proofs.Common.{subst}
 use Rattle.bz_running.specs.Duties.{config_of, asks_of, facts_of, differs_of}
 use Rattle.bz_running.specs.declared.running.Running.TheVariants.{Seeking, Finding, Reading, Inserting, Updating, Deleting, Freezing, Consolidating, Splitting, SplittingBelow, SplittingInner, SplittingInnerRoot, Merging}
-use Rattle.bz_alone.specs.Alone.{IsAlone}
 use Rattle.bz_alone.specs.Changes.{InsertsGoOn, UpdatesGoOn, MergesGoOn}
 use Rattle.bz_alone.specs.Laws.{FreezesGoOn, DeletesGoOn, ConsolidationsGoOn, RootSplitsGoOn, SplitsBelowGoOn, InnerSplitsGoOn, InnerRootSplitsGoOn}
 use Rattle.bz_alone.specs.Lookups.{SeeksGoOn, FindsGoOn, ReadingsGoOn}
@@ -38,4 +36,4 @@ loners-go-on b (Splitting t) s same good f k a = b.root_splits t s same good f a
 loners-go-on b (SplittingBelow t up) s same good f k a = b.splits_below t s same good f.0 a
 loners-go-on b (SplittingInner t up) s same good f k a = b.inner_splits t s same good f.0 a
 loners-go-on b (SplittingInnerRoot t up) s same good f k a = b.inner_root_splits t s same good f.0 a
-loners-go-on b (Merging t) s same good f k a = b.merges t s same good f (subst (λ z. IsAlone z s.past) k a)
+loners-go-on b (Merging t) s same good f k a = b.merges t s same good f k a

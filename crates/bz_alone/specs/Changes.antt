@@ -1,5 +1,5 @@
--- Tasks that ask for more than one swap go on where their worker is alone; an insert and an update after their first one too, where the
--- moment at which this is known to have changed the leaf is one after its effect.
+-- Tasks that ask for more than one swap go on where their worker is alone; after their first one too, where they know besides that what they
+-- know is later than its effect.
 use Rattle.std.specs.Prelude.{◌≡◌, ℕ, List}
 use Rattle.bz_word.specs.declared.meta.Extent.{Extent}
 use Rattle.bz_insert.specs.Duties as insert
@@ -15,8 +15,8 @@ use Rattle.bz_record.specs.Swaps.{entries_of, publication}
 use Rattle.bz_record.specs.declared.new_record.NewRecord.{NewRecord}
 use Rattle.bz_task.specs.Scene.{Scene, Waiting, IsScene, here}
 use Rattle.bz_task.specs.Swaps.{Stand}
-use Rattle.bz_alone.specs.Alone.{IsAlone, GoesOn, GoesOnAlone}
-use Rattle.bz_alone.specs.Made.{made_by_insert, made_by_update, HasSeenReservation, HasSeenGrowth}
+use Rattle.bz_alone.specs.Alone.{IsAlone, GoesOn}
+use Rattle.bz_alone.specs.Made.{made_by_insert, made_by_update, made_by_merge, HasSeenReservation, HasSeenGrowth, HasSeenFreezes}
 use Rattle.bz_alone.specs.Quiet.{HadEffects}
 
 abbrev pub InsertsGoOn : Type 0
@@ -29,9 +29,11 @@ UpdatesGoOn =
     (t : Update) (s : Scene) → s.past.config ≡ t.config → IsScene s → (f : update.facts_of t Waiting s) → HasSeenGrowth t.view t.added t.phase s f → IsAlone (made_by_update t.phase) s.past →
     GoesOn (update.asks_of t) (λ seen. ⊥) s
 
--- a merge, where no swap took effect at all
+-- a merge, which may freeze the two leaves before its swap
 abbrev pub MergesGoOn : Type 0
-MergesGoOn = (t : Merge) → GoesOnAlone 0 t.config (merge.asks_of t) (merge.facts_of t) (merge.differs_of t)
+MergesGoOn =
+    (t : Merge) (s : Scene) → s.past.config ≡ t.config → IsScene s → (f : merge.facts_of t Waiting s) → HasSeenFreezes (merge.merging_of t) (made_by_merge (merge.merging_of t) t.phase) s.past →
+    IsAlone (made_by_merge (merge.merging_of t) t.phase) s.past → GoesOn (merge.asks_of t) (merge.differs_of t) s
 
 -- the second swaps alone
 abbrev pub PublicationsStand : Type 0

@@ -1,5 +1,5 @@
 -- How many of its swaps a task that goes on was told to have taken effect, and what its facts would have to say besides of what they left.
-use Rattle.std.specs.Prelude.{◌≡◌, ℕ, ◌+◌, if◌then◌else◌, slice_index}
+use Rattle.std.specs.Prelude.{◌≡◌, ℕ, ◌+◌, ◌<◌, ◌⊎◌, if◌then◌else◌, slice_index}
 use Rattle.bz_layout.specs.declared.sizes.TheConstants.{STATUS_AT}
 use Rattle.bz_word.specs.Statuses.{status}
 use Rattle.bz_insert.specs.Facts.{insert_facts}
@@ -15,7 +15,8 @@ use Rattle.bz_record.specs.declared.new_record.NewRecord.{NewRecord}
 use Rattle.bz_running.specs.Duties.{facts_of}
 use Rattle.bz_running.specs.declared.running.Running.{Running}
 use Rattle.bz_running.specs.declared.running.Running.TheVariants.{Finding, Reading, Inserting, Updating, Merging}
-use Rattle.bz_task.specs.Scene.{Scene, Waiting}
+use Rattle.bz_task.specs.Instant.{words}
+use Rattle.bz_task.specs.Scene.{Past, Scene, Waiting}
 use Rattle.bz_task.specs.declared.view.KeyView.{KeyView}
 use Rattle.bz_merge.specs.Duties.{merging_of}
 use Rattle.bz_alone.specs.Lookups.{IsLastLink}
@@ -65,13 +66,27 @@ abbrev pub HasSeenGrowth : (v : KeyView) (r : NewRecord) (phase : UpdatePhase) (
 HasSeenGrowth v r (Replace f) s h = HadEffects 1 h.1.grown.was.moment s.past
 HasSeenGrowth v r phase s h = Unit {0}
 
+-- at a moment after so many effects the words that a merge still names were as it had read them: the upper link and its guard, the
+-- parent's status and, until the merge has frozen it too, the neighbour's
+pub record StoodAfter (r : MergeParts) (made : ℕ) (p : Past) : Type 0 where
+  pub moment : ℕ
+  pub had : HadEffects made moment p
+  pub link : (p.at moment).value r.upper.link ≡ r.upper.slot + 1
+  pub guard : (p.at moment).value r.upper.guard ≡ r.upper.status
+  pub parent : (p.at moment).value r.lower.guard ≡ r.lower.status
+  pub beside : made < both_freezes r → words p.config (p.at moment) r.beside_slot STATUS_AT ≡ slice_index r.beside STATUS_AT
+
+-- it has frozen nothing, or its own freezes left those words
+abbrev pub HasSeenFreezes : MergeParts → ℕ → Past → Type 0
+HasSeenFreezes r made p = (made ≡ 0) ⊎ StoodAfter r made p
+
 -- what the facts of these tasks do not say yet: that the link to a leaf that is read is the path's last one; that the first swap of an
--- insert or an update came before the moment of which it speaks; and what a merge's own freezes left, so that one that made any is left out
+-- insert or an update came before the moment of which it speaks; and what a merge's own freezes left
 unfoldable pub KnowsBesides : (t : Running) (s : Scene) → facts_of t Waiting s → Type 0
 unfolding facts_of
 KnowsBesides (Finding t) s f = IsLastLink t.path t.link
 KnowsBesides (Reading t) s f = IsLastLink t.path t.link
 KnowsBesides (Inserting t) s f = HasSeenReservation t.added t.phase s f
 KnowsBesides (Updating t) s f = HasSeenGrowth t.view t.added t.phase s f
-KnowsBesides (Merging t) s f = made_by_merge (merging_of t) t.phase ≡ 0
+KnowsBesides (Merging t) s f = HasSeenFreezes (merging_of t) (made_by_merge (merging_of t) t.phase) s.past
 KnowsBesides t s f = Unit {0}

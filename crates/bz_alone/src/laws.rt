@@ -222,6 +222,7 @@ pub fn merges_go_on()
 {
     read_values_stand();
     lonely_times_are_quiet();
+    task::fronts_stay();
     task::leaves_are_in_trees();
     slotted::leaf_rules_are_facts();
 }
