@@ -1,4 +1,4 @@
--- So does a look-up of a key in a leaf.
+-- A look-up of a key in a leaf goes on: what it looks at again is as it was.
 use Rattle.std.proofs.Common.{◌≡◌, ◌+◌, sym, ap, ◌∙◌}
 use Rattle.std.proofs.lemmas.Bool.{true≢false}
 use Rattle.bz_layout.specs.Addresses.{node_address}

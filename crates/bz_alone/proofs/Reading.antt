@@ -1,4 +1,4 @@
--- A reading of a leaf, and a look-up in one, go on: what they look at again is as it was.
+-- A reading of a leaf goes on: what it looks at again is as it was.
 use Rattle.std.proofs.Common.{ℕ, ◌+◌, List, sym, subst, ◌∙◌}
 use Rattle.std.proofs.lemmas.Bool.{true≢false}
 use Rattle.bz_layout.specs.Addresses.{node_address}

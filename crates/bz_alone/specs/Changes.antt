@@ -1,5 +1,5 @@
--- Tasks that ask for more than one swap go on where their worker is alone; after their first one too, where they know besides that what they
--- know is later than its effect.
+-- Tasks that ask for more than one swap go on where their worker is alone; after their first one too, where what they know of the words that
+-- they still name is of a moment after its effect.
 use Rattle.std.specs.Prelude.{◌≡◌, ℕ, List}
 use Rattle.bz_word.specs.declared.meta.Extent.{Extent}
 use Rattle.bz_insert.specs.Duties as insert
