@@ -1,0 +1,96 @@
+-- An insert and an update go on: the leaf has the status that was viewed, or that which their first swap gave it, and the metadata word is
+-- as it was.
+use Rattle.std.proofs.Common.{◌≡◌, ℕ, ◌+◌, ◌≤◌, List, [], ◌∷◌, arith, refl, ap, subst, inl, inr}
+use Rattle.bz_word.specs.Metas.{meta_word}
+use Rattle.bz_word.specs.Statements.{IsCodec}
+use Rattle.bz_word.specs.Statuses.{status_word, status, IsStatus, IsStatusWord}
+use Rattle.bz_word.specs.declared.meta.Extent.{Extent}
+use Rattle.bz_word.specs.declared.meta.Meta.TheVariants.{Reserved}
+use Rattle.bz_word.specs.declared.status.Status.{Status}
+use Rattle.bz_task.specs.Scene.{Scene, Waiting, IsScene, here}
+use Rattle.bz_task.specs.Steps.{next_stamp}
+use Rattle.bz_task.specs.Swaps.{Stand}
+use Rattle.bz_task.specs.declared.view.KeyView.{KeyView}
+use Rattle.bz_record.specs.Leaves.{WasLeaf, WasReserved}
+use Rattle.bz_record.specs.Records.{size_of, place_of, HasRoom, Fits}
+use Rattle.bz_record.specs.Replacing.{growth, replacement, WasGrown}
+use Rattle.bz_record.specs.Swaps.{entries_of, status_entry, meta_entry, reservation, publication, status_reserved}
+use Rattle.bz_record.specs.declared.new_record.NewRecord.{NewRecord}
+use Rattle.bz_insert.specs.Facts.{insert_asks, insert_facts}
+use Rattle.bz_insert.specs.declared.phase.Phase.{Phase}
+use Rattle.bz_insert.specs.declared.phase.Phase.TheVariants.{Reserve, Publish}
+use Rattle.bz_mutate.specs.UpdateFacts.{update_asks, update_facts}
+use Rattle.bz_mutate.specs.declared.update_phase.UpdatePhase.{UpdatePhase}
+use Rattle.bz_mutate.specs.declared.update_phase.UpdatePhase.TheVariants.{Grow, Replace}
+use Rattle.bz_alone.specs.Alone.{IsAlone, GoesOn}
+use Rattle.bz_alone.specs.Changes.{InsertsGoOn, UpdatesGoOn, PublicationsStand, ReplacementsStand}
+use Rattle.bz_alone.specs.Made.{made_by_insert, made_by_update, HasSeenReservation, HasSeenGrowth}
+use Rattle.bz_alone.specs.Quiet.{IsQuietSince}
+use Rattle.bz_alone.proofs.Basis.{Laws}
+use Rattle.bz_alone.proofs.Freezing.{one-stands}
+use Rattle.bz_alone.proofs.Going.{idles, swaps}
+use Rattle.bz_alone.proofs.Records.{two-stand, counted-as, blocked-as, leaf-status, meta-stands, free-word, swap-stands}
+
+abbrev pub Statuses : Type 0
+Statuses = IsCodec Status IsStatus IsStatusWord status_word status
+
+-- one record more is counted after a reservation
+reserved-count : Statuses → (r : NewRecord) → Fits r → (status (status_reserved r)).count ≡ (status r.status).count + 1
+reserved-count codec r f =
+    let st : Status = record (status r.status) { count = (status r.status).count + 1; block = (status r.status).block + size_of r; dead = (status r.status).dead + size_of r; stamp = next_stamp (status r.status).stamp } in
+    ap (λ z. z.count) (codec.value st (record { count = omega (arith, f.room.fits); block = omega (arith, f.room.fits); dead = omega (arith, f.room.fits, f.dead); stamp = omega arith }))
+
+module _ (b : Laws) (codec : Statuses) (s : Scene) (good : IsScene s) (m : ℕ) (q : IsQuietSince m s.past) where
+  -- the free metadata word, while the leaf is as it was viewed
+  reservation-stands : (r : NewRecord) (moment : ℕ) (w : WasLeaf r.slot r.status moment s.past) → m ≤ moment → HasRoom r.status (size_of r) → Stand (entries_of s.past.config (reservation r)) (here s)
+  reservation-stands r moment w from h =
+      two-stand (status_entry s.past.config (reservation r)) (meta_entry s.past.config (reservation r)) s
+      (leaf-status b s good m q r.slot r.status moment w from)
+      (meta-stands b s good m q r.slot r.status moment w from (status r.status).count 0 (omega (arith, h.fits))
+      (inr (inl (omega (arith, h.fits, blocked-as b s good m q r.slot r.status moment w from))))
+      (free-word b s good m q r.slot r.status moment w from (omega (arith, h.fits))))
+
+  pub publication-stands : (r : NewRecord) → Fits r → (was : WasReserved r s.past) → m ≤ was.moment → Stand (entries_of s.past.config (publication r)) (here s)
+  publication-stands r f was from =
+      two-stand (status_entry s.past.config (publication r)) (meta_entry s.past.config (publication r)) s
+      (leaf-status b s good m q r.slot (status_reserved r) was.moment was.leaf.leaf from)
+      (meta-stands b s good m q r.slot (status_reserved r) was.moment was.leaf.leaf from (status r.status).count (meta_word (Reserved (place_of r))) (omega (arith, f.room.fits))
+      (inl (omega (arith, counted-as b s good m q r.slot (status_reserved r) was.moment was.leaf.leaf from, reserved-count codec r f)))
+      was.meta)
+
+  growth-stands : (r : NewRecord) (moment : ℕ) (w : WasLeaf r.slot r.status moment s.past) → m ≤ moment → Stand (growth s.past.config r ∷ []) (here s)
+  growth-stands r moment w from = one-stands (growth s.past.config r) s (leaf-status b s good m q r.slot r.status moment w from)
+
+  pub replacement-stands : (r : NewRecord) (old : List ℕ) (place : ℕ) (e : Extent) (grown : WasGrown r old place e s.past) → m ≤ grown.was.moment → Stand (entries_of s.past.config (replacement r place e)) (here s)
+  replacement-stands r old place e grown from = swap-stands b s good m q (replacement r place e) r.key old e grown.was from refl
+
+module _ (b : Laws) (codec : Statuses) (s : Scene) (good : IsScene s) where
+  insert-goes : (r : NewRecord) (phase : Phase) (f : insert_facts r phase Waiting s) → HasSeenReservation r phase s f → IsAlone (made_by_insert phase) s.past → GoesOn (insert_asks s.past.config r phase) (λ seen. ⊥) s
+  insert-goes r Reserve f h a =
+      let v = f.1.viewed in
+      swaps (entries_of s.past.config (reservation r)) (λ seen. ⊥) s (reservation-stands b codec s good s.past.since (b.lonely.whole s good a) r v.moment v.leaf.leaf v.leaf.leaf.since f.1.room) (λ seen d. d)
+  insert-goes r Publish f h a =
+      let w = f.1.reserved in
+      swaps (entries_of s.past.config (publication r)) (λ seen. ⊥) s (publication-stands b codec s good w.moment (b.lonely.later s 1 w.moment good a h) r f.1.fits w (omega arith)) (λ seen d. d)
+  insert-goes r phase f h a = idles _ (λ seen. ⊥) s (λ entries e. absurd (cc)) (λ seen d. d)
+
+  update-goes : (v : KeyView) (r : NewRecord) (phase : UpdatePhase) (f : update_facts v r phase Waiting s) → HasSeenGrowth v r phase s f → IsAlone (made_by_update phase) s.past → GoesOn (update_asks s.past.config r phase) (λ seen. ⊥) s
+  update-goes v r (Grow f) k h a =
+      let w = k.1.was in
+      swaps (growth s.past.config r ∷ []) (λ seen. ⊥) s (growth-stands b codec s good s.past.since (b.lonely.whole s good a) r w.moment w.leaf.leaf w.leaf.leaf.since) (λ seen d. d)
+  update-goes v r (Replace f) k h a =
+      let g = k.1.grown in
+      swaps (entries_of s.past.config (replacement r f.place f.extent)) (λ seen. ⊥) s (replacement-stands b codec s good g.was.moment (b.lonely.later s 1 g.was.moment good a h) r k.1.pair.old f.place f.extent g (omega arith)) (λ seen d. d)
+  update-goes v r phase k h a = idles _ (λ seen. ⊥) s (λ entries e. absurd (cc)) (λ seen d. d)
+
+pub inserts-go-on : Laws → Statuses → InsertsGoOn
+inserts-go-on b codec t s same good f h a = subst (λ z. GoesOn (insert_asks z t.added t.phase) (λ seen. ⊥) s) same (insert-goes b codec s good t.added t.phase f h a)
+
+pub updates-go-on : Laws → Statuses → UpdatesGoOn
+updates-go-on b codec t s same good f h a = subst (λ z. GoesOn (update_asks z t.added t.phase) (λ seen. ⊥) s) same (update-goes b codec s good t.view t.added t.phase f h a)
+
+pub publications-stand : Laws → Statuses → PublicationsStand
+publications-stand b codec r s good f was a h = publication-stands b codec s good was.moment (b.lonely.later s 1 was.moment good a h) r f was (omega arith)
+
+pub replacements-stand : Laws → Statuses → ReplacementsStand
+replacements-stand b codec r old place e s good grown a h = replacement-stands b codec s good grown.was.moment (b.lonely.later s 1 grown.was.moment good a h) r old place e grown (omega arith)

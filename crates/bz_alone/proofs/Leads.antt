@@ -1,0 +1,65 @@
+-- The leaf at the end of a path is the one of its key.
+use Rattle.std.proofs.Common.{◌≡◌, ◌+◌, ◌-◌, arith, refl, sym, subst, ◌∙◌, inl, inr}
+use Rattle.bz_layout.specs.Addresses.{node_address}
+use Rattle.bz_layout.specs.declared.sizes.TheConstants.{HEADER_AT}
+use Rattle.bz_renew.proofs.Words.{node-at, and-left, and-right}
+use Rattle.bz_shape.specs.Form.{Holds}
+use Rattle.bz_shape.specs.Order.{is_at_least, is_below}
+use Rattle.bz_shape.specs.TreeLaws.{LeavesTileTheKeys}
+use Rattle.bz_shape.specs.Walk.{IsTree}
+use Rattle.bz_word.specs.Headers.{header}
+use Rattle.bz_content.specs.Content.{view_in, leaf_in}
+use Rattle.bz_task.specs.Good.{IsGood}
+use Rattle.bz_task.specs.Instant.{words, page_at, form_at}
+use Rattle.bz_task.specs.Outcomes.{IsLink, EndsAtLeaf}
+use Rattle.bz_task.specs.Scene.{Past}
+use Rattle.bz_alone.specs.Quiet.{IsQuietSince, IsRead, ReadValuesStand, LonelyTimesAreQuiet}
+use Rattle.bz_alone.specs.Trees.{TreesStand, PathsLeadToLeaves}
+use Rattle.bz_alone.proofs.Inners.{Rules}
+
+pub paths-lead : Rules → LeavesTileTheKeys → ReadValuesStand → TreesStand → LonelyTimesAreQuiet → PathsLeadToLeaves
+paths-lead b tiles values trees lonely s key path link good alone is last = now
+  where
+    p : Past
+    p = s.past
+
+    q : IsQuietSince s.past.since s.past
+    q = lonely.whole s good alone
+
+    on : IsLink key s.past link
+    on = is.links (path.depth - 1) link (omega (arith, is.some)) last
+
+    end : EndsAtLeaf s.past link
+    end = is.leaf (path.depth - 1) link (omega (arith, is.some)) last
+
+    good-then : IsGood s.past.config (s.past.at on.was)
+    good-then = good.history.good on.was on.since on.now
+
+    header-read : IsRead s.past.config (s.past.at end.was) (node_address s.past.config link.slot + HEADER_AT)
+    header-read = inr (inr (record { slot = link.slot; place = HEADER_AT; address = refl; within = omega arith; reached = end.reached; shown = inl (omega arith) }))
+
+    header-same : words s.past.config (s.past.at on.was) link.slot HEADER_AT ≡ words s.past.config (s.past.at end.was) link.slot HEADER_AT
+    header-same =
+        node-at s.past.config (s.past.at on.was).value link.slot HEADER_AT (omega arith)
+        ∙ (values s s.past.since end.was (node_address s.past.config link.slot + HEADER_AT) good q (record { from = end.since; to = end.now }) header-read on.was end.was (record { from = on.since; to = on.now }) (record { from = end.since; to = end.now })
+        ∙ sym (node-at s.past.config (s.past.at end.was).value link.slot HEADER_AT (omega arith)))
+
+    flat : (page_at s.past.config (s.past.at on.was) link.slot).level ≡ 0
+    flat = subst (λ z. (header z).level ≡ 0) (sym header-same) end.leaf
+
+    holds : Holds (form_at s.past.config (s.past.at on.was)) key link.slot
+    holds = record {
+      inside = on.inside;
+      leaf = sym (b.headers s.past.config (s.past.at on.was) link.slot good-then (λ e. absurd (omega (arith, e, on.slot))) on.inside).level ∙ flat;
+      low = and-left (is_at_least key ((form_at s.past.config (s.past.at on.was)).low link.slot)) (is_below key ((form_at s.past.config (s.past.at on.was)).high link.slot)) on.range;
+      high = and-right (is_at_least key ((form_at s.past.config (s.past.at on.was)).low link.slot)) (is_below key ((form_at s.past.config (s.past.at on.was)).high link.slot)) on.range;
+    }
+
+    tree : IsTree (view_in s.past.config (s.past.at on.was).image)
+    tree = ((b.formed s.past.config (s.past.at on.was).image).0 good-then.form).tree
+
+    then-leaf : leaf_in s.past.config (s.past.at on.was).image key ≡ link.slot
+    then-leaf = (tiles (view_in s.past.config (s.past.at on.was).image) tree key link.slot).0 holds
+
+    now : leaf_in s.past.config (s.past.at s.past.now).image key ≡ link.slot
+    now = (trees s s.past.since on.was s.past.now good q (record { from = on.since; to = on.now }) (record { from = good.begun; to = omega arith })).leaf key ∙ then-leaf

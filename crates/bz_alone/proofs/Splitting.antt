@@ -1,0 +1,22 @@
+-- The split of a root leaf goes on: the root status that it looks at again is as it was read, and so are both words of its swap.
+use Rattle.std.proofs.Common.{subst}
+use Rattle.bz_task.specs.Scene.{Scene, Waiting, IsScene}
+use Rattle.bz_renew.specs.Renewals.{renewal}
+use Rattle.bz_split.specs.Duties.{split_of}
+use Rattle.bz_split.specs.Facts.{Split, split_asks, split_facts, split_differs}
+use Rattle.bz_split.specs.declared.phase.Phase.{Phase}
+use Rattle.bz_split.specs.declared.phase.Phase.TheVariants.{Guard, Swap}
+use Rattle.bz_alone.specs.Alone.{GoesOn}
+use Rattle.bz_alone.specs.Laws.{RootSplitsGoOn}
+use Rattle.bz_alone.specs.Quiet.{IsQuietSince}
+use Rattle.bz_alone.proofs.Basis.{Laws}
+use Rattle.bz_alone.proofs.Going.{idles, reads, swaps}
+use Rattle.bz_alone.proofs.Links.{guard-same, renewal-stands}
+
+goes : Laws → (s : Scene) → IsScene s → IsQuietSince s.past.since s.past → (r : Split) (phase : Phase) → split_facts r phase Waiting s → GoesOn (split_asks s.past.config r phase) (split_differs r.link phase) s
+goes b s good q r Guard f = reads r.link.guard (split_differs r.link Guard) s (λ v a d. d (guard-same b.values s good q r.link v f.1.guard a))
+goes b s good q r Swap f = swaps (renewal r.link (r.slot 0)) (split_differs r.link Swap) s (renewal-stands b.values s good q r.link (r.slot 0) f.1.parted.guard) (λ seen d. d)
+goes b s good q r phase f = idles _ (split_differs r.link phase) s (λ entries e. absurd (cc)) (λ seen d. d)
+
+pub root-splits-go-on : Laws → RootSplitsGoOn
+root-splits-go-on b t s same good f a = subst (λ z. GoesOn (split_asks z (split_of t) t.phase) (split_differs t.link t.phase) s) same (goes b s good (b.lonely.whole s good a) (split_of t) t.phase f)

@@ -1,0 +1,28 @@
+-- The split of an inner node below a parent goes on: the three guards that it looks at again are as they were read, and so are the words
+-- of its swap.
+use Rattle.std.proofs.Common.{subst}
+use Rattle.bz_task.specs.Scene.{Scene, Waiting, IsScene}
+use Rattle.bz_branch.specs.InnerSplits.{inner_swap}
+use Rattle.bz_fork.specs.Duties.{fork_of}
+use Rattle.bz_fork.specs.Facts.{Fork, fork_asks, fork_facts, fork_differs}
+use Rattle.bz_fork.specs.declared.phase.Phase.{Phase}
+use Rattle.bz_fork.specs.declared.phase.Phase.TheVariants.{Again, Check, Guard, Swap}
+use Rattle.bz_alone.specs.Alone.{GoesOn}
+use Rattle.bz_alone.specs.Laws.{InnerSplitsGoOn}
+use Rattle.bz_alone.specs.Quiet.{IsQuietSince}
+use Rattle.bz_alone.proofs.Basis.{Laws}
+use Rattle.bz_alone.proofs.Going.{idles, reads, swaps}
+use Rattle.bz_alone.proofs.Links.{guard-same, inner-stands, open-below}
+
+goes : Laws → (s : Scene) → IsScene s → IsQuietSince s.past.since s.past → (r : Fork) (phase : Phase) → fork_facts r phase Waiting s → GoesOn (fork_asks s.past.config r phase) (fork_differs r.upper r.middle r.lower phase) s
+goes b s good q r Again f = reads r.lower.guard (fork_differs r.upper r.middle r.lower Again) s (λ v a d. d (guard-same b.values s good q r.lower v f.1.links.node.guard a))
+goes b s good q r Check f = reads r.middle.guard (fork_differs r.upper r.middle r.lower Check) s (λ v a d. d (guard-same b.values s good q r.middle v f.1.links.down.guard a))
+goes b s good q r Guard f = reads r.upper.guard (fork_differs r.upper r.middle r.lower Guard) s (λ v a d. d (guard-same b.values s good q r.upper v f.1.links.down.upper_guard a))
+goes b s good q r Swap f =
+    let l = f.1.planned.links in
+    swaps (inner_swap s.past.config r.upper r.middle r.lower (r.slot 0)) (fork_differs r.upper r.middle r.lower Swap) s
+    (inner-stands b.values s good q r.upper r.middle r.lower (r.slot 0) l.down.upper_guard (open-below s r.upper r.middle l.down) l.node) (λ seen d. d)
+goes b s good q r phase f = idles _ (fork_differs r.upper r.middle r.lower phase) s (λ entries e. absurd (cc)) (λ seen d. d)
+
+pub inner-splits-go-on : Laws → InnerSplitsGoOn
+inner-splits-go-on b t s same good f a = subst (λ z. GoesOn (fork_asks z (fork_of t) t.phase) (fork_differs t.upper t.middle t.lower t.phase) s) same (goes b s good (b.lonely.whole s good a) (fork_of t) t.phase f)

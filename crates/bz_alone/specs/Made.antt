@@ -1,0 +1,92 @@
+-- How many of its swaps a task that goes on was told to have taken effect, and what its facts would have to say besides of what they left.
+use Rattle.std.specs.Prelude.{◌≡◌, ℕ, ◌+◌, ◌<◌, ◌⊎◌, if◌then◌else◌, slice_index}
+use Rattle.bz_layout.specs.declared.sizes.TheConstants.{STATUS_AT}
+use Rattle.bz_word.specs.Statuses.{status}
+use Rattle.bz_insert.specs.Facts.{insert_facts}
+use Rattle.bz_insert.specs.declared.phase.Phase.{Phase as InsertPhase}
+use Rattle.bz_insert.specs.declared.phase.Phase.TheVariants.{Store as Stores, Flush as Flushes, Publish}
+use Rattle.bz_merge.specs.Plans.{Merging as MergeParts}
+use Rattle.bz_merge.specs.declared.phase.Phase.{Phase as MergePhase}
+use Rattle.bz_merge.specs.declared.phase.Phase.TheVariants.{FreezeBeside, Guard, Store as StoresBoth, Flush as FlushesBoth, Swap}
+use Rattle.bz_mutate.specs.UpdateFacts.{update_facts}
+use Rattle.bz_mutate.specs.declared.update_phase.UpdatePhase.{UpdatePhase}
+use Rattle.bz_mutate.specs.declared.update_phase.UpdatePhase.TheVariants.{Store as StoresAnew, Flush as FlushesAnew, Replace}
+use Rattle.bz_record.specs.declared.new_record.NewRecord.{NewRecord}
+use Rattle.bz_running.specs.Duties.{facts_of}
+use Rattle.bz_running.specs.declared.running.Running.{Running}
+use Rattle.bz_running.specs.declared.running.Running.TheVariants.{Finding, Reading, Inserting, Updating, Merging}
+use Rattle.bz_task.specs.Instant.{words}
+use Rattle.bz_task.specs.Scene.{Past, Scene, Waiting}
+use Rattle.bz_task.specs.declared.view.KeyView.{KeyView}
+use Rattle.bz_merge.specs.Duties.{merging_of}
+use Rattle.bz_alone.specs.Lookups.{IsLastLink}
+use Rattle.bz_alone.specs.Quiet.{HadEffects}
+
+-- an insert and an update have made their first swap from the first store on
+abbrev pub made_by_insert : InsertPhase → ℕ
+made_by_insert (Stores i) = 1
+made_by_insert (Flushes n) = 1
+made_by_insert Publish = 1
+made_by_insert phase = 0
+
+abbrev pub made_by_update : UpdatePhase → ℕ
+made_by_update (StoresAnew f i) = 1
+made_by_update (FlushesAnew f n) = 1
+made_by_update (Replace f) = 1
+made_by_update phase = 0
+
+-- a merge has frozen the viewed leaf, and the neighbour, where they were not frozen when they were read
+abbrev pub freezes_of : ℕ → ℕ
+freezes_of st = if (status st).frozen then 0 else 1
+
+abbrev pub both_freezes : MergeParts → ℕ
+both_freezes r = freezes_of r.status + freezes_of (slice_index r.beside STATUS_AT)
+
+abbrev pub made_by_merge : MergeParts → MergePhase → ℕ
+made_by_merge r FreezeBeside = freezes_of r.status
+made_by_merge r Guard = both_freezes r
+made_by_merge r (StoresBoth j) = both_freezes r
+made_by_merge r (FlushesBoth j) = both_freezes r
+made_by_merge r Swap = both_freezes r
+made_by_merge r phase = 0
+
+-- the others go on only before their one swap, if they ask for one
+unfoldable pub made_of : Running → ℕ
+made_of (Inserting t) = made_by_insert t.phase
+made_of (Updating t) = made_by_update t.phase
+made_of (Merging t) = made_by_merge (merging_of t) t.phase
+made_of t = 0
+
+-- the moment at which the leaf is known to have the first swap's words is one after its effect
+abbrev pub HasSeenReservation : (r : NewRecord) (phase : InsertPhase) (s : Scene) → insert_facts r phase Waiting s → Type 0
+HasSeenReservation r Publish s f = HadEffects 1 f.1.reserved.moment s.past
+HasSeenReservation r phase s f = Unit {0}
+
+abbrev pub HasSeenGrowth : (v : KeyView) (r : NewRecord) (phase : UpdatePhase) (s : Scene) → update_facts v r phase Waiting s → Type 0
+HasSeenGrowth v r (Replace f) s h = HadEffects 1 h.1.grown.was.moment s.past
+HasSeenGrowth v r phase s h = Unit {0}
+
+-- at a moment after so many effects the words that a merge still names were as it had read them: the upper link and its guard, the
+-- parent's status and, until the merge has frozen it too, the neighbour's
+pub record StoodAfter (r : MergeParts) (made : ℕ) (p : Past) : Type 0 where
+  pub moment : ℕ
+  pub had : HadEffects made moment p
+  pub link : (p.at moment).value r.upper.link ≡ r.upper.slot + 1
+  pub guard : (p.at moment).value r.upper.guard ≡ r.upper.status
+  pub parent : (p.at moment).value r.lower.guard ≡ r.lower.status
+  pub beside : made < both_freezes r → words p.config (p.at moment) r.beside_slot STATUS_AT ≡ slice_index r.beside STATUS_AT
+
+-- it has frozen nothing, or its own freezes left those words
+abbrev pub HasSeenFreezes : MergeParts → ℕ → Past → Type 0
+HasSeenFreezes r made p = (made ≡ 0) ⊎ StoodAfter r made p
+
+-- what the facts of these tasks do not say yet: that the link to a leaf that is read is the path's last one; that the first swap of an
+-- insert or an update came before the moment of which it speaks; and what a merge's own freezes left
+unfoldable pub KnowsBesides : (t : Running) (s : Scene) → facts_of t Waiting s → Type 0
+unfolding facts_of
+KnowsBesides (Finding t) s f = IsLastLink t.path t.link
+KnowsBesides (Reading t) s f = IsLastLink t.path t.link
+KnowsBesides (Inserting t) s f = HasSeenReservation t.added t.phase s f
+KnowsBesides (Updating t) s f = HasSeenGrowth t.view t.added t.phase s f
+KnowsBesides (Merging t) s f = HasSeenFreezes (merging_of t) (made_by_merge (merging_of t) t.phase) s.past
+KnowsBesides t s f = Unit {0}
