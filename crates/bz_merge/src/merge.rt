@@ -383,8 +383,7 @@ impl Merge {
             Phase::Fresh => self.phase = Phase::Word(1),
             Phase::Word(i) => {
                 self.read.0[i as usize] = word_in(seen);
-                let next = next_place(&self.read, i);
-                self.phase = after_word(next);
+                self.phase = after_word(next_place(&self.read, i));
             }
             Phase::Again => {
                 let next = self.told(seen);
@@ -392,10 +391,8 @@ impl Merge {
                 self.phase = next.phase;
             }
             Phase::Beside(i) => {
-                let word = word_in(seen);
-                self.beside = with_word(&self.beside, i, word);
-                let other = next_place(&self.beside, i);
-                self.phase = after_beside(other);
+                self.beside = with_word(&self.beside, i, word_in(seen));
+                self.phase = after_beside(next_place(&self.beside, i));
             }
             Phase::Parent => self.phase = self.checked(seen),
             Phase::Still => {
