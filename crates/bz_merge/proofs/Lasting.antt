@@ -19,7 +19,7 @@ use Rattle.bz_node.specs.Reading.{children_in}
 use Rattle.bz_join.specs.Parents.{joined_parent}
 use Rattle.bz_merge.specs.Merges.{StoodFrozen}
 use Rattle.bz_merge.specs.Plans.{Merging, viewed_leaf, IsViewed, IsReadingParent, LackedAt, IsTried, IsPaired, IsReadingBeside, IsChecked, IsPlanned}
-use Rattle.bz_merge.specs.Siblings.{WasWord, WereRead, WasParentNode, StoodBetween, SeenLeaf, WasSeen}
+use Rattle.bz_merge.specs.Siblings.{WasWord, WasReadOrFree, WereRead, WasParentNode, StoodBetween, SeenLeaf, WasSeen}
 
 -- a child pointer stays one, of the same child
 child-stays : (o n : Page) (place : ℕ) → o ≡ n → IsPointerPlace o place → IsPointerPlace n place
@@ -103,14 +103,19 @@ module _ (p q : Past) (c : Continues p q) where
   word-stays : (k i v m : ℕ) → WasWord k i v m p → WasWord k i v m q
   word-stays k i v m w = record { moment = w.moment; order = w.order; now = omega (arith, w.now, c.now); word = (λ t. words (c.config t) (c.at w.moment w.now t) k i) ∙ w.word }
 
+  free-stays : (k i m : ℕ) (read : List ℕ) → WasReadOrFree k i m read p → WasReadOrFree k i m read q
+  free-stays k i m read (inl w) = inl (word-stays k i (slice_index read i) m w)
+  free-stays k i m read (inr f) = inr f
+
   read-stays : (k m status place : ℕ) (read : List ℕ) → WereRead k m status place read p → WereRead k m status place read q
-  read-stays k m status place read v = record { size = v.size; first = v.first; rest = λ i some l. word-stays k i (slice_index read i) m (v.rest i some l) }
+  read-stays k m status place read v = record { size = v.size; first = v.first; rest = λ i some l. free-stays k i m read (v.rest i some l) }
 
   pub reading-stays : (r : Merging) (place : ℕ) → IsReadingParent r place p → IsReadingParent r place q
   unfolding viewed-stays
   reading-stays r place v = record {
     viewed = viewed-stays r.upper r.lower (viewed_leaf r) v.viewed;
     were = read-stays r.upper.slot v.viewed.guarded r.lower.status place r.read v.were;
+    blank = v.blank;
   }
 
   pub parent-stays : (k m : ℕ) (read : List ℕ) → m ≤ p.now → WasParentNode k m read p → WasParentNode k m read q
@@ -158,6 +163,7 @@ module _ (p q : Past) (c : Continues p q) where
     was = (λ t. words (c.config t) (c.at v.at v.now t) slot STATUS_AT) ∙ v.was;
     plain = v.plain;
     were = read-stays slot v.at (slice_index beside STATUS_AT) place beside v.were;
+    blank = v.blank;
   }
 
   pub checked-stays : (r : Merging) → IsChecked r p → IsChecked r q

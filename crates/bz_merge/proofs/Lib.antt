@@ -1,4 +1,5 @@
 mod FrozenLeaves
+mod FreeWords
 mod Standing
 mod Merging
 mod ReadingParents

@@ -5,11 +5,14 @@ use Rattle.std.proofs.lemmas.Bool.{cases_lt, cases_eq}
 use Rattle.std.proofs.lemmas.List.{get_or_past}
 use Rattle.bz_layout.specs.declared.config.Config.{Config}
 use Rattle.bz_layout.specs.declared.limits.TheConstants.{MAX_NODES}
-use Rattle.bz_layout.specs.declared.sizes.TheConstants.{NODE_WORDS, STATUS_AT}
+use Rattle.bz_layout.specs.declared.sizes.TheConstants.{NODE_WORDS, STATUS_AT, HEADER_AT}
 use Rattle.bz_shape.specs.Form.{Fits, Stands, Hangs}
+use Rattle.bz_slotted.specs.Laws.{InnerRulesAreFacts}
+use Rattle.bz_slotted.specs.Page.{page}
 use Rattle.bz_slotted.specs.Readers.{count_of, child_of}
 use Rattle.bz_slotted.specs.ReadingLaws.{node_of, WholeInnersAreReadable}
 use Rattle.bz_slotted.specs.Rules.{node_fault}
+use Rattle.bz_slotted.specs.Whole.{WholeInner}
 use Rattle.bz_content.specs.Content.{view_in, IsWellFormed}
 use Rattle.bz_content.specs.Image.{node}
 use Rattle.bz_content.specs.Restructures.{children_of}
@@ -22,13 +25,15 @@ use Rattle.bz_task.specs.declared.path.Link.{Link}
 use Rattle.bz_renew.proofs.Words.{node-at, node-past}
 use Rattle.bz_split.specs.BelowSplits.{AreLinksDown}
 use Rattle.bz_merge.specs.Merges.{low_in, high_in, WasLeafOnce}
-use Rattle.bz_merge.specs.Siblings.{WasWord, WereRead, WasParentNode, IsChildAt, ParentsReadWere, ChildrenStand}
+use Rattle.bz_merge.specs.Siblings.{WasWord, WasReadOrFree, WereRead, WasParentNode, IsChildAt, ParentsReadWere, ChildrenStand}
+use Rattle.bz_merge.proofs.FreeWords.{free-zero, free-alike, header-used}
 use Rattle.bz_merge.proofs.Standing.{Laws as Standing, not-equal, guard-is, leads, then-reached, then-inner, then-status, then-inside, below, same-place, level-one, fits, view-child, view-count, stands-at, slot-of, flat, low-is, high-is}
 
 -- the laws on which it rests
 pub record Laws : Type 0 where
   pub below : Standing
   pub nodes : NodesStay
+  pub rules : InnerRulesAreFacts
   pub readable : WholeInnersAreReadable
 
 module _ (b : Laws) (s : Scene) (upper lower : Link) (read : List ℕ) (good : IsScene s) (links : AreLinksDown upper lower s.past) (leaf : WasLeafOnce lower.slot s.past) (now : (here s).value lower.guard ≡ lower.status) (were : WereRead upper.slot links.guard.guarded lower.status NODE_WORDS read s.past) where
@@ -62,15 +67,48 @@ module _ (b : Laws) (s : Scene) (upper lower : Link) (read : List ℕ) (good : I
   status-now : words c (here s) p STATUS_AT ≡ lower.status
   status-now = node-at c (here s).value p STATUS_AT (omega arith) ∙ (ap (here s).value (sym (guard-is b.below s upper lower good links leaf now)) ∙ now)
 
+  p-below : p ≢ c.nodes
+  p-below = below b.below s upper lower good links leaf now
+
+  was-fits : Fits (view_in c was.image) (form_at c was)
+  was-fits = let w : IsWellFormed c was.image = (b.below.formed c was.image).0 was-good.form in b.below.forms (view_in c was.image) w.tree.one w.tree.tall w.tree.none
+
+  level-was : (form_at c was).level p ≡ 1
+  level-was = omega (arith, (same-place b.below s upper lower good links leaf now).level, level-one b.below s upper lower good links leaf now)
+
+  whole-was : node_fault c.nodes (node c was.image p) (durable c was p) ((form_at c was).level p) ((form_at c was).low p) ((form_at c was).high p) ≡ None
+  whole-was = rw (not-equal p c.nodes p-below) at (was-fits.whole p (then-inside b.below s upper lower good links leaf now) p-below)
+
+  facts : WholeInner c.nodes (node c was.image p) (page (durable c was p)) ((form_at c was).level p) ((form_at c was).low p) ((form_at c was).high p)
+  facts = (b.rules c.nodes (node c was.image p) (durable c was p) ((form_at c was).level p) ((form_at c was).low p) ((form_at c was).high p) (omega (arith, level-was))).0 whole-was
+
+  shown-was : (j : ℕ) → durable c was p j ≡ words c was p j
+  shown-was j = was-good.shown p j reached (inr (inr (inl inner)))
+
   -- each word that was read is that of the moment of the status
+  read-was : (j : ℕ) → WasWord p j (slice_index read j) g s.past → words c was p j ≡ slice_index read j
+  read-was j r =
+      let same : SameNode c was (s.past.at r.moment) p = b.nodes c s.past.at s.past.since s.past.now g r.moment s.past.now p good.history
+      (record { since = links.guard.since; order = omega (arith, links.guard.order, links.guard.now); until = omega arith }) r.order r.now reached (status-now ∙ sym status-was) in
+      sym (same j (inr (inr (inl inner)))) ∙ r.word
+
+  header-was : WasReadOrFree p HEADER_AT g read s.past → words c was p HEADER_AT ≡ slice_index read HEADER_AT
+  header-was (inl r) = read-was HEADER_AT r
+  header-was (inr f) = absurd (header-used (node_of read) f.0)
+
+  -- and a free one is 0 in both
+  rest-was : (j : ℕ) → WasReadOrFree p j g read s.past → words c was p j ≡ slice_index read j
+  rest-was j (inl r) = read-was j r
+  rest-was j (inr f) =
+      let status : durable c was p STATUS_AT ≡ slice_index read STATUS_AT = shown-was STATUS_AT ∙ (status-was ∙ sym were.first) in
+      let header : durable c was p HEADER_AT ≡ slice_index read HEADER_AT = shown-was HEADER_AT ∙ header-was (were.rest HEADER_AT (omega arith) (omega arith)) in
+      let zero : durable c was p j ≡ 0 = free-zero (durable c was p) ((form_at c was).low p) ((form_at c was).high p) j facts.filled facts.fences (free-alike (node_of read) (durable c was p) j status header f.0) in
+      sym (shown-was j) ∙ (zero ∙ sym f.1)
+
   word-was : (j : ℕ) → j < NODE_WORDS → words c was p j ≡ slice_index read j
   word-was j l = elim (cases_eq j 0) [
     | inl e ↦ subst (λ z. words c was p z ≡ slice_index read z) (sym e) (status-was ∙ sym were.first)
-    | inr ne ↦ (
-        let r : WasWord p j (slice_index read j) g s.past = were.rest j (omega (arith, ne)) l in
-        let same : SameNode c was (s.past.at r.moment) p = b.nodes c s.past.at s.past.since s.past.now g r.moment s.past.now p good.history
-        (record { since = links.guard.since; order = omega (arith, links.guard.order, links.guard.now); until = omega arith }) r.order r.now reached (status-now ∙ sym status-was) in
-        sym (same j (inr (inr (inl inner)))) ∙ r.word)
+    | inr ne ↦ rest-was j (were.rest j (omega (arith, ne)) l)
   ]
 
   words-were : words c was p ≡ node_of read
@@ -82,20 +120,8 @@ module _ (b : Laws) (s : Scene) (upper lower : Link) (read : List ℕ) (good : I
         | inr l ↦ node-past c was.value p j l ∙ sym (get_or_past read j 0 (omega (arith, l, were.size)))
       ]
 
-  p-below : p ≢ c.nodes
-  p-below = below b.below s upper lower good links leaf now
-
-  was-fits : Fits (view_in c was.image) (form_at c was)
-  was-fits = let w : IsWellFormed c was.image = (b.below.formed c was.image).0 was-good.form in b.below.forms (view_in c was.image) w.tree.one w.tree.tall w.tree.none
-
-  level-was : (form_at c was).level p ≡ 1
-  level-was = omega (arith, (same-place b.below s upper lower good links leaf now).level, level-one b.below s upper lower good links leaf now)
-
   alike : durable c was p ≡ node_of read
-  alike = (λ t k. was-good.shown p k reached (inr (inr (inl inner))) t) ∙ words-were
-
-  whole-was : node_fault c.nodes (node c was.image p) (durable c was p) ((form_at c was).level p) ((form_at c was).low p) ((form_at c was).high p) ≡ None
-  whole-was = rw (not-equal p c.nodes p-below) at (was-fits.whole p (then-inside b.below s upper lower good links leaf now) p-below)
+  alike = (λ t k. shown-was k t) ∙ words-were
 
   whole : node_fault c.nodes (node c was.image p) (node_of read) ((form_at c was).level p) ((form_at c was).low p) ((form_at c was).high p) ≡ None
   whole = subst (λ n. node_fault c.nodes (node c was.image p) n ((form_at c was).level p) ((form_at c was).low p) ((form_at c was).high p) ≡ None) alike whole-was

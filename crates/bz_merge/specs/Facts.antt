@@ -108,13 +108,13 @@ merge_needs FreezeBeside = MERGE_SLOTS
 merge_needs Guard = MERGE_SLOTS
 merge_needs phase = 0
 
--- after a word of the parent comes the next one, or its status once more; after one of the neighbour the next one, or the parent's
--- status
+-- after a word of the parent comes the next one that is read, or its status once more; after one of the neighbour the next one, or
+-- the parent's status
 abbrev pub word_after : ℕ → Phase
-word_after i = if nat_lt (i + 1) NODE_WORDS then Word (i + 1) else Again
+word_after next = if nat_lt next NODE_WORDS then Word next else Again
 
 abbrev pub beside_after : ℕ → Phase
-beside_after i = if nat_lt (i + 1) NODE_WORDS then Beside (i + 1) else Parent
+beside_after next = if nat_lt next NODE_WORDS then Beside next else Parent
 
 -- after a store comes the next one, or the first flush; after a flush the next one, or the swap
 abbrev pub store_after : ℕ → Phase

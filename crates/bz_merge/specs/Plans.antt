@@ -70,10 +70,11 @@ pub record IsViewed (upper lower : Link) (own : SeenLeaf) (p : Past) : Type 0 wh
   pub high : Option (List ℕ)
   pub seen : WasSeen own at low high p
 
--- the parent's words before a place were read
+-- the parent's words before a place were read, and none from there on
 pub record IsReadingParent (r : Merging) (place : ℕ) (p : Past) : Type 0 where
   pub viewed : IsViewed r.upper r.lower (viewed_leaf r) p
   pub were : WereRead r.upper.slot viewed.guarded r.lower.status place r.read p
+  pub blank : (i : ℕ) → place ≤ i → slice_index r.read i ≡ 0
 
 -- child j of a parent with these words was seen as a leaf which has too many live words to be merged with this one
 pub record LackedAt (read leaf : List ℕ) (j : ℕ) (p : Past) : Type 0 where
@@ -96,7 +97,7 @@ pub record IsPaired (r : Merging) (p : Past) : Type 0 where
   pub pair : IsPair r.read r.lower.slot r.right r.place r.beside_slot
   pub tried : IsTried r.read r.leaf r.right r.place p
 
--- the neighbour's status was read at moment `at`, and its words before a place from then on
+-- the neighbour's status was read at moment `at`, and its words before a place from then on, and none from there on
 pub record IsReadingBeside (slot : ℕ) (beside : List ℕ) (place : ℕ) (p : Past) : Type 0 where
   pub at : ℕ
   pub since : p.since ≤ at
@@ -105,6 +106,7 @@ pub record IsReadingBeside (slot : ℕ) (beside : List ℕ) (place : ℕ) (p : P
   pub was : words p.config (p.at at) slot STATUS_AT ≡ slice_index beside STATUS_AT
   pub plain : slice_index beside STATUS_AT < 2 ^ 61
   pub were : WereRead slot at (slice_index beside STATUS_AT) place beside p
+  pub blank : (i : ℕ) → place ≤ i → slice_index beside i ≡ 0
 
 -- after that the parent's status was found again: both stood below it at moment `moment`
 pub record IsChecked (r : Merging) (p : Past) : Type 0 where

@@ -1,5 +1,5 @@
 -- The parent and a neighbour of a leaf, read word by word: what they are where their statuses are found again.
-use Rattle.std.specs.Prelude.{◌≡◌, ℕ, ◌^◌, ◌<◌, ◌≤◌, true, List, Option, None, length, slice_index}
+use Rattle.std.specs.Prelude.{◌≡◌, ℕ, ◌^◌, ◌<◌, ◌≤◌, ◌⊎◌, true, List, Option, None, length, slice_index}
 use Rattle.bz_layout.specs.declared.limits.TheConstants.{MAX_NODES}
 use Rattle.bz_layout.specs.declared.sizes.TheConstants.{NODE_WORDS, STATUS_AT}
 use Rattle.bz_slotted.specs.Readers.{count_of, child_of, found_of}
@@ -10,6 +10,7 @@ use Rattle.bz_task.specs.Instant.{words, form_at, is_inside}
 use Rattle.bz_task.specs.Scene.{Past, Scene, IsScene, here}
 use Rattle.bz_task.specs.declared.path.Link.{Link}
 use Rattle.bz_split.specs.BelowSplits.{AreLinksDown}
+use Rattle.bz_merge.specs.FreeWords.{IsFree}
 use Rattle.bz_merge.specs.Merges.{low_in, high_in, WasLeafOnce}
 
 -- word i of slot k was this at a moment from m on
@@ -19,11 +20,15 @@ pub record WasWord (k i v m : ℕ) (p : Past) : Type 0 where
   pub now : moment ≤ p.now
   pub word : words p.config (p.at moment) k i ≡ v
 
--- the words of slot k before a place were read, the status at moment m and the others from then on
+-- of the words of a node word i is the one of slot k at a moment from m on; or it is free, and 0
+abbrev pub WasReadOrFree : (k i m : ℕ) (read : List ℕ) (p : Past) → Type 0
+WasReadOrFree k i m read p = WasWord k i (slice_index read i) m p ⊎ (IsFree (node_of read) i × (slice_index read i ≡ 0))
+
+-- the words of slot k before a place were read but for the free ones, the status at moment m and the others from then on
 pub record WereRead (k m status place : ℕ) (read : List ℕ) (p : Past) : Type 0 where
   pub size : length read ≡ NODE_WORDS
   pub first : slice_index read STATUS_AT ≡ status
-  pub rest : (i : ℕ) → 0 < i → i < place → WasWord k i (slice_index read i) m p
+  pub rest : (i : ℕ) → 0 < i → i < place → WasReadOrFree k i m read p
 
 -- at moment m slot k had these words, which break no rule at its level between its bounds, and can be read as children
 pub record WasParentNode (k m : ℕ) (read : List ℕ) (p : Past) : Type 0 where
@@ -48,8 +53,8 @@ pub record IsChildAt (read : List ℕ) (slot i : ℕ) : Type 0 where
   pub there : child_of (node_of read) i ≡ slot
   pub only : (j : ℕ) → j < count_of (node_of read) → child_of (node_of read) j ≡ slot → j ≡ i
 
--- where all words of the parent were read, and its status is found again, they are those of the moment of the status, and tell
--- where the leaf is
+-- where all words of the parent were read but for the free ones, and its status is found again, they are those of the moment of the
+-- status, and tell where the leaf is
 abbrev pub ParentsReadWere : Type 0
 ParentsReadWere =
     (s : Scene) (upper lower : Link) (read : List ℕ) → IsScene s → (links : AreLinksDown upper lower s.past) → WasLeafOnce lower.slot s.past → (here s).value lower.guard ≡ lower.status →

@@ -42,6 +42,7 @@ pub fn parents_read_were()
 {
     content::well_formed_images_have_no_fault();
     shape::trees_have_forms();
+    slotted::inner_rules_are_facts();
     slotted::whole_inners_are_readable();
     laws::nodes_stay();
     laws::ranges_stay();
@@ -52,6 +53,7 @@ pub fn parents_read_were()
 pub fn leaves_read_were()
     ensures { LeavesReadWere }
 {
+    slotted::leaf_rules_are_facts();
     laws::nodes_stay();
     laws::same_records_show_the_same();
     laws::seen_leaves_are_whole();

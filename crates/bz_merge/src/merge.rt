@@ -1,6 +1,6 @@
 //! The task that merges two sibling leaves.
 
-ghost use Rattle.std.specs.Prelude.{◌≡◌, ◌≢◌, ◌↔◌, ◌+◌, ◌-◌, ◌<◌, ◌≤◌, ◌^◌, ◌⊎◌, ℕ, List, Option, Some, None, IsTrue, true, false, slice_get, slice_index, length};
+ghost use Rattle.std.specs.Prelude.{◌≡◌, ◌≢◌, ◌↔◌, ◌+◌, ◌-◌, ◌<◌, ◌≤◌, ◌^◌, ◌⊎◌, ℕ, List, Option, Some, None, IsTrue, true, false, slice_get, slice_index, slice_set, length};
 ghost use Rattle.bz_layout.specs.declared.sizes.TheConstants.{NODE_WORDS};
 ghost use Rattle.bz_layout.specs.Config.{IsConfig};
 ghost use Rattle.bz_layout.specs.declared.thresholds.TheConstants.{MERGE_SLOTS, SPLIT_ABOVE};
@@ -25,6 +25,7 @@ use crate::freeze::freeze_of;
 use crate::laws::{leaves_read_were, merges_are_good, parents_read_were};
 use crate::links::upper_link;
 use crate::phase::Phase;
+use crate::place::next_place;
 use crate::seen::{is_frozen, is_read, word_in};
 use crate::sibling::{Sibling, left_of, right_of};
 use crate::slots::take_two;
@@ -382,7 +383,7 @@ impl Merge {
             Phase::Fresh => self.phase = Phase::Word(1),
             Phase::Word(i) => {
                 self.read.0[i as usize] = word_in(seen);
-                self.phase = after_word(i);
+                self.phase = after_word(next_place(&self.read, i));
             }
             Phase::Again => {
                 let next = self.told(seen);
@@ -390,8 +391,8 @@ impl Merge {
                 self.phase = next.phase;
             }
             Phase::Beside(i) => {
-                self.beside.0[i as usize] = word_in(seen);
-                self.phase = after_beside(i);
+                self.beside = with_word(&self.beside, i, word_in(seen));
+                self.phase = after_beside(next_place(&self.beside, i));
             }
             Phase::Parent => self.phase = self.checked(seen),
             Phase::Still => {
@@ -465,31 +466,48 @@ impl Merge {
 fn first_word(status: u64) -> NodeImage
     ensures first { slice_index result.0 0 ≡ status }
     ensures size { length result.0 ≡ NODE_WORDS }
+    ensures blank { (i : ℕ) → 0 < i → slice_index result.0 i ≡ 0 }
 {
     let mut words = [0; NODE_WORDS as usize];
     words[0] = status;
     NodeImage(words)
 }
 
-// The phase after the load of a word of the parent: that of the next one, or its status once more.
-fn after_word(i: u32) -> Phase
+// The words that were read of a neighbour, with one more; with the first one they begin anew.
+fn with_word(read: &NodeImage, i: u32, word: u64) -> NodeImage
     requires { i < NODE_WORDS }
-    ensures { result ≡ word_after i }
+    ensures size { length result.0 ≡ NODE_WORDS }
+    ensures first { i ≡ 0 → slice_index result.0 0 ≡ word }
+    ensures blank { i ≡ 0 → (j : ℕ) → 0 < j → slice_index result.0 j ≡ 0 }
+    ensures later { 0 < i → result.0 ≡ slice_set read.now.0 i word }
 {
-    if i + 1 < NODE_WORDS {
-        Phase::Word(i + 1)
+    if i == 0 {
+        return first_word(word);
+    }
+    let mut words = read.0;
+    words[i as usize] = word;
+    NodeImage(words)
+}
+
+// The phase after the load of a word of the parent: that of the next one that is read, or its status once more.
+fn after_word(next: u32) -> Phase
+    requires { next ≤ NODE_WORDS }
+    ensures { result ≡ word_after next }
+{
+    if next < NODE_WORDS {
+        Phase::Word(next)
     } else {
         Phase::Again
     }
 }
 
-// The phase after the load of a word of the neighbour: that of the next one, or the parent's status.
-fn after_beside(i: u32) -> Phase
-    requires { i < NODE_WORDS }
-    ensures { result ≡ beside_after i }
+// The phase after the load of a word of the neighbour: that of the next one that is read, or the parent's status.
+fn after_beside(next: u32) -> Phase
+    requires { next ≤ NODE_WORDS }
+    ensures { result ≡ beside_after next }
 {
-    if i + 1 < NODE_WORDS {
-        Phase::Beside(i + 1)
+    if next < NODE_WORDS {
+        Phase::Beside(next)
     } else {
         Phase::Parent
     }

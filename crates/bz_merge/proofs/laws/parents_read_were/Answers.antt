@@ -5,6 +5,7 @@ pub returns-clause-read : goal.returns-clause-read
 returns-clause-read c = parents-read (record {
   below = record { formed = c.well_formed_images_have_no_fault.ensures; forms = c.trees_have_forms.ensures; stand = c.guarded_links_stand.ensures; ranges = c.ranges_stay.ensures };
   nodes = c.nodes_stay.ensures;
+  rules = c.inner_rules_are_facts.ensures;
   readable = c.whole_inners_are_readable.ensures;
 })
 

@@ -46,18 +46,24 @@ returns-in-Word-clause-learns c stage s same good free facts tells =
     let t = c.args.self.now in
     let i = c.in-Word.i in
     let v = c.word_in.result in
+    let n = c.next_place in
     subst (λ z. merge_facts (with_read (merging_of t) (slice_set t.read.0 i v)) z Waiting (gained s c.args.slots.now c.args.slots.now)) (sym c.after_word-self.ensures)
-    (no-slot c.nothing_is_gained.ensures (with_read (merging_of t) (slice_set t.read.0 i v)) s c.args.slots.now (word_after i)
-    (word-known t.config (merging_of t) i v stage c.args.seen s same good c.word_in.ensures (subst (λ z. merge_facts (merging_of t) z stage s) c.in-Word.is facts) (subst (λ z. Tells (merge_asks t.config (merging_of t) z) stage c.args.seen s) c.in-Word.is tells)))
+    (no-slot c.nothing_is_gained.ensures (with_read (merging_of t) (slice_set t.read.0 i v)) s c.args.slots.now (word_after n.result)
+    (word-known t.config (merging_of t) i n.result v stage c.args.seen s same good n.ensures.after n.ensures.within n.ensures.skipped
+    c.word_in.ensures (subst (λ z. merge_facts (merging_of t) z stage s) c.in-Word.is facts) (subst (λ z. Tells (merge_asks t.config (merging_of t) z) stage c.args.seen s) c.in-Word.is tells)))
 
 pub returns-in-Beside-clause-learns : goal.returns-in-Beside-clause-learns
 returns-in-Beside-clause-learns c stage s same good free facts tells =
     let t = c.args.self.now in
     let i = c.in-Beside.i in
     let v = c.word_in-in-Beside.result in
-    subst (λ z. merge_facts (with_beside (merging_of t) (slice_set t.beside.0 i v)) z Waiting (gained s c.args.slots.now c.args.slots.now)) (sym c.after_beside-self.ensures)
-    (no-slot c.nothing_is_gained.ensures (with_beside (merging_of t) (slice_set t.beside.0 i v)) s c.args.slots.now (beside_after i)
-    (beside-known c.fronts_stay.ensures t.config (merging_of t) i v stage c.args.seen s same good c.is_whole.ensures c.word_in-in-Beside.ensures (subst (λ z. merge_facts (merging_of t) z stage s) c.in-Beside.is facts) (subst (λ z. Tells (merge_asks t.config (merging_of t) z) stage c.args.seen s) c.in-Beside.is tells)))
+    let w = c.with_word-self in
+    let n = c.next_place-in-Beside in
+    subst (λ z. merge_facts (with_beside (merging_of t) w.result.0) z Waiting (gained s c.args.slots.now c.args.slots.now)) (sym c.after_beside-self.ensures)
+    (no-slot c.nothing_is_gained.ensures (with_beside (merging_of t) w.result.0) s c.args.slots.now (beside_after n.result)
+    (beside-known c.fronts_stay.ensures t.config (merging_of t) i n.result v w.result.0 stage c.args.seen s same good
+    (record { size = w.ensures.size; first = w.ensures.first; blank = w.ensures.blank; later = w.ensures.later }) n.ensures.after n.ensures.within n.ensures.skipped
+    c.word_in-in-Beside.ensures (subst (λ z. merge_facts (merging_of t) z stage s) c.in-Beside.is facts) (subst (λ z. Tells (merge_asks t.config (merging_of t) z) stage c.args.seen s) c.in-Beside.is tells)))
 
 pub returns-in-Again-clause-ready : goal.returns-in-Again-clause-ready
 returns-in-Again-clause-ready c =
