@@ -73,7 +73,7 @@ module _ (upper lower : Link) (left right sep : List ℕ) (s : Scene) (good : Is
 abbrev turned_by : Scene → Below → List Entry
 turned_by s r = below_swap s.past.config (with_guard r.upper r.guard) r.lower (r.slot 0)
 
-may-swap : LinksMayBeTurned → IsCodec Status IsStatus IsStatusWord status_word status → (r : Below) (s : Scene) → IsScene s → IsSplittingBelow r SPLIT_WORDS SPLIT_LINES s → WasNamed r.upper r.guard s.past → All (IsEntryToAsk s) (turned_by s r)
+may-swap : LinksMayBeTurned → IsCodec Status IsStatus IsStatusWord status_word status → (r : Below) (s : Scene) → IsScene s → IsSplittingBelow r SPLIT_WORDS SPLIT_LINES s → WasNamed r.upper r.guard (below_nodes r) s.past → All (IsEntryToAsk s) (turned_by s r)
 may-swap turned codec r s good f w =
     let v = f.planned.parted in
     let t : IsTurnable r.upper s = turned s r.upper good v.links.upper_guard v.links.upper_thawed in
@@ -202,7 +202,7 @@ module _ (wholes : ParentsOfHalvesAreWhole) (r : Below) (s : Scene) (good : IsSc
   }
 
   -- the upper link with the guard that is named, where the swap finds what it names
-  module _ (w : WasNamed r.upper r.guard s.past) (stand : Stand (turned_by s r) (here s)) where
+  module _ (w : WasNamed r.upper r.guard (below_nodes r) s.past) (stand : Stand (turned_by s r) (here s)) where
     leads-now : (here s).value r.upper.link ≡ r.upper.slot + 1
     leads-now =
         let u : Link = with_guard r.upper r.guard in

@@ -1,16 +1,15 @@
 -- The three nodes are words that may be stored, and what is known once their slots are taken.
-use Rattle.std.proofs.Common.{◌≡◌, ◌≢◌, ℕ, zero, suc, ◌+◌, ◌<◌, false, arith, sym, ap, subst, ◌∙◌, inl, inr}
+use Rattle.std.proofs.Common.{◌≡◌, ◌≢◌, ℕ, zero, suc, ◌+◌, ◌<◌, false, arith, sym, subst, ◌∙◌, inl, inr}
 use Rattle.std.specs.Prelude.{length, All}
 use Rattle.bz_layout.specs.Addresses.{node_address, SlotsApart}
 use Rattle.bz_layout.specs.Slots.{FreeSlots}
 use Rattle.bz_layout.specs.declared.limits.TheConstants.{MAX_NODES}
 use Rattle.bz_layout.specs.declared.sizes.TheConstants.{NODE_WORDS, STATUS_AT}
 use Rattle.bz_node.specs.Reading.{children_in}
-use Rattle.bz_task.specs.Instant.{form_at}
 use Rattle.bz_task.specs.Laws.{NothingIsGained}
 use Rattle.bz_task.specs.Outcomes.{IsGuarded, IsUnderRoot, IsUnderNode}
 use Rattle.bz_task.specs.OwnActs.{AreUnreached, gained}
-use Rattle.bz_task.specs.Scene.{Scene, Waiting, IsScene, HasFilled, here}
+use Rattle.bz_task.specs.Scene.{Scene, Waiting, IsScene, HasFilled}
 use Rattle.bz_task.specs.declared.path.Link.{Link}
 use Rattle.bz_word.specs.Statuses.{status}
 use Rattle.bz_halves.specs.Parents.{parted, ChildrenMayBeParted}

@@ -1,5 +1,5 @@
 -- What the last look at the guard of the link to the parent leads to, and teaches.
-use Rattle.std.proofs.Common.{◌≡◌, ◌≢◌, ℕ, ◌+◌, ◌<◌, ◌^◌, Bool, true, false, arith, refl, sym, ap, subst, ◌∙◌, inr}
+use Rattle.std.proofs.Common.{◌≡◌, ◌≢◌, ℕ, ◌+◌, ◌<◌, ◌^◌, Bool, true, false, arith, refl, sym, subst, ◌∙◌, inr}
 use Rattle.bz_layout.specs.Addresses.{node_address}
 use Rattle.bz_layout.specs.Slots.{FreeSlots}
 use Rattle.bz_layout.specs.declared.config.Config.{Config}
@@ -47,7 +47,7 @@ swap-ready turned r v s good plain f =
     }
 
 -- the guard as it is now
-was-named : LinksStandOn → (r : Below) (v : ℕ) (s : Scene) → IsScene s → IsSplittingBelow r SPLIT_WORDS SPLIT_LINES s → Answers s r.upper.guard v → (status v).frozen ≡ false → WasNamed r.upper v s.past
+was-named : LinksStandOn → (r : Below) (v : ℕ) (s : Scene) → IsScene s → IsSplittingBelow r SPLIT_WORDS SPLIT_LINES s → Answers s r.upper.guard v → (status v).frozen ≡ false → WasNamed r.upper v (below_nodes r) s.past
 was-named stand r v s good f a thawed = record {
   named = s.past.now;
   since = good.begun;
@@ -57,6 +57,7 @@ was-named stand r v s good f a thawed = record {
   thawed = thawed;
   value = a.value;
   under = stand s r.upper good f.planned.parted.links.upper_guard;
+  durable = λ n i h l. f.writing.flushed n i h l (omega (arith, h, l)) ∙ f.writing.stored_is n i h l (omega (arith, h, l));
 }
 
 -- what a phase after it must be

@@ -21,6 +21,7 @@ use Rattle.bz_task.specs.OwnActs.{gained}
 use Rattle.bz_task.specs.Requests.{IsPointerPlace}
 use Rattle.bz_task.specs.Scene.{Past, Scene, Stage, Waiting, Took, IsLawful, Continues, HasFilled}
 use Rattle.bz_task.specs.declared.path.Link.{Link}
+use Rattle.bz_renew.specs.Nodes.{Nodes}
 use Rattle.bz_renew.proofs.NodeWrites.{nodes-stay, begun-stays, nodes-no-slot, begun-no-slot}
 use Rattle.bz_renew.proofs.Staying.{frozen-leaf-stays}
 use Rattle.bz_below.specs.Facts.{Below, below_nodes, HasPartedBelow, IsReading, IsPlanned, LackedRoom, IsSplittingBelow, WasSplitBelow, parent_words, below_facts}
@@ -155,8 +156,8 @@ module _ (p q : Past) (c : Continues p q) where
   unfolding planned-stays below-stays
   looked-stays r v w = thawed-stays r.upper v.parted.moment w
 
-  named-stays : (link : Link) (word : ℕ) → WasNamed link word p → WasNamed link word q
-  named-stays link word w = record {
+  named-stays : (link : Link) (word : ℕ) (nodes : Nodes) → WasNamed link word nodes p → WasNamed link word nodes q
+  named-stays link word nodes w = record {
     named = w.named;
     since = omega (arith, w.since, c.since);
     now = omega (arith, w.now, c.now);
@@ -165,6 +166,7 @@ module _ (p q : Past) (c : Continues p q) where
     thawed = w.thawed;
     value = ap (λ (x : Instant). x.value link.guard) (c.at w.named w.now) ∙ w.value;
     under = elim w.under [ inl u ↦ inl u | inr u ↦ inr (under-stays link w.named w.now u) ];
+    durable = λ n i h l. (λ t. (c.at w.named w.now t).image (node_address (c.config t) (nodes.slot n) + i)) ∙ w.durable n i h l;
   }
 
   pub over-stays : (r : Below) (v : IsPlanned r p) → r.image 0 ≡ parent_words r v.parted.child v.parent.level v.parent.low v.parent.high
@@ -228,7 +230,7 @@ module _ (r : Below) (s after : Scene) (l : IsLawful s after) where
   stable (Flush j) Waiting f = (filled f.0, (f.1.0, splitting SPLIT_WORDS j f.1.1))
   stable (Flush j) Took f = (filled f.0, (f.1.0, splitting SPLIT_WORDS (j + 1) f.1.1))
   stable Named Waiting f = (filled f.0, splitting SPLIT_WORDS SPLIT_LINES f.1)
-  stable Swap Waiting f = (filled f.0, (splitting SPLIT_WORDS SPLIT_LINES f.1.0, named-stays s.past after.past l.continues r.upper r.guard f.1.1))
+  stable Swap Waiting f = (filled f.0, (splitting SPLIT_WORDS SPLIT_LINES f.1.0, named-stays s.past after.past l.continues r.upper r.guard (below_nodes r) f.1.1))
   stable Swap Took f = (filled f.0, split-stays s.past after.past l.continues r.upper r.lower (r.image 1) (r.image 2) r.sep f.1)
   stable Done Waiting f = (filled f.0, split-stays s.past after.past l.continues r.upper r.lower (r.image 1) (r.image 2) r.sep f.1)
   stable NoRoom Waiting f = (filled f.0, lacked-stays s.past after.past l.continues r.upper r.lower r.sep f.1)
