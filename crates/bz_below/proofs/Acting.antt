@@ -1,5 +1,5 @@
 -- What a split below a parent asks for may be asked for, and what its acts lead to.
-use Rattle.std.proofs.Common.{◌≡◌, ℕ, ◌+◌, ◌<◌, ◌≤◌, false, List, arith, refl, sym, ap, subst, ◌∙◌, inl, inr, Some, Option}
+use Rattle.std.proofs.Common.{◌≡◌, ℕ, ◌+◌, ◌<◌, ◌≤◌, false, List, [], ◌∷◌, arith, refl, sym, ap, subst, ◌∙◌, inl, inr, Some, Option}
 use Rattle.std.specs.Prelude.{All, None, slice_index}
 use Rattle.std.proofs.lemmas.Bool.{cases_lt}
 use Rattle.std.proofs.lemmas.List.{get_or_past}
@@ -20,6 +20,7 @@ use Rattle.bz_word.specs.declared.status.Status.{Status}
 use Rattle.bz_content.specs.Restructures.{children_of}
 use Rattle.bz_halves.specs.Parents.{HasRoomToPart, IsPartedParent, ParentsOfHalvesAreWhole}
 use Rattle.bz_task.specs.Instant.{Instant, words}
+use Rattle.bz_task.specs.Outcomes.{IsGuarded}
 use Rattle.bz_task.specs.OwnActs.{Stores, Flushes}
 use Rattle.bz_task.specs.Requests.{IsEntryToAsk, IsAskable, IsReadable, IsTarget, IsCause}
 use Rattle.bz_task.specs.Scene.{Scene, Waiting, Took, IsScene, HasFilled, here}
@@ -35,19 +36,21 @@ use Rattle.bz_renew.specs.Nodes.{word_address, word_value, line_number}
 use Rattle.bz_renew.specs.Renewals.{renewal, link_entry, guard_entry, IsTurnable, LinksMayBeTurned}
 use Rattle.bz_renew.proofs.FreshSlots.{unreached}
 use Rattle.bz_task.proofs.FrozenWords.{frozen-plain}
+use Rattle.bz_renew.proofs.Freezings.{renewal-holds}
 use Rattle.bz_renew.proofs.Guards.{guard-readable, guard-differed}
 use Rattle.bz_renew.proofs.Inserting.{inserted-other}
 use Rattle.bz_renew.proofs.NodeWrites.{nodes-store, nodes-flush, begun-store, node-may-store, node-may-flush}
 use Rattle.bz_renew.proofs.Restamping.{restamped-plain}
-use Rattle.bz_renew.proofs.TwoEntries.{all-two, sets-first}
+use Rattle.bz_renew.proofs.TwoEntries.{all-two, sets-first, both-stand}
 use Rattle.bz_renew.proofs.Words.{node-at, node-past}
 use Rattle.bz_below.specs.Facts.{Below, below_nodes, HasPartedBelow, IsSplittingBelow, WasSplitBelow, parent_words, below_asks, below_facts, below_differs}
-use Rattle.bz_split.specs.BelowSplits.{AreReadyBelow, IsBelowSplit, LeafSplitsBelowAreGood, parent_freezing, below_swap}
+use Rattle.bz_split.specs.BelowSplits.{AreLinksDown, AreReadyBelow, IsBelowSplit, LeafSplitsBelowAreGood, parent_freezing, below_swap}
 use Rattle.bz_split.specs.Facts.{SPLIT_WORDS, SPLIT_LINES, StoodFresh, split_change}
 use Rattle.bz_split.specs.RootSplits.{StandsReady, AreFreshThree}
+use Rattle.bz_below.specs.Guards.{with_guard, WasNamed}
 use Rattle.bz_below.specs.Parents.{WasParent}
 use Rattle.bz_below.specs.declared.phase.Phase.{Phase}
-use Rattle.bz_below.specs.declared.phase.Phase.TheVariants.{Fresh, Word, Again, Guard, Store, Flush, Swap, Done, Restart, NoRoom, NoSlot, NoSwap}
+use Rattle.bz_below.specs.declared.phase.Phase.TheVariants.{Fresh, Word, Again, Guard, Store, Flush, Named, Swap, Done, Restart, NoRoom, NoSlot, NoSwap}
 use Rattle.bz_below.proofs.Staying.{planned-stays, looked-stays, over-stays, parent-stays, parted-stays}
 
 some-same : (a b : Todo) → Some a ≡ Some b → a ≡ b
@@ -67,19 +70,22 @@ module _ (upper lower : Link) (left right sep : List ℕ) (s : Scene) (good : Is
   word-readable i l = record { outside = inr (omega arith); within = omega (arith, upper-slot, l) }
 
 -- the entries of the swap
-may-swap : LinksMayBeTurned → IsCodec Status IsStatus IsStatusWord status_word status → (r : Below) (s : Scene) → IsScene s → IsSplittingBelow r SPLIT_WORDS SPLIT_LINES s → All (IsEntryToAsk s) (below_swap s.past.config r.upper r.lower (r.slot 0))
-may-swap turned codec r s good f =
+abbrev turned_by : Scene → Below → List Entry
+turned_by s r = below_swap s.past.config (with_guard r.upper r.guard) r.lower (r.slot 0)
+
+may-swap : LinksMayBeTurned → IsCodec Status IsStatus IsStatusWord status_word status → (r : Below) (s : Scene) → IsScene s → IsSplittingBelow r SPLIT_WORDS SPLIT_LINES s → WasNamed r.upper r.guard (below_nodes r) s.past → All (IsEntryToAsk s) (turned_by s r)
+may-swap turned codec r s good f w =
     let v = f.planned.parted in
     let t : IsTurnable r.upper s = turned s r.upper good v.links.upper_guard v.links.upper_thawed in
     let u : IsTurnable r.lower s = turned s r.lower good v.links.guard v.links.thawed in
     let old : r.upper.slot < s.past.config.nodes = upper-slot r.upper r.lower (r.image 1) (r.image 2) r.sep s good v in
     let new : r.slot 0 < s.past.config.nodes = f.writing.slots.within 0 (omega arith) in
     let status_target : IsTarget s (node_address s.past.config r.upper.slot + STATUS_AT) = subst (IsTarget s) (guard-is r.upper r.lower (r.image 1) (r.image 2) r.sep s good v) u.guard_target in
-    All-inserted (IsEntryToAsk s) (freezing_entry s.past.config (parent_freezing r.upper r.lower)) (renewal r.upper (r.slot 0))
+    All-inserted (IsEntryToAsk s) (freezing_entry s.past.config (parent_freezing (with_guard r.upper r.guard) r.lower)) (renewal (with_guard r.upper r.guard) (r.slot 0))
     (record { target = status_target; expected = u.plain; new = frozen-plain codec r.lower.status u.plain })
-    (all-two (IsEntryToAsk s) (link_entry r.upper (r.slot 0)) (guard_entry r.upper)
+    (all-two (IsEntryToAsk s) (link_entry (with_guard r.upper r.guard) (r.slot 0)) (guard_entry (with_guard r.upper r.guard))
     (record { target = t.link_target; expected = omega (arith, old, good.config.nodes_in_range.at_most); new = omega (arith, new, good.config.nodes_in_range.at_most) })
-    (record { target = t.guard_target; expected = t.plain; new = restamped-plain codec r.upper.status t.plain }))
+    (record { target = t.guard_target; expected = w.plain; new = restamped-plain codec r.guard w.plain }))
 
 pub askable : LinksMayBeTurned → IsCodec Status IsStatus IsStatusWord status_word status → (c : Config) (r : Below) (phase : Phase) (s : Scene) (todo : Todo) → s.past.config ≡ c → below_facts r phase Waiting s → IsScene s → below_asks c r phase ≡ Some todo → IsAskable s todo
 askable turned codec c r Fresh s todo same f good e = absurd (cc)
@@ -94,29 +100,36 @@ askable turned codec c r (Store j) s todo same f good e =
 askable turned codec c r (Flush j) s todo same f good e =
     subst (IsAskable s) (some-same _ todo e)
     (subst (λ z. IsAskable s (Flushes_line (line_number z (below_nodes r) j))) same (node-may-flush (below_nodes r) j s f.1.1.writing.slots (omega (arith, f.1.0))))
+askable turned codec c r Named s todo same f good e = subst (IsAskable s) (some-same _ todo e) (guard-readable s r.upper good f.1.planned.parted.links.upper_guard)
 askable turned codec c r Swap s todo same f good e =
     subst (IsAskable s) (some-same _ todo e)
-    (subst (λ (z : Config). All (IsEntryToAsk s) (below_swap z r.upper r.lower (r.slot 0))) same (may-swap turned codec r s good f.1))
+    (subst (λ (z : Config). All (IsEntryToAsk s) (below_swap z (with_guard r.upper r.guard) r.lower (r.slot 0))) same (may-swap turned codec r s good f.1.0 f.1.1))
 askable turned codec c r Done s todo same f good e = subst (IsAskable s) (some-same _ todo e) tt
 askable turned codec c r Restart s todo same f good e = subst (IsAskable s) (some-same _ todo e) tt
 askable turned codec c r NoRoom s todo same f good e = subst (IsAskable s) (some-same _ todo e) tt
 askable turned codec c r NoSlot s todo same f good e = subst (IsAskable s) (some-same _ todo e) tt
 askable turned codec c r NoSwap s todo same f good e = subst (IsAskable s) (some-same _ todo e) tt
 
--- a guard that differs has been changed since it was read
-pub cause : (c : Config) (r : Below) (phase : Phase) (s : Scene) (seen : Seen) → below_facts r phase Waiting s → below_differs r.upper r.lower phase seen → IsCause (below_asks c r phase) seen s
+-- the parent's status has been changed since it was read, or the upper guard is frozen
+pub cause : (c : Config) (r : Below) (phase : Phase) (s : Scene) (seen : Seen) → below_facts r phase Waiting s → below_differs r.lower phase seen → IsCause (below_asks c r phase) seen s
 cause c r Again s (Was v) f d = inl (guard-differed s r.lower v f.1.parted.links.guard d)
 cause c r Again s Start f d = absurd (d)
 cause c r Again s Stored f d = absurd (d)
 cause c r Again s Flushed f d = absurd (d)
 cause c r Again s (Swapped won) f d = absurd (d)
 cause c r Again s NoneLeft f d = absurd (d)
-cause c r Guard s (Was v) f d = inl (guard-differed s r.upper v f.1.parted.links.upper_guard d)
+cause c r Guard s (Was v) f d = inr d
 cause c r Guard s Start f d = absurd (d)
 cause c r Guard s Stored f d = absurd (d)
 cause c r Guard s Flushed f d = absurd (d)
 cause c r Guard s (Swapped won) f d = absurd (d)
 cause c r Guard s NoneLeft f d = absurd (d)
+cause c r Named s (Was v) f d = inr d
+cause c r Named s Start f d = absurd (d)
+cause c r Named s Stored f d = absurd (d)
+cause c r Named s Flushed f d = absurd (d)
+cause c r Named s (Swapped won) f d = absurd (d)
+cause c r Named s NoneLeft f d = absurd (d)
 cause c r Fresh s seen f d = absurd (d)
 cause c r (Word i) s seen f d = absurd (d)
 cause c r (Store j) s seen f d = absurd (d)
@@ -188,16 +201,46 @@ module _ (wholes : ParentsOfHalvesAreWhole) (r : Below) (s : Scene) (good : IsSc
     from = λ key e. ap (λ n. found_of n key) (holds 2 (omega arith)) ∙ f.planned.parted.from key e;
   }
 
-  pub below-split : IsBelowSplit r.upper r.lower (r.slot 0) (r.slot 1) (r.slot 2) f.planned.parted.moment r.sep s
-  below-split = record {
-    links = f.planned.parted.links;
-    leaf = f.planned.parted.leaf;
-    ready = subst (λ z. AreReadyBelow r.upper.slot r.lower.slot z f.planned.parted.links.under.child.child f.planned.parted.moment (r.slot 0) (r.slot 1) (r.slot 2) r.sep s) (sym f.planned.parted.is_guarded)
-        (subst (λ z. AreReadyBelow r.upper.slot r.lower.slot f.planned.parted.guarded z f.planned.parted.moment (r.slot 0) (r.slot 1) (r.slot 2) r.sep s) (sym f.planned.parted.is_child) ready);
-  }
+  -- the upper link with the guard that is named, where the swap finds what it names
+  module _ (w : WasNamed r.upper r.guard (below_nodes r) s.past) (stand : Stand (turned_by s r) (here s)) where
+    leads-now : (here s).value r.upper.link ≡ r.upper.slot + 1
+    leads-now =
+        let u : Link = with_guard r.upper r.guard in
+        (both-stand (link_entry u (r.slot 0)) (guard_entry u) (here s)
+        (renewal-holds s.past.config u (r.slot 0) (λ (e : Entry). (here s).value e.target ≡ e.expected) (parent_freezing u r.lower ∷ []) stand)).0
+
+    guard-now : IsGuarded s.past (with_guard r.upper r.guard)
+    guard-now = record {
+      guarded = w.named;
+      read = s.past.now;
+      since = w.since;
+      order = w.now;
+      now = omega arith;
+      under = elim w.under [
+        | inl u ↦ inl (record { pointer = u.pointer; guard = u.guard })
+        | inr u ↦ inr (record { parent = u.parent; place = u.place; reached = u.reached; within = u.within; child = u.child; pointer = u.pointer; guard = u.guard })
+      ];
+      status = w.value;
+      slot = leads-now;
+    }
+
+    links-now : AreLinksDown (with_guard r.upper r.guard) r.lower s.past
+    links-now = let l = f.planned.parted.links in record { upper_guard = guard-now; upper_thawed = w.thawed; guard = l.guard; thawed = l.thawed; under = l.under; parent = l.parent }
+
+    pub below-split : IsBelowSplit (with_guard r.upper r.guard) r.lower (r.slot 0) (r.slot 1) (r.slot 2) f.planned.parted.moment r.sep s
+    unfolding links-now
+    below-split = record {
+      links = links-now;
+      leaf = f.planned.parted.leaf;
+      ready = subst (λ z. AreReadyBelow r.upper.slot r.lower.slot z f.planned.parted.links.under.child.child f.planned.parted.moment (r.slot 0) (r.slot 1) (r.slot 2) r.sep s) (sym f.planned.parted.is_guarded)
+          (subst (λ z. AreReadyBelow r.upper.slot r.lower.slot f.planned.parted.guarded z f.planned.parted.moment (r.slot 0) (r.slot 1) (r.slot 2) r.sep s) (sym f.planned.parted.is_child) ready);
+    }
 
 same-entries : (a b : List Entry) → Some (Swaps_for a) ≡ Some (Swaps_for b) → a ≡ b
 same-entries a b e = cc
+
+turned-is : (c : Config) (r : Below) (s : Scene) (entries : List Entry) → s.past.config ≡ c → below_asks c r Swap ≡ Some (Swaps_for entries) → turned_by s r ≡ entries
+turned-is c r s entries same e = ap (λ (z : Config). below_swap z (with_guard r.upper r.guard) r.lower (r.slot 0)) same ∙ same-entries (below_swap c (with_guard r.upper r.guard) r.lower (r.slot 0)) entries e
 
 -- the effect of the swap
 pub effect : LeafSplitsBelowAreGood → ParentsOfHalvesAreWhole → (c : Config) (r : Below) (phase : Phase) (s : Scene) (y : Instant) (entries : List Entry) → s.past.config ≡ c → below_facts r phase Waiting s → IsScene s → below_asks c r phase ≡ Some (Swaps_for entries) → Stand entries (here s)
@@ -208,10 +251,13 @@ effect law wholes c r Again s y entries same f good e stand swaps = absurd (cc)
 effect law wholes c r Guard s y entries same f good e stand swaps = absurd (cc)
 effect law wholes c r (Store j) s y entries same f good e stand swaps = absurd (cc)
 effect law wholes c r (Flush j) s y entries same f good e stand swaps = absurd (cc)
+effect law wholes c r Named s y entries same f good e stand swaps = absurd (cc)
 effect law wholes c r Swap s y entries same f good e stand swaps =
-    let is : below_swap s.past.config r.upper r.lower (r.slot 0) ≡ entries = ap (λ (z : Config). below_swap z r.upper r.lower (r.slot 0)) same ∙ same-entries (below_swap c r.upper r.lower (r.slot 0)) entries e in
-    subst (λ z. IsGoodSwap false split_change z s y) is (law split_change s y r.upper r.lower (r.slot 0) (r.slot 1) (r.slot 2) f.1.planned.parted.moment r.sep good (below-split wholes r s good f.1)
-    (subst (λ z. Stand z (here s)) (sym is) stand) (subst (λ z. SwapsTo s.past.config z (here s) y) (sym is) swaps))
+    let u : Link = with_guard r.upper r.guard in
+    let is : turned_by s r ≡ entries = turned-is c r s entries same e in
+    let stands : Stand (turned_by s r) (here s) = subst (λ z. Stand z (here s)) (sym is) stand in
+    subst (λ z. IsGoodSwap false split_change z s y) is (law split_change s y u r.lower (r.slot 0) (r.slot 1) (r.slot 2) f.1.0.planned.parted.moment r.sep good (below-split wholes r s good f.1.0 f.1.1 stands)
+    stands (subst (λ z. SwapsTo s.past.config z (here s) y) (sym is) swaps))
 effect law wholes c r Done s y entries same f good e stand swaps = absurd (cc)
 effect law wholes c r Restart s y entries same f good e stand swaps = absurd (cc)
 effect law wholes c r NoRoom s y entries same f good e stand swaps = absurd (cc)
@@ -250,6 +296,7 @@ stored apart c r (Word i) s after a v same f e t = absurd (cc)
 stored apart c r Again s after a v same f e t = absurd (cc)
 stored apart c r Guard s after a v same f e t = absurd (cc)
 stored apart c r (Flush j) s after a v same f e t = absurd (cc)
+stored apart c r Named s after a v same f e t = absurd (cc)
 stored apart c r Swap s after a v same f e t = absurd (cc)
 stored apart c r Done s after a v same f e t = absurd (cc)
 stored apart c r Restart s after a v same f e t = absurd (cc)
@@ -280,6 +327,7 @@ flushed c r (Word i) s after line same f e t = absurd (cc)
 flushed c r Again s after line same f e t = absurd (cc)
 flushed c r Guard s after line same f e t = absurd (cc)
 flushed c r (Store j) s after line same f e t = absurd (cc)
+flushed c r Named s after line same f e t = absurd (cc)
 flushed c r Swap s after line same f e t = absurd (cc)
 flushed c r Done s after line same f e t = absurd (cc)
 flushed c r Restart s after line same f e t = absurd (cc)
@@ -291,7 +339,7 @@ filled-after : (s after : Scene) → HasFilled s → {entries : List Entry} → 
 filled-after s after f takes k t = takes.filled k ∙ f k (sym (takes.took k) ∙ t)
 
 -- once the swap took effect, the upper link leads to the new parent; to none of the three a link had led before
-module _ (may : LinksMayBeTurned) (wholes : ParentsOfHalvesAreWhole) (r : Below) (s after : Scene) (good : IsScene s) (f : IsSplittingBelow r SPLIT_WORDS SPLIT_LINES s) (takes : Takes false (below_swap s.past.config r.upper r.lower (r.slot 0)) s after) where
+module _ (may : LinksMayBeTurned) (wholes : ParentsOfHalvesAreWhole) (r : Below) (s after : Scene) (good : IsScene s) (f : IsSplittingBelow r SPLIT_WORDS SPLIT_LINES s) (takes : Takes false (turned_by s r) s after) where
   before-it : after.past.at s.past.now ≡ here s
   before-it = takes.continues.at s.past.now (omega arith)
 
@@ -307,8 +355,8 @@ module _ (may : LinksMayBeTurned) (wholes : ParentsOfHalvesAreWhole) (r : Below)
   led-after =
       let t : IsTurnable r.upper s = may s r.upper good f.planned.parted.links.upper_guard f.planned.parted.links.upper_thawed in
       takes.swaps.value r.upper.link
-      ∙ (inserted-other (freezing_entry s.past.config (parent_freezing r.upper r.lower)) (renewal r.upper (r.slot 0)) (here s).value r.upper.link (λ e. f.link_apart (sym e))
-      ∙ sets-first (link_entry r.upper (r.slot 0)) (guard_entry r.upper) (here s).value r.upper.link refl (λ e. t.apart (sym e)))
+      ∙ (inserted-other (freezing_entry s.past.config (parent_freezing (with_guard r.upper r.guard) r.lower)) (renewal (with_guard r.upper r.guard) (r.slot 0)) (here s).value r.upper.link (λ e. f.link_apart (sym e))
+      ∙ sets-first (link_entry (with_guard r.upper r.guard) (r.slot 0)) (guard_entry (with_guard r.upper r.guard)) (here s).value r.upper.link refl (λ e. t.apart (sym e)))
 
   guarded-since : s.past.since ≤ f.planned.parted.guarded
   guarded-since = omega (arith, f.planned.parted.links.guard.since, f.planned.parted.is_guarded)
@@ -344,14 +392,15 @@ module _ (may : LinksMayBeTurned) (wholes : ParentsOfHalvesAreWhole) (r : Below)
 
 pub took : LinksMayBeTurned → ParentsOfHalvesAreWhole → (c : Config) (r : Below) (phase : Phase) (s after : Scene) (entries : List Entry) → s.past.config ≡ c → below_facts r phase Waiting s → IsScene s → below_asks c r phase ≡ Some (Swaps_for entries) → Takes false entries s after → below_facts r phase Took after
 took may wholes c r Swap s after entries same f good e takes =
-    let is : below_swap s.past.config r.upper r.lower (r.slot 0) ≡ entries = ap (λ (z : Config). below_swap z r.upper r.lower (r.slot 0)) same ∙ same-entries (below_swap c r.upper r.lower (r.slot 0)) entries e in
-    (filled-after s after f.0 takes, was-split may wholes r s after good f.1 (subst (λ (z : List Entry). Takes false z s after) (sym is) takes))
+    let is : turned_by s r ≡ entries = turned-is c r s entries same e in
+    (filled-after s after f.0 takes, was-split may wholes r s after good f.1.0 (subst (λ (z : List Entry). Takes false z s after) (sym is) takes))
 took may wholes c r Fresh s after entries same f good e takes = absurd (cc)
 took may wholes c r (Word i) s after entries same f good e takes = absurd (cc)
 took may wholes c r Again s after entries same f good e takes = absurd (cc)
 took may wholes c r Guard s after entries same f good e takes = absurd (cc)
 took may wholes c r (Store j) s after entries same f good e takes = absurd (cc)
 took may wholes c r (Flush j) s after entries same f good e takes = absurd (cc)
+took may wholes c r Named s after entries same f good e takes = absurd (cc)
 took may wholes c r Done s after entries same f good e takes = absurd (cc)
 took may wholes c r Restart s after entries same f good e takes = absurd (cc)
 took may wholes c r NoRoom s after entries same f good e takes = absurd (cc)

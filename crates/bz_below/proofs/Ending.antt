@@ -1,5 +1,5 @@
 -- How a phase after an answer ends the task, if it does, and what answers to loads are.
-use Rattle.std.proofs.Common.{◌≡◌, ◌≢◌, ℕ, ◌<◌, ◌⊎◌, true, false, refl, sym, ap, ◌∙◌, inr}
+use Rattle.std.proofs.Common.{◌≡◌, ◌≢◌, ℕ, ◌<◌, ◌⊎◌, true, false, refl, sym, ap, subst, ◌∙◌, inr}
 use Rattle.std.specs.Prelude.{◌≤◌, length, Some, None, ◌↔◌}
 use Rattle.bz_call.specs.declared.replies.Spent.TheVariants.{Nodes as NoNodes, Swaps as NoSwaps}
 use Rattle.bz_layout.specs.Slots.{FreeSlots}
@@ -14,7 +14,7 @@ use Rattle.bz_task.specs.declared.todo.Outcome.TheVariants.{Done as IsDone, Rest
 use Rattle.bz_task.specs.declared.todo.Seen.TheVariants.{Start, Read as Was, Stored, Flushed, Swapped, NoSwap as NoneLeft}
 use Rattle.bz_below.specs.Facts.{Below, below_asks, below_differs, below_end, below_needs}
 use Rattle.bz_below.specs.declared.phase.Phase.{Phase}
-use Rattle.bz_below.specs.declared.phase.Phase.TheVariants.{Fresh, Word, Again, Guard, Store, Flush, Swap, Done, Restart, NoRoom, NoSlot, NoSwap}
+use Rattle.bz_below.specs.declared.phase.Phase.TheVariants.{Fresh, Word, Again, Guard, Store, Flush, Named, Swap, Done, Restart, NoRoom, NoSlot, NoSwap}
 
 -- how phases end
 ends-done : (p : Phase) → below_end p ≡ Some IsDone → p ≡ Done
@@ -25,6 +25,7 @@ ends-done Again e = absurd (cc)
 ends-done Guard e = absurd (cc)
 ends-done (Store j) e = absurd (cc)
 ends-done (Flush j) e = absurd (cc)
+ends-done Named e = absurd (cc)
 ends-done Swap e = absurd (cc)
 ends-done Restart e = absurd (cc)
 ends-done NoRoom e = absurd (cc)
@@ -39,6 +40,7 @@ ends-restart Again e = absurd (cc)
 ends-restart Guard e = absurd (cc)
 ends-restart (Store j) e = absurd (cc)
 ends-restart (Flush j) e = absurd (cc)
+ends-restart Named e = absurd (cc)
 ends-restart Swap e = absurd (cc)
 ends-restart Done e = absurd (cc)
 ends-restart NoRoom e = absurd (cc)
@@ -53,6 +55,7 @@ ends-no-swap Again e = absurd (cc)
 ends-no-swap Guard e = absurd (cc)
 ends-no-swap (Store j) e = absurd (cc)
 ends-no-swap (Flush j) e = absurd (cc)
+ends-no-swap Named e = absurd (cc)
 ends-no-swap Swap e = absurd (cc)
 ends-no-swap Done e = absurd (cc)
 ends-no-swap Restart e = absurd (cc)
@@ -67,6 +70,7 @@ ends-no-slot Again e = absurd (cc)
 ends-no-slot Guard e = absurd (cc)
 ends-no-slot (Store j) e = absurd (cc)
 ends-no-slot (Flush j) e = absurd (cc)
+ends-no-slot Named e = absurd (cc)
 ends-no-slot Swap e = absurd (cc)
 ends-no-slot Done e = absurd (cc)
 ends-no-slot Restart e = absurd (cc)
@@ -74,15 +78,15 @@ ends-no-slot NoRoom e = absurd (cc)
 ends-no-slot NoSwap e = absurd (cc)
 
 -- a phase after another one, told of how it ends
-pub record EndsWell (upper lower : Link) (seen : Seen) (o p : Phase) (free : FreeSlots) : Type 0 where
+pub record EndsWell (lower : Link) (seen : Seen) (o p : Phase) (free : FreeSlots) : Type 0 where
   pub done : below_end p ≡ Some IsDone → seen ≡ Swapped true
-  pub restart : below_end p ≡ Some Restarts → (seen ≡ Swapped false) ⊎ below_differs upper lower o seen
+  pub restart : below_end p ≡ Some Restarts → (seen ≡ Swapped false) ⊎ below_differs lower o seen
   pub no_swap : seen ≡ NoneLeft → below_end p ≡ Some (IsFull NoSwaps)
   pub full_swaps : below_end p ≡ Some (IsFull NoSwaps) → seen ≡ NoneLeft
   pub full_nodes : below_end p ≡ Some (IsFull NoNodes) → length free.free < below_needs o
 
-pub ends-well : (upper lower : Link) (seen : Seen) (o p : Phase) (free : FreeSlots) → (p ≡ Done → seen ≡ Swapped true) → (p ≡ Restart → (seen ≡ Swapped false) ⊎ below_differs upper lower o seen) → (p ≡ NoSwap) ↔ (seen ≡ NoneLeft) → p ≢ NoSlot → EndsWell upper lower seen o p free
-ends-well upper lower seen o p free done restart no_swap slots = record {
+pub ends-well : (lower : Link) (seen : Seen) (o p : Phase) (free : FreeSlots) → (p ≡ Done → seen ≡ Swapped true) → (p ≡ Restart → (seen ≡ Swapped false) ⊎ below_differs lower o seen) → (p ≡ NoSwap) ↔ (seen ≡ NoneLeft) → p ≢ NoSlot → EndsWell lower seen o p free
+ends-well lower seen o p free done restart no_swap slots = record {
   done = λ e. done (ends-done p e);
   restart = λ e. restart (ends-restart p e);
   no_swap = λ e. ap below_end (no_swap.1 e);
@@ -103,12 +107,22 @@ pub read-answers : (a v : ℕ) (stage : Stage) (s : Scene) → Tells (Some (Read
 read-answers a v Waiting s t = (refl, t)
 read-answers a v Took s t = absurd (t)
 
+-- the word that a load found
+pub word-answers : (a v : ℕ) (seen : Seen) (stage : Stage) (s : Scene) → ((w : ℕ) → seen ≡ Was w → v ≡ w) → Tells (Some (Reads a)) stage seen s → (seen ≡ Was v) × Answers s a v
+word-answers a v (Was w) Waiting s found t = let e : v ≡ w = found w refl in (ap Was (sym e), subst (Answers s a) (sym e) t)
+word-answers a v Start Waiting s found t = absurd (t)
+word-answers a v Stored Waiting s found t = absurd (t)
+word-answers a v Flushed Waiting s found t = absurd (t)
+word-answers a v (Swapped won) Waiting s found t = absurd (t)
+word-answers a v NoneLeft Waiting s found t = absurd (t)
+word-answers a v seen Took s found t = absurd (t)
+
 pub takes-none : (o p : Phase) (free : FreeSlots) → below_needs p ≤ below_needs o → AreTakenFrom (below_needs o) (below_needs p) free free
 takes-none o p free fewer = inr (record { fewer = fewer; slots = refl })
 
 -- no end
-pub goes-on : (upper lower : Link) (seen : Seen) (o p : Phase) (free : FreeSlots) → below_end p ≡ None → seen ≢ NoneLeft → EndsWell upper lower seen o p free
-goes-on upper lower seen o p free none heard = record {
+pub goes-on : (lower : Link) (seen : Seen) (o p : Phase) (free : FreeSlots) → below_end p ≡ None → seen ≢ NoneLeft → EndsWell lower seen o p free
+goes-on lower seen o p free none heard = record {
   done = λ e. absurd (let h = sym none ∙ e in cc);
   restart = λ e. absurd (let h = sym none ∙ e in cc);
   no_swap = λ e. absurd (heard e);
@@ -120,25 +134,17 @@ pub was-no-swap : (a : ℕ) (seen : Seen) → Hears (Some (Reads a)) seen → se
 was-no-swap a seen h e = let w = was-read a seen h in let q = sym w.1 ∙ e in absurd (cc)
 
 -- an answer that is not the value wanted is another one
-pub other-lower : (upper lower : Link) (seen : Seen) → Hears (Some (Reads lower.guard)) seen → seen ≢ Was lower.status → below_differs upper lower Again seen
-other-lower upper lower (Was v) h ne = λ e. ne (ap Was e)
-other-lower upper lower Start h ne = absurd (h)
-other-lower upper lower Stored h ne = absurd (h)
-other-lower upper lower Flushed h ne = absurd (h)
-other-lower upper lower (Swapped won) h ne = absurd (h)
-other-lower upper lower NoneLeft h ne = absurd (h)
-
-pub other-upper : (upper lower : Link) (seen : Seen) → Hears (Some (Reads upper.guard)) seen → seen ≢ Was upper.status → below_differs upper lower Guard seen
-other-upper upper lower (Was v) h ne = λ e. ne (ap Was e)
-other-upper upper lower Start h ne = absurd (h)
-other-upper upper lower Stored h ne = absurd (h)
-other-upper upper lower Flushed h ne = absurd (h)
-other-upper upper lower (Swapped won) h ne = absurd (h)
-other-upper upper lower NoneLeft h ne = absurd (h)
+pub other-lower : (lower : Link) (seen : Seen) → Hears (Some (Reads lower.guard)) seen → seen ≢ Was lower.status → below_differs lower Again seen
+other-lower lower (Was v) h ne = λ e. ne (ap Was e)
+other-lower lower Start h ne = absurd (h)
+other-lower lower Stored h ne = absurd (h)
+other-lower lower Flushed h ne = absurd (h)
+other-lower lower (Swapped won) h ne = absurd (h)
+other-lower lower NoneLeft h ne = absurd (h)
 
 -- what the first act is: the load of the parent's first word after its status
-pub first-ends : (c : Config) (r : Below) (seen : Seen) (free : FreeSlots) → Hears (below_asks c r Fresh) seen → EndsWell r.upper r.lower seen Fresh (Word 1) free
-first-ends c r Start free h = goes-on r.upper r.lower Start Fresh (Word 1) free refl (λ e. absurd (cc))
+pub first-ends : (c : Config) (r : Below) (seen : Seen) (free : FreeSlots) → Hears (below_asks c r Fresh) seen → EndsWell r.lower seen Fresh (Word 1) free
+first-ends c r Start free h = goes-on r.lower Start Fresh (Word 1) free refl (λ e. absurd (cc))
 first-ends c r (Was v) free h = absurd (h)
 first-ends c r Stored free h = absurd (h)
 first-ends c r Flushed free h = absurd (h)

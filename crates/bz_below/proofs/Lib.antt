@@ -1,6 +1,7 @@
 mod OpenNodes
 mod ReadingParents
 mod Fronts
+mod Standing
 mod Staying
 mod Acting
 mod Ending
@@ -9,5 +10,6 @@ mod Reading
 mod Telling
 mod Looking
 mod Writing
+mod Naming
 mod Viewing
 mod NewParents

@@ -1,29 +1,27 @@
 -- What another look at the guard of the link to the parent leads to, and teaches.
-use Rattle.std.proofs.Common.{◌≡◌, ◌≢◌, ℕ, ◌+◌, ◌*◌, ◌<◌, slice_index, arith, refl, sym, ap, subst, ◌∙◌, inl, inr}
-use Rattle.std.specs.Prelude.{Some}
+use Rattle.std.proofs.Common.{◌≡◌, ◌≢◌, ℕ, ◌+◌, ◌*◌, ◌<◌, ◌≤◌, true, false, slice_index, arith, refl, sym, ap, subst, ◌∙◌, inl, inr}
 use Rattle.bz_layout.specs.Addresses.{SlotsApart}
 use Rattle.bz_layout.specs.Slots.{FreeSlots}
 use Rattle.bz_layout.specs.declared.config.Config.{Config}
 use Rattle.bz_layout.specs.declared.sizes.TheConstants.{NODE_WORDS, STATUS_AT}
 use Rattle.bz_layout.specs.declared.thresholds.TheConstants.{SPLIT_SLOTS}
+use Rattle.bz_word.specs.Statuses.{status}
 use Rattle.bz_task.specs.Laws.{NothingIsGained}
 use Rattle.bz_task.specs.OwnActs.{AreTakenFrom, AreUnreached, gained}
-use Rattle.bz_task.specs.Requests.{Answers, Hears, Tells}
+use Rattle.bz_task.specs.Requests.{Answers}
 use Rattle.bz_task.specs.Scene.{Scene, Stage, Waiting, Took, IsScene, HasFilled}
 use Rattle.bz_task.specs.declared.path.Link.{Link}
 use Rattle.bz_task.specs.declared.todo.Seen.{Seen}
-use Rattle.bz_task.specs.declared.todo.Todo.TheVariants.{Read as Reads}
-use Rattle.bz_task.specs.declared.todo.Seen.TheVariants.{Read as Was}
+use Rattle.bz_task.specs.declared.todo.Seen.TheVariants.{Read as Was, NoSwap as NoneLeft}
 use Rattle.bz_halves.specs.Parents.{ChildrenMayBeParted}
 use Rattle.bz_renew.specs.Nodes.{HaveSlots, AreSlotsTaken}
-use Rattle.bz_renew.specs.Standing.{GuardedLinksStand}
-use Rattle.bz_renew.proofs.Guards.{answered-as-read}
 use Rattle.bz_renew.proofs.Words.{node-at}
-use Rattle.bz_below.specs.Facts.{Below, below_nodes, IsPlan, IsPlanned, HasRoom, HasParent, HasBegunBelow, HasBegunOrWaits, HasLookedBelow, IsReading, below_asks, below_left, below_needs, below_facts, IsReadyBelow}
+use Rattle.bz_below.specs.Facts.{Below, below_nodes, IsPlan, IsPlanned, HasRoom, HasParent, HasBegunBelow, HasBegunOrWaits, HasLookedBelow, IsReading, below_differs, below_left, below_needs, below_facts, IsReadyBelow}
+use Rattle.bz_below.specs.Guards.{WasThawed, LinksLeaveTheirNodes}
 use Rattle.bz_below.specs.declared.phase.Phase.{Phase}
-use Rattle.bz_below.specs.declared.phase.Phase.TheVariants.{Fresh, Word, Again, Guard, Store, Flush, Swap, Done, Restart, NoRoom, NoSlot, NoSwap}
+use Rattle.bz_below.specs.declared.phase.Phase.TheVariants.{Fresh, Word, Again, Guard, Store, Flush, Named, Swap, Done, Restart, NoRoom, NoSlot, NoSwap}
 use Rattle.bz_below.proofs.Acting.{upper-slot, guard-is}
-use Rattle.bz_below.proofs.Ending.{EndsWell, other-upper, read-answers, was-no-swap}
+use Rattle.bz_below.proofs.Ending.{EndsWell, goes-on}
 use Rattle.bz_below.proofs.Making.{IsClear, begun-knows, clear-of}
 
 -- what another look at the upper guard leads to, of a task that may wait so many times before and after it
@@ -32,75 +30,79 @@ pub record Looks (before after : ℕ) (r : Below) (c : Config) (seen : Seen) (p 
   pub ready : IsReadyBelow c r p
   pub nearer : (NODE_WORDS + 1) * after + below_left p < (NODE_WORDS + 1) * before + below_left Guard
   pub taken : AreTakenFrom SPLIT_SLOTS (below_needs p) old new
-  pub ends : EndsWell r.upper r.lower seen Guard p old
+  pub ends : EndsWell r.lower seen Guard p old
 
 -- the slots are taken
 begun-taken : (r : Below) (old new : FreeSlots) → AreSlotsTaken (below_nodes r) old new → AreTakenFrom SPLIT_SLOTS 0 old new
 begun-taken r old new t = inl (record { some = omega arith; enough = t.enough; slots = t.rest; none_left = refl })
 
-begins : (nodes n : ℕ) (r : Below) (c : Config) (p : Phase) (old new : FreeSlots) → HasBegunBelow nodes r p old new → old.nodes ≡ c.nodes → Looks n n r c (Was r.upper.status) p old new
-begins k n r c (Store j) old new h nodes = record {
+heard : (v : ℕ) (seen : Seen) → seen ≡ Was v → seen ≢ NoneLeft
+heard v seen is e = let q = sym is ∙ e in absurd (cc)
+
+begins : (nodes n : ℕ) (r : Below) (c : Config) (seen : Seen) (p : Phase) (old new : FreeSlots) → seen ≢ NoneLeft → HasBegunBelow nodes r p old new → old.nodes ≡ c.nodes → Looks n n r c seen p old new
+begins k n r c seen (Store j) old new some h nodes = record {
   begun = λ e. absurd (cc);
   ready = (subst (λ z. HaveSlots z (below_nodes r)) nodes h.1.0.slots, omega (arith, h.0));
   nearer = omega (arith, h.0);
   taken = begun-taken r old new h.1.0;
-  ends = record { done = λ e. absurd (cc); restart = λ e. absurd (cc); no_swap = λ e. absurd (cc); full_swaps = λ e. absurd (cc); full_nodes = λ e. absurd (cc) };
+  ends = goes-on r.lower seen Guard (Store j) old refl some;
 }
-begins k n r c NoSlot old new h nodes = record {
+begins k n r c seen NoSlot old new some h nodes = record {
   begun = λ e. absurd (cc);
   ready = tt;
   nearer = omega arith;
   taken = subst (λ z. AreTakenFrom SPLIT_SLOTS 0 old z) (sym h.1) (inr (record { fewer = omega arith; slots = refl }));
-  ends = record { done = λ e. absurd (cc); restart = λ e. absurd (cc); no_swap = λ e. absurd (cc); full_swaps = λ e. absurd (cc); full_nodes = λ e. h.0 };
+  ends = record { done = λ e. absurd (cc); restart = λ e. absurd (cc); no_swap = λ e. absurd (some e); full_swaps = λ e. absurd (cc); full_nodes = λ e. h.0 };
 }
-begins k n r c Fresh old new h nodes = absurd (h)
-begins k n r c (Word i) old new h nodes = absurd (h)
-begins k n r c Again old new h nodes = absurd (h)
-begins k n r c Guard old new h nodes = absurd (h)
-begins k n r c (Flush j) old new h nodes = absurd (h)
-begins k n r c Swap old new h nodes = absurd (h)
-begins k n r c Done old new h nodes = absurd (h)
-begins k n r c Restart old new h nodes = absurd (h)
-begins k n r c NoRoom old new h nodes = absurd (h)
-begins k n r c NoSwap old new h nodes = absurd (h)
+begins k n r c seen Fresh old new some h nodes = absurd (h)
+begins k n r c seen (Word i) old new some h nodes = absurd (h)
+begins k n r c seen Again old new some h nodes = absurd (h)
+begins k n r c seen Guard old new some h nodes = absurd (h)
+begins k n r c seen (Flush j) old new some h nodes = absurd (h)
+begins k n r c seen Named old new some h nodes = absurd (h)
+begins k n r c seen Swap old new some h nodes = absurd (h)
+begins k n r c seen Done old new some h nodes = absurd (h)
+begins k n r c seen Restart old new some h nodes = absurd (h)
+begins k n r c seen NoRoom old new some h nodes = absurd (h)
+begins k n r c seen NoSwap old new some h nodes = absurd (h)
 
 -- or the parent is read anew
-reads-anew : (before after : ℕ) (r : Below) (c : Config) (old : FreeSlots) → r.upper.slot < c.nodes → after + 1 ≡ before → Looks before after r c (Was r.upper.status) (Word 1) old old
-reads-anew before after r c old slot e = record {
+reads-anew : (before after : ℕ) (r : Below) (c : Config) (seen : Seen) (old : FreeSlots) → seen ≢ NoneLeft → r.upper.slot < c.nodes → after + 1 ≡ before → Looks before after r c seen (Word 1) old old
+reads-anew before after r c seen old some slot e = record {
   begun = λ q. absurd (cc);
   ready = (slot, omega arith);
   nearer = omega (arith, e);
   taken = inr (record { fewer = omega arith; slots = refl });
-  ends = record { done = λ q. absurd (cc); restart = λ q. absurd (cc); no_swap = λ q. absurd (cc); full_swaps = λ q. absurd (cc); full_nodes = λ q. absurd (cc) };
+  ends = goes-on r.lower seen Guard (Word 1) old refl some;
 }
 
-begins-or-waits : (nodes left before after : ℕ) (r : Below) (c : Config) (p : Phase) (old new : FreeSlots) → r.upper.slot < c.nodes → HasBegunOrWaits nodes left before after r p old new → old.nodes ≡ c.nodes → Looks before after r c (Was r.upper.status) p old new
-begins-or-waits k left before after r c p old new slot h nodes = elim h [
-  | inl b ↦ subst (λ z. Looks before z r c (Was r.upper.status) p old new) (sym b.1.0) (begins k before r c p old new b.0 nodes)
-  | inr w ↦ subst (λ z. Looks before after r c (Was r.upper.status) z old new) (sym w.0) (subst (λ z. Looks before after r c (Was r.upper.status) (Word 1) old z) (sym w.1.1) (reads-anew before after r c old slot w.1.0))
+begins-or-waits : (nodes left before after : ℕ) (r : Below) (c : Config) (seen : Seen) (p : Phase) (old new : FreeSlots) → seen ≢ NoneLeft → r.upper.slot < c.nodes → HasBegunOrWaits nodes left before after r p old new → old.nodes ≡ c.nodes → Looks before after r c seen p old new
+begins-or-waits k left before after r c seen p old new some slot h nodes = elim h [
+  | inl b ↦ subst (λ z. Looks before z r c seen p old new) (sym b.1.0) (begins k before r c seen p old new some b.0 nodes)
+  | inr w ↦ subst (λ z. Looks before after r c seen z old new) (sym w.0) (subst (λ z. Looks before after r c seen (Word 1) old z) (sym w.1.1) (reads-anew before after r c seen old some slot w.1.0))
 ]
 
--- where the guard differs, the task ends, and takes nothing
-differs-ends : (n : ℕ) (r : Below) (c : Config) (seen : Seen) (old : FreeSlots) → Hears (below_asks c r Guard) seen → seen ≢ Was r.upper.status → Looks n n r c seen Restart old old
-differs-ends n r c seen old hears ne = record {
+-- where the guard is a frozen node's, the task ends, and takes nothing
+frozen-ends : (n : ℕ) (r : Below) (c : Config) (v : ℕ) (seen : Seen) (old : FreeSlots) → seen ≡ Was v → (status v).frozen ≡ true → Looks n n r c seen Restart old old
+frozen-ends n r c v seen old is frozen = record {
   begun = λ e. absurd (cc);
   ready = tt;
   nearer = omega arith;
   taken = inr (record { fewer = omega arith; slots = refl });
   ends = record {
     done = λ e. absurd (cc);
-    restart = λ e. inr (other-upper r.upper r.lower seen hears ne);
-    no_swap = λ e. absurd (was-no-swap r.upper.guard seen hears e);
+    restart = λ e. inr (subst (below_differs r.lower Guard) (sym is) frozen);
+    no_swap = λ e. absurd (heard v seen is e);
     full_swaps = λ e. absurd (cc);
     full_nodes = λ e. absurd (cc);
   };
 }
 
-pub looks : (n left before after : ℕ) (r : Below) (c : Config) (seen : Seen) (p : Phase) (old new : FreeSlots) → r.upper.slot < c.nodes → Hears (below_asks c r Guard) seen → HasLookedBelow n left before after r seen p old new → old.nodes ≡ c.nodes → Looks before after r c seen p old new
-looks n left before after r c seen p old new slot hears h nodes = elim h [
-  | inl g ↦ subst (λ z. Looks before after r c z p old new) (sym g.0) (begins-or-waits n left before after r c p old new slot g.1 nodes)
+pub looks : (n left before after : ℕ) (r : Below) (c : Config) (v : ℕ) (seen : Seen) (p : Phase) (old new : FreeSlots) → r.upper.slot < c.nodes → seen ≡ Was v → HasLookedBelow n left before after r v p old new → old.nodes ≡ c.nodes → Looks before after r c seen p old new
+looks n left before after r c v seen p old new slot is h nodes = elim h [
+  | inl g ↦ begins-or-waits n left before after r c seen p old new (heard v seen is) slot g.1 nodes
   | inr g ↦ subst (λ z. Looks before z r c seen p old new) (sym g.1.1.0)
-      (subst (λ z. Looks before before r c seen z old new) (sym g.1.0) (subst (λ z. Looks before before r c seen Restart old z) (sym g.1.1.1) (differs-ends before r c seen old hears g.0)))
+      (subst (λ z. Looks before before r c seen z old new) (sym g.1.0) (subst (λ z. Looks before before r c seen Restart old z) (sym g.1.1.1) (frozen-ends before r c v seen old is g.0)))
 ]
 
 -- the task before the look and after it
@@ -145,20 +147,23 @@ planned-anew r s good v =
     ∙ subst (λ m. (s.past.at m).value r.lower.guard ≡ r.lower.status) v.parted.is_guarded v.parted.links.guard.status)) in
     record { parted = v.parted; were = record { size = v.parent.parent.size; first = status; rest = λ i some l. absurd (omega (arith, some, l)) } }
 
--- what another look at the upper guard teaches, of a task that had these facts and was told this
-pub looked-learns : SlotsApart → ChildrenMayBeParted → GuardedLinksStand → NothingIsGained → (c : Config) (left before after : ℕ) (o r : Below) (q : Phase) (seen : Seen) (old new : FreeSlots) → SameParts o r → HasLookedBelow c.nodes left before after r seen q old new → old.nodes ≡ c.nodes
-    → (stage : Stage) (s : Scene) → s.past.config ≡ c → IsScene s → AreUnreached s old → below_facts o Guard stage s → Tells (below_asks c o Guard) stage seen s → below_facts r q Waiting (gained s old new)
-looked-learns apart parts stand nothing c left before after o r q seen old new same h nodes stage s config good free facts tells =
+-- the guard as it was found now
+thawed-now : (s : Scene) (link : Link) (v m : ℕ) → m ≤ s.past.now → Answers s link.guard v → (status v).frozen ≡ false → WasThawed link m s.past
+thawed-now s link v m order a thawed = record { again = s.past.now; order = order; now = omega arith; loads = a.loads; thawed = ap (λ z. (status z).frozen) a.value ∙ thawed }
+
+-- what another look at the upper guard teaches, of a task that had these facts and found this
+pub looked-learns : SlotsApart → ChildrenMayBeParted → LinksLeaveTheirNodes → NothingIsGained → (c : Config) (left before after : ℕ) (o r : Below) (q : Phase) (v : ℕ) (old new : FreeSlots) → SameParts o r → HasLookedBelow c.nodes left before after r v q old new → old.nodes ≡ c.nodes
+    → (stage : Stage) (s : Scene) → s.past.config ≡ c → IsScene s → AreUnreached s old → below_facts o Guard stage s → Answers s o.upper.guard v → below_facts r q Waiting (gained s old new)
+looked-learns apart parts leave nothing c left before after o r q v old new same h nodes stage s config good free facts answers =
     let known = plan-waits o stage s facts in
     let plan : IsPlanned r s.past = moved-plan o r same s known.1 in
-    let told : Tells (Some (Reads r.upper.guard)) stage seen s = subst (λ (z : Link). Tells (Some (Reads z.guard)) stage seen s) (sym same.upper) tells in
+    let a : Answers s r.upper.guard v = subst (λ (z : Link). Answers s z.guard v) (sym same.upper) answers in
     elim h [
       | inl g ↦ elim g.1 [
         | inl b ↦ (
-            let a : Answers s r.upper.guard r.upper.status = (read-answers r.upper.guard r.upper.status stage s (subst (λ z. Tells (Some (Reads r.upper.guard)) stage z s) g.0 told)).1 in
-            let clear : IsClear s r.upper = clear-of stand apart s r.upper good plan.parted.links.upper_guard plan.parted.links.upper_thawed a.value in
+            let clear : IsClear s r.upper = clear-of leave apart s r.upper good plan.parted.links.upper_guard plan.parted.links.upper_thawed in
             begun-knows apart parts nothing r q s old new good (subst (λ (z : Config). HasBegunBelow z.nodes r q old new) (sym config) b.0) (nodes ∙ ap (λ (z : Config). z.nodes) (sym config)) free known.0 plan
-            (answered-as-read s r.upper plan.parted.moment plan.parted.leaf.now a) clear)
+            (thawed-now s r.upper v plan.parted.moment plan.parted.leaf.now a g.0) clear)
         | inr w ↦ subst (λ z. below_facts r z Waiting (gained s old new)) (sym w.0)
             (subst (λ z. below_facts r (Word 1) Waiting (gained s old z)) (sym w.1.1) (nothing s old known.0, (omega arith, (omega arith, planned-anew r s good plan))))
       ]

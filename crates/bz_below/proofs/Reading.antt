@@ -25,7 +25,7 @@ use Rattle.bz_below.proofs.Ending.{EndsWell, goes-on, was-no-swap}
 -- a word that was read is kept
 module _ (r : Below) (i v : ℕ) (s : Scene) (good : IsScene s) (some : 0 < i) (l : i < NODE_WORDS) (f : IsReading r i s.past) (a : Answers s (node_address s.past.config r.upper.slot + i) v) where
   abbrev kept : Below
-  kept = record { upper = r.upper; lower = r.lower; slot = r.slot; image = r.image; read = slice_set r.read i v; sep = r.sep }
+  kept = record { upper = r.upper; lower = r.lower; slot = r.slot; image = r.image; read = slice_set r.read i v; sep = r.sep; guard = r.guard }
 
   long : i < length r.read
   long = omega (arith, l, f.were.size)
@@ -74,10 +74,10 @@ fresh-known c r seen Took s f t = absurd (f)
 
 -- after a word of the parent
 pub word-known : (c : Config) (r : Below) (i v : ℕ) (seen : Seen) (stage : Stage) (s : Scene) → s.past.config ≡ c → IsScene s → ((w : ℕ) → seen ≡ Was w → v ≡ w) → below_facts r (Word i) stage s → Tells (below_asks c r (Word i)) stage seen s
-    → below_facts (record { upper = r.upper; lower = r.lower; slot = r.slot; image = r.image; read = slice_set r.read i v; sep = r.sep }) (word_after i) Waiting s
+    → below_facts (record { upper = r.upper; lower = r.lower; slot = r.slot; image = r.image; read = slice_set r.read i v; sep = r.sep; guard = r.guard }) (word_after i) Waiting s
 word-known c r i v (Was w) Waiting s same good found f t =
     let a : Answers s (node_address s.past.config r.upper.slot + i) v = subst (λ (z : Config). Answers s (node_address z r.upper.slot + i) v) (sym same) (subst (Answers s (node_address c r.upper.slot + i)) (sym (found w refl)) t) in
-    next-word (record { upper = r.upper; lower = r.lower; slot = r.slot; image = r.image; read = slice_set r.read i v; sep = r.sep }) i s f.0 f.1.1.0 (kept-reading r i v s good f.1.0 f.1.1.0 f.1.1.1 a)
+    next-word (record { upper = r.upper; lower = r.lower; slot = r.slot; image = r.image; read = slice_set r.read i v; sep = r.sep; guard = r.guard }) i s f.0 f.1.1.0 (kept-reading r i v s good f.1.0 f.1.1.0 f.1.1.1 a)
 word-known c r i v Start Waiting s same good found f t = absurd (t)
 word-known c r i v Stored Waiting s same good found f t = absurd (t)
 word-known c r i v Flushed Waiting s same good found f t = absurd (t)
@@ -95,7 +95,7 @@ pub record Words (c : Config) (r : Below) (i : ℕ) (seen : Seen) (p : Phase) (f
   pub ready : IsReadyBelow c r p
   pub nearer : below_left p < below_left (Word i)
   pub fewer : below_needs p ≤ SPLIT_SLOTS
-  pub ends : EndsWell r.upper r.lower seen (Word i) p free
+  pub ends : EndsWell r.lower seen (Word i) p free
 
 word-waits : (r : Below) (i : ℕ) (stage : Stage) (s : Scene) → below_facts r (Word i) stage s → (0 < i) × ((i < NODE_WORDS) × IsReading r i s.past)
 word-waits r i Waiting s f = f.1
@@ -116,13 +116,13 @@ words-on c r i seen stage s free same good h f = choose (nat_lt (i + 1) NODE_WOR
     choose : (b : Bool) → nat_lt (i + 1) NODE_WORDS ≡ b → Words c r i seen (if b then Word (i + 1) else Again) free
     choose true e =
         let k : i + 1 < NODE_WORDS = grind (arith, nat_tests) in
-        record { begun = λ q. absurd (cc); ready = (slot, k); nearer = omega (arith, k); fewer = omega arith; ends = goes-on r.upper r.lower seen (Word i) (Word (i + 1)) free refl (was-no-swap (node_address c r.upper.slot + i) seen h) }
-    choose false e = record { begun = λ q. absurd (cc); ready = tt; nearer = omega (arith, w.1.0); fewer = omega arith; ends = goes-on r.upper r.lower seen (Word i) Again free refl (was-no-swap (node_address c r.upper.slot + i) seen h) }
+        record { begun = λ q. absurd (cc); ready = (slot, k); nearer = omega (arith, k); fewer = omega arith; ends = goes-on r.lower seen (Word i) (Word (i + 1)) free refl (was-no-swap (node_address c r.upper.slot + i) seen h) }
+    choose false e = record { begun = λ q. absurd (cc); ready = tt; nearer = omega (arith, w.1.0); fewer = omega arith; ends = goes-on r.lower seen (Word i) Again free refl (was-no-swap (node_address c r.upper.slot + i) seen h) }
 
 -- what is asked for next is the same whatever was read
-pub word-ready : (c : Config) (r : Below) (read : List ℕ) (i : ℕ) → IsReadyBelow c r (word_after i) → IsReadyBelow c (record { upper = r.upper; lower = r.lower; slot = r.slot; image = r.image; read = read; sep = r.sep }) (word_after i)
+pub word-ready : (c : Config) (r : Below) (read : List ℕ) (i : ℕ) → IsReadyBelow c r (word_after i) → IsReadyBelow c (record { upper = r.upper; lower = r.lower; slot = r.slot; image = r.image; read = read; sep = r.sep; guard = r.guard }) (word_after i)
 word-ready c r read i f = choose (nat_lt (i + 1) NODE_WORDS) f
   where
-    choose : (b : Bool) → IsReadyBelow c r (if b then Word (i + 1) else Again) → IsReadyBelow c (record { upper = r.upper; lower = r.lower; slot = r.slot; image = r.image; read = read; sep = r.sep }) (if b then Word (i + 1) else Again)
+    choose : (b : Bool) → IsReadyBelow c r (if b then Word (i + 1) else Again) → IsReadyBelow c (record { upper = r.upper; lower = r.lower; slot = r.slot; image = r.image; read = read; sep = r.sep; guard = r.guard }) (if b then Word (i + 1) else Again)
     choose true g = g
     choose false g = tt

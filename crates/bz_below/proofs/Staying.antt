@@ -13,6 +13,7 @@ use Rattle.bz_slotted.specs.ReadingLaws.{node_of}
 use Rattle.bz_slotted.specs.Rules.{node_fault}
 use Rattle.bz_slotted.specs.Page.{Page}
 use Rattle.bz_slotted.specs.Records.{pointer_at}
+use Rattle.bz_word.specs.Statuses.{status}
 use Rattle.bz_task.specs.Instant.{Instant, words, page_at, form_at, is_inside}
 use Rattle.bz_task.specs.Laws.{NothingIsGained}
 use Rattle.bz_task.specs.Outcomes.{IsUnderNode, IsGuarded}
@@ -20,16 +21,16 @@ use Rattle.bz_task.specs.OwnActs.{gained}
 use Rattle.bz_task.specs.Requests.{IsPointerPlace}
 use Rattle.bz_task.specs.Scene.{Past, Scene, Stage, Waiting, Took, IsLawful, Continues, HasFilled}
 use Rattle.bz_task.specs.declared.path.Link.{Link}
-use Rattle.bz_renew.specs.Guards.{WasAsRead}
-use Rattle.bz_renew.proofs.Guards.{as-read-stays}
+use Rattle.bz_renew.specs.Nodes.{Nodes}
 use Rattle.bz_renew.proofs.NodeWrites.{nodes-stay, begun-stays, nodes-no-slot, begun-no-slot}
 use Rattle.bz_renew.proofs.Staying.{frozen-leaf-stays}
 use Rattle.bz_below.specs.Facts.{Below, below_nodes, HasPartedBelow, IsReading, IsPlanned, LackedRoom, IsSplittingBelow, WasSplitBelow, parent_words, below_facts}
 use Rattle.bz_split.specs.BelowSplits.{AreLinksDown}
 use Rattle.bz_split.specs.Facts.{SPLIT_WORDS, SPLIT_LINES}
+use Rattle.bz_below.specs.Guards.{WasThawed, WasNamed}
 use Rattle.bz_below.specs.Parents.{WasWord, WereRead, IsParentOf, WasParent}
 use Rattle.bz_below.specs.declared.phase.Phase.{Phase}
-use Rattle.bz_below.specs.declared.phase.Phase.TheVariants.{Fresh, Word, Again, Guard, Store, Flush, Swap, Done, Restart, NoRoom, NoSlot, NoSwap}
+use Rattle.bz_below.specs.declared.phase.Phase.TheVariants.{Fresh, Word, Again, Guard, Store, Flush, Named, Swap, Done, Restart, NoRoom, NoSlot, NoSwap}
 use Rattle.bz_split.proofs.Staying.{stood-stays}
 
 -- a child pointer stays one, of the same child
@@ -142,9 +143,31 @@ module _ (p q : Past) (c : Continues p q) where
     room = v.room;
   }
 
-  pub looked-stays : (r : Below) (v : IsPlanned r p) → WasAsRead r.upper v.parted.moment p → WasAsRead r.upper (planned-stays r v).parted.moment q
+  thawed-stays : (link : Link) (m : ℕ) → WasThawed link m p → WasThawed link m q
+  thawed-stays link m w = record {
+    again = w.again;
+    order = w.order;
+    now = omega (arith, w.now, c.now);
+    loads = c.loads w.again w.now ∙ w.loads;
+    thawed = ap (λ (x : Instant). (status (x.value link.guard)).frozen) (c.at w.again w.now) ∙ w.thawed;
+  }
+
+  pub looked-stays : (r : Below) (v : IsPlanned r p) → WasThawed r.upper v.parted.moment p → WasThawed r.upper (planned-stays r v).parted.moment q
   unfolding planned-stays below-stays
-  looked-stays r v w = as-read-stays p q c r.upper v.parted.moment w
+  looked-stays r v w = thawed-stays r.upper v.parted.moment w
+
+  named-stays : (link : Link) (word : ℕ) (nodes : Nodes) → WasNamed link word nodes p → WasNamed link word nodes q
+  named-stays link word nodes w = record {
+    named = w.named;
+    since = omega (arith, w.since, c.since);
+    now = omega (arith, w.now, c.now);
+    loads = c.loads w.named w.now ∙ w.loads;
+    plain = w.plain;
+    thawed = w.thawed;
+    value = ap (λ (x : Instant). x.value link.guard) (c.at w.named w.now) ∙ w.value;
+    under = elim w.under [ inl u ↦ inl u | inr u ↦ inr (under-stays link w.named w.now u) ];
+    durable = λ n i h l. (λ t. (c.at w.named w.now t).image (node_address (c.config t) (nodes.slot n) + i)) ∙ w.durable n i h l;
+  }
 
   pub over-stays : (r : Below) (v : IsPlanned r p) → r.image 0 ≡ parent_words r v.parted.child v.parent.level v.parent.low v.parent.high
       → r.image 0 ≡ parent_words r (planned-stays r v).parted.child (planned-stays r v).parent.level (planned-stays r v).parent.low (planned-stays r v).parent.high
@@ -206,7 +229,8 @@ module _ (r : Below) (s after : Scene) (l : IsLawful s after) where
   stable (Store j) Took f = (begun-stays (below_nodes r) (j + 1) s after f.0 l, (f.1.0, splitting (j + 1) 0 f.1.1))
   stable (Flush j) Waiting f = (filled f.0, (f.1.0, splitting SPLIT_WORDS j f.1.1))
   stable (Flush j) Took f = (filled f.0, (f.1.0, splitting SPLIT_WORDS (j + 1) f.1.1))
-  stable Swap Waiting f = (filled f.0, splitting SPLIT_WORDS SPLIT_LINES f.1)
+  stable Named Waiting f = (filled f.0, splitting SPLIT_WORDS SPLIT_LINES f.1)
+  stable Swap Waiting f = (filled f.0, (splitting SPLIT_WORDS SPLIT_LINES f.1.0, named-stays s.past after.past l.continues r.upper r.guard (below_nodes r) f.1.1))
   stable Swap Took f = (filled f.0, split-stays s.past after.past l.continues r.upper r.lower (r.image 1) (r.image 2) r.sep f.1)
   stable Done Waiting f = (filled f.0, split-stays s.past after.past l.continues r.upper r.lower (r.image 1) (r.image 2) r.sep f.1)
   stable NoRoom Waiting f = (filled f.0, lacked-stays s.past after.past l.continues r.upper r.lower r.sep f.1)
@@ -217,6 +241,7 @@ module _ (r : Below) (s after : Scene) (l : IsLawful s after) where
   stable (Word i) Took f = absurd (f)
   stable Again Took f = absurd (f)
   stable Guard Took f = absurd (f)
+  stable Named Took f = absurd (f)
   stable Done Took f = absurd (f)
   stable NoRoom Took f = absurd (f)
   stable Restart Took f = absurd (f)
@@ -243,7 +268,8 @@ module _ (nothing : NothingIsGained) (r : Below) (s : Scene) (free : FreeSlots) 
   no-slot Guard f = (nothing s free f.0, f.1)
   no-slot (Store j) f = (begun-no-slot (below_nodes r) j s free f.0, (f.1.0, splitting-too j 0 f.1.1))
   no-slot (Flush j) f = (nothing s free f.0, (f.1.0, splitting-too SPLIT_WORDS j f.1.1))
-  no-slot Swap f = (nothing s free f.0, splitting-too SPLIT_WORDS SPLIT_LINES f.1)
+  no-slot Named f = (nothing s free f.0, splitting-too SPLIT_WORDS SPLIT_LINES f.1)
+  no-slot Swap f = (nothing s free f.0, (splitting-too SPLIT_WORDS SPLIT_LINES f.1.0, f.1.1))
   no-slot Done f = (nothing s free f.0, f.1)
   no-slot NoRoom f = (nothing s free f.0, f.1)
   no-slot Restart f = nothing s free f

@@ -12,7 +12,7 @@ use Rattle.bz_task.specs.declared.todo.Seen.TheVariants.{Read as Was}
 use Rattle.bz_below.specs.Facts.{Below, IsReading, HasParent, HasTold, below_asks, below_left, below_needs, below_facts, IsReadyBelow}
 use Rattle.bz_below.specs.Parents.{WereRead, WasParent, ReadParentsWere}
 use Rattle.bz_below.specs.declared.phase.Phase.{Phase}
-use Rattle.bz_below.specs.declared.phase.Phase.TheVariants.{Fresh, Word, Again, Guard, Store, Flush, Swap, Done, Restart, NoRoom, NoSlot, NoSwap}
+use Rattle.bz_below.specs.declared.phase.Phase.TheVariants.{Fresh, Word, Again, Guard, Store, Flush, Named, Swap, Done, Restart, NoRoom, NoSlot, NoSwap}
 use Rattle.bz_below.proofs.Ending.{EndsWell, goes-on, other-lower, read-answers, was-no-swap}
 
 -- the parent, where its status is found as it was
@@ -59,6 +59,7 @@ told-learns law c r (Word i) seen stage s h same good f t = absurd (h)
 told-learns law c r Again seen stage s h same good f t = absurd (h)
 told-learns law c r (Store j) seen stage s h same good f t = absurd (h)
 told-learns law c r (Flush j) seen stage s h same good f t = absurd (h)
+told-learns law c r Named seen stage s h same good f t = absurd (h)
 told-learns law c r Swap seen stage s h same good f t = absurd (h)
 told-learns law c r Done seen stage s h same good f t = absurd (h)
 told-learns law c r NoSlot seen stage s h same good f t = absurd (h)
@@ -70,11 +71,11 @@ pub record Tolds (r : Below) (c : Config) (seen : Seen) (p : Phase) (free : Free
   pub ready : IsReadyBelow c r p
   pub nearer : below_left p < below_left Again
   pub taken : AreTakenFrom SPLIT_SLOTS (below_needs p) free free
-  pub ends : EndsWell r.upper r.lower seen Again p free
+  pub ends : EndsWell r.lower seen Again p free
 
 pub tolds : (r : Below) (c : Config) (seen : Seen) (p : Phase) (free : FreeSlots) → Hears (below_asks c r Again) seen → HasTold r seen p → Tolds r c seen p free
 tolds r c seen Guard free hears h =
-    record { begun = λ e. absurd (cc); ready = tt; nearer = omega arith; taken = inr (record { fewer = omega arith; slots = refl }); ends = goes-on r.upper r.lower seen Again Guard free refl (was-no-swap r.lower.guard seen hears) }
+    record { begun = λ e. absurd (cc); ready = tt; nearer = omega arith; taken = inr (record { fewer = omega arith; slots = refl }); ends = goes-on r.lower seen Again Guard free refl (was-no-swap r.lower.guard seen hears) }
 tolds r c seen NoRoom free hears h = record {
   begun = λ e. absurd (cc);
   ready = tt;
@@ -89,7 +90,7 @@ tolds r c seen Restart free hears h = record {
   taken = inr (record { fewer = omega arith; slots = refl });
   ends = record {
     done = λ e. absurd (cc);
-    restart = λ e. inr (other-lower r.upper r.lower seen hears h);
+    restart = λ e. inr (other-lower r.lower seen hears h);
     no_swap = λ e. absurd (was-no-swap r.lower.guard seen hears e);
     full_swaps = λ e. absurd (cc);
     full_nodes = λ e. absurd (cc);
@@ -100,6 +101,7 @@ tolds r c seen (Word i) free hears h = absurd (h)
 tolds r c seen Again free hears h = absurd (h)
 tolds r c seen (Store j) free hears h = absurd (h)
 tolds r c seen (Flush j) free hears h = absurd (h)
+tolds r c seen Named free hears h = absurd (h)
 tolds r c seen Swap free hears h = absurd (h)
 tolds r c seen Done free hears h = absurd (h)
 tolds r c seen NoSlot free hears h = absurd (h)

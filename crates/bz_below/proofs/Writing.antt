@@ -2,22 +2,17 @@
 use Rattle.std.proofs.Common.{◌≡◌, ℕ, ◌+◌, ◌<◌, if◌then◌else◌, Bool, true, false, arith, refl, sym, subst}
 use Rattle.std.specs.Prelude.{nat_lt, ◌≤◌}
 use Rattle.std.proofs.lemmas.Bool.Decides.{nat_tests}
-use Rattle.bz_layout.specs.Addresses.{node_address}
 use Rattle.bz_layout.specs.declared.config.Config.{Config}
-use Rattle.bz_layout.specs.declared.sizes.TheConstants.{STATUS_AT}
 use Rattle.bz_task.specs.Requests.{Tells}
-use Rattle.bz_task.specs.Scene.{Scene, Stage, Waiting, Took, IsScene}
+use Rattle.bz_task.specs.Scene.{Scene, Stage, Waiting, Took}
 use Rattle.bz_task.specs.declared.todo.Seen.{Seen}
 use Rattle.bz_task.specs.declared.todo.Seen.TheVariants.{Stored, Flushed}
 use Rattle.bz_renew.specs.Nodes.{HaveSlots}
-use Rattle.bz_renew.specs.Renewals.{link_entry, guard_entry, IsTurnable, LinksMayBeTurned}
 use Rattle.bz_renew.proofs.NodeWrites.{all-begun}
-use Rattle.bz_renew.proofs.TwoEntries.{no-target}
-use Rattle.bz_below.specs.Facts.{Below, below_nodes, IsSplittingBelow, IsSwapReady, below_asks, below_facts, store_after, flush_after, IsReadyBelow}
+use Rattle.bz_below.specs.Facts.{Below, below_nodes, IsSplittingBelow, below_asks, below_facts, store_after, flush_after, IsReadyBelow}
 use Rattle.bz_split.specs.Facts.{SPLIT_WORDS, SPLIT_LINES}
 use Rattle.bz_below.specs.declared.phase.Phase.{Phase}
-use Rattle.bz_below.specs.declared.phase.Phase.TheVariants.{Store, Flush, Swap}
-use Rattle.bz_below.proofs.Acting.{upper-slot}
+use Rattle.bz_below.specs.declared.phase.Phase.TheVariants.{Store, Flush, Named}
 
 -- after a store
 pub next-stored : (r : Below) (j : ℕ) (s : Scene) → below_facts r (Store j) Took s → below_facts r (store_after j) Waiting s
@@ -43,34 +38,21 @@ ready-stored c r j s same f = choose (nat_lt (j + 1) SPLIT_WORDS) refl
 pub next-flushed : (r : Below) (j : ℕ) (s : Scene) → below_facts r (Flush j) Took s → below_facts r (flush_after j) Waiting s
 next-flushed r j s f = choose (nat_lt (j + 1) SPLIT_LINES) refl
   where
-    choose : (b : Bool) → nat_lt (j + 1) SPLIT_LINES ≡ b → below_facts r (if b then Flush (j + 1) else Swap) Waiting s
+    choose : (b : Bool) → nat_lt (j + 1) SPLIT_LINES ≡ b → below_facts r (if b then Flush (j + 1) else Named) Waiting s
     choose true e = (f.0, ((let l : j + 1 < SPLIT_LINES = grind (arith, nat_tests) in l), f.1.1))
     choose false e =
         let all : j + 1 ≡ SPLIT_LINES = (let past : SPLIT_LINES ≤ j + 1 = grind (arith, nat_tests) in omega (arith, past, f.1.0)) in
         (f.0, subst (λ z. IsSplittingBelow r SPLIT_WORDS z s) all f.1.1)
 
-swap-ready : LinksMayBeTurned → (r : Below) (lines : ℕ) (s : Scene) → IsScene s → IsSplittingBelow r SPLIT_WORDS lines s → IsSwapReady s.past.config r
-swap-ready turned r lines s good f =
-    let v = f.planned.parted in
-    let t : IsTurnable r.upper s = turned s r.upper good v.links.upper_guard v.links.upper_thawed in
-    let u : IsTurnable r.lower s = turned s r.lower good v.links.guard v.links.thawed in
-    record {
-      upper_plain = t.plain;
-      lower_plain = u.plain;
-      apart = t.apart;
-      slot = upper-slot r.upper r.lower (r.image 1) (r.image 2) r.sep s good v;
-      target = no-target (link_entry r.upper (r.slot 0)) (guard_entry r.upper) (node_address s.past.config r.upper.slot + STATUS_AT) f.link_apart f.guard_apart;
-    }
-
-pub ready-flushed : LinksMayBeTurned → (c : Config) (r : Below) (j : ℕ) (s : Scene) → s.past.config ≡ c → IsScene s → below_facts r (Flush j) Took s → IsReadyBelow c r (flush_after j)
-ready-flushed turned c r j s same good f = choose (nat_lt (j + 1) SPLIT_LINES) refl
+pub ready-flushed : (c : Config) (r : Below) (j : ℕ) (s : Scene) → s.past.config ≡ c → below_facts r (Flush j) Took s → IsReadyBelow c r (flush_after j)
+ready-flushed c r j s same f = choose (nat_lt (j + 1) SPLIT_LINES) refl
   where
     slots : HaveSlots c.nodes (below_nodes r)
     slots = subst (λ (z : Config). HaveSlots z.nodes (below_nodes r)) same f.1.1.writing.slots
 
-    choose : (b : Bool) → nat_lt (j + 1) SPLIT_LINES ≡ b → IsReadyBelow c r (if b then Flush (j + 1) else Swap)
+    choose : (b : Bool) → nat_lt (j + 1) SPLIT_LINES ≡ b → IsReadyBelow c r (if b then Flush (j + 1) else Named)
     choose true e = (slots, grind (arith, nat_tests))
-    choose false e = (slots, subst (λ (z : Config). IsSwapReady z r) same (swap-ready turned r (j + 1) s good f.1.1))
+    choose false e = tt
 
 -- a store, or a flush, that was told of was made
 store-took : (c : Config) (r : Below) (j : ℕ) (stage : Stage) (s : Scene) → below_facts r (Store j) stage s → Tells (below_asks c r (Store j)) stage Stored s → below_facts r (Store j) Took s
@@ -95,8 +77,8 @@ module _ (c : Config) (r : Below) (p q : Phase) (j : ℕ) (seen : Seen) (stage :
   pub store-learns : p ≡ Store j → seen ≡ Stored → q ≡ store_after j → below_facts r q Waiting s
   store-learns is e then_is = subst (λ z. below_facts r z Waiting s) (sym then_is) (next-stored r j s (at-store is e))
 
-  pub flush-ready : LinksMayBeTurned → IsScene s → p ≡ Flush j → seen ≡ Flushed → q ≡ flush_after j → IsReadyBelow c r q
-  flush-ready turned good is e then_is = subst (IsReadyBelow c r) (sym then_is) (ready-flushed turned c r j s same good (at-flush is e))
+  pub flush-ready : p ≡ Flush j → seen ≡ Flushed → q ≡ flush_after j → IsReadyBelow c r q
+  flush-ready is e then_is = subst (IsReadyBelow c r) (sym then_is) (ready-flushed c r j s same (at-flush is e))
 
   pub flush-learns : p ≡ Flush j → seen ≡ Flushed → q ≡ flush_after j → below_facts r q Waiting s
   flush-learns is e then_is = subst (λ z. below_facts r z Waiting s) (sym then_is) (next-flushed r j s (at-flush is e))

@@ -15,7 +15,7 @@ three parent left right (suc zero) = left
 three parent left right (suc (suc n)) = right
 
 abbrev pub below_of : SplitBelow → Below
-below_of t = record { upper = t.upper; lower = t.lower; slot = slice_index t.slots; image = three t.parent.0 t.halves.left.0 t.halves.right.0; read = t.read.0; sep = t.halves.separator }
+below_of t = record { upper = t.upper; lower = t.lower; slot = slice_index t.slots; image = three t.parent.0 t.halves.left.0 t.halves.right.0; read = t.read.0; sep = t.halves.separator; guard = t.guard }
 
 abbrev pub asks_below : SplitBelow → Option Todo
 asks_below t = below_asks t.config (below_of t) t.phase
@@ -33,4 +33,4 @@ abbrev pub facts_below : SplitBelow → Stage → Scene → Type 0
 facts_below t = below_facts (below_of t) t.phase
 
 abbrev pub differs_below : SplitBelow → Seen → Type 0
-differs_below t = below_differs t.upper t.lower t.phase
+differs_below t = below_differs t.lower t.phase

@@ -27,22 +27,23 @@ use Rattle.bz_task.specs.declared.todo.Seen.TheVariants.{Read as Was}
 use Rattle.bz_task.specs.declared.todo.Todo.{Todo}
 use Rattle.bz_task.specs.declared.todo.Todo.TheVariants.{Read as Reads, Store as Stores_at, Flush as Flushes_line, Swap as Swaps_for, Finish}
 use Rattle.bz_halves.specs.Parents.{parted_words}
+use Rattle.bz_word.specs.Statuses.{status}
 use Rattle.bz_renew.specs.Due.{IsStatusOf}
 use Rattle.bz_renew.specs.FrozenLeaves.{WasFrozenLeaf}
-use Rattle.bz_renew.specs.Guards.{WasAsRead}
 use Rattle.bz_renew.specs.Renewals.{renewal}
 use Rattle.bz_swap.specs.SwapMemory.{is_target}
 use Rattle.bz_renew.specs.Nodes.{Nodes, word_address, word_value, line_number, AreWriting, ArePlain, HaveSlots, HasFilledBegun, AreSlotsTaken}
 use Rattle.bz_split.specs.BelowSplits.{AreLinksDown, below_swap}
 use Rattle.bz_split.specs.Facts.{SPLIT_WORDS, SPLIT_LINES, StoodFresh}
+use Rattle.bz_below.specs.Guards.{with_guard, WasThawed, WasNamed}
 use Rattle.bz_below.specs.Parents.{WereRead, IsParentOf, WasParent}
 use Rattle.bz_split.specs.Parts.{ArePartsOf}
 use Rattle.bz_below.specs.declared.phase.Phase.{Phase}
 use Rattle.bz_below.specs.declared.phase.TheConstants.{MOST_WAITS}
-use Rattle.bz_below.specs.declared.phase.Phase.TheVariants.{Fresh, Word, Again, Guard, Store, Flush, Swap, Done, Restart, NoRoom, NoSlot, NoSwap}
+use Rattle.bz_below.specs.declared.phase.Phase.TheVariants.{Fresh, Word, Again, Guard, Store, Flush, Named, Swap, Done, Restart, NoRoom, NoSlot, NoSwap}
 
 -- the link to the parent and the link to the leaf; the slots and the words of the new parent, of the left half and of the right
--- half; the words that were read of the parent so far; and the separator
+-- half; the words that were read of the parent so far; the separator; and the upper guard that the swap names
 pub record Below : Type 0 where
   pub upper : Link
   pub lower : Link
@@ -50,6 +51,7 @@ pub record Below : Type 0 where
   pub image : ℕ → List ℕ
   pub read : List ℕ
   pub sep : List ℕ
+  pub guard : ℕ
 
 abbrev pub below_nodes : Below → Nodes
 below_nodes r = record { count = SPLIT_SLOTS; slot = r.slot; image = r.image }
@@ -61,7 +63,8 @@ below_asks c r Again = Some (Reads r.lower.guard)
 below_asks c r Guard = Some (Reads r.upper.guard)
 below_asks c r (Store j) = Some (Stores_at (word_address c (below_nodes r) j) (word_value (below_nodes r) j))
 below_asks c r (Flush j) = Some (Flushes_line (line_number c (below_nodes r) j))
-below_asks c r Swap = Some (Swaps_for (below_swap c r.upper r.lower (r.slot 0)))
+below_asks c r Named = Some (Reads r.upper.guard)
+below_asks c r Swap = Some (Swaps_for (below_swap c (with_guard r.upper r.guard) r.lower (r.slot 0)))
 below_asks c r phase = Some Finish
 
 abbrev pub below_end : Phase → Option Outcome
@@ -72,10 +75,10 @@ below_end NoSlot = Some (IsFull NoNodes)
 below_end NoSwap = Some (IsFull NoSwaps)
 below_end phase = None
 
--- the most acts where the parent is read once: the loads of its words and of the two guards, a store for each word, a flush for each
--- line, the swap, and the end
+-- the most acts where the parent is read once: the loads of its words, of its status and of the upper guard, a store for each word, a
+-- flush for each line, the load of the upper guard, the swap, and the end
 abbrev pub below_once : ℕ
-below_once = NODE_WORDS + SPLIT_WORDS + SPLIT_LINES + 3
+below_once = NODE_WORDS + SPLIT_WORDS + SPLIT_LINES + 4
 
 -- the parent may be read anew so many times, and each time both guards are looked at
 abbrev pub below_acts : ℕ
@@ -84,10 +87,11 @@ below_acts = (NODE_WORDS + 1) * MOST_WAITS + below_once
 abbrev pub below_left : Phase → ℕ
 below_left Fresh = below_once
 below_left (Word i) = below_once - i
-below_left Again = SPLIT_WORDS + SPLIT_LINES + 3
-below_left Guard = SPLIT_WORDS + SPLIT_LINES + 2
-below_left (Store j) = SPLIT_WORDS + SPLIT_LINES + 1 - j
-below_left (Flush j) = SPLIT_LINES + 1 - j
+below_left Again = SPLIT_WORDS + SPLIT_LINES + 4
+below_left Guard = SPLIT_WORDS + SPLIT_LINES + 3
+below_left (Store j) = SPLIT_WORDS + SPLIT_LINES + 2 - j
+below_left (Flush j) = SPLIT_LINES + 2 - j
+below_left Named = 2
 below_left Swap = 1
 below_left phase = 0
 
@@ -103,12 +107,12 @@ below_needs phase = 0
 abbrev pub word_after : ℕ → Phase
 word_after i = if nat_lt (i + 1) NODE_WORDS then Word (i + 1) else Again
 
--- after a store comes the next one, or the first flush; after a flush the next one, or the swap
+-- after a store comes the next one, or the first flush; after a flush the next one, or the last look at the upper guard
 abbrev pub store_after : ℕ → Phase
 store_after j = if nat_lt (j + 1) SPLIT_WORDS then Store (j + 1) else Flush 0
 
 abbrev pub flush_after : ℕ → Phase
-flush_after j = if nat_lt (j + 1) SPLIT_LINES then Flush (j + 1) else Swap
+flush_after j = if nat_lt (j + 1) SPLIT_LINES then Flush (j + 1) else Named
 
 -- both links were read; the leaf was frozen, and the two parts say what it says. The lower guard was read at moment `guarded`, and
 -- the lower link was that to child `child`
@@ -164,12 +168,12 @@ pub record LackedRoom (upper lower : Link) (sep : List ℕ) (p : Past) : Type 0 
 abbrev pub parent_words : (r : Below) (child level : ℕ) → Option (List ℕ) → Option (List ℕ) → List ℕ
 parent_words r child level low high = parted_words (children_in r.read) child (r.slot 1) (r.slot 2) r.sep low high level
 
--- since the leaf was frozen the upper guard was looked at again, and was as the path names it; the three nodes are being written,
+-- since the leaf was frozen the upper guard was looked at again, and was no frozen node's; the three nodes are being written,
 -- the first of them the new parent: so many of their words are stored, and so many of their lines durable. The upper link is no word
 -- of the parent itself
 pub record IsSplittingBelow (r : Below) (stored lines : ℕ) (s : Scene) : Type 0 where
   pub planned : IsPlanned r s.past
-  pub looked : WasAsRead r.upper planned.parted.moment s.past
+  pub looked : WasThawed r.upper planned.parted.moment s.past
   pub link_apart : r.upper.link ≢ node_address s.past.config r.upper.slot + STATUS_AT
   pub guard_apart : r.upper.guard ≢ node_address s.past.config r.upper.slot + STATUS_AT
   pub over : r.image 0 ≡ parent_words r planned.parted.child planned.parent.level planned.parent.low planned.parent.high
@@ -220,7 +224,8 @@ below_facts r (Store j) Waiting s = HasFilledBegun (below_nodes r) j s × ((j < 
 below_facts r (Store j) Took s = HasFilledBegun (below_nodes r) (j + 1) s × ((j < SPLIT_WORDS) × IsSplittingBelow r (j + 1) 0 s)
 below_facts r (Flush j) Waiting s = HasFilled s × ((j < SPLIT_LINES) × IsSplittingBelow r SPLIT_WORDS j s)
 below_facts r (Flush j) Took s = HasFilled s × ((j < SPLIT_LINES) × IsSplittingBelow r SPLIT_WORDS (j + 1) s)
-below_facts r Swap Waiting s = HasFilled s × IsSplittingBelow r SPLIT_WORDS SPLIT_LINES s
+below_facts r Named Waiting s = HasFilled s × IsSplittingBelow r SPLIT_WORDS SPLIT_LINES s
+below_facts r Swap Waiting s = HasFilled s × (IsSplittingBelow r SPLIT_WORDS SPLIT_LINES s × WasNamed r.upper r.guard (below_nodes r) s.past)
 below_facts r Swap Took s = HasFilled s × WasSplitBelow r.upper r.lower (r.image 1) (r.image 2) r.sep s.past
 below_facts r Done Waiting s = HasFilled s × WasSplitBelow r.upper r.lower (r.image 1) (r.image 2) r.sep s.past
 below_facts r NoRoom Waiting s = HasFilled s × LackedRoom r.upper r.lower r.sep s.past
@@ -228,6 +233,7 @@ below_facts r Fresh Took s = ⊥
 below_facts r (Word i) Took s = ⊥
 below_facts r Again Took s = ⊥
 below_facts r Guard Took s = ⊥
+below_facts r Named Took s = ⊥
 below_facts r phase Waiting s = HasFilled s
 below_facts r phase Took s = ⊥
 
@@ -250,19 +256,20 @@ IsEndOfSplitBelow (IsFull NoNodes) = Unit {0}
 IsEndOfSplitBelow (IsFull NoSwaps) = Unit {0}
 IsEndOfSplitBelow outcome = ⊥
 
--- a guard is another one than the path names
-abbrev pub below_differs : Link → Link → Phase → Seen → Type 0
-below_differs upper lower Again (Was v) = v ≢ lower.status
-below_differs upper lower Guard (Was v) = v ≢ upper.status
-below_differs upper lower phase seen = ⊥
+-- the parent's status is another one than the path names, or the upper guard is a frozen node's
+abbrev pub below_differs : Link → Phase → Seen → Type 0
+below_differs lower Again (Was v) = v ≢ lower.status
+below_differs lower Guard (Was v) = (status v).frozen ≡ true
+below_differs lower Named (Was v) = (status v).frozen ≡ true
+below_differs lower phase seen = ⊥
 
 -- the swap may be made: its targets are different words
 pub record IsSwapReady (c : Config) (r : Below) : Type 0 where
-  pub upper_plain : r.upper.status < 2 ^ 61
+  pub guard_plain : r.guard < 2 ^ 61
   pub lower_plain : r.lower.status < 2 ^ 61
   pub apart : r.upper.link ≢ r.upper.guard
   pub slot : r.upper.slot < c.nodes
-  pub target : is_target (renewal r.upper (r.slot 0)) (node_address c r.upper.slot + STATUS_AT) ≡ false
+  pub target : is_target (renewal (with_guard r.upper r.guard) (r.slot 0)) (node_address c r.upper.slot + STATUS_AT) ≡ false
 
 -- what is named is there; and before the slots are taken, the parent is one that may be parted, and has the room
 abbrev pub IsReadyBelow : Config → Below → Phase → Type 0
@@ -302,10 +309,10 @@ abbrev pub HasBegunOrWaits : (nodes left before after : ℕ) → Below → Phase
 HasBegunOrWaits nodes left before after r phase old new =
     (HasBegunBelow nodes r phase old new × ((after ≡ before) × IsNotOvertaken left before old)) ⊎ ((phase ≡ Word 1) × ((after + 1 ≡ before) × (new ≡ old)))
 
--- that is where the upper guard was as the path names it; elsewhere none was taken
-abbrev pub HasLookedBelow : (nodes left before after : ℕ) → Below → Seen → Phase → FreeSlots → FreeSlots → Type 0
-HasLookedBelow nodes left before after r seen phase old new =
-    ((seen ≡ Was r.upper.status) × HasBegunOrWaits nodes left before after r phase old new) ⊎ ((seen ≢ Was r.upper.status) × ((phase ≡ Restart) × ((after ≡ before) × (new ≡ old))))
+-- that is where the upper guard was no frozen node's; elsewhere none was taken
+abbrev pub HasLookedBelow : (nodes left before after : ℕ) → Below → (word : ℕ) → Phase → FreeSlots → FreeSlots → Type 0
+HasLookedBelow nodes left before after r word phase old new =
+    (((status word).frozen ≡ false) × HasBegunOrWaits nodes left before after r phase old new) ⊎ (((status word).frozen ≡ true) × ((phase ≡ Restart) × ((after ≡ before) × (new ≡ old))))
 
 -- where the parent's status is as it was, its words tell whether there is room
 abbrev pub HasTold : Below → Seen → Phase → Type 0

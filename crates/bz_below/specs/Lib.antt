@@ -1,3 +1,4 @@
 pub mod Duties
 pub mod Facts
+pub mod Guards
 pub mod Parents

@@ -1,19 +1,32 @@
-//! What the front of a node says: its level, and its low fence.
+//! What the front of a node says: whether it is frozen, its level, and its low fence.
 
 ghost use Rattle.std.specs.Prelude.{◌≡◌, ◌+◌, ◌<◌, ◌≤◌, ◌^◌, ℕ, List, Option, None, length};
 ghost use Rattle.bz_key.specs.Packing.{packed_len, unpacked_key};
 ghost use Rattle.bz_node.specs.Reading.{part};
 ghost use Rattle.bz_slotted.specs.ReadingLaws.{node_of};
 ghost use Rattle.bz_slotted.specs.Rules.{node_fault};
+ghost use Rattle.bz_word.specs.Statuses.{status};
 
 use bz_key::Key;
 use bz_layout::{HEADER_AT, LOW_FENCE_AT};
 use bz_node::NodeImage;
 use bz_renew::is_whole;
 use bz_slotted::laws as slotted;
-use bz_word::Header;
+use bz_word::{Header, Status};
 
 const BYTES_IN_WORD: u32 = 7;
+
+/// Whether a node with this status is frozen.
+pub(crate) fn is_frozen(word: u64) -> bool
+    requires { word < 2 ^ 61 }
+    ensures { result ≡ (status word).frozen }
+{
+    bz_word::laws::statuses();
+    match Status::unpack(word) {
+        Some(status) => status.frozen,
+        None => false,
+    }
+}
 
 // The key of so many bytes that stands at a place, if there is one.
 fn key_at(words: &[u64], at: u32, len: u32) -> Option<Key>

@@ -1,5 +1,6 @@
-//! What is known of a parent that was read word by word. The function does nothing: its contract is the law.
+//! What is known of a parent that was read word by word, and of the link to it. Each function does nothing: its contract is the law.
 
+ghost use Rattle.bz_below.specs.Guards.{LinksLeaveTheirNodes, LinksStandOn};
 ghost use Rattle.bz_below.specs.Parents.{ReadParentsWere};
 
 use bz_content::laws as content;
@@ -24,4 +25,20 @@ pub fn read_parents_were()
     renew::guarded_links_stand();
     renew::frozen_leaves_stand_still();
     halves::read_children_may_be_parted();
+}
+
+/// A link that was read stands where it stood, whatever became of its guard; and it led to another node than that in which it stands.
+pub fn links_stand_on()
+    ensures stand { LinksStandOn }
+    ensures leave { LinksLeaveTheirNodes }
+{
+    content::well_formed_images_have_no_fault();
+    shape::trees_have_forms();
+    slotted::inner_rules_are_facts();
+    laws::nodes_stay();
+    laws::fronts_stay();
+    laws::separators_stay();
+    laws::headers_say_the_level();
+    laws::nodes_were_inside();
+    renew::links_turn();
 }

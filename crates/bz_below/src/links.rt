@@ -1,6 +1,7 @@
-//! The links at the end of a path.
+//! The links at the end of a path, and a link with a newer guard.
 
 ghost use Rattle.std.specs.Prelude.{◌≡◌, ◌≤◌, ◌-◌, Some, slice_get};
+ghost use Rattle.bz_below.specs.Guards.{with_guard};
 
 use bz_task::{Link, Path};
 
@@ -11,4 +12,14 @@ pub(crate) fn upper_link(path: &Path) -> Link
     ensures { slice_get path.now.links (path.now.depth - 2) ≡ Some result }
 {
     path.links[path.depth as usize - 2]
+}
+
+/// The link, with another value of its guard.
+pub(crate) fn guarded_by(link: &Link, word: u64) -> Link
+    ensures { result ≡ with_guard link.now word }
+{
+    Link {
+        status: word,
+        ..*link
+    }
 }

@@ -13,17 +13,19 @@ pub(crate) enum Phase {
     Word(u32),
     /// The load of the parent's status, once more.
     Again,
-    /// The load of the guard of the link to the parent, once more.
+    /// The load of the guard of the link to the parent.
     Guard,
     /// The store of one of the words of its three nodes, counted through.
     Store(u32),
     /// The flush of one of their lines, counted through.
     Flush(u32),
+    /// The load of the guard of the link to the parent, once the nodes are durable: the swap names what it finds.
+    Named,
     /// The swap of the link to the parent, its guard and the parent's status.
     Swap,
     /// The swap took effect.
     Done,
-    /// A guard or a link was another one, at a load of a guard or at the swap.
+    /// The parent's status was another one, or the guard of the link to it a frozen node's; or the swap was refused.
     Restart,
     /// The parent has no room for the separator.
     NoRoom,

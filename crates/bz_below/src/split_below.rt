@@ -19,9 +19,9 @@ ghost use Rattle.bz_below.specs.Duties.{below_of, asks_below, end_below, left_be
 ghost use Rattle.bz_below.specs.Facts.{IsEndOfSplitBelow, below_nodes, below_acts, below_left, below_facts, below_means, HasRoom, HasParent, IsNewParent, HasBegunBelow, HasLookedBelow, HasTold, IsNotOvertaken, HasBegunOrWaits, IsReadyBelow, IsThawedAbove, WasPartedBelow, LackedPart, below_needs, word_after, store_after, flush_after};
 ghost use Rattle.bz_split.specs.Facts.{split_change};
 
-use crate::front::{level_of, low_fence};
-use crate::laws::read_parents_were;
-use crate::links::upper_link;
+use crate::front::{is_frozen, level_of, low_fence};
+use crate::laws::{links_stand_on, read_parents_were};
+use crate::links::{guarded_by, upper_link};
 use crate::phase::{MOST_WAITS, Phase};
 use bz_call::Spent;
 use bz_halves::{Halves, ParentChange, parent_over, place_of};
@@ -40,9 +40,11 @@ const SPLIT_WORDS: u32 = NODE_WORDS * SPLIT_SLOTS;
 const SPLIT_LINES: u32 = NODE_LINES * SPLIT_SLOTS;
 
 /// The split of the frozen leaf that a view shows, below a parent. It ends with Done where a new parent, with the leaf's halves in
-/// its place, has taken the old one's place, which is frozen; with Restart where a link or a guard was another one; with NeedsRoom
-/// where the parent has no room for the separator; and with Full where fewer than three slots or no descriptor were left. Where others
-/// take slots while it reads the parent, it reads the parent anew before it takes its own, up to `MOST_WAITS` times.
+/// its place, has taken the old one's place, which is frozen; with Restart where the parent's status or the link to it was another one,
+/// or the guard of that link a frozen node's; with NeedsRoom where the parent has no room for the separator; and with Full where fewer
+/// than three slots or no descriptor were left. Where others take slots while it reads the parent, it reads the parent anew before it
+/// takes its own, up to `MOST_WAITS` times. The swap names the guard as it is when the nodes are durable: swaps on the node of the link
+/// that left this link as it was are no reason to begin again.
 #[derive(Drop)]
 pub struct SplitBelow {
     config: Config,
@@ -55,6 +57,8 @@ pub struct SplitBelow {
     parent: NodeImage,
     // the slots of the new parent, of the left half and of the right half
     slots: [u16; 3],
+    // the guard of the link to the parent, read once the nodes are durable: the swap names it
+    guard: u64,
     // how many slots were left when the parent was first read, and how many times it may be read anew
     left: u32,
     waits: u32,
@@ -96,6 +100,7 @@ impl SplitBelow {
             parent: halves.left,
             halves,
             slots: [0; 3],
+            guard: 0,
             left: 0,
             waits: MOST_WAITS,
             phase: Phase::Fresh,
@@ -189,7 +194,7 @@ impl SplitBelow {
         slots.left() != self.left
     }
 
-    // The phase where the upper guard is as the path names it: the nodes are begun. Where others have taken slots meanwhile, one of them
+    // The phase where the upper guard is no frozen node's: the nodes are begun. Where others have taken slots meanwhile, one of them
     // may be about to turn the same link: the parent is read anew, for as long as that may take, and no slots are taken for nothing.
     fn wait_or_begin(&mut self, slots: &mut Slots)
         requires parent { HasParent self.old.config.nodes self.old.lower.slot self.old.halves.separator self.old.read.0 }
@@ -209,8 +214,9 @@ impl SplitBelow {
         }
     }
 
-    // The phase after another look at the upper guard: it goes on where that is as the path names it.
-    fn look(&mut self, seen: Seen, slots: &mut Slots)
+    // The phase after another look at the upper guard: it goes on where that is no frozen node's.
+    fn look(&mut self, word: u64, slots: &mut Slots)
+        requires plain { word < 2 ^ 61 }
         requires parent { HasParent self.old.config.nodes self.old.lower.slot self.old.halves.separator self.old.read.0 }
         requires room { HasRoom self.old.read.0 self.old.halves.separator }
         ensures config { self.new.config ≡ self.old.config }
@@ -218,12 +224,12 @@ impl SplitBelow {
         ensures lower { self.new.lower ≡ self.old.lower }
         ensures halves { self.new.halves ≡ self.old.halves }
         ensures read { self.new.read ≡ self.old.read }
-        ensures looked { HasLookedBelow self.old.config.nodes self.old.left self.old.waits self.new.waits (below_of self.new) seen self.new.phase slots.old slots.new }
+        ensures looked { HasLookedBelow self.old.config.nodes self.old.left self.old.waits self.new.waits (below_of self.new) word self.new.phase slots.old slots.new }
     {
-        if is_read(seen, self.upper.status) {
-            self.wait_or_begin(slots);
-        } else {
+        if is_frozen(word) {
             self.phase = Phase::Restart;
+        } else {
+            self.wait_or_begin(slots);
         }
     }
 
@@ -233,6 +239,7 @@ impl SplitBelow {
         requires read { (i : ℕ) → self.now.phase ≢ Phase.Word i }
         requires told { self.now.phase ≢ Phase.Again }
         requires looked { self.now.phase ≢ Phase.Guard }
+        requires named { self.now.phase ≢ Phase.Named }
         requires hears { Hears (asks_below self.now) seen }
         requires known { IsKnown self.now.config (facts_below self.now) (asks_below self.now) seen moment }
         ensures nearer { below_left result < below_left self.now.phase }
@@ -247,7 +254,6 @@ impl SplitBelow {
         ensures learns { (stage : Stage) (s : Scene) → s.past.config ≡ self.now.config → facts_below self.now stage s → Tells (asks_below self.now) stage seen s → below_facts (below_of self.now) result Waiting s }
     {
         let _moment = moment;
-        bz_renew::laws::links_turn();
         match (self.phase, seen) {
             (Phase::Store(j), Seen::Stored) => after_store(j),
             (Phase::Flush(j), Seen::Flushed) => after_flush(j),
@@ -280,8 +286,9 @@ impl SplitBelow {
     {
         laws::nothing_is_gained();
         bz_layout::slots_apart();
-        bz_renew::laws::guarded_links_stand();
+        bz_renew::laws::links_turn();
         bz_halves::laws::children_may_be_parted();
+        links_stand_on();
         read_parents_were();
         match self.phase {
             Phase::Fresh => {
@@ -293,7 +300,11 @@ impl SplitBelow {
                 self.phase = after_word(i);
             }
             Phase::Again => self.phase = self.told(seen),
-            Phase::Guard => self.look(seen, slots),
+            Phase::Guard => self.look(word_in(seen), slots),
+            Phase::Named => {
+                self.guard = word_in(seen);
+                self.phase = named(self.guard);
+            }
             _ => self.phase = self.after(seen, moment),
         }
     }
@@ -321,7 +332,7 @@ impl SplitBelow {
         match self.phase {
             Phase::Word(i) => Todo::Read(self.config.node_at(self.upper.slot as u32) + i),
             Phase::Again => Todo::Read(self.lower.guard),
-            Phase::Guard => Todo::Read(self.upper.guard),
+            Phase::Guard | Phase::Named => Todo::Read(self.upper.guard),
             Phase::Store(j) => {
                 let slot = self.slots[(j / NODE_WORDS) as usize] as u32;
                 Todo::Store(self.config.node_at(slot) + j % NODE_WORDS, self.word(j))
@@ -332,7 +343,7 @@ impl SplitBelow {
             }
             Phase::Swap => Todo::Swap(swap_freezing(
                 &self.config,
-                &self.upper,
+                &guarded_by(&self.upper, self.guard),
                 self.slots[0],
                 self.upper.slot,
                 self.lower.status,
@@ -401,13 +412,26 @@ fn after_store(j: u32) -> Phase
     }
 }
 
-// The phase after the flush of a line: that of the next one, or the swap.
+// The phase after the flush of a line: that of the next one, or the last look at the upper guard.
 fn after_flush(j: u32) -> Phase
     requires { j < SPLIT_LINES }
     ensures { result ≡ flush_after j }
 {
     if j + 1 < SPLIT_LINES {
         Phase::Flush(j + 1)
+    } else {
+        Phase::Named
+    }
+}
+
+// The phase after the last look at the upper guard: the swap, where that is no frozen node's.
+fn named(word: u64) -> Phase
+    requires { word < 2 ^ 61 }
+    ensures frozen { (status word).frozen ≡ true → result ≡ Phase.Restart }
+    ensures thawed { (status word).frozen ≡ false → result ≡ Phase.Swap }
+{
+    if is_frozen(word) {
+        Phase::Restart
     } else {
         Phase::Swap
     }

@@ -16,7 +16,7 @@ pub returns-in-Flush-Flushed-clause-ready : goal.returns-in-Flush-Flushed-clause
 returns-in-Flush-Flushed-clause-ready c =
     let t = c.args.self.now in
     let k = c.requires.known in
-    flush-ready t.config (below_of t) t.phase c.after_flush.result c.in-Flush-Flushed.j c.args.seen k.stage k.scene k.config k.holds k.tells c.links_turn.ensures.asked k.good c.in-Flush-Flushed.is-0 c.in-Flush-Flushed.is-1 c.after_flush.ensures
+    flush-ready t.config (below_of t) t.phase c.after_flush.result c.in-Flush-Flushed.j c.args.seen k.stage k.scene k.config k.holds k.tells c.in-Flush-Flushed.is-0 c.in-Flush-Flushed.is-1 c.after_flush.ensures
 
 pub returns-in-Flush-Flushed-clause-learns : goal.returns-in-Flush-Flushed-clause-learns
 returns-in-Flush-Flushed-clause-learns c stage s same f told =

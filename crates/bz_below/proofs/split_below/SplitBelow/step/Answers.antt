@@ -1,25 +1,29 @@
 use Rattle.std.proofs.Common.{◌≡◌, ◌<◌, ℕ, slice_index, slice_set, sym, ap, subst, ◌∙◌, refl, arith, inl, Some}
-use Rattle.bz_task.specs.Requests.{Hears, Tells}
+use Rattle.bz_task.specs.Requests.{Answers, Hears, Tells}
 use Rattle.bz_layout.specs.Config.{IsConfig}
 use Rattle.bz_layout.specs.declared.sizes.TheConstants.{NODE_WORDS}
 use Rattle.bz_layout.specs.declared.thresholds.TheConstants.{SPLIT_SLOTS}
 use Rattle.bz_task.specs.OwnActs.{AreTakenFrom, gained}
-use Rattle.bz_task.specs.Scene.{Waiting}
+use Rattle.bz_task.specs.Scene.{Scene, Stage, Waiting}
+use Rattle.bz_task.specs.declared.todo.Seen.{Seen}
+use Rattle.bz_task.specs.declared.todo.Seen.TheVariants.{Read as Was}
 use Rattle.bz_task.specs.declared.todo.Todo.TheVariants.{Read as Reads}
-use Rattle.bz_below.specs.Duties.{below_of, three}
+use Rattle.bz_below.specs.Duties.{below_of, asks_below, three}
 use Rattle.bz_below.specs.Facts.{Below, below_facts, below_asks, below_needs, below_left, word_after, IsReadyBelow}
-use Rattle.bz_below.specs.declared.phase.Phase.TheVariants.{Fresh, Word, Again, Guard}
+use Rattle.bz_below.specs.declared.phase.Phase.{Phase}
+use Rattle.bz_below.specs.declared.phase.Phase.TheVariants.{Fresh, Word, Again, Guard, Named}
 use Rattle.bz_below.specs.declared.split_below.SplitBelow.{SplitBelow}
-use Rattle.bz_below.proofs.Ending.{EndsWell, ends-well, first-ends, takes-none}
+use Rattle.bz_below.proofs.Ending.{EndsWell, ends-well, first-ends, takes-none, word-answers}
 use Rattle.bz_below.proofs.Telling.{Tolds, tolds, told-learns, has-parent}
 use Rattle.bz_below.proofs.Looking.{Looks, looks, looked-learns, guard-within, planned-parent, planned-room}
+use Rattle.bz_below.proofs.Naming.{Names, IsNamedPhase, named-of, names, named-learns}
 use Rattle.bz_below.proofs.Reading.{Words, fresh-ready, word-within, words-on, fresh-known, word-known, word-ready}
 use Rattle.bz_below.proofs.Staying.{no-slot}
 use Rattle.bz_below.proofs.split_below.SplitBelow.step.Goals as goal
 
 -- the task with one word more
 abbrev kept-of : SplitBelow → ℕ → ℕ → Below
-kept-of t i v = record { upper = t.upper; lower = t.lower; slot = slice_index t.slots; image = three t.parent.0 t.halves.left.0 t.halves.right.0; read = slice_set t.read.0 i v; sep = t.halves.separator }
+kept-of t i v = record { upper = t.upper; lower = t.lower; slot = slice_index t.slots; image = three t.parent.0 t.halves.left.0 t.halves.right.0; read = slice_set t.read.0 i v; sep = t.halves.separator; guard = t.guard }
 
 pub told-self-requires : goal.told-self-requires
 told-self-requires c e =
@@ -29,12 +33,20 @@ told-self-requires c e =
     (subst (λ z. below_facts (below_of t) z k.stage k.scene) c.in-Again.is k.holds)
     (subst (λ z. Tells (below_asks t.config (below_of t) z) k.stage c.args.seen k.scene) c.in-Again.is k.tells) e
 
+-- the word of the upper guard that was found
+found-guard : (t : SplitBelow) (phase : Phase) (seen : Seen) (v : ℕ) (stage : Stage) (s : Scene) → t.phase ≡ phase → below_asks t.config (below_of t) phase ≡ Some (Reads t.upper.guard) → ((w : ℕ) → seen ≡ Was w → v ≡ w) → Tells (asks_below t) stage seen s → (seen ≡ Was v) × Answers s t.upper.guard v
+found-guard t phase seen v stage s is asks found tells = word-answers t.upper.guard v seen stage s found (subst (λ z. Tells z stage seen s) (ap (below_asks t.config (below_of t)) is ∙ asks) tells)
+
 pub look-requires : goal.look-requires
 look-requires c =
     let t = c.args.self.now in
     let k = c.requires.known in
     let f = subst (λ z. below_facts (below_of t) z k.stage k.scene) c.in-Guard.is k.holds in
-    record { parent = planned-parent t.config (below_of t) k.stage k.scene k.config f; room = planned-room (below_of t) k.stage k.scene f }
+    record {
+      plain = (found-guard t Guard c.args.seen c.word_in-in-Guard.result k.stage k.scene c.in-Guard.is refl c.word_in-in-Guard.ensures k.tells).1.plain;
+      parent = planned-parent t.config (below_of t) k.stage k.scene k.config f;
+      room = planned-room (below_of t) k.stage k.scene f;
+    }
 
 pub returns-in-Again : goal.returns-in-Again
 returns-in-Again c =
@@ -43,7 +55,7 @@ returns-in-Again c =
     let hears : Hears (below_asks t.config (below_of t) Again) c.args.seen = subst (λ z. Hears (below_asks t.config (below_of t) z) c.args.seen) c.in-Again.is c.requires.hears in
     let b : Tolds (below_of t) t.config c.args.seen c.told-self.result c.args.slots.now = tolds (below_of t) t.config c.args.seen c.told-self.result c.args.slots.now hears c.told-self.ensures in
     let needed : below_needs t.phase ≡ SPLIT_SLOTS = ap below_needs c.in-Again.is in
-    let ends : EndsWell t.upper t.lower c.args.seen t.phase c.told-self.result c.args.slots.now = subst (λ z. EndsWell t.upper t.lower c.args.seen z c.told-self.result c.args.slots.now) (sym c.in-Again.is) b.ends in
+    let ends : EndsWell t.lower c.args.seen t.phase c.told-self.result c.args.slots.now = subst (λ z. EndsWell t.lower c.args.seen z c.told-self.result c.args.slots.now) (sym c.in-Again.is) b.ends in
     record {
       config = refl;
       upper = refl;
@@ -74,13 +86,13 @@ returns-in-Guard c =
     let e = c.look.ensures in
     let needed : below_needs t.phase ≡ SPLIT_SLOTS = ap below_needs c.in-Guard.is in
     let nodes : c.args.slots.now.nodes ≡ t.config.nodes = c.requires.memory (omega (arith, needed)) in
-    let hears : Hears (below_asks t.config (below_of t) Guard) c.args.seen = subst (λ z. Hears (below_asks t.config (below_of t) z) c.args.seen) c.in-Guard.is c.requires.hears in
+    let found = found-guard t Guard c.args.seen c.word_in-in-Guard.result k.stage k.scene c.in-Guard.is refl c.word_in-in-Guard.ensures k.tells in
     let known = subst (λ z. below_facts (below_of t) z k.stage k.scene) c.in-Guard.is k.holds in
     let within : new.upper.slot < new.config.nodes = subst (λ z. z.slot < new.config.nodes) (sym e.upper) (subst (λ z. t.upper.slot < z.nodes) (sym e.config) (guard-within t.config (below_of t) k.stage k.scene k.config k.good known)) in
-    let b : Looks t.waits new.waits (below_of new) new.config c.args.seen new.phase c.args.slots.now left = looks t.config.nodes t.left t.waits new.waits (below_of new) new.config c.args.seen new.phase c.args.slots.now left within
-    (subst (λ z. Hears (Some (Reads z.guard)) c.args.seen) (sym e.upper) hears) e.looked (nodes ∙ ap (λ z. z.nodes) (sym e.config)) in
-    let ends : EndsWell t.upper t.lower c.args.seen t.phase new.phase c.args.slots.now = subst (λ z. EndsWell t.upper t.lower c.args.seen z new.phase c.args.slots.now) (sym c.in-Guard.is)
-    (subst (λ z. EndsWell z t.lower c.args.seen Guard new.phase c.args.slots.now) e.upper (subst (λ z. EndsWell new.upper z c.args.seen Guard new.phase c.args.slots.now) e.lower b.ends)) in
+    let b : Looks t.waits new.waits (below_of new) new.config c.args.seen new.phase c.args.slots.now left = looks t.config.nodes t.left t.waits new.waits (below_of new) new.config c.word_in-in-Guard.result c.args.seen new.phase c.args.slots.now left within
+    found.0 e.looked (nodes ∙ ap (λ z. z.nodes) (sym e.config)) in
+    let ends : EndsWell t.lower c.args.seen t.phase new.phase c.args.slots.now = subst (λ z. EndsWell t.lower c.args.seen z new.phase c.args.slots.now) (sym c.in-Guard.is)
+    (subst (λ z. EndsWell z c.args.seen Guard new.phase c.args.slots.now) e.lower b.ends) in
     record {
       config = e.config;
       upper = e.upper;
@@ -96,17 +108,54 @@ returns-in-Guard c =
       no_swap = ends.no_swap;
       full_swaps = ends.full_swaps;
       full_nodes = ends.full_nodes;
-      learns = λ stage s same good free facts tells. looked-learns c.slots_apart.ensures c.children_may_be_parted.ensures c.guarded_links_stand.ensures c.nothing_is_gained.ensures t.config t.left t.waits new.waits (below_of t) (below_of new) new.phase c.args.seen c.args.slots.now left
+      learns = λ stage s same good free facts tells. looked-learns c.slots_apart.ensures c.children_may_be_parted.ensures c.links_stand_on.ensures.leave c.nothing_is_gained.ensures t.config t.left t.waits new.waits (below_of t) (below_of new) new.phase c.word_in-in-Guard.result c.args.slots.now left
           (record { upper = e.upper; lower = e.lower; left = ap (λ z. z.left.0) e.halves; right = ap (λ z. z.right.0) e.halves; read = ap (λ z. z.0) e.read; sep = ap (λ z. z.separator) e.halves }) e.looked nodes stage s same good (free (omega (arith, needed)))
           (subst (λ z. below_facts (below_of t) z stage s) c.in-Guard.is facts)
-          (subst (λ z. Tells (below_asks t.config (below_of t) z) stage c.args.seen s) c.in-Guard.is tells);
+          (found-guard t Guard c.args.seen c.word_in-in-Guard.result stage s c.in-Guard.is refl c.word_in-in-Guard.ensures tells).1;
+    }
+
+pub named-self-requires : goal.named-self-requires
+named-self-requires c =
+    let t = c.args.self.now in
+    let k = c.requires.known in
+    (found-guard t Named c.args.seen c.word_in-self.result k.stage k.scene c.in-Named.is refl c.word_in-self.ensures k.tells).1.plain
+
+pub returns-in-Named : goal.returns-in-Named
+returns-in-Named c =
+    let t = c.args.self.now in
+    let v = c.word_in-self.result in
+    let p = c.named-self.result in
+    let k = c.requires.known in
+    let found = found-guard t Named c.args.seen v k.stage k.scene c.in-Named.is refl c.word_in-self.ensures k.tells in
+    let is : IsNamedPhase v p = record { frozen = c.named-self.ensures.frozen; thawed = c.named-self.ensures.thawed } in
+    let known = subst (λ z. below_facts (below_of t) z k.stage k.scene) c.in-Named.is k.holds in
+    let b : Names (below_of t) t.config v c.args.seen p c.args.slots.now = names c.links_turn.ensures.asked (below_of t) t.config v c.args.seen p k.stage k.scene c.args.slots.now k.config k.good found.1.plain found.0 known is in
+    let ends : EndsWell t.lower c.args.seen t.phase p c.args.slots.now = subst (λ z. EndsWell t.lower c.args.seen z p c.args.slots.now) (sym c.in-Named.is) b.ends in
+    record {
+      config = refl;
+      upper = refl;
+      lower = refl;
+      halves = refl;
+      known = subst IsConfig k.config k.good.config;
+      begun = b.begun;
+      ready = b.ready;
+      nearer = omega (arith, b.nearer, ap below_left c.in-Named.is);
+      slots = subst (λ z. AreTakenFrom z (below_needs p) c.args.slots.now c.args.slots.now) (sym (ap below_needs c.in-Named.is)) b.taken;
+      done = ends.done;
+      restart = ends.restart;
+      no_swap = ends.no_swap;
+      full_swaps = ends.full_swaps;
+      full_nodes = ends.full_nodes;
+      learns = λ stage s same good free facts tells. no-slot c.nothing_is_gained.ensures (named-of (below_of t) v) s c.args.slots.now p
+          (named-learns c.links_stand_on.ensures.stand (below_of t) v p stage s good (found-guard t Named c.args.seen v stage s c.in-Named.is refl c.word_in-self.ensures tells).1
+          (subst (λ z. below_facts (below_of t) z stage s) c.in-Named.is facts) is);
     }
 
 pub returns-in_default : goal.returns-in_default
 returns-in_default c =
     let t = c.args.self.now in
     let a = c.after-self.ensures in
-    let e : EndsWell t.upper t.lower c.args.seen t.phase c.after-self.result c.args.slots.now = ends-well t.upper t.lower c.args.seen t.phase c.after-self.result c.args.slots.now a.done (λ q. inl (a.restart q)) a.no_swap a.slots in
+    let e : EndsWell t.lower c.args.seen t.phase c.after-self.result c.args.slots.now = ends-well t.lower c.args.seen t.phase c.after-self.result c.args.slots.now a.done (λ q. inl (a.restart q)) a.no_swap a.slots in
     record {
       config = refl;
       upper = refl;
@@ -130,7 +179,7 @@ returns-in-Fresh c =
     let t = c.args.self.now in
     let k = c.requires.known in
     let hears : Hears (below_asks t.config (below_of t) Fresh) c.args.seen = subst (λ z. Hears (below_asks t.config (below_of t) z) c.args.seen) c.in-Fresh.is c.requires.hears in
-    let e : EndsWell t.upper t.lower c.args.seen t.phase (Word 1) c.args.slots.now = subst (λ z. EndsWell t.upper t.lower c.args.seen z (Word 1) c.args.slots.now) (sym c.in-Fresh.is) (first-ends t.config (below_of t) c.args.seen c.args.slots.now hears) in
+    let e : EndsWell t.lower c.args.seen t.phase (Word 1) c.args.slots.now = subst (λ z. EndsWell t.lower c.args.seen z (Word 1) c.args.slots.now) (sym c.in-Fresh.is) (first-ends t.config (below_of t) c.args.seen c.args.slots.now hears) in
     record {
       config = refl;
       upper = refl;
@@ -160,7 +209,7 @@ returns-in-Word c =
     let l : i < NODE_WORDS = word-within (below_of t) i k.stage k.scene (subst (λ z. below_facts (below_of t) z k.stage k.scene) c.in-Word.is k.holds) in
     let b : Words t.config (below_of t) i c.args.seen c.after_word-self.result c.args.slots.now = subst (λ z. Words t.config (below_of t) i c.args.seen z c.args.slots.now) (sym c.after_word-self.ensures)
     (words-on t.config (below_of t) i c.args.seen k.stage k.scene c.args.slots.now k.config k.good hears (subst (λ z. below_facts (below_of t) z k.stage k.scene) c.in-Word.is k.holds)) in
-    let e : EndsWell t.upper t.lower c.args.seen t.phase c.after_word-self.result c.args.slots.now = subst (λ z. EndsWell t.upper t.lower c.args.seen z c.after_word-self.result c.args.slots.now) (sym c.in-Word.is) b.ends in
+    let e : EndsWell t.lower c.args.seen t.phase c.after_word-self.result c.args.slots.now = subst (λ z. EndsWell t.lower c.args.seen z c.after_word-self.result c.args.slots.now) (sym c.in-Word.is) b.ends in
     record {
       config = refl;
       upper = refl;
