@@ -27,9 +27,10 @@ use Rattle.bz_swap.specs.SwapMemory.{SwapMemory, Working, Reading}
 use Rattle.bz_task.specs.Scene.{Scene, HasFilled, Waiting}
 use Rattle.bz_task.specs.declared.todo.Todo.TheVariants.{Read}
 use Rattle.bz_world.specs.Inside.Acted.{IsBetween}
-use Rattle.bz_world.specs.Inside.Beginning.{MayBegin, HasBegun, pages_asked}
+use Rattle.bz_world.specs.Inside.Beginning.{MayBegin, HasBegun, lab_of, pages_asked}
 use Rattle.bz_world.specs.Inside.Kept.{IsTabled, IsAwake}
 use Rattle.bz_world.specs.Inside.Laws.{EndLaws, StartLaws}
+use Rattle.bz_world.specs.Lab.{supply_by}
 use Rattle.bz_world.specs.Inside.Serving.{IsSlot, IsAtRest}
 use Rattle.bz_world.specs.Inside.Telling.{MustStart}
 use Rattle.bz_world.specs.declared.parts.Parts.{Parts}
@@ -208,8 +209,9 @@ module _ (p : Parts) (k : IsAwake p) (w : ℕ) (call : Call) (may : MayBegin p w
     has-begun new is holds = record {
       kept = read-kept s mid w 2 must-start new is holds;
       number = numbered;
-      after = ap (λ fs. record { config = p.config; at_start = p.at_start; log = with_mark p.journal mark; flushes = fs; left_out = p.left_out.items }) flushes;
+      after = ap (λ (m : SwapMemory). record (lab_of p) { log = with_mark p.journal mark; flushes = map (λ (v : Working). v.flush_next) m.workers; supply = supply_by p.power (record { taken = m.taken; left = length p.slots.free }) }) is
+          ∙ ap (λ fs. record (lab_of p) { log = with_mark p.journal mark; flushes = fs }) flushes;
     }
       where
-        flushes : map (λ (v : Working). v.flush_next) new.workers ≡ slice_set (map (λ (v : Working). v.flush_next) p.access.workers) w false
-        flushes = ap (λ (z : SwapMemory). map (λ (v : Working). v.flush_next) z.workers) is ∙ map-set (λ (v : Working). v.flush_next) p.access.workers w (record { doing = Reading 2; flush_next = false })
+        flushes : map (λ (v : Working). v.flush_next) (started p.access w (Reading 2)).workers ≡ slice_set (map (λ (v : Working). v.flush_next) p.access.workers) w false
+        flushes = map-set (λ (v : Working). v.flush_next) p.access.workers w (record { doing = Reading 2; flush_next = false })

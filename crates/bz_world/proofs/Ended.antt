@@ -176,6 +176,8 @@ end-went b p w n reply at m number plain room = record {
   at_start = refl;
   left_out = refl;
   others = λ v ne. refl;
+  spends = record { taken = inl refl; fewer = omega arith; few = omega arith };
+  full = λ number moment spent e. m.full spent (cc e);
 }
   where
     sound : IsSound p.config p.at_start (with_mark p.journal (End w n reply at))
@@ -198,6 +200,8 @@ end-page-went b p w n page next at m number place room = record {
   at_start = refl;
   left_out = refl;
   others = λ v ne. refl;
+  spends = record { taken = inl refl; fewer = omega arith; few = omega arith };
+  full = λ number moment spent e. absurd (cc e);
 }
   where
     sound : IsSound p.config p.at_start (with_mark (with_page p.journal p.page) (End w n (Page page next) at))

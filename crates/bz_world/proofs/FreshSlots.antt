@@ -1,5 +1,5 @@
 -- Of the slots of fresh memory all are free but the root's.
-use Rattle.std.proofs.Common.{◌≡◌, ℕ, zero, suc, ◌+◌, ◌<◌, ◌≤◌, ◌==◌, ◌&&◌, ◌||◌, not, Bool, true, false, List, [], ◌∷◌, arith, refl, sym, ◌∙◌, inl, inr}
+use Rattle.std.proofs.Common.{◌≡◌, ℕ, zero, suc, ◌+◌, ◌-◌, ◌<◌, ◌≤◌, ◌==◌, ◌&&◌, ◌||◌, not, Bool, true, false, List, [], ◌∷◌, length, arith, refl, sym, ◌∙◌, inl, inr}
 use Rattle.std.proofs.lemmas.Bool.{cases_eq, true≢false}
 use Rattle.std.proofs.lemmas.Bool.Decides.{nat_tests}
 use Rattle.std.specs.List.{range_with_len}
@@ -72,3 +72,12 @@ free-others n k l h = by_test (k == 0) refl
     by_test : (b : Bool) → (k == 0) ≡ b → b ≡ true
     by_test true e = refl
     by_test false e = absurd (true≢false (sym (among-without 0 (range_with_len 0 n) k ∙ kept (k == 0) (is_among (range_with_len 0 n) k) e (in-range 0 n k (omega arith) (omega (arith, l)))) ∙ h))
+
+-- so that is one less
+above-root : (a n : ℕ) → 0 < a → length (without 0 (range_with_len a n)) ≡ n
+above-root a zero some = refl
+above-root a (suc n) some = let f : (a == 0) ≡ false = grind (arith, nat_tests) in rw f (omega (arith, above-root (a + 1) n (omega (arith, some))))
+
+pub count-fresh : (n : ℕ) → length (without 0 (range_with_len 0 n)) ≡ n - 1
+count-fresh zero = refl
+count-fresh (suc n) = omega (arith, above-root 1 n (omega arith))

@@ -31,6 +31,7 @@ mod FreshSlots
 mod Openings
 mod Booting
 mod Takings
+mod Supplies
 mod SpendingSlots
 mod MakingAnew
 mod HighTrees

@@ -1,5 +1,5 @@
 -- Over fresh memory all that a world keeps is true.
-use Rattle.std.proofs.Common.{◌≡◌, ℕ, ◌+◌, ◌<◌, Bool, true, false, if◌then◌else◌, nat_lt, List, [], length, replicate, slice_index, get_or, map, zero, suc, ◌∷◌, arith, refl, sym, ap, subst, ◌∙◌, inl, inr, Option, None}
+use Rattle.std.proofs.Common.{◌≡◌, ℕ, ◌+◌, ◌-◌, ◌<◌, Bool, true, false, if◌then◌else◌, nat_lt, List, [], length, replicate, slice_index, get_or, map, zero, suc, ◌∷◌, arith, refl, sym, ap, subst, ◌∙◌, inl, inr, Option, None}
 use Rattle.std.proofs.lemmas.Bool.{cases_lt, true≢false}
 use Rattle.std.proofs.lemmas.Bool.Decides.{nat_tests}
 use Rattle.std.proofs.lemmas.List.{length-replicate, get_or-replicate, get_or_past}
@@ -30,12 +30,12 @@ use Rattle.bz_swap.specs.Power.{opened}
 use Rattle.bz_swap.specs.SwapMemory.{SwapMemory, Working, Idle, idle, doing_of, has_effect}
 use Rattle.bz_swap.specs.TakenStatuses.{BegunStayTaken, BegunAreTaken}
 use Rattle.bz_swap.specs.declared.phase.Phase.{Phase}
-use Rattle.bz_world.specs.Inside.Beginning.{lab_of}
+use Rattle.bz_world.specs.Inside.Beginning.{lab_of, supply_of}
 use Rattle.bz_world.proofs.Powered.{kept-awake}
 use Rattle.bz_world.proofs.FreshSlots.{free-below, free-root, free-others}
 use Rattle.bz_world.specs.Inside.Kept.{IsTabled, AreTaken, AreFree, IsAwake, IsKept}
 use Rattle.bz_world.specs.Inside.Opening.{fresh_slots, IsMadeOver}
-use Rattle.bz_world.specs.Lab.{new_lab, lab_over}
+use Rattle.bz_world.specs.Lab.{Supply, supply_by, new_lab, lab_over}
 use Rattle.bz_world.specs.Inside.Serving.{IsSlot, IsAtRest}
 use Rattle.bz_world.specs.declared.parts.Parts.{Parts}
 use Rattle.bz_world.specs.declared.serving.Serving.{Serving}
@@ -171,9 +171,23 @@ map-replicate f zero x = refl
 map-replicate f (suc n) x = ap (λ xs. f x ∷ xs) (map-replicate f n x)
 
 -- so it is seen
-pub lab-made : (c : Config) (start : List ℕ) (at_start : Power) (p : Parts) → p.config ≡ c → IsMadeOver start at_start p → lab_of p ≡ lab_over c start at_start
-lab-made c start at_start p config made =
-    (λ t. record { config = p.config; at_start = made.at_start t; log = made.journal t; flushes = flushes t; left_out = made.left_out t }) ∙ ap (λ (d : Config). lab_over d start at_start) config
+pub lab-made : (c : Config) (start : List ℕ) (at_start : Power) (p : Parts) → p.config ≡ c → IsMadeOver start at_start p → (at_start ≡ power.On → length p.slots.free ≡ p.config.nodes - 1) → lab_of p ≡ lab_over c start at_start
+lab-made c start at_start p config made left =
+    (λ t. record { config = p.config; at_start = made.at_start t; log = made.journal t; flushes = flushes t; left_out = made.left_out t; supply = supply t }) ∙ ap (λ (d : Config). lab_over d start at_start) config
   where
     flushes : map (λ (v : Working). v.flush_next) p.access.workers ≡ replicate (p.config.workers + 1) false
     flushes = ap (λ (m : SwapMemory). map (λ (v : Working). v.flush_next) m.workers) made.opened.is ∙ map-replicate (λ (v : Working). v.flush_next) (p.config.workers + 1) idle
+
+    at_first : Supply
+    at_first = record { taken = 0; left = p.config.nodes - 1 }
+
+    by_power : (z : Power) → (z ≡ power.On → length p.slots.free ≡ p.config.nodes - 1) → supply_by z (supply_of p) ≡ supply_by z at_first
+    by_power power.On is = (λ t. record { taken = taken t; left = is refl t })
+      where
+        taken : p.access.taken ≡ 0
+        taken = ap (λ (m : SwapMemory). m.taken) made.opened.is
+    by_power power.Off is = refl
+    by_power power.Recovering is = refl
+
+    supply : supply_by p.power (supply_of p) ≡ supply_by at_start at_first
+    supply = ap (λ z. supply_by z (supply_of p)) made.power ∙ by_power at_start left

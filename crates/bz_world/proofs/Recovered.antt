@@ -18,10 +18,12 @@ use Rattle.bz_task.specs.declared.todo.Seen.{Seen}
 use Rattle.bz_world.specs.Inside.Beginning.{lab_of}
 use Rattle.bz_world.specs.Inside.Kept.{IsRecovering}
 use Rattle.bz_world.specs.Inside.Powering.{IsRawAct}
-use Rattle.bz_world.specs.Lab.{Recovers}
+use Rattle.bz_sound.specs.declared.power.Power.TheVariants as power
+use Rattle.bz_world.specs.Lab.{Supply, Recovers}
 use Rattle.bz_world.specs.declared.answers.Applied.TheVariants as applied
 use Rattle.bz_world.specs.declared.parts.Parts.{Parts}
 use Rattle.bz_world.proofs.Stepping.{flush-is, flush-same}
+use Rattle.bz_world.proofs.Supplies.{shown-on, shown-recovering}
 
 -- what it knows of the slots after `next`, where it was told what its act made of them
 abbrev pub Learns : Recover → FreeSlots → Seen → Recover → FreeSlots → Type 0
@@ -62,12 +64,13 @@ asked-on go_on turns p seen next slots k on tells nodes learns = record {
 }
 
 -- one act, and the recovery goes on
-pub seen-stepped : (old mid new : Parts) (made : Act) (done : Done) (told : Option ℕ) → IsRawAct old made done told mid → new.journal ≡ mid.journal → new.config ≡ mid.config → new.at_start ≡ mid.at_start → new.left_out ≡ mid.left_out → ((v : ℕ) → v ≢ 0 → worker_of new.access v ≡ worker_of mid.access v)
+pub seen-stepped : (old mid new : Parts) (made : Act) (done : Done) (told : Option ℕ) → old.power ≡ power.Recovering → IsRawAct old made done told mid → new.power ≡ mid.power → new.journal ≡ mid.journal → new.config ≡ mid.config → new.at_start ≡ mid.at_start → new.left_out ≡ mid.left_out → ((v : ℕ) → v ≢ 0 → worker_of new.access v ≡ worker_of mid.access v)
     → Recovers (lab_of old) applied.Stepped (lab_of new)
-seen-stepped old mid new made done told a journal config at_start left_out others = record {
+seen-stepped old mid new made done told recovering a same journal config at_start left_out others = record {
   made = made;
   flush = a.step.one.flush ∙ sym (flush-is old 0);
   ends = journal ∙ ap (λ (p : Parts). p.journal) a.rest;
+  supply = shown-recovering new (same ∙ (ap (λ (p : Parts). p.power) a.rest ∙ recovering)) ∙ sym (shown-recovering old recovering);
   config = config ∙ ap (λ (p : Parts). p.config) a.rest;
   at_start = at_start ∙ ap (λ (p : Parts). p.at_start) a.rest;
   left_out = ap (λ (flags : ArrayVec Bool). flags.items) (left_out ∙ ap (λ (p : Parts). p.left_out) a.rest);
@@ -75,12 +78,13 @@ seen-stepped old mid new made done told a journal config at_start left_out other
 }
 
 -- or it has ended
-pub seen-woken : (old mid new : Parts) (made : Act) (done : Done) (told : Option ℕ) → IsRawAct old made done told mid → new.journal ≡ with_mark mid.journal Ready → new.config ≡ mid.config → new.at_start ≡ mid.at_start → new.left_out ≡ mid.left_out → ((v : ℕ) → v ≢ 0 → worker_of new.access v ≡ worker_of mid.access v)
+pub seen-woken : (old mid new : Parts) (made : Act) (done : Done) (told : Option ℕ) → IsRawAct old made done told mid → new.power ≡ power.On → new.access.taken ≡ 0 → new.journal ≡ with_mark mid.journal Ready → new.config ≡ mid.config → new.at_start ≡ mid.at_start → new.left_out ≡ mid.left_out → ((v : ℕ) → v ≢ 0 → worker_of new.access v ≡ worker_of mid.access v)
     → Recovers (lab_of old) applied.Ready (lab_of new)
-seen-woken old mid new made done told a journal config at_start left_out others = record {
+seen-woken old mid new made done told a on taken journal config at_start left_out others = record {
   made = made;
   flush = a.step.one.flush ∙ sym (flush-is old 0);
   ends = journal ∙ ap (λ (p : Parts). with_mark p.journal Ready) a.rest;
+  supply = ap (λ (s : Supply). s.taken) (shown-on new on) ∙ taken;
   config = config ∙ ap (λ (p : Parts). p.config) a.rest;
   at_start = at_start ∙ ap (λ (p : Parts). p.at_start) a.rest;
   left_out = ap (λ (flags : ArrayVec Bool). flags.items) (left_out ∙ ap (λ (p : Parts). p.left_out) a.rest);

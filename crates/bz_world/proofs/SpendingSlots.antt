@@ -18,6 +18,7 @@ use Rattle.bz_story.specs.Story.{Story}
 use Rattle.bz_swap.specs.SwapMemory.{SwapMemory}
 use Rattle.bz_world.specs.Inside.Acted.{IsBetween}
 use Rattle.bz_world.specs.Inside.Going.{IsOutOfSlots}
+use Rattle.bz_world.specs.Lab.{LacksSlots}
 use Rattle.bz_world.specs.Inside.Serving.{IsSlot, NeedsAtLeast}
 use Rattle.bz_world.specs.declared.parts.Parts.{Parts}
 use Rattle.bz_world.specs.declared.serving.Serving.{Serving}
@@ -168,13 +169,24 @@ module _ (p : Parts) (w : ℕ) (l : IsOutOfSlots p w) where
     one_each = one-each;
   }
 
--- so the slots that its task takes are not left
+-- it takes its slots because the leaf of its key had to be made anew
+needed-slots : (p : Parts) (w : ℕ) (l : IsOutOfSlots p w) → NeedsAtLeast p.config p.journal.start p.journal.past l.on.between.opened (wants_of l.on.serving.task)
+needed-slots p w l = l.on.between.call_open.wanted (l.on.between.call_open.effect ∙ l.quiet) (omega (arith, l.fewer))
+
+-- so fewer are left than that takes
+pub slots-run-out : (p : Parts) (w : ℕ) → IsOutOfSlots p w → LacksSlots p.config p.journal w (length p.slots.free)
+slots-run-out p w l = let needed = needed-slots p w l in record {
+  opened = l.on.between.opened;
+  is_open = l.on.between.call_open.is_open;
+  slots = needed.slots;
+  needs = needed.needs;
+  lacks = omega (arith, l.fewer, needed.enough);
+}
+
+-- and they are not left but for what other workers hold
 pub slots-are-spent : HeldSlotsAreSpent → (p : Parts) (w : ℕ) (l : IsOutOfSlots p w) → NodesAreSpent p.config p.journal.start p.journal.past (count_used p.config p.journal.start p.journal.past) w l.on.between.opened
-slots-are-spent law p w l = record {
+slots-are-spent law p w l = let needed = needed-slots p w l in record {
   slots = needed.slots;
   needs = needed.needs;
   lacks = law p.config p.journal.start p.journal.past w needed.slots p.slots.free (holder p w l) (place p w l) (omega (arith, l.fewer, needed.enough)) (are-slots-held p w l);
 }
-  where
-    needed : NeedsAtLeast p.config p.journal.start p.journal.past l.on.between.opened (wants_of l.on.serving.task)
-    needed = l.on.between.call_open.wanted (l.on.between.call_open.effect ∙ l.quiet) (omega (arith, l.fewer))

@@ -1,16 +1,21 @@
 -- A step: one act, and what its call does without an act.
-use Rattle.std.proofs.Common.{◌≡◌, ℕ, Bool, sym, ap, subst, ◌∙◌}
+use Rattle.std.proofs.Common.{◌≡◌, ◌⊎◌, ◌≤◌, ◌+◌, ◌*◌, ℕ, Bool, length, arith, sym, ap, subst, ◌∙◌, inl}
 use Rattle.std.proofs.Math.ListN.{get_or-map}
 use Rattle.arrayvec.specs.ArrayVec.{ArrayVec}
+use Rattle.bz_call.specs.declared.replies.Reply.TheVariants.{Full}
+use Rattle.bz_layout.specs.declared.thresholds.TheConstants.{SPLIT_SLOTS}
 use Rattle.bz_mark.specs.Log.{Log}
-use Rattle.bz_swap.specs.SwapMemory.{SwapMemory, Working, idle, worker_of}
+use Rattle.bz_mark.specs.declared.marks.Mark.TheVariants.{End}
+use Rattle.bz_swap.specs.SwapMemory.{Working, idle, worker_of}
 use Rattle.bz_world.specs.Inside.Acted.{HasActed}
-use Rattle.bz_world.specs.Inside.Beginning.{lab_of}
+use Rattle.bz_world.specs.Inside.Beginning.{lab_of, supply_of}
 use Rattle.bz_world.specs.Inside.Going.{WentOn}
-use Rattle.bz_world.specs.Lab.{Steps, GoesOn, flush_of}
+use Rattle.bz_world.specs.Inside.Kept.{IsAwake}
+use Rattle.bz_world.specs.Lab.{Spends, EndsFullRightly, Steps, GoesOn, flush_of}
 use Rattle.bz_world.specs.declared.answers.Applied.{Applied}
 use Rattle.bz_world.specs.declared.answers.Applied.TheVariants.{Stepped}
 use Rattle.bz_world.specs.declared.parts.Parts.{Parts}
+use Rattle.bz_world.proofs.Supplies.{shown-on, not-longer}
 
 -- what callers see of whether the next act is a flush
 pub flush-is : (p : Parts) (v : ℕ) → flush_of (lab_of p) v ≡ (worker_of p.access v).flush_next
@@ -19,30 +24,58 @@ flush-is p v = get_or-map (λ (z : Working). z.flush_next) p.access.workers v id
 pub flush-same : (old new : Parts) (v : ℕ) → worker_of new.access v ≡ worker_of old.access v → flush_of (lab_of new) v ≡ flush_of (lab_of old) v
 flush-same old new v same = flush-is new v ∙ (ap (λ (z : Working). z.flush_next) same ∙ sym (flush-is old v))
 
+-- and of what is taken and left
+spends-shown : (old new : Parts) (slots : ℕ) → IsAwake old → IsAwake new → Spends slots (supply_of old) (supply_of new) → Spends slots (lab_of old).supply (lab_of new).supply
+spends-shown old new slots was is spends = subst (λ z. Spends slots z (lab_of new).supply) (sym (shown-on old was.on)) (subst (Spends slots (supply_of old)) (sym (shown-on new is.on)) spends)
+
 -- an act after which the call goes on as it did
-pub stepped-on : (old new : Parts) (w : ℕ) → HasActed old w new → Steps (lab_of old) w Stepped (lab_of new)
-stepped-on old new w a = record {
+pub stepped-on : (old new : Parts) (w : ℕ) → IsAwake old → IsAwake new → HasActed old w new → new.access.taken ≡ old.access.taken → Steps (lab_of old) w Stepped (lab_of new)
+stepped-on old new w was is a taken = record {
   made = a.made;
   flush = a.flush ∙ sym (flush-is old w);
   struck = new.journal.past;
   effect = a.struck;
   ends = a.journal;
+  spends = spends-shown old new (2 * SPLIT_SLOTS) was is (record { taken = inl taken; fewer = omega (arith, left); few = omega (arith, left) });
+  full = λ n at spent e. absurd (not-longer (End w n (Full spent) at) new.journal.past e);
   config = ap (λ (p : Parts). p.config) a.rest;
   at_start = ap (λ (p : Parts). p.at_start) a.rest;
   left_out = ap (λ (p : Parts). p.left_out.items) a.rest;
   others = λ v ne. flush-same old new v (a.others v ne);
 }
+  where
+    left : length new.slots.free ≡ length old.slots.free
+    left = ap (λ (p : Parts). length p.slots.free) a.rest
 
 -- an act that ended what was asked for, and then what comes of that
-pub stepped-through : (old mid told new : Parts) (w : ℕ) (answer : Applied) → HasActed old w mid → told.journal ≡ mid.journal → told.config ≡ mid.config → told.at_start ≡ mid.at_start → told.left_out ≡ mid.left_out → told.access ≡ mid.access → WentOn told w answer new → Steps (lab_of old) w answer (lab_of new)
-stepped-through old mid told new w answer a journal config at_start left_out access went = record {
+pub stepped-through : (old mid told new : Parts) (w : ℕ) (answer : Applied) → IsAwake old → HasActed old w mid → mid.access.taken ≡ old.access.taken → told ≡ record mid { slots = told.slots; workers = told.workers }
+    → length told.slots.free ≤ length mid.slots.free → length mid.slots.free ≤ length told.slots.free + SPLIT_SLOTS → WentOn told w answer new → Steps (lab_of old) w answer (lab_of new)
+stepped-through old mid told new w answer was a taken rest fewer few went = record {
   made = a.made;
   flush = a.flush ∙ sym (flush-is old w);
   struck = mid.journal.past;
   effect = a.struck;
-  ends = subst (λ (j : Log). GoesOn j w answer new.journal) (journal ∙ a.journal) went.ends;
-  config = went.config ∙ (config ∙ ap (λ (p : Parts). p.config) a.rest);
-  at_start = went.at_start ∙ (at_start ∙ ap (λ (p : Parts). p.at_start) a.rest);
-  left_out = ap (λ (flags : ArrayVec Bool). flags.items) (went.left_out ∙ (left_out ∙ ap (λ (p : Parts). p.left_out) a.rest));
-  others = λ v ne. flush-same old new v (went.others v ne ∙ (ap (λ (m : SwapMemory). worker_of m v) access ∙ a.others v ne));
+  ends = subst (λ (j : Log). GoesOn j w answer new.journal) journal went.ends;
+  spends = spends-shown old new (2 * SPLIT_SLOTS) was went.kept (record {
+    taken = subst (λ n. (new.access.taken ≡ n) ⊎ (new.access.taken ≡ n + 1)) (ap (λ (p : Parts). p.access.taken) rest ∙ taken) went.spends.taken;
+    fewer = omega (arith, left, fewer, less);
+    few = omega (arith, left, few, most);
+  });
+  full = subst (EndsFullRightly new.config (record old.journal { past = mid.journal.past }) w new.journal) (sym (shown-on new went.kept.on)) (subst (λ (j : Log). EndsFullRightly new.config j w new.journal (supply_of new)) journal went.full);
+  config = went.config ∙ (ap (λ (p : Parts). p.config) rest ∙ ap (λ (p : Parts). p.config) a.rest);
+  at_start = went.at_start ∙ (ap (λ (p : Parts). p.at_start) rest ∙ ap (λ (p : Parts). p.at_start) a.rest);
+  left_out = ap (λ (flags : ArrayVec Bool). flags.items) (went.left_out ∙ (ap (λ (p : Parts). p.left_out) rest ∙ ap (λ (p : Parts). p.left_out) a.rest));
+  others = λ v ne. flush-same old new v (went.others v ne ∙ (ap (λ (p : Parts). worker_of p.access v) rest ∙ a.others v ne));
 }
+  where
+    journal : told.journal ≡ record old.journal { past = mid.journal.past }
+    journal = ap (λ (p : Parts). p.journal) rest ∙ a.journal
+
+    left : length mid.slots.free ≡ length old.slots.free
+    left = ap (λ (p : Parts). length p.slots.free) a.rest
+
+    less : length new.slots.free ≤ length told.slots.free
+    less = went.spends.fewer
+
+    most : length told.slots.free ≤ length new.slots.free + SPLIT_SLOTS
+    most = went.spends.few

@@ -1,22 +1,27 @@
 -- A call that gets another task.
-use Rattle.std.proofs.Common.{◌≡◌, ◌≢◌, ℕ, Bool, true, List, length, arith, refl, sym, ap, subst, ◌∙◌, inl, Option, Some, None}
+use Rattle.std.proofs.Common.{◌≡◌, ◌≢◌, ◌⊎◌, ◌≤◌, ◌+◌, ℕ, Bool, true, false, List, length, arith, refl, sym, ap, subst, ◌∙◌, inl, Option, Some, None}
 use Rattle.std.specs.Prelude.{get_or}
 use Rattle.std.specs.Global.{Vec}
 use Rattle.std.specs.Vec.{with_item}
 use Rattle.std.proofs.lemmas.List.{get_or_read_under, get_or-set_same, get_or-set_other, length-set}
 use Rattle.bz_call.specs.Map.{key_of}
 use Rattle.bz_call.specs.declared.calls.Call.{Call}
+use Rattle.bz_call.specs.declared.calls.Call.TheVariants as call
+use Rattle.bz_call.specs.declared.replies.Reply.TheVariants as reply
+use Rattle.bz_layout.specs.declared.thresholds.TheConstants.{SPLIT_SLOTS}
+use Rattle.bz_mark.specs.declared.marks.Mark.TheVariants.{End}
 use Rattle.bz_running.specs.Duties.{config_of, asks_of, end_of, needs_of, wants_of, facts_of, makes_no_change}
 use Rattle.bz_running.specs.Hearing.{IsLookup}
 use Rattle.bz_running.specs.Laws.{AreLaws}
 use Rattle.bz_running.specs.declared.running.Running.{Running}
 use Rattle.bz_story.specs.Laws.{ScenesAreSeen}
-use Rattle.bz_swap.specs.SwapMemory.{worker_of}
+use Rattle.bz_swap.specs.SwapMemory.{SwapMemory, worker_of}
 use Rattle.bz_task.specs.Outcomes.{IsPath}
 use Rattle.bz_task.specs.Requests.{Hears, Tells}
 use Rattle.bz_task.specs.Scene.{IsScene, HasFilled, Waiting}
 use Rattle.bz_task.specs.declared.path.Path.{Path}
 use Rattle.bz_task.specs.declared.view.LeafView.{LeafView}
+use Rattle.bz_call.specs.declared.replies.Spent.{Spent}
 use Rattle.bz_call.specs.declared.replies.Spent.TheVariants.{Swaps}
 use Rattle.bz_layout.specs.Slots.{FreeSlots}
 use Rattle.bz_story.specs.Story.{scene}
@@ -24,16 +29,21 @@ use Rattle.bz_task.specs.declared.todo.Outcome.{Outcome}
 use Rattle.bz_task.specs.declared.todo.Outcome.TheVariants.{Full}
 use Rattle.bz_task.specs.declared.todo.Seen.TheVariants.{Start, NoSwap}
 use Rattle.bz_task.specs.declared.todo.Todo.{Todo}
+use Rattle.bz_task.specs.declared.todo.Todo.TheVariants.{Read}
 use Rattle.bz_world.specs.Inside.Acted.{IsBetween, MustTell}
 use Rattle.bz_world.specs.Inside.Going.{MustGoOn, MustTakeOn, MustReadWhole, HadEffect, HasReadAfter, LacksSwap, known, call_in, end_in, path_in, WentOn}
-use Rattle.bz_world.specs.Lab.{GoesOn}
-use Rattle.bz_world.specs.Inside.Serving.{IsOpened, IsSlot, IsToldBy, IsWanted}
+use Rattle.bz_world.specs.Inside.Beginning.{supply_of}
+use Rattle.bz_world.specs.Inside.Kept.{IsAwake}
+use Rattle.bz_world.specs.Lab.{GoesOn, EndsFullRightly}
+use Rattle.bz_world.specs.Inside.Serving.{IsOpened, IsSlot, IsToldBy, IsWanted, effect_reply}
 use Rattle.bz_world.specs.Inside.Telling.{MustStart, HasTold, HasToldIn, LacksDescriptor, KnowsWay, MustTellOf, MustStartOf}
 use Rattle.bz_world.specs.declared.answers.Applied.{Applied}
+use Rattle.bz_world.specs.declared.answers.Applied.TheVariants as applied
 use Rattle.bz_world.specs.declared.parts.Parts.{Parts}
 use Rattle.bz_world.specs.declared.serving.Serving.{Serving}
 use Rattle.bz_world.proofs.Powered.{begun-in}
 use Rattle.bz_world.proofs.Staying.{none-unfilled}
+use Rattle.bz_world.proofs.Supplies.{not-longer}
 
 -- each slot that was taken has been stored into
 pub has-filled : (p : Parts) (w : ℕ) (on : MustGoOn p w) → HasFilled (known p w on)
@@ -225,12 +235,70 @@ abbrev pub must-read-whole : (p : Parts) (w : ℕ) (todo : Todo) (m : MustStartO
 must-read-whole p w todo m outcome ended = record { on = must-go-on p w todo m.must outcome ended; leads = m.knows.leads; quiet = m.knows.quiet }
 
 -- a call that went on from parts with other slots and tasks
-pub went-told : (old mid : Parts) (w : ℕ) (answer : Applied) (new : Parts) → mid.journal ≡ old.journal → mid.config ≡ old.config → mid.at_start ≡ old.at_start → mid.left_out ≡ old.left_out → mid.access ≡ old.access → WentOn mid w answer new → WentOn old w answer new
-went-told old mid w answer new journal config at_start left_out access went = record {
+pub told-went : (old mid : Parts) (w : ℕ) (answer : Applied) (new : Parts) → mid ≡ record old { slots = mid.slots; workers = mid.workers } → length mid.slots.free ≤ length old.slots.free → length old.slots.free ≤ length new.slots.free + SPLIT_SLOTS
+    → WentOn mid w answer new → WentOn old w answer new
+told-went old mid w answer new rest fewer few went = record {
   kept = went.kept;
-  ends = subst (λ j. GoesOn j w answer new.journal) journal went.ends;
-  config = went.config ∙ config;
-  at_start = went.at_start ∙ at_start;
-  left_out = went.left_out ∙ left_out;
-  others = λ v ne. went.others v ne ∙ ap (λ m. worker_of m v) access;
+  ends = subst (λ j. GoesOn j w answer new.journal) (ap (λ (p : Parts). p.journal) rest) went.ends;
+  spends = record {
+    taken = subst (λ (m : SwapMemory). (new.access.taken ≡ m.taken) ⊎ (new.access.taken ≡ m.taken + 1)) (ap (λ (p : Parts). p.access) rest) went.spends.taken;
+    fewer = let less : length new.slots.free ≤ length mid.slots.free = went.spends.fewer in omega (arith, less, fewer);
+    few = few;
+  };
+  full = subst (λ j. EndsFullRightly new.config j w new.journal (supply_of new)) (ap (λ (p : Parts). p.journal) rest) went.full;
+  config = went.config ∙ ap (λ (p : Parts). p.config) rest;
+  at_start = went.at_start ∙ ap (λ (p : Parts). p.at_start) rest;
+  left_out = went.left_out ∙ ap (λ (p : Parts). p.left_out) rest;
+  others = λ v ne. went.others v ne ∙ ap (λ (p : Parts). worker_of p.access v) rest;
 }
+
+-- or with another task, and another page on its way
+pub went-anew : (p : Parts) (workers : Vec (Option Serving)) (page : List (List ℕ × List ℕ)) (w : ℕ) (answer : Applied) (new : Parts) → WentOn (record p { workers = workers; page = page }) w answer new → WentOn p w answer new
+went-anew p workers page w answer new went = record {
+  kept = went.kept;
+  ends = went.ends;
+  spends = let s = went.spends in record { taken = s.taken; fewer = s.fewer; few = s.few };
+  full = went.full;
+  config = went.config;
+  at_start = went.at_start;
+  left_out = went.left_out;
+  others = went.others;
+}
+
+-- or that started something
+pub went-started : (p : Parts) (workers : Vec (Option Serving)) (w : ℕ) (new : Parts) → IsAwake new → new ≡ record p { access = new.access; owners = new.owners; workers = workers }
+    → (new.access.taken ≡ p.access.taken) ⊎ (new.access.taken ≡ p.access.taken + 1) → ((v : ℕ) → v ≢ w → worker_of new.access v ≡ worker_of p.access v) → WentOn p w applied.Stepped new
+went-started p workers w new kept rest taken others = record {
+  kept = kept;
+  ends = ap (λ (z : Parts). z.journal) rest;
+  spends = record {
+    taken = taken;
+    fewer = omega (arith, ap (λ (z : Parts). length z.slots.free) rest);
+    few = omega (arith, ap (λ (z : Parts). length z.slots.free) rest);
+  };
+  full = λ n at spent e. absurd (not-longer (End w n (reply.Full spent) at) p.journal.past (sym (ap (λ (z : Parts). z.journal.past) rest) ∙ e));
+  config = ap (λ (z : Parts). z.config) rest;
+  at_start = ap (λ (z : Parts). z.at_start) rest;
+  left_out = ap (λ (z : Parts). z.left_out) rest;
+  others = others;
+}
+
+-- for what is no swap there is always room
+pub starts-always : (p : Parts) (a : ℕ) (new : Parts) (b : Bool) → (b ≡ true → IsAwake new) → (b ≡ false → LacksDescriptor p (Read a)) → IsAwake new
+starts-always p a new true started lacks = started refl
+starts-always p a new false started lacks = let d = lacks refl in absurd (cc d.is)
+
+-- a change is never answered by a Full
+pub no-full : (called : Call) (had : Option (List ℕ)) (spent : Spent) → effect_reply called had ≡ reply.Full spent → ⊥
+no-full (call.Insert key payload) None spent e = absurd (cc e)
+no-full (call.Insert key payload) (Some had) spent e = absurd (cc e)
+no-full (call.Delete key) None spent e = absurd (cc e)
+no-full (call.Delete key) (Some had) spent e = absurd (cc e)
+no-full (call.Update key payload) None spent e = absurd (cc e)
+no-full (call.Update key payload) (Some had) spent e = absurd (cc e)
+no-full (call.Upsert key payload) None spent e = absurd (cc e)
+no-full (call.Upsert key payload) (Some had) spent e = absurd (cc e)
+no-full (call.Get key) None spent e = absurd (cc e)
+no-full (call.Get key) (Some had) spent e = absurd (cc e)
+no-full (call.Page from) None spent e = absurd (cc e)
+no-full (call.Page from) (Some had) spent e = absurd (cc e)

@@ -38,6 +38,7 @@ use Rattle.bz_world.specs.declared.parts.Parts.{Parts}
 use Rattle.bz_world.specs.declared.serving.Serving.{Serving}
 use Rattle.bz_world.proofs.Counting.{pairs-stay}
 use Rattle.bz_world.proofs.Recovered.{Learns}
+use Rattle.bz_world.proofs.Supplies.{shown-off}
 use Rattle.bz_world.proofs.Contained.{among-contains, contains-among}
 
 -- the laws of a beginning
@@ -183,10 +184,11 @@ wakes b p k order room access journal is holds marked = subst (λ (j : Log). Wak
     (record { awake = woken b p k order (subst Holds is holds) room; rest = refl }))
 
 -- power on as it is seen: worker 0's first act is no flush
-pub seen-on : (p q : Parts) (journal : Log) (next : Recover) (slots : FreeSlots) → journal ≡ with_mark p.journal On → q ≡ record p { access = q.access; journal = journal; power = power.Recovering; recovery = next; slots = slots } → q.access ≡ started p.access 0 (Loading 0) → lab_of q ≡ lab.after_on (lab_of p)
-seen-on p q journal next slots marked rest is = ap lab_of rest ∙ (ap (λ (m : SwapMemory). record { config = p.config; at_start = p.at_start; log = journal; flushes = map (λ (v : Working). v.flush_next) m.workers; left_out = p.left_out.items }) is
-    ∙ (ap (λ (j : Log). record { config = p.config; at_start = p.at_start; log = j; flushes = map (λ (v : Working). v.flush_next) (started p.access 0 (Loading 0)).workers; left_out = p.left_out.items }) marked
-    ∙ ap (λ fs. record { config = p.config; at_start = p.at_start; log = with_mark p.journal On; flushes = fs; left_out = p.left_out.items }) (map-set (λ (v : Working). v.flush_next) p.access.workers 0 (record { doing = Loading 0; flush_next = false }))))
+pub seen-on : (p q : Parts) (journal : Log) (next : Recover) (slots : FreeSlots) → p.power ≡ power.Off → journal ≡ with_mark p.journal On → q ≡ record p { access = q.access; journal = journal; power = power.Recovering; recovery = next; slots = slots } → q.access ≡ started p.access 0 (Loading 0) → lab_of q ≡ lab.after_on (lab_of p)
+seen-on p q journal next slots off marked rest is = ap lab_of rest ∙ (ap (λ (m : SwapMemory). record { config = p.config; at_start = p.at_start; log = journal; flushes = map (λ (v : Working). v.flush_next) m.workers; left_out = p.left_out.items; supply = record { taken = 0; left = 0 } }) is
+    ∙ (ap (λ (j : Log). record { config = p.config; at_start = p.at_start; log = j; flushes = map (λ (v : Working). v.flush_next) (started p.access 0 (Loading 0)).workers; left_out = p.left_out.items; supply = record { taken = 0; left = 0 } }) marked
+    ∙ (ap (λ fs. record { config = p.config; at_start = p.at_start; log = with_mark p.journal On; flushes = fs; left_out = p.left_out.items; supply = record { taken = 0; left = 0 } }) (map-set (λ (v : Working). v.flush_next) p.access.workers 0 (record { doing = Loading 0; flush_next = false }))
+    ∙ ap (λ (s : lab.Supply). record (lab.after_on (lab_of p)) { supply = s }) (sym (shown-off p off)))))
 
 pub begun-on : (b : Begins) (p : Parts) (k : IsOff p) (off : p.power ≡ power.Off) (room : length p.journal.past + 3 ≤ p.config.marks) (first next : Recover) (slots : FreeSlots) (new : recovery.IsNew p.config first) (on : recovery.IsNext first Start next)
     → slots.nodes ≡ p.slots.nodes → Learns first p.slots Start next slots → WalksIn first k.dark.values p.slots → (journal : Log) → journal ≡ with_mark p.journal On

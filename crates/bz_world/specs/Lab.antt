@@ -7,11 +7,15 @@ use Rattle.bz_acts.specs.declared.acted.Act.TheVariants as act
 use Rattle.bz_call.specs.Pages.{is_page}
 use Rattle.bz_call.specs.declared.calls.Call.{Call}
 use Rattle.bz_call.specs.declared.replies.Reply.{Reply}
+use Rattle.bz_call.specs.declared.replies.Reply.TheVariants.{Full}
+use Rattle.bz_call.specs.declared.replies.Spent.{Spent}
+use Rattle.bz_call.specs.declared.replies.Spent.TheVariants.{Nodes, Swaps, Height}
 use Rattle.bz_content.specs.Content.{image_fault}
 use Rattle.bz_layout.specs.Addresses.{words_of}
 use Rattle.bz_layout.specs.Config.{IsConfig, IsFirstOutOfRange}
 use Rattle.bz_layout.specs.Fresh.{fresh_words}
 use Rattle.bz_layout.specs.declared.config.Config.{Config}
+use Rattle.bz_layout.specs.declared.thresholds.TheConstants.{SPLIT_SLOTS}
 use Rattle.bz_mark.specs.Log.{Log, with_mark, count_begins, count_page_calls, count_page_ends}
 use Rattle.bz_mark.specs.declared.marks.Mark.{Mark}
 use Rattle.bz_mark.specs.declared.marks.Mark.TheVariants.{Begin, End, Load, Store, Cas, Flush, Evict, Cut, On, Ready, Effect}
@@ -20,6 +24,7 @@ use Rattle.bz_sound.specs.declared.power.Power.{Power}
 use Rattle.bz_sound.specs.declared.power.Power.TheVariants as power
 use Rattle.bz_sound.specs.Calls.{Open, open_call, begun_calls, map_after}
 use Rattle.bz_sound.specs.Memory.Moments.{map_at_start}
+use Rattle.bz_sound.specs.Memory.Spent.{NeedsSlots}
 use Rattle.bz_sound.specs.Power.Times.{power_of, since_on}
 use Rattle.bz_sound.specs.Replies.{Pages}
 use Rattle.bz_story.specs.Reviving.{acts_by}
@@ -35,14 +40,25 @@ use Rattle.bz_world.specs.declared.answers.OpenError.{OpenError}
 use Rattle.bz_world.specs.declared.answers.OpenError.TheVariants as open_error
 use Rattle.bz_world.specs.declared.answers.Which.TheVariants as which
 
+-- how many descriptors were taken since the power came on, and how many slots of nodes are free
+pub record Supply : Type 0 where
+  pub taken : ℕ
+  pub left : ℕ
+
+-- with the power on; else nothing is told
+abbrev pub supply_by : Power → Supply → Supply
+supply_by power.On supply = supply
+supply_by other supply = record { taken = 0; left = 0 }
+
 -- the numbers that the world was made with, what the power was at first, its journal, and of each worker, from worker 0 on, whether its next act is a flush, and
--- whether it was one when the power was cut last; before the first cut nobody has a flag of that kind
+-- whether it was one when the power was cut last; before the first cut nobody has a flag of that kind; and what is taken and left
 pub record Lab : Type 0 where
   pub config : Config
   pub at_start : Power
   pub log : Log
   pub flushes : List Bool
   pub left_out : List Bool
+  pub supply : Supply
 
 -- whether the next act of a worker is a flush
 abbrev pub flush_of : Lab → ℕ → Bool
@@ -52,7 +68,7 @@ flush_of lab w = get_or lab.flushes w false
 abbrev pub flush_left_out : Lab → ℕ → Bool
 flush_left_out lab w = get_or lab.left_out w false
 
--- a world over these words, in which nothing has happened
+-- a world over these words, in which nothing has happened: of fresh memory all slots are free but the root's
 abbrev pub lab_over : Config → List ℕ → Power → Lab
 lab_over config start at_start = record {
   config = config;
@@ -60,6 +76,7 @@ lab_over config start at_start = record {
   log = record { start = start; past = []; pages = []; limits = record { marks = config.marks; calls = config.calls; pages = config.pages } };
   flushes = replicate (config.workers + 1) false;
   left_out = [];
+  supply = supply_by at_start (record { taken = 0; left = config.nodes - 1 });
 }
 
 -- over fresh memory its power is on
@@ -214,14 +231,41 @@ GoesOn old w applied.Stepped new = new ≡ old
 GoesOn old w (applied.Ended n) new = IsEnding old w n new
 GoesOn old w other new = ⊥
 
+-- at most one descriptor is taken, and at most so many slots; none comes back
+pub record Spends (slots : ℕ) (old new : Supply) : Type 0 where
+  pub taken : (new.taken ≡ old.taken) ⊎ (new.taken ≡ old.taken + 1)
+  pub fewer : new.left ≤ old.left
+  pub few : old.left ≤ new.left + slots
+
+-- fewer slots are left than it took, at a moment of the worker's open call, to make the frozen leaf of its key anew
+pub record LacksSlots (config : Config) (log : Log) (w left : ℕ) : Type 0 where
+  pub opened : Open
+  pub is_open : open_call w log.past ≡ Some opened
+  pub slots : ℕ
+  pub needs : NeedsSlots config log.start log.past opened slots
+  pub lacks : left < slots
+
+-- what a Full names has run out: every descriptor is taken, or the slots are not left. That a tree is too high shows in the journal
+abbrev pub HasRunOut : Config → Log → ℕ → Supply → Spent → Type 0
+HasRunOut config log w supply Swaps = supply.taken ≡ config.swaps
+HasRunOut config log w supply Nodes = LacksSlots config log w supply.left
+HasRunOut config log w supply Height = Unit {0}
+
+-- a Full ends the worker's call only where what it names has run out
+abbrev pub EndsFullRightly : Config → Log → ℕ → Log → Supply → Type 0
+EndsFullRightly config old w new supply = (n at : ℕ) (spent : Spent) → new.past ≡ End w n (Full spent) at ∷ old.past → HasRunOut config old w supply spent
+
 -- a step of a worker: exactly one act of it, a flush exactly where that was said before; at most one effect; at most its
--- call's End. What the next acts of the others are stays.
+-- call's End, which is a Full only where what that names has run out. A task takes at most as many slots as a split does: the one
+-- that this act ends, and the next one. What the next acts of the others are stays.
 pub record Steps (old : Lab) (w : ℕ) (answer : Applied) (new : Lab) : Type 0 where
   pub made : Act
   pub flush : is_flush_act made ≡ flush_of old w
   pub struck : List Mark
   pub effect : IsStruck (mark_of w made ∷ old.log.past) struck
   pub ends : GoesOn (record old.log { past = struck }) w answer new.log
+  pub spends : Spends (2 * SPLIT_SLOTS) old.supply new.supply
+  pub full : EndsFullRightly new.config (record old.log { past = struck }) w new.log new.supply
   pub config : new.config ≡ old.config
   pub at_start : new.at_start ≡ old.at_start
   pub left_out : new.left_out ≡ old.left_out
@@ -233,11 +277,17 @@ EndsRecovery old applied.Stepped new = new ≡ old
 EndsRecovery old applied.Ready new = new ≡ with_mark old Ready
 EndsRecovery old other new = ⊥
 
+-- then no descriptor is taken yet
+abbrev pub GivesBack : Applied → Supply → Supply → Type 0
+GivesBack applied.Ready old new = new.taken ≡ 0
+GivesBack other old new = new ≡ old
+
 -- a step of the recovery: exactly one act of worker 0, a flush exactly where that was said before
 pub record Recovers (old : Lab) (answer : Applied) (new : Lab) : Type 0 where
   pub made : Act
   pub flush : is_flush_act made ≡ flush_of old 0
   pub ends : EndsRecovery (with_mark old.log (mark_of 0 made)) answer new.log
+  pub supply : GivesBack answer old.supply new.supply
   pub config : new.config ≡ old.config
   pub at_start : new.at_start ≡ old.at_start
   pub left_out : new.left_out ≡ old.left_out
@@ -254,9 +304,9 @@ pub record Evicts (old : Lab) (a : ℕ) (answer : Applied) (new : Lab) : Type 0 
   pub effect : IsStruck (Evict a ∷ old.log.past) past
   pub rest : new ≡ record old { log = record old.log { past = past } }
 
--- a power cut adds its mark, and nobody has a next act: which of them were flushes is kept
+-- a power cut adds its mark, and nobody has a next act: which of them were flushes is kept. What was taken is told no more
 abbrev pub after_cut : Lab → Lab
-after_cut lab = record lab { log = with_mark lab.log Cut; flushes = replicate (lab.config.workers + 1) false; left_out = lab.flushes }
+after_cut lab = record lab { log = with_mark lab.log Cut; flushes = replicate (lab.config.workers + 1) false; left_out = lab.flushes; supply = supply_by power.Off lab.supply }
 
 -- power on adds its mark: the first act of a recovery is no flush
 abbrev pub after_on : Lab → Lab

@@ -58,6 +58,8 @@ pub(crate) fn act(parts: &mut Parts, w: u8) -> Option<Seen>
     ensures on { result ≡ None → IsAwake parts.new }
     ensures told { (seen : Seen) → result ≡ Some seen → MustTell parts.new w seen }
     ensures made { HasActed parts.old w parts.new }
+    // it takes no descriptor
+    ensures taken { parts.new.access.taken ≡ parts.old.access.taken }
 {
     step_laws();
     sight::effect_steps_take_place();

@@ -15,7 +15,8 @@ pub(crate) fn end(parts: &mut Parts, w: u8, reply: Reply, at: u32) -> Applied
     requires right { MustEnd parts.old w reply at }
     requires plain { names_page reply ≡ false }
     requires room { length parts.old.journal.past < parts.old.config.marks }
-    ensures { WentOn parts.old w result parts.new }
+    ensures went { WentOn parts.old w result parts.new }
+    ensures slots { parts.new.slots ≡ parts.old.slots }
 {
     end_laws();
     let n = parts.numbers[w as usize];
@@ -28,7 +29,8 @@ pub(crate) fn end(parts: &mut Parts, w: u8, reply: Reply, at: u32) -> Applied
 pub(crate) fn end_page(parts: &mut Parts, w: u8, next: Option<Key>, at: u32) -> Applied
     requires right { MustEndPage parts.old w next at }
     requires room { length parts.old.journal.past < parts.old.config.marks }
-    ensures { WentOn parts.old w result parts.new }
+    ensures went { WentOn parts.old w result parts.new }
+    ensures slots { parts.new.slots ≡ parts.old.slots }
 {
     end_laws();
     let n = parts.numbers[w as usize];

@@ -1,8 +1,10 @@
 //! How a call goes on when its task has ended, or asks for something.
-ghost use Rattle.std.specs.Prelude.{◌≡◌, ◌<◌, false, None, Some, get_or, length};
+ghost use Rattle.std.specs.Prelude.{◌≡◌, ◌<◌, ◌≤◌, ◌+◌, false, None, Some, get_or, length};
+ghost use Rattle.bz_task.specs.declared.todo.Seen.TheVariants.{Start};
 ghost use Rattle.bz_task.specs.declared.todo.Todo.TheVariants.{Finish};
 ghost use Rattle.bz_call.specs.Pages.{names_page};
-ghost use Rattle.bz_world.specs.Inside.Going.{MustGoOn, HadEffect, LacksSwap, IsShort, WentOn, end_in};
+ghost use Rattle.bz_world.specs.Inside.Acted.{MustTell};
+ghost use Rattle.bz_world.specs.Inside.Going.{MustGoOn, HadEffect, LacksSwap, IsShort, WentOn, end_in, needs_in};
 ghost use Rattle.bz_world.specs.Inside.Serving.{effect_reply as reply_in};
 ghost use Rattle.bz_world.specs.Inside.Telling.{MustStart};
 
@@ -22,7 +24,8 @@ use bz_task::{Outcome, Seen, Todo};
 /// Begins the lookup of the call's key, again.
 pub(crate) fn look_up(parts: &mut Parts, w: u8) -> Applied
     requires { MustGoOn parts.old w }
-    ensures { WentOn parts.old w result parts.new }
+    ensures went { WentOn parts.old w result parts.new }
+    ensures slots { parts.new.slots ≡ parts.old.slots }
 {
     start_laws();
     let call = called(&parts.workers[w as usize]);
@@ -49,7 +52,8 @@ pub(crate) fn effect_reply(call: &Call, had: Option<Payload>) -> Reply
 pub(crate) fn end_effective(parts: &mut Parts, w: u8, at: u32) -> Applied
     requires had { HadEffect parts.old w at }
     requires room { length parts.old.journal.past < parts.old.config.marks }
-    ensures { WentOn parts.old w result parts.new }
+    ensures went { WentOn parts.old w result parts.new }
+    ensures slots { parts.new.slots ≡ parts.old.slots }
 {
     bz_sound::power_laws::effects_answer();
     let call = called(&parts.workers[w as usize]);
@@ -61,7 +65,8 @@ pub(crate) fn end_effective(parts: &mut Parts, w: u8, at: u32) -> Applied
 pub(crate) fn end_full(parts: &mut Parts, w: u8, spent: Spent) -> Applied
     requires short { IsShort parts.old w spent }
     requires room { length parts.old.journal.past < parts.old.config.marks }
-    ensures { WentOn parts.old w result parts.new }
+    ensures went { WentOn parts.old w result parts.new }
+    ensures slots { parts.new.slots ≡ parts.old.slots }
 {
     bz_sound::power_laws::spent_answers_full();
     let call = called(&parts.workers[w as usize]);
@@ -77,7 +82,8 @@ pub(crate) fn end_full(parts: &mut Parts, w: u8, spent: Spent) -> Applied
 fn end_swapless(parts: &mut Parts, w: u8) -> Applied
     requires lacks { LacksSwap parts.old w }
     requires room { length parts.old.journal.past < parts.old.config.marks }
-    ensures { WentOn parts.old w result parts.new }
+    ensures went { WentOn parts.old w result parts.new }
+    ensures slots { parts.new.slots ≡ parts.old.slots }
 {
     bz_sound::power_laws::held_swaps_are_spent();
     match effect_in(&parts.workers[w as usize]) {
@@ -101,7 +107,9 @@ pub(crate) fn outcome_of(parts: &Parts, w: u8) -> Outcome
 pub(crate) fn go_on(parts: &mut Parts, w: u8, todo: Todo) -> Applied
     requires asks { MustStart parts.old w todo }
     requires room { length parts.old.journal.past < parts.old.config.marks }
-    ensures { WentOn parts.old w result parts.new }
+    ensures went { WentOn parts.old w result parts.new }
+    // no more slots are gone than its task was still to take
+    ensures few { length parts.old.slots.free ≤ length parts.new.slots.free + needs_in (get_or parts.old.workers.items w None) }
 {
     if matches!(todo, Todo::Finish) {
         let _ = outcome_of(parts, w);
@@ -113,4 +121,14 @@ pub(crate) fn go_on(parts: &mut Parts, w: u8, todo: Todo) -> Applied
         let _ = tell(parts, w, Seen::NoSwap);
         end_swapless(parts, w)
     }
+}
+
+/// Has the new task of a call begin.
+pub(crate) fn begin_task(parts: &mut Parts, w: u8) -> Applied
+    requires begins { MustTell parts.old w Start }
+    requires room { length parts.old.journal.past < parts.old.config.marks }
+    ensures { WentOn parts.old w result parts.new }
+{
+    let todo = tell(parts, w, Seen::Start);
+    go_on(parts, w, todo)
 }

@@ -4,13 +4,12 @@ ghost use Rattle.bz_world.specs.Inside.Going.{MustRead, WentOn};
 
 use crate::answers::Applied;
 use crate::calls::{called, key_of, set_task};
-use crate::going::go_on;
+use crate::going::begin_task;
 use crate::laws::start_laws;
 use crate::parts::Parts;
-use crate::tell::tell;
 use bz_call::Call;
 use bz_running::Running;
-use bz_task::{Path, Seen};
+use bz_task::Path;
 
 /// Reads the leaf whole.
 pub(crate) fn read_leaf(parts: &mut Parts, w: u8, path: Path) -> Applied
@@ -23,8 +22,7 @@ pub(crate) fn read_leaf(parts: &mut Parts, w: u8, path: Path) -> Applied
     let task = Running::read_leaf(&parts.config, path, key_of(&call));
     task.laws();
     set_task(&mut parts.workers[w as usize], task, Some(path));
-    let todo = tell(parts, w, Seen::Start);
-    go_on(parts, w, todo)
+    begin_task(parts, w)
 }
 
 // Looks the call's key up there.
@@ -38,8 +36,7 @@ fn find_key(parts: &mut Parts, w: u8, path: Path) -> Applied
     let task = Running::find(&parts.config, path, key_of(&call));
     task.laws();
     set_task(&mut parts.workers[w as usize], task, Some(path));
-    let todo = tell(parts, w, Seen::Start);
-    go_on(parts, w, todo)
+    begin_task(parts, w)
 }
 
 /// Looks there for what the call asks: at the whole leaf for a page, and at the call's key for any other.

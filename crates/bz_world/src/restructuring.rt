@@ -6,17 +6,16 @@ ghost use Rattle.bz_world.specs.Inside.Going.{MustAnswer, MustMakeAnew, MustCopy
 
 use crate::answers::Applied;
 use crate::calls::{called, is_alone, key_of, path_in, set_task};
-use crate::going::{go_on, look_up};
+use crate::going::{begin_task, look_up};
 use crate::laws::{answer_laws, start_laws};
 use crate::parts::Parts;
-use crate::tell::tell;
 use bz_below::is_due as is_due_below;
 use bz_consol::is_due;
 use bz_layout::SPLIT_ABOVE;
 use bz_merge::is_due as is_due_beside;
 use bz_page::live_words;
 use bz_running::Running;
-use bz_task::{LeafView, Path, Seen};
+use bz_task::{LeafView, Path};
 
 // Freezes the leaf that was read.
 fn freeze(parts: &mut Parts, w: u8, path: Path, view: &LeafView) -> Applied
@@ -29,8 +28,7 @@ fn freeze(parts: &mut Parts, w: u8, path: Path, view: &LeafView) -> Applied
     let task = Running::freeze(&parts.config, path, *view);
     task.laws();
     set_task(&mut parts.workers[w as usize], task, None);
-    let todo = tell(parts, w, Seen::Start);
-    go_on(parts, w, todo)
+    begin_task(parts, w)
 }
 
 // Copies the frozen leaf that was read.
@@ -44,8 +42,7 @@ fn consolidate(parts: &mut Parts, w: u8, path: Path, view: &LeafView) -> Applied
     let task = Running::consolidate(&parts.config, path, *view, &mut parts.page);
     task.laws();
     set_task(&mut parts.workers[w as usize], task, None);
-    let todo = tell(parts, w, Seen::Start);
-    go_on(parts, w, todo)
+    begin_task(parts, w)
 }
 
 /// Merges the leaf that was read, frozen or not, with a neighbour.
@@ -58,8 +55,7 @@ pub(crate) fn merge(parts: &mut Parts, w: u8, path: Path, view: &LeafView) -> Ap
     let task = Running::merge(&parts.config, path, *view);
     task.laws();
     set_task(&mut parts.workers[w as usize], task, None);
-    let todo = tell(parts, w, Seen::Start);
-    go_on(parts, w, todo)
+    begin_task(parts, w)
 }
 
 // Splits the frozen root leaf that was read.
@@ -73,8 +69,7 @@ fn split_root(parts: &mut Parts, w: u8, path: Path, view: &LeafView) -> Applied
     let task = Running::split_root(&parts.config, path, *view, &mut parts.page);
     task.laws();
     set_task(&mut parts.workers[w as usize], task, None);
-    let todo = tell(parts, w, Seen::Start);
-    go_on(parts, w, todo)
+    begin_task(parts, w)
 }
 
 // Splits the frozen leaf that was read, below a parent.
@@ -89,8 +84,7 @@ fn split_below(parts: &mut Parts, w: u8, path: Path, view: &LeafView) -> Applied
     let task = Running::split_below(&parts.config, path, *view, key_of(&call), &mut parts.page);
     task.laws();
     set_task(&mut parts.workers[w as usize], task, None);
-    let todo = tell(parts, w, Seen::Start);
-    go_on(parts, w, todo)
+    begin_task(parts, w)
 }
 
 /// Splits the node above the one whose split lacked the room there. Its call begins again afterwards.
@@ -102,8 +96,7 @@ pub(crate) fn split_above(parts: &mut Parts, w: u8, task: Running) -> Applied
     start_laws();
     task.laws();
     set_task(&mut parts.workers[w as usize], task, None);
-    let todo = tell(parts, w, Seen::Start);
-    go_on(parts, w, todo)
+    begin_task(parts, w)
 }
 
 // Merges a frozen leaf, where it has too few live words to stand alone and no neighbour was found without room for it, or copies it.

@@ -1,5 +1,5 @@
 //! Starts of what tasks ask for. A start makes no act.
-ghost use Rattle.std.specs.Prelude.{◌≡◌, ◌≢◌, ℕ, true, false};
+ghost use Rattle.std.specs.Prelude.{◌≡◌, ◌≢◌, ◌⊎◌, ◌+◌, ℕ, true, false};
 ghost use Rattle.bz_swap.specs.SwapMemory.{worker_of};
 ghost use Rattle.bz_task.specs.declared.todo.Todo.TheVariants.{Swap, Finish};
 ghost use Rattle.bz_world.specs.Inside.Kept.{IsAwake};
@@ -17,6 +17,7 @@ fn start_swap(parts: &mut Parts, w: u8, entries: EntryList) -> bool
     ensures lacks { result ≡ false → LacksDescriptor parts.old (Swap entries) }
     ensures same { result ≡ false → parts.new ≡ parts.old }
     ensures rest { parts.new ≡ record parts.old { access = parts.new.access; owners = parts.new.owners } }
+    ensures taken { (parts.new.access.taken ≡ parts.old.access.taken) ⊎ (parts.new.access.taken ≡ parts.old.access.taken + 1) }
     ensures others { (v : ℕ) → v ≢ w → worker_of parts.new.access v ≡ worker_of parts.old.access v }
 {
     start_laws();
@@ -38,6 +39,7 @@ pub(crate) fn start(parts: &mut Parts, w: u8, todo: Todo) -> bool
     ensures lacks { result ≡ false → LacksDescriptor parts.old todo }
     ensures same { result ≡ false → parts.new ≡ parts.old }
     ensures rest { parts.new ≡ record parts.old { access = parts.new.access; owners = parts.new.owners } }
+    ensures taken { (parts.new.access.taken ≡ parts.old.access.taken) ⊎ (parts.new.access.taken ≡ parts.old.access.taken + 1) }
     ensures others { (v : ℕ) → v ≢ w → worker_of parts.new.access v ≡ worker_of parts.old.access v }
 {
     start_laws();

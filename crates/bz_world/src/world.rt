@@ -132,6 +132,26 @@ impl World {
         self.parts.pairs
     }
 
+    /// How many descriptors were taken since the power came on. With no power on none is told.
+    pub fn taken(&self) -> u32
+        ensures { result ≡ self.now.supply.taken }
+    {
+        match self.parts.power {
+            Power::On => self.parts.access.taken(),
+            Power::Off | Power::Recovering => 0,
+        }
+    }
+
+    /// How many slots of nodes are free. With no power on none is told.
+    pub fn left(&self) -> u32
+        ensures { result ≡ self.now.supply.left }
+    {
+        match self.parts.power {
+            Power::On => self.parts.slots.left(),
+            Power::Off | Power::Recovering => 0,
+        }
+    }
+
     /// The numbers that the world was made with.
     pub fn config(&self) -> Config
         ensures config { result ≡ self.now.config }

@@ -51,6 +51,7 @@ fn each_slot_takes_fifty_seven_updates_of_a_small_record(rt: HostRuntime) -> Res
         (Call::Page(k), Answer::Page(0, false)),
     ];
     answers(&rt, &mut world, &rows);
+    assert_eq!(rt; world.left(), 0);
     Ok(())
 }
 
@@ -59,6 +60,7 @@ fn two_descriptors_are_one_insert(rt: HostRuntime) -> Result<(), Fail> {
     let (a, b) = (key(&rt, b"a"), key(&rt, b"b"));
     let one = payload(&rt, b"1");
     let mut world = open(rt.alloc(), 16, 2, 1)?;
+    assert_eq!(rt; world.taken(), 0);
     let rows = [
         (Call::Insert(a, one), Answer::Inserted),
         (Call::Insert(b, one), Answer::FullSwaps),
@@ -68,6 +70,10 @@ fn two_descriptors_are_one_insert(rt: HostRuntime) -> Result<(), Fail> {
         (Call::Get(a), Answer::Value(one)),
     ];
     answers(&rt, &mut world, &rows);
+    assert_eq!(rt; world.taken(), 2);
+    assert_eq!(rt; world.left(), 15);
+    assert_eq!(rt; world.apply(Event::Cut), Applied::Cut);
+    assert_eq!(rt; world.taken(), 0);
     Ok(())
 }
 

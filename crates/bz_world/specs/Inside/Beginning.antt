@@ -6,14 +6,25 @@ use Rattle.bz_sound.specs.declared.power.Power.TheVariants as power
 use Rattle.bz_sound.specs.Calls.{begun_calls}
 use Rattle.bz_swap.specs.SwapMemory.{Working}
 use Rattle.bz_world.specs.Inside.Kept.{IsAwake}
-use Rattle.bz_world.specs.Lab.{Lab, powered_answer, begin_answer, after_begin}
+use Rattle.bz_world.specs.Lab.{Lab, Supply, supply_by, powered_answer, begin_answer, after_begin}
 use Rattle.bz_world.specs.declared.answers.Begun.{Begun}
 use Rattle.bz_world.specs.declared.answers.Begun.TheVariants as begun
 use Rattle.bz_world.specs.declared.parts.Parts.{Parts}
 
+-- what is taken and left
+abbrev pub supply_of : Parts → Supply
+supply_of p = record { taken = p.access.taken; left = length p.slots.free }
+
 -- what callers see of a world of these parts
 abbrev pub lab_of : Parts → Lab
-lab_of p = record { config = p.config; at_start = p.at_start; log = p.journal; flushes = map (λ (v : Working). v.flush_next) p.access.workers; left_out = p.left_out.items }
+lab_of p = record {
+  config = p.config;
+  at_start = p.at_start;
+  log = p.journal;
+  flushes = map (λ (v : Working). v.flush_next) p.access.workers;
+  left_out = p.left_out.items;
+  supply = supply_by p.power (supply_of p);
+}
 
 -- how many pages a call asks for
 abbrev pub pages_asked : Call → ℕ

@@ -5,14 +5,14 @@ use Rattle.bz_call.specs.Pages.{is_page}
 use Rattle.bz_call.specs.declared.calls.Call.{Call}
 use Rattle.bz_call.specs.declared.calls.Call.TheVariants as call
 use Rattle.bz_call.specs.declared.replies.Reply.{Reply}
-use Rattle.bz_call.specs.declared.replies.Reply.TheVariants.{Page}
+use Rattle.bz_call.specs.declared.replies.Reply.TheVariants.{Full, Page}
 use Rattle.bz_call.specs.declared.replies.Spent.{Spent}
 use Rattle.bz_call.specs.declared.replies.Spent.TheVariants.{Nodes}
 use Rattle.bz_below.specs.Facts.{IsThawedAbove}
 use Rattle.bz_consol.specs.Facts.{LeadsTo}
 use Rattle.bz_layout.specs.declared.config.Config.{Config}
-use Rattle.bz_layout.specs.declared.thresholds.TheConstants.{MERGE_SLOTS, SPLIT_ABOVE}
-use Rattle.bz_running.specs.Duties.{config_of, asks_of, end_of, wants_of, facts_of}
+use Rattle.bz_layout.specs.declared.thresholds.TheConstants.{MERGE_SLOTS, SPLIT_ABOVE, SPLIT_SLOTS}
+use Rattle.bz_running.specs.Duties.{config_of, asks_of, end_of, needs_of, wants_of, facts_of}
 use Rattle.bz_running.specs.GoingUp.{GoesUp, IsInScene}
 use Rattle.bz_running.specs.declared.running.Running.{Running}
 use Rattle.bz_slotted.specs.Readers.{live_of}
@@ -31,8 +31,9 @@ use Rattle.bz_task.specs.declared.view.KeyView.{KeyView}
 use Rattle.bz_task.specs.declared.view.LeafView.{LeafView}
 use Rattle.bz_word.specs.Statuses.{status}
 use Rattle.bz_world.specs.Inside.Acted.{IsBetween}
+use Rattle.bz_world.specs.Inside.Beginning.{supply_of}
 use Rattle.bz_world.specs.Inside.Kept.{IsAwake}
-use Rattle.bz_world.specs.Lab.{GoesOn}
+use Rattle.bz_world.specs.Lab.{GoesOn, Spends, HasRunOut, EndsFullRightly}
 use Rattle.bz_world.specs.Inside.Serving.{IsTasked, IsWanted}
 use Rattle.bz_world.specs.declared.answers.Applied.{Applied}
 use Rattle.bz_world.specs.declared.parts.Parts.{Parts}
@@ -77,6 +78,11 @@ had_in (Some x) = x.had
 abbrev pub wants_in : Option Serving → ℕ
 wants_in None = 0
 wants_in (Some x) = wants_of x.task
+
+-- and how many it still takes
+abbrev pub needs_in : Option Serving → ℕ
+needs_in None = 0
+needs_in (Some x) = needs_of x.task
 
 -- its task knows what it should, of a memory of these sizes
 pub record CanGoUp (x : Serving) (c : Config) : Type 0 where
@@ -258,16 +264,18 @@ pub record IsOutOfSlots (p : Parts) (w : ℕ) : Type 0 where
   pub quiet : on.serving.effect ≡ None
   pub fewer : length p.slots.free < wants_of on.serving.task
 
--- something is spent, and the call had no effect
+-- something is spent and has run out, and the call had no effect
 pub record IsShort (p : Parts) (w : ℕ) (spent : Spent) : Type 0 where
   pub on : MustGoOn p w
   pub quiet : on.serving.effect ≡ None
   pub cause : IsSpent p.config p.journal.start p.journal.past w on.between.opened spent
+  pub out : HasRunOut p.config p.journal w (supply_of p) spent
 
--- this is a right reply to it, at this moment
+-- this is a right reply to it, at this moment; and a Full only where what it names has run out
 pub record MustEnd (p : Parts) (w : ℕ) (reply : Reply) (at : ℕ) : Type 0 where
   pub on : MustGoOn p w
   pub right : IsRightReply p.config p.journal.start p.journal.pages p.journal.past (record { worker = w; opened = on.between.opened; reply = reply; at = at })
+  pub full : (spent : Spent) → reply ≡ Full spent → HasRunOut p.config p.journal w (supply_of p) spent
 
 -- the page that was put together is the right one, up to this key
 pub record MustEndPage (p : Parts) (w : ℕ) (next : Option (List ℕ)) (at : ℕ) : Type 0 where
@@ -275,10 +283,13 @@ pub record MustEndPage (p : Parts) (w : ℕ) (next : Option (List ℕ)) (at : �
   pub asks : is_page on.serving.call ≡ true
   pub right : IsRightReply p.config p.journal.start (p.journal.pages ++ p.page ∷ []) p.journal.past (record { worker = w; opened = on.between.opened; reply = Page (length p.journal.pages) next; at = at })
 
--- the call went on without an act: at most its End was added, and what the other workers do is the same
+-- the call went on without an act: at most its End was added, a Full only where what it names has run out; at most one descriptor was
+-- taken, and the slots of at most one task; and what the other workers do is the same
 pub record WentOn (old : Parts) (w : ℕ) (answer : Applied) (new : Parts) : Type 0 where
   pub kept : IsAwake new
   pub ends : GoesOn old.journal w answer new.journal
+  pub spends : Spends SPLIT_SLOTS (supply_of old) (supply_of new)
+  pub full : EndsFullRightly new.config old.journal w new.journal (supply_of new)
   pub config : new.config ≡ old.config
   pub at_start : new.at_start ≡ old.at_start
   pub left_out : new.left_out ≡ old.left_out

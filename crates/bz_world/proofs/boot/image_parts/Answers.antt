@@ -10,4 +10,4 @@ returns-clause-kept c =
     (c.in_ok-parts.ensures.slots ∙ c.in_ok-slots.ensures) c.in_ok-parts.ensures.made
 
 pub returns-clause-lab : goal.returns-clause-lab
-returns-clause-lab c = lab-made c.args.config.now c.args.image.now power.Off _ c.in_ok-parts.ensures.config c.in_ok-parts.ensures.made
+returns-clause-lab c = lab-made c.args.config.now c.args.image.now power.Off _ c.in_ok-parts.ensures.config c.in_ok-parts.ensures.made (λ on. absurd (cc on))

@@ -1,9 +1,15 @@
-use Rattle.std.proofs.Common.{◌≡◌, refl, sym, ap, subst, ◌∙◌, ◌<◌, length, Option, Some, None}
-use Rattle.bz_world.specs.Inside.Going.{with_change}
+use Rattle.std.proofs.Common.{◌≡◌, refl, sym, ap, subst, ◌∙◌, ◌<◌, ◌≤◌, ◌+◌, length, arith, Option, Some, None}
+use Rattle.std.specs.Prelude.{get_or}
+use Rattle.std.specs.Global.{Vec}
+use Rattle.std.specs.Vec.{with_item}
+use Rattle.bz_layout.specs.declared.thresholds.TheConstants.{SPLIT_SLOTS}
+use Rattle.bz_task.specs.declared.todo.Seen.TheVariants.{Start}
+use Rattle.bz_world.specs.Inside.Going.{with_change, needs_in}
 use Rattle.bz_world.specs.declared.parts.Parts.{Parts}
 use Rattle.bz_world.specs.declared.serving.Serving.{Serving}
 use Rattle.bz_world.proofs.Changing.{takes, knows, tells-nothing}
-use Rattle.bz_world.proofs.TakingOn.{taken-begins, begins-knowing, slot-is, went-told}
+use Rattle.bz_world.proofs.TakingOn.{taken-begins, begins-knowing, here-is, slot-is, told-went, went-anew}
+use Rattle.bz_world.proofs.Supplies.{told-few, told-fewer}
 use Rattle.bz_world.proofs.changes.begin_change.Goals as goal
 
 pub tell-todo-requires : goal.tell-todo-requires
@@ -25,4 +31,29 @@ pub go_on_changing-requires-clause-room : goal.go_on_changing-requires-clause-ro
 go_on_changing-requires-clause-room c = subst (λ (z : Parts). length z.journal.past < z.config.marks) (sym c.tell-todo.ensures.rest) c.requires.room
 
 pub returns : goal.returns
-returns c = went-told c.args.parts.now c.tell-todo.new.parts c.args.w c.go_on_changing.result c.go_on_changing.new.parts (ap (λ (z : Parts). z.journal) c.tell-todo.ensures.rest) (ap (λ (z : Parts). z.config) c.tell-todo.ensures.rest) (ap (λ (z : Parts). z.at_start) c.tell-todo.ensures.rest) (ap (λ (z : Parts). z.left_out) c.tell-todo.ensures.rest) (ap (λ (z : Parts). z.access) c.tell-todo.ensures.rest) c.go_on_changing.ensures
+returns c = went-anew c.args.parts.now workers c.args.parts.now.page c.args.w c.go_on_changing.result c.go_on_changing.new.parts
+    (told-went (record c.args.parts.now { workers = workers }) c.tell-todo.new.parts c.args.w c.go_on_changing.result c.go_on_changing.new.parts c.tell-todo.ensures.rest fewer (omega (arith, none, most)) c.go_on_changing.ensures)
+  where
+    workers : Vec (Option Serving)
+    workers = with_item c.args.parts.now.workers c.args.w c.set_change.new.slot
+
+    served : get_or workers.items c.args.w None ≡ Some (record c.requires.change.reads.on.serving { task = c.args.task; had = c.args.had })
+    served = here-is c.args.parts.now c.args.w c.args.task c.args.had None c.requires.change.reads.on.serving.path (takes c.args.parts.now c.args.w c.args.had c.args.task c.requires.change) c.set_change.new.slot
+        (c.set_change.ensures ∙ ap (λ (z : Option Serving). with_change z c.args.task c.args.had) (slot-is c.args.parts.now c.args.w c.requires.change.reads.on c.index_mut.result.now c.index_mut.ensures.value))
+        (tells-nothing c.args.parts.now c.args.w c.requires.change.reads.on c.args.had c.requires.change.reads.quiet)
+
+    -- a change takes no slot
+    none : length c.args.parts.now.slots.free ≤ length c.tell-todo.new.parts.slots.free
+    none = omega (
+      arith,
+      told-few (get_or workers.items c.args.w None) (get_or c.tell-todo.new.parts.workers.items c.args.w None) Start (length c.args.parts.now.journal.past) c.args.parts.now.slots c.tell-todo.result c.tell-todo.new.parts.slots c.tell-todo.ensures.told,
+      ap needs_in served,
+      c.requires.change.tasked.laws.few,
+      c.requires.change.wants,
+    )
+
+    fewer : length c.tell-todo.new.parts.slots.free ≤ length c.args.parts.now.slots.free
+    fewer = told-fewer (get_or workers.items c.args.w None) (get_or c.tell-todo.new.parts.workers.items c.args.w None) Start (length c.args.parts.now.journal.past) c.args.parts.now.slots c.tell-todo.result c.tell-todo.new.parts.slots c.tell-todo.ensures.told
+
+    most : length c.tell-todo.new.parts.slots.free ≤ length c.go_on_changing.new.parts.slots.free + SPLIT_SLOTS
+    most = c.go_on_changing.ensures.spends.few

@@ -8,6 +8,6 @@ use Rattle.bz_world.proofs.end.end.Goals as goal
 pub push-requires : goal.push-requires
 push-requires c = end-room c.end_laws.ensures c.args.parts.now c.args.w c.requires.right.on c.index-n.result.now c.args.reply c.args.at c.requires.room
 
-pub returns : goal.returns
-returns c = subst (λ z. WentOn c.args.parts.now c.args.w (Ended c.index-n.result.now) (record c.args.parts.now { journal = z; workers = with_item c.args.parts.now.workers c.args.w None })) (sym c.push.ensures)
+pub returns-clause-went : goal.returns-clause-went
+returns-clause-went c = subst (λ z. WentOn c.args.parts.now c.args.w (Ended c.index-n.result.now) (record c.args.parts.now { journal = z; workers = with_item c.args.parts.now.workers c.args.w None })) (sym c.push.ensures)
     (end-went c.end_laws.ensures c.args.parts.now c.args.w c.index-n.result.now c.args.reply c.args.at c.requires.right (number-read c.end_laws.ensures c.args.parts.now c.args.w c.requires.right.on c.index-n.result.now c.index-n.ensures) c.requires.plain c.requires.room)

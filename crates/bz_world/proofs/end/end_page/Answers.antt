@@ -16,8 +16,8 @@ push-requires c =
     let room = end-room c.end_laws.ensures c.args.parts.now c.args.w c.requires.right.on c.index-n.result.now (Page c.add_page-page.result c.args.next) c.args.at c.requires.room in
     subst (λ (z : Log). HasRoom z (End c.args.w c.index-n.result.now (Page c.add_page-page.result c.args.next) c.args.at)) (sym c.add_page-page.ensures.added) (record { place = room.place; table = room.table })
 
-pub returns : goal.returns
-returns c = subst (λ z. WentOn c.args.parts.now c.args.w (Ended c.index-n.result.now) (record c.args.parts.now { journal = z; workers = with_item c.args.parts.now.workers c.args.w None })) (sym journal-is)
+pub returns-clause-went : goal.returns-clause-went
+returns-clause-went c = subst (λ z. WentOn c.args.parts.now c.args.w (Ended c.index-n.result.now) (record c.args.parts.now { journal = z; workers = with_item c.args.parts.now.workers c.args.w None })) (sym journal-is)
     (end-page-went c.end_laws.ensures c.args.parts.now c.args.w c.index-n.result.now c.add_page-page.result c.args.next c.args.at c.requires.right (number-read c.end_laws.ensures c.args.parts.now c.args.w c.requires.right.on c.index-n.result.now c.index-n.ensures) c.add_page-page.ensures.number c.requires.room)
   where
     journal-is : c.push.new.self ≡ with_mark (with_page c.args.parts.now.journal c.args.parts.now.page) (End c.args.w c.index-n.result.now (Page c.add_page-page.result c.args.next) c.args.at)

@@ -1,7 +1,9 @@
 use Rattle.std.proofs.Common.{refl, sym, subst, ◌∙◌}
 use Rattle.bz_call.specs.declared.replies.Reply.TheVariants.{Full}
 use Rattle.bz_sound.specs.Memory.Replies.{IsWrite}
+use Rattle.bz_world.specs.Inside.Beginning.{supply_of}
 use Rattle.bz_world.specs.Inside.Going.{MustEnd}
+use Rattle.bz_world.specs.Lab.{HasRunOut}
 use Rattle.bz_world.proofs.TakingOn.{call-is}
 use Rattle.bz_world.proofs.going.end_full.Goals as goal
 
@@ -10,6 +12,7 @@ end-requires-clause-right c = subst (MustEnd c.args.parts.now c.args.w (Full c.a
   on = c.requires.short.on;
   right = c.spent_answers_full.ensures c.args.parts.now.config c.args.parts.now.journal c.args.w c.requires.short.on.between.opened c.args.spent c.requires.short.on.between.call_open.is_open
       (c.requires.short.on.between.call_open.effect ∙ c.requires.short.quiet) writes c.requires.short.cause;
+  full = λ spent e. subst (HasRunOut c.args.parts.now.config c.args.parts.now.journal c.args.w (supply_of c.args.parts.now)) (cc e) c.requires.short.out;
 })
   where
     writes : IsWrite c.requires.short.on.between.opened.call

@@ -1,10 +1,12 @@
-use Rattle.std.proofs.Common.{◌≡◌, length, sym, subst, None}
+use Rattle.std.proofs.Common.{◌≡◌, length, arith, sym, ap, subst, None}
 use Rattle.std.specs.Prelude.{get_or}
+use Rattle.bz_layout.specs.Slots.{FreeSlots}
 use Rattle.bz_task.specs.declared.todo.Seen.TheVariants.{NoSwap}
 use Rattle.bz_world.specs.Inside.Acted.{MustTell}
 use Rattle.bz_world.specs.Inside.Telling.{HasToldIn}
 use Rattle.bz_world.specs.declared.parts.Parts.{Parts}
-use Rattle.bz_world.proofs.TakingOn.{must-go-on, ended-by, lacks-told, lacks-swap}
+use Rattle.bz_world.proofs.Supplies.{told-few, told-fewer, few-asked}
+use Rattle.bz_world.proofs.TakingOn.{must-go-on, ended-by, lacks-told, lacks-swap, told-went}
 use Rattle.bz_world.proofs.going.go_on.Goals as goal
 
 pub look_up-requires : goal.look_up-requires
@@ -19,3 +21,31 @@ end_swapless-requires-clause-lacks c =
     lacks-swap c.args.parts.now c.args.w c.args.todo c.tell.result c.requires.asks (c.start.ensures.lacks c.if-start.false) c.tell.new.parts (length c.args.parts.now.journal.past) c.args.parts.now.slots c.tell.new.parts.slots
     (subst (λ (p : Parts). c.tell.new.parts ≡ record p { slots = c.tell.new.parts.slots; workers = c.tell.new.parts.workers }) same c.tell.ensures.rest) c.tell.ensures.asks
     (subst (λ (p : Parts). HasToldIn (get_or p.workers.items c.args.w None) NoSwap (length p.journal.past) p.slots c.tell.result (get_or c.tell.new.parts.workers.items c.args.w None) c.tell.new.parts.slots) same c.tell.ensures.told)
+
+pub returns-else-start-clause-went : goal.returns-else-start-clause-went
+returns-else-start-clause-went c = told-went c.args.parts.now c.tell.new.parts c.args.w c.end_swapless.result c.end_swapless.new.parts
+    (subst (λ (p : Parts). c.tell.new.parts ≡ record p { slots = c.tell.new.parts.slots; workers = c.tell.new.parts.workers }) same c.tell.ensures.rest)
+    (told-fewer (get_or c.args.parts.now.workers.items c.args.w None) (get_or c.tell.new.parts.workers.items c.args.w None) NoSwap (length c.args.parts.now.journal.past) c.args.parts.now.slots c.tell.result c.tell.new.parts.slots told)
+    (omega (
+      arith,
+      ap (λ (z : FreeSlots). length z.free) c.end_swapless.ensures.slots,
+      few-asked c.args.parts.now c.args.w c.args.todo c.requires.asks,
+      told-few (get_or c.args.parts.now.workers.items c.args.w None) (get_or c.tell.new.parts.workers.items c.args.w None) NoSwap (length c.args.parts.now.journal.past) c.args.parts.now.slots c.tell.result c.tell.new.parts.slots told,
+    ))
+    c.end_swapless.ensures.went
+  where
+    same : c.start.new.parts ≡ c.args.parts.now
+    same = c.start.ensures.same c.if-start.false
+
+    told : HasToldIn (get_or c.args.parts.now.workers.items c.args.w None) NoSwap (length c.args.parts.now.journal.past) c.args.parts.now.slots c.tell.result (get_or c.tell.new.parts.workers.items c.args.w None) c.tell.new.parts.slots
+    told = subst (λ (p : Parts). HasToldIn (get_or p.workers.items c.args.w None) NoSwap (length p.journal.past) p.slots c.tell.result (get_or c.tell.new.parts.workers.items c.args.w None) c.tell.new.parts.slots) same c.tell.ensures.told
+
+pub returns-else-start-clause-few : goal.returns-else-start-clause-few
+returns-else-start-clause-few c = omega (
+  arith,
+  ap (λ (z : FreeSlots). length z.free) c.end_swapless.ensures.slots,
+  told-few (get_or c.args.parts.now.workers.items c.args.w None) (get_or c.tell.new.parts.workers.items c.args.w None) NoSwap (length c.args.parts.now.journal.past) c.args.parts.now.slots c.tell.result c.tell.new.parts.slots told,
+)
+  where
+    told : HasToldIn (get_or c.args.parts.now.workers.items c.args.w None) NoSwap (length c.args.parts.now.journal.past) c.args.parts.now.slots c.tell.result (get_or c.tell.new.parts.workers.items c.args.w None) c.tell.new.parts.slots
+    told = subst (λ (p : Parts). HasToldIn (get_or p.workers.items c.args.w None) NoSwap (length p.journal.past) p.slots c.tell.result (get_or c.tell.new.parts.workers.items c.args.w None) c.tell.new.parts.slots) (c.start.ensures.same c.if-start.false) c.tell.ensures.told

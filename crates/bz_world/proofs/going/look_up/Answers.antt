@@ -1,9 +1,10 @@
 use Rattle.std.proofs.Common.{refl, sym, ap, ◌∙◌, Option, Some, None}
+use Rattle.std.specs.Vec.{with_item}
 use Rattle.bz_call.specs.Map.{key_of}
 use Rattle.bz_task.specs.declared.todo.Todo.TheVariants.{Read}
 use Rattle.bz_world.specs.Inside.Going.{known, with_task}
 use Rattle.bz_world.specs.declared.serving.Serving.{Serving}
-use Rattle.bz_world.proofs.TakingOn.{taken-asks, lookup-taken, none-wanted, slot-is, call-is, has-filled}
+use Rattle.bz_world.proofs.TakingOn.{taken-asks, lookup-taken, none-wanted, slot-is, call-is, has-filled, went-started, starts-always}
 use Rattle.bz_world.proofs.going.look_up.Goals as goal
 
 pub start-requires-clause-asks : goal.start-requires-clause-asks
@@ -14,3 +15,6 @@ start-requires-clause-asks c = taken-asks c.args.parts.now c.args.w c.seek-task.
     (none-wanted c.args.parts.now c.args.w c.requires c.seek-task.result c.seek-task.ensures.wants))
     c.set_task.new.slot (c.set_task.ensures ∙ ap (λ (z : Option Serving). with_task z c.seek-task.result None) (slot-is c.args.parts.now c.args.w c.requires c.index_mut.result.now c.index_mut.ensures.value))
     c.requires.between.call_open.told (Read 2) refl
+
+pub returns-clause-went : goal.returns-clause-went
+returns-clause-went c = went-started c.args.parts.now (with_item c.args.parts.now.workers c.args.w c.set_task.new.slot) c.args.w c.start.new.parts (starts-always _ 2 c.start.new.parts c.start.result c.start.ensures.started c.start.ensures.lacks) c.start.ensures.rest c.start.ensures.taken c.start.ensures.others

@@ -1,13 +1,14 @@
 use Rattle.std.proofs.Common.{◌≡◌, refl, sym, ap, subst, ◌∙◌, Option, Some, None}
+use Rattle.std.specs.Vec.{with_item}
 use Rattle.bz_call.specs.Map.{key_of}
 use Rattle.bz_task.specs.Outcomes.{IsPath}
 use Rattle.bz_world.specs.Inside.Going.{known, with_task}
 use Rattle.bz_world.specs.declared.serving.Serving.{Serving}
-use Rattle.bz_world.proofs.TakingOn.{taken-begins, lookup-taken, none-wanted, slot-is, call-is, known-scene}
+use Rattle.bz_world.proofs.TakingOn.{taken-begins, lookup-taken, none-wanted, slot-is, call-is, known-scene, went-anew}
 use Rattle.bz_world.proofs.lookups.read_leaf.Goals as goal
 
-pub tell-todo-requires : goal.tell-todo-requires
-tell-todo-requires c = taken-begins c.args.parts.now c.args.w c.read_leaf-task.result c.requires.path.on.serving.had None (Some c.args.path)
+pub begin_task-requires-clause-begins : goal.begin_task-requires-clause-begins
+begin_task-requires-clause-begins c = taken-begins c.args.parts.now c.args.w c.read_leaf-task.result c.requires.path.on.serving.had None (Some c.args.path)
     (lookup-taken c.args.parts.now c.args.w c.requires.path.on c.read_leaf-task.result (Some c.args.path) None c.key_of.result c.read_leaf-task.ensures.config c.laws.ensures c.read_leaf-task.ensures.silent c.read_leaf-task.ensures.ends
     key c.read_leaf-task.ensures.asks (c.read_leaf-task.ensures.facts (known c.args.parts.now c.args.w c.requires.path.on) (known-scene c.start_laws.ensures.scenes c.args.parts.now c.args.w c.requires.path.on)
     (subst (λ k. IsPath k c.args.path (known c.args.parts.now c.args.w c.requires.path.on).past) (sym key) c.requires.path.leads))
@@ -17,3 +18,6 @@ tell-todo-requires c = taken-begins c.args.parts.now c.args.w c.read_leaf-task.r
   where
     key : c.key_of.result ≡ key_of c.requires.path.on.serving.call
     key = c.key_of.ensures ∙ ap key_of (sym (call-is c.args.parts.now c.args.w c.requires.path.on c.index.result.now c.called-call.result c.index.ensures c.called-call.ensures))
+
+pub returns : goal.returns
+returns c = went-anew c.args.parts.now (with_item c.args.parts.now.workers c.args.w c.set_task.new.slot) c.args.parts.now.page c.args.w c.begin_task.result c.begin_task.new.parts c.begin_task.ensures

@@ -16,4 +16,4 @@ start_act-requires-clause-asked c =
     c.push.new.self c.push.ensures
 
 pub returns-clause-after : goal.returns-clause-after
-returns-clause-after c = seen-on c.args.parts.now c.start_act.new.parts c.push.new.self c.next-todo.new.self c.next-todo.new.slots c.push.ensures c.start_act.ensures.rest (c.start_act.ensures.first (c.next-todo.ensures.first c.new-parts.ensures.asks))
+returns-clause-after c = seen-on c.args.parts.now c.start_act.new.parts c.push.new.self c.next-todo.new.self c.next-todo.new.slots c.requires.power c.push.ensures c.start_act.ensures.rest (c.start_act.ensures.first (c.next-todo.ensures.first c.new-parts.ensures.asks))

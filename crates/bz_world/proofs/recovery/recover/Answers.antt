@@ -34,6 +34,7 @@ returns-then-matches-clause-kept c = kept-awake c.wake.new.parts c.wake.ensures.
 
 pub returns-then-matches-clause-recovers : goal.returns-then-matches-clause-recovers
 returns-then-matches-clause-recovers c = seen-woken c.args.parts.now c.make_raw_act-progress.new.parts c.wake.new.parts c.make_raw_act-progress.result.act c.make_raw_act-progress.result.done c.make_raw_act-progress.result.effect c.make_raw_act-progress.ensures
+    (ap (λ (p : Parts). p.power) c.wake.ensures.rest) (ap (λ (p : Parts). p.access.taken) c.wake.ensures.rest)
     (ap (λ (p : Parts). p.journal) c.wake.ensures.rest) (ap (λ (p : Parts). p.config) c.wake.ensures.rest) (ap (λ (p : Parts). p.at_start) c.wake.ensures.rest) (ap (λ (p : Parts). p.left_out) c.wake.ensures.rest) (λ v ne. ap (λ (p : Parts). worker_of p.access v) c.wake.ensures.rest)
 
 pub start_act-requires-clause-asked : goal.start_act-requires-clause-asked
@@ -45,5 +46,6 @@ start_act-requires-clause-asked c =
     c.next-todo.ensures.slots c.next-todo.ensures.walked
 
 pub returns-clause-recovers : goal.returns-clause-recovers
-returns-clause-recovers c = seen-stepped c.args.parts.now c.make_raw_act-progress.new.parts c.start_act.new.parts c.make_raw_act-progress.result.act c.make_raw_act-progress.result.done c.make_raw_act-progress.result.effect c.make_raw_act-progress.ensures
+returns-clause-recovers c = seen-stepped c.args.parts.now c.make_raw_act-progress.new.parts c.start_act.new.parts c.make_raw_act-progress.result.act c.make_raw_act-progress.result.done c.make_raw_act-progress.result.effect c.requires.power c.make_raw_act-progress.ensures
+    (ap (λ (p : Parts). p.power) c.start_act.ensures.rest)
     (ap (λ (p : Parts). p.journal) c.start_act.ensures.rest) (ap (λ (p : Parts). p.config) c.start_act.ensures.rest) (ap (λ (p : Parts). p.at_start) c.start_act.ensures.rest) (ap (λ (p : Parts). p.left_out) c.start_act.ensures.rest) c.start_act.ensures.others

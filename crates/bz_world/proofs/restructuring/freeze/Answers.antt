@@ -1,19 +1,16 @@
-use Rattle.std.proofs.Common.{refl, sym, ap, subst, ◌∙◌, ◌<◌, length, Option, None}
+use Rattle.std.proofs.Common.{refl, ap, ◌∙◌, Option, None}
+use Rattle.std.specs.Vec.{with_item}
 use Rattle.bz_world.specs.Inside.Going.{with_task}
-use Rattle.bz_world.specs.declared.parts.Parts.{Parts}
 use Rattle.bz_world.specs.declared.serving.Serving.{Serving}
 use Rattle.bz_world.proofs.MakingAnew.{freeze-taken}
-use Rattle.bz_world.proofs.TakingOn.{taken-begins, slot-is, went-told}
+use Rattle.bz_world.proofs.TakingOn.{taken-begins, slot-is, went-anew}
 use Rattle.bz_world.proofs.restructuring.freeze.Goals as goal
 
-pub tell-todo-requires : goal.tell-todo-requires
-tell-todo-requires c = taken-begins c.args.parts.now c.args.w c.freeze-task.result c.requires.answer.on.serving.had None None
+pub begin_task-requires-clause-begins : goal.begin_task-requires-clause-begins
+begin_task-requires-clause-begins c = taken-begins c.args.parts.now c.args.w c.freeze-task.result c.requires.answer.on.serving.had None None
     (freeze-taken c.start_laws.ensures.scenes c.args.parts.now c.args.w c.args.view.now c.requires.answer c.freeze-task.result c.freeze-task.ensures.config c.laws.ensures c.freeze-task.ensures.silent c.freeze-task.ensures.ends c.freeze-task.ensures.asks c.freeze-task.ensures.wants c.freeze-task.ensures.facts)
     c.set_task.new.slot (c.set_task.ensures ∙ ap (λ (z : Option Serving). with_task z c.freeze-task.result None) (slot-is c.args.parts.now c.args.w c.requires.answer.on c.index_mut.result.now c.index_mut.ensures.value))
     c.requires.answer.on.between.call_open.told refl
 
-pub go_on-requires-clause-room : goal.go_on-requires-clause-room
-go_on-requires-clause-room c = subst (λ (z : Parts). length z.journal.past < z.config.marks) (sym c.tell-todo.ensures.rest) c.requires.room
-
 pub returns : goal.returns
-returns c = went-told c.args.parts.now c.tell-todo.new.parts c.args.w c.go_on.result c.go_on.new.parts (ap (λ (z : Parts). z.journal) c.tell-todo.ensures.rest) (ap (λ (z : Parts). z.config) c.tell-todo.ensures.rest) (ap (λ (z : Parts). z.at_start) c.tell-todo.ensures.rest) (ap (λ (z : Parts). z.left_out) c.tell-todo.ensures.rest) (ap (λ (z : Parts). z.access) c.tell-todo.ensures.rest) c.go_on.ensures
+returns c = went-anew c.args.parts.now (with_item c.args.parts.now.workers c.args.w c.set_task.new.slot) c.args.parts.now.page c.args.w c.begin_task.result c.begin_task.new.parts c.begin_task.ensures

@@ -1,20 +1,20 @@
-use Rattle.std.proofs.Common.{◌≡◌, refl, sym, ap, subst, ◌∙◌, ◌<◌, length, Option, None}
+use Rattle.std.proofs.Common.{◌≡◌, refl, sym, ap, ◌∙◌, Option, None}
 use Rattle.bz_call.specs.Map.{key_of}
 use Rattle.bz_layout.specs.declared.thresholds.TheConstants.{SPLIT_SLOTS}
+use Rattle.std.specs.Vec.{with_item}
 use Rattle.bz_world.specs.Inside.Going.{with_task}
-use Rattle.bz_world.specs.declared.parts.Parts.{Parts}
 use Rattle.bz_world.specs.declared.serving.Serving.{Serving}
 use Rattle.bz_world.proofs.Changing.{needs-split}
 use Rattle.bz_world.proofs.GoingUp.{split-taken}
 use Rattle.bz_world.proofs.MakingAnew.{anew-pages}
-use Rattle.bz_world.proofs.TakingOn.{taken-begins, slot-is, call-is, went-told}
+use Rattle.bz_world.proofs.TakingOn.{taken-begins, slot-is, call-is, went-anew}
 use Rattle.bz_world.proofs.restructuring.split_below.Goals as goal
 
 pub split_below-task-requires-clause-alone : goal.split_below-task-requires-clause-alone
 split_below-task-requires-clause-alone c = record { nodes = _; low = _; high = _; whole = c.requires.split.anew.answer.viewed.whole }
 
-pub tell-todo-requires : goal.tell-todo-requires
-tell-todo-requires c = taken-begins (record c.args.parts.now { page = c.split_below-task.new.page }) c.args.w c.split_below-task.result c.requires.split.anew.answer.on.serving.had None None
+pub begin_task-requires-clause-begins : goal.begin_task-requires-clause-begins
+begin_task-requires-clause-begins c = taken-begins (record c.args.parts.now { page = c.split_below-task.new.page }) c.args.w c.split_below-task.result c.requires.split.anew.answer.on.serving.had None None
     (split-taken c.start_laws.ensures.scenes (record c.args.parts.now { page = c.split_below-task.new.page }) c.args.w c.args.path c.args.view.now (anew-pages c.args.parts.now c.args.w c.args.path c.args.view.now c.split_below-task.new.page c.requires.split.anew)
     c.key_of.result key c.split_below-task.result c.split_below-task.ensures.config c.laws.ensures c.split_below-task.ensures.silent c.split_below-task.ensures.ends c.split_below-task.ensures.asks SPLIT_SLOTS c.split_below-task.ensures.wants
     (needs-split c.start_laws.ensures.scenes c.answer_laws.ensures c.args.parts.now c.args.w c.args.view.now c.requires.split.anew.answer (key_of c.requires.split.anew.answer.on.serving.call) refl c.requires.split.frozen c.requires.split.many)
@@ -25,8 +25,5 @@ tell-todo-requires c = taken-begins (record c.args.parts.now { page = c.split_be
     key : c.key_of.result ≡ key_of c.requires.split.anew.answer.on.serving.call
     key = c.key_of.ensures ∙ ap key_of (sym (call-is c.args.parts.now c.args.w c.requires.split.anew.answer.on c.index.result.now c.called-call.result c.index.ensures c.called-call.ensures))
 
-pub go_on-requires-clause-room : goal.go_on-requires-clause-room
-go_on-requires-clause-room c = subst (λ (z : Parts). length z.journal.past < z.config.marks) (sym c.tell-todo.ensures.rest) c.requires.room
-
 pub returns : goal.returns
-returns c = went-told c.args.parts.now c.tell-todo.new.parts c.args.w c.go_on.result c.go_on.new.parts (ap (λ (z : Parts). z.journal) c.tell-todo.ensures.rest) (ap (λ (z : Parts). z.config) c.tell-todo.ensures.rest) (ap (λ (z : Parts). z.at_start) c.tell-todo.ensures.rest) (ap (λ (z : Parts). z.left_out) c.tell-todo.ensures.rest) (ap (λ (z : Parts). z.access) c.tell-todo.ensures.rest) c.go_on.ensures
+returns c = went-anew c.args.parts.now (with_item c.args.parts.now.workers c.args.w c.set_task.new.slot) c.split_below-task.new.page c.args.w c.begin_task.result c.begin_task.new.parts c.begin_task.ensures

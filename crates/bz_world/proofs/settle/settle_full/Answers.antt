@@ -3,20 +3,20 @@ use Rattle.bz_call.specs.declared.replies.Spent.TheVariants.{Nodes, Height}
 use Rattle.bz_task.specs.declared.todo.Outcome.TheVariants.{Full}
 use Rattle.bz_world.specs.Inside.Going.{HasEnded, IsShort, IsOutOfSlots}
 use Rattle.bz_world.proofs.HighTrees.{too-high}
-use Rattle.bz_world.proofs.SpendingSlots.{slots-are-spent}
+use Rattle.bz_world.proofs.SpendingSlots.{slots-are-spent, slots-run-out}
 use Rattle.bz_world.proofs.settle.settle_full.Goals as goal
 
 pub end_full-requires-clause-short : goal.end_full-requires-clause-short
 end_full-requires-clause-short c =
     let e = c.requires.ends in
     let lacks : IsOutOfSlots c.args.parts.now c.args.w = record { on = e.on; quiet = e.quiet; fewer = e.full (ap Full c.in-Nodes.is) } in
-    let short : IsShort c.args.parts.now c.args.w Nodes = record { on = e.on; quiet = e.quiet; cause = slots-are-spent c.held_slots_are_spent.ensures c.args.parts.now c.args.w lacks } in
+    let short : IsShort c.args.parts.now c.args.w Nodes = record { on = e.on; quiet = e.quiet; cause = slots-are-spent c.held_slots_are_spent.ensures c.args.parts.now c.args.w lacks; out = slots-run-out c.args.parts.now c.args.w lacks } in
     subst (IsShort c.args.parts.now c.args.w) (sym c.in-Nodes.is) short
 
 pub end_full-requires-in-Height-clause-short : goal.end_full-requires-in-Height-clause-short
 end_full-requires-in-Height-clause-short c =
     let e : HasEnded c.args.parts.now c.args.w (Full Height) = subst (λ z. HasEnded c.args.parts.now c.args.w (Full z)) c.in-Height.is c.requires.ends in
-    let short : IsShort c.args.parts.now c.args.w Height = record { on = e.on; quiet = e.quiet; cause = too-high c.start_laws.ensures.scenes c.args.parts.now c.args.w e } in
+    let short : IsShort c.args.parts.now c.args.w Height = record { on = e.on; quiet = e.quiet; cause = too-high c.start_laws.ensures.scenes c.args.parts.now c.args.w e; out = tt } in
     subst (IsShort c.args.parts.now c.args.w) (sym c.in-Height.is) short
 
 pub look_up-requires : goal.look_up-requires

@@ -1,11 +1,18 @@
-use Rattle.std.proofs.Common.{ap}
-use Rattle.bz_world.specs.declared.parts.Parts.{Parts}
+use Rattle.std.proofs.Common.{length, arith, None}
+use Rattle.std.specs.Prelude.{get_or}
 use Rattle.bz_world.proofs.Stepping.{stepped-on, stepped-through}
+use Rattle.bz_world.proofs.Supplies.{told-few, told-fewer, few-told}
 use Rattle.bz_world.proofs.step.step_open.Goals as goal
 
 pub returns-in-Some-clause-steps : goal.returns-in-Some-clause-steps
-returns-in-Some-clause-steps c = stepped-through c.args.parts.now c.act.new.parts c.tell-todo.new.parts c.follow.new.parts c.args.w c.follow.result c.act.ensures.made
-    (ap (λ (z : Parts). z.journal) c.tell-todo.ensures.rest) (ap (λ (z : Parts). z.config) c.tell-todo.ensures.rest) (ap (λ (z : Parts). z.at_start) c.tell-todo.ensures.rest) (ap (λ (z : Parts). z.left_out) c.tell-todo.ensures.rest) (ap (λ (z : Parts). z.access) c.tell-todo.ensures.rest) c.follow.ensures
+returns-in-Some-clause-steps c = stepped-through c.args.parts.now c.act.new.parts c.tell-todo.new.parts c.follow.new.parts c.args.w c.follow.result c.requires.kept c.act.ensures.made c.act.ensures.taken c.tell-todo.ensures.rest
+    (told-fewer (get_or c.act.new.parts.workers.items c.args.w None) (get_or c.tell-todo.new.parts.workers.items c.args.w None) c.in-Some.seen (length c.act.new.parts.journal.past) c.act.new.parts.slots c.tell-todo.result c.tell-todo.new.parts.slots c.tell-todo.ensures.told)
+    (omega (
+      arith,
+      few-told c.act.new.parts c.args.w c.in-Some.seen (c.act.ensures.told c.in-Some.seen c.in-Some.is),
+      told-few (get_or c.act.new.parts.workers.items c.args.w None) (get_or c.tell-todo.new.parts.workers.items c.args.w None) c.in-Some.seen (length c.act.new.parts.journal.past) c.act.new.parts.slots c.tell-todo.result c.tell-todo.new.parts.slots c.tell-todo.ensures.told,
+    ))
+    c.follow.ensures
 
 pub returns-in-None-clause-steps : goal.returns-in-None-clause-steps
-returns-in-None-clause-steps c = stepped-on c.args.parts.now c.act.new.parts c.args.w c.act.ensures.made
+returns-in-None-clause-steps c = stepped-on c.args.parts.now c.act.new.parts c.args.w c.requires.kept (c.act.ensures.on c.in-None.is) c.act.ensures.made c.act.ensures.taken

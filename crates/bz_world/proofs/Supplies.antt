@@ -1,0 +1,56 @@
+-- What is taken and left, from one step to the next.
+use Rattle.std.proofs.Common.{◌≡◌, ℕ, ◌+◌, ◌≤◌, List, ◌∷◌, length, arith, ap, inl, inr, Option, Some, None}
+use Rattle.std.specs.Prelude.{get_or}
+use Rattle.std.proofs.lemmas.List.{length-drop}
+use Rattle.bz_layout.specs.Slots.{FreeSlots}
+use Rattle.bz_layout.specs.declared.thresholds.TheConstants.{SPLIT_SLOTS}
+use Rattle.bz_running.specs.Duties.{needs_of}
+use Rattle.bz_sound.specs.declared.power.Power.TheVariants as power
+use Rattle.bz_task.specs.OwnActs.{AreTakenFrom}
+use Rattle.bz_task.specs.declared.todo.Seen.{Seen}
+use Rattle.bz_task.specs.declared.todo.Todo.{Todo}
+use Rattle.bz_world.specs.Inside.Acted.{MustTell}
+use Rattle.bz_world.specs.Inside.Beginning.{lab_of, supply_of}
+use Rattle.bz_world.specs.Inside.Going.{needs_in}
+use Rattle.bz_world.specs.Inside.Telling.{HasToldIn, MustStart}
+use Rattle.bz_world.specs.Lab.{supply_by}
+use Rattle.bz_world.specs.declared.parts.Parts.{Parts}
+use Rattle.bz_world.specs.declared.serving.Serving.{Serving}
+use Rattle.bz_world.proofs.Takings.{no-more-free}
+
+-- it is told while the power is on
+pub shown-on : (p : Parts) → p.power ≡ power.On → (lab_of p).supply ≡ supply_of p
+shown-on p on = ap (λ z. supply_by z (supply_of p)) on
+
+-- and nothing of it before
+pub shown-off : (p : Parts) → p.power ≡ power.Off → (lab_of p).supply ≡ record { taken = 0; left = 0 }
+shown-off p off = ap (λ z. supply_by z (supply_of p)) off
+
+pub shown-recovering : (p : Parts) → p.power ≡ power.Recovering → (lab_of p).supply ≡ record { taken = 0; left = 0 }
+shown-recovering p recovering = ap (λ z. supply_by z (supply_of p)) recovering
+
+-- no list is longer than itself
+pub not-longer : {A : Type 0} (x : A) (xs : List A) → xs ≡ x ∷ xs → ⊥
+not-longer x xs e = omega (arith, ap length e)
+
+-- a task takes no more slots than it was still to take
+taken-few : (needed left : ℕ) (old new : FreeSlots) → AreTakenFrom needed left old new → length old.free + left ≤ length new.free + needed
+taken-few needed left old new (inl t) = omega (arith, t.enough, t.none_left, length-drop needed old.free, ap (λ (z : FreeSlots). length z.free) t.slots)
+taken-few needed left old new (inr t) = omega (arith, t.fewer, ap (λ (z : FreeSlots). length z.free) t.slots)
+
+pub told-few : (old new : Option Serving) (seen : Seen) (moment : ℕ) (free : FreeSlots) (todo : Todo) (left : FreeSlots) → HasToldIn old seen moment free todo new left → length free.free + needs_in new ≤ length left.free + needs_in old
+told-few None new seen moment free todo left h = absurd h
+told-few (Some x) None seen moment free todo left h = absurd h
+told-few (Some x) (Some y) seen moment free todo left h = taken-few (needs_of x.task) (needs_of y.task) free left h.heard.slots
+
+pub told-fewer : (old new : Option Serving) (seen : Seen) (moment : ℕ) (free : FreeSlots) (todo : Todo) (left : FreeSlots) → HasToldIn old seen moment free todo new left → length left.free ≤ length free.free
+told-fewer None new seen moment free todo left h = absurd h
+told-fewer (Some x) None seen moment free todo left h = absurd h
+told-fewer (Some x) (Some y) seen moment free todo left h = no-more-free (needs_of x.task) (needs_of y.task) free left h.heard.slots
+
+-- nor than a split does
+pub few-told : (p : Parts) (w : ℕ) (seen : Seen) → MustTell p w seen → needs_in (get_or p.workers.items w None) ≤ SPLIT_SLOTS
+few-told p w seen m = omega (arith, ap needs_in m.is, m.told.tasked.laws.few, m.told.tasked.laws.most)
+
+pub few-asked : (p : Parts) (w : ℕ) (todo : Todo) → MustStart p w todo → needs_in (get_or p.workers.items w None) ≤ SPLIT_SLOTS
+few-asked p w todo m = omega (arith, ap needs_in m.is, m.asking.tasked.laws.few, m.asking.tasked.laws.most)
