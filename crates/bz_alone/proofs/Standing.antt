@@ -53,3 +53,6 @@ module _ (values : ReadValuesStand) (s : Scene) (good : IsScene s) (m : ℕ) (q 
 
     pub link-stands : (here s).value link.link ≡ link.slot + 1
     link-stands = now-as g.guarded g.read link.link from (omega (arith, g.order, g.now)) link-read (omega (arith, from, g.order)) g.now ∙ g.slot
+
+    pub guard-stood : (i : ℕ) → m ≤ i → i ≤ s.past.now → (s.past.at i).value link.guard ≡ link.status
+    guard-stood i later until = sym (now-as g.guarded i link.guard from (omega (arith, g.order, g.now)) guard-read later until) ∙ guard-stands
