@@ -1,6 +1,6 @@
 -- There are fewer rivals than workers.
 use Rattle.std.specs.Prelude.{◌≡◌, ◌≢◌, ◌==◌, ◌&&◌, ℕ, ◌+◌, ◌<◌, ◌≤◌, Bool, true, false, not, length}
-use Rattle.std.proofs.Common.{arith, refl, sym, ◌∙◌, inl, inr}
+use Rattle.std.proofs.Common.{arith, refl, inl, inr}
 use Rattle.std.proofs.lemmas.Bool.{cases_eq, eq-eqb, ne_eqb}
 use Rattle.bz_machine.specs.Allowed.{sum_below, counted}
 use Rattle.bz_swap.specs.SwapMemory.{SwapMemory, Doing, Idle, Reading, Swapping, Loading, Storing, Flushing, doing_of}
@@ -19,8 +19,11 @@ not-own true p is = omega arith
 not-own false p is = absurd cc
 
 few : (m : SwapMemory) (w : ℕ) → w < length m.workers → rivals m w + 1 ≤ length m.workers
-few m w within = omega (arith, sum-ones (length m.workers),
-    sum-drop (λ v. counted (is_rival m w v) 1) (λ v. 1) (length m.workers) w (λ v. counted-one (is_rival m w v)) within (not-own (w == w) (is_pending m (doing_of m w)) (eq-eqb w w refl)))
+few m w within = omega (
+  arith,
+  sum-ones (length m.workers),
+  sum-drop (λ v. counted (is_rival m w v) 1) (λ v. 1) (length m.workers) w (λ v. counted-one (is_rival m w v)) within (not-own (w == w) (is_pending m (doing_of m w)) (eq-eqb w w refl)),
+)
 
 -- and worker 0 is none either
 nothing-pending : (m : SwapMemory) (d : Doing) → ((s : ℕ) → d ≢ Swapping s) → is_pending m d ≡ false
@@ -50,10 +53,10 @@ fewer : (m : SwapMemory) (w : ℕ) → 0 < w → w < length m.workers → SwapsN
 fewer m w some within none =
     let other : w ≢ 0 = λ is. absurd (omega (arith, some, is)) in
     let first : rivals m w + 1 ≤ sum_below (λ v. counted (not (v == 0)) 1) (length m.workers) =
-        sum-drop (λ v. counted (is_rival m w v) 1) (λ v. counted (not (v == 0)) 1) (length m.workers) w (λ v. if-zero m w v none) within
-        (if-some (w == 0) (ne_eqb w 0 other) (counted (is_rival m w w) 1 + 1) (not-own (w == w) (is_pending m (doing_of m w)) (eq-eqb w w refl))) in
+    sum-drop (λ v. counted (is_rival m w v) 1) (λ v. counted (not (v == 0)) 1) (length m.workers) w (λ v. if-zero m w v none) within
+    (if-some (w == 0) (ne_eqb w 0 other) (counted (is_rival m w w) 1 + 1) (not-own (w == w) (is_pending m (doing_of m w)) (eq-eqb w w refl))) in
     let second : sum_below (λ v. counted (not (v == 0)) 1) (length m.workers) + 1 ≤ sum_below (λ v. 1) (length m.workers) =
-        sum-drop (λ v. counted (not (v == 0)) 1) (λ v. 1) (length m.workers) 0 (λ v. counted-one (not (v == 0))) (omega (arith, some, within)) (omega arith) in
+    sum-drop (λ v. counted (not (v == 0)) 1) (λ v. 1) (length m.workers) 0 (λ v. counted-one (not (v == 0))) (omega (arith, some, within)) (omega arith) in
     omega (arith, first, second, sum-ones (length m.workers))
 
 pub rivals-are-few : RivalsAreFew

@@ -1,18 +1,17 @@
 -- What steps of a worker, its starts and evictions leave of what the others do.
-use Rattle.std.specs.Prelude.{◌≡◌, ◌≢◌, ℕ, ◌<◌, List, length, slice_set, Option, None, Some, true, false}
-use Rattle.std.proofs.Common.{refl, ap, sym, ◌∙◌, inl, inr}
+use Rattle.std.specs.Prelude.{◌≡◌, ◌≢◌, ℕ, length, Option, None, Some, true}
+use Rattle.std.proofs.Common.{refl, ap, ◌∙◌, inl, inr}
 use Rattle.std.proofs.lemmas.Bool.{cases_eq}
 use Rattle.std.proofs.lemmas.List.{get_or-set_other, length-set}
-use Rattle.bz_word.specs.declared.entry.Entry.{Entry}
 use Rattle.bz_acts.specs.declared.acted.Act.{Act}
 use Rattle.bz_machine.specs.declared.done.Done.{Done}
 use Rattle.bz_swap.specs.declared.phase.Phase.{Phase}
 use Rattle.bz_swap.specs.declared.phase.Phase.TheVariants.{Opened, Running, Recovering}
 use Rattle.bz_swap.specs.Effects.{EffectIs}
 use Rattle.bz_swap.specs.Evictions.{IsEviction, EvictsIn}
-use Rattle.bz_swap.specs.Starts.{started, swapping, begins_by_flush}
+use Rattle.bz_swap.specs.Starts.{started, begins_by_flush}
 use Rattle.bz_swap.specs.Steps.{IsOneAct}
-use Rattle.bz_swap.specs.SwapMemory.{SwapMemory, Doing, Swapping, Working, idle, has_effect, doing_of}
+use Rattle.bz_swap.specs.SwapMemory.{SwapMemory, Doing, Working, idle, has_effect, doing_of}
 
 -- as many workers as before, of whom all but worker w do what they did
 pub record IsFrame (old new : SwapMemory) (w : ℕ) : Type 0 where

@@ -1,6 +1,7 @@
 pub mod Examples
-pub mod Few
+pub mod Expected
 pub mod Falls
+pub mod Few
 pub mod Frames
 pub mod Notes
 pub mod Runs

@@ -1,5 +1,5 @@
 -- Worker 0 does no swap, and only swaps that were begun are noted as missed.
-use Rattle.std.specs.Prelude.{◌≡◌, ◌≢◌, ℕ, zero, suc, ◌+◌, ◌<◌, ◌≤◌, true, false, List, [], ◌∷◌, ◌++◌, length, get_or, All, Option, replicate}
+use Rattle.std.specs.Prelude.{◌≡◌, ℕ, ◌+◌, ◌<◌, ◌≤◌, false, List, [], length, get_or, Option}
 use Rattle.std.proofs.Common.{arith, refl, ap, sym, ◌∙◌, inl, inr}
 use Rattle.std.proofs.lemmas.Bool.{cases_Bool}
 use Rattle.std.proofs.lemmas.List.{get_or-set_other, get_or_past, length_push}
@@ -8,10 +8,10 @@ use Rattle.bz_word.specs.declared.entry.Entry.{Entry}
 use Rattle.bz_acts.specs.declared.acted.Act.{Act}
 use Rattle.bz_machine.specs.declared.done.Done.{Done}
 use Rattle.bz_swap.specs.Evictions.{IsEviction}
-use Rattle.bz_swap.specs.Power.{MayRenew, after_cut, opened, renewed}
-use Rattle.bz_swap.specs.Starts.{started, swapping, begins_by_flush}
-use Rattle.bz_swap.specs.Steps.{IsStep, IsRawStep, IsOneAct}
-use Rattle.bz_swap.specs.SwapMemory.{SwapMemory, Doing, Idle, Swapping, Working, idle, value_at, is_missed, entries_of, doing_of}
+use Rattle.bz_swap.specs.Power.{after_cut, opened, renewed}
+use Rattle.bz_swap.specs.Starts.{swapping, begins_by_flush}
+use Rattle.bz_swap.specs.Steps.{IsStep, IsRawStep}
+use Rattle.bz_swap.specs.SwapMemory.{SwapMemory, Idle, Swapping, Working, idle, value_at, is_missed, entries_of, doing_of}
 use Rattle.bz_swap.proofs.Fresh.{all-same}
 use Rattle.bz_swap.proofs.StillDone.{step-before, start-before, none-doing}
 use Rattle.bz_rivals.specs.Notes.{SwapsNothing, ZeroSwapsNothing, AreNoted, NotesAreOfBegun}

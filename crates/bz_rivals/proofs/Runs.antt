@@ -1,18 +1,17 @@
 -- The foreign effects of a run of one worker alone.
-use Rattle.std.specs.Prelude.{◌≡◌, ◌≢◌, ℕ, zero, suc, ◌+◌, ◌<◌, ◌≤◌, List, [], ◌∷◌, Option}
+use Rattle.std.specs.Prelude.{◌≢◌, ℕ, zero, suc, ◌+◌, ◌<◌, ◌≤◌, [], ◌∷◌, Option}
 use Rattle.std.proofs.Common.{arith, refl, ap, sym, ◌∙◌}
-use Rattle.bz_word.specs.declared.entry.Entry.{Entry}
 use Rattle.bz_acts.specs.declared.acted.Act.{Act}
 use Rattle.bz_machine.specs.declared.done.Done.{Done}
 use Rattle.bz_swap.specs.declared.phase.Phase.{Phase}
 use Rattle.bz_swap.specs.declared.phase.Phase.TheVariants.{Opened, Running, Recovering}
 use Rattle.bz_swap.specs.Evictions.{IsEviction}
-use Rattle.bz_swap.specs.LoneRuns.{Turn, Start, Begin, Step, Evict, HasTurned, IsLoneRun}
-use Rattle.bz_swap.specs.Starts.{phase_of, started, swapping}
+use Rattle.bz_swap.specs.LoneRuns.{Turn, Start, Begin, Step, Evict, HasTurned}
+use Rattle.bz_swap.specs.Starts.{phase_of}
 use Rattle.bz_swap.specs.Steps.{IsStep, StepsIn}
-use Rattle.bz_swap.specs.SwapMemory.{SwapMemory, Swapping}
+use Rattle.bz_swap.specs.SwapMemory.{SwapMemory}
 use Rattle.bz_rivals.specs.Laws.{LoneEffectsAreFew}
-use Rattle.bz_rivals.specs.Rivals.{rivals, foreign}
+use Rattle.bz_rivals.specs.Rivals.{rivals}
 use Rattle.bz_rivals.specs.Runs.{foreign_of, foreign_in}
 use Rattle.bz_rivals.proofs.Falls.{rivals-fall}
 

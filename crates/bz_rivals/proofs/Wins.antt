@@ -1,5 +1,5 @@
 -- A swap whose expected values stand is noted as missed by nobody, and is answered with true.
-use Rattle.std.specs.Prelude.{◌≡◌, ◌≢◌, ◌==◌, ◌||◌, ℕ, zero, suc, ◌+◌, ◌-◌, ◌<◌, ◌≤◌, Bool, true, false, not, List, [], ◌∷◌, ◌++◌, length, get_or, All, Option, None, Some}
+use Rattle.std.specs.Prelude.{◌≡◌, ◌≢◌, ◌==◌, ℕ, zero, suc, ◌+◌, ◌<◌, Bool, true, false, not, List, [], ◌∷◌, ◌++◌, length, get_or, Option, None, Some}
 use Rattle.std.proofs.Common.{arith, refl, ap, sym, subst, ◌∙◌, inl, inr}
 use Rattle.std.proofs.lemmas.Bool.{cases_Bool, or_left, or_right, eqb-true, eq-eqb}
 use Rattle.std.proofs.lemmas.List.{get_or-set_same, get_or_push}
@@ -20,6 +20,7 @@ use Rattle.bz_rivals.specs.Notes.{AreNoted}
 use Rattle.bz_rivals.specs.Rivals.{is_own, foreign}
 use Rattle.bz_rivals.specs.Runs.{foreign_of, foreign_in, GoesOn, AllGoOn}
 use Rattle.bz_rivals.specs.Wins.{Stand, GoesWell, OwnSwapsWin, WholeSwapsWin}
+use Rattle.bz_rivals.proofs.Expected.{expected-stand}
 use Rattle.bz_rivals.proofs.Frames.{eviction-effect}
 use Rattle.bz_rivals.proofs.Runs.{working-step, starts-working, step-works, eviction-works}
 
@@ -154,7 +155,7 @@ begins-own : (m : SwapMemory) (w : ℕ) (entries : List Entry) → w < length m.
 begins-own m w entries within = ap (λ (u : Working). u.doing) (get_or-set_same m.workers w (record { doing = Swapping m.taken; flush_next = false }) idle within)
 
 pub whole-swaps-win : WholeSwapsWin
-whole-swaps-win w m mid new entries turns made told won some within noted stand run on none step =
+whole-swaps-win w m mid new entries turns made told won held noted may expected run on none step =
     let going : IsGoing mid w m.taken = going-run w m.taken (swapping m w entries) mid turns
-        (record { works = starts-working w some; mine = begins-own m w entries within; well = begins-well m w entries noted stand }) run on none in
+    (record { works = starts-working w may.work.some; mine = begins-own m w entries may.work.within; well = begins-well m w entries noted (expected-stand m w entries held may expected) }) run on none in
     answered mid new w made told m.taken won step going.mine going.well

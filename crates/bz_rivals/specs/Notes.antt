@@ -4,7 +4,6 @@ use Rattle.bz_word.specs.declared.entry.Entry.{Entry}
 use Rattle.bz_acts.specs.declared.acted.Act.{Act}
 use Rattle.bz_machine.specs.declared.done.Done.{Done}
 use Rattle.bz_swap.specs.declared.phase.Phase.{Phase}
-use Rattle.bz_swap.specs.declared.phase.Phase.TheVariants.{Opened, Recovering}
 use Rattle.bz_swap.specs.Evictions.{IsEviction}
 use Rattle.bz_swap.specs.Power.{MayRenew, after_cut, opened, renewed}
 use Rattle.bz_swap.specs.Starts.{started, swapping}

@@ -1,7 +1,7 @@
 -- The foreign effects of a run of one worker alone.
-use Rattle.std.specs.Prelude.{◌≡◌, ◌≢◌, ℕ, ◌+◌, List, [], ◌∷◌}
+use Rattle.std.specs.Prelude.{◌≡◌, ℕ, ◌+◌, List, [], ◌∷◌}
 use Rattle.bz_machine.specs.declared.done.Done.TheVariants.{Busy}
-use Rattle.bz_swap.specs.LoneRuns.{Turn, Start, Begin, Step, Evict, HasTurned, IsLoneRun}
+use Rattle.bz_swap.specs.LoneRuns.{Turn, Start, Begin, Step, Evict, IsLoneRun}
 use Rattle.bz_swap.specs.SwapMemory.{SwapMemory}
 use Rattle.bz_rivals.specs.Rivals.{foreign}
 

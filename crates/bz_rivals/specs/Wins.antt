@@ -1,13 +1,15 @@
 -- A swap whose expected values stand is answered with true.
-use Rattle.std.specs.Prelude.{◌≡◌, ◌≢◌, ℕ, ◌<◌, Bool, true, false, List, All, length, Option}
+use Rattle.std.specs.Prelude.{◌≡◌, ◌≢◌, ℕ, Bool, true, false, List, All, Option}
 use Rattle.bz_word.specs.declared.entry.Entry.{Entry}
 use Rattle.bz_acts.specs.declared.acted.Act.{Act}
 use Rattle.bz_machine.specs.declared.done.Done.{Done}
 use Rattle.bz_machine.specs.declared.done.Done.TheVariants.{Swapped}
 use Rattle.bz_swap.specs.declared.phase.Phase.TheVariants.{Recovering}
+use Rattle.bz_swap.specs.Atomic.{value_of}
 use Rattle.bz_swap.specs.Evictions.{IsEviction}
+use Rattle.bz_swap.specs.Held.{IsHeld}
 use Rattle.bz_swap.specs.LoneRuns.{Turn, IsLoneRun}
-use Rattle.bz_swap.specs.Starts.{swapping}
+use Rattle.bz_swap.specs.Starts.{MaySwap, swapping}
 use Rattle.bz_swap.specs.Steps.{IsStep}
 use Rattle.bz_swap.specs.SwapMemory.{SwapMemory, Swapping, value_at, has_effect, is_missed, entries_of, doing_of}
 use Rattle.bz_rivals.specs.Notes.{AreNoted}
@@ -38,10 +40,18 @@ pub record OwnSwapsWin : Type 0 where
   pub run : (w s : ℕ) (old new : SwapMemory) (turns : List Turn) → old.phase ≢ Recovering → doing_of old w ≡ Swapping s → GoesWell old s
       → (run : IsLoneRun w old turns new) → AllGoOn turns → foreign_in w old new turns run ≡ 0 → (doing_of new w ≡ Swapping s) × GoesWell new s
 
--- a swap of worker w that begins where its expected values stand goes well; its worker steps alone from then on, with evictions
--- between the steps, and none of these turns has a foreign effect; then its answer is true
+-- entries whose targets have the expected values, as readers see them
+abbrev pub AreExpected : SwapMemory → List Entry → Type 0
+AreExpected m entries = All (λ (e : Entry). value_of m e.target ≡ e.expected) entries
+
+-- where a swap may begin these are what the durable words stand for
+abbrev pub ExpectedStand : Type 0
+ExpectedStand = (m : SwapMemory) (w : ℕ) (entries : List Entry) → IsHeld m → MaySwap m w entries → AreExpected m entries → Stand m entries
+
+-- a swap of worker w begins where its targets have the expected values; its worker steps alone from then on, with evictions between
+-- the steps, and none of these turns has a foreign effect: then its answer is true
 abbrev pub WholeSwapsWin : Type 0
 WholeSwapsWin = (w : ℕ) (m mid new : SwapMemory) (entries : List Entry) (turns : List Turn) (made : Act) (told : Option ℕ) (won : Bool)
-    → 0 < w → w < length m.workers → AreNoted m → Stand m entries
+    → IsHeld m → AreNoted m → MaySwap m w entries → AreExpected m entries
     → (run : IsLoneRun w (swapping m w entries) turns mid) → AllGoOn turns → foreign_in w (swapping m w entries) mid turns run ≡ 0
     → IsStep mid w made (Swapped won) told new → (won ≡ true) × (has_effect new m.taken ≡ true)

@@ -3,7 +3,7 @@
 ghost use Rattle.bz_rivals.specs.Examples.{RivalsAreTold};
 ghost use Rattle.bz_rivals.specs.Laws.{RivalsAreFew, RivalsFall, LoneEffectsAreFew};
 ghost use Rattle.bz_rivals.specs.Notes.{NotesAreOfBegun, ZeroSwapsNothing};
-ghost use Rattle.bz_rivals.specs.Wins.{OwnSwapsWin, WholeSwapsWin};
+ghost use Rattle.bz_rivals.specs.Wins.{OwnSwapsWin, ExpectedStand, WholeSwapsWin};
 
 /// The rivals of workers in a small memory.
 pub fn rivals_are_told()
@@ -40,7 +40,13 @@ pub fn own_swaps_win()
     ensures { OwnSwapsWin }
 {}
 
-/// So is a swap whose expected values stand when it begins, where its worker steps alone to its end and no foreign effect comes.
+/// Where a swap may begin, the durable words stand for what readers see at its targets.
+pub fn expected_stand()
+    ensures { ExpectedStand }
+{}
+
+/// So a swap that begins where its targets have the expected values is answered with true, if its worker steps alone to its end and no
+/// foreign effect comes.
 pub fn whole_swaps_win()
     ensures { WholeSwapsWin }
 {}
