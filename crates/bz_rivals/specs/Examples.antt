@@ -1,18 +1,26 @@
 -- Rivals, worked out: five workers over three descriptors.
-use Rattle.std.specs.Prelude.{◌≡◌, ℕ, false, List, [], ◌∷◌, ◌++◌, replicate, None, Some}
+use Rattle.std.specs.Prelude.{◌≡◌, ℕ, ◌-◌, false, List, [], ◌∷◌, ◌++◌, replicate, None, Some}
+use Rattle.bz_layout.specs.declared.sizes.TheConstants.{SUPERBLOCK_WORDS, SWAP_WORDS}
+use Rattle.bz_machine.specs.declared.status.SwapStatus.{SwapStatus}
+use Rattle.bz_machine.specs.declared.status.SwapStatus.TheVariants.{Undecided, Decided}
+use Rattle.bz_machine.specs.declared.status.Verdict.TheVariants.{Succeeded, Failed}
+use Rattle.bz_cells.specs.Store.{status_word}
 use Rattle.bz_swap.specs.declared.phase.Phase.TheVariants.{Running}
 use Rattle.bz_swap.specs.SwapMemory.{SwapMemory, Working, Doing, Idle, Reading, Swapping}
 use Rattle.bz_rivals.specs.Rivals.{rivals, foreign}
 
--- the superblock, and three descriptors with these words for their statuses
-abbrev pub words_with : ℕ → ℕ → ℕ → List ℕ
-words_with a b c = replicate 16 0 ++ (a ∷ replicate 15 0) ++ (b ∷ replicate 15 0) ++ (c ∷ replicate 15 0)
+-- a descriptor of this status; the superblock, and three such
+abbrev pub descriptor : SwapStatus → List ℕ
+descriptor status = status_word status ∷ replicate (SWAP_WORDS - 1) 0
+
+abbrev pub words_with : SwapStatus → SwapStatus → SwapStatus → List ℕ
+words_with a b c = replicate SUPERBLOCK_WORDS 0 ++ descriptor a ++ descriptor b ++ descriptor c
 
 abbrev pub at_work : Doing → Working
 at_work doing = record { doing = doing; flush_next = false }
 
 -- workers 1 to 3 have a swap each, and worker 4 reads; the statuses are in the memory itself
-abbrev pub memory_with : ℕ → ℕ → ℕ → SwapMemory
+abbrev pub memory_with : SwapStatus → SwapStatus → SwapStatus → SwapMemory
 memory_with a b c = record {
   cached = words_with a b c;
   durable = words_with a b c;
@@ -29,14 +37,15 @@ memory_with a b c = record {
 
 -- undecided, succeeded and undecided
 abbrev pub before : SwapMemory
-before = memory_with 1 2 1
+before = memory_with Undecided (Decided Succeeded) Undecided
 
--- the third one has succeeded too; the first has failed, and worker 1 has not been told
+-- the third one has succeeded too
 abbrev pub after : SwapMemory
-after = memory_with 1 2 2
+after = memory_with Undecided (Decided Succeeded) (Decided Succeeded)
 
+-- the first one has failed besides, and worker 1 has not been answered
 abbrev pub failed : SwapMemory
-failed = memory_with 3 2 2
+failed = memory_with (Decided Failed) (Decided Succeeded) (Decided Succeeded)
 
 pub record RivalsAreTold : Type 0 where
   -- the reader has two, the worker whose swap has had its effect as well, and the others have one another
