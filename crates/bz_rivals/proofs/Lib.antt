@@ -1,0 +1,9 @@
+pub mod Examples
+pub mod Expected
+pub mod Falls
+pub mod Few
+pub mod Frames
+pub mod Notes
+pub mod Runs
+pub mod Sums
+pub mod Wins

@@ -1,0 +1,6 @@
+pub mod Examples
+pub mod Laws
+pub mod Notes
+pub mod Rivals
+pub mod Runs
+pub mod Wins
