@@ -13,7 +13,7 @@ use Rattle.bz_rivals.proofs.Frames.{IsFrame, frame-act, frame-eviction, frame-st
 use Rattle.bz_rivals.proofs.Sums.{sum-same, sum-le, sum-drop}
 
 -- what one worker counts
-abbrev one : SwapMemory → ℕ → ℕ → ℕ
+abbrev pub one : SwapMemory → ℕ → ℕ → ℕ
 one m w v = counted (is_rival m w v) 1
 
 -- a swap that is pending was pending
@@ -71,7 +71,7 @@ one-fewer old new w s frame takes other = rw frame.count (sum-drop (one new w) (
     (omega (arith, was-rival old w takes.worker s other takes.pending takes.before, is-none new w takes.worker s other (frame.others takes.worker other ∙ takes.pending) takes.done)))
 
 -- a swap that is not the worker's own is another's
-own-swap : (d : Doing) (s : ℕ) → d ≡ Swapping s → is_own d s ≡ true
+pub own-swap : (d : Doing) (s : ℕ) → d ≡ Swapping s → is_own d s ≡ true
 own-swap d s is = rw is (eq-eqb s s refl)
 
 fewer-where : (old new : SwapMemory) (w s : ℕ) (own : Bool) → is_own (doing_of old w) s ≡ own → IsFrame old new w → TakesEffect old new s → rivals new w + counted (not own) 1 ≤ rivals old w

@@ -1,3 +1,4 @@
+pub mod Exact
 pub mod Examples
 pub mod Expected
 pub mod Falls
@@ -5,5 +6,6 @@ pub mod Few
 pub mod Frames
 pub mod Notes
 pub mod Runs
+pub mod Stands
 pub mod Sums
 pub mod Wins

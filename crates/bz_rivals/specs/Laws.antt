@@ -6,6 +6,7 @@ use Rattle.bz_machine.specs.declared.done.Done.{Done}
 use Rattle.bz_swap.specs.declared.phase.Phase.TheVariants.{Recovering}
 use Rattle.bz_swap.specs.Evictions.{IsEviction}
 use Rattle.bz_swap.specs.LoneRuns.{Turn, IsLoneRun}
+use Rattle.bz_swap.specs.Settled.{AreOwned}
 use Rattle.bz_swap.specs.Starts.{started, swapping}
 use Rattle.bz_swap.specs.Steps.{IsStep}
 use Rattle.bz_swap.specs.SwapMemory.{SwapMemory, Doing}
@@ -25,6 +26,11 @@ pub record RivalsFall : Type 0 where
   pub swap : (m : SwapMemory) (w : ℕ) (entries : List Entry) → rivals (swapping m w entries) w ≡ rivals m w
   pub step : (old new : SwapMemory) (w : ℕ) (made : Act) (done : Done) (told : Option ℕ) → IsStep old w made done told new → rivals new w + foreign old w told ≤ rivals old w
   pub eviction : (old new : SwapMemory) (w a : ℕ) (told : Option ℕ) → old.phase ≢ Recovering → IsEviction old a told new → rivals new w + foreign old w told ≤ rivals old w
+
+-- and where each swap is one worker's at most nothing else changes it
+pub record RivalsAreExact : Type 0 where
+  pub step : (old new : SwapMemory) (w : ℕ) (made : Act) (done : Done) (told : Option ℕ) → AreOwned old → IsStep old w made done told new → rivals new w + foreign old w told ≡ rivals old w
+  pub eviction : (old new : SwapMemory) (w a : ℕ) (told : Option ℕ) → old.phase ≢ Recovering → AreOwned old → IsEviction old a told new → rivals new w + foreign old w told ≡ rivals old w
 
 -- over a run of worker w alone, outside a recovery time
 abbrev pub LoneEffectsAreFew : Type 0

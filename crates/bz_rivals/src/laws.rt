@@ -1,7 +1,7 @@
 //! Laws of rivals. Each function does nothing: its contract is the law.
 
 ghost use Rattle.bz_rivals.specs.Examples.{RivalsAreTold};
-ghost use Rattle.bz_rivals.specs.Laws.{RivalsAreFew, RivalsFall, LoneEffectsAreFew};
+ghost use Rattle.bz_rivals.specs.Laws.{RivalsAreFew, RivalsFall, RivalsAreExact, LoneEffectsAreFew};
 ghost use Rattle.bz_rivals.specs.Notes.{NotesAreOfBegun, ZeroSwapsNothing};
 ghost use Rattle.bz_rivals.specs.Wins.{OwnSwapsWin, ExpectedStand, WholeSwapsWin};
 
@@ -18,6 +18,11 @@ pub fn rivals_are_few()
 /// While a worker steps alone its rivals grow no more, and with each foreign effect they are one fewer.
 pub fn rivals_fall()
     ensures { RivalsFall }
+{}
+
+/// Nothing but a foreign effect changes their number then.
+pub fn rivals_are_exact()
+    ensures { RivalsAreExact }
 {}
 
 /// So over any run of one worker alone the foreign effects are at most as many as its rivals were at first.
