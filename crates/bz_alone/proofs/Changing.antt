@@ -7,13 +7,13 @@ use Rattle.bz_word.specs.Statuses.{status_word, status, IsStatus, IsStatusWord}
 use Rattle.bz_word.specs.declared.meta.Extent.{Extent}
 use Rattle.bz_word.specs.declared.meta.Meta.TheVariants.{Reserved}
 use Rattle.bz_word.specs.declared.status.Status.{Status}
-use Rattle.bz_task.specs.Scene.{Scene, Waiting, IsScene, here}
+use Rattle.bz_task.specs.Scene.{Past, Scene, Waiting, IsScene, here}
 use Rattle.bz_task.specs.Steps.{next_stamp}
 use Rattle.bz_task.specs.Swaps.{Stand}
 use Rattle.bz_task.specs.declared.view.KeyView.{KeyView}
-use Rattle.bz_record.specs.Leaves.{WasLeaf, WasReserved}
+use Rattle.bz_record.specs.Leaves.{WasLeaf, HasSwapped, WasReserved}
 use Rattle.bz_record.specs.Records.{size_of, place_of, HasRoom, Fits}
-use Rattle.bz_record.specs.Replacing.{growth, replacement, WasGrown}
+use Rattle.bz_record.specs.Replacing.{growth, replacement, status_grown, WasGrown}
 use Rattle.bz_record.specs.Swaps.{entries_of, status_entry, meta_entry, reservation, publication, status_reserved}
 use Rattle.bz_record.specs.declared.new_record.NewRecord.{NewRecord}
 use Rattle.bz_insert.specs.Facts.{insert_asks, insert_facts}
@@ -24,8 +24,8 @@ use Rattle.bz_mutate.specs.declared.update_phase.UpdatePhase.{UpdatePhase}
 use Rattle.bz_mutate.specs.declared.update_phase.UpdatePhase.TheVariants.{Grow, Replace}
 use Rattle.bz_alone.specs.Alone.{IsAlone, GoesOn}
 use Rattle.bz_alone.specs.Changes.{InsertsGoOn, UpdatesGoOn, PublicationsStand, ReplacementsStand}
-use Rattle.bz_alone.specs.Made.{made_by_insert, made_by_update, HasSeenReservation, HasSeenGrowth}
-use Rattle.bz_alone.specs.Quiet.{IsQuietSince}
+use Rattle.bz_alone.specs.Made.{made_by_insert, made_by_update}
+use Rattle.bz_alone.specs.Quiet.{IsQuietSince, HadEffects}
 use Rattle.bz_alone.proofs.Basis.{Laws}
 use Rattle.bz_alone.proofs.Freezing.{one-stands}
 use Rattle.bz_alone.proofs.Going.{idles, swaps}
@@ -64,33 +64,45 @@ module _ (b : Laws) (codec : Statuses) (s : Scene) (good : IsScene s) (m : ℕ) 
   pub replacement-stands : (r : NewRecord) (old : List ℕ) (place : ℕ) (e : Extent) (grown : WasGrown r old place e s.past) → m ≤ grown.was.moment → Stand (entries_of s.past.config (replacement r place e)) (here s)
   replacement-stands r old place e grown from = swap-stands b s good m q (replacement r place e) r.key old e grown.was from refl
 
+-- the first swap took effect before the moment at which the leaf is known to have its words
+had-one : (k st m : ℕ) (p : Past) → WasLeaf k st m p → HasSwapped m p → HadEffects 1 m p
+had-one k st m p w h = record { since = w.since; now = w.now; effects = h }
+
 module _ (b : Laws) (codec : Statuses) (s : Scene) (good : IsScene s) where
-  insert-goes : (r : NewRecord) (phase : Phase) (f : insert_facts r phase Waiting s) → HasSeenReservation r phase s f → IsAlone (made_by_insert phase) s.past → GoesOn (insert_asks s.past.config r phase) (λ seen. ⊥) s
-  insert-goes r Reserve f h a =
+  -- so the second one stands
+  publication-there : (r : NewRecord) → Fits r → WasReserved r s.past → IsAlone 1 s.past → Stand (entries_of s.past.config (publication r)) (here s)
+  publication-there r f w a =
+      let q : IsQuietSince w.moment s.past = b.lonely.later s 1 w.moment good a (had-one r.slot (status_reserved r) w.moment s.past w.leaf.leaf w.swapped) in
+      publication-stands b codec s good w.moment q r f w (omega arith)
+
+  replacement-there : (r : NewRecord) (old : List ℕ) (place : ℕ) (e : Extent) → WasGrown r old place e s.past → IsAlone 1 s.past → Stand (entries_of s.past.config (replacement r place e)) (here s)
+  replacement-there r old place e g a =
+      let q : IsQuietSince g.was.moment s.past = b.lonely.later s 1 g.was.moment good a (had-one r.slot (status_grown r) g.was.moment s.past g.was.leaf.leaf g.swapped) in
+      replacement-stands b codec s good g.was.moment q r old place e g (omega arith)
+
+  insert-goes : (r : NewRecord) (phase : Phase) → insert_facts r phase Waiting s → IsAlone (made_by_insert phase) s.past → GoesOn (insert_asks s.past.config r phase) (λ seen. ⊥) s
+  insert-goes r Reserve f a =
       let v = f.1.viewed in
       swaps (entries_of s.past.config (reservation r)) (λ seen. ⊥) s (reservation-stands b codec s good s.past.since (b.lonely.whole s good a) r v.moment v.leaf.leaf v.leaf.leaf.since f.1.room) (λ seen d. d)
-  insert-goes r Publish f h a =
-      let w = f.1.reserved in
-      swaps (entries_of s.past.config (publication r)) (λ seen. ⊥) s (publication-stands b codec s good w.moment (b.lonely.later s 1 w.moment good a h) r f.1.fits w (omega arith)) (λ seen d. d)
-  insert-goes r phase f h a = idles _ (λ seen. ⊥) s (λ entries e. absurd (cc)) (λ seen d. d)
+  insert-goes r Publish f a = swaps (entries_of s.past.config (publication r)) (λ seen. ⊥) s (publication-there r f.1.fits f.1.reserved a) (λ seen d. d)
+  insert-goes r phase f a = idles _ (λ seen. ⊥) s (λ entries e. absurd (cc)) (λ seen d. d)
 
-  update-goes : (v : KeyView) (r : NewRecord) (phase : UpdatePhase) (f : update_facts v r phase Waiting s) → HasSeenGrowth v r phase s f → IsAlone (made_by_update phase) s.past → GoesOn (update_asks s.past.config r phase) (λ seen. ⊥) s
-  update-goes v r (Grow f) k h a =
+  update-goes : (v : KeyView) (r : NewRecord) (phase : UpdatePhase) → update_facts v r phase Waiting s → IsAlone (made_by_update phase) s.past → GoesOn (update_asks s.past.config r phase) (λ seen. ⊥) s
+  update-goes v r (Grow f) k a =
       let w = k.1.was in
       swaps (growth s.past.config r ∷ []) (λ seen. ⊥) s (growth-stands b codec s good s.past.since (b.lonely.whole s good a) r w.moment w.leaf.leaf w.leaf.leaf.since) (λ seen d. d)
-  update-goes v r (Replace f) k h a =
-      let g = k.1.grown in
-      swaps (entries_of s.past.config (replacement r f.place f.extent)) (λ seen. ⊥) s (replacement-stands b codec s good g.was.moment (b.lonely.later s 1 g.was.moment good a h) r k.1.pair.old f.place f.extent g (omega arith)) (λ seen d. d)
-  update-goes v r phase k h a = idles _ (λ seen. ⊥) s (λ entries e. absurd (cc)) (λ seen d. d)
+  update-goes v r (Replace f) k a =
+      swaps (entries_of s.past.config (replacement r f.place f.extent)) (λ seen. ⊥) s (replacement-there r k.1.pair.old f.place f.extent k.1.grown a) (λ seen d. d)
+  update-goes v r phase k a = idles _ (λ seen. ⊥) s (λ entries e. absurd (cc)) (λ seen d. d)
 
 pub inserts-go-on : Laws → Statuses → InsertsGoOn
-inserts-go-on b codec t s same good f h a = subst (λ z. GoesOn (insert_asks z t.added t.phase) (λ seen. ⊥) s) same (insert-goes b codec s good t.added t.phase f h a)
+inserts-go-on b codec t s same good f a = subst (λ z. GoesOn (insert_asks z t.added t.phase) (λ seen. ⊥) s) same (insert-goes b codec s good t.added t.phase f a)
 
 pub updates-go-on : Laws → Statuses → UpdatesGoOn
-updates-go-on b codec t s same good f h a = subst (λ z. GoesOn (update_asks z t.added t.phase) (λ seen. ⊥) s) same (update-goes b codec s good t.view t.added t.phase f h a)
+updates-go-on b codec t s same good f a = subst (λ z. GoesOn (update_asks z t.added t.phase) (λ seen. ⊥) s) same (update-goes b codec s good t.view t.added t.phase f a)
 
 pub publications-stand : Laws → Statuses → PublicationsStand
-publications-stand b codec r s good f was a h = publication-stands b codec s good was.moment (b.lonely.later s 1 was.moment good a h) r f was (omega arith)
+publications-stand b codec r s good f was a = publication-there b codec s good r f was a
 
 pub replacements-stand : Laws → Statuses → ReplacementsStand
-replacements-stand b codec r old place e s good grown a h = replacement-stands b codec s good grown.was.moment (b.lonely.later s 1 grown.was.moment good a h) r old place e grown (omega arith)
+replacements-stand b codec r old place e s good grown a = replacement-there b codec s good r old place e grown a

@@ -6,13 +6,14 @@ use Rattle.bz_layout.specs.declared.config.Config.{Config}
 use Rattle.bz_layout.specs.declared.sizes.TheConstants.{STATUS_AT}
 use Rattle.bz_task.specs.Outcomes.{IsPath}
 use Rattle.bz_task.specs.Scene.{Scene, Waiting, IsScene, here}
+use Rattle.bz_leaf.specs.Facts.{IsLastLink}
 use Rattle.bz_find.specs.Facts.{find_facts, find_differs}
 use Rattle.bz_find.specs.Phases.{find_asks}
 use Rattle.bz_find.specs.declared.find.Find.{Find}
 use Rattle.bz_find.specs.declared.phase.Phase.{Phase}
 use Rattle.bz_find.specs.declared.phase.Phase.TheVariants.{Again, Link as Of_link, Guard}
 use Rattle.bz_alone.specs.Alone.{GoesOn}
-use Rattle.bz_alone.specs.Lookups.{IsLastLink, FindsGoOn}
+use Rattle.bz_alone.specs.Lookups.{FindsGoOn}
 use Rattle.bz_alone.specs.Quiet.{IsQuietSince, ReadValuesStand, LonelyTimesAreQuiet}
 use Rattle.bz_alone.proofs.Going.{idles, reads}
 use Rattle.bz_alone.proofs.Inners.{Rules}
@@ -32,4 +33,4 @@ module _ (b : Rules) (values : ReadValuesStand) (s : Scene) (good : IsScene s) (
   goes phase f = idles _ (find_differs t phase) s (λ entries e. absurd (cc)) (λ seen d. d)
 
 pub finds-go-on : Rules → ReadValuesStand → LonelyTimesAreQuiet → FindsGoOn
-finds-go-on b values lonely t last s same good f a = goes b values s good (lonely.whole s good a) t same f.1 last t.phase f.0
+finds-go-on b values lonely t s same good f a = goes b values s good (lonely.whole s good a) t same f.1 f.3 t.phase f.0

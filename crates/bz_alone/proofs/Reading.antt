@@ -8,11 +8,11 @@ use Rattle.bz_task.specs.Outcomes.{IsPath}
 use Rattle.bz_task.specs.Scene.{Scene, Waiting, IsScene}
 use Rattle.bz_task.specs.declared.path.Link.{Link}
 use Rattle.bz_task.specs.declared.path.Path.{Path}
-use Rattle.bz_leaf.specs.Facts.{leaf_asks, leaf_facts, leaf_differs}
+use Rattle.bz_leaf.specs.Facts.{IsLastLink, leaf_asks, leaf_facts, leaf_differs}
 use Rattle.bz_leaf.specs.declared.phase.Phase.{Phase}
 use Rattle.bz_leaf.specs.declared.phase.Phase.TheVariants.{Again, Link as Of_link, Guard}
 use Rattle.bz_alone.specs.Alone.{GoesOn}
-use Rattle.bz_alone.specs.Lookups.{IsLastLink, ReadingsGoOn}
+use Rattle.bz_alone.specs.Lookups.{ReadingsGoOn}
 use Rattle.bz_alone.specs.Quiet.{IsQuietSince, ReadValuesStand, LonelyTimesAreQuiet}
 use Rattle.bz_alone.proofs.Going.{idles, reads}
 use Rattle.bz_alone.proofs.Inners.{Rules}
@@ -26,5 +26,5 @@ module _ (b : Rules) (values : ReadValuesStand) (s : Scene) (good : IsScene s) (
   goes image phase f = idles _ (leaf_differs link image.0 phase) s (λ entries e. absurd (cc)) (λ seen d. d)
 
 pub readings-go-on : Rules → ReadValuesStand → LonelyTimesAreQuiet → ReadingsGoOn
-readings-go-on b values lonely t last s same good f a =
-    subst (λ z. GoesOn (leaf_asks z t.link t.image t.phase) (leaf_differs t.link t.image.0 t.phase) s) same (goes b values s good (lonely.whole s good a) t.key t.path t.link f.1 last t.image t.phase f.0)
+readings-go-on b values lonely t s same good f a =
+    subst (λ z. GoesOn (leaf_asks z t.link t.image t.phase) (leaf_differs t.link t.image.0 t.phase) s) same (goes b values s good (lonely.whole s good a) t.key t.path t.link f.1 f.2 t.image t.phase f.0)

@@ -25,10 +25,10 @@ pub record Kinds : Type 0 where
 pub loners-go-on : Kinds → LonersGoOn
 unfolding config_of asks_of facts_of differs_of made_of KnowsBesides
 loners-go-on b (Seeking t) s same good f k a = b.seeks t s same good f a
-loners-go-on b (Finding t) s same good f k a = b.finds t k s same good f a
-loners-go-on b (Reading t) s same good f k a = b.readings t k s same good f a
-loners-go-on b (Inserting t) s same good f k a = b.inserts t s same good f k a
-loners-go-on b (Updating t) s same good f k a = b.updates t s same good f k a
+loners-go-on b (Finding t) s same good f k a = b.finds t s same good f a
+loners-go-on b (Reading t) s same good f k a = b.readings t s same good f a
+loners-go-on b (Inserting t) s same good f k a = b.inserts t s same good f a
+loners-go-on b (Updating t) s same good f k a = b.updates t s same good f a
 loners-go-on b (Deleting t) s same good f k a = b.deletes t s same good f a
 loners-go-on b (Freezing t) s same good f k a = b.freezes t s same good f a
 loners-go-on b (Consolidating t) s same good f k a = b.consolidations t s same good f a

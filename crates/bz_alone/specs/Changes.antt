@@ -1,5 +1,5 @@
--- Tasks that ask for more than one swap go on where their worker is alone; after their first one too, where what they know of the words that
--- they still name is of a moment after its effect.
+-- Tasks that ask for more than one swap go on where their worker is alone; after their first one too, as what they know of the words that
+-- they still name is of a moment after its effect. Of a merge this is a premise.
 use Rattle.std.specs.Prelude.{◌≡◌, ℕ, List}
 use Rattle.bz_word.specs.declared.meta.Extent.{Extent}
 use Rattle.bz_insert.specs.Duties as insert
@@ -15,33 +15,26 @@ use Rattle.bz_record.specs.Swaps.{entries_of, publication}
 use Rattle.bz_record.specs.declared.new_record.NewRecord.{NewRecord}
 use Rattle.bz_task.specs.Scene.{Scene, Waiting, IsScene, here}
 use Rattle.bz_task.specs.Swaps.{Stand}
-use Rattle.bz_alone.specs.Alone.{IsAlone, GoesOn}
-use Rattle.bz_alone.specs.Made.{made_by_insert, made_by_update, made_by_merge, HasSeenReservation, HasSeenGrowth, HasSeenFreezes}
-use Rattle.bz_alone.specs.Quiet.{HadEffects}
+use Rattle.bz_alone.specs.Alone.{IsAlone, GoesOn, GoesOnAlone}
+use Rattle.bz_alone.specs.Made.{made_by_insert, made_by_update, made_by_merge, HasSeenFreezes}
 
 abbrev pub InsertsGoOn : Type 0
-InsertsGoOn =
-    (t : Insert) (s : Scene) → s.past.config ≡ t.config → IsScene s → (f : insert.facts_of t Waiting s) → HasSeenReservation t.added t.phase s f → IsAlone (made_by_insert t.phase) s.past →
-    GoesOn (insert.asks_of t) (λ seen. ⊥) s
+InsertsGoOn = (t : Insert) → GoesOnAlone (made_by_insert t.phase) t.config (insert.asks_of t) (insert.facts_of t) (λ seen. ⊥)
 
 abbrev pub UpdatesGoOn : Type 0
-UpdatesGoOn =
-    (t : Update) (s : Scene) → s.past.config ≡ t.config → IsScene s → (f : update.facts_of t Waiting s) → HasSeenGrowth t.view t.added t.phase s f → IsAlone (made_by_update t.phase) s.past →
-    GoesOn (update.asks_of t) (λ seen. ⊥) s
+UpdatesGoOn = (t : Update) → GoesOnAlone (made_by_update t.phase) t.config (update.asks_of t) (update.facts_of t) (λ seen. ⊥)
 
 -- a merge, which may freeze the two leaves before its swap
 abbrev pub MergesGoOn : Type 0
 MergesGoOn =
-    (t : Merge) (s : Scene) → s.past.config ≡ t.config → IsScene s → (f : merge.facts_of t Waiting s) → HasSeenFreezes (merge.merging_of t) (made_by_merge (merge.merging_of t) t.phase) s.past →
+    (t : Merge) (s : Scene) → s.past.config ≡ t.config → IsScene s → merge.facts_of t Waiting s → HasSeenFreezes (merge.merging_of t) (made_by_merge (merge.merging_of t) t.phase) s.past →
     IsAlone (made_by_merge (merge.merging_of t) t.phase) s.past → GoesOn (merge.asks_of t) (merge.differs_of t) s
 
 -- the second swaps alone
 abbrev pub PublicationsStand : Type 0
-PublicationsStand =
-    (r : NewRecord) (s : Scene) → IsScene s → Fits r → (was : WasReserved r s.past) → IsAlone 1 s.past → HadEffects 1 was.moment s.past →
-    Stand (entries_of s.past.config (publication r)) (here s)
+PublicationsStand = (r : NewRecord) (s : Scene) → IsScene s → Fits r → WasReserved r s.past → IsAlone 1 s.past → Stand (entries_of s.past.config (publication r)) (here s)
 
 abbrev pub ReplacementsStand : Type 0
 ReplacementsStand =
-    (r : NewRecord) (old : List ℕ) (place : ℕ) (e : Extent) (s : Scene) → IsScene s → (grown : WasGrown r old place e s.past) → IsAlone 1 s.past → HadEffects 1 grown.was.moment s.past →
+    (r : NewRecord) (old : List ℕ) (place : ℕ) (e : Extent) (s : Scene) → IsScene s → WasGrown r old place e s.past → IsAlone 1 s.past →
     Stand (entries_of s.past.config (replacement r place e)) (here s)

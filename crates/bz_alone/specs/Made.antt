@@ -1,25 +1,19 @@
--- How many of its swaps a task that goes on was told to have taken effect, and what its facts would have to say besides of what they left.
+-- How many of its swaps a task that goes on was told to have taken effect, and what a merge's facts would have to say besides of what they left.
 use Rattle.std.specs.Prelude.{◌≡◌, ℕ, ◌+◌, ◌<◌, ◌⊎◌, if◌then◌else◌, slice_index}
 use Rattle.bz_layout.specs.declared.sizes.TheConstants.{STATUS_AT}
 use Rattle.bz_word.specs.Statuses.{status}
-use Rattle.bz_insert.specs.Facts.{insert_facts}
 use Rattle.bz_insert.specs.declared.phase.Phase.{Phase as InsertPhase}
 use Rattle.bz_insert.specs.declared.phase.Phase.TheVariants.{Store as Stores, Flush as Flushes, Publish}
 use Rattle.bz_merge.specs.Plans.{Merging as MergeParts}
 use Rattle.bz_merge.specs.declared.phase.Phase.{Phase as MergePhase}
 use Rattle.bz_merge.specs.declared.phase.Phase.TheVariants.{FreezeBeside, Guard, Store as StoresBoth, Flush as FlushesBoth, Swap}
-use Rattle.bz_mutate.specs.UpdateFacts.{update_facts}
 use Rattle.bz_mutate.specs.declared.update_phase.UpdatePhase.{UpdatePhase}
 use Rattle.bz_mutate.specs.declared.update_phase.UpdatePhase.TheVariants.{Store as StoresAnew, Flush as FlushesAnew, Replace}
-use Rattle.bz_record.specs.declared.new_record.NewRecord.{NewRecord}
-use Rattle.bz_running.specs.Duties.{facts_of}
 use Rattle.bz_running.specs.declared.running.Running.{Running}
-use Rattle.bz_running.specs.declared.running.Running.TheVariants.{Finding, Reading, Inserting, Updating, Merging}
+use Rattle.bz_running.specs.declared.running.Running.TheVariants.{Inserting, Updating, Merging}
 use Rattle.bz_task.specs.Instant.{words}
-use Rattle.bz_task.specs.Scene.{Past, Scene, Waiting}
-use Rattle.bz_task.specs.declared.view.KeyView.{KeyView}
+use Rattle.bz_task.specs.Scene.{Past}
 use Rattle.bz_merge.specs.Duties.{merging_of}
-use Rattle.bz_alone.specs.Lookups.{IsLastLink}
 use Rattle.bz_alone.specs.Quiet.{HadEffects}
 
 -- an insert and an update have made their first swap from the first store on
@@ -57,15 +51,6 @@ made_of (Updating t) = made_by_update t.phase
 made_of (Merging t) = made_by_merge (merging_of t) t.phase
 made_of t = 0
 
--- the moment at which the leaf is known to have the first swap's words is one after its effect
-abbrev pub HasSeenReservation : (r : NewRecord) (phase : InsertPhase) (s : Scene) → insert_facts r phase Waiting s → Type 0
-HasSeenReservation r Publish s f = HadEffects 1 f.1.reserved.moment s.past
-HasSeenReservation r phase s f = Unit {0}
-
-abbrev pub HasSeenGrowth : (v : KeyView) (r : NewRecord) (phase : UpdatePhase) (s : Scene) → update_facts v r phase Waiting s → Type 0
-HasSeenGrowth v r (Replace f) s h = HadEffects 1 h.1.grown.was.moment s.past
-HasSeenGrowth v r phase s h = Unit {0}
-
 -- at a moment after so many effects the words that a merge still names were as it had read them: the upper link and its guard, the
 -- parent's status and, until the merge has frozen it too, the neighbour's
 pub record StoodAfter (r : MergeParts) (made : ℕ) (p : Past) : Type 0 where
@@ -80,13 +65,7 @@ pub record StoodAfter (r : MergeParts) (made : ℕ) (p : Past) : Type 0 where
 abbrev pub HasSeenFreezes : MergeParts → ℕ → Past → Type 0
 HasSeenFreezes r made p = (made ≡ 0) ⊎ StoodAfter r made p
 
--- what the facts of these tasks do not say yet: that the link to a leaf that is read is the path's last one; that the first swap of an
--- insert or an update came before the moment of which it speaks; and what a merge's own freezes left
-unfoldable pub KnowsBesides : (t : Running) (s : Scene) → facts_of t Waiting s → Type 0
-unfolding facts_of
-KnowsBesides (Finding t) s f = IsLastLink t.path t.link
-KnowsBesides (Reading t) s f = IsLastLink t.path t.link
-KnowsBesides (Inserting t) s f = HasSeenReservation t.added t.phase s f
-KnowsBesides (Updating t) s f = HasSeenGrowth t.view t.added t.phase s f
-KnowsBesides (Merging t) s f = HasSeenFreezes (merging_of t) (made_by_merge (merging_of t) t.phase) s.past
-KnowsBesides t s f = Unit {0}
+-- what the facts of a merge do not say yet: what its own freezes left
+unfoldable pub KnowsBesides : Running → Past → Type 0
+KnowsBesides (Merging t) p = HasSeenFreezes (merging_of t) (made_by_merge (merging_of t) t.phase) p
+KnowsBesides t p = Unit {0}

@@ -8,8 +8,8 @@ use Rattle.bz_task.specs.Outcomes.{IsPath}
 use Rattle.bz_task.specs.Scene.{Scene, IsScene, here}
 use Rattle.bz_task.specs.declared.path.Link.{Link}
 use Rattle.bz_task.specs.declared.path.Path.{Path}
+use Rattle.bz_leaf.specs.Facts.{IsLastLink}
 use Rattle.bz_alone.specs.Alone.{IsAlone}
-use Rattle.bz_alone.specs.Lookups.{IsLastLink}
 use Rattle.bz_alone.specs.Quiet.{IsQuietSince, IsIn}
 
 -- the same slots are in the tree, at their levels and with their ranges of keys, and each key has the same leaf

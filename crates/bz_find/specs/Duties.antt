@@ -2,6 +2,7 @@
 use Rattle.std.specs.Prelude.{ℕ, ◌+◌, List, Option}
 use Rattle.bz_layout.specs.declared.config.Config.{Config}
 use Rattle.bz_layout.specs.declared.thresholds.TheConstants.{FIND_READS_BESIDES}
+use Rattle.bz_leaf.specs.Facts.{IsLastLink}
 use Rattle.bz_task.specs.Outcomes.{IsPath}
 use Rattle.bz_task.specs.Scene.{Scene, Stage}
 use Rattle.bz_task.specs.declared.todo.Outcome.{Outcome}
@@ -44,7 +45,7 @@ abbrev pub left_of : Find → ℕ
 left_of t = left_at t.search t.phase
 
 abbrev pub facts_of : Find → Stage → Scene → Type 0
-facts_of t stage s = find_facts t t.phase stage s × IsPath t.key t.path s.past × IsBounded t
+facts_of t stage s = find_facts t t.phase stage s × IsPath t.key t.path s.past × IsBounded t × IsLastLink t.path t.link
 
 abbrev pub means_of : Find → Outcome → Scene → Type 0
 means_of t = find_means t.key t.path

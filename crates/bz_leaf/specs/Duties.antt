@@ -6,7 +6,7 @@ use Rattle.bz_task.specs.Scene.{Scene, Stage}
 use Rattle.bz_task.specs.declared.todo.Outcome.{Outcome}
 use Rattle.bz_task.specs.declared.todo.Seen.{Seen}
 use Rattle.bz_task.specs.declared.todo.Todo.{Todo}
-use Rattle.bz_leaf.specs.Facts.{leaf_asks, leaf_end, leaf_left, leaf_facts, leaf_means, leaf_differs}
+use Rattle.bz_leaf.specs.Facts.{IsLastLink, leaf_asks, leaf_end, leaf_left, leaf_facts, leaf_means, leaf_differs}
 use Rattle.bz_leaf.specs.declared.read_leaf.ReadLeaf.{ReadLeaf}
 
 abbrev pub config_of : ReadLeaf → Config
@@ -22,7 +22,7 @@ abbrev pub left_of : ReadLeaf → ℕ
 left_of t = leaf_left t.phase
 
 abbrev pub facts_of : ReadLeaf → Stage → Scene → Type 0
-facts_of t stage s = leaf_facts t.key t.link t.image.0 t.phase stage s × IsPath t.key t.path s.past
+facts_of t stage s = leaf_facts t.key t.link t.image.0 t.phase stage s × IsPath t.key t.path s.past × IsLastLink t.path t.link
 
 abbrev pub means_of : ReadLeaf → Outcome → Scene → Type 0
 means_of t = leaf_means t.key t.path

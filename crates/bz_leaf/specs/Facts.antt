@@ -1,5 +1,5 @@
 -- What is known of a leaf while it is read.
-use Rattle.std.specs.Prelude.{◌≡◌, ◌≢◌, ℕ, ◌+◌, ◌-◌, ◌^◌, ◌<◌, ◌≤◌, ◌||◌, ◌⊎◌, nat_lt, nat_le, Bool, true, false, List, [], Option, Some, None, slice_index}
+use Rattle.std.specs.Prelude.{◌≡◌, ◌≢◌, ℕ, ◌+◌, ◌-◌, ◌^◌, ◌<◌, ◌≤◌, ◌||◌, ◌⊎◌, nat_lt, nat_le, Bool, true, false, List, [], Option, Some, None, slice_get, slice_index}
 use Rattle.bz_layout.specs.Addresses.{node_address}
 use Rattle.bz_layout.specs.declared.config.Config.{Config}
 use Rattle.bz_layout.specs.declared.sizes.TheConstants.{NODE_WORDS, STATUS_AT, META_AT}
@@ -29,6 +29,10 @@ is_used st i = nat_lt i (META_AT + (status st).count) || nat_le NODE_WORDS (i + 
 -- the leaf to which a link leads, as it was read, at a moment
 abbrev pub view_of : Link → NodeImage → ℕ → LeafView
 view_of link image at = record { slot = link.slot; status = slice_index image.0 0; image = image; at = at }
+
+-- the link is the last one of the path
+abbrev pub IsLastLink : Path → Link → Type 0
+IsLastLink path link = slice_get path.links (path.depth - 1) ≡ Some link
 
 -- the view is made of these
 pub record IsMade (view : LeafView) (k moment : ℕ) (ws : List ℕ) : Type 0 where

@@ -12,7 +12,7 @@ use Rattle.bz_record.specs.Writing.{first_line, last_line}
 use Rattle.bz_record.specs.Written.{written}
 use Rattle.bz_record.specs.declared.found_record.FoundRecord.{FoundRecord}
 use Rattle.bz_record.specs.declared.new_record.NewRecord.{NewRecord}
-use Rattle.bz_mutate.specs.UpdateFacts.{update_asks, update_facts, next_flush}
+use Rattle.bz_mutate.specs.UpdateFacts.{IsReady, update_asks, update_facts, next_flush}
 use Rattle.bz_mutate.specs.declared.update_phase.UpdatePhase.{UpdatePhase}
 use Rattle.bz_mutate.specs.declared.update_phase.UpdatePhase.TheVariants.{Grow, Store, Flush, Replace}
 
@@ -24,7 +24,11 @@ in-phase v r stage s phase other e f = subst (λ z. update_facts v r z stage s) 
 pub tells-in : (c : Config) (r : NewRecord) (stage : Stage) (s : Scene) (phase other : UpdatePhase) (seen told : Seen) → phase ≡ other → seen ≡ told → Tells (update_asks c r phase) stage seen s → Tells (update_asks c r other) stage told s
 tells-in c r stage s phase other seen told e g t = subst (λ z. Tells (update_asks c r z) stage told s) e (subst (λ z. Tells (update_asks c r phase) stage z s) g t)
 
--- after the growth the first word
+-- after the growth the first word may be stored
+pub ready-grown : (c : Config) (v : KeyView) (r : NewRecord) (f : FoundRecord) (stage : Stage) (s : Scene) → s.past.config ≡ c → update_facts v r (Grow f) stage s → IsReady c v r (Store f 0)
+ready-grown c v r f Waiting s same k = (record { pair = k.1.pair; slot = subst (λ z. r.slot < z.nodes) same k.1.was.leaf.leaf.slot }, k.1.pair.fits.some)
+ready-grown c v r f Took s same k = (record { pair = k.1.pair; slot = subst (λ z. r.slot < z.nodes) same k.1.grown.was.leaf.leaf.slot }, k.1.pair.fits.some)
+
 pub told-grown : (c : Config) (v : KeyView) (r : NewRecord) (f : FoundRecord) (stage : Stage) (s : Scene) → update_facts v r (Grow f) stage s → Tells (update_asks c r (Grow f)) stage (Swapped true) s → update_facts v r (Store f 0) Waiting s
 told-grown c v r f Waiting s k t = absurd (cc)
 told-grown c v r f Took s k t = (k.0, (k.1.pair.fits.some, k.1))

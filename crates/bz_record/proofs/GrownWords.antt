@@ -31,6 +31,7 @@ use Rattle.bz_record.specs.Replacing.{growth, status_grown, WasRecord}
 use Rattle.bz_record.specs.ReplacingLaws.{RecordsWere, IsGrown, GrowthsTakeWords}
 use Rattle.bz_record.specs.declared.new_record.NewRecord.{NewRecord}
 use Rattle.bz_record.proofs.Coding.{visible-extent}
+use Rattle.bz_record.proofs.Effects.{has-swapped}
 use Rattle.bz_record.proofs.Found.{words_at-same, now-meta, now-says, now-key}
 use Rattle.bz_record.proofs.Growing.{Laws, grown-plain, grown-reads, same, is, others, durable-others, count-was, count-is, block-is, count-durable, block-durable, level-same, alike}
 use Rattle.bz_record.proofs.Leaves.{held-visible}
@@ -176,7 +177,11 @@ module _ (b : Laws) (d : TakingLaws) (s after : Scene) (r : NewRecord) (old : Li
 
   taken : IsGrown r old place e after
   taken = record {
-    grown = record { was = was-after; older = with-config (λ c. (i : ℕ) → i < (status r.status).count → held ((page (durable c (here after) r.slot)).meta i) ≡ true → NODE_WORDS ≤ (extent_of ((page (durable c (here after) r.slot)).meta i)).offset + (status r.status).block) older };
+    grown = record {
+      was = was-after;
+      older = with-config (λ c. (i : ℕ) → i < (status r.status).count → held ((page (durable c (here after) r.slot)).meta i) ≡ true → NODE_WORDS ≤ (extent_of ((page (durable c (here after) r.slot)).meta i)).offset + (status r.status).block) older;
+      swapped = has-swapped false (growth s.past.config r ∷ []) s after good t;
+    };
     words = record { mine = mine; stored = λ i l none. absurd (omega (arith, none)); flushed = λ i l before. absurd (omega (arith, before)) };
   }
 

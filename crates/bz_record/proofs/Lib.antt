@@ -1,5 +1,6 @@
 mod Leaves
 mod Entries
+mod Effects
 mod Asking
 mod Coding
 mod Reserved

@@ -28,6 +28,7 @@ use Rattle.bz_record.specs.Records.{size_of, offset_of, place_of, address_of, Fi
 use Rattle.bz_record.specs.Swaps.{status_entry, entries_of, status_reserved, reservation}
 use Rattle.bz_record.specs.declared.new_record.NewRecord.{NewRecord}
 use Rattle.bz_record.proofs.Coding.{reserved-plain, reserved-reads}
+use Rattle.bz_record.proofs.Effects.{has-swapped}
 use Rattle.bz_record.proofs.Entries.{sets-meta}
 use Rattle.bz_record.proofs.Leaves.{held-visible}
 use Rattle.bz_record.proofs.Reserved.{Laws, place, same, is, others, count-is, block-is, count-was, count-durable, block-durable, alike, record-before}
@@ -159,6 +160,7 @@ module _ (b : Laws) (d : TakingLaws) (s after : Scene) (r : NewRecord) (moment :
       };
       meta = with-config (λ c. words c (here after) r.slot (META_AT + (status r.status).count) ≡ meta_word (Reserved (place_of r))) (sets-meta s.past.config (reservation r) (here s) (here after) b.slots t.swaps (place b s (here after) r moment good f leaf.leaf stand t.swaps));
       unsorted = with-config (λ c. (page_at c (here after) r.slot).sorted ≤ (status r.status).count) unsorted;
+      swapped = has-swapped false (entries_of s.past.config (reservation r)) s after good t;
     };
     words = record { mine = mine; stored = λ i l none. absurd (omega (arith, none)); flushed = λ i l before. absurd (omega (arith, before)) };
   }

@@ -28,10 +28,15 @@ pub record WasLeafOf (key : List ℕ) (said : Option (List ℕ)) (k st moment : 
   pub range : is_within key ((form_at p.config (p.at moment)).low k) ((form_at p.config (p.at moment)).high k) ≡ true
   pub found : found_of (durable p.config (p.at moment) k) key ≡ said
 
--- at a moment the leaf of the record's key had no such key, and a metadata word was reserved for the record: the last one, which
--- is not sorted
+-- a swap took effect since the call began, up to this moment
+abbrev pub HasSwapped : ℕ → Past → Type 0
+HasSwapped moment p = (p.at p.since).effects + 1 ≤ (p.at moment).effects
+
+-- at a moment after a swap the leaf of the record's key had no such key, and a metadata word was reserved for the record: the last
+-- one, which is not sorted
 pub record WasReserved (r : NewRecord) (p : Past) : Type 0 where
   pub moment : ℕ
   pub leaf : WasLeafOf r.key None r.slot (status_reserved r) moment p
   pub meta : words p.config (p.at moment) r.slot (META_AT + (status r.status).count) ≡ meta_word (Reserved (place_of r))
   pub unsorted : (page_at p.config (p.at moment) r.slot).sorted ≤ (status r.status).count
+  pub swapped : HasSwapped moment p

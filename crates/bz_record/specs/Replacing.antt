@@ -14,7 +14,7 @@ use Rattle.bz_word.specs.declared.meta.Meta.TheVariants.{Visible, Deleted}
 use Rattle.bz_task.specs.Instant.{words, durable}
 use Rattle.bz_task.specs.Scene.{Past}
 use Rattle.bz_task.specs.Steps.{next_stamp}
-use Rattle.bz_record.specs.Leaves.{WasLeafOf}
+use Rattle.bz_record.specs.Leaves.{WasLeafOf, HasSwapped}
 use Rattle.bz_record.specs.Records.{size_of, place_of}
 use Rattle.bz_record.specs.Swaps.{counted_status}
 use Rattle.bz_record.specs.declared.new_record.NewRecord.{NewRecord}
@@ -65,7 +65,8 @@ pub record WasRecord (key payload : List ℕ) (k st place : ℕ) (e : Extent) (p
   pub meta : words p.config (p.at moment) k (META_AT + place) ≡ meta_word (Visible e)
   pub is_key : key_at (page (durable p.config (p.at moment) k)) place ≡ key
 
--- and the block had grown by the words of a new record, before all others
+-- and after a swap the block had grown by the words of a new record, before all others
 pub record WasGrown (r : NewRecord) (old : List ℕ) (place : ℕ) (e : Extent) (p : Past) : Type 0 where
   pub was : WasRecord r.key old r.slot (status_grown r) place e p
   pub older : (i : ℕ) → i < (status r.status).count → held ((page (durable p.config (p.at was.moment) r.slot)).meta i) ≡ true → NODE_WORDS ≤ (extent_of ((page (durable p.config (p.at was.moment) r.slot)).meta i)).offset + (status r.status).block
+  pub swapped : HasSwapped was.moment p

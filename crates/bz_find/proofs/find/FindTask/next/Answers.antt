@@ -1,5 +1,6 @@
 use Rattle.std.proofs.Common.{◌≡◌, subst, sym, ◌∙◌, inr}
 use Rattle.std.specs.Prelude.{Some}
+use Rattle.bz_leaf.specs.Facts.{IsLastLink}
 use Rattle.bz_task.specs.Outcomes.{IsPath}
 use Rattle.bz_task.specs.OwnActs.{gained}
 use Rattle.bz_task.specs.Scene.{Waiting}
@@ -31,7 +32,8 @@ returns-clause-learns c stage s now same good free facts told-so =
     let k = keeps-at t t.phase c.args.seen c.args.moment c.requires.hears in
     let new : c.answered.new.self ≡ counted u = c.answered.ensures.new in
     let path : IsPath u.key u.path s.past = rw (k.key, k.path) facts.1 in
+    let last : IsLastLink u.path u.link = rw (k.path, k.link) facts.3 in
     let learnt = tells c.on_leaves.ensures t s same good stage c.args.seen c.args.moment now facts.2 facts.0 told-so in
     let all : facts_of (counted u) Waiting (gained s c.args.slots.now c.args.slots.now) =
-    (no-slot c.nothing_is_gained.ensures (counted u) u.phase s c.args.slots.now learnt, path, (steps t c.args.seen c.args.moment c.heard.ensures.bounded c.requires.hears c.heard.ensures.plain).0) in
+    (no-slot c.nothing_is_gained.ensures (counted u) u.phase s c.args.slots.now learnt, path, (steps t c.args.seen c.args.moment c.heard.ensures.bounded c.requires.hears c.heard.ensures.plain).0, last) in
     subst (λ z. facts_of z Waiting (gained s c.args.slots.now c.args.slots.now)) (sym new) all

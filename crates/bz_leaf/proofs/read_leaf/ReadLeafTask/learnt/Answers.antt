@@ -4,7 +4,7 @@ use Rattle.bz_leaf.proofs.read_leaf.ReadLeafTask.learnt.Goals as goal
 
 pub returns-clause-stable : goal.returns-clause-stable
 returns-clause-stable c stage s after same facts good step =
-    let t = c.args.self.now in (stable c.views_stay.ensures t.key t.link t.image.0 t.phase stage s after facts.0 step, c.paths_stay.ensures t.key t.path s.past after.past facts.1 step.continues)
+    let t = c.args.self.now in (stable c.views_stay.ensures t.key t.link t.image.0 t.phase stage s after facts.0 step, c.paths_stay.ensures t.key t.path s.past after.past facts.1 step.continues, facts.2)
 
 pub returns-clause-cause : goal.returns-clause-cause
 returns-clause-cause c s seen same facts differs =
