@@ -1,5 +1,5 @@
 -- What the acts of a merge lead to.
-use Rattle.std.proofs.Common.{◌≡◌, ℕ, ◌+◌, ◌<◌, ◌≤◌, if◌then◌else◌, Bool, true, false, List, [], ◌∷◌, arith, refl, sym, ap, subst, ◌∙◌, Some}
+use Rattle.std.proofs.Common.{◌≡◌, ℕ, ◌+◌, ◌<◌, ◌≤◌, if◌then◌else◌, Bool, true, false, List, [], ◌∷◌, arith, refl, sym, ap, subst, ◌∙◌, inr, Some}
 use Rattle.std.specs.Prelude.{slice_index}
 use Rattle.bz_layout.specs.Addresses.{node_address, SlotsApart}
 use Rattle.bz_layout.specs.declared.config.Config.{Config}
@@ -31,6 +31,7 @@ use Rattle.bz_split.specs.BelowSplits.{parent_freezing, below_swap}
 use Rattle.bz_split.specs.Facts.{StoodFresh}
 use Rattle.bz_merge.specs.Facts.{MERGE_WORDS, MERGE_LINES, IsMerging, WasMerged, merge_asks, merge_facts, merge_change}
 use Rattle.bz_merge.specs.Merges.{MergesAreGood, StoodFrozen}
+use Rattle.bz_merge.specs.OwnFreezes.{FrozeAfter, FrozeViewed}
 use Rattle.bz_merge.specs.Plans.{Merging, merge_nodes, viewed_leaf, beside_leaf, first_of, second_of, IsPlanned}
 use Rattle.bz_merge.specs.Siblings.{SeenLeaf, WasParentNode}
 use Rattle.bz_merge.specs.declared.phase.Phase.{Phase}
@@ -38,6 +39,7 @@ use Rattle.bz_merge.specs.declared.phase.Phase.TheVariants.{Fresh, Word, Again, 
 use Rattle.bz_merge.proofs.Asking.{own-once, other-once}
 use Rattle.bz_merge.proofs.Freezing.{Laws as Freezes, SeenOnce, was-leaf, now-frozen}
 use Rattle.bz_merge.proofs.Lasting.{parent-stays, joined-stays, planned-stays, frozen-stays, tried-stays, seen-stays}
+use Rattle.bz_merge.proofs.OwnFreezes.{froze-now}
 use Rattle.bz_merge.proofs.Readying.{fresh, is-merge}
 use Rattle.bz_merge.proofs.Staying.{both-stay, own-later, other-later}
 
@@ -54,7 +56,7 @@ freeze-effect law c l s y entries same good o thawed e stand swaps =
 pub effect : MergesAreGood → FreezesAreGood → ChildrenJoin → (c : Config) (r : Merging) (phase : Phase) (s : Scene) (y : Instant) (entries : List Entry) → s.past.config ≡ c → merge_facts r phase Waiting s → IsScene s → merge_asks c r phase ≡ Some (Swaps_for entries) → Stand entries (here s)
     → SwapsTo s.past.config entries (here s) y → IsGoodSwap false merge_change entries s y
 effect law freezes joins c r Freeze s y entries same f good e stand swaps = freeze-effect freezes c (viewed_leaf r) s y entries same good (own-once r s.past f.1.0) f.1.1 e stand swaps
-effect law freezes joins c r FreezeBeside s y entries same f good e stand swaps = freeze-effect freezes c (beside_leaf r) s y entries same good (other-once r s.past f.1.0) f.1.1.1 e stand swaps
+effect law freezes joins c r FreezeBeside s y entries same f good e stand swaps = freeze-effect freezes c (beside_leaf r) s y entries same good (other-once r s.past f.1.0) f.1.1.1.0 e stand swaps
 effect law freezes joins c r Swap s y entries same f good e stand swaps =
     let is : below_swap s.past.config r.upper r.lower (r.slot 0) ≡ entries = ap (λ (z : Config). below_swap z r.upper r.lower (r.slot 0)) same ∙ same-entries (below_swap c r.upper r.lower (r.slot 0)) entries e in
     subst (λ z. IsGoodSwap false merge_change z s y) is
@@ -251,16 +253,25 @@ freeze-took laws c l s after entries same good later o thawed e stand takes =
     let is : entry_of s.past.config l.slot l.status ∷ [] ≡ entries = ap (λ (z : Config). entry_of z l.slot l.status ∷ []) same ∙ same-entries (entry_of c l.slot l.status ∷ []) entries e in
     now-frozen laws s after l good later o thawed (subst (λ z. Stand z (here s)) (sym is) stand) (subst (λ (z : List Entry). Takes false z s after) (sym is) takes)
 
+-- and left all but the status of its leaf
+freeze-froze : (r : Merging) (c : Config) (l : SeenLeaf) (s after : Scene) (entries : List Entry) → s.past.config ≡ c → IsScene s → IsPlanned r s.past → (status l.status).frozen ≡ false → Some (Swaps_for (entry_of c l.slot l.status ∷ [])) ≡ Some (Swaps_for entries) → Takes false entries s after → FrozeAfter r l s after.past
+freeze-froze r c l s after entries same good plan thawed e takes =
+    let is : entry_of s.past.config l.slot l.status ∷ [] ≡ entries = ap (λ (z : Config). entry_of z l.slot l.status ∷ []) same ∙ same-entries (entry_of c l.slot l.status ∷ []) entries e in
+    froze-now r l s after good plan thawed (subst (λ (z : List Entry). Takes false z s after) (sym is) takes)
+
 pub took : LinksMayBeTurned → Freezes → ChildrenJoin → (c : Config) (r : Merging) (phase : Phase) (s after : Scene) (entries : List Entry) → s.past.config ≡ c → merge_facts r phase Waiting s → IsScene s → IsScene after → merge_asks c r phase ≡ Some (Swaps_for entries) → Stand entries (here s) → Takes false entries s after
     → merge_facts r phase Took after
 took may freezes joins c r Freeze s after entries same f good later e stand takes =
-    (filled-after s after f.0 takes, (planned-stays s.past after.past takes.continues r f.1.0, freeze-took freezes c (viewed_leaf r) s after entries same good later (own-once r s.past f.1.0) f.1.1 e stand takes))
+    let own : StoodFrozen r.lower.slot r.leaf after.past = freeze-took freezes c (viewed_leaf r) s after entries same good later (own-once r s.past f.1.0) f.1.1 e stand takes in
+    let froze : FrozeViewed r after.past = record { before = s; froze = freeze-froze r c (viewed_leaf r) s after entries same good f.1.0 f.1.1 e takes } in
+    (filled-after s after f.0 takes, (planned-stays s.past after.past takes.continues r f.1.0, (own, inr froze)))
 took may freezes joins c r FreezeBeside s after entries same f good later e stand takes = (
   filled-after s after f.0 takes,
   record {
     planned = planned-stays s.past after.past takes.continues r f.1.0;
     own = frozen-stays s.past after.past takes.continues r.lower.slot r.leaf f.1.1.0;
-    other = freeze-took freezes c (beside_leaf r) s after entries same good later (other-once r s.past f.1.0) f.1.1.1 e stand takes;
+    other = freeze-took freezes c (beside_leaf r) s after entries same good later (other-once r s.past f.1.0) f.1.1.1.0 e stand takes;
+    froze = inr (record { before = s; froze = freeze-froze r c (beside_leaf r) s after entries same good f.1.0 f.1.1.1.0 e takes; viewed = f.1.1.1.1 });
   },
 )
 took may freezes joins c r Swap s after entries same f good later e stand takes =

@@ -92,7 +92,7 @@ freeze-asked fronts codec s l good o = record {
 set-one : (e : Entry) (f : ℕ → ℕ) (a : ℕ) → e.target ≡ a → swapped (e ∷ []) f a ≡ e.new
 set-one e f a h = let t : (e.target == a) ≡ true = grind (arith, nat_tests) in rw t refl
 
-leave-one : (e : Entry) (f : ℕ → ℕ) (a : ℕ) → e.target ≢ a → swapped (e ∷ []) f a ≡ f a
+pub leave-one : (e : Entry) (f : ℕ → ℕ) (a : ℕ) → e.target ≢ a → swapped (e ∷ []) f a ≡ f a
 leave-one e f a h = let t : (e.target == a) ≡ false = grind (arith, nat_tests) in rw t refl
 
 module _ (b : Laws) (s after : Scene) (l : SeenLeaf) (good : IsScene s) (later : IsScene after) (o : SeenOnce l s.past) (thaw : (status l.status).frozen ≡ false) (stand : Stand (entry_of s.past.config l.slot l.status ∷ []) (here s)) (t : Takes false (entry_of s.past.config l.slot l.status ∷ []) s after) where

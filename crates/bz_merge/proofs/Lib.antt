@@ -5,8 +5,9 @@ mod Merging
 mod ReadingParents
 mod ReadingLeaves
 mod Lasting
-mod Staying
 mod Freezing
+mod OwnFreezes
+mod Staying
 mod Asking
 mod Readying
 mod Acting

@@ -25,7 +25,9 @@ use Rattle.bz_renew.proofs.NodeWrites.{nodes-taken, none-begun}
 use Rattle.bz_renew.proofs.Plainness.{IsPlain, inner-plain}
 use Rattle.bz_merge.specs.Decisions.{MayMerge, HasBegun, HasLooked}
 use Rattle.bz_merge.specs.Facts.{AreFrozen, IsMerging, merge_asks, merge_end, merge_facts, merge_differs}
-use Rattle.bz_merge.specs.Plans.{Merging, merge_nodes, IsPaired, IsPlanned}
+use Rattle.bz_merge.specs.OwnFreezes.{FrozeAfter, ViewedWasFrozen, BothWereFrozen}
+use Rattle.bz_merge.specs.Plans.{Merging, merge_nodes, viewed_leaf, beside_leaf, IsPaired, IsPlanned}
+use Rattle.bz_merge.specs.Siblings.{SeenLeaf}
 use Rattle.bz_merge.specs.declared.phase.Phase.{Phase}
 use Rattle.bz_merge.specs.declared.phase.Phase.TheVariants.{Fresh, Word, Again, Beside, Parent, Still, Freeze, FreezeBeside, Guard, Store, Flush, Swap, Done, Restart, NoNeighbour, NoSlot, NoSwap}
 use Rattle.bz_merge.proofs.Reading.{answered}
@@ -77,8 +79,20 @@ same-plan r slot image p f = record {
   room = f.room;
 }
 
+-- its freezes too were planned
+same-froze : (r : Merging) (slot : ℕ → ℕ) (image : ℕ → List ℕ) (l : SeenLeaf) (s : Scene) (p : Past) → FrozeAfter r l s p → FrozeAfter (with_nodes r slot image) l s p
+same-froze r slot image l s p f = record { thawed = f.thawed; planned = same-plan r slot image s.past f.planned; earlier = f.earlier; effects = f.effects; others = f.others }
+
+same-viewed : (r : Merging) (slot : ℕ → ℕ) (image : ℕ → List ℕ) (p : Past) → ViewedWasFrozen r p → ViewedWasFrozen (with_nodes r slot image) p
+same-viewed r slot image p (inl e) = inl e
+same-viewed r slot image p (inr f) = inr (record { before = f.before; froze = same-froze r slot image (viewed_leaf r) f.before p f.froze })
+
+same-both : (r : Merging) (slot : ℕ → ℕ) (image : ℕ → List ℕ) (p : Past) → BothWereFrozen r p → BothWereFrozen (with_nodes r slot image) p
+same-both r slot image p (inl e) = inl (e.0, same-viewed r slot image p e.1)
+same-both r slot image p (inr f) = inr (record { before = f.before; froze = same-froze r slot image (beside_leaf r) f.before p f.froze; viewed = same-viewed r slot image f.before.past f.viewed })
+
 same-frozen : (r : Merging) (slot : ℕ → ℕ) (image : ℕ → List ℕ) (p : Past) → AreFrozen r p → AreFrozen (with_nodes r slot image) p
-same-frozen r slot image p f = record { planned = same-plan r slot image p f.planned; own = f.own; other = f.other }
+same-frozen r slot image p f = record { planned = same-plan r slot image p f.planned; own = f.own; other = f.other; froze = same-both r slot image p f.froze }
 
 guard-waits : (r : Merging) (stage : Stage) (s : Scene) → merge_facts r Guard stage s → HasFilled s × AreFrozen r s.past
 guard-waits r Waiting s f = f

@@ -237,10 +237,10 @@ settled-learns b c r NoNeighbour side stage seen s same good h not_beside f t = 
 settled-learns b c r Freeze side stage seen s same good h not_beside f t = ((still-waits r stage s f).0, (planned b c r stage seen s same good f t h.0 h.1.0, h.1.1))
 settled-learns b c r FreezeBeside side stage seen s same good h not_beside f t =
     let p : IsPlanned r s.past = planned b c r stage seen s same good f t h.0 h.1.0 in
-    ((still-waits r stage s f).0, (p, (seen-frozen s (viewed_leaf r) good (own-once r s.past p) h.1.1.0, h.1.1.1)))
+    ((still-waits r stage s f).0, (p, (seen-frozen s (viewed_leaf r) good (own-once r s.past p) h.1.1.0, (h.1.1.1, inl h.1.1.0))))
 settled-learns b c r Guard side stage seen s same good h not_beside f t =
     let p : IsPlanned r s.past = planned b c r stage seen s same good f t h.0 h.1.0 in
-    ((still-waits r stage s f).0, record { planned = p; own = seen-frozen s (viewed_leaf r) good (own-once r s.past p) h.1.1.0; other = seen-frozen s (beside_leaf r) good (other-once r s.past p) h.1.1.1 })
+    ((still-waits r stage s f).0, record { planned = p; own = seen-frozen s (viewed_leaf r) good (own-once r s.past p) h.1.1.0; other = seen-frozen s (beside_leaf r) good (other-once r s.past p) h.1.1.1; froze = inl (h.1.1.1, inl h.1.1.0) })
 settled-learns b c r Restart side stage seen s same good h not_beside f t = (still-waits r stage s f).0
 settled-learns b c r (Beside i) side stage seen s same good h not_beside f t = absurd (not_beside i refl)
 settled-learns b c r Fresh side stage seen s same good h not_beside f t = absurd (h)

@@ -29,6 +29,7 @@ use Rattle.bz_renew.specs.Writing.{NODE_LINES}
 use Rattle.bz_split.specs.BelowSplits.{below_swap}
 use Rattle.bz_split.specs.Facts.{StoodFresh}
 use Rattle.bz_merge.specs.Merges.{StoodFrozen}
+use Rattle.bz_merge.specs.OwnFreezes.{ViewedWasFrozen, BothWereFrozen}
 use Rattle.bz_merge.specs.Plans.{Merging, merge_nodes, viewed_leaf, beside_leaf, first_of, second_of, IsPair, LackedAt, IsTried, IsReadingParent, IsPaired, IsReadingBeside, IsChecked, IsPlanned}
 use Rattle.bz_merge.specs.Siblings.{WasParentNode, IsChildAt, SeenLeaf, WasSeen}
 use Rattle.bz_merge.specs.declared.phase.Phase.{Phase}
@@ -137,11 +138,12 @@ OwnIsFrozen r p = StoodFrozen r.lower.slot r.leaf p
 abbrev pub OtherIsFrozen : Merging → Past → Type 0
 OtherIsFrozen r p = StoodFrozen r.beside_slot r.beside p
 
--- both are frozen
+-- both are frozen, each since it was read, or by the merge itself
 pub record AreFrozen (r : Merging) (p : Past) : Type 0 where
   pub planned : IsPlanned r p
   pub own : OwnIsFrozen r p
   pub other : OtherIsFrozen r p
+  pub froze : BothWereFrozen r p
 
 -- since both were frozen the upper guard was looked at again, and was as the path names it; the two nodes are being written, the
 -- first of them the new parent: so many of their words are stored, and so many of their lines durable. The upper link is no word of
@@ -208,8 +210,8 @@ merge_facts r (Beside i) Waiting s = HasFilled s × ((i < NODE_WORDS) × (IsPair
 merge_facts r Parent Waiting s = HasFilled s × (IsPaired r s.past × IsReadingBeside r.beside_slot r.beside NODE_WORDS s.past)
 merge_facts r Still Waiting s = HasFilled s × IsChecked r s.past
 merge_facts r Freeze Waiting s = HasFilled s × (IsPlanned r s.past × ((status r.status).frozen ≡ false))
-merge_facts r Freeze Took s = HasFilled s × (IsPlanned r s.past × OwnIsFrozen r s.past)
-merge_facts r FreezeBeside Waiting s = HasFilled s × (IsPlanned r s.past × (OwnIsFrozen r s.past × ((status (slice_index r.beside STATUS_AT)).frozen ≡ false)))
+merge_facts r Freeze Took s = HasFilled s × (IsPlanned r s.past × (OwnIsFrozen r s.past × ViewedWasFrozen r s.past))
+merge_facts r FreezeBeside Waiting s = HasFilled s × (IsPlanned r s.past × (OwnIsFrozen r s.past × (((status (slice_index r.beside STATUS_AT)).frozen ≡ false) × ViewedWasFrozen r s.past)))
 merge_facts r FreezeBeside Took s = HasFilled s × AreFrozen r s.past
 merge_facts r Guard Waiting s = HasFilled s × AreFrozen r s.past
 merge_facts r (Store j) Waiting s = HasFilledBegun (merge_nodes r) j s × ((j < MERGE_WORDS) × IsMerging r j 0 s)

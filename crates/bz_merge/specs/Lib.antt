@@ -3,6 +3,7 @@ pub mod Duties
 pub mod Facts
 pub mod FreeWords
 pub mod Merges
+pub mod OwnFreezes
 pub mod Plans
 pub mod Siblings
 pub mod Thawed
