@@ -17,6 +17,8 @@ mod LastLinks
 mod Reading
 mod Finding
 mod Changing
+mod Named
+mod OwnFreezes
 mod Merging
 mod Tasks
 mod Trees

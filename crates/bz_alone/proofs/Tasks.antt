@@ -4,7 +4,7 @@ use Rattle.bz_running.specs.declared.running.Running.TheVariants.{Seeking, Findi
 use Rattle.bz_alone.specs.Changes.{InsertsGoOn, UpdatesGoOn, MergesGoOn}
 use Rattle.bz_alone.specs.Laws.{FreezesGoOn, DeletesGoOn, ConsolidationsGoOn, RootSplitsGoOn, SplitsBelowGoOn, InnerSplitsGoOn, InnerRootSplitsGoOn}
 use Rattle.bz_alone.specs.Lookups.{SeeksGoOn, FindsGoOn, ReadingsGoOn}
-use Rattle.bz_alone.specs.Made.{made_of, KnowsBesides}
+use Rattle.bz_alone.specs.Made.{made_of}
 use Rattle.bz_alone.specs.Tasks.{LonersGoOn}
 
 pub record Kinds : Type 0 where
@@ -23,17 +23,17 @@ pub record Kinds : Type 0 where
   pub merges : MergesGoOn
 
 pub loners-go-on : Kinds → LonersGoOn
-unfolding config_of asks_of facts_of differs_of made_of KnowsBesides
-loners-go-on b (Seeking t) s same good f k a = b.seeks t s same good f a
-loners-go-on b (Finding t) s same good f k a = b.finds t s same good f a
-loners-go-on b (Reading t) s same good f k a = b.readings t s same good f a
-loners-go-on b (Inserting t) s same good f k a = b.inserts t s same good f a
-loners-go-on b (Updating t) s same good f k a = b.updates t s same good f a
-loners-go-on b (Deleting t) s same good f k a = b.deletes t s same good f a
-loners-go-on b (Freezing t) s same good f k a = b.freezes t s same good f a
-loners-go-on b (Consolidating t) s same good f k a = b.consolidations t s same good f a
-loners-go-on b (Splitting t) s same good f k a = b.root_splits t s same good f a
-loners-go-on b (SplittingBelow t up) s same good f k a = b.splits_below t s same good f.0 a
-loners-go-on b (SplittingInner t up) s same good f k a = b.inner_splits t s same good f.0 a
-loners-go-on b (SplittingInnerRoot t up) s same good f k a = b.inner_root_splits t s same good f.0 a
-loners-go-on b (Merging t) s same good f k a = b.merges t s same good f k a
+unfolding config_of asks_of facts_of differs_of made_of
+loners-go-on b (Seeking t) s same good f a = b.seeks t s same good f a
+loners-go-on b (Finding t) s same good f a = b.finds t s same good f a
+loners-go-on b (Reading t) s same good f a = b.readings t s same good f a
+loners-go-on b (Inserting t) s same good f a = b.inserts t s same good f a
+loners-go-on b (Updating t) s same good f a = b.updates t s same good f a
+loners-go-on b (Deleting t) s same good f a = b.deletes t s same good f a
+loners-go-on b (Freezing t) s same good f a = b.freezes t s same good f a
+loners-go-on b (Consolidating t) s same good f a = b.consolidations t s same good f a
+loners-go-on b (Splitting t) s same good f a = b.root_splits t s same good f a
+loners-go-on b (SplittingBelow t up) s same good f a = b.splits_below t s same good f.0 a
+loners-go-on b (SplittingInner t up) s same good f a = b.inner_splits t s same good f.0 a
+loners-go-on b (SplittingInnerRoot t up) s same good f a = b.inner_root_splits t s same good f.0 a
+loners-go-on b (Merging t) s same good f a = b.merges t s same good f a

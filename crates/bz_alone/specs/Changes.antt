@@ -1,6 +1,6 @@
 -- Tasks that ask for more than one swap go on where their worker is alone; after their first one too, as what they know of the words that
--- they still name is of a moment after its effect. Of a merge this is a premise.
-use Rattle.std.specs.Prelude.{◌≡◌, ℕ, List}
+-- they still name is of a moment after its effect.
+use Rattle.std.specs.Prelude.{ℕ, List}
 use Rattle.bz_word.specs.declared.meta.Extent.{Extent}
 use Rattle.bz_insert.specs.Duties as insert
 use Rattle.bz_insert.specs.declared.insert.Insert.{Insert}
@@ -13,10 +13,10 @@ use Rattle.bz_record.specs.Records.{Fits}
 use Rattle.bz_record.specs.Replacing.{replacement, WasGrown}
 use Rattle.bz_record.specs.Swaps.{entries_of, publication}
 use Rattle.bz_record.specs.declared.new_record.NewRecord.{NewRecord}
-use Rattle.bz_task.specs.Scene.{Scene, Waiting, IsScene, here}
+use Rattle.bz_task.specs.Scene.{Scene, IsScene, here}
 use Rattle.bz_task.specs.Swaps.{Stand}
-use Rattle.bz_alone.specs.Alone.{IsAlone, GoesOn, GoesOnAlone}
-use Rattle.bz_alone.specs.Made.{made_by_insert, made_by_update, made_by_merge, HasSeenFreezes}
+use Rattle.bz_alone.specs.Alone.{IsAlone, GoesOnAlone}
+use Rattle.bz_alone.specs.Made.{made_by_insert, made_by_update, made_by_merge}
 
 abbrev pub InsertsGoOn : Type 0
 InsertsGoOn = (t : Insert) → GoesOnAlone (made_by_insert t.phase) t.config (insert.asks_of t) (insert.facts_of t) (λ seen. ⊥)
@@ -26,9 +26,7 @@ UpdatesGoOn = (t : Update) → GoesOnAlone (made_by_update t.phase) t.config (up
 
 -- a merge, which may freeze the two leaves before its swap
 abbrev pub MergesGoOn : Type 0
-MergesGoOn =
-    (t : Merge) (s : Scene) → s.past.config ≡ t.config → IsScene s → merge.facts_of t Waiting s → HasSeenFreezes (merge.merging_of t) (made_by_merge (merge.merging_of t) t.phase) s.past →
-    IsAlone (made_by_merge (merge.merging_of t) t.phase) s.past → GoesOn (merge.asks_of t) (merge.differs_of t) s
+MergesGoOn = (t : Merge) → GoesOnAlone (made_by_merge (merge.merging_of t) t.phase) t.config (merge.asks_of t) (merge.facts_of t) (merge.differs_of t)
 
 -- the second swaps alone
 abbrev pub PublicationsStand : Type 0

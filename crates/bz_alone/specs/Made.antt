@@ -1,5 +1,5 @@
--- How many of its swaps a task that goes on was told to have taken effect, and what a merge's facts would have to say besides of what they left.
-use Rattle.std.specs.Prelude.{◌≡◌, ℕ, ◌+◌, ◌<◌, ◌⊎◌, if◌then◌else◌, slice_index}
+-- How many of its swaps a task that goes on was told to have taken effect.
+use Rattle.std.specs.Prelude.{ℕ, ◌+◌, if◌then◌else◌, slice_index}
 use Rattle.bz_layout.specs.declared.sizes.TheConstants.{STATUS_AT}
 use Rattle.bz_word.specs.Statuses.{status}
 use Rattle.bz_insert.specs.declared.phase.Phase.{Phase as InsertPhase}
@@ -11,10 +11,7 @@ use Rattle.bz_mutate.specs.declared.update_phase.UpdatePhase.{UpdatePhase}
 use Rattle.bz_mutate.specs.declared.update_phase.UpdatePhase.TheVariants.{Store as StoresAnew, Flush as FlushesAnew, Replace}
 use Rattle.bz_running.specs.declared.running.Running.{Running}
 use Rattle.bz_running.specs.declared.running.Running.TheVariants.{Inserting, Updating, Merging}
-use Rattle.bz_task.specs.Instant.{words}
-use Rattle.bz_task.specs.Scene.{Past}
 use Rattle.bz_merge.specs.Duties.{merging_of}
-use Rattle.bz_alone.specs.Quiet.{HadEffects}
 
 -- an insert and an update have made their first swap from the first store on
 abbrev pub made_by_insert : InsertPhase → ℕ
@@ -50,22 +47,3 @@ made_of (Inserting t) = made_by_insert t.phase
 made_of (Updating t) = made_by_update t.phase
 made_of (Merging t) = made_by_merge (merging_of t) t.phase
 made_of t = 0
-
--- at a moment after so many effects the words that a merge still names were as it had read them: the upper link and its guard, the
--- parent's status and, until the merge has frozen it too, the neighbour's
-pub record StoodAfter (r : MergeParts) (made : ℕ) (p : Past) : Type 0 where
-  pub moment : ℕ
-  pub had : HadEffects made moment p
-  pub link : (p.at moment).value r.upper.link ≡ r.upper.slot + 1
-  pub guard : (p.at moment).value r.upper.guard ≡ r.upper.status
-  pub parent : (p.at moment).value r.lower.guard ≡ r.lower.status
-  pub beside : made < both_freezes r → words p.config (p.at moment) r.beside_slot STATUS_AT ≡ slice_index r.beside STATUS_AT
-
--- it has frozen nothing, or its own freezes left those words
-abbrev pub HasSeenFreezes : MergeParts → ℕ → Past → Type 0
-HasSeenFreezes r made p = (made ≡ 0) ⊎ StoodAfter r made p
-
--- what the facts of a merge do not say yet: what its own freezes left
-unfoldable pub KnowsBesides : Running → Past → Type 0
-KnowsBesides (Merging t) p = HasSeenFreezes (merging_of t) (made_by_merge (merging_of t) t.phase) p
-KnowsBesides t p = Unit {0}

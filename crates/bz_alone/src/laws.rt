@@ -220,9 +220,12 @@ pub fn replacements_stand()
 pub fn merges_go_on()
     ensures { MergesGoOn }
 {
+    effects_never_fall();
     read_values_stand();
     lonely_times_are_quiet();
+    bz_layout::slots_apart();
     task::fronts_stay();
+    task::headers_say_the_level();
     task::leaves_are_in_trees();
     slotted::leaf_rules_are_facts();
 }
