@@ -1,4 +1,4 @@
-//! A world over an image, its steps up to a flush, whole calls, and what is found in it.
+//! A world over an image, its steps up to a flush, whole calls, evictions, and what is found in it.
 
 use super::images::{NODES, SWAPS};
 use bz_call::{Call, Reply};
@@ -72,12 +72,46 @@ pub(super) fn steps(world: &mut World, w: u8, flush: u8) -> Option<Applied> {
     Some(Applied::Stepped)
 }
 
+/// Begins a call of worker 1.
+pub(super) fn begin(rt: &impl Abort, world: &mut World, call: &Call) {
+    assert!(rt; matches!(world.begin(1, *call), Begun::Begun(_)));
+}
+
 /// Begins a call of worker 1, and makes its steps up to the flush with this number: none. Where it has fewer flushes, its reply.
 pub(super) fn call(rt: &impl Abort, world: &mut World, call: &Call, flush: u8) -> Option<Reply> {
-    assert!(rt; matches!(world.begin(1, *call), Begun::Begun(_)));
+    begin(rt, world, call);
     match steps(world, 1, flush)? {
         Applied::Ended(n) => world.reply(1, n),
         _ => None,
+    }
+}
+
+/// So many steps of worker 1, or fewer where its call has ended: its reply.
+pub(super) fn acts(world: &mut World, most: u16) -> Option<Reply> {
+    for _ in 0..most {
+        if let Applied::Ended(n) = world.apply(Event::Step(1)) {
+            return world.reply(1, n);
+        }
+    }
+    None
+}
+
+// Whether a power cut would change the word at an address.
+fn differs(world: &World, a: u32) -> bool {
+    a < world.config().words() && world.differs(a)
+}
+
+/// The words that a power cut would change become durable, each where the next draw of the generator is high.
+pub(super) fn evict(world: &mut World, seed: u64) {
+    let mut state = seed;
+    for a in 0..world.config().words() {
+        if differs(world, a) {
+            let product = state.wrapping_mul(6_364_136_223_846_793_005);
+            state = product.wrapping_add(1_442_695_040_888_963_407);
+            if state >> 63 == 1 {
+                world.apply(Event::Evict(a));
+            }
+        }
     }
 }
 

@@ -13,16 +13,16 @@ const CUTS: u8 = 120;
 
 const AGAIN: u8 = 20;
 
-// How a call may end.
+/// How a call may end.
 #[derive(Clone, Copy, Debug, PartialEq, Eq, PartialOrd)]
-enum Verdict {
+pub(super) enum Verdict {
     Lost,
     Kept,
     Answered,
 }
 
-// The verdict of what is found after a call with this reply, or with none.
-fn verdict_of(row: &Row, reply: Option<Reply>, found: &Found) -> Option<Verdict> {
+/// The verdict of what is found after a call with this reply, or with none.
+pub(super) fn verdict_of(row: &Row, reply: Option<Reply>, found: &Found) -> Option<Verdict> {
     match reply {
         Some(reply) if *found == row.kept && answer_of(&reply) == row.answer => {
             Some(Verdict::Answered)
