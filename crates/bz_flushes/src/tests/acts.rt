@@ -10,7 +10,7 @@ use std::test::Fail;
 // More acts than any of the calls makes.
 const MOST: u16 = 1_000;
 
-// A recovery makes so many flushes at most.
+// A recovery is cut before one of its first so many flushes.
 const FLUSHES: u16 = 9;
 
 // How the call ends over the image, cut after so many acts; and its recovery before a flush, or at its end for 0.
