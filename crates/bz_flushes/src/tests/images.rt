@@ -1,20 +1,19 @@
-//! Image files of eight node slots and sixteen descriptors, made word by word.
+//! Memories of eight node slots and sixteen descriptors, made word by word.
 
+use bz_layout::{NODE_WORDS, SUPERBLOCK_WORDS, SWAP_WORDS};
 use std::alloc::Global;
 use std::test::Fail;
 
+/// The node slots.
+pub(super) const NODES: u32 = 8;
+
+/// The descriptors.
+pub(super) const SWAPS: u32 = 16;
+
 // Words before the first node: the superblock and the descriptors.
-const BEFORE: u32 = 16 + 16 * 16;
+const BEFORE: u32 = SUPERBLOCK_WORDS + SWAPS * SWAP_WORDS;
 
-const NODE_WORDS: u32 = 128;
-
-/// The words of the memory.
-const WORDS: u32 = BEFORE + 8 * NODE_WORDS;
-
-// Of the file: eight bytes of name, the version, and the numbers of nodes and descriptors.
-const HEAD: [u8; 20] = [
-    0x42, 0x5A, 0x49, 0x4D, 0x41, 0x47, 0x45, 0x0A, 1, 0, 0, 0, 8, 0, 0, 0, 16, 0, 0, 0,
-];
+const WORDS: u32 = BEFORE + NODES * NODE_WORDS;
 
 const VISIBLE: u64 = 1 << 60;
 
@@ -24,31 +23,28 @@ const FROZEN: u64 = 1 << 60;
 const K21: u64 = 0x006B_3231_0000_0000;
 
 // Writes a word at an address of the memory.
-fn put(file: &mut Vec<u8>, at: u32, word: u64) {
-    let from = HEAD.len() + at as usize * 8;
-    for (number, byte) in word.to_le_bytes().iter().enumerate() {
-        if let Some(place) = file.get_mut(from + number) {
-            *place = *byte;
-        }
+fn put(words: &mut Vec<u64>, at: u32, word: u64) {
+    if let Some(place) = words.get_mut(at as usize) {
+        *place = word;
     }
 }
 
 // Writes a word of a slot.
-fn put_in(file: &mut Vec<u8>, slot: u8, place: u8, word: u64) {
-    put(file, BEFORE + slot as u32 * NODE_WORDS + place as u32, word);
+fn put_in(words: &mut Vec<u64>, slot: u8, place: u8, word: u64) {
+    put(
+        words,
+        BEFORE + slot as u32 * NODE_WORDS + place as u32,
+        word,
+    );
 }
 
-// The file of a memory whose root is slot 0.
-fn memory(alloc: Global) -> Result<Vec<u8>, Fail> {
-    let mut file: Vec<u8> = Vec::new(alloc);
-    file.extend_from_slice(&HEAD)?;
-    for _ in 0..WORDS * 8 {
-        file.push(0)?;
+// The words of a memory whose root is slot 0.
+fn memory(alloc: Global) -> Result<Vec<u64>, Fail> {
+    let mut words = vec![in alloc; 0u64; WORDS as usize]?;
+    for (at, word) in [(0, 1), (1, 1), (3, NODES), (4, SWAPS)] {
+        put(&mut words, at, word as u64);
     }
-    for (at, word) in [(0, 1), (1, 1), (3, 8), (4, 16)] {
-        put(&mut file, at, word);
-    }
-    Ok(file)
+    Ok(words)
 }
 
 // The word of the key `k` and two digits.
@@ -58,36 +54,36 @@ fn key_word(number: u8) -> u64 {
 }
 
 // Puts the record of a key and the payload `v` into a leaf, as its so-many-th one.
-fn put_record(file: &mut Vec<u8>, slot: u8, place: u8, number: u8) {
+fn put_record(words: &mut Vec<u64>, slot: u8, place: u8, number: u8) {
     let offset = 126u8.saturating_sub(place.saturating_mul(2));
     let meta = VISIBLE + ((offset as u64) << 32) + 0x0003_0004;
-    put_in(file, slot, place.saturating_add(10), meta);
-    put_in(file, slot, offset, key_word(number));
-    put_in(file, slot, offset.saturating_add(1), 0x0076 << 48);
+    put_in(words, slot, place.saturating_add(10), meta);
+    put_in(words, slot, offset, key_word(number));
+    put_in(words, slot, offset.saturating_add(1), 0x0076 << 48);
 }
 
 // Puts a leaf without fences into a slot, with the keys of these numbers.
-fn put_leaf(file: &mut Vec<u8>, slot: u8, first: u8, count: u8) {
+fn put_leaf(words: &mut Vec<u64>, slot: u8, first: u8, count: u8) {
     for place in 0..count {
-        put_record(file, slot, place, first.saturating_add(place));
+        put_record(words, slot, place, first.saturating_add(place));
     }
     let (records, block) = (count as u64, count as u64 * 2);
-    put_in(file, slot, 0, (records << 52) + (block << 42));
-    put_in(file, slot, 1, records << 24);
+    put_in(words, slot, 0, (records << 52) + (block << 42));
+    put_in(words, slot, 1, records << 24);
 }
 
 /// A root leaf with `k01` to `k39`.
-pub(super) fn full_root(alloc: Global) -> Result<Vec<u8>, Fail> {
-    let mut file = memory(alloc)?;
-    put_leaf(&mut file, 0, 1, 39);
-    Ok(file)
+pub(super) fn full_root(alloc: Global) -> Result<Vec<u64>, Fail> {
+    let mut words = memory(alloc)?;
+    put_leaf(&mut words, 0, 1, 39);
+    Ok(words)
 }
 
 /// A root over a leaf with `k10` to `k20` and one with `k21` to `k30`.
-pub(super) fn two_leaves(alloc: Global) -> Result<Vec<u8>, Fail> {
-    let mut file = memory(alloc)?;
-    put_leaf(&mut file, 1, 10, 11);
-    put_leaf(&mut file, 2, 21, 10);
+pub(super) fn two_leaves(alloc: Global) -> Result<Vec<u64>, Fail> {
+    let mut words = memory(alloc)?;
+    put_leaf(&mut words, 1, 10, 11);
+    put_leaf(&mut words, 2, 21, 10);
     for (slot, place, word) in [
         // what the left leaf ends with, and the right one begins with
         (1, 1, (11 << 24) + (3 << 16)),
@@ -103,14 +99,14 @@ pub(super) fn two_leaves(alloc: Global) -> Result<Vec<u8>, Fail> {
         (0, 126, 3),
         (0, 127, 2),
     ] {
-        put_in(&mut file, slot, place, word);
+        put_in(&mut words, slot, place, word);
     }
-    Ok(file)
+    Ok(words)
 }
 
 /// A frozen root leaf with `a` and its payload `1`.
-pub(super) fn frozen_root(alloc: Global) -> Result<Vec<u8>, Fail> {
-    let mut file = memory(alloc)?;
+pub(super) fn frozen_root(alloc: Global) -> Result<Vec<u64>, Fail> {
+    let mut words = memory(alloc)?;
     for (place, word) in [
         (0, FROZEN + (1 << 52) + (2 << 42)),
         (1, 1 << 24),
@@ -118,7 +114,7 @@ pub(super) fn frozen_root(alloc: Global) -> Result<Vec<u8>, Fail> {
         (126, 0x0061 << 48),
         (127, 0x0031 << 48),
     ] {
-        put_in(&mut file, 0, place, word);
+        put_in(&mut words, 0, place, word);
     }
-    Ok(file)
+    Ok(words)
 }

@@ -1,0 +1,56 @@
+//! The same calls cut after each number of their acts, and their recoveries before a flush, with words evicted before both cuts.
+
+use super::bench::{acts, begin, booted, evict, find, recover};
+use super::rows::{Row, copy, merge, split};
+use super::table::{Verdict, verdict_of};
+use std::alloc::Global;
+use std::process::Abort;
+use std::test::Fail;
+
+// More acts than any of the calls makes.
+const MOST: u16 = 1_000;
+
+// A recovery is cut before one of its first so many flushes.
+const FLUSHES: u16 = 9;
+
+// How the call ends over the image, cut after so many acts; and its recovery before a flush, or at its end for 0.
+fn cut_after(rt: &impl Abort, alloc: Global, row: &Row, made: u16, again: u8) -> Option<Verdict> {
+    let mut world = booted(rt, alloc, &row.image);
+    recover(rt, &mut world, 0);
+    begin(rt, &mut world, &row.call);
+    let reply = acts(&mut world, made);
+    evict(&mut world, u64::from(made));
+    recover(rt, &mut world, again);
+    evict(&mut world, u64::from(again));
+    recover(rt, &mut world, 0);
+    let found = find(rt, &mut world, row.key);
+    verdict_of(row, reply, &found)
+}
+
+// With the call cut after so many acts, a cut of the recovery does not change how it ends.
+fn one_verdict(rt: &impl Abort, alloc: Global, row: &Row, made: u16) -> Option<Verdict> {
+    let first = cut_after(rt, alloc, row, made, 0);
+    assert!(rt; first.is_some(), "{}, cut after {made}", row.name);
+    let again = (made % FLUSHES) as u8 + 1;
+    let other = cut_after(rt, alloc, row, made, again);
+    assert_eq!(rt; other, first, "{}, cut after {made}", row.name);
+    first
+}
+
+// Each number of acts of a call over an image, up to the last one.
+fn each_act(rt: &impl Abort, alloc: Global, row: &Row) {
+    for made in 0..MOST {
+        if one_verdict(rt, alloc, row, made) == Some(Verdict::Answered) {
+            return;
+        }
+    }
+    panic!(rt; "{} does not end", row.name)
+}
+
+#[test]
+fn they_are_whole_or_nothing_after_each_act_with_evictions(rt: HostRuntime) -> Result<(), Fail> {
+    each_act(&rt, rt.alloc(), &split(&rt, rt.alloc())?);
+    each_act(&rt, rt.alloc(), &merge(&rt, rt.alloc())?);
+    each_act(&rt, rt.alloc(), &copy(&rt, rt.alloc())?);
+    Ok(())
+}
