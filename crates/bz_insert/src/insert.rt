@@ -70,6 +70,7 @@ impl Insert {
         requires known { IsKnown self.now.config (insert_facts self.now.added self.now.phase) (insert_asks self.now.config self.now.added self.now.phase) seen moment }
         ensures nearer { insert_left result < insert_left self.now.phase }
         ensures done { result ≡ Phase.Done → seen ≡ Swapped true }
+        ensures published { insert_publishes self.now.phase ≡ true → seen ≡ Swapped true → result ≡ Phase.Done }
         ensures restart { result ≡ Phase.Restart → seen ≡ Swapped false }
         ensures full { (result ≡ Phase.Full) ↔ (seen ≡ NoSwap) }
         ensures begun { result ≢ Phase.Fresh }

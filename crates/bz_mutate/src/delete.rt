@@ -10,7 +10,7 @@ ghost use Rattle.bz_task.specs.declared.todo.Seen.TheVariants.{Swapped, NoSwap};
 ghost use Rattle.bz_record.specs.declared.found_record.FoundRecord.{FoundRecord};
 ghost use Rattle.bz_mutate.specs.Viewed.{IsVisible, IsFound};
 ghost use Rattle.bz_mutate.specs.DeleteDuties.{config_of, asks_of, end_of, left_of, change_of, publishing_of, facts_of, means_of};
-ghost use Rattle.bz_mutate.specs.DeleteFacts.{IsEndOfDelete, delete_asks, delete_left, delete_facts, IsFirst, IsReady};
+ghost use Rattle.bz_mutate.specs.DeleteFacts.{IsEndOfDelete, delete_asks, delete_left, delete_publishes, delete_facts, IsFirst, IsReady};
 
 use crate::delete_phase::DeletePhase;
 use bz_call::Spent;
@@ -81,6 +81,7 @@ impl Delete {
         requires known { IsKnown self.now.config (delete_facts self.now.key self.now.view self.now.phase) (delete_asks self.now.config self.now.view self.now.phase) seen moment }
         ensures nearer { delete_left result < delete_left self.now.phase }
         ensures done { result ≡ DeletePhase.Done → seen ≡ Swapped true }
+        ensures published { delete_publishes self.now.phase ≡ true → seen ≡ Swapped true → result ≡ DeletePhase.Done }
         ensures restart { result ≡ DeletePhase.Restart → seen ≡ Swapped false }
         ensures full { (result ≡ DeletePhase.Full) ↔ (seen ≡ NoSwap) }
         ensures begun { result ≢ DeletePhase.Fresh }

@@ -11,7 +11,7 @@ ghost use Rattle.bz_record.specs.Records.{words_for, size_of, HasRoom, LacksRoom
 ghost use Rattle.bz_record.specs.declared.found_record.FoundRecord.{FoundRecord};
 ghost use Rattle.bz_mutate.specs.Viewed.{IsVisible, IsFound};
 ghost use Rattle.bz_mutate.specs.UpdateDuties.{config_of, asks_of, end_of, left_of, change_of, publishing_of, facts_of, means_of};
-ghost use Rattle.bz_mutate.specs.UpdateFacts.{IsEndOfUpdate, update_asks, update_left, update_facts, IsFirst, IsReady, next_store, next_flush};
+ghost use Rattle.bz_mutate.specs.UpdateFacts.{IsEndOfUpdate, update_asks, update_left, update_publishes, update_facts, IsFirst, IsReady, next_store, next_flush};
 
 use crate::update_phase::UpdatePhase;
 use bz_call::Spent;
@@ -72,6 +72,7 @@ impl Update {
         requires known { IsKnown self.now.config (update_facts self.now.view self.now.added self.now.phase) (update_asks self.now.config self.now.added self.now.phase) seen moment }
         ensures nearer { update_left result < update_left self.now.phase }
         ensures done { result ≡ UpdatePhase.Done → seen ≡ Swapped true }
+        ensures published { update_publishes self.now.phase ≡ true → seen ≡ Swapped true → result ≡ UpdatePhase.Done }
         ensures restart { result ≡ UpdatePhase.Restart → seen ≡ Swapped false }
         ensures full { (result ≡ UpdatePhase.Full) ↔ (seen ≡ NoSwap) }
         ensures begun { result ≢ UpdatePhase.Fresh }

@@ -13,9 +13,10 @@ use Rattle.bz_task.specs.declared.todo.Outcome.TheVariants as outcome
 use Rattle.bz_task.specs.declared.todo.Seen.{Seen}
 use Rattle.bz_task.specs.declared.todo.Seen.TheVariants.{Swapped, NoSwap}
 use Rattle.bz_task.specs.declared.todo.Todo.{Todo}
+use Rattle.bz_task.specs.declared.todo.Todo.TheVariants.{Finish}
 use Rattle.bz_task.specs.declared.view.KeyView.{KeyView}
 use Rattle.bz_task.specs.declared.view.LeafView.{LeafView}
-use Rattle.bz_running.specs.Duties.{config_of, asks_of, end_of, left_of, needs_of, wants_of, change_of, ascent_of, facts_of, means_of, differs_of, makes_no_change}
+use Rattle.bz_running.specs.Duties.{config_of, asks_of, end_of, left_of, needs_of, wants_of, change_of, publishing_of, ascent_of, facts_of, means_of, differs_of, makes_no_change}
 use Rattle.bz_running.specs.declared.running.Running.{Running}
 
 -- a path or a view with which the task ends is one of this key; and with a view, of the leaf or of the key alone, this path, if there
@@ -40,6 +41,8 @@ pub record HasHeard (old : Running) (seen : Seen) (moment : ℕ) (free : FreeSlo
   pub meant : (o : Outcome) (s : Scene) → means_of new o s → means_of old o s
   pub slots : AreTakenFrom (needs_of old) (needs_of new) free left
   pub done : end_of new ≡ Some outcome.Done → seen ≡ Swapped true
+  -- the swap that makes the change is its last act, where it takes effect
+  pub published : publishing_of old ≡ true → seen ≡ Swapped true → asks_of new ≡ Some Finish
   pub restart : end_of new ≡ Some outcome.Restart → (seen ≡ Swapped false) ⊎ differs_of old seen
   pub no_swap : seen ≡ NoSwap → end_of new ≡ Some (outcome.Full Swaps)
   pub full_swaps : end_of new ≡ Some (outcome.Full Swaps) → seen ≡ NoSwap

@@ -356,7 +356,7 @@ impl Task for Running {
         }
     }
 
-    #[tactic(auto, unfolding(crate::specs::Duties::config_of, crate::specs::Duties::asks_of, crate::specs::Duties::end_of, crate::specs::Duties::left_of, crate::specs::Duties::needs_of, crate::specs::Duties::wants_of, crate::specs::Duties::change_of, crate::specs::Duties::facts_of, crate::specs::Duties::means_of, crate::specs::Duties::differs_of))]
+    #[tactic(auto, unfolding(crate::specs::Duties::config_of, crate::specs::Duties::asks_of, crate::specs::Duties::end_of, crate::specs::Duties::left_of, crate::specs::Duties::needs_of, crate::specs::Duties::wants_of, crate::specs::Duties::change_of, crate::specs::Duties::publishing_of, crate::specs::Duties::facts_of, crate::specs::Duties::means_of, crate::specs::Duties::differs_of))]
     fn next(&mut self, seen: Seen, slots: &mut Slots, moment: u32) -> Todo {
         match self {
             Running::Seeking(task) => task.next(seen, slots, moment),

@@ -77,6 +77,8 @@ pub trait Task: Drop {
         ensures slots { AreTakenFrom (needs self.old) (needs self.new) slots.old slots.new }
         // how it ends, and why
         ensures done { end self.new ≡ Some Done → seen ≡ Swapped true }
+        // the swap that makes the change is its last act, where it takes effect
+        ensures published { publishing self.old ≡ true → seen ≡ Swapped true → asks self.new ≡ Some Finish }
         ensures restart { end self.new ≡ Some Restart → (seen ≡ Swapped false) ⊎ differs self.old seen }
         ensures no_swap { seen ≡ NoSwap → end self.new ≡ Some (Full Swaps) }
         ensures full_swaps { end self.new ≡ Some (Full Swaps) → seen ≡ NoSwap }

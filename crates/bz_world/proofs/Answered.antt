@@ -1,7 +1,7 @@
 -- What a worker is told of an act at which no swap took effect: a read, a swap or a flush is answered, or goes on.
-use Rattle.std.proofs.Common.{◌≡◌, ◌≢◌, ℕ, suc, ◌*◌, ◌<◌, ◌==◌, if◌then◌else◌, Bool, true, false, List, ◌∷◌, length, slice_index, arith, refl, sym, ap, subst, ◌∙◌, inl, inr, Some, None}
+use Rattle.std.proofs.Common.{◌≡◌, ◌≢◌, ℕ, suc, ◌*◌, ◌<◌, ◌==◌, if◌then◌else◌, Bool, true, false, List, ◌∷◌, length, slice_index, arith, refl, sym, ap, subst, ◌∙◌, inl, inr, Some, None, Option, ◌⊎◌, is_some}
 use Rattle.std.specs.Prelude.{get_or}
-use Rattle.std.proofs.lemmas.Bool.{cases_eq}
+use Rattle.std.proofs.lemmas.Bool.{cases_eq, true≢false}
 use Rattle.std.proofs.lemmas.Bool.Decides.{nat_tests}
 use Rattle.std.proofs.lemmas.Grind.{common_steps}
 use Rattle.bz_acts.specs.declared.acted.Act.{Act}
@@ -10,7 +10,7 @@ use Rattle.bz_machine.specs.declared.done.Done.{Done}
 use Rattle.bz_machine.specs.declared.done.Done.TheVariants as done
 use Rattle.bz_mark.specs.Log.{with_mark}
 use Rattle.bz_mark.specs.MomentLaws.{mark_at-newest}
-use Rattle.bz_running.specs.Duties.{asks_of, facts_of}
+use Rattle.bz_running.specs.Duties.{asks_of, facts_of, publishing_of}
 use Rattle.bz_sight.specs.Passing.{AllStay}
 use Rattle.bz_sight.specs.Acts.{IsFlushing}
 use Rattle.bz_word.specs.declared.entry.Entry.{Entry}
@@ -20,7 +20,7 @@ use Rattle.bz_sound.specs.Calls.{Open}
 use Rattle.bz_story.specs.Laws.{HasBegun, goes_on}
 use Rattle.bz_story.specs.Living.{IsLiving}
 use Rattle.bz_story.specs.Story.{Story, scene, loaded, is_load_of}
-use Rattle.bz_swap.specs.SwapMemory.{Reading, Swapping, Storing, Flushing, doing_of, has_effect, words_of, value_at, is_named}
+use Rattle.bz_swap.specs.SwapMemory.{SwapMemory, Reading, Swapping, Storing, Flushing, doing_of, has_effect, words_of, value_at, is_named}
 use Rattle.bz_swap.specs.Steps.{AnswersRead}
 use Rattle.bz_acts.specs.Rule.{IsActOf}
 use Rattle.bz_cells.specs.Store.{is_outside}
@@ -36,10 +36,10 @@ use Rattle.bz_task.specs.Scene.{Scene, Stage, IsLawful, Waiting, Took}
 use Rattle.bz_task.specs.declared.todo.Seen.{Seen}
 use Rattle.bz_task.specs.declared.todo.Seen.TheVariants as seen
 use Rattle.bz_task.specs.declared.todo.Todo.TheVariants as todo
-use Rattle.bz_world.specs.Inside.Acted.{IsActed, IsTold}
+use Rattle.bz_world.specs.Inside.Acted.{IsActed, IsTold, HasWon}
 use Rattle.bz_world.specs.Inside.Kept.{IsAwake}
 use Rattle.bz_world.specs.Lab.{mark_of}
-use Rattle.bz_world.specs.Inside.Serving.{IsServing, IsSlot, stage_in}
+use Rattle.bz_world.specs.Inside.Serving.{IsServing, IsSlot, stage_in, MayGoOn, IsFinishing}
 use Rattle.bz_world.specs.declared.parts.Parts.{Parts}
 use Rattle.bz_world.specs.declared.serving.Serving.{Serving}
 use Rattle.bz_world.specs.Inside.Laws.{StepLaws}
@@ -60,6 +60,15 @@ outside-of c d (inr l) = grind (arith, common_steps)
 -- the last moment
 now-is : (at : ℕ → Instant) (n : ℕ) (y : Instant) → and_then at n y (suc n) ≡ y
 now-is at n y = let t : (suc n == suc n) ≡ true = grind (arith, nat_tests) in rw t refl
+
+-- what is no swap finishes no call whose change stands
+pub no-finish : (m : SwapMemory) (w : ℕ) (x : Serving) (what : Seen) → ((s : ℕ) → doing_of m w ≢ Swapping s) → MayGoOn x ⊎ IsFinishing m w x → MayGoOn x ⊎ HasWon x what
+no-finish m w x what none (inl may) = inl may
+no-finish m w x what none (inr f) = absurd (none f.swap f.doing)
+
+none-of : (o : Option ℕ) → is_some o ≡ false → o ≡ None
+none-of None e = refl
+none-of (Some at) e = absurd (true≢false e)
 
 -- an act that is no private store
 module _ (b : StepLaws) (old new : Parts) (w : ℕ) (x : Serving) (made : Act) (answer : Done) (k : IsAwake old) (is-worker : get_or old.workers.items w None ≡ Some x) (a : IsActed old w made answer None new) (room : length old.journal.past < old.config.marks)
@@ -107,13 +116,14 @@ module _ (b : StepLaws) (old new : Parts) (w : ℕ) (x : Serving) (made : Act) (
   knows = its.tasked.laws.stable (stage_in old.access (doing_of old.access w)) before later (sym its.tasked.config) its.facts later-seen.scene (lawful w its.opened (begun-in k.living its.call_open))
 
   -- and it is to be told
-  pub be-told : (stage : Stage) (what : Seen) → answer ≢ done.Busy → facts_of x.task stage later → Hears (asks_of x.task) what → Tells (asks_of x.task) stage what later → IsTold new w x what
-  be-told stage what ne facts hears tells = subst (λ p. IsTold p w x what) (sym a.rest) (record {
+  pub be-told : (stage : Stage) (what : Seen) → answer ≢ done.Busy → facts_of x.task stage later → MayGoOn x ⊎ HasWon x what → Hears (asks_of x.task) what → Tells (asks_of x.task) stage what later → IsTold new w x what
+  be-told stage what ne facts finished hears tells = subst (λ p. IsTold p w x what) (sym a.rest) (record {
     between = answered b old new w x made answer k is-worker a after room ne living k.free others;
     tasked = its.tasked;
     stage = stage;
     facts = facts;
     covered = its.covered;
+    finished = finished;
     hears = hears;
     tells = tells;
   })
@@ -149,6 +159,7 @@ module _ (b : StepLaws) (old new : Parts) (w : ℕ) (x : Serving) (made : Act) (
 
     pub told-read : answer ≡ done.Read v → IsTold new w x (seen.Read v)
     told-read e = be-told Waiting (seen.Read v) (λ f. absurd (cc (e, f))) (subst (λ z. facts_of x.task z later) (ap (stage_in old.access) reads) knows)
+        (no-finish old.access w x (seen.Read v) (λ s f. absurd (cc (reads, f))) its.finishing)
         (subst (λ z. Hears z (seen.Read v)) (sym (its.asks ∙ ap Some asked)) tt)
         (subst (λ z. Tells z Waiting (seen.Read v) later) (sym (its.asks ∙ ap Some asked)) answers)
 
@@ -161,8 +172,21 @@ module _ (b : StepLaws) (old new : Parts) (w : ℕ) (x : Serving) (made : Act) (
     stage-is : stage_in old.access (doing_of old.access w) ≡ (if has_effect old.access t then Took else Waiting)
     stage-is = ap (stage_in old.access) swaps
 
+    -- where the answer is false the swap has made no change
+    unmade : won ≡ false → publishing_of x.task ≡ true → x.effect ≡ None
+    unmade lost publishing =
+        let waits : stage_in old.access (doing_of old.access w) ≡ Waiting = stage-is ∙ ap (λ z. if z then Took else Waiting) (sym (a.step.effect.swaps t) ∙ (effect ∙ lost)) in
+        let none : is_some its.opened.effect ≡ false = its.tasked.laws.once before (subst (λ z. facts_of x.task z before) waits its.facts) publishing in
+        sym its.call_open.effect ∙ none-of its.opened.effect none
+
+    finishes : (z : Bool) → won ≡ z → MayGoOn x ⊎ IsFinishing old.access w x → MayGoOn x ⊎ HasWon x (seen.Swapped won)
+    finishes z e (inl may) = inl may
+    finishes true e (inr f) = inr (record { publishing = f.publishing; won = ap seen.Swapped e })
+    finishes false e (inr f) = inl (inl (unmade e f.publishing))
+
     pub told-swap : answer ≡ done.Swapped won → IsTold new w x (seen.Swapped won)
     told-swap e = be-told (if has_effect old.access t then Took else Waiting) (seen.Swapped won) (λ f. absurd (cc (e, f))) (subst (λ z. facts_of x.task z later) stage-is knows)
+        (finishes won refl its.finishing)
         (subst (λ z. Hears z (seen.Swapped won)) (sym (its.asks ∙ ap Some asked)) tt)
         (subst (λ z. Tells z (if has_effect old.access t then Took else Waiting) (seen.Swapped won) later) (sym (its.asks ∙ ap Some asked)) (stage-by (has_effect old.access t) (sym (a.step.effect.swaps t) ∙ effect)))
 
@@ -179,5 +203,6 @@ module _ (b : StepLaws) (old new : Parts) (w : ℕ) (x : Serving) (made : Act) (
 
     pub told-flush : IsTold new w x seen.Flushed
     told-flush = be-told Took seen.Flushed (λ f. absurd (cc (is-flushing.answer, f))) took
+        (no-finish old.access w x seen.Flushed (λ s f. absurd (cc (flushes, f))) its.finishing)
         (subst (λ z. Hears z seen.Flushed) (sym (its.asks ∙ ap Some asked)) tt)
         (subst (λ z. Tells z Took seen.Flushed later) (sym (its.asks ∙ ap Some asked)) tt)

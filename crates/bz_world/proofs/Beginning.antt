@@ -27,7 +27,7 @@ use Rattle.bz_swap.specs.SwapMemory.{SwapMemory, Working, Reading}
 use Rattle.bz_task.specs.Scene.{Scene, HasFilled, Waiting}
 use Rattle.bz_task.specs.declared.todo.Todo.TheVariants.{Read}
 use Rattle.bz_world.specs.Inside.Acted.{IsBetween}
-use Rattle.bz_world.specs.Inside.Beginning.{MayBegin, HasBegun, lab_of, pages_asked}
+use Rattle.bz_world.specs.Inside.Beginning.{MayBegin, HasBegun, lab_of, pages_asked, is_swap}
 use Rattle.bz_world.specs.Inside.Kept.{IsTabled, IsAwake}
 use Rattle.bz_world.specs.Inside.Laws.{EndLaws, StartLaws}
 use Rattle.bz_world.specs.Lab.{supply_by}
@@ -199,6 +199,7 @@ module _ (p : Parts) (k : IsAwake p) (w : ℕ) (call : Call) (may : MayBegin p w
         between = between;
         tasked = record { config = config; laws = laws; lookup = lookup; change = inl looks };
         asks = asks;
+        finished = inl (inl refl);
         facts = facts (scene p.config (mark ∷ p.journal.past) after w opened) none-taken;
         covered = none-unfilled (k.story.took w) (k.story.filled w) (needs_of task) (omega (arith, laws.few, laws.most)) at-rest.filled;
       };
@@ -209,9 +210,12 @@ module _ (p : Parts) (k : IsAwake p) (w : ℕ) (call : Call) (may : MayBegin p w
     has-begun new is holds = record {
       kept = read-kept s mid w 2 must-start new is holds;
       number = numbered;
-      after = ap (λ (m : SwapMemory). record (lab_of p) { log = with_mark p.journal mark; flushes = map (λ (v : Working). v.flush_next) m.workers; supply = supply_by p.power (record { taken = m.taken; left = length p.slots.free }) }) is
-          ∙ ap (λ fs. record (lab_of p) { log = with_mark p.journal mark; flushes = fs }) flushes;
+      after = ap (λ (m : SwapMemory). record (lab_of p) { log = with_mark p.journal mark; flushes = map (λ (v : Working). v.flush_next) m.workers; swapping = map (λ (v : Working). is_swap v.doing) m.workers; supply = supply_by p.power (record { taken = m.taken; left = length p.slots.free }) }) is
+          ∙ (λ t. record (lab_of p) { log = with_mark p.journal mark; flushes = flushes t; swapping = swapping t });
     }
       where
         flushes : map (λ (v : Working). v.flush_next) (started p.access w (Reading 2)).workers ≡ slice_set (map (λ (v : Working). v.flush_next) p.access.workers) w false
         flushes = map-set (λ (v : Working). v.flush_next) p.access.workers w (record { doing = Reading 2; flush_next = false })
+
+        swapping : map (λ (v : Working). is_swap v.doing) (started p.access w (Reading 2)).workers ≡ slice_set (map (λ (v : Working). is_swap v.doing) p.access.workers) w false
+        swapping = map-set (λ (v : Working). is_swap v.doing) p.access.workers w (record { doing = Reading 2; flush_next = false })

@@ -135,7 +135,7 @@ tells-nothing p w on had quiet at e = absurd (cc (e, on.between.call_open.effect
 
 -- the task that it takes on, and what is known of the way to its leaf
 abbrev pub takes : (p : Parts) (w : ℕ) (had : Option (List ℕ)) (task : Running) (m : MustChange p w had task) → MustTakeOn p w task m.reads.on.serving.path had None
-takes p w had task m = record { on = m.reads.on; tasked = m.tasked; asks = m.asks; facts = m.facts; wanted = none-wanted p w m.reads.on task m.wants }
+takes p w had task m = record { on = m.reads.on; may = inl m.reads.quiet; tasked = m.tasked; asks = m.asks; facts = m.facts; wanted = none-wanted p w m.reads.on task m.wants }
 
 abbrev pub knows : (p : Parts) (w : ℕ) (m : MustReadWhole p w) → KnowsWay p w m.on.serving m.on.between
 knows p w m = record { leads = m.leads; quiet = m.quiet }

@@ -16,7 +16,7 @@ use Rattle.bz_story.specs.Recovering.{Started}
 use Rattle.bz_story.specs.Reviving.{CutsAreMarked}
 use Rattle.bz_swap.specs.Power.{after_cut}
 use Rattle.bz_swap.specs.SwapMemory.{Working, idle}
-use Rattle.bz_world.specs.Inside.Beginning.{lab_of}
+use Rattle.bz_world.specs.Inside.Beginning.{lab_of, is_swap}
 use Rattle.bz_world.specs.Inside.Kept.{IsTabled, IsAwake, IsOff, IsStarted, IsKept}
 use Rattle.bz_world.specs.Inside.Powering.{IsCut}
 use Rattle.bz_world.specs.Lab as lab
@@ -67,8 +67,13 @@ module _ (b : Laws) (p : Parts) (t : IsTabled p) (sound : IsSound p.config p.at_
 
   -- so it is seen
   lab-cut : flags.items ≡ map (λ (v : Working). v.flush_next) p.access.workers → lab_of (cut-off p workers flags) ≡ lab.after_cut (lab_of p)
-  lab-cut same = ap (λ left. record { config = p.config; at_start = p.at_start; log = with_mark p.journal Cut; flushes = map (λ (v : Working). v.flush_next) (after_cut p.access).workers; left_out = left; supply = record { taken = 0; left = 0 } }) same
-      ∙ ap (λ fs. record { config = p.config; at_start = p.at_start; log = with_mark p.journal Cut; flushes = fs; left_out = map (λ (v : Working). v.flush_next) p.access.workers; supply = record { taken = 0; left = 0 } }) (map-replicate (λ (v : Working). v.flush_next) (length p.access.workers) idle ∙ ap (λ n. replicate n false) t.crew)
+  lab-cut same = λ t. record { config = p.config; at_start = p.at_start; log = with_mark p.journal Cut; flushes = flushes t; swapping = swapping t; left_out = same t; supply = record { taken = 0; left = 0 } }
+    where
+      flushes : map (λ (v : Working). v.flush_next) (after_cut p.access).workers ≡ replicate (p.config.workers + 1) false
+      flushes = map-replicate (λ (v : Working). v.flush_next) (length p.access.workers) idle ∙ ap (λ n. replicate n false) t.crew
+
+      swapping : map (λ (v : Working). is_swap v.doing) (after_cut p.access).workers ≡ replicate (p.config.workers + 1) false
+      swapping = map-replicate (λ (v : Working). is_swap v.doing) (length p.access.workers) idle ∙ ap (λ n. replicate n false) t.crew
 
 module _ (b : Laws) (p : Parts) (room : length p.journal.past + 3 ≤ p.config.marks) (workers : Vec (Option Serving)) (size : length workers.items ≡ length p.workers.items) (flags : ArrayVec Bool) (none : (w : ℕ) → get_or workers.items w None ≡ None) where
   awake-off : IsAwake p → IsOff (cut-off p workers flags)

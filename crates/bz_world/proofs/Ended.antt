@@ -41,6 +41,7 @@ slot-pages c m log pages story owners v (Some x) h = record {
   asked = h.asked;
   asks = h.asks;
   doing = h.doing;
+  finishing = h.finishing;
   facts = h.facts;
   covered = h.covered;
 }

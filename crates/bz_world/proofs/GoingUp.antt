@@ -1,5 +1,5 @@
 -- A call that gets a split on the way up from its leaf.
-use Rattle.std.proofs.Common.{◌≡◌, ℕ, true, List, arith, refl, sym, subst, ◌∙◌, Option, None}
+use Rattle.std.proofs.Common.{◌≡◌, ℕ, true, List, arith, refl, sym, subst, ◌∙◌, inl, Option, None}
 use Rattle.bz_call.specs.Map.{key_of}
 use Rattle.bz_running.specs.Duties.{config_of, asks_of, wants_of, facts_of, makes_no_change}
 use Rattle.bz_running.specs.Hearing.{IsLookup}
@@ -20,13 +20,13 @@ abbrev pub split-taken : ScenesAreSeen → (p : Parts) (w : ℕ) (path : Path) (
     → ((way : Option Path) → IsLookup key way task) → asks_of task ≡ None → (slots : ℕ) → wants_of task ≡ slots → NeedsAtLeast p.config p.journal.start p.journal.past m.answer.on.between.opened slots
     → ((s : Scene) → s.past.config ≡ p.config → IsScene s → IsPath key path s.past → IsView key view s.past → facts_of task Waiting s) → MustTakeOn p w task None m.answer.on.serving.had None
 split-taken scenes p w path view m key same task config laws looks lookup asks slots wants needs facts =
-    lookup-taken p w m.answer.on task None None key config laws looks (lookup None) same asks
+    lookup-taken p w m.answer.on (inl m.answer.quiet) task None None key config laws looks (lookup None) same asks
     (facts (known p w m.answer.on) refl (known-scene scenes p w m.answer.on) (subst (λ k. IsPath k path (known p w m.answer.on).past) (sym same) m.way) (subst (λ k. IsView k view (known p w m.answer.on).past) (sym same) m.answer.viewed))
     (λ quiet some. subst (NeedsAtLeast p.config p.journal.start p.journal.past m.answer.on.between.opened) (sym wants) needs)
 
 -- the split of the node above
 abbrev pub up-taken : ScenesAreSeen → (p : Parts) (w : ℕ) (task : Running) (m : MustGoUp p w task) → AreLaws task → MustTakeOn p w task None m.ends.on.serving.had None
 up-taken scenes p w task m laws =
-    lookup-taken p w m.ends.on task None None (key_of m.ends.on.serving.call) (m.up.config ∙ m.ends.tasked.config) laws m.up.silent (m.up.ends (key_of m.ends.on.serving.call) m.ends.on.serving.path None m.ends.tasked.lookup) refl m.up.asks
+    lookup-taken p w m.ends.on (inl m.ends.quiet) task None None (key_of m.ends.on.serving.call) (m.up.config ∙ m.ends.tasked.config) laws m.up.silent (m.up.ends (key_of m.ends.on.serving.call) m.ends.on.serving.path None m.ends.tasked.lookup) refl m.up.asks
     (m.up.facts (known p w m.ends.on) (sym m.ends.tasked.config) (known-scene scenes p w m.ends.on) m.ends.facts m.ends.end)
     (λ quiet some. subst (NeedsAtLeast p.config p.journal.start p.journal.past m.ends.on.between.opened) (m.up.wanted ∙ sym m.up.wants) (m.ends.on.between.call_open.wanted quiet (omega (arith, m.up.wanted))))

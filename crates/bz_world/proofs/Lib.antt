@@ -27,6 +27,7 @@ mod SlotsFor
 mod Changing
 mod Beginning
 mod Stepping
+mod Finishing
 mod FreshSlots
 mod Openings
 mod Booting

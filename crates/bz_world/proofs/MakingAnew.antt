@@ -1,5 +1,5 @@
 -- A leaf that is made anew: the task that does it.
-use Rattle.std.proofs.Common.{◌≡◌, ℕ, true, List, refl, sym, subst, Option, None}
+use Rattle.std.proofs.Common.{◌≡◌, ℕ, true, List, refl, sym, subst, inl, Option, None}
 use Rattle.bz_call.specs.Map.{key_of}
 use Rattle.bz_layout.specs.declared.thresholds.TheConstants.{MERGE_SLOTS}
 use Rattle.bz_running.specs.Duties.{config_of, asks_of, wants_of, facts_of, makes_no_change}
@@ -21,14 +21,14 @@ use Rattle.bz_world.proofs.TakingOn.{known-scene, lookup-taken, none-wanted}
 abbrev pub freeze-taken : ScenesAreSeen → (p : Parts) (w : ℕ) (view : LeafView) (m : MustAnswer p w view) (task : Running) → config_of task ≡ p.config → AreLaws task → makes_no_change task ≡ true → ((key : List ℕ) (way : Option Path) → IsLookup key way task) → asks_of task ≡ None → wants_of task ≡ 0
     → ((key : List ℕ) (s : Scene) → s.past.config ≡ p.config → IsScene s → IsView key view s.past → facts_of task Waiting s) → MustTakeOn p w task None m.on.serving.had None
 freeze-taken scenes p w view m task config laws looks lookup asks wants facts =
-    lookup-taken p w m.on task None None (key_of m.on.serving.call) config laws looks (lookup (key_of m.on.serving.call) None) refl asks (facts (key_of m.on.serving.call) (known p w m.on) refl (known-scene scenes p w m.on) m.viewed)
+    lookup-taken p w m.on (inl m.quiet) task None None (key_of m.on.serving.call) config laws looks (lookup (key_of m.on.serving.call) None) refl asks (facts (key_of m.on.serving.call) (known p w m.on) refl (known-scene scenes p w m.on) m.viewed)
     (none-wanted p w m.on task wants)
 
 -- its copy or its split
 abbrev pub anew-taken : ScenesAreSeen → (p : Parts) (w : ℕ) (path : Path) (view : LeafView) (m : MustMakeAnew p w path view) (task : Running) → config_of task ≡ p.config → AreLaws task → makes_no_change task ≡ true → ((key : List ℕ) (way : Option Path) → IsLookup key way task) → asks_of task ≡ None → (slots : ℕ) → wants_of task ≡ slots → NeedsAtLeast p.config p.journal.start p.journal.past m.answer.on.between.opened slots
     → ((key : List ℕ) (s : Scene) → s.past.config ≡ p.config → IsScene s → IsPath key path s.past → IsView key view s.past → facts_of task Waiting s) → MustTakeOn p w task None m.answer.on.serving.had None
 anew-taken scenes p w path view m task config laws looks lookup asks slots wants needs facts =
-    lookup-taken p w m.answer.on task None None (key_of m.answer.on.serving.call) config laws looks (lookup (key_of m.answer.on.serving.call) None) refl asks
+    lookup-taken p w m.answer.on (inl m.answer.quiet) task None None (key_of m.answer.on.serving.call) config laws looks (lookup (key_of m.answer.on.serving.call) None) refl asks
     (facts (key_of m.answer.on.serving.call) (known p w m.answer.on) refl (known-scene scenes p w m.answer.on) m.way m.answer.viewed)
     (λ quiet some. subst (NeedsAtLeast p.config p.journal.start p.journal.past m.answer.on.between.opened) (sym wants) needs)
 
@@ -36,7 +36,7 @@ anew-taken scenes p w path view m task config laws looks lookup asks slots wants
 abbrev pub merge-taken : ScenesAreSeen → (p : Parts) (w : ℕ) (path : Path) (view : LeafView) (m : MustMerge p w path view) (task : Running) → config_of task ≡ p.config → AreLaws task → makes_no_change task ≡ true → ((key : List ℕ) (way : Option Path) → IsLookup key way task) → asks_of task ≡ None → wants_of task ≡ MERGE_SLOTS
     → ((key : List ℕ) (s : Scene) → s.past.config ≡ p.config → IsScene s → IsPath key path s.past → IsView key view s.past → facts_of task Waiting s) → MustTakeOn p w task None m.on.serving.had None
 merge-taken scenes p w path view m task config laws looks lookup asks wants facts =
-    lookup-taken p w m.on task None None (key_of m.on.serving.call) config laws looks (lookup (key_of m.on.serving.call) None) refl asks
+    lookup-taken p w m.on m.may task None None (key_of m.on.serving.call) config laws looks (lookup (key_of m.on.serving.call) None) refl asks
     (facts (key_of m.on.serving.call) (known p w m.on) refl (known-scene scenes p w m.on) m.way m.viewed)
     (subst (IsWanted p.config p.journal m.on.between.opened) (sym wants) m.wanted)
 

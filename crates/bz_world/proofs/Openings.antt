@@ -30,7 +30,7 @@ use Rattle.bz_swap.specs.Power.{opened}
 use Rattle.bz_swap.specs.SwapMemory.{SwapMemory, Working, Idle, idle, doing_of, has_effect}
 use Rattle.bz_swap.specs.TakenStatuses.{BegunStayTaken, BegunAreTaken}
 use Rattle.bz_swap.specs.declared.phase.Phase.{Phase}
-use Rattle.bz_world.specs.Inside.Beginning.{lab_of, supply_of}
+use Rattle.bz_world.specs.Inside.Beginning.{lab_of, supply_of, is_swap}
 use Rattle.bz_world.proofs.Powered.{kept-awake}
 use Rattle.bz_world.proofs.FreshSlots.{free-below, free-root, free-others}
 use Rattle.bz_world.specs.Inside.Kept.{IsTabled, AreTaken, AreFree, IsAwake, IsKept}
@@ -173,10 +173,13 @@ map-replicate f (suc n) x = ap (λ xs. f x ∷ xs) (map-replicate f n x)
 -- so it is seen
 pub lab-made : (c : Config) (start : List ℕ) (at_start : Power) (p : Parts) → p.config ≡ c → IsMadeOver start at_start p → (at_start ≡ power.On → length p.slots.free ≡ p.config.nodes - 1) → lab_of p ≡ lab_over c start at_start
 lab-made c start at_start p config made left =
-    (λ t. record { config = p.config; at_start = made.at_start t; log = made.journal t; flushes = flushes t; left_out = made.left_out t; supply = supply t }) ∙ ap (λ (d : Config). lab_over d start at_start) config
+    (λ t. record { config = p.config; at_start = made.at_start t; log = made.journal t; flushes = flushes t; swapping = swapping t; left_out = made.left_out t; supply = supply t }) ∙ ap (λ (d : Config). lab_over d start at_start) config
   where
     flushes : map (λ (v : Working). v.flush_next) p.access.workers ≡ replicate (p.config.workers + 1) false
     flushes = ap (λ (m : SwapMemory). map (λ (v : Working). v.flush_next) m.workers) made.opened.is ∙ map-replicate (λ (v : Working). v.flush_next) (p.config.workers + 1) idle
+
+    swapping : map (λ (v : Working). is_swap v.doing) p.access.workers ≡ replicate (p.config.workers + 1) false
+    swapping = ap (λ (m : SwapMemory). map (λ (v : Working). is_swap v.doing) m.workers) made.opened.is ∙ map-replicate (λ (v : Working). is_swap v.doing) (p.config.workers + 1) idle
 
     at_first : Supply
     at_first = record { taken = 0; left = p.config.nodes - 1 }

@@ -39,7 +39,7 @@ use Rattle.bz_world.proofs.Powered.{begun-in, flush-leaves, free-on}
 use Rattle.bz_world.proofs.Staying.{slot-stays}
 use Rattle.bz_world.specs.Inside.Laws.{StrikeLaws}
 use Rattle.bz_world.proofs.Striking.{flush-calls, old, kept, w, x, its, before, waits, good, after, living, opened, took, others}
-use Rattle.bz_world.proofs.StruckQuietly.{image-was, image-is, fault-is, stage-is, its-swap, its-asks}
+use Rattle.bz_world.proofs.StruckQuietly.{image-was, image-is, fault-is, stage-is, its-swap, its-asks, still-does}
 
 -- the reply to a call that makes a change, by what its key had
 reply-of : (called : Call) (had new : Option (List ℕ)) (map : Map) → IsChangeOf called had new → (apply_at had map called).reply ≡ Some (effect_reply called had)
@@ -207,6 +207,7 @@ module _ (b : StrikeLaws) (p : Parts) (s : ℕ) (h : IsStriking p s) (publishes 
     asked = todo.Swap (entries_of (old b p s h).access s);
     asks = its-asks b p s h;
     doing = its-swap b p s h (old b p s h).owners.items refl;
+    finishing = inr (record { publishing = publishes; swap = s; doing = still-does b p s h });
     facts = subst (λ z. facts_of (x b p s h).task z (scene c (effect_mark ∷ h.mark ∷ log.past) told_story worker effected)) (sym (stage-is b p s h)) knows;
     covered = (its b p s h).covered;
   }

@@ -22,7 +22,7 @@ use Rattle.bz_sound.specs.declared.power.Power.TheVariants as power
 use Rattle.bz_world.specs.Lab.{Supply, Recovers}
 use Rattle.bz_world.specs.declared.answers.Applied.TheVariants as applied
 use Rattle.bz_world.specs.declared.parts.Parts.{Parts}
-use Rattle.bz_world.proofs.Stepping.{flush-is, flush-same}
+use Rattle.bz_world.proofs.Stepping.{flush-is, flush-same, swap-same}
 use Rattle.bz_world.proofs.Supplies.{shown-on, shown-recovering}
 
 -- what it knows of the slots after `next`, where it was told what its act made of them
@@ -75,6 +75,7 @@ seen-stepped old mid new made done told recovering a same journal config at_star
   at_start = at_start ∙ ap (λ (p : Parts). p.at_start) a.rest;
   left_out = ap (λ (flags : ArrayVec Bool). flags.items) (left_out ∙ ap (λ (p : Parts). p.left_out) a.rest);
   others = λ v ne. flush-same old new v (others v ne ∙ a.step.one.others.workers v ne);
+  apart = λ v ne. swap-same old new v (others v ne ∙ a.step.one.others.workers v ne);
 }
 
 -- or it has ended
@@ -89,4 +90,5 @@ seen-woken old mid new made done told a on taken journal config at_start left_ou
   at_start = at_start ∙ ap (λ (p : Parts). p.at_start) a.rest;
   left_out = ap (λ (flags : ArrayVec Bool). flags.items) (left_out ∙ ap (λ (p : Parts). p.left_out) a.rest);
   others = λ v ne. flush-same old new v (others v ne ∙ a.step.one.others.workers v ne);
+  apart = λ v ne. swap-same old new v (others v ne ∙ a.step.one.others.workers v ne);
 }

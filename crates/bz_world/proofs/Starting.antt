@@ -86,6 +86,10 @@ module _ (starts : StartsAreSeen) (begun : BegunStayTaken) (p : Parts) (w : ℕ)
     asked = todo;
     asks = m.asking.asks;
     doing = does;
+    finishing = elim m.asking.finished [
+      | inl on ↦ inl on
+      | inr ends ↦ absurd (subst (IsDoing (started p.access w doing) p.owners.items w) ends does)
+    ];
     facts = subst (λ z. facts_of m.serving.task z (scene p.config p.journal.past between.story w between.opened)) (sym (ap (stage_in (started p.access w doing)) (starts-it p.access w doing work.within) ∙ waits)) m.asking.facts;
     covered = m.asking.covered;
   }

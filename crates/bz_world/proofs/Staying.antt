@@ -1,5 +1,5 @@
 -- What is known of a worker stays by what others do.
-use Rattle.std.proofs.Common.{◌≡◌, ℕ, ◌≤◌, if◌then◌else◌, Bool, true, false, List, [], ◌∷◌, length, slice_index, arith, refl, sym, ap, subst, ◌∙◌, Option, Some, None}
+use Rattle.std.proofs.Common.{◌≡◌, ◌⊎◌, ℕ, ◌≤◌, if◌then◌else◌, Bool, true, false, List, [], ◌∷◌, length, slice_index, arith, refl, sym, ap, subst, ◌∙◌, inl, inr, Option, Some, None}
 use Rattle.std.specs.Prelude.{get_or}
 use Rattle.std.proofs.lemmas.Bool.{true≢false}
 use Rattle.bz_call.specs.Map.{key_of}
@@ -21,7 +21,7 @@ use Rattle.bz_swap.specs.SwapMemory.{SwapMemory, Doing, Idle, Reading, Swapping,
 use Rattle.bz_task.specs.Scene.{Scene, IsLawful, Waiting, Took}
 use Rattle.bz_task.specs.declared.todo.Todo.{Todo}
 use Rattle.bz_task.specs.declared.todo.Todo.TheVariants as todo
-use Rattle.bz_world.specs.Inside.Serving.{IsServing, IsCovered, IsDoing, IsSlot, IsToldBy, IsWanted, NeedsAtLeast, effect_reply, stage_in}
+use Rattle.bz_world.specs.Inside.Serving.{IsServing, IsCovered, IsDoing, IsSlot, IsToldBy, IsWanted, NeedsAtLeast, MayGoOn, IsFinishing, effect_reply, stage_in}
 use Rattle.bz_world.specs.declared.serving.Serving.{Serving}
 
 -- what a worker does is the same in two memories, and so is whether its swap has taken effect
@@ -57,6 +57,11 @@ stage-by m n (Flushing line) e = refl
 
 stage-stays : (m n : SwapMemory) (v : ℕ) → SameFor m n v → stage_in n (doing_of n v) ≡ stage_in m (doing_of m v)
 stage-stays m n v same = ap (stage_in n) same.doing ∙ stage-by m n (doing_of m v) same.effects
+
+-- a call whose change stands is finished as before, where its worker does what it did
+pub finishing-stays : (m n : SwapMemory) (v : ℕ) (x : Serving) → doing_of n v ≡ doing_of m v → MayGoOn x ⊎ IsFinishing m v x → MayGoOn x ⊎ IsFinishing n v x
+finishing-stays m n v x same (inl may) = inl may
+finishing-stays m n v x same (inr f) = inr (record { publishing = f.publishing; swap = f.swap; doing = same ∙ f.doing })
 
 -- what may not be stored into is no more as stores are made
 pub covered-stays : (took later filled more : ℕ → Bool) (needs : ℕ) → ((k : ℕ) → later k ≡ took k) → ((k : ℕ) → filled k ≡ true → more k ≡ true) → IsCovered took filled needs → IsCovered later more needs
@@ -119,6 +124,7 @@ serving-stays seen stay c m n log mark story after owners v x living l s = recor
   asked = s.asked;
   asks = s.asks;
   doing = doing-stays m n owners v s.asked l.same s.doing;
+  finishing = finishing-stays m n v x l.same.doing s.finishing;
   facts = subst (λ z. facts_of x.task z (scene c (mark ∷ log.past) after v s.opened)) (sym (stage-stays m n v l.same))
       (s.tasked.laws.stable (stage_in m (doing_of m v)) (scene c log.past story v s.opened) (scene c (mark ∷ log.past) after v s.opened) (sym s.tasked.config) s.facts
       (seen c n (with_mark log mark) after v s.opened living (record { from = since; before = omega (arith, s.call_open.begun) })).scene (l.lawful s.opened (record { from = omega (arith, since, l.from); before = s.call_open.begun })));
@@ -144,6 +150,7 @@ slot-same c m n log story owners others v (Some x) same table s = record {
   asked = s.asked;
   asks = s.asks;
   doing = doing-stays m n others v s.asked same (doing-by m owners others v s.asked table s.doing);
+  finishing = finishing-stays m n v x same.doing s.finishing;
   facts = subst (λ z. facts_of x.task z (scene c log.past story v s.opened)) (sym (stage-stays m n v same)) s.facts;
   covered = s.covered;
 }
@@ -167,6 +174,7 @@ slot-scenes c m log story after owners v (Some x) some same filled s = record {
   asked = s.asked;
   asks = s.asks;
   doing = s.doing;
+  finishing = s.finishing;
   facts = subst (facts_of x.task (stage_in m (doing_of m v))) (sym (same s.opened)) s.facts;
   covered = covered-stays (story.took v) (after.took v) (story.filled v) (after.filled v) (needs_of x.task) (λ k. ap (λ (z : Scene). z.took k) (same s.opened)) (λ k e. filled k ∙ e) s.covered;
 }

@@ -6,12 +6,12 @@ use Rattle.bz_call.specs.declared.replies.Reply.TheVariants.{Full}
 use Rattle.bz_layout.specs.declared.thresholds.TheConstants.{SPLIT_SLOTS}
 use Rattle.bz_mark.specs.Log.{Log}
 use Rattle.bz_mark.specs.declared.marks.Mark.TheVariants.{End}
-use Rattle.bz_swap.specs.SwapMemory.{Working, idle, worker_of}
+use Rattle.bz_swap.specs.SwapMemory.{Working, idle, worker_of, doing_of}
 use Rattle.bz_world.specs.Inside.Acted.{HasActed}
-use Rattle.bz_world.specs.Inside.Beginning.{lab_of, supply_of}
+use Rattle.bz_world.specs.Inside.Beginning.{lab_of, is_swap, supply_of}
 use Rattle.bz_world.specs.Inside.Going.{WentOn}
 use Rattle.bz_world.specs.Inside.Kept.{IsAwake}
-use Rattle.bz_world.specs.Lab.{Spends, EndsFullRightly, Steps, GoesOn, flush_of}
+use Rattle.bz_world.specs.Lab.{Spends, EndsFullRightly, Steps, GoesOn, flush_of, is_swapping}
 use Rattle.bz_world.specs.declared.answers.Applied.{Applied}
 use Rattle.bz_world.specs.declared.answers.Applied.TheVariants.{Stepped}
 use Rattle.bz_world.specs.declared.parts.Parts.{Parts}
@@ -23,6 +23,13 @@ flush-is p v = get_or-map (λ (z : Working). z.flush_next) p.access.workers v id
 
 pub flush-same : (old new : Parts) (v : ℕ) → worker_of new.access v ≡ worker_of old.access v → flush_of (lab_of new) v ≡ flush_of (lab_of old) v
 flush-same old new v same = flush-is new v ∙ (ap (λ (z : Working). z.flush_next) same ∙ sym (flush-is old v))
+
+-- and of whether a swap is under way
+pub swap-is : (p : Parts) (v : ℕ) → is_swapping (lab_of p) v ≡ is_swap (doing_of p.access v)
+swap-is p v = get_or-map (λ (z : Working). is_swap z.doing) p.access.workers v idle
+
+pub swap-same : (old new : Parts) (v : ℕ) → worker_of new.access v ≡ worker_of old.access v → is_swapping (lab_of new) v ≡ is_swapping (lab_of old) v
+swap-same old new v same = swap-is new v ∙ (ap (λ (z : Working). is_swap z.doing) same ∙ sym (swap-is old v))
 
 -- and of what is taken and left
 spends-shown : (old new : Parts) (slots : ℕ) → IsAwake old → IsAwake new → Spends slots (supply_of old) (supply_of new) → Spends slots (lab_of old).supply (lab_of new).supply
@@ -42,6 +49,7 @@ stepped-on old new w was is a taken = record {
   at_start = ap (λ (p : Parts). p.at_start) a.rest;
   left_out = ap (λ (p : Parts). p.left_out.items) a.rest;
   others = λ v ne. flush-same old new v (a.others v ne);
+  apart = λ v ne. swap-same old new v (a.others v ne);
 }
   where
     left : length new.slots.free ≡ length old.slots.free
@@ -66,6 +74,7 @@ stepped-through old mid told new w answer was a taken rest fewer few went = reco
   at_start = went.at_start ∙ (ap (λ (p : Parts). p.at_start) rest ∙ ap (λ (p : Parts). p.at_start) a.rest);
   left_out = ap (λ (flags : ArrayVec Bool). flags.items) (went.left_out ∙ (ap (λ (p : Parts). p.left_out) rest ∙ ap (λ (p : Parts). p.left_out) a.rest));
   others = λ v ne. flush-same old new v (went.others v ne ∙ (ap (λ (p : Parts). worker_of p.access v) rest ∙ a.others v ne));
+  apart = λ v ne. swap-same old new v (went.others v ne ∙ (ap (λ (p : Parts). worker_of p.access v) rest ∙ a.others v ne));
 }
   where
     journal : told.journal ≡ record old.journal { past = mid.journal.past }

@@ -29,6 +29,7 @@ use Rattle.bz_story.proofs.Storing.{fills-stored}
 use Rattle.bz_world.proofs.Powered.{begun-in}
 use Rattle.bz_world.proofs.Staying.{covered-stays}
 use Rattle.bz_world.proofs.Quiet.{some-worker, serves, sees, own, goes, same-other, stays, answered}
+use Rattle.bz_world.proofs.Answered.{no-finish}
 
 module _ (b : StepLaws) (old new : Parts) (w : ℕ) (x : Serving) (made : Act) (answer : Done) (k : IsAwake old) (is-worker : get_or old.workers.items w None ≡ Some x) (a : IsActed old w made answer None new) (room : length old.journal.past < old.config.marks) where
   abbrev pub its : IsServing old.config old.access old.journal k.story old.owners.items w x
@@ -81,6 +82,7 @@ module _ (b : StepLaws) (old new : Parts) (w : ℕ) (x : Serving) (made : Act) (
       stage = Took;
       facts = took;
       covered = covered-stays (k.story.took w) (k.story.took w) (k.story.filled w) (fills old.config k.story w d w) (needs_of x.task) (λ j. refl) (fills-more w) its.covered;
+      finished = no-finish old.access w x seen.Stored (λ s f. absurd (cc (stores, f))) its.finishing;
       hears = subst (λ z. Hears z seen.Stored) (sym (its.asks ∙ ap Some asked)) tt;
       tells = subst (λ z. Tells z Took seen.Stored later) (sym (its.asks ∙ ap Some asked)) tt;
     })

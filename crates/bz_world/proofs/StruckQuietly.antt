@@ -21,7 +21,7 @@ use Rattle.bz_world.specs.Inside.Serving.{IsServing, IsSlot, IsSwapping, stage_i
 use Rattle.bz_world.specs.declared.parts.Parts.{Parts}
 use Rattle.bz_world.specs.Inside.Laws.{StrikeLaws}
 use Rattle.bz_world.proofs.Powered.{flush-leaves, free-on}
-use Rattle.bz_world.proofs.Staying.{told-stays, wanted-stays}
+use Rattle.bz_world.proofs.Staying.{told-stays, wanted-stays, finishing-stays}
 use Rattle.bz_world.proofs.Striking.{flush-calls, old, kept, w, x, its, owner, before, good, after, living, opened, took, others}
 
 module _ (b : StrikeLaws) (p : Parts) (s : ℕ) (h : IsStriking p s) where
@@ -84,6 +84,7 @@ module _ (b : StrikeLaws) (p : Parts) (s : ℕ) (h : IsStriking p s) where
       asked = todo.Swap (entries_of (old b p s h).access s);
       asks = its-asks;
       doing = its-swap (old b p s h).owners.items refl;
+      finishing = finishing-stays (old b p s h).access p.access (w b p s h) (x b p s h) (h.work.doing (w b p s h)) (its b p s h).finishing;
       facts = subst (λ z. facts_of (x b p s h).task z (scene (old b p s h).config (h.mark ∷ (old b p s h).journal.past) (after b p s h) (w b p s h) (its b p s h).opened)) (sym stage-is)
           (subst (λ o. facts_of (x b p s h).task Took (scene (old b p s h).config (h.mark ∷ (old b p s h).journal.past) (after b p s h) (w b p s h) o)) opened-is (took b p s h));
       covered = (its b p s h).covered;

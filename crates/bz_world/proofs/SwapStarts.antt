@@ -30,6 +30,7 @@ use Rattle.bz_world.specs.declared.parts.Parts.{Parts}
 use Rattle.bz_world.specs.declared.serving.Serving.{Serving}
 use Rattle.bz_world.proofs.Powered.{begun-in}
 use Rattle.bz_world.proofs.Starting.{starts-it, starts-others}
+use Rattle.bz_world.proofs.Staying.{finishing-stays}
 
 module _ (scenes : ScenesAreSeen) (hidden : OwnWordsAreHidden) (p : Parts) (w : ℕ) (asked : Todo) (m : MustStart p w asked) where
   abbrev pub between : IsBetween p w m.serving
@@ -115,6 +116,10 @@ module _ (starts : StartsAreSeen) (scenes : ScenesAreSeen) (begun : BegunStayTak
     asked = todo.Swap entries;
     asks = m.asking.asks;
     doing = record { swap = p.access.taken; doing = does; same = own-entries; owner = mine; begun = omega arith; list = list };
+    finishing = elim m.asking.finished [
+      | inl on ↦ inl on
+      | inr ends ↦ absurd (cc ends)
+    ];
     facts = subst (λ z. facts_of m.serving.task z (scene p.config p.journal.past was.story w was.opened)) (sym waits) m.asking.facts;
     covered = m.asking.covered;
   }
@@ -144,6 +149,7 @@ module _ (starts : StartsAreSeen) (scenes : ScenesAreSeen) (begun : BegunStayTak
         asked = h.asked;
         asks = h.asks;
         doing = doing-of h.asked h.doing;
+        finishing = finishing-stays p.access new v x (starts-others p.access w v (Swapping p.access.taken) ne) h.finishing;
         facts = subst (λ z. facts_of x.task z (scene p.config p.journal.past was.story v h.opened)) (sym (ap (stage_in new) (starts-others p.access w v (Swapping p.access.taken) ne) ∙ same-stage (doing_of p.access v))) h.facts;
         covered = h.covered;
       }

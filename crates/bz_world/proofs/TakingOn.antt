@@ -1,5 +1,5 @@
 -- A call that gets another task.
-use Rattle.std.proofs.Common.{◌≡◌, ◌≢◌, ◌⊎◌, ◌≤◌, ◌+◌, ℕ, Bool, true, false, List, length, arith, refl, sym, ap, subst, ◌∙◌, inl, Option, Some, None}
+use Rattle.std.proofs.Common.{◌≡◌, ◌≢◌, ◌⊎◌, ◌≤◌, ◌+◌, ℕ, Bool, true, false, List, length, arith, refl, sym, ap, subst, ◌∙◌, inl, inr, Option, Some, None}
 use Rattle.std.specs.Prelude.{get_or}
 use Rattle.std.specs.Global.{Vec}
 use Rattle.std.specs.Vec.{with_item}
@@ -30,12 +30,12 @@ use Rattle.bz_task.specs.declared.todo.Outcome.TheVariants.{Full}
 use Rattle.bz_task.specs.declared.todo.Seen.TheVariants.{Start, NoSwap}
 use Rattle.bz_task.specs.declared.todo.Todo.{Todo}
 use Rattle.bz_task.specs.declared.todo.Todo.TheVariants.{Read}
-use Rattle.bz_world.specs.Inside.Acted.{IsBetween, MustTell}
-use Rattle.bz_world.specs.Inside.Going.{MustGoOn, MustTakeOn, MustReadWhole, HadEffect, HasReadAfter, LacksSwap, known, call_in, end_in, path_in, WentOn}
+use Rattle.bz_world.specs.Inside.Acted.{IsBetween, MustTell, HasWon}
+use Rattle.bz_world.specs.Inside.Going.{MustGoOn, MustLookUp, MustTakeOn, MustReadWhole, HadEffect, HasReadAfter, LacksSwap, known, call_in, end_in, path_in, WentOn, MayGoOnIn}
 use Rattle.bz_world.specs.Inside.Beginning.{supply_of}
 use Rattle.bz_world.specs.Inside.Kept.{IsAwake}
 use Rattle.bz_world.specs.Lab.{GoesOn, EndsFullRightly}
-use Rattle.bz_world.specs.Inside.Serving.{IsOpened, IsSlot, IsToldBy, IsWanted, effect_reply}
+use Rattle.bz_world.specs.Inside.Serving.{IsOpened, IsSlot, IsToldBy, IsWanted, MayGoOn, effect_reply}
 use Rattle.bz_world.specs.Inside.Telling.{MustStart, HasTold, HasToldIn, LacksDescriptor, KnowsWay, MustTellOf, MustStartOf}
 use Rattle.bz_world.specs.declared.answers.Applied.{Applied}
 use Rattle.bz_world.specs.declared.answers.Applied.TheVariants as applied
@@ -44,6 +44,7 @@ use Rattle.bz_world.specs.declared.serving.Serving.{Serving}
 use Rattle.bz_world.proofs.Powered.{begun-in}
 use Rattle.bz_world.proofs.Staying.{none-unfilled}
 use Rattle.bz_world.proofs.Supplies.{not-longer}
+use Rattle.bz_task.specs.declared.todo.Seen.{Seen}
 
 -- each slot that was taken has been stored into
 pub has-filled : (p : Parts) (w : ℕ) (on : MustGoOn p w) → HasFilled (known p w on)
@@ -76,6 +77,10 @@ lacks-told p w todo m lacks = record {
     stage = Waiting;
     facts = m.asking.facts;
     covered = m.asking.covered;
+    finished = elim m.asking.finished [
+      | inl on ↦ inl on
+      | inr ends ↦ absurd (cc (ends, lacks.is))
+    ];
     hears = subst (λ z. Hears z NoSwap) (sym (m.asking.asks ∙ ap Some lacks.is)) tt;
     tells = subst (λ z. Tells z Waiting NoSwap (scene p.config p.journal.past m.asking.between.story w m.asking.between.opened)) (sym (m.asking.asks ∙ ap Some lacks.is)) tt;
   };
@@ -147,10 +152,11 @@ pub none-wanted : (p : Parts) (w : ℕ) (on : MustGoOn p w) (task : Running) →
 none-wanted p w on task none quiet some = absurd (omega (arith, none, some))
 
 -- a task that makes no change, for the call's key
-abbrev pub lookup-taken : (p : Parts) (w : ℕ) (on : MustGoOn p w) (task : Running) (way : Option Path) (asked : Option Todo) (key : List ℕ) → config_of task ≡ p.config → AreLaws task → makes_no_change task ≡ true → IsLookup key way task → key ≡ key_of on.serving.call
+abbrev pub lookup-taken : (p : Parts) (w : ℕ) (on : MustGoOn p w) → MayGoOn on.serving → (task : Running) (way : Option Path) (asked : Option Todo) (key : List ℕ) → config_of task ≡ p.config → AreLaws task → makes_no_change task ≡ true → IsLookup key way task → key ≡ key_of on.serving.call
     → asks_of task ≡ asked → facts_of task Waiting (known p w on) → IsWanted p.config p.journal on.between.opened (wants_of task) → MustTakeOn p w task way on.serving.had asked
-lookup-taken p w on task way asked key config laws looks lookup same asks facts wanted = record {
+lookup-taken p w on may task way asked key config laws looks lookup same asks facts wanted = record {
   on = on;
+  may = may;
   tasked = record { config = config; laws = laws; lookup = subst (λ k. IsLookup k way task) same lookup; change = inl looks };
   asks = asks;
   facts = facts;
@@ -176,6 +182,10 @@ said-alone p w on alone slot is = record {
   filled = on.filled;
 }
 
+pub said-may : (p : Parts) (w : ℕ) (m : MustLookUp p w) (alone : Bool) (slot : Option Serving) → slot ≡ Some (record m.on.serving { alone = alone }) → MustLookUp (record p { workers = with_item p.workers w slot }) w
+unfolding said-alone between-tasks
+said-may p w m alone slot is = record { on = said-alone p w m.on alone slot is; may = m.may }
+
 module _ (p : Parts) (w : ℕ) (task : Running) (had : Option (List ℕ)) (asked : Option Todo) (path : Option Path) (m : MustTakeOn p w task path had asked) (slot : Option Serving) (is : slot ≡ Some (record m.on.serving { task = task; path = path; had = had })) (told : IsToldBy p.config p.journal m.on.between.opened had) where
   abbrev pub next : Serving
   next = record m.on.serving { task = task; path = path; had = had }
@@ -200,6 +210,7 @@ module _ (p : Parts) (w : ℕ) (task : Running) (had : Option (List ℕ)) (asked
       between = between;
       tasked = let t = m.tasked in record { config = t.config; laws = t.laws; lookup = t.lookup; change = t.change };
       asks = m.asks ∙ e;
+      finished = inl m.may;
       facts = m.facts;
       covered = none-unfilled (m.on.between.story.took w) (m.on.between.story.filled w) (needs_of task) (omega (arith, m.tasked.laws.few, m.tasked.laws.most)) m.on.filled;
     };
@@ -217,6 +228,7 @@ module _ (p : Parts) (w : ℕ) (task : Running) (had : Option (List ℕ)) (asked
       stage = Waiting;
       facts = m.facts;
       covered = none-unfilled (m.on.between.story.took w) (m.on.between.story.filled w) (needs_of task) (omega (arith, m.tasked.laws.few, m.tasked.laws.most)) m.on.filled;
+      finished = inl m.may;
       hears = subst (λ z. Hears z Start) (sym (m.asks ∙ e)) tt;
       tells = subst (λ z. Tells z Waiting Start (known p w m.on)) (sym (m.asks ∙ e)) (has-filled p w m.on);
     };
@@ -229,6 +241,20 @@ module _ (p : Parts) (w : ℕ) (task : Running) (had : Option (List ℕ)) (asked
     must = taken-begins e;
     knows = record { leads = λ way is. k.leads way (sym same ∙ is); quiet = k.quiet };
   }
+
+-- a task that was told something is of a call that may go on as before
+pub told-may : (old slot : Option Serving) (seen : Seen) (moment : ℕ) (free : FreeSlots) (todo : Todo) (left : FreeSlots) → HasToldIn old seen moment free todo slot left → MayGoOnIn old → MayGoOnIn slot
+told-may (Some x) (Some y) seen moment free todo left h may = subst MayGoOn (sym h.rest) may
+told-may None slot seen moment free todo left h may = absurd may
+told-may (Some x) None seen moment free todo left h may = absurd h
+
+-- and one that is told to begin is of such a call
+begins-by : (x : Serving) → MayGoOn x ⊎ HasWon x Start → MayGoOn x
+begins-by x (inl may) = may
+begins-by x (inr won) = absurd (cc won.won)
+
+pub begins-may : (p : Parts) (w : ℕ) → MustTell p w Start → MayGoOnIn (get_or p.workers.items w None)
+begins-may p w m = subst MayGoOnIn (sym m.is) (begins-by m.serving m.told.finished)
 
 -- where its task has ended the leaf may be read whole
 abbrev pub must-read-whole : (p : Parts) (w : ℕ) (todo : Todo) (m : MustStartOf p w todo) (outcome : Outcome) → end_of m.must.serving.task ≡ Some outcome → MustReadWhole p w

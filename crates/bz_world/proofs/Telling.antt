@@ -23,7 +23,7 @@ use Rattle.bz_task.specs.declared.todo.Seen.{Seen}
 use Rattle.bz_task.specs.declared.todo.Todo.{Todo}
 use Rattle.bz_world.specs.Inside.Acted.{IsTold, IsAsking, MustTell}
 use Rattle.bz_world.specs.Inside.Going.{end_in, wants_in}
-use Rattle.bz_world.specs.Inside.Serving.{IsCovered, IsOpened, IsTasked, IsSlot, IsChangeFor, NeedsAtLeast}
+use Rattle.bz_world.specs.Inside.Serving.{IsCovered, IsOpened, IsTasked, IsSlot, IsChangeFor, NeedsAtLeast, MayGoOn}
 use Rattle.bz_world.specs.Inside.Telling.{CanHear, HasTold, HasToldIn, MustStart, KnowsWay, MustStartOf}
 use Rattle.bz_world.specs.declared.parts.Parts.{Parts}
 use Rattle.bz_world.specs.declared.serving.Serving.{Serving}
@@ -31,6 +31,7 @@ use Rattle.bz_sound.specs.Power.Times.{image_at_on}
 use Rattle.bz_world.proofs.Powered.{begun-in}
 use Rattle.bz_world.proofs.Staying.{covered-stays, slot-scenes}
 use Rattle.bz_world.proofs.Takings.{covered-taken, may-take, no-more-free, still-free}
+use Rattle.bz_task.specs.declared.todo.Todo.TheVariants.{Finish}
 
 -- the slot has a task that was told
 pub record IsNext (x : Serving) (seen : Seen) (moment : ℕ) (free : FreeSlots) (todo : Todo) (slot : Option Serving) (left : FreeSlots) : Type 0 where
@@ -164,6 +165,10 @@ module _ (scenes : ScenesAreSeen) (slots : SlotsAreTaken) (p : Parts) (w : ℕ) 
       };
       tasked = tasked;
       asks = h.heard.asked;
+      finished = elim told.finished [
+        | inl may ↦ inl (subst MayGoOn (sym h.rest) may)
+        | inr won ↦ inr (let last : Some todo ≡ Some Finish = sym h.heard.asked ∙ h.heard.published won.publishing won.won in cc last)
+      ];
       facts = facts;
       covered = covered;
     }

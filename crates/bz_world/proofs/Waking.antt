@@ -1,5 +1,5 @@
 -- A recovery begins when the power comes on, and when it has ended the memory lives again.
-use Rattle.std.proofs.Common.{◌≡◌, ℕ, ◌+◌, ◌<◌, ◌≤◌, ◌&&◌, nat_lt, Bool, true, false, length, arith, refl, sym, ap, subst, ◌∙◌, inl, Option, Some, None}
+use Rattle.std.proofs.Common.{◌≡◌, ℕ, ◌+◌, ◌<◌, ◌≤◌, ◌&&◌, nat_lt, Bool, true, false, length, arith, refl, sym, ap, subst, ◌∙◌, inl, Option, Some, None, slice_set}
 use Rattle.std.specs.Prelude.{get_or, map}
 use Rattle.std.proofs.lemmas.Bool.{true≢false}
 use Rattle.std.proofs.lemmas.Bool.Decides.{nat_tests}
@@ -30,7 +30,7 @@ use Rattle.bz_swap.specs.SwapMemory.{SwapMemory, Working, Idle, Loading, doing_o
 use Rattle.bz_swap.specs.TakenStatuses.{BegunStayTaken}
 use Rattle.bz_task.specs.declared.todo.Seen.TheVariants.{Start}
 use Rattle.bz_world.specs.Inside.Kept.{IsTabled, IsAwake, IsOff, IsRecovering}
-use Rattle.bz_world.specs.Inside.Beginning.{lab_of}
+use Rattle.bz_world.specs.Inside.Beginning.{lab_of, is_swap}
 use Rattle.bz_world.specs.Inside.Powering.{MustWake, Wakes}
 use Rattle.bz_world.specs.Lab as lab
 use Rattle.bz_world.specs.Inside.Serving.{IsSlot}
@@ -185,10 +185,16 @@ wakes b p k order room access journal is holds marked = subst (λ (j : Log). Wak
 
 -- power on as it is seen: worker 0's first act is no flush
 pub seen-on : (p q : Parts) (journal : Log) (next : Recover) (slots : FreeSlots) → p.power ≡ power.Off → journal ≡ with_mark p.journal On → q ≡ record p { access = q.access; journal = journal; power = power.Recovering; recovery = next; slots = slots } → q.access ≡ started p.access 0 (Loading 0) → lab_of q ≡ lab.after_on (lab_of p)
-seen-on p q journal next slots off marked rest is = ap lab_of rest ∙ (ap (λ (m : SwapMemory). record { config = p.config; at_start = p.at_start; log = journal; flushes = map (λ (v : Working). v.flush_next) m.workers; left_out = p.left_out.items; supply = record { taken = 0; left = 0 } }) is
-    ∙ (ap (λ (j : Log). record { config = p.config; at_start = p.at_start; log = j; flushes = map (λ (v : Working). v.flush_next) (started p.access 0 (Loading 0)).workers; left_out = p.left_out.items; supply = record { taken = 0; left = 0 } }) marked
-    ∙ (ap (λ fs. record { config = p.config; at_start = p.at_start; log = with_mark p.journal On; flushes = fs; left_out = p.left_out.items; supply = record { taken = 0; left = 0 } }) (map-set (λ (v : Working). v.flush_next) p.access.workers 0 (record { doing = Loading 0; flush_next = false }))
-    ∙ ap (λ (s : lab.Supply). record (lab.after_on (lab_of p)) { supply = s }) (sym (shown-off p off)))))
+seen-on p q journal next slots off marked rest is = ap lab_of rest
+    ∙ (ap (λ (m : SwapMemory). record { config = p.config; at_start = p.at_start; log = journal; flushes = map (λ (v : Working). v.flush_next) m.workers; swapping = map (λ (v : Working). is_swap v.doing) m.workers; left_out = p.left_out.items; supply = record { taken = 0; left = 0 } }) is
+    ∙ ((λ t. record { config = p.config; at_start = p.at_start; log = marked t; flushes = flushes t; swapping = swapping t; left_out = p.left_out.items; supply = record { taken = 0; left = 0 } })
+    ∙ ap (λ (s : lab.Supply). record (lab.after_on (lab_of p)) { supply = s }) (sym (shown-off p off))))
+  where
+    flushes : map (λ (v : Working). v.flush_next) (started p.access 0 (Loading 0)).workers ≡ slice_set (map (λ (v : Working). v.flush_next) p.access.workers) 0 false
+    flushes = map-set (λ (v : Working). v.flush_next) p.access.workers 0 (record { doing = Loading 0; flush_next = false })
+
+    swapping : map (λ (v : Working). is_swap v.doing) (started p.access 0 (Loading 0)).workers ≡ slice_set (map (λ (v : Working). is_swap v.doing) p.access.workers) 0 false
+    swapping = map-set (λ (v : Working). is_swap v.doing) p.access.workers 0 (record { doing = Loading 0; flush_next = false })
 
 pub begun-on : (b : Begins) (p : Parts) (k : IsOff p) (off : p.power ≡ power.Off) (room : length p.journal.past + 3 ≤ p.config.marks) (first next : Recover) (slots : FreeSlots) (new : recovery.IsNew p.config first) (on : recovery.IsNext first Start next)
     → slots.nodes ≡ p.slots.nodes → Learns first p.slots Start next slots → WalksIn first k.dark.values p.slots → (journal : Log) → journal ≡ with_mark p.journal On

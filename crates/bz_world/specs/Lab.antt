@@ -1,11 +1,12 @@
 -- What callers see of a world, and what it answers.
-use Rattle.std.specs.Prelude.{◌≡◌, ◌≢◌, ◌<◌, ◌≤◌, ◌⊎◌, ℕ, zero, suc, ◌+◌, ◌-◌, ◌*◌, Bool, false, ◌==◌, ◌||◌, ◌&&◌, nat_lt, nat_le, if◌then◌else◌, is_some, is_none, get_or, slice_set, slice_index, replicate, List, [], ◌∷◌, ◌++◌, length, Option, Some, None, option_map, MatchOption}
+use Rattle.std.specs.Prelude.{◌≡◌, ◌≢◌, ◌<◌, ◌≤◌, ◌⊎◌, ℕ, zero, suc, ◌+◌, ◌-◌, ◌*◌, Bool, true, false, ◌==◌, ◌||◌, ◌&&◌, nat_lt, nat_le, if◌then◌else◌, is_some, is_none, get_or, slice_set, slice_index, replicate, List, [], ◌∷◌, ◌++◌, length, Option, Some, None, option_map, MatchOption}
 use Rattle.std.specs.FinMap.{len}
 use Rattle.bz_acts.specs.Rule.{is_flush_act}
 use Rattle.bz_acts.specs.declared.acted.Act.{Act}
 use Rattle.bz_acts.specs.declared.acted.Act.TheVariants as act
 use Rattle.bz_call.specs.Pages.{is_page}
 use Rattle.bz_call.specs.declared.calls.Call.{Call}
+use Rattle.bz_call.specs.declared.calls.Call.TheVariants as call
 use Rattle.bz_call.specs.declared.replies.Reply.{Reply}
 use Rattle.bz_call.specs.declared.replies.Reply.TheVariants.{Full}
 use Rattle.bz_call.specs.declared.replies.Spent.{Spent}
@@ -50,19 +51,25 @@ abbrev pub supply_by : Power → Supply → Supply
 supply_by power.On supply = supply
 supply_by other supply = record { taken = 0; left = 0 }
 
--- the numbers that the world was made with, what the power was at first, its journal, and of each worker, from worker 0 on, whether its next act is a flush, and
--- whether it was one when the power was cut last; before the first cut nobody has a flag of that kind; and what is taken and left
+-- the numbers that the world was made with, what the power was at first, its journal, and of each worker, from worker 0 on, whether its next act is a flush,
+-- whether it has a swap under way, and whether its next act was a flush when the power was cut last; before the first cut nobody has a flag of that last kind; and
+-- what is taken and left
 pub record Lab : Type 0 where
   pub config : Config
   pub at_start : Power
   pub log : Log
   pub flushes : List Bool
+  pub swapping : List Bool
   pub left_out : List Bool
   pub supply : Supply
 
 -- whether the next act of a worker is a flush
 abbrev pub flush_of : Lab → ℕ → Bool
 flush_of lab w = get_or lab.flushes w false
+
+-- whether a worker has a swap under way: it has begun one, and has not been told what came of it
+abbrev pub is_swapping : Lab → ℕ → Bool
+is_swapping lab w = get_or lab.swapping w false
 
 -- whether the act of a worker that the last power cut left out was a flush
 abbrev pub flush_left_out : Lab → ℕ → Bool
@@ -75,6 +82,7 @@ lab_over config start at_start = record {
   at_start = at_start;
   log = record { start = start; past = []; pages = []; limits = record { marks = config.marks; calls = config.calls; pages = config.pages } };
   flushes = replicate (config.workers + 1) false;
+  swapping = replicate (config.workers + 1) false;
   left_out = [];
   supply = supply_by at_start (record { taken = 0; left = config.nodes - 1 });
 }
@@ -97,6 +105,16 @@ recovery_acts lab = acts_by 0 (since_on lab.log.past)
 
 abbrev pub recovery_most : Config → ℕ
 recovery_most c = MOST_ACTS * words_of c
+
+-- the call deletes its key
+abbrev pub is_delete : Call → Bool
+is_delete (call.Delete key) = true
+is_delete other = false
+
+-- an open call that has had its effect does nothing but finish the swap that made it, and ends when that is told: but for a delete, which may go on to have its leaf
+-- merged. So none looks for its key again once its change stands
+abbrev pub AreFinishing : Lab → Type 0
+AreFinishing lab = (w at : ℕ) (opened : Open) → open_call w lab.log.past ≡ Some opened → opened.effect ≡ Some at → is_delete opened.call ≡ false → is_swapping lab w ≡ true
 
 -- the number of a worker's open call, if one is open
 abbrev pub open_number : Lab → ℕ → Option ℕ
@@ -158,7 +176,7 @@ begin_answer lab w called =
 
 -- a begin adds its mark where it is no refusal, and changes nothing else: a call's first act is no flush
 abbrev pub after_begin : Lab → ℕ → Call → Begun → Lab
-after_begin lab w called (begun.Begun n) = record lab { log = with_mark lab.log (Begin w n called); flushes = slice_set lab.flushes w false }
+after_begin lab w called (begun.Begun n) = record lab { log = with_mark lab.log (Begin w n called); flushes = slice_set lab.flushes w false; swapping = slice_set lab.swapping w false }
 after_begin lab w called refusal = lab
 
 -- a worker without an open call makes no step
@@ -257,7 +275,7 @@ EndsFullRightly config old w new supply = (n at : ℕ) (spent : Spent) → new.p
 
 -- a step of a worker: exactly one act of it, a flush exactly where that was said before; at most one effect; at most its
 -- call's End, which is a Full only where what that names has run out. A task takes at most as many slots as a split does: the one
--- that this act ends, and the next one. What the next acts of the others are stays.
+-- that this act ends, and the next one. What the next acts of the others are stays, and which of them have a swap under way.
 pub record Steps (old : Lab) (w : ℕ) (answer : Applied) (new : Lab) : Type 0 where
   pub made : Act
   pub flush : is_flush_act made ≡ flush_of old w
@@ -270,6 +288,7 @@ pub record Steps (old : Lab) (w : ℕ) (answer : Applied) (new : Lab) : Type 0 w
   pub at_start : new.at_start ≡ old.at_start
   pub left_out : new.left_out ≡ old.left_out
   pub others : (v : ℕ) → v ≢ w → flush_of new v ≡ flush_of old v
+  pub apart : (v : ℕ) → v ≢ w → is_swapping new v ≡ is_swapping old v
 
 -- the recovery goes on, or has ended with this act: its Ready follows directly
 abbrev pub EndsRecovery : Log → Applied → Log → Type 0
@@ -292,6 +311,7 @@ pub record Recovers (old : Lab) (answer : Applied) (new : Lab) : Type 0 where
   pub at_start : new.at_start ≡ old.at_start
   pub left_out : new.left_out ≡ old.left_out
   pub others : (v : ℕ) → v ≢ 0 → flush_of new v ≡ flush_of old v
+  pub apart : (v : ℕ) → v ≢ 0 → is_swapping new v ≡ is_swapping old v
 
 abbrev pub StepsBy : Power → Lab → ℕ → Applied → Lab → Type 0
 StepsBy power.Recovering old w answer new = Recovers old answer new
@@ -306,11 +326,11 @@ pub record Evicts (old : Lab) (a : ℕ) (answer : Applied) (new : Lab) : Type 0 
 
 -- a power cut adds its mark, and nobody has a next act: which of them were flushes is kept. What was taken is told no more
 abbrev pub after_cut : Lab → Lab
-after_cut lab = record lab { log = with_mark lab.log Cut; flushes = replicate (lab.config.workers + 1) false; left_out = lab.flushes; supply = supply_by power.Off lab.supply }
+after_cut lab = record lab { log = with_mark lab.log Cut; flushes = replicate (lab.config.workers + 1) false; swapping = replicate (lab.config.workers + 1) false; left_out = lab.flushes; supply = supply_by power.Off lab.supply }
 
 -- power on adds its mark: the first act of a recovery is no flush
 abbrev pub after_on : Lab → Lab
-after_on lab = record lab { log = with_mark lab.log On; flushes = slice_set lab.flushes 0 false }
+after_on lab = record lab { log = with_mark lab.log On; flushes = slice_set lab.flushes 0 false; swapping = slice_set lab.swapping 0 false }
 
 -- the answer to an event: a refusal exactly where one applies, and then nothing changes
 abbrev pub IsApplied : Lab → Event → Applied → Lab → Type 0

@@ -4,7 +4,7 @@ ghost use Rattle.bz_task.specs.declared.todo.Seen.TheVariants.{Start};
 ghost use Rattle.bz_task.specs.declared.todo.Todo.TheVariants.{Finish};
 ghost use Rattle.bz_call.specs.Pages.{names_page};
 ghost use Rattle.bz_world.specs.Inside.Acted.{MustTell};
-ghost use Rattle.bz_world.specs.Inside.Going.{MustGoOn, HadEffect, LacksSwap, IsShort, WentOn, end_in, needs_in};
+ghost use Rattle.bz_world.specs.Inside.Going.{MustLookUp, MayGoOnIn, HadEffect, LacksSwap, IsShort, WentOn, end_in, needs_in};
 ghost use Rattle.bz_world.specs.Inside.Serving.{effect_reply as reply_in};
 ghost use Rattle.bz_world.specs.Inside.Telling.{MustStart};
 
@@ -23,7 +23,7 @@ use bz_task::{Outcome, Seen, Todo};
 
 /// Begins the lookup of the call's key, again.
 pub(crate) fn look_up(parts: &mut Parts, w: u8) -> Applied
-    requires { MustGoOn parts.old w }
+    requires { MustLookUp parts.old w }
     ensures went { WentOn parts.old w result parts.new }
     ensures slots { parts.new.slots ≡ parts.old.slots }
 {
@@ -106,6 +106,7 @@ pub(crate) fn outcome_of(parts: &Parts, w: u8) -> Outcome
 /// Starts what a task asks for; where it has ended at once, its call is looked up again.
 pub(crate) fn go_on(parts: &mut Parts, w: u8, todo: Todo) -> Applied
     requires asks { MustStart parts.old w todo }
+    requires may { MayGoOnIn (get_or parts.old.workers.items w None) }
     requires room { length parts.old.journal.past < parts.old.config.marks }
     ensures went { WentOn parts.old w result parts.new }
     // no more slots are gone than its task was still to take

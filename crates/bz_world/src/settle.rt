@@ -3,7 +3,7 @@ ghost use Rattle.std.specs.Prelude.{◌≡◌, ◌<◌, None, Some, length, get_
 ghost use Rattle.bz_call.specs.declared.calls.Call.TheVariants as called;
 ghost use Rattle.bz_task.specs.declared.todo.Outcome.TheVariants.{Full, NeedsRoom};
 ghost use Rattle.bz_task.specs.declared.todo.Todo.TheVariants.{Finish};
-ghost use Rattle.bz_world.specs.Inside.Going.{MustAnswer, MustAnswerKey, HasEnded, HasEndedAfter, HasReadAfter, IsFullRightly, MustGoOn, WentOn, call_in};
+ghost use Rattle.bz_world.specs.Inside.Going.{MustAnswer, MustAnswerKey, HasEnded, HasEndedAfter, HasReadAfter, IsFullRightly, MustLookUp, WentOn, call_in};
 ghost use Rattle.bz_world.specs.Inside.Telling.{MustStart};
 
 use crate::answers::Applied;
@@ -103,7 +103,7 @@ fn settle_full(parts: &mut Parts, w: u8, spent: Spent) -> Applied
 
 // Looks the call's key up again. Where its leaf was to be merged, no neighbour had room for it, and it is copied then.
 fn look_up_alone(parts: &mut Parts, w: u8) -> Applied
-    requires { MustGoOn parts.old w }
+    requires { MustLookUp parts.old w }
     ensures { WentOn parts.old w result parts.new }
 {
     let alone = is_merging(&parts.workers[w as usize]);
@@ -156,13 +156,18 @@ fn settle_small(parts: &mut Parts, w: u8, at: u32, view: &LeafView) -> Applied
     }
 }
 
-// The task of a call that has made its change has ended so. A delete that leaves little in its leaf looks its key up again and reads the
-// leaf, to merge it with a neighbour; whatever stands against that, or comes of it, its reply is of the moment of its effect.
+// The task of a call that has made its change has ended so, and the call ends. Only a delete that leaves little in its leaf looks its key
+// up again and reads the leaf, to merge it with a neighbour; whatever stands against that, or comes of it, its reply is of the moment of
+// its effect.
 fn settle_effective(parts: &mut Parts, w: u8, at: u32, outcome: Outcome) -> Applied
     requires ends { HasEndedAfter parts.old w at outcome }
     requires room { length parts.old.journal.past < parts.old.config.marks }
     ensures { WentOn parts.old w result parts.new }
 {
+    let call = called(&parts.workers[w as usize]);
+    let Call::Delete(_) = call else {
+        return end_effective(parts, w, at);
+    };
     match outcome {
         Outcome::Done => {
             if leaves_few(&parts.workers[w as usize]) {

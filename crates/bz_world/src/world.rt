@@ -45,7 +45,7 @@ impl Model for World {
 }
 
 impl World {
-    ghost use Rattle.bz_world.specs.Lab.{Lab, IsWorker, new_lab, image_lab, IsOpenFault, IsBootFault, power_in, begin_answer, after_begin, flush_of, open_number, reply_of, pairs_in, recovery_acts, recovery_most, IsApplied};
+    ghost use Rattle.bz_world.specs.Lab.{Lab, IsWorker, new_lab, image_lab, IsOpenFault, IsBootFault, power_in, begin_answer, after_begin, flush_of, open_number, reply_of, pairs_in, recovery_acts, recovery_most, AreFinishing, IsApplied};
 
     /// A world over fresh memory, in which nothing has happened.
     pub fn open(alloc: Global, config: &Config) -> Result<World, OpenError>
@@ -97,6 +97,8 @@ impl World {
         // a recovery is bounded
         ensures bounded { power_in self.now ≡ Recovering → recovery_acts self.now < recovery_most self.now.config }
         ensures unbroken { self.now.at_start ≡ On → IsUnbroken self.now.log.past → before.IsSound self.now.config self.now.log }
+        // a call whose change stands ends with the swap that made it
+        ensures finishing { AreFinishing self.now }
         ensures workers { (w : ℕ) → (IsWorker self.now.config w → ⊥) → open_call w self.now.log.past ≡ None }
     {
         bz_sound::power_laws::sound_as_before();

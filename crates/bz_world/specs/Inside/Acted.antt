@@ -1,13 +1,13 @@
 -- What stands between an act and the next: an act that was made, an effect that is not told, an answer that is not told, and a
 -- call whose task is to go on.
-use Rattle.std.specs.Prelude.{◌≡◌, ◌≢◌, ℕ, ◌<◌, ◌≤◌, ◌∷◌, length, get_or, Option, Some, None}
+use Rattle.std.specs.Prelude.{◌≡◌, ◌≢◌, ◌⊎◌, ℕ, ◌<◌, ◌≤◌, ◌∷◌, true, length, get_or, Option, Some, None}
 use Rattle.bz_acts.specs.Rule.{is_flush_act}
 use Rattle.bz_acts.specs.declared.acted.Act.{Act}
 use Rattle.bz_machine.specs.declared.done.Done.{Done}
 use Rattle.bz_mark.specs.Log.{with_mark}
 use Rattle.bz_mark.specs.declared.marks.Mark.{Mark}
 use Rattle.bz_mark.specs.declared.marks.Mark.TheVariants.{Evict}
-use Rattle.bz_running.specs.Duties.{asks_of, needs_of, facts_of}
+use Rattle.bz_running.specs.Duties.{asks_of, needs_of, publishing_of, facts_of}
 use Rattle.bz_sight.specs.Effects.{TakesPlace}
 use Rattle.bz_sound.specs.Calls.{Open}
 use Rattle.bz_sound.specs.Memory.Moments.{IsAfterFlush, map_at_start}
@@ -25,10 +25,12 @@ use Rattle.bz_swap.specs.SwapMemory.{SwapMemory, Idle, doing_of, worker_of}
 use Rattle.bz_task.specs.Requests.{Hears, Tells}
 use Rattle.bz_task.specs.Scene.{Stage, Waiting}
 use Rattle.bz_task.specs.declared.todo.Seen.{Seen}
+use Rattle.bz_task.specs.declared.todo.Seen.TheVariants.{Swapped}
 use Rattle.bz_task.specs.declared.todo.Todo.{Todo}
+use Rattle.bz_task.specs.declared.todo.Todo.TheVariants.{Finish}
 use Rattle.bz_world.specs.Inside.Kept.{IsTabled, AreTaken, AreFree, IsAwake}
 use Rattle.bz_world.specs.Lab.{mark_of, IsStruck}
-use Rattle.bz_world.specs.Inside.Serving.{IsCovered, IsSlot, IsOpened, IsTasked}
+use Rattle.bz_world.specs.Inside.Serving.{IsCovered, IsSlot, IsOpened, IsTasked, MayGoOn}
 use Rattle.bz_world.specs.declared.parts.Parts.{Parts}
 use Rattle.bz_world.specs.declared.serving.Serving.{Serving}
 
@@ -80,6 +82,11 @@ pub record IsBetween (p : Parts) (w : ℕ) (x : Serving) : Type 0 where
   pub call_open : IsOpened p.config p.journal w opened x
   pub idle : doing_of p.access w ≡ Idle
 
+-- its task's swap has made the change of the call, and it is told so
+pub record HasWon (x : Serving) (seen : Seen) : Type 0 where
+  pub publishing : publishing_of x.task ≡ true
+  pub won : seen ≡ Swapped true
+
 -- and its task is to be told this
 pub record IsTold (p : Parts) (w : ℕ) (x : Serving) (seen : Seen) : Type 0 where
   pub between : IsBetween p w x
@@ -87,14 +94,16 @@ pub record IsTold (p : Parts) (w : ℕ) (x : Serving) (seen : Seen) : Type 0 whe
   pub stage : Stage
   pub facts : facts_of x.task stage (scene p.config p.journal.past between.story w between.opened)
   pub covered : IsCovered (between.story.took w) (between.story.filled w) (needs_of x.task)
+  pub finished : MayGoOn x ⊎ HasWon x seen
   pub hears : Hears (asks_of x.task) seen
   pub tells : Tells (asks_of x.task) stage seen (scene p.config p.journal.past between.story w between.opened)
 
--- and its task asks for this
+-- and its task asks for this: for nothing more, where its change is made
 pub record IsAsking (p : Parts) (w : ℕ) (x : Serving) (todo : Todo) : Type 0 where
   pub between : IsBetween p w x
   pub tasked : IsTasked p.config x.call x.path x.had x.task
   pub asks : asks_of x.task ≡ Some todo
+  pub finished : MayGoOn x ⊎ (todo ≡ Finish)
   pub facts : facts_of x.task Waiting (scene p.config p.journal.past between.story w between.opened)
   pub covered : IsCovered (between.story.took w) (between.story.filled w) (needs_of x.task)
 

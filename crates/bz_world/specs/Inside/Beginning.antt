@@ -1,10 +1,10 @@
 -- The begin of a call.
-use Rattle.std.specs.Prelude.{◌≡◌, ◌<◌, ◌≤◌, ◌+◌, ℕ, if◌then◌else◌, length, map, get_or, Option, Some, None}
+use Rattle.std.specs.Prelude.{◌≡◌, ◌<◌, ◌≤◌, ◌+◌, ℕ, if◌then◌else◌, Bool, true, false, length, map, get_or, Option, Some, None}
 use Rattle.bz_call.specs.Pages.{is_page}
 use Rattle.bz_call.specs.declared.calls.Call.{Call}
 use Rattle.bz_sound.specs.declared.power.Power.TheVariants as power
 use Rattle.bz_sound.specs.Calls.{begun_calls}
-use Rattle.bz_swap.specs.SwapMemory.{Working}
+use Rattle.bz_swap.specs.SwapMemory.{Working, Doing, Swapping}
 use Rattle.bz_world.specs.Inside.Kept.{IsAwake}
 use Rattle.bz_world.specs.Lab.{Lab, Supply, supply_by, powered_answer, begin_answer, after_begin}
 use Rattle.bz_world.specs.declared.answers.Begun.{Begun}
@@ -15,6 +15,11 @@ use Rattle.bz_world.specs.declared.parts.Parts.{Parts}
 abbrev pub supply_of : Parts → Supply
 supply_of p = record { taken = p.access.taken; left = length p.slots.free }
 
+-- what a worker does is a swap
+abbrev pub is_swap : Doing → Bool
+is_swap (Swapping s) = true
+is_swap doing = false
+
 -- what callers see of a world of these parts
 abbrev pub lab_of : Parts → Lab
 lab_of p = record {
@@ -22,6 +27,7 @@ lab_of p = record {
   at_start = p.at_start;
   log = p.journal;
   flushes = map (λ (v : Working). v.flush_next) p.access.workers;
+  swapping = map (λ (v : Working). is_swap v.doing) p.access.workers;
   left_out = p.left_out.items;
   supply = supply_by p.power (supply_of p);
 }

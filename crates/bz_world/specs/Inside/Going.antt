@@ -33,8 +33,8 @@ use Rattle.bz_word.specs.Statuses.{status}
 use Rattle.bz_world.specs.Inside.Acted.{IsBetween}
 use Rattle.bz_world.specs.Inside.Beginning.{supply_of}
 use Rattle.bz_world.specs.Inside.Kept.{IsAwake}
-use Rattle.bz_world.specs.Lab.{GoesOn, Spends, HasRunOut, EndsFullRightly}
-use Rattle.bz_world.specs.Inside.Serving.{IsTasked, IsWanted}
+use Rattle.bz_world.specs.Lab.{GoesOn, Spends, HasRunOut, EndsFullRightly, is_delete}
+use Rattle.bz_world.specs.Inside.Serving.{IsTasked, IsWanted, MayGoOn}
 use Rattle.bz_world.specs.declared.answers.Applied.{Applied}
 use Rattle.bz_world.specs.declared.parts.Parts.{Parts}
 use Rattle.bz_world.specs.declared.serving.Serving.{Serving}
@@ -45,6 +45,16 @@ pub record MustGoOn (p : Parts) (w : ℕ) : Type 0 where
   pub is : get_or p.workers.items w None ≡ Some serving
   pub between : IsBetween p w serving
   pub filled : (k : ℕ) → between.story.took w k ≡ true → between.story.filled w k ≡ true
+
+-- and it may look its key up, or have its leaf changed
+pub record MustLookUp (p : Parts) (w : ℕ) : Type 0 where
+  pub on : MustGoOn p w
+  pub may : MayGoOn on.serving
+
+-- the call in this place may go on so
+abbrev pub MayGoOnIn : Option Serving → Type 0
+MayGoOnIn None = ⊥
+MayGoOnIn (Some x) = MayGoOn x
 
 -- what is known of the memory since the call began
 abbrev pub known : (p : Parts) (w : ℕ) → MustGoOn p w → Scene
@@ -118,6 +128,7 @@ with_alone slot alone = option_map (λ (x : Serving). record x { alone = alone }
 -- its key had this payload, or none
 pub record MustTakeOn (p : Parts) (w : ℕ) (task : Running) (way : Option Path) (had : Option (List ℕ)) (asked : Option Todo) : Type 0 where
   pub on : MustGoOn p w
+  pub may : MayGoOn on.serving
   pub tasked : IsTasked p.config on.serving.call way had task
   pub asks : asks_of task ≡ asked
   pub facts : facts_of task Waiting (known p w on)
@@ -126,6 +137,7 @@ pub record MustTakeOn (p : Parts) (w : ℕ) (task : Running) (way : Option Path)
 -- the way to its leaf was found
 pub record MustRead (p : Parts) (w : ℕ) (path : Path) : Type 0 where
   pub on : MustGoOn p w
+  pub may : MayGoOn on.serving
   pub leads : IsPath (key_of on.serving.call) path (known p w on).past
 
 -- its task has ended so, and it had no effect
@@ -203,6 +215,7 @@ pub record MustSplitBelow (p : Parts) (w : ℕ) (path : Path) (view : LeafView) 
 -- no frozen nodes': it may be merged with a neighbour, where that is wanted
 pub record MustMerge (p : Parts) (w : ℕ) (path : Path) (view : LeafView) : Type 0 where
   pub on : MustGoOn p w
+  pub may : MayGoOn on.serving
   pub viewed : IsView (key_of on.serving.call) view (known p w on).past
   pub way : IsPath (key_of on.serving.call) path (known p w on).past
   pub deep : 2 ≤ path.depth
@@ -247,9 +260,10 @@ pub record HasEndedAfter (p : Parts) (w at : ℕ) (outcome : Outcome) : Type 0 w
   pub view : (view : LeafView) → outcome ≡ outcomes.View view → IsView (key_of had.on.serving.call) view (known p w had.on).past
   pub leads : (view : LeafView) → outcome ≡ outcomes.View view → (path : Path) → had.on.serving.path ≡ Some path → IsPath (key_of had.on.serving.call) path (known p w had.on).past
 
--- or its leaf was read since, by the path that was found
+-- or the leaf of a delete was read since, by the path that was found
 pub record HasReadAfter (p : Parts) (w at : ℕ) (view : LeafView) : Type 0 where
   pub had : HadEffect p w at
+  pub deletes : is_delete had.on.serving.call ≡ true
   pub viewed : IsView (key_of had.on.serving.call) view (known p w had.on).past
   pub leads : (path : Path) → had.on.serving.path ≡ Some path → IsPath (key_of had.on.serving.call) path (known p w had.on).past
 

@@ -27,6 +27,7 @@ use Rattle.bz_task.specs.declared.path.Path.{Path}
 use Rattle.bz_task.specs.declared.todo.Todo.{Todo}
 use Rattle.bz_task.specs.declared.todo.Todo.TheVariants as todo
 use Rattle.bz_word.specs.declared.entry.Entry.{Entry}
+use Rattle.bz_world.specs.Lab.{is_delete}
 use Rattle.bz_world.specs.declared.serving.Serving.{Serving}
 
 -- the change that a call makes where its key had this payload, or none
@@ -51,6 +52,16 @@ size_after other n = n
 -- directly before its effect, if it has had one, the map answers it so
 abbrev pub IsToldBy : Config → Log → Open → Option (List ℕ) → Type 0
 IsToldBy c log opened had = (at : ℕ) → opened.effect ≡ Some at → (apply (map_at (map_at_start c log.start) at log.past) opened.call).reply ≡ Some (effect_reply opened.call had)
+
+-- its change is still to be made, or it is a delete, which may go on to have its leaf merged
+abbrev pub MayGoOn : Serving → Type 0
+MayGoOn x = (x.effect ≡ None) ⊎ (is_delete x.call ≡ true)
+
+-- else its worker is at the swap that made the change
+pub record IsFinishing (m : SwapMemory) (w : ℕ) (x : Serving) : Type 0 where
+  pub publishing : publishing_of x.task ≡ true
+  pub swap : ℕ
+  pub doing : doing_of m w ≡ Swapping swap
 
 -- worker w does a swap of these entries
 pub record IsSwapping (m : SwapMemory) (owners : List ℕ) (w : ℕ) (entries : List Entry) : Type 0 where
@@ -116,6 +127,7 @@ pub record IsServing (c : Config) (m : SwapMemory) (log : Log) (story : Story) (
   pub asked : Todo
   pub asks : asks_of x.task ≡ Some asked
   pub doing : IsDoing m owners w asked
+  pub finishing : MayGoOn x ⊎ IsFinishing m w x
   pub facts : facts_of x.task (stage_in m (doing_of m w)) (scene c log.past story w opened)
   pub covered : IsCovered (story.took w) (story.filled w) (needs_of x.task)
 

@@ -1,4 +1,4 @@
-use Rattle.std.proofs.Common.{ap, ◌∙◌, Some, None}
+use Rattle.std.proofs.Common.{inl, ap, ◌∙◌, Some, None}
 use Rattle.bz_call.specs.Map.{key_of}
 use Rattle.bz_world.proofs.Changing.{must-change, some-found, delete-changes}
 use Rattle.bz_world.proofs.changes.delete.Goals as goal
@@ -11,3 +11,6 @@ begin_change-requires-clause-change c =
 
 pub delete-task-requires : goal.delete-task-requires
 delete-task-requires c = record { present = some-found c.args.view.now.found c.args.had c.requires.present }
+
+pub look_up-requires : goal.look_up-requires
+look_up-requires c = record { on = c.requires.must.answer.on; may = inl c.requires.must.answer.quiet }

@@ -1,6 +1,6 @@
-use Rattle.std.proofs.Common.{refl, sym, ap, ◌∙◌}
+use Rattle.std.proofs.Common.{refl, sym, ap, subst, ◌∙◌, inl}
 use Rattle.bz_task.specs.declared.todo.Outcome.TheVariants.{NeedsRoom}
-use Rattle.bz_world.specs.Inside.Going.{end_in}
+use Rattle.bz_world.specs.Inside.Going.{end_in, MayGoOnIn}
 use Rattle.bz_world.proofs.TakingOn.{serving-is, ended-by, must-read-whole}
 use Rattle.bz_world.proofs.changes.go_on_changing.Goals as goal
 
@@ -12,3 +12,6 @@ read_whole-requires-clause-way c =
 
 pub go_on-requires-clause-asks : goal.go_on-requires-clause-asks
 go_on-requires-clause-asks c = c.requires.asks.must
+
+pub go_on-requires-clause-may : goal.go_on-requires-clause-may
+go_on-requires-clause-may c = subst MayGoOnIn (sym c.requires.asks.must.is) (inl c.requires.asks.knows.quiet)

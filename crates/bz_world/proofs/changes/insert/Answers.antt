@@ -1,4 +1,4 @@
-use Rattle.std.proofs.Common.{None}
+use Rattle.std.proofs.Common.{inl, None}
 use Rattle.bz_world.proofs.Changing.{must-change, insert-key, insert-changes}
 use Rattle.bz_world.proofs.changes.insert.Goals as goal
 
@@ -7,3 +7,6 @@ begin_change-requires-clause-change c =
     must-change c.start_laws.ensures.scenes c.args.parts.now c.args.w c.args.view.now c.requires.must.answer c.args.key (insert-key c.requires.must.answer.on.serving.call c.args.key c.args.payload c.requires.must.may)
     c.insert-task.result None c.insert-task.ensures.config c.laws.ensures
     (insert-changes c.requires.must.answer.on.serving.call c.args.key c.args.payload _ c.requires.must.may c.insert-task.ensures.change) c.insert-task.ensures.ends c.insert-task.ensures.asks c.insert-task.ensures.wants c.insert-task.ensures.facts
+
+pub look_up-requires : goal.look_up-requires
+look_up-requires c = record { on = c.requires.must.answer.on; may = inl c.requires.must.answer.quiet }

@@ -1,4 +1,4 @@
-use Rattle.std.proofs.Common.{ap, ◌∙◌, Some}
+use Rattle.std.proofs.Common.{inl, ap, ◌∙◌, Some}
 use Rattle.bz_world.proofs.Changing.{must-change, some-found, update-key, update-changes}
 use Rattle.bz_world.proofs.changes.update.Goals as goal
 
@@ -10,3 +10,6 @@ begin_change-requires-clause-change c =
 
 pub update-task-requires : goal.update-task-requires
 update-task-requires c = record { present = some-found c.args.view.now.found c.args.had c.requires.present }
+
+pub look_up-requires : goal.look_up-requires
+look_up-requires c = record { on = c.requires.must.answer.on; may = inl c.requires.must.answer.quiet }

@@ -1,4 +1,4 @@
-use Rattle.std.proofs.Common.{refl, sym, subst, ◌∙◌}
+use Rattle.std.proofs.Common.{refl, sym, subst, ◌∙◌, inl}
 use Rattle.bz_call.specs.declared.replies.Reply.TheVariants.{Full}
 use Rattle.bz_sound.specs.Memory.Replies.{IsWrite}
 use Rattle.bz_world.specs.Inside.Beginning.{supply_of}
@@ -17,3 +17,6 @@ end-requires-clause-right c = subst (MustEnd c.args.parts.now c.args.w (Full c.a
   where
     writes : IsWrite c.requires.short.on.between.opened.call
     writes = subst IsWrite (sym (c.requires.short.on.between.call_open.call ∙ call-is c.args.parts.now c.args.w c.requires.short.on c.index.result.now c.called-call.result c.index.ensures c.called-call.ensures)) (c.if-is_write.ensures.0 refl)
+
+pub look_up-requires : goal.look_up-requires
+look_up-requires c = record { on = c.requires.short.on; may = inl c.requires.short.quiet }

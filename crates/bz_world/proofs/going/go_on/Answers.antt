@@ -3,6 +3,7 @@ use Rattle.std.specs.Prelude.{get_or}
 use Rattle.bz_layout.specs.Slots.{FreeSlots}
 use Rattle.bz_task.specs.declared.todo.Seen.TheVariants.{NoSwap}
 use Rattle.bz_world.specs.Inside.Acted.{MustTell}
+use Rattle.bz_world.specs.Inside.Going.{MayGoOnIn}
 use Rattle.bz_world.specs.Inside.Telling.{HasToldIn}
 use Rattle.bz_world.specs.declared.parts.Parts.{Parts}
 use Rattle.bz_world.proofs.Supplies.{told-few, told-fewer, few-asked}
@@ -10,7 +11,10 @@ use Rattle.bz_world.proofs.TakingOn.{must-go-on, ended-by, lacks-told, lacks-swa
 use Rattle.bz_world.proofs.going.go_on.Goals as goal
 
 pub look_up-requires : goal.look_up-requires
-look_up-requires c = must-go-on c.args.parts.now c.args.w c.args.todo c.requires.asks c.outcome_of.result (ended-by c.args.parts.now c.args.w c.args.todo c.requires.asks c.outcome_of.result c.outcome_of.ensures)
+look_up-requires c = record {
+  on = must-go-on c.args.parts.now c.args.w c.args.todo c.requires.asks c.outcome_of.result (ended-by c.args.parts.now c.args.w c.args.todo c.requires.asks c.outcome_of.result c.outcome_of.ensures);
+  may = subst MayGoOnIn c.requires.asks.is c.requires.may;
+}
 
 pub tell-requires : goal.tell-requires
 tell-requires c = subst (λ (p : Parts). MustTell p c.args.w NoSwap) (sym (c.start.ensures.same c.if-start.false)) (lacks-told c.args.parts.now c.args.w c.args.todo c.requires.asks (c.start.ensures.lacks c.if-start.false))

@@ -9,7 +9,7 @@ use Rattle.bz_world.proofs.lookups.find_key.Goals as goal
 
 pub begin_task-requires-clause-begins : goal.begin_task-requires-clause-begins
 begin_task-requires-clause-begins c = taken-begins c.args.parts.now c.args.w c.find-task.result c.requires.path.on.serving.had None (Some c.args.path)
-    (lookup-taken c.args.parts.now c.args.w c.requires.path.on c.find-task.result (Some c.args.path) None c.key_of.result c.find-task.ensures.config c.laws.ensures c.find-task.ensures.silent c.find-task.ensures.ends
+    (lookup-taken c.args.parts.now c.args.w c.requires.path.on c.requires.path.may c.find-task.result (Some c.args.path) None c.key_of.result c.find-task.ensures.config c.laws.ensures c.find-task.ensures.silent c.find-task.ensures.ends
     key c.find-task.ensures.asks (c.find-task.ensures.facts (known c.args.parts.now c.args.w c.requires.path.on) (known-scene c.start_laws.ensures.scenes c.args.parts.now c.args.w c.requires.path.on)
     (subst (λ k. IsPath k c.args.path (known c.args.parts.now c.args.w c.requires.path.on).past) (sym key) c.requires.path.leads))
     (none-wanted c.args.parts.now c.args.w c.requires.path.on c.find-task.result c.find-task.ensures.wants))

@@ -9,7 +9,7 @@ use Rattle.bz_world.proofs.lookups.read_leaf.Goals as goal
 
 pub begin_task-requires-clause-begins : goal.begin_task-requires-clause-begins
 begin_task-requires-clause-begins c = taken-begins c.args.parts.now c.args.w c.read_leaf-task.result c.requires.path.on.serving.had None (Some c.args.path)
-    (lookup-taken c.args.parts.now c.args.w c.requires.path.on c.read_leaf-task.result (Some c.args.path) None c.key_of.result c.read_leaf-task.ensures.config c.laws.ensures c.read_leaf-task.ensures.silent c.read_leaf-task.ensures.ends
+    (lookup-taken c.args.parts.now c.args.w c.requires.path.on c.requires.path.may c.read_leaf-task.result (Some c.args.path) None c.key_of.result c.read_leaf-task.ensures.config c.laws.ensures c.read_leaf-task.ensures.silent c.read_leaf-task.ensures.ends
     key c.read_leaf-task.ensures.asks (c.read_leaf-task.ensures.facts (known c.args.parts.now c.args.w c.requires.path.on) (known-scene c.start_laws.ensures.scenes c.args.parts.now c.args.w c.requires.path.on)
     (subst (λ k. IsPath k c.args.path (known c.args.parts.now c.args.w c.requires.path.on).past) (sym key) c.requires.path.leads))
     (none-wanted c.args.parts.now c.args.w c.requires.path.on c.read_leaf-task.result c.read_leaf-task.ensures.wants))

@@ -1,4 +1,4 @@
-use Rattle.std.proofs.Common.{refl}
+use Rattle.std.proofs.Common.{refl, inl}
 use Rattle.bz_call.specs.Map.{key_of}
 use Rattle.bz_world.proofs.Changing.{needs-merge}
 use Rattle.bz_world.proofs.restructuring.merge_or_copy.Goals as goal
@@ -6,6 +6,7 @@ use Rattle.bz_world.proofs.restructuring.merge_or_copy.Goals as goal
 pub merge-requires-clause-merge : goal.merge-requires-clause-merge
 merge-requires-clause-merge c = let due = c.is_due.ensures.due.0 c.if-is_due.true in record {
   on = c.requires.copy.anew.answer.on;
+  may = inl c.requires.copy.anew.answer.quiet;
   viewed = c.requires.copy.anew.answer.viewed;
   way = c.requires.copy.anew.way;
   deep = due.0;

@@ -1,4 +1,4 @@
-use Rattle.std.proofs.Common.{sym, subst}
+use Rattle.std.proofs.Common.{sym, subst, inl}
 use Rattle.std.specs.Prelude.{IfSome, Option}
 use Rattle.bz_running.specs.declared.running.Running.{Running}
 use Rattle.bz_world.specs.Inside.Going.{CanGoUpIn, GoesUpIn, known}
@@ -19,4 +19,4 @@ split_above-requires-clause-up c =
     record { ends = e; up = subst (λ (z : Option Serving). GoesUpIn z c.in-Some.task) (slot-is c.args.parts.now c.args.w e.on c.index.result.now c.index.ensures) found }
 
 pub look_up_alone-requires : goal.look_up_alone-requires
-look_up_alone-requires c = c.requires.ends.on
+look_up_alone-requires c = record { on = c.requires.ends.on; may = inl c.requires.ends.quiet }

@@ -1,4 +1,4 @@
-use Rattle.std.proofs.Common.{ap, subst, sym}
+use Rattle.std.proofs.Common.{ap, subst, sym, inl}
 use Rattle.bz_call.specs.declared.replies.Spent.TheVariants.{Nodes, Height}
 use Rattle.bz_task.specs.declared.todo.Outcome.TheVariants.{Full}
 use Rattle.bz_world.specs.Inside.Going.{HasEnded, IsShort, IsOutOfSlots}
@@ -20,4 +20,4 @@ end_full-requires-in-Height-clause-short c =
     subst (IsShort c.args.parts.now c.args.w) (sym c.in-Height.is) short
 
 pub look_up-requires : goal.look_up-requires
-look_up-requires c = c.requires.ends.on
+look_up-requires c = record { on = c.requires.ends.on; may = inl c.requires.ends.quiet }

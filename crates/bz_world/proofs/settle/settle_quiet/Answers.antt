@@ -1,9 +1,9 @@
-use Rattle.std.proofs.Common.{subst}
+use Rattle.std.proofs.Common.{subst, inl}
 use Rattle.bz_world.specs.Inside.Going.{HasEnded}
 use Rattle.bz_world.proofs.settle.settle_quiet.Goals as goal
 
 pub look_into-requires-clause-path : goal.look_into-requires-clause-path
-look_into-requires-clause-path c = record { on = c.requires.ends.on; leads = c.requires.ends.path c.in-Path.path c.in-Path.is }
+look_into-requires-clause-path c = record { on = c.requires.ends.on; may = inl c.requires.ends.quiet; leads = c.requires.ends.path c.in-Path.path c.in-Path.is }
 
 pub answer-requires-clause-view : goal.answer-requires-clause-view
 answer-requires-clause-view c = record { on = c.requires.ends.on; viewed = c.requires.ends.found c.in-Key.view c.in-Key.is; leads = c.requires.ends.leads_found c.in-Key.view c.in-Key.is; quiet = c.requires.ends.quiet }
@@ -16,3 +16,6 @@ settle_full-requires-clause-ends c = subst (HasEnded c.args.parts.now c.args.w) 
 
 pub settle_crowded-requires-clause-ends : goal.settle_crowded-requires-clause-ends
 settle_crowded-requires-clause-ends c = subst (HasEnded c.args.parts.now c.args.w) c.in-NeedsRoom.is c.requires.ends
+
+pub look_up-requires : goal.look_up-requires
+look_up-requires c = record { on = c.requires.ends.on; may = inl c.requires.ends.quiet }

@@ -1,3 +1,4 @@
+use Rattle.std.proofs.Common.{inr}
 use Rattle.bz_world.proofs.TakingOn.{read-way, none-wanted-after}
 use Rattle.bz_world.proofs.settle.settle_small.Goals as goal
 
@@ -16,6 +17,7 @@ is_due-requires-clause-leaf c = record { nodes = _; low = _; high = _; whole = c
 pub merge-requires-clause-merge : goal.merge-requires-clause-merge
 merge-requires-clause-merge c = let due = c.is_due.ensures.due.0 c.if-is_due.true in record {
   on = c.requires.read.had.on;
+  may = inr c.requires.read.deletes;
   viewed = c.requires.read.viewed;
   way = read-way c.args.parts.now c.args.w c.args.at c.args.view.now c.requires.read c.index.result.now c.index.ensures c.path_in.result c.path_in.ensures c.in-Some.path c.in-Some.is;
   deep = due.0;

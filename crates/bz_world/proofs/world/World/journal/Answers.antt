@@ -4,7 +4,8 @@ use Rattle.bz_sound.specs.declared.power.Power.TheVariants.{Recovering, On}
 use Rattle.bz_sound.specs.Memory.Sound as before
 use Rattle.bz_sound.specs.Power.Laws.{IsUnbroken}
 use Rattle.bz_sound.specs.Power.Sound.{IsSound}
-use Rattle.bz_world.specs.Lab.{Lab, power_in, recovery_acts, recovery_most}
+use Rattle.bz_world.specs.Lab.{Lab, power_in, recovery_acts, recovery_most, AreFinishing}
+use Rattle.bz_world.proofs.Finishing.{are-finishing}
 use Rattle.bz_world.proofs.Powered.{few-acts}
 use Rattle.bz_world.proofs.world.World.journal.Goals as goal
 
@@ -19,3 +20,6 @@ returns-clause-unbroken c =
     let k = c.self.invariant in
     subst (λ (l : Lab). l.at_start ≡ On → IsUnbroken l.log.past → before.IsSound l.config l.log) c.self.view_is
     (λ on never. (c.sound_as_before.ensures c.self.inside.parts.config c.self.inside.parts.journal).1 (never, subst (λ (s : Power). IsSound c.self.inside.parts.config s c.self.inside.parts.journal) on k.sound))
+
+pub returns-clause-finishing : goal.returns-clause-finishing
+returns-clause-finishing c = subst AreFinishing c.self.view_is (are-finishing c.self.inside.parts c.self.invariant)
