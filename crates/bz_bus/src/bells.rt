@@ -9,9 +9,10 @@ const STILL: u64 = 0;
 // A thread sleeps on the bell, or is about to.
 const SET: u64 = 1;
 
-// A bell for each remainder of a ticket by PASSES. As many tickets are out at most, so no two threads share one.
-// A thread sets its bell, looks once more whether it is served, and sleeps while the bell is set. Who serves a ticket looks
-// at its bell after that, so one of the two sees what the other did; and who stills a bell wakes the thread on it.
+// A bell for each remainder of a ticket by PASSES. As many tickets are out at most, so no two threads share one until the
+// tickets begin again at 0. A thread sets its bell, looks once more whether it is served, and sleeps while the bell is set.
+// Who serves a ticket looks at its bell after that, so one of the two sees what the other did; and who stills a bell wakes
+// the thread on it.
 #[derive(Drop)]
 pub(crate) struct Bells {
     bells: [AtomicU64; PASSES],
