@@ -1,8 +1,9 @@
-// The bus: a value, and the words by which its passes take turns.
+// The bus: a value, the words by which its passes take turns, and the bells that wake them.
 ghost use Rattle.std.specs.Prelude.{◌≡◌, ◌<◌, ◌≤◌, []};
 ghost use Rattle.bz_bus.specs.declared.TheConstants.{PASSES};
 ghost use Rattle.bz_bus.specs.declared.rule.Stage.TheVariants.{Idle};
 
+use crate::bells::Bells;
 use crate::rule::{Turns, View};
 use crate::{Chronicle, PASSES};
 use atomic_table::{Seat, Table};
@@ -17,6 +18,7 @@ pub(crate) type SeatOf<T> = Seat<Option<T>, ViewOf<T>>;
 pub struct Bus<T: Chronicle> {
     pub(crate) table: Table<Option<T>, ViewOf<T>, T, Turns<T>, Global>,
     pub(crate) passes: u32,
+    pub(crate) bells: Bells,
     ghost sized: { (table.shared.table_id.words ≡ 3) × (table.shared.table_id.slots ≡ 1) },
     ghost numbered: { passes ≤ PASSES },
 }

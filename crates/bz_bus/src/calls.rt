@@ -4,6 +4,7 @@ ghost use Rattle.bz_bus.specs.Entries.{MayFind, MayLeave, IsJoinOf};
 ghost use Rattle.bz_bus.specs.Inside.Views.{staged};
 ghost use Rattle.bz_bus.specs.Passes.{IsPassOf, IsFree, opened, passes_of, number_of, seen_by, free_in};
 
+use crate::bells::Bells;
 use crate::bus::{Bus, Pass, SeatOf};
 use crate::rule::Stage;
 use crate::{Action, Chronicle, PASSES};
@@ -26,7 +27,11 @@ impl<T: Chronicle> Bus<T> {
         match Table::vacant(alloc, &words, 1, &value) {
             Err(_) => Err((value, Memory)),
             Ok((table, mut seat)) => {
-                let bus = Bus { table, passes };
+                let bus = Bus {
+                    table,
+                    passes,
+                    bells: Bells::new(),
+                };
                 bus.put(&mut seat, value);
                 let mut free = [true; PASSES];
                 free[0] = false;
@@ -46,7 +51,11 @@ impl<T: Chronicle> Bus<T> {
         requires free { (n : ℕ) → 0 < n → n < PASSES → IsFree pass n }
         ensures { (T.fixed result ≡ T.fixed (opened self)) × (T.entries result ≡ seen_by pass) }
     {
-        let Bus { table, passes: _ } = self;
+        let Bus {
+            table,
+            passes: _,
+            bells: _,
+        } = self;
         let Pass {
             seat,
             number: _,
@@ -124,6 +133,6 @@ impl<T: Chronicle> Bus<T> {
         let count = self.change(seat, action);
         self.raise(seat, count);
         let served = self.give_back(seat);
-        self.wake(served.wrapping_add(1));
+        self.bells.ring(served.wrapping_add(1));
     }
 }

@@ -3,6 +3,7 @@
 
 ghost use Rattle.std.specs.Prelude.{◌≡◌, ℕ, List, length};
 
+mod bells;
 mod bus;
 mod calls;
 mod passes;

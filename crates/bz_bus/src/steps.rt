@@ -12,8 +12,8 @@ use crate::bus::{Bus, SeatOf};
 use crate::plays::{Cut, Draw, Fill, GiveBack, Glue, Learn, Look, Numbered, Raise};
 use crate::rule::Stage;
 use crate::{Action, Chronicle, PASSES};
+use std::hint::spin_loop;
 use std::sync::Wait;
-use std::thread::yield_now;
 
 const TICKET: usize = 0;
 
@@ -23,13 +23,8 @@ const COUNT: usize = 2;
 
 const VALUE: usize = 0;
 
-// How often a thread that waits yields the processor before it sleeps.
-const ROUNDS: u32 = 64;
-
-// What a sleep compares of a word.
-fn low_half(word: u64) -> u32 {
-    (word % (1 << 32)) as u32
-}
+// How often a thread that waits looks before it sleeps.
+const LOOKS: u32 = 64;
 
 impl<T: Chronicle> Bus<T> {
     pub(crate) fn draw(&self, seat: &mut SeatOf<T>) -> u64
@@ -57,27 +52,22 @@ impl<T: Chronicle> Bus<T> {
         ensures bus { (seat.new.table_id ≡ seat.old.table_id) × (seat.new.id ≡ seat.old.id) }
         ensures served { IsServed T.entries T.fixed T.owner seat.old.me seat.new.me }
     {
-        let mut rounds = 0;
+        let mut looks = 0;
         for _ in rt.forever() {
-            let serving = self.look(seat);
-            if serving == ticket {
+            if looks >= LOOKS {
+                self.bells.set(ticket);
+            }
+            if self.look(seat) == ticket {
                 return;
             }
-            if rounds < ROUNDS {
-                rounds += 1;
-                yield_now();
+            if looks < LOOKS {
+                looks += 1;
+                spin_loop();
             } else {
-                self.table.shared.park(rt, SERVING, low_half(serving));
+                self.bells.sleep(rt, ticket);
             }
         }
         unreachable!()
-    }
-
-    // Wakes those that sleep until another ticket is served, if any ticket but those before `next` was drawn.
-    pub(crate) fn wake(&self, next: u64) {
-        if self.table.shared.peek(TICKET) != next {
-            self.table.shared.wake_all(SERVING);
-        }
     }
 
     // The value changes in place, which is no step. Answers how many entries it has then.

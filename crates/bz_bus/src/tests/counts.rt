@@ -119,6 +119,13 @@ fn eight_threads_add_each_note_once_and_in_order(rt: HostRuntime) -> Result<(), 
 }
 
 #[test]
+fn sixty_four_threads_add_each_note_once_and_in_order(rt: HostRuntime) -> Result<(), Fail> {
+    let log = added_by(&rt, rt.alloc(), 64)?;
+    expect_notes(&rt, &log, 64, MANY);
+    Ok(())
+}
+
+#[test]
 fn a_dropped_pass_keeps_its_number_and_others_come_back(rt: HostRuntime) -> Result<(), Fail> {
     let log = Log::open(rt.alloc(), 7, 0)?;
     let (bus, mut first) = open(rt.alloc(), log, 4)?;
