@@ -51,22 +51,28 @@ learns-part key path height ws slot st count pointer low high p o all h under = 
           let t : nat_lt 1 low ≡ true = grind (arith, nat_tests) in
           let q : low - 1 + 1 ≡ low = omega (arith, l) in
           let f : HasPassed key (words p.config (p.at o.guarded) slot) (low - 1) pointer = h.left (low - 1) q (omega (arith, l)) in
-          rw t (record {
-            opened = o;
-            child = low - 1;
-            chooses = record {
-              counted = f.counted;
-              from = f.from;
-              to = λ d. subst (λ z. is_before key (key_of (words p.config (p.at o.guarded) slot) z) ≡ true) (sym q) (subst (λ z. is_before key (key_of (words p.config (p.at o.guarded) slot) z) ≡ true) (sym same) (h.right (omega (arith, d, q, same))));
-            };
-            place = f.place;
-          }, under))
+          rw t (
+            record {
+              opened = o;
+              child = low - 1;
+              chooses = record {
+                counted = f.counted;
+                from = f.from;
+                to = λ d. subst (λ z. is_before key (key_of (words p.config (p.at o.guarded) slot) z) ≡ true) (sym q) (subst (λ z. is_before key (key_of (words p.config (p.at o.guarded) slot) z) ≡ true) (sym same) (h.right (omega (arith, d, q, same))));
+              };
+              place = f.place;
+            },
+            under,
+          ))
       | inr l ↦ (
           let t : nat_lt 1 low ≡ false = grind (arith, nat_tests) in
           let one : high ≡ 1 = omega (arith, l, same, h.some) in
-          rw t (record {
-            opened = o;
-            all = all;
-            right = λ d. subst (λ z. is_before key (key_of (words p.config (p.at o.guarded) slot) z) ≡ true) one (h.right (omega (arith, d, one, all)));
-          }, under))
+          rw t (
+            record {
+              opened = o;
+              all = all;
+              right = λ d. subst (λ z. is_before key (key_of (words p.config (p.at o.guarded) slot) z) ≡ true) one (h.right (omega (arith, d, one, all)));
+            },
+            under,
+          ))
     ]

@@ -89,12 +89,15 @@ module _ (b : Laws) (key : List ℕ) (path : Path) (height : ℕ) (ws : List ℕ
         let l : Sees key path r s.past = f.1.0 in
         let e = meta-at b separators key path s good r.slot r.status l.opened r.part.index (counted r l) v (in-slot r.slot (META_AT + r.part.index) v t) in (
           f.0,
-          (record {
-            sees = l;
-            extent = e;
-            within = subst (λ z. 0 < packed_len z.key) e (let q = (l.opened.inner.lengths r.part.index (counted r l)).some (omega (arith, l.index, l.some, l.narrows.some)) in omega (arith, q));
-            read = λ j z. absurd (omega (arith, z));
-          }, f.1.1),
+          (
+            record {
+              sees = l;
+              extent = e;
+              within = subst (λ z. 0 < packed_len z.key) e (let q = (l.opened.inner.lengths r.part.index (counted r l)).some (omega (arith, l.index, l.some, l.narrows.some)) in omega (arith, q));
+              read = λ j z. absurd (omega (arith, z));
+            },
+            f.1.1,
+          ),
         )
 
     pub seen-word : (stage : Stage) (r : Sight) (e : Extent) (i v : ℕ) (phase : Way) → length ws ≡ 4 → (i + 1 < packed_len e.key → phase ≡ Word r e (i + 1))
@@ -134,12 +137,15 @@ module _ (b : Laws) (key : List ℕ) (path : Path) (height : ℕ) (ws : List ℕ
         let l : SeesFirst key path r s.past = f.1.0 in
         let q = meta-at b separators key path s good r.slot r.status l.opened 0 l.opened.inner.some v (in-slot r.slot META_AT v t) in (
           f.0,
-          (record {
-            opened = l.opened;
-            child = 0;
-            chooses = record { counted = l.opened.inner.some; from = λ z. absurd (omega (arith, z)); to = λ z. l.right (omega (arith, z, l.all)) };
-            place = e ∙ ap (λ z. z.offset + packed_len z.key) (sym q);
-          }, f.1.1),
+          (
+            record {
+              opened = l.opened;
+              child = 0;
+              chooses = record { counted = l.opened.inner.some; from = λ z. absurd (omega (arith, z)); to = λ z. l.right (omega (arith, z, l.all)) };
+              place = e ∙ ap (λ z. z.offset + packed_len z.key) (sym q);
+            },
+            f.1.1,
+          ),
         )
 
     pub seen-pointer : (stage : Stage) (r : Probe) (v : ℕ) (next : Path) → next.depth ≡ path.depth + 1 → slice_get next.links path.depth ≡ Some (link_to c r (v - 1)) → ((i : ℕ) → i < path.depth → slice_get next.links i ≡ slice_get path.links i)
