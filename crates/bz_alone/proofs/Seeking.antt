@@ -27,9 +27,9 @@ module _ (b : Rules) (values : ReadValuesStand) (s : Scene) (good : IsScene s) (
       sym a.value ∙ status-stands values s good s.past.since q k n.met (words s.past.config (s.past.at n.met) k STATUS_AT) n.since n.until (reached-in values s good s.past.since q n.met k n.since n.until n.has.slot n.has.inside) refl in
       subst (λ z. (status z).frozen ≡ false) (sym now) (inner-thawed b s.past.config (s.past.at n.met) k (good-at values s good s.past.since q n.met n.since n.until) n.has.slot n.has.inside h.inner)
 
-  goes : (key : List ℕ) (path : Path) (ws : List ℕ) (phase : Way) → seek_facts key path ws phase Waiting s → GoesOn (seek_asks s.past.config phase) (seek_differs phase) s
-  goes key path ws (Status k) f = reads (node_address s.past.config k + STATUS_AT) (seek_differs (Status k)) s (λ v a d. true≢false (sym d ∙ arrived-thawed key path k v f.1 a))
-  goes key path ws phase f = idles _ (seek_differs phase) s (λ entries e. absurd (cc)) (λ seen d. d)
+  goes : (key : List ℕ) (path : Path) (height : ℕ) (ws : List ℕ) (phase : Way) → seek_facts key path height ws phase Waiting s → GoesOn (seek_asks s.past.config phase) (seek_differs phase) s
+  goes key path height ws (Status k) f = reads (node_address s.past.config k + STATUS_AT) (seek_differs (Status k)) s (λ v a d. true≢false (sym d ∙ arrived-thawed key path k v f.1.0 a))
+  goes key path height ws phase f = idles _ (seek_differs phase) s (λ entries e. absurd (cc)) (λ seen d. d)
 
 pub seeks-go-on : Rules → ReadValuesStand → LonelyTimesAreQuiet → SeeksGoOn
-seeks-go-on b values lonely t s same good f a = subst (λ z. GoesOn (seek_asks z t.phase) (seek_differs t.phase) s) same (goes b values s good (lonely.whole s good a) t.key t.path t.words t.phase f.0)
+seeks-go-on b values lonely t s same good f a = subst (λ z. GoesOn (seek_asks z t.phase) (seek_differs t.phase) s) same (goes b values s good (lonely.whole s good a) t.key t.path t.height t.words t.phase f.0)

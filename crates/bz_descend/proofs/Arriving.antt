@@ -7,6 +7,7 @@ use Rattle.bz_layout.specs.declared.sizes.TheConstants.{STATUS_AT, ROOT_AT, ROOT
 use Rattle.bz_shape.specs.Order.{is_at_least, is_below}
 use Rattle.bz_word.specs.Statuses.{status}
 use Rattle.bz_task.specs.Good.{IsGood}
+use Rattle.bz_task.specs.Instant.{page_at}
 use Rattle.bz_task.specs.Laws.{HasRoot, RootsAreReached, SeparatorsStay}
 use Rattle.bz_task.specs.Outcomes.{IsUnderRoot, IsLink}
 use Rattle.bz_task.specs.Requests.{Answers}
@@ -130,13 +131,20 @@ module _ (b : Laws) (key : List ℕ) (s : Scene) (good : IsScene s) where
         thawed = child-thawed;
       }
 
+      -- a level lower than the node above it
+      pub child-met : (a : Arrives key next (v - 1) s.past) × ((page_at s.past.config (s.past.at a.met) (v - 1)).level + 1 ≡ (page_at s.past.config (s.past.at h.opened.at_inner.node.met) r.slot).level)
+      child-met =
+          let d : Led key s (node_address s.past.config r.slot + r.pointer) _ v = led b key path s good separators r h v told in (
+            record {
+              way = child-way;
+              met = d.was;
+              since = d.since;
+              until = d.until;
+              has = d.has;
+              low = omega (arith, d.level, h.opened.at_inner.node.low, deep);
+            },
+            d.level,
+          )
+
       pub child-arrives : Arrives key next (v - 1) s.past
-      child-arrives =
-          let d : Led key s (node_address s.past.config r.slot + r.pointer) _ v = led b key path s good separators r h v told in record {
-            way = child-way;
-            met = d.was;
-            since = d.since;
-            until = d.until;
-            has = d.has;
-            low = omega (arith, d.level, h.opened.at_inner.node.low, deep);
-          }
+      child-arrives = child-met.0

@@ -18,7 +18,7 @@ use Rattle.bz_task.specs.declared.todo.Outcome.TheVariants.{Restart}
 use Rattle.bz_descend.specs.Facts.{IsAt, IsInNode}
 use Rattle.bz_descend.specs.Halving.{sight_in, settled}
 use Rattle.bz_descend.specs.Inners.{most_records}
-use Rattle.bz_descend.specs.SeekFacts.{seek_end, IsCounted, reads_of, count_above, reads_through, path_reads, reads_at, asks_one, most_node_reads, left_from, seek_left, seek_bounds, IsSight}
+use Rattle.bz_descend.specs.SeekFacts.{arrived_at, seek_end, IsCounted, reads_of, count_above, reads_through, path_reads, reads_at, asks_one, most_node_reads, left_from, seek_left, seek_bounds, IsSight}
 use Rattle.bz_descend.specs.declared.sight.Sight.{Sight}
 use Rattle.bz_descend.specs.declared.sight.Way.{Way}
 use Rattle.bz_descend.specs.declared.sight.Way.TheVariants.{Fresh, Guard, Root, Header, Status, Meta, Word, First, Pointer, Found, Changed}
@@ -45,7 +45,7 @@ record IsNode (c : Config) (depth slot st many : ℕ) : Type 0 where
   fits : many ≤ most_records
 
 at-part : (c : Config) (path : Path) (old : Way) (slot st count pointer low high : ℕ) → IsNode c path.depth slot st count → pointer < NODE_WORDS → 0 < low → low ≤ high → high ≤ count
-    → left_from (path.depth + 1) + 2 + DESCEND_READS_PER_RECORD * digits (high - low) < seek_left path.depth old
+    → left_from (path.depth + 1) + 1 + DESCEND_READS_PER_RECORD * digits (high - low) < seek_left path.depth old
     → reads_at path old + 1 ≤ path_reads path + 2 + DESCEND_READS_PER_RECORD * (digits count - digits (high - low))
     → Moves c path path old (sight_in slot st count pointer low high)
 at-part c path old slot st count pointer low high n place some order within near cost = elim (cases_lt low high) [
@@ -71,6 +71,16 @@ at-part c path old slot st count pointer low high n place some order within near
       | inl l ↦ (let t : nat_lt 1 low ≡ true = grind (arith, nat_tests) in rw t (record { bounds = record { at = n.at; count = n.count; place = place }; nearer = omega (arith, near); reads = omega (arith, cost) }))
       | inr l ↦ (let t : nat_lt 1 low ≡ false = grind (arith, nat_tests) in rw t (record { bounds = record { at = n.at; count = n.count; place = omega arith }; nearer = omega (arith, near); reads = omega (arith, cost) }))
     ]
+
+-- a node was arrived at
+pub to-node : (c : Config) (path next : Path) (old : Way) (height k : ℕ) → k < c.nodes → 0 < next.depth → height < MAX_LEVELS → left_from next.depth ≤ seek_left path.depth old → reads_at path old ≤ path_reads next → Moves c path next old (arrived_at height next.depth k)
+to-node c path next old height k slot some low near cost = elim (cases_lt height next.depth) [
+  | inl l ↦ (let t : nat_lt height next.depth ≡ true = grind (arith, nat_tests) in rw t (record { bounds = tt; nearer = omega (arith, near); reads = omega (arith, cost) }))
+  | inr l ↦ (
+      let t : nat_lt height next.depth ≡ false = grind (arith, nat_tests) in
+      let d = left-down next.depth (omega (arith, l, low)) in
+      rw t (record { bounds = record { slot = slot; some = some; fits = omega (arith, l, low) }; nearer = omega (arith, near, d); reads = omega (arith, cost) }))
+]
 
 pub from-status : (c : Config) (path : Path) (k v : ℕ) (phase : Way) → IsAt c path.depth k → 0 < (status v).count → (status v).count ≤ most_records
     → ((status v).frozen ≡ true → phase ≡ Changed) → ((status v).frozen ≡ false → phase ≡ sight_in k v (status v).count 0 1 (status v).count) → Moves c path path (Status k) phase
@@ -158,10 +168,11 @@ asks-few Found = omega arith
 asks-few Changed = omega arith
 
 -- the reads of the next phase are few too
-pub counted-on : (c d : Config) (path next : Path) (old new : Way) (asked so_far : ℕ) → IsCounted c path old asked → d ≡ c → seek_bounds c next.depth new → seek_left next.depth new < seek_left path.depth old → reads_at path old + asks_one new ≤ reads_at next new → so_far ≡ asked
-    → IsCounted d next new (so_far + asks_one new)
-counted-on c d path next old new asked so_far h same bounds near cost e = record {
+pub counted-on : (c d : Config) (path next : Path) (height high : ℕ) (old new : Way) (asked so_far : ℕ) → IsCounted c path height old asked → d ≡ c → seek_bounds c next.depth new → high < MAX_LEVELS → seek_left next.depth new < seek_left path.depth old → reads_at path old + asks_one new ≤ reads_at next new → so_far ≡ asked
+    → IsCounted d next high new (so_far + asks_one new)
+counted-on c d path next height high old new asked so_far h same bounds low near cost e = record {
   bounds = rw same bounds;
+  low = low;
   few = omega (arith, h.few, near, e, asks-few new);
   reads = omega (arith, h.reads, cost, e);
 }

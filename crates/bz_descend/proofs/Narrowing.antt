@@ -13,7 +13,7 @@ use Rattle.bz_task.specs.Scene.{Past}
 use Rattle.bz_task.specs.declared.path.Path.{Path}
 use Rattle.bz_descend.specs.Halving.{sight_in, settled, Narrows}
 use Rattle.bz_descend.specs.Inners.{Opened, HasPassed}
-use Rattle.bz_descend.specs.SeekFacts.{seek_learnt}
+use Rattle.bz_descend.specs.SeekFacts.{IsUnder, seek_learnt}
 
 pub narrows-first : (key : List ℕ) (n : ℕ → ℕ) → 0 < (page n).count → Narrows key n 0 1 (page n).count
 narrows-first key n some = record {
@@ -38,35 +38,41 @@ module _ (key : List ℕ) (n : ℕ → ℕ) (pointer low high m : ℕ) (h : Narr
   }
 
 -- what is learnt with such a part
-pub learns-part : (key : List ℕ) (path : Path) (ws : List ℕ) (slot st count pointer low high : ℕ) (p : Past) (o : Opened key path slot st p) → count ≡ (page (words p.config (p.at o.guarded) slot)).count
-    → Narrows key (words p.config (p.at o.guarded) slot) pointer low high → seek_learnt key path ws (sight_in slot st count pointer low high) p
-learns-part key path ws slot st count pointer low high p o all h = elim (cases_lt low high) [
-  | inl l ↦ rw (probe-some low high l) (record { opened = o; all = all; narrows = h; index = refl; some = l })
+pub learns-part : (key : List ℕ) (path : Path) (height : ℕ) (ws : List ℕ) (slot st count pointer low high : ℕ) (p : Past) (o : Opened key path slot st p) → count ≡ (page (words p.config (p.at o.guarded) slot)).count
+    → Narrows key (words p.config (p.at o.guarded) slot) pointer low high → IsUnder height key path slot p o.at_inner.node → seek_learnt key path height ws (sight_in slot st count pointer low high) p
+learns-part key path height ws slot st count pointer low high p o all h under = elim (cases_lt low high) [
+  | inl l ↦ rw (probe-some low high l) (record { opened = o; all = all; narrows = h; index = refl; some = l }, under)
   | inr l ↦ rw (probe-none low high l) (last (omega (arith, l, h.order)))
 ]
   where
-    last : low ≡ high → seek_learnt key path ws (settled slot st count pointer low) p
+    last : low ≡ high → seek_learnt key path height ws (settled slot st count pointer low) p
     last same = elim (cases_lt 1 low) [
       | inl l ↦ (
           let t : nat_lt 1 low ≡ true = grind (arith, nat_tests) in
           let q : low - 1 + 1 ≡ low = omega (arith, l) in
           let f : HasPassed key (words p.config (p.at o.guarded) slot) (low - 1) pointer = h.left (low - 1) q (omega (arith, l)) in
-          rw t (record {
-            opened = o;
-            child = low - 1;
-            chooses = record {
-              counted = f.counted;
-              from = f.from;
-              to = λ d. subst (λ z. is_before key (key_of (words p.config (p.at o.guarded) slot) z) ≡ true) (sym q) (subst (λ z. is_before key (key_of (words p.config (p.at o.guarded) slot) z) ≡ true) (sym same) (h.right (omega (arith, d, q, same))));
-            };
-            place = f.place;
-          }))
+          rw t (
+            record {
+              opened = o;
+              child = low - 1;
+              chooses = record {
+                counted = f.counted;
+                from = f.from;
+                to = λ d. subst (λ z. is_before key (key_of (words p.config (p.at o.guarded) slot) z) ≡ true) (sym q) (subst (λ z. is_before key (key_of (words p.config (p.at o.guarded) slot) z) ≡ true) (sym same) (h.right (omega (arith, d, q, same))));
+              };
+              place = f.place;
+            },
+            under,
+          ))
       | inr l ↦ (
           let t : nat_lt 1 low ≡ false = grind (arith, nat_tests) in
           let one : high ≡ 1 = omega (arith, l, same, h.some) in
-          rw t (record {
-            opened = o;
-            all = all;
-            right = λ d. subst (λ z. is_before key (key_of (words p.config (p.at o.guarded) slot) z) ≡ true) one (h.right (omega (arith, d, one, all)));
-          }))
+          rw t (
+            record {
+              opened = o;
+              all = all;
+              right = λ d. subst (λ z. is_before key (key_of (words p.config (p.at o.guarded) slot) z) ≡ true) one (h.right (omega (arith, d, one, all)));
+            },
+            under,
+          ))
     ]

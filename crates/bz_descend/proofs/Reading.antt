@@ -41,8 +41,9 @@ module _ (b : Laws) (key : List ℕ) (path : Path) (s : Scene) (good : IsScene s
   header-was k v a t =
       sym (level-later b key path s good k s.past.now a a.until (omega arith)) ∙ ap (λ z. (header z).level) (sym (word-of s.past.config (here s) k HEADER_AT (omega arith)) ∙ t.value)
 
-  pub at-leaf : (k v : ℕ) (a : Arrives key path k s.past) → Answers s (node_address s.past.config k + HEADER_AT) v → (header v).level ≡ 0 → IsPath key path s.past × AreThawed path
-  at-leaf k v a t leaf = (
+  -- a way to a leaf is a path
+  pub leaf-met : (k : ℕ) (a : Arrives key path k s.past) → (page_at s.past.config (s.past.at a.met) k).level ≡ 0 → IsPath key path s.past × AreThawed path
+  leaf-met k a leaf = (
     record {
       some = a.way.some;
       few = omega (arith, a.low);
@@ -54,11 +55,14 @@ module _ (b : Laws) (key : List ℕ) (path : Path) (s : Scene) (good : IsScene s
         since = good.begun;
         now = omega arith;
         reached = subst (λ z. (here s).reached z ≡ true) q (front-later b key path s good k s.past.now a a.until (omega arith)).reached;
-        leaf = subst (λ z. (page_at s.past.config (here s) z).level ≡ 0) q (level-later b key path s good k s.past.now a a.until (omega arith) ∙ (header-was k v a t ∙ leaf));
+        leaf = subst (λ z. (page_at s.past.config (here s) z).level ≡ 0) q (level-later b key path s good k s.past.now a a.until (omega arith) ∙ leaf);
       };
     },
     a.way.thawed,
   )
+
+  pub at-leaf : (k v : ℕ) (a : Arrives key path k s.past) → Answers s (node_address s.past.config k + HEADER_AT) v → (header v).level ≡ 0 → IsPath key path s.past × AreThawed path
+  at-leaf k v a t leaf = leaf-met k a (header-was k v a t ∙ leaf)
 
   pub at-inner : (k v : ℕ) (a : Arrives key path k s.past) → Answers s (node_address s.past.config k + HEADER_AT) v → 0 < (header v).level → ArrivesAtInner key path k s.past
   at-inner k v a t inner = record { node = a; inner = omega (arith, inner, header-was k v a t) }

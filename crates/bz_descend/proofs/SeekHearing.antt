@@ -24,7 +24,7 @@ use Rattle.bz_descend.proofs.Hearing.{record-in, header-heard, status-heard}
 use Rattle.bz_descend.proofs.Leading.{led}
 use Rattle.bz_descend.proofs.Separating.{meta-at}
 
-module _ (b : Laws) (roots : RootsAreReached) (separators : SeparatorsStay) (key : List ℕ) (path : Path) (ws : List ℕ) (s : Scene) (good : IsScene s) where
+module _ (b : Laws) (roots : RootsAreReached) (separators : SeparatorsStay) (key : List ℕ) (path : Path) (height : ℕ) (ws : List ℕ) (s : Scene) (good : IsScene s) where
   sight-heard : (r : Sight) (v : ℕ) (l : Sees key path r s.past) → Answers s (node_address s.past.config r.slot + (META_AT + r.part.index)) v → IsInNode (extent_of (meta_of v)) × (0 < (extent_of (meta_of v)).key)
   sight-heard r v l t =
       let n = words s.past.config (s.past.at l.opened.guarded) r.slot in
@@ -37,16 +37,16 @@ module _ (b : Laws) (roots : RootsAreReached) (separators : SeparatorsStay) (key
       let n = words s.past.config (s.past.at l.opened.guarded) r.slot in
       subst IsInNode (meta-at b separators key path s good r.slot r.status l.opened 0 l.opened.inner.some v t) (record-in n 0 l.opened.inner l.opened.inner.some)
 
-  heard-here : (stage : Stage) (phase : Way) (seen : Seen) → seek_facts key path ws phase stage s → Tells (seek_asks s.past.config phase) stage seen s → seek_heard s.past.config path.depth phase seen
+  heard-here : (stage : Stage) (phase : Way) (seen : Seen) → seek_facts key path height ws phase stage s → Tells (seek_asks s.past.config phase) stage seen s → seek_heard s.past.config path.depth phase seen
   heard-here Took phase seen f t = absurd (f)
   heard-here Waiting (Root st) (Was v) f t = let h = root-is b key s good roots st v f.1 t in (omega (arith, h.pointer, t.value), omega (arith, h.slot))
   heard-here Waiting (Header k) (Was v) f t = header-heard b roots separators key path ws s good k v f.1 t
-  heard-here Waiting (Status k) (Was v) f t = status-heard b roots separators key path ws s good k v f.1 t
-  heard-here Waiting (Meta r) (Was v) f t = sight-heard r v f.1 t
-  heard-here Waiting (First r) (Was v) f t = first-heard r v f.1 t
-  heard-here Waiting (Pointer r) (Was v) f t = let d = led b key path s good separators r f.1 v t in (d.some, omega (arith, d.some, d.has.slot))
+  heard-here Waiting (Status k) (Was v) f t = status-heard b roots separators key path ws s good k v f.1.0 t
+  heard-here Waiting (Meta r) (Was v) f t = sight-heard r v f.1.0 t
+  heard-here Waiting (First r) (Was v) f t = first-heard r v f.1.0 t
+  heard-here Waiting (Pointer r) (Was v) f t = let d = led b key path s good separators r f.1.0 v t in (d.some, omega (arith, d.some, d.has.slot))
   heard-here Waiting phase seen f t = tt
 
-  pub seek-heard : (c : Config) (stage : Stage) (phase : Way) (seen : Seen) → s.past.config ≡ c → seek_facts key path ws phase stage s → Tells (seek_asks c phase) stage seen s → seek_heard c path.depth phase seen
+  pub seek-heard : (c : Config) (stage : Stage) (phase : Way) (seen : Seen) → s.past.config ≡ c → seek_facts key path height ws phase stage s → Tells (seek_asks c phase) stage seen s → seek_heard c path.depth phase seen
   seek-heard c stage phase seen same f t =
       subst (λ z. seek_heard z path.depth phase seen) same (heard-here stage phase seen f (subst (λ z. Tells (seek_asks z phase) stage seen s) (sym same) t))

@@ -124,7 +124,7 @@ module _ (paths : PathsStay) (p q : Past) (n : Continues p q) where
     read = λ t l. moved (λ c x. slice_index ws t ≡ words c x r.slot (e.offset + t)) k.looks.opened.guarded k.looks.opened.until (k.read t l);
   }
 
-  pub chosen : (key : List ℕ) (path : Path) (r : Probe) → HasChosen key path r p → HasChosen key path r q
+  abbrev pub chosen : (key : List ℕ) (path : Path) (r : Probe) → HasChosen key path r p → HasChosen key path r q
   chosen key path r h = record {
     opened = opened key path r.slot r.status h.opened;
     child = h.child;

@@ -30,7 +30,7 @@ abbrev pub left_of : Seek → ℕ
 left_of t = seek_left t.path.depth t.phase
 
 abbrev pub facts_of : Seek → Stage → Scene → Type 0
-facts_of t stage s = seek_facts t.key t.path t.words t.phase stage s × IsCounted t.config t.path t.phase t.asked
+facts_of t stage s = seek_facts t.key t.path t.height t.words t.phase stage s × IsCounted t.config t.path t.height t.phase t.asked
 
 abbrev pub means_of : Seek → Outcome → Scene → Type 0
 means_of t = descend_means t.key

@@ -1,5 +1,5 @@
 -- What a descent by halving has learnt at each of its phases, and what it costs.
-use Rattle.std.specs.Prelude.{◌≡◌, ℕ, zero, suc, ◌+◌, ◌-◌, ◌*◌, ◌^◌, ◌<◌, ◌≤◌, true, List, Option, Some, None, slice_get}
+use Rattle.std.specs.Prelude.{◌≡◌, ℕ, zero, suc, ◌+◌, ◌-◌, ◌*◌, ◌^◌, ◌<◌, ◌≤◌, nat_lt, if◌then◌else◌, true, List, Option, Some, None, slice_get}
 use Rattle.bz_key.specs.Packing.{packed_len}
 use Rattle.bz_layout.specs.Addresses.{node_address}
 use Rattle.bz_layout.specs.declared.config.Config.{Config}
@@ -10,6 +10,8 @@ use Rattle.bz_search.specs.Probes.{middle, IsProbe}
 use Rattle.bz_slotted.specs.Page.{meta_of, extent_of}
 use Rattle.bz_word.specs.Headers.{header}
 use Rattle.bz_word.specs.Statuses.{status}
+use Rattle.bz_word.specs.declared.meta.Extent.{Extent}
+use Rattle.bz_task.specs.Instant.{page_at}
 use Rattle.bz_task.specs.Outcomes.{IsPath}
 use Rattle.bz_task.specs.Scene.{Past, Scene, Stage, Waiting, Took, HasFilled}
 use Rattle.bz_task.specs.declared.path.Link.{Link}
@@ -47,10 +49,14 @@ seek_end path Found = Some (IsAPath path)
 seek_end path Changed = Some Restart
 seek_end path phase = None
 
+-- the phase at a node to which so many links lead: it is a leaf where there is one for each level from the root's on
+abbrev pub arrived_at : ℕ → ℕ → ℕ → Way
+arrived_at height depth k = if nat_lt height depth then Found else Status k
+
 -- the most reads of an inner node with so many records: for each binary digit of their number the words of a record's metadata
--- and key, and besides its status, the metadata word of its first record, the pointer, and the header of the child
+-- and key, and besides its status, the metadata word of its first record, and the pointer; the header of no child
 abbrev pub reads_of : ℕ → ℕ
-reads_of count = DESCEND_READS_PER_RECORD * digits count + DESCEND_READS_BESIDES
+reads_of count = DESCEND_READS_PER_RECORD * digits count + (DESCEND_READS_BESIDES - 1)
 
 -- how many records the node above a link has, by the status that guards the link
 abbrev pub count_above : Option Link → ℕ
@@ -62,7 +68,7 @@ unfoldable pub reads_through : List Link → ℕ → ℕ
 reads_through links zero = 0
 reads_through links (suc n) = reads_through links n + reads_of (count_above (slice_get links (n + 1)))
 
--- the most reads of a descent along a path: root status, root pointer and the leaf's header, and those of each inner node
+-- the most reads of a descent along a path: root status, root pointer and the root's header, and those of each inner node
 abbrev pub path_reads : Path → ℕ
 path_reads path = DESCEND_READS_AT_ROOT + reads_through path.links (path.depth - 1)
 
@@ -86,7 +92,7 @@ asks_one Found = 0
 asks_one Changed = 0
 asks_one phase = 1
 
--- the most reads of any inner node, of any descent, and from the header on of a node to which so many links lead
+-- the most reads of any inner node, of any descent, and of a node to which so many links lead and those below, and one more
 abbrev pub most_node_reads : ℕ
 most_node_reads = reads_of most_records
 
@@ -101,11 +107,11 @@ seek_left depth Fresh = seek_reads + 1
 seek_left depth Guard = seek_reads
 seek_left depth (Root st) = left_from 1 + 1
 seek_left depth (Header k) = left_from depth
-seek_left depth (Status k) = left_from (depth + 1) + 3 + DESCEND_READS_PER_RECORD * digits most_records
-seek_left depth (Meta r) = left_from (depth + 1) + 2 + DESCEND_READS_PER_RECORD * digits (r.part.high - r.part.low)
-seek_left depth (Word r e i) = left_from (depth + 1) + 2 + DESCEND_READS_PER_RECORD * digits (r.part.high - r.part.low) - (i + 1)
-seek_left depth (First r) = left_from (depth + 1) + 2
-seek_left depth (Pointer r) = left_from (depth + 1) + 1
+seek_left depth (Status k) = left_from (depth + 1) + 2 + DESCEND_READS_PER_RECORD * digits most_records
+seek_left depth (Meta r) = left_from (depth + 1) + 1 + DESCEND_READS_PER_RECORD * digits (r.part.high - r.part.low)
+seek_left depth (Word r e i) = left_from (depth + 1) + 1 + DESCEND_READS_PER_RECORD * digits (r.part.high - r.part.low) - (i + 1)
+seek_left depth (First r) = left_from (depth + 1) + 1
+seek_left depth (Pointer r) = left_from (depth + 1)
 seek_left depth phase = 0
 
 -- a guard that is frozen
@@ -113,23 +119,43 @@ abbrev pub seek_differs : Way → Seen → Type 0
 seek_differs (Status k) (Was v) = (status v).frozen ≡ true
 seek_differs phase seen = ⊥
 
-abbrev pub seek_learnt : List ℕ → Path → List ℕ → Way → Past → Type 0
-seek_learnt key path ws Fresh p = Unit {0}
-seek_learnt key path ws Guard p = Unit {0}
-seek_learnt key path ws (Root st) p = SawGuard st p
-seek_learnt key path ws (Header k) p = Arrives key path k p
-seek_learnt key path ws (Status k) p = ArrivesAtInner key path k p
-seek_learnt key path ws (Meta r) p = Sees key path r p
-seek_learnt key path ws (Word r e i) p = ReadsSeparator key path ws r e i p
-seek_learnt key path ws (First r) p = SeesFirst key path r p
-seek_learnt key path ws (Pointer r) p = HasChosen key path r p
-seek_learnt key path ws Found p = IsPath key path p × AreThawed path
-seek_learnt key path ws Changed p = Unit {0}
+-- where the root is so high, the level of the node to which a path leads, as it was met
+abbrev pub IsUnder : ℕ → (key : List ℕ) (path : Path) (k : ℕ) (p : Past) → Arrives key path k p → Type 0
+IsUnder height key path k p a = (page_at p.config (p.at a.met) k).level + path.depth ≡ height + 1
 
-abbrev pub seek_facts : List ℕ → Path → List ℕ → Way → Stage → Scene → Type 0
-seek_facts key path ws phase Took s = ⊥
-seek_facts key path ws Fresh Waiting s = Unit {0}
-seek_facts key path ws phase Waiting s = HasFilled s × seek_learnt key path ws phase s.past
+-- what is known of a node, and with it its level
+abbrev pub MeetsInner : List ℕ → Path → ℕ → ℕ → Past → Type 0
+MeetsInner key path height k p = (a : ArrivesAtInner key path k p) × IsUnder height key path k p a.node
+
+abbrev pub MeetsSight : List ℕ → Path → ℕ → Sight → Past → Type 0
+MeetsSight key path height r p = (l : Sees key path r p) × IsUnder height key path r.slot p l.opened.at_inner.node
+
+abbrev pub MeetsSeparator : List ℕ → Path → ℕ → List ℕ → Sight → Extent → ℕ → Past → Type 0
+MeetsSeparator key path height ws r e i p = (l : ReadsSeparator key path ws r e i p) × IsUnder height key path r.slot p l.sees.opened.at_inner.node
+
+abbrev pub MeetsFirst : List ℕ → Path → ℕ → Probe → Past → Type 0
+MeetsFirst key path height r p = (l : SeesFirst key path r p) × IsUnder height key path r.slot p l.opened.at_inner.node
+
+abbrev pub MeetsChosen : List ℕ → Path → ℕ → Probe → Past → Type 0
+MeetsChosen key path height r p = (l : HasChosen key path r p) × IsUnder height key path r.slot p l.opened.at_inner.node
+
+abbrev pub seek_learnt : List ℕ → Path → ℕ → List ℕ → Way → Past → Type 0
+seek_learnt key path height ws Fresh p = Unit {0}
+seek_learnt key path height ws Guard p = Unit {0}
+seek_learnt key path height ws (Root st) p = SawGuard st p
+seek_learnt key path height ws (Header k) p = Arrives key path k p
+seek_learnt key path height ws (Status k) p = MeetsInner key path height k p
+seek_learnt key path height ws (Meta r) p = MeetsSight key path height r p
+seek_learnt key path height ws (Word r e i) p = MeetsSeparator key path height ws r e i p
+seek_learnt key path height ws (First r) p = MeetsFirst key path height r p
+seek_learnt key path height ws (Pointer r) p = MeetsChosen key path height r p
+seek_learnt key path height ws Found p = IsPath key path p × AreThawed path
+seek_learnt key path height ws Changed p = Unit {0}
+
+abbrev pub seek_facts : List ℕ → Path → ℕ → List ℕ → Way → Stage → Scene → Type 0
+seek_facts key path height ws phase Took s = ⊥
+seek_facts key path height ws Fresh Waiting s = Unit {0}
+seek_facts key path height ws phase Waiting s = HasFilled s × seek_learnt key path height ws phase s.past
 
 -- a part of the records of a node after the first, and the place of a pointer
 pub record IsSight (c : Config) (depth : ℕ) (r : Sight) : Type 0 where
@@ -150,7 +176,7 @@ pub record IsPlace (c : Config) (depth : ℕ) (r : Probe) : Type 0 where
 
 -- slots, places and numbers that are named are such
 abbrev pub seek_bounds : Config → ℕ → Way → Type 0
-seek_bounds c depth (Header k) = (k < c.nodes) × (0 < depth)
+seek_bounds c depth (Header k) = (k < c.nodes) × (depth ≡ 1)
 seek_bounds c depth (Status k) = IsAt c depth k
 seek_bounds c depth (Meta r) = IsSight c depth r
 seek_bounds c depth (Word r e i) = IsSight c depth r × IsInNode e × (i < packed_len e.key)
@@ -168,8 +194,9 @@ seek_heard c depth (First r) (Was v) = IsInNode (extent_of (meta_of v))
 seek_heard c depth (Pointer r) (Was v) = (0 < v) × (v ≤ c.nodes)
 seek_heard c depth phase seen = Unit {0}
 
--- and the reads of a phase are few
-pub record IsCounted (c : Config) (path : Path) (phase : Way) (asked : ℕ) : Type 0 where
+-- and the reads of a phase are few, and the levels too
+pub record IsCounted (c : Config) (path : Path) (height : ℕ) (phase : Way) (asked : ℕ) : Type 0 where
   pub bounds : seek_bounds c path.depth phase
+  pub low : height < MAX_LEVELS
   pub few : asked + seek_left path.depth phase ≤ seek_reads + 1
   pub reads : asked ≤ reads_at path phase

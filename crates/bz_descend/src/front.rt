@@ -22,6 +22,17 @@ pub(crate) fn is_leaf(word: u64) -> bool
     }
 }
 
+/// The level of a node with this header.
+pub(crate) fn level_of(word: u64) -> u32
+    ensures { word < 2 ^ 32 → result ≡ (header word).level }
+{
+    bz_word::laws::headers();
+    match Header::unpack(word) {
+        Some(header) => header.level,
+        None => 0,
+    }
+}
+
 /// The status of a plain word.
 pub(crate) fn status_of(word: u64) -> Status
     requires { word < 2 ^ 61 }

@@ -16,13 +16,14 @@ ghost use Rattle.bz_task.specs.declared.todo.Outcome.{Outcome as Ends};
 ghost use Rattle.bz_task.specs.declared.todo.Todo.TheVariants.{Read};
 ghost use Rattle.bz_descend.specs.Facts.{descend_change, IsEndOfDescent, IsInNode};
 ghost use Rattle.bz_descend.specs.Grounds.{Laws};
+ghost use Rattle.bz_layout.specs.declared.thresholds.TheConstants.{MAX_LEVELS};
 ghost use Rattle.bz_descend.specs.Halving.{sight_in, settled};
 ghost use Rattle.bz_descend.specs.Inners.{most_records};
 ghost use Rattle.bz_descend.specs.SeekDuties.{config_of, asked_of, path_reads_of, asks_of, end_of, left_of, facts_of, means_of, differs_of};
-ghost use Rattle.bz_descend.specs.SeekFacts.{seek_reads, path_reads, reads_at, asks_one, seek_asks, seek_left, seek_learnt, seek_facts, seek_differs, seek_bounds, seek_heard, IsSight, IsPlace, IsCounted};
+ghost use Rattle.bz_descend.specs.SeekFacts.{seek_reads, path_reads, reads_at, asks_one, arrived_at, seek_asks, seek_left, seek_learnt, seek_facts, seek_differs, seek_bounds, seek_heard, IsSight, IsPlace, IsCounted};
 ghost use Rattle.bz_descend.specs.Ways.{AreThawed};
 
-use crate::front::{extent_of, is_leaf, status_of, words_for};
+use crate::front::{extent_of, level_of, status_of, words_for};
 use crate::links::{to_root, with_link};
 use crate::phase::Probe;
 use crate::separator::is_before;
@@ -42,6 +43,8 @@ pub struct Seek {
     phase: Way,
     // the links to the node that is read
     path: Path,
+    // the level of the root, once its header was read: a path with more links than that has come to a leaf
+    height: u32,
     // the words of a record's key that were read so far
     words: [u64; 4],
     // how many reads were asked for
@@ -66,6 +69,7 @@ impl Seek {
             key,
             phase: Way::Fresh,
             path: to_root(0, 0),
+            height: 0,
             words: [0; 4],
             asked: 0,
         }
@@ -88,6 +92,7 @@ impl Seek {
             key,
             phase: Way::Guard,
             path: to_root(0, 0),
+            height: 0,
             words: [0; 4],
             asked: 1,
         }
@@ -109,7 +114,7 @@ impl Seek {
         requires known { IsKnown self.now.config (facts_of self.now) (seek_asks self.now.config self.now.phase) seen moment }
         ensures config { IsConfig self.now.config }
         ensures heard { seek_heard self.now.config self.now.path.depth self.now.phase seen }
-        ensures counted { IsCounted self.now.config self.now.path self.now.phase self.now.asked }
+        ensures counted { IsCounted self.now.config self.now.path self.now.height self.now.phase self.now.asked }
     {
         on_trees();
         laws::roots_are_reached();
@@ -122,15 +127,17 @@ impl Seek {
         requires sizes { IsConfig self.old.config }
         requires bounds { seek_bounds self.old.config self.old.path.depth self.old.phase }
         requires heard { seek_heard self.old.config self.old.path.depth self.old.phase seen }
+        requires low { self.old.height < MAX_LEVELS }
         ensures config { self.new.config ≡ self.old.config }
         ensures key { self.new.key ≡ self.old.key }
         ensures asked { self.new.asked ≡ self.old.asked }
+        ensures low { self.new.height < MAX_LEVELS }
         ensures begun { result ≢ Way.Fresh }
         ensures nearer { seek_left self.new.path.depth result < seek_left self.old.path.depth self.old.phase }
         ensures reads { reads_at self.old.path self.old.phase + asks_one result ≤ reads_at self.new.path result }
         ensures bounds { seek_bounds self.old.config self.new.path.depth result }
         ensures restart { result ≡ Way.Changed → seek_differs self.old.phase seen }
-        ensures learns { (stage : Stage) (s : Scene) → s.past.config ≡ self.old.config → IsScene s → seek_facts self.old.key self.old.path self.old.words self.old.phase stage s → Tells (seek_asks self.old.config self.old.phase) stage seen s → HasFilled s × seek_learnt self.old.key self.new.path self.new.words result s.past }
+        ensures learns { (stage : Stage) (s : Scene) → s.past.config ≡ self.old.config → IsScene s → seek_facts self.old.key self.old.path self.old.height self.old.words self.old.phase stage s → Tells (seek_asks self.old.config self.old.phase) stage seen s → HasFilled s × seek_learnt self.old.key self.new.path self.new.height self.new.words result s.past }
     {
         is_whole(&self.words);
         on_trees();
@@ -144,11 +151,8 @@ impl Seek {
                 Way::Header(slot)
             }
             (Way::Header(slot), Seen::Read(word)) => {
-                if is_leaf(word) {
-                    Way::Found
-                } else {
-                    Way::Status(slot)
-                }
+                self.height = level_of(word);
+                self.arrived(slot)
             }
             (Way::Status(slot), Seen::Read(status)) => first_sight(slot, status),
             (Way::Meta(sight), Seen::Read(word)) => Way::Word(sight, extent_of(word), 0),
@@ -166,9 +170,20 @@ impl Seek {
             (Way::Pointer(probe), Seen::Read(pointer)) => {
                 let slot = (pointer - 1) as u16;
                 self.path = with_link(&self.path, self.link(probe, slot));
-                Way::Header(slot)
+                self.arrived(slot)
             }
             _ => Way::Guard,
+        }
+    }
+
+    // The phase at the node to which the path leads: each level is one lower than that above it.
+    fn arrived(&self, slot: u16) -> Way
+        ensures { result ≡ arrived_at self.now.height self.now.path.depth slot }
+    {
+        if self.path.depth > self.height {
+            Way::Found
+        } else {
+            Way::Status(slot)
         }
     }
 

@@ -55,8 +55,8 @@ fn gets_cost_what_their_look_ups_read(rt: HostRuntime) {
     for (count, step, sums) in [
         (10, 1, (180, 260)),
         (10, 7, (180, 260)),
-        (100, 1, (2_270, 2_326)),
-        (100, 37, (3_005, 3_319)),
+        (100, 1, (2_170, 2_226)),
+        (100, 37, (2_905, 3_219)),
     ] {
         assert_eq!(rt;
             of_gets(&rt, rt.alloc(), count, step),

@@ -2,4 +2,4 @@ use Rattle.bz_descend.proofs.SeekStaying.{seek-stable}
 use Rattle.bz_descend.proofs.seek.SeekTask.learnt.Goals as goal
 
 pub returns-clause-stable : goal.returns-clause-stable
-returns-clause-stable c stage s after same facts good step = let t = c.args.self.now in (seek-stable c.paths_stay.ensures t.key t.path t.words t.phase stage s after facts.0 step, facts.1)
+returns-clause-stable c stage s after same facts good step = let t = c.args.self.now in (seek-stable c.paths_stay.ensures t.key t.path t.height t.words t.phase stage s after facts.0 step, facts.1)
