@@ -33,7 +33,7 @@ adds_both w a b c m n h k = record {
   acts = omega (arith, count_acts-append k.added h.added, h.acts, k.acts);
 }
 
-ready_adds : (w : ℕ) (opened : Bool) (calls : List (ℕ × Call)) (point : Point) → Adds w point.past (ready_by w opened calls point).past 0
+pub ready_adds : (w : ℕ) (opened : Bool) (calls : List (ℕ × Call)) (point : Point) → Adds w point.past (ready_by w opened calls point).past 0
 ready_adds w true calls point = adds_none w point.past
 ready_adds w false [] point = adds_none w point.past
 ready_adds w false (call ∷ calls) point = record { added = Begin w _ call.1 ∷ []; is = refl; own = (refl, tt); acts = refl }
