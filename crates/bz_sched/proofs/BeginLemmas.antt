@@ -1,5 +1,5 @@
 -- Begins of calls.
-use Rattle.std.proofs.Common.{◌≡◌, ℕ, ◌+◌, Bool, true, false, List, ◌∷◌, refl, sym, ◌∙◌, arith, inl, Option, Some, None, ◌==◌, nat_lt}
+use Rattle.std.proofs.Common.{◌≡◌, ℕ, ◌+◌, Bool, true, false, List, ◌∷◌, refl, ◌∙◌, arith, inl, Option, Some, None, ◌==◌, nat_lt}
 use Rattle.std.specs.Prelude.{nat_le, is_some, if◌then◌else◌, ◌||◌, ◌&&◌}
 use Rattle.std.proofs.lemmas.Bool.Decides.{nat_tests}
 use Rattle.bz_call.specs.Pages.{is_page}

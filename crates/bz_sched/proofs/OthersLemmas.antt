@@ -5,14 +5,14 @@ use Rattle.std.proofs.lemmas.Bool.Decides.{nat_tests}
 use Rattle.bz_call.specs.declared.calls.Call.{Call}
 use Rattle.bz_mark.specs.declared.marks.Mark.{Mark}
 use Rattle.bz_mark.specs.declared.marks.Mark.TheVariants.{Begin, End, Load, Store, Cas, Flush, Effect}
-use Rattle.bz_sound.specs.Calls.{Open, open_call, with_effect}
+use Rattle.bz_sound.specs.Calls.{Open, open_call}
 use Rattle.bz_world.specs.declared.answers.Which.TheVariants as which
 use Rattle.bz_sched.specs.Points.{Point, ready, ready_by, is_busy, IsTurn}
 use Rattle.bz_sched.specs.QueueLaws.{not_same, same_owner, calls_of-without}
-use Rattle.bz_sched.specs.Queued.{calls_of, is_busy_by}
+use Rattle.bz_sched.specs.Queued.{calls_of}
 use Rattle.bz_sched.specs.TurnLaws.{AreOwn}
 use Rattle.bz_sched.specs.Turns.{busy_workers}
-use Rattle.bz_sched.specs.TurnsInPart.{StopsBy, StopsTurn}
+use Rattle.bz_sched.specs.TurnsInPart.{StopsBy}
 use Rattle.bz_sched.specs.declared.turn.Stop.{Stop}
 use Rattle.bz_sched.specs.declared.turn.Stop.TheVariants.{Due, Limit}
 use Rattle.bz_sched.proofs.BusyLemmas.{same_list}

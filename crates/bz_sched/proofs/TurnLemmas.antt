@@ -4,7 +4,7 @@ use Rattle.bz_world.specs.Lab.{Lab}
 use Rattle.bz_world.specs.declared.answers.Which.{Which}
 use Rattle.bz_sched.specs.declared.turn.Stop.{Stop}
 use Rattle.bz_sched.specs.declared.turn.Stop.TheVariants.{Due, Limit}
-use Rattle.bz_sched.specs.Points.{Point, ready, is_busy, GetsReady, TakesStep, IsTurn}
+use Rattle.bz_sched.specs.Points.{Point, is_busy, GetsReady, TakesStep, IsTurn}
 use Rattle.bz_sched.specs.Fuses.{Fused}
 use Rattle.bz_sched.specs.Runs.{point_in, IsStopped, Keeps, EndsBy}
 use Rattle.bz_sched.specs.TurnsInPart.{StopsStep, StopsBy, StopsTurn}

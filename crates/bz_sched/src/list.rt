@@ -12,7 +12,13 @@ use bz_script::Turn;
 use bz_world::World;
 
 // Takes so many turns of a worker, or fewer where it then has nothing to do.
-fn take_turns(world: &mut World, queue: &mut Queue, fuse: &mut Option<u32>, w: u8, count: u32) -> Turned
+fn take_turns(
+    world: &mut World,
+    queue: &mut Queue,
+    fuse: &mut Option<u32>,
+    w: u8,
+    count: u32,
+) -> Turned
     requires worker { IsOneOfAll w }
     requires ready { IsReady world.old }
     ensures { EndsBy (TakesTurns w count) (λ why. TakesTurnsInPart why w count) world.old (with_fuse queue.old fuse.old) result world.new (with_fuse queue.new fuse.new) }
@@ -41,7 +47,12 @@ fn take_word(world: &mut World, queue: &mut Queue, fuse: &mut Option<u32>, turn:
 }
 
 /// Takes the turns of a list, word after word.
-pub(crate) fn run_list(world: &mut World, queue: &mut Queue, fuse: &mut Option<u32>, turns: &[Turn]) -> Turned
+pub(crate) fn run_list(
+    world: &mut World,
+    queue: &mut Queue,
+    fuse: &mut Option<u32>,
+    turns: &[Turn],
+) -> Turned
     requires turns { AreTurns turns.now }
     requires ready { IsReady world.old }
     ensures { EndsBy (RunsList turns.now) (λ why. RunsListInPart why turns.now) world.old (with_fuse queue.old fuse.old) result world.new (with_fuse queue.new fuse.new) }

@@ -32,12 +32,7 @@ pub enum RunEnd {
 }
 
 // Takes the turns of a plan.
-fn run_plan(
-    world: &mut World,
-    queue: &mut Queue,
-    fuse: &mut Option<u32>,
-    plan: &Plan,
-) -> Turned
+fn run_plan(world: &mut World, queue: &mut Queue, fuse: &mut Option<u32>, plan: &Plan) -> Turned
     requires plan { IsPlan plan.now × IsOfTurns plan.now }
     requires ready { IsReady world.old }
     ensures { EndsBy (RunsBy (words_of world.old.config) plan.now) (λ why. RunsByInPart why (words_of world.old.config) plan.now) world.old (with_fuse queue.old fuse.old) result world.new (with_fuse queue.new fuse.new) }

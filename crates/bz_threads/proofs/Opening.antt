@@ -83,7 +83,7 @@ module _ (index : Index) (old : Queued) (first : List IndexEntry) (worker : ℕ)
               (λ here. inl (has_pushed w batches batch (whose ∙ sym here)));
           later = λ w most. free w (λ e. omega arith) (o.later w (omega arith));
           same = λ w most. others w (λ e. omega arith) ∙ o.same w (omega arith);
-                  room = room ∙ o.room;
+          room = room ∙ o.room;
           few = omega (arith, o.few, length-append batches (batch ∷ []));
         }
 

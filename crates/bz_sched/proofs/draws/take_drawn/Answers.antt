@@ -2,7 +2,7 @@ use Rattle.std.proofs.Common.{ℕ, sym, ◌∙◌, arith}
 use Rattle.bz_sched.specs.Fuses.{with_fuse}
 use Rattle.bz_sched.specs.Points.{is_busy}
 use Rattle.bz_sched.specs.Runs.{point_of}
-use Rattle.bz_sched.proofs.BusyLemmas.{Passes, drawn_passes}
+use Rattle.bz_sched.proofs.BusyLemmas.{drawn_passes}
 use Rattle.bz_sched.proofs.OthersLemmas.{list_stays}
 use Rattle.bz_sched.proofs.DrawLemmas.{drawn_turn, drawn_others}
 use Rattle.bz_sched.proofs.draws.take_drawn.Goals as goal

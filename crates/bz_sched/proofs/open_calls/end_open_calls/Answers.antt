@@ -1,4 +1,4 @@
-use Rattle.std.proofs.Common.{sym, subst}
+use Rattle.std.proofs.Common.{subst}
 use Rattle.bz_layout.specs.Config.{IsConfig}
 use Rattle.bz_sched.proofs.OpenLemmas.{ended_whole, ended_limit, ended_never}
 use Rattle.bz_sched.proofs.open_calls.end_open_calls.Goals as goal

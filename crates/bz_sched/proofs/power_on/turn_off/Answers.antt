@@ -1,4 +1,4 @@
-use Rattle.std.proofs.Common.{refl, inl, inr, sym, ◌∙◌}
+use Rattle.std.proofs.Common.{inl, inr, sym, ◌∙◌}
 use Rattle.bz_world.specs.declared.answers.Applied.TheVariants as applied
 use Rattle.bz_sched.proofs.CutLemmas.{cut_made}
 use Rattle.bz_sched.proofs.RecoveryLemmas.{off_already, off_now, on_is_not_off}

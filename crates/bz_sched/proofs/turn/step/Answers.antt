@@ -20,7 +20,7 @@ pub returns-in-Stepped-clause-ends : goal.returns-in-Stepped-clause-ends
 returns-in-Stepped-clause-ends c = λ queue.
     let burnt : Burnt c.flush_next-flush.result (with_fuse queue c.args.fuse.now) (with_fuse queue c.burn.new.fuse) = record { calls = refl; room = refl; may = sym c.lets.ensures ∙ c.if-not-lets.false; fuse = c.burn.ensures } in
     elim (stepped c.args.world.now c.args.w c.apply.result c.apply.new.self c.requires.ready (is_worker c.args.world.now c.args.w c.requires.ready c.requires.worker) c.requires.«open» c.apply.ensures) [
-      | inl refused ↦ let other = refused.answered in elim c.in-Stepped.is [ | inl is ↦ absurd (cc) | inr is ↦ absurd (cc) ]
+      | inl refused ↦ let other = refused.answered in elim c.in-Stepped.is [ inl is ↦ absurd (cc) | inr is ↦ absurd (cc) ]
       | inr goes ↦ step_made c.args.world.now (with_fuse queue c.args.fuse.now) (with_fuse queue c.burn.new.fuse) c.args.w c.apply.result c.apply.new.self c.requires.ready goes (rw c.flush_next-flush.ensures.told at burnt)
     ]
 

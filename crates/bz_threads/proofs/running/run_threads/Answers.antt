@@ -24,6 +24,3 @@ pub returns-in-Err : goal.returns-in-Err
 returns-in-Err g c =
     subst (λ (world : Lab). HasRunThreads c.args.world c.args.queue.now Memory world c.end_open_calls.new.queue) (sym c.in-Err.ensures.err)
     (ended_early c.args.world c.end_open_calls.new.world c.args.queue.now c.end_open_calls.new.queue c.in-None.ensures)
-
-pub run_on-end-requires-clause-workers : goal.run_on-end-requires-clause-workers
-run_on-end-requires-clause-workers g c = λ lives outlive. ?
