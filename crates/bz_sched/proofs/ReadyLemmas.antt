@@ -52,14 +52,10 @@ pub told_none : (opened : Option Open) → None ≡ option_map (λ (o : Open). o
 told_none None is = refl
 told_none (Some opened) is = absurd (cc is)
 
--- a mark that opens or ends the call of one worker
+-- a mark that opens a call, or tells of its effect
 pub opens : (b : Bool) (fresh : Open) (rest : Option Open) → is_some (if b then Some fresh else rest) ≡ (if b then true else is_some rest)
 opens true fresh rest = refl
 opens false fresh rest = refl
-
-pub ends : (b : Bool) (rest : Option Open) → is_some (if b then None else rest) ≡ (if b then false else is_some rest)
-ends true rest = refl
-ends false rest = refl
 
 pub changes_no : (b : Bool) (f : Open → Open) (rest : Option Open) → is_some (if b then option_map f rest else rest) ≡ is_some rest
 changes_no true f (Some opened) = refl

@@ -82,8 +82,8 @@ impl Queue {
         }
     }
 
-    // Leaves out the first call that waits for a worker.
-    fn leave_out(&mut self, w: u8)
+    /// Leaves out the first call that waits for a worker.
+    pub(crate) fn leave_out(&mut self, w: u8)
         requires { calls_of w self.old.calls ≢ [] }
         ensures calls { self.new.calls ≡ without_first w self.old.calls }
         ensures room { self.new.room ≡ self.old.room }

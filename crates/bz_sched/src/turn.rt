@@ -43,7 +43,7 @@ fn begin_next(world: &mut World, queue: &mut Queue, w: u8) -> Turned
     match queue.first(w) {
         Some(call) => match world.begin(w, call) {
             Begun::Begun(_) => {
-                queue.take(w);
+                queue.leave_out(w);
                 Turned::Finished
             }
             Begun::Limit(which) => Turned::Stopped(Stop::Limit(which)),

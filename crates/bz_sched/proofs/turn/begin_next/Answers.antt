@@ -18,11 +18,11 @@ unreachable-requires c =
 pub returns-in-Begun-clause-ends : goal.returns-in-Begun-clause-ends
 returns-in-Begun-clause-ends c = λ fuse.
     let waits : Waits c.args.world.now c.args.queue.now.calls c.args.w c.in-Some.call = record { ready = c.requires.ready; worker = is_worker _ _ c.requires.ready c.requires.worker; closed = c.requires.closed; first = c.in-Some.ensures } in
-    begins c.args.world.now (with_fuse c.args.queue.now fuse) c.args.w c.in-Some.call c.in-Begun.field-0 c.begin.new.self (with_fuse c.take.new.self fuse) waits (record {
+    begins c.args.world.now (with_fuse c.args.queue.now fuse) c.args.w c.in-Some.call c.in-Begun.field-0 c.begin.new.self (with_fuse c.leave_out.new.self fuse) waits (record {
       answer = c.in-Begun.ensures.answer;
       after = c.in-Begun.ensures.after;
-      calls = c.take.ensures.calls;
-      room = c.take.ensures.room;
+      calls = c.leave_out.ensures.calls;
+      room = c.leave_out.ensures.room;
       fuse = refl;
     })
 
