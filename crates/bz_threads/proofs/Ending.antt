@@ -11,7 +11,6 @@ use Rattle.bz_index.specs.declared.index.Index.{Index}
 use Rattle.bz_index.specs.declared.index.IndexPass.{IndexPass}
 use Rattle.bz_index.specs.declared.shared.IndexEntry.{IndexEntry}
 use Rattle.bz_index.specs.declared.shared.Origin.{Origin}
-use Rattle.bz_layout.specs.Config.{IsConfig}
 use Rattle.bz_layout.specs.declared.limits.TheConstants.{MAX_WORKERS}
 use Rattle.bz_mark.specs.Log.{Limits, count_begins, count_page_calls}
 use Rattle.bz_mark.specs.declared.marks.Mark.{Mark}

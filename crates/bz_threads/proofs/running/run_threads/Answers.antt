@@ -1,4 +1,4 @@
-use Rattle.std.proofs.Common.{◌≤◌, sym, ap, subst, ◌∙◌, arith}
+use Rattle.std.proofs.Common.{◌≤◌, sym, ap, subst, arith}
 use Rattle.bz_layout.specs.declared.config.Config.{Config}
 use Rattle.bz_layout.specs.declared.limits.TheConstants.{MAX_WORKERS}
 use Rattle.bz_mark.specs.Log.{Log}
