@@ -3,43 +3,43 @@ use Rattle.std.proofs.Common.{◌≡◌, ◌≤◌, ◌<◌, ℕ, suc, ◌+◌, 
 use Rattle.bz_world.specs.Lab.{Lab}
 use Rattle.bz_sched.specs.declared.turn.Stop.{Stop}
 use Rattle.bz_sched.specs.Points.{Point}
-use Rattle.bz_sched.specs.Queued.{Queued}
-use Rattle.bz_sched.specs.Runs.{point_of, IsReady, IsStopped, Keeps}
+use Rattle.bz_sched.specs.Fuses.{Fused}
+use Rattle.bz_sched.specs.Runs.{point_in, IsReady, IsStopped, Keeps}
 use Rattle.bz_sched.specs.Turns.{EndsOne, EndsFrom, EndsAlone}
 use Rattle.bz_sched.specs.TurnsInPart.{EndsOneInPart, EndsFromInPart, EndsAloneInPart}
 use Rattle.bz_sched.proofs.ReadyLemmas.{keeps_none, keeps_both}
 
 -- the workers before this one have ended: what follows that follows from the start
-pub record Ending (w : ℕ) (old : Lab) (queued : Queued) (world : Lab) (left : Queued) : Type 0 where
+pub record Ending (w : ℕ) (old : Lab) (queued : Fused) (world : Lab) (left : Fused) : Type 0 where
   pub keeps : Keeps old queued world left
-  pub whole : (new : Point) → EndsFrom w (65 - w) (point_of world left) new → EndsAlone (point_of old queued) new
-  pub part : (why : Stop) (new : Point) → EndsFromInPart why w (65 - w) (point_of world left) new → EndsAloneInPart why (point_of old queued) new
+  pub whole : (new : Point) → EndsFrom w (65 - w) (point_in world left) new → EndsAlone (point_in old queued) new
+  pub part : (why : Stop) (new : Point) → EndsFromInPart why w (65 - w) (point_in world left) new → EndsAloneInPart why (point_in old queued) new
 
-pub ending_none : (old : Lab) (queued : Queued) → IsReady old queued → Ending 1 old queued old queued
+pub ending_none : (old : Lab) (queued : Fused) → IsReady old → Ending 1 old queued old queued
 ending_none old queued ready = record { keeps = keeps_none old queued ready; whole = λ new ends. ends; part = λ why new ends. ends }
 
-pub ending_more : (w : ℕ) (old : Lab) (queued : Queued) (world : Lab) (left : Queued) (new : Lab) (after : Queued) → w < 65 → Ending w old queued world left
-    → Keeps world left new after × EndsOne w (point_of world left) (point_of new after) → Ending (w + 1) old queued new after
+pub ending_more : (w : ℕ) (old : Lab) (queued : Fused) (world : Lab) (left : Fused) (new : Lab) (after : Fused) → w < 65 → Ending w old queued world left
+    → Keeps world left new after × EndsOne w (point_in world left) (point_in new after) → Ending (w + 1) old queued new after
 ending_more w old queued world left new after few e (keeps, one) =
     let more : 65 - w ≡ suc (65 - (w + 1)) = omega arith in
     record {
       keeps = keeps_both old world new queued left after e.keeps keeps;
-      whole = λ end ends. e.whole end (subst (λ (count : ℕ). EndsFrom w count (point_of world left) end) (sym more) (point_of new after, one, ends));
-      part = λ why end ends. e.part why end (subst (λ (count : ℕ). EndsFromInPart why w count (point_of world left) end) (sym more) (inr (point_of new after, one, ends)));
+      whole = λ end ends. e.whole end (subst (λ (count : ℕ). EndsFrom w count (point_in world left) end) (sym more) (point_in new after, one, ends));
+      part = λ why end ends. e.part why end (subst (λ (count : ℕ). EndsFromInPart why w count (point_in world left) end) (sym more) (inr (point_in new after, one, ends)));
     }
 
-pub ending_stops : (w : ℕ) (old : Lab) (queued : Queued) (world : Lab) (left : Queued) (why : Stop) (new : Lab) (after : Queued) → w < 65 → Ending w old queued world left
-    → Keeps world left new after × EndsOneInPart why w (point_of world left) (point_of new after) × IsStopped new after why
-    → Keeps old queued new after × EndsAloneInPart why (point_of old queued) (point_of new after) × IsStopped new after why
+pub ending_stops : (w : ℕ) (old : Lab) (queued : Fused) (world : Lab) (left : Fused) (why : Stop) (new : Lab) (after : Fused) → w < 65 → Ending w old queued world left
+    → Keeps world left new after × EndsOneInPart why w (point_in world left) (point_in new after) × IsStopped new after.fuse why
+    → Keeps old queued new after × EndsAloneInPart why (point_in old queued) (point_in new after) × IsStopped new after.fuse why
 ending_stops w old queued world left why new after few e (keeps, one, met) =
     let more : 65 - w ≡ suc (65 - (w + 1)) = omega arith in (
       keeps_both old world new queued left after e.keeps keeps,
-      e.part why (point_of new after) (subst (λ (count : ℕ). EndsFromInPart why w count (point_of world left) (point_of new after)) (sym more) (inl one)),
+      e.part why (point_in new after) (subst (λ (count : ℕ). EndsFromInPart why w count (point_in world left) (point_in new after)) (sym more) (inl one)),
       met,
     )
 
-pub ending_done : (w : ℕ) (old : Lab) (queued : Queued) (world : Lab) (left : Queued) → 65 ≤ w → Ending w old queued world left
-    → Keeps old queued world left × EndsAlone (point_of old queued) (point_of world left)
+pub ending_done : (w : ℕ) (old : Lab) (queued : Fused) (world : Lab) (left : Fused) → 65 ≤ w → Ending w old queued world left
+    → Keeps old queued world left × EndsAlone (point_in old queued) (point_in world left)
 ending_done w old queued world left all e =
     let none : 65 - w ≡ 0 = omega arith in
-    (e.keeps, e.whole (point_of world left) (subst (λ (count : ℕ). EndsFrom w count (point_of world left) (point_of world left)) (sym none) refl))
+    (e.keeps, e.whole (point_in world left) (subst (λ (count : ℕ). EndsFrom w count (point_in world left) (point_in world left)) (sym none) refl))

@@ -1,5 +1,5 @@
 -- Begins of calls.
-use Rattle.std.proofs.Common.{◌≡◌, ℕ, ◌+◌, Bool, true, false, List, ◌∷◌, refl, sym, ◌∙◌, arith, inl, Option, Some, None, ◌==◌, nat_lt}
+use Rattle.std.proofs.Common.{◌≡◌, ℕ, ◌+◌, Bool, true, false, List, ◌∷◌, refl, ◌∙◌, arith, inl, Option, Some, None, ◌==◌, nat_lt}
 use Rattle.std.specs.Prelude.{nat_le, is_some, if◌then◌else◌, ◌||◌, ◌&&◌}
 use Rattle.std.proofs.lemmas.Bool.Decides.{nat_tests}
 use Rattle.bz_call.specs.Pages.{is_page}
@@ -13,13 +13,14 @@ use Rattle.bz_world.specs.declared.answers.Begun.{Begun as BeginAnswer}
 use Rattle.bz_world.specs.declared.answers.Begun.TheVariants.{Begun, NoWorker, Busy, Off, Recovering, Limit}
 use Rattle.bz_world.specs.declared.answers.Which.{Which}
 use Rattle.bz_world.specs.declared.answers.Which.TheVariants as which
+use Rattle.bz_sched.specs.Fuses.{Fused}
 use Rattle.bz_sched.specs.Points.{ready, GetsReady}
-use Rattle.bz_sched.specs.Queued.{Queued, calls_of, without_first, has_open, SetsOpen}
-use Rattle.bz_sched.specs.Runs.{point_of, IsReady, IsAtLimit, Keeps}
+use Rattle.bz_sched.specs.Queued.{calls_of, without_first}
+use Rattle.bz_sched.specs.Runs.{point_in, IsReady, IsAtLimit, Keeps}
 use Rattle.bz_sched.specs.TurnsInPart.{StopsBy}
 use Rattle.bz_sched.specs.declared.turn.Stop.TheVariants as stop
 use Rattle.bz_sched.proofs.BurnLemmas.{burns_same}
-use Rattle.bz_sched.proofs.ReadyLemmas.{keeps_none, first_can_begin, others_can_begin, opens, marks_known, openers_known}
+use Rattle.bz_sched.proofs.ReadyLemmas.{keeps_none, opens}
 
 -- the answer by its tests
 abbrev by_begin : Bool → Bool → Bool → Bool → Bool → ℕ → BeginAnswer
@@ -77,97 +78,91 @@ both_true : (a b : Bool) → (a && b) ≡ true → (a ≡ true) × (b ≡ true)
 both_true true b h = (refl, h)
 both_true false b h = absurd (cc h)
 
-answer_is : (lab : Lab) (queued : Queued) (w : ℕ) (call : Call) → IsReady lab queued → IsWorker lab.config w → has_open queued w ≡ false
+answer_is : (lab : Lab) (w : ℕ) (call : Call) → IsReady lab → IsWorker lab.config w → is_some (open_call w lab.log.past) ≡ false
     → begin_answer lab w call ≡ by_begin false (is_short lab.log) false (nat_le lab.log.limits.calls (count_begins lab.log.past)) (lacks_page lab.log call) (begun_calls w lab.log.past + 1)
-answer_is lab queued w call ready worker closed =
+answer_is lab w call ready worker free =
     let in_range : ((w == 0) || nat_lt lab.config.workers w) ≡ false = grind (arith, nat_tests, worker.some, worker.in_range) in
-    let free : is_some (open_call w lab.log.past) ≡ false = sym (ready.begun w) ∙ closed in
     rw (in_range, ready.powered, free) refl
 
--- a worker's call that waits, none of its calls open
-pub record Waits (lab : Lab) (queued : Queued) (w : ℕ) (call : Call) : Type 0 where
-  pub ready : IsReady lab queued
-  pub closed : has_open queued w ≡ false
-  pub first : (rest : List (ℕ × Call)) × (calls_of w queued.calls ≡ (w, call) ∷ rest)
+-- a worker's call that waits among these, none of its calls open
+pub record Waits (lab : Lab) (calls : List (ℕ × Call)) (w : ℕ) (call : Call) : Type 0 where
+  pub ready : IsReady lab
+  pub worker : IsWorker lab.config w
+  pub closed : is_some (open_call w lab.log.past) ≡ false
+  pub first : (rest : List (ℕ × Call)) × (calls_of w calls ≡ (w, call) ∷ rest)
 
-waits_worker : (lab : Lab) (queued : Queued) (w : ℕ) (call : Call) → Waits lab queued w call → IsWorker lab.config w
-waits_worker lab queued w call h = first_can_begin lab.config queued.calls h.first.0 w call h.ready.calls h.first.1
-
-answered : (lab : Lab) (queued : Queued) (w : ℕ) (call : Call) → Waits lab queued w call
+answered : (lab : Lab) (calls : List (ℕ × Call)) (w : ℕ) (call : Call) → Waits lab calls w call
     → begin_answer lab w call ≡ by_begin false (is_short lab.log) false (nat_le lab.log.limits.calls (count_begins lab.log.past)) (lacks_page lab.log call) (begun_calls w lab.log.past + 1)
-answered lab queued w call h = answer_is lab queued w call h.ready (waits_worker lab queued w call h) h.closed
+answered lab calls w call h = answer_is lab w call h.ready h.worker h.closed
 
-pub no_stranger : (lab : Lab) (queued : Queued) (w : ℕ) (call : Call) → Waits lab queued w call → NoWorker ≡ begin_answer lab w call → ⊥
-no_stranger lab queued w call h is = never_stranger _ _ _ _ (is ∙ answered lab queued w call h)
+pub no_stranger : (lab : Lab) (calls : List (ℕ × Call)) (w : ℕ) (call : Call) → Waits lab calls w call → NoWorker ≡ begin_answer lab w call → ⊥
+no_stranger lab calls w call h is = never_stranger _ _ _ _ (is ∙ answered lab calls w call h)
 
-pub not_busy : (lab : Lab) (queued : Queued) (w : ℕ) (call : Call) → Waits lab queued w call → Busy ≡ begin_answer lab w call → ⊥
-not_busy lab queued w call h is = never_busy _ _ _ _ (is ∙ answered lab queued w call h)
+pub not_busy : (lab : Lab) (calls : List (ℕ × Call)) (w : ℕ) (call : Call) → Waits lab calls w call → Busy ≡ begin_answer lab w call → ⊥
+not_busy lab calls w call h is = never_busy _ _ _ _ (is ∙ answered lab calls w call h)
 
-pub not_off : (lab : Lab) (queued : Queued) (w : ℕ) (call : Call) → Waits lab queued w call → Off ≡ begin_answer lab w call → ⊥
-not_off lab queued w call h is = never_off _ _ _ _ (is ∙ answered lab queued w call h)
+pub not_off : (lab : Lab) (calls : List (ℕ × Call)) (w : ℕ) (call : Call) → Waits lab calls w call → Off ≡ begin_answer lab w call → ⊥
+not_off lab calls w call h is = never_off _ _ _ _ (is ∙ answered lab calls w call h)
 
-pub not_recovering : (lab : Lab) (queued : Queued) (w : ℕ) (call : Call) → Waits lab queued w call → Recovering ≡ begin_answer lab w call → ⊥
-not_recovering lab queued w call h is = never_recovering _ _ _ _ (is ∙ answered lab queued w call h)
+pub not_recovering : (lab : Lab) (calls : List (ℕ × Call)) (w : ℕ) (call : Call) → Waits lab calls w call → Recovering ≡ begin_answer lab w call → ⊥
+not_recovering lab calls w call h is = never_recovering _ _ _ _ (is ∙ answered lab calls w call h)
 
 none_is : (opened : Option Open) → is_some opened ≡ false → opened ≡ None
 none_is None is = refl
 none_is (Some opened) is = absurd cc
 
-stops_by : (lab : Lab) (queued : Queued) (w : ℕ) (call : Call) (why : Which) → Waits lab queued w call
+stops_by : (lab : Lab) (queued : Fused) (w : ℕ) (call : Call) (why : Which) → Waits lab queued.calls w call
     → Gave (is_short lab.log) (nat_le lab.log.limits.calls (count_begins lab.log.past)) (lacks_page lab.log call) why
-    → StopsBy (stop.Limit why) w (point_of lab queued) (point_of lab queued) × IsAtLimit lab why
+    → StopsBy (stop.Limit why) w (point_in lab queued) (point_in lab queued) × IsAtLimit lab why
 stops_by lab queued w call which.Marks h gave = (inl refl, grind (arith, nat_tests, gave))
-stops_by lab queued w call which.Calls h gave = ((none_is (open_call w lab.log.past) (sym (h.ready.begun w) ∙ h.closed), refl), grind (arith, nat_tests, gave))
+stops_by lab queued w call which.Calls h gave = ((none_is (open_call w lab.log.past) h.closed, refl), grind (arith, nat_tests, gave))
 stops_by lab queued w call which.Pages h gave =
     let both = both_true (is_page call) (nat_le lab.log.limits.pages (count_page_calls lab.log.past)) gave in
     let full = both.1 in
-    ((none_is (open_call w lab.log.past) (sym (h.ready.begun w) ∙ h.closed), rw h.first.1 both.0, refl), grind (arith, nat_tests, full))
+    ((none_is (open_call w lab.log.past) h.closed, rw h.first.1 both.0, refl), grind (arith, nat_tests, full))
 
 -- a begin that meets a limit changes nothing
-pub begin_stops : (lab : Lab) (queued : Queued) (w : ℕ) (call : Call) (why : Which) (new : Lab) → Waits lab queued w call → Limit why ≡ begin_answer lab w call → new ≡ lab
-    → Keeps lab queued new queued × StopsBy (stop.Limit why) w (point_of lab queued) (point_of new queued) × IsAtLimit new why
+pub begin_stops : (lab : Lab) (queued : Fused) (w : ℕ) (call : Call) (why : Which) (new : Lab) → Waits lab queued.calls w call → Limit why ≡ begin_answer lab w call → new ≡ lab
+    → Keeps lab queued new queued × StopsBy (stop.Limit why) w (point_in lab queued) (point_in new queued) × IsAtLimit new why
 begin_stops lab queued w call why new h is same =
-    let stops = stops_by lab queued w call why h (which_gave _ _ _ (begun_calls w lab.log.past + 1) why (is ∙ answered lab queued w call h)) in
+    let stops = stops_by lab queued w call why h (which_gave _ _ _ (begun_calls w lab.log.past + 1) why (is ∙ answered lab queued.calls w call h)) in
     rw same (keeps_none lab queued h.ready, stops.0, stops.1)
 
 begun_opens : (past : List Mark) (w v n : ℕ) (call : Call) → is_some (open_call v (mark.Begin w n call ∷ past)) ≡ (if w == v then true else is_some (open_call v past))
 begun_opens past w v n call = opens (w == v) _ (open_call v past)
 
 -- the world after a begin, and the queue without its call
-pub record Begins (lab : Lab) (queued : Queued) (w : ℕ) (call : Call) (n : ℕ) (new : Lab) (left : Queued) : Type 0 where
+pub record Begins (lab : Lab) (queued : Fused) (w : ℕ) (call : Call) (n : ℕ) (new : Lab) (left : Fused) : Type 0 where
   pub answer : Begun n ≡ begin_answer lab w call
   pub after : new ≡ after_begin lab w call (Begun n)
   pub calls : left.calls ≡ without_first w queued.calls
   pub room : left.room ≡ queued.room
-  pub begun : SetsOpen queued w true left
   pub fuse : left.fuse ≡ queued.fuse
 
-begun_ready : (lab : Lab) (queued : Queued) (w n : ℕ) (call : Call) (left : Queued) → Waits lab queued w call → left.calls ≡ without_first w queued.calls → SetsOpen queued w true left → IsReady (after_begin lab w call (Begun n)) left
-begun_ready lab queued w n call left h calls begun = record {
-  config = h.ready.config;
-  calls = rw calls (others_can_begin lab.config queued.calls w h.ready.calls);
-  begun = marks_known queued left (λ v. open_call v lab.log.past) (λ v. open_call v (mark.Begin w n call ∷ lab.log.past)) w true h.ready.begun begun (λ v. begun_opens lab.log.past w v n call);
-  openers = openers_known lab.config queued left w true (waits_worker lab queued w call h) h.ready.openers begun;
-  powered = h.ready.powered;
-}
-
-begun_point : (lab : Lab) (queued : Queued) (w n : ℕ) (call : Call) (left : Queued) → Waits lab queued w call → Begun n ≡ begin_answer lab w call → left.calls ≡ without_first w queued.calls
-    → point_of (after_begin lab w call (Begun n)) left ≡ ready w (point_of lab queued)
+begun_point : (lab : Lab) (queued : Fused) (w n : ℕ) (call : Call) (left : Fused) → Waits lab queued.calls w call → Begun n ≡ begin_answer lab w call → left.calls ≡ without_first w queued.calls
+    → point_in (after_begin lab w call (Begun n)) left ≡ ready w (point_in lab queued)
 begun_point lab queued w n call left h answer calls =
-    let number : n ≡ begun_calls w lab.log.past + 1 = number_given _ _ _ _ n (answer ∙ answered lab queued w call h) in
-    let free : is_some (open_call w lab.log.past) ≡ false = sym (h.ready.begun w) ∙ h.closed in
-    rw (free, h.first.1, calls, number) refl
+    let number : n ≡ begun_calls w lab.log.past + 1 = number_given _ _ _ _ n (answer ∙ answered lab queued.calls w call h) in
+    rw (h.closed, h.first.1, calls, number) refl
 
 -- the first call that waits for a worker begins
-pub begins : (lab : Lab) (queued : Queued) (w : ℕ) (call : Call) (n : ℕ) (new : Lab) (left : Queued) → Waits lab queued w call → Begins lab queued w call n new left
-    → Keeps lab queued new left × GetsReady w (point_of lab queued) (point_of new left)
+pub begins : (lab : Lab) (queued : Fused) (w : ℕ) (call : Call) (n : ℕ) (new : Lab) (left : Fused) → Waits lab queued.calls w call → Begins lab queued w call n new left
+    → Keeps lab queued new left × GetsReady w (point_in lab queued) (point_in new left)
 begins lab queued w call n new left h b = rw b.after (
-  record { ready = begun_ready lab queued w n call left h b.calls b.begun; config = refl; at_start = refl; start = refl; limits = refl; room = b.room; fuse = burns_same lab.log.past (mark.Begin w n call ∷ lab.log.past) queued.fuse left.fuse b.fuse refl },
+  record {
+    ready = record { workers = h.ready.workers; powered = h.ready.powered };
+    config = refl;
+    at_start = refl;
+    start = refl;
+    limits = refl;
+    room = b.room;
+    fuse = burns_same lab.log.past (mark.Begin w n call ∷ lab.log.past) queued.fuse left.fuse b.fuse refl;
+  },
   begun_point lab queued w n call left h b.answer b.calls,
 )
 
 -- and is open then
-pub begun_is_open : (queued left : Queued) (w : ℕ) → SetsOpen queued w true left → has_open left w ≡ true
-begun_is_open queued left w marks =
+pub begun_is_open : (lab : Lab) (w n : ℕ) (call : Call) (new : Lab) → new ≡ after_begin lab w call (Begun n) → is_some (open_call w new.log.past) ≡ true
+begun_is_open lab w n call new after =
     let same : (w == w) ≡ true = grind (arith, nat_tests) in
-    marks w ∙ rw same refl
+    rw after (begun_opens lab.log.past w w n call ∙ rw same refl)

@@ -3,8 +3,7 @@ use Rattle.std.proofs.Common.{◌≡◌, ◌≤◌, ℕ, zero, suc, ◌+◌, ◌
 use Rattle.bz_mark.specs.declared.marks.Mark.{Mark}
 use Rattle.bz_sched.specs.Points.{flushes_of}
 use Rattle.bz_sched.specs.Plans.{IsBefore}
-use Rattle.bz_sched.specs.Queued.{lets, burnt}
-use Rattle.bz_sched.specs.Runs.{Burns}
+use Rattle.bz_sched.specs.Fuses.{lets, burnt, Burns}
 use Rattle.bz_sched.specs.declared.cut.CutPlan.{CutPlan}
 use Rattle.bz_sched.proofs.PowerLemmas.{one_flush}
 

@@ -44,29 +44,30 @@ listed_skip test w busy few fails l = record {
 pub listed_all : (test : ℕ → Bool) (w : ℕ) (busy : List ℕ) → 65 ≤ w → Listed test w busy → busy ≡ passing_from test 1 64
 listed_all test w busy all l = sym (append-nil busy) ∙ ap (λ (rest : List ℕ). busy ++ rest) (sym (none_on test w all)) ∙ l.whole
 
--- a worker that was listed passes the test, and is one of those before the last
-pub record Passes (test : ℕ → Bool) (last w : ℕ) : Type 0 where
+-- a worker that was listed passes the test, and is one of those from the first on and before the last
+pub record Passes (test : ℕ → Bool) (first last w : ℕ) : Type 0 where
   pub passes : test w ≡ true
+  pub from : first ≤ w
   pub below : w < last
 
-each_passes : (test : ℕ → Bool) (last w more at : ℕ) → w + more ≤ last → at < length (passing_from test w more) → Passes test last (slice_index (passing_from test w more) at)
-each_passes test last w zero at end within = absurd (omega (arith, within))
-each_passes test last w (suc more) at end within = by_test (test w) refl at within (λ later. each_passes test last (w + 1) more later (omega arith))
+each_passes : (test : ℕ → Bool) (first last w more at : ℕ) → first ≤ w → w + more ≤ last → at < length (passing_from test w more) → Passes test first last (slice_index (passing_from test w more) at)
+each_passes test first last w zero at start end within = absurd (omega (arith, within))
+each_passes test first last w (suc more) at start end within = by_test (test w) refl at within (λ later. each_passes test first last (w + 1) more later (omega arith) (omega arith))
   where
     by_test : (b : Bool) → test w ≡ b → (at : ℕ) → at < length (if b then w ∷ passing_from test (w + 1) more else passing_from test (w + 1) more)
-        → ((later : ℕ) → later < length (passing_from test (w + 1) more) → Passes test last (slice_index (passing_from test (w + 1) more) later))
-        → Passes test last (slice_index (if b then w ∷ passing_from test (w + 1) more else passing_from test (w + 1) more) at)
-    by_test true is zero within rest = record { passes = is; below = omega arith }
+        → ((later : ℕ) → later < length (passing_from test (w + 1) more) → Passes test first last (slice_index (passing_from test (w + 1) more) later))
+        → Passes test first last (slice_index (if b then w ∷ passing_from test (w + 1) more else passing_from test (w + 1) more) at)
+    by_test true is zero within rest = record { passes = is; from = start; below = omega arith }
     by_test true is (suc at) within rest = rest at (omega (arith, within))
     by_test false is at within rest = rest at within
 
-drawn_of_all : (test : ℕ → Bool) (draw : ℕ) → 0 < length (passing_from test 1 64) → Passes test 65 (slice_index (passing_from test 1 64) ((draw / 8) % length (passing_from test 1 64)))
-drawn_of_all test draw some = each_passes test 65 1 64 ((draw / 8) % length (passing_from test 1 64)) (omega arith) (mod-lt (draw / 8) some)
+drawn_of_all : (test : ℕ → Bool) (draw : ℕ) → 0 < length (passing_from test 1 64) → Passes test 1 65 (slice_index (passing_from test 1 64) ((draw / 8) % length (passing_from test 1 64)))
+drawn_of_all test draw some = each_passes test 1 65 1 64 ((draw / 8) % length (passing_from test 1 64)) (omega arith) (omega arith) (mod-lt (draw / 8) some)
 
 -- so does the one that a draw names in the list
-pub drawn_passes : (test : ℕ → Bool) (busy shown : List ℕ) (draw count : ℕ) → busy ≡ passing_from test 1 64 → 0 < length busy → shown ≡ busy → count ≡ length busy → Passes test 65 (slice_index shown ((draw / 8) % count))
+pub drawn_passes : (test : ℕ → Bool) (busy shown : List ℕ) (draw count : ℕ) → busy ≡ passing_from test 1 64 → 0 < length busy → shown ≡ busy → count ≡ length busy → Passes test 1 65 (slice_index shown ((draw / 8) % count))
 drawn_passes test busy shown draw count listed some same is =
-    rw (same, is) (subst (λ (list : List ℕ). 0 < length list → Passes test 65 (slice_index list ((draw / 8) % length list))) (sym listed) (drawn_of_all test draw) some)
+    rw (same, is) (subst (λ (list : List ℕ). 0 < length list → Passes test 1 65 (slice_index list ((draw / 8) % length list))) (sym listed) (drawn_of_all test draw) some)
 
 -- tests that agree list the same workers
 pub same_list : (test other : ℕ → Bool) (w more : ℕ) → ((v : ℕ) → test v ≡ other v) → passing_from test w more ≡ passing_from other w more

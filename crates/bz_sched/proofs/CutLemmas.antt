@@ -1,9 +1,8 @@
 -- The cut of the power.
-use Rattle.std.proofs.Common.{◌≡◌, ◌≢◌, ◌≤◌, ◌<◌, ◌⊎◌, inl, inr, ℕ, Bool, true, false, [], refl, sym, subst, ◌∙◌, arith, Option, Some, None}
+use Rattle.std.proofs.Common.{◌≡◌, ◌≢◌, ◌<◌, ◌⊎◌, inl, inr, ℕ, Bool, true, false, refl, sym, ◌∙◌, arith, Option, Some, None}
 use Rattle.std.specs.Prelude.{if◌then◌else◌, MatchOption}
 use Rattle.std.proofs.lemmas.Bool.Decides.{nat_tests}
 use Rattle.bz_layout.specs.Addresses.{words_of}
-use Rattle.bz_layout.specs.Config.{IsConfig}
 use Rattle.bz_sound.specs.declared.power.Power.TheVariants as power
 use Rattle.bz_world.specs.Lab.{Lab, power_in, is_short, cut_refusal, after_cut, IsApplied}
 use Rattle.bz_world.specs.declared.answers.Applied.{Applied}
@@ -11,8 +10,7 @@ use Rattle.bz_world.specs.declared.answers.Applied.TheVariants as applied
 use Rattle.bz_world.specs.declared.answers.Event.TheVariants as event
 use Rattle.bz_world.specs.declared.answers.Which.TheVariants as which
 use Rattle.bz_sched.specs.Cutting.{Evolves, HasNoPlace, AreEvicted, EvictionsStopped, IsCutOff}
-use Rattle.bz_sched.specs.Queued.{Queued, has_open}
-use Rattle.bz_sched.specs.Runs.{marks_left, IsSteady}
+use Rattle.bz_sched.specs.Runs.{marks_left}
 use Rattle.bz_sched.specs.declared.running.RunEnd.TheVariants as end
 use Rattle.bz_sched.proofs.EvictionLemmas.{not_off}
 
@@ -44,31 +42,17 @@ pub still_powered : (old mid : Lab) → Evolves old mid → power_in old ≢ pow
 still_powered old mid e powered off = powered (sym e.power ∙ off)
 
 -- no eviction was left a place, and the cut was left none
-pub eviction_stops : (seed : ℕ) (old new : Lab) (queued : Queued) → EvictionsStopped (words_of old.config) seed old new → IsCutOff seed old queued (end.Limit which.Marks) new queued
-eviction_stops seed old new queued h = (h.evolves.stays, refl, (inl h.evicts, refl), h.met)
+pub eviction_stops : (seed : ℕ) (old new : Lab) → EvictionsStopped (words_of old.config) seed old new → IsCutOff seed old (end.Limit which.Marks) new
+eviction_stops seed old new h = (h.evolves.stays, refl, (λ calls. (inl h.evicts, refl)), h.met)
 
-pub cut_stops : (seed : ℕ) (old mid new : Lab) (queued : Queued) → AreEvicted (words_of old.config) seed old mid → HasNoPlace mid new → IsCutOff seed old queued (end.Limit which.Marks) new queued
-cut_stops seed old mid new queued h none = rw none.same (h.evolves.stays, refl, (inr h.evicts, refl), limit_met mid none.short)
+pub cut_stops : (seed : ℕ) (old mid new : Lab) → AreEvicted (words_of old.config) seed old mid → HasNoPlace mid new → IsCutOff seed old (end.Limit which.Marks) new
+cut_stops seed old mid new h none = rw none.same (h.evolves.stays, refl, (λ calls. (inr h.evicts, refl)), limit_met mid none.short)
 
-closed_steady : (world : Lab) (left : Queued) → IsConfig world.config → left.calls ≡ [] → ((w : ℕ) → has_open left w ≡ false) → IsSteady (after_cut world) left
-closed_steady world left config empty closed = record {
-  config = config;
-  calls = rw empty tt;
-  begun = λ w. closed w;
-  openers = λ w is. let opposed : false ≡ true = sym (closed w) ∙ is in absurd (cc opposed);
-  steady = λ recovering. absurd (cc recovering);
-}
-
--- the power was cut, and the calls were dropped
-pub cut_is_made : (seed : ℕ) (old mid new : Lab) (queued left : Queued) → IsConfig old.config → AreEvicted (words_of old.config) seed old mid → WasCut mid new
-    → left.calls ≡ [] → queued.room ≤ left.room → ((w : ℕ) → has_open left w ≡ false) → IsCutOff seed old queued end.Cut new left
-cut_is_made seed old mid new queued left config h cut empty room closed = rw cut.is (
-  record {
-    stays = record { config = h.evolves.stays.config; at_start = h.evolves.stays.at_start; start = h.evolves.stays.start; limits = h.evolves.stays.limits };
-    steady = closed_steady mid left (subst IsConfig (sym h.evolves.stays.config) config) empty closed;
-    room = room;
-  },
+-- the power was cut
+pub cut_is_made : (seed : ℕ) (old mid new : Lab) → AreEvicted (words_of old.config) seed old mid → WasCut mid new → IsCutOff seed old end.Cut new
+cut_is_made seed old mid new h cut = rw cut.is (
+  record { config = h.evolves.stays.config; at_start = h.evolves.stays.at_start; start = h.evolves.stays.start; limits = h.evolves.stays.limits },
   refl,
   h.evolves.flushes,
-  (mid.log.past, h.evicts, rw empty refl),
+  (λ calls. (mid.log.past, h.evicts, refl)),
 )

@@ -1,6 +1,7 @@
 -- Evictions.
-use Rattle.std.proofs.Common.{◌≡◌, ◌≢◌, ◌<◌, ◌⊎◌, inl, inr, ℕ, Bool, true, false, [], length, refl, sym, subst, ◌∙◌, arith, Option, Some, None}
-use Rattle.std.specs.Prelude.{if◌then◌else◌, nat_le, MatchOption}
+use Rattle.std.proofs.Common.{◌≡◌, ◌≢◌, ◌<◌, ◌⊎◌, inl, inr, ℕ, Bool, true, false, [], length, refl, subst, ◌∙◌, arith, Option, Some, None}
+use Rattle.std.specs.Prelude.{if◌then◌else◌, is_some, nat_le, MatchOption}
+use Rattle.bz_sound.specs.Calls.{open_call}
 use Rattle.std.proofs.lemmas.Bool.Decides.{nat_tests}
 use Rattle.bz_layout.specs.Addresses.{words_of}
 use Rattle.bz_mark.specs.declared.marks.Mark.TheVariants as mark
@@ -12,8 +13,8 @@ use Rattle.bz_world.specs.declared.answers.Applied.TheVariants as applied
 use Rattle.bz_world.specs.declared.answers.Event.TheVariants as event
 use Rattle.bz_world.specs.declared.answers.Which.TheVariants as which
 use Rattle.bz_sched.specs.Cutting.{HasNoPlace, WordEvicted}
-use Rattle.bz_sched.specs.Queued.{Queued}
-use Rattle.bz_sched.specs.Runs.{point_of, IsReady, IsAtLimit, Keeps}
+use Rattle.bz_sched.specs.Fuses.{Fused}
+use Rattle.bz_sched.specs.Runs.{point_in, IsReady, IsAtLimit, Keeps}
 use Rattle.bz_sched.specs.Turns.{IsEviction}
 use Rattle.bz_sched.specs.TurnsInPart.{StopsEvent}
 use Rattle.bz_sched.specs.declared.turn.Stop.TheVariants.{Limit}
@@ -46,17 +47,17 @@ pub evicted : (old : Lab) (a : ℕ) (answer : Applied) (new : Lab) → a < words
     → ((answer ≡ applied.Limit) × HasNoPlace old new) ⊎ ((answer ≡ applied.Evicted) × WordEvicted old a new)
 evicted old a answer new within powered h = eviction_cases (is_short old.log) old a answer new refl (rw (eviction_refusal_is old a within powered) at h)
 
-pub eviction_limit : (old : Lab) (queued : Queued) (new : Lab) → IsReady old queued → HasNoPlace old new
-    → Keeps old queued new queued × StopsEvent (Limit which.Marks) (point_of old queued) (point_of new queued) × IsAtLimit new which.Marks
+pub eviction_limit : (old : Lab) (queued : Fused) (new : Lab) → IsReady old → HasNoPlace old new
+    → Keeps old queued new queued × StopsEvent (Limit which.Marks) (point_in old queued) (point_in new queued) × IsAtLimit new which.Marks
 eviction_limit old queued new ready r = short_stops old queued new ready r.short r.same
 
-pub eviction_made : (old : Lab) (queued : Queued) (a : ℕ) (new : Lab) → IsReady old queued → Evicts old a applied.Evicted new
-    → Keeps old queued new queued × IsEviction a (point_of old queued) (point_of new queued)
+pub eviction_made : (old : Lab) (queued : Fused) (a : ℕ) (new : Lab) → IsReady old → Evicts old a applied.Evicted new
+    → Keeps old queued new queued × IsEviction a (point_in old queued) (point_in new queued)
 eviction_made old queued a new ready e =
     let struck = struck_is (mark.Evict a) old.log.past e.past e.effect in
     rw e.rest (
       record {
-        ready = record { config = ready.config; calls = ready.calls; begun = λ v. ready.begun v ∙ sym (struck.opens v); openers = ready.openers; powered = struck_power old.at_start (mark.Evict a) old.log.past e.past e.effect ∙ ready.powered };
+        ready = record { workers = ready.workers; powered = struck_power old.at_start (mark.Evict a) old.log.past e.past e.effect ∙ ready.powered };
         config = refl;
         at_start = refl;
         start = refl;
@@ -71,3 +72,9 @@ pub eviction_longer : (old : Lab) (a : ℕ) (new : Lab) → Evicts old a applied
 eviction_longer old a new e =
     let struck = struck_is (mark.Evict a) old.log.past e.past e.effect in
     rw e.rest (rw struck.is (more_marks (mark.Evict a) struck.effect [] old.log.past))
+
+-- it opens and ends no call
+pub eviction_opens : (old : Lab) (a : ℕ) (new : Lab) → Evicts old a applied.Evicted new → (v : ℕ) → is_some (open_call v new.log.past) ≡ is_some (open_call v old.log.past)
+eviction_opens old a new e v =
+    let struck = struck_is (mark.Evict a) old.log.past e.past e.effect in
+    rw e.rest (struck.opens v)

@@ -2,7 +2,6 @@
 use Rattle.std.proofs.Common.{◌≡◌, ◌≢◌, ◌≤◌, ◌<◌, ℕ, zero, suc, ◌+◌, ◌-◌, Bool, true, false, List, [], ◌∷◌, ◌++◌, length, set, drop, get_or, replicate, refl, ap, ◌∙◌, arith, Some, nat_le, ◌==◌}
 use Rattle.std.specs.Prelude.{if◌then◌else◌}
 use Rattle.std.proofs.lemmas.Bool.Decides.{nat_tests}
-use Rattle.std.proofs.lemmas.Grind.{common_steps}
 use Rattle.std.proofs.lemmas.List.{length-append}
 use Rattle.bz_call.specs.declared.calls.Call.{Call}
 use Rattle.bz_sched.specs.Queued.{calls_of, without_first}
@@ -46,18 +45,13 @@ zeros_are zero w = refl
 zeros_are (suc n) zero = refl
 zeros_are (suc n) (suc w) = zeros_are n w
 
-pub all_closed : (n w : ℕ) → get_or (replicate n false) w false ≡ false
-all_closed zero w = refl
-all_closed (suc n) zero = refl
-all_closed (suc n) (suc w) = all_closed n w
-
 -- an empty queue
-pub kept_empty : (calls : List (ℕ × Call)) (next waiting : List ℕ) (most capacity : ℕ) → calls ≡ [] → next ≡ replicate 65 0 → waiting ≡ replicate 65 0 → most ≤ capacity → IsKept calls next waiting most capacity
+pub kept_empty : (calls : List (ℕ × Call)) (next waiting : List ℕ) (most capacity : ℕ) → calls ≡ [] → next ≡ replicate 256 0 → waiting ≡ replicate 256 0 → most ≤ capacity → IsKept calls next waiting most capacity
 kept_empty calls next waiting most capacity none zeros no_counts room = rw (none, zeros, no_counts) (record {
   fits = omega arith;
   taken = room;
-  within = λ w. omega (arith, zeros_are 65 w);
-  counted = λ w. zeros_are 65 w;
+  within = λ w. omega (arith, zeros_are 256 w);
+  counted = λ w. zeros_are 256 w;
 })
 
 last_of : (v w : ℕ) (calls : List (ℕ × Call)) (call : Call) → length (calls_of v (calls ++ (w, call) ∷ [])) ≡ length (calls_of v calls) + length (calls_of v ((w, call) ∷ []))
@@ -90,10 +84,10 @@ kept_pushed calls more next waiting most capacity after w call k small room grow
 one_fewer : (calls rest : List (ℕ × Call)) (call : ℕ × Call) → calls ≡ call ∷ rest → length (drop 1 calls) ≡ length calls - 1
 one_fewer calls rest call is = rw is (omega arith)
 
--- the first call of a worker has begun
-pub kept_begun : (calls : List (ℕ × Call)) (next waiting : List ℕ) (most capacity w at : ℕ) → IsKept calls next waiting most capacity → w < length next → w < length waiting → IsFound calls (get_or next w 0) w (Some at)
+-- the first call of a worker is left out
+pub kept_left : (calls : List (ℕ × Call)) (next waiting : List ℕ) (most capacity w at : ℕ) → IsKept calls next waiting most capacity → w < length next → w < length waiting → IsFound calls (get_or next w 0) w (Some at)
     → IsKept calls (set next w (at + 1)) (set waiting w (get_or waiting w 0 - 1)) most capacity
-kept_begun calls next waiting most capacity w at k small few found = record {
+kept_left calls next waiting most capacity w at k small few found = record {
   fits = k.fits;
   taken = k.taken;
   within = λ v. within_then v (v == w) refl;
@@ -114,20 +108,6 @@ kept_begun calls next waiting most capacity w at k small few found = record {
     counted_then v false is =
         let other : v ≢ w = λ same. grind (arith, nat_tests) in
         rw (found_taken calls next w at small found, calls_of-without v w (waiting_from 0 next calls) other) (set_other waiting v w (get_or waiting w 0 - 1) other ∙ k.counted v)
-
-flag_other : (xs : List Bool) (v w : ℕ) (x : Bool) → v ≢ w → get_or (set xs w x) v false ≡ get_or xs v false
-flag_other xs v w x h = grind (arith, common_steps)
-
-flag_same : (xs : List Bool) (w : ℕ) (x : Bool) → w < length xs → get_or (set xs w x) w false ≡ x
-flag_same xs w x h = grind (arith, common_steps)
-
--- one flag was set
-pub flag_set : (begun : List Bool) (w : ℕ) (now : Bool) → w < length begun → (v : ℕ) → get_or (set begun w now) v false ≡ (if w == v then now else get_or begun v false)
-flag_set begun w now small v = by_owner (w == v) refl
-  where
-    by_owner : (b : Bool) → (w == v) ≡ b → get_or (set begun w now) v false ≡ (if b then now else get_or begun v false)
-    by_owner true is = let same : w ≡ v = same_owner w v is in rw (← same) (flag_same begun w now small)
-    by_owner false is = flag_other begun v w now (λ same. grind (arith, nat_tests))
 
 -- where none of a worker's calls waits none is taken out
 pub without_none : (w : ℕ) (calls : List (ℕ × Call)) → calls_of w calls ≡ [] → calls ≡ without_first w calls

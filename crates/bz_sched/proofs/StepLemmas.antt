@@ -1,31 +1,30 @@
 -- Steps of a worker's open call.
-use Rattle.std.proofs.Common.{◌≡◌, ◌<◌, ◌⊎◌, inl, inr, ℕ, Bool, true, false, List, [], ◌∷◌, ◌++◌, length, get_or, refl, sym, ap, ◌∙◌, arith, Option, Some, None, ◌==◌, nat_lt}
+use Rattle.std.proofs.Common.{◌≡◌, ◌<◌, ◌⊎◌, inl, inr, ℕ, Bool, true, false, List, [], ◌∷◌, ◌++◌, length, refl, ap, ◌∙◌, arith, Option, Some, None, ◌==◌, nat_lt}
 use Rattle.std.specs.Prelude.{is_none, is_some, if◌then◌else◌, MatchOption}
 use Rattle.std.proofs.lemmas.Bool.Decides.{nat_tests}
 use Rattle.std.proofs.lemmas.List.{length-append}
 use Rattle.bz_acts.specs.Rule.{is_flush_act}
 use Rattle.bz_acts.specs.declared.acted.Act.{Act}
 use Rattle.bz_acts.specs.declared.acted.Act.TheVariants as act
-use Rattle.bz_call.specs.declared.replies.Reply.{Reply}
 use Rattle.bz_mark.specs.Log.{Log}
 use Rattle.bz_mark.specs.declared.marks.Mark.{Mark}
 use Rattle.bz_mark.specs.declared.marks.Mark.TheVariants as mark
 use Rattle.bz_sound.specs.declared.power.Power.{Power}
 use Rattle.bz_sound.specs.Calls.{Open, open_call}
 use Rattle.bz_sound.specs.Power.Times.{power_of}
-use Rattle.bz_world.specs.Lab.{Lab, flush_of, is_short, step_refusal, mark_of, IsStruck, GoesOn, Steps, IsApplied}
+use Rattle.bz_world.specs.Lab.{Lab, IsWorker, flush_of, is_short, step_refusal, mark_of, IsStruck, GoesOn, Steps, IsApplied}
 use Rattle.bz_world.specs.declared.answers.Applied.{Applied}
 use Rattle.bz_world.specs.declared.answers.Applied.TheVariants as applied
 use Rattle.bz_world.specs.declared.answers.Event.TheVariants as event
 use Rattle.bz_world.specs.declared.answers.Which.TheVariants as which
 use Rattle.bz_sched.specs.Points.{actor, flushes_of, IsUpToOneEffect, IsStep, TakesStep}
-use Rattle.bz_sched.specs.Queued.{Queued, has_open, SetsOpen, lets, burnt}
-use Rattle.bz_sched.specs.Runs.{point_of, IsReady, IsAtLimit, IsStopped, Keeps}
+use Rattle.bz_sched.specs.Fuses.{lets, burnt, Fused}
+use Rattle.bz_sched.specs.Runs.{point_in, IsReady, IsAtLimit, IsStopped, Keeps}
 use Rattle.bz_sched.specs.TurnsInPart.{StopsStep}
 use Rattle.bz_sched.specs.declared.turn.Stop.TheVariants.{Due, Limit}
 use Rattle.bz_sched.proofs.BurnLemmas.{burns_act}
 use Rattle.bz_sched.proofs.PowerLemmas.{act_power, struck_power, act_flushes, struck_flushes, one_flush}
-use Rattle.bz_sched.proofs.ReadyLemmas.{keeps_none, ends, changes_no, marks_known, openers_known}
+use Rattle.bz_sched.proofs.ReadyLemmas.{keeps_none, changes_no}
 
 -- an act, and what follows it at once
 pub record Strikes (first : Mark) (past struck : List Mark) : Type 0 where
@@ -43,12 +42,6 @@ struck_is first past struck (inr (w, (n, is))) = record {
   opens = λ v. rw is (changes_no (w == v) _ (open_call v (first ∷ past)));
 }
 
-act_opens : (made : Act) (w v : ℕ) (past : List Mark) → open_call v (mark_of w made ∷ past) ≡ open_call v past
-act_opens (act.Load a x) w v past = refl
-act_opens (act.Store a x) w v past = refl
-act_opens (act.Cas a old new found) w v past = refl
-act_opens (act.Flush line) w v past = refl
-
 act_own : (made : Act) (w : ℕ) → actor (mark_of w made) ≡ Some w
 act_own (act.Load a x) w = refl
 act_own (act.Store a x) w = refl
@@ -63,11 +56,10 @@ none_not_some : (opened : Option Open) → is_some opened ≡ true → is_none o
 none_not_some None is = absurd cc
 none_not_some (Some opened) is = refl
 
-refusal_is : (lab : Lab) (queued : Queued) (w : ℕ) → IsReady lab queued → has_open queued w ≡ true → step_refusal lab w ≡ by_step false (is_short lab.log) false
-refusal_is lab queued w ready is =
-    let worker = ready.openers w is in
+refusal_is : (lab : Lab) (w : ℕ) → IsReady lab → IsWorker lab.config w → is_some (open_call w lab.log.past) ≡ true → step_refusal lab w ≡ by_step false (is_short lab.log) false
+refusal_is lab w ready worker is =
     let in_range : nat_lt lab.config.workers w ≡ false = grind (arith, nat_tests, worker.in_range) in
-    let busy : is_none (open_call w lab.log.past) ≡ false = none_not_some (open_call w lab.log.past) (sym (ready.begun w) ∙ is) in
+    let busy : is_none (open_call w lab.log.past) ≡ false = none_not_some (open_call w lab.log.past) is in
     rw (in_range, ready.powered, busy) refl
 
 -- the answer is one of two
@@ -86,9 +78,9 @@ step_cases : (short : Bool) (old : Lab) (w : ℕ) (answer : Applied) (new : Lab)
 step_cases true old w answer new is (e, same) = inl (record { short = is; answered = e; same = same })
 step_cases false old w answer new is h = inr (record { room = is; steps = h })
 
-pub stepped : (old : Lab) (queued : Queued) (w : ℕ) (answer : Applied) (new : Lab) → IsReady old queued → has_open queued w ≡ true → IsApplied old (event.Step w) answer new
+pub stepped : (old : Lab) (w : ℕ) (answer : Applied) (new : Lab) → IsReady old → IsWorker old.config w → is_some (open_call w old.log.past) ≡ true → IsApplied old (event.Step w) answer new
     → Refused old answer new ⊎ Goes old w answer new
-stepped old queued w answer new ready is h = step_cases (is_short old.log) old w answer new refl (rw (refusal_is old queued w ready is, ready.powered) at h)
+stepped old w answer new ready worker is h = step_cases (is_short old.log) old w answer new refl (rw (refusal_is old w ready worker is, ready.powered) at h)
 
 -- nothing else is answered
 pub step_answers : (answer : Applied) (log new : Log) (w : ℕ) → GoesOn log w answer new → (answer ≡ applied.Stepped → ⊥) → ((n : ℕ) → answer ≡ applied.Ended n → ⊥) → ⊥
@@ -97,53 +89,49 @@ step_answers (applied.Ended n) log new w g s e = e n refl
 step_answers other log new w g s e = absurd g
 
 -- a limit
-pub short_stops : (old : Lab) (queued : Queued) (new : Lab) → IsReady old queued → is_short old.log ≡ true → new ≡ old
-    → Keeps old queued new queued × ((which.Marks ≡ which.Marks) × (point_of new queued ≡ point_of old queued)) × IsAtLimit new which.Marks
+pub short_stops : (old : Lab) (queued : Fused) (new : Lab) → IsReady old → is_short old.log ≡ true → new ≡ old
+    → Keeps old queued new queued × ((which.Marks ≡ which.Marks) × (point_in new queued ≡ point_in old queued)) × IsAtLimit new which.Marks
 short_stops old queued new ready short same =
     let met : IsAtLimit old which.Marks = grind (arith, nat_tests, short) in
     rw same (keeps_none old queued ready, (refl, refl), met)
 
-pub step_limit : (old : Lab) (queued : Queued) (w : ℕ) (new : Lab) → IsReady old queued → has_open queued w ≡ true → IsApplied old (event.Step w) applied.Limit new
-    → Keeps old queued new queued × StopsStep (Limit which.Marks) w (point_of old queued) (point_of new queued) × IsAtLimit new which.Marks
-step_limit old queued w new ready is h = elim (stepped old queued w applied.Limit new ready is h) [
+pub step_limit : (old : Lab) (queued : Fused) (w : ℕ) (new : Lab) → IsReady old → IsWorker old.config w → is_some (open_call w old.log.past) ≡ true → IsApplied old (event.Step w) applied.Limit new
+    → Keeps old queued new queued × StopsStep (Limit which.Marks) w (point_in old queued) (point_in new queued) × IsAtLimit new which.Marks
+step_limit old queued w new ready worker is h = elim (stepped old w applied.Limit new ready worker is h) [
   | inl r ↦ short_stops old queued new ready r.short r.same
   | inr g ↦ absurd g.steps.ends
 ]
 
 -- the step is the flush at which the power is cut
-pub step_due : (lab : Lab) (queued : Queued) (w : ℕ) → IsReady lab queued → (flush_of lab w ≡ true) × (queued.fuse ≡ Some 0)
-    → Keeps lab queued lab queued × StopsStep (Due w) w (point_of lab queued) (point_of lab queued) × IsStopped lab queued (Due w)
+pub step_due : (lab : Lab) (queued : Fused) (w : ℕ) → IsReady lab → (flush_of lab w ≡ true) × (queued.fuse ≡ Some 0)
+    → Keeps lab queued lab queued × StopsStep (Due w) w (point_in lab queued) (point_in lab queued) × IsStopped lab queued.fuse (Due w)
 step_due lab queued w ready due = (keeps_none lab queued ready, (refl, refl), due)
 
 -- the queue after an act: it has the same calls, and a flush is counted
-pub record Burnt (flush : Bool) (queued left : Queued) : Type 0 where
+pub record Burnt (flush : Bool) (queued left : Fused) : Type 0 where
   pub calls : left.calls ≡ queued.calls
   pub room : left.room ≡ queued.room
-  pub begun : left.begun ≡ queued.begun
   pub may : lets queued.fuse flush ≡ true
   pub fuse : left.fuse ≡ burnt flush queued.fuse
-
--- the call goes on
-on_ready : (old : Lab) (queued left : Queued) (w : ℕ) (new : Lab) → left.calls ≡ queued.calls → left.begun ≡ queued.begun → IsReady old queued → Steps old w applied.Stepped new → IsReady new left
-on_ready old queued left w new calls begun ready s = record {
-  config = rw s.config ready.config;
-  calls = rw (s.config, calls) ready.calls;
-  begun = λ v. ap (λ (flags : List Bool). get_or flags v false) begun ∙ ready.begun v ∙ sym (ap (λ (log : Log). is_some (open_call v log.past)) s.ends ∙ (struck_is (mark_of w s.made) old.log.past s.struck s.effect).opens v ∙ ap is_some (act_opens s.made w v old.log.past));
-  openers = λ v is. rw s.config (ready.openers v (sym (ap (λ (flags : List Bool). get_or flags v false) begun) ∙ is));
-  powered = ap (λ (p : Power). power_of p new.log.past) s.at_start ∙ ap (λ (log : Log). power_of old.at_start log.past) s.ends ∙ struck_power old.at_start (mark_of w s.made) old.log.past s.struck s.effect ∙ act_power old.at_start s.made w old.log.past ∙ ready.powered;
-}
 
 -- how many flushes were made by then
 step_flushes : (old : Lab) (w : ℕ) (made : Act) (struck : List Mark) → is_flush_act made ≡ flush_of old w → IsStruck (mark_of w made ∷ old.log.past) struck → flushes_of struck ≡ one_flush (flush_of old w) (flushes_of old.log.past)
 step_flushes old w made struck flush effect = struck_flushes (mark_of w made) old.log.past struck effect ∙ act_flushes made w old.log.past ∙ ap (λ (b : Bool). one_flush b (flushes_of old.log.past)) flush
 
-pub step_goes_on : (old : Lab) (queued left : Queued) (w : ℕ) (new : Lab) → IsReady old queued → Goes old w applied.Stepped new → Burnt (flush_of old w) queued left
-    → Keeps old queued new left × TakesStep w (point_of old queued) (point_of new left)
+-- the call goes on
+on_ready : (old : Lab) (w : ℕ) (new : Lab) → IsReady old → Steps old w applied.Stepped new → IsReady new
+on_ready old w new ready s = record {
+  workers = rw s.config ready.workers;
+  powered = ap (λ (p : Power). power_of p new.log.past) s.at_start ∙ ap (λ (log : Log). power_of old.at_start log.past) s.ends ∙ struck_power old.at_start (mark_of w s.made) old.log.past s.struck s.effect ∙ act_power old.at_start s.made w old.log.past ∙ ready.powered;
+}
+
+step_goes_on : (old : Lab) (queued left : Fused) (w : ℕ) (new : Lab) → IsReady old → Goes old w applied.Stepped new → Burnt (flush_of old w) queued left
+    → Keeps old queued new left × TakesStep w (point_in old queued) (point_in new left)
 step_goes_on old queued left w new ready g b =
     let s = g.steps in
     let struck = struck_is (mark_of w s.made) old.log.past s.struck s.effect in (
       record {
-        ready = on_ready old queued left w new b.calls b.begun ready s;
+        ready = on_ready old w new ready s;
         config = s.config;
         at_start = s.at_start;
         start = ap (λ (log : Log). log.start) s.ends;
@@ -166,41 +154,25 @@ step_goes_on old queued left w new ready g b =
     )
 
 -- the call ends
-end_opens : (past : List Mark) (w v n at : ℕ) (reply : Reply) → is_some (open_call v (mark.End w n reply at ∷ past)) ≡ (if w == v then false else is_some (open_call v past))
-end_opens past w v n at reply = ends (w == v) (open_call v past)
-
-ended_opens : (old : Lab) (w n : ℕ) (new : Lab) → Steps old w (applied.Ended n) new → (v : ℕ) → is_some (open_call v new.log.past) ≡ (if w == v then false else is_some (open_call v old.log.past))
-ended_opens old w n new s v =
-    let struck = struck_is (mark_of w s.made) old.log.past s.struck s.effect in
-    let before : is_some (open_call v s.struck) ≡ is_some (open_call v old.log.past) = struck.opens v ∙ ap is_some (act_opens s.made w v old.log.past) in
-    ap (λ (log : Log). is_some (open_call v log.past)) s.ends.is ∙ end_opens s.struck w v n s.ends.at s.ends.reply ∙ ap (λ (b : Bool). if w == v then false else b) before
-
-ended_ready : (old : Lab) (queued : Queued) (w n : ℕ) (new : Lab) (left : Queued) → IsReady old queued → has_open queued w ≡ true → Steps old w (applied.Ended n) new → left.calls ≡ queued.calls → SetsOpen queued w false left → IsReady new left
-ended_ready old queued w n new left ready is s calls marks = record {
-  config = rw s.config ready.config;
-  calls = rw (s.config, calls) ready.calls;
-  begun = marks_known queued left (λ v. open_call v old.log.past) (λ v. open_call v new.log.past) w false ready.begun marks (ended_opens old w n new s);
-  openers = rw s.config (openers_known old.config queued left w false (ready.openers w is) ready.openers marks);
+ended_ready : (old : Lab) (w n : ℕ) (new : Lab) → IsReady old → Steps old w (applied.Ended n) new → IsReady new
+ended_ready old w n new ready s = record {
+  workers = rw s.config ready.workers;
   powered = ap (λ (p : Power). power_of p new.log.past) s.at_start ∙ ap (λ (log : Log). power_of old.at_start log.past) s.ends.is ∙ struck_power old.at_start (mark_of w s.made) old.log.past s.struck s.effect ∙ act_power old.at_start s.made w old.log.past ∙ ready.powered;
 }
 
-pub step_ends : (old : Lab) (queued between : Queued) (w n : ℕ) (new : Lab) (left : Queued) → IsReady old queued → has_open queued w ≡ true → Goes old w (applied.Ended n) new → Burnt (flush_of old w) queued between
-    → left.calls ≡ between.calls → left.room ≡ between.room → SetsOpen between w false left → left.fuse ≡ between.fuse
-    → Keeps old queued new left × TakesStep w (point_of old queued) (point_of new left)
-step_ends old queued between w n new left ready is g b same_calls same_room same_marks same_fuse =
+step_ends : (old : Lab) (queued left : Fused) (w n : ℕ) (new : Lab) → IsReady old → Goes old w (applied.Ended n) new → Burnt (flush_of old w) queued left
+    → Keeps old queued new left × TakesStep w (point_in old queued) (point_in new left)
+step_ends old queued left w n new ready g b =
     let s = g.steps in
-    let calls : left.calls ≡ queued.calls = same_calls ∙ b.calls in
-    let room : left.room ≡ queued.room = same_room ∙ b.room in
-    let marks : SetsOpen queued w false left = λ v. same_marks v ∙ ap (λ (flags : List Bool). if w == v then false else get_or flags v false) b.begun in
     let struck = struck_is (mark_of w s.made) old.log.past s.struck s.effect in (
       record {
-        ready = ended_ready old queued w n new left ready is s calls marks;
+        ready = ended_ready old w n new ready s;
         config = s.config;
         at_start = s.at_start;
         start = ap (λ (log : Log). log.start) s.ends.is;
         limits = ap (λ (log : Log). log.limits) s.ends.is;
-        room = room;
-        fuse = burns_act old.log.past new.log.past queued.fuse left.fuse (flush_of old w) b.may (ap (λ (log : Log). flushes_of log.past) s.ends.is ∙ step_flushes old w s.made s.struck s.flush s.effect) (same_fuse ∙ b.fuse);
+        room = b.room;
+        fuse = burns_act old.log.past new.log.past queued.fuse left.fuse (flush_of old w) b.may (ap (λ (log : Log). flushes_of log.past) s.ends.is ∙ step_flushes old w s.made s.struck s.flush s.effect) b.fuse;
       },
       (
         record {
@@ -212,9 +184,16 @@ step_ends old queued between w n new left ready is g b same_calls same_room same
           one_effect = struck.one_effect;
           one_end = refl;
         },
-        calls,
+        b.calls,
       ),
     )
+
+-- one or the other
+pub step_made : (old : Lab) (queued left : Fused) (w : ℕ) (answer : Applied) (new : Lab) → IsReady old → Goes old w answer new → Burnt (flush_of old w) queued left
+    → Keeps old queued new left × TakesStep w (point_in old queued) (point_in new left)
+step_made old queued left w applied.Stepped new ready g b = step_goes_on old queued left w new ready g b
+step_made old queued left w (applied.Ended n) new ready g b = step_ends old queued left w n new ready g b
+step_made old queued left w other new ready g b = absurd g.steps.ends
 
 -- a step adds marks
 pub more_marks : (first : Mark) (effect ending past : List Mark) → length past < length (ending ++ (effect ++ first ∷ past))

@@ -1,5 +1,5 @@
 -- What a turn adds to a journal.
-use Rattle.std.proofs.Common.{◌≡◌, ◌≤◌, ◌<◌, ℕ, zero, suc, ◌+◌, Bool, true, false, List, [], ◌∷◌, ◌++◌, refl, sym, ap, ◌∙◌, append_assoc, arith, Option, Some, None, inl, inr}
+use Rattle.std.proofs.Common.{◌≡◌, ◌<◌, ℕ, zero, suc, ◌+◌, Bool, true, false, List, [], ◌∷◌, ◌++◌, refl, sym, ap, ◌∙◌, append_assoc, arith, Option, Some, None, inl, inr}
 use Rattle.std.specs.Prelude.{is_some}
 use Rattle.bz_call.specs.declared.calls.Call.{Call}
 use Rattle.bz_mark.specs.declared.marks.Mark.{Mark}
@@ -7,7 +7,6 @@ use Rattle.bz_mark.specs.declared.marks.Mark.TheVariants.{Begin, End, Load, Stor
 use Rattle.bz_sound.specs.Calls.{open_call}
 use Rattle.bz_sched.specs.Queued.{calls_of}
 use Rattle.bz_sched.specs.Points.{Point, actor, IsUpToOneEffect, IsUpToOneEnd, IsStep, ready_by, is_busy, IsTurn}
-use Rattle.bz_sched.specs.Turns.{TakesTurns}
 use Rattle.bz_sched.specs.TurnLaws.{one_more, count_acts, AreOwn, Adds, KeepsWord, WordsAreKept}
 
 one_more-add : (who : Option ℕ) (all here there : ℕ) → all ≡ here + there → one_more who all ≡ one_more who here + there
@@ -33,7 +32,7 @@ adds_both w a b c m n h k = record {
   acts = omega (arith, count_acts-append k.added h.added, h.acts, k.acts);
 }
 
-ready_adds : (w : ℕ) (opened : Bool) (calls : List (ℕ × Call)) (point : Point) → Adds w point.past (ready_by w opened calls point).past 0
+pub ready_adds : (w : ℕ) (opened : Bool) (calls : List (ℕ × Call)) (point : Point) → Adds w point.past (ready_by w opened calls point).past 0
 ready_adds w true calls point = adds_none w point.past
 ready_adds w false [] point = adds_none w point.past
 ready_adds w false (call ∷ calls) point = record { added = Begin w _ call.1 ∷ []; is = refl; own = (refl, tt); acts = refl }

@@ -4,22 +4,19 @@ use Rattle.bz_world.specs.Lab.{Lab}
 use Rattle.bz_world.specs.declared.answers.Which.{Which}
 use Rattle.bz_sched.specs.declared.turn.Stop.{Stop}
 use Rattle.bz_sched.specs.declared.turn.Stop.TheVariants.{Due, Limit}
-use Rattle.bz_sched.specs.Points.{Point, ready, is_busy, GetsReady, TakesStep, IsTurn}
-use Rattle.bz_sched.specs.Queued.{Queued, has_work}
-use Rattle.bz_sched.specs.Runs.{point_of, IsReady, IsStopped, Keeps, EndsBy}
+use Rattle.bz_sched.specs.Points.{Point, is_busy, GetsReady, TakesStep, IsTurn}
+use Rattle.bz_sched.specs.Fuses.{Fused}
+use Rattle.bz_sched.specs.Runs.{point_in, IsStopped, Keeps, EndsBy}
 use Rattle.bz_sched.specs.TurnsInPart.{StopsStep, StopsBy, StopsTurn}
 use Rattle.bz_sched.specs.declared.turn.Turned.{Turned}
 use Rattle.bz_sched.specs.declared.turn.Turned.TheVariants.{Finished, Stopped}
-use Rattle.bz_sched.proofs.ReadyLemmas.{keeps_both, work_is}
-
-busy_is : (world : Lab) (queued : Queued) (w : ℕ) → IsReady world queued → has_work queued w ≡ true → is_busy w (point_of world queued) ≡ true
-busy_is world queued w ready works = sym (work_is world queued w ready) ∙ works
+use Rattle.bz_sched.proofs.ReadyLemmas.{keeps_both}
 
 -- no call could begin
-pub turn_stops : (old : Lab) (queued : Queued) (w : ℕ) (why : Stop) (new : Lab) (left : Queued) → IsReady old queued → has_work queued w ≡ true
-    → Keeps old queued new left × StopsBy why w (point_of old queued) (point_of new left) × IsStopped new left why
-    → Keeps old queued new left × StopsTurn why w (point_of old queued) (point_of new left) × IsStopped new left why
-turn_stops old queued w why new left ready works (keeps, stops, met) = (keeps, (busy_is old queued w ready works, stops), met)
+pub turn_stops : (old : Lab) (queued : Fused) (w : ℕ) (why : Stop) (new : Lab) (left : Fused) → is_busy w (point_in old queued) ≡ true
+    → Keeps old queued new left × StopsBy why w (point_in old queued) (point_in new left) × IsStopped new left.fuse why
+    → Keeps old queued new left × StopsTurn why w (point_in old queued) (point_in new left) × IsStopped new left.fuse why
+turn_stops old queued w why new left works (keeps, stops, met) = (keeps, (works, stops), met)
 
 -- the step stops, after the worker got ready for it
 step_stops : (w : ℕ) (why : Stop) (old mid new : Point) → GetsReady w old mid → StopsStep why w mid new → StopsBy why w old new
@@ -27,15 +24,15 @@ step_stops w (Limit limit) old mid new readied (is, same) = subst (λ (limited :
 step_stops w (Due v) old mid new readied (is, same) = (is, same ∙ readied)
 
 -- a call is open, and the step is taken or stops
-pub turn_ends : (old : Lab) (queued : Queued) (w : ℕ) (mid : Lab) (between : Queued) (end : Turned) (new : Lab) (left : Queued) → IsReady old queued → has_work queued w ≡ true
-    → Keeps old queued mid between × GetsReady w (point_of old queued) (point_of mid between) → EndsBy (TakesStep w) (λ why. StopsStep why w) mid between end new left
+pub turn_ends : (old : Lab) (queued : Fused) (w : ℕ) (mid : Lab) (between : Fused) (end : Turned) (new : Lab) (left : Fused) → is_busy w (point_in old queued) ≡ true
+    → Keeps old queued mid between × GetsReady w (point_in old queued) (point_in mid between) → EndsBy (TakesStep w) (λ why. StopsStep why w) mid between end new left
     → EndsBy (IsTurn w) (λ why. StopsTurn why w) old queued end new left
-turn_ends old queued w mid between Finished new left is_ready works (keeps, readied) (kept, step) = (
+turn_ends old queued w mid between Finished new left works (keeps, readied) (kept, step) = (
   keeps_both old mid new queued between left keeps kept,
-  record { busy = busy_is old queued w is_ready works; step = subst (λ (point : Point). TakesStep w point (point_of new left)) readied step },
+  record { busy = works; step = subst (λ (point : Point). TakesStep w point (point_in new left)) readied step },
 )
-turn_ends old queued w mid between (Stopped why) new left is_ready works (keeps, readied) (kept, stops, met) = (
+turn_ends old queued w mid between (Stopped why) new left works (keeps, readied) (kept, stops, met) = (
   keeps_both old mid new queued between left keeps kept,
-  (busy_is old queued w is_ready works, step_stops w why (point_of old queued) (point_of mid between) (point_of new left) readied stops),
+  (works, step_stops w why (point_in old queued) (point_in mid between) (point_in new left) readied stops),
   met,
 )

@@ -1,5 +1,6 @@
 -- What the parts of an armed cut do to a world.
-use Rattle.std.specs.Prelude.{◌≡◌, ◌<◌, ℕ, true, false}
+use Rattle.std.specs.Prelude.{◌≡◌, ◌<◌, ◌≤◌, ℕ, true, false, List, []}
+use Rattle.bz_call.specs.declared.calls.Call.{Call}
 use Rattle.bz_layout.specs.Addresses.{words_of}
 use Rattle.bz_script.specs.Draws.{next_state}
 use Rattle.bz_sound.specs.declared.power.Power.TheVariants as power
@@ -8,7 +9,7 @@ use Rattle.bz_world.specs.declared.answers.Applied.TheVariants as applied
 use Rattle.bz_world.specs.declared.answers.Which.TheVariants as which
 use Rattle.bz_sched.specs.Cuts.{differs_at, is_drawn, Passes, PassesFrom, PassesInPart, EvictsDrawn, EvictsInPart, CutsOff, CutsOffInPart}
 use Rattle.bz_sched.specs.Queued.{Queued}
-use Rattle.bz_sched.specs.Runs.{point_of, marks_left, IsAtLimit, Stays, Leaves}
+use Rattle.bz_sched.specs.Runs.{point_with, marks_left, IsAtLimit, Stays}
 use Rattle.bz_sched.specs.declared.running.RunEnd.{RunEnd}
 use Rattle.bz_sched.specs.declared.running.RunEnd.TheVariants as end
 
@@ -61,9 +62,14 @@ pub record EvictionsStopped (words seed : ℕ) (old new : Lab) : Type 0 where
   pub met : marks_left new < 3
 
 -- the power was cut, and the acts that it left out are the next ones of before; or the limit on marks forbade an eviction or the cut
-abbrev pub IsCutOff : ℕ → Lab → Queued → RunEnd → Lab → Queued → Type 0
-IsCutOff seed old queued end.Finished new left = ⊥
-IsCutOff seed old queued end.Cut new left =
-    Leaves old queued new left × (power_in new ≡ power.Off) × (new.left_out ≡ old.flushes) × CutsOff old.log.start (words_of old.config) seed (point_of old queued) (point_of new left)
-IsCutOff seed old queued (end.Limit why) new left =
-    Stays old new × (why ≡ which.Marks) × CutsOffInPart old.log.start (words_of old.config) seed (point_of old queued) (point_of new left) × IsAtLimit new why
+abbrev pub IsCutOff : ℕ → Lab → RunEnd → Lab → Type 0
+IsCutOff seed old end.Finished new = ⊥
+IsCutOff seed old end.Cut new =
+    Stays old new × (power_in new ≡ power.Off) × (new.left_out ≡ old.flushes) × ((calls : List (ℕ × Call)) → CutsOff old.log.start (words_of old.config) seed (point_with old calls) (point_with new []))
+IsCutOff seed old (end.Limit why) new =
+    Stays old new × (why ≡ which.Marks) × ((calls : List (ℕ × Call)) → CutsOffInPart old.log.start (words_of old.config) seed (point_with old calls) (point_with new calls)) × IsAtLimit new why
+
+-- then the calls that wait were dropped
+abbrev pub IsCutRun : ℕ → Lab → Queued → RunEnd → Lab → Queued → Type 0
+IsCutRun seed old queued end.Cut new left = IsCutOff seed old end.Cut new × (left.calls ≡ []) × (queued.room ≤ left.room)
+IsCutRun seed old queued other new left = IsCutOff seed old other new × (left ≡ queued)

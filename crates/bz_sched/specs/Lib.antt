@@ -2,6 +2,7 @@ pub mod Queued
 pub mod QueueKept
 pub mod QueueLaws
 pub mod Points
+pub mod Fuses
 pub mod Turns
 pub mod TurnsInPart
 pub mod OpenCalls
@@ -13,6 +14,5 @@ pub mod Scripts
 pub mod Runs
 pub mod Cutting
 pub mod Powering
-pub mod ReadyLaws
 pub mod TurnLaws
 pub mod TurnExample

@@ -1,21 +1,22 @@
 //! Runs of one worker after the other.
-ghost use Rattle.std.specs.Prelude.{◌<◌};
-ghost use Rattle.bz_sched.specs.Runs.{IsReady, EndsBy};
+ghost use Rattle.bz_sched.specs.Fuses.{with_fuse};
+ghost use Rattle.bz_sched.specs.Runs.{IsOneOfAll, IsReady, EndsBy};
 ghost use Rattle.bz_sched.specs.Turns.{EndsOne, EndsAlone};
 ghost use Rattle.bz_sched.specs.TurnsInPart.{EndsOneInPart, EndsAloneInPart};
 
+use crate::busy::has_work;
 use crate::queue::Queue;
 use crate::turn::{Turned, take_turn};
 use bz_world::World;
 
 // Takes turns of a worker until it has nothing to do.
-fn end_worker(world: &mut World, queue: &mut Queue, w: u8) -> Turned
-    requires worker { w < 65 }
-    requires ready { IsReady world.old queue.old }
-    ensures { EndsBy (EndsOne w) (λ why. EndsOneInPart why w) world.old queue.old result world.new queue.new }
+fn end_worker(world: &mut World, queue: &mut Queue, fuse: &mut Option<u32>, w: u8) -> Turned
+    requires worker { IsOneOfAll w }
+    requires ready { IsReady world.old }
+    ensures { EndsBy (EndsOne w) (λ why. EndsOneInPart why w) world.old (with_fuse queue.old fuse.old) result world.new (with_fuse queue.new fuse.new) }
 {
-    while queue.has_work(w) {
-        match take_turn(world, queue, w) {
+    while has_work(world, queue, w) {
+        match take_turn(world, queue, fuse, w) {
             Turned::Finished => {}
             Turned::Stopped(why) => return Turned::Stopped(why),
         }
@@ -24,12 +25,12 @@ fn end_worker(world: &mut World, queue: &mut Queue, w: u8) -> Turned
 }
 
 /// Takes the turns of all workers, worker by worker.
-pub(crate) fn run_alone(world: &mut World, queue: &mut Queue) -> Turned
-    requires ready { IsReady world.old queue.old }
-    ensures { EndsBy EndsAlone EndsAloneInPart world.old queue.old result world.new queue.new }
+pub(crate) fn run_alone(world: &mut World, queue: &mut Queue, fuse: &mut Option<u32>) -> Turned
+    requires ready { IsReady world.old }
+    ensures { EndsBy EndsAlone EndsAloneInPart world.old (with_fuse queue.old fuse.old) result world.new (with_fuse queue.new fuse.new) }
 {
     for w in 1..65u8 {
-        match end_worker(world, queue, w) {
+        match end_worker(world, queue, fuse, w) {
             Turned::Finished => {}
             Turned::Stopped(why) => return Turned::Stopped(why),
         }

@@ -1,13 +1,11 @@
 //! Cutting the power where a cut is armed.
 ghost use Rattle.std.specs.Prelude.{◌≡◌, ◌≢◌, ◌<◌, true, false};
 ghost use Rattle.bz_layout.specs.Addresses.{words_of};
-ghost use Rattle.bz_layout.specs.Config.{IsConfig};
 ghost use Rattle.bz_sound.specs.declared.power.Power.TheVariants.{Off};
 ghost use Rattle.bz_world.specs.Lab.{power_in};
 ghost use Rattle.bz_sched.specs.Cuts.{differs_at, state_behind};
 ghost use Rattle.bz_sched.specs.Cutting.{WordEvicted, HasNoPlace, WordPassed, PassStopped, WordsPassed, PassesStopped, AreEvicted, EvictionsStopped, IsCutOff};
 
-use crate::queue::Queue;
 use crate::running::RunEnd;
 use bz_script::next_draw;
 use bz_world::{Applied, Event, Which, World};
@@ -27,7 +25,6 @@ pub const EVICTED_FROM: u32 = 2_147_483_648;
 
 /// Has a word become durable by itself, and tells whether a place was left in the journal for that.
 pub(crate) fn evict_word(world: &mut World, a: u32) -> bool
-    requires config { IsConfig world.old.config }
     requires in_range { a < words_of world.old.config }
     requires powered { power_in world.old ≢ Off }
     ensures evicted { result ≡ true → WordEvicted world.old a world.new }
@@ -42,7 +39,6 @@ pub(crate) fn evict_word(world: &mut World, a: u32) -> bool
 
 // Passes a word: draws for it where it differs, and has it evicted where the draw says so.
 fn pass_word(world: &mut World, a: u32, state: &mut u64) -> bool
-    requires config { IsConfig world.old.config }
     requires in_range { a < words_of world.old.config }
     requires powered { power_in world.old ≢ Off }
     ensures passed { result ≡ true → WordPassed a state.old world.old world.new }
@@ -60,7 +56,6 @@ fn pass_word(world: &mut World, a: u32, state: &mut u64) -> bool
 
 // Passes all words, by the draws from a seed.
 fn pass_words(world: &mut World, seed: u64) -> bool
-    requires config { IsConfig world.old.config }
     requires powered { power_in world.old ≢ Off }
     ensures passed { result ≡ true → WordsPassed (words_of world.old.config) seed world.old world.new }
     ensures stopped { result ≡ false → PassesStopped (words_of world.old.config) seed world.old world.new }
@@ -77,7 +72,6 @@ fn pass_words(world: &mut World, seed: u64) -> bool
 
 // Has the words evicted that the draws from a seed name, and none where it is 0.
 fn evict_drawn(world: &mut World, seed: u64) -> bool
-    requires config { IsConfig world.old.config }
     requires powered { power_in world.old ≢ Off }
     ensures evicted { result ≡ true → AreEvicted (words_of world.old.config) seed world.old world.new }
     ensures stopped { result ≡ false → EvictionsStopped (words_of world.old.config) seed world.old world.new }
@@ -88,20 +82,16 @@ fn evict_drawn(world: &mut World, seed: u64) -> bool
     pass_words(world, seed)
 }
 
-/// Cuts the power, after the evictions by the draws from a seed where it is not 0, and drops the calls that wait.
-pub(crate) fn cut_off(world: &mut World, queue: &mut Queue, seed: u64) -> RunEnd
-    requires config { IsConfig world.old.config }
+/// Cuts the power, after the evictions by the draws from a seed where it is not 0.
+pub(crate) fn cut_off(world: &mut World, seed: u64) -> RunEnd
     requires powered { power_in world.old ≢ Off }
-    ensures { IsCutOff seed world.old queue.old result world.new queue.new }
+    ensures { IsCutOff seed world.old result world.new }
 {
     if !evict_drawn(world, seed) {
         return RunEnd::Limit(Which::Marks);
     }
     match world.apply(Event::Cut) {
-        Applied::Cut => {
-            queue.clear();
-            RunEnd::Cut
-        }
+        Applied::Cut => RunEnd::Cut,
         Applied::Limit => RunEnd::Limit(Which::Marks),
         _ => unreachable!(),
     }

@@ -2,8 +2,10 @@
 #![tactic(auto)]
 
 mod alone;
+mod busy;
 mod cut;
 mod draws;
+mod fuse;
 pub mod laws;
 mod list;
 mod open_calls;

@@ -1,20 +1,24 @@
 //! The calls that are open, ended one worker after the other.
-ghost use Rattle.std.specs.Prelude.{◌<◌};
+ghost use Rattle.std.specs.Prelude.{◌≡◌};
+ghost use Rattle.bz_sound.specs.declared.power.Power.TheVariants.{On};
+ghost use Rattle.bz_world.specs.Lab.{power_in};
+ghost use Rattle.bz_sched.specs.Fuses.{with_fuse};
 ghost use Rattle.bz_sched.specs.OpenCalls.{EndsCall, EndsCalls, EndsCallInPart, EndsCallsInPart};
-ghost use Rattle.bz_sched.specs.Runs.{IsReady, EndsBy, HasEndedCalls};
+ghost use Rattle.bz_sched.specs.Runs.{HasAllWorkers, IsOneOfAll, IsReady, EndsBy, HasEndedCalls};
 
+use crate::busy::has_open;
 use crate::queue::Queue;
 use crate::turn::{Stop, Turned, take_turn};
 use bz_world::{Which, World};
 
 // Takes turns of a worker until no call of it is open.
-fn end_call(world: &mut World, queue: &mut Queue, w: u8) -> Turned
-    requires worker { w < 65 }
-    requires ready { IsReady world.old queue.old }
-    ensures { EndsBy (EndsCall w) (λ why. EndsCallInPart why w) world.old queue.old result world.new queue.new }
+fn end_call(world: &mut World, queue: &mut Queue, fuse: &mut Option<u32>, w: u8) -> Turned
+    requires worker { IsOneOfAll w }
+    requires ready { IsReady world.old }
+    ensures { EndsBy (EndsCall w) (λ why. EndsCallInPart why w) world.old (with_fuse queue.old fuse.old) result world.new (with_fuse queue.new fuse.new) }
 {
-    while queue.has_open(w) {
-        match take_turn(world, queue, w) {
+    while has_open(world, w) {
+        match take_turn(world, queue, fuse, w) {
             Turned::Finished => {}
             Turned::Stopped(why) => return Turned::Stopped(why),
         }
@@ -23,12 +27,12 @@ fn end_call(world: &mut World, queue: &mut Queue, w: u8) -> Turned
 }
 
 // The same for all workers.
-fn end_calls(world: &mut World, queue: &mut Queue) -> Turned
-    requires ready { IsReady world.old queue.old }
-    ensures { EndsBy EndsCalls EndsCallsInPart world.old queue.old result world.new queue.new }
+fn end_calls(world: &mut World, queue: &mut Queue, fuse: &mut Option<u32>) -> Turned
+    requires ready { IsReady world.old }
+    ensures { EndsBy EndsCalls EndsCallsInPart world.old (with_fuse queue.old fuse.old) result world.new (with_fuse queue.new fuse.new) }
 {
     for w in 1..65u8 {
-        match end_call(world, queue, w) {
+        match end_call(world, queue, fuse, w) {
             Turned::Finished => {}
             Turned::Stopped(why) => return Turned::Stopped(why),
         }
@@ -38,12 +42,17 @@ fn end_calls(world: &mut World, queue: &mut Queue) -> Turned
 
 /// Ends the calls that are open, one worker after the other, and begins none. Tells the limit that was met, if one was.
 pub fn end_open_calls(world: &mut World, queue: &mut Queue) -> Option<Which>
-    requires ready { IsReady world.old queue.old }
+    requires powered { power_in world.old ≡ On }
+    requires workers { HasAllWorkers world.old.config }
     ensures { HasEndedCalls world.old queue.old result world.new queue.new }
 {
-    queue.arm(None);
-    match end_calls(world, queue) {
-        Turned::Finished => None,
+    let mut fuse = None;
+    match end_calls(world, queue, &mut fuse) {
+        Turned::Finished => {
+            world.journal();
+            world.config();
+            None
+        }
         Turned::Stopped(Stop::Limit(which)) => Some(which),
         Turned::Stopped(Stop::Due(_)) => unreachable!(),
     }

@@ -1,9 +1,13 @@
 //! Runs.
-ghost use Rattle.std.specs.Prelude.{◌≡◌, ◌≤◌, None, Some};
+ghost use Rattle.std.specs.Prelude.{◌≡◌, ◌≢◌, ◌≤◌, None, Some};
 ghost use Rattle.bz_layout.specs.Addresses.{words_of};
 ghost use Rattle.bz_script.specs.RunLaws.{IsPlan};
+ghost use Rattle.bz_sound.specs.declared.power.Power.TheVariants.{Off, On};
+ghost use Rattle.bz_world.specs.Lab.{power_in};
+ghost use Rattle.bz_sched.specs.Cutting.{IsCutRun};
+ghost use Rattle.bz_sched.specs.Fuses.{with_fuse};
 ghost use Rattle.bz_sched.specs.Plans.{RunsBy, RunsByInPart};
-ghost use Rattle.bz_sched.specs.Runs.{IsReady, EndsBy, IsOfTurns, IsCutPlan, HasRun};
+ghost use Rattle.bz_sched.specs.Runs.{HasAllWorkers, IsReady, EndsBy, IsOfTurns, IsCutPlan, HasRun};
 
 use crate::alone::run_alone;
 use crate::cut::{CutPlan, cut_off};
@@ -28,15 +32,15 @@ pub enum RunEnd {
 }
 
 // Takes the turns of a plan.
-fn run_plan(world: &mut World, queue: &mut Queue, plan: &Plan) -> Turned
+fn run_plan(world: &mut World, queue: &mut Queue, fuse: &mut Option<u32>, plan: &Plan) -> Turned
     requires plan { IsPlan plan.now × IsOfTurns plan.now }
-    requires ready { IsReady world.old queue.old }
-    ensures { EndsBy (RunsBy (words_of world.old.config) plan.now) (λ why. RunsByInPart why (words_of world.old.config) plan.now) world.old queue.old result world.new queue.new }
+    requires ready { IsReady world.old }
+    ensures { EndsBy (RunsBy (words_of world.old.config) plan.now) (λ why. RunsByInPart why (words_of world.old.config) plan.now) world.old (with_fuse queue.old fuse.old) result world.new (with_fuse queue.new fuse.new) }
 {
     match plan {
-        Plan::Alone => run_alone(world, queue),
-        Plan::List(turns) => run_list(world, queue, turns.turns()),
-        Plan::Turns(seed) => run_turns(world, queue, *seed),
+        Plan::Alone => run_alone(world, queue, fuse),
+        Plan::List(turns) => run_list(world, queue, fuse, turns.turns()),
+        Plan::Turns(seed) => run_turns(world, queue, fuse, *seed),
         Plan::Threads => unreachable!(),
     }
 }
@@ -44,37 +48,50 @@ fn run_plan(world: &mut World, queue: &mut Queue, plan: &Plan) -> Turned
 // Runs with no cut armed.
 fn run_unarmed(world: &mut World, queue: &mut Queue, plan: &Plan) -> RunEnd
     requires plan { IsPlan plan.now × IsOfTurns plan.now }
-    requires ready { IsReady world.old queue.old }
+    requires ready { IsReady world.old }
     ensures { HasRun None plan.now world.old queue.old result world.new queue.new }
 {
-    queue.arm(None);
-    match run_plan(world, queue, plan) {
+    let mut fuse = None;
+    match run_plan(world, queue, &mut fuse, plan) {
         Turned::Finished => RunEnd::Finished,
         Turned::Stopped(Stop::Limit(which)) => RunEnd::Limit(which),
         Turned::Stopped(Stop::Due(_)) => unreachable!(),
     }
 }
 
+// Cuts the power, and drops the calls that wait.
+fn cut_run(world: &mut World, queue: &mut Queue, seed: u64) -> RunEnd
+    requires powered { power_in world.old ≢ Off }
+    ensures { IsCutRun seed world.old queue.old result world.new queue.new }
+{
+    let end = cut_off(world, seed);
+    if let RunEnd::Cut = end {
+        queue.clear();
+    }
+    end
+}
+
 // Runs with a cut armed.
 fn run_armed(world: &mut World, queue: &mut Queue, plan: &Plan, cut: CutPlan) -> RunEnd
     requires plan { IsPlan plan.now × IsOfTurns plan.now }
-    requires ready { IsReady world.old queue.old }
+    requires ready { IsReady world.old }
     requires cut { 1 ≤ cut.flush }
     ensures { HasRun (Some cut) plan.now world.old queue.old result world.new queue.new }
 {
-    queue.arm(Some(cut.flush - 1));
-    match run_plan(world, queue, plan) {
+    let mut fuse = Some(cut.flush - 1);
+    match run_plan(world, queue, &mut fuse, plan) {
         Turned::Finished => RunEnd::Finished,
         Turned::Stopped(Stop::Limit(which)) => RunEnd::Limit(which),
-        Turned::Stopped(Stop::Due(_)) => cut_off(world, queue, cut.seed),
+        Turned::Stopped(Stop::Due(_)) => cut_run(world, queue, cut.seed),
     }
 }
 
 /// Runs the calls that wait, and those that are open, by a plan. Where a cut is armed, the power is cut before that flush of the
 /// run is made, and the calls that wait are dropped; a run that ends before it makes no cut.
 pub fn run(world: &mut World, queue: &mut Queue, plan: &Plan, cut: Option<CutPlan>) -> RunEnd
+    requires powered { power_in world.old ≡ On }
+    requires workers { HasAllWorkers world.old.config }
     requires plan { IsPlan plan.now × IsOfTurns plan.now }
-    requires ready { IsReady world.old queue.old }
     requires cut { IsCutPlan cut }
     ensures { HasRun cut plan.now world.old queue.old result world.new queue.new }
 {

@@ -1,11 +1,15 @@
 //! One turn of a worker.
-ghost use Rattle.std.specs.Prelude.{◌≡◌, ◌≢◌, ◌<◌, ◌≤◌, ℕ, [], true, false};
-ghost use Rattle.bz_sched.specs.Points.{GetsReady, TakesStep, IsTurn};
-ghost use Rattle.bz_sched.specs.Queued.{calls_of, has_open, has_work};
-ghost use Rattle.bz_sched.specs.Runs.{marks_left, IsReady, EndsBy};
+ghost use Rattle.std.specs.Prelude.{◌≡◌, ◌≢◌, ◌<◌, ◌≤◌, ℕ, [], is_some, true, false, Option};
+ghost use Rattle.bz_sound.specs.Calls.{open_call};
+ghost use Rattle.bz_sched.specs.Fuses.{with_fuse};
+ghost use Rattle.bz_sched.specs.Points.{is_busy, GetsReady, TakesStep, IsTurn};
+ghost use Rattle.bz_sched.specs.Queued.{Queued, calls_of};
+ghost use Rattle.bz_sched.specs.Runs.{point_of, marks_left, IsOneOfAll, IsReady, EndsBy};
 ghost use Rattle.bz_sched.specs.TurnsInPart.{StopsStep, StopsBy, StopsTurn};
 ghost use Rattle.bz_sched.specs.declared.turn.Turned.TheVariants.{Finished};
 
+use crate::busy::has_open;
+use crate::fuse::{burn, lets};
 use crate::queue::Queue;
 use bz_world::{Applied, Begun, Event, Which, World};
 
@@ -28,19 +32,18 @@ pub(crate) enum Turned {
 
 // Begins the first call that waits for a worker.
 fn begin_next(world: &mut World, queue: &mut Queue, w: u8) -> Turned
-    requires worker { w < 65 }
-    requires ready { IsReady world.old queue.old }
-    requires closed { has_open queue.old w ≡ false }
+    requires worker { IsOneOfAll w }
+    requires ready { IsReady world.old }
+    requires closed { is_some (open_call w world.old.log.past) ≡ false }
     requires some { calls_of w queue.old.calls ≢ [] }
-    ensures ends { EndsBy (GetsReady w) (λ why. StopsBy why w) world.old queue.old result world.new queue.new }
-    ensures open { result ≡ Finished → has_open queue.new w ≡ true }
-    ensures others { (v : ℕ) → v ≢ w → has_work queue.new v ≡ has_work queue.old v }
+    ensures ends { (fuse : Option ℕ) → EndsBy (GetsReady w) (λ why. StopsBy why w) world.old (with_fuse queue.old fuse) result world.new (with_fuse queue.new fuse) }
+    ensures open { result ≡ Finished → is_some (open_call w world.new.log.past) ≡ true }
     ensures left { marks_left world.new ≤ marks_left world.old }
 {
     match queue.first(w) {
         Some(call) => match world.begin(w, call) {
             Begun::Begun(_) => {
-                queue.begin(w);
+                queue.leave_out(w);
                 Turned::Finished
             }
             Begun::Limit(which) => Turned::Stopped(Stop::Limit(which)),
@@ -52,41 +55,34 @@ fn begin_next(world: &mut World, queue: &mut Queue, w: u8) -> Turned
 
 // Has a call of a worker open: begins the first that waits, if none is.
 fn get_ready(world: &mut World, queue: &mut Queue, w: u8) -> Turned
-    requires worker { w < 65 }
-    requires ready { IsReady world.old queue.old }
-    requires busy { has_work queue.old w ≡ true }
-    ensures ends { EndsBy (GetsReady w) (λ why. StopsBy why w) world.old queue.old result world.new queue.new }
-    ensures open { result ≡ Finished → has_open queue.new w ≡ true }
-    ensures others { (v : ℕ) → v ≢ w → has_work queue.new v ≡ has_work queue.old v }
+    requires worker { IsOneOfAll w }
+    requires ready { IsReady world.old }
+    requires busy { is_busy w (point_of world.old queue.old) ≡ true }
+    ensures ends { (fuse : Option ℕ) → EndsBy (GetsReady w) (λ why. StopsBy why w) world.old (with_fuse queue.old fuse) result world.new (with_fuse queue.new fuse) }
+    ensures open { result ≡ Finished → is_some (open_call w world.new.log.past) ≡ true }
     ensures left { marks_left world.new ≤ marks_left world.old }
 {
-    if queue.has_open(w) {
+    if has_open(world, w) {
         return Turned::Finished;
     }
     begin_next(world, queue, w)
 }
 
 // Takes the next step of a worker's open call.
-fn step(world: &mut World, queue: &mut Queue, w: u8) -> Turned
-    requires worker { w < 65 }
-    requires ready { IsReady world.old queue.old }
-    requires open { has_open queue.old w ≡ true }
-    ensures ends { EndsBy (TakesStep w) (λ why. StopsStep why w) world.old queue.old result world.new queue.new }
-    ensures others { (v : ℕ) → v ≢ w → has_work queue.new v ≡ has_work queue.old v }
+fn step(world: &mut World, fuse: &mut Option<u32>, w: u8) -> Turned
+    requires worker { IsOneOfAll w }
+    requires ready { IsReady world.old }
+    requires open { is_some (open_call w world.old.log.past) ≡ true }
+    ensures ends { (queue : Queued) → EndsBy (TakesStep w) (λ why. StopsStep why w) world.old (with_fuse queue fuse.old) result world.new (with_fuse queue fuse.new) }
     ensures left { result ≡ Finished → marks_left world.new < marks_left world.old }
 {
     let flush = world.flush_next(w);
-    if !queue.lets(flush) {
+    if !lets(*fuse, flush) {
         return Turned::Stopped(Stop::Due(w));
     }
     match world.apply(Event::Step(w)) {
-        Applied::Stepped => {
-            queue.burn(flush);
-            Turned::Finished
-        }
-        Applied::Ended(_) => {
-            queue.burn(flush);
-            queue.end(w);
+        Applied::Stepped | Applied::Ended(_) => {
+            burn(fuse, flush);
             Turned::Finished
         }
         Applied::Limit => Turned::Stopped(Stop::Limit(Which::Marks)),
@@ -95,16 +91,20 @@ fn step(world: &mut World, queue: &mut Queue, w: u8) -> Turned
 }
 
 /// Takes a turn of a worker that has something to do.
-pub(crate) fn take_turn(world: &mut World, queue: &mut Queue, w: u8) -> Turned
-    requires worker { w < 65 }
-    requires ready { IsReady world.old queue.old }
-    requires busy { has_work queue.old w ≡ true }
-    ensures ends { EndsBy (IsTurn w) (λ why. StopsTurn why w) world.old queue.old result world.new queue.new }
-    ensures others { (v : ℕ) → v ≢ w → has_work queue.new v ≡ has_work queue.old v }
+pub(crate) fn take_turn(
+    world: &mut World,
+    queue: &mut Queue,
+    fuse: &mut Option<u32>,
+    w: u8,
+) -> Turned
+    requires worker { IsOneOfAll w }
+    requires ready { IsReady world.old }
+    requires busy { is_busy w (point_of world.old queue.old) ≡ true }
+    ensures ends { EndsBy (IsTurn w) (λ why. StopsTurn why w) world.old (with_fuse queue.old fuse.old) result world.new (with_fuse queue.new fuse.new) }
     ensures left { result ≡ Finished → marks_left world.new < marks_left world.old }
 {
     match get_ready(world, queue, w) {
-        Turned::Finished => step(world, queue, w),
+        Turned::Finished => step(world, fuse, w),
         Turned::Stopped(why) => Turned::Stopped(why),
     }
 }

@@ -11,12 +11,11 @@ use Rattle.bz_index.specs.declared.index.Index.{Index}
 use Rattle.bz_index.specs.declared.index.IndexPass.{IndexPass}
 use Rattle.bz_index.specs.declared.shared.IndexEntry.{IndexEntry}
 use Rattle.bz_index.specs.declared.shared.Origin.{Origin}
-use Rattle.bz_layout.specs.Config.{IsConfig}
 use Rattle.bz_layout.specs.declared.limits.TheConstants.{MAX_WORKERS}
 use Rattle.bz_mark.specs.Log.{Limits, count_begins, count_page_calls}
 use Rattle.bz_mark.specs.declared.marks.Mark.{Mark}
 use Rattle.bz_sched.specs.Points.{Point, is_busy}
-use Rattle.bz_sched.specs.Queued.{Queued, calls_of, has_open, is_busy_by}
+use Rattle.bz_sched.specs.Queued.{Queued, calls_of, is_busy_by}
 use Rattle.bz_sched.specs.Runs.{point_of, Stays, IsAtLimit, HasEndedCalls}
 use Rattle.bz_sched.specs.Together.{AreOfCalls, begun_in, Mingles, StandsAt, RunsThreads, RunsThreadsUpTo}
 use Rattle.bz_sound.specs.Calls.{Open, open_call}
@@ -53,10 +52,6 @@ same_world a b is = record {
   limits = same_limits b.log.limits a.log.limits (ap (λ (o : Origin). o.marks) is) (ap (λ (o : Origin). o.calls) is) (ap (λ (o : Origin). o.pages) is);
 }
 
-none_open : (opened : Option Open) (b : Bool) → b ≡ false → b ≡ is_some opened → opened ≡ None
-none_open None b closed is = refl
-none_open (Some opened) b closed is = absurd (let opposed : false ≡ true = sym closed ∙ is in cc opposed)
-
 idle_by : (opened : Option Open) (calls : List (ℕ × Call)) → opened ≡ None → calls ≡ [] → is_busy_by (is_some opened) calls ≡ false
 idle_by opened calls none empty = rw (none, empty) refl
 
@@ -84,7 +79,7 @@ module _ (old mid new : Lab) (queued behind left : Queued) (index : Index) (firs
     whole_is = past ∙ ap marks_in j.grown.1 ∙ marks-append added (seen_by first)
 
     closed_first : (w : ℕ) → open_call w (marks_in (seen_by first)) ≡ None
-    closed_first w = subst (λ (marks : List Mark). open_call w marks ≡ None) (sym past_first) (none_open (open_call w mid.log.past) (has_open behind w) (ends.2 w) (ends.0.steady.begun w))
+    closed_first w = subst (λ (marks : List Mark). open_call w marks ≡ None) (sym past_first) (ends.2 w)
 
     on_first : power_of (origin_in index).at_start (marks_in (seen_by first)) ≡ power.On
     on_first = subst (λ (marks : List Mark). power_of (origin_in index).at_start marks ≡ power.On) (sym past_first)
@@ -146,22 +141,8 @@ module _ (old mid new : Lab) (queued behind left : Queued) (index : Index) (firs
         },
       )
 
-      pub ended_whole : ((w : ℕ) → has_open left w ≡ false) → queued.room ≤ left.room → HasRunThreads old queued end.Finished new left
-      ended_whole shut room = (
-        record {
-          stays = stays;
-          steady = record {
-            config = subst (λ (o : Origin). IsConfig o.config) (sym (closed ∙ origin)) ends.0.steady.config;
-            calls = rw empty tt;
-            begun = λ w. shut w ∙ sym (ap is_some (none_at_end w));
-            openers = λ w is. absurd (let opposed : false ≡ true = sym (shut w) ∙ is in cc opposed);
-            steady = λ recovering. absurd (let opposed : power.On ≡ power.Recovering = sym on_now ∙ recovering in cc opposed);
-          };
-          room = room;
-        },
-        on_now,
-        (runs_whole, tt),
-      )
+      pub ended_whole : queued.room ≤ left.room → HasRunThreads old queued end.Finished new left
+      ended_whole room = (record { stays = stays; room = room }, on_now, (runs_whole, tt))
 
     -- a limit was met
     module _ (v : ℕ) (met : Which) (low : lowest ≡ Some (v, met)) (few : new.config.workers ≤ MAX_WORKERS) where
@@ -235,11 +216,11 @@ module _ (old mid new : Lab) (queued behind left : Queued) (index : Index) (firs
       ended_limit = (stays, (at_end, runs_in_part, refl), is_met met here.meets)
 
   -- how the run on the index ended
-  pub ended : (others : (w : ℕ) → (IsWorker new.config w → ⊥) → open_call w new.log.past ≡ None) → new.config.workers ≤ MAX_WORKERS → left.calls ≡ [] → ((w : ℕ) → has_open left w ≡ false) → queued.room ≤ left.room
+  pub ended : (others : (w : ℕ) → (IsWorker new.config w → ⊥) → open_call w new.log.past ≡ None) → new.config.workers ≤ MAX_WORKERS → left.calls ≡ [] → queued.room ≤ left.room
       → (how : ThreadsEnd) → HasRunOn index behind.calls (seen_by first) now how → HasRunThreads old queued how new left
-  ended others few empty shut room end.Finished j = ended_whole others None j refl few empty shut room
-  ended others few empty shut room (end.Limit met) (v, j) = ended_limit others (Some (v, met)) j v met refl few
-  ended others few empty shut room end.Memory same = ended_only same
+  ended others few empty room end.Finished j = ended_whole others None j refl few empty room
+  ended others few empty room (end.Limit met) (v, j) = ended_limit others (Some (v, met)) j v met refl few
+  ended others few empty room end.Memory same = ended_only same
 
 -- a limit was met before the index was opened
 pub ended_before : (old new : Lab) (queued left : Queued) (met : Which) → HasEndedCalls old queued (Some met) new left → HasRunThreads old queued (end.Limit met) new left

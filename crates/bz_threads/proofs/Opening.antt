@@ -1,5 +1,5 @@
 -- The batches of the workers are opened one after the other.
-use Rattle.std.proofs.Common.{◌≡◌, ◌≢◌, ◌<◌, ◌≤◌, ◌⊎◌, inl, inr, ⊎_elim, ℕ, ◌+◌, false, List, [], ◌∷◌, ◌++◌, length, length-append, refl, sym, subst, ◌∙◌, arith}
+use Rattle.std.proofs.Common.{◌≡◌, ◌≢◌, ◌<◌, ◌≤◌, ◌⊎◌, inl, inr, ⊎_elim, ℕ, ◌+◌, List, [], ◌∷◌, ◌++◌, length, length-append, refl, sym, subst, ◌∙◌, arith}
 use Rattle.std.specs.Prelude.{All}
 use Rattle.std.proofs.lemmas.List.Elements.{All-push, All-nil}
 use Rattle.std.proofs.lemmas.Bool.{cases_lt}
@@ -9,7 +9,7 @@ use Rattle.bz_index.specs.declared.index.Index.{Index}
 use Rattle.bz_index.specs.declared.index.IndexPass.{IndexPass}
 use Rattle.bz_index.specs.declared.shared.IndexEntry.{IndexEntry}
 use Rattle.bz_layout.specs.declared.limits.TheConstants.{MAX_WORKERS}
-use Rattle.bz_sched.specs.Queued.{Queued, calls_of, has_open}
+use Rattle.bz_sched.specs.Queued.{Queued, calls_of}
 use Rattle.bz_threads.specs.Inside.Batches.{IsFirstOf, IsOpened, HasBatch, CoversWorkers}
 use Rattle.bz_threads.specs.declared.batch.Batch.{Batch}
 
@@ -29,19 +29,17 @@ pub record Opening (index : Index) (old : Queued) (first : List IndexEntry) (wor
   pub done : (w : ℕ) → 0 < w → w < worker → HasBatch w batches ⊎ (IsFree p w × (calls_of w old.calls ≡ []))
   pub later : (w : ℕ) → worker ≤ w → IsFree p w
   pub same : (w : ℕ) → worker ≤ w → calls_of w queue.calls ≡ calls_of w old.calls
-  pub closed : (w : ℕ) → has_open queue w ≡ false
   pub room : queue.room ≡ old.room
   pub few : length batches < worker
 
-pub opening_none : (index : Index) (old : Queued) (p : IndexPass) (batches : List Batch) → IsFirstOf index p → ((w : ℕ) → 0 < w → IsFree p w) → ((w : ℕ) → has_open old w ≡ false) → batches ≡ [] → Opening index old (seen_by p) 1 p old batches
-opening_none index old p batches pass free closed none = rw none (record {
+pub opening_none : (index : Index) (old : Queued) (p : IndexPass) (batches : List Batch) → IsFirstOf index p → ((w : ℕ) → 0 < w → IsFree p w) → batches ≡ [] → Opening index old (seen_by p) 1 p old batches
+opening_none index old p batches pass free none = rw none (record {
   pass = pass;
   seen = refl;
   opened = All-nil (IsOpened index old.calls (seen_by p));
   done = λ w some below. absurd (omega arith);
   later = λ w most. free w (omega arith);
   same = λ w most. refl;
-  closed = closed;
   room = refl;
   few = omega arith;
 })
@@ -62,16 +60,15 @@ module _ (index : Index) (old : Queued) (first : List IndexEntry) (worker : ℕ)
         (λ here. inr (o.later w (omega arith), subst (λ (v : ℕ). calls_of v old.calls ≡ []) (sym here) (sym (o.same worker (omega arith)) ∙ none)));
     later = λ w most. o.later w (omega arith);
     same = λ w most. o.same w (omega arith);
-    closed = o.closed;
     room = o.room;
     few = omega (arith, o.few);
   }
 
   module _ (now : IndexPass) (next : Queued) (pass : IsFirstOf index now × (seen_by now ≡ seen_by p)) (free : (w : ℕ) → w ≢ worker → IsFree p w → IsFree now w) where
     -- its batch is opened
-    pub opening_more : (batch : Batch) → IsOpened index queue.calls (seen_by p) batch × (worker_of batch.pass ≡ worker) → ((w : ℕ) → has_open next w ≡ false) → next.room ≡ queue.room
+    pub opening_more : (batch : Batch) → IsOpened index queue.calls (seen_by p) batch × (worker_of batch.pass ≡ worker) → next.room ≡ queue.room
         → ((w : ℕ) → w ≢ worker → calls_of w next.calls ≡ calls_of w queue.calls) → Opening index old first (worker + 1) now next (batches ++ batch ∷ [])
-    opening_more batch (is, whose) closed room others =
+    opening_more batch (is, whose) room others =
         let opened : IsOpened index old.calls first batch = record {
           pass = is.pass;
           seen = is.seen ∙ o.seen;
@@ -86,7 +83,6 @@ module _ (index : Index) (old : Queued) (first : List IndexEntry) (worker : ℕ)
               (λ here. inl (has_pushed w batches batch (whose ∙ sym here)));
           later = λ w most. free w (λ e. omega arith) (o.later w (omega arith));
           same = λ w most. others w (λ e. omega arith) ∙ o.same w (omega arith);
-          closed = closed;
           room = room ∙ o.room;
           few = omega (arith, o.few, length-append batches (batch ∷ []));
         }

@@ -1,22 +1,17 @@
 -- The calls of a worker are taken out of the queue one after the other.
-use Rattle.std.proofs.Common.{◌≡◌, ◌≢◌, ◌<◌, ℕ, Bool, true, false, List, [], ◌∷◌, ◌++◌, length, drop, refl, sym, ap, subst, ◌∙◌, ◌==◌, eqb-true, arith, append_assoc, append-nil, Some, None}
-use Rattle.std.specs.Prelude.{if◌then◌else◌}
+use Rattle.std.proofs.Common.{◌≡◌, ◌≢◌, ◌<◌, ℕ, false, List, [], ◌∷◌, ◌++◌, length, drop, refl, sym, ap, ◌∙◌, arith, append_assoc, append-nil, Some, None}
 use Rattle.bz_call.specs.declared.calls.Call.{Call}
-use Rattle.bz_layout.specs.declared.config.Config.{Config}
-use Rattle.bz_sched.specs.Queued.{Queued, calls_of, without_first, has_open, is_busy_by, IsFirst}
+use Rattle.bz_sched.specs.Queued.{Queued, calls_of, without_first, is_busy_by, IsFirst}
 use Rattle.bz_sched.specs.QueueLaws.{calls_of-without, calls_of-taken}
-use Rattle.bz_sched.specs.Runs.{CanBegin}
 use Rattle.bz_threads.specs.Inside.Batches.{paired}
-use Rattle.bz_world.specs.Lab.{IsWorker}
 
 pub record Taking (worker : ℕ) (old now : Queued) (calls : List Call) : Type 0 where
-  pub closed : (w : ℕ) → has_open now w ≡ false
   pub room : now.room ≡ old.room
   pub others : (w : ℕ) → w ≢ worker → calls_of w now.calls ≡ calls_of w old.calls
   pub taken : paired worker calls ++ calls_of worker now.calls ≡ calls_of worker old.calls
 
-pub taking_none : (worker : ℕ) (old : Queued) → ((w : ℕ) → has_open old w ≡ false) → Taking worker old old []
-taking_none worker old closed = record { closed = closed; room = refl; others = λ w other. refl; taken = refl }
+pub taking_none : (worker : ℕ) (old : Queued) → Taking worker old old []
+taking_none worker old = record { room = refl; others = λ w other. refl; taken = refl }
 
 paired-push : (w : ℕ) (calls : List Call) (call : Call) → paired w (calls ++ call ∷ []) ≡ paired w calls ++ (w, call) ∷ []
 paired-push w [] call = refl
@@ -29,13 +24,12 @@ paired-append w (x ∷ xs) ys = ap (λ (calls : List (ℕ × Call)). (w, x) ∷ 
 left_behind : (w : ℕ) (old next : Queued) (call : Call) → next.calls ≡ without_first w old.calls → (first : IsFirst w (calls_of w old.calls) (Some call)) → calls_of w next.calls ≡ first.0
 left_behind w old next call is first = ap (calls_of w) is ∙ calls_of-taken w old.calls ∙ ap (drop 1) first.1
 
-module _ (worker : ℕ) (old now next : Queued) (calls : List Call) (t : Taking worker old now calls) (is : next.calls ≡ without_first worker now.calls) (room : next.room ≡ now.room) (begun : (v : ℕ) → has_open next v ≡ has_open now v) where
+module _ (worker : ℕ) (old now next : Queued) (calls : List Call) (t : Taking worker old now calls) (is : next.calls ≡ without_first worker now.calls) (room : next.room ≡ now.room) where
   pub others_stay : (w : ℕ) → w ≢ worker → calls_of w next.calls ≡ calls_of w old.calls
   others_stay w other = ap (calls_of w) is ∙ calls_of-without w worker now.calls other ∙ t.others w other
 
   pub taking_more : (call : Call) → IsFirst worker (calls_of worker now.calls) (Some call) → Taking worker old next (calls ++ call ∷ [])
   taking_more call first = record {
-    closed = λ w. begun w ∙ t.closed w;
     room = room ∙ t.room;
     others = others_stay;
     taken = ap (λ (xs : List (ℕ × Call)). xs ++ calls_of worker next.calls) (paired-push worker calls call)
@@ -48,7 +42,6 @@ module _ (worker : ℕ) (old now next : Queued) (calls : List Call) (t : Taking 
   -- a worker without a call that waits
   pub taking_done : IsFirst worker (calls_of worker now.calls) None → Taking worker old next calls
   taking_done none = record {
-    closed = λ w. begun w ∙ t.closed w;
     room = room ∙ t.room;
     others = others_stay;
     taken = ap (λ (xs : List (ℕ × Call)). paired worker calls ++ xs) (ap (calls_of worker) is ∙ calls_of-taken worker now.calls ∙ ap (drop 1) none ∙ sym none) ∙ t.taken;
@@ -66,12 +59,3 @@ fewer_left worker now next call is first = omega (arith, ap length (left_behind 
 pub none_wait : (calls : List (ℕ × Call)) → is_busy_by false calls ≡ false → calls ≡ []
 none_wait [] is = refl
 none_wait (call ∷ calls) is = absurd (cc is)
-
--- a worker for which a call waits is one of the world's
-pub waits_is_worker : (config : Config) (w : ℕ) (calls : List (ℕ × Call)) → CanBegin config calls → is_busy_by false (calls_of w calls) ≡ true → IsWorker config w
-waits_is_worker config w [] all is = absurd (cc is)
-waits_is_worker config w (call ∷ calls) all is = by_owner (call.0 == w) refl is (waits_is_worker config w calls all.1)
-  where
-    by_owner : (b : Bool) → (call.0 == w) ≡ b → is_busy_by false (if b then call ∷ calls_of w calls else calls_of w calls) ≡ true → (is_busy_by false (calls_of w calls) ≡ true → IsWorker config w) → IsWorker config w
-    by_owner true same busy later = subst (IsWorker config) (eqb-true call.0 w same) all.0
-    by_owner false other busy later = later busy

@@ -1,11 +1,11 @@
 //! The batches of all workers with calls that wait: opened before a thread begins, done by threads, and joined.
-ghost use Rattle.std.specs.Prelude.{◌≡◌, ◌≢◌, ◌<◌, ◌≤◌, ◌⊎◌, ◌↔◌, [], ℕ, List, All, IfOk, IfErr, length, slice_index_or, vec_capacity, false, None};
+ghost use Rattle.std.specs.Prelude.{◌≡◌, ◌≢◌, ◌<◌, ◌≤◌, ◌⊎◌, ◌↔◌, [], ℕ, List, All, IfOk, IfErr, length, slice_index_or, vec_capacity, None};
 ghost use Rattle.bz_call.specs.declared.calls.Call.{Call};
 ghost use Rattle.bz_index.specs.Passes.{origin_in, worker_of, seen_by, IsFree, IsPassOf};
 ghost use Rattle.bz_index.specs.declared.shared.IndexEntry.{IndexEntry};
 ghost use Rattle.bz_layout.specs.declared.limits.TheConstants.{MAX_WORKERS as MOST};
-ghost use Rattle.bz_sched.specs.Queued.{calls_of, has_open};
-ghost use Rattle.bz_sched.specs.Runs.{CanBegin};
+ghost use Rattle.bz_sched.specs.Queued.{calls_of};
+ghost use Rattle.bz_sched.specs.Runs.{HasAllWorkers};
 ghost use Rattle.bz_threads.specs.Inside.Batches.{paired, IsFirstOf, IsWorkers, IsOpened, HasWorked, HasBatch, CoversWorkers, IsJoined, lower_of, lowered};
 ghost use Rattle.bz_threads.specs.declared.batch.Batch.{Batch};
 
@@ -24,9 +24,6 @@ use std::thread::Threads;
 
 // Takes the calls that wait for a worker out of the queue.
 fn take_calls(alloc: Global, queue: &mut Queue, worker: u8) -> Result<Vec<Call, Global>, Memory>
-    requires worker { worker ≤ MOST }
-    requires closed { (w : ℕ) → has_open queue.old w ≡ false }
-    ensures closed { (w : ℕ) → has_open queue.new w ≡ false }
     ensures room { queue.new.room ≡ queue.old.room }
     ensures others { (w : ℕ) → w ≢ worker → calls_of w queue.new.calls ≡ calls_of w queue.old.calls }
     ensures calls { IfOk result (λ calls. paired worker calls.items ≡ calls_of worker queue.old.calls) }
@@ -48,11 +45,9 @@ fn open_batch(
 ) -> Result<Batch, Memory>
     requires first { IsFirstOf index.now first.old }
     requires worker { (0 < worker) × (worker ≤ MOST) × (worker ≤ (origin_in index.now).config.workers) × IsFree first.old worker }
-    requires closed { (w : ℕ) → has_open queue.old w ≡ false }
     ensures first { IsFirstOf index.now first.new × (seen_by first.new ≡ seen_by first.old) }
     ensures free { (w : ℕ) → w ≢ worker → IsFree first.old w → IsFree first.new w }
     ensures none { IfErr result (λ _. IsFree first.new worker) }
-    ensures closed { (w : ℕ) → has_open queue.new w ≡ false }
     ensures room { queue.new.room ≡ queue.old.room }
     ensures others { (w : ℕ) → w ≢ worker → calls_of w queue.new.calls ≡ calls_of w queue.old.calls }
     ensures batch { IfOk result (λ batch. IsOpened index.now queue.old.calls (seen_by first.old) batch × (worker_of batch.pass ≡ worker)) }
@@ -78,8 +73,7 @@ pub(crate) fn open_batches(
 ) -> Result<(), Memory>
     requires first { IsFirstOf index.now first.old }
     requires free { (w : ℕ) → 0 < w → IsFree first.old w }
-    requires workers { CanBegin (origin_in index.now).config queue.old.calls }
-    requires closed { (w : ℕ) → has_open queue.old w ≡ false }
+    requires workers { HasAllWorkers (origin_in index.now).config }
     requires none { batches.old.items ≡ [] }
     requires room { MOST ≤ vec_capacity batches.old }
     ensures first { IsFirstOf index.now first.new × (seen_by first.new ≡ seen_by first.old) }
@@ -89,7 +83,7 @@ pub(crate) fn open_batches(
     ensures room { queue.new.room ≡ queue.old.room }
 {
     for worker in 1..MAX_WORKERS as u8 + 1 {
-        if !queue.waits(worker) {
+        if !queue.waiting(worker) {
             continue;
         }
         let batch = open_batch(alloc, index, first, queue, worker)?;

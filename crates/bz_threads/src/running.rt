@@ -1,12 +1,13 @@
 //! A run on threads.
-ghost use Rattle.std.specs.Prelude.{◌≡◌, ◌<◌, ◌≤◌, [], ℕ, false};
+ghost use Rattle.std.specs.Prelude.{◌≡◌, ◌<◌, ◌≤◌, ℕ};
 ghost use Rattle.bz_index.specs.Passes.{origin_in, seen_by, IsFree};
 ghost use Rattle.bz_layout.specs.declared.limits.TheConstants.{MAX_WORKERS as MOST};
-ghost use Rattle.bz_sched.specs.Queued.{has_open};
-ghost use Rattle.bz_sched.specs.Runs.{CanBegin, IsReady};
+ghost use Rattle.bz_sched.specs.Runs.{HasAllWorkers};
+ghost use Rattle.bz_sound.specs.declared.power.Power.TheVariants.{On};
 ghost use Rattle.bz_threads.specs.Ends.{HasRunThreads};
 ghost use Rattle.bz_threads.specs.Inside.Batches.{IsFirstOf};
 ghost use Rattle.bz_threads.specs.Inside.Runs.{HasRunOn, end_of as named};
+ghost use Rattle.bz_world.specs.Lab.{power_in};
 
 use crate::batches::{give_back, join_batches, open_batches, work_all};
 use bz_index::{Gate, Index, IndexPass};
@@ -51,8 +52,7 @@ fn run_on<G: Gate + Sync, R: Threads + Wait + Sync>(
 ) -> ThreadsEnd
     requires first { IsFirstOf index.now first.old }
     requires free { (w : ℕ) → 0 < w → IsFree first.old w }
-    requires workers { CanBegin (origin_in index.now).config queue.old.calls }
-    requires closed { (w : ℕ) → has_open queue.old w ≡ false }
+    requires workers { HasAllWorkers (origin_in index.now).config }
     ensures first { IsFirstOf index.now first.new }
     ensures free { (w : ℕ) → 0 < w → w ≤ MOST → IsFree first.new w }
     ensures room { queue.new.room ≡ queue.old.room }
@@ -84,7 +84,8 @@ pub fn run_threads<G: Gate + Sync, R: Threads + Wait + Sync>(
     queue: &mut Queue,
     gate: &G,
 ) -> (World, ThreadsEnd)
-    requires ready { IsReady world queue.old }
+    requires powered { power_in world ≡ On }
+    requires workers { HasAllWorkers world.config }
     ensures { HasRunThreads world queue.old result.1 result.0 queue.new }
 {
     let mut world = world;
@@ -96,6 +97,7 @@ pub fn run_threads<G: Gate + Sync, R: Threads + Wait + Sync>(
                 queue.clear();
                 let world = index.close(first);
                 world.journal();
+                world.config();
                 (world, end)
             }
             Err((world, Memory)) => (world, ThreadsEnd::Memory),

@@ -1,8 +1,6 @@
 -- A world in which nothing has happened, and its power coming on.
-use Rattle.std.proofs.Common.{◌≡◌, ◌≢◌, inl, inr, ℕ, true, false, List, [], ◌∷◌, refl, sym, ap₂, subst, ◌∙◌, arith, None}
-use Rattle.bz_call.specs.declared.calls.Call.{Call}
+use Rattle.std.proofs.Common.{◌≡◌, ◌≢◌, inl, inr, ℕ, List, [], ◌∷◌, refl, sym, ap, subst, ◌∙◌, None}
 use Rattle.bz_layout.specs.Addresses.{words_of}
-use Rattle.bz_layout.specs.Config.{IsConfig}
 use Rattle.bz_layout.specs.declared.config.Config.{Config}
 use Rattle.bz_mark.specs.declared.marks.Mark.{Mark}
 use Rattle.bz_script.specs.declared.item.Item.{Item}
@@ -10,9 +8,8 @@ use Rattle.bz_script.specs.declared.item.Item.TheVariants.{Power}
 use Rattle.bz_sound.specs.declared.power.Power.{Power as State}
 use Rattle.bz_sound.specs.declared.power.Power.TheVariants as power
 use Rattle.bz_sched.specs.Points.{Point}
-use Rattle.bz_sched.specs.Queued.{Queued, has_open}
 use Rattle.bz_sched.specs.Recoveries.{Powers, PowersInPart}
-use Rattle.bz_sched.specs.Runs.{point_of, IsSteady, Stays, HasPower}
+use Rattle.bz_sched.specs.Runs.{point_with, Stays, HasPower}
 use Rattle.bz_sched.specs.Scripts.{LeadsTo, LeadsToInPart, LeadsToWant}
 use Rattle.bz_sched.specs.declared.running.RunEnd.{RunEnd}
 use Rattle.bz_sched.specs.declared.running.RunEnd.TheVariants.{Finished, Cut, Limit}
@@ -22,18 +19,12 @@ use Rattle.bz_top.specs.Items.{end_in, ItemsDone, ItemsRan, IsTurnedOn, TurnsOn}
 use Rattle.bz_top.specs.declared.items.ItemsEnd.{ItemsEnd}
 use Rattle.bz_top.specs.declared.items.ItemsEnd.TheVariants as end
 
-pub steady_at_first : (world : Lab) (queue : Queued) → IsConfig world.config → world.at_start ≢ power.Recovering → world.log.past ≡ [] → queue.calls ≡ [] → ((w : ℕ) → has_open queue w ≡ false) → IsSteady world queue
-steady_at_first world queue config known new empty closed = record {
-  config = config;
-  calls = rw empty tt;
-  begun = λ w. rw new (closed w);
-  openers = λ w is. let opposed : false ≡ true = sym (closed w) ∙ is in absurd (cc opposed);
-  steady = rw new known;
-}
+pub steady_at_first : (world : Lab) → world.at_start ≢ power.Recovering → world.log.past ≡ [] → power_in world ≢ power.Recovering
+steady_at_first world known new = rw new known
 
 -- it stands where nothing has happened and no call waits
-first_point : (world : Lab) (queue : Queued) → world.log.past ≡ [] → queue.calls ≡ [] → point_of world queue ≡ at_first
-first_point world queue new empty = ap₂ (λ (past : List Mark) (calls : List (ℕ × Call)). record { past = past; queue = calls }) new empty
+first_point : (world : Lab) → world.log.past ≡ [] → point_with world [] ≡ at_first
+first_point world new = ap (λ (past : List Mark). record { past = past; queue = [] }) new
 
 from_on : (state : State) (items : List Item) → state ≡ power.On → items_from state items ≡ items
 from_on state items is = rw is refl
@@ -41,51 +32,47 @@ from_on state items is = rw is refl
 from_off : (state : State) (items : List Item) → state ≡ power.Off → items_from state items ≡ Power ∷ items
 from_off state items is = rw is refl
 
-module _ (old : Lab) (queue : Queued) (new_world : old.log.past ≡ []) (empty : queue.calls ≡ []) where
+module _ (old : Lab) (new_world : old.log.past ≡ []) where
   -- the power is on already
-  pub turned_already : IsSteady old queue → power_in old ≡ power.On → IsTurnedOn old queue old queue
-  turned_already steady on =
+  pub turned_already : power_in old ≡ power.On → IsTurnedOn old old
+  turned_already on =
       let first : old.at_start ≡ power.On = rw new_world at on in
       record {
         stays = record { config = refl; at_start = refl; start = refl; limits = refl };
-        steady = steady;
-        room = omega arith;
         on = on;
         items = λ items past h.
             subst (λ (is : List Item). LeadsTo old.at_start old.log.start (words_of old.config) None at_first is past) (sym (from_on old.at_start items first))
-            (subst (λ (p : Point). LeadsTo old.at_start old.log.start (words_of old.config) None p items past) (first_point old queue new_world empty) h);
+            (subst (λ (p : Point). LeadsTo old.at_start old.log.start (words_of old.config) None p items past) (first_point old new_world) h);
         in_part = λ why items past h.
             subst (λ (is : List Item). LeadsToInPart why old.at_start old.log.start (words_of old.config) None at_first is past) (sym (from_on old.at_start items first))
-            (subst (λ (p : Point). LeadsToInPart why old.at_start old.log.start (words_of old.config) None p items past) (first_point old queue new_world empty) h);
+            (subst (λ (p : Point). LeadsToInPart why old.at_start old.log.start (words_of old.config) None p items past) (first_point old new_world) h);
         to_want = λ items past h.
             subst (λ (is : List Item). LeadsToWant old.at_start old.log.start (words_of old.config) None at_first is past) (sym (from_on old.at_start items first))
-            (subst (λ (p : Point). LeadsToWant old.at_start old.log.start (words_of old.config) None p items past) (first_point old queue new_world empty) h);
+            (subst (λ (p : Point). LeadsToWant old.at_start old.log.start (words_of old.config) None p items past) (first_point old new_world) h);
       }
 
   -- or it comes on
-  pub turns_on : (new : Lab) (left : Queued) (how : RunEnd) → power_in old ≡ power.Off → HasPower None old queue how new left → TurnsOn old queue (end_in how) new left
-  turns_on new left Finished off (leaves, on, powers) =
+  pub turns_on : (new : Lab) (how : RunEnd) → power_in old ≡ power.Off → HasPower None old how new → TurnsOn old (end_in how) new
+  turns_on new Finished off (stays, on, powers) =
       let first : old.at_start ≡ power.Off = rw new_world at off in
-      let begun : Powers old.at_start None at_first (point_of new left) = subst (λ (p : Point). Powers old.at_start None p (point_of new left)) (first_point old queue new_world empty) powers in
+      let begun : Powers old.at_start None at_first (point_with new []) = subst (λ (p : Point). Powers old.at_start None p (point_with new [])) (first_point old new_world) (powers []) in
       record {
-        stays = leaves.stays;
-        steady = leaves.steady;
-        room = leaves.room;
+        stays = stays;
         on = on;
         items = λ items past h.
-            subst (λ (is : List Item). LeadsTo old.at_start old.log.start (words_of old.config) None at_first is past) (sym (from_off old.at_start items first)) (point_of new left, inl begun, h);
+            subst (λ (is : List Item). LeadsTo old.at_start old.log.start (words_of old.config) None at_first is past) (sym (from_off old.at_start items first)) (point_with new [], inl begun, h);
         in_part = λ why items past h.
-            subst (λ (is : List Item). LeadsToInPart why old.at_start old.log.start (words_of old.config) None at_first is past) (sym (from_off old.at_start items first)) (inr (point_of new left, inl begun, h));
+            subst (λ (is : List Item). LeadsToInPart why old.at_start old.log.start (words_of old.config) None at_first is past) (sym (from_off old.at_start items first)) (inr (point_with new [], inl begun, h));
         to_want = λ items past h.
-            subst (λ (is : List Item). LeadsToWant old.at_start old.log.start (words_of old.config) None at_first is past) (sym (from_off old.at_start items first)) (point_of new left, inl begun, h);
+            subst (λ (is : List Item). LeadsToWant old.at_start old.log.start (words_of old.config) None at_first is past) (sym (from_off old.at_start items first)) (point_with new [], inl begun, h);
       }
-  turns_on new left Cut off (leaves, cut, powers, flush) = absurd powers
-  turns_on new left (Limit which) off (stays, powers, met) =
+  turns_on new Cut off (stays, cut, powers, flush) = absurd (powers [])
+  turns_on new (Limit which) off (stays, powers, met) =
       let first : old.at_start ≡ power.Off = rw new_world at off in
-      let stopped : PowersInPart which old.at_start old.log.start (words_of old.config) None at_first (point_of new left) = subst (λ (p : Point). PowersInPart which old.at_start old.log.start (words_of old.config) None p (point_of new left)) (first_point old queue new_world empty) powers in
+      let stopped : PowersInPart which old.at_start old.log.start (words_of old.config) None at_first (point_with new []) = subst (λ (p : Point). PowersInPart which old.at_start old.log.start (words_of old.config) None p (point_with new [])) (first_point old new_world) (powers []) in
       λ items. record {
         on = stays;
-        follows = subst (λ (is : List Item). LeadsToInPart which old.at_start old.log.start (words_of old.config) None at_first is new.log.past) (sym (from_off old.at_start items first)) (inl (point_of new left, stopped, refl));
+        follows = subst (λ (is : List Item). LeadsToInPart which old.at_start old.log.start (words_of old.config) None at_first is new.log.past) (sym (from_off old.at_start items first)) (inl (point_with new [], stopped, refl));
         met = met;
       }
 
@@ -93,26 +80,26 @@ module _ (old : Lab) (queue : Queued) (new_world : old.log.past ≡ []) (empty :
 both_stay : (old mid new : Lab) → Stays old mid → Stays mid new → Stays old new
 both_stay old mid new h k = record { config = k.config ∙ h.config; at_start = k.at_start ∙ h.at_start; start = k.start ∙ h.start; limits = k.limits ∙ h.limits }
 
-pub done_behind : (old mid new : Lab) (queue left : Queued) (items : List Item) (how : ItemsEnd) → IsTurnedOn old queue mid left → ItemsDone (point_of mid left) mid items how new → ItemsRan old items how new
-done_behind old mid new queue left items end.Finished turned done = record {
+pub done_behind : (old mid new : Lab) (items : List Item) (how : ItemsEnd) → IsTurnedOn old mid → ItemsDone (point_with mid []) mid items how new → ItemsRan old items how new
+done_behind old mid new items end.Finished turned done = record {
   on = both_stay old mid new turned.stays done.on;
   follows = turned.items items new.log.past
-      (subst (λ (s : State). LeadsTo s old.log.start (words_of old.config) None (point_of mid left) items new.log.past) turned.stays.at_start
-      (subst (λ (start : List ℕ). LeadsTo mid.at_start start (words_of old.config) None (point_of mid left) items new.log.past) turned.stays.start
-      (subst (λ (c : Config). LeadsTo mid.at_start mid.log.start (words_of c) None (point_of mid left) items new.log.past) turned.stays.config done.follows)));
+      (subst (λ (s : State). LeadsTo s old.log.start (words_of old.config) None (point_with mid []) items new.log.past) turned.stays.at_start
+      (subst (λ (start : List ℕ). LeadsTo mid.at_start start (words_of old.config) None (point_with mid []) items new.log.past) turned.stays.start
+      (subst (λ (c : Config). LeadsTo mid.at_start mid.log.start (words_of c) None (point_with mid []) items new.log.past) turned.stays.config done.follows)));
 }
-done_behind old mid new queue left items (end.Limit why) turned done = record {
+done_behind old mid new items (end.Limit why) turned done = record {
   on = both_stay old mid new turned.stays done.on;
   follows = turned.in_part why items new.log.past
-      (subst (λ (s : State). LeadsToInPart why s old.log.start (words_of old.config) None (point_of mid left) items new.log.past) turned.stays.at_start
-      (subst (λ (start : List ℕ). LeadsToInPart why mid.at_start start (words_of old.config) None (point_of mid left) items new.log.past) turned.stays.start
-      (subst (λ (c : Config). LeadsToInPart why mid.at_start mid.log.start (words_of c) None (point_of mid left) items new.log.past) turned.stays.config done.follows)));
+      (subst (λ (s : State). LeadsToInPart why s old.log.start (words_of old.config) None (point_with mid []) items new.log.past) turned.stays.at_start
+      (subst (λ (start : List ℕ). LeadsToInPart why mid.at_start start (words_of old.config) None (point_with mid []) items new.log.past) turned.stays.start
+      (subst (λ (c : Config). LeadsToInPart why mid.at_start mid.log.start (words_of c) None (point_with mid []) items new.log.past) turned.stays.config done.follows)));
   met = done.met;
 }
-done_behind old mid new queue left items end.Memory turned done = record {
+done_behind old mid new items end.Memory turned done = record {
   on = both_stay old mid new turned.stays done.on;
   follows = turned.to_want items new.log.past
-      (subst (λ (s : State). LeadsToWant s old.log.start (words_of old.config) None (point_of mid left) items new.log.past) turned.stays.at_start
-      (subst (λ (start : List ℕ). LeadsToWant mid.at_start start (words_of old.config) None (point_of mid left) items new.log.past) turned.stays.start
-      (subst (λ (c : Config). LeadsToWant mid.at_start mid.log.start (words_of c) None (point_of mid left) items new.log.past) turned.stays.config done.follows)));
+      (subst (λ (s : State). LeadsToWant s old.log.start (words_of old.config) None (point_with mid []) items new.log.past) turned.stays.at_start
+      (subst (λ (start : List ℕ). LeadsToWant mid.at_start start (words_of old.config) None (point_with mid []) items new.log.past) turned.stays.start
+      (subst (λ (c : Config). LeadsToWant mid.at_start mid.log.start (words_of c) None (point_with mid []) items new.log.past) turned.stays.config done.follows)));
 }

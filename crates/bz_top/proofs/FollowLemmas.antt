@@ -1,5 +1,5 @@
 -- A world that has followed some items of a script, and one item more.
-use Rattle.std.proofs.Common.{◌≡◌, ◌≤◌, ◌<◌, inl, inr, ℕ, zero, suc, ◌+◌, Bool, true, false, List, [], ◌∷◌, length, get_or, drop, refl, sym, ap, subst, ◌∙◌, arith, Option, Some, None}
+use Rattle.std.proofs.Common.{◌≡◌, ◌≢◌, ◌≤◌, ◌<◌, inl, inr, ℕ, zero, suc, ◌+◌, Bool, true, false, List, [], ◌∷◌, length, get_or, drop, refl, sym, ap, subst, ◌∙◌, arith, Option, Some, None}
 use Rattle.std.specs.Prelude.{is_some, not, ◌&&◌}
 use Rattle.std.proofs.lemmas.Grind.{common_steps}
 use Rattle.std.proofs.lemmas.List.{drop_more}
@@ -14,7 +14,7 @@ use Rattle.bz_sound.specs.declared.power.Power.{Power as State}
 use Rattle.bz_sound.specs.declared.power.Power.TheVariants as power
 use Rattle.bz_sched.specs.Points.{Point}
 use Rattle.bz_sched.specs.Queued.{Queued}
-use Rattle.bz_sched.specs.Runs.{point_of, IsSteady, Stays, IsCutPlan}
+use Rattle.bz_sched.specs.Runs.{point_of, Stays, IsCutPlan}
 use Rattle.bz_sched.specs.Scripts.{LeadsTo, LeadsToInPart, LeadsToWant}
 use Rattle.bz_sched.specs.declared.cut.CutPlan.{CutPlan}
 use Rattle.bz_world.specs.Lab.{Lab, power_in}
@@ -25,7 +25,7 @@ use Rattle.bz_top.specs.Items.{IsReadyFor, Leads, LeadsInPart, LeadsToWantIn, Le
 -- that is armed, if one is, and whether one was used up; and where none was, so that a run may follow, the power is on.
 pub record Staged (items : List Item) (i : ℕ) (armed : Option CutPlan) (first : Point) (old world : Lab) (queue : Queued) : Type 0 where
   pub on : Stays old world
-  pub steady : IsSteady world queue
+  pub steady : power_in world ≢ power.Recovering
   pub room : length items ≤ queue.room + i
   pub used : Bool
   pub order : AreInOrder (record { armed = is_some armed; used = used }) (drop i items)
@@ -44,7 +44,7 @@ here_is : (items : List Item) (i : ℕ) (item : Item) → i < length items → i
 here_is items i item lt is = drop_more items i item lt ∙ ap (λ (x : Item). x ∷ drop (i + 1) items) (sym is)
 
 -- nothing is done yet
-pub staged_none : (items : List Item) (old : Lab) (queue : Queued) → IsSteady old queue → power_in old ≡ power.On → length items ≤ queue.room → AreInOrder first_standing items → Staged items 0 None (point_of old queue) old old queue
+pub staged_none : (items : List Item) (old : Lab) (queue : Queued) → power_in old ≢ power.Recovering → power_in old ≡ power.On → length items ≤ queue.room → AreInOrder first_standing items → Staged items 0 None (point_of old queue) old old queue
 staged_none items old queue steady on fits order = record {
   on = record { config = refl; at_start = refl; start = refl; limits = refl };
   steady = steady;

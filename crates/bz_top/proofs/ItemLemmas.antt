@@ -1,35 +1,37 @@
 -- One item of a script.
-use Rattle.std.proofs.Common.{◌≡◌, ◌≤◌, inl, inr, sym, subst, ℕ, ◌+◌, true, false, [], ◌∷◌, ◌++◌, refl, arith, Option, Some, None}
+use Rattle.std.proofs.Common.{◌≡◌, ◌≢◌, ◌≤◌, inl, inr, sym, subst, ℕ, ◌+◌, ◌∙◌, true, false, List, [], ◌∷◌, ◌++◌, refl, arith, Option, Some, None}
 use Rattle.bz_call.specs.declared.calls.Call.{Call}
 use Rattle.bz_script.specs.declared.item.Item.TheVariants.{Queue, Arm, Run, Power}
 use Rattle.bz_script.specs.Order.{takes_no_cut}
 use Rattle.bz_script.specs.declared.item.Plan.{Plan}
 use Rattle.bz_script.specs.declared.item.Plan.TheVariants.{Alone, List as Listed, Turns, Threads}
 use Rattle.bz_sched.specs.Queued.{Queued}
-use Rattle.bz_sched.specs.ReadyLaws.{steady_when_queued}
-use Rattle.bz_sched.specs.Runs.{point_of, IsSteady, IsOfTurns, IsCutPlan, HasRun, HasPower}
+use Rattle.bz_sched.specs.Recoveries.{Powers, PowersCut}
+use Rattle.bz_sched.specs.Runs.{point_of, point_with, IsOfTurns, IsCutPlan, HasRun, HasPower}
 use Rattle.bz_sched.specs.declared.cut.CutPlan.{CutPlan}
 use Rattle.bz_sched.specs.declared.running.RunEnd.{RunEnd}
 use Rattle.bz_sched.specs.declared.running.RunEnd.TheVariants.{Finished, Cut, Limit}
-use Rattle.bz_world.specs.Lab.{Lab}
+use Rattle.bz_layout.specs.Addresses.{words_of}
+use Rattle.bz_sound.specs.declared.power.Power.TheVariants as power
+use Rattle.bz_world.specs.Lab.{Lab, power_in}
 use Rattle.bz_threads.specs.Ends.{HasRunThreads}
 use Rattle.bz_threads.specs.declared.running.ThreadsEnd.{ThreadsEnd}
 use Rattle.bz_threads.specs.declared.running.ThreadsEnd.TheVariants as threads
-use Rattle.bz_top.specs.Items.{HasDone, end_in, end_of_threads}
+use Rattle.bz_top.specs.Items.{HasDone, end_in, left_after, end_of_threads}
 use Rattle.bz_top.specs.declared.items.ItemsEnd.TheVariants as end
 
-pub queue_done : (world : Lab) (queue left : Queued) (armed : Option CutPlan) (w : ℕ) (call : Call) → IsSteady world queue → world.config.workers ≡ 64 → (1 ≤ w) × (w ≤ 64) → IsCutPlan armed
-    → left.calls ≡ queue.calls ++ (w, call) ∷ [] → left.room + 1 ≡ queue.room → left.begun ≡ queue.begun → HasDone armed world queue (Queue w call) end.Finished armed world left
-queue_done world queue left armed w call steady many item cut calls fits same = record {
+pub queue_done : (world : Lab) (queue left : Queued) (armed : Option CutPlan) (w : ℕ) (call : Call) → power_in world ≢ power.Recovering → IsCutPlan armed → left.calls ≡ queue.calls ++ (w, call) ∷ [] → left.room + 1 ≡ queue.room
+    → HasDone armed world queue (Queue w call) end.Finished armed world left
+queue_done world queue left armed w call steady cut calls fits = record {
   stays = record { config = refl; at_start = refl; start = refl; limits = refl };
-  steady = steady_when_queued world queue left w call steady (record { some = omega (arith, item.0); in_range = omega (arith, item.1, many) }) calls same;
+  steady = steady;
   room = omega (arith, fits);
   cut = cut;
   leads = (refl, rw calls refl);
   power = refl;
 }
 
-pub arm_done : (world : Lab) (queue : Queued) (armed : Option CutPlan) (flush seed : ℕ) → IsSteady world queue → 1 ≤ flush → HasDone armed world queue (Arm flush seed) end.Finished (Some (record { flush = flush; seed = seed })) world queue
+pub arm_done : (world : Lab) (queue : Queued) (armed : Option CutPlan) (flush seed : ℕ) → power_in world ≢ power.Recovering → 1 ≤ flush → HasDone armed world queue (Arm flush seed) end.Finished (Some (record { flush = flush; seed = seed })) world queue
 arm_done world queue armed flush seed steady some = record {
   stays = record { config = refl; at_start = refl; start = refl; limits = refl };
   steady = steady;
@@ -39,10 +41,17 @@ arm_done world queue armed flush seed steady some = record {
   power = refl;
 }
 
+-- the power that is on or off is not that of a recovery
+pub on_steady : (world : Lab) → power_in world ≡ power.On → power_in world ≢ power.Recovering
+on_steady world on recovering = let opposed : power.On ≡ power.Recovering = sym on ∙ recovering in absurd (cc opposed)
+
+off_steady : (world : Lab) → power_in world ≡ power.Off → power_in world ≢ power.Recovering
+off_steady world off recovering = let opposed : power.Off ≡ power.Recovering = sym off ∙ recovering in absurd (cc opposed)
+
 pub run_done : (old new : Lab) (queue left : Queued) (armed : Option CutPlan) (plan : Plan) (end : RunEnd) → HasRun armed plan old queue end new left → HasDone armed old queue (Run plan) (end_in end) None new left
 run_done old new queue left armed plan Finished (leaves, on, runs) = record {
   stays = leaves.stays;
-  steady = leaves.steady;
+  steady = on_steady new on;
   room = omega (arith, leaves.room);
   cut = tt;
   leads = (refl, inl runs);
@@ -51,7 +60,7 @@ run_done old new queue left armed plan Finished (leaves, on, runs) = record {
 run_done old new queue left None plan Cut (leaves, off, (w, runs, flush)) = absurd runs
 run_done old new queue left (Some cut) plan Cut (leaves, off, (w, runs, flush)) = record {
   stays = leaves.stays;
-  steady = leaves.steady;
+  steady = off_steady new off;
   room = omega (arith, leaves.room);
   cut = tt;
   leads = (refl, inr (w, runs));
@@ -59,25 +68,27 @@ run_done old new queue left (Some cut) plan Cut (leaves, off, (w, runs, flush)) 
 }
 run_done old new queue left armed plan (Limit which) (stays, runs, met) = record { stays = stays; at = point_of new left; leads = runs; past = refl; met = met }
 
-pub power_done : (old new : Lab) (queue left : Queued) (armed : Option CutPlan) (end : RunEnd) → HasPower armed old queue end new left → HasDone armed old queue Power (end_in end) None new left
-power_done old new queue left armed Finished (leaves, on, powers) = record {
-  stays = leaves.stays;
-  steady = leaves.steady;
-  room = omega (arith, leaves.room);
-  cut = tt;
-  leads = (refl, inl powers);
-  power = λ none. on;
-}
-power_done old new queue left None Cut (leaves, off, powers, flush) = absurd powers
-power_done old new queue left (Some cut) Cut (leaves, off, powers, flush) = record {
-  stays = leaves.stays;
-  steady = leaves.steady;
-  room = omega (arith, leaves.room);
-  cut = tt;
-  leads = (refl, inr powers);
-  power = λ none. absurd (cc none);
-}
-power_done old new queue left armed (Limit which) (stays, powers, met) = record { stays = stays; at = point_of new left; leads = powers; past = refl; met = met }
+-- power on, and then the calls were dropped where its cut was made
+module _ (old new : Lab) (queue left : Queued) (fits : queue.room ≤ left.room) where
+  pub power_done : (armed : Option CutPlan) (end : RunEnd) → left.calls ≡ left_after end queue.calls → HasPower armed old end new → HasDone armed old queue Power (end_in end) None new left
+  power_done armed Finished same (stays, on, powers) = record {
+    stays = stays;
+    steady = on_steady new on;
+    room = omega (arith, fits);
+    cut = tt;
+    leads = (refl, inl (subst (λ (calls : List (ℕ × Call)). Powers old.at_start armed (point_of old queue) (point_with new calls)) (sym same) (powers queue.calls)));
+    power = λ none. on;
+  }
+  power_done None Cut same (stays, off, powers, flush) = absurd (powers [])
+  power_done (Some cut) Cut same (stays, off, powers, flush) = record {
+    stays = stays;
+    steady = off_steady new off;
+    room = omega (arith, fits);
+    cut = tt;
+    leads = (refl, inr (subst (λ (calls : List (ℕ × Call)). PowersCut old.at_start old.log.start (words_of old.config) (Some cut) (point_of old queue) (point_with new calls)) (sym same) (powers queue.calls)));
+    power = λ none. absurd (cc none);
+  }
+  power_done armed (Limit which) same (stays, powers, met) = record { stays = stays; at = point_with new queue.calls; leads = powers queue.calls; past = refl; met = met }
 
 -- a plan that takes a cut takes turns, and the other one is that of threads
 pub of_turns : (plan : Plan) → takes_no_cut plan ≡ false → IsOfTurns plan
@@ -95,7 +106,7 @@ of_threads Threads takes = refl
 by_threads : (old new : Lab) (queue left : Queued) (how : ThreadsEnd) → HasRunThreads old queue how new left → HasDone None old queue (Run Threads) (end_of_threads how) None new left
 by_threads old new queue left threads.Finished (leaves, on, runs) = record {
   stays = leaves.stays;
-  steady = leaves.steady;
+  steady = on_steady new on;
   room = omega (arith, leaves.room);
   cut = tt;
   leads = (refl, inl runs);

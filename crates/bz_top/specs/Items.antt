@@ -1,5 +1,6 @@
 -- What the items of a script do to a world.
-use Rattle.std.specs.Prelude.{◌≡◌, true, ◌≤◌, ◌⊎◌, ℕ, ◌+◌, List, Option, Some, None}
+use Rattle.std.specs.Prelude.{◌≡◌, ◌≢◌, true, ◌≤◌, ◌⊎◌, ℕ, ◌+◌, List, [], Option, Some, None}
+use Rattle.bz_call.specs.declared.calls.Call.{Call}
 use Rattle.bz_layout.specs.Addresses.{words_of}
 use Rattle.bz_mark.specs.declared.marks.Mark.{Mark}
 use Rattle.bz_script.specs.ItemLaws.{IsItem}
@@ -14,7 +15,7 @@ use Rattle.bz_sched.specs.Plans.{RunsWhole, RunsCut, RunsInPart}
 use Rattle.bz_sched.specs.Points.{Point}
 use Rattle.bz_sched.specs.Queued.{Queued}
 use Rattle.bz_sched.specs.Recoveries.{Powers, PowersCut, PowersInPart}
-use Rattle.bz_sched.specs.Runs.{point_of, IsAtLimit, IsSteady, Stays, IsCutPlan}
+use Rattle.bz_sched.specs.Runs.{point_of, point_with, IsAtLimit, Stays, IsCutPlan}
 use Rattle.bz_sched.specs.Scripts.{queued, LeadsTo, LeadsToInPart, WantsMemory, LeadsToWant}
 use Rattle.bz_sched.specs.declared.cut.CutPlan.{CutPlan}
 use Rattle.bz_sched.specs.declared.running.RunEnd.{RunEnd}
@@ -30,6 +31,11 @@ abbrev pub end_in : RunEnd → ItemsEnd
 end_in (Limit which) = end.Limit which
 end_in Finished = end.Finished
 end_in Cut = end.Finished
+
+-- the calls that wait when power on has ended: none where its cut was made
+abbrev pub left_after : RunEnd → List (ℕ × Call) → List (ℕ × Call)
+left_after Cut calls = []
+left_after other calls = calls
 
 abbrev pub end_of_threads : ThreadsEnd → ItemsEnd
 end_of_threads (threads.Limit which) = end.Limit which
@@ -71,7 +77,7 @@ LeavesPower armed old Power new = armed ≡ None → power_in new ≡ power.On
 -- an item was done
 pub record IsDoneItem (armed : Option CutPlan) (old : Lab) (queue : Queued) (item : Item) (next : Option CutPlan) (new : Lab) (left : Queued) : Type 0 where
   pub stays : Stays old new
-  pub steady : IsSteady new left
+  pub steady : power_in new ≢ power.Recovering
   pub room : queue.room ≤ left.room + 1
   pub cut : IsCutPlan next
   pub leads : Leads old.at_start old.log.start (words_of old.config) armed (point_of old queue) item next (point_of new left)
@@ -122,21 +128,19 @@ ItemsDone first old items end.Memory new = IsLedFromToWant first old items new
 abbrev pub ItemsRan : Lab → List Item → ItemsEnd → Lab → Type 0
 ItemsRan old items how new = ItemsDone at_first old (items_from old.at_start items) how new
 
--- the power is on, as it was or because it has come on
-pub record IsTurnedOn (old : Lab) (queue : Queued) (new : Lab) (left : Queued) : Type 0 where
+-- the power is on, as it was or because it has come on; no call waits yet
+pub record IsTurnedOn (old new : Lab) : Type 0 where
   pub stays : Stays old new
-  pub steady : IsSteady new left
-  pub room : queue.room ≤ left.room
   pub on : power_in new ≡ power.On
-  pub items : (items : List Item) (past : List Mark) → LeadsTo old.at_start old.log.start (words_of old.config) None (point_of new left) items past
+  pub items : (items : List Item) (past : List Mark) → LeadsTo old.at_start old.log.start (words_of old.config) None (point_with new []) items past
       → LeadsTo old.at_start old.log.start (words_of old.config) None at_first (items_from old.at_start items) past
-  pub in_part : (why : Which) (items : List Item) (past : List Mark) → LeadsToInPart why old.at_start old.log.start (words_of old.config) None (point_of new left) items past
+  pub in_part : (why : Which) (items : List Item) (past : List Mark) → LeadsToInPart why old.at_start old.log.start (words_of old.config) None (point_with new []) items past
       → LeadsToInPart why old.at_start old.log.start (words_of old.config) None at_first (items_from old.at_start items) past
-  pub to_want : (items : List Item) (past : List Mark) → LeadsToWant old.at_start old.log.start (words_of old.config) None (point_of new left) items past
+  pub to_want : (items : List Item) (past : List Mark) → LeadsToWant old.at_start old.log.start (words_of old.config) None (point_with new []) items past
       → LeadsToWant old.at_start old.log.start (words_of old.config) None at_first (items_from old.at_start items) past
 
 -- power on asks for no memory
-abbrev pub TurnsOn : Lab → Queued → ItemsEnd → Lab → Queued → Type 0
-TurnsOn old queue end.Finished new left = IsTurnedOn old queue new left
-TurnsOn old queue (end.Limit which) new left = (items : List Item) → IsLedFromInPart at_first old (items_from old.at_start items) which new
-TurnsOn old queue end.Memory new left = ⊥
+abbrev pub TurnsOn : Lab → ItemsEnd → Lab → Type 0
+TurnsOn old end.Finished new = IsTurnedOn old new
+TurnsOn old (end.Limit which) new = (items : List Item) → IsLedFromInPart at_first old (items_from old.at_start items) which new
+TurnsOn old end.Memory new = ⊥

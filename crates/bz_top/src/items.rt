@@ -1,15 +1,13 @@
 //! Running the items of a script.
-ghost use Rattle.std.specs.Prelude.{◌≡◌, ◌≢◌, ◌≤◌, ◌<◌, [], ℕ, false, length, None};
-ghost use Rattle.bz_layout.specs.Config.{IsConfig};
+ghost use Rattle.std.specs.Prelude.{◌≡◌, ◌≢◌, ◌≤◌, ◌<◌, [], length, None};
 ghost use Rattle.bz_layout.specs.declared.limits.TheConstants.{MAX_WORKERS};
 ghost use Rattle.bz_sound.specs.declared.power.Power.TheVariants.{On, Recovering};
 ghost use Rattle.bz_world.specs.Lab.{power_in};
-ghost use Rattle.bz_sched.specs.Queued.{has_open};
-ghost use Rattle.bz_sched.specs.Runs.{point_of, IsSteady, IsCutPlan};
+ghost use Rattle.bz_sched.specs.Runs.{point_of, IsCutPlan};
 ghost use Rattle.bz_script.specs.ItemLaws.{AreItems};
 ghost use Rattle.bz_script.specs.Order.{at_first, takes_no_cut, AreInOrder};
 ghost use Rattle.bz_script.specs.declared.item.Item.TheVariants.{Run};
-ghost use Rattle.bz_top.specs.Items.{ItemsRan, ItemsDone, TurnsOn, IsReadyFor, HasDone, end_in, end_of_threads};
+ghost use Rattle.bz_top.specs.Items.{ItemsRan, ItemsDone, TurnsOn, IsReadyFor, HasDone, end_in, left_after, end_of_threads};
 
 use bz_index::Gate;
 use bz_sched::{CutPlan, Queue, RunEnd, power, run};
@@ -75,7 +73,7 @@ fn run_plan<R: Threads + Wait + Sync, G: Gate + Sync>(
     plan: &Plan,
     gate: &G,
 ) -> (World, ItemsEnd)
-    requires steady { IsSteady world queue.old }
+    requires workers { world.config.workers ≡ MAX_WORKERS }
     requires armed { IsCutPlan armed }
     requires item { IsReadyFor armed world (Run plan.now) }
     ensures { HasDone armed world queue.old (Run plan.now) result.1 None result.0 queue.new }
@@ -90,6 +88,16 @@ fn run_plan<R: Threads + Wait + Sync, G: Gate + Sync>(
     }
 }
 
+// Drops the calls that wait, where a cut of power on was made.
+fn drop_after(queue: &mut Queue, end: RunEnd)
+    ensures calls { queue.new.calls ≡ left_after end queue.old.calls }
+    ensures room { queue.old.room ≤ queue.new.room }
+{
+    if let RunEnd::Cut = end {
+        queue.clear();
+    }
+}
+
 // Does what an item asks for. A cut is armed for the next run or power on.
 fn do_item<R: Threads + Wait + Sync, G: Gate + Sync>(
     rt: &R,
@@ -100,7 +108,7 @@ fn do_item<R: Threads + Wait + Sync, G: Gate + Sync>(
     item: &Item,
     gate: &G,
 ) -> (World, ItemsEnd)
-    requires steady { IsSteady world queue.old }
+    requires steady { power_in world ≢ Recovering }
     requires workers { world.config.workers ≡ MAX_WORKERS }
     requires room { 0 < queue.old.room }
     requires armed { IsCutPlan armed.old }
@@ -126,8 +134,9 @@ fn do_item<R: Threads + Wait + Sync, G: Gate + Sync>(
         }
         Item::Power => {
             let mut world = world;
-            let end = power(&mut world, queue, *armed);
+            let end = power(&mut world, *armed);
             *armed = None;
+            drop_after(queue, end);
             (world, end_of(end))
         }
     }
@@ -142,7 +151,7 @@ fn do_items<R: Threads + Wait + Sync, G: Gate + Sync>(
     items: &[Item],
     gate: &G,
 ) -> (World, ItemsEnd)
-    requires steady { IsSteady world queue.old }
+    requires steady { power_in world ≢ Recovering }
     requires powered { power_in world ≡ On }
     requires workers { world.config.workers ≡ MAX_WORKERS }
     requires room { length items.now ≤ queue.old.room }
@@ -165,15 +174,14 @@ fn do_items<R: Threads + Wait + Sync, G: Gate + Sync>(
 }
 
 // Turns the power on where it is off. Nothing has happened in the world.
-fn turn_on(world: &mut World, queue: &mut Queue) -> ItemsEnd
-    requires steady { IsSteady world.old queue.old }
+fn turn_on(world: &mut World) -> ItemsEnd
+    requires steady { power_in world.old ≢ Recovering }
     requires new { world.old.log.past ≡ [] }
-    requires none_wait { queue.old.calls ≡ [] }
-    ensures { TurnsOn world.old queue.old result world.new queue.new }
+    ensures { TurnsOn world.old result world.new }
 {
     match world.power() {
         Power::On => ItemsEnd::Finished,
-        Power::Off => end_of(power(world, queue, None)),
+        Power::Off => end_of(power(world, None)),
         Power::Recovering => unreachable!(),
     }
 }
@@ -190,17 +198,15 @@ pub fn run_items<R: Threads + Wait + Sync, G: Gate + Sync>(
 ) -> (World, ItemsEnd)
     requires first { world.at_start ≢ Recovering }
     requires new { world.log.past ≡ [] }
-    requires config { IsConfig world.config }
     requires workers { world.config.workers ≡ MAX_WORKERS }
     requires none_wait { queue.old.calls ≡ [] }
-    requires none_open { (w : ℕ) → has_open queue.old w ≡ false }
     requires room { queue.old.room ≡ length items.now }
     requires items { AreItems items.now }
     requires order { AreInOrder at_first items.now }
     ensures { ItemsRan world items.now result.1 result.0 }
 {
     let mut world = world;
-    match turn_on(&mut world, queue) {
+    match turn_on(&mut world) {
         ItemsEnd::Finished => do_items(rt, alloc, world, queue, items, gate),
         ItemsEnd::Limit(which) => (world, ItemsEnd::Limit(which)),
         ItemsEnd::Memory => unreachable!(),

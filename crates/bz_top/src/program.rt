@@ -5,7 +5,6 @@ ghost use Rattle.bz_judge.specs.Held.{IsImageOf};
 ghost use Rattle.bz_gen.specs.Workload.{workload_of};
 ghost use Rattle.bz_gen.specs.declared.workload.TheConstants.{MOST_CALLS};
 ghost use Rattle.bz_sound.specs.declared.power.Power.TheVariants.{Recovering};
-ghost use Rattle.bz_sched.specs.Queued.{has_open};
 ghost use Rattle.bz_top.specs.Commands.{config_of};
 ghost use Rattle.bz_sound.specs.Power.Sound.{IsSound};
 ghost use Rattle.bz_script.specs.Script.{job_of};
@@ -78,7 +77,6 @@ fn run_world<R: Threads + Wait + Sync, K: Sink, G: Gate + Sync>(
     requires workers { world.config.workers ≡ MOST_WORKERS }
     requires image { IsImageOf world.config world.log.start }
     requires none_wait { queue.calls ≡ [] }
-    requires none_open { (w : ℕ) → has_open queue w ≡ false }
     requires room { queue.room ≡ length (job_of script.now).items }
     ensures { (base : Base) → IsMadeFor line.marks base (job_of script.now) world → RanWorld line.command line.marks base (job_of script.now)
         (sunk (K.held sink.old) (K.held sink.new) (K.faults sink.old) (K.faults sink.new))

@@ -4,21 +4,21 @@ use Rattle.bz_sched.proofs.CutLemmas.{cut_made, still_powered, eviction_stops, c
 use Rattle.bz_sched.proofs.cut.cut_off.Goals as goal
 
 pub returns-then-not-evict_drawn : goal.returns-then-not-evict_drawn
-returns-then-not-evict_drawn c = eviction_stops c.args.seed c.args.world.now _ c.args.queue.now (c.if-not-evict_drawn.ensures.stopped refl)
+returns-then-not-evict_drawn c = eviction_stops c.args.seed c.args.world.now _ (c.if-not-evict_drawn.ensures.stopped refl)
 
 pub returns-in-Cut : goal.returns-in-Cut
 returns-in-Cut c =
     let evicted = c.evict_drawn.ensures.evicted c.if-not-evict_drawn.false in
     elim (cut_made c.evict_drawn.new.world applied.Cut c.apply.new.self (still_powered _ _ evicted.evolves c.requires.powered) c.in-Cut.ensures) [
       | inl none ↦ absurd (let other = none.0 in cc)
-      | inr made ↦ cut_is_made c.args.seed c.args.world.now c.evict_drawn.new.world c.apply.new.self c.args.queue.now c.clear.new.self c.requires.config evicted made.1 c.clear.ensures.calls c.clear.ensures.room c.clear.ensures.closed
+      | inr made ↦ cut_is_made c.args.seed c.args.world.now c.evict_drawn.new.world c.apply.new.self evicted made.1
     ]
 
 pub returns-in-Limit : goal.returns-in-Limit
 returns-in-Limit c =
     let evicted = c.evict_drawn.ensures.evicted c.if-not-evict_drawn.false in
     elim (cut_made c.evict_drawn.new.world applied.Limit c.apply.new.self (still_powered _ _ evicted.evolves c.requires.powered) c.in-Limit.ensures) [
-      | inl none ↦ cut_stops c.args.seed c.args.world.now c.evict_drawn.new.world c.apply.new.self c.args.queue.now evicted none.1
+      | inl none ↦ cut_stops c.args.seed c.args.world.now c.evict_drawn.new.world c.apply.new.self evicted none.1
       | inr made ↦ absurd (let other = made.0 in cc)
     ]
 

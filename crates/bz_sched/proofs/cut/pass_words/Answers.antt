@@ -6,9 +6,6 @@ use Rattle.bz_sched.proofs.cut.pass_words.Goals as goal
 pub loop-a-init : goal.loop-a-init
 loop-a-init c = passing_none (words_of c.args.world.now.config) c.args.seed c.args.world.now
 
-pub pass_word-requires-clause-config : goal.pass_word-requires-clause-config
-pass_word-requires-clause-config c = rw c.loop-a.invariant.evolves.stays.config c.requires.config
-
 pub pass_word-requires-clause-in_range : goal.pass_word-requires-clause-in_range
 pass_word-requires-clause-in_range c = rw c.loop-a.invariant.evolves.stays.config (word_within c.loop-a.a c.words-words.result _ c.loop-a-test.true (c.words-words.ensures ∙ ap words_of c.config.ensures.config))
 

@@ -1,5 +1,6 @@
+use Rattle.bz_sched.specs.Fuses.{with_fuse}
 use Rattle.bz_sched.proofs.WordLemmas.{Taking}
 use Rattle.bz_sched.proofs.list.take_turns.Given as goal
 
 abbrev pub invariant-loop-taken : goal.invariant-loop-taken
-invariant-loop-taken l = Taking l.w l._taken l.initial.world l.initial.queue l.world l.queue
+invariant-loop-taken l = Taking l.w l._taken l.initial.world (with_fuse l.initial.queue l.initial.fuse) l.world (with_fuse l.queue l.fuse)

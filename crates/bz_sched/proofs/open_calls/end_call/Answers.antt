@@ -1,15 +1,16 @@
 use Rattle.std.proofs.Common.{sym}
+use Rattle.bz_sched.specs.Fuses.{with_fuse}
 use Rattle.bz_sched.proofs.OpenLemmas.{call_none, call_more, call_ends, call_stops}
 use Rattle.bz_sched.proofs.open_calls.end_call.Goals as goal
 
 pub loop-world-init : goal.loop-world-init
-loop-world-init c = call_none c.args.w c.args.world.now c.args.queue.now c.requires.ready
+loop-world-init c = call_none c.args.w c.args.world.now (with_fuse c.args.queue.now c.args.fuse.now) c.requires.ready
 
 pub loop-world-preserved : goal.loop-world-preserved
-loop-world-preserved c = call_more c.args.w c.args.world.now c.args.queue.now c.loop-world.world c.loop-world.queue _ _ (sym c.loop-world-test.ensures) c.loop-world.invariant c.in-Finished.ensures.ends
+loop-world-preserved c = call_more c.args.w c.args.world.now (with_fuse c.args.queue.now c.args.fuse.now) c.loop-world.world (with_fuse c.loop-world.queue c.loop-world.fuse) _ _ (sym c.loop-world-test.ensures) c.loop-world.invariant c.in-Finished.ensures.ends
 
 pub returns-in-Stopped : goal.returns-in-Stopped
-returns-in-Stopped c = call_stops c.args.w c.args.world.now c.args.queue.now c.loop-world.world c.loop-world.queue c.in-Stopped.why _ _ (sym c.loop-world-test.ensures) c.loop-world.invariant c.in-Stopped.ensures.ends
+returns-in-Stopped c = call_stops c.args.w c.args.world.now (with_fuse c.args.queue.now c.args.fuse.now) c.loop-world.world (with_fuse c.loop-world.queue c.loop-world.fuse) c.in-Stopped.why _ _ (sym c.loop-world-test.ensures) c.loop-world.invariant c.in-Stopped.ensures.ends
 
 pub returns : goal.returns
-returns c = call_ends c.args.w c.args.world.now c.args.queue.now c.loop-world.world c.loop-world.queue (sym c.loop-world-test.ensures) c.loop-world.invariant
+returns c = call_ends c.args.w c.args.world.now (with_fuse c.args.queue.now c.args.fuse.now) c.loop-world.world (with_fuse c.loop-world.queue c.loop-world.fuse) (sym c.loop-world-test.ensures) c.loop-world.invariant

@@ -1,46 +1,37 @@
-use Rattle.std.proofs.Common.{◌≡◌, ℕ, true, Some, refl, sym, subst, ◌∙◌, ◌-◌}
-use Rattle.bz_layout.specs.Config.{IsConfig}
+use Rattle.std.proofs.Common.{◌≡◌, ℕ, true, Some, refl, subst, ◌-◌}
 use Rattle.bz_world.specs.Lab.{flush_of}
 use Rattle.bz_sched.proofs.BurnLemmas.{before_cut}
 use Rattle.bz_sched.proofs.RecoveryLemmas.{recovering_is_not_off}
-use Rattle.bz_sched.proofs.RunLemmas.{Armed}
 use Rattle.bz_sched.proofs.WakeLemmas.{start_stops, wakes, wake_limit, wake_due, wake_cut, on_recovers}
 use Rattle.bz_sched.proofs.power_on.power_armed.Goals as goal
 
 pub returns-then-not-start_recovery : goal.returns-then-not-start_recovery
-returns-then-not-start_recovery c = start_stops (Some c.args.cut) c.args.world.now _ c.args.queue.now _ (c.if-not-start_recovery.ensures.stopped refl)
+returns-then-not-start_recovery c = start_stops (Some c.args.cut) c.args.world.now _ (c.if-not-start_recovery.ensures.stopped refl)
 
 pub recover-requires : goal.recover-requires
-recover-requires c = on_recovers _ _ _ _ (c.start_recovery.ensures.started c.if-not-start_recovery.false)
+recover-requires c = on_recovers _ _ (c.start_recovery.ensures.started c.if-not-start_recovery.false)
 
 pub returns-in-Finished : goal.returns-in-Finished
 returns-in-Finished c =
     let s = c.start_recovery.ensures.started c.if-not-start_recovery.false in
-    let armed : Armed (Some (c.args.cut.flush - 1)) c.start_recovery.new.queue c.arm.new.self = record { calls = c.arm.ensures.calls; room = c.arm.ensures.room; begun = c.arm.ensures.begun; fuse = c.arm.ensures.fuse } in
     let e = c.in-Finished.ensures in
-    wakes c.args.world.now c.start_recovery.new.world c.recover.new.world c.args.queue.now c.start_recovery.new.queue c.arm.new.self c.recover.new.queue _ c.requires.steady s armed e.0 (Some c.args.cut)
-    (before_cut c.args.cut c.start_recovery.new.world.log.past c.recover.new.world.log.past c.arm.new.self.fuse c.recover.new.queue.fuse c.requires.cut c.arm.ensures.fuse e.0.fuse) e.1
+    wakes c.args.world.now c.start_recovery.new.world c.recover.new.world (Some (c.args.cut.flush - 1)) c.recover.new.fuse s e.0 (Some c.args.cut)
+    (before_cut c.args.cut c.start_recovery.new.world.log.past c.recover.new.world.log.past _ c.recover.new.fuse c.requires.cut refl e.0.burns) e.1
 
 pub returns-in-Stopped-Limit : goal.returns-in-Stopped-Limit
 returns-in-Stopped-Limit c =
     let s = c.start_recovery.ensures.started c.if-not-start_recovery.false in
-    let armed : Armed (Some (c.args.cut.flush - 1)) c.start_recovery.new.queue c.arm.new.self = record { calls = c.arm.ensures.calls; room = c.arm.ensures.room; begun = c.arm.ensures.begun; fuse = c.arm.ensures.fuse } in
     let e = rw c.in-Stopped-Limit.field-0-is at c.in-Stopped-Limit.ensures in
-    wake_limit c.args.world.now c.start_recovery.new.world c.recover.new.world c.args.queue.now c.start_recovery.new.queue c.arm.new.self c.recover.new.queue _ c.requires.steady s armed e.0 (Some c.args.cut) c.in-Stopped-Limit.which
-    (before_cut c.args.cut c.start_recovery.new.world.log.past c.recover.new.world.log.past c.arm.new.self.fuse c.recover.new.queue.fuse c.requires.cut c.arm.ensures.fuse e.0.fuse) e.1 e.3 e.4
+    wake_limit c.args.world.now c.start_recovery.new.world c.recover.new.world (Some (c.args.cut.flush - 1)) c.recover.new.fuse s e.0 (Some c.args.cut) c.in-Stopped-Limit.which
+    (before_cut c.args.cut c.start_recovery.new.world.log.past c.recover.new.world.log.past _ c.recover.new.fuse c.requires.cut refl e.0.burns) e.1 e.3 e.4
 
 pub returns-in-Stopped-Due : goal.returns-in-Stopped-Due
 returns-in-Stopped-Due c =
     let s = c.start_recovery.ensures.started c.if-not-start_recovery.false in
-    let armed : Armed (Some (c.args.cut.flush - 1)) c.start_recovery.new.queue c.arm.new.self = record { calls = c.arm.ensures.calls; room = c.arm.ensures.room; begun = c.arm.ensures.begun; fuse = c.arm.ensures.fuse } in
     let e = rw c.in-Stopped-Due.field-0-is at c.in-Stopped-Due.ensures in
-    let due = wake_due c.args.world.now c.start_recovery.new.world c.recover.new.world c.args.queue.now c.start_recovery.new.queue c.arm.new.self c.recover.new.queue _ c.requires.steady s armed e.0 c.args.cut c.requires.cut refl e.1 e.4.1 in
-    wake_cut c.args.world.now c.start_recovery.new.world c.recover.new.world c.args.queue.now c.start_recovery.new.queue c.arm.new.self c.recover.new.queue _ c.requires.steady s armed e.0 c.args.cut c.cut_off.result c.cut_off.new.world c.cut_off.new.queue due (subst (λ (w : ℕ). flush_of c.recover.new.world w ≡ true) e.3 e.4.0) c.cut_off.ensures
+    let due = wake_due c.args.world.now c.start_recovery.new.world c.recover.new.world (Some (c.args.cut.flush - 1)) c.recover.new.fuse s e.0 c.args.cut c.requires.cut refl e.1 e.4.1 in
+    wake_cut c.args.world.now c.start_recovery.new.world c.recover.new.world (Some (c.args.cut.flush - 1)) c.recover.new.fuse s e.0 c.args.cut c.cut_off.result c.cut_off.new.world due
+    (subst (λ (w : ℕ). flush_of c.recover.new.world w ≡ true) e.3 e.4.0) c.cut_off.ensures
 
-pub cut_off-requires-clause-config : goal.cut_off-requires-clause-config
-cut_off-requires-clause-config c =
-    let s = c.start_recovery.ensures.started c.if-not-start_recovery.false in
-    subst IsConfig (sym (c.in-Stopped-Due.ensures.0.stays.config ∙ s.stays.config)) c.requires.steady.config
-
-pub cut_off-requires-clause-powered : goal.cut_off-requires-clause-powered
-cut_off-requires-clause-powered c = recovering_is_not_off c.recover.new.world c.in-Stopped-Due.ensures.2
+pub cut_off-requires : goal.cut_off-requires
+cut_off-requires c = record { powered = recovering_is_not_off c.recover.new.world c.in-Stopped-Due.ensures.2 }

@@ -1,31 +1,26 @@
 use Rattle.std.proofs.Common.{None, refl}
 use Rattle.bz_sched.proofs.BurnLemmas.{never_due}
-use Rattle.bz_sched.proofs.RunLemmas.{Armed}
 use Rattle.bz_sched.proofs.WakeLemmas.{start_stops, wakes, wake_limit, on_recovers}
 use Rattle.bz_sched.proofs.power_on.power_unarmed.Goals as goal
 
 pub returns-then-not-start_recovery : goal.returns-then-not-start_recovery
-returns-then-not-start_recovery c = start_stops None c.args.world.now _ c.args.queue.now _ (c.if-not-start_recovery.ensures.stopped refl)
+returns-then-not-start_recovery c = start_stops None c.args.world.now _ (c.if-not-start_recovery.ensures.stopped refl)
 
 pub recover-requires : goal.recover-requires
-recover-requires c = on_recovers _ _ _ _ (c.start_recovery.ensures.started c.if-not-start_recovery.false)
+recover-requires c = on_recovers _ _ (c.start_recovery.ensures.started c.if-not-start_recovery.false)
 
 pub returns-in-Finished : goal.returns-in-Finished
 returns-in-Finished c =
     let s = c.start_recovery.ensures.started c.if-not-start_recovery.false in
-    let armed : Armed None c.start_recovery.new.queue c.arm.new.self = record { calls = c.arm.ensures.calls; room = c.arm.ensures.room; begun = c.arm.ensures.begun; fuse = c.arm.ensures.fuse } in
-    wakes c.args.world.now c.start_recovery.new.world c.recover.new.world c.args.queue.now c.start_recovery.new.queue c.arm.new.self c.recover.new.queue None c.requires s armed c.in-Finished.ensures.0 None
-    tt c.in-Finished.ensures.1
+    wakes c.args.world.now c.start_recovery.new.world c.recover.new.world None c.recover.new.fuse s c.in-Finished.ensures.0 None tt c.in-Finished.ensures.1
 
 pub returns-in-Stopped-Limit : goal.returns-in-Stopped-Limit
 returns-in-Stopped-Limit c =
     let s = c.start_recovery.ensures.started c.if-not-start_recovery.false in
-    let armed : Armed None c.start_recovery.new.queue c.arm.new.self = record { calls = c.arm.ensures.calls; room = c.arm.ensures.room; begun = c.arm.ensures.begun; fuse = c.arm.ensures.fuse } in
     let e = rw c.in-Stopped-Limit.field-0-is at c.in-Stopped-Limit.ensures in
-    wake_limit c.args.world.now c.start_recovery.new.world c.recover.new.world c.args.queue.now c.start_recovery.new.queue c.arm.new.self c.recover.new.queue None c.requires s armed e.0 None c.in-Stopped-Limit.which
-    tt e.1 e.3 e.4
+    wake_limit c.args.world.now c.start_recovery.new.world c.recover.new.world None c.recover.new.fuse s e.0 None c.in-Stopped-Limit.which tt e.1 e.3 e.4
 
 pub unreachable-requires : goal.unreachable-requires
 unreachable-requires c =
     let e = rw c.in-Stopped-Due.field-0-is at c.in-Stopped-Due.ensures in
-    never_due c.start_recovery.new.world.log.past c.recover.new.world.log.past c.arm.new.self.fuse c.recover.new.queue.fuse c.arm.ensures.fuse e.4.1 e.0.fuse
+    never_due c.start_recovery.new.world.log.past c.recover.new.world.log.past None c.recover.new.fuse refl e.4.1 e.0.burns

@@ -3,7 +3,7 @@ use Rattle.bz_sched.specs.Runs.{marks_left}
 use Rattle.bz_sched.proofs.power_on.recover.Given as goal
 
 abbrev pub invariant-loop-world : goal.invariant-loop-world
-invariant-loop-world l = Waking l.initial.world l.initial.queue l.world l.queue
+invariant-loop-world l = Waking l.initial.world l.initial.fuse l.world l.fuse
 
 abbrev pub decreases-loop-world : goal.decreases-loop-world
 decreases-loop-world l = marks_left l.world

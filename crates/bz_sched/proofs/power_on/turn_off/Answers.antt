@@ -1,25 +1,25 @@
-use Rattle.std.proofs.Common.{refl, inl, inr, sym, ◌∙◌}
+use Rattle.std.proofs.Common.{inl, inr, sym, ◌∙◌}
 use Rattle.bz_world.specs.declared.answers.Applied.TheVariants as applied
 use Rattle.bz_sched.proofs.CutLemmas.{cut_made}
 use Rattle.bz_sched.proofs.RecoveryLemmas.{off_already, off_now, on_is_not_off}
 use Rattle.bz_sched.proofs.power_on.turn_off.Goals as goal
 
 pub returns-in-Off-clause-off : goal.returns-in-Off-clause-off
-returns-in-Off-clause-off c = λ is. off_already c.args.world.now c.args.queue.now c.requires (sym c.power.ensures ∙ c.in-Off.is)
+returns-in-Off-clause-off c = λ is. off_already c.args.world.now (sym c.power.ensures ∙ c.in-Off.is)
 
 pub returns-in-Cut-clause-off : goal.returns-in-Cut-clause-off
 returns-in-Cut-clause-off c = λ is.
     let on = sym c.power.ensures ∙ c.in-On.is in
     elim (cut_made c.args.world.now applied.Cut c.apply.new.self (on_is_not_off c.args.world.now on) c.in-Cut.ensures) [
       | inl none ↦ absurd (let other = none.0 in cc)
-      | inr made ↦ off_now c.args.world.now c.apply.new.self c.args.queue.now c.close_all.new.self c.requires on made.1 c.close_all.ensures.calls c.close_all.ensures.room c.close_all.ensures.closed
+      | inr made ↦ off_now c.args.world.now c.apply.new.self on made.1
     ]
 
 pub returns-in-Limit-clause-refused : goal.returns-in-Limit-clause-refused
 returns-in-Limit-clause-refused c = λ is.
     let on = sym c.power.ensures ∙ c.in-On.is in
     elim (cut_made c.args.world.now applied.Limit c.apply.new.self (on_is_not_off c.args.world.now on) c.in-Limit.ensures) [
-      | inl none ↦ record { none = none.1; queue = refl }
+      | inl none ↦ none.1
       | inr made ↦ absurd (let other = made.0 in cc)
     ]
 
@@ -32,4 +32,4 @@ unreachable-requires c =
     ]
 
 pub unreachable-requires-in-Recovering : goal.unreachable-requires-in-Recovering
-unreachable-requires-in-Recovering c = c.requires.steady (sym c.power.ensures ∙ c.in-Recovering.is)
+unreachable-requires-in-Recovering c = c.requires (sym c.power.ensures ∙ c.in-Recovering.is)

@@ -1,5 +1,5 @@
-use Rattle.std.proofs.Common.{◌≤◌, sym, ap, subst, ◌∙◌, arith}
-use Rattle.bz_index.specs.declared.shared.Origin.{Origin}
+use Rattle.std.proofs.Common.{◌≤◌, sym, ap, subst, arith}
+use Rattle.bz_layout.specs.declared.config.Config.{Config}
 use Rattle.bz_layout.specs.declared.limits.TheConstants.{MAX_WORKERS}
 use Rattle.bz_mark.specs.Log.{Log}
 use Rattle.bz_threads.proofs.Ending.{ended, ended_before, ended_early}
@@ -16,9 +16,9 @@ returns-in-Ok g c =
     let ends = c.in-None.ensures in
     let origin = c.in-Ok.ensures.index in
     let closed = c.close-world.ensures.world.0 in
-    let few = subst (λ (o : Origin). o.config.workers ≤ MAX_WORKERS) (sym (closed ∙ origin)) ends.0.steady.config.workers_in_range.at_most in
+    let few = subst (λ (config : Config). config.workers ≤ MAX_WORKERS) c.config.ensures.config c.config.ensures.in_range.workers_in_range.at_most in
     ended c.args.world c.end_open_calls.new.world c.close-world.result c.args.queue.now c.end_open_calls.new.queue c.clear.new.self c.in-Ok.index c.in-Ok.first c.run_on-end.new.first ends origin c.in-Ok.ensures.pass.2 closed
-    (ap (λ (log : Log). log.past) c.close-world.ensures.log) c.journal.ensures.workers few c.clear.ensures.calls c.clear.ensures.closed (omega (arith, ends.0.room, c.run_on-end.ensures.room, c.clear.ensures.room)) c.run_on-end.result c.run_on-end.ensures.end
+    (ap (λ (log : Log). log.past) c.close-world.ensures.log) c.journal.ensures.workers few c.clear.ensures.calls (omega (arith, ends.0.room, c.run_on-end.ensures.room, c.clear.ensures.room)) c.run_on-end.result c.run_on-end.ensures.end
 
 pub returns-in-Err : goal.returns-in-Err
 returns-in-Err g c =

@@ -1,10 +1,14 @@
-use Rattle.std.proofs.Common.{sym}
-use Rattle.bz_sched.specs.ReadyLaws.{ready_when_on}
+use Rattle.std.proofs.Common.{sym, arith}
 use Rattle.bz_top.proofs.ItemLemmas.{run_done, threads_done, of_turns}
 use Rattle.bz_top.proofs.items.run_plan.Goals as goal
 
 pub run-end-requires : goal.run-end-requires
-run-end-requires g c = record { plan = (c.requires.item.0, of_turns c.args.plan.now (sym c.if-is_on_threads.ensures)); ready = ready_when_on c.args.world c.args.queue.now c.requires.steady c.requires.item.1; cut = c.requires.armed }
+run-end-requires g c = record {
+  powered = c.requires.item.1;
+  workers = let all = c.requires.workers in omega arith;
+  plan = (c.requires.item.0, of_turns c.args.plan.now (sym c.if-is_on_threads.ensures));
+  cut = c.requires.armed;
+}
 
 pub returns-then-is_on_threads : goal.returns-then-is_on_threads
 returns-then-is_on_threads g c = rw c.threads_end.ensures (threads_done c.args.world c.run_threads-world.result.0 c.args.queue.now c.run_threads-world.new.queue c.args.armed c.args.plan.now c.run_threads-world.result.1 (sym c.if-is_on_threads.ensures) c.requires.item.2 c.run_threads-world.ensures)

@@ -1,11 +1,8 @@
 use Rattle.std.proofs.Common.{ap, ◌∙◌, arith, rules, replicate}
-use Rattle.bz_sched.proofs.QueueLemmas.{all_closed, kept_empty}
+use Rattle.bz_sched.proofs.QueueLemmas.{kept_empty}
 use Rattle.bz_sched.proofs.queue.Queue.clear.Goals as goal
 
 pub invariant_of-self : goal.invariant_of-self
 invariant_of-self c =
     kept_empty _ _ _ _ _ c.clear.ensures.items (c.fill.ensures.after (λ y h. search rules) ∙ ap (λ n. replicate n 0) c.self.told.0) (c.fill-2.ensures.after (λ y h. search rules) ∙ ap (λ n. replicate n 0) c.self.told.1)
     (omega (arith, c.clear.ensures.capacity, c.self.invariant.taken))
-
-pub returns-clause-closed : goal.returns-clause-closed
-returns-clause-closed c = λ w. rw (c.fill-3.ensures.after (λ y h. search rules)) (all_closed _ w)

@@ -1,9 +1,6 @@
 use Rattle.std.proofs.Common.{refl, arith}
-use Rattle.bz_sched.proofs.QueueLemmas.{kept_empty, all_closed}
+use Rattle.bz_sched.proofs.QueueLemmas.{kept_empty}
 use Rattle.bz_sched.proofs.queue.Queue.open.Goals as goal
 
 pub invariant_of-result : goal.invariant_of-result
 invariant_of-result c = kept_empty _ _ _ _ _ c.in_ok-with_capacity.ensures.items refl refl (omega (arith, c.in_ok-with_capacity.ensures.exact))
-
-pub returns-clause-closed : goal.returns-clause-closed
-returns-clause-closed c = λ w. all_closed 65 w

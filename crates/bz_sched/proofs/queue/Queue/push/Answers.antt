@@ -5,17 +5,17 @@ use Rattle.bz_sched.proofs.queue.Queue.push.Goals as goal
 
 pub overflow_add-self : goal.overflow_add-self
 overflow_add-self c =
-    let room = rw (← c.self.view_is) at c.requires.room in
-    let few = few_waiting c.self.inside.calls.items c.self.inside.next c.self.inside.waiting _ _ c.args.w c.self.invariant in
+    let room = rw (← c.self.view_is) at c.requires in
+    let few = few_waiting c.self.inside.calls.items c.self.inside.next c.self.inside.counts _ _ c.args.w c.self.invariant in
     grind (arith, common_steps, room, few, c.self.ranges, c.self.invariant.taken)
 
 pub invariant_of-self : goal.invariant_of-self
 invariant_of-self c =
-    let few : c.args.w < length c.self.inside.waiting = omega (arith, c.self.told.1, c.requires.worker) in
-    let room = rw (← c.self.view_is) at c.requires.room in
+    let few : c.args.w < length c.self.inside.counts = omega (arith, c.self.told.1) in
+    let room = rw (← c.self.view_is) at c.requires in
     let fits : length c.self.inside.calls.items < c.self.inside.most = omega (arith, room) in
     let items = rw c.in-Ok.is at c.extend_from_slice.ensures.items in
-    kept_pushed c.self.inside.calls.items _ c.self.inside.next c.self.inside.waiting _ _ _ c.args.w c.args.call c.self.invariant few fits (omega (arith, c.extend_from_slice.ensures.capacity)) items
+    kept_pushed c.self.inside.calls.items _ c.self.inside.next c.self.inside.counts _ _ _ c.args.w c.args.call c.self.invariant few fits (omega (arith, c.extend_from_slice.ensures.capacity)) items
 
 pub returns-clause-calls : goal.returns-clause-calls
 returns-clause-calls c =

@@ -1,0 +1,32 @@
+-- The fuse of an armed cut: how many flushes are made before the one at which the power is cut. No cut is armed where it is None.
+use Rattle.std.specs.Prelude.{◌≡◌, ℕ, zero, ◌+◌, ◌-◌, not, Bool, true, false, List, Option, Some, None}
+use Rattle.bz_call.specs.declared.calls.Call.{Call}
+use Rattle.bz_mark.specs.declared.marks.Mark.{Mark}
+use Rattle.bz_sched.specs.Points.{flushes_of}
+use Rattle.bz_sched.specs.Queued.{Queued}
+
+-- an act may be made: it is no flush, or the power is not cut at the next one
+abbrev pub lets : Option ℕ → Bool → Bool
+lets (Some zero) flush = not flush
+lets fuse flush = true
+
+-- after an act one flush fewer is made, if it was one
+abbrev pub burnt : Bool → Option ℕ → Option ℕ
+burnt false fuse = fuse
+burnt true None = None
+burnt true (Some left) = Some (left - 1)
+
+-- where a cut is armed, the flushes that were made and those that may still be made are as many as before
+abbrev pub Burns : List Mark → Option ℕ → List Mark → Option ℕ → Type 0
+Burns past None new left = left ≡ None
+Burns past (Some some) new None = ⊥
+Burns past (Some some) new (Some fewer) = flushes_of new + fewer ≡ flushes_of past + some
+
+-- a queue in a run: the calls that wait, how many more may come, and the fuse of the run
+pub record Fused : Type 0 where
+  pub calls : List (ℕ × Call)
+  pub room : ℕ
+  pub fuse : Option ℕ
+
+abbrev pub with_fuse : Queued → Option ℕ → Fused
+with_fuse queued fuse = record { calls = queued.calls; room = queued.room; fuse = fuse }

@@ -1,0 +1,25 @@
+//! How many flushes come before an armed cut.
+ghost use Rattle.std.specs.Prelude.{◌≡◌, true};
+ghost use Rattle.bz_sched.specs.Fuses.{lets as may_be_made, burnt};
+
+/// Whether an act may be made: it is no flush, or not the one at which the power is cut.
+pub(crate) fn lets(fuse: Option<u32>, flush: bool) -> bool
+    ensures { result ≡ may_be_made fuse flush }
+{
+    match fuse {
+        Some(0) => !flush,
+        _ => true,
+    }
+}
+
+/// An act was made: where it was a flush, one fewer is made before the cut.
+pub(crate) fn burn(fuse: &mut Option<u32>, flush: bool)
+    requires { may_be_made fuse.old flush ≡ true }
+    ensures { fuse.new ≡ burnt flush fuse.old }
+{
+    if flush {
+        if let Some(left) = *fuse {
+            *fuse = Some(left - 1);
+        }
+    }
+}
