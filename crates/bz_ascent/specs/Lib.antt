@@ -1,3 +1,4 @@
 pub mod Full
 pub mod Ascents
 pub mod Laws
+pub mod FromBelow

@@ -6,3 +6,4 @@ mod ascent;
 pub mod laws;
 
 pub use ascent::Ascent;
+pub use bz_below::{SplitBelow, is_due as is_due_below};

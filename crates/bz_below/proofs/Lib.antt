@@ -13,3 +13,4 @@ mod Writing
 mod Naming
 mod Viewing
 mod NewParents
+pub mod FromSplit

@@ -33,8 +33,8 @@ use Rattle.bz_renew.proofs.FreshSlots.{outside-tree, fresh-unchanged, raw-stays,
 use Rattle.bz_renew.proofs.Inserting.{all-inserted-first, all-inserted-others}
 use Rattle.bz_renew.proofs.TwoEntries.{both-stand}
 use Rattle.bz_renew.proofs.Words.{or-right}
-use Rattle.bz_split.specs.BelowSplits.{parent_freezing}
-use Rattle.bz_split.specs.RootSplits.{AreFreshThree}
+use Rattle.bz_below.specs.FromSplit.BelowSplits.{parent_freezing}
+use Rattle.bz_below.specs.FromSplit.RootSplits.{AreFreshThree}
 use Rattle.bz_branch.specs.Nodes.{IsOpenLink}
 use Rattle.bz_branch.specs.InnerSplits.{both_freezings, inner_swap, IsInnerSplit, InnerSplitsAreGood}
 use Rattle.bz_branch.proofs.Standing.{guard-is, node-below, same-place, same-words}

@@ -8,3 +8,4 @@ mod Fronts
 mod Halving
 pub mod Staying
 pub mod Paths
+pub mod FromSplit

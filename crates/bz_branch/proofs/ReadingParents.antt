@@ -30,7 +30,7 @@ use Rattle.bz_task.specs.declared.path.Link.{Link}
 use Rattle.bz_renew.specs.Standing.{StillLeads, GuardedLinksStand}
 use Rattle.bz_branch.proofs.OpenNodes.{Laws as Basis, IsOpen, fits, below_top, inside, alike, high_up, no-fault}
 use Rattle.bz_renew.proofs.Words.{node-at, node-past}
-use Rattle.bz_split.specs.BelowSplits.{AreLinksDown}
+use Rattle.bz_below.specs.FromSplit.BelowSplits.{AreLinksDown}
 use Rattle.bz_below.specs.Parents.{WasWord, WereRead, WasParent}
 use Rattle.bz_branch.specs.Nodes.{ParentsOfNodesWere}
 

@@ -32,7 +32,7 @@ use Rattle.bz_renew.proofs.Freezings.{renewal-holds}
 use Rattle.bz_renew.proofs.FreshSlots.{outside-tree, fresh-unchanged, raw-stays, durable-stays}
 use Rattle.bz_renew.proofs.Inserting.{all-inserted-first}
 use Rattle.bz_renew.proofs.TwoEntries.{both-stand}
-use Rattle.bz_split.specs.BelowSplits.{parent_freezing, below_swap}
+use Rattle.bz_below.specs.FromSplit.BelowSplits.{parent_freezing, below_swap}
 use Rattle.bz_branch.specs.RootSplits.{IsInnerRootSplit, InnerRootSplitsAreGood}
 use Rattle.bz_branch.proofs.InnerSplitting.{among-three, first-in}
 use Rattle.bz_branch.proofs.Standing.{guard-is, node-below, then-good, then-inside, same-place, same-words}

@@ -10,7 +10,7 @@ use Rattle.bz_task.specs.Outcomes.{IsUnderNode, IsGuarded}
 use Rattle.bz_task.specs.Requests.{IsPointerPlace}
 use Rattle.bz_task.specs.Scene.{Past, Continues}
 use Rattle.bz_task.specs.declared.path.Link.{Link}
-use Rattle.bz_split.specs.BelowSplits.{AreLinksDown}
+use Rattle.bz_below.specs.FromSplit.BelowSplits.{AreLinksDown}
 use Rattle.bz_below.specs.Parents.{WasWord, WereRead, IsParentOf, WasParent}
 use Rattle.bz_branch.specs.Nodes.{IsOpenLink, IsInnerNode, WasInner}
 use Rattle.bz_branch.specs.Parts.{AreHalvesOfNode}

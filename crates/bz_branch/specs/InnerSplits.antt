@@ -10,8 +10,8 @@ use Rattle.bz_task.specs.Scene.{Scene, IsScene, here}
 use Rattle.bz_task.specs.Swaps.{Change, Stand, SwapsTo, IsGoodSwap}
 use Rattle.bz_task.specs.declared.path.Link.{Link}
 use Rattle.bz_renew.specs.Freezings.{Freezing, renewal_with}
-use Rattle.bz_split.specs.BelowSplits.{parent_freezing, AreLinksDown}
-use Rattle.bz_split.specs.RootSplits.{AreFreshThree, StandsReady}
+use Rattle.bz_below.specs.FromSplit.BelowSplits.{parent_freezing, AreLinksDown}
+use Rattle.bz_below.specs.FromSplit.RootSplits.{AreFreshThree, StandsReady}
 use Rattle.bz_branch.specs.Nodes.{IsOpenLink}
 
 -- the node, to which the middle link leads, and its status as it was read before the lower link, that to a child of it; and the

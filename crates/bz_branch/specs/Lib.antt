@@ -3,3 +3,5 @@ pub mod InnerSplits
 pub mod Nodes
 pub mod Parts
 pub mod RootSplits
+pub mod FromBelow
+pub mod FromSplit

@@ -14,7 +14,7 @@ use Rattle.bz_task.specs.Instant.{words, form_at, is_inside}
 use Rattle.bz_task.specs.Outcomes.{IsGuarded, IsUnderNode}
 use Rattle.bz_task.specs.Scene.{Past, Scene, IsScene, here}
 use Rattle.bz_task.specs.declared.path.Link.{Link}
-use Rattle.bz_split.specs.BelowSplits.{AreLinksDown}
+use Rattle.bz_below.specs.FromSplit.BelowSplits.{AreLinksDown}
 use Rattle.bz_below.specs.Parents.{WereRead, WasParent}
 
 -- these are the words of an inner node that breaks no rule at this level between these bounds; they are read as its children

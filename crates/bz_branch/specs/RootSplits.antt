@@ -8,8 +8,8 @@ use Rattle.bz_task.specs.Outcomes.{IsUnderRoot}
 use Rattle.bz_task.specs.Scene.{Scene, IsScene, here}
 use Rattle.bz_task.specs.Swaps.{Change, Stand, SwapsTo, IsGoodSwap}
 use Rattle.bz_task.specs.declared.path.Link.{Link}
-use Rattle.bz_split.specs.BelowSplits.{below_swap}
-use Rattle.bz_split.specs.RootSplits.{AreFreshThree, StandsReady}
+use Rattle.bz_below.specs.FromSplit.BelowSplits.{below_swap}
+use Rattle.bz_below.specs.FromSplit.RootSplits.{AreFreshThree, StandsReady}
 use Rattle.bz_branch.specs.Nodes.{IsOpenLink}
 
 -- three slots are the worker's own and durable: the new root, which breaks no rule one level above that of the node, and has the

@@ -12,3 +12,4 @@ pub mod Swaps
 pub mod TwoLevels
 pub mod View
 pub mod WorkedInsert
+pub mod FromSwap

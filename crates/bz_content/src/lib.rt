@@ -4,4 +4,5 @@
 pub mod laws;
 mod outcomes;
 
+pub use bz_swap::EntryList;
 pub use outcomes::{CheckError, Shape};

@@ -42,9 +42,9 @@ use Rattle.bz_parted.specs.Laws.{IsTallRoot, RootsStandAtLevels}
 use Rattle.bz_parted.specs.Roots.{tall_root_words}
 use Rattle.bz_branch.specs.RootSplits.{AreReadyInnerHalves, IsInnerRootSplit, InnerRootSplitsAreGood}
 use Rattle.bz_crown.specs.Facts.{Crown, crown_nodes, HasLinks, IsPlan, IsSplitting, WasSplitAtRoot, crown_asks, crown_facts, crown_differs}
-use Rattle.bz_split.specs.BelowSplits.{parent_freezing, below_swap}
-use Rattle.bz_split.specs.Facts.{SPLIT_WORDS, SPLIT_LINES, StoodFresh, split_change}
-use Rattle.bz_split.specs.RootSplits.{AreFreshThree}
+use Rattle.bz_branch.specs.FromSplit.BelowSplits.{parent_freezing, below_swap}
+use Rattle.bz_branch.specs.FromSplit.Facts.{SPLIT_WORDS, SPLIT_LINES, StoodFresh, split_change}
+use Rattle.bz_branch.specs.FromSplit.RootSplits.{AreFreshThree}
 use Rattle.bz_crown.specs.declared.phase.Phase.{Phase}
 use Rattle.bz_crown.specs.declared.phase.Phase.TheVariants.{Fresh, Word, Again, Guard, Store, Flush, Swap, Done, Restart, TooHigh, NoSlot, NoSwap}
 use Rattle.bz_branch.proofs.Standing.{guard-is, node-below}

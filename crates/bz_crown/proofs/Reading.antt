@@ -16,7 +16,7 @@ use Rattle.bz_task.specs.declared.todo.Seen.{Seen}
 use Rattle.bz_task.specs.declared.todo.Seen.TheVariants.{Start, Read as Was, Stored, Flushed, Swapped, NoSwap as NoneLeft}
 use Rattle.bz_renew.proofs.Words.{node-at}
 use Rattle.bz_crown.specs.Facts.{Crown, IsReading, crown_asks, crown_left, crown_needs, crown_facts, word_after, IsReadyCrown}
-use Rattle.bz_below.specs.Parents.{WasWord}
+use Rattle.bz_branch.specs.FromBelow.Parents.{WasWord}
 use Rattle.bz_crown.specs.declared.phase.Phase.{Phase}
 use Rattle.bz_crown.specs.declared.phase.Phase.TheVariants.{Fresh, Word, Again}
 use Rattle.bz_crown.proofs.Acting.{upper-slot}

@@ -12,8 +12,8 @@ use Rattle.bz_renew.specs.Guards.{WasAsRead}
 use Rattle.bz_renew.proofs.Guards.{as-read-stays}
 use Rattle.bz_renew.proofs.NodeWrites.{nodes-stay, begun-stays, nodes-no-slot, begun-no-slot}
 use Rattle.bz_renew.proofs.Staying.{guarded-stays}
-use Rattle.bz_split.specs.Facts.{SPLIT_WORDS, SPLIT_LINES}
-use Rattle.bz_split.proofs.Staying.{stood-stays}
+use Rattle.bz_branch.specs.FromSplit.Facts.{SPLIT_WORDS, SPLIT_LINES}
+use Rattle.bz_branch.proofs.FromSplit.Staying.{stood-stays}
 use Rattle.bz_branch.specs.Parts.{AreHalvesOfNode}
 use Rattle.bz_branch.proofs.Staying.{open-stays, open-guarded, read-stays, inner-stays, halves-stay}
 use Rattle.bz_crown.specs.Facts.{Crown, crown_nodes, HasLinks, IsReading, IsPlan, WasTooHigh, IsSplitting, WasSplitAtRoot, crown_facts}

@@ -12,7 +12,7 @@ use Rattle.bz_task.specs.Requests.{Hears, Tells}
 use Rattle.bz_task.specs.Scene.{Scene, Stage, Waiting, Took, IsScene, HasFilled, here}
 use Rattle.bz_task.specs.declared.todo.Seen.{Seen}
 use Rattle.bz_task.specs.declared.todo.Seen.TheVariants.{Read as Was}
-use Rattle.bz_below.specs.Parents.{WereRead}
+use Rattle.bz_branch.specs.FromBelow.Parents.{WereRead}
 use Rattle.bz_branch.specs.Nodes.{WasInner, ReadNodesWere}
 use Rattle.bz_crown.specs.Facts.{Crown, IsReading, HasTold, crown_asks, crown_left, crown_needs, crown_facts, IsReadyCrown}
 use Rattle.bz_crown.specs.declared.phase.Phase.{Phase}

@@ -15,7 +15,7 @@ use Rattle.bz_renew.specs.Renewals.{link_entry, guard_entry, IsTurnable, LinksMa
 use Rattle.bz_renew.proofs.NodeWrites.{all-begun}
 use Rattle.bz_renew.proofs.TwoEntries.{no-target}
 use Rattle.bz_crown.specs.Facts.{Crown, crown_nodes, IsSplitting, IsSwapReady, crown_asks, crown_facts, store_after, flush_after, IsReadyCrown}
-use Rattle.bz_split.specs.Facts.{SPLIT_WORDS, SPLIT_LINES}
+use Rattle.bz_branch.specs.FromSplit.Facts.{SPLIT_WORDS, SPLIT_LINES}
 use Rattle.bz_crown.specs.declared.phase.Phase.{Phase}
 use Rattle.bz_crown.specs.declared.phase.Phase.TheVariants.{Store, Flush, Swap, Done}
 use Rattle.bz_crown.proofs.Acting.{upper-slot, link-apart, guard-apart}

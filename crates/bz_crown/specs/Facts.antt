@@ -25,9 +25,9 @@ use Rattle.bz_parted.specs.Roots.{tall_root_words}
 use Rattle.bz_renew.specs.Guards.{WasAsRead}
 use Rattle.bz_renew.specs.Nodes.{Nodes, word_address, word_value, line_number, AreWriting, ArePlain, HaveSlots, HasFilledBegun, AreSlotsTaken}
 use Rattle.bz_renew.specs.Renewals.{renewal}
-use Rattle.bz_split.specs.BelowSplits.{below_swap}
-use Rattle.bz_split.specs.Facts.{SPLIT_WORDS, SPLIT_LINES, StoodFresh}
-use Rattle.bz_below.specs.Parents.{WereRead}
+use Rattle.bz_branch.specs.FromSplit.BelowSplits.{below_swap}
+use Rattle.bz_branch.specs.FromSplit.Facts.{SPLIT_WORDS, SPLIT_LINES, StoodFresh}
+use Rattle.bz_branch.specs.FromBelow.Parents.{WereRead}
 use Rattle.bz_branch.specs.Nodes.{IsOpenLink, WasInner}
 use Rattle.bz_branch.specs.Parts.{IsFullNode, AreHalvesOfNode, ArePartsOfNode}
 use Rattle.bz_crown.specs.declared.phase.Phase.{Phase}

@@ -10,7 +10,7 @@ ghost use Rattle.bz_task.specs.OwnActs.{AreTakenFrom, AreUnreached, gained};
 ghost use Rattle.bz_task.specs.Requests.{Hears, Tells, IsKnown};
 ghost use Rattle.bz_task.specs.Scene.{Scene, Stage, Waiting, IsScene};
 ghost use Rattle.bz_task.specs.declared.todo.Seen.TheVariants.{Read as Was, Swapped, NoSwap as NoneLeft};
-ghost use Rattle.bz_split.specs.Facts.{split_change};
+ghost use Rattle.bz_branch.specs.FromSplit.Facts.{split_change};
 ghost use Rattle.bz_crown.specs.Due.{IsDue};
 ghost use Rattle.bz_crown.specs.Duties.{crown_of, asks_crown, end_crown, left_crown, needs_crown, facts_crown, differs_crown};
 ghost use Rattle.bz_crown.specs.Facts.{crown_nodes, crown_acts, crown_left, crown_facts, crown_means, HasBegunCrown, HasLookedCrown, HasTold, AreMadeOf, IsReadyCrown, IsSplittable, WasSplitAtRoot, WasTooHigh, crown_needs, word_after, store_after, flush_after};

@@ -42,9 +42,9 @@ use Rattle.bz_renew.proofs.TwoEntries.{all-two, sets-first}
 use Rattle.bz_renew.proofs.Words.{node-at, node-past}
 use Rattle.bz_branch.specs.InnerSplits.{inner_swap, AreReadyInner, IsInnerSplit, InnerSplitsAreGood}
 use Rattle.bz_fork.specs.Facts.{Fork, fork_nodes, HasLinks, IsPlan, IsSplitting, WasSplitInner, parent_words, fork_asks, fork_facts, fork_differs}
-use Rattle.bz_split.specs.BelowSplits.{parent_freezing}
-use Rattle.bz_split.specs.Facts.{SPLIT_WORDS, SPLIT_LINES, StoodFresh, split_change}
-use Rattle.bz_split.specs.RootSplits.{AreFreshThree}
+use Rattle.bz_branch.specs.FromSplit.BelowSplits.{parent_freezing}
+use Rattle.bz_branch.specs.FromSplit.Facts.{SPLIT_WORDS, SPLIT_LINES, StoodFresh, split_change}
+use Rattle.bz_branch.specs.FromSplit.RootSplits.{AreFreshThree}
 use Rattle.bz_fork.specs.declared.phase.Phase.{Phase}
 use Rattle.bz_fork.specs.declared.phase.Phase.TheVariants.{Fresh, Word, Again, Above, Check, Guard, Store, Flush, Swap, Done, Restart, NoRoom, NoSlot, NoSwap}
 use Rattle.bz_branch.specs.Nodes.{IsOpenLink}

@@ -7,7 +7,7 @@ use Rattle.bz_task.specs.Requests.{Hears, Tells}
 use Rattle.bz_task.specs.Scene.{Scene, Stage, Waiting, Took}
 use Rattle.bz_task.specs.declared.todo.Seen.{Seen}
 use Rattle.bz_task.specs.declared.todo.Seen.TheVariants.{Start, Read as Was, Stored, Flushed, Swapped, NoSwap as NoneLeft}
-use Rattle.bz_split.specs.Facts.{SPLIT_WORDS, SPLIT_LINES}
+use Rattle.bz_branch.specs.FromSplit.Facts.{SPLIT_WORDS, SPLIT_LINES}
 use Rattle.bz_fork.specs.Facts.{Fork, fork_asks, fork_facts, fork_left, fork_needs, store_after, flush_after, swap_after, IsReadyFork}
 use Rattle.bz_fork.specs.declared.phase.Phase.{Phase}
 use Rattle.bz_fork.specs.declared.phase.Phase.TheVariants.{Fresh, Word, Again, Above, Check, Guard, Store, Flush, Swap, Done, Restart, NoRoom, NoSlot, NoSwap}

@@ -18,7 +18,7 @@ use Rattle.bz_renew.proofs.Guards.{answered-as-read}
 use Rattle.bz_halves.specs.Parents.{ChildrenMayBeParted}
 use Rattle.bz_renew.specs.Renewals.{LinksMayBeTurned}
 use Rattle.bz_renew.specs.Standing.{GuardedLinksStand}
-use Rattle.bz_below.specs.Facts.{HasRoom, HasParent}
+use Rattle.bz_branch.specs.FromBelow.Facts.{HasRoom, HasParent}
 use Rattle.bz_branch.specs.Parts.{ArePartsOfNode}
 use Rattle.bz_fork.specs.Facts.{Fork, fork_nodes, HasLinks, IsPlan, IsPlanned, AreClear, HasPlace, HasBegunFork, HasLookedFork, fork_asks, fork_left, fork_needs, fork_facts, IsReadyFork}
 use Rattle.bz_fork.specs.declared.phase.Phase.{Phase}

@@ -15,7 +15,7 @@ use Rattle.bz_renew.specs.Guards.{WasAsRead}
 use Rattle.bz_renew.specs.Nodes.{ArePlain, HaveSlots, HasFilledBegun}
 use Rattle.bz_renew.proofs.NodeWrites.{nodes-taken, none-begun}
 use Rattle.bz_renew.proofs.Plainness.{IsPlain, inner-plain}
-use Rattle.bz_below.specs.Facts.{IsNewParent}
+use Rattle.bz_branch.specs.FromBelow.Facts.{IsNewParent}
 use Rattle.bz_branch.specs.Parts.{AreHalvesOfNode}
 use Rattle.bz_fork.specs.Facts.{Fork, fork_nodes, IsPlanned, AreClear, IsSplitting, AreMadeOf, HasBegunFork, parent_words, fork_facts}
 use Rattle.bz_fork.specs.declared.phase.Phase.{Phase}

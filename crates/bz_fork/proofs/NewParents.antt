@@ -12,8 +12,8 @@ use Rattle.bz_slotted.specs.ReadingLaws.{node_of, HighFencesAreRead}
 use Rattle.bz_slotted.specs.Rules.{node_fault}
 use Rattle.bz_halves.specs.Parents.{parted, parted_words, MayPart, ChildrenMayBeParted}
 use Rattle.bz_halves.proofs.PartedChildren.{children-count, child-read}
-use Rattle.bz_below.specs.Facts.{HasRoom, HasParent, IsNewParent}
-use Rattle.bz_below.specs.Parents.{IsParentOf}
+use Rattle.bz_branch.specs.FromBelow.Facts.{HasRoom, HasParent, IsNewParent}
+use Rattle.bz_branch.specs.FromBelow.Parents.{IsParentOf}
 
 -- what the code reads of a node, where it breaks no rule at a level between bounds
 pub record FrontIs (read : List ℕ) (level : ℕ) (low high : Option (List ℕ)) : Type 0 where

@@ -16,7 +16,7 @@ use Rattle.bz_task.specs.declared.todo.Seen.{Seen}
 use Rattle.bz_task.specs.declared.todo.Seen.TheVariants.{Start, Read as Was, Stored, Flushed, Swapped, NoSwap as NoneLeft}
 use Rattle.bz_renew.proofs.Words.{node-at}
 use Rattle.bz_fork.specs.Facts.{Fork, IsReading, fork_asks, fork_left, fork_needs, fork_facts, word_after, IsReadyFork}
-use Rattle.bz_below.specs.Parents.{WasWord}
+use Rattle.bz_branch.specs.FromBelow.Parents.{WasWord}
 use Rattle.bz_fork.specs.declared.phase.Phase.{Phase}
 use Rattle.bz_fork.specs.declared.phase.Phase.TheVariants.{Fresh, Word, Again}
 use Rattle.bz_fork.proofs.Acting.{middle-slot}

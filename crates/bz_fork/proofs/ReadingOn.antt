@@ -11,7 +11,7 @@ use Rattle.bz_task.specs.Requests.{Hears, Tells}
 use Rattle.bz_task.specs.Scene.{Scene, Stage, Waiting, Took, IsScene, HasFilled, here}
 use Rattle.bz_task.specs.declared.todo.Seen.{Seen}
 use Rattle.bz_task.specs.declared.todo.Seen.TheVariants.{Read as Was}
-use Rattle.bz_below.specs.Parents.{WereRead}
+use Rattle.bz_branch.specs.FromBelow.Parents.{WereRead}
 use Rattle.bz_branch.specs.Nodes.{WasInner, ReadNodesWere}
 use Rattle.bz_fork.specs.Facts.{Fork, IsReading, IsReadingAbove, HasRead, fork_asks, fork_left, fork_needs, fork_facts, IsReadyFork}
 use Rattle.bz_fork.specs.declared.phase.Phase.{Phase}

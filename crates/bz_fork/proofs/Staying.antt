@@ -13,9 +13,9 @@ use Rattle.bz_task.specs.declared.path.Link.{Link}
 use Rattle.bz_renew.specs.Guards.{WasAsRead}
 use Rattle.bz_renew.proofs.Guards.{as-read-stays}
 use Rattle.bz_renew.proofs.NodeWrites.{nodes-stay, begun-stays, nodes-no-slot, begun-no-slot}
-use Rattle.bz_split.specs.Facts.{SPLIT_WORDS, SPLIT_LINES}
-use Rattle.bz_split.proofs.Staying.{stood-stays}
-use Rattle.bz_below.specs.Facts.{LackedRoom}
+use Rattle.bz_branch.specs.FromSplit.Facts.{SPLIT_WORDS, SPLIT_LINES}
+use Rattle.bz_branch.proofs.FromSplit.Staying.{stood-stays}
+use Rattle.bz_branch.specs.FromBelow.Facts.{LackedRoom}
 use Rattle.bz_branch.specs.Parts.{AreHalvesOfNode}
 use Rattle.bz_branch.proofs.Staying.{open-stays, open-guarded, links-stay, links-guarded, links-child, read-stays, inner-stays, parent-stays, halves-stay}
 use Rattle.bz_fork.specs.Facts.{Fork, fork_nodes, HasLinks, IsReading, IsReadingAbove, IsPlan, LackedPart, AreClear, IsSplitting, WasSplitInner, fork_facts}

@@ -15,7 +15,7 @@ use Rattle.bz_task.specs.Scene.{Scene, Stage, Waiting, Took, IsScene, HasFilled,
 use Rattle.bz_task.specs.declared.todo.Seen.{Seen}
 use Rattle.bz_task.specs.declared.todo.Seen.TheVariants.{Read as Was}
 use Rattle.bz_renew.specs.Standing.{StillLeads, GuardedLinksStand}
-use Rattle.bz_below.specs.Parents.{WereRead, WasParent}
+use Rattle.bz_branch.specs.FromBelow.Parents.{WereRead, WasParent}
 use Rattle.bz_branch.specs.Nodes.{ParentsOfNodesWere}
 use Rattle.bz_branch.specs.Parts.{AreHalvesOfNode}
 use Rattle.bz_fork.specs.Facts.{Fork, IsReadingAbove, HasNode, HasTold, fork_asks, fork_left, fork_needs, fork_facts, IsReadyFork}

@@ -15,12 +15,12 @@ use Rattle.bz_task.specs.declared.path.Link.{Link}
 use Rattle.bz_renew.specs.Freezings.{renewal_with}
 use Rattle.bz_renew.specs.Nodes.{HaveSlots}
 use Rattle.bz_renew.proofs.Freezings.{far-target, slot-far}
-use Rattle.bz_split.specs.BelowSplits.{parent_freezing}
+use Rattle.bz_branch.specs.FromSplit.BelowSplits.{parent_freezing}
 use Rattle.bz_renew.specs.Renewals.{link_entry, guard_entry, IsTurnable, LinksMayBeTurned}
 use Rattle.bz_renew.proofs.NodeWrites.{all-begun}
 use Rattle.bz_renew.proofs.TwoEntries.{no-target}
 use Rattle.bz_fork.specs.Facts.{AreClear, Fork, fork_nodes, IsSplitting, IsSwapReady, fork_asks, fork_facts, store_after, flush_after, IsReadyFork}
-use Rattle.bz_split.specs.Facts.{SPLIT_WORDS, SPLIT_LINES}
+use Rattle.bz_branch.specs.FromSplit.Facts.{SPLIT_WORDS, SPLIT_LINES}
 use Rattle.bz_fork.specs.declared.phase.Phase.{Phase}
 use Rattle.bz_fork.specs.declared.phase.Phase.TheVariants.{Store, Flush, Swap}
 use Rattle.bz_fork.proofs.Acting.{upper-slot, middle-slot}

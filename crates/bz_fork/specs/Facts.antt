@@ -26,10 +26,10 @@ use Rattle.bz_renew.specs.Freezings.{renewal_with}
 use Rattle.bz_renew.specs.Guards.{WasAsRead}
 use Rattle.bz_renew.specs.Nodes.{Nodes, word_address, word_value, line_number, AreWriting, ArePlain, HaveSlots, HasFilledBegun, AreSlotsTaken}
 use Rattle.bz_renew.specs.Renewals.{renewal}
-use Rattle.bz_split.specs.BelowSplits.{AreLinksDown, parent_freezing}
-use Rattle.bz_split.specs.Facts.{SPLIT_WORDS, SPLIT_LINES, StoodFresh}
-use Rattle.bz_below.specs.Facts.{HasRoom, HasParent, IsNewParent, LackedRoom}
-use Rattle.bz_below.specs.Parents.{WereRead, WasParent}
+use Rattle.bz_branch.specs.FromSplit.BelowSplits.{AreLinksDown, parent_freezing}
+use Rattle.bz_branch.specs.FromSplit.Facts.{SPLIT_WORDS, SPLIT_LINES, StoodFresh}
+use Rattle.bz_branch.specs.FromBelow.Facts.{HasRoom, HasParent, IsNewParent, LackedRoom}
+use Rattle.bz_branch.specs.FromBelow.Parents.{WereRead, WasParent}
 use Rattle.bz_branch.specs.InnerSplits.{inner_swap}
 use Rattle.bz_branch.specs.Nodes.{IsOpenLink, WasInner}
 use Rattle.bz_branch.specs.Parts.{IsFullNode, AreHalvesOfNode, ArePartsOfNode}

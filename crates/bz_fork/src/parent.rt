@@ -1,7 +1,7 @@
 //! The new parent, with the halves of a node in the node's place.
 
 ghost use Rattle.std.specs.Prelude.{◌≡◌, ◌↔◌, ℕ, IsSome, IfSome};
-ghost use Rattle.bz_below.specs.Facts.{HasRoom, HasParent, IsNewParent};
+ghost use Rattle.bz_branch.specs.FromBelow.Facts.{HasRoom, HasParent, IsNewParent};
 
 use bz_branch::{level_of, low_fence};
 use bz_halves::{ParentChange, parent_over, place_of};

@@ -9,7 +9,7 @@ ghost use Rattle.bz_task.specs.OwnActs.{AreTakenFrom, AreUnreached, gained};
 ghost use Rattle.bz_task.specs.Requests.{Hears, Tells, IsKnown};
 ghost use Rattle.bz_task.specs.Scene.{Scene, Stage, Waiting, IsScene};
 ghost use Rattle.bz_task.specs.declared.todo.Seen.TheVariants.{Read as Was, Swapped, NoSwap as NoneLeft};
-ghost use Rattle.bz_split.specs.Facts.{split_change};
+ghost use Rattle.bz_branch.specs.FromSplit.Facts.{split_change};
 ghost use Rattle.bz_fork.specs.Due.{IsDue};
 ghost use Rattle.bz_fork.specs.Duties.{fork_of, asks_fork, end_fork, left_fork, needs_fork, facts_fork, differs_fork};
 ghost use Rattle.bz_fork.specs.Facts.{fork_nodes, fork_acts, fork_left, fork_facts, fork_means, HasBegunFork, HasLookedFork, HasRead, HasTold, AreMadeOf, HasNode, HasPlace, IsReadyFork, WasSplitInner, LackedPart, fork_needs, word_after, above_after, store_after, flush_after, swap_after};

@@ -4,3 +4,4 @@ pub mod Passes
 pub mod Calls
 pub mod Meaning
 pub mod Inside
+pub mod FromWorld

@@ -7,3 +7,4 @@ pub mod OwnFreezes
 pub mod Plans
 pub mod Siblings
 pub mod Thawed
+pub mod FromSplit

@@ -12,5 +12,6 @@ mod seen;
 mod sibling;
 mod slots;
 
+pub use bz_split::SplitRoot;
 pub use due::is_due;
 pub use merge::Merge;

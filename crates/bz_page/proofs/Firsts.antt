@@ -10,7 +10,7 @@ use Rattle.std.proofs.lemmas.Cmp.{nat_list_cmp_total, tied_itself}
 use Rattle.std.proofs.lemmas.List.{get_or-map, length-map}
 use Rattle.std.proofs.lemmas.Slice.Eq.{bytes_eq-Decides}
 use Rattle.bz_call.specs.Pages.{is_from}
-use Rattle.bz_content.specs.Content.{content_in}
+use Rattle.bz_task.specs.FromContent.Content.{content_in}
 use Rattle.bz_layout.specs.declared.sizes.TheConstants.{NODE_WORDS}
 use Rattle.bz_node.specs.Records.{IsBefore, AreRising, keys_of}
 use Rattle.bz_slotted.specs.Page.{page}

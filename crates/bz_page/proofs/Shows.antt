@@ -9,7 +9,7 @@ use Rattle.std.specs.declared.cmp.Ordering.{Ordering}
 use Rattle.std.specs.declared.cmp.Ordering.TheVariants.{Less, Equal, Greater}
 use Rattle.std.proofs.lemmas.Bool.{true≢false}
 use Rattle.bz_call.specs.Pages.{is_from}
-use Rattle.bz_content.specs.Content.{content_in}
+use Rattle.bz_task.specs.FromContent.Content.{content_in}
 use Rattle.bz_layout.specs.declared.sizes.TheConstants.{NODE_WORDS}
 use Rattle.bz_node.specs.Reading.{AreInKeyOrder, pairs_in, high_in}
 use Rattle.bz_shape.specs.Form.{Holds}

@@ -16,9 +16,9 @@ use Rattle.bz_slotted.specs.Whole.{Whole}
 use Rattle.bz_word.specs.Statuses.{status}
 use Rattle.bz_word.specs.declared.meta.Meta.{Meta}
 use Rattle.bz_word.specs.declared.meta.Meta.TheVariants.{Unused, Reserved, Visible, Deleted}
-use Rattle.bz_content.specs.Content.{view_in, content_in, leaf_in}
-use Rattle.bz_content.specs.Image.{node}
-use Rattle.bz_content.specs.Laws.{WellFormedImagesHaveNoFault}
+use Rattle.bz_task.specs.FromContent.Content.{view_in, content_in, leaf_in}
+use Rattle.bz_task.specs.FromContent.Image.{node}
+use Rattle.bz_task.specs.FromContent.Laws.{WellFormedImagesHaveNoFault}
 use Rattle.bz_task.specs.Good.{IsGood}
 use Rattle.bz_task.specs.Instant.{words, durable, form_at}
 use Rattle.bz_task.specs.Laws.{IsLeafInTree, LeavesAreInTrees, SeenLeavesAreWhole, SameRecordsShowTheSame}

@@ -4,7 +4,7 @@ use Rattle.std.specs.Cmp.Lexicographic.{slice_cmp}
 use Rattle.std.specs.FinMap.{find, is_sorted}
 use Rattle.std.specs.Ordering.{nat_cmp}
 use Rattle.bz_call.specs.Pages.{is_from}
-use Rattle.bz_content.specs.Content.{content_in, leaf_end_in}
+use Rattle.bz_task.specs.FromContent.Content.{content_in, leaf_end_in}
 use Rattle.bz_layout.specs.declared.config.Config.{Config}
 use Rattle.bz_node.specs.Reading.{AreInKeyOrder}
 use Rattle.bz_shape.specs.Order.{is_below}

@@ -2,10 +2,9 @@
 
 ghost use Rattle.bz_page.specs.Laws.{ViewsSayWhatImagesSay, OrderedPairsAreFound};
 
-use bz_content::laws as content;
 use bz_shape::laws as shape;
 use bz_slotted::laws as slotted;
-use bz_task::laws as task;
+use bz_task::{content_laws as content, laws as task};
 
 /// The leaf that a view shows is the key's, and the view says of each key what the image of its moment says there, and has
 /// as many live words.

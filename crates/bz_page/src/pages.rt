@@ -2,7 +2,7 @@
 
 ghost use Rattle.std.specs.Prelude.{◌≡◌, ℕ, List, Option, None, length, slice_get};
 ghost use Rattle.bz_layout.specs.declared.sizes.TheConstants.{NODE_WORDS};
-ghost use Rattle.bz_content.specs.Content.{content_in};
+ghost use Rattle.bz_task.specs.FromContent.Content.{content_in};
 ghost use Rattle.bz_slotted.specs.Page.{page as page_of};
 ghost use Rattle.bz_slotted.specs.ReadingLaws.{node_of};
 ghost use Rattle.bz_slotted.specs.Readers.{found_of, live_of};
@@ -37,7 +37,7 @@ pub fn collect(view: &LeafView, from: &Key, out: &mut PageBuf) -> Option<Key>
     laws::leaves_are_in_trees();
     laws::seen_leaves_are_whole();
     laws::same_records_show_the_same();
-    bz_content::laws::well_formed_images_have_no_fault();
+    bz_task::content_laws::well_formed_images_have_no_fault();
     bz_shape::laws::leaves_tile_the_keys();
     bz_slotted::laws::leaf_rules_are_facts();
     bz_slotted::laws::found_keys_are_in_range();
@@ -59,7 +59,7 @@ pub fn find(view: &LeafView, key: &Key, page: &mut PageBuf) -> Option<Payload>
     laws::leaves_are_in_trees();
     laws::seen_leaves_are_whole();
     laws::same_records_show_the_same();
-    bz_content::laws::well_formed_images_have_no_fault();
+    bz_task::content_laws::well_formed_images_have_no_fault();
     bz_shape::laws::leaves_tile_the_keys();
     bz_slotted::laws::leaf_rules_are_facts();
     bz_slotted::laws::whole_leaves_are_readable();

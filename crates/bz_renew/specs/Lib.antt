@@ -9,3 +9,4 @@ pub mod Sorted
 pub mod Standing
 pub mod Turning
 pub mod Writing
+pub mod FromPage

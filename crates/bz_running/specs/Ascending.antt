@@ -3,7 +3,7 @@ use Rattle.std.specs.Prelude.{ℕ, List}
 use Rattle.bz_call.specs.declared.replies.Spent.TheVariants.{Height}
 use Rattle.bz_ascent.specs.Ascents.{IsAscent, IsOneUp}
 use Rattle.bz_ascent.specs.declared.ascent.Ascent.{Ascent}
-use Rattle.bz_below.specs.Facts.{LackedRoom}
+use Rattle.bz_ascent.specs.FromBelow.Facts.{LackedRoom}
 use Rattle.bz_crown.specs.Facts.{WasTooHigh}
 use Rattle.bz_task.specs.Scene.{Past, Scene, Stage}
 use Rattle.bz_task.specs.declared.path.Link.{Link}

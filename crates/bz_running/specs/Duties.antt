@@ -8,9 +8,9 @@ use Rattle.bz_task.specs.declared.todo.Outcome.{Outcome}
 use Rattle.bz_task.specs.declared.todo.Seen.{Seen}
 use Rattle.bz_task.specs.declared.todo.Todo.{Todo}
 use Rattle.bz_ascent.specs.declared.ascent.Ascent.{Ascent}
-use Rattle.bz_below.specs.Duties.{asks_below, end_below, left_below, needs_below, facts_below, differs_below}
-use Rattle.bz_below.specs.Facts.{below_means}
-use Rattle.bz_below.specs.declared.split_below.SplitBelow.{SplitBelow}
+use Rattle.bz_ascent.specs.FromBelow.Duties.{asks_below, end_below, left_below, needs_below, facts_below, differs_below}
+use Rattle.bz_ascent.specs.FromBelow.Facts.{below_means}
+use Rattle.bz_ascent.specs.FromBelow.SplitBelow.{SplitBelow}
 use Rattle.bz_consol.specs.Duties as consol
 use Rattle.bz_consol.specs.Facts.{consol_change, consol_means}
 use Rattle.bz_crown.specs.Duties.{asks_crown, end_crown, left_crown, needs_crown, facts_crown, differs_crown}
@@ -31,8 +31,8 @@ use Rattle.bz_merge.specs.Duties as merge
 use Rattle.bz_merge.specs.Facts.{merge_change, merge_means}
 use Rattle.bz_mutate.specs.DeleteDuties as delete
 use Rattle.bz_mutate.specs.UpdateDuties as update
-use Rattle.bz_split.specs.Duties as split
-use Rattle.bz_split.specs.Facts.{split_change, split_means}
+use Rattle.bz_merge.specs.FromSplit.Duties as split
+use Rattle.bz_merge.specs.FromSplit.Facts.{split_change, split_means}
 use Rattle.bz_running.specs.Ascending.{on_ascent}
 use Rattle.bz_running.specs.declared.running.Running.{Running}
 use Rattle.bz_running.specs.declared.running.Running.TheVariants.{Seeking, Finding, Reading, Inserting, Updating, Deleting, Freezing, Consolidating, Splitting, SplittingBelow, SplittingInner, SplittingInnerRoot, Merging}

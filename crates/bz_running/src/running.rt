@@ -1,7 +1,7 @@
 //! Whichever task it is.
 
 ghost use Rattle.std.specs.Prelude.{◌≡◌, ◌-◌, ◌<◌, ◌≢◌, ◌≤◌, ℕ, List, true, false, Option, None, Some, slice_get};
-ghost use Rattle.bz_below.specs.Facts.{IsThawedAbove, LackedPart};
+ghost use Rattle.bz_ascent.specs.FromBelow.Facts.{IsThawedAbove, LackedPart};
 ghost use Rattle.bz_consol.specs.Facts.{LeadsTo};
 ghost use Rattle.bz_layout.specs.declared.thresholds.TheConstants.{CONSOLIDATION_SLOTS, MERGE_SLOTS, SPLIT_ABOVE, SPLIT_SLOTS};
 ghost use Rattle.bz_page.specs.Pages.{IsLeafByItself};
@@ -17,8 +17,7 @@ ghost use Rattle.bz_running.specs.Hearing.{IsLookup, HasHeard};
 ghost use Rattle.bz_running.specs.Duties.{config_of, asks_of, end_of, left_of, needs_of, wants_of, change_of, ascent_of, publishing_of, facts_of, means_of, differs_of, makes_no_change};
 ghost use Rattle.bz_running.specs.Laws.{AreLaws};
 
-use bz_ascent::Ascent;
-use bz_below::SplitBelow;
+use bz_ascent::{Ascent, SplitBelow};
 use bz_consol::Consolidate;
 use bz_crown::SplitInnerRoot;
 use bz_descend::Seek;
@@ -29,9 +28,8 @@ use bz_insert::Insert;
 use bz_key::{Key, PageBuf, Payload};
 use bz_layout::{Config, ROOT_STATUS_AT, Slots};
 use bz_leaf::ReadLeaf;
-use bz_merge::Merge;
+use bz_merge::{Merge, SplitRoot};
 use bz_mutate::{Delete, Update};
-use bz_split::SplitRoot;
 use bz_task::{KeyView, LeafView, Link, Outcome, Path, Seen, Task, Todo};
 
 /// A task on the tree.

@@ -16,3 +16,4 @@ pub mod Cutting
 pub mod Powering
 pub mod TurnLaws
 pub mod TurnExample
+pub mod FromWorld

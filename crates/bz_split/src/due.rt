@@ -2,7 +2,7 @@
 
 ghost use Rattle.std.specs.Prelude.{◌≡◌, ◌↔◌, ◌≤◌, ◌<◌, true, IsTrue};
 ghost use Rattle.bz_layout.specs.declared.thresholds.TheConstants.{SPLIT_ABOVE};
-ghost use Rattle.bz_page.specs.Pages.{IsLeafByItself};
+ghost use Rattle.bz_renew.specs.FromPage.Pages.{IsLeafByItself};
 ghost use Rattle.bz_renew.specs.Due.{LeadsTo, IsDue};
 ghost use Rattle.bz_slotted.specs.Readers.{live_of};
 ghost use Rattle.bz_slotted.specs.ReadingLaws.{node_of};

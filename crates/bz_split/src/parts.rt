@@ -1,6 +1,6 @@
 //! The two parts of a leaf that is split.
 
-ghost use Rattle.bz_page.specs.Pages.{IsLeafByItself};
+ghost use Rattle.bz_renew.specs.FromPage.Pages.{IsLeafByItself};
 ghost use Rattle.bz_layout.specs.declared.thresholds.TheConstants.{SPLIT_ABOVE};
 ghost use Rattle.std.specs.Prelude.{◌<◌};
 ghost use Rattle.bz_slotted.specs.Readers.{live_of};

@@ -13,3 +13,4 @@ pub mod Others
 pub mod Settled
 pub mod Resting
 pub mod Targets
+pub mod FromContent

@@ -8,6 +8,7 @@ mod task;
 mod todo;
 mod view;
 
+pub use bz_content::laws as content_laws;
 pub use path::{Link, Path};
 pub use task::Task;
 pub use todo::{Outcome, Seen, Todo};

@@ -30,9 +30,9 @@ use Rattle.bz_threads.specs.Inside.Batches.{paired, MetNone, IsAbove, IsBack, Is
 use Rattle.bz_threads.specs.Inside.Runs.{HasRunOn}
 use Rattle.bz_threads.specs.declared.running.ThreadsEnd.{ThreadsEnd}
 use Rattle.bz_threads.specs.declared.running.ThreadsEnd.TheVariants as end
-use Rattle.bz_world.specs.Lab.{Lab, IsWorker, power_in}
-use Rattle.bz_world.specs.declared.answers.Which.{Which}
-use Rattle.bz_world.specs.declared.answers.Which.TheVariants as which
+use Rattle.bz_index.specs.FromWorld.Lab.{Lab, IsWorker, power_in}
+use Rattle.bz_index.specs.FromWorld.Which.{Which}
+use Rattle.bz_index.specs.FromWorld.Which.TheVariants as which
 
 marks-told : (past : List Mark) (pages : Pages) → marks_in (told past pages) ≡ past
 marks-told [] pages = refl

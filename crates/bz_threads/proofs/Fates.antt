@@ -27,8 +27,8 @@ use Rattle.bz_threads.proofs.Owns.{ends_open, marks-append, begun_own, open_own,
 use Rattle.bz_threads.proofs.Taking.{paired-append}
 use Rattle.bz_threads.specs.Inside.Batches.{paired, Fate, MetNone}
 use Rattle.bz_threads.specs.Made.{own_of, AreMade, MakesAll}
-use Rattle.bz_world.specs.declared.answers.Which.{Which}
-use Rattle.bz_world.specs.declared.answers.Which.TheVariants as which
+use Rattle.bz_index.specs.FromWorld.Which.{Which}
+use Rattle.bz_index.specs.FromWorld.Which.TheVariants as which
 
 -- the counts of a journal that has grown
 pub begins_grow : (xs ys : List Mark) → count_begins ys ≤ count_begins (xs ++ ys)

@@ -21,7 +21,7 @@ use Rattle.bz_threads.specs.Inside.Batches.{paired, IsFirstOf, IsWorkers, IsOpen
 use Rattle.bz_threads.specs.Inside.Runs.{end_of, HasRunOn}
 use Rattle.bz_threads.specs.Made.{own_of, MakesAll}
 use Rattle.bz_threads.specs.declared.batch.Batch.{Batch}
-use Rattle.bz_world.specs.declared.answers.Which.{Which}
+use Rattle.bz_index.specs.FromWorld.Which.{Which}
 
 -- what a thread made of a batch that was opened
 done_of : (index : Index) (waiting : List (ℕ × Call)) (first : List IndexEntry) (old new : Batch) → IsOpened index waiting first old → HasWorked index old new → IsDone index waiting first new

@@ -9,7 +9,7 @@ use Rattle.bz_sched.specs.Together.{RunsThreadsUpTo}
 use Rattle.bz_sched.specs.declared.running.RunEnd.TheVariants as run
 use Rattle.bz_threads.specs.declared.running.ThreadsEnd.{ThreadsEnd}
 use Rattle.bz_threads.specs.declared.running.ThreadsEnd.TheVariants as end
-use Rattle.bz_world.specs.Lab.{Lab}
+use Rattle.bz_index.specs.FromWorld.Lab.{Lab}
 
 -- as a run by the plan; or up to a limit, and then the queue tells nothing; or, where memory was wanting, with the calls that
 -- were open ended and none begun

@@ -11,12 +11,11 @@ ghost use Rattle.bz_threads.specs.declared.batch.Batch.{Batch};
 
 use crate::batch::Batch;
 use bz_call::Call;
-use bz_index::{Answer, Gate, Index, IndexPass};
+use bz_index::{Answer, Gate, Index, IndexPass, Which};
 use bz_key::PageBuf;
 use bz_layout::MAX_WORKERS;
 use bz_memory::Memory;
 use bz_sched::Queue;
-use bz_world::Which;
 use std::alloc::Global;
 use std::sync::Wait;
 use std::thread;

@@ -5,4 +5,5 @@ mod batch;
 mod batches;
 mod running;
 
+pub use bz_index::{Gate, NoGate};
 pub use running::{ThreadsEnd, run_threads};

@@ -7,14 +7,13 @@ ghost use Rattle.bz_sound.specs.declared.power.Power.TheVariants.{On};
 ghost use Rattle.bz_threads.specs.Ends.{HasRunThreads};
 ghost use Rattle.bz_threads.specs.Inside.Batches.{IsFirstOf};
 ghost use Rattle.bz_threads.specs.Inside.Runs.{HasRunOn, end_of as named};
-ghost use Rattle.bz_world.specs.Lab.{power_in};
+ghost use Rattle.bz_index.specs.FromWorld.Lab.{power_in};
 
 use crate::batches::{give_back, join_batches, open_batches, work_all};
-use bz_index::{Gate, Index, IndexPass};
+use bz_index::{Gate, Index, IndexPass, Which, World};
 use bz_layout::MAX_WORKERS;
 use bz_memory::Memory;
 use bz_sched::{Queue, end_open_calls};
-use bz_world::{Which, World};
 use std::alloc::Global;
 use std::sync::Wait;
 use std::thread::Threads;

@@ -22,7 +22,7 @@ use Rattle.bz_script.specs.declared.fault.ScriptRule.TheVariants.{Number, NoMemo
 use Rattle.bz_script.specs.declared.item.Item.{Item}
 use Rattle.bz_sched.specs.Runs.{Stays}
 use Rattle.bz_sound.specs.declared.power.Power.TheVariants as power
-use Rattle.bz_world.specs.Lab.{Lab, lab_over, image_lab}
+use Rattle.bz_sched.specs.FromWorld.Lab.{Lab, lab_over, image_lab}
 use Rattle.bz_top.specs.Bases.{Base, power_over, words_over, numbers_over, IsBase, IsBaseOf}
 use Rattle.bz_top.specs.Commands.{config_of}
 use Rattle.bz_top.specs.Endings.{IsMadeFor}

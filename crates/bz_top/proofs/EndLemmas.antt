@@ -9,7 +9,7 @@ use Rattle.bz_words.specs.CommandLine.{IsCommandLine}
 use Rattle.bz_words.specs.declared.command.Command.{Command}
 use Rattle.bz_words.specs.declared.command.Command.TheVariants.{Run, Dump, Load, Work}
 use Rattle.bz_words.specs.declared.command.CommandLine.{CommandLine}
-use Rattle.bz_world.specs.Lab.{Lab}
+use Rattle.bz_sched.specs.FromWorld.Lab.{Lab}
 use Rattle.bz_gen.specs.Workload.{workload_of}
 use Rattle.bz_top.specs.Bases.{Base, front_over, IsBase, Reads, ReadsOver}
 use Rattle.bz_top.specs.Faults.{fault_line, broken_text, limit_text}

@@ -13,7 +13,7 @@ use Rattle.bz_sched.specs.Runs.{point_with, Stays, HasPower}
 use Rattle.bz_sched.specs.Scripts.{LeadsTo, LeadsToInPart, LeadsToWant}
 use Rattle.bz_sched.specs.declared.running.RunEnd.{RunEnd}
 use Rattle.bz_sched.specs.declared.running.RunEnd.TheVariants.{Finished, Cut, Limit}
-use Rattle.bz_world.specs.Lab.{Lab, power_in}
+use Rattle.bz_sched.specs.FromWorld.Lab.{Lab, power_in}
 use Rattle.bz_top.specs.Endings.{at_first, items_from}
 use Rattle.bz_top.specs.Items.{end_in, ItemsDone, ItemsRan, IsTurnedOn, TurnsOn}
 use Rattle.bz_top.specs.declared.items.ItemsEnd.{ItemsEnd}

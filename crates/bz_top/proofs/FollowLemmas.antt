@@ -17,8 +17,8 @@ use Rattle.bz_sched.specs.Queued.{Queued}
 use Rattle.bz_sched.specs.Runs.{point_of, Stays, IsCutPlan}
 use Rattle.bz_sched.specs.Scripts.{LeadsTo, LeadsToInPart, LeadsToWant}
 use Rattle.bz_sched.specs.declared.cut.CutPlan.{CutPlan}
-use Rattle.bz_world.specs.Lab.{Lab, power_in}
-use Rattle.bz_world.specs.declared.answers.Which.{Which}
+use Rattle.bz_sched.specs.FromWorld.Lab.{Lab, power_in}
+use Rattle.bz_sched.specs.FromWorld.Which.{Which}
 use Rattle.bz_top.specs.Items.{IsReadyFor, Leads, LeadsInPart, LeadsToWantIn, LeavesPower, IsDoneItem, IsStoppedItem, IsWantingItem, IsLedFrom, IsLedFromInPart, IsLedFromToWant}
 
 -- so many items are done, and what the others lead to is what all of them lead to. These may stand where they do, with the cut

@@ -16,7 +16,7 @@ use Rattle.bz_words.specs.CommandLine.{IsCommandLine}
 use Rattle.bz_words.specs.declared.command.Command.{Command}
 use Rattle.bz_words.specs.declared.command.Command.TheVariants.{Load}
 use Rattle.bz_words.specs.declared.command.CommandLine.{CommandLine}
-use Rattle.bz_world.specs.Lab.{Lab}
+use Rattle.bz_sched.specs.FromWorld.Lab.{Lab}
 use Rattle.bz_top.specs.Bases.{ReadsOver}
 use Rattle.bz_top.specs.Commands.{config_of}
 use Rattle.bz_top.specs.Endings.{Outside, IsLoad, IsReading, IsEnded}

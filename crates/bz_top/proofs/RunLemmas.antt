@@ -8,8 +8,8 @@ use Rattle.bz_sched.specs.Scripts.{LeadsTo, LeadsToInPart, LeadsToWant}
 use Rattle.bz_sound.specs.Power.Sound.{IsSound}
 use Rattle.bz_sound.specs.declared.power.Power.{Power as State}
 use Rattle.bz_words.specs.declared.command.Command.{Command}
-use Rattle.bz_world.specs.Lab.{Lab}
-use Rattle.bz_world.specs.declared.answers.Which.{Which}
+use Rattle.bz_sched.specs.FromWorld.Lab.{Lab}
+use Rattle.bz_sched.specs.FromWorld.Which.{Which}
 use Rattle.bz_top.specs.Bases.{Base}
 use Rattle.bz_top.specs.Endings.{IsLab, IsMadeFor, IsFinished, IsCutShort, IsHeldUp, at_first, items_from, printed, printed_before}
 use Rattle.bz_top.specs.Faults.{fault_line, limit_text}

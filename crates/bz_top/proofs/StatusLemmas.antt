@@ -5,7 +5,7 @@ use Rattle.bz_io.specs.Faults.{Rose}
 use Rattle.bz_io.specs.Transfers.{GrewByFront}
 use Rattle.bz_top.specs.Endings.{Outside, IsDone, IsLimited, IsReadFault, IsUsage, IsBroken, IsTooLong, IsWant, IsNoImage, IsMisshapen, IsToBeWritten, IsEnded}
 use Rattle.bz_top.specs.Parts.{sunk, Says}
-use Rattle.bz_world.specs.Lab.{Lab}
+use Rattle.bz_sched.specs.FromWorld.Lab.{Lab}
 
 -- what the sink said, as the outside has it
 abbrev pub Said : Outside → ℕ → List ℕ → ℕ → Type 0

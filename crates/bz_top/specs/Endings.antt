@@ -19,8 +19,8 @@ use Rattle.bz_script.specs.declared.fault.ScriptRule.{ScriptRule}
 use Rattle.bz_script.specs.declared.item.Item.{Item}
 use Rattle.bz_script.specs.declared.item.Item.TheVariants.{Power}
 use Rattle.bz_script.specs.declared.read.TheConstants.{SCRIPT_BYTES}
-use Rattle.bz_world.specs.Lab.{Lab}
-use Rattle.bz_world.specs.declared.answers.Which.{Which}
+use Rattle.bz_sched.specs.FromWorld.Lab.{Lab}
+use Rattle.bz_sched.specs.FromWorld.Which.{Which}
 use Rattle.bz_sched.specs.Runs.{IsAtLimit}
 use Rattle.bz_sched.specs.Points.{Point}
 use Rattle.bz_sched.specs.Scripts.{LeadsTo, LeadsToInPart, LeadsToWant}

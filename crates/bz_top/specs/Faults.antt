@@ -9,8 +9,8 @@ use Rattle.bz_script.specs.Texts.{fault_text}
 use Rattle.bz_shape.specs.declared.rule.ShapeFault.{ShapeFault}
 use Rattle.bz_shape.specs.declared.rule.ShapeRule.{ShapeRule}
 use Rattle.bz_shape.specs.declared.rule.ShapeRule.TheVariants.{Super, Word, Root, Twice, Level, Fence, Status, Record, Order, Key, Child}
-use Rattle.bz_world.specs.declared.answers.Which.{Which}
-use Rattle.bz_world.specs.declared.answers.Which.TheVariants.{Marks, Calls, Pages}
+use Rattle.bz_sched.specs.FromWorld.Which.{Which}
+use Rattle.bz_sched.specs.FromWorld.Which.TheVariants.{Marks, Calls, Pages}
 
 -- a fault line ends with a line feed
 abbrev pub fault_line : List ℕ → List ℕ

@@ -9,8 +9,8 @@ use Rattle.bz_script.specs.declared.item.Item.{Item}
 use Rattle.bz_script.specs.declared.item.Item.TheVariants.{Queue, Arm, Run, Power}
 use Rattle.bz_sound.specs.declared.power.Power.{Power as State}
 use Rattle.bz_sound.specs.declared.power.Power.TheVariants as power
-use Rattle.bz_world.specs.Lab.{Lab, power_in}
-use Rattle.bz_world.specs.declared.answers.Which.{Which}
+use Rattle.bz_sched.specs.FromWorld.Lab.{Lab, power_in}
+use Rattle.bz_sched.specs.FromWorld.Which.{Which}
 use Rattle.bz_sched.specs.Plans.{RunsWhole, RunsCut, RunsInPart}
 use Rattle.bz_sched.specs.Points.{Point}
 use Rattle.bz_sched.specs.Queued.{Queued}

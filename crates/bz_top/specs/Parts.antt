@@ -3,8 +3,8 @@ use Rattle.std.specs.Prelude.{◌≡◌, ◌≤◌, ◌⊎◌, ◌+◌, ℕ, Lis
 use Rattle.bz_script.specs.Script.{Job, script_of}
 use Rattle.bz_script.specs.declared.fault.ScriptRule.{ScriptRule}
 use Rattle.bz_script.specs.declared.read.TheConstants.{SCRIPT_BYTES}
-use Rattle.bz_world.specs.Lab.{Lab}
-use Rattle.bz_world.specs.declared.answers.Which.{Which}
+use Rattle.bz_sched.specs.FromWorld.Lab.{Lab}
+use Rattle.bz_sched.specs.FromWorld.Which.{Which}
 use Rattle.bz_words.specs.declared.command.Command.{Command}
 use Rattle.bz_top.specs.Bases.{Base, numbers_over}
 use Rattle.bz_top.specs.Faults.{fault_line, broken_text, limit_text}

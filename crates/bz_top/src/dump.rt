@@ -7,7 +7,7 @@ ghost use Rattle.bz_top.specs.Parts.{sunk, SaysOrWants};
 use crate::program::Outcome;
 use bz_image::write_image;
 use bz_io::{Failed, Sink};
-use bz_world::World;
+use bz_sched::World;
 
 /// Writes the image file of the words that are durable once a run is done.
 pub(crate) fn dump<K: Sink>(world: World, sink: &mut K) -> Outcome

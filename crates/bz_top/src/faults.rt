@@ -5,9 +5,9 @@ ghost use Rattle.bz_top.specs.Faults.{fault_line, broken_text, limit_text, image
 
 use bz_image::ImageFault;
 use bz_memory::Memory;
+use bz_sched::Which;
 use bz_script::{ScriptFault, ScriptRule};
 use bz_shape::{ShapeFault, ShapeRule};
-use bz_world::Which;
 use std::alloc::Global;
 
 /// The fault line of a rule that a line of the script breaks. Lines are counted from 1.

@@ -2,7 +2,7 @@
 use crate::{NoGate, top};
 use bz_image::write_image;
 use bz_io::{FailSink, FailSource, MemSink, MemSource};
-use bz_world::World;
+use bz_sched::World;
 use std::alloc::Global;
 use std::process::Abort;
 use std::sync::Wait;

@@ -2,18 +2,16 @@
 ghost use Rattle.std.specs.Prelude.{◌≡◌, ◌≢◌, ◌≤◌, ◌<◌, [], length, None};
 ghost use Rattle.bz_layout.specs.declared.limits.TheConstants.{MAX_WORKERS};
 ghost use Rattle.bz_sound.specs.declared.power.Power.TheVariants.{On, Recovering};
-ghost use Rattle.bz_world.specs.Lab.{power_in};
+ghost use Rattle.bz_sched.specs.FromWorld.Lab.{power_in};
 ghost use Rattle.bz_sched.specs.Runs.{point_of, IsCutPlan};
 ghost use Rattle.bz_script.specs.ItemLaws.{AreItems};
 ghost use Rattle.bz_script.specs.Order.{at_first, takes_no_cut, AreInOrder};
 ghost use Rattle.bz_script.specs.declared.item.Item.TheVariants.{Run};
 ghost use Rattle.bz_top.specs.Items.{ItemsRan, ItemsDone, TurnsOn, IsReadyFor, HasDone, end_in, left_after, end_of_threads};
 
-use bz_index::Gate;
-use bz_sched::{CutPlan, Queue, RunEnd, power, run};
+use bz_sched::{CutPlan, Power, Queue, RunEnd, Which, World, power, run};
 use bz_script::{Item, Plan};
-use bz_threads::{ThreadsEnd, run_threads};
-use bz_world::{Power, Which, World};
+use bz_threads::{Gate, ThreadsEnd, run_threads};
 use std::alloc::Global;
 use std::sync::Wait;
 use std::thread::Threads;

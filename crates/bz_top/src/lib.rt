@@ -8,7 +8,7 @@ mod load;
 mod open;
 mod program;
 
-pub use bz_index::{Gate, NoGate};
+pub use bz_threads::{Gate, NoGate};
 pub use program::{Outcome, top};
 
 #[cfg(test)]

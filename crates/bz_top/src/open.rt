@@ -3,14 +3,14 @@ ghost use Rattle.std.specs.Prelude.{◌≡◌, IfOk};
 ghost use Rattle.bz_judge.specs.Held.{IsImageOf};
 ghost use Rattle.bz_layout.specs.Config.{IsConfig};
 ghost use Rattle.bz_layout.specs.Fresh.{fresh_words};
-ghost use Rattle.bz_world.specs.Lab.{lab_over, new_lab, image_lab};
+ghost use Rattle.bz_sched.specs.FromWorld.Lab.{lab_over, new_lab, image_lab};
 ghost use Rattle.bz_top.specs.Bases.{IsBaseOf, numbers_over, power_over, words_over};
 
 use bz_content::laws::fresh_memory_is_empty;
 use bz_image::Image;
 use bz_layout::Config;
 use bz_memory::Memory;
-use bz_world::{BootError, OpenError, World};
+use bz_sched::{BootError, OpenError, World};
 use std::alloc::Global;
 
 /// The numbers that the first line of a script has to say, where it runs over an image.

@@ -2,8 +2,8 @@
 use Rattle.std.proofs.Common.{◌≡◌, ℕ, ◌<◌, nat_lt, true, List, arith, refl, sym, ap, subst, ◌∙◌, Option, Some, None}
 use Rattle.std.specs.Prelude.{slice_index}
 use Rattle.std.proofs.lemmas.Bool.Decides.{nat_tests}
-use Rattle.bz_ascent.specs.Full.{WasFull, WasLevelFull, AreAllFull}
-use Rattle.bz_ascent.specs.declared.ascent.Ascent.{Ascent}
+use Rattle.bz_running.specs.FromAscent.Full.{WasFull, WasLevelFull, AreAllFull}
+use Rattle.bz_running.specs.FromAscent.Ascent.{Ascent}
 use Rattle.bz_call.specs.Map.{key_of}
 use Rattle.bz_call.specs.declared.replies.Spent.TheVariants.{Height}
 use Rattle.bz_content.specs.Content.{view_in}

@@ -9,12 +9,9 @@ use crate::calls::{called, is_alone, key_of, path_in, set_task};
 use crate::going::{begin_task, look_up};
 use crate::laws::{answer_laws, start_laws};
 use crate::parts::Parts;
-use bz_below::is_due as is_due_below;
-use bz_consol::is_due;
 use bz_layout::SPLIT_ABOVE;
-use bz_merge::is_due as is_due_beside;
 use bz_page::live_words;
-use bz_running::Running;
+use bz_running::{Running, is_due_alone as is_due, is_due_below, is_due_beside};
 use bz_task::{LeafView, Path};
 
 // Freezes the leaf that was read.

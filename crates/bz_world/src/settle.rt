@@ -18,8 +18,8 @@ use crate::restructuring::{merge, restructure, split_above};
 use crate::room::lacks_room;
 use bz_call::{Call, Reply, Spent};
 use bz_key::Key;
-use bz_merge::is_due;
 use bz_page::collect;
+use bz_running::is_due_beside as is_due;
 use bz_task::{KeyView, LeafView, Outcome};
 
 // Answers a get by what its leaf has.

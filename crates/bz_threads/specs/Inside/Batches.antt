@@ -15,7 +15,7 @@ use Rattle.bz_layout.specs.declared.limits.TheConstants.{MAX_WORKERS}
 use Rattle.bz_sched.specs.Queued.{calls_of}
 use Rattle.bz_threads.specs.Made.{own_of, MakesAll}
 use Rattle.bz_threads.specs.declared.batch.Batch.{Batch}
-use Rattle.bz_world.specs.declared.answers.Which.{Which}
+use Rattle.bz_index.specs.FromWorld.Which.{Which}
 
 -- these calls, each with the worker
 abbrev pub paired : ℕ → List Call → List (ℕ × Call)

@@ -8,7 +8,7 @@ use Rattle.bz_index.specs.declared.shared.IndexEntry.{IndexEntry}
 use Rattle.bz_threads.specs.Inside.Batches.{IsJoined}
 use Rattle.bz_threads.specs.declared.running.ThreadsEnd.{ThreadsEnd}
 use Rattle.bz_threads.specs.declared.running.ThreadsEnd.TheVariants.{Finished, Limit, Memory}
-use Rattle.bz_world.specs.declared.answers.Which.{Which}
+use Rattle.bz_index.specs.FromWorld.Which.{Which}
 
 -- by the lowest worker that met a limit
 abbrev pub end_of : Option (ℕ × Which) → ThreadsEnd

@@ -8,8 +8,8 @@ use Rattle.bz_call.specs.declared.replies.Reply.{Reply}
 use Rattle.bz_call.specs.declared.replies.Reply.TheVariants.{Full, Page}
 use Rattle.bz_call.specs.declared.replies.Spent.{Spent}
 use Rattle.bz_call.specs.declared.replies.Spent.TheVariants.{Nodes}
-use Rattle.bz_below.specs.Facts.{IsThawedAbove}
-use Rattle.bz_consol.specs.Facts.{LeadsTo}
+use Rattle.bz_running.specs.FromBelow.Facts.{IsThawedAbove}
+use Rattle.bz_running.specs.FromConsol.Facts.{LeadsTo}
 use Rattle.bz_layout.specs.declared.config.Config.{Config}
 use Rattle.bz_layout.specs.declared.thresholds.TheConstants.{MERGE_SLOTS, SPLIT_ABOVE, SPLIT_SLOTS}
 use Rattle.bz_running.specs.Duties.{config_of, asks_of, end_of, needs_of, wants_of, facts_of}

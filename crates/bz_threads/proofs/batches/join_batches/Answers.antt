@@ -4,7 +4,7 @@ use Rattle.bz_threads.proofs.Joining.{joined_more}
 use Rattle.bz_threads.proofs.batches.join_batches.Goals as goal
 use Rattle.bz_threads.specs.Inside.Batches.{IsWorkers, lowered, IsJoined}
 use Rattle.bz_threads.specs.declared.batch.Batch.{Batch}
-use Rattle.bz_world.specs.declared.answers.Which.{Which}
+use Rattle.bz_index.specs.FromWorld.Which.{Which}
 
 pub loop-batch-preserved : goal.loop-batch-preserved
 loop-batch-preserved c =

@@ -1,0 +1,2 @@
+-- What crates above take of bz_split's proofs by this one.
+pub use Rattle.bz_split.proofs.Staying

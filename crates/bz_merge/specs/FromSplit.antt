@@ -1,0 +1,3 @@
+-- What crates above take of bz_split by this one.
+pub use Rattle.bz_split.specs.Duties
+pub use Rattle.bz_split.specs.Facts

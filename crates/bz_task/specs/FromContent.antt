@@ -1,0 +1,4 @@
+-- What crates above take of bz_content by this one.
+pub use Rattle.bz_content.specs.Content
+pub use Rattle.bz_content.specs.Image
+pub use Rattle.bz_content.specs.Laws
