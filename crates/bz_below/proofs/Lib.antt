@@ -1,4 +1,5 @@
 mod OpenNodes
+pub mod ReadWords
 mod ReadingParents
 mod Fronts
 mod Standing

@@ -1,9 +1,9 @@
 -- What another look at the guard of the link to the parent leads to, and teaches.
-use Rattle.std.proofs.Common.{◌≡◌, ◌≢◌, ℕ, ◌+◌, ◌*◌, ◌<◌, ◌≤◌, true, false, slice_index, arith, refl, sym, ap, subst, ◌∙◌, inl, inr}
+use Rattle.std.proofs.Common.{◌≡◌, ◌≢◌, ℕ, ◌+◌, ◌<◌, ◌≤◌, true, false, List, arith, refl, sym, ap, subst, ◌∙◌, inl, inr}
 use Rattle.bz_layout.specs.Addresses.{SlotsApart}
 use Rattle.bz_layout.specs.Slots.{FreeSlots}
 use Rattle.bz_layout.specs.declared.config.Config.{Config}
-use Rattle.bz_layout.specs.declared.sizes.TheConstants.{NODE_WORDS, STATUS_AT}
+use Rattle.bz_layout.specs.declared.sizes.TheConstants.{NODE_WORDS}
 use Rattle.bz_layout.specs.declared.thresholds.TheConstants.{SPLIT_SLOTS}
 use Rattle.bz_word.specs.Statuses.{status}
 use Rattle.bz_task.specs.Laws.{NothingIsGained}
@@ -15,12 +15,11 @@ use Rattle.bz_task.specs.declared.todo.Seen.{Seen}
 use Rattle.bz_task.specs.declared.todo.Seen.TheVariants.{Read as Was, NoSwap as NoneLeft}
 use Rattle.bz_halves.specs.Parents.{ChildrenMayBeParted}
 use Rattle.bz_renew.specs.Nodes.{HaveSlots, AreSlotsTaken}
-use Rattle.bz_renew.proofs.Words.{node-at}
-use Rattle.bz_below.specs.Facts.{Below, below_nodes, IsPlan, IsPlanned, HasRoom, HasParent, HasBegunBelow, HasBegunOrWaits, HasLookedBelow, IsReading, below_differs, below_left, below_needs, below_facts, IsReadyBelow}
+use Rattle.bz_below.specs.Facts.{Below, below_nodes, HasPartedBelow, IsPlan, IsPlanned, IsUnread, HasRoom, HasParent, HasBegunBelow, HasBegunOrWaits, HasLookedBelow, IsReading, below_differs, below_left, below_needs, below_facts, IsReadyBelow}
 use Rattle.bz_below.specs.Guards.{WasThawed, LinksLeaveTheirNodes}
 use Rattle.bz_below.specs.declared.phase.Phase.{Phase}
 use Rattle.bz_below.specs.declared.phase.Phase.TheVariants.{Fresh, Word, Again, Guard, Store, Flush, Named, Swap, Done, Restart, NoRoom, NoSlot, NoSwap}
-use Rattle.bz_below.proofs.Acting.{upper-slot, guard-is}
+use Rattle.bz_below.proofs.Acting.{upper-slot}
 use Rattle.bz_below.proofs.Ending.{EndsWell, goes-on}
 use Rattle.bz_below.proofs.Making.{IsClear, begun-knows, clear-of}
 
@@ -28,7 +27,7 @@ use Rattle.bz_below.proofs.Making.{IsClear, begun-knows, clear-of}
 pub record Looks (before after : ℕ) (r : Below) (c : Config) (seen : Seen) (p : Phase) (old new : FreeSlots) : Type 0 where
   pub begun : p ≢ Fresh
   pub ready : IsReadyBelow c r p
-  pub nearer : (NODE_WORDS + 1) * after + below_left p < (NODE_WORDS + 1) * before + below_left Guard
+  pub nearer : after + below_left p < before + below_left Guard
   pub taken : AreTakenFrom SPLIT_SLOTS (below_needs p) old new
   pub ends : EndsWell r.lower seen Guard p old
 
@@ -67,7 +66,7 @@ begins k n r c seen NoRoom old new some h nodes = absurd (h)
 begins k n r c seen NoSwap old new some h nodes = absurd (h)
 
 -- or the parent is read anew
-reads-anew : (before after : ℕ) (r : Below) (c : Config) (seen : Seen) (old : FreeSlots) → seen ≢ NoneLeft → r.upper.slot < c.nodes → after + 1 ≡ before → Looks before after r c seen (Word 1) old old
+reads-anew : (before after : ℕ) (r : Below) (c : Config) (seen : Seen) (old : FreeSlots) → seen ≢ NoneLeft → r.upper.slot < c.nodes → after + (NODE_WORDS + 1) ≡ before → Looks before after r c seen (Word 1) old old
 reads-anew before after r c seen old some slot e = record {
   begun = λ q. absurd (cc);
   ready = (slot, omega arith);
@@ -76,10 +75,10 @@ reads-anew before after r c seen old some slot e = record {
   ends = goes-on r.lower seen Guard (Word 1) old refl some;
 }
 
-begins-or-waits : (nodes left before after : ℕ) (r : Below) (c : Config) (seen : Seen) (p : Phase) (old new : FreeSlots) → seen ≢ NoneLeft → r.upper.slot < c.nodes → HasBegunOrWaits nodes left before after r p old new → old.nodes ≡ c.nodes → Looks before after r c seen p old new
-begins-or-waits k left before after r c seen p old new some slot h nodes = elim h [
+begins-or-waits : (nodes left before after : ℕ) (read : List ℕ) (r : Below) (c : Config) (seen : Seen) (p : Phase) (old new : FreeSlots) → seen ≢ NoneLeft → r.upper.slot < c.nodes → HasBegunOrWaits nodes left before after read r p old new → old.nodes ≡ c.nodes → Looks before after r c seen p old new
+begins-or-waits k left before after read r c seen p old new some slot h nodes = elim h [
   | inl b ↦ subst (λ z. Looks before z r c seen p old new) (sym b.1.0) (begins k before r c seen p old new some b.0 nodes)
-  | inr w ↦ subst (λ z. Looks before after r c seen z old new) (sym w.0) (subst (λ z. Looks before after r c seen (Word 1) old z) (sym w.1.1) (reads-anew before after r c seen old some slot w.1.0))
+  | inr w ↦ subst (λ z. Looks before after r c seen z old new) (sym w.0) (subst (λ z. Looks before after r c seen (Word 1) old z) (sym w.1.1.0) (reads-anew before after r c seen old some slot w.1.0))
 ]
 
 -- where the guard is a frozen node's, the task ends, and takes nothing
@@ -98,9 +97,9 @@ frozen-ends n r c v seen old is frozen = record {
   };
 }
 
-pub looks : (n left before after : ℕ) (r : Below) (c : Config) (v : ℕ) (seen : Seen) (p : Phase) (old new : FreeSlots) → r.upper.slot < c.nodes → seen ≡ Was v → HasLookedBelow n left before after r v p old new → old.nodes ≡ c.nodes → Looks before after r c seen p old new
-looks n left before after r c v seen p old new slot is h nodes = elim h [
-  | inl g ↦ begins-or-waits n left before after r c seen p old new (heard v seen is) slot g.1 nodes
+pub looks : (n left before after : ℕ) (read : List ℕ) (r : Below) (c : Config) (v : ℕ) (seen : Seen) (p : Phase) (old new : FreeSlots) → r.upper.slot < c.nodes → seen ≡ Was v → HasLookedBelow n left before after read r v p old new → old.nodes ≡ c.nodes → Looks before after r c seen p old new
+looks n left before after read r c v seen p old new slot is h nodes = elim h [
+  | inl g ↦ begins-or-waits n left before after read r c seen p old new (heard v seen is) slot g.1 nodes
   | inr g ↦ subst (λ z. Looks before z r c seen p old new) (sym g.1.1.0)
       (subst (λ z. Looks before before r c seen z old new) (sym g.1.0) (subst (λ z. Looks before before r c seen Restart old z) (sym g.1.1.1) (frozen-ends before r c v seen old is g.0)))
 ]
@@ -111,12 +110,17 @@ pub record SameParts (o r : Below) : Type 0 where
   pub lower : r.lower ≡ o.lower
   pub left : r.image 1 ≡ o.image 1
   pub right : r.image 2 ≡ o.image 2
-  pub read : r.read ≡ o.read
   pub sep : r.sep ≡ o.sep
 
-moved-plan : (o r : Below) → SameParts o r → (s : Scene) → IsPlanned o s.past → IsPlanned r s.past
-moved-plan o r same s f =
-    subst (λ z. IsPlan r.upper r.lower (r.image 1) (r.image 2) r.sep z s.past) (sym same.read) (subst (λ z. IsPlan r.upper r.lower (r.image 1) (r.image 2) z o.read s.past) (sym same.sep)
+moved : (o r : Below) → SameParts o r → (s : Scene) → HasPartedBelow o.upper o.lower (o.image 1) (o.image 2) o.sep s.past → HasPartedBelow r.upper r.lower (r.image 1) (r.image 2) r.sep s.past
+moved o r same s f =
+    subst (λ z. HasPartedBelow r.upper r.lower (r.image 1) (r.image 2) z s.past) (sym same.sep)
+    (subst (λ z. HasPartedBelow r.upper r.lower (r.image 1) z o.sep s.past) (sym same.right) (subst (λ z. HasPartedBelow r.upper r.lower z (o.image 2) o.sep s.past) (sym same.left)
+    (subst (λ z. HasPartedBelow r.upper z (o.image 1) (o.image 2) o.sep s.past) (sym same.lower) (subst (λ z. HasPartedBelow z o.lower (o.image 1) (o.image 2) o.sep s.past) (sym same.upper) f))))
+
+moved-plan : (o r : Below) → SameParts o r → r.read ≡ o.read → (s : Scene) → IsPlanned o s.past → IsPlanned r s.past
+moved-plan o r same read s f =
+    subst (λ z. IsPlan r.upper r.lower (r.image 1) (r.image 2) r.sep z s.past) (sym read) (subst (λ z. IsPlan r.upper r.lower (r.image 1) (r.image 2) z o.read s.past) (sym same.sep)
     (subst (λ z. IsPlan r.upper r.lower (r.image 1) z o.sep o.read s.past) (sym same.right) (subst (λ z. IsPlan r.upper r.lower z (o.image 2) o.sep o.read s.past) (sym same.left)
     (subst (λ z. IsPlan r.upper z (o.image 1) (o.image 2) o.sep o.read s.past) (sym same.lower) (subst (λ z. IsPlan z o.lower (o.image 1) (o.image 2) o.sep o.read s.past) (sym same.upper) f)))))
 
@@ -138,34 +142,28 @@ pub guard-within : (c : Config) (r : Below) (stage : Stage) (s : Scene) → s.pa
 guard-within c r stage s same good f = subst (λ (z : Config). r.upper.slot < z.nodes) same (upper-slot r.upper r.lower (r.image 1) (r.image 2) r.sep s good (plan-waits r stage s f).1.parted)
 
 -- the parent is read anew: its words but the status are forgotten, and all else stays known
-planned-anew : (r : Below) (s : Scene) → IsScene s → IsPlanned r s.past → IsReading r 1 s.past
-planned-anew r s good v =
-    let status : slice_index r.read STATUS_AT ≡ r.lower.status =
-    sym (ap (λ (n : ℕ → ℕ). n STATUS_AT) v.parent.were)
-    ∙ (node-at s.past.config (s.past.at v.parted.guarded).value r.upper.slot STATUS_AT (omega arith)
-    ∙ (ap (λ a. (s.past.at v.parted.guarded).value a) (sym (guard-is r.upper r.lower (r.image 1) (r.image 2) r.sep s good v.parted))
-    ∙ subst (λ m. (s.past.at m).value r.lower.guard ≡ r.lower.status) v.parted.is_guarded v.parted.links.guard.status)) in
-    record { parted = v.parted; were = record { size = v.parent.parent.size; first = status; rest = λ i some l. absurd (omega (arith, some, l)) } }
+read-anew : (r : Below) (s : Scene) → HasPartedBelow r.upper r.lower (r.image 1) (r.image 2) r.sep s.past → IsUnread r.lower.status r.read → IsReading r 1 s.past
+read-anew r s v u = record { parted = v; were = record { size = u.size; first = u.first; rest = λ i some l. absurd (omega (arith, some, l)); blank = λ i some. u.blank i some } }
 
 -- the guard as it was found now
 thawed-now : (s : Scene) (link : Link) (v m : ℕ) → m ≤ s.past.now → Answers s link.guard v → (status v).frozen ≡ false → WasThawed link m s.past
 thawed-now s link v m order a thawed = record { again = s.past.now; order = order; now = omega arith; loads = a.loads; thawed = ap (λ z. (status z).frozen) a.value ∙ thawed }
 
 -- what another look at the upper guard teaches, of a task that had these facts and found this
-pub looked-learns : SlotsApart → ChildrenMayBeParted → LinksLeaveTheirNodes → NothingIsGained → (c : Config) (left before after : ℕ) (o r : Below) (q : Phase) (v : ℕ) (old new : FreeSlots) → SameParts o r → HasLookedBelow c.nodes left before after r v q old new → old.nodes ≡ c.nodes
+pub looked-learns : SlotsApart → ChildrenMayBeParted → LinksLeaveTheirNodes → NothingIsGained → (c : Config) (left before after : ℕ) (o r : Below) (q : Phase) (v : ℕ) (old new : FreeSlots) → SameParts o r → HasLookedBelow c.nodes left before after o.read r v q old new → old.nodes ≡ c.nodes
     → (stage : Stage) (s : Scene) → s.past.config ≡ c → IsScene s → AreUnreached s old → below_facts o Guard stage s → Answers s o.upper.guard v → below_facts r q Waiting (gained s old new)
 looked-learns apart parts leave nothing c left before after o r q v old new same h nodes stage s config good free facts answers =
     let known = plan-waits o stage s facts in
-    let plan : IsPlanned r s.past = moved-plan o r same s known.1 in
     let a : Answers s r.upper.guard v = subst (λ (z : Link). Answers s z.guard v) (sym same.upper) answers in
     elim h [
       | inl g ↦ elim g.1 [
         | inl b ↦ (
+            let plan : IsPlanned r s.past = moved-plan o r same b.1.1.1 s known.1 in
             let clear : IsClear s r.upper = clear-of leave apart s r.upper good plan.parted.links.upper_guard plan.parted.links.upper_thawed in
             begun-knows apart parts nothing r q s old new good (subst (λ (z : Config). HasBegunBelow z.nodes r q old new) (sym config) b.0) (nodes ∙ ap (λ (z : Config). z.nodes) (sym config)) free known.0 plan
             (thawed-now s r.upper v plan.parted.moment plan.parted.leaf.now a g.0) clear)
         | inr w ↦ subst (λ z. below_facts r z Waiting (gained s old new)) (sym w.0)
-            (subst (λ z. below_facts r (Word 1) Waiting (gained s old z)) (sym w.1.1) (nothing s old known.0, (omega arith, (omega arith, planned-anew r s good plan))))
+            (subst (λ z. below_facts r (Word 1) Waiting (gained s old z)) (sym w.1.1.0) (nothing s old known.0, (omega arith, (omega arith, read-anew r s (moved o r same s known.1.parted) w.1.1.1))))
       ]
       | inr g ↦ subst (λ z. below_facts r z Waiting (gained s old new)) (sym g.1.0) (subst (λ z. HasFilled (gained s old z)) (sym g.1.1.1) (nothing s old known.0))
     ]

@@ -1,9 +1,8 @@
 -- The words that were read of a parent are those of one moment.
-use Rattle.std.proofs.Common.{◌≡◌, ◌≢◌, ℕ, ◌+◌, ◌<◌, ◌≤◌, ◌==◌, if◌then◌else◌, true, false, List, length, slice_index, arith, refl, sym, ap, subst, ◌∙◌, inl, inr, Option}
+use Rattle.std.proofs.Common.{◌≡◌, ◌≢◌, ℕ, ◌+◌, ◌<◌, ◌≤◌, ◌==◌, if◌then◌else◌, true, false, List, length, arith, refl, sym, ap, subst, ◌∙◌, inl, inr, Option}
 use Rattle.std.specs.Prelude.{Some, None}
-use Rattle.std.proofs.lemmas.Bool.{cases_lt, cases_eq}
+use Rattle.std.proofs.lemmas.Bool.{cases_eq}
 use Rattle.std.proofs.lemmas.Bool.Decides.{nat_tests}
-use Rattle.std.proofs.lemmas.List.{get_or_past}
 use Rattle.bz_key.specs.Bytes.{IsKey}
 use Rattle.bz_layout.specs.Addresses.{node_address}
 use Rattle.bz_layout.specs.declared.config.Config.{Config}
@@ -25,14 +24,14 @@ use Rattle.bz_task.specs.Good.{IsGood}
 use Rattle.bz_task.specs.Instant.{Instant, words, durable, page_at, form_at}
 use Rattle.bz_task.specs.Laws.{AreMoments, SamePlace, RangesStay}
 use Rattle.bz_task.specs.Scene.{Scene, IsScene, here}
-use Rattle.bz_task.specs.Shown.{SameNode}
 use Rattle.bz_task.specs.declared.path.Link.{Link}
 use Rattle.bz_renew.specs.FrozenLeaves.{WasFrozenLeaf, FrozenLeavesStandStill}
 use Rattle.bz_renew.specs.Standing.{StillLeads, GuardedLinksStand}
 use Rattle.bz_below.proofs.OpenNodes.{Laws as Basis, IsOpen, fits, below_top, inside, alike, high_up, no-fault}
-use Rattle.bz_renew.proofs.Words.{node-at, node-past}
+use Rattle.bz_renew.proofs.Words.{node-at}
 use Rattle.bz_split.specs.BelowSplits.{AreLinksDown}
-use Rattle.bz_below.specs.Parents.{WasWord, WereRead, WasParent, ReadParentsWere}
+use Rattle.bz_below.specs.Parents.{WereRead, WasParent, ReadParentsWere}
+use Rattle.bz_below.proofs.ReadWords.{words-then}
 
 -- the laws on which it rests
 pub record Laws : Type 0 where
@@ -111,25 +110,6 @@ module _ (b : Laws) (s : Scene) (upper lower : Link) (m : ℕ) (sep read : List 
   opened : IsOpen c was p
   opened = record { reached = reached; thawed = ap (λ z. (status z).frozen) status-was ∙ links.thawed; inner = inner }
 
-  -- each word that was read is that of the moment of the status
-  word-was : (j : ℕ) → j < NODE_WORDS → words c was p j ≡ slice_index read j
-  word-was j l = elim (cases_eq j 0) [
-    | inl e ↦ subst (λ z. words c was p z ≡ slice_index read z) (sym e) (status-was ∙ sym were.first)
-    | inr ne ↦ (
-        let r : WasWord p j (slice_index read j) g s.past = were.rest j (omega (arith, ne)) l in
-        let same : SameNode c was (s.past.at r.moment) p = b.basis.nodes c s.past.at s.past.since s.past.now g r.moment s.past.now p good.history moments r.order r.now reached (status-now ∙ sym status-was) in
-        sym (same j (inr (inr (inl inner)))) ∙ r.word)
-  ]
-
-  pub words-were : words c was p ≡ node_of read
-  words-were = λ t j. each j t
-    where
-      each : (j : ℕ) → words c was p j ≡ node_of read j
-      each j = elim (cases_lt j NODE_WORDS) [
-        | inl l ↦ word-was j l
-        | inr l ↦ node-past c was.value p j l ∙ sym (get_or_past read j 0 (omega (arith, l, were.size)))
-      ]
-
   abbrev l : ℕ
   l = (form_at c was).level p
 
@@ -141,6 +121,9 @@ module _ (b : Laws) (s : Scene) (upper lower : Link) (m : ℕ) (sep read : List 
 
   level-high : 0 < l
   level-high = high_up b.basis c was p was-good opened
+
+  pub words-were : words c was p ≡ node_of read
+  words-were = words-then b.basis.nodes b.basis.inner s p g lower.status l lo hi read good links.guard.since (omega (arith, links.guard.order, links.guard.now)) reached inner status-was status-now level-high (no-fault b.basis c was p was-good opened) were
 
   whole : node_fault c.nodes (node c was.image p) (node_of read) l lo hi ≡ None
   whole = subst (λ n. node_fault c.nodes (node c was.image p) n l lo hi ≡ None) (alike b.basis c was p was-good opened ∙ words-were) (no-fault b.basis c was p was-good opened)

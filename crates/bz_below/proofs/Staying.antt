@@ -28,7 +28,7 @@ use Rattle.bz_below.specs.Facts.{Below, below_nodes, HasPartedBelow, IsReading, 
 use Rattle.bz_split.specs.BelowSplits.{AreLinksDown}
 use Rattle.bz_split.specs.Facts.{SPLIT_WORDS, SPLIT_LINES}
 use Rattle.bz_below.specs.Guards.{WasThawed, WasNamed}
-use Rattle.bz_below.specs.Parents.{WasWord, WereRead, IsParentOf, WasParent}
+use Rattle.bz_below.specs.Parents.{WasWord, WasReadOrFree, WereRead, IsParentOf, WasParent}
 use Rattle.bz_below.specs.declared.phase.Phase.{Phase}
 use Rattle.bz_below.specs.declared.phase.Phase.TheVariants.{Fresh, Word, Again, Guard, Store, Flush, Named, Swap, Done, Restart, NoRoom, NoSlot, NoSwap}
 use Rattle.bz_split.proofs.Staying.{stood-stays}
@@ -104,8 +104,12 @@ module _ (p q : Past) (c : Continues p q) where
   word-stays : (k i v m : ℕ) → WasWord k i v m p → WasWord k i v m q
   word-stays k i v m w = record { moment = w.moment; order = w.order; now = omega (arith, w.now, c.now); word = (λ t. words (c.config t) (c.at w.moment w.now t) k i) ∙ w.word }
 
+  free-stays : (k i m : ℕ) (read : List ℕ) → WasReadOrFree k i m read p → WasReadOrFree k i m read q
+  free-stays k i m read (inl w) = inl (word-stays k i (slice_index read i) m w)
+  free-stays k i m read (inr f) = inr f
+
   read-stays : (k m status place : ℕ) (read : List ℕ) → WereRead k m status place read p → WereRead k m status place read q
-  read-stays k m status place read v = record { size = v.size; first = v.first; rest = λ i some l. word-stays k i (slice_index read i) m (v.rest i some l) }
+  read-stays k m status place read v = record { size = v.size; first = v.first; rest = λ i some l. free-stays k i m read (v.rest i some l); blank = v.blank }
 
   reading-stays : (r : Below) (place : ℕ) → IsReading r place p → IsReading r place q
   unfolding below-stays

@@ -1,6 +1,5 @@
 -- The split of a leaf below a parent as a task.
-use Rattle.std.specs.Prelude.{ℕ, zero, suc, ◌+◌, ◌*◌, List, Option, slice_index}
-use Rattle.bz_layout.specs.declared.sizes.TheConstants.{NODE_WORDS}
+use Rattle.std.specs.Prelude.{ℕ, zero, suc, ◌+◌, List, Option, slice_index}
 use Rattle.bz_task.specs.Scene.{Scene, Stage}
 use Rattle.bz_task.specs.declared.todo.Outcome.{Outcome}
 use Rattle.bz_task.specs.declared.todo.Seen.{Seen}
@@ -24,7 +23,7 @@ abbrev pub end_below : SplitBelow → Option Outcome
 end_below t = below_end t.phase
 
 abbrev pub left_below : SplitBelow → ℕ
-left_below t = (NODE_WORDS + 1) * t.waits + below_left t.phase
+left_below t = t.waits + below_left t.phase
 
 abbrev pub needs_below : SplitBelow → ℕ
 needs_below t = below_needs t.phase

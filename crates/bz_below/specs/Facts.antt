@@ -1,5 +1,5 @@
 -- What the split of a leaf below a parent knows, and what it asks for.
-use Rattle.std.specs.Prelude.{◌≡◌, ◌≢◌, ℕ, ◌+◌, ◌-◌, ◌*◌, ◌^◌, ◌<◌, ◌≤◌, ◌⊎◌, nat_lt, if◌then◌else◌, true, false, List, map, All, Option, Some, None, slice_get, length}
+use Rattle.std.specs.Prelude.{◌≡◌, ◌≢◌, ℕ, ◌+◌, ◌-◌, ◌*◌, ◌^◌, ◌<◌, ◌≤◌, ◌⊎◌, nat_lt, if◌then◌else◌, true, false, List, map, All, Option, Some, None, slice_get, length, slice_index}
 use Rattle.bz_call.specs.declared.replies.Spent.TheVariants.{Nodes as NoNodes, Swaps as NoSwaps}
 use Rattle.bz_key.specs.Bytes.{IsKey}
 use Rattle.bz_key.specs.Packing.{packed}
@@ -80,7 +80,7 @@ below_end phase = None
 abbrev pub below_once : ℕ
 below_once = NODE_WORDS + SPLIT_WORDS + SPLIT_LINES + 4
 
--- the parent may be read anew so many times, and each time both guards are looked at
+-- the parent may be read anew, in as many loads as so many readings of all its words take, with a look at both guards each time
 abbrev pub below_acts : ℕ
 below_acts = (NODE_WORDS + 1) * MOST_WAITS + below_once
 
@@ -103,9 +103,9 @@ below_needs Again = SPLIT_SLOTS
 below_needs Guard = SPLIT_SLOTS
 below_needs phase = 0
 
--- after a word comes the next one, or the parent's status once more
+-- after a word comes the next one that is read, or the parent's status once more
 abbrev pub word_after : ℕ → Phase
-word_after i = if nat_lt (i + 1) NODE_WORDS then Word (i + 1) else Again
+word_after next = if nat_lt next NODE_WORDS then Word next else Again
 
 -- after a store comes the next one, or the first flush; after a flush the next one, or the last look at the upper guard
 abbrev pub store_after : ℕ → Phase
@@ -299,20 +299,26 @@ HasBegunBelow nodes r (Store j) old new =
 HasBegunBelow nodes r NoSlot old new = (length old.free < SPLIT_SLOTS) × (new ≡ old)
 HasBegunBelow nodes r phase old new = ⊥
 
--- as many slots are left as when the parent was first read, or it may not be read anew once more
+-- as many slots are left as when the parent was first read, or too few loads are left to read it anew once more
 abbrev pub IsNotOvertaken : (left waits : ℕ) → FreeSlots → Type 0
-IsNotOvertaken left waits old = (waits ≡ 0) ⊎ (length old.free ≡ left)
+IsNotOvertaken left waits old = (waits < NODE_WORDS + 1) ⊎ (length old.free ≡ left)
 
--- slots are taken where nobody else has taken any since then; else the parent is read anew, which may happen so many times, and none
+-- of the words of a node the status alone was read
+pub record IsUnread (status : ℕ) (read : List ℕ) : Type 0 where
+  pub size : length read ≡ NODE_WORDS
+  pub first : slice_index read STATUS_AT ≡ status
+  pub blank : (i : ℕ) → 0 < i → slice_index read i ≡ 0
+
+-- slots are taken where nobody else has taken any since then; else the parent is read anew, for which so many loads are left, and none
 -- was taken
-abbrev pub HasBegunOrWaits : (nodes left before after : ℕ) → Below → Phase → FreeSlots → FreeSlots → Type 0
-HasBegunOrWaits nodes left before after r phase old new =
-    (HasBegunBelow nodes r phase old new × ((after ≡ before) × IsNotOvertaken left before old)) ⊎ ((phase ≡ Word 1) × ((after + 1 ≡ before) × (new ≡ old)))
+abbrev pub HasBegunOrWaits : (nodes left before after : ℕ) → List ℕ → Below → Phase → FreeSlots → FreeSlots → Type 0
+HasBegunOrWaits nodes left before after read r phase old new =
+    (HasBegunBelow nodes r phase old new × ((after ≡ before) × (IsNotOvertaken left before old × (r.read ≡ read)))) ⊎ ((phase ≡ Word 1) × ((after + (NODE_WORDS + 1) ≡ before) × ((new ≡ old) × IsUnread r.lower.status r.read)))
 
 -- that is where the upper guard was no frozen node's; elsewhere none was taken
-abbrev pub HasLookedBelow : (nodes left before after : ℕ) → Below → (word : ℕ) → Phase → FreeSlots → FreeSlots → Type 0
-HasLookedBelow nodes left before after r word phase old new =
-    (((status word).frozen ≡ false) × HasBegunOrWaits nodes left before after r phase old new) ⊎ (((status word).frozen ≡ true) × ((phase ≡ Restart) × ((after ≡ before) × (new ≡ old))))
+abbrev pub HasLookedBelow : (nodes left before after : ℕ) → List ℕ → Below → (word : ℕ) → Phase → FreeSlots → FreeSlots → Type 0
+HasLookedBelow nodes left before after read r word phase old new =
+    (((status word).frozen ≡ false) × HasBegunOrWaits nodes left before after read r phase old new) ⊎ (((status word).frozen ≡ true) × ((phase ≡ Restart) × ((after ≡ before) × (new ≡ old))))
 
 -- where the parent's status is as it was, its words tell whether there is room
 abbrev pub HasTold : Below → Seen → Phase → Type 0

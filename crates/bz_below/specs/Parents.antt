@@ -1,6 +1,7 @@
 -- The parent of a leaf that is split, read word by word: while its status is as it was, these are the words of one moment, and the
 -- leaf's place may be parted there.
-use Rattle.std.specs.Prelude.{◌≡◌, ℕ, ◌<◌, ◌≤◌, true, List, Option, None, length, slice_index}
+use Rattle.std.specs.Prelude.{◌≡◌, ℕ, ◌<◌, ◌≤◌, ◌⊎◌, true, List, Option, None, length, slice_index}
+use Rattle.bz_gaps.specs.FreeWords.{IsFree}
 use Rattle.bz_key.specs.Bytes.{IsKey}
 use Rattle.bz_layout.specs.declared.limits.TheConstants.{MAX_NODES}
 use Rattle.bz_layout.specs.declared.sizes.TheConstants.{NODE_WORDS, STATUS_AT}
@@ -23,11 +24,17 @@ pub record WasWord (k i v m : ℕ) (p : Past) : Type 0 where
   pub now : moment ≤ p.now
   pub word : words p.config (p.at moment) k i ≡ v
 
--- the status of slot k was this, and the words after it, before a place, were read from moment m on
+-- of the words of a node word i is the one of slot k at a moment from m on; or it is free, and 0
+abbrev pub WasReadOrFree : (k i m : ℕ) (read : List ℕ) (p : Past) → Type 0
+WasReadOrFree k i m read p = WasWord k i (slice_index read i) m p ⊎ (IsFree (node_of read) i × (slice_index read i ≡ 0))
+
+-- the status of slot k was this, and the words after it, before a place, were read from moment m on, but for the free ones; and none
+-- from there on
 pub record WereRead (k m status place : ℕ) (read : List ℕ) (p : Past) : Type 0 where
   pub size : length read ≡ NODE_WORDS
   pub first : slice_index read STATUS_AT ≡ status
-  pub rest : (i : ℕ) → 0 < i → i < place → WasWord k i (slice_index read i) m p
+  pub rest : (i : ℕ) → 0 < i → i < place → WasReadOrFree k i m read p
+  pub blank : (i : ℕ) → place ≤ i → slice_index read i ≡ 0
 
 -- these are the words of an inner node that breaks no rule at this level between these bounds; child i, which is in this slot, may
 -- be parted by this key, and no other child is in that slot
@@ -55,8 +62,8 @@ pub record WasParent (upper lower : Link) (m i : ℕ) (sep read : List ℕ) (p :
   pub low_is : (form_at p.config (p.at m)).low upper.slot ≡ low
   pub high_is : (form_at p.config (p.at m)).high upper.slot ≡ high
 
--- where all words were read after the status, and the status is found again, they are those of the moment of the status; and a key
--- between the bounds that the leaf had when it was frozen, which is not the lower one, parts it there
+-- where all words but the free ones were read after the status, and the status is found again, they are those of the moment of the
+-- status; and a key between the bounds that the leaf had when it was frozen, which is not the lower one, parts it there
 abbrev pub ReadParentsWere : Type 0
 ReadParentsWere =
     (s : Scene) (upper lower : Link) (m : ℕ) (sep read : List ℕ) → IsScene s → (links : AreLinksDown upper lower s.past) → WasFrozenLeaf lower.slot m s.past →

@@ -1,8 +1,9 @@
 //! The phases of a split below a parent.
 
-/// How many times a split reads the parent anew, at most, because others have taken slots meanwhile. That takes about as many acts
-/// as it takes another split from its slots to its swap.
-pub const MOST_WAITS: u32 = 4;
+/// How many times a split reads a parent anew of which no word is free, at most, because others have taken slots meanwhile; more often
+/// where words are free, in as many loads, but for those of a last reading that are too few. They are no fewer acts than it takes
+/// another split from its slots to its swap.
+pub const MOST_WAITS: u32 = 5;
 
 /// What a split below a parent asks for next.
 #[derive(Clone, Copy, Drop)]

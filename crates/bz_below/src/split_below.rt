@@ -1,6 +1,6 @@
 //! The task that splits a frozen leaf below a parent.
 
-ghost use Rattle.std.specs.Prelude.{◌≡◌, ◌≢◌, ◌↔◌, ◌+◌, ◌-◌, ◌<◌, ◌≤◌, ◌^◌, ◌⊎◌, ℕ, List, Option, Some, None, IsTrue, IsSome, IfSome, true, false, slice_get, slice_index, length};
+ghost use Rattle.std.specs.Prelude.{◌≡◌, ◌≢◌, ◌↔◌, ◌+◌, ◌-◌, ◌<◌, ◌≤◌, ◌^◌, ◌⊎◌, ℕ, List, Option, Some, None, IsTrue, IsSome, IfSome, true, false, slice_get, length};
 ghost use Rattle.bz_layout.specs.declared.sizes.TheConstants.{NODE_WORDS};
 ghost use Rattle.bz_layout.specs.Config.{IsConfig};
 ghost use Rattle.bz_layout.specs.declared.thresholds.TheConstants.{SPLIT_ABOVE, SPLIT_SLOTS};
@@ -24,6 +24,7 @@ use crate::laws::{links_stand_on, read_parents_were};
 use crate::links::{guarded_by, upper_link};
 use crate::phase::{MOST_WAITS, Phase};
 use bz_call::Spent;
+use bz_gaps::{first_word, next_place};
 use bz_halves::{Halves, ParentChange, parent_over, place_of};
 use bz_key::PageBuf;
 use bz_layout::{Config, LINE_WORDS, NODE_WORDS, SPLIT_SLOTS, Slots};
@@ -39,12 +40,15 @@ const SPLIT_WORDS: u32 = NODE_WORDS * SPLIT_SLOTS;
 
 const SPLIT_LINES: u32 = NODE_LINES * SPLIT_SLOTS;
 
+// The loads of a reading of a parent of which no word is free: its words after the status, the status, and the upper guard.
+const READ_LOADS: u32 = NODE_WORDS + 1;
+
 /// The split of the frozen leaf that a view shows, below a parent. It ends with Done where a new parent, with the leaf's halves in
 /// its place, has taken the old one's place, which is frozen; with Restart where the parent's status or the link to it was another one,
 /// or the guard of that link a frozen node's; with NeedsRoom where the parent has no room for the separator; and with Full where fewer
 /// than three slots or no descriptor were left. Where others take slots while it reads the parent, it reads the parent anew before it
-/// takes its own, up to `MOST_WAITS` times. The swap names the guard as it is when the nodes are durable: swaps on the node of the link
-/// that left this link as it was are no reason to begin again.
+/// takes its own, in as many loads as `MOST_WAITS` readings of all words take. The swap names the guard as it is when the nodes are
+/// durable: swaps on the node of the link that left this link as it was are no reason to begin again.
 #[derive(Drop)]
 pub struct SplitBelow {
     config: Config,
@@ -59,7 +63,7 @@ pub struct SplitBelow {
     slots: [u16; 3],
     // the guard of the link to the parent, read once the nodes are durable: the swap names it
     guard: u64,
-    // how many slots were left when the parent was first read, and how many times it may be read anew
+    // how many slots were left when the parent was first read, and in how many loads it may be read anew
     left: u32,
     waits: u32,
     phase: Phase,
@@ -102,7 +106,7 @@ impl SplitBelow {
             slots: [0; 3],
             guard: 0,
             left: 0,
-            waits: MOST_WAITS,
+            waits: MOST_WAITS * READ_LOADS,
             phase: Phase::Fresh,
         }
     }
@@ -185,10 +189,10 @@ impl SplitBelow {
 
     // Whether others have taken slots since the parent was first read, and it may be read once more.
     fn is_overtaken(&self, slots: &Slots) -> bool
-        ensures more { result ≡ true → 0 < self.now.waits }
+        ensures more { result ≡ true → NODE_WORDS + 1 ≤ self.now.waits }
         ensures none { result ≡ false → IsNotOvertaken self.now.left self.now.waits slots.now }
     {
-        if self.waits == 0 {
+        if self.waits < READ_LOADS {
             return false;
         }
         slots.left() != self.left
@@ -203,11 +207,11 @@ impl SplitBelow {
         ensures upper { self.new.upper ≡ self.old.upper }
         ensures lower { self.new.lower ≡ self.old.lower }
         ensures halves { self.new.halves ≡ self.old.halves }
-        ensures read { self.new.read ≡ self.old.read }
-        ensures begun { HasBegunOrWaits self.old.config.nodes self.old.left self.old.waits self.new.waits (below_of self.new) self.new.phase slots.old slots.new }
+        ensures begun { HasBegunOrWaits self.old.config.nodes self.old.left self.old.waits self.new.waits self.old.read.0 (below_of self.new) self.new.phase slots.old slots.new }
     {
         if self.is_overtaken(slots) {
-            self.waits -= 1;
+            self.waits -= READ_LOADS;
+            self.read = first_word(self.lower.status);
             self.phase = Phase::Word(1);
         } else {
             self.begin(slots);
@@ -223,8 +227,7 @@ impl SplitBelow {
         ensures upper { self.new.upper ≡ self.old.upper }
         ensures lower { self.new.lower ≡ self.old.lower }
         ensures halves { self.new.halves ≡ self.old.halves }
-        ensures read { self.new.read ≡ self.old.read }
-        ensures looked { HasLookedBelow self.old.config.nodes self.old.left self.old.waits self.new.waits (below_of self.new) word self.new.phase slots.old slots.new }
+        ensures looked { HasLookedBelow self.old.config.nodes self.old.left self.old.waits self.new.waits self.old.read.0 (below_of self.new) word self.new.phase slots.old slots.new }
     {
         if is_frozen(word) {
             self.phase = Phase::Restart;
@@ -297,7 +300,9 @@ impl SplitBelow {
             }
             Phase::Word(i) => {
                 self.read.0[i as usize] = word_in(seen);
-                self.phase = after_word(i);
+                let next = next_place(&self.read, i);
+                self.waits = with_skipped(self.waits, next - i - 1);
+                self.phase = after_word(next);
             }
             Phase::Again => self.phase = self.told(seen),
             Phase::Guard => self.look(word_in(seen), slots),
@@ -358,16 +363,6 @@ impl SplitBelow {
     }
 }
 
-// The words of a node of which the status alone was read.
-fn first_word(status: u64) -> NodeImage
-    ensures first { slice_index result.0 0 ≡ status }
-    ensures size { length result.0 ≡ NODE_WORDS }
-{
-    let mut words = [0; NODE_WORDS as usize];
-    words[0] = status;
-    NodeImage(words)
-}
-
 // The word that a load found.
 fn word_in(seen: Seen) -> u64
     ensures { (v : ℕ) → seen ≡ Was v → result ≡ v }
@@ -388,13 +383,20 @@ fn is_read(seen: Seen, value: u64) -> bool
     }
 }
 
-// The phase after the load of a word of the parent: that of the next one, or its status once more.
-fn after_word(i: u32) -> Phase
-    requires { i < NODE_WORDS }
-    ensures { result ≡ word_after i }
+// The loads that may still be spent on waiting, and those of the words that were skipped besides.
+fn with_skipped(waits: u32, skipped: u32) -> u32
+    ensures { result ≤ waits + skipped }
 {
-    if i + 1 < NODE_WORDS {
-        Phase::Word(i + 1)
+    waits.saturating_add(skipped)
+}
+
+// The phase after the load of a word of the parent: that of the next one that is read, or its status once more.
+fn after_word(next: u32) -> Phase
+    requires { next ≤ NODE_WORDS }
+    ensures { result ≡ word_after next }
+{
+    if next < NODE_WORDS {
+        Phase::Word(next)
     } else {
         Phase::Again
     }

@@ -9,3 +9,4 @@ mod Halving
 pub mod Staying
 pub mod Paths
 pub mod FromSplit
+pub mod FromBelow

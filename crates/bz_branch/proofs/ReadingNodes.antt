@@ -1,8 +1,6 @@
 -- The words that were read of an inner node are those of one moment.
-use Rattle.std.proofs.Common.{◌≡◌, ℕ, ◌+◌, ◌<◌, ◌≤◌, true, List, slice_index, arith, refl, sym, ap, subst, ◌∙◌, inl, inr, Option}
+use Rattle.std.proofs.Common.{◌≡◌, ℕ, ◌+◌, ◌<◌, ◌≤◌, true, List, arith, refl, ap, subst, sym, ◌∙◌, Option}
 use Rattle.std.specs.Prelude.{None}
-use Rattle.std.proofs.lemmas.Bool.{cases_lt, cases_eq}
-use Rattle.std.proofs.lemmas.List.{get_or_past}
 use Rattle.bz_layout.specs.Addresses.{node_address}
 use Rattle.bz_layout.specs.declared.config.Config.{Config}
 use Rattle.bz_layout.specs.declared.limits.TheConstants.{MAX_NODES}
@@ -14,12 +12,11 @@ use Rattle.bz_content.specs.Image.{node}
 use Rattle.bz_parted.specs.Laws.{ReadNodesHaveChildren}
 use Rattle.bz_task.specs.Good.{IsGood}
 use Rattle.bz_task.specs.Instant.{Instant, words, page_at, form_at}
-use Rattle.bz_task.specs.Laws.{AreMoments}
 use Rattle.bz_task.specs.Scene.{Scene, IsScene, here}
-use Rattle.bz_task.specs.Shown.{SameNode}
 use Rattle.bz_task.specs.declared.path.Link.{Link}
-use Rattle.bz_renew.proofs.Words.{node-at, node-past}
-use Rattle.bz_below.specs.Parents.{WasWord, WereRead}
+use Rattle.bz_renew.proofs.Words.{node-at}
+use Rattle.bz_below.specs.Parents.{WereRead}
+use Rattle.bz_below.proofs.ReadWords.{words-then}
 use Rattle.bz_branch.specs.Nodes.{IsOpenLink, WasInner, ReadNodesWere}
 use Rattle.bz_branch.proofs.OpenNodes.{Laws as Basis, IsOpen, inside, alike, high_up, no-fault}
 
@@ -37,9 +34,6 @@ module _ (b : Laws) (s : Scene) (k : ℕ) (link : Link) (read : List ℕ) (good 
 
   abbrev was : Instant
   was = s.past.at o.guard.guarded
-
-  moments : AreMoments s.past.since s.past.now g s.past.now
-  moments = record { since = o.guard.since; order = omega (arith, o.guard.order, o.guard.now); until = omega arith }
 
   was-good : IsGood c was
   was-good = good.history.good g o.guard.since (omega (arith, o.guard.order, o.guard.now))
@@ -62,25 +56,6 @@ module _ (b : Laws) (s : Scene) (k : ℕ) (link : Link) (read : List ℕ) (good 
   opened : IsOpen c was k
   opened = record { reached = reached; thawed = ap (λ z. (status z).frozen) status-was ∙ o.thawed; inner = inner }
 
-  -- each word that was read is that of the moment of the status
-  word-was : (j : ℕ) → j < NODE_WORDS → words c was k j ≡ slice_index read j
-  word-was j l = elim (cases_eq j 0) [
-    | inl e ↦ subst (λ z. words c was k z ≡ slice_index read z) (sym e) (status-was ∙ sym were.first)
-    | inr ne ↦ (
-        let r : WasWord k j (slice_index read j) g s.past = were.rest j (omega (arith, ne)) l in
-        let same : SameNode c was (s.past.at r.moment) k = b.basis.nodes c s.past.at s.past.since s.past.now g r.moment s.past.now k good.history moments r.order r.now reached (status-now ∙ sym status-was) in
-        sym (same j (inr (inr (inl inner)))) ∙ r.word)
-  ]
-
-  words-were : words c was k ≡ node_of read
-  words-were = λ t j. each j t
-    where
-      each : (j : ℕ) → words c was k j ≡ node_of read j
-      each j = elim (cases_lt j NODE_WORDS) [
-        | inl l ↦ word-was j l
-        | inr l ↦ node-past c was.value k j l ∙ sym (get_or_past read j 0 (omega (arith, l, were.size)))
-      ]
-
   abbrev l : ℕ
   l = (form_at c was).level k
 
@@ -92,6 +67,9 @@ module _ (b : Laws) (s : Scene) (k : ℕ) (link : Link) (read : List ℕ) (good 
 
   level-high : 0 < l
   level-high = high_up b.basis c was k was-good opened
+
+  words-were : words c was k ≡ node_of read
+  words-were = words-then b.basis.nodes b.basis.inner s k g link.status l lo hi read good o.guard.since (omega (arith, o.guard.order, o.guard.now)) reached inner status-was status-now level-high (no-fault b.basis c was k was-good opened) were
 
   whole : node_fault c.nodes (node c was.image k) (node_of read) l lo hi ≡ None
   whole = subst (λ n. node_fault c.nodes (node c was.image k) n l lo hi ≡ None) (alike b.basis c was k was-good opened ∙ words-were) (no-fault b.basis c was k was-good opened)

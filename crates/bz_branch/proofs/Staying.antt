@@ -11,7 +11,7 @@ use Rattle.bz_task.specs.Requests.{IsPointerPlace}
 use Rattle.bz_task.specs.Scene.{Past, Continues}
 use Rattle.bz_task.specs.declared.path.Link.{Link}
 use Rattle.bz_below.specs.FromSplit.BelowSplits.{AreLinksDown}
-use Rattle.bz_below.specs.Parents.{WasWord, WereRead, IsParentOf, WasParent}
+use Rattle.bz_below.specs.Parents.{WasWord, WasReadOrFree, WereRead, IsParentOf, WasParent}
 use Rattle.bz_branch.specs.Nodes.{IsOpenLink, IsInnerNode, WasInner}
 use Rattle.bz_branch.specs.Parts.{AreHalvesOfNode}
 
@@ -79,8 +79,12 @@ module _ (p q : Past) (c : Continues p q) where
   word-stays : (k i v m : ℕ) → WasWord k i v m p → WasWord k i v m q
   word-stays k i v m w = record { moment = w.moment; order = w.order; now = omega (arith, w.now, c.now); word = (λ t. words (c.config t) (c.at w.moment w.now t) k i) ∙ w.word }
 
+  free-stays : (k i m : ℕ) (read : List ℕ) → WasReadOrFree k i m read p → WasReadOrFree k i m read q
+  free-stays k i m read (inl w) = inl (word-stays k i (slice_index read i) m w)
+  free-stays k i m read (inr f) = inr f
+
   pub read-stays : (k m status place : ℕ) (read : List ℕ) → WereRead k m status place read p → WereRead k m status place read q
-  read-stays k m status place read v = record { size = v.size; first = v.first; rest = λ i some l. word-stays k i (slice_index read i) m (v.rest i some l) }
+  read-stays k m status place read v = record { size = v.size; first = v.first; rest = λ i some l. free-stays k i m read (v.rest i some l); blank = v.blank }
 
   -- a node that was read stood at the same level between the same bounds
   unfoldable pub inner-stays : (k m : ℕ) (read : List ℕ) → m ≤ p.now → WasInner k m read p → WasInner k m read q

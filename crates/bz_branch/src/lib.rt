@@ -12,5 +12,5 @@ mod swaps;
 pub use front::{level_of, low_fence};
 pub use links::{is_full, is_thawed, link_at};
 pub use parts::parts_of;
-pub use reading::{first_word, is_read, word_in};
+pub use reading::{is_read, word_in};
 pub use swaps::swap_freezing_two;

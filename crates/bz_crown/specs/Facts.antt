@@ -86,9 +86,9 @@ crown_needs Again = SPLIT_SLOTS
 crown_needs Guard = SPLIT_SLOTS
 crown_needs phase = 0
 
--- after a word comes the next one, or the root's status once more
+-- after a word comes the next one that is read, or the root's status once more
 abbrev pub word_after : ℕ → Phase
-word_after i = if nat_lt (i + 1) NODE_WORDS then Word (i + 1) else Again
+word_after next = if nat_lt next NODE_WORDS then Word next else Again
 
 -- after a store comes the next one, or the first flush; after a flush the next one, or the swap
 abbrev pub store_after : ℕ → Phase

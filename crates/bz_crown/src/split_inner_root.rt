@@ -17,8 +17,9 @@ ghost use Rattle.bz_crown.specs.Facts.{crown_nodes, crown_acts, crown_left, crow
 
 use crate::phase::Phase;
 use bz_branch::laws::{inner_root_splits_are_good, read_nodes_were};
-use bz_branch::{first_word, is_read, level_of, link_at, parts_of, word_in};
+use bz_branch::{is_read, level_of, link_at, parts_of, word_in};
 use bz_call::Spent;
+use bz_gaps::{first_word, next_place};
 use bz_layout::{Config, LINE_WORDS, MAX_LEVELS, NODE_WORDS, SPLIT_SLOTS, Slots};
 use bz_node::NodeImage;
 use bz_parted::tall_root_over;
@@ -213,7 +214,8 @@ impl SplitInnerRoot {
             Phase::Fresh => self.phase = Phase::Word(1),
             Phase::Word(i) => {
                 self.read.0[i as usize] = word_in(seen);
-                self.phase = after_word(i);
+                let next = next_place(&self.read, i);
+                self.phase = after_word(next);
             }
             Phase::Again => self.phase = self.told(seen),
             Phase::Guard => self.look(seen, slots),
@@ -270,13 +272,13 @@ impl SplitInnerRoot {
     }
 }
 
-// The phase after the load of a word of the root: that of the next one, or its status once more.
-fn after_word(i: u32) -> Phase
-    requires { i < NODE_WORDS }
-    ensures { result ≡ word_after i }
+// The phase after the load of a word of the root: that of the next one that is read, or its status once more.
+fn after_word(next: u32) -> Phase
+    requires { next ≤ NODE_WORDS }
+    ensures { result ≡ word_after next }
 {
-    if i + 1 < NODE_WORDS {
-        Phase::Word(i + 1)
+    if next < NODE_WORDS {
+        Phase::Word(next)
     } else {
         Phase::Again
     }

@@ -1,66 +1,36 @@
 -- What is known of the node while its words are read, and that the next load may be asked for.
-use Rattle.std.proofs.Common.{◌≡◌, ◌≢◌, ℕ, ◌+◌, ◌<◌, if◌then◌else◌, Bool, true, false, List, slice_index, slice_set, arith, refl, sym, subst, ◌∙◌, inl, inr}
-use Rattle.std.specs.Prelude.{nat_lt, ◌≤◌, length}
-use Rattle.std.proofs.lemmas.Bool.{cases_eq}
+use Rattle.std.proofs.Common.{◌≡◌, ◌≢◌, ℕ, ◌+◌, ◌<◌, if◌then◌else◌, Bool, true, false, List, slice_set, arith, refl, sym, subst}
+use Rattle.std.specs.Prelude.{nat_lt, ◌≤◌}
 use Rattle.std.proofs.lemmas.Bool.Decides.{nat_tests}
-use Rattle.std.proofs.lemmas.List.{length-set, get_or-set_same, get_or-set_other}
+use Rattle.bz_gaps.specs.FreeWords.{IsFree}
 use Rattle.bz_layout.specs.Addresses.{node_address}
 use Rattle.bz_layout.specs.Slots.{FreeSlots}
 use Rattle.bz_layout.specs.declared.config.Config.{Config}
-use Rattle.bz_layout.specs.declared.sizes.TheConstants.{NODE_WORDS, STATUS_AT}
+use Rattle.bz_layout.specs.declared.sizes.TheConstants.{NODE_WORDS}
 use Rattle.bz_layout.specs.declared.thresholds.TheConstants.{SPLIT_SLOTS}
-use Rattle.bz_task.specs.Instant.{words}
+use Rattle.bz_slotted.specs.ReadingLaws.{node_of}
 use Rattle.bz_task.specs.Requests.{Answers, Hears, Tells}
-use Rattle.bz_task.specs.Scene.{Scene, Stage, Waiting, Took, IsScene, HasFilled, here}
+use Rattle.bz_task.specs.Scene.{Scene, Stage, Waiting, Took, IsScene, HasFilled}
 use Rattle.bz_task.specs.declared.todo.Seen.{Seen}
 use Rattle.bz_task.specs.declared.todo.Seen.TheVariants.{Start, Read as Was, Stored, Flushed, Swapped, NoSwap as NoneLeft}
-use Rattle.bz_renew.proofs.Words.{node-at}
 use Rattle.bz_fork.specs.Facts.{Fork, IsReading, fork_asks, fork_left, fork_needs, fork_facts, word_after, IsReadyFork}
-use Rattle.bz_branch.specs.FromBelow.Parents.{WasWord}
+use Rattle.bz_branch.proofs.FromBelow.ReadWords.{kept}
 use Rattle.bz_fork.specs.declared.phase.Phase.{Phase}
 use Rattle.bz_fork.specs.declared.phase.Phase.TheVariants.{Fresh, Word, Again}
 use Rattle.bz_fork.proofs.Acting.{middle-slot}
 use Rattle.bz_fork.proofs.Ending.{EndsWell, goes-on, was-no-swap}
 
--- a word that was read is kept
-module _ (r : Fork) (i v : ℕ) (s : Scene) (good : IsScene s) (some : 0 < i) (l : i < NODE_WORDS) (f : IsReading r i s.past) (a : Answers s (node_address s.past.config r.middle.slot + i) v) where
-  abbrev kept : Fork
-  kept = record { upper = r.upper; middle = r.middle; lower = r.lower; slot = r.slot; image = r.image; read = slice_set r.read i v; above = r.above }
+-- the task with other words of the node
+abbrev pub with_read : Fork → List ℕ → Fork
+with_read r words = record { upper = r.upper; middle = r.middle; lower = r.lower; slot = r.slot; image = r.image; read = words; above = r.above }
 
-  long : i < length r.read
-  long = omega (arith, l, f.were.size)
-
-  rest : (j : ℕ) → 0 < j → j < i + 1 → WasWord r.middle.slot j (slice_index (slice_set r.read i v) j) f.links.counted s.past
-  rest j pos k = elim (cases_eq j i) [
-    | inl e ↦ (
-        let same : v ≡ slice_index (slice_set r.read i v) j = sym (subst (λ z. slice_index (slice_set r.read i v) z ≡ v) (sym e) (get_or-set_same r.read i v 0 long)) in
-        subst (λ z. WasWord r.middle.slot j z f.links.counted s.past) same (record {
-          moment = s.past.now;
-          order = omega (arith, f.links.node.guard.order, f.links.node.guard.now, f.links.is_counted);
-          now = omega arith;
-          word = subst (λ z. words s.past.config (here s) r.middle.slot z ≡ v) (sym e) (node-at s.past.config (here s).value r.middle.slot i l ∙ a.value);
-        }))
-    | inr ne ↦ subst (λ z. WasWord r.middle.slot j z f.links.counted s.past) (sym (get_or-set_other r.read i j v 0 (λ e. absurd (omega (arith, e, ne))))) (f.were.rest j pos (omega (arith, k, ne)))
-  ]
-
-  pub kept-reading : IsReading kept (i + 1) s.past
-  kept-reading = record {
-    links = f.links;
-    were = record {
-      size = length-set r.read i v ∙ f.were.size;
-      first = get_or-set_other r.read i STATUS_AT v 0 (λ e. absurd (omega (arith, e, some))) ∙ f.were.first;
-      rest = rest;
-    };
-    above = f.above;
-  }
-
-pub next-word : (r : Fork) (i : ℕ) (s : Scene) → HasFilled s → i < NODE_WORDS → IsReading r (i + 1) s.past → fork_facts r (word_after i) Waiting s
-next-word r i s filled l f = choose (nat_lt (i + 1) NODE_WORDS) refl
+next-word : (r : Fork) (j : ℕ) (s : Scene) → HasFilled s → 0 < j → j ≤ NODE_WORDS → IsReading r j s.past → fork_facts r (word_after j) Waiting s
+next-word r j s filled some l f = choose (nat_lt j NODE_WORDS) refl
   where
-    choose : (b : Bool) → nat_lt (i + 1) NODE_WORDS ≡ b → fork_facts r (if b then Word (i + 1) else Again) Waiting s
-    choose true e = (filled, (omega arith, ((let k : i + 1 < NODE_WORDS = grind (arith, nat_tests) in k), f)))
+    choose : (b : Bool) → nat_lt j NODE_WORDS ≡ b → fork_facts r (if b then Word j else Again) Waiting s
+    choose true e = (filled, (some, ((let k : j < NODE_WORDS = grind (arith, nat_tests) in k), f)))
     choose false e =
-        let all : i + 1 ≡ NODE_WORDS = (let past : NODE_WORDS ≤ i + 1 = grind (arith, nat_tests) in omega (arith, past, l)) in
+        let all : j ≡ NODE_WORDS = (let past : NODE_WORDS ≤ j = grind (arith, nat_tests) in omega (arith, past, l)) in
         (filled, subst (λ z. IsReading r z s.past) all f)
 
 -- what is known of the first phase is what the task was made with, and that all slots are filled
@@ -73,18 +43,21 @@ fresh-known c r (Swapped won) Waiting s f t = absurd (t)
 fresh-known c r NoneLeft Waiting s f t = absurd (t)
 fresh-known c r seen Took s f t = absurd (f)
 
--- after a word of the node
-pub word-known : (c : Config) (r : Fork) (i v : ℕ) (seen : Seen) (stage : Stage) (s : Scene) → s.past.config ≡ c → IsScene s → ((w : ℕ) → seen ≡ Was w → v ≡ w) → fork_facts r (Word i) stage s → Tells (fork_asks c r (Word i)) stage seen s
-    → fork_facts (record { upper = r.upper; middle = r.middle; lower = r.lower; slot = r.slot; image = r.image; read = slice_set r.read i v; above = r.above }) (word_after i) Waiting s
-word-known c r i v (Was w) Waiting s same good found f t =
+-- after a word of the node; those between it and the next one that is read are free
+pub word-known : (c : Config) (r : Fork) (i j v : ℕ) (seen : Seen) (stage : Stage) (s : Scene) → s.past.config ≡ c → IsScene s → i < j → j ≤ NODE_WORDS → ((q : ℕ) → i < q → q < j → IsFree (node_of (slice_set r.read i v)) q) →
+    ((w : ℕ) → seen ≡ Was w → v ≡ w) → fork_facts r (Word i) stage s → Tells (fork_asks c r (Word i)) stage seen s → fork_facts (with_read r (slice_set r.read i v)) (word_after j) Waiting s
+word-known c r i j v (Was w) Waiting s same good after within skipped found f t =
     let a : Answers s (node_address s.past.config r.middle.slot + i) v = subst (λ (z : Config). Answers s (node_address z r.middle.slot + i) v) (sym same) (subst (Answers s (node_address c r.middle.slot + i)) (sym (found w refl)) t) in
-    next-word (record { upper = r.upper; middle = r.middle; lower = r.lower; slot = r.slot; image = r.image; read = slice_set r.read i v; above = r.above }) i s f.0 f.1.1.0 (kept-reading r i v s good f.1.0 f.1.1.0 f.1.1.1 a)
-word-known c r i v Start Waiting s same good found f t = absurd (t)
-word-known c r i v Stored Waiting s same good found f t = absurd (t)
-word-known c r i v Flushed Waiting s same good found f t = absurd (t)
-word-known c r i v (Swapped won) Waiting s same good found f t = absurd (t)
-word-known c r i v NoneLeft Waiting s same good found f t = absurd (t)
-word-known c r i v seen Took s same good found f t = absurd (f)
+    let b : IsReading r i s.past = f.1.1.1 in
+    let order : b.links.counted ≤ s.past.now = omega (arith, b.links.node.guard.order, b.links.node.guard.now, b.links.is_counted) in
+    next-word (with_read r (slice_set r.read i v)) j s f.0 (omega (arith, after)) within
+    (record { links = b.links; were = kept r.middle.slot b.links.counted r.lower.status i j v r.read s order f.1.0 f.1.1.0 after b.were skipped a; above = b.above })
+word-known c r i j v Start Waiting s same good after within skipped found f t = absurd (t)
+word-known c r i j v Stored Waiting s same good after within skipped found f t = absurd (t)
+word-known c r i j v Flushed Waiting s same good after within skipped found f t = absurd (t)
+word-known c r i j v (Swapped won) Waiting s same good after within skipped found f t = absurd (t)
+word-known c r i j v NoneLeft Waiting s same good after within skipped found f t = absurd (t)
+word-known c r i j v seen Took s same good after within skipped found f t = absurd (f)
 
 pub fresh-ready : (c : Config) (r : Fork) (seen : Seen) (stage : Stage) (s : Scene) → s.past.config ≡ c → IsScene s → fork_facts r Fresh stage s → IsReadyFork c r (Word 1)
 fresh-ready c r seen Waiting s same good f = (subst (λ (z : Config). r.middle.slot < z.nodes) same (middle-slot r.upper r.middle r.lower s good f.links), omega arith)
@@ -105,8 +78,8 @@ word-waits r i Took s f = absurd (f)
 pub word-within : (r : Fork) (i : ℕ) (stage : Stage) (s : Scene) → fork_facts r (Word i) stage s → i < NODE_WORDS
 word-within r i stage s f = (word-waits r i stage s f).1.0
 
-pub words-on : (c : Config) (r : Fork) (i : ℕ) (seen : Seen) (stage : Stage) (s : Scene) (free : FreeSlots) → s.past.config ≡ c → IsScene s → Hears (fork_asks c r (Word i)) seen → fork_facts r (Word i) stage s → Words c r i seen (word_after i) free
-words-on c r i seen stage s free same good h f = choose (nat_lt (i + 1) NODE_WORDS) refl
+pub words-on : (c : Config) (r : Fork) (i j : ℕ) → i < j → j ≤ NODE_WORDS → (seen : Seen) (stage : Stage) (s : Scene) (free : FreeSlots) → s.past.config ≡ c → IsScene s → Hears (fork_asks c r (Word i)) seen → fork_facts r (Word i) stage s → Words c r i seen (word_after j) free
+words-on c r i j after within seen stage s free same good h f = choose (nat_lt j NODE_WORDS) refl
   where
     w : (0 < i) × ((i < NODE_WORDS) × IsReading r i s.past)
     w = word-waits r i stage s f
@@ -114,16 +87,16 @@ words-on c r i seen stage s free same good h f = choose (nat_lt (i + 1) NODE_WOR
     slot : r.middle.slot < c.nodes
     slot = subst (λ (z : Config). r.middle.slot < z.nodes) same (middle-slot r.upper r.middle r.lower s good w.1.1.links)
 
-    choose : (b : Bool) → nat_lt (i + 1) NODE_WORDS ≡ b → Words c r i seen (if b then Word (i + 1) else Again) free
+    choose : (b : Bool) → nat_lt j NODE_WORDS ≡ b → Words c r i seen (if b then Word j else Again) free
     choose true e =
-        let k : i + 1 < NODE_WORDS = grind (arith, nat_tests) in
-        record { begun = λ q. absurd (cc); ready = (slot, k); nearer = omega (arith, k); fewer = omega arith; ends = goes-on r.upper r.middle r.lower seen (Word i) (Word (i + 1)) free refl (was-no-swap (node_address c r.middle.slot + i) seen h) }
+        let k : j < NODE_WORDS = grind (arith, nat_tests) in
+        record { begun = λ q. absurd (cc); ready = (slot, k); nearer = omega (arith, k, after); fewer = omega arith; ends = goes-on r.upper r.middle r.lower seen (Word i) (Word j) free refl (was-no-swap (node_address c r.middle.slot + i) seen h) }
     choose false e = record { begun = λ q. absurd (cc); ready = tt; nearer = omega (arith, w.1.0); fewer = omega arith; ends = goes-on r.upper r.middle r.lower seen (Word i) Again free refl (was-no-swap (node_address c r.middle.slot + i) seen h) }
 
 -- what is asked for next is the same whatever was read
-pub word-ready : (c : Config) (r : Fork) (read : List ℕ) (i : ℕ) → IsReadyFork c r (word_after i) → IsReadyFork c (record { upper = r.upper; middle = r.middle; lower = r.lower; slot = r.slot; image = r.image; read = read; above = r.above }) (word_after i)
-word-ready c r read i f = choose (nat_lt (i + 1) NODE_WORDS) f
+pub word-ready : (c : Config) (r : Fork) (read : List ℕ) (j : ℕ) → IsReadyFork c r (word_after j) → IsReadyFork c (with_read r read) (word_after j)
+word-ready c r read j f = choose (nat_lt j NODE_WORDS) f
   where
-    choose : (b : Bool) → IsReadyFork c r (if b then Word (i + 1) else Again) → IsReadyFork c (record { upper = r.upper; middle = r.middle; lower = r.lower; slot = r.slot; image = r.image; read = read; above = r.above }) (if b then Word (i + 1) else Again)
+    choose : (b : Bool) → IsReadyFork c r (if b then Word j else Again) → IsReadyFork c (with_read r read) (if b then Word j else Again)
     choose true g = g
     choose false g = tt

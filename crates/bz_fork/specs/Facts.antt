@@ -97,12 +97,12 @@ fork_needs Check = SPLIT_SLOTS
 fork_needs Guard = SPLIT_SLOTS
 fork_needs phase = 0
 
--- after a word comes the next one, or the status once more
+-- after a word comes the next one that is read, or the status once more
 abbrev pub word_after : ℕ → Phase
-word_after i = if nat_lt (i + 1) NODE_WORDS then Word (i + 1) else Again
+word_after next = if nat_lt next NODE_WORDS then Word next else Again
 
 abbrev pub above_after : ℕ → Phase
-above_after i = if nat_lt (i + 1) NODE_WORDS then Above (i + 1) else Check
+above_after next = if nat_lt next NODE_WORDS then Above next else Check
 
 -- after a store comes the next one, or the first flush; after a flush the next one, or the swap
 abbrev pub store_after : ℕ → Phase

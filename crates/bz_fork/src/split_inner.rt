@@ -17,8 +17,9 @@ ghost use Rattle.bz_fork.specs.Facts.{fork_nodes, fork_acts, fork_left, fork_fac
 use crate::parent::parent_with;
 use crate::phase::Phase;
 use bz_branch::laws::{inner_splits_are_good, parents_of_nodes_were, read_nodes_were};
-use bz_branch::{first_word, is_read, link_at, parts_of, swap_freezing_two, word_in};
+use bz_branch::{is_read, link_at, parts_of, swap_freezing_two, word_in};
 use bz_call::Spent;
+use bz_gaps::{first_word, next_place};
 use bz_layout::{Config, LINE_WORDS, NODE_WORDS, SPLIT_SLOTS, Slots};
 use bz_node::NodeImage;
 use bz_renew::{is_whole, take_three};
@@ -244,12 +245,14 @@ impl SplitInner {
             Phase::Fresh => self.phase = Phase::Word(1),
             Phase::Word(i) => {
                 self.read.0[i as usize] = word_in(seen);
-                self.phase = after_word(i);
+                let next = next_place(&self.read, i);
+                self.phase = after_word(next);
             }
             Phase::Again => self.phase = self.read_on(seen),
             Phase::Above(i) => {
                 self.above.0[i as usize] = word_in(seen);
-                self.phase = after_above(i);
+                let other = next_place(&self.above, i);
+                self.phase = after_above(other);
             }
             Phase::Check => self.phase = self.told(seen),
             Phase::Guard => self.look(seen, slots),
@@ -308,25 +311,25 @@ impl SplitInner {
     }
 }
 
-// The phase after the load of a word of the node: that of the next one, or its status once more.
-fn after_word(i: u32) -> Phase
-    requires { i < NODE_WORDS }
-    ensures { result ≡ word_after i }
+// The phase after the load of a word of the node: that of the next one that is read, or its status once more.
+fn after_word(next: u32) -> Phase
+    requires { next ≤ NODE_WORDS }
+    ensures { result ≡ word_after next }
 {
-    if i + 1 < NODE_WORDS {
-        Phase::Word(i + 1)
+    if next < NODE_WORDS {
+        Phase::Word(next)
     } else {
         Phase::Again
     }
 }
 
 // The same of the parent.
-fn after_above(i: u32) -> Phase
-    requires { i < NODE_WORDS }
-    ensures { result ≡ above_after i }
+fn after_above(next: u32) -> Phase
+    requires { next ≤ NODE_WORDS }
+    ensures { result ≡ above_after next }
 {
-    if i + 1 < NODE_WORDS {
-        Phase::Above(i + 1)
+    if next < NODE_WORDS {
+        Phase::Above(next)
     } else {
         Phase::Check
     }

@@ -1,5 +1,4 @@
 mod FrozenLeaves
-mod FreeWords
 mod Standing
 mod Merging
 mod ReadingParents

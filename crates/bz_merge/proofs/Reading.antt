@@ -17,12 +17,12 @@ use Rattle.bz_task.specs.declared.todo.Seen.TheVariants.{Start, Read as Was, Sto
 use Rattle.bz_task.specs.declared.todo.Todo.TheVariants.{Read as Reads}
 use Rattle.bz_renew.proofs.Words.{node-at}
 use Rattle.bz_merge.specs.Facts.{merge_asks, merge_facts, word_after, beside_after}
-use Rattle.bz_merge.specs.FreeWords.{IsFree}
+use Rattle.bz_gaps.specs.FreeWords.{IsFree}
 use Rattle.bz_merge.specs.Plans.{Merging, IsReadingParent, IsPaired, IsReadingBeside}
 use Rattle.bz_merge.specs.Siblings.{WasWord, WasReadOrFree, WereRead}
 use Rattle.bz_merge.specs.declared.phase.Phase.TheVariants.{Fresh, Word, Again, Beside, Parent}
 use Rattle.bz_merge.proofs.Asking.{guarded-since, guarded-now, beside-reached}
-use Rattle.bz_merge.proofs.FreeWords.{free-alike}
+use Rattle.bz_gaps.proofs.FreeWords.{free-alike}
 
 -- an answer to a load
 pub answered : (a v : ℕ) (stage : Stage) (seen : Seen) (s : Scene) → seen ≡ Was v → Tells (Some (Reads a)) stage seen s → (stage ≡ Waiting) × Answers s a v

@@ -17,7 +17,7 @@ use Rattle.bz_task.specs.Shown.{SameWords, SameNode, IsShown}
 use Rattle.bz_renew.proofs.FrozenLeaves.{same-records, read-alike}
 use Rattle.bz_renew.proofs.Words.{node-past}
 use Rattle.bz_merge.specs.Siblings.{WasWord, WasReadOrFree, WereRead, StoodBetween, SeenLeaf, WasSeen, LeavesReadWere}
-use Rattle.bz_merge.proofs.FreeWords.{free-zero, free-alike, header-used}
+use Rattle.bz_gaps.proofs.FreeWords.{free-zero, free-alike, header-used}
 
 -- the laws on which it rests
 pub record Laws : Type 0 where

@@ -26,7 +26,7 @@ use Rattle.bz_renew.proofs.Words.{node-at, node-past}
 use Rattle.bz_split.specs.BelowSplits.{AreLinksDown}
 use Rattle.bz_merge.specs.Merges.{low_in, high_in, WasLeafOnce}
 use Rattle.bz_merge.specs.Siblings.{WasWord, WasReadOrFree, WereRead, WasParentNode, IsChildAt, ParentsReadWere, ChildrenStand}
-use Rattle.bz_merge.proofs.FreeWords.{free-zero, free-alike, header-used}
+use Rattle.bz_gaps.proofs.FreeWords.{free-zero, free-alike, header-used}
 use Rattle.bz_merge.proofs.Standing.{Laws as Standing, not-equal, guard-is, leads, then-reached, then-inner, then-status, then-inside, below, same-place, level-one, fits, view-child, view-count, stands-at, slot-of, flat, low-is, high-is}
 
 -- the laws on which it rests

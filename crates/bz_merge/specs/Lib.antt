@@ -1,7 +1,6 @@
 pub mod Decisions
 pub mod Duties
 pub mod Facts
-pub mod FreeWords
 pub mod Merges
 pub mod OwnFreezes
 pub mod Plans

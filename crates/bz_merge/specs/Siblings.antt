@@ -10,7 +10,7 @@ use Rattle.bz_task.specs.Instant.{words, form_at, is_inside}
 use Rattle.bz_task.specs.Scene.{Past, Scene, IsScene, here}
 use Rattle.bz_task.specs.declared.path.Link.{Link}
 use Rattle.bz_split.specs.BelowSplits.{AreLinksDown}
-use Rattle.bz_merge.specs.FreeWords.{IsFree}
+use Rattle.bz_gaps.specs.FreeWords.{IsFree}
 use Rattle.bz_merge.specs.Merges.{low_in, high_in, WasLeafOnce}
 
 -- word i of slot k was this at a moment from m on

@@ -7,7 +7,6 @@ pub mod laws;
 mod links;
 mod merge;
 mod phase;
-mod place;
 mod seen;
 mod sibling;
 mod slots;

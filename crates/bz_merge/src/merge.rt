@@ -25,11 +25,11 @@ use crate::freeze::freeze_of;
 use crate::laws::{leaves_read_were, merges_are_good, parents_read_were};
 use crate::links::upper_link;
 use crate::phase::Phase;
-use crate::place::next_place;
 use crate::seen::{is_frozen, is_read, word_in};
 use crate::sibling::{Sibling, left_of, right_of};
 use crate::slots::take_two;
 use bz_call::Spent;
+use bz_gaps::{first_word, next_place};
 use bz_join::{ParentJoin, joined_leaf, parent_joined};
 use bz_layout::{Config, LINE_WORDS, MERGE_SLOTS, NODE_WORDS, SPLIT_ABOVE, STATUS_AT, Slots};
 use bz_node::NodeImage;
@@ -460,17 +460,6 @@ impl Merge {
             | Phase::NoSwap => Todo::Finish,
         }
     }
-}
-
-// The words of a node of which the status alone was read.
-fn first_word(status: u64) -> NodeImage
-    ensures first { slice_index result.0 0 ≡ status }
-    ensures size { length result.0 ≡ NODE_WORDS }
-    ensures blank { (i : ℕ) → 0 < i → slice_index result.0 i ≡ 0 }
-{
-    let mut words = [0; NODE_WORDS as usize];
-    words[0] = status;
-    NodeImage(words)
 }
 
 // The words that were read of a neighbour, with one more; with the first one they begin anew.

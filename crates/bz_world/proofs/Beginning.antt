@@ -80,7 +80,7 @@ module _ (p : Parts) (k : IsAwake p) (w : ℕ) (call : Call) (may : MayBegin p w
     mark = Begin w n call
 
     abbrev fresh : Serving
-    fresh = record { call = call; task = task; path = None; had = None; effect = None; alone = false }
+    fresh = record { call = call; task = task; path = None; had = None; effect = None; alone = false; froze = false }
 
     abbrev opened : Open
     opened = record { number = n; call = call; begun = length p.journal.past; effect = None }

@@ -31,7 +31,7 @@ use Rattle.bz_task.specs.declared.todo.Seen.TheVariants.{Start, NoSwap}
 use Rattle.bz_task.specs.declared.todo.Todo.{Todo}
 use Rattle.bz_task.specs.declared.todo.Todo.TheVariants.{Read}
 use Rattle.bz_world.specs.Inside.Acted.{IsBetween, MustTell, HasWon}
-use Rattle.bz_world.specs.Inside.Going.{MustGoOn, MustLookUp, MustTakeOn, MustReadWhole, HadEffect, HasReadAfter, LacksSwap, known, call_in, end_in, path_in, WentOn, MayGoOnIn}
+use Rattle.bz_world.specs.Inside.Going.{MustGoOn, MustLookUp, MustTakeOn, MustRead, MustReadWhole, HadEffect, HasReadAfter, LacksSwap, known, call_in, end_in, path_in, WentOn, MayGoOnIn}
 use Rattle.bz_world.specs.Inside.Beginning.{supply_of}
 use Rattle.bz_world.specs.Inside.Kept.{IsAwake}
 use Rattle.bz_world.specs.Lab.{GoesOn, EndsFullRightly}
@@ -185,6 +185,25 @@ said-alone p w on alone slot is = record {
 pub said-may : (p : Parts) (w : ℕ) (m : MustLookUp p w) (alone : Bool) (slot : Option Serving) → slot ≡ Some (record m.on.serving { alone = alone }) → MustLookUp (record p { workers = with_item p.workers w slot }) w
 unfolding said-alone between-tasks
 said-may p w m alone slot is = record { on = said-alone p w m.on alone slot is; may = m.may }
+
+-- nor is whether its own freeze of its leaf was the last to end
+pub said-froze : (p : Parts) (w : ℕ) (on : MustGoOn p w) (froze : Bool) (slot : Option Serving) → slot ≡ Some (record on.serving { froze = froze }) → MustGoOn (record p { workers = with_item p.workers w slot }) w
+unfolding between-tasks
+said-froze p w on froze slot is = record {
+  serving = record on.serving { froze = froze };
+  is = get_or-set_same p.workers.items w slot None (omega (arith, on.between.within, on.between.tabled.places, on.between.tabled.config.workers_in_range.at_most)) ∙ is;
+  between = between-tasks p w on.serving (record on.serving { froze = froze }) on.between (with_item p.workers w slot) (length-set p.workers.items w slot) (λ v ne. get_or-set_other p.workers.items w v slot None ne)
+      (let o = on.between.call_open in record { is_open = o.is_open; call = o.call; effect = o.effect; begun = o.begun; told = o.told; wanted = o.wanted });
+  filled = on.filled;
+}
+
+pub froze-may : (p : Parts) (w : ℕ) (m : MustLookUp p w) (froze : Bool) (slot : Option Serving) → slot ≡ Some (record m.on.serving { froze = froze }) → MustLookUp (record p { workers = with_item p.workers w slot }) w
+unfolding said-froze between-tasks
+froze-may p w m froze slot is = record { on = said-froze p w m.on froze slot is; may = m.may }
+
+pub froze-read : (p : Parts) (w : ℕ) (path : Path) (m : MustRead p w path) (froze : Bool) (slot : Option Serving) → slot ≡ Some (record m.on.serving { froze = froze }) → MustRead (record p { workers = with_item p.workers w slot }) w path
+unfolding said-froze between-tasks
+froze-read p w path m froze slot is = record { on = said-froze p w m.on froze slot is; may = m.may; leads = m.leads }
 
 module _ (p : Parts) (w : ℕ) (task : Running) (had : Option (List ℕ)) (asked : Option Todo) (path : Option Path) (m : MustTakeOn p w task path had asked) (slot : Option Serving) (is : slot ≡ Some (record m.on.serving { task = task; path = path; had = had })) (told : IsToldBy p.config p.journal m.on.between.opened had) where
   abbrev pub next : Serving

@@ -82,6 +82,7 @@ fn open_call(parts: &mut Parts, w: u8, call: Call) -> u32
         had: None,
         effect: None,
         alone: false,
+        froze: false,
     });
     parts.journal.push(Mark::Begin { w, n, call });
     parts.access.start_read(w, ROOT_STATUS_AT);

@@ -3,7 +3,7 @@ ghost use Rattle.std.specs.Prelude.{◌≡◌, ◌↔◌, IsTrue, IsSome, IfSome
 ghost use Rattle.bz_call.specs.Map.{key_of as key_in};
 ghost use Rattle.bz_sound.specs.Memory.Replies.{IsWrite};
 ghost use Rattle.bz_task.specs.declared.todo.Todo.TheVariants.{Finish};
-ghost use Rattle.bz_world.specs.Inside.Going.{call_in, end_in, asks_in, path_in as way_in, had_in as payload_in, effect_in as moment_in, CanGoUpIn, GoesUpIn, with_task, with_change, with_alone};
+ghost use Rattle.bz_world.specs.Inside.Going.{call_in, end_in, asks_in, path_in as way_in, had_in as payload_in, effect_in as moment_in, CanGoUpIn, GoesUpIn, with_task, with_change, with_alone, with_froze};
 
 use crate::serving::Serving;
 use bz_call::Call;
@@ -107,6 +107,22 @@ pub(crate) fn is_alone(slot: &Option<Serving>) -> bool {
     }
 }
 
+/// Whether its own freeze of its leaf was the last to end.
+pub(crate) fn has_frozen(slot: &Option<Serving>) -> bool {
+    match slot {
+        Some(serving) => serving.froze,
+        None => false,
+    }
+}
+
+/// Whether its task freezes its leaf.
+pub(crate) fn is_freezing(slot: &Option<Serving>) -> bool {
+    match slot {
+        Some(serving) => matches!(serving.task, Running::Freezing(_)),
+        None => false,
+    }
+}
+
 /// Whether its task merges its leaf.
 pub(crate) fn is_merging(slot: &Option<Serving>) -> bool {
     match slot {
@@ -137,6 +153,15 @@ pub(crate) fn set_alone(slot: &mut Option<Serving>, alone: bool)
 {
     if let Some(serving) = slot {
         serving.alone = alone;
+    }
+}
+
+/// Says whether its own freeze of its leaf was the last to end.
+pub(crate) fn set_froze(slot: &mut Option<Serving>, froze: bool)
+    ensures { slot.new ≡ with_froze slot.old froze }
+{
+    if let Some(serving) = slot {
+        serving.froze = froze;
     }
 }
 

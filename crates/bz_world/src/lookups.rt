@@ -3,7 +3,7 @@ ghost use Rattle.std.specs.Prelude.{◌<◌, length};
 ghost use Rattle.bz_world.specs.Inside.Going.{MustRead, WentOn};
 
 use crate::answers::Applied;
-use crate::calls::{called, key_of, set_task};
+use crate::calls::{called, has_frozen, key_of, set_froze, set_task};
 use crate::going::begin_task;
 use crate::laws::start_laws;
 use crate::parts::Parts;
@@ -39,12 +39,26 @@ fn find_key(parts: &mut Parts, w: u8, path: Path) -> Applied
     begin_task(parts, w)
 }
 
-/// Looks there for what the call asks: at the whole leaf for a page, and at the call's key for any other.
+// Reads the leaf whole that the call has frozen itself, which is to be made anew.
+fn read_frozen(parts: &mut Parts, w: u8, path: Path) -> Applied
+    requires path { MustRead parts.old w path }
+    requires room { length parts.old.journal.past < parts.old.config.marks }
+    ensures { WentOn parts.old w result parts.new }
+{
+    set_froze(&mut parts.workers[w as usize], false);
+    read_leaf(parts, w, path)
+}
+
+/// Looks there for what the call asks: at the whole leaf for a page, and where the call has frozen its leaf; at the call's key for
+/// any other.
 pub(crate) fn look_into(parts: &mut Parts, w: u8, path: Path) -> Applied
     requires path { MustRead parts.old w path }
     requires room { length parts.old.journal.past < parts.old.config.marks }
     ensures { WentOn parts.old w result parts.new }
 {
+    if has_frozen(&parts.workers[w as usize]) {
+        return read_frozen(parts, w, path);
+    }
     match called(&parts.workers[w as usize]) {
         Call::Page(_) => read_leaf(parts, w, path),
         Call::Get(_)

@@ -18,4 +18,6 @@ pub(crate) struct Serving {
     pub effect: Option<u32>,
     /// Whether its leaf is to be copied alone, since no neighbour had room for it.
     pub alone: bool,
+    /// Whether its own freeze of its leaf was the last to end: then the leaf is read whole.
+    pub froze: bool,
 }

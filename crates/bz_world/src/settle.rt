@@ -7,7 +7,9 @@ ghost use Rattle.bz_world.specs.Inside.Going.{MustAnswer, MustAnswerKey, HasEnde
 ghost use Rattle.bz_world.specs.Inside.Telling.{MustStart};
 
 use crate::answers::Applied;
-use crate::calls::{above, called, effect_in, is_merging, leaves_few, path_in, set_alone};
+use crate::calls::{
+    above, called, effect_in, is_freezing, is_merging, leaves_few, path_in, set_alone, set_froze,
+};
 use crate::changes::{answer_delete, answer_insert, answer_update, answer_upsert};
 use crate::end::{end, end_page};
 use crate::going::{end_effective, end_full, look_up, outcome_of};
@@ -111,6 +113,16 @@ fn look_up_alone(parts: &mut Parts, w: u8) -> Applied
     look_up(parts, w)
 }
 
+// Looks the call's key up again. Where it has just frozen its leaf itself, which has no room for it then, it reads that whole.
+fn look_up_frozen(parts: &mut Parts, w: u8) -> Applied
+    requires { MustLookUp parts.old w }
+    ensures { WentOn parts.old w result parts.new }
+{
+    let froze = is_freezing(&parts.workers[w as usize]);
+    set_froze(&mut parts.workers[w as usize], froze);
+    look_up(parts, w)
+}
+
 // The task of a call without effect has ended for want of room: a split, because the node above has none, which is then to be split
 // first; a merge, because no neighbour has any; or a change, because its leaf has none. After these the key is looked up again.
 fn settle_crowded(parts: &mut Parts, w: u8) -> Applied
@@ -136,6 +148,7 @@ fn settle_quiet(parts: &mut Parts, w: u8, outcome: Outcome) -> Applied
         Outcome::View(view) => answer_whole(parts, w, &view),
         Outcome::Full(spent) => settle_full(parts, w, spent),
         Outcome::NeedsRoom => settle_crowded(parts, w),
+        Outcome::Done => look_up_frozen(parts, w),
         _ => look_up(parts, w),
     }
 }

@@ -124,6 +124,10 @@ with_change slot task had = option_map (λ (x : Serving). record x { task = task
 abbrev pub with_alone : Option Serving → Bool → Option Serving
 with_alone slot alone = option_map (λ (x : Serving). record x { alone = alone }) slot
 
+-- and whether its own freeze of its leaf was the last to end
+abbrev pub with_froze : Option Serving → Bool → Option Serving
+with_froze slot froze = option_map (λ (x : Serving). record x { froze = froze }) slot
+
 -- a task that it may get, which asks for this: after this path was found, if one was, and for the change of the call, where
 -- its key had this payload, or none
 pub record MustTakeOn (p : Parts) (w : ℕ) (task : Running) (way : Option Path) (had : Option (List ℕ)) (asked : Option Todo) : Type 0 where

@@ -14,7 +14,7 @@ returns c =
     subst (λ m. HasBegun c.args.parts.now c.args.w c.args.call (c.index.result.now + 1) (record c.args.parts.now {
       access = c.start_read.new.self;
       journal = c.push.new.self;
-      workers = with_item c.args.parts.now.workers c.args.w (Some record { call = c.args.call; task = c.seek-task.result; path = None; had = None; effect = None; alone = false });
+      workers = with_item c.args.parts.now.workers c.args.w (Some record { call = c.args.call; task = c.seek-task.result; path = None; had = None; effect = None; alone = false; froze = false });
       numbers = with_item c.args.parts.now.numbers c.args.w (c.index.result.now + 1);
       begun = c.args.parts.now.begun + 1;
       pages_begun = c.args.parts.now.pages_begun + m;
@@ -22,7 +22,7 @@ returns c =
     (subst (λ (j : Log). HasBegun c.args.parts.now c.args.w c.args.call (c.index.result.now + 1) (record c.args.parts.now {
       access = c.start_read.new.self;
       journal = j;
-      workers = with_item c.args.parts.now.workers c.args.w (Some record { call = c.args.call; task = c.seek-task.result; path = None; had = None; effect = None; alone = false });
+      workers = with_item c.args.parts.now.workers c.args.w (Some record { call = c.args.call; task = c.seek-task.result; path = None; had = None; effect = None; alone = false; froze = false });
       numbers = with_item c.args.parts.now.numbers c.args.w (c.index.result.now + 1);
       begun = c.args.parts.now.begun + 1;
       pages_begun = c.args.parts.now.pages_begun + pages_asked c.args.call;

@@ -17,5 +17,8 @@ settle_full-requires-clause-ends c = subst (HasEnded c.args.parts.now c.args.w) 
 pub settle_crowded-requires-clause-ends : goal.settle_crowded-requires-clause-ends
 settle_crowded-requires-clause-ends c = subst (HasEnded c.args.parts.now c.args.w) c.in-NeedsRoom.is c.requires.ends
 
+pub look_up_frozen-requires : goal.look_up_frozen-requires
+look_up_frozen-requires c = record { on = c.requires.ends.on; may = inl c.requires.ends.quiet }
+
 pub look_up-requires : goal.look_up-requires
 look_up-requires c = record { on = c.requires.ends.on; may = inl c.requires.ends.quiet }

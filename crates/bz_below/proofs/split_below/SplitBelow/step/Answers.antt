@@ -89,7 +89,7 @@ returns-in-Guard c =
     let found = found-guard t Guard c.args.seen c.word_in-in-Guard.result k.stage k.scene c.in-Guard.is refl c.word_in-in-Guard.ensures k.tells in
     let known = subst (λ z. below_facts (below_of t) z k.stage k.scene) c.in-Guard.is k.holds in
     let within : new.upper.slot < new.config.nodes = subst (λ z. z.slot < new.config.nodes) (sym e.upper) (subst (λ z. t.upper.slot < z.nodes) (sym e.config) (guard-within t.config (below_of t) k.stage k.scene k.config k.good known)) in
-    let b : Looks t.waits new.waits (below_of new) new.config c.args.seen new.phase c.args.slots.now left = looks t.config.nodes t.left t.waits new.waits (below_of new) new.config c.word_in-in-Guard.result c.args.seen new.phase c.args.slots.now left within
+    let b : Looks t.waits new.waits (below_of new) new.config c.args.seen new.phase c.args.slots.now left = looks t.config.nodes t.left t.waits new.waits t.read.0 (below_of new) new.config c.word_in-in-Guard.result c.args.seen new.phase c.args.slots.now left within
     found.0 e.looked (nodes ∙ ap (λ z. z.nodes) (sym e.config)) in
     let ends : EndsWell t.lower c.args.seen t.phase new.phase c.args.slots.now = subst (λ z. EndsWell t.lower c.args.seen z new.phase c.args.slots.now) (sym c.in-Guard.is)
     (subst (λ z. EndsWell z c.args.seen Guard new.phase c.args.slots.now) e.lower b.ends) in
@@ -109,7 +109,7 @@ returns-in-Guard c =
       full_swaps = ends.full_swaps;
       full_nodes = ends.full_nodes;
       learns = λ stage s same good free facts tells. looked-learns c.slots_apart.ensures c.children_may_be_parted.ensures c.links_stand_on.ensures.leave c.nothing_is_gained.ensures t.config t.left t.waits new.waits (below_of t) (below_of new) new.phase c.word_in-in-Guard.result c.args.slots.now left
-          (record { upper = e.upper; lower = e.lower; left = ap (λ z. z.left.0) e.halves; right = ap (λ z. z.right.0) e.halves; read = ap (λ z. z.0) e.read; sep = ap (λ z. z.separator) e.halves }) e.looked nodes stage s same good (free (omega (arith, needed)))
+          (record { upper = e.upper; lower = e.lower; left = ap (λ z. z.left.0) e.halves; right = ap (λ z. z.right.0) e.halves; sep = ap (λ z. z.separator) e.halves }) e.looked nodes stage s same good (free (omega (arith, needed)))
           (subst (λ z. below_facts (below_of t) z stage s) c.in-Guard.is facts)
           (found-guard t Guard c.args.seen c.word_in-in-Guard.result stage s c.in-Guard.is refl c.word_in-in-Guard.ensures tells).1;
     }
@@ -205,10 +205,11 @@ returns-in-Word c =
     let i = c.in-Word.i in
     let k = c.requires.known in
     let v = c.word_in.result in
+    let n = c.next_place-next in
     let hears : Hears (below_asks t.config (below_of t) (Word i)) c.args.seen = subst (λ z. Hears (below_asks t.config (below_of t) z) c.args.seen) c.in-Word.is c.requires.hears in
     let l : i < NODE_WORDS = word-within (below_of t) i k.stage k.scene (subst (λ z. below_facts (below_of t) z k.stage k.scene) c.in-Word.is k.holds) in
-    let b : Words t.config (below_of t) i c.args.seen c.after_word-self.result c.args.slots.now = subst (λ z. Words t.config (below_of t) i c.args.seen z c.args.slots.now) (sym c.after_word-self.ensures)
-    (words-on t.config (below_of t) i c.args.seen k.stage k.scene c.args.slots.now k.config k.good hears (subst (λ z. below_facts (below_of t) z k.stage k.scene) c.in-Word.is k.holds)) in
+    let b : Words t.config (below_of t) i n.result c.args.seen c.after_word-self.result c.args.slots.now = subst (λ z. Words t.config (below_of t) i n.result c.args.seen z c.args.slots.now) (sym c.after_word-self.ensures)
+    (words-on t.config (below_of t) i n.result n.ensures.after n.ensures.within c.args.seen k.stage k.scene c.args.slots.now k.config k.good hears (subst (λ z. below_facts (below_of t) z k.stage k.scene) c.in-Word.is k.holds)) in
     let e : EndsWell t.lower c.args.seen t.phase c.after_word-self.result c.args.slots.now = subst (λ z. EndsWell t.lower c.args.seen z c.after_word-self.result c.args.slots.now) (sym c.in-Word.is) b.ends in
     record {
       config = refl;
@@ -218,8 +219,8 @@ returns-in-Word c =
       known = subst IsConfig k.config k.good.config;
       begun = b.begun;
       ready = subst (IsReadyBelow t.config (kept-of t i v)) (sym c.after_word-self.ensures)
-          (word-ready t.config (below_of t) (slice_set t.read.0 i v) i (subst (IsReadyBelow t.config (below_of t)) c.after_word-self.ensures b.ready));
-      nearer = omega (arith, b.nearer, ap below_left c.in-Word.is);
+          (word-ready t.config (below_of t) (slice_set t.read.0 i v) n.result (subst (IsReadyBelow t.config (below_of t)) c.after_word-self.ensures b.ready));
+      nearer = omega (arith, b.nearer, n.ensures.after, c.with_skipped-self.ensures, ap below_left c.in-Word.is);
       slots = takes-none t.phase c.after_word-self.result c.args.slots.now (omega (arith, b.fewer, ap below_needs c.in-Word.is));
       done = e.done;
       restart = e.restart;
@@ -227,6 +228,6 @@ returns-in-Word c =
       full_swaps = e.full_swaps;
       full_nodes = e.full_nodes;
       learns = λ stage s same good free facts tells. subst (λ z. below_facts (kept-of t i v) z Waiting (gained s c.args.slots.now c.args.slots.now)) (sym c.after_word-self.ensures)
-          (no-slot c.nothing_is_gained.ensures (kept-of t i v) s c.args.slots.now (word_after i)
-          (word-known t.config (below_of t) i v c.args.seen stage s same good (λ w q. c.word_in.ensures w q) (subst (λ z. below_facts (below_of t) z stage s) c.in-Word.is facts) (subst (λ z. Tells (below_asks t.config (below_of t) z) stage c.args.seen s) c.in-Word.is tells)));
+          (no-slot c.nothing_is_gained.ensures (kept-of t i v) s c.args.slots.now (word_after n.result)
+          (word-known t.config (below_of t) i n.result v c.args.seen stage s same good n.ensures.after n.ensures.within n.ensures.skipped (λ w q. c.word_in.ensures w q) (subst (λ z. below_facts (below_of t) z stage s) c.in-Word.is facts) (subst (λ z. Tells (below_asks t.config (below_of t) z) stage c.args.seen s) c.in-Word.is tells)));
     }

@@ -137,10 +137,11 @@ returns-in-Word c =
     let i = c.in-Word.i in
     let k = c.requires.known in
     let v = c.word_in.result in
+    let n = c.next_place-next in
     let hears : Hears (crown_asks t.config (crown_of t) (Word i)) c.args.seen = subst (λ z. Hears (crown_asks t.config (crown_of t) z) c.args.seen) c.in-Word.is c.requires.hears in
     let l : i < NODE_WORDS = word-within (crown_of t) i k.stage k.scene (subst (λ z. crown_facts (crown_of t) z k.stage k.scene) c.in-Word.is k.holds) in
     let b : Words t.config (crown_of t) i c.args.seen c.after_word-self.result c.args.slots.now = subst (λ z. Words t.config (crown_of t) i c.args.seen z c.args.slots.now) (sym c.after_word-self.ensures)
-    (words-on t.config (crown_of t) i c.args.seen k.stage k.scene c.args.slots.now k.config k.good hears (subst (λ z. crown_facts (crown_of t) z k.stage k.scene) c.in-Word.is k.holds)) in
+    (words-on t.config (crown_of t) i n.result n.ensures.after n.ensures.within c.args.seen k.stage k.scene c.args.slots.now k.config k.good hears (subst (λ z. crown_facts (crown_of t) z k.stage k.scene) c.in-Word.is k.holds)) in
     let e : EndsWell t.upper t.lower c.args.seen t.phase c.after_word-self.result c.args.slots.now = subst (λ z. EndsWell t.upper t.lower c.args.seen z c.after_word-self.result c.args.slots.now) (sym c.in-Word.is) b.ends in
     record {
       config = refl;
@@ -148,7 +149,7 @@ returns-in-Word c =
       known = subst IsConfig k.config k.good.config;
       begun = b.begun;
       ready = subst (IsReadyCrown t.config (kept-of t i v)) (sym c.after_word-self.ensures)
-          (word-ready t.config (crown_of t) (slice_set t.read.0 i v) i (subst (IsReadyCrown t.config (crown_of t)) c.after_word-self.ensures b.ready));
+          (word-ready t.config (crown_of t) (slice_set t.read.0 i v) n.result (subst (IsReadyCrown t.config (crown_of t)) c.after_word-self.ensures b.ready));
       nearer = omega (arith, b.nearer, ap crown_left c.in-Word.is);
       slots = takes-none t.phase c.after_word-self.result c.args.slots.now (omega (arith, b.fewer, ap crown_needs c.in-Word.is));
       done = e.done;
@@ -157,6 +158,6 @@ returns-in-Word c =
       full_swaps = e.full_swaps;
       full_nodes = e.full_nodes;
       learns = λ stage s same good free facts tells. subst (λ z. crown_facts (kept-of t i v) z Waiting (gained s c.args.slots.now c.args.slots.now)) (sym c.after_word-self.ensures)
-          (no-slot c.nothing_is_gained.ensures (kept-of t i v) s c.args.slots.now (word_after i)
-          (word-known t.config (crown_of t) i v c.args.seen stage s same good (λ w q. c.word_in.ensures w q) (subst (λ z. crown_facts (crown_of t) z stage s) c.in-Word.is facts) (subst (λ z. Tells (crown_asks t.config (crown_of t) z) stage c.args.seen s) c.in-Word.is tells)));
+          (no-slot c.nothing_is_gained.ensures (kept-of t i v) s c.args.slots.now (word_after n.result)
+          (word-known t.config (crown_of t) i n.result v c.args.seen stage s same good n.ensures.after n.ensures.within n.ensures.skipped (λ w q. c.word_in.ensures w q) (subst (λ z. crown_facts (crown_of t) z stage s) c.in-Word.is facts) (subst (λ z. Tells (crown_asks t.config (crown_of t) z) stage c.args.seen s) c.in-Word.is tells)));
     }

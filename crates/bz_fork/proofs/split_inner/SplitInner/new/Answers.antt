@@ -10,8 +10,8 @@ one a b e = cc
 pub returns-clause-facts : goal.returns-clause-facts
 returns-clause-facts c key s same good path = record {
   links = has-links c.slots_apart.ensures key c.args.path s.past path c.args.place c.requires.due c.link_at.result c.link_at-middle.result c.link_at-lower.result c.link_at.ensures c.link_at-middle.ensures c.link_at-lower.ensures;
-  were = record { size = c.first_word-read.ensures.size; first = c.first_word-read.ensures.first; rest = λ i some l. absurd (omega (arith, some, l)) };
-  above = record { size = c.first_word-above.ensures.size; first = c.first_word-above.ensures.first; rest = λ i some l. absurd (omega (arith, some, l)) };
+  were = record { size = c.first_word-read.ensures.size; first = c.first_word-read.ensures.first; rest = λ i some l. absurd (omega (arith, some, l)); blank = λ i some. c.first_word-read.ensures.blank i some };
+  above = record { size = c.first_word-above.ensures.size; first = c.first_word-above.ensures.first; rest = λ i some l. absurd (omega (arith, some, l)); blank = λ i some. c.first_word-above.ensures.blank i some };
 }
 
 pub returns-clause-done : goal.returns-clause-done

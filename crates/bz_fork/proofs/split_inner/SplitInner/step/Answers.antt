@@ -182,10 +182,11 @@ returns-in-Word c =
     let i = c.in-Word.i in
     let k = c.requires.known in
     let v = c.word_in.result in
+    let n = c.next_place-next in
     let hears : Hears (fork_asks t.config (fork_of t) (Word i)) c.args.seen = subst (λ z. Hears (fork_asks t.config (fork_of t) z) c.args.seen) c.in-Word.is c.requires.hears in
     let l : i < NODE_WORDS = word-within (fork_of t) i k.stage k.scene (subst (λ z. fork_facts (fork_of t) z k.stage k.scene) c.in-Word.is k.holds) in
     let b : Words t.config (fork_of t) i c.args.seen c.after_word-self.result c.args.slots.now = subst (λ z. Words t.config (fork_of t) i c.args.seen z c.args.slots.now) (sym c.after_word-self.ensures)
-    (words-on t.config (fork_of t) i c.args.seen k.stage k.scene c.args.slots.now k.config k.good hears (subst (λ z. fork_facts (fork_of t) z k.stage k.scene) c.in-Word.is k.holds)) in
+    (words-on t.config (fork_of t) i n.result n.ensures.after n.ensures.within c.args.seen k.stage k.scene c.args.slots.now k.config k.good hears (subst (λ z. fork_facts (fork_of t) z k.stage k.scene) c.in-Word.is k.holds)) in
     let e : EndsWell t.upper t.middle t.lower c.args.seen t.phase c.after_word-self.result c.args.slots.now = subst (λ z. EndsWell t.upper t.middle t.lower c.args.seen z c.after_word-self.result c.args.slots.now) (sym c.in-Word.is) b.ends in
     record {
       config = refl;
@@ -194,7 +195,7 @@ returns-in-Word c =
       known = subst IsConfig k.config k.good.config;
       begun = b.begun;
       ready = subst (IsReadyFork t.config (kept-of t i v)) (sym c.after_word-self.ensures)
-          (word-ready t.config (fork_of t) (slice_set t.read.0 i v) i (subst (IsReadyFork t.config (fork_of t)) c.after_word-self.ensures b.ready));
+          (word-ready t.config (fork_of t) (slice_set t.read.0 i v) n.result (subst (IsReadyFork t.config (fork_of t)) c.after_word-self.ensures b.ready));
       nearer = omega (arith, b.nearer, ap fork_left c.in-Word.is);
       slots = takes-none t.phase c.after_word-self.result c.args.slots.now (omega (arith, b.fewer, ap fork_needs c.in-Word.is));
       done = e.done;
@@ -203,8 +204,8 @@ returns-in-Word c =
       full_swaps = e.full_swaps;
       full_nodes = e.full_nodes;
       learns = λ stage s same good free facts tells. subst (λ z. fork_facts (kept-of t i v) z Waiting (gained s c.args.slots.now c.args.slots.now)) (sym c.after_word-self.ensures)
-          (no-slot c.nothing_is_gained.ensures (kept-of t i v) s c.args.slots.now (word_after i)
-          (word-known t.config (fork_of t) i v c.args.seen stage s same good (λ w q. c.word_in.ensures w q) (subst (λ z. fork_facts (fork_of t) z stage s) c.in-Word.is facts) (subst (λ z. Tells (fork_asks t.config (fork_of t) z) stage c.args.seen s) c.in-Word.is tells)));
+          (no-slot c.nothing_is_gained.ensures (kept-of t i v) s c.args.slots.now (word_after n.result)
+          (word-known t.config (fork_of t) i n.result v c.args.seen stage s same good n.ensures.after n.ensures.within n.ensures.skipped (λ w q. c.word_in.ensures w q) (subst (λ z. fork_facts (fork_of t) z stage s) c.in-Word.is facts) (subst (λ z. Tells (fork_asks t.config (fork_of t) z) stage c.args.seen s) c.in-Word.is tells)));
     }
 
 pub returns-in-Above : goal.returns-in-Above
@@ -213,10 +214,11 @@ returns-in-Above c =
     let i = c.in-Above.i in
     let k = c.requires.known in
     let v = c.word_in-in-Above.result in
+    let n = c.next_place-other in
     let hears : Hears (fork_asks t.config (fork_of t) (Above i)) c.args.seen = subst (λ z. Hears (fork_asks t.config (fork_of t) z) c.args.seen) c.in-Above.is c.requires.hears in
     let l : i < NODE_WORDS = above-within (fork_of t) i k.stage k.scene (subst (λ z. fork_facts (fork_of t) z k.stage k.scene) c.in-Above.is k.holds) in
     let b : Aboves t.config (fork_of t) i c.args.seen c.after_above-self.result c.args.slots.now = subst (λ z. Aboves t.config (fork_of t) i c.args.seen z c.args.slots.now) (sym c.after_above-self.ensures)
-    (aboves-on t.config (fork_of t) i c.args.seen k.stage k.scene c.args.slots.now k.config k.good hears (subst (λ z. fork_facts (fork_of t) z k.stage k.scene) c.in-Above.is k.holds)) in
+    (aboves-on t.config (fork_of t) i n.result n.ensures.after n.ensures.within c.args.seen k.stage k.scene c.args.slots.now k.config k.good hears (subst (λ z. fork_facts (fork_of t) z k.stage k.scene) c.in-Above.is k.holds)) in
     let e : EndsWell t.upper t.middle t.lower c.args.seen t.phase c.after_above-self.result c.args.slots.now = subst (λ z. EndsWell t.upper t.middle t.lower c.args.seen z c.after_above-self.result c.args.slots.now) (sym c.in-Above.is) b.ends in
     record {
       config = refl;
@@ -225,7 +227,7 @@ returns-in-Above c =
       known = subst IsConfig k.config k.good.config;
       begun = b.begun;
       ready = subst (IsReadyFork t.config (kept-above t i v)) (sym c.after_above-self.ensures)
-          (above-ready t.config (fork_of t) (slice_set t.above.0 i v) i (subst (IsReadyFork t.config (fork_of t)) c.after_above-self.ensures b.ready));
+          (above-ready t.config (fork_of t) (slice_set t.above.0 i v) n.result (subst (IsReadyFork t.config (fork_of t)) c.after_above-self.ensures b.ready));
       nearer = omega (arith, b.nearer, ap fork_left c.in-Above.is);
       slots = takes-none t.phase c.after_above-self.result c.args.slots.now (omega (arith, b.fewer, ap fork_needs c.in-Above.is));
       done = e.done;
@@ -234,6 +236,6 @@ returns-in-Above c =
       full_swaps = e.full_swaps;
       full_nodes = e.full_nodes;
       learns = λ stage s same good free facts tells. subst (λ z. fork_facts (kept-above t i v) z Waiting (gained s c.args.slots.now c.args.slots.now)) (sym c.after_above-self.ensures)
-          (no-slot c.nothing_is_gained.ensures (kept-above t i v) s c.args.slots.now (above_after i)
-          (above-known t.config (fork_of t) i v c.args.seen stage s same good (λ w q. c.word_in-in-Above.ensures w q) (subst (λ z. fork_facts (fork_of t) z stage s) c.in-Above.is facts) (subst (λ z. Tells (fork_asks t.config (fork_of t) z) stage c.args.seen s) c.in-Above.is tells)));
+          (no-slot c.nothing_is_gained.ensures (kept-above t i v) s c.args.slots.now (above_after n.result)
+          (above-known t.config (fork_of t) i n.result v c.args.seen stage s same good n.ensures.after n.ensures.within n.ensures.skipped (λ w q. c.word_in-in-Above.ensures w q) (subst (λ z. fork_facts (fork_of t) z stage s) c.in-Above.is facts) (subst (λ z. Tells (fork_asks t.config (fork_of t) z) stage c.args.seen s) c.in-Above.is tells)));
     }

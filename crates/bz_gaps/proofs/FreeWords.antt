@@ -10,7 +10,7 @@ use Rattle.bz_slotted.specs.Page.{words_at, page}
 use Rattle.bz_slotted.specs.Whole.{IsFence, HasFences, IsFilled}
 use Rattle.bz_word.specs.Headers.{header}
 use Rattle.bz_word.specs.Statuses.{status}
-use Rattle.bz_merge.specs.FreeWords.{IsOfNoFence, IsFree}
+use Rattle.bz_gaps.specs.FreeWords.{IsOfNoFence, IsFree}
 
 -- a word of an absent fence
 no-fence : (n : ℕ → ℕ) (at len i : ℕ) (bound : Option (List ℕ)) → IsFence n at len bound → IsOfNoFence at len i → n i ≡ 0

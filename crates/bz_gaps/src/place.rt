@@ -5,7 +5,7 @@ ghost use Rattle.bz_layout.specs.declared.sizes.TheConstants.{NODE_WORDS, HEADER
 ghost use Rattle.bz_slotted.specs.ReadingLaws.{node_of};
 ghost use Rattle.bz_word.specs.Headers.{header};
 ghost use Rattle.bz_word.specs.Statuses.{status};
-ghost use Rattle.bz_merge.specs.FreeWords.{IsFree, IsOfNoFence};
+ghost use Rattle.bz_gaps.specs.FreeWords.{IsFree, IsOfNoFence};
 
 use bz_layout::{
     FENCE_WORDS, HEADER_AT, HIGH_FENCE_AT, LOW_FENCE_AT, META_AT, NODE_WORDS, STATUS_AT,
@@ -15,7 +15,7 @@ use bz_word::{Header, Status};
 
 /// The next place after this one whose word is not free, by the status and the header that were read; the number of words where
 /// there is none.
-pub(crate) fn next_place(image: &NodeImage, place: u32) -> u32
+pub fn next_place(image: &NodeImage, place: u32) -> u32
     requires { place < NODE_WORDS }
     ensures after { place < result }
     ensures within { result ≤ NODE_WORDS }
