@@ -16,15 +16,14 @@ use Rattle.bz_record.specs.Records.{size_of, place_of, HasRoom, Fits}
 use Rattle.bz_record.specs.Replacing.{growth, replacement, status_grown, WasGrown}
 use Rattle.bz_record.specs.Swaps.{entries_of, status_entry, meta_entry, reservation, publication, status_reserved}
 use Rattle.bz_record.specs.declared.new_record.NewRecord.{NewRecord}
-use Rattle.bz_insert.specs.Facts.{insert_asks, insert_facts}
+use Rattle.bz_insert.specs.Facts.{insert_asks, insert_made, insert_facts}
 use Rattle.bz_insert.specs.declared.phase.Phase.{Phase}
 use Rattle.bz_insert.specs.declared.phase.Phase.TheVariants.{Reserve, Publish}
-use Rattle.bz_mutate.specs.UpdateFacts.{update_asks, update_facts}
+use Rattle.bz_mutate.specs.UpdateFacts.{update_asks, update_made, update_facts}
 use Rattle.bz_mutate.specs.declared.update_phase.UpdatePhase.{UpdatePhase}
 use Rattle.bz_mutate.specs.declared.update_phase.UpdatePhase.TheVariants.{Grow, Replace}
 use Rattle.bz_alone.specs.Alone.{IsAlone, GoesOn}
 use Rattle.bz_alone.specs.Changes.{InsertsGoOn, UpdatesGoOn, PublicationsStand, ReplacementsStand}
-use Rattle.bz_alone.specs.Made.{made_by_insert, made_by_update}
 use Rattle.bz_alone.specs.Quiet.{IsQuietSince, HadEffects}
 use Rattle.bz_alone.proofs.Basis.{Laws}
 use Rattle.bz_alone.proofs.Freezing.{one-stands}
@@ -80,14 +79,14 @@ module _ (b : Laws) (codec : Statuses) (s : Scene) (good : IsScene s) where
       let q : IsQuietSince g.was.moment s.past = b.lonely.later s 1 g.was.moment good a (had-one r.slot (status_grown r) g.was.moment s.past g.was.leaf.leaf g.swapped) in
       replacement-stands b codec s good g.was.moment q r old place e g (omega arith)
 
-  insert-goes : (r : NewRecord) (phase : Phase) → insert_facts r phase Waiting s → IsAlone (made_by_insert phase) s.past → GoesOn (insert_asks s.past.config r phase) (λ seen. ⊥) s
+  insert-goes : (r : NewRecord) (phase : Phase) → insert_facts r phase Waiting s → IsAlone (insert_made phase) s.past → GoesOn (insert_asks s.past.config r phase) (λ seen. ⊥) s
   insert-goes r Reserve f a =
       let v = f.1.viewed in
       swaps (entries_of s.past.config (reservation r)) (λ seen. ⊥) s (reservation-stands b codec s good s.past.since (b.lonely.whole s good a) r v.moment v.leaf.leaf v.leaf.leaf.since f.1.room) (λ seen d. d)
   insert-goes r Publish f a = swaps (entries_of s.past.config (publication r)) (λ seen. ⊥) s (publication-there r f.1.fits f.1.reserved a) (λ seen d. d)
   insert-goes r phase f a = idles _ (λ seen. ⊥) s (λ entries e. absurd (cc)) (λ seen d. d)
 
-  update-goes : (v : KeyView) (r : NewRecord) (phase : UpdatePhase) → update_facts v r phase Waiting s → IsAlone (made_by_update phase) s.past → GoesOn (update_asks s.past.config r phase) (λ seen. ⊥) s
+  update-goes : (v : KeyView) (r : NewRecord) (phase : UpdatePhase) → update_facts v r phase Waiting s → IsAlone (update_made phase) s.past → GoesOn (update_asks s.past.config r phase) (λ seen. ⊥) s
   update-goes v r (Grow f) k a =
       let w = k.1.was in
       swaps (growth s.past.config r ∷ []) (λ seen. ⊥) s (growth-stands b codec s good s.past.since (b.lonely.whole s good a) r w.moment w.leaf.leaf w.leaf.leaf.since) (λ seen d. d)

@@ -12,6 +12,7 @@ use Rattle.bz_task.specs.Scene.{Scene, Waiting, IsScene, here}
 use Rattle.bz_task.specs.Swaps.{Stand}
 use Rattle.bz_freeze.specs.Facts.{entry_of}
 use Rattle.bz_split.specs.BelowSplits.{AreLinksDown, parent_freezing, below_swap}
+use Rattle.bz_merge.specs.Counts.{merge_made}
 use Rattle.bz_merge.specs.Duties.{merging_of}
 use Rattle.bz_merge.specs.Facts.{merge_asks, merge_facts, merge_differs}
 use Rattle.bz_merge.specs.Plans.{Merging, viewed_leaf, beside_leaf}
@@ -20,7 +21,6 @@ use Rattle.bz_merge.specs.declared.phase.Phase.{Phase}
 use Rattle.bz_merge.specs.declared.phase.Phase.TheVariants.{Again, Parent, Still, Freeze, FreezeBeside, Guard, Swap}
 use Rattle.bz_alone.specs.Alone.{IsAlone, GoesOn}
 use Rattle.bz_alone.specs.Changes.{MergesGoOn}
-use Rattle.bz_alone.specs.Made.{made_by_merge}
 use Rattle.bz_alone.specs.Quiet.{IsQuietSince, IsRead}
 use Rattle.bz_alone.proofs.Basis.{Laws}
 use Rattle.bz_alone.proofs.Freezing.{one-stands}
@@ -68,21 +68,21 @@ module _ (b : FreezeLaws) (s : Scene) (good : IsScene s) (r : Merging) where
       (b.fronts s.past.config s.past.at s.past.since s.past.now seen.at s.past.now r.beside_slot good.history (record { since = o.since; order = o.now; until = omega arith }) then).reached in
       inr (inr (record { slot = r.beside_slot; place = STATUS_AT; address = refl; within = omega arith; reached = reached; shown = inl (omega arith) }))
 
-  beside-goes : merge_facts r FreezeBeside Waiting s → IsAlone (made_by_merge r FreezeBeside) s.past → GoesOn (merge_asks s.past.config r FreezeBeside) (merge_differs r FreezeBeside) s
+  beside-goes : merge_facts r FreezeBeside Waiting s → IsAlone (merge_made r FreezeBeside) s.past → GoesOn (merge_asks s.past.config r FreezeBeside) (merge_differs r FreezeBeside) s
   beside-goes f a =
       let seen : WasSeenOnce (beside_leaf r) s.past = (both-seen r s.past f.1.0).1 in
       swaps (entry_of s.past.config r.beside_slot (slice_index r.beside STATUS_AT) ∷ []) (merge_differs r FreezeBeside) s
       (one-stands (entry_of s.past.config r.beside_slot (slice_index r.beside STATUS_AT)) s (beside-as-read b s good r f.1.1.1.1 a seen (beside-read seen))) (λ seen d. d)
 
-  guard-goes : merge_facts r Guard Waiting s → IsAlone (made_by_merge r Guard) s.past → GoesOn (merge_asks s.past.config r Guard) (merge_differs r Guard) s
+  guard-goes : merge_facts r Guard Waiting s → IsAlone (merge_made r Guard) s.past → GoesOn (merge_asks s.past.config r Guard) (merge_differs r Guard) s
   guard-goes f a = reads r.upper.guard (merge_differs r Guard) s (λ v h d. d (sym h.value ∙ (both-as-read b s good r f.1.planned.paired.viewed.links f.1.froze a).guard))
 
-  swap-goes : merge_facts r Swap Waiting s → IsAlone (made_by_merge r Swap) s.past → GoesOn (merge_asks s.past.config r Swap) (merge_differs r Swap) s
+  swap-goes : merge_facts r Swap Waiting s → IsAlone (merge_made r Swap) s.past → GoesOn (merge_asks s.past.config r Swap) (merge_differs r Swap) s
   swap-goes f a =
       let d = f.1.frozen.planned.paired.viewed.links in
       swaps (below_swap s.past.config r.upper r.lower (r.slot 0)) (merge_differs r Swap) s (swap-stands d (both-as-read b s good r d f.1.frozen.froze a)) (λ seen d. d)
 
-merge-goes : FreezeLaws → (s : Scene) → IsScene s → (r : Merging) (phase : Phase) → merge_facts r phase Waiting s → IsAlone (made_by_merge r phase) s.past → GoesOn (merge_asks s.past.config r phase) (merge_differs r phase) s
+merge-goes : FreezeLaws → (s : Scene) → IsScene s → (r : Merging) (phase : Phase) → merge_facts r phase Waiting s → IsAlone (merge_made r phase) s.past → GoesOn (merge_asks s.past.config r phase) (merge_differs r phase) s
 merge-goes b s good r Again f a = again-goes b.base s good (b.base.lonely.whole s good a) r f
 merge-goes b s good r Parent f a = parent-goes b.base s good (b.base.lonely.whole s good a) r f
 merge-goes b s good r Still f a = still-goes b.base s good (b.base.lonely.whole s good a) r f

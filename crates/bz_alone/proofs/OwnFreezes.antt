@@ -8,11 +8,11 @@ use Rattle.bz_word.specs.Statuses.{status}
 use Rattle.bz_task.specs.Instant.{Instant}
 use Rattle.bz_task.specs.Scene.{Past, Scene, IsScene, here}
 use Rattle.bz_split.specs.BelowSplits.{AreLinksDown}
+use Rattle.bz_merge.specs.Counts.{freezes_of, both_freezes}
 use Rattle.bz_merge.specs.OwnFreezes.{FrozeAfter, FrozeViewed, ViewedWasFrozen, FrozeBeside, BothWereFrozen}
 use Rattle.bz_merge.specs.Plans.{Merging, viewed_leaf, beside_leaf}
 use Rattle.bz_merge.specs.Siblings.{SeenLeaf}
 use Rattle.bz_alone.specs.Alone.{IsAlone}
-use Rattle.bz_alone.specs.Made.{freezes_of, both_freezes}
 use Rattle.bz_alone.specs.Quiet.{IsQuietSince, HadEffects, IsRead}
 use Rattle.bz_alone.proofs.Named.{WasSeenOnce, both-seen, pair-apart, AsRead, FreezeLaws, leaf-as-seen, quiet-as-read, guard-now, link-now, left-as-read}
 use Rattle.bz_alone.proofs.Standing.{now-as}

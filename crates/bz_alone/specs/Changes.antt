@@ -16,17 +16,16 @@ use Rattle.bz_record.specs.declared.new_record.NewRecord.{NewRecord}
 use Rattle.bz_task.specs.Scene.{Scene, IsScene, here}
 use Rattle.bz_task.specs.Swaps.{Stand}
 use Rattle.bz_alone.specs.Alone.{IsAlone, GoesOnAlone}
-use Rattle.bz_alone.specs.Made.{made_by_insert, made_by_update, made_by_merge}
 
 abbrev pub InsertsGoOn : Type 0
-InsertsGoOn = (t : Insert) → GoesOnAlone (made_by_insert t.phase) t.config (insert.asks_of t) (insert.facts_of t) (λ seen. ⊥)
+InsertsGoOn = (t : Insert) → GoesOnAlone (insert.made_of t) t.config (insert.asks_of t) (insert.facts_of t) (λ seen. ⊥)
 
 abbrev pub UpdatesGoOn : Type 0
-UpdatesGoOn = (t : Update) → GoesOnAlone (made_by_update t.phase) t.config (update.asks_of t) (update.facts_of t) (λ seen. ⊥)
+UpdatesGoOn = (t : Update) → GoesOnAlone (update.made_of t) t.config (update.asks_of t) (update.facts_of t) (λ seen. ⊥)
 
 -- a merge, which may freeze the two leaves before its swap
 abbrev pub MergesGoOn : Type 0
-MergesGoOn = (t : Merge) → GoesOnAlone (made_by_merge (merge.merging_of t) t.phase) t.config (merge.asks_of t) (merge.facts_of t) (merge.differs_of t)
+MergesGoOn = (t : Merge) → GoesOnAlone (merge.made_of t) t.config (merge.asks_of t) (merge.facts_of t) (merge.differs_of t)
 
 -- the second swaps alone
 abbrev pub PublicationsStand : Type 0

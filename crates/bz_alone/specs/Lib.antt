@@ -2,7 +2,6 @@ pub mod Alone
 pub mod Changes
 pub mod Laws
 pub mod Lookups
-pub mod Made
 pub mod Quiet
 pub mod Tasks
 pub mod Trees

@@ -1,8 +1,7 @@
 -- Whichever task it is: it goes on where its worker is alone.
-use Rattle.bz_running.specs.Duties.{config_of, asks_of, facts_of, differs_of}
+use Rattle.bz_running.specs.Duties.{config_of, asks_of, made_of, facts_of, differs_of}
 use Rattle.bz_running.specs.declared.running.Running.{Running}
 use Rattle.bz_alone.specs.Alone.{GoesOnAlone}
-use Rattle.bz_alone.specs.Made.{made_of}
 
 -- where nobody else's swap took effect since the look-up began, what it has read stands: the expected values of each swap that it asks for
 -- stand, and no load differs

@@ -6,6 +6,7 @@ mod Standing
 mod Staying
 mod Acting
 mod Ending
+mod Counting
 mod Making
 mod Reading
 mod Telling

@@ -4,7 +4,7 @@ use Rattle.bz_task.specs.Scene.{Scene, Stage}
 use Rattle.bz_task.specs.declared.todo.Outcome.{Outcome}
 use Rattle.bz_task.specs.declared.todo.Seen.{Seen}
 use Rattle.bz_task.specs.declared.todo.Todo.{Todo}
-use Rattle.bz_below.specs.Facts.{Below, below_asks, below_end, below_left, below_needs, below_facts, below_differs}
+use Rattle.bz_below.specs.Facts.{Below, below_asks, below_end, below_left, below_swaps, below_needs, below_facts, below_differs}
 use Rattle.bz_below.specs.declared.split_below.SplitBelow.{SplitBelow}
 
 -- the words of the new parent, of the left half and of the right half
@@ -24,6 +24,13 @@ end_below t = below_end t.phase
 
 abbrev pub left_below : SplitBelow → ℕ
 left_below t = t.waits + below_left t.phase
+
+abbrev pub swaps_below : SplitBelow → ℕ
+swaps_below t = below_swaps t.phase
+
+-- its one swap is its last act where it takes effect: while it goes on it has made none
+abbrev pub made_below : SplitBelow → ℕ
+made_below t = 0
 
 abbrev pub needs_below : SplitBelow → ℕ
 needs_below t = below_needs t.phase

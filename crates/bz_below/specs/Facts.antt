@@ -84,6 +84,15 @@ below_once = NODE_WORDS + SPLIT_WORDS + SPLIT_LINES + 4
 abbrev pub below_acts : ℕ
 below_acts = (NODE_WORDS + 1) * MOST_WAITS + below_once
 
+-- the most swaps that are still asked for: that of the link to the parent, until it has ended
+abbrev pub below_swaps : Phase → ℕ
+below_swaps Done = 0
+below_swaps Restart = 0
+below_swaps NoRoom = 0
+below_swaps NoSlot = 0
+below_swaps NoSwap = 0
+below_swaps phase = 1
+
 abbrev pub below_left : Phase → ℕ
 below_left Fresh = below_once
 below_left (Word i) = below_once - i

@@ -12,11 +12,12 @@ ghost use Rattle.bz_slotted.specs.ReadingLaws.{node_of};
 ghost use Rattle.bz_word.specs.Statuses.{status};
 ghost use Rattle.bz_task.specs.Outcomes.{IsPath, IsView};
 ghost use Rattle.bz_task.specs.OwnActs.{AreTakenFrom, AreUnreached, gained};
-ghost use Rattle.bz_task.specs.Requests.{Hears, Tells, IsKnown};
+ghost use Rattle.bz_task.specs.Requests.{Hears, Tells, IsKnown, swaps_in, effects_in};
 ghost use Rattle.bz_task.specs.Scene.{Scene, Stage, Waiting, IsScene};
+ghost use Rattle.bz_task.specs.declared.swaps.TheConstants.{RENEWAL_SWAPS};
 ghost use Rattle.bz_task.specs.declared.todo.Seen.TheVariants.{Read as Was, Swapped, NoSwap as NoneLeft};
-ghost use Rattle.bz_below.specs.Duties.{below_of, asks_below, end_below, left_below, needs_below, facts_below, differs_below};
-ghost use Rattle.bz_below.specs.Facts.{IsEndOfSplitBelow, below_nodes, below_acts, below_left, below_facts, below_means, HasRoom, HasParent, IsNewParent, HasBegunBelow, HasLookedBelow, HasTold, IsNotOvertaken, HasBegunOrWaits, IsReadyBelow, IsThawedAbove, WasPartedBelow, LackedPart, below_needs, word_after, store_after, flush_after};
+ghost use Rattle.bz_below.specs.Duties.{below_of, asks_below, end_below, left_below, swaps_below, made_below, needs_below, facts_below, differs_below};
+ghost use Rattle.bz_below.specs.Facts.{IsEndOfSplitBelow, below_nodes, below_acts, below_end, below_left, below_swaps, below_facts, below_means, HasRoom, HasParent, IsNewParent, HasBegunBelow, HasLookedBelow, HasTold, IsNotOvertaken, HasBegunOrWaits, IsReadyBelow, IsThawedAbove, WasPartedBelow, LackedPart, below_needs, word_after, store_after, flush_after};
 ghost use Rattle.bz_split.specs.Facts.{split_change};
 
 use crate::front::{is_frozen, level_of, low_fence};
@@ -83,6 +84,8 @@ impl SplitBelow {
         ensures config { ⟦<SplitBelow as Task>⟧.config result ≡ config.now }
         ensures asks { ⟦<SplitBelow as Task>⟧.asks result ≡ None }
         ensures left { ⟦<SplitBelow as Task>⟧.left result ≡ below_acts }
+        ensures swaps { ⟦<SplitBelow as Task>⟧.swaps result ≡ RENEWAL_SWAPS }
+        ensures made { ⟦<SplitBelow as Task>⟧.made result ≡ 0 }
         ensures needs { ⟦<SplitBelow as Task>⟧.needs result ≡ SPLIT_SLOTS }
         ensures change { ⟦<SplitBelow as Task>⟧.change result ≡ split_change }
         ensures facts { (key : List ℕ) (s : Scene) → s.past.config ≡ config.now → IsScene s → IsPath key path s.past → IsView key view s.past → ⟦<SplitBelow as Task>⟧.facts result Waiting s }
@@ -246,6 +249,8 @@ impl SplitBelow {
         requires hears { Hears (asks_below self.now) seen }
         requires known { IsKnown self.now.config (facts_below self.now) (asks_below self.now) seen moment }
         ensures nearer { below_left result < below_left self.now.phase }
+        ensures fewer { below_swaps result + swaps_in (asks_below self.now) ≤ swaps_below self.now }
+        ensures counted { below_end result ≡ None → effects_in seen ≡ 0 }
         ensures needs { below_needs result ≡ 0 }
         ensures done { result ≡ Phase.Done → seen ≡ Swapped true }
         ensures restart { result ≡ Phase.Restart → seen ≡ Swapped false }
@@ -279,6 +284,8 @@ impl SplitBelow {
         ensures begun { self.new.phase ≢ Phase.Fresh }
         ensures ready { IsReadyBelow self.new.config (below_of self.new) self.new.phase }
         ensures nearer { left_below self.new < left_below self.old }
+        ensures fewer { swaps_below self.new + swaps_in (asks_below self.old) ≤ swaps_below self.old }
+        ensures counted { end_below self.new ≡ None → effects_in seen ≡ 0 }
         ensures slots { AreTakenFrom (needs_below self.old) (needs_below self.new) slots.old slots.new }
         ensures done { end_below self.new ≡ Some Outcome.Done → seen ≡ Swapped true }
         ensures restart { end_below self.new ≡ Some Outcome.Restart → (seen ≡ Swapped false) ⊎ differs_below self.old seen }
@@ -447,6 +454,10 @@ impl Task for SplitBelow {
     ghost end = { end_below };
 
     ghost left = { left_below };
+
+    ghost swaps = { swaps_below };
+
+    ghost made = { made_below };
 
     ghost needs = { needs_below };
 

@@ -1,6 +1,6 @@
 -- What a consolidation knows after an answer, and that what it asks for next is there.
 use Rattle.std.proofs.Common.{◌≡◌, ◌≢◌, ℕ, ◌+◌, ◌<◌, ◌⊎◌, if◌then◌else◌, Bool, true, false, arith, refl, sym, ap, subst, ◌∙◌, inl, inr}
-use Rattle.std.specs.Prelude.{nat_lt, ◌≤◌, length, drop, Some, ◌↔◌}
+use Rattle.std.specs.Prelude.{nat_lt, ◌≤◌, length, drop, Some, None, ◌↔◌}
 use Rattle.std.proofs.lemmas.Bool.Decides.{nat_tests}
 use Rattle.bz_layout.specs.Addresses.{SlotsApart}
 use Rattle.bz_layout.specs.Slots.{FreeSlots}
@@ -9,7 +9,7 @@ use Rattle.bz_layout.specs.declared.sizes.TheConstants.{NODE_WORDS}
 use Rattle.bz_layout.specs.declared.thresholds.TheConstants.{CONSOLIDATION_SLOTS}
 use Rattle.bz_task.specs.Laws.{NothingIsGained}
 use Rattle.bz_task.specs.OwnActs.{AreTakenFrom, AreUnreached, gained}
-use Rattle.bz_task.specs.Requests.{Answers, Hears, Tells}
+use Rattle.bz_task.specs.Requests.{Answers, Hears, Tells, effects_in}
 use Rattle.bz_task.specs.Scene.{Scene, Stage, Waiting, Took, IsScene, HasFilled}
 use Rattle.bz_task.specs.declared.path.Link.{Link}
 use Rattle.bz_task.specs.declared.todo.Seen.{Seen}
@@ -17,7 +17,7 @@ use Rattle.bz_task.specs.declared.todo.Todo.TheVariants.{Read as Reads}
 use Rattle.bz_task.specs.declared.todo.Outcome.TheVariants.{Done as IsDone, Restart as Restarts, Full as IsFull}
 use Rattle.bz_call.specs.declared.replies.Spent.TheVariants.{Nodes, Swaps}
 use Rattle.bz_task.specs.declared.todo.Seen.TheVariants.{Start, Read as Was, Stored, Flushed, Swapped, NoSwap as NoneLeft}
-use Rattle.bz_consol.specs.Facts.{Renewal, HasViewed, IsCopying, HasBegun, HasLooked, consol_asks, consol_differs, consol_end, consol_left, consol_needs, consol_facts, next_flush, IsReady}
+use Rattle.bz_consol.specs.Facts.{Renewal, HasViewed, IsCopying, HasBegun, HasLooked, consol_asks, consol_differs, consol_end, consol_left, consol_swaps, consol_needs, consol_facts, next_flush, IsReady}
 use Rattle.bz_renew.specs.Guards.{WasAsRead}
 use Rattle.bz_renew.specs.Renewals.{IsTurnable, LinksMayBeTurned}
 use Rattle.bz_renew.specs.Writing.{NODE_LINES, IsTaken, IsWriting}
@@ -128,6 +128,11 @@ ends-no-slot Done e = absurd (cc)
 ends-no-slot Restart e = absurd (cc)
 ends-no-slot NoSwap e = absurd (cc)
 
+-- at most one swap is still asked for
+pub swaps-few : (p : Phase) → consol_swaps p ≤ 1
+swaps-few Done = omega arith
+swaps-few p = omega arith
+
 -- a phase after another one, told of how it ends
 pub record EndsWell (link : Link) (seen : Seen) (o p : Phase) (free : FreeSlots) : Type 0 where
   pub done : consol_end p ≡ Some IsDone → seen ≡ Swapped true
@@ -135,14 +140,16 @@ pub record EndsWell (link : Link) (seen : Seen) (o p : Phase) (free : FreeSlots)
   pub no_swap : seen ≡ NoneLeft → consol_end p ≡ Some (IsFull Swaps)
   pub full_swaps : consol_end p ≡ Some (IsFull Swaps) → seen ≡ NoneLeft
   pub full_nodes : consol_end p ≡ Some (IsFull Nodes) → length free.free < consol_needs o
+  pub counted : consol_end p ≡ None → effects_in seen ≡ 0
 
-pub ends-well : (link : Link) (seen : Seen) (o p : Phase) (free : FreeSlots) → (p ≡ Done → seen ≡ Swapped true) → (p ≡ Restart → seen ≡ Swapped false) → (p ≡ NoSwap) ↔ (seen ≡ NoneLeft) → p ≢ NoSlot → EndsWell link seen o p free
-ends-well link seen o p free done restart no_swap slots = record {
+pub ends-well : (link : Link) (seen : Seen) (o p : Phase) (free : FreeSlots) → (p ≡ Done → seen ≡ Swapped true) → (p ≡ Restart → seen ≡ Swapped false) → (p ≡ NoSwap) ↔ (seen ≡ NoneLeft) → p ≢ NoSlot → (consol_end p ≡ None → effects_in seen ≡ 0) → EndsWell link seen o p free
+ends-well link seen o p free done restart no_swap slots counted = record {
   done = λ e. done (ends-done p e);
   restart = λ e. inl (restart (ends-restart p e));
   no_swap = λ e. ap consol_end (no_swap.1 e);
   full_swaps = λ e. no_swap.0 (ends-no-swap p e);
   full_nodes = λ e. absurd (slots (ends-no-slot p e));
+  counted = counted;
 }
 
 -- nothing is taken
@@ -160,7 +167,7 @@ begun-taken slot old new t nodes = inl (record {
 
 -- what the first act is: the load of the guard
 pub first-ends : (c : Config) (r : Renewal) (seen : Seen) (free : FreeSlots) → Hears (consol_asks c r Fresh) seen → EndsWell r.link seen Fresh Guard free
-first-ends c r Start free h = record { done = λ e. absurd (cc); restart = λ e. absurd (cc); no_swap = λ e. absurd (cc); full_swaps = λ e. absurd (cc); full_nodes = λ e. absurd (cc) }
+first-ends c r Start free h = record { done = λ e. absurd (cc); restart = λ e. absurd (cc); no_swap = λ e. absurd (cc); full_swaps = λ e. absurd (cc); full_nodes = λ e. absurd (cc); counted = λ e. refl }
 first-ends c r (Was v) free h = absurd (h)
 first-ends c r Stored free h = absurd (h)
 first-ends c r Flushed free h = absurd (h)
@@ -190,14 +197,14 @@ begins r c (Store i) old new h nodes = record {
   ready = (omega (arith, h.1.0.slot, nodes), omega (arith, h.0));
   nearer = omega (arith, h.0);
   taken = begun-taken r.slot old new h.1.0 h.1.1;
-  ends = record { done = λ e. absurd (cc); restart = λ e. absurd (cc); no_swap = λ e. absurd (cc); full_swaps = λ e. absurd (cc); full_nodes = λ e. absurd (cc) };
+  ends = record { done = λ e. absurd (cc); restart = λ e. absurd (cc); no_swap = λ e. absurd (cc); full_swaps = λ e. absurd (cc); full_nodes = λ e. absurd (cc); counted = λ e. refl };
 }
 begins r c NoSlot old new h nodes = record {
   begun = λ e. absurd (cc);
   ready = tt;
   nearer = omega arith;
   taken = subst (λ z. AreTakenFrom CONSOLIDATION_SLOTS 0 old z) (sym h.1) (inr (record { fewer = omega arith; slots = refl }));
-  ends = record { done = λ e. absurd (cc); restart = λ e. absurd (cc); no_swap = λ e. absurd (cc); full_swaps = λ e. absurd (cc); full_nodes = λ e. h.0 };
+  ends = record { done = λ e. absurd (cc); restart = λ e. absurd (cc); no_swap = λ e. absurd (cc); full_swaps = λ e. absurd (cc); full_nodes = λ e. h.0; counted = λ e. refl };
 }
 begins r c Fresh old new h nodes = absurd (h)
 begins r c Guard old new h nodes = absurd (h)
@@ -220,6 +227,7 @@ differs-ends r c seen old hears ne = record {
     no_swap = λ e. absurd (subst (Hears (consol_asks c r Guard)) e hears);
     full_swaps = λ e. absurd (cc);
     full_nodes = λ e. absurd (cc);
+    counted = λ e. absurd (cc);
   };
 }
 

@@ -4,7 +4,7 @@ use Rattle.bz_task.specs.Scene.{Scene, Stage}
 use Rattle.bz_task.specs.declared.todo.Outcome.{Outcome}
 use Rattle.bz_task.specs.declared.todo.Seen.{Seen}
 use Rattle.bz_task.specs.declared.todo.Todo.{Todo}
-use Rattle.bz_consol.specs.Facts.{Renewal, consol_asks, consol_end, consol_left, consol_needs, consol_facts, consol_differs}
+use Rattle.bz_consol.specs.Facts.{Renewal, consol_asks, consol_end, consol_left, consol_swaps, consol_needs, consol_facts, consol_differs}
 use Rattle.bz_consol.specs.declared.consolidate.Consolidate.{Consolidate}
 
 abbrev pub renewal_of : Consolidate → Renewal
@@ -18,6 +18,13 @@ end_of t = consol_end t.phase
 
 abbrev pub left_of : Consolidate → ℕ
 left_of t = consol_left t.phase
+
+abbrev pub swaps_of : Consolidate → ℕ
+swaps_of t = consol_swaps t.phase
+
+-- its one swap is its last act where it takes effect: while it goes on it has made none
+abbrev pub made_of : Consolidate → ℕ
+made_of t = 0
 
 abbrev pub needs_of : Consolidate → ℕ
 needs_of t = consol_needs t.phase

@@ -56,6 +56,14 @@ consol_end phase = None
 abbrev pub consol_acts : ℕ
 consol_acts = NODE_WORDS + NODE_LINES + 3
 
+-- the most swaps that are still asked for: that of the link, until it has ended
+abbrev pub consol_swaps : Phase → ℕ
+consol_swaps Done = 0
+consol_swaps Restart = 0
+consol_swaps NoSlot = 0
+consol_swaps NoSwap = 0
+consol_swaps phase = 1
+
 abbrev pub consol_left : Phase → ℕ
 consol_left Fresh = consol_acts
 consol_left Guard = NODE_WORDS + NODE_LINES + 2

@@ -1,17 +1,18 @@
 //! The task that consolidates a frozen leaf.
 
-ghost use Rattle.std.specs.Prelude.{◌≡◌, ◌≢◌, ◌↔◌, ◌-◌, ◌<◌, ◌≤◌, ◌^◌, ◌⊎◌, ℕ, List, Some, None, IsTrue, true, false, slice_get, length};
+ghost use Rattle.std.specs.Prelude.{◌≡◌, ◌≢◌, ◌↔◌, ◌-◌, ◌+◌, ◌<◌, ◌≤◌, ◌^◌, ◌⊎◌, ℕ, List, Some, None, IsTrue, true, false, slice_get, length};
 ghost use Rattle.bz_layout.specs.Config.{IsConfig};
 ghost use Rattle.bz_layout.specs.declared.thresholds.TheConstants.{CONSOLIDATION_SLOTS};
 ghost use Rattle.bz_page.specs.Pages.{IsLeafByItself};
 ghost use Rattle.bz_word.specs.Statuses.{status};
 ghost use Rattle.bz_task.specs.Outcomes.{IsPath, IsView};
 ghost use Rattle.bz_task.specs.OwnActs.{AreTakenFrom, AreUnreached, gained};
-ghost use Rattle.bz_task.specs.Requests.{Hears, Tells, IsKnown};
+ghost use Rattle.bz_task.specs.Requests.{Hears, Tells, IsKnown, swaps_in, effects_in};
 ghost use Rattle.bz_task.specs.Scene.{Scene, Stage, Waiting, IsScene};
+ghost use Rattle.bz_task.specs.declared.swaps.TheConstants.{RENEWAL_SWAPS};
 ghost use Rattle.bz_task.specs.declared.todo.Seen.TheVariants.{Read as Was, Swapped, NoSwap as NoneLeft};
-ghost use Rattle.bz_consol.specs.Duties.{renewal_of, asks_of, end_of, left_of, needs_of, facts_of, differs_of};
-ghost use Rattle.bz_consol.specs.Facts.{IsEndOfConsolidation, HasBegun, HasLooked, consol_acts, consol_asks, consol_left, consol_facts, consol_means, consol_change, IsReady, LeadsTo, WasRenewed, next_store, next_flush};
+ghost use Rattle.bz_consol.specs.Duties.{renewal_of, asks_of, end_of, left_of, swaps_of, made_of, needs_of, facts_of, differs_of};
+ghost use Rattle.bz_consol.specs.Facts.{IsEndOfConsolidation, HasBegun, HasLooked, consol_acts, consol_asks, consol_end, consol_left, consol_swaps, consol_facts, consol_means, consol_change, IsReady, LeadsTo, WasRenewed, next_store, next_flush};
 
 use crate::copies::copy_of;
 use crate::laws::renewals_are_good;
@@ -49,6 +50,8 @@ impl Consolidate {
         ensures config { ⟦<Consolidate as Task>⟧.config result ≡ config.now }
         ensures asks { ⟦<Consolidate as Task>⟧.asks result ≡ None }
         ensures left { ⟦<Consolidate as Task>⟧.left result ≡ consol_acts }
+        ensures swaps { ⟦<Consolidate as Task>⟧.swaps result ≡ RENEWAL_SWAPS }
+        ensures made { ⟦<Consolidate as Task>⟧.made result ≡ 0 }
         ensures needs { ⟦<Consolidate as Task>⟧.needs result ≡ CONSOLIDATION_SLOTS }
         ensures change { ⟦<Consolidate as Task>⟧.change result ≡ consol_change }
         ensures facts { (key : List ℕ) (s : Scene) → s.past.config ≡ config.now → IsScene s → IsPath key path s.past → IsView key view s.past → ⟦<Consolidate as Task>⟧.facts result Waiting s }
@@ -79,6 +82,8 @@ impl Consolidate {
         requires hears { Hears (asks_of self.now) seen }
         requires known { IsKnown self.now.config (facts_of self.now) (asks_of self.now) seen moment }
         ensures nearer { consol_left result < left_of self.now }
+        ensures fewer { consol_swaps result + swaps_in (asks_of self.now) ≤ swaps_of self.now }
+        ensures counted { consol_end result ≡ None → effects_in seen ≡ 0 }
         ensures done { result ≡ Phase.Done → seen ≡ Swapped true }
         ensures restart { result ≡ Phase.Restart → seen ≡ Swapped false }
         ensures no_swap { (result ≡ Phase.NoSwap) ↔ (seen ≡ NoneLeft) }
@@ -142,6 +147,8 @@ impl Consolidate {
         ensures begun { self.new.phase ≢ Phase.Fresh }
         ensures ready { IsReady self.new.config (renewal_of self.new) self.new.phase }
         ensures nearer { left_of self.new < left_of self.old }
+        ensures fewer { swaps_of self.new + swaps_in (asks_of self.old) ≤ swaps_of self.old }
+        ensures counted { end_of self.new ≡ None → effects_in seen ≡ 0 }
         ensures slots { AreTakenFrom (needs_of self.old) (needs_of self.new) slots.old slots.new }
         ensures done { end_of self.new ≡ Some Outcome.Done → seen ≡ Swapped true }
         ensures restart { end_of self.new ≡ Some Outcome.Restart → (seen ≡ Swapped false) ⊎ differs_of self.old seen }
@@ -226,6 +233,10 @@ impl Task for Consolidate {
     ghost end = { end_of };
 
     ghost left = { left_of };
+
+    ghost swaps = { swaps_of };
+
+    ghost made = { made_of };
 
     ghost needs = { needs_of };
 

@@ -1,6 +1,7 @@
 mod Staying
 mod Acting
 mod Ending
+mod Counting
 mod Making
 mod Reading
 mod Telling

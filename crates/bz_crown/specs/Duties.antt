@@ -4,7 +4,7 @@ use Rattle.bz_task.specs.Scene.{Scene, Stage}
 use Rattle.bz_task.specs.declared.todo.Outcome.{Outcome}
 use Rattle.bz_task.specs.declared.todo.Seen.{Seen}
 use Rattle.bz_task.specs.declared.todo.Todo.{Todo}
-use Rattle.bz_crown.specs.Facts.{Crown, crown_asks, crown_end, crown_left, crown_needs, crown_facts, crown_differs}
+use Rattle.bz_crown.specs.Facts.{Crown, crown_asks, crown_end, crown_left, crown_swaps, crown_needs, crown_facts, crown_differs}
 use Rattle.bz_crown.specs.declared.split_inner_root.SplitInnerRoot.{SplitInnerRoot}
 
 -- the words of the new root, of the left half and of the right half
@@ -24,6 +24,13 @@ end_crown t = crown_end t.phase
 
 abbrev pub left_crown : SplitInnerRoot → ℕ
 left_crown t = crown_left t.phase
+
+abbrev pub swaps_crown : SplitInnerRoot → ℕ
+swaps_crown t = crown_swaps t.phase
+
+-- its one swap is its last act where it takes effect: while it goes on it has made none
+abbrev pub made_crown : SplitInnerRoot → ℕ
+made_crown t = 0
 
 abbrev pub needs_crown : SplitInnerRoot → ℕ
 needs_crown t = crown_needs t.phase

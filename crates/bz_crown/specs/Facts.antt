@@ -68,6 +68,15 @@ crown_end phase = None
 abbrev pub crown_acts : ℕ
 crown_acts = NODE_WORDS + SPLIT_WORDS + SPLIT_LINES + 3
 
+-- the most swaps that are still asked for: that of the root link, until it has ended
+abbrev pub crown_swaps : Phase → ℕ
+crown_swaps Done = 0
+crown_swaps Restart = 0
+crown_swaps TooHigh = 0
+crown_swaps NoSlot = 0
+crown_swaps NoSwap = 0
+crown_swaps phase = 1
+
 abbrev pub crown_left : Phase → ℕ
 crown_left Fresh = crown_acts
 crown_left (Word i) = crown_acts - i

@@ -7,13 +7,14 @@ ghost use Rattle.bz_layout.specs.declared.thresholds.TheConstants.{SPLIT_SLOTS};
 ghost use Rattle.bz_renew.specs.Nodes.{word_value};
 ghost use Rattle.bz_task.specs.Outcomes.{IsPath};
 ghost use Rattle.bz_task.specs.OwnActs.{AreTakenFrom, AreUnreached, gained};
-ghost use Rattle.bz_task.specs.Requests.{Hears, Tells, IsKnown};
+ghost use Rattle.bz_task.specs.Requests.{Hears, Tells, IsKnown, swaps_in, effects_in};
 ghost use Rattle.bz_task.specs.Scene.{Scene, Stage, Waiting, IsScene};
+ghost use Rattle.bz_task.specs.declared.swaps.TheConstants.{RENEWAL_SWAPS};
 ghost use Rattle.bz_task.specs.declared.todo.Seen.TheVariants.{Read as Was, Swapped, NoSwap as NoneLeft};
 ghost use Rattle.bz_branch.specs.FromSplit.Facts.{split_change};
 ghost use Rattle.bz_crown.specs.Due.{IsDue};
-ghost use Rattle.bz_crown.specs.Duties.{crown_of, asks_crown, end_crown, left_crown, needs_crown, facts_crown, differs_crown};
-ghost use Rattle.bz_crown.specs.Facts.{crown_nodes, crown_acts, crown_left, crown_facts, crown_means, HasBegunCrown, HasLookedCrown, HasTold, AreMadeOf, IsReadyCrown, IsSplittable, WasSplitAtRoot, WasTooHigh, crown_needs, word_after, store_after, flush_after};
+ghost use Rattle.bz_crown.specs.Duties.{crown_of, asks_crown, end_crown, left_crown, swaps_crown, made_crown, needs_crown, facts_crown, differs_crown};
+ghost use Rattle.bz_crown.specs.Facts.{crown_nodes, crown_acts, crown_end, crown_left, crown_swaps, crown_facts, crown_means, HasBegunCrown, HasLookedCrown, HasTold, AreMadeOf, IsReadyCrown, IsSplittable, WasSplitAtRoot, WasTooHigh, crown_needs, word_after, store_after, flush_after};
 
 use crate::phase::Phase;
 use bz_branch::laws::{inner_root_splits_are_good, read_nodes_were};
@@ -59,6 +60,8 @@ impl SplitInnerRoot {
         ensures config { ⟦<SplitInnerRoot as Task>⟧.config result ≡ config.now }
         ensures asks { ⟦<SplitInnerRoot as Task>⟧.asks result ≡ None }
         ensures left { ⟦<SplitInnerRoot as Task>⟧.left result ≡ crown_acts }
+        ensures swaps { ⟦<SplitInnerRoot as Task>⟧.swaps result ≡ RENEWAL_SWAPS }
+        ensures made { ⟦<SplitInnerRoot as Task>⟧.made result ≡ 0 }
         ensures needs { ⟦<SplitInnerRoot as Task>⟧.needs result ≡ SPLIT_SLOTS }
         ensures change { ⟦<SplitInnerRoot as Task>⟧.change result ≡ split_change }
         ensures facts { (key : List ℕ) (s : Scene) → s.past.config ≡ config.now → IsScene s → IsPath key path s.past → ⟦<SplitInnerRoot as Task>⟧.facts result Waiting s }
@@ -167,6 +170,8 @@ impl SplitInnerRoot {
         requires hears { Hears (asks_crown self.now) seen }
         requires known { IsKnown self.now.config (facts_crown self.now) (asks_crown self.now) seen moment }
         ensures nearer { crown_left result < left_crown self.now }
+        ensures fewer { crown_swaps result + swaps_in (asks_crown self.now) ≤ swaps_crown self.now }
+        ensures counted { crown_end result ≡ None → effects_in seen ≡ 0 }
         ensures needs { crown_needs result ≡ 0 }
         ensures done { result ≡ Phase.Done → seen ≡ Swapped true }
         ensures restart { result ≡ Phase.Restart → seen ≡ Swapped false }
@@ -199,6 +204,8 @@ impl SplitInnerRoot {
         ensures begun { self.new.phase ≢ Phase.Fresh }
         ensures ready { IsReadyCrown self.new.config (crown_of self.new) self.new.phase }
         ensures nearer { left_crown self.new < left_crown self.old }
+        ensures fewer { swaps_crown self.new + swaps_in (asks_crown self.old) ≤ swaps_crown self.old }
+        ensures counted { end_crown self.new ≡ None → effects_in seen ≡ 0 }
         ensures slots { AreTakenFrom (needs_crown self.old) (needs_crown self.new) slots.old slots.new }
         ensures done { end_crown self.new ≡ Some Outcome.Done → seen ≡ Swapped true }
         ensures restart { end_crown self.new ≡ Some Outcome.Restart → (seen ≡ Swapped false) ⊎ differs_crown self.old seen }
@@ -316,6 +323,10 @@ impl Task for SplitInnerRoot {
     ghost end = { end_crown };
 
     ghost left = { left_crown };
+
+    ghost swaps = { swaps_crown };
+
+    ghost made = { made_crown };
 
     ghost needs = { needs_crown };
 

@@ -46,6 +46,8 @@ impl Descend {
         ensures config { ⟦<Descend as Task>⟧.config result ≡ config.now }
         ensures asks { ⟦<Descend as Task>⟧.asks result ≡ None }
         ensures left { ⟦<Descend as Task>⟧.left result ≡ descend_reads + 1 }
+        ensures swaps { ⟦<Descend as Task>⟧.swaps result ≡ 0 }
+        ensures made { ⟦<Descend as Task>⟧.made result ≡ 0 }
         ensures needs { ⟦<Descend as Task>⟧.needs result ≡ 0 }
         ensures facts { (s : Scene) → ⟦<Descend as Task>⟧.facts result Waiting s }
         ensures path { (path : Path) (s : Scene) → ⟦<Descend as Task>⟧.means result (Outcome.Path path) s → IsPath key path s.past }
@@ -66,6 +68,8 @@ impl Descend {
         ensures config { ⟦<Descend as Task>⟧.config result ≡ config.now }
         ensures asks { ⟦<Descend as Task>⟧.asks result ≡ Some (Read ROOT_STATUS_AT) }
         ensures left { ⟦<Descend as Task>⟧.left result ≡ descend_reads }
+        ensures swaps { ⟦<Descend as Task>⟧.swaps result ≡ 0 }
+        ensures made { ⟦<Descend as Task>⟧.made result ≡ 0 }
         ensures needs { ⟦<Descend as Task>⟧.needs result ≡ 0 }
         ensures facts { (s : Scene) → HasFilled s → ⟦<Descend as Task>⟧.facts result Waiting s }
         ensures path { (path : Path) (s : Scene) → ⟦<Descend as Task>⟧.means result (Outcome.Path path) s → IsPath key path s.past }
@@ -288,6 +292,10 @@ impl Task for Descend {
     ghost end = { end_of };
 
     ghost left = { left_of };
+
+    ghost swaps = { λ t. 0 };
+
+    ghost made = { λ t. 0 };
 
     ghost needs = { λ t. 0 };
 

@@ -57,6 +57,8 @@ impl Seek {
         ensures config { ⟦<Seek as Task>⟧.config result ≡ config.now }
         ensures asks { ⟦<Seek as Task>⟧.asks result ≡ None }
         ensures left { ⟦<Seek as Task>⟧.left result ≡ seek_reads + 1 }
+        ensures swaps { ⟦<Seek as Task>⟧.swaps result ≡ 0 }
+        ensures made { ⟦<Seek as Task>⟧.made result ≡ 0 }
         ensures needs { ⟦<Seek as Task>⟧.needs result ≡ 0 }
         ensures asked { asked_of result ≡ 0 }
         ensures facts { (s : Scene) → ⟦<Seek as Task>⟧.facts result Waiting s }
@@ -80,6 +82,8 @@ impl Seek {
         ensures config { ⟦<Seek as Task>⟧.config result ≡ config.now }
         ensures asks { ⟦<Seek as Task>⟧.asks result ≡ Some (Read ROOT_STATUS_AT) }
         ensures left { ⟦<Seek as Task>⟧.left result ≡ seek_reads }
+        ensures swaps { ⟦<Seek as Task>⟧.swaps result ≡ 0 }
+        ensures made { ⟦<Seek as Task>⟧.made result ≡ 0 }
         ensures needs { ⟦<Seek as Task>⟧.needs result ≡ 0 }
         ensures asked { asked_of result ≡ 1 }
         ensures facts { (s : Scene) → HasFilled s → ⟦<Seek as Task>⟧.facts result Waiting s }
@@ -348,6 +352,10 @@ impl Task for Seek {
     ghost end = { end_of };
 
     ghost left = { left_of };
+
+    ghost swaps = { λ t. 0 };
+
+    ghost made = { λ t. 0 };
 
     ghost needs = { λ t. 0 };
 

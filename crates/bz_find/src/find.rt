@@ -44,6 +44,8 @@ impl Find {
         ensures config { ⟦<Find as Task>⟧.config result ≡ config.now }
         ensures asks { ⟦<Find as Task>⟧.asks result ≡ None }
         ensures left { ⟦<Find as Task>⟧.left result ≡ find_acts }
+        ensures swaps { ⟦<Find as Task>⟧.swaps result ≡ 0 }
+        ensures made { ⟦<Find as Task>⟧.made result ≡ 0 }
         ensures needs { ⟦<Find as Task>⟧.needs result ≡ 0 }
         ensures asked { asked_of result ≡ 0 }
         ensures facts { (s : Scene) → IsScene s → IsPath key path s.past → ⟦<Find as Task>⟧.facts result Waiting s }
@@ -245,6 +247,10 @@ impl Task for Find {
     ghost end = { end_of };
 
     ghost left = { left_of };
+
+    ghost swaps = { λ t. 0 };
+
+    ghost made = { λ t. 0 };
 
     ghost needs = { λ t. 0 };
 

@@ -1,14 +1,14 @@
 -- What comes after a store, a flush and the swap.
-use Rattle.std.proofs.Common.{◌≡◌, ◌≢◌, ℕ, ◌+◌, ◌<◌, if◌then◌else◌, Bool, true, false, arith, refl, sym, subst}
-use Rattle.std.specs.Prelude.{nat_lt, ◌↔◌}
+use Rattle.std.proofs.Common.{◌≡◌, ◌≢◌, ℕ, ◌+◌, ◌<◌, if◌then◌else◌, Bool, true, false, arith, refl, sym, ap, subst, ◌∙◌}
+use Rattle.std.specs.Prelude.{nat_lt, None, ◌≤◌, ◌↔◌}
 use Rattle.std.proofs.lemmas.Bool.{true≢false}
 use Rattle.bz_layout.specs.declared.config.Config.{Config}
-use Rattle.bz_task.specs.Requests.{Hears, Tells}
+use Rattle.bz_task.specs.Requests.{Hears, Tells, swaps_in, effects_in}
 use Rattle.bz_task.specs.Scene.{Scene, Stage, Waiting, Took}
 use Rattle.bz_task.specs.declared.todo.Seen.{Seen}
 use Rattle.bz_task.specs.declared.todo.Seen.TheVariants.{Start, Read as Was, Stored, Flushed, Swapped, NoSwap as NoneLeft}
 use Rattle.bz_branch.specs.FromSplit.Facts.{SPLIT_WORDS, SPLIT_LINES}
-use Rattle.bz_fork.specs.Facts.{Fork, fork_asks, fork_facts, fork_left, fork_needs, store_after, flush_after, swap_after, IsReadyFork}
+use Rattle.bz_fork.specs.Facts.{Fork, fork_asks, fork_end, fork_facts, fork_left, fork_swaps, fork_needs, store_after, flush_after, swap_after, IsReadyFork}
 use Rattle.bz_fork.specs.declared.phase.Phase.{Phase}
 use Rattle.bz_fork.specs.declared.phase.Phase.TheVariants.{Fresh, Word, Again, Above, Check, Guard, Store, Flush, Swap, Done, Restart, NoRoom, NoSlot, NoSwap}
 
@@ -79,6 +79,17 @@ swap-cases c r (Was v) h = absurd (h)
 swap-cases c r Stored h = absurd (h)
 swap-cases c r Flushed h = absurd (h)
 
+-- the swap is the last act
+swap-ends : (seen : Seen) → fork_swaps (swap_after seen) ≡ 0
+swap-ends (Swapped true) = refl
+swap-ends NoneLeft = refl
+swap-ends seen = refl
+
+swap-stops : (seen : Seen) → fork_end (swap_after seen) ≡ None → effects_in seen ≡ 0
+swap-stops (Swapped true) e = absurd (cc)
+swap-stops NoneLeft e = absurd (cc)
+swap-stops seen e = absurd (cc)
+
 swap-ready : (c : Config) (r : Fork) (seen : Seen) → IsReadyFork c r (swap_after seen)
 swap-ready c r (Swapped true) = tt
 swap-ready c r (Swapped false) = tt
@@ -109,6 +120,12 @@ swap-learns c r Flushed Took s f t = absurd (t)
 module _ (c : Config) (r : Fork) (p q : Phase) (seen : Seen) (is : p ≡ Swap) (then_is : q ≡ swap_after seen) where
   pub swapped-after : Hears (fork_asks c r p) seen → Afters p q seen
   swapped-after h = subst (λ z. Afters z q seen) (sym is) (subst (λ z. Afters Swap z seen) (sym then_is) (swap-cases c r seen (subst (λ z. Hears (fork_asks c r z) seen) is h)))
+
+  pub swapped-fewer : fork_swaps q + swaps_in (fork_asks c r p) ≤ fork_swaps p
+  swapped-fewer = omega (arith, ap fork_swaps then_is, swap-ends seen, ap fork_swaps is, ap (λ z. swaps_in (fork_asks c r z)) is)
+
+  pub swapped-counted : fork_end q ≡ None → effects_in seen ≡ 0
+  swapped-counted e = swap-stops seen (ap fork_end (sym then_is) ∙ e)
 
   pub swapped-ready : IsReadyFork c r q
   swapped-ready = subst (IsReadyFork c r) (sym then_is) (swap-ready c r seen)

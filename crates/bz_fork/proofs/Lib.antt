@@ -4,6 +4,7 @@ mod Viewing
 mod Staying
 mod Acting
 mod Ending
+mod Counting
 mod Ends
 mod Making
 mod Clearing

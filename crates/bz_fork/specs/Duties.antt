@@ -4,7 +4,7 @@ use Rattle.bz_task.specs.Scene.{Scene, Stage}
 use Rattle.bz_task.specs.declared.todo.Outcome.{Outcome}
 use Rattle.bz_task.specs.declared.todo.Seen.{Seen}
 use Rattle.bz_task.specs.declared.todo.Todo.{Todo}
-use Rattle.bz_fork.specs.Facts.{Fork, fork_asks, fork_end, fork_left, fork_needs, fork_facts, fork_differs}
+use Rattle.bz_fork.specs.Facts.{Fork, fork_asks, fork_end, fork_left, fork_swaps, fork_needs, fork_facts, fork_differs}
 use Rattle.bz_fork.specs.declared.split_inner.SplitInner.{SplitInner}
 
 -- the words of the new parent, of the left half and of the right half
@@ -24,6 +24,13 @@ end_fork t = fork_end t.phase
 
 abbrev pub left_fork : SplitInner → ℕ
 left_fork t = fork_left t.phase
+
+abbrev pub swaps_fork : SplitInner → ℕ
+swaps_fork t = fork_swaps t.phase
+
+-- its one swap is its last act where it takes effect: while it goes on it has made none
+abbrev pub made_fork : SplitInner → ℕ
+made_fork t = 0
 
 abbrev pub needs_fork : SplitInner → ℕ
 needs_fork t = fork_needs t.phase

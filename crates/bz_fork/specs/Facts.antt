@@ -75,6 +75,15 @@ fork_end phase = None
 abbrev pub fork_acts : ℕ
 fork_acts = NODE_WORDS + (NODE_WORDS + SPLIT_WORDS + SPLIT_LINES + 3)
 
+-- the most swaps that are still asked for: that of the link to the parent, until it has ended
+abbrev pub fork_swaps : Phase → ℕ
+fork_swaps Done = 0
+fork_swaps Restart = 0
+fork_swaps NoRoom = 0
+fork_swaps NoSlot = 0
+fork_swaps NoSwap = 0
+fork_swaps phase = 1
+
 abbrev pub fork_left : Phase → ℕ
 fork_left Fresh = fork_acts
 fork_left (Word i) = fork_acts - i

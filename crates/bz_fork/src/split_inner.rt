@@ -6,13 +6,14 @@ ghost use Rattle.bz_layout.specs.declared.thresholds.TheConstants.{SPLIT_SLOTS};
 ghost use Rattle.bz_renew.specs.Nodes.{word_value};
 ghost use Rattle.bz_task.specs.Outcomes.{IsPath};
 ghost use Rattle.bz_task.specs.OwnActs.{AreTakenFrom, AreUnreached, gained};
-ghost use Rattle.bz_task.specs.Requests.{Hears, Tells, IsKnown};
+ghost use Rattle.bz_task.specs.Requests.{Hears, Tells, IsKnown, swaps_in, effects_in};
 ghost use Rattle.bz_task.specs.Scene.{Scene, Stage, Waiting, IsScene};
+ghost use Rattle.bz_task.specs.declared.swaps.TheConstants.{RENEWAL_SWAPS};
 ghost use Rattle.bz_task.specs.declared.todo.Seen.TheVariants.{Read as Was, Swapped, NoSwap as NoneLeft};
 ghost use Rattle.bz_branch.specs.FromSplit.Facts.{split_change};
 ghost use Rattle.bz_fork.specs.Due.{IsDue};
-ghost use Rattle.bz_fork.specs.Duties.{fork_of, asks_fork, end_fork, left_fork, needs_fork, facts_fork, differs_fork};
-ghost use Rattle.bz_fork.specs.Facts.{fork_nodes, fork_acts, fork_left, fork_facts, fork_means, HasBegunFork, HasLookedFork, HasRead, HasTold, AreMadeOf, HasNode, HasPlace, IsReadyFork, WasSplitInner, LackedPart, fork_needs, word_after, above_after, store_after, flush_after, swap_after};
+ghost use Rattle.bz_fork.specs.Duties.{fork_of, asks_fork, end_fork, left_fork, swaps_fork, made_fork, needs_fork, facts_fork, differs_fork};
+ghost use Rattle.bz_fork.specs.Facts.{fork_nodes, fork_acts, fork_end, fork_left, fork_swaps, fork_facts, fork_means, HasBegunFork, HasLookedFork, HasRead, HasTold, AreMadeOf, HasNode, HasPlace, IsReadyFork, WasSplitInner, LackedPart, fork_needs, word_after, above_after, store_after, flush_after, swap_after};
 
 use crate::parent::parent_with;
 use crate::phase::Phase;
@@ -62,6 +63,8 @@ impl SplitInner {
         ensures config { ⟦<SplitInner as Task>⟧.config result ≡ config.now }
         ensures asks { ⟦<SplitInner as Task>⟧.asks result ≡ None }
         ensures left { ⟦<SplitInner as Task>⟧.left result ≡ fork_acts }
+        ensures swaps { ⟦<SplitInner as Task>⟧.swaps result ≡ RENEWAL_SWAPS }
+        ensures made { ⟦<SplitInner as Task>⟧.made result ≡ 0 }
         ensures needs { ⟦<SplitInner as Task>⟧.needs result ≡ SPLIT_SLOTS }
         ensures change { ⟦<SplitInner as Task>⟧.change result ≡ split_change }
         ensures facts { (key : List ℕ) (s : Scene) → s.past.config ≡ config.now → IsScene s → IsPath key path s.past → ⟦<SplitInner as Task>⟧.facts result Waiting s }
@@ -193,6 +196,8 @@ impl SplitInner {
         requires hears { Hears (asks_fork self.now) seen }
         requires known { IsKnown self.now.config (facts_fork self.now) (asks_fork self.now) seen moment }
         ensures nearer { fork_left result < left_fork self.now }
+        ensures fewer { fork_swaps result + swaps_in (asks_fork self.now) ≤ swaps_fork self.now }
+        ensures counted { fork_end result ≡ None → effects_in seen ≡ 0 }
         ensures needs { fork_needs result ≡ 0 }
         ensures done { result ≡ Phase.Done → seen ≡ Swapped true }
         ensures restart { result ≡ Phase.Restart → seen ≡ Swapped false }
@@ -225,6 +230,8 @@ impl SplitInner {
         ensures begun { self.new.phase ≢ Phase.Fresh }
         ensures ready { IsReadyFork self.new.config (fork_of self.new) self.new.phase }
         ensures nearer { left_fork self.new < left_fork self.old }
+        ensures fewer { swaps_fork self.new + swaps_in (asks_fork self.old) ≤ swaps_fork self.old }
+        ensures counted { end_fork self.new ≡ None → effects_in seen ≡ 0 }
         ensures slots { AreTakenFrom (needs_fork self.old) (needs_fork self.new) slots.old slots.new }
         ensures done { end_fork self.new ≡ Some Outcome.Done → seen ≡ Swapped true }
         ensures restart { end_fork self.new ≡ Some Outcome.Restart → (seen ≡ Swapped false) ⊎ differs_fork self.old seen }
@@ -378,6 +385,10 @@ impl Task for SplitInner {
     ghost end = { end_fork };
 
     ghost left = { left_fork };
+
+    ghost swaps = { swaps_fork };
+
+    ghost made = { made_fork };
 
     ghost needs = { needs_fork };
 

@@ -32,6 +32,12 @@ freeze_end Restart = Some Restarts
 freeze_end Full = Some (IsFull Swaps)
 freeze_end phase = None
 
+-- the most swaps that are still asked for
+abbrev pub freeze_swaps : Phase → ℕ
+freeze_swaps Fresh = 1
+freeze_swaps Swap = 1
+freeze_swaps phase = 0
+
 abbrev pub freeze_left : Phase → ℕ
 freeze_left Fresh = 2
 freeze_left Swap = 1

@@ -1,15 +1,16 @@
 //! The task that freezes a leaf.
 
-ghost use Rattle.std.specs.Prelude.{◌≡◌, ◌≢◌, ◌↔◌, ◌<◌, ◌^◌, ℕ, List, [], ◌∷◌, Some, None, true, false};
+ghost use Rattle.std.specs.Prelude.{◌≡◌, ◌≢◌, ◌↔◌, ◌<◌, ◌≤◌, ◌+◌, ◌^◌, ℕ, List, [], ◌∷◌, Some, None, true, false};
 ghost use Rattle.bz_layout.specs.Config.{IsConfig};
 ghost use Rattle.bz_layout.specs.declared.config.Config.{Config};
 ghost use Rattle.bz_word.specs.Statuses.{status};
 ghost use Rattle.bz_task.specs.Outcomes.{IsView};
-ghost use Rattle.bz_task.specs.Requests.{Hears, Tells, IsKnown};
+ghost use Rattle.bz_task.specs.Requests.{Hears, Tells, IsKnown, swaps_in, effects_in};
 ghost use Rattle.bz_task.specs.Scene.{Scene, Stage, Waiting, IsScene};
+ghost use Rattle.bz_task.specs.declared.swaps.TheConstants.{FREEZE_SWAPS};
 ghost use Rattle.bz_task.specs.declared.todo.Seen.TheVariants.{Swapped, NoSwap};
 ghost use Rattle.bz_task.specs.Steps.{frozen_word};
-ghost use Rattle.bz_freeze.specs.Facts.{IsEndOfFreeze, WasFrozen, freeze_asks, freeze_end, freeze_left, freeze_facts, freeze_means, freeze_change, entry_of};
+ghost use Rattle.bz_freeze.specs.Facts.{IsEndOfFreeze, WasFrozen, freeze_asks, freeze_end, freeze_left, freeze_swaps, freeze_facts, freeze_means, freeze_change, entry_of};
 
 use crate::laws::freezes_are_good;
 use crate::phase::Phase;
@@ -36,6 +37,8 @@ impl Freeze {
         ensures config { ⟦<Freeze as Task>⟧.config result ≡ config.now }
         ensures asks { ⟦<Freeze as Task>⟧.asks result ≡ None }
         ensures left { ⟦<Freeze as Task>⟧.left result ≡ 2 }
+        ensures swaps { ⟦<Freeze as Task>⟧.swaps result ≡ FREEZE_SWAPS }
+        ensures made { ⟦<Freeze as Task>⟧.made result ≡ 0 }
         ensures needs { ⟦<Freeze as Task>⟧.needs result ≡ 0 }
         ensures facts { (key : List ℕ) (s : Scene) → s.past.config ≡ config.now → IsScene s → IsView key view s.past → ⟦<Freeze as Task>⟧.facts result Waiting s }
         ensures frozen { (s : Scene) → ⟦<Freeze as Task>⟧.means result Outcome.Done s → WasFrozen view.slot s.past }
@@ -89,6 +92,8 @@ impl Freeze {
         requires hears { Hears (freeze_asks self.now.config self.now.slot self.now.status self.now.phase) seen }
         requires known { IsKnown self.now.config (freeze_facts self.now.slot self.now.status self.now.phase) (freeze_asks self.now.config self.now.slot self.now.status self.now.phase) seen moment }
         ensures nearer { freeze_left result < freeze_left self.now.phase }
+        ensures fewer { freeze_swaps result + swaps_in (freeze_asks self.now.config self.now.slot self.now.status self.now.phase) ≤ freeze_swaps self.now.phase }
+        ensures counted { freeze_end result ≡ None → effects_in seen ≡ 0 }
         ensures done { result ≡ Phase.Done → seen ≡ Swapped true }
         ensures restart { result ≡ Phase.Restart → seen ≡ Swapped false }
         ensures full { (result ≡ Phase.Full) ↔ (seen ≡ NoSwap) }
@@ -128,6 +133,10 @@ impl Task for Freeze {
     ghost end = { λ t. freeze_end t.phase };
 
     ghost left = { λ t. freeze_left t.phase };
+
+    ghost swaps = { λ t. freeze_swaps t.phase };
+
+    ghost made = { λ t. 0 };
 
     ghost needs = { λ t. 0 };
 

@@ -6,7 +6,7 @@ use Rattle.bz_task.specs.Scene.{Scene, Stage}
 use Rattle.bz_task.specs.Swaps.{Change}
 use Rattle.bz_task.specs.declared.todo.Outcome.{Outcome}
 use Rattle.bz_task.specs.declared.todo.Todo.{Todo}
-use Rattle.bz_insert.specs.Facts.{insert_asks, insert_end, insert_left, insert_publishes, insert_facts, insert_means}
+use Rattle.bz_insert.specs.Facts.{insert_asks, insert_end, insert_left, insert_swaps, insert_made, insert_publishes, insert_facts, insert_means}
 use Rattle.bz_insert.specs.declared.insert.Insert.{Insert}
 
 abbrev pub config_of : Insert → Config
@@ -20,6 +20,12 @@ end_of t = insert_end t.phase
 
 abbrev pub left_of : Insert → ℕ
 left_of t = insert_left t.phase
+
+abbrev pub swaps_of : Insert → ℕ
+swaps_of t = insert_swaps t.phase
+
+abbrev pub made_of : Insert → ℕ
+made_of t = insert_made t.phase
 
 abbrev pub change_of : Insert → Change
 change_of t = inserts t.added

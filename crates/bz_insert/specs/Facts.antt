@@ -41,6 +41,22 @@ insert_left (Flush n) = 3 - n
 insert_left Publish = 1
 insert_left phase = 0
 
+-- the most swaps: both up to the reservation, the publication from the first store on
+abbrev pub insert_swaps : Phase → ℕ
+insert_swaps Fresh = 2
+insert_swaps Reserve = 2
+insert_swaps (Store i) = 1
+insert_swaps (Flush n) = 1
+insert_swaps Publish = 1
+insert_swaps phase = 0
+
+-- from the first store on it was told that the reservation took effect
+abbrev pub insert_made : Phase → ℕ
+insert_made (Store i) = 1
+insert_made (Flush n) = 1
+insert_made Publish = 1
+insert_made phase = 0
+
 -- after a store comes the next one, or the first flush; after a flush the next one, or the publication
 abbrev pub next_store : NewRecord → ℕ → Phase
 next_store r i = if nat_lt (i + 1) (size_of r) then Store (i + 1) else Flush 0

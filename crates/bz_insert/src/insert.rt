@@ -1,15 +1,16 @@
 //! The task that inserts a record into a leaf.
 
-ghost use Rattle.std.specs.Prelude.{◌≡◌, ◌≢◌, ◌↔◌, ◌-◌, ◌<◌, ◌^◌, ◌⊎◌, ℕ, Some, None, true, false};
+ghost use Rattle.std.specs.Prelude.{◌≡◌, ◌≢◌, ◌↔◌, ◌-◌, ◌+◌, ◌<◌, ◌≤◌, ◌^◌, ◌⊎◌, ℕ, Some, None, true, false};
 ghost use Rattle.bz_layout.specs.Config.{IsConfig};
 ghost use Rattle.bz_task.specs.Outcomes.{IsKeyView};
-ghost use Rattle.bz_task.specs.Requests.{Hears, Tells, IsKnown};
+ghost use Rattle.bz_task.specs.Requests.{Hears, Tells, IsKnown, swaps_in, effects_in};
 ghost use Rattle.bz_task.specs.Scene.{Scene, Stage, Waiting, IsScene};
+ghost use Rattle.bz_task.specs.declared.swaps.TheConstants.{INSERT_SWAPS};
 ghost use Rattle.bz_task.specs.declared.todo.Seen.TheVariants.{Swapped, NoSwap};
 ghost use Rattle.bz_record.specs.Laws.{inserts};
 ghost use Rattle.bz_record.specs.Records.{words_for, size_of, HasRoom, LacksRoom};
-ghost use Rattle.bz_insert.specs.Duties.{config_of, asks_of, end_of, left_of, change_of, publishing_of, facts_of, means_of};
-ghost use Rattle.bz_insert.specs.Facts.{IsEndOfInsert, insert_asks, insert_left, insert_publishes, insert_facts, insert_means, IsReady, next_store, next_flush};
+ghost use Rattle.bz_insert.specs.Duties.{config_of, asks_of, end_of, left_of, swaps_of, made_of, change_of, publishing_of, facts_of, means_of};
+ghost use Rattle.bz_insert.specs.Facts.{IsEndOfInsert, insert_asks, insert_end, insert_left, insert_swaps, insert_made, insert_publishes, insert_facts, insert_means, IsReady, next_store, next_flush};
 
 use crate::phase::Phase;
 use bz_call::Spent;
@@ -35,6 +36,8 @@ impl Insert {
         ensures config { ⟦<Insert as Task>⟧.config result ≡ config.now }
         ensures asks { ⟦<Insert as Task>⟧.asks result ≡ None }
         ensures left { ⟦<Insert as Task>⟧.left result ≡ 13 }
+        ensures swaps { ⟦<Insert as Task>⟧.swaps result ≡ INSERT_SWAPS }
+        ensures made { ⟦<Insert as Task>⟧.made result ≡ 0 }
         ensures needs { ⟦<Insert as Task>⟧.needs result ≡ 0 }
         ensures change { ⟦<Insert as Task>⟧.change result ≡ record { key = key; old = None; new = Some payload } }
         ensures facts { (s : Scene) → s.past.config ≡ config.now → s.effected ≡ false → IsScene s → IsKeyView key view s.past → ⟦<Insert as Task>⟧.facts result Waiting s }
@@ -69,6 +72,8 @@ impl Insert {
         requires hears { Hears (insert_asks self.now.config self.now.added self.now.phase) seen }
         requires known { IsKnown self.now.config (insert_facts self.now.added self.now.phase) (insert_asks self.now.config self.now.added self.now.phase) seen moment }
         ensures nearer { insert_left result < insert_left self.now.phase }
+        ensures fewer { insert_swaps result + swaps_in (insert_asks self.now.config self.now.added self.now.phase) ≤ insert_swaps self.now.phase }
+        ensures counted { insert_end result ≡ None → insert_made result ≡ insert_made self.now.phase + effects_in seen }
         ensures done { result ≡ Phase.Done → seen ≡ Swapped true }
         ensures published { insert_publishes self.now.phase ≡ true → seen ≡ Swapped true → result ≡ Phase.Done }
         ensures restart { result ≡ Phase.Restart → seen ≡ Swapped false }
@@ -128,6 +133,8 @@ impl Insert {
         requires { IsReady self.now.config self.now.added (Phase.Store i) }
         ensures next { result ≡ next_store self.now.added i }
         ensures nearer { insert_left result < 11 - i }
+        ensures swaps { insert_swaps result ≡ 1 }
+        ensures made { insert_made result ≡ 1 }
         ensures ready { IsReady self.now.config self.now.added result }
     {
         let size = self.added.size();
@@ -144,6 +151,8 @@ impl Insert {
         requires ready { IsReady self.now.config self.now.added (Phase.Flush n) }
         ensures next { result ≡ next_flush self.now.config self.now.added n }
         ensures nearer { insert_left result < 3 - n }
+        ensures swaps { insert_swaps result ≡ 1 }
+        ensures made { insert_made result ≡ 1 }
         ensures ready { IsReady self.now.config self.now.added result }
     {
         let line = self.added.first_line(&self.config) + n;
@@ -163,6 +172,10 @@ impl Task for Insert {
     ghost end = { end_of };
 
     ghost left = { left_of };
+
+    ghost swaps = { swaps_of };
+
+    ghost made = { made_of };
 
     ghost needs = { λ t. 0 };
 

@@ -38,6 +38,8 @@ impl ReadLeaf {
         ensures config { ⟦<ReadLeaf as Task>⟧.config result ≡ config.now }
         ensures asks { ⟦<ReadLeaf as Task>⟧.asks result ≡ None }
         ensures left { ⟦<ReadLeaf as Task>⟧.left result ≡ leaf_acts }
+        ensures swaps { ⟦<ReadLeaf as Task>⟧.swaps result ≡ 0 }
+        ensures made { ⟦<ReadLeaf as Task>⟧.made result ≡ 0 }
         ensures needs { ⟦<ReadLeaf as Task>⟧.needs result ≡ 0 }
         ensures facts { (s : Scene) → IsScene s → IsPath key path s.past → ⟦<ReadLeaf as Task>⟧.facts result Waiting s }
         ensures view { (view : LeafView) (s : Scene) → ⟦<ReadLeaf as Task>⟧.means result (Outcome.View view) s → IsView key view s.past }
@@ -201,6 +203,10 @@ impl Task for ReadLeaf {
     ghost end = { end_of };
 
     ghost left = { left_of };
+
+    ghost swaps = { λ t. 0 };
+
+    ghost made = { λ t. 0 };
 
     ghost needs = { λ t. 0 };
 

@@ -264,15 +264,18 @@ pub took : LinksMayBeTurned → Freezes → ChildrenJoin → (c : Config) (r : M
 took may freezes joins c r Freeze s after entries same f good later e stand takes =
     let own : StoodFrozen r.lower.slot r.leaf after.past = freeze-took freezes c (viewed_leaf r) s after entries same good later (own-once r s.past f.1.0) f.1.1 e stand takes in
     let froze : FrozeViewed r after.past = record { before = s; froze = freeze-froze r c (viewed_leaf r) s after entries same good f.1.0 f.1.1 e takes } in
-    (filled-after s after f.0 takes, (planned-stays s.past after.past takes.continues r f.1.0, (own, inr froze)))
+    (filled-after s after f.0 takes, (planned-stays s.past after.past takes.continues r f.1.0, (own, froze)))
 took may freezes joins c r FreezeBeside s after entries same f good later e stand takes = (
   filled-after s after f.0 takes,
-  record {
-    planned = planned-stays s.past after.past takes.continues r f.1.0;
-    own = frozen-stays s.past after.past takes.continues r.lower.slot r.leaf f.1.1.0;
-    other = freeze-took freezes c (beside_leaf r) s after entries same good later (other-once r s.past f.1.0) f.1.1.1.0 e stand takes;
-    froze = inr (record { before = s; froze = freeze-froze r c (beside_leaf r) s after entries same good f.1.0 f.1.1.1.0 e takes; viewed = f.1.1.1.1 });
-  },
+  (
+    record {
+      planned = planned-stays s.past after.past takes.continues r f.1.0;
+      own = frozen-stays s.past after.past takes.continues r.lower.slot r.leaf f.1.1.0;
+      other = freeze-took freezes c (beside_leaf r) s after entries same good later (other-once r s.past f.1.0) f.1.1.1.0 e stand takes;
+      froze = inr (record { before = s; froze = freeze-froze r c (beside_leaf r) s after entries same good f.1.0 f.1.1.1.0 e takes; viewed = f.1.1.1.1 });
+    },
+    f.1.1.1.0,
+  ),
 )
 took may freezes joins c r Swap s after entries same f good later e stand takes =
     let is : below_swap s.past.config r.upper r.lower (r.slot 0) ≡ entries = ap (λ (z : Config). below_swap z r.upper r.lower (r.slot 0)) same ∙ same-entries (below_swap c r.upper r.lower (r.slot 0)) entries e in

@@ -18,6 +18,7 @@ mod Swapping
 mod Reading
 mod Telling
 mod Settling
+mod Counting
 mod Sides
 mod Looking
 mod Viewing

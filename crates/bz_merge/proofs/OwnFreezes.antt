@@ -5,7 +5,7 @@ use Rattle.bz_freeze.specs.Facts.{entry_of}
 use Rattle.bz_task.specs.Instant.{Instant}
 use Rattle.bz_task.specs.Scene.{Past, Scene, IsScene, Continues, here}
 use Rattle.bz_task.specs.Swaps.{Takes}
-use Rattle.bz_merge.specs.OwnFreezes.{FrozeAfter, ViewedWasFrozen, BothWereFrozen}
+use Rattle.bz_merge.specs.OwnFreezes.{FrozeAfter, FrozeViewed, ViewedWasFrozen, BothWereFrozen}
 use Rattle.bz_merge.specs.Plans.{Merging, viewed_leaf, beside_leaf, IsPlanned}
 use Rattle.bz_merge.specs.Siblings.{SeenLeaf}
 use Rattle.bz_merge.proofs.Freezing.{leave-one}
@@ -36,9 +36,12 @@ module _ (p q : Past) (c : Continues p q) where
     others = λ a ne. ap (λ (x : Instant). x.value a) (c.at (s.past.now + 1) f.earlier.now) ∙ f.others a ne;
   }
 
+  pub froze-viewed-stays : (r : Merging) → FrozeViewed r p → FrozeViewed r q
+  froze-viewed-stays r f = record { before = f.before; froze = froze-stays r (viewed_leaf r) f.before f.froze }
+
   pub viewed-frozen-stays : (r : Merging) → ViewedWasFrozen r p → ViewedWasFrozen r q
   viewed-frozen-stays r (inl e) = inl e
-  viewed-frozen-stays r (inr f) = inr (record { before = f.before; froze = froze-stays r (viewed_leaf r) f.before f.froze })
+  viewed-frozen-stays r (inr f) = inr (froze-viewed-stays r f)
 
   pub both-frozen-stay : (r : Merging) → BothWereFrozen r p → BothWereFrozen r q
   both-frozen-stay r (inl e) = inl (e.0, viewed-frozen-stays r e.1)

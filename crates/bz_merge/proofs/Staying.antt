@@ -17,7 +17,7 @@ use Rattle.bz_merge.specs.Plans.{Merging, merge_nodes}
 use Rattle.bz_merge.specs.declared.phase.Phase.{Phase}
 use Rattle.bz_merge.specs.declared.phase.Phase.TheVariants.{Fresh, Word, Again, Beside, Parent, Still, Freeze, FreezeBeside, Guard, Store, Flush, Swap, Done, Restart, NoNeighbour, NoSlot, NoSwap}
 use Rattle.bz_merge.proofs.Lasting.{reading-stays, parent-stays, lacked-stays, tried-stays, seen-stays, paired-stays, beside-stays, checked-stays, planned-stays, frozen-stays, frozen-moment, joined-stays}
-use Rattle.bz_merge.proofs.OwnFreezes.{viewed-frozen-stays, both-frozen-stay}
+use Rattle.bz_merge.proofs.OwnFreezes.{froze-viewed-stays, viewed-frozen-stays, both-frozen-stay}
 
 module _ (p q : Past) (c : Continues p q) where
   pub both-stay : (r : Merging) → AreFrozen r p → AreFrozen r q
@@ -99,9 +99,9 @@ module _ (r : Merging) (s after : Scene) (l : IsLawful s after) where
   stable Parent Waiting f = (filled f.0, (paired-stays s.past after.past l.continues r f.1.0, beside-stays s.past after.past l.continues r.beside_slot r.beside NODE_WORDS f.1.1))
   stable Still Waiting f = (filled f.0, checked-stays s.past after.past l.continues r f.1)
   stable Freeze Waiting f = (filled f.0, (planned-stays s.past after.past l.continues r f.1.0, f.1.1))
-  stable Freeze Took f = (filled f.0, (planned-stays s.past after.past l.continues r f.1.0, (frozen-stays s.past after.past l.continues r.lower.slot r.leaf f.1.1.0, viewed-frozen-stays s.past after.past l.continues r f.1.1.1)))
+  stable Freeze Took f = (filled f.0, (planned-stays s.past after.past l.continues r f.1.0, (frozen-stays s.past after.past l.continues r.lower.slot r.leaf f.1.1.0, froze-viewed-stays s.past after.past l.continues r f.1.1.1)))
   stable FreezeBeside Waiting f = (filled f.0, (planned-stays s.past after.past l.continues r f.1.0, (frozen-stays s.past after.past l.continues r.lower.slot r.leaf f.1.1.0, (f.1.1.1.0, viewed-frozen-stays s.past after.past l.continues r f.1.1.1.1))))
-  stable FreezeBeside Took f = (filled f.0, both-stay s.past after.past l.continues r f.1)
+  stable FreezeBeside Took f = (filled f.0, (both-stay s.past after.past l.continues r f.1.0, f.1.1))
   stable Guard Waiting f = (filled f.0, both-stay s.past after.past l.continues r f.1)
   stable (Store j) Waiting f = (begun-stays (merge_nodes r) j s after f.0 l, (f.1.0, merging j 0 f.1.1))
   stable (Store j) Took f = (begun-stays (merge_nodes r) (j + 1) s after f.0 l, (f.1.0, merging (j + 1) 0 f.1.1))

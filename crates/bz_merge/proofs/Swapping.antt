@@ -1,18 +1,20 @@
 -- What is known after a swap, and what it leads to.
-use Rattle.std.proofs.Common.{◌≡◌, ◌≢◌, ℕ, ◌<◌, ◌≤◌, ◌^◌, Bool, true, false, arith, refl, sym, ap, subst, ◌∙◌, inl, inr}
-use Rattle.std.specs.Prelude.{◌↔◌, slice_index}
+use Rattle.std.proofs.Common.{◌≡◌, ◌≢◌, ℕ, ◌+◌, ◌<◌, ◌≤◌, ◌^◌, Bool, true, false, arith, refl, sym, ap, subst, ◌∙◌, inl, inr}
+use Rattle.std.specs.Prelude.{◌↔◌, None, slice_index}
 use Rattle.bz_layout.specs.declared.config.Config.{Config}
 use Rattle.bz_layout.specs.declared.sizes.TheConstants.{STATUS_AT}
-use Rattle.bz_task.specs.Requests.{Hears, Tells}
+use Rattle.bz_task.specs.Requests.{Hears, Tells, swaps_in, effects_in}
 use Rattle.bz_task.specs.Scene.{Scene, Stage, Waiting, Took, IsScene, HasFilled}
 use Rattle.bz_task.specs.declared.todo.Seen.{Seen}
 use Rattle.bz_task.specs.declared.todo.Seen.TheVariants.{Start, Read as Was, Stored, Flushed, Swapped, NoSwap as NoneLeft}
+use Rattle.bz_merge.specs.Counts.{merge_swaps, merge_made}
 use Rattle.bz_merge.specs.Decisions.{HasSwapped}
-use Rattle.bz_merge.specs.Facts.{IsSwapping, IsWriting, merge_asks, merge_facts, merge_left, merge_needs}
+use Rattle.bz_merge.specs.Facts.{IsSwapping, IsWriting, merge_asks, merge_end, merge_facts, merge_left, merge_needs}
 use Rattle.bz_merge.specs.Plans.{Merging}
 use Rattle.bz_merge.specs.declared.phase.Phase.{Phase}
 use Rattle.bz_merge.specs.declared.phase.Phase.TheVariants.{Fresh, Word, Again, Beside, Parent, Still, Freeze, FreezeBeside, Guard, Store, Flush, Swap, Done, Restart, NoNeighbour, NoSlot, NoSwap}
 use Rattle.bz_merge.proofs.Asking.{other-once}
+use Rattle.bz_merge.proofs.Counting.{IsThawed, one-freeze, no-freeze}
 use Rattle.bz_merge.proofs.Writing.{freeze-learns, beside-learns, swap-learns}
 
 -- of the phases in which something is written the others are those of swaps
@@ -72,6 +74,19 @@ some-left right NoNeighbour w = absurd (w)
 some-left right NoSlot w = absurd (w)
 some-left right NoSwap w = absurd (w)
 
+-- one swap is asked for, and so at least one was left
+swapping-asks : (c : Config) (r : Merging) (phase : Phase) → IsSwapping phase → swaps_in (merge_asks c r phase) ≡ 1
+swapping-asks c r Freeze w = refl
+swapping-asks c r FreezeBeside w = refl
+swapping-asks c r Swap w = refl
+swapping-asks c r phase w = absurd (w)
+
+some-swaps : (phase : Phase) → IsSwapping phase → 1 ≤ merge_swaps phase
+some-swaps Freeze w = omega arith
+some-swaps FreezeBeside w = omega arith
+some-swaps Swap w = omega arith
+some-swaps phase w = absurd (w)
+
 swap-filled : (c : Config) (r : Merging) (phase : Phase) (stage : Stage) (s : Scene) → IsSwapping phase → merge_facts r phase stage s → HasFilled s
 swap-filled c r Freeze Waiting s w f = f.0
 swap-filled c r Freeze Took s w f = f.0
@@ -105,6 +120,8 @@ swap-plain r phase stage s f e = freeze-plain r stage s (subst (λ z. merge_fact
 -- what comes of a swap
 pub record Comes (r : Merging) (phase : Phase) (seen : Seen) (q : Phase) : Type 0 where
   pub nearer : merge_left r.right q < merge_left r.right phase
+  pub swaps : merge_swaps q + 1 ≤ merge_swaps phase
+  pub counted : merge_end q ≡ None → merge_made r q ≡ merge_made r phase + effects_in seen
   pub needs : merge_needs q ≤ merge_needs phase
   pub done : q ≡ Done → seen ≡ Swapped true
   pub restart : q ≡ Restart → seen ≡ Swapped false
@@ -115,9 +132,11 @@ pub record Comes (r : Merging) (phase : Phase) (seen : Seen) (q : Phase) : Type 
 none-won : (seen : Seen) (won : Bool) → seen ≡ Swapped won → seen ≡ NoneLeft → ⊥
 none-won seen won a b = let h = sym a ∙ b in absurd (cc)
 
-pub comes : (r : Merging) (phase : Phase) (seen : Seen) (q : Phase) → IsSwapping phase → HasSwapped r phase seen q → Comes r phase seen q
-comes r phase seen NoSwap w h = record {
+pub comes : (r : Merging) (phase : Phase) (seen : Seen) (q : Phase) → IsSwapping phase → IsThawed r phase → HasSwapped r phase seen q → Comes r phase seen q
+comes r phase seen NoSwap w thawed h = record {
   nearer = some-left r.right phase w;
+  swaps = some-swaps phase w;
+  counted = λ e. absurd (cc);
   needs = omega arith;
   done = λ e. absurd (cc);
   restart = λ e. absurd (cc);
@@ -125,8 +144,10 @@ comes r phase seen NoSwap w h = record {
   slots = λ e. absurd (cc);
   begun = λ e. absurd (cc);
 }
-comes r phase seen Restart w h = record {
+comes r phase seen Restart w thawed h = record {
   nearer = some-left r.right phase w;
+  swaps = some-swaps phase w;
+  counted = λ e. absurd (cc);
   needs = omega arith;
   done = λ e. absurd (cc);
   restart = λ e. h;
@@ -134,8 +155,10 @@ comes r phase seen Restart w h = record {
   slots = λ e. absurd (cc);
   begun = λ e. absurd (cc);
 }
-comes r phase seen FreezeBeside w h = record {
+comes r phase seen FreezeBeside w thawed h = record {
   nearer = omega (arith, ap (merge_left r.right) h.1.0);
+  swaps = omega (arith, ap merge_swaps h.1.0);
+  counted = λ e. omega (arith, one-freeze r.status (thawed.own h.1.0), ap (merge_made r) h.1.0, ap effects_in h.0);
   needs = omega (arith, ap merge_needs h.1.0);
   done = λ e. absurd (cc);
   restart = λ e. absurd (cc);
@@ -143,8 +166,13 @@ comes r phase seen FreezeBeside w h = record {
   slots = λ e. absurd (cc);
   begun = λ e. absurd (cc);
 }
-comes r phase seen Guard w h = record {
+comes r phase seen Guard w thawed h = record {
   nearer = elim h.1 [ inl a ↦ omega (arith, ap (merge_left r.right) a.0) | inr a ↦ omega (arith, ap (merge_left r.right) a) ];
+  swaps = elim h.1 [ inl a ↦ omega (arith, ap merge_swaps a.0) | inr a ↦ omega (arith, ap merge_swaps a) ];
+  counted = λ e. elim h.1 [
+    | inl a ↦ omega (arith, one-freeze r.status (thawed.own a.0), no-freeze (slice_index r.beside STATUS_AT) a.1, ap (merge_made r) a.0, ap effects_in h.0)
+    | inr a ↦ omega (arith, one-freeze (slice_index r.beside STATUS_AT) (thawed.other a), ap (merge_made r) a, ap effects_in h.0)
+  ];
   needs = elim h.1 [ inl a ↦ omega (arith, ap merge_needs a.0) | inr a ↦ omega (arith, ap merge_needs a) ];
   done = λ e. absurd (cc);
   restart = λ e. absurd (cc);
@@ -152,8 +180,10 @@ comes r phase seen Guard w h = record {
   slots = λ e. absurd (cc);
   begun = λ e. absurd (cc);
 }
-comes r phase seen Done w h = record {
+comes r phase seen Done w thawed h = record {
   nearer = omega (arith, ap (merge_left r.right) h.1);
+  swaps = omega (arith, ap merge_swaps h.1);
+  counted = λ e. absurd (cc);
   needs = omega arith;
   done = λ e. h.0;
   restart = λ e. absurd (cc);
@@ -161,18 +191,21 @@ comes r phase seen Done w h = record {
   slots = λ e. absurd (cc);
   begun = λ e. absurd (cc);
 }
-comes r phase seen Fresh w h = absurd (h)
-comes r phase seen (Word i) w h = absurd (h)
-comes r phase seen Again w h = absurd (h)
-comes r phase seen (Beside i) w h = absurd (h)
-comes r phase seen Parent w h = absurd (h)
-comes r phase seen Still w h = absurd (h)
-comes r phase seen Freeze w h = absurd (h)
-comes r phase seen (Store j) w h = absurd (h)
-comes r phase seen (Flush j) w h = absurd (h)
-comes r phase seen Swap w h = absurd (h)
-comes r phase seen NoNeighbour w h = absurd (h)
-comes r phase seen NoSlot w h = absurd (h)
+comes r phase seen Fresh w thawed h = absurd (h)
+comes r phase seen (Word i) w thawed h = absurd (h)
+comes r phase seen Again w thawed h = absurd (h)
+comes r phase seen (Beside i) w thawed h = absurd (h)
+comes r phase seen Parent w thawed h = absurd (h)
+comes r phase seen Still w thawed h = absurd (h)
+comes r phase seen Freeze w thawed h = absurd (h)
+comes r phase seen (Store j) w thawed h = absurd (h)
+comes r phase seen (Flush j) w thawed h = absurd (h)
+comes r phase seen Swap w thawed h = absurd (h)
+comes r phase seen NoNeighbour w thawed h = absurd (h)
+comes r phase seen NoSlot w thawed h = absurd (h)
+
+pub comes-fewer : (c : Config) (r : Merging) (phase : Phase) (seen : Seen) (q : Phase) → IsSwapping phase → Comes r phase seen q → merge_swaps q + swaps_in (merge_asks c r phase) ≤ merge_swaps phase
+comes-fewer c r phase seen q w h = omega (arith, h.swaps, swapping-asks c r phase w)
 
 pub learns-swapped : (c : Config) (r : Merging) (phase q : Phase) (seen : Seen) (stage : Stage) (s : Scene) → IsScene s → IsSwapping phase → HasSwapped r phase seen q → merge_facts r phase stage s → Tells (merge_asks c r phase) stage seen s → merge_facts r q Waiting s
 learns-swapped c r phase NoSwap seen stage s good w h f t = swap-filled c r phase stage s w f

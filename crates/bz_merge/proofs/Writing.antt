@@ -1,5 +1,5 @@
 -- What is known after a store, a flush and a swap.
-use Rattle.std.proofs.Common.{◌≡◌, ℕ, ◌+◌, ◌<◌, if◌then◌else◌, Bool, true, false, arith, refl, sym, subst, inl}
+use Rattle.std.proofs.Common.{◌≡◌, ℕ, ◌+◌, ◌<◌, if◌then◌else◌, Bool, true, false, arith, refl, sym, subst, inl, inr}
 use Rattle.std.specs.Prelude.{nat_lt, ◌≤◌}
 use Rattle.std.proofs.lemmas.Bool.Decides.{nat_tests}
 use Rattle.bz_layout.specs.declared.config.Config.{Config}
@@ -59,8 +59,8 @@ swap-made c r Waiting s f t = absurd (let e : true ≡ false = t in cc)
 
 -- after the freeze of the viewed leaf
 next-frozen : (r : Merging) (q : Phase) (s : Scene) → IsScene s → HasFrozen r q → merge_facts r Freeze Took s → merge_facts r q Waiting s
-next-frozen r FreezeBeside s good h f = (f.0, (f.1.0, (f.1.1.0, (h, f.1.1.1))))
-next-frozen r Guard s good h f = (f.0, record { planned = f.1.0; own = f.1.1.0; other = seen-frozen s (beside_leaf r) good (other-once r s.past f.1.0) h; froze = inl (h, f.1.1.1) })
+next-frozen r FreezeBeside s good h f = (f.0, (f.1.0, (f.1.1.0, (h, inr f.1.1.1))))
+next-frozen r Guard s good h f = (f.0, record { planned = f.1.0; own = f.1.1.0; other = seen-frozen s (beside_leaf r) good (other-once r s.past f.1.0) h; froze = inl (h, inr f.1.1.1) })
 next-frozen r Fresh s good h f = absurd (h)
 next-frozen r (Word i) s good h f = absurd (h)
 next-frozen r Again s good h f = absurd (h)
@@ -92,7 +92,8 @@ module _ (c : Config) (r : Merging) (p q : Phase) (seen : Seen) (stage : Stage) 
       (freeze-made c r stage s (subst (λ z. merge_facts r z stage s) is f) (subst (λ z. Tells (merge_asks c r Freeze) stage z s) e (subst (λ z. Tells (merge_asks c r z) stage seen s) is t)))
 
   pub beside-learns : p ≡ FreezeBeside → seen ≡ Swapped true → merge_facts r Guard Waiting s
-  beside-learns is e = beside-made c r stage s (subst (λ z. merge_facts r z stage s) is f) (subst (λ z. Tells (merge_asks c r FreezeBeside) stage z s) e (subst (λ z. Tells (merge_asks c r z) stage seen s) is t))
+  beside-learns is e =
+      let m = beside-made c r stage s (subst (λ z. merge_facts r z stage s) is f) (subst (λ z. Tells (merge_asks c r FreezeBeside) stage z s) e (subst (λ z. Tells (merge_asks c r z) stage seen s) is t)) in (m.0, m.1.0)
 
   pub swap-learns : p ≡ Swap → seen ≡ Swapped true → merge_facts r Done Waiting s
   swap-learns is e = swap-made c r stage s (subst (λ z. merge_facts r z stage s) is f) (subst (λ z. Tells (merge_asks c r Swap) stage z s) e (subst (λ z. Tells (merge_asks c r z) stage seen s) is t))

@@ -4,6 +4,7 @@ use Rattle.bz_task.specs.Scene.{Scene, Stage}
 use Rattle.bz_task.specs.declared.todo.Outcome.{Outcome}
 use Rattle.bz_task.specs.declared.todo.Seen.{Seen}
 use Rattle.bz_task.specs.declared.todo.Todo.{Todo}
+use Rattle.bz_merge.specs.Counts.{merge_swaps, merge_made}
 use Rattle.bz_merge.specs.Facts.{merge_asks, merge_end, merge_left, merge_needs, merge_facts, merge_differs}
 use Rattle.bz_merge.specs.Plans.{Merging}
 use Rattle.bz_merge.specs.declared.merge.Merge.{Merge}
@@ -36,6 +37,12 @@ end_of t = merge_end t.phase
 
 abbrev pub left_of : Merge → ℕ
 left_of t = merge_left t.side.right t.phase
+
+abbrev pub swaps_of : Merge → ℕ
+swaps_of t = merge_swaps t.phase
+
+abbrev pub made_of : Merge → ℕ
+made_of t = merge_made (merging_of t) t.phase
 
 abbrev pub needs_of : Merge → ℕ
 needs_of t = merge_needs t.phase

@@ -29,7 +29,7 @@ use Rattle.bz_renew.specs.Writing.{NODE_LINES}
 use Rattle.bz_split.specs.BelowSplits.{below_swap}
 use Rattle.bz_split.specs.Facts.{StoodFresh}
 use Rattle.bz_merge.specs.Merges.{StoodFrozen}
-use Rattle.bz_merge.specs.OwnFreezes.{ViewedWasFrozen, BothWereFrozen}
+use Rattle.bz_merge.specs.OwnFreezes.{FrozeViewed, ViewedWasFrozen, BothWereFrozen}
 use Rattle.bz_merge.specs.Plans.{Merging, merge_nodes, viewed_leaf, beside_leaf, first_of, second_of, IsPair, LackedAt, IsTried, IsReadingParent, IsPaired, IsReadingBeside, IsChecked, IsPlanned}
 use Rattle.bz_merge.specs.Siblings.{WasParentNode, IsChildAt, SeenLeaf, WasSeen}
 use Rattle.bz_merge.specs.declared.phase.Phase.{Phase}
@@ -210,9 +210,9 @@ merge_facts r (Beside i) Waiting s = HasFilled s × ((i < NODE_WORDS) × (IsPair
 merge_facts r Parent Waiting s = HasFilled s × (IsPaired r s.past × IsReadingBeside r.beside_slot r.beside NODE_WORDS s.past)
 merge_facts r Still Waiting s = HasFilled s × IsChecked r s.past
 merge_facts r Freeze Waiting s = HasFilled s × (IsPlanned r s.past × ((status r.status).frozen ≡ false))
-merge_facts r Freeze Took s = HasFilled s × (IsPlanned r s.past × (OwnIsFrozen r s.past × ViewedWasFrozen r s.past))
+merge_facts r Freeze Took s = HasFilled s × (IsPlanned r s.past × (OwnIsFrozen r s.past × FrozeViewed r s.past))
 merge_facts r FreezeBeside Waiting s = HasFilled s × (IsPlanned r s.past × (OwnIsFrozen r s.past × (((status (slice_index r.beside STATUS_AT)).frozen ≡ false) × ViewedWasFrozen r s.past)))
-merge_facts r FreezeBeside Took s = HasFilled s × AreFrozen r s.past
+merge_facts r FreezeBeside Took s = HasFilled s × (AreFrozen r s.past × ((status (slice_index r.beside STATUS_AT)).frozen ≡ false))
 merge_facts r Guard Waiting s = HasFilled s × AreFrozen r s.past
 merge_facts r (Store j) Waiting s = HasFilledBegun (merge_nodes r) j s × ((j < MERGE_WORDS) × IsMerging r j 0 s)
 merge_facts r (Store j) Took s = HasFilledBegun (merge_nodes r) (j + 1) s × ((j < MERGE_WORDS) × IsMerging r (j + 1) 0 s)

@@ -12,12 +12,14 @@ ghost use Rattle.bz_slotted.specs.Readers.{live_of};
 ghost use Rattle.bz_slotted.specs.ReadingLaws.{node_of};
 ghost use Rattle.bz_task.specs.Outcomes.{IsPath, IsView};
 ghost use Rattle.bz_task.specs.OwnActs.{AreTakenFrom, AreUnreached, gained};
-ghost use Rattle.bz_task.specs.Requests.{Hears, Tells, IsKnown};
+ghost use Rattle.bz_task.specs.Requests.{Hears, Tells, IsKnown, swaps_in, effects_in};
 ghost use Rattle.bz_task.specs.Scene.{Scene, Stage, Waiting, IsScene};
+ghost use Rattle.bz_task.specs.declared.swaps.TheConstants.{MERGE_SWAPS};
 ghost use Rattle.bz_task.specs.declared.todo.Seen.TheVariants.{Read as Was, Swapped, NoSwap as NoneLeft};
+ghost use Rattle.bz_merge.specs.Counts.{merge_swaps, merge_made};
 ghost use Rattle.bz_merge.specs.Decisions.{IsParentOfLeaf, HasTold, IsWeighable, HasSettled, HasFrozen, HasFirst, HasWon, HasSwapped, MayMerge, HasBegun, HasLooked};
-ghost use Rattle.bz_merge.specs.Duties.{merging_of, asks_of, end_of, left_of, needs_of, facts_of, differs_of};
-ghost use Rattle.bz_merge.specs.Facts.{merge_acts, merge_left, merge_needs, merge_facts, merge_means, merge_change, WasMerged, NoneFitted, IsReady, IsWriting, IsSwapping, word_after, beside_after, store_after, flush_after};
+ghost use Rattle.bz_merge.specs.Duties.{merging_of, asks_of, end_of, left_of, swaps_of, made_of, needs_of, facts_of, differs_of};
+ghost use Rattle.bz_merge.specs.Facts.{merge_acts, merge_end, merge_left, merge_needs, merge_facts, merge_means, merge_change, WasMerged, NoneFitted, IsReady, IsWriting, IsSwapping, word_after, beside_after, store_after, flush_after};
 ghost use Rattle.bz_merge.specs.Plans.{merge_nodes, viewed_leaf, beside_leaf, first_of, second_of};
 ghost use Rattle.bz_merge.specs.Thawed.{IsThawedAbove};
 
@@ -82,6 +84,8 @@ impl Merge {
         ensures config { ⟦<Merge as Task>⟧.config result ≡ config.now }
         ensures asks { ⟦<Merge as Task>⟧.asks result ≡ None }
         ensures left { ⟦<Merge as Task>⟧.left result ≡ merge_acts }
+        ensures swaps { ⟦<Merge as Task>⟧.swaps result ≡ MERGE_SWAPS }
+        ensures made { ⟦<Merge as Task>⟧.made result ≡ 0 }
         ensures needs { ⟦<Merge as Task>⟧.needs result ≡ MERGE_SLOTS }
         ensures change { ⟦<Merge as Task>⟧.change result ≡ merge_change }
         ensures facts { (key : List ℕ) (s : Scene) → s.past.config ≡ config.now → IsScene s → IsPath key path s.past → IsView key view s.past → ⟦<Merge as Task>⟧.facts result Waiting s }
@@ -328,6 +332,8 @@ impl Merge {
         requires hears { Hears (asks_of self.now) seen }
         requires known { IsKnown self.now.config (facts_of self.now) (asks_of self.now) seen moment }
         ensures nearer { merge_left self.now.side.right result < left_of self.now }
+        ensures fewer { merge_swaps result + swaps_in (asks_of self.now) ≤ swaps_of self.now }
+        ensures counted { merge_end result ≡ None → merge_made (merging_of self.now) result ≡ made_of self.now + effects_in seen }
         ensures needs { merge_needs result ≤ needs_of self.now }
         ensures done { result ≡ Phase.Done → seen ≡ Swapped true }
         ensures restart { result ≡ Phase.Restart → seen ≡ Swapped false }
@@ -360,6 +366,8 @@ impl Merge {
         ensures begun { self.new.phase ≢ Phase.Fresh }
         ensures ready { IsReady self.new.config (merging_of self.new) self.new.phase }
         ensures nearer { left_of self.new < left_of self.old }
+        ensures fewer { swaps_of self.new + swaps_in (asks_of self.old) ≤ swaps_of self.old }
+        ensures counted { end_of self.new ≡ None → made_of self.new ≡ made_of self.old + effects_in seen }
         ensures slots { AreTakenFrom (needs_of self.old) (needs_of self.new) slots.old slots.new }
         ensures done { end_of self.new ≡ Some Outcome.Done → seen ≡ Swapped true }
         ensures restart { end_of self.new ≡ Some Outcome.Restart → (seen ≡ Swapped false) ⊎ differs_of self.old seen }
@@ -534,6 +542,10 @@ impl Task for Merge {
     ghost end = { end_of };
 
     ghost left = { left_of };
+
+    ghost swaps = { swaps_of };
+
+    ghost made = { made_of };
 
     ghost needs = { needs_of };
 

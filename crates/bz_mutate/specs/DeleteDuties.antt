@@ -5,7 +5,7 @@ use Rattle.bz_task.specs.Scene.{Scene, Stage}
 use Rattle.bz_task.specs.Swaps.{Change}
 use Rattle.bz_task.specs.declared.todo.Outcome.{Outcome}
 use Rattle.bz_task.specs.declared.todo.Todo.{Todo}
-use Rattle.bz_mutate.specs.DeleteFacts.{delete_asks, delete_end, delete_left, delete_publishes, delete_facts, delete_means, deletion}
+use Rattle.bz_mutate.specs.DeleteFacts.{delete_asks, delete_end, delete_left, delete_swaps, delete_publishes, delete_facts, delete_means, deletion}
 use Rattle.bz_mutate.specs.declared.delete.Delete.{Delete}
 
 abbrev pub config_of : Delete → Config
@@ -19,6 +19,9 @@ end_of t = delete_end t.phase
 
 abbrev pub left_of : Delete → ℕ
 left_of t = delete_left t.phase
+
+abbrev pub swaps_of : Delete → ℕ
+swaps_of t = delete_swaps t.phase
 
 abbrev pub change_of : Delete → Change
 change_of t = deletion t.key t.view

@@ -38,6 +38,12 @@ delete_left Fresh = 2
 delete_left (Remove f) = 1
 delete_left phase = 0
 
+-- the most swaps: the removal, until it has ended
+abbrev pub delete_swaps : DeletePhase → ℕ
+delete_swaps Fresh = 1
+delete_swaps (Remove f) = 1
+delete_swaps phase = 0
+
 abbrev pub delete_publishes : DeletePhase → Bool
 delete_publishes (Remove f) = true
 delete_publishes phase = false

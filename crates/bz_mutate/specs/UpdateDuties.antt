@@ -5,7 +5,7 @@ use Rattle.bz_task.specs.Scene.{Scene, Stage}
 use Rattle.bz_task.specs.Swaps.{Change}
 use Rattle.bz_task.specs.declared.todo.Outcome.{Outcome}
 use Rattle.bz_task.specs.declared.todo.Todo.{Todo}
-use Rattle.bz_mutate.specs.UpdateFacts.{update_asks, update_end, update_left, update_publishes, update_facts, update_means, revision}
+use Rattle.bz_mutate.specs.UpdateFacts.{update_asks, update_end, update_left, update_swaps, update_made, update_publishes, update_facts, update_means, revision}
 use Rattle.bz_mutate.specs.declared.update.Update.{Update}
 
 abbrev pub config_of : Update → Config
@@ -19,6 +19,12 @@ end_of t = update_end t.phase
 
 abbrev pub left_of : Update → ℕ
 left_of t = update_left t.phase
+
+abbrev pub swaps_of : Update → ℕ
+swaps_of t = update_swaps t.phase
+
+abbrev pub made_of : Update → ℕ
+made_of t = update_made t.phase
 
 abbrev pub change_of : Update → Change
 change_of t = revision t.view t.added

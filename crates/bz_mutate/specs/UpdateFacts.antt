@@ -48,6 +48,22 @@ update_left (Flush f n) = 3 - n
 update_left (Replace f) = 1
 update_left phase = 0
 
+-- the most swaps: both up to the growth, the replacement from the first store on
+abbrev pub update_swaps : UpdatePhase → ℕ
+update_swaps Fresh = 2
+update_swaps (Grow f) = 2
+update_swaps (Store f i) = 1
+update_swaps (Flush f n) = 1
+update_swaps (Replace f) = 1
+update_swaps phase = 0
+
+-- from the first store on it was told that the growth took effect
+abbrev pub update_made : UpdatePhase → ℕ
+update_made (Store f i) = 1
+update_made (Flush f n) = 1
+update_made (Replace f) = 1
+update_made phase = 0
+
 -- after a store comes the next one, or the first flush; after a flush the next one, or the replacement
 abbrev pub next_store : NewRecord → FoundRecord → ℕ → UpdatePhase
 next_store r f i = if nat_lt (i + 1) (size_of r) then Store f (i + 1) else Flush f 0

@@ -1,16 +1,17 @@
 //! The task that deletes a key from a leaf.
 
-ghost use Rattle.std.specs.Prelude.{◌≡◌, ◌≢◌, ◌↔◌, ◌≤◌, ◌<◌, ◌^◌, Some, None, true, false};
+ghost use Rattle.std.specs.Prelude.{◌≡◌, ◌≢◌, ◌↔◌, ◌+◌, ◌≤◌, ◌<◌, ◌^◌, Some, None, true, false};
 ghost use Rattle.bz_layout.specs.Config.{IsConfig};
 ghost use Rattle.bz_word.specs.Statuses.{status};
 ghost use Rattle.bz_task.specs.Outcomes.{IsKeyView, payload_of};
-ghost use Rattle.bz_task.specs.Requests.{Hears, Tells, IsKnown};
+ghost use Rattle.bz_task.specs.Requests.{Hears, Tells, IsKnown, swaps_in, effects_in};
 ghost use Rattle.bz_task.specs.Scene.{Scene, Stage, Waiting, IsScene};
+ghost use Rattle.bz_task.specs.declared.swaps.TheConstants.{DELETE_SWAPS};
 ghost use Rattle.bz_task.specs.declared.todo.Seen.TheVariants.{Swapped, NoSwap};
 ghost use Rattle.bz_record.specs.declared.found_record.FoundRecord.{FoundRecord};
 ghost use Rattle.bz_mutate.specs.Viewed.{IsVisible, IsFound};
-ghost use Rattle.bz_mutate.specs.DeleteDuties.{config_of, asks_of, end_of, left_of, change_of, publishing_of, facts_of, means_of};
-ghost use Rattle.bz_mutate.specs.DeleteFacts.{IsEndOfDelete, delete_asks, delete_left, delete_publishes, delete_facts, IsFirst, IsReady};
+ghost use Rattle.bz_mutate.specs.DeleteDuties.{config_of, asks_of, end_of, left_of, swaps_of, change_of, publishing_of, facts_of, means_of};
+ghost use Rattle.bz_mutate.specs.DeleteFacts.{IsEndOfDelete, delete_asks, delete_end, delete_left, delete_swaps, delete_publishes, delete_facts, IsFirst, IsReady};
 
 use crate::delete_phase::DeletePhase;
 use bz_call::Spent;
@@ -37,6 +38,8 @@ impl Delete {
         ensures config { ⟦<Delete as Task>⟧.config result ≡ config.now }
         ensures asks { ⟦<Delete as Task>⟧.asks result ≡ None }
         ensures left { ⟦<Delete as Task>⟧.left result ≡ 2 }
+        ensures swaps { ⟦<Delete as Task>⟧.swaps result ≡ DELETE_SWAPS }
+        ensures made { ⟦<Delete as Task>⟧.made result ≡ 0 }
         ensures needs { ⟦<Delete as Task>⟧.needs result ≡ 0 }
         ensures change { ⟦<Delete as Task>⟧.change result ≡ record { key = key; old = payload_of view.found; new = None } }
         ensures facts { (s : Scene) → s.past.config ≡ config.now → s.effected ≡ false → IsScene s → IsKeyView key view s.past → ⟦<Delete as Task>⟧.facts result Waiting s }
@@ -80,6 +83,8 @@ impl Delete {
         requires hears { Hears (delete_asks self.now.config self.now.view self.now.phase) seen }
         requires known { IsKnown self.now.config (delete_facts self.now.key self.now.view self.now.phase) (delete_asks self.now.config self.now.view self.now.phase) seen moment }
         ensures nearer { delete_left result < delete_left self.now.phase }
+        ensures fewer { delete_swaps result + swaps_in (delete_asks self.now.config self.now.view self.now.phase) ≤ delete_swaps self.now.phase }
+        ensures counted { delete_end result ≡ None → effects_in seen ≡ 0 }
         ensures done { result ≡ DeletePhase.Done → seen ≡ Swapped true }
         ensures published { delete_publishes self.now.phase ≡ true → seen ≡ Swapped true → result ≡ DeletePhase.Done }
         ensures restart { result ≡ DeletePhase.Restart → seen ≡ Swapped false }
@@ -163,6 +168,10 @@ impl Task for Delete {
     ghost end = { end_of };
 
     ghost left = { left_of };
+
+    ghost swaps = { swaps_of };
+
+    ghost made = { λ t. 0 };
 
     ghost needs = { λ t. 0 };
 

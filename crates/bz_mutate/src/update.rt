@@ -1,17 +1,18 @@
 //! The task that updates a key of a leaf.
 
-ghost use Rattle.std.specs.Prelude.{◌≡◌, ◌≢◌, ◌↔◌, ◌-◌, ◌<◌, ◌≤◌, ◌^◌, ◌⊎◌, Some, None, true, false};
+ghost use Rattle.std.specs.Prelude.{◌≡◌, ◌≢◌, ◌↔◌, ◌-◌, ◌+◌, ◌<◌, ◌≤◌, ◌^◌, ◌⊎◌, Some, None, true, false};
 ghost use Rattle.bz_layout.specs.Config.{IsConfig};
 ghost use Rattle.bz_word.specs.Statuses.{status};
 ghost use Rattle.bz_task.specs.Outcomes.{IsKeyView, payload_of};
-ghost use Rattle.bz_task.specs.Requests.{Hears, Tells, IsKnown};
+ghost use Rattle.bz_task.specs.Requests.{Hears, Tells, IsKnown, swaps_in, effects_in};
 ghost use Rattle.bz_task.specs.Scene.{Scene, Stage, Waiting, IsScene};
+ghost use Rattle.bz_task.specs.declared.swaps.TheConstants.{UPDATE_SWAPS};
 ghost use Rattle.bz_task.specs.declared.todo.Seen.TheVariants.{Swapped, NoSwap};
 ghost use Rattle.bz_record.specs.Records.{words_for, size_of, HasRoom, LacksRoom};
 ghost use Rattle.bz_record.specs.declared.found_record.FoundRecord.{FoundRecord};
 ghost use Rattle.bz_mutate.specs.Viewed.{IsVisible, IsFound};
-ghost use Rattle.bz_mutate.specs.UpdateDuties.{config_of, asks_of, end_of, left_of, change_of, publishing_of, facts_of, means_of};
-ghost use Rattle.bz_mutate.specs.UpdateFacts.{IsEndOfUpdate, update_asks, update_left, update_publishes, update_facts, IsFirst, IsReady, next_store, next_flush};
+ghost use Rattle.bz_mutate.specs.UpdateDuties.{config_of, asks_of, end_of, left_of, swaps_of, made_of, change_of, publishing_of, facts_of, means_of};
+ghost use Rattle.bz_mutate.specs.UpdateFacts.{IsEndOfUpdate, update_asks, update_end, update_left, update_swaps, update_made, update_publishes, update_facts, IsFirst, IsReady, next_store, next_flush};
 
 use crate::update_phase::UpdatePhase;
 use bz_call::Spent;
@@ -38,6 +39,8 @@ impl Update {
         ensures config { ⟦<Update as Task>⟧.config result ≡ config.now }
         ensures asks { ⟦<Update as Task>⟧.asks result ≡ None }
         ensures left { ⟦<Update as Task>⟧.left result ≡ 13 }
+        ensures swaps { ⟦<Update as Task>⟧.swaps result ≡ UPDATE_SWAPS }
+        ensures made { ⟦<Update as Task>⟧.made result ≡ 0 }
         ensures needs { ⟦<Update as Task>⟧.needs result ≡ 0 }
         ensures change { ⟦<Update as Task>⟧.change result ≡ record { key = key; old = payload_of view.found; new = Some payload } }
         ensures facts { (s : Scene) → s.past.config ≡ config.now → s.effected ≡ false → IsScene s → IsKeyView key view s.past → ⟦<Update as Task>⟧.facts result Waiting s }
@@ -71,6 +74,8 @@ impl Update {
         requires hears { Hears (update_asks self.now.config self.now.added self.now.phase) seen }
         requires known { IsKnown self.now.config (update_facts self.now.view self.now.added self.now.phase) (update_asks self.now.config self.now.added self.now.phase) seen moment }
         ensures nearer { update_left result < update_left self.now.phase }
+        ensures fewer { update_swaps result + swaps_in (update_asks self.now.config self.now.added self.now.phase) ≤ update_swaps self.now.phase }
+        ensures counted { update_end result ≡ None → update_made result ≡ update_made self.now.phase + effects_in seen }
         ensures done { result ≡ UpdatePhase.Done → seen ≡ Swapped true }
         ensures published { update_publishes self.now.phase ≡ true → seen ≡ Swapped true → result ≡ UpdatePhase.Done }
         ensures restart { result ≡ UpdatePhase.Restart → seen ≡ Swapped false }
@@ -143,6 +148,8 @@ impl Update {
         requires { IsReady self.now.config self.now.view self.now.added (UpdatePhase.Store old i) }
         ensures next { result ≡ next_store self.now.added old i }
         ensures nearer { update_left result < 11 - i }
+        ensures swaps { update_swaps result ≡ 1 }
+        ensures made { update_made result ≡ 1 }
         ensures ready { IsReady self.now.config self.now.view self.now.added result }
     {
         let size = self.added.size();
@@ -159,6 +166,8 @@ impl Update {
         requires ready { IsReady self.now.config self.now.view self.now.added (UpdatePhase.Flush old n) }
         ensures next { result ≡ next_flush self.now.config self.now.added old n }
         ensures nearer { update_left result < 3 - n }
+        ensures swaps { update_swaps result ≡ 1 }
+        ensures made { update_made result ≡ 1 }
         ensures ready { IsReady self.now.config self.now.view self.now.added result }
     {
         let line = self.added.first_line(&self.config) + n;
@@ -178,6 +187,10 @@ impl Task for Update {
     ghost end = { end_of };
 
     ghost left = { left_of };
+
+    ghost swaps = { swaps_of };
+
+    ghost made = { made_of };
 
     ghost needs = { λ t. 0 };
 

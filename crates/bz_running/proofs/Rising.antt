@@ -40,6 +40,8 @@ pub goes-up : AscentsRise → (t next : Running) (a up : Ascent) → Ends t → 
 goes-up law t next a up ends is one it = record {
   config = it.config;
   asks = it.asks;
+  swaps = it.swaps;
+  made = it.made;
   wanted = (is-rising t a is).wants;
   wants = it.wants;
   silent = it.silent;

@@ -1,24 +1,34 @@
 -- What the contract of tasks says of a task, as statements of the task alone.
-use Rattle.std.proofs.Common.{◌≡◌, ◌<◌, ◌≤◌, ◌⊎◌, ℕ, true, false, List, Some, arith}
+use Rattle.std.proofs.Common.{◌≡◌, ◌+◌, ◌<◌, ◌≤◌, ◌⊎◌, ℕ, true, false, List, Some, arith, refl}
 use Rattle.bz_consol.specs.Duties as consol
 use Rattle.bz_consol.specs.declared.consolidate.Consolidate.{Consolidate}
+use Rattle.bz_insert.specs.Facts.{insert_made, insert_publishes}
+use Rattle.bz_insert.specs.declared.phase.Phase.{Phase}
+use Rattle.bz_insert.specs.declared.phase.Phase.TheVariants.{Publish}
 use Rattle.bz_layout.specs.Slots.{FreeSlots}
 use Rattle.bz_layout.specs.declared.thresholds.TheConstants.{CONSOLIDATION_SLOTS, MERGE_SLOTS, SPLIT_SLOTS}
 use Rattle.bz_merge.specs.Duties as merge
 use Rattle.bz_merge.specs.declared.merge.Merge.{Merge}
+use Rattle.bz_mutate.specs.DeleteFacts.{delete_publishes}
+use Rattle.bz_mutate.specs.UpdateFacts.{update_made, update_publishes}
+use Rattle.bz_mutate.specs.declared.delete_phase.DeletePhase.{DeletePhase}
+use Rattle.bz_mutate.specs.declared.delete_phase.DeletePhase.TheVariants.{Remove}
+use Rattle.bz_mutate.specs.declared.update_phase.UpdatePhase.{UpdatePhase}
+use Rattle.bz_mutate.specs.declared.update_phase.UpdatePhase.TheVariants.{Replace}
 use Rattle.bz_word.specs.declared.entry.Entry.{Entry}
 use Rattle.bz_task.specs.Instant.{Instant}
 use Rattle.bz_task.specs.OwnActs.{Stores, Flushes, AreUnreached, gained}
 use Rattle.bz_task.specs.Requests.{IsAskable, IsCause, Tells}
 use Rattle.bz_task.specs.Scene.{Scene, Stage, Waiting, Took as HasTaken, IsScene, IsLawful, HasFilled, here}
 use Rattle.bz_task.specs.Swaps.{Stand, SwapsTo, IsGoodSwap, Takes}
+use Rattle.bz_task.specs.declared.swaps.TheConstants.{DELETE_SWAPS, INSERT_SWAPS, UPDATE_SWAPS}
 use Rattle.bz_task.specs.declared.todo.Outcome.{Outcome}
 use Rattle.bz_task.specs.declared.todo.Outcome.TheVariants.{Restart}
 use Rattle.bz_task.specs.declared.todo.Seen.{Seen}
 use Rattle.bz_task.specs.declared.todo.Seen.TheVariants.{Swapped}
 use Rattle.bz_task.specs.declared.todo.Todo.{Todo}
 use Rattle.bz_task.specs.declared.todo.Todo.TheVariants.{Store, Flush, Swap}
-use Rattle.bz_running.specs.Duties.{config_of, asks_of, needs_of, wants_of, end_of, change_of, publishing_of, facts_of, means_of, differs_of}
+use Rattle.bz_running.specs.Duties.{config_of, asks_of, made_of, change_swaps, needs_of, wants_of, end_of, change_of, publishing_of, facts_of, means_of, differs_of}
 use Rattle.bz_running.specs.declared.running.Running.{Running}
 use Rattle.bz_running.specs.declared.running.Running.TheVariants.{Seeking, Finding, Reading, Inserting, Updating, Deleting, Freezing, Consolidating, Splitting, SplittingBelow, SplittingInner, SplittingInnerRoot, Merging}
 
@@ -90,3 +100,23 @@ wants-few (SplittingBelow t a) = omega arith
 wants-few (SplittingInner t a) = omega arith
 wants-few (SplittingInnerRoot t a) = omega arith
 wants-few (Merging t) = omega arith
+
+-- the swap that makes a change is the last one of those that the change takes
+by-insert : (phase : Phase) → insert_publishes phase ≡ true → insert_made phase + 1 ≡ INSERT_SWAPS
+by-insert Publish e = refl
+by-insert phase e = absurd (cc)
+
+by-update : (phase : UpdatePhase) → update_publishes phase ≡ true → update_made phase + 1 ≡ UPDATE_SWAPS
+by-update (Replace f) e = refl
+by-update phase e = absurd (cc)
+
+by-delete : (phase : DeletePhase) → delete_publishes phase ≡ true → 0 + 1 ≡ DELETE_SWAPS
+by-delete (Remove f) e = refl
+by-delete phase e = absurd (cc)
+
+pub publishes-last : (t : Running) → publishing_of t ≡ true → made_of t + 1 ≡ change_swaps t
+unfolding publishing_of made_of change_swaps
+publishes-last (Inserting t) e = by-insert t.phase e
+publishes-last (Updating t) e = by-update t.phase e
+publishes-last (Deleting t) e = by-delete t.phase e
+publishes-last t e = absurd (cc)

@@ -4,26 +4,27 @@ use Rattle.bz_layout.specs.declared.config.Config.{Config}
 use Rattle.bz_layout.specs.declared.thresholds.TheConstants.{CONSOLIDATION_SLOTS, MERGE_SLOTS, SPLIT_SLOTS}
 use Rattle.bz_task.specs.Scene.{Scene, Stage}
 use Rattle.bz_task.specs.Swaps.{Change}
+use Rattle.bz_task.specs.declared.swaps.TheConstants.{DELETE_SWAPS, INSERT_SWAPS, UPDATE_SWAPS}
 use Rattle.bz_task.specs.declared.todo.Outcome.{Outcome}
 use Rattle.bz_task.specs.declared.todo.Seen.{Seen}
 use Rattle.bz_task.specs.declared.todo.Todo.{Todo}
 use Rattle.bz_ascent.specs.declared.ascent.Ascent.{Ascent}
-use Rattle.bz_ascent.specs.FromBelow.Duties.{asks_below, end_below, left_below, needs_below, facts_below, differs_below}
+use Rattle.bz_ascent.specs.FromBelow.Duties.{asks_below, end_below, left_below, swaps_below, made_below, needs_below, facts_below, differs_below}
 use Rattle.bz_ascent.specs.FromBelow.Facts.{below_means}
 use Rattle.bz_ascent.specs.FromBelow.SplitBelow.{SplitBelow}
 use Rattle.bz_consol.specs.Duties as consol
 use Rattle.bz_consol.specs.Facts.{consol_change, consol_means}
-use Rattle.bz_crown.specs.Duties.{asks_crown, end_crown, left_crown, needs_crown, facts_crown, differs_crown}
+use Rattle.bz_crown.specs.Duties.{asks_crown, end_crown, left_crown, swaps_crown, made_crown, needs_crown, facts_crown, differs_crown}
 use Rattle.bz_crown.specs.Facts.{crown_means}
 use Rattle.bz_crown.specs.declared.split_inner_root.SplitInnerRoot.{SplitInnerRoot}
 use Rattle.bz_descend.specs.SeekDuties as seek
 use Rattle.bz_descend.specs.Facts.{descend_change}
 use Rattle.bz_find.specs.Duties as find
 use Rattle.bz_find.specs.Facts.{find_change}
-use Rattle.bz_fork.specs.Duties.{asks_fork, end_fork, left_fork, needs_fork, facts_fork, differs_fork}
+use Rattle.bz_fork.specs.Duties.{asks_fork, end_fork, left_fork, swaps_fork, made_fork, needs_fork, facts_fork, differs_fork}
 use Rattle.bz_fork.specs.Facts.{fork_means}
 use Rattle.bz_fork.specs.declared.split_inner.SplitInner.{SplitInner}
-use Rattle.bz_freeze.specs.Facts.{freeze_asks, freeze_end, freeze_left, freeze_facts, freeze_means, freeze_change}
+use Rattle.bz_freeze.specs.Facts.{freeze_asks, freeze_end, freeze_left, freeze_swaps, freeze_facts, freeze_means, freeze_change}
 use Rattle.bz_insert.specs.Duties as insert
 use Rattle.bz_leaf.specs.Duties as leaf
 use Rattle.bz_leaf.specs.Facts.{leaf_change}
@@ -96,6 +97,54 @@ left_of (SplittingBelow t a) = left_below t
 left_of (SplittingInner t a) = left_fork t
 left_of (SplittingInnerRoot t a) = left_crown t
 left_of (Merging t) = merge.left_of t
+
+-- the most swaps that it will still ask for
+unfoldable pub swaps_of : Running → ℕ
+swaps_of (Seeking t) = 0
+swaps_of (Finding t) = 0
+swaps_of (Reading t) = 0
+swaps_of (Inserting t) = insert.swaps_of t
+swaps_of (Updating t) = update.swaps_of t
+swaps_of (Deleting t) = delete.swaps_of t
+swaps_of (Freezing t) = freeze_swaps t.phase
+swaps_of (Consolidating t) = consol.swaps_of t
+swaps_of (Splitting t) = split.swaps_of t
+swaps_of (SplittingBelow t a) = swaps_below t
+swaps_of (SplittingInner t a) = swaps_fork t
+swaps_of (SplittingInnerRoot t a) = swaps_crown t
+swaps_of (Merging t) = merge.swaps_of t
+
+-- how many of them it was told to have taken effect, while it goes on
+unfoldable pub made_of : Running → ℕ
+made_of (Seeking t) = 0
+made_of (Finding t) = 0
+made_of (Reading t) = 0
+made_of (Inserting t) = insert.made_of t
+made_of (Updating t) = update.made_of t
+made_of (Deleting t) = 0
+made_of (Freezing t) = 0
+made_of (Consolidating t) = consol.made_of t
+made_of (Splitting t) = split.made_of t
+made_of (SplittingBelow t a) = made_below t
+made_of (SplittingInner t a) = made_fork t
+made_of (SplittingInnerRoot t a) = made_crown t
+made_of (Merging t) = merge.made_of t
+
+-- how many swaps its change takes, if it makes one
+unfoldable pub change_swaps : Running → ℕ
+change_swaps (Seeking t) = 0
+change_swaps (Finding t) = 0
+change_swaps (Reading t) = 0
+change_swaps (Inserting t) = INSERT_SWAPS
+change_swaps (Updating t) = UPDATE_SWAPS
+change_swaps (Deleting t) = DELETE_SWAPS
+change_swaps (Freezing t) = 0
+change_swaps (Consolidating t) = 0
+change_swaps (Splitting t) = 0
+change_swaps (SplittingBelow t a) = 0
+change_swaps (SplittingInner t a) = 0
+change_swaps (SplittingInnerRoot t a) = 0
+change_swaps (Merging t) = 0
 
 unfoldable pub needs_of : Running → ℕ
 needs_of (Seeking t) = 0

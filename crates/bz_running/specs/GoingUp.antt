@@ -6,8 +6,9 @@ use Rattle.bz_ascent.specs.Ascents.{IsAscent}
 use Rattle.bz_ascent.specs.declared.ascent.Ascent.{Ascent}
 use Rattle.bz_task.specs.Scene.{Scene, Waiting, IsScene}
 use Rattle.bz_task.specs.declared.path.Path.{Path}
+use Rattle.bz_task.specs.declared.swaps.TheConstants.{RENEWAL_SWAPS}
 use Rattle.bz_task.specs.declared.todo.Outcome.TheVariants.{NeedsRoom}
-use Rattle.bz_running.specs.Duties.{config_of, asks_of, end_of, wants_of, facts_of, makes_no_change}
+use Rattle.bz_running.specs.Duties.{config_of, asks_of, end_of, swaps_of, made_of, wants_of, facts_of, makes_no_change}
 use Rattle.bz_running.specs.Hearing.{IsLookup}
 use Rattle.bz_running.specs.declared.running.Running.{Running}
 
@@ -20,6 +21,8 @@ pub record IsInScene (t : Running) : Type 0 where
 pub record IsSplitAt (c : Config) (a : Ascent) (t : Running) : Type 0 where
   pub config : config_of t ≡ c
   pub asks : asks_of t ≡ None
+  pub swaps : swaps_of t ≡ RENEWAL_SWAPS
+  pub made : made_of t ≡ 0
   pub wants : wants_of t ≡ SPLIT_SLOTS
   pub silent : makes_no_change t ≡ true
   pub facts : (s : Scene) → s.past.config ≡ c → IsScene s → IsAscent a s.past → facts_of t Waiting s
@@ -29,6 +32,8 @@ pub record IsSplitAt (c : Config) (a : Ascent) (t : Running) : Type 0 where
 pub record GoesUp (t next : Running) : Type 0 where
   pub config : config_of next ≡ config_of t
   pub asks : asks_of next ≡ None
+  pub swaps : swaps_of next ≡ RENEWAL_SWAPS
+  pub made : made_of next ≡ 0
   pub wanted : wants_of t ≡ SPLIT_SLOTS
   pub wants : wants_of next ≡ SPLIT_SLOTS
   pub silent : makes_no_change next ≡ true

@@ -1,11 +1,11 @@
 -- What a task is told, and what comes of that.
-use Rattle.std.specs.Prelude.{◌≡◌, ℕ, ◌<◌, ◌⊎◌, true, false, List, Option, Some, length}
+use Rattle.std.specs.Prelude.{◌≡◌, ℕ, ◌+◌, ◌<◌, ◌≤◌, ◌⊎◌, true, false, List, Option, Some, None, length}
 use Rattle.bz_ascent.specs.declared.ascent.Ascent.{Ascent}
 use Rattle.bz_call.specs.declared.replies.Spent.TheVariants.{Nodes, Swaps}
 use Rattle.bz_layout.specs.Slots.{FreeSlots}
 use Rattle.bz_task.specs.OwnActs.{AreTakenFrom, AreUnreached, gained}
 use Rattle.bz_task.specs.Outcomes.{IsPath, IsView, IsKeyView}
-use Rattle.bz_task.specs.Requests.{Tells}
+use Rattle.bz_task.specs.Requests.{Tells, swaps_in, effects_in}
 use Rattle.bz_task.specs.Scene.{Scene, Stage, Waiting, IsScene}
 use Rattle.bz_task.specs.declared.path.Path.{Path}
 use Rattle.bz_task.specs.declared.todo.Outcome.{Outcome}
@@ -16,7 +16,7 @@ use Rattle.bz_task.specs.declared.todo.Todo.{Todo}
 use Rattle.bz_task.specs.declared.todo.Todo.TheVariants.{Finish}
 use Rattle.bz_task.specs.declared.view.KeyView.{KeyView}
 use Rattle.bz_task.specs.declared.view.LeafView.{LeafView}
-use Rattle.bz_running.specs.Duties.{config_of, asks_of, end_of, left_of, needs_of, wants_of, change_of, publishing_of, ascent_of, facts_of, means_of, differs_of, makes_no_change}
+use Rattle.bz_running.specs.Duties.{config_of, asks_of, end_of, left_of, swaps_of, made_of, change_swaps, needs_of, wants_of, change_of, publishing_of, ascent_of, facts_of, means_of, differs_of, makes_no_change}
 use Rattle.bz_running.specs.declared.running.Running.{Running}
 
 -- a path or a view with which the task ends is one of this key; and with a view, of the leaf or of the key alone, this path, if there
@@ -33,6 +33,9 @@ pub record IsLookup (key : List ℕ) (way : Option Path) (t : Running) : Type 0 
 pub record HasHeard (old : Running) (seen : Seen) (moment : ℕ) (free : FreeSlots) (todo : Todo) (new : Running) (left : FreeSlots) : Type 0 where
   pub asked : asks_of new ≡ Some todo
   pub nearer : left_of new < left_of old
+  pub fewer : swaps_of new + swaps_in (asks_of old) ≤ swaps_of old
+  pub counted : end_of new ≡ None → made_of new ≡ made_of old + effects_in seen
+  pub swaps : change_swaps new ≡ change_swaps old
   pub config : config_of new ≡ config_of old
   pub wants : wants_of new ≡ wants_of old
   pub change : change_of new ≡ change_of old

@@ -12,9 +12,10 @@ ghost use Rattle.bz_word.specs.Statuses.{status};
 ghost use Rattle.bz_task.specs.Outcomes.{payload_of, IsPath, IsView, IsKeyView};
 ghost use Rattle.bz_task.specs.Requests.{Hears, IsKnown};
 ghost use Rattle.bz_task.specs.Scene.{Scene, Waiting, IsScene, HasFilled};
+ghost use Rattle.bz_task.specs.declared.swaps.TheConstants.{DELETE_SWAPS, FREEZE_SWAPS, INSERT_SWAPS, MERGE_SWAPS, RENEWAL_SWAPS, UPDATE_SWAPS};
 ghost use Rattle.bz_task.specs.declared.todo.Todo.TheVariants.{Read};
 ghost use Rattle.bz_running.specs.Hearing.{IsLookup, HasHeard};
-ghost use Rattle.bz_running.specs.Duties.{config_of, asks_of, end_of, left_of, needs_of, wants_of, change_of, ascent_of, publishing_of, facts_of, means_of, differs_of, makes_no_change};
+ghost use Rattle.bz_running.specs.Duties.{config_of, asks_of, end_of, left_of, swaps_of, made_of, change_swaps, needs_of, wants_of, change_of, ascent_of, publishing_of, facts_of, means_of, differs_of, makes_no_change};
 ghost use Rattle.bz_running.specs.Laws.{AreLaws};
 
 use bz_ascent::{Ascent, SplitBelow};
@@ -52,10 +53,12 @@ pub enum Running {
 
 impl Running {
     /// The way to the leaf of a key, by halving. It asks for the root status first.
-    #[tactic(auto, unfolding(crate::specs::Duties::config_of, crate::specs::Duties::asks_of, crate::specs::Duties::needs_of, crate::specs::Duties::wants_of, crate::specs::Duties::facts_of, crate::specs::Duties::means_of, crate::specs::Duties::ascent_of, crate::specs::Duties::makes_no_change))]
+    #[tactic(auto, unfolding(crate::specs::Duties::config_of, crate::specs::Duties::asks_of, crate::specs::Duties::swaps_of, crate::specs::Duties::made_of, crate::specs::Duties::needs_of, crate::specs::Duties::wants_of, crate::specs::Duties::facts_of, crate::specs::Duties::means_of, crate::specs::Duties::ascent_of, crate::specs::Duties::makes_no_change))]
     pub fn seek(config: &Config, key: Key) -> Running
         ensures config { config_of result ≡ config.now }
         ensures asks { asks_of result ≡ Some (Read ROOT_STATUS_AT) }
+        ensures swaps { swaps_of result ≡ 0 }
+        ensures made { made_of result ≡ 0 }
         ensures needs { needs_of result ≡ 0 }
         ensures wants { wants_of result ≡ 0 }
         ensures silent { makes_no_change result ≡ true }
@@ -66,12 +69,14 @@ impl Running {
     }
 
     /// A look-up of a key in the last leaf of a path.
-    #[tactic(auto, unfolding(crate::specs::Duties::config_of, crate::specs::Duties::asks_of, crate::specs::Duties::needs_of, crate::specs::Duties::wants_of, crate::specs::Duties::facts_of, crate::specs::Duties::means_of, crate::specs::Duties::ascent_of, crate::specs::Duties::makes_no_change))]
+    #[tactic(auto, unfolding(crate::specs::Duties::config_of, crate::specs::Duties::asks_of, crate::specs::Duties::swaps_of, crate::specs::Duties::made_of, crate::specs::Duties::needs_of, crate::specs::Duties::wants_of, crate::specs::Duties::facts_of, crate::specs::Duties::means_of, crate::specs::Duties::ascent_of, crate::specs::Duties::makes_no_change))]
     pub fn find(config: &Config, path: Path, key: Key) -> Running
         requires some { 1 ≤ path.depth }
         requires few { path.depth ≤ 12 }
         ensures config { config_of result ≡ config.now }
         ensures asks { asks_of result ≡ None }
+        ensures swaps { swaps_of result ≡ 0 }
+        ensures made { made_of result ≡ 0 }
         ensures needs { needs_of result ≡ 0 }
         ensures wants { wants_of result ≡ 0 }
         ensures silent { makes_no_change result ≡ true }
@@ -82,12 +87,14 @@ impl Running {
     }
 
     /// A reading of the last leaf of a path.
-    #[tactic(auto, unfolding(crate::specs::Duties::config_of, crate::specs::Duties::asks_of, crate::specs::Duties::needs_of, crate::specs::Duties::wants_of, crate::specs::Duties::facts_of, crate::specs::Duties::means_of, crate::specs::Duties::ascent_of, crate::specs::Duties::makes_no_change))]
+    #[tactic(auto, unfolding(crate::specs::Duties::config_of, crate::specs::Duties::asks_of, crate::specs::Duties::swaps_of, crate::specs::Duties::made_of, crate::specs::Duties::needs_of, crate::specs::Duties::wants_of, crate::specs::Duties::facts_of, crate::specs::Duties::means_of, crate::specs::Duties::ascent_of, crate::specs::Duties::makes_no_change))]
     pub fn read_leaf(config: &Config, path: Path, key: Key) -> Running
         requires some { 1 ≤ path.depth }
         requires few { path.depth ≤ 12 }
         ensures config { config_of result ≡ config.now }
         ensures asks { asks_of result ≡ None }
+        ensures swaps { swaps_of result ≡ 0 }
+        ensures made { made_of result ≡ 0 }
         ensures needs { needs_of result ≡ 0 }
         ensures wants { wants_of result ≡ 0 }
         ensures silent { makes_no_change result ≡ true }
@@ -98,11 +105,15 @@ impl Running {
     }
 
     /// The insert of a key that was not found in its leaf.
-    #[tactic(auto, unfolding(crate::specs::Duties::config_of, crate::specs::Duties::asks_of, crate::specs::Duties::needs_of, crate::specs::Duties::wants_of, crate::specs::Duties::change_of, crate::specs::Duties::facts_of, crate::specs::Duties::means_of, crate::specs::Duties::ascent_of))]
+    #[tactic(auto, unfolding(crate::specs::Duties::config_of, crate::specs::Duties::asks_of, crate::specs::Duties::swaps_of, crate::specs::Duties::made_of, crate::specs::Duties::change_swaps, crate::specs::Duties::needs_of, crate::specs::Duties::wants_of, crate::specs::Duties::change_of, crate::specs::Duties::facts_of, crate::specs::Duties::means_of, crate::specs::Duties::ascent_of))]
     pub fn insert(config: &Config, path: Path, view: KeyView, key: Key, payload: Payload) -> Running
         requires absent { view.found ≡ None }
         ensures config { config_of result ≡ config.now }
         ensures asks { asks_of result ≡ None }
+        ensures swaps { swaps_of result ≡ INSERT_SWAPS }
+        ensures made { made_of result ≡ 0 }
+        // its change takes so many swaps
+        ensures takes { change_swaps result ≡ INSERT_SWAPS }
         ensures needs { needs_of result ≡ 0 }
         ensures wants { wants_of result ≡ 0 }
         ensures change { change_of result ≡ record { key = key; old = None; new = Some payload } }
@@ -115,11 +126,15 @@ impl Running {
     }
 
     /// The update of a key that was found in its leaf.
-    #[tactic(auto, unfolding(crate::specs::Duties::config_of, crate::specs::Duties::asks_of, crate::specs::Duties::needs_of, crate::specs::Duties::wants_of, crate::specs::Duties::change_of, crate::specs::Duties::facts_of, crate::specs::Duties::means_of, crate::specs::Duties::ascent_of))]
+    #[tactic(auto, unfolding(crate::specs::Duties::config_of, crate::specs::Duties::asks_of, crate::specs::Duties::swaps_of, crate::specs::Duties::made_of, crate::specs::Duties::change_swaps, crate::specs::Duties::needs_of, crate::specs::Duties::wants_of, crate::specs::Duties::change_of, crate::specs::Duties::facts_of, crate::specs::Duties::means_of, crate::specs::Duties::ascent_of))]
     pub fn update(config: &Config, path: Path, view: KeyView, key: Key, payload: Payload) -> Running
         requires present { view.found ≢ None }
         ensures config { config_of result ≡ config.now }
         ensures asks { asks_of result ≡ None }
+        ensures swaps { swaps_of result ≡ UPDATE_SWAPS }
+        ensures made { made_of result ≡ 0 }
+        // its change takes so many swaps
+        ensures takes { change_swaps result ≡ UPDATE_SWAPS }
         ensures needs { needs_of result ≡ 0 }
         ensures wants { wants_of result ≡ 0 }
         ensures change { change_of result ≡ record { key = key; old = payload_of view.found; new = Some payload } }
@@ -132,11 +147,15 @@ impl Running {
     }
 
     /// The delete of a key that was found in its leaf.
-    #[tactic(auto, unfolding(crate::specs::Duties::config_of, crate::specs::Duties::asks_of, crate::specs::Duties::needs_of, crate::specs::Duties::wants_of, crate::specs::Duties::change_of, crate::specs::Duties::facts_of, crate::specs::Duties::means_of, crate::specs::Duties::ascent_of))]
+    #[tactic(auto, unfolding(crate::specs::Duties::config_of, crate::specs::Duties::asks_of, crate::specs::Duties::swaps_of, crate::specs::Duties::made_of, crate::specs::Duties::change_swaps, crate::specs::Duties::needs_of, crate::specs::Duties::wants_of, crate::specs::Duties::change_of, crate::specs::Duties::facts_of, crate::specs::Duties::means_of, crate::specs::Duties::ascent_of))]
     pub fn delete(config: &Config, path: Path, view: KeyView, key: Key) -> Running
         requires present { view.found ≢ None }
         ensures config { config_of result ≡ config.now }
         ensures asks { asks_of result ≡ None }
+        ensures swaps { swaps_of result ≡ DELETE_SWAPS }
+        ensures made { made_of result ≡ 0 }
+        // its change takes so many swaps
+        ensures takes { change_swaps result ≡ DELETE_SWAPS }
         ensures needs { needs_of result ≡ 0 }
         ensures wants { wants_of result ≡ 0 }
         ensures change { change_of result ≡ record { key = key; old = payload_of view.found; new = None } }
@@ -149,11 +168,13 @@ impl Running {
     }
 
     /// The freeze of a leaf that was not frozen when it was viewed.
-    #[tactic(auto, unfolding(crate::specs::Duties::config_of, crate::specs::Duties::asks_of, crate::specs::Duties::needs_of, crate::specs::Duties::wants_of, crate::specs::Duties::facts_of, crate::specs::Duties::means_of, crate::specs::Duties::ascent_of, crate::specs::Duties::makes_no_change))]
+    #[tactic(auto, unfolding(crate::specs::Duties::config_of, crate::specs::Duties::asks_of, crate::specs::Duties::swaps_of, crate::specs::Duties::made_of, crate::specs::Duties::needs_of, crate::specs::Duties::wants_of, crate::specs::Duties::facts_of, crate::specs::Duties::means_of, crate::specs::Duties::ascent_of, crate::specs::Duties::makes_no_change))]
     pub fn freeze(config: &Config, path: Path, view: LeafView) -> Running
         requires thawed { (status view.status).frozen ≡ false }
         ensures config { config_of result ≡ config.now }
         ensures asks { asks_of result ≡ None }
+        ensures swaps { swaps_of result ≡ FREEZE_SWAPS }
+        ensures made { made_of result ≡ 0 }
         ensures needs { needs_of result ≡ 0 }
         ensures wants { wants_of result ≡ 0 }
         ensures silent { makes_no_change result ≡ true }
@@ -164,7 +185,7 @@ impl Running {
     }
 
     /// The consolidation of a frozen leaf, to which the path leads.
-    #[tactic(auto, unfolding(crate::specs::Duties::config_of, crate::specs::Duties::asks_of, crate::specs::Duties::needs_of, crate::specs::Duties::wants_of, crate::specs::Duties::facts_of, crate::specs::Duties::means_of, crate::specs::Duties::ascent_of, crate::specs::Duties::makes_no_change))]
+    #[tactic(auto, unfolding(crate::specs::Duties::config_of, crate::specs::Duties::asks_of, crate::specs::Duties::swaps_of, crate::specs::Duties::made_of, crate::specs::Duties::needs_of, crate::specs::Duties::wants_of, crate::specs::Duties::facts_of, crate::specs::Duties::means_of, crate::specs::Duties::ascent_of, crate::specs::Duties::makes_no_change))]
     pub fn consolidate(config: &Config, path: Path, view: LeafView, page: &mut PageBuf) -> Running
         requires some { 1 ≤ path.depth }
         requires few { path.depth ≤ 12 }
@@ -173,6 +194,8 @@ impl Running {
         requires alone { IsLeafByItself view.image.0 }
         ensures config { config_of result ≡ config.now }
         ensures asks { asks_of result ≡ None }
+        ensures swaps { swaps_of result ≡ RENEWAL_SWAPS }
+        ensures made { made_of result ≡ 0 }
         ensures needs { needs_of result ≡ CONSOLIDATION_SLOTS }
         ensures wants { wants_of result ≡ CONSOLIDATION_SLOTS }
         ensures silent { makes_no_change result ≡ true }
@@ -183,7 +206,7 @@ impl Running {
     }
 
     /// The split of a frozen root leaf with more live words than it may keep, to which the path leads.
-    #[tactic(auto, unfolding(crate::specs::Duties::config_of, crate::specs::Duties::asks_of, crate::specs::Duties::needs_of, crate::specs::Duties::wants_of, crate::specs::Duties::facts_of, crate::specs::Duties::means_of, crate::specs::Duties::ascent_of, crate::specs::Duties::makes_no_change))]
+    #[tactic(auto, unfolding(crate::specs::Duties::config_of, crate::specs::Duties::asks_of, crate::specs::Duties::swaps_of, crate::specs::Duties::made_of, crate::specs::Duties::needs_of, crate::specs::Duties::wants_of, crate::specs::Duties::facts_of, crate::specs::Duties::means_of, crate::specs::Duties::ascent_of, crate::specs::Duties::makes_no_change))]
     pub fn split_root(config: &Config, path: Path, view: LeafView, page: &mut PageBuf) -> Running
         requires root { path.depth ≡ 1 }
         requires alone { IsLeafByItself view.image.0 }
@@ -192,6 +215,8 @@ impl Running {
         requires leads { LeadsTo path view.slot }
         ensures config { config_of result ≡ config.now }
         ensures asks { asks_of result ≡ None }
+        ensures swaps { swaps_of result ≡ RENEWAL_SWAPS }
+        ensures made { made_of result ≡ 0 }
         ensures needs { needs_of result ≡ SPLIT_SLOTS }
         ensures wants { wants_of result ≡ SPLIT_SLOTS }
         ensures silent { makes_no_change result ≡ true }
@@ -202,7 +227,7 @@ impl Running {
     }
 
     /// The split of a frozen leaf below a parent, with more live words than it may keep, to which the path leads.
-    #[tactic(auto, unfolding(crate::specs::Duties::config_of, crate::specs::Duties::asks_of, crate::specs::Duties::needs_of, crate::specs::Duties::wants_of, crate::specs::Duties::facts_of, crate::specs::Duties::means_of, crate::specs::Duties::ascent_of, crate::specs::Duties::makes_no_change))]
+    #[tactic(auto, unfolding(crate::specs::Duties::config_of, crate::specs::Duties::asks_of, crate::specs::Duties::swaps_of, crate::specs::Duties::made_of, crate::specs::Duties::needs_of, crate::specs::Duties::wants_of, crate::specs::Duties::facts_of, crate::specs::Duties::means_of, crate::specs::Duties::ascent_of, crate::specs::Duties::makes_no_change))]
     pub fn split_below(
         config: &Config,
         path: Path,
@@ -219,6 +244,8 @@ impl Running {
         requires thawed { IsThawedAbove path }
         ensures config { config_of result ≡ config.now }
         ensures asks { asks_of result ≡ None }
+        ensures swaps { swaps_of result ≡ RENEWAL_SWAPS }
+        ensures made { made_of result ≡ 0 }
         ensures needs { needs_of result ≡ SPLIT_SLOTS }
         ensures wants { wants_of result ≡ SPLIT_SLOTS }
         ensures silent { makes_no_change result ≡ true }
@@ -233,7 +260,7 @@ impl Running {
     }
 
     /// The merge of a leaf below a parent, frozen or not, to which the path leads, with a neighbour.
-    #[tactic(auto, unfolding(crate::specs::Duties::config_of, crate::specs::Duties::asks_of, crate::specs::Duties::needs_of, crate::specs::Duties::wants_of, crate::specs::Duties::facts_of, crate::specs::Duties::means_of, crate::specs::Duties::ascent_of, crate::specs::Duties::makes_no_change))]
+    #[tactic(auto, unfolding(crate::specs::Duties::config_of, crate::specs::Duties::asks_of, crate::specs::Duties::swaps_of, crate::specs::Duties::made_of, crate::specs::Duties::needs_of, crate::specs::Duties::wants_of, crate::specs::Duties::facts_of, crate::specs::Duties::means_of, crate::specs::Duties::ascent_of, crate::specs::Duties::makes_no_change))]
     pub fn merge(config: &Config, path: Path, view: LeafView) -> Running
         requires deep { 2 ≤ path.depth }
         requires few { path.depth ≤ 12 }
@@ -241,6 +268,8 @@ impl Running {
         requires thawed { IsThawedAbove path }
         ensures config { config_of result ≡ config.now }
         ensures asks { asks_of result ≡ None }
+        ensures swaps { swaps_of result ≡ MERGE_SWAPS }
+        ensures made { made_of result ≡ 0 }
         ensures needs { needs_of result ≡ MERGE_SLOTS }
         ensures wants { wants_of result ≡ MERGE_SLOTS }
         ensures silent { makes_no_change result ≡ true }
@@ -251,7 +280,7 @@ impl Running {
     }
 
     /// Tells the task what came of its last act, and answers what it asks for next: `next`, and that one which makes no change makes none later.
-    #[tactic(auto, unfolding(crate::specs::Duties::config_of, crate::specs::Duties::asks_of, crate::specs::Duties::end_of, crate::specs::Duties::left_of, crate::specs::Duties::needs_of, crate::specs::Duties::wants_of, crate::specs::Duties::change_of, crate::specs::Duties::facts_of, crate::specs::Duties::means_of, crate::specs::Duties::differs_of, crate::specs::Duties::ascent_of, crate::specs::Duties::makes_no_change))]
+    #[tactic(auto, unfolding(crate::specs::Duties::config_of, crate::specs::Duties::asks_of, crate::specs::Duties::end_of, crate::specs::Duties::left_of, crate::specs::Duties::swaps_of, crate::specs::Duties::made_of, crate::specs::Duties::change_swaps, crate::specs::Duties::needs_of, crate::specs::Duties::wants_of, crate::specs::Duties::change_of, crate::specs::Duties::facts_of, crate::specs::Duties::means_of, crate::specs::Duties::differs_of, crate::specs::Duties::ascent_of, crate::specs::Duties::makes_no_change))]
     pub fn hear(&mut self, seen: Seen, slots: &mut Slots, moment: u32) -> Todo
         requires hears { Hears (asks_of self.old) seen }
         requires known { IsKnown (config_of self.old) (facts_of self.old) (asks_of self.old) seen moment }
@@ -304,6 +333,10 @@ impl Task for Running {
 
     ghost left = { left_of };
 
+    ghost swaps = { swaps_of };
+
+    ghost made = { made_of };
+
     ghost needs = { needs_of };
 
     ghost change = { change_of };
@@ -354,7 +387,7 @@ impl Task for Running {
         }
     }
 
-    #[tactic(auto, unfolding(crate::specs::Duties::config_of, crate::specs::Duties::asks_of, crate::specs::Duties::end_of, crate::specs::Duties::left_of, crate::specs::Duties::needs_of, crate::specs::Duties::wants_of, crate::specs::Duties::change_of, crate::specs::Duties::publishing_of, crate::specs::Duties::facts_of, crate::specs::Duties::means_of, crate::specs::Duties::differs_of))]
+    #[tactic(auto, unfolding(crate::specs::Duties::config_of, crate::specs::Duties::asks_of, crate::specs::Duties::end_of, crate::specs::Duties::left_of, crate::specs::Duties::swaps_of, crate::specs::Duties::made_of, crate::specs::Duties::needs_of, crate::specs::Duties::wants_of, crate::specs::Duties::change_of, crate::specs::Duties::publishing_of, crate::specs::Duties::facts_of, crate::specs::Duties::means_of, crate::specs::Duties::differs_of))]
     fn next(&mut self, seen: Seen, slots: &mut Slots, moment: u32) -> Todo {
         match self {
             Running::Seeking(task) => task.next(seen, slots, moment),

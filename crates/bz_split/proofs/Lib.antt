@@ -3,5 +3,6 @@ mod BelowSplitting
 mod Parting
 pub mod Staying
 mod Knowing
+pub mod Counting
 mod Acting
 mod Viewing

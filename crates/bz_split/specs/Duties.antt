@@ -4,7 +4,7 @@ use Rattle.bz_task.specs.Scene.{Scene, Stage}
 use Rattle.bz_task.specs.declared.todo.Outcome.{Outcome}
 use Rattle.bz_task.specs.declared.todo.Seen.{Seen}
 use Rattle.bz_task.specs.declared.todo.Todo.{Todo}
-use Rattle.bz_split.specs.Facts.{Split, split_asks, split_end, split_left, split_needs, split_facts, split_differs}
+use Rattle.bz_split.specs.Facts.{Split, split_asks, split_end, split_left, split_swaps, split_needs, split_facts, split_differs}
 use Rattle.bz_split.specs.declared.split_root.SplitRoot.{SplitRoot}
 
 -- the words of the root, of the left half and of the right half
@@ -24,6 +24,13 @@ end_of t = split_end t.phase
 
 abbrev pub left_of : SplitRoot → ℕ
 left_of t = split_left t.phase
+
+abbrev pub swaps_of : SplitRoot → ℕ
+swaps_of t = split_swaps t.phase
+
+-- its one swap is its last act where it takes effect: while it goes on it has made none
+abbrev pub made_of : SplitRoot → ℕ
+made_of t = 0
 
 abbrev pub needs_of : SplitRoot → ℕ
 needs_of t = split_needs t.phase

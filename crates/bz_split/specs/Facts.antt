@@ -70,6 +70,14 @@ split_end phase = None
 abbrev pub split_acts : ℕ
 split_acts = SPLIT_WORDS + SPLIT_LINES + 3
 
+-- the most swaps that are still asked for: that of the link, until it has ended
+abbrev pub split_swaps : Phase → ℕ
+split_swaps Done = 0
+split_swaps Restart = 0
+split_swaps NoSlot = 0
+split_swaps NoSwap = 0
+split_swaps phase = 1
+
 abbrev pub split_left : Phase → ℕ
 split_left Fresh = split_acts
 split_left Guard = SPLIT_WORDS + SPLIT_LINES + 2

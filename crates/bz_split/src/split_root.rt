@@ -1,6 +1,6 @@
 //! The task that splits a frozen root leaf.
 
-ghost use Rattle.std.specs.Prelude.{◌≡◌, ◌≢◌, ◌↔◌, ◌-◌, ◌<◌, ◌≤◌, ◌^◌, ◌⊎◌, ℕ, List, Some, None, IsTrue, true, false, slice_get, length};
+ghost use Rattle.std.specs.Prelude.{◌≡◌, ◌≢◌, ◌↔◌, ◌-◌, ◌+◌, ◌<◌, ◌≤◌, ◌^◌, ◌⊎◌, ℕ, List, Some, None, IsTrue, true, false, slice_get, length};
 ghost use Rattle.bz_layout.specs.Config.{IsConfig};
 ghost use Rattle.bz_layout.specs.declared.thresholds.TheConstants.{SPLIT_ABOVE, SPLIT_SLOTS};
 ghost use Rattle.bz_renew.specs.FromPage.Pages.{IsLeafByItself};
@@ -11,11 +11,12 @@ ghost use Rattle.bz_slotted.specs.ReadingLaws.{node_of};
 ghost use Rattle.bz_word.specs.Statuses.{status};
 ghost use Rattle.bz_task.specs.Outcomes.{IsPath, IsView};
 ghost use Rattle.bz_task.specs.OwnActs.{AreTakenFrom, AreUnreached, gained};
-ghost use Rattle.bz_task.specs.Requests.{Hears, Tells, IsKnown};
+ghost use Rattle.bz_task.specs.Requests.{Hears, Tells, IsKnown, swaps_in, effects_in};
 ghost use Rattle.bz_task.specs.Scene.{Scene, Stage, Waiting, IsScene};
+ghost use Rattle.bz_task.specs.declared.swaps.TheConstants.{RENEWAL_SWAPS};
 ghost use Rattle.bz_task.specs.declared.todo.Seen.TheVariants.{Read as Was, Swapped, NoSwap as NoneLeft};
-ghost use Rattle.bz_split.specs.Duties.{split_of, asks_of, end_of, left_of, needs_of, facts_of, differs_of};
-ghost use Rattle.bz_split.specs.Facts.{IsEndOfSplit, HasBegun, HasLooked, nodes_in, split_acts, split_left, split_facts, split_means, split_change, IsReady, WasParted, next_store, next_flush};
+ghost use Rattle.bz_split.specs.Duties.{split_of, asks_of, end_of, left_of, swaps_of, made_of, needs_of, facts_of, differs_of};
+ghost use Rattle.bz_split.specs.Facts.{IsEndOfSplit, HasBegun, HasLooked, nodes_in, split_acts, split_end, split_left, split_swaps, split_facts, split_means, split_change, IsReady, WasParted, next_store, next_flush};
 
 use crate::laws::root_leaf_splits_are_good;
 use crate::parts::parts_of;
@@ -62,6 +63,8 @@ impl SplitRoot {
         ensures config { ⟦<SplitRoot as Task>⟧.config result ≡ config.now }
         ensures asks { ⟦<SplitRoot as Task>⟧.asks result ≡ None }
         ensures left { ⟦<SplitRoot as Task>⟧.left result ≡ split_acts }
+        ensures swaps { ⟦<SplitRoot as Task>⟧.swaps result ≡ RENEWAL_SWAPS }
+        ensures made { ⟦<SplitRoot as Task>⟧.made result ≡ 0 }
         ensures needs { ⟦<SplitRoot as Task>⟧.needs result ≡ SPLIT_SLOTS }
         ensures change { ⟦<SplitRoot as Task>⟧.change result ≡ split_change }
         ensures facts { (key : List ℕ) (s : Scene) → s.past.config ≡ config.now → IsScene s → IsPath key path s.past → IsView key view s.past → ⟦<SplitRoot as Task>⟧.facts result Waiting s }
@@ -92,6 +95,8 @@ impl SplitRoot {
         requires hears { Hears (asks_of self.now) seen }
         requires known { IsKnown self.now.config (facts_of self.now) (asks_of self.now) seen moment }
         ensures nearer { split_left result < left_of self.now }
+        ensures fewer { split_swaps result + swaps_in (asks_of self.now) ≤ swaps_of self.now }
+        ensures counted { split_end result ≡ None → effects_in seen ≡ 0 }
         ensures done { result ≡ Phase.Done → seen ≡ Swapped true }
         ensures restart { result ≡ Phase.Restart → seen ≡ Swapped false }
         ensures no_swap { (result ≡ Phase.NoSwap) ↔ (seen ≡ NoneLeft) }
@@ -157,6 +162,8 @@ impl SplitRoot {
         ensures begun { self.new.phase ≢ Phase.Fresh }
         ensures ready { IsReady self.new.config (split_of self.new) self.new.phase }
         ensures nearer { left_of self.new < left_of self.old }
+        ensures fewer { swaps_of self.new + swaps_in (asks_of self.old) ≤ swaps_of self.old }
+        ensures counted { end_of self.new ≡ None → effects_in seen ≡ 0 }
         ensures slots { AreTakenFrom (needs_of self.old) (needs_of self.new) slots.old slots.new }
         ensures done { end_of self.new ≡ Some Outcome.Done → seen ≡ Swapped true }
         ensures restart { end_of self.new ≡ Some Outcome.Restart → (seen ≡ Swapped false) ⊎ differs_of self.old seen }
@@ -253,6 +260,10 @@ impl Task for SplitRoot {
     ghost end = { end_of };
 
     ghost left = { left_of };
+
+    ghost swaps = { swaps_of };
+
+    ghost made = { made_of };
 
     ghost needs = { needs_of };
 

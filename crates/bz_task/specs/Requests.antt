@@ -65,6 +65,16 @@ IsAskable s (Flush line) = IsReadable s (LINE_WORDS * line)
 IsAskable s (Swap entries) = All (IsEntryToAsk s) entries
 IsAskable s Finish = Unit {0}
 
+-- how many swaps are asked for
+abbrev pub swaps_in : Option Todo → ℕ
+swaps_in (Some (Swap entries)) = 1
+swaps_in asked = 0
+
+-- how many swaps the answer tells to have taken effect
+abbrev pub effects_in : Seen → ℕ
+effects_in (Swapped true) = 1
+effects_in seen = 0
+
 -- the answer is one to what was asked for
 abbrev pub Hears : Option Todo → Seen → Type 0
 Hears None Start = Unit {0}

@@ -1,6 +1,6 @@
 //! What a task is.
 
-ghost use Rattle.std.specs.Prelude.{◌≡◌, ◌<◌, ◌≤◌, ◌⊎◌, ℕ, Bool, true, false, IsSome, Option, Some, List, length};
+ghost use Rattle.std.specs.Prelude.{◌≡◌, ◌<◌, ◌≤◌, ◌⊎◌, ℕ, ◌+◌, Bool, true, false, IsSome, Option, Some, None, List, length};
 ghost use Rattle.bz_call.specs.declared.replies.Spent.TheVariants.{Nodes, Swaps};
 ghost use Rattle.bz_layout.specs.Slots.{FreeSlots};
 ghost use Rattle.bz_layout.specs.declared.config.Config.{Config};
@@ -8,7 +8,7 @@ ghost use Rattle.bz_layout.specs.declared.thresholds.TheConstants.{SPLIT_SLOTS};
 ghost use Rattle.bz_word.specs.declared.entry.Entry.{Entry};
 ghost use Rattle.bz_task.specs.Instant.{Instant};
 ghost use Rattle.bz_task.specs.OwnActs.{Stores, Flushes, AreTakenFrom, AreUnreached, gained};
-ghost use Rattle.bz_task.specs.Requests.{IsAskable, Hears, Tells, IsKnown, IsCause};
+ghost use Rattle.bz_task.specs.Requests.{IsAskable, Hears, Tells, IsKnown, IsCause, swaps_in, effects_in};
 ghost use Rattle.bz_task.specs.Scene.{Scene, Stage, Waiting, Took, IsScene, IsLawful, HasFilled, here};
 ghost use Rattle.bz_task.specs.Swaps.{Change, Stand, SwapsTo, IsGoodSwap, Takes};
 ghost use Rattle.bz_task.specs.declared.todo.Outcome.TheVariants.{Done, Restart, Full};
@@ -34,6 +34,12 @@ pub trait Task: Drop {
 
     /// The most acts that it will still ask for.
     ghost left: { Self → ℕ };
+
+    /// The most swaps that it will still ask for, with the one that it asks for now.
+    ghost swaps: { Self → ℕ };
+
+    /// How many of its swaps it was told to have taken effect, while it goes on.
+    ghost made: { Self → ℕ };
 
     /// How many slots it will still take, all at once: at most as many as a split takes.
     ghost needs: { Self → ℕ };
@@ -71,6 +77,8 @@ pub trait Task: Drop {
         requires memory { 0 < needs self.old → slots.old.nodes ≡ (config self.old).nodes }
         ensures asked { asks self.new ≡ Some result }
         ensures nearer { left self.new < left self.old }
+        ensures fewer { swaps self.new + swaps_in (asks self.old) ≤ swaps self.old }
+        ensures counted { end self.new ≡ None → made self.new ≡ made self.old + effects_in seen }
         ensures config { config self.new ≡ config self.old }
         ensures change { change self.new ≡ change self.old }
         ensures meant { (outcome : Outcome) (s : Scene) → means self.new outcome s → means self.old outcome s }

@@ -1,5 +1,5 @@
 use Rattle.std.proofs.Common.{◌≡◌, ◌<◌, ℕ, slice_index, slice_set, sym, ap, subst, ◌∙◌, refl, arith, inl, Some}
-use Rattle.bz_task.specs.Requests.{Answers, Hears, Tells}
+use Rattle.bz_task.specs.Requests.{Answers, Hears, Tells, swaps_in}
 use Rattle.bz_layout.specs.Config.{IsConfig}
 use Rattle.bz_layout.specs.declared.sizes.TheConstants.{NODE_WORDS}
 use Rattle.bz_layout.specs.declared.thresholds.TheConstants.{SPLIT_SLOTS}
@@ -9,10 +9,11 @@ use Rattle.bz_task.specs.declared.todo.Seen.{Seen}
 use Rattle.bz_task.specs.declared.todo.Seen.TheVariants.{Read as Was}
 use Rattle.bz_task.specs.declared.todo.Todo.TheVariants.{Read as Reads}
 use Rattle.bz_below.specs.Duties.{below_of, asks_below, three}
-use Rattle.bz_below.specs.Facts.{Below, below_facts, below_asks, below_needs, below_left, word_after, IsReadyBelow}
+use Rattle.bz_below.specs.Facts.{Below, below_facts, below_asks, below_needs, below_left, below_swaps, word_after, IsReadyBelow}
 use Rattle.bz_below.specs.declared.phase.Phase.{Phase}
 use Rattle.bz_below.specs.declared.phase.Phase.TheVariants.{Fresh, Word, Again, Guard, Named}
 use Rattle.bz_below.specs.declared.split_below.SplitBelow.{SplitBelow}
+use Rattle.bz_below.proofs.Counting.{Counts, counts}
 use Rattle.bz_below.proofs.Ending.{EndsWell, ends-well, first-ends, takes-none, word-answers}
 use Rattle.bz_below.proofs.Telling.{Tolds, tolds, told-learns, has-parent}
 use Rattle.bz_below.proofs.Looking.{Looks, looks, looked-learns, guard-within, planned-parent, planned-room}
@@ -56,6 +57,7 @@ returns-in-Again c =
     let b : Tolds (below_of t) t.config c.args.seen c.told-self.result c.args.slots.now = tolds (below_of t) t.config c.args.seen c.told-self.result c.args.slots.now hears c.told-self.ensures in
     let needed : below_needs t.phase ≡ SPLIT_SLOTS = ap below_needs c.in-Again.is in
     let ends : EndsWell t.lower c.args.seen t.phase c.told-self.result c.args.slots.now = subst (λ z. EndsWell t.lower c.args.seen z c.told-self.result c.args.slots.now) (sym c.in-Again.is) b.ends in
+    let m : Counts t.config (below_of t) t.phase c.told-self.result c.args.seen = counts t.config (below_of t) t.phase c.told-self.result c.args.seen (ap below_swaps c.in-Again.is) (ap (λ z. swaps_in (below_asks t.config (below_of t) z)) c.in-Again.is) c.requires.hears in
     record {
       config = refl;
       upper = refl;
@@ -65,6 +67,8 @@ returns-in-Again c =
       begun = b.begun;
       ready = b.ready;
       nearer = omega (arith, b.nearer, ap below_left c.in-Again.is);
+      fewer = m.fewer;
+      counted = λ z. m.counted;
       slots = subst (λ z. AreTakenFrom z (below_needs c.told-self.result) c.args.slots.now c.args.slots.now) (sym needed) b.taken;
       done = ends.done;
       restart = ends.restart;
@@ -93,6 +97,7 @@ returns-in-Guard c =
     found.0 e.looked (nodes ∙ ap (λ z. z.nodes) (sym e.config)) in
     let ends : EndsWell t.lower c.args.seen t.phase new.phase c.args.slots.now = subst (λ z. EndsWell t.lower c.args.seen z new.phase c.args.slots.now) (sym c.in-Guard.is)
     (subst (λ z. EndsWell z c.args.seen Guard new.phase c.args.slots.now) e.lower b.ends) in
+    let m : Counts t.config (below_of t) t.phase new.phase c.args.seen = counts t.config (below_of t) t.phase new.phase c.args.seen (ap below_swaps c.in-Guard.is) (ap (λ z. swaps_in (below_asks t.config (below_of t) z)) c.in-Guard.is) c.requires.hears in
     record {
       config = e.config;
       upper = e.upper;
@@ -102,6 +107,8 @@ returns-in-Guard c =
       begun = b.begun;
       ready = b.ready;
       nearer = omega (arith, b.nearer, ap below_left c.in-Guard.is);
+      fewer = m.fewer;
+      counted = λ z. m.counted;
       slots = subst (λ z. AreTakenFrom z (below_needs new.phase) c.args.slots.now left) (sym needed) b.taken;
       done = ends.done;
       restart = ends.restart;
@@ -131,6 +138,7 @@ returns-in-Named c =
     let known = subst (λ z. below_facts (below_of t) z k.stage k.scene) c.in-Named.is k.holds in
     let b : Names (below_of t) t.config v c.args.seen p c.args.slots.now = names c.links_turn.ensures.asked (below_of t) t.config v c.args.seen p k.stage k.scene c.args.slots.now k.config k.good found.1.plain found.0 known is in
     let ends : EndsWell t.lower c.args.seen t.phase p c.args.slots.now = subst (λ z. EndsWell t.lower c.args.seen z p c.args.slots.now) (sym c.in-Named.is) b.ends in
+    let m : Counts t.config (below_of t) t.phase p c.args.seen = counts t.config (below_of t) t.phase p c.args.seen (ap below_swaps c.in-Named.is) (ap (λ z. swaps_in (below_asks t.config (below_of t) z)) c.in-Named.is) c.requires.hears in
     record {
       config = refl;
       upper = refl;
@@ -140,6 +148,8 @@ returns-in-Named c =
       begun = b.begun;
       ready = b.ready;
       nearer = omega (arith, b.nearer, ap below_left c.in-Named.is);
+      fewer = m.fewer;
+      counted = λ z. m.counted;
       slots = subst (λ z. AreTakenFrom z (below_needs p) c.args.slots.now c.args.slots.now) (sym (ap below_needs c.in-Named.is)) b.taken;
       done = ends.done;
       restart = ends.restart;
@@ -165,6 +175,8 @@ returns-in_default c =
       begun = a.begun;
       ready = a.ready;
       nearer = omega (arith, a.nearer);
+      fewer = a.fewer;
+      counted = a.counted;
       slots = takes-none t.phase c.after-self.result c.args.slots.now (omega (arith, a.needs));
       done = e.done;
       restart = e.restart;
@@ -180,6 +192,7 @@ returns-in-Fresh c =
     let k = c.requires.known in
     let hears : Hears (below_asks t.config (below_of t) Fresh) c.args.seen = subst (λ z. Hears (below_asks t.config (below_of t) z) c.args.seen) c.in-Fresh.is c.requires.hears in
     let e : EndsWell t.lower c.args.seen t.phase (Word 1) c.args.slots.now = subst (λ z. EndsWell t.lower c.args.seen z (Word 1) c.args.slots.now) (sym c.in-Fresh.is) (first-ends t.config (below_of t) c.args.seen c.args.slots.now hears) in
+    let m : Counts t.config (below_of t) t.phase (Word 1) c.args.seen = counts t.config (below_of t) t.phase (Word 1) c.args.seen (ap below_swaps c.in-Fresh.is) (ap (λ z. swaps_in (below_asks t.config (below_of t) z)) c.in-Fresh.is) c.requires.hears in
     record {
       config = refl;
       upper = refl;
@@ -189,6 +202,8 @@ returns-in-Fresh c =
       begun = λ z. absurd (cc);
       ready = fresh-ready t.config (below_of t) c.args.seen k.stage k.scene k.config k.good (subst (λ z. below_facts (below_of t) z k.stage k.scene) c.in-Fresh.is k.holds);
       nearer = omega (arith, ap below_left c.in-Fresh.is);
+      fewer = m.fewer;
+      counted = λ z. m.counted;
       slots = takes-none t.phase (Word 1) c.args.slots.now (omega (arith, ap below_needs c.in-Fresh.is));
       done = e.done;
       restart = e.restart;
@@ -211,6 +226,7 @@ returns-in-Word c =
     let b : Words t.config (below_of t) i n.result c.args.seen c.after_word-self.result c.args.slots.now = subst (λ z. Words t.config (below_of t) i n.result c.args.seen z c.args.slots.now) (sym c.after_word-self.ensures)
     (words-on t.config (below_of t) i n.result n.ensures.after n.ensures.within c.args.seen k.stage k.scene c.args.slots.now k.config k.good hears (subst (λ z. below_facts (below_of t) z k.stage k.scene) c.in-Word.is k.holds)) in
     let e : EndsWell t.lower c.args.seen t.phase c.after_word-self.result c.args.slots.now = subst (λ z. EndsWell t.lower c.args.seen z c.after_word-self.result c.args.slots.now) (sym c.in-Word.is) b.ends in
+    let m : Counts t.config (below_of t) t.phase c.after_word-self.result c.args.seen = counts t.config (below_of t) t.phase c.after_word-self.result c.args.seen (ap below_swaps c.in-Word.is) (ap (λ z. swaps_in (below_asks t.config (below_of t) z)) c.in-Word.is) c.requires.hears in
     record {
       config = refl;
       upper = refl;
@@ -221,6 +237,8 @@ returns-in-Word c =
       ready = subst (IsReadyBelow t.config (kept-of t i v)) (sym c.after_word-self.ensures)
           (word-ready t.config (below_of t) (slice_set t.read.0 i v) n.result (subst (IsReadyBelow t.config (below_of t)) c.after_word-self.ensures b.ready));
       nearer = omega (arith, b.nearer, n.ensures.after, c.with_skipped-self.ensures, ap below_left c.in-Word.is);
+      fewer = m.fewer;
+      counted = λ z. m.counted;
       slots = takes-none t.phase c.after_word-self.result c.args.slots.now (omega (arith, b.fewer, ap below_needs c.in-Word.is));
       done = e.done;
       restart = e.restart;

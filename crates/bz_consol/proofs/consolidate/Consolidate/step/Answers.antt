@@ -1,21 +1,21 @@
 use Rattle.std.proofs.Common.{◌≡◌, sym, ap, subst, ◌∙◌, refl, arith, inr, Some}
-use Rattle.bz_task.specs.Requests.{Hears, Tells}
+use Rattle.bz_task.specs.Requests.{Hears, Tells, swaps_in}
 use Rattle.bz_layout.specs.Config.{IsConfig}
 use Rattle.bz_layout.specs.declared.thresholds.TheConstants.{CONSOLIDATION_SLOTS}
 use Rattle.bz_task.specs.OwnActs.{AreTakenFrom}
 use Rattle.bz_task.specs.declared.path.Link.{Link}
 use Rattle.bz_task.specs.declared.todo.Todo.TheVariants.{Read as Reads}
 use Rattle.bz_consol.specs.Duties.{renewal_of}
-use Rattle.bz_consol.specs.Facts.{consol_facts, consol_asks, consol_needs, consol_left}
+use Rattle.bz_consol.specs.Facts.{consol_facts, consol_asks, consol_needs, consol_left, consol_swaps}
 use Rattle.bz_consol.specs.declared.phase.Phase.TheVariants.{Guard}
-use Rattle.bz_consol.proofs.Knowing.{EndsWell, Looks, ends-well, first-ends, takes-none, looks, looked-learns, fresh-known}
+use Rattle.bz_consol.proofs.Knowing.{EndsWell, Looks, ends-well, first-ends, takes-none, looks, looked-learns, fresh-known, swaps-few}
 use Rattle.bz_consol.proofs.Staying.{no-slot}
 use Rattle.bz_consol.proofs.consolidate.Consolidate.step.Goals as goal
 
 pub returns-in_default : goal.returns-in_default
 returns-in_default c =
     let a = c.after-self.ensures in
-    let e : EndsWell c.args.self.now.link c.args.seen c.args.self.now.phase c.after-self.result c.args.slots.now = ends-well c.args.self.now.link c.args.seen c.args.self.now.phase c.after-self.result c.args.slots.now a.done a.restart a.no_swap a.slots in
+    let e : EndsWell c.args.self.now.link c.args.seen c.args.self.now.phase c.after-self.result c.args.slots.now = ends-well c.args.self.now.link c.args.seen c.args.self.now.phase c.after-self.result c.args.slots.now a.done a.restart a.no_swap a.slots a.counted in
     record {
       config = refl;
       link = refl;
@@ -24,6 +24,8 @@ returns-in_default c =
       begun = a.begun;
       ready = a.ready;
       nearer = a.nearer;
+      fewer = a.fewer;
+      counted = e.counted;
       slots = takes-none c.args.self.now.phase c.after-self.result c.args.slots.now a.begun a.looked;
       done = e.done;
       restart = e.restart;
@@ -47,6 +49,8 @@ returns-in-Fresh c =
       begun = λ z. absurd (cc);
       ready = tt;
       nearer = omega (arith, ap consol_left c.in-Fresh.is);
+      fewer = omega (arith, ap consol_swaps c.in-Fresh.is, ap (λ z. swaps_in (consol_asks t.config (renewal_of t) z)) c.in-Fresh.is);
+      counted = e.counted;
       slots = inr (record { fewer = omega (arith, ap consol_needs c.in-Fresh.is); slots = refl });
       done = e.done;
       restart = e.restart;
@@ -80,6 +84,8 @@ returns-in-Guard c =
       begun = b.begun;
       ready = b.ready;
       nearer = omega (arith, b.nearer, ap consol_left c.in-Guard.is);
+      fewer = omega (arith, swaps-few new.phase, ap consol_swaps c.in-Guard.is, ap (λ z. swaps_in (consol_asks t.config (renewal_of t) z)) c.in-Guard.is);
+      counted = ends.counted;
       slots = subst (λ z. AreTakenFrom z (consol_needs new.phase) c.args.slots.now left) (sym needed) b.taken;
       done = ends.done;
       restart = ends.restart;

@@ -1,5 +1,5 @@
 use Rattle.std.proofs.Common.{◌≡◌, ◌<◌, ℕ, slice_index, slice_set, sym, ap, subst, ◌∙◌, refl, arith, inl, Some}
-use Rattle.bz_task.specs.Requests.{Hears, Tells}
+use Rattle.bz_task.specs.Requests.{Hears, Tells, swaps_in}
 use Rattle.bz_layout.specs.Config.{IsConfig}
 use Rattle.bz_layout.specs.declared.sizes.TheConstants.{NODE_WORDS}
 use Rattle.bz_layout.specs.declared.thresholds.TheConstants.{SPLIT_SLOTS}
@@ -7,9 +7,10 @@ use Rattle.bz_task.specs.OwnActs.{AreTakenFrom, gained}
 use Rattle.bz_task.specs.Scene.{Waiting}
 use Rattle.bz_task.specs.declared.todo.Todo.TheVariants.{Read as Reads}
 use Rattle.bz_crown.specs.Duties.{crown_of, three}
-use Rattle.bz_crown.specs.Facts.{Crown, crown_facts, crown_asks, crown_needs, crown_left, word_after, IsReadyCrown}
+use Rattle.bz_crown.specs.Facts.{Crown, crown_facts, crown_asks, crown_needs, crown_left, crown_swaps, word_after, IsReadyCrown}
 use Rattle.bz_crown.specs.declared.phase.Phase.TheVariants.{Fresh, Word, Again, Guard}
 use Rattle.bz_crown.specs.declared.split_inner_root.SplitInnerRoot.{SplitInnerRoot}
+use Rattle.bz_crown.proofs.Counting.{Counts, counts}
 use Rattle.bz_crown.proofs.Ending.{EndsWell, ends-well, first-ends, takes-none}
 use Rattle.bz_crown.proofs.Telling.{Tolds, tolds, told-learns}
 use Rattle.bz_crown.proofs.Looking.{Looks, looks, looked-learns, planned-node}
@@ -35,6 +36,7 @@ returns-in-Again c =
     let b : Tolds (crown_of t) t.config c.args.seen c.told-self.result c.args.slots.now = tolds (crown_of t) t.config c.args.seen c.told-self.result c.args.slots.now hears c.told-self.ensures in
     let needed : crown_needs t.phase ≡ SPLIT_SLOTS = ap crown_needs c.in-Again.is in
     let ends : EndsWell t.upper t.lower c.args.seen t.phase c.told-self.result c.args.slots.now = subst (λ z. EndsWell t.upper t.lower c.args.seen z c.told-self.result c.args.slots.now) (sym c.in-Again.is) b.ends in
+    let m : Counts t.config (crown_of t) t.phase c.told-self.result c.args.seen = counts t.config (crown_of t) t.phase c.told-self.result c.args.seen (ap crown_swaps c.in-Again.is) (ap (λ z. swaps_in (crown_asks t.config (crown_of t) z)) c.in-Again.is) c.requires.hears in
     record {
       config = refl;
       upper = refl;
@@ -42,6 +44,8 @@ returns-in-Again c =
       begun = b.begun;
       ready = b.ready;
       nearer = omega (arith, b.nearer, ap crown_left c.in-Again.is);
+      fewer = m.fewer;
+      counted = λ z. m.counted;
       slots = subst (λ z. AreTakenFrom z (crown_needs c.told-self.result) c.args.slots.now c.args.slots.now) (sym needed) b.taken;
       done = ends.done;
       restart = ends.restart;
@@ -68,6 +72,7 @@ returns-in-Guard c =
     (subst (λ z. Hears (Some (Reads z.guard)) c.args.seen) (sym e.upper) hears) e.looked (nodes ∙ ap (λ z. z.nodes) (sym e.config)) in
     let ends : EndsWell t.upper t.lower c.args.seen t.phase new.phase c.args.slots.now = subst (λ z. EndsWell t.upper t.lower c.args.seen z new.phase c.args.slots.now) (sym c.in-Guard.is)
     (subst (λ z. EndsWell z t.lower c.args.seen Guard new.phase c.args.slots.now) e.upper (subst (λ z. EndsWell new.upper z c.args.seen Guard new.phase c.args.slots.now) e.lower b.ends)) in
+    let m : Counts t.config (crown_of t) t.phase new.phase c.args.seen = counts t.config (crown_of t) t.phase new.phase c.args.seen (ap crown_swaps c.in-Guard.is) (ap (λ z. swaps_in (crown_asks t.config (crown_of t) z)) c.in-Guard.is) c.requires.hears in
     record {
       config = e.config;
       upper = e.upper;
@@ -75,6 +80,8 @@ returns-in-Guard c =
       begun = b.begun;
       ready = b.ready;
       nearer = omega (arith, b.nearer, ap crown_left c.in-Guard.is);
+      fewer = m.fewer;
+      counted = λ z. m.counted;
       slots = subst (λ z. AreTakenFrom z (crown_needs new.phase) c.args.slots.now left) (sym needed) b.taken;
       done = ends.done;
       restart = ends.restart;
@@ -99,6 +106,8 @@ returns-in_default c =
       begun = a.begun;
       ready = a.ready;
       nearer = a.nearer;
+      fewer = a.fewer;
+      counted = a.counted;
       slots = takes-none t.phase c.after-self.result c.args.slots.now (omega (arith, a.needs));
       done = e.done;
       restart = e.restart;
@@ -114,6 +123,7 @@ returns-in-Fresh c =
     let k = c.requires.known in
     let hears : Hears (crown_asks t.config (crown_of t) Fresh) c.args.seen = subst (λ z. Hears (crown_asks t.config (crown_of t) z) c.args.seen) c.in-Fresh.is c.requires.hears in
     let e : EndsWell t.upper t.lower c.args.seen t.phase (Word 1) c.args.slots.now = subst (λ z. EndsWell t.upper t.lower c.args.seen z (Word 1) c.args.slots.now) (sym c.in-Fresh.is) (first-ends t.config (crown_of t) c.args.seen c.args.slots.now hears) in
+    let m : Counts t.config (crown_of t) t.phase (Word 1) c.args.seen = counts t.config (crown_of t) t.phase (Word 1) c.args.seen (ap crown_swaps c.in-Fresh.is) (ap (λ z. swaps_in (crown_asks t.config (crown_of t) z)) c.in-Fresh.is) c.requires.hears in
     record {
       config = refl;
       upper = refl;
@@ -121,6 +131,8 @@ returns-in-Fresh c =
       begun = λ z. absurd (cc);
       ready = fresh-ready t.config (crown_of t) c.args.seen k.stage k.scene k.config k.good (subst (λ z. crown_facts (crown_of t) z k.stage k.scene) c.in-Fresh.is k.holds);
       nearer = omega (arith, ap crown_left c.in-Fresh.is);
+      fewer = m.fewer;
+      counted = λ z. m.counted;
       slots = takes-none t.phase (Word 1) c.args.slots.now (omega (arith, ap crown_needs c.in-Fresh.is));
       done = e.done;
       restart = e.restart;
@@ -143,6 +155,7 @@ returns-in-Word c =
     let b : Words t.config (crown_of t) i c.args.seen c.after_word-self.result c.args.slots.now = subst (λ z. Words t.config (crown_of t) i c.args.seen z c.args.slots.now) (sym c.after_word-self.ensures)
     (words-on t.config (crown_of t) i n.result n.ensures.after n.ensures.within c.args.seen k.stage k.scene c.args.slots.now k.config k.good hears (subst (λ z. crown_facts (crown_of t) z k.stage k.scene) c.in-Word.is k.holds)) in
     let e : EndsWell t.upper t.lower c.args.seen t.phase c.after_word-self.result c.args.slots.now = subst (λ z. EndsWell t.upper t.lower c.args.seen z c.after_word-self.result c.args.slots.now) (sym c.in-Word.is) b.ends in
+    let m : Counts t.config (crown_of t) t.phase c.after_word-self.result c.args.seen = counts t.config (crown_of t) t.phase c.after_word-self.result c.args.seen (ap crown_swaps c.in-Word.is) (ap (λ z. swaps_in (crown_asks t.config (crown_of t) z)) c.in-Word.is) c.requires.hears in
     record {
       config = refl;
       upper = refl;
@@ -151,6 +164,8 @@ returns-in-Word c =
       ready = subst (IsReadyCrown t.config (kept-of t i v)) (sym c.after_word-self.ensures)
           (word-ready t.config (crown_of t) (slice_set t.read.0 i v) n.result (subst (IsReadyCrown t.config (crown_of t)) c.after_word-self.ensures b.ready));
       nearer = omega (arith, b.nearer, ap crown_left c.in-Word.is);
+      fewer = m.fewer;
+      counted = λ z. m.counted;
       slots = takes-none t.phase c.after_word-self.result c.args.slots.now (omega (arith, b.fewer, ap crown_needs c.in-Word.is));
       done = e.done;
       restart = e.restart;

@@ -1,11 +1,12 @@
-use Rattle.std.proofs.Common.{◌≡◌, sym, subst}
+use Rattle.std.proofs.Common.{◌≡◌, sym, ap, subst}
 use Rattle.bz_layout.specs.Config.{IsConfig}
-use Rattle.bz_task.specs.Requests.{Hears}
+use Rattle.bz_task.specs.Requests.{Hears, swaps_in}
 use Rattle.bz_task.specs.declared.todo.Seen.TheVariants.{Stored, Flushed}
 use Rattle.bz_fork.specs.Duties.{fork_of}
-use Rattle.bz_fork.specs.Facts.{fork_asks, fork_facts, store_after, flush_after}
+use Rattle.bz_fork.specs.Facts.{fork_asks, fork_facts, fork_swaps, store_after, flush_after}
 use Rattle.bz_fork.specs.declared.phase.Phase.TheVariants.{Store, Flush, Swap}
-use Rattle.bz_fork.proofs.Ends.{Afters, heard-stored, heard-flushed, stored-after, flushed-after, is-swap, swapped-after, swapped-ready, swapped-learns}
+use Rattle.bz_fork.proofs.Counting.{Counts, counts}
+use Rattle.bz_fork.proofs.Ends.{Afters, heard-stored, heard-flushed, stored-after, flushed-after, is-swap, swapped-after, swapped-fewer, swapped-counted, swapped-ready, swapped-learns}
 use Rattle.bz_fork.proofs.Writing.{store-ready, store-learns, store-within, flush-ready, flush-learns, flush-within}
 use Rattle.bz_fork.proofs.split_inner.SplitInner.after.Goals as goal
 
@@ -17,8 +18,11 @@ returns-in-Store c =
     let seen : c.args.seen ≡ Stored = heard-stored t.config (fork_of t) j c.args.seen (subst (λ z. Hears (fork_asks t.config (fork_of t) z) c.args.seen) c.in-Store.is c.requires.hears) in
     let a : Afters t.phase c.after_store.result c.args.seen = subst (λ z. Afters z c.after_store.result c.args.seen) (sym c.in-Store.is)
     (subst (λ z. Afters (Store j) z c.args.seen) (sym c.after_store.ensures) (subst (λ z. Afters (Store j) (store_after j) z) (sym seen) (stored-after j (store-within (fork_of t) j k.stage k.scene (subst (λ z. fork_facts (fork_of t) z k.stage k.scene) c.in-Store.is k.holds))))) in
+    let m : Counts t.config (fork_of t) t.phase c.after_store.result c.args.seen = counts t.config (fork_of t) t.phase c.after_store.result c.args.seen (ap fork_swaps c.in-Store.is) (ap (λ z. swaps_in (fork_asks t.config (fork_of t) z)) c.in-Store.is) c.requires.hears in
     record {
       nearer = a.nearer;
+      fewer = m.fewer;
+      counted = λ z. m.counted;
       needs = a.needs;
       done = a.done;
       restart = a.restart;
@@ -38,8 +42,11 @@ returns-in-Flush c =
     let seen : c.args.seen ≡ Flushed = heard-flushed t.config (fork_of t) j c.args.seen (subst (λ z. Hears (fork_asks t.config (fork_of t) z) c.args.seen) c.in-Flush.is c.requires.hears) in
     let a : Afters t.phase c.after_flush.result c.args.seen = subst (λ z. Afters z c.after_flush.result c.args.seen) (sym c.in-Flush.is)
     (subst (λ z. Afters (Flush j) z c.args.seen) (sym c.after_flush.ensures) (subst (λ z. Afters (Flush j) (flush_after j) z) (sym seen) (flushed-after j (flush-within (fork_of t) j k.stage k.scene (subst (λ z. fork_facts (fork_of t) z k.stage k.scene) c.in-Flush.is k.holds))))) in
+    let m : Counts t.config (fork_of t) t.phase c.after_flush.result c.args.seen = counts t.config (fork_of t) t.phase c.after_flush.result c.args.seen (ap fork_swaps c.in-Flush.is) (ap (λ z. swaps_in (fork_asks t.config (fork_of t) z)) c.in-Flush.is) c.requires.hears in
     record {
       nearer = a.nearer;
+      fewer = m.fewer;
+      counted = λ z. m.counted;
       needs = a.needs;
       done = a.done;
       restart = a.restart;
@@ -59,6 +66,8 @@ returns-in_default c =
     let a : Afters t.phase c.after_swap.result c.args.seen = swapped-after t.config (fork_of t) t.phase c.after_swap.result c.args.seen is c.after_swap.ensures c.requires.hears in
     record {
       nearer = a.nearer;
+      fewer = swapped-fewer t.config (fork_of t) t.phase c.after_swap.result c.args.seen is c.after_swap.ensures;
+      counted = swapped-counted t.config (fork_of t) t.phase c.after_swap.result c.args.seen is c.after_swap.ensures;
       needs = a.needs;
       done = a.done;
       restart = a.restart;

@@ -1,5 +1,5 @@
 use Rattle.std.proofs.Common.{◌≡◌, ◌<◌, ℕ, slice_index, slice_set, sym, ap, subst, ◌∙◌, refl, arith, inl, Some}
-use Rattle.bz_task.specs.Requests.{Hears, Tells}
+use Rattle.bz_task.specs.Requests.{Hears, Tells, swaps_in}
 use Rattle.bz_layout.specs.Config.{IsConfig}
 use Rattle.bz_layout.specs.declared.sizes.TheConstants.{NODE_WORDS}
 use Rattle.bz_layout.specs.declared.thresholds.TheConstants.{SPLIT_SLOTS}
@@ -7,9 +7,10 @@ use Rattle.bz_task.specs.OwnActs.{AreTakenFrom, gained}
 use Rattle.bz_task.specs.Scene.{Waiting}
 use Rattle.bz_task.specs.declared.todo.Todo.TheVariants.{Read as Reads}
 use Rattle.bz_fork.specs.Duties.{fork_of, three}
-use Rattle.bz_fork.specs.Facts.{Fork, fork_facts, fork_asks, fork_needs, fork_left, word_after, above_after, IsReadyFork}
+use Rattle.bz_fork.specs.Facts.{Fork, fork_facts, fork_asks, fork_needs, fork_left, fork_swaps, word_after, above_after, IsReadyFork}
 use Rattle.bz_fork.specs.declared.phase.Phase.TheVariants.{Fresh, Word, Again, Above, Check, Guard}
 use Rattle.bz_fork.specs.declared.split_inner.SplitInner.{SplitInner}
+use Rattle.bz_fork.proofs.Counting.{Counts, counts}
 use Rattle.bz_fork.proofs.Ending.{EndsWell, ends-well, first-ends, takes-none}
 use Rattle.bz_fork.proofs.Telling.{Tolds, tolds, told-learns, has-node}
 use Rattle.bz_fork.proofs.Looking.{Looks, looks, looked-learns, planned-place}
@@ -48,6 +49,7 @@ returns-in-Again c =
     let hears : Hears (fork_asks t.config (fork_of t) Again) c.args.seen = subst (λ z. Hears (fork_asks t.config (fork_of t) z) c.args.seen) c.in-Again.is c.requires.hears in
     let b : Ons (fork_of t) t.config c.args.seen c.read_on-self.result c.args.slots.now = reads (fork_of t) t.config c.args.seen c.read_on-self.result c.args.slots.now k.stage k.scene k.config k.good (subst (λ z. fork_facts (fork_of t) z k.stage k.scene) c.in-Again.is k.holds) hears c.read_on-self.ensures in
     let e : EndsWell t.upper t.middle t.lower c.args.seen t.phase c.read_on-self.result c.args.slots.now = subst (λ z. EndsWell t.upper t.middle t.lower c.args.seen z c.read_on-self.result c.args.slots.now) (sym c.in-Again.is) b.ends in
+    let m : Counts t.config (fork_of t) t.phase c.read_on-self.result c.args.seen = counts t.config (fork_of t) t.phase c.read_on-self.result c.args.seen (ap fork_swaps c.in-Again.is) (ap (λ z. swaps_in (fork_asks t.config (fork_of t) z)) c.in-Again.is) c.requires.hears in
     record {
       config = refl;
       upper = refl;
@@ -56,6 +58,8 @@ returns-in-Again c =
       begun = b.begun;
       ready = b.ready;
       nearer = omega (arith, b.nearer, ap fork_left c.in-Again.is);
+      fewer = m.fewer;
+      counted = λ z. m.counted;
       slots = takes-none t.phase c.read_on-self.result c.args.slots.now (omega (arith, b.fewer, ap fork_needs c.in-Again.is));
       done = e.done;
       restart = e.restart;
@@ -76,6 +80,7 @@ returns-in-Check c =
     let b : Tolds (fork_of t) t.config c.args.seen c.told-self.result c.args.slots.now = tolds (fork_of t) t.config c.args.seen c.told-self.result c.args.slots.now hears c.told-self.ensures in
     let needed : fork_needs t.phase ≡ SPLIT_SLOTS = ap fork_needs c.in-Check.is in
     let ends : EndsWell t.upper t.middle t.lower c.args.seen t.phase c.told-self.result c.args.slots.now = subst (λ z. EndsWell t.upper t.middle t.lower c.args.seen z c.told-self.result c.args.slots.now) (sym c.in-Check.is) b.ends in
+    let m : Counts t.config (fork_of t) t.phase c.told-self.result c.args.seen = counts t.config (fork_of t) t.phase c.told-self.result c.args.seen (ap fork_swaps c.in-Check.is) (ap (λ z. swaps_in (fork_asks t.config (fork_of t) z)) c.in-Check.is) c.requires.hears in
     record {
       config = refl;
       upper = refl;
@@ -84,6 +89,8 @@ returns-in-Check c =
       begun = b.begun;
       ready = b.ready;
       nearer = omega (arith, b.nearer, ap fork_left c.in-Check.is);
+      fewer = m.fewer;
+      counted = λ z. m.counted;
       slots = subst (λ z. AreTakenFrom z (fork_needs c.told-self.result) c.args.slots.now c.args.slots.now) (sym needed) b.taken;
       done = ends.done;
       restart = ends.restart;
@@ -110,6 +117,7 @@ returns-in-Guard c =
     (subst (λ z. Hears (Some (Reads z.guard)) c.args.seen) (sym e.upper) hears) e.looked (nodes ∙ ap (λ z. z.nodes) (sym e.config)) in
     let ends : EndsWell t.upper t.middle t.lower c.args.seen t.phase new.phase c.args.slots.now = subst (λ z. EndsWell t.upper t.middle t.lower c.args.seen z new.phase c.args.slots.now) (sym c.in-Guard.is)
     (subst (λ z. EndsWell z t.middle t.lower c.args.seen Guard new.phase c.args.slots.now) e.upper (subst (λ z. EndsWell new.upper z t.lower c.args.seen Guard new.phase c.args.slots.now) e.middle (subst (λ z. EndsWell new.upper new.middle z c.args.seen Guard new.phase c.args.slots.now) e.lower b.ends))) in
+    let m : Counts t.config (fork_of t) t.phase new.phase c.args.seen = counts t.config (fork_of t) t.phase new.phase c.args.seen (ap fork_swaps c.in-Guard.is) (ap (λ z. swaps_in (fork_asks t.config (fork_of t) z)) c.in-Guard.is) c.requires.hears in
     record {
       config = e.config;
       upper = e.upper;
@@ -118,6 +126,8 @@ returns-in-Guard c =
       begun = b.begun;
       ready = b.ready;
       nearer = omega (arith, b.nearer, ap fork_left c.in-Guard.is);
+      fewer = m.fewer;
+      counted = λ z. m.counted;
       slots = subst (λ z. AreTakenFrom z (fork_needs new.phase) c.args.slots.now left) (sym needed) b.taken;
       done = ends.done;
       restart = ends.restart;
@@ -143,6 +153,8 @@ returns-in_default c =
       begun = a.begun;
       ready = a.ready;
       nearer = a.nearer;
+      fewer = a.fewer;
+      counted = a.counted;
       slots = takes-none t.phase c.after-self.result c.args.slots.now (omega (arith, a.needs));
       done = e.done;
       restart = e.restart;
@@ -158,6 +170,7 @@ returns-in-Fresh c =
     let k = c.requires.known in
     let hears : Hears (fork_asks t.config (fork_of t) Fresh) c.args.seen = subst (λ z. Hears (fork_asks t.config (fork_of t) z) c.args.seen) c.in-Fresh.is c.requires.hears in
     let e : EndsWell t.upper t.middle t.lower c.args.seen t.phase (Word 1) c.args.slots.now = subst (λ z. EndsWell t.upper t.middle t.lower c.args.seen z (Word 1) c.args.slots.now) (sym c.in-Fresh.is) (first-ends t.config (fork_of t) c.args.seen c.args.slots.now hears) in
+    let m : Counts t.config (fork_of t) t.phase (Word 1) c.args.seen = counts t.config (fork_of t) t.phase (Word 1) c.args.seen (ap fork_swaps c.in-Fresh.is) (ap (λ z. swaps_in (fork_asks t.config (fork_of t) z)) c.in-Fresh.is) c.requires.hears in
     record {
       config = refl;
       upper = refl;
@@ -166,6 +179,8 @@ returns-in-Fresh c =
       begun = λ z. absurd (cc);
       ready = fresh-ready t.config (fork_of t) c.args.seen k.stage k.scene k.config k.good (subst (λ z. fork_facts (fork_of t) z k.stage k.scene) c.in-Fresh.is k.holds);
       nearer = omega (arith, ap fork_left c.in-Fresh.is);
+      fewer = m.fewer;
+      counted = λ z. m.counted;
       slots = takes-none t.phase (Word 1) c.args.slots.now (omega (arith, ap fork_needs c.in-Fresh.is));
       done = e.done;
       restart = e.restart;
@@ -188,6 +203,7 @@ returns-in-Word c =
     let b : Words t.config (fork_of t) i c.args.seen c.after_word-self.result c.args.slots.now = subst (λ z. Words t.config (fork_of t) i c.args.seen z c.args.slots.now) (sym c.after_word-self.ensures)
     (words-on t.config (fork_of t) i n.result n.ensures.after n.ensures.within c.args.seen k.stage k.scene c.args.slots.now k.config k.good hears (subst (λ z. fork_facts (fork_of t) z k.stage k.scene) c.in-Word.is k.holds)) in
     let e : EndsWell t.upper t.middle t.lower c.args.seen t.phase c.after_word-self.result c.args.slots.now = subst (λ z. EndsWell t.upper t.middle t.lower c.args.seen z c.after_word-self.result c.args.slots.now) (sym c.in-Word.is) b.ends in
+    let m : Counts t.config (fork_of t) t.phase c.after_word-self.result c.args.seen = counts t.config (fork_of t) t.phase c.after_word-self.result c.args.seen (ap fork_swaps c.in-Word.is) (ap (λ z. swaps_in (fork_asks t.config (fork_of t) z)) c.in-Word.is) c.requires.hears in
     record {
       config = refl;
       upper = refl;
@@ -197,6 +213,8 @@ returns-in-Word c =
       ready = subst (IsReadyFork t.config (kept-of t i v)) (sym c.after_word-self.ensures)
           (word-ready t.config (fork_of t) (slice_set t.read.0 i v) n.result (subst (IsReadyFork t.config (fork_of t)) c.after_word-self.ensures b.ready));
       nearer = omega (arith, b.nearer, ap fork_left c.in-Word.is);
+      fewer = m.fewer;
+      counted = λ z. m.counted;
       slots = takes-none t.phase c.after_word-self.result c.args.slots.now (omega (arith, b.fewer, ap fork_needs c.in-Word.is));
       done = e.done;
       restart = e.restart;
@@ -220,6 +238,7 @@ returns-in-Above c =
     let b : Aboves t.config (fork_of t) i c.args.seen c.after_above-self.result c.args.slots.now = subst (λ z. Aboves t.config (fork_of t) i c.args.seen z c.args.slots.now) (sym c.after_above-self.ensures)
     (aboves-on t.config (fork_of t) i n.result n.ensures.after n.ensures.within c.args.seen k.stage k.scene c.args.slots.now k.config k.good hears (subst (λ z. fork_facts (fork_of t) z k.stage k.scene) c.in-Above.is k.holds)) in
     let e : EndsWell t.upper t.middle t.lower c.args.seen t.phase c.after_above-self.result c.args.slots.now = subst (λ z. EndsWell t.upper t.middle t.lower c.args.seen z c.after_above-self.result c.args.slots.now) (sym c.in-Above.is) b.ends in
+    let m : Counts t.config (fork_of t) t.phase c.after_above-self.result c.args.seen = counts t.config (fork_of t) t.phase c.after_above-self.result c.args.seen (ap fork_swaps c.in-Above.is) (ap (λ z. swaps_in (fork_asks t.config (fork_of t) z)) c.in-Above.is) c.requires.hears in
     record {
       config = refl;
       upper = refl;
@@ -229,6 +248,8 @@ returns-in-Above c =
       ready = subst (IsReadyFork t.config (kept-above t i v)) (sym c.after_above-self.ensures)
           (above-ready t.config (fork_of t) (slice_set t.above.0 i v) n.result (subst (IsReadyFork t.config (fork_of t)) c.after_above-self.ensures b.ready));
       nearer = omega (arith, b.nearer, ap fork_left c.in-Above.is);
+      fewer = m.fewer;
+      counted = λ z. m.counted;
       slots = takes-none t.phase c.after_above-self.result c.args.slots.now (omega (arith, b.fewer, ap fork_needs c.in-Above.is));
       done = e.done;
       restart = e.restart;

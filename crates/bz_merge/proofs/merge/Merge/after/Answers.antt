@@ -3,8 +3,9 @@ use Rattle.bz_layout.specs.Config.{IsConfig}
 use Rattle.bz_task.specs.Requests.{Hears}
 use Rattle.bz_merge.specs.Duties.{merging_of}
 use Rattle.bz_merge.specs.Facts.{merge_asks}
+use Rattle.bz_merge.proofs.Counting.{is-thawed, stored-fewer, stored-counted, flushed-fewer, flushed-counted}
 use Rattle.bz_merge.proofs.Ready.{ready-of}
-use Rattle.bz_merge.proofs.Swapping.{swapping-of, store-seen, flush-seen, swap-plain, comes, learns-swapped}
+use Rattle.bz_merge.proofs.Swapping.{swapping-of, store-seen, flush-seen, swap-plain, comes, comes-fewer, learns-swapped}
 use Rattle.bz_merge.proofs.Writing.{store-learns, flush-learns}
 use Rattle.bz_merge.proofs.merge.Merge.after.Goals as goal
 
@@ -16,6 +17,12 @@ after_swap-requires c =
       hears = c.requires.hears;
       plain = swap-plain (merging_of t) t.phase k.stage k.scene k.holds;
     }
+
+pub returns-in-Store-clause-fewer : goal.returns-in-Store-clause-fewer
+returns-in-Store-clause-fewer c = let t = c.args.self.now in stored-fewer t.config (merging_of t) t.phase c.after_store.result c.in-Store.j c.in-Store.is c.after_store.ensures
+
+pub returns-in-Store-clause-counted : goal.returns-in-Store-clause-counted
+returns-in-Store-clause-counted c e = let t = c.args.self.now in stored-counted t.config (merging_of t) t.phase c.after_store.result c.in-Store.j c.args.seen c.in-Store.is c.after_store.ensures c.requires.hears
 
 pub returns-in-Store-clause-ready : goal.returns-in-Store-clause-ready
 returns-in-Store-clause-ready c =
@@ -29,6 +36,12 @@ returns-in-Store-clause-learns c stage s same good f told =
     let t = c.args.self.now in
     let seen = store-seen t.config (merging_of t) c.in-Store.j c.args.seen (subst (λ z. Hears (merge_asks t.config (merging_of t) z) c.args.seen) c.in-Store.is c.requires.hears) in
     store-learns t.config (merging_of t) t.phase c.after_store.result c.args.seen stage s f told c.in-Store.j c.in-Store.is seen c.after_store.ensures
+
+pub returns-in-Flush-clause-fewer : goal.returns-in-Flush-clause-fewer
+returns-in-Flush-clause-fewer c = let t = c.args.self.now in flushed-fewer t.config (merging_of t) t.phase c.after_flush.result c.in-Flush.j c.in-Flush.is c.after_flush.ensures
+
+pub returns-in-Flush-clause-counted : goal.returns-in-Flush-clause-counted
+returns-in-Flush-clause-counted c e = let t = c.args.self.now in flushed-counted t.config (merging_of t) t.phase c.after_flush.result c.in-Flush.j c.args.seen c.in-Flush.is c.after_flush.ensures c.requires.hears
 
 pub returns-in-Flush-clause-ready : goal.returns-in-Flush-clause-ready
 returns-in-Flush-clause-ready c =
@@ -48,9 +61,11 @@ returns-in_default c =
     let t = c.args.self.now in
     let k = c.requires.known in
     let w = swapping-of t.phase c.requires.begun c.in_default.not-Store c.in_default.not-Flush in
-    let h = comes (merging_of t) t.phase c.args.seen c.after_swap.result w c.after_swap.ensures in
+    let h = comes (merging_of t) t.phase c.args.seen c.after_swap.result w (is-thawed (merging_of t) t.phase k.stage k.scene k.holds) c.after_swap.ensures in
     record {
       nearer = h.nearer;
+      fewer = comes-fewer t.config (merging_of t) t.phase c.args.seen c.after_swap.result w h;
+      counted = h.counted;
       needs = h.needs;
       done = h.done;
       restart = h.restart;

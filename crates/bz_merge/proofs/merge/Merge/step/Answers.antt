@@ -1,10 +1,12 @@
-use Rattle.std.proofs.Common.{◌≡◌, slice_index, slice_set, sym, ap, subst, refl, arith, inl, inr}
+use Rattle.std.proofs.Common.{◌≡◌, slice_index, slice_set, sym, ap, subst, refl, arith, ◌∙◌, inl, inr}
 use Rattle.bz_task.specs.Requests.{Hears, Tells}
 use Rattle.bz_task.specs.OwnActs.{gained}
 use Rattle.bz_task.specs.Scene.{Waiting}
 use Rattle.bz_merge.specs.Duties.{merging_of, two}
 use Rattle.bz_merge.specs.Facts.{merge_asks, merge_end, merge_facts, merge_differs, merge_needs, word_after, beside_after}
-use Rattle.bz_merge.specs.declared.phase.Phase.TheVariants.{Word}
+use Rattle.bz_merge.specs.Counts.{merge_made}
+use Rattle.bz_merge.specs.declared.phase.Phase.TheVariants.{Fresh, Word, Again, Beside, Parent, Still}
+use Rattle.bz_merge.proofs.Counting.{choosing-fewer, choosing-counted, word-none, beside-none, told-none, settled-none, looked-fewer, looked-counted}
 use Rattle.bz_merge.proofs.Ending.{ends-done, ends-restart, ends-no-swap, ends-no-slot}
 use Rattle.bz_merge.proofs.Looking.{with_nodes, look-may, looked-learns, looked-restarts}
 use Rattle.bz_merge.proofs.Reading.{with_read, with_beside, fresh-known, word-known, beside-known}
@@ -136,6 +138,71 @@ returns-in-Guard-clause-learns c stage s same good free facts tells =
     (c.requires.memory (omega (arith, ap merge_needs c.in-Guard.is))) stage s same good (free (omega (arith, ap merge_needs c.in-Guard.is)))
     (subst (λ z. merge_facts (merging_of o) z stage s) c.in-Guard.is facts) (subst (λ z. Tells (merge_asks o.config (merging_of o) z) stage c.args.seen s) c.in-Guard.is tells)
 
+-- how many swaps are still asked for, and how many took effect
+pub returns-in-Fresh-clause-fewer : goal.returns-in-Fresh-clause-fewer
+returns-in-Fresh-clause-fewer c = let t = c.args.self.now in choosing-fewer t.config (merging_of t) t.phase Fresh (Word 1) c.in-Fresh.is tt
+
+pub returns-in-Fresh-clause-counted : goal.returns-in-Fresh-clause-counted
+returns-in-Fresh-clause-counted c e =
+    let t = c.args.self.now in
+    choosing-counted t.config (merging_of t) (merging_of t) t.phase Fresh (Word 1) c.args.seen c.in-Fresh.is tt refl c.requires.hears
+
+pub returns-in-Word-clause-fewer : goal.returns-in-Word-clause-fewer
+returns-in-Word-clause-fewer c = let t = c.args.self.now in choosing-fewer t.config (merging_of t) t.phase (Word c.in-Word.i) c.after_word-self.result c.in-Word.is tt
+
+pub returns-in-Word-clause-counted : goal.returns-in-Word-clause-counted
+returns-in-Word-clause-counted c e =
+    let t = c.args.self.now in
+    let r = with_read (merging_of t) (slice_set t.read.0 c.in-Word.i c.word_in.result) in
+    choosing-counted t.config (merging_of t) r t.phase (Word c.in-Word.i) c.after_word-self.result c.args.seen c.in-Word.is tt (ap (merge_made r) c.after_word-self.ensures ∙ word-none r c.next_place.result) c.requires.hears
+
+pub returns-in-Again-clause-fewer : goal.returns-in-Again-clause-fewer
+returns-in-Again-clause-fewer c = let t = c.args.self.now in choosing-fewer t.config (merging_of t) t.phase Again c.told-next.result.phase c.in-Again.is tt
+
+pub returns-in-Again-clause-counted : goal.returns-in-Again-clause-counted
+returns-in-Again-clause-counted c e =
+    let t = c.args.self.now in
+    let r = with_side (merging_of t) c.told-next.result.side in
+    choosing-counted t.config (merging_of t) r t.phase Again c.told-next.result.phase c.args.seen c.in-Again.is tt (told-none (merging_of t) r c.args.seen c.told-next.result.side c.told-next.result.phase c.told-next.ensures) c.requires.hears
+
+pub returns-in-Beside-clause-fewer : goal.returns-in-Beside-clause-fewer
+returns-in-Beside-clause-fewer c = let t = c.args.self.now in choosing-fewer t.config (merging_of t) t.phase (Beside c.in-Beside.i) c.after_beside-self.result c.in-Beside.is tt
+
+pub returns-in-Beside-clause-counted : goal.returns-in-Beside-clause-counted
+returns-in-Beside-clause-counted c e =
+    let t = c.args.self.now in
+    let r = with_beside (merging_of t) c.with_word-self.result.0 in
+    choosing-counted t.config (merging_of t) r t.phase (Beside c.in-Beside.i) c.after_beside-self.result c.args.seen c.in-Beside.is tt (ap (merge_made r) c.after_beside-self.ensures ∙ beside-none r c.next_place-in-Beside.result) c.requires.hears
+
+pub returns-in-Parent-clause-fewer : goal.returns-in-Parent-clause-fewer
+returns-in-Parent-clause-fewer c = let t = c.args.self.now in choosing-fewer t.config (merging_of t) t.phase Parent c.checked-self.result c.in-Parent.is tt
+
+pub returns-in-Parent-clause-counted : goal.returns-in-Parent-clause-counted
+returns-in-Parent-clause-counted c e =
+    let t = c.args.self.now in
+    let none : merge_made (merging_of t) c.checked-self.result ≡ 0 = elim c.checked-self.ensures [ inl g ↦ ap (merge_made (merging_of t)) g.1 | inr g ↦ ap (merge_made (merging_of t)) g.1 ] in
+    choosing-counted t.config (merging_of t) (merging_of t) t.phase Parent c.checked-self.result c.args.seen c.in-Parent.is tt none c.requires.hears
+
+pub returns-in-Still-clause-fewer : goal.returns-in-Still-clause-fewer
+returns-in-Still-clause-fewer c = let t = c.args.self.now in choosing-fewer t.config (merging_of t) t.phase Still c.settled-next.result.phase c.in-Still.is tt
+
+pub returns-in-Still-clause-counted : goal.returns-in-Still-clause-counted
+returns-in-Still-clause-counted c e =
+    let t = c.args.self.now in
+    choosing-counted t.config (merging_of t) (with_side (merging_of t) c.settled-next.result.side) t.phase Still c.settled-next.result.phase c.args.seen c.in-Still.is tt (settled-none (merging_of t) c.args.seen c.settled-next.result.side c.settled-next.result.phase c.settled-next.ensures.settled) c.requires.hears
+
+pub returns-in-Guard-clause-fewer : goal.returns-in-Guard-clause-fewer
+returns-in-Guard-clause-fewer c =
+    let t = c.args.self.now in
+    let n = c.look.new.self in
+    looked-fewer t.config (merging_of t) (merging_of n) t.phase n.phase c.args.seen c.args.slots.now c.look.new.slots c.in-Guard.is c.look.ensures.looked
+
+pub returns-in-Guard-clause-counted : goal.returns-in-Guard-clause-counted
+returns-in-Guard-clause-counted c =
+    let t = c.args.self.now in
+    let n = c.look.new.self in
+    looked-counted t.config (merging_of t) (merging_of n) t.phase n.phase c.args.seen c.args.slots.now c.look.new.slots c.in-Guard.is c.look.ensures.looked c.look.ensures.status (ap (λ z. z.0) c.look.ensures.beside) c.requires.hears
+
 pub returns-in_default : goal.returns-in_default
 returns-in_default c =
     let t = c.args.self.now in
@@ -149,6 +216,8 @@ returns-in_default c =
       begun = a.begun;
       ready = a.ready;
       nearer = a.nearer;
+      fewer = a.fewer;
+      counted = a.counted;
       slots = inr (record { fewer = a.needs; slots = refl });
       done = (λ q. a.done (ends-done c.after-self.result q));
       restart = (λ q. inl (a.restart (ends-restart c.after-self.result q)));

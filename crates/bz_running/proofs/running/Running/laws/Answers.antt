@@ -1,5 +1,5 @@
 use Rattle.bz_running.proofs.Heights.{filled-up}
-use Rattle.bz_running.proofs.Statements.{takes-few, wants-few}
+use Rattle.bz_running.proofs.Statements.{takes-few, wants-few, publishes-last}
 use Rattle.bz_running.proofs.running.Running.laws.Goals as goal
 
 pub returns : goal.returns
@@ -10,6 +10,7 @@ returns c = let l = c.learnt.ensures in let a = c.acted.ensures in record {
   few = takes-few c.consolidations_take_one_slot.ensures c.merges_take_two_slots.ensures c.args.self.now l.few;
   most = wants-few c.args.self.now;
   once = l.once;
+  last = publishes-last c.args.self.now;
   ends = l.ends;
   height = filled-up c.ascents_end.ensures c.args.self.now l.ends;
   effect = a.effect;

@@ -1,13 +1,14 @@
 use Rattle.std.proofs.Common.{◌≡◌, sym, ap, subst, ◌∙◌, refl, arith, inr, Some}
-use Rattle.bz_task.specs.Requests.{Hears, Tells}
+use Rattle.bz_task.specs.Requests.{Hears, Tells, swaps_in}
 use Rattle.bz_layout.specs.Config.{IsConfig}
 use Rattle.bz_layout.specs.declared.thresholds.TheConstants.{SPLIT_SLOTS}
 use Rattle.bz_task.specs.OwnActs.{AreTakenFrom}
 use Rattle.bz_task.specs.declared.path.Link.{Link}
 use Rattle.bz_task.specs.declared.todo.Todo.TheVariants.{Read as Reads}
 use Rattle.bz_split.specs.Duties.{split_of}
-use Rattle.bz_split.specs.Facts.{split_facts, split_asks, split_needs, split_left}
+use Rattle.bz_split.specs.Facts.{split_facts, split_asks, split_needs, split_left, split_swaps}
 use Rattle.bz_split.specs.declared.phase.Phase.TheVariants.{Guard}
+use Rattle.bz_split.proofs.Counting.{Counts, counts}
 use Rattle.bz_split.proofs.Knowing.{EndsWell, Looks, ends-well, first-ends, takes-none, looks, looked-learns, fresh-known}
 use Rattle.bz_split.proofs.Staying.{no-slot}
 use Rattle.bz_split.proofs.split_root.SplitRoot.step.Goals as goal
@@ -24,6 +25,8 @@ returns-in_default c =
       begun = a.begun;
       ready = a.ready;
       nearer = a.nearer;
+      fewer = a.fewer;
+      counted = a.counted;
       slots = takes-none c.args.self.now.phase c.after-self.result c.args.slots.now a.begun a.looked;
       done = e.done;
       restart = e.restart;
@@ -39,6 +42,7 @@ returns-in-Fresh c =
     let t = c.args.self.now in
     let e : EndsWell t.link c.args.seen t.phase Guard c.args.slots.now = subst (λ z. EndsWell t.link c.args.seen z Guard c.args.slots.now) (sym c.in-Fresh.is) (first-ends t.config (split_of t) c.args.seen c.args.slots.now
     (subst (λ z. Hears (split_asks t.config (split_of t) z) c.args.seen) c.in-Fresh.is c.requires.hears)) in
+    let n : Counts t.config (split_of t) t.phase Guard c.args.seen = counts t.config (split_of t) t.phase Guard c.args.seen (ap split_swaps c.in-Fresh.is) (ap (λ z. swaps_in (split_asks t.config (split_of t) z)) c.in-Fresh.is) c.requires.hears in
     record {
       config = refl;
       link = refl;
@@ -47,6 +51,8 @@ returns-in-Fresh c =
       begun = λ z. absurd (cc);
       ready = tt;
       nearer = omega (arith, ap split_left c.in-Fresh.is);
+      fewer = n.fewer;
+      counted = λ z. n.counted;
       slots = inr (record { fewer = omega (arith, ap split_needs c.in-Fresh.is); slots = refl });
       done = e.done;
       restart = e.restart;
@@ -72,6 +78,7 @@ returns-in-Guard c =
     let b : Looks (split_of new) new.config c.args.seen new.phase c.args.slots.now left = looks (split_of new) new.config c.args.seen new.phase c.args.slots.now left
     (subst (λ (z : Link). Hears (Some (Reads z.guard)) c.args.seen) (sym e.link) hears) e.looked (nodes ∙ ap (λ z. z.nodes) (sym e.config)) in
     let ends : EndsWell t.link c.args.seen t.phase new.phase c.args.slots.now = subst (λ z. EndsWell t.link c.args.seen z new.phase c.args.slots.now) (sym c.in-Guard.is) (subst (λ z. EndsWell z c.args.seen Guard new.phase c.args.slots.now) e.link b.ends) in
+    let n : Counts t.config (split_of t) t.phase new.phase c.args.seen = counts t.config (split_of t) t.phase new.phase c.args.seen (ap split_swaps c.in-Guard.is) (ap (λ z. swaps_in (split_asks t.config (split_of t) z)) c.in-Guard.is) c.requires.hears in
     record {
       config = e.config;
       link = e.link;
@@ -80,6 +87,8 @@ returns-in-Guard c =
       begun = b.begun;
       ready = b.ready;
       nearer = omega (arith, b.nearer, ap split_left c.in-Guard.is);
+      fewer = n.fewer;
+      counted = λ z. n.counted;
       slots = subst (λ z. AreTakenFrom z (split_needs new.phase) c.args.slots.now left) (sym needed) b.taken;
       done = ends.done;
       restart = ends.restart;

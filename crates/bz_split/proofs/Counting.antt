@@ -1,0 +1,30 @@
+-- How many swaps a split still asks for, and that none takes effect where none was asked for.
+use Rattle.std.proofs.Common.{◌≡◌, ◌+◌, ◌≤◌, true, arith}
+use Rattle.std.specs.Prelude.{Option, Some}
+use Rattle.bz_layout.specs.declared.config.Config.{Config}
+use Rattle.bz_task.specs.Requests.{Hears, swaps_in, effects_in}
+use Rattle.bz_task.specs.declared.todo.Seen.{Seen}
+use Rattle.bz_task.specs.declared.todo.Seen.TheVariants.{Swapped}
+use Rattle.bz_task.specs.declared.todo.Todo.{Todo}
+use Rattle.bz_task.specs.declared.todo.Todo.TheVariants.{Swap as Swaps_for}
+use Rattle.bz_split.specs.Facts.{Split, split_asks, split_swaps}
+use Rattle.bz_split.specs.declared.phase.Phase.{Phase}
+use Rattle.bz_split.specs.declared.phase.Phase.TheVariants.{Done}
+
+-- an answer tells of an effect only where a swap was asked for
+pub heard-effects : (asked : Option Todo) (seen : Seen) → Hears asked seen → effects_in seen ≤ swaps_in asked
+heard-effects (Some (Swaps_for entries)) (Swapped true) h = omega arith
+heard-effects asked (Swapped true) h = absurd (h)
+heard-effects asked seen h = omega arith
+
+swaps-few : (p : Phase) → split_swaps p ≤ 1
+swaps-few Done = omega arith
+swaps-few p = omega arith
+
+-- after an act that is no swap no more swaps are asked for than before it, and none took effect
+pub record Counts (c : Config) (r : Split) (o p : Phase) (seen : Seen) : Type 0 where
+  pub fewer : split_swaps p + swaps_in (split_asks c r o) ≤ split_swaps o
+  pub counted : effects_in seen ≡ 0
+
+pub counts : (c : Config) (r : Split) (o p : Phase) (seen : Seen) → split_swaps o ≡ 1 → swaps_in (split_asks c r o) ≡ 0 → Hears (split_asks c r o) seen → Counts c r o p seen
+counts c r o p seen one none h = record { fewer = omega (arith, swaps-few p, one, none); counted = omega (arith, heard-effects (split_asks c r o) seen h, none) }
