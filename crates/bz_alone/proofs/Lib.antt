@@ -23,3 +23,5 @@ mod Merging
 mod Tasks
 mod Trees
 mod Leads
+mod Ways
+mod Brief

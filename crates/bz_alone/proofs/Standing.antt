@@ -56,3 +56,6 @@ module _ (values : ReadValuesStand) (s : Scene) (good : IsScene s) (m : ℕ) (q 
 
     pub guard-stood : (i : ℕ) → m ≤ i → i ≤ s.past.now → (s.past.at i).value link.guard ≡ link.status
     guard-stood i later until = sym (now-as g.guarded i link.guard from (omega (arith, g.order, g.now)) guard-read later until) ∙ guard-stands
+
+    pub link-stood : (i : ℕ) → m ≤ i → i ≤ s.past.now → (s.past.at i).value link.link ≡ link.slot + 1
+    link-stood i later until = sym (now-as g.guarded i link.link from (omega (arith, g.order, g.now)) link-read later until) ∙ link-stands

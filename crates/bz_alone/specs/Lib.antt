@@ -1,7 +1,9 @@
 pub mod Alone
+pub mod Brief
 pub mod Changes
 pub mod Laws
 pub mod Lookups
 pub mod Quiet
+pub mod Reads
 pub mod Tasks
 pub mod Trees

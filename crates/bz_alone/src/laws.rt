@@ -1,9 +1,11 @@
 //! Laws of a worker that is alone. Each function does nothing but call the laws that it follows from: its contract is the law.
 
+ghost use Rattle.bz_alone.specs.Brief.{LookUpsAreBrief, WaysAreBrief, BriefLookUpsGoOn, GetsAreBrief};
 ghost use Rattle.bz_alone.specs.Changes.{InsertsGoOn, UpdatesGoOn, MergesGoOn, PublicationsStand, ReplacementsStand};
 ghost use Rattle.bz_alone.specs.Laws.{FreezesGoOn, DeletesGoOn, ConsolidationsGoOn, RootSplitsGoOn, SplitsBelowGoOn, InnerSplitsGoOn, InnerRootSplitsGoOn};
 ghost use Rattle.bz_alone.specs.Lookups.{SeeksGoOn, FindsGoOn, ReadingsGoOn};
 ghost use Rattle.bz_alone.specs.Quiet.{EffectsNeverFall, QuietTimesStay, ReadValuesStand, LonelyTimesAreQuiet};
+ghost use Rattle.bz_alone.specs.Reads.{PathsReadFew};
 ghost use Rattle.bz_alone.specs.Tasks.{LonersGoOn};
 ghost use Rattle.bz_alone.specs.Trees.{TreesStand, PathsLeadToLeaves};
 
@@ -64,6 +66,21 @@ pub fn paths_lead_to_leaves()
     content::well_formed_images_have_no_fault();
     shape::trees_have_forms();
     shape::leaves_tile_the_keys();
+    slotted::inner_rules_are_facts();
+    task::headers_say_the_level();
+}
+
+/// And its reads are at most those of the way to that leaf.
+pub fn paths_read_few()
+    ensures { PathsReadFew }
+{
+    quiet_times_stay();
+    read_values_stand();
+    trees_stand();
+    lonely_times_are_quiet();
+    paths_lead_to_leaves();
+    content::well_formed_images_have_no_fault();
+    shape::trees_have_forms();
     slotted::inner_rules_are_facts();
     task::headers_say_the_level();
 }
@@ -247,4 +264,31 @@ pub fn loners_go_on()
     inner_splits_go_on();
     inner_root_splits_go_on();
     merges_go_on();
+}
+
+/// A look-up that is made while no other call is open meets no effect, and its worker's acts are at most twice the reads that it asks for.
+pub fn look_ups_are_brief()
+    ensures { LookUpsAreBrief }
+{
+    bz_swap::laws::lone_steps_are_allowed();
+    bz_rivals::laws::rivals_fall();
+}
+
+/// They stay so where the way was found.
+pub fn ways_are_brief()
+    ensures { WaysAreBrief }
+{}
+
+/// It is not begun again.
+pub fn brief_look_ups_go_on()
+    ensures { BriefLookUpsGoOn }
+{
+    loners_go_on();
+}
+
+/// So a get's acts are at most twice the reads that its image allows.
+pub fn gets_are_brief()
+    ensures { GetsAreBrief }
+{
+    paths_read_few();
 }

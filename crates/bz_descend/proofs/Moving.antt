@@ -18,7 +18,7 @@ use Rattle.bz_task.specs.declared.todo.Outcome.TheVariants.{Restart}
 use Rattle.bz_descend.specs.Facts.{IsAt, IsInNode}
 use Rattle.bz_descend.specs.Halving.{sight_in, settled}
 use Rattle.bz_descend.specs.Inners.{most_records}
-use Rattle.bz_descend.specs.SeekFacts.{arrived_at, seek_end, IsCounted, reads_of, count_above, reads_through, path_reads, reads_at, asks_one, most_node_reads, left_from, seek_left, seek_bounds, IsSight}
+use Rattle.bz_descend.specs.SeekFacts.{arrived_at, seek_end, seek_reads, IsCounted, reads_of, count_above, reads_through, path_reads, reads_at, asks_one, most_node_reads, left_from, seek_left, seek_bounds, IsSight}
 use Rattle.bz_descend.specs.declared.sight.Sight.{Sight}
 use Rattle.bz_descend.specs.declared.sight.Way.{Way}
 use Rattle.bz_descend.specs.declared.sight.Way.TheVariants.{Fresh, Guard, Root, Header, Status, Meta, Word, First, Pointer, Found, Changed}
@@ -166,6 +166,24 @@ asks-few (First r) = omega arith
 asks-few (Pointer r) = omega arith
 asks-few Found = omega arith
 asks-few Changed = omega arith
+
+-- a phase that is not the last asks for a read
+asks-while : (depth : ℕ) (phase : Way) → 0 < seek_left depth phase → asks_one phase ≡ 1
+asks-while depth Fresh l = refl
+asks-while depth Guard l = refl
+asks-while depth (Root st) l = refl
+asks-while depth (Header k) l = refl
+asks-while depth (Status k) l = refl
+asks-while depth (Meta r) l = refl
+asks-while depth (Word r e i) l = refl
+asks-while depth (First r) l = refl
+asks-while depth (Pointer r) l = refl
+asks-while depth Found l = absurd (omega (arith, l))
+asks-while depth Changed l = absurd (omega (arith, l))
+
+-- so what is left of the most acts falls with each
+pub fewer-left : (path next : Path) (old new : Way) (asked so_far : ℕ) → so_far ≡ asked → seek_left next.depth new < seek_left path.depth old → asked + seek_left path.depth old ≤ seek_reads + 1 → seek_reads + asks_one new - (so_far + asks_one new) < seek_reads + asks_one old - asked
+fewer-left path next old new asked so_far same near few = omega (arith, same, near, few, asks-few new, asks-while path.depth old (omega (arith, near)))
 
 -- the reads of the next phase are few too
 pub counted-on : (c d : Config) (path next : Path) (height high : ℕ) (old new : Way) (asked so_far : ℕ) → IsCounted c path height old asked → d ≡ c → seek_bounds c next.depth new → high < MAX_LEVELS → seek_left next.depth new < seek_left path.depth old → reads_at path old + asks_one new ≤ reads_at next new → so_far ≡ asked

@@ -1,12 +1,12 @@
 -- A descent by halving as a task.
-use Rattle.std.specs.Prelude.{ℕ, Option}
+use Rattle.std.specs.Prelude.{ℕ, ◌+◌, ◌-◌, Option}
 use Rattle.bz_layout.specs.declared.config.Config.{Config}
 use Rattle.bz_task.specs.Scene.{Scene, Stage}
 use Rattle.bz_task.specs.declared.todo.Outcome.{Outcome}
 use Rattle.bz_task.specs.declared.todo.Seen.{Seen}
 use Rattle.bz_task.specs.declared.todo.Todo.{Todo}
 use Rattle.bz_descend.specs.Facts.{descend_means}
-use Rattle.bz_descend.specs.SeekFacts.{seek_asks, seek_end, seek_left, seek_facts, seek_differs, path_reads, IsCounted}
+use Rattle.bz_descend.specs.SeekFacts.{seek_asks, seek_end, seek_reads, asks_one, seek_facts, seek_differs, path_reads, IsCounted}
 use Rattle.bz_descend.specs.declared.seek.Seek.{Seek}
 
 abbrev pub config_of : Seek → Config
@@ -26,8 +26,10 @@ asks_of t = seek_asks t.config t.phase
 abbrev pub end_of : Seek → Option Outcome
 end_of t = seek_end t.path t.phase
 
+-- what is left of the most acts of any descent, its end among them, after the reads that it has asked for: so each act that it asks
+-- for takes one, and each read is counted
 abbrev pub left_of : Seek → ℕ
-left_of t = seek_left t.path.depth t.phase
+left_of t = seek_reads + asks_one t.phase - asked_of t
 
 abbrev pub facts_of : Seek → Stage → Scene → Type 0
 facts_of t stage s = seek_facts t.key t.path t.height t.words t.phase stage s × IsCounted t.config t.path t.height t.phase t.asked

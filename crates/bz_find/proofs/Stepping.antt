@@ -1,5 +1,5 @@
 -- A look-up names what it may, ends, and asks for as many reads as it may.
-use Rattle.std.proofs.Common.{◌≡◌, ◌≢◌, ℕ, ◌+◌, ◌^◌, ◌<◌, ◌≤◌, Bool, true, false, List, arith, refl, sym, ◌∙◌}
+use Rattle.std.proofs.Common.{◌≡◌, ◌≢◌, ℕ, ◌+◌, ◌-◌, ◌^◌, ◌<◌, ◌≤◌, Bool, true, false, List, arith, refl, sym, ◌∙◌}
 use Rattle.std.specs.Prelude.{None, ◌==◌, nat_lt, min, if◌then◌else◌}
 use Rattle.bz_layout.specs.Addresses.{node_address}
 use Rattle.bz_layout.specs.declared.sizes.TheConstants.{SHARED_WORDS, STATUS_AT, HEADER_AT}
@@ -167,3 +167,19 @@ steps-at t Changed seen now b f r h p = no-answer (Steps t Changed (told t Chang
 
 pub steps : (t : Find) (seen : Seen) (now : ℕ) → IsBounded t → Hears (find_asks t t.phase) seen → IsPlain seen → Steps t t.phase (told t t.phase seen now)
 steps t seen now b h p = steps-at t t.phase seen now b.bounds b.few b.reads h p
+
+-- a phase that is not the last asks for a read
+reads-while : (t : Search) (phase : Phase) → 0 < left_at t phase → reads_of phase ≡ 1
+reads-while t Fresh l = refl
+reads-while t Status l = refl
+reads-while t Header l = refl
+reads-while t Searching l = refl
+reads-while t Again l = refl
+reads-while t Of_link l = refl
+reads-while t (Guard at) l = refl
+reads-while t (Viewed at) l = absurd (omega (arith, l))
+reads-while t Changed l = absurd (omega (arith, l))
+
+-- so what is left of the most acts falls with each
+pub fewer-left : (t u : Find) → u.asked ≡ t.asked → left_at u.search u.phase < left_at t.search t.phase → t.asked + left_at t.search t.phase ≤ find_acts → find_acts - 1 + reads_of u.phase - (u.asked + reads_of u.phase) < find_acts - 1 + reads_of t.phase - t.asked
+fewer-left t u same near few = omega (arith, same, near, few, reads-while t.search t.phase (omega (arith, near)))

@@ -1,17 +1,18 @@
 -- A look-up of a key as a task.
-use Rattle.std.specs.Prelude.{ℕ, ◌+◌, List, Option}
+use Rattle.std.specs.Prelude.{ℕ, ◌+◌, ◌-◌, List, Option}
 use Rattle.bz_layout.specs.declared.config.Config.{Config}
 use Rattle.bz_layout.specs.declared.thresholds.TheConstants.{FIND_READS_BESIDES}
 use Rattle.bz_leaf.specs.Facts.{IsLastLink}
 use Rattle.bz_task.specs.Outcomes.{IsPath}
 use Rattle.bz_task.specs.Scene.{Scene, Stage}
+use Rattle.bz_task.specs.Swaps.{Change}
 use Rattle.bz_task.specs.declared.todo.Outcome.{Outcome}
 use Rattle.bz_task.specs.declared.todo.Seen.{Seen}
 use Rattle.bz_task.specs.declared.todo.Todo.{Todo}
 use Rattle.bz_task.specs.declared.todo.Todo.TheVariants.{Read}
 use Rattle.bz_find.specs.Costs.{compare_reads}
-use Rattle.bz_find.specs.Facts.{left_at, IsBounded, find_facts, find_means, find_differs}
-use Rattle.bz_find.specs.Phases.{find_asks, find_end}
+use Rattle.bz_find.specs.Facts.{find_acts, find_change, IsBounded, find_facts, find_means, find_differs}
+use Rattle.bz_find.specs.Phases.{find_asks, find_end, reads_of}
 use Rattle.bz_find.specs.declared.find.Find.{Find}
 
 abbrev pub config_of : Find → Config
@@ -41,8 +42,14 @@ asks_of t = find_asks t t.phase
 abbrev pub end_of : Find → Option Outcome
 end_of t = find_end t t.phase
 
+-- what is left of the most acts of any look-up, its end among them, after the reads that it has asked for: so each act that it asks
+-- for takes one, and each read is counted
 abbrev pub left_of : Find → ℕ
-left_of t = left_at t.search t.phase
+left_of t = find_acts - 1 + reads_of t.phase - asked_of t
+
+-- it changes nothing at its key
+abbrev pub change_of : Find → Change
+change_of t = find_change t.key
 
 abbrev pub facts_of : Find → Stage → Scene → Type 0
 facts_of t stage s = find_facts t t.phase stage s × IsPath t.key t.path s.past × IsBounded t × IsLastLink t.path t.link

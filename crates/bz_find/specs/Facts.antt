@@ -1,5 +1,5 @@
 -- What is known of a leaf while a key is looked up in it.
-use Rattle.std.specs.Prelude.{◌≡◌, ◌≢◌, ℕ, ◌+◌, ◌-◌, ◌*◌, ◌^◌, ◌<◌, ◌≤◌, Bool, true, false, List, [], Option, None, slice_index}
+use Rattle.std.specs.Prelude.{◌≡◌, ◌≢◌, ℕ, ◌+◌, ◌-◌, ◌*◌, ◌^◌, ◌<◌, ◌≤◌, Bool, true, false, List, Option, None, slice_index}
 use Rattle.bz_layout.specs.declared.sizes.TheConstants.{NODE_WORDS}
 use Rattle.bz_layout.specs.declared.thresholds.TheConstants.{PAYLOAD_WORDS, FIND_READS_PER_RECORD, FIND_READS_BESIDES}
 use Rattle.bz_search.specs.Digits.{digits}
@@ -150,6 +150,6 @@ find_differs t Of_link (Was v) = v ≢ t.link.slot + 1
 find_differs t (Guard at) (Was v) = (status v).frozen ≡ true
 find_differs t phase seen = ⊥
 
--- a look-up changes nothing
-abbrev pub find_change : Change
-find_change = record { key = []; old = None; new = None }
+-- a look-up of a key changes nothing there
+abbrev pub find_change : List ℕ → Change
+find_change key = record { key = key; old = None; new = None }

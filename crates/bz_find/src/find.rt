@@ -2,11 +2,13 @@
 
 ghost use Rattle.std.specs.Prelude.{◌≡◌, ◌≢◌, ◌+◌, ◌-◌, ◌<◌, ◌≤◌, ◌^◌, ℕ, Some, None, false, slice_get};
 ghost use Rattle.bz_layout.specs.Config.{IsConfig};
+ghost use Rattle.bz_leaf.specs.Facts.{IsLastLink};
 ghost use Rattle.bz_task.specs.Instant.{durable};
 ghost use Rattle.bz_task.specs.Outcomes.{IsPath, IsKeyView};
 ghost use Rattle.bz_task.specs.Requests.{Hears, Tells, IsKnown};
 ghost use Rattle.bz_task.specs.Scene.{Scene, Stage, Waiting, IsScene, HasFilled};
-ghost use Rattle.bz_find.specs.Duties.{config_of, key_of, asked_of, asked_by, ended_reads, asks_of, end_of, left_of, facts_of, means_of, differs_of};
+ghost use Rattle.bz_task.specs.declared.path.Link.{Link as LastLink};
+ghost use Rattle.bz_find.specs.Duties.{config_of, key_of, asked_of, asked_by, ended_reads, asks_of, end_of, left_of, change_of, facts_of, means_of, differs_of};
 ghost use Rattle.bz_find.specs.Facts.{find_acts, find_change, find_reads, IsBounded};
 ghost use Rattle.bz_find.specs.Grounds.{Grounds};
 ghost use Rattle.bz_find.specs.Phases.{find_asks, gone_on, told, counted, view_of, IsPlain};
@@ -48,6 +50,8 @@ impl Find {
         ensures made { ⟦<Find as Task>⟧.made result ≡ 0 }
         ensures needs { ⟦<Find as Task>⟧.needs result ≡ 0 }
         ensures asked { asked_of result ≡ 0 }
+        ensures change { ⟦<Find as Task>⟧.change result ≡ find_change key }
+        ensures last { (link : LastLink) × IsLastLink path link }
         ensures facts { (s : Scene) → IsScene s → IsPath key path s.past → ⟦<Find as Task>⟧.facts result Waiting s }
         ensures view { (view : KeyView) (s : Scene) → ⟦<Find as Task>⟧.means result (Outcome.Key view) s → IsKeyView key view s.past }
         ensures leads { (view : KeyView) (s : Scene) → ⟦<Find as Task>⟧.means result (Outcome.Key view) s → IsPath key path s.past }
@@ -254,7 +258,7 @@ impl Task for Find {
 
     ghost needs = { λ t. 0 };
 
-    ghost change = { λ t. find_change };
+    ghost change = { change_of };
 
     ghost publishing = { λ t. false };
 

@@ -2,3 +2,5 @@ mod Statements
 mod Ascending
 mod Heights
 mod Rising
+mod Counting
+mod LookingUp

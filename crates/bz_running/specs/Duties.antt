@@ -20,7 +20,6 @@ use Rattle.bz_crown.specs.declared.split_inner_root.SplitInnerRoot.{SplitInnerRo
 use Rattle.bz_descend.specs.SeekDuties as seek
 use Rattle.bz_descend.specs.Facts.{descend_change}
 use Rattle.bz_find.specs.Duties as find
-use Rattle.bz_find.specs.Facts.{find_change}
 use Rattle.bz_fork.specs.Duties.{asks_fork, end_fork, left_fork, swaps_fork, made_fork, needs_fork, facts_fork, differs_fork}
 use Rattle.bz_fork.specs.Facts.{fork_means}
 use Rattle.bz_fork.specs.declared.split_inner.SplitInner.{SplitInner}
@@ -179,7 +178,7 @@ wants_of (Merging t) = MERGE_SLOTS
 
 unfoldable pub change_of : Running → Change
 change_of (Seeking t) = descend_change
-change_of (Finding t) = find_change
+change_of (Finding t) = find.change_of t
 change_of (Reading t) = leaf_change
 change_of (Inserting t) = insert.change_of t
 change_of (Updating t) = update.change_of t

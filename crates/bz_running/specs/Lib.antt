@@ -1,6 +1,7 @@
 pub mod Ascending
 pub mod Duties
 pub mod Laws
+pub mod LookingUp
 pub mod Hearing
 pub mod GoingUp
 pub mod FromAscent

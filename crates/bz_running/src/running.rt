@@ -3,6 +3,7 @@
 ghost use Rattle.std.specs.Prelude.{◌≡◌, ◌-◌, ◌<◌, ◌≢◌, ◌≤◌, ℕ, List, true, false, Option, None, Some, slice_get};
 ghost use Rattle.bz_ascent.specs.FromBelow.Facts.{IsThawedAbove, LackedPart};
 ghost use Rattle.bz_consol.specs.Facts.{LeadsTo};
+ghost use Rattle.bz_leaf.specs.Facts.{IsLastLink};
 ghost use Rattle.bz_layout.specs.declared.thresholds.TheConstants.{CONSOLIDATION_SLOTS, MERGE_SLOTS, SPLIT_ABOVE, SPLIT_SLOTS};
 ghost use Rattle.bz_page.specs.Pages.{IsLeafByItself};
 ghost use Rattle.bz_record.specs.Records.{words_for, LacksRoom};
@@ -13,10 +14,12 @@ ghost use Rattle.bz_task.specs.Outcomes.{payload_of, IsPath, IsView, IsKeyView};
 ghost use Rattle.bz_task.specs.Requests.{Hears, IsKnown};
 ghost use Rattle.bz_task.specs.Scene.{Scene, Waiting, IsScene, HasFilled};
 ghost use Rattle.bz_task.specs.declared.swaps.TheConstants.{DELETE_SWAPS, FREEZE_SWAPS, INSERT_SWAPS, MERGE_SWAPS, RENEWAL_SWAPS, UPDATE_SWAPS};
+ghost use Rattle.bz_task.specs.declared.path.Link.{Link as LastLink};
 ghost use Rattle.bz_task.specs.declared.todo.Todo.TheVariants.{Read};
 ghost use Rattle.bz_running.specs.Hearing.{IsLookup, HasHeard};
 ghost use Rattle.bz_running.specs.Duties.{config_of, asks_of, end_of, left_of, swaps_of, made_of, change_swaps, needs_of, wants_of, change_of, ascent_of, publishing_of, facts_of, means_of, differs_of, makes_no_change};
 ghost use Rattle.bz_running.specs.Laws.{AreLaws};
+ghost use Rattle.bz_running.specs.LookingUp.{ForWay, ForKey, look_of, reads_asked, HasCounted, LooksUpBriefly};
 
 use bz_ascent::{Ascent, SplitBelow};
 use bz_consol::Consolidate;
@@ -53,7 +56,7 @@ pub enum Running {
 
 impl Running {
     /// The way to the leaf of a key, by halving. It asks for the root status first.
-    #[tactic(auto, unfolding(crate::specs::Duties::config_of, crate::specs::Duties::asks_of, crate::specs::Duties::swaps_of, crate::specs::Duties::made_of, crate::specs::Duties::needs_of, crate::specs::Duties::wants_of, crate::specs::Duties::facts_of, crate::specs::Duties::means_of, crate::specs::Duties::ascent_of, crate::specs::Duties::makes_no_change))]
+    #[tactic(auto, unfolding(crate::specs::Duties::config_of, crate::specs::Duties::asks_of, crate::specs::Duties::swaps_of, crate::specs::Duties::made_of, crate::specs::Duties::needs_of, crate::specs::Duties::wants_of, crate::specs::Duties::facts_of, crate::specs::Duties::means_of, crate::specs::Duties::ascent_of, crate::specs::Duties::makes_no_change, crate::specs::LookingUp::look_of, crate::specs::LookingUp::reads_asked))]
     pub fn seek(config: &Config, key: Key) -> Running
         ensures config { config_of result ≡ config.now }
         ensures asks { asks_of result ≡ Some (Read ROOT_STATUS_AT) }
@@ -62,6 +65,8 @@ impl Running {
         ensures needs { needs_of result ≡ 0 }
         ensures wants { wants_of result ≡ 0 }
         ensures silent { makes_no_change result ≡ true }
+        ensures look { look_of result ≡ ForWay }
+        ensures reads { reads_asked result ≡ 1 }
         ensures facts { (s : Scene) → HasFilled s → facts_of result Waiting s }
         ensures ends { (way : Option Path) → IsLookup key way result }
     {
@@ -69,7 +74,7 @@ impl Running {
     }
 
     /// A look-up of a key in the last leaf of a path.
-    #[tactic(auto, unfolding(crate::specs::Duties::config_of, crate::specs::Duties::asks_of, crate::specs::Duties::swaps_of, crate::specs::Duties::made_of, crate::specs::Duties::needs_of, crate::specs::Duties::wants_of, crate::specs::Duties::facts_of, crate::specs::Duties::means_of, crate::specs::Duties::ascent_of, crate::specs::Duties::makes_no_change))]
+    #[tactic(auto, unfolding(crate::specs::Duties::config_of, crate::specs::Duties::asks_of, crate::specs::Duties::swaps_of, crate::specs::Duties::made_of, crate::specs::Duties::needs_of, crate::specs::Duties::wants_of, crate::specs::Duties::facts_of, crate::specs::Duties::means_of, crate::specs::Duties::ascent_of, crate::specs::Duties::makes_no_change, crate::specs::Duties::change_of, crate::specs::LookingUp::look_of, crate::specs::LookingUp::reads_asked))]
     pub fn find(config: &Config, path: Path, key: Key) -> Running
         requires some { 1 ≤ path.depth }
         requires few { path.depth ≤ 12 }
@@ -80,6 +85,10 @@ impl Running {
         ensures needs { needs_of result ≡ 0 }
         ensures wants { wants_of result ≡ 0 }
         ensures silent { makes_no_change result ≡ true }
+        ensures look { look_of result ≡ ForKey }
+        ensures reads { reads_asked result ≡ 0 }
+        ensures key { (change_of result).key ≡ key }
+        ensures last { (link : LastLink) × IsLastLink path link }
         ensures facts { (s : Scene) → IsScene s → IsPath key path s.past → facts_of result Waiting s }
         ensures ends { IsLookup key (Some path) result }
     {
@@ -286,6 +295,8 @@ impl Running {
         requires known { IsKnown (config_of self.old) (facts_of self.old) (asks_of self.old) seen moment }
         requires memory { 0 < needs_of self.old → slots.old.nodes ≡ (config_of self.old).nodes }
         ensures heard { HasHeard self.old seen moment slots.old result self.new slots.new }
+        // each read of a look-up is counted
+        ensures counts { HasCounted self.old result self.new }
     {
         match self {
             Running::Seeking(task) => task.next(seen, slots, moment),
@@ -309,6 +320,21 @@ impl Running {
         match self {
             Running::Deleting(task) => task.leaves_few(),
             _ => false,
+        }
+    }
+
+    /// The laws of a look-up's reads. Does nothing.
+    pub fn looks(&self)
+        ensures { LooksUpBriefly self.now }
+    {
+        match self {
+            Running::Seeking(task) => {
+                let _asked = task.asked();
+            }
+            Running::Finding(task) => {
+                let _asked = task.asked();
+            }
+            _ => {}
         }
     }
 

@@ -1,5 +1,6 @@
 //! Laws over sound journals over a memory whose power fails and comes on again. Each function does nothing but call
 //! the laws that it follows from: its contract is the law.
+ghost use Rattle.bz_sound.specs.Lonely.{LonelyCallsAreAlone};
 ghost use Rattle.bz_sound.specs.Power.CallLaws.{OpenCallsAreLast, OpenCallsLeaveRoom, ActsAreAllowed, EffectsComeDirectly, EffectsStandOnce, EndsLieWithinTheirCalls, ToldChangesTookEffect, FullHasACause};
 ghost use Rattle.bz_sound.specs.Power.CutLaws.{CutsLeave, PowerMarksLeave};
 ghost use Rattle.bz_sound.specs.Power.Example.{WorkedCuts};
@@ -99,6 +100,11 @@ pub fn open_calls_are_last()
 /// While a call is open there is room for its End, and for its page if it asks for one.
 pub fn open_calls_leave_room()
     ensures { OpenCallsLeaveRoom }
+{}
+
+/// A call that began while none was open is the only one that is open until the next Begin.
+pub fn lonely_calls_are_alone()
+    ensures { LonelyCallsAreAlone }
 {}
 
 /// Acts are of worker 0 in recovery, and of workers whose call is open.

@@ -5,7 +5,7 @@ use Rattle.bz_task.specs.Scene.{Waiting}
 use Rattle.bz_task.specs.declared.todo.Outcome.TheVariants.{Restart}
 use Rattle.bz_descend.specs.SeekDuties.{end_of, left_of, facts_of}
 use Rattle.bz_descend.specs.SeekFacts.{seek_facts}
-use Rattle.bz_descend.proofs.Moving.{counted-on, restarts}
+use Rattle.bz_descend.proofs.Moving.{counted-on, fewer-left, restarts}
 use Rattle.bz_descend.proofs.Seeking.{seek-no-slot}
 use Rattle.bz_descend.proofs.seek.SeekTask.next.Goals as goal
 
@@ -13,7 +13,9 @@ pub asks_for-requires-clause-few : goal.asks_for-requires-clause-few
 asks_for-requires-clause-few c = let a = c.after-self.ensures in omega (arith, a.asked, a.nearer, c.heard.ensures.counted.few)
 
 pub returns-clause-nearer : goal.returns-clause-nearer
-returns-clause-nearer c = let t = c.args.self.now in subst (λ z. left_of z < left_of t) (sym c.asks_for.ensures.new) c.after-self.ensures.nearer
+returns-clause-nearer c =
+    let t = c.args.self.now in let a = c.after-self.ensures in let u = c.after-self.new.self in
+    subst (λ z. left_of z < left_of t) (sym c.asks_for.ensures.new) (fewer-left t.path u.path t.phase c.after-self.result t.asked u.asked a.asked a.nearer c.heard.ensures.counted.few)
 
 pub returns-clause-restart : goal.returns-clause-restart
 returns-clause-restart c e =

@@ -1,4 +1,4 @@
-use Rattle.std.proofs.Common.{◌≡◌, subst, sym, ◌∙◌, inr}
+use Rattle.std.proofs.Common.{◌≡◌, ap, subst, sym, ◌∙◌, inr}
 use Rattle.std.specs.Prelude.{Some}
 use Rattle.bz_leaf.specs.Facts.{IsLastLink}
 use Rattle.bz_task.specs.Outcomes.{IsPath}
@@ -6,17 +6,25 @@ use Rattle.bz_task.specs.OwnActs.{gained}
 use Rattle.bz_task.specs.Scene.{Waiting}
 use Rattle.bz_task.specs.declared.todo.Outcome.TheVariants.{Restart}
 use Rattle.bz_find.specs.Duties.{end_of, facts_of}
+use Rattle.bz_find.specs.Facts.{find_change}
 use Rattle.bz_find.specs.Phases.{told, counted}
 use Rattle.bz_find.proofs.Keeping.{keeps-at}
 use Rattle.bz_find.proofs.Restarts.{restarts-at, end-counted}
-use Rattle.bz_find.proofs.Stepping.{steps}
+use Rattle.bz_find.proofs.Stepping.{steps, fewer-left}
 use Rattle.bz_find.proofs.Telling.{tells, no-slot}
 use Rattle.bz_find.proofs.find.FindTask.next.Goals as goal
 
 pub returns-clause-nearer : goal.returns-clause-nearer
 returns-clause-nearer c =
     let t = c.args.self.now in
-    rw c.answered.ensures.new (steps t c.args.seen c.args.moment c.heard.ensures.bounded c.requires.hears c.heard.ensures.plain).1
+    let u = told t t.phase c.args.seen c.args.moment in
+    let k = keeps-at t t.phase c.args.seen c.args.moment c.requires.hears in
+    rw c.answered.ensures.new (fewer-left t u k.asked (steps t c.args.seen c.args.moment c.heard.ensures.bounded c.requires.hears c.heard.ensures.plain).1 c.heard.ensures.bounded.few)
+
+pub returns-clause-change : goal.returns-clause-change
+returns-clause-change c =
+    let t = c.args.self.now in
+    rw c.answered.ensures.new (ap find_change (keeps-at t t.phase c.args.seen c.args.moment c.requires.hears).key)
 
 pub returns-clause-restart : goal.returns-clause-restart
 returns-clause-restart c e =

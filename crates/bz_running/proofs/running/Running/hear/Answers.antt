@@ -1,12 +1,14 @@
-use Rattle.std.proofs.Common.{sym, subst, refl}
+use Rattle.std.proofs.Common.{sym, subst, refl, ap}
 use Rattle.bz_running.specs.Duties.{config_of, asks_of, end_of, left_of, swaps_of, made_of, change_swaps, needs_of, wants_of, change_of, publishing_of, facts_of, means_of, ascent_of, differs_of, makes_no_change}
 use Rattle.bz_running.specs.Hearing.{HasHeard}
-use Rattle.bz_running.specs.declared.running.Running.TheVariants.{Inserting, Updating, Consolidating, Splitting, SplittingBelow, SplittingInner, SplittingInnerRoot, Merging}
+use Rattle.bz_running.specs.LookingUp.{look_of, reads_asked, HasCounted}
+use Rattle.bz_running.specs.declared.running.Running.TheVariants.{Seeking, Finding, Reading, Inserting, Updating, Deleting, Freezing, Consolidating, Splitting, SplittingBelow, SplittingInner, SplittingInnerRoot, Merging}
 use Rattle.bz_running.proofs.Ascending.{meant-so}
+use Rattle.bz_running.proofs.Counting.{seek-counts, find-counts, none-counts}
 use Rattle.bz_running.proofs.running.Running.hear.Goals as goal
 
 pub returns-in-Inserting : goal.returns-in-Inserting
-unfolding config_of asks_of end_of left_of swaps_of made_of change_swaps needs_of wants_of change_of publishing_of facts_of means_of ascent_of differs_of makes_no_change
+unfolding config_of asks_of end_of left_of swaps_of made_of change_swaps needs_of wants_of change_of publishing_of facts_of means_of ascent_of differs_of makes_no_change look_of
 returns-in-Inserting c = record {
   heard = subst (λ t. HasHeard t c.args.seen c.args.moment c.args.slots.now c.next-in-Inserting.result (Inserting c.next-in-Inserting.new.self) c.next-in-Inserting.new.slots) (sym c.in-Inserting.is) (let e = c.next-in-Inserting.ensures in record {
     asked = e.asked;
@@ -29,10 +31,11 @@ returns-in-Inserting c = record {
     full_nodes = e.full_nodes;
     learns = e.learns;
   });
+  counts = none-counts c.args.self.now (Inserting c.next-in-Inserting.new.self) c.next-in-Inserting.result (ap look_of c.in-Inserting.is) refl;
 }
 
 pub returns-in-Updating : goal.returns-in-Updating
-unfolding config_of asks_of end_of left_of swaps_of made_of change_swaps needs_of wants_of change_of publishing_of facts_of means_of ascent_of differs_of makes_no_change
+unfolding config_of asks_of end_of left_of swaps_of made_of change_swaps needs_of wants_of change_of publishing_of facts_of means_of ascent_of differs_of makes_no_change look_of
 returns-in-Updating c = record {
   heard = subst (λ t. HasHeard t c.args.seen c.args.moment c.args.slots.now c.next-in-Updating.result (Updating c.next-in-Updating.new.self) c.next-in-Updating.new.slots) (sym c.in-Updating.is) (let e = c.next-in-Updating.ensures in record {
     asked = e.asked;
@@ -55,10 +58,11 @@ returns-in-Updating c = record {
     full_nodes = e.full_nodes;
     learns = e.learns;
   });
+  counts = none-counts c.args.self.now (Updating c.next-in-Updating.new.self) c.next-in-Updating.result (ap look_of c.in-Updating.is) refl;
 }
 
 pub returns-in-Consolidating : goal.returns-in-Consolidating
-unfolding config_of asks_of end_of left_of swaps_of made_of change_swaps needs_of wants_of change_of publishing_of facts_of means_of ascent_of differs_of makes_no_change
+unfolding config_of asks_of end_of left_of swaps_of made_of change_swaps needs_of wants_of change_of publishing_of facts_of means_of ascent_of differs_of makes_no_change look_of
 returns-in-Consolidating c = record {
   heard = subst (λ t. HasHeard t c.args.seen c.args.moment c.args.slots.now c.next-in-Consolidating.result (Consolidating c.next-in-Consolidating.new.self) c.next-in-Consolidating.new.slots) (sym c.in-Consolidating.is) (let e = c.next-in-Consolidating.ensures in record {
     asked = e.asked;
@@ -81,10 +85,11 @@ returns-in-Consolidating c = record {
     full_nodes = e.full_nodes;
     learns = e.learns;
   });
+  counts = none-counts c.args.self.now (Consolidating c.next-in-Consolidating.new.self) c.next-in-Consolidating.result (ap look_of c.in-Consolidating.is) refl;
 }
 
 pub returns-in-Splitting : goal.returns-in-Splitting
-unfolding config_of asks_of end_of left_of swaps_of made_of change_swaps needs_of wants_of change_of publishing_of facts_of means_of ascent_of differs_of makes_no_change
+unfolding config_of asks_of end_of left_of swaps_of made_of change_swaps needs_of wants_of change_of publishing_of facts_of means_of ascent_of differs_of makes_no_change look_of
 returns-in-Splitting c = record {
   heard = subst (λ t. HasHeard t c.args.seen c.args.moment c.args.slots.now c.next-in-Splitting.result (Splitting c.next-in-Splitting.new.self) c.next-in-Splitting.new.slots) (sym c.in-Splitting.is) (let e = c.next-in-Splitting.ensures in record {
     asked = e.asked;
@@ -107,10 +112,11 @@ returns-in-Splitting c = record {
     full_nodes = e.full_nodes;
     learns = e.learns;
   });
+  counts = none-counts c.args.self.now (Splitting c.next-in-Splitting.new.self) c.next-in-Splitting.result (ap look_of c.in-Splitting.is) refl;
 }
 
 pub returns-in-SplittingBelow : goal.returns-in-SplittingBelow
-unfolding config_of asks_of end_of left_of swaps_of made_of change_swaps needs_of wants_of change_of publishing_of facts_of means_of ascent_of differs_of makes_no_change
+unfolding config_of asks_of end_of left_of swaps_of made_of change_swaps needs_of wants_of change_of publishing_of facts_of means_of ascent_of differs_of makes_no_change look_of
 returns-in-SplittingBelow c = record {
   heard = subst (λ t. HasHeard t c.args.seen c.args.moment c.args.slots.now c.next-in-SplittingBelow.result (SplittingBelow c.next-in-SplittingBelow.new.self c.in-SplittingBelow.field-1) c.next-in-SplittingBelow.new.slots) (sym c.in-SplittingBelow.is) (let e = c.next-in-SplittingBelow.ensures in record {
     asked = e.asked;
@@ -133,10 +139,11 @@ returns-in-SplittingBelow c = record {
     full_nodes = e.full_nodes;
     learns = λ stage s now same good free f tells. (e.learns stage s now same good free f.0 tells, meant-so _ _ _ s e.meant f.1);
   });
+  counts = none-counts c.args.self.now (SplittingBelow c.next-in-SplittingBelow.new.self c.in-SplittingBelow.field-1) c.next-in-SplittingBelow.result (ap look_of c.in-SplittingBelow.is) refl;
 }
 
 pub returns-in-SplittingInner : goal.returns-in-SplittingInner
-unfolding config_of asks_of end_of left_of swaps_of made_of change_swaps needs_of wants_of change_of publishing_of facts_of means_of ascent_of differs_of makes_no_change
+unfolding config_of asks_of end_of left_of swaps_of made_of change_swaps needs_of wants_of change_of publishing_of facts_of means_of ascent_of differs_of makes_no_change look_of
 returns-in-SplittingInner c = record {
   heard = subst (λ t. HasHeard t c.args.seen c.args.moment c.args.slots.now c.next-in-SplittingInner.result (SplittingInner c.next-in-SplittingInner.new.self c.in-SplittingInner.field-1) c.next-in-SplittingInner.new.slots) (sym c.in-SplittingInner.is) (let e = c.next-in-SplittingInner.ensures in record {
     asked = e.asked;
@@ -159,10 +166,11 @@ returns-in-SplittingInner c = record {
     full_nodes = e.full_nodes;
     learns = λ stage s now same good free f tells. (e.learns stage s now same good free f.0 tells, meant-so _ _ _ s e.meant f.1);
   });
+  counts = none-counts c.args.self.now (SplittingInner c.next-in-SplittingInner.new.self c.in-SplittingInner.field-1) c.next-in-SplittingInner.result (ap look_of c.in-SplittingInner.is) refl;
 }
 
 pub returns-in-SplittingInnerRoot : goal.returns-in-SplittingInnerRoot
-unfolding config_of asks_of end_of left_of swaps_of made_of change_swaps needs_of wants_of change_of publishing_of facts_of means_of ascent_of differs_of makes_no_change
+unfolding config_of asks_of end_of left_of swaps_of made_of change_swaps needs_of wants_of change_of publishing_of facts_of means_of ascent_of differs_of makes_no_change look_of
 returns-in-SplittingInnerRoot c = record {
   heard = subst (λ t. HasHeard t c.args.seen c.args.moment c.args.slots.now c.next-in-SplittingInnerRoot.result (SplittingInnerRoot c.next-in-SplittingInnerRoot.new.self c.in-SplittingInnerRoot.field-1) c.next-in-SplittingInnerRoot.new.slots) (sym c.in-SplittingInnerRoot.is) (let e = c.next-in-SplittingInnerRoot.ensures in record {
     asked = e.asked;
@@ -185,10 +193,11 @@ returns-in-SplittingInnerRoot c = record {
     full_nodes = e.full_nodes;
     learns = λ stage s now same good free f tells. (e.learns stage s now same good free f.0 tells, meant-so _ _ _ s e.meant f.1);
   });
+  counts = none-counts c.args.self.now (SplittingInnerRoot c.next-in-SplittingInnerRoot.new.self c.in-SplittingInnerRoot.field-1) c.next-in-SplittingInnerRoot.result (ap look_of c.in-SplittingInnerRoot.is) refl;
 }
 
 pub returns-in-Merging : goal.returns-in-Merging
-unfolding config_of asks_of end_of left_of swaps_of made_of change_swaps needs_of wants_of change_of publishing_of facts_of means_of ascent_of differs_of makes_no_change
+unfolding config_of asks_of end_of left_of swaps_of made_of change_swaps needs_of wants_of change_of publishing_of facts_of means_of ascent_of differs_of makes_no_change look_of
 returns-in-Merging c = record {
   heard = subst (λ t. HasHeard t c.args.seen c.args.moment c.args.slots.now c.next-in-Merging.result (Merging c.next-in-Merging.new.self) c.next-in-Merging.new.slots) (sym c.in-Merging.is) (let e = c.next-in-Merging.ensures in record {
     asked = e.asked;
@@ -211,4 +220,29 @@ returns-in-Merging c = record {
     full_nodes = e.full_nodes;
     learns = e.learns;
   });
+  counts = none-counts c.args.self.now (Merging c.next-in-Merging.new.self) c.next-in-Merging.result (ap look_of c.in-Merging.is) refl;
 }
+
+pub returns-in-Reading-clause-counts : goal.returns-in-Reading-clause-counts
+unfolding look_of
+returns-in-Reading-clause-counts c = none-counts c.args.self.now (Reading c.next-in-Reading.new.self) c.next-in-Reading.result (ap look_of c.in-Reading.is) refl
+
+pub returns-in-Deleting-clause-counts : goal.returns-in-Deleting-clause-counts
+unfolding look_of
+returns-in-Deleting-clause-counts c = none-counts c.args.self.now (Deleting c.next-in-Deleting.new.self) c.next-in-Deleting.result (ap look_of c.in-Deleting.is) refl
+
+pub returns-in-Freezing-clause-counts : goal.returns-in-Freezing-clause-counts
+unfolding look_of
+returns-in-Freezing-clause-counts c = none-counts c.args.self.now (Freezing c.next-in-Freezing.new.self) c.next-in-Freezing.result (ap look_of c.in-Freezing.is) refl
+
+pub returns-in-Seeking-clause-counts : goal.returns-in-Seeking-clause-counts
+unfolding asks_of left_of look_of reads_asked
+returns-in-Seeking-clause-counts c =
+    let e = c.next.ensures in
+    subst (λ t. HasCounted t c.next.result (Seeking c.next.new.self)) (sym c.in-Seeking.is) (record { look = refl; reads = λ l. seek-counts c.in-Seeking.task c.next.new.self c.next.result e.nearer e.asked })
+
+pub returns-in-Finding-clause-counts : goal.returns-in-Finding-clause-counts
+unfolding asks_of left_of look_of reads_asked
+returns-in-Finding-clause-counts c =
+    let e = c.next-in-Finding.ensures in
+    subst (λ t. HasCounted t c.next-in-Finding.result (Finding c.next-in-Finding.new.self)) (sym c.in-Finding.is) (record { look = refl; reads = λ l. find-counts c.in-Finding.task c.next-in-Finding.new.self c.next-in-Finding.result e.nearer e.asked })
