@@ -1,5 +1,6 @@
 //! How far up a path a split has come.
 
+ghost use Rattle.bz_layout.specs.declared.thresholds.TheConstants.{MAX_LEVELS};
 ghost use Rattle.std.specs.Prelude.{◌<◌, ◌≤◌};
 ghost use Rattle.bz_ascent.specs.Ascents.{IsAtLeaf, IsOneUp};
 
@@ -22,7 +23,7 @@ impl Ascent {
     /// At the leaf.
     pub fn from_leaf(key: Key, path: Path) -> Ascent
         requires some { 1 ≤ path.depth }
-        requires few { path.depth ≤ 12 }
+        requires few { path.depth ≤ MAX_LEVELS }
         ensures { IsAtLeaf result key path }
     {
         let place = path.depth - 1;
@@ -37,7 +38,7 @@ impl Ascent {
     /// One node up, which is not above the root.
     pub fn one_up(&self) -> Ascent
         requires below { 0 < self.now.place }
-        requires few { self.now.place ≤ 12 }
+        requires few { self.now.place ≤ MAX_LEVELS }
         ensures { IsOneUp self.now result }
     {
         let place = self.place - 1;

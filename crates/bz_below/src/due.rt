@@ -1,7 +1,7 @@
 //! When the split of a leaf below a parent may begin.
 
 ghost use Rattle.std.specs.Prelude.{◌≡◌, ◌↔◌, ◌≤◌, ◌<◌, true, false, IsTrue};
-ghost use Rattle.bz_layout.specs.declared.thresholds.TheConstants.{SPLIT_ABOVE};
+ghost use Rattle.bz_layout.specs.declared.thresholds.TheConstants.{SPLIT_ABOVE, MAX_LEVELS};
 ghost use Rattle.bz_renew.specs.FromPage.Pages.{IsLeafByItself};
 ghost use Rattle.bz_renew.specs.Due.{LeadsTo, IsDue, IsStatusOf};
 ghost use Rattle.bz_slotted.specs.Readers.{live_of};
@@ -18,7 +18,7 @@ use bz_word::Status;
 /// before the last; and the guards of both links were no frozen nodes'.
 pub fn is_due(path: &Path, view: &LeafView) -> bool
     requires some { 1 ≤ path.now.depth }
-    requires few { path.now.depth ≤ 12 }
+    requires few { path.now.depth ≤ MAX_LEVELS }
     requires leaf { IsLeafByItself view.now.image.0 }
     ensures due { IsTrue result ↔ ((2 ≤ path.now.depth) × (IsThawedAbove path.now × ((SPLIT_ABOVE < live_of (node_of view.now.image.0)) × IsDue path.now view.now))) }
     ensures frozen { result ≡ true → (status view.now.status).frozen ≡ true }
@@ -37,7 +37,7 @@ pub fn is_due(path: &Path, view: &LeafView) -> bool
 // Whether the guard of the link before the last, as it was read, was no frozen node's.
 fn is_thawed_above(path: &Path) -> bool
     requires deep { 2 ≤ path.now.depth }
-    requires few { path.now.depth ≤ 12 }
+    requires few { path.now.depth ≤ MAX_LEVELS }
     ensures { IsTrue result ↔ IsThawedAbove path.now }
 {
     is_thawed(&upper_link(path))

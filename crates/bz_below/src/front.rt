@@ -8,13 +8,11 @@ ghost use Rattle.bz_slotted.specs.Rules.{node_fault};
 ghost use Rattle.bz_word.specs.Statuses.{status};
 
 use bz_key::Key;
-use bz_layout::{HEADER_AT, LOW_FENCE_AT};
+use bz_layout::{HEADER_AT, LOW_FENCE_AT, BYTES_IN_WORD};
 use bz_node::NodeImage;
 use bz_renew::is_whole;
 use bz_slotted::laws as slotted;
 use bz_word::{Header, Status};
-
-const BYTES_IN_WORD: u32 = 7;
 
 /// Whether a node with this status is frozen.
 pub(crate) fn is_frozen(word: u64) -> bool

@@ -1,9 +1,9 @@
 //! The task that splits a frozen leaf below a parent.
 
 ghost use Rattle.std.specs.Prelude.{◌≡◌, ◌≢◌, ◌↔◌, ◌+◌, ◌-◌, ◌<◌, ◌≤◌, ◌^◌, ◌⊎◌, ℕ, List, Option, Some, None, IsTrue, IsSome, IfSome, true, false, slice_get, length};
-ghost use Rattle.bz_layout.specs.declared.sizes.TheConstants.{NODE_WORDS};
+ghost use Rattle.bz_layout.specs.declared.sizes.TheConstants.{NODE_WORDS, NODE_LINES};
 ghost use Rattle.bz_layout.specs.Config.{IsConfig};
-ghost use Rattle.bz_layout.specs.declared.thresholds.TheConstants.{SPLIT_ABOVE, SPLIT_SLOTS};
+ghost use Rattle.bz_layout.specs.declared.thresholds.TheConstants.{SPLIT_ABOVE, SPLIT_SLOTS, MAX_LEVELS};
 ghost use Rattle.bz_renew.specs.FromPage.Pages.{IsLeafByItself};
 ghost use Rattle.bz_renew.specs.Due.{LeadsTo};
 ghost use Rattle.bz_renew.specs.Nodes.{word_value};
@@ -75,7 +75,7 @@ impl SplitBelow {
     /// records are left in `page`.
     pub fn new(config: &Config, path: Path, view: LeafView, page: &mut PageBuf) -> SplitBelow
         requires deep { 2 ≤ path.depth }
-        requires few { path.depth ≤ 12 }
+        requires few { path.depth ≤ MAX_LEVELS }
         requires leaf { IsLeafByItself view.image.0 }
         requires many { SPLIT_ABOVE < live_of (node_of view.image.0) }
         requires frozen { (status view.status).frozen ≡ true }

@@ -7,13 +7,11 @@ ghost use Rattle.bz_slotted.specs.ReadingLaws.{node_of};
 ghost use Rattle.bz_slotted.specs.Rules.{node_fault};
 
 use bz_key::Key;
-use bz_layout::{HEADER_AT, LOW_FENCE_AT};
+use bz_layout::{HEADER_AT, LOW_FENCE_AT, BYTES_IN_WORD};
 use bz_node::NodeImage;
 use bz_renew::is_whole;
 use bz_slotted::laws as slotted;
 use bz_word::Header;
-
-const BYTES_IN_WORD: u32 = 7;
 
 // The key of so many bytes that stands at a place, if there is one.
 fn key_at(words: &[u64], at: u32, len: u32) -> Option<Key>

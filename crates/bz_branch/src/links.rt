@@ -1,5 +1,6 @@
 //! The links of a path, and what their guards say.
 
+ghost use Rattle.bz_layout.specs.declared.thresholds.TheConstants.{MAX_LEVELS};
 ghost use Rattle.std.specs.Prelude.{◌≡◌, ◌↔◌, ◌<◌, false, IsTrue, Some, slice_get};
 ghost use Rattle.bz_renew.specs.Due.{IsStatusOf};
 ghost use Rattle.bz_branch.specs.Due.{IsFullStatus};
@@ -10,7 +11,7 @@ use bz_word::Status;
 
 /// The link at a place of a path.
 pub fn link_at(path: &Path, place: u32) -> Link
-    requires { place < 12 }
+    requires { place < MAX_LEVELS }
     ensures { slice_get path.now.links place ≡ Some result }
 {
     path.links[place as usize]

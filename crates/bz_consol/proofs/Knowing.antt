@@ -5,7 +5,7 @@ use Rattle.std.proofs.lemmas.Bool.Decides.{nat_tests}
 use Rattle.bz_layout.specs.Addresses.{SlotsApart}
 use Rattle.bz_layout.specs.Slots.{FreeSlots}
 use Rattle.bz_layout.specs.declared.config.Config.{Config}
-use Rattle.bz_layout.specs.declared.sizes.TheConstants.{NODE_WORDS}
+use Rattle.bz_layout.specs.declared.sizes.TheConstants.{NODE_WORDS, NODE_LINES}
 use Rattle.bz_layout.specs.declared.thresholds.TheConstants.{CONSOLIDATION_SLOTS}
 use Rattle.bz_task.specs.Laws.{NothingIsGained}
 use Rattle.bz_task.specs.OwnActs.{AreTakenFrom, AreUnreached, gained}
@@ -20,7 +20,7 @@ use Rattle.bz_task.specs.declared.todo.Seen.TheVariants.{Start, Read as Was, Sto
 use Rattle.bz_consol.specs.Facts.{Renewal, HasViewed, IsCopying, HasBegun, HasLooked, consol_asks, consol_differs, consol_end, consol_left, consol_swaps, consol_needs, consol_facts, next_flush, IsReady}
 use Rattle.bz_renew.specs.Guards.{WasAsRead}
 use Rattle.bz_renew.specs.Renewals.{IsTurnable, LinksMayBeTurned}
-use Rattle.bz_renew.specs.Writing.{NODE_LINES, IsTaken, IsWriting}
+use Rattle.bz_renew.specs.Writing.{IsTaken, IsWriting}
 use Rattle.bz_consol.specs.declared.phase.Phase.{Phase}
 use Rattle.bz_consol.specs.declared.phase.Phase.TheVariants.{Fresh, Guard, Store, Flush, Swap, Done, Restart, NoSlot, NoSwap}
 use Rattle.bz_renew.proofs.Guards.{answered-as-read}

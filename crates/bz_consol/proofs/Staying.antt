@@ -3,7 +3,7 @@ use Rattle.std.proofs.Common.{◌≡◌, ℕ, ◌+◌, ◌≤◌, List, slice_in
 use Rattle.bz_layout.specs.Addresses.{node_address}
 use Rattle.bz_layout.specs.declared.config.Config.{Config}
 use Rattle.bz_layout.specs.Slots.{FreeSlots}
-use Rattle.bz_layout.specs.declared.sizes.TheConstants.{NODE_WORDS}
+use Rattle.bz_layout.specs.declared.sizes.TheConstants.{NODE_WORDS, NODE_LINES}
 use Rattle.bz_slotted.specs.ReadingLaws.{node_of}
 use Rattle.bz_task.specs.Instant.{Instant, words, form_at}
 use Rattle.bz_task.specs.Laws.{NothingIsGained, SaysAlike}
@@ -12,7 +12,7 @@ use Rattle.bz_task.specs.Scene.{Past, Scene, Stage, Waiting, Took, IsLawful, Con
 use Rattle.bz_task.specs.declared.path.Link.{Link}
 use Rattle.bz_consol.specs.Facts.{Renewal, WasTurned, HasViewed, IsCopying, consol_facts}
 use Rattle.bz_renew.specs.Guards.{WasAsRead}
-use Rattle.bz_renew.specs.Writing.{NODE_LINES, HasFilledBut}
+use Rattle.bz_renew.specs.Writing.{HasFilledBut}
 use Rattle.bz_renew.proofs.Guards.{as-read-stays}
 use Rattle.bz_renew.proofs.Staying.{guarded-stays, frozen-leaf-stays}
 use Rattle.bz_consol.specs.declared.phase.Phase.{Phase}

@@ -4,7 +4,7 @@ use Rattle.bz_call.specs.declared.replies.Spent.TheVariants.{Nodes, Swaps}
 use Rattle.bz_layout.specs.Addresses.{node_address, line_of}
 use Rattle.bz_layout.specs.Slots.{FreeSlots}
 use Rattle.bz_layout.specs.declared.config.Config.{Config}
-use Rattle.bz_layout.specs.declared.sizes.TheConstants.{NODE_WORDS}
+use Rattle.bz_layout.specs.declared.sizes.TheConstants.{NODE_WORDS, NODE_LINES}
 use Rattle.bz_layout.specs.declared.thresholds.TheConstants.{CONSOLIDATION_SLOTS}
 use Rattle.bz_node.specs.Reading.{AreInKeyOrder, pairs_in}
 use Rattle.bz_node.specs.Records.{leaf_words}
@@ -27,7 +27,7 @@ pub use Rattle.bz_renew.specs.Due.{LeadsTo, IsDue}
 use Rattle.bz_renew.specs.FrozenLeaves.{WasFrozenLeaf}
 use Rattle.bz_renew.specs.Guards.{WasAsRead}
 use Rattle.bz_renew.specs.Renewals.{renewal}
-use Rattle.bz_renew.specs.Writing.{NODE_LINES, IsWriting, HasFilledBut, IsTaken}
+use Rattle.bz_renew.specs.Writing.{IsWriting, HasFilledBut, IsTaken}
 use Rattle.bz_consol.specs.declared.phase.Phase.{Phase}
 use Rattle.bz_consol.specs.declared.phase.Phase.TheVariants.{Fresh, Guard, Store, Flush, Swap, Done, Restart, NoSlot, NoSwap}
 

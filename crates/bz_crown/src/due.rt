@@ -1,5 +1,6 @@
 //! When the split of an inner root may begin.
 
+ghost use Rattle.bz_layout.specs.declared.thresholds.TheConstants.{MAX_LEVELS};
 ghost use Rattle.std.specs.Prelude.{◌≡◌, ◌↔◌, ◌≤◌, IsTrue};
 ghost use Rattle.bz_crown.specs.Due.{AreDue, IsDue};
 
@@ -9,7 +10,7 @@ use bz_task::{Link, Path};
 /// Whether the path has a link in the root, and the statuses that guard its first two links were no frozen nodes'; and that of the
 /// root counts more words than an inner node may keep.
 pub fn is_due(path: &Path) -> bool
-    requires { path.now.depth ≤ 12 }
+    requires { path.now.depth ≤ MAX_LEVELS }
     ensures { IsTrue result ↔ IsDue path.now }
 {
     path.depth >= 2 && are_due(&link_at(path, 0), &link_at(path, 1))

@@ -3,7 +3,8 @@
 ghost use Rattle.std.specs.Prelude.{◌≡◌, ◌≢◌, ◌↔◌, ◌+◌, ◌-◌, ◌<◌, ◌≤◌, ◌^◌, ◌⊎◌, ℕ, List, Option, Some, None, IsTrue, true, false, slice_get, slice_index, length};
 ghost use Rattle.bz_call.specs.declared.replies.Spent.TheVariants.{Height};
 ghost use Rattle.bz_layout.specs.Config.{IsConfig};
-ghost use Rattle.bz_layout.specs.declared.thresholds.TheConstants.{SPLIT_SLOTS};
+ghost use Rattle.bz_layout.specs.declared.thresholds.TheConstants.{SPLIT_SLOTS, MAX_LEVELS};
+ghost use Rattle.bz_layout.specs.declared.sizes.TheConstants.{NODE_LINES};
 ghost use Rattle.bz_renew.specs.Nodes.{word_value};
 ghost use Rattle.bz_task.specs.Outcomes.{IsPath};
 ghost use Rattle.bz_task.specs.OwnActs.{AreTakenFrom, AreUnreached, gained};
@@ -55,7 +56,7 @@ pub struct SplitInnerRoot {
 impl SplitInnerRoot {
     /// The split of the root of a path which has links in it, and whose status counts more words than an inner node may keep.
     pub fn new(config: &Config, path: Path) -> SplitInnerRoot
-        requires few { path.depth ≤ 12 }
+        requires few { path.depth ≤ MAX_LEVELS }
         requires due { IsDue path }
         ensures config { ⟦<SplitInnerRoot as Task>⟧.config result ≡ config.now }
         ensures asks { ⟦<SplitInnerRoot as Task>⟧.asks result ≡ None }

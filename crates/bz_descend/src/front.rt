@@ -6,9 +6,8 @@ ghost use Rattle.bz_slotted.specs.Page.{meta_of as said_of, extent_of as said_ex
 ghost use Rattle.bz_word.specs.Headers.{header};
 ghost use Rattle.bz_word.specs.Statuses.{status};
 
+use bz_layout::BYTES_IN_WORD;
 use bz_word::{Extent, Header, Meta, Status};
-
-const BYTES_IN_WORD: u32 = 7;
 
 /// Whether the header is that of a leaf.
 pub(crate) fn is_leaf(word: u64) -> bool

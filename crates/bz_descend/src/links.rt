@@ -4,7 +4,7 @@ ghost use Rattle.std.specs.Prelude.{◌≡◌, ◌+◌, ◌<◌, ℕ, Some, leng
 ghost use Rattle.bz_layout.specs.declared.sizes.TheConstants.{ROOT_AT, ROOT_STATUS_AT};
 ghost use Rattle.bz_layout.specs.declared.thresholds.TheConstants.{MAX_LEVELS};
 
-use bz_layout::{ROOT_AT, ROOT_STATUS_AT};
+use bz_layout::{MAX_LEVELS, ROOT_AT, ROOT_STATUS_AT};
 use bz_task::{Link, Path};
 
 /// The path to a root, which its guard's status led to.
@@ -19,7 +19,7 @@ pub(crate) fn to_root(slot: u16, status: u64) -> Path
         status,
     };
     Path {
-        links: [link; 12],
+        links: [link; MAX_LEVELS as usize],
         depth: 1,
     }
 }
@@ -40,7 +40,7 @@ pub(crate) fn with_link(path: &Path, link: Link) -> Path
     }
 }
 
-// A path has room for 12 links. Does nothing.
-fn is_whole(links: &[Link; 12])
-    ensures { length links.now ≡ 12 }
+// A path has room for a link of each level. Does nothing.
+fn is_whole(links: &[Link; MAX_LEVELS as usize])
+    ensures { length links.now ≡ MAX_LEVELS }
 {}

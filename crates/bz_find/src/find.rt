@@ -2,6 +2,7 @@
 
 ghost use Rattle.std.specs.Prelude.{◌≡◌, ◌≢◌, ◌+◌, ◌-◌, ◌<◌, ◌≤◌, ◌^◌, ℕ, Some, None, false, slice_get};
 ghost use Rattle.bz_layout.specs.Config.{IsConfig};
+ghost use Rattle.bz_layout.specs.declared.thresholds.TheConstants.{MAX_LEVELS};
 ghost use Rattle.bz_leaf.specs.Facts.{IsLastLink};
 ghost use Rattle.bz_task.specs.Instant.{durable};
 ghost use Rattle.bz_task.specs.Outcomes.{IsPath, IsKeyView};
@@ -42,7 +43,7 @@ impl Find {
     /// A look-up of a key in the last leaf of a path.
     pub fn new(config: &Config, path: Path, key: Key) -> Find
         requires some { 1 ≤ path.depth }
-        requires few { path.depth ≤ 12 }
+        requires few { path.depth ≤ MAX_LEVELS }
         ensures config { ⟦<Find as Task>⟧.config result ≡ config.now }
         ensures asks { ⟦<Find as Task>⟧.asks result ≡ None }
         ensures left { ⟦<Find as Task>⟧.left result ≡ find_acts }
@@ -237,7 +238,7 @@ fn on_leaves()
 // The last link of a path.
 fn last_link(path: &Path) -> Link
     requires some { 1 ≤ path.now.depth }
-    requires few { path.now.depth ≤ 12 }
+    requires few { path.now.depth ≤ MAX_LEVELS }
     ensures { slice_get path.now.links (path.now.depth - 1) ≡ Some result }
 {
     path.links[path.depth as usize - 1]

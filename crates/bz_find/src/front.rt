@@ -9,10 +9,8 @@ ghost use Rattle.bz_word.specs.Metas.{IsMeta};
 ghost use Rattle.bz_find.specs.Words.{is_in_node, is_record, records_in, sorted_in};
 
 use bz_key::{KEY_BYTES, PAYLOAD_BYTES};
-use bz_layout::{NODE_WORDS, SHARED_WORDS};
+use bz_layout::{NODE_WORDS, SHARED_WORDS, BYTES_IN_WORD};
 use bz_word::{Extent, Header, Meta, Status};
-
-const BYTES_IN_WORD: u32 = 7;
 
 // The status of a plain word.
 fn status_of(word: u64) -> Status

@@ -1,5 +1,6 @@
 //! When the split of an inner node below a parent may begin.
 
+ghost use Rattle.bz_layout.specs.declared.thresholds.TheConstants.{MAX_LEVELS};
 ghost use Rattle.std.specs.Prelude.{◌↔◌, ◌≤◌, ◌<◌, IsTrue};
 ghost use Rattle.bz_fork.specs.Due.{AreDue, IsDue};
 
@@ -9,8 +10,8 @@ use bz_task::{Link, Path};
 /// Whether the path has three links from a place on, and the statuses that guard them were no frozen nodes'; and the last of these
 /// statuses, that of the node to which the second link leads, counts more words than an inner node may keep.
 pub fn is_due(path: &Path, place: u32) -> bool
-    requires few { path.now.depth ≤ 12 }
-    requires within { place < 12 }
+    requires few { path.now.depth ≤ MAX_LEVELS }
+    requires within { place < MAX_LEVELS }
     ensures { IsTrue result ↔ IsDue path.now place }
 {
     path.depth >= place + 3

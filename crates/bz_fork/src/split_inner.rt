@@ -2,7 +2,8 @@
 
 ghost use Rattle.std.specs.Prelude.{◌≡◌, ◌≢◌, ◌↔◌, ◌+◌, ◌-◌, ◌<◌, ◌≤◌, ◌^◌, ◌⊎◌, ℕ, List, Option, Some, None, IsTrue, true, false, slice_get, slice_index, length};
 ghost use Rattle.bz_layout.specs.Config.{IsConfig};
-ghost use Rattle.bz_layout.specs.declared.thresholds.TheConstants.{SPLIT_SLOTS};
+ghost use Rattle.bz_layout.specs.declared.thresholds.TheConstants.{SPLIT_SLOTS, MAX_LEVELS};
+ghost use Rattle.bz_layout.specs.declared.sizes.TheConstants.{NODE_LINES};
 ghost use Rattle.bz_renew.specs.Nodes.{word_value};
 ghost use Rattle.bz_task.specs.Outcomes.{IsPath};
 ghost use Rattle.bz_task.specs.OwnActs.{AreTakenFrom, AreUnreached, gained};
@@ -57,8 +58,8 @@ impl SplitInner {
     /// The split of the node to which the link after this place of a path leads, whose status counts more words than an inner node may
     /// keep.
     pub fn new(config: &Config, path: Path, place: u32) -> SplitInner
-        requires few { path.depth ≤ 12 }
-        requires within { place < 12 }
+        requires few { path.depth ≤ MAX_LEVELS }
+        requires within { place < MAX_LEVELS }
         requires due { IsDue path place }
         ensures config { ⟦<SplitInner as Task>⟧.config result ≡ config.now }
         ensures asks { ⟦<SplitInner as Task>⟧.asks result ≡ None }

@@ -3,6 +3,7 @@ use Rattle.std.specs.Prelude.{◌≡◌, ℕ, ◌+◌, ◌-◌, ◌<◌, ◌≤�
 use Rattle.bz_call.specs.declared.replies.Spent.TheVariants.{Swaps}
 use Rattle.bz_key.specs.Bytes.{IsKey, IsPayload}
 use Rattle.bz_layout.specs.declared.config.Config.{Config}
+use Rattle.bz_layout.specs.declared.thresholds.TheConstants.{RECORD_WORDS, RECORD_LINES}
 use Rattle.bz_word.specs.Statuses.{status}
 use Rattle.bz_task.specs.Scene.{Scene, Stage, Waiting, Took, HasFilled}
 use Rattle.bz_task.specs.declared.todo.Outcome.{Outcome}
@@ -32,12 +33,15 @@ insert_end NeedsRoom = Some Needs
 insert_end Full = Some (IsFull Swaps)
 insert_end phase = None
 
--- the most acts: two swaps, eight stores and two flushes
+-- the most acts: two swaps, the stores and the flushes of the record, and the end
+abbrev pub insert_acts : ℕ
+insert_acts = RECORD_WORDS + RECORD_LINES + 3
+
 abbrev pub insert_left : Phase → ℕ
-insert_left Fresh = 13
-insert_left Reserve = 12
-insert_left (Store i) = 11 - i
-insert_left (Flush n) = 3 - n
+insert_left Fresh = insert_acts
+insert_left Reserve = RECORD_WORDS + RECORD_LINES + 2
+insert_left (Store i) = RECORD_WORDS + RECORD_LINES + 1 - i
+insert_left (Flush n) = RECORD_LINES + 1 - n
 insert_left Publish = 1
 insert_left phase = 0
 
@@ -77,7 +81,7 @@ pub record HasViewed (r : NewRecord) (s : Scene) : Type 0 where
   pub key : IsKey r.key
   pub payload : IsPayload r.payload
   pub some : 0 < size_of r
-  pub few : size_of r ≤ 8
+  pub few : size_of r ≤ RECORD_WORDS
   pub going : s.effected ≡ false
 
 -- and has room for the record

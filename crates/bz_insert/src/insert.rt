@@ -2,6 +2,7 @@
 
 ghost use Rattle.std.specs.Prelude.{◌≡◌, ◌≢◌, ◌↔◌, ◌-◌, ◌+◌, ◌<◌, ◌≤◌, ◌^◌, ◌⊎◌, ℕ, Some, None, true, false};
 ghost use Rattle.bz_layout.specs.Config.{IsConfig};
+ghost use Rattle.bz_layout.specs.declared.thresholds.TheConstants.{RECORD_WORDS, RECORD_LINES};
 ghost use Rattle.bz_task.specs.Outcomes.{IsKeyView};
 ghost use Rattle.bz_task.specs.Requests.{Hears, Tells, IsKnown, swaps_in, effects_in};
 ghost use Rattle.bz_task.specs.Scene.{Scene, Stage, Waiting, IsScene};
@@ -10,7 +11,7 @@ ghost use Rattle.bz_task.specs.declared.todo.Seen.TheVariants.{Swapped, NoSwap};
 ghost use Rattle.bz_record.specs.Laws.{inserts};
 ghost use Rattle.bz_record.specs.Records.{words_for, size_of, HasRoom, LacksRoom};
 ghost use Rattle.bz_insert.specs.Duties.{config_of, asks_of, end_of, left_of, swaps_of, made_of, change_of, publishing_of, facts_of, means_of};
-ghost use Rattle.bz_insert.specs.Facts.{IsEndOfInsert, insert_asks, insert_end, insert_left, insert_swaps, insert_made, insert_publishes, insert_facts, insert_means, IsReady, next_store, next_flush};
+ghost use Rattle.bz_insert.specs.Facts.{IsEndOfInsert, insert_asks, insert_end, insert_acts, insert_left, insert_swaps, insert_made, insert_publishes, insert_facts, insert_means, IsReady, next_store, next_flush};
 
 use crate::phase::Phase;
 use bz_call::Spent;
@@ -35,7 +36,7 @@ impl Insert {
         requires absent { view.found ≡ None }
         ensures config { ⟦<Insert as Task>⟧.config result ≡ config.now }
         ensures asks { ⟦<Insert as Task>⟧.asks result ≡ None }
-        ensures left { ⟦<Insert as Task>⟧.left result ≡ 13 }
+        ensures left { ⟦<Insert as Task>⟧.left result ≡ insert_acts }
         ensures swaps { ⟦<Insert as Task>⟧.swaps result ≡ INSERT_SWAPS }
         ensures made { ⟦<Insert as Task>⟧.made result ≡ 0 }
         ensures needs { ⟦<Insert as Task>⟧.needs result ≡ 0 }
@@ -132,7 +133,7 @@ impl Insert {
     fn after_store(&self, i: u32) -> Phase
         requires { IsReady self.now.config self.now.added (Phase.Store i) }
         ensures next { result ≡ next_store self.now.added i }
-        ensures nearer { insert_left result < 11 - i }
+        ensures nearer { insert_left result < RECORD_WORDS + RECORD_LINES + 1 - i }
         ensures swaps { insert_swaps result ≡ 1 }
         ensures made { insert_made result ≡ 1 }
         ensures ready { IsReady self.now.config self.now.added result }
@@ -150,7 +151,7 @@ impl Insert {
         requires config { IsConfig self.now.config }
         requires ready { IsReady self.now.config self.now.added (Phase.Flush n) }
         ensures next { result ≡ next_flush self.now.config self.now.added n }
-        ensures nearer { insert_left result < 3 - n }
+        ensures nearer { insert_left result < RECORD_LINES + 1 - n }
         ensures swaps { insert_swaps result ≡ 1 }
         ensures made { insert_made result ≡ 1 }
         ensures ready { IsReady self.now.config self.now.added result }

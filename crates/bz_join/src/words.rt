@@ -6,10 +6,8 @@ ghost use Rattle.bz_node.specs.Reading.{IsReadable, HasPair, count_in, meta_in, 
 ghost use Rattle.bz_word.specs.Metas.{IsExtent, IsMeta};
 
 use bz_key::{Key, Payload};
-use bz_layout::{META_AT, NODE_WORDS, SHARED_WORDS, STATUS_AT};
+use bz_layout::{META_AT, NODE_WORDS, SHARED_WORDS, STATUS_AT, BYTES_IN_WORD};
 use bz_word::{Extent, Meta, Status};
-
-const BYTES_IN_WORD: u32 = 7;
 
 /// How many metadata words are in use.
 pub(crate) fn count_of(words: &[u64]) -> u32

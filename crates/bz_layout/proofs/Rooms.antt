@@ -1,6 +1,6 @@
 -- The inequalities between sizes and thresholds, at this format's numbers.
 use Rattle.std.proofs.Common.{arith}
-use Rattle.bz_layout.specs.Rooms.{DescriptorPartsFollow, NodePartsFollow, SharedWordsSuffice, RecordsAreBounded, PairsFitPage, SettledLeafTakesRecord, MergedLeafTakesRecord, SplitLeafIsNotMerged, DeleteLeavesEnough, LeafSplitsInHalves, InnerSplitsInHalves, InnerTakesSeparator, FullInnerIsAboveLimit, NewRootIsSmall, SupplySuffices}
+use Rattle.bz_layout.specs.Rooms.{DescriptorPartsFollow, NodePartsFollow, SharedWordsSuffice, RecordsAreBounded, RecordsLieOverFewLines, PairsFitPage, SettledLeafTakesRecord, MergedLeafTakesRecord, SplitLeafIsNotMerged, DeleteLeavesEnough, LeafSplitsInHalves, InnerSplitsInHalves, InnerTakesSeparator, FullInnerIsAboveLimit, NewRootIsSmall, SupplySuffices}
 
 pub descriptor_parts_follow-holds : DescriptorPartsFollow
 descriptor_parts_follow-holds = record {
@@ -22,6 +22,7 @@ node_parts_follow-holds = record {
   high_fence = omega arith;
   metadata = omega arith;
   shared = omega arith;
+  lines = omega arith;
 }
 
 pub shared_words_suffice-holds : SharedWordsSuffice
@@ -37,10 +38,14 @@ shared_words_suffice-holds count block fits = record {
 pub records_are_bounded-holds : RecordsAreBounded
 records_are_bounded-holds key payload short small = record {
   leaf = omega arith;
+  block = omega arith;
   leaf_least = λ some. omega arith;
   inner = omega arith;
   inner_least = omega arith;
 }
+
+pub records_lie_over_few_lines-holds : RecordsLieOverFewLines
+records_lie_over_few_lines-holds address words some few = omega arith
 
 pub pairs_fit_page-holds : PairsFitPage
 pairs_fit_page-holds pairs words least fits = omega arith

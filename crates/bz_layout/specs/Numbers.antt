@@ -1,11 +1,12 @@
 -- The numbers of this format, each once: a change of format replaces them here and in the constants.
 use Rattle.std.specs.Prelude.{◌≡◌}
-use Rattle.bz_layout.specs.declared.sizes.TheConstants.{LINE_WORDS, SUPERBLOCK_WORDS, FORMAT_AT, ROOT_AT, ROOT_STATUS_AT, NODES_AT, SWAPS_AT, SUPERBLOCK_USED, FORMAT, FIRST_ROOT, SWAP_WORDS, SWAP_STATUS_AT, SWAP_COUNT_AT, ENTRIES_AT, ENTRY_WORDS, MAX_ENTRIES, NODE_WORDS, STATUS_AT, HEADER_AT, LOW_FENCE_AT, HIGH_FENCE_AT, FENCE_WORDS, META_AT, SHARED_WORDS}
-use Rattle.bz_layout.specs.declared.thresholds.TheConstants.{PAYLOAD_WORDS, LEAF_RECORD_WORDS, INNER_RECORD_WORDS, LEAST_RECORD_WORDS, MAX_PAIRS, SPLIT_ABOVE, MERGE_BELOW, INNER_LIMIT, MAX_LEVELS, CONSOLIDATION_SLOTS, MERGE_SLOTS, SPLIT_SLOTS, SLOTS_PER_CALL, SWAPS_PER_CALL, MARKS_PER_CALL, RECOVERY_ACTS_PER_WORD, MARKS_PER_POWER_ON, FIND_READS_PER_RECORD, FIND_READS_BESIDES, DESCEND_READS_PER_RECORD, DESCEND_READS_BESIDES, DESCEND_READS_AT_ROOT}
+use Rattle.bz_layout.specs.declared.sizes.TheConstants.{LINE_WORDS, SUPERBLOCK_WORDS, FORMAT_AT, ROOT_AT, ROOT_STATUS_AT, NODES_AT, SWAPS_AT, SUPERBLOCK_USED, FORMAT, FIRST_ROOT, SWAP_WORDS, SWAP_STATUS_AT, SWAP_COUNT_AT, ENTRIES_AT, ENTRY_WORDS, MAX_ENTRIES, NODE_WORDS, STATUS_AT, HEADER_AT, LOW_FENCE_AT, HIGH_FENCE_AT, FENCE_WORDS, META_AT, SHARED_WORDS, NODE_LINES, BYTES_IN_WORD}
+use Rattle.bz_layout.specs.declared.thresholds.TheConstants.{PAYLOAD_WORDS, LEAF_RECORD_WORDS, RECORD_WORDS, RECORD_LINES, INNER_RECORD_WORDS, LEAST_RECORD_WORDS, MAX_PAIRS, SPLIT_ABOVE, MERGE_BELOW, INNER_LIMIT, MAX_LEVELS, CONSOLIDATION_SLOTS, MERGE_SLOTS, SPLIT_SLOTS, SLOTS_PER_CALL, SWAPS_PER_CALL, MARKS_PER_CALL, RECOVERY_ACTS_PER_WORD, MARKS_PER_POWER_ON, FIND_READS_PER_RECORD, FIND_READS_BESIDES, DESCEND_READS_PER_RECORD, DESCEND_READS_BESIDES, DESCEND_READS_AT_ROOT}
 
 -- the memory: lines, superblock, descriptors
 pub record MapNumbers : Type 0 where
   pub line_words : LINE_WORDS ≡ 8
+  pub bytes_in_word : BYTES_IN_WORD ≡ 7
   pub superblock_words : SUPERBLOCK_WORDS ≡ 16
   pub format_at : FORMAT_AT ≡ 0
   pub root_at : ROOT_AT ≡ 1
@@ -25,6 +26,7 @@ pub record MapNumbers : Type 0 where
 -- a node and its parts
 pub record NodeNumbers : Type 0 where
   pub node_words : NODE_WORDS ≡ 128
+  pub node_lines : NODE_LINES ≡ 16
   pub status_at : STATUS_AT ≡ 0
   pub header_at : HEADER_AT ≡ 1
   pub low_fence_at : LOW_FENCE_AT ≡ 2
@@ -37,6 +39,8 @@ pub record NodeNumbers : Type 0 where
 pub record TreeNumbers : Type 0 where
   pub payload_words : PAYLOAD_WORDS ≡ 4
   pub leaf_record_words : LEAF_RECORD_WORDS ≡ 9
+  pub record_words : RECORD_WORDS ≡ 8
+  pub record_lines : RECORD_LINES ≡ 2
   pub inner_record_words : INNER_RECORD_WORDS ≡ 6
   pub least_record_words : LEAST_RECORD_WORDS ≡ 2
   pub max_pairs : MAX_PAIRS ≡ 59

@@ -1,7 +1,7 @@
 -- What the sizes of nodes and the thresholds owe each other, over numbers of words.
-use Rattle.std.specs.Prelude.{◌≡◌, ℕ, ◌+◌, ◌*◌, ◌-◌, ◌^◌, ◌<◌, ◌≤◌}
-use Rattle.bz_layout.specs.declared.sizes.TheConstants.{FORMAT_AT, ROOT_AT, ROOT_STATUS_AT, NODES_AT, SWAPS_AT, SUPERBLOCK_USED, SUPERBLOCK_WORDS, SWAP_STATUS_AT, SWAP_COUNT_AT, ENTRIES_AT, ENTRY_WORDS, MAX_ENTRIES, SWAP_WORDS, NODE_WORDS, STATUS_AT, HEADER_AT, LOW_FENCE_AT, HIGH_FENCE_AT, FENCE_WORDS, META_AT, SHARED_WORDS}
-use Rattle.bz_layout.specs.declared.thresholds.TheConstants.{PAYLOAD_WORDS, LEAF_RECORD_WORDS, INNER_RECORD_WORDS, LEAST_RECORD_WORDS, MAX_PAIRS, SPLIT_ABOVE, MERGE_BELOW, INNER_LIMIT, MAX_LEVELS, CONSOLIDATION_SLOTS, MERGE_SLOTS, SPLIT_SLOTS, SLOTS_PER_CALL, SWAPS_PER_CALL}
+use Rattle.std.specs.Prelude.{◌≡◌, ℕ, ◌+◌, ◌*◌, ◌-◌, ◌/◌, ◌^◌, ◌<◌, ◌≤◌}
+use Rattle.bz_layout.specs.declared.sizes.TheConstants.{FORMAT_AT, ROOT_AT, ROOT_STATUS_AT, NODES_AT, SWAPS_AT, SUPERBLOCK_USED, SUPERBLOCK_WORDS, SWAP_STATUS_AT, SWAP_COUNT_AT, ENTRIES_AT, ENTRY_WORDS, MAX_ENTRIES, SWAP_WORDS, NODE_WORDS, STATUS_AT, HEADER_AT, LOW_FENCE_AT, HIGH_FENCE_AT, FENCE_WORDS, META_AT, SHARED_WORDS, NODE_LINES, LINE_WORDS, BYTES_IN_WORD}
+use Rattle.bz_layout.specs.declared.thresholds.TheConstants.{PAYLOAD_WORDS, LEAF_RECORD_WORDS, RECORD_WORDS, RECORD_LINES, INNER_RECORD_WORDS, LEAST_RECORD_WORDS, MAX_PAIRS, SPLIT_ABOVE, MERGE_BELOW, INNER_LIMIT, MAX_LEVELS, CONSOLIDATION_SLOTS, MERGE_SLOTS, SPLIT_SLOTS, SLOTS_PER_CALL, SWAPS_PER_CALL}
 
 -- the words of the superblock that are used, and a descriptor's status, count and entries, lie apart and inside
 pub record DescriptorPartsFollow : Type 0 where
@@ -22,6 +22,7 @@ pub record NodePartsFollow : Type 0 where
   pub high_fence : LOW_FENCE_AT + FENCE_WORDS ≤ HIGH_FENCE_AT
   pub metadata : HIGH_FENCE_AT + FENCE_WORDS ≤ META_AT
   pub shared : META_AT + SHARED_WORDS ≡ NODE_WORDS
+  pub lines : LINE_WORDS * NODE_LINES ≡ NODE_WORDS
 
 -- metadata and block do not meet, the block begins past the node's first word, and both fit their fields
 pub record HasApart (count block : ℕ) : Type 0 where
@@ -38,12 +39,17 @@ SharedWordsSuffice = (count block : ℕ) → count + block ≤ SHARED_WORDS → 
 -- a record of a key and a payload, and one of a separator and a child pointer, with their metadata words
 pub record HaveBounds (key payload : ℕ) : Type 0 where
   pub leaf : 1 + key + payload ≤ LEAF_RECORD_WORDS
+  pub block : key + payload ≤ RECORD_WORDS
   pub leaf_least : 1 ≤ key → LEAST_RECORD_WORDS ≤ 1 + key + payload
   pub inner : key + 2 ≤ INNER_RECORD_WORDS
   pub inner_least : LEAST_RECORD_WORDS ≤ key + 2
 
 abbrev pub RecordsAreBounded : Type 0
 RecordsAreBounded = (key payload : ℕ) → key ≤ FENCE_WORDS → payload ≤ PAYLOAD_WORDS → HaveBounds key payload
+
+-- the words of a record, from an address on, lie in so few lines
+abbrev pub RecordsLieOverFewLines : Type 0
+RecordsLieOverFewLines = (address words : ℕ) → 0 < words → words ≤ RECORD_WORDS → (address + words - 1) / LINE_WORDS < address / LINE_WORDS + RECORD_LINES
 
 -- records that fit a leaf fit a page
 abbrev pub PairsFitPage : Type 0

@@ -1,7 +1,7 @@
 //! Laws of sizes and thresholds. Each function does nothing: its contract is the law.
 
 ghost use Rattle.bz_layout.specs.Numbers.{NumbersOfFormat};
-ghost use Rattle.bz_layout.specs.Rooms.{DescriptorPartsFollow, NodePartsFollow, SharedWordsSuffice, RecordsAreBounded, PairsFitPage, SettledLeafTakesRecord, MergedLeafTakesRecord, SplitLeafIsNotMerged, DeleteLeavesEnough, LeafSplitsInHalves, InnerSplitsInHalves, InnerTakesSeparator, FullInnerIsAboveLimit, NewRootIsSmall, SupplySuffices};
+ghost use Rattle.bz_layout.specs.Rooms.{DescriptorPartsFollow, NodePartsFollow, SharedWordsSuffice, RecordsAreBounded, RecordsLieOverFewLines, PairsFitPage, SettledLeafTakesRecord, MergedLeafTakesRecord, SplitLeafIsNotMerged, DeleteLeavesEnough, LeafSplitsInHalves, InnerSplitsInHalves, InnerTakesSeparator, FullInnerIsAboveLimit, NewRootIsSmall, SupplySuffices};
 
 /// The value of each size and threshold. Proofs above use the other laws, and not the values.
 pub fn numbers_of_format()
@@ -26,6 +26,11 @@ pub fn shared_words_suffice()
 /// No record has more words than the greatest, or fewer than the least.
 pub fn records_are_bounded()
     ensures { RecordsAreBounded }
+{}
+
+/// The words of a record lie in few lines, wherever they begin.
+pub fn records_lie_over_few_lines()
+    ensures { RecordsLieOverFewLines }
 {}
 
 /// A leaf has no more pairs than a page has places.

@@ -3,6 +3,9 @@
 /// The words of a line, the unit of a flush.
 pub const LINE_WORDS: u32 = 8;
 
+/// The bytes that a word of a key, of a payload or of a child pointer holds.
+pub const BYTES_IN_WORD: u32 = 7;
+
 /// The words of the superblock, which begins at address 0.
 pub const SUPERBLOCK_WORDS: u32 = 16;
 
@@ -50,6 +53,9 @@ pub const MAX_ENTRIES: u32 = 4;
 
 /// The words of a node.
 pub const NODE_WORDS: u32 = 128;
+
+/// The lines of a node.
+pub const NODE_LINES: u32 = 16;
 
 /// The word of a node with its status.
 pub const STATUS_AT: u32 = 0;

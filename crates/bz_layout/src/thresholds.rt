@@ -9,6 +9,12 @@ pub const PAYLOAD_WORDS: u32 = 4;
 /// The most words of a leaf's record.
 pub const LEAF_RECORD_WORDS: u32 = 9;
 
+/// The words of the block that a record of a leaf has at most.
+pub const RECORD_WORDS: u32 = 8;
+
+/// The lines in which these lie at most.
+pub const RECORD_LINES: u32 = 2;
+
 /// The most words of an inner node's record, which is a separator and a child pointer.
 pub const INNER_RECORD_WORDS: u32 = 6;
 

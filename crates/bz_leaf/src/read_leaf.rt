@@ -2,6 +2,7 @@
 
 ghost use Rattle.std.specs.Prelude.{◌≡◌, ◌≢◌, ◌<◌, ◌≤◌, ◌^◌, ℕ, Some, None, true, false, ◌-◌, slice_index, slice_get, length};
 ghost use Rattle.bz_layout.specs.Config.{IsConfig};
+ghost use Rattle.bz_layout.specs.declared.thresholds.TheConstants.{MAX_LEVELS};
 ghost use Rattle.bz_task.specs.Outcomes.{IsPath, IsView};
 ghost use Rattle.bz_task.specs.Requests.{Hears, Tells, IsKnown};
 ghost use Rattle.bz_task.specs.Scene.{Scene, Stage, Waiting, IsScene, HasFilled};
@@ -34,7 +35,7 @@ impl ReadLeaf {
     /// A reading of the last leaf of a path.
     pub fn new(config: &Config, path: Path, key: Key) -> ReadLeaf
         requires some { 1 ≤ path.depth }
-        requires few { path.depth ≤ 12 }
+        requires few { path.depth ≤ MAX_LEVELS }
         ensures config { ⟦<ReadLeaf as Task>⟧.config result ≡ config.now }
         ensures asks { ⟦<ReadLeaf as Task>⟧.asks result ≡ None }
         ensures left { ⟦<ReadLeaf as Task>⟧.left result ≡ leaf_acts }
@@ -159,7 +160,7 @@ impl ReadLeaf {
 // The last link of a path.
 fn last_link(path: &Path) -> Link
     requires some { 1 ≤ path.now.depth }
-    requires few { path.now.depth ≤ 12 }
+    requires few { path.now.depth ≤ MAX_LEVELS }
     ensures { slice_get path.now.links (path.now.depth - 1) ≡ Some result }
 {
     path.links[path.depth as usize - 1]

@@ -3,7 +3,7 @@ use Rattle.std.specs.Prelude.{◌≡◌, ◌≢◌, ℕ, ◌+◌, ◌-◌, ◌*�
 use Rattle.bz_call.specs.declared.replies.Spent.TheVariants.{Nodes as NoNodes, Swaps as NoSwaps}
 use Rattle.bz_layout.specs.Addresses.{node_address}
 use Rattle.bz_layout.specs.declared.config.Config.{Config}
-use Rattle.bz_layout.specs.declared.sizes.TheConstants.{NODE_WORDS, STATUS_AT}
+use Rattle.bz_layout.specs.declared.sizes.TheConstants.{NODE_WORDS, STATUS_AT, NODE_LINES}
 use Rattle.bz_layout.specs.declared.thresholds.TheConstants.{SPLIT_ABOVE, MERGE_SLOTS}
 use Rattle.bz_node.specs.Reading.{children_in}
 use Rattle.bz_slotted.specs.Readers.{count_of, live_of}
@@ -25,7 +25,6 @@ use Rattle.bz_join.specs.Parents.{joined_parent, IsJoinedOf}
 use Rattle.bz_renew.specs.Guards.{WasAsRead}
 use Rattle.bz_renew.specs.Nodes.{word_address, word_value, line_number, AreWriting, ArePlain, HaveSlots, HasFilledBegun}
 use Rattle.bz_renew.specs.Renewals.{renewal}
-use Rattle.bz_renew.specs.Writing.{NODE_LINES}
 use Rattle.bz_split.specs.BelowSplits.{below_swap}
 use Rattle.bz_split.specs.Facts.{StoodFresh}
 use Rattle.bz_merge.specs.Merges.{StoodFrozen}

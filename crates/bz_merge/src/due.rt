@@ -1,7 +1,7 @@
 //! When a merge may begin.
 
 ghost use Rattle.std.specs.Prelude.{◌≡◌, ◌↔◌, ◌≤◌, ◌<◌, true, false, IsTrue};
-ghost use Rattle.bz_layout.specs.declared.thresholds.TheConstants.{MERGE_BELOW};
+ghost use Rattle.bz_layout.specs.declared.thresholds.TheConstants.{MERGE_BELOW, MAX_LEVELS};
 ghost use Rattle.bz_page.specs.Pages.{IsLeafByItself};
 ghost use Rattle.bz_renew.specs.Due.{LeadsTo, IsStatusOf};
 ghost use Rattle.bz_slotted.specs.Readers.{live_of};
@@ -19,7 +19,7 @@ use bz_word::Status;
 /// the link before the last; and the guards of both links were no frozen nodes'.
 pub fn is_due(path: &Path, view: &LeafView) -> bool
     requires some { 1 ≤ path.now.depth }
-    requires few { path.now.depth ≤ 12 }
+    requires few { path.now.depth ≤ MAX_LEVELS }
     requires leaf { IsLeafByItself view.now.image.0 }
     ensures due { IsTrue result ↔ ((2 ≤ path.now.depth) × (IsThawedAbove path.now × ((live_of (node_of view.now.image.0) < MERGE_BELOW) × IsLedTo path.now view.now.slot))) }
     ensures leads { result ≡ true → LeadsTo path.now view.now.slot }
@@ -47,7 +47,7 @@ fn is_small(view: &LeafView) -> bool
 // Whether the last link of a path leads to this slot, and its guard, as it was read, was no frozen node's.
 fn leads_to(path: &Path, slot: u16) -> bool
     requires some { 1 ≤ path.now.depth }
-    requires few { path.now.depth ≤ 12 }
+    requires few { path.now.depth ≤ MAX_LEVELS }
     ensures { IsTrue result ↔ IsLedTo path.now slot }
 {
     leads_by(&last_link(path), slot)
@@ -63,7 +63,7 @@ fn leads_by(link: &Link, slot: u16) -> bool
 // Whether the guard of the link before the last, as it was read, was no frozen node's.
 fn is_thawed_above(path: &Path) -> bool
     requires deep { 2 ≤ path.now.depth }
-    requires few { path.now.depth ≤ 12 }
+    requires few { path.now.depth ≤ MAX_LEVELS }
     ensures { IsTrue result ↔ IsThawedAbove path.now }
 {
     is_thawed(&upper_link(path))

@@ -1,5 +1,6 @@
 //! The links at the end of a path.
 
+ghost use Rattle.bz_layout.specs.declared.thresholds.TheConstants.{MAX_LEVELS};
 ghost use Rattle.std.specs.Prelude.{◌≡◌, ◌≤◌, ◌-◌, Some, slice_get};
 
 use bz_task::{Link, Path};
@@ -7,7 +8,7 @@ use bz_task::{Link, Path};
 /// The link before the last of a path.
 pub(crate) fn upper_link(path: &Path) -> Link
     requires deep { 2 ≤ path.now.depth }
-    requires few { path.now.depth ≤ 12 }
+    requires few { path.now.depth ≤ MAX_LEVELS }
     ensures { slice_get path.now.links (path.now.depth - 2) ≡ Some result }
 {
     path.links[path.depth as usize - 2]

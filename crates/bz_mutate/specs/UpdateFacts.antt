@@ -4,6 +4,7 @@ use Rattle.bz_call.specs.declared.replies.Spent.TheVariants.{Swaps}
 use Rattle.bz_key.specs.Bytes.{IsKey, IsPayload}
 use Rattle.bz_layout.specs.declared.config.Config.{Config}
 use Rattle.bz_layout.specs.declared.sizes.TheConstants.{SHARED_WORDS}
+use Rattle.bz_layout.specs.declared.thresholds.TheConstants.{RECORD_WORDS, RECORD_LINES}
 use Rattle.bz_node.specs.Reading.{words_of}
 use Rattle.bz_word.specs.Metas.{IsExtent}
 use Rattle.bz_task.specs.Outcomes.{payload_of}
@@ -39,12 +40,15 @@ update_end NeedsRoom = Some Needs
 update_end Full = Some (IsFull Swaps)
 update_end phase = None
 
--- the most acts: two swaps, eight stores and two flushes
+-- the most acts: two swaps, the stores and the flushes of the record, and the end
+abbrev pub update_acts : ℕ
+update_acts = RECORD_WORDS + RECORD_LINES + 3
+
 abbrev pub update_left : UpdatePhase → ℕ
-update_left Fresh = 13
-update_left (Grow f) = 12
-update_left (Store f i) = 11 - i
-update_left (Flush f n) = 3 - n
+update_left Fresh = update_acts
+update_left (Grow f) = RECORD_WORDS + RECORD_LINES + 2
+update_left (Store f i) = RECORD_WORDS + RECORD_LINES + 1 - i
+update_left (Flush f n) = RECORD_LINES + 1 - n
 update_left (Replace f) = 1
 update_left phase = 0
 
@@ -88,7 +92,7 @@ pub record HasViewedFor (v : KeyView) (r : NewRecord) (s : Scene) : Type 0 where
   pub key : IsKey r.key
   pub payload : IsPayload r.payload
   pub some : 0 < size_of r
-  pub few : size_of r ≤ 8
+  pub few : size_of r ≤ RECORD_WORDS
 
 -- the record that was found is one of a leaf, and has what the view says of the key; the leaf has room for the new one
 pub record IsPair (v : KeyView) (r : NewRecord) (f : FoundRecord) : Type 0 where

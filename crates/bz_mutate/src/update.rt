@@ -2,6 +2,7 @@
 
 ghost use Rattle.std.specs.Prelude.{◌≡◌, ◌≢◌, ◌↔◌, ◌-◌, ◌+◌, ◌<◌, ◌≤◌, ◌^◌, ◌⊎◌, Some, None, true, false};
 ghost use Rattle.bz_layout.specs.Config.{IsConfig};
+ghost use Rattle.bz_layout.specs.declared.thresholds.TheConstants.{RECORD_WORDS, RECORD_LINES};
 ghost use Rattle.bz_word.specs.Statuses.{status};
 ghost use Rattle.bz_task.specs.Outcomes.{IsKeyView, payload_of};
 ghost use Rattle.bz_task.specs.Requests.{Hears, Tells, IsKnown, swaps_in, effects_in};
@@ -12,7 +13,7 @@ ghost use Rattle.bz_record.specs.Records.{words_for, size_of, HasRoom, LacksRoom
 ghost use Rattle.bz_record.specs.declared.found_record.FoundRecord.{FoundRecord};
 ghost use Rattle.bz_mutate.specs.Viewed.{IsVisible, IsFound};
 ghost use Rattle.bz_mutate.specs.UpdateDuties.{config_of, asks_of, end_of, left_of, swaps_of, made_of, change_of, publishing_of, facts_of, means_of};
-ghost use Rattle.bz_mutate.specs.UpdateFacts.{IsEndOfUpdate, update_asks, update_end, update_left, update_swaps, update_made, update_publishes, update_facts, IsFirst, IsReady, next_store, next_flush};
+ghost use Rattle.bz_mutate.specs.UpdateFacts.{IsEndOfUpdate, update_asks, update_end, update_acts, update_left, update_swaps, update_made, update_publishes, update_facts, IsFirst, IsReady, next_store, next_flush};
 
 use crate::update_phase::UpdatePhase;
 use bz_call::Spent;
@@ -38,7 +39,7 @@ impl Update {
         requires present { view.found ≢ None }
         ensures config { ⟦<Update as Task>⟧.config result ≡ config.now }
         ensures asks { ⟦<Update as Task>⟧.asks result ≡ None }
-        ensures left { ⟦<Update as Task>⟧.left result ≡ 13 }
+        ensures left { ⟦<Update as Task>⟧.left result ≡ update_acts }
         ensures swaps { ⟦<Update as Task>⟧.swaps result ≡ UPDATE_SWAPS }
         ensures made { ⟦<Update as Task>⟧.made result ≡ 0 }
         ensures needs { ⟦<Update as Task>⟧.needs result ≡ 0 }
@@ -147,7 +148,7 @@ impl Update {
     fn after_store(&self, old: FoundRecord, i: u32) -> UpdatePhase
         requires { IsReady self.now.config self.now.view self.now.added (UpdatePhase.Store old i) }
         ensures next { result ≡ next_store self.now.added old i }
-        ensures nearer { update_left result < 11 - i }
+        ensures nearer { update_left result < RECORD_WORDS + RECORD_LINES + 1 - i }
         ensures swaps { update_swaps result ≡ 1 }
         ensures made { update_made result ≡ 1 }
         ensures ready { IsReady self.now.config self.now.view self.now.added result }
@@ -165,7 +166,7 @@ impl Update {
         requires config { IsConfig self.now.config }
         requires ready { IsReady self.now.config self.now.view self.now.added (UpdatePhase.Flush old n) }
         ensures next { result ≡ next_flush self.now.config self.now.added old n }
-        ensures nearer { update_left result < 3 - n }
+        ensures nearer { update_left result < RECORD_LINES + 1 - n }
         ensures swaps { update_swaps result ≡ 1 }
         ensures made { update_made result ≡ 1 }
         ensures ready { IsReady self.now.config self.now.view self.now.added result }

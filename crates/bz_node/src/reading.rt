@@ -8,7 +8,7 @@ ghost use Rattle.bz_node.specs.Reading.{IsReadable, count_in, meta_in, words_sho
 
 use crate::child::Child;
 use bz_key::{Key, Payload};
-use bz_layout::{HEADER_AT, HIGH_FENCE_AT, META_AT, NODE_WORDS, SHARED_WORDS, STATUS_AT};
+use bz_layout::{HEADER_AT, HIGH_FENCE_AT, META_AT, NODE_WORDS, SHARED_WORDS, STATUS_AT, BYTES_IN_WORD};
 use bz_word::{Extent, Header, Meta, Status};
 
 /// How many metadata words are in use.
@@ -37,8 +37,6 @@ pub(crate) fn meta_of(words: &[u64], i: u32) -> Meta
         None => unreachable!(),
     }
 }
-
-const BYTES_IN_WORD: u32 = 7;
 
 // How many words so many bytes take.
 fn words_for(bytes: u32) -> u32

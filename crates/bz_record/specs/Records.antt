@@ -5,6 +5,7 @@ use Rattle.bz_key.specs.Packing.{packed}
 use Rattle.bz_layout.specs.Addresses.{node_address}
 use Rattle.bz_layout.specs.declared.config.Config.{Config}
 use Rattle.bz_layout.specs.declared.sizes.TheConstants.{NODE_WORDS, SHARED_WORDS}
+use Rattle.bz_layout.specs.declared.thresholds.TheConstants.{RECORD_WORDS}
 use Rattle.bz_word.specs.Statuses.{status}
 use Rattle.bz_word.specs.declared.meta.Extent.{Extent}
 use Rattle.bz_record.specs.declared.new_record.NewRecord.{NewRecord}
@@ -40,12 +41,12 @@ pub record HasRoom (st words : ℕ) : Type 0 where
 abbrev pub LacksRoom : ℕ → ℕ → Type 0
 LacksRoom st words = ((status st).frozen ≡ true) ⊎ (SHARED_WORDS < (status st).count + 1 + (status st).block + words)
 
--- a record of a key and a payload, of one to eight words, and the status of a leaf that has room for it
+-- a record of a key and a payload, of at most `RECORD_WORDS` words, and the status of a leaf that has room for it
 pub record Fits (r : NewRecord) : Type 0 where
   pub key : IsKey r.key
   pub payload : IsPayload r.payload
   pub some : 0 < size_of r
-  pub few : size_of r ≤ 8
+  pub few : size_of r ≤ RECORD_WORDS
   pub plain : r.status < 2 ^ 61
   pub room : HasRoom r.status (size_of r)
   pub dead : (status r.status).dead ≤ (status r.status).block

@@ -13,11 +13,9 @@ ghost use Rattle.bz_record.specs.Finding.{record_of};
 
 use crate::new_record::{NewRecord, status_of};
 use crate::record_swap::RecordSwap;
-use bz_layout::SHARED_WORDS;
+use bz_layout::{SHARED_WORDS, BYTES_IN_WORD};
 use bz_task::Found;
 use bz_word::{Extent, Meta, Status};
-
-const BYTES_IN_WORD: u32 = 7;
 
 /// A visible record of a leaf: which metadata word is its, and where it lies.
 #[derive(Clone, Copy)]

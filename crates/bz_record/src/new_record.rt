@@ -2,6 +2,8 @@
 
 ghost use Rattle.std.specs.Prelude.{◌≡◌, ◌+◌, ◌<◌, ◌≤◌, ◌^◌, ◌∷◌, [], true, false, slice_index};
 ghost use Rattle.bz_layout.specs.Config.{IsConfig};
+ghost use Rattle.bz_layout.specs.declared.sizes.TheConstants.{META_AT, NODE_WORDS};
+ghost use Rattle.bz_layout.specs.declared.thresholds.TheConstants.{RECORD_WORDS};
 ghost use Rattle.bz_word.specs.Statuses.{status, IsStatus};
 ghost use Rattle.bz_record.specs.Records.{words_in, size_of, offset_of, place_of, address_of, HasRoom, LacksRoom, Fits};
 ghost use Rattle.bz_record.specs.Writing.{first_line, last_line};
@@ -30,7 +32,7 @@ impl NewRecord {
     pub fn size(&self) -> u32
         ensures size { result ≡ size_of self.now }
         ensures some { 0 < result }
-        ensures few { result ≤ 8 }
+        ensures few { result ≤ RECORD_WORDS }
     {
         bz_key::laws::packing_is_small();
         let _key = self.key.bytes();
@@ -155,8 +157,8 @@ impl NewRecord {
     fn offset(&self) -> u32
         requires { Fits self.now }
         ensures place { result ≡ offset_of self.now }
-        ensures from { 11 ≤ result }
-        ensures to { result < 128 }
+        ensures from { META_AT < result }
+        ensures to { result < NODE_WORDS }
     {
         NODE_WORDS - status_of(self.status).block - self.size()
     }

@@ -16,16 +16,12 @@ ghost use Rattle.bz_recover.specs.declared.walk.Walk.{Walk as Walker};
 ghost use Rattle.bz_recover.specs.Duties.{hears_in};
 ghost use Rattle.bz_recover.specs.Walking.{IsTreeOf, IsLoadOrEnd, AreReached, GoesOn, Walks, IsWithin, IsLevel, IsStep, IsWalk, IsWalking, Leads, SLOT_ACTS, goes_in, loads_in, asks_of_walk, answers_in, end_in_walk, walk_left};
 
-use bz_layout::{
-    Config, HEADER_AT, MAX_LEVELS, META_AT, NODE_WORDS, ROOT_AT, SHARED_WORDS, STATUS_AT, Slots,
-};
+use bz_layout::{Config, HEADER_AT, MAX_LEVELS, META_AT, NODE_WORDS, ROOT_AT, SHARED_WORDS, STATUS_AT, Slots, BYTES_IN_WORD};
 use bz_task::{Outcome, Seen, Todo};
 use bz_word::{Extent, Meta, Status};
 
 /// The field of the level in a header has 8 bits.
 const LEVELS: u64 = 256;
-
-const BYTES_IN_WORD: u32 = 7;
 
 /// An inner node that the walk has come to: how many children it has, and the first one that is still to come.
 #[derive(Clone, Copy, Drop)]

@@ -6,13 +6,13 @@ use Rattle.std.proofs.lemmas.Bool.Decides.{nat_tests}
 use Rattle.bz_layout.specs.Addresses.{node_address, slot_of, line_of, SlotsApart}
 use Rattle.bz_layout.specs.Slots.{FreeSlots}
 use Rattle.bz_layout.specs.declared.config.Config.{Config}
-use Rattle.bz_layout.specs.declared.sizes.TheConstants.{NODE_WORDS, LINE_WORDS}
+use Rattle.bz_layout.specs.declared.sizes.TheConstants.{NODE_WORDS, LINE_WORDS, NODE_LINES}
 use Rattle.bz_shape.specs.Walk.{is_among}
 use Rattle.bz_task.specs.OwnActs.{Stores, Flushes, AreUnreached, is_gained, gained}
 use Rattle.bz_task.specs.Requests.{IsOwnStore, IsReadable}
 use Rattle.bz_task.specs.Scene.{Scene, IsMine, IsFlushed, IsLawful, HasFilled, here}
 use Rattle.bz_task.proofs.Stays.{gained-mine}
-use Rattle.bz_renew.specs.Writing.{NODE_LINES, IsWriting, HasFilledBut, IsTaken}
+use Rattle.bz_renew.specs.Writing.{IsWriting, HasFilledBut, IsTaken}
 use Rattle.bz_renew.proofs.Words.{or-left, or-right, or-split}
 
 same-test : (a b : ℕ) → a ≡ b → (a == b) ≡ true

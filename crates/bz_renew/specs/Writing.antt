@@ -6,10 +6,6 @@ use Rattle.bz_layout.specs.declared.sizes.TheConstants.{NODE_WORDS, LINE_WORDS}
 use Rattle.bz_shape.specs.Walk.{is_among}
 use Rattle.bz_task.specs.Scene.{Scene, IsMine, IsFlushed, here}
 
--- the lines of a node
-abbrev pub NODE_LINES : ℕ
-NODE_LINES = 16
-
 -- all words of the slot are the worker's own; the first so many are stored, and the first so many lines of them durable
 pub record IsWriting (k : ℕ) (image : List ℕ) (count lines : ℕ) (s : Scene) : Type 0 where
   pub slot : k < s.past.config.nodes

@@ -1,5 +1,6 @@
 //! When a frozen leaf may be made anew.
 
+ghost use Rattle.bz_layout.specs.declared.thresholds.TheConstants.{MAX_LEVELS};
 ghost use Rattle.std.specs.Prelude.{◌≡◌, ◌↔◌, ◌≤◌, ◌<◌, ◌^◌, true, IfSome, IsSome, IsTrue};
 ghost use Rattle.bz_word.specs.Statuses.{status};
 ghost use Rattle.bz_renew.specs.Due.{LeadsTo, IsDue, IsDueBy, IsStatusOf};
@@ -11,7 +12,7 @@ use bz_word::Status;
 /// Whether the view shows a frozen leaf, the path leads to it, and the guard of its last link was no frozen node's.
 pub fn is_due(path: &Path, view: &LeafView) -> bool
     requires some { 1 ≤ path.now.depth }
-    requires few { path.now.depth ≤ 12 }
+    requires few { path.now.depth ≤ MAX_LEVELS }
     ensures due { IsTrue result ↔ IsDue path.now view.now }
     ensures frozen { result ≡ true → (status view.now.status).frozen ≡ true }
     ensures leads { result ≡ true → LeadsTo path.now view.now.slot }

@@ -1,5 +1,6 @@
 //! The split of the node above, where a split lacked the room there.
 
+ghost use Rattle.bz_layout.specs.declared.thresholds.TheConstants.{MAX_LEVELS};
 ghost use Rattle.std.specs.Prelude.{◌≡◌, ◌<◌, ◌≤◌, IfSome, Some, slice_get};
 ghost use Rattle.bz_running.specs.Duties.{config_of, ascent_of};
 ghost use Rattle.bz_running.specs.GoingUp.{IsInScene, IsSplitAt, GoesUp};
@@ -13,8 +14,8 @@ use bz_task::Task;
 
 // The split of the inner node to which an ascent has come, below a parent.
 fn split_inner(config: &Config, ascent: Ascent) -> Option<Running>
-    requires few { ascent.path.depth ≤ 12 }
-    requires within { ascent.place < 12 }
+    requires few { ascent.path.depth ≤ MAX_LEVELS }
+    requires within { ascent.place < MAX_LEVELS }
     requires below { 0 < ascent.place }
     requires node { slice_get ascent.path.links ascent.place ≡ Some ascent.node }
     ensures { IfSome result (IsSplitAt config.now ascent) }
@@ -29,7 +30,7 @@ fn split_inner(config: &Config, ascent: Ascent) -> Option<Running>
 
 // The split of the inner root.
 fn split_inner_root(config: &Config, ascent: Ascent) -> Option<Running>
-    requires few { ascent.path.depth ≤ 12 }
+    requires few { ascent.path.depth ≤ MAX_LEVELS }
     requires root { ascent.place ≡ 0 }
     requires node { slice_get ascent.path.links ascent.place ≡ Some ascent.node }
     ensures { IfSome result (IsSplitAt config.now ascent) }
@@ -43,8 +44,8 @@ fn split_inner_root(config: &Config, ascent: Ascent) -> Option<Running>
 
 // The split of the node to which an ascent has come.
 fn split_at(config: &Config, ascent: Ascent) -> Option<Running>
-    requires few { ascent.path.depth ≤ 12 }
-    requires within { ascent.place < 12 }
+    requires few { ascent.path.depth ≤ MAX_LEVELS }
+    requires within { ascent.place < MAX_LEVELS }
     requires node { slice_get ascent.path.links ascent.place ≡ Some ascent.node }
     ensures { IfSome result (IsSplitAt config.now ascent) }
 {

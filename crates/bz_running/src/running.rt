@@ -4,7 +4,7 @@ ghost use Rattle.std.specs.Prelude.{◌≡◌, ◌-◌, ◌<◌, ◌≢◌, ◌�
 ghost use Rattle.bz_ascent.specs.FromBelow.Facts.{IsThawedAbove, LackedPart};
 ghost use Rattle.bz_consol.specs.Facts.{LeadsTo};
 ghost use Rattle.bz_leaf.specs.Facts.{IsLastLink};
-ghost use Rattle.bz_layout.specs.declared.thresholds.TheConstants.{CONSOLIDATION_SLOTS, MERGE_SLOTS, SPLIT_ABOVE, SPLIT_SLOTS};
+ghost use Rattle.bz_layout.specs.declared.thresholds.TheConstants.{CONSOLIDATION_SLOTS, MERGE_SLOTS, SPLIT_ABOVE, SPLIT_SLOTS, MAX_LEVELS};
 ghost use Rattle.bz_page.specs.Pages.{IsLeafByItself};
 ghost use Rattle.bz_record.specs.Records.{words_for, LacksRoom};
 ghost use Rattle.bz_slotted.specs.Readers.{live_of};
@@ -77,7 +77,7 @@ impl Running {
     #[tactic(auto, unfolding(crate::specs::Duties::config_of, crate::specs::Duties::asks_of, crate::specs::Duties::swaps_of, crate::specs::Duties::made_of, crate::specs::Duties::needs_of, crate::specs::Duties::wants_of, crate::specs::Duties::facts_of, crate::specs::Duties::means_of, crate::specs::Duties::ascent_of, crate::specs::Duties::makes_no_change, crate::specs::Duties::change_of, crate::specs::LookingUp::look_of, crate::specs::LookingUp::reads_asked))]
     pub fn find(config: &Config, path: Path, key: Key) -> Running
         requires some { 1 ≤ path.depth }
-        requires few { path.depth ≤ 12 }
+        requires few { path.depth ≤ MAX_LEVELS }
         ensures config { config_of result ≡ config.now }
         ensures asks { asks_of result ≡ None }
         ensures swaps { swaps_of result ≡ 0 }
@@ -99,7 +99,7 @@ impl Running {
     #[tactic(auto, unfolding(crate::specs::Duties::config_of, crate::specs::Duties::asks_of, crate::specs::Duties::swaps_of, crate::specs::Duties::made_of, crate::specs::Duties::needs_of, crate::specs::Duties::wants_of, crate::specs::Duties::facts_of, crate::specs::Duties::means_of, crate::specs::Duties::ascent_of, crate::specs::Duties::makes_no_change))]
     pub fn read_leaf(config: &Config, path: Path, key: Key) -> Running
         requires some { 1 ≤ path.depth }
-        requires few { path.depth ≤ 12 }
+        requires few { path.depth ≤ MAX_LEVELS }
         ensures config { config_of result ≡ config.now }
         ensures asks { asks_of result ≡ None }
         ensures swaps { swaps_of result ≡ 0 }
@@ -197,7 +197,7 @@ impl Running {
     #[tactic(auto, unfolding(crate::specs::Duties::config_of, crate::specs::Duties::asks_of, crate::specs::Duties::swaps_of, crate::specs::Duties::made_of, crate::specs::Duties::needs_of, crate::specs::Duties::wants_of, crate::specs::Duties::facts_of, crate::specs::Duties::means_of, crate::specs::Duties::ascent_of, crate::specs::Duties::makes_no_change))]
     pub fn consolidate(config: &Config, path: Path, view: LeafView, page: &mut PageBuf) -> Running
         requires some { 1 ≤ path.depth }
-        requires few { path.depth ≤ 12 }
+        requires few { path.depth ≤ MAX_LEVELS }
         requires frozen { (status view.status).frozen ≡ true }
         requires leads { LeadsTo path view.slot }
         requires alone { IsLeafByItself view.image.0 }
@@ -245,7 +245,7 @@ impl Running {
         page: &mut PageBuf,
     ) -> Running
         requires deep { 2 ≤ path.depth }
-        requires few { path.depth ≤ 12 }
+        requires few { path.depth ≤ MAX_LEVELS }
         requires alone { IsLeafByItself view.image.0 }
         requires many { SPLIT_ABOVE < live_of (node_of view.image.0) }
         requires frozen { (status view.status).frozen ≡ true }
@@ -272,7 +272,7 @@ impl Running {
     #[tactic(auto, unfolding(crate::specs::Duties::config_of, crate::specs::Duties::asks_of, crate::specs::Duties::swaps_of, crate::specs::Duties::made_of, crate::specs::Duties::needs_of, crate::specs::Duties::wants_of, crate::specs::Duties::facts_of, crate::specs::Duties::means_of, crate::specs::Duties::ascent_of, crate::specs::Duties::makes_no_change))]
     pub fn merge(config: &Config, path: Path, view: LeafView) -> Running
         requires deep { 2 ≤ path.depth }
-        requires few { path.depth ≤ 12 }
+        requires few { path.depth ≤ MAX_LEVELS }
         requires leads { LeadsTo path view.slot }
         requires thawed { IsThawedAbove path }
         ensures config { config_of result ≡ config.now }

@@ -7,10 +7,8 @@ ghost use Rattle.bz_slotted.specs.ReadingLaws.{node_of};
 ghost use Rattle.bz_slotted.specs.Records.{weight as words_held};
 ghost use Rattle.bz_word.specs.Metas.{IsMeta};
 
-use bz_layout::META_AT;
+use bz_layout::{META_AT, BYTES_IN_WORD};
 use bz_word::{Extent, Meta};
-
-const BYTES_IN_WORD: u32 = 7;
 
 /// How many words so many bytes take.
 pub(crate) fn words_for(bytes: u32) -> u32

@@ -5,7 +5,7 @@ use Rattle.bz_key.specs.Bytes.{IsKey}
 use Rattle.bz_layout.specs.Addresses.{node_address}
 use Rattle.bz_layout.specs.Slots.{FreeSlots}
 use Rattle.bz_layout.specs.declared.config.Config.{Config}
-use Rattle.bz_layout.specs.declared.sizes.TheConstants.{NODE_WORDS}
+use Rattle.bz_layout.specs.declared.sizes.TheConstants.{NODE_WORDS, NODE_LINES}
 use Rattle.bz_layout.specs.declared.thresholds.TheConstants.{SPLIT_SLOTS}
 use Rattle.bz_shape.specs.Order.{is_before}
 use Rattle.bz_slotted.specs.Readers.{found_of}
@@ -29,7 +29,6 @@ use Rattle.bz_renew.specs.FrozenLeaves.{WasFrozenLeaf}
 use Rattle.bz_renew.specs.Guards.{WasAsRead}
 use Rattle.bz_renew.specs.Nodes.{Nodes, word_address, word_value, line_number, AreWriting, ArePlain, HaveSlots, HasFilledBegun, AreSlotsTaken}
 use Rattle.bz_renew.specs.Renewals.{renewal}
-use Rattle.bz_renew.specs.Writing.{NODE_LINES}
 use Rattle.bz_split.specs.Parts.{ArePartsOf}
 use Rattle.bz_split.specs.declared.phase.Phase.{Phase}
 use Rattle.bz_split.specs.declared.phase.Phase.TheVariants.{Fresh, Guard, Store, Flush, Swap, Done, Restart, NoSlot, NoSwap}

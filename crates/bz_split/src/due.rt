@@ -1,7 +1,7 @@
 //! When the split of a root leaf may begin.
 
 ghost use Rattle.std.specs.Prelude.{◌≡◌, ◌↔◌, ◌≤◌, ◌<◌, true, IsTrue};
-ghost use Rattle.bz_layout.specs.declared.thresholds.TheConstants.{SPLIT_ABOVE};
+ghost use Rattle.bz_layout.specs.declared.thresholds.TheConstants.{SPLIT_ABOVE, MAX_LEVELS};
 ghost use Rattle.bz_renew.specs.FromPage.Pages.{IsLeafByItself};
 ghost use Rattle.bz_renew.specs.Due.{LeadsTo, IsDue};
 ghost use Rattle.bz_slotted.specs.Readers.{live_of};
@@ -17,7 +17,7 @@ use bz_task::{LeafView, Path};
 /// which the guard was no frozen node's.
 pub fn is_due(path: &Path, view: &LeafView) -> bool
     requires some { 1 ≤ path.now.depth }
-    requires few { path.now.depth ≤ 12 }
+    requires few { path.now.depth ≤ MAX_LEVELS }
     requires leaf { IsLeafByItself view.now.image.0 }
     ensures due { IsTrue result ↔ ((path.now.depth ≡ 1) × ((SPLIT_ABOVE < live_of (node_of view.now.image.0)) × IsDue path.now view.now)) }
     ensures frozen { result ≡ true → (status view.now.status).frozen ≡ true }

@@ -1,5 +1,7 @@
 //! The way from the root to a leaf.
 
+use bz_layout::MAX_LEVELS;
+
 /// A node on the way, and the link that led to it.
 #[derive(Clone, Copy, Debug, PartialEq, Eq)]
 pub struct Link {
@@ -17,7 +19,7 @@ pub struct Link {
 #[derive(Clone, Copy, Debug, PartialEq, Eq)]
 pub struct Path {
     /// The links, of which the first `depth` are meant.
-    pub links: [Link; 12],
-    /// How many links there are, 1 to 12.
+    pub links: [Link; MAX_LEVELS as usize],
+    /// How many links there are, 1 to `MAX_LEVELS`.
     pub depth: u32,
 }

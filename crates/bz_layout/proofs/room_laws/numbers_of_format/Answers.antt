@@ -5,6 +5,7 @@ pub returns : goal.returns
 returns c = record {
   map = record {
     line_words = refl;
+    bytes_in_word = refl;
     superblock_words = refl;
     format_at = refl;
     root_at = refl;
@@ -23,6 +24,7 @@ returns c = record {
   };
   node = record {
     node_words = refl;
+    node_lines = refl;
     status_at = refl;
     header_at = refl;
     low_fence_at = refl;
@@ -34,6 +36,8 @@ returns c = record {
   tree = record {
     payload_words = refl;
     leaf_record_words = refl;
+    record_words = refl;
+    record_lines = refl;
     inner_record_words = refl;
     least_record_words = refl;
     max_pairs = refl;
