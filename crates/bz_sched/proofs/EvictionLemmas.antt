@@ -1,5 +1,5 @@
 -- Evictions.
-use Rattle.std.proofs.Common.{◌≡◌, ◌≢◌, ◌<◌, ◌⊎◌, inl, inr, ℕ, Bool, true, false, [], length, refl, subst, ◌∙◌, arith, Option, Some, None}
+use Rattle.std.proofs.Common.{◌≡◌, ◌≢◌, ◌<◌, ◌⊎◌, inl, inr, ℕ, Bool, true, false, refl, subst, ◌∙◌, arith, Option, Some, None}
 use Rattle.std.specs.Prelude.{if◌then◌else◌, is_some, nat_le, MatchOption}
 use Rattle.bz_sound.specs.Calls.{open_call}
 use Rattle.std.proofs.lemmas.Bool.Decides.{nat_tests}
@@ -20,7 +20,7 @@ use Rattle.bz_sched.specs.TurnsInPart.{StopsEvent}
 use Rattle.bz_sched.specs.declared.turn.Stop.TheVariants.{Limit}
 use Rattle.bz_sched.proofs.BurnLemmas.{burns_none}
 use Rattle.bz_sched.proofs.PowerLemmas.{struck_power, struck_flushes}
-use Rattle.bz_sched.proofs.StepLemmas.{struck_is, short_stops, more_marks}
+use Rattle.bz_sched.proofs.StepLemmas.{struck_is, short_stops}
 
 -- what an eviction of a word of the memory answers
 abbrev by_eviction : Bool → Bool → Option Applied
@@ -67,11 +67,6 @@ eviction_made old queued a new ready e =
       },
       record { effect = struck.effect; is = struck.is; one_effect = struck.one_effect; queue = refl },
     )
-
-pub eviction_longer : (old : Lab) (a : ℕ) (new : Lab) → Evicts old a applied.Evicted new → length old.log.past < length new.log.past
-eviction_longer old a new e =
-    let struck = struck_is (mark.Evict a) old.log.past e.past e.effect in
-    rw e.rest (rw struck.is (more_marks (mark.Evict a) struck.effect [] old.log.past))
 
 -- it opens and ends no call
 pub eviction_opens : (old : Lab) (a : ℕ) (new : Lab) → Evicts old a applied.Evicted new → (v : ℕ) → is_some (open_call v new.log.past) ≡ is_some (open_call v old.log.past)

@@ -1,14 +1,13 @@
 -- What runs leave as it was, and what is known of a worker that has something to do.
-use Rattle.std.proofs.Common.{◌≡◌, ◌≤◌, ◌<◌, ℕ, ◌-◌, Bool, true, false, List, [], length, refl, sym, ap, ◌∙◌, arith, Option, Some, None}
+use Rattle.std.proofs.Common.{◌≡◌, ℕ, ◌-◌, Bool, true, false, List, [], refl, sym, ap, ◌∙◌, arith, Option, Some, None}
 use Rattle.std.specs.Prelude.{if◌then◌else◌, is_some, option_map}
-use Rattle.std.proofs.lemmas.Bool.Decides.{nat_tests}
 use Rattle.bz_call.specs.declared.calls.Call.{Call}
 use Rattle.bz_sound.specs.Calls.{Open, open_call}
-use Rattle.bz_world.specs.Lab.{Lab, IsWorker, is_short}
+use Rattle.bz_world.specs.Lab.{Lab, IsWorker}
 use Rattle.bz_sched.specs.Fuses.{Fused}
 use Rattle.bz_sched.specs.Points.{ready, ready_by}
 use Rattle.bz_sched.specs.Queued.{calls_of, is_busy_by}
-use Rattle.bz_sched.specs.Runs.{point_in, IsOneOfAll, IsReady, marks_left, Keeps}
+use Rattle.bz_sched.specs.Runs.{point_in, IsOneOfAll, IsReady, Keeps}
 use Rattle.bz_sched.proofs.BurnLemmas.{burns_none, burns_both}
 
 pub keeps_none : (world : Lab) (queued : Fused) → IsReady world → Keeps world queued world queued
@@ -61,9 +60,3 @@ pub changes_no : (b : Bool) (f : Open → Open) (rest : Option Open) → is_some
 changes_no true f (Some opened) = refl
 changes_no true f None = refl
 changes_no false f rest = refl
-
--- fewer places are left
-pub fewer_left : (old new : Lab) → is_short old.log ≡ false → new.log.limits ≡ old.log.limits → length old.log.past < length new.log.past → marks_left new < marks_left old
-fewer_left old new room same more =
-    let enough : 3 ≤ old.log.limits.marks - length old.log.past = grind (arith, nat_tests, room) in
-    rw same (omega arith)

@@ -1,8 +1,7 @@
 -- Steps of a worker's open call.
-use Rattle.std.proofs.Common.{◌≡◌, ◌<◌, ◌⊎◌, inl, inr, ℕ, Bool, true, false, List, [], ◌∷◌, ◌++◌, length, refl, ap, ◌∙◌, arith, Option, Some, None, ◌==◌, nat_lt}
+use Rattle.std.proofs.Common.{◌≡◌, ◌⊎◌, inl, inr, ℕ, Bool, true, false, List, [], ◌∷◌, ◌++◌, refl, ap, ◌∙◌, arith, Option, Some, None, ◌==◌, nat_lt}
 use Rattle.std.specs.Prelude.{is_none, is_some, if◌then◌else◌, MatchOption}
 use Rattle.std.proofs.lemmas.Bool.Decides.{nat_tests}
-use Rattle.std.proofs.lemmas.List.{length-append}
 use Rattle.bz_acts.specs.Rule.{is_flush_act}
 use Rattle.bz_acts.specs.declared.acted.Act.{Act}
 use Rattle.bz_acts.specs.declared.acted.Act.TheVariants as act
@@ -17,7 +16,7 @@ use Rattle.bz_world.specs.declared.answers.Applied.{Applied}
 use Rattle.bz_world.specs.declared.answers.Applied.TheVariants as applied
 use Rattle.bz_world.specs.declared.answers.Event.TheVariants as event
 use Rattle.bz_world.specs.declared.answers.Which.TheVariants as which
-use Rattle.bz_sched.specs.Points.{actor, flushes_of, IsUpToOneEffect, IsStep, TakesStep}
+use Rattle.bz_sched.specs.Points.{actor, flushes_of, IsUpToOneEffect, TakesStep}
 use Rattle.bz_sched.specs.Fuses.{lets, burnt, Fused}
 use Rattle.bz_sched.specs.Runs.{point_in, IsReady, IsAtLimit, IsStopped, Keeps}
 use Rattle.bz_sched.specs.TurnsInPart.{StopsStep}
@@ -194,10 +193,3 @@ pub step_made : (old : Lab) (queued left : Fused) (w : ℕ) (answer : Applied) (
 step_made old queued left w applied.Stepped new ready g b = step_goes_on old queued left w new ready g b
 step_made old queued left w (applied.Ended n) new ready g b = step_ends old queued left w n new ready g b
 step_made old queued left w other new ready g b = absurd g.steps.ends
-
--- a step adds marks
-pub more_marks : (first : Mark) (effect ending past : List Mark) → length past < length (ending ++ (effect ++ first ∷ past))
-more_marks first effect ending past = omega (arith, length-append ending (effect ++ first ∷ past), length-append effect (first ∷ past))
-
-pub step_longer : (w : ℕ) (past new : List Mark) → IsStep w past new → length past < length new
-step_longer w past new s = rw s.is (more_marks s.act s.effect s.ending past)
