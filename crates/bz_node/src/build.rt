@@ -96,7 +96,7 @@ pub(crate) fn node_of<R: Record>(
     ensures valid { IfSome result (λ _. All R.valid records.now × IsBound low × IsBound high) }
 {
     let needed = words_needed(records)?;
-    let mut words = [0; 128];
+    let mut words = [0; NODE_WORDS as usize];
     put_node(&mut words, records, needed, &low, &high, level);
     Some(NodeImage(words))
 }

@@ -6,10 +6,11 @@ use crate::child::Child;
 use crate::ordering::collect_records;
 use crate::reading::{child_of, count_of, high_of, live_words_of};
 use bz_key::{Key, PageBuf};
+use bz_layout::NODE_WORDS;
 
 /// The words of one node, at the places that they have in its slot.
 #[derive(Clone, Copy, Debug, PartialEq, Eq)]
-pub struct NodeImage(pub [u64; 128]);
+pub struct NodeImage(pub [u64; NODE_WORDS as usize]);
 
 impl NodeImage {
     /// The words that the visible records of a leaf take, with their metadata words.

@@ -3,7 +3,7 @@ use Rattle.std.proofs.Common.{◌≡◌, ◌≢◌, ℕ, zero, suc, ◌+◌, ◌
 use Rattle.std.proofs.lemmas.Bool.{cases_lt}
 use Rattle.std.proofs.lemmas.List.Elements.{All-cons}
 use Rattle.bz_layout.specs.declared.config.Config.{Config}
-use Rattle.bz_layout.specs.declared.sizes.TheConstants.{HEADER_AT, STATUS_AT, META_AT, SHARED_WORDS}
+use Rattle.bz_layout.specs.declared.sizes.TheConstants.{HEADER_AT, STATUS_AT, META_AT, SHARED_WORDS, NODE_WORDS}
 use Rattle.bz_slotted.specs.Laws.{LeafRulesAreFacts}
 use Rattle.bz_slotted.specs.Page.{page}
 use Rattle.bz_slotted.specs.Whole.{Whole}
@@ -133,7 +133,7 @@ module _ (b : Laws) (s : Scene) (k st moment : ℕ) (good : IsScene s) (w : WasL
   }
 
 module _ (b : Laws) (s : Scene) (w : RecordSwap) (moment : ℕ) (good : IsScene s) (leaf : WasLeaf w.slot w.status moment s.past) (place : IsPlaceIn w.status w.place) where
-  in-node : META_AT + w.place < 128
+  in-node : META_AT + w.place < NODE_WORDS
   in-node = let p = meta-place b s w.slot w.status moment good leaf w.place place in omega (arith, p.free)
 
   asked-status : w.new_status < 2 ^ 61 → IsEntryToAsk s (status_entry s.past.config w)

@@ -1,6 +1,6 @@
 -- A reservation is lawful for everybody and changes no content.
 use Rattle.std.proofs.Common.{◌≡◌, ℕ, ◌+◌, ◌<◌, true, false, arith, refl, inl, inr}
-use Rattle.bz_layout.specs.declared.sizes.TheConstants.{STATUS_AT, META_AT}
+use Rattle.bz_layout.specs.declared.sizes.TheConstants.{STATUS_AT, META_AT, SHARED_WORDS}
 use Rattle.bz_swap.specs.SwapMemory.{is_target}
 use Rattle.bz_word.specs.Statuses.{status}
 use Rattle.bz_task.specs.Instant.{Instant}
@@ -32,7 +32,7 @@ module _ (b : Laws) (swap : LeafSwapsAreGood) (s : Scene) (y : Instant) (r : New
         kind = inr (inl (record { leaf = (same b s y r moment good f leaf stand swaps).leaf.flat; from = omega arith; to = omega (arith, count-was b s y r moment good f leaf stand swaps); free = omega (arith, block-was b s y r moment good f leaf stand swaps, some) }));
       })))
     where
-      some : (status r.status).count + (status r.status).block < 118
+      some : (status r.status).count + (status r.status).block < SHARED_WORDS
       some = omega (arith, f.room.fits)
 
   leaf-swap : IsLeafSwap false change (entries_of s.past.config (reservation r)) s r.slot y

@@ -7,6 +7,7 @@ ghost use Rattle.bz_layout.specs.Config.{IsConfig};
 ghost use Rattle.bz_layout.specs.Slots.{FreeSlots, without};
 ghost use Rattle.bz_layout.specs.declared.config.Config.{Config};
 ghost use Rattle.bz_layout.specs.declared.sizes.TheConstants.{NODE_WORDS as WORDS, SHARED_WORDS as SHARED};
+ghost use Rattle.bz_layout.specs.declared.thresholds.TheConstants.{MAX_LEVELS};
 ghost use Rattle.bz_key.specs.Packing.{packed_len};
 ghost use Rattle.bz_slotted.specs.Page.{visible, extent_of, meta_of};
 ghost use Rattle.bz_word.specs.Metas.{IsMeta};
@@ -60,7 +61,7 @@ pub struct Walk {
     // the root's level
     top: u32,
     // the inner nodes above the one that is read, by level: MAX_LEVELS of them
-    ways: [Way; 12],
+    ways: [Way; MAX_LEVELS as usize],
     step: Step,
 }
 
@@ -82,7 +83,7 @@ impl Walk {
                 slot: 0,
                 next: 0,
                 count: 0,
-            }; 12],
+            }; MAX_LEVELS as usize],
             step: Step::Fresh,
         }
     }
@@ -194,7 +195,7 @@ impl Walk {
         ensures fewer { OnTrue result (self.new.left < self.old.left) }
         ensures no { OnFalse result (self.old.left ≤ length slots.new.free) }
         ensures same { OnFalse result (self.new ≡ self.old) }
-        ensures size { length self.new.ways ≡ 12 }
+        ensures size { length self.new.ways ≡ MAX_LEVELS }
     {
         slots.hold(slot);
         let left = slots.left();

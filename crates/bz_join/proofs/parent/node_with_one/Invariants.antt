@@ -5,4 +5,5 @@ use Rattle.bz_join.specs.Parents.{joined}
 use Rattle.bz_join.proofs.parent.node_with_one.Given as goal
 
 abbrev pub invariant-loop-j : goal.invariant-loop-j
-invariant-loop-j l = (length l.children ≡ 118) × ((k : ℕ) → k < l.j → child_at l.children k ≡ child_at (joined (children_in l.old.0) l.join.place l.join.slot) k)
+invariant-loop-j l = (length l.children ≡ SHARED_WORDS) × ((k : ℕ) → k < l.j → child_at l.children k ≡ child_at (joined (children_in l.old.0) l.join.place l.join.slot) k)
+use Rattle.bz_layout.specs.declared.sizes.TheConstants.{SHARED_WORDS}

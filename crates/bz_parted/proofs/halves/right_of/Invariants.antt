@@ -5,4 +5,5 @@ use Rattle.bz_parted.specs.Parting.{right_half}
 use Rattle.bz_parted.proofs.halves.right_of.Given as goal
 
 abbrev pub invariant-loop-j : goal.invariant-loop-j
-invariant-loop-j l = (length l.children ≡ 118) × ((k : ℕ) → k < l.j → child_at l.children k ≡ child_at (right_half (children_in l.old.0) l.cut) k)
+invariant-loop-j l = (length l.children ≡ SHARED_WORDS) × ((k : ℕ) → k < l.j → child_at l.children k ≡ child_at (right_half (children_in l.old.0) l.cut) k)
+use Rattle.bz_layout.specs.declared.sizes.TheConstants.{SHARED_WORDS}

@@ -15,8 +15,9 @@ returns c =
     let e = c.extent_of-extent.result in
     let is = c.extent_of-extent.ensures.extent in
     let other : e.key ≢ 0 = c.if-extent-eq0.false in
-    let ends : e.offset + words_of e ≤ 128 = rw is c.requires.key.ends in
+    let ends : e.offset + words_of e ≤ NODE_WORDS = rw is c.requires.key.ends in
     let packs = rw (← is) at c.requires.key.packs in
     let some : IsSome (unpacked_key e.key (key_words (node_of c.args.words.now) e)) = packs (omega (arith, other)) in
     let o = rw c.words_for.ensures.words at c.from_words.ensures in
     rw (← is) (key-read c.args.words.now e c.from_words.result (omega (arith, ends, c.requires.whole)) some o)
+use Rattle.bz_layout.specs.declared.sizes.TheConstants.{NODE_WORDS}
