@@ -1,8 +1,8 @@
 use Rattle.std.proofs.Common.{◌≡◌, ◌<◌, ℕ, length}
+use Rattle.bz_layout.specs.declared.sizes.TheConstants.{SHARED_WORDS}
 use Rattle.bz_node.specs.Reading.{child_in}
 use Rattle.bz_halves.specs.Parents.{child_at}
 use Rattle.bz_parted.proofs.halves.left_of.Given as goal
 
 abbrev pub invariant-loop-j : goal.invariant-loop-j
 invariant-loop-j l = (length l.children ≡ SHARED_WORDS) × ((k : ℕ) → k < l.j → child_at l.children k ≡ child_in l.old.0 k)
-use Rattle.bz_layout.specs.declared.sizes.TheConstants.{SHARED_WORDS}

@@ -1,4 +1,5 @@
 use Rattle.std.proofs.Common.{◌≡◌, ◌<◌, ℕ, length}
+use Rattle.bz_layout.specs.declared.sizes.TheConstants.{SHARED_WORDS}
 use Rattle.bz_node.specs.Reading.{children_in}
 use Rattle.bz_halves.specs.Parents.{child_at}
 use Rattle.bz_parted.specs.Parting.{right_half}
@@ -6,4 +7,3 @@ use Rattle.bz_parted.proofs.halves.right_of.Given as goal
 
 abbrev pub invariant-loop-j : goal.invariant-loop-j
 invariant-loop-j l = (length l.children ≡ SHARED_WORDS) × ((k : ℕ) → k < l.j → child_at l.children k ≡ child_at (right_half (children_in l.old.0) l.cut) k)
-use Rattle.bz_layout.specs.declared.sizes.TheConstants.{SHARED_WORDS}

@@ -1,5 +1,6 @@
 use Rattle.std.proofs.Common.{◌≢◌, ◌≤◌, ◌+◌, arith}
 use Rattle.std.specs.Prelude.{IsSome}
+use Rattle.bz_layout.specs.declared.sizes.TheConstants.{NODE_WORDS}
 use Rattle.bz_key.specs.Packing.{unpacked_key}
 use Rattle.bz_node.specs.Reading.{words_of}
 use Rattle.bz_slotted.specs.ReadingLaws.{node_of}
@@ -20,4 +21,3 @@ returns c =
     let some : IsSome (unpacked_key e.key (key_words (node_of c.args.words.now) e)) = packs (omega (arith, other)) in
     let o = rw c.words_for.ensures.words at c.from_words.ensures in
     rw (← is) (key-read c.args.words.now e c.from_words.result (omega (arith, ends, c.requires.whole)) some o)
-use Rattle.bz_layout.specs.declared.sizes.TheConstants.{NODE_WORDS}
