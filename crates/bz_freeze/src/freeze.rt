@@ -7,7 +7,7 @@ ghost use Rattle.bz_word.specs.Statuses.{status};
 ghost use Rattle.bz_task.specs.Outcomes.{IsView};
 ghost use Rattle.bz_task.specs.Requests.{Hears, Tells, IsKnown, swaps_in, effects_in};
 ghost use Rattle.bz_task.specs.Scene.{Scene, Stage, Waiting, IsScene};
-ghost use Rattle.bz_task.specs.declared.swaps.TheConstants.{FREEZE_SWAPS};
+ghost use Rattle.bz_layout.specs.declared.swaps.TheConstants.{FREEZE_SWAPS};
 ghost use Rattle.bz_task.specs.declared.todo.Seen.TheVariants.{Swapped, NoSwap};
 ghost use Rattle.bz_task.specs.Steps.{frozen_word};
 ghost use Rattle.bz_freeze.specs.Facts.{IsEndOfFreeze, WasFrozen, freeze_asks, freeze_end, freeze_left, freeze_swaps, freeze_facts, freeze_means, freeze_change, entry_of};

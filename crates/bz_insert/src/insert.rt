@@ -6,7 +6,7 @@ ghost use Rattle.bz_layout.specs.declared.thresholds.TheConstants.{RECORD_WORDS,
 ghost use Rattle.bz_task.specs.Outcomes.{IsKeyView};
 ghost use Rattle.bz_task.specs.Requests.{Hears, Tells, IsKnown, swaps_in, effects_in};
 ghost use Rattle.bz_task.specs.Scene.{Scene, Stage, Waiting, IsScene};
-ghost use Rattle.bz_task.specs.declared.swaps.TheConstants.{INSERT_SWAPS};
+ghost use Rattle.bz_layout.specs.declared.swaps.TheConstants.{INSERT_SWAPS};
 ghost use Rattle.bz_task.specs.declared.todo.Seen.TheVariants.{Swapped, NoSwap};
 ghost use Rattle.bz_record.specs.Laws.{inserts};
 ghost use Rattle.bz_record.specs.Records.{words_for, size_of, HasRoom, LacksRoom};

@@ -2,6 +2,7 @@
 use Rattle.std.specs.Prelude.{◌≡◌}
 use Rattle.bz_layout.specs.declared.sizes.TheConstants.{LINE_WORDS, SUPERBLOCK_WORDS, FORMAT_AT, ROOT_AT, ROOT_STATUS_AT, NODES_AT, SWAPS_AT, SUPERBLOCK_USED, FORMAT, FIRST_ROOT, SWAP_WORDS, SWAP_STATUS_AT, SWAP_COUNT_AT, ENTRIES_AT, ENTRY_WORDS, MAX_ENTRIES, NODE_WORDS, STATUS_AT, HEADER_AT, LOW_FENCE_AT, HIGH_FENCE_AT, FENCE_WORDS, META_AT, SHARED_WORDS, NODE_LINES, BYTES_IN_WORD}
 use Rattle.bz_layout.specs.declared.thresholds.TheConstants.{PAYLOAD_WORDS, LEAF_RECORD_WORDS, RECORD_WORDS, RECORD_LINES, INNER_RECORD_WORDS, LEAST_RECORD_WORDS, MAX_PAIRS, SPLIT_ABOVE, MERGE_BELOW, INNER_LIMIT, MAX_LEVELS, CONSOLIDATION_SLOTS, MERGE_SLOTS, SPLIT_SLOTS, SLOTS_PER_CALL, SWAPS_PER_CALL, MARKS_PER_CALL, RECOVERY_ACTS_PER_WORD, MARKS_PER_POWER_ON, FIND_READS_PER_RECORD, FIND_READS_BESIDES, DESCEND_READS_PER_RECORD, DESCEND_READS_BESIDES, DESCEND_READS_AT_ROOT}
+use Rattle.bz_layout.specs.declared.swaps.TheConstants.{INSERT_SWAPS, UPDATE_SWAPS, DELETE_SWAPS, FREEZE_SWAPS, RENEWAL_SWAPS, MERGE_SWAPS}
 
 -- the memory: lines, superblock, descriptors
 pub record MapNumbers : Type 0 where
@@ -65,9 +66,19 @@ pub record SupplyNumbers : Type 0 where
   pub descend_reads_besides : DESCEND_READS_BESIDES ≡ 4
   pub descend_reads_at_root : DESCEND_READS_AT_ROOT ≡ 3
 
+-- the swaps of each operation
+pub record SwapNumbers : Type 0 where
+  pub insert_swaps : INSERT_SWAPS ≡ 2
+  pub update_swaps : UPDATE_SWAPS ≡ 2
+  pub delete_swaps : DELETE_SWAPS ≡ 1
+  pub freeze_swaps : FREEZE_SWAPS ≡ 1
+  pub renewal_swaps : RENEWAL_SWAPS ≡ 1
+  pub merge_swaps : MERGE_SWAPS ≡ 3
+
 -- all of them
 pub record NumbersOfFormat : Type 0 where
   pub map : MapNumbers
   pub node : NodeNumbers
   pub tree : TreeNumbers
   pub supply : SupplyNumbers
+  pub swaps : SwapNumbers

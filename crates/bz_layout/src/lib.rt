@@ -10,6 +10,7 @@ mod sizes;
 mod slot_laws;
 mod slots;
 mod superblock;
+mod swaps;
 #[cfg(test)]
 mod tests;
 mod thresholds;
@@ -39,6 +40,9 @@ pub use sizes::{
 pub use slot_laws::{all_slots_are_free, held_slot_is_gone, taken_slots_are_gone};
 pub use slots::Slots;
 pub use superblock::fresh;
+pub use swaps::{
+    DELETE_SWAPS, FREEZE_SWAPS, INSERT_SWAPS, MERGE_SWAPS, RENEWAL_SWAPS, UPDATE_SWAPS,
+};
 pub use thresholds::{
     CONSOLIDATION_SLOTS, DESCEND_READS_AT_ROOT, DESCEND_READS_BESIDES, DESCEND_READS_PER_RECORD,
     FIND_READS_BESIDES, FIND_READS_PER_RECORD, INNER_LIMIT, INNER_RECORD_WORDS, LEAF_RECORD_WORDS,

@@ -14,7 +14,7 @@ ghost use Rattle.bz_task.specs.Outcomes.{IsPath, IsView};
 ghost use Rattle.bz_task.specs.OwnActs.{AreTakenFrom, AreUnreached, gained};
 ghost use Rattle.bz_task.specs.Requests.{Hears, Tells, IsKnown, swaps_in, effects_in};
 ghost use Rattle.bz_task.specs.Scene.{Scene, Stage, Waiting, IsScene};
-ghost use Rattle.bz_task.specs.declared.swaps.TheConstants.{MERGE_SWAPS};
+ghost use Rattle.bz_layout.specs.declared.swaps.TheConstants.{MERGE_SWAPS};
 ghost use Rattle.bz_task.specs.declared.todo.Seen.TheVariants.{Read as Was, Swapped, NoSwap as NoneLeft};
 ghost use Rattle.bz_merge.specs.Counts.{merge_swaps, merge_made};
 ghost use Rattle.bz_merge.specs.Decisions.{IsParentOfLeaf, HasTold, IsWeighable, HasSettled, HasFrozen, HasFirst, HasWon, HasSwapped, MayMerge, HasBegun, HasLooked};

@@ -21,7 +21,7 @@ use Rattle.bz_task.specs.OwnActs.{Stores, Flushes, AreUnreached, gained}
 use Rattle.bz_task.specs.Requests.{IsAskable, IsCause, Tells}
 use Rattle.bz_task.specs.Scene.{Scene, Stage, Waiting, Took as HasTaken, IsScene, IsLawful, HasFilled, here}
 use Rattle.bz_task.specs.Swaps.{Stand, SwapsTo, IsGoodSwap, Takes}
-use Rattle.bz_task.specs.declared.swaps.TheConstants.{DELETE_SWAPS, INSERT_SWAPS, UPDATE_SWAPS}
+use Rattle.bz_layout.specs.declared.swaps.TheConstants.{DELETE_SWAPS, INSERT_SWAPS, UPDATE_SWAPS}
 use Rattle.bz_task.specs.declared.todo.Outcome.{Outcome}
 use Rattle.bz_task.specs.declared.todo.Outcome.TheVariants.{Restart}
 use Rattle.bz_task.specs.declared.todo.Seen.{Seen}

@@ -4,7 +4,7 @@ use Rattle.bz_layout.specs.declared.config.Config.{Config}
 use Rattle.bz_layout.specs.declared.thresholds.TheConstants.{CONSOLIDATION_SLOTS, MERGE_SLOTS, SPLIT_SLOTS}
 use Rattle.bz_task.specs.Scene.{Scene, Stage}
 use Rattle.bz_task.specs.Swaps.{Change}
-use Rattle.bz_task.specs.declared.swaps.TheConstants.{DELETE_SWAPS, INSERT_SWAPS, UPDATE_SWAPS}
+use Rattle.bz_layout.specs.declared.swaps.TheConstants.{DELETE_SWAPS, INSERT_SWAPS, UPDATE_SWAPS}
 use Rattle.bz_task.specs.declared.todo.Outcome.{Outcome}
 use Rattle.bz_task.specs.declared.todo.Seen.{Seen}
 use Rattle.bz_task.specs.declared.todo.Todo.{Todo}

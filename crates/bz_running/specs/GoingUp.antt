@@ -6,7 +6,7 @@ use Rattle.bz_ascent.specs.Ascents.{IsAscent}
 use Rattle.bz_ascent.specs.declared.ascent.Ascent.{Ascent}
 use Rattle.bz_task.specs.Scene.{Scene, Waiting, IsScene}
 use Rattle.bz_task.specs.declared.path.Path.{Path}
-use Rattle.bz_task.specs.declared.swaps.TheConstants.{RENEWAL_SWAPS}
+use Rattle.bz_layout.specs.declared.swaps.TheConstants.{RENEWAL_SWAPS}
 use Rattle.bz_task.specs.declared.todo.Outcome.TheVariants.{NeedsRoom}
 use Rattle.bz_running.specs.Duties.{config_of, asks_of, end_of, swaps_of, made_of, wants_of, facts_of, makes_no_change}
 use Rattle.bz_running.specs.Hearing.{IsLookup}

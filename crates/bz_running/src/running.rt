@@ -13,7 +13,7 @@ ghost use Rattle.bz_word.specs.Statuses.{status};
 ghost use Rattle.bz_task.specs.Outcomes.{payload_of, IsPath, IsView, IsKeyView};
 ghost use Rattle.bz_task.specs.Requests.{Hears, IsKnown};
 ghost use Rattle.bz_task.specs.Scene.{Scene, Waiting, IsScene, HasFilled};
-ghost use Rattle.bz_task.specs.declared.swaps.TheConstants.{DELETE_SWAPS, FREEZE_SWAPS, INSERT_SWAPS, MERGE_SWAPS, RENEWAL_SWAPS, UPDATE_SWAPS};
+ghost use Rattle.bz_layout.specs.declared.swaps.TheConstants.{DELETE_SWAPS, FREEZE_SWAPS, INSERT_SWAPS, MERGE_SWAPS, RENEWAL_SWAPS, UPDATE_SWAPS};
 ghost use Rattle.bz_task.specs.declared.path.Link.{Link as LastLink};
 ghost use Rattle.bz_task.specs.declared.todo.Todo.TheVariants.{Read};
 ghost use Rattle.bz_running.specs.Hearing.{IsLookup, HasHeard};

@@ -14,7 +14,7 @@ ghost use Rattle.bz_task.specs.Outcomes.{IsPath, IsView};
 ghost use Rattle.bz_task.specs.OwnActs.{AreTakenFrom, AreUnreached, gained};
 ghost use Rattle.bz_task.specs.Requests.{Hears, Tells, IsKnown, swaps_in, effects_in};
 ghost use Rattle.bz_task.specs.Scene.{Scene, Stage, Waiting, IsScene};
-ghost use Rattle.bz_task.specs.declared.swaps.TheConstants.{RENEWAL_SWAPS};
+ghost use Rattle.bz_layout.specs.declared.swaps.TheConstants.{RENEWAL_SWAPS};
 ghost use Rattle.bz_task.specs.declared.todo.Seen.TheVariants.{Read as Was, Swapped, NoSwap as NoneLeft};
 ghost use Rattle.bz_split.specs.Duties.{split_of, asks_of, end_of, left_of, swaps_of, made_of, needs_of, facts_of, differs_of};
 ghost use Rattle.bz_split.specs.Facts.{IsEndOfSplit, HasBegun, HasLooked, nodes_in, split_acts, split_end, split_left, split_swaps, split_facts, split_means, split_change, IsReady, WasParted, next_store, next_flush};

@@ -4,16 +4,12 @@
 
 pub mod laws;
 mod path;
-mod swaps;
 mod task;
 mod todo;
 mod view;
 
 pub use bz_content::laws as content_laws;
 pub use path::{Link, Path};
-pub use swaps::{
-    DELETE_SWAPS, FREEZE_SWAPS, INSERT_SWAPS, MERGE_SWAPS, RENEWAL_SWAPS, UPDATE_SWAPS,
-};
 pub use task::Task;
 pub use todo::{Outcome, Seen, Todo};
 pub use view::{Found, KeyView, LeafView};

@@ -61,4 +61,12 @@ returns c = record {
     descend_reads_besides = refl;
     descend_reads_at_root = refl;
   };
+  swaps = record {
+    insert_swaps = refl;
+    update_swaps = refl;
+    delete_swaps = refl;
+    freeze_swaps = refl;
+    renewal_swaps = refl;
+    merge_swaps = refl;
+  };
 }
