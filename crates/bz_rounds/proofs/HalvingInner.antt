@@ -1,0 +1,202 @@
+-- The swap of the split of an inner node puts its halves in its place below a new parent.
+use Rattle.std.proofs.Common.{◌≡◌, ◌≢◌, ℕ, ◌<◌, List, [], ◌∷◌, Some, arith, refl, sym, ap, subst, ◌∙◌, inl, inr}
+use Rattle.bz_layout.specs.declared.config.Config.{Config}
+use Rattle.bz_layout.specs.declared.thresholds.TheConstants.{SPLIT_SLOTS}
+use Rattle.bz_node.specs.Reading.{children_in}
+use Rattle.bz_shape.specs.Slots.{Wider, Halves}
+use Rattle.bz_slotted.specs.ReadingLaws.{node_of}
+use Rattle.bz_slotted.specs.Rules.{node_fault}
+use Rattle.bz_word.specs.declared.entry.Entry.{Entry}
+use Rattle.bz_content.specs.Content.{image_of, view_in}
+use Rattle.bz_content.specs.Laws.{PlainWordsStandForThemselves}
+use Rattle.bz_content.specs.Restructures.{children_of, Splits}
+use Rattle.bz_task.specs.Instant.{Instant, words, durable, form_at}
+use Rattle.bz_task.specs.Laws.{SamePlace}
+use Rattle.bz_task.specs.Scene.{Scene, Waiting, IsScene, here}
+use Rattle.bz_task.specs.Swaps.{Stand, SwapsTo}
+use Rattle.bz_task.specs.declared.todo.Todo.TheVariants.{Swap as Swaps_for}
+use Rattle.bz_halves.specs.Parents.{HasRoomToPart, IsPartedParent, ParentsOfHalvesAreWhole}
+use Rattle.bz_parted.specs.Laws.{ChildrenPartInHalves}
+use Rattle.bz_renew.specs.Standing.{StillLeads}
+use Rattle.bz_renew.specs.Turning.{TurnsWith, AreGoing, RootLinksTurnWith, ChildLinksTurnWith}
+use Rattle.bz_split.specs.BelowSplits.{AreLinksDown}
+use Rattle.bz_split.specs.Facts.{SPLIT_WORDS, SPLIT_LINES}
+use Rattle.bz_branch.specs.InnerSplits.{both_freezings, inner_swap}
+use Rattle.bz_branch.specs.Nodes.{IsOpenLink}
+use Rattle.bz_branch.proofs.Standing.{node-below}
+use Rattle.bz_fork.specs.Duties.{fork_of}
+use Rattle.bz_fork.specs.Facts.{Fork, IsSplitting, fork_asks, fork_facts, parent_words}
+use Rattle.bz_fork.specs.declared.phase.Phase.{Phase}
+use Rattle.bz_fork.specs.declared.phase.Phase.TheVariants.{Swap}
+use Rattle.bz_stage.specs.Laws.{InnerSplitsLowerTheStage, PathsAreOfKeys}
+use Rattle.bz_stage.specs.Made.{MadeInnersTakeTheirEntries}
+use Rattle.bz_stage.specs.Paths.{on_path}
+use Rattle.bz_stage.specs.Swaps.{IsRoomyInner}
+use Rattle.bz_alone.specs.Laws.{InnerSplitsGoOn}
+use Rattle.bz_alone.specs.Quiet.{IsQuietSince, LonelyTimesAreQuiet}
+use Rattle.bz_rounds.specs.Crowded.{IsRisen, AscentsAreCrowded}
+use Rattle.bz_rounds.specs.Laws.{LoneInnerSplitsLowerTheStage}
+use Rattle.bz_rounds.proofs.Lone.{Basis, tree-now, fits-now, same-entries}
+use Rattle.bz_rounds.proofs.Made.{IsFew, left-few, right-few}
+use Rattle.bz_rounds.proofs.Parents.{Links, out-one, out-two, in-parent, node-leads, node-place, node-words, node-freezable, not-above}
+use Rattle.bz_rounds.proofs.Splitting.{Holds, IsReady, after, splits}
+use Rattle.bz_rounds.proofs.Stored.{node-held, node-fresh, are-three}
+
+-- the laws on which it rests
+pub record Laws : Type 0 where
+  pub basis : Basis
+  pub links : Links
+  pub lonely : LonelyTimesAreQuiet
+  pub plain : PlainWordsStandForThemselves
+  pub root : RootLinksTurnWith
+  pub child : ChildLinksTurnWith
+  pub wholes : ParentsOfHalvesAreWhole
+  pub go : InnerSplitsGoOn
+  pub part : ChildrenPartInHalves
+  pub made : MadeInnersTakeTheirEntries
+  pub paths : PathsAreOfKeys
+  pub crowded : AscentsAreCrowded
+  pub lower : InnerSplitsLowerTheStage
+
+module _ (b : Laws) (r : Fork) (s : Scene) (y : Instant) (good : IsScene s) (quiet : IsQuietSince s.past.since s.past) (f : IsSplitting r SPLIT_WORDS SPLIT_LINES s) where
+  abbrev c : Config
+  c = s.past.config
+
+  abbrev p : ℕ
+  p = r.upper.slot
+
+  abbrev a : ℕ
+  a = r.middle.slot
+
+  abbrev d : AreLinksDown r.upper r.middle s.past
+  d = f.planned.links.down
+
+  abbrev above : IsOpenLink r.upper.slot r.middle s.past
+  above = in-parent s r.upper r.middle f.planned.links.down
+
+  abbrev inside : IsOpenLink r.middle.slot r.lower s.past
+  inside = f.planned.links.node
+
+  leads : StillLeads r.middle s d.guard.guarded p d.under.child.child
+  leads = node-leads b.links s good quiet p r.middle above
+
+  -- the parent, and the node, as they were read
+  parent-place : SamePlace c (s.past.at f.planned.links.guarded) (here s) p
+  parent-place = subst (λ m. SamePlace c (s.past.at m) (here s) p) f.planned.links.is_guarded (node-place b.links s good quiet p r.middle above)
+
+  parent-now : durable c (here s) p ≡ node_of r.above
+  parent-now = node-words b.links s good quiet p r.middle above ∙ (ap (λ m. words c (s.past.at m) p) f.planned.links.is_guarded ∙ f.planned.parent.were)
+
+  own-place : SamePlace c (s.past.at f.planned.links.counted) (here s) a
+  own-place = subst (λ m. SamePlace c (s.past.at m) (here s) a) f.planned.links.is_counted (node-place b.links s good quiet a r.lower inside)
+
+  own-now : durable c (here s) a ≡ node_of r.read
+  own-now = node-words b.links s good quiet a r.lower inside ∙ (ap (λ m. words c (s.past.at m) a) f.planned.links.is_counted ∙ f.planned.node.were)
+
+  level : (form_at c (here s)).level a ≡ f.planned.node.level
+  level = own-place.level ∙ f.planned.node.level_is
+
+  pub high : 0 < (form_at c (here s)).level r.middle.slot
+  high = omega (arith, level, f.planned.node.node.inner)
+
+  room : HasRoomToPart c.nodes (children_in r.above) f.planned.parent.level (r.slot 1) (r.slot 2) f.planned.sep
+  room = record {
+    few = f.planned.parent.parent.few;
+    slots = f.planned.parent.parent.partable.slots;
+    left_slot = f.writing.slots.within 1 (omega arith);
+    right_slot = f.writing.slots.within 2 (omega arith);
+    inner = f.planned.parent.parent.inner;
+    few_levels = f.planned.parent.parent.lowest;
+    room = f.planned.room;
+  }
+
+  made : IsPartedParent c.nodes (node_of r.above) (children_in r.above) f.planned.parent.low f.planned.parent.high f.planned.parent.level f.planned.links.child (r.slot 1) (r.slot 2) f.planned.sep
+  made = b.wholes c.nodes (node_of r.above) (children_in r.above) f.planned.parent.low f.planned.parent.high f.planned.parent.level f.planned.links.child (r.slot 1) (r.slot 2) f.planned.sep f.planned.parent.parent.partable.may room f.planned.parent.parent.partable.has
+
+  wider : Wider (children_of (durable c (here s) p)) (children_of (node_of (r.image 0))) d.under.child.child (r.slot 1) (r.slot 2) f.planned.sep
+  wider = subst (λ n. Wider (children_of n) (children_of (node_of (r.image 0))) d.under.child.child (r.slot 1) (r.slot 2) f.planned.sep) (sym parent-now)
+      (subst (λ w. Wider (children_of (node_of r.above)) (children_of (node_of w)) d.under.child.child (r.slot 1) (r.slot 2) f.planned.sep) (sym f.over)
+      (subst (λ i. Wider (children_of (node_of r.above)) (children_of (node_of (parent_words r f.planned.sep f.planned.links.child f.planned.parent.level f.planned.parent.low f.planned.parent.high))) i (r.slot 1) (r.slot 2) f.planned.sep)
+      (sym f.planned.links.is_child) made.wider))
+
+  halves : Halves (children_of (durable c (here s) a)) (children_of (node_of (r.image 1))) (children_of (node_of (r.image 2))) f.halves.cut f.planned.sep
+  halves = subst (λ n. Halves (children_of n) (children_of (node_of (r.image 1))) (children_of (node_of (r.image 2))) f.halves.cut f.planned.sep) (sym own-now) f.halves.halves
+
+  stored : (n : ℕ) → n < SPLIT_SLOTS → Holds s (r.slot n) (node_of (r.image n))
+  stored n h = record { fresh = node-fresh r.slot r.image s f.plain f.writing n h; has = node-held r.slot r.image s f.plain f.writing n h }
+
+  ready : IsReady s p a d.under.child.child (r.slot 0) (r.slot 1) (r.slot 2) f.halves.cut f.planned.sep (node_of (r.image 0)) (node_of (r.image 1)) (node_of (r.image 2))
+  ready = record {
+    stands = leads.stands;
+    parent = node-below s p r.middle good above;
+    node = node-below s a r.lower good inside;
+    three = are-three r.slot r.image s f.plain f.writing;
+    above = stored 0 (omega arith);
+    left = stored 1 (omega arith);
+    right = stored 2 (omega arith);
+    whole = (λ e. node_fault c.nodes (node_of (f.over e)) (node_of (f.over e)) ((parent-place.level ∙ f.planned.parent.level_is) e) ((parent-place.low ∙ f.planned.parent.low_is) e) ((parent-place.high ∙ f.planned.parent.high_is) e)) ∙ made.inner.none;
+    left_whole = (λ e. node_fault c.nodes (node_of (r.image 1)) (node_of (r.image 1)) (level e) ((own-place.low ∙ f.planned.node.low_is) e) (Some f.planned.sep)) ∙ f.halves.left_whole;
+    right_whole = (λ e. node_fault c.nodes (node_of (r.image 2)) (node_of (r.image 2)) (level e) (Some f.planned.sep) ((own-place.high ∙ f.planned.node.high_is) e)) ∙ f.halves.right_whole;
+    wider = wider;
+    halves = λ deep. halves;
+    before = λ flat key e. absurd (omega (arith, flat, high));
+    from = λ flat key e. absurd (omega (arith, flat, high));
+  }
+
+  apart : p ≢ a
+  apart e = absurd (omega (arith, ap (form_at c (here s)).level e, leads.stands.level))
+
+  going : AreGoing (both_freezings r.upper r.middle r.lower) (a ∷ p ∷ []) s
+  going = record {
+    freezable = (node-freezable b.links s good quiet a r.lower inside, (out-one p a apart, (node-freezable b.links s good quiet p r.middle above, (refl, tt))));
+    go = λ k e. e;
+  }
+
+  abbrev pub IsHalved : Type 0
+  IsHalved = Splits c (image_of (here s).image) (image_of y.image) r.middle.slot (r.slot 0) (r.slot 1) (r.slot 2) f.halves.cut f.planned.sep × (IsRoomyInner c (image_of y.image) (r.slot 1) × IsRoomyInner c (image_of y.image) (r.slot 2))
+
+  module _ (swaps : SwapsTo c (inner_swap c r.upper r.middle r.lower (r.slot 0)) (here s) y) where
+    halved-at : (top j : ℕ) (changed : List ℕ) → TurnsWith r.upper (r.slot 0) (both_freezings r.upper r.middle r.lower) (a ∷ p ∷ []) s y top j changed → IsHalved
+    halved-at top j changed t = (
+      splits b.plain s y good r.upper (both_freezings r.upper r.middle r.lower) (r.slot 0) (a ∷ p ∷ []) top j changed t swaps a d.under.child.child (r.slot 1) (r.slot 2) f.halves.cut f.planned.sep (node_of (r.image 0)) (node_of (r.image 1)) (node_of (r.image 2)) ready refl,
+      (
+        subst IsFew (sym (after b.plain s y good r.upper (both_freezings r.upper r.middle r.lower) (r.slot 0) (a ∷ p ∷ []) top j changed t swaps (r.slot 1) (node_of (r.image 1)) (stored 1 (omega arith))))
+            (left-few b.made b.part c.nodes r.read (r.image 1) (r.image 2) f.planned.sep f.planned.node.level f.planned.node.low f.planned.node.high f.planned.node.node f.planned.many f.halves),
+        subst IsFew (sym (after b.plain s y good r.upper (both_freezings r.upper r.middle r.lower) (r.slot 0) (a ∷ p ∷ []) top j changed t swaps (r.slot 2) (node_of (r.image 2)) (stored 2 (omega arith))))
+            (right-few b.made b.part c.nodes r.read (r.image 1) (r.image 2) f.planned.sep f.planned.node.level f.planned.node.low f.planned.node.high f.planned.node.node f.planned.many f.halves),
+      ),
+    )
+
+    -- where the upper link stands
+    pub halved : Stand (inner_swap c r.upper r.middle r.lower (r.slot 0)) (here s) → IsHalved
+    halved stand = elim d.upper_guard.under [
+      | inl root ↦ halved-at c.nodes 0 (a ∷ p ∷ []) (b.root s y r.upper (r.slot 0) (both_freezings r.upper r.middle r.lower) (a ∷ p ∷ []) good root (f.writing.slots.within 0 (omega arith)) going stand swaps)
+      | inr node ↦ halved-at node.parent node.child.child (node.parent ∷ a ∷ p ∷ [])
+          (b.child s y r.upper (r.slot 0) (both_freezings r.upper r.middle r.lower) (a ∷ p ∷ []) good d.upper_guard d.upper_thawed node
+          (out-two a p node.parent (λ e. absurd (omega (arith, ap (form_at c (here s)).level e, not-above b.links s good quiet r.upper r.middle d node, leads.stands.level)))
+          (λ e. absurd (omega (arith, ap (form_at c (here s)).level e, not-above b.links s good quiet r.upper r.middle d node))))
+          (f.writing.slots.within 0 (omega arith)) going stand swaps)
+    ]
+
+-- a split that asks for a swap has its nodes ready
+swapping : (c : Config) (r : Fork) (phase : Phase) (s : Scene) (entries : List Entry) → fork_facts r phase Waiting s → fork_asks c r phase ≡ Some (Swaps_for entries)
+    → IsSplitting r SPLIT_WORDS SPLIT_LINES s × (inner_swap c r.upper r.middle r.lower (r.slot 0) ≡ entries)
+swapping c r Swap s entries f e = (f.1, same-entries (inner_swap c r.upper r.middle r.lower (r.slot 0)) entries e)
+swapping c r phase s entries f e = absurd (cc)
+
+pub inner-halves : Laws → LoneInnerSplitsLowerTheStage
+inner-halves b t a view words entries s y l come =
+    let r : Fork = fork_of t in
+    let f = swapping t.config r t.phase s entries l.knows l.asks in
+    let quiet : IsQuietSince s.past.since s.past = b.lonely.whole s l.good l.alone in
+    let is : inner_swap s.past.config r.upper r.middle r.lower (r.slot 0) ≡ entries = ap (λ (z : Config). inner_swap z r.upper r.middle r.lower (r.slot 0)) l.config ∙ f.1 in
+    let stand : Stand entries (here s) = (b.go t s l.config l.good l.knows l.alone).stands entries l.asks in
+    let up : IsRisen a s = b.crowded a view s l.good l.alone come.ascent come.leaf in
+    let n : ℕ = (form_at s.past.config (here s)).level a.node.slot in
+    let some : 0 < n = subst (λ k. 0 < (form_at s.past.config (here s)).level k) (sym come.node) (high b r s y l.good quiet f.0) in
+    let below : a.node.slot ≢ s.past.config.nodes = λ e. absurd (omega (arith, e, come.node, node-below s t.middle.slot t.lower l.good f.0.planned.links.node)) in
+    let within : n < (view_in s.past.config (here s).image).height = ((fits-now b.basis s l.good).hangs a.node.slot up.stands.inside below).lower in
+    let on : on_path (view_in s.past.config (here s).image) a.key n ≡ t.middle.slot = (b.paths (view_in s.past.config (here s).image) a.key n a.node.slot (tree-now b.basis s l.good) (omega (arith, within))).0 up.stands ∙ come.node in
+    let d = halved b r s y l.good quiet f.0 (subst (λ z. SwapsTo s.past.config z (here s) y) (sym is) l.leads) (subst (λ z. Stand z (here s)) (sym is) stand) in
+    b.lower s.past.config (image_of (here s).image) (image_of y.image) a.key words n (r.slot 0) (r.slot 1) (r.slot 2) f.0.halves.cut f.0.planned.sep (tree-now b.basis s l.good) some up.crowded
+    (subst (λ (k : ℕ). Splits s.past.config (image_of (here s).image) (image_of y.image) k (r.slot 0) (r.slot 1) (r.slot 2) f.0.halves.cut f.0.planned.sep) (sym on) d.0) d.1.0 d.1.1

@@ -1,0 +1,14 @@
+mod Copying
+mod Freezing
+mod HalvingBelow
+mod HalvingInner
+mod Lacking
+mod Lone
+mod Made
+mod Parents
+mod PartingRoot
+mod Rising
+mod RootHalving
+mod Splitting
+mod Staying
+mod Stored

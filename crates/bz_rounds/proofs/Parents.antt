@@ -1,0 +1,74 @@
+-- The links to a parent and to a node in it, while nobody's swap takes effect: guards have the values that were read, the node is the
+-- parent's child, and the parent is as it was.
+use Rattle.std.proofs.Common.{◌≡◌, ◌≢◌, ℕ, ◌+◌, ◌≤◌, ◌==◌, false, [], ◌∷◌, arith, refl, subst, ◌∙◌, inl, inr}
+use Rattle.std.proofs.lemmas.Bool.Decides.{nat_tests}
+use Rattle.bz_layout.specs.declared.config.Config.{Config}
+use Rattle.bz_layout.specs.declared.sizes.TheConstants.{STATUS_AT}
+use Rattle.bz_shape.specs.Walk.{is_among}
+use Rattle.bz_task.specs.Instant.{words, durable, form_at}
+use Rattle.bz_task.specs.Laws.{SamePlace, RangesStay}
+use Rattle.bz_task.specs.Outcomes.{IsUnderNode, IsGuarded}
+use Rattle.bz_task.specs.Scene.{Scene, IsScene, here}
+use Rattle.bz_task.specs.declared.path.Link.{Link}
+use Rattle.bz_renew.specs.Freezings.{IsFreezable}
+use Rattle.bz_renew.specs.Renewals.{LinksMayBeTurned}
+use Rattle.bz_renew.specs.Standing.{StillLeads, GuardedLinksStand}
+use Rattle.bz_split.specs.BelowSplits.{AreLinksDown}
+use Rattle.bz_branch.specs.Nodes.{IsOpenLink}
+use Rattle.bz_branch.proofs.Standing as open_link
+use Rattle.bz_alone.specs.Quiet.{IsQuietSince, IsRead, ReadValuesStand}
+
+-- the laws on which it rests
+pub record Links : Type 0 where
+  pub values : ReadValuesStand
+  pub stand : GuardedLinksStand
+  pub ranges : RangesStay
+  pub may : LinksMayBeTurned
+
+module _ (b : Links) (s : Scene) (good : IsScene s) (quiet : IsQuietSince s.past.since s.past) where
+  abbrev c : Config
+  c = s.past.config
+
+  guard-read : (link : Link) (g : IsGuarded s.past link) → IsRead c (s.past.at g.guarded) link.guard
+  guard-read link g = elim g.under [
+    | inl u ↦ inr (inl u.guard)
+    | inr u ↦ inr (inr (record { slot = u.parent; place = STATUS_AT; address = u.guard; within = omega arith; reached = u.reached; shown = inl (omega arith) }))
+  ]
+
+  -- a guard at any moment
+  pub guard-at : (link : Link) → IsGuarded s.past link → (i : ℕ) → s.past.since ≤ i → i ≤ s.past.now → (s.past.at i).value link.guard ≡ link.status
+  guard-at link g i from to =
+      b.values s s.past.since g.guarded link.guard good quiet (record { from = g.since; to = omega (arith, g.order, g.now) }) (guard-read link g) i g.guarded (record { from = from; to = to }) (record { from = g.since; to = omega (arith, g.order, g.now) })
+      ∙ g.status
+
+  pub guard-now : (link : Link) → IsGuarded s.past link → (here s).value link.guard ≡ link.status
+  guard-now link g = guard-at link g s.past.now good.begun (omega arith)
+
+  -- a node whose status was read, and a link in it
+  module _ (k : ℕ) (link : Link) (o : IsOpenLink k link s.past) where
+    pub node-leads : StillLeads link s o.guard.guarded k o.under.child.child
+    node-leads = subst (λ z. StillLeads link s o.guard.guarded z o.under.child.child) o.parent (b.stand s link good o.guard o.thawed o.under (guard-now link o.guard))
+
+    pub node-place : SamePlace c (s.past.at o.guard.guarded) (here s) k
+    node-place = open_link.same-place s k link good o b.ranges o.under.child.child node-leads
+
+    pub node-words : durable c (here s) k ≡ words c (s.past.at o.guard.guarded) k
+    node-words = open_link.same-words s k link good o b.ranges o.under.child.child node-leads
+
+    pub node-freezable : IsFreezable (record { slot = k; status = link.status }) s
+    node-freezable = record { reached = node-leads.reached; plain = (b.may s link good o.guard o.thawed).plain; thawed = o.thawed }
+
+  -- a node is none of those above it
+  pub not-above : (upper lower : Link) (d : AreLinksDown upper lower s.past) (under : IsUnderNode s.past upper d.upper_guard.guarded) → (form_at c (here s)).level upper.slot + 1 ≡ (form_at c (here s)).level under.parent
+  not-above upper lower d under = (b.stand s upper good d.upper_guard d.upper_thawed under (guard-now upper d.upper_guard)).stands.level
+
+-- the lower one of two links that lead down
+abbrev pub in-parent : (s : Scene) (upper lower : Link) → AreLinksDown upper lower s.past → IsOpenLink upper.slot lower s.past
+in-parent s upper lower d = record { guard = d.guard; thawed = d.thawed; under = d.under; parent = d.parent }
+
+-- a slot that is none of those that go
+pub out-one : (x k : ℕ) → x ≢ k → is_among (x ∷ []) k ≡ false
+out-one x k ne = let t : (x == k) ≡ false = grind (arith, nat_tests) in rw t refl
+
+pub out-two : (x z k : ℕ) → x ≢ k → z ≢ k → is_among (x ∷ z ∷ []) k ≡ false
+out-two x z k ne other = let t : (x == k) ≡ false = grind (arith, nat_tests) in let u : (z == k) ≡ false = grind (arith, nat_tests) in rw (t, u) refl

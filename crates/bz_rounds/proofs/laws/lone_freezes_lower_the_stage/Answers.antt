@@ -1,0 +1,13 @@
+use Rattle.bz_rounds.proofs.Freezing.{freezes}
+use Rattle.bz_rounds.proofs.laws.lone_freezes_lower_the_stage.Goals as goal
+
+pub returns : goal.returns
+returns c =
+    freezes (record {
+      basis = record { formed = c.well_formed_images_have_no_fault.ensures; tiles = c.leaves_tile_the_keys.ensures; lead = c.paths_lead_to_leaves.ensures };
+      slots = c.swaps_show_in_slots.ensures;
+      apart = c.slots_apart.ensures;
+      codec = c.statuses.ensures;
+      go = c.freezes_go_on.ensures;
+      lower = c.freezes_lower_the_stage.ensures;
+    })

@@ -1,0 +1,5 @@
+pub mod Crowded
+pub mod Falls
+pub mod Laws
+pub mod Lone
+pub mod Made

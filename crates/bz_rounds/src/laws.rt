@@ -1,0 +1,147 @@
+//! Laws of rounds. Each function does nothing but call the laws that it follows from: its contract is the law.
+
+ghost use Rattle.bz_rounds.specs.Crowded.{AscentsAreCrowded};
+ghost use Rattle.bz_rounds.specs.Laws.{LoneFreezesLowerTheStage, LoneCopiesGiveRoom, LoneRootLeafSplitsGiveRoom, LoneLeafSplitsGiveRoom, LoneInnerSplitsLowerTheStage, LoneRootSplitsLowerTheStage};
+
+use bz_alone::laws as alone;
+use bz_content::laws as content;
+use bz_halves::laws as halves;
+use bz_parted::laws as parted;
+use bz_renew::laws as renew;
+use bz_shape::laws as shape;
+use bz_slotted::laws as slotted;
+use bz_stage::laws as stage;
+use bz_task::laws as task;
+
+/// A freeze of a leaf that lacks the words lowers the stage of its key.
+pub fn lone_freezes_lower_the_stage()
+    ensures { LoneFreezesLowerTheStage }
+{
+    alone::paths_lead_to_leaves();
+    alone::freezes_go_on();
+    stage::freezes_lower_the_stage();
+    bz_layout::slots_apart();
+    bz_word::laws::statuses();
+    content::well_formed_images_have_no_fault();
+    shape::leaves_tile_the_keys();
+    task::swaps_show_in_slots();
+}
+
+/// The copy of the key's leaf has room.
+pub fn lone_copies_give_room()
+    ensures { LoneCopiesGiveRoom }
+{
+    alone::paths_lead_to_leaves();
+    alone::consolidations_go_on();
+    stage::made_leaves_are_roomy();
+    stage::copies_give_room();
+    content::well_formed_images_have_no_fault();
+    content::plain_words_stand_for_themselves();
+    renew::links_turn();
+    renew::frozen_leaves_stand_still();
+    shape::leaves_tile_the_keys();
+}
+
+/// So have the halves of a root leaf.
+pub fn lone_root_leaf_splits_give_room()
+    ensures { LoneRootLeafSplitsGiveRoom }
+{
+    alone::paths_lead_to_leaves();
+    alone::root_splits_go_on();
+    stage::made_leaves_are_roomy();
+    bz_layout::settled_leaf_takes_record();
+    content::well_formed_images_have_no_fault();
+    content::plain_words_stand_for_themselves();
+    halves::leaves_part_in_halves();
+    halves::roots_stand_over_two();
+    renew::links_turn();
+    renew::frozen_leaves_stand_still();
+    shape::leaves_tile_the_keys();
+    slotted::leaf_rules_are_facts();
+    slotted::inner_rules_are_facts();
+}
+
+/// And those of a leaf below a parent.
+pub fn lone_leaf_splits_give_room()
+    ensures { LoneLeafSplitsGiveRoom }
+{
+    alone::paths_lead_to_leaves();
+    alone::read_values_stand();
+    alone::lonely_times_are_quiet();
+    alone::splits_below_go_on();
+    stage::made_leaves_are_roomy();
+    stage::leaf_splits_give_room();
+    content::well_formed_images_have_no_fault();
+    content::plain_words_stand_for_themselves();
+    halves::leaves_part_in_halves();
+    halves::parents_of_halves_are_whole();
+    renew::links_turn();
+    renew::links_turn_and_nodes_freeze();
+    renew::guarded_links_stand();
+    renew::frozen_leaves_stand_still();
+    shape::leaves_tile_the_keys();
+    task::ranges_stay();
+}
+
+/// The nodes that were found full on the way up from a leaf that has to be split are full now.
+pub fn ascents_are_crowded()
+    ensures { AscentsAreCrowded }
+{
+    alone::read_values_stand();
+    alone::trees_stand();
+    alone::lonely_times_are_quiet();
+    stage::paths_are_of_keys();
+    stage::entries_take_the_words();
+    content::well_formed_images_have_no_fault();
+    shape::leaves_tile_the_keys();
+    slotted::leaf_rules_are_facts();
+    task::headers_say_the_level();
+}
+
+/// So the split of one of them lowers the stage of the key.
+pub fn lone_inner_splits_lower_the_stage()
+    ensures { LoneInnerSplitsLowerTheStage }
+{
+    ascents_are_crowded();
+    alone::paths_lead_to_leaves();
+    alone::read_values_stand();
+    alone::lonely_times_are_quiet();
+    alone::inner_splits_go_on();
+    stage::paths_are_of_keys();
+    stage::made_inners_take_their_entries();
+    stage::inner_splits_lower_the_stage();
+    content::well_formed_images_have_no_fault();
+    content::plain_words_stand_for_themselves();
+    halves::parents_of_halves_are_whole();
+    parted::children_part_in_halves();
+    renew::links_turn();
+    renew::links_turn_and_nodes_freeze();
+    renew::guarded_links_stand();
+    shape::leaves_tile_the_keys();
+    task::ranges_stay();
+}
+
+/// So does that of a full root.
+pub fn lone_root_splits_lower_the_stage()
+    ensures { LoneRootSplitsLowerTheStage }
+{
+    ascents_are_crowded();
+    alone::paths_lead_to_leaves();
+    alone::read_values_stand();
+    alone::lonely_times_are_quiet();
+    alone::inner_root_splits_go_on();
+    stage::made_inners_take_their_entries();
+    stage::root_splits_lower_the_stage();
+    content::well_formed_images_have_no_fault();
+    content::plain_words_stand_for_themselves();
+    parted::children_part_in_halves();
+    parted::roots_stand_at_levels();
+    renew::links_turn();
+    renew::links_turn_and_nodes_freeze();
+    renew::guarded_links_stand();
+    shape::leaves_tile_the_keys();
+    slotted::leaf_rules_are_facts();
+    slotted::inner_rules_are_facts();
+    task::ranges_stay();
+    task::roots_are_reached();
+}
