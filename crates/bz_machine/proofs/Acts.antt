@@ -31,7 +31,7 @@ use Rattle.bz_machine.proofs.Helps.{OnSwap, good-after_help, knows-helping, good
 use Rattle.bz_machine.proofs.Learns.{good-learnt}
 use Rattle.bz_machine.proofs.Prepares.{OnOwn}
 use Rattle.bz_machine.proofs.PrepareActs.{good-prepare}
-use Rattle.bz_machine.proofs.Stores.{change-store}
+use Rattle.bz_machine.proofs.Words.{change-store}
 use Rattle.bz_machine.proofs.Copies.{change-copies}
 use Rattle.bz_machine.proofs.Values.{change-cleared}
 use Rattle.bz_machine.proofs.KeptKnowledge.{back-keeps, owns-keeps}

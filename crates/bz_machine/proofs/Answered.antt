@@ -6,7 +6,7 @@ use Rattle.bz_machine.specs.declared.status.Verdict.TheVariants.{Succeeded, Fail
 use Rattle.bz_machine.specs.Machine.{Entries, Memory, is_verdict}
 use Rattle.bz_machine.specs.Changes.{with_answer}
 use Rattle.bz_machine.specs.Sound.{Sound}
-use Rattle.bz_machine.specs.Keeps.{Keeps, KeepsDescriptor}
+use Rattle.bz_machine.specs.Keeps.{KeepsDescriptor}
 use Rattle.bz_machine.specs.declared.worker.Operation.{Operation}
 use Rattle.bz_machine.specs.declared.worker.Operation.TheVariants.{Nothing, Reading, Swapping}
 use Rattle.bz_machine.specs.declared.done.Done.TheVariants.{Swapped}
@@ -20,61 +20,15 @@ use Rattle.bz_machine.proofs.Good.{Good}
 use Rattle.bz_machine.proofs.Published.{durably_decided-published, durable_verdict-cached, one_verdict}
 
 sound-answer : (e : ℕ → Entries) (m : Memory) (s : ℕ) (d : Verdict) → is_verdict (m.durable_status s) d ≡ true → Sound e m → Sound e (with_answer m s d)
-sound-answer e m s d h g = record {
-  same = g.same;
-  private = g.private;
-  private_durable = g.private_durable;
-  pointer = g.pointer;
-  pointer_durable = g.pointer_durable;
-  tag = g.tag;
-  tag_durable = g.tag_durable;
-  fresh = g.fresh;
-  targets = g.targets;
-  begun = g.begun;
-  not_begun = g.not_begun;
-  words = g.words;
-  durable_words = g.durable_words;
-  follows = g.follows;
-  unset = g.unset;
-  unmissed = g.unmissed;
-  unanswered = λ t p. grind (arith, common_steps, g.unanswered t p, durably_decided-published e m s d g h);
-  standing = g.standing;
-  standing_durable = g.standing_durable;
-  missed = g.missed;
-  answered = λ t c k. grind (arith, common_steps, g.answered t c);
-}
-
-keeps-answer : (e : ℕ → Entries) (m n : Memory) (s : ℕ) (d : Verdict) → Keeps e m n → Keeps e m (with_answer n s d)
-keeps-answer e m n s d k = record {
-  published = k.published;
-  missed = k.missed;
-  numbers = k.numbers;
-  named = k.named;
-  taken = k.taken;
-  owner = k.owner;
-  undecided = k.undecided;
-  verdict = k.verdict;
-  durable_verdict = k.durable_verdict;
-  pointer = k.pointer;
-  pointer_durable = k.pointer_durable;
-  old_tag = k.old_tag;
-  under_tag = k.under_tag;
-}
+sound-answer e m s d h g = grind (arith, common_steps, g, durably_decided-published e m s d g h)
 
 descriptor-answer : (m n : Memory) (s : ℕ) (d : Verdict) (t : ℕ) → t ≢ s → KeepsDescriptor m n t → KeepsDescriptor m (with_answer n s d) t
-descriptor-answer m n s d t ne k = record {
-  published = k.published;
-  answer = grind (arith, common_steps, k.answer);
-  words = k.words;
-  durable_words = k.durable_words;
-  status = k.status;
-  durable_status = k.durable_status;
-}
+descriptor-answer m n s d t ne k = grind (arith, common_steps, k)
 
 effect-answer : (e : ℕ → Entries) (m n : Memory) (s c : ℕ) (d : Verdict) → QuietOrEffect e m n c → QuietOrEffect e m (with_answer n s d) c
 effect-answer e m n s c d q = elim q [
-  | inl quiet ↦ inl (record { content = quiet.content; swaps = quiet.swaps })
-  | inr effect ↦ inr (record { before = effect.before; done = effect.done; other_swaps = effect.other_swaps; expected = effect.expected; value = effect.value; others = effect.others })
+  | inl quiet ↦ inl (assumption quiet)
+  | inr effect ↦ inr (assumption effect)
 ]
 
 answer-put : (m : Memory) (s : ℕ) (d : Verdict) → (with_answer m s d).answer s ≡ Some d
@@ -99,10 +53,10 @@ pub good-answered : (e : ℕ → Entries) (m n : Memory) (w : ℕ) (l : Local) (
     → is_verdict (m.durable_status l.current) d ≡ true → Good e m w l (answers (with_answer n l.current d) l (Swapped (is_success d)))
 good-answered e m n w l d c own o b h before = record {
   sound = sound-answer e n l.current d h c.sound;
-  keeps = keeps-answer e m n l.current d c.keeps;
+  keeps = assumption c.keeps;
   descriptors = λ t other. descriptor-answer m n l.current d t (λ same. other (grind (arith, same, owner-own m w l.current l.operation own o))) (c.descriptors t);
   effect = effect-answer e m n l.current l.current d c.effect;
-  misses = record { lawful = c.misses.lawful; kept = c.misses.kept };
+  misses = assumption c.misses;
   knows = record { place = tt; owns = tt; back = b };
   answer = answer-own e n l.current d l.operation own h c.sound;
   ends = inr (none-verdict m n l.current d before h);

@@ -8,7 +8,7 @@ use Rattle.bz_machine.specs.Changes.{with_durable_status}
 use Rattle.bz_machine.specs.Sound.{Follows, IsUnset, AreApart, Sound}
 use Rattle.bz_machine.specs.Content.{TakesEffect, Quiet, QuietOrEffect}
 use Rattle.bz_machine.proofs.Change.{Change, no_miss}
-use Rattle.bz_machine.proofs.DurableStatuses.{same_success, sound-durable_status, keeps-durable_status, descriptor-durable_status}
+use Rattle.bz_machine.proofs.DurableStatuses.{same_success, sound-durable_status, keeps-durable_status}
 
 cases-undecided : (k : SwapStatus) → (k ≡ Undecided) ⊎ (k ≢ Undecided)
 cases-undecided Free = inr (λ h. grind arith)
@@ -31,20 +31,10 @@ unset-same : (c k : SwapStatus) → IsUnset c → IsUnset k → is_succeeded k �
 unset-same c k u v = grind arith
 
 takes-effect : (e : ℕ → Entries) (m : Memory) (s : ℕ) → AreApart e → Sound e m → is_succeeded (m.status s) ≡ true → m.durable_status s ≡ Undecided → TakesEffect e m (with_durable_status m s) s
-takes-effect e m s o g won und = record {
-  before = grind arith;
-  done = grind (arith, common_steps);
-  other_swaps = λ t ne. grind (arith, common_steps);
-  expected = λ i lt. grind (arith, common_steps, g.standing_durable s i (m.durable ((e s).target i)) lt won und refl, o s i lt);
-  value = λ i lt. grind (arith, common_steps, g.standing_durable s i (m.durable ((e s).target i)) lt won und refl, o s i lt);
-  others = λ a nm out. grind (arith, common_steps, g.pointer_durable a s (m.durable a) refl, out ((e s).index a));
-}
+takes-effect e m s o g won und = grind (arith, common_steps, g, o s)
 
 quiet-durable_status : (e : ℕ → Entries) (m : Memory) (s : ℕ) → is_succeeded (m.durable_status s) ≡ is_succeeded (m.status s) → Quiet e m (with_durable_status m s)
-quiet-durable_status e m s same = record {
-  content = λ a nm. grind (arith, common_steps);
-  swaps = λ t. grind (arith, common_steps);
-}
+quiet-durable_status e m s same = grind (arith, common_steps)
 
 effect-published : (e : ℕ → Entries) (m : Memory) (s : ℕ) (b : Bool) → m.published s ≡ b → AreApart e → Sound e m → QuietOrEffect e m (with_durable_status m s) s
 effect-published e m s true p o g = elim (success-cases (m.status s) (m.durable_status s) (g.follows s p)) [
@@ -60,7 +50,7 @@ pub change-durable_status : (e : ℕ → Entries) (m : Memory) (s : ℕ) → Are
 change-durable_status e m s o g = record {
   sound = sound-durable_status e m s o g;
   keeps = keeps-durable_status e m s g;
-  descriptors = descriptor-durable_status m s;
+  descriptors = λ t. grind (arith, common_steps);
   effect = effect-durable_status e m s o g;
   misses = no_miss e m (with_durable_status m s) refl;
 }

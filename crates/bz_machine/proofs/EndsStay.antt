@@ -329,6 +329,6 @@ ends_stay_whole x (StartStore w b u) may state whole = started-whole x w _ (λ i
 ends_stay_whole x (StartFlush w line) may state whole = started-whole x w _ (λ i v q at. at) (λ k. k) whole
 ends_stay_whole x (StartSwap w new targets) may state whole = taken-whole x w new targets state whole
 ends_stay_whole x (Act w) may state whole = act-whole x w state whole (own-acted x w state whole)
-ends_stay_whole x (Evict b) may state whole = record { clean = whole.clean; done = whole.done; answered_clean = whole.answered_clean; answered_done = whole.answered_done }
-ends_stay_whole x (EvictStatus t) may state whole = record { clean = whole.clean; done = whole.done; answered_clean = whole.answered_clean; answered_done = whole.answered_done }
-ends_stay_whole x (EvictField t k) may state whole = record { clean = whole.clean; done = whole.done; answered_clean = whole.answered_clean; answered_done = whole.answered_done }
+ends_stay_whole x (Evict b) may state whole = assumption whole
+ends_stay_whole x (EvictStatus t) may state whole = assumption whole
+ends_stay_whole x (EvictField t k) may state whole = assumption whole

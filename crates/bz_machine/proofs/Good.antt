@@ -26,16 +26,7 @@ pub record Good (e : ℕ → Entries) (m : Memory) (w : ℕ) (l : Local) (a : St
 
 pub good : (e : ℕ → Entries) (m : Memory) (w : ℕ) (l : Local) (a : Stepped) → Change e m a.memory l.current → Knows e a.memory w a.local → IsAnswer e a.memory l.operation a.done
     → (a.done ≡ Busy) ⊎ (effect_of m a.memory l.current ≡ None) → Good e m w l a
-good e m w l a c k i ends = record {
-  sound = c.sound;
-  keeps = c.keeps;
-  descriptors = λ s other. c.descriptors s;
-  effect = c.effect;
-  misses = c.misses;
-  knows = k;
-  answer = i;
-  ends = ends;
-}
+good e m w l a c k i ends = let descriptors : (s : ℕ) → m.owner s ≢ w → KeepsDescriptor m a.memory s = λ s other. c.descriptors s in assumption (c, descriptors, k, i, ends)
 
 pub good-if : (e : ℕ → Entries) (m : Memory) (w : ℕ) (l : Local) (b : Bool) (x y : Stepped) → (b ≡ true → Good e m w l x) → (b ≡ false → Good e m w l y) → Good e m w l (if b then x else y)
 good-if e m w l true x y f g = f refl

@@ -15,7 +15,7 @@ use Rattle.bz_machine.specs.declared.place.Next.TheVariants.{Step, Meet}
 use Rattle.bz_machine.specs.HelpActs.{stays, passed, after_install_tag, after_look_under}
 use Rattle.bz_machine.proofs.Change.{Change}
 use Rattle.bz_machine.proofs.Misses.{change-miss}
-use Rattle.bz_machine.proofs.Tags.{change-tag}
+use Rattle.bz_machine.proofs.Words.{change-tag}
 use Rattle.bz_machine.proofs.KeptFacts.{points-keeps}
 use Rattle.bz_machine.proofs.Fine.{Fine, fine-same, fine-if, fact-if, fact-passed}
 

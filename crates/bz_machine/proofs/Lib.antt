@@ -63,12 +63,10 @@ pub mod SpendStores
 pub mod SpendTags
 pub mod SpendTries
 pub mod Spends
-pub mod Stores
 pub mod SwapStarts
 pub mod TagHomes
 pub mod TagsHome
 pub mod Sums
-pub mod Tags
 pub mod TakenKnowledge
 pub mod Takes
 pub mod Through

@@ -190,6 +190,6 @@ owners_stay x (StartStore w b u) may state own = started-owned x w _ may.0 (subs
 owners_stay x (StartFlush w line) may state own = started-owned x w _ may (subst (λ (p : Place). RestsAt p (x.local w).operation) may (own.rests w)) own
 owners_stay x (StartSwap w new targets) may state own = taken-owned x w new targets may.0 own
 owners_stay x (Act w) may state own = act-owned x w state own (own-act x.entries x.memory w (x.local w) (x.local w).place (state.knows w).place (own.rests w))
-owners_stay x (Evict b) may state own = record { rests = own.rests; owned = own.owned }
-owners_stay x (EvictStatus t) may state own = record { rests = own.rests; owned = own.owned }
-owners_stay x (EvictField t k) may state own = record { rests = own.rests; owned = own.owned }
+owners_stay x (Evict b) may state own = assumption own
+owners_stay x (EvictStatus t) may state own = assumption own
+owners_stay x (EvictField t k) may state own = assumption own

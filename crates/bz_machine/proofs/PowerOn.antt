@@ -1,13 +1,11 @@
 -- The laws of the machine, from power on.
-use Rattle.std.proofs.Common.{◌≡◌, ◌≢◌, ℕ, true, arith, refl, sym, ◌∙◌}
+use Rattle.std.proofs.Common.{◌≡◌, ◌≢◌, ℕ, true, arith, refl}
 use Rattle.std.proofs.lemmas.Grind.{common_steps}
-use Rattle.bz_word.specs.declared.kind.WordKind.{WordKind}
-use Rattle.bz_word.specs.declared.kind.WordKind.TheVariants.{Swap, Tag}
 use Rattle.bz_machine.specs.declared.status.SwapStatus.{SwapStatus}
 use Rattle.bz_machine.specs.declared.status.SwapStatus.TheVariants.{Free}
 use Rattle.bz_machine.specs.declared.status.Verdict.TheVariants.{Succeeded, Failed}
 use Rattle.bz_machine.specs.Machine.{Entries, Memory, is_verdict}
-use Rattle.bz_machine.specs.Sound.{Follows, IsPlain, Sound}
+use Rattle.bz_machine.specs.Sound.{Follows, Sound}
 use Rattle.std.proofs.Common.{List}
 use Rattle.bz_machine.specs.State.{Event, IsState, AllMayHappen, after_all, IsRenewable, power_on}
 use Rattle.bz_machine.specs.Promise.{Atomic}
@@ -18,37 +16,9 @@ use Rattle.bz_machine.proofs.Events.{state-after_all}
 use Rattle.bz_machine.proofs.Published.{one_verdict}
 use Rattle.bz_machine.proofs.Runs.{atomic-happens, verdict-after_all}
 
-plain-pointer : (x : WordKind) (s : ℕ) → IsPlain x → x ≡ Swap s → ⊥
-plain-pointer x s p h = rw h at p
-
-plain-tag : (x : WordKind) (s i w q : ℕ) → IsPlain x → x ≡ Tag s i w q → ⊥
-plain-tag x s i w q p h = rw h at p
-
 -- plain words, the same in cache and in durable memory, and free descriptors are a sound start
 sound-renewed : (m : Memory) → IsRenewable m → Sound no_entries (renewed m)
-sound-renewed m r = record {
-  same = λ a x may nm. absurd (grind (arith, nm));
-  private = λ a nm. r.plain a;
-  private_durable = λ a x may nm. rw (may, ← r.same a) (r.plain a);
-  pointer = λ a s h. absurd (plain-pointer (m.cached a) s (r.plain a) h);
-  pointer_durable = λ a s x may h. absurd (plain-pointer (m.cached a) s (r.plain a) (r.same a ∙ sym may ∙ h));
-  tag = λ a s i w q h. absurd (plain-tag (m.cached a) s i w q (r.plain a) h);
-  tag_durable = λ a s i w q x may h. absurd (plain-tag (m.cached a) s i w q (r.plain a) (r.same a ∙ sym may ∙ h));
-  fresh = λ a s i w q h. absurd (plain-tag (m.cached a) s i w q (r.plain a) h);
-  targets = λ s i lt. absurd (omega arith);
-  begun = λ s lt. absurd (omega arith);
-  not_begun = λ s le. (refl, refl);
-  words = λ s k p le. absurd (grind (arith, p));
-  durable_words = λ s k p le. absurd (grind (arith, p));
-  follows = λ s p. absurd (grind (arith, p));
-  unset = λ s p. (rw (r.free s) tt, rw (r.durable_free s) tt);
-  unmissed = λ s p. refl;
-  unanswered = λ s p. refl;
-  standing = λ s i lt won und. absurd (omega arith);
-  standing_durable = λ s i x lt won und may. absurd (omega arith);
-  missed = λ s h. let free = r.free s in absurd (grind (arith, free, h));
-  answered = λ s d h. absurd (grind (arith, h));
-}
+sound-renewed m r = grind (arith, common_steps, r)
 
 pub state-power_on : (m : Memory) → IsRenewable m → IsState (power_on m)
 state-power_on m r = record {

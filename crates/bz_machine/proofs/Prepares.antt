@@ -21,56 +21,13 @@ unset-verdict k d u = grind arith
 
 -- the status of an unpublished swap becomes undecided
 pub sound-undecided : (e : ℕ → Entries) (m : Memory) (s : ℕ) → m.published s ≡ false → Sound e m → Sound e (with_status m s Undecided)
-sound-undecided e m s p g = record {
-  same = g.same;
-  private = g.private;
-  private_durable = g.private_durable;
-  pointer = g.pointer;
-  pointer_durable = g.pointer_durable;
-  tag = g.tag;
-  tag_durable = g.tag_durable;
-  fresh = g.fresh;
-  targets = g.targets;
-  begun = g.begun;
-  not_begun = g.not_begun;
-  words = g.words;
-  durable_words = g.durable_words;
-  follows = λ t q. grind (arith, common_steps, g.follows t q);
-  unset = λ t q. grind (arith, common_steps, g.unset t q);
-  unmissed = g.unmissed;
-  unanswered = g.unanswered;
-  standing = λ t i lt won und. grind (arith, common_steps, g.standing t i lt);
-  standing_durable = λ t i x lt won und may. grind (arith, common_steps, g.standing_durable t i x lt);
-  missed = λ t h. grind (arith, common_steps, g.missed t);
-  answered = g.answered;
-}
+sound-undecided e m s p g = grind (arith, common_steps, g)
 
 pub keeps-undecided : (e : ℕ → Entries) (m : Memory) (s : ℕ) → m.published s ≡ false → Sound e m → Keeps e m (with_status m s Undecided)
-keeps-undecided e m s p g = record {
-  published = λ t h. h;
-  missed = λ t h. h;
-  numbers = λ w. omega arith;
-  named = λ a. refl;
-  taken = refl;
-  owner = λ t. refl;
-  undecided = λ t q h. grind (arith, common_steps);
-  verdict = λ t d h. grind (arith, common_steps, unset-verdict (m.status s) d (g.unset s p).0);
-  durable_verdict = λ t d h. h;
-  pointer = λ t i lt u h. h;
-  pointer_durable = λ t i lt u h d x may. d x may;
-  old_tag = λ a t i w q below h. h;
-  under_tag = λ t i w q lt h l. grind (arith, common_steps);
-}
+keeps-undecided e m s p g = grind (arith, common_steps, unset-verdict (m.status s), g.unset s p)
 
 pub descriptor-undecided : (m : Memory) (s t : ℕ) → t ≢ s → KeepsDescriptor m (with_status m s Undecided) t
-descriptor-undecided m s t ne = record {
-  published = refl;
-  answer = refl;
-  words = λ k. refl;
-  durable_words = λ k h. h;
-  status = λ h. grind (arith, common_steps);
-  durable_status = λ h d. grind (arith, common_steps);
-}
+descriptor-undecided m s t ne = grind (arith, common_steps)
 
 -- what is known on the own swap before it is published
 pub record OnOwn (e : ℕ → Entries) (m : Memory) (w : ℕ) (l : Local) : Type 0 where

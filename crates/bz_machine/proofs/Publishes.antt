@@ -1,7 +1,9 @@
 -- A swap is published: its descriptor is durable whole.
 use Rattle.std.proofs.Common.{◌≡◌, ◌≢◌, ℕ, ◌*◌, ◌==◌, if◌then◌else◌, ◌<◌, ◌≤◌, Bool, true, false, arith, refl, sym, subst}
 use Rattle.std.proofs.lemmas.Grind.{common_steps}
-use Rattle.bz_machine.specs.Machine.{Entries, Memory, spelled}
+use Rattle.bz_word.specs.declared.kind.WordKind.{WordKind}
+use Rattle.bz_word.specs.declared.kind.WordKind.TheVariants.{Swap, Tag}
+use Rattle.bz_machine.specs.Machine.{Entries, Memory, spelled, MayLast}
 use Rattle.bz_machine.specs.Changes.{put, in_head, in_tail, with_published}
 use Rattle.bz_machine.specs.Sound.{IsTarget, IsEntry, Sound}
 use Rattle.bz_machine.specs.Keeps.{Keeps, KeepsDescriptor}
@@ -32,53 +34,18 @@ durable-more e m s w d g t true h p k le =
 durable-more e m s w d g t false h p k le = g.durable_words t k p le
 
 pub sound-published : (e : ℕ → Entries) (m : Memory) (s : ℕ) → s < m.taken → Prepared e m s FlushTail → Sound e m → Sound e (with_published m s)
-sound-published e m s taken f g = record {
-  same = g.same;
-  private = g.private;
-  private_durable = g.private_durable;
-  pointer = λ a t h. target-more e m.published s t a (g.pointer a t h);
-  pointer_durable = λ a t x may h. target-more e m.published s t a (g.pointer_durable a t x may h);
-  tag = λ a t i w q h. entry-more e m.published s t i a (g.tag a t i w q h);
-  tag_durable = λ a t i w q x may h. entry-more e m.published s t i a (g.tag_durable a t i w q x may h);
-  fresh = g.fresh;
-  targets = g.targets;
-  begun = g.begun;
-  not_begun = λ t le. grind (arith, common_steps, g.not_begun t le);
-  words = λ t k p le. words-more e m s f.0 g t (t == s) refl p k le;
-  durable_words = λ t k p le. durable-more e m s f.0 f.3 g t (t == s) refl p k le;
-  follows = λ t p. grind (arith, common_steps, g.follows t, f.1, f.2);
-  unset = λ t p. grind (arith, common_steps, g.unset t);
-  unmissed = λ t p. grind (arith, common_steps, g.unmissed t);
-  unanswered = λ t p. grind (arith, common_steps, g.unanswered t);
-  standing = g.standing;
-  standing_durable = g.standing_durable;
-  missed = g.missed;
-  answered = g.answered;
-}
+sound-published e m s taken f g =
+    let n : Memory = with_published m s in
+    let pointer : (a t : ℕ) → m.cached a ≡ Swap t → IsTarget e n.published t a = λ a t h. target-more e m.published s t a (g.pointer a t h) in
+    let pointer_durable : (a t : ℕ) (x : WordKind) → MayLast m a x → x ≡ Swap t → IsTarget e n.published t a = λ a t x may h. target-more e m.published s t a (g.pointer_durable a t x may h) in
+    let tag : (a t i w q : ℕ) → m.cached a ≡ Tag t i w q → IsEntry e n.published t i a = λ a t i w q h. entry-more e m.published s t i a (g.tag a t i w q h) in
+    let tag_durable : (a t i w q : ℕ) (x : WordKind) → MayLast m a x → x ≡ Tag t i w q → IsEntry e n.published t i a = λ a t i w q x may h. entry-more e m.published s t i a (g.tag_durable a t i w q x may h) in
+    let words : (t k : ℕ) → n.published t ≡ true → k ≤ 3 * (e t).count → m.words t k ≡ spelled (e t) k = λ t k p le. words-more e m s f.0 g t (t == s) refl p k le in
+    let durable_words : (t k : ℕ) → n.published t ≡ true → k ≤ 3 * (e t).count → n.durable_words t k ≡ spelled (e t) k = λ t k p le. durable-more e m s f.0 f.3 g t (t == s) refl p k le in
+    grind (arith, common_steps, pointer, pointer_durable, tag, tag_durable, words, durable_words, f.1, f.2, g)
 
 pub keeps-published : (e : ℕ → Entries) (m : Memory) (s : ℕ) → Keeps e m (with_published m s)
-keeps-published e m s = record {
-  published = λ t h. grind (arith, common_steps);
-  missed = λ t h. h;
-  numbers = λ w. omega arith;
-  named = λ a. refl;
-  taken = refl;
-  owner = λ t. refl;
-  undecided = λ t q h. h;
-  verdict = λ t d h. h;
-  durable_verdict = λ t d h. h;
-  pointer = λ t i lt u h. h;
-  pointer_durable = λ t i lt u h d x may. d x may;
-  old_tag = λ a t i w q below h. h;
-  under_tag = λ t i w q lt h l. l;
-}
+keeps-published e m s = grind (arith, common_steps)
 
 pub descriptor-published : (m : Memory) (s t : ℕ) → t ≢ s → KeepsDescriptor m (with_published m s) t
-descriptor-published m s t ne = record {
-  published = grind (arith, common_steps);
-  answer = refl;
-  words = λ k. refl;
-  durable_words = λ k h. grind (arith, common_steps);
-  status = λ h. refl;
-  durable_status = λ h d. d;
-}
+descriptor-published m s t ne = grind (arith, common_steps)

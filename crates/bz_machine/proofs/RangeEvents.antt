@@ -54,14 +54,14 @@ range-after_help : (l : Local) (n : Memory) (next : Next) → HoldsKinds n → N
 range-after_help l n (Step step) h r = record { memory = h; place = r }
 range-after_help l n (Meet t) h r = record { memory = h; place = tt }
 range-after_help l n (Complete d) h r = stepped-if (is_own l.operation l.current) _ _
-    (record { memory = record { cached = h.cached; durable = h.durable; taken = h.taken }; place = tt })
+    (record { memory = assumption h; place = tt })
     (record { memory = h; place = range-resumed l l.back l.operation })
 
 range-prepare : (m : Memory) (l : Local) (step : PrepareStep) → HoldsKinds m → SteppedInRange (prepare_act m l step)
-range-prepare m l (WriteWord k) h = record { memory = record { cached = h.cached; durable = h.durable; taken = h.taken }; place = tt }
-range-prepare m l WriteStatus h = record { memory = record { cached = h.cached; durable = h.durable; taken = h.taken }; place = tt }
-range-prepare m l FlushHead h = record { memory = record { cached = h.cached; durable = h.durable; taken = h.taken }; place = tt }
-range-prepare m l FlushTail h = record { memory = record { cached = h.cached; durable = h.durable; taken = h.taken }; place = tt }
+range-prepare m l (WriteWord k) h = record { memory = assumption h; place = tt }
+range-prepare m l WriteStatus h = record { memory = assumption h; place = tt }
+range-prepare m l FlushHead h = record { memory = assumption h; place = tt }
+range-prepare m l FlushTail h = record { memory = assumption h; place = tt }
 
 range-read : (m : Memory) (l : Local) (a : ℕ) (found : WordKind) → m.cached a ≡ found → HoldsKinds m → SteppedInRange (read_act m l a found)
 range-read m l a (Value v) e h = record { memory = h; place = tt }
@@ -110,8 +110,8 @@ range-happens x (Act w) may i r =
     let acted : SteppedInRange (stepped x w) = range-act x.entries x.memory w l l.place (i.knows w).place (r.places w) (published-small x.entries x.memory l.current i.sound r.kinds) (r.values l.current) may r.kinds in
     record { kinds = acted.memory; values = r.values; places = λ v. places-put w (stepped x w).local x.local acted.place r.places v (v == w) }
 range-happens x (Evict a) may i r = record { kinds = holds-copies x.memory (λ b. b == a) r.kinds; values = r.values; places = r.places }
-range-happens x (EvictStatus s) may i r = record { kinds = record { cached = r.kinds.cached; durable = r.kinds.durable; taken = r.kinds.taken }; values = r.values; places = r.places }
-range-happens x (EvictField s k) may i r = record { kinds = record { cached = r.kinds.cached; durable = r.kinds.durable; taken = r.kinds.taken }; values = r.values; places = r.places }
+range-happens x (EvictStatus s) may i r = record { kinds = assumption r.kinds; values = r.values; places = r.places }
+range-happens x (EvictField s k) may i r = record { kinds = assumption r.kinds; values = r.values; places = r.places }
 
 range-after_all : (x : State) (vs : List Event) → AllMayHappen x vs → AllMayHold x vs → IsState x → AreInRange x → AreInRange (after_all x vs)
 range-after_all x [] may hold i r = r

@@ -50,13 +50,13 @@ holds-tag m a s i w sm lt t h = record { cached = λ b. kind-if (b == a) (Tag s 
 
 -- a change that leaves the words outside the descriptors
 holds-miss : (m : Memory) (s : ℕ) → HoldsKinds m → HoldsKinds (with_miss m s)
-holds-miss m s h = record { cached = h.cached; durable = h.durable; taken = h.taken }
+holds-miss m s h = assumption h
 
 holds-status : (m : Memory) (s : ℕ) (c : SwapStatus) → HoldsKinds m → HoldsKinds (with_status m s c)
-holds-status m s c h = record { cached = h.cached; durable = h.durable; taken = h.taken }
+holds-status m s c h = assumption h
 
 holds-head : (m : Memory) (s : ℕ) → HoldsKinds m → HoldsKinds (with_durable_head m s)
-holds-head m s h = record { cached = h.cached; durable = h.durable; taken = h.taken }
+holds-head m s h = assumption h
 
 holds-if : (b : Bool) (m n : Memory) → HoldsKinds m → HoldsKinds n → HoldsKinds (if b then m else n)
 holds-if true m n p q = p

@@ -62,26 +62,14 @@ unset-success k u = grind arith
 
 pub sound-taken : (e : ℕ → Entries) (m : Memory) (w : ℕ) (new : Entries) (targets : ℕ → Bool) → 0 < new.count → ((i : ℕ) → i < new.count → targets (new.target i) ≡ true)
     → ((b : ℕ) → targets b ≡ true → m.named b ≡ false → m.cached b ≡ m.durable b) → Sound e m → Sound (put e m.taken new) (with_taken m w targets)
-sound-taken e m w new targets some told flushed g = record {
-  same = λ b x may nm. same-taken e m new targets b x (m.named b) (targets b) refl refl may nm flushed g;
-  private = λ b nm. g.private b (grind (arith, common_steps));
-  private_durable = λ b x may nm. g.private_durable b x may (grind (arith, common_steps));
-  pointer = λ b t h. target-taken e m new t b g (g.pointer b t h);
-  pointer_durable = λ b t x may h. target-taken e m new t b g (g.pointer_durable b t x may h);
-  tag = λ b t i v q h. entry-taken e m new t i b g (g.tag b t i v q h);
-  tag_durable = λ b t i v q x may h. entry-taken e m new t i b g (g.tag_durable b t i v q x may h);
-  fresh = g.fresh;
-  targets = λ t i lt. grind (arith, common_steps, told i, g.targets t i);
-  begun = λ t lt. grind (arith, common_steps, g.begun t);
-  not_begun = λ t le. grind (arith, common_steps, g.not_begun t);
-  words = λ t k p le. spelled-taken e m new t p g (m.words t) (λ j below. g.words t j p below) k le;
-  durable_words = λ t k p le. spelled-taken e m new t p g (m.durable_words t) (λ j below. g.durable_words t j p below) k le;
-  follows = g.follows;
-  unset = g.unset;
-  unmissed = g.unmissed;
-  unanswered = g.unanswered;
-  standing = λ t i lt won und. grind (arith, common_steps, g.standing t i, unset-success (m.status t), g.unset t, g.not_begun t);
-  standing_durable = λ t i x lt won und may. grind (arith, common_steps, g.standing_durable t i x, unset-success (m.status t), g.unset t, g.not_begun t);
-  missed = g.missed;
-  answered = g.answered;
-}
+sound-taken e m w new targets some told flushed g =
+    let n : Memory = with_taken m w targets in
+    let f : ℕ → Entries = put e m.taken new in
+    let same : (b : ℕ) (x : WordKind) → MayLast m b x → n.named b ≡ true → resolve f m.durable_status b (m.cached b) ≡ resolve f m.durable_status b x = λ b x may nm. same-taken e m new targets b x (m.named b) (targets b) refl refl may nm flushed g in
+    let pointer : (b t : ℕ) → m.cached b ≡ Swap t → IsTarget f m.published t b = λ b t h. target-taken e m new t b g (g.pointer b t h) in
+    let pointer_durable : (b t : ℕ) (x : WordKind) → MayLast m b x → x ≡ Swap t → IsTarget f m.published t b = λ b t x may h. target-taken e m new t b g (g.pointer_durable b t x may h) in
+    let tag : (b t i v q : ℕ) → m.cached b ≡ Tag t i v q → IsEntry f m.published t i b = λ b t i v q h. entry-taken e m new t i b g (g.tag b t i v q h) in
+    let tag_durable : (b t i v q : ℕ) (x : WordKind) → MayLast m b x → x ≡ Tag t i v q → IsEntry f m.published t i b = λ b t i v q x may h. entry-taken e m new t i b g (g.tag_durable b t i v q x may h) in
+    let words : (t k : ℕ) → m.published t ≡ true → k ≤ 3 * (f t).count → m.words t k ≡ spelled (f t) k = λ t k p le. spelled-taken e m new t p g (m.words t) (λ j below. g.words t j p below) k le in
+    let durable_words : (t k : ℕ) → m.published t ≡ true → k ≤ 3 * (f t).count → m.durable_words t k ≡ spelled (f t) k = λ t k p le. spelled-taken e m new t p g (m.durable_words t) (λ j below. g.durable_words t j p below) k le in
+    grind (arith, common_steps, same, pointer, pointer_durable, tag, tag_durable, words, durable_words, told, unset-success, g)

@@ -20,7 +20,7 @@ use Rattle.bz_machine.proofs.Change.{Change}
 
 -- a tag of the swap is changed to a word, which is lawful
 pub fine-untag : (e : ℕ → Entries) (m : Memory) (s i w q : ℕ) (new : WordKind) (changed unchanged : Next) (found : WordKind) → m.cached ((e s).target i) ≡ found → Sound e m → FactNext e m s unchanged
-    → (m.cached ((e s).target i) ≡ Tag s i w q → Lawful e m ((e s).target i) new × (Keeps e m (with_word m ((e s).target i) new) → FactNext e (with_word m ((e s).target i) new) s changed))
+    → (m.cached ((e s).target i) ≡ Tag s i w q → Lawful e m ((e s).target i) new m.next_tag × (Keeps e m (with_word m ((e s).target i) new) → FactNext e (with_word m ((e s).target i) new) s changed))
     → Fine e m s (after_untag (e s) m s i w q new changed unchanged found)
 fine-untag e m s i w q new changed unchanged (Value v) h g f k = fine-same e m s unchanged g f
 fine-untag e m s i w q new changed unchanged (Dirty v) h g f k = fine-same e m s unchanged g f
@@ -32,24 +32,13 @@ fine-untag e m s i w q new changed unchanged (Tag t j v p) h g f k = fine-if e m
     (λ b. fine-same e m s unchanged g f)
 
 -- the tag becomes the pointer: both stand for the expected value, since the swap has not succeeded
-pub lawful-pointer : (e : ℕ → Entries) (m : Memory) (s i w q : ℕ) → AreApart e → m.published s ≡ true → Fact e m s (InstallPointer i w q) → Sound e m → m.cached ((e s).target i) ≡ Tag s i w q → Lawful e m ((e s).target i) (Swap s)
-lawful-pointer e m s i w q o p f g h = record {
-  named = g.targets s i f.0;
-  value = grind (arith, common_steps, not_succeeded (m.status s) (m.durable_status s) (g.follows s p) (f.3 h), o s i f.0);
-  goes = λ t k. grind arith;
-  pointer = λ t k. grind (arith, p, o s i f.0);
-  tag = λ t j v r k. grind arith;
-}
+pub lawful-pointer : (e : ℕ → Entries) (m : Memory) (s i w q : ℕ) → AreApart e → m.published s ≡ true → Fact e m s (InstallPointer i w q) → Sound e m → m.cached ((e s).target i) ≡ Tag s i w q
+    → Lawful e m ((e s).target i) (Swap s) m.next_tag
+lawful-pointer e m s i w q o p f g h = grind (arith, common_steps, g.targets s i f.0, not_succeeded (m.status s) (m.durable_status s) (g.follows s p) (f.3 h), o s i f.0)
 
 -- the tag becomes the expected value
-pub lawful-expected : (e : ℕ → Entries) (m : Memory) (s i w q : ℕ) → m.named ((e s).target i) ≡ true → m.cached ((e s).target i) ≡ Tag s i w q → Lawful e m ((e s).target i) (Value ((e s).expected i))
-lawful-expected e m s i w q nm h = record {
-  named = nm;
-  value = grind (arith, common_steps);
-  goes = λ t k. grind arith;
-  pointer = λ t k. grind arith;
-  tag = λ t j v r k. grind arith;
-}
+pub lawful-expected : (e : ℕ → Entries) (m : Memory) (s i w q : ℕ) → m.named ((e s).target i) ≡ true → m.cached ((e s).target i) ≡ Tag s i w q → Lawful e m ((e s).target i) (Value ((e s).expected i)) m.next_tag
+lawful-expected e m s i w q nm h = grind (arith, common_steps)
 
 pub fine-install_pointer : (e : ℕ → Entries) (m : Memory) (s i w q : ℕ) → AreApart e → m.published s ≡ true → Fact e m s (InstallPointer i w q) → Sound e m
     → Fine e m s (after_untag (e s) m s i w q (Swap s) (Step (passed (e s) i)) (Step (InstallTag i)) (m.cached ((e s).target i)))

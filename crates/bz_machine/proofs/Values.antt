@@ -18,14 +18,8 @@ use Rattle.bz_machine.proofs.Published.{one_verdict}
 
 -- a word is changed for a plain or dirty value that it stands for
 pub lawful-value : (e : ℕ → Entries) (m : Memory) (a v : ℕ) (x : WordKind) → m.named a ≡ true → (x ≡ Value v) ⊎ (x ≡ Dirty v) → resolve e m.durable_status a (m.cached a) ≡ v
-    → ((s : ℕ) → m.cached a ≡ Swap s → (d : Verdict) × (is_verdict (m.durable_status s) d ≡ true)) → Lawful e m a x
-lawful-value e m a v x nm c h d = record {
-  named = nm;
-  value = grind arith;
-  goes = d;
-  pointer = λ t k. grind arith;
-  tag = λ t j u q k. grind arith;
-}
+    → ((s : ℕ) → m.cached a ≡ Swap s → (d : Verdict) × (is_verdict (m.durable_status s) d ≡ true)) → Lawful e m a x m.next_tag
+lawful-value e m a v x nm c h d = grind (arith, common_steps, d)
 
 change-if : (e : ℕ → Entries) (m : Memory) (s : ℕ) (b : Bool) (x y : Memory) → (b ≡ true → Change e m x s) → (b ≡ false → Change e m y s) → Change e m (if b then x else y) s
 change-if e m s true x y f g = f refl
@@ -58,6 +52,6 @@ fine-put_final e m s i d (Dirty v) h o f g = fine-same e m s _ g (fact-finished 
 fine-put_final e m s i d (Tag t j v q) h o f g = fine-same e m s _ g (fact-if e m s (t == s) (Step (SweepTag i d v q)) _ (λ b. f) (λ b. fact-finished e m s i d f.0 f.1))
 fine-put_final e m s i d (Swap t) h o f g = fine-if e m s (t == s) _ _
     (λ b. let eq : m.cached ((e s).target i) ≡ Swap s = grind (arith, common_steps) in
-    let l : Lawful e m ((e s).target i) (Dirty (final_value (e s) i d)) = lawful-value e m _ _ _ (g.targets s i f.0) (inr refl) (rw eq (final-value e m s i d o f.0 f.1)) (λ u k. (d, grind (arith, f.1))) in
+    let l : Lawful e m ((e s).target i) (Dirty (final_value (e s) i d)) m.next_tag = lawful-value e m _ _ _ (g.targets s i f.0) (inr refl) (rw eq (final-value e m s i d o f.0 f.1)) (λ u k. (d, grind (arith, f.1))) in
     record { change = change-word e m _ _ s l g; fact = f })
     (λ b. fine-same e m s _ g (fact-finished e m s i d f.0 f.1))

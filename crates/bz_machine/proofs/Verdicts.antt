@@ -7,7 +7,7 @@ use Rattle.bz_machine.specs.declared.status.Verdict.{Verdict}
 use Rattle.bz_machine.specs.declared.status.Verdict.TheVariants.{Succeeded, Failed}
 use Rattle.bz_machine.specs.Machine.{Entries, Memory, is_verdict}
 use Rattle.bz_machine.specs.Changes.{with_copies, in_line}
-use Rattle.bz_machine.specs.Sound.{Follows, Sound}
+use Rattle.bz_machine.specs.Sound.{Sound}
 use Rattle.bz_machine.specs.Facts.{PointsDurably, Fact}
 use Rattle.bz_machine.specs.declared.place.HelpStep.TheVariants.{FlushTarget, Decide}
 use Rattle.bz_machine.specs.declared.place.Next.TheVariants.{Step}
@@ -28,38 +28,17 @@ fine-flush_target e m s i f g =
           (λ b. (grind (arith, common_steps), f.1, more));
     }
 
-deciding-follows : (k : SwapStatus) (d : Verdict) → Follows Undecided k → Follows (Deciding d) k
-deciding-follows k d f = grind arith
-
 deciding-verdict : (d : Verdict) → is_verdict (Deciding d) d ≡ true
 deciding-verdict Succeeded = refl
 deciding-verdict Failed = refl
 
 -- success is decided where all targets hold the pointer, in cache and in durable memory
 may_succeed : (e : ℕ → Entries) (m : Memory) (s : ℕ) → m.status s ≡ Undecided → m.published s ≡ true → Fact e m s (Decide Succeeded) → Sound e m → MayBecome e m s (Deciding Succeeded)
-may_succeed e m s u p f g = let follows = g.follows s p in record {
-  published = p;
-  follows = deciding-follows (m.durable_status s) Succeeded (rw u at follows);
-  standing = λ i lt won und. f.0 u i lt;
-  standing_durable = λ i x lt won und may. f.1 u i x lt may;
-  missed = λ h. grind arith;
-  decided = λ h. grind arith;
-  verdict = λ d h. grind (arith, u);
-  no_tag = λ i w q lt l won h. grind (arith, f.0 u i lt);
-}
+may_succeed e m s u p f g = grind (arith, common_steps, g.follows s p, f.0 u, f.1 u)
 
 -- failure is decided where the miss is noted
 may_fail : (e : ℕ → Entries) (m : Memory) (s : ℕ) → m.status s ≡ Undecided → m.published s ≡ true → Fact e m s (Decide Failed) → Sound e m → MayBecome e m s (Deciding Failed)
-may_fail e m s u p f g = let follows = g.follows s p in record {
-  published = p;
-  follows = deciding-follows (m.durable_status s) Failed (rw u at follows);
-  standing = λ i lt won und. grind arith;
-  standing_durable = λ i x lt won und may. grind arith;
-  missed = λ h. f u;
-  decided = λ h. grind arith;
-  verdict = λ d h. grind (arith, u);
-  no_tag = λ i w q lt l won h. grind arith;
-}
+may_fail e m s u p f g = grind (arith, common_steps, g.follows s p, f u)
 
 may_decide : (e : ℕ → Entries) (m : Memory) (s : ℕ) (d : Verdict) → m.status s ≡ Undecided → m.published s ≡ true → Fact e m s (Decide d) → Sound e m → MayBecome e m s (Deciding d)
 may_decide e m s Succeeded u p f g = may_succeed e m s u p f g
