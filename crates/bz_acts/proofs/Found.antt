@@ -3,7 +3,7 @@ use Rattle.std.specs.Prelude.{◌≡◌, ℕ, ◌<◌, true, length, slice_index
 use Rattle.std.proofs.Common.{arith, refl, inl, inr}
 use Rattle.std.proofs.lemmas.Grind.{common_steps}
 use Rattle.bz_word.specs.Kinds.{word, IsKind}
-use Rattle.bz_word.specs.Laws.{kinds}
+use Rattle.bz_word.proofs.Lemmas.{kinds}
 use Rattle.bz_cells.specs.Store.{Store, IsStore, IsOutside, SameShape, is_outside, kind_at, words_of}
 use Rattle.bz_acts.specs.declared.acted.Act.TheVariants.{Load, Cas}
 use Rattle.bz_acts.specs.Parts.{IsMade}

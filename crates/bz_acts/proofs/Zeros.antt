@@ -6,7 +6,7 @@ use Rattle.std.proofs.lemmas.List.{get_or-replicate, get_or_past, length-replica
 use Rattle.std.specs.Result.{IfOk}
 use Rattle.std.specs.declared.result.Result.{Result}
 use Rattle.std.specs.declared.result.Result.TheVariants.{Ok, Err}
-use Rattle.bz_word.specs.Laws.{kinds}
+use Rattle.bz_word.proofs.Lemmas.{kinds}
 use Rattle.bz_word.specs.declared.kind.WordKind.TheVariants.{Value}
 use Rattle.bz_layout.specs.Addresses.{swap_address}
 use Rattle.bz_memory.specs.declared.Memory.{Memory}

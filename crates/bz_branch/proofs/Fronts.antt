@@ -2,7 +2,7 @@
 use Rattle.std.proofs.Common.{◌≡◌, ℕ, zero, suc, ◌+◌, ◌≤◌, List, length, arith, refl, sym, ap, ◌∙◌, Option}
 use Rattle.std.specs.Prelude.{Some, None, slice_index}
 use Rattle.bz_key.specs.Packing.{packed_len, unpacked_key}
-use Rattle.bz_key.specs.UnpackingLaws.{unpacked_key-sound}
+use Rattle.bz_key.proofs.UnpackingLaws.{unpacked_key-sound}
 use Rattle.bz_layout.specs.declared.sizes.TheConstants.{NODE_WORDS, HEADER_AT, LOW_FENCE_AT}
 use Rattle.bz_node.specs.Reading.{part}
 use Rattle.bz_slotted.specs.Laws.{LeafRulesAreFacts, InnerRulesAreFacts}

@@ -3,13 +3,13 @@ use Rattle.std.specs.Prelude.{◌≡◌, if◌then◌else◌, ◌==◌, ℕ, ◌
 use Rattle.std.proofs.Common.{arith, sym, ap, ◌∙◌}
 use Rattle.std.proofs.lemmas.Grind.{common_steps}
 use Rattle.bz_word.specs.Kinds.{word, IsKind}
-use Rattle.bz_word.specs.Laws.KindWords.{kind-word, IsWord-word}
+use Rattle.bz_word.proofs.Lemmas.KindWords.{kind-word, IsWord-word}
 use Rattle.bz_word.specs.declared.kind.WordKind.{WordKind}
 use Rattle.bz_layout.specs.Addresses.{swap_address}
 use Rattle.bz_pm.specs.Words.{Words}
 use Rattle.bz_pm.specs.Acts.{with_line, stored, compared}
 use Rattle.bz_pm.specs.Changes.{StoresOnly}
-use Rattle.bz_pm.specs.Laws.{store, flush}
+use Rattle.bz_pm.proofs.Lemmas.{store, flush}
 use Rattle.bz_machine.specs.Changes.{with_word, with_copies, in_line}
 use Rattle.bz_cells.specs.Store.{Store, Beside, IsStore, IsOutside, IsStatusWord, typed, kind_at, words_of}
 use Rattle.bz_cells.proofs.Places.{outside-told, status-not_outside}

@@ -7,7 +7,7 @@ use Rattle.bz_layout.specs.Addresses.{swap_address}
 use Rattle.bz_pm.specs.Words.{Words}
 use Rattle.bz_pm.specs.Acts.{with_line, stored, compared}
 use Rattle.bz_pm.specs.Changes.{StoresOnly}
-use Rattle.bz_pm.specs.Laws.{store, flush, evict}
+use Rattle.bz_pm.proofs.Lemmas.{store, flush, evict}
 use Rattle.bz_machine.specs.declared.status.SwapStatus.{SwapStatus}
 use Rattle.bz_machine.specs.declared.status.SwapStatus.TheVariants.{Free, Undecided, Deciding, Decided}
 use Rattle.bz_machine.specs.declared.status.Verdict.TheVariants.{Succeeded, Failed}

@@ -1,7 +1,7 @@
 -- A memory keeps its room.
 use Rattle.std.specs.Prelude.{ℕ, ◌*◌, ◌<◌, length}
 use Rattle.bz_pm.specs.Acts.{flushed}
-use Rattle.bz_pm.specs.Laws.{flush}
+use Rattle.bz_pm.proofs.Lemmas.{flush}
 use Rattle.bz_cells.specs.Store.{Store, HasRoom, words_of, with_words}
 
 pub room-flush : (st : Store) (line : ℕ) → HasRoom st → line * 8 < length st.cached → HasRoom (with_words st (flushed (words_of st) line))

@@ -4,7 +4,7 @@ use Rattle.std.proofs.Common.{arith, refl, inl, inr}
 use Rattle.std.proofs.lemmas.Grind.{common_steps}
 use Rattle.std.proofs.lemmas.Bool.{cases_eq}
 use Rattle.bz_word.specs.Kinds.{word, IsKind}
-use Rattle.bz_word.specs.Laws.KindWords.{kind-word}
+use Rattle.bz_word.proofs.Lemmas.KindWords.{kind-word}
 use Rattle.bz_word.specs.declared.kind.WordKind.{WordKind}
 use Rattle.bz_layout.specs.Addresses.{swap_address}
 use Rattle.bz_machine.specs.Machine.{Memory}

@@ -7,8 +7,8 @@ use Rattle.std.proofs.lemmas.List.{ext_get_or, get_or-take, length-take, length-
 use Rattle.std.proofs.lemmas.List.FromFn.{length-map-range_with_len, get_or-map-range_with_len}
 use Rattle.bz_key.specs.Packing.{packed, packed_len, unpacked, unpacked_key}
 use Rattle.bz_key.specs.declared.limits.TheConstants.{KEY_BYTES}
-use Rattle.bz_key.specs.PackingLaws.{unpacked-packed}
-use Rattle.bz_key.specs.UnpackingLaws.{unpacked_key-sound}
+use Rattle.bz_key.proofs.PackingLaws.{unpacked-packed}
+use Rattle.bz_key.proofs.UnpackingLaws.{unpacked_key-sound}
 use Rattle.bz_layout.specs.Addresses.{node_address}
 use Rattle.bz_layout.specs.declared.sizes.TheConstants.{NODE_WORDS, STATUS_AT, HEADER_AT, META_AT}
 use Rattle.bz_shape.specs.Order.{is_before}

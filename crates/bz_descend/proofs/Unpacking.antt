@@ -1,7 +1,7 @@
 -- What a metadata word that was unpacked, or could not be, says.
 use Rattle.std.proofs.Common.{◌≡◌, ℕ, Bool, true, false, if◌then◌else◌, arith, refl, sym, ap, ◌∙◌}
 use Rattle.std.proofs.lemmas.Bool.Decides.{nat_tests}
-use Rattle.bz_word.specs.Laws.{metas}
+use Rattle.bz_word.proofs.Lemmas.{metas}
 use Rattle.bz_word.specs.Metas.{meta, meta_word, IsMeta, IsMetaWord}
 use Rattle.bz_word.specs.declared.meta.Meta.{Meta}
 use Rattle.bz_word.specs.declared.meta.Meta.TheVariants.{Unused}

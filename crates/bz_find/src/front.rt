@@ -9,7 +9,7 @@ ghost use Rattle.bz_word.specs.Metas.{IsMeta};
 ghost use Rattle.bz_find.specs.Words.{is_in_node, is_record, records_in, sorted_in};
 
 use bz_key::{KEY_BYTES, PAYLOAD_BYTES};
-use bz_layout::{NODE_WORDS, SHARED_WORDS, BYTES_IN_WORD};
+use bz_layout::{BYTES_IN_WORD, NODE_WORDS, SHARED_WORDS};
 use bz_word::{Extent, Header, Meta, Status};
 
 // The status of a plain word.

@@ -4,7 +4,7 @@ use Rattle.std.specs.Prelude.{Some, None, slice_index, slice_set, replicate}
 use Rattle.std.proofs.lemmas.Bool.{cases_lt}
 use Rattle.std.proofs.lemmas.List.{length-replicate, get_or-replicate, get_or_past, get_or-set_other}
 use Rattle.bz_key.specs.Packing.{packed_len}
-use Rattle.bz_key.specs.UnpackingLaws.{unpacked_key-sound}
+use Rattle.bz_key.proofs.UnpackingLaws.{unpacked_key-sound}
 use Rattle.bz_layout.specs.declared.sizes.TheConstants.{STATUS_AT, HEADER_AT, LOW_FENCE_AT, HIGH_FENCE_AT}
 use Rattle.bz_slotted.specs.Page.{words_at, page}
 use Rattle.bz_slotted.specs.Whole.{IsFence, HasFences, IsFilled}

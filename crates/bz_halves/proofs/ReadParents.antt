@@ -6,7 +6,7 @@ use Rattle.std.proofs.lemmas.Bool.Decides.{nat_tests}
 use Rattle.std.proofs.lemmas.List.{get_or_default}
 use Rattle.bz_key.specs.Bytes.{IsKey}
 use Rattle.bz_key.specs.Packing.{packed_len, unpacked, unpacked_key}
-use Rattle.bz_key.specs.UnpackingLaws.{unpacked_key-sound}
+use Rattle.bz_key.proofs.UnpackingLaws.{unpacked_key-sound}
 use Rattle.bz_layout.specs.declared.limits.TheConstants.{MAX_NODES}
 use Rattle.bz_layout.specs.declared.sizes.TheConstants.{LOW_FENCE_AT, HIGH_FENCE_AT}
 use Rattle.bz_node.specs.Layout.{bound_of}

@@ -3,7 +3,7 @@ use Rattle.std.proofs.Common.{◌≡◌, ℕ, zero, suc, ◌+◌, ◌<◌, ◌�
 use Rattle.std.specs.Prelude.{All, Some, None, IsSome, slice_index_or}
 use Rattle.std.proofs.lemmas.List.{length-append}
 use Rattle.bz_key.specs.Packing.{packed}
-use Rattle.bz_key.specs.PackingLaws.{length-packed}
+use Rattle.bz_key.proofs.PackingLaws.{length-packed}
 use Rattle.bz_layout.specs.declared.thresholds.TheConstants.{INNER_LIMIT}
 use Rattle.bz_node.specs.Layout.{block, needed}
 use Rattle.bz_node.specs.Records.{child_entry, IsChild, IsChildList}

@@ -4,7 +4,7 @@ use Rattle.std.specs.Prelude.{slice_index, slice_set}
 use Rattle.std.proofs.lemmas.List.{take_more, take_more_set, length-drop, get_or-drop}
 use Rattle.bz_image.specs.Worlds.{durable_words}
 use Rattle.bz_layout.specs.Addresses.{words_of}
-use Rattle.bz_mark.specs.WordLaws.{length-words_of}
+use Rattle.bz_mark.proofs.WordLaws.{length-words_of}
 use Rattle.bz_sound.specs.Power.Sound.{IsSound}
 use Rattle.bz_world.specs.Lab.{Lab}
 

@@ -9,7 +9,7 @@ use Rattle.bz_task.specs.declared.todo.Seen.{Seen}
 use Rattle.bz_task.specs.declared.todo.Seen.TheVariants.{Stored, Flushed, Swapped}
 use Rattle.bz_record.specs.Records.{size_of}
 use Rattle.bz_record.specs.Writing.{first_line, last_line}
-use Rattle.bz_record.specs.Written.{written}
+use Rattle.bz_record.proofs.Written.{written}
 use Rattle.bz_record.specs.declared.new_record.NewRecord.{NewRecord}
 use Rattle.bz_insert.specs.Facts.{HasReserved, insert_asks, insert_facts, IsReady, next_store, next_flush}
 use Rattle.bz_insert.specs.declared.phase.Phase.{Phase}

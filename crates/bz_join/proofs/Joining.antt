@@ -8,7 +8,7 @@ use Rattle.std.proofs.lemmas.Bool.{cases_lt, true≢false}
 use Rattle.std.proofs.lemmas.List.{map-append, length-append, get_or_append_left, get_or-append_right}
 use Rattle.std.proofs.lemmas.List.Elements.{All-append}
 use Rattle.bz_key.specs.Packing.{packed}
-use Rattle.bz_key.specs.PackingLaws.{length-packed}
+use Rattle.bz_key.proofs.PackingLaws.{length-packed}
 use Rattle.bz_node.specs.Layout.{block, needed}
 use Rattle.bz_node.specs.Records.{pair_entry, keys_of, IsPair, IsBefore, IsAtLeast, IsAbove, IsBelow, AreRising, IsLeafList}
 use Rattle.bz_node.proofs.Orders.{IsBefore-trans, is_before_other}

@@ -7,7 +7,7 @@ use Rattle.std.proofs.lemmas.Bool.Decides.{nat_tests}
 use Rattle.std.proofs.lemmas.List.{length-append, map-append}
 use Rattle.std.proofs.lemmas.List.FromFn.{map-range_with_len_more}
 use Rattle.bz_key.specs.Packing.{packed, packed_len}
-use Rattle.bz_key.specs.PackingLaws.{length-packed, length-unpacked}
+use Rattle.bz_key.proofs.PackingLaws.{length-packed, length-unpacked}
 use Rattle.bz_layout.specs.declared.sizes.TheConstants.{SHARED_WORDS}
 use Rattle.bz_node.specs.Layout.{block, bound_of, needed}
 use Rattle.bz_node.specs.Reading.{payload_len}

@@ -7,7 +7,7 @@ ghost use Rattle.bz_slotted.specs.ReadingLaws.{node_of};
 ghost use Rattle.bz_slotted.specs.Rules.{node_fault};
 
 use bz_key::Key;
-use bz_layout::{HEADER_AT, LOW_FENCE_AT, BYTES_IN_WORD};
+use bz_layout::{BYTES_IN_WORD, HEADER_AT, LOW_FENCE_AT};
 use bz_node::NodeImage;
 use bz_renew::is_whole;
 use bz_slotted::laws as slotted;

@@ -6,7 +6,7 @@ ghost use Rattle.bz_node.specs.Reading.{IsReadable, HasPair, count_in, meta_in, 
 ghost use Rattle.bz_word.specs.Metas.{IsExtent, IsMeta};
 
 use bz_key::{Key, Payload};
-use bz_layout::{META_AT, NODE_WORDS, SHARED_WORDS, STATUS_AT, BYTES_IN_WORD};
+use bz_layout::{BYTES_IN_WORD, META_AT, NODE_WORDS, SHARED_WORDS, STATUS_AT};
 use bz_word::{Extent, Meta, Status};
 
 /// How many metadata words are in use.

@@ -7,7 +7,7 @@ use Rattle.std.specs.FinMap.Entries.{below_all}
 use Rattle.std.specs.Ordering.{nat_cmp, is_lt}
 use Rattle.bz_shape.specs.Content.{Pairs}
 use Rattle.bz_shape.specs.Order.{is_before, is_at_least, is_above, is_below}
-use Rattle.bz_shape.specs.OrderLaws.{before-after, below-earlier, at_least-later}
+use Rattle.bz_shape.proofs.OrderLaws.{before-after, below-earlier, at_least-later}
 use Rattle.bz_judge.proofs.AllKeys.{KeysAre, keys-join, keys-so}
 use Rattle.bz_judge.proofs.Scanned.{Both, both}
 

@@ -4,7 +4,7 @@ use Rattle.std.specs.Prelude.{◌↔◌, Option, Some, None, IsSome, IfSome}
 use Rattle.std.proofs.lemmas.Bool.Decides.{nat_tests}
 use Rattle.bz_content.specs.Lawful.{is_word}
 use Rattle.bz_word.specs.Kinds.{kind, word, IsKind, IsWord}
-use Rattle.bz_word.specs.Laws.{kinds}
+use Rattle.bz_word.proofs.Lemmas.{kinds}
 use Rattle.bz_word.specs.declared.kind.WordKind.{WordKind}
 use Rattle.bz_judge.specs.Inside.Kinds.{kind_read}
 

@@ -1,3 +1,7 @@
+pub mod PackingLaws
+pub mod ReaderLaws
+pub mod SpellingLaws
+pub mod UnpackingLaws
 mod Front
 mod Packings
 mod Readings

@@ -7,8 +7,8 @@ use Rattle.std.proofs.lemmas.List.{ext_get_or, get_or-take, length-take-le, get_
 use Rattle.std.proofs.lemmas.List.FromFn.{fill_by_all}
 use Rattle.std.proofs.lemmas.Slice.Eq.{bytes_eq-Decides}
 use Rattle.bz_key.specs.Packing.{packed_len, packed_word, packed, packed_byte, unpacked, unpacked_payload}
-use Rattle.bz_key.specs.PackingLaws.{length-packed, get_or-packed, length-unpacked}
-use Rattle.bz_key.specs.UnpackingLaws.{unpacked_payload-sound}
+use Rattle.bz_key.proofs.PackingLaws.{length-packed, get_or-packed, length-unpacked}
+use Rattle.bz_key.proofs.UnpackingLaws.{unpacked_payload-sound}
 use Rattle.bz_key.specs.Bytes.{IsKey, IsPayload}
 use Rattle.bz_key.specs.declared.limits.TheConstants.{KEY_BYTES}
 

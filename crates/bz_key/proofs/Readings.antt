@@ -3,7 +3,7 @@ use Rattle.std.specs.Prelude.{◌≡◌, ◌≢◌, ◌≤◌, ◌<◌, ℕ, ◌
 use Rattle.std.proofs.Common.{arith, sym, ◌∙◌, refl}
 use Rattle.std.proofs.lemmas.List.{nil_from_length, append_assoc, take_more_set, drop-drop, length-drop, length-set, append-nil}
 use Rattle.bz_key.specs.Spelling.{hex_value, decoded}
-use Rattle.bz_key.specs.SpellingLaws.{decoded-plain, decoded-escape}
+use Rattle.bz_key.proofs.SpellingLaws.{decoded-plain, decoded-escape}
 use Rattle.bz_key.specs.Steps.{Takes}
 
 pub decoded-end : (word : List ℕ) → length word ≡ 0 → decoded word ≡ []

@@ -3,7 +3,7 @@ use Rattle.std.specs.Prelude.{◌≡◌, ◌≤◌, ◌<◌, ℕ, ◌+◌, ◌*�
 use Rattle.std.proofs.Common.{arith, sym, ◌∙◌, ap, refl}
 use Rattle.std.proofs.lemmas.List.{nil_from_length, take_more, append_assoc, append-nil, length-append, drop-drop, take_at, drop_at, take_all}
 use Rattle.bz_key.specs.Spelling.{spelled_byte, spelled_bytes, spelled}
-use Rattle.bz_key.specs.SpellingLaws.{length-spelled_byte}
+use Rattle.bz_key.proofs.SpellingLaws.{length-spelled_byte}
 
 pub spelled-empty : (bytes : List ℕ) → length bytes ≡ 0 → 37 ∷ [] ≡ spelled bytes
 unfolding spelled

@@ -6,7 +6,7 @@ use Rattle.std.proofs.lemmas.Bool.Decides.{nat_tests}
 use Rattle.std.proofs.lemmas.List.{length-take-le}
 use Rattle.std.proofs.lemmas.Slice.Eq.{bytes_eq-Decides}
 use Rattle.bz_key.specs.Spelling.{spelled, decoded, key_of_word, payload_of_word}
-use Rattle.bz_key.specs.SpellingLaws.{length-spelled}
+use Rattle.bz_key.proofs.SpellingLaws.{length-spelled}
 use Rattle.bz_key.specs.declared.limits.TheConstants.{PAYLOAD_BYTES, LONGEST, SPELLED_BYTES}
 
 pub long_word : (word : List ℕ) → SPELLED_BYTES < length word → None ≡ payload_of_word word

@@ -1,12 +1,8 @@
 pub mod Bytes
 pub mod Laws
 pub mod Packing
-pub mod PackingLaws
 pub mod Padded
 pub mod Pages
-pub mod ReaderLaws
 pub mod Spelling
-pub mod SpellingLaws
 pub mod Steps
 pub mod Texts
-pub mod UnpackingLaws

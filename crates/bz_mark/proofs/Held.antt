@@ -5,7 +5,7 @@ use Rattle.bz_mark.specs.declared.marks.Mark.{Mark}
 use Rattle.bz_mark.specs.Moments.{at_moment}
 use Rattle.bz_mark.specs.WordsAfter.{words_of}
 use Rattle.bz_mark.specs.MayHold.{Levels, MayHold}
-use Rattle.bz_mark.specs.MayHoldLaws.{may_hold-now, may_hold-before, may_hold-either}
+use Rattle.bz_mark.proofs.MayHoldLaws.{may_hold-now, may_hold-before, may_hold-either}
 
 -- the cached value, or one that the word might hold before a mark that does not level it
 abbrev pub Held : List ℕ → List Mark → ℕ → ℕ → Type 0

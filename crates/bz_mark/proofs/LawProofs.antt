@@ -5,14 +5,14 @@ use Rattle.bz_mark.specs.declared.marks.Mark.{Mark}
 use Rattle.bz_mark.specs.declared.marks.Mark.TheVariants.{Load, Cas}
 use Rattle.bz_pm.specs.Words.{Words}
 use Rattle.bz_mark.specs.Moments.{at_moment, mark_at}
-use Rattle.bz_mark.specs.MomentLaws.{at_moment-earlier, at_moment-before, mark_at-earlier, mark_at-newest}
+use Rattle.bz_mark.proofs.MomentLaws.{at_moment-earlier, at_moment-before, mark_at-earlier, mark_at-newest}
 use Rattle.bz_mark.specs.WordsAfter.{words_of, Found, IsTruthful}
-use Rattle.bz_mark.specs.WordLaws.{at_moment-later, read-found, found-mark_at}
+use Rattle.bz_mark.proofs.WordLaws.{at_moment-later, read-found, found-mark_at}
 use Rattle.bz_mark.specs.MayHold.{MayHold}
-use Rattle.bz_mark.specs.MayHoldLaws.{may_hold-now, may_hold-before, may_hold-either}
+use Rattle.bz_mark.proofs.MayHoldLaws.{may_hold-now, may_hold-before, may_hold-either}
 use Rattle.bz_mark.specs.Evictions.{AddsEvictions, none, added, kept, MayBeLeft, HoldsEach, EvictionsLeaveWhatMayBeHeld}
 use Rattle.bz_mark.specs.Laws.{WordsStay, SwapsAsFound, TruthfulAtEachMoment, HeldAfterOneMark, TruthfulWithEvictions}
-use Rattle.bz_mark.specs.WordLaws.{length-words_of}
+use Rattle.bz_mark.proofs.WordLaws.{length-words_of}
 use Rattle.bz_mark.proofs.Held.{Held, may_hold-held, held-may_hold}
 use Rattle.bz_mark.proofs.Left.{left-held, added-cached}
 use Rattle.bz_mark.proofs.Reached.{reached}

@@ -2,7 +2,7 @@
 use Rattle.std.proofs.Common.{◌≡◌, ◌<◌, ℕ, List, [], ◌∷◌, length, slice_index, refl, ap, ◌∙◌, subst, sym, inl, inr}
 use Rattle.bz_mark.specs.declared.marks.Mark.{Mark}
 use Rattle.bz_mark.specs.WordsAfter.{words_of}
-use Rattle.bz_mark.specs.WordLaws.{length-words_of}
+use Rattle.bz_mark.proofs.WordLaws.{length-words_of}
 use Rattle.bz_mark.specs.Evictions.{AddsEvictions, none, added, kept}
 use Rattle.bz_mark.proofs.Held.{Held}
 use Rattle.bz_mark.proofs.Steps.{levels_or_not, levelled, not_levelled, same_cached}

@@ -1,3 +1,6 @@
+pub mod MayHoldLaws
+pub mod MomentLaws
+pub mod WordLaws
 pub mod TableLemmas
 pub mod KeptLemmas
 pub mod Held

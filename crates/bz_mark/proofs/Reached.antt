@@ -7,7 +7,7 @@ use Rattle.std.proofs.lemmas.List.{get_or-set_other, ext_get_or}
 use Rattle.bz_mark.specs.declared.marks.Mark.{Mark}
 use Rattle.bz_mark.specs.declared.marks.Mark.TheVariants.{Evict, Cut}
 use Rattle.bz_mark.specs.WordsAfter.{words_of}
-use Rattle.bz_mark.specs.WordLaws.{length-words_of}
+use Rattle.bz_mark.proofs.WordLaws.{length-words_of}
 use Rattle.bz_mark.specs.MayHold.{Levels}
 use Rattle.bz_mark.specs.Evictions.{AddsEvictions, none, added, kept, MayBeLeft}
 use Rattle.bz_mark.proofs.Held.{Held}

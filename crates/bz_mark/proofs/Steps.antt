@@ -8,7 +8,7 @@ use Rattle.bz_pm.specs.Words.{Words}
 use Rattle.bz_mark.specs.declared.marks.Mark.{Mark}
 use Rattle.bz_mark.specs.declared.marks.Mark.TheVariants.{Begin, End, Load, Store, Cas, Flush, Evict, Cut, On, Ready, Effect}
 use Rattle.bz_mark.specs.WordsAfter.{words_after, KeepsLength}
-use Rattle.bz_mark.specs.WordLaws.Lines.{in_line, off_line}
+use Rattle.bz_mark.proofs.WordLaws.Lines.{in_line, off_line}
 use Rattle.bz_mark.specs.MayHold.{Levels}
 
 pub levels_or_not : (a : ℕ) (mark : Mark) → Levels a mark ⊎ (Levels a mark → ⊥)

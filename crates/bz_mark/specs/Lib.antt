@@ -1,12 +1,9 @@
 pub mod Log
 pub mod Tables
 pub mod Moments
-pub mod MomentLaws
 pub mod Kept
 pub mod WordsAfter
-pub mod WordLaws
 pub mod MayHold
 pub mod Evictions
-pub mod MayHoldLaws
 pub mod Laws
 pub mod Example

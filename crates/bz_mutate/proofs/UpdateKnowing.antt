@@ -9,7 +9,7 @@ use Rattle.bz_task.specs.declared.todo.Seen.{Seen}
 use Rattle.bz_task.specs.declared.todo.Seen.TheVariants.{Flushed, Swapped}
 use Rattle.bz_task.specs.declared.view.KeyView.{KeyView}
 use Rattle.bz_record.specs.Writing.{first_line, last_line}
-use Rattle.bz_record.specs.Written.{written}
+use Rattle.bz_record.proofs.Written.{written}
 use Rattle.bz_record.specs.declared.found_record.FoundRecord.{FoundRecord}
 use Rattle.bz_record.specs.declared.new_record.NewRecord.{NewRecord}
 use Rattle.bz_mutate.specs.UpdateFacts.{IsReady, update_asks, update_facts, next_flush}

@@ -4,7 +4,7 @@ use Rattle.std.proofs.Common.{arith}
 use Rattle.std.proofs.lemmas.List.{length-append, nil_from_length}
 use Rattle.bz_key.specs.Bytes.{IsKey, IsPayload}
 use Rattle.bz_key.specs.Packing.{packed}
-use Rattle.bz_key.specs.PackingLaws.{length-packed}
+use Rattle.bz_key.proofs.PackingLaws.{length-packed}
 use Rattle.bz_node.specs.Layout.{IsEntry, bound_of}
 use Rattle.bz_node.specs.Records.{pair_entry, child_entry}
 use Rattle.bz_node.specs.declared.child.Child.{Child}

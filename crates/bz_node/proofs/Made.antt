@@ -4,9 +4,9 @@ use Rattle.std.proofs.Common.{arith, refl, ap, sym, ◌∙◌, subst}
 use Rattle.std.proofs.lemmas.List.{length-append, append_assoc, length-replicate, take_at, drop_at, append-nil, length-map, get_or-drop, get_or_append_left, get_or-map}
 use Rattle.std.proofs.lemmas.List.Elements.{All-nil, All-cons}
 use Rattle.bz_key.specs.Packing.{packed}
-use Rattle.bz_key.specs.PackingLaws.{length-packed}
+use Rattle.bz_key.proofs.PackingLaws.{length-packed}
 use Rattle.bz_layout.specs.declared.sizes.TheConstants.{NODE_WORDS, SHARED_WORDS, META_AT, FENCE_WORDS}
-use Rattle.bz_word.specs.Laws.{metas, statuses, headers}
+use Rattle.bz_word.proofs.Lemmas.{metas, statuses, headers}
 use Rattle.bz_word.specs.Metas.{meta, IsMetaWord}
 use Rattle.bz_word.specs.Statuses.{status_word}
 use Rattle.bz_word.specs.Headers.{header_word}

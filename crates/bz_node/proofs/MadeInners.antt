@@ -5,8 +5,8 @@ use Rattle.std.proofs.lemmas.List.{length-append, append_assoc, get_or-map, leng
 use Rattle.std.proofs.lemmas.List.Elements.{All-nil, All-cons}
 use Rattle.std.proofs.lemmas.List.FromFn.{length-map-range_with_len, get_or-map-range_with_len}
 use Rattle.bz_key.specs.Packing.{packed, packed_len, unpacked, unpacked_key}
-use Rattle.bz_key.specs.PackingLaws.{length-packed, unpacked-packed}
-use Rattle.bz_key.specs.UnpackingLaws.{unpacked_key-complete}
+use Rattle.bz_key.proofs.PackingLaws.{length-packed, unpacked-packed}
+use Rattle.bz_key.proofs.UnpackingLaws.{unpacked_key-complete}
 use Rattle.bz_layout.specs.declared.sizes.TheConstants.{NODE_WORDS}
 use Rattle.bz_word.specs.declared.meta.Extent.{Extent}
 use Rattle.bz_word.specs.declared.meta.Meta.TheVariants.{Visible}

@@ -6,7 +6,7 @@ use Rattle.std.proofs.lemmas.List.{length-append, get_or-map, length-map}
 use Rattle.std.proofs.lemmas.List.Elements.{All-nil, All-cons}
 use Rattle.std.proofs.lemmas.List.Sums.{sum_by-cons}
 use Rattle.bz_key.specs.Packing.{packed}
-use Rattle.bz_key.specs.PackingLaws.{length-packed}
+use Rattle.bz_key.proofs.PackingLaws.{length-packed}
 use Rattle.bz_layout.specs.declared.sizes.TheConstants.{NODE_WORDS}
 use Rattle.bz_word.specs.declared.meta.Extent.{Extent}
 use Rattle.bz_word.specs.declared.meta.Meta.TheVariants.{Visible}

@@ -3,8 +3,8 @@ use Rattle.std.specs.Prelude.{◌≡◌, ℕ, ◌+◌, ◌-◌, List, ◌++◌, 
 use Rattle.std.proofs.Common.{arith, refl, ap, sym, ◌∙◌}
 use Rattle.std.proofs.lemmas.List.{length-append, append_assoc}
 use Rattle.bz_key.specs.Packing.{packed, packed_len, unpacked}
-use Rattle.bz_key.specs.PackingLaws.{length-packed, unpacked-packed}
-use Rattle.bz_key.specs.UnpackingLaws.{unpacked_key-exact, unpacked_payload-exact}
+use Rattle.bz_key.proofs.PackingLaws.{length-packed, unpacked-packed}
+use Rattle.bz_key.proofs.UnpackingLaws.{unpacked_key-exact, unpacked_payload-exact}
 use Rattle.bz_layout.specs.declared.sizes.TheConstants.{NODE_WORDS}
 use Rattle.bz_word.specs.declared.meta.Extent.{Extent}
 use Rattle.bz_node.specs.Reading.{key_part, payload_part, payload_len, pair_in, HasPair}

@@ -8,7 +8,7 @@ use Rattle.bz_layout.specs.declared.sizes.TheConstants.{NODE_WORDS, META_AT, SHA
 use Rattle.bz_word.specs.Metas.{meta, meta_word, IsMeta}
 use Rattle.bz_word.specs.Statuses.{status, status_word, IsStatus}
 use Rattle.bz_word.specs.Headers.{header, header_word, IsHeader}
-use Rattle.bz_word.specs.Laws.{headers, metas, statuses}
+use Rattle.bz_word.proofs.Lemmas.{headers, metas, statuses}
 use Rattle.bz_word.specs.declared.header.Header.{Header}
 use Rattle.bz_word.specs.declared.meta.Meta.{Meta}
 use Rattle.bz_word.specs.declared.meta.Meta.TheVariants.{Unused}

@@ -8,7 +8,9 @@ ghost use Rattle.bz_node.specs.Reading.{IsReadable, count_in, meta_in, words_sho
 
 use crate::child::Child;
 use bz_key::{Key, Payload};
-use bz_layout::{HEADER_AT, HIGH_FENCE_AT, META_AT, NODE_WORDS, SHARED_WORDS, STATUS_AT, BYTES_IN_WORD};
+use bz_layout::{
+    BYTES_IN_WORD, HEADER_AT, HIGH_FENCE_AT, META_AT, NODE_WORDS, SHARED_WORDS, STATUS_AT,
+};
 use bz_word::{Extent, Header, Meta, Status};
 
 /// How many metadata words are in use.

@@ -14,7 +14,7 @@ use Rattle.bz_layout.specs.declared.sizes.TheConstants.{NODE_WORDS}
 use Rattle.bz_node.specs.Reading.{AreInKeyOrder, pairs_in, high_in}
 use Rattle.bz_shape.specs.Form.{Holds}
 use Rattle.bz_shape.specs.Order.{is_before, is_at_least, is_below}
-use Rattle.bz_shape.specs.OrderLaws.{before-after}
+use Rattle.bz_shape.proofs.OrderLaws.{before-after}
 use Rattle.bz_slotted.specs.Laws.{FoundKeysAreInRange}
 use Rattle.bz_slotted.specs.ReadingLaws.{node_of, WholeLeavesAreReadable, HighFencesAreRead}
 use Rattle.bz_slotted.specs.Readers.{found_of}

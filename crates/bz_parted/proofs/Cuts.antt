@@ -4,7 +4,7 @@ use Rattle.std.specs.Prelude.{Some, None}
 use Rattle.std.proofs.lemmas.Bool.{cases_lt}
 use Rattle.std.proofs.lemmas.List.{map-append, take-append-drop, take_all, get_or_default, length-append}
 use Rattle.bz_key.specs.Packing.{packed}
-use Rattle.bz_key.specs.PackingLaws.{length-packed}
+use Rattle.bz_key.proofs.PackingLaws.{length-packed}
 use Rattle.bz_layout.specs.Rooms.{InnerSplitsInHalves, AreHalves}
 use Rattle.bz_layout.specs.declared.thresholds.TheConstants.{INNER_LIMIT, INNER_RECORD_WORDS}
 use Rattle.bz_node.specs.Layout.{block, bound_of, needed}

@@ -1,4 +1,3 @@
 pub mod Acts
 pub mod Changes
-pub mod Laws
 pub mod Words

@@ -1,3 +1,4 @@
+pub mod Written
 mod Leaves
 mod Entries
 mod Effects

@@ -7,8 +7,8 @@ use Rattle.std.proofs.lemmas.List.FromFn.{length-map-range_with_len, get_or-map-
 use Rattle.std.proofs.lemmas.Slice.Eq.{bytes_eq-Decides}
 use Rattle.bz_key.specs.Laws.{PackingIsSmall}
 use Rattle.bz_key.specs.Packing.{packed, packed_len, unpacked, unpacked_key, unpacked_payload}
-use Rattle.bz_key.specs.PackingLaws.{unpacked-packed}
-use Rattle.bz_key.specs.UnpackingLaws.{unpacked_key-complete, unpacked_payload-complete}
+use Rattle.bz_key.proofs.PackingLaws.{unpacked-packed}
+use Rattle.bz_key.proofs.UnpackingLaws.{unpacked_key-complete, unpacked_payload-complete}
 use Rattle.bz_node.specs.Reading.{payload_at, payload_len}
 use Rattle.bz_slotted.specs.Page.{words_at, visible, extent_of}
 use Rattle.bz_slotted.specs.Records.{key_words, payload_words, key_in, payload_in, search_to}

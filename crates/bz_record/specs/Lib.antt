@@ -2,7 +2,6 @@ pub mod Records
 pub mod Swaps
 pub mod Leaves
 pub mod Writing
-pub mod Written
 pub mod Laws
 pub mod Replacing
 pub mod Finding

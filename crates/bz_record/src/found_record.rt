@@ -13,7 +13,7 @@ ghost use Rattle.bz_record.specs.Finding.{record_of};
 
 use crate::new_record::{NewRecord, status_of};
 use crate::record_swap::RecordSwap;
-use bz_layout::{SHARED_WORDS, BYTES_IN_WORD};
+use bz_layout::{BYTES_IN_WORD, SHARED_WORDS};
 use bz_task::Found;
 use bz_word::{Extent, Meta, Status};
 

@@ -8,7 +8,7 @@ use Rattle.bz_layout.specs.Addresses.{swap_address}
 use Rattle.bz_layout.specs.declared.config.Config.{Config}
 use Rattle.bz_layout.specs.declared.sizes.TheConstants.{MAX_ENTRIES, SWAP_STATUS_AT}
 use Rattle.bz_word.specs.Kinds.{kind, word, IsKind, IsWord}
-use Rattle.bz_word.specs.Laws.{kinds}
+use Rattle.bz_word.proofs.Lemmas.{kinds}
 use Rattle.bz_word.specs.declared.kind.WordKind.{WordKind}
 use Rattle.bz_word.specs.declared.kind.WordKind.TheVariants.{Value, Swap, Tag}
 use Rattle.bz_recover.proofs.Entries.{entry-least, entry-hits}

@@ -11,7 +11,7 @@ use Rattle.bz_layout.specs.declared.config.Config.{Config}
 use Rattle.bz_layout.specs.declared.sizes.TheConstants.{SUPERBLOCK_WORDS, SWAP_STATUS_AT, SWAP_COUNT_AT, MAX_ENTRIES}
 use Rattle.bz_slotted.specs.Tests.{every}
 use Rattle.bz_word.specs.Kinds.{kind}
-use Rattle.bz_word.specs.Laws.{values, kinds}
+use Rattle.bz_word.proofs.Lemmas.{values, kinds}
 use Rattle.bz_word.specs.declared.kind.WordKind.{WordKind}
 use Rattle.bz_word.specs.declared.kind.WordKind.TheVariants.{Value, Dirty, Swap, Tag}
 use Rattle.bz_recover.proofs.Entries.{every-same, entry-same, entry-least}

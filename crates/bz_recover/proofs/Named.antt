@@ -10,7 +10,7 @@ use Rattle.bz_layout.specs.declared.config.Config.{Config}
 use Rattle.bz_layout.specs.declared.sizes.TheConstants.{SWAP_WORDS, MAX_ENTRIES}
 use Rattle.bz_slotted.proofs.Neighbours.{every-at}
 use Rattle.bz_word.specs.Kinds.{kind, IsKind, IsWord}
-use Rattle.bz_word.specs.Laws.{values}
+use Rattle.bz_word.proofs.Lemmas.{values}
 use Rattle.bz_word.specs.declared.kind.WordKind.{WordKind}
 use Rattle.bz_word.specs.declared.kind.WordKind.TheVariants.{Value, Dirty, Swap, Tag}
 use Rattle.bz_recover.proofs.Entries.{Fails, some-fails, entry-least}

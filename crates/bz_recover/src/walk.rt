@@ -17,7 +17,10 @@ ghost use Rattle.bz_recover.specs.declared.walk.Walk.{Walk as Walker};
 ghost use Rattle.bz_recover.specs.Duties.{hears_in};
 ghost use Rattle.bz_recover.specs.Walking.{IsTreeOf, IsLoadOrEnd, AreReached, GoesOn, Walks, IsWithin, IsLevel, IsStep, IsWalk, IsWalking, Leads, SLOT_ACTS, goes_in, loads_in, asks_of_walk, answers_in, end_in_walk, walk_left};
 
-use bz_layout::{Config, HEADER_AT, MAX_LEVELS, META_AT, NODE_WORDS, ROOT_AT, SHARED_WORDS, STATUS_AT, Slots, BYTES_IN_WORD};
+use bz_layout::{
+    BYTES_IN_WORD, Config, HEADER_AT, MAX_LEVELS, META_AT, NODE_WORDS, ROOT_AT, SHARED_WORDS,
+    STATUS_AT, Slots,
+};
 use bz_task::{Outcome, Seen, Todo};
 use bz_word::{Extent, Meta, Status};
 

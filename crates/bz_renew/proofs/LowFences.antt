@@ -5,7 +5,7 @@ use Rattle.std.specs.List.{range_with_len}
 use Rattle.std.proofs.lemmas.List.{ext_get_or, get_or-take, get_or-drop, length-take, length-drop}
 use Rattle.std.proofs.lemmas.List.FromFn.{length-map-range_with_len, get_or-map-range_with_len}
 use Rattle.bz_key.specs.Packing.{packed_len, unpacked_key}
-use Rattle.bz_key.specs.UnpackingLaws.{unpacked_key-sound}
+use Rattle.bz_key.proofs.UnpackingLaws.{unpacked_key-sound}
 use Rattle.bz_layout.specs.declared.sizes.TheConstants.{NODE_WORDS, HEADER_AT, LOW_FENCE_AT}
 use Rattle.bz_node.specs.Reading.{part}
 use Rattle.bz_slotted.specs.Laws.{LeafRulesAreFacts}

@@ -4,7 +4,7 @@ use Rattle.std.specs.Prelude.{All, Some, None}
 use Rattle.std.proofs.lemmas.List.Elements.{All-nil, All-cons, All-append, All-replicate}
 use Rattle.bz_key.specs.Bytes.{AreBytes}
 use Rattle.bz_key.specs.Packing.{packed}
-use Rattle.bz_key.specs.PackingLaws.{packed-small}
+use Rattle.bz_key.proofs.PackingLaws.{packed-small}
 use Rattle.bz_layout.specs.declared.sizes.TheConstants.{NODE_WORDS, SHARED_WORDS}
 use Rattle.bz_node.specs.Layout.{block, metas, needed, visible_word, bound_of, fence_words, made_status, made_header}
 use Rattle.bz_word.specs.Statuses.{status_word}

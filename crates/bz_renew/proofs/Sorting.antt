@@ -13,8 +13,8 @@ use Rattle.std.proofs.lemmas.List.Elements.{All-nil, All-cons, All-append, All-m
 use Rattle.std.proofs.lemmas.List.Sorted.{All-permutation, sum_by-IsPermutation}
 use Rattle.std.proofs.lemmas.List.Sums.{sum_by-append, sum_by-cons}
 use Rattle.bz_key.specs.Packing.{packed, packed_len, unpacked, unpacked_key, unpacked_payload}
-use Rattle.bz_key.specs.PackingLaws.{length-packed}
-use Rattle.bz_key.specs.UnpackingLaws.{unpacked_key-sound, unpacked_payload-sound}
+use Rattle.bz_key.proofs.PackingLaws.{length-packed}
+use Rattle.bz_key.proofs.UnpackingLaws.{unpacked_key-sound, unpacked_payload-sound}
 use Rattle.bz_key.specs.declared.limits.TheConstants.{KEY_BYTES, PAYLOAD_BYTES}
 use Rattle.bz_layout.specs.declared.sizes.TheConstants.{NODE_WORDS, LOW_FENCE_AT, HIGH_FENCE_AT}
 use Rattle.bz_node.specs.Layout.{block, needed}

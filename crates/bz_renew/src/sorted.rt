@@ -10,7 +10,7 @@ ghost use Rattle.bz_slotted.specs.Rules.{node_fault};
 ghost use Rattle.bz_renew.specs.Sorted.{IsSortedLeaf};
 
 use bz_key::{Key, PageBuf};
-use bz_layout::{HEADER_AT, LOW_FENCE_AT, BYTES_IN_WORD};
+use bz_layout::{BYTES_IN_WORD, HEADER_AT, LOW_FENCE_AT};
 use bz_node::NodeImage;
 use bz_slotted::laws as slotted;
 use bz_word::Header;

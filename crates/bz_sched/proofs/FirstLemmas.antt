@@ -7,7 +7,7 @@ use Rattle.std.proofs.lemmas.Option.{slice_get-get_or}
 use Rattle.bz_call.specs.declared.calls.Call.{Call}
 use Rattle.bz_sched.specs.Queued.{calls_of, without_first, IsFirst}
 use Rattle.bz_sched.specs.QueueKept.{waiting_from, IsFound}
-use Rattle.bz_sched.specs.QueueLaws.{same_owner}
+use Rattle.bz_sched.proofs.QueueLaws.{same_owner}
 use Rattle.bz_sched.proofs.LookLemmas.{Stands, stands_first, stands_later, standing, beyond}
 
 -- where the next calls are looked for once one was taken

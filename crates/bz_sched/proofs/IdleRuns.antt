@@ -9,7 +9,7 @@ use Rattle.bz_sound.specs.Calls.{Open, open_call, with_effect}
 use Rattle.bz_sched.specs.Queued.{calls_of, is_busy_by}
 use Rattle.bz_sched.specs.Points.{Point, ready_by, is_busy, IsTurn}
 use Rattle.bz_sched.specs.Turns.{TakesTurns, EndsFrom, passing_from, RunsRounds}
-use Rattle.bz_sched.specs.QueueLaws.{not_same, same_owner, calls_of-without}
+use Rattle.bz_sched.proofs.QueueLaws.{not_same, same_owner, calls_of-without}
 use Rattle.bz_sched.specs.TurnLaws.{AreOwn, AloneEndsIdle, TurnsEndIdle}
 use Rattle.bz_sched.proofs.TurnAdds.{turn_adds}
 

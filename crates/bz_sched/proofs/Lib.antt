@@ -1,3 +1,4 @@
+pub mod QueueLaws
 pub mod TurnAdds
 pub mod IdleRuns
 pub mod OpenEnds

@@ -4,7 +4,7 @@ use Rattle.std.proofs.lemmas.Bool.Decides.{nat_tests}
 use Rattle.std.proofs.lemmas.Option.{slice_get-get_or}
 use Rattle.bz_call.specs.declared.calls.Call.{Call}
 use Rattle.bz_sched.specs.QueueKept.{NoneOf, IsFound}
-use Rattle.bz_sched.specs.QueueLaws.{same_owner}
+use Rattle.bz_sched.proofs.QueueLaws.{same_owner}
 
 pub none_nowhere : (w from : ℕ) (calls : List (ℕ × Call)) → NoneOf w from from calls
 none_nowhere w from calls at call low high is = absurd (omega arith)

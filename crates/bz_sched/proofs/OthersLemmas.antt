@@ -8,7 +8,7 @@ use Rattle.bz_mark.specs.declared.marks.Mark.TheVariants.{Begin, End, Load, Stor
 use Rattle.bz_sound.specs.Calls.{Open, open_call}
 use Rattle.bz_world.specs.declared.answers.Which.TheVariants as which
 use Rattle.bz_sched.specs.Points.{Point, ready, ready_by, is_busy, IsTurn}
-use Rattle.bz_sched.specs.QueueLaws.{not_same, same_owner, calls_of-without}
+use Rattle.bz_sched.proofs.QueueLaws.{not_same, same_owner, calls_of-without}
 use Rattle.bz_sched.specs.Queued.{calls_of}
 use Rattle.bz_sched.specs.TurnLaws.{AreOwn}
 use Rattle.bz_sched.specs.Turns.{busy_workers}

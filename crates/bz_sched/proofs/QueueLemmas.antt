@@ -6,7 +6,7 @@ use Rattle.std.proofs.lemmas.List.{length-append}
 use Rattle.bz_call.specs.declared.calls.Call.{Call}
 use Rattle.bz_sched.specs.Queued.{calls_of, without_first}
 use Rattle.bz_sched.specs.QueueKept.{waiting_from, IsKept, IsFound}
-use Rattle.bz_sched.specs.QueueLaws.{same_owner, calls_of-append, calls_of-without, calls_of-taken}
+use Rattle.bz_sched.proofs.QueueLaws.{same_owner, calls_of-append, calls_of-without, calls_of-taken}
 use Rattle.bz_sched.proofs.LookLemmas.{stands_first, beyond}
 use Rattle.bz_sched.proofs.FirstLemmas.{set_other, set_same, kept_in, first_is, found_taken}
 

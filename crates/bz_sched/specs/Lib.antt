@@ -1,6 +1,5 @@
 pub mod Queued
 pub mod QueueKept
-pub mod QueueLaws
 pub mod Points
 pub mod Fuses
 pub mod Turns

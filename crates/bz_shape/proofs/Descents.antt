@@ -3,7 +3,7 @@ use Rattle.std.proofs.Common.{◌≡◌, ◌≢◌, ℕ, zero, suc, ◌+◌, ◌
 use Rattle.std.specs.Prelude.{Some, None}
 use Rattle.std.proofs.lemmas.Bool.Decides.{nat_tests}
 use Rattle.std.proofs.lemmas.Bool.{cases_eq, cases_lt}
-use Rattle.bz_shape.specs.OrderLaws.{before-trans}
+use Rattle.bz_shape.proofs.OrderLaws.{before-trans}
 use Rattle.bz_shape.specs.Descent.{choice, descend, leaf_of, pick}
 use Rattle.bz_shape.specs.Form.{Fits, Form, Hangs, Holds, IsHonest, Rises, Stands}
 use Rattle.bz_shape.specs.Order.{is_above, is_at_least, is_before, is_below}

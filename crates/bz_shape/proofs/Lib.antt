@@ -1,3 +1,4 @@
+pub mod OrderLaws
 pub mod AfterSplits
 pub mod CleanWalks
 pub mod Contents

@@ -6,7 +6,7 @@ use Rattle.bz_shape.proofs.Contents.{Says, content-graft}
 use Rattle.bz_shape.proofs.Descents.{Home, home, rises}
 use Rattle.bz_shape.proofs.MergeForms.{MergeForm}
 use Rattle.bz_shape.proofs.Merges.{graft-merge, is_three, three}
-use Rattle.bz_shape.specs.OrderLaws.{at_least-later, below-earlier, before-trans}
+use Rattle.bz_shape.proofs.OrderLaws.{at_least-later, below-earlier, before-trans}
 use Rattle.bz_shape.specs.Descent.{content}
 use Rattle.bz_shape.specs.Form.{Fits, Form, Holds, IsHonest, Rises, Stands}
 use Rattle.bz_shape.specs.Merge.{Merge}

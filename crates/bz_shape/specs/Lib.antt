@@ -5,7 +5,6 @@ pub mod Form
 pub mod LeafSwap
 pub mod Merge
 pub mod Order
-pub mod OrderLaws
 pub mod Outcomes
 pub mod QuietSlots
 pub mod RootSplit

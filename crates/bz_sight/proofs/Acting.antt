@@ -5,7 +5,7 @@ use Rattle.std.proofs.lemmas.Grind.{common_steps}
 use Rattle.std.proofs.lemmas.List.{get_or-set_same, get_or-set_other, get_or_past, length-set, take_all, drop_all, append-nil}
 use Rattle.bz_layout.specs.declared.config.Config.{Config}
 use Rattle.bz_pm.specs.Acts.{with_range, with_line, flushed, stored}
-use Rattle.bz_pm.specs.Laws.{flush}
+use Rattle.bz_pm.proofs.Lemmas.{flush}
 use Rattle.bz_pm.specs.Words.{Words, IsMemory}
 use Rattle.bz_acts.specs.Rule.{IsActOf, after_act}
 use Rattle.bz_acts.specs.declared.acted.Act.{Act}

@@ -6,7 +6,7 @@ use Rattle.std.proofs.lemmas.Bool.Decides.{nat_tests}
 use Rattle.std.proofs.lemmas.List.{length-append, length-map, length-drop, get_or-map, get_or-drop, get_or_default, nil_from_length}
 use Rattle.std.proofs.lemmas.List.FromFn.{get_or-map-range_with_len}
 use Rattle.bz_key.specs.Packing.{packed, packed_len, unpacked}
-use Rattle.bz_key.specs.PackingLaws.{length-packed, length-unpacked}
+use Rattle.bz_key.proofs.PackingLaws.{length-packed, length-unpacked}
 use Rattle.bz_node.specs.Laws.{ReadsAsInner, InnerNodesAreRead}
 use Rattle.bz_node.specs.Layout.{Entry, IsEntry, bound_of}
 use Rattle.bz_node.specs.Reading.{payload_at, key_part, low_in, child_in}

@@ -11,7 +11,7 @@ use Rattle.std.proofs.lemmas.Bool.{cases_lt}
 use Rattle.std.proofs.lemmas.List.{length-append, length-map, get_or-map}
 use Rattle.std.proofs.lemmas.List.FromFn.{get_or-map-range_with_len, map-range_with_len_more}
 use Rattle.bz_key.specs.Packing.{packed, packed_len}
-use Rattle.bz_key.specs.PackingLaws.{length-packed}
+use Rattle.bz_key.proofs.PackingLaws.{length-packed}
 use Rattle.bz_node.specs.Laws.{ReadsAsLeaf, LeavesAreRead}
 use Rattle.bz_node.specs.Layout.{Entry, IsEntry}
 use Rattle.bz_node.specs.Reading.{metas_in, payload_at, payload_len, shown, words_of, words_shown, extent_in, HasPair}

@@ -5,8 +5,8 @@ use Rattle.std.specs.List.{sum_by}
 use Rattle.std.proofs.lemmas.List.{ext_get_or, get_or-take, get_or-drop, get_or_append_left, get_or-append_right, get_or-replicate, length-append, length-replicate, nil_from_length}
 use Rattle.std.proofs.lemmas.List.Sums.{sum_by-cons}
 use Rattle.bz_key.specs.Packing.{packed, packed_len}
-use Rattle.bz_key.specs.PackingLaws.{length-packed}
-use Rattle.bz_key.specs.UnpackingLaws.{unpacked_key-complete}
+use Rattle.bz_key.proofs.PackingLaws.{length-packed}
+use Rattle.bz_key.proofs.UnpackingLaws.{unpacked_key-complete}
 use Rattle.bz_layout.specs.declared.sizes.TheConstants.{NODE_WORDS, FENCE_WORDS, META_AT, SHARED_WORDS}
 use Rattle.bz_layout.specs.declared.thresholds.TheConstants.{MAX_LEVELS}
 use Rattle.bz_node.specs.Layout.{Entry, IsEntry, block, metas, visible_word, needed, shared_part, bound_of, fence_words, made_status, made_header, node_words}
@@ -14,7 +14,7 @@ use Rattle.bz_node.specs.Reading.{part}
 use Rattle.bz_node.specs.Records.{IsBound}
 use Rattle.bz_word.specs.Fields.{field}
 use Rattle.bz_word.specs.Headers.{header_word}
-use Rattle.bz_word.specs.Laws.{headers}
+use Rattle.bz_word.proofs.Lemmas.{headers}
 use Rattle.bz_word.specs.Statuses.{status_word}
 use Rattle.bz_slotted.proofs.Words.{length-words_at, get_or-words_at}
 use Rattle.bz_slotted.specs.Page.{words_at}

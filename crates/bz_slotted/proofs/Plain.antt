@@ -1,7 +1,7 @@
 -- What the program finds of a record's place and words, in terms of the tests.
 use Rattle.std.proofs.Common.{◌≡◌, ℕ, ◌+◌, ◌≤◌, ◌&&◌, Bool, true, false, List, [], length, arith, refl, sym, ap, ◌∙◌, Option}
 use Rattle.std.proofs.lemmas.List.{nil_from_length}
-use Rattle.bz_key.specs.PackingLaws.{length-unpacked}
+use Rattle.bz_key.proofs.PackingLaws.{length-unpacked}
 use Rattle.bz_node.specs.Layout.{bound_of}
 use Rattle.bz_slotted.specs.Records.{key_words, key_in}
 use Rattle.bz_slotted.proofs.Readings.{unpacked_key-some}

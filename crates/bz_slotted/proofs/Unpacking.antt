@@ -2,7 +2,7 @@
 use Rattle.std.proofs.Common.{◌≡◌, ℕ, ◌^◌, ◌<◌, Bool, true, false, if◌then◌else◌, arith, refl, sym, ap, ◌∙◌}
 use Rattle.std.proofs.lemmas.Bool.Decides.{nat_tests}
 use Rattle.bz_word.specs.Headers.{header, header_word, IsHeader}
-use Rattle.bz_word.specs.Laws.{headers, metas, statuses}
+use Rattle.bz_word.proofs.Lemmas.{headers, metas, statuses}
 use Rattle.bz_word.specs.Metas.{meta, meta_word, IsMeta, IsMetaWord}
 use Rattle.bz_word.specs.Statuses.{status, status_word, IsStatus}
 use Rattle.bz_word.specs.declared.header.Header.{Header}

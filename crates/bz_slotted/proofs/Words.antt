@@ -4,7 +4,7 @@ use Rattle.std.specs.Prelude.{Some, None}
 use Rattle.std.specs.Prelude.{length, get_or}
 use Rattle.std.proofs.lemmas.List.FromFn.{length-map-range_with_len, get_or-map-range_with_len}
 use Rattle.bz_key.specs.Packing.{packed_len, unpacked}
-use Rattle.bz_key.specs.UnpackingLaws.{unpacked_key-sound}
+use Rattle.bz_key.proofs.UnpackingLaws.{unpacked_key-sound}
 use Rattle.bz_layout.specs.declared.sizes.TheConstants.{FENCE_WORDS}
 use Rattle.bz_node.specs.Reading.{payload_at, payload_len, words_of}
 use Rattle.bz_word.specs.declared.meta.Extent.{Extent}

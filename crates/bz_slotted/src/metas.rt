@@ -7,7 +7,7 @@ ghost use Rattle.bz_slotted.specs.ReadingLaws.{node_of};
 ghost use Rattle.bz_slotted.specs.Records.{weight as words_held};
 ghost use Rattle.bz_word.specs.Metas.{IsMeta};
 
-use bz_layout::{META_AT, BYTES_IN_WORD};
+use bz_layout::{BYTES_IN_WORD, META_AT};
 use bz_word::{Extent, Meta};
 
 /// How many words so many bytes take.

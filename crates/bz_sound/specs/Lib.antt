@@ -1,6 +1,5 @@
 pub mod Calls
 pub mod Replies
-pub mod CallLaws
 pub mod Lonely
 pub mod Memory
 pub mod Power

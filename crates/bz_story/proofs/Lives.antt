@@ -3,7 +3,7 @@ use Rattle.std.proofs.Common.{◌≡◌, ℕ, suc, ◌+◌, ◌≤◌, ◌⊎◌
 use Rattle.std.proofs.lemmas.Bool.{cases_eq}
 use Rattle.bz_layout.specs.declared.config.Config.{Config}
 use Rattle.bz_layout.specs.declared.sizes.TheConstants.{STATUS_AT}
-use Rattle.bz_mark.specs.MomentLaws.{at_moment-now, at_moment-earlier}
+use Rattle.bz_mark.proofs.MomentLaws.{at_moment-now, at_moment-earlier}
 use Rattle.bz_mark.specs.declared.marks.Mark.{Mark}
 use Rattle.bz_sight.specs.Passing.{Passed, ActsPass}
 use Rattle.bz_sight.specs.Sight.{IsSeen, next_instant}

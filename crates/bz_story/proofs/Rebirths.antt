@@ -12,7 +12,7 @@ use Rattle.bz_content.specs.Content.{image_fault, content_in}
 use Rattle.bz_layout.specs.declared.config.Config.{Config}
 use Rattle.bz_layout.specs.Slots.{FreeSlots}
 use Rattle.bz_mark.specs.Log.{Log, with_mark}
-use Rattle.bz_mark.specs.MomentLaws.{at_moment-now}
+use Rattle.bz_mark.proofs.MomentLaws.{at_moment-now}
 use Rattle.bz_mark.specs.WordsAfter.{words_of as words_after_marks, words_after}
 use Rattle.bz_mark.specs.declared.marks.Mark.{Mark}
 use Rattle.bz_mark.specs.declared.marks.Mark.TheVariants.{Evict, Ready}

@@ -4,7 +4,7 @@ use Rattle.std.proofs.lemmas.Bool.Decides.{nat_tests}
 use Rattle.bz_layout.specs.Addresses.{node_address, line_of}
 use Rattle.bz_layout.specs.declared.config.Config.{Config}
 use Rattle.bz_mark.specs.Log.{Log}
-use Rattle.bz_mark.specs.MomentLaws.{mark_at-earlier}
+use Rattle.bz_mark.proofs.MomentLaws.{mark_at-earlier}
 use Rattle.bz_mark.specs.declared.marks.Mark.{Mark}
 use Rattle.bz_sight.specs.Passing.{Passed, AllStay, ActsPass, ActsLeaveAll, StoresAreSeen, FlushesAreSeen}
 use Rattle.bz_sight.specs.Sight.{next_instant}

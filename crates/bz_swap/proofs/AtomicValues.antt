@@ -2,7 +2,7 @@
 use Rattle.std.specs.Prelude.{◌≡◌, ◌≢◌, ◌||◌, ◌==◌, if◌then◌else◌, ℕ, zero, suc, ◌^◌, ◌<◌, Bool, true, false, List, [], ◌∷◌, length, get_or, slice_index}
 use Rattle.std.proofs.Common.{arith, refl, ap, ◌∙◌}
 use Rattle.std.proofs.lemmas.Grind.{common_steps}
-use Rattle.bz_word.specs.Laws.KindWords.{kind-word}
+use Rattle.bz_word.proofs.Lemmas.KindWords.{kind-word}
 use Rattle.bz_word.specs.declared.entry.Entry.{Entry}
 use Rattle.bz_word.specs.declared.kind.WordKind.TheVariants.{Value}
 use Rattle.bz_cells.specs.Store.{IsOutside, kind_at, status_at}

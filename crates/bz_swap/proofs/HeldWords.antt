@@ -5,7 +5,7 @@ use Rattle.bz_word.specs.declared.entry.Entry.{Entry}
 use Rattle.std.proofs.Common.{arith, refl, ap, sym, subst, ◌∙◌, inl, inr}
 use Rattle.std.proofs.lemmas.Grind.{common_steps}
 use Rattle.bz_word.specs.Kinds.{kind, word, IsKind, IsWord}
-use Rattle.bz_word.specs.Laws.KindWords.{word-kind, IsKind-kind}
+use Rattle.bz_word.proofs.Lemmas.KindWords.{word-kind, IsKind-kind}
 use Rattle.bz_word.specs.declared.kind.WordKind.{WordKind}
 use Rattle.bz_word.specs.declared.kind.WordKind.TheVariants.{Value, Dirty, Swap, Tag}
 use Rattle.bz_machine.specs.declared.status.SwapStatus.{SwapStatus}

@@ -5,7 +5,7 @@ use Rattle.std.proofs.lemmas.Bool.{cases_lt}
 use Rattle.std.proofs.lemmas.List.{get_or_past}
 use Rattle.std.proofs.lemmas.Grind.{common_steps}
 use Rattle.bz_word.specs.Kinds.{kind, IsKind}
-use Rattle.bz_word.specs.Laws.KindWords.{kind-word, IsWord-word}
+use Rattle.bz_word.proofs.Lemmas.KindWords.{kind-word, IsWord-word}
 use Rattle.bz_word.specs.declared.kind.WordKind.{WordKind}
 use Rattle.bz_word.specs.declared.kind.WordKind.TheVariants.{Value}
 use Rattle.bz_layout.specs.Addresses.{swap_address}

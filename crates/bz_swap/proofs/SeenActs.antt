@@ -3,7 +3,7 @@ use Rattle.std.specs.Prelude.{◌≡◌, ◌≢◌, ℕ, ◌^◌, ◌<◌, false
 use Rattle.std.proofs.Common.{arith, refl, ap, sym, subst, ◌∙◌, inl, inr}
 use Rattle.std.proofs.lemmas.List.{length-map, length-set}
 use Rattle.bz_word.specs.Kinds.{kind, word, IsWord}
-use Rattle.bz_word.specs.Laws.KindWords.{word-kind}
+use Rattle.bz_word.proofs.Lemmas.KindWords.{word-kind}
 use Rattle.bz_word.specs.declared.kind.WordKind.{WordKind}
 use Rattle.bz_word.specs.declared.kind.WordKind.TheVariants.{Value, Dirty, Swap, Tag}
 use Rattle.bz_machine.specs.declared.place.Place.{Place}

@@ -5,7 +5,7 @@ use Rattle.std.proofs.lemmas.Bool.{cases_eq, cases_lt}
 use Rattle.std.proofs.lemmas.Grind.{common_steps}
 use Rattle.std.proofs.lemmas.List.{get_or-set_same, get_or-set_other, get_or_past, length-set, take_all, drop_all, append-nil}
 use Rattle.bz_pm.specs.Acts.{with_range, with_line, flushed}
-use Rattle.bz_pm.specs.Laws.{flush}
+use Rattle.bz_pm.proofs.Lemmas.{flush}
 use Rattle.bz_pm.specs.Words.{Words, IsMemory}
 
 -- what holds of a word and of what is stored holds of the word afterwards

@@ -5,7 +5,7 @@ use Rattle.std.proofs.Common.{arith, refl, ap, sym, subst, inl, inr}
 use Rattle.std.proofs.lemmas.Bool.{cases_lt}
 use Rattle.std.proofs.lemmas.List.{length-set}
 use Rattle.bz_pm.specs.Acts.{flushed}
-use Rattle.bz_pm.specs.Laws.{flush}
+use Rattle.bz_pm.proofs.Lemmas.{flush}
 use Rattle.bz_pm.specs.Words.{Words, IsMemory}
 use Rattle.bz_acts.specs.Rule.{after_act}
 use Rattle.bz_acts.specs.declared.acted.Act.{Act}

@@ -2,7 +2,7 @@
 use Rattle.std.proofs.Common.{◌≡◌, ℕ, zero, suc, ◌+◌, ◌^◌, ◌<◌, ◌≤◌, ◌&&◌, if◌then◌else◌, Bool, true, false, List, arith, refl, sym, ap, subst, ◌∙◌, inl, inr, Option}
 use Rattle.std.specs.Prelude.{bytes_eq, Some, None, IsSome}
 use Rattle.bz_key.specs.Packing.{packed_len, unpacked, unpacked_key, unpacked_payload}
-use Rattle.bz_key.specs.UnpackingLaws.{unpacked_key-sound}
+use Rattle.bz_key.proofs.UnpackingLaws.{unpacked_key-sound}
 use Rattle.bz_layout.specs.declared.sizes.TheConstants.{STATUS_AT, HEADER_AT, LOW_FENCE_AT, HIGH_FENCE_AT, META_AT}
 use Rattle.bz_node.specs.Reading.{payload_at, payload_len}
 use Rattle.bz_slotted.specs.Laws.{LeafRulesAreFacts}

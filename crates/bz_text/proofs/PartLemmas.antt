@@ -7,7 +7,7 @@ use Rattle.bz_call.specs.Map.{Map}
 use Rattle.bz_layout.specs.declared.config.Config.{Config}
 use Rattle.bz_mark.specs.Log.{Log}
 use Rattle.bz_mark.specs.Moments.{at_moment, mark_at}
-use Rattle.bz_mark.specs.MomentLaws.{at_moment-next, at_moment-now}
+use Rattle.bz_mark.proofs.MomentLaws.{at_moment-next, at_moment-now}
 use Rattle.bz_mark.specs.declared.marks.Mark.{Mark}
 use Rattle.bz_mark.specs.declared.marks.Mark.TheVariants.{Cut, On}
 use Rattle.bz_sound.specs.Calls.{map_after}

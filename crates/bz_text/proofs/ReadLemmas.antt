@@ -7,11 +7,11 @@ use Rattle.std.proofs.lemmas.List.{length-replicate, get_or-replicate}
 use Rattle.bz_call.specs.declared.calls.Call.{Call}
 use Rattle.bz_call.specs.declared.replies.Reply.{Reply}
 use Rattle.bz_mark.specs.Moments.{at_moment, mark_at}
-use Rattle.bz_mark.specs.MomentLaws.{at_moment-next, mark_at-at_moment, length-at_moment}
+use Rattle.bz_mark.proofs.MomentLaws.{at_moment-next, mark_at-at_moment, length-at_moment}
 use Rattle.bz_mark.specs.declared.marks.Mark.{Mark}
 use Rattle.bz_mark.specs.declared.marks.Mark.TheVariants.{Begin, End, Cut, Effect}
 use Rattle.bz_sound.specs.Calls.{Open, open_call, with_effect}
-use Rattle.bz_sound.specs.CallLaws.{began_before, has_begin}
+use Rattle.bz_sound.proofs.CallLaws.{began_before, has_begin}
 use Rattle.bz_text.specs.declared.ended.EndedCall.{EndedCall}
 use Rattle.bz_text.specs.Report.{ended_by, ended_calls}
 use Rattle.bz_text.specs.Reading.{IsReadTo, ended_since}

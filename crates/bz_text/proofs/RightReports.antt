@@ -4,7 +4,7 @@ use Rattle.std.specs.Prelude.{nat_le, if◌then◌else◌, Some}
 use Rattle.bz_call.specs.declared.replies.Reply.{Reply}
 use Rattle.bz_layout.specs.declared.config.Config.{Config}
 use Rattle.bz_mark.specs.Log.{count_ends}
-use Rattle.bz_mark.specs.MomentLaws.{at_moment-earlier, at_moment-before, mark_at-newest, mark_at-earlier}
+use Rattle.bz_mark.proofs.MomentLaws.{at_moment-earlier, at_moment-before, mark_at-newest, mark_at-earlier}
 use Rattle.bz_mark.specs.Moments.{at_moment}
 use Rattle.bz_mark.specs.declared.marks.Mark.{Mark}
 use Rattle.bz_mark.specs.declared.marks.Mark.TheVariants.{End, Cut}

@@ -6,11 +6,11 @@ use Rattle.bz_call.specs.declared.calls.Call.{Call}
 use Rattle.bz_call.specs.declared.replies.Reply.{Reply}
 use Rattle.bz_mark.specs.Log.{count_ends}
 use Rattle.bz_mark.specs.Moments.{at_moment, mark_at}
-use Rattle.bz_mark.specs.MomentLaws.{at_moment-next, mark_at-at_moment, length-at_moment}
+use Rattle.bz_mark.proofs.MomentLaws.{at_moment-next, mark_at-at_moment, length-at_moment}
 use Rattle.bz_mark.specs.declared.marks.Mark.{Mark}
 use Rattle.bz_mark.specs.declared.marks.Mark.TheVariants.{Begin, End, Cut, Effect}
 use Rattle.bz_sound.specs.Calls.{Open, open_call, map_after}
-use Rattle.bz_sound.specs.CallLaws.{began_before, has_begin}
+use Rattle.bz_sound.proofs.CallLaws.{began_before, has_begin}
 use Rattle.bz_text.specs.Report.{ended_calls}
 use Rattle.bz_text.specs.RightSummary.{total}
 use Rattle.bz_text.specs.Summary.{no_counts, counted, counts_of}

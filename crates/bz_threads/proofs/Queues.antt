@@ -3,7 +3,7 @@ use Rattle.std.proofs.Common.{◌≡◌, ◌≢◌, ◌<◌, ◌≤◌, ℕ, zer
 use Rattle.std.proofs.lemmas.Bool.{cases_lt}
 use Rattle.bz_call.specs.declared.calls.Call.{Call}
 use Rattle.bz_sched.specs.Queued.{calls_of}
-use Rattle.bz_sched.specs.QueueLaws.{calls_of-append}
+use Rattle.bz_sched.proofs.QueueLaws.{calls_of-append}
 use Rattle.bz_threads.proofs.Making.{same_worker}
 use Rattle.bz_threads.specs.Inside.Batches.{paired}
 

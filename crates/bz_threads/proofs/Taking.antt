@@ -2,7 +2,7 @@
 use Rattle.std.proofs.Common.{◌≡◌, ◌≢◌, ◌<◌, ℕ, false, List, [], ◌∷◌, ◌++◌, length, drop, refl, sym, ap, ◌∙◌, arith, append_assoc, append-nil, Some, None}
 use Rattle.bz_call.specs.declared.calls.Call.{Call}
 use Rattle.bz_sched.specs.Queued.{Queued, calls_of, without_first, is_busy_by, IsFirst}
-use Rattle.bz_sched.specs.QueueLaws.{calls_of-without, calls_of-taken}
+use Rattle.bz_sched.proofs.QueueLaws.{calls_of-without, calls_of-taken}
 use Rattle.bz_threads.specs.Inside.Batches.{paired}
 
 pub record Taking (worker : ℕ) (old now : Queued) (calls : List Call) : Type 0 where

@@ -1,7 +1,6 @@
 pub mod Fields
 pub mod Headers
 pub mod Kinds
-pub mod Laws
 pub mod Metas
 pub mod Statements
 pub mod Statuses

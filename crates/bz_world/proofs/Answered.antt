@@ -9,7 +9,7 @@ use Rattle.bz_acts.specs.declared.acted.Act.TheVariants.{Load}
 use Rattle.bz_machine.specs.declared.done.Done.{Done}
 use Rattle.bz_machine.specs.declared.done.Done.TheVariants as done
 use Rattle.bz_mark.specs.Log.{with_mark}
-use Rattle.bz_mark.specs.MomentLaws.{mark_at-newest}
+use Rattle.bz_mark.proofs.MomentLaws.{mark_at-newest}
 use Rattle.bz_running.specs.Duties.{asks_of, facts_of, publishing_of}
 use Rattle.bz_sight.specs.Passing.{AllStay}
 use Rattle.bz_sight.specs.Acts.{IsFlushing}

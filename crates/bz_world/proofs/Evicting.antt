@@ -3,7 +3,7 @@ use Rattle.std.proofs.Common.{◌≡◌, ◌≢◌, ℕ, ◌<◌, ◌∷◌, len
 use Rattle.std.specs.Prelude.{get_or}
 use Rattle.bz_content.specs.Content.{image_fault, content_in}
 use Rattle.bz_mark.specs.Log.{with_mark}
-use Rattle.bz_mark.specs.MomentLaws.{at_moment-now}
+use Rattle.bz_mark.proofs.MomentLaws.{at_moment-now}
 use Rattle.bz_mark.specs.WordsAfter.{words_of as words_after_marks}
 use Rattle.bz_mark.specs.declared.marks.Mark.TheVariants.{Evict}
 use Rattle.bz_layout.specs.Addresses.{swap_address}

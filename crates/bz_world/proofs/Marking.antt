@@ -5,7 +5,7 @@ use Rattle.bz_acts.specs.Rule.{IsActOf, IsWithin, FoundRightly, after_act}
 use Rattle.bz_acts.specs.declared.acted.Act.{Act}
 use Rattle.bz_acts.specs.declared.acted.Act.TheVariants.{Load, Store, Cas, Flush}
 use Rattle.bz_mark.specs.Log.{Log, count_begins, count_page_calls, count_page_ends}
-use Rattle.bz_mark.specs.WordLaws.{found-read}
+use Rattle.bz_mark.proofs.WordLaws.{found-read}
 use Rattle.bz_mark.specs.WordsAfter.{words_of as words_after_marks, words_after, Found}
 use Rattle.bz_mark.specs.declared.marks.Mark.{Mark}
 use Rattle.bz_pm.specs.Words.{Words}

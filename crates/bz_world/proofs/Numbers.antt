@@ -1,7 +1,7 @@
 -- The table of calls says which calls are open, and by which numbers.
 use Rattle.std.proofs.Common.{◌≡◌, ℕ, ◌+◌, ◌-◌, ◌<◌, ◌≤◌, List, ◌∷◌, length, slice_index, arith, refl, sym, ap, subst, ◌∙◌, Option, Some, None}
 use Rattle.std.specs.Prelude.{get_or, option_map}
-use Rattle.bz_mark.specs.MomentLaws.{at_moment-next}
+use Rattle.bz_mark.proofs.MomentLaws.{at_moment-next}
 use Rattle.bz_mark.specs.Moments.{at_moment, mark_at}
 use Rattle.bz_mark.specs.declared.marks.Mark.{Mark}
 use Rattle.bz_sound.specs.Calls.{Open, open_call}

@@ -9,7 +9,7 @@ use Rattle.bz_call.specs.declared.calls.Call.TheVariants as call
 use Rattle.bz_content.specs.Content.{content_in}
 use Rattle.bz_layout.specs.declared.config.Config.{Config}
 use Rattle.bz_mark.specs.Log.{Log, with_mark}
-use Rattle.bz_mark.specs.MomentLaws.{at_moment-before}
+use Rattle.bz_mark.proofs.MomentLaws.{at_moment-before}
 use Rattle.bz_mark.specs.declared.marks.Mark.{Mark}
 use Rattle.bz_mark.specs.declared.marks.Mark.TheVariants.{Effect}
 use Rattle.bz_running.specs.Duties.{facts_of, publishing_of, change_of, no-change-is-published}

@@ -6,7 +6,7 @@ use Rattle.bz_call.specs.Map.{key_of}
 use Rattle.bz_layout.specs.declared.config.Config.{Config}
 use Rattle.bz_layout.specs.declared.thresholds.TheConstants.{SPLIT_SLOTS}
 use Rattle.bz_mark.specs.Log.{Log, with_mark}
-use Rattle.bz_mark.specs.MomentLaws.{at_moment-earlier}
+use Rattle.bz_mark.proofs.MomentLaws.{at_moment-earlier}
 use Rattle.bz_mark.specs.declared.marks.Mark.{Mark}
 use Rattle.bz_running.specs.Duties.{needs_of, wants_of, facts_of}
 use Rattle.bz_slotted.specs.Records.{live_words}

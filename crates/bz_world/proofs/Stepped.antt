@@ -7,7 +7,7 @@ use Rattle.bz_acts.specs.declared.acted.Act.TheVariants.{Load, Store, Cas, Flush
 use Rattle.bz_machine.specs.declared.done.Done.{Done}
 use Rattle.bz_layout.specs.Addresses.{swap_address}
 use Rattle.bz_mark.specs.Log.{with_mark}
-use Rattle.bz_mark.specs.MomentLaws.{at_moment-now}
+use Rattle.bz_mark.proofs.MomentLaws.{at_moment-now}
 use Rattle.bz_mark.specs.declared.marks.Mark.{Mark}
 use Rattle.bz_sight.specs.Passing.{Passed}
 use Rattle.bz_sight.specs.Sight.{next_instant}

@@ -4,7 +4,7 @@ use Rattle.std.specs.Prelude.{get_or}
 use Rattle.std.proofs.lemmas.Bool.{cases_eq}
 use Rattle.bz_content.specs.Content.{image_fault, content_in}
 use Rattle.bz_mark.specs.Log.{with_mark}
-use Rattle.bz_mark.specs.MomentLaws.{at_moment-now}
+use Rattle.bz_mark.proofs.MomentLaws.{at_moment-now}
 use Rattle.bz_running.specs.Duties.{asks_of, wants_of, facts_of, publishing_of, change_of}
 use Rattle.bz_sight.specs.Effects.{effect_instant}
 use Rattle.bz_sound.specs.Memory.Moments.{image_after}

@@ -2,7 +2,7 @@
 use Rattle.std.proofs.Common.{◌≡◌, ◌+◌, ℕ, zero, suc, List, [], ◌∷◌, refl, sym, ◌∙◌, subst, Some}
 use Rattle.bz_call.specs.Map.{Map}
 use Rattle.bz_mark.specs.Moments.{at_moment, mark_at}
-use Rattle.bz_mark.specs.MomentLaws.{at_moment-next}
+use Rattle.bz_mark.proofs.MomentLaws.{at_moment-next}
 use Rattle.bz_mark.specs.declared.marks.Mark.{Mark}
 use Rattle.bz_mark.specs.declared.marks.Mark.TheVariants.{Begin, End, Load, Store, Cas, Flush, Evict, Cut, On, Ready, Effect}
 use Rattle.bz_sound.specs.declared.power.Power.{Power}

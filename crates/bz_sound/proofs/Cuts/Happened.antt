@@ -11,8 +11,8 @@ use Rattle.bz_call.specs.declared.replies.Reply.{Reply}
 use Rattle.bz_call.specs.declared.replies.Reply.TheVariants.{Full}
 use Rattle.bz_call.specs.declared.replies.Spent.{Spent}
 use Rattle.bz_mark.specs.Moments.{mark_at}
-use Rattle.bz_mark.specs.MomentLaws.{at_moment-before, mark_at-earlier, mark_at-newest}
-use Rattle.bz_mark.specs.WordLaws.{newest-mark_at}
+use Rattle.bz_mark.proofs.MomentLaws.{at_moment-before, mark_at-earlier, mark_at-newest}
+use Rattle.bz_mark.proofs.WordLaws.{newest-mark_at}
 use Rattle.bz_mark.specs.declared.marks.Mark.{Mark}
 use Rattle.bz_mark.specs.declared.marks.Mark.TheVariants.{Begin, End, Cut, Effect}
 use Rattle.bz_sound.specs.Calls.{Open, open_call, with_effect}

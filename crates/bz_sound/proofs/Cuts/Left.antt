@@ -3,8 +3,8 @@ use Rattle.std.proofs.Common.{◌≡◌, ◌<◌, ℕ, List, ◌∷◌, length, 
 use Rattle.std.proofs.lemmas.Bool.{cases_lt}
 use Rattle.bz_call.specs.declared.replies.Reply.{Reply}
 use Rattle.bz_mark.specs.Moments.{at_moment, mark_at}
-use Rattle.bz_mark.specs.MomentLaws.{at_moment-now, at_moment-earlier, at_moment-before, mark_at-earlier, mark_at-newest}
-use Rattle.bz_mark.specs.WordLaws.{newest-mark_at}
+use Rattle.bz_mark.proofs.MomentLaws.{at_moment-now, at_moment-earlier, at_moment-before, mark_at-earlier, mark_at-newest}
+use Rattle.bz_mark.proofs.WordLaws.{newest-mark_at}
 use Rattle.bz_mark.specs.declared.marks.Mark.{Mark}
 use Rattle.bz_mark.specs.declared.marks.Mark.TheVariants.{End, Cut}
 use Rattle.bz_sound.specs.Calls.{Open, open_call}

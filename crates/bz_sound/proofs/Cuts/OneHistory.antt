@@ -10,7 +10,7 @@ use Rattle.bz_call.specs.declared.replies.Reply.TheVariants.{Page, Full}
 use Rattle.bz_call.specs.declared.replies.Spent.{Spent}
 use Rattle.bz_mark.specs.Log.{Log}
 use Rattle.bz_mark.specs.Moments.{at_moment, mark_at}
-use Rattle.bz_mark.specs.MomentLaws.{at_moment-next, length-at_moment, mark_at-at_moment}
+use Rattle.bz_mark.proofs.MomentLaws.{at_moment-next, length-at_moment, mark_at-at_moment}
 use Rattle.bz_mark.specs.declared.marks.Mark.{Mark}
 use Rattle.bz_mark.specs.declared.marks.Mark.TheVariants.{End, Load, Cut, Effect}
 use Rattle.bz_sound.specs.Calls.{Open, open_call, map_after, map_at, map_with}

@@ -20,7 +20,7 @@ use Rattle.bz_word.specs.Statuses.{status}
 use Rattle.bz_word.specs.Headers.{header}
 use Rattle.bz_word.specs.Metas.{meta}
 use Rattle.bz_key.specs.Packing.{packed, packed_word, packed_byte, unpacked, unpacked_key, unpacked_payload}
-use Rattle.bz_mark.specs.WordLaws.Lines.{length-line, in_line, off_line}
+use Rattle.bz_mark.proofs.WordLaws.Lines.{length-line, in_line, off_line}
 use Rattle.bz_sound.specs.Power.Example.{words_below, start}
 
 -- images with equal words are one

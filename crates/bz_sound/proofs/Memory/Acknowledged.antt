@@ -13,7 +13,7 @@ use Rattle.bz_call.specs.declared.replies.Reply.TheVariants.{Inserted, Exists, D
 use Rattle.bz_call.specs.declared.replies.Spent.{Spent}
 use Rattle.bz_mark.specs.Log.{Log}
 use Rattle.bz_mark.specs.Moments.{at_moment, mark_at}
-use Rattle.bz_mark.specs.MomentLaws.{length-at_moment, mark_at-at_moment, mark_at-earlier, mark_at-newest}
+use Rattle.bz_mark.proofs.MomentLaws.{length-at_moment, mark_at-at_moment, mark_at-earlier, mark_at-newest}
 use Rattle.bz_mark.specs.declared.marks.Mark.{Mark}
 use Rattle.bz_mark.specs.declared.marks.Mark.TheVariants.{Begin, End, Cut, Effect}
 use Rattle.bz_sound.specs.Calls.{Open, open_call, with_effect}

@@ -4,7 +4,7 @@ use Rattle.std.specs.Prelude.{if◌then◌else◌, option_map}
 use Rattle.std.proofs.lemmas.Bool.{cases_lt}
 use Rattle.bz_call.specs.declared.calls.Call.{Call}
 use Rattle.bz_mark.specs.Moments.{at_moment}
-use Rattle.bz_mark.specs.MomentLaws.{at_moment-now, at_moment-earlier}
+use Rattle.bz_mark.proofs.MomentLaws.{at_moment-now, at_moment-earlier}
 use Rattle.bz_mark.specs.declared.marks.Mark.{Mark}
 use Rattle.bz_mark.specs.declared.marks.Mark.TheVariants.{Begin, End, Cut, Effect}
 use Rattle.bz_sound.specs.Calls.{Open, open_call, with_effect}

@@ -10,7 +10,7 @@ use Rattle.bz_call.specs.declared.replies.Spent.{Spent}
 use Rattle.bz_mark.specs.Log.{Log}
 use Rattle.bz_mark.specs.declared.marks.Mark.{Mark}
 use Rattle.bz_mark.specs.declared.marks.Mark.TheVariants.{Begin, End, Cut, Effect}
-use Rattle.bz_sound.specs.CallLaws.{began_before}
+use Rattle.bz_sound.proofs.CallLaws.{began_before}
 use Rattle.bz_sound.specs.Calls.{Open, open_call, map_at, with_effect}
 use Rattle.bz_sound.specs.Memory.ImageLaws.{EffectsAnswer, SpentAnswersFull}
 use Rattle.bz_sound.specs.Memory.Moments.{map_at_start}

@@ -5,7 +5,7 @@ use Rattle.bz_layout.specs.declared.config.Config.{Config}
 use Rattle.bz_call.specs.Pages.{names_page}
 use Rattle.bz_call.specs.declared.replies.Spent.{Spent}
 use Rattle.bz_mark.specs.Log.{Log, with_mark, count_page_ends}
-use Rattle.bz_mark.specs.MomentLaws.{mark_at-newest}
+use Rattle.bz_mark.proofs.MomentLaws.{mark_at-newest}
 use Rattle.bz_mark.specs.Moments.{IsInner, mark_at}
 use Rattle.bz_mark.specs.WordsAfter.{words_of, Found}
 use Rattle.bz_mark.specs.declared.marks.Mark.{Mark}

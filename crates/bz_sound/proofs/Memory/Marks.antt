@@ -3,8 +3,8 @@ use Rattle.std.proofs.Common.{zero, suc, drop, ◌-◌, ◌≡◌, ◌≤◌, �
 use Rattle.std.specs.Prelude.{Some}
 use Rattle.std.proofs.lemmas.Bool.{cases_lt}
 use Rattle.bz_mark.specs.Moments.{at_moment, mark_at, IsInner, AtEachMoment}
-use Rattle.bz_mark.specs.MomentLaws.{at_moment-now, at_moment-earlier, at_moment-before, mark_at-earlier}
-use Rattle.bz_mark.specs.WordLaws.{newest-mark_at}
+use Rattle.bz_mark.proofs.MomentLaws.{at_moment-now, at_moment-earlier, at_moment-before, mark_at-earlier}
+use Rattle.bz_mark.proofs.WordLaws.{newest-mark_at}
 use Rattle.bz_mark.specs.declared.marks.Mark.{Mark}
 use Rattle.bz_sound.specs.Memory.Moments.{EachMark}
 

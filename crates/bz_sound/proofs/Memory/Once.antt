@@ -6,8 +6,8 @@ use Rattle.std.proofs.lemmas.Bool.Decides.{nat_tests}
 use Rattle.bz_call.specs.Map.{Map}
 use Rattle.bz_call.specs.declared.calls.Call.{Call}
 use Rattle.bz_mark.specs.Moments.{at_moment, mark_at}
-use Rattle.bz_mark.specs.MomentLaws.{length-at_moment, mark_at-at_moment, mark_at-earlier}
-use Rattle.bz_mark.specs.WordLaws.{newest-mark_at}
+use Rattle.bz_mark.proofs.MomentLaws.{length-at_moment, mark_at-at_moment, mark_at-earlier}
+use Rattle.bz_mark.proofs.WordLaws.{newest-mark_at}
 use Rattle.bz_mark.specs.declared.marks.Mark.{Mark}
 use Rattle.bz_mark.specs.declared.marks.Mark.TheVariants.{Begin, End, Cut, Effect}
 use Rattle.bz_sound.specs.Calls.{Open, open_call, begun_calls, with_effect}

@@ -1,7 +1,7 @@
 -- The Effect of an open call: the map before it stays.
 use Rattle.std.proofs.Common.{◌≡◌, ◌∷◌, ap, ◌∙◌, arith}
 use Rattle.bz_call.specs.Map.{Map, apply}
-use Rattle.bz_mark.specs.MomentLaws.{at_moment-earlier}
+use Rattle.bz_mark.proofs.MomentLaws.{at_moment-earlier}
 use Rattle.bz_sound.specs.Calls.{map_after, map_at}
 use Rattle.bz_sound.specs.Memory.OpenCallLaws.{EffectsStayOpen}
 use Rattle.bz_sound.proofs.Memory.Ended.{IsInside, inside}

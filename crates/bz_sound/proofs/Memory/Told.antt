@@ -10,10 +10,10 @@ use Rattle.bz_call.specs.declared.replies.Reply.TheVariants.{Full}
 use Rattle.bz_call.specs.declared.replies.Spent.{Spent}
 use Rattle.bz_mark.specs.Log.{Log}
 use Rattle.bz_mark.specs.Moments.{at_moment, mark_at}
-use Rattle.bz_mark.specs.MomentLaws.{length-at_moment, mark_at-at_moment}
+use Rattle.bz_mark.proofs.MomentLaws.{length-at_moment, mark_at-at_moment}
 use Rattle.bz_mark.specs.declared.marks.Mark.{Mark}
 use Rattle.bz_mark.specs.declared.marks.Mark.TheVariants.{Begin, End, Load, Store, Cas, Flush, Cut, Effect}
-use Rattle.bz_sound.specs.CallLaws.{began_before, has_begin}
+use Rattle.bz_sound.proofs.CallLaws.{began_before, has_begin}
 use Rattle.bz_sound.specs.Calls.{Open, open_call, begun_calls, with_effect}
 use Rattle.bz_sound.specs.Replies.{Pages}
 use Rattle.bz_sound.specs.Memory.Calls.{MayFollow}

@@ -1,4 +1,4 @@
-use Rattle.bz_key.specs.ReaderLaws.{key_of_word-exact}
+use Rattle.bz_key.proofs.ReaderLaws.{key_of_word-exact}
 use Rattle.bz_key.proofs.laws.keys_are_read.Goals as goal
 
 pub returns : goal.returns

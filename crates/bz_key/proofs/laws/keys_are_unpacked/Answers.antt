@@ -1,4 +1,4 @@
-use Rattle.bz_key.specs.UnpackingLaws.{unpacked_key-exact}
+use Rattle.bz_key.proofs.UnpackingLaws.{unpacked_key-exact}
 use Rattle.bz_key.proofs.laws.keys_are_unpacked.Goals as goal
 
 pub returns : goal.returns

@@ -1,4 +1,4 @@
-use Rattle.bz_key.specs.PackingLaws.{packed-injective}
+use Rattle.bz_key.proofs.PackingLaws.{packed-injective}
 use Rattle.bz_key.proofs.laws.packing_is_injective.Goals as goal
 
 pub returns : goal.returns

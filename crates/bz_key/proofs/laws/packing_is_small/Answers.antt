@@ -1,4 +1,4 @@
-use Rattle.bz_key.specs.PackingLaws.{length-packed, packed-small}
+use Rattle.bz_key.proofs.PackingLaws.{length-packed, packed-small}
 use Rattle.bz_key.proofs.laws.packing_is_small.Goals as goal
 
 pub returns : goal.returns

@@ -1,4 +1,4 @@
-use Rattle.bz_key.specs.UnpackingLaws.{unpacked_payload-exact}
+use Rattle.bz_key.proofs.UnpackingLaws.{unpacked_payload-exact}
 use Rattle.bz_key.proofs.laws.payloads_are_unpacked.Goals as goal
 
 pub returns : goal.returns

@@ -1,4 +1,4 @@
-use Rattle.bz_key.specs.SpellingLaws.{spelled-injective}
+use Rattle.bz_key.proofs.SpellingLaws.{spelled-injective}
 use Rattle.bz_key.proofs.laws.spelling_is_injective.Goals as goal
 
 pub returns : goal.returns

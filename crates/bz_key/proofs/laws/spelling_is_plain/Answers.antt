@@ -1,4 +1,4 @@
-use Rattle.bz_key.specs.SpellingLaws.{spelled-plain}
+use Rattle.bz_key.proofs.SpellingLaws.{spelled-plain}
 use Rattle.bz_key.proofs.laws.spelling_is_plain.Goals as goal
 
 pub returns : goal.returns

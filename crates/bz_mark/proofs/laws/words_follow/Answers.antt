@@ -1,4 +1,4 @@
-use Rattle.bz_mark.specs.WordLaws.{words_of-next}
+use Rattle.bz_mark.proofs.WordLaws.{words_of-next}
 use Rattle.bz_mark.proofs.laws.words_follow.Goals as goal
 
 pub returns : goal.returns

@@ -1,5 +1,5 @@
 use Rattle.std.proofs.Common.{arith}
-use Rattle.bz_key.specs.PackingLaws.{length-packed}
+use Rattle.bz_key.proofs.PackingLaws.{length-packed}
 use Rattle.bz_node.proofs.writing.payload_words.Goals as goal
 
 pub returns-clause-fits : goal.returns-clause-fits

@@ -1,6 +1,6 @@
 use Rattle.std.proofs.Common.{arith}
 use Rattle.bz_key.specs.Packing.{packed}
-use Rattle.bz_key.specs.PackingLaws.{length-packed}
+use Rattle.bz_key.proofs.PackingLaws.{length-packed}
 use Rattle.bz_parted.specs.Parting.{words_of}
 use Rattle.std.specs.Prelude.{length, ◌+◌}
 use Rattle.bz_parted.proofs.laws.halves_take_one_more.Goals as goal

@@ -1,4 +1,4 @@
-use Rattle.bz_pm.specs.Laws as law
+use Rattle.bz_pm.proofs.Lemmas as law
 use Rattle.bz_pm.proofs.laws.compare.Goals as goal
 
 pub returns : goal.returns

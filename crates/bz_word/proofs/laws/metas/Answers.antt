@@ -1,4 +1,4 @@
-use Rattle.bz_word.specs.Laws as law
+use Rattle.bz_word.proofs.Lemmas as law
 use Rattle.bz_word.proofs.laws.metas.Goals as goal
 
 pub returns : goal.returns

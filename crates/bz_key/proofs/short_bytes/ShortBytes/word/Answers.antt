@@ -1,5 +1,5 @@
 use Rattle.std.proofs.Common.{sym, ◌∙◌, ◌*◌}
-use Rattle.bz_key.specs.PackingLaws.{length-packed, get_or-packed, packed_word-small}
+use Rattle.bz_key.proofs.PackingLaws.{length-packed, get_or-packed, packed_word-small}
 use Rattle.bz_key.proofs.short_bytes.ShortBytes.word.Goals as goal
 
 pub word_of-requires-clause-within : goal.word_of-requires-clause-within

@@ -1,5 +1,5 @@
 use Rattle.std.proofs.Common.{sym, ◌∙◌}
-use Rattle.bz_key.specs.PackingLaws.{length-packed}
+use Rattle.bz_key.proofs.PackingLaws.{length-packed}
 use Rattle.bz_key.proofs.short_bytes.ShortBytes.words.Goals as goal
 
 pub returns : goal.returns

@@ -5,7 +5,7 @@ use Rattle.std.proofs.lemmas.Bool.Decides.{nat_tests}
 use Rattle.std.proofs.lemmas.Slice.Eq.{bytes_eq-Decides}
 use Rattle.bz_key.specs.Bytes.{IsKey, IsPayload}
 use Rattle.bz_key.specs.Packing.{packed, unpacked, unpacked_key, unpacked_payload}
-use Rattle.bz_key.specs.PackingLaws.{length-unpacked, unpacked-bytes, unpacked-packed}
+use Rattle.bz_key.proofs.PackingLaws.{length-unpacked, unpacked-bytes, unpacked-packed}
 use Rattle.bz_key.specs.declared.limits.TheConstants.{KEY_BYTES, PAYLOAD_BYTES}
 
 -- what words are read as a key are its packing

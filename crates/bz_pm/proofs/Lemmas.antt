@@ -7,7 +7,7 @@ use Rattle.std.proofs.lemmas.Grind.{common_steps}
 use Rattle.bz_pm.specs.Words.{Words, IsMemory, HoldsWords}
 use Rattle.bz_pm.specs.Acts.{with_line, stored, compared, flushed, evicted, after_cut}
 use Rattle.bz_pm.specs.Changes.{StaysMemory, StoresOnly, ComparesOnly, FlushesOnly, EvictsOnly, CutsOnly, StoredStoresOnly, ComparedComparesOnly, FlushedFlushesOnly, EvictedEvictsOnly, CutCutsOnly}
-use Rattle.bz_pm.specs.Laws.Copies.{length-with_line, word-with_line}
+use Rattle.bz_pm.proofs.Lemmas.Copies.{length-with_line, word-with_line}
 
 -- a list after one write, by address
 word-set : (xs : List ℕ) (a v b : ℕ) → a < length xs → slice_index (slice_set xs a v) b ≡ (if b == a then v else slice_index xs b)

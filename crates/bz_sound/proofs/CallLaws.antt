@@ -5,7 +5,7 @@ use Rattle.bz_call.specs.declared.calls.Call.{Call}
 use Rattle.bz_mark.specs.declared.marks.Mark.{Mark}
 use Rattle.bz_mark.specs.declared.marks.Mark.TheVariants.{Begin, End, Cut, Effect}
 use Rattle.bz_mark.specs.Moments.{mark_at}
-use Rattle.bz_mark.specs.MomentLaws.{mark_at-newest, mark_at-earlier}
+use Rattle.bz_mark.proofs.MomentLaws.{mark_at-newest, mark_at-earlier}
 use Rattle.bz_sound.specs.Calls.{Open, open_call, with_effect}
 use Rattle.std.proofs.lemmas.Bool.Decides.{nat_tests}
 

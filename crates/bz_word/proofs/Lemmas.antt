@@ -12,9 +12,9 @@ use Rattle.bz_word.specs.declared.kind.WordKind.{WordKind}
 use Rattle.bz_word.specs.declared.status.Status.{Status}
 use Rattle.bz_word.specs.declared.meta.Meta.{Meta}
 use Rattle.bz_word.specs.declared.header.Header.{Header}
-use Rattle.bz_word.specs.Laws.Numbers.{field-at, at-field}
-use Rattle.bz_word.specs.Laws.KindWords.{word-injective, tag-injective, value-word, dirty-word, kind-word, word-kind, IsKind-kind, IsWord-word}
-use Rattle.bz_word.specs.Laws.FieldWords.{status-codec, meta-codec, header-codec}
+use Rattle.bz_word.proofs.Lemmas.Numbers.{field-at, at-field}
+use Rattle.bz_word.proofs.Lemmas.KindWords.{word-injective, tag-injective, value-word, dirty-word, kind-word, word-kind, IsKind-kind, IsWord-word}
+use Rattle.bz_word.proofs.Lemmas.FieldWords.{status-codec, meta-codec, header-codec}
 
 pub kinds : IsCodec WordKind IsKind IsWord word kind
 kinds = record { lawful = IsWord-word; value = kind-word; range = IsKind-kind; word = word-kind }

@@ -3,9 +3,9 @@ use Rattle.std.proofs.Common.{◌≡◌, ◌≤◌, ◌⊎◌, ℕ, List, ◌∷
 use Rattle.std.proofs.lemmas.Bool.{cases_lt}
 use Rattle.bz_mark.specs.declared.marks.Mark.{Mark}
 use Rattle.bz_mark.specs.Moments.{at_moment}
-use Rattle.bz_mark.specs.MomentLaws.{at_moment-now, at_moment-earlier, mark_at-newest, mark_at-earlier}
+use Rattle.bz_mark.proofs.MomentLaws.{at_moment-now, at_moment-earlier, mark_at-newest, mark_at-earlier}
 use Rattle.bz_mark.specs.WordsAfter.{words_of}
-use Rattle.bz_mark.specs.WordLaws.{newest-mark_at}
+use Rattle.bz_mark.proofs.WordLaws.{newest-mark_at}
 use Rattle.bz_mark.specs.MayHold.{Levels, MayHold}
 
 -- the word may hold its cached value

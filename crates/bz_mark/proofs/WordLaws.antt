@@ -10,9 +10,9 @@ use Rattle.bz_pm.specs.Words.{Words, IsMemory}
 use Rattle.bz_mark.specs.declared.marks.Mark.{Mark}
 use Rattle.bz_mark.specs.declared.marks.Mark.TheVariants.{Begin, End, Load, Store, Cas, Flush, Evict, Cut, On, Ready, Effect}
 use Rattle.bz_mark.specs.Moments.{at_moment, mark_at}
-use Rattle.bz_mark.specs.MomentLaws.{at_moment-earlier, at_moment-next, at_moment-before, at_moment-now, mark_at-earlier, mark_at-newest}
+use Rattle.bz_mark.proofs.MomentLaws.{at_moment-earlier, at_moment-next, at_moment-before, at_moment-now, mark_at-earlier, mark_at-newest}
 use Rattle.bz_mark.specs.WordsAfter.{words_after, words_of, cached_at, durable_at, KeepsLength, Found, IsTruthful}
-use Rattle.bz_mark.specs.WordLaws.Lines.{length-line}
+use Rattle.bz_mark.proofs.WordLaws.Lines.{length-line}
 
 -- a mark keeps the number of words
 pub length-words_after : (start : List ℕ) (words : Words) (mark : Mark) → KeepsLength start words → KeepsLength start (words_after words mark)

@@ -6,7 +6,7 @@ use Rattle.std.proofs.lemmas.Bool.Decides.{nat_tests}
 use Rattle.std.proofs.lemmas.Slice.Eq.{bytes_eq-Decides}
 use Rattle.bz_key.specs.Bytes.{AreBytes, IsKey, IsPayload}
 use Rattle.bz_key.specs.Spelling.{is_plain, hex_value, spelled_byte, spelled_bytes, spelled, decoded, key_of_word, payload_of_word}
-use Rattle.bz_key.specs.SpellingLaws.{decoded-plain, decoded-spelled, AreBytes-cons, AreBytes-nil}
+use Rattle.bz_key.proofs.SpellingLaws.{decoded-plain, decoded-spelled, AreBytes-cons, AreBytes-nil}
 use Rattle.bz_key.specs.declared.limits.TheConstants.{KEY_BYTES, PAYLOAD_BYTES}
 
 -- a spelling that begins with no percent sign begins with a byte that stands for itself
