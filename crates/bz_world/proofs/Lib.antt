@@ -29,6 +29,7 @@ mod Beginning
 mod Stepping
 mod Finishing
 mod FreshSlots
+mod LeftSlots
 mod Openings
 mod Booting
 mod Takings

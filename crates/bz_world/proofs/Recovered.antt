@@ -1,9 +1,10 @@
 -- What comes of an act of a recovery: the next one is asked for, or it has ended.
-use Rattle.std.proofs.Common.{◌≡◌, ◌≢◌, ℕ, Bool, arith, refl, sym, ap, ◌∙◌, Option}
+use Rattle.std.proofs.Common.{◌≡◌, ◌≢◌, ℕ, ◌+◌, Bool, length, arith, refl, sym, ap, subst, ◌∙◌, Option}
 use Rattle.arrayvec.specs.ArrayVec.{ArrayVec}
 use Rattle.bz_acts.specs.declared.acted.Act.{Act}
 use Rattle.bz_machine.specs.declared.done.Done.{Done}
-use Rattle.bz_mark.specs.Log.{with_mark}
+use Rattle.bz_layout.specs.declared.config.Config.{Config}
+use Rattle.bz_mark.specs.Log.{Log, with_mark}
 use Rattle.bz_mark.specs.declared.marks.Mark.TheVariants.{Ready}
 use Rattle.bz_layout.specs.Slots.{FreeSlots}
 use Rattle.bz_recover.specs.Duties.{Knows, Tells, WalksIn}
@@ -19,7 +20,7 @@ use Rattle.bz_world.specs.Inside.Beginning.{lab_of}
 use Rattle.bz_world.specs.Inside.Kept.{IsRecovering}
 use Rattle.bz_world.specs.Inside.Powering.{IsRawAct}
 use Rattle.bz_sound.specs.declared.power.Power.TheVariants as power
-use Rattle.bz_world.specs.Lab.{Supply, Recovers}
+use Rattle.bz_world.specs.Lab.{Supply, Recovers, count_reached}
 use Rattle.bz_world.specs.declared.answers.Applied.TheVariants as applied
 use Rattle.bz_world.specs.declared.parts.Parts.{Parts}
 use Rattle.bz_world.proofs.Stepping.{flush-is, flush-same, swap-same}
@@ -79,13 +80,18 @@ seen-stepped old mid new made done told recovering a same journal config at_star
 }
 
 -- or it has ended
-pub seen-woken : (old mid new : Parts) (made : Act) (done : Done) (told : Option ℕ) → IsRawAct old made done told mid → new.power ≡ power.On → new.access.taken ≡ 0 → new.journal ≡ with_mark mid.journal Ready → new.config ≡ mid.config → new.at_start ≡ mid.at_start → new.left_out ≡ mid.left_out → ((v : ℕ) → v ≢ 0 → worker_of new.access v ≡ worker_of mid.access v)
+pub seen-woken : (old mid new : Parts) (made : Act) (done : Done) (told : Option ℕ) → IsRawAct old made done told mid → new.power ≡ power.On → new.access.taken ≡ 0 → length new.slots.free + count_reached mid.config mid.journal ≡ mid.config.nodes → new.journal ≡ with_mark mid.journal Ready → new.config ≡ mid.config → new.at_start ≡ mid.at_start → new.left_out ≡ mid.left_out → ((v : ℕ) → v ≢ 0 → worker_of new.access v ≡ worker_of mid.access v)
     → Recovers (lab_of old) applied.Ready (lab_of new)
-seen-woken old mid new made done told a on taken journal config at_start left_out others = record {
+seen-woken old mid new made done told a on taken left journal config at_start left_out others = record {
   made = made;
   flush = a.step.one.flush ∙ sym (flush-is old 0);
   ends = journal ∙ ap (λ (p : Parts). with_mark p.journal Ready) a.rest;
-  supply = ap (λ (s : Supply). s.taken) (shown-on new on) ∙ taken;
+  supply = (
+    ap (λ (s : Supply). s.taken) (shown-on new on) ∙ taken,
+    subst (λ (c : Config). (lab_of new).supply.left + count_reached c new.journal ≡ c.nodes) (sym config)
+        (subst (λ (j : Log). (lab_of new).supply.left + count_reached mid.config j ≡ mid.config.nodes) (sym journal)
+        (subst (λ (s : Supply). s.left + count_reached mid.config mid.journal ≡ mid.config.nodes) (sym (shown-on new on)) left)),
+  );
   config = config ∙ ap (λ (p : Parts). p.config) a.rest;
   at_start = at_start ∙ ap (λ (p : Parts). p.at_start) a.rest;
   left_out = ap (λ (flags : ArrayVec Bool). flags.items) (left_out ∙ ap (λ (p : Parts). p.left_out) a.rest);

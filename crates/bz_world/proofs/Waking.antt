@@ -40,6 +40,7 @@ use Rattle.bz_world.proofs.Counting.{pairs-stay}
 use Rattle.bz_world.proofs.Recovered.{Learns}
 use Rattle.bz_world.proofs.Supplies.{shown-off}
 use Rattle.bz_world.proofs.Contained.{among-contains, contains-among}
+use Rattle.bz_world.proofs.LeftSlots.{count-left}
 
 -- the laws of a beginning
 pub record Begins : Type 0 where
@@ -174,6 +175,20 @@ module _ (b : Ends) (p : Parts) (k : MustWake p) (order : IsInOrder p.slots) (ho
     workers = λ w. slot-by w (get_or p.workers.items w None) (k.recovering.dark.none w);
   }
 
+  -- so they are as many as it leaves
+  pub all-left : length p.slots.free + lab.count_reached p.config p.journal ≡ p.config.nodes
+  all-left = count-left (is_reached_in p.config (image_at_on p.journal.start p.journal.past)) 0 p.config.nodes p.slots.free (record {
+    rising = order.rising;
+    from = λ j f. omega arith;
+    below = λ j f. omega (arith, within j f);
+    fails = λ j f. unreached j f (within j f);
+    all = λ j some few fails. by j (omega (arith, few)) fails (is_among p.slots.free j) refl;
+  })
+    where
+      by : (j : ℕ) → j < p.config.nodes → is_reached_in p.config (image_at_on p.journal.start p.journal.past) j ≡ false → (b : Bool) → is_among p.slots.free j ≡ b → is_among p.slots.free j ≡ true
+      by j few fails true e = e
+      by j few fails false e = absurd (true≢false (sym (held j few e) ∙ fails))
+
 pub may-renew : RecoveriesGiveLife → (p : Parts) → MustWake p → MayRenew p.access
 may-renew revive p k = (revive p.config k.recovering.dark.values p.access p.journal p.recovery k.recovering.memory k.asks).revived.may_renew
 
@@ -181,7 +196,7 @@ pub wakes : Ends → (p : Parts) → MustWake p → IsInOrder p.slots → length
     → Wakes p (record p { access = access; journal = journal; power = power.On })
 wakes b p k order room access journal is holds marked = subst (λ (j : Log). Wakes p (record p { access = access; journal = j; power = power.On })) (sym marked)
     (subst (λ (m : SwapMemory). Wakes p (record p { access = m; journal = with_mark p.journal Ready; power = power.On })) (sym is)
-    (record { awake = woken b p k order (subst Holds is holds) room; rest = refl }))
+    (record { awake = woken b p k order (subst Holds is holds) room; left = all-left b p k order (subst Holds is holds) room; rest = refl }))
 
 -- power on as it is seen: worker 0's first act is no flush
 pub seen-on : (p q : Parts) (journal : Log) (next : Recover) (slots : FreeSlots) → p.power ≡ power.Off → journal ≡ with_mark p.journal On → q ≡ record p { access = q.access; journal = journal; power = power.Recovering; recovery = next; slots = slots } → q.access ≡ started p.access 0 (Loading 0) → lab_of q ≡ lab.after_on (lab_of p)

@@ -1,6 +1,7 @@
 -- What callers see of a world, and what it answers.
-use Rattle.std.specs.Prelude.{◌≡◌, ◌≢◌, ◌<◌, ◌≤◌, ◌⊎◌, ℕ, zero, suc, ◌+◌, ◌-◌, ◌*◌, Bool, true, false, ◌==◌, ◌||◌, ◌&&◌, nat_lt, nat_le, if◌then◌else◌, is_some, is_none, get_or, slice_set, slice_index, replicate, List, [], ◌∷◌, ◌++◌, length, Option, Some, None, option_map, MatchOption}
+use Rattle.std.specs.Prelude.{◌≡◌, ◌≢◌, ◌<◌, ◌≤◌, ◌⊎◌, ℕ, zero, suc, ◌+◌, ◌-◌, ◌*◌, Bool, true, false, ◌==◌, ◌||◌, ◌&&◌, nat_lt, nat_le, if◌then◌else◌, is_some, is_none, get_or, slice_set, slice_index, replicate, count_by, List, [], ◌∷◌, ◌++◌, length, Option, Some, None, option_map, MatchOption}
 use Rattle.std.specs.FinMap.{len}
+use Rattle.std.specs.List.{range_with_len}
 use Rattle.bz_acts.specs.Rule.{is_flush_act}
 use Rattle.bz_acts.specs.declared.acted.Act.{Act}
 use Rattle.bz_acts.specs.declared.acted.Act.TheVariants as act
@@ -25,8 +26,8 @@ use Rattle.bz_sound.specs.declared.power.Power.{Power}
 use Rattle.bz_sound.specs.declared.power.Power.TheVariants as power
 use Rattle.bz_sound.specs.Calls.{Open, open_call, begun_calls, map_after}
 use Rattle.bz_sound.specs.Memory.Moments.{map_at_start}
-use Rattle.bz_sound.specs.Memory.Spent.{NeedsSlots}
-use Rattle.bz_sound.specs.Power.Times.{power_of, since_on}
+use Rattle.bz_sound.specs.Memory.Spent.{NeedsSlots, is_reached_in}
+use Rattle.bz_sound.specs.Power.Times.{power_of, since_on, image_at_on}
 use Rattle.bz_sound.specs.Replies.{Pages}
 use Rattle.bz_story.specs.Reviving.{acts_by}
 use Rattle.bz_world.specs.declared.answers.Applied.{Applied}
@@ -296,17 +297,21 @@ EndsRecovery old applied.Stepped new = new ≡ old
 EndsRecovery old applied.Ready new = new ≡ with_mark old Ready
 EndsRecovery old other new = ⊥
 
--- then no descriptor is taken yet
-abbrev pub GivesBack : Applied → Supply → Supply → Type 0
-GivesBack applied.Ready old new = new.taken ≡ 0
-GivesBack other old new = new ≡ old
+-- how many slots of nodes the tree reached in the image at power on
+abbrev pub count_reached : Config → Log → ℕ
+count_reached config log = count_by (λ slot. is_reached_in config (image_at_on log.start log.past) slot) (range_with_len 0 config.nodes)
+
+-- then no descriptor is taken yet, and all slots are free but those
+abbrev pub GivesBack : Config → Log → Applied → Supply → Supply → Type 0
+GivesBack config log applied.Ready old new = (new.taken ≡ 0) × (new.left + count_reached config log ≡ config.nodes)
+GivesBack config log other old new = new ≡ old
 
 -- a step of the recovery: exactly one act of worker 0, a flush exactly where that was said before
 pub record Recovers (old : Lab) (answer : Applied) (new : Lab) : Type 0 where
   pub made : Act
   pub flush : is_flush_act made ≡ flush_of old 0
   pub ends : EndsRecovery (with_mark old.log (mark_of 0 made)) answer new.log
-  pub supply : GivesBack answer old.supply new.supply
+  pub supply : GivesBack new.config new.log answer old.supply new.supply
   pub config : new.config ≡ old.config
   pub at_start : new.at_start ≡ old.at_start
   pub left_out : new.left_out ≡ old.left_out

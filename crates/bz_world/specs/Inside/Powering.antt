@@ -1,5 +1,5 @@
 -- What stands between the acts of a recovery, and what a power cut leaves.
-use Rattle.std.specs.Prelude.{◌≡◌, ℕ, length, map, get_or, Option, Some, None}
+use Rattle.std.specs.Prelude.{◌≡◌, ℕ, ◌+◌, length, map, get_or, Option, Some, None}
 use Rattle.bz_acts.specs.declared.acted.Act.{Act}
 use Rattle.bz_machine.specs.declared.done.Done.{Done}
 use Rattle.bz_mark.specs.Log.{with_mark}
@@ -13,7 +13,7 @@ use Rattle.bz_swap.specs.Steps.{IsRawStep}
 use Rattle.bz_swap.specs.SwapMemory.{Working}
 use Rattle.bz_task.specs.declared.todo.Todo.TheVariants.{Finish}
 use Rattle.bz_world.specs.Inside.Kept.{IsAwake, IsRecovering}
-use Rattle.bz_world.specs.Lab.{mark_of}
+use Rattle.bz_world.specs.Lab.{mark_of, count_reached}
 use Rattle.bz_world.specs.declared.parts.Parts.{Parts}
 
 -- the durable words are all that is left, and no call is served; which of the next acts were flushes is kept
@@ -34,7 +34,8 @@ pub record MustWake (p : Parts) : Type 0 where
   pub asks : asks_of p.recovery ≡ Some Finish
   pub after : IsAfterRecovering p.journal.past
 
--- so the power is on
+-- so the power is on, and each slot is free that the tree does not reach
 pub record Wakes (old new : Parts) : Type 0 where
   pub awake : IsAwake new
+  pub left : length old.slots.free + count_reached old.config old.journal ≡ old.config.nodes
   pub rest : new ≡ record old { access = renewed old.access; journal = with_mark old.journal Ready; power = power.On }

@@ -1,0 +1,102 @@
+-- A rising list of the numbers of a range that a test leaves out has as many as the others leave.
+use Rattle.std.proofs.Common.{◌≡◌, ◌≢◌, ℕ, zero, suc, ◌+◌, ◌<◌, ◌≤◌, ◌||◌, ◌==◌, Bool, true, false, cond, List, [], ◌∷◌, Contains, length, arith, refl, sym, ap, ◌∙◌, inl, inr}
+use Rattle.std.specs.Prelude.{count_by, filter, slice_index_or}
+use Rattle.std.specs.List.{range_with_len}
+use Rattle.std.specs.List.Sorted.{IsStrictlyIncreasing}
+use Rattle.std.proofs.lemmas.Bool.{cases_eq, true≢false}
+use Rattle.std.proofs.lemmas.Bool.Decides.{nat_tests}
+use Rattle.std.proofs.lemmas.List.Kept.{AllPairs-from_increasing}
+use Rattle.std.proofs.lemmas.List.Sums.{length-filter}
+use native.Mathlib.Numerals.{unary_clauses}
+use Rattle.bz_shape.specs.Walk.{is_among}
+use Rattle.bz_world.proofs.Contained.{among-contains}
+
+-- what is behind the first number of a rising list is above it
+above-first : (x : ℕ) (xs : List ℕ) → IsStrictlyIncreasing (x ∷ xs) → (j : ℕ) → is_among xs j ≡ true → x < j
+above-first x xs rising j among =
+    let there : Contains xs j = among-contains xs j among in
+    let below : x < slice_index_or xs there.0 j = AllPairs-from_increasing (x ∷ xs) rising 0 (suc there.0) j (omega arith) (omega (arith, there.1)) in
+    omega (arith, below, there.2)
+
+rest-rises : (x : ℕ) (xs : List ℕ) → IsStrictlyIncreasing (x ∷ xs) → IsStrictlyIncreasing xs
+rest-rises x xs rising k within =
+    let next = rising (suc k) (omega (arith, within)) in
+    let moved = simp unary_clauses at next in
+    simp unary_clauses moved
+
+-- the numbers from a on, n of them, that do not pass
+pub record AreLeftOut (f : ℕ → Bool) (a n : ℕ) (xs : List ℕ) : Type 0 where
+  pub rising : IsStrictlyIncreasing xs
+  pub from : (j : ℕ) → is_among xs j ≡ true → a ≤ j
+  pub below : (j : ℕ) → is_among xs j ≡ true → j < a + n
+  pub fails : (j : ℕ) → is_among xs j ≡ true → f j ≡ false
+  pub all : (j : ℕ) → a ≤ j → j < a + n → f j ≡ false → is_among xs j ≡ true
+
+first-among : (x : ℕ) (xs : List ℕ) → is_among (x ∷ xs) x ≡ true
+first-among x xs = let t : (x == x) ≡ true = grind (arith, nat_tests) in rw t refl
+
+later-among : (x : ℕ) (xs : List ℕ) (j : ℕ) → is_among xs j ≡ true → is_among (x ∷ xs) j ≡ true
+later-among x xs j h = by (x == j)
+  where
+    by : (b : Bool) → b || is_among xs j ≡ true
+    by true = refl
+    by false = h
+
+-- one that is not the first stands behind it
+not-first : (x : ℕ) (xs : List ℕ) (j : ℕ) → x ≢ j → is_among (x ∷ xs) j ≡ true → is_among xs j ≡ true
+not-first x xs j ne h = let f : (x == j) ≡ false = grind (arith, nat_tests) in rw f at h
+
+-- the first number of the range passes
+passed : (f : ℕ → Bool) (a n : ℕ) (xs : List ℕ) → AreLeftOut f a (suc n) xs → f a ≡ true → AreLeftOut f (a + 1) n xs
+passed f a n xs l passes = record {
+  rising = l.rising;
+  from = λ j h. elim (cases_eq a j) [
+    | inl e ↦ absurd (true≢false (sym passes ∙ (ap f e ∙ l.fails j h)))
+    | inr ne ↦ omega (arith, l.from j h, ne)
+  ];
+  below = λ j h. omega (arith, l.below j h);
+  fails = l.fails;
+  all = λ j some few fails. l.all j (omega (arith, some)) (omega (arith, few)) fails;
+}
+
+-- or it does not, and is the first of the list
+is-first : (f : ℕ → Bool) (a n x : ℕ) (xs : List ℕ) → AreLeftOut f a (suc n) (x ∷ xs) → f a ≡ false → x ≡ a
+is-first f a n x xs l fails = elim (cases_eq x a) [
+  | inl e ↦ e
+  | inr ne ↦ absurd (omega (arith, l.from x (first-among x xs), above-first x xs l.rising a (not-first x xs a ne (l.all a (omega arith) (omega arith) fails))))
+]
+
+failed : (f : ℕ → Bool) (a n x : ℕ) (xs : List ℕ) → AreLeftOut f a (suc n) (x ∷ xs) → x ≡ a → AreLeftOut f (a + 1) n xs
+failed f a n x xs l first = record {
+  rising = rest-rises x xs l.rising;
+  from = λ j h. omega (arith, above-first x xs l.rising j h, first);
+  below = λ j h. omega (arith, l.below j (later-among x xs j h));
+  fails = λ j h. l.fails j (later-among x xs j h);
+  all = λ j some few fails. not-first x xs j (λ same. omega (arith, same, first, some)) (l.all j (omega (arith, some)) (omega (arith, few)) fails);
+}
+
+-- how many of the numbers behind a pass
+abbrev passing : (ℕ → Bool) → ℕ → ℕ → List ℕ
+passing f a n = filter f (range_with_len (a + 1) n)
+
+count-failed : (f : ℕ → Bool) (a n : ℕ) → ((ys : List ℕ) → AreLeftOut f (a + 1) n ys → length ys + length (passing f a n) ≡ n) →
+    (ys : List ℕ) → AreLeftOut f a (suc n) ys → f a ≡ false → length ys + length (passing f a n) ≡ suc n
+count-failed f a n rest [] k e = absurd (true≢false (sym (k.all a (omega arith) (omega arith) e)))
+count-failed f a n rest (y ∷ ys) k e =
+    let of-rest : length ys + length (passing f a n) ≡ n = rest ys (failed f a n y ys k (is-first f a n y ys k e)) in
+    omega (arith, of-rest)
+
+count-first : (f : ℕ → Bool) (a n : ℕ) → ((ys : List ℕ) → AreLeftOut f (a + 1) n ys → length ys + length (passing f a n) ≡ n) →
+    (xs : List ℕ) → AreLeftOut f a (suc n) xs → (b : Bool) → f a ≡ b → length xs + length (cond b (a ∷ passing f a n) (passing f a n)) ≡ suc n
+count-first f a n rest xs l true e =
+    let of-rest : length xs + length (passing f a n) ≡ n = rest xs (passed f a n xs l e) in
+    omega (arith, of-rest)
+count-first f a n rest xs l false e = count-failed f a n rest xs l e
+
+count-among : (f : ℕ → Bool) (a n : ℕ) (xs : List ℕ) → AreLeftOut f a n xs → length xs + length (filter f (range_with_len a n)) ≡ n
+count-among f a zero [] l = refl
+count-among f a zero (x ∷ xs) l = absurd (omega (arith, l.from x (first-among x xs), l.below x (first-among x xs)))
+count-among f a (suc n) xs l = count-first f a n (count-among f (a + 1) n) xs l (f a) refl
+
+pub count-left : (f : ℕ → Bool) (a n : ℕ) (xs : List ℕ) → AreLeftOut f a n xs → length xs + count_by f (range_with_len a n) ≡ n
+count-left f a n xs l = ap (λ m. length xs + m) (sym (length-filter f (range_with_len a n))) ∙ count-among f a n xs l
