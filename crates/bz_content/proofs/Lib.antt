@@ -9,9 +9,6 @@ pub mod Restructures
 pub mod RootLeaves
 pub mod RootSplits
 pub mod Sames
-pub mod SwapMemories
-pub mod Swapped
-pub mod SwappedWords
 pub mod Swaps
 pub mod Turns
 pub mod Unnamed

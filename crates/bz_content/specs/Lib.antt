@@ -7,9 +7,7 @@ pub mod Laws
 pub mod Map
 pub mod Resolving
 pub mod Restructures
-pub mod Swapped
 pub mod Swaps
 pub mod TwoLevels
 pub mod View
 pub mod WorkedInsert
-pub mod FromSwap

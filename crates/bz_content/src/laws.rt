@@ -7,8 +7,6 @@ ghost use Rattle.bz_content.specs.Laws.{ViewsAreHonest, PlainWordsStandForThemse
 ghost use Rattle.bz_content.specs.Laws.{UnnamedWordsStay, UnreachedWordsDoNotMatter, LeafSwapsKeepTheTree, QuietSwapsKeepTheContent, RewritesChangeOneKey, LinksAreTurned};
 ghost use Rattle.bz_content.specs.Laws.{ConsolidationsKeepTheContent, SplitsKeepTheContent, RootSplitsKeepTheContent, MergesKeepTheContent};
 
-pub mod swap;
-
 use bz_shape::laws as shape;
 use bz_slotted::laws as slotted;
 

@@ -4,5 +4,4 @@
 pub mod laws;
 mod outcomes;
 
-pub use bz_swap::EntryList;
 pub use outcomes::{CheckError, Shape};

@@ -12,7 +12,7 @@ use Rattle.bz_swap.specs.Starts.{IsAddress}
 use Rattle.bz_word.specs.declared.entry.Entry.{Entry}
 use Rattle.bz_content.specs.Lawful.{is_fixed, is_in_descriptor, is_lawful}
 use Rattle.bz_content.specs.Resolving.{resolve}
-use Rattle.bz_content.specs.Swapped.{LeavesItsValues}
+use Rattle.bz_sight.specs.Swapped.{LeavesItsValues}
 use Rattle.bz_task.specs.Good.{IsGood}
 use Rattle.bz_task.specs.Instant.{Instant}
 use Rattle.bz_task.specs.Scene.{Scene, IsMine, IsScene, here}

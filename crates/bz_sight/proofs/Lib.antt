@@ -5,3 +5,6 @@ mod Openings
 mod Passings
 mod Renewals
 mod Starting
+mod SwapMemories
+mod Swapped
+mod SwappedWords

@@ -16,7 +16,7 @@ use Rattle.bz_content.specs.Image.{node}
 use Rattle.bz_content.specs.Laws.{WellFormedImagesHaveNoFault}
 use Rattle.bz_content.specs.Lawful.{is_fixed, is_in_descriptor, is_lawful, is_word, is_value, LAST_STATUS}
 use Rattle.bz_content.specs.Resolving.{resolve}
-use Rattle.bz_content.specs.Swapped.{HeldMemoriesLeaveTheirValues, LeavesItsValues}
+use Rattle.bz_sight.specs.Swapped.{HeldMemoriesLeaveTheirValues, LeavesItsValues}
 use Rattle.bz_swap.specs.Held.{Holds, HoldsIn, IsHeld}
 use Rattle.bz_swap.specs.declared.phase.Phase.{Phase}
 use Rattle.bz_swap.specs.declared.phase.Phase.TheVariants.{Opened, Running, Recovering}

@@ -13,7 +13,7 @@ use Rattle.bz_swap.specs.SwapMemory.{SwapMemory, is_named, is_among, is_target}
 use Rattle.bz_swap.specs.declared.phase.Phase.TheVariants.{Recovering}
 use Rattle.bz_word.specs.declared.entry.Entry.{Entry}
 use Rattle.bz_content.specs.Resolving.{resolve}
-use Rattle.bz_content.specs.Swapped.{HeldMemoriesLeaveTheirValues}
+use Rattle.bz_sight.specs.Swapped.{HeldMemoriesLeaveTheirValues}
 use Rattle.bz_task.specs.Instant.{Instant, words}
 use Rattle.bz_task.specs.Requests.{IsTarget, IsNodeTarget, IsReadable, IsEntryToAsk}
 use Rattle.bz_task.specs.Scene.{Scene, IsMine, here}

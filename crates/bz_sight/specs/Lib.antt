@@ -6,3 +6,4 @@ pub mod Starts
 pub mod Opening
 pub mod Laws
 pub mod Renewal
+pub mod Swapped

@@ -8,6 +8,8 @@ ghost use Rattle.bz_sight.specs.Opening.{FreshMemoryIsSeen};
 ghost use Rattle.bz_sight.specs.Renewal.{RenewedMemoriesAreSeen};
 ghost use Rattle.bz_sight.specs.Passing.{ActsPass, ActsLeaveAll, StoresAreSeen, FlushesAreSeen};
 
+pub mod swap;
+
 use bz_content::laws as content;
 use bz_task::laws as task;
 
@@ -16,7 +18,7 @@ pub fn acts_pass()
     ensures { ActsPass }
 {
     content::well_formed_images_have_no_fault();
-    content::swap::held_memories_leave_their_values();
+    swap::held_memories_leave_their_values();
     task::resting_memories_are_good();
     task::targets_stay();
     task::headers_say_the_level();
@@ -50,7 +52,7 @@ pub fn effects_take_place()
     ensures { EffectsTakePlace }
 {
     content::well_formed_images_have_no_fault();
-    content::swap::held_memories_leave_their_values();
+    swap::held_memories_leave_their_values();
     task::resting_memories_are_good();
     task::targets_stay();
     task::headers_say_the_level();
@@ -65,7 +67,7 @@ pub fn effects_keep_own()
     ensures { EffectsKeepOwn }
 {
     content::well_formed_images_have_no_fault();
-    content::swap::held_memories_leave_their_values();
+    swap::held_memories_leave_their_values();
     task::resting_memories_are_good();
     task::targets_stay();
     task::headers_say_the_level();
@@ -123,7 +125,7 @@ pub fn own_words_are_hidden()
 pub fn tasks_may_start()
     ensures { TasksMayStart }
 {
-    content::swap::held_memories_leave_their_values();
+    swap::held_memories_leave_their_values();
     task::targets_are_of_the_memory();
     task::own_words_are_no_targets();
     bz_swap::laws::plain_fields_stay();
@@ -133,7 +135,7 @@ pub fn tasks_may_start()
 pub fn starts_are_seen()
     ensures { StartsAreSeen }
 {
-    content::swap::held_memories_leave_their_values();
+    swap::held_memories_leave_their_values();
     task::targets_are_of_the_memory();
     task::own_words_are_no_targets();
     bz_swap::laws::plain_fields_stay();

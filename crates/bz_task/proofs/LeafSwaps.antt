@@ -15,7 +15,7 @@ use Rattle.bz_shape.specs.Walk.{form_of}
 use Rattle.bz_slotted.specs.Page.{page}
 use Rattle.bz_slotted.specs.Readers.{found_of}
 use Rattle.bz_slotted.specs.Tests.{every}
-use Rattle.bz_content.specs.FromSwap.SwapMemory.{is_target}
+use Rattle.bz_swap.specs.SwapMemory.{is_target}
 use Rattle.bz_word.specs.declared.entry.Entry.{Entry}
 use Rattle.bz_content.specs.Content.{image_of, is_super, content_in, view_in, IsWellFormed}
 use Rattle.bz_content.specs.Image.{node}

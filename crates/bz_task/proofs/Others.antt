@@ -3,7 +3,7 @@ use Rattle.std.proofs.Common.{◌≡◌, ◌≢◌, ℕ, ◌+◌, ◌<◌, ◌�
 use Rattle.std.proofs.lemmas.Bool.{cases_lt, true≢false}
 use Rattle.bz_layout.specs.Addresses.{node_address, SlotsApart}
 use Rattle.bz_layout.specs.declared.sizes.TheConstants.{NODE_WORDS}
-use Rattle.bz_content.specs.FromSwap.SwapMemory.{is_target}
+use Rattle.bz_swap.specs.SwapMemory.{is_target}
 use Rattle.bz_word.specs.declared.entry.Entry.{Entry}
 use Rattle.bz_task.specs.Instant.{Instant, words}
 use Rattle.bz_task.specs.Others.{AreApart, IsOfReached, ShareNothing, SharersOfNothingAreApart, Watches, LeavesAll, StoresTo, QuietActsAreLawful, StoresAreLawful, EffectsAreLawful}

@@ -6,7 +6,7 @@ use Rattle.bz_layout.specs.declared.sizes.TheConstants.{NODE_WORDS}
 use Rattle.bz_shape.specs.Order.{is_within}
 use Rattle.bz_slotted.specs.Readers.{found_of}
 use Rattle.bz_slotted.specs.Rules.{node_fault}
-use Rattle.bz_content.specs.FromSwap.SwapMemory.{is_target}
+use Rattle.bz_swap.specs.SwapMemory.{is_target}
 use Rattle.bz_word.specs.declared.entry.Entry.{Entry}
 use Rattle.bz_content.specs.Image.{node}
 use Rattle.bz_task.specs.Instant.{Instant, words, durable, form_at, is_inside}

@@ -3,7 +3,7 @@
 use crate::path::Path;
 use crate::view::{KeyView, LeafView};
 use bz_call::Spent;
-use bz_content::EntryList;
+use bz_swap::EntryList;
 
 /// What came of the last act.
 #[derive(Clone, Copy, Debug, PartialEq, Eq)]

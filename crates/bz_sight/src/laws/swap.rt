@@ -1,6 +1,6 @@
 //! Laws of the images that the atomic swap memory leaves: what its contract says of values is so of what they resolve to.
 
-ghost use Rattle.bz_content.specs.Swapped.{ResolvesAsTheSwap, LawfulAsTheSwap, HeldMemoriesLeaveTheirValues, EffectsShowOnTheImage, QuietMomentsChangeNothing};
+ghost use Rattle.bz_sight.specs.Swapped.{ResolvesAsTheSwap, LawfulAsTheSwap, HeldMemoriesLeaveTheirValues, EffectsShowOnTheImage, QuietMomentsChangeNothing};
 
 /// A word that is lawful to the swap resolves to its value there.
 pub fn words_resolve_to_values()

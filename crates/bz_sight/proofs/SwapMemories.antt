@@ -5,7 +5,7 @@ use Rattle.bz_swap.specs.Held.{IsHeld, HoldsIn}
 use Rattle.bz_swap.specs.SwapMemory.{SwapMemory}
 use Rattle.bz_swap.specs.declared.phase.Phase.{Phase}
 use Rattle.bz_swap.specs.declared.phase.Phase.TheVariants.{Opened, Running, Recovering}
-use Rattle.bz_content.specs.Swapped.{ResolvesAsTheSwap, LawfulAsTheSwap, LeavesItsValues, HeldMemoriesLeaveTheirValues, EffectsShowOnTheImage, QuietMomentsChangeNothing}
+use Rattle.bz_sight.specs.Swapped.{ResolvesAsTheSwap, LawfulAsTheSwap, LeavesItsValues, HeldMemoriesLeaveTheirValues, EffectsShowOnTheImage, QuietMomentsChangeNothing}
 
 -- the memory is held
 held : (p : Phase) (m : SwapMemory) → HoldsIn p m → p ≢ Recovering → IsHeld m

@@ -1,5 +1,0 @@
-use Rattle.bz_content.proofs.SwapMemories.{changes-nothing}
-use Rattle.bz_content.proofs.laws.swap.quiet_moments_change_nothing.Goals as goal
-
-pub returns : goal.returns
-returns c = changes-nothing c.held_memories_leave_their_values.ensures

@@ -1,2 +1,0 @@
--- What crates above take of bz_swap by this one.
-pub use Rattle.bz_swap.specs.SwapMemory
