@@ -5,5 +5,5 @@ pub mod Roots
 mod Parents
 pub mod PartedParents
 pub mod PartedChildren
-mod ReadParents
+pub mod ReadParents
 mod Making

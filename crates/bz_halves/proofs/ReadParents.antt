@@ -29,7 +29,7 @@ use Rattle.bz_halves.proofs.Parents.{separator-is, separator-count}
 key-packs : (len : ℕ) (words : List ℕ) → IsSome (unpacked_key len words) → IsKey (unpacked len words)
 key-packs len words s = (unpacked_key-sound len words (unpacked len words) (unpacked_key-some len words s)).0
 
-no-bytes : (len : ℕ) (words : List ℕ) → len ≡ 0 → unpacked len words ≡ []
+pub no-bytes : (len : ℕ) (words : List ℕ) → len ≡ 0 → unpacked len words ≡ []
 unfolding unpacked
 no-bytes len words e = subst (λ z. unpacked z words ≡ []) (sym e) refl
 
@@ -66,7 +66,7 @@ module _ (nodes : ℕ) (raw : ℕ → ℕ) (words : List ℕ) (level : ℕ) (low
   unfolding count_of
   counted = refl
 
-  child-is : (j : ℕ) (d : Child) → j < length cs → get_or cs j d ≡ child_read n j
+  pub child-is : (j : ℕ) (d : Child) → j < length cs → get_or cs j d ≡ child_read n j
   child-is j d l = reads.children j d (omega (arith, l, reads.count))
 
   -- the keys of the records: the first has none
@@ -88,7 +88,7 @@ module _ (nodes : ℕ) (raw : ℕ → ℕ) (words : List ℕ) (level : ℕ) (low
   some-low : (j : ℕ) → 0 < j → low_read j ≡ Some (key_of n j)
   some-low j l = rw (some-test j l) refl
 
-  bound-read : (j : ℕ) → bound_of (low_read j) ≡ key_of n j
+  pub bound-read : (j : ℕ) → bound_of (low_read j) ≡ key_of n j
   bound-read j = elim (cases_eq j 0) [
     | inl e ↦ ap bound_of (no-low j (omega (arith, e))) ∙ (sym first-key ∙ ap (key_of n) (sym e))
     | inr ne ↦ ap bound_of (some-low j (omega (arith, ne)))
@@ -100,7 +100,7 @@ module _ (nodes : ℕ) (raw : ℕ → ℕ) (words : List ℕ) (level : ℕ) (low
     | inr ne ↦ subst IsBound (sym (some-low j (omega (arith, ne)))) (is-key j (omega (arith, ne)) l)
   ]
 
-  each : All IsChild cs
+  pub each : All IsChild cs
   each j d l =
       let inside : j < count_of n = omega (arith, l, reads.count) in
       subst IsChild (sym (child-is j d l)) (record { low = bound-there j (omega (arith, inside, counted)); slot = omega (arith, rise.slots j inside, few) })
@@ -123,7 +123,7 @@ module _ (nodes : ℕ) (raw : ℕ → ℕ) (words : List ℕ) (level : ℕ) (low
       subst (λ z. IsBefore z (get_or (separators_of cs) j [])) (read-at i [] (omega (arith, less, l)))
       (subst (IsBefore (key_of n (i + 1))) (read-at j [] l) (test-before (key_of n (i + 1)) (key_of n (j + 1)) (rise.rise (i + 1) (j + 1) (omega arith) (omega (arith, less)) (omega (arith, inside, reads.count)))))
 
-  list : IsChildList cs low high
+  pub list : IsChildList cs low high
   list = record {
     some = some;
     first = λ j d l f. ap (λ (c : Child). c.low) (child-is j d l) ∙ no-low j f;

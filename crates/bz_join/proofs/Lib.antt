@@ -1,5 +1,4 @@
 mod Fronts
-mod Sorting
 mod Lookups
 mod Joining
 mod Children

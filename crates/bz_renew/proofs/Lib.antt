@@ -14,7 +14,7 @@ mod UnderNode
 pub mod FreshSlots
 pub mod Plainness
 mod LowFences
-mod Sorting
+pub mod Sorting
 mod Turnable
 pub mod Writes
 pub mod NodeWrites

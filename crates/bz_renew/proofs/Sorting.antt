@@ -31,6 +31,8 @@ use Rattle.bz_slotted.specs.Records.{key_in, payload_in, key_words, payload_word
 use Rattle.bz_slotted.specs.Rules.{node_fault}
 use Rattle.bz_slotted.specs.Whole.{IsFence, Whole}
 use Rattle.bz_word.specs.declared.meta.Extent.{Extent}
+use Rattle.bz_node.proofs.Unpacked.{unpacked_key-some, unpacked_payload-some}
+use Rattle.bz_slotted.proofs.MadeLeaves.{before-test, test-before}
 use Rattle.bz_renew.specs.Sorted.{HasFences, IsSortedLeaf}
 use Rattle.bz_renew.proofs.Words.{and-left, and-right}
 
@@ -47,22 +49,6 @@ needed-sum (r ∷ rs) = omega (arith, needed-sum rs, length-append (block (map p
 -- a pair lies between bounds
 abbrev IsIn : Option (List ℕ) → Option (List ℕ) → List ℕ × List ℕ → Type 0
 IsIn low high r = is_within r.0 low high ≡ true
-
-unpacked_key-some : (len : ℕ) (words : List ℕ) → IsSome (unpacked_key len words) → unpacked_key len words ≡ Some (unpacked len words)
-unfolding unpacked_key
-unpacked_key-some len words some =
-    elim (cases_Bool (nat_le 1 len && (nat_le len KEY_BYTES && bytes_eq (packed (unpacked len words)) words))) [
-      | inl is ↦ rw is refl
-      | inr is ↦ (let none = rw is at some in cc)
-    ]
-
-unpacked_payload-some : (len : ℕ) (words : List ℕ) → IsSome (unpacked_payload len words) → unpacked_payload len words ≡ Some (unpacked len words)
-unfolding unpacked_payload
-unpacked_payload-some len words some =
-    elim (cases_Bool (nat_le len PAYLOAD_BYTES && bytes_eq (packed (unpacked len words)) words)) [
-      | inl is ↦ rw is refl
-      | inr is ↦ (let none = rw is at some in cc)
-    ]
 
 -- the pair of a record
 abbrev pair-of : (ℕ → ℕ) → ℕ → List ℕ × List ℕ
@@ -115,19 +101,6 @@ pub record Laws : Type 0 where
   pub readable : WholeLeavesAreReadable
   pub ends : HighFencesAreRead
   pub found : OrderedPairsAreFound
-
-before-test : (a b : List ℕ) → IsBefore a b → is_before a b ≡ true
-unfolding is_before
-before-test a b h = ap is_lt h
-
-less : (o : Ordering) → is_lt o ≡ true → o ≡ Less
-less Less h = refl
-less Equal h = grind arith
-less Greater h = grind arith
-
-test-before : (a b : List ℕ) → is_before a b ≡ true → IsBefore a b
-unfolding is_before
-test-before a b h = less (slice_cmp nat_cmp a b) h
 
 at-least : (low : Option (List ℕ)) (key : List ℕ) → is_at_least key low ≡ true → IsAtLeast low key
 at-least None key h = tt

@@ -1,4 +1,4 @@
-use Rattle.bz_join.proofs.Sorting.{sorted-leaf}
+use Rattle.bz_renew.proofs.Sorting.{sorted-leaf}
 use Rattle.bz_slotted.specs.ReadingLaws.{node_of}
 use Rattle.bz_join.proofs.leaf.sorted.Goals as goal
 
