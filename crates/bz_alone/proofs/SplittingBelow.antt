@@ -11,7 +11,7 @@ use Rattle.bz_below.specs.Duties.{below_of}
 use Rattle.bz_below.specs.Facts.{Below, below_nodes, below_asks, below_facts, below_differs}
 use Rattle.bz_below.specs.Guards.{with_guard, WasNamed}
 use Rattle.bz_below.specs.declared.phase.Phase.{Phase}
-use Rattle.bz_below.specs.declared.phase.Phase.TheVariants.{Again, Guard, Named, Swap}
+use Rattle.bz_below.specs.declared.phase.Phase.TheVariants.{Room, Again, Guard, Named, Swap}
 use Rattle.bz_split.specs.BelowSplits.{below_swap}
 use Rattle.bz_alone.specs.Alone.{GoesOn}
 use Rattle.bz_alone.specs.Laws.{SplitsBelowGoOn}
@@ -30,6 +30,7 @@ thawed-still : Laws → (s : Scene) → IsScene s → IsQuietSince s.past.since 
 thawed-still b s good q link g t v a d = let e = guard-same b.values s good q link v g a in absurd (cc (e, t, d))
 
 goes : Laws → (s : Scene) → IsScene s → IsQuietSince s.past.since s.past → (r : Below) (phase : Phase) → below_facts r phase Waiting s → GoesOn (below_asks s.past.config r phase) (below_differs r.lower phase) s
+goes b s good q r Room f = reads r.lower.guard (below_differs r.lower Room) s (λ v a d. d (guard-same b.values s good q r.lower v f.1.parted.links.guard a))
 goes b s good q r Again f = reads r.lower.guard (below_differs r.lower Again) s (λ v a d. d (guard-same b.values s good q r.lower v f.1.parted.links.guard a))
 goes b s good q r Guard f = let d = f.1.parted.links in reads r.upper.guard (below_differs r.lower Guard) s (thawed-still b s good q r.upper d.upper_guard d.upper_thawed)
 goes b s good q r Named f = let d = f.1.planned.parted.links in reads r.upper.guard (below_differs r.lower Named) s (thawed-still b s good q r.upper d.upper_guard d.upper_thawed)

@@ -50,7 +50,7 @@ use Rattle.bz_split.specs.RootSplits.{StandsReady, AreFreshThree}
 use Rattle.bz_below.specs.Guards.{with_guard, WasNamed}
 use Rattle.bz_below.specs.Parents.{WasParent}
 use Rattle.bz_below.specs.declared.phase.Phase.{Phase}
-use Rattle.bz_below.specs.declared.phase.Phase.TheVariants.{Fresh, Word, Again, Guard, Store, Flush, Named, Swap, Done, Restart, NoRoom, NoSlot, NoSwap}
+use Rattle.bz_below.specs.declared.phase.Phase.TheVariants.{Fresh, Room, Word, Again, Guard, Store, Flush, Named, Swap, Done, Restart, NoRoom, NoSlot, NoSwap}
 use Rattle.bz_below.proofs.Staying.{planned-stays, looked-stays, over-stays, parent-stays, parted-stays}
 
 some-same : (a b : Todo) → Some a ≡ Some b → a ≡ b
@@ -92,6 +92,7 @@ askable turned codec c r Fresh s todo same f good e = absurd (cc)
 askable turned codec c r (Word i) s todo same f good e =
     subst (IsAskable s) (some-same _ todo e)
     (subst (λ (z : Config). IsReadable s (node_address z r.upper.slot + i)) same (word-readable r.upper r.lower (r.image 1) (r.image 2) r.sep s good f.1.1.1.parted i f.1.1.0))
+askable turned codec c r Room s todo same f good e = subst (IsAskable s) (some-same _ todo e) (guard-readable s r.lower good f.1.parted.links.guard)
 askable turned codec c r Again s todo same f good e = subst (IsAskable s) (some-same _ todo e) (guard-readable s r.lower good f.1.parted.links.guard)
 askable turned codec c r Guard s todo same f good e = subst (IsAskable s) (some-same _ todo e) (guard-readable s r.upper good f.1.parted.links.upper_guard)
 askable turned codec c r (Store j) s todo same f good e =
@@ -112,6 +113,12 @@ askable turned codec c r NoSwap s todo same f good e = subst (IsAskable s) (some
 
 -- the parent's status has been changed since it was read, or the upper guard is frozen
 pub cause : (c : Config) (r : Below) (phase : Phase) (s : Scene) (seen : Seen) → below_facts r phase Waiting s → below_differs r.lower phase seen → IsCause (below_asks c r phase) seen s
+cause c r Room s (Was v) f d = inl (guard-differed s r.lower v f.1.parted.links.guard d)
+cause c r Room s Start f d = absurd (d)
+cause c r Room s Stored f d = absurd (d)
+cause c r Room s Flushed f d = absurd (d)
+cause c r Room s (Swapped won) f d = absurd (d)
+cause c r Room s NoneLeft f d = absurd (d)
 cause c r Again s (Was v) f d = inl (guard-differed s r.lower v f.1.parted.links.guard d)
 cause c r Again s Start f d = absurd (d)
 cause c r Again s Stored f d = absurd (d)
@@ -247,6 +254,7 @@ pub effect : LeafSplitsBelowAreGood → ParentsOfHalvesAreWhole → (c : Config)
     → SwapsTo s.past.config entries (here s) y → IsGoodSwap false split_change entries s y
 effect law wholes c r Fresh s y entries same f good e stand swaps = absurd (cc)
 effect law wholes c r (Word i) s y entries same f good e stand swaps = absurd (cc)
+effect law wholes c r Room s y entries same f good e stand swaps = absurd (cc)
 effect law wholes c r Again s y entries same f good e stand swaps = absurd (cc)
 effect law wholes c r Guard s y entries same f good e stand swaps = absurd (cc)
 effect law wholes c r (Store j) s y entries same f good e stand swaps = absurd (cc)
@@ -293,6 +301,7 @@ stored apart c r (Store j) s after a v same f e t =
     )
 stored apart c r Fresh s after a v same f e t = absurd (cc)
 stored apart c r (Word i) s after a v same f e t = absurd (cc)
+stored apart c r Room s after a v same f e t = absurd (cc)
 stored apart c r Again s after a v same f e t = absurd (cc)
 stored apart c r Guard s after a v same f e t = absurd (cc)
 stored apart c r (Flush j) s after a v same f e t = absurd (cc)
@@ -324,6 +333,7 @@ flushed c r (Flush j) s after line same f e t =
     )
 flushed c r Fresh s after line same f e t = absurd (cc)
 flushed c r (Word i) s after line same f e t = absurd (cc)
+flushed c r Room s after line same f e t = absurd (cc)
 flushed c r Again s after line same f e t = absurd (cc)
 flushed c r Guard s after line same f e t = absurd (cc)
 flushed c r (Store j) s after line same f e t = absurd (cc)
@@ -396,6 +406,7 @@ took may wholes c r Swap s after entries same f good e takes =
     (filled-after s after f.0 takes, was-split may wholes r s after good f.1.0 (subst (λ (z : List Entry). Takes false z s after) (sym is) takes))
 took may wholes c r Fresh s after entries same f good e takes = absurd (cc)
 took may wholes c r (Word i) s after entries same f good e takes = absurd (cc)
+took may wholes c r Room s after entries same f good e takes = absurd (cc)
 took may wholes c r Again s after entries same f good e takes = absurd (cc)
 took may wholes c r Guard s after entries same f good e takes = absurd (cc)
 took may wholes c r (Store j) s after entries same f good e takes = absurd (cc)

@@ -14,13 +14,14 @@ use Rattle.bz_task.specs.declared.todo.Outcome.TheVariants.{Done as IsDone, Rest
 use Rattle.bz_task.specs.declared.todo.Seen.TheVariants.{Start, Read as Was, Stored, Flushed, Swapped, NoSwap as NoneLeft}
 use Rattle.bz_below.specs.Facts.{Below, below_asks, below_differs, below_end, below_needs}
 use Rattle.bz_below.specs.declared.phase.Phase.{Phase}
-use Rattle.bz_below.specs.declared.phase.Phase.TheVariants.{Fresh, Word, Again, Guard, Store, Flush, Named, Swap, Done, Restart, NoRoom, NoSlot, NoSwap}
+use Rattle.bz_below.specs.declared.phase.Phase.TheVariants.{Fresh, Room, Word, Again, Guard, Store, Flush, Named, Swap, Done, Restart, NoRoom, NoSlot, NoSwap}
 
 -- how phases end
 ends-done : (p : Phase) → below_end p ≡ Some IsDone → p ≡ Done
 ends-done Done e = refl
 ends-done Fresh e = absurd (cc)
 ends-done (Word i) e = absurd (cc)
+ends-done Room e = absurd (cc)
 ends-done Again e = absurd (cc)
 ends-done Guard e = absurd (cc)
 ends-done (Store j) e = absurd (cc)
@@ -36,6 +37,7 @@ ends-restart : (p : Phase) → below_end p ≡ Some Restarts → p ≡ Restart
 ends-restart Restart e = refl
 ends-restart Fresh e = absurd (cc)
 ends-restart (Word i) e = absurd (cc)
+ends-restart Room e = absurd (cc)
 ends-restart Again e = absurd (cc)
 ends-restart Guard e = absurd (cc)
 ends-restart (Store j) e = absurd (cc)
@@ -51,6 +53,7 @@ ends-no-swap : (p : Phase) → below_end p ≡ Some (IsFull NoSwaps) → p ≡ N
 ends-no-swap NoSwap e = refl
 ends-no-swap Fresh e = absurd (cc)
 ends-no-swap (Word i) e = absurd (cc)
+ends-no-swap Room e = absurd (cc)
 ends-no-swap Again e = absurd (cc)
 ends-no-swap Guard e = absurd (cc)
 ends-no-swap (Store j) e = absurd (cc)
@@ -66,6 +69,7 @@ ends-no-slot : (p : Phase) → below_end p ≡ Some (IsFull NoNodes) → p ≡ N
 ends-no-slot NoSlot e = refl
 ends-no-slot Fresh e = absurd (cc)
 ends-no-slot (Word i) e = absurd (cc)
+ends-no-slot Room e = absurd (cc)
 ends-no-slot Again e = absurd (cc)
 ends-no-slot Guard e = absurd (cc)
 ends-no-slot (Store j) e = absurd (cc)
@@ -142,9 +146,17 @@ other-lower lower Flushed h ne = absurd (h)
 other-lower lower (Swapped won) h ne = absurd (h)
 other-lower lower NoneLeft h ne = absurd (h)
 
--- what the first act is: the load of the parent's first word after its status
-pub first-ends : (c : Config) (r : Below) (seen : Seen) (free : FreeSlots) → Hears (below_asks c r Fresh) seen → EndsWell r.lower seen Fresh (Word 1) free
-first-ends c r Start free h = goes-on r.lower Start Fresh (Word 1) free refl (λ e. absurd (cc))
+pub other-first : (lower : Link) (seen : Seen) → Hears (Some (Reads lower.guard)) seen → seen ≢ Was lower.status → below_differs lower Room seen
+other-first lower (Was v) h ne = λ e. ne (ap Was e)
+other-first lower Start h ne = absurd (h)
+other-first lower Stored h ne = absurd (h)
+other-first lower Flushed h ne = absurd (h)
+other-first lower (Swapped won) h ne = absurd (h)
+other-first lower NoneLeft h ne = absurd (h)
+
+-- what the first act is: the load of the parent's status
+pub first-ends : (c : Config) (r : Below) (seen : Seen) (free : FreeSlots) → Hears (below_asks c r Fresh) seen → EndsWell r.lower seen Fresh Room free
+first-ends c r Start free h = goes-on r.lower Start Fresh Room free refl (λ e. absurd (cc))
 first-ends c r (Was v) free h = absurd (h)
 first-ends c r Stored free h = absurd (h)
 first-ends c r Flushed free h = absurd (h)

@@ -9,10 +9,13 @@ mod Ending
 mod Counting
 mod Making
 mod Reading
+pub mod ParentsThen
+mod Opening
 mod Telling
 mod Looking
 mod Writing
 mod Naming
 mod Viewing
 mod NewParents
+mod Briefness
 pub mod FromSplit

@@ -14,14 +14,17 @@ use Rattle.bz_task.specs.declared.path.Link.{Link}
 use Rattle.bz_task.specs.declared.todo.Seen.{Seen}
 use Rattle.bz_task.specs.declared.todo.Seen.TheVariants.{Read as Was, NoSwap as NoneLeft}
 use Rattle.bz_halves.specs.Parents.{ChildrenMayBeParted}
+use Rattle.bz_parted.specs.Laws.{ReadNodesHaveChildren}
 use Rattle.bz_renew.specs.Nodes.{HaveSlots, AreSlotsTaken}
-use Rattle.bz_below.specs.Facts.{Below, below_nodes, HasPartedBelow, IsPlan, IsPlanned, IsUnread, HasRoom, HasParent, HasBegunBelow, HasBegunOrWaits, HasLookedBelow, IsReading, below_differs, below_left, below_needs, below_facts, IsReadyBelow}
+use Rattle.bz_below.specs.Facts.{Below, below_nodes, HasPartedBelow, IsPlan, IsPlanned, LeavesRoom, HasRoom, HasParent, HasBegunBelow, HasBegunOrWaits, HasLookedBelow, below_differs, below_left, below_needs, below_facts, IsReadyBelow}
 use Rattle.bz_below.specs.Guards.{WasThawed, LinksLeaveTheirNodes}
 use Rattle.bz_below.specs.declared.phase.Phase.{Phase}
-use Rattle.bz_below.specs.declared.phase.Phase.TheVariants.{Fresh, Word, Again, Guard, Store, Flush, Named, Swap, Done, Restart, NoRoom, NoSlot, NoSwap}
+use Rattle.bz_below.specs.declared.phase.Phase.TheVariants.{Fresh, Room, Word, Again, Guard, Store, Flush, Named, Swap, Done, Restart, NoRoom, NoSlot, NoSwap}
 use Rattle.bz_below.proofs.Acting.{upper-slot}
 use Rattle.bz_below.proofs.Ending.{EndsWell, goes-on}
 use Rattle.bz_below.proofs.Making.{IsClear, begun-knows, clear-of}
+use Rattle.bz_below.proofs.Opening.{first-word}
+use Rattle.bz_below.proofs.ParentsThen.{leaves-room}
 
 -- what another look at the upper guard leads to, of a task that may wait so many times before and after it
 pub record Looks (before after : ℕ) (r : Below) (c : Config) (seen : Seen) (p : Phase) (old new : FreeSlots) : Type 0 where
@@ -55,6 +58,7 @@ begins k n r c seen NoSlot old new some h nodes = record {
 }
 begins k n r c seen Fresh old new some h nodes = absurd (h)
 begins k n r c seen (Word i) old new some h nodes = absurd (h)
+begins k n r c seen Room old new some h nodes = absurd (h)
 begins k n r c seen Again old new some h nodes = absurd (h)
 begins k n r c seen Guard old new some h nodes = absurd (h)
 begins k n r c seen (Flush j) old new some h nodes = absurd (h)
@@ -141,18 +145,18 @@ planned-room r stage s f = (plan-waits r stage s f).1.room
 pub guard-within : (c : Config) (r : Below) (stage : Stage) (s : Scene) → s.past.config ≡ c → IsScene s → below_facts r Guard stage s → r.upper.slot < c.nodes
 guard-within c r stage s same good f = subst (λ (z : Config). r.upper.slot < z.nodes) same (upper-slot r.upper r.lower (r.image 1) (r.image 2) r.sep s good (plan-waits r stage s f).1.parted)
 
--- the parent is read anew: its words but the status are forgotten, and all else stays known
-read-anew : (r : Below) (s : Scene) → HasPartedBelow r.upper r.lower (r.image 1) (r.image 2) r.sep s.past → IsUnread r.lower.status r.read → IsReading r 1 s.past
-read-anew r s v u = record { parted = v; were = record { size = u.size; first = u.first; rest = λ i some l. absurd (omega (arith, some, l)); blank = λ i some. u.blank i some } }
+-- its status leaves the room when it is read anew
+still-room : ReadNodesHaveChildren → (o r : Below) → SameParts o r → (s : Scene) → IsScene s → IsPlanned o s.past → LeavesRoom r.lower.status r.sep
+still-room have o r same s good f = subst (LeavesRoom r.lower.status) (sym same.sep) (subst (λ (z : Link). LeavesRoom z.status o.sep) (sym same.lower) (leaves-room have o s good f))
 
 -- the guard as it was found now
 thawed-now : (s : Scene) (link : Link) (v m : ℕ) → m ≤ s.past.now → Answers s link.guard v → (status v).frozen ≡ false → WasThawed link m s.past
 thawed-now s link v m order a thawed = record { again = s.past.now; order = order; now = omega arith; loads = a.loads; thawed = ap (λ z. (status z).frozen) a.value ∙ thawed }
 
 -- what another look at the upper guard teaches, of a task that had these facts and found this
-pub looked-learns : SlotsApart → ChildrenMayBeParted → LinksLeaveTheirNodes → NothingIsGained → (c : Config) (left before after : ℕ) (o r : Below) (q : Phase) (v : ℕ) (old new : FreeSlots) → SameParts o r → HasLookedBelow c.nodes left before after o.read r v q old new → old.nodes ≡ c.nodes
+pub looked-learns : SlotsApart → ChildrenMayBeParted → ReadNodesHaveChildren → LinksLeaveTheirNodes → NothingIsGained → (c : Config) (left before after : ℕ) (o r : Below) (q : Phase) (v : ℕ) (old new : FreeSlots) → SameParts o r → HasLookedBelow c.nodes left before after o.read r v q old new → old.nodes ≡ c.nodes
     → (stage : Stage) (s : Scene) → s.past.config ≡ c → IsScene s → AreUnreached s old → below_facts o Guard stage s → Answers s o.upper.guard v → below_facts r q Waiting (gained s old new)
-looked-learns apart parts leave nothing c left before after o r q v old new same h nodes stage s config good free facts answers =
+looked-learns apart parts have leave nothing c left before after o r q v old new same h nodes stage s config good free facts answers =
     let known = plan-waits o stage s facts in
     let a : Answers s r.upper.guard v = subst (λ (z : Link). Answers s z.guard v) (sym same.upper) answers in
     elim h [
@@ -163,7 +167,7 @@ looked-learns apart parts leave nothing c left before after o r q v old new same
             begun-knows apart parts nothing r q s old new good (subst (λ (z : Config). HasBegunBelow z.nodes r q old new) (sym config) b.0) (nodes ∙ ap (λ (z : Config). z.nodes) (sym config)) free known.0 plan
             (thawed-now s r.upper v plan.parted.moment plan.parted.leaf.now a g.0) clear)
         | inr w ↦ subst (λ z. below_facts r z Waiting (gained s old new)) (sym w.0)
-            (subst (λ z. below_facts r (Word 1) Waiting (gained s old z)) (sym w.1.1.0) (nothing s old known.0, (omega arith, (omega arith, read-anew r s (moved o r same s known.1.parted) w.1.1.1))))
+            (subst (λ z. below_facts r (Word 1) Waiting (gained s old z)) (sym w.1.1.0) (nothing s old known.0, (omega arith, (omega arith, first-word r s (moved o r same s known.1.parted) (still-room have o r same s good known.1) w.1.1.1))))
       ]
       | inr g ↦ subst (λ z. below_facts r z Waiting (gained s old new)) (sym g.1.0) (subst (λ z. HasFilled (gained s old z)) (sym g.1.1.1) (nothing s old known.0))
     ]

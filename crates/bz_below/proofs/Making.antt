@@ -20,7 +20,7 @@ use Rattle.bz_renew.proofs.Plainness.{IsPlain, inner-plain}
 use Rattle.bz_below.specs.Facts.{Below, below_nodes, IsPlanned, IsSplittingBelow, HasBegunBelow, parent_words, below_facts}
 use Rattle.bz_below.specs.Guards.{WasThawed, LinksLeaveTheirNodes}
 use Rattle.bz_below.specs.declared.phase.Phase.{Phase}
-use Rattle.bz_below.specs.declared.phase.Phase.TheVariants.{Fresh, Word, Again, Guard, Store, Flush, Named, Swap, Done, Restart, NoRoom, NoSlot, NoSwap}
+use Rattle.bz_below.specs.declared.phase.Phase.TheVariants.{Fresh, Room, Word, Again, Guard, Store, Flush, Named, Swap, Done, Restart, NoRoom, NoSlot, NoSwap}
 
 -- the three nodes are words that may be stored
 module _ (parts : ChildrenMayBeParted) (r : Below) (s : Scene) (good : IsScene s) (v : IsPlanned r s.past) (over : r.image 0 ≡ parent_words r v.parted.child v.parent.level v.parent.low v.parent.high) (size : length (r.image 0) ≡ NODE_WORDS) (slots : HaveSlots s.past.config.nodes (below_nodes r)) where
@@ -87,6 +87,7 @@ begun-knows apart parts nothing r (Store j) s old new good h nodes unreached fil
 begun-knows apart parts nothing r NoSlot s old new good h nodes unreached filled v looked clear = subst (λ z. HasFilled (gained s old z)) (sym h.1) (nothing s old filled)
 begun-knows apart parts nothing r Fresh s old new good h nodes unreached filled v looked clear = absurd (h)
 begun-knows apart parts nothing r (Word i) s old new good h nodes unreached filled v looked clear = absurd (h)
+begun-knows apart parts nothing r Room s old new good h nodes unreached filled v looked clear = absurd (h)
 begun-knows apart parts nothing r Again s old new good h nodes unreached filled v looked clear = absurd (h)
 begun-knows apart parts nothing r Guard s old new good h nodes unreached filled v looked clear = absurd (h)
 begun-knows apart parts nothing r (Flush j) s old new good h nodes unreached filled v looked clear = absurd (h)

@@ -1,8 +1,10 @@
 -- An inner node that is read word by word, but for its free words, and its words where its status is found again.
 use Rattle.std.proofs.Common.{◌≡◌, ◌≢◌, ℕ, ◌+◌, ◌<◌, ◌≤◌, true, List, length, slice_index, slice_set, arith, sym, subst, ◌∙◌, inl, inr, Option}
-use Rattle.std.specs.Prelude.{None}
+use Rattle.std.specs.Prelude.{None, map}
+use Rattle.std.specs.List.{range_with_len}
 use Rattle.std.proofs.lemmas.Bool.{cases_lt, cases_eq}
 use Rattle.std.proofs.lemmas.List.{get_or_past, length-set, get_or-set_same, get_or-set_other}
+use Rattle.std.proofs.lemmas.List.FromFn.{length-map-range_with_len, get_or-map-range_with_len}
 use Rattle.bz_gaps.specs.FreeWords.{IsFree}
 use Rattle.bz_gaps.proofs.FreeWords.{free-zero, free-alike, header-used}
 use Rattle.bz_layout.specs.Addresses.{node_address}
@@ -18,7 +20,7 @@ use Rattle.bz_task.specs.Good.{IsGood}
 use Rattle.bz_task.specs.Instant.{Instant, words, durable, page_at}
 use Rattle.bz_task.specs.Laws.{AreMoments, NodesStay}
 use Rattle.bz_task.specs.Requests.{Answers}
-use Rattle.bz_task.specs.Scene.{Scene, IsScene, here}
+use Rattle.bz_task.specs.Scene.{Past, Scene, IsScene, here}
 use Rattle.bz_task.specs.Shown.{SameNode}
 use Rattle.bz_renew.proofs.Words.{node-at, node-past}
 use Rattle.bz_below.specs.Parents.{WasWord, WasReadOrFree, WereRead}
@@ -63,6 +65,24 @@ module _ (k m st i j v : ℕ) (read : List ℕ) (s : Scene) (order : m ≤ s.pas
           | inr above ↦ inr (skipped q (omega (arith, ne, above)) n, other q ne ∙ f.blank q above)
         ]
       ]
+
+-- the words of a node as a list
+abbrev pub listed : (ℕ → ℕ) → List ℕ
+listed n = map n (range_with_len 0 NODE_WORDS)
+
+listed-at : (n : ℕ → ℕ) (i : ℕ) → i < NODE_WORDS → slice_index (listed n) i ≡ n i
+listed-at n i l = get_or-map-range_with_len n 0 NODE_WORDS i i 0 l (omega arith)
+
+-- of the words that a node had at one moment it is as if each was read then
+pub all-read : (k m st : ℕ) (p : Past) → m ≤ p.now → words p.config (p.at m) k STATUS_AT ≡ st → WereRead k m st NODE_WORDS (listed (words p.config (p.at m) k)) p
+all-read k m st p now is =
+    let size : length (listed (words p.config (p.at m) k)) ≡ NODE_WORDS = length-map-range_with_len (words p.config (p.at m) k) 0 NODE_WORDS in
+    record {
+      size = size;
+      first = listed-at (words p.config (p.at m) k) STATUS_AT (omega arith) ∙ is;
+      rest = λ i some l. inl (record { moment = m; order = omega arith; now = now; word = sym (listed-at (words p.config (p.at m) k) i l) });
+      blank = λ i l. get_or_past (listed (words p.config (p.at m) k)) i 0 (omega (arith, l, size));
+    }
 
 -- where the status is found again, all words are those of its moment, and the free ones are 0
 module _ (nodes : NodesStay) (rules : InnerRulesAreFacts) (s : Scene) (k m st l : ℕ) (low high : Option (List ℕ)) (read : List ℕ) (good : IsScene s) (since : s.past.since ≤ m) (until : m ≤ s.past.now) (reached : (s.past.at m).reached k ≡ true)

@@ -15,7 +15,7 @@ use Rattle.bz_task.specs.declared.todo.Seen.{Seen}
 use Rattle.bz_task.specs.declared.todo.Seen.TheVariants.{Start, Read as Was, Stored, Flushed, Swapped, NoSwap as NoneLeft}
 use Rattle.bz_below.specs.Facts.{Below, IsReading, below_asks, below_left, below_needs, below_facts, word_after, IsReadyBelow}
 use Rattle.bz_below.specs.declared.phase.Phase.{Phase}
-use Rattle.bz_below.specs.declared.phase.Phase.TheVariants.{Fresh, Word, Again}
+use Rattle.bz_below.specs.declared.phase.Phase.TheVariants.{Fresh, Room, Word, Again}
 use Rattle.bz_below.proofs.Acting.{upper-slot}
 use Rattle.bz_below.proofs.Ending.{EndsWell, goes-on, was-no-swap}
 use Rattle.bz_below.proofs.ReadWords.{kept}
@@ -34,8 +34,8 @@ next-word r j s filled some l f = choose (nat_lt j NODE_WORDS) refl
         (filled, subst (λ z. IsReading r z s.past) all f)
 
 -- what is known of the first phase is what the task was made with, and that all slots are filled
-pub fresh-known : (c : Config) (r : Below) (seen : Seen) (stage : Stage) (s : Scene) → below_facts r Fresh stage s → Tells (below_asks c r Fresh) stage seen s → below_facts r (Word 1) Waiting s
-fresh-known c r Start Waiting s f t = (t, (omega arith, (omega arith, f)))
+pub fresh-known : (c : Config) (r : Below) (seen : Seen) (stage : Stage) (s : Scene) → below_facts r Fresh stage s → Tells (below_asks c r Fresh) stage seen s → below_facts r Room Waiting s
+fresh-known c r Start Waiting s f t = (t, f)
 fresh-known c r (Was v) Waiting s f t = absurd (t)
 fresh-known c r Stored Waiting s f t = absurd (t)
 fresh-known c r Flushed Waiting s f t = absurd (t)
@@ -51,17 +51,13 @@ word-known c r i j v (Was w) Waiting s same good after within skipped found f t 
     let b : IsReading r i s.past = f.1.1.1 in
     let order : b.parted.guarded ≤ s.past.now = omega (arith, b.parted.links.guard.order, b.parted.links.guard.now, b.parted.is_guarded) in
     next-word (with_read r (slice_set r.read i v)) j s f.0 (omega (arith, after)) within
-    (record { parted = b.parted; were = kept r.upper.slot b.parted.guarded r.lower.status i j v r.read s order f.1.0 f.1.1.0 after b.were skipped a })
+    (record { parted = b.parted; room = b.room; were = kept r.upper.slot b.parted.guarded r.lower.status i j v r.read s order f.1.0 f.1.1.0 after b.were skipped a })
 word-known c r i j v Start Waiting s same good after within skipped found f t = absurd (t)
 word-known c r i j v Stored Waiting s same good after within skipped found f t = absurd (t)
 word-known c r i j v Flushed Waiting s same good after within skipped found f t = absurd (t)
 word-known c r i j v (Swapped won) Waiting s same good after within skipped found f t = absurd (t)
 word-known c r i j v NoneLeft Waiting s same good after within skipped found f t = absurd (t)
 word-known c r i j v seen Took s same good after within skipped found f t = absurd (f)
-
-pub fresh-ready : (c : Config) (r : Below) (seen : Seen) (stage : Stage) (s : Scene) → s.past.config ≡ c → IsScene s → below_facts r Fresh stage s → IsReadyBelow c r (Word 1)
-fresh-ready c r seen Waiting s same good f = (subst (λ (z : Config). r.upper.slot < z.nodes) same (upper-slot r.upper r.lower (r.image 1) (r.image 2) r.sep s good f.parted), omega arith)
-fresh-ready c r seen Took s same good f = absurd (f)
 
 -- the load of a word leads to that of the next one
 pub record Words (c : Config) (r : Below) (i j : ℕ) (seen : Seen) (p : Phase) (free : FreeSlots) : Type 0 where

@@ -24,13 +24,13 @@ use Rattle.bz_task.specs.declared.path.Link.{Link}
 use Rattle.bz_renew.specs.Nodes.{Nodes}
 use Rattle.bz_renew.proofs.NodeWrites.{nodes-stay, begun-stays, nodes-no-slot, begun-no-slot}
 use Rattle.bz_renew.proofs.Staying.{frozen-leaf-stays}
-use Rattle.bz_below.specs.Facts.{Below, below_nodes, HasPartedBelow, IsReading, IsPlanned, LackedRoom, IsSplittingBelow, WasSplitBelow, parent_words, below_facts}
+use Rattle.bz_below.specs.Facts.{Below, below_nodes, HasPartedBelow, HasStarted, IsReading, IsPlanned, LackedRoom, IsSplittingBelow, WasSplitBelow, parent_words, below_facts}
 use Rattle.bz_split.specs.BelowSplits.{AreLinksDown}
 use Rattle.bz_split.specs.Facts.{SPLIT_WORDS, SPLIT_LINES}
 use Rattle.bz_below.specs.Guards.{WasThawed, WasNamed}
 use Rattle.bz_below.specs.Parents.{WasWord, WasReadOrFree, WereRead, IsParentOf, WasParent}
 use Rattle.bz_below.specs.declared.phase.Phase.{Phase}
-use Rattle.bz_below.specs.declared.phase.Phase.TheVariants.{Fresh, Word, Again, Guard, Store, Flush, Named, Swap, Done, Restart, NoRoom, NoSlot, NoSwap}
+use Rattle.bz_below.specs.declared.phase.Phase.TheVariants.{Fresh, Room, Word, Again, Guard, Store, Flush, Named, Swap, Done, Restart, NoRoom, NoSlot, NoSwap}
 use Rattle.bz_split.proofs.Staying.{stood-stays}
 
 -- a child pointer stays one, of the same child
@@ -111,10 +111,14 @@ module _ (p q : Past) (c : Continues p q) where
   read-stays : (k m status place : ℕ) (read : List ℕ) → WereRead k m status place read p → WereRead k m status place read q
   read-stays k m status place read v = record { size = v.size; first = v.first; rest = λ i some l. free-stays k i m read (v.rest i some l); blank = v.blank }
 
+  started-stays : (r : Below) → HasStarted r p → HasStarted r q
+  started-stays r v = record { parted = below-stays r.upper r.lower (r.image 1) (r.image 2) r.sep v.parted; unread = v.unread }
+
   reading-stays : (r : Below) (place : ℕ) → IsReading r place p → IsReading r place q
   unfolding below-stays
   reading-stays r place v = record {
     parted = below-stays r.upper r.lower (r.image 1) (r.image 2) r.sep v.parted;
+    room = v.room;
     were = read-stays r.upper.slot v.parted.guarded r.lower.status place r.read v.were;
   }
 
@@ -225,7 +229,8 @@ module _ (r : Below) (s after : Scene) (l : IsLawful s after) where
   filled f k t = l.filled k ∙ f k (sym (l.took k) ∙ t)
 
   pub stable : (phase : Phase) (stage : Stage) → below_facts r phase stage s → below_facts r phase stage after
-  stable Fresh Waiting f = reading-stays s.past after.past l.continues r 1 f
+  stable Fresh Waiting f = started-stays s.past after.past l.continues r f
+  stable Room Waiting f = (filled f.0, started-stays s.past after.past l.continues r f.1)
   stable (Word i) Waiting f = (filled f.0, (f.1.0, (f.1.1.0, reading-stays s.past after.past l.continues r i f.1.1.1)))
   stable Again Waiting f = (filled f.0, reading-stays s.past after.past l.continues r NODE_WORDS f.1)
   stable Guard Waiting f = (filled f.0, planned-stays s.past after.past l.continues r f.1)
@@ -243,6 +248,7 @@ module _ (r : Below) (s after : Scene) (l : IsLawful s after) where
   stable NoSwap Waiting f = filled f
   stable Fresh Took f = absurd (f)
   stable (Word i) Took f = absurd (f)
+  stable Room Took f = absurd (f)
   stable Again Took f = absurd (f)
   stable Guard Took f = absurd (f)
   stable Named Took f = absurd (f)
@@ -267,6 +273,7 @@ module _ (nothing : NothingIsGained) (r : Below) (s : Scene) (free : FreeSlots) 
 
   pub no-slot : (phase : Phase) → below_facts r phase Waiting s → below_facts r phase Waiting (gained s free free)
   no-slot Fresh f = f
+  no-slot Room f = (nothing s free f.0, f.1)
   no-slot (Word i) f = (nothing s free f.0, f.1)
   no-slot Again f = (nothing s free f.0, f.1)
   no-slot Guard f = (nothing s free f.0, f.1)

@@ -1,10 +1,11 @@
 -- The split of a leaf below a parent as a task.
-use Rattle.std.specs.Prelude.{ℕ, zero, suc, ◌+◌, List, Option, slice_index}
+use Rattle.std.specs.Prelude.{◌≡◌, ◌≤◌, ℕ, zero, suc, ◌+◌, List, Option, Some, slice_index}
 use Rattle.bz_task.specs.Scene.{Scene, Stage}
 use Rattle.bz_task.specs.declared.todo.Outcome.{Outcome}
+use Rattle.bz_task.specs.declared.todo.Outcome.TheVariants.{NeedsRoom}
 use Rattle.bz_task.specs.declared.todo.Seen.{Seen}
 use Rattle.bz_task.specs.declared.todo.Todo.{Todo}
-use Rattle.bz_below.specs.Facts.{Below, below_asks, below_end, below_left, below_swaps, below_needs, below_facts, below_differs}
+use Rattle.bz_below.specs.Facts.{Below, below_acts, below_fails, below_asks, below_end, below_left, below_swaps, below_needs, below_facts, below_differs}
 use Rattle.bz_below.specs.declared.split_below.SplitBelow.{SplitBelow}
 
 -- the words of the new parent, of the left half and of the right half
@@ -40,3 +41,7 @@ facts_below t = below_facts (below_of t) t.phase
 
 abbrev pub differs_below : SplitBelow → Seen → Type 0
 differs_below t = below_differs t.lower t.phase
+
+-- where it ends for want of room, all its acts are left but these few
+abbrev pub WantOfRoomIsToldAtOnce : Type 0
+WantOfRoomIsToldAtOnce = (t : SplitBelow) → end_below t ≡ Some NeedsRoom → below_acts ≤ left_below t + below_fails

@@ -40,7 +40,7 @@ use Rattle.bz_below.specs.Parents.{WereRead, IsParentOf, WasParent}
 use Rattle.bz_split.specs.Parts.{ArePartsOf}
 use Rattle.bz_below.specs.declared.phase.Phase.{Phase}
 use Rattle.bz_below.specs.declared.phase.TheConstants.{MOST_WAITS}
-use Rattle.bz_below.specs.declared.phase.Phase.TheVariants.{Fresh, Word, Again, Guard, Store, Flush, Named, Swap, Done, Restart, NoRoom, NoSlot, NoSwap}
+use Rattle.bz_below.specs.declared.phase.Phase.TheVariants.{Fresh, Room, Word, Again, Guard, Store, Flush, Named, Swap, Done, Restart, NoRoom, NoSlot, NoSwap}
 
 -- the link to the parent and the link to the leaf; the slots and the words of the new parent, of the left half and of the right
 -- half; the words that were read of the parent so far; the separator; and the upper guard that the swap names
@@ -58,6 +58,7 @@ below_nodes r = record { count = SPLIT_SLOTS; slot = r.slot; image = r.image }
 
 abbrev pub below_asks : Config → Below → Phase → Option Todo
 below_asks c r Fresh = None
+below_asks c r Room = Some (Reads r.lower.guard)
 below_asks c r (Word i) = Some (Reads (node_address c r.upper.slot + i))
 below_asks c r Again = Some (Reads r.lower.guard)
 below_asks c r Guard = Some (Reads r.upper.guard)
@@ -75,14 +76,21 @@ below_end NoSlot = Some (IsFull NoNodes)
 below_end NoSwap = Some (IsFull NoSwaps)
 below_end phase = None
 
--- the most acts where the parent is read once: the loads of its words, of its status and of the upper guard, a store for each word, a
--- flush for each line, the load of the upper guard, the swap, and the end
+-- the most acts where the parent is read once: the loads of its status, of its words, of its status again and of the upper guard, a
+-- store for each word, a flush for each line, the load of the upper guard, the swap, and the end
 abbrev pub below_once : ℕ
-below_once = NODE_WORDS + SPLIT_WORDS + SPLIT_LINES + 4
+below_once = NODE_WORDS + SPLIT_WORDS + SPLIT_LINES + 5
 
 -- the parent may be read anew, in as many loads as so many readings of all its words take, with a look at both guards each time
+abbrev pub below_waits : ℕ
+below_waits = (NODE_WORDS + 1) * MOST_WAITS
+
 abbrev pub below_acts : ℕ
-below_acts = (NODE_WORDS + 1) * MOST_WAITS + below_once
+below_acts = below_waits + below_once
+
+-- of these acts so many are done at most where the parent lacks the room: the load of its status, and the end
+abbrev pub below_fails : ℕ
+below_fails = 2
 
 -- the most swaps that are still asked for: that of the link to the parent, until it has ended
 abbrev pub below_swaps : Phase → ℕ
@@ -93,9 +101,12 @@ below_swaps NoSlot = 0
 below_swaps NoSwap = 0
 below_swaps phase = 1
 
+-- the most acts that are still asked for, beside the loads that may be spent on waiting: these are counted from the first word on
 abbrev pub below_left : Phase → ℕ
-below_left Fresh = below_once
-below_left (Word i) = below_once - i
+below_left Fresh = below_acts
+below_left Room = below_acts - 1
+below_left NoRoom = below_acts - below_fails
+below_left (Word i) = below_once - 1 - i
 below_left Again = SPLIT_WORDS + SPLIT_LINES + 4
 below_left Guard = SPLIT_WORDS + SPLIT_LINES + 3
 below_left (Store j) = SPLIT_WORDS + SPLIT_LINES + 2 - j
@@ -107,6 +118,7 @@ below_left phase = 0
 -- the slots are taken when both guards have been looked at again
 abbrev pub below_needs : Phase → ℕ
 below_needs Fresh = SPLIT_SLOTS
+below_needs Room = SPLIT_SLOTS
 below_needs (Word i) = SPLIT_SLOTS
 below_needs Again = SPLIT_SLOTS
 below_needs Guard = SPLIT_SLOTS
@@ -145,9 +157,29 @@ pub record HasPartedBelow (upper lower : Link) (left right sep : List ℕ) (p : 
   pub left_plain : All (λ v. v < 2 ^ 61) left
   pub right_plain : All (λ v. v < 2 ^ 61) right
 
--- the parent's words before a place were read
+-- of the words of a node the status alone was read
+pub record IsUnread (status : ℕ) (read : List ℕ) : Type 0 where
+  pub size : length read ≡ NODE_WORDS
+  pub first : slice_index read STATUS_AT ≡ status
+  pub blank : (i : ℕ) → 0 < i → slice_index read i ≡ 0
+
+-- of the parent the status alone was read
+pub record HasStarted (r : Below) (p : Past) : Type 0 where
+  pub parted : HasPartedBelow r.upper r.lower (r.image 1) (r.image 2) r.sep p
+  pub unread : IsUnread r.lower.status r.read
+
+-- the words that an inner node with this status takes once it has one child more, below the separator
+abbrev pub words_with : ℕ → List ℕ → ℕ
+words_with st sep = (status st).count + (status st).block + 2 + length (packed sep)
+
+-- it has room for that
+abbrev pub LeavesRoom : ℕ → List ℕ → Type 0
+LeavesRoom st sep = words_with st sep ≤ SHARED_WORDS
+
+-- the parent's status leaves the room; its words before a place were read
 pub record IsReading (r : Below) (place : ℕ) (p : Past) : Type 0 where
   pub parted : HasPartedBelow r.upper r.lower (r.image 1) (r.image 2) r.sep p
+  pub room : LeavesRoom r.lower.status r.sep
   pub were : WereRead r.upper.slot parted.guarded r.lower.status place r.read p
 
 -- the parent as it was read has room for the separator
@@ -225,7 +257,8 @@ pub record LackedPart (upper lower : Link) (view : LeafView) (p : Past) : Type 0
   pub lacked : LackedRoom upper lower sep p
 
 abbrev pub below_facts : Below → Phase → Stage → Scene → Type 0
-below_facts r Fresh Waiting s = IsReading r 1 s.past
+below_facts r Fresh Waiting s = HasStarted r s.past
+below_facts r Room Waiting s = HasFilled s × HasStarted r s.past
 below_facts r (Word i) Waiting s = HasFilled s × ((0 < i) × ((i < NODE_WORDS) × IsReading r i s.past))
 below_facts r Again Waiting s = HasFilled s × IsReading r NODE_WORDS s.past
 below_facts r Guard Waiting s = HasFilled s × IsPlanned r s.past
@@ -239,6 +272,7 @@ below_facts r Swap Took s = HasFilled s × WasSplitBelow r.upper r.lower (r.imag
 below_facts r Done Waiting s = HasFilled s × WasSplitBelow r.upper r.lower (r.image 1) (r.image 2) r.sep s.past
 below_facts r NoRoom Waiting s = HasFilled s × LackedRoom r.upper r.lower r.sep s.past
 below_facts r Fresh Took s = ⊥
+below_facts r Room Took s = ⊥
 below_facts r (Word i) Took s = ⊥
 below_facts r Again Took s = ⊥
 below_facts r Guard Took s = ⊥
@@ -267,6 +301,7 @@ IsEndOfSplitBelow outcome = ⊥
 
 -- the parent's status is another one than the path names, or the upper guard is a frozen node's
 abbrev pub below_differs : Link → Phase → Seen → Type 0
+below_differs lower Room (Was v) = v ≢ lower.status
 below_differs lower Again (Was v) = v ≢ lower.status
 below_differs lower Guard (Was v) = (status v).frozen ≡ true
 below_differs lower Named (Was v) = (status v).frozen ≡ true
@@ -312,12 +347,6 @@ HasBegunBelow nodes r phase old new = ⊥
 abbrev pub IsNotOvertaken : (left waits : ℕ) → FreeSlots → Type 0
 IsNotOvertaken left waits old = (waits < NODE_WORDS + 1) ⊎ (length old.free ≡ left)
 
--- of the words of a node the status alone was read
-pub record IsUnread (status : ℕ) (read : List ℕ) : Type 0 where
-  pub size : length read ≡ NODE_WORDS
-  pub first : slice_index read STATUS_AT ≡ status
-  pub blank : (i : ℕ) → 0 < i → slice_index read i ≡ 0
-
 -- slots are taken where nobody else has taken any since then; else the parent is read anew, for which so many loads are left, and none
 -- was taken
 abbrev pub HasBegunOrWaits : (nodes left before after : ℕ) → List ℕ → Below → Phase → FreeSlots → FreeSlots → Type 0
@@ -329,10 +358,17 @@ abbrev pub HasLookedBelow : (nodes left before after : ℕ) → List ℕ → Bel
 HasLookedBelow nodes left before after read r word phase old new =
     (((status word).frozen ≡ false) × HasBegunOrWaits nodes left before after read r phase old new) ⊎ (((status word).frozen ≡ true) × ((phase ≡ Restart) × ((after ≡ before) × (new ≡ old))))
 
--- where the parent's status is as it was, its words tell whether there is room
+-- where the parent's status is as it was, it tells whether there is room: only then the words are read, and so many loads may be spent
+-- on waiting
+abbrev pub HasOpened : (before after : ℕ) → Below → Seen → Phase → Type 0
+HasOpened before after r seen (Word i) = (i ≡ 1) × ((seen ≡ Was r.lower.status) × (LeavesRoom r.lower.status r.sep × (after ≡ below_waits)))
+HasOpened before after r seen NoRoom = (seen ≡ Was r.lower.status) × ((SHARED_WORDS < words_with r.lower.status r.sep) × (after ≡ before))
+HasOpened before after r seen Restart = (seen ≢ Was r.lower.status) × (after ≡ before)
+HasOpened before after r seen phase = ⊥
+
+-- where the parent's status is once more as it was, the upper guard is looked at
 abbrev pub HasTold : Below → Seen → Phase → Type 0
-HasTold r seen Guard = (seen ≡ Was r.lower.status) × HasRoom r.read r.sep
-HasTold r seen NoRoom = (seen ≡ Was r.lower.status) × (SHARED_WORDS < needed (map child_entry (children_in r.read)) + 2 + length (packed r.sep))
+HasTold r seen Guard = seen ≡ Was r.lower.status
 HasTold r seen Restart = seen ≢ Was r.lower.status
 HasTold r seen phase = ⊥
 

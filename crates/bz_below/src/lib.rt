@@ -6,7 +6,9 @@ mod front;
 pub mod laws;
 mod links;
 mod phase;
+mod room;
 mod split_below;
 
 pub use due::is_due;
+pub use room::leaves_room;
 pub use split_below::SplitBelow;

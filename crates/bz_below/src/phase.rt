@@ -10,6 +10,8 @@ pub const MOST_WAITS: u32 = 5;
 pub(crate) enum Phase {
     /// Nothing was asked for yet.
     Fresh,
+    /// The load of the parent's status, before its words.
+    Room,
     /// The load of the parent's word at this place.
     Word(u32),
     /// The load of the parent's status, once more.

@@ -17,13 +17,14 @@ ghost use Rattle.bz_task.specs.Scene.{Scene, Stage, Waiting, IsScene};
 ghost use Rattle.bz_layout.specs.declared.swaps.TheConstants.{RENEWAL_SWAPS};
 ghost use Rattle.bz_task.specs.declared.todo.Seen.TheVariants.{Read as Was, Swapped, NoSwap as NoneLeft};
 ghost use Rattle.bz_below.specs.Duties.{below_of, asks_below, end_below, left_below, swaps_below, made_below, needs_below, facts_below, differs_below};
-ghost use Rattle.bz_below.specs.Facts.{IsEndOfSplitBelow, below_nodes, below_acts, below_end, below_left, below_swaps, below_facts, below_means, HasRoom, HasParent, IsNewParent, HasBegunBelow, HasLookedBelow, HasTold, IsNotOvertaken, HasBegunOrWaits, IsReadyBelow, IsThawedAbove, WasPartedBelow, LackedPart, below_needs, word_after, store_after, flush_after};
+ghost use Rattle.bz_below.specs.Facts.{IsEndOfSplitBelow, below_nodes, below_acts, below_end, below_left, below_swaps, below_facts, below_means, HasRoom, HasParent, IsNewParent, HasBegunBelow, HasLookedBelow, HasOpened, HasTold, IsNotOvertaken, HasBegunOrWaits, IsReadyBelow, IsThawedAbove, WasPartedBelow, LackedPart, below_needs, word_after, store_after, flush_after};
 ghost use Rattle.bz_split.specs.Facts.{split_change};
 
 use crate::front::{is_frozen, level_of, low_fence};
 use crate::laws::{links_stand_on, read_parents_were};
 use crate::links::{guarded_by, upper_link};
 use crate::phase::{MOST_WAITS, Phase};
+use crate::room::leaves_room;
 use bz_call::Spent;
 use bz_gaps::{first_word, next_place};
 use bz_halves::{Halves, ParentChange, parent_over, place_of};
@@ -46,8 +47,8 @@ const READ_LOADS: u32 = NODE_WORDS + 1;
 
 /// The split of the frozen leaf that a view shows, below a parent. It ends with Done where a new parent, with the leaf's halves in
 /// its place, has taken the old one's place, which is frozen; with Restart where the parent's status or the link to it was another one,
-/// or the guard of that link a frozen node's; with NeedsRoom where the parent has no room for the separator; and with Full where fewer
-/// than three slots or no descriptor were left. Where others take slots while it reads the parent, it reads the parent anew before it
+/// or the guard of that link a frozen node's; with NeedsRoom where the parent has no room for the separator, as its status tells before
+/// a word of it is read; and with Full where fewer than three slots or no descriptor were left. Where others take slots while it reads the parent, it reads the parent anew before it
 /// takes its own, in as many loads as `MOST_WAITS` readings of all words take. The swap names the guard as it is when the nodes are
 /// durable: swaps on the node of the link that left this link as it was are no reason to begin again.
 #[derive(Drop)]
@@ -109,7 +110,7 @@ impl SplitBelow {
             slots: [0; 3],
             guard: 0,
             left: 0,
-            waits: MOST_WAITS * READ_LOADS,
+            waits: 0,
             phase: Phase::Fresh,
         }
     }
@@ -140,17 +141,34 @@ impl SplitBelow {
 }
 
 impl SplitBelow {
-    // The phase after the parent's status, once more: its words tell whether there is room, where it is as it was.
+    // The phase after the parent's status, before its words: where it is as it was, they are read if it leaves the room.
+    fn read_or_end(&mut self, seen: Seen, slots: &Slots)
+        requires plain { seen ≡ Was self.old.lower.status → self.old.lower.status < 2 ^ 61 }
+        ensures config { self.new.config ≡ self.old.config }
+        ensures halves { self.new.halves ≡ self.old.halves }
+        ensures same { below_of self.new ≡ below_of self.old }
+        ensures opened { HasOpened self.old.waits self.new.waits (below_of self.old) seen self.new.phase }
+    {
+        let status = self.lower.status;
+        if !is_read(seen, status) {
+            self.phase = Phase::Restart;
+        } else if leaves_room(status, &self.halves.separator) {
+            self.left = slots.left();
+            self.waits = MOST_WAITS * READ_LOADS;
+            self.phase = Phase::Word(1);
+        } else {
+            self.phase = Phase::NoRoom;
+        }
+    }
+
+    // The phase after the parent's status, once more.
     fn told(&self, seen: Seen) -> Phase
-        requires { seen ≡ Was self.now.lower.status → HasParent self.now.config.nodes self.now.lower.slot self.now.halves.separator self.now.read.0 }
         ensures { HasTold (below_of self.now) seen result }
     {
-        if !is_read(seen, self.lower.status) {
-            return Phase::Restart;
-        }
-        match self.parent_with(0, 0) {
-            Some(_) => Phase::Guard,
-            None => Phase::NoRoom,
+        if is_read(seen, self.lower.status) {
+            Phase::Guard
+        } else {
+            Phase::Restart
         }
     }
 
@@ -243,6 +261,7 @@ impl SplitBelow {
     fn after(&self, seen: Seen, moment: u32) -> Phase
         requires begun { self.now.phase ≢ Phase.Fresh }
         requires read { (i : ℕ) → self.now.phase ≢ Phase.Word i }
+        requires opened { self.now.phase ≢ Phase.Room }
         requires told { self.now.phase ≢ Phase.Again }
         requires looked { self.now.phase ≢ Phase.Guard }
         requires named { self.now.phase ≢ Phase.Named }
@@ -298,13 +317,12 @@ impl SplitBelow {
         bz_layout::slots_apart();
         bz_renew::laws::links_turn();
         bz_halves::laws::children_may_be_parted();
+        bz_parted::laws::read_nodes_have_children();
         links_stand_on();
         read_parents_were();
         match self.phase {
-            Phase::Fresh => {
-                self.left = slots.left();
-                self.phase = Phase::Word(1);
-            }
+            Phase::Fresh => self.phase = Phase::Room,
+            Phase::Room => self.read_or_end(seen, slots),
             Phase::Word(i) => {
                 self.read.0[i as usize] = word_in(seen);
                 let next = next_place(&self.read, i);
@@ -343,7 +361,7 @@ impl SplitBelow {
     {
         match self.phase {
             Phase::Word(i) => Todo::Read(self.config.node_at(self.upper.slot as u32) + i),
-            Phase::Again => Todo::Read(self.lower.guard),
+            Phase::Room | Phase::Again => Todo::Read(self.lower.guard),
             Phase::Guard | Phase::Named => Todo::Read(self.upper.guard),
             Phase::Store(j) => {
                 let slot = self.slots[(j / NODE_WORDS) as usize] as u32;

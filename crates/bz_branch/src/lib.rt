@@ -9,6 +9,7 @@ mod parts;
 mod reading;
 mod swaps;
 
+pub use bz_below::leaves_room;
 pub use front::{level_of, low_fence};
 pub use links::{is_full, is_thawed, link_at};
 pub use parts::parts_of;

@@ -46,7 +46,7 @@ use Rattle.bz_branch.specs.FromSplit.BelowSplits.{parent_freezing}
 use Rattle.bz_branch.specs.FromSplit.Facts.{SPLIT_WORDS, SPLIT_LINES, StoodFresh, split_change}
 use Rattle.bz_branch.specs.FromSplit.RootSplits.{AreFreshThree}
 use Rattle.bz_fork.specs.declared.phase.Phase.{Phase}
-use Rattle.bz_fork.specs.declared.phase.Phase.TheVariants.{Fresh, Word, Again, Above, Check, Guard, Store, Flush, Swap, Done, Restart, NoRoom, NoSlot, NoSwap}
+use Rattle.bz_fork.specs.declared.phase.Phase.TheVariants.{Fresh, Word, Again, Room, Above, Check, Guard, Store, Flush, Swap, Done, Restart, NoRoom, NoSlot, NoSwap}
 use Rattle.bz_branch.specs.Nodes.{IsOpenLink}
 use Rattle.bz_branch.proofs.Standing.{guard-is, node-below}
 use Rattle.bz_fork.proofs.Staying.{has-links-stay, guarded-now, counted-now, planned-stays, looked-stays, parts-stay, over-stays, clear-stays}
@@ -55,7 +55,7 @@ some-same : (a b : Todo) → Some a ≡ Some b → a ≡ b
 some-same a b e = cc
 
 -- the middle link, as one of the open parent
-above-of : (upper middle lower : Link) (s : Scene) → HasLinks upper middle lower s.past → IsOpenLink upper.slot middle s.past
+pub above-of : (upper middle lower : Link) (s : Scene) → HasLinks upper middle lower s.past → IsOpenLink upper.slot middle s.past
 above-of upper middle lower s v = record { guard = v.down.guard; thawed = v.down.thawed; under = v.down.under; parent = v.down.parent }
 
 module _ (upper middle lower : Link) (s : Scene) (good : IsScene s) (v : HasLinks upper middle lower s.past) where
@@ -96,6 +96,7 @@ askable turned codec c r (Word i) s todo same f good e =
     subst (IsAskable s) (some-same _ todo e)
     (subst (λ (z : Config). IsReadable s (node_address z r.middle.slot + i)) same (word-readable r.upper r.middle r.lower s good f.1.1.1.links i f.1.1.0))
 askable turned codec c r Again s todo same f good e = subst (IsAskable s) (some-same _ todo e) (guard-readable s r.lower good f.1.links.node.guard)
+askable turned codec c r Room s todo same f good e = subst (IsAskable s) (some-same _ todo e) (guard-readable s r.middle good f.1.links.down.guard)
 askable turned codec c r (Above i) s todo same f good e =
     subst (IsAskable s) (some-same _ todo e)
     (subst (λ (z : Config). IsReadable s (node_address z r.upper.slot + i)) same (above-readable r.upper r.middle r.lower s good f.1.1.1.links i f.1.1.0))
@@ -124,6 +125,12 @@ cause c r Again s Stored f d = absurd (d)
 cause c r Again s Flushed f d = absurd (d)
 cause c r Again s (Swapped won) f d = absurd (d)
 cause c r Again s NoneLeft f d = absurd (d)
+cause c r Room s (Was v) f d = inl (guard-differed s r.middle v f.1.links.down.guard d)
+cause c r Room s Start f d = absurd (d)
+cause c r Room s Stored f d = absurd (d)
+cause c r Room s Flushed f d = absurd (d)
+cause c r Room s (Swapped won) f d = absurd (d)
+cause c r Room s NoneLeft f d = absurd (d)
 cause c r Check s (Was v) f d = inl (guard-differed s r.middle v f.1.links.down.guard d)
 cause c r Check s Start f d = absurd (d)
 cause c r Check s Stored f d = absurd (d)
@@ -224,6 +231,7 @@ pub effect : InnerSplitsAreGood → ParentsOfHalvesAreWhole → (c : Config) (r 
 effect law wholes c r Fresh s y entries same f good e stand swaps = absurd (cc)
 effect law wholes c r (Word i) s y entries same f good e stand swaps = absurd (cc)
 effect law wholes c r Again s y entries same f good e stand swaps = absurd (cc)
+effect law wholes c r Room s y entries same f good e stand swaps = absurd (cc)
 effect law wholes c r (Above i) s y entries same f good e stand swaps = absurd (cc)
 effect law wholes c r Check s y entries same f good e stand swaps = absurd (cc)
 effect law wholes c r Guard s y entries same f good e stand swaps = absurd (cc)
@@ -269,6 +277,7 @@ stored apart c r (Store j) s after a v same f e t =
 stored apart c r Fresh s after a v same f e t = absurd (cc)
 stored apart c r (Word i) s after a v same f e t = absurd (cc)
 stored apart c r Again s after a v same f e t = absurd (cc)
+stored apart c r Room s after a v same f e t = absurd (cc)
 stored apart c r (Above i) s after a v same f e t = absurd (cc)
 stored apart c r Check s after a v same f e t = absurd (cc)
 stored apart c r Guard s after a v same f e t = absurd (cc)
@@ -301,6 +310,7 @@ flushed c r (Flush j) s after line same f e t =
 flushed c r Fresh s after line same f e t = absurd (cc)
 flushed c r (Word i) s after line same f e t = absurd (cc)
 flushed c r Again s after line same f e t = absurd (cc)
+flushed c r Room s after line same f e t = absurd (cc)
 flushed c r (Above i) s after line same f e t = absurd (cc)
 flushed c r Check s after line same f e t = absurd (cc)
 flushed c r Guard s after line same f e t = absurd (cc)
@@ -377,6 +387,7 @@ took may c r Swap s after entries same f good e takes =
 took may c r Fresh s after entries same f good e takes = absurd (cc)
 took may c r (Word i) s after entries same f good e takes = absurd (cc)
 took may c r Again s after entries same f good e takes = absurd (cc)
+took may c r Room s after entries same f good e takes = absurd (cc)
 took may c r (Above i) s after entries same f good e takes = absurd (cc)
 took may c r Check s after entries same f good e takes = absurd (cc)
 took may c r Guard s after entries same f good e takes = absurd (cc)

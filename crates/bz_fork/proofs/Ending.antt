@@ -14,7 +14,7 @@ use Rattle.bz_task.specs.declared.todo.Outcome.TheVariants.{Done as IsDone, Rest
 use Rattle.bz_task.specs.declared.todo.Seen.TheVariants.{Start, Read as Was, Stored, Flushed, Swapped, NoSwap as NoneLeft}
 use Rattle.bz_fork.specs.Facts.{Fork, fork_asks, fork_differs, fork_end, fork_needs}
 use Rattle.bz_fork.specs.declared.phase.Phase.{Phase}
-use Rattle.bz_fork.specs.declared.phase.Phase.TheVariants.{Fresh, Word, Again, Above, Check, Guard, Store, Flush, Swap, Done, Restart, NoRoom, NoSlot, NoSwap}
+use Rattle.bz_fork.specs.declared.phase.Phase.TheVariants.{Fresh, Word, Again, Room, Above, Check, Guard, Store, Flush, Swap, Done, Restart, NoRoom, NoSlot, NoSwap}
 
 -- how phases end
 ends-done : (p : Phase) → fork_end p ≡ Some IsDone → p ≡ Done
@@ -22,6 +22,7 @@ ends-done Done e = refl
 ends-done Fresh e = absurd (cc)
 ends-done (Word i) e = absurd (cc)
 ends-done Again e = absurd (cc)
+ends-done Room e = absurd (cc)
 ends-done (Above i) e = absurd (cc)
 ends-done Check e = absurd (cc)
 ends-done Guard e = absurd (cc)
@@ -38,6 +39,7 @@ ends-restart Restart e = refl
 ends-restart Fresh e = absurd (cc)
 ends-restart (Word i) e = absurd (cc)
 ends-restart Again e = absurd (cc)
+ends-restart Room e = absurd (cc)
 ends-restart (Above i) e = absurd (cc)
 ends-restart Check e = absurd (cc)
 ends-restart Guard e = absurd (cc)
@@ -54,6 +56,7 @@ ends-no-swap NoSwap e = refl
 ends-no-swap Fresh e = absurd (cc)
 ends-no-swap (Word i) e = absurd (cc)
 ends-no-swap Again e = absurd (cc)
+ends-no-swap Room e = absurd (cc)
 ends-no-swap (Above i) e = absurd (cc)
 ends-no-swap Check e = absurd (cc)
 ends-no-swap Guard e = absurd (cc)
@@ -70,6 +73,7 @@ ends-no-slot NoSlot e = refl
 ends-no-slot Fresh e = absurd (cc)
 ends-no-slot (Word i) e = absurd (cc)
 ends-no-slot Again e = absurd (cc)
+ends-no-slot Room e = absurd (cc)
 ends-no-slot (Above i) e = absurd (cc)
 ends-no-slot Check e = absurd (cc)
 ends-no-slot Guard e = absurd (cc)
@@ -151,6 +155,14 @@ other-middle upper middle lower Stored h ne = absurd (h)
 other-middle upper middle lower Flushed h ne = absurd (h)
 other-middle upper middle lower (Swapped won) h ne = absurd (h)
 other-middle upper middle lower NoneLeft h ne = absurd (h)
+
+pub other-first : (upper middle lower : Link) (seen : Seen) → Hears (Some (Reads middle.guard)) seen → seen ≢ Was middle.status → fork_differs upper middle lower Room seen
+other-first upper middle lower (Was v) h ne = λ e. ne (ap Was e)
+other-first upper middle lower Start h ne = absurd (h)
+other-first upper middle lower Stored h ne = absurd (h)
+other-first upper middle lower Flushed h ne = absurd (h)
+other-first upper middle lower (Swapped won) h ne = absurd (h)
+other-first upper middle lower NoneLeft h ne = absurd (h)
 
 -- what the first act is: the load of the node's first word after its status
 pub first-ends : (c : Config) (r : Fork) (seen : Seen) (free : FreeSlots) → Hears (fork_asks c r Fresh) seen → EndsWell r.upper r.middle r.lower seen Fresh (Word 1) free

@@ -1,4 +1,5 @@
 mod Uniting
+mod Briefness
 mod NewParents
 mod Viewing
 mod Staying
@@ -11,6 +12,8 @@ mod Clearing
 mod Reading
 mod ReadingAbove
 mod ReadingOn
+mod ParentsThen
+mod Opening
 mod Telling
 mod Looking
 mod Writing

@@ -41,7 +41,7 @@ above-known c r i j v (Was w) Waiting s same good after within skipped found f t
     let b : IsReadingAbove r i s.past = f.1.1.1 in
     let order : b.links.guarded ≤ s.past.now = omega (arith, b.links.down.guard.order, b.links.down.guard.now, b.links.is_guarded) in
     next-above (with_above r (slice_set r.above i v)) j s f.0 (omega (arith, after)) within
-    (record { links = b.links; node = b.node; many = b.many; above = kept r.upper.slot b.links.guarded r.middle.status i j v r.above s order f.1.0 f.1.1.0 after b.above skipped a })
+    (record { links = b.links; node = b.node; many = b.many; fits = b.fits; above = kept r.upper.slot b.links.guarded r.middle.status i j v r.above s order f.1.0 f.1.1.0 after b.above skipped a })
 above-known c r i j v Start Waiting s same good after within skipped found f t = absurd (t)
 above-known c r i j v Stored Waiting s same good after within skipped found f t = absurd (t)
 above-known c r i j v Flushed Waiting s same good after within skipped found f t = absurd (t)

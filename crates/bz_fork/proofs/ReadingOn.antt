@@ -13,10 +13,9 @@ use Rattle.bz_task.specs.declared.todo.Seen.{Seen}
 use Rattle.bz_task.specs.declared.todo.Seen.TheVariants.{Read as Was}
 use Rattle.bz_branch.specs.FromBelow.Parents.{WereRead}
 use Rattle.bz_branch.specs.Nodes.{WasInner, ReadNodesWere}
-use Rattle.bz_fork.specs.Facts.{Fork, IsReading, IsReadingAbove, HasRead, fork_asks, fork_left, fork_needs, fork_facts, IsReadyFork}
+use Rattle.bz_fork.specs.Facts.{Fork, IsReading, HasRead, fork_asks, fork_left, fork_needs, fork_facts, IsReadyFork}
 use Rattle.bz_fork.specs.declared.phase.Phase.{Phase}
-use Rattle.bz_fork.specs.declared.phase.Phase.TheVariants.{Fresh, Word, Again, Above, Check, Guard, Store, Flush, Swap, Done, Restart, NoRoom, NoSlot, NoSwap}
-use Rattle.bz_fork.proofs.Acting.{upper-slot}
+use Rattle.bz_fork.specs.declared.phase.Phase.TheVariants.{Fresh, Word, Again, Room, Above, Check, Guard, Store, Flush, Swap, Done, Restart, NoRoom, NoSlot, NoSwap}
 use Rattle.bz_fork.proofs.Ending.{EndsWell, goes-on, other-lower, read-answers, was-no-swap}
 
 -- the node, where its status is found as it was
@@ -39,25 +38,25 @@ waits r Waiting s f = f
 waits r Took s f = absurd (f)
 
 -- what the status of the node, once more, teaches
-pub read-learns : ReadNodesWere → (c : Config) (r : Fork) (p : Phase) (seen : Seen) (stage : Stage) (s : Scene) → HasRead r seen p → s.past.config ≡ c → IsScene s → fork_facts r Again stage s → Tells (fork_asks c r Again) stage seen s → fork_facts r p Waiting s
-read-learns law c r (Above i) seen stage s h same good f t =
+pub read-learns : ReadNodesWere → (c : Config) (r : Fork) (p : Phase) (seen : Seen) (stage : Stage) (s : Scene) → HasRead r seen p → IsScene s → fork_facts r Again stage s → Tells (fork_asks c r Again) stage seen s → fork_facts r p Waiting s
+read-learns law c r Room seen stage s h good f t =
     let g = waits r stage s f in
-    let w = was-inner law r s good g.1 (found-now c r seen stage s t h.0) in
-    let first : IsReadingAbove r 1 s.past = record { links = g.1.links; node = w; many = is-many r s g.1 w; above = g.1.above } in
-    (g.0, (omega (arith, h.1), (omega (arith, h.1), subst (λ z. IsReadingAbove r z s.past) (sym h.1) first)))
-read-learns law c r Restart seen stage s h same good f t = (waits r stage s f).0
-read-learns law c r Fresh seen stage s h same good f t = absurd (h)
-read-learns law c r (Word i) seen stage s h same good f t = absurd (h)
-read-learns law c r Again seen stage s h same good f t = absurd (h)
-read-learns law c r Check seen stage s h same good f t = absurd (h)
-read-learns law c r Guard seen stage s h same good f t = absurd (h)
-read-learns law c r (Store j) seen stage s h same good f t = absurd (h)
-read-learns law c r (Flush j) seen stage s h same good f t = absurd (h)
-read-learns law c r Swap seen stage s h same good f t = absurd (h)
-read-learns law c r Done seen stage s h same good f t = absurd (h)
-read-learns law c r NoRoom seen stage s h same good f t = absurd (h)
-read-learns law c r NoSlot seen stage s h same good f t = absurd (h)
-read-learns law c r NoSwap seen stage s h same good f t = absurd (h)
+    let w = was-inner law r s good g.1 (found-now c r seen stage s t h) in
+    (g.0, record { links = g.1.links; node = w; many = is-many r s g.1 w; above = g.1.above })
+read-learns law c r Restart seen stage s h good f t = (waits r stage s f).0
+read-learns law c r Fresh seen stage s h good f t = absurd (h)
+read-learns law c r (Word i) seen stage s h good f t = absurd (h)
+read-learns law c r Again seen stage s h good f t = absurd (h)
+read-learns law c r (Above i) seen stage s h good f t = absurd (h)
+read-learns law c r Check seen stage s h good f t = absurd (h)
+read-learns law c r Guard seen stage s h good f t = absurd (h)
+read-learns law c r (Store j) seen stage s h good f t = absurd (h)
+read-learns law c r (Flush j) seen stage s h good f t = absurd (h)
+read-learns law c r Swap seen stage s h good f t = absurd (h)
+read-learns law c r Done seen stage s h good f t = absurd (h)
+read-learns law c r NoRoom seen stage s h good f t = absurd (h)
+read-learns law c r NoSlot seen stage s h good f t = absurd (h)
+read-learns law c r NoSwap seen stage s h good f t = absurd (h)
 
 -- what it leads to
 pub record Ons (r : Fork) (c : Config) (seen : Seen) (p : Phase) (free : FreeSlots) : Type 0 where
@@ -67,11 +66,10 @@ pub record Ons (r : Fork) (c : Config) (seen : Seen) (p : Phase) (free : FreeSlo
   pub fewer : fork_needs p ≤ SPLIT_SLOTS
   pub ends : EndsWell r.upper r.middle r.lower seen Again p free
 
-pub reads : (r : Fork) (c : Config) (seen : Seen) (p : Phase) (free : FreeSlots) (stage : Stage) (s : Scene) → s.past.config ≡ c → IsScene s → fork_facts r Again stage s → Hears (fork_asks c r Again) seen → HasRead r seen p → Ons r c seen p free
-reads r c seen (Above i) free stage s same good f hears h =
-    let slot : r.upper.slot < c.nodes = subst (λ (z : Config). r.upper.slot < z.nodes) same (upper-slot r.upper r.middle r.lower s good (waits r stage s f).1.links) in
-    record { begun = λ e. absurd (cc); ready = (slot, omega (arith, h.1)); nearer = omega (arith, h.1); fewer = omega arith; ends = goes-on r.upper r.middle r.lower seen Again (Above i) free refl (was-no-swap r.lower.guard seen hears) }
-reads r c seen Restart free stage s same good f hears h = record {
+pub reads : (r : Fork) (c : Config) (seen : Seen) (p : Phase) (free : FreeSlots) → Hears (fork_asks c r Again) seen → HasRead r seen p → Ons r c seen p free
+reads r c seen Room free hears h =
+    record { begun = λ e. absurd (cc); ready = tt; nearer = omega arith; fewer = omega arith; ends = goes-on r.upper r.middle r.lower seen Again Room free refl (was-no-swap r.lower.guard seen hears) }
+reads r c seen Restart free hears h = record {
   begun = λ e. absurd (cc);
   ready = tt;
   nearer = omega arith;
@@ -84,15 +82,16 @@ reads r c seen Restart free stage s same good f hears h = record {
     full_nodes = λ e. absurd (cc);
   };
 }
-reads r c seen Fresh free stage s same good f hears h = absurd (h)
-reads r c seen (Word i) free stage s same good f hears h = absurd (h)
-reads r c seen Again free stage s same good f hears h = absurd (h)
-reads r c seen Check free stage s same good f hears h = absurd (h)
-reads r c seen Guard free stage s same good f hears h = absurd (h)
-reads r c seen (Store j) free stage s same good f hears h = absurd (h)
-reads r c seen (Flush j) free stage s same good f hears h = absurd (h)
-reads r c seen Swap free stage s same good f hears h = absurd (h)
-reads r c seen Done free stage s same good f hears h = absurd (h)
-reads r c seen NoRoom free stage s same good f hears h = absurd (h)
-reads r c seen NoSlot free stage s same good f hears h = absurd (h)
-reads r c seen NoSwap free stage s same good f hears h = absurd (h)
+reads r c seen Fresh free hears h = absurd (h)
+reads r c seen (Word i) free hears h = absurd (h)
+reads r c seen Again free hears h = absurd (h)
+reads r c seen (Above i) free hears h = absurd (h)
+reads r c seen Check free hears h = absurd (h)
+reads r c seen Guard free hears h = absurd (h)
+reads r c seen (Store j) free hears h = absurd (h)
+reads r c seen (Flush j) free hears h = absurd (h)
+reads r c seen Swap free hears h = absurd (h)
+reads r c seen Done free hears h = absurd (h)
+reads r c seen NoRoom free hears h = absurd (h)
+reads r c seen NoSlot free hears h = absurd (h)
+reads r c seen NoSwap free hears h = absurd (h)

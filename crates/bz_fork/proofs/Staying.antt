@@ -18,9 +18,9 @@ use Rattle.bz_branch.proofs.FromSplit.Staying.{stood-stays}
 use Rattle.bz_branch.specs.FromBelow.Facts.{LackedRoom}
 use Rattle.bz_branch.specs.Parts.{AreHalvesOfNode}
 use Rattle.bz_branch.proofs.Staying.{open-stays, open-guarded, links-stay, links-guarded, links-child, read-stays, inner-stays, parent-stays, halves-stay}
-use Rattle.bz_fork.specs.Facts.{Fork, fork_nodes, HasLinks, IsReading, IsReadingAbove, IsPlan, LackedPart, AreClear, IsSplitting, WasSplitInner, fork_facts}
+use Rattle.bz_fork.specs.Facts.{Fork, fork_nodes, HasLinks, IsReading, HasReadNode, IsReadingAbove, IsPlan, LackedPart, AreClear, IsSplitting, WasSplitInner, fork_facts}
 use Rattle.bz_fork.specs.declared.phase.Phase.{Phase}
-use Rattle.bz_fork.specs.declared.phase.Phase.TheVariants.{Fresh, Word, Again, Above, Check, Guard, Store, Flush, Swap, Done, Restart, NoRoom, NoSlot, NoSwap}
+use Rattle.bz_fork.specs.declared.phase.Phase.TheVariants.{Fresh, Word, Again, Room, Above, Check, Guard, Store, Flush, Swap, Done, Restart, NoRoom, NoSlot, NoSwap}
 
 module _ (p q : Past) (c : Continues p q) where
   unfoldable pub has-links-stay : (upper middle lower : Link) → HasLinks upper middle lower p → HasLinks upper middle lower q
@@ -51,12 +51,22 @@ module _ (p q : Past) (c : Continues p q) where
     above = read-stays p q c r.upper.slot v.links.guarded r.middle.status 1 r.above v.above;
   }
 
+  node-stays : (r : Fork) → HasReadNode r p → HasReadNode r q
+  unfolding has-links-stay
+  node-stays r v = record {
+    links = has-links-stay r.upper r.middle r.lower v.links;
+    node = inner-stays p q c r.middle.slot v.links.counted r.read (counted-now r.upper r.middle r.lower v.links) v.node;
+    many = v.many;
+    above = read-stays p q c r.upper.slot v.links.guarded r.middle.status 1 r.above v.above;
+  }
+
   above-stays : (r : Fork) (place : ℕ) → IsReadingAbove r place p → IsReadingAbove r place q
   unfolding has-links-stay
   above-stays r place v = record {
     links = has-links-stay r.upper r.middle r.lower v.links;
     node = inner-stays p q c r.middle.slot v.links.counted r.read (counted-now r.upper r.middle r.lower v.links) v.node;
     many = v.many;
+    fits = v.fits;
     above = read-stays p q c r.upper.slot v.links.guarded r.middle.status place r.above v.above;
   }
 
@@ -169,6 +179,7 @@ module _ (r : Fork) (s after : Scene) (l : IsLawful s after) where
   stable Fresh Waiting f = reading-stays s.past after.past l.continues r 1 f
   stable (Word i) Waiting f = (filled f.0, (f.1.0, (f.1.1.0, reading-stays s.past after.past l.continues r i f.1.1.1)))
   stable Again Waiting f = (filled f.0, reading-stays s.past after.past l.continues r NODE_WORDS f.1)
+  stable Room Waiting f = (filled f.0, node-stays s.past after.past l.continues r f.1)
   stable (Above i) Waiting f = (filled f.0, (f.1.0, (f.1.1.0, above-stays s.past after.past l.continues r i f.1.1.1)))
   stable Check Waiting f = (filled f.0, above-stays s.past after.past l.continues r NODE_WORDS f.1)
   stable Guard Waiting f = (filled f.0, planned-stays s.past after.past l.continues r.upper r.middle r.lower r.read r.above f.1)
@@ -186,6 +197,7 @@ module _ (r : Fork) (s after : Scene) (l : IsLawful s after) where
   stable Fresh Took f = absurd (f)
   stable (Word i) Took f = absurd (f)
   stable Again Took f = absurd (f)
+  stable Room Took f = absurd (f)
   stable (Above i) Took f = absurd (f)
   stable Check Took f = absurd (f)
   stable Guard Took f = absurd (f)
@@ -212,6 +224,7 @@ module _ (nothing : NothingIsGained) (r : Fork) (s : Scene) (free : FreeSlots) w
   no-slot Fresh f = f
   no-slot (Word i) f = (nothing s free f.0, f.1)
   no-slot Again f = (nothing s free f.0, f.1)
+  no-slot Room f = (nothing s free f.0, f.1)
   no-slot (Above i) f = (nothing s free f.0, f.1)
   no-slot Check f = (nothing s free f.0, f.1)
   no-slot Guard f = (nothing s free f.0, f.1)

@@ -1,10 +1,11 @@
 -- The split of an inner node below a parent as a task.
-use Rattle.std.specs.Prelude.{ℕ, zero, suc, List, Option, slice_index}
+use Rattle.std.specs.Prelude.{◌≡◌, ◌≤◌, ◌+◌, ℕ, zero, suc, List, Option, Some, slice_index}
 use Rattle.bz_task.specs.Scene.{Scene, Stage}
 use Rattle.bz_task.specs.declared.todo.Outcome.{Outcome}
+use Rattle.bz_task.specs.declared.todo.Outcome.TheVariants.{NeedsRoom}
 use Rattle.bz_task.specs.declared.todo.Seen.{Seen}
 use Rattle.bz_task.specs.declared.todo.Todo.{Todo}
-use Rattle.bz_fork.specs.Facts.{Fork, fork_asks, fork_end, fork_left, fork_swaps, fork_needs, fork_facts, fork_differs}
+use Rattle.bz_fork.specs.Facts.{Fork, fork_acts, fork_fails, fork_asks, fork_end, fork_left, fork_swaps, fork_needs, fork_facts, fork_differs}
 use Rattle.bz_fork.specs.declared.split_inner.SplitInner.{SplitInner}
 
 -- the words of the new parent, of the left half and of the right half
@@ -40,3 +41,7 @@ facts_fork t = fork_facts (fork_of t) t.phase
 
 abbrev pub differs_fork : SplitInner → Seen → Type 0
 differs_fork t = fork_differs t.upper t.middle t.lower t.phase
+
+-- where it ends for want of room, all its acts are left but these few
+abbrev pub WantOfRoomIsToldFirst : Type 0
+WantOfRoomIsToldFirst = (t : SplitInner) → end_fork t ≡ Some NeedsRoom → fork_acts ≤ left_fork t + fork_fails

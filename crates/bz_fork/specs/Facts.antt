@@ -1,15 +1,12 @@
 -- What the split of an inner node below a parent knows, and what it asks for.
-use Rattle.std.specs.Prelude.{◌≡◌, ◌≢◌, ℕ, ◌+◌, ◌-◌, ◌^◌, ◌<◌, ◌≤◌, ◌⊎◌, nat_lt, if◌then◌else◌, true, false, List, [], ◌∷◌, map, Option, Some, None, length}
+use Rattle.std.specs.Prelude.{◌≡◌, ◌≢◌, ℕ, ◌+◌, ◌-◌, ◌^◌, ◌<◌, ◌≤◌, ◌⊎◌, nat_lt, if◌then◌else◌, true, false, List, [], ◌∷◌, Option, Some, None, length}
 use Rattle.bz_call.specs.declared.replies.Spent.TheVariants.{Nodes as NoNodes, Swaps as NoSwaps}
-use Rattle.bz_key.specs.Packing.{packed}
 use Rattle.bz_layout.specs.Addresses.{node_address}
 use Rattle.bz_layout.specs.Slots.{FreeSlots}
 use Rattle.bz_layout.specs.declared.config.Config.{Config}
 use Rattle.bz_layout.specs.declared.sizes.TheConstants.{NODE_WORDS, STATUS_AT, SHARED_WORDS}
 use Rattle.bz_layout.specs.declared.thresholds.TheConstants.{INNER_LIMIT, SPLIT_SLOTS}
-use Rattle.bz_node.specs.Layout.{needed}
 use Rattle.bz_node.specs.Reading.{children_in}
-use Rattle.bz_node.specs.Records.{child_entry}
 use Rattle.bz_swap.specs.SwapMemory.{is_target}
 use Rattle.bz_word.specs.Statuses.{status}
 use Rattle.bz_task.specs.Scene.{Past, Scene, Stage, Waiting, Took, HasFilled}
@@ -28,13 +25,13 @@ use Rattle.bz_renew.specs.Nodes.{Nodes, word_address, word_value, line_number, A
 use Rattle.bz_renew.specs.Renewals.{renewal}
 use Rattle.bz_branch.specs.FromSplit.BelowSplits.{AreLinksDown, parent_freezing}
 use Rattle.bz_branch.specs.FromSplit.Facts.{SPLIT_WORDS, SPLIT_LINES, StoodFresh}
-use Rattle.bz_branch.specs.FromBelow.Facts.{HasRoom, HasParent, IsNewParent, LackedRoom}
+use Rattle.bz_branch.specs.FromBelow.Facts.{HasRoom, HasParent, IsNewParent, LackedRoom, LeavesRoom, words_with}
 use Rattle.bz_branch.specs.FromBelow.Parents.{WereRead, WasParent}
 use Rattle.bz_branch.specs.InnerSplits.{inner_swap}
 use Rattle.bz_branch.specs.Nodes.{IsOpenLink, WasInner}
 use Rattle.bz_branch.specs.Parts.{IsFullNode, AreHalvesOfNode, ArePartsOfNode}
 use Rattle.bz_fork.specs.declared.phase.Phase.{Phase}
-use Rattle.bz_fork.specs.declared.phase.Phase.TheVariants.{Fresh, Word, Again, Above, Check, Guard, Store, Flush, Swap, Done, Restart, NoRoom, NoSlot, NoSwap}
+use Rattle.bz_fork.specs.declared.phase.Phase.TheVariants.{Fresh, Word, Again, Room, Above, Check, Guard, Store, Flush, Swap, Done, Restart, NoRoom, NoSlot, NoSwap}
 
 -- the links to the parent and to the node, and one in the node; the slots and the words of the new parent, of the left half and of
 -- the right half; and the words that were read of the node and of the parent so far
@@ -54,6 +51,7 @@ abbrev pub fork_asks : Config → Fork → Phase → Option Todo
 fork_asks c r Fresh = None
 fork_asks c r (Word i) = Some (Reads (node_address c r.middle.slot + i))
 fork_asks c r Again = Some (Reads r.lower.guard)
+fork_asks c r Room = Some (Reads r.middle.guard)
 fork_asks c r (Above i) = Some (Reads (node_address c r.upper.slot + i))
 fork_asks c r Check = Some (Reads r.middle.guard)
 fork_asks c r Guard = Some (Reads r.upper.guard)
@@ -70,10 +68,15 @@ fork_end NoSlot = Some (IsFull NoNodes)
 fork_end NoSwap = Some (IsFull NoSwaps)
 fork_end phase = None
 
--- the most acts: the loads of the words of node and parent and of the three guards, a store for each word, a flush for each line, the
--- swap, and the end
+-- the most acts: the loads of the words of node and parent and of the three guards, that of the parent twice, a store for each word, a
+-- flush for each line, the swap, and the end
 abbrev pub fork_acts : ℕ
-fork_acts = NODE_WORDS + (NODE_WORDS + SPLIT_WORDS + SPLIT_LINES + 3)
+fork_acts = NODE_WORDS + (NODE_WORDS + SPLIT_WORDS + SPLIT_LINES + 4)
+
+-- of these acts so many are done at most where the parent lacks the room: the loads of the node's words and of its status, that of the
+-- parent's status, and the end
+abbrev pub fork_fails : ℕ
+fork_fails = NODE_WORDS + 2
 
 -- the most swaps that are still asked for: that of the link to the parent, until it has ended
 abbrev pub fork_swaps : Phase → ℕ
@@ -87,7 +90,9 @@ fork_swaps phase = 1
 abbrev pub fork_left : Phase → ℕ
 fork_left Fresh = fork_acts
 fork_left (Word i) = fork_acts - i
-fork_left Again = NODE_WORDS + SPLIT_WORDS + SPLIT_LINES + 3
+fork_left Again = NODE_WORDS + SPLIT_WORDS + SPLIT_LINES + 4
+fork_left Room = NODE_WORDS + SPLIT_WORDS + SPLIT_LINES + 3
+fork_left NoRoom = fork_acts - fork_fails
 fork_left (Above i) = NODE_WORDS + SPLIT_WORDS + SPLIT_LINES + 3 - i
 fork_left Check = SPLIT_WORDS + SPLIT_LINES + 3
 fork_left Guard = SPLIT_WORDS + SPLIT_LINES + 2
@@ -101,6 +106,7 @@ abbrev pub fork_needs : Phase → ℕ
 fork_needs Fresh = SPLIT_SLOTS
 fork_needs (Word i) = SPLIT_SLOTS
 fork_needs Again = SPLIT_SLOTS
+fork_needs Room = SPLIT_SLOTS
 fork_needs (Above i) = SPLIT_SLOTS
 fork_needs Check = SPLIT_SLOTS
 fork_needs Guard = SPLIT_SLOTS
@@ -145,11 +151,37 @@ pub record IsReading (r : Fork) (place : ℕ) (p : Past) : Type 0 where
   pub were : WereRead r.middle.slot links.counted r.lower.status place r.read p
   pub above : WereRead r.upper.slot links.guarded r.middle.status 1 r.above p
 
--- the node's words were those that were read, and it is above its limit; the parent's words before a place were read
+-- the node's words were those that were read, and it is above its limit; and of the parent the status alone was read
+pub record HasReadNode (r : Fork) (p : Past) : Type 0 where
+  pub links : HasLinks r.upper r.middle r.lower p
+  pub node : WasInner r.middle.slot links.counted r.read p
+  pub many : INNER_LIMIT < words_of (children_in r.read)
+  pub above : WereRead r.upper.slot links.guarded r.middle.status 1 r.above p
+
+-- the halves of the node, and their separator
+pub record HasParts (read : List ℕ) : Type 0 where
+  pub left : List ℕ
+  pub right : List ℕ
+  pub sep : List ℕ
+  pub parts : ArePartsOfNode read left right sep
+
+-- a parent with this status has room for their separator
+pub record FitsParts (read : List ℕ) (st : ℕ) : Type 0 where
+  pub has : HasParts read
+  pub room : LeavesRoom st has.sep
+
+-- or it lacks the room
+pub record LacksParts (read : List ℕ) (st : ℕ) : Type 0 where
+  pub has : HasParts read
+  pub room : SHARED_WORDS < words_with st has.sep
+
+-- the node's words were those that were read, and it is above its limit; the parent's status leaves room for the separator of its halves,
+-- and the parent's words before a place were read
 pub record IsReadingAbove (r : Fork) (place : ℕ) (p : Past) : Type 0 where
   pub links : HasLinks r.upper r.middle r.lower p
   pub node : WasInner r.middle.slot links.counted r.read p
   pub many : INNER_LIMIT < words_of (children_in r.read)
+  pub fits : FitsParts r.read r.middle.status
   pub above : WereRead r.upper.slot links.guarded r.middle.status place r.above p
 
 -- the parent's words were those that were read too, one level above the node; and it has room for the separator of the node's halves
@@ -239,6 +271,7 @@ abbrev pub fork_facts : Fork → Phase → Stage → Scene → Type 0
 fork_facts r Fresh Waiting s = IsReading r 1 s.past
 fork_facts r (Word i) Waiting s = HasFilled s × ((0 < i) × ((i < NODE_WORDS) × IsReading r i s.past))
 fork_facts r Again Waiting s = HasFilled s × IsReading r NODE_WORDS s.past
+fork_facts r Room Waiting s = HasFilled s × HasReadNode r s.past
 fork_facts r (Above i) Waiting s = HasFilled s × ((0 < i) × ((i < NODE_WORDS) × IsReadingAbove r i s.past))
 fork_facts r Check Waiting s = HasFilled s × IsReadingAbove r NODE_WORDS s.past
 fork_facts r Guard Waiting s = HasFilled s × IsPlanned r s.past
@@ -253,6 +286,7 @@ fork_facts r NoRoom Waiting s = HasFilled s × LackedPart r.upper r.middle s.pas
 fork_facts r Fresh Took s = ⊥
 fork_facts r (Word i) Took s = ⊥
 fork_facts r Again Took s = ⊥
+fork_facts r Room Took s = ⊥
 fork_facts r (Above i) Took s = ⊥
 fork_facts r Check Took s = ⊥
 fork_facts r Guard Took s = ⊥
@@ -272,6 +306,7 @@ fork_means upper middle outcome s = ⊥
 -- a guard is another one than the path names
 abbrev pub fork_differs : Link → Link → Link → Phase → Seen → Type 0
 fork_differs upper middle lower Again (Was v) = v ≢ lower.status
+fork_differs upper middle lower Room (Was v) = v ≢ middle.status
 fork_differs upper middle lower Check (Was v) = v ≢ middle.status
 fork_differs upper middle lower Guard (Was v) = v ≢ upper.status
 fork_differs upper middle lower phase seen = ⊥
@@ -326,31 +361,21 @@ abbrev pub HasLookedFork : ℕ → Fork → Seen → Phase → FreeSlots → Fre
 HasLookedFork nodes r seen phase old new =
     ((seen ≡ Was r.upper.status) × HasBegunFork nodes r phase old new) ⊎ ((seen ≢ Was r.upper.status) × ((phase ≡ Restart) × (new ≡ old)))
 
--- where the node's status is as it was, the parent's words are read
+-- where the node's status is as it was, the parent's is looked at
 abbrev pub HasRead : Fork → Seen → Phase → Type 0
-HasRead r seen (Above i) = (seen ≡ Was r.lower.status) × (i ≡ 1)
+HasRead r seen Room = seen ≡ Was r.lower.status
 HasRead r seen Restart = seen ≢ Was r.lower.status
 HasRead r seen phase = ⊥
 
--- the halves of the node, and their separator
-pub record HasParts (read : List ℕ) : Type 0 where
-  pub left : List ℕ
-  pub right : List ℕ
-  pub sep : List ℕ
-  pub parts : ArePartsOfNode read left right sep
+-- where that is as it was, it tells whether there is room: only then the parent's words are read
+abbrev pub HasOpened : Fork → Seen → Phase → Type 0
+HasOpened r seen (Above i) = (i ≡ 1) × ((seen ≡ Was r.middle.status) × FitsParts r.read r.middle.status)
+HasOpened r seen NoRoom = (seen ≡ Was r.middle.status) × LacksParts r.read r.middle.status
+HasOpened r seen Restart = seen ≢ Was r.middle.status
+HasOpened r seen phase = ⊥
 
--- the parent as it was read has room for their separator, or lacks it
-pub record FitsParts (read above : List ℕ) : Type 0 where
-  pub has : HasParts read
-  pub room : HasRoom above has.sep
-
-pub record LacksParts (read above : List ℕ) : Type 0 where
-  pub has : HasParts read
-  pub room : SHARED_WORDS < needed (map child_entry (children_in above)) + 2 + length (packed has.sep)
-
--- where the parent's status is as it was, its words tell whether there is room
+-- where it is once more as it was, the upper guard is looked at
 abbrev pub HasTold : Fork → Seen → Phase → Type 0
-HasTold r seen Guard = (seen ≡ Was r.middle.status) × FitsParts r.read r.above
-HasTold r seen NoRoom = (seen ≡ Was r.middle.status) × LacksParts r.read r.above
+HasTold r seen Guard = seen ≡ Was r.middle.status
 HasTold r seen Restart = seen ≢ Was r.middle.status
 HasTold r seen phase = ⊥

@@ -9,6 +9,8 @@ pub(crate) enum Phase {
     Word(u32),
     /// The load of the node's status, once more.
     Again,
+    /// The load of the parent's status, before its words.
+    Room,
     /// The load of the parent's word at this place.
     Above(u32),
     /// The load of the parent's status, once more.

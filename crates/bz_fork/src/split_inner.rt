@@ -12,14 +12,15 @@ ghost use Rattle.bz_task.specs.Scene.{Scene, Stage, Waiting, IsScene};
 ghost use Rattle.bz_layout.specs.declared.swaps.TheConstants.{RENEWAL_SWAPS};
 ghost use Rattle.bz_task.specs.declared.todo.Seen.TheVariants.{Read as Was, Swapped, NoSwap as NoneLeft};
 ghost use Rattle.bz_branch.specs.FromSplit.Facts.{split_change};
+ghost use Rattle.bz_branch.specs.Parts.{IsFullNode};
 ghost use Rattle.bz_fork.specs.Due.{IsDue};
 ghost use Rattle.bz_fork.specs.Duties.{fork_of, asks_fork, end_fork, left_fork, swaps_fork, made_fork, needs_fork, facts_fork, differs_fork};
-ghost use Rattle.bz_fork.specs.Facts.{fork_nodes, fork_acts, fork_end, fork_left, fork_swaps, fork_facts, fork_means, HasBegunFork, HasLookedFork, HasRead, HasTold, AreMadeOf, HasNode, HasPlace, IsReadyFork, WasSplitInner, LackedPart, fork_needs, word_after, above_after, store_after, flush_after, swap_after};
+ghost use Rattle.bz_fork.specs.Facts.{fork_nodes, fork_acts, fork_end, fork_left, fork_swaps, fork_facts, fork_means, HasBegunFork, HasLookedFork, HasRead, HasOpened, HasTold, AreMadeOf, HasPlace, IsReadyFork, WasSplitInner, LackedPart, fork_needs, word_after, above_after, store_after, flush_after, swap_after};
 
 use crate::parent::parent_with;
 use crate::phase::Phase;
 use bz_branch::laws::{inner_splits_are_good, parents_of_nodes_were, read_nodes_were};
-use bz_branch::{is_read, link_at, parts_of, swap_freezing_two, word_in};
+use bz_branch::{is_read, leaves_room, link_at, parts_of, swap_freezing_two, word_in};
 use bz_call::Spent;
 use bz_gaps::{first_word, next_place};
 use bz_layout::{Config, LINE_WORDS, NODE_WORDS, SPLIT_SLOTS, Slots};
@@ -35,7 +36,7 @@ const SPLIT_LINES: u32 = NODE_LINES * SPLIT_SLOTS;
 
 /// The split of an inner node of a path, below a parent. It ends with Done where a new parent, with the node's halves in its place, has
 /// taken the old one's place, and both are frozen; with Restart where a link or a status was another one; with NeedsRoom where the
-/// parent has no room for the separator; and with Full where fewer than three slots or no descriptor were left.
+/// parent has no room for the separator, as its status tells before a word of it is read; and with Full where fewer than three slots or no descriptor were left.
 #[derive(Drop)]
 pub struct SplitInner {
     config: Config,
@@ -96,29 +97,42 @@ impl SplitInner {
 }
 
 impl SplitInner {
-    // The phase after the node's status, once more: the parent is read, where it is as it was.
+    // The phase after the node's status, once more: the parent is looked at, where it is as it was.
     fn read_on(&self, seen: Seen) -> Phase
         ensures { HasRead (fork_of self.now) seen result }
     {
         if is_read(seen, self.lower.status) {
-            Phase::Above(1)
+            Phase::Room
         } else {
             Phase::Restart
         }
     }
 
-    // The phase after the parent's status, once more: its words tell whether there is room, where it is as it was.
-    fn told(&self, seen: Seen) -> Phase
-        requires { seen ≡ Was self.now.middle.status → HasNode self.now.config.nodes self.now.middle.slot self.now.read.0 self.now.above.0 }
-        ensures { HasTold (fork_of self.now) seen result }
+    // The phase after the parent's status, before its words: where it is as it was, they are read if it leaves the room.
+    fn opened(&self, seen: Seen) -> Phase
+        requires node { IsFullNode self.now.read.0 }
+        requires plain { seen ≡ Was self.now.middle.status → self.now.middle.status < 2 ^ 61 }
+        ensures { HasOpened (fork_of self.now) seen result }
     {
         if !is_read(seen, self.middle.status) {
             return Phase::Restart;
         }
         let separator = parts_of(&self.read).separator;
-        match parent_with(&self.above, self.middle.slot, 0, 0, separator) {
-            Some(_) => Phase::Guard,
-            None => Phase::NoRoom,
+        if leaves_room(self.middle.status, &separator) {
+            Phase::Above(1)
+        } else {
+            Phase::NoRoom
+        }
+    }
+
+    // The phase after the parent's status, once more.
+    fn told(&self, seen: Seen) -> Phase
+        ensures { HasTold (fork_of self.now) seen result }
+    {
+        if is_read(seen, self.middle.status) {
+            Phase::Guard
+        } else {
+            Phase::Restart
         }
     }
 
@@ -191,6 +205,7 @@ impl SplitInner {
         requires begun { self.now.phase ≢ Phase.Fresh }
         requires read { (i : ℕ) → self.now.phase ≢ Phase.Word i }
         requires again { self.now.phase ≢ Phase.Again }
+        requires opened { self.now.phase ≢ Phase.Room }
         requires above { (i : ℕ) → self.now.phase ≢ Phase.Above i }
         requires told { self.now.phase ≢ Phase.Check }
         requires looked { self.now.phase ≢ Phase.Guard }
@@ -247,6 +262,7 @@ impl SplitInner {
         bz_renew::laws::links_turn();
         bz_renew::laws::guarded_links_stand();
         bz_halves::laws::children_may_be_parted();
+        bz_parted::laws::read_nodes_have_children();
         read_nodes_were();
         parents_of_nodes_were();
         match self.phase {
@@ -257,6 +273,7 @@ impl SplitInner {
                 self.phase = after_word(next);
             }
             Phase::Again => self.phase = self.read_on(seen),
+            Phase::Room => self.phase = self.opened(seen),
             Phase::Above(i) => {
                 self.above.0[i as usize] = word_in(seen);
                 let other = next_place(&self.above, i);
@@ -292,7 +309,7 @@ impl SplitInner {
             Phase::Word(i) => Todo::Read(self.config.node_at(self.middle.slot as u32) + i),
             Phase::Again => Todo::Read(self.lower.guard),
             Phase::Above(i) => Todo::Read(self.config.node_at(self.upper.slot as u32) + i),
-            Phase::Check => Todo::Read(self.middle.guard),
+            Phase::Room | Phase::Check => Todo::Read(self.middle.guard),
             Phase::Guard => Todo::Read(self.upper.guard),
             Phase::Store(j) => {
                 let slot = self.slots[(j / NODE_WORDS) as usize] as u32;

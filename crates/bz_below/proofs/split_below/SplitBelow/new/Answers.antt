@@ -1,4 +1,4 @@
-use Rattle.std.proofs.Common.{◌≡◌, sym, subst, ◌∙◌, arith, Some}
+use Rattle.std.proofs.Common.{◌≡◌, sym, subst, ◌∙◌, Some}
 use Rattle.bz_task.specs.declared.path.Link.{Link}
 use Rattle.bz_below.specs.Facts.{WasSplitBelow, LackedRoom}
 use Rattle.bz_below.proofs.Viewing.{parted-below}
@@ -12,7 +12,7 @@ returns-clause-facts c key s same good path view =
     let h = c.parts_of-halves in record {
       parted = parted-below c.views_show_frozen_leaves.ensures c.slots_apart.ensures key c.args.path c.args.view c.upper_link.result c.last_link-lower.result h.result.left.0 h.result.right.0 h.result.separator s good path view c.requires.frozen c.requires.leads c.requires.thawed c.requires.deep
           c.upper_link.ensures c.last_link-lower.ensures h.ensures;
-      were = record { size = c.first_word.ensures.size; first = c.first_word.ensures.first; rest = λ i some l. absurd (omega (arith, some, l)); blank = λ i some. c.first_word.ensures.blank i some };
+      unread = record { size = c.first_word.ensures.size; first = c.first_word.ensures.first; blank = λ i some. c.first_word.ensures.blank i some };
     }
 
 pub returns-clause-done : goal.returns-clause-done

@@ -11,14 +11,15 @@ use Rattle.bz_task.specs.declared.todo.Todo.TheVariants.{Read as Reads}
 use Rattle.bz_below.specs.Duties.{below_of, asks_below, three}
 use Rattle.bz_below.specs.Facts.{Below, below_facts, below_asks, below_needs, below_left, below_swaps, word_after, IsReadyBelow}
 use Rattle.bz_below.specs.declared.phase.Phase.{Phase}
-use Rattle.bz_below.specs.declared.phase.Phase.TheVariants.{Fresh, Word, Again, Guard, Named}
+use Rattle.bz_below.specs.declared.phase.Phase.TheVariants.{Fresh, Room, Word, Again, Guard, Named}
 use Rattle.bz_below.specs.declared.split_below.SplitBelow.{SplitBelow}
 use Rattle.bz_below.proofs.Counting.{Counts, counts}
 use Rattle.bz_below.proofs.Ending.{EndsWell, ends-well, first-ends, takes-none, word-answers}
-use Rattle.bz_below.proofs.Telling.{Tolds, tolds, told-learns, has-parent}
+use Rattle.bz_below.proofs.Opening.{Opens, opens, opened-learns, found}
+use Rattle.bz_below.proofs.Telling.{Tolds, tolds, told-learns}
 use Rattle.bz_below.proofs.Looking.{Looks, looks, looked-learns, guard-within, planned-parent, planned-room}
 use Rattle.bz_below.proofs.Naming.{Names, IsNamedPhase, named-of, names, named-learns}
-use Rattle.bz_below.proofs.Reading.{Words, fresh-ready, word-within, words-on, fresh-known, word-known, word-ready}
+use Rattle.bz_below.proofs.Reading.{Words, word-within, words-on, fresh-known, word-known, word-ready}
 use Rattle.bz_below.proofs.Staying.{no-slot}
 use Rattle.bz_below.proofs.split_below.SplitBelow.step.Goals as goal
 
@@ -26,13 +27,11 @@ use Rattle.bz_below.proofs.split_below.SplitBelow.step.Goals as goal
 abbrev kept-of : SplitBelow → ℕ → ℕ → Below
 kept-of t i v = record { upper = t.upper; lower = t.lower; slot = slice_index t.slots; image = three t.parent.0 t.halves.left.0 t.halves.right.0; read = slice_set t.read.0 i v; sep = t.halves.separator; guard = t.guard }
 
-pub told-self-requires : goal.told-self-requires
-told-self-requires c e =
+pub read_or_end-requires : goal.read_or_end-requires
+read_or_end-requires c =
     let t = c.args.self.now in
     let k = c.requires.known in
-    has-parent c.read_parents_were.ensures t.config (below_of t) c.args.seen k.stage k.scene k.config k.good
-    (subst (λ z. below_facts (below_of t) z k.stage k.scene) c.in-Again.is k.holds)
-    (subst (λ z. Tells (below_asks t.config (below_of t) z) k.stage c.args.seen k.scene) c.in-Again.is k.tells) e
+    record { plain = λ e. (found t.config (below_of t) c.args.seen k.stage k.scene (subst (λ z. Tells (below_asks t.config (below_of t) z) k.stage c.args.seen k.scene) c.in-Room.is k.tells) e).plain }
 
 -- the word of the upper guard that was found
 found-guard : (t : SplitBelow) (phase : Phase) (seen : Seen) (v : ℕ) (stage : Stage) (s : Scene) → t.phase ≡ phase → below_asks t.config (below_of t) phase ≡ Some (Reads t.upper.guard) → ((w : ℕ) → seen ≡ Was w → v ≡ w) → Tells (asks_below t) stage seen s → (seen ≡ Was v) × Answers s t.upper.guard v
@@ -76,7 +75,7 @@ returns-in-Again c =
       full_swaps = ends.full_swaps;
       full_nodes = ends.full_nodes;
       learns = λ stage s same good free facts tells. no-slot c.nothing_is_gained.ensures (below_of t) s c.args.slots.now c.told-self.result
-          (told-learns c.read_parents_were.ensures t.config (below_of t) c.told-self.result c.args.seen stage s c.told-self.ensures same good
+          (told-learns c.read_parents_were.ensures c.read_nodes_have_children.ensures t.config (below_of t) c.told-self.result c.args.seen stage s c.told-self.ensures good
           (subst (λ z. below_facts (below_of t) z stage s) c.in-Again.is facts)
           (subst (λ z. Tells (below_asks t.config (below_of t) z) stage c.args.seen s) c.in-Again.is tells));
     }
@@ -115,7 +114,7 @@ returns-in-Guard c =
       no_swap = ends.no_swap;
       full_swaps = ends.full_swaps;
       full_nodes = ends.full_nodes;
-      learns = λ stage s same good free facts tells. looked-learns c.slots_apart.ensures c.children_may_be_parted.ensures c.links_stand_on.ensures.leave c.nothing_is_gained.ensures t.config t.left t.waits new.waits (below_of t) (below_of new) new.phase c.word_in-in-Guard.result c.args.slots.now left
+      learns = λ stage s same good free facts tells. looked-learns c.slots_apart.ensures c.children_may_be_parted.ensures c.read_nodes_have_children.ensures c.links_stand_on.ensures.leave c.nothing_is_gained.ensures t.config t.left t.waits new.waits (below_of t) (below_of new) new.phase c.word_in-in-Guard.result c.args.slots.now left
           (record { upper = e.upper; lower = e.lower; left = ap (λ z. z.left.0) e.halves; right = ap (λ z. z.right.0) e.halves; sep = ap (λ z. z.separator) e.halves }) e.looked nodes stage s same good (free (omega (arith, needed)))
           (subst (λ z. below_facts (below_of t) z stage s) c.in-Guard.is facts)
           (found-guard t Guard c.args.seen c.word_in-in-Guard.result stage s c.in-Guard.is refl c.word_in-in-Guard.ensures tells).1;
@@ -191,8 +190,8 @@ returns-in-Fresh c =
     let t = c.args.self.now in
     let k = c.requires.known in
     let hears : Hears (below_asks t.config (below_of t) Fresh) c.args.seen = subst (λ z. Hears (below_asks t.config (below_of t) z) c.args.seen) c.in-Fresh.is c.requires.hears in
-    let e : EndsWell t.lower c.args.seen t.phase (Word 1) c.args.slots.now = subst (λ z. EndsWell t.lower c.args.seen z (Word 1) c.args.slots.now) (sym c.in-Fresh.is) (first-ends t.config (below_of t) c.args.seen c.args.slots.now hears) in
-    let m : Counts t.config (below_of t) t.phase (Word 1) c.args.seen = counts t.config (below_of t) t.phase (Word 1) c.args.seen (ap below_swaps c.in-Fresh.is) (ap (λ z. swaps_in (below_asks t.config (below_of t) z)) c.in-Fresh.is) c.requires.hears in
+    let e : EndsWell t.lower c.args.seen t.phase Room c.args.slots.now = subst (λ z. EndsWell t.lower c.args.seen z Room c.args.slots.now) (sym c.in-Fresh.is) (first-ends t.config (below_of t) c.args.seen c.args.slots.now hears) in
+    let m : Counts t.config (below_of t) t.phase Room c.args.seen = counts t.config (below_of t) t.phase Room c.args.seen (ap below_swaps c.in-Fresh.is) (ap (λ z. swaps_in (below_asks t.config (below_of t) z)) c.in-Fresh.is) c.requires.hears in
     record {
       config = refl;
       upper = refl;
@@ -200,18 +199,52 @@ returns-in-Fresh c =
       halves = refl;
       known = subst IsConfig k.config k.good.config;
       begun = λ z. absurd (cc);
-      ready = fresh-ready t.config (below_of t) c.args.seen k.stage k.scene k.config k.good (subst (λ z. below_facts (below_of t) z k.stage k.scene) c.in-Fresh.is k.holds);
+      ready = tt;
       nearer = omega (arith, ap below_left c.in-Fresh.is);
       fewer = m.fewer;
       counted = λ z. m.counted;
-      slots = takes-none t.phase (Word 1) c.args.slots.now (omega (arith, ap below_needs c.in-Fresh.is));
+      slots = takes-none t.phase Room c.args.slots.now (omega (arith, ap below_needs c.in-Fresh.is));
       done = e.done;
       restart = e.restart;
       no_swap = e.no_swap;
       full_swaps = e.full_swaps;
       full_nodes = e.full_nodes;
-      learns = λ stage s same good free facts tells. no-slot c.nothing_is_gained.ensures (below_of t) s c.args.slots.now (Word 1)
+      learns = λ stage s same good free facts tells. no-slot c.nothing_is_gained.ensures (below_of t) s c.args.slots.now Room
           (fresh-known t.config (below_of t) c.args.seen stage s (subst (λ z. below_facts (below_of t) z stage s) c.in-Fresh.is facts) (subst (λ z. Tells (below_asks t.config (below_of t) z) stage c.args.seen s) c.in-Fresh.is tells));
+    }
+
+pub returns-in-Room : goal.returns-in-Room
+returns-in-Room c =
+    let t = c.args.self.now in
+    let new = c.read_or_end.new.self in
+    let e = c.read_or_end.ensures in
+    let k = c.requires.known in
+    let hears : Hears (below_asks t.config (below_of t) Room) c.args.seen = subst (λ z. Hears (below_asks t.config (below_of t) z) c.args.seen) c.in-Room.is c.requires.hears in
+    let b : Opens t.waits new.waits (below_of t) t.config c.args.seen new.phase c.args.slots.now = opens t.waits new.waits (below_of t) t.config c.args.seen new.phase c.args.slots.now k.stage k.scene k.config k.good (subst (λ z. below_facts (below_of t) z k.stage k.scene) c.in-Room.is k.holds) hears e.opened in
+    let ends : EndsWell t.lower c.args.seen t.phase new.phase c.args.slots.now = subst (λ z. EndsWell t.lower c.args.seen z new.phase c.args.slots.now) (sym c.in-Room.is) b.ends in
+    let m : Counts t.config (below_of t) t.phase new.phase c.args.seen = counts t.config (below_of t) t.phase new.phase c.args.seen (ap below_swaps c.in-Room.is) (ap (λ z. swaps_in (below_asks t.config (below_of t) z)) c.in-Room.is) c.requires.hears in
+    record {
+      config = e.config;
+      upper = ap (λ z. z.upper) e.same;
+      lower = ap (λ z. z.lower) e.same;
+      halves = e.halves;
+      known = subst IsConfig (k.config ∙ sym e.config) k.good.config;
+      begun = b.begun;
+      ready = subst (λ z. IsReadyBelow z (below_of new) new.phase) (sym e.config) (subst (λ z. IsReadyBelow t.config z new.phase) (sym e.same) b.ready);
+      nearer = omega (arith, b.nearer, ap below_left c.in-Room.is);
+      fewer = m.fewer;
+      counted = λ z. m.counted;
+      slots = takes-none t.phase new.phase c.args.slots.now (omega (arith, b.fewer, ap below_needs c.in-Room.is));
+      done = ends.done;
+      restart = ends.restart;
+      no_swap = ends.no_swap;
+      full_swaps = ends.full_swaps;
+      full_nodes = ends.full_nodes;
+      learns = λ stage s same good free facts tells. subst (λ z. below_facts z new.phase Waiting (gained s c.args.slots.now c.args.slots.now)) (sym e.same)
+          (no-slot c.nothing_is_gained.ensures (below_of t) s c.args.slots.now new.phase
+          (opened-learns c.read_parents_were.ensures c.read_nodes_have_children.ensures t.config t.waits new.waits (below_of t) new.phase c.args.seen stage s e.opened good
+          (subst (λ z. below_facts (below_of t) z stage s) c.in-Room.is facts)
+          (subst (λ z. Tells (below_asks t.config (below_of t) z) stage c.args.seen s) c.in-Room.is tells)));
     }
 
 pub returns-in-Word : goal.returns-in-Word

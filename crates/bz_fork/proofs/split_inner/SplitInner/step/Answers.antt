@@ -8,11 +8,12 @@ use Rattle.bz_task.specs.Scene.{Waiting}
 use Rattle.bz_task.specs.declared.todo.Todo.TheVariants.{Read as Reads}
 use Rattle.bz_fork.specs.Duties.{fork_of, three}
 use Rattle.bz_fork.specs.Facts.{Fork, fork_facts, fork_asks, fork_needs, fork_left, fork_swaps, word_after, above_after, IsReadyFork}
-use Rattle.bz_fork.specs.declared.phase.Phase.TheVariants.{Fresh, Word, Again, Above, Check, Guard}
+use Rattle.bz_fork.specs.declared.phase.Phase.TheVariants.{Fresh, Word, Again, Room, Above, Check, Guard}
 use Rattle.bz_fork.specs.declared.split_inner.SplitInner.{SplitInner}
 use Rattle.bz_fork.proofs.Counting.{Counts, counts}
 use Rattle.bz_fork.proofs.Ending.{EndsWell, ends-well, first-ends, takes-none}
-use Rattle.bz_fork.proofs.Telling.{Tolds, tolds, told-learns, has-node}
+use Rattle.bz_fork.proofs.Opening.{Opens, opens, opened-learns, found, full-node}
+use Rattle.bz_fork.proofs.Telling.{Tolds, tolds, told-learns}
 use Rattle.bz_fork.proofs.Looking.{Looks, looks, looked-learns, planned-place}
 use Rattle.bz_fork.proofs.Reading.{Words, fresh-ready, word-within, words-on, fresh-known, word-known, word-ready}
 use Rattle.bz_fork.proofs.ReadingAbove.{Aboves, above-within, aboves-on, above-known, above-ready}
@@ -28,13 +29,14 @@ kept-of t i v = record { upper = t.upper; middle = t.middle; lower = t.lower; sl
 abbrev kept-above : SplitInner → ℕ → ℕ → Fork
 kept-above t i v = record { upper = t.upper; middle = t.middle; lower = t.lower; slot = slice_index t.slots; image = three t.parent.0 t.left.0 t.right.0; read = t.read.0; above = slice_set t.above.0 i v }
 
-pub told-self-requires : goal.told-self-requires
-told-self-requires c e =
+pub opened-self-requires : goal.opened-self-requires
+opened-self-requires c =
     let t = c.args.self.now in
     let k = c.requires.known in
-    has-node c.parents_of_nodes_were.ensures t.config (fork_of t) c.args.seen k.stage k.scene k.config k.good
-    (subst (λ z. fork_facts (fork_of t) z k.stage k.scene) c.in-Check.is k.holds)
-    (subst (λ z. Tells (fork_asks t.config (fork_of t) z) k.stage c.args.seen k.scene) c.in-Check.is k.tells) e
+    record {
+      node = full-node (fork_of t) k.stage k.scene (subst (λ z. fork_facts (fork_of t) z k.stage k.scene) c.in-Room.is k.holds);
+      plain = λ e. (found t.config (fork_of t) c.args.seen k.stage k.scene (subst (λ z. Tells (fork_asks t.config (fork_of t) z) k.stage c.args.seen k.scene) c.in-Room.is k.tells) e).plain;
+    }
 
 pub look-requires : goal.look-requires
 look-requires c =
@@ -47,7 +49,7 @@ returns-in-Again c =
     let t = c.args.self.now in
     let k = c.requires.known in
     let hears : Hears (fork_asks t.config (fork_of t) Again) c.args.seen = subst (λ z. Hears (fork_asks t.config (fork_of t) z) c.args.seen) c.in-Again.is c.requires.hears in
-    let b : Ons (fork_of t) t.config c.args.seen c.read_on-self.result c.args.slots.now = reads (fork_of t) t.config c.args.seen c.read_on-self.result c.args.slots.now k.stage k.scene k.config k.good (subst (λ z. fork_facts (fork_of t) z k.stage k.scene) c.in-Again.is k.holds) hears c.read_on-self.ensures in
+    let b : Ons (fork_of t) t.config c.args.seen c.read_on-self.result c.args.slots.now = reads (fork_of t) t.config c.args.seen c.read_on-self.result c.args.slots.now hears c.read_on-self.ensures in
     let e : EndsWell t.upper t.middle t.lower c.args.seen t.phase c.read_on-self.result c.args.slots.now = subst (λ z. EndsWell t.upper t.middle t.lower c.args.seen z c.read_on-self.result c.args.slots.now) (sym c.in-Again.is) b.ends in
     let m : Counts t.config (fork_of t) t.phase c.read_on-self.result c.args.seen = counts t.config (fork_of t) t.phase c.read_on-self.result c.args.seen (ap fork_swaps c.in-Again.is) (ap (λ z. swaps_in (fork_asks t.config (fork_of t) z)) c.in-Again.is) c.requires.hears in
     record {
@@ -67,9 +69,39 @@ returns-in-Again c =
       full_swaps = e.full_swaps;
       full_nodes = e.full_nodes;
       learns = λ stage s same good free facts tells. no-slot c.nothing_is_gained.ensures (fork_of t) s c.args.slots.now c.read_on-self.result
-          (read-learns c.read_nodes_were.ensures t.config (fork_of t) c.read_on-self.result c.args.seen stage s c.read_on-self.ensures same good
+          (read-learns c.read_nodes_were.ensures t.config (fork_of t) c.read_on-self.result c.args.seen stage s c.read_on-self.ensures good
           (subst (λ z. fork_facts (fork_of t) z stage s) c.in-Again.is facts)
           (subst (λ z. Tells (fork_asks t.config (fork_of t) z) stage c.args.seen s) c.in-Again.is tells));
+    }
+
+pub returns-in-Room : goal.returns-in-Room
+returns-in-Room c =
+    let t = c.args.self.now in
+    let k = c.requires.known in
+    let hears : Hears (fork_asks t.config (fork_of t) Room) c.args.seen = subst (λ z. Hears (fork_asks t.config (fork_of t) z) c.args.seen) c.in-Room.is c.requires.hears in
+    let b : Opens (fork_of t) t.config c.args.seen c.opened-self.result c.args.slots.now = opens (fork_of t) t.config c.args.seen c.opened-self.result c.args.slots.now k.stage k.scene k.config k.good (subst (λ z. fork_facts (fork_of t) z k.stage k.scene) c.in-Room.is k.holds) hears c.opened-self.ensures in
+    let e : EndsWell t.upper t.middle t.lower c.args.seen t.phase c.opened-self.result c.args.slots.now = subst (λ z. EndsWell t.upper t.middle t.lower c.args.seen z c.opened-self.result c.args.slots.now) (sym c.in-Room.is) b.ends in
+    let m : Counts t.config (fork_of t) t.phase c.opened-self.result c.args.seen = counts t.config (fork_of t) t.phase c.opened-self.result c.args.seen (ap fork_swaps c.in-Room.is) (ap (λ z. swaps_in (fork_asks t.config (fork_of t) z)) c.in-Room.is) c.requires.hears in
+    record {
+      config = refl;
+      upper = refl;
+      middle = refl;
+      known = subst IsConfig k.config k.good.config;
+      begun = b.begun;
+      ready = b.ready;
+      nearer = omega (arith, b.nearer, ap fork_left c.in-Room.is);
+      fewer = m.fewer;
+      counted = λ z. m.counted;
+      slots = takes-none t.phase c.opened-self.result c.args.slots.now (omega (arith, b.fewer, ap fork_needs c.in-Room.is));
+      done = e.done;
+      restart = e.restart;
+      no_swap = e.no_swap;
+      full_swaps = e.full_swaps;
+      full_nodes = e.full_nodes;
+      learns = λ stage s same good free facts tells. no-slot c.nothing_is_gained.ensures (fork_of t) s c.args.slots.now c.opened-self.result
+          (opened-learns c.parents_of_nodes_were.ensures c.read_nodes_have_children.ensures t.config (fork_of t) c.opened-self.result c.args.seen stage s c.opened-self.ensures good
+          (subst (λ z. fork_facts (fork_of t) z stage s) c.in-Room.is facts)
+          (subst (λ z. Tells (fork_asks t.config (fork_of t) z) stage c.args.seen s) c.in-Room.is tells));
     }
 
 pub returns-in-Check : goal.returns-in-Check
@@ -98,7 +130,7 @@ returns-in-Check c =
       full_swaps = ends.full_swaps;
       full_nodes = ends.full_nodes;
       learns = λ stage s same good free facts tells. no-slot c.nothing_is_gained.ensures (fork_of t) s c.args.slots.now c.told-self.result
-          (told-learns c.parents_of_nodes_were.ensures c.guarded_links_stand.ensures c.ranges_stay.ensures t.config (fork_of t) c.told-self.result c.args.seen stage s c.told-self.ensures same good
+          (told-learns c.parents_of_nodes_were.ensures c.guarded_links_stand.ensures c.ranges_stay.ensures c.read_nodes_have_children.ensures t.config (fork_of t) c.told-self.result c.args.seen stage s c.told-self.ensures good
           (subst (λ z. fork_facts (fork_of t) z stage s) c.in-Check.is facts)
           (subst (λ z. Tells (fork_asks t.config (fork_of t) z) stage c.args.seen s) c.in-Check.is tells));
     }
