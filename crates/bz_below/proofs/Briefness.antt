@@ -2,7 +2,7 @@
 use Rattle.std.proofs.Common.{◌≡◌, ◌+◌, ◌≤◌, arith}
 use Rattle.std.specs.Prelude.{Some}
 use Rattle.bz_task.specs.declared.todo.Outcome.TheVariants.{NeedsRoom}
-use Rattle.bz_below.specs.Duties.{WantOfRoomIsToldAtOnce}
+use Rattle.bz_below.specs.Duties.{WantOfRoomCostsLittle}
 use Rattle.bz_below.specs.Facts.{below_acts, below_fails, below_end, below_left}
 use Rattle.bz_below.specs.declared.phase.Phase.{Phase}
 use Rattle.bz_below.specs.declared.phase.Phase.TheVariants.{Fresh, Room, Word, Again, Guard, Store, Flush, Named, Swap, Done, Restart, NoRoom, NoSlot, NoSwap}
@@ -23,5 +23,5 @@ few-done Restart e = absurd (cc)
 few-done NoSlot e = absurd (cc)
 few-done NoSwap e = absurd (cc)
 
-pub told-at-once : WantOfRoomIsToldAtOnce
-told-at-once t e = omega (arith, few-done t.phase e)
+pub costs-little : WantOfRoomCostsLittle
+costs-little t e = omega (arith, few-done t.phase e)

@@ -43,5 +43,5 @@ abbrev pub differs_below : SplitBelow → Seen → Type 0
 differs_below t = below_differs t.lower t.phase
 
 -- where it ends for want of room, all its acts are left but these few
-abbrev pub WantOfRoomIsToldAtOnce : Type 0
-WantOfRoomIsToldAtOnce = (t : SplitBelow) → end_below t ≡ Some NeedsRoom → below_acts ≤ left_below t + below_fails
+abbrev pub WantOfRoomCostsLittle : Type 0
+WantOfRoomCostsLittle = (t : SplitBelow) → end_below t ≡ Some NeedsRoom → below_acts ≤ left_below t + below_fails

@@ -1,6 +1,6 @@
 //! What is known of a parent that was read word by word, and of the link to it. Each function does nothing: its contract is the law.
 
-ghost use Rattle.bz_below.specs.Duties.{WantOfRoomIsToldAtOnce};
+ghost use Rattle.bz_below.specs.Duties.{WantOfRoomCostsLittle};
 ghost use Rattle.bz_below.specs.Guards.{LinksLeaveTheirNodes, LinksStandOn};
 ghost use Rattle.bz_below.specs.Parents.{ReadParentsWere};
 
@@ -45,6 +45,6 @@ pub fn links_stand_on()
 }
 
 /// Where a split ends for want of room, it has loaded one word, and no more.
-pub fn want_of_room_is_told_at_once()
-    ensures { WantOfRoomIsToldAtOnce }
+pub fn want_of_room_costs_little()
+    ensures { WantOfRoomCostsLittle }
 {}

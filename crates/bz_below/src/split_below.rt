@@ -48,9 +48,10 @@ const READ_LOADS: u32 = NODE_WORDS + 1;
 /// The split of the frozen leaf that a view shows, below a parent. It ends with Done where a new parent, with the leaf's halves in
 /// its place, has taken the old one's place, which is frozen; with Restart where the parent's status or the link to it was another one,
 /// or the guard of that link a frozen node's; with NeedsRoom where the parent has no room for the separator, as its status tells before
-/// a word of it is read; and with Full where fewer than three slots or no descriptor were left. Where others take slots while it reads the parent, it reads the parent anew before it
-/// takes its own, in as many loads as `MOST_WAITS` readings of all words take. The swap names the guard as it is when the nodes are
-/// durable: swaps on the node of the link that left this link as it was are no reason to begin again.
+/// a word of it is read; and with Full where fewer than three slots or no descriptor were left. Where others take slots while it reads
+/// the parent, it reads the parent anew before it takes its own, in as many loads as `MOST_WAITS` readings of all words take. The swap
+/// names the guard as it is when the nodes are durable: swaps on the node of the link that left this link as it was are no reason to
+/// begin again.
 #[derive(Drop)]
 pub struct SplitBelow {
     config: Config,

@@ -2,7 +2,7 @@
 use Rattle.std.proofs.Common.{◌≡◌, ◌+◌, ◌≤◌, arith}
 use Rattle.std.specs.Prelude.{Some}
 use Rattle.bz_task.specs.declared.todo.Outcome.TheVariants.{NeedsRoom}
-use Rattle.bz_fork.specs.Duties.{WantOfRoomIsToldFirst}
+use Rattle.bz_fork.specs.Duties.{WantOfRoomCostsLittle}
 use Rattle.bz_fork.specs.Facts.{fork_acts, fork_fails, fork_end, fork_left}
 use Rattle.bz_fork.specs.declared.phase.Phase.{Phase}
 use Rattle.bz_fork.specs.declared.phase.Phase.TheVariants.{Fresh, Word, Again, Room, Above, Check, Guard, Store, Flush, Swap, Done, Restart, NoRoom, NoSlot, NoSwap}
@@ -24,5 +24,5 @@ few-done Restart e = absurd (cc)
 few-done NoSlot e = absurd (cc)
 few-done NoSwap e = absurd (cc)
 
-pub told-first : WantOfRoomIsToldFirst
-told-first t e = few-done t.phase e
+pub costs-little : WantOfRoomCostsLittle
+costs-little t e = few-done t.phase e

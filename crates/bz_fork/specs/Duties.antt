@@ -43,5 +43,5 @@ abbrev pub differs_fork : SplitInner → Seen → Type 0
 differs_fork t = fork_differs t.upper t.middle t.lower t.phase
 
 -- where it ends for want of room, all its acts are left but these few
-abbrev pub WantOfRoomIsToldFirst : Type 0
-WantOfRoomIsToldFirst = (t : SplitInner) → end_fork t ≡ Some NeedsRoom → fork_acts ≤ left_fork t + fork_fails
+abbrev pub WantOfRoomCostsLittle : Type 0
+WantOfRoomCostsLittle = (t : SplitInner) → end_fork t ≡ Some NeedsRoom → fork_acts ≤ left_fork t + fork_fails

@@ -36,7 +36,8 @@ const SPLIT_LINES: u32 = NODE_LINES * SPLIT_SLOTS;
 
 /// The split of an inner node of a path, below a parent. It ends with Done where a new parent, with the node's halves in its place, has
 /// taken the old one's place, and both are frozen; with Restart where a link or a status was another one; with NeedsRoom where the
-/// parent has no room for the separator, as its status tells before a word of it is read; and with Full where fewer than three slots or no descriptor were left.
+/// parent has no room for the separator, as its status tells before a word of it is read; and with Full where fewer than three slots or
+/// no descriptor were left.
 #[derive(Drop)]
 pub struct SplitInner {
     config: Config,
