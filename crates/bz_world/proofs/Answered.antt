@@ -38,12 +38,15 @@ use Rattle.bz_task.specs.declared.todo.Seen.TheVariants as seen
 use Rattle.bz_task.specs.declared.todo.Todo.TheVariants as todo
 use Rattle.bz_world.specs.Inside.Acted.{IsActed, IsTold, HasWon}
 use Rattle.bz_world.specs.Inside.Kept.{IsAwake}
+use Rattle.bz_world.specs.Inside.Lonely.{WhereLonely}
 use Rattle.bz_world.specs.Lab.{mark_of}
 use Rattle.bz_world.specs.Inside.Serving.{IsServing, IsSlot, stage_in, MayGoOn, IsFinishing}
 use Rattle.bz_world.specs.declared.parts.Parts.{Parts}
 use Rattle.bz_world.specs.declared.serving.Serving.{Serving}
 use Rattle.bz_world.specs.Inside.Laws.{StepLaws}
 use Rattle.bz_story.proofs.Powered.{stored-since}
+use Rattle.bz_world.proofs.Lonely.{lonely-act}
+use Rattle.bz_world.proofs.LonelyActs.{own-acted, all-acted, reads-now}
 use Rattle.bz_world.proofs.Powered.{begun-in, leaves-power}
 use Rattle.bz_world.proofs.Staying.{SameFor}
 use Rattle.bz_world.proofs.Quiet.{serves, sees, askable, goes, same-other, same-own, stays, goes-on, answered}
@@ -106,7 +109,7 @@ module _ (b : StepLaws) (old new : Parts) (w : ℕ) (x : Serving) (made : Act) (
   busy-on e = goes-on b old new w x made answer k is-worker a after room living k.free (λ v. elim (cases_eq v w) [
     | inl same ↦ slots v (subst (SameFor old.access new.access) (sym same) (same-own b old new w x made answer k is-worker a e))
     | inr ne ↦ others v ne
-  ])
+  ]) (all-acted b old new w x made answer k is-worker a k.story.filled)
 
   pub later-seen : Sees old.config (after.at (suc (length old.journal.past))) later
   later-seen = b.scenes old.config new.access (with_mark old.journal (mark_of w made)) after w its.opened living (let h : HasBegun old.journal k.story its.opened = begun-in k.living its.call_open in record { from = h.from; before = omega (arith, h.before) })
@@ -116,8 +119,8 @@ module _ (b : StepLaws) (old new : Parts) (w : ℕ) (x : Serving) (made : Act) (
   knows = its.tasked.laws.stable (stage_in old.access (doing_of old.access w)) before later (sym its.tasked.config) its.facts later-seen.scene (lawful w its.opened (begun-in k.living its.call_open))
 
   -- and it is to be told
-  pub be-told : (stage : Stage) (what : Seen) → answer ≢ done.Busy → facts_of x.task stage later → MayGoOn x ⊎ HasWon x what → Hears (asks_of x.task) what → Tells (asks_of x.task) stage what later → IsTold new w x what
-  be-told stage what ne facts finished hears tells = subst (λ p. IsTold p w x what) (sym a.rest) (record {
+  pub be-told : (stage : Stage) (what : Seen) → answer ≢ done.Busy → facts_of x.task stage later → MayGoOn x ⊎ HasWon x what → Hears (asks_of x.task) what → Tells (asks_of x.task) stage what later → WhereLonely old.journal.past w x.call (λ key. stage ≡ Waiting) → IsTold new w x what
+  be-told stage what ne facts finished hears tells waits = subst (λ p. IsTold p w x what) (sym a.rest) (record {
     between = answered b old new w x made answer k is-worker a after room ne living k.free others;
     tasked = its.tasked;
     stage = stage;
@@ -126,6 +129,7 @@ module _ (b : StepLaws) (old new : Parts) (w : ℕ) (x : Serving) (made : Act) (
     finished = finished;
     hears = hears;
     tells = tells;
+    lonely = λ key get lonely. (own-acted b old new w x made answer k is-worker a k.story.filled key get lonely, waits key get (lonely-act w w old.journal.past made lonely));
   })
 
   -- a read answers what the address holds
@@ -162,6 +166,7 @@ module _ (b : StepLaws) (old new : Parts) (w : ℕ) (x : Serving) (made : Act) (
         (no-finish old.access w x (seen.Read v) (λ s f. absurd (cc (reads, f))) its.finishing)
         (subst (λ z. Hears z (seen.Read v)) (sym (its.asks ∙ ap Some asked)) tt)
         (subst (λ z. Tells z Waiting (seen.Read v) later) (sym (its.asks ∙ ap Some asked)) answers)
+        (λ key get lonely. refl)
 
   -- a swap answers whether it took effect
   module _ (entries : List Entry) (t : ℕ) (won : Bool) (asked : its.asked ≡ todo.Swap entries) (swaps : doing_of old.access w ≡ Swapping t) (effect : has_effect new.access t ≡ won) where
@@ -189,6 +194,7 @@ module _ (b : StepLaws) (old new : Parts) (w : ℕ) (x : Serving) (made : Act) (
         (finishes won refl its.finishing)
         (subst (λ z. Hears z (seen.Swapped won)) (sym (its.asks ∙ ap Some asked)) tt)
         (subst (λ z. Tells z (if has_effect old.access t then Took else Waiting) (seen.Swapped won) later) (sym (its.asks ∙ ap Some asked)) (stage-by (has_effect old.access t) (sym (a.step.effect.swaps t) ∙ effect)))
+        (λ key get lonely. absurd (cc ((reads-now old k w x is-worker key get lonely).reads, swaps)))
 
   -- a flush has been made
   module _ (line : ℕ) (asked : its.asked ≡ todo.Flush line) (flushes : doing_of old.access w ≡ Flushing line) (within : line * 8 < length old.access.cached) where
@@ -206,3 +212,4 @@ module _ (b : StepLaws) (old new : Parts) (w : ℕ) (x : Serving) (made : Act) (
         (no-finish old.access w x seen.Flushed (λ s f. absurd (cc (flushes, f))) its.finishing)
         (subst (λ z. Hears z seen.Flushed) (sym (its.asks ∙ ap Some asked)) tt)
         (subst (λ z. Tells z Took seen.Flushed later) (sym (its.asks ∙ ap Some asked)) tt)
+        (λ key get lonely. absurd (cc ((reads-now old k w x is-worker key get lonely).reads, flushes)))

@@ -2,7 +2,7 @@
 use Rattle.std.proofs.Common.{◌≡◌, ◌≢◌, ℕ, ◌+◌, ◌<◌, true, false, List, [], ◌∷◌, ◌++◌, length, slice_index, arith, refl, sym, ap, subst, ◌∙◌, inl, inr, Option, Some, None, append-nil}
 use Rattle.std.specs.Prelude.{get_or, if◌then◌else◌}
 use Rattle.std.specs.Vec.{with_item}
-use Rattle.std.proofs.lemmas.Bool.{cases_eq}
+use Rattle.std.proofs.lemmas.Bool.{cases_eq, true≢false}
 use Rattle.std.proofs.lemmas.List.{get_or_read_under, get_or-set_same, get_or-set_other, length-set}
 use Rattle.bz_call.specs.Pages.{is_page, names_page}
 use Rattle.bz_call.specs.declared.replies.Reply.{Reply}
@@ -23,12 +23,15 @@ use Rattle.bz_world.specs.Inside.Acted.{IsBetween}
 use Rattle.bz_world.specs.Inside.Going.{MustGoOn, MustEnd, MustEndPage, WentOn}
 use Rattle.bz_world.specs.Inside.Kept.{IsTabled, IsAwake}
 use Rattle.bz_world.specs.Inside.Laws.{EndLaws}
+use Rattle.bz_world.specs.Inside.Lonely.{IsLonelyIn}
 use Rattle.bz_world.specs.Inside.Serving.{IsSlot}
 use Rattle.bz_world.specs.declared.answers.Applied.TheVariants as applied
 use Rattle.bz_world.specs.declared.parts.Parts.{Parts}
 use Rattle.bz_world.specs.declared.serving.Serving.{Serving}
 use Rattle.bz_story.proofs.Powered.{stored-since}
 use Rattle.bz_world.proofs.Counting.{pairs-stay}
+use Rattle.bz_world.proofs.Lonely.{none-in}
+use Rattle.bz_world.proofs.LonelyEnds.{ends-briefly}
 use Rattle.bz_world.proofs.Staying.{slot-stays}
 
 -- what is known of a worker does not depend on the journal's pages
@@ -126,6 +129,13 @@ module _ (b : EndLaws) (p : Parts) (w : ℕ) (on : MustGoOn p w) where
             (record { none_open = (b.calls w p.journal.past).own_end n at reply; idle = was.idle; filled = on.filled }))
       ]
 
+      -- beside the call that ended no get was alone
+      none-lonely : (v : ℕ) → IsLonelyIn p.access (mark ∷ p.journal.past) after done.workers.items v
+      none-lonely v = elim (cases_eq v w) [
+        | inl e ↦ subst (IsLonelyIn p.access (mark ∷ p.journal.past) after done.workers.items) (sym e) (none-in p.access (mark ∷ p.journal.past) after done.workers.items w (get_or-set_same p.workers.items w None None (omega (arith, in-table, was.tabled.places))))
+        | inr ne ↦ λ x opened is is-open key get lonely. absurd (let never : None ≡ Some was.opened = sym (b.lonely.alone v w p.journal.past lonely (λ e. ne (sym e))) ∙ was.call_open.is_open in cc never)
+      ]
+
       tabled : IsTabled done
       tabled = let t = was.tabled in record {
         config = t.config;
@@ -159,6 +169,7 @@ module _ (b : EndLaws) (p : Parts) (w : ℕ) (on : MustGoOn p w) where
         sound = sound;
         free = was.free;
         workers = slots;
+        lonely = none-lonely;
       }
 
 -- by a reply that names no page
@@ -179,6 +190,7 @@ end-went b p w n reply at m number plain room = record {
   others = λ v ne. refl;
   spends = record { taken = inl refl; fewer = omega arith; few = omega arith };
   full = λ number moment spent e. m.full spent (cc e);
+  brief = ends-briefly p w n reply at m.on (with_mark p.journal (End w n reply at)) refl m.brief;
 }
   where
     sound : IsSound p.config p.at_start (with_mark p.journal (End w n reply at))
@@ -203,6 +215,7 @@ end-page-went b p w n page next at m number place room = record {
   others = λ v ne. refl;
   spends = record { taken = inl refl; fewer = omega arith; few = omega arith };
   full = λ number moment spent e. absurd (cc e);
+  brief = ends-briefly p w n (Page page next) at m.on (with_mark (with_page p.journal p.page) (End w n (Page page next) at)) refl (λ key get lonely. absurd (true≢false (sym m.asks ∙ ap is_page get)));
 }
   where
     sound : IsSound p.config p.at_start (with_mark (with_page p.journal p.page) (End w n (Page page next) at))

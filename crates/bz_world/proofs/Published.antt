@@ -17,6 +17,7 @@ use Rattle.bz_sight.specs.Effects.{effect_instant}
 use Rattle.bz_sight.specs.Sight.{IsSeen}
 use Rattle.bz_sight.specs.Starts.{Sees}
 use Rattle.bz_sound.specs.Calls.{Open, open_call, with_effect, map_after, map_at}
+use Rattle.bz_sound.specs.Lonely.{IsLonely}
 use Rattle.bz_sound.specs.Memory.ImageLaws.{IsChangeOf, ChangesKey, EffectFollows}
 use Rattle.bz_sound.specs.Memory.Moments.{image_after, map_at_start}
 use Rattle.bz_sound.specs.declared.power.Power.{Power}
@@ -30,6 +31,7 @@ use Rattle.bz_task.specs.Swaps.{Changes, ContentFollows}
 use Rattle.bz_task.specs.declared.todo.Todo.TheVariants as todo
 use Rattle.bz_world.specs.Inside.Acted.{IsStriking}
 use Rattle.bz_world.specs.Inside.Kept.{CountsPairs, IsAwake, IsTabled, AreTaken}
+use Rattle.bz_world.specs.Inside.Lonely.{IsLonelyIn}
 use Rattle.bz_world.specs.Inside.Serving.{IsServing, IsSlot, IsToldBy, effect_reply, size_after, pairs_after}
 use Rattle.bz_world.specs.declared.parts.Parts.{Parts}
 use Rattle.bz_world.specs.declared.serving.Serving.{Serving}
@@ -38,7 +40,8 @@ use Rattle.bz_world.proofs.Counting.{pairs-change}
 use Rattle.bz_world.proofs.Powered.{begun-in, flush-leaves, free-on}
 use Rattle.bz_world.proofs.Staying.{slot-stays}
 use Rattle.bz_world.specs.Inside.Laws.{StrikeLaws}
-use Rattle.bz_world.proofs.Striking.{flush-calls, old, kept, w, x, its, before, waits, good, after, living, opened, took, others}
+use Rattle.bz_world.proofs.Striking.{flush-calls, old, kept, w, x, its, owner, before, waits, good, after, living, opened, took, others}
+use Rattle.bz_world.proofs.LonelyActs.{none-struck}
 use Rattle.bz_world.proofs.StruckQuietly.{image-was, image-is, fault-is, stage-is, its-swap, its-asks, still-does}
 
 -- the reply to a call that makes a change, by what its key had
@@ -220,6 +223,17 @@ module _ (b : StrikeLaws) (p : Parts) (s : ℕ) (h : IsStriking p s) (publishes 
         (subst (IsSlot c p.access (with_mark with_flush effect_mark) told_story (old b p s h).owners.items worker) (sym here-is) serves-on)
   ]
 
+  -- nor is a get of the workers alone
+  none-lonely : (items : List (Option Serving)) → get_or items worker None ≡ Some with_moment → ((v : ℕ) → v ≢ worker → get_or items v None ≡ get_or (old b p s h).workers.items v None)
+      → (v : ℕ) → IsLonelyIn p.access (effect_mark ∷ h.mark ∷ log.past) told_story items v
+  none-lonely items here-is rest v y opened is is-open key get lonely = elim (cases_eq v worker) [
+    | inr ne ↦ absurd (none-struck b p s h v y (sym (rest v ne) ∙ is) key get lonely)
+    | inl e ↦ absurd (
+        let both : Some with_moment ≡ Some y = sym here-is ∙ (ap (λ u. get_or items u None) (sym e) ∙ is) in
+        let same : with_moment ≡ y = cc both in
+        none-struck b p s h worker (x b p s h) (owner b p s h).is key (ap (λ (z : Serving). z.call) same ∙ get) (subst (λ u. IsLonely u (h.mark ∷ log.past)) e lonely))
+  ]
+
   own-call : ¬ (open_call worker log.past ≡ None)
   own-call e = absurd (cc (e, (its b p s h).call_open.is_open))
 
@@ -267,4 +281,5 @@ module _ (b : StrikeLaws) (p : Parts) (s : ℕ) (h : IsStriking p s) (publishes 
     sound = sound;
     free = free-on c log.start log.past h.mark (old b p s h).slots (after b p s h).took (flush-leaves h.mark log.past h.flush) (kept b p s h).free;
     workers = slots workers.items here-is rest;
+    lonely = none-lonely workers.items here-is rest;
   }

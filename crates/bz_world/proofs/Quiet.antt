@@ -23,6 +23,7 @@ use Rattle.bz_task.specs.declared.todo.Todo.{Todo}
 use Rattle.bz_task.specs.declared.todo.Todo.TheVariants as todo
 use Rattle.bz_world.specs.Inside.Acted.{IsActed, IsBetween}
 use Rattle.bz_world.specs.Inside.Kept.{IsTabled, AreTaken, AreFree, IsAwake}
+use Rattle.bz_world.specs.Inside.Lonely.{IsLonelyIn}
 use Rattle.bz_world.specs.Lab.{mark_of}
 use Rattle.bz_world.specs.Inside.Serving.{IsServing, IsDoing, IsSlot, stage_in}
 use Rattle.bz_world.specs.declared.parts.Parts.{Parts}
@@ -143,8 +144,8 @@ module _ (b : StepLaws) (old new : Parts) (w : ℕ) (x : Serving) (made : Act) (
 
   -- the world goes on
   pub goes-on : (after : Story) → length old.journal.past < old.config.marks → IsLiving old.config new.access (with_mark old.journal (mark_of w made)) after
-      → AreFree old.config (image_at_on old.journal.start old.journal.past) old.slots after.took → ((v : ℕ) → IsSlot old.config new.access (with_mark old.journal (mark_of w made)) after old.owners.items v (get_or old.workers.items v None)) → IsAwake new
-  goes-on after room living free slots = subst IsAwake (sym a.rest) (record {
+      → AreFree old.config (image_at_on old.journal.start old.journal.past) old.slots after.took → ((v : ℕ) → IsSlot old.config new.access (with_mark old.journal (mark_of w made)) after old.owners.items v (get_or old.workers.items v None)) → ((v : ℕ) → IsLonelyIn new.access (mark_of w made ∷ old.journal.past) after old.workers.items v) → IsAwake new
+  goes-on after room living free slots lonely = subst IsAwake (sym a.rest) (record {
     on = k.on;
     story = after;
     tabled = subst IsTabled a.rest (tabled room);
@@ -153,6 +154,7 @@ module _ (b : StepLaws) (old new : Parts) (w : ℕ) (x : Serving) (made : Act) (
     sound = sound;
     free = free-on old.config old.journal.start old.journal.past (mark_of w made) old.slots after.took (leaves-power w old.journal.past made) free;
     workers = slots;
+    lonely = lonely;
   })
 
   -- and the worker, whose operation was answered, is to be told

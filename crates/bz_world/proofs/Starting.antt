@@ -5,6 +5,7 @@ use Rattle.std.proofs.lemmas.Bool.{cases_eq}
 use Rattle.std.proofs.lemmas.List.{get_or-set_same, get_or-set_other, length-set}
 use Rattle.bz_running.specs.Duties.{facts_of}
 use Rattle.bz_sight.specs.Starts.{StartsAreSeen, Sees}
+use Rattle.bz_sound.specs.Lonely.{LonelyCallsAreAlone}
 use Rattle.bz_story.specs.Living.{IsLiving}
 use Rattle.bz_story.specs.Story.{Story, scene}
 use Rattle.bz_task.specs.Requests.{IsAskable}
@@ -20,6 +21,7 @@ use Rattle.bz_world.specs.Inside.Laws.{StartLaws}
 use Rattle.bz_world.specs.Inside.Serving.{IsServing, IsDoing, IsSlot, stage_in}
 use Rattle.bz_world.specs.Inside.Telling.{MustStart}
 use Rattle.bz_world.specs.declared.parts.Parts.{Parts}
+use Rattle.bz_world.proofs.Lonely.{in-place, only-own, started-lonely}
 use Rattle.bz_world.proofs.Powered.{begun-in}
 use Rattle.bz_world.proofs.Staying.{SameFor, slot-same}
 
@@ -53,7 +55,7 @@ may-ask b p w todo m =
     }
 
 -- a read, a store or a flush
-module _ (starts : StartsAreSeen) (begun : BegunStayTaken) (p : Parts) (w : ℕ) (todo : Todo) (m : MustStart p w todo) (doing : Doing) (holds : Holds (started p.access w doing)) (does : IsDoing (started p.access w doing) p.owners.items w todo)
+module _ (starts : StartsAreSeen) (begun : BegunStayTaken) (alone : LonelyCallsAreAlone) (p : Parts) (w : ℕ) (todo : Todo) (m : MustStart p w todo) (doing : Doing) (holds : Holds (started p.access w doing)) (does : IsDoing (started p.access w doing) p.owners.items w todo)
     (waits : stage_in (started p.access w doing) doing ≡ Waiting) where
   abbrev between : IsBetween p w m.serving
   between = m.asking.between
@@ -131,4 +133,7 @@ module _ (starts : StartsAreSeen) (begun : BegunStayTaken) (p : Parts) (w : ℕ)
     sound = between.sound;
     free = between.free;
     workers = slots;
+    lonely = only-own alone (started p.access w doing) p.journal.past between.story p.workers.items w between.opened between.call_open.is_open
+        (in-place (started p.access w doing) p.journal.past between.story p.workers.items w m.serving between.opened m.is between.call_open.is_open
+        (λ key get lonely. started-lonely p.access p.journal.past between.story p.owners.items w m.serving between.opened key doing todo (m.asking.lonely key get lonely) does (starts-it p.access w doing work.within)));
   }

@@ -30,6 +30,8 @@ use Rattle.bz_world.proofs.Powered.{begun-in}
 use Rattle.bz_world.proofs.Staying.{covered-stays}
 use Rattle.bz_world.proofs.Quiet.{some-worker, serves, sees, own, goes, same-other, stays, answered}
 use Rattle.bz_world.proofs.Answered.{no-finish}
+use Rattle.bz_world.proofs.Lonely.{lonely-act}
+use Rattle.bz_world.proofs.LonelyActs.{reads-now}
 
 module _ (b : StepLaws) (old new : Parts) (w : ℕ) (x : Serving) (made : Act) (answer : Done) (k : IsAwake old) (is-worker : get_or old.workers.items w None ≡ Some x) (a : IsActed old w made answer None new) (room : length old.journal.past < old.config.marks) where
   abbrev pub its : IsServing old.config old.access old.journal k.story old.owners.items w x
@@ -85,4 +87,5 @@ module _ (b : StepLaws) (old new : Parts) (w : ℕ) (x : Serving) (made : Act) (
       finished = no-finish old.access w x seen.Stored (λ s f. absurd (cc (stores, f))) its.finishing;
       hears = subst (λ z. Hears z seen.Stored) (sym (its.asks ∙ ap Some asked)) tt;
       tells = subst (λ z. Tells z Took seen.Stored later) (sym (its.asks ∙ ap Some asked)) tt;
+      lonely = λ key get lonely. absurd (cc ((reads-now old k w x is-worker key get (lonely-act w w old.journal.past made lonely)).reads, stores));
     })

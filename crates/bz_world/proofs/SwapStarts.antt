@@ -9,6 +9,7 @@ use Rattle.std.proofs.Math.Seq.{get_or-append_seam}
 use Rattle.bz_running.specs.Duties.{facts_of}
 use Rattle.bz_sight.specs.Sight.{IsHidden}
 use Rattle.bz_sight.specs.Starts.{StartsAreSeen, Sees, StoresAreHidden, OwnWordsAreHidden}
+use Rattle.bz_sound.specs.Lonely.{LonelyCallsAreAlone}
 use Rattle.bz_story.specs.Laws.{ScenesAreSeen}
 use Rattle.bz_story.specs.Living.{IsLiving}
 use Rattle.bz_story.specs.Story.{scene}
@@ -28,6 +29,7 @@ use Rattle.bz_world.specs.Inside.Serving.{IsServing, IsDoing, IsSlot, stage_in}
 use Rattle.bz_world.specs.Inside.Telling.{MustStart}
 use Rattle.bz_world.specs.declared.parts.Parts.{Parts}
 use Rattle.bz_world.specs.declared.serving.Serving.{Serving}
+use Rattle.bz_world.proofs.Lonely.{in-place, only-own}
 use Rattle.bz_world.proofs.Powered.{begun-in}
 use Rattle.bz_world.proofs.Starting.{starts-it, starts-others}
 use Rattle.bz_world.proofs.Staying.{finishing-stays}
@@ -63,7 +65,7 @@ module _ (scenes : ScenesAreSeen) (hidden : OwnWordsAreHidden) (p : Parts) (w : 
   ]
 
 -- the swap has the number of the next descriptor, and the table names its worker
-module _ (starts : StartsAreSeen) (scenes : ScenesAreSeen) (begun : BegunStayTaken) (p : Parts) (w : ℕ) (entries : List Entry) (m : MustStart p w (todo.Swap entries)) (may : MaySwap p.access w entries) (ask : All (IsEntryToAsk (scene p.config p.journal.past m.asking.between.story w m.asking.between.opened)) entries)
+module _ (starts : StartsAreSeen) (scenes : ScenesAreSeen) (begun : BegunStayTaken) (alone : LonelyCallsAreAlone) (p : Parts) (w : ℕ) (entries : List Entry) (m : MustStart p w (todo.Swap entries)) (may : MaySwap p.access w entries) (ask : All (IsEntryToAsk (scene p.config p.journal.past m.asking.between.story w m.asking.between.opened)) entries)
     (holds : Holds (swapping p.access w entries)) (list : IsEntryList entries) (room : p.access.taken < p.config.swaps) (owners : Vec ℕ) (size : length owners.items ≡ p.config.swaps) (mine : slice_index owners.items p.access.taken ≡ w)
     (rest : (s : ℕ) → s ≢ p.access.taken → slice_index owners.items s ≡ slice_index p.owners.items s) where
   abbrev was : IsBetween p w m.serving
@@ -217,4 +219,6 @@ module _ (starts : StartsAreSeen) (scenes : ScenesAreSeen) (begun : BegunStayTak
     sound = was.sound;
     free = was.free;
     workers = slots;
+    lonely = only-own alone new p.journal.past was.story p.workers.items w was.opened was.call_open.is_open
+        (in-place new p.journal.past was.story p.workers.items w m.serving was.opened m.is was.call_open.is_open (λ key get lonely. absurd (m.asking.lonely key get lonely)));
   }

@@ -23,11 +23,14 @@ use Rattle.bz_task.specs.declared.todo.Seen.{Seen}
 use Rattle.bz_task.specs.declared.todo.Todo.{Todo}
 use Rattle.bz_world.specs.Inside.Acted.{IsTold, IsAsking, MustTell}
 use Rattle.bz_world.specs.Inside.Going.{end_in, wants_in}
+use Rattle.bz_world.specs.Inside.Laws.{LonelyLaws}
+use Rattle.bz_world.specs.Inside.Lonely.{WhereLonely, AsksBriefly}
 use Rattle.bz_world.specs.Inside.Serving.{IsCovered, IsOpened, IsTasked, IsSlot, IsChangeFor, NeedsAtLeast, MayGoOn}
 use Rattle.bz_world.specs.Inside.Telling.{CanHear, HasTold, HasToldIn, MustStart, KnowsWay, MustStartOf}
 use Rattle.bz_world.specs.declared.parts.Parts.{Parts}
 use Rattle.bz_world.specs.declared.serving.Serving.{Serving}
 use Rattle.bz_sound.specs.Power.Times.{image_at_on}
+use Rattle.bz_world.proofs.LonelyTold.{told-lonely, took-lonely}
 use Rattle.bz_world.proofs.Powered.{begun-in}
 use Rattle.bz_world.proofs.Staying.{covered-stays, slot-scenes}
 use Rattle.bz_world.proofs.Takings.{covered-taken, may-take, no-more-free, still-free}
@@ -50,7 +53,7 @@ full-rightly p w seen m moment todo slot left told ended =
     let lacked = n.told.heard.full_nodes (sym (ap end_in n.is) ∙ ended) in
     omega (arith, lacked, m.told.tasked.laws.few, n.told.heard.wants, ap wants_in n.is, no-more-free (needs_of m.serving.task) (needs_of n.next.task) p.slots left n.told.heard.slots)
 
-module _ (scenes : ScenesAreSeen) (slots : SlotsAreTaken) (p : Parts) (w : ℕ) (seen : Seen) (m : MustTell p w seen) where
+module _ (scenes : ScenesAreSeen) (slots : SlotsAreTaken) (laws : LonelyLaws) (p : Parts) (w : ℕ) (seen : Seen) (m : MustTell p w seen) where
   abbrev x : Serving
   x = m.serving
 
@@ -122,6 +125,9 @@ module _ (scenes : ScenesAreSeen) (slots : SlotsAreTaken) (p : Parts) (w : ℕ) 
     covered = covered-stays (λ k. told.between.story.took w k || is_gained p.slots left k) (after.took w) (told.between.story.filled w) (told.between.story.filled w) (needs_of y.task) (λ k. ap (λ (z : Scene). z.took k) later) (λ k e. e)
         (covered-taken (told.between.story.took w) (told.between.story.filled w) (needs_of x.task) (needs_of y.task) p.slots left h.heard.slots told.covered)
 
+    lonely : WhereLonely p.journal.past w y.call (λ key. AsksBriefly p.access p.journal.past after w y told.between.opened key todo)
+    lonely key get alone = took-lonely p.access p.journal.past told.between.story w y told.between.opened key p.slots left todo (told-lonely laws p w x seen told sees.scene (length p.journal.past) todo left y h key get alone)
+
     living : IsLiving p.config p.access p.journal after
     living = slots.living p.config p.access p.journal told.between.story w p.slots left told.between.living (may-take p.config (image_at_on p.journal.start p.journal.past) told.between.story p.slots left told.between.free)
 
@@ -171,6 +177,7 @@ module _ (scenes : ScenesAreSeen) (slots : SlotsAreTaken) (p : Parts) (w : ℕ) 
       ];
       facts = facts;
       covered = covered;
+      lonely = lonely;
     }
 
   pub must-start : (todo : Todo) (left : FreeSlots) (old slot : Option Serving) → old ≡ Some x → HasToldIn old seen (length p.journal.past) p.slots todo slot left → MustStart (record p { slots = left; workers = with_item p.workers w slot }) w todo

@@ -12,9 +12,9 @@ start-requires-clause-asks c = taken-asks c.args.parts.now c.args.w c.seek-task.
     (lookup-taken c.args.parts.now c.args.w c.requires.on c.requires.may c.seek-task.result None (Some (Read 2)) c.key_of.result c.seek-task.ensures.config c.laws.ensures c.seek-task.ensures.silent (c.seek-task.ensures.ends None)
     (c.key_of.ensures ∙ ap key_of (sym (call-is c.args.parts.now c.args.w c.requires.on c.index.result.now c.called-call.result c.index.ensures c.called-call.ensures)))
     c.seek-task.ensures.asks (c.seek-task.ensures.facts (known c.args.parts.now c.args.w c.requires.on) (has-filled c.args.parts.now c.args.w c.requires.on))
-    (none-wanted c.args.parts.now c.args.w c.requires.on c.seek-task.result c.seek-task.ensures.wants))
+    (none-wanted c.args.parts.now c.args.w c.requires.on c.seek-task.result c.seek-task.ensures.wants) (λ key get lonely. absurd (c.requires.other key get lonely)))
     c.set_task.new.slot (c.set_task.ensures ∙ ap (λ (z : Option Serving). with_task z c.seek-task.result None) (slot-is c.args.parts.now c.args.w c.requires.on c.index_mut.result.now c.index_mut.ensures.value))
-    c.requires.on.between.call_open.told (Read 2) refl
+    c.requires.on.between.call_open.told c.requires.other (Read 2) refl
 
 pub returns-clause-went : goal.returns-clause-went
 returns-clause-went c = went-started c.args.parts.now (with_item c.args.parts.now.workers c.args.w c.set_task.new.slot) c.args.w c.start.new.parts (starts-always _ 2 c.start.new.parts c.start.result c.start.ensures.started c.start.ensures.lacks) c.start.ensures.rest c.start.ensures.taken c.start.ensures.others
