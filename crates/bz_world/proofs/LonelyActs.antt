@@ -1,5 +1,5 @@
 -- A get that is made while no other call is open, by an act, an eviction and an effect.
-use Rattle.std.proofs.Common.{◌≡◌, ◌≢◌, ℕ, ◌<◌, Bool, ◌∷◌, length, arith, refl, sym, ap, subst, ◌∙◌, inl, inr, Some, None, List}
+use Rattle.std.proofs.Common.{◌≡◌, ℕ, ◌<◌, Bool, ◌∷◌, length, refl, sym, subst, ◌∙◌, inl, inr, Some, None}
 use Rattle.std.specs.Prelude.{get_or}
 use Rattle.std.proofs.lemmas.Bool.{cases_eq}
 use Rattle.bz_acts.specs.declared.acted.Act.{Act}

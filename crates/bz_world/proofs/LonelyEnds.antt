@@ -1,7 +1,6 @@
 -- A get that is made while no other call is open, whose look-up has ended.
-use Rattle.std.proofs.Common.{◌≡◌, ◌≢◌, ℕ, suc, ◌+◌, ◌*◌, ◌≤◌, arith, refl, sym, ap, subst, ◌∙◌, true, false, List, ◌∷◌, Option, Some, None}
+use Rattle.std.proofs.Common.{◌≡◌, ◌≢◌, ℕ, ◌*◌, ◌≤◌, arith, refl, sym, ap, subst, ◌∙◌, List, ◌∷◌, Option, Some, None}
 use Rattle.std.specs.Prelude.{get_or}
-use Rattle.std.proofs.lemmas.Bool.{true≢false}
 use Rattle.bz_alone.specs.Alone.{IsAlone}
 use Rattle.bz_alone.specs.Brief.{IsBrief, LooksFor}
 use Rattle.bz_alone.specs.Reads.{get_reads}
@@ -16,7 +15,6 @@ use Rattle.bz_running.specs.declared.running.Running.{Running}
 use Rattle.bz_sound.specs.Calls.{Open}
 use Rattle.bz_sound.specs.Lonely.{acts_since}
 use Rattle.bz_sound.specs.Memory.Moments.{image_at}
-use Rattle.bz_story.specs.Laws.{ScenesAreSeen}
 use Rattle.bz_swap.specs.SwapMemory.{SwapMemory}
 use Rattle.bz_task.specs.Outcomes.{IsPath, IsKeyView}
 use Rattle.bz_task.specs.Scene.{Scene}

@@ -1,5 +1,5 @@
 -- A get that is made while no other call is open, whose task is told what it read.
-use Rattle.std.proofs.Common.{◌≡◌, ◌≢◌, ℕ, ◌+◌, arith, refl, sym, ap, subst, ◌∙◌, List, Option, Some}
+use Rattle.std.proofs.Common.{◌≡◌, ◌≢◌, ℕ, arith, refl, sym, ap, subst, ◌∙◌, List, Option, Some}
 use Rattle.bz_alone.specs.Alone.{IsAlone}
 use Rattle.bz_alone.specs.Brief.{IsBrief}
 use Rattle.bz_layout.specs.Slots.{FreeSlots}

@@ -1,4 +1,4 @@
-use Rattle.std.proofs.Common.{◌≡◌, true, false, sym, ap, ◌∙◌, inl}
+use Rattle.std.proofs.Common.{ap, ◌∙◌, inl}
 use Rattle.std.proofs.lemmas.Bool.{true≢false}
 use Rattle.bz_world.specs.Inside.Going.{froze_in}
 use Rattle.bz_world.proofs.TakingOn.{slot-is, call-is}

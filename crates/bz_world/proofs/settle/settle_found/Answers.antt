@@ -1,4 +1,4 @@
-use Rattle.std.proofs.Common.{◌≡◌, ℕ, inl, Some}
+use Rattle.std.proofs.Common.{◌≡◌, inl, Some}
 use Rattle.bz_running.specs.Duties.{end_of}
 use Rattle.bz_task.specs.declared.todo.Outcome.TheVariants.{Key}
 use Rattle.bz_task.specs.declared.todo.Todo.TheVariants.{Finish}
