@@ -111,7 +111,7 @@ unfolding order.is_before
 same-below None key = refl
 same-below (Some next) key = refl
 
--- a moment directly after a load of the worker's own, since its call began, which had no effect
+-- a moment directly after a load of the worker's own, since its look-up began, of a call which had no effect
 pub record IsLooking (p : Parts) (w at : ℕ) (on : MustGoOn p w) : Type 0 where
   pub since : (known p w on).past.since ≤ at
   pub now : at ≤ (known p w on).past.now
@@ -137,7 +137,7 @@ module _ (b : AnswerLaws) (p : Parts) (w at : ℕ) (on : MustGoOn p w) (l : IsLo
 
   -- the moment is of this life of the memory
   since : was.story.from ≤ at
-  since = omega (arith, l.since, was.living.begins w was.opened was.call_open.is_open)
+  since = omega (arith, l.since, was.call_open.look.after_begin, was.living.begins w was.opened was.call_open.is_open)
 
   pub good : IsGood p.config (past.at at)
   good = was.living.history.good at since l.now
@@ -149,7 +149,7 @@ module _ (b : AnswerLaws) (p : Parts) (w at : ℕ) (on : MustGoOn p w) (l : IsLo
   reads = record {
     is_open = was.call_open.is_open;
     quiet = was.call_open.effect ∙ l.quiet;
-    after_begin = omega (arith, l.since);
+    after_begin = omega (arith, l.since, was.call_open.look.after_begin);
     before_end = l.now;
     loaded = after-load w at p.journal.past l.now l.loads;
   }

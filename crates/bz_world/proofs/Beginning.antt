@@ -1,5 +1,5 @@
 -- A call that has begun, with the lookup of its key.
-use Rattle.std.proofs.Common.{◌≡◌, ◌≢◌, ◌⊎◌, ℕ, ◌+◌, ◌^◌, ◌<◌, ◌≤◌, ◌==◌, if◌then◌else◌, Bool, true, false, List, [], ◌∷◌, length, slice_index, slice_set, arith, refl, sym, ap, subst, ◌∙◌, inl, inr, Option, Some, None}
+use Rattle.std.proofs.Common.{◌≡◌, ◌≢◌, ◌⊎◌, ℕ, suc, ◌+◌, ◌^◌, ◌<◌, ◌≤◌, ◌==◌, if◌then◌else◌, Bool, true, false, List, [], ◌∷◌, length, slice_index, slice_set, arith, refl, sym, ap, subst, ◌∙◌, inl, inr, Option, Some, None}
 use Rattle.std.specs.Prelude.{get_or, map}
 use Rattle.std.specs.Global.{Vec}
 use Rattle.std.specs.Vec.{with_item}
@@ -122,7 +122,7 @@ module _ (p : Parts) (k : IsAwake p) (w : ℕ) (call : Call) (may : MayBegin p w
           same = record { doing = refl; begun = refl; taken = refl; size = refl; effects = λ t d. refl };
           calls = (b.calls v p.journal.past).other_begin w n call (λ e. ne (sym e));
           from = refl;
-          lawful = λ o begins. b.quiet p.config p.access p.access p.journal k.story mark v o no-act (λ a out n. refl) begins;
+          lawful = λ m o begins. b.quiet p.config p.access p.access p.journal k.story mark v m o no-act (λ a out n. refl) begins;
           took = λ j. refl;
           filled = λ j e. e;
         }) (k.workers v))
@@ -187,11 +187,11 @@ module _ (p : Parts) (k : IsAwake p) (w : ℕ) (call : Call) (may : MayBegin p w
       worker = may.worker;
       within = may.within;
       opened = opened;
-      call_open = record { is_open = (b.calls w p.journal.past).own_begin n call; call = refl; effect = refl; begun = omega arith; told = λ at e. absurd (cc e); wanted = λ quiet some. absurd (omega (arith, some, wants)) };
+      call_open = record { is_open = (b.calls w p.journal.past).own_begin n call; call = refl; effect = refl; look = record { since = suc (length p.journal.past); after_begin = omega arith; by_now = omega arith }; told = λ at e. absurd (cc e); wanted = λ quiet some. absurd (omega (arith, some, wants)) };
       idle = at-rest.idle;
     }
 
-    none-taken : HasFilled (scene p.config (mark ∷ p.journal.past) after w opened)
+    none-taken : HasFilled (scene p.config (mark ∷ p.journal.past) after w (suc (length p.journal.past)) opened)
     none-taken i e = at-rest.filled i e
 
     -- where no other call is open it is a brief look-up
@@ -214,7 +214,7 @@ module _ (p : Parts) (k : IsAwake p) (w : ℕ) (call : Call) (may : MayBegin p w
         tasked = record { config = config; laws = laws; lookup = lookup; change = inl looks };
         asks = asks;
         finished = inl (inl refl);
-        facts = facts (scene p.config (mark ∷ p.journal.past) after w opened) none-taken;
+        facts = facts (scene p.config (mark ∷ p.journal.past) after w (suc (length p.journal.past)) opened) none-taken;
         covered = none-unfilled (k.story.took w) (k.story.filled w) (needs_of task) (omega (arith, laws.few, laws.most)) at-rest.filled;
         lonely = lonely-begun;
       };

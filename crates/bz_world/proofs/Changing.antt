@@ -83,7 +83,7 @@ module _ (scenes : ScenesAreSeen) (b : AnswerLaws) (p : Parts) (w : ℕ) (view :
 
   -- the view is of this life of the memory
   since : m.on.between.story.from ≤ view.at
-  since = omega (arith, m.viewed.since, m.on.between.living.begins w m.on.between.opened m.on.between.call_open.is_open)
+  since = omega (arith, m.viewed.since, m.on.between.call_open.look.after_begin, m.on.between.living.begins w m.on.between.opened m.on.between.call_open.is_open)
 
   -- the status of the key's leaf was the one that was viewed
   status-is : durable p.config (m.on.between.story.at view.at) view.slot STATUS_AT ≡ view.status
@@ -109,7 +109,7 @@ module _ (scenes : ScenesAreSeen) (b : AnswerLaws) (p : Parts) (w : ℕ) (view :
     enough = enough;
     needs = record {
       moment = view.at;
-      after_begin = omega (arith, m.viewed.since);
+      after_begin = omega (arith, m.viewed.since, m.on.between.call_open.look.after_begin);
       before_end = m.viewed.now;
       frozen = subst (λ k. (leaf_page p.config (image_at p.journal.start view.at p.journal.past) k).frozen ≡ true) key-back (ap (λ (z : Page). z.frozen) leaf-is ∙ (ap (λ st. (status st).frozen) status-is ∙ frozen));
       needed = subst (λ k. slots_for (live_words (leaf_page p.config (image_at p.journal.start view.at p.journal.past) k)) ≡ slots_for (live_of (node_of view.image.0))) key-back (ap slots_for live-is);

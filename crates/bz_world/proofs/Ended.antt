@@ -39,7 +39,7 @@ slot-pages : (c : Config) (m : SwapMemory) (log : Log) (pages : Pages) (story : 
 slot-pages c m log pages story owners v None h = record { none_open = h.none_open; idle = h.idle; filled = h.filled }
 slot-pages c m log pages story owners v (Some x) h = record {
   opened = h.opened;
-  call_open = let o = h.call_open in record { is_open = o.is_open; call = o.call; effect = o.effect; begun = o.begun; told = o.told; wanted = o.wanted };
+  call_open = let o = h.call_open in record { is_open = o.is_open; call = o.call; effect = o.effect; look = o.look; told = o.told; wanted = o.wanted };
   tasked = h.tasked;
   asked = h.asked;
   asks = h.asks;
@@ -111,7 +111,7 @@ module _ (b : EndLaws) (p : Parts) (w : ℕ) (on : MustGoOn p w) where
       same = record { doing = refl; begun = refl; taken = refl; size = refl; effects = λ t d. refl };
       calls = (b.calls v p.journal.past).other_end w n at reply (λ e. ne (sym e));
       from = refl;
-      lawful = λ o begins. b.quiet p.config p.access p.access p.journal was.story mark v o no-act (λ a out n. refl) begins;
+      lawful = λ m o begins. b.quiet p.config p.access p.access p.journal was.story mark v m o no-act (λ a out n. refl) begins;
       took = λ j. refl;
       filled = λ j e. e;
     }) (was.others v ne)

@@ -129,7 +129,7 @@ module _ (b : StepLaws) (sees : EvictionsAreSeen) (old new : Parts) (a : ℕ) (k
     same = same v;
     calls = refl;
     from = refl;
-    lawful = λ o begins. b.quiet old.config old.access new.access old.journal k.story (Evict a) v o goes (sees.leaves old.access new.access a None e.eviction) begins;
+    lawful = λ m o begins. b.quiet old.config old.access new.access old.journal k.story (Evict a) v m o goes (sees.leaves old.access new.access a None e.eviction) begins;
     took = λ j. refl;
     filled = λ j h. h;
   }) (k.workers v)

@@ -6,6 +6,7 @@ use Rattle.std.proofs.lemmas.Bool.Decides.{nat_tests}
 use Rattle.bz_acts.specs.declared.acted.Act.{Act}
 use Rattle.bz_acts.specs.declared.acted.Act.TheVariants as act
 use Rattle.bz_alone.specs.Brief.{AllIdle, LooksFor}
+use Rattle.bz_alone.specs.Quiet.{EffectsNeverFall}
 use Rattle.bz_layout.specs.declared.config.Config.{Config}
 use Rattle.bz_mark.specs.Log.{Log}
 use Rattle.bz_mark.specs.declared.marks.Mark.{Mark}
@@ -19,6 +20,7 @@ use Rattle.bz_story.specs.Story.{Story, and_then}
 use Rattle.bz_swap.specs.Starts.{started}
 use Rattle.bz_swap.specs.SwapMemory.{SwapMemory, Doing, Idle, Reading, doing_of}
 use Rattle.bz_task.specs.Instant.{Instant}
+use Rattle.bz_task.specs.Steps.{IsHistory}
 use Rattle.bz_task.specs.declared.path.Path.{Path}
 use Rattle.bz_task.specs.declared.todo.Todo.{Todo}
 use Rattle.bz_task.specs.declared.todo.Todo.TheVariants as todo
@@ -70,6 +72,13 @@ before-is at n m y l = let t : (m == suc n) ≡ false = grind (arith, nat_tests)
 
 pub alone-on : (at : ℕ → Instant) (n begun : ℕ) (y : Instant) → begun < n → y.effects ≡ (at n).effects → (at n).effects ≡ (at (suc begun)).effects → (and_then at n y (suc n)).effects ≡ (and_then at n y (suc begun)).effects
 alone-on at n begun y l same was = ap (λ (z : Instant). z.effects) (now-is at n y) ∙ (same ∙ (was ∙ sym (ap (λ (z : Instant). z.effects) (before-is at n (suc begun) y (omega (arith, l))))))
+
+-- nor since its look-up began, which was after that
+pub alone-since : EffectsNeverFall → (c : Config) (at : ℕ → Instant) (first last begun since : ℕ) → IsHistory c at first last → first ≤ begun → begun < since → since ≤ last → (at last).effects ≡ (at (suc begun)).effects → (at last).effects ≡ (at since).effects
+alone-since fall c at first last begun since history from after now same =
+    let earlier : (at (suc begun)).effects ≤ (at since).effects = fall c at first last (suc begun) since history (record { since = omega (arith, from); order = omega (arith, after); until = now }) in
+    let later : (at since).effects ≤ (at last).effects = fall c at first last since last history (record { since = omega (arith, from, after); order = now; until = omega arith }) in
+    omega (arith, earlier, later, same)
 
 -- its task looks for something
 pub looks-some : (key : List ℕ) (way : Option Path) (t : Running) → LooksFor key way t → look_of t ≢ NoLook

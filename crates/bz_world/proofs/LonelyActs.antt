@@ -1,5 +1,5 @@
 -- A get that is made while no other call is open, by an act, an eviction and an effect.
-use Rattle.std.proofs.Common.{◌≡◌, ℕ, ◌<◌, Bool, ◌∷◌, length, refl, sym, subst, ◌∙◌, inl, inr, Some, None}
+use Rattle.std.proofs.Common.{◌≡◌, ℕ, ◌<◌, Bool, ◌∷◌, length, arith, refl, sym, subst, ◌∙◌, inl, inr, Some, None}
 use Rattle.std.specs.Prelude.{get_or}
 use Rattle.std.proofs.lemmas.Bool.{cases_eq}
 use Rattle.bz_acts.specs.declared.acted.Act.{Act}
@@ -42,7 +42,7 @@ module _ (b : StepLaws) (old new : Parts) (w : ℕ) (x : Serving) (made : Act) (
     brief = subst (λ n. IsBrief new.access w n key x.path x.task) (sym (acts-act w old.journal.past made))
         (b.lonely.brief.step old.access new.access w reads.address made answer None (acts_since w old.journal.past) key x.path x.task reads.reads a.step was.brief).1;
     looks = was.looks;
-    alone = alone-on k.story.at (length old.journal.past) its.opened.begun (next_instant new.access (k.story.at (length old.journal.past))) its.call_open.begun refl was.alone;
+    alone = alone-on k.story.at (length old.journal.past) its.opened.begun (next_instant new.access (k.story.at (length old.journal.past))) (omega (arith, its.call_open.look.after_begin, its.call_open.look.by_now)) refl was.alone;
     quiet = was.quiet;
     thawed = was.thawed;
   }
@@ -83,7 +83,7 @@ all-evicted b old new a k e v x opened is is-open key get lonely = record {
     begun =
         let calls : Some (serves old k v x is).opened ≡ Some opened = sym (serves old k v x is).call_open.is_open ∙ is-open in
         let same : (serves old k v x is).opened ≡ opened = cc calls in
-        subst (λ (o : Open). o.begun < length old.journal.past) same (serves old k v x is).call_open.begun
+        subst (λ (o : Open). o.begun < length old.journal.past) same (omega (arith, (serves old k v x is).call_open.look.after_begin, (serves old k v x is).call_open.look.by_now))
 
 -- where a swap takes effect no get is alone
 pub none-struck : (b : StrikeLaws) (p : Parts) (s : ℕ) (h : IsStriking p s) (v : ℕ) (x : Serving) → get_or (old b p s h).workers.items v None ≡ Some x → IsNotLonely (h.mark ∷ (old b p s h).journal.past) v x.call

@@ -1,5 +1,5 @@
 -- A get that is made while no other call is open, whose look-up has ended.
-use Rattle.std.proofs.Common.{◌≡◌, ◌≢◌, ℕ, ◌*◌, ◌≤◌, arith, refl, sym, ap, subst, ◌∙◌, List, ◌∷◌, Option, Some, None}
+use Rattle.std.proofs.Common.{◌≡◌, ◌≢◌, ℕ, ◌*◌, ◌≤◌, length, arith, refl, sym, ap, subst, ◌∙◌, List, ◌∷◌, Option, Some, None}
 use Rattle.std.specs.Prelude.{get_or}
 use Rattle.bz_alone.specs.Alone.{IsAlone}
 use Rattle.bz_alone.specs.Brief.{IsBrief, LooksFor}
@@ -27,7 +27,7 @@ use Rattle.bz_world.specs.Inside.Laws.{LonelyLaws}
 use Rattle.bz_world.specs.Inside.Lonely.{WhereLonely, IsNotLonely, IsNotLonelyIn, HasLooked}
 use Rattle.bz_world.specs.Lab.{GetsBriefly}
 use Rattle.bz_world.specs.declared.parts.Parts.{Parts}
-use Rattle.bz_world.proofs.Lonely.{looks-some}
+use Rattle.bz_world.proofs.Lonely.{looks-some, alone-since}
 use Rattle.bz_world.proofs.TakingOn.{known-scene}
 
 -- it ends with the path, or with what was found of the key
@@ -90,7 +90,11 @@ few-acts b p w view m key get lonely = subst (λ i. acts_since w p.journal.past 
     way = some-way key m.on.serving.path m.on.serving.task view (h.get.looks.ends (outcome.Key view) m.ends.1) h.get.brief.looks
 
     alone : IsAlone 0 here.past
-    alone = omega (arith, h.get.alone)
+    alone = omega (
+      arith,
+      alone-since b.fall p.config m.on.between.story.at m.on.between.story.from (length p.journal.past) m.on.between.opened.begun m.on.between.call_open.look.since m.on.between.living.history
+          (m.on.between.living.begins w m.on.between.opened m.on.between.call_open.is_open) m.on.between.call_open.look.after_begin m.on.between.call_open.look.by_now h.get.alone,
+    )
 
     viewed : IsKeyView key view here.past
     viewed = subst (λ k. IsKeyView k view here.past) (ap key_of get) m.viewed
@@ -102,7 +106,7 @@ few-acts b p w view m key get lonely = subst (λ i. acts_since w p.journal.past 
     few = b.few p.access w (acts_since w p.journal.past) key way.path m.on.serving.task view here (subst (λ z. IsBrief p.access w (acts_since w p.journal.past) key z m.on.serving.task) way.is h.get.brief) h.get.looks (known-scene b.scenes p w m.on) alone m.ends.0 m.ends.1 viewed leads
 
     image : (here.past.at view.at).image ≡ image_at p.journal.start view.at p.journal.past
-    image = m.on.between.living.images view.at (omega (arith, m.viewed.since, m.on.between.living.begins w m.on.between.opened m.on.between.call_open.is_open)) m.viewed.now
+    image = m.on.between.living.images view.at (omega (arith, m.viewed.since, m.on.between.call_open.look.after_begin, m.on.between.living.begins w m.on.between.opened m.on.between.call_open.is_open)) m.viewed.now
 
 -- and its End says so
 pub ends-briefly : (p : Parts) (w n : ℕ) (reply : Reply) (at : ℕ) (on : MustGoOn p w) (new : Log) → new.past ≡ End w n reply at ∷ p.journal.past

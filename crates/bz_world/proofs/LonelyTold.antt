@@ -1,5 +1,5 @@
 -- A get that is made while no other call is open, whose task is told what it read.
-use Rattle.std.proofs.Common.{◌≡◌, ◌≢◌, ℕ, arith, refl, sym, ap, subst, ◌∙◌, List, Option, Some}
+use Rattle.std.proofs.Common.{◌≡◌, ◌≢◌, ℕ, length, arith, refl, sym, ap, subst, ◌∙◌, List, Option, Some}
 use Rattle.bz_alone.specs.Alone.{IsAlone}
 use Rattle.bz_alone.specs.Brief.{IsBrief}
 use Rattle.bz_layout.specs.Slots.{FreeSlots}
@@ -25,11 +25,11 @@ use Rattle.bz_world.specs.Inside.Lonely.{WhereLonely, IsLonelyGet, AsksBriefly}
 use Rattle.bz_world.specs.Inside.Telling.{HasTold}
 use Rattle.bz_world.specs.declared.parts.Parts.{Parts}
 use Rattle.bz_world.specs.declared.serving.Serving.{Serving}
-use Rattle.bz_world.proofs.Lonely.{looks-some}
+use Rattle.bz_world.proofs.Lonely.{looks-some, alone-since}
 
-module _ (b : LonelyLaws) (p : Parts) (w : ℕ) (x : Serving) (seen : Seen) (told : IsTold p w x seen) (good : IsScene (scene p.config p.journal.past told.between.story w told.between.opened)) (moment : ℕ) (asked : Todo) (left : FreeSlots) (y : Serving) (h : HasTold x seen moment p.slots asked y left) where
+module _ (b : LonelyLaws) (p : Parts) (w : ℕ) (x : Serving) (seen : Seen) (told : IsTold p w x seen) (good : IsScene (scene p.config p.journal.past told.between.story w told.between.call_open.look.since told.between.opened)) (moment : ℕ) (asked : Todo) (left : FreeSlots) (y : Serving) (h : HasTold x seen moment p.slots asked y left) where
   abbrev here : Scene
-  here = scene p.config p.journal.past told.between.story w told.between.opened
+  here = scene p.config p.journal.past told.between.story w told.between.call_open.look.since told.between.opened
 
   module _ (key : List ℕ) (was : IsLonelyGet p.access p.journal.past told.between.story w x told.between.opened key) (waits : told.stage ≡ Waiting) where
     looked : look_of x.task ≢ NoLook
@@ -39,7 +39,11 @@ module _ (b : LonelyLaws) (p : Parts) (w : ℕ) (x : Serving) (seen : Seen) (tol
     looks e = looked (sym h.counts.look ∙ e)
 
     alone : IsAlone 0 here.past
-    alone = omega (arith, was.alone)
+    alone = omega (
+      arith,
+      alone-since b.fall p.config told.between.story.at told.between.story.from (length p.journal.past) told.between.opened.begun told.between.call_open.look.since told.between.living.history
+          (told.between.living.begins w told.between.opened told.between.call_open.is_open) told.between.call_open.look.after_begin told.between.call_open.look.by_now was.alone,
+    )
 
     stands : end_of y.task ≢ Some Restart
     stands = b.goes_on x.task y.task seen moment p.slots left asked here (sym told.tasked.config) good (subst (λ z. facts_of x.task z here) waits told.facts) alone looked was.looks (subst (λ z. Tells (asks_of x.task) z seen here) waits told.tells) h.heard

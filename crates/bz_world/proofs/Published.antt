@@ -149,7 +149,7 @@ module _ (b : StrikeLaws) (p : Parts) (s : ℕ) (h : IsStriking p s) (publishes 
     same = record { doing = refl; begun = refl; taken = refl; size = refl; effects = λ t d. refl };
     calls = (b.calls v (h.mark ∷ log.past)).other_effect worker its-open.number (λ e. ne (sym e));
     from = refl;
-    lawful = λ o begins. b.quiet c p.access p.access with_flush (after b p s h) effect_mark v o no-act (λ a out n. refl) begins;
+    lawful = λ m o begins. b.quiet c p.access p.access with_flush (after b p s h) effect_mark v m o no-act (λ a out n. refl) begins;
     took = λ j. refl;
     filled = λ j e. e;
   }) (others b p s h v ne)
@@ -164,19 +164,22 @@ module _ (b : StrikeLaws) (p : Parts) (s : ℕ) (h : IsStriking p s) (publishes 
   is-open : open_call worker (effect_mark ∷ h.mark ∷ log.past) ≡ Some effected
   is-open = (b.calls worker (h.mark ∷ log.past)).own_effect its-open.number ∙ ap (option_map (with_effect (suc (length log.past)))) (flush-calls worker h.mark log.past h.flush ∙ (its b p s h).call_open.is_open)
 
-  begun-its : HasBegun log (kept b p s h).story its-open
+  abbrev since : ℕ
+  since = (its b p s h).call_open.look.since
+
+  begun-its : HasBegun log (kept b p s h).story since
   begun-its = begun-in (kept b p s h).living (its b p s h).call_open
 
-  begun-effected : HasBegun with_flush (after b p s h) effected
-  begun-effected = record { from = begun-its.from; before = omega (arith, begun-its.before) }
+  begun-effected : HasBegun with_flush (after b p s h) since
+  begun-effected = record { from = begun-its.from; by_now = omega (arith, begun-its.by_now) }
 
-  told-scene : Sees c (told_story.at (suc (suc (length log.past)))) (scene c (effect_mark ∷ h.mark ∷ log.past) told_story worker effected)
-  told-scene = b.scenes c p.access (with_mark with_flush effect_mark) told_story worker effected lives (record { from = begun-its.from; before = omega (arith, begun-its.before) })
+  told-scene : Sees c (told_story.at (suc (suc (length log.past)))) (scene c (effect_mark ∷ h.mark ∷ log.past) told_story worker since effected)
+  told-scene = b.scenes c p.access (with_mark with_flush effect_mark) told_story worker since effected lives (record { from = begun-its.from; by_now = omega (arith, begun-its.by_now) })
 
-  knows : facts_of (x b p s h).task Took (scene c (effect_mark ∷ h.mark ∷ log.past) told_story worker effected)
-  knows = (its b p s h).tasked.laws.stable Took (scene c (h.mark ∷ log.past) (after b p s h) worker effected) (scene c (effect_mark ∷ h.mark ∷ log.past) told_story worker effected) (sym (its b p s h).tasked.config)
-      (subst (λ o. facts_of (x b p s h).task Took (scene c (h.mark ∷ log.past) (after b p s h) worker o)) opened-is (took b p s h)) told-scene.scene
-      (b.quiet c p.access p.access with_flush (after b p s h) effect_mark worker effected no-act (λ a out n. refl) begun-effected)
+  knows : facts_of (x b p s h).task Took (scene c (effect_mark ∷ h.mark ∷ log.past) told_story worker since effected)
+  knows = (its b p s h).tasked.laws.stable Took (scene c (h.mark ∷ log.past) (after b p s h) worker since effected) (scene c (effect_mark ∷ h.mark ∷ log.past) told_story worker since effected) (sym (its b p s h).tasked.config)
+      (subst (λ o. facts_of (x b p s h).task Took (scene c (h.mark ∷ log.past) (after b p s h) worker since o)) opened-is (took b p s h)) told-scene.scene
+      (b.quiet c p.access p.access with_flush (after b p s h) effect_mark worker since effected no-act (λ a out n. refl) begun-effected)
 
   abbrev pub with_moment : Serving
   with_moment = record (x b p s h) { effect = Some (suc (length log.past)) }
@@ -201,7 +204,7 @@ module _ (b : StrikeLaws) (p : Parts) (s : ℕ) (h : IsStriking p s) (publishes 
       is_open = is-open;
       call = (its b p s h).call_open.call;
       effect = refl;
-      begun = omega (arith, begun-its.before);
+      look = record { since = since; after_begin = (its b p s h).call_open.look.after_begin; by_now = omega (arith, begun-its.by_now) };
       told = told;
       -- once its change is made nobody asks why it takes slots
       wanted = λ quiet some. absurd (cc quiet);
@@ -211,7 +214,7 @@ module _ (b : StrikeLaws) (p : Parts) (s : ℕ) (h : IsStriking p s) (publishes 
     asks = its-asks b p s h;
     doing = its-swap b p s h (old b p s h).owners.items refl;
     finishing = inr (record { publishing = publishes; swap = s; doing = still-does b p s h });
-    facts = subst (λ z. facts_of (x b p s h).task z (scene c (effect_mark ∷ h.mark ∷ log.past) told_story worker effected)) (sym (stage-is b p s h)) knows;
+    facts = subst (λ z. facts_of (x b p s h).task z (scene c (effect_mark ∷ h.mark ∷ log.past) told_story worker since effected)) (sym (stage-is b p s h)) knows;
     covered = (its b p s h).covered;
   }
 

@@ -30,7 +30,7 @@ flush-within m (suc w) line some may = may.address.within
 module _ (b : StartLaws) (p : Parts) (w : ℕ) where
   -- the scene of the worker's task
   abbrev its-scene : (asked : Todo) → MustStart p w asked → Scene
-  its-scene asked m = scene p.config p.journal.past m.asking.between.story w m.asking.between.opened
+  its-scene asked m = scene p.config p.journal.past m.asking.between.story w m.asking.between.call_open.look.since m.asking.between.opened
 
   asked-for : (asked : Todo) (m : MustStart p w asked) → IsAskedFor p (its-scene asked m) m.asking.between.story asked
   asked-for asked m = may-ask b p w asked m

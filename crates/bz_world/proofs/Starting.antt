@@ -46,12 +46,12 @@ pub record IsAskedFor (p : Parts) (s : Scene) (story : Story) (todo : Todo) : Ty
   pub sees : Sees p.config (story.at (length p.journal.past)) s
   pub askable : IsAskable s todo
 
-pub may-ask : StartLaws → (p : Parts) (w : ℕ) (todo : Todo) → (m : MustStart p w todo) → IsAskedFor p (scene p.config p.journal.past m.asking.between.story w m.asking.between.opened) m.asking.between.story todo
+pub may-ask : StartLaws → (p : Parts) (w : ℕ) (todo : Todo) → (m : MustStart p w todo) → IsAskedFor p (scene p.config p.journal.past m.asking.between.story w m.asking.between.call_open.look.since m.asking.between.opened) m.asking.between.story todo
 may-ask b p w todo m =
-    let sees : Sees p.config (m.asking.between.story.at (length p.journal.past)) (scene p.config p.journal.past m.asking.between.story w m.asking.between.opened) = b.scenes p.config p.access p.journal m.asking.between.story w m.asking.between.opened m.asking.between.living (begun-in m.asking.between.living m.asking.between.call_open) in
+    let sees : Sees p.config (m.asking.between.story.at (length p.journal.past)) (scene p.config p.journal.past m.asking.between.story w m.asking.between.call_open.look.since m.asking.between.opened) = b.scenes p.config p.access p.journal m.asking.between.story w m.asking.between.call_open.look.since m.asking.between.opened m.asking.between.living (begun-in m.asking.between.living m.asking.between.call_open) in
     record {
       sees = sees;
-      askable = m.asking.tasked.laws.askable (scene p.config p.journal.past m.asking.between.story w m.asking.between.opened) todo (sym m.asking.tasked.config) m.asking.facts sees.scene m.asking.asks;
+      askable = m.asking.tasked.laws.askable (scene p.config p.journal.past m.asking.between.story w m.asking.between.call_open.look.since m.asking.between.opened) todo (sym m.asking.tasked.config) m.asking.facts sees.scene m.asking.asks;
     }
 
 -- a read, a store or a flush
@@ -92,7 +92,7 @@ module _ (starts : StartsAreSeen) (begun : BegunStayTaken) (alone : LonelyCallsA
       | inl on ↦ inl on
       | inr ends ↦ absurd (subst (IsDoing (started p.access w doing) p.owners.items w) ends does)
     ];
-    facts = subst (λ z. facts_of m.serving.task z (scene p.config p.journal.past between.story w between.opened)) (sym (ap (stage_in (started p.access w doing)) (starts-it p.access w doing work.within) ∙ waits)) m.asking.facts;
+    facts = subst (λ z. facts_of m.serving.task z (scene p.config p.journal.past between.story w between.call_open.look.since between.opened)) (sym (ap (stage_in (started p.access w doing)) (starts-it p.access w doing work.within) ∙ waits)) m.asking.facts;
     covered = m.asking.covered;
   }
 

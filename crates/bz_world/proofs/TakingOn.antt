@@ -63,7 +63,7 @@ must-go-on p w todo m outcome ended lonely = record {
   serving = m.serving;
   is = m.is;
   between = m.asking.between;
-  filled = (m.asking.tasked.laws.ends (scene p.config p.journal.past m.asking.between.story w m.asking.between.opened) outcome m.asking.facts ended).1;
+  filled = (m.asking.tasked.laws.ends (scene p.config p.journal.past m.asking.between.story w m.asking.between.call_open.look.since m.asking.between.opened) outcome m.asking.facts ended).1;
   lonely = lonely;
 }
 
@@ -90,7 +90,7 @@ lacks-told p w todo m lacks = record {
       | inr ends ↦ absurd (cc (ends, lacks.is))
     ];
     hears = subst (λ z. Hears z NoSwap) (sym (m.asking.asks ∙ ap Some lacks.is)) tt;
-    tells = subst (λ z. Tells z Waiting NoSwap (scene p.config p.journal.past m.asking.between.story w m.asking.between.opened)) (sym (m.asking.asks ∙ ap Some lacks.is)) tt;
+    tells = subst (λ z. Tells z Waiting NoSwap (scene p.config p.journal.past m.asking.between.story w m.asking.between.call_open.look.since m.asking.between.opened)) (sym (m.asking.asks ∙ ap Some lacks.is)) tt;
     lonely = λ key get lonely. absurd (no-swap p w todo m lacks key get lonely);
   };
 }
@@ -161,7 +161,17 @@ called-is p w on call is = let same : Some on.serving.call ≡ Some call = sym (
 
 -- what is known of the memory is of it as it is
 pub known-scene : ScenesAreSeen → (p : Parts) (w : ℕ) (on : MustGoOn p w) → IsScene (known p w on)
-known-scene scenes p w on = (scenes p.config p.access p.journal on.between.story w on.between.opened on.between.living (begun-in on.between.living on.between.call_open)).scene
+known-scene scenes p w on = (scenes p.config p.access p.journal on.between.story w on.between.call_open.look.since on.between.opened on.between.living (begun-in on.between.living on.between.call_open)).scene
+
+-- its look-up begins anew, now
+abbrev pub looks-anew : (p : Parts) (w : ℕ) → MustGoOn p w → MustGoOn p w
+looks-anew p w on = record on {
+  between = record on.between {
+    call_open = record on.between.call_open {
+      look = let l = on.between.call_open.look in record { since = length p.journal.past; after_begin = omega (arith, l.after_begin, l.by_now); by_now = omega arith };
+    };
+  };
+}
 
 -- a task that takes no slot needs no reason
 pub none-wanted : (p : Parts) (w : ℕ) (on : MustGoOn p w) (task : Running) → wants_of task ≡ 0 → IsWanted p.config p.journal on.between.opened (wants_of task)
@@ -196,7 +206,7 @@ said-alone p w on other alone slot is = record {
   serving = record on.serving { alone = alone };
   is = get_or-set_same p.workers.items w slot None (omega (arith, on.between.within, on.between.tabled.places, on.between.tabled.config.workers_in_range.at_most)) ∙ is;
   between = between-tasks p w on.serving (record on.serving { alone = alone }) on.between (with_item p.workers w slot) (length-set p.workers.items w slot) (λ v ne. get_or-set_other p.workers.items w v slot None ne)
-      (let o = on.between.call_open in record { is_open = o.is_open; call = o.call; effect = o.effect; begun = o.begun; told = o.told; wanted = o.wanted });
+      (let o = on.between.call_open in record { is_open = o.is_open; call = o.call; effect = o.effect; look = o.look; told = o.told; wanted = o.wanted });
   filled = on.filled;
   lonely = λ key get lonely. absurd (other key get lonely);
 }
@@ -212,7 +222,7 @@ said-froze p w on other froze slot is = record {
   serving = record on.serving { froze = froze };
   is = get_or-set_same p.workers.items w slot None (omega (arith, on.between.within, on.between.tabled.places, on.between.tabled.config.workers_in_range.at_most)) ∙ is;
   between = between-tasks p w on.serving (record on.serving { froze = froze }) on.between (with_item p.workers w slot) (length-set p.workers.items w slot) (λ v ne. get_or-set_other p.workers.items w v slot None ne)
-      (let o = on.between.call_open in record { is_open = o.is_open; call = o.call; effect = o.effect; begun = o.begun; told = o.told; wanted = o.wanted });
+      (let o = on.between.call_open in record { is_open = o.is_open; call = o.call; effect = o.effect; look = o.look; told = o.told; wanted = o.wanted });
   filled = on.filled;
   lonely = λ key get lonely. absurd (other key get lonely);
 }
@@ -234,7 +244,7 @@ module _ (p : Parts) (w : ℕ) (task : Running) (had : Option (List ℕ)) (asked
 
   between : IsBetween taken w next
   between = between-tasks p w m.on.serving next m.on.between (with_item p.workers w slot) (length-set p.workers.items w slot) (λ v ne. get_or-set_other p.workers.items w v slot None ne)
-      (let o = m.on.between.call_open in record { is_open = o.is_open; call = o.call; effect = o.effect; begun = o.begun; told = told; wanted = m.wanted })
+      (let o = m.on.between.call_open in record { is_open = o.is_open; call = o.call; effect = o.effect; look = o.look; told = told; wanted = m.wanted })
 
   pub here-is : get_or taken.workers.items w None ≡ Some next
   here-is = get_or-set_same p.workers.items w slot None (omega (arith, m.on.between.within, m.on.between.tabled.places, m.on.between.tabled.config.workers_in_range.at_most)) ∙ is

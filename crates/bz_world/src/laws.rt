@@ -16,6 +16,7 @@ pub(crate) fn lonely_laws()
     alone::ways_are_brief();
     alone::brief_look_ups_go_on();
     alone::gets_are_brief();
+    alone::effects_never_fall();
     story::scenes_are_seen();
 }
 

@@ -62,9 +62,9 @@ abbrev pub MayGoOnIn : Option Serving → Type 0
 MayGoOnIn None = ⊥
 MayGoOnIn (Some x) = MayGoOn x
 
--- what is known of the memory since the call began
+-- what is known of the memory since the present look-up of the call began
 abbrev pub known : (p : Parts) (w : ℕ) → MustGoOn p w → Scene
-known p w m = scene p.config p.journal.past m.between.story w m.between.opened
+known p w m = scene p.config p.journal.past m.between.story w m.between.call_open.look.since m.between.opened
 
 -- the call that is served, how its task has ended, what it asks for, the way to its leaf, its effect, and whether it froze its leaf last
 abbrev pub call_in : Option Serving → Option Call

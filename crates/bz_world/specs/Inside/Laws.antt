@@ -1,5 +1,6 @@
 -- The laws of the crates below on which the world's acts stand.
 use Rattle.bz_alone.specs.Brief.{LookUpsAreBrief, WaysAreBrief, BriefLookUpsGoOn, GetsAreBrief}
+use Rattle.bz_alone.specs.Quiet.{EffectsNeverFall}
 use Rattle.bz_page.specs.Laws.{ViewsSayWhatImagesSay}
 use Rattle.bz_record.specs.Laws.{ViewsShowLeaves}
 use Rattle.bz_sight.specs.Acts.{FlushingStepsFlush, QuietStepsPass, StepsLeaveCaches, StoringStepsStore}
@@ -28,6 +29,7 @@ pub record LonelyLaws : Type 0 where
   pub ways : WaysAreBrief
   pub goes_on : BriefLookUpsGoOn
   pub few : GetsAreBrief
+  pub fall : EffectsNeverFall
   pub scenes : ScenesAreSeen
 
 -- by which an act without effect leads on

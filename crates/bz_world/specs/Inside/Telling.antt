@@ -49,9 +49,9 @@ pub record LacksDescriptor (p : Parts) (todo : Todo) : Type 0 where
   pub is : todo ≡ Swap entries
   pub spent : p.access.taken ≡ p.config.swaps
 
--- the way to the leaf of a call without effect, if it was found, is one of the memory since the call began
+-- the way to the leaf of a call without effect, if it was found, is one of the memory since its look-up began
 pub record KnowsWay (p : Parts) (w : ℕ) (x : Serving) (between : IsBetween p w x) : Type 0 where
-  pub leads : (path : Path) → x.path ≡ Some path → IsPath (key_of x.call) path (scene p.config p.journal.past between.story w between.opened).past
+  pub leads : (path : Path) → x.path ≡ Some path → IsPath (key_of x.call) path (scene p.config p.journal.past between.story w between.call_open.look.since between.opened).past
   pub quiet : x.effect ≡ None
 
 -- a task that is to be told this, with such a way
