@@ -157,7 +157,7 @@ module _ (b : AnswerLaws) (p : Parts) (w at : ℕ) (on : MustGoOn p w) (l : IsLo
   answers : ImageAnswersBy (IsSpent p.config p.journal.start p.journal.past w was.opened) p.config p.journal w was.opened at
   answers = b.answers p.config p.at_start p.journal w at was.opened was.sound reads
 
-  -- what is due where it is a get that no other call stood beside
+  -- what is due where it is a lonely get
   abbrev pub IsFew : Type 0
   IsFew = WhereLonely p.journal.past w on.serving.call (λ key. acts_since w p.journal.past ≤ 2 * get_reads p.config (image_at p.journal.start at p.journal.past) key)
 

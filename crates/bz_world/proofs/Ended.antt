@@ -129,7 +129,7 @@ module _ (b : EndLaws) (p : Parts) (w : ℕ) (on : MustGoOn p w) where
             (record { none_open = (b.calls w p.journal.past).own_end n at reply; idle = was.idle; filled = on.filled }))
       ]
 
-      -- beside the call that ended no get was alone
+      -- beside the call that ended no get was lonely
       none-lonely : (v : ℕ) → IsLonelyIn p.access (mark ∷ p.journal.past) after done.workers.items v
       none-lonely v = elim (cases_eq v w) [
         | inl e ↦ subst (IsLonelyIn p.access (mark ∷ p.journal.past) after done.workers.items) (sym e) (none-in p.access (mark ∷ p.journal.past) after done.workers.items w (get_or-set_same p.workers.items w None None (omega (arith, in-table, was.tabled.places))))

@@ -28,7 +28,7 @@ split-taken scenes p w path view m key same task config laws looks lookup asks s
     (λ quiet some. subst (NeedsAtLeast p.config p.journal.start p.journal.past m.answer.on.between.opened) (sym wants) needs)
     (λ key get lonely. absurd (m.answer.other key get lonely))
 
--- the call is no get alone, whose task ends by no want of room
+-- the call is no lonely get, whose task ends by no want of room
 pub up-other : (p : Parts) (w : ℕ) (task : Running) (m : MustGoUp p w task) → IsNotLonely p.journal.past w m.ends.on.serving.call
 up-other p w task m = other-ended p w m.ends.on NeedsRoom m.ends.end (λ path e. absurd (cc e)) (λ view e. absurd (cc e))
 

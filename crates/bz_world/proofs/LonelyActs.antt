@@ -1,4 +1,4 @@
--- A get that is made while no other call is open, by an act, an eviction and an effect.
+-- A lonely get, by an act, an eviction and an effect.
 use Rattle.std.proofs.Common.{◌≡◌, ℕ, ◌<◌, Bool, ◌∷◌, length, arith, refl, sym, subst, ◌∙◌, inl, inr, Some, None}
 use Rattle.std.specs.Prelude.{get_or}
 use Rattle.std.proofs.lemmas.Bool.{cases_eq}
@@ -85,7 +85,7 @@ all-evicted b old new a k e v x opened is is-open key get lonely = record {
         let same : (serves old k v x is).opened ≡ opened = cc calls in
         subst (λ (o : Open). o.begun < length old.journal.past) same (omega (arith, (serves old k v x is).call_open.look.after_begin, (serves old k v x is).call_open.look.by_now))
 
--- where a swap takes effect no get is alone
+-- where a swap takes effect no get is lonely
 pub none-struck : (b : StrikeLaws) (p : Parts) (s : ℕ) (h : IsStriking p s) (v : ℕ) (x : Serving) → get_or (old b p s h).workers.items v None ≡ Some x → IsNotLonely (h.mark ∷ (old b p s h).journal.past) v x.call
 none-struck b p s h v x is key get lonely = elim (cases_eq v (striker b p s h)) [
   | inr ne ↦ (let never : None ≡ Some (its_call b p s h).opened = sym (b.lonely.alone v (striker b p s h) (old b p s h).journal.past before (λ e. ne (sym e))) ∙ (its_call b p s h).call_open.is_open in cc never)

@@ -1,4 +1,4 @@
--- A get that is made while no other call is open, whose look-up has ended.
+-- A lonely get whose look-up has ended.
 use Rattle.std.proofs.Common.{◌≡◌, ◌≢◌, ℕ, ◌*◌, ◌≤◌, length, arith, refl, sym, ap, subst, ◌∙◌, List, ◌∷◌, Option, Some, None}
 use Rattle.std.specs.Prelude.{get_or}
 use Rattle.bz_alone.specs.Alone.{IsAlone}

@@ -1,4 +1,4 @@
--- A get that is made while no other call is open, whose task is told what it read.
+-- A lonely get whose task is told what it read.
 use Rattle.std.proofs.Common.{◌≡◌, ◌≢◌, ℕ, length, arith, refl, sym, ap, subst, ◌∙◌, List, Option, Some}
 use Rattle.bz_alone.specs.Alone.{IsAlone}
 use Rattle.bz_alone.specs.Brief.{IsBrief}

@@ -226,7 +226,7 @@ module _ (b : StrikeLaws) (p : Parts) (s : ℕ) (h : IsStriking p s) (publishes 
         (subst (IsSlot c p.access (with_mark with_flush effect_mark) told_story (old b p s h).owners.items worker) (sym here-is) serves-on)
   ]
 
-  -- nor is a get of the workers alone
+  -- and no get is lonely then
   none-lonely : (items : List (Option Serving)) → get_or items worker None ≡ Some with_moment → ((v : ℕ) → v ≢ worker → get_or items v None ≡ get_or (old b p s h).workers.items v None)
       → (v : ℕ) → IsLonelyIn p.access (effect_mark ∷ h.mark ∷ log.past) told_story items v
   none-lonely items here-is rest v y opened is is-open key get lonely = elim (cases_eq v worker) [

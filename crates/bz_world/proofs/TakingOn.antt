@@ -70,7 +70,7 @@ must-go-on p w todo m outcome ended lonely = record {
 pub ended-by : (p : Parts) (w : ℕ) (todo : Todo) (m : MustStart p w todo) (outcome : Outcome) → end_in (get_or p.workers.items w None) ≡ Some outcome → end_of m.serving.task ≡ Some outcome
 ended-by p w todo m outcome ended = subst (λ z. end_in z ≡ Some outcome) m.is ended
 
--- a get that no other call stands beside asks for no swap
+-- a lonely get asks for no swap
 no-swap : (p : Parts) (w : ℕ) (todo : Todo) (m : MustStart p w todo) → LacksDescriptor p todo → IsNotLonely p.journal.past w m.serving.call
 no-swap p w todo m lacks key get lonely = subst (AsksBriefly p.access p.journal.past m.asking.between.story w m.serving m.asking.between.opened key) lacks.is (m.asking.lonely key get lonely)
 
@@ -285,7 +285,7 @@ module _ (p : Parts) (w : ℕ) (task : Running) (had : Option (List ℕ)) (asked
     };
   }
 
-  -- where the call is no get that no other call stands beside
+  -- where the call is no lonely get
   pub task-begins : IsNotLonely p.journal.past w m.on.serving.call → asked ≡ None → MustBegin taken w
   unfolding taken-begins between between-tasks
   task-begins other e = record { tell = taken-begins e; other = other }
@@ -315,7 +315,7 @@ told-may (Some x) (Some y) seen moment free todo left h may = subst MayGoOn (sym
 told-may None slot seen moment free todo left h may = absurd may
 told-may (Some x) None seen moment free todo left h may = absurd h
 
--- and of one that is no get alone, or whose path was found
+-- and of one that is no lonely get, or whose path was found
 pub told-other : (old slot : Option Serving) (seen : Seen) (moment : ℕ) (free : FreeSlots) (todo : Todo) (left : FreeSlots) → HasToldIn old seen moment free todo slot left → (past : List Mark) (w : ℕ) → IsNotLonelyIn past w old → IsNotLonelyIn past w slot
 told-other (Some x) (Some y) seen moment free todo left h past w other = subst (λ (z : Serving). IsNotLonely past w z.call) (sym h.rest) other
 told-other None slot seen moment free todo left h past w other = absurd h

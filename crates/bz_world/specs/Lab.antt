@@ -276,16 +276,17 @@ HasRunOut config log w supply Height = Unit {0}
 abbrev pub EndsFullRightly : Config → Log → ℕ → Log → Supply → Type 0
 EndsFullRightly config old w new supply = (n at : ℕ) (spent : Spent) → new.past ≡ End w n (Full spent) at ∷ old.past → HasRunOut config old w supply spent
 
--- a get during which no other call was open ends after at most twice as many acts as the reads that a get may ask for: of the inner nodes
--- on the way to the leaf of its key and of that leaf, in the image of the moment that its reply is of. So none reads its leaf whole
+-- a lonely get, during which no other call was open, ends after at most twice as many acts as the reads that a get may ask for: of the
+-- inner nodes above the leaf of its key and of that leaf, in the image of the moment that its reply is of. So none reads its leaf whole
 abbrev pub GetsBriefly : Config → Log → ℕ → Log → Type 0
 GetsBriefly config old w new =
     (n at : ℕ) (reply : Reply) (opened : Open) (key : List ℕ) → new.past ≡ End w n reply at ∷ old.past → open_call w old.past ≡ Some opened → opened.call ≡ call.Get key → IsLonely w old.past →
     acts_since w old.past ≤ 2 * get_reads config (image_at old.start at old.past) key
 
 -- a step of a worker: exactly one act of it, a flush exactly where that was said before; at most one effect; at most its
--- call's End, which is a Full only where what that names has run out, and that of a get that was alone only after few acts. A task takes at most as many slots as a split does: the one
--- that this act ends, and the next one. What the next acts of the others are stays, and which of them have a swap under way.
+-- call's End, which is a Full only where what that names has run out, and that of a lonely get only after few acts. A task takes at
+-- most as many slots as a split does: the one that this act ends, and the next one. What the next acts of the others are stays, and
+-- which of them have a swap under way.
 pub record Steps (old : Lab) (w : ℕ) (answer : Applied) (new : Lab) : Type 0 where
   pub made : Act
   pub flush : is_flush_act made ≡ flush_of old w

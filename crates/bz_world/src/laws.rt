@@ -7,7 +7,7 @@ use bz_sound::{memory_laws as calls, power_laws as sound};
 use bz_story::laws as story;
 use bz_swap::laws as swap;
 
-/// Those of a get that is made while no other call is open.
+/// Those of a lonely get.
 pub(crate) fn lonely_laws()
     ensures { LonelyLaws }
 {

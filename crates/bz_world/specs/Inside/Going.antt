@@ -51,7 +51,7 @@ pub record MustGoOn (p : Parts) (w : ℕ) : Type 0 where
   pub filled : (k : ℕ) → between.story.took w k ≡ true → between.story.filled w k ≡ true
   pub lonely : WhereLonely p.journal.past w serving.call (HasLooked p.access p.journal.past between.story w serving between.opened)
 
--- and it may look its key up, or have its leaf changed: it is no get that is alone, which is never looked up again
+-- and it may look its key up, or have its leaf changed: it is no lonely get, which is never looked up again
 pub record MustLookUp (p : Parts) (w : ℕ) : Type 0 where
   pub on : MustGoOn p w
   pub may : MayGoOn on.serving
@@ -316,8 +316,7 @@ pub record IsShort (p : Parts) (w : ℕ) (spent : Spent) : Type 0 where
   pub cause : IsSpent p.config p.journal.start p.journal.past w on.between.opened spent
   pub out : HasRunOut p.config p.journal w (supply_of p) spent
 
--- this is a right reply to it, at this moment; a Full only where what it names has run out; and where it is a get that is alone, after few
--- acts
+-- this is a right reply to it, at this moment; a Full only where what it names has run out; and where it is a lonely get, after few acts
 pub record MustEnd (p : Parts) (w : ℕ) (reply : Reply) (at : ℕ) : Type 0 where
   pub on : MustGoOn p w
   pub right : IsRightReply p.config p.journal.start p.journal.pages p.journal.past (record { worker = w; opened = on.between.opened; reply = reply; at = at })
@@ -330,9 +329,8 @@ pub record MustEndPage (p : Parts) (w : ℕ) (next : Option (List ℕ)) (at : �
   pub asks : is_page on.serving.call ≡ true
   pub right : IsRightReply p.config p.journal.start (p.journal.pages ++ p.page ∷ []) p.journal.past (record { worker = w; opened = on.between.opened; reply = Page (length p.journal.pages) next; at = at })
 
--- the call went on without an act: at most its End was added, a Full only where what it names has run out, and that of a get that is
--- alone only after few acts; at most one descriptor was
--- taken, and the slots of at most one task; and what the other workers do is the same
+-- the call went on without an act: at most its End was added, a Full only where what it names has run out, and that of a lonely get
+-- only after few acts; at most one descriptor was taken, and the slots of at most one task; and what the other workers do is the same
 pub record WentOn (old : Parts) (w : ℕ) (answer : Applied) (new : Parts) : Type 0 where
   pub kept : IsAwake new
   pub ends : GoesOn old.journal w answer new.journal

@@ -22,7 +22,7 @@ pub record JournalLaws : Type 0 where
   pub flush : FlushesFollow
   pub same : SameContentDecodes
 
--- by which a get is brief that is made while no other call is open
+-- by which a lonely get is brief
 pub record LonelyLaws : Type 0 where
   pub alone : LonelyCallsAreAlone
   pub brief : LookUpsAreBrief

@@ -1,4 +1,4 @@
--- A get that is alone, as it is served: it is made while no other call is open, so no swap takes effect beside it, and its acts are few.
+-- A lonely get, as it is served: it is made while no other call is open, so no swap takes effect beside it, and its acts are few.
 use Rattle.std.specs.Prelude.{◌≡◌, ◌≢◌, ℕ, suc, false, List, length, get_or, Option, Some, None}
 use Rattle.bz_alone.specs.Brief.{IsBrief}
 use Rattle.bz_call.specs.declared.calls.Call.{Call}
@@ -16,7 +16,7 @@ use Rattle.bz_task.specs.declared.todo.Todo.{Todo}
 use Rattle.bz_task.specs.declared.todo.Todo.TheVariants as todo
 use Rattle.bz_world.specs.declared.serving.Serving.{Serving}
 
--- this holds where the call of a worker is a get that is alone: no other call has been open since its begin
+-- this holds where the call of a worker is a lonely get: no other call has been open since its begin
 abbrev pub WhereLonely : List Mark → ℕ → Call → (List ℕ → Type 0) → Type 0
 WhereLonely past w called holds = (key : List ℕ) → called ≡ call.Get key → IsLonely w past → holds key
 

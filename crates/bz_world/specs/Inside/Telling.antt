@@ -64,7 +64,7 @@ pub record MustStartOf (p : Parts) (w : ℕ) (todo : Todo) : Type 0 where
   pub must : MustStart p w todo
   pub knows : KnowsWay p w must.serving must.asking.between
 
--- the task of a call is to be told to begin, and that call is no get that is alone
+-- the task of a call is to be told to begin, and that call is no lonely get
 pub record MustBegin (p : Parts) (w : ℕ) : Type 0 where
   pub tell : MustTell p w Start
   pub other : IsNotLonely p.journal.past w tell.serving.call
