@@ -21,6 +21,9 @@ mod Named
 mod OwnFreezes
 mod Merging
 mod Tasks
+mod Counts
+mod OwnSwaps
+mod Restarts
 mod Trees
 mod Leads
 mod Ways

@@ -123,7 +123,7 @@ module _ (b : FreezeLaws) (s : Scene) (good : IsScene s) (r : Merging) where
   beside-as-read (inl e) a seen read = leaf-as-seen b.base s good (b.base.lonely.whole s good (no-freeze r.status s.past e a)) (beside_leaf r) seen
   beside-as-read (inr w) a seen read = beside-after w (one-freeze r.status s.past w.froze.thawed a) read
 
-  own-least : ViewedWasFrozen r s.past → (s.past.at s.past.since).effects + 0 ≤ (here s).effects → (s.past.at s.past.since).effects + freezes_of r.status ≤ (here s).effects
+  pub own-least : ViewedWasFrozen r s.past → (s.past.at s.past.since).effects + 0 ≤ (here s).effects → (s.past.at s.past.since).effects + freezes_of r.status ≤ (here s).effects
   own-least (inl e) none = least-none r.status s e none
   own-least (inr w) none = least-one r.status s w.froze.thawed (one-at-least b s good r (viewed_leaf r) w.before w.froze)
 

@@ -1,9 +1,11 @@
 pub mod Alone
 pub mod Brief
 pub mod Changes
+pub mod Counts
 pub mod Laws
 pub mod Lookups
 pub mod Quiet
 pub mod Reads
+pub mod Restarts
 pub mod Tasks
 pub mod Trees

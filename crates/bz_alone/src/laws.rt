@@ -2,10 +2,12 @@
 
 ghost use Rattle.bz_alone.specs.Brief.{LookUpsAreBrief, WaysAreBrief, BriefLookUpsGoOn, GetsAreBrief};
 ghost use Rattle.bz_alone.specs.Changes.{InsertsGoOn, UpdatesGoOn, MergesGoOn, PublicationsStand, ReplacementsStand};
+ghost use Rattle.bz_alone.specs.Counts.{OthersAreCounted, OwnSwapsAreCounted};
 ghost use Rattle.bz_alone.specs.Laws.{FreezesGoOn, DeletesGoOn, ConsolidationsGoOn, RootSplitsGoOn, SplitsBelowGoOn, InnerSplitsGoOn, InnerRootSplitsGoOn};
 ghost use Rattle.bz_alone.specs.Lookups.{SeeksGoOn, FindsGoOn, ReadingsGoOn};
 ghost use Rattle.bz_alone.specs.Quiet.{EffectsNeverFall, QuietTimesStay, ReadValuesStand, LonelyTimesAreQuiet};
 ghost use Rattle.bz_alone.specs.Reads.{PathsReadFew};
+ghost use Rattle.bz_alone.specs.Restarts.{LoneRestartsAreRefusals};
 ghost use Rattle.bz_alone.specs.Tasks.{LonersGoOn};
 ghost use Rattle.bz_alone.specs.Trees.{TreesStand, PathsLeadToLeaves};
 
@@ -265,6 +267,32 @@ pub fn loners_go_on()
     inner_root_splits_go_on();
     merges_go_on();
 }
+
+/// So a task that ends to begin again, while its worker is alone, was refused a swap whose expected values stand.
+pub fn lone_restarts_are_refusals()
+    ensures { LoneRestartsAreRefusals }
+{
+    loners_go_on();
+}
+
+/// A task's own swaps are among the effects since its look-up began, so that it tells how many were others'.
+pub fn own_swaps_are_counted()
+    ensures { OwnSwapsAreCounted }
+{
+    effects_never_fall();
+    read_values_stand();
+    lonely_times_are_quiet();
+    bz_layout::slots_apart();
+    task::fronts_stay();
+    task::headers_say_the_level();
+    task::leaves_are_in_trees();
+    slotted::leaf_rules_are_facts();
+}
+
+/// The swaps of others since a look-up began are counted from moment to moment, beside the worker's own.
+pub fn others_are_counted()
+    ensures { OthersAreCounted }
+{}
 
 /// A look-up that is made while no other call is open meets no effect, and its worker's acts are at most twice the reads that it asks for.
 pub fn look_ups_are_brief()

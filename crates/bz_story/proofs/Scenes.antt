@@ -22,12 +22,12 @@ now-is at n y = let t : (suc n == suc n) ≡ true = grind (arith, nat_tests) in 
 pub before-is : (at : ℕ → Instant) (n m : ℕ) (y : Instant) → m ≤ n → and_then at n y m ≡ at m
 before-is at n m y l = let t : (m == suc n) ≡ false = grind (arith, nat_tests) in rw t refl
 
-module _ (law : HiddenWordsAreValues) (c : Config) (m : SwapMemory) (log : Log) (story : Story) (w : ℕ) (opened : Open) (living : IsLiving c m log story) (begun : HasBegun log story opened) where
+module _ (law : HiddenWordsAreValues) (c : Config) (m : SwapMemory) (log : Log) (story : Story) (w since : ℕ) (opened : Open) (living : IsLiving c m log story) (begun : HasBegun log story since) where
   s : Scene
-  s = scene c log.past story w opened
+  s = scene c log.past story w since opened
 
   -- own words lie in a slot of the memory
-  in-slot : (a : ℕ) → IsOfTaken (scene c log.past story w opened) a ⊎ (story.reserved w a ≡ true) → (node_address c 0 ≤ a) × (a < size_of c)
+  in-slot : (a : ℕ) → IsOfTaken (scene c log.past story w since opened) a ⊎ (story.reserved w a ≡ true) → (node_address c 0 ≤ a) × (a < size_of c)
   in-slot a (inl o) = let slot : o.slot < c.nodes = living.took w o.slot o.took in (omega (arith, o.address), omega (arith, o.address, o.within, slot))
   in-slot a (inr r) =
       let block : IsInBlock c (story.at (length log.past)) a = living.reserved w a r in
@@ -35,12 +35,12 @@ module _ (law : HiddenWordsAreValues) (c : Config) (m : SwapMemory) (log : Log) 
       (omega (arith, block.address), omega (arith, block.address, block.within, slot))
 
   -- and hold values
-  own : (a : ℕ) → IsMine (scene c log.past story w opened) a → (node_address c 0 ≤ a) × ((a < size_of c) × ((story.at (length log.past)).value a < 2 ^ 61))
+  own : (a : ℕ) → IsMine (scene c log.past story w since opened) a → (node_address c 0 ≤ a) × ((a < size_of c) × ((story.at (length log.past)).value a < 2 ^ 61))
   own a mine =
       let place : (node_address c 0 ≤ a) × (a < size_of c) = in-slot a mine.own in
       (place.0, (place.1, law c (story.at (length log.past)) m a living.seen (record { in_slots = place.0; unread = mine.hidden })))
 
-  sees : Sees c (story.at (length log.past)) (scene c log.past story w opened)
+  sees : Sees c (story.at (length log.past)) (scene c log.past story w since opened)
   sees = record {
     scene = record {
       config = living.seen.config;
@@ -56,18 +56,18 @@ module _ (law : HiddenWordsAreValues) (c : Config) (m : SwapMemory) (log : Log) 
   }
 
 pub scenes-seen : HiddenWordsAreValues → ScenesAreSeen
-scenes-seen law c m log story w opened living begun = sees law c m log story w opened living begun
+scenes-seen law c m log story w since opened living begun = sees law c m log story w since opened living begun
 
 -- what one worker reserved or took is nobody else's
-pub scenes-apart : SharersOfNothingAreApart → (c : Config) (m : SwapMemory) (log : Log) (story : Story) (w v : ℕ) (opened other : Open) → IsLiving c m log story → w ≢ v → AreApart (scene c log.past story w opened) (scene c log.past story v other)
-scenes-apart law c m log story w v opened other living ne = law (scene c log.past story w opened) (scene c log.past story v other) (record {
+pub scenes-apart : SharersOfNothingAreApart → (c : Config) (m : SwapMemory) (log : Log) (story : Story) (w v since other_since : ℕ) (opened other : Open) → IsLiving c m log story → w ≢ v → AreApart (scene c log.past story w since opened) (scene c log.past story v other_since other)
+scenes-apart law c m log story w v since other_since opened other living ne = law (scene c log.past story w since opened) (scene c log.past story v other_since other) (record {
   config = refl;
   here = refl;
   took = λ k p q. ne (living.took_apart w v k p q);
   reserved = λ a p q. ne (living.apart w v a p q);
-  of_first = λ a r. of-reached w opened a (living.reserved w a r);
-  of_second = λ a r. of-reached v other a (living.reserved v a r);
+  of_first = λ a r. of-reached w since opened a (living.reserved w a r);
+  of_second = λ a r. of-reached v other_since other a (living.reserved v a r);
 })
   where
-    of-reached : (u : ℕ) (some : Open) (a : ℕ) → IsInBlock c (story.at (length log.past)) a → IsOfReached (scene c log.past story u some) a
-    of-reached u some a b = record { slot = b.slot; place = b.place; address = b.address; within = b.within; reached = b.reached }
+    of-reached : (u from : ℕ) (some : Open) (a : ℕ) → IsInBlock c (story.at (length log.past)) a → IsOfReached (scene c log.past story u from some) a
+    of-reached u from some a b = record { slot = b.slot; place = b.place; address = b.address; within = b.within; reached = b.reached }

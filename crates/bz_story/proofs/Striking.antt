@@ -122,7 +122,7 @@ pub record Laws : Type 0 where
   pub apart : SlotsApart
   pub sharers : SharersOfNothingAreApart
 
-module _ (b : Laws) (c : Config) (old new : SwapMemory) (log : Log) (story : Story) (mark : Mark) (k w : ℕ) (opened : Open) (publishes : Bool) (change : Change) (g : Strikes c old new log story mark k w opened publishes change) where
+module _ (b : Laws) (c : Config) (old new : SwapMemory) (log : Log) (story : Story) (mark : Mark) (k w since : ℕ) (opened : Open) (publishes : Bool) (change : Change) (g : Strikes c old new log story mark k w since opened publishes change) where
   abbrev x : Instant
   x = story.at (length log.past)
 
@@ -130,10 +130,10 @@ module _ (b : Laws) (c : Config) (old new : SwapMemory) (log : Log) (story : Sto
   y = effect_instant c new (story.at (length log.past))
 
   abbrev s : Scene
-  s = scene c log.past story w opened
+  s = scene c log.past story w since opened
 
-  sees : (v : ℕ) (other : Open) → HasBegun log story other → Sees c (story.at (length log.past)) (scene c log.past story v other)
-  sees v other begun = b.seen c old log story v other g.living begun
+  sees : (v other_since : ℕ) (other : Open) → HasBegun log story other_since → Sees c (story.at (length log.past)) (scene c log.past story v other_since other)
+  sees v other_since other begun = b.seen c old log story v other_since other g.living begun
 
   took : TookPlace c (story.at (length log.past)) old new k
   took = b.effects c (story.at (length log.past)) old new k g.living.seen g.takes
@@ -141,50 +141,46 @@ module _ (b : Laws) (c : Config) (old new : SwapMemory) (log : Log) (story : Sto
   to : SwapsTo c (entries_of old k) (story.at (length log.past)) (effect_instant c new (story.at (length log.past)))
   to = took.swaps (omega (arith, g.living.effects, g.few))
 
-  keeps : KeepsOwn (scene c log.past story w opened) (effect_instant c new (story.at (length log.past)))
-  keeps = b.own c (story.at (length log.past)) old new k (scene c log.past story w opened) g.living.seen g.takes (sees w opened g.begun).scene refl refl
+  keeps : KeepsOwn (scene c log.past story w since opened) (effect_instant c new (story.at (length log.past)))
+  keeps = b.own c (story.at (length log.past)) old new k (scene c log.past story w since opened) g.living.seen g.takes (sees w since opened g.begun).scene refl refl
 
   before : (m : ℕ) → m ≤ length log.past → (strikes c log story new w (entries_of old k)).at m ≡ story.at m
   before m l = before-is story.at (length log.past) m (effect_instant c new (story.at (length log.past))) l
 
-  later-here : (v : ℕ) (other : Open) → here (scene c (mark ∷ log.past) (strikes c log story new w (entries_of old k)) v other) ≡ effect_instant c new (story.at (length log.past))
-  later-here v other = now-is story.at (length log.past) (effect_instant c new (story.at (length log.past)))
+  later-here : (v other_since : ℕ) (other : Open) → here (scene c (mark ∷ log.past) (strikes c log story new w (entries_of old k)) v other_since other) ≡ effect_instant c new (story.at (length log.past))
+  later-here v other_since other = now-is story.at (length log.past) (effect_instant c new (story.at (length log.past)))
 
-  effect-own : (moment : ℕ) → Takes publishes (entries_of old k) (scene c log.past story w opened) (scene c (mark ∷ log.past) (strikes c log story new w (entries_of old k)) w (opened_after publishes moment opened))
+  effect-own : (moment : ℕ) → Takes publishes (entries_of old k) (scene c log.past story w since opened) (scene c (mark ∷ log.past) (strikes c log story new w (entries_of old k)) w since (opened_after publishes moment opened))
   effect-own moment = record {
-    continues = continues c log.past mark story (strikes c log story new w (entries_of old k)) w opened (opened_after publishes moment opened) (same-begun publishes) before;
+    continues = continues c log.past mark story (strikes c log story new w (entries_of old k)) w since opened (opened_after publishes moment opened) before;
     took = λ j. refl;
-    swaps = subst (SwapsTo c (entries_of old k) (story.at (length log.past))) (sym (later-here w (opened_after publishes moment opened))) to;
+    swaps = subst (SwapsTo c (entries_of old k) (story.at (length log.past))) (sym (later-here w since (opened_after publishes moment opened))) to;
     effected = same-effected publishes;
     reserved = λ a. let t : (w == w) ≡ true = grind (arith, nat_tests) in rw t refl;
     filled = λ j. refl;
-    keeps = λ a mine. ap (λ z. z.value a) (later-here w (opened_after publishes moment opened)) ∙ keeps.value a mine;
-    flushed = λ a mine f. subst (λ z. z.image a ≡ z.value a) (sym (later-here w (opened_after publishes moment opened))) (keeps.flushed a mine f);
+    keeps = λ a mine. ap (λ z. z.value a) (later-here w since (opened_after publishes moment opened)) ∙ keeps.value a mine;
+    flushed = λ a mine f. subst (λ z. z.image a ≡ z.value a) (sym (later-here w since (opened_after publishes moment opened))) (keeps.flushed a mine f);
   }
     where
-      same-begun : (p : Bool) → (opened_after p moment opened).begun ≡ opened.begun
-      same-begun true = refl
-      same-begun false = refl
-
       same-effected : (p : Bool) → is_some (opened_after p moment opened).effect ≡ p || is_some opened.effect
       same-effected true = refl
       same-effected false = refl
 
-  effect-others : (v : ℕ) (other : Open) → v ≢ w → HasBegun log story other → IsLawful (scene c log.past story v other) (scene c (mark ∷ log.past) (strikes c log story new w (entries_of old k)) v other)
-  effect-others v other ne begun =
-      b.lawful publishes change (entries_of old k) (scene c log.past story w opened) (scene c log.past story v other) _ (effect_instant c new (story.at (length log.past))) (sees v other begun).scene apart to g.good watches
+  effect-others : (v other_since : ℕ) (other : Open) → v ≢ w → HasBegun log story other_since → IsLawful (scene c log.past story v other_since other) (scene c (mark ∷ log.past) (strikes c log story new w (entries_of old k)) v other_since other)
+  effect-others v other_since other ne begun =
+      b.lawful publishes change (entries_of old k) (scene c log.past story w since opened) (scene c log.past story v other_since other) _ (effect_instant c new (story.at (length log.past))) (sees v other_since other begun).scene apart to g.good watches
     where
-      apart : AreApart (scene c log.past story w opened) (scene c log.past story v other)
-      apart = scenes-apart b.sharers c old log story w v opened other g.living (λ e. ne (sym e))
+      apart : AreApart (scene c log.past story w since opened) (scene c log.past story v other_since other)
+      apart = scenes-apart b.sharers c old log story w v since other_since opened other g.living (λ e. ne (sym e))
 
       or-off : (t : Bool) → t || false ≡ t
       or-off true = refl
       or-off false = refl
 
-      watches : Watches (scene c log.past story v other) (scene c (mark ∷ log.past) (strikes c log story new w (entries_of old k)) v other) (effect_instant c new (story.at (length log.past)))
+      watches : Watches (scene c log.past story v other_since other) (scene c (mark ∷ log.past) (strikes c log story new w (entries_of old k)) v other_since other) (effect_instant c new (story.at (length log.past)))
       watches = record {
-        continues = continues c log.past mark story (strikes c log story new w (entries_of old k)) v other other refl before;
-        here = later-here v other;
+        continues = continues c log.past mark story (strikes c log story new w (entries_of old k)) v other_since other other before;
+        here = later-here v other_since other;
         effected = refl;
         reserved = λ a. let t : (v == w) ≡ false = grind (arith, nat_tests) in rw t (or-off (story.reserved v a));
         took = λ j. refl;
@@ -199,7 +195,7 @@ module _ (b : Laws) (c : Config) (old new : SwapMemory) (log : Log) (story : Sto
   its-slot : (a : ℕ) (r : HasReserving c a (entries_of old k) (story.at (length log.past)).value) → (story.at (length log.past)).reached (slot_of c a) ≡ true
   its-slot a r = go (g.good.targets r.entry.target r.target)
     where
-      go : IsTarget (scene c log.past story w opened) r.entry.target → (story.at (length log.past)).reached (slot_of c a) ≡ true
+      go : IsTarget (scene c log.past story w since opened) r.entry.target → (story.at (length log.past)).reached (slot_of c a) ≡ true
       go (inl e) = absurd (omega (arith, e, r.reserves.target))
       go (inr (inl e)) = absurd (omega (arith, e, r.reserves.target))
       go (inr (inr t)) =
@@ -238,7 +234,7 @@ module _ (b : Laws) (c : Config) (old new : SwapMemory) (log : Log) (story : Sto
   -- a slot to which a link leads now and had not led was the worker's own
   linked-took : (j : ℕ) → (story.at (length log.past)).reached j ≡ false → (effect_instant c new (story.at (length log.past))).reached j ≡ true → story.took w j ≡ true
   linked-took j was is =
-      let mine : IsMine (scene c log.past story w opened) (node_address c j + 0) = g.good.linked j 0 was is (omega arith) in
+      let mine : IsMine (scene c log.past story w since opened) (node_address c j + 0) = g.good.linked j 0 was is (omega arith) in
       elim mine.own [
         | inl o ↦ subst (λ i. story.took w i ≡ true) (sym (b.apart c j o.slot 0 o.place (omega arith) o.within o.address).0) o.took
         | inr r ↦ absurd (
@@ -292,7 +288,7 @@ module _ (b : Laws) (c : Config) (old new : SwapMemory) (log : Log) (story : Sto
 
 pub effects-told : Laws → EffectsAreTold
 effects-told b = record {
-  living = λ c old new log story mark k w opened publishes change g. effect-living b c old new log story mark k w opened publishes change g;
-  own = λ c old new log story mark k w opened publishes change moment g. effect-own b c old new log story mark k w opened publishes change g moment;
-  others = λ c old new log story mark k w opened publishes change v other g ne begun. effect-others b c old new log story mark k w opened publishes change g v other ne begun;
+  living = λ c old new log story mark k w since opened publishes change g. effect-living b c old new log story mark k w since opened publishes change g;
+  own = λ c old new log story mark k w since opened publishes change moment g. effect-own b c old new log story mark k w since opened publishes change g moment;
+  others = λ c old new log story mark k w since opened publishes change v other_since other g ne begun. effect-others b c old new log story mark k w since opened publishes change g v other_since other ne begun;
 }

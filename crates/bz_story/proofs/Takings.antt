@@ -49,14 +49,14 @@ taken-living c m log story w old new l may = record {
     one u v k (inr g) (inr h) = g.0 ∙ sym h.0
 
 -- of what it took the scene alone tells another thing
-taken-own : (c : Config) (past : List Mark) (story : Story) (w : ℕ) (opened : Open) (old new : FreeSlots) → scene c past (takes_slots story w old new) w opened ≡ gained (scene c past story w opened) old new
-taken-own c past story w opened old new = ap (λ (t : ℕ → Bool). record (scene c past story w opened) { took = t }) (λ i k. same k i)
+taken-own : (c : Config) (past : List Mark) (story : Story) (w since : ℕ) (opened : Open) (old new : FreeSlots) → scene c past (takes_slots story w old new) w since opened ≡ gained (scene c past story w since opened) old new
+taken-own c past story w since opened old new = ap (λ (t : ℕ → Bool). record (scene c past story w since opened) { took = t }) (λ i k. same k i)
   where
     same : (k : ℕ) → story.took w k || ((w == w) && is_gained old new k) ≡ story.took w k || is_gained old new k
     same k = let t : (w == w) ≡ true = grind (arith, nat_tests) in rw t refl
 
-taken-others : (c : Config) (past : List Mark) (story : Story) (w v : ℕ) (opened : Open) (old new : FreeSlots) → v ≢ w → scene c past (takes_slots story w old new) v opened ≡ scene c past story v opened
-taken-others c past story w v opened old new ne = ap (λ (t : ℕ → Bool). record (scene c past story v opened) { took = t }) (λ i k. same k i)
+taken-others : (c : Config) (past : List Mark) (story : Story) (w v since : ℕ) (opened : Open) (old new : FreeSlots) → v ≢ w → scene c past (takes_slots story w old new) v since opened ≡ scene c past story v since opened
+taken-others c past story w v since opened old new ne = ap (λ (t : ℕ → Bool). record (scene c past story v since opened) { took = t }) (λ i k. same k i)
   where
     or-off : (t : Bool) → t || false ≡ t
     or-off true = refl

@@ -29,12 +29,12 @@ loads-stay past mark w zero l = refl
 loads-stay past mark w (suc k) l = ap (is_load_of w) (mark_at-earlier k mark past (omega (arith, l)))
 
 -- what a worker has seen stays, with one moment more
-pub continues : (c : Config) (past : List Mark) (mark : Mark) (story after : Story) (w : ℕ) (opened later : Open) → later.begun ≡ opened.begun → ((m : ℕ) → m ≤ length past → after.at m ≡ story.at m)
-    → Continues (scene c past story w opened).past (scene c (mark ∷ past) after w later).past
-continues c past mark story after w opened later same at = record {
+pub continues : (c : Config) (past : List Mark) (mark : Mark) (story after : Story) (w since : ℕ) (opened later : Open) → ((m : ℕ) → m ≤ length past → after.at m ≡ story.at m)
+    → Continues (scene c past story w since opened).past (scene c (mark ∷ past) after w since later).past
+continues c past mark story after w since opened later at = record {
   config = refl;
   now = omega arith;
-  since = ap suc same;
+  since = refl;
   at = at;
   loads = loads-stay past mark w;
 }
@@ -92,90 +92,90 @@ module _ (b : Laws) (c : Config) (old new : SwapMemory) (log : Log) (story : Sto
   before : (filled : ℕ → ℕ → Bool) (m : ℕ) → m ≤ length log.past → (goes_on log story new filled).at m ≡ story.at m
   before filled m l = before-is story.at (length log.past) m (next_instant new (story.at (length log.past))) l
 
-  later-here : (filled : ℕ → ℕ → Bool) (w : ℕ) (opened : Open) → here (scene c (mark ∷ log.past) (goes_on log story new filled) w opened) ≡ next_instant new (story.at (length log.past))
-  later-here filled w opened = now-is story.at (length log.past) (next_instant new (story.at (length log.past)))
+  later-here : (filled : ℕ → ℕ → Bool) (w since : ℕ) (opened : Open) → here (scene c (mark ∷ log.past) (goes_on log story new filled) w since opened) ≡ next_instant new (story.at (length log.past))
+  later-here filled w since opened = now-is story.at (length log.past) (next_instant new (story.at (length log.past)))
 
-  sees : (w : ℕ) (opened : Open) → HasBegun log story opened → Sees c (story.at (length log.past)) (scene c log.past story w opened)
-  sees w opened begun = b.seen c old log story w opened g.living begun
+  sees : (w since : ℕ) (opened : Open) → HasBegun log story since → Sees c (story.at (length log.past)) (scene c log.past story w since opened)
+  sees w since opened begun = b.seen c old log story w since opened g.living begun
 
   -- for one who did nothing
-  watches : (filled : ℕ → ℕ → Bool) (w : ℕ) (opened : Open) → ((k : ℕ) → filled w k ≡ story.filled w k) → Watches (scene c log.past story w opened) (scene c (mark ∷ log.past) (goes_on log story new filled) w opened) (next_instant new (story.at (length log.past)))
-  watches filled w opened same = record {
-    continues = continues c log.past mark story (goes_on log story new filled) w opened opened refl (before filled);
-    here = later-here filled w opened;
+  watches : (filled : ℕ → ℕ → Bool) (w since : ℕ) (opened : Open) → ((k : ℕ) → filled w k ≡ story.filled w k) → Watches (scene c log.past story w since opened) (scene c (mark ∷ log.past) (goes_on log story new filled) w since opened) (next_instant new (story.at (length log.past)))
+  watches filled w since opened same = record {
+    continues = continues c log.past mark story (goes_on log story new filled) w since opened opened (before filled);
+    here = later-here filled w since opened;
     effected = refl;
     reserved = λ a. refl;
     took = λ k. refl;
     filled = same;
   }
 
-  leaves : AllStay old new → (w : ℕ) (opened : Open) → HasBegun log story opened → LeavesAll (scene c log.past story w opened) (next_instant new (story.at (length log.past)))
-  leaves all w opened begun = b.leave c (story.at (length log.past)) old new (scene c log.past story w opened) g.living.seen g.passes all (sees w opened begun).scene refl refl
+  leaves : AllStay old new → (w since : ℕ) (opened : Open) → HasBegun log story since → LeavesAll (scene c log.past story w since opened) (next_instant new (story.at (length log.past)))
+  leaves all w since opened begun = b.leave c (story.at (length log.past)) old new (scene c log.past story w since opened) g.living.seen g.passes all (sees w since opened begun).scene refl refl
 
-  lawful : AllStay old new → (w : ℕ) (opened : Open) → HasBegun log story opened → IsLawful (scene c log.past story w opened) (scene c (mark ∷ log.past) (goes_on log story new story.filled) w opened)
-  lawful all w opened begun = b.quiet (scene c log.past story w opened) _ (next_instant new (story.at (length log.past))) (leaves all w opened begun) (watches story.filled w opened (λ k. refl))
+  lawful : AllStay old new → (w since : ℕ) (opened : Open) → HasBegun log story since → IsLawful (scene c log.past story w since opened) (scene c (mark ∷ log.past) (goes_on log story new story.filled) w since opened)
+  lawful all w since opened begun = b.quiet (scene c log.past story w since opened) _ (next_instant new (story.at (length log.past))) (leaves all w since opened begun) (watches story.filled w since opened (λ k. refl))
 
   -- own words stay one's own
-  own-stays : (filled : ℕ → ℕ → Bool) (w : ℕ) (opened : Open) (a : ℕ) → IsMine (scene c log.past story w opened) a → IsMine (scene c (mark ∷ log.past) (goes_on log story new filled) w opened) a
-  own-stays filled w opened = mine-stays b.alike (scene c log.past story w opened) (scene c (mark ∷ log.past) (goes_on log story new filled) w opened) refl (subst (IsQuiet c (story.at (length log.past))) (sym (later-here filled w opened)) passed.rests.quiet) (λ a. refl) (λ k. refl)
+  own-stays : (filled : ℕ → ℕ → Bool) (w since : ℕ) (opened : Open) (a : ℕ) → IsMine (scene c log.past story w since opened) a → IsMine (scene c (mark ∷ log.past) (goes_on log story new filled) w since opened) a
+  own-stays filled w since opened = mine-stays b.alike (scene c log.past story w since opened) (scene c (mark ∷ log.past) (goes_on log story new filled) w since opened) refl (subst (IsQuiet c (story.at (length log.past))) (sym (later-here filled w since opened)) passed.rests.quiet) (λ a. refl) (λ k. refl)
 
   -- a flush of one's own
-  flushes : AllStay old new → (w line : ℕ) (opened : Open) → HasBegun log story opened → ((a : ℕ) → line_of a ≡ line → slice_index new.durable a ≡ slice_index old.cached a)
-      → Flushes line (scene c log.past story w opened) (scene c (mark ∷ log.past) (goes_on log story new story.filled) w opened)
-  flushes all w line opened begun copies = record {
-    continues = continues c log.past mark story (goes_on log story new story.filled) w opened opened refl (before story.filled);
+  flushes : AllStay old new → (w line since : ℕ) (opened : Open) → HasBegun log story since → ((a : ℕ) → line_of a ≡ line → slice_index new.durable a ≡ slice_index old.cached a)
+      → Flushes line (scene c log.past story w since opened) (scene c (mark ∷ log.past) (goes_on log story new story.filled) w since opened)
+  flushes all w line since opened begun copies = record {
+    continues = continues c log.past mark story (goes_on log story new story.filled) w since opened opened (before story.filled);
     took = λ k. refl;
     effected = refl;
     reserved = λ a. refl;
     filled = λ k. refl;
-    value = λ a. ap (λ z. z.value a) (later-here story.filled w opened) ∙ (leaves all w opened begun).value a;
-    flushed = λ a in-line mine. subst (λ z. z.image a ≡ z.value a) (sym (later-here story.filled w opened)) (b.flushed c (story.at (length log.past)) old new line (scene c log.past story w opened) g.living.seen g.passes all (sees w opened begun).scene refl refl copies a in-line mine);
-    stays = λ a mine f. subst (λ z. z.image a ≡ z.value a) (sym (later-here story.filled w opened)) (still a mine f);
-    mine = own-stays story.filled w opened;
+    value = λ a. ap (λ z. z.value a) (later-here story.filled w since opened) ∙ (leaves all w since opened begun).value a;
+    flushed = λ a in-line mine. subst (λ z. z.image a ≡ z.value a) (sym (later-here story.filled w since opened)) (b.flushed c (story.at (length log.past)) old new line (scene c log.past story w since opened) g.living.seen g.passes all (sees w since opened begun).scene refl refl copies a in-line mine);
+    stays = λ a mine f. subst (λ z. z.image a ≡ z.value a) (sym (later-here story.filled w since opened)) (still a mine f);
+    mine = own-stays story.filled w since opened;
   }
     where
-      still : (a : ℕ) → IsMine (scene c log.past story w opened) a → IsFlushed (scene c log.past story w opened) a → (next_instant new (story.at (length log.past))).image a ≡ (next_instant new (story.at (length log.past))).value a
+      still : (a : ℕ) → IsMine (scene c log.past story w since opened) a → IsFlushed (scene c log.past story w since opened) a → (next_instant new (story.at (length log.past))).image a ≡ (next_instant new (story.at (length log.past))).value a
       still a mine f =
-          let l : LeavesAll (scene c log.past story w opened) (next_instant new (story.at (length log.past))) = leaves all w opened begun in
+          let l : LeavesAll (scene c log.past story w since opened) (next_instant new (story.at (length log.past))) = leaves all w since opened begun in
           elim (l.image a mine) [ inl e ↦ e ∙ (f ∙ sym (l.value a)) | inr e ↦ e ∙ sym (l.value a) ]
 
-  module _ (w a v : ℕ) (opened : Open) (s : IsStore c old new log story w a v opened) where
+  module _ (w a v since : ℕ) (opened : Open) (s : IsStore c old new log story w a v since opened) where
     to : StoresTo a v (story.at (length log.past)) (next_instant new (story.at (length log.past)))
     to = b.stored c (story.at (length log.past)) old new a v g.living.seen g.passes s.stores
 
-    store-own : Stores a v (scene c log.past story w opened) (scene c (mark ∷ log.past) (goes_on log story new (fills c story w a)) w opened)
+    store-own : Stores a v (scene c log.past story w since opened) (scene c (mark ∷ log.past) (goes_on log story new (fills c story w a)) w since opened)
     store-own = record {
-      continues = continues c log.past mark story (goes_on log story new (fills c story w a)) w opened opened refl (before (fills c story w a));
+      continues = continues c log.past mark story (goes_on log story new (fills c story w a)) w since opened opened (before (fills c story w a));
       took = λ k. refl;
       effected = refl;
       reserved = λ b. refl;
       filled = λ k. let t : (w == w) ≡ true = grind (arith, nat_tests) in rw t refl;
-      value = ap (λ z. z.value a) (later-here (fills c story w a) w opened) ∙ to.value;
-      others = λ b ne. ap (λ z. z.value b) (later-here (fills c story w a) w opened) ∙ to.others b ne;
-      image = λ b. ap (λ z. z.image b) (later-here (fills c story w a) w opened) ∙ to.image b;
-      mine = own-stays (fills c story w a) w opened;
+      value = ap (λ z. z.value a) (later-here (fills c story w a) w since opened) ∙ to.value;
+      others = λ b ne. ap (λ z. z.value b) (later-here (fills c story w a) w since opened) ∙ to.others b ne;
+      image = λ b. ap (λ z. z.image b) (later-here (fills c story w a) w since opened) ∙ to.image b;
+      mine = own-stays (fills c story w a) w since opened;
     }
 
-    store-others : (u : ℕ) (other : Open) → u ≢ w → HasBegun log story other → IsLawful (scene c log.past story u other) (scene c (mark ∷ log.past) (goes_on log story new (fills c story w a)) u other)
-    store-others u other ne begun =
-        b.stores (scene c log.past story w opened) (scene c log.past story u other) _ a v (next_instant new (story.at (length log.past))) (sees w opened s.begun).scene s.own apart to
-        (watches (fills c story w a) u other (λ k. let t : (u == w) ≡ false = grind (arith, nat_tests) in rw t (or-off (story.filled u k))))
+    store-others : (u other_since : ℕ) (other : Open) → u ≢ w → HasBegun log story other_since → IsLawful (scene c log.past story u other_since other) (scene c (mark ∷ log.past) (goes_on log story new (fills c story w a)) u other_since other)
+    store-others u other_since other ne begun =
+        b.stores (scene c log.past story w since opened) (scene c log.past story u other_since other) _ a v (next_instant new (story.at (length log.past))) (sees w since opened s.begun).scene s.own apart to
+        (watches (fills c story w a) u other_since other (λ k. let t : (u == w) ≡ false = grind (arith, nat_tests) in rw t (or-off (story.filled u k))))
       where
         or-off : (t : Bool) → t || false ≡ t
         or-off true = refl
         or-off false = refl
 
-        apart : AreApart (scene c log.past story w opened) (scene c log.past story u other)
-        apart = scenes-apart b.sharers c old log story w u opened other g.living (λ e. ne (sym e))
+        apart : AreApart (scene c log.past story w since opened) (scene c log.past story u other_since other)
+        apart = scenes-apart b.sharers c old log story w u since other_since opened other g.living (λ e. ne (sym e))
 
 pub quiet-lawful : Laws → QuietMarksAreLawful
-quiet-lawful b c old new log story mark w opened g all begun = lawful b c old new log story mark g all w opened begun
+quiet-lawful b c old new log story mark w since opened g all begun = lawful b c old new log story mark g all w since opened begun
 
 pub stores-told : Laws → StoresAreTold
 stores-told b = record {
-  own = λ c old new log story mark w a v opened g s. store-own b c old new log story mark g w a v opened s;
-  others = λ c old new log story mark w a v opened u other g s ne begun. store-others b c old new log story mark g w a v opened s u other ne begun;
+  own = λ c old new log story mark w a v since opened g s. store-own b c old new log story mark g w a v since opened s;
+  others = λ c old new log story mark w a v since opened u other_since other g s ne begun. store-others b c old new log story mark g w a v since opened s u other_since other ne begun;
 }
 
 pub flushes-told : Laws → FlushesAreTold
-flushes-told b c old new log story mark w line opened g all begun copies = flushes b c old new log story mark g all w line opened begun copies
+flushes-told b c old new log story mark w line since opened g all begun copies = flushes b c old new log story mark g all w line since opened begun copies

@@ -24,16 +24,16 @@ use Rattle.bz_task.specs.Swaps.{Change, IsGoodSwap, Takes, reserves}
 use Rattle.bz_story.specs.Living.{IsLiving}
 use Rattle.bz_story.specs.Story.{Story, scene, and_then}
 
--- a call that began in this life of the memory, before now
-pub record HasBegun (log : Log) (story : Story) (opened : Open) : Type 0 where
-  pub from : story.from ≤ opened.begun
-  pub before : opened.begun < length log.past
+-- a look-up that began in this life of the memory, at this moment
+pub record HasBegun (log : Log) (story : Story) (since : ℕ) : Type 0 where
+  pub from : story.from ≤ since
+  pub by_now : since ≤ length log.past
 
--- the scene of such a call is one of the memory now
+-- the scene of a call since then is one of the memory now
 abbrev pub ScenesAreSeen : Type 0
 ScenesAreSeen =
-    (c : Config) (m : SwapMemory) (log : Log) (story : Story) (w : ℕ) (opened : Open) → IsLiving c m log story → HasBegun log story opened →
-    Sees c (story.at (length log.past)) (scene c log.past story w opened)
+    (c : Config) (m : SwapMemory) (log : Log) (story : Story) (w since : ℕ) (opened : Open) → IsLiving c m log story → HasBegun log story since →
+    Sees c (story.at (length log.past)) (scene c log.past story w since opened)
 
 -- the memory has the words that the journal has after one mark more
 abbrev pub IsMarked : SwapMemory → Log → Mark → Type 0
@@ -64,14 +64,14 @@ LivesGoOn =
 -- which is nobody's private store: a lawful step for every worker
 abbrev pub QuietMarksAreLawful : Type 0
 QuietMarksAreLawful =
-    (c : Config) (old new : SwapMemory) (log : Log) (story : Story) (mark : Mark) (w : ℕ) (opened : Open) → GoesOn c old new log story mark → AllStay old new → HasBegun log story opened →
-    IsLawful (scene c log.past story w opened) (scene c (mark ∷ log.past) (goes_on log story new story.filled) w opened)
+    (c : Config) (old new : SwapMemory) (log : Log) (story : Story) (mark : Mark) (w since : ℕ) (opened : Open) → GoesOn c old new log story mark → AllStay old new → HasBegun log story since →
+    IsLawful (scene c log.past story w since opened) (scene c (mark ∷ log.past) (goes_on log story new story.filled) w since opened)
 
 -- a private store of worker w
-pub record IsStore (c : Config) (old new : SwapMemory) (log : Log) (story : Story) (w a v : ℕ) (opened : Open) : Type 0 where
+pub record IsStore (c : Config) (old new : SwapMemory) (log : Log) (story : Story) (w a v since : ℕ) (opened : Open) : Type 0 where
   pub stores : StoresAt old new a v
-  pub begun : HasBegun log story opened
-  pub own : IsOwnStore (scene c log.past story w opened) a v
+  pub begun : HasBegun log story since
+  pub own : IsOwnStore (scene c log.past story w since opened) a v
 
 -- the slots that have been stored into then
 abbrev pub fills : Config → Story → ℕ → ℕ → ℕ → ℕ → Bool
@@ -79,18 +79,18 @@ fills c story w a v k = story.filled v k || (v == w && slot_of c a == k)
 
 -- is one to the worker, and lawful for the others
 pub record StoresAreTold : Type 0 where
-  pub own : (c : Config) (old new : SwapMemory) (log : Log) (story : Story) (mark : Mark) (w a v : ℕ) (opened : Open) → GoesOn c old new log story mark → IsStore c old new log story w a v opened →
-      Stores a v (scene c log.past story w opened) (scene c (mark ∷ log.past) (goes_on log story new (fills c story w a)) w opened)
-  pub others : (c : Config) (old new : SwapMemory) (log : Log) (story : Story) (mark : Mark) (w a v : ℕ) (opened : Open) (u : ℕ) (other : Open) → GoesOn c old new log story mark →
-      IsStore c old new log story w a v opened → u ≢ w → HasBegun log story other →
-      IsLawful (scene c log.past story u other) (scene c (mark ∷ log.past) (goes_on log story new (fills c story w a)) u other)
+  pub own : (c : Config) (old new : SwapMemory) (log : Log) (story : Story) (mark : Mark) (w a v since : ℕ) (opened : Open) → GoesOn c old new log story mark → IsStore c old new log story w a v since opened →
+      Stores a v (scene c log.past story w since opened) (scene c (mark ∷ log.past) (goes_on log story new (fills c story w a)) w since opened)
+  pub others : (c : Config) (old new : SwapMemory) (log : Log) (story : Story) (mark : Mark) (w a v since : ℕ) (opened : Open) (u other_since : ℕ) (other : Open) → GoesOn c old new log story mark →
+      IsStore c old new log story w a v since opened → u ≢ w → HasBegun log story other_since →
+      IsLawful (scene c log.past story u other_since other) (scene c (mark ∷ log.past) (goes_on log story new (fills c story w a)) u other_since other)
 
 -- a private flush is one to its worker
 abbrev pub FlushesAreTold : Type 0
 FlushesAreTold =
-    (c : Config) (old new : SwapMemory) (log : Log) (story : Story) (mark : Mark) (w line : ℕ) (opened : Open) → GoesOn c old new log story mark → AllStay old new → HasBegun log story opened →
+    (c : Config) (old new : SwapMemory) (log : Log) (story : Story) (mark : Mark) (w line since : ℕ) (opened : Open) → GoesOn c old new log story mark → AllStay old new → HasBegun log story since →
     ((a : ℕ) → line_of a ≡ line → slice_index new.durable a ≡ slice_index old.cached a) →
-    Flushes line (scene c log.past story w opened) (scene c (mark ∷ log.past) (goes_on log story new story.filled) w opened)
+    Flushes line (scene c log.past story w since opened) (scene c (mark ∷ log.past) (goes_on log story new story.filled) w since opened)
 
 -- the story after the effect of a swap of worker w
 abbrev pub strikes : Config → Log → Story → SwapMemory → ℕ → List Entry → Story
@@ -103,28 +103,28 @@ strikes c log story new w entries = record {
 }
 
 -- an act by which swap s takes effect, that of worker w, for whom it is as good as it should be
-pub record Strikes (c : Config) (old new : SwapMemory) (log : Log) (story : Story) (mark : Mark) (s w : ℕ) (opened : Open) (publishes : Bool) (change : Change) : Type 0 where
+pub record Strikes (c : Config) (old new : SwapMemory) (log : Log) (story : Story) (mark : Mark) (s w since : ℕ) (opened : Open) (publishes : Bool) (change : Change) : Type 0 where
   pub living : IsLiving c old log story
   pub takes : TakesPlace old new s
   pub marked : IsMarked new log mark
   pub powered : LeavesPower log.past mark
-  pub begun : HasBegun log story opened
+  pub begun : HasBegun log story since
   pub list : IsEntryList (entries_of old s)
   pub few : length log.past + 1 < 2 ^ 32
-  pub good : IsGoodSwap publishes change (entries_of old s) (scene c log.past story w opened) (effect_instant c new (story.at (length log.past)))
+  pub good : IsGoodSwap publishes change (entries_of old s) (scene c log.past story w since opened) (effect_instant c new (story.at (length log.past)))
 
 -- the call with its effect, where the swap makes its change
 abbrev pub opened_after : Bool → ℕ → Open → Open
 opened_after publishes moment opened = if publishes then with_effect moment opened else opened
 
 pub record EffectsAreTold : Type 0 where
-  pub living : (c : Config) (old new : SwapMemory) (log : Log) (story : Story) (mark : Mark) (s w : ℕ) (opened : Open) (publishes : Bool) (change : Change) → Strikes c old new log story mark s w opened publishes change →
+  pub living : (c : Config) (old new : SwapMemory) (log : Log) (story : Story) (mark : Mark) (s w since : ℕ) (opened : Open) (publishes : Bool) (change : Change) → Strikes c old new log story mark s w since opened publishes change →
       IsLiving c new (with_mark log mark) (strikes c log story new w (entries_of old s))
-  pub own : (c : Config) (old new : SwapMemory) (log : Log) (story : Story) (mark : Mark) (s w : ℕ) (opened : Open) (publishes : Bool) (change : Change) (moment : ℕ) → Strikes c old new log story mark s w opened publishes change →
-      Takes publishes (entries_of old s) (scene c log.past story w opened) (scene c (mark ∷ log.past) (strikes c log story new w (entries_of old s)) w (opened_after publishes moment opened))
-  pub others : (c : Config) (old new : SwapMemory) (log : Log) (story : Story) (mark : Mark) (s w : ℕ) (opened : Open) (publishes : Bool) (change : Change) (v : ℕ) (other : Open) → Strikes c old new log story mark s w opened publishes change →
-      v ≢ w → HasBegun log story other →
-      IsLawful (scene c log.past story v other) (scene c (mark ∷ log.past) (strikes c log story new w (entries_of old s)) v other)
+  pub own : (c : Config) (old new : SwapMemory) (log : Log) (story : Story) (mark : Mark) (s w since : ℕ) (opened : Open) (publishes : Bool) (change : Change) (moment : ℕ) → Strikes c old new log story mark s w since opened publishes change →
+      Takes publishes (entries_of old s) (scene c log.past story w since opened) (scene c (mark ∷ log.past) (strikes c log story new w (entries_of old s)) w since (opened_after publishes moment opened))
+  pub others : (c : Config) (old new : SwapMemory) (log : Log) (story : Story) (mark : Mark) (s w since : ℕ) (opened : Open) (publishes : Bool) (change : Change) (v other_since : ℕ) (other : Open) → Strikes c old new log story mark s w since opened publishes change →
+      v ≢ w → HasBegun log story other_since →
+      IsLawful (scene c log.past story v other_since other) (scene c (mark ∷ log.past) (strikes c log story new w (entries_of old s)) v other_since other)
 
 -- the story once worker w took the slots that are free no more
 abbrev pub takes_slots : Story → ℕ → FreeSlots → FreeSlots → Story
@@ -138,5 +138,5 @@ pub record MayTake (c : Config) (story : Story) (old new : FreeSlots) : Type 0 w
 -- the memory lives on; to the worker the slots are gained, and to the others nothing happens
 pub record SlotsAreTaken : Type 0 where
   pub living : (c : Config) (m : SwapMemory) (log : Log) (story : Story) (w : ℕ) (old new : FreeSlots) → IsLiving c m log story → MayTake c story old new → IsLiving c m log (takes_slots story w old new)
-  pub own : (c : Config) (past : List Mark) (story : Story) (w : ℕ) (opened : Open) (old new : FreeSlots) → scene c past (takes_slots story w old new) w opened ≡ gained (scene c past story w opened) old new
-  pub others : (c : Config) (past : List Mark) (story : Story) (w v : ℕ) (opened : Open) (old new : FreeSlots) → v ≢ w → scene c past (takes_slots story w old new) v opened ≡ scene c past story v opened
+  pub own : (c : Config) (past : List Mark) (story : Story) (w since : ℕ) (opened : Open) (old new : FreeSlots) → scene c past (takes_slots story w old new) w since opened ≡ gained (scene c past story w since opened) old new
+  pub others : (c : Config) (past : List Mark) (story : Story) (w v since : ℕ) (opened : Open) (old new : FreeSlots) → v ≢ w → scene c past (takes_slots story w old new) v since opened ≡ scene c past story v since opened

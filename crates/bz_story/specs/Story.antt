@@ -30,10 +30,10 @@ abbrev pub loaded : List Mark → ℕ → ℕ → Bool
 loaded past w zero = false
 loaded past w (suc moment) = is_load_of w (mark_at moment past)
 
--- what a worker's task knows of: the memory since its call began, and what is the worker's own
-abbrev pub scene : Config → List Mark → Story → ℕ → Open → Scene
-scene c past story w opened = record {
-  past = record { config = c; at = story.at; now = length past; since = suc opened.begun; loads = loaded past w };
+-- what a worker's task knows of: the memory since the present look-up of its call began, and what is the worker's own
+abbrev pub scene : Config → List Mark → Story → ℕ → ℕ → Open → Scene
+scene c past story w since opened = record {
+  past = record { config = c; at = story.at; now = length past; since = since; loads = loaded past w };
   effected = is_some opened.effect;
   reserved = story.reserved w;
   took = story.took w;

@@ -38,12 +38,15 @@ use Rattle.bz_task.specs.declared.todo.Seen.TheVariants as seen
 use Rattle.bz_task.specs.declared.todo.Todo.TheVariants as todo
 use Rattle.bz_world.specs.Inside.Acted.{IsActed, IsTold, HasWon}
 use Rattle.bz_world.specs.Inside.Kept.{IsAwake}
+use Rattle.bz_world.specs.Inside.Lonely.{WhereLonely}
 use Rattle.bz_world.specs.Lab.{mark_of}
 use Rattle.bz_world.specs.Inside.Serving.{IsServing, IsSlot, stage_in, MayGoOn, IsFinishing}
 use Rattle.bz_world.specs.declared.parts.Parts.{Parts}
 use Rattle.bz_world.specs.declared.serving.Serving.{Serving}
 use Rattle.bz_world.specs.Inside.Laws.{StepLaws}
 use Rattle.bz_story.proofs.Powered.{stored-since}
+use Rattle.bz_world.proofs.Lonely.{lonely-act}
+use Rattle.bz_world.proofs.LonelyActs.{own-acted, all-acted, reads-now}
 use Rattle.bz_world.proofs.Powered.{begun-in, leaves-power}
 use Rattle.bz_world.proofs.Staying.{SameFor}
 use Rattle.bz_world.proofs.Quiet.{serves, sees, askable, goes, same-other, same-own, stays, goes-on, answered}
@@ -80,10 +83,10 @@ module _ (b : StepLaws) (old new : Parts) (w : ℕ) (x : Serving) (made : Act) (
   its = serves old k w x is-worker
 
   abbrev pub before : Scene
-  before = scene old.config old.journal.past k.story w its.opened
+  before = scene old.config old.journal.past k.story w its.call_open.look.since its.opened
 
   abbrev pub later : Scene
-  later = scene old.config (mark_of w made ∷ old.journal.past) after w its.opened
+  later = scene old.config (mark_of w made ∷ old.journal.past) after w its.call_open.look.since its.opened
 
   pub all-stay : AllStay old.access new.access
   all-stay = b.caches old.access new.access w made answer None a.step no-store
@@ -92,8 +95,8 @@ module _ (b : StepLaws) (old new : Parts) (w : ℕ) (x : Serving) (made : Act) (
   living = b.lives old.config old.access new.access old.journal k.story (mark_of w made) k.story.filled (goes b old new w x made answer k is-worker a)
       (λ v j f. stored-since old.config old.journal.past (mark_of w made) j (leaves-power w old.journal.past made) (k.living.stored v j f))
 
-  pub lawful : (v : ℕ) (opened : Open) → HasBegun old.journal k.story opened → IsLawful (scene old.config old.journal.past k.story v opened) (scene old.config (mark_of w made ∷ old.journal.past) after v opened)
-  lawful v opened begun = b.quiet old.config old.access new.access old.journal k.story (mark_of w made) v opened (goes b old new w x made answer k is-worker a) all-stay begun
+  pub lawful : (v since : ℕ) (opened : Open) → HasBegun old.journal k.story since → IsLawful (scene old.config old.journal.past k.story v since opened) (scene old.config (mark_of w made ∷ old.journal.past) after v since opened)
+  lawful v since opened begun = b.quiet old.config old.access new.access old.journal k.story (mark_of w made) v since opened (goes b old new w x made answer k is-worker a) all-stay begun
 
   pub slots : (v : ℕ) → SameFor old.access new.access v → IsSlot old.config new.access (with_mark old.journal (mark_of w made)) after old.owners.items v (get_or old.workers.items v None)
   slots v same = stays b old new w x made answer k is-worker a after v living refl same (lawful v) (λ j. refl) (λ j h. h)
@@ -106,18 +109,18 @@ module _ (b : StepLaws) (old new : Parts) (w : ℕ) (x : Serving) (made : Act) (
   busy-on e = goes-on b old new w x made answer k is-worker a after room living k.free (λ v. elim (cases_eq v w) [
     | inl same ↦ slots v (subst (SameFor old.access new.access) (sym same) (same-own b old new w x made answer k is-worker a e))
     | inr ne ↦ others v ne
-  ])
+  ]) (all-acted b old new w x made answer k is-worker a k.story.filled)
 
   pub later-seen : Sees old.config (after.at (suc (length old.journal.past))) later
-  later-seen = b.scenes old.config new.access (with_mark old.journal (mark_of w made)) after w its.opened living (let h : HasBegun old.journal k.story its.opened = begun-in k.living its.call_open in record { from = h.from; before = omega (arith, h.before) })
+  later-seen = b.scenes old.config new.access (with_mark old.journal (mark_of w made)) after w its.call_open.look.since its.opened living (let h : HasBegun old.journal k.story its.call_open.look.since = begun-in k.living its.call_open in record { from = h.from; by_now = omega (arith, h.by_now) })
 
   -- what it knows stays
   pub knows : facts_of x.task (stage_in old.access (doing_of old.access w)) later
-  knows = its.tasked.laws.stable (stage_in old.access (doing_of old.access w)) before later (sym its.tasked.config) its.facts later-seen.scene (lawful w its.opened (begun-in k.living its.call_open))
+  knows = its.tasked.laws.stable (stage_in old.access (doing_of old.access w)) before later (sym its.tasked.config) its.facts later-seen.scene (lawful w its.call_open.look.since its.opened (begun-in k.living its.call_open))
 
   -- and it is to be told
-  pub be-told : (stage : Stage) (what : Seen) → answer ≢ done.Busy → facts_of x.task stage later → MayGoOn x ⊎ HasWon x what → Hears (asks_of x.task) what → Tells (asks_of x.task) stage what later → IsTold new w x what
-  be-told stage what ne facts finished hears tells = subst (λ p. IsTold p w x what) (sym a.rest) (record {
+  pub be-told : (stage : Stage) (what : Seen) → answer ≢ done.Busy → facts_of x.task stage later → MayGoOn x ⊎ HasWon x what → Hears (asks_of x.task) what → Tells (asks_of x.task) stage what later → WhereLonely old.journal.past w x.call (λ key. stage ≡ Waiting) → IsTold new w x what
+  be-told stage what ne facts finished hears tells waits = subst (λ p. IsTold p w x what) (sym a.rest) (record {
     between = answered b old new w x made answer k is-worker a after room ne living k.free others;
     tasked = its.tasked;
     stage = stage;
@@ -126,6 +129,7 @@ module _ (b : StepLaws) (old new : Parts) (w : ℕ) (x : Serving) (made : Act) (
     finished = finished;
     hears = hears;
     tells = tells;
+    lonely = λ key get lonely. (own-acted b old new w x made answer k is-worker a k.story.filled key get lonely, waits key get (lonely-act w w old.journal.past made lonely));
   })
 
   -- a read answers what the address holds
@@ -162,6 +166,7 @@ module _ (b : StepLaws) (old new : Parts) (w : ℕ) (x : Serving) (made : Act) (
         (no-finish old.access w x (seen.Read v) (λ s f. absurd (cc (reads, f))) its.finishing)
         (subst (λ z. Hears z (seen.Read v)) (sym (its.asks ∙ ap Some asked)) tt)
         (subst (λ z. Tells z Waiting (seen.Read v) later) (sym (its.asks ∙ ap Some asked)) answers)
+        (λ key get lonely. refl)
 
   -- a swap answers whether it took effect
   module _ (entries : List Entry) (t : ℕ) (won : Bool) (asked : its.asked ≡ todo.Swap entries) (swaps : doing_of old.access w ≡ Swapping t) (effect : has_effect new.access t ≡ won) where
@@ -189,6 +194,7 @@ module _ (b : StepLaws) (old new : Parts) (w : ℕ) (x : Serving) (made : Act) (
         (finishes won refl its.finishing)
         (subst (λ z. Hears z (seen.Swapped won)) (sym (its.asks ∙ ap Some asked)) tt)
         (subst (λ z. Tells z (if has_effect old.access t then Took else Waiting) (seen.Swapped won) later) (sym (its.asks ∙ ap Some asked)) (stage-by (has_effect old.access t) (sym (a.step.effect.swaps t) ∙ effect)))
+        (λ key get lonely. absurd (cc ((reads-now old k w x is-worker key get lonely).reads, swaps)))
 
   -- a flush has been made
   module _ (line : ℕ) (asked : its.asked ≡ todo.Flush line) (flushes : doing_of old.access w ≡ Flushing line) (within : line * 8 < length old.access.cached) where
@@ -196,7 +202,7 @@ module _ (b : StepLaws) (old new : Parts) (w : ℕ) (x : Serving) (made : Act) (
     is-flushing = b.flushing old.config (k.story.at (length old.journal.past)) old.access new.access w made answer None line k.living.seen a.step flushes within
 
     flushed : Flushes line before later
-    flushed = b.flushes old.config old.access new.access old.journal k.story (mark_of w made) w line its.opened (goes b old new w x made answer k is-worker a) all-stay (begun-in k.living its.call_open) is-flushing.copies
+    flushed = b.flushes old.config old.access new.access old.journal k.story (mark_of w made) w line its.call_open.look.since its.opened (goes b old new w x made answer k is-worker a) all-stay (begun-in k.living its.call_open) is-flushing.copies
 
     took : facts_of x.task Took later
     took = its.tasked.laws.flushed before later line (sym its.tasked.config) (subst (λ z. facts_of x.task z before) (ap (stage_in old.access) flushes) its.facts) (sees b old new w x made answer k is-worker a w x its).scene later-seen.scene (its.asks ∙ ap Some asked) flushed
@@ -206,3 +212,4 @@ module _ (b : StepLaws) (old new : Parts) (w : ℕ) (x : Serving) (made : Act) (
         (no-finish old.access w x seen.Flushed (λ s f. absurd (cc (flushes, f))) its.finishing)
         (subst (λ z. Hears z seen.Flushed) (sym (its.asks ∙ ap Some asked)) tt)
         (subst (λ z. Tells z Took seen.Flushed later) (sym (its.asks ∙ ap Some asked)) tt)
+        (λ key get lonely. absurd (cc ((reads-now old k w x is-worker key get lonely).reads, flushes)))

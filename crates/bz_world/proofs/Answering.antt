@@ -1,7 +1,8 @@
 -- A call whose leaf was read, or whose key was looked up there, is answered as of the view's moment.
-use Rattle.std.proofs.Common.{◌≡◌, ℕ, zero, suc, ◌<◌, ◌≤◌, ◌&&◌, if◌then◌else◌, ◌==◌, true, false, List, ◌∷◌, length, arith, refl, sym, ap, subst, ◌∙◌, Option, Some, None}
+use Rattle.std.proofs.Common.{◌≡◌, ℕ, zero, suc, ◌*◌, ◌<◌, ◌≤◌, ◌&&◌, if◌then◌else◌, ◌==◌, true, false, List, ◌∷◌, length, arith, refl, sym, ap, subst, ◌∙◌, Option, Some, None}
 use Rattle.std.proofs.lemmas.Bool.{true≢false}
 use Rattle.std.proofs.lemmas.Bool.Decides.{nat_tests}
+use Rattle.bz_alone.specs.Reads.{get_reads}
 use Rattle.bz_call.specs.Map.{key_of}
 use Rattle.bz_call.specs.Pages.{is_from, is_page}
 use Rattle.bz_call.specs.declared.calls.Call.{Call}
@@ -15,6 +16,7 @@ use Rattle.bz_mark.specs.declared.marks.Mark.TheVariants.{Begin, End, Load, Stor
 use Rattle.bz_page.specs.Pages.{IsPageOf}
 use Rattle.bz_shape.specs.Order as order
 use Rattle.bz_slotted.specs.Readers.{found_of}
+use Rattle.bz_sound.specs.Lonely.{acts_since}
 use Rattle.bz_sound.specs.Memory.ImageLaws.{ReadsAt, ImageAnswersBy}
 use Rattle.bz_sound.specs.Memory.Moments.{image_at, IsAfterLoad}
 use Rattle.bz_sound.specs.Memory.Replies.{is_below}
@@ -30,6 +32,7 @@ use Rattle.bz_task.specs.declared.view.LeafView.{LeafView}
 use Rattle.bz_world.specs.Inside.Acted.{IsBetween}
 use Rattle.bz_world.specs.Inside.Going.{MustGoOn, MustAnswer, MustAnswerKey, MustEnd, MustEndPage, known}
 use Rattle.bz_world.specs.Inside.Laws.{AnswerLaws}
+use Rattle.bz_world.specs.Inside.Lonely.{WhereLonely}
 use Rattle.bz_world.specs.declared.parts.Parts.{Parts}
 use Rattle.bz_world.specs.declared.serving.Serving.{Serving}
 
@@ -69,7 +72,13 @@ between-pages p w x pairs b = record {
 }
 
 abbrev pub on-pages : (p : Parts) (w : ℕ) (pairs : List (List ℕ × List ℕ)) → MustGoOn p w → MustGoOn (record p { page = pairs }) w
-on-pages p w pairs on = record { serving = on.serving; is = on.is; between = between-pages p w on.serving pairs on.between; filled = on.filled }
+on-pages p w pairs on = record {
+  serving = on.serving;
+  is = on.is;
+  between = between-pages p w on.serving pairs on.between;
+  filled = on.filled;
+  lonely = λ key get lonely. let h = on.lonely key get lonely in record { get = let g = h.get in record { brief = g.brief; looks = g.looks; alone = g.alone; quiet = g.quiet; thawed = g.thawed }; stands = h.stands };
+}
 
 -- the mark of a load, and the moment directly after it
 load-by : (w : ℕ) (mark : Option Mark) (past : List Mark) → is_load_of w mark ≡ true → (one : Mark) → mark ≡ Some one → IsAfterLoad w (one ∷ past)
@@ -102,7 +111,7 @@ unfolding order.is_before
 same-below None key = refl
 same-below (Some next) key = refl
 
--- a moment directly after a load of the worker's own, since its call began, which had no effect
+-- a moment directly after a load of the worker's own, since its look-up began, of a call which had no effect
 pub record IsLooking (p : Parts) (w at : ℕ) (on : MustGoOn p w) : Type 0 where
   pub since : (known p w on).past.since ≤ at
   pub now : at ≤ (known p w on).past.now
@@ -128,7 +137,7 @@ module _ (b : AnswerLaws) (p : Parts) (w at : ℕ) (on : MustGoOn p w) (l : IsLo
 
   -- the moment is of this life of the memory
   since : was.story.from ≤ at
-  since = omega (arith, l.since, was.living.begins w was.opened was.call_open.is_open)
+  since = omega (arith, l.since, was.call_open.look.after_begin, was.living.begins w was.opened was.call_open.is_open)
 
   pub good : IsGood p.config (past.at at)
   good = was.living.history.good at since l.now
@@ -140,7 +149,7 @@ module _ (b : AnswerLaws) (p : Parts) (w at : ℕ) (on : MustGoOn p w) (l : IsLo
   reads = record {
     is_open = was.call_open.is_open;
     quiet = was.call_open.effect ∙ l.quiet;
-    after_begin = omega (arith, l.since);
+    after_begin = omega (arith, l.since, was.call_open.look.after_begin);
     before_end = l.now;
     loaded = after-load w at p.journal.past l.now l.loads;
   }
@@ -148,20 +157,24 @@ module _ (b : AnswerLaws) (p : Parts) (w at : ℕ) (on : MustGoOn p w) (l : IsLo
   answers : ImageAnswersBy (IsSpent p.config p.journal.start p.journal.past w was.opened) p.config p.journal w was.opened at
   answers = b.answers p.config p.at_start p.journal w at was.opened was.sound reads
 
-  pub value-right : (key had : List ℕ) → called ≡ call.Get key → content_in p.config (past.at at).image key ≡ Some had → MustEnd p w (Value had) at
-  value-right key had e has = record { on = on; right = answers.value key had (opened-is ∙ e) (ap (λ i. content_in p.config i key) (sym image-is) ∙ has); full = λ spent e. absurd (cc e) }
+  -- what is due where it is a lonely get
+  abbrev pub IsFew : Type 0
+  IsFew = WhereLonely p.journal.past w on.serving.call (λ key. acts_since w p.journal.past ≤ 2 * get_reads p.config (image_at p.journal.start at p.journal.past) key)
 
-  pub missing-right : (key : List ℕ) → called ≡ call.Get key → content_in p.config (past.at at).image key ≡ None → MustEnd p w Missing at
-  missing-right key e has = record { on = on; right = answers.no_value key (opened-is ∙ e) (ap (λ i. content_in p.config i key) (sym image-is) ∙ has); full = λ spent e. absurd (cc e) }
+  pub value-right : IsFew → (key had : List ℕ) → called ≡ call.Get key → content_in p.config (past.at at).image key ≡ Some had → MustEnd p w (Value had) at
+  value-right few key had e has = record { on = on; right = answers.value key had (opened-is ∙ e) (ap (λ i. content_in p.config i key) (sym image-is) ∙ has); full = λ spent e. absurd (cc e); brief = few }
+
+  pub missing-right : IsFew → (key : List ℕ) → called ≡ call.Get key → content_in p.config (past.at at).image key ≡ None → MustEnd p w Missing at
+  missing-right few key e has = record { on = on; right = answers.no_value key (opened-is ∙ e) (ap (λ i. content_in p.config i key) (sym image-is) ∙ has); full = λ spent e. absurd (cc e); brief = few }
 
   pub exists-right : (key payload had : List ℕ) → called ≡ call.Insert key payload → content_in p.config (past.at at).image key ≡ Some had → MustEnd p w Exists at
-  exists-right key payload had e has = record { on = on; right = answers.exists key payload had (opened-is ∙ e) (ap (λ i. content_in p.config i key) (sym image-is) ∙ has); full = λ spent e. absurd (cc e) }
+  exists-right key payload had e has = record { on = on; right = answers.exists key payload had (opened-is ∙ e) (ap (λ i. content_in p.config i key) (sym image-is) ∙ has); full = λ spent e. absurd (cc e); brief = λ other get lonely. absurd (cc (is, e, get)) }
 
   pub no-delete-right : (key : List ℕ) → called ≡ call.Delete key → content_in p.config (past.at at).image key ≡ None → MustEnd p w Missing at
-  no-delete-right key e has = record { on = on; right = answers.no_delete key (opened-is ∙ e) (ap (λ i. content_in p.config i key) (sym image-is) ∙ has); full = λ spent e. absurd (cc e) }
+  no-delete-right key e has = record { on = on; right = answers.no_delete key (opened-is ∙ e) (ap (λ i. content_in p.config i key) (sym image-is) ∙ has); full = λ spent e. absurd (cc e); brief = λ other get lonely. absurd (cc (is, e, get)) }
 
   pub no-update-right : (key payload : List ℕ) → called ≡ call.Update key payload → content_in p.config (past.at at).image key ≡ None → MustEnd p w Missing at
-  no-update-right key payload e has = record { on = on; right = answers.no_update key payload (opened-is ∙ e) (ap (λ i. content_in p.config i key) (sym image-is) ∙ has); full = λ spent e. absurd (cc e) }
+  no-update-right key payload e has = record { on = on; right = answers.no_update key payload (opened-is ∙ e) (ap (λ i. content_in p.config i key) (sym image-is) ∙ has); full = λ spent e. absurd (cc e); brief = λ other get lonely. absurd (cc (is, e, get)) }
 
   pub page-right : (from : List ℕ) (next : Option (List ℕ)) (pairs : List (List ℕ × List ℕ)) → called ≡ call.Page from → IsPageOf p.config (past.at at).image from pairs next → MustEndPage (record p { page = pairs }) w next at
   page-right from next pairs e page = record {

@@ -1,11 +1,12 @@
 -- A call that has begun, with the lookup of its key.
-use Rattle.std.proofs.Common.{◌≡◌, ◌≢◌, ◌⊎◌, ℕ, ◌+◌, ◌^◌, ◌<◌, ◌≤◌, ◌==◌, if◌then◌else◌, Bool, true, false, List, [], ◌∷◌, length, slice_index, slice_set, arith, refl, sym, ap, subst, ◌∙◌, inl, inr, Option, Some, None}
+use Rattle.std.proofs.Common.{◌≡◌, ◌≢◌, ◌⊎◌, ℕ, suc, ◌+◌, ◌^◌, ◌<◌, ◌≤◌, ◌==◌, if◌then◌else◌, Bool, true, false, List, [], ◌∷◌, length, slice_index, slice_set, arith, refl, sym, ap, subst, ◌∙◌, inl, inr, Option, Some, None}
 use Rattle.std.specs.Prelude.{get_or, map}
 use Rattle.std.specs.Global.{Vec}
 use Rattle.std.specs.Vec.{with_item}
 use Rattle.std.proofs.lemmas.Bool.{cases_eq, true≢false}
 use Rattle.std.proofs.lemmas.Bool.Decides.{nat_tests}
 use Rattle.std.proofs.lemmas.List.{get_or_read_under, get_or-set_same, get_or-set_other, length-set, map-set}
+use Rattle.bz_alone.specs.Brief.{IsBrief}
 use Rattle.bz_call.specs.Map.{key_of}
 use Rattle.bz_call.specs.Pages.{is_page}
 use Rattle.bz_call.specs.declared.calls.Call.{Call}
@@ -15,6 +16,7 @@ use Rattle.bz_mark.specs.declared.marks.Mark.TheVariants.{Begin, End, Load, Stor
 use Rattle.bz_running.specs.Duties.{config_of, asks_of, needs_of, wants_of, facts_of, makes_no_change}
 use Rattle.bz_running.specs.Hearing.{IsLookup}
 use Rattle.bz_running.specs.Laws.{AreLaws}
+use Rattle.bz_running.specs.LookingUp.{ForWay, look_of, reads_asked, LooksUpBriefly}
 use Rattle.bz_running.specs.declared.running.Running.{Running}
 use Rattle.bz_sound.specs.Calls.{Open, begun_calls}
 use Rattle.bz_sound.specs.Power.Sound.{IsSound}
@@ -30,6 +32,7 @@ use Rattle.bz_world.specs.Inside.Acted.{IsBetween}
 use Rattle.bz_world.specs.Inside.Beginning.{MayBegin, HasBegun, lab_of, pages_asked, is_swap}
 use Rattle.bz_world.specs.Inside.Kept.{IsTabled, IsAwake}
 use Rattle.bz_world.specs.Inside.Laws.{EndLaws, StartLaws}
+use Rattle.bz_world.specs.Inside.Lonely.{WhereLonely, IsLonelyGet}
 use Rattle.bz_world.specs.Lab.{supply_by}
 use Rattle.bz_world.specs.Inside.Serving.{IsSlot, IsAtRest}
 use Rattle.bz_world.specs.Inside.Telling.{MustStart}
@@ -37,6 +40,7 @@ use Rattle.bz_world.specs.declared.parts.Parts.{Parts}
 use Rattle.bz_world.specs.declared.serving.Serving.{Serving}
 use Rattle.bz_story.proofs.Powered.{stored-since}
 use Rattle.bz_world.proofs.Counting.{pairs-stay}
+use Rattle.bz_world.proofs.Lonely.{acts-begin, all-idle}
 use Rattle.bz_world.proofs.Powered.{is-on}
 use Rattle.bz_world.proofs.Staying.{none-unfilled, slot-stays}
 use Rattle.bz_world.proofs.Started.{read-kept}
@@ -75,7 +79,7 @@ module _ (p : Parts) (k : IsAwake p) (w : ℕ) (call : Call) (may : MayBegin p w
   at-rest = subst (IsSlot p.config p.access p.journal k.story p.owners.items w) may.none_open (k.workers w)
 
   module _ (b : EndLaws) (s : StartLaws) (n : ℕ) (numbered : n ≡ begun_calls w p.journal.past + 1) (task : Running) (config : config_of task ≡ p.config) (laws : AreLaws task) (looks : makes_no_change task ≡ true)
-      (lookup : IsLookup (key_of call) None task) (asks : asks_of task ≡ Some (Read 2)) (facts : (z : Scene) → HasFilled z → facts_of task Waiting z) (wants : wants_of task ≡ 0) where
+      (lookup : IsLookup (key_of call) None task) (asks : asks_of task ≡ Some (Read 2)) (facts : (z : Scene) → HasFilled z → facts_of task Waiting z) (wants : wants_of task ≡ 0) (look : look_of task ≡ ForWay) (reads : reads_asked task ≡ 1) (brief : LooksUpBriefly task) where
     abbrev mark : Mark
     mark = Begin w n call
 
@@ -118,7 +122,7 @@ module _ (p : Parts) (k : IsAwake p) (w : ℕ) (call : Call) (may : MayBegin p w
           same = record { doing = refl; begun = refl; taken = refl; size = refl; effects = λ t d. refl };
           calls = (b.calls v p.journal.past).other_begin w n call (λ e. ne (sym e));
           from = refl;
-          lawful = λ o begins. b.quiet p.config p.access p.access p.journal k.story mark v o no-act (λ a out n. refl) begins;
+          lawful = λ m o begins. b.quiet p.config p.access p.access p.journal k.story mark v m o no-act (λ a out n. refl) begins;
           took = λ j. refl;
           filled = λ j e. e;
         }) (k.workers v))
@@ -183,12 +187,22 @@ module _ (p : Parts) (k : IsAwake p) (w : ℕ) (call : Call) (may : MayBegin p w
       worker = may.worker;
       within = may.within;
       opened = opened;
-      call_open = record { is_open = (b.calls w p.journal.past).own_begin n call; call = refl; effect = refl; begun = omega arith; told = λ at e. absurd (cc e); wanted = λ quiet some. absurd (omega (arith, some, wants)) };
+      call_open = record { is_open = (b.calls w p.journal.past).own_begin n call; call = refl; effect = refl; look = record { since = suc (length p.journal.past); after_begin = omega arith; by_now = omega arith }; told = λ at e. absurd (cc e); wanted = λ quiet some. absurd (omega (arith, some, wants)) };
       idle = at-rest.idle;
     }
 
-    none-taken : HasFilled (scene p.config (mark ∷ p.journal.past) after w opened)
+    none-taken : HasFilled (scene p.config (mark ∷ p.journal.past) after w (suc (length p.journal.past)) opened)
     none-taken i e = at-rest.filled i e
+
+    -- where no other call is open it is a brief look-up
+    lonely-begun : WhereLonely (mark ∷ p.journal.past) w call (IsLonelyGet (started p.access w (Reading 2)) (mark ∷ p.journal.past) after w fresh opened)
+    lonely-begun key get lonely = record {
+      brief = subst (λ acts. IsBrief (started p.access w (Reading 2)) w acts key None task) (sym (acts-begin w n p.journal.past call)) (b.lonely.brief.begins p.access w 2 key task (all-idle p k lonely.1) look reads);
+      looks = brief;
+      alone = refl;
+      quiet = refl;
+      thawed = refl;
+    }
 
     pub must-start : MustStart mid w (Read 2)
     unfolding between
@@ -200,8 +214,9 @@ module _ (p : Parts) (k : IsAwake p) (w : ℕ) (call : Call) (may : MayBegin p w
         tasked = record { config = config; laws = laws; lookup = lookup; change = inl looks };
         asks = asks;
         finished = inl (inl refl);
-        facts = facts (scene p.config (mark ∷ p.journal.past) after w opened) none-taken;
+        facts = facts (scene p.config (mark ∷ p.journal.past) after w (suc (length p.journal.past)) opened) none-taken;
         covered = none-unfilled (k.story.took w) (k.story.filled w) (needs_of task) (omega (arith, laws.few, laws.most)) at-rest.filled;
+        lonely = lonely-begun;
       };
     }
 

@@ -16,6 +16,7 @@ use Rattle.bz_slotted.specs.Page.{Page, page}
 use Rattle.bz_slotted.specs.Readers.{live_of}
 use Rattle.bz_slotted.specs.ReadingLaws.{node_of}
 use Rattle.bz_slotted.specs.Records.{live_words}
+use Rattle.bz_sound.specs.Memory.ImageLaws.{IsChangeOf}
 use Rattle.bz_sound.specs.Memory.Moments.{image_at}
 use Rattle.bz_sound.specs.Memory.Spent.{leaf_page, slots_for}
 use Rattle.bz_story.specs.Laws.{ScenesAreSeen}
@@ -49,6 +50,15 @@ pub update-key : (called : Call) (key payload : List ℕ) → MayUpdate called k
 update-key called key payload (inl e) = ap key_of e
 update-key called key payload (inr e) = ap key_of e
 
+-- and none of them is a get
+pub insert-no-get : (called : Call) (key payload other : List ℕ) → MayInsert called key payload → called ≡ call.Get other → ⊥
+insert-no-get called key payload other (inl e) get = absurd (cc (e, get))
+insert-no-get called key payload other (inr e) get = absurd (cc (e, get))
+
+pub update-no-get : (called : Call) (key payload other : List ℕ) → MayUpdate called key payload → called ≡ call.Get other → ⊥
+update-no-get called key payload other (inl e) get = absurd (cc (e, get))
+update-no-get called key payload other (inr e) get = absurd (cc (e, get))
+
 -- the changes that calls make
 pub insert-changes : (called : Call) (key payload : List ℕ) (change : Change) → MayInsert called key payload → change ≡ record { key = key; old = None; new = Some payload } → IsChangeFor called None change
 insert-changes called key payload change (inl e) is = subst (λ k. IsChangeFor k None change) (sym e) (subst (IsChangeFor (call.Insert key payload) None) (sym is) (record { key = refl; old = refl; is = refl }))
@@ -73,7 +83,7 @@ module _ (scenes : ScenesAreSeen) (b : AnswerLaws) (p : Parts) (w : ℕ) (view :
 
   -- the view is of this life of the memory
   since : m.on.between.story.from ≤ view.at
-  since = omega (arith, m.viewed.since, m.on.between.living.begins w m.on.between.opened m.on.between.call_open.is_open)
+  since = omega (arith, m.viewed.since, m.on.between.call_open.look.after_begin, m.on.between.living.begins w m.on.between.opened m.on.between.call_open.is_open)
 
   -- the status of the key's leaf was the one that was viewed
   status-is : durable p.config (m.on.between.story.at view.at) view.slot STATUS_AT ≡ view.status
@@ -99,7 +109,7 @@ module _ (scenes : ScenesAreSeen) (b : AnswerLaws) (p : Parts) (w : ℕ) (view :
     enough = enough;
     needs = record {
       moment = view.at;
-      after_begin = omega (arith, m.viewed.since);
+      after_begin = omega (arith, m.viewed.since, m.on.between.call_open.look.after_begin);
       before_end = m.viewed.now;
       frozen = subst (λ k. (leaf_page p.config (image_at p.journal.start view.at p.journal.past) k).frozen ≡ true) key-back (ap (λ (z : Page). z.frozen) leaf-is ∙ (ap (λ st. (status st).frozen) status-is ∙ frozen));
       needed = subst (λ k. slots_for (live_words (leaf_page p.config (image_at p.journal.start view.at p.journal.past) k)) ≡ slots_for (live_of (node_of view.image.0))) key-back (ap slots_for live-is);
@@ -122,7 +132,7 @@ module _ (scenes : ScenesAreSeen) (b : AnswerLaws) (p : Parts) (w : ℕ) (view :
 pub must-change : ScenesAreSeen → (p : Parts) (w : ℕ) (view : KeyView) (m : MustAnswerKey p w view) (key : List ℕ) → key_of m.on.serving.call ≡ key → (task : Running) (had : Option (List ℕ)) → config_of task ≡ p.config → AreLaws task → IsChangeFor m.on.serving.call had (change_of task)
     → ((way : Option Path) → IsLookup key way task) → asks_of task ≡ None → wants_of task ≡ 0 → ((s : Scene) → s.past.config ≡ p.config → s.effected ≡ false → IsScene s → IsKeyView key view s.past → facts_of task Waiting s) → MustChange p w had task
 must-change scenes p w view m key key-is task had config laws change lookup asks wants facts = record {
-  reads = record { on = m.on; leads = m.leads; quiet = m.quiet };
+  reads = record { on = m.on; leads = m.leads; quiet = m.quiet; other = λ other get lonely. absurd (subst (λ called. IsChangeOf called had (change_of task).new) get change.is) };
   tasked = record { config = config; laws = laws; lookup = subst (λ k. IsLookup k m.on.serving.path task) (sym key-is) (lookup m.on.serving.path); change = inr change };
   asks = asks;
   facts = facts (known p w m.on) refl (quiet-by m.on.between.opened.effect (m.on.between.call_open.effect ∙ m.quiet)) (known-scene scenes p w m.on) (subst (λ k. IsKeyView k view (known p w m.on).past) key-is m.viewed);
@@ -135,7 +145,7 @@ tells-nothing p w on had quiet at e = absurd (cc (e, on.between.call_open.effect
 
 -- the task that it takes on, and what is known of the way to its leaf
 abbrev pub takes : (p : Parts) (w : ℕ) (had : Option (List ℕ)) (task : Running) (m : MustChange p w had task) → MustTakeOn p w task m.reads.on.serving.path had None
-takes p w had task m = record { on = m.reads.on; may = inl m.reads.quiet; tasked = m.tasked; asks = m.asks; facts = m.facts; wanted = none-wanted p w m.reads.on task m.wants }
+takes p w had task m = record { on = m.reads.on; may = inl m.reads.quiet; tasked = m.tasked; asks = m.asks; facts = m.facts; wanted = none-wanted p w m.reads.on task m.wants; lonely = λ key get lonely. absurd (m.reads.other key get lonely) }
 
 abbrev pub knows : (p : Parts) (w : ℕ) (m : MustReadWhole p w) → KnowsWay p w m.on.serving m.on.between
 knows p w m = record { leads = m.leads; quiet = m.quiet }

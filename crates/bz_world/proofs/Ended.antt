@@ -2,7 +2,7 @@
 use Rattle.std.proofs.Common.{◌≡◌, ◌≢◌, ℕ, ◌+◌, ◌<◌, true, false, List, [], ◌∷◌, ◌++◌, length, slice_index, arith, refl, sym, ap, subst, ◌∙◌, inl, inr, Option, Some, None, append-nil}
 use Rattle.std.specs.Prelude.{get_or, if◌then◌else◌}
 use Rattle.std.specs.Vec.{with_item}
-use Rattle.std.proofs.lemmas.Bool.{cases_eq}
+use Rattle.std.proofs.lemmas.Bool.{cases_eq, true≢false}
 use Rattle.std.proofs.lemmas.List.{get_or_read_under, get_or-set_same, get_or-set_other, length-set}
 use Rattle.bz_call.specs.Pages.{is_page, names_page}
 use Rattle.bz_call.specs.declared.replies.Reply.{Reply}
@@ -23,12 +23,15 @@ use Rattle.bz_world.specs.Inside.Acted.{IsBetween}
 use Rattle.bz_world.specs.Inside.Going.{MustGoOn, MustEnd, MustEndPage, WentOn}
 use Rattle.bz_world.specs.Inside.Kept.{IsTabled, IsAwake}
 use Rattle.bz_world.specs.Inside.Laws.{EndLaws}
+use Rattle.bz_world.specs.Inside.Lonely.{IsLonelyIn}
 use Rattle.bz_world.specs.Inside.Serving.{IsSlot}
 use Rattle.bz_world.specs.declared.answers.Applied.TheVariants as applied
 use Rattle.bz_world.specs.declared.parts.Parts.{Parts}
 use Rattle.bz_world.specs.declared.serving.Serving.{Serving}
 use Rattle.bz_story.proofs.Powered.{stored-since}
 use Rattle.bz_world.proofs.Counting.{pairs-stay}
+use Rattle.bz_world.proofs.Lonely.{none-in}
+use Rattle.bz_world.proofs.LonelyEnds.{ends-briefly}
 use Rattle.bz_world.proofs.Staying.{slot-stays}
 
 -- what is known of a worker does not depend on the journal's pages
@@ -36,7 +39,7 @@ slot-pages : (c : Config) (m : SwapMemory) (log : Log) (pages : Pages) (story : 
 slot-pages c m log pages story owners v None h = record { none_open = h.none_open; idle = h.idle; filled = h.filled }
 slot-pages c m log pages story owners v (Some x) h = record {
   opened = h.opened;
-  call_open = let o = h.call_open in record { is_open = o.is_open; call = o.call; effect = o.effect; begun = o.begun; told = o.told; wanted = o.wanted };
+  call_open = let o = h.call_open in record { is_open = o.is_open; call = o.call; effect = o.effect; look = o.look; told = o.told; wanted = o.wanted };
   tasked = h.tasked;
   asked = h.asked;
   asks = h.asks;
@@ -108,7 +111,7 @@ module _ (b : EndLaws) (p : Parts) (w : ℕ) (on : MustGoOn p w) where
       same = record { doing = refl; begun = refl; taken = refl; size = refl; effects = λ t d. refl };
       calls = (b.calls v p.journal.past).other_end w n at reply (λ e. ne (sym e));
       from = refl;
-      lawful = λ o begins. b.quiet p.config p.access p.access p.journal was.story mark v o no-act (λ a out n. refl) begins;
+      lawful = λ m o begins. b.quiet p.config p.access p.access p.journal was.story mark v m o no-act (λ a out n. refl) begins;
       took = λ j. refl;
       filled = λ j e. e;
     }) (was.others v ne)
@@ -124,6 +127,13 @@ module _ (b : EndLaws) (p : Parts) (w : ℕ) (on : MustGoOn p w) where
         | inl e ↦ subst (λ u. IsSlot p.config p.access done.journal after p.owners.items u (get_or done.workers.items u None)) (sym e)
             (subst (IsSlot p.config p.access done.journal after p.owners.items w) (sym (get_or-set_same p.workers.items w None None (omega (arith, in-table, was.tabled.places))))
             (record { none_open = (b.calls w p.journal.past).own_end n at reply; idle = was.idle; filled = on.filled }))
+      ]
+
+      -- beside the call that ended no get was lonely
+      none-lonely : (v : ℕ) → IsLonelyIn p.access (mark ∷ p.journal.past) after done.workers.items v
+      none-lonely v = elim (cases_eq v w) [
+        | inl e ↦ subst (IsLonelyIn p.access (mark ∷ p.journal.past) after done.workers.items) (sym e) (none-in p.access (mark ∷ p.journal.past) after done.workers.items w (get_or-set_same p.workers.items w None None (omega (arith, in-table, was.tabled.places))))
+        | inr ne ↦ λ x opened is is-open key get lonely. absurd (let never : None ≡ Some was.opened = sym (b.lonely.alone v w p.journal.past lonely (λ e. ne (sym e))) ∙ was.call_open.is_open in cc never)
       ]
 
       tabled : IsTabled done
@@ -159,6 +169,7 @@ module _ (b : EndLaws) (p : Parts) (w : ℕ) (on : MustGoOn p w) where
         sound = sound;
         free = was.free;
         workers = slots;
+        lonely = none-lonely;
       }
 
 -- by a reply that names no page
@@ -179,6 +190,7 @@ end-went b p w n reply at m number plain room = record {
   others = λ v ne. refl;
   spends = record { taken = inl refl; fewer = omega arith; few = omega arith };
   full = λ number moment spent e. m.full spent (cc e);
+  brief = ends-briefly p w n reply at m.on (with_mark p.journal (End w n reply at)) refl m.brief;
 }
   where
     sound : IsSound p.config p.at_start (with_mark p.journal (End w n reply at))
@@ -203,6 +215,7 @@ end-page-went b p w n page next at m number place room = record {
   others = λ v ne. refl;
   spends = record { taken = inl refl; fewer = omega arith; few = omega arith };
   full = λ number moment spent e. absurd (cc e);
+  brief = ends-briefly p w n (Page page next) at m.on (with_mark (with_page p.journal p.page) (End w n (Page page next) at)) refl (λ key get lonely. absurd (true≢false (sym m.asks ∙ ap is_page get)));
 }
   where
     sound : IsSound p.config p.at_start (with_mark (with_page p.journal p.page) (End w n (Page page next) at))

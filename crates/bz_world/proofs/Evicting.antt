@@ -28,6 +28,7 @@ use Rattle.bz_world.specs.declared.parts.Parts.{Parts}
 use Rattle.bz_world.specs.Inside.Laws.{StepLaws}
 use Rattle.bz_story.proofs.Powered.{stored-since}
 use Rattle.bz_world.proofs.Counting.{pairs-stay}
+use Rattle.bz_world.proofs.LonelyActs.{all-evicted}
 use Rattle.bz_world.proofs.Powered.{is-not-off}
 use Rattle.bz_world.proofs.Owners.{pending-begun}
 use Rattle.bz_world.proofs.Stepped.{unused-by}
@@ -128,7 +129,7 @@ module _ (b : StepLaws) (sees : EvictionsAreSeen) (old new : Parts) (a : ℕ) (k
     same = same v;
     calls = refl;
     from = refl;
-    lawful = λ o begins. b.quiet old.config old.access new.access old.journal k.story (Evict a) v o goes (sees.leaves old.access new.access a None e.eviction) begins;
+    lawful = λ m o begins. b.quiet old.config old.access new.access old.journal k.story (Evict a) v m o goes (sees.leaves old.access new.access a None e.eviction) begins;
     took = λ j. refl;
     filled = λ j h. h;
   }) (k.workers v)
@@ -154,4 +155,5 @@ module _ (b : StepLaws) (sees : EvictionsAreSeen) (old new : Parts) (a : ℕ) (k
     sound = sound;
     free = k.free;
     workers = slots;
+    lonely = all-evicted b old new a k e;
   })

@@ -9,10 +9,13 @@ use Rattle.bz_story.specs.Laws.{ScenesAreSeen}
 use Rattle.bz_task.specs.Outcomes.{IsPath, IsView}
 use Rattle.bz_task.specs.Scene.{Scene, IsScene, Waiting}
 use Rattle.bz_task.specs.declared.path.Path.{Path}
+use Rattle.bz_task.specs.declared.todo.Outcome.TheVariants.{NeedsRoom}
 use Rattle.bz_task.specs.declared.view.LeafView.{LeafView}
 use Rattle.bz_world.specs.Inside.Going.{MustTakeOn, MustMakeAnew, MustGoUp, known}
+use Rattle.bz_world.specs.Inside.Lonely.{IsNotLonely}
 use Rattle.bz_world.specs.Inside.Serving.{NeedsAtLeast}
 use Rattle.bz_world.specs.declared.parts.Parts.{Parts}
+use Rattle.bz_world.proofs.LonelyEnds.{other-ended}
 use Rattle.bz_world.proofs.TakingOn.{known-scene, lookup-taken}
 
 -- the split of its leaf, along a path of its key
@@ -23,6 +26,11 @@ split-taken scenes p w path view m key same task config laws looks lookup asks s
     lookup-taken p w m.answer.on (inl m.answer.quiet) task None None key config laws looks (lookup None) same asks
     (facts (known p w m.answer.on) refl (known-scene scenes p w m.answer.on) (subst (λ k. IsPath k path (known p w m.answer.on).past) (sym same) m.way) (subst (λ k. IsView k view (known p w m.answer.on).past) (sym same) m.answer.viewed))
     (λ quiet some. subst (NeedsAtLeast p.config p.journal.start p.journal.past m.answer.on.between.opened) (sym wants) needs)
+    (λ key get lonely. absurd (m.answer.other key get lonely))
+
+-- the call is no lonely get, whose task ends by no want of room
+pub up-other : (p : Parts) (w : ℕ) (task : Running) (m : MustGoUp p w task) → IsNotLonely p.journal.past w m.ends.on.serving.call
+up-other p w task m = other-ended p w m.ends.on NeedsRoom m.ends.end (λ path e. absurd (cc e)) (λ view e. absurd (cc e))
 
 -- the split of the node above
 abbrev pub up-taken : ScenesAreSeen → (p : Parts) (w : ℕ) (task : Running) (m : MustGoUp p w task) → AreLaws task → MustTakeOn p w task None m.ends.on.serving.had None
@@ -30,3 +38,4 @@ up-taken scenes p w task m laws =
     lookup-taken p w m.ends.on (inl m.ends.quiet) task None None (key_of m.ends.on.serving.call) (m.up.config ∙ m.ends.tasked.config) laws m.up.silent (m.up.ends (key_of m.ends.on.serving.call) m.ends.on.serving.path None m.ends.tasked.lookup) refl m.up.asks
     (m.up.facts (known p w m.ends.on) (sym m.ends.tasked.config) (known-scene scenes p w m.ends.on) m.ends.facts m.ends.end)
     (λ quiet some. subst (NeedsAtLeast p.config p.journal.start p.journal.past m.ends.on.between.opened) (m.up.wanted ∙ sym m.up.wants) (m.ends.on.between.call_open.wanted quiet (omega (arith, m.up.wanted))))
+    (λ key get lonely. absurd (up-other p w task m key get lonely))

@@ -37,7 +37,7 @@ module _ (p : Parts) (w : ℕ) (on : MustGoOn p w) where
   full-at : (slot level : ℕ) → WasFull (key_of on.between.opened.call) slot level past → IsFullAt p.config p.journal.start p.journal.past on.between.opened level
   full-at slot level f = record {
     moment = f.moment;
-    after_begin = omega (arith, f.since);
+    after_begin = omega (arith, f.since, on.between.call_open.look.after_begin);
     before_end = f.now;
     slot = slot;
     inside = subst (λ i. is_reached_in p.config i slot ≡ true) image-is reached-in;
@@ -50,7 +50,7 @@ module _ (p : Parts) (w : ℕ) (on : MustGoOn p w) where
   }
     where
       image-is : (past.at f.moment).image ≡ image_at p.journal.start f.moment p.journal.past
-      image-is = on.between.living.images f.moment (omega (arith, f.since, on.between.living.begins w on.between.opened on.between.call_open.is_open)) f.now
+      image-is = on.between.living.images f.moment (omega (arith, f.since, on.between.call_open.look.after_begin, on.between.living.begins w on.between.opened on.between.call_open.is_open)) f.now
 
       reached-in : is_reached_in p.config (past.at f.moment).image slot ≡ true
       reached-in = let t : nat_lt slot p.config.nodes ≡ true = both slot p.config.nodes f.within in rw (t, f.inside) refl

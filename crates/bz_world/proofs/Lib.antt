@@ -4,6 +4,11 @@ mod Powered
 mod Idling
 mod Stepped
 mod Quiet
+mod Lonely
+mod LonelyActs
+mod LonelyTold
+mod LonelyEnds
+mod Finding
 mod Answered
 mod Stored
 mod Went

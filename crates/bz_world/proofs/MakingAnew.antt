@@ -22,7 +22,7 @@ abbrev pub freeze-taken : ScenesAreSeen → (p : Parts) (w : ℕ) (view : LeafVi
     → ((key : List ℕ) (s : Scene) → s.past.config ≡ p.config → IsScene s → IsView key view s.past → facts_of task Waiting s) → MustTakeOn p w task None m.on.serving.had None
 freeze-taken scenes p w view m task config laws looks lookup asks wants facts =
     lookup-taken p w m.on (inl m.quiet) task None None (key_of m.on.serving.call) config laws looks (lookup (key_of m.on.serving.call) None) refl asks (facts (key_of m.on.serving.call) (known p w m.on) refl (known-scene scenes p w m.on) m.viewed)
-    (none-wanted p w m.on task wants)
+    (none-wanted p w m.on task wants) (λ key get lonely. absurd (m.other key get lonely))
 
 -- its copy or its split
 abbrev pub anew-taken : ScenesAreSeen → (p : Parts) (w : ℕ) (path : Path) (view : LeafView) (m : MustMakeAnew p w path view) (task : Running) → config_of task ≡ p.config → AreLaws task → makes_no_change task ≡ true → ((key : List ℕ) (way : Option Path) → IsLookup key way task) → asks_of task ≡ None → (slots : ℕ) → wants_of task ≡ slots → NeedsAtLeast p.config p.journal.start p.journal.past m.answer.on.between.opened slots
@@ -30,7 +30,7 @@ abbrev pub anew-taken : ScenesAreSeen → (p : Parts) (w : ℕ) (path : Path) (v
 anew-taken scenes p w path view m task config laws looks lookup asks slots wants needs facts =
     lookup-taken p w m.answer.on (inl m.answer.quiet) task None None (key_of m.answer.on.serving.call) config laws looks (lookup (key_of m.answer.on.serving.call) None) refl asks
     (facts (key_of m.answer.on.serving.call) (known p w m.answer.on) refl (known-scene scenes p w m.answer.on) m.way m.answer.viewed)
-    (λ quiet some. subst (NeedsAtLeast p.config p.journal.start p.journal.past m.answer.on.between.opened) (sym wants) needs)
+    (λ quiet some. subst (NeedsAtLeast p.config p.journal.start p.journal.past m.answer.on.between.opened) (sym wants) needs) (λ key get lonely. absurd (m.answer.other key get lonely))
 
 -- its merge with a neighbour
 abbrev pub merge-taken : ScenesAreSeen → (p : Parts) (w : ℕ) (path : Path) (view : LeafView) (m : MustMerge p w path view) (task : Running) → config_of task ≡ p.config → AreLaws task → makes_no_change task ≡ true → ((key : List ℕ) (way : Option Path) → IsLookup key way task) → asks_of task ≡ None → wants_of task ≡ MERGE_SLOTS
@@ -38,11 +38,11 @@ abbrev pub merge-taken : ScenesAreSeen → (p : Parts) (w : ℕ) (path : Path) (
 merge-taken scenes p w path view m task config laws looks lookup asks wants facts =
     lookup-taken p w m.on m.may task None None (key_of m.on.serving.call) config laws looks (lookup (key_of m.on.serving.call) None) refl asks
     (facts (key_of m.on.serving.call) (known p w m.on) refl (known-scene scenes p w m.on) m.way m.viewed)
-    (subst (IsWanted p.config p.journal m.on.between.opened) (sym wants) m.wanted)
+    (subst (IsWanted p.config p.journal m.on.between.opened) (sym wants) m.wanted) (λ key get lonely. absurd (m.other key get lonely))
 
 -- the page that is put together for that is nothing to the world
 abbrev pub anew-pages : (p : Parts) (w : ℕ) (path : Path) (view : LeafView) (pairs : List (List ℕ × List ℕ)) → MustMakeAnew p w path view → MustMakeAnew (record p { page = pairs }) w path view
 anew-pages p w path view pairs m = record {
-  answer = record { on = on-pages p w pairs m.answer.on; viewed = m.answer.viewed; leads = m.answer.leads; quiet = m.answer.quiet };
+  answer = record { on = on-pages p w pairs m.answer.on; viewed = m.answer.viewed; leads = m.answer.leads; quiet = m.answer.quiet; other = m.answer.other };
   way = m.way;
 }

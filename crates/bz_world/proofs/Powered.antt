@@ -25,7 +25,7 @@ use Rattle.bz_story.specs.Story.{Story}
 use Rattle.bz_swap.specs.SwapMemory.{SwapMemory}
 use Rattle.bz_world.specs.Inside.Kept.{IsTabled, AreFree, IsAwake, IsOff, IsStarted, IsKeptIn, IsKept}
 use Rattle.bz_world.specs.declared.parts.Parts.{Parts}
-use Rattle.bz_world.specs.Inside.Serving.{IsOpened}
+use Rattle.bz_world.specs.Inside.Serving.{IsOpened, LookUp}
 use Rattle.bz_world.specs.Lab.{mark_of}
 use Rattle.bz_world.specs.declared.serving.Serving.{Serving}
 
@@ -90,9 +90,13 @@ kept-off p off o = record { tabled = o.dark.tabled; sound = o.dark.sound; words 
 pub kept-started : (p : Parts) → p.power ≡ power.Recovering → IsStarted p → IsKept p
 kept-started p is r = record { tabled = r.dark.tabled; sound = r.dark.sound; words = r.memory.words; state = subst (λ (z : Power). IsKeptIn z p) (sym is) r }
 
--- a call that is open began in this life of the memory
-pub begun-in : {c : Config} {m : SwapMemory} {log : Log} {story : Story} {w : ℕ} {opened : Open} {x : Serving} → IsLiving c m log story → IsOpened c log w opened x → HasBegun log story opened
-begun-in {w = w} {opened = opened} living o = record { from = living.begins w opened o.is_open; before = o.begun }
+-- a call that is open began in this life of the memory, and so did its look-up
+pub begun-in : {c : Config} {m : SwapMemory} {log : Log} {story : Story} {w : ℕ} {opened : Open} {x : Serving} → IsLiving c m log story → (o : IsOpened c log w opened x) → HasBegun log story o.look.since
+begun-in {w = w} {opened = opened} living o = record { from = omega (arith, living.begins w opened o.is_open, o.look.after_begin); by_now = o.look.by_now }
+
+-- and it goes on with one mark more
+abbrev pub looks-on : (past : List Mark) (mark : Mark) (opened : Open) → LookUp past opened → LookUp (mark ∷ past) opened
+looks-on past mark opened l = record { since = l.since; after_begin = l.after_begin; by_now = omega (arith, l.by_now) }
 
 -- slots are free as they were
 pub free-on : (c : Config) (start : List ℕ) (past : List Mark) (mark : Mark) (slots : FreeSlots) (took : ℕ → ℕ → Bool) → LeavesPower past mark → AreFree c (image_at_on start past) slots took → AreFree c (image_at_on start (mark ∷ past)) slots took

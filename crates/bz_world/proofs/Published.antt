@@ -17,6 +17,7 @@ use Rattle.bz_sight.specs.Effects.{effect_instant}
 use Rattle.bz_sight.specs.Sight.{IsSeen}
 use Rattle.bz_sight.specs.Starts.{Sees}
 use Rattle.bz_sound.specs.Calls.{Open, open_call, with_effect, map_after, map_at}
+use Rattle.bz_sound.specs.Lonely.{IsLonely}
 use Rattle.bz_sound.specs.Memory.ImageLaws.{IsChangeOf, ChangesKey, EffectFollows}
 use Rattle.bz_sound.specs.Memory.Moments.{image_after, map_at_start}
 use Rattle.bz_sound.specs.declared.power.Power.{Power}
@@ -30,6 +31,7 @@ use Rattle.bz_task.specs.Swaps.{Changes, ContentFollows}
 use Rattle.bz_task.specs.declared.todo.Todo.TheVariants as todo
 use Rattle.bz_world.specs.Inside.Acted.{IsStriking}
 use Rattle.bz_world.specs.Inside.Kept.{CountsPairs, IsAwake, IsTabled, AreTaken}
+use Rattle.bz_world.specs.Inside.Lonely.{IsLonelyIn}
 use Rattle.bz_world.specs.Inside.Serving.{IsServing, IsSlot, IsToldBy, effect_reply, size_after, pairs_after}
 use Rattle.bz_world.specs.declared.parts.Parts.{Parts}
 use Rattle.bz_world.specs.declared.serving.Serving.{Serving}
@@ -38,7 +40,8 @@ use Rattle.bz_world.proofs.Counting.{pairs-change}
 use Rattle.bz_world.proofs.Powered.{begun-in, flush-leaves, free-on}
 use Rattle.bz_world.proofs.Staying.{slot-stays}
 use Rattle.bz_world.specs.Inside.Laws.{StrikeLaws}
-use Rattle.bz_world.proofs.Striking.{flush-calls, old, kept, w, x, its, before, waits, good, after, living, opened, took, others}
+use Rattle.bz_world.proofs.Striking.{flush-calls, old, kept, w, x, its, owner, before, waits, good, after, living, opened, took, others}
+use Rattle.bz_world.proofs.LonelyActs.{none-struck}
 use Rattle.bz_world.proofs.StruckQuietly.{image-was, image-is, fault-is, stage-is, its-swap, its-asks, still-does}
 
 -- the reply to a call that makes a change, by what its key had
@@ -146,7 +149,7 @@ module _ (b : StrikeLaws) (p : Parts) (s : ℕ) (h : IsStriking p s) (publishes 
     same = record { doing = refl; begun = refl; taken = refl; size = refl; effects = λ t d. refl };
     calls = (b.calls v (h.mark ∷ log.past)).other_effect worker its-open.number (λ e. ne (sym e));
     from = refl;
-    lawful = λ o begins. b.quiet c p.access p.access with_flush (after b p s h) effect_mark v o no-act (λ a out n. refl) begins;
+    lawful = λ m o begins. b.quiet c p.access p.access with_flush (after b p s h) effect_mark v m o no-act (λ a out n. refl) begins;
     took = λ j. refl;
     filled = λ j e. e;
   }) (others b p s h v ne)
@@ -161,19 +164,22 @@ module _ (b : StrikeLaws) (p : Parts) (s : ℕ) (h : IsStriking p s) (publishes 
   is-open : open_call worker (effect_mark ∷ h.mark ∷ log.past) ≡ Some effected
   is-open = (b.calls worker (h.mark ∷ log.past)).own_effect its-open.number ∙ ap (option_map (with_effect (suc (length log.past)))) (flush-calls worker h.mark log.past h.flush ∙ (its b p s h).call_open.is_open)
 
-  begun-its : HasBegun log (kept b p s h).story its-open
+  abbrev since : ℕ
+  since = (its b p s h).call_open.look.since
+
+  begun-its : HasBegun log (kept b p s h).story since
   begun-its = begun-in (kept b p s h).living (its b p s h).call_open
 
-  begun-effected : HasBegun with_flush (after b p s h) effected
-  begun-effected = record { from = begun-its.from; before = omega (arith, begun-its.before) }
+  begun-effected : HasBegun with_flush (after b p s h) since
+  begun-effected = record { from = begun-its.from; by_now = omega (arith, begun-its.by_now) }
 
-  told-scene : Sees c (told_story.at (suc (suc (length log.past)))) (scene c (effect_mark ∷ h.mark ∷ log.past) told_story worker effected)
-  told-scene = b.scenes c p.access (with_mark with_flush effect_mark) told_story worker effected lives (record { from = begun-its.from; before = omega (arith, begun-its.before) })
+  told-scene : Sees c (told_story.at (suc (suc (length log.past)))) (scene c (effect_mark ∷ h.mark ∷ log.past) told_story worker since effected)
+  told-scene = b.scenes c p.access (with_mark with_flush effect_mark) told_story worker since effected lives (record { from = begun-its.from; by_now = omega (arith, begun-its.by_now) })
 
-  knows : facts_of (x b p s h).task Took (scene c (effect_mark ∷ h.mark ∷ log.past) told_story worker effected)
-  knows = (its b p s h).tasked.laws.stable Took (scene c (h.mark ∷ log.past) (after b p s h) worker effected) (scene c (effect_mark ∷ h.mark ∷ log.past) told_story worker effected) (sym (its b p s h).tasked.config)
-      (subst (λ o. facts_of (x b p s h).task Took (scene c (h.mark ∷ log.past) (after b p s h) worker o)) opened-is (took b p s h)) told-scene.scene
-      (b.quiet c p.access p.access with_flush (after b p s h) effect_mark worker effected no-act (λ a out n. refl) begun-effected)
+  knows : facts_of (x b p s h).task Took (scene c (effect_mark ∷ h.mark ∷ log.past) told_story worker since effected)
+  knows = (its b p s h).tasked.laws.stable Took (scene c (h.mark ∷ log.past) (after b p s h) worker since effected) (scene c (effect_mark ∷ h.mark ∷ log.past) told_story worker since effected) (sym (its b p s h).tasked.config)
+      (subst (λ o. facts_of (x b p s h).task Took (scene c (h.mark ∷ log.past) (after b p s h) worker since o)) opened-is (took b p s h)) told-scene.scene
+      (b.quiet c p.access p.access with_flush (after b p s h) effect_mark worker since effected no-act (λ a out n. refl) begun-effected)
 
   abbrev pub with_moment : Serving
   with_moment = record (x b p s h) { effect = Some (suc (length log.past)) }
@@ -198,7 +204,7 @@ module _ (b : StrikeLaws) (p : Parts) (s : ℕ) (h : IsStriking p s) (publishes 
       is_open = is-open;
       call = (its b p s h).call_open.call;
       effect = refl;
-      begun = omega (arith, begun-its.before);
+      look = record { since = since; after_begin = (its b p s h).call_open.look.after_begin; by_now = omega (arith, begun-its.by_now) };
       told = told;
       -- once its change is made nobody asks why it takes slots
       wanted = λ quiet some. absurd (cc quiet);
@@ -208,7 +214,7 @@ module _ (b : StrikeLaws) (p : Parts) (s : ℕ) (h : IsStriking p s) (publishes 
     asks = its-asks b p s h;
     doing = its-swap b p s h (old b p s h).owners.items refl;
     finishing = inr (record { publishing = publishes; swap = s; doing = still-does b p s h });
-    facts = subst (λ z. facts_of (x b p s h).task z (scene c (effect_mark ∷ h.mark ∷ log.past) told_story worker effected)) (sym (stage-is b p s h)) knows;
+    facts = subst (λ z. facts_of (x b p s h).task z (scene c (effect_mark ∷ h.mark ∷ log.past) told_story worker since effected)) (sym (stage-is b p s h)) knows;
     covered = (its b p s h).covered;
   }
 
@@ -218,6 +224,17 @@ module _ (b : StrikeLaws) (p : Parts) (s : ℕ) (h : IsStriking p s) (publishes 
     | inr ne ↦ subst (IsSlot c p.access (with_mark with_flush effect_mark) told_story (old b p s h).owners.items v) (sym (rest v ne)) (slot-of v ne)
     | inl e ↦ subst (λ u. IsSlot c p.access (with_mark with_flush effect_mark) told_story (old b p s h).owners.items u (get_or items u None)) (sym e)
         (subst (IsSlot c p.access (with_mark with_flush effect_mark) told_story (old b p s h).owners.items worker) (sym here-is) serves-on)
+  ]
+
+  -- and no get is lonely then
+  none-lonely : (items : List (Option Serving)) → get_or items worker None ≡ Some with_moment → ((v : ℕ) → v ≢ worker → get_or items v None ≡ get_or (old b p s h).workers.items v None)
+      → (v : ℕ) → IsLonelyIn p.access (effect_mark ∷ h.mark ∷ log.past) told_story items v
+  none-lonely items here-is rest v y opened is is-open key get lonely = elim (cases_eq v worker) [
+    | inr ne ↦ absurd (none-struck b p s h v y (sym (rest v ne) ∙ is) key get lonely)
+    | inl e ↦ absurd (
+        let both : Some with_moment ≡ Some y = sym here-is ∙ (ap (λ u. get_or items u None) (sym e) ∙ is) in
+        let same : with_moment ≡ y = cc both in
+        none-struck b p s h worker (x b p s h) (owner b p s h).is key (ap (λ (z : Serving). z.call) same ∙ get) (subst (λ u. IsLonely u (h.mark ∷ log.past)) e lonely))
   ]
 
   own-call : ¬ (open_call worker log.past ≡ None)
@@ -267,4 +284,5 @@ module _ (b : StrikeLaws) (p : Parts) (s : ℕ) (h : IsStriking p s) (publishes 
     sound = sound;
     free = free-on c log.start log.past h.mark (old b p s h).slots (after b p s h).took (flush-leaves h.mark log.past h.flush) (kept b p s h).free;
     workers = slots workers.items here-is rest;
+    lonely = none-lonely workers.items here-is rest;
   }

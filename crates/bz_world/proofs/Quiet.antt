@@ -23,12 +23,13 @@ use Rattle.bz_task.specs.declared.todo.Todo.{Todo}
 use Rattle.bz_task.specs.declared.todo.Todo.TheVariants as todo
 use Rattle.bz_world.specs.Inside.Acted.{IsActed, IsBetween}
 use Rattle.bz_world.specs.Inside.Kept.{IsTabled, AreTaken, AreFree, IsAwake}
+use Rattle.bz_world.specs.Inside.Lonely.{IsLonelyIn}
 use Rattle.bz_world.specs.Lab.{mark_of}
 use Rattle.bz_world.specs.Inside.Serving.{IsServing, IsDoing, IsSlot, stage_in}
 use Rattle.bz_world.specs.declared.parts.Parts.{Parts}
 use Rattle.bz_world.specs.declared.serving.Serving.{Serving}
 use Rattle.bz_sound.specs.Power.Times.{image_at_on}
-use Rattle.bz_world.proofs.Powered.{begun-in, free-on, leaves-power, may-act}
+use Rattle.bz_world.proofs.Powered.{begun-in, looks-on, free-on, leaves-power, may-act}
 use Rattle.bz_world.proofs.Owners.{pending-begun}
 use Rattle.bz_world.proofs.Marking.{act-marked, act-calls}
 use Rattle.bz_world.specs.Inside.Laws.{StepLaws}
@@ -70,15 +71,15 @@ module _ (b : StepLaws) (old new : Parts) (w : ℕ) (x : Serving) (made : Act) (
   abbrev pub s : IsServing old.config old.access old.journal k.story old.owners.items w x
   s = serves old k w x is-worker
 
-  pub sees : (v : ℕ) (y : Serving) → (t : IsServing old.config old.access old.journal k.story old.owners.items v y) → Sees old.config (k.story.at (length old.journal.past)) (scene old.config old.journal.past k.story v t.opened)
-  sees v y t = b.scenes old.config old.access old.journal k.story v t.opened k.living (begun-in k.living t.call_open)
+  pub sees : (v : ℕ) (y : Serving) → (t : IsServing old.config old.access old.journal k.story old.owners.items v y) → Sees old.config (k.story.at (length old.journal.past)) (scene old.config old.journal.past k.story v t.call_open.look.since t.opened)
+  sees v y t = b.scenes old.config old.access old.journal k.story v t.call_open.look.since t.opened k.living (begun-in k.living t.call_open)
 
   -- what its task asks for may be asked for
-  pub askable : (todo : Todo) → s.asked ≡ todo → stage_in old.access (doing_of old.access w) ≡ Waiting → IsAskable (scene old.config old.journal.past k.story w s.opened) todo
-  askable todo e waits = s.tasked.laws.askable (scene old.config old.journal.past k.story w s.opened) todo (sym s.tasked.config) (subst (λ z. facts_of x.task z (scene old.config old.journal.past k.story w s.opened)) waits s.facts) (sees w x s).scene (s.asks ∙ ap Some e)
+  pub askable : (todo : Todo) → s.asked ≡ todo → stage_in old.access (doing_of old.access w) ≡ Waiting → IsAskable (scene old.config old.journal.past k.story w s.call_open.look.since s.opened) todo
+  askable todo e waits = s.tasked.laws.askable (scene old.config old.journal.past k.story w s.call_open.look.since s.opened) todo (sym s.tasked.config) (subst (λ z. facts_of x.task z (scene old.config old.journal.past k.story w s.call_open.look.since s.opened)) waits s.facts) (sees w x s).scene (s.asks ∙ ap Some e)
 
   -- a private store that it does is its own
-  own-store : (todo : Todo) → s.asked ≡ todo → IsDoing old.access old.owners.items w todo → (d u : ℕ) → doing_of old.access w ≡ Storing d u → IsOwnStore (scene old.config old.journal.past k.story w s.opened) d u
+  own-store : (todo : Todo) → s.asked ≡ todo → IsDoing old.access old.owners.items w todo → (d u : ℕ) → doing_of old.access w ≡ Storing d u → IsOwnStore (scene old.config old.journal.past k.story w s.call_open.look.since s.opened) d u
   own-store (todo.Read c) e h d u storing = absurd (cc (h, storing))
   own-store (todo.Load c) e h d u storing = absurd h
   own-store (todo.Store c v) e h d u storing = askable (todo.Store d u) (e ∙ cc (h.0, storing)) (ap (stage_in old.access) storing)
@@ -86,12 +87,12 @@ module _ (b : StepLaws) (old new : Parts) (w : ℕ) (x : Serving) (made : Act) (
   own-store (todo.Swap entries) e h d u storing = absurd (cc (h.doing, storing))
   own-store todo.Finish e h d u storing = absurd h
 
-  pub own : (d u : ℕ) → doing_of old.access w ≡ Storing d u → IsOwnStore (scene old.config old.journal.past k.story w s.opened) d u
+  pub own : (d u : ℕ) → doing_of old.access w ≡ Storing d u → IsOwnStore (scene old.config old.journal.past k.story w s.call_open.look.since s.opened) d u
   own = own-store s.asked refl s.doing
 
   pub passes : Passes old.config (k.story.at (length old.journal.past)) old.access new.access
   passes = b.steps old.config (k.story.at (length old.journal.past)) old.access new.access w made done k.living.seen a.step a.held
-      (λ d u storing. b.hidden old.config (k.story.at (length old.journal.past)) (scene old.config old.journal.past k.story w s.opened) d (sees w x s) (own d u storing).mine)
+      (λ d u storing. b.hidden old.config (k.story.at (length old.journal.past)) (scene old.config old.journal.past k.story w s.call_open.look.since s.opened) d (sees w x s) (own d u storing).mine)
 
   pub passed : Passed old.config (k.story.at (length old.journal.past)) new.access
   passed = b.pass old.config (k.story.at (length old.journal.past)) old.access new.access k.living.seen passes
@@ -123,7 +124,7 @@ module _ (b : StepLaws) (old new : Parts) (w : ℕ) (x : Serving) (made : Act) (
 
   -- so what is known of a worker stays, if the mark is a lawful step for it
   pub stays : (after : Story) (v : ℕ) → IsLiving old.config new.access (with_mark old.journal (mark_of w made)) after → after.from ≡ k.story.from → SameFor old.access new.access v
-      → ((opened : Open) → HasBegun old.journal k.story opened → IsLawful (scene old.config old.journal.past k.story v opened) (scene old.config (mark_of w made ∷ old.journal.past) after v opened))
+      → ((since : ℕ) (opened : Open) → HasBegun old.journal k.story since → IsLawful (scene old.config old.journal.past k.story v since opened) (scene old.config (mark_of w made ∷ old.journal.past) after v since opened))
       → ((j : ℕ) → after.took v j ≡ k.story.took v j) → ((j : ℕ) → k.story.filled v j ≡ true → after.filled v j ≡ true)
       → IsSlot old.config new.access (with_mark old.journal (mark_of w made)) after old.owners.items v (get_or old.workers.items v None)
   stays after v living from same lawful took filled = slot-stays b.scenes b.stay old.config old.access new.access old.journal (mark_of w made) k.story after old.owners.items v (get_or old.workers.items v None) living (record {
@@ -143,8 +144,8 @@ module _ (b : StepLaws) (old new : Parts) (w : ℕ) (x : Serving) (made : Act) (
 
   -- the world goes on
   pub goes-on : (after : Story) → length old.journal.past < old.config.marks → IsLiving old.config new.access (with_mark old.journal (mark_of w made)) after
-      → AreFree old.config (image_at_on old.journal.start old.journal.past) old.slots after.took → ((v : ℕ) → IsSlot old.config new.access (with_mark old.journal (mark_of w made)) after old.owners.items v (get_or old.workers.items v None)) → IsAwake new
-  goes-on after room living free slots = subst IsAwake (sym a.rest) (record {
+      → AreFree old.config (image_at_on old.journal.start old.journal.past) old.slots after.took → ((v : ℕ) → IsSlot old.config new.access (with_mark old.journal (mark_of w made)) after old.owners.items v (get_or old.workers.items v None)) → ((v : ℕ) → IsLonelyIn new.access (mark_of w made ∷ old.journal.past) after old.workers.items v) → IsAwake new
+  goes-on after room living free slots lonely = subst IsAwake (sym a.rest) (record {
     on = k.on;
     story = after;
     tabled = subst IsTabled a.rest (tabled room);
@@ -153,6 +154,7 @@ module _ (b : StepLaws) (old new : Parts) (w : ℕ) (x : Serving) (made : Act) (
     sound = sound;
     free = free-on old.config old.journal.start old.journal.past (mark_of w made) old.slots after.took (leaves-power w old.journal.past made) free;
     workers = slots;
+    lonely = lonely;
   })
 
   -- and the worker, whose operation was answered, is to be told
@@ -175,7 +177,7 @@ module _ (b : StepLaws) (old new : Parts) (w : ℕ) (x : Serving) (made : Act) (
       is_open = act-calls w w old.journal.past made ∙ s.call_open.is_open;
       call = s.call_open.call;
       effect = s.call_open.effect;
-      begun = omega (arith, s.call_open.begun);
+      look = looks-on old.journal.past (mark_of w made) s.opened s.call_open.look;
       told = told-stays b.stay old.config old.journal (mark_of w made) w s.opened x.had s.call_open.is_open s.call_open.told;
       wanted = wanted-stays old.config old.journal (mark_of w made) s.opened (wants_of x.task) s.call_open.wanted;
     };

@@ -5,6 +5,7 @@ use Rattle.std.proofs.lemmas.Bool.{cases_eq}
 use Rattle.std.proofs.lemmas.List.{get_or-set_same, get_or-set_other, length-set}
 use Rattle.bz_running.specs.Duties.{facts_of}
 use Rattle.bz_sight.specs.Starts.{StartsAreSeen, Sees}
+use Rattle.bz_sound.specs.Lonely.{LonelyCallsAreAlone}
 use Rattle.bz_story.specs.Living.{IsLiving}
 use Rattle.bz_story.specs.Story.{Story, scene}
 use Rattle.bz_task.specs.Requests.{IsAskable}
@@ -20,6 +21,7 @@ use Rattle.bz_world.specs.Inside.Laws.{StartLaws}
 use Rattle.bz_world.specs.Inside.Serving.{IsServing, IsDoing, IsSlot, stage_in}
 use Rattle.bz_world.specs.Inside.Telling.{MustStart}
 use Rattle.bz_world.specs.declared.parts.Parts.{Parts}
+use Rattle.bz_world.proofs.Lonely.{in-place, only-own, started-lonely}
 use Rattle.bz_world.proofs.Powered.{begun-in}
 use Rattle.bz_world.proofs.Staying.{SameFor, slot-same}
 
@@ -44,16 +46,16 @@ pub record IsAskedFor (p : Parts) (s : Scene) (story : Story) (todo : Todo) : Ty
   pub sees : Sees p.config (story.at (length p.journal.past)) s
   pub askable : IsAskable s todo
 
-pub may-ask : StartLaws → (p : Parts) (w : ℕ) (todo : Todo) → (m : MustStart p w todo) → IsAskedFor p (scene p.config p.journal.past m.asking.between.story w m.asking.between.opened) m.asking.between.story todo
+pub may-ask : StartLaws → (p : Parts) (w : ℕ) (todo : Todo) → (m : MustStart p w todo) → IsAskedFor p (scene p.config p.journal.past m.asking.between.story w m.asking.between.call_open.look.since m.asking.between.opened) m.asking.between.story todo
 may-ask b p w todo m =
-    let sees : Sees p.config (m.asking.between.story.at (length p.journal.past)) (scene p.config p.journal.past m.asking.between.story w m.asking.between.opened) = b.scenes p.config p.access p.journal m.asking.between.story w m.asking.between.opened m.asking.between.living (begun-in m.asking.between.living m.asking.between.call_open) in
+    let sees : Sees p.config (m.asking.between.story.at (length p.journal.past)) (scene p.config p.journal.past m.asking.between.story w m.asking.between.call_open.look.since m.asking.between.opened) = b.scenes p.config p.access p.journal m.asking.between.story w m.asking.between.call_open.look.since m.asking.between.opened m.asking.between.living (begun-in m.asking.between.living m.asking.between.call_open) in
     record {
       sees = sees;
-      askable = m.asking.tasked.laws.askable (scene p.config p.journal.past m.asking.between.story w m.asking.between.opened) todo (sym m.asking.tasked.config) m.asking.facts sees.scene m.asking.asks;
+      askable = m.asking.tasked.laws.askable (scene p.config p.journal.past m.asking.between.story w m.asking.between.call_open.look.since m.asking.between.opened) todo (sym m.asking.tasked.config) m.asking.facts sees.scene m.asking.asks;
     }
 
 -- a read, a store or a flush
-module _ (starts : StartsAreSeen) (begun : BegunStayTaken) (p : Parts) (w : ℕ) (todo : Todo) (m : MustStart p w todo) (doing : Doing) (holds : Holds (started p.access w doing)) (does : IsDoing (started p.access w doing) p.owners.items w todo)
+module _ (starts : StartsAreSeen) (begun : BegunStayTaken) (alone : LonelyCallsAreAlone) (p : Parts) (w : ℕ) (todo : Todo) (m : MustStart p w todo) (doing : Doing) (holds : Holds (started p.access w doing)) (does : IsDoing (started p.access w doing) p.owners.items w todo)
     (waits : stage_in (started p.access w doing) doing ≡ Waiting) where
   abbrev between : IsBetween p w m.serving
   between = m.asking.between
@@ -90,7 +92,7 @@ module _ (starts : StartsAreSeen) (begun : BegunStayTaken) (p : Parts) (w : ℕ)
       | inl on ↦ inl on
       | inr ends ↦ absurd (subst (IsDoing (started p.access w doing) p.owners.items w) ends does)
     ];
-    facts = subst (λ z. facts_of m.serving.task z (scene p.config p.journal.past between.story w between.opened)) (sym (ap (stage_in (started p.access w doing)) (starts-it p.access w doing work.within) ∙ waits)) m.asking.facts;
+    facts = subst (λ z. facts_of m.serving.task z (scene p.config p.journal.past between.story w between.call_open.look.since between.opened)) (sym (ap (stage_in (started p.access w doing)) (starts-it p.access w doing work.within) ∙ waits)) m.asking.facts;
     covered = m.asking.covered;
   }
 
@@ -131,4 +133,7 @@ module _ (starts : StartsAreSeen) (begun : BegunStayTaken) (p : Parts) (w : ℕ)
     sound = between.sound;
     free = between.free;
     workers = slots;
+    lonely = only-own alone (started p.access w doing) p.journal.past between.story p.workers.items w between.opened between.call_open.is_open
+        (in-place (started p.access w doing) p.journal.past between.story p.workers.items w m.serving between.opened m.is between.call_open.is_open
+        (λ key get lonely. started-lonely p.access p.journal.past between.story p.owners.items w m.serving between.opened key doing todo (m.asking.lonely key get lonely) does (starts-it p.access w doing work.within)));
   }

@@ -1,5 +1,5 @@
 -- What is known of a worker stays by what others do.
-use Rattle.std.proofs.Common.{◌≡◌, ◌⊎◌, ℕ, ◌≤◌, if◌then◌else◌, Bool, true, false, List, [], ◌∷◌, length, slice_index, arith, refl, sym, ap, subst, ◌∙◌, inl, inr, Option, Some, None}
+use Rattle.std.proofs.Common.{◌≡◌, ◌⊎◌, ℕ, zero, ◌≤◌, if◌then◌else◌, Bool, true, false, List, [], ◌∷◌, length, slice_index, arith, refl, sym, ap, subst, ◌∙◌, inl, inr, Option, Some, None}
 use Rattle.std.specs.Prelude.{get_or}
 use Rattle.std.proofs.lemmas.Bool.{true≢false}
 use Rattle.bz_call.specs.Map.{key_of}
@@ -23,6 +23,7 @@ use Rattle.bz_task.specs.declared.todo.Todo.{Todo}
 use Rattle.bz_task.specs.declared.todo.Todo.TheVariants as todo
 use Rattle.bz_world.specs.Inside.Serving.{IsServing, IsCovered, IsDoing, IsSlot, IsToldBy, IsWanted, NeedsAtLeast, MayGoOn, IsFinishing, effect_reply, stage_in}
 use Rattle.bz_world.specs.declared.serving.Serving.{Serving}
+use Rattle.bz_world.proofs.Powered.{looks-on}
 
 -- what a worker does is the same in two memories, and so is whether its swap has taken effect
 pub record SameFor (m n : SwapMemory) (v : ℕ) : Type 0 where
@@ -83,7 +84,7 @@ pub record Leaves (c : Config) (m n : SwapMemory) (log : Log) (mark : Mark) (sto
   pub same : SameFor m n v
   pub calls : open_call v (mark ∷ log.past) ≡ open_call v log.past
   pub from : after.from ≡ story.from
-  pub lawful : (opened : Open) → HasBegun log story opened → IsLawful (scene c log.past story v opened) (scene c (mark ∷ log.past) after v opened)
+  pub lawful : (since : ℕ) (opened : Open) → HasBegun log story since → IsLawful (scene c log.past story v since opened) (scene c (mark ∷ log.past) after v since opened)
   pub took : (k : ℕ) → after.took v k ≡ story.took v k
   pub filled : (k : ℕ) → story.filled v k ≡ true → after.filled v k ≡ true
 
@@ -116,7 +117,7 @@ serving-stays seen stay c m n log mark story after owners v x living l s = recor
     is_open = l.calls ∙ s.call_open.is_open;
     call = s.call_open.call;
     effect = s.call_open.effect;
-    begun = omega (arith, s.call_open.begun);
+    look = looks-on log.past mark s.opened s.call_open.look;
     told = told-stays stay c log mark v s.opened x.had s.call_open.is_open s.call_open.told;
     wanted = wanted-stays c log mark s.opened (wants_of x.task) s.call_open.wanted;
   };
@@ -125,14 +126,14 @@ serving-stays seen stay c m n log mark story after owners v x living l s = recor
   asks = s.asks;
   doing = doing-stays m n owners v s.asked l.same s.doing;
   finishing = finishing-stays m n v x l.same.doing s.finishing;
-  facts = subst (λ z. facts_of x.task z (scene c (mark ∷ log.past) after v s.opened)) (sym (stage-stays m n v l.same))
-      (s.tasked.laws.stable (stage_in m (doing_of m v)) (scene c log.past story v s.opened) (scene c (mark ∷ log.past) after v s.opened) (sym s.tasked.config) s.facts
-      (seen c n (with_mark log mark) after v s.opened living (record { from = since; before = omega (arith, s.call_open.begun) })).scene (l.lawful s.opened (record { from = omega (arith, since, l.from); before = s.call_open.begun })));
+  facts = subst (λ z. facts_of x.task z (scene c (mark ∷ log.past) after v s.call_open.look.since s.opened)) (sym (stage-stays m n v l.same))
+      (s.tasked.laws.stable (stage_in m (doing_of m v)) (scene c log.past story v s.call_open.look.since s.opened) (scene c (mark ∷ log.past) after v s.call_open.look.since s.opened) (sym s.tasked.config) s.facts
+      (seen c n (with_mark log mark) after v s.call_open.look.since s.opened living (record { from = since; by_now = omega (arith, s.call_open.look.by_now) })).scene (l.lawful s.call_open.look.since s.opened (record { from = omega (arith, since, l.from); by_now = s.call_open.look.by_now })));
   covered = covered-stays (story.took v) (after.took v) (story.filled v) (after.filled v) (needs_of x.task) l.took l.filled s.covered;
 }
   where
-    since : after.from ≤ s.opened.begun
-    since = living.begins v s.opened (l.calls ∙ s.call_open.is_open)
+    since : after.from ≤ s.call_open.look.since
+    since = omega (arith, living.begins v s.opened (l.calls ∙ s.call_open.is_open), s.call_open.look.after_begin)
 
 pub slot-stays : ScenesAreSeen → EffectsStayOpen → (c : Config) (m n : SwapMemory) (log : Log) (mark : Mark) (story after : Story) (owners : List ℕ) (v : ℕ) (slot : Option Serving) → IsLiving c n (with_mark log mark) after → Leaves c m n log mark story after v
     → IsSlot c m log story owners v slot → IsSlot c n (with_mark log mark) after owners v slot
@@ -145,13 +146,13 @@ pub slot-same : (c : Config) (m n : SwapMemory) (log : Log) (story : Story) (own
 slot-same c m n log story owners others v None same table s = record { none_open = s.none_open; idle = same.doing ∙ s.idle; filled = s.filled }
 slot-same c m n log story owners others v (Some x) same table s = record {
   opened = s.opened;
-  call_open = let o = s.call_open in record { is_open = o.is_open; call = o.call; effect = o.effect; begun = o.begun; told = o.told; wanted = o.wanted };
+  call_open = let o = s.call_open in record { is_open = o.is_open; call = o.call; effect = o.effect; look = o.look; told = o.told; wanted = o.wanted };
   tasked = s.tasked;
   asked = s.asked;
   asks = s.asks;
   doing = doing-stays m n others v s.asked same (doing-by m owners others v s.asked table s.doing);
   finishing = finishing-stays m n v x same.doing s.finishing;
-  facts = subst (λ z. facts_of x.task z (scene c log.past story v s.opened)) (sym (stage-stays m n v same)) s.facts;
+  facts = subst (λ z. facts_of x.task z (scene c log.past story v s.call_open.look.since s.opened)) (sym (stage-stays m n v same)) s.facts;
   covered = s.covered;
 }
   where
@@ -164,17 +165,17 @@ slot-same c m n log story owners others v (Some x) same table s = record {
     doing-by m owners others v (todo.Swap entries) table d = record { swap = d.swap; doing = d.doing; same = d.same; owner = table d.swap d.doing ∙ d.owner; begun = d.begun; list = d.list }
 
 -- in another story that tells a worker the same
-pub slot-scenes : (c : Config) (m : SwapMemory) (log : Log) (story after : Story) (owners : List ℕ) (v : ℕ) (slot : Option Serving) (some : Open) → ((opened : Open) → scene c log.past after v opened ≡ scene c log.past story v opened)
+pub slot-scenes : (c : Config) (m : SwapMemory) (log : Log) (story after : Story) (owners : List ℕ) (v : ℕ) (slot : Option Serving) (some : Open) → ((since : ℕ) (opened : Open) → scene c log.past after v since opened ≡ scene c log.past story v since opened)
     → ((k : ℕ) → after.filled v k ≡ story.filled v k) → IsSlot c m log story owners v slot → IsSlot c m log after owners v slot
-slot-scenes c m log story after owners v None some same filled s = record { none_open = s.none_open; idle = s.idle; filled = λ k t. filled k ∙ s.filled k (sym (ap (λ (z : Scene). z.took k) (same some)) ∙ t) }
+slot-scenes c m log story after owners v None some same filled s = record { none_open = s.none_open; idle = s.idle; filled = λ k t. filled k ∙ s.filled k (sym (ap (λ (z : Scene). z.took k) (same zero some)) ∙ t) }
 slot-scenes c m log story after owners v (Some x) some same filled s = record {
   opened = s.opened;
-  call_open = let o = s.call_open in record { is_open = o.is_open; call = o.call; effect = o.effect; begun = o.begun; told = o.told; wanted = o.wanted };
+  call_open = let o = s.call_open in record { is_open = o.is_open; call = o.call; effect = o.effect; look = o.look; told = o.told; wanted = o.wanted };
   tasked = s.tasked;
   asked = s.asked;
   asks = s.asks;
   doing = s.doing;
   finishing = s.finishing;
-  facts = subst (facts_of x.task (stage_in m (doing_of m v))) (sym (same s.opened)) s.facts;
-  covered = covered-stays (story.took v) (after.took v) (story.filled v) (after.filled v) (needs_of x.task) (λ k. ap (λ (z : Scene). z.took k) (same s.opened)) (λ k e. filled k ∙ e) s.covered;
+  facts = subst (facts_of x.task (stage_in m (doing_of m v))) (sym (same s.call_open.look.since s.opened)) s.facts;
+  covered = covered-stays (story.took v) (after.took v) (story.filled v) (after.filled v) (needs_of x.task) (λ k. ap (λ (z : Scene). z.took k) (same s.call_open.look.since s.opened)) (λ k e. filled k ∙ e) s.covered;
 }

@@ -11,7 +11,7 @@ use Rattle.bz_world.specs.Inside.Acted.{HasActed}
 use Rattle.bz_world.specs.Inside.Beginning.{lab_of, is_swap, supply_of}
 use Rattle.bz_world.specs.Inside.Going.{WentOn}
 use Rattle.bz_world.specs.Inside.Kept.{IsAwake}
-use Rattle.bz_world.specs.Lab.{Spends, EndsFullRightly, Steps, GoesOn, flush_of, is_swapping}
+use Rattle.bz_world.specs.Lab.{Spends, EndsFullRightly, GetsBriefly, Steps, GoesOn, flush_of, is_swapping}
 use Rattle.bz_world.specs.declared.answers.Applied.{Applied}
 use Rattle.bz_world.specs.declared.answers.Applied.TheVariants.{Stepped}
 use Rattle.bz_world.specs.declared.parts.Parts.{Parts}
@@ -45,6 +45,7 @@ stepped-on old new w was is a taken = record {
   ends = a.journal;
   spends = spends-shown old new (2 * SPLIT_SLOTS) was is (record { taken = inl taken; fewer = omega (arith, left); few = omega (arith, left) });
   full = λ n at spent e. absurd (not-longer (End w n (Full spent) at) new.journal.past e);
+  brief = λ n at reply opened key e. absurd (not-longer (End w n reply at) new.journal.past e);
   config = ap (λ (p : Parts). p.config) a.rest;
   at_start = ap (λ (p : Parts). p.at_start) a.rest;
   left_out = ap (λ (p : Parts). p.left_out.items) a.rest;
@@ -70,6 +71,7 @@ stepped-through old mid told new w answer was a taken rest fewer few went = reco
     few = omega (arith, left, few, most);
   });
   full = subst (EndsFullRightly new.config (record old.journal { past = mid.journal.past }) w new.journal) (sym (shown-on new went.kept.on)) (subst (λ (j : Log). EndsFullRightly new.config j w new.journal (supply_of new)) journal went.full);
+  brief = subst (λ (j : Log). GetsBriefly new.config j w new.journal) journal went.brief;
   config = went.config ∙ (ap (λ (p : Parts). p.config) rest ∙ ap (λ (p : Parts). p.config) a.rest);
   at_start = went.at_start ∙ (ap (λ (p : Parts). p.at_start) rest ∙ ap (λ (p : Parts). p.at_start) a.rest);
   left_out = ap (λ (flags : ArrayVec Bool). flags.items) (went.left_out ∙ (ap (λ (p : Parts). p.left_out) rest ∙ ap (λ (p : Parts). p.left_out) a.rest));

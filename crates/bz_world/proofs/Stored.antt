@@ -30,6 +30,8 @@ use Rattle.bz_world.proofs.Powered.{begun-in}
 use Rattle.bz_world.proofs.Staying.{covered-stays}
 use Rattle.bz_world.proofs.Quiet.{some-worker, serves, sees, own, goes, same-other, stays, answered}
 use Rattle.bz_world.proofs.Answered.{no-finish}
+use Rattle.bz_world.proofs.Lonely.{lonely-act}
+use Rattle.bz_world.proofs.LonelyActs.{reads-now}
 
 module _ (b : StepLaws) (old new : Parts) (w : ℕ) (x : Serving) (made : Act) (answer : Done) (k : IsAwake old) (is-worker : get_or old.workers.items w None ≡ Some x) (a : IsActed old w made answer None new) (room : length old.journal.past < old.config.marks) where
   abbrev pub its : IsServing old.config old.access old.journal k.story old.owners.items w x
@@ -40,15 +42,15 @@ module _ (b : StepLaws) (old new : Parts) (w : ℕ) (x : Serving) (made : Act) (
     after = goes_on old.journal k.story new.access (fills old.config k.story w d)
 
     abbrev before : Scene
-    before = scene old.config old.journal.past k.story w its.opened
+    before = scene old.config old.journal.past k.story w its.call_open.look.since its.opened
 
     abbrev later : Scene
-    later = scene old.config (mark_of w made ∷ old.journal.past) after w its.opened
+    later = scene old.config (mark_of w made ∷ old.journal.past) after w its.call_open.look.since its.opened
 
     is-storing : IsStoring old.access new.access made answer None d u
     is-storing = b.storing old.config (k.story.at (length old.journal.past)) old.access new.access w made answer None d u k.living.seen a.step stores within
 
-    is-store : IsStore old.config old.access new.access old.journal k.story w d u its.opened
+    is-store : IsStore old.config old.access new.access old.journal k.story w d u its.call_open.look.since its.opened
     is-store = record { stores = is-storing.stores; begun = begun-in k.living its.call_open; own = own b old new w x made answer k is-worker a d u stores }
 
     -- the journal shows the store
@@ -64,13 +66,13 @@ module _ (b : StepLaws) (old new : Parts) (w : ℕ) (x : Serving) (made : Act) (
 
     others : (v : ℕ) → v ≢ w → IsSlot old.config new.access (with_mark old.journal (mark_of w made)) after old.owners.items v (get_or old.workers.items v None)
     others v ne = stays b old new w x made answer k is-worker a after v living refl (same-other b old new w x made answer k is-worker a v ne)
-        (λ opened begun. b.stores.others old.config old.access new.access old.journal k.story (mark_of w made) w d u its.opened v opened (goes b old new w x made answer k is-worker a) is-store ne begun) (λ j. refl) (fills-more v)
+        (λ since opened begun. b.stores.others old.config old.access new.access old.journal k.story (mark_of w made) w d u its.call_open.look.since its.opened v since opened (goes b old new w x made answer k is-worker a) is-store ne begun) (λ j. refl) (fills-more v)
 
     stored : Stores d u before later
-    stored = b.stores.own old.config old.access new.access old.journal k.story (mark_of w made) w d u its.opened (goes b old new w x made answer k is-worker a) is-store
+    stored = b.stores.own old.config old.access new.access old.journal k.story (mark_of w made) w d u its.call_open.look.since its.opened (goes b old new w x made answer k is-worker a) is-store
 
     later-seen : Sees old.config (after.at (suc (length old.journal.past))) later
-    later-seen = b.scenes old.config new.access (with_mark old.journal (mark_of w made)) after w its.opened living (let h : HasBegun old.journal k.story its.opened = begun-in k.living its.call_open in record { from = h.from; before = omega (arith, h.before) })
+    later-seen = b.scenes old.config new.access (with_mark old.journal (mark_of w made)) after w its.call_open.look.since its.opened living (let h : HasBegun old.journal k.story its.call_open.look.since = begun-in k.living its.call_open in record { from = h.from; by_now = omega (arith, h.by_now) })
 
     took : facts_of x.task Took later
     took = its.tasked.laws.stored before later d u (sym its.tasked.config) (subst (λ z. facts_of x.task z before) (ap (stage_in old.access) stores) its.facts) (sees b old new w x made answer k is-worker a w x its).scene later-seen.scene (its.asks ∙ ap Some asked) stored
@@ -85,4 +87,5 @@ module _ (b : StepLaws) (old new : Parts) (w : ℕ) (x : Serving) (made : Act) (
       finished = no-finish old.access w x seen.Stored (λ s f. absurd (cc (stores, f))) its.finishing;
       hears = subst (λ z. Hears z seen.Stored) (sym (its.asks ∙ ap Some asked)) tt;
       tells = subst (λ z. Tells z Took seen.Stored later) (sym (its.asks ∙ ap Some asked)) tt;
+      lonely = λ key get lonely. absurd (cc ((reads-now old k w x is-worker key get (lonely-act w w old.journal.past made lonely)).reads, stores));
     })

@@ -1,5 +1,5 @@
 -- The effect of a swap: what it is to its worker and to the others, one mark on.
-use Rattle.std.proofs.Common.{◌≡◌, ◌≢◌, ℕ, suc, ◌+◌, ◌^◌, ◌<◌, ◌≤◌, if◌then◌else◌, Bool, true, false, List, ◌∷◌, length, arith, refl, sym, ap, subst, ◌∙◌, None}
+use Rattle.std.proofs.Common.{◌≡◌, ◌≢◌, ℕ, suc, ◌+◌, ◌^◌, ◌<◌, ◌≤◌, if◌then◌else◌, List, ◌∷◌, length, arith, refl, sym, ap, subst, ◌∙◌, None}
 use Rattle.std.specs.Prelude.{get_or}
 use Rattle.bz_mark.specs.Log.{with_mark}
 use Rattle.bz_mark.specs.declared.marks.Mark.{Mark}
@@ -59,10 +59,10 @@ module _ (b : StrikeLaws) (p : Parts) (s : ℕ) (h : IsStriking p s) where
   its = owner.serves
 
   abbrev pub before : Scene
-  before = scene old.config old.journal.past kept.story w its.opened
+  before = scene old.config old.journal.past kept.story w its.call_open.look.since its.opened
 
   pub before-seen : Sees old.config (kept.story.at (length old.journal.past)) before
-  before-seen = b.scenes old.config old.access old.journal kept.story w its.opened kept.living (begun-in kept.living its.call_open)
+  before-seen = b.scenes old.config old.access old.journal kept.story w its.call_open.look.since its.opened kept.living (begun-in kept.living its.call_open)
 
   few : length old.journal.past + 1 < 2 ^ 32
   few = let r = kept.tabled.config.marks_in_range in let t : length p.journal.past ≤ p.config.marks = h.tabled.marks in
@@ -79,7 +79,7 @@ module _ (b : StrikeLaws) (p : Parts) (s : ℕ) (h : IsStriking p s) where
   good = its.tasked.laws.effect before (effect_instant old.config p.access (kept.story.at (length old.journal.past))) (entries_of old.access s) (sym its.tasked.config) waits before-seen.scene owner.asks took-place.stand
       (took-place.swaps (omega (arith, few, kept.living.effects)))
 
-  pub strikes-it : Strikes old.config old.access p.access old.journal kept.story h.mark s w its.opened (publishing_of x.task) (change_of x.task)
+  pub strikes-it : Strikes old.config old.access p.access old.journal kept.story h.mark s w its.call_open.look.since its.opened (publishing_of x.task) (change_of x.task)
   strikes-it = record {
     living = kept.living;
     takes = h.takes;
@@ -95,27 +95,23 @@ module _ (b : StrikeLaws) (p : Parts) (s : ℕ) (h : IsStriking p s) where
   after = strikes old.config old.journal kept.story p.access w (entries_of old.access s)
 
   pub living : IsLiving old.config p.access (with_mark old.journal h.mark) after
-  living = b.told.living old.config old.access p.access old.journal kept.story h.mark s w its.opened (publishing_of x.task) (change_of x.task) strikes-it
+  living = b.told.living old.config old.access p.access old.journal kept.story h.mark s w its.call_open.look.since its.opened (publishing_of x.task) (change_of x.task) strikes-it
 
   -- the call, which has had its effect if the swap made its change
   abbrev pub opened : Open
   opened = opened_after (publishing_of x.task) (suc (length old.journal.past)) its.opened
 
   abbrev pub later : Scene
-  later = scene old.config (h.mark ∷ old.journal.past) after w opened
+  later = scene old.config (h.mark ∷ old.journal.past) after w its.call_open.look.since opened
 
   takes-effect : Takes (publishing_of x.task) (entries_of old.access s) before later
-  takes-effect = b.told.own old.config old.access p.access old.journal kept.story h.mark s w its.opened (publishing_of x.task) (change_of x.task) (suc (length old.journal.past)) strikes-it
+  takes-effect = b.told.own old.config old.access p.access old.journal kept.story h.mark s w its.call_open.look.since its.opened (publishing_of x.task) (change_of x.task) (suc (length old.journal.past)) strikes-it
 
-  begun-by : (z : Bool) (moment : ℕ) (o : Open) → HasBegun old.journal kept.story o → HasBegun (with_mark old.journal h.mark) after (opened_after z moment o)
-  begun-by true moment o l = record { from = l.from; before = omega (arith, l.before) }
-  begun-by false moment o l = record { from = l.from; before = omega (arith, l.before) }
-
-  pub begun : HasBegun (with_mark old.journal h.mark) after opened
-  begun = begun-by (publishing_of x.task) (suc (length old.journal.past)) its.opened (begun-in kept.living its.call_open)
+  pub begun : HasBegun (with_mark old.journal h.mark) after its.call_open.look.since
+  begun = let l : HasBegun old.journal kept.story its.call_open.look.since = begun-in kept.living its.call_open in record { from = l.from; by_now = omega (arith, l.by_now) }
 
   pub later-seen : Sees old.config (after.at (suc (length old.journal.past))) later
-  later-seen = b.scenes old.config p.access (with_mark old.journal h.mark) after w opened living begun
+  later-seen = b.scenes old.config p.access (with_mark old.journal h.mark) after w its.call_open.look.since opened living begun
 
   -- and the task knows that the swap took effect
   pub took : facts_of x.task Took later
@@ -139,7 +135,7 @@ module _ (b : StrikeLaws) (p : Parts) (s : ℕ) (h : IsStriking p s) where
     same = same-other v ne;
     calls = flush-calls v h.mark old.journal.past h.flush;
     from = refl;
-    lawful = λ o begins. b.told.others old.config old.access p.access old.journal kept.story h.mark s w its.opened (publishing_of x.task) (change_of x.task) v o strikes-it ne begins;
+    lawful = λ m o begins. b.told.others old.config old.access p.access old.journal kept.story h.mark s w its.call_open.look.since its.opened (publishing_of x.task) (change_of x.task) v m o strikes-it ne begins;
     took = λ j. refl;
     filled = λ j e. e;
   }) (kept.workers v)

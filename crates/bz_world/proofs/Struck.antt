@@ -47,6 +47,7 @@ kept-workers p workers k size same = record {
   sound = k.sound;
   free = k.free;
   workers = λ v. subst (IsSlot p.config p.access p.journal k.story p.owners.items v) (sym (same v)) (k.workers v);
+  lonely = λ v x opened is. k.lonely v x opened (sym (same v) ∙ is);
 }
 
 pub in-owners : (b : StrikeLaws) (p : Parts) (s : ℕ) (h : IsStriking p s) → s < length p.owners.items

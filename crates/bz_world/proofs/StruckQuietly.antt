@@ -20,7 +20,8 @@ use Rattle.bz_world.specs.Inside.Kept.{IsAwake, IsTabled, AreTaken}
 use Rattle.bz_world.specs.Inside.Serving.{IsServing, IsSlot, IsSwapping, stage_in}
 use Rattle.bz_world.specs.declared.parts.Parts.{Parts}
 use Rattle.bz_world.specs.Inside.Laws.{StrikeLaws}
-use Rattle.bz_world.proofs.Powered.{flush-leaves, free-on}
+use Rattle.bz_world.proofs.LonelyActs.{none-struck}
+use Rattle.bz_world.proofs.Powered.{looks-on, flush-leaves, free-on}
 use Rattle.bz_world.proofs.Staying.{told-stays, wanted-stays, finishing-stays}
 use Rattle.bz_world.proofs.Striking.{flush-calls, old, kept, w, x, its, owner, before, good, after, living, opened, took, others}
 
@@ -76,7 +77,7 @@ module _ (b : StrikeLaws) (p : Parts) (s : ℕ) (h : IsStriking p s) where
         is_open = flush-calls (w b p s h) h.mark (old b p s h).journal.past h.flush ∙ (its b p s h).call_open.is_open;
         call = (its b p s h).call_open.call;
         effect = (its b p s h).call_open.effect;
-        begun = omega (arith, (its b p s h).call_open.begun);
+        look = looks-on (old b p s h).journal.past h.mark (its b p s h).opened (its b p s h).call_open.look;
         told = told-stays b.stay (old b p s h).config (old b p s h).journal h.mark (w b p s h) (its b p s h).opened (x b p s h).had (its b p s h).call_open.is_open (its b p s h).call_open.told;
         wanted = wanted-stays (old b p s h).config (old b p s h).journal h.mark (its b p s h).opened (wants_of (x b p s h).task) (its b p s h).call_open.wanted;
       };
@@ -85,8 +86,8 @@ module _ (b : StrikeLaws) (p : Parts) (s : ℕ) (h : IsStriking p s) where
       asks = its-asks;
       doing = its-swap (old b p s h).owners.items refl;
       finishing = finishing-stays (old b p s h).access p.access (w b p s h) (x b p s h) (h.work.doing (w b p s h)) (its b p s h).finishing;
-      facts = subst (λ z. facts_of (x b p s h).task z (scene (old b p s h).config (h.mark ∷ (old b p s h).journal.past) (after b p s h) (w b p s h) (its b p s h).opened)) (sym stage-is)
-          (subst (λ o. facts_of (x b p s h).task Took (scene (old b p s h).config (h.mark ∷ (old b p s h).journal.past) (after b p s h) (w b p s h) o)) opened-is (took b p s h));
+      facts = subst (λ z. facts_of (x b p s h).task z (scene (old b p s h).config (h.mark ∷ (old b p s h).journal.past) (after b p s h) (w b p s h) (its b p s h).call_open.look.since (its b p s h).opened)) (sym stage-is)
+          (subst (λ o. facts_of (x b p s h).task Took (scene (old b p s h).config (h.mark ∷ (old b p s h).journal.past) (after b p s h) (w b p s h) (its b p s h).call_open.look.since o)) opened-is (took b p s h));
       covered = (its b p s h).covered;
     }
 
@@ -107,4 +108,5 @@ module _ (b : StrikeLaws) (p : Parts) (s : ℕ) (h : IsStriking p s) where
       sound = sound;
       free = free-on (old b p s h).config (old b p s h).journal.start (old b p s h).journal.past h.mark (old b p s h).slots (after b p s h).took (flush-leaves h.mark (old b p s h).journal.past h.flush) (kept b p s h).free;
       workers = slots;
+      lonely = λ v y opened is is-open key get lonely. absurd (none-struck b p s h v y is key get lonely);
     })

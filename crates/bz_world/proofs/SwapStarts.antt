@@ -9,6 +9,7 @@ use Rattle.std.proofs.Math.Seq.{get_or-append_seam}
 use Rattle.bz_running.specs.Duties.{facts_of}
 use Rattle.bz_sight.specs.Sight.{IsHidden}
 use Rattle.bz_sight.specs.Starts.{StartsAreSeen, Sees, StoresAreHidden, OwnWordsAreHidden}
+use Rattle.bz_sound.specs.Lonely.{LonelyCallsAreAlone}
 use Rattle.bz_story.specs.Laws.{ScenesAreSeen}
 use Rattle.bz_story.specs.Living.{IsLiving}
 use Rattle.bz_story.specs.Story.{scene}
@@ -28,6 +29,7 @@ use Rattle.bz_world.specs.Inside.Serving.{IsServing, IsDoing, IsSlot, stage_in}
 use Rattle.bz_world.specs.Inside.Telling.{MustStart}
 use Rattle.bz_world.specs.declared.parts.Parts.{Parts}
 use Rattle.bz_world.specs.declared.serving.Serving.{Serving}
+use Rattle.bz_world.proofs.Lonely.{in-place, only-own}
 use Rattle.bz_world.proofs.Powered.{begun-in}
 use Rattle.bz_world.proofs.Starting.{starts-it, starts-others}
 use Rattle.bz_world.proofs.Staying.{finishing-stays}
@@ -44,13 +46,13 @@ module _ (scenes : ScenesAreSeen) (hidden : OwnWordsAreHidden) (p : Parts) (w : 
   store-by v a u x h (todo.Swap entries) e d storing = absurd (cc (d.doing, storing))
   store-by v a u x h todo.Finish e d storing = absurd d
   store-by v a u x h (todo.Store c q) e d storing =
-      let s : Scene = scene p.config p.journal.past between.story v h.opened in
-      let sees : Sees p.config (between.story.at (length p.journal.past)) (scene p.config p.journal.past between.story v h.opened) = scenes p.config p.access p.journal between.story v h.opened between.living (begun-in between.living h.call_open) in
+      let s : Scene = scene p.config p.journal.past between.story v h.call_open.look.since h.opened in
+      let sees : Sees p.config (between.story.at (length p.journal.past)) (scene p.config p.journal.past between.story v h.call_open.look.since h.opened) = scenes p.config p.access p.journal between.story v h.call_open.look.since h.opened between.living (begun-in between.living h.call_open) in
       let same : todo.Store c q ≡ todo.Store a u = cc (d.0, storing) in
-      let own : IsOwnStore (scene p.config p.journal.past between.story v h.opened) a u =
-      h.tasked.laws.askable (scene p.config p.journal.past between.story v h.opened) (todo.Store a u) (sym h.tasked.config)
-      (subst (λ z. facts_of x.task z (scene p.config p.journal.past between.story v h.opened)) (ap (stage_in p.access) storing) h.facts) sees.scene (h.asks ∙ ap Some (e ∙ same)) in
-      hidden p.config (between.story.at (length p.journal.past)) (scene p.config p.journal.past between.story v h.opened) a sees own.mine
+      let own : IsOwnStore (scene p.config p.journal.past between.story v h.call_open.look.since h.opened) a u =
+      h.tasked.laws.askable (scene p.config p.journal.past between.story v h.call_open.look.since h.opened) (todo.Store a u) (sym h.tasked.config)
+      (subst (λ z. facts_of x.task z (scene p.config p.journal.past between.story v h.call_open.look.since h.opened)) (ap (stage_in p.access) storing) h.facts) sees.scene (h.asks ∙ ap Some (e ∙ same)) in
+      hidden p.config (between.story.at (length p.journal.past)) (scene p.config p.journal.past between.story v h.call_open.look.since h.opened) a sees own.mine
 
   slot-store : (v a u : ℕ) (slot : Option Serving) → IsSlot p.config p.access p.journal between.story p.owners.items v slot → doing_of p.access v ≡ Storing a u → IsHidden p.config (between.story.at (length p.journal.past)) a
   slot-store v a u None h storing = absurd (cc (h.idle, storing))
@@ -63,7 +65,7 @@ module _ (scenes : ScenesAreSeen) (hidden : OwnWordsAreHidden) (p : Parts) (w : 
   ]
 
 -- the swap has the number of the next descriptor, and the table names its worker
-module _ (starts : StartsAreSeen) (scenes : ScenesAreSeen) (begun : BegunStayTaken) (p : Parts) (w : ℕ) (entries : List Entry) (m : MustStart p w (todo.Swap entries)) (may : MaySwap p.access w entries) (ask : All (IsEntryToAsk (scene p.config p.journal.past m.asking.between.story w m.asking.between.opened)) entries)
+module _ (starts : StartsAreSeen) (scenes : ScenesAreSeen) (begun : BegunStayTaken) (alone : LonelyCallsAreAlone) (p : Parts) (w : ℕ) (entries : List Entry) (m : MustStart p w (todo.Swap entries)) (may : MaySwap p.access w entries) (ask : All (IsEntryToAsk (scene p.config p.journal.past m.asking.between.story w m.asking.between.call_open.look.since m.asking.between.opened)) entries)
     (holds : Holds (swapping p.access w entries)) (list : IsEntryList entries) (room : p.access.taken < p.config.swaps) (owners : Vec ℕ) (size : length owners.items ≡ p.config.swaps) (mine : slice_index owners.items p.access.taken ≡ w)
     (rest : (s : ℕ) → s ≢ p.access.taken → slice_index owners.items s ≡ slice_index p.owners.items s) where
   abbrev was : IsBetween p w m.serving
@@ -89,7 +91,7 @@ module _ (starts : StartsAreSeen) (scenes : ScenesAreSeen) (begun : BegunStayTak
   living = let l = was.living in record {
     from = l.from;
     begins = l.begins;
-    seen = starts.swap p.config (was.story.at (length p.journal.past)) p.access w entries (scene p.config p.journal.past was.story w was.opened) l.seen (scenes p.config p.access p.journal was.story w was.opened l (begun-in l was.call_open)) may ask holds;
+    seen = starts.swap p.config (was.story.at (length p.journal.past)) p.access w entries (scene p.config p.journal.past was.story w was.call_open.look.since was.opened) l.seen (scenes p.config p.access p.journal was.story w was.call_open.look.since was.opened l (begun-in l was.call_open)) may ask holds;
     history = l.history;
     words = l.words;
     images = l.images;
@@ -120,7 +122,7 @@ module _ (starts : StartsAreSeen) (scenes : ScenesAreSeen) (begun : BegunStayTak
       | inl on ↦ inl on
       | inr ends ↦ absurd (cc ends)
     ];
-    facts = subst (λ z. facts_of m.serving.task z (scene p.config p.journal.past was.story w was.opened)) (sym waits) m.asking.facts;
+    facts = subst (λ z. facts_of m.serving.task z (scene p.config p.journal.past was.story w was.call_open.look.since was.opened)) (sym waits) m.asking.facts;
     covered = m.asking.covered;
   }
 
@@ -144,13 +146,13 @@ module _ (starts : StartsAreSeen) (scenes : ScenesAreSeen) (begun : BegunStayTak
       slot-of None h = record { none_open = h.none_open; idle = starts-others p.access w v (Swapping p.access.taken) ne ∙ h.idle; filled = h.filled }
       slot-of (Some x) h = record {
         opened = h.opened;
-        call_open = let o = h.call_open in record { is_open = o.is_open; call = o.call; effect = o.effect; begun = o.begun; told = o.told; wanted = o.wanted };
+        call_open = let o = h.call_open in record { is_open = o.is_open; call = o.call; effect = o.effect; look = o.look; told = o.told; wanted = o.wanted };
         tasked = h.tasked;
         asked = h.asked;
         asks = h.asks;
         doing = doing-of h.asked h.doing;
         finishing = finishing-stays p.access new v x (starts-others p.access w v (Swapping p.access.taken) ne) h.finishing;
-        facts = subst (λ z. facts_of x.task z (scene p.config p.journal.past was.story v h.opened)) (sym (ap (stage_in new) (starts-others p.access w v (Swapping p.access.taken) ne) ∙ same-stage (doing_of p.access v))) h.facts;
+        facts = subst (λ z. facts_of x.task z (scene p.config p.journal.past was.story v h.call_open.look.since h.opened)) (sym (ap (stage_in new) (starts-others p.access w v (Swapping p.access.taken) ne) ∙ same-stage (doing_of p.access v))) h.facts;
         covered = h.covered;
       }
         where
@@ -217,4 +219,6 @@ module _ (starts : StartsAreSeen) (scenes : ScenesAreSeen) (begun : BegunStayTak
     sound = was.sound;
     free = was.free;
     workers = slots;
+    lonely = only-own alone new p.journal.past was.story p.workers.items w was.opened was.call_open.is_open
+        (in-place new p.journal.past was.story p.workers.items w m.serving was.opened m.is was.call_open.is_open (λ key get lonely. absurd (m.asking.lonely key get lonely)));
   }

@@ -9,11 +9,13 @@ use Rattle.bz_call.specs.declared.calls.Call.{Call}
 use Rattle.bz_call.specs.declared.calls.Call.TheVariants as call
 use Rattle.bz_call.specs.declared.replies.Reply.TheVariants as reply
 use Rattle.bz_layout.specs.declared.thresholds.TheConstants.{SPLIT_SLOTS}
+use Rattle.bz_mark.specs.declared.marks.Mark.{Mark}
 use Rattle.bz_mark.specs.declared.marks.Mark.TheVariants.{End}
 use Rattle.bz_running.specs.Duties.{config_of, asks_of, end_of, needs_of, wants_of, facts_of, makes_no_change}
 use Rattle.bz_running.specs.Hearing.{IsLookup}
 use Rattle.bz_running.specs.Laws.{AreLaws}
 use Rattle.bz_running.specs.declared.running.Running.{Running}
+use Rattle.bz_sound.specs.Lonely.{IsLonely}
 use Rattle.bz_story.specs.Laws.{ScenesAreSeen}
 use Rattle.bz_swap.specs.SwapMemory.{SwapMemory, worker_of}
 use Rattle.bz_task.specs.Outcomes.{IsPath}
@@ -34,9 +36,10 @@ use Rattle.bz_world.specs.Inside.Acted.{IsBetween, MustTell, HasWon}
 use Rattle.bz_world.specs.Inside.Going.{MustGoOn, MustLookUp, MustTakeOn, MustRead, MustReadWhole, HadEffect, HasReadAfter, LacksSwap, known, call_in, end_in, path_in, WentOn, MayGoOnIn}
 use Rattle.bz_world.specs.Inside.Beginning.{supply_of}
 use Rattle.bz_world.specs.Inside.Kept.{IsAwake}
-use Rattle.bz_world.specs.Lab.{GoesOn, EndsFullRightly}
+use Rattle.bz_world.specs.Inside.Lonely.{WhereLonely, IsNotLonely, IsNotLonelyIn, IsLonelyGet, HasLooked, AsksBriefly}
+use Rattle.bz_world.specs.Lab.{GoesOn, EndsFullRightly, GetsBriefly}
 use Rattle.bz_world.specs.Inside.Serving.{IsOpened, IsSlot, IsToldBy, IsWanted, MayGoOn, effect_reply}
-use Rattle.bz_world.specs.Inside.Telling.{MustStart, HasTold, HasToldIn, LacksDescriptor, KnowsWay, MustTellOf, MustStartOf}
+use Rattle.bz_world.specs.Inside.Telling.{MustStart, HasTold, HasToldIn, LacksDescriptor, KnowsWay, MustTellOf, MustStartOf, MustBegin}
 use Rattle.bz_world.specs.declared.answers.Applied.{Applied}
 use Rattle.bz_world.specs.declared.answers.Applied.TheVariants as applied
 use Rattle.bz_world.specs.declared.parts.Parts.{Parts}
@@ -55,16 +58,21 @@ pub serving-is : (p : Parts) (w : ℕ) (todo : Todo) (m : MustStart p w todo) (s
 serving-is p w todo m slot e = get_or_read_under p.workers.items w (length p.workers.items) slot None e (omega (arith, m.asking.between.within, m.asking.between.tabled.places, m.asking.between.tabled.config.workers_in_range.at_most)) refl ∙ m.is
 
 -- a task that has ended, so that its call goes on
-abbrev pub must-go-on : (p : Parts) (w : ℕ) (todo : Todo) (m : MustStart p w todo) (outcome : Outcome) → end_of m.serving.task ≡ Some outcome → MustGoOn p w
-must-go-on p w todo m outcome ended = record {
+abbrev pub must-go-on : (p : Parts) (w : ℕ) (todo : Todo) (m : MustStart p w todo) (outcome : Outcome) → end_of m.serving.task ≡ Some outcome → WhereLonely p.journal.past w m.serving.call (HasLooked p.access p.journal.past m.asking.between.story w m.serving m.asking.between.opened) → MustGoOn p w
+must-go-on p w todo m outcome ended lonely = record {
   serving = m.serving;
   is = m.is;
   between = m.asking.between;
-  filled = (m.asking.tasked.laws.ends (scene p.config p.journal.past m.asking.between.story w m.asking.between.opened) outcome m.asking.facts ended).1;
+  filled = (m.asking.tasked.laws.ends (scene p.config p.journal.past m.asking.between.story w m.asking.between.call_open.look.since m.asking.between.opened) outcome m.asking.facts ended).1;
+  lonely = lonely;
 }
 
 pub ended-by : (p : Parts) (w : ℕ) (todo : Todo) (m : MustStart p w todo) (outcome : Outcome) → end_in (get_or p.workers.items w None) ≡ Some outcome → end_of m.serving.task ≡ Some outcome
 ended-by p w todo m outcome ended = subst (λ z. end_in z ≡ Some outcome) m.is ended
+
+-- a lonely get asks for no swap
+no-swap : (p : Parts) (w : ℕ) (todo : Todo) (m : MustStart p w todo) → LacksDescriptor p todo → IsNotLonely p.journal.past w m.serving.call
+no-swap p w todo m lacks key get lonely = subst (AsksBriefly p.access p.journal.past m.asking.between.story w m.serving m.asking.between.opened key) lacks.is (m.asking.lonely key get lonely)
 
 -- a task that asks for a swap, for which there is no descriptor, is told so
 pub lacks-told : (p : Parts) (w : ℕ) (todo : Todo) → MustStart p w todo → LacksDescriptor p todo → MustTell p w NoSwap
@@ -82,15 +90,23 @@ lacks-told p w todo m lacks = record {
       | inr ends ↦ absurd (cc (ends, lacks.is))
     ];
     hears = subst (λ z. Hears z NoSwap) (sym (m.asking.asks ∙ ap Some lacks.is)) tt;
-    tells = subst (λ z. Tells z Waiting NoSwap (scene p.config p.journal.past m.asking.between.story w m.asking.between.opened)) (sym (m.asking.asks ∙ ap Some lacks.is)) tt;
+    tells = subst (λ z. Tells z Waiting NoSwap (scene p.config p.journal.past m.asking.between.story w m.asking.between.call_open.look.since m.asking.between.opened)) (sym (m.asking.asks ∙ ap Some lacks.is)) tt;
+    lonely = λ key get lonely. absurd (no-swap p w todo m lacks key get lonely);
   };
 }
+
+-- nor is it one then
+pub lacks-other : (p : Parts) (w : ℕ) (todo then : Todo) (m : MustStart p w todo) → LacksDescriptor p todo → (q : Parts) (moment : ℕ) (free left : FreeSlots) → q ≡ record p { slots = q.slots; workers = q.workers } → (asks : MustStart q w then)
+    → HasToldIn (get_or p.workers.items w None) NoSwap moment free then (get_or q.workers.items w None) left → IsNotLonely q.journal.past w asks.serving.call
+lacks-other p w todo then m lacks q moment free left rest asks told key get lonely =
+    let heard : HasTold m.serving NoSwap moment free then asks.serving left = subst (λ z. HasToldIn z NoSwap moment free then (Some asks.serving) left) m.is (subst (λ z. HasToldIn (get_or p.workers.items w None) NoSwap moment free then z left) asks.is told) in
+    no-swap p w todo m lacks key (sym (ap (λ (z : Serving). z.call) heard.rest) ∙ get) (subst (IsLonely w) (ap (λ (z : Parts). z.journal.past) rest) lonely)
 
 -- and then it has ended
 pub lacks-swap : (p : Parts) (w : ℕ) (todo then : Todo) (m : MustStart p w todo) → LacksDescriptor p todo → (q : Parts) (moment : ℕ) (free left : FreeSlots) → q ≡ record p { slots = q.slots; workers = q.workers } → MustStart q w then
     → HasToldIn (get_or p.workers.items w None) NoSwap moment free then (get_or q.workers.items w None) left → LacksSwap q w
 lacks-swap p w todo then m lacks q moment free left rest asks told = record {
-  on = must-go-on q w then asks (Full Swaps) (heard.heard.no_swap refl);
+  on = must-go-on q w then asks (Full Swaps) (heard.heard.no_swap refl) (λ key get lonely. absurd (lacks-other p w todo then m lacks q moment free left rest asks told key get lonely));
   spent = ap (λ (z : Parts). z.access.taken) rest ∙ (lacks.spent ∙ sym (ap (λ (z : Parts). z.config.swaps) rest));
 }
   where
@@ -145,7 +161,17 @@ called-is p w on call is = let same : Some on.serving.call ≡ Some call = sym (
 
 -- what is known of the memory is of it as it is
 pub known-scene : ScenesAreSeen → (p : Parts) (w : ℕ) (on : MustGoOn p w) → IsScene (known p w on)
-known-scene scenes p w on = (scenes p.config p.access p.journal on.between.story w on.between.opened on.between.living (begun-in on.between.living on.between.call_open)).scene
+known-scene scenes p w on = (scenes p.config p.access p.journal on.between.story w on.between.call_open.look.since on.between.opened on.between.living (begun-in on.between.living on.between.call_open)).scene
+
+-- its look-up begins anew, now
+abbrev pub looks-anew : (p : Parts) (w : ℕ) → MustGoOn p w → MustGoOn p w
+looks-anew p w on = record on {
+  between = record on.between {
+    call_open = record on.between.call_open {
+      look = let l = on.between.call_open.look in record { since = length p.journal.past; after_begin = omega (arith, l.after_begin, l.by_now); by_now = omega arith };
+    };
+  };
+}
 
 -- a task that takes no slot needs no reason
 pub none-wanted : (p : Parts) (w : ℕ) (on : MustGoOn p w) (task : Running) → wants_of task ≡ 0 → IsWanted p.config p.journal on.between.opened (wants_of task)
@@ -153,14 +179,16 @@ none-wanted p w on task none quiet some = absurd (omega (arith, none, some))
 
 -- a task that makes no change, for the call's key
 abbrev pub lookup-taken : (p : Parts) (w : ℕ) (on : MustGoOn p w) → MayGoOn on.serving → (task : Running) (way : Option Path) (asked : Option Todo) (key : List ℕ) → config_of task ≡ p.config → AreLaws task → makes_no_change task ≡ true → IsLookup key way task → key ≡ key_of on.serving.call
-    → asks_of task ≡ asked → facts_of task Waiting (known p w on) → IsWanted p.config p.journal on.between.opened (wants_of task) → MustTakeOn p w task way on.serving.had asked
-lookup-taken p w on may task way asked key config laws looks lookup same asks facts wanted = record {
+    → asks_of task ≡ asked → facts_of task Waiting (known p w on) → IsWanted p.config p.journal on.between.opened (wants_of task)
+    → WhereLonely p.journal.past w on.serving.call (IsLonelyGet p.access p.journal.past on.between.story w (record on.serving { task = task; path = way }) on.between.opened) → MustTakeOn p w task way on.serving.had asked
+lookup-taken p w on may task way asked key config laws looks lookup same asks facts wanted lonely = record {
   on = on;
   may = may;
   tasked = record { config = config; laws = laws; lookup = subst (λ k. IsLookup k way task) same lookup; change = inl looks };
   asks = asks;
   facts = facts;
   wanted = wanted;
+  lonely = lonely;
 }
 
 -- and one that begins once the change was made needs none either
@@ -172,38 +200,40 @@ pub read-way : (p : Parts) (w at : ℕ) (view : LeafView) (r : HasReadAfter p w 
 read-way p w at view r slot e way named path is = r.leads path (ap path_in (sym (slot-is p w r.had.on slot e)) ∙ (sym named ∙ is))
 
 -- whether its leaf is copied alone is nothing to what is known
-pub said-alone : (p : Parts) (w : ℕ) (on : MustGoOn p w) (alone : Bool) (slot : Option Serving) → slot ≡ Some (record on.serving { alone = alone }) → MustGoOn (record p { workers = with_item p.workers w slot }) w
+pub said-alone : (p : Parts) (w : ℕ) (on : MustGoOn p w) → IsNotLonely p.journal.past w on.serving.call → (alone : Bool) (slot : Option Serving) → slot ≡ Some (record on.serving { alone = alone }) → MustGoOn (record p { workers = with_item p.workers w slot }) w
 unfolding between-tasks
-said-alone p w on alone slot is = record {
+said-alone p w on other alone slot is = record {
   serving = record on.serving { alone = alone };
   is = get_or-set_same p.workers.items w slot None (omega (arith, on.between.within, on.between.tabled.places, on.between.tabled.config.workers_in_range.at_most)) ∙ is;
   between = between-tasks p w on.serving (record on.serving { alone = alone }) on.between (with_item p.workers w slot) (length-set p.workers.items w slot) (λ v ne. get_or-set_other p.workers.items w v slot None ne)
-      (let o = on.between.call_open in record { is_open = o.is_open; call = o.call; effect = o.effect; begun = o.begun; told = o.told; wanted = o.wanted });
+      (let o = on.between.call_open in record { is_open = o.is_open; call = o.call; effect = o.effect; look = o.look; told = o.told; wanted = o.wanted });
   filled = on.filled;
+  lonely = λ key get lonely. absurd (other key get lonely);
 }
 
 pub said-may : (p : Parts) (w : ℕ) (m : MustLookUp p w) (alone : Bool) (slot : Option Serving) → slot ≡ Some (record m.on.serving { alone = alone }) → MustLookUp (record p { workers = with_item p.workers w slot }) w
 unfolding said-alone between-tasks
-said-may p w m alone slot is = record { on = said-alone p w m.on alone slot is; may = m.may }
+said-may p w m alone slot is = record { on = said-alone p w m.on m.other alone slot is; may = m.may; other = m.other }
 
 -- nor is whether its own freeze of its leaf was the last to end
-pub said-froze : (p : Parts) (w : ℕ) (on : MustGoOn p w) (froze : Bool) (slot : Option Serving) → slot ≡ Some (record on.serving { froze = froze }) → MustGoOn (record p { workers = with_item p.workers w slot }) w
+pub said-froze : (p : Parts) (w : ℕ) (on : MustGoOn p w) → IsNotLonely p.journal.past w on.serving.call → (froze : Bool) (slot : Option Serving) → slot ≡ Some (record on.serving { froze = froze }) → MustGoOn (record p { workers = with_item p.workers w slot }) w
 unfolding between-tasks
-said-froze p w on froze slot is = record {
+said-froze p w on other froze slot is = record {
   serving = record on.serving { froze = froze };
   is = get_or-set_same p.workers.items w slot None (omega (arith, on.between.within, on.between.tabled.places, on.between.tabled.config.workers_in_range.at_most)) ∙ is;
   between = between-tasks p w on.serving (record on.serving { froze = froze }) on.between (with_item p.workers w slot) (length-set p.workers.items w slot) (λ v ne. get_or-set_other p.workers.items w v slot None ne)
-      (let o = on.between.call_open in record { is_open = o.is_open; call = o.call; effect = o.effect; begun = o.begun; told = o.told; wanted = o.wanted });
+      (let o = on.between.call_open in record { is_open = o.is_open; call = o.call; effect = o.effect; look = o.look; told = o.told; wanted = o.wanted });
   filled = on.filled;
+  lonely = λ key get lonely. absurd (other key get lonely);
 }
 
 pub froze-may : (p : Parts) (w : ℕ) (m : MustLookUp p w) (froze : Bool) (slot : Option Serving) → slot ≡ Some (record m.on.serving { froze = froze }) → MustLookUp (record p { workers = with_item p.workers w slot }) w
 unfolding said-froze between-tasks
-froze-may p w m froze slot is = record { on = said-froze p w m.on froze slot is; may = m.may }
+froze-may p w m froze slot is = record { on = said-froze p w m.on m.other froze slot is; may = m.may; other = m.other }
 
 pub froze-read : (p : Parts) (w : ℕ) (path : Path) (m : MustRead p w path) (froze : Bool) (slot : Option Serving) → slot ≡ Some (record m.on.serving { froze = froze }) → MustRead (record p { workers = with_item p.workers w slot }) w path
 unfolding said-froze between-tasks
-froze-read p w path m froze slot is = record { on = said-froze p w m.on froze slot is; may = m.may; leads = m.leads }
+froze-read p w path m froze slot is = record { on = said-froze p w m.on m.other froze slot is; may = m.may; leads = m.leads; other = m.other }
 
 module _ (p : Parts) (w : ℕ) (task : Running) (had : Option (List ℕ)) (asked : Option Todo) (path : Option Path) (m : MustTakeOn p w task path had asked) (slot : Option Serving) (is : slot ≡ Some (record m.on.serving { task = task; path = path; had = had })) (told : IsToldBy p.config p.journal m.on.between.opened had) where
   abbrev pub next : Serving
@@ -214,15 +244,15 @@ module _ (p : Parts) (w : ℕ) (task : Running) (had : Option (List ℕ)) (asked
 
   between : IsBetween taken w next
   between = between-tasks p w m.on.serving next m.on.between (with_item p.workers w slot) (length-set p.workers.items w slot) (λ v ne. get_or-set_other p.workers.items w v slot None ne)
-      (let o = m.on.between.call_open in record { is_open = o.is_open; call = o.call; effect = o.effect; begun = o.begun; told = told; wanted = m.wanted })
+      (let o = m.on.between.call_open in record { is_open = o.is_open; call = o.call; effect = o.effect; look = o.look; told = told; wanted = m.wanted })
 
   pub here-is : get_or taken.workers.items w None ≡ Some next
   here-is = get_or-set_same p.workers.items w slot None (omega (arith, m.on.between.within, m.on.between.tabled.places, m.on.between.tabled.config.workers_in_range.at_most)) ∙ is
 
   -- which asks for something already
-  pub taken-asks : (todo : Todo) → asked ≡ Some todo → MustStart taken w todo
+  pub taken-asks : IsNotLonely p.journal.past w m.on.serving.call → (todo : Todo) → asked ≡ Some todo → MustStart taken w todo
   unfolding between between-tasks
-  taken-asks todo e = record {
+  taken-asks other todo e = record {
     serving = next;
     is = here-is;
     asking = record {
@@ -232,6 +262,7 @@ module _ (p : Parts) (w : ℕ) (task : Running) (had : Option (List ℕ)) (asked
       finished = inl m.may;
       facts = m.facts;
       covered = none-unfilled (m.on.between.story.took w) (m.on.between.story.filled w) (needs_of task) (omega (arith, m.tasked.laws.few, m.tasked.laws.most)) m.on.filled;
+      lonely = λ key get lonely. absurd (other key get lonely);
     };
   }
 
@@ -250,8 +281,14 @@ module _ (p : Parts) (w : ℕ) (task : Running) (had : Option (List ℕ)) (asked
       finished = inl m.may;
       hears = subst (λ z. Hears z Start) (sym (m.asks ∙ e)) tt;
       tells = subst (λ z. Tells z Waiting Start (known p w m.on)) (sym (m.asks ∙ e)) (has-filled p w m.on);
+      lonely = λ key get lonely. (m.lonely key get lonely, refl);
     };
   }
+
+  -- where the call is no lonely get
+  pub task-begins : IsNotLonely p.journal.past w m.on.serving.call → asked ≡ None → MustBegin taken w
+  unfolding taken-begins between between-tasks
+  task-begins other e = record { tell = taken-begins e; other = other }
 
   -- and the way to its leaf is known as before
   pub begins-knowing : (e : asked ≡ None) → KnowsWay p w m.on.serving m.on.between → path ≡ m.on.serving.path → MustTellOf taken w Start
@@ -261,11 +298,33 @@ module _ (p : Parts) (w : ℕ) (task : Running) (had : Option (List ℕ)) (asked
     knows = record { leads = λ way is. k.leads way (sym same ∙ is); quiet = k.quiet };
   }
 
+  -- or has just been found
+  pub begins-found : (e : asked ≡ None) (found : Path) → path ≡ Some found → IsPath (key_of m.on.serving.call) found (known p w m.on).past → m.on.serving.effect ≡ None → MustTellOf taken w Start
+  unfolding taken-begins between between-tasks
+  begins-found e found at leads quiet = record {
+    must = taken-begins e;
+    knows = record {
+      leads = λ way is. let both : Some found ≡ Some way = sym at ∙ is in let same : found ≡ way = cc both in subst (λ z. IsPath (key_of m.on.serving.call) z (known p w m.on).past) same leads;
+      quiet = quiet;
+    };
+  }
+
 -- a task that was told something is of a call that may go on as before
 pub told-may : (old slot : Option Serving) (seen : Seen) (moment : ℕ) (free : FreeSlots) (todo : Todo) (left : FreeSlots) → HasToldIn old seen moment free todo slot left → MayGoOnIn old → MayGoOnIn slot
 told-may (Some x) (Some y) seen moment free todo left h may = subst MayGoOn (sym h.rest) may
 told-may None slot seen moment free todo left h may = absurd may
 told-may (Some x) None seen moment free todo left h may = absurd h
+
+-- and of one that is no lonely get, or whose path was found
+pub told-other : (old slot : Option Serving) (seen : Seen) (moment : ℕ) (free : FreeSlots) (todo : Todo) (left : FreeSlots) → HasToldIn old seen moment free todo slot left → (past : List Mark) (w : ℕ) → IsNotLonelyIn past w old → IsNotLonelyIn past w slot
+told-other (Some x) (Some y) seen moment free todo left h past w other = subst (λ (z : Serving). IsNotLonely past w z.call) (sym h.rest) other
+told-other None slot seen moment free todo left h past w other = absurd h
+told-other (Some x) None seen moment free todo left h past w other = absurd h
+
+pub told-path : (old slot : Option Serving) (seen : Seen) (moment : ℕ) (free : FreeSlots) (todo : Todo) (left : FreeSlots) → HasToldIn old seen moment free todo slot left → path_in slot ≡ path_in old
+told-path (Some x) (Some y) seen moment free todo left h = ap (λ (z : Serving). z.path) h.rest
+told-path None slot seen moment free todo left h = absurd h
+told-path (Some x) None seen moment free todo left h = absurd h
 
 -- and one that is told to begin is of such a call
 begins-by : (x : Serving) → MayGoOn x ⊎ HasWon x Start → MayGoOn x
@@ -276,8 +335,8 @@ pub begins-may : (p : Parts) (w : ℕ) → MustTell p w Start → MayGoOnIn (get
 begins-may p w m = subst MayGoOnIn (sym m.is) (begins-by m.serving m.told.finished)
 
 -- where its task has ended the leaf may be read whole
-abbrev pub must-read-whole : (p : Parts) (w : ℕ) (todo : Todo) (m : MustStartOf p w todo) (outcome : Outcome) → end_of m.must.serving.task ≡ Some outcome → MustReadWhole p w
-must-read-whole p w todo m outcome ended = record { on = must-go-on p w todo m.must outcome ended; leads = m.knows.leads; quiet = m.knows.quiet }
+abbrev pub must-read-whole : (p : Parts) (w : ℕ) (todo : Todo) (m : MustStartOf p w todo) (outcome : Outcome) → end_of m.must.serving.task ≡ Some outcome → IsNotLonely p.journal.past w m.must.serving.call → MustReadWhole p w
+must-read-whole p w todo m outcome ended other = record { on = must-go-on p w todo m.must outcome ended (λ key get lonely. absurd (other key get lonely)); leads = m.knows.leads; quiet = m.knows.quiet; other = other }
 
 -- a call that went on from parts with other slots and tasks
 pub told-went : (old mid : Parts) (w : ℕ) (answer : Applied) (new : Parts) → mid ≡ record old { slots = mid.slots; workers = mid.workers } → length mid.slots.free ≤ length old.slots.free → length old.slots.free ≤ length new.slots.free + SPLIT_SLOTS
@@ -291,6 +350,7 @@ told-went old mid w answer new rest fewer few went = record {
     few = few;
   };
   full = subst (λ j. EndsFullRightly new.config j w new.journal (supply_of new)) (ap (λ (p : Parts). p.journal) rest) went.full;
+  brief = subst (λ j. GetsBriefly new.config j w new.journal) (ap (λ (p : Parts). p.journal) rest) went.brief;
   config = went.config ∙ ap (λ (p : Parts). p.config) rest;
   at_start = went.at_start ∙ ap (λ (p : Parts). p.at_start) rest;
   left_out = went.left_out ∙ ap (λ (p : Parts). p.left_out) rest;
@@ -308,6 +368,7 @@ went-anew p workers page w answer new went = record {
   at_start = went.at_start;
   left_out = went.left_out;
   others = went.others;
+  brief = went.brief;
 }
 
 -- or that started something
@@ -322,6 +383,7 @@ went-started p workers w new kept rest taken others = record {
     few = omega (arith, ap (λ (z : Parts). length z.slots.free) rest);
   };
   full = λ n at spent e. absurd (not-longer (End w n (reply.Full spent) at) p.journal.past (sym (ap (λ (z : Parts). z.journal.past) rest) ∙ e));
+  brief = λ n at answer opened key e. absurd (not-longer (End w n answer at) p.journal.past (sym (ap (λ (z : Parts). z.journal.past) rest) ∙ e));
   config = ap (λ (z : Parts). z.config) rest;
   at_start = ap (λ (z : Parts). z.at_start) rest;
   left_out = ap (λ (z : Parts). z.left_out) rest;

@@ -23,11 +23,14 @@ use Rattle.bz_task.specs.declared.todo.Seen.{Seen}
 use Rattle.bz_task.specs.declared.todo.Todo.{Todo}
 use Rattle.bz_world.specs.Inside.Acted.{IsTold, IsAsking, MustTell}
 use Rattle.bz_world.specs.Inside.Going.{end_in, wants_in}
-use Rattle.bz_world.specs.Inside.Serving.{IsCovered, IsOpened, IsTasked, IsSlot, IsChangeFor, NeedsAtLeast, MayGoOn}
+use Rattle.bz_world.specs.Inside.Laws.{LonelyLaws}
+use Rattle.bz_world.specs.Inside.Lonely.{WhereLonely, AsksBriefly}
+use Rattle.bz_world.specs.Inside.Serving.{IsCovered, IsToldBy, IsTasked, IsSlot, IsChangeFor, NeedsAtLeast, MayGoOn}
 use Rattle.bz_world.specs.Inside.Telling.{CanHear, HasTold, HasToldIn, MustStart, KnowsWay, MustStartOf}
 use Rattle.bz_world.specs.declared.parts.Parts.{Parts}
 use Rattle.bz_world.specs.declared.serving.Serving.{Serving}
 use Rattle.bz_sound.specs.Power.Times.{image_at_on}
+use Rattle.bz_world.proofs.LonelyTold.{told-lonely, took-lonely}
 use Rattle.bz_world.proofs.Powered.{begun-in}
 use Rattle.bz_world.proofs.Staying.{covered-stays, slot-scenes}
 use Rattle.bz_world.proofs.Takings.{covered-taken, may-take, no-more-free, still-free}
@@ -50,7 +53,7 @@ full-rightly p w seen m moment todo slot left told ended =
     let lacked = n.told.heard.full_nodes (sym (ap end_in n.is) ∙ ended) in
     omega (arith, lacked, m.told.tasked.laws.few, n.told.heard.wants, ap wants_in n.is, no-more-free (needs_of m.serving.task) (needs_of n.next.task) p.slots left n.told.heard.slots)
 
-module _ (scenes : ScenesAreSeen) (slots : SlotsAreTaken) (p : Parts) (w : ℕ) (seen : Seen) (m : MustTell p w seen) where
+module _ (scenes : ScenesAreSeen) (slots : SlotsAreTaken) (laws : LonelyLaws) (p : Parts) (w : ℕ) (seen : Seen) (m : MustTell p w seen) where
   abbrev x : Serving
   x = m.serving
 
@@ -58,10 +61,10 @@ module _ (scenes : ScenesAreSeen) (slots : SlotsAreTaken) (p : Parts) (w : ℕ) 
   told = m.told
 
   abbrev here : Scene
-  here = scene p.config p.journal.past told.between.story w told.between.opened
+  here = scene p.config p.journal.past told.between.story w told.between.call_open.look.since told.between.opened
 
   sees : Sees p.config (told.between.story.at (length p.journal.past)) here
-  sees = scenes p.config p.access p.journal told.between.story w told.between.opened told.between.living (begun-in told.between.living told.between.call_open)
+  sees = scenes p.config p.access p.journal told.between.story w told.between.call_open.look.since told.between.opened told.between.living (begun-in told.between.living told.between.call_open)
 
   pub can-hear : (slot : Option Serving) → slot ≡ Some x → CanHear slot seen (length p.journal.past) p.slots
   can-hear slot e = subst (λ z. CanHear z seen (length p.journal.past) p.slots) (sym e) (
@@ -112,21 +115,24 @@ module _ (scenes : ScenesAreSeen) (slots : SlotsAreTaken) (p : Parts) (w : ℕ) 
     abbrev after : Story
     after = takes_slots told.between.story w p.slots left
 
-    later : scene p.config p.journal.past after w told.between.opened ≡ gained here p.slots left
-    later = slots.own p.config p.journal.past told.between.story w told.between.opened p.slots left
+    later : scene p.config p.journal.past after w told.between.call_open.look.since told.between.opened ≡ gained here p.slots left
+    later = slots.own p.config p.journal.past told.between.story w told.between.call_open.look.since told.between.opened p.slots left
 
-    facts : facts_of y.task Waiting (scene p.config p.journal.past after w told.between.opened)
+    facts : facts_of y.task Waiting (scene p.config p.journal.past after w told.between.call_open.look.since told.between.opened)
     facts = subst (facts_of y.task Waiting) (sym later) (h.heard.learns told.stage here refl (sym told.tasked.config) sees.scene (λ some. unreached) told.facts told.tells)
 
     covered : IsCovered (after.took w) (told.between.story.filled w) (needs_of y.task)
     covered = covered-stays (λ k. told.between.story.took w k || is_gained p.slots left k) (after.took w) (told.between.story.filled w) (told.between.story.filled w) (needs_of y.task) (λ k. ap (λ (z : Scene). z.took k) later) (λ k e. e)
         (covered-taken (told.between.story.took w) (told.between.story.filled w) (needs_of x.task) (needs_of y.task) p.slots left h.heard.slots told.covered)
 
+    lonely : WhereLonely p.journal.past w y.call (λ key. AsksBriefly p.access p.journal.past after w y told.between.opened key todo)
+    lonely key get alone = took-lonely p.access p.journal.past told.between.story w y told.between.opened key p.slots left todo (told-lonely laws p w x seen told sees.scene (length p.journal.past) todo left y h key get alone)
+
     living : IsLiving p.config p.access p.journal after
     living = slots.living p.config p.access p.journal told.between.story w p.slots left told.between.living (may-take p.config (image_at_on p.journal.start p.journal.past) told.between.story p.slots left told.between.free)
 
-    other : (v : ℕ) → v ≢ w → (opened : Open) → scene p.config p.journal.past after v opened ≡ scene p.config p.journal.past told.between.story v opened
-    other v ne opened = slots.others p.config p.journal.past told.between.story w v opened p.slots left ne
+    other : (v : ℕ) → v ≢ w → (since : ℕ) (opened : Open) → scene p.config p.journal.past after v since opened ≡ scene p.config p.journal.past told.between.story v since opened
+    other v ne since opened = slots.others p.config p.journal.past told.between.story w v since opened p.slots left ne
 
     pub is-asking : (workers : Vec (Option Serving)) → length workers.items ≡ length p.workers.items → ((v : ℕ) → v ≢ w → get_or workers.items v None ≡ get_or p.workers.items v None) → IsAsking (record p { slots = left; workers = workers }) w y todo
     is-asking workers size rest = record {
@@ -160,7 +166,7 @@ module _ (scenes : ScenesAreSeen) (slots : SlotsAreTaken) (p : Parts) (w : ℕ) 
         worker = told.between.worker;
         within = told.between.within;
         opened = told.between.opened;
-        call_open = subst (λ (z : Serving). IsOpened p.config p.journal w told.between.opened z) (sym h.rest) (let o = told.between.call_open in record { is_open = o.is_open; call = o.call; effect = o.effect; begun = o.begun; told = o.told; wanted = λ quiet some. subst (NeedsAtLeast p.config p.journal.start p.journal.past told.between.opened) (sym h.heard.wants) (o.wanted quiet (omega (arith, some, h.heard.wants))) });
+        call_open = let o = told.between.call_open in record { is_open = o.is_open; call = o.call ∙ ap (λ (z : Serving). z.call) (sym h.rest); effect = o.effect ∙ ap (λ (z : Serving). z.effect) (sym h.rest); look = o.look; told = subst (λ (z : Serving). IsToldBy p.config p.journal told.between.opened z.had) (sym h.rest) o.told; wanted = λ quiet some. subst (NeedsAtLeast p.config p.journal.start p.journal.past told.between.opened) (sym h.heard.wants) (o.wanted quiet (omega (arith, some, h.heard.wants))) };
         idle = told.between.idle;
       };
       tasked = tasked;
@@ -171,6 +177,7 @@ module _ (scenes : ScenesAreSeen) (slots : SlotsAreTaken) (p : Parts) (w : ℕ) 
       ];
       facts = facts;
       covered = covered;
+      lonely = lonely;
     }
 
   pub must-start : (todo : Todo) (left : FreeSlots) (old slot : Option Serving) → old ≡ Some x → HasToldIn old seen (length p.journal.past) p.slots todo slot left → MustStart (record p { slots = left; workers = with_item p.workers w slot }) w todo

@@ -1,5 +1,5 @@
 -- A recovery begins when the power comes on, and when it has ended the memory lives again.
-use Rattle.std.proofs.Common.{◌≡◌, ℕ, ◌+◌, ◌<◌, ◌≤◌, ◌&&◌, nat_lt, Bool, true, false, length, arith, refl, sym, ap, subst, ◌∙◌, inl, Option, Some, None, slice_set}
+use Rattle.std.proofs.Common.{◌≡◌, ℕ, ◌+◌, ◌<◌, ◌≤◌, ◌&&◌, nat_lt, Bool, true, false, length, arith, refl, sym, ap, subst, ◌∙◌, inl, Option, Some, None, slice_set, ◌∷◌}
 use Rattle.std.specs.Prelude.{get_or, map}
 use Rattle.std.proofs.lemmas.Bool.{true≢false}
 use Rattle.std.proofs.lemmas.Bool.Decides.{nat_tests}
@@ -36,6 +36,7 @@ use Rattle.bz_world.specs.Lab as lab
 use Rattle.bz_world.specs.Inside.Serving.{IsSlot}
 use Rattle.bz_world.specs.declared.parts.Parts.{Parts}
 use Rattle.bz_world.specs.declared.serving.Serving.{Serving}
+use Rattle.bz_world.proofs.Lonely.{none-in}
 use Rattle.bz_world.proofs.Counting.{pairs-stay}
 use Rattle.bz_world.proofs.Recovered.{Learns}
 use Rattle.bz_world.proofs.Supplies.{shown-off}
@@ -173,6 +174,7 @@ module _ (b : Ends) (p : Parts) (k : MustWake p) (order : IsInOrder p.slots) (ho
       others = λ j l f. inl (held j l f);
     };
     workers = λ w. slot-by w (get_or p.workers.items w None) (k.recovering.dark.none w);
+    lonely = λ w. none-in (renewed p.access) (Ready ∷ p.journal.past) life p.workers.items w (k.recovering.dark.none w);
   }
 
   -- so they are as many as it leaves

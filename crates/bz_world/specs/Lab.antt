@@ -5,6 +5,7 @@ use Rattle.std.specs.List.{range_with_len}
 use Rattle.bz_acts.specs.Rule.{is_flush_act}
 use Rattle.bz_acts.specs.declared.acted.Act.{Act}
 use Rattle.bz_acts.specs.declared.acted.Act.TheVariants as act
+use Rattle.bz_alone.specs.Reads.{get_reads}
 use Rattle.bz_call.specs.Pages.{is_page}
 use Rattle.bz_call.specs.declared.calls.Call.{Call}
 use Rattle.bz_call.specs.declared.calls.Call.TheVariants as call
@@ -25,7 +26,8 @@ use Rattle.bz_recover.specs.Places.{MOST_ACTS}
 use Rattle.bz_sound.specs.declared.power.Power.{Power}
 use Rattle.bz_sound.specs.declared.power.Power.TheVariants as power
 use Rattle.bz_sound.specs.Calls.{Open, open_call, begun_calls, map_after}
-use Rattle.bz_sound.specs.Memory.Moments.{map_at_start}
+use Rattle.bz_sound.specs.Lonely.{IsLonely, acts_since}
+use Rattle.bz_sound.specs.Memory.Moments.{map_at_start, image_at}
 use Rattle.bz_sound.specs.Memory.Spent.{NeedsSlots, is_reached_in}
 use Rattle.bz_sound.specs.Power.Times.{power_of, since_on, image_at_on}
 use Rattle.bz_sound.specs.Replies.{Pages}
@@ -274,9 +276,17 @@ HasRunOut config log w supply Height = Unit {0}
 abbrev pub EndsFullRightly : Config → Log → ℕ → Log → Supply → Type 0
 EndsFullRightly config old w new supply = (n at : ℕ) (spent : Spent) → new.past ≡ End w n (Full spent) at ∷ old.past → HasRunOut config old w supply spent
 
+-- a lonely get, during which no other call was open, ends after at most twice as many acts as the reads that a get may ask for: of the
+-- inner nodes above the leaf of its key and of that leaf, in the image of the moment that its reply is of. So none reads its leaf whole
+abbrev pub GetsBriefly : Config → Log → ℕ → Log → Type 0
+GetsBriefly config old w new =
+    (n at : ℕ) (reply : Reply) (opened : Open) (key : List ℕ) → new.past ≡ End w n reply at ∷ old.past → open_call w old.past ≡ Some opened → opened.call ≡ call.Get key → IsLonely w old.past →
+    acts_since w old.past ≤ 2 * get_reads config (image_at old.start at old.past) key
+
 -- a step of a worker: exactly one act of it, a flush exactly where that was said before; at most one effect; at most its
--- call's End, which is a Full only where what that names has run out. A task takes at most as many slots as a split does: the one
--- that this act ends, and the next one. What the next acts of the others are stays, and which of them have a swap under way.
+-- call's End, which is a Full only where what that names has run out, and that of a lonely get only after few acts. A task takes at
+-- most as many slots as a split does: the one that this act ends, and the next one. What the next acts of the others are stays, and
+-- which of them have a swap under way.
 pub record Steps (old : Lab) (w : ℕ) (answer : Applied) (new : Lab) : Type 0 where
   pub made : Act
   pub flush : is_flush_act made ≡ flush_of old w
@@ -290,6 +300,7 @@ pub record Steps (old : Lab) (w : ℕ) (answer : Applied) (new : Lab) : Type 0 w
   pub left_out : new.left_out ≡ old.left_out
   pub others : (v : ℕ) → v ≢ w → flush_of new v ≡ flush_of old v
   pub apart : (v : ℕ) → v ≢ w → is_swapping new v ≡ is_swapping old v
+  pub brief : GetsBriefly new.config (record old.log { past = struck }) w new.log
 
 -- the recovery goes on, or has ended with this act: its Ready follows directly
 abbrev pub EndsRecovery : Log → Applied → Log → Type 0

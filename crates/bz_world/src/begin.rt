@@ -72,6 +72,7 @@ fn open_call(parts: &mut Parts, w: u8, call: Call) -> u32
     let n = parts.numbers[w as usize] + 1;
     let task = Running::seek(&parts.config, key_of(&call));
     task.laws();
+    task.looks();
     parts.numbers[w as usize] = n;
     parts.begun += 1;
     parts.pages_begun += pages_asked(&call);

@@ -3,7 +3,7 @@ ghost use Rattle.std.specs.Prelude.{◌≡◌, ◌↔◌, IsTrue, IsSome, IfSome
 ghost use Rattle.bz_call.specs.Map.{key_of as key_in};
 ghost use Rattle.bz_sound.specs.Memory.Replies.{IsWrite};
 ghost use Rattle.bz_task.specs.declared.todo.Todo.TheVariants.{Finish};
-ghost use Rattle.bz_world.specs.Inside.Going.{call_in, end_in, asks_in, path_in as way_in, had_in as payload_in, effect_in as moment_in, CanGoUpIn, GoesUpIn, with_task, with_change, with_alone, with_froze};
+ghost use Rattle.bz_world.specs.Inside.Going.{call_in, end_in, asks_in, path_in as way_in, had_in as payload_in, effect_in as moment_in, froze_in, CanGoUpIn, GoesUpIn, with_task, with_change, with_alone, with_froze};
 
 use crate::serving::Serving;
 use bz_call::Call;
@@ -108,7 +108,9 @@ pub(crate) fn is_alone(slot: &Option<Serving>) -> bool {
 }
 
 /// Whether its own freeze of its leaf was the last to end.
-pub(crate) fn has_frozen(slot: &Option<Serving>) -> bool {
+pub(crate) fn has_frozen(slot: &Option<Serving>) -> bool
+    ensures { result ≡ froze_in slot.now }
+{
     match slot {
         Some(serving) => serving.froze,
         None => false,

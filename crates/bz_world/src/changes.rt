@@ -4,6 +4,7 @@ ghost use Rattle.bz_call.specs.declared.calls.Call.TheVariants as called;
 ghost use Rattle.bz_task.specs.Outcomes.{payload_of};
 ghost use Rattle.bz_task.specs.declared.todo.Outcome.TheVariants.{NeedsRoom};
 ghost use Rattle.bz_world.specs.Inside.Going.{MustAnswerKey, MustReadWhole, MustChange, MustInsert, MustUpdate, MustDelete, WentOn, call_in, end_in};
+ghost use Rattle.bz_world.specs.Inside.Lonely.{IsNotLonelyIn};
 ghost use Rattle.bz_world.specs.Inside.Telling.{MustStartOf};
 
 use crate::answers::Applied;
@@ -45,6 +46,7 @@ fn read_whole(parts: &mut Parts, w: u8) -> Applied
 // Goes on with a change that was told to begin. Where its leaf is frozen or lacks the room, the leaf is read whole, to be made anew.
 fn go_on_changing(parts: &mut Parts, w: u8, todo: Todo) -> Applied
     requires asks { MustStartOf parts.old w todo }
+    requires other { IsNotLonelyIn parts.old.journal.past w (get_or parts.old.workers.items w None) }
     requires room { length parts.old.journal.past < parts.old.config.marks }
     ensures { WentOn parts.old w result parts.new }
 {

@@ -1,12 +1,11 @@
 //! How a call goes on when its task has ended, or asks for something.
 ghost use Rattle.std.specs.Prelude.{◌≡◌, ◌<◌, ◌≤◌, ◌+◌, false, None, Some, get_or, length};
-ghost use Rattle.bz_task.specs.declared.todo.Seen.TheVariants.{Start};
 ghost use Rattle.bz_task.specs.declared.todo.Todo.TheVariants.{Finish};
 ghost use Rattle.bz_call.specs.Pages.{names_page};
-ghost use Rattle.bz_world.specs.Inside.Acted.{MustTell};
 ghost use Rattle.bz_world.specs.Inside.Going.{MustLookUp, MayGoOnIn, HadEffect, LacksSwap, IsShort, WentOn, end_in, needs_in};
+ghost use Rattle.bz_world.specs.Inside.Lonely.{IsNotLonelyIn};
 ghost use Rattle.bz_world.specs.Inside.Serving.{effect_reply as reply_in};
-ghost use Rattle.bz_world.specs.Inside.Telling.{MustStart};
+ghost use Rattle.bz_world.specs.Inside.Telling.{MustBegin, MustStart};
 
 use crate::answers::Applied;
 use crate::calls::{called, effect_in, ended_in, had_in, is_write, key_of, set_task};
@@ -64,6 +63,7 @@ pub(crate) fn end_effective(parts: &mut Parts, w: u8, at: u32) -> Applied
 /// Ends a call without effect for want of what was spent.
 pub(crate) fn end_full(parts: &mut Parts, w: u8, spent: Spent) -> Applied
     requires short { IsShort parts.old w spent }
+    requires other { IsNotLonelyIn parts.old.journal.past w (get_or parts.old.workers.items w None) }
     requires room { length parts.old.journal.past < parts.old.config.marks }
     ensures went { WentOn parts.old w result parts.new }
     ensures slots { parts.new.slots ≡ parts.old.slots }
@@ -81,6 +81,7 @@ pub(crate) fn end_full(parts: &mut Parts, w: u8, spent: Spent) -> Applied
 // Ends a call for want of a descriptor.
 fn end_swapless(parts: &mut Parts, w: u8) -> Applied
     requires lacks { LacksSwap parts.old w }
+    requires other { IsNotLonelyIn parts.old.journal.past w (get_or parts.old.workers.items w None) }
     requires room { length parts.old.journal.past < parts.old.config.marks }
     ensures went { WentOn parts.old w result parts.new }
     ensures slots { parts.new.slots ≡ parts.old.slots }
@@ -107,6 +108,7 @@ pub(crate) fn outcome_of(parts: &Parts, w: u8) -> Outcome
 pub(crate) fn go_on(parts: &mut Parts, w: u8, todo: Todo) -> Applied
     requires asks { MustStart parts.old w todo }
     requires may { MayGoOnIn (get_or parts.old.workers.items w None) }
+    requires other { todo ≡ Finish → IsNotLonelyIn parts.old.journal.past w (get_or parts.old.workers.items w None) }
     requires room { length parts.old.journal.past < parts.old.config.marks }
     ensures went { WentOn parts.old w result parts.new }
     // no more slots are gone than its task was still to take
@@ -126,7 +128,7 @@ pub(crate) fn go_on(parts: &mut Parts, w: u8, todo: Todo) -> Applied
 
 /// Has the new task of a call begin.
 pub(crate) fn begin_task(parts: &mut Parts, w: u8) -> Applied
-    requires begins { MustTell parts.old w Start }
+    requires begins { MustBegin parts.old w }
     requires room { length parts.old.journal.past < parts.old.config.marks }
     ensures { WentOn parts.old w result parts.new }
 {

@@ -1,15 +1,30 @@
 //! The laws on which the world's acts stand, from the crates below. Each function does nothing.
-ghost use Rattle.bz_world.specs.Inside.Laws.{StepLaws, StrikeLaws, StartLaws, EndLaws, AnswerLaws};
+ghost use Rattle.bz_world.specs.Inside.Laws.{LonelyLaws, StepLaws, StrikeLaws, StartLaws, EndLaws, AnswerLaws};
 
+use bz_alone::laws as alone;
 use bz_sight::laws as sight;
 use bz_sound::{memory_laws as calls, power_laws as sound};
 use bz_story::laws as story;
 use bz_swap::laws as swap;
 
+/// Those of a lonely get.
+pub(crate) fn lonely_laws()
+    ensures { LonelyLaws }
+{
+    sound::lonely_calls_are_alone();
+    alone::look_ups_are_brief();
+    alone::ways_are_brief();
+    alone::brief_look_ups_go_on();
+    alone::gets_are_brief();
+    alone::effects_never_fall();
+    story::scenes_are_seen();
+}
+
 /// Those of an act without effect.
 pub(crate) fn step_laws()
     ensures { StepLaws }
 {
+    lonely_laws();
     sight::acts_pass();
     sight::quiet_steps_pass();
     sight::steps_leave_caches();
@@ -33,6 +48,7 @@ pub(crate) fn step_laws()
 pub(crate) fn strike_laws()
     ensures { StrikeLaws }
 {
+    lonely_laws();
     sight::effects_take_place();
     sight::acts_pass();
     story::scenes_are_seen();
@@ -52,6 +68,7 @@ pub(crate) fn strike_laws()
 pub(crate) fn start_laws()
     ensures { StartLaws }
 {
+    lonely_laws();
     sight::own_words_are_hidden();
     sight::tasks_may_start();
     sight::starts_are_seen();
@@ -63,6 +80,7 @@ pub(crate) fn start_laws()
 pub(crate) fn end_laws()
     ensures { EndLaws }
 {
+    lonely_laws();
     story::scenes_are_seen();
     story::lives_go_on();
     story::quiet_marks_are_lawful();
@@ -79,6 +97,7 @@ pub(crate) fn end_laws()
 pub(crate) fn answer_laws()
     ensures { AnswerLaws }
 {
+    lonely_laws();
     sound::answers_come_from_the_image();
     sound::pages_come_from_the_image();
     sound::spent_answers_full();

@@ -1,13 +1,12 @@
-//! Looking into the leaf to which a path leads.
+//! Reading the leaf whole to which a path leads.
 ghost use Rattle.std.specs.Prelude.{◌<◌, length};
 ghost use Rattle.bz_world.specs.Inside.Going.{MustRead, WentOn};
 
 use crate::answers::Applied;
-use crate::calls::{called, has_frozen, key_of, set_froze, set_task};
+use crate::calls::{called, key_of, set_froze, set_task};
 use crate::going::begin_task;
 use crate::laws::start_laws;
 use crate::parts::Parts;
-use bz_call::Call;
 use bz_running::Running;
 use bz_task::Path;
 
@@ -25,46 +24,12 @@ pub(crate) fn read_leaf(parts: &mut Parts, w: u8, path: Path) -> Applied
     begin_task(parts, w)
 }
 
-// Looks the call's key up there.
-fn find_key(parts: &mut Parts, w: u8, path: Path) -> Applied
-    requires path { MustRead parts.old w path }
-    requires room { length parts.old.journal.past < parts.old.config.marks }
-    ensures { WentOn parts.old w result parts.new }
-{
-    start_laws();
-    let call = called(&parts.workers[w as usize]);
-    let task = Running::find(&parts.config, path, key_of(&call));
-    task.laws();
-    set_task(&mut parts.workers[w as usize], task, Some(path));
-    begin_task(parts, w)
-}
-
-// Reads the leaf whole that the call has frozen itself, which is to be made anew.
-fn read_frozen(parts: &mut Parts, w: u8, path: Path) -> Applied
+/// Reads the leaf whole that the call has frozen itself, which is to be made anew.
+pub(crate) fn read_frozen(parts: &mut Parts, w: u8, path: Path) -> Applied
     requires path { MustRead parts.old w path }
     requires room { length parts.old.journal.past < parts.old.config.marks }
     ensures { WentOn parts.old w result parts.new }
 {
     set_froze(&mut parts.workers[w as usize], false);
     read_leaf(parts, w, path)
-}
-
-/// Looks there for what the call asks: at the whole leaf for a page, and where the call has frozen its leaf; at the call's key for
-/// any other.
-pub(crate) fn look_into(parts: &mut Parts, w: u8, path: Path) -> Applied
-    requires path { MustRead parts.old w path }
-    requires room { length parts.old.journal.past < parts.old.config.marks }
-    ensures { WentOn parts.old w result parts.new }
-{
-    if has_frozen(&parts.workers[w as usize]) {
-        return read_frozen(parts, w, path);
-    }
-    match called(&parts.workers[w as usize]) {
-        Call::Page(_) => read_leaf(parts, w, path),
-        Call::Get(_)
-        | Call::Insert(_, _)
-        | Call::Delete(_)
-        | Call::Update(_, _)
-        | Call::Upsert(_, _) => find_key(parts, w, path),
-    }
 }

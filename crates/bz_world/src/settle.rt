@@ -3,26 +3,28 @@ ghost use Rattle.std.specs.Prelude.{◌≡◌, ◌<◌, None, Some, length, get_
 ghost use Rattle.bz_call.specs.declared.calls.Call.TheVariants as called;
 ghost use Rattle.bz_task.specs.declared.todo.Outcome.TheVariants.{Full, NeedsRoom};
 ghost use Rattle.bz_task.specs.declared.todo.Todo.TheVariants.{Finish};
-ghost use Rattle.bz_world.specs.Inside.Going.{MustAnswer, MustAnswerKey, HasEnded, HasEndedAfter, HasReadAfter, IsFullRightly, MustLookUp, WentOn, call_in};
-ghost use Rattle.bz_world.specs.Inside.Telling.{MustStart};
+ghost use Rattle.bz_world.specs.Inside.Going.{MustAnswer, MustAnswerKey, MustFind, HasEnded, HasEndedAfter, HasReadAfter, IsFullRightly, MustLookUp, WentOn, call_in};
+ghost use Rattle.bz_world.specs.Inside.Telling.{MustStart, MustStartFound};
 
 use crate::answers::Applied;
 use crate::calls::{
-    above, called, effect_in, is_freezing, is_merging, leaves_few, path_in, set_alone, set_froze,
+    above, called, effect_in, has_frozen, is_freezing, is_merging, key_of, leaves_few, path_in,
+    set_alone, set_froze, set_task,
 };
 use crate::changes::{answer_delete, answer_insert, answer_update, answer_upsert};
 use crate::end::{end, end_page};
-use crate::going::{end_effective, end_full, look_up, outcome_of};
+use crate::going::{end_effective, end_full, go_on, look_up, outcome_of};
 use crate::laws::{answer_laws, start_laws};
-use crate::lookups::{look_into, read_leaf};
+use crate::lookups::{read_frozen, read_leaf};
 use crate::parts::Parts;
 use crate::restructuring::{merge, restructure, split_above};
 use crate::room::lacks_room;
+use crate::tell::tell;
 use bz_call::{Call, Reply, Spent};
 use bz_key::Key;
 use bz_page::collect;
-use bz_running::is_due_beside as is_due;
-use bz_task::{KeyView, LeafView, Outcome};
+use bz_running::{Running, is_due_beside as is_due};
+use bz_task::{KeyView, LeafView, Outcome, Path, Seen, Todo};
 
 // Answers a get by what its leaf has.
 fn answer_get(parts: &mut Parts, w: u8, view: &KeyView, key: &Key) -> Applied
@@ -66,6 +68,66 @@ fn answer(parts: &mut Parts, w: u8, view: &KeyView) -> Applied
         Call::Upsert(key, payload) => answer_upsert(parts, w, view, key, payload),
         // a page reads its leaf whole
         Call::Page(_) => look_up(parts, w),
+    }
+}
+
+// The look-up of a key has ended as it began: what it found answers the call.
+fn settle_found(parts: &mut Parts, w: u8) -> Applied
+    requires ends { MustStartFound parts.old w Finish }
+    requires room { length parts.old.journal.past < parts.old.config.marks }
+    ensures { WentOn parts.old w result parts.new }
+{
+    match outcome_of(parts, w) {
+        Outcome::Key(view) => answer(parts, w, &view),
+        _ => look_up(parts, w),
+    }
+}
+
+// Goes on with a look-up of a key that was told to begin.
+fn go_on_finding(parts: &mut Parts, w: u8, todo: Todo) -> Applied
+    requires asks { MustStartFound parts.old w todo }
+    requires room { length parts.old.journal.past < parts.old.config.marks }
+    ensures { WentOn parts.old w result parts.new }
+{
+    match todo {
+        Todo::Finish => settle_found(parts, w),
+        todo => go_on(parts, w, todo),
+    }
+}
+
+// Looks the call's key up there.
+fn find_key(parts: &mut Parts, w: u8, path: Path) -> Applied
+    requires path { MustFind parts.old w path }
+    requires room { length parts.old.journal.past < parts.old.config.marks }
+    ensures { WentOn parts.old w result parts.new }
+{
+    start_laws();
+    let call = called(&parts.workers[w as usize]);
+    let task = Running::find(&parts.config, path, key_of(&call));
+    task.laws();
+    task.looks();
+    set_task(&mut parts.workers[w as usize], task, Some(path));
+    let todo = tell(parts, w, Seen::Start);
+    go_on_finding(parts, w, todo)
+}
+
+// Looks into its leaf for what the call asks: at the whole leaf for a page, and where the call has frozen its leaf; at the call's key for
+// any other.
+fn look_into(parts: &mut Parts, w: u8, path: Path) -> Applied
+    requires path { MustFind parts.old w path }
+    requires room { length parts.old.journal.past < parts.old.config.marks }
+    ensures { WentOn parts.old w result parts.new }
+{
+    if has_frozen(&parts.workers[w as usize]) {
+        return read_frozen(parts, w, path);
+    }
+    match called(&parts.workers[w as usize]) {
+        Call::Page(_) => read_leaf(parts, w, path),
+        Call::Get(_)
+        | Call::Insert(_, _)
+        | Call::Delete(_)
+        | Call::Update(_, _)
+        | Call::Upsert(_, _) => find_key(parts, w, path),
     }
 }
 

@@ -4,6 +4,7 @@ ghost use Rattle.bz_world.specs.Inside.Acted.{MustTell};
 ghost use Rattle.bz_world.specs.Inside.Going.{IsFullRightly};
 ghost use Rattle.bz_world.specs.Inside.Telling.{CanHear, HasToldIn, MustStart, MustTellOf, MustStartOf};
 
+use crate::laws::lonely_laws;
 use crate::parts::Parts;
 use crate::serving::Serving;
 use bz_layout::Slots;
@@ -20,6 +21,7 @@ fn hear_task(slot: &mut Option<Serving>, seen: Seen, slots: &mut Slots, moment: 
         Some(serving) => {
             let todo = serving.task.hear(seen, slots, moment);
             serving.task.laws();
+            serving.task.looks();
             todo
         }
     }
@@ -38,6 +40,7 @@ pub(crate) fn tell(parts: &mut Parts, w: u8, seen: Seen) -> Todo
 {
     story::scenes_are_seen();
     story::slots_are_taken();
+    lonely_laws();
     let moment = parts.journal.length();
     hear_task(
         &mut parts.workers[w as usize],

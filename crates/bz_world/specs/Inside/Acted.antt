@@ -29,6 +29,7 @@ use Rattle.bz_task.specs.declared.todo.Seen.TheVariants.{Swapped}
 use Rattle.bz_task.specs.declared.todo.Todo.{Todo}
 use Rattle.bz_task.specs.declared.todo.Todo.TheVariants.{Finish}
 use Rattle.bz_world.specs.Inside.Kept.{IsTabled, AreTaken, AreFree, IsAwake}
+use Rattle.bz_world.specs.Inside.Lonely.{WhereLonely, IsLonelyGet, AsksBriefly}
 use Rattle.bz_world.specs.Lab.{mark_of, IsStruck}
 use Rattle.bz_world.specs.Inside.Serving.{IsCovered, IsSlot, IsOpened, IsTasked, MayGoOn}
 use Rattle.bz_world.specs.declared.parts.Parts.{Parts}
@@ -92,11 +93,12 @@ pub record IsTold (p : Parts) (w : ℕ) (x : Serving) (seen : Seen) : Type 0 whe
   pub between : IsBetween p w x
   pub tasked : IsTasked p.config x.call x.path x.had x.task
   pub stage : Stage
-  pub facts : facts_of x.task stage (scene p.config p.journal.past between.story w between.opened)
+  pub facts : facts_of x.task stage (scene p.config p.journal.past between.story w between.call_open.look.since between.opened)
   pub covered : IsCovered (between.story.took w) (between.story.filled w) (needs_of x.task)
   pub finished : MayGoOn x ⊎ HasWon x seen
   pub hears : Hears (asks_of x.task) seen
-  pub tells : Tells (asks_of x.task) stage seen (scene p.config p.journal.past between.story w between.opened)
+  pub tells : Tells (asks_of x.task) stage seen (scene p.config p.journal.past between.story w between.call_open.look.since between.opened)
+  pub lonely : WhereLonely p.journal.past w x.call (λ key. IsLonelyGet p.access p.journal.past between.story w x between.opened key × (stage ≡ Waiting))
 
 -- and its task asks for this: for nothing more, where its change is made
 pub record IsAsking (p : Parts) (w : ℕ) (x : Serving) (todo : Todo) : Type 0 where
@@ -104,8 +106,9 @@ pub record IsAsking (p : Parts) (w : ℕ) (x : Serving) (todo : Todo) : Type 0 w
   pub tasked : IsTasked p.config x.call x.path x.had x.task
   pub asks : asks_of x.task ≡ Some todo
   pub finished : MayGoOn x ⊎ (todo ≡ Finish)
-  pub facts : facts_of x.task Waiting (scene p.config p.journal.past between.story w between.opened)
+  pub facts : facts_of x.task Waiting (scene p.config p.journal.past between.story w between.call_open.look.since between.opened)
   pub covered : IsCovered (between.story.took w) (between.story.filled w) (needs_of x.task)
+  pub lonely : WhereLonely p.journal.past w x.call (λ key. AsksBriefly p.access p.journal.past between.story w x between.opened key todo)
 
 -- the worker's call is served, and its task is to be told this
 pub record MustTell (p : Parts) (w : ℕ) (seen : Seen) : Type 0 where

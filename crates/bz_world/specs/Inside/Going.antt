@@ -1,5 +1,5 @@
 -- A call whose task has ended: nothing goes on for it, until it is answered or gets another task.
-use Rattle.std.specs.Prelude.{◌≡◌, ◌≢◌, ◌<◌, ◌≤◌, ◌⊎◌, ℕ, ◌++◌, ◌∷◌, [], Bool, true, List, length, get_or, Option, Some, None, option_map}
+use Rattle.std.specs.Prelude.{◌≡◌, ◌≢◌, ◌<◌, ◌≤◌, ◌⊎◌, ℕ, ◌++◌, ◌∷◌, [], ◌*◌, Bool, true, false, List, length, get_or, Option, Some, None, option_map}
 use Rattle.bz_call.specs.Map.{key_of}
 use Rattle.bz_call.specs.Pages.{is_page}
 use Rattle.bz_call.specs.declared.calls.Call.{Call}
@@ -12,11 +12,14 @@ use Rattle.bz_running.specs.FromBelow.Facts.{IsThawedAbove}
 use Rattle.bz_running.specs.FromConsol.Facts.{LeadsTo}
 use Rattle.bz_layout.specs.declared.config.Config.{Config}
 use Rattle.bz_layout.specs.declared.thresholds.TheConstants.{MERGE_SLOTS, SPLIT_ABOVE, SPLIT_SLOTS}
+use Rattle.bz_alone.specs.Reads.{get_reads}
 use Rattle.bz_running.specs.Duties.{config_of, asks_of, end_of, needs_of, wants_of, facts_of}
 use Rattle.bz_running.specs.GoingUp.{GoesUp, IsInScene}
 use Rattle.bz_running.specs.declared.running.Running.{Running}
 use Rattle.bz_slotted.specs.Readers.{live_of}
 use Rattle.bz_slotted.specs.ReadingLaws.{node_of}
+use Rattle.bz_sound.specs.Lonely.{acts_since}
+use Rattle.bz_sound.specs.Memory.Moments.{image_at}
 use Rattle.bz_sound.specs.Power.Replies.{IsRightReply}
 use Rattle.bz_sound.specs.Power.Spent.{IsSpent}
 use Rattle.bz_story.specs.Story.{scene}
@@ -33,7 +36,8 @@ use Rattle.bz_word.specs.Statuses.{status}
 use Rattle.bz_world.specs.Inside.Acted.{IsBetween}
 use Rattle.bz_world.specs.Inside.Beginning.{supply_of}
 use Rattle.bz_world.specs.Inside.Kept.{IsAwake}
-use Rattle.bz_world.specs.Lab.{GoesOn, Spends, HasRunOut, EndsFullRightly, is_delete}
+use Rattle.bz_world.specs.Inside.Lonely.{WhereLonely, IsNotLonely, IsLonelyGet, HasLooked}
+use Rattle.bz_world.specs.Lab.{GoesOn, Spends, HasRunOut, EndsFullRightly, GetsBriefly, is_delete}
 use Rattle.bz_world.specs.Inside.Serving.{IsTasked, IsWanted, MayGoOn}
 use Rattle.bz_world.specs.declared.answers.Applied.{Applied}
 use Rattle.bz_world.specs.declared.parts.Parts.{Parts}
@@ -45,22 +49,24 @@ pub record MustGoOn (p : Parts) (w : ℕ) : Type 0 where
   pub is : get_or p.workers.items w None ≡ Some serving
   pub between : IsBetween p w serving
   pub filled : (k : ℕ) → between.story.took w k ≡ true → between.story.filled w k ≡ true
+  pub lonely : WhereLonely p.journal.past w serving.call (HasLooked p.access p.journal.past between.story w serving between.opened)
 
--- and it may look its key up, or have its leaf changed
+-- and it may look its key up, or have its leaf changed: it is no lonely get, which is never looked up again
 pub record MustLookUp (p : Parts) (w : ℕ) : Type 0 where
   pub on : MustGoOn p w
   pub may : MayGoOn on.serving
+  pub other : IsNotLonely p.journal.past w on.serving.call
 
 -- the call in this place may go on so
 abbrev pub MayGoOnIn : Option Serving → Type 0
 MayGoOnIn None = ⊥
 MayGoOnIn (Some x) = MayGoOn x
 
--- what is known of the memory since the call began
+-- what is known of the memory since the present look-up of the call began
 abbrev pub known : (p : Parts) (w : ℕ) → MustGoOn p w → Scene
-known p w m = scene p.config p.journal.past m.between.story w m.between.opened
+known p w m = scene p.config p.journal.past m.between.story w m.between.call_open.look.since m.between.opened
 
--- the call that is served, how its task has ended, what it asks for, the way to its leaf and its effect
+-- the call that is served, how its task has ended, what it asks for, the way to its leaf, its effect, and whether it froze its leaf last
 abbrev pub call_in : Option Serving → Option Call
 call_in slot = option_map (λ (x : Serving). x.call) slot
 
@@ -79,6 +85,10 @@ path_in (Some x) = x.path
 abbrev pub effect_in : Option Serving → Option ℕ
 effect_in None = None
 effect_in (Some x) = x.effect
+
+abbrev pub froze_in : Option Serving → Bool
+froze_in None = false
+froze_in (Some x) = x.froze
 
 abbrev pub had_in : Option Serving → Option (List ℕ)
 had_in None = None
@@ -137,12 +147,25 @@ pub record MustTakeOn (p : Parts) (w : ℕ) (task : Running) (way : Option Path)
   pub asks : asks_of task ≡ asked
   pub facts : facts_of task Waiting (known p w on)
   pub wanted : IsWanted p.config p.journal on.between.opened (wants_of task)
+  pub lonely : WhereLonely p.journal.past w on.serving.call (IsLonelyGet p.access p.journal.past on.between.story w (record on.serving { task = task; path = way; had = had }) on.between.opened)
 
--- the way to its leaf was found
+-- the way to its leaf was found, which is to be read whole
 pub record MustRead (p : Parts) (w : ℕ) (path : Path) : Type 0 where
   pub on : MustGoOn p w
   pub may : MayGoOn on.serving
   pub leads : IsPath (key_of on.serving.call) path (known p w on).past
+  pub other : IsNotLonely p.journal.past w on.serving.call
+
+-- its task knows what it should, and has ended so
+abbrev pub EndsSo : (p : Parts) (w : ℕ) → MustGoOn p w → Outcome → Type 0
+EndsSo p w on outcome = facts_of on.serving.task Waiting (known p w on) × (end_of on.serving.task ≡ Some outcome)
+
+-- or its key is to be looked up there
+pub record MustFind (p : Parts) (w : ℕ) (path : Path) : Type 0 where
+  pub on : MustGoOn p w
+  pub quiet : on.serving.effect ≡ None
+  pub leads : IsPath (key_of on.serving.call) path (known p w on).past
+  pub ends : EndsSo p w on (outcomes.Path path)
 
 -- its task has ended so, and it had no effect
 pub record HasEnded (p : Parts) (w : ℕ) (outcome : Outcome) : Type 0 where
@@ -164,6 +187,7 @@ pub record MustAnswer (p : Parts) (w : ℕ) (view : LeafView) : Type 0 where
   pub viewed : IsView (key_of on.serving.call) view (known p w on).past
   pub leads : (path : Path) → on.serving.path ≡ Some path → IsPath (key_of on.serving.call) path (known p w on).past
   pub quiet : on.serving.effect ≡ None
+  pub other : IsNotLonely p.journal.past w on.serving.call
 
 -- or its key was looked up there
 pub record MustAnswerKey (p : Parts) (w : ℕ) (view : KeyView) : Type 0 where
@@ -171,12 +195,14 @@ pub record MustAnswerKey (p : Parts) (w : ℕ) (view : KeyView) : Type 0 where
   pub viewed : IsKeyView (key_of on.serving.call) view (known p w on).past
   pub leads : (path : Path) → on.serving.path ≡ Some path → IsPath (key_of on.serving.call) path (known p w on).past
   pub quiet : on.serving.effect ≡ None
+  pub ends : EndsSo p w on (outcomes.Key view)
 
 -- the way to its leaf, if it was found, is known, and it had no effect
 pub record MustReadWhole (p : Parts) (w : ℕ) : Type 0 where
   pub on : MustGoOn p w
   pub leads : (path : Path) → on.serving.path ≡ Some path → IsPath (key_of on.serving.call) path (known p w on).past
   pub quiet : on.serving.effect ≡ None
+  pub other : IsNotLonely p.journal.past w on.serving.call
 
 -- a task that makes its change, which is yet to begin
 pub record MustChange (p : Parts) (w : ℕ) (had : Option (List ℕ)) (task : Running) : Type 0 where
@@ -226,6 +252,7 @@ pub record MustMerge (p : Parts) (w : ℕ) (path : Path) (view : LeafView) : Typ
   pub leads : LeadsTo path view.slot
   pub thawed : IsThawedAbove path
   pub wanted : IsWanted p.config p.journal on.between.opened MERGE_SLOTS
+  pub other : IsNotLonely p.journal.past w on.serving.call
 
 -- its split has ended because the node above lacked the room, and this is the split of that one, which is yet to begin
 pub record MustGoUp (p : Parts) (w : ℕ) (task : Running) : Type 0 where
@@ -289,11 +316,12 @@ pub record IsShort (p : Parts) (w : ℕ) (spent : Spent) : Type 0 where
   pub cause : IsSpent p.config p.journal.start p.journal.past w on.between.opened spent
   pub out : HasRunOut p.config p.journal w (supply_of p) spent
 
--- this is a right reply to it, at this moment; and a Full only where what it names has run out
+-- this is a right reply to it, at this moment; a Full only where what it names has run out; and where it is a lonely get, after few acts
 pub record MustEnd (p : Parts) (w : ℕ) (reply : Reply) (at : ℕ) : Type 0 where
   pub on : MustGoOn p w
   pub right : IsRightReply p.config p.journal.start p.journal.pages p.journal.past (record { worker = w; opened = on.between.opened; reply = reply; at = at })
   pub full : (spent : Spent) → reply ≡ Full spent → HasRunOut p.config p.journal w (supply_of p) spent
+  pub brief : WhereLonely p.journal.past w on.serving.call (λ key. acts_since w p.journal.past ≤ 2 * get_reads p.config (image_at p.journal.start at p.journal.past) key)
 
 -- the page that was put together is the right one, up to this key
 pub record MustEndPage (p : Parts) (w : ℕ) (next : Option (List ℕ)) (at : ℕ) : Type 0 where
@@ -301,8 +329,8 @@ pub record MustEndPage (p : Parts) (w : ℕ) (next : Option (List ℕ)) (at : �
   pub asks : is_page on.serving.call ≡ true
   pub right : IsRightReply p.config p.journal.start (p.journal.pages ++ p.page ∷ []) p.journal.past (record { worker = w; opened = on.between.opened; reply = Page (length p.journal.pages) next; at = at })
 
--- the call went on without an act: at most its End was added, a Full only where what it names has run out; at most one descriptor was
--- taken, and the slots of at most one task; and what the other workers do is the same
+-- the call went on without an act: at most its End was added, a Full only where what it names has run out, and that of a lonely get
+-- only after few acts; at most one descriptor was taken, and the slots of at most one task; and what the other workers do is the same
 pub record WentOn (old : Parts) (w : ℕ) (answer : Applied) (new : Parts) : Type 0 where
   pub kept : IsAwake new
   pub ends : GoesOn old.journal w answer new.journal
@@ -312,3 +340,4 @@ pub record WentOn (old : Parts) (w : ℕ) (answer : Applied) (new : Parts) : Typ
   pub at_start : new.at_start ≡ old.at_start
   pub left_out : new.left_out ≡ old.left_out
   pub others : (v : ℕ) → v ≢ w → worker_of new.access v ≡ worker_of old.access v
+  pub brief : GetsBriefly new.config old.journal w new.journal

@@ -1,10 +1,13 @@
 -- The laws of the crates below on which the world's acts stand.
+use Rattle.bz_alone.specs.Brief.{LookUpsAreBrief, WaysAreBrief, BriefLookUpsGoOn, GetsAreBrief}
+use Rattle.bz_alone.specs.Quiet.{EffectsNeverFall}
 use Rattle.bz_page.specs.Laws.{ViewsSayWhatImagesSay}
 use Rattle.bz_record.specs.Laws.{ViewsShowLeaves}
 use Rattle.bz_sight.specs.Acts.{FlushingStepsFlush, QuietStepsPass, StepsLeaveCaches, StoringStepsStore}
 use Rattle.bz_sight.specs.Effects.{EffectsTakePlace}
 use Rattle.bz_sight.specs.Passing.{ActsPass}
 use Rattle.bz_sight.specs.Starts.{OwnWordsAreHidden, TasksMayStart, StartsAreSeen}
+use Rattle.bz_sound.specs.Lonely.{LonelyCallsAreAlone}
 use Rattle.bz_sound.specs.Memory.CallLaws.{OpenCallsAreKept}
 use Rattle.bz_sound.specs.Memory.OpenCallLaws.{EffectsStayOpen}
 use Rattle.bz_sound.specs.Power.CallLaws.{OpenCallsAreLast, OpenCallsLeaveRoom}
@@ -18,6 +21,16 @@ pub record JournalLaws : Type 0 where
   pub quiet : QuietActsFollow
   pub flush : FlushesFollow
   pub same : SameContentDecodes
+
+-- by which a lonely get is brief
+pub record LonelyLaws : Type 0 where
+  pub alone : LonelyCallsAreAlone
+  pub brief : LookUpsAreBrief
+  pub ways : WaysAreBrief
+  pub goes_on : BriefLookUpsGoOn
+  pub few : GetsAreBrief
+  pub fall : EffectsNeverFall
+  pub scenes : ScenesAreSeen
 
 -- by which an act without effect leads on
 pub record StepLaws : Type 0 where
@@ -36,6 +49,7 @@ pub record StepLaws : Type 0 where
   pub taken : TakenStatusesStay
   pub begun : BegunStayTaken
   pub stay : EffectsStayOpen
+  pub lonely : LonelyLaws
 
 -- and by which the effect of a swap does
 pub record StrikeLaws : Type 0 where
@@ -52,6 +66,7 @@ pub record StrikeLaws : Type 0 where
   pub last : OpenCallsAreLast
   pub pass : ActsPass
   pub stay : EffectsStayOpen
+  pub lonely : LonelyLaws
 
 -- and by which a start leaves the world as it should be
 pub record StartLaws : Type 0 where
@@ -60,6 +75,7 @@ pub record StartLaws : Type 0 where
   pub may : TasksMayStart
   pub starts : StartsAreSeen
   pub begun : BegunStayTaken
+  pub lonely : LonelyLaws
 
 -- and by which the journal takes the marks of calls
 pub record EndLaws : Type 0 where
@@ -73,6 +89,7 @@ pub record EndLaws : Type 0 where
   pub pages : PageEndsFollow
   pub begins : BeginsFollow
   pub stay : EffectsStayOpen
+  pub lonely : LonelyLaws
 
 -- and by which a view answers a call
 pub record AnswerLaws : Type 0 where
@@ -81,3 +98,4 @@ pub record AnswerLaws : Type 0 where
   pub spent : SpentAnswersFull
   pub views : ViewsShowLeaves
   pub said : ViewsSayWhatImagesSay
+  pub lonely : LonelyLaws

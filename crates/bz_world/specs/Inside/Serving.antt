@@ -96,12 +96,18 @@ pub record NeedsAtLeast (c : Config) (start : List ℕ) (past : List Mark) (open
 abbrev pub IsWanted : Config → Log → Open → ℕ → Type 0
 IsWanted c log opened wants = opened.effect ≡ None → 0 < wants → NeedsAtLeast c log.start log.past opened wants
 
+-- the present look-up of a call, which began at this moment, after the call did
+pub record LookUp (past : List Mark) (opened : Open) : Type 0 where
+  pub since : ℕ
+  pub after_begin : opened.begun < since
+  pub by_now : since ≤ length past
+
 -- a call that is open, as it is served
 pub record IsOpened (c : Config) (log : Log) (w : ℕ) (opened : Open) (x : Serving) : Type 0 where
   pub is_open : open_call w log.past ≡ Some opened
   pub call : opened.call ≡ x.call
   pub effect : opened.effect ≡ x.effect
-  pub begun : opened.begun < length log.past
+  pub look : LookUp log.past opened
   pub told : IsToldBy c log opened x.had
   pub wanted : IsWanted c log opened (wants_of x.task)
 
@@ -128,7 +134,7 @@ pub record IsServing (c : Config) (m : SwapMemory) (log : Log) (story : Story) (
   pub asks : asks_of x.task ≡ Some asked
   pub doing : IsDoing m owners w asked
   pub finishing : MayGoOn x ⊎ IsFinishing m w x
-  pub facts : facts_of x.task (stage_in m (doing_of m w)) (scene c log.past story w opened)
+  pub facts : facts_of x.task (stage_in m (doing_of m w)) (scene c log.past story w call_open.look.since opened)
   pub covered : IsCovered (story.took w) (story.filled w) (needs_of x.task)
 
 -- no call of the worker is open, it does nothing, and it has stored into each slot that it took

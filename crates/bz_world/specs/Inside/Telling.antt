@@ -5,15 +5,18 @@ use Rattle.bz_layout.specs.Slots.{FreeSlots}
 use Rattle.bz_running.specs.Duties.{config_of, asks_of, needs_of, facts_of}
 use Rattle.bz_running.specs.Hearing.{HasHeard}
 use Rattle.bz_running.specs.Laws.{AreLaws}
+use Rattle.bz_running.specs.LookingUp.{HasCounted, LooksUpBriefly}
 use Rattle.bz_story.specs.Story.{scene}
 use Rattle.bz_task.specs.Outcomes.{IsPath}
 use Rattle.bz_task.specs.Requests.{Hears, IsKnown}
 use Rattle.bz_task.specs.declared.path.Path.{Path}
 use Rattle.bz_task.specs.declared.todo.Seen.{Seen}
+use Rattle.bz_task.specs.declared.todo.Seen.TheVariants.{Start}
 use Rattle.bz_task.specs.declared.todo.Todo.{Todo}
 use Rattle.bz_task.specs.declared.todo.Todo.TheVariants.{Swap}
 use Rattle.bz_word.specs.declared.entry.Entry.{Entry}
 use Rattle.bz_world.specs.Inside.Acted.{IsBetween, IsAsking, MustTell}
+use Rattle.bz_world.specs.Inside.Lonely.{IsNotLonely}
 use Rattle.bz_world.specs.declared.parts.Parts.{Parts}
 use Rattle.bz_world.specs.declared.serving.Serving.{Serving}
 
@@ -27,6 +30,8 @@ pub record HasTold (x : Serving) (seen : Seen) (moment : ℕ) (free : FreeSlots)
   pub rest : y ≡ record x { task = y.task }
   pub heard : HasHeard x.task seen moment free todo y.task left
   pub laws : AreLaws y.task
+  pub counts : HasCounted x.task todo y.task
+  pub looks : LooksUpBriefly y.task
 
 abbrev pub HasToldIn : Option Serving → Seen → ℕ → FreeSlots → Todo → Option Serving → FreeSlots → Type 0
 HasToldIn (Some x) seen moment free todo (Some y) left = HasTold x seen moment free todo y left
@@ -44,9 +49,9 @@ pub record LacksDescriptor (p : Parts) (todo : Todo) : Type 0 where
   pub is : todo ≡ Swap entries
   pub spent : p.access.taken ≡ p.config.swaps
 
--- the way to the leaf of a call without effect, if it was found, is one of the memory since the call began
+-- the way to the leaf of a call without effect, if it was found, is one of the memory since its look-up began
 pub record KnowsWay (p : Parts) (w : ℕ) (x : Serving) (between : IsBetween p w x) : Type 0 where
-  pub leads : (path : Path) → x.path ≡ Some path → IsPath (key_of x.call) path (scene p.config p.journal.past between.story w between.opened).past
+  pub leads : (path : Path) → x.path ≡ Some path → IsPath (key_of x.call) path (scene p.config p.journal.past between.story w between.call_open.look.since between.opened).past
   pub quiet : x.effect ≡ None
 
 -- a task that is to be told this, with such a way
@@ -58,3 +63,14 @@ pub record MustTellOf (p : Parts) (w : ℕ) (seen : Seen) : Type 0 where
 pub record MustStartOf (p : Parts) (w : ℕ) (todo : Todo) : Type 0 where
   pub must : MustStart p w todo
   pub knows : KnowsWay p w must.serving must.asking.between
+
+-- the task of a call is to be told to begin, and that call is no lonely get
+pub record MustBegin (p : Parts) (w : ℕ) : Type 0 where
+  pub tell : MustTell p w Start
+  pub other : IsNotLonely p.journal.past w tell.serving.call
+
+-- the task of a call whose path was found has been told to begin, and asks for this
+pub record MustStartFound (p : Parts) (w : ℕ) (todo : Todo) : Type 0 where
+  pub start : MustStartOf p w todo
+  pub path : Path
+  pub found : start.must.serving.path ≡ Some path

@@ -13,4 +13,4 @@ pub delete-task-requires : goal.delete-task-requires
 delete-task-requires c = record { present = some-found c.args.view.now.found c.args.had c.requires.present }
 
 pub look_up-requires : goal.look_up-requires
-look_up-requires c = record { on = c.requires.must.answer.on; may = inl c.requires.must.answer.quiet }
+look_up-requires c = record { on = c.requires.must.answer.on; may = inl c.requires.must.answer.quiet; other = λ key get lonely. absurd (cc (c.requires.must.may, get)) }

@@ -8,7 +8,8 @@ read_leaf-requires-clause-path c = record {
   on = c.requires.way.on;
   may = inl c.requires.way.quiet;
   leads = c.requires.way.leads c.in-Some.path (ap path_in (sym (slot-is c.args.parts.now c.args.w c.requires.way.on c.index.result.now c.index.ensures)) ∙ sym c.path_in.ensures ∙ c.in-Some.is);
+  other = c.requires.way.other;
 }
 
 pub look_up-requires : goal.look_up-requires
-look_up-requires c = record { on = c.requires.way.on; may = inl c.requires.way.quiet }
+look_up-requires c = record { on = c.requires.way.on; may = inl c.requires.way.quiet; other = c.requires.way.other }

@@ -1,5 +1,5 @@
 use Rattle.std.proofs.Common.{inl, ap, ◌∙◌, Some}
-use Rattle.bz_world.proofs.Changing.{must-change, some-found, update-key, update-changes}
+use Rattle.bz_world.proofs.Changing.{must-change, some-found, update-key, update-changes, update-no-get}
 use Rattle.bz_world.proofs.changes.update.Goals as goal
 
 pub begin_change-requires-clause-change : goal.begin_change-requires-clause-change
@@ -12,4 +12,4 @@ pub update-task-requires : goal.update-task-requires
 update-task-requires c = record { present = some-found c.args.view.now.found c.args.had c.requires.present }
 
 pub look_up-requires : goal.look_up-requires
-look_up-requires c = record { on = c.requires.must.answer.on; may = inl c.requires.must.answer.quiet }
+look_up-requires c = record { on = c.requires.must.answer.on; may = inl c.requires.must.answer.quiet; other = λ key get lonely. absurd (update-no-get c.requires.must.answer.on.serving.call c.args.key c.args.payload key c.requires.must.may get) }

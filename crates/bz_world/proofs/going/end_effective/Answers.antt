@@ -1,4 +1,4 @@
-use Rattle.std.proofs.Common.{◌≡◌, sym, ap, subst, ◌∙◌, Some}
+use Rattle.std.proofs.Common.{◌≡◌, sym, ap, subst, ◌∙◌, Some, None}
 use Rattle.bz_world.specs.Inside.Going.{MustEnd, had_in}
 use Rattle.bz_world.specs.Inside.Serving.{effect_reply}
 use Rattle.bz_world.proofs.TakingOn.{call-is, slot-is, no-full}
@@ -10,6 +10,7 @@ end-requires-clause-right c = subst (λ r. MustEnd c.args.parts.now c.args.w r c
   right = c.effects_answer.ensures c.args.parts.now.config c.args.parts.now.journal c.args.w c.args.at c.requires.had.on.between.opened (effect_reply c.requires.had.on.between.opened.call c.requires.had.on.serving.had)
       c.requires.had.on.between.call_open.is_open effect (c.requires.had.on.between.call_open.told c.args.at effect);
   full = λ spent e. absurd (no-full c.requires.had.on.between.opened.call c.requires.had.on.serving.had spent e);
+  brief = λ key get lonely. absurd (let never : None ≡ Some c.args.at = sym (c.requires.had.on.lonely key get lonely).get.quiet ∙ c.requires.had.effect in cc never);
 })
   where
     effect : c.requires.had.on.between.opened.effect ≡ Some c.args.at

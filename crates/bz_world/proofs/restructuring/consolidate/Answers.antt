@@ -6,20 +6,20 @@ use Rattle.bz_world.specs.Inside.Going.{with_task}
 use Rattle.bz_world.specs.declared.serving.Serving.{Serving}
 use Rattle.bz_world.proofs.Changing.{needs-copy}
 use Rattle.bz_world.proofs.MakingAnew.{anew-taken, anew-pages}
-use Rattle.bz_world.proofs.TakingOn.{taken-begins, slot-is, went-anew}
+use Rattle.bz_world.proofs.TakingOn.{task-begins, slot-is, went-anew}
 use Rattle.bz_world.proofs.restructuring.consolidate.Goals as goal
 
 pub consolidate-task-requires-clause-alone : goal.consolidate-task-requires-clause-alone
 consolidate-task-requires-clause-alone c = record { nodes = _; low = _; high = _; whole = c.requires.copy.anew.answer.viewed.whole }
 
 pub begin_task-requires-clause-begins : goal.begin_task-requires-clause-begins
-begin_task-requires-clause-begins c = taken-begins (record c.args.parts.now { page = c.consolidate-task.new.page }) c.args.w c.consolidate-task.result c.requires.copy.anew.answer.on.serving.had None None
+begin_task-requires-clause-begins c = task-begins (record c.args.parts.now { page = c.consolidate-task.new.page }) c.args.w c.consolidate-task.result c.requires.copy.anew.answer.on.serving.had None None
     (anew-taken c.start_laws.ensures.scenes (record c.args.parts.now { page = c.consolidate-task.new.page }) c.args.w c.args.path c.args.view.now (anew-pages c.args.parts.now c.args.w c.args.path c.args.view.now c.consolidate-task.new.page c.requires.copy.anew)
     c.consolidate-task.result c.consolidate-task.ensures.config c.laws.ensures c.consolidate-task.ensures.silent c.consolidate-task.ensures.ends c.consolidate-task.ensures.asks CONSOLIDATION_SLOTS c.consolidate-task.ensures.wants
     (needs-copy c.start_laws.ensures.scenes c.answer_laws.ensures c.args.parts.now c.args.w c.args.view.now c.requires.copy.anew.answer (key_of c.requires.copy.anew.answer.on.serving.call) refl c.requires.copy.frozen)
     c.consolidate-task.ensures.facts)
     c.set_task.new.slot (c.set_task.ensures ∙ ap (λ (z : Option Serving). with_task z c.consolidate-task.result None) (slot-is (record c.args.parts.now { page = c.consolidate-task.new.page }) c.args.w (anew-pages c.args.parts.now c.args.w c.args.path c.args.view.now c.consolidate-task.new.page c.requires.copy.anew).answer.on c.index_mut.result.now c.index_mut.ensures.value))
-    c.requires.copy.anew.answer.on.between.call_open.told refl
+    c.requires.copy.anew.answer.on.between.call_open.told c.requires.copy.anew.answer.other refl
 
 pub returns : goal.returns
 returns c = went-anew c.args.parts.now (with_item c.args.parts.now.workers c.args.w c.set_task.new.slot) c.consolidate-task.new.page c.args.w c.begin_task.result c.begin_task.new.parts c.begin_task.ensures

@@ -2,7 +2,7 @@ use Rattle.std.proofs.Common.{arith, inl}
 use Rattle.bz_world.proofs.restructuring.make_anew.Goals as goal
 
 pub look_up-requires : goal.look_up-requires
-look_up-requires c = record { on = c.requires.anew.answer.on; may = inl c.requires.anew.answer.quiet }
+look_up-requires c = record { on = c.requires.anew.answer.on; may = inl c.requires.anew.answer.quiet; other = c.requires.anew.answer.other }
 
 pub merge_or_copy-requires-clause-copy : goal.merge_or_copy-requires-clause-copy
 merge_or_copy-requires-clause-copy c = record { anew = c.requires.anew; frozen = c.requires.frozen; few = omega (arith, c.if-live_words-le-SPLIT_ABOVE.true, c.live_words.ensures); leads = c.is_due.ensures.leads c.if-not-is_due.false }
@@ -21,4 +21,4 @@ split_below-requires-clause-split c = record {
 }
 
 pub look_up-requires-else-is_due : goal.look_up-requires-else-is_due
-look_up-requires-else-is_due c = record { on = c.requires.anew.answer.on; may = inl c.requires.anew.answer.quiet }
+look_up-requires-else-is_due c = record { on = c.requires.anew.answer.on; may = inl c.requires.anew.answer.quiet; other = c.requires.anew.answer.other }

@@ -13,4 +13,5 @@ merge-requires-clause-merge c = let due = c.is_due.ensures.due.0 c.if-is_due.tru
   leads = c.requires.copy.leads;
   thawed = due.1.0;
   wanted = λ quiet some. needs-merge c.start_laws.ensures.scenes c.answer_laws.ensures c.args.parts.now c.args.w c.args.view.now c.requires.copy.anew.answer (key_of c.requires.copy.anew.answer.on.serving.call) refl c.requires.copy.frozen due.1.1.0;
+  other = c.requires.copy.anew.answer.other;
 }

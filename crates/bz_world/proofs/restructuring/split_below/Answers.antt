@@ -7,20 +7,20 @@ use Rattle.bz_world.specs.declared.serving.Serving.{Serving}
 use Rattle.bz_world.proofs.Changing.{needs-split}
 use Rattle.bz_world.proofs.GoingUp.{split-taken}
 use Rattle.bz_world.proofs.MakingAnew.{anew-pages}
-use Rattle.bz_world.proofs.TakingOn.{taken-begins, slot-is, call-is, went-anew}
+use Rattle.bz_world.proofs.TakingOn.{task-begins, slot-is, call-is, went-anew}
 use Rattle.bz_world.proofs.restructuring.split_below.Goals as goal
 
 pub split_below-task-requires-clause-alone : goal.split_below-task-requires-clause-alone
 split_below-task-requires-clause-alone c = record { nodes = _; low = _; high = _; whole = c.requires.split.anew.answer.viewed.whole }
 
 pub begin_task-requires-clause-begins : goal.begin_task-requires-clause-begins
-begin_task-requires-clause-begins c = taken-begins (record c.args.parts.now { page = c.split_below-task.new.page }) c.args.w c.split_below-task.result c.requires.split.anew.answer.on.serving.had None None
+begin_task-requires-clause-begins c = task-begins (record c.args.parts.now { page = c.split_below-task.new.page }) c.args.w c.split_below-task.result c.requires.split.anew.answer.on.serving.had None None
     (split-taken c.start_laws.ensures.scenes (record c.args.parts.now { page = c.split_below-task.new.page }) c.args.w c.args.path c.args.view.now (anew-pages c.args.parts.now c.args.w c.args.path c.args.view.now c.split_below-task.new.page c.requires.split.anew)
     c.key_of.result key c.split_below-task.result c.split_below-task.ensures.config c.laws.ensures c.split_below-task.ensures.silent c.split_below-task.ensures.ends c.split_below-task.ensures.asks SPLIT_SLOTS c.split_below-task.ensures.wants
     (needs-split c.start_laws.ensures.scenes c.answer_laws.ensures c.args.parts.now c.args.w c.args.view.now c.requires.split.anew.answer (key_of c.requires.split.anew.answer.on.serving.call) refl c.requires.split.frozen c.requires.split.many)
     c.split_below-task.ensures.facts)
     c.set_task.new.slot (c.set_task.ensures ∙ ap (λ (z : Option Serving). with_task z c.split_below-task.result None) (slot-is (record c.args.parts.now { page = c.split_below-task.new.page }) c.args.w (anew-pages c.args.parts.now c.args.w c.args.path c.args.view.now c.split_below-task.new.page c.requires.split.anew).answer.on c.index_mut.result.now c.index_mut.ensures.value))
-    c.requires.split.anew.answer.on.between.call_open.told refl
+    c.requires.split.anew.answer.on.between.call_open.told c.requires.split.anew.answer.other refl
   where
     key : c.key_of.result ≡ key_of c.requires.split.anew.answer.on.serving.call
     key = c.key_of.ensures ∙ ap key_of (sym (call-is c.args.parts.now c.args.w c.requires.split.anew.answer.on c.index.result.now c.called-call.result c.index.ensures c.called-call.ensures))

@@ -6,20 +6,20 @@ use Rattle.bz_world.specs.Inside.Going.{with_task}
 use Rattle.bz_world.specs.declared.serving.Serving.{Serving}
 use Rattle.bz_world.proofs.Changing.{needs-split}
 use Rattle.bz_world.proofs.MakingAnew.{anew-taken, anew-pages}
-use Rattle.bz_world.proofs.TakingOn.{taken-begins, slot-is, went-anew}
+use Rattle.bz_world.proofs.TakingOn.{task-begins, slot-is, went-anew}
 use Rattle.bz_world.proofs.restructuring.split_root.Goals as goal
 
 pub split_root-task-requires-clause-alone : goal.split_root-task-requires-clause-alone
 split_root-task-requires-clause-alone c = record { nodes = _; low = _; high = _; whole = c.requires.split.anew.answer.viewed.whole }
 
 pub begin_task-requires-clause-begins : goal.begin_task-requires-clause-begins
-begin_task-requires-clause-begins c = taken-begins (record c.args.parts.now { page = c.split_root-task.new.page }) c.args.w c.split_root-task.result c.requires.split.anew.answer.on.serving.had None None
+begin_task-requires-clause-begins c = task-begins (record c.args.parts.now { page = c.split_root-task.new.page }) c.args.w c.split_root-task.result c.requires.split.anew.answer.on.serving.had None None
     (anew-taken c.start_laws.ensures.scenes (record c.args.parts.now { page = c.split_root-task.new.page }) c.args.w c.args.path c.args.view.now (anew-pages c.args.parts.now c.args.w c.args.path c.args.view.now c.split_root-task.new.page c.requires.split.anew)
     c.split_root-task.result c.split_root-task.ensures.config c.laws.ensures c.split_root-task.ensures.silent c.split_root-task.ensures.ends c.split_root-task.ensures.asks SPLIT_SLOTS c.split_root-task.ensures.wants
     (needs-split c.start_laws.ensures.scenes c.answer_laws.ensures c.args.parts.now c.args.w c.args.view.now c.requires.split.anew.answer (key_of c.requires.split.anew.answer.on.serving.call) refl c.requires.split.frozen c.requires.split.many)
     c.split_root-task.ensures.facts)
     c.set_task.new.slot (c.set_task.ensures ∙ ap (λ (z : Option Serving). with_task z c.split_root-task.result None) (slot-is (record c.args.parts.now { page = c.split_root-task.new.page }) c.args.w (anew-pages c.args.parts.now c.args.w c.args.path c.args.view.now c.split_root-task.new.page c.requires.split.anew).answer.on c.index_mut.result.now c.index_mut.ensures.value))
-    c.requires.split.anew.answer.on.between.call_open.told refl
+    c.requires.split.anew.answer.on.between.call_open.told c.requires.split.anew.answer.other refl
 
 pub returns : goal.returns
 returns c = went-anew c.args.parts.now (with_item c.args.parts.now.workers c.args.w c.set_task.new.slot) c.split_root-task.new.page c.args.w c.begin_task.result c.begin_task.new.parts c.begin_task.ensures

@@ -3,6 +3,8 @@ use Rattle.std.specs.Prelude.{IfSome, Option}
 use Rattle.bz_running.specs.declared.running.Running.{Running}
 use Rattle.bz_world.specs.Inside.Going.{CanGoUpIn, GoesUpIn, known}
 use Rattle.bz_world.specs.declared.serving.Serving.{Serving}
+use Rattle.bz_task.specs.declared.todo.Outcome.TheVariants.{NeedsRoom}
+use Rattle.bz_world.proofs.LonelyEnds.{other-ended}
 use Rattle.bz_world.proofs.TakingOn.{slot-is}
 use Rattle.bz_world.proofs.settle.settle_crowded.Goals as goal
 
@@ -19,4 +21,4 @@ split_above-requires-clause-up c =
     record { ends = e; up = subst (λ (z : Option Serving). GoesUpIn z c.in-Some.task) (slot-is c.args.parts.now c.args.w e.on c.index.result.now c.index.ensures) found }
 
 pub look_up_alone-requires : goal.look_up_alone-requires
-look_up_alone-requires c = record { on = c.requires.ends.on; may = inl c.requires.ends.quiet }
+look_up_alone-requires c = record { on = c.requires.ends.on; may = inl c.requires.ends.quiet; other = other-ended c.args.parts.now c.args.w c.requires.ends.on NeedsRoom c.requires.ends.end (λ path e. cc e) (λ view e. cc e) }

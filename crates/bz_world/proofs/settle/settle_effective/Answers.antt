@@ -1,4 +1,4 @@
-use Rattle.std.proofs.Common.{◌≡◌, true, sym, ap, ◌∙◌, inr}
+use Rattle.std.proofs.Common.{ap, ◌∙◌, inr}
 use Rattle.bz_world.specs.Lab.{is_delete}
 use Rattle.bz_world.proofs.TakingOn.{call-is}
 use Rattle.bz_world.proofs.settle.settle_effective.Goals as goal
@@ -6,6 +6,7 @@ use Rattle.bz_world.proofs.settle.settle_effective.Goals as goal
 pub look_up-requires : goal.look_up-requires
 look_up-requires c = record {
   on = c.requires.ends.had.on;
+  other = λ key get lonely. absurd (cc (call-is c.args.parts.now c.args.w c.requires.ends.had.on c.index.result.now c.called-call.result c.index.ensures c.called-call.ensures, c.in-Delete.is, get));
   may = inr (ap is_delete (call-is c.args.parts.now c.args.w c.requires.ends.had.on c.index.result.now c.called-call.result c.index.ensures c.called-call.ensures ∙ c.in-Delete.is));
 }
 
@@ -14,6 +15,7 @@ read_leaf-requires-clause-path c = record {
   on = c.requires.ends.had.on;
   may = inr (ap is_delete (call-is c.args.parts.now c.args.w c.requires.ends.had.on c.index.result.now c.called-call.result c.index.ensures c.called-call.ensures ∙ c.in-Delete.is));
   leads = c.requires.ends.path c.in-Path.path c.in-Path.is;
+  other = λ key get lonely. absurd (cc (call-is c.args.parts.now c.args.w c.requires.ends.had.on c.index.result.now c.called-call.result c.index.ensures c.called-call.ensures, c.in-Delete.is, get));
 }
 
 pub settle_small-requires-clause-read : goal.settle_small-requires-clause-read

@@ -3,6 +3,7 @@ use Rattle.bz_call.specs.declared.replies.Spent.TheVariants.{Nodes, Height}
 use Rattle.bz_task.specs.declared.todo.Outcome.TheVariants.{Full}
 use Rattle.bz_world.specs.Inside.Going.{HasEnded, IsShort, IsOutOfSlots}
 use Rattle.bz_world.proofs.HighTrees.{too-high}
+use Rattle.bz_world.proofs.LonelyEnds.{other-ended, other-in}
 use Rattle.bz_world.proofs.SpendingSlots.{slots-are-spent, slots-run-out}
 use Rattle.bz_world.proofs.settle.settle_full.Goals as goal
 
@@ -20,4 +21,10 @@ end_full-requires-in-Height-clause-short c =
     subst (IsShort c.args.parts.now c.args.w) (sym c.in-Height.is) short
 
 pub look_up-requires : goal.look_up-requires
-look_up-requires c = record { on = c.requires.ends.on; may = inl c.requires.ends.quiet }
+look_up-requires c = record { on = c.requires.ends.on; may = inl c.requires.ends.quiet; other = other-ended c.args.parts.now c.args.w c.requires.ends.on (Full c.args.spent) c.requires.ends.end (λ path e. cc e) (λ view e. cc e) }
+
+pub end_full-requires-clause-other : goal.end_full-requires-clause-other
+end_full-requires-clause-other c = other-in c.args.parts.now c.args.w c.requires.ends.on (other-ended c.args.parts.now c.args.w c.requires.ends.on (Full c.args.spent) c.requires.ends.end (λ path e. cc e) (λ view e. cc e))
+
+pub end_full-requires-in-Height-clause-other : goal.end_full-requires-in-Height-clause-other
+end_full-requires-in-Height-clause-other c = other-in c.args.parts.now c.args.w c.requires.ends.on (other-ended c.args.parts.now c.args.w c.requires.ends.on (Full c.args.spent) c.requires.ends.end (λ path e. cc e) (λ view e. cc e))

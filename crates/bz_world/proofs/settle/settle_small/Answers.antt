@@ -1,4 +1,6 @@
-use Rattle.std.proofs.Common.{inr}
+use Rattle.std.proofs.Common.{inr, sym, ap, ◌∙◌}
+use Rattle.std.proofs.lemmas.Bool.{true≢false}
+use Rattle.bz_world.specs.Lab.{is_delete}
 use Rattle.bz_world.proofs.TakingOn.{read-way, none-wanted-after}
 use Rattle.bz_world.proofs.settle.settle_small.Goals as goal
 
@@ -24,4 +26,5 @@ merge-requires-clause-merge c = let due = c.is_due.ensures.due.0 c.if-is_due.tru
   leads = c.is_due.ensures.leads c.if-is_due.true;
   thawed = due.1.0;
   wanted = none-wanted-after c.args.parts.now c.args.w c.args.at c.requires.read.had _;
+  other = λ key get lonely. absurd (true≢false (sym c.requires.read.deletes ∙ ap is_delete get));
 }
