@@ -1,6 +1,6 @@
-mod OpenNodes
+pub mod OpenNodes
 pub mod ReadWords
-mod ReadingParents
+pub mod ReadingParents
 mod Fronts
 mod Standing
 mod Staying

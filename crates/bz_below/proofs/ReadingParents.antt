@@ -1,4 +1,4 @@
--- The words that were read of a parent are those of one moment.
+-- The words that were read of the parent of a node, a leaf or an inner one, are those of one moment.
 use Rattle.std.proofs.Common.{◌≡◌, ◌≢◌, ℕ, ◌+◌, ◌<◌, ◌≤◌, ◌==◌, if◌then◌else◌, true, false, List, length, arith, refl, sym, ap, subst, ◌∙◌, inl, inr, Option}
 use Rattle.std.specs.Prelude.{Some, None}
 use Rattle.std.proofs.lemmas.Bool.{cases_eq}
@@ -21,11 +21,10 @@ use Rattle.bz_content.specs.Content.{view_in}
 use Rattle.bz_content.specs.Image.{node}
 use Rattle.bz_halves.specs.Parents.{child_at, low_of, high_of, ReadChildrenMayBeParted}
 use Rattle.bz_task.specs.Good.{IsGood}
-use Rattle.bz_task.specs.Instant.{Instant, words, durable, page_at, form_at}
+use Rattle.bz_task.specs.Instant.{Instant, words, durable, page_at, form_at, is_inside}
 use Rattle.bz_task.specs.Laws.{AreMoments, SamePlace, RangesStay}
 use Rattle.bz_task.specs.Scene.{Scene, IsScene, here}
 use Rattle.bz_task.specs.declared.path.Link.{Link}
-use Rattle.bz_renew.specs.FrozenLeaves.{WasFrozenLeaf, FrozenLeavesStandStill}
 use Rattle.bz_renew.specs.Standing.{StillLeads, GuardedLinksStand}
 use Rattle.bz_below.proofs.OpenNodes.{Laws as Basis, IsOpen, fits, below_top, inside, alike, high_up, no-fault}
 use Rattle.bz_renew.proofs.Words.{node-at}
@@ -39,7 +38,6 @@ pub record Laws : Type 0 where
   pub readable : WholeInnersAreReadable
   pub partable : ReadChildrenMayBeParted
   pub stand : GuardedLinksStand
-  pub still : FrozenLeavesStandStill
   pub ranges : RangesStay
 
 other-test : (a b : ℕ) → a ≢ b → (a == b) ≡ false
@@ -61,7 +59,7 @@ later-low n j ne = let t : (j == 0) ≡ false = other-test j 0 ne in rw t refl
 abbrev none : Child
 none = record { low = None; slot = 0 }
 
-module _ (b : Laws) (s : Scene) (upper lower : Link) (m : ℕ) (sep read : List ℕ) (good : IsScene s) (links : AreLinksDown upper lower s.past) (leaf : WasFrozenLeaf lower.slot m s.past) (now : (here s).value lower.guard ≡ lower.status) (were : WereRead upper.slot links.guard.guarded lower.status NODE_WORDS read s.past) where
+module _ (b : Laws) (s : Scene) (upper lower : Link) (m : ℕ) (sep read : List ℕ) (good : IsScene s) (links : AreLinksDown upper lower s.past) (since : s.past.since ≤ m) (until : m ≤ s.past.now) (there_then : is_inside s.past.config (s.past.at m) lower.slot ≡ true) (now : (here s).value lower.guard ≡ lower.status) (were : WereRead upper.slot links.guard.guarded lower.status NODE_WORDS read s.past) where
   abbrev p : ℕ
   p = upper.slot
 
@@ -144,8 +142,14 @@ module _ (b : Laws) (s : Scene) (upper lower : Link) (m : ℕ) (sep read : List 
   same-place : SamePlace c was (here s) p
   same-place = b.ranges c s.past.at s.past.since s.past.now g s.past.now p good.history moments p-below (inside b.basis c was p was-good opened) leads.inside
 
-  leaf-place : SamePlace c (s.past.at m) (here s) a
-  leaf-place = (b.still s a m good leaf).place leads.stands.inside
+  -- the node's slot is none of the superblock
+  a-below : a ≢ c.nodes
+  a-below e =
+      let h : Hangs (view_in c (here s).image) (form_at c (here s)) p = (fits b.basis c (here s) here-good).hangs p leads.inside p-below in
+      absurd (omega (arith, leads.stands.level, h.lower, (fits b.basis c (here s) here-good).height, ap (form_at c (here s)).level e))
+
+  node-place : SamePlace c (s.past.at m) (here s) a
+  node-place = b.ranges c s.past.at s.past.since s.past.now m s.past.now a good.history (record { since = since; order = until; until = omega arith }) a-below there_then leads.stands.inside
 
   abbrev v : View
   v = view_in c (here s).image
@@ -161,9 +165,6 @@ module _ (b : Laws) (s : Scene) (upper lower : Link) (m : ℕ) (sep read : List 
 
   view-key : (j : ℕ) → v.key p j ≡ key_of (node_of read) j
   view-key j = let t : (p == c.nodes) ≡ false = other-test p c.nodes p-below in rw t (ap (λ n. key_of n j) same-words)
-
-  a-below : a ≢ c.nodes
-  a-below e = absurd (omega (arith, e, leaf.slot))
 
   hangs : Hangs v f a
   hangs = (fits b.basis c (here s) here-good).hangs a leads.stands.inside a-below
@@ -188,20 +189,20 @@ module _ (b : Laws) (s : Scene) (upper lower : Link) (m : ℕ) (sep read : List 
       let on : Stands v f p j a = subst (λ z. Stands v f p j z) (sym (slot-read j k) ∙ e) st in
       sym on.index ∙ leads.stands.index
 
-  -- the bounds of the child are those that the leaf had
+  -- the bounds of the child are those that the node had
   low-is : low_of (children_in read) lo i ≡ (form_at c (s.past.at m)).low a
   low-is =
       same-choice i 0 i 0 lo (child_at (children_in read) i).low (f.low p) (Some (v.key p i)) refl refl (sym same-place.low)
       (λ ne. ap (λ (z : Child). z.low) (reads.children i none (omega (arith, within, reads.count))) ∙ (later-low (node_of read) i ne ∙ ap Some (sym (view-key i))))
-      ∙ (sym leads.stands.low ∙ leaf-place.low)
+      ∙ (sym leads.stands.low ∙ node-place.low)
 
   high-is : high_of (children_in read) hi i ≡ (form_at c (s.past.at m)).high a
   high-is =
       same-choice (i + 1) (length (children_in read)) (i + 1) (v.count p) hi (child_at (children_in read) (i + 1)).low (f.high p) (Some (v.key p (i + 1))) refl (reads.count ∙ sym view-count) (sym same-place.high)
       (λ ne. ap (λ (z : Child). z.low) (reads.children (i + 1) none (omega (arith, within, ne, reads.count))) ∙ (later-low (node_of read) (i + 1) (λ e. absurd (omega (arith, e))) ∙ ap Some (sym (view-key (i + 1)))))
-      ∙ (sym leads.stands.high ∙ leaf-place.high)
+      ∙ (sym leads.stands.high ∙ node-place.high)
 
-  was-parent : IsKey sep → IsAbove ((form_at c (s.past.at m)).low a) sep → IsBelow ((form_at c (s.past.at m)).high a) sep → WasParent upper lower g i sep read s.past
+  pub was-parent : IsKey sep → IsAbove ((form_at c (s.past.at m)).low a) sep → IsBelow ((form_at c (s.past.at m)).high a) sep → WasParent upper lower g i sep read s.past
   was-parent key above below = record {
     level = l;
     low = lo;
@@ -226,4 +227,4 @@ module _ (b : Laws) (s : Scene) (upper lower : Link) (m : ℕ) (sep read : List 
   }
 
 pub read-parents : Laws → ReadParentsWere
-read-parents b s upper lower m sep read good links leaf now were key above below = was-parent b s upper lower m sep read good links leaf now were key above below
+read-parents b s upper lower m sep read good links leaf now were key above below = was-parent b s upper lower m sep read good links leaf.since leaf.now leaf.inside now were key above below

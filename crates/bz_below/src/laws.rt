@@ -24,7 +24,6 @@ pub fn read_parents_were()
     laws::headers_say_the_level();
     laws::ranges_stay();
     renew::guarded_links_stand();
-    renew::frozen_leaves_stand_still();
     halves::read_children_may_be_parted();
 }
 

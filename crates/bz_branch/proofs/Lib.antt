@@ -1,6 +1,4 @@
-mod OpenNodes
 mod ReadingNodes
-mod ReadingParents
 pub mod Standing
 mod InnerSplitting
 mod RootSplitting

@@ -18,7 +18,7 @@ use Rattle.bz_renew.proofs.Words.{node-at}
 use Rattle.bz_below.specs.Parents.{WereRead}
 use Rattle.bz_below.proofs.ReadWords.{words-then}
 use Rattle.bz_branch.specs.Nodes.{IsOpenLink, WasInner, ReadNodesWere}
-use Rattle.bz_branch.proofs.OpenNodes.{Laws as Basis, IsOpen, inside, alike, high_up, no-fault}
+use Rattle.bz_below.proofs.OpenNodes.{Laws as Basis, IsOpen, inside, alike, high_up, no-fault}
 
 -- the laws on which it rests
 pub record Laws : Type 0 where

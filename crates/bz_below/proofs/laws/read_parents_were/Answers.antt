@@ -13,6 +13,5 @@ returns c = read-parents (record {
   readable = c.whole_inners_are_readable.ensures;
   partable = c.read_children_may_be_parted.ensures;
   stand = c.guarded_links_stand.ensures;
-  still = c.frozen_leaves_stand_still.ensures;
   ranges = c.ranges_stay.ensures;
 })

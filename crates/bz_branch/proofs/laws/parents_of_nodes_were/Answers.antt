@@ -1,5 +1,9 @@
-use Rattle.bz_branch.proofs.ReadingParents.{parents-were}
+use Rattle.bz_below.proofs.ReadingParents.{Laws, was-parent}
+use Rattle.bz_branch.specs.Nodes.{ParentsOfNodesWere}
 use Rattle.bz_branch.proofs.laws.parents_of_nodes_were.Goals as goal
+
+parents-were : Laws → ParentsOfNodesWere
+parents-were b s upper lower m sep read good links since until inside now were key above below = was-parent b s upper lower m sep read good links since until inside now were key above below
 
 pub returns : goal.returns
 returns c = parents-were (record {
