@@ -9,7 +9,7 @@ use Rattle.bz_shape.specs.Order.{is_within}
 use Rattle.bz_task.specs.Instant.{durable, form_at, is_inside}
 use Rattle.bz_task.specs.Scene.{Past}
 
--- at a moment since the call began the node in this slot was in the tree, at this level
+-- at a moment since the look-up began the node in this slot was in the tree, at this level
 pub record StoodAt (slot level : ℕ) (p : Past) : Type 0 where
   pub moment : ℕ
   pub since : p.since ≤ moment

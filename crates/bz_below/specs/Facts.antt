@@ -221,7 +221,7 @@ pub record IsSplittingBelow (r : Below) (stored lines : ℕ) (s : Scene) : Type 
   pub plain : ArePlain (below_nodes r)
   pub writing : AreWriting (below_nodes r) stored lines s
 
--- at a moment since the call began the upper link led to a new parent: what the old one was at an earlier one, with the two leaves in
+-- at a moment since the look-up began the upper link led to a new parent: what the old one was at an earlier one, with the two leaves in
 -- the place of the child to which the lower link led. To none of the three a link had led one moment before, and the leaves were these
 pub record WasSplitBelow (upper lower : Link) (left right sep : List ℕ) (p : Past) : Type 0 where
   pub parent_slot : ℕ

@@ -21,7 +21,7 @@ pub record WasThawed (link : Link) (m : ℕ) (p : Past) : Type 0 where
   pub loads : p.loads again ≡ true
   pub thawed : (status ((p.at again).value link.guard)).frozen ≡ false
 
--- at a moment since the call began a load of the task's own found this as the guard, no frozen node's; the link stood where it does,
+-- at a moment since the look-up began a load of the task's own found this as the guard, no frozen node's; the link stood where it does,
 -- and every word of these nodes was durable
 pub record WasNamed (link : Link) (word : ℕ) (nodes : Nodes) (p : Past) : Type 0 where
   pub named : ℕ

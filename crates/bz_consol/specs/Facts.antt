@@ -111,7 +111,7 @@ pub record IsMadeOf (viewed copy : List ℕ) : Type 0 where
   pub order : AreInKeyOrder (pairs_in viewed) pairs
   pub is : copy ≡ leaf_words pairs low high
 
--- at a moment since the call began no link had led to a slot, and one moment later the link led to it, and these words stood
+-- at a moment since the look-up began no link had led to a slot, and one moment later the link led to it, and these words stood
 -- there
 pub record WasTurned (link : Link) (image : List ℕ) (p : Past) : Type 0 where
   pub slot : ℕ

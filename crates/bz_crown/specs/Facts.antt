@@ -154,7 +154,7 @@ pub record IsSplitting (r : Crown) (stored lines : ℕ) (s : Scene) : Type 0 whe
   pub plain : ArePlain (crown_nodes r)
   pub writing : AreWriting (crown_nodes r) stored lines s
 
--- at a moment since the call began the root link led to a new root, one level above what the old one was at an earlier one, over the
+-- at a moment since the look-up began the root link led to a new root, one level above what the old one was at an earlier one, over the
 -- two halves of that. To none of the three a link had led one moment before
 pub record WasSplitAtRoot (upper : Link) (p : Past) : Type 0 where
   pub root_slot : ℕ

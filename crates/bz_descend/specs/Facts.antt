@@ -70,7 +70,7 @@ descend_left depth (Word r e i) = reads_from (depth + 1) + reads_in (r.index + 1
 descend_left depth (Pointer r) = reads_from (depth + 1) + 1
 descend_left depth phase = 0
 
--- the root status was this at a moment since the call began
+-- the root status was this at a moment since the look-up began
 pub record SawGuard (st : ℕ) (p : Past) : Type 0 where
   pub guarded : ℕ
   pub begun : p.since ≤ guarded

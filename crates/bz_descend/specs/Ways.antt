@@ -40,7 +40,7 @@ pub record IsWay (key : List ℕ) (path : Path) (k : ℕ) (p : Past) : Type 0 wh
   pub last : (i : ℕ) (link : Link) → i + 1 ≡ path.depth → slice_get path.links i ≡ Some link → link.slot ≡ k
   pub thawed : AreThawed path
 
--- the way leads to a slot that was in the tree, with the key in its range, at a moment since the call began; the levels
+-- the way leads to a slot that was in the tree, with the key in its range, at a moment since the look-up began; the levels
 -- above it are at least as many as the links to nodes above
 pub record Arrives (key : List ℕ) (path : Path) (k : ℕ) (p : Past) : Type 0 where
   pub way : IsWay key path k p

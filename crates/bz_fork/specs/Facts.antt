@@ -239,7 +239,7 @@ pub record IsSplitting (r : Fork) (stored lines : ℕ) (s : Scene) : Type 0 wher
   pub plain : ArePlain (fork_nodes r)
   pub writing : AreWriting (fork_nodes r) stored lines s
 
--- at a moment since the call began the upper link led to a new parent: what the old one was at an earlier one, with the two halves of
+-- at a moment since the look-up began the upper link led to a new parent: what the old one was at an earlier one, with the two halves of
 -- what the node was in the place of the child to which the middle link led. To none of the three a link had led one moment before
 pub record WasSplitInner (upper middle : Link) (p : Past) : Type 0 where
   pub parent_slot : ℕ

@@ -43,7 +43,7 @@ freeze_left Fresh = 2
 freeze_left Swap = 1
 freeze_left phase = 0
 
--- the slot was a leaf of the tree with this status, which is not frozen, at a moment since the call began
+-- the slot was a leaf of the tree with this status, which is not frozen, at a moment since the look-up began
 pub record WasLeaf (k st : ℕ) (p : Past) : Type 0 where
   pub moment : ℕ
   pub since : p.since ≤ moment

@@ -73,7 +73,7 @@ leaf_left Of_link = validating_reads
 leaf_left (Guard at) = validating_reads - 1
 leaf_left phase = 0
 
--- the slot was a leaf of the tree, with the key in its range, at a moment since the call began, at which the
+-- the slot was a leaf of the tree, with the key in its range, at a moment since the look-up began, at which the
 -- link led to it from the root or from a node that was reached
 pub record IsKnownLeaf (key : List ℕ) (link : Link) (p : Past) : Type 0 where
   pub moment : ℕ

@@ -160,7 +160,7 @@ pub record IsMerging (r : Merging) (stored lines : ℕ) (s : Scene) : Type 0 whe
   pub plain : ArePlain (merge_nodes r)
   pub writing : AreWriting (merge_nodes r) stored lines s
 
--- at a moment since the call began the upper link led to a new parent: what the old one was at an earlier one, with one leaf in the
+-- at a moment since the look-up began the upper link led to a new parent: what the old one was at an earlier one, with one leaf in the
 -- place of the viewed one and of a neighbour, with which it had room, the right one where that had not been found to lack it. To
 -- neither of the two a link had led one moment before, and the leaf was made of the words of both
 pub record WasMerged (upper lower : Link) (leaf : List ℕ) (p : Past) : Type 0 where

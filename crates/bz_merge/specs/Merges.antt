@@ -21,7 +21,7 @@ low_in children low i = if i == 0 then low else Some (children.key i)
 abbrev pub high_in : Children → Option (List ℕ) → ℕ → Option (List ℕ)
 high_in children high i = if i + 1 == children.count then high else Some (children.key (i + 1))
 
--- the slot was a leaf of the tree at a moment since the call began
+-- the slot was a leaf of the tree at a moment since the look-up began
 pub record WasLeafOnce (k : ℕ) (p : Past) : Type 0 where
   pub moment : ℕ
   pub since : p.since ≤ moment
@@ -30,7 +30,7 @@ pub record WasLeafOnce (k : ℕ) (p : Past) : Type 0 where
   pub inside : is_inside p.config (p.at moment) k ≡ true
   pub leaf : (form_at p.config (p.at moment)).level k ≡ 0
 
--- the slot was frozen at a moment since the call began, and said then of each key what these words say
+-- the slot was frozen at a moment since the look-up began, and said then of each key what these words say
 pub record StoodFrozen (k : ℕ) (image : List ℕ) (p : Past) : Type 0 where
   pub moment : ℕ
   pub since : p.since ≤ moment

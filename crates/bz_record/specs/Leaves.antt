@@ -12,7 +12,7 @@ use Rattle.bz_record.specs.Records.{place_of}
 use Rattle.bz_record.specs.Swaps.{status_reserved}
 use Rattle.bz_record.specs.declared.new_record.NewRecord.{NewRecord}
 
--- the slot was a leaf of the tree with this status at a moment since the call began
+-- the slot was a leaf of the tree with this status at a moment since the look-up began
 pub record WasLeaf (k st moment : ℕ) (p : Past) : Type 0 where
   pub since : p.since ≤ moment
   pub now : moment ≤ p.now
@@ -28,7 +28,7 @@ pub record WasLeafOf (key : List ℕ) (said : Option (List ℕ)) (k st moment : 
   pub range : is_within key ((form_at p.config (p.at moment)).low k) ((form_at p.config (p.at moment)).high k) ≡ true
   pub found : found_of (durable p.config (p.at moment) k) key ≡ said
 
--- a swap took effect since the call began, up to this moment
+-- a swap took effect since the look-up began, up to this moment
 abbrev pub HasSwapped : ℕ → Past → Type 0
 HasSwapped moment p = (p.at p.since).effects + 1 ≤ (p.at moment).effects
 

@@ -1,4 +1,4 @@
--- A leaf that was frozen at a moment since the call began: it stands as it stood. And what a view of one shows.
+-- A leaf that was frozen at a moment since the look-up began: it stands as it stood. And what a view of one shows.
 use Rattle.std.specs.Prelude.{◌≡◌, ℕ, ◌<◌, ◌≤◌, true, List, None}
 use Rattle.bz_slotted.specs.Readers.{found_of}
 use Rattle.bz_slotted.specs.ReadingLaws.{node_of}
@@ -10,7 +10,7 @@ use Rattle.bz_task.specs.Outcomes.{IsView}
 use Rattle.bz_task.specs.Scene.{Past, Scene, IsScene, here}
 use Rattle.bz_task.specs.declared.view.LeafView.{LeafView}
 
--- the slot was a leaf of the tree, and frozen, at this moment since the call began
+-- the slot was a leaf of the tree, and frozen, at this moment since the look-up began
 pub record WasFrozenLeaf (k m : ℕ) (p : Past) : Type 0 where
   pub since : p.since ≤ m
   pub now : m ≤ p.now

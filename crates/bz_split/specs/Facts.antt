@@ -129,7 +129,7 @@ pub record StoodFresh (slot : ℕ) (image : List ℕ) (before : ℕ) (p : Past) 
   pub unreached : (p.at before).reached slot ≡ false
   pub copied : (i : ℕ) → i < NODE_WORDS → (p.at (before + 1)).value (node_address p.config slot + i) ≡ slice_index image i
 
--- at a moment since the call began the link led to a root over two leaves: to none of the three a link had led one moment
+-- at a moment since the look-up began the link led to a root over two leaves: to none of the three a link had led one moment
 -- before, and the leaves were these
 pub record WasSplit (link : Link) (left right sep : List ℕ) (p : Past) : Type 0 where
   pub root_slot : ℕ

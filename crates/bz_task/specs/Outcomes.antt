@@ -1,4 +1,4 @@
--- What a path, a view of a leaf and a view of a key are: facts of moments since the call began, which no later step can change.
+-- What a path, a view of a leaf and a view of a key are: facts of moments since the look-up began, which no later step can change.
 use Rattle.std.specs.Prelude.{◌≡◌, ℕ, ◌+◌, ◌^◌, ◌<◌, ◌≤◌, ◌⊎◌, true, List, Option, Some, None, slice_get, slice_index}
 use Rattle.bz_layout.specs.Addresses.{node_address}
 use Rattle.bz_layout.specs.declared.sizes.TheConstants.{NODE_WORDS, STATUS_AT, META_AT, ROOT_AT, ROOT_STATUS_AT}
@@ -46,7 +46,7 @@ pub record IsGuarded (p : Past) (link : Link) : Type 0 where
   pub status : (p.at guarded).value link.guard ≡ link.status
   pub slot : (p.at read).value link.link ≡ link.slot + 1
 
--- at some moment since the call began the node was in the tree, with the key in its range, and the link led to it
+-- at some moment since the look-up began the node was in the tree, with the key in its range, and the link led to it
 pub record IsLink (key : List ℕ) (p : Past) (link : Link) : Type 0 where
   pub was : ℕ
   pub since : p.since ≤ was

@@ -112,7 +112,7 @@ pub record IsKnown (c : Config) (facts : Stage → Scene → Type 0) (asked : Op
   pub holds : facts stage scene
   pub tells : Tells asked stage seen scene
 
--- an address held another value than this at a moment since the call began
+-- an address held another value than this at a moment since the look-up began
 pub record Differed (s : Scene) (a v : ℕ) : Type 0 where
   pub moment : ℕ
   pub since : s.past.since ≤ moment

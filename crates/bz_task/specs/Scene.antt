@@ -1,4 +1,4 @@
--- What one worker's task knows of: the memory at each moment since its call began, and what is the worker's own. Scenes are
+-- What one worker's task knows of: the memory at each moment since its look-up began, and what is the worker's own. Scenes are
 -- made for proofs and never stored.
 use Rattle.std.specs.Prelude.{◌≡◌, ℕ, ◌+◌, ◌^◌, ◌<◌, ◌≤◌, ◌⊎◌, Bool, true, false}
 use Rattle.bz_layout.specs.Addresses.{node_address, words_of}
@@ -21,7 +21,7 @@ pub record Past : Type 0 where
   -- the memory at each moment up to now; a moment is a number of marks
   pub at : ℕ → Instant
   pub now : ℕ
-  -- the moment directly after the call's begin
+  -- the moment at which the present look-up began, after the begin of the call
   pub since : ℕ
   -- at this moment the last mark is a load of this worker
   pub loads : ℕ → Bool
