@@ -1,5 +1,6 @@
 -- The split of a leaf below a parent as a task.
-use Rattle.std.specs.Prelude.{ℕ, zero, suc, ◌+◌, List, Option, slice_index}
+use Rattle.std.specs.Prelude.{ℕ, zero, suc, ◌+◌, List, [], ◌∷◌, Option, slice_index}
+use Rattle.bz_task.specs.Basis.{Basis}
 use Rattle.bz_task.specs.Scene.{Scene, Stage}
 use Rattle.bz_task.specs.declared.todo.Outcome.{Outcome}
 use Rattle.bz_task.specs.declared.todo.Seen.{Seen}
@@ -40,3 +41,7 @@ facts_below t = below_facts (below_of t) t.phase
 
 abbrev pub differs_below : SplitBelow → Seen → Type 0
 differs_below t = below_differs t.lower t.phase
+
+-- the leaf, and the words of its halves, with the key between them
+abbrev pub basis_below : SplitBelow → Basis
+basis_below t = record { slot = t.lower.slot; nodes = t.halves.left.0 ∷ t.halves.right.0 ∷ t.halves.separator ∷ [] }

@@ -1,5 +1,6 @@
 -- The split of an inner node below a parent as a task.
-use Rattle.std.specs.Prelude.{ℕ, zero, suc, List, Option, slice_index}
+use Rattle.std.specs.Prelude.{ℕ, zero, suc, List, [], Option, slice_index}
+use Rattle.bz_task.specs.Basis.{Basis}
 use Rattle.bz_task.specs.Scene.{Scene, Stage}
 use Rattle.bz_task.specs.declared.todo.Outcome.{Outcome}
 use Rattle.bz_task.specs.declared.todo.Seen.{Seen}
@@ -40,3 +41,7 @@ facts_fork t = fork_facts (fork_of t) t.phase
 
 abbrev pub differs_fork : SplitInner → Seen → Type 0
 differs_fork t = fork_differs t.upper t.middle t.lower t.phase
+
+-- the node
+abbrev pub basis_fork : SplitInner → Basis
+basis_fork t = record { slot = t.middle.slot; nodes = [] }
