@@ -1,6 +1,7 @@
 pub mod Alone
 pub mod Brief
 pub mod Changes
+pub mod FromRunning
 pub mod Laws
 pub mod Lookups
 pub mod Quiet
