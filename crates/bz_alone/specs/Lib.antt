@@ -2,6 +2,7 @@ pub mod Alone
 pub mod Brief
 pub mod Changes
 pub mod Counts
+pub mod FromRunning
 pub mod Laws
 pub mod Lookups
 pub mod Quiet

@@ -1,5 +1,6 @@
 -- The split of a leaf below a parent as a task.
-use Rattle.std.specs.Prelude.{◌≡◌, ◌≤◌, ℕ, zero, suc, ◌+◌, List, Option, Some, slice_index}
+use Rattle.std.specs.Prelude.{◌≡◌, ◌≤◌, ℕ, zero, suc, ◌+◌, List, Option, Some, slice_index, [], ◌∷◌}
+use Rattle.bz_task.specs.Basis.{Basis}
 use Rattle.bz_task.specs.Scene.{Scene, Stage}
 use Rattle.bz_task.specs.declared.todo.Outcome.{Outcome}
 use Rattle.bz_task.specs.declared.todo.Outcome.TheVariants.{NeedsRoom}
@@ -45,3 +46,7 @@ differs_below t = below_differs t.lower t.phase
 -- where it ends for want of room, all its acts are left but these few
 abbrev pub WantOfRoomCostsLittle : Type 0
 WantOfRoomCostsLittle = (t : SplitBelow) → end_below t ≡ Some NeedsRoom → below_acts ≤ left_below t + below_fails
+
+-- the leaf, and the words of its halves, with the key between them
+abbrev pub basis_below : SplitBelow → Basis
+basis_below t = record { slot = t.lower.slot; nodes = t.halves.left.0 ∷ t.halves.right.0 ∷ t.halves.separator ∷ [] }

@@ -16,9 +16,10 @@ ghost use Rattle.bz_task.specs.Requests.{Hears, Tells, IsKnown, swaps_in, effect
 ghost use Rattle.bz_task.specs.Scene.{Scene, Stage, Waiting, IsScene};
 ghost use Rattle.bz_layout.specs.declared.swaps.TheConstants.{RENEWAL_SWAPS};
 ghost use Rattle.bz_task.specs.declared.todo.Seen.TheVariants.{Read as Was, Swapped, NoSwap as NoneLeft};
-ghost use Rattle.bz_below.specs.Duties.{below_of, asks_below, end_below, left_below, swaps_below, made_below, needs_below, facts_below, differs_below};
+ghost use Rattle.bz_below.specs.Duties.{below_of, asks_below, end_below, left_below, swaps_below, made_below, needs_below, facts_below, differs_below, basis_below};
 ghost use Rattle.bz_below.specs.Facts.{IsEndOfSplitBelow, below_nodes, below_acts, below_end, below_left, below_swaps, below_facts, below_means, HasRoom, HasParent, IsNewParent, HasBegunBelow, HasLookedBelow, HasOpened, HasTold, IsNotOvertaken, HasBegunOrWaits, IsReadyBelow, IsThawedAbove, WasPartedBelow, LackedPart, below_needs, word_after, store_after, flush_after};
 ghost use Rattle.bz_split.specs.Facts.{split_change};
+ghost use Rattle.bz_split.specs.Parts.{ArePartsOf};
 
 use crate::front::{is_frozen, level_of, low_fence};
 use crate::laws::{links_stand_on, read_parents_were};
@@ -90,6 +91,8 @@ impl SplitBelow {
         ensures made { ⟦<SplitBelow as Task>⟧.made result ≡ 0 }
         ensures needs { ⟦<SplitBelow as Task>⟧.needs result ≡ SPLIT_SLOTS }
         ensures change { ⟦<SplitBelow as Task>⟧.change result ≡ split_change }
+        ensures slot { (⟦<SplitBelow as Task>⟧.basis result).slot ≡ view.slot }
+        ensures halves { ArePartsOf view.image.0 result.halves.left.0 result.halves.right.0 result.halves.separator }
         ensures facts { (key : List ℕ) (s : Scene) → s.past.config ≡ config.now → IsScene s → IsPath key path s.past → IsView key view s.past → ⟦<SplitBelow as Task>⟧.facts result Waiting s }
         ensures done { (upper lower : Link) (s : Scene) → slice_get path.links (path.depth - 2) ≡ Some upper → slice_get path.links (path.depth - 1) ≡ Some lower → ⟦<SplitBelow as Task>⟧.means result Outcome.Done s → WasPartedBelow upper lower view s.past }
         ensures no_path { (other : Path) (s : Scene) → ⟦<SplitBelow as Task>⟧.means result (Outcome.Path other) s → ⊥ }
@@ -481,6 +484,8 @@ impl Task for SplitBelow {
     ghost needs = { needs_below };
 
     ghost change = { λ t. split_change };
+
+    ghost basis = { basis_below };
 
     ghost publishing = { λ t. false };
 

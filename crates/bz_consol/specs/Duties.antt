@@ -1,5 +1,6 @@
 -- A consolidation as a task.
-use Rattle.std.specs.Prelude.{ℕ, Option}
+use Rattle.std.specs.Prelude.{ℕ, [], ◌∷◌, Option}
+use Rattle.bz_task.specs.Basis.{Basis}
 use Rattle.bz_task.specs.Scene.{Scene, Stage}
 use Rattle.bz_task.specs.declared.todo.Outcome.{Outcome}
 use Rattle.bz_task.specs.declared.todo.Seen.{Seen}
@@ -34,3 +35,7 @@ facts_of t = consol_facts (renewal_of t) t.phase
 
 abbrev pub differs_of : Consolidate → Seen → Type 0
 differs_of t = consol_differs t.link t.phase
+
+-- the leaf to which the link leads, and the words of the copy
+abbrev pub basis_of : Consolidate → Basis
+basis_of t = record { slot = t.link.slot; nodes = t.image.0 ∷ [] }

@@ -6,7 +6,6 @@ use Rattle.bz_layout.specs.Slots.{FreeSlots}
 use Rattle.bz_layout.specs.declared.config.Config.{Config}
 use Rattle.bz_layout.specs.declared.sizes.TheConstants.{NODE_WORDS, NODE_LINES}
 use Rattle.bz_layout.specs.declared.thresholds.TheConstants.{CONSOLIDATION_SLOTS}
-use Rattle.bz_node.specs.Reading.{AreInKeyOrder, pairs_in}
 use Rattle.bz_node.specs.Records.{leaf_words}
 use Rattle.bz_slotted.specs.ReadingLaws.{node_of}
 use Rattle.bz_word.specs.Statuses.{status}
@@ -27,6 +26,7 @@ pub use Rattle.bz_renew.specs.Due.{LeadsTo, IsDue}
 use Rattle.bz_renew.specs.FrozenLeaves.{WasFrozenLeaf}
 use Rattle.bz_renew.specs.Guards.{WasAsRead}
 use Rattle.bz_renew.specs.Renewals.{renewal}
+use Rattle.bz_renew.specs.Sorted.{IsSortedLeaf}
 use Rattle.bz_renew.specs.Writing.{IsWriting, HasFilledBut, IsTaken}
 use Rattle.bz_consol.specs.declared.phase.Phase.{Phase}
 use Rattle.bz_consol.specs.declared.phase.Phase.TheVariants.{Fresh, Guard, Store, Flush, Swap, Done, Restart, NoSlot, NoSwap}
@@ -103,12 +103,12 @@ pub record IsCopying (r : Renewal) (count lines : ℕ) (s : Scene) : Type 0 wher
   pub looked : WasAsRead r.link viewed.moment s.past
   pub writing : IsWriting r.slot r.image count lines s
 
--- the words are a leaf made whole of the records that a viewed leaf shows, in the order of their keys
+-- the words are a leaf made whole of the records that a viewed leaf shows, in the order of their keys, between its fences
 pub record IsMadeOf (viewed copy : List ℕ) : Type 0 where
   pub pairs : List (List ℕ × List ℕ)
   pub low : Option (List ℕ)
   pub high : Option (List ℕ)
-  pub order : AreInKeyOrder (pairs_in viewed) pairs
+  pub leaf : IsSortedLeaf viewed pairs low high
   pub is : copy ≡ leaf_words pairs low high
 
 -- at a moment since the look-up began no link had led to a slot, and one moment later the link led to it, and these words stood

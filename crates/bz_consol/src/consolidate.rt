@@ -12,8 +12,8 @@ ghost use Rattle.bz_task.specs.Requests.{Hears, Tells, IsKnown, swaps_in, effect
 ghost use Rattle.bz_task.specs.Scene.{Scene, Stage, Waiting, IsScene};
 ghost use Rattle.bz_layout.specs.declared.swaps.TheConstants.{RENEWAL_SWAPS};
 ghost use Rattle.bz_task.specs.declared.todo.Seen.TheVariants.{Read as Was, Swapped, NoSwap as NoneLeft};
-ghost use Rattle.bz_consol.specs.Duties.{renewal_of, asks_of, end_of, left_of, swaps_of, made_of, needs_of, facts_of, differs_of};
-ghost use Rattle.bz_consol.specs.Facts.{IsEndOfConsolidation, HasBegun, HasLooked, consol_acts, consol_asks, consol_end, consol_left, consol_swaps, consol_facts, consol_means, consol_change, IsReady, LeadsTo, WasRenewed, next_store, next_flush};
+ghost use Rattle.bz_consol.specs.Duties.{renewal_of, asks_of, basis_of, end_of, left_of, swaps_of, made_of, needs_of, facts_of, differs_of};
+ghost use Rattle.bz_consol.specs.Facts.{IsEndOfConsolidation, HasBegun, HasLooked, IsMadeOf, consol_acts, consol_asks, consol_end, consol_left, consol_swaps, consol_facts, consol_means, consol_change, IsReady, LeadsTo, WasRenewed, next_store, next_flush};
 
 use crate::copies::copy_of;
 use crate::laws::renewals_are_good;
@@ -55,6 +55,8 @@ impl Consolidate {
         ensures made { ⟦<Consolidate as Task>⟧.made result ≡ 0 }
         ensures needs { ⟦<Consolidate as Task>⟧.needs result ≡ CONSOLIDATION_SLOTS }
         ensures change { ⟦<Consolidate as Task>⟧.change result ≡ consol_change }
+        ensures slot { (⟦<Consolidate as Task>⟧.basis result).slot ≡ view.slot }
+        ensures copy { IsMadeOf view.image.0 result.image.0 }
         ensures facts { (key : List ℕ) (s : Scene) → s.past.config ≡ config.now → IsScene s → IsPath key path s.past → IsView key view s.past → ⟦<Consolidate as Task>⟧.facts result Waiting s }
         ensures done { (link : Link) (s : Scene) → slice_get path.links (path.depth - 1) ≡ Some link → ⟦<Consolidate as Task>⟧.means result Outcome.Done s → WasRenewed link view s.past }
         ensures no_path { (other : Path) (s : Scene) → ⟦<Consolidate as Task>⟧.means result (Outcome.Path other) s → ⊥ }
@@ -242,6 +244,8 @@ impl Task for Consolidate {
     ghost needs = { needs_of };
 
     ghost change = { λ t. consol_change };
+
+    ghost basis = { basis_of };
 
     ghost publishing = { λ t. false };
 

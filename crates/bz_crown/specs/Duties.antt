@@ -1,5 +1,6 @@
 -- The split of an inner root as a task.
-use Rattle.std.specs.Prelude.{ℕ, zero, suc, List, Option, slice_index}
+use Rattle.std.specs.Prelude.{ℕ, zero, suc, List, [], Option, slice_index}
+use Rattle.bz_task.specs.Basis.{Basis}
 use Rattle.bz_task.specs.Scene.{Scene, Stage}
 use Rattle.bz_task.specs.declared.todo.Outcome.{Outcome}
 use Rattle.bz_task.specs.declared.todo.Seen.{Seen}
@@ -40,3 +41,7 @@ facts_crown t = crown_facts (crown_of t) t.phase
 
 abbrev pub differs_crown : SplitInnerRoot → Seen → Type 0
 differs_crown t = crown_differs t.upper t.lower t.phase
+
+-- the root
+abbrev pub basis_crown : SplitInnerRoot → Basis
+basis_crown t = record { slot = t.upper.slot; nodes = [] }

@@ -14,7 +14,7 @@ ghost use Rattle.bz_layout.specs.declared.swaps.TheConstants.{RENEWAL_SWAPS};
 ghost use Rattle.bz_task.specs.declared.todo.Seen.TheVariants.{Read as Was, Swapped, NoSwap as NoneLeft};
 ghost use Rattle.bz_branch.specs.FromSplit.Facts.{split_change};
 ghost use Rattle.bz_crown.specs.Due.{IsDue};
-ghost use Rattle.bz_crown.specs.Duties.{crown_of, asks_crown, end_crown, left_crown, swaps_crown, made_crown, needs_crown, facts_crown, differs_crown};
+ghost use Rattle.bz_crown.specs.Duties.{crown_of, asks_crown, basis_crown, end_crown, left_crown, swaps_crown, made_crown, needs_crown, facts_crown, differs_crown};
 ghost use Rattle.bz_crown.specs.Facts.{crown_nodes, crown_acts, crown_end, crown_left, crown_swaps, crown_facts, crown_means, HasBegunCrown, HasLookedCrown, HasTold, AreMadeOf, IsReadyCrown, IsSplittable, WasSplitAtRoot, WasTooHigh, crown_needs, word_after, store_after, flush_after};
 
 use crate::phase::Phase;
@@ -65,6 +65,7 @@ impl SplitInnerRoot {
         ensures made { ⟦<SplitInnerRoot as Task>⟧.made result ≡ 0 }
         ensures needs { ⟦<SplitInnerRoot as Task>⟧.needs result ≡ SPLIT_SLOTS }
         ensures change { ⟦<SplitInnerRoot as Task>⟧.change result ≡ split_change }
+        ensures node { (upper : Link) → slice_get path.links 0 ≡ Some upper → (⟦<SplitInnerRoot as Task>⟧.basis result).slot ≡ upper.slot }
         ensures facts { (key : List ℕ) (s : Scene) → s.past.config ≡ config.now → IsScene s → IsPath key path s.past → ⟦<SplitInnerRoot as Task>⟧.facts result Waiting s }
         ensures done { (upper : Link) (s : Scene) → slice_get path.links 0 ≡ Some upper → ⟦<SplitInnerRoot as Task>⟧.means result Outcome.Done s → WasSplitAtRoot upper s.past }
         ensures too_high { (upper : Link) (s : Scene) → slice_get path.links 0 ≡ Some upper → ⟦<SplitInnerRoot as Task>⟧.means result (Outcome.Full Height) s → WasTooHigh upper s.past }
@@ -332,6 +333,8 @@ impl Task for SplitInnerRoot {
     ghost needs = { needs_crown };
 
     ghost change = { λ t. split_change };
+
+    ghost basis = { basis_crown };
 
     ghost publishing = { λ t. false };
 

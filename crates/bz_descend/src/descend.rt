@@ -8,6 +8,7 @@ ghost use Rattle.bz_layout.specs.Config.{IsConfig};
 ghost use Rattle.bz_layout.specs.declared.sizes.TheConstants.{NODE_WORDS, STATUS_AT, ROOT_STATUS_AT};
 ghost use Rattle.bz_shape.specs.Order.{is_before as before};
 ghost use Rattle.bz_word.specs.Statuses.{status};
+ghost use Rattle.bz_task.specs.Basis.{no_basis};
 ghost use Rattle.bz_task.specs.Outcomes.{IsPath};
 ghost use Rattle.bz_task.specs.Requests.{Hears, Tells, IsKnown};
 ghost use Rattle.bz_task.specs.Scene.{Scene, Stage, Waiting, IsScene, HasFilled};
@@ -300,6 +301,8 @@ impl Task for Descend {
     ghost needs = { λ t. 0 };
 
     ghost change = { λ t. descend_change };
+
+    ghost basis = { λ t. no_basis };
 
     ghost publishing = { λ t. false };
 

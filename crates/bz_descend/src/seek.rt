@@ -9,6 +9,7 @@ ghost use Rattle.bz_layout.specs.declared.sizes.TheConstants.{NODE_WORDS, SHARED
 ghost use Rattle.bz_search.specs.Probes.{middle};
 ghost use Rattle.bz_shape.specs.Order.{is_before as before};
 ghost use Rattle.bz_word.specs.Statuses.{status};
+ghost use Rattle.bz_task.specs.Basis.{no_basis};
 ghost use Rattle.bz_task.specs.Outcomes.{IsPath};
 ghost use Rattle.bz_task.specs.Requests.{Hears, Tells, IsKnown};
 ghost use Rattle.bz_task.specs.Scene.{Scene, Stage, Waiting, IsScene, HasFilled};
@@ -360,6 +361,8 @@ impl Task for Seek {
     ghost needs = { λ t. 0 };
 
     ghost change = { λ t. descend_change };
+
+    ghost basis = { λ t. no_basis };
 
     ghost publishing = { λ t. false };
 

@@ -4,6 +4,7 @@ ghost use Rattle.std.specs.Prelude.{◌≡◌, ◌≢◌, ◌+◌, ◌-◌, ◌<
 ghost use Rattle.bz_layout.specs.Config.{IsConfig};
 ghost use Rattle.bz_layout.specs.declared.thresholds.TheConstants.{MAX_LEVELS};
 ghost use Rattle.bz_leaf.specs.Facts.{IsLastLink};
+ghost use Rattle.bz_task.specs.Basis.{no_basis};
 ghost use Rattle.bz_task.specs.Instant.{durable};
 ghost use Rattle.bz_task.specs.Outcomes.{IsPath, IsKeyView};
 ghost use Rattle.bz_task.specs.Requests.{Hears, Tells, IsKnown};
@@ -260,6 +261,8 @@ impl Task for Find {
     ghost needs = { λ t. 0 };
 
     ghost change = { change_of };
+
+    ghost basis = { λ t. no_basis };
 
     ghost publishing = { λ t. false };
 

@@ -1,5 +1,6 @@
 -- The split of an inner node below a parent as a task.
-use Rattle.std.specs.Prelude.{◌≡◌, ◌≤◌, ◌+◌, ℕ, zero, suc, List, Option, Some, slice_index}
+use Rattle.std.specs.Prelude.{◌≡◌, ◌≤◌, ◌+◌, ℕ, zero, suc, List, Option, Some, slice_index, []}
+use Rattle.bz_task.specs.Basis.{Basis}
 use Rattle.bz_task.specs.Scene.{Scene, Stage}
 use Rattle.bz_task.specs.declared.todo.Outcome.{Outcome}
 use Rattle.bz_task.specs.declared.todo.Outcome.TheVariants.{NeedsRoom}
@@ -45,3 +46,7 @@ differs_fork t = fork_differs t.upper t.middle t.lower t.phase
 -- where it ends for want of room, all its acts are left but these few
 abbrev pub WantOfRoomCostsLittle : Type 0
 WantOfRoomCostsLittle = (t : SplitInner) → end_fork t ≡ Some NeedsRoom → fork_acts ≤ left_fork t + fork_fails
+
+-- the node
+abbrev pub basis_fork : SplitInner → Basis
+basis_fork t = record { slot = t.middle.slot; nodes = [] }

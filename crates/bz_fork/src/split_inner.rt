@@ -14,8 +14,8 @@ ghost use Rattle.bz_task.specs.declared.todo.Seen.TheVariants.{Read as Was, Swap
 ghost use Rattle.bz_branch.specs.FromSplit.Facts.{split_change};
 ghost use Rattle.bz_branch.specs.Parts.{IsFullNode};
 ghost use Rattle.bz_fork.specs.Due.{IsDue};
-ghost use Rattle.bz_fork.specs.Duties.{fork_of, asks_fork, end_fork, left_fork, swaps_fork, made_fork, needs_fork, facts_fork, differs_fork};
-ghost use Rattle.bz_fork.specs.Facts.{fork_nodes, fork_acts, fork_end, fork_left, fork_swaps, fork_facts, fork_means, HasBegunFork, HasLookedFork, HasRead, HasOpened, HasTold, AreMadeOf, HasPlace, IsReadyFork, WasSplitInner, LackedPart, fork_needs, word_after, above_after, store_after, flush_after, swap_after};
+ghost use Rattle.bz_fork.specs.Duties.{fork_of, asks_fork, end_fork, left_fork, swaps_fork, made_fork, needs_fork, facts_fork, differs_fork, basis_fork};
+ghost use Rattle.bz_fork.specs.Facts.{fork_nodes, fork_acts, fork_end, fork_left, fork_swaps, fork_facts, fork_means, HasBegunFork, HasLookedFork, HasRead, HasOpened, HasTold, AreMadeOf, HasPlace, IsReadyFork, WasSplitInner, LackedPart, fork_needs, word_after, above_after, store_after, flush_after, swap_after, HasNode};
 
 use crate::parent::parent_with;
 use crate::phase::Phase;
@@ -70,6 +70,7 @@ impl SplitInner {
         ensures made { ⟦<SplitInner as Task>⟧.made result ≡ 0 }
         ensures needs { ⟦<SplitInner as Task>⟧.needs result ≡ SPLIT_SLOTS }
         ensures change { ⟦<SplitInner as Task>⟧.change result ≡ split_change }
+        ensures node { (middle : Link) → slice_get path.links (place + 1) ≡ Some middle → (⟦<SplitInner as Task>⟧.basis result).slot ≡ middle.slot }
         ensures facts { (key : List ℕ) (s : Scene) → s.past.config ≡ config.now → IsScene s → IsPath key path s.past → ⟦<SplitInner as Task>⟧.facts result Waiting s }
         ensures done { (upper middle : Link) (s : Scene) → slice_get path.links place ≡ Some upper → slice_get path.links (place + 1) ≡ Some middle → ⟦<SplitInner as Task>⟧.means result Outcome.Done s → WasSplitInner upper middle s.past }
         ensures no_room { (upper middle : Link) (s : Scene) → slice_get path.links place ≡ Some upper → slice_get path.links (place + 1) ≡ Some middle → ⟦<SplitInner as Task>⟧.means result Outcome.NeedsRoom s → LackedPart upper middle s.past }
@@ -412,6 +413,8 @@ impl Task for SplitInner {
     ghost needs = { needs_fork };
 
     ghost change = { λ t. split_change };
+
+    ghost basis = { basis_fork };
 
     ghost publishing = { λ t. false };
 

@@ -6,6 +6,7 @@ use Rattle.bz_layout.specs.declared.config.Config.{Config}
 use Rattle.bz_layout.specs.declared.sizes.TheConstants.{STATUS_AT}
 use Rattle.bz_word.specs.Statuses.{status}
 use Rattle.bz_word.specs.declared.entry.Entry.{Entry}
+use Rattle.bz_task.specs.Basis.{Basis}
 use Rattle.bz_task.specs.Instant.{words, page_at, is_inside, form_at}
 use Rattle.bz_task.specs.Scene.{Past, Scene, Stage, Waiting, Took, HasFilled}
 use Rattle.bz_task.specs.Steps.{frozen_word}
@@ -84,6 +85,10 @@ freeze_facts k st Done Waiting s = HasFilled s × WasFrozen k s.past
 freeze_facts k st Restart Waiting s = HasFilled s
 freeze_facts k st Full Waiting s = HasFilled s
 freeze_facts k st phase stage s = ⊥
+
+-- it is of the leaf in this slot
+abbrev pub freeze_basis : ℕ → Basis
+freeze_basis k = record { slot = k; nodes = [] }
 
 -- a freeze makes no change
 abbrev pub freeze_change : Change

@@ -10,7 +10,7 @@ ghost use Rattle.bz_task.specs.Scene.{Scene, Stage, Waiting, IsScene};
 ghost use Rattle.bz_layout.specs.declared.swaps.TheConstants.{FREEZE_SWAPS};
 ghost use Rattle.bz_task.specs.declared.todo.Seen.TheVariants.{Swapped, NoSwap};
 ghost use Rattle.bz_task.specs.Steps.{frozen_word};
-ghost use Rattle.bz_freeze.specs.Facts.{IsEndOfFreeze, WasFrozen, freeze_asks, freeze_end, freeze_left, freeze_swaps, freeze_facts, freeze_means, freeze_change, entry_of};
+ghost use Rattle.bz_freeze.specs.Facts.{IsEndOfFreeze, WasFrozen, freeze_asks, freeze_basis, freeze_end, freeze_left, freeze_swaps, freeze_facts, freeze_means, freeze_change, entry_of};
 
 use crate::laws::freezes_are_good;
 use crate::phase::Phase;
@@ -40,6 +40,7 @@ impl Freeze {
         ensures swaps { ⟦<Freeze as Task>⟧.swaps result ≡ FREEZE_SWAPS }
         ensures made { ⟦<Freeze as Task>⟧.made result ≡ 0 }
         ensures needs { ⟦<Freeze as Task>⟧.needs result ≡ 0 }
+        ensures basis { ⟦<Freeze as Task>⟧.basis result ≡ freeze_basis view.slot }
         ensures facts { (key : List ℕ) (s : Scene) → s.past.config ≡ config.now → IsScene s → IsView key view s.past → ⟦<Freeze as Task>⟧.facts result Waiting s }
         ensures frozen { (s : Scene) → ⟦<Freeze as Task>⟧.means result Outcome.Done s → WasFrozen view.slot s.past }
         ensures only { (outcome : Outcome) (s : Scene) → ⟦<Freeze as Task>⟧.means result outcome s → IsEndOfFreeze outcome }
@@ -141,6 +142,8 @@ impl Task for Freeze {
     ghost needs = { λ t. 0 };
 
     ghost change = { λ t. freeze_change };
+
+    ghost basis = { λ t. freeze_basis t.slot };
 
     ghost publishing = { λ t. false };
 

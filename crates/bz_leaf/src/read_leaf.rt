@@ -3,6 +3,7 @@
 ghost use Rattle.std.specs.Prelude.{◌≡◌, ◌≢◌, ◌<◌, ◌≤◌, ◌^◌, ℕ, Some, None, true, false, ◌-◌, slice_index, slice_get, length};
 ghost use Rattle.bz_layout.specs.Config.{IsConfig};
 ghost use Rattle.bz_layout.specs.declared.thresholds.TheConstants.{MAX_LEVELS};
+ghost use Rattle.bz_task.specs.Basis.{no_basis};
 ghost use Rattle.bz_task.specs.Outcomes.{IsPath, IsView};
 ghost use Rattle.bz_task.specs.Requests.{Hears, Tells, IsKnown};
 ghost use Rattle.bz_task.specs.Scene.{Scene, Stage, Waiting, IsScene, HasFilled};
@@ -212,6 +213,8 @@ impl Task for ReadLeaf {
     ghost needs = { λ t. 0 };
 
     ghost change = { λ t. leaf_change };
+
+    ghost basis = { λ t. no_basis };
 
     ghost publishing = { λ t. false };
 

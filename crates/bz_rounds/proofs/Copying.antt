@@ -100,14 +100,14 @@ swapping c r Swap s entries f e = (f.1, same-entries (renewal r.link r.slot) ent
 swapping c r phase s entries f e = absurd (cc)
 
 pub copies : Laws → LoneCopiesGiveRoom
-copies b t key read words entries s y l ends m few =
+copies b t key read words entries s y l was m few =
     let r : Renewal = renewal_of t in
     let f = swapping t.config r t.phase s entries l.knows l.asks in
     let stand : Stand entries (here s) = (b.go t s l.config l.good l.knows l.alone).stands entries l.asks in
-    let leaf : leaf_in s.past.config (here s).image key ≡ t.link.slot = leaf-now b.basis s l.good key t.link.slot l.alone ends in
+    let leaf : leaf_in s.past.config (here s).image key ≡ t.link.slot = leaf-now b.basis s l.good key t.link.slot l.alone was in
     let d = copied b r s y l.good f.0 (subst (λ z. SwapsTo s.past.config z (here s) y) (sym f.1) l.leads) (subst (λ z. Stand z (here s)) (sym f.1) stand) (copy-has-room b.made read t.image.0 m) in
     record {
-      lacked = lacks-room b.basis s l.good key t.link.slot l.alone ends (b.still s t.link.slot f.0.viewed.moment l.good f.0.viewed.leaf).frozen words;
+      lacked = lacks-room b.basis s l.good key t.link.slot l.alone was (b.still s t.link.slot f.0.viewed.moment l.good f.0.viewed.leaf).frozen words;
       room = b.room s.past.config (image_of (here s).image) (image_of y.image) key words t.slot (tree-now b.basis s l.good)
           (subst (λ (k : ℕ). Consolidates s.past.config (image_of (here s).image) (image_of y.image) k t.slot) (sym leaf) d.0) d.1 few;
     }

@@ -31,11 +31,14 @@ use Rattle.bz_stage.specs.Stages.{stage_in}
 use Rattle.bz_stage.specs.Swaps.{FreezesLeaf}
 use Rattle.bz_alone.specs.Laws.{FreezesGoOn}
 use Rattle.bz_rounds.specs.Laws.{LoneFreezesLowerTheStage}
+use Rattle.bz_rounds.proofs.Staying.{Laws as Staying}
+use Rattle.bz_rounds.proofs.Wanting.{lacks-now}
 use Rattle.bz_rounds.proofs.Lone.{Basis, at-most, good-now, tree-now, leaf-now, holds-now, below-top, same-entries}
 
 -- the laws on which it rests
 pub record Laws : Type 0 where
   pub basis : Basis
+  pub stays : Staying
   pub slots : SwapsShowInSlots
   pub apart : SlotsApart
   pub codec : IsCodec Status IsStatus IsStatusWord status_word status
@@ -118,13 +121,14 @@ swapping c k st Swap s entries f e = (f.1, same-entries (entry_of c k st ∷ [])
 swapping c k st phase s entries f e = absurd (cc)
 
 pub freezes : Laws → LoneFreezesLowerTheStage
-freezes b t key words entries s y l ends lacks =
+freezes b t key words entries s y l lacked =
     let f = swapping t.config t.slot t.status t.phase s entries l.knows l.asks in
     let is : entry_of s.past.config t.slot t.status ∷ [] ≡ entries = ap (λ (z : Config). entry_of z t.slot t.status ∷ []) l.config ∙ f.1 in
     let stand : Stand entries (here s) = (b.go t s l.config l.good l.knows l.alone).stands entries l.asks in
-    let h : Holds (form_at s.past.config (here s)) key t.slot = holds-now b.basis s l.good key t.slot l.alone ends in
-    let leaf : leaf_in s.past.config (here s).image key ≡ t.slot = leaf-now b.basis s l.good key t.slot l.alone ends in
+    let h : Holds (form_at s.past.config (here s)) key t.slot = holds-now b.basis s l.good key t.slot l.alone lacked.was in
+    let leaf : leaf_in s.past.config (here s).image key ≡ t.slot = leaf-now b.basis s l.good key t.slot l.alone lacked.was in
     let z : FreezesLeaf s.past.config (image_of (here s).image) (image_of y.image) t.slot =
-    freezes-leaf b s y t.slot t.status l.good h.inside h.leaf (below-top b.basis s l.good key t.slot l.alone ends) f.0 (subst (λ d. Stand d (here s)) (sym is) stand) (subst (λ d. SwapsTo s.past.config d (here s) y) (sym is) l.leads) in
+    freezes-leaf b s y t.slot t.status l.good h.inside h.leaf (below-top b.basis s l.good key t.slot l.alone lacked.was) f.0 (subst (λ d. Stand d (here s)) (sym is) stand) (subst (λ d. SwapsTo s.past.config d (here s) y) (sym is) l.leads) in
     at-most (stage_in s.past.config y.image key words + 1) (stage_in s.past.config (here s).image key words)
-    (b.lower s.past.config (image_of (here s).image) (image_of y.image) key words (tree-now b.basis s l.good) (subst (λ j. FreezesLeaf s.past.config (image_of (here s).image) (image_of y.image) j) (sym leaf) z) lacks)
+    (b.lower s.past.config (image_of (here s).image) (image_of y.image) key words (tree-now b.basis s l.good) (subst (λ j. FreezesLeaf s.past.config (image_of (here s).image) (image_of y.image) j) (sym leaf) z)
+    (lacks-now b.stays b.basis.tiles s l.good (b.basis.lonely.whole s l.good l.alone) key words t.slot lacked))

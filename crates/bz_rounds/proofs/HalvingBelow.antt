@@ -36,7 +36,7 @@ use Rattle.bz_stage.specs.Laws.{LeafSplitsGiveRoom}
 use Rattle.bz_stage.specs.Made.{MadeLeavesAreRoomy}
 use Rattle.bz_stage.specs.Swaps.{IsRoomy, IsRoomyLeaf}
 use Rattle.bz_alone.specs.Laws.{SplitsBelowGoOn}
-use Rattle.bz_alone.specs.Quiet.{IsQuietSince, LonelyTimesAreQuiet}
+use Rattle.bz_alone.specs.Quiet.{IsQuietSince}
 use Rattle.bz_rounds.specs.Laws.{LoneLeafSplitsGiveRoom}
 use Rattle.bz_rounds.proofs.Lacking.{lacks-room}
 use Rattle.bz_rounds.proofs.Lone.{Basis, tree-now, leaf-now, same-entries}
@@ -49,7 +49,6 @@ use Rattle.bz_rounds.proofs.Stored.{node-held, node-fresh, are-three}
 pub record Laws : Type 0 where
   pub basis : Basis
   pub links : Links
-  pub lonely : LonelyTimesAreQuiet
   pub plain : PlainWordsStandForThemselves
   pub root : RootLinksTurnWith
   pub child : ChildLinksTurnWith
@@ -169,19 +168,19 @@ swapping c r Swap s entries f e = (f.1.0, (f.1.1, same-entries (below_swap c (wi
 swapping c r phase s entries f e = absurd (cc)
 
 pub halves-below : Laws → LoneLeafSplitsGiveRoom
-halves-below b t key read words entries s y l ends m few =
+halves-below b t key read words entries s y l was m few =
     let r : Below = below_of t in
     let f = swapping t.config r t.phase s entries l.knows l.asks in
-    let quiet : IsQuietSince s.past.since s.past = b.lonely.whole s l.good l.alone in
+    let quiet : IsQuietSince s.past.since s.past = b.basis.lonely.whole s l.good l.alone in
     let named : r.guard ≡ r.upper.status = sym f.1.0.value ∙ guard-at b.links s l.good quiet r.upper f.0.planned.parted.links.upper_guard f.1.0.named f.1.0.since f.1.0.now in
     let is : below_swap s.past.config r.upper r.lower (r.slot 0) ≡ entries =
     ap (λ (g : ℕ). below_swap s.past.config (with_guard r.upper g) r.lower (r.slot 0)) (sym named) ∙ (ap (λ (z : Config). below_swap z (with_guard r.upper r.guard) r.lower (r.slot 0)) l.config ∙ f.1.1) in
     let stand : Stand entries (here s) = (b.go t s l.config l.good l.knows l.alone).stands entries l.asks in
-    let leaf : leaf_in s.past.config (here s).image key ≡ t.lower.slot = leaf-now b.basis s l.good key t.lower.slot l.alone ends in
-    let d = halved b r s y l.good quiet f.0 (subst (λ z. SwapsTo s.past.config z (here s) y) (sym is) l.leads) (left-has-room b.made b.part read t.halves m) (right-has-room b.made b.part read t.halves m)
+    let leaf : leaf_in s.past.config (here s).image key ≡ t.lower.slot = leaf-now b.basis s l.good key t.lower.slot l.alone was in
+    let d = halved b r s y l.good quiet f.0 (subst (λ z. SwapsTo s.past.config z (here s) y) (sym is) l.leads) (left-has-room b.made b.part read t.halves.left.0 t.halves.right.0 t.halves.separator m) (right-has-room b.made b.part read t.halves.left.0 t.halves.right.0 t.halves.separator m)
     (subst (λ z. Stand z (here s)) (sym is) stand) in
     record {
-      lacked = lacks-room b.basis s l.good key t.lower.slot l.alone ends (b.still s t.lower.slot f.0.planned.parted.moment l.good f.0.planned.parted.leaf).frozen words;
+      lacked = lacks-room b.basis s l.good key t.lower.slot l.alone was (b.still s t.lower.slot f.0.planned.parted.moment l.good f.0.planned.parted.leaf).frozen words;
       room = b.room s.past.config (image_of (here s).image) (image_of y.image) key words (r.slot 0) (r.slot 1) (r.slot 2) 0 r.sep (tree-now b.basis s l.good)
           (subst (λ (k : ℕ). Splits s.past.config (image_of (here s).image) (image_of y.image) k (r.slot 0) (r.slot 1) (r.slot 2) 0 r.sep) (sym leaf) d.0) d.1.0 d.1.1 few;
     }

@@ -33,8 +33,10 @@ use Rattle.bz_stage.specs.Made.{MadeInnersTakeTheirEntries}
 use Rattle.bz_stage.specs.Paths.{on_path}
 use Rattle.bz_stage.specs.Swaps.{IsRoomyInner}
 use Rattle.bz_alone.specs.Laws.{InnerSplitsGoOn}
-use Rattle.bz_alone.specs.Quiet.{IsQuietSince, LonelyTimesAreQuiet}
+use Rattle.bz_alone.specs.Quiet.{IsQuietSince}
+use Rattle.bz_alone.specs.FromRunning.MadeFor.{WasCrowded}
 use Rattle.bz_rounds.specs.Crowded.{IsRisen, AscentsAreCrowded}
+use Rattle.bz_rounds.specs.Falls.{Falls}
 use Rattle.bz_rounds.specs.Laws.{LoneInnerSplitsLowerTheStage}
 use Rattle.bz_rounds.proofs.Lone.{Basis, tree-now, fits-now, same-entries}
 use Rattle.bz_rounds.proofs.Made.{IsFew, left-few, right-few}
@@ -46,7 +48,6 @@ use Rattle.bz_rounds.proofs.Stored.{node-held, node-fresh, are-three}
 pub record Laws : Type 0 where
   pub basis : Basis
   pub links : Links
-  pub lonely : LonelyTimesAreQuiet
   pub plain : PlainWordsStandForThemselves
   pub root : RootLinksTurnWith
   pub child : ChildLinksTurnWith
@@ -185,18 +186,21 @@ swapping c r Swap s entries f e = (f.1, same-entries (inner_swap c r.upper r.mid
 swapping c r phase s entries f e = absurd (cc)
 
 pub inner-halves : Laws → LoneInnerSplitsLowerTheStage
-inner-halves b t a view words entries s y l come =
+inner-halves b t a key words entries s y l up-to come =
     let r : Fork = fork_of t in
     let f = swapping t.config r t.phase s entries l.knows l.asks in
-    let quiet : IsQuietSince s.past.since s.past = b.lonely.whole s l.good l.alone in
+    let quiet : IsQuietSince s.past.since s.past = b.basis.lonely.whole s l.good l.alone in
     let is : inner_swap s.past.config r.upper r.middle r.lower (r.slot 0) ≡ entries = ap (λ (z : Config). inner_swap z r.upper r.middle r.lower (r.slot 0)) l.config ∙ f.1 in
     let stand : Stand entries (here s) = (b.go t s l.config l.good l.knows l.alone).stands entries l.asks in
-    let up : IsRisen a s = b.crowded a view s l.good l.alone come.ascent come.leaf in
+    let crowded : WasCrowded a.key come.view s.past = subst (λ k. WasCrowded k come.view s.past) (sym come.key_is) come.leaf in
+    let up : IsRisen a s = b.crowded a come.view s l.good l.alone up-to crowded in
     let n : ℕ = (form_at s.past.config (here s)).level a.node.slot in
     let some : 0 < n = subst (λ k. 0 < (form_at s.past.config (here s)).level k) (sym come.node) (high b r s y l.good quiet f.0) in
     let below : a.node.slot ≢ s.past.config.nodes = λ e. absurd (omega (arith, e, come.node, node-below s t.middle.slot t.lower l.good f.0.planned.links.node)) in
     let within : n < (view_in s.past.config (here s).image).height = ((fits-now b.basis s l.good).hangs a.node.slot up.stands.inside below).lower in
     let on : on_path (view_in s.past.config (here s).image) a.key n ≡ t.middle.slot = (b.paths (view_in s.past.config (here s).image) a.key n a.node.slot (tree-now b.basis s l.good) (omega (arith, within))).0 up.stands ∙ come.node in
     let d = halved b r s y l.good quiet f.0 (subst (λ z. SwapsTo s.past.config z (here s) y) (sym is) l.leads) (subst (λ z. Stand z (here s)) (sym is) stand) in
+    let fall : Falls s.past.config (here s) y a.key words =
     b.lower s.past.config (image_of (here s).image) (image_of y.image) a.key words n (r.slot 0) (r.slot 1) (r.slot 2) f.0.halves.cut f.0.planned.sep (tree-now b.basis s l.good) some up.crowded
-    (subst (λ (k : ℕ). Splits s.past.config (image_of (here s).image) (image_of y.image) k (r.slot 0) (r.slot 1) (r.slot 2) f.0.halves.cut f.0.planned.sep) (sym on) d.0) d.1.0 d.1.1
+    (subst (λ (k : ℕ). Splits s.past.config (image_of (here s).image) (image_of y.image) k (r.slot 0) (r.slot 1) (r.slot 2) f.0.halves.cut f.0.planned.sep) (sym on) d.0) d.1.0 d.1.1 in
+    subst (λ k. Falls s.past.config (here s) y k words) come.key_is fall

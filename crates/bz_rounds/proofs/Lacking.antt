@@ -9,20 +9,20 @@ use Rattle.bz_task.specs.Scene.{Scene, IsScene, here}
 use Rattle.bz_stage.proofs.Leaves.{stage-frozen}
 use Rattle.bz_stage.specs.Stages.{leaf_page, full_above, frozen_stage, stage_of, stage_in}
 use Rattle.bz_alone.specs.Alone.{IsAlone}
-use Rattle.bz_rounds.specs.Lone.{EndsAt}
+use Rattle.bz_alone.specs.FromRunning.MadeFor.{WasLeafOf}
 use Rattle.bz_rounds.proofs.Lone.{Basis, good-now, leaf-now, holds-now, below-top}
 
 some : (p : Page) (full words : ℕ) → p.frozen ≡ true → 0 < stage_of p full words
 some p full words frozen = let e : stage_of p full words ≡ frozen_stage p full = stage-frozen p full words frozen in omega (arith, e)
 
 -- the leaf of a key that reads find frozen is frozen in the image, so that it takes no words
-module _ (b : Basis) (s : Scene) (good : IsScene s) (key : List ℕ) (k : ℕ) (alone : IsAlone 0 s.past) (ends : EndsAt key k s.past) (frozen : (page_at s.past.config (here s) k).frozen ≡ true) where
+module _ (b : Basis) (s : Scene) (good : IsScene s) (key : List ℕ) (k : ℕ) (alone : IsAlone 0 s.past) (was : WasLeafOf key k s.past) (frozen : (page_at s.past.config (here s) k).frozen ≡ true) where
   reached : (here s).reached k ≡ true
-  reached = (good-now b s good).inside k (holds-now b s good key k alone ends).inside (below-top b s good key k alone ends)
+  reached = (good-now b s good).inside k (holds-now b s good key k alone was).inside (below-top b s good key k alone was)
 
   frozen-leaf : (leaf_page s.past.config (image_of (here s).image) key).frozen ≡ true
   frozen-leaf =
-      ap (λ j. (page (durable s.past.config (here s) j)).frozen) (leaf-now b s good key k alone ends)
+      ap (λ j. (page (durable s.past.config (here s) j)).frozen) (leaf-now b s good key k alone was)
       ∙ (ap (λ z. (status z).frozen) ((good-now b s good).shown k STATUS_AT reached (inl (omega arith))) ∙ frozen)
 
   pub lacks-room : (words : ℕ) → 0 < stage_in s.past.config (here s).image key words

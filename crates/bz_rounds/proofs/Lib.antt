@@ -12,3 +12,5 @@ mod RootHalving
 mod Splitting
 mod Staying
 mod Stored
+mod Wanting
+mod Whichever

@@ -12,8 +12,9 @@ use Rattle.bz_task.specs.Instant.{form_at}
 use Rattle.bz_task.specs.Scene.{Scene, IsScene, here}
 use Rattle.bz_task.specs.declared.todo.Todo.TheVariants.{Swap}
 use Rattle.bz_alone.specs.Alone.{IsAlone}
-use Rattle.bz_alone.specs.Trees.{PathsLeadToLeaves}
-use Rattle.bz_rounds.specs.Lone.{EndsAt}
+use Rattle.bz_alone.specs.FromRunning.MadeFor.{WasLeafOf}
+use Rattle.bz_alone.specs.Quiet.{LonelyTimesAreQuiet}
+use Rattle.bz_alone.specs.Trees.{TreesStand}
 
 pub same-entries : (a b : List Entry) → Some (Swap a) ≡ Some (Swap b) → a ≡ b
 same-entries a b e = cc
@@ -25,7 +26,8 @@ at-most a b e = omega (arith, e)
 pub record Basis : Type 0 where
   pub formed : WellFormedImagesHaveNoFault
   pub tiles : LeavesTileTheKeys
-  pub lead : PathsLeadToLeaves
+  pub trees : TreesStand
+  pub lonely : LonelyTimesAreQuiet
 
 module _ (b : Basis) (s : Scene) (good : IsScene s) where
   pub good-now : IsGood s.past.config (here s)
@@ -37,9 +39,10 @@ module _ (b : Basis) (s : Scene) (good : IsScene s) where
   pub fits-now : Fits (view_in s.past.config (here s).image) (form_at s.past.config (here s))
   fits-now = fits (view_in s.past.config (here s).image) tree-now
 
-  module _ (key : List ℕ) (slot : ℕ) (alone : IsAlone 0 s.past) (ends : EndsAt key slot s.past) where
+  module _ (key : List ℕ) (slot : ℕ) (alone : IsAlone 0 s.past) (was : WasLeafOf key slot s.past) where
     pub leaf-now : leaf_in s.past.config (here s).image key ≡ slot
-    leaf-now = b.lead s key ends.path ends.link good alone ends.is ends.last ∙ ends.leads
+    leaf-now =
+        (b.trees s s.past.since was.moment s.past.now good (b.lonely.whole s good alone) (record { from = was.since; to = was.now }) (record { from = good.begun; to = omega arith })).leaf key ∙ was.leaf
 
     pub holds-now : Holds (form_at s.past.config (here s)) key slot
     holds-now = (b.tiles (view_in s.past.config (here s).image) tree-now key slot).1 leaf-now

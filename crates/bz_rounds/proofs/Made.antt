@@ -6,7 +6,6 @@ use Rattle.bz_branch.specs.Nodes.{IsInnerNode}
 use Rattle.bz_branch.specs.Parts.{AreHalvesOfNode}
 use Rattle.bz_halves.specs.Halves.{separator_of}
 use Rattle.bz_halves.specs.Laws.{AreLeafHalves, LeavesPartInHalves}
-use Rattle.bz_halves.specs.declared.halves.Halves.{Halves}
 use Rattle.bz_layout.specs.declared.thresholds.TheConstants.{INNER_LIMIT}
 use Rattle.bz_node.specs.Reading.{children_in}
 use Rattle.bz_node.specs.Records.{IsPair}
@@ -14,30 +13,32 @@ use Rattle.bz_parted.specs.Laws.{AreInnerHalves, ChildrenPartInHalves}
 use Rattle.bz_parted.specs.Parting.{words_of, right_half, separator_of as separator_in}
 use Rattle.bz_slotted.specs.Page.{page}
 use Rattle.bz_slotted.specs.ReadingLaws.{node_of}
+use Rattle.bz_split.specs.Parts.{AreHalvesFrom}
 use Rattle.bz_stage.specs.Made.{MadeLeavesAreRoomy, MadeInnersTakeTheirEntries}
 use Rattle.bz_stage.specs.Rooms.{words_taken}
 use Rattle.bz_stage.specs.Swaps.{IsRoomy}
-use Rattle.bz_rounds.specs.Made.{IsSmallCopy, AreLargeHalves}
+use Rattle.bz_alone.specs.FromRunning.MadeFor.{IsSmallCopy, AreLargeHalves}
 
 -- a leaf with these words has room
 abbrev pub HasRoom : List ℕ → Type 0
 HasRoom words = IsRoomy (page (node_of words))
 
 pub copy-has-room : MadeLeavesAreRoomy → (read copy : List ℕ) → IsSmallCopy read copy → HasRoom copy
-copy-has-room made read copy m = subst HasRoom (sym m.is) (made m.sorted m.low m.high m.leaf.pairs m.leaf.low_bound m.leaf.high_bound m.leaf.leaf (omega (arith, m.leaf.live, m.few)))
+copy-has-room made read copy m =
+    let f = m.made in subst HasRoom (sym f.is) (made f.pairs f.low f.high f.leaf.pairs f.leaf.low_bound f.leaf.high_bound f.leaf.leaf (omega (arith, f.leaf.live, m.few)))
 
-module _ (made : MadeLeavesAreRoomy) (part : LeavesPartInHalves) (read : List ℕ) (halves : Halves) (m : AreLargeHalves read halves) where
-  parts : AreLeafHalves m.sorted m.low m.high m.are.cut
-  parts = part m.sorted m.low m.high m.are.cut
-      (record { pairs = m.leaf.pairs; low_bound = m.leaf.low_bound; high_bound = m.leaf.high_bound; leaf = m.leaf.leaf; many = omega (arith, m.many, m.leaf.live); room = m.leaf.room }) m.are.is_cut
+module _ (made : MadeLeavesAreRoomy) (part : LeavesPartInHalves) (read left right sep : List ℕ) (m : AreLargeHalves read left right sep) where
+  abbrev h : AreHalvesFrom read left right sep
+  h = m.halves
 
-  pub left-has-room : HasRoom halves.left.0
-  left-has-room = subst HasRoom (sym m.are.left)
-      (made (take m.are.cut m.sorted) m.low (Some (separator_of m.sorted m.are.cut)) (All-take IsPair m.are.cut m.sorted m.leaf.pairs) m.leaf.low_bound parts.separator parts.left parts.left_room)
+  parts : AreLeafHalves h.pairs h.low h.high h.cut
+  parts = part h.pairs h.low h.high h.cut (record { pairs = h.leaf.pairs; low_bound = h.leaf.low_bound; high_bound = h.leaf.high_bound; leaf = h.leaf.leaf; many = omega (arith, m.many, h.leaf.live); room = h.leaf.room }) h.is_cut
 
-  pub right-has-room : HasRoom halves.right.0
-  right-has-room = subst HasRoom (sym m.are.right)
-      (made (drop m.are.cut m.sorted) (Some (separator_of m.sorted m.are.cut)) m.high (All-drop IsPair m.are.cut m.sorted m.leaf.pairs) parts.separator m.leaf.high_bound parts.right parts.right_room)
+  pub left-has-room : HasRoom left
+  left-has-room = subst HasRoom (sym h.left_is) (made (take h.cut h.pairs) h.low (Some (separator_of h.pairs h.cut)) (All-take IsPair h.cut h.pairs h.leaf.pairs) h.leaf.low_bound parts.separator parts.left parts.left_room)
+
+  pub right-has-room : HasRoom right
+  right-has-room = subst HasRoom (sym h.right_is) (made (drop h.cut h.pairs) (Some (separator_of h.pairs h.cut)) h.high (All-drop IsPair h.cut h.pairs h.leaf.pairs) parts.separator h.leaf.high_bound parts.right parts.right_room)
 
 -- an inner node with these words takes one more separator
 abbrev pub IsFew : (ℕ → ℕ) → Type 0

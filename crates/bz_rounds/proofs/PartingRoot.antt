@@ -43,8 +43,10 @@ use Rattle.bz_stage.specs.Made.{MadeInnersTakeTheirEntries}
 use Rattle.bz_stage.specs.Stages.{root_level}
 use Rattle.bz_stage.specs.Swaps.{IsCrowdedBelow, IsRoomyInner}
 use Rattle.bz_alone.specs.Laws.{InnerRootSplitsGoOn}
-use Rattle.bz_alone.specs.Quiet.{IsQuietSince, LonelyTimesAreQuiet}
+use Rattle.bz_alone.specs.Quiet.{IsQuietSince}
+use Rattle.bz_alone.specs.FromRunning.MadeFor.{WasCrowded}
 use Rattle.bz_rounds.specs.Crowded.{IsRisen, AscentsAreCrowded}
+use Rattle.bz_rounds.specs.Falls.{Falls}
 use Rattle.bz_rounds.specs.Laws.{LoneRootSplitsLowerTheStage}
 use Rattle.bz_rounds.proofs.Lone.{Basis, good-now, tree-now, fits-now, same-entries}
 use Rattle.bz_rounds.proofs.Made.{IsFew, left-few, right-few}
@@ -56,7 +58,6 @@ use Rattle.bz_rounds.proofs.Stored.{node-held, node-fresh, are-three}
 pub record Laws : Type 0 where
   pub basis : Basis
   pub links : Links
-  pub lonely : LonelyTimesAreQuiet
   pub leaves : LeafRulesAreFacts
   pub inners : InnerRulesAreFacts
   pub plain : PlainWordsStandForThemselves
@@ -186,15 +187,18 @@ swapping c r Swap s entries f e = (f.1, same-entries (below_swap c r.upper r.low
 swapping c r phase s entries f e = absurd (cc)
 
 pub root-parts : Laws → LoneRootSplitsLowerTheStage
-root-parts b t a view words entries s y l come =
+root-parts b t a key words entries s y l up-to come =
     let r : Crown = crown_of t in
     let f = swapping t.config r t.phase s entries l.knows l.asks in
-    let quiet : IsQuietSince s.past.since s.past = b.lonely.whole s l.good l.alone in
+    let quiet : IsQuietSince s.past.since s.past = b.basis.lonely.whole s l.good l.alone in
     let is : below_swap s.past.config r.upper r.lower (r.slot 0) ≡ entries = ap (λ (z : Config). below_swap z r.upper r.lower (r.slot 0)) l.config ∙ f.1 in
     let stand : Stand (below_swap s.past.config r.upper r.lower (r.slot 0)) (here s) = subst (λ z. Stand z (here s)) (sym is) ((b.go t s l.config l.good l.knows l.alone).stands entries l.asks) in
     let swaps : SwapsTo s.past.config (below_swap s.past.config r.upper r.lower (r.slot 0)) (here s) y = subst (λ z. SwapsTo s.past.config z (here s) y) (sym is) l.leads in
-    let up : IsRisen a s = b.crowded a view s l.good l.alone come.ascent come.leaf in
+    let crowded : WasCrowded a.key come.view s.past = subst (λ k. WasCrowded k come.view s.past) (sym come.key_is) come.leaf in
+    let up : IsRisen a s = b.crowded a come.view s l.good l.alone up-to crowded in
     let top : (form_at s.past.config (here s)).level a.node.slot ≡ root_level s.past.config (image_of (here s).image) = ap (form_at s.past.config (here s)).level come.node ∙ sym (at-top b r s y l.good quiet f.0 stand) in
+    let fall : Falls s.past.config (here s) y a.key words =
     b.lower s.past.config (image_of (here s).image) (image_of y.image) a.key words (r.slot 0) (r.slot 1) (r.slot 2) f.0.parts.cut f.0.sep (tree-now b.basis s l.good) (high b r s y l.good quiet f.0 stand)
     (subst (λ n. IsCrowdedBelow s.past.config (image_of (here s).image) a.key n) top up.crowded)
-    (parts-root b r s y l.good quiet f.0 stand swaps) (left-roomy b r s y l.good quiet f.0 stand swaps) (right-roomy b r s y l.good quiet f.0 stand swaps)
+    (parts-root b r s y l.good quiet f.0 stand swaps) (left-roomy b r s y l.good quiet f.0 stand swaps) (right-roomy b r s y l.good quiet f.0 stand swaps) in
+    subst (λ k. Falls s.past.config (here s) y k words) come.key_is fall

@@ -32,7 +32,8 @@ use Rattle.bz_stage.specs.Paths.{StandsOver, on_path}
 use Rattle.bz_stage.specs.Rooms.{words_taken}
 use Rattle.bz_stage.specs.Stages.{leaf_page, page_on_path}
 use Rattle.bz_alone.specs.Quiet.{IsQuietSince, LonelyTimesAreQuiet}
-use Rattle.bz_rounds.specs.Crowded.{WasCrowded, AscentsAreCrowded}
+use Rattle.bz_alone.specs.FromRunning.MadeFor.{WasCrowded}
+use Rattle.bz_rounds.specs.Crowded.{AscentsAreCrowded}
 use Rattle.bz_rounds.proofs.Staying.{Laws as Staying, tree-at, reached-at, below-height, no-fault, good-then, same-tree, word-stays, place-now, inner-stays, stands-over}
 
 -- the laws on which it rests

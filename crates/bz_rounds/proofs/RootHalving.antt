@@ -158,13 +158,13 @@ swapping c r Swap s entries f e = (f.1, same-entries (renewal r.link (r.slot 0))
 swapping c r phase s entries f e = absurd (cc)
 
 pub root-halves : Laws → LoneRootLeafSplitsGiveRoom
-root-halves b t key read words entries s y l ends m few =
+root-halves b t key read words entries s y l was m few =
     let r : Split = split_of t in
     let f = swapping t.config r t.phase s entries l.knows l.asks in
     let stand : Stand entries (here s) = (b.go t s l.config l.good l.knows l.alone).stands entries l.asks in
     let d = leaf-roomy b r s y l.good f.0 (subst (λ z. Stand z (here s)) (sym f.1) stand) (subst (λ z. SwapsTo s.past.config z (here s) y) (sym f.1) l.leads) key
-    (left-has-room b.made b.part read t.halves m) (right-has-room b.made b.part read t.halves m) in
+    (left-has-room b.made b.part read t.halves.left.0 t.halves.right.0 t.halves.separator m) (right-has-room b.made b.part read t.halves.left.0 t.halves.right.0 t.halves.separator m) in
     record {
-      lacked = lacks-room b.basis s l.good key t.link.slot l.alone ends (b.still s t.link.slot f.0.parted.moment l.good f.0.parted.leaf).frozen words;
+      lacked = lacks-room b.basis s l.good key t.link.slot l.alone was (b.still s t.link.slot f.0.parted.moment l.good f.0.parted.leaf).frozen words;
       room = roomy-ready b.settled (leaf_page s.past.config (image_of y.image) key) (full_above s.past.config (image_of y.image) key) words d few;
     }

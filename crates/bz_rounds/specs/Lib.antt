@@ -2,4 +2,3 @@ pub mod Crowded
 pub mod Falls
 pub mod Laws
 pub mod Lone
-pub mod Made

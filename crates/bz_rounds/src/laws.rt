@@ -1,7 +1,7 @@
 //! Laws of rounds. Each function does nothing but call the laws that it follows from: its contract is the law.
 
 ghost use Rattle.bz_rounds.specs.Crowded.{AscentsAreCrowded};
-ghost use Rattle.bz_rounds.specs.Laws.{LoneFreezesLowerTheStage, LoneCopiesGiveRoom, LoneRootLeafSplitsGiveRoom, LoneLeafSplitsGiveRoom, LoneInnerSplitsLowerTheStage, LoneRootSplitsLowerTheStage};
+ghost use Rattle.bz_rounds.specs.Laws.{LoneFreezesLowerTheStage, LoneCopiesGiveRoom, LoneRootLeafSplitsGiveRoom, LoneLeafSplitsGiveRoom, LoneInnerSplitsLowerTheStage, LoneRootSplitsLowerTheStage, LoneSwapsLowerTheStage};
 
 use bz_alone::laws as alone;
 use bz_content::laws as content;
@@ -17,13 +17,16 @@ use bz_task::laws as task;
 pub fn lone_freezes_lower_the_stage()
     ensures { LoneFreezesLowerTheStage }
 {
-    alone::paths_lead_to_leaves();
+    alone::trees_stand();
+    alone::read_values_stand();
+    alone::lonely_times_are_quiet();
     alone::freezes_go_on();
     stage::freezes_lower_the_stage();
     bz_layout::slots_apart();
     bz_word::laws::statuses();
     content::well_formed_images_have_no_fault();
     shape::leaves_tile_the_keys();
+    task::headers_say_the_level();
     task::swaps_show_in_slots();
 }
 
@@ -31,7 +34,8 @@ pub fn lone_freezes_lower_the_stage()
 pub fn lone_copies_give_room()
     ensures { LoneCopiesGiveRoom }
 {
-    alone::paths_lead_to_leaves();
+    alone::trees_stand();
+    alone::lonely_times_are_quiet();
     alone::consolidations_go_on();
     stage::made_leaves_are_roomy();
     stage::copies_give_room();
@@ -46,7 +50,8 @@ pub fn lone_copies_give_room()
 pub fn lone_root_leaf_splits_give_room()
     ensures { LoneRootLeafSplitsGiveRoom }
 {
-    alone::paths_lead_to_leaves();
+    alone::trees_stand();
+    alone::lonely_times_are_quiet();
     alone::root_splits_go_on();
     stage::made_leaves_are_roomy();
     bz_layout::settled_leaf_takes_record();
@@ -65,7 +70,7 @@ pub fn lone_root_leaf_splits_give_room()
 pub fn lone_leaf_splits_give_room()
     ensures { LoneLeafSplitsGiveRoom }
 {
-    alone::paths_lead_to_leaves();
+    alone::trees_stand();
     alone::read_values_stand();
     alone::lonely_times_are_quiet();
     alone::splits_below_go_on();
@@ -103,7 +108,7 @@ pub fn lone_inner_splits_lower_the_stage()
     ensures { LoneInnerSplitsLowerTheStage }
 {
     ascents_are_crowded();
-    alone::paths_lead_to_leaves();
+    alone::trees_stand();
     alone::read_values_stand();
     alone::lonely_times_are_quiet();
     alone::inner_splits_go_on();
@@ -126,7 +131,7 @@ pub fn lone_root_splits_lower_the_stage()
     ensures { LoneRootSplitsLowerTheStage }
 {
     ascents_are_crowded();
-    alone::paths_lead_to_leaves();
+    alone::trees_stand();
     alone::read_values_stand();
     alone::lonely_times_are_quiet();
     alone::inner_root_splits_go_on();
@@ -144,4 +149,16 @@ pub fn lone_root_splits_lower_the_stage()
     slotted::inner_rules_are_facts();
     task::ranges_stay();
     task::roots_are_reached();
+}
+
+/// So does the swap of whichever of these tasks it is, where it was made for the key.
+pub fn lone_swaps_lower_the_stage()
+    ensures { LoneSwapsLowerTheStage }
+{
+    lone_freezes_lower_the_stage();
+    lone_copies_give_room();
+    lone_root_leaf_splits_give_room();
+    lone_leaf_splits_give_room();
+    lone_inner_splits_lower_the_stage();
+    lone_root_splits_lower_the_stage();
 }

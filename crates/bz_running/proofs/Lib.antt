@@ -4,3 +4,4 @@ mod Heights
 mod Rising
 mod Counting
 mod LookingUp
+mod Made

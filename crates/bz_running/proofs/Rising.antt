@@ -1,5 +1,5 @@
 -- The split of the node above knows what it must where the one below lacked the room there.
-use Rattle.std.proofs.Common.{◌≡◌, refl, subst, ◌∙◌, Some}
+use Rattle.std.proofs.Common.{◌≡◌, refl, sym, subst, ◌∙◌, Some}
 use Rattle.bz_ascent.specs.Ascents.{IsAscent, IsOneUp}
 use Rattle.bz_ascent.specs.Laws.{AscentsRise}
 use Rattle.bz_ascent.specs.declared.ascent.Ascent.{Ascent}
@@ -10,9 +10,11 @@ use Rattle.bz_running.specs.Ascending.{LooksUp}
 use Rattle.bz_running.specs.Duties.{config_of, wants_of, ascent_of, facts_of, means_of}
 use Rattle.bz_running.specs.GoingUp.{IsSplitAt, GoesUp}
 use Rattle.bz_running.specs.Hearing.{IsLookup}
+use Rattle.bz_running.specs.MadeFor.{WasCrowded, IsMadeFor}
 use Rattle.bz_running.specs.declared.running.Running.{Running}
 use Rattle.bz_running.specs.declared.running.Running.TheVariants.{Seeking, Finding, Reading, Inserting, Updating, Deleting, Freezing, Consolidating, Splitting, SplittingBelow, SplittingInner, SplittingInnerRoot, Merging}
 use Rattle.bz_running.proofs.Ascending.{same-ascent}
+use Rattle.bz_running.proofs.Made.{stands-on-crowded}
 use Rattle.bz_running.proofs.Statements.{Ends}
 
 -- a split on the way up
@@ -49,5 +51,8 @@ goes-up law t next a up ends is one it = record {
       let k = (is-rising t a is).knows s f in
       let l = k.1.lacks up s one (ends s NeedsRoom f e).0 in
       it.facts s same good (law a up s l.sep one good k.0 l.lacked));
+  made_for = λ key words p m. (
+      let w = stands-on-crowded t a is key words p m in
+      subst (λ k. IsMadeFor next k words p) (one.key_is ∙ w.key_is) (it.made_for w.view words p (subst (λ k. WasCrowded k w.view p) (sym (one.key_is ∙ w.key_is)) w.leaf)));
   ends = λ key way other h. subst (λ k. IsLookup k other next) (one.key_is ∙ h.ascent a is) (it.ends other);
 }

@@ -2,6 +2,7 @@
 use Rattle.std.specs.Prelude.{◌≡◌, ℕ, Bool, true, false, Option, Some, None, refl}
 use Rattle.bz_layout.specs.declared.config.Config.{Config}
 use Rattle.bz_layout.specs.declared.thresholds.TheConstants.{CONSOLIDATION_SLOTS, MERGE_SLOTS, SPLIT_SLOTS}
+use Rattle.bz_task.specs.Basis.{Basis, no_basis}
 use Rattle.bz_task.specs.Scene.{Scene, Stage}
 use Rattle.bz_task.specs.Swaps.{Change}
 use Rattle.bz_layout.specs.declared.swaps.TheConstants.{DELETE_SWAPS, INSERT_SWAPS, UPDATE_SWAPS}
@@ -9,21 +10,21 @@ use Rattle.bz_task.specs.declared.todo.Outcome.{Outcome}
 use Rattle.bz_task.specs.declared.todo.Seen.{Seen}
 use Rattle.bz_task.specs.declared.todo.Todo.{Todo}
 use Rattle.bz_ascent.specs.declared.ascent.Ascent.{Ascent}
-use Rattle.bz_ascent.specs.FromBelow.Duties.{asks_below, end_below, left_below, swaps_below, made_below, needs_below, facts_below, differs_below}
+use Rattle.bz_ascent.specs.FromBelow.Duties.{asks_below, basis_below, end_below, left_below, swaps_below, made_below, needs_below, facts_below, differs_below}
 use Rattle.bz_ascent.specs.FromBelow.Facts.{below_means}
 use Rattle.bz_ascent.specs.FromBelow.SplitBelow.{SplitBelow}
 use Rattle.bz_consol.specs.Duties as consol
 use Rattle.bz_consol.specs.Facts.{consol_change, consol_means}
-use Rattle.bz_crown.specs.Duties.{asks_crown, end_crown, left_crown, swaps_crown, made_crown, needs_crown, facts_crown, differs_crown}
+use Rattle.bz_crown.specs.Duties.{asks_crown, basis_crown, end_crown, left_crown, swaps_crown, made_crown, needs_crown, facts_crown, differs_crown}
 use Rattle.bz_crown.specs.Facts.{crown_means}
 use Rattle.bz_crown.specs.declared.split_inner_root.SplitInnerRoot.{SplitInnerRoot}
 use Rattle.bz_descend.specs.SeekDuties as seek
 use Rattle.bz_descend.specs.Facts.{descend_change}
 use Rattle.bz_find.specs.Duties as find
-use Rattle.bz_fork.specs.Duties.{asks_fork, end_fork, left_fork, swaps_fork, made_fork, needs_fork, facts_fork, differs_fork}
+use Rattle.bz_fork.specs.Duties.{asks_fork, basis_fork, end_fork, left_fork, swaps_fork, made_fork, needs_fork, facts_fork, differs_fork}
 use Rattle.bz_fork.specs.Facts.{fork_means}
 use Rattle.bz_fork.specs.declared.split_inner.SplitInner.{SplitInner}
-use Rattle.bz_freeze.specs.Facts.{freeze_asks, freeze_end, freeze_left, freeze_swaps, freeze_facts, freeze_means, freeze_change}
+use Rattle.bz_freeze.specs.Facts.{freeze_asks, freeze_basis, freeze_end, freeze_left, freeze_swaps, freeze_facts, freeze_means, freeze_change}
 use Rattle.bz_insert.specs.Duties as insert
 use Rattle.bz_leaf.specs.Duties as leaf
 use Rattle.bz_leaf.specs.Facts.{leaf_change}
@@ -190,6 +191,22 @@ change_of (SplittingBelow t a) = split_change
 change_of (SplittingInner t a) = split_change
 change_of (SplittingInnerRoot t a) = split_change
 change_of (Merging t) = merge_change
+
+-- what it was made of
+unfoldable pub basis_of : Running → Basis
+basis_of (Seeking t) = no_basis
+basis_of (Finding t) = no_basis
+basis_of (Reading t) = no_basis
+basis_of (Inserting t) = no_basis
+basis_of (Updating t) = no_basis
+basis_of (Deleting t) = no_basis
+basis_of (Freezing t) = freeze_basis t.slot
+basis_of (Consolidating t) = consol.basis_of t
+basis_of (Splitting t) = split.basis_of t
+basis_of (SplittingBelow t a) = basis_below t
+basis_of (SplittingInner t a) = basis_fork t
+basis_of (SplittingInnerRoot t a) = basis_crown t
+basis_of (Merging t) = no_basis
 
 unfoldable pub publishing_of : Running → Bool
 publishing_of (Seeking t) = false

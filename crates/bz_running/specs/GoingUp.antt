@@ -4,12 +4,14 @@ use Rattle.bz_layout.specs.declared.config.Config.{Config}
 use Rattle.bz_layout.specs.declared.thresholds.TheConstants.{SPLIT_SLOTS}
 use Rattle.bz_ascent.specs.Ascents.{IsAscent}
 use Rattle.bz_ascent.specs.declared.ascent.Ascent.{Ascent}
-use Rattle.bz_task.specs.Scene.{Scene, Waiting, IsScene}
+use Rattle.bz_task.specs.Scene.{Past, Scene, Waiting, IsScene}
 use Rattle.bz_task.specs.declared.path.Path.{Path}
 use Rattle.bz_layout.specs.declared.swaps.TheConstants.{RENEWAL_SWAPS}
 use Rattle.bz_task.specs.declared.todo.Outcome.TheVariants.{NeedsRoom}
+use Rattle.bz_task.specs.declared.view.LeafView.{LeafView}
 use Rattle.bz_running.specs.Duties.{config_of, asks_of, end_of, swaps_of, made_of, wants_of, facts_of, makes_no_change}
 use Rattle.bz_running.specs.Hearing.{IsLookup}
+use Rattle.bz_running.specs.MadeFor.{WasCrowded, IsMadeFor}
 use Rattle.bz_running.specs.declared.running.Running.{Running}
 
 -- the task knows what it should, in some scene
@@ -27,6 +29,8 @@ pub record IsSplitAt (c : Config) (a : Ascent) (t : Running) : Type 0 where
   pub silent : makes_no_change t ≡ true
   pub facts : (s : Scene) → s.past.config ≡ c → IsScene s → IsAscent a s.past → facts_of t Waiting s
   pub ends : (way : Option Path) → IsLookup a.key way t
+  -- it is made for the key of the ascent, where that begins at a leaf which has to be split
+  pub made_for : (view : LeafView) (words : ℕ) (p : Past) → WasCrowded a.key view p → IsMadeFor t a.key words p
 
 -- a split that lacked room, and the one that is to be made first
 pub record GoesUp (t next : Running) : Type 0 where
@@ -39,3 +43,4 @@ pub record GoesUp (t next : Running) : Type 0 where
   pub silent : makes_no_change next ≡ true
   pub facts : (s : Scene) → s.past.config ≡ config_of t → IsScene s → facts_of t Waiting s → end_of t ≡ Some NeedsRoom → facts_of next Waiting s
   pub ends : (key : List ℕ) (way other : Option Path) → IsLookup key way t → IsLookup key other next
+  pub made_for : (key : List ℕ) (words : ℕ) (p : Past) → IsMadeFor t key words p → IsMadeFor next key words p

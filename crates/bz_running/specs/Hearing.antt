@@ -6,7 +6,7 @@ use Rattle.bz_layout.specs.Slots.{FreeSlots}
 use Rattle.bz_task.specs.OwnActs.{AreTakenFrom, AreUnreached, gained}
 use Rattle.bz_task.specs.Outcomes.{IsPath, IsView, IsKeyView}
 use Rattle.bz_task.specs.Requests.{Tells, swaps_in, effects_in}
-use Rattle.bz_task.specs.Scene.{Scene, Stage, Waiting, IsScene}
+use Rattle.bz_task.specs.Scene.{Past, Scene, Stage, Waiting, IsScene}
 use Rattle.bz_task.specs.declared.path.Path.{Path}
 use Rattle.bz_task.specs.declared.todo.Outcome.{Outcome}
 use Rattle.bz_task.specs.declared.todo.Outcome.TheVariants as outcome
@@ -17,6 +17,7 @@ use Rattle.bz_task.specs.declared.todo.Todo.TheVariants.{Finish}
 use Rattle.bz_task.specs.declared.view.KeyView.{KeyView}
 use Rattle.bz_task.specs.declared.view.LeafView.{LeafView}
 use Rattle.bz_running.specs.Duties.{config_of, asks_of, end_of, left_of, swaps_of, made_of, change_swaps, needs_of, wants_of, change_of, publishing_of, ascent_of, facts_of, means_of, differs_of, makes_no_change}
+use Rattle.bz_running.specs.MadeFor.{IsMadeFor}
 use Rattle.bz_running.specs.declared.running.Running.{Running}
 
 -- a path or a view with which the task ends is one of this key; and with a view, of the leaf or of the key alone, this path, if there
@@ -41,6 +42,8 @@ pub record HasHeard (old : Running) (seen : Seen) (moment : ℕ) (free : FreeSlo
   pub change : change_of new ≡ change_of old
   pub ascent : ascent_of new ≡ ascent_of old
   pub silent : makes_no_change new ≡ makes_no_change old
+  -- what it was made for it still is
+  pub made_for : (key : List ℕ) (words : ℕ) (p : Past) → IsMadeFor old key words p → IsMadeFor new key words p
   pub meant : (o : Outcome) (s : Scene) → means_of new o s → means_of old o s
   pub slots : AreTakenFrom (needs_of old) (needs_of new) free left
   pub done : end_of new ≡ Some outcome.Done → seen ≡ Swapped true

@@ -8,7 +8,7 @@ use Rattle.bz_word.specs.declared.entry.Entry.{Entry}
 use Rattle.bz_task.specs.Instant.{Instant}
 use Rattle.bz_task.specs.OwnActs.{Stores, Flushes}
 use Rattle.bz_task.specs.Requests.{IsAskable, IsCause}
-use Rattle.bz_task.specs.Scene.{Past, Scene, Stage, Waiting, Took, IsScene, IsLawful, HasFilled, here}
+use Rattle.bz_task.specs.Scene.{Past, Scene, Continues, Stage, Waiting, Took, IsScene, IsLawful, HasFilled, here}
 use Rattle.bz_task.specs.Swaps.{Stand, SwapsTo, IsGoodSwap, Takes}
 use Rattle.bz_task.specs.declared.todo.Outcome.{Outcome}
 use Rattle.bz_task.specs.declared.todo.Outcome.TheVariants.{Full}
@@ -16,6 +16,7 @@ use Rattle.bz_task.specs.declared.todo.Seen.{Seen}
 use Rattle.bz_task.specs.declared.todo.Todo.{Todo}
 use Rattle.bz_task.specs.declared.todo.Todo.TheVariants.{Store, Flush, Swap}
 use Rattle.bz_running.specs.Duties.{config_of, asks_of, end_of, made_of, change_swaps, needs_of, wants_of, ascent_of, change_of, publishing_of, facts_of, means_of, differs_of}
+use Rattle.bz_running.specs.MadeFor.{IsMadeFor}
 use Rattle.bz_running.specs.declared.running.Running.{Running}
 
 -- on the way up each level that inner nodes may have was full
@@ -24,7 +25,10 @@ HaveFilledUp None p = ⊥
 HaveFilledUp (Some a) p = AreAllFull a.key p
 
 pub record AreLaws (t : Running) : Type 0 where
+  -- what it knows stays
   pub stable : (stage : Stage) (s after : Scene) → s.past.config ≡ config_of t → facts_of t stage s → IsScene after → IsLawful s after → facts_of t stage after
+  -- so does what it was made for
+  pub made_for : (key : List ℕ) (words : ℕ) (p q : Past) → IsMadeFor t key words p → Continues p q → IsMadeFor t key words q
   pub askable : (s : Scene) (todo : Todo) → s.past.config ≡ config_of t → facts_of t Waiting s → IsScene s → asks_of t ≡ Some todo → IsAskable s todo
   pub cause : (s : Scene) (seen : Seen) → s.past.config ≡ config_of t → facts_of t Waiting s → differs_of t seen → IsCause (asks_of t) seen s
   -- what it still is to take is no more than what it takes in all, and that no more than a split takes

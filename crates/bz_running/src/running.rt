@@ -1,6 +1,6 @@
 //! Whichever task it is.
 
-ghost use Rattle.std.specs.Prelude.{◌≡◌, ◌-◌, ◌<◌, ◌≢◌, ◌≤◌, ℕ, List, true, false, Option, None, Some, slice_get};
+ghost use Rattle.std.specs.Prelude.{◌≡◌, ◌+◌, ◌-◌, ◌<◌, ◌≢◌, ◌≤◌, ℕ, List, true, false, Option, None, Some, slice_get};
 ghost use Rattle.bz_ascent.specs.FromBelow.Facts.{IsThawedAbove, LackedPart};
 ghost use Rattle.bz_consol.specs.Facts.{LeadsTo};
 ghost use Rattle.bz_leaf.specs.Facts.{IsLastLink};
@@ -12,13 +12,14 @@ ghost use Rattle.bz_slotted.specs.ReadingLaws.{node_of};
 ghost use Rattle.bz_word.specs.Statuses.{status};
 ghost use Rattle.bz_task.specs.Outcomes.{payload_of, IsPath, IsView, IsKeyView};
 ghost use Rattle.bz_task.specs.Requests.{Hears, IsKnown};
-ghost use Rattle.bz_task.specs.Scene.{Scene, Waiting, IsScene, HasFilled};
+ghost use Rattle.bz_task.specs.Scene.{Past, Scene, Waiting, IsScene, HasFilled};
 ghost use Rattle.bz_layout.specs.declared.swaps.TheConstants.{DELETE_SWAPS, FREEZE_SWAPS, INSERT_SWAPS, MERGE_SWAPS, RENEWAL_SWAPS, UPDATE_SWAPS};
 ghost use Rattle.bz_task.specs.declared.path.Link.{Link as LastLink};
 ghost use Rattle.bz_task.specs.declared.todo.Todo.TheVariants.{Read};
 ghost use Rattle.bz_running.specs.Hearing.{IsLookup, HasHeard};
-ghost use Rattle.bz_running.specs.Duties.{config_of, asks_of, end_of, left_of, swaps_of, made_of, change_swaps, needs_of, wants_of, change_of, ascent_of, publishing_of, facts_of, means_of, differs_of, makes_no_change};
+ghost use Rattle.bz_running.specs.Duties.{config_of, asks_of, basis_of, end_of, left_of, swaps_of, made_of, change_swaps, needs_of, wants_of, change_of, ascent_of, publishing_of, facts_of, means_of, differs_of, makes_no_change};
 ghost use Rattle.bz_running.specs.Laws.{AreLaws};
+ghost use Rattle.bz_running.specs.MadeFor.{IsMadeFor};
 ghost use Rattle.bz_running.specs.LookingUp.{ForWay, ForKey, look_of, reads_asked, HasCounted, LooksUpBriefly};
 
 use bz_ascent::{Ascent, SplitBelow};
@@ -34,7 +35,7 @@ use bz_layout::{Config, ROOT_STATUS_AT, Slots};
 use bz_leaf::ReadLeaf;
 use bz_merge::{Merge, SplitRoot};
 use bz_mutate::{Delete, Update};
-use bz_task::{KeyView, LeafView, Link, Outcome, Path, Seen, Task, Todo};
+use bz_task::{KeyView, LeafView, Link, Outcome, Path, Seen, Task, Todo, laws};
 
 /// A task on the tree.
 #[derive(Drop)]
@@ -189,6 +190,8 @@ impl Running {
         ensures silent { makes_no_change result ≡ true }
         ensures facts { (key : List ℕ) (s : Scene) → s.past.config ≡ config.now → IsScene s → IsView key view s.past → facts_of result Waiting s }
         ensures ends { (key : List ℕ) (way : Option Path) → IsLookup key way result }
+        // it is made for the key of the leaf, where that lacks room for a record of so many words, and for these and its metadata word
+        ensures made_for { (key : List ℕ) (words : ℕ) (p : Past) → IsView key view p → LacksRoom view.status words → IsMadeFor result key (words + 1) p }
     {
         Running::Freezing(Freeze::new(config, path, view))
     }
@@ -210,6 +213,8 @@ impl Running {
         ensures silent { makes_no_change result ≡ true }
         ensures facts { (key : List ℕ) (s : Scene) → s.past.config ≡ config.now → IsScene s → IsPath key path s.past → IsView key view s.past → facts_of result Waiting s }
         ensures ends { (key : List ℕ) (way : Option Path) → IsLookup key way result }
+        // it is made for the key of the leaf, where that has no more live words than it may keep
+        ensures made_for { (key : List ℕ) (words : ℕ) (p : Past) → IsView key view p → live_of (node_of view.image.0) ≤ SPLIT_ABOVE → IsMadeFor result key words p }
     {
         Running::Consolidating(Consolidate::new(config, path, view, page))
     }
@@ -231,6 +236,7 @@ impl Running {
         ensures silent { makes_no_change result ≡ true }
         ensures facts { (key : List ℕ) (s : Scene) → s.past.config ≡ config.now → IsScene s → IsPath key path s.past → IsView key view s.past → facts_of result Waiting s }
         ensures ends { (key : List ℕ) (way : Option Path) → IsLookup key way result }
+        ensures made_for { (key : List ℕ) (words : ℕ) (p : Past) → IsView key view p → IsMadeFor result key words p }
     {
         Running::Splitting(SplitRoot::new(config, path, view, page))
     }
@@ -262,6 +268,7 @@ impl Running {
         ensures ends { (way : Option Path) → IsLookup key way result }
         // NeedsRoom comes only where the parent lacked room for the separator
         ensures needs_room { (upper lower : Link) (s : Scene) → slice_get path.links (path.depth - 2) ≡ Some upper → slice_get path.links (path.depth - 1) ≡ Some lower → means_of result Outcome.NeedsRoom s → LackedPart upper lower view s.past }
+        ensures made_for { (words : ℕ) (p : Past) → IsView key view p → IsMadeFor result key words p }
     {
         bz_ascent::laws::ascents_begin();
         let task = SplitBelow::new(config, path, view, page);
@@ -289,7 +296,7 @@ impl Running {
     }
 
     /// Tells the task what came of its last act, and answers what it asks for next: `next`, and that one which makes no change makes none later.
-    #[tactic(auto, unfolding(crate::specs::Duties::config_of, crate::specs::Duties::asks_of, crate::specs::Duties::end_of, crate::specs::Duties::left_of, crate::specs::Duties::swaps_of, crate::specs::Duties::made_of, crate::specs::Duties::change_swaps, crate::specs::Duties::needs_of, crate::specs::Duties::wants_of, crate::specs::Duties::change_of, crate::specs::Duties::facts_of, crate::specs::Duties::means_of, crate::specs::Duties::differs_of, crate::specs::Duties::ascent_of, crate::specs::Duties::makes_no_change))]
+    #[tactic(auto, unfolding(crate::specs::Duties::config_of, crate::specs::Duties::asks_of, crate::specs::Duties::end_of, crate::specs::Duties::left_of, crate::specs::Duties::swaps_of, crate::specs::Duties::made_of, crate::specs::Duties::change_swaps, crate::specs::Duties::needs_of, crate::specs::Duties::wants_of, crate::specs::Duties::change_of, crate::specs::Duties::facts_of, crate::specs::Duties::means_of, crate::specs::Duties::differs_of, crate::specs::Duties::ascent_of, crate::specs::Duties::makes_no_change, crate::specs::MadeFor::IsMadeFor))]
     pub fn hear(&mut self, seen: Seen, slots: &mut Slots, moment: u32) -> Todo
         requires hears { Hears (asks_of self.old) seen }
         requires known { IsKnown (config_of self.old) (facts_of self.old) (asks_of self.old) seen moment }
@@ -345,6 +352,7 @@ impl Running {
         bz_consol::laws::consolidations_take_one_slot();
         bz_merge::laws::merges_take_two_slots();
         bz_ascent::laws::ascents_end();
+        laws::views_stay();
         self.learnt();
         self.acted();
     }
@@ -366,6 +374,8 @@ impl Task for Running {
     ghost needs = { needs_of };
 
     ghost change = { change_of };
+
+    ghost basis = { basis_of };
 
     ghost publishing = { publishing_of };
 
@@ -413,7 +423,7 @@ impl Task for Running {
         }
     }
 
-    #[tactic(auto, unfolding(crate::specs::Duties::config_of, crate::specs::Duties::asks_of, crate::specs::Duties::end_of, crate::specs::Duties::left_of, crate::specs::Duties::swaps_of, crate::specs::Duties::made_of, crate::specs::Duties::needs_of, crate::specs::Duties::wants_of, crate::specs::Duties::change_of, crate::specs::Duties::publishing_of, crate::specs::Duties::facts_of, crate::specs::Duties::means_of, crate::specs::Duties::differs_of))]
+    #[tactic(auto, unfolding(crate::specs::Duties::config_of, crate::specs::Duties::asks_of, crate::specs::Duties::end_of, crate::specs::Duties::left_of, crate::specs::Duties::swaps_of, crate::specs::Duties::made_of, crate::specs::Duties::needs_of, crate::specs::Duties::wants_of, crate::specs::Duties::change_of, crate::specs::Duties::basis_of, crate::specs::Duties::publishing_of, crate::specs::Duties::facts_of, crate::specs::Duties::means_of, crate::specs::Duties::differs_of))]
     fn next(&mut self, seen: Seen, slots: &mut Slots, moment: u32) -> Todo {
         match self {
             Running::Seeking(task) => task.next(seen, slots, moment),

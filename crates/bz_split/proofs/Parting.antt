@@ -45,7 +45,7 @@ module _ (part : LeavesPartInHalves) (are : HalvesAreLeaves) (words : List ℕ) 
 
   pub are-parts : length h.left.0 ≡ NODE_WORDS → length h.right.0 ≡ NODE_WORDS → ArePartsOf words h.left.0 h.right.0 h.separator
   are-parts left_size right_size = record {
-    halves = record { pairs = records; low = low; high = high; cut = of.cut; order = r.order; is_cut = of.is_cut; separator = of.separator; left_is = of.left; right_is = of.right };
+    halves = record { pairs = records; low = low; high = high; cut = of.cut; leaf = r; is_cut = of.is_cut; separator = of.separator; left_is = of.left; right_is = of.right };
     separator = subst IsKey (sym of.separator) parts.separator;
     above = λ nodes lo hi none. subst (IsAbove lo) (sym of.separator) (subst (λ z. IsAbove z (separator_of records of.cut)) (r.fences nodes lo hi none).0 parts.above);
     below = λ nodes lo hi none. subst (IsBelow hi) (sym of.separator) (subst (λ z. IsBelow z (separator_of records of.cut)) (r.fences nodes lo hi none).1 parts.below);

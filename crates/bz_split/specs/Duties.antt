@@ -1,5 +1,6 @@
 -- The split of a root leaf as a task.
-use Rattle.std.specs.Prelude.{ℕ, zero, suc, List, Option, slice_index}
+use Rattle.std.specs.Prelude.{ℕ, zero, suc, List, [], ◌∷◌, Option, slice_index}
+use Rattle.bz_task.specs.Basis.{Basis}
 use Rattle.bz_task.specs.Scene.{Scene, Stage}
 use Rattle.bz_task.specs.declared.todo.Outcome.{Outcome}
 use Rattle.bz_task.specs.declared.todo.Seen.{Seen}
@@ -40,3 +41,7 @@ facts_of t = split_facts (split_of t) t.phase
 
 abbrev pub differs_of : SplitRoot → Seen → Type 0
 differs_of t = split_differs t.link t.phase
+
+-- the leaf to which the link leads, and the words of its halves, with the key between them
+abbrev pub basis_of : SplitRoot → Basis
+basis_of t = record { slot = t.link.slot; nodes = t.halves.left.0 ∷ t.halves.right.0 ∷ t.halves.separator ∷ [] }

@@ -2,21 +2,21 @@
 use Rattle.std.specs.Prelude.{◌≡◌, ℕ, ◌^◌, ◌<◌, true, false, List, All, length, Option, Some, None}
 use Rattle.bz_key.specs.Bytes.{IsKey}
 use Rattle.bz_layout.specs.declared.sizes.TheConstants.{NODE_WORDS}
-use Rattle.bz_node.specs.Reading.{AreInKeyOrder, pairs_in}
 use Rattle.bz_node.specs.Records.{IsAbove, IsBelow}
 use Rattle.bz_shape.specs.Order.{is_before}
 use Rattle.bz_slotted.specs.Readers.{found_of}
 use Rattle.bz_slotted.specs.ReadingLaws.{node_of}
 use Rattle.bz_slotted.specs.Rules.{node_fault}
 use Rattle.bz_halves.specs.Halves.{IsCut, separator_of, left_words, right_words}
+use Rattle.bz_renew.specs.Sorted.{IsSortedLeaf}
 
--- they are the halves of the leaf's records, in the order of their keys
+-- they are the halves of the leaf's records, in the order of their keys, between its fences
 pub record AreHalvesFrom (words left right sep : List ℕ) : Type 0 where
   pub pairs : List (List ℕ × List ℕ)
   pub low : Option (List ℕ)
   pub high : Option (List ℕ)
   pub cut : ℕ
-  pub order : AreInKeyOrder (pairs_in words) pairs
+  pub leaf : IsSortedLeaf words pairs low high
   pub is_cut : IsCut pairs cut
   pub separator : sep ≡ separator_of pairs cut
   pub left_is : left ≡ left_words pairs low cut

@@ -16,7 +16,8 @@ ghost use Rattle.bz_task.specs.Requests.{Hears, Tells, IsKnown, swaps_in, effect
 ghost use Rattle.bz_task.specs.Scene.{Scene, Stage, Waiting, IsScene};
 ghost use Rattle.bz_layout.specs.declared.swaps.TheConstants.{RENEWAL_SWAPS};
 ghost use Rattle.bz_task.specs.declared.todo.Seen.TheVariants.{Read as Was, Swapped, NoSwap as NoneLeft};
-ghost use Rattle.bz_split.specs.Duties.{split_of, asks_of, end_of, left_of, swaps_of, made_of, needs_of, facts_of, differs_of};
+ghost use Rattle.bz_split.specs.Duties.{split_of, asks_of, basis_of, end_of, left_of, swaps_of, made_of, needs_of, facts_of, differs_of};
+ghost use Rattle.bz_split.specs.Parts.{ArePartsOf};
 ghost use Rattle.bz_split.specs.Facts.{IsEndOfSplit, HasBegun, HasLooked, nodes_in, split_acts, split_end, split_left, split_swaps, split_facts, split_means, split_change, IsReady, WasParted, next_store, next_flush};
 
 use crate::laws::root_leaf_splits_are_good;
@@ -68,6 +69,8 @@ impl SplitRoot {
         ensures made { ⟦<SplitRoot as Task>⟧.made result ≡ 0 }
         ensures needs { ⟦<SplitRoot as Task>⟧.needs result ≡ SPLIT_SLOTS }
         ensures change { ⟦<SplitRoot as Task>⟧.change result ≡ split_change }
+        ensures slot { (⟦<SplitRoot as Task>⟧.basis result).slot ≡ view.slot }
+        ensures halves { ArePartsOf view.image.0 result.halves.left.0 result.halves.right.0 result.halves.separator }
         ensures facts { (key : List ℕ) (s : Scene) → s.past.config ≡ config.now → IsScene s → IsPath key path s.past → IsView key view s.past → ⟦<SplitRoot as Task>⟧.facts result Waiting s }
         ensures done { (link : Link) (s : Scene) → slice_get path.links (path.depth - 1) ≡ Some link → ⟦<SplitRoot as Task>⟧.means result Outcome.Done s → WasParted link view s.past }
         ensures no_path { (other : Path) (s : Scene) → ⟦<SplitRoot as Task>⟧.means result (Outcome.Path other) s → ⊥ }
@@ -269,6 +272,8 @@ impl Task for SplitRoot {
     ghost needs = { needs_of };
 
     ghost change = { λ t. split_change };
+
+    ghost basis = { basis_of };
 
     ghost publishing = { λ t. false };
 

@@ -7,6 +7,7 @@ pub mod Requests
 pub mod Swaps
 pub mod OwnActs
 pub mod Outcomes
+pub mod Basis
 pub mod Laws
 pub mod LeafSwaps
 pub mod Others

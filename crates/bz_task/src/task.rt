@@ -6,6 +6,7 @@ ghost use Rattle.bz_layout.specs.Slots.{FreeSlots};
 ghost use Rattle.bz_layout.specs.declared.config.Config.{Config};
 ghost use Rattle.bz_layout.specs.declared.thresholds.TheConstants.{SPLIT_SLOTS};
 ghost use Rattle.bz_word.specs.declared.entry.Entry.{Entry};
+ghost use Rattle.bz_task.specs.Basis.{Basis};
 ghost use Rattle.bz_task.specs.Instant.{Instant};
 ghost use Rattle.bz_task.specs.OwnActs.{Stores, Flushes, AreTakenFrom, AreUnreached, gained};
 ghost use Rattle.bz_task.specs.Requests.{IsAskable, Hears, Tells, IsKnown, IsCause, swaps_in, effects_in};
@@ -47,6 +48,9 @@ pub trait Task: Drop {
     /// The change that its call makes, if it makes one.
     ghost change: { Self → Change };
 
+    /// What it was made of, where it freezes a node or makes one anew.
+    ghost basis: { Self → Basis };
+
     /// The swap that it asks for makes the change.
     ghost publishing: { Self → Bool };
 
@@ -81,6 +85,7 @@ pub trait Task: Drop {
         ensures counted { end self.new ≡ None → made self.new ≡ made self.old + effects_in seen }
         ensures config { config self.new ≡ config self.old }
         ensures change { change self.new ≡ change self.old }
+        ensures basis { basis self.new ≡ basis self.old }
         ensures meant { (outcome : Outcome) (s : Scene) → means self.new outcome s → means self.old outcome s }
         ensures slots { AreTakenFrom (needs self.old) (needs self.new) slots.old slots.new }
         // how it ends, and why

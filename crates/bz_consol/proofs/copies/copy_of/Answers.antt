@@ -37,6 +37,6 @@ returns-clause-made c =
       pairs = f.new.page;
       low = f.result.low;
       high = f.result.high;
-      order = f.ensures.order;
+      leaf = f.ensures;
       is = c.in-Some.ensures.words ∙ ap (λ z. leaf_words z f.result.low f.result.high) c.pairs.ensures.same;
     }

@@ -4,7 +4,7 @@ use Rattle.bz_rounds.proofs.laws.lone_root_leaf_splits_give_room.Goals as goal
 pub returns : goal.returns
 returns c =
     root-halves (record {
-      basis = record { formed = c.well_formed_images_have_no_fault.ensures; tiles = c.leaves_tile_the_keys.ensures; lead = c.paths_lead_to_leaves.ensures };
+      basis = record { formed = c.well_formed_images_have_no_fault.ensures; tiles = c.leaves_tile_the_keys.ensures; trees = c.trees_stand.ensures; lonely = c.lonely_times_are_quiet.ensures };
       leaves = c.leaf_rules_are_facts.ensures;
       inners = c.inner_rules_are_facts.ensures;
       plain = c.plain_words_stand_for_themselves.ensures;

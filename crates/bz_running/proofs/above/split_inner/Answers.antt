@@ -2,11 +2,12 @@ use Rattle.std.proofs.Common.{◌≡◌, ◌+◌, ◌-◌, arith, refl, sym, ap,
 use Rattle.std.specs.Prelude.{slice_get}
 use Rattle.bz_ascent.specs.declared.ascent.Ascent.{Ascent}
 use Rattle.bz_running.specs.Duties.{config_of, asks_of, swaps_of, made_of, wants_of, ascent_of, facts_of, means_of, makes_no_change}
+use Rattle.bz_running.specs.MadeFor.{IsMadeFor}
 use Rattle.bz_running.proofs.Ascending.{same-ascent}
 use Rattle.bz_running.proofs.above.split_inner.Goals as goal
 
 pub returns : goal.returns
-unfolding config_of asks_of swaps_of made_of wants_of ascent_of facts_of means_of makes_no_change
+unfolding config_of asks_of swaps_of made_of wants_of ascent_of facts_of means_of makes_no_change IsMadeFor
 returns c = record {
   config = c.new-task.ensures.config;
   asks = c.new-task.ensures.asks;
@@ -30,6 +31,14 @@ returns c = record {
       },
     ),
   );
+  made_for = λ view words p w. (
+      let down : c.args.ascent.place ≡ c.args.ascent.place - 1 + 1 = omega (arith, c.requires.below) in
+      record {
+        key_is = refl;
+        node = sym (c.new-task.ensures.node c.args.ascent.node (subst (λ z. slice_get c.args.ascent.path.links z ≡ Some c.args.ascent.node) down c.requires.node));
+        view = view;
+        leaf = w;
+      });
   ends = λ way. record {
     path = λ path s means. absurd (c.new-task.ensures.no_path path s means);
     view = λ view s means. absurd (c.new-task.ensures.no_view view s means);

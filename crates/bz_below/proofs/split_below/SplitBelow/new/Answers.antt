@@ -41,3 +41,6 @@ returns-clause-no_room c upper lower s is on means =
       parts = h.ensures;
       lacked = subst (λ (z : Link). LackedRoom upper z h.result.separator s.past) below (subst (λ (z : Link). LackedRoom z c.last_link-lower.result h.result.separator s.past) above means);
     }
+
+pub returns-clause-slot : goal.returns-clause-slot
+returns-clause-slot c = (c.requires.leads c.last_link-lower.result c.last_link-lower.ensures).0

@@ -14,3 +14,6 @@ returns-clause-done c link s is means =
   where
     one : (a b : Link) → Some a ≡ Some b → a ≡ b
     one a b e = cc
+
+pub returns-clause-slot : goal.returns-clause-slot
+returns-clause-slot c = (c.requires.leads c.last_link.result c.last_link.ensures).0

@@ -1,4 +1,4 @@
-use Rattle.std.proofs.Common.{◌≡◌, sym, subst, ◌∙◌, arith, Some}
+use Rattle.std.proofs.Common.{◌≡◌, sym, ap, subst, ◌∙◌, arith, Some}
 use Rattle.bz_task.specs.declared.path.Link.{Link}
 use Rattle.bz_crown.specs.Facts.{WasSplitAtRoot, WasTooHigh}
 use Rattle.bz_crown.proofs.Viewing.{has-links}
@@ -18,3 +18,6 @@ returns-clause-done c upper s is means = subst (λ (z : Link). WasSplitAtRoot z 
 
 pub returns-clause-too_high : goal.returns-clause-too_high
 returns-clause-too_high c upper s is means = subst (λ (z : Link). WasTooHigh z s.past) (one c.link_at.result upper (sym c.link_at.ensures ∙ is)) means
+
+pub returns-clause-node : goal.returns-clause-node
+returns-clause-node c upper is = ap (λ (z : Link). z.slot) (one c.link_at.result upper (sym c.link_at.ensures ∙ is))

@@ -1,4 +1,4 @@
-use Rattle.std.proofs.Common.{◌≡◌, sym, subst, ◌∙◌, arith, Some}
+use Rattle.std.proofs.Common.{◌≡◌, sym, ap, subst, ◌∙◌, arith, Some}
 use Rattle.bz_task.specs.declared.path.Link.{Link}
 use Rattle.bz_fork.specs.Facts.{WasSplitInner, LackedPart}
 use Rattle.bz_fork.proofs.Viewing.{has-links}
@@ -21,3 +21,6 @@ returns-clause-done c upper middle s is on means =
 pub returns-clause-no_room : goal.returns-clause-no_room
 returns-clause-no_room c upper middle s is on means =
     subst (λ (z : Link). LackedPart upper z s.past) (one c.link_at-middle.result middle (sym c.link_at-middle.ensures ∙ on)) (subst (λ (z : Link). LackedPart z c.link_at-middle.result s.past) (one c.link_at.result upper (sym c.link_at.ensures ∙ is)) means)
+
+pub returns-clause-node : goal.returns-clause-node
+returns-clause-node c middle is = ap (λ (z : Link). z.slot) (one c.link_at-middle.result middle (sym c.link_at-middle.ensures ∙ is))

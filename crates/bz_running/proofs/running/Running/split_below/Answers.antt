@@ -1,6 +1,7 @@
 use Rattle.std.proofs.Common.{sym, ap, ◌∙◌}
 use Rattle.bz_ascent.specs.declared.ascent.Ascent.{Ascent}
 use Rattle.bz_running.specs.Duties.{facts_of, means_of, ascent_of}
+use Rattle.bz_running.specs.MadeFor.{IsMadeFor}
 use Rattle.bz_running.proofs.Ascending.{same-ascent, lower-link, upper-link}
 use Rattle.bz_running.proofs.running.Running.split_below.Goals as goal
 
@@ -28,4 +29,16 @@ returns-clause-facts c s same good path view = (
       high = λ s means. absurd means;
     },
   ),
+)
+
+pub returns-clause-made_for : goal.returns-clause-made_for
+unfolding IsMadeFor
+returns-clause-made_for c words p is = (
+  record {
+    view = c.args.view;
+    leaf = record { is = is; frozen = c.requires.frozen; many = c.requires.many };
+    at = sym c.new-task.ensures.slot;
+    halves = c.new-task.ensures.halves.halves;
+  },
+  c.from_leaf.ensures.key_is,
 )

@@ -1,0 +1,142 @@
+-- What a task was made for it still is after what it is told, and while time goes on; and the split of the node above is made for the same.
+use Rattle.std.proofs.Common.{◌≡◌, ℕ, ◌+◌, ◌<◌, List, [], ◌∷◌, Some, arith, sym, ap, subst, ◌∙◌}
+use Rattle.bz_ascent.specs.declared.ascent.Ascent.{Ascent}
+use Rattle.bz_ascent.specs.FromBelow.Duties.{basis_below}
+use Rattle.bz_ascent.specs.FromBelow.SplitBelow.{SplitBelow}
+use Rattle.bz_consol.specs.Duties as consol
+use Rattle.bz_consol.specs.declared.consolidate.Consolidate.{Consolidate}
+use Rattle.bz_crown.specs.Duties.{basis_crown}
+use Rattle.bz_crown.specs.declared.split_inner_root.SplitInnerRoot.{SplitInnerRoot}
+use Rattle.bz_fork.specs.Duties.{basis_fork}
+use Rattle.bz_fork.specs.declared.split_inner.SplitInner.{SplitInner}
+use Rattle.bz_freeze.specs.Facts.{freeze_basis}
+use Rattle.bz_freeze.specs.declared.freeze.Freeze.{Freeze}
+use Rattle.bz_layout.specs.declared.config.Config.{Config}
+use Rattle.bz_layout.specs.declared.sizes.TheConstants.{SHARED_WORDS, STATUS_AT}
+use Rattle.bz_merge.specs.FromSplit.Duties as split
+use Rattle.bz_merge.specs.FromSplit.SplitRoot.{SplitRoot}
+use Rattle.bz_task.specs.Basis.{Basis}
+use Rattle.bz_task.specs.FromContent.Content.{leaf_in}
+use Rattle.bz_task.specs.Instant.{words as words_at, page_at}
+use Rattle.bz_task.specs.Laws.{ViewsStay}
+use Rattle.bz_task.specs.Outcomes.{IsView}
+use Rattle.bz_task.specs.Scene.{Past, Continues}
+use Rattle.bz_task.specs.declared.view.LeafView.{LeafView}
+use Rattle.bz_word.specs.Statuses.{status}
+use Rattle.bz_running.specs.Duties.{ascent_of}
+use Rattle.bz_running.specs.MadeFor.{WasLeafOf, LackedWords, WasCrowded, IsCopyFor, AreHalvesFor, HasComeTo, IsMadeFor}
+use Rattle.bz_running.specs.declared.running.Running.{Running}
+use Rattle.bz_running.specs.declared.running.Running.TheVariants.{Seeking, Finding, Reading, Inserting, Updating, Deleting, Freezing, Consolidating, Splitting, SplittingBelow, SplittingInner, SplittingInnerRoot, Merging}
+use Rattle.bz_running.proofs.Ascending.{same-ascent}
+
+abbrev pub Kept : Running → Running → Type 0
+Kept t u = (key : List ℕ) (words : ℕ) (p : Past) → IsMadeFor t key words p → IsMadeFor u key words p
+
+same-one : (a b : List ℕ) → a ∷ [] ≡ b ∷ [] → a ≡ b
+same-one a b e = cc
+
+same-three : (a b c x y z : List ℕ) → a ∷ b ∷ c ∷ [] ≡ x ∷ y ∷ z ∷ [] → (a ≡ x) × ((b ≡ y) × (c ≡ z))
+same-three a b c x y z e = (cc, (cc, cc))
+
+pub freeze-kept : (t u : Freeze) → freeze_basis u.slot ≡ freeze_basis t.slot → Kept (Freezing t) (Freezing u)
+unfolding IsMadeFor
+freeze-kept t u e key words p m = subst (λ (k : ℕ). LackedWords key words k p) (sym (ap (λ (b : Basis). b.slot) e)) m
+
+pub copy-kept : (t u : Consolidate) → consol.basis_of u ≡ consol.basis_of t → Kept (Consolidating t) (Consolidating u)
+unfolding IsMadeFor
+copy-kept t u e key words p m =
+    let image : u.image.0 ≡ t.image.0 = same-one u.image.0 t.image.0 (ap (λ (b : Basis). b.nodes) e) in
+    subst (λ (k : ℕ). IsCopyFor key k u.image.0 p) (sym (ap (λ (b : Basis). b.slot) e)) (subst (λ (w : List ℕ). IsCopyFor key t.link.slot w p) (sym image) m)
+
+halves-kept : (key : List ℕ) (p : Past) (k j : ℕ) (l r s x y z : List ℕ) → j ≡ k → x ∷ y ∷ z ∷ [] ≡ l ∷ r ∷ s ∷ [] → AreHalvesFor key k l r s p → AreHalvesFor key j x y z p
+halves-kept key p k j l r s x y z at e m =
+    let q = same-three x y z l r s e in
+    subst (λ (i : ℕ). AreHalvesFor key i x y z p) (sym at)
+    (subst (λ (w : List ℕ). AreHalvesFor key k w y z p) (sym q.0) (subst (λ (w : List ℕ). AreHalvesFor key k l w z p) (sym q.1.0) (subst (λ (w : List ℕ). AreHalvesFor key k l r w p) (sym q.1.1) m)))
+
+pub split-kept : (t u : SplitRoot) → split.basis_of u ≡ split.basis_of t → Kept (Splitting t) (Splitting u)
+unfolding IsMadeFor
+split-kept t u e key words p m =
+    halves-kept key p t.link.slot u.link.slot t.halves.left.0 t.halves.right.0 t.halves.separator u.halves.left.0 u.halves.right.0 u.halves.separator (ap (λ (b : Basis). b.slot) e) (ap (λ (b : Basis). b.nodes) e) m
+
+pub below-kept : (t u : SplitBelow) (a : Ascent) → basis_below u ≡ basis_below t → Kept (SplittingBelow t a) (SplittingBelow u a)
+unfolding IsMadeFor
+below-kept t u a e key words p m = (
+  halves-kept key p t.lower.slot u.lower.slot t.halves.left.0 t.halves.right.0 t.halves.separator u.halves.left.0 u.halves.right.0 u.halves.separator (ap (λ (b : Basis). b.slot) e) (ap (λ (b : Basis). b.nodes) e) m.0,
+  m.1,
+)
+
+pub fork-kept : (t u : SplitInner) (a : Ascent) → basis_fork u ≡ basis_fork t → Kept (SplittingInner t a) (SplittingInner u a)
+unfolding IsMadeFor
+fork-kept t u a e key words p m = subst (λ (k : ℕ). HasComeTo key k a p) (sym (ap (λ (b : Basis). b.slot) e)) m
+
+pub crown-kept : (t u : SplitInnerRoot) (a : Ascent) → basis_crown u ≡ basis_crown t → Kept (SplittingInnerRoot t a) (SplittingInnerRoot u a)
+unfolding IsMadeFor
+crown-kept t u a e key words p m = subst (λ (k : ℕ). HasComeTo key k a p) (sym (ap (λ (b : Basis). b.slot) e)) m
+
+-- the leaf that was viewed, and lacked the words and the metadata word of a record
+pub lacked-viewed : (key : List ℕ) (view : LeafView) (slot words : ℕ) (p : Past) → IsView key view p → slot ≡ view.slot → SHARED_WORDS < (status view.status).count + 1 + (status view.status).block + words → LackedWords key (words + 1) slot p
+lacked-viewed key view slot words p is e few =
+    let read : words_at p.config (p.at view.at) slot STATUS_AT ≡ view.status = ap (λ k. words_at p.config (p.at view.at) k STATUS_AT) e ∙ is.status in
+    let taken : (page_at p.config (p.at view.at) slot).count + (page_at p.config (p.at view.at) slot).block ≡ (status view.status).count + (status view.status).block = ap (λ z. (status z).count + (status z).block) read in
+    record {
+      within = omega (arith, is.slot, e);
+      was = record { moment = view.at; since = is.since; now = is.now; leaf = is.leaf ∙ sym e };
+      lacked = subst (λ z. SHARED_WORDS < z + (words + 1)) (sym taken) (omega (arith, few));
+    }
+
+-- while time goes on
+module _ (p q : Past) (n : Continues p q) where
+  abbrev leaf-stays : (key : List ℕ) (slot : ℕ) → WasLeafOf key slot p → WasLeafOf key slot q
+  leaf-stays key slot w = record {
+    moment = w.moment;
+    since = omega (arith, w.since, n.since);
+    now = omega (arith, w.now, n.now);
+    leaf = (λ t. leaf_in (n.config t) (n.at w.moment w.now t).image key) ∙ w.leaf;
+  }
+
+  lacked-stays : (key : List ℕ) (words slot : ℕ) → LackedWords key words slot p → LackedWords key words slot q
+  lacked-stays key words slot l =
+      let nodes : q.config.nodes ≡ p.config.nodes = ap (λ (c : Config). c.nodes) n.config in
+      let taken : (page_at q.config (q.at l.was.moment) slot).count + (page_at q.config (q.at l.was.moment) slot).block ≡ (page_at p.config (p.at l.was.moment) slot).count + (page_at p.config (p.at l.was.moment) slot).block =
+      λ t. (page_at (n.config t) (n.at l.was.moment l.was.now t) slot).count + (page_at (n.config t) (n.at l.was.moment l.was.now t) slot).block in
+      record { within = omega (arith, l.within, nodes); was = leaf-stays key slot l.was; lacked = subst (λ z. SHARED_WORDS < z + words) (sym taken) l.lacked }
+
+  module _ (views : ViewsStay) (key : List ℕ) where
+    crowded-stays : (view : LeafView) → WasCrowded key view p → WasCrowded key view q
+    crowded-stays view w = record { is = views key view p q w.is n; frozen = w.frozen; many = w.many }
+
+    halves-stay : (slot : ℕ) (left right sep : List ℕ) → AreHalvesFor key slot left right sep p → AreHalvesFor key slot left right sep q
+    halves-stay slot left right sep m = record { view = m.view; leaf = crowded-stays m.view m.leaf; at = m.at; halves = m.halves }
+
+    come-stays : (slot : ℕ) (a : Ascent) → HasComeTo key slot a p → HasComeTo key slot a q
+    come-stays slot a m = record { key_is = m.key_is; node = m.node; view = m.view; leaf = crowded-stays m.view m.leaf }
+
+pub made-stays : ViewsStay → (t : Running) (key : List ℕ) (words : ℕ) (p q : Past) → IsMadeFor t key words p → Continues p q → IsMadeFor t key words q
+unfolding IsMadeFor
+made-stays v (Seeking t) key words p q m n = absurd m
+made-stays v (Finding t) key words p q m n = absurd m
+made-stays v (Reading t) key words p q m n = absurd m
+made-stays v (Inserting t) key words p q m n = absurd m
+made-stays v (Updating t) key words p q m n = absurd m
+made-stays v (Deleting t) key words p q m n = absurd m
+made-stays v (Freezing t) key words p q m n = lacked-stays p q n key words t.slot m
+made-stays v (Consolidating t) key words p q m n = record { view = m.view; is = v key m.view p q m.is n; at = m.at; small = m.small }
+made-stays v (Splitting t) key words p q m n = halves-stay p q n v key t.link.slot t.halves.left.0 t.halves.right.0 t.halves.separator m
+made-stays v (SplittingBelow t a) key words p q m n = (halves-stay p q n v key t.lower.slot t.halves.left.0 t.halves.right.0 t.halves.separator m.0, m.1)
+made-stays v (SplittingInner t a) key words p q m n = come-stays p q n v key t.middle.slot a m
+made-stays v (SplittingInnerRoot t a) key words p q m n = come-stays p q n v key t.upper.slot a m
+made-stays v (Merging t) key words p q m n = absurd m
+
+-- at the foot of an ascent stands a leaf that has to be split
+pub record StandsOnCrowded (a : Ascent) (key : List ℕ) (p : Past) : Type 0 where
+  pub key_is : a.key ≡ key
+  pub view : LeafView
+  pub leaf : WasCrowded key view p
+
+pub stands-on-crowded : (t : Running) (a : Ascent) → ascent_of t ≡ Some a → (key : List ℕ) (words : ℕ) (p : Past) → IsMadeFor t key words p → StandsOnCrowded a key p
+unfolding ascent_of IsMadeFor
+stands-on-crowded (SplittingBelow t b) a e key words p m = subst (λ (z : Ascent). StandsOnCrowded z key p) (same-ascent b a e) (record { key_is = m.1; view = m.0.view; leaf = m.0.leaf })
+stands-on-crowded (SplittingInner t b) a e key words p m = subst (λ (z : Ascent). StandsOnCrowded z key p) (same-ascent b a e) (record { key_is = m.key_is; view = m.view; leaf = m.leaf })
+stands-on-crowded (SplittingInnerRoot t b) a e key words p m = subst (λ (z : Ascent). StandsOnCrowded z key p) (same-ascent b a e) (record { key_is = m.key_is; view = m.view; leaf = m.leaf })
+stands-on-crowded t a e key words p m = absurd (cc)
