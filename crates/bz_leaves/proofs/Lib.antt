@@ -1,0 +1,9 @@
+pub mod Consolidations
+pub mod Counts
+pub mod Examples
+pub mod Exchanges
+pub mod LeafWords
+pub mod Merges
+pub mod Sames
+pub mod Slots
+pub mod Splits

@@ -1,0 +1,96 @@
+-- The swap of a consolidation puts the copy in the place of the leaf.
+use Rattle.std.proofs.Common.{◌≡◌, ℕ, List, [], ◌∷◌, Some, sym, ap, subst, ◌∙◌, inl, inr}
+use Rattle.bz_consol.specs.Duties.{renewal_of}
+use Rattle.bz_consol.specs.Facts.{Renewal, IsCopying, consol_asks, consol_facts}
+use Rattle.bz_consol.specs.declared.phase.Phase.{Phase}
+use Rattle.bz_consol.specs.declared.phase.Phase.TheVariants.{Swap}
+use Rattle.bz_layout.specs.declared.config.Config.{Config}
+use Rattle.bz_layout.specs.declared.sizes.TheConstants.{NODE_WORDS, NODE_LINES}
+use Rattle.bz_leaves.specs.Laws.{ConsolidationsKeepTheLeaves}
+use Rattle.bz_renew.specs.FrozenLeaves.{StandsStill, FrozenLeavesStandStill}
+use Rattle.bz_renew.specs.LinkSwaps.{IsFresh}
+use Rattle.bz_renew.specs.Renewals.{renewal}
+use Rattle.bz_renew.specs.Turning.{TurnsAt, RootLinksTurn, ChildLinksTurn}
+use Rattle.bz_renew.proofs.FreshSlots.{outside-tree, raw-is, durable-is}
+use Rattle.bz_slotted.specs.ReadingLaws.{node_of}
+use Rattle.bz_slotted.specs.Readers.{found_of}
+use Rattle.bz_slotted.specs.Rules.{node_fault}
+use Rattle.bz_word.specs.declared.entry.Entry.{Entry}
+use Rattle.bz_content.specs.Content.{image_of}
+use Rattle.bz_content.specs.Image.{node}
+use Rattle.bz_content.specs.Laws.{WellFormedImagesHaveNoFault, PlainWordsStandForThemselves}
+use Rattle.bz_content.specs.Swaps.{Consolidates, TurnsLink}
+use Rattle.bz_task.specs.Instant.{Instant, durable, form_at}
+use Rattle.bz_task.specs.Laws.{SamePlace}
+use Rattle.bz_task.specs.Scene.{Scene, Waiting, IsScene, here}
+use Rattle.bz_task.specs.Swaps.{Stand, SwapsTo}
+use Rattle.bz_task.specs.declared.todo.Todo.TheVariants.{Swap as Swaps_for}
+use Rattle.bz_tally.proofs.Changes.{same-entries}
+use Rattle.bz_tally.proofs.Links.{tree-now}
+use Rattle.bz_tally.proofs.Stored.{one-held, one-fresh}
+use Rattle.bz_tally.specs.Laws.{CopiesKeepTheLeaves}
+
+-- the laws on which it rests
+pub record Laws : Type 0 where
+  pub formed : WellFormedImagesHaveNoFault
+  pub plain : PlainWordsStandForThemselves
+  pub root : RootLinksTurn
+  pub child : ChildLinksTurn
+  pub still : FrozenLeavesStandStill
+  pub count : ConsolidationsKeepTheLeaves
+
+module _ (b : Laws) (r : Renewal) (s : Scene) (y : Instant) (good : IsScene s) (f : IsCopying r NODE_WORDS NODE_LINES s) (swaps : SwapsTo s.past.config (renewal r.link r.slot) (here s) y) where
+  abbrev c : Config
+  c = s.past.config
+
+  abbrev old : ℕ
+  old = r.link.slot
+
+  fresh : IsFresh s r.slot
+  fresh = one-fresh r.slot r.image s f.viewed.size f.writing
+
+  consolidates : (p i : ℕ) (changed : List ℕ) → TurnsAt r.link r.slot (old ∷ []) s y p i changed → Consolidates c (image_of (here s).image) (image_of y.image) old r.slot
+  consolidates p i changed t = record {
+    inside = t.inside;
+    leaf = leaf.leaf t.inside;
+    fresh = outside-tree s r.slot good fresh;
+    whole = (λ j. node_fault c.nodes (raw_after j) (after j) 0 (place.low j) (place.high j)) ∙ f.viewed.alike.whole;
+    same = λ key. ap (λ n. found_of n key) after ∙ (f.viewed.alike.found key ∙ sym (leaf.says t.inside key));
+    link = turns;
+  }
+    where
+      leaf : StandsStill old f.viewed.moment s
+      leaf = b.still s old f.viewed.moment good f.viewed.leaf
+
+      place : SamePlace c (s.past.at f.viewed.moment) (here s) old
+      place = leaf.place t.inside
+
+      raw_after : node c y.image r.slot ≡ node_of r.image
+      raw_after = raw-is b.plain r.link r.slot (old ∷ []) s y p i changed r.slot good fresh t swaps ∙ one-held r.slot r.image s f.viewed.size f.writing
+
+      after : durable c y r.slot ≡ node_of r.image
+      after = durable-is b.plain r.link r.slot (old ∷ []) s y p i changed r.slot good fresh t swaps ∙ one-held r.slot r.image s f.viewed.size f.writing
+
+      turns : TurnsLink c (image_of (here s).image) (image_of y.image) ((form_at c (here s)).up old) ((form_at c (here s)).index old) r.slot (old ∷ [])
+      turns =
+          subst (λ j. TurnsLink c (image_of (here s).image) (image_of y.image) j ((form_at c (here s)).index old) r.slot (old ∷ [])) (sym t.up)
+          (subst (λ j. TurnsLink c (image_of (here s).image) (image_of y.image) p j r.slot (old ∷ [])) (sym t.index) t.turns)
+
+  -- where the link stands
+  pub copied : Stand (renewal r.link r.slot) (here s) → Consolidates c (image_of (here s).image) (image_of y.image) r.link.slot r.slot
+  copied stand = elim f.viewed.guard.under [
+    | inl root ↦ consolidates c.nodes 0 [] (b.root s y r.link r.slot (old ∷ []) good root fresh.slot stand swaps)
+    | inr node ↦ consolidates node.parent node.child.child (node.parent ∷ []) (b.child s y r.link r.slot (old ∷ []) good f.viewed.guard f.viewed.thawed node fresh.slot stand swaps)
+  ]
+
+-- a consolidation that asks for a swap has its copy ready
+swapping : (c : Config) (r : Renewal) (phase : Phase) (s : Scene) (entries : List Entry) → consol_facts r phase Waiting s → consol_asks c r phase ≡ Some (Swaps_for entries) → IsCopying r NODE_WORDS NODE_LINES s × (renewal r.link r.slot ≡ entries)
+swapping c r Swap s entries f e = (f.1, same-entries (renewal r.link r.slot) entries e)
+swapping c r phase s entries f e = absurd (cc)
+
+pub copies : Laws → CopiesKeepTheLeaves
+copies b t entries s y w =
+    let r : Renewal = renewal_of t in
+    let f = swapping t.config r t.phase s entries w.knows w.asks in
+    b.count s.past.config (image_of (here s).image) (image_of y.image) t.link.slot t.slot (tree-now b.formed s w.good)
+    (copied b r s y w.good f.0 (subst (λ z. SwapsTo s.past.config z (here s) y) (sym f.1) w.leads) (subst (λ z. Stand z (here s)) (sym f.1) w.stand))

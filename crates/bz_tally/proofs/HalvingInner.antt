@@ -1,0 +1,204 @@
+-- The swap of the split of an inner node below a parent puts its halves in its place.
+use Rattle.std.proofs.Common.{◌≡◌, ◌≢◌, ℕ, ◌+◌, ◌<◌, List, [], ◌∷◌, Some, arith, refl, sym, ap, subst, ◌∙◌, inl, inr}
+use Rattle.std.specs.Prelude.{All}
+use Rattle.bz_branch.specs.FromSplit.BelowSplits.{AreLinksDown, parent_freezing}
+use Rattle.bz_branch.specs.FromSplit.Facts.{SPLIT_WORDS, SPLIT_LINES}
+use Rattle.bz_branch.specs.InnerSplits.{both_freezings, inner_swap}
+use Rattle.bz_branch.specs.Nodes.{IsOpenLink}
+use Rattle.bz_branch.proofs.Standing.{node-below}
+use Rattle.bz_fork.specs.Duties.{fork_of}
+use Rattle.bz_fork.specs.Facts.{Fork, IsSplitting, fork_asks, fork_facts, parent_words}
+use Rattle.bz_fork.specs.declared.phase.Phase.{Phase}
+use Rattle.bz_fork.specs.declared.phase.Phase.TheVariants.{Swap}
+use Rattle.bz_halves.specs.Parents.{HasRoomToPart, IsPartedParent, ParentsOfHalvesAreWhole}
+use Rattle.bz_layout.specs.Addresses.{node_address}
+use Rattle.bz_layout.specs.declared.config.Config.{Config}
+use Rattle.bz_layout.specs.declared.sizes.TheConstants.{STATUS_AT}
+use Rattle.bz_layout.specs.declared.thresholds.TheConstants.{SPLIT_SLOTS}
+use Rattle.bz_leaves.specs.Laws.{LeafSplitsAddOne}
+use Rattle.bz_node.specs.Reading.{children_in}
+use Rattle.bz_renew.specs.Freezings.{freezing_entry, renewal_with}
+use Rattle.bz_renew.specs.Renewals.{renewal, link_entry, guard_entry}
+use Rattle.bz_renew.specs.Standing.{StillLeads}
+use Rattle.bz_renew.specs.Turning.{TurnsWith, AreGoing, RootLinksTurnWith, ChildLinksTurnWith}
+use Rattle.bz_renew.proofs.Freezings.{renewal-holds}
+use Rattle.bz_renew.proofs.Inserting.{all-inserted-first, all-inserted-others}
+use Rattle.bz_renew.proofs.TwoEntries.{both-stand}
+use Rattle.bz_shape.specs.Slots.{Wider, Halves}
+use Rattle.bz_slotted.specs.ReadingLaws.{node_of}
+use Rattle.bz_slotted.specs.Rules.{node_fault}
+use Rattle.bz_word.specs.declared.entry.Entry.{Entry}
+use Rattle.bz_content.specs.Content.{image_of}
+use Rattle.bz_content.specs.Laws.{WellFormedImagesHaveNoFault, PlainWordsStandForThemselves}
+use Rattle.bz_content.specs.Restructures.{children_of, Splits}
+use Rattle.bz_task.specs.Instant.{Instant, words, durable, form_at}
+use Rattle.bz_task.specs.Laws.{SamePlace}
+use Rattle.bz_task.specs.Outcomes.{IsUnderNode}
+use Rattle.bz_task.specs.Scene.{Scene, Waiting, IsScene, here}
+use Rattle.bz_task.specs.Swaps.{Stand, SwapsTo}
+use Rattle.bz_task.specs.declared.todo.Todo.TheVariants.{Swap as Swaps_for}
+use Rattle.bz_tally.proofs.Changes.{same-entries}
+use Rattle.bz_tally.proofs.Links.{Links, in-parent, node-freezable, node-leads, node-place, node-words, out-one, out-two, tree-now}
+use Rattle.bz_tally.proofs.Splitting.{Holds, IsReady, splits}
+use Rattle.bz_tally.proofs.Stored.{node-held, node-fresh, are-three}
+use Rattle.bz_tally.specs.Laws.{InnerSplitsKeepTheLeaves}
+
+-- the laws on which it rests
+pub record Laws : Type 0 where
+  pub links : Links
+  pub formed : WellFormedImagesHaveNoFault
+  pub plain : PlainWordsStandForThemselves
+  pub root : RootLinksTurnWith
+  pub child : ChildLinksTurnWith
+  pub wholes : ParentsOfHalvesAreWhole
+  pub count : LeafSplitsAddOne
+
+module _ (b : Laws) (r : Fork) (s : Scene) (y : Instant) (good : IsScene s) (f : IsSplitting r SPLIT_WORDS SPLIT_LINES s) (stand : Stand (inner_swap s.past.config r.upper r.middle r.lower (r.slot 0)) (here s)) where
+  abbrev c : Config
+  c = s.past.config
+
+  abbrev p : ℕ
+  p = r.upper.slot
+
+  abbrev a : ℕ
+  a = r.middle.slot
+
+  abbrev d : AreLinksDown r.upper r.middle s.past
+  d = f.planned.links.down
+
+  abbrev above : IsOpenLink r.upper.slot r.middle s.past
+  above = in-parent s r.upper r.middle f.planned.links.down
+
+  abbrev inside : IsOpenLink r.middle.slot r.lower s.past
+  inside = f.planned.links.node
+
+  abbrev stands : Entry → Type 0
+  stands e = (here s).value e.target ≡ e.expected
+
+  -- the statuses of the node and of the parent are as they were read, and so is the guard of the upper link
+  rest : All stands (renewal_with c r.upper (r.slot 0) (parent_freezing r.upper r.middle ∷ []))
+  rest = all-inserted-others stands (freezing_entry c (parent_freezing r.middle r.lower)) (renewal_with c r.upper (r.slot 0) (parent_freezing r.upper r.middle ∷ [])) stand
+
+  node-status : (here s).value (node_address c a + STATUS_AT) ≡ r.lower.status
+  node-status = all-inserted-first stands (freezing_entry c (parent_freezing r.middle r.lower)) (renewal_with c r.upper (r.slot 0) (parent_freezing r.upper r.middle ∷ [])) stand
+
+  parent-status : (here s).value (node_address c p + STATUS_AT) ≡ r.middle.status
+  parent-status = all-inserted-first stands (freezing_entry c (parent_freezing r.upper r.middle)) (renewal r.upper (r.slot 0)) rest
+
+  upper-now : (here s).value r.upper.guard ≡ r.upper.status
+  upper-now = (both-stand (link_entry r.upper (r.slot 0)) (guard_entry r.upper) (here s) (renewal-holds c r.upper (r.slot 0) stands (both_freezings r.upper r.middle r.lower) stand)).1
+
+  leads : StillLeads r.middle s d.guard.guarded p d.under.child.child
+  leads = node-leads b.links s p r.middle good above parent-status
+
+  -- the parent, and the node, as they were read
+  parent-place : SamePlace c (s.past.at f.planned.links.guarded) (here s) p
+  parent-place = subst (λ m. SamePlace c (s.past.at m) (here s) p) f.planned.links.is_guarded (node-place b.links s p r.middle good above parent-status)
+
+  parent-now : durable c (here s) p ≡ node_of r.above
+  parent-now = node-words b.links s p r.middle good above parent-status ∙ (ap (λ m. words c (s.past.at m) p) f.planned.links.is_guarded ∙ f.planned.parent.were)
+
+  own-place : SamePlace c (s.past.at f.planned.links.counted) (here s) a
+  own-place = subst (λ m. SamePlace c (s.past.at m) (here s) a) f.planned.links.is_counted (node-place b.links s a r.lower good inside node-status)
+
+  own-now : durable c (here s) a ≡ node_of r.read
+  own-now = node-words b.links s a r.lower good inside node-status ∙ (ap (λ m. words c (s.past.at m) a) f.planned.links.is_counted ∙ f.planned.node.were)
+
+  level : (form_at c (here s)).level a ≡ f.planned.node.level
+  level = own-place.level ∙ f.planned.node.level_is
+
+  pub high : 0 < (form_at c (here s)).level r.middle.slot
+  high = omega (arith, level, f.planned.node.node.inner)
+
+  room : HasRoomToPart c.nodes (children_in r.above) f.planned.parent.level (r.slot 1) (r.slot 2) f.planned.sep
+  room = record {
+    few = f.planned.parent.parent.few;
+    slots = f.planned.parent.parent.partable.slots;
+    left_slot = f.writing.slots.within 1 (omega arith);
+    right_slot = f.writing.slots.within 2 (omega arith);
+    inner = f.planned.parent.parent.inner;
+    few_levels = f.planned.parent.parent.lowest;
+    room = f.planned.room;
+  }
+
+  made : IsPartedParent c.nodes (node_of r.above) (children_in r.above) f.planned.parent.low f.planned.parent.high f.planned.parent.level f.planned.links.child (r.slot 1) (r.slot 2) f.planned.sep
+  made = b.wholes c.nodes (node_of r.above) (children_in r.above) f.planned.parent.low f.planned.parent.high f.planned.parent.level f.planned.links.child (r.slot 1) (r.slot 2) f.planned.sep f.planned.parent.parent.partable.may room f.planned.parent.parent.partable.has
+
+  wider : Wider (children_of (durable c (here s) p)) (children_of (node_of (r.image 0))) d.under.child.child (r.slot 1) (r.slot 2) f.planned.sep
+  wider = subst (λ n. Wider (children_of n) (children_of (node_of (r.image 0))) d.under.child.child (r.slot 1) (r.slot 2) f.planned.sep) (sym parent-now)
+      (subst (λ w. Wider (children_of (node_of r.above)) (children_of (node_of w)) d.under.child.child (r.slot 1) (r.slot 2) f.planned.sep) (sym f.over)
+      (subst (λ i. Wider (children_of (node_of r.above)) (children_of (node_of (parent_words r f.planned.sep f.planned.links.child f.planned.parent.level f.planned.parent.low f.planned.parent.high))) i (r.slot 1) (r.slot 2) f.planned.sep)
+      (sym f.planned.links.is_child) made.wider))
+
+  halves : Halves (children_of (durable c (here s) a)) (children_of (node_of (r.image 1))) (children_of (node_of (r.image 2))) f.halves.cut f.planned.sep
+  halves = subst (λ n. Halves (children_of n) (children_of (node_of (r.image 1))) (children_of (node_of (r.image 2))) f.halves.cut f.planned.sep) (sym own-now) f.halves.halves
+
+  stored : (n : ℕ) → n < SPLIT_SLOTS → Holds s (r.slot n) (node_of (r.image n))
+  stored n h = record { fresh = node-fresh r.slot r.image s f.plain f.writing n h; has = node-held r.slot r.image s f.plain f.writing n h }
+
+  ready : IsReady s p a d.under.child.child (r.slot 0) (r.slot 1) (r.slot 2) f.halves.cut f.planned.sep (node_of (r.image 0)) (node_of (r.image 1)) (node_of (r.image 2))
+  ready = record {
+    stands = leads.stands;
+    parent = node-below s p r.middle good above;
+    node = node-below s a r.lower good inside;
+    three = are-three r.slot r.image s f.plain f.writing;
+    above = stored 0 (omega arith);
+    left = stored 1 (omega arith);
+    right = stored 2 (omega arith);
+    whole = (λ e. node_fault c.nodes (node_of (f.over e)) (node_of (f.over e)) ((parent-place.level ∙ f.planned.parent.level_is) e) ((parent-place.low ∙ f.planned.parent.low_is) e) ((parent-place.high ∙ f.planned.parent.high_is) e)) ∙ made.inner.none;
+    left_whole = (λ e. node_fault c.nodes (node_of (r.image 1)) (node_of (r.image 1)) (level e) ((own-place.low ∙ f.planned.node.low_is) e) (Some f.planned.sep)) ∙ f.halves.left_whole;
+    right_whole = (λ e. node_fault c.nodes (node_of (r.image 2)) (node_of (r.image 2)) (level e) (Some f.planned.sep) ((own-place.high ∙ f.planned.node.high_is) e)) ∙ f.halves.right_whole;
+    wider = wider;
+    halves = λ deep. halves;
+    before = λ flat key e. absurd (omega (arith, flat, high));
+    from = λ flat key e. absurd (omega (arith, flat, high));
+  }
+
+  apart : p ≢ a
+  apart e = absurd (omega (arith, ap (form_at c (here s)).level e, leads.stands.level))
+
+  going : AreGoing (both_freezings r.upper r.middle r.lower) (a ∷ p ∷ []) s
+  going = record {
+    freezable = (node-freezable b.links s a r.lower good inside node-status, (out-one p a apart, (node-freezable b.links s p r.middle good above parent-status, (refl, tt))));
+    go = λ k e. e;
+  }
+
+  -- a node is none of those above it
+  module _ (under : IsUnderNode s.past r.upper d.upper_guard.guarded) where
+    over : StillLeads r.upper s d.upper_guard.guarded under.parent under.child.child
+    over = b.links.stand s r.upper good d.upper_guard d.upper_thawed under upper-now
+
+    not-parent : p ≢ under.parent
+    not-parent e = absurd (omega (arith, ap (form_at c (here s)).level e, over.stands.level))
+
+    not-node : a ≢ under.parent
+    not-node e = absurd (omega (arith, ap (form_at c (here s)).level e, over.stands.level, leads.stands.level))
+
+  module _ (swaps : SwapsTo c (inner_swap c r.upper r.middle r.lower (r.slot 0)) (here s) y) where
+    halved-at : (top j : ℕ) (changed : List ℕ) → TurnsWith r.upper (r.slot 0) (both_freezings r.upper r.middle r.lower) (a ∷ p ∷ []) s y top j changed
+        → Splits c (image_of (here s).image) (image_of y.image) a (r.slot 0) (r.slot 1) (r.slot 2) f.halves.cut f.planned.sep
+    halved-at top j changed t =
+        splits b.plain s y good r.upper (both_freezings r.upper r.middle r.lower) (r.slot 0) (a ∷ p ∷ []) top j changed t swaps a d.under.child.child (r.slot 1) (r.slot 2) f.halves.cut f.planned.sep (node_of (r.image 0)) (node_of (r.image 1)) (node_of (r.image 2)) ready refl
+
+    -- where the upper link stands
+    pub halved : Splits c (image_of (here s).image) (image_of y.image) r.middle.slot (r.slot 0) (r.slot 1) (r.slot 2) f.halves.cut f.planned.sep
+    halved = elim d.upper_guard.under [
+      | inl root ↦ halved-at c.nodes 0 (a ∷ p ∷ []) (b.root s y r.upper (r.slot 0) (both_freezings r.upper r.middle r.lower) (a ∷ p ∷ []) good root (f.writing.slots.within 0 (omega arith)) going stand swaps)
+      | inr node ↦ halved-at node.parent node.child.child (node.parent ∷ a ∷ p ∷ [])
+          (b.child s y r.upper (r.slot 0) (both_freezings r.upper r.middle r.lower) (a ∷ p ∷ []) good d.upper_guard d.upper_thawed node (out-two a p node.parent (not-node node) (not-parent node)) (f.writing.slots.within 0 (omega arith)) going stand swaps)
+    ]
+
+-- a split that asks for a swap has its nodes ready
+swapping : (c : Config) (r : Fork) (phase : Phase) (s : Scene) (entries : List Entry) → fork_facts r phase Waiting s → fork_asks c r phase ≡ Some (Swaps_for entries)
+    → IsSplitting r SPLIT_WORDS SPLIT_LINES s × (inner_swap c r.upper r.middle r.lower (r.slot 0) ≡ entries)
+swapping c r Swap s entries f e = (f.1, same-entries (inner_swap c r.upper r.middle r.lower (r.slot 0)) entries e)
+swapping c r phase s entries f e = absurd (cc)
+
+pub halves-inner : Laws → InnerSplitsKeepTheLeaves
+halves-inner b t entries s y l =
+    let r : Fork = fork_of t in
+    let f = swapping t.config r t.phase s entries l.knows l.asks in
+    let is : inner_swap s.past.config r.upper r.middle r.lower (r.slot 0) ≡ entries = ap (λ (z : Config). inner_swap z r.upper r.middle r.lower (r.slot 0)) l.config ∙ f.1 in
+    let stand : Stand (inner_swap s.past.config r.upper r.middle r.lower (r.slot 0)) (here s) = subst (λ z. Stand z (here s)) (sym is) l.stand in
+    let d = halved b r s y l.good f.0 stand (subst (λ z. SwapsTo s.past.config z (here s) y) (sym is) l.leads) in
+    (b.count s.past.config (image_of (here s).image) (image_of y.image) t.middle.slot (r.slot 0) (r.slot 1) (r.slot 2) f.0.halves.cut f.0.planned.sep (tree-now b.formed s l.good) d).inner (high b r s y l.good f.0 stand)

@@ -1,0 +1,15 @@
+pub mod Changes
+pub mod Copies
+pub mod Frozen
+pub mod HalvingBelow
+pub mod HalvingInner
+pub mod LeafWords
+pub mod Links
+pub mod Merges
+pub mod Merging
+pub mod Pairs
+pub mod PartingRoot
+pub mod RootHalving
+pub mod Splitting
+pub mod Stored
+pub mod Tasks

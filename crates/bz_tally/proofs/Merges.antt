@@ -1,0 +1,82 @@
+-- Of the swaps of a merge the two freezes name words of one leaf, and that of the link leaves one leaf less.
+use Rattle.std.proofs.Common.{◌≡◌, List, [], ◌∷◌, Some, refl, sym, ap, subst, ◌∙◌}
+use Rattle.bz_freeze.specs.Facts.{entry_of}
+use Rattle.bz_layout.specs.declared.config.Config.{Config}
+use Rattle.bz_layout.specs.declared.sizes.TheConstants.{STATUS_AT}
+use Rattle.bz_leaves.specs.Laws.{MergesTakeOne}
+use Rattle.bz_merge.specs.Duties.{merging_of}
+use Rattle.bz_merge.specs.Facts.{MERGE_WORDS, MERGE_LINES, IsMerging, merge_asks, merge_facts}
+use Rattle.bz_merge.specs.Plans.{beside_leaf, sep_of, viewed_leaf, first_of, second_of, Merging}
+use Rattle.bz_merge.specs.declared.merge.Merge.{Merge}
+use Rattle.bz_merge.specs.declared.phase.Phase.{Phase}
+use Rattle.bz_merge.specs.declared.phase.Phase.TheVariants.{Freeze, FreezeBeside, Swap}
+use Rattle.bz_split.specs.BelowSplits.{below_swap}
+use Rattle.bz_word.specs.declared.entry.Entry.{Entry}
+use Rattle.std.specs.Prelude.{slice_index}
+use Rattle.bz_content.specs.Content.{image_of}
+use Rattle.bz_task.specs.Instant.{Instant}
+use Rattle.bz_task.specs.Scene.{Scene, Waiting, IsScene, here}
+use Rattle.bz_task.specs.Swaps.{Stand, SwapsTo}
+use Rattle.bz_task.specs.declared.todo.Todo.TheVariants.{Swap as Swaps_for}
+use Rattle.bz_tally.proofs.Changes.{by-status, same-entries}
+use Rattle.bz_tally.proofs.LeafWords.{Laws as Words}
+use Rattle.bz_tally.proofs.Links.{tree-now}
+use Rattle.bz_tally.proofs.Merging.{Laws as Turning, are-apart, first-leaf, merges, second-leaf}
+use Rattle.bz_tally.proofs.Pairs.{apart-of, other-once, own-once, room-of, to-other, to-own}
+use Rattle.bz_tally.specs.Counts.{IsLeafNow, KeepsTheLeaves, MergesLeaves}
+use Rattle.bz_tally.specs.Laws.{MergeCounts, MergesCount}
+use Rattle.bz_merge.specs.Siblings.{SeenLeaf}
+
+-- the laws on which it rests
+pub record Laws : Type 0 where
+  pub words : Words
+  pub turning : Turning
+  pub count : MergesTakeOne
+
+-- what the swap of a phase leads to
+abbrev Counts : Merging → Phase → Scene → Instant → Type 0
+Counts r Swap s y = MergesLeaves r.lower.slot r.beside_slot r.leaf r.beside s y
+Counts r phase s y = KeepsTheLeaves s y
+
+module _ (b : Laws) (r : Merging) (s : Scene) (y : Instant) (good : IsScene s) (f : IsMerging r MERGE_WORDS MERGE_LINES s) (stand : Stand (below_swap s.past.config r.upper r.lower (r.slot 0)) (here s))
+    (swaps : SwapsTo s.past.config (below_swap s.past.config r.upper r.lower (r.slot 0)) (here s) y) where
+  abbrev own : SeenLeaf
+  own = viewed_leaf r
+
+  abbrev other : SeenLeaf
+  other = beside_leaf r
+
+  abbrev IsLeafHere : SeenLeaf → Type 0
+  IsLeafHere l = IsLeafNow s l.slot
+
+  merged : MergesLeaves r.lower.slot r.beside_slot r.leaf r.beside s y
+  merged = record {
+    less = b.count s.past.config (image_of (here s).image) (image_of y.image) (first_of r.right own other).slot (second_of r.right own other).slot (r.slot 0) (r.slot 1) (sep_of r.read r.place)
+        (tree-now b.turning.formed s good) (merges b.turning r s good f stand y swaps);
+    two = apart-of r.right own other (are-apart b.turning r s good f stand);
+    leaf = to-own IsLeafHere r.right own other (first-leaf b.turning r s good f stand) (second-leaf b.turning r s good f stand);
+    beside = to-other IsLeafHere r.right own other (first-leaf b.turning r s good f stand) (second-leaf b.turning r s good f stand);
+    frozen = f.frozen.own;
+    beside_frozen = f.frozen.other;
+    room = room-of r.right own other f.frozen.planned.room;
+  }
+
+merge-counts : Laws → (c : Config) (r : Merging) (phase : Phase) (s : Scene) (y : Instant) (entries : List Entry) → s.past.config ≡ c → merge_facts r phase Waiting s → IsScene s → merge_asks c r phase ≡ Some (Swaps_for entries)
+    → Stand entries (here s) → SwapsTo s.past.config entries (here s) y → Counts r phase s y
+merge-counts b c r Freeze s y entries same f good e stand swaps =
+    by-status b.words s y entries good swaps (entry_of s.past.config r.lower.slot r.status) r.lower.slot (own-once r s.past f.1.0) (ap (λ (z : Config). entry_of z r.lower.slot r.status ∷ []) same ∙ same-entries _ entries e) refl
+merge-counts b c r FreezeBeside s y entries same f good e stand swaps =
+    by-status b.words s y entries good swaps (entry_of s.past.config r.beside_slot (slice_index r.beside STATUS_AT)) r.beside_slot (other-once r s.past f.1.0)
+    (ap (λ (z : Config). entry_of z r.beside_slot (slice_index r.beside STATUS_AT) ∷ []) same ∙ same-entries _ entries e) refl
+merge-counts b c r Swap s y entries same f good e stand swaps =
+    let is : below_swap s.past.config r.upper r.lower (r.slot 0) ≡ entries = ap (λ (z : Config). below_swap z r.upper r.lower (r.slot 0)) same ∙ same-entries (below_swap c r.upper r.lower (r.slot 0)) entries e in
+    merged b r s y good f.1 (subst (λ z. Stand z (here s)) (sym is) stand) (subst (λ z. SwapsTo s.past.config z (here s) y) (sym is) swaps)
+merge-counts b c r phase s y entries same f good e stand swaps = absurd (cc)
+
+-- of a task and of what it knows the same is said
+told : (t : Merge) (phase : Phase) (s : Scene) (y : Instant) → Counts (merging_of t) phase s y → MergeCounts t phase s y
+told t Swap s y h = h
+told t phase s y h = h
+
+pub merges-count : Laws → MergesCount
+merges-count b t entries s y l = told t t.phase s y (merge-counts b t.config (merging_of t) t.phase s y entries l.config l.knows l.good l.asks l.stand l.leads)

@@ -1,0 +1,164 @@
+-- The swap of a root leaf's split puts a new root over its halves.
+use Rattle.std.proofs.Common.{◌≡◌, ℕ, ◌+◌, ◌-◌, ◌<◌, List, [], ◌∷◌, Some, arith, sym, ap, subst, ◌∙◌}
+use Rattle.std.specs.Prelude.{None}
+use Rattle.bz_halves.specs.Laws.{IsRootOver, RootsStandOverTwo}
+use Rattle.bz_layout.specs.declared.config.Config.{Config}
+use Rattle.bz_layout.specs.declared.sizes.TheConstants.{ROOT_AT}
+use Rattle.bz_layout.specs.declared.thresholds.TheConstants.{SPLIT_SLOTS}
+use Rattle.bz_leaves.specs.Laws.{RootLeafSplitsAddOne}
+use Rattle.bz_renew.specs.FrozenLeaves.{StandsStill, FrozenLeavesStandStill}
+use Rattle.bz_renew.specs.LinkSwaps.{IsFresh}
+use Rattle.bz_renew.specs.Renewals.{renewal, link_entry, guard_entry}
+use Rattle.bz_renew.specs.Turning.{TurnsAt, RootLinksTurn}
+use Rattle.bz_renew.proofs.FreshSlots.{outside-tree, raw-is, durable-is}
+use Rattle.bz_renew.proofs.TwoEntries.{both-stand}
+use Rattle.bz_shape.proofs.TreeForms.{fits}
+use Rattle.bz_shape.specs.Slots.{AreTwo}
+use Rattle.bz_slotted.specs.Laws.{LeafRulesAreFacts, InnerRulesAreFacts}
+use Rattle.bz_slotted.specs.ReadingLaws.{node_of}
+use Rattle.bz_slotted.specs.Readers.{level_of, found_of}
+use Rattle.bz_slotted.specs.Rules.{node_fault}
+use Rattle.bz_split.specs.Duties.{split_of}
+use Rattle.bz_split.specs.Facts.{Split, SPLIT_WORDS, SPLIT_LINES, IsSplitting, split_asks, split_facts}
+use Rattle.bz_split.specs.declared.phase.Phase.{Phase}
+use Rattle.bz_split.specs.declared.phase.Phase.TheVariants.{Swap}
+use Rattle.bz_word.specs.declared.entry.Entry.{Entry}
+use Rattle.bz_content.proofs.Reached.{level-at}
+use Rattle.bz_content.specs.Content.{image_of, view_in}
+use Rattle.bz_content.specs.Image.{Image, node, root}
+use Rattle.bz_content.specs.Laws.{WellFormedImagesHaveNoFault, PlainWordsStandForThemselves}
+use Rattle.bz_content.specs.Resolving.{resolve}
+use Rattle.bz_content.specs.Restructures.{children_of, SaysInHalves, SplitsRoot}
+use Rattle.bz_content.specs.Swaps.{TurnsLink}
+use Rattle.bz_task.specs.Good.{IsGood}
+use Rattle.bz_task.specs.Instant.{Instant, durable, form_at}
+use Rattle.bz_task.specs.Laws.{SamePlace, HasRoot, RootsAreReached}
+use Rattle.bz_task.specs.Scene.{Scene, Waiting, IsScene, here}
+use Rattle.bz_task.specs.Swaps.{Stand, SwapsTo}
+use Rattle.bz_task.specs.declared.todo.Todo.TheVariants.{Swap as Swaps_for}
+use Rattle.bz_tally.proofs.Changes.{same-entries}
+use Rattle.bz_tally.proofs.Links.{leaf-now, tree-now}
+use Rattle.bz_tally.proofs.Stored.{node-held, node-fresh, are-three}
+use Rattle.bz_tally.specs.Counts.{IsLeafNow}
+use Rattle.bz_tally.specs.Laws.{RootLeafSplitsCount}
+
+-- the laws on which it rests
+pub record Laws : Type 0 where
+  pub formed : WellFormedImagesHaveNoFault
+  pub leaves : LeafRulesAreFacts
+  pub inners : InnerRulesAreFacts
+  pub plain : PlainWordsStandForThemselves
+  pub turn : RootLinksTurn
+  pub roots : RootsAreReached
+  pub still : FrozenLeavesStandStill
+  pub over : RootsStandOverTwo
+  pub count : RootLeafSplitsAddOne
+
+module _ (b : Laws) (r : Split) (s : Scene) (y : Instant) (good : IsScene s) (f : IsSplitting r SPLIT_WORDS SPLIT_LINES s) (stand : Stand (renewal r.link (r.slot 0)) (here s)) (swaps : SwapsTo s.past.config (renewal r.link (r.slot 0)) (here s) y) where
+  abbrev c : Config
+  c = s.past.config
+
+  abbrev a : ℕ
+  a = r.link.slot
+
+  abbrev x : Image
+  x = image_of (here s).image
+
+  abbrev z : Image
+  z = image_of y.image
+
+  g : IsGood c (here s)
+  g = good.history.good s.past.now good.begun (omega arith)
+
+  t : TurnsAt r.link (r.slot 0) (a ∷ []) s y c.nodes 0 []
+  t = b.turn s y r.link (r.slot 0) (a ∷ []) good f.parted.under (f.writing.slots.within 0 (omega arith)) stand swaps
+
+  -- the leaf is the root
+  led : (here s).value ROOT_AT ≡ a + 1
+  led = ap (here s).value (sym f.parted.under.pointer) ∙ (both-stand (link_entry r.link (r.slot 0)) (guard_entry r.link) (here s) stand).0
+
+  root-is : root (resolve (here s).image) ≡ a
+  root-is = omega (arith, g.root, led)
+
+  holds-all : HasRoot c (here s) a
+  holds-all =
+      let at : (here s).value ROOT_AT - 1 ≡ a = omega (arith, led) in
+      subst (HasRoot c (here s)) at (b.roots c (here s) g)
+
+  leaf : StandsStill a f.parted.moment s
+  leaf = b.still s a f.parted.moment good f.parted.leaf
+
+  place : SamePlace c (s.past.at f.parted.moment) (here s) a
+  place = leaf.place t.inside
+
+  flat : (form_at c (here s)).level a ≡ 0
+  flat = leaf.leaf t.inside
+
+  level : level_of (durable c (here s) (root (resolve (here s).image))) ≡ 0
+  level =
+      ap (λ k. level_of (durable c (here s) k)) root-is
+      ∙ (level-at b.leaves b.inners c x a (fits (view_in c (here s).image) (tree-now b.formed s good)) t.inside (λ e. absurd (omega (arith, e, f.parted.leaf.slot))) ∙ flat)
+
+  no-low : None ≡ (form_at c (s.past.at f.parted.moment)).low a
+  no-low = sym holds-all.low ∙ place.low
+
+  no-high : None ≡ (form_at c (s.past.at f.parted.moment)).high a
+  no-high = sym holds-all.high ∙ place.high
+
+  -- the new nodes
+  made : IsRootOver c.nodes (r.slot 1) (r.slot 2) r.sep
+  made = b.over c.nodes (r.slot 1) (r.slot 2) r.sep good.config.nodes_in_range.at_most (f.writing.slots.within 1 (omega arith)) (f.writing.slots.within 2 (omega arith)) f.parted.separator
+
+  fresh : (n : ℕ) → n < SPLIT_SLOTS → IsFresh s (r.slot n)
+  fresh n h = node-fresh r.slot r.image s f.plain f.writing n h
+
+  has : (n : ℕ) → n < SPLIT_SLOTS → durable c y (r.slot n) ≡ node_of (r.image n)
+  has n h = durable-is b.plain r.link (r.slot 0) (a ∷ []) s y c.nodes 0 [] (r.slot n) good (fresh n h) t swaps ∙ node-held r.slot r.image s f.plain f.writing n h
+
+  has-raw : (n : ℕ) → n < SPLIT_SLOTS → node c y.image (r.slot n) ≡ node_of (r.image n)
+  has-raw n h = raw-is b.plain r.link (r.slot 0) (a ∷ []) s y c.nodes 0 [] (r.slot n) good (fresh n h) t swaps ∙ node-held r.slot r.image s f.plain f.writing n h
+
+  says : SaysInHalves c x z a (r.slot 1) (r.slot 2) r.sep
+  says = record {
+    before = λ key e. ap (λ n. found_of n key) (has 1 (omega arith)) ∙ (f.parted.before key e ∙ sym (leaf.says t.inside key));
+    from = λ key e. ap (λ n. found_of n key) (has 2 (omega arith)) ∙ (f.parted.from key e ∙ sym (leaf.says t.inside key));
+  }
+
+  pub halved : SplitsRoot c (image_of (here s).image) (image_of y.image) (r.slot 0) (r.slot 1) (r.slot 2) 0 r.sep
+  halved = record {
+    fresh_q = outside-tree s (r.slot 0) good (fresh 0 (omega arith));
+    fresh_l = outside-tree s (r.slot 1) good (fresh 1 (omega arith));
+    fresh_r = outside-tree s (r.slot 2) good (fresh 2 (omega arith));
+    three = are-three r.slot r.image s f.plain f.writing;
+    link = subst (λ k. TurnsLink c x z c.nodes 0 (r.slot 0) (k ∷ [])) (sym root-is) t.turns;
+    two = subst (λ n. AreTwo (children_of n) (r.slot 1) (r.slot 2) r.sep) (sym (has 0 (omega arith) ∙ ap node_of f.over)) made.two;
+    halves = λ deep. absurd (omega (arith, deep, level));
+    says = λ e. subst (λ k. SaysInHalves c x z k (r.slot 1) (r.slot 2) r.sep) (sym root-is) says;
+    whole_q = (λ e. node_fault c.nodes ((has-raw 0 (omega arith) ∙ ap node_of f.over) e) ((has 0 (omega arith) ∙ ap node_of f.over) e) (level e + 1) None None) ∙ made.none;
+    whole_l = (λ e. node_fault c.nodes (has-raw 1 (omega arith) e) (has 1 (omega arith) e) (level e) (no-low e) (Some r.sep)) ∙ f.parted.left_whole;
+    whole_r = (λ e. node_fault c.nodes (has-raw 2 (omega arith) e) (has 2 (omega arith) e) (level e) (Some r.sep) (no-high e)) ∙ f.parted.right_whole;
+  }
+
+  pub at-foot : level_of (durable s.past.config (here s) (root (resolve (here s).image))) ≡ 0
+  at-foot = level
+
+  pub is-leaf : IsLeafNow s r.link.slot
+  is-leaf = leaf-now s a t.inside flat
+
+-- a split that asks for a swap has its nodes ready
+swapping : (c : Config) (r : Split) (phase : Phase) (s : Scene) (entries : List Entry) → split_facts r phase Waiting s → split_asks c r phase ≡ Some (Swaps_for entries) → IsSplitting r SPLIT_WORDS SPLIT_LINES s × (renewal r.link (r.slot 0) ≡ entries)
+swapping c r Swap s entries f e = (f.1, same-entries (renewal r.link (r.slot 0)) entries e)
+swapping c r phase s entries f e = absurd (cc)
+
+pub root-halves : Laws → RootLeafSplitsCount
+root-halves b t entries s y l =
+    let r : Split = split_of t in
+    let f = swapping t.config r t.phase s entries l.knows l.asks in
+    let stand : Stand (renewal r.link (r.slot 0)) (here s) = subst (λ z. Stand z (here s)) (sym f.1) l.stand in
+    let swaps : SwapsTo s.past.config (renewal r.link (r.slot 0)) (here s) y = subst (λ z. SwapsTo s.past.config z (here s) y) (sym f.1) l.leads in
+    record {
+      more = (b.count s.past.config (image_of (here s).image) (image_of y.image) (r.slot 0) (r.slot 1) (r.slot 2) 0 r.sep (tree-now b.formed s l.good) (halved b r s y l.good f.0 stand swaps)).leaf (at-foot b r s y l.good f.0 stand swaps);
+      leaf = is-leaf b r s y l.good f.0 stand swaps;
+      moment = f.0.parted.moment;
+      frozen = f.0.parted.leaf;
+    }
