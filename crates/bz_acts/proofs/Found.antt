@@ -4,7 +4,7 @@ use Rattle.std.proofs.Common.{arith, refl, inl, inr}
 use Rattle.std.proofs.lemmas.Grind.{common_steps}
 use Rattle.bz_word.specs.Kinds.{word, IsKind}
 use Rattle.bz_word.proofs.Lemmas.{kinds}
-use Rattle.bz_cells.specs.Store.{Store, IsStore, IsOutside, SameShape, is_outside, kind_at, words_of}
+use Rattle.bz_cells.specs.Store.{Store, IsStore, IsOutside, SameShape, is_outside, kind_at, store_words}
 use Rattle.bz_acts.specs.declared.acted.Act.TheVariants.{Load, Cas}
 use Rattle.bz_acts.specs.Parts.{IsMade}
 use Rattle.bz_acts.specs.Rule.{after_act}
@@ -27,7 +27,7 @@ made-load st a v i within found = record {
   shape = record { swaps = refl; size = refl; workers = refl };
 }
 
-pub made-cas : (st new : Store) (a old v found : ℕ) → IsStore new → SameShape st new → a < length st.cached → words_of new ≡ after_act (words_of st) (Cas a old v found)
+pub made-cas : (st new : Store) (a old v found : ℕ) → IsStore new → SameShape st new → a < length st.cached → store_words new ≡ after_act (store_words st) (Cas a old v found)
     → found ≡ slice_index st.cached a → IsMade st (Cas a old v found) new
 made-cas st new a old v found i shape within after stood = record {
   rule = record { found = stood; after = after };

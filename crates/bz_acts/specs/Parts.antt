@@ -10,7 +10,7 @@ use Rattle.bz_machine.specs.HelpActs.{help_act}
 use Rattle.bz_machine.specs.Steps.{Stepped, act}
 use Rattle.bz_machine.specs.Workers.{local_of}
 use Rattle.bz_machine.specs.Flushes.{helps_by_flush, is_flush}
-use Rattle.bz_cells.specs.Store.{Store, Beside, IsStore, SameShape, typed, words_of}
+use Rattle.bz_cells.specs.Store.{Store, Beside, IsStore, SameShape, typed, store_words}
 use Rattle.bz_acts.specs.declared.acted.Act.{Act}
 use Rattle.bz_acts.specs.declared.acted.Acted.{Acted}
 use Rattle.bz_acts.specs.declared.entry.Aim.{Aim}
@@ -22,7 +22,7 @@ use Rattle.bz_acts.specs.Writes.{HelpsBy, WritesAt}
 
 -- this act, on a word or line of the memory, leads from the one store to the other, whose words can be read too
 pub record IsMade (old : Store) (act : Act) (new : Store) : Type 0 where
-  pub rule : IsActOf (words_of old) act (words_of new)
+  pub rule : IsActOf (store_words old) act (store_words new)
   pub within : IsWithin (length old.cached) act
   pub typed : IsStore new
   pub shape : SameShape old new

@@ -3,7 +3,7 @@
 ghost use Rattle.std.specs.Prelude.{◌≡◌, length};
 ghost use Rattle.bz_machine.specs.Flushes.{is_flush};
 ghost use Rattle.bz_machine.specs.Workers.{local_of};
-ghost use Rattle.bz_cells.specs.Store.{Beside, IsStore, SameShape, typed, words_of};
+ghost use Rattle.bz_cells.specs.Store.{Beside, IsStore, SameShape, typed, store_words};
 ghost use Rattle.bz_acts.specs.Made.{made, beside_in};
 ghost use Rattle.bz_acts.specs.Parts.{IsStep};
 ghost use Rattle.bz_acts.specs.Ready.{IsReady, IsReadyAt};
@@ -43,7 +43,7 @@ pub fn act(cells: &mut Cells, worker: &mut Worker, w: u8) -> Acted
     ensures local { (b : Beside) → local_of worker.new ≡ (made cells.old b worker.old w).local }
     ensures done { (b : Beside) → result.done ≡ (made cells.old b worker.old w).done }
     ensures memory { (b : Beside) → typed cells.new (beside_in (made cells.old b worker.old w).memory) ≡ (made cells.old b worker.old w).memory }
-    ensures words { IsActOf (words_of cells.old) result.act (words_of cells.new) }
+    ensures words { IsActOf (store_words cells.old) result.act (store_words cells.new) }
     ensures within { IsWithin (length cells.old.cached) result.act }
     ensures flush { is_flush_act result.act ≡ is_flush worker.old.place }
     ensures told { IsToldAt worker.old.place result.act }

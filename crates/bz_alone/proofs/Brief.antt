@@ -10,8 +10,8 @@ use Rattle.bz_rivals.specs.Laws.{RivalsFall}
 use Rattle.bz_rivals.specs.Rivals.{is_pending, is_rival, is_own, foreign}
 use Rattle.bz_running.specs.Duties.{asks_of, change_of}
 use Rattle.bz_running.specs.LookingUp.{ForWay, ForKey, NoLook, look_of, reads_asked, IsReadOrEnd}
-use Rattle.bz_running.specs.declared.running.Running.{Running}
-use Rattle.bz_running.specs.declared.running.Running.TheVariants.{Seeking, Finding, Reading as ReadsLeaf, Inserting, Updating, Deleting, Freezing, Consolidating, Splitting, SplittingBelow, SplittingInner, SplittingInnerRoot, Merging}
+use Rattle.bz_running.specs.declared.running.AnyTask.{AnyTask}
+use Rattle.bz_running.specs.declared.running.AnyTask.TheVariants.{Seeking, Finding, Reading as ReadsLeaf, Inserting, Updating, Deleting, Freezing, Consolidating, Splitting, SplittingBelow, SplittingInner, SplittingInnerRoot, Merging}
 use Rattle.bz_swap.specs.Alone.{allowed_while, allowed_to_all, left_to}
 use Rattle.bz_swap.specs.LoneRuns.{LoneStepsAreAllowed}
 use Rattle.bz_swap.specs.SwapMemory.{SwapMemory, Doing, Reading, doing_of}
@@ -53,11 +53,11 @@ untold m w doing a (Some s) d e z =
     let one : foreign m w (Some s) ≡ 1 = ap (λ x. counted (not x) 1) own in
     absurd (omega (arith, z, one))
 
-looks-some : (key : List ℕ) (way : Option Path) (t : Running) → LooksFor key way t → look_of t ≢ NoLook
+looks-some : (key : List ℕ) (way : Option Path) (t : AnyTask) → LooksFor key way t → look_of t ≢ NoLook
 looks-some key None t l e = let q : ForWay ≡ NoLook = sym l ∙ e in cc q
 looks-some key (Some path) t l e = let q : ForKey ≡ NoLook = sym l.0 ∙ e in cc q
 
-looks-on : (key : List ℕ) (way : Option Path) (t u : Running) → look_of u ≡ look_of t → change_of u ≡ change_of t → LooksFor key way t → LooksFor key way u
+looks-on : (key : List ℕ) (way : Option Path) (t u : AnyTask) → look_of u ≡ look_of t → change_of u ≡ change_of t → LooksFor key way t → LooksFor key way u
 looks-on key None t u l c h = l ∙ h
 looks-on key (Some path) t u l c h = (l ∙ h.0, ap (λ x. x.key) c ∙ h.1, h.2)
 
@@ -106,7 +106,7 @@ ways-are-brief m w acts key path t u s h few facts e look none same last = recor
 }
 
 -- a look-up makes no swap
-none-made : (t : Running) → look_of t ≢ NoLook → made_of t ≡ 0
+none-made : (t : AnyTask) → look_of t ≢ NoLook → made_of t ≡ 0
 unfolding made_of look_of
 none-made (Seeking t) l = refl
 none-made (Finding t) l = refl

@@ -18,8 +18,8 @@ use Rattle.bz_record.specs.declared.new_record.NewRecord.{NewRecord}
 use Rattle.bz_task.specs.Scene.{Scene, Waiting, IsScene, here}
 use Rattle.bz_task.specs.declared.view.KeyView.{KeyView}
 use Rattle.bz_running.specs.Duties.{facts_of, made_of}
-use Rattle.bz_running.specs.declared.running.Running.{Running}
-use Rattle.bz_running.specs.declared.running.Running.TheVariants as running
+use Rattle.bz_running.specs.declared.running.AnyTask.{AnyTask}
+use Rattle.bz_running.specs.declared.running.AnyTask.TheVariants as running
 use Rattle.bz_alone.specs.Counts.{OwnSwapsAreCounted}
 use Rattle.bz_alone.specs.Quiet.{HadEffects}
 use Rattle.bz_alone.proofs.Named.{FreezeLaws}
@@ -71,7 +71,7 @@ module _ (b : FreezeLaws) (s : Scene) (good : IsScene s) where
   merge-counts r merge.Swap f = both-counts r f.1.frozen.froze
   merge-counts r phase f = none
 
-  counts : (t : Running) → facts_of t Waiting s → (s.past.at s.past.since).effects + made_of t ≤ (here s).effects
+  counts : (t : AnyTask) → facts_of t Waiting s → (s.past.at s.past.since).effects + made_of t ≤ (here s).effects
   unfolding facts_of made_of
   counts (running.Inserting t) f = insert-counts t.added t.phase f
   counts (running.Updating t) f = update-counts t.view t.added t.phase f

@@ -1,6 +1,6 @@
 -- Whichever task it is, by the law of its own kind.
 use Rattle.bz_running.specs.Duties.{config_of, asks_of, made_of, facts_of, differs_of}
-use Rattle.bz_running.specs.declared.running.Running.TheVariants.{Seeking, Finding, Reading, Inserting, Updating, Deleting, Freezing, Consolidating, Splitting, SplittingBelow, SplittingInner, SplittingInnerRoot, Merging}
+use Rattle.bz_running.specs.declared.running.AnyTask.TheVariants.{Seeking, Finding, Reading, Inserting, Updating, Deleting, Freezing, Consolidating, Splitting, SplittingBelow, SplittingInner, SplittingInnerRoot, Merging}
 use Rattle.bz_alone.specs.Changes.{InsertsGoOn, UpdatesGoOn, MergesGoOn}
 use Rattle.bz_alone.specs.Laws.{FreezesGoOn, DeletesGoOn, ConsolidationsGoOn, RootSplitsGoOn, SplitsBelowGoOn, InnerSplitsGoOn, InnerRootSplitsGoOn}
 use Rattle.bz_alone.specs.Lookups.{SeeksGoOn, FindsGoOn, ReadingsGoOn}

@@ -2,7 +2,7 @@
 use Rattle.std.specs.Prelude.{◌≡◌, ℕ, ◌+◌, ◌≤◌}
 use Rattle.bz_task.specs.Scene.{Past, Continues, Scene, Waiting, IsScene}
 use Rattle.bz_running.specs.Duties.{made_of, facts_of}
-use Rattle.bz_running.specs.declared.running.Running.{Running}
+use Rattle.bz_running.specs.declared.running.AnyTask.{AnyTask}
 use Rattle.bz_alone.specs.Alone.{IsAlone}
 
 -- so many of others, beside so many of its own
@@ -27,4 +27,4 @@ pub record OthersAreCounted : Type 0 where
 
 -- a task knows that its own swaps, of which it was told, are among the effects since its look-up began; the rest are others'
 abbrev pub OwnSwapsAreCounted : Type 0
-OwnSwapsAreCounted = (t : Running) (s : Scene) → IsScene s → facts_of t Waiting s → (others : ℕ) × HasOthers others (made_of t) s.past
+OwnSwapsAreCounted = (t : AnyTask) (s : Scene) → IsScene s → facts_of t Waiting s → (others : ℕ) × HasOthers others (made_of t) s.past

@@ -12,7 +12,7 @@ use Rattle.bz_task.specs.declared.todo.Todo.{Todo}
 use Rattle.bz_task.specs.declared.todo.Todo.TheVariants.{Swap}
 use Rattle.bz_running.specs.Duties.{config_of, asks_of, end_of, made_of, facts_of}
 use Rattle.bz_running.specs.Hearing.{HasHeard}
-use Rattle.bz_running.specs.declared.running.Running.{Running}
+use Rattle.bz_running.specs.declared.running.AnyTask.{AnyTask}
 use Rattle.bz_alone.specs.Alone.{IsAlone}
 
 -- its swap is answered with false, though all that it expects stands
@@ -25,5 +25,5 @@ pub record IsRefused (asks : Option Todo) (seen : Seen) (s : Scene) : Type 0 whe
 -- while its worker is alone nothing else ends a task so: no load does
 abbrev pub LoneRestartsAreRefusals : Type 0
 LoneRestartsAreRefusals =
-    (old new : Running) (seen : Seen) (moment : ℕ) (free left : FreeSlots) (todo : Todo) (stage : Stage) (s : Scene) → HasHeard old seen moment free todo new left → end_of new ≡ Some Restart →
+    (old new : AnyTask) (seen : Seen) (moment : ℕ) (free left : FreeSlots) (todo : Todo) (stage : Stage) (s : Scene) → HasHeard old seen moment free todo new left → end_of new ≡ Some Restart →
     s.past.config ≡ config_of old → IsScene s → facts_of old stage s → Tells (asks_of old) stage seen s → IsAlone (made_of old) s.past → IsRefused (asks_of old) seen s

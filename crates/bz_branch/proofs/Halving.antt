@@ -11,7 +11,7 @@ use Rattle.bz_shape.specs.Slots.{Halves}
 use Rattle.bz_slotted.specs.ReadingLaws.{node_of, HighFencesAreRead}
 use Rattle.bz_slotted.specs.Rules.{node_fault}
 use Rattle.bz_halves.specs.Parents.{children_told}
-use Rattle.bz_parted.specs.Parting.{words_of, separator_of, right_half, left_words, right_words}
+use Rattle.bz_parted.specs.Parting.{child_words, separator_of, right_half, left_words, right_words}
 use Rattle.bz_parted.specs.Laws.{IsSplitInner, AreInnerHalves, AreParted, ChildrenPartInHalves, HalvesAreInner}
 use Rattle.bz_parted.specs.Made.{AreHalvesOf}
 use Rattle.bz_parted.specs.declared.halves.InnerHalves.{InnerHalves}
@@ -26,7 +26,7 @@ pub record FrontIs (read : List ℕ) (level : ℕ) (low high : Option (List ℕ)
   pub high_is : high ≡ high_in read
 
 -- the children are those of a node that is split
-pub is-split : (nodes : ℕ) (read : List ℕ) (level : ℕ) (low high : Option (List ℕ)) → IsInnerNode nodes read level low high → INNER_LIMIT < words_of (children_in read) → IsSplitInner (children_in read) low high
+pub is-split : (nodes : ℕ) (read : List ℕ) (level : ℕ) (low high : Option (List ℕ)) → IsInnerNode nodes read level low high → INNER_LIMIT < child_words (children_in read) → IsSplitInner (children_in read) low high
 is-split nodes read level low high n many = record { each = n.node.each; low_bound = n.node.low_bound; high_bound = n.node.high_bound; list = n.node.list; many = many; room = n.node.room }
 
 module _ (ends : HighFencesAreRead) (read : List ℕ) (level : ℕ) (low high : Option (List ℕ)) (front : FrontIs read level low high) where
@@ -43,7 +43,7 @@ module _ (ends : HighFencesAreRead) (read : List ℕ) (level : ℕ) (low high : 
     high-is : high ≡ hi
     high-is = front.high_is ∙ (ends nodes n.raw read l lo hi n.size n.none).high
 
-    pub read-split : INNER_LIMIT < words_of (children_in read) → IsSplitInner (children_in read) low high
+    pub read-split : INNER_LIMIT < child_words (children_in read) → IsSplitInner (children_in read) low high
     read-split many = subst (λ z. IsSplitInner (children_in read) z high) (sym low-is) (subst (λ z. IsSplitInner (children_in read) lo z) (sym high-is) (is-split nodes read l lo hi n many))
 
     pub read-halves : (halves : InnerHalves) → AreHalvesOf (children_in read) low high level halves → AreHalvesOf (children_in read) lo hi l halves
@@ -51,7 +51,7 @@ module _ (ends : HighFencesAreRead) (read : List ℕ) (level : ℕ) (low high : 
         subst (λ z. AreHalvesOf (children_in read) lo hi z halves) level-is
         (subst (λ z. AreHalvesOf (children_in read) lo z level halves) high-is (subst (λ z. AreHalvesOf (children_in read) z high level halves) low-is h))
 
-module _ (part : ChildrenPartInHalves) (inners : HalvesAreInner) (nodes : ℕ) (read : List ℕ) (l : ℕ) (lo hi : Option (List ℕ)) (n : IsInnerNode nodes read l lo hi) (many : INNER_LIMIT < words_of (children_in read)) (halves : InnerHalves) (h : AreHalvesOf (children_in read) lo hi l halves)
+module _ (part : ChildrenPartInHalves) (inners : HalvesAreInner) (nodes : ℕ) (read : List ℕ) (l : ℕ) (lo hi : Option (List ℕ)) (n : IsInnerNode nodes read l lo hi) (many : INNER_LIMIT < child_words (children_in read)) (halves : InnerHalves) (h : AreHalvesOf (children_in read) lo hi l halves)
     (left_size : length halves.left.0 ≡ NODE_WORDS) (right_size : length halves.right.0 ≡ NODE_WORDS) where
   abbrev cs : List Child
   cs = children_in read

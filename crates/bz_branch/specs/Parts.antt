@@ -9,7 +9,7 @@ use Rattle.bz_shape.specs.Slots.{Halves}
 use Rattle.bz_slotted.specs.ReadingLaws.{node_of}
 use Rattle.bz_slotted.specs.Rules.{node_fault}
 use Rattle.bz_halves.specs.Parents.{children_told}
-use Rattle.bz_parted.specs.Parting.{words_of, IsParting, separator_of, left_words, right_words}
+use Rattle.bz_parted.specs.Parting.{child_words, IsParting, separator_of, left_words, right_words}
 use Rattle.bz_branch.specs.Nodes.{IsInnerNode}
 
 -- the words are those of an inner node that is above its limit
@@ -19,7 +19,7 @@ pub record IsFullNode (read : List ℕ) : Type 0 where
   pub low : Option (List ℕ)
   pub high : Option (List ℕ)
   pub node : IsInnerNode nodes read level low high
-  pub many : INNER_LIMIT < words_of (children_in read)
+  pub many : INNER_LIMIT < child_words (children_in read)
 
 -- where the words are those of a node at this level between these bounds, the separator is a key between them, and not the lower
 -- one; the halves break no rule at the level, the one up to the separator and the other from it on, and have the node's children

@@ -11,13 +11,13 @@ use Rattle.bz_pm.specs.Acts.{with_line, stored, compared}
 use Rattle.bz_pm.specs.Changes.{StoresOnly}
 use Rattle.bz_pm.proofs.Lemmas.{store, flush}
 use Rattle.bz_machine.specs.Changes.{with_word, with_copies, in_line}
-use Rattle.bz_cells.specs.Store.{Store, Beside, IsStore, IsOutside, IsStatusWord, typed, kind_at, words_of}
+use Rattle.bz_cells.specs.Store.{Store, Beside, IsStore, IsOutside, IsStatusWord, typed, kind_at, store_words}
 use Rattle.bz_cells.proofs.Places.{outside-told, status-not_outside}
 use Rattle.bz_cells.proofs.Stores.{words-chosen, words-set, store-cached, store-durable}
 use Rattle.bz_cells.proofs.Typed.{typed-stored, typed-flushed}
 
-stores : (st : Store) (a : ℕ) (k : WordKind) → IsStore st → a < length st.cached → IsKind k → StoresOnly (words_of st) (stored (words_of st) a (word k)) a (word k)
-stores st a k i within is_kind = store (words_of st) a (word k) i.has_room.memory within (IsWord-word k is_kind).size
+stores : (st : Store) (a : ℕ) (k : WordKind) → IsStore st → a < length st.cached → IsKind k → StoresOnly (store_words st) (stored (store_words st) a (word k)) a (word k)
+stores st a k i within is_kind = store (store_words st) a (word k) i.has_room.memory within (IsWord-word k is_kind).size
 
 pub store-stored : (st : Store) (a : ℕ) (k : WordKind) → IsStore st → IsOutside st.swaps a → a < length st.cached → IsKind k
     → IsStore (record st { cached = slice_set st.cached a (word k); durable = st.durable })
@@ -45,13 +45,13 @@ store-if st a k i out within is_kind true = store-stored st a k i out within is_
 store-if st a k i out within is_kind false = i
 
 pub store-compared : (st : Store) (a : ℕ) (old new : WordKind) → IsStore st → IsOutside st.swaps a → a < length st.cached → IsKind new
-    → (m : Words) → m ≡ compared (words_of st) a (word old) (word new) → IsStore (record st { cached = m.cached; durable = m.durable })
+    → (m : Words) → m ≡ compared (store_words st) a (word old) (word new) → IsStore (record st { cached = m.cached; durable = m.durable })
 store-compared st a old new i out within is_kind m e = rw e (store-if st a new i out within is_kind (slice_index st.cached a == word old))
 
 compared-hit : (ws : List ℕ) (a x y : ℕ) → slice_index ws a ≡ x → (if slice_index ws a == x then slice_set ws a y else ws) ≡ slice_set ws a y
 compared-hit ws a x y e = grind (arith, common_steps)
 
-pub typed-compared : (st : Store) (b : Beside) (a : ℕ) (old new : WordKind) (m : Words) → m ≡ compared (words_of st) a (word old) (word new)
+pub typed-compared : (st : Store) (b : Beside) (a : ℕ) (old new : WordKind) (m : Words) → m ≡ compared (store_words st) a (word old) (word new)
     → IsStore st → IsOutside st.swaps a → a < length st.cached → IsKind new → slice_index st.cached a ≡ word old
     → typed (record st { cached = m.cached; durable = m.durable }) b ≡ with_word (typed st b) a new
 typed-compared st b a old new m e i out within is_kind hit =
@@ -61,14 +61,14 @@ typed-compared st b a old new m e i out within is_kind hit =
 pub store-flush : (st : Store) (line : ℕ) → IsStore st → line * 8 < length st.cached
     → IsStore (record st { cached = st.cached; durable = with_line line st.cached st.durable })
 store-flush st line i within =
-    let change = flush (words_of st) line i.has_room.memory within in
+    let change = flush (store_words st) line i.has_room.memory within in
     store-durable st (with_line line st.cached st.durable) i change.stays
     (words-chosen st.swaps (λ c. c / 8 == line) st.cached st.durable (with_line line st.cached st.durable) change.durable i.cached i.durable)
 
 pub typed-flush : (st : Store) (b : Beside) (a : ℕ) → IsStore st → IsOutside st.swaps a → a < length st.cached
     → typed (record st { cached = st.cached; durable = with_line (a / 8) st.cached st.durable }) b ≡ with_copies (typed st b) (in_line a)
 typed-flush st b a i out within =
-    typed-flushed st b a (with_line (a / 8) st.cached st.durable) out (flush (words_of st) (a / 8) i.has_room.memory (omega arith)).durable
+    typed-flushed st b a (with_line (a / 8) st.cached st.durable) out (flush (store_words st) (a / 8) i.has_room.memory (omega arith)).durable
 
 -- what stands at an address outside the descriptors
 pub kind_at-word : (swaps : ℕ) (ws : List ℕ) (a : ℕ) (k : WordKind) → IsOutside swaps a → IsKind k → word k ≡ slice_index ws a → k ≡ kind_at swaps ws a

@@ -12,7 +12,7 @@ use Rattle.bz_machine.specs.declared.status.SwapStatus.{SwapStatus}
 use Rattle.bz_machine.specs.declared.status.SwapStatus.TheVariants.{Free, Undecided, Deciding, Decided}
 use Rattle.bz_machine.specs.declared.status.Verdict.TheVariants.{Succeeded, Failed}
 use Rattle.bz_machine.specs.Changes.{with_copies, with_status, with_field, with_durable_status, with_durable_fields, with_durable_head, in_tail}
-use Rattle.bz_cells.specs.Store.{Store, Beside, IsStore, IsOutside, IsStatusWord, typed, words_of, status_at, descriptor_word_at, status_word, status_of, field_address, field_count}
+use Rattle.bz_cells.specs.Store.{Store, Beside, IsStore, IsOutside, IsStatusWord, typed, store_words, status_at, descriptor_word_at, status_word, status_of, field_address, field_count}
 use Rattle.bz_cells.proofs.Places.{differ, status-not_outside, field-not_outside}
 use Rattle.bz_cells.proofs.Stores.{words-chosen, words-set, store-cached, store-durable}
 use Rattle.bz_cells.proofs.Typed.{typed-copied}
@@ -40,8 +40,8 @@ status-small (Decided Succeeded) = omega arith
 status-small (Decided Failed) = omega arith
 
 -- a status is stored
-status-stores : (st : Store) (s : ℕ) (v : SwapStatus) → IsStore st → s < st.swaps → StoresOnly (words_of st) (stored (words_of st) (swap_address s) (status_word v)) (swap_address s) (status_word v)
-status-stores st s v i lt = store (words_of st) (swap_address s) (status_word v) i.has_room.memory (status-within st s i lt) (status-small v)
+status-stores : (st : Store) (s : ℕ) (v : SwapStatus) → IsStore st → s < st.swaps → StoresOnly (store_words st) (stored (store_words st) (swap_address s) (status_word v)) (swap_address s) (status_word v)
+status-stores st s v i lt = store (store_words st) (swap_address s) (status_word v) i.has_room.memory (status-within st s i lt) (status-small v)
 
 pub store-status : (st : Store) (s : ℕ) (v : SwapStatus) → IsStore st → s < st.swaps
     → IsStore (record st { cached = slice_set st.cached (swap_address s) (status_word v); durable = st.durable })
@@ -65,7 +65,7 @@ status-if st s v i lt true = store-status st s v i lt
 status-if st s v i lt false = i
 
 pub store-status_compared : (st : Store) (s : ℕ) (old new : SwapStatus) → IsStore st → s < st.swaps
-    → (m : Words) → m ≡ compared (words_of st) (swap_address s) (status_word old) (status_word new) → IsStore (record st { cached = m.cached; durable = m.durable })
+    → (m : Words) → m ≡ compared (store_words st) (swap_address s) (status_word old) (status_word new) → IsStore (record st { cached = m.cached; durable = m.durable })
 store-status_compared st s old new i lt m e = rw e (status-if st s new i lt (slice_index st.cached (swap_address s) == status_word old))
 
 compared-hit : (ws : List ℕ) (a x y : ℕ) → slice_index ws a ≡ x → (if slice_index ws a == x then slice_set ws a y else ws) ≡ slice_set ws a y
@@ -74,21 +74,21 @@ compared-hit ws a x y e = grind (arith, common_steps)
 compared-missed : (ws : List ℕ) (a x y : ℕ) → slice_index ws a ≢ x → (if slice_index ws a == x then slice_set ws a y else ws) ≡ ws
 compared-missed ws a x y ne = rw (differ (slice_index ws a) x ne) refl
 
-pub typed-status_compared : (st : Store) (b : Beside) (s : ℕ) (old new : SwapStatus) (m : Words) → m ≡ compared (words_of st) (swap_address s) (status_word old) (status_word new)
+pub typed-status_compared : (st : Store) (b : Beside) (s : ℕ) (old new : SwapStatus) (m : Words) → m ≡ compared (store_words st) (swap_address s) (status_word old) (status_word new)
     → IsStore st → s < st.swaps → status_of (slice_index st.cached (swap_address s)) ≡ old
     → typed (record st { cached = m.cached; durable = m.durable }) b ≡ with_status (typed st b) s new
 typed-status_compared st b s old new m e i lt found =
     let hit : slice_index st.cached (swap_address s) ≡ status_word old = sym (i.cached.statuses s lt) ∙ ap status_word found in
     rw e (ap (λ ws. typed (record st { cached = ws; durable = st.durable }) b) (compared-hit st.cached (swap_address s) (status_word old) (status_word new) hit) ∙ typed-store_status st b s new i lt)
 
-pub status-unchanged : (st : Store) (s : ℕ) (old new : SwapStatus) (m : Words) → m ≡ compared (words_of st) (swap_address s) (status_word old) (status_word new)
-    → (status_of (slice_index st.cached (swap_address s)) ≢ old) → m ≡ words_of st
+pub status-unchanged : (st : Store) (s : ℕ) (old new : SwapStatus) (m : Words) → m ≡ compared (store_words st) (swap_address s) (status_word old) (status_word new)
+    → (status_of (slice_index st.cached (swap_address s)) ≢ old) → m ≡ store_words st
 status-unchanged st s old new m e ne =
     e ∙ ap (λ ws. record { cached = ws; durable = st.durable }) (compared-missed st.cached (swap_address s) (status_word old) (status_word new) (λ hit. ne (ap status_of hit ∙ status-word old)))
 
 -- a word after the status is stored
-field-stores : (st : Store) (s k x : ℕ) → IsStore st → s < st.swaps → k < field_count → x < 2 ^ 64 → StoresOnly (words_of st) (stored (words_of st) (field_address s k) x) (field_address s k) x
-field-stores st s k x i lt less small = store (words_of st) (field_address s k) x i.has_room.memory (field-within st s k i lt less) small
+field-stores : (st : Store) (s k x : ℕ) → IsStore st → s < st.swaps → k < field_count → x < 2 ^ 64 → StoresOnly (store_words st) (stored (store_words st) (field_address s k) x) (field_address s k) x
+field-stores st s k x i lt less small = store (store_words st) (field_address s k) x i.has_room.memory (field-within st s k i lt less) small
 
 pub store-field : (st : Store) (s k x : ℕ) → IsStore st → s < st.swaps → k < field_count → x < 2 ^ 64
     → IsStore (record st { cached = slice_set st.cached (field_address s k) x; durable = st.durable })
@@ -113,34 +113,34 @@ typed-store_field st b s k x i lt less small = typed-field st b s k x (slice_set
 -- the two lines of a descriptor
 pub typed-flush_head : (st : Store) (b : Beside) (s : ℕ) → IsStore st → s < st.swaps
     → typed (record st { cached = st.cached; durable = with_line (swap_address s / 8) st.cached st.durable }) b ≡ with_durable_head (typed st b) s
-typed-flush_head st b s i lt = typed-head st b s _ lt (flush (words_of st) (swap_address s / 8) i.has_room.memory (head-within st s i lt)).durable
+typed-flush_head st b s i lt = typed-head st b s _ lt (flush (store_words st) (swap_address s / 8) i.has_room.memory (head-within st s i lt)).durable
 
 pub typed-flush_tail : (st : Store) (b : Beside) (s : ℕ) → IsStore st → s < st.swaps
     → typed (record st { cached = st.cached; durable = with_line (swap_address s / 8 + 1) st.cached st.durable }) b ≡ with_durable_fields (typed st b) s in_tail
-typed-flush_tail st b s i lt = typed-tail st b s _ lt (flush (words_of st) (swap_address s / 8 + 1) i.has_room.memory (tail-within st s i lt)).durable
+typed-flush_tail st b s i lt = typed-tail st b s _ lt (flush (store_words st) (swap_address s / 8 + 1) i.has_room.memory (tail-within st s i lt)).durable
 
 -- evictions
 pub store-evict : (st : Store) (a : ℕ) → IsStore st → a < length st.cached
     → IsStore (record st { cached = st.cached; durable = slice_set st.durable a (slice_index st.cached a) })
 store-evict st a i within =
-    let change = evict (words_of st) a i.has_room.memory within in
+    let change = evict (store_words st) a i.has_room.memory within in
     store-durable st (slice_set st.durable a (slice_index st.cached a)) i change.stays
     (words-chosen st.swaps (λ c. c == a) st.cached st.durable (slice_set st.durable a (slice_index st.cached a)) change.durable i.cached i.durable)
 
 pub typed-evict : (st : Store) (b : Beside) (a : ℕ) → IsStore st → IsOutside st.swaps a → a < length st.cached
     → typed (record st { cached = st.cached; durable = slice_set st.durable a (slice_index st.cached a) }) b ≡ with_copies (typed st b) (λ c. c == a)
 typed-evict st b a i out within =
-    typed-copied st b (λ c. c == a) (slice_set st.durable a (slice_index st.cached a)) (evict (words_of st) a i.has_room.memory within).durable
+    typed-copied st b (λ c. c == a) (slice_set st.durable a (slice_index st.cached a)) (evict (store_words st) a i.has_room.memory within).durable
     (λ s lt. differ _ _ (status-not_outside st.swaps a s out lt))
     (λ s k lt less. differ _ _ (field-not_outside st.swaps a s k out lt less))
 
 pub typed-evict_status : (st : Store) (b : Beside) (s : ℕ) → IsStore st → s < st.swaps
     → typed (record st { cached = st.cached; durable = slice_set st.durable (swap_address s) (slice_index st.cached (swap_address s)) }) b ≡ with_durable_status (typed st b) s
-typed-evict_status st b s i lt = typed-status_alone st b s _ lt (evict (words_of st) (swap_address s) i.has_room.memory (status-within st s i lt)).durable
+typed-evict_status st b s i lt = typed-status_alone st b s _ lt (evict (store_words st) (swap_address s) i.has_room.memory (status-within st s i lt)).durable
 
 pub typed-evict_field : (st : Store) (b : Beside) (s k : ℕ) → IsStore st → s < st.swaps → k < field_count
     → typed (record st { cached = st.cached; durable = slice_set st.durable (field_address s k) (slice_index st.cached (field_address s k)) }) b ≡ with_durable_fields (typed st b) s (λ j. j == k)
-typed-evict_field st b s k i lt less = typed-field_alone st b s k _ lt less (evict (words_of st) (field_address s k) i.has_room.memory (field-within st s k i lt less)).durable
+typed-evict_field st b s k i lt less = typed-field_alone st b s k _ lt less (evict (store_words st) (field_address s k) i.has_room.memory (field-within st s k i lt less)).durable
 
 -- what is read of a descriptor
 pub status_at-read : (swaps : ℕ) (ws : List ℕ) (s : ℕ) → s < swaps → status_of (slice_index ws (swap_address s)) ≡ status_at swaps ws s

@@ -6,7 +6,7 @@ use Rattle.std.proofs.lemmas.Bool.{cases_eq}
 use Rattle.bz_word.specs.Kinds.{IsWord}
 use Rattle.bz_layout.specs.Addresses.{swap_address}
 use Rattle.bz_pm.specs.Changes.{StaysMemory}
-use Rattle.bz_cells.specs.Store.{Store, AreWords, HasRoom, IsStore, words_of, IsOutside, IsStatusWord}
+use Rattle.bz_cells.specs.Store.{Store, AreWords, HasRoom, IsStore, store_words, IsOutside, IsStatusWord}
 use Rattle.bz_cells.proofs.Readers.{AreChosen}
 
 either : (P : ℕ → Type 0) (t : Bool) (x y : ℕ) → P x → P y → P (if t then x else y)
@@ -40,7 +40,7 @@ words-set swaps a x to into h is_word is_status g = record {
     other : (c : ℕ) → c ≢ a → (c == a) ≡ false
     other c ne = grind (arith, common_steps)
 
-room_of : (st : Store) (cached durable : List ℕ) → StaysMemory (words_of st) (record { cached = cached; durable = durable }) → IsStore st → HasRoom (record st { cached = cached; durable = durable })
+room_of : (st : Store) (cached durable : List ℕ) → StaysMemory (store_words st) (record { cached = cached; durable = durable }) → IsStore st → HasRoom (record st { cached = cached; durable = durable })
 room_of st cached durable stays i = record {
   memory = stays.memory;
   room = rw stays.durable i.has_room.room;

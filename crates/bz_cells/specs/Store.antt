@@ -26,8 +26,8 @@ pub record Store : Type 0 where
   pub taken : ℕ
 
 -- the words alone
-abbrev pub words_of : Store → Words
-words_of st = record { cached = st.cached; durable = st.durable }
+abbrev pub store_words : Store → Words
+store_words st = record { cached = st.cached; durable = st.durable }
 
 -- other words, and the rest as it is
 abbrev pub with_words : Store → Words → Store
@@ -116,7 +116,7 @@ pub record AreWords (swaps : ℕ) (words : List ℕ) : Type 0 where
 
 -- a memory with room for its descriptors, of which there are at most 2^16, and a note for each
 pub record HasRoom (st : Store) : Type 0 where
-  pub memory : IsMemory (words_of st)
+  pub memory : IsMemory (store_words st)
   pub room : swap_address st.swaps ≤ length st.durable
   pub numbered : st.swaps ≤ 2 ^ 16
   pub noted : length st.missed ≡ st.swaps

@@ -5,7 +5,7 @@ ghost use Rattle.bz_word.specs.Kinds.{IsKind, word};
 ghost use Rattle.bz_layout.specs.Addresses.{swap_address};
 ghost use Rattle.bz_pm.specs.Acts.{stored, compared, flushed, evicted};
 ghost use Rattle.bz_machine.specs.Changes.{with_word, with_copies, in_line, with_status, with_durable_status, with_field, with_durable_fields, with_durable_head, in_tail};
-ghost use Rattle.bz_cells.specs.Store.{Beside, HasRoom, IsStore, IsOutside, SameShape, typed, words_of, with_words, status_word, kind_at, status_at, descriptor_word_at, field_address, field_count};
+ghost use Rattle.bz_cells.specs.Store.{Beside, HasRoom, IsStore, IsOutside, SameShape, typed, store_words, with_words, status_word, kind_at, status_at, descriptor_word_at, field_address, field_count};
 
 use crate::address::{field_at, swap_at};
 use crate::meaning::{kind_in, status_in, word_of_status};
@@ -78,7 +78,7 @@ impl Cells {
         requires outside { IsOutside self.old.swaps a }
         requires within { a < length self.old.cached }
         requires new_kind { IsKind new }
-        ensures words { self.new ≡ with_words self.old (stored (words_of self.old) a (word new)) }
+        ensures words { self.new ≡ with_words self.old (stored (store_words self.old) a (word new)) }
         ensures changed { (b : Beside) → typed self.new b ≡ with_word (typed self.old b) a new }
         ensures typed { IsStore self.new }
         ensures shape { SameShape self.old self.new }
@@ -93,7 +93,7 @@ impl Cells {
         requires within { a < length self.old.cached }
         requires old_kind { IsKind old }
         requires new_kind { IsKind new }
-        ensures words { self.new ≡ with_words self.old (compared (words_of self.old) a (word old) (word new)) }
+        ensures words { self.new ≡ with_words self.old (compared (store_words self.old) a (word old) (word new)) }
         ensures found { result ≡ kind_at self.old.swaps self.old.cached a }
         ensures is_kind { IsKind result }
         ensures changed { result ≡ old → (b : Beside) → typed self.new b ≡ with_word (typed self.old b) a new }
@@ -110,7 +110,7 @@ impl Cells {
         requires typed { IsStore self.old }
         requires outside { IsOutside self.old.swaps a }
         requires within { a < length self.old.cached }
-        ensures words { self.new ≡ with_words self.old (flushed (words_of self.old) (a / 8)) }
+        ensures words { self.new ≡ with_words self.old (flushed (store_words self.old) (a / 8)) }
         ensures changed { (b : Beside) → typed self.new b ≡ with_copies (typed self.old b) (in_line a) }
         ensures typed { IsStore self.new }
         ensures shape { SameShape self.old self.new }
@@ -139,7 +139,7 @@ impl Cells {
     pub fn store_status(&mut self, swap: u16, new: SwapStatus)
         requires typed { IsStore self.old }
         requires descriptor { swap < self.old.swaps }
-        ensures words { self.new ≡ with_words self.old (stored (words_of self.old) (swap_address swap) (status_word new)) }
+        ensures words { self.new ≡ with_words self.old (stored (store_words self.old) (swap_address swap) (status_word new)) }
         ensures changed { (b : Beside) → typed self.new b ≡ with_status (typed self.old b) swap new }
         ensures typed { IsStore self.new }
         ensures shape { SameShape self.old self.new }
@@ -151,7 +151,7 @@ impl Cells {
     pub fn cas_status(&mut self, swap: u16, old: SwapStatus, new: SwapStatus) -> SwapStatus
         requires typed { IsStore self.old }
         requires descriptor { swap < self.old.swaps }
-        ensures words { self.new ≡ with_words self.old (compared (words_of self.old) (swap_address swap) (status_word old) (status_word new)) }
+        ensures words { self.new ≡ with_words self.old (compared (store_words self.old) (swap_address swap) (status_word old) (status_word new)) }
         ensures found { result ≡ status_at self.old.swaps self.old.cached swap }
         ensures changed { result ≡ old → (b : Beside) → typed self.new b ≡ with_status (typed self.old b) swap new }
         ensures unchanged { result ≢ old → self.new ≡ self.old }
@@ -178,7 +178,7 @@ impl Cells {
         requires typed { IsStore self.old }
         requires descriptor { swap < self.old.swaps }
         requires number { number < field_count }
-        ensures words { self.new ≡ with_words self.old (stored (words_of self.old) (field_address swap number) value) }
+        ensures words { self.new ≡ with_words self.old (stored (store_words self.old) (field_address swap number) value) }
         ensures changed { (b : Beside) → typed self.new b ≡ with_field (typed self.old b) swap number value }
         ensures typed { IsStore self.new }
         ensures shape { SameShape self.old self.new }
@@ -190,7 +190,7 @@ impl Cells {
     pub fn flush_head(&mut self, swap: u16)
         requires typed { IsStore self.old }
         requires descriptor { swap < self.old.swaps }
-        ensures words { self.new ≡ with_words self.old (flushed (words_of self.old) (swap_address swap / 8)) }
+        ensures words { self.new ≡ with_words self.old (flushed (store_words self.old) (swap_address swap / 8)) }
         ensures changed { (b : Beside) → typed self.new b ≡ with_durable_head (typed self.old b) swap }
         ensures typed { IsStore self.new }
         ensures shape { SameShape self.old self.new }
@@ -202,7 +202,7 @@ impl Cells {
     pub fn flush_tail(&mut self, swap: u16)
         requires typed { IsStore self.old }
         requires descriptor { swap < self.old.swaps }
-        ensures words { self.new ≡ with_words self.old (flushed (words_of self.old) (swap_address swap / 8 + 1)) }
+        ensures words { self.new ≡ with_words self.old (flushed (store_words self.old) (swap_address swap / 8 + 1)) }
         ensures changed { (b : Beside) → typed self.new b ≡ with_durable_fields (typed self.old b) swap in_tail }
         ensures typed { IsStore self.new }
         ensures shape { SameShape self.old self.new }
@@ -215,7 +215,7 @@ impl Cells {
         requires typed { IsStore self.old }
         requires outside { IsOutside self.old.swaps a }
         requires within { a < length self.old.cached }
-        ensures words { self.new ≡ with_words self.old (evicted (words_of self.old) a) }
+        ensures words { self.new ≡ with_words self.old (evicted (store_words self.old) a) }
         ensures changed { (b : Beside) → typed self.new b ≡ with_copies (typed self.old b) (λ c. c == a) }
         ensures typed { IsStore self.new }
         ensures shape { SameShape self.old self.new }
@@ -227,7 +227,7 @@ impl Cells {
     pub fn evict_status(&mut self, swap: u16)
         requires typed { IsStore self.old }
         requires descriptor { swap < self.old.swaps }
-        ensures words { self.new ≡ with_words self.old (evicted (words_of self.old) (swap_address swap)) }
+        ensures words { self.new ≡ with_words self.old (evicted (store_words self.old) (swap_address swap)) }
         ensures changed { (b : Beside) → typed self.new b ≡ with_durable_status (typed self.old b) swap }
         ensures typed { IsStore self.new }
         ensures shape { SameShape self.old self.new }
@@ -240,7 +240,7 @@ impl Cells {
         requires typed { IsStore self.old }
         requires descriptor { swap < self.old.swaps }
         requires number { number < field_count }
-        ensures words { self.new ≡ with_words self.old (evicted (words_of self.old) (field_address swap number)) }
+        ensures words { self.new ≡ with_words self.old (evicted (store_words self.old) (field_address swap number)) }
         ensures changed { (b : Beside) → typed self.new b ≡ with_durable_fields (typed self.old b) swap (λ k. k == number) }
         ensures typed { IsStore self.new }
         ensures shape { SameShape self.old self.new }

@@ -5,7 +5,7 @@ use crate::cells::Cells;
 impl Cells {
     ghost use Rattle.std.specs.Prelude.{◌≡◌, ◌*◌, ◌<◌, length, slice_index};
     ghost use Rattle.bz_pm.specs.Acts.{stored, flushed, evicted, after_cut as words_after_cut};
-    ghost use Rattle.bz_cells.specs.Store.{HasRoom, words_of, with_words};
+    ghost use Rattle.bz_cells.specs.Store.{HasRoom, store_words, with_words};
 
     /// The cached word at an address.
     pub fn load(&self, a: u32) -> u64
@@ -26,7 +26,7 @@ impl Cells {
     /// Stores a word.
     pub fn store(&mut self, a: u32, value: u64)
         requires { a < length self.old.cached }
-        ensures words { self.new ≡ with_words self.old (stored (words_of self.old) a value) }
+        ensures words { self.new ≡ with_words self.old (stored (store_words self.old) a value) }
         ensures room { HasRoom self.new }
     {
         self.pm.store(a, value);
@@ -35,7 +35,7 @@ impl Cells {
     /// Flushes a line.
     pub fn flush(&mut self, line: u32)
         requires { line * 8 < length self.old.cached }
-        ensures words { self.new ≡ with_words self.old (flushed (words_of self.old) line) }
+        ensures words { self.new ≡ with_words self.old (flushed (store_words self.old) line) }
         ensures room { HasRoom self.new }
     {
         self.pm.flush(line);
@@ -44,7 +44,7 @@ impl Cells {
     /// Makes a word durable.
     pub fn evict(&mut self, a: u32)
         requires { a < length self.old.cached }
-        ensures words { self.new ≡ with_words self.old (evicted (words_of self.old) a) }
+        ensures words { self.new ≡ with_words self.old (evicted (store_words self.old) a) }
         ensures room { HasRoom self.new }
     {
         self.pm.evict(a);
@@ -52,7 +52,7 @@ impl Cells {
 
     /// Cuts the power: the durable words are all that is left.
     pub fn cut(&mut self)
-        ensures words { self.new ≡ with_words self.old (words_after_cut (words_of self.old)) }
+        ensures words { self.new ≡ with_words self.old (words_after_cut (store_words self.old)) }
         ensures room { HasRoom self.new }
     {
         self.pm.cut();

@@ -24,7 +24,7 @@ impl Cells {
     ghost use Rattle.bz_pm.specs.Acts.{compared};
     ghost use Rattle.bz_machine.specs.Machine.{is_succeeded};
     ghost use Rattle.bz_machine.specs.Changes.{with_tag, with_miss};
-    ghost use Rattle.bz_cells.specs.Store.{Beside, IsStore, IsOutside, MayTag, SameShape, typed, words_of, kind_at, status_at};
+    ghost use Rattle.bz_cells.specs.Store.{Beside, IsStore, IsOutside, MayTag, SameShape, typed, store_words, kind_at, status_at};
 
     /// The number of a worker's next tag.
     pub fn next_tag(&self, worker: u8) -> u64
@@ -42,7 +42,7 @@ impl Cells {
         requires expected { expected < 2 ^ 61 }
         requires entry { entry < 4 }
         requires worker { MayTag self.old worker }
-        ensures words { words_of self.new ≡ compared (words_of self.old) a expected (word (tag swap entry worker (slice_index self.old.next_tags worker))) }
+        ensures words { store_words self.new ≡ compared (store_words self.old) a expected (word (tag swap entry worker (slice_index self.old.next_tags worker))) }
         ensures found { result ≡ kind_at self.old.swaps self.old.cached a }
         ensures changed { result ≡ Value expected → (b : Beside) → typed self.new b ≡ with_tag (typed self.old b) a swap entry worker }
         ensures unchanged { result ≢ Value expected → self.new ≡ self.old }
@@ -94,7 +94,7 @@ impl Cells {
     pub fn note_miss(&mut self, swap: u16)
         requires typed { IsStore self.old }
         requires descriptor { swap < self.old.swaps }
-        ensures words { words_of self.new ≡ words_of self.old }
+        ensures words { store_words self.new ≡ store_words self.old }
         ensures changed { (b : Beside) → typed self.new b ≡ with_miss (typed self.old b) swap }
         ensures typed { IsStore self.new }
         ensures shape { SameShape self.old self.new }

@@ -5,7 +5,7 @@ use Rattle.bz_layout.specs.declared.config.Config.{Config}
 use Rattle.bz_layout.specs.declared.sizes.TheConstants.{NODE_WORDS}
 use Rattle.bz_layout.specs.declared.thresholds.TheConstants.{INNER_LIMIT, SPLIT_SLOTS}
 use Rattle.bz_node.specs.Reading.{children_in}
-use Rattle.bz_parted.specs.Parting.{words_of}
+use Rattle.bz_parted.specs.Parting.{child_words}
 use Rattle.bz_word.specs.Statuses.{status}
 use Rattle.bz_task.specs.OwnActs.{AreTakenFrom}
 use Rattle.bz_task.specs.Requests.{Hears, Tells}
@@ -28,7 +28,7 @@ was-inner law r s good f now =
     subst (λ z. WasInner r.upper.slot z r.read s.past) v.is_guarded w
 
 -- it takes the words that its status counts
-is-many : (r : Crown) (s : Scene) (f : IsReading r NODE_WORDS s.past) → WasInner r.upper.slot f.links.guarded r.read s.past → INNER_LIMIT < words_of (children_in r.read)
+is-many : (r : Crown) (s : Scene) (f : IsReading r NODE_WORDS s.past) → WasInner r.upper.slot f.links.guarded r.read s.past → INNER_LIMIT < child_words (children_in r.read)
 is-many r s f w = omega (arith, w.node.node.taken, ap (λ z. (status z).count) f.were.first, ap (λ z. (status z).block) f.were.first, f.links.many)
 
 found-now : (c : Config) (r : Crown) (seen : Seen) (stage : Stage) (s : Scene) → Tells (crown_asks c r Again) stage seen s → seen ≡ Was r.lower.status → (here s).value r.lower.guard ≡ r.lower.status

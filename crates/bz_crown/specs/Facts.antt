@@ -20,7 +20,7 @@ use Rattle.bz_task.specs.declared.todo.Seen.{Seen}
 use Rattle.bz_task.specs.declared.todo.Seen.TheVariants.{Read as Was}
 use Rattle.bz_task.specs.declared.todo.Todo.{Todo}
 use Rattle.bz_task.specs.declared.todo.Todo.TheVariants.{Read as Reads, Store as Stores_at, Flush as Flushes_line, Swap as Swaps_for, Finish}
-use Rattle.bz_parted.specs.Parting.{words_of}
+use Rattle.bz_parted.specs.Parting.{child_words}
 use Rattle.bz_parted.specs.Roots.{tall_root_words}
 use Rattle.bz_renew.specs.Guards.{WasAsRead}
 use Rattle.bz_renew.specs.Nodes.{Nodes, word_address, word_value, line_number, AreWriting, ArePlain, HaveSlots, HasFilledBegun, AreSlotsTaken}
@@ -126,7 +126,7 @@ pub record IsReading (r : Crown) (place : ℕ) (p : Past) : Type 0 where
 pub record IsPlan (upper lower : Link) (read : List ℕ) (p : Past) : Type 0 where
   pub links : HasLinks upper lower p
   pub node : WasInner upper.slot links.guarded read p
-  pub many : INNER_LIMIT < words_of (children_in read)
+  pub many : INNER_LIMIT < child_words (children_in read)
   pub low_enough : node.level + 1 < MAX_LEVELS
 
 abbrev pub IsPlanned : Crown → Past → Type 0
@@ -139,7 +139,7 @@ pub record WasTooHigh (upper : Link) (p : Past) : Type 0 where
   pub since : p.since ≤ moment
   pub now : moment ≤ p.now
   pub node : WasInner upper.slot moment read p
-  pub many : INNER_LIMIT < words_of (children_in read)
+  pub many : INNER_LIMIT < child_words (children_in read)
   pub highest : MAX_LEVELS ≤ node.level + 1
 
 -- since the root's status was read the root status was looked at again, and was as the path names it; the three nodes are being

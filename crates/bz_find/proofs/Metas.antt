@@ -7,7 +7,7 @@ use Rattle.std.proofs.lemmas.List.{get_or-set_same, get_or-set_other, get_or-tak
 use Rattle.bz_key.specs.Packing.{packed_len, unpacked_key, unpacked_payload}
 use Rattle.bz_key.specs.declared.limits.TheConstants.{KEY_BYTES, PAYLOAD_BYTES}
 use Rattle.bz_layout.specs.declared.sizes.TheConstants.{META_AT, NODE_WORDS}
-use Rattle.bz_node.specs.Reading.{payload_at, payload_len, words_of}
+use Rattle.bz_node.specs.Reading.{payload_at, payload_len, extent_words}
 use Rattle.bz_node.proofs.Unpacked.{unpacked_key-some, unpacked_payload-some}
 use Rattle.bz_word.specs.declared.meta.Meta.{Meta}
 use Rattle.bz_word.specs.declared.meta.Meta.TheVariants.{Unused, Reserved, Visible, Deleted}
@@ -33,7 +33,7 @@ module _ (raw n : ℕ → ℕ) (lo hi : Option (List ℕ)) (h : Whole raw (page 
       let short : nat_le (lies (n (META_AT + j))).key KEY_BYTES ≡ true = grind (arith, nat_tests, l.short) in
       let few : payload_len (lies (n (META_AT + j))) ≤ PAYLOAD_BYTES = omega (arith, l.payload) in
       let payload : nat_le (payload_len (lies (n (META_AT + j)))) PAYLOAD_BYTES ≡ true = grind (arith, nat_tests, few) in
-      let ends : nat_le ((lies (n (META_AT + j))).offset + words_of (lies (n (META_AT + j)))) NODE_WORDS ≡ true = grind (arith, nat_tests, b.ends) in
+      let ends : nat_le ((lies (n (META_AT + j))).offset + extent_words (lies (n (META_AT + j)))) NODE_WORDS ≡ true = grind (arith, nat_tests, b.ends) in
       rw (v, some, short, payload, ends) refl
 
   pub is-hidden : is_record (n (META_AT + j)) ≡ false → visible ((page n).meta j) ≡ false

@@ -3,7 +3,7 @@ use Rattle.std.specs.Prelude.{◌≡◌, ℕ, ◌+◌, ◌<◌, ◌≤◌, true,
 use Rattle.bz_key.specs.Packing.{packed_len}
 use Rattle.bz_key.specs.declared.limits.TheConstants.{KEY_BYTES, PAYLOAD_BYTES}
 use Rattle.bz_layout.specs.declared.sizes.TheConstants.{NODE_WORDS, FENCE_WORDS, SHARED_WORDS}
-use Rattle.bz_node.specs.Reading.{payload_len, words_of}
+use Rattle.bz_node.specs.Reading.{payload_len, extent_words}
 use Rattle.bz_slotted.specs.Page.{visible, meta_of}
 use Rattle.bz_search.specs.Probes.{IsProbe, still}
 use Rattle.bz_search.specs.declared.probe.Probe.{Probe}
@@ -20,7 +20,7 @@ pub record IsLeafRecord (w : ℕ) : Type 0 where
   pub some : 0 < (lies w).key
   pub short : (lies w).key ≤ KEY_BYTES
   pub payload : payload_len (lies w) ≤ PAYLOAD_BYTES
-  pub ends : (lies w).offset + words_of (lies w) ≤ NODE_WORDS
+  pub ends : (lies w).offset + extent_words (lies w) ≤ NODE_WORDS
 
 -- the counts are those of a node
 pub record IsSized (t : Search) : Type 0 where

@@ -3,7 +3,7 @@
 use Rattle.std.specs.Prelude.{ℕ, ◌+◌, ◌^◌, ◌&&◌, nat_lt, nat_le, min, if◌then◌else◌, Bool}
 use Rattle.bz_key.specs.declared.limits.TheConstants.{KEY_BYTES, PAYLOAD_BYTES}
 use Rattle.bz_layout.specs.declared.sizes.TheConstants.{NODE_WORDS, SHARED_WORDS}
-use Rattle.bz_node.specs.Reading.{payload_len, words_of}
+use Rattle.bz_node.specs.Reading.{payload_len, extent_words}
 use Rattle.bz_slotted.specs.Page.{visible, meta_of, extent_of}
 use Rattle.bz_word.specs.Headers.{header}
 use Rattle.bz_word.specs.Statuses.{status}
@@ -23,7 +23,7 @@ lies w = extent_of (meta_of w)
 
 -- a record has the lengths of a leaf's, and lies in the node
 abbrev pub is_in_node : Extent → Bool
-is_in_node e = nat_lt 0 e.key && (nat_le e.key KEY_BYTES && (nat_le (payload_len e) PAYLOAD_BYTES && nat_le (e.offset + words_of e) NODE_WORDS))
+is_in_node e = nat_lt 0 e.key && (nat_le e.key KEY_BYTES && (nat_le (payload_len e) PAYLOAD_BYTES && nat_le (e.offset + extent_words e) NODE_WORDS))
 
 -- the metadata word names a visible record that does
 abbrev pub is_record : ℕ → Bool

@@ -18,7 +18,7 @@ use Rattle.bz_task.specs.declared.todo.Seen.TheVariants.{Read as Was, Swapped, N
 use Rattle.bz_task.specs.declared.todo.Todo.{Todo}
 use Rattle.bz_task.specs.declared.todo.Todo.TheVariants.{Read as Reads, Store as Stores_at, Flush as Flushes_line, Swap as Swaps_for, Finish}
 use Rattle.bz_halves.specs.Parents.{parted_words}
-use Rattle.bz_parted.specs.Parting.{words_of}
+use Rattle.bz_parted.specs.Parting.{child_words}
 use Rattle.bz_renew.specs.Freezings.{renewal_with}
 use Rattle.bz_renew.specs.Guards.{WasAsRead}
 use Rattle.bz_renew.specs.Nodes.{Nodes, word_address, word_value, line_number, AreWriting, ArePlain, HaveSlots, HasFilledBegun, AreSlotsTaken}
@@ -155,7 +155,7 @@ pub record IsReading (r : Fork) (place : ℕ) (p : Past) : Type 0 where
 pub record HasReadNode (r : Fork) (p : Past) : Type 0 where
   pub links : HasLinks r.upper r.middle r.lower p
   pub node : WasInner r.middle.slot links.counted r.read p
-  pub many : INNER_LIMIT < words_of (children_in r.read)
+  pub many : INNER_LIMIT < child_words (children_in r.read)
   pub above : WereRead r.upper.slot links.guarded r.middle.status 1 r.above p
 
 -- the halves of the node, and their separator
@@ -180,7 +180,7 @@ pub record LacksParts (read : List ℕ) (st : ℕ) : Type 0 where
 pub record IsReadingAbove (r : Fork) (place : ℕ) (p : Past) : Type 0 where
   pub links : HasLinks r.upper r.middle r.lower p
   pub node : WasInner r.middle.slot links.counted r.read p
-  pub many : INNER_LIMIT < words_of (children_in r.read)
+  pub many : INNER_LIMIT < child_words (children_in r.read)
   pub fits : FitsParts r.read r.middle.status
   pub above : WereRead r.upper.slot links.guarded r.middle.status place r.above p
 
@@ -188,7 +188,7 @@ pub record IsReadingAbove (r : Fork) (place : ℕ) (p : Past) : Type 0 where
 pub record IsPlan (upper middle lower : Link) (read above : List ℕ) (p : Past) : Type 0 where
   pub links : HasLinks upper middle lower p
   pub node : WasInner middle.slot links.counted read p
-  pub many : INNER_LIMIT < words_of (children_in read)
+  pub many : INNER_LIMIT < child_words (children_in read)
   pub left : List ℕ
   pub right : List ℕ
   pub sep : List ℕ

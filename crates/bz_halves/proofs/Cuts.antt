@@ -8,7 +8,7 @@ use Rattle.bz_node.specs.Layout.{needed}
 use Rattle.bz_node.specs.Records.{pair_entry, IsPair}
 use Rattle.bz_node.proofs.Entries.{IsEntry-pair}
 use Rattle.bz_node.proofs.Parts.{needed-append, needed_more, needed_nil}
-use Rattle.bz_halves.specs.Halves.{words_of, IsCut}
+use Rattle.bz_halves.specs.Halves.{record_words, IsCut}
 use Rattle.bz_halves.specs.Laws.{IsSplitLeaf}
 
 -- a record takes its metadata word and the words of its key and payload
@@ -18,17 +18,17 @@ size_of r = 1 + length (pair_entry r).words
 pub size-small : (r : List ℕ × List ℕ) → IsPair r → size_of r ≤ LEAF_RECORD_WORDS
 size-small r p = omega (arith, (IsEntry-pair r p.key p.payload).fits)
 
-pub words-parts : (rs : List (List ℕ × List ℕ)) (m : ℕ) → words_of (take m rs) + words_of (drop m rs) ≡ words_of rs
+pub words-parts : (rs : List (List ℕ × List ℕ)) (m : ℕ) → record_words (take m rs) + record_words (drop m rs) ≡ record_words rs
 words-parts rs m =
-    let parts : needed (map pair_entry (take m rs ++ drop m rs)) ≡ words_of (take m rs) + words_of (drop m rs) =
+    let parts : needed (map pair_entry (take m rs ++ drop m rs)) ≡ record_words (take m rs) + record_words (drop m rs) =
     rw (map-append pair_entry (take m rs) (drop m rs)) (needed-append (map pair_entry (take m rs)) (map pair_entry (drop m rs))) in
     sym (rw (take-append-drop m rs) at parts)
 
 -- one record more
-pub words-more : (rs : List (List ℕ × List ℕ)) (i : ℕ) (r : List ℕ × List ℕ) → i < length rs → r ≡ get_or rs i r → words_of (take (i + 1) rs) ≡ words_of (take i rs) + size_of r
+pub words-more : (rs : List (List ℕ × List ℕ)) (i : ℕ) (r : List ℕ × List ℕ) → i < length rs → r ≡ get_or rs i r → record_words (take (i + 1) rs) ≡ record_words (take i rs) + size_of r
 words-more rs i r within is = omega (arith, needed_more pair_entry rs i r within is)
 
-pub words-none : (rs : List (List ℕ × List ℕ)) → words_of (take 0 rs) ≡ 0
+pub words-none : (rs : List (List ℕ × List ℕ)) → record_words (take 0 rs) ≡ 0
 words-none rs = needed_nil
 
 module _ (law : LeafSplitsInHalves) (rs : List (List ℕ × List ℕ)) (low high : Option (List ℕ)) (cut : ℕ) (s : IsSplitLeaf rs low high) (c : IsCut rs cut) where
@@ -37,7 +37,7 @@ module _ (law : LeafSplitsInHalves) (rs : List (List ℕ × List ℕ)) (low high
     | inl l ↦ l
     | inr none ↦ (
         let zero : cut ≡ 0 = omega (arith, none) in
-        let few : words_of rs ≤ 2 * words_of (take 0 rs) = subst (λ z. words_of rs ≤ 2 * words_of (take z rs)) zero c.enough in
+        let few : record_words rs ≤ 2 * record_words (take 0 rs) = subst (λ z. record_words rs ≤ 2 * record_words (take z rs)) zero c.enough in
         absurd (omega (arith, few, words-none rs, s.many)))
   ]
 
@@ -45,13 +45,13 @@ module _ (law : LeafSplitsInHalves) (rs : List (List ℕ × List ℕ)) (low high
   last-in : cut - 1 < length rs
   last-in = elim (cases_lt (cut - 1) (length rs)) [
     | inl l ↦ l
-    | inr past ↦ absurd (omega (arith, c.fewest (cut - 1) (omega (arith, some)), ap words_of (take_all (cut - 1) rs past)))
+    | inr past ↦ absurd (omega (arith, c.fewest (cut - 1) (omega (arith, some)), ap record_words (take_all (cut - 1) rs past)))
   ]
 
   abbrev last : List ℕ × List ℕ
   last = get_or rs (cut - 1) ([], [])
 
-  left-is : words_of (take cut rs) ≡ words_of (take (cut - 1) rs) + size_of last
+  left-is : record_words (take cut rs) ≡ record_words (take (cut - 1) rs) + size_of last
   left-is =
       let e : cut - 1 + 1 ≡ cut = omega (arith, some) in
       rw e at (words-more rs (cut - 1) last last-in (same last-in))
@@ -59,18 +59,18 @@ module _ (law : LeafSplitsInHalves) (rs : List (List ℕ × List ℕ)) (low high
       same : cut - 1 < length rs → get_or rs (cut - 1) ([], []) ≡ get_or rs (cut - 1) (get_or rs (cut - 1) ([], []))
       same l = get_or_default rs (cut - 1) ([], []) (get_or rs (cut - 1) ([], [])) l
 
-  parts : AreHalves (words_of rs) (words_of (take (cut - 1) rs) + size_of last) SPLIT_ABOVE
-  parts = law (words_of rs) (words_of (take (cut - 1) rs)) (size_of last) s.many s.room
+  parts : AreHalves (record_words rs) (record_words (take (cut - 1) rs) + size_of last) SPLIT_ABOVE
+  parts = law (record_words rs) (record_words (take (cut - 1) rs)) (size_of last) s.many s.room
       (record { too_few = c.fewest (cut - 1) (omega (arith, some)); enough = omega (arith, c.enough, left-is) }) (size-small last (s.pairs (cut - 1) ([], []) last-in))
 
-  pub left-room : words_of (take cut rs) ≤ SPLIT_ABOVE
+  pub left-room : record_words (take cut rs) ≤ SPLIT_ABOVE
   left-room = omega (arith, parts.left_small, left-is)
 
-  pub right-room : words_of (drop cut rs) ≤ SPLIT_ABOVE
+  pub right-room : record_words (drop cut rs) ≤ SPLIT_ABOVE
   right-room = omega (arith, parts.right_small, left-is, words-parts rs cut)
 
   pub more : cut < length rs
   more = elim (cases_lt cut (length rs)) [
     | inl l ↦ l
-    | inr past ↦ absurd (omega (arith, parts.right_some, left-is, ap words_of (take_all cut rs past)))
+    | inr past ↦ absurd (omega (arith, parts.right_some, left-is, ap record_words (take_all cut rs past)))
   ]

@@ -5,7 +5,7 @@ use Rattle.std.proofs.lemmas.List.{take_rest}
 use Rattle.bz_layout.specs.declared.thresholds.TheConstants.{SPLIT_ABOVE}
 use Rattle.bz_node.specs.Records.{leaf_words, IsLeafList}
 use Rattle.bz_node.proofs.Orders.{get_or-keys_of}
-use Rattle.bz_halves.specs.Halves.{words_of, separator_of, left_words, right_words}
+use Rattle.bz_halves.specs.Halves.{record_words, separator_of, left_words, right_words}
 use Rattle.bz_halves.specs.Laws.{AreLeafHalves}
 
 module _ (rs : List (List ℕ × List ℕ)) (low high : Option (List ℕ)) (cut : ℕ) (d : List ℕ × List ℕ) (h : AreLeafHalves rs low high cut) where
@@ -22,8 +22,8 @@ module _ (rs : List (List ℕ × List ℕ)) (low high : Option (List ℕ)) (cut 
   pub right-list : IsLeafList rest (Some (get_or rs cut d).0) high
   right-list = subst (λ z. IsLeafList z (Some (get_or rs cut d).0) high) (sym (take_rest rs cut)) (subst (λ z. IsLeafList (drop cut rs) (Some z) high) (sym separator-read) h.right)
 
-  pub rest-room : words_of rest ≤ SPLIT_ABOVE
-  rest-room = subst (λ z. words_of z ≤ SPLIT_ABOVE) (sym (take_rest rs cut)) h.right_room
+  pub rest-room : record_words rest ≤ SPLIT_ABOVE
+  rest-room = subst (λ z. record_words z ≤ SPLIT_ABOVE) (sym (take_rest rs cut)) h.right_room
 
   pub left-is : (image : List ℕ) → image ≡ leaf_words (take cut rs) low (Some (get_or rs cut d).0) → image ≡ left_words rs low cut
   left-is image is = is ∙ ap (λ z. leaf_words (take cut rs) low (Some z)) separator-read

@@ -4,13 +4,13 @@ use Rattle.bz_node.specs.Layout.{needed}
 use Rattle.bz_node.specs.Records.{pair_entry, leaf_words, keys_of}
 
 -- the words that records take in a leaf: a metadata word each, and those of keys and payloads
-abbrev pub words_of : List (List ℕ × List ℕ) → ℕ
-words_of records = needed (map pair_entry records)
+abbrev pub record_words : List (List ℕ × List ℕ) → ℕ
+record_words records = needed (map pair_entry records)
 
 -- so many records go to the left: the fewest whose words, doubled, are at least the words of all
 pub record IsCut (records : List (List ℕ × List ℕ)) (cut : ℕ) : Type 0 where
-  pub enough : words_of records ≤ 2 * words_of (take cut records)
-  pub fewest : (k : ℕ) → k < cut → 2 * words_of (take k records) < words_of records
+  pub enough : record_words records ≤ 2 * record_words (take cut records)
+  pub fewest : (k : ℕ) → k < cut → 2 * record_words (take k records) < record_words records
 
 -- the first key of the right half, which parts the two
 abbrev pub separator_of : List (List ℕ × List ℕ) → ℕ → List ℕ

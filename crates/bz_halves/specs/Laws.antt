@@ -14,7 +14,7 @@ use Rattle.bz_shape.specs.Slots.{AreTwo}
 use Rattle.bz_slotted.specs.Readers.{count_of, child_of, key_of, found_of}
 use Rattle.bz_slotted.specs.ReadingLaws.{node_of, IsLeafOf}
 use Rattle.bz_slotted.specs.Rules.{node_fault}
-use Rattle.bz_halves.specs.Halves.{words_of, IsCut, separator_of, left_words, right_words}
+use Rattle.bz_halves.specs.Halves.{record_words, IsCut, separator_of, left_words, right_words}
 use Rattle.bz_halves.specs.Roots.{root_children, root_words}
 
 -- the records of a leaf that is to be split, between its fences
@@ -23,8 +23,8 @@ pub record IsSplitLeaf (records : List (List ℕ × List ℕ)) (low high : Optio
   pub low_bound : IsBound low
   pub high_bound : IsBound high
   pub leaf : IsLeafList records low high
-  pub many : SPLIT_ABOVE < words_of records
-  pub room : words_of records ≤ SHARED_WORDS
+  pub many : SPLIT_ABOVE < record_words records
+  pub room : record_words records ≤ SHARED_WORDS
 
 -- neither half is empty; both together are the records; the left one ends where the right one begins, at a key between the fences,
 -- which is not the lower one; and each leaves room for any record, and one word more
@@ -37,9 +37,9 @@ pub record AreLeafHalves (records : List (List ℕ × List ℕ)) (low high : Opt
   pub below : IsBelow high (separator_of records cut)
   pub left : IsLeafList (take cut records) low (Some (separator_of records cut))
   pub right : IsLeafList (drop cut records) (Some (separator_of records cut)) high
-  pub words : words_of (take cut records) + words_of (drop cut records) ≡ words_of records
-  pub left_room : words_of (take cut records) ≤ SPLIT_ABOVE
-  pub right_room : words_of (drop cut records) ≤ SPLIT_ABOVE
+  pub words : record_words (take cut records) + record_words (drop cut records) ≡ record_words records
+  pub left_room : record_words (take cut records) ≤ SPLIT_ABOVE
+  pub right_room : record_words (drop cut records) ≤ SPLIT_ABOVE
 
 abbrev pub LeavesPartInHalves : Type 0
 LeavesPartInHalves = (records : List (List ℕ × List ℕ)) (low high : Option (List ℕ)) (cut : ℕ) → IsSplitLeaf records low high → IsCut records cut → AreLeafHalves records low high cut

@@ -2,7 +2,7 @@
 
 ghost use Rattle.std.specs.Prelude.{◌≡◌, ◌+◌, ◌≤◌, length};
 ghost use Rattle.bz_node.specs.Records.{pair_entry};
-ghost use Rattle.bz_halves.specs.Halves.{words_of, IsCut};
+ghost use Rattle.bz_halves.specs.Halves.{record_words, IsCut};
 
 use bz_key::{Key, Payload};
 use bz_layout::{LEAF_RECORD_WORDS, SHARED_WORDS};
@@ -20,7 +20,7 @@ fn record_words(pair: &(Key, Payload)) -> u32
 
 /// How many of the records go to the left half, in one pass: the fewest whose words, doubled, are at least those of all, `live`.
 pub fn cut_of(records: &[(Key, Payload)], live: u32) -> usize
-    requires live { live ≡ words_of records.now }
+    requires live { live ≡ record_words records.now }
     requires room { live ≤ SHARED_WORDS }
     ensures cut { IsCut records.now result }
     ensures within { result ≤ length records.now }

@@ -2,7 +2,7 @@
 
 ghost use Rattle.std.specs.Prelude.{◌≡◌, ◌≤◌};
 ghost use Rattle.bz_node.specs.Records.{leaf_words, IsLeafList};
-ghost use Rattle.bz_halves.specs.Halves.{words_of};
+ghost use Rattle.bz_halves.specs.Halves.{record_words};
 ghost use Rattle.bz_halves.specs.Laws.{IsSplitLeaf};
 ghost use Rattle.bz_halves.specs.Made.{AreHalvesOf};
 
@@ -23,7 +23,7 @@ pub struct Halves {
 // The leaf of records that have room in it.
 fn leaf_of(records: &[(Key, Payload)], low: Option<Key>, high: Option<Key>) -> NodeImage
     requires leaf { IsLeafList records.now low high }
-    requires room { words_of records.now ≤ SPLIT_ABOVE }
+    requires room { record_words records.now ≤ SPLIT_ABOVE }
     ensures { result.0 ≡ leaf_words records.now low high }
 {
     match leaf(records, low, high) {
@@ -40,7 +40,7 @@ pub fn halves_of(
     live: u32,
 ) -> Halves
     requires leaf { IsSplitLeaf records.now low high }
-    requires live { live ≡ words_of records.now }
+    requires live { live ≡ record_words records.now }
     ensures { AreHalvesOf records.now low high result }
 {
     leaves_part_in_halves();

@@ -6,10 +6,10 @@ use Rattle.bz_image.specs.Worlds.{durable_words}
 use Rattle.bz_layout.specs.Addresses.{words_of}
 use Rattle.bz_mark.proofs.WordLaws.{length-words_of}
 use Rattle.bz_sound.specs.Power.Sound.{IsSound}
-use Rattle.bz_world.specs.Lab.{Lab}
+use Rattle.bz_world.specs.WorldView.{WorldView}
 
 -- a world has as many durable words as its memory has
-pub durable_long : (world : Lab) → IsSound world.config world.at_start world.log → length (durable_words world) ≡ words_of world.config
+pub durable_long : (world : WorldView) → IsSound world.config world.at_start world.log → length (durable_words world) ≡ words_of world.config
 durable_long world sound = (length-words_of world.log.start world.log.past).durable ∙ sound.size
 
 -- a word more of a piece

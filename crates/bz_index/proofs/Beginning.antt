@@ -23,10 +23,10 @@ use Rattle.bz_sound.specs.Calls.{Open, open_call}
 use Rattle.bz_sound.specs.Power.Times.{power_of}
 use Rattle.bz_sound.specs.declared.power.Power.{Power}
 use Rattle.bz_sound.specs.declared.power.Power.TheVariants as power
-use Rattle.bz_world.specs.Lab.{Lab, is_short, lacks_page, after_begin}
+use Rattle.bz_world.specs.WorldView.{WorldView, is_short, lacks_page, after_begin}
 use Rattle.bz_world.specs.declared.answers.Begun.{Begun}
 use Rattle.bz_world.specs.declared.answers.Begun.TheVariants as begun
-use Rattle.bz_world.specs.declared.answers.Which.TheVariants as which
+use Rattle.bz_world.specs.declared.answers.LimitKind.TheVariants as which
 
 module _ (origin : Origin) (w : ℕ) (call : Call) (first : List IndexEntry) where
   own_begin : (b : Bool) (new rest : Option Open) → (w == w) ≡ b → (if b then new else rest) ≡ new
@@ -52,7 +52,7 @@ module _ (origin : Origin) (w : ℕ) (call : Call) (first : List IndexEntry) whe
     });
   }
 
-  module _ (lab : Lab) (is : IsWorldOf origin (entries_in lab.log) lab) (extends : Extends first (entries_in lab.log)) (own : entries_of owner_of w (entries_in lab.log) ≡ entries_of owner_of w first) (rests : IsAtRest origin (entries_in lab.log) w) where
+  module _ (lab : WorldView) (is : IsWorldOf origin (entries_in lab.log) lab) (extends : Extends first (entries_in lab.log)) (own : entries_of owner_of w (entries_in lab.log) ≡ entries_of owner_of w first) (rests : IsAtRest origin (entries_in lab.log) w) where
     same : log_of origin (entries_in lab.log) ≡ lab.log
     same = log-told origin (entries_in lab.log) lab is
 
@@ -73,7 +73,7 @@ module _ (origin : Origin) (w : ℕ) (call : Call) (first : List IndexEntry) whe
   pub begin_leaves : (found left : List IndexEntry) (answer : Begun) → 0 < w → w ≤ origin.config.workers → HasBegun origin found w call answer left
       → Extends first found → entries_of owner_of w found ≡ entries_of owner_of w first → IsAtRest origin first w → BeginLeaves origin w call first left answer
   begin_leaves found left answer some within turn extends own at_rest =
-      let lab : Lab = turn.lab in
+      let lab : WorldView = turn.lab in
       let told = turn.before.told in
       let is : IsWorldOf origin (entries_in lab.log) lab = record { stays = turn.before.stays; told = refl; sound = turn.before.sound } in
       let extends_it : Extends first (entries_in lab.log) = subst (Extends first) (sym told) extends in

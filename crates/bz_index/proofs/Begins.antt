@@ -8,13 +8,13 @@ use Rattle.bz_mark.specs.declared.marks.Mark.TheVariants.{Begin}
 use Rattle.bz_sound.specs.Calls.{Open, open_call, begun_calls}
 use Rattle.bz_sound.specs.declared.power.Power.{Power}
 use Rattle.bz_sound.specs.declared.power.Power.TheVariants as power
-use Rattle.bz_world.specs.Lab.{Lab, is_short, lacks_page, power_in, powered_answer, answer_by, begin_answer, after_begin}
+use Rattle.bz_world.specs.WorldView.{WorldView, is_short, lacks_page, power_in, powered_answer, answer_by, begin_answer, after_begin}
 use Rattle.bz_world.specs.declared.answers.Begun.{Begun}
 use Rattle.bz_world.specs.declared.answers.Begun.TheVariants as begun
-use Rattle.bz_world.specs.declared.answers.Which.TheVariants as which
+use Rattle.bz_world.specs.declared.answers.LimitKind.TheVariants as which
 
 -- what an answer to a begin of a worker at rest tells of the world
-abbrev pub BeginTells : Lab → ℕ → Call → Begun → Type 0
+abbrev pub BeginTells : WorldView → ℕ → Call → Begun → Type 0
 BeginTells lab w called (begun.Begun n) = open_call w lab.log.past ≡ None
 BeginTells lab w called begun.NoWorker = ⊥
 BeginTells lab w called begun.Busy = ⊥
@@ -24,7 +24,7 @@ BeginTells lab w called (begun.Limit which.Marks) = is_short lab.log ≡ true
 BeginTells lab w called (begun.Limit which.Calls) = nat_le lab.log.limits.calls (count_begins lab.log.past) ≡ true
 BeginTells lab w called (begun.Limit which.Pages) = lacks_page lab.log called ≡ true
 
-module _ (lab : Lab) (w : ℕ) (called : Call) where
+module _ (lab : WorldView) (w : ℕ) (called : Call) where
   abbrev Tells : Begun → Type 0
   Tells answer = BeginTells lab w called answer
 

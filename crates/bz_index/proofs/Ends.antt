@@ -10,12 +10,12 @@ use Rattle.bz_mark.specs.declared.marks.Mark.{Mark}
 use Rattle.bz_mark.specs.declared.marks.Mark.TheVariants.{End}
 use Rattle.bz_sound.specs.Power.Sound.{IsSound}
 use Rattle.bz_sound.specs.Replies.{Pages}
-use Rattle.bz_world.specs.Lab.{Lab, IsApplied}
+use Rattle.bz_world.specs.WorldView.{WorldView, IsApplied}
 use Rattle.bz_world.specs.declared.answers.Applied.TheVariants as applied
 use Rattle.bz_world.specs.declared.answers.Event.TheVariants as event
 
 -- where a step answers that a call has ended
-pub has_ended : (old : Lab) (w n : ℕ) (new : Lab) → 0 < w → w ≤ old.config.workers → IsApplied old (event.Step w) (applied.Ended n) new → IsSound new.config new.at_start new.log → HasEnded new.log
+pub has_ended : (old : WorldView) (w n : ℕ) (new : WorldView) → 0 < w → w ≤ old.config.workers → IsApplied old (event.Step w) (applied.Ended n) new → IsSound new.config new.at_start new.log → HasEnded new.log
 has_ended old w n new some within h sound = ⊎_elim
     (λ made. let s = made.steps in let ends = s.ends in record {
       worker = w;

@@ -6,12 +6,12 @@ use Rattle.bz_index.proofs.Leaves.{Leaves, leaves-same, leaves-trans, leaves-any
 use Rattle.bz_mark.specs.declared.marks.Mark.TheVariants.{Evict, Cut, On}
 use Rattle.bz_sound.specs.declared.power.Power.{Power}
 use Rattle.bz_sound.specs.declared.power.Power.TheVariants as power
-use Rattle.bz_world.specs.Lab.{Lab, power_in, step_refusal, evict_refusal, cut_refusal, on_refusal, StepsBy, Evicts, IsApplied}
+use Rattle.bz_world.specs.WorldView.{WorldView, power_in, step_refusal, evict_refusal, cut_refusal, on_refusal, StepsBy, Evicts, IsApplied}
 use Rattle.bz_world.specs.declared.answers.Applied.{Applied}
 use Rattle.bz_world.specs.declared.answers.Event.{Event}
 use Rattle.bz_world.specs.declared.answers.Event.TheVariants as event
 
-module _ (old : Lab) (w : ℕ) (answer : Applied) (new : Lab) where
+module _ (old : WorldView) (w : ℕ) (answer : Applied) (new : WorldView) where
   abbrev Refuses : Applied → Type 0
   Refuses refusal = (answer ≡ refusal) × (new ≡ old)
 
@@ -20,7 +20,7 @@ module _ (old : Lab) (w : ℕ) (answer : Applied) (new : Lab) where
   either (Some refusal) h = inr h.1
 
   same_leaves : new ≡ old → Leaves 0 old.log new.log
-  same_leaves same = leaves-same 0 old.log new.log (ap (λ (lab : Lab). lab.log) same)
+  same_leaves same = leaves-same 0 old.log new.log (ap (λ (lab : WorldView). lab.log) same)
 
   by_steps : (p : Power) → w ≡ 0 → StepsBy p old w answer new → Leaves 0 old.log new.log
   by_steps power.Off zeroth h = subst (λ (v : ℕ). Leaves v old.log new.log) zeroth (leaves-steps old w answer new h)
@@ -32,7 +32,7 @@ module _ (old : Lab) (w : ℕ) (answer : Applied) (new : Lab) where
 
   leaves-evicted : (a : ℕ) → Evicts old a answer new → Leaves 0 old.log new.log
   leaves-evicted a h =
-      subst (λ (lab : Lab). Leaves 0 old.log lab.log) (sym h.rest)
+      subst (λ (lab : WorldView). Leaves 0 old.log lab.log) (sym h.rest)
       (leaves-trans 0 _ _ _ (leaves-mark 0 (Evict a) old.log refl (inl refl)) (leaves-any 0 _ _ (leaves-struck old.log (Evict a ∷ old.log.past) h.past h.effect)))
 
   pub leaves-eviction : (a : ℕ) → IsApplied old (event.Evict a) answer new → Leaves 0 old.log new.log
@@ -40,18 +40,18 @@ module _ (old : Lab) (w : ℕ) (answer : Applied) (new : Lab) where
 
   pub leaves-cut : IsApplied old event.Cut answer new → Leaves 0 old.log new.log
   leaves-cut h = ⊎_elim
-      (λ made. subst (λ (lab : Lab). Leaves 0 old.log lab.log) (sym made.1) (leaves-mark 0 Cut old.log refl (inl refl)))
+      (λ made. subst (λ (lab : WorldView). Leaves 0 old.log lab.log) (sym made.1) (leaves-mark 0 Cut old.log refl (inl refl)))
       same_leaves
       (either (cut_refusal old) h)
 
   pub leaves-on : IsApplied old event.On answer new → Leaves 0 old.log new.log
   leaves-on h = ⊎_elim
-      (λ made. subst (λ (lab : Lab). Leaves 0 old.log lab.log) (sym made.1) (leaves-mark 0 On old.log refl (inl refl)))
+      (λ made. subst (λ (lab : WorldView). Leaves 0 old.log lab.log) (sym made.1) (leaves-mark 0 On old.log refl (inl refl)))
       same_leaves
       (either (on_refusal old) h)
 
 -- an event of the first pass adds entries of its own or of nobody
-pub leaves-event : (old : Lab) (e : Event) (answer : Applied) (new : Lab) → IsEventOfFirst e → IsApplied old e answer new → Leaves 0 old.log new.log
+pub leaves-event : (old : WorldView) (e : Event) (answer : Applied) (new : WorldView) → IsEventOfFirst e → IsApplied old e answer new → Leaves 0 old.log new.log
 leaves-event old (event.Step w) answer new first h = leaves-recovery old w answer new first h
 leaves-event old (event.Evict a) answer new first h = leaves-eviction old 0 answer new a h
 leaves-event old event.Cut answer new first h = leaves-cut old 0 answer new h

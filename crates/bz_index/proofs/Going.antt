@@ -27,12 +27,12 @@ use Rattle.bz_sound.specs.Power.Laws.{PowerTellsWhatFollows}
 use Rattle.bz_sound.specs.Power.Sound.{IsSound}
 use Rattle.bz_sound.specs.declared.power.Power.{Power}
 use Rattle.bz_sound.specs.declared.power.Power.TheVariants as power
-use Rattle.bz_world.specs.Lab as world
-use Rattle.bz_world.specs.Lab.{Lab, is_short, power_in, IsEnding, IsApplied}
+use Rattle.bz_world.specs.WorldView as world
+use Rattle.bz_world.specs.WorldView.{WorldView, is_short, power_in, IsEnding, IsApplied}
 use Rattle.bz_world.specs.declared.answers.Applied.{Applied}
 use Rattle.bz_world.specs.declared.answers.Applied.TheVariants as applied
 use Rattle.bz_world.specs.declared.answers.Event.TheVariants as event
-use Rattle.bz_world.specs.declared.answers.Which.TheVariants as which
+use Rattle.bz_world.specs.declared.answers.LimitKind.TheVariants as which
 
 module _ (origin : Origin) (w : ℕ) (call : Call) (first : List IndexEntry) where
   abbrev Tells : Log → Applied → Type 0
@@ -52,7 +52,7 @@ module _ (origin : Origin) (w : ℕ) (call : Call) (first : List IndexEntry) whe
   going config at_start log (applied.Ended n) new goes sound run = (ended_rests log n new goes, replied w call first log run config at_start n new goes sound)
   going config at_start log other new goes sound run = absurd goes
 
-  module _ (law : PowerTellsWhatFollows) (old : Lab) (is : IsWorldOf origin (entries_in old.log) old) (run : IsRunning w call first (entries_in old.log)) where
+  module _ (law : PowerTellsWhatFollows) (old : WorldView) (is : IsWorldOf origin (entries_in old.log) old) (run : IsRunning w call first (entries_in old.log)) where
     -- the call is open no more only if the power was cut
     cut_since : ((opened : Open) → open_call w old.log.past ≡ Some opened → ⊥) → IsAtRest origin (entries_in old.log) w × WasCut w call first (entries_in old.log)
     cut_since closed = ⊎_elim
@@ -72,12 +72,12 @@ module _ (origin : Origin) (w : ℕ) (call : Call) (first : List IndexEntry) whe
     stopped applied.Idle tells = cut_since (λ opened is_open. absurd cc)
     stopped other tells = absurd tells
 
-    pub stepped : (answer : Applied) (new : Lab) → 0 < w → w ≤ old.config.workers → w < PASSES → IsSound new.config new.at_start new.log → IsApplied old (event.Step w) answer new → Tells new.log answer
+    pub stepped : (answer : Applied) (new : WorldView) → 0 < w → w ≤ old.config.workers → w < PASSES → IsSound new.config new.at_start new.log → IsApplied old (event.Step w) answer new → Tells new.log answer
     stepped answer new some within below sound h = ⊎_elim
         (λ made. let s = made.steps in
         going new.config new.at_start (record old.log { past = s.struck }) answer new.log s.ends sound
         (run_acted w call first w old.log (record old.log { past = s.struck }) below (leaves-acted w s.made old.log s.struck s.effect) run))
-        (λ stays. subst (λ (lab : Lab). Tells lab.log answer) (sym stays.0) (stopped answer stays.1))
+        (λ stays. subst (λ (lab : WorldView). Tells lab.log answer) (sym stays.0) (stopped answer stays.1))
         (read_step old w answer new some within h)
 
   -- what the answer says is so

@@ -11,7 +11,7 @@ use Rattle.bz_index.proofs.Lists.{told-quiet, Paged, paged}
 use Rattle.bz_mark.specs.Log.{Log, with_mark, count_page_ends}
 use Rattle.bz_mark.specs.declared.marks.Mark.{Mark}
 use Rattle.bz_mark.specs.declared.marks.Mark.TheVariants.{End, Ready, Effect}
-use Rattle.bz_world.specs.Lab.{Lab, mark_of, IsStruck, IsEnding, GoesOn, Steps, EndsRecovery, Recovers}
+use Rattle.bz_world.specs.WorldView.{WorldView, mark_of, IsStruck, IsEnding, GoesOn, Steps, EndsRecovery, Recovers}
 use Rattle.bz_world.specs.declared.answers.Applied.{Applied}
 use Rattle.bz_world.specs.declared.answers.Applied.TheVariants as applied
 
@@ -96,7 +96,7 @@ leaves-going old w applied.Stepped new goes = leaves-same w old new goes
 leaves-going old w (applied.Ended n) new goes = leaves-ending old w n new goes
 leaves-going old w other new goes = absurd goes
 
-pub leaves-steps : (old : Lab) (w : ℕ) (answer : Applied) (new : Lab) → Steps old w answer new → Leaves w old.log new.log
+pub leaves-steps : (old : WorldView) (w : ℕ) (answer : Applied) (new : WorldView) → Steps old w answer new → Leaves w old.log new.log
 leaves-steps old w answer new steps =
     leaves-trans w _ _ _ (leaves-any w _ _ (leaves-acted w steps.made old.log steps.struck steps.effect)) (leaves-going (record old.log { past = steps.struck }) w answer new.log steps.ends)
 
@@ -105,5 +105,5 @@ leaves-recovering old applied.Stepped new goes = leaves-same 0 old new goes
 leaves-recovering old applied.Ready new goes = subst (Leaves 0 old) (sym goes) (leaves-mark 0 Ready old refl (inl refl))
 leaves-recovering old other new goes = absurd goes
 
-pub leaves-recovers : (old : Lab) (answer : Applied) (new : Lab) → Recovers old answer new → Leaves 0 old.log new.log
+pub leaves-recovers : (old : WorldView) (answer : Applied) (new : WorldView) → Recovers old answer new → Leaves 0 old.log new.log
 leaves-recovers old answer new steps = leaves-trans 0 _ _ _ (leaves-any 0 _ _ (leaves-act 0 steps.made old.log)) (leaves-recovering _ answer new.log steps.ends)

@@ -11,7 +11,7 @@ use Rattle.bz_mark.specs.declared.marks.Mark.{Mark}
 use Rattle.bz_mark.specs.declared.marks.Mark.TheVariants.{End}
 use Rattle.bz_sound.specs.Power.Sound.{IsSound}
 use Rattle.bz_sound.specs.Replies.{Pages}
-use Rattle.bz_world.specs.Lab.{Lab}
+use Rattle.bz_world.specs.WorldView.{WorldView}
 
 pub marks-told : (past : List Mark) (pages : Pages) → marks_in (told past pages) ≡ past
 marks-told [] pages = refl
@@ -45,7 +45,7 @@ same_log : (log : Log) (past : List Mark) (pages : Pages) → past ≡ log.past 
 same_log log past pages e f = λ i. record log { past = e i; pages = f i }
 
 -- what the entries of a world tell is its journal
-pub log-told : (origin : Origin) (entries : List IndexEntry) (lab : Lab) → IsWorldOf origin entries lab → log_of origin entries ≡ lab.log
+pub log-told : (origin : Origin) (entries : List IndexEntry) (lab : WorldView) → IsWorldOf origin entries lab → log_of origin entries ≡ lab.log
 log-told origin entries lab is =
     let log : Log = lab.log in
     let pages : pages_in (entries_in log) ≡ reverse log.pages = pages-told log.past (reverse log.pages) (length-reverse log.pages ∙ is.sound.pages) in
@@ -53,7 +53,7 @@ log-told origin entries lab is =
     subst (λ (o : Origin). log_of o entries ≡ log) is.stays (subst (λ (es : List IndexEntry). log_of (origin_of lab) es ≡ log) is.told same)
 
 -- so they are a sound journal
-pub list_sound : (origin : Origin) (entries : List IndexEntry) (lab : Lab) → IsWorldOf origin entries lab → IsSoundList origin entries
+pub list_sound : (origin : Origin) (entries : List IndexEntry) (lab : WorldView) → IsWorldOf origin entries lab → IsSoundList origin entries
 list_sound origin entries lab is =
     subst (λ (log : Log). IsSound origin.config origin.at_start log) (sym (log-told origin entries lab is))
     (subst (λ (o : Origin). IsSound o.config o.at_start lab.log) is.stays is.sound)

@@ -6,7 +6,7 @@ use Rattle.bz_index.specs.Entries.{origin_of}
 use Rattle.bz_mark.specs.Log.{Log, Limits}
 use Rattle.bz_sound.specs.declared.power.Power.{Power}
 use Rattle.bz_sound.specs.declared.power.Power.TheVariants as power
-use Rattle.bz_world.specs.Lab.{Lab, after_begin, power_in, step_refusal, evict_refusal, cut_refusal, on_refusal, GoesOn, Steps, EndsRecovery, StepsBy, IsApplied}
+use Rattle.bz_world.specs.WorldView.{WorldView, after_begin, power_in, step_refusal, evict_refusal, cut_refusal, on_refusal, GoesOn, Steps, EndsRecovery, StepsBy, IsApplied}
 use Rattle.bz_world.specs.declared.answers.Applied.{Applied}
 use Rattle.bz_world.specs.declared.answers.Applied.TheVariants as applied
 use Rattle.bz_world.specs.declared.answers.Begun.{Begun}
@@ -14,7 +14,7 @@ use Rattle.bz_world.specs.declared.answers.Begun.TheVariants as begun
 use Rattle.bz_world.specs.declared.answers.Event.{Event}
 use Rattle.bz_world.specs.declared.answers.Event.TheVariants as event
 
-pub begun_origin : (lab : Lab) (w : ℕ) (call : Call) (answer : Begun) → origin_of (after_begin lab w call answer) ≡ origin_of lab
+pub begun_origin : (lab : WorldView) (w : ℕ) (call : Call) (answer : Begun) → origin_of (after_begin lab w call answer) ≡ origin_of lab
 begun_origin lab w call (begun.Begun n) = refl
 begun_origin lab w call answer = refl
 
@@ -23,7 +23,7 @@ record Same (old new : Log) : Type 0 where
   pub start : new.start ≡ old.start
   pub limits : new.limits ≡ old.limits
 
-origin_by : (old new : Lab) → new.config ≡ old.config → new.at_start ≡ old.at_start → Same old.log new.log → origin_of new ≡ origin_of old
+origin_by : (old new : WorldView) → new.config ≡ old.config → new.at_start ≡ old.at_start → Same old.log new.log → origin_of new ≡ origin_of old
 origin_by old new config at_start same = λ i. record {
   config = config i;
   start = same.start i;
@@ -46,7 +46,7 @@ recovering_same old applied.Stepped new goes = same_as old new goes
 recovering_same old applied.Ready new goes = record { start = ap (λ (log : Log). log.start) goes; limits = ap (λ (log : Log). log.limits) goes }
 recovering_same old other new goes = absurd goes
 
-module _ (old : Lab) (answer : Applied) (new : Lab) where
+module _ (old : WorldView) (answer : Applied) (new : WorldView) where
   steps_origin : (w : ℕ) → Steps old w answer new → origin_of new ≡ origin_of old
   steps_origin w s = let same = going_same _ w answer new.log s.ends in origin_by old new s.config s.at_start (record { start = same.start; limits = same.limits })
 
@@ -60,7 +60,7 @@ module _ (old : Lab) (answer : Applied) (new : Lab) where
   either (Some refusal) made h = ap origin_of h.1
 
 -- an event leaves the fixed part
-pub made_origin : (old : Lab) (e : Event) (answer : Applied) (new : Lab) → IsApplied old e answer new → origin_of new ≡ origin_of old
+pub made_origin : (old : WorldView) (e : Event) (answer : Applied) (new : WorldView) → IsApplied old e answer new → origin_of new ≡ origin_of old
 made_origin old (event.Step w) answer new h = either old answer new (step_refusal old w) (by_power old answer new (power_in old) w) h
 made_origin old (event.Evict a) answer new h = either old answer new (evict_refusal old a) (λ made. ap origin_of made.rest) h
 made_origin old event.Cut answer new h = either old answer new (cut_refusal old) (λ made. ap origin_of made.1) h

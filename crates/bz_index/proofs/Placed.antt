@@ -15,7 +15,7 @@ use Rattle.bz_index.specs.declared.index.IndexPass.{IndexPass}
 use Rattle.bz_index.specs.declared.shared.IndexEntry.{IndexEntry}
 use Rattle.bz_index.specs.declared.shared.Origin.{Origin}
 use Rattle.bz_sound.specs.Calls.{open_call}
-use Rattle.bz_world.specs.Lab.{Lab}
+use Rattle.bz_world.specs.WorldView.{WorldView}
 use Rattle.bz_world.specs.declared.answers.Applied.{Applied}
 use Rattle.bz_world.specs.declared.answers.Event.{Event}
 
@@ -29,7 +29,7 @@ first_pass index p pass room below zeroth sound first = record {
 }
 
 -- the first pass of an index that was opened over this world
-pub opened : (index : Index) (p : IndexPass) (lab : Lab) → bus.IsPassOf index.bus p.pass → bus.passes_of index.bus ≡ lab.config.workers + 1 → origin_in index ≡ origin_of lab → lab.config.workers < PASSES
+pub opened : (index : Index) (p : IndexPass) (lab : WorldView) → bus.IsPassOf index.bus p.pass → bus.passes_of index.bus ≡ lab.config.workers + 1 → origin_in index ≡ origin_of lab → lab.config.workers < PASSES
     → worker_of p ≡ 0 → seen_by p ≡ entries_in lab.log → IsWorldOf (origin_of lab) (entries_in lab.log) lab → ((w : ℕ) → open_call w lab.log.past ≡ None) → ((w : ℕ) → 0 < w → IsFree p w) → IsPassOf index p
 opened index p lab pass room origin below zeroth seen world none free =
     let workers : (origin_in index).config.workers ≡ lab.config.workers = ap (λ (o : Origin). o.config.workers) origin in

@@ -14,7 +14,7 @@ use Rattle.bz_index.specs.declared.shared.IndexEntry.{IndexEntry}
 use Rattle.bz_index.specs.declared.shared.Origin.{Origin}
 use Rattle.bz_mark.specs.Log.{Log}
 use Rattle.bz_sound.specs.Calls.{open_call}
-use Rattle.bz_world.specs.Lab.{Lab, is_short}
+use Rattle.bz_world.specs.WorldView.{WorldView, is_short}
 
 pub length-extends : (xs ys : List IndexEntry) → Extends xs ys → length xs ≤ length ys
 length-extends xs ys (added, is) = let l = ap length is in omega (arith, length-append added xs)
@@ -36,7 +36,7 @@ rest_stays origin w xs ys (added, is) own rests = ⊎_elim
     rests
 
 -- what the first pass knows when the index is opened
-pub first_opened : (origin : Origin) (seen : List IndexEntry) (lab : Lab) (free : List Bool) → IsWorldOf origin seen lab → ((w : ℕ) → open_call w lab.log.past ≡ None) → ((n : ℕ) → 0 < n → IsFreeIn free n)
+pub first_opened : (origin : Origin) (seen : List IndexEntry) (lab : WorldView) (free : List Bool) → IsWorldOf origin seen lab → ((w : ℕ) → open_call w lab.log.past ≡ None) → ((n : ℕ) → 0 < n → IsFreeIn free n)
     → IsFirst origin seen free
 first_opened origin seen lab free is none all = record {
   rests = λ w some within f. inl (ap (λ (log : Log). open_call w log.past) (log-told origin seen lab is) ∙ none w);

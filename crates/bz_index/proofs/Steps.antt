@@ -5,13 +5,13 @@ use Rattle.bz_index.proofs.Leaves.{Leaves, leaves-same, leaves-steps}
 use Rattle.bz_sound.specs.Calls.{Open, open_call}
 use Rattle.bz_sound.specs.declared.power.Power.{Power}
 use Rattle.bz_sound.specs.declared.power.Power.TheVariants as power
-use Rattle.bz_world.specs.Lab.{Lab, is_short, power_in, step_by, Steps, StepsBy, IsApplied}
+use Rattle.bz_world.specs.WorldView.{WorldView, is_short, power_in, step_by, Steps, StepsBy, IsApplied}
 use Rattle.bz_world.specs.declared.answers.Applied.{Applied}
 use Rattle.bz_world.specs.declared.answers.Applied.TheVariants as applied
 use Rattle.bz_world.specs.declared.answers.Event.TheVariants as event
 
 -- what a refusal of a worker's step tells of the world
-abbrev pub RefusalTells : Lab → ℕ → Applied → Type 0
+abbrev pub RefusalTells : WorldView → ℕ → Applied → Type 0
 RefusalTells old w applied.Limit = is_short old.log ≡ true
 RefusalTells old w applied.Off = power_in old ≡ power.Off
 RefusalTells old w applied.Recovering = power_in old ≡ power.Recovering
@@ -19,12 +19,12 @@ RefusalTells old w applied.Idle = open_call w old.log.past ≡ None
 RefusalTells old w other = ⊥
 
 -- a step that was made, of an open call
-pub record Makes (old : Lab) (w : ℕ) (answer : Applied) (new : Lab) : Type 0 where
+pub record Makes (old : WorldView) (w : ℕ) (answer : Applied) (new : WorldView) : Type 0 where
   pub opened : Open
   pub is_open : open_call w old.log.past ≡ Some opened
   pub steps : Steps old w answer new
 
-module _ (old : Lab) (w : ℕ) (answer : Applied) (new : Lab) where
+module _ (old : WorldView) (w : ℕ) (answer : Applied) (new : WorldView) where
   abbrev Read : Type 0
   Read = Makes old w answer new ⊎ ((new ≡ old) × RefusalTells old w answer)
 
@@ -63,5 +63,5 @@ module _ (old : Lab) (w : ℕ) (answer : Applied) (new : Lab) where
   pub leaves-step : 0 < w → w ≤ old.config.workers → IsApplied old (event.Step w) answer new → Leaves w old.log new.log
   leaves-step some within h = ⊎_elim
       (λ made. leaves-steps old w answer new made.steps)
-      (λ stays. leaves-same w old.log new.log (ap (λ (lab : Lab). lab.log) stays.0))
+      (λ stays. leaves-same w old.log new.log (ap (λ (lab : WorldView). lab.log) stays.0))
       (read_step some within h)

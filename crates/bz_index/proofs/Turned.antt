@@ -18,11 +18,11 @@ use Rattle.bz_index.specs.declared.index.IndexPass.{IndexPass}
 use Rattle.bz_index.specs.declared.shared.IndexEntry.{IndexEntry}
 use Rattle.bz_index.specs.declared.shared.Origin.{Origin}
 use Rattle.bz_layout.specs.declared.config.Config.{Config}
-use Rattle.bz_world.specs.Lab.{Lab}
+use Rattle.bz_world.specs.WorldView.{WorldView}
 use Rattle.bz_world.specs.declared.answers.Begun.{Begun}
 
 -- it is still one of the index
-pub placed_after : (index : Index) (old now : IndexPass) (lab : Lab) → IsPlaced index old → bus.IsPassOf index.bus now.pass → worker_of now ≡ worker_of old → IsWorldOf (origin_in index) (seen_by now) lab
+pub placed_after : (index : Index) (old now : IndexPass) (lab : WorldView) → IsPlaced index old → bus.IsPassOf index.bus now.pass → worker_of now ≡ worker_of old → IsWorldOf (origin_in index) (seen_by now) lab
     → IsPlaced index now
 placed_after index old now lab was pass same is = record {
   pass = pass;

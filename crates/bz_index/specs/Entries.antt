@@ -8,7 +8,7 @@ use Rattle.bz_mark.specs.Log.{Log}
 use Rattle.bz_mark.specs.declared.marks.Mark.{Mark}
 use Rattle.bz_mark.specs.declared.marks.Mark.TheVariants.{Begin, End, Evict, Cut, On, Ready}
 use Rattle.bz_sound.specs.Replies.{Pages}
-use Rattle.bz_world.specs.Lab.{Lab}
+use Rattle.bz_world.specs.WorldView.{WorldView}
 
 -- the mark is an End that names a page
 abbrev pub has_page : Mark → Bool
@@ -39,7 +39,7 @@ abbrev pub entries_in : Log → List IndexEntry
 entries_in log = told log.past (reverse log.pages)
 
 -- what stays of a world
-abbrev pub origin_of : Lab → Origin
+abbrev pub origin_of : WorldView → Origin
 origin_of lab = record {
   config = lab.config;
   start = lab.log.start;

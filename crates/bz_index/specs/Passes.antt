@@ -10,7 +10,7 @@ use Rattle.bz_index.specs.declared.index.IndexPass.{IndexPass}
 use Rattle.bz_index.specs.declared.shared.IndexEntry.{IndexEntry}
 use Rattle.bz_index.specs.declared.shared.Origin.{Origin}
 use Rattle.bz_sound.specs.Calls.{open_call}
-use Rattle.bz_world.specs.Lab.{is_short}
+use Rattle.bz_world.specs.WorldView.{is_short}
 use Rattle.bz_world.specs.declared.answers.Event.{Event}
 use Rattle.bz_world.specs.declared.answers.Event.TheVariants as event
 

@@ -1,6 +1,6 @@
 // What a call of an index is answered.
 use bz_call::Reply;
-use bz_world::Which;
+use bz_world::LimitKind;
 
 /// The answer to a call. All but `Reply` leave the worker without an End of the call.
 #[derive(Clone, Copy)]
@@ -15,5 +15,5 @@ pub enum Answer {
     Recovering,
 
     /// The journal has no room.
-    Limit(Which),
+    Limit(LimitKind),
 }

@@ -13,7 +13,7 @@ mod tests;
 mod turns;
 
 pub use answer::Answer;
-pub use bz_world::{Which, World};
+pub use bz_world::{LimitKind, World};
 pub use call::{Gate, NoGate};
 pub use index::{Index, IndexPass};
 pub use shared::{IndexEntry, Origin};

@@ -8,7 +8,7 @@ use crate::answer::Answer;
 use bz_call::Reply;
 use bz_key::{Key, PAGE_PAIRS, PageBuf, Payload};
 use bz_mark::{Journal, Mark};
-use bz_world::{Applied, Which};
+use bz_world::{Applied, LimitKind};
 
 // None while the call goes on.
 pub(crate) fn answer_of(applied: Applied, journal: &Journal, page: &mut PageBuf) -> Option<Answer>
@@ -18,7 +18,7 @@ pub(crate) fn answer_of(applied: Applied, journal: &Journal, page: &mut PageBuf)
     match applied {
         Applied::Stepped => None,
         Applied::Ended(_) => Some(Answer::Reply(newest_reply(journal, page))),
-        Applied::Limit => Some(Answer::Limit(Which::Marks)),
+        Applied::Limit => Some(Answer::Limit(LimitKind::Marks)),
         // No other step of a call is refused, unless the power was cut.
         _ => Some(Answer::Off),
     }

@@ -16,7 +16,7 @@ use Rattle.bz_node.proofs.Parts.{needed-append}
 use Rattle.bz_shape.specs.Order.{is_before}
 use Rattle.bz_slotted.specs.ReadingLaws.{node_of, IsLeafOf, MadeLeavesAreWhole}
 use Rattle.bz_slotted.proofs.MadeLeaves.{before-test, test-before}
-use Rattle.bz_halves.specs.Halves.{words_of}
+use Rattle.bz_halves.specs.Halves.{record_words}
 use Rattle.bz_join.specs.Leaves.{AreNeighbours, joined_words, AreJoined, NeighboursJoin}
 use Rattle.bz_join.proofs.Lookups.{none-of, find-left, find-right}
 
@@ -57,7 +57,7 @@ module _ (left right : List (List ℕ × List ℕ)) (low high : Option (List ℕ
     below = subst (All (IsBelow high)) (sym keys) (All-append (IsBelow high) (keys_of left) (keys_of right) (λ i d l. below-before high sep _ n.below (n.left_list.below i d l)) n.right_list.below);
   }
 
-  pub words : words_of (left ++ right) ≡ words_of left + words_of right
+  pub words : record_words (left ++ right) ≡ record_words left + record_words right
   words = ap needed (map-append pair_entry left right) ∙ needed-append (map pair_entry left) (map pair_entry right)
 
   says-left : (key : List ℕ) → is_before key sep ≡ true → find (slice_cmp nat_cmp) key (left ++ right) ≡ find (slice_cmp nat_cmp) key left
@@ -83,7 +83,7 @@ pub join : MadeLeavesAreWhole → NeighboursJoin
 join made nodes left right low high sep n = both left right low high sep n made nodes
 
 -- each record takes two words at least
-pub two-words : (rs : List (List ℕ × List ℕ)) → All IsPair rs → 2 * length rs ≤ words_of rs
+pub two-words : (rs : List (List ℕ × List ℕ)) → All IsPair rs → 2 * length rs ≤ record_words rs
 unfolding block
 two-words [] each = omega arith
 two-words (r ∷ rs) each =

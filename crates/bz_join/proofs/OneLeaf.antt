@@ -9,7 +9,7 @@ use Rattle.bz_shape.specs.Order.{is_before}
 use Rattle.bz_slotted.specs.Readers.{found_of}
 use Rattle.bz_slotted.specs.ReadingLaws.{node_of}
 use Rattle.bz_slotted.specs.Rules.{node_fault}
-use Rattle.bz_halves.specs.Halves.{words_of}
+use Rattle.bz_halves.specs.Halves.{record_words}
 use Rattle.bz_renew.specs.Sorted.{IsSortedLeaf}
 use Rattle.bz_renew.proofs.Plainness.{leaf-plain}
 use Rattle.bz_join.specs.Leaves.{AreNeighbours, AreJoined, NeighboursJoin, MayJoin, IsOneOf}
@@ -54,7 +54,7 @@ module _ (left right : List ℕ) (xs ys : List (List ℕ × List ℕ)) (low midd
     pub list : IsLeafList (xs ++ ys) low high
     list = (joined 0).list
 
-    pub room : words_of (xs ++ ys) ≤ SHARED_WORDS
+    pub room : record_words (xs ++ ys) ≤ SHARED_WORDS
     room = omega (arith, (joined 0).words, f.live, s.live, m.room)
 
     pub one-of : (one : List ℕ) → one ≡ leaf_words (xs ++ ys) low high → length one ≡ NODE_WORDS → IsOneOf left right one

@@ -12,7 +12,7 @@ use Rattle.bz_shape.specs.Order.{is_before}
 use Rattle.bz_slotted.specs.Readers.{found_of, live_of}
 use Rattle.bz_slotted.specs.ReadingLaws.{node_of, IsLeafOf}
 use Rattle.bz_slotted.specs.Rules.{node_fault}
-use Rattle.bz_halves.specs.Halves.{words_of}
+use Rattle.bz_halves.specs.Halves.{record_words}
 
 -- the records of two leaves, the left one before the separator and the right one from it on, which have room in one that is not to
 -- be split
@@ -25,7 +25,7 @@ pub record AreNeighbours (left right : List (List ℕ × List ℕ)) (low high : 
   pub below : IsBelow high sep
   pub left_list : IsLeafList left low (Some sep)
   pub right_list : IsLeafList right (Some sep) high
-  pub room : words_of left + words_of right ≤ SPLIT_ABOVE
+  pub room : record_words left + record_words right ≤ SPLIT_ABOVE
 
 -- the words of the leaf that has the records of both
 abbrev pub joined_words : (left right : List (List ℕ × List ℕ)) → Option (List ℕ) → Option (List ℕ) → List ℕ
@@ -35,7 +35,7 @@ joined_words left right low high = leaf_words (left ++ right) low high
 -- any other what the right ones say
 pub record AreJoined (nodes : ℕ) (left right : List (List ℕ × List ℕ)) (low high : Option (List ℕ)) (sep : List ℕ) : Type 0 where
   pub list : IsLeafList (left ++ right) low high
-  pub words : words_of (left ++ right) ≡ words_of left + words_of right
+  pub words : record_words (left ++ right) ≡ record_words left + record_words right
   pub leaf : IsLeafOf nodes (node_of (joined_words left right low high)) (left ++ right) low high
   pub before : (key : List ℕ) → is_before key sep ≡ true → found_of (node_of (joined_words left right low high)) key ≡ find (slice_cmp nat_cmp) key left
   pub from : (key : List ℕ) → is_before key sep ≡ false → found_of (node_of (joined_words left right low high)) key ≡ find (slice_cmp nat_cmp) key right

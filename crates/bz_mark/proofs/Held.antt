@@ -3,14 +3,14 @@ use Rattle.std.proofs.Common.{◌≡◌, ◌⊎◌, ℕ, List, [], ◌∷◌, sl
 use Rattle.std.proofs.lemmas.Grind.{common_steps}
 use Rattle.bz_mark.specs.declared.marks.Mark.{Mark}
 use Rattle.bz_mark.specs.Moments.{at_moment}
-use Rattle.bz_mark.specs.WordsAfter.{words_of}
+use Rattle.bz_mark.specs.WordsAfter.{words_after_marks}
 use Rattle.bz_mark.specs.MayHold.{Levels, MayHold}
 use Rattle.bz_mark.proofs.MayHoldLaws.{may_hold-now, may_hold-before, may_hold-either}
 
 -- the cached value, or one that the word might hold before a mark that does not level it
 abbrev pub Held : List ℕ → List Mark → ℕ → ℕ → Type 0
 Held start [] a v = v ≡ slice_index start a
-Held start (mark ∷ past) a v = (v ≡ slice_index (words_of start (mark ∷ past)).cached a) ⊎ ((Levels a mark → ⊥) × Held start past a v)
+Held start (mark ∷ past) a v = (v ≡ slice_index (words_after_marks start (mark ∷ past)).cached a) ⊎ ((Levels a mark → ⊥) × Held start past a v)
 
 -- the two forms agree
 pub may_hold-held : (start : List ℕ) (past : List Mark) (a v : ℕ) → Held start past a v → MayHold start past a v
@@ -22,7 +22,7 @@ none_before : (moment : ℕ) → at_moment moment [] ≡ []
 none_before moment = grind (arith, common_steps)
 
 pub held-may_hold : (start : List ℕ) (past : List Mark) (a v : ℕ) → MayHold start past a v → Held start past a v
-held-may_hold start [] a v h = h.value ∙ ap (λ (marks : List Mark). slice_index (words_of start marks).cached a) (none_before h.moment)
+held-may_hold start [] a v h = h.value ∙ ap (λ (marks : List Mark). slice_index (words_after_marks start marks).cached a) (none_before h.moment)
 held-may_hold start (mark ∷ past) a v h = elim (may_hold-either start mark past a v h) [
   | inl now ↦ inl now
   | inr before ↦ inr (before.0, held-may_hold start past a v before.1)

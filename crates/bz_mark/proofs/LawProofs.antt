@@ -6,7 +6,7 @@ use Rattle.bz_mark.specs.declared.marks.Mark.TheVariants.{Load, Cas}
 use Rattle.bz_pm.specs.Words.{Words}
 use Rattle.bz_mark.specs.Moments.{at_moment, mark_at}
 use Rattle.bz_mark.proofs.MomentLaws.{at_moment-earlier, at_moment-before, mark_at-earlier, mark_at-newest}
-use Rattle.bz_mark.specs.WordsAfter.{words_of, Found, IsTruthful}
+use Rattle.bz_mark.specs.WordsAfter.{words_after_marks, Found, IsTruthful}
 use Rattle.bz_mark.proofs.WordLaws.{at_moment-later, read-found, found-mark_at}
 use Rattle.bz_mark.specs.MayHold.{MayHold}
 use Rattle.bz_mark.proofs.MayHoldLaws.{may_hold-now, may_hold-before, may_hold-either}
@@ -18,7 +18,7 @@ use Rattle.bz_mark.proofs.Left.{left-held, added-cached}
 use Rattle.bz_mark.proofs.Reached.{reached}
 
 pub words_stay : WordsStay
-words_stay start more past moment h = ap (words_of start) (at_moment-later moment more past h)
+words_stay start more past moment h = ap (words_after_marks start) (at_moment-later moment more past h)
 
 pub swaps_as_found : SwapsAsFound
 swaps_as_found words w a old new found is =
@@ -26,12 +26,12 @@ swaps_as_found words w a old new found is =
     (read-found words.cached a found is)
 
 at_moments : (start : List ℕ) (past : List Mark)
-    → ((moment : ℕ) (mark : Mark) → moment < length past → mark_at moment past ≡ Some mark → Found (words_of start (at_moment moment past)) mark) → IsTruthful start past
+    → ((moment : ℕ) (mark : Mark) → moment < length past → mark_at moment past ≡ Some mark → Found (words_after_marks start (at_moment moment past)) mark) → IsTruthful start past
 at_moments start [] each = tt
 at_moments start (newest ∷ past) each = (
-  subst (λ (marks : List Mark). Found (words_of start marks) newest) (at_moment-before newest past) (each (length past) newest (omega arith) (mark_at-newest newest past)),
+  subst (λ (marks : List Mark). Found (words_after_marks start marks) newest) (at_moment-before newest past) (each (length past) newest (omega arith) (mark_at-newest newest past)),
   at_moments start past (λ moment mark h is.
-      subst (λ (marks : List Mark). Found (words_of start marks) mark) (at_moment-earlier moment newest past (omega arith))
+      subst (λ (marks : List Mark). Found (words_after_marks start marks) mark) (at_moment-earlier moment newest past (omega arith))
       (each moment mark (omega arith) (mark_at-earlier moment newest past h ∙ is))),
 )
 
@@ -56,7 +56,7 @@ truthful_added : (start : List ℕ) {past more : List Mark} → AddsEvictions (l
 truthful_added start none true = true
 truthful_added start (added within adds) true = (tt, truthful_added start adds true)
 truthful_added start (kept {past = past} {more = more} {mark = mark} go adds) true =
-    (same_found (words_of start past) (words_of start more) mark (sym (added-cached start adds)) true.0, truthful_added start adds true.1)
+    (same_found (words_after_marks start past) (words_after_marks start more) mark (sym (added-cached start adds)) true.0, truthful_added start adds true.1)
 
 pub truthful_with_evictions : TruthfulWithEvictions
 truthful_with_evictions start past more adds true = truthful_added start adds true

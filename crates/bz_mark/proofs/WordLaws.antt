@@ -11,7 +11,7 @@ use Rattle.bz_mark.specs.declared.marks.Mark.{Mark}
 use Rattle.bz_mark.specs.declared.marks.Mark.TheVariants.{Begin, End, Load, Store, Cas, Flush, Evict, Cut, On, Ready, Effect}
 use Rattle.bz_mark.specs.Moments.{at_moment, mark_at}
 use Rattle.bz_mark.proofs.MomentLaws.{at_moment-earlier, at_moment-next, at_moment-before, at_moment-now, mark_at-earlier, mark_at-newest}
-use Rattle.bz_mark.specs.WordsAfter.{words_after, words_of, cached_at, durable_at, KeepsLength, Found, IsTruthful}
+use Rattle.bz_mark.specs.WordsAfter.{words_after, words_after_marks, cached_at, durable_at, KeepsLength, Found, IsTruthful}
 use Rattle.bz_mark.proofs.WordLaws.Lines.{length-line}
 
 -- a mark keeps the number of words
@@ -24,14 +24,14 @@ length-words_after start words Cut same = record { cached = same.durable; durabl
 length-words_after start words mark same = same
 
 -- whatever the marks name, the number of words stays
-pub length-words_of : (start : List ℕ) (past : List Mark) → KeepsLength start (words_of start past)
+pub length-words_of : (start : List ℕ) (past : List Mark) → KeepsLength start (words_after_marks start past)
 length-words_of start [] = record { cached = refl; durable = refl }
-length-words_of start (mark ∷ past) = length-words_after start (words_of start past) mark (length-words_of start past)
+length-words_of start (mark ∷ past) = length-words_after start (words_after_marks start past) mark (length-words_of start past)
 
 -- the words after marks are those of a memory
-pub IsMemory-words_of : (start : List ℕ) (past : List Mark) → length start % 8 ≡ 0 → length start < 2 ^ 32 → IsMemory (words_of start past)
+pub IsMemory-words_of : (start : List ℕ) (past : List Mark) → length start % 8 ≡ 0 → length start < 2 ^ 32 → IsMemory (words_after_marks start past)
 IsMemory-words_of start past lines size =
-    let keeps : KeepsLength start (words_of start past) = length-words_of start past in
+    let keeps : KeepsLength start (words_after_marks start past) = length-words_of start past in
     record { same = keeps.cached ∙ sym keeps.durable; lines = rw keeps.durable lines; size = rw keeps.durable size }
 
 -- marks that come later leave the marks before a moment
@@ -42,19 +42,19 @@ at_moment-later moment (mark ∷ more) past h =
 
 -- so each word has at a moment the values that it had
 pub cached_at-later : (start : List ℕ) (more past : List Mark) (moment a : ℕ) → moment ≤ length past → cached_at start (more ++ past) moment a ≡ cached_at start past moment a
-cached_at-later start more past moment a h = ap (λ (marks : List Mark). slice_index (words_of start marks).cached a) (at_moment-later moment more past h)
+cached_at-later start more past moment a h = ap (λ (marks : List Mark). slice_index (words_after_marks start marks).cached a) (at_moment-later moment more past h)
 
 pub durable_at-later : (start : List ℕ) (more past : List Mark) (moment a : ℕ) → moment ≤ length past → durable_at start (more ++ past) moment a ≡ durable_at start past moment a
-durable_at-later start more past moment a h = ap (λ (marks : List Mark). slice_index (words_of start marks).durable a) (at_moment-later moment more past h)
+durable_at-later start more past moment a h = ap (λ (marks : List Mark). slice_index (words_after_marks start marks).durable a) (at_moment-later moment more past h)
 
 -- the moment after all marks
-pub words_of-now : (start : List ℕ) (past : List Mark) → words_of start (at_moment (length past) past) ≡ words_of start past
-words_of-now start past = ap (words_of start) (at_moment-now past)
+pub words_of-now : (start : List ℕ) (past : List Mark) → words_after_marks start (at_moment (length past) past) ≡ words_after_marks start past
+words_of-now start past = ap (words_after_marks start) (at_moment-now past)
 
 -- from a moment to the next
 pub words_of-next : (start : List ℕ) (past : List Mark) (moment : ℕ) (mark : Mark) → moment < length past → mark_at moment past ≡ Some mark
-    → words_of start (at_moment (moment + 1) past) ≡ words_after (words_of start (at_moment moment past)) mark
-words_of-next start past moment mark h is = ap (words_of start) (at_moment-next moment mark past is h)
+    → words_after_marks start (at_moment (moment + 1) past) ≡ words_after (words_after_marks start (at_moment moment past)) mark
+words_of-next start past moment mark h is = ap (words_after_marks start) (at_moment-next moment mark past is h)
 
 -- a value read within the memory is found
 pub found-read : (words : List ℕ) (a v : ℕ) → a < length words → v ≡ slice_index words a → slice_get words a ≡ Some v
@@ -76,14 +76,14 @@ newest-mark_at newest mark past moment low high is =
 
 -- each mark of a truthful journal found what stood there at its moment
 pub found-mark_at : (start : List ℕ) (past : List Mark) (moment : ℕ) (mark : Mark) → IsTruthful start past → moment < length past → mark_at moment past ≡ Some mark
-    → Found (words_of start (at_moment moment past)) mark
+    → Found (words_after_marks start (at_moment moment past)) mark
 found-mark_at start [] moment mark true h is = absurd (omega arith)
 found-mark_at start (newest ∷ past) moment mark true h is = elim (cases_lt moment (length past)) [
-  | inl earlier ↦ subst (λ (marks : List Mark). Found (words_of start marks) mark) (sym (at_moment-earlier moment newest past (omega arith)))
+  | inl earlier ↦ subst (λ (marks : List Mark). Found (words_after_marks start marks) mark) (sym (at_moment-earlier moment newest past (omega arith)))
       (found-mark_at start past moment mark true.1 earlier (sym (mark_at-earlier moment newest past earlier) ∙ is))
   | inr last ↦
       let now : moment ≡ length past = omega arith in
       let same : newest ≡ mark = newest-mark_at newest mark past moment last h is in
-      subst (λ (marks : List Mark). Found (words_of start marks) mark) (sym (ap (λ (k : ℕ). at_moment k (newest ∷ past)) now ∙ at_moment-before newest past))
-      (subst (Found (words_of start past)) same true.0)
+      subst (λ (marks : List Mark). Found (words_after_marks start marks) mark) (sym (ap (λ (k : ℕ). at_moment k (newest ∷ past)) now ∙ at_moment-before newest past))
+      (subst (Found (words_after_marks start past)) same true.0)
 ]

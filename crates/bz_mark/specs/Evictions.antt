@@ -1,6 +1,6 @@
 -- Which images a power cut may leave: the durable words after evictions that the journal does not show.
 use Rattle.std.specs.Prelude.{◌≡◌, ◌≢◌, ◌<◌, ◌↔◌, ℕ, List, ◌∷◌, length, slice_index}
-use Rattle.bz_mark.specs.WordsAfter.{words_of}
+use Rattle.bz_mark.specs.WordsAfter.{words_after_marks}
 use Rattle.bz_mark.specs.MayHold.{MayHold}
 use Rattle.bz_mark.specs.declared.marks.Mark.{Mark}
 use Rattle.bz_mark.specs.declared.marks.Mark.TheVariants.{Evict, Cut}
@@ -13,7 +13,7 @@ pub data AddsEvictions (words : ℕ) : List Mark → List Mark → Type 0 where
 
 -- some evictions after the last Cut leave this image
 abbrev pub MayBeLeft : List ℕ → List Mark → List ℕ → Type 0
-MayBeLeft start past image = (more : List Mark) × AddsEvictions (length start) past more × ((words_of start more).durable ≡ image)
+MayBeLeft start past image = (more : List Mark) × AddsEvictions (length start) past more × ((words_after_marks start more).durable ≡ image)
 
 -- an image of the start's length, each word of which is one that it may hold
 pub record HoldsEach (start : List ℕ) (past : List Mark) (image : List ℕ) : Type 0 where

@@ -2,7 +2,7 @@
 use Rattle.std.specs.Prelude.{◌≡◌, ◌⊎◌, ◌↔◌, ℕ, List, [], ◌∷◌}
 use Rattle.bz_mark.specs.declared.marks.Mark.{Mark}
 use Rattle.bz_mark.specs.declared.marks.Mark.TheVariants.{Load, Store, Cas, Flush, Evict, Cut, On}
-use Rattle.bz_mark.specs.WordsAfter.{words_of}
+use Rattle.bz_mark.specs.WordsAfter.{words_after_marks}
 use Rattle.bz_mark.specs.Evictions.{MayBeLeft}
 
 -- a mark, and the cached and the durable words after it
@@ -37,7 +37,7 @@ table =
 abbrev pub AreRight : List ℕ → List Mark → List Row → Type 0
 AreRight start past [] = Unit {0}
 AreRight start past (row ∷ rows) =
-    (words_of start (row.mark ∷ past) ≡ record { cached = row.cached; durable = row.durable }) × AreRight start (row.mark ∷ past) rows
+    (words_after_marks start (row.mark ∷ past) ≡ record { cached = row.cached; durable = row.durable }) × AreRight start (row.mark ∷ past) rows
 
 abbrev pub TableIsRight : Type 0
 TableIsRight = AreRight nine_words [] table

@@ -17,17 +17,17 @@ words_after words Cut = after_cut words
 words_after words mark = words
 
 -- the words after all marks: both lists begin as the start image
-abbrev pub words_of : List ℕ → List Mark → Words
-words_of start [] = record { cached = start; durable = start }
-words_of start (mark ∷ past) = words_after (words_of start past) mark
+abbrev pub words_after_marks : List ℕ → List Mark → Words
+words_after_marks start [] = record { cached = start; durable = start }
+words_after_marks start (mark ∷ past) = words_after (words_after_marks start past) mark
 
 -- the cached value of a word after the first marks, as many as the moment says
 abbrev pub cached_at : List ℕ → List Mark → ℕ → ℕ → ℕ
-cached_at start past moment a = slice_index (words_of start (at_moment moment past)).cached a
+cached_at start past moment a = slice_index (words_after_marks start (at_moment moment past)).cached a
 
 -- the durable value of a word after the first marks, as many as the moment says
 abbrev pub durable_at : List ℕ → List Mark → ℕ → ℕ → ℕ
-durable_at start past moment a = slice_index (words_of start (at_moment moment past)).durable a
+durable_at start past moment a = slice_index (words_after_marks start (at_moment moment past)).durable a
 
 -- as many cached and durable words as the start image has
 pub record KeepsLength (start : List ℕ) (words : Words) : Type 0 where
@@ -43,4 +43,4 @@ Found words mark = Unit {0}
 -- each mark found what the marks before it had left
 abbrev pub IsTruthful : List ℕ → List Mark → Type 0
 IsTruthful start [] = Unit {0}
-IsTruthful start (mark ∷ past) = Found (words_of start past) mark × IsTruthful start past
+IsTruthful start (mark ∷ past) = Found (words_after_marks start past) mark × IsTruthful start past

@@ -3,7 +3,7 @@ use Rattle.std.specs.Prelude.{◌≡◌, ℕ, ◌^◌, ◌<◌, ◌≤◌, Bool,
 use Rattle.bz_call.specs.declared.replies.Spent.TheVariants.{Swaps}
 use Rattle.bz_layout.specs.declared.config.Config.{Config}
 use Rattle.bz_layout.specs.declared.sizes.TheConstants.{SHARED_WORDS}
-use Rattle.bz_node.specs.Reading.{words_of}
+use Rattle.bz_node.specs.Reading.{extent_words}
 use Rattle.bz_word.specs.Metas.{IsExtent}
 use Rattle.bz_word.specs.Statuses.{status}
 use Rattle.bz_task.specs.Outcomes.{payload_of}
@@ -103,7 +103,7 @@ pub record IsRemovable (c : Config) (v : KeyView) (f : FoundRecord) : Type 0 whe
   pub plain : v.status < 2 ^ 61
   pub extent : IsExtent f.extent
   pub some : 0 < f.extent.key
-  pub small : words_of f.extent ≤ SHARED_WORDS
+  pub small : extent_words f.extent ≤ SHARED_WORDS
   pub dead : (status v.status).dead ≤ SHARED_WORDS
 
 abbrev pub IsReady : Config → KeyView → DeletePhase → Type 0

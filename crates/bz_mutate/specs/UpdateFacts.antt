@@ -5,7 +5,7 @@ use Rattle.bz_key.specs.Bytes.{IsKey, IsPayload}
 use Rattle.bz_layout.specs.declared.config.Config.{Config}
 use Rattle.bz_layout.specs.declared.sizes.TheConstants.{SHARED_WORDS}
 use Rattle.bz_layout.specs.declared.thresholds.TheConstants.{RECORD_WORDS, RECORD_LINES}
-use Rattle.bz_node.specs.Reading.{words_of}
+use Rattle.bz_node.specs.Reading.{extent_words}
 use Rattle.bz_word.specs.Metas.{IsExtent}
 use Rattle.bz_task.specs.Outcomes.{payload_of}
 use Rattle.bz_task.specs.Scene.{Scene, Stage, Waiting, Took, HasFilled}
@@ -102,7 +102,7 @@ pub record IsPair (v : KeyView) (r : NewRecord) (f : FoundRecord) : Type 0 where
   pub place : f.place < SHARED_WORDS
   pub extent : IsExtent f.extent
   pub some : 0 < f.extent.key
-  pub small : words_of f.extent ≤ SHARED_WORDS
+  pub small : extent_words f.extent ≤ SHARED_WORDS
 
 -- it was in the leaf as viewed
 pub record CanGrow (v : KeyView) (r : NewRecord) (f : FoundRecord) (s : Scene) : Type 0 where

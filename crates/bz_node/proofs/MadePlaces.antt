@@ -11,7 +11,7 @@ use Rattle.bz_word.specs.declared.meta.Extent.{Extent}
 use Rattle.bz_word.specs.declared.meta.Meta.TheVariants.{Visible}
 use Rattle.bz_node.specs.Layout.{Entry, IsEntry, block, metas as metas_of, needed, node_words}
 use Rattle.bz_node.specs.Records.{IsBound}
-use Rattle.bz_node.specs.Reading.{count_in, block_in, extent_in, words_of}
+use Rattle.bz_node.specs.Reading.{count_in, block_in, extent_in, extent_words}
 use Rattle.bz_node.specs.Laws.{HasPlaces}
 use Rattle.bz_node.proofs.Parts.{length-metas}
 use Rattle.bz_node.proofs.Made.{extents, front_made, metas_made, rest_made, readable_made, count_made, meta_made}
@@ -33,7 +33,7 @@ extent_said x e is =
 
 -- an extent lies between the block's start and its end
 in_block : (entries : List Entry) (end i : ℕ) (d : Extent) → length (block entries) ≤ end → All IsEntry entries → i < length (extents end entries) →
-    (end ≤ (get_or (extents end entries) i d).offset + length (block entries)) × ((get_or (extents end entries) i d).offset + words_of (get_or (extents end entries) i d) ≤ end)
+    (end ≤ (get_or (extents end entries) i d).offset + length (block entries)) × ((get_or (extents end entries) i d).offset + extent_words (get_or (extents end entries) i d) ≤ end)
 unfolding extents block
 in_block [] end i d room each within = absurd (omega arith)
 in_block (e ∷ entries) end zero d room each within =
@@ -47,7 +47,7 @@ in_block (e ∷ entries) end (suc i) d room each within =
 
 -- and below those of the records before it
 each_below : (entries : List Entry) (end i j : ℕ) (d : Extent) → length (block entries) ≤ end → All IsEntry entries → i < j → j < length (extents end entries) →
-    (get_or (extents end entries) j d).offset + words_of (get_or (extents end entries) j d) ≤ (get_or (extents end entries) i d).offset
+    (get_or (extents end entries) j d).offset + extent_words (get_or (extents end entries) j d) ≤ (get_or (extents end entries) i d).offset
 unfolding extents block
 each_below [] end i j d room each less within = absurd (omega arith)
 each_below (e ∷ entries) end i zero d room each less within = absurd (omega arith)
@@ -83,11 +83,11 @@ places_made level low high entries low_ok high_ok fits each small =
       inside = λ i within. (
           let at = (in_block entries NODE_WORDS i none (omega (arith, fits)) each (place i none within).0).0 in
           subst (λ (e : Extent). NODE_WORDS ≤ e.offset + block_in W) (sym (is i within)) (omega (arith, blocked, at)));
-      ends = λ i within. subst (λ (e : Extent). e.offset + words_of e ≤ NODE_WORDS) (sym (is i within)) (in_block entries NODE_WORDS i none (omega (arith, fits)) each (place i none within).0).1;
+      ends = λ i within. subst (λ (e : Extent). e.offset + extent_words e ≤ NODE_WORDS) (sym (is i within)) (in_block entries NODE_WORDS i none (omega (arith, fits)) each (place i none within).0).1;
       below = λ i j less within. (
           let at = each_below entries NODE_WORDS i j none (omega (arith, fits)) each less (place j none within).0 in
-          subst (λ (e : Extent). (extent_in W j).offset + words_of (extent_in W j) ≤ e.offset) (sym (is i (omega arith)))
-          (subst (λ (f : Extent). f.offset + words_of f ≤ (get_or xs i none).offset) (sym (is j within)) at));
+          subst (λ (e : Extent). (extent_in W j).offset + extent_words (extent_in W j) ≤ e.offset) (sym (is i (omega arith)))
+          (subst (λ (f : Extent). f.offset + extent_words f ≤ (get_or xs i none).offset) (sym (is j within)) at));
       free = λ i from under. (
           let k = i - META_AT in
           let e : META_AT + k ≡ i = omega (arith, from) in

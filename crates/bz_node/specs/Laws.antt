@@ -7,7 +7,7 @@ use Rattle.bz_word.specs.declared.meta.Meta.TheVariants.{Visible}
 use Rattle.bz_node.specs.declared.child.Child.{Child}
 use Rattle.bz_node.specs.Layout.{Entry, fence_words, needed, made_status, made_header}
 use Rattle.bz_node.specs.Records.{IsPair, IsBound, IsChild, pair_entry, child_entry, leaf_words, inner_words, keys_of, AreRising, IsLeafList}
-use Rattle.bz_node.specs.Reading.{count_in, block_in, meta_in, extent_in, words_of, part, pairs_in, live_in, children_in, IsReadableLeaf, IsReadableInner, AreInKeyOrder}
+use Rattle.bz_node.specs.Reading.{count_in, block_in, meta_in, extent_in, extent_words, part, pairs_in, live_in, children_in, IsReadableLeaf, IsReadableInner, AreInKeyOrder}
 
 -- the words before the metadata, read back
 pub record HasFront (words : List ℕ) (level : ℕ) (low high : Option (List ℕ)) (entries : List Entry) : Type 0 where
@@ -22,8 +22,8 @@ pub record HasFront (words : List ℕ) (level : ℕ) (low high : Option (List �
 pub record HasPlaces (words : List ℕ) : Type 0 where
   pub visible : (i : ℕ) → i < count_in words → meta_in words i ≡ Visible (extent_in words i)
   pub inside : (i : ℕ) → i < count_in words → NODE_WORDS ≤ (extent_in words i).offset + block_in words
-  pub ends : (i : ℕ) → i < count_in words → (extent_in words i).offset + words_of (extent_in words i) ≤ NODE_WORDS
-  pub below : (i j : ℕ) → i < j → j < count_in words → (extent_in words j).offset + words_of (extent_in words j) ≤ (extent_in words i).offset
+  pub ends : (i : ℕ) → i < count_in words → (extent_in words i).offset + extent_words (extent_in words i) ≤ NODE_WORDS
+  pub below : (i j : ℕ) → i < j → j < count_in words → (extent_in words j).offset + extent_words (extent_in words j) ≤ (extent_in words i).offset
   pub free : (i : ℕ) → META_AT + count_in words ≤ i → i + block_in words < NODE_WORDS → slice_index words i ≡ 0
 
 -- a leaf made whole is readable, and has the records, fences and lengths that it was made of

@@ -62,12 +62,12 @@ abbrev pub pairs_in : List ℕ → List (List ℕ × List ℕ)
 pairs_in words = flat_map (shown words) (metas_in words)
 
 -- how many words of the block a record takes
-abbrev pub words_of : Extent → ℕ
-words_of e = packed_len e.key + packed_len (payload_len e)
+abbrev pub extent_words : Extent → ℕ
+extent_words e = packed_len e.key + packed_len (payload_len e)
 
 -- the words that a record takes with its metadata word, where it is visible
 abbrev pub words_shown : Meta → ℕ
-words_shown (Visible e) = 1 + words_of e
+words_shown (Visible e) = 1 + extent_words e
 words_shown _ = 0
 
 -- the words that the visible records of a leaf take

@@ -50,7 +50,7 @@ fn words_for(bytes: u32) -> u32
 }
 
 // The words that a record takes with its metadata word, where it is visible.
-fn words_of(meta: Meta) -> u32
+fn extent_words(meta: Meta) -> u32
     requires { IsMeta meta }
     ensures words { result ≡ words_shown meta }
     ensures small { result < 2 ^ 17 }
@@ -71,7 +71,7 @@ pub(crate) fn live_words_of(words: &[u64]) -> u32
 {
     let mut live = 0;
     for i in 0..count_of(words) {
-        live += words_of(meta_of(words, i));
+        live += extent_words(meta_of(words, i));
     }
     live
 }

@@ -12,7 +12,7 @@ use Rattle.bz_node.specs.Records.{child_entry, IsBound, IsChild}
 use Rattle.bz_node.specs.declared.child.Child.{Child}
 use Rattle.bz_node.proofs.Parts.{needed-append, needed_more, needed_nil}
 use Rattle.bz_halves.specs.Parents.{child_at}
-use Rattle.bz_parted.specs.Parting.{words_of, IsParting, separator_of, right_half}
+use Rattle.bz_parted.specs.Parting.{child_words, IsParting, separator_of, right_half}
 use Rattle.bz_parted.specs.Laws.{IsSplitInner}
 
 -- a child takes its metadata word, the words of its lower bound, and its pointer
@@ -29,21 +29,21 @@ bound-short (Some key) b = b.fits
 pub size-small : (c : Child) → IsChild c → size_of c ≤ INNER_RECORD_WORDS
 size-small c h = omega (arith, size-is c, length-packed (bound_of c.low), bound-short c.low h.low)
 
-pub words-parts : (cs : List Child) (m : ℕ) → words_of (take m cs) + words_of (drop m cs) ≡ words_of cs
+pub words-parts : (cs : List Child) (m : ℕ) → child_words (take m cs) + child_words (drop m cs) ≡ child_words cs
 words-parts cs m =
-    let parts : needed (map child_entry (take m cs ++ drop m cs)) ≡ words_of (take m cs) + words_of (drop m cs) =
+    let parts : needed (map child_entry (take m cs ++ drop m cs)) ≡ child_words (take m cs) + child_words (drop m cs) =
     rw (map-append child_entry (take m cs) (drop m cs)) (needed-append (map child_entry (take m cs)) (map child_entry (drop m cs))) in
     sym (rw (take-append-drop m cs) at parts)
 
 -- one child more
-pub words-more : (cs : List Child) (i : ℕ) (c : Child) → i < length cs → c ≡ get_or cs i c → words_of (take (i + 1) cs) ≡ words_of (take i cs) + size_of c
+pub words-more : (cs : List Child) (i : ℕ) (c : Child) → i < length cs → c ≡ get_or cs i c → child_words (take (i + 1) cs) ≡ child_words (take i cs) + size_of c
 words-more cs i c within is = omega (arith, needed_more child_entry cs i c within is)
 
-pub words-none : (cs : List Child) → words_of (take 0 cs) ≡ 0
+pub words-none : (cs : List Child) → child_words (take 0 cs) ≡ 0
 words-none cs = needed_nil
 
 -- with one child before them
-pub words-first : (c : Child) (cs : List Child) → words_of (c ∷ cs) ≡ words_of cs + size_of c
+pub words-first : (c : Child) (cs : List Child) → child_words (c ∷ cs) ≡ child_words cs + size_of c
 unfolding block
 words-first c cs = omega (arith, length-append (block (map child_entry cs)) (child_entry c).words)
 
@@ -51,13 +51,13 @@ abbrev none : Child
 none = record { low = None; slot = 0 }
 
 -- the right half is what is behind the cut, less a key
-pub right-words : (cs : List Child) (cut : ℕ) → cut < length cs → words_of (right_half cs cut) + length (packed (separator_of cs cut)) ≡ words_of (drop cut cs)
+pub right-words : (cs : List Child) (cut : ℕ) → cut < length cs → child_words (right_half cs cut) + length (packed (separator_of cs cut)) ≡ child_words (drop cut cs)
 right-words cs cut l =
     let c : Child = child_at cs cut in
     let next : cut + 1 ≡ suc cut = omega arith in
     let is : drop cut cs ≡ c ∷ drop (cut + 1) cs = drop-cons cs cut none l ∙ ap (λ z. c ∷ drop z cs) (sym next) in
     let first : Child = record { low = None; slot = c.slot } in
-    omega (arith, ap words_of is, words-first c (drop (cut + 1) cs), words-first first (drop (cut + 1) cs), size-is c, size-is first, length-packed [])
+    omega (arith, ap child_words is, words-first c (drop (cut + 1) cs), words-first first (drop (cut + 1) cs), size-is c, size-is first, length-packed [])
 
 module _ (law : InnerSplitsInHalves) (cs : List Child) (low high : Option (List ℕ)) (cut : ℕ) (s : IsSplitInner cs low high) (c : IsParting cs cut) where
   pub some : 0 < cut
@@ -65,7 +65,7 @@ module _ (law : InnerSplitsInHalves) (cs : List Child) (low high : Option (List 
     | inl l ↦ l
     | inr none_left ↦ (
         let zero : cut ≡ 0 = omega (arith, none_left) in
-        let few : words_of cs ≤ 2 * words_of (take 0 cs) = subst (λ z. words_of cs ≤ 2 * words_of (take z cs)) zero c.enough in
+        let few : child_words cs ≤ 2 * child_words (take 0 cs) = subst (λ z. child_words cs ≤ 2 * child_words (take z cs)) zero c.enough in
         absurd (omega (arith, few, words-none cs, s.many)))
   ]
 
@@ -73,13 +73,13 @@ module _ (law : InnerSplitsInHalves) (cs : List Child) (low high : Option (List 
   last-in : cut - 1 < length cs
   last-in = elim (cases_lt (cut - 1) (length cs)) [
     | inl l ↦ l
-    | inr past ↦ absurd (omega (arith, c.fewest (cut - 1) (omega (arith, some)), ap words_of (take_all (cut - 1) cs past)))
+    | inr past ↦ absurd (omega (arith, c.fewest (cut - 1) (omega (arith, some)), ap child_words (take_all (cut - 1) cs past)))
   ]
 
   abbrev last : Child
   last = child_at cs (cut - 1)
 
-  left-is : words_of (take cut cs) ≡ words_of (take (cut - 1) cs) + size_of last
+  left-is : child_words (take cut cs) ≡ child_words (take (cut - 1) cs) + size_of last
   left-is =
       let e : cut - 1 + 1 ≡ cut = omega (arith, some) in
       rw e at (words-more cs (cut - 1) last last-in (same last-in))
@@ -87,18 +87,18 @@ module _ (law : InnerSplitsInHalves) (cs : List Child) (low high : Option (List 
       same : cut - 1 < length cs → get_or cs (cut - 1) none ≡ get_or cs (cut - 1) (get_or cs (cut - 1) none)
       same l = get_or_default cs (cut - 1) none (get_or cs (cut - 1) none) l
 
-  parts : AreHalves (words_of cs) (words_of (take (cut - 1) cs) + size_of last) INNER_LIMIT
-  parts = law (words_of cs) (words_of (take (cut - 1) cs)) (size_of last) s.many s.room
+  parts : AreHalves (child_words cs) (child_words (take (cut - 1) cs) + size_of last) INNER_LIMIT
+  parts = law (child_words cs) (child_words (take (cut - 1) cs)) (size_of last) s.many s.room
       (record { too_few = c.fewest (cut - 1) (omega (arith, some)); enough = omega (arith, c.enough, left-is) }) (size-small last (s.each (cut - 1) none last-in))
 
-  pub left-room : words_of (take cut cs) ≤ INNER_LIMIT
+  pub left-room : child_words (take cut cs) ≤ INNER_LIMIT
   left-room = omega (arith, parts.left_small, left-is)
 
   pub more : cut < length cs
   more = elim (cases_lt cut (length cs)) [
     | inl l ↦ l
-    | inr past ↦ absurd (omega (arith, parts.right_some, left-is, ap words_of (take_all cut cs past)))
+    | inr past ↦ absurd (omega (arith, parts.right_some, left-is, ap child_words (take_all cut cs past)))
   ]
 
-  pub right-room : words_of (right_half cs cut) ≤ INNER_LIMIT
+  pub right-room : child_words (right_half cs cut) ≤ INNER_LIMIT
   right-room = omega (arith, parts.right_small, left-is, words-parts cs cut, right-words cs cut more)

@@ -20,7 +20,7 @@ use Rattle.bz_slotted.proofs.Honest.{lt-t}
 use Rattle.bz_slotted.proofs.Readings.{unpacked_key-some}
 use Rattle.bz_halves.proofs.ReadParents.{no-bytes, child-is, bound-read, each, list, has, slots, low-bound, high-bound}
 use Rattle.bz_parted.specs.Laws.{ReadNodesHaveChildren}
-use Rattle.bz_parted.specs.Parting.{words_of}
+use Rattle.bz_parted.specs.Parting.{child_words}
 use Rattle.bz_parted.proofs.Cuts.{size_of, size-is, words-more, words-none}
 
 key-long : (len : ℕ) (words : List ℕ) → IsSome (unpacked_key len words) → length (unpacked len words) ≡ len
@@ -58,19 +58,19 @@ module _ (nodes : ℕ) (raw : ℕ → ℕ) (words : List ℕ) (level : ℕ) (low
       let words : length (packed (bound_of (get_or cs j none).low)) ≡ packed_len (extent_of ((page n).meta j)).key = length-packed (bound_of (get_or cs j none).low) ∙ ap packed_len key in
       rw (w.shows j l) (omega (arith, size-is (get_or cs j none), words, (w.lengths j l).pointer))
 
-  first-words : (m : ℕ) → m ≤ (page n).count → words_of (take m cs) ≡ m + live_block (page n).meta m
+  first-words : (m : ℕ) → m ≤ (page n).count → child_words (take m cs) ≡ m + live_block (page n).meta m
   unfolding live_block
   first-words zero l = words-none cs
   first-words (suc m) l =
       let inside : m < length cs = omega (arith, l, counted, reads.count) in
       let e : m + 1 ≡ suc m = omega arith in
-      let more : words_of (take (m + 1) cs) ≡ words_of (take m cs) + size_of (get_or cs m none) = words-more cs m (get_or cs m none) inside (get_or_default cs m none (get_or cs m none) inside) in
-      omega (arith, ap (λ z. words_of (take z cs)) (sym e), more, first-words m (omega (arith, l)), child-size m (omega (arith, l)))
+      let more : child_words (take (m + 1) cs) ≡ child_words (take m cs) + size_of (get_or cs m none) = words-more cs m (get_or cs m none) inside (get_or_default cs m none (get_or cs m none) inside) in
+      omega (arith, ap (λ z. child_words (take z cs)) (sym e), more, first-words m (omega (arith, l)), child-size m (omega (arith, l)))
 
-  pub all-words : words_of cs ≡ (page n).count + (page n).block
+  pub all-words : child_words cs ≡ (page n).count + (page n).block
   all-words =
       let all : take (page n).count cs ≡ cs = take_all (page n).count cs (omega (arith, reads.count, counted)) in
-      omega (arith, ap words_of (sym all), first-words (page n).count (omega arith), w.filled.dead, w.settled.none_dead)
+      omega (arith, ap child_words (sym all), first-words (page n).count (omega arith), w.filled.dead, w.settled.none_dead)
 
 pub read-nodes : WholeInnersAreReadable → InnerRulesAreFacts → InnerKeysRise → ReadNodesHaveChildren
 read-nodes readable rules rises nodes raw words level low high few inner size none =

@@ -15,7 +15,7 @@ use Rattle.bz_slotted.specs.Rules.{node_fault}
 use Rattle.bz_word.specs.Statuses.{status}
 use Rattle.bz_halves.specs.Parents.{child_at, HasChildren, children_told}
 use Rattle.bz_halves.specs.Roots.{root_children}
-use Rattle.bz_parted.specs.Parting.{words_of, IsParting, separator_of, right_half, left_words, right_words}
+use Rattle.bz_parted.specs.Parting.{child_words, IsParting, separator_of, right_half, left_words, right_words}
 use Rattle.bz_parted.specs.Roots.{tall_root_words}
 
 -- the children of an inner node that is to be split, between its fences
@@ -24,8 +24,8 @@ pub record IsSplitInner (children : List Child) (low high : Option (List ℕ)) :
   pub low_bound : IsBound low
   pub high_bound : IsBound high
   pub list : IsChildList children low high
-  pub many : INNER_LIMIT < words_of children
-  pub room : words_of children ≤ SHARED_WORDS
+  pub many : INNER_LIMIT < child_words children
+  pub room : child_words children ≤ SHARED_WORDS
 
 -- neither half is empty; the separator is a key between the fences, and is not the lower one; the halves make nodes, the one up to
 -- it and the other from it on; together they take the words of all but the separator's; and each takes one more separator
@@ -40,16 +40,16 @@ pub record AreInnerHalves (children : List Child) (low high : Option (List ℕ))
   pub right_each : All IsChild (right_half children cut)
   pub left : IsChildList (take cut children) low (Some (separator_of children cut))
   pub right : IsChildList (right_half children cut) (Some (separator_of children cut)) high
-  pub words : words_of (take cut children) + words_of (right_half children cut) + length (packed (separator_of children cut)) ≡ words_of children
-  pub left_room : words_of (take cut children) ≤ INNER_LIMIT
-  pub right_room : words_of (right_half children cut) ≤ INNER_LIMIT
+  pub words : child_words (take cut children) + child_words (right_half children cut) + length (packed (separator_of children cut)) ≡ child_words children
+  pub left_room : child_words (take cut children) ≤ INNER_LIMIT
+  pub right_room : child_words (right_half children cut) ≤ INNER_LIMIT
 
 abbrev pub ChildrenPartInHalves : Type 0
 ChildrenPartInHalves = (children : List Child) (low high : Option (List ℕ)) (cut : ℕ) → IsSplitInner children low high → IsParting children cut → AreInnerHalves children low high cut
 
 -- a node up to the limit takes one more child, below any separator
 abbrev pub HalvesTakeOneMore : Type 0
-HalvesTakeOneMore = (children : List Child) (separator : List ℕ) → IsKey separator → words_of children ≤ INNER_LIMIT → words_of children + 2 + length (packed separator) ≤ SHARED_WORDS
+HalvesTakeOneMore = (children : List Child) (separator : List ℕ) → IsKey separator → child_words children ≤ INNER_LIMIT → child_words children + 2 + length (packed separator) ≤ SHARED_WORDS
 
 -- all slots are those of a memory, at a level of inner nodes
 pub record StandsAtLevel (nodes : ℕ) (children : List Child) (level : ℕ) : Type 0 where
@@ -90,8 +90,8 @@ pub record IsReadNode (nodes : ℕ) (words : List ℕ) (low high : Option (List 
   pub list : IsChildList (children_in words) low high
   pub has : HasChildren (node_of words) (children_in words)
   pub slots : (j : ℕ) (d : Child) → j < length (children_in words) → (slice_index_or (children_in words) j d).slot < nodes
-  pub taken : words_of (children_in words) ≡ (status (slice_index words STATUS_AT)).count + (status (slice_index words STATUS_AT)).block
-  pub room : words_of (children_in words) ≤ SHARED_WORDS
+  pub taken : child_words (children_in words) ≡ (status (slice_index words STATUS_AT)).count + (status (slice_index words STATUS_AT)).block
+  pub room : child_words (children_in words) ≤ SHARED_WORDS
 
 abbrev pub ReadNodesHaveChildren : Type 0
 ReadNodesHaveChildren =

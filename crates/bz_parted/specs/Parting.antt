@@ -6,13 +6,13 @@ use Rattle.bz_node.specs.declared.child.Child.{Child}
 use Rattle.bz_halves.specs.Parents.{child_at}
 
 -- the words that children take in an inner node: a metadata word each, their lower bounds and their pointers
-abbrev pub words_of : List Child → ℕ
-words_of children = needed (map child_entry children)
+abbrev pub child_words : List Child → ℕ
+child_words children = needed (map child_entry children)
 
 -- so many children go to the left: the fewest whose words, doubled, are at least the words of all
 pub record IsParting (children : List Child) (cut : ℕ) : Type 0 where
-  pub enough : words_of children ≤ 2 * words_of (take cut children)
-  pub fewest : (k : ℕ) → k < cut → 2 * words_of (take k children) < words_of children
+  pub enough : child_words children ≤ 2 * child_words (take cut children)
+  pub fewest : (k : ℕ) → k < cut → 2 * child_words (take k children) < child_words children
 
 -- the key of the right half's first child, which parts the two
 abbrev pub separator_of : List Child → ℕ → List ℕ

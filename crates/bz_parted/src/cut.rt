@@ -5,7 +5,7 @@ ghost use Rattle.bz_layout.specs.declared.sizes.TheConstants.{SHARED_WORDS};
 ghost use Rattle.bz_layout.specs.declared.thresholds.TheConstants.{INNER_RECORD_WORDS};
 ghost use Rattle.bz_node.specs.Reading.{IsReadableInner, children_in, count_in};
 ghost use Rattle.bz_node.specs.Records.{child_entry};
-ghost use Rattle.bz_parted.specs.Parting.{words_of, IsParting};
+ghost use Rattle.bz_parted.specs.Parting.{child_words, IsParting};
 
 use bz_node::{Child, NodeImage};
 
@@ -27,7 +27,7 @@ fn child_words(child: &Child) -> u32
 /// How many of the children go to the left half, in one pass: the fewest whose words, doubled, are at least those of all, `words`.
 pub fn cut_of(old: &NodeImage, words: u32) -> u32
     requires readable { IsReadableInner old.now.0 }
-    requires words { words ≡ words_of (children_in old.now.0) }
+    requires words { words ≡ child_words (children_in old.now.0) }
     requires room { words ≤ SHARED_WORDS }
     ensures cut { IsParting (children_in old.now.0) result }
     ensures within { result ≤ count_in old.now.0 }

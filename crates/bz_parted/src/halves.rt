@@ -8,7 +8,7 @@ ghost use Rattle.bz_node.specs.Records.{inner_words, IsChildList};
 ghost use Rattle.bz_halves.specs.Parents.{child_at};
 ghost use Rattle.bz_parted.specs.Laws.{IsSplitInner};
 ghost use Rattle.bz_parted.specs.Made.{AreHalvesOf};
-ghost use Rattle.bz_parted.specs.Parting.{words_of, right_half};
+ghost use Rattle.bz_parted.specs.Parting.{child_words, right_half};
 
 use crate::cut::cut_of;
 use crate::laws::children_part_in_halves;
@@ -34,7 +34,7 @@ fn left_of(old: &NodeImage, cut: u32, low: Option<Key>, separator: Key, level: u
     requires readable { IsReadableInner old.now.0 }
     requires within { cut ≤ count_in old.now.0 }
     requires list { IsChildList (take cut (children_in old.now.0)) low (Some separator) }
-    requires room { words_of (take cut (children_in old.now.0)) ≤ INNER_LIMIT }
+    requires room { child_words (take cut (children_in old.now.0)) ≤ INNER_LIMIT }
     requires inner { 1 ≤ level }
     requires levels { level < MAX_LEVELS }
     ensures { result.0 ≡ inner_words (take cut (children_in old.now.0)) low (Some separator) level }
@@ -71,7 +71,7 @@ fn right_of(old: &NodeImage, cut: u32, separator: Key, high: Option<Key>, level:
     requires readable { IsReadableInner old.now.0 }
     requires within { cut < count_in old.now.0 }
     requires list { IsChildList (right_half (children_in old.now.0) cut) (Some separator) high }
-    requires room { words_of (right_half (children_in old.now.0) cut) ≤ INNER_LIMIT }
+    requires room { child_words (right_half (children_in old.now.0) cut) ≤ INNER_LIMIT }
     requires inner { 1 ≤ level }
     requires levels { level < MAX_LEVELS }
     ensures { result.0 ≡ inner_words (right_half (children_in old.now.0) cut) (Some separator) high level }
@@ -97,7 +97,7 @@ pub fn halves_of(
 ) -> InnerHalves
     requires readable { IsReadableInner old.now.0 }
     requires split { IsSplitInner (children_in old.now.0) low high }
-    requires words { words ≡ words_of (children_in old.now.0) }
+    requires words { words ≡ child_words (children_in old.now.0) }
     requires inner { 1 ≤ level }
     requires levels { level < MAX_LEVELS }
     ensures { AreHalvesOf (children_in old.now.0) low high level result }

@@ -2,7 +2,7 @@
 use Rattle.std.proofs.Common.{◌≡◌, ℕ, ◌+◌, true, [], arith, refl, inl, inr}
 use Rattle.std.proofs.lemmas.List.Elements.{All-cons}
 use Rattle.bz_key.specs.Laws.{PackingIsSmall}
-use Rattle.bz_node.specs.Reading.{words_of}
+use Rattle.bz_node.specs.Reading.{extent_words}
 use Rattle.bz_layout.specs.declared.sizes.TheConstants.{STATUS_AT}
 use Rattle.bz_word.specs.Metas.{meta_word, meta, IsMeta, IsMetaWord}
 use Rattle.bz_word.specs.Statements.{IsCodec}
@@ -30,7 +30,7 @@ still-reached fronts s k st moment good w =
 pub changes-asked : RecordSwapsMayBeAsked → FrontsStay → IsCodec Status IsStatus IsStatusWord status_word status → IsCodec Meta IsMeta IsMetaWord meta_word meta → PackingIsSmall → ChangesMayBeAsked
 changes-asked asked fronts statuses metas small = record {
   removes = λ s key payload k st place e good w.
-      asked s (removal k st place e) w.moment good w.leaf.leaf (inl w.counted) (counted-plain statuses st ((status st).dead + words_of e) w.leaf.leaf.plain (omega (arith, w.small, w.dead))) (visible-plain metas e w.extent) (deleted-plain metas e w.extent w.some);
+      asked s (removal k st place e) w.moment good w.leaf.leaf (inl w.counted) (counted-plain statuses st ((status st).dead + extent_words e) w.leaf.leaf.plain (omega (arith, w.small, w.dead))) (visible-plain metas e w.extent) (deleted-plain metas e w.extent w.some);
   grows = λ s r moment good f w.
       All-cons (IsEntryToAsk s) (growth s.past.config r) [] (record {
         target = inr (inr (record { slot = r.slot; place = STATUS_AT; address = refl; within = omega arith; reached = still-reached fronts s r.slot r.status moment good w; kind = inl refl }));
@@ -38,5 +38,5 @@ changes-asked asked fronts statuses metas small = record {
         new = grown-plain statuses r f;
       }) (λ i d l. absurd (omega (arith, l)));
   replaces = λ s r old place e good f g.
-      asked s (replacement r place e) g.was.moment good g.was.leaf.leaf (inl g.was.counted) (counted-plain statuses (status_grown r) ((status r.status).dead + words_of e) (grown-plain statuses r f) (omega (arith, f.dead, f.room.fits, g.was.small))) (visible-plain metas e g.was.extent) (visible-meta-plain statuses metas small r f);
+      asked s (replacement r place e) g.was.moment good g.was.leaf.leaf (inl g.was.counted) (counted-plain statuses (status_grown r) ((status r.status).dead + extent_words e) (grown-plain statuses r f) (omega (arith, f.dead, f.room.fits, g.was.small))) (visible-plain metas e g.was.extent) (visible-meta-plain statuses metas small r f);
 }

@@ -4,7 +4,7 @@ use Rattle.std.specs.Prelude.{length}
 use Rattle.std.proofs.lemmas.Bool.Decides.{nat_tests}
 use Rattle.bz_key.specs.Laws.{PackingIsSmall}
 use Rattle.bz_key.specs.Packing.{packed, packed_len}
-use Rattle.bz_node.specs.Reading.{words_of}
+use Rattle.bz_node.specs.Reading.{extent_words}
 use Rattle.bz_slotted.specs.Page.{is_meta_word, meta_of, held, visible, used, extent_of}
 use Rattle.bz_slotted.specs.Whole.{IsLeafRecord}
 use Rattle.bz_word.specs.Metas.{meta_word, meta, IsMeta, IsMetaWord, IsExtent}
@@ -82,7 +82,7 @@ module _ (statuses : IsCodec Status IsStatus IsStatusWord status_word status) (m
   payload-len : length r.key + length r.payload - length r.key ≡ length r.payload
   payload-len = omega arith
 
-  pub sizes-agree : words_of (place_of r) ≡ size_of r
+  pub sizes-agree : extent_words (place_of r) ≡ size_of r
   sizes-agree = rw (key-size, payload-size, payload-len) refl
 
 -- what is said of reserved and of visible records

@@ -7,7 +7,7 @@ use Rattle.bz_key.specs.Laws.{PackingIsSmall}
 use Rattle.bz_layout.specs.Addresses.{node_address}
 use Rattle.bz_layout.specs.declared.config.Config.{Config}
 use Rattle.bz_layout.specs.declared.sizes.TheConstants.{NODE_WORDS, STATUS_AT, HEADER_AT, META_AT}
-use Rattle.bz_node.specs.Reading.{words_of}
+use Rattle.bz_node.specs.Reading.{extent_words}
 use Rattle.bz_slotted.specs.Laws.{LeafRulesAreFacts}
 use Rattle.bz_slotted.specs.Page.{meta_of, visible, held, extent_of, page}
 use Rattle.bz_slotted.specs.Readers.{found_of}
@@ -114,7 +114,7 @@ module _ (b : Laws) (s : Scene) (y : Instant) (r : NewRecord) (good : IsScene s)
   extent-is = visible-extent (place_of r)
 
   weighs : weight (Visible (place_of r)) ≡ size_of r
-  weighs = ap words_of extent-is ∙ sizes-agree b.statuses b.metas b.small r f
+  weighs = ap extent_words extent-is ∙ sizes-agree b.statuses b.metas b.small r f
 
   in-block : IsInBlock (page (durable s.past.config (here s) r.slot)) (Visible (place_of r))
   in-block = record {
@@ -127,7 +127,7 @@ module _ (b : Laws) (s : Scene) (y : Instant) (r : NewRecord) (good : IsScene s)
       let d : Disjoint ((page (durable s.past.config (here s) r.slot)).meta i) ((page (durable s.past.config (here s) r.slot)).meta (status r.status).count) =
       whole.apart i (status r.status).count l (omega (arith, count-durable)) ne t (ap held reserved-there ∙ reserved-held (place_of r)) in
       let e : extent_of ((page (durable s.past.config (here s) r.slot)).meta (status r.status).count) ≡ extent_of (Visible (place_of r)) = ap extent_of reserved-there ∙ (reserved-extent (place_of r) ∙ sym extent-is) in
-      subst (λ z. ((extent_of ((page (durable s.past.config (here s) r.slot)).meta i)).offset + weight ((page (durable s.past.config (here s) r.slot)).meta i) ≤ z.offset) ⊎ (z.offset + words_of z ≤ (extent_of ((page (durable s.past.config (here s) r.slot)).meta i)).offset)) e d
+      subst (λ z. ((extent_of ((page (durable s.past.config (here s) r.slot)).meta i)).offset + weight ((page (durable s.past.config (here s) r.slot)).meta i) ≤ z.offset) ⊎ (z.offset + extent_words z ≤ (extent_of ((page (durable s.past.config (here s) r.slot)).meta i)).offset)) e d
 
   absent : search_to (durable s.past.config (here s) r.slot) (page (durable s.past.config (here s) r.slot)).meta r.key (page (durable s.past.config (here s) r.slot)).count ≡ None
   absent = absent-in (durable s.past.config (here s) r.slot) r.key (now.found r.key ∙ w.leaf.found)

@@ -1,6 +1,6 @@
 -- A removal is lawful for everybody and deletes the key.
 use Rattle.std.proofs.Common.{◌≡◌, ℕ, ◌+◌, true, false, List, arith, refl, sym, ap, ◌∙◌}
-use Rattle.bz_node.specs.Reading.{words_of}
+use Rattle.bz_node.specs.Reading.{extent_words}
 use Rattle.bz_slotted.specs.Laws.{LeafRulesAreFacts}
 use Rattle.bz_slotted.specs.Page.{meta_of, visible, held, used, extent_of, page}
 use Rattle.bz_slotted.specs.Records.{shown}
@@ -77,8 +77,8 @@ module _ (b : Laws) (s : Scene) (y : Instant) (key payload : List ℕ) (k st pla
   loose : (A : Type 0) → held (Deleted e.key e.total) ≡ true → A
   loose A v = absurd (let h = deleted-loose e.key e.total in cc)
 
-  reads : status ((removal k st place e).new_status) ≡ record (status st) { dead = (status st).dead + words_of e; stamp = next_stamp (status st).stamp }
-  reads = counted-reads b.statuses st ((status st).dead + words_of e) w.leaf.leaf.plain (omega (arith, w.small, w.dead))
+  reads : status ((removal k st place e).new_status) ≡ record (status st) { dead = (status st).dead + extent_words e; stamp = next_stamp (status st).stamp }
+  reads = counted-reads b.statuses st ((status st).dead + extent_words e) w.leaf.leaf.plain (omega (arith, w.small, w.dead))
 
   rewrites : IsRewriteOf (node s.past.config (here s).image k) (durable s.past.config (here s) k) place (Deleted e.key e.total) (deletes key payload)
   rewrites = record {
@@ -102,7 +102,7 @@ module _ (b : Laws) (s : Scene) (y : Instant) (key payload : List ℕ) (k st pla
     leaf = w.leaf;
     thawed = thawed;
     states = record {
-      plain = counted-plain b.statuses st ((status st).dead + words_of e) w.leaf.leaf.plain (omega (arith, w.small, w.dead));
+      plain = counted-plain b.statuses st ((status st).dead + extent_words e) w.leaf.leaf.plain (omega (arith, w.small, w.dead));
       thawed = ap (λ z. z.frozen) reads ∙ thawed;
       count = ap (λ z. z.count) reads;
       block = ap (λ z. z.block) reads;
@@ -118,7 +118,7 @@ module _ (b : Laws) (s : Scene) (y : Instant) (key payload : List ℕ) (k st pla
       dead : (status ((removal k st place e).new_status)).dead + shown (Deleted e.key e.total) ≡ (status st).dead + shown (meta_of (meta_word (Visible e)))
       dead =
           let none : shown (Deleted e.key e.total) ≡ 0 = rw (deleted-hidden e.key e.total) refl in
-          let all : shown (meta_of (meta_word (Visible e))) ≡ words_of e = ap shown (visible-reads b.metas e w.extent) ∙ rw (visible-shown e) (ap words_of (visible-extent e)) in
+          let all : shown (meta_of (meta_word (Visible e))) ≡ extent_words e = ap shown (visible-reads b.metas e w.extent) ∙ rw (visible-shown e) (ap extent_words (visible-extent e)) in
           omega (arith, none, all, ap (λ z. z.dead) reads)
 
 pub removing : Laws → RewritesAreGood → RemovalsAreGood

@@ -5,7 +5,7 @@ use Rattle.std.proofs.lemmas.Bool.{true≢false}
 use Rattle.bz_key.specs.Laws.{PackingIsSmall}
 use Rattle.bz_layout.specs.Addresses.{node_address}
 use Rattle.bz_layout.specs.declared.sizes.TheConstants.{NODE_WORDS, STATUS_AT, META_AT}
-use Rattle.bz_node.specs.Reading.{words_of}
+use Rattle.bz_node.specs.Reading.{extent_words}
 use Rattle.bz_slotted.specs.Laws.{LeafRulesAreFacts}
 use Rattle.bz_slotted.specs.Page.{meta_of, visible, held, extent_of, page}
 use Rattle.bz_slotted.specs.Records.{key_in, payload_in, key_at, weight, shown}
@@ -100,7 +100,7 @@ module _ (b : Laws) (s : Scene) (y : Instant) (r : NewRecord) (old : List ℕ) (
   extent-is = visible-extent (place_of r)
 
   weighs : weight (Visible (place_of r)) ≡ size_of r
-  weighs = ap words_of extent-is ∙ sizes-agree b.statuses b.metas b.small r f
+  weighs = ap extent_words extent-is ∙ sizes-agree b.statuses b.metas b.small r f
 
   in-block : IsInBlock (page (durable s.past.config (here s) r.slot)) (Visible (place_of r))
   in-block = record {
@@ -137,16 +137,16 @@ module _ (b : Laws) (s : Scene) (y : Instant) (r : NewRecord) (old : List ℕ) (
     gone = λ v. absurd (true≢false (sym (visible-shown (place_of r)) ∙ v));
   }
 
-  dead-small : (status r.status).dead + words_of e < 2 ^ 10
+  dead-small : (status r.status).dead + extent_words e < 2 ^ 10
   dead-small = omega (arith, f.dead, f.room.fits, g.was.small)
 
-  counts : status ((replacement r place e).new_status) ≡ record (status (status_grown r)) { dead = (status r.status).dead + words_of e; stamp = next_stamp (status (status_grown r)).stamp }
-  counts = counted-reads b.statuses (status_grown r) ((status r.status).dead + words_of e) (grown-plain b.statuses r f) dead-small
+  counts : status ((replacement r place e).new_status) ≡ record (status (status_grown r)) { dead = (status r.status).dead + extent_words e; stamp = next_stamp (status (status_grown r)).stamp }
+  counts = counted-reads b.statuses (status_grown r) ((status r.status).dead + extent_words e) (grown-plain b.statuses r f) dead-small
 
   dead : (status ((replacement r place e).new_status)).dead + shown (Visible (place_of r)) ≡ (status (status_grown r)).dead + shown (meta_of (meta_word (Visible e)))
   dead =
       let new : shown (Visible (place_of r)) ≡ size_of r = rw (visible-shown (place_of r)) weighs in
-      let gone : shown (meta_of (meta_word (Visible e))) ≡ words_of e = ap shown (visible-reads b.metas e g.was.extent) ∙ rw (visible-shown e) (ap words_of (visible-extent e)) in
+      let gone : shown (meta_of (meta_word (Visible e))) ≡ extent_words e = ap shown (visible-reads b.metas e g.was.extent) ∙ rw (visible-shown e) (ap extent_words (visible-extent e)) in
       omega (arith, new, gone, ap (λ z. z.dead) counts, ap (λ z. z.dead) reads)
 
   own : (i : ℕ) → (extent_of (Visible (place_of r))).offset ≤ i → i < (extent_of (Visible (place_of r))).offset + weight (Visible (place_of r)) → IsMineAndDurable s (node_address s.past.config r.slot + i)
@@ -162,7 +162,7 @@ module _ (b : Laws) (s : Scene) (y : Instant) (r : NewRecord) (old : List ℕ) (
     leaf = g.was.leaf;
     thawed = thawed;
     states = record {
-      plain = counted-plain b.statuses (status_grown r) ((status r.status).dead + words_of e) (grown-plain b.statuses r f) dead-small;
+      plain = counted-plain b.statuses (status_grown r) ((status r.status).dead + extent_words e) (grown-plain b.statuses r f) dead-small;
       thawed = ap (λ z. z.frozen) counts ∙ thawed;
       count = ap (λ z. z.count) counts;
       block = ap (λ z. z.block) counts;

@@ -3,7 +3,7 @@ use Rattle.std.proofs.Common.{◌≡◌, ◌≢◌, ℕ, ◌+◌, ◌^◌, ◌<�
 use Rattle.std.proofs.lemmas.Bool.{cases_lt, true≢false}
 use Rattle.bz_key.specs.Laws.{PackingIsSmall}
 use Rattle.bz_layout.specs.declared.sizes.TheConstants.{NODE_WORDS, STATUS_AT, HEADER_AT, META_AT}
-use Rattle.bz_node.specs.Reading.{words_of}
+use Rattle.bz_node.specs.Reading.{extent_words}
 use Rattle.bz_slotted.specs.Changes.{Reserves}
 use Rattle.bz_slotted.specs.LeafLaws.{AnswersAlike, ReservationIsQuiet}
 use Rattle.bz_slotted.specs.Page.{meta_of, visible, extent_of, page}
@@ -102,7 +102,7 @@ module _ (b : Laws) (s : Scene) (y : Instant) (r : NewRecord) (moment : ℕ) (go
   }
 
   weighs : weight (Reserved (place_of r)) ≡ size_of r
-  weighs = ap words_of (reserved-extent (place_of r)) ∙ sizes-agree b.statuses b.metas b.small r f
+  weighs = ap extent_words (reserved-extent (place_of r)) ∙ sizes-agree b.statuses b.metas b.small r f
 
   pub count-durable : (page (durable s.past.config (here s) r.slot)).count ≡ (status r.status).count
   count-durable = ap (λ z. (status z).count) was-durable

@@ -3,7 +3,7 @@ use Rattle.std.specs.Prelude.{◌≡◌, ℕ, ◌+◌, ◌<◌, ◌≤◌, true,
 use Rattle.bz_layout.specs.Addresses.{node_address}
 use Rattle.bz_layout.specs.declared.config.Config.{Config}
 use Rattle.bz_layout.specs.declared.sizes.TheConstants.{NODE_WORDS, STATUS_AT, META_AT, SHARED_WORDS}
-use Rattle.bz_node.specs.Reading.{words_of}
+use Rattle.bz_node.specs.Reading.{extent_words}
 use Rattle.bz_slotted.specs.Page.{held, extent_of, page}
 use Rattle.bz_slotted.specs.Records.{key_at}
 use Rattle.bz_word.specs.Metas.{meta_word, IsExtent}
@@ -37,7 +37,7 @@ replacement r place e = record {
   slot = r.slot;
   place = place;
   status = status_grown r;
-  new_status = counted_status (status_grown r) ((status r.status).dead + words_of e);
+  new_status = counted_status (status_grown r) ((status r.status).dead + extent_words e);
   meta = meta_word (Visible e);
   new_meta = meta_word (Visible (place_of r));
 }
@@ -48,7 +48,7 @@ removal k st place e = record {
   slot = k;
   place = place;
   status = st;
-  new_status = counted_status st ((status st).dead + words_of e);
+  new_status = counted_status st ((status st).dead + extent_words e);
   meta = meta_word (Visible e);
   new_meta = meta_word (Deleted e.key e.total);
 }
@@ -60,7 +60,7 @@ pub record WasRecord (key payload : List ℕ) (k st place : ℕ) (e : Extent) (p
   pub counted : place < (status st).count
   pub extent : IsExtent e
   pub some : 0 < e.key
-  pub small : words_of e ≤ SHARED_WORDS
+  pub small : extent_words e ≤ SHARED_WORDS
   pub dead : (status st).dead ≤ SHARED_WORDS
   pub meta : words p.config (p.at moment) k (META_AT + place) ≡ meta_word (Visible e)
   pub is_key : key_at (page (durable p.config (p.at moment) k)) place ≡ key

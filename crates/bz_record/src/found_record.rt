@@ -5,7 +5,7 @@ ghost use Rattle.bz_key.specs.Packing.{packed_len};
 ghost use Rattle.bz_slotted.specs.Page.{meta_of, visible, extent_of as extent_in};
 ghost use Rattle.bz_word.specs.Metas.{IsExtent};
 ghost use Rattle.bz_word.specs.Statuses.{status};
-ghost use Rattle.bz_node.specs.Reading.{words_of};
+ghost use Rattle.bz_node.specs.Reading.{extent_words};
 ghost use Rattle.bz_record.specs.Records.{Fits};
 ghost use Rattle.bz_record.specs.Replacing.{removal, replacement, status_grown};
 ghost use Rattle.bz_record.specs.Swaps.{counted_status};
@@ -45,7 +45,7 @@ impl FoundRecord {
         requires plain { word < 2 ^ 61 }
         requires extent { IsExtent self.now.extent }
         requires some { 0 < self.now.extent.key }
-        requires small { words_of self.now.extent ≤ SHARED_WORDS }
+        requires small { extent_words self.now.extent ≤ SHARED_WORDS }
         requires dead { (status word).dead ≤ SHARED_WORDS }
         ensures { result ≡ removal slot word self.now.place self.now.extent }
     {
@@ -75,7 +75,7 @@ impl FoundRecord {
         requires fits { Fits new.now }
         requires extent { IsExtent self.now.extent }
         requires some { 0 < self.now.extent.key }
-        requires small { words_of self.now.extent ≤ SHARED_WORDS }
+        requires small { extent_words self.now.extent ≤ SHARED_WORDS }
         ensures { result ≡ replacement new.now self.now.place self.now.extent }
     {
         RecordSwap {
@@ -92,8 +92,8 @@ impl FoundRecord {
     fn replaced_status(&self, new: &NewRecord) -> u64
         requires fits { Fits new.now }
         requires extent { IsExtent self.now.extent }
-        requires small { words_of self.now.extent ≤ SHARED_WORDS }
-        ensures { result ≡ counted_status (status_grown new.now) ((status new.now.status).dead + words_of self.now.extent) }
+        requires small { extent_words self.now.extent ≤ SHARED_WORDS }
+        ensures { result ≡ counted_status (status_grown new.now) ((status new.now.status).dead + extent_words self.now.extent) }
     {
         bz_word::laws::statuses();
         let old = status_of(new.grown_status());
@@ -108,7 +108,7 @@ impl FoundRecord {
     // How many words of the block it takes.
     fn words(&self) -> u32
         requires { IsExtent self.now.extent }
-        ensures { result ≡ words_of self.now.extent }
+        ensures { result ≡ extent_words self.now.extent }
     {
         let key = self.extent.key;
         word_count(key) + word_count(self.extent.total - key)

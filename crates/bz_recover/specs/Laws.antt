@@ -6,7 +6,7 @@ use Rattle.bz_layout.specs.declared.sizes.TheConstants.{LINE_WORDS}
 use Rattle.bz_pm.specs.Acts.{stored, flushed, evicted, after_cut}
 use Rattle.bz_pm.specs.Words.{Words, IsMemory}
 use Rattle.bz_swap.specs.Power.{MayRenew}
-use Rattle.bz_swap.specs.SwapMemory.{SwapMemory, Idle, doing_of, words_of as words_in}
+use Rattle.bz_swap.specs.SwapMemory.{SwapMemory, Idle, doing_of, memory_words as words_in}
 use Rattle.bz_task.specs.declared.todo.Todo.{Todo}
 use Rattle.bz_task.specs.declared.todo.Todo.TheVariants.{Load, Store, Flush, Finish}
 use Rattle.bz_recover.specs.Memory.{Memory, memory_of, Stores, Flushes, Evicts, Cuts}

@@ -10,7 +10,7 @@ use Rattle.bz_layout.specs.declared.thresholds.TheConstants.{INNER_LIMIT}
 use Rattle.bz_node.specs.Reading.{children_in}
 use Rattle.bz_node.specs.Records.{IsPair}
 use Rattle.bz_parted.specs.Laws.{AreInnerHalves, ChildrenPartInHalves}
-use Rattle.bz_parted.specs.Parting.{words_of, right_half, separator_of as separator_in}
+use Rattle.bz_parted.specs.Parting.{child_words, right_half, separator_of as separator_in}
 use Rattle.bz_slotted.specs.Page.{page}
 use Rattle.bz_slotted.specs.ReadingLaws.{node_of}
 use Rattle.bz_split.specs.Parts.{AreHalvesFrom}
@@ -47,17 +47,17 @@ IsFew n = words_taken (page n) ≤ INNER_LIMIT
 few-of : (a n limit : ℕ) → a ≡ n → n ≤ limit → a ≤ limit
 few-of a n limit e h = omega (arith, e, h)
 
-module _ (made : MadeInnersTakeTheirEntries) (part : ChildrenPartInHalves) (nodes : ℕ) (read left right sep : List ℕ) (level : ℕ) (low high : Option (List ℕ)) (n : IsInnerNode nodes read level low high) (many : INNER_LIMIT < words_of (children_in read))
+module _ (made : MadeInnersTakeTheirEntries) (part : ChildrenPartInHalves) (nodes : ℕ) (read left right sep : List ℕ) (level : ℕ) (low high : Option (List ℕ)) (n : IsInnerNode nodes read level low high) (many : INNER_LIMIT < child_words (children_in read))
     (h : AreHalvesOfNode nodes read left right sep level low high) where
   halves : AreInnerHalves (children_in read) low high h.cut
   halves = part (children_in read) low high h.cut (record { each = n.node.each; low_bound = n.node.low_bound; high_bound = n.node.high_bound; list = n.node.list; many = many; room = n.node.room }) h.is_cut
 
   pub left-few : IsFew (node_of left)
   left-few = subst (λ w. IsFew (node_of w)) (sym h.left_is)
-      (few-of _ (words_of (take h.cut (children_in read))) INNER_LIMIT
+      (few-of _ (child_words (take h.cut (children_in read))) INNER_LIMIT
       (made (take h.cut (children_in read)) low (Some (separator_in (children_in read) h.cut)) level halves.left_each n.node.low_bound halves.separator n.lowest (omega (arith, halves.words, n.node.room))) halves.left_room)
 
   pub right-few : IsFew (node_of right)
   right-few = subst (λ w. IsFew (node_of w)) (sym h.right_is)
-      (few-of _ (words_of (right_half (children_in read) h.cut)) INNER_LIMIT
+      (few-of _ (child_words (right_half (children_in read) h.cut)) INNER_LIMIT
       (made (right_half (children_in read) h.cut) (Some (separator_in (children_in read) h.cut)) high level halves.right_each halves.separator n.node.high_bound n.lowest (omega (arith, halves.words, n.node.room))) halves.right_room)

@@ -9,7 +9,7 @@ use Rattle.bz_task.specs.declared.todo.Todo.{Todo}
 use Rattle.bz_task.specs.declared.view.LeafView.{LeafView}
 use Rattle.bz_alone.specs.FromRunning.Duties.{config_of, asks_of, facts_of}
 use Rattle.bz_alone.specs.FromRunning.MadeFor.{WasLeafOf, IsMadeFor}
-use Rattle.bz_alone.specs.FromRunning.Running.TheVariants.{Seeking, Finding, Reading, Inserting, Updating, Deleting, Freezing, Consolidating, Splitting, SplittingBelow, SplittingInner, SplittingInnerRoot, Merging}
+use Rattle.bz_alone.specs.FromRunning.AnyTask.TheVariants.{Seeking, Finding, Reading, Inserting, Updating, Deleting, Freezing, Consolidating, Splitting, SplittingBelow, SplittingInner, SplittingInnerRoot, Merging}
 use Rattle.bz_rounds.specs.Falls.{Falls, GivesRoom}
 use Rattle.bz_rounds.specs.Laws.{LoneFreezesLowerTheStage, LoneCopiesGiveRoom, LoneRootLeafSplitsGiveRoom, LoneLeafSplitsGiveRoom, LoneInnerSplitsLowerTheStage, LoneRootSplitsLowerTheStage, LoneSwapsLowerTheStage}
 use Rattle.bz_rounds.specs.Lone.{IsLoneSwap}

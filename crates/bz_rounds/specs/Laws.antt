@@ -20,7 +20,7 @@ use Rattle.bz_task.specs.Scene.{Scene, here}
 use Rattle.bz_word.specs.declared.entry.Entry.{Entry}
 use Rattle.bz_alone.specs.FromRunning.Duties.{config_of, asks_of, facts_of}
 use Rattle.bz_alone.specs.FromRunning.MadeFor.{WasLeafOf, LackedWords, IsSmallCopy, AreLargeHalves, HasComeTo, IsMadeFor}
-use Rattle.bz_alone.specs.FromRunning.Running.{Running}
+use Rattle.bz_alone.specs.FromRunning.AnyTask.{AnyTask}
 use Rattle.bz_rounds.specs.Falls.{Falls, GivesRoom}
 use Rattle.bz_rounds.specs.Lone.{IsLoneSwap}
 
@@ -64,5 +64,5 @@ LoneRootSplitsLowerTheStage =
 -- so whichever of these a task is: its swap lowers the stage of the key that it was made for, for the words that it was made for
 abbrev pub LoneSwapsLowerTheStage : Type 0
 LoneSwapsLowerTheStage =
-    (t : Running) (key : List ℕ) (words : ℕ) (entries : List Entry) (s : Scene) (y : Instant) → IsLoneSwap (config_of t) (asks_of t) (facts_of t) entries s y →
+    (t : AnyTask) (key : List ℕ) (words : ℕ) (entries : List Entry) (s : Scene) (y : Instant) → IsLoneSwap (config_of t) (asks_of t) (facts_of t) entries s y →
     IsMadeFor t key words s.past → words ≤ LEAF_RECORD_WORDS + 1 → Falls s.past.config (here s) y key words

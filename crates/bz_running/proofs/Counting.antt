@@ -14,7 +14,7 @@ use Rattle.bz_layout.specs.declared.config.Config.{Config}
 use Rattle.bz_task.specs.declared.todo.Todo.{Todo}
 use Rattle.bz_task.specs.declared.todo.Todo.TheVariants.{Read, Finish}
 use Rattle.bz_running.specs.LookingUp.{NoLook, look_of, reads_in, HasCounted}
-use Rattle.bz_running.specs.declared.running.Running.{Running}
+use Rattle.bz_running.specs.declared.running.AnyTask.{AnyTask}
 
 read-counts : (a : ℕ) (todo : Todo) → Some (Read a) ≡ Some todo → reads_in todo ≡ 1
 read-counts a todo e = let q : Read a ≡ todo = cc in subst (λ z. reads_in z ≡ 1) q refl
@@ -79,5 +79,5 @@ find-few phase.Changed = omega arith
 pub find-counts : (t u : Find) (todo : Todo) → find.left_of u < find.left_of t → find.asks_of u ≡ Some todo → find.asked_of t + reads_in todo ≤ find.asked_of u
 find-counts t u todo near asks = omega (arith, near, find-asks u u.phase todo asks, find-few t.phase)
 
-pub none-counts : (old new : Running) (todo : Todo) → look_of old ≡ NoLook → look_of new ≡ NoLook → HasCounted old todo new
+pub none-counts : (old new : AnyTask) (todo : Todo) → look_of old ≡ NoLook → look_of new ≡ NoLook → HasCounted old todo new
 none-counts old new todo e f = record { look = f ∙ sym e; reads = λ l. absurd (l e) }

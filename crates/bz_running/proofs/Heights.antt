@@ -7,11 +7,11 @@ use Rattle.bz_task.specs.Scene.{Scene, Waiting, IsScene}
 use Rattle.bz_task.specs.declared.todo.Outcome.TheVariants.{Full}
 use Rattle.bz_running.specs.Duties.{end_of, wants_of, ascent_of, facts_of, means_of}
 use Rattle.bz_running.specs.Laws.{HaveFilledUp}
-use Rattle.bz_running.specs.declared.running.Running.{Running}
-use Rattle.bz_running.specs.declared.running.Running.TheVariants.{Seeking, Finding, Reading, Inserting, Updating, Deleting, Freezing, Consolidating, Splitting, SplittingBelow, SplittingInner, SplittingInnerRoot, Merging}
+use Rattle.bz_running.specs.declared.running.AnyTask.{AnyTask}
+use Rattle.bz_running.specs.declared.running.AnyTask.TheVariants.{Seeking, Finding, Reading, Inserting, Updating, Deleting, Freezing, Consolidating, Splitting, SplittingBelow, SplittingInner, SplittingInnerRoot, Merging}
 use Rattle.bz_running.proofs.Statements.{Ends}
 
-by-end : AscentsEnd → (t : Running) (s : Scene) → IsScene s → facts_of t Waiting s → means_of t (Full Height) s → (wants_of t ≡ SPLIT_SLOTS) × HaveFilledUp (ascent_of t) s.past
+by-end : AscentsEnd → (t : AnyTask) (s : Scene) → IsScene s → facts_of t Waiting s → means_of t (Full Height) s → (wants_of t ≡ SPLIT_SLOTS) × HaveFilledUp (ascent_of t) s.past
 unfolding wants_of ascent_of facts_of means_of
 by-end law (Seeking t) s good f m = absurd m
 by-end law (Finding t) s good f m = absurd m
@@ -27,5 +27,5 @@ by-end law (SplittingInner t a) s good f m = absurd m
 by-end law (SplittingInnerRoot t a) s good f m = let w = f.1.1.high s m in (refl, law a s w.moment good f.1.0 w.since w.now w.node.inside (omega (arith, w.highest, w.node.level_is)))
 by-end law (Merging t) s good f m = absurd m
 
-pub filled-up : AscentsEnd → (t : Running) → Ends t → (s : Scene) → IsScene s → facts_of t Waiting s → end_of t ≡ Some (Full Height) → (wants_of t ≡ SPLIT_SLOTS) × HaveFilledUp (ascent_of t) s.past
+pub filled-up : AscentsEnd → (t : AnyTask) → Ends t → (s : Scene) → IsScene s → facts_of t Waiting s → end_of t ≡ Some (Full Height) → (wants_of t ≡ SPLIT_SLOTS) × HaveFilledUp (ascent_of t) s.past
 filled-up law t ends s good f e = by-end law t s good f (ends s (Full Height) f e).0

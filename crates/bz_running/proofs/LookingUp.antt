@@ -22,8 +22,8 @@ use Rattle.bz_task.specs.declared.todo.Todo.TheVariants.{Read, Finish}
 use Rattle.bz_task.specs.declared.view.KeyView.{KeyView}
 use Rattle.bz_running.specs.Duties.{asks_of, end_of, change_of, facts_of}
 use Rattle.bz_running.specs.LookingUp.{ForWay, ForKey, NoLook, look_of, reads_asked, IsReadOrEnd, EndsAs, LooksUpBriefly}
-use Rattle.bz_running.specs.declared.running.Running.{Running}
-use Rattle.bz_running.specs.declared.running.Running.TheVariants.{Seeking, Finding, Reading, Inserting, Updating, Deleting, Freezing, Consolidating, Splitting, SplittingBelow, SplittingInner, SplittingInnerRoot, Merging}
+use Rattle.bz_running.specs.declared.running.AnyTask.{AnyTask}
+use Rattle.bz_running.specs.declared.running.AnyTask.TheVariants.{Seeking, Finding, Reading, Inserting, Updating, Deleting, Freezing, Consolidating, Splitting, SplittingBelow, SplittingInner, SplittingInnerRoot, Merging}
 
 a-read : (a : ℕ) (todo : Todo) → Some (Read a) ≡ Some todo → IsReadOrEnd todo
 a-read a todo e = let q : Read a ≡ todo = cc in subst IsReadOrEnd q tt
@@ -107,7 +107,7 @@ finds-briefly t few = record {
   found = few;
 }
 
-none-briefly : (t : Running) → look_of t ≡ NoLook → reads_asked t ≡ 0 → LooksUpBriefly t
+none-briefly : (t : AnyTask) → look_of t ≡ NoLook → reads_asked t ≡ 0 → LooksUpBriefly t
 none-briefly t n z = record {
   asks = λ todo l e. absurd (l n);
   ends = λ o e. subst (λ z. EndsAs z o) (sym n) tt;
@@ -115,7 +115,7 @@ none-briefly t n z = record {
   found = λ view s f e. omega (arith, z);
 }
 
-pub others-briefly : (t : Running) → ((x : Seek) → t ≡ Seeking x → ⊥) → ((x : Find) → t ≡ Finding x → ⊥) → LooksUpBriefly t
+pub others-briefly : (t : AnyTask) → ((x : Seek) → t ≡ Seeking x → ⊥) → ((x : Find) → t ≡ Finding x → ⊥) → LooksUpBriefly t
 unfolding look_of reads_asked
 others-briefly (Seeking x) no_seek no_find = absurd (no_seek x refl)
 others-briefly (Finding x) no_seek no_find = absurd (no_find x refl)

@@ -25,11 +25,11 @@ use Rattle.bz_task.specs.declared.view.LeafView.{LeafView}
 use Rattle.bz_word.specs.Statuses.{status}
 use Rattle.bz_running.specs.Duties.{ascent_of}
 use Rattle.bz_running.specs.MadeFor.{WasLeafOf, LackedWords, WasCrowded, IsCopyFor, AreHalvesFor, HasComeTo, IsMadeFor}
-use Rattle.bz_running.specs.declared.running.Running.{Running}
-use Rattle.bz_running.specs.declared.running.Running.TheVariants.{Seeking, Finding, Reading, Inserting, Updating, Deleting, Freezing, Consolidating, Splitting, SplittingBelow, SplittingInner, SplittingInnerRoot, Merging}
+use Rattle.bz_running.specs.declared.running.AnyTask.{AnyTask}
+use Rattle.bz_running.specs.declared.running.AnyTask.TheVariants.{Seeking, Finding, Reading, Inserting, Updating, Deleting, Freezing, Consolidating, Splitting, SplittingBelow, SplittingInner, SplittingInnerRoot, Merging}
 use Rattle.bz_running.proofs.Ascending.{same-ascent}
 
-abbrev pub Kept : Running → Running → Type 0
+abbrev pub Kept : AnyTask → AnyTask → Type 0
 Kept t u = (key : List ℕ) (words : ℕ) (p : Past) → IsMadeFor t key words p → IsMadeFor u key words p
 
 same-one : (a b : List ℕ) → a ∷ [] ≡ b ∷ [] → a ≡ b
@@ -112,7 +112,7 @@ module _ (p q : Past) (n : Continues p q) where
     come-stays : (slot : ℕ) (a : Ascent) → HasComeTo key slot a p → HasComeTo key slot a q
     come-stays slot a m = record { key_is = m.key_is; node = m.node; view = m.view; leaf = crowded-stays m.view m.leaf }
 
-pub made-stays : ViewsStay → (t : Running) (key : List ℕ) (words : ℕ) (p q : Past) → IsMadeFor t key words p → Continues p q → IsMadeFor t key words q
+pub made-stays : ViewsStay → (t : AnyTask) (key : List ℕ) (words : ℕ) (p q : Past) → IsMadeFor t key words p → Continues p q → IsMadeFor t key words q
 unfolding IsMadeFor
 made-stays v (Seeking t) key words p q m n = absurd m
 made-stays v (Finding t) key words p q m n = absurd m
@@ -134,7 +134,7 @@ pub record StandsOnCrowded (a : Ascent) (key : List ℕ) (p : Past) : Type 0 whe
   pub view : LeafView
   pub leaf : WasCrowded key view p
 
-pub stands-on-crowded : (t : Running) (a : Ascent) → ascent_of t ≡ Some a → (key : List ℕ) (words : ℕ) (p : Past) → IsMadeFor t key words p → StandsOnCrowded a key p
+pub stands-on-crowded : (t : AnyTask) (a : Ascent) → ascent_of t ≡ Some a → (key : List ℕ) (words : ℕ) (p : Past) → IsMadeFor t key words p → StandsOnCrowded a key p
 unfolding ascent_of IsMadeFor
 stands-on-crowded (SplittingBelow t b) a e key words p m = subst (λ (z : Ascent). StandsOnCrowded z key p) (same-ascent b a e) (record { key_is = m.1; view = m.0.view; leaf = m.0.leaf })
 stands-on-crowded (SplittingInner t b) a e key words p m = subst (λ (z : Ascent). StandsOnCrowded z key p) (same-ascent b a e) (record { key_is = m.key_is; view = m.view; leaf = m.leaf })

@@ -11,18 +11,18 @@ use Rattle.bz_running.specs.Duties.{config_of, wants_of, ascent_of, facts_of, me
 use Rattle.bz_running.specs.GoingUp.{IsSplitAt, GoesUp}
 use Rattle.bz_running.specs.Hearing.{IsLookup}
 use Rattle.bz_running.specs.MadeFor.{WasCrowded, IsMadeFor}
-use Rattle.bz_running.specs.declared.running.Running.{Running}
-use Rattle.bz_running.specs.declared.running.Running.TheVariants.{Seeking, Finding, Reading, Inserting, Updating, Deleting, Freezing, Consolidating, Splitting, SplittingBelow, SplittingInner, SplittingInnerRoot, Merging}
+use Rattle.bz_running.specs.declared.running.AnyTask.{AnyTask}
+use Rattle.bz_running.specs.declared.running.AnyTask.TheVariants.{Seeking, Finding, Reading, Inserting, Updating, Deleting, Freezing, Consolidating, Splitting, SplittingBelow, SplittingInner, SplittingInnerRoot, Merging}
 use Rattle.bz_running.proofs.Ascending.{same-ascent}
 use Rattle.bz_running.proofs.Made.{stands-on-crowded}
 use Rattle.bz_running.proofs.Statements.{Ends}
 
 -- a split on the way up
-pub record IsRising (t : Running) (a : Ascent) : Type 0 where
+pub record IsRising (t : AnyTask) (a : Ascent) : Type 0 where
   pub wants : wants_of t ≡ SPLIT_SLOTS
   pub knows : (s : Scene) → facts_of t Waiting s → IsAscent a s.past × LooksUp a (means_of t)
 
-pub is-rising : (t : Running) (a : Ascent) → ascent_of t ≡ Some a → IsRising t a
+pub is-rising : (t : AnyTask) (a : Ascent) → ascent_of t ≡ Some a → IsRising t a
 unfolding wants_of ascent_of facts_of means_of
 is-rising (Seeking t) a e = absurd (cc)
 is-rising (Finding t) a e = absurd (cc)
@@ -38,7 +38,7 @@ is-rising (SplittingInner t b) a e = subst (IsRising (SplittingInner t b)) (same
 is-rising (SplittingInnerRoot t b) a e = subst (IsRising (SplittingInnerRoot t b)) (same-ascent b a e) (record { wants = refl; knows = λ s f. f.1 })
 is-rising (Merging t) a e = absurd (cc)
 
-pub goes-up : AscentsRise → (t next : Running) (a up : Ascent) → Ends t → ascent_of t ≡ Some a → IsOneUp a up → IsSplitAt (config_of t) up next → GoesUp t next
+pub goes-up : AscentsRise → (t next : AnyTask) (a up : Ascent) → Ends t → ascent_of t ≡ Some a → IsOneUp a up → IsSplitAt (config_of t) up next → GoesUp t next
 goes-up law t next a up ends is one it = record {
   config = it.config;
   asks = it.asks;

@@ -29,46 +29,46 @@ use Rattle.bz_task.specs.declared.todo.Seen.TheVariants.{Swapped}
 use Rattle.bz_task.specs.declared.todo.Todo.{Todo}
 use Rattle.bz_task.specs.declared.todo.Todo.TheVariants.{Store, Flush, Swap}
 use Rattle.bz_running.specs.Duties.{config_of, asks_of, made_of, change_swaps, needs_of, wants_of, end_of, change_of, publishing_of, facts_of, means_of, differs_of}
-use Rattle.bz_running.specs.declared.running.Running.{Running}
-use Rattle.bz_running.specs.declared.running.Running.TheVariants.{Seeking, Finding, Reading, Inserting, Updating, Deleting, Freezing, Consolidating, Splitting, SplittingBelow, SplittingInner, SplittingInnerRoot, Merging}
+use Rattle.bz_running.specs.declared.running.AnyTask.{AnyTask}
+use Rattle.bz_running.specs.declared.running.AnyTask.TheVariants.{Seeking, Finding, Reading, Inserting, Updating, Deleting, Freezing, Consolidating, Splitting, SplittingBelow, SplittingInner, SplittingInnerRoot, Merging}
 
-abbrev pub Stable : Running → Type 0
+abbrev pub Stable : AnyTask → Type 0
 Stable t = (stage : Stage) (s after : Scene) → s.past.config ≡ config_of t → facts_of t stage s → IsScene after → IsLawful s after → facts_of t stage after
 
-abbrev pub Askable : Running → Type 0
+abbrev pub Askable : AnyTask → Type 0
 Askable t = (s : Scene) (todo : Todo) → s.past.config ≡ config_of t → facts_of t Waiting s → IsScene s → asks_of t ≡ Some todo → IsAskable s todo
 
-abbrev pub Cause : Running → Type 0
+abbrev pub Cause : AnyTask → Type 0
 Cause t = (s : Scene) (seen : Seen) → s.past.config ≡ config_of t → facts_of t Waiting s → differs_of t seen → IsCause (asks_of t) seen s
 
-abbrev pub Once : Running → Type 0
+abbrev pub Once : AnyTask → Type 0
 Once t = (s : Scene) → facts_of t Waiting s → publishing_of t ≡ true → s.effected ≡ false
 
-abbrev pub Ends : Running → Type 0
+abbrev pub Ends : AnyTask → Type 0
 Ends t = (s : Scene) (outcome : Outcome) → facts_of t Waiting s → end_of t ≡ Some outcome → means_of t outcome s × HasFilled s
 
-abbrev pub Effect : Running → Type 0
+abbrev pub Effect : AnyTask → Type 0
 Effect t = (s : Scene) (y : Instant) (entries : List Entry) → s.past.config ≡ config_of t → facts_of t Waiting s → IsScene s → asks_of t ≡ Some (Swap entries) → Stand entries (here s) → SwapsTo s.past.config entries (here s) y → IsGoodSwap (publishing_of t) (change_of t) entries s y
 
-abbrev pub Took : Running → Type 0
+abbrev pub Took : AnyTask → Type 0
 Took t = (s after : Scene) (entries : List Entry) → s.past.config ≡ config_of t → facts_of t Waiting s → IsScene s → IsScene after → asks_of t ≡ Some (Swap entries) → Stand entries (here s) → Takes (publishing_of t) entries s after → facts_of t HasTaken after
 
-abbrev pub Stored : Running → Type 0
+abbrev pub Stored : AnyTask → Type 0
 Stored t = (s after : Scene) (a v : ℕ) → s.past.config ≡ config_of t → facts_of t Waiting s → IsScene s → IsScene after → asks_of t ≡ Some (Store a v) → Stores a v s after → facts_of t HasTaken after
 
-abbrev pub Flushed : Running → Type 0
+abbrev pub Flushed : AnyTask → Type 0
 Flushed t = (s after : Scene) (line : ℕ) → s.past.config ≡ config_of t → facts_of t Waiting s → IsScene s → IsScene after → asks_of t ≡ Some (Flush line) → Flushes line s after → facts_of t HasTaken after
 
 -- why a task is to begin again
-abbrev pub Restarts : Seen → Running → Running → Type 0
+abbrev pub Restarts : Seen → AnyTask → AnyTask → Type 0
 Restarts seen new t = end_of new ≡ Some Restart → (seen ≡ Swapped false) ⊎ differs_of t seen
 
 -- what a task is told, and then knows
-abbrev pub Learns : Seen → ℕ → FreeSlots → FreeSlots → Running → Running → Type 0
+abbrev pub Learns : Seen → ℕ → FreeSlots → FreeSlots → AnyTask → AnyTask → Type 0
 Learns seen moment free left new t = (stage : Stage) (s : Scene) → s.past.now ≡ moment → s.past.config ≡ config_of t → IsScene s → (0 < needs_of t → AreUnreached s free) → facts_of t stage s → Tells (asks_of t) stage seen s → facts_of new Waiting (gained s free left)
 
 -- what a task still is to take is no more than what it takes in all
-pub takes-few : ((t : Consolidate) → consol.needs_of t ≤ CONSOLIDATION_SLOTS) → ((t : Merge) → merge.needs_of t ≤ MERGE_SLOTS) → (t : Running) → needs_of t ≤ SPLIT_SLOTS → needs_of t ≤ wants_of t
+pub takes-few : ((t : Consolidate) → consol.needs_of t ≤ CONSOLIDATION_SLOTS) → ((t : Merge) → merge.needs_of t ≤ MERGE_SLOTS) → (t : AnyTask) → needs_of t ≤ SPLIT_SLOTS → needs_of t ≤ wants_of t
 unfolding needs_of wants_of
 takes-few one merging (Seeking t) few = omega arith
 takes-few one merging (Finding t) few = omega arith
@@ -85,7 +85,7 @@ takes-few one merging (SplittingInnerRoot t a) few = few
 takes-few one merging (Merging t) few = merging t
 
 -- and no more than a split takes
-pub wants-few : (t : Running) → wants_of t ≤ SPLIT_SLOTS
+pub wants-few : (t : AnyTask) → wants_of t ≤ SPLIT_SLOTS
 unfolding wants_of
 wants-few (Seeking t) = omega arith
 wants-few (Finding t) = omega arith
@@ -114,7 +114,7 @@ by-delete : (phase : DeletePhase) → delete_publishes phase ≡ true → 0 + 1 
 by-delete (Remove f) e = refl
 by-delete phase e = absurd (cc)
 
-pub publishes-last : (t : Running) → publishing_of t ≡ true → made_of t + 1 ≡ change_swaps t
+pub publishes-last : (t : AnyTask) → publishing_of t ≡ true → made_of t + 1 ≡ change_swaps t
 unfolding publishing_of made_of change_swaps
 publishes-last (Inserting t) e = by-insert t.phase e
 publishes-last (Updating t) e = by-update t.phase e

@@ -35,10 +35,10 @@ use Rattle.bz_mutate.specs.UpdateDuties as update
 use Rattle.bz_merge.specs.FromSplit.Duties as split
 use Rattle.bz_merge.specs.FromSplit.Facts.{split_change, split_means}
 use Rattle.bz_running.specs.Ascending.{on_ascent}
-use Rattle.bz_running.specs.declared.running.Running.{Running}
-use Rattle.bz_running.specs.declared.running.Running.TheVariants.{Seeking, Finding, Reading, Inserting, Updating, Deleting, Freezing, Consolidating, Splitting, SplittingBelow, SplittingInner, SplittingInnerRoot, Merging}
+use Rattle.bz_running.specs.declared.running.AnyTask.{AnyTask}
+use Rattle.bz_running.specs.declared.running.AnyTask.TheVariants.{Seeking, Finding, Reading, Inserting, Updating, Deleting, Freezing, Consolidating, Splitting, SplittingBelow, SplittingInner, SplittingInnerRoot, Merging}
 
-unfoldable pub config_of : Running → Config
+unfoldable pub config_of : AnyTask → Config
 config_of (Seeking t) = seek.config_of t
 config_of (Finding t) = find.config_of t
 config_of (Reading t) = leaf.config_of t
@@ -53,7 +53,7 @@ config_of (SplittingInner t a) = t.config
 config_of (SplittingInnerRoot t a) = t.config
 config_of (Merging t) = t.config
 
-unfoldable pub asks_of : Running → Option Todo
+unfoldable pub asks_of : AnyTask → Option Todo
 asks_of (Seeking t) = seek.asks_of t
 asks_of (Finding t) = find.asks_of t
 asks_of (Reading t) = leaf.asks_of t
@@ -68,7 +68,7 @@ asks_of (SplittingInner t a) = asks_fork t
 asks_of (SplittingInnerRoot t a) = asks_crown t
 asks_of (Merging t) = merge.asks_of t
 
-unfoldable pub end_of : Running → Option Outcome
+unfoldable pub end_of : AnyTask → Option Outcome
 end_of (Seeking t) = seek.end_of t
 end_of (Finding t) = find.end_of t
 end_of (Reading t) = leaf.end_of t
@@ -83,7 +83,7 @@ end_of (SplittingInner t a) = end_fork t
 end_of (SplittingInnerRoot t a) = end_crown t
 end_of (Merging t) = merge.end_of t
 
-unfoldable pub left_of : Running → ℕ
+unfoldable pub left_of : AnyTask → ℕ
 left_of (Seeking t) = seek.left_of t
 left_of (Finding t) = find.left_of t
 left_of (Reading t) = leaf.left_of t
@@ -99,7 +99,7 @@ left_of (SplittingInnerRoot t a) = left_crown t
 left_of (Merging t) = merge.left_of t
 
 -- the most swaps that it will still ask for
-unfoldable pub swaps_of : Running → ℕ
+unfoldable pub swaps_of : AnyTask → ℕ
 swaps_of (Seeking t) = 0
 swaps_of (Finding t) = 0
 swaps_of (Reading t) = 0
@@ -115,7 +115,7 @@ swaps_of (SplittingInnerRoot t a) = swaps_crown t
 swaps_of (Merging t) = merge.swaps_of t
 
 -- how many of them it was told to have taken effect, while it goes on
-unfoldable pub made_of : Running → ℕ
+unfoldable pub made_of : AnyTask → ℕ
 made_of (Seeking t) = 0
 made_of (Finding t) = 0
 made_of (Reading t) = 0
@@ -131,7 +131,7 @@ made_of (SplittingInnerRoot t a) = made_crown t
 made_of (Merging t) = merge.made_of t
 
 -- how many swaps its change takes, if it makes one
-unfoldable pub change_swaps : Running → ℕ
+unfoldable pub change_swaps : AnyTask → ℕ
 change_swaps (Seeking t) = 0
 change_swaps (Finding t) = 0
 change_swaps (Reading t) = 0
@@ -146,7 +146,7 @@ change_swaps (SplittingInner t a) = 0
 change_swaps (SplittingInnerRoot t a) = 0
 change_swaps (Merging t) = 0
 
-unfoldable pub needs_of : Running → ℕ
+unfoldable pub needs_of : AnyTask → ℕ
 needs_of (Seeking t) = 0
 needs_of (Finding t) = 0
 needs_of (Reading t) = 0
@@ -162,7 +162,7 @@ needs_of (SplittingInnerRoot t a) = needs_crown t
 needs_of (Merging t) = merge.needs_of t
 
 -- how many slots it takes from its begin to its end, if it takes any
-unfoldable pub wants_of : Running → ℕ
+unfoldable pub wants_of : AnyTask → ℕ
 wants_of (Seeking t) = 0
 wants_of (Finding t) = 0
 wants_of (Reading t) = 0
@@ -177,7 +177,7 @@ wants_of (SplittingInner t a) = SPLIT_SLOTS
 wants_of (SplittingInnerRoot t a) = SPLIT_SLOTS
 wants_of (Merging t) = MERGE_SLOTS
 
-unfoldable pub change_of : Running → Change
+unfoldable pub change_of : AnyTask → Change
 change_of (Seeking t) = descend_change
 change_of (Finding t) = find.change_of t
 change_of (Reading t) = leaf_change
@@ -193,7 +193,7 @@ change_of (SplittingInnerRoot t a) = split_change
 change_of (Merging t) = merge_change
 
 -- what it was made of
-unfoldable pub basis_of : Running → Basis
+unfoldable pub basis_of : AnyTask → Basis
 basis_of (Seeking t) = no_basis
 basis_of (Finding t) = no_basis
 basis_of (Reading t) = no_basis
@@ -208,7 +208,7 @@ basis_of (SplittingInner t a) = basis_fork t
 basis_of (SplittingInnerRoot t a) = basis_crown t
 basis_of (Merging t) = no_basis
 
-unfoldable pub publishing_of : Running → Bool
+unfoldable pub publishing_of : AnyTask → Bool
 publishing_of (Seeking t) = false
 publishing_of (Finding t) = false
 publishing_of (Reading t) = false
@@ -233,7 +233,7 @@ means_fork t = fork_means t.upper t.middle
 abbrev pub means_crown : SplitInnerRoot → Outcome → Scene → Type 0
 means_crown t = crown_means t.upper
 
-unfoldable pub facts_of : Running → Stage → Scene → Type 0
+unfoldable pub facts_of : AnyTask → Stage → Scene → Type 0
 facts_of (Seeking t) = seek.facts_of t
 facts_of (Finding t) = find.facts_of t
 facts_of (Reading t) = leaf.facts_of t
@@ -248,7 +248,7 @@ facts_of (SplittingInner t a) = on_ascent a (means_fork t) (facts_fork t)
 facts_of (SplittingInnerRoot t a) = on_ascent a (means_crown t) (facts_crown t)
 facts_of (Merging t) = merge.facts_of t
 
-unfoldable pub means_of : Running → Outcome → Scene → Type 0
+unfoldable pub means_of : AnyTask → Outcome → Scene → Type 0
 means_of (Seeking t) = seek.means_of t
 means_of (Finding t) = find.means_of t
 means_of (Reading t) = leaf.means_of t
@@ -263,7 +263,7 @@ means_of (SplittingInner t a) = means_fork t
 means_of (SplittingInnerRoot t a) = means_crown t
 means_of (Merging t) = merge_means t.upper t.lower t.leaf.0
 
-unfoldable pub differs_of : Running → Seen → Type 0
+unfoldable pub differs_of : AnyTask → Seen → Type 0
 differs_of (Seeking t) = seek.differs_of t
 differs_of (Finding t) = find.differs_of t
 differs_of (Reading t) = leaf.differs_of t
@@ -279,7 +279,7 @@ differs_of (SplittingInnerRoot t a) = differs_crown t
 differs_of (Merging t) = merge.differs_of t
 
 -- how far up the way from the leaf it splits, if it does
-unfoldable pub ascent_of : Running → Option Ascent
+unfoldable pub ascent_of : AnyTask → Option Ascent
 ascent_of (Seeking t) = None
 ascent_of (Finding t) = None
 ascent_of (Reading t) = None
@@ -295,7 +295,7 @@ ascent_of (SplittingInnerRoot t a) = Some a
 ascent_of (Merging t) = None
 
 -- it makes no change of a key, and never publishes
-unfoldable pub makes_no_change : Running → Bool
+unfoldable pub makes_no_change : AnyTask → Bool
 makes_no_change (Seeking t) = true
 makes_no_change (Finding t) = true
 makes_no_change (Reading t) = true
@@ -310,7 +310,7 @@ makes_no_change (SplittingInner t a) = true
 makes_no_change (SplittingInnerRoot t a) = true
 makes_no_change (Merging t) = true
 
-pub no-change-is-published : (t : Running) → makes_no_change t ≡ true → publishing_of t ≡ false
+pub no-change-is-published : (t : AnyTask) → makes_no_change t ≡ true → publishing_of t ≡ false
 unfolding makes_no_change publishing_of
 no-change-is-published (Seeking t) e = refl
 no-change-is-published (Finding t) e = refl

@@ -12,15 +12,15 @@ use Rattle.bz_task.specs.declared.view.LeafView.{LeafView}
 use Rattle.bz_running.specs.Duties.{config_of, asks_of, end_of, swaps_of, made_of, wants_of, facts_of, makes_no_change}
 use Rattle.bz_running.specs.Hearing.{IsLookup}
 use Rattle.bz_running.specs.MadeFor.{WasCrowded, IsMadeFor}
-use Rattle.bz_running.specs.declared.running.Running.{Running}
+use Rattle.bz_running.specs.declared.running.AnyTask.{AnyTask}
 
 -- the task knows what it should, in some scene
-pub record IsInScene (t : Running) : Type 0 where
+pub record IsInScene (t : AnyTask) : Type 0 where
   pub scene : Scene
   pub facts : facts_of t Waiting scene
 
 -- a split of the node to which an ascent has come, which is yet to begin
-pub record IsSplitAt (c : Config) (a : Ascent) (t : Running) : Type 0 where
+pub record IsSplitAt (c : Config) (a : Ascent) (t : AnyTask) : Type 0 where
   pub config : config_of t ≡ c
   pub asks : asks_of t ≡ None
   pub swaps : swaps_of t ≡ RENEWAL_SWAPS
@@ -33,7 +33,7 @@ pub record IsSplitAt (c : Config) (a : Ascent) (t : Running) : Type 0 where
   pub made_for : (view : LeafView) (words : ℕ) (p : Past) → WasCrowded a.key view p → IsMadeFor t a.key words p
 
 -- a split that lacked room, and the one that is to be made first
-pub record GoesUp (t next : Running) : Type 0 where
+pub record GoesUp (t next : AnyTask) : Type 0 where
   pub config : config_of next ≡ config_of t
   pub asks : asks_of next ≡ None
   pub swaps : swaps_of next ≡ RENEWAL_SWAPS

@@ -18,11 +18,11 @@ use Rattle.bz_task.specs.declared.view.KeyView.{KeyView}
 use Rattle.bz_task.specs.declared.view.LeafView.{LeafView}
 use Rattle.bz_running.specs.Duties.{config_of, asks_of, end_of, left_of, swaps_of, made_of, change_swaps, needs_of, wants_of, change_of, publishing_of, ascent_of, facts_of, means_of, differs_of, makes_no_change}
 use Rattle.bz_running.specs.MadeFor.{IsMadeFor}
-use Rattle.bz_running.specs.declared.running.Running.{Running}
+use Rattle.bz_running.specs.declared.running.AnyTask.{AnyTask}
 
 -- a path or a view with which the task ends is one of this key; and with a view, of the leaf or of the key alone, this path, if there
 -- is one, still is one. A split on the way up goes along a path of this key
-pub record IsLookup (key : List ℕ) (way : Option Path) (t : Running) : Type 0 where
+pub record IsLookup (key : List ℕ) (way : Option Path) (t : AnyTask) : Type 0 where
   pub path : (path : Path) (s : Scene) → means_of t (outcome.Path path) s → IsPath key path s.past
   pub view : (view : LeafView) (s : Scene) → means_of t (outcome.View view) s → IsView key view s.past
   pub found : (view : KeyView) (s : Scene) → means_of t (outcome.Key view) s → IsKeyView key view s.past
@@ -31,7 +31,7 @@ pub record IsLookup (key : List ℕ) (way : Option Path) (t : Running) : Type 0 
   pub ascent : (a : Ascent) → ascent_of t ≡ Some a → a.key ≡ key
 
 -- the task was told this at a moment, and asks for that
-pub record HasHeard (old : Running) (seen : Seen) (moment : ℕ) (free : FreeSlots) (todo : Todo) (new : Running) (left : FreeSlots) : Type 0 where
+pub record HasHeard (old : AnyTask) (seen : Seen) (moment : ℕ) (free : FreeSlots) (todo : Todo) (new : AnyTask) (left : FreeSlots) : Type 0 where
   pub asked : asks_of new ≡ Some todo
   pub nearer : left_of new < left_of old
   pub fewer : swaps_of new + swaps_in (asks_of old) ≤ swaps_of old

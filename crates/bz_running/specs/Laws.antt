@@ -17,14 +17,14 @@ use Rattle.bz_task.specs.declared.todo.Todo.{Todo}
 use Rattle.bz_task.specs.declared.todo.Todo.TheVariants.{Store, Flush, Swap}
 use Rattle.bz_running.specs.Duties.{config_of, asks_of, end_of, made_of, change_swaps, needs_of, wants_of, ascent_of, change_of, publishing_of, facts_of, means_of, differs_of}
 use Rattle.bz_running.specs.MadeFor.{IsMadeFor}
-use Rattle.bz_running.specs.declared.running.Running.{Running}
+use Rattle.bz_running.specs.declared.running.AnyTask.{AnyTask}
 
 -- on the way up each level that inner nodes may have was full
 abbrev pub HaveFilledUp : Option Ascent → Past → Type 0
 HaveFilledUp None p = ⊥
 HaveFilledUp (Some a) p = AreAllFull a.key p
 
-pub record AreLaws (t : Running) : Type 0 where
+pub record AreLaws (t : AnyTask) : Type 0 where
   -- what it knows stays
   pub stable : (stage : Stage) (s after : Scene) → s.past.config ≡ config_of t → facts_of t stage s → IsScene after → IsLawful s after → facts_of t stage after
   -- so does what it was made for

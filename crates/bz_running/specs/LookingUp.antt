@@ -13,8 +13,8 @@ use Rattle.bz_task.specs.declared.todo.Todo.{Todo}
 use Rattle.bz_task.specs.declared.todo.Todo.TheVariants.{Read, Finish}
 use Rattle.bz_task.specs.declared.view.KeyView.{KeyView}
 use Rattle.bz_running.specs.Duties.{asks_of, end_of, change_of, facts_of}
-use Rattle.bz_running.specs.declared.running.Running.{Running}
-use Rattle.bz_running.specs.declared.running.Running.TheVariants.{Seeking, Finding, Reading, Inserting, Updating, Deleting, Freezing, Consolidating, Splitting, SplittingBelow, SplittingInner, SplittingInnerRoot, Merging}
+use Rattle.bz_running.specs.declared.running.AnyTask.{AnyTask}
+use Rattle.bz_running.specs.declared.running.AnyTask.TheVariants.{Seeking, Finding, Reading, Inserting, Updating, Deleting, Freezing, Consolidating, Splitting, SplittingBelow, SplittingInner, SplittingInnerRoot, Merging}
 
 -- what a task looks for without reading a leaf whole: the way to the leaf of a key, or the key in its leaf; other tasks look for neither
 pub data Look : Type 0 where
@@ -22,7 +22,7 @@ pub data Look : Type 0 where
   ForKey : Look
   NoLook : Look
 
-unfoldable pub look_of : Running → Look
+unfoldable pub look_of : AnyTask → Look
 look_of (Seeking t) = ForWay
 look_of (Finding t) = ForKey
 look_of (Reading t) = NoLook
@@ -38,7 +38,7 @@ look_of (SplittingInnerRoot t a) = NoLook
 look_of (Merging t) = NoLook
 
 -- how many reads it has asked for; of no other task is this told
-unfoldable pub reads_asked : Running → ℕ
+unfoldable pub reads_asked : AnyTask → ℕ
 reads_asked (Seeking t) = seek.asked_of t
 reads_asked (Finding t) = find.asked_of t
 reads_asked (Reading t) = 0
@@ -58,7 +58,7 @@ abbrev pub reads_in : Todo → ℕ
 reads_in todo = find.asked_by todo
 
 -- once it was told something it looks for what it looked for, and each read that a look-up asks for is counted
-pub record HasCounted (old : Running) (todo : Todo) (new : Running) : Type 0 where
+pub record HasCounted (old : AnyTask) (todo : Todo) (new : AnyTask) : Type 0 where
   pub look : look_of new ≡ look_of old
   pub reads : look_of old ≢ NoLook → reads_asked old + reads_in todo ≤ reads_asked new
 
@@ -79,7 +79,7 @@ EndsAs ForKey other = ⊥
 EndsAs NoLook other = Unit {0}
 
 -- the laws of look-ups: where one has ended, its reads are at most those of the inner nodes on its path, or of its leaf as that was when the key was viewed
-pub record LooksUpBriefly (t : Running) : Type 0 where
+pub record LooksUpBriefly (t : AnyTask) : Type 0 where
   pub asks : (todo : Todo) → look_of t ≢ NoLook → asks_of t ≡ Some todo → IsReadOrEnd todo
   pub ends : (o : Outcome) → end_of t ≡ Some o → EndsAs (look_of t) o
   pub path : (path : Path) (s : Scene) → facts_of t Waiting s → end_of t ≡ Some (outcome.Path path) → reads_asked t ≤ path_reads path

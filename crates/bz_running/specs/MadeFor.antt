@@ -14,8 +14,8 @@ use Rattle.bz_task.specs.Instant.{page_at}
 use Rattle.bz_task.specs.Outcomes.{IsView}
 use Rattle.bz_task.specs.Scene.{Past}
 use Rattle.bz_task.specs.declared.view.LeafView.{LeafView}
-use Rattle.bz_running.specs.declared.running.Running.{Running}
-use Rattle.bz_running.specs.declared.running.Running.TheVariants.{Seeking, Finding, Reading, Inserting, Updating, Deleting, Freezing, Consolidating, Splitting, SplittingBelow, SplittingInner, SplittingInnerRoot, Merging}
+use Rattle.bz_running.specs.declared.running.AnyTask.{AnyTask}
+use Rattle.bz_running.specs.declared.running.AnyTask.TheVariants.{Seeking, Finding, Reading, Inserting, Updating, Deleting, Freezing, Consolidating, Splitting, SplittingBelow, SplittingInner, SplittingInnerRoot, Merging}
 
 -- at a moment since the look-up began the key's leaf was the one in this slot
 pub record WasLeafOf (key : List ℕ) (slot : ℕ) (p : Past) : Type 0 where
@@ -68,7 +68,7 @@ pub record HasComeTo (key : List ℕ) (slot : ℕ) (a : Ascent) (p : Past) : Typ
   pub leaf : WasCrowded key view p
 
 -- the task is the freeze of a leaf that lacked the words, or one of these, for this key and these words
-unfoldable pub IsMadeFor : Running → List ℕ → ℕ → Past → Type 0
+unfoldable pub IsMadeFor : AnyTask → List ℕ → ℕ → Past → Type 0
 IsMadeFor (Seeking t) = λ key words p. ⊥
 IsMadeFor (Finding t) = λ key words p. ⊥
 IsMadeFor (Reading t) = λ key words p. ⊥

@@ -5,7 +5,7 @@ ghost use Rattle.std.specs.Prelude.{◌≡◌, ◌<◌, ◌≤◌, IfSome, Some,
 ghost use Rattle.bz_running.specs.Duties.{config_of, ascent_of};
 ghost use Rattle.bz_running.specs.GoingUp.{IsInScene, IsSplitAt, GoesUp};
 
-use crate::running::Running;
+use crate::running::AnyTask;
 use bz_ascent::Ascent;
 use bz_crown::SplitInnerRoot;
 use bz_fork::SplitInner;
@@ -13,7 +13,7 @@ use bz_layout::Config;
 use bz_task::Task;
 
 // The split of the inner node to which an ascent has come, below a parent.
-fn split_inner(config: &Config, ascent: Ascent) -> Option<Running>
+fn split_inner(config: &Config, ascent: Ascent) -> Option<AnyTask>
     requires few { ascent.path.depth ≤ MAX_LEVELS }
     requires within { ascent.place < MAX_LEVELS }
     requires below { 0 < ascent.place }
@@ -25,11 +25,11 @@ fn split_inner(config: &Config, ascent: Ascent) -> Option<Running>
         return None;
     }
     let task = SplitInner::new(config, ascent.path, upper);
-    Some(Running::SplittingInner(task, ascent))
+    Some(AnyTask::SplittingInner(task, ascent))
 }
 
 // The split of the inner root.
-fn split_inner_root(config: &Config, ascent: Ascent) -> Option<Running>
+fn split_inner_root(config: &Config, ascent: Ascent) -> Option<AnyTask>
     requires few { ascent.path.depth ≤ MAX_LEVELS }
     requires root { ascent.place ≡ 0 }
     requires node { slice_get ascent.path.links ascent.place ≡ Some ascent.node }
@@ -39,11 +39,11 @@ fn split_inner_root(config: &Config, ascent: Ascent) -> Option<Running>
         return None;
     }
     let task = SplitInnerRoot::new(config, ascent.path);
-    Some(Running::SplittingInnerRoot(task, ascent))
+    Some(AnyTask::SplittingInnerRoot(task, ascent))
 }
 
 // The split of the node to which an ascent has come.
-fn split_at(config: &Config, ascent: Ascent) -> Option<Running>
+fn split_at(config: &Config, ascent: Ascent) -> Option<AnyTask>
     requires few { ascent.path.depth ≤ MAX_LEVELS }
     requires within { ascent.place < MAX_LEVELS }
     requires node { slice_get ascent.path.links ascent.place ≡ Some ascent.node }
@@ -56,23 +56,23 @@ fn split_at(config: &Config, ascent: Ascent) -> Option<Running>
     }
 }
 
-impl Running {
+impl AnyTask {
     // How far up the way from a leaf it splits, if it does.
     #[tactic(auto, unfolding(crate::specs::Duties::ascent_of))]
     fn ascent(&self) -> Option<Ascent>
         ensures { result ≡ ascent_of self.now }
     {
         match self {
-            Running::SplittingBelow(_, ascent) => Some(*ascent),
-            Running::SplittingInner(_, ascent) => Some(*ascent),
-            Running::SplittingInnerRoot(_, ascent) => Some(*ascent),
+            AnyTask::SplittingBelow(_, ascent) => Some(*ascent),
+            AnyTask::SplittingInner(_, ascent) => Some(*ascent),
+            AnyTask::SplittingInnerRoot(_, ascent) => Some(*ascent),
             _ => None,
         }
     }
 
     /// The split of the node above, where this one has ended because that lacked the room. None where this is no split below a parent,
     /// or the path is not one by which that node may be split.
-    pub fn above(&self, config: &Config) -> Option<Running>
+    pub fn above(&self, config: &Config) -> Option<AnyTask>
         requires config { config_of self.now ≡ config.now }
         requires known { IsInScene self.now }
         ensures { IfSome result (GoesUp self.now) }

@@ -7,4 +7,4 @@ mod running;
 pub use bz_ascent::is_due_below;
 pub use bz_consol::is_due as is_due_alone;
 pub use bz_merge::is_due as is_due_beside;
-pub use running::Running;
+pub use running::AnyTask;

@@ -39,7 +39,7 @@ use bz_task::{KeyView, LeafView, Link, Outcome, Path, Seen, Task, Todo, laws};
 
 /// A task on the tree.
 #[derive(Drop)]
-pub enum Running {
+pub enum AnyTask {
     Seeking(Seek),
     Finding(Find),
     Reading(ReadLeaf),
@@ -55,10 +55,10 @@ pub enum Running {
     Merging(Merge),
 }
 
-impl Running {
+impl AnyTask {
     /// The way to the leaf of a key, by halving. It asks for the root status first.
     #[tactic(auto, unfolding(crate::specs::Duties::config_of, crate::specs::Duties::asks_of, crate::specs::Duties::swaps_of, crate::specs::Duties::made_of, crate::specs::Duties::needs_of, crate::specs::Duties::wants_of, crate::specs::Duties::facts_of, crate::specs::Duties::means_of, crate::specs::Duties::ascent_of, crate::specs::Duties::makes_no_change, crate::specs::LookingUp::look_of, crate::specs::LookingUp::reads_asked))]
-    pub fn seek(config: &Config, key: Key) -> Running
+    pub fn seek(config: &Config, key: Key) -> AnyTask
         ensures config { config_of result ≡ config.now }
         ensures asks { asks_of result ≡ Some (Read ROOT_STATUS_AT) }
         ensures swaps { swaps_of result ≡ 0 }
@@ -71,12 +71,12 @@ impl Running {
         ensures facts { (s : Scene) → HasFilled s → facts_of result Waiting s }
         ensures ends { (way : Option Path) → IsLookup key way result }
     {
-        Running::Seeking(Seek::begun(config, key))
+        AnyTask::Seeking(Seek::begun(config, key))
     }
 
     /// A look-up of a key in the last leaf of a path.
     #[tactic(auto, unfolding(crate::specs::Duties::config_of, crate::specs::Duties::asks_of, crate::specs::Duties::swaps_of, crate::specs::Duties::made_of, crate::specs::Duties::needs_of, crate::specs::Duties::wants_of, crate::specs::Duties::facts_of, crate::specs::Duties::means_of, crate::specs::Duties::ascent_of, crate::specs::Duties::makes_no_change, crate::specs::Duties::change_of, crate::specs::LookingUp::look_of, crate::specs::LookingUp::reads_asked))]
-    pub fn find(config: &Config, path: Path, key: Key) -> Running
+    pub fn find(config: &Config, path: Path, key: Key) -> AnyTask
         requires some { 1 ≤ path.depth }
         requires few { path.depth ≤ MAX_LEVELS }
         ensures config { config_of result ≡ config.now }
@@ -93,12 +93,12 @@ impl Running {
         ensures facts { (s : Scene) → IsScene s → IsPath key path s.past → facts_of result Waiting s }
         ensures ends { IsLookup key (Some path) result }
     {
-        Running::Finding(Find::new(config, path, key))
+        AnyTask::Finding(Find::new(config, path, key))
     }
 
     /// A reading of the last leaf of a path.
     #[tactic(auto, unfolding(crate::specs::Duties::config_of, crate::specs::Duties::asks_of, crate::specs::Duties::swaps_of, crate::specs::Duties::made_of, crate::specs::Duties::needs_of, crate::specs::Duties::wants_of, crate::specs::Duties::facts_of, crate::specs::Duties::means_of, crate::specs::Duties::ascent_of, crate::specs::Duties::makes_no_change))]
-    pub fn read_leaf(config: &Config, path: Path, key: Key) -> Running
+    pub fn read_leaf(config: &Config, path: Path, key: Key) -> AnyTask
         requires some { 1 ≤ path.depth }
         requires few { path.depth ≤ MAX_LEVELS }
         ensures config { config_of result ≡ config.now }
@@ -111,12 +111,12 @@ impl Running {
         ensures facts { (s : Scene) → IsScene s → IsPath key path s.past → facts_of result Waiting s }
         ensures ends { IsLookup key (Some path) result }
     {
-        Running::Reading(ReadLeaf::new(config, path, key))
+        AnyTask::Reading(ReadLeaf::new(config, path, key))
     }
 
     /// The insert of a key that was not found in its leaf.
     #[tactic(auto, unfolding(crate::specs::Duties::config_of, crate::specs::Duties::asks_of, crate::specs::Duties::swaps_of, crate::specs::Duties::made_of, crate::specs::Duties::change_swaps, crate::specs::Duties::needs_of, crate::specs::Duties::wants_of, crate::specs::Duties::change_of, crate::specs::Duties::facts_of, crate::specs::Duties::means_of, crate::specs::Duties::ascent_of))]
-    pub fn insert(config: &Config, path: Path, view: KeyView, key: Key, payload: Payload) -> Running
+    pub fn insert(config: &Config, path: Path, view: KeyView, key: Key, payload: Payload) -> AnyTask
         requires absent { view.found ≡ None }
         ensures config { config_of result ≡ config.now }
         ensures asks { asks_of result ≡ None }
@@ -132,12 +132,12 @@ impl Running {
         // NeedsRoom comes exactly where the viewed leaf lacks room
         ensures needs_room { (s : Scene) → means_of result Outcome.NeedsRoom s → LacksRoom view.status (words_for key payload) }
     {
-        Running::Inserting(Insert::new(config, path, view, key, payload))
+        AnyTask::Inserting(Insert::new(config, path, view, key, payload))
     }
 
     /// The update of a key that was found in its leaf.
     #[tactic(auto, unfolding(crate::specs::Duties::config_of, crate::specs::Duties::asks_of, crate::specs::Duties::swaps_of, crate::specs::Duties::made_of, crate::specs::Duties::change_swaps, crate::specs::Duties::needs_of, crate::specs::Duties::wants_of, crate::specs::Duties::change_of, crate::specs::Duties::facts_of, crate::specs::Duties::means_of, crate::specs::Duties::ascent_of))]
-    pub fn update(config: &Config, path: Path, view: KeyView, key: Key, payload: Payload) -> Running
+    pub fn update(config: &Config, path: Path, view: KeyView, key: Key, payload: Payload) -> AnyTask
         requires present { view.found ≢ None }
         ensures config { config_of result ≡ config.now }
         ensures asks { asks_of result ≡ None }
@@ -153,12 +153,12 @@ impl Running {
         // NeedsRoom comes exactly where the viewed leaf lacks room
         ensures needs_room { (s : Scene) → means_of result Outcome.NeedsRoom s → LacksRoom view.status (words_for key payload) }
     {
-        Running::Updating(Update::new(config, path, view, key, payload))
+        AnyTask::Updating(Update::new(config, path, view, key, payload))
     }
 
     /// The delete of a key that was found in its leaf.
     #[tactic(auto, unfolding(crate::specs::Duties::config_of, crate::specs::Duties::asks_of, crate::specs::Duties::swaps_of, crate::specs::Duties::made_of, crate::specs::Duties::change_swaps, crate::specs::Duties::needs_of, crate::specs::Duties::wants_of, crate::specs::Duties::change_of, crate::specs::Duties::facts_of, crate::specs::Duties::means_of, crate::specs::Duties::ascent_of))]
-    pub fn delete(config: &Config, path: Path, view: KeyView, key: Key) -> Running
+    pub fn delete(config: &Config, path: Path, view: KeyView, key: Key) -> AnyTask
         requires present { view.found ≢ None }
         ensures config { config_of result ≡ config.now }
         ensures asks { asks_of result ≡ None }
@@ -174,12 +174,12 @@ impl Running {
         // NeedsRoom comes exactly where the viewed leaf is frozen
         ensures needs_room { (s : Scene) → means_of result Outcome.NeedsRoom s → (status view.status).frozen ≡ true }
     {
-        Running::Deleting(Delete::new(config, path, view, key))
+        AnyTask::Deleting(Delete::new(config, path, view, key))
     }
 
     /// The freeze of a leaf that was not frozen when it was viewed.
     #[tactic(auto, unfolding(crate::specs::Duties::config_of, crate::specs::Duties::asks_of, crate::specs::Duties::swaps_of, crate::specs::Duties::made_of, crate::specs::Duties::needs_of, crate::specs::Duties::wants_of, crate::specs::Duties::facts_of, crate::specs::Duties::means_of, crate::specs::Duties::ascent_of, crate::specs::Duties::makes_no_change))]
-    pub fn freeze(config: &Config, path: Path, view: LeafView) -> Running
+    pub fn freeze(config: &Config, path: Path, view: LeafView) -> AnyTask
         requires thawed { (status view.status).frozen ≡ false }
         ensures config { config_of result ≡ config.now }
         ensures asks { asks_of result ≡ None }
@@ -193,12 +193,12 @@ impl Running {
         // it is made for the key of the leaf, where that lacks room for a record of so many words, and for these and its metadata word
         ensures made_for { (key : List ℕ) (words : ℕ) (p : Past) → IsView key view p → LacksRoom view.status words → IsMadeFor result key (words + 1) p }
     {
-        Running::Freezing(Freeze::new(config, path, view))
+        AnyTask::Freezing(Freeze::new(config, path, view))
     }
 
     /// The consolidation of a frozen leaf, to which the path leads.
     #[tactic(auto, unfolding(crate::specs::Duties::config_of, crate::specs::Duties::asks_of, crate::specs::Duties::swaps_of, crate::specs::Duties::made_of, crate::specs::Duties::needs_of, crate::specs::Duties::wants_of, crate::specs::Duties::facts_of, crate::specs::Duties::means_of, crate::specs::Duties::ascent_of, crate::specs::Duties::makes_no_change))]
-    pub fn consolidate(config: &Config, path: Path, view: LeafView, page: &mut PageBuf) -> Running
+    pub fn consolidate(config: &Config, path: Path, view: LeafView, page: &mut PageBuf) -> AnyTask
         requires some { 1 ≤ path.depth }
         requires few { path.depth ≤ MAX_LEVELS }
         requires frozen { (status view.status).frozen ≡ true }
@@ -216,12 +216,12 @@ impl Running {
         // it is made for the key of the leaf, where that has no more live words than it may keep
         ensures made_for { (key : List ℕ) (words : ℕ) (p : Past) → IsView key view p → live_of (node_of view.image.0) ≤ SPLIT_ABOVE → IsMadeFor result key words p }
     {
-        Running::Consolidating(Consolidate::new(config, path, view, page))
+        AnyTask::Consolidating(Consolidate::new(config, path, view, page))
     }
 
     /// The split of a frozen root leaf with more live words than it may keep, to which the path leads.
     #[tactic(auto, unfolding(crate::specs::Duties::config_of, crate::specs::Duties::asks_of, crate::specs::Duties::swaps_of, crate::specs::Duties::made_of, crate::specs::Duties::needs_of, crate::specs::Duties::wants_of, crate::specs::Duties::facts_of, crate::specs::Duties::means_of, crate::specs::Duties::ascent_of, crate::specs::Duties::makes_no_change))]
-    pub fn split_root(config: &Config, path: Path, view: LeafView, page: &mut PageBuf) -> Running
+    pub fn split_root(config: &Config, path: Path, view: LeafView, page: &mut PageBuf) -> AnyTask
         requires root { path.depth ≡ 1 }
         requires alone { IsLeafByItself view.image.0 }
         requires many { SPLIT_ABOVE < live_of (node_of view.image.0) }
@@ -238,7 +238,7 @@ impl Running {
         ensures ends { (key : List ℕ) (way : Option Path) → IsLookup key way result }
         ensures made_for { (key : List ℕ) (words : ℕ) (p : Past) → IsView key view p → IsMadeFor result key words p }
     {
-        Running::Splitting(SplitRoot::new(config, path, view, page))
+        AnyTask::Splitting(SplitRoot::new(config, path, view, page))
     }
 
     /// The split of a frozen leaf below a parent, with more live words than it may keep, to which the path leads.
@@ -249,7 +249,7 @@ impl Running {
         view: LeafView,
         key: Key,
         page: &mut PageBuf,
-    ) -> Running
+    ) -> AnyTask
         requires deep { 2 ≤ path.depth }
         requires few { path.depth ≤ MAX_LEVELS }
         requires alone { IsLeafByItself view.image.0 }
@@ -272,12 +272,12 @@ impl Running {
     {
         bz_ascent::laws::ascents_begin();
         let task = SplitBelow::new(config, path, view, page);
-        Running::SplittingBelow(task, Ascent::from_leaf(key, path))
+        AnyTask::SplittingBelow(task, Ascent::from_leaf(key, path))
     }
 
     /// The merge of a leaf below a parent, frozen or not, to which the path leads, with a neighbour.
     #[tactic(auto, unfolding(crate::specs::Duties::config_of, crate::specs::Duties::asks_of, crate::specs::Duties::swaps_of, crate::specs::Duties::made_of, crate::specs::Duties::needs_of, crate::specs::Duties::wants_of, crate::specs::Duties::facts_of, crate::specs::Duties::means_of, crate::specs::Duties::ascent_of, crate::specs::Duties::makes_no_change))]
-    pub fn merge(config: &Config, path: Path, view: LeafView) -> Running
+    pub fn merge(config: &Config, path: Path, view: LeafView) -> AnyTask
         requires deep { 2 ≤ path.depth }
         requires few { path.depth ≤ MAX_LEVELS }
         requires leads { LeadsTo path view.slot }
@@ -292,7 +292,7 @@ impl Running {
         ensures facts { (key : List ℕ) (s : Scene) → s.past.config ≡ config.now → IsScene s → IsPath key path s.past → IsView key view s.past → facts_of result Waiting s }
         ensures ends { (key : List ℕ) (way : Option Path) → IsLookup key way result }
     {
-        Running::Merging(Merge::new(config, path, view))
+        AnyTask::Merging(Merge::new(config, path, view))
     }
 
     /// Tells the task what came of its last act, and answers what it asks for next: `next`, and that one which makes no change makes none later.
@@ -306,26 +306,26 @@ impl Running {
         ensures counts { HasCounted self.old result self.new }
     {
         match self {
-            Running::Seeking(task) => task.next(seen, slots, moment),
-            Running::Finding(task) => task.next(seen, slots, moment),
-            Running::Reading(task) => task.next(seen, slots, moment),
-            Running::Inserting(task) => task.next(seen, slots, moment),
-            Running::Updating(task) => task.next(seen, slots, moment),
-            Running::Deleting(task) => task.next(seen, slots, moment),
-            Running::Freezing(task) => task.next(seen, slots, moment),
-            Running::Consolidating(task) => task.next(seen, slots, moment),
-            Running::Splitting(task) => task.next(seen, slots, moment),
-            Running::SplittingBelow(task, _) => task.next(seen, slots, moment),
-            Running::SplittingInner(task, _) => task.next(seen, slots, moment),
-            Running::SplittingInnerRoot(task, _) => task.next(seen, slots, moment),
-            Running::Merging(task) => task.next(seen, slots, moment),
+            AnyTask::Seeking(task) => task.next(seen, slots, moment),
+            AnyTask::Finding(task) => task.next(seen, slots, moment),
+            AnyTask::Reading(task) => task.next(seen, slots, moment),
+            AnyTask::Inserting(task) => task.next(seen, slots, moment),
+            AnyTask::Updating(task) => task.next(seen, slots, moment),
+            AnyTask::Deleting(task) => task.next(seen, slots, moment),
+            AnyTask::Freezing(task) => task.next(seen, slots, moment),
+            AnyTask::Consolidating(task) => task.next(seen, slots, moment),
+            AnyTask::Splitting(task) => task.next(seen, slots, moment),
+            AnyTask::SplittingBelow(task, _) => task.next(seen, slots, moment),
+            AnyTask::SplittingInner(task, _) => task.next(seen, slots, moment),
+            AnyTask::SplittingInnerRoot(task, _) => task.next(seen, slots, moment),
+            AnyTask::Merging(task) => task.next(seen, slots, moment),
         }
     }
 
     /// Whether it is a delete that leaves so little in its leaf that this may be merged.
     pub fn leaves_few(&self) -> bool {
         match self {
-            Running::Deleting(task) => task.leaves_few(),
+            AnyTask::Deleting(task) => task.leaves_few(),
             _ => false,
         }
     }
@@ -335,10 +335,10 @@ impl Running {
         ensures { LooksUpBriefly self.now }
     {
         match self {
-            Running::Seeking(task) => {
+            AnyTask::Seeking(task) => {
                 let _asked = task.asked();
             }
-            Running::Finding(task) => {
+            AnyTask::Finding(task) => {
                 let _asked = task.asked();
             }
             _ => {}
@@ -358,7 +358,7 @@ impl Running {
     }
 }
 
-impl Task for Running {
+impl Task for AnyTask {
     ghost config = { config_of };
 
     ghost asks = { asks_of };
@@ -388,57 +388,57 @@ impl Task for Running {
     #[tactic(auto, unfolding(crate::specs::Duties::publishing_of))]
     fn publishes(&self) -> bool {
         match self {
-            Running::Seeking(task) => task.publishes(),
-            Running::Finding(task) => task.publishes(),
-            Running::Reading(task) => task.publishes(),
-            Running::Inserting(task) => task.publishes(),
-            Running::Updating(task) => task.publishes(),
-            Running::Deleting(task) => task.publishes(),
-            Running::Freezing(task) => task.publishes(),
-            Running::Consolidating(task) => task.publishes(),
-            Running::Splitting(task) => task.publishes(),
-            Running::SplittingBelow(task, _) => task.publishes(),
-            Running::SplittingInner(task, _) => task.publishes(),
-            Running::SplittingInnerRoot(task, _) => task.publishes(),
-            Running::Merging(task) => task.publishes(),
+            AnyTask::Seeking(task) => task.publishes(),
+            AnyTask::Finding(task) => task.publishes(),
+            AnyTask::Reading(task) => task.publishes(),
+            AnyTask::Inserting(task) => task.publishes(),
+            AnyTask::Updating(task) => task.publishes(),
+            AnyTask::Deleting(task) => task.publishes(),
+            AnyTask::Freezing(task) => task.publishes(),
+            AnyTask::Consolidating(task) => task.publishes(),
+            AnyTask::Splitting(task) => task.publishes(),
+            AnyTask::SplittingBelow(task, _) => task.publishes(),
+            AnyTask::SplittingInner(task, _) => task.publishes(),
+            AnyTask::SplittingInnerRoot(task, _) => task.publishes(),
+            AnyTask::Merging(task) => task.publishes(),
         }
     }
 
     #[tactic(auto, unfolding(crate::specs::Duties::asks_of, crate::specs::Duties::end_of))]
     fn ended(&self) -> Option<Outcome> {
         match self {
-            Running::Seeking(task) => task.ended(),
-            Running::Finding(task) => task.ended(),
-            Running::Reading(task) => task.ended(),
-            Running::Inserting(task) => task.ended(),
-            Running::Updating(task) => task.ended(),
-            Running::Deleting(task) => task.ended(),
-            Running::Freezing(task) => task.ended(),
-            Running::Consolidating(task) => task.ended(),
-            Running::Splitting(task) => task.ended(),
-            Running::SplittingBelow(task, _) => task.ended(),
-            Running::SplittingInner(task, _) => task.ended(),
-            Running::SplittingInnerRoot(task, _) => task.ended(),
-            Running::Merging(task) => task.ended(),
+            AnyTask::Seeking(task) => task.ended(),
+            AnyTask::Finding(task) => task.ended(),
+            AnyTask::Reading(task) => task.ended(),
+            AnyTask::Inserting(task) => task.ended(),
+            AnyTask::Updating(task) => task.ended(),
+            AnyTask::Deleting(task) => task.ended(),
+            AnyTask::Freezing(task) => task.ended(),
+            AnyTask::Consolidating(task) => task.ended(),
+            AnyTask::Splitting(task) => task.ended(),
+            AnyTask::SplittingBelow(task, _) => task.ended(),
+            AnyTask::SplittingInner(task, _) => task.ended(),
+            AnyTask::SplittingInnerRoot(task, _) => task.ended(),
+            AnyTask::Merging(task) => task.ended(),
         }
     }
 
     #[tactic(auto, unfolding(crate::specs::Duties::config_of, crate::specs::Duties::asks_of, crate::specs::Duties::end_of, crate::specs::Duties::left_of, crate::specs::Duties::swaps_of, crate::specs::Duties::made_of, crate::specs::Duties::needs_of, crate::specs::Duties::wants_of, crate::specs::Duties::change_of, crate::specs::Duties::basis_of, crate::specs::Duties::publishing_of, crate::specs::Duties::facts_of, crate::specs::Duties::means_of, crate::specs::Duties::differs_of))]
     fn next(&mut self, seen: Seen, slots: &mut Slots, moment: u32) -> Todo {
         match self {
-            Running::Seeking(task) => task.next(seen, slots, moment),
-            Running::Finding(task) => task.next(seen, slots, moment),
-            Running::Reading(task) => task.next(seen, slots, moment),
-            Running::Inserting(task) => task.next(seen, slots, moment),
-            Running::Updating(task) => task.next(seen, slots, moment),
-            Running::Deleting(task) => task.next(seen, slots, moment),
-            Running::Freezing(task) => task.next(seen, slots, moment),
-            Running::Consolidating(task) => task.next(seen, slots, moment),
-            Running::Splitting(task) => task.next(seen, slots, moment),
-            Running::SplittingBelow(task, _) => task.next(seen, slots, moment),
-            Running::SplittingInner(task, _) => task.next(seen, slots, moment),
-            Running::SplittingInnerRoot(task, _) => task.next(seen, slots, moment),
-            Running::Merging(task) => task.next(seen, slots, moment),
+            AnyTask::Seeking(task) => task.next(seen, slots, moment),
+            AnyTask::Finding(task) => task.next(seen, slots, moment),
+            AnyTask::Reading(task) => task.next(seen, slots, moment),
+            AnyTask::Inserting(task) => task.next(seen, slots, moment),
+            AnyTask::Updating(task) => task.next(seen, slots, moment),
+            AnyTask::Deleting(task) => task.next(seen, slots, moment),
+            AnyTask::Freezing(task) => task.next(seen, slots, moment),
+            AnyTask::Consolidating(task) => task.next(seen, slots, moment),
+            AnyTask::Splitting(task) => task.next(seen, slots, moment),
+            AnyTask::SplittingBelow(task, _) => task.next(seen, slots, moment),
+            AnyTask::SplittingInner(task, _) => task.next(seen, slots, moment),
+            AnyTask::SplittingInnerRoot(task, _) => task.next(seen, slots, moment),
+            AnyTask::Merging(task) => task.next(seen, slots, moment),
         }
     }
 
@@ -446,19 +446,19 @@ impl Task for Running {
     fn learnt(&self) {
         bz_ascent::laws::ascents_stay();
         match self {
-            Running::Seeking(task) => task.learnt(),
-            Running::Finding(task) => task.learnt(),
-            Running::Reading(task) => task.learnt(),
-            Running::Inserting(task) => task.learnt(),
-            Running::Updating(task) => task.learnt(),
-            Running::Deleting(task) => task.learnt(),
-            Running::Freezing(task) => task.learnt(),
-            Running::Consolidating(task) => task.learnt(),
-            Running::Splitting(task) => task.learnt(),
-            Running::SplittingBelow(task, _) => task.learnt(),
-            Running::SplittingInner(task, _) => task.learnt(),
-            Running::SplittingInnerRoot(task, _) => task.learnt(),
-            Running::Merging(task) => task.learnt(),
+            AnyTask::Seeking(task) => task.learnt(),
+            AnyTask::Finding(task) => task.learnt(),
+            AnyTask::Reading(task) => task.learnt(),
+            AnyTask::Inserting(task) => task.learnt(),
+            AnyTask::Updating(task) => task.learnt(),
+            AnyTask::Deleting(task) => task.learnt(),
+            AnyTask::Freezing(task) => task.learnt(),
+            AnyTask::Consolidating(task) => task.learnt(),
+            AnyTask::Splitting(task) => task.learnt(),
+            AnyTask::SplittingBelow(task, _) => task.learnt(),
+            AnyTask::SplittingInner(task, _) => task.learnt(),
+            AnyTask::SplittingInnerRoot(task, _) => task.learnt(),
+            AnyTask::Merging(task) => task.learnt(),
         }
     }
 
@@ -466,19 +466,19 @@ impl Task for Running {
     fn acted(&self) {
         bz_ascent::laws::ascents_stay();
         match self {
-            Running::Seeking(task) => task.acted(),
-            Running::Finding(task) => task.acted(),
-            Running::Reading(task) => task.acted(),
-            Running::Inserting(task) => task.acted(),
-            Running::Updating(task) => task.acted(),
-            Running::Deleting(task) => task.acted(),
-            Running::Freezing(task) => task.acted(),
-            Running::Consolidating(task) => task.acted(),
-            Running::Splitting(task) => task.acted(),
-            Running::SplittingBelow(task, _) => task.acted(),
-            Running::SplittingInner(task, _) => task.acted(),
-            Running::SplittingInnerRoot(task, _) => task.acted(),
-            Running::Merging(task) => task.acted(),
+            AnyTask::Seeking(task) => task.acted(),
+            AnyTask::Finding(task) => task.acted(),
+            AnyTask::Reading(task) => task.acted(),
+            AnyTask::Inserting(task) => task.acted(),
+            AnyTask::Updating(task) => task.acted(),
+            AnyTask::Deleting(task) => task.acted(),
+            AnyTask::Freezing(task) => task.acted(),
+            AnyTask::Consolidating(task) => task.acted(),
+            AnyTask::Splitting(task) => task.acted(),
+            AnyTask::SplittingBelow(task, _) => task.acted(),
+            AnyTask::SplittingInner(task, _) => task.acted(),
+            AnyTask::SplittingInnerRoot(task, _) => task.acted(),
+            AnyTask::Merging(task) => task.acted(),
         }
     }
 }

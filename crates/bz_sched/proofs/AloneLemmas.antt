@@ -1,6 +1,6 @@
 -- One worker after the other.
 use Rattle.std.proofs.Common.{◌≡◌, ◌≤◌, ◌<◌, ℕ, suc, ◌+◌, ◌-◌, refl, sym, subst, arith, inl, inr}
-use Rattle.bz_world.specs.Lab.{Lab}
+use Rattle.bz_world.specs.WorldView.{WorldView}
 use Rattle.bz_sched.specs.declared.turn.Stop.{Stop}
 use Rattle.bz_sched.specs.Points.{Point}
 use Rattle.bz_sched.specs.Fuses.{Fused}
@@ -10,15 +10,15 @@ use Rattle.bz_sched.specs.TurnsInPart.{EndsOneInPart, EndsFromInPart, EndsAloneI
 use Rattle.bz_sched.proofs.ReadyLemmas.{keeps_none, keeps_both}
 
 -- the workers before this one have ended: what follows that follows from the start
-pub record Ending (w : ℕ) (old : Lab) (queued : Fused) (world : Lab) (left : Fused) : Type 0 where
+pub record Ending (w : ℕ) (old : WorldView) (queued : Fused) (world : WorldView) (left : Fused) : Type 0 where
   pub keeps : Keeps old queued world left
   pub whole : (new : Point) → EndsFrom w (65 - w) (point_in world left) new → EndsAlone (point_in old queued) new
   pub part : (why : Stop) (new : Point) → EndsFromInPart why w (65 - w) (point_in world left) new → EndsAloneInPart why (point_in old queued) new
 
-pub ending_none : (old : Lab) (queued : Fused) → IsReady old → Ending 1 old queued old queued
+pub ending_none : (old : WorldView) (queued : Fused) → IsReady old → Ending 1 old queued old queued
 ending_none old queued ready = record { keeps = keeps_none old queued ready; whole = λ new ends. ends; part = λ why new ends. ends }
 
-pub ending_more : (w : ℕ) (old : Lab) (queued : Fused) (world : Lab) (left : Fused) (new : Lab) (after : Fused) → w < 65 → Ending w old queued world left
+pub ending_more : (w : ℕ) (old : WorldView) (queued : Fused) (world : WorldView) (left : Fused) (new : WorldView) (after : Fused) → w < 65 → Ending w old queued world left
     → Keeps world left new after × EndsOne w (point_in world left) (point_in new after) → Ending (w + 1) old queued new after
 ending_more w old queued world left new after few e (keeps, one) =
     let more : 65 - w ≡ suc (65 - (w + 1)) = omega arith in
@@ -28,7 +28,7 @@ ending_more w old queued world left new after few e (keeps, one) =
       part = λ why end ends. e.part why end (subst (λ (count : ℕ). EndsFromInPart why w count (point_in world left) end) (sym more) (inr (point_in new after, one, ends)));
     }
 
-pub ending_stops : (w : ℕ) (old : Lab) (queued : Fused) (world : Lab) (left : Fused) (why : Stop) (new : Lab) (after : Fused) → w < 65 → Ending w old queued world left
+pub ending_stops : (w : ℕ) (old : WorldView) (queued : Fused) (world : WorldView) (left : Fused) (why : Stop) (new : WorldView) (after : Fused) → w < 65 → Ending w old queued world left
     → Keeps world left new after × EndsOneInPart why w (point_in world left) (point_in new after) × IsStopped new after.fuse why
     → Keeps old queued new after × EndsAloneInPart why (point_in old queued) (point_in new after) × IsStopped new after.fuse why
 ending_stops w old queued world left why new after few e (keeps, one, met) =
@@ -38,7 +38,7 @@ ending_stops w old queued world left why new after few e (keeps, one, met) =
       met,
     )
 
-pub ending_done : (w : ℕ) (old : Lab) (queued : Fused) (world : Lab) (left : Fused) → 65 ≤ w → Ending w old queued world left
+pub ending_done : (w : ℕ) (old : WorldView) (queued : Fused) (world : WorldView) (left : Fused) → 65 ≤ w → Ending w old queued world left
     → Keeps old queued world left × EndsAlone (point_in old queued) (point_in world left)
 ending_done w old queued world left all e =
     let none : 65 - w ≡ 0 = omega arith in

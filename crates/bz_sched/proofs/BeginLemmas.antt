@@ -8,11 +8,11 @@ use Rattle.bz_mark.specs.Log.{count_begins, count_page_calls}
 use Rattle.bz_mark.specs.declared.marks.Mark.{Mark}
 use Rattle.bz_mark.specs.declared.marks.Mark.TheVariants as mark
 use Rattle.bz_sound.specs.Calls.{Open, open_call, begun_calls}
-use Rattle.bz_world.specs.Lab.{Lab, IsWorker, is_short, lacks_page, begin_answer, after_begin}
+use Rattle.bz_world.specs.WorldView.{WorldView, IsWorker, is_short, lacks_page, begin_answer, after_begin}
 use Rattle.bz_world.specs.declared.answers.Begun.{Begun as BeginAnswer}
 use Rattle.bz_world.specs.declared.answers.Begun.TheVariants.{Begun, NoWorker, Busy, Off, Recovering, Limit}
-use Rattle.bz_world.specs.declared.answers.Which.{Which}
-use Rattle.bz_world.specs.declared.answers.Which.TheVariants as which
+use Rattle.bz_world.specs.declared.answers.LimitKind.{LimitKind}
+use Rattle.bz_world.specs.declared.answers.LimitKind.TheVariants as which
 use Rattle.bz_sched.specs.Fuses.{Fused}
 use Rattle.bz_sched.specs.Points.{ready, GetsReady}
 use Rattle.bz_sched.specs.Queued.{calls_of, without_first}
@@ -33,12 +33,12 @@ by_begin stranger short busy full paged n =
     else Begun n))))
 
 -- which test gave a limit
-abbrev Gave : Bool → Bool → Bool → Which → Type 0
+abbrev Gave : Bool → Bool → Bool → LimitKind → Type 0
 Gave short full paged which.Marks = short ≡ true
 Gave short full paged which.Calls = full ≡ true
 Gave short full paged which.Pages = paged ≡ true
 
-which_gave : (short full paged : Bool) (n : ℕ) (why : Which) → Limit why ≡ by_begin false short false full paged n → Gave short full paged why
+which_gave : (short full paged : Bool) (n : ℕ) (why : LimitKind) → Limit why ≡ by_begin false short false full paged n → Gave short full paged why
 which_gave true full paged n why is = let same : why ≡ which.Marks = cc in rw same refl
 which_gave false true paged n why is = let same : why ≡ which.Calls = cc in rw same refl
 which_gave false false true n why is = let same : why ≡ which.Pages = cc in rw same refl
@@ -78,40 +78,40 @@ both_true : (a b : Bool) → (a && b) ≡ true → (a ≡ true) × (b ≡ true)
 both_true true b h = (refl, h)
 both_true false b h = absurd (cc h)
 
-answer_is : (lab : Lab) (w : ℕ) (call : Call) → IsReady lab → IsWorker lab.config w → is_some (open_call w lab.log.past) ≡ false
+answer_is : (lab : WorldView) (w : ℕ) (call : Call) → IsReady lab → IsWorker lab.config w → is_some (open_call w lab.log.past) ≡ false
     → begin_answer lab w call ≡ by_begin false (is_short lab.log) false (nat_le lab.log.limits.calls (count_begins lab.log.past)) (lacks_page lab.log call) (begun_calls w lab.log.past + 1)
 answer_is lab w call ready worker free =
     let in_range : ((w == 0) || nat_lt lab.config.workers w) ≡ false = grind (arith, nat_tests, worker.some, worker.in_range) in
     rw (in_range, ready.powered, free) refl
 
 -- a worker's call that waits among these, none of its calls open
-pub record Waits (lab : Lab) (calls : List (ℕ × Call)) (w : ℕ) (call : Call) : Type 0 where
+pub record Waits (lab : WorldView) (calls : List (ℕ × Call)) (w : ℕ) (call : Call) : Type 0 where
   pub ready : IsReady lab
   pub worker : IsWorker lab.config w
   pub closed : is_some (open_call w lab.log.past) ≡ false
   pub first : (rest : List (ℕ × Call)) × (calls_of w calls ≡ (w, call) ∷ rest)
 
-answered : (lab : Lab) (calls : List (ℕ × Call)) (w : ℕ) (call : Call) → Waits lab calls w call
+answered : (lab : WorldView) (calls : List (ℕ × Call)) (w : ℕ) (call : Call) → Waits lab calls w call
     → begin_answer lab w call ≡ by_begin false (is_short lab.log) false (nat_le lab.log.limits.calls (count_begins lab.log.past)) (lacks_page lab.log call) (begun_calls w lab.log.past + 1)
 answered lab calls w call h = answer_is lab w call h.ready h.worker h.closed
 
-pub no_stranger : (lab : Lab) (calls : List (ℕ × Call)) (w : ℕ) (call : Call) → Waits lab calls w call → NoWorker ≡ begin_answer lab w call → ⊥
+pub no_stranger : (lab : WorldView) (calls : List (ℕ × Call)) (w : ℕ) (call : Call) → Waits lab calls w call → NoWorker ≡ begin_answer lab w call → ⊥
 no_stranger lab calls w call h is = never_stranger _ _ _ _ (is ∙ answered lab calls w call h)
 
-pub not_busy : (lab : Lab) (calls : List (ℕ × Call)) (w : ℕ) (call : Call) → Waits lab calls w call → Busy ≡ begin_answer lab w call → ⊥
+pub not_busy : (lab : WorldView) (calls : List (ℕ × Call)) (w : ℕ) (call : Call) → Waits lab calls w call → Busy ≡ begin_answer lab w call → ⊥
 not_busy lab calls w call h is = never_busy _ _ _ _ (is ∙ answered lab calls w call h)
 
-pub not_off : (lab : Lab) (calls : List (ℕ × Call)) (w : ℕ) (call : Call) → Waits lab calls w call → Off ≡ begin_answer lab w call → ⊥
+pub not_off : (lab : WorldView) (calls : List (ℕ × Call)) (w : ℕ) (call : Call) → Waits lab calls w call → Off ≡ begin_answer lab w call → ⊥
 not_off lab calls w call h is = never_off _ _ _ _ (is ∙ answered lab calls w call h)
 
-pub not_recovering : (lab : Lab) (calls : List (ℕ × Call)) (w : ℕ) (call : Call) → Waits lab calls w call → Recovering ≡ begin_answer lab w call → ⊥
+pub not_recovering : (lab : WorldView) (calls : List (ℕ × Call)) (w : ℕ) (call : Call) → Waits lab calls w call → Recovering ≡ begin_answer lab w call → ⊥
 not_recovering lab calls w call h is = never_recovering _ _ _ _ (is ∙ answered lab calls w call h)
 
 none_is : (opened : Option Open) → is_some opened ≡ false → opened ≡ None
 none_is None is = refl
 none_is (Some opened) is = absurd cc
 
-stops_by : (lab : Lab) (queued : Fused) (w : ℕ) (call : Call) (why : Which) → Waits lab queued.calls w call
+stops_by : (lab : WorldView) (queued : Fused) (w : ℕ) (call : Call) (why : LimitKind) → Waits lab queued.calls w call
     → Gave (is_short lab.log) (nat_le lab.log.limits.calls (count_begins lab.log.past)) (lacks_page lab.log call) why
     → StopsBy (stop.Limit why) w (point_in lab queued) (point_in lab queued) × IsAtLimit lab why
 stops_by lab queued w call which.Marks h gave = (inl refl, grind (arith, nat_tests, gave))
@@ -122,7 +122,7 @@ stops_by lab queued w call which.Pages h gave =
     ((none_is (open_call w lab.log.past) h.closed, rw h.first.1 both.0, refl), grind (arith, nat_tests, full))
 
 -- a begin that meets a limit changes nothing
-pub begin_stops : (lab : Lab) (queued : Fused) (w : ℕ) (call : Call) (why : Which) (new : Lab) → Waits lab queued.calls w call → Limit why ≡ begin_answer lab w call → new ≡ lab
+pub begin_stops : (lab : WorldView) (queued : Fused) (w : ℕ) (call : Call) (why : LimitKind) (new : WorldView) → Waits lab queued.calls w call → Limit why ≡ begin_answer lab w call → new ≡ lab
     → Keeps lab queued new queued × StopsBy (stop.Limit why) w (point_in lab queued) (point_in new queued) × IsAtLimit new why
 begin_stops lab queued w call why new h is same =
     let stops = stops_by lab queued w call why h (which_gave _ _ _ (begun_calls w lab.log.past + 1) why (is ∙ answered lab queued.calls w call h)) in
@@ -132,21 +132,21 @@ begun_opens : (past : List Mark) (w v n : ℕ) (call : Call) → is_some (open_c
 begun_opens past w v n call = opens (w == v) _ (open_call v past)
 
 -- the world after a begin, and the queue without its call
-pub record Begins (lab : Lab) (queued : Fused) (w : ℕ) (call : Call) (n : ℕ) (new : Lab) (left : Fused) : Type 0 where
+pub record Begins (lab : WorldView) (queued : Fused) (w : ℕ) (call : Call) (n : ℕ) (new : WorldView) (left : Fused) : Type 0 where
   pub answer : Begun n ≡ begin_answer lab w call
   pub after : new ≡ after_begin lab w call (Begun n)
   pub calls : left.calls ≡ without_first w queued.calls
   pub room : left.room ≡ queued.room
   pub fuse : left.fuse ≡ queued.fuse
 
-begun_point : (lab : Lab) (queued : Fused) (w n : ℕ) (call : Call) (left : Fused) → Waits lab queued.calls w call → Begun n ≡ begin_answer lab w call → left.calls ≡ without_first w queued.calls
+begun_point : (lab : WorldView) (queued : Fused) (w n : ℕ) (call : Call) (left : Fused) → Waits lab queued.calls w call → Begun n ≡ begin_answer lab w call → left.calls ≡ without_first w queued.calls
     → point_in (after_begin lab w call (Begun n)) left ≡ ready w (point_in lab queued)
 begun_point lab queued w n call left h answer calls =
     let number : n ≡ begun_calls w lab.log.past + 1 = number_given _ _ _ _ n (answer ∙ answered lab queued.calls w call h) in
     rw (h.closed, h.first.1, calls, number) refl
 
 -- the first call that waits for a worker begins
-pub begins : (lab : Lab) (queued : Fused) (w : ℕ) (call : Call) (n : ℕ) (new : Lab) (left : Fused) → Waits lab queued.calls w call → Begins lab queued w call n new left
+pub begins : (lab : WorldView) (queued : Fused) (w : ℕ) (call : Call) (n : ℕ) (new : WorldView) (left : Fused) → Waits lab queued.calls w call → Begins lab queued w call n new left
     → Keeps lab queued new left × GetsReady w (point_in lab queued) (point_in new left)
 begins lab queued w call n new left h b = rw b.after (
   record {
@@ -162,7 +162,7 @@ begins lab queued w call n new left h b = rw b.after (
 )
 
 -- and is open then
-pub begun_is_open : (lab : Lab) (w n : ℕ) (call : Call) (new : Lab) → new ≡ after_begin lab w call (Begun n) → is_some (open_call w new.log.past) ≡ true
+pub begun_is_open : (lab : WorldView) (w n : ℕ) (call : Call) (new : WorldView) → new ≡ after_begin lab w call (Begun n) → is_some (open_call w new.log.past) ≡ true
 begun_is_open lab w n call new after =
     let same : (w == w) ≡ true = grind (arith, nat_tests) in
     rw after (begun_opens lab.log.past w w n call ∙ rw same refl)

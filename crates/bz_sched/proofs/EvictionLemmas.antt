@@ -7,11 +7,11 @@ use Rattle.bz_layout.specs.Addresses.{words_of}
 use Rattle.bz_mark.specs.declared.marks.Mark.TheVariants as mark
 use Rattle.bz_sound.specs.declared.power.Power.{Power}
 use Rattle.bz_sound.specs.declared.power.Power.TheVariants as power
-use Rattle.bz_world.specs.Lab.{Lab, power_in, is_short, off_refusal, evict_refusal, Evicts, IsApplied}
+use Rattle.bz_world.specs.WorldView.{WorldView, power_in, is_short, off_refusal, evict_refusal, Evicts, IsApplied}
 use Rattle.bz_world.specs.declared.answers.Applied.{Applied}
 use Rattle.bz_world.specs.declared.answers.Applied.TheVariants as applied
 use Rattle.bz_world.specs.declared.answers.Event.TheVariants as event
-use Rattle.bz_world.specs.declared.answers.Which.TheVariants as which
+use Rattle.bz_world.specs.declared.answers.LimitKind.TheVariants as which
 use Rattle.bz_sched.specs.Cutting.{HasNoPlace, WordEvicted}
 use Rattle.bz_sched.specs.Fuses.{Fused}
 use Rattle.bz_sched.specs.Runs.{point_in, IsReady, IsAtLimit, Keeps}
@@ -32,26 +32,26 @@ not_off power.Off some = absurd (some refl)
 not_off power.Recovering some = refl
 not_off power.On some = refl
 
-eviction_refusal_is : (lab : Lab) (a : ℕ) → a < words_of lab.config → power_in lab ≢ power.Off → evict_refusal lab a ≡ by_eviction false (is_short lab.log)
+eviction_refusal_is : (lab : WorldView) (a : ℕ) → a < words_of lab.config → power_in lab ≢ power.Off → evict_refusal lab a ≡ by_eviction false (is_short lab.log)
 eviction_refusal_is lab a within powered =
     let in_range : nat_le (words_of lab.config) a ≡ false = grind (arith, nat_tests, within) in
     rw (in_range, not_off (power_in lab) powered) refl
 
-eviction_cases : (short : Bool) (old : Lab) (a : ℕ) (answer : Applied) (new : Lab) → is_short old.log ≡ short
+eviction_cases : (short : Bool) (old : WorldView) (a : ℕ) (answer : Applied) (new : WorldView) → is_short old.log ≡ short
     → MatchOption (by_eviction false short) (Evicts old a answer new) (λ refusal. (answer ≡ refusal) × (new ≡ old)) → ((answer ≡ applied.Limit) × HasNoPlace old new) ⊎ ((answer ≡ applied.Evicted) × WordEvicted old a new)
 eviction_cases true old a answer new is (e, same) = inl (e, record { short = is; same = same })
 eviction_cases false old a answer new is h = inr (h.answered, record { room = is; evicts = subst (λ (told : Applied). Evicts old a told new) h.answered h })
 
 -- the answer is one of two
-pub evicted : (old : Lab) (a : ℕ) (answer : Applied) (new : Lab) → a < words_of old.config → power_in old ≢ power.Off → IsApplied old (event.Evict a) answer new
+pub evicted : (old : WorldView) (a : ℕ) (answer : Applied) (new : WorldView) → a < words_of old.config → power_in old ≢ power.Off → IsApplied old (event.Evict a) answer new
     → ((answer ≡ applied.Limit) × HasNoPlace old new) ⊎ ((answer ≡ applied.Evicted) × WordEvicted old a new)
 evicted old a answer new within powered h = eviction_cases (is_short old.log) old a answer new refl (rw (eviction_refusal_is old a within powered) at h)
 
-pub eviction_limit : (old : Lab) (queued : Fused) (new : Lab) → IsReady old → HasNoPlace old new
+pub eviction_limit : (old : WorldView) (queued : Fused) (new : WorldView) → IsReady old → HasNoPlace old new
     → Keeps old queued new queued × StopsEvent (Limit which.Marks) (point_in old queued) (point_in new queued) × IsAtLimit new which.Marks
 eviction_limit old queued new ready r = short_stops old queued new ready r.short r.same
 
-pub eviction_made : (old : Lab) (queued : Fused) (a : ℕ) (new : Lab) → IsReady old → Evicts old a applied.Evicted new
+pub eviction_made : (old : WorldView) (queued : Fused) (a : ℕ) (new : WorldView) → IsReady old → Evicts old a applied.Evicted new
     → Keeps old queued new queued × IsEviction a (point_in old queued) (point_in new queued)
 eviction_made old queued a new ready e =
     let struck = struck_is (mark.Evict a) old.log.past e.past e.effect in
@@ -69,7 +69,7 @@ eviction_made old queued a new ready e =
     )
 
 -- it opens and ends no call
-pub eviction_opens : (old : Lab) (a : ℕ) (new : Lab) → Evicts old a applied.Evicted new → (v : ℕ) → is_some (open_call v new.log.past) ≡ is_some (open_call v old.log.past)
+pub eviction_opens : (old : WorldView) (a : ℕ) (new : WorldView) → Evicts old a applied.Evicted new → (v : ℕ) → is_some (open_call v new.log.past) ≡ is_some (open_call v old.log.past)
 eviction_opens old a new e v =
     let struck = struck_is (mark.Evict a) old.log.past e.past e.effect in
     rw e.rest (struck.opens v)

@@ -6,7 +6,7 @@ use Rattle.bz_call.specs.declared.calls.Call.{Call}
 use Rattle.bz_mark.specs.declared.marks.Mark.{Mark}
 use Rattle.bz_mark.specs.declared.marks.Mark.TheVariants.{Begin, End, Load, Store, Cas, Flush, Effect}
 use Rattle.bz_sound.specs.Calls.{Open, open_call}
-use Rattle.bz_world.specs.declared.answers.Which.TheVariants as which
+use Rattle.bz_world.specs.declared.answers.LimitKind.TheVariants as which
 use Rattle.bz_sched.specs.Points.{Point, ready, ready_by, is_busy, IsTurn}
 use Rattle.bz_sched.proofs.QueueLaws.{not_same, same_owner, calls_of-without}
 use Rattle.bz_sched.specs.Queued.{calls_of}

@@ -6,17 +6,17 @@ use Rattle.bz_mark.specs.declared.marks.Mark.{Mark}
 use Rattle.bz_mark.specs.declared.marks.Mark.TheVariants as mark
 use Rattle.bz_script.specs.Draws.{next_state, draw_of}
 use Rattle.bz_sound.specs.declared.power.Power.TheVariants as power
-use Rattle.bz_world.specs.Lab.{Lab, power_in}
+use Rattle.bz_world.specs.WorldView.{WorldView, power_in}
 use Rattle.bz_sched.specs.Cuts.{differs_at, is_drawn, Evicts, Passes, PassesBy, state_behind, PassesFrom, PassesInPart, EvictsBy, EvictsByInPart}
 use Rattle.bz_sched.specs.Cutting.{Evolves, WordEvicted, WordPassed, PassStopped, WordsPassed, PassesStopped, AreEvicted, EvictionsStopped}
 use Rattle.bz_sched.specs.Runs.{marks_left}
 use Rattle.bz_sched.proofs.PowerLemmas.{struck_power}
 use Rattle.bz_sched.proofs.StepLemmas.{struck_is}
 
-pub evolves_none : (world : Lab) → Evolves world world
+pub evolves_none : (world : WorldView) → Evolves world world
 evolves_none world = record { stays = record { config = refl; at_start = refl; start = refl; limits = refl }; power = refl; flushes = refl }
 
-pub evolves_both : (a b c : Lab) → Evolves a b → Evolves b c → Evolves a c
+pub evolves_both : (a b c : WorldView) → Evolves a b → Evolves b c → Evolves a c
 evolves_both a b c h k = record {
   stays = record { config = k.stays.config ∙ h.stays.config; at_start = k.stays.at_start ∙ h.stays.at_start; start = k.stays.start ∙ h.stays.start; limits = k.stays.limits ∙ h.stays.limits };
   power = k.power ∙ h.power;
@@ -24,12 +24,12 @@ evolves_both a b c h k = record {
 }
 
 -- an eviction
-evicted_evolves : (old : Lab) (a : ℕ) (new : Lab) → WordEvicted old a new → Evolves old new
+evicted_evolves : (old : WorldView) (a : ℕ) (new : WorldView) → WordEvicted old a new → Evolves old new
 evicted_evolves old a new h =
     let e = h.evicts in
     rw e.rest (record { stays = record { config = refl; at_start = refl; start = refl; limits = refl }; power = struck_power old.at_start (mark.Evict a) old.log.past e.past e.effect; flushes = refl })
 
-evicted_is : (old : Lab) (a : ℕ) (new : Lab) → WordEvicted old a new → Evicts a old.log.past new.log.past
+evicted_is : (old : WorldView) (a : ℕ) (new : WorldView) → WordEvicted old a new → Evicts a old.log.past new.log.past
 evicted_is old a new h =
     let e = h.evicts in
     let struck = struck_is (mark.Evict a) old.log.past e.past e.effect in
@@ -45,7 +45,7 @@ same_words x y same = elim (tested x y) [ inl is ↦ rw is refl | inr is ↦ abs
 pub other_words : (x y : ℕ) → x ≢ y → not (x == y) ≡ true
 other_words x y other = let unlike : (x == y) ≡ false = grind (arith, nat_tests, other) in rw unlike refl
 
-module _ (old : Lab) (a state : ℕ) where
+module _ (old : WorldView) (a state : ℕ) where
   -- it does not differ
   pub passed_same : differs_at old.log.start old.log.past a ≡ false → WordPassed a state old old
   passed_same is = record { evolves = evolves_none old; passes = subst (λ (b : Bool). PassesBy b (is_drawn (next_state state)) a old.log.past old.log.past) (sym is) refl }
@@ -60,7 +60,7 @@ module _ (old : Lab) (a state : ℕ) where
   }
 
   -- it is evicted
-  pub passed_evicted : (new : Lab) → differs_at old.log.start old.log.past a ≡ true → is_drawn (next_state state) ≡ true → WordEvicted old a new → WordPassed a state old new
+  pub passed_evicted : (new : WorldView) → differs_at old.log.start old.log.past a ≡ true → is_drawn (next_state state) ≡ true → WordEvicted old a new → WordPassed a state old new
   passed_evicted new is drawn h = record {
     evolves = evicted_evolves old a new h;
     passes =
@@ -85,12 +85,12 @@ drawn_is draw state is high =
     grind (arith, nat_tests, large)
 
 -- the words before this one were passed: what follows follows from the start
-pub record Passing (words seed a state : ℕ) (old world : Lab) : Type 0 where
+pub record Passing (words seed a state : ℕ) (old world : WorldView) : Type 0 where
   pub evolves : Evolves old world
   pub whole : (new : List Mark) → PassesFrom old.log.start (words - a) a state world.log.past new → PassesFrom old.log.start words 0 seed old.log.past new
   pub part : (new : List Mark) → PassesInPart old.log.start (words - a) a state world.log.past new → PassesInPart old.log.start words 0 seed old.log.past new
 
-pub passing_none : (words seed : ℕ) (old : Lab) → Passing words seed 0 seed old old
+pub passing_none : (words seed : ℕ) (old : WorldView) → Passing words seed 0 seed old old
 passing_none words seed old =
     let all : words - 0 ≡ words = omega arith in
     record {
@@ -99,9 +99,9 @@ passing_none words seed old =
       part = λ new passes. subst (λ (count : ℕ). PassesInPart old.log.start count 0 seed old.log.past new) all passes;
     }
 
-module _ (words seed a state : ℕ) (old world : Lab) (p : Passing words seed a state old world) where
+module _ (words seed a state : ℕ) (old world : WorldView) (p : Passing words seed a state old world) where
   -- a word more
-  pub passing_more : (next : ℕ) (new : Lab) → a < words → WordPassed a state world new → next ≡ state_behind (differs_at world.log.start world.log.past a) state → Passing words seed (a + 1) next old new
+  pub passing_more : (next : ℕ) (new : WorldView) → a < words → WordPassed a state world new → next ≡ state_behind (differs_at world.log.start world.log.past a) state → Passing words seed (a + 1) next old new
   passing_more next new few h is =
       let more : words - a ≡ suc (words - (a + 1)) = omega arith in
       let passes : Passes old.log.start a state world.log.past new.log.past = subst (λ (start : List ℕ). Passes start a state world.log.past new.log.past) p.evolves.stays.start h.passes in
@@ -117,7 +117,7 @@ module _ (words seed a state : ℕ) (old world : Lab) (p : Passing words seed a 
       }
 
   -- no place was left for one
-  pub passing_stops : (new : Lab) → a < words → PassStopped a state world new → PassesStopped words seed old new
+  pub passing_stops : (new : WorldView) → a < words → PassStopped a state world new → PassesStopped words seed old new
   passing_stops new few h =
       let more : words - a ≡ suc (words - (a + 1)) = omega arith in
       let differs : differs_at old.log.start world.log.past a ≡ true = subst (λ (start : List ℕ). differs_at start world.log.past a ≡ true) p.evolves.stays.start h.differs in
@@ -136,19 +136,19 @@ module _ (words seed a state : ℕ) (old world : Lab) (p : Passing words seed a 
       record { evolves = p.evolves; passes = p.whole world.log.past (subst (λ (count : ℕ). PassesFrom old.log.start count a state world.log.past world.log.past) (sym none) refl) }
 
 -- a seed of 0 evicts none
-pub none_evicted : (words seed : ℕ) (old : Lab) → seed ≡ 0 → AreEvicted words seed old old
+pub none_evicted : (words seed : ℕ) (old : WorldView) → seed ≡ 0 → AreEvicted words seed old old
 none_evicted words seed old is = record { evolves = evolves_none old; evicts = rw is refl }
 
 by_seed : (seed : ℕ) → (seed ≡ 0 → ⊥) → (seed == 0) ≡ false
 by_seed seed some = grind (arith, nat_tests, some)
 
-pub some_evicted : (words seed : ℕ) (old new : Lab) → (seed ≡ 0 → ⊥) → WordsPassed words seed old new → AreEvicted words seed old new
+pub some_evicted : (words seed : ℕ) (old new : WorldView) → (seed ≡ 0 → ⊥) → WordsPassed words seed old new → AreEvicted words seed old new
 some_evicted words seed old new some h = record {
   evolves = h.evolves;
   evicts = subst (λ (b : Bool). EvictsBy b old.log.start words seed old.log.past new.log.past) (sym (by_seed seed some)) h.passes;
 }
 
-pub some_stopped : (words seed : ℕ) (old new : Lab) → (seed ≡ 0 → ⊥) → PassesStopped words seed old new → EvictionsStopped words seed old new
+pub some_stopped : (words seed : ℕ) (old new : WorldView) → (seed ≡ 0 → ⊥) → PassesStopped words seed old new → EvictionsStopped words seed old new
 some_stopped words seed old new some h = record {
   evolves = h.evolves;
   evicts = subst (λ (b : Bool). EvictsByInPart b old.log.start words seed old.log.past new.log.past) (sym (by_seed seed some)) h.passes;
@@ -156,7 +156,7 @@ some_stopped words seed old new some h = record {
 }
 
 -- the power is not off while words are passed
-pub still_on : (old world : Lab) → Evolves old world → power_in old ≢ power.Off → power_in world ≢ power.Off
+pub still_on : (old world : WorldView) → Evolves old world → power_in old ≢ power.Off → power_in world ≢ power.Off
 still_on old world e powered off = powered (sym e.power ∙ off)
 
 pub word_within : (a count words : ℕ) → a < count → count ≡ words → a < words

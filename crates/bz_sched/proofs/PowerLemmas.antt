@@ -7,7 +7,7 @@ use Rattle.bz_acts.specs.declared.acted.Act.TheVariants as act
 use Rattle.bz_mark.specs.declared.marks.Mark.{Mark}
 use Rattle.bz_sound.specs.declared.power.Power.{Power}
 use Rattle.bz_sound.specs.Power.Times.{power_of}
-use Rattle.bz_world.specs.Lab.{IsStruck, mark_of}
+use Rattle.bz_world.specs.WorldView.{IsStruck, mark_of}
 use Rattle.bz_sched.specs.Points.{flushes_of}
 
 pub act_power : (at_start : Power) (made : Act) (w : ℕ) (past : List Mark) → power_of at_start (mark_of w made ∷ past) ≡ power_of at_start past

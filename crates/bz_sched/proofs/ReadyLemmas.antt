@@ -3,17 +3,17 @@ use Rattle.std.proofs.Common.{◌≡◌, ℕ, ◌-◌, Bool, true, false, List, 
 use Rattle.std.specs.Prelude.{if◌then◌else◌, is_some, option_map}
 use Rattle.bz_call.specs.declared.calls.Call.{Call}
 use Rattle.bz_sound.specs.Calls.{Open, open_call}
-use Rattle.bz_world.specs.Lab.{Lab, IsWorker}
+use Rattle.bz_world.specs.WorldView.{WorldView, IsWorker}
 use Rattle.bz_sched.specs.Fuses.{Fused}
 use Rattle.bz_sched.specs.Points.{ready, ready_by}
 use Rattle.bz_sched.specs.Queued.{calls_of, is_busy_by}
 use Rattle.bz_sched.specs.Runs.{point_in, IsOneOfAll, IsReady, Keeps}
 use Rattle.bz_sched.proofs.BurnLemmas.{burns_none, burns_both}
 
-pub keeps_none : (world : Lab) (queued : Fused) → IsReady world → Keeps world queued world queued
+pub keeps_none : (world : WorldView) (queued : Fused) → IsReady world → Keeps world queued world queued
 keeps_none world queued ready = record { ready = ready; config = refl; at_start = refl; start = refl; limits = refl; room = refl; fuse = burns_none world.log.past world.log.past queued.fuse refl }
 
-pub keeps_both : (a b c : Lab) (p q r : Fused) → Keeps a p b q → Keeps b q c r → Keeps a p c r
+pub keeps_both : (a b c : WorldView) (p q r : Fused) → Keeps a p b q → Keeps b q c r → Keeps a p c r
 keeps_both a b c p q r h k = record {
   ready = k.ready;
   config = k.config ∙ h.config;
@@ -25,14 +25,14 @@ keeps_both a b c p q r h k = record {
 }
 
 -- the world has each of the workers 1 to 64
-pub is_worker : (world : Lab) (w : ℕ) → IsReady world → IsOneOfAll w → IsWorker world.config w
+pub is_worker : (world : WorldView) (w : ℕ) → IsReady world → IsOneOfAll w → IsWorker world.config w
 is_worker world w ready one =
     let most = one.most in
     let all = ready.workers in
     record { some = one.some; in_range = omega (arith, most, all) }
 
 -- a worker with an open call is ready for its step
-pub open_is_ready : (world : Lab) (queued : Fused) (w : ℕ) → is_some (open_call w world.log.past) ≡ true → point_in world queued ≡ ready w (point_in world queued)
+pub open_is_ready : (world : WorldView) (queued : Fused) (w : ℕ) → is_some (open_call w world.log.past) ≡ true → point_in world queued ≡ ready w (point_in world queued)
 open_is_ready world queued w is = ap (λ (b : Bool). ready_by w b (calls_of w queued.calls) (point_in world queued)) (sym is)
 
 -- one that has something to do and no open call has a call that waits

@@ -10,12 +10,12 @@ use Rattle.bz_mark.specs.declared.marks.Mark.TheVariants as mark
 use Rattle.bz_sound.specs.Power.Times.{power_of}
 use Rattle.bz_sound.specs.declared.power.Power.{Power}
 use Rattle.bz_sound.specs.declared.power.Power.TheVariants as power
-use Rattle.bz_world.specs.Lab as lab
-use Rattle.bz_world.specs.Lab.{Lab, power_in, flush_of, is_short, on_refusal, on_by, step_refusal, after_on, EndsRecovery as EndsSo, mark_of, IsApplied}
+use Rattle.bz_world.specs.WorldView as lab
+use Rattle.bz_world.specs.WorldView.{WorldView, power_in, flush_of, is_short, on_refusal, on_by, step_refusal, after_on, EndsRecovery as EndsSo, mark_of, IsApplied}
 use Rattle.bz_world.specs.declared.answers.Applied.{Applied}
 use Rattle.bz_world.specs.declared.answers.Applied.TheVariants as applied
 use Rattle.bz_world.specs.declared.answers.Event.TheVariants as event
-use Rattle.bz_world.specs.declared.answers.Which.TheVariants as which
+use Rattle.bz_world.specs.declared.answers.LimitKind.TheVariants as which
 use Rattle.bz_sched.specs.Cutting.{HasNoPlace}
 use Rattle.bz_sched.specs.Points.{actor, flushes_of}
 use Rattle.bz_sched.specs.Fuses.{lets, burnt}
@@ -28,14 +28,14 @@ use Rattle.bz_sched.proofs.BurnLemmas.{burns_act, burns_both, burns_none}
 use Rattle.bz_sched.proofs.CutLemmas.{WasCut, limit_met}
 use Rattle.bz_sched.proofs.PowerLemmas.{act_power, act_flushes, one_flush}
 
-pub on_is_not_off : (world : Lab) → power_in world ≡ power.On → power_in world ≢ power.Off
+pub on_is_not_off : (world : WorldView) → power_in world ≡ power.On → power_in world ≢ power.Off
 on_is_not_off world on off = let opposed : power.On ≡ power.Off = sym on ∙ off in cc opposed
 
-pub recovering_is_not_off : (world : Lab) → power_in world ≡ power.Recovering → power_in world ≢ power.Off
+pub recovering_is_not_off : (world : WorldView) → power_in world ≡ power.Recovering → power_in world ≢ power.Off
 recovering_is_not_off world on off = let opposed : power.Recovering ≡ power.Off = sym on ∙ off in cc opposed
 
 -- the power is off already
-pub off_already : (old : Lab) → power_in old ≡ power.Off → IsOff old old
+pub off_already : (old : WorldView) → power_in old ≡ power.Off → IsOff old old
 off_already old off = record {
   stays = record { config = refl; at_start = refl; start = refl; limits = refl };
   off = off;
@@ -43,7 +43,7 @@ off_already old off = record {
 }
 
 -- it was cut
-pub off_now : (old new : Lab) → power_in old ≡ power.On → WasCut old new → IsOff old new
+pub off_now : (old new : WorldView) → power_in old ≡ power.On → WasCut old new → IsOff old new
 off_now old new on cut = rw cut.is (record {
   stays = record { config = refl; at_start = refl; start = refl; limits = refl };
   off = refl;
@@ -54,49 +54,49 @@ off_now old new on cut = rw cut.is (record {
 abbrev by_on : Bool → Option Applied
 by_on short = if short then Some applied.Limit else None
 
-on_refusal_is : (world : Lab) → power_in world ≡ power.Off → on_refusal world ≡ by_on (is_short world.log)
+on_refusal_is : (world : WorldView) → power_in world ≡ power.Off → on_refusal world ≡ by_on (is_short world.log)
 on_refusal_is world off = rw off refl
 
-on_cases : (short : Bool) (old : Lab) (answer : Applied) (new : Lab) → is_short old.log ≡ short
+on_cases : (short : Bool) (old : WorldView) (answer : Applied) (new : WorldView) → is_short old.log ≡ short
     → MatchOption (by_on short) ((answer ≡ applied.On) × (new ≡ after_on old)) (λ refusal. (answer ≡ refusal) × (new ≡ old)) → ((answer ≡ applied.Limit) × HasNoPlace old new) ⊎ ((answer ≡ applied.On) × IsOn old new)
 on_cases true old answer new is (e, same) = inl (e, record { short = is; same = same })
 on_cases false old answer new is (e, same) = inr (e, rw same (record { stays = record { config = refl; at_start = refl; start = refl; limits = refl }; past = refl }))
 
-pub on_made : (old : Lab) (answer : Applied) (new : Lab) → power_in old ≡ power.Off → IsApplied old event.On answer new → ((answer ≡ applied.Limit) × HasNoPlace old new) ⊎ ((answer ≡ applied.On) × IsOn old new)
+pub on_made : (old : WorldView) (answer : Applied) (new : WorldView) → power_in old ≡ power.Off → IsApplied old event.On answer new → ((answer ≡ applied.Limit) × HasNoPlace old new) ⊎ ((answer ≡ applied.On) × IsOn old new)
 on_made old answer new off h = on_cases (is_short old.log) old answer new refl (rw (on_refusal_is old off) at h)
 
 -- the recovery may begin, or a place was wanting
-pub started : (old mid new : Lab) → IsOff old mid → IsOn mid new → IsStarted old new
+pub started : (old mid new : WorldView) → IsOff old mid → IsOn mid new → IsStarted old new
 started old mid new off on = record {
   stays = record { config = on.stays.config ∙ off.stays.config; at_start = on.stays.at_start ∙ off.stays.at_start; start = on.stays.start ∙ off.stays.start; limits = on.stays.limits ∙ off.stays.limits };
   past = on.past ∙ ap (λ (past : List Mark). mark.On ∷ past) off.past;
 }
 
-pub refused_start : (old new : Lab) → HasNoPlace old new → StartStopped old new
+pub refused_start : (old new : WorldView) → HasNoPlace old new → StartStopped old new
 refused_start old new none = rw none.same (record {
   stays = record { config = refl; at_start = refl; start = refl; limits = refl };
   past = inl refl;
   met = limit_met old none.short;
 })
 
-pub stopped_start : (old mid new : Lab) → IsOff old mid → HasNoPlace mid new → StartStopped old new
+pub stopped_start : (old mid new : WorldView) → IsOff old mid → HasNoPlace mid new → StartStopped old new
 stopped_start old mid new off none = rw none.same (record { stays = off.stays; past = inr off.past; met = limit_met mid none.short })
 
 -- a step of the recovery
 abbrev by_step : Bool → Bool → Option Applied
 by_step no_worker short = if no_worker then Some applied.NoWorker else (if short then Some applied.Limit else None)
 
-step_refusal_is : (world : Lab) → power_in world ≡ power.Recovering → step_refusal world 0 ≡ by_step false (is_short world.log)
+step_refusal_is : (world : WorldView) → power_in world ≡ power.Recovering → step_refusal world 0 ≡ by_step false (is_short world.log)
 step_refusal_is world recovering =
     let some : nat_lt world.config.workers 0 ≡ false = grind (arith, nat_tests) in
     rw (some, recovering) refl
 
-step_cases : (short : Bool) (old : Lab) (answer : Applied) (new : Lab) → is_short old.log ≡ short
+step_cases : (short : Bool) (old : WorldView) (answer : Applied) (new : WorldView) → is_short old.log ≡ short
     → MatchOption (by_step false short) (lab.Recovers old answer new) (λ refusal. (answer ≡ refusal) × (new ≡ old)) → ((answer ≡ applied.Limit) × HasNoPlace old new) ⊎ ((is_short old.log ≡ false) × lab.Recovers old answer new)
 step_cases true old answer new is (e, same) = inl (e, record { short = is; same = same })
 step_cases false old answer new is h = inr (is, h)
 
-pub step_made : (old : Lab) (answer : Applied) (new : Lab) → power_in old ≡ power.Recovering → IsApplied old (event.Step 0) answer new → ((answer ≡ applied.Limit) × HasNoPlace old new) ⊎ ((is_short old.log ≡ false) × lab.Recovers old answer new)
+pub step_made : (old : WorldView) (answer : Applied) (new : WorldView) → power_in old ≡ power.Recovering → IsApplied old (event.Step 0) answer new → ((answer ≡ applied.Limit) × HasNoPlace old new) ⊎ ((is_short old.log ≡ false) × lab.Recovers old answer new)
 step_made old answer new recovering h = step_cases (is_short old.log) old answer new refl (rw (step_refusal_is old recovering, recovering) at h)
 
 act_own : (made : Act) → actor (mark_of 0 made) ≡ Some 0
@@ -111,7 +111,7 @@ EitherWay applied.Stepped = Unit {0}
 EitherWay applied.Ready = Unit {0}
 EitherWay other = ⊥
 
-pub recovered_once : (old new : Lab) (fuse left : Option ℕ) (answer : Applied) → power_in old ≡ power.Recovering → EitherWay answer → lab.Recovers old answer new → lets fuse (flush_of old 0) ≡ true → left ≡ burnt (flush_of old 0) fuse → RecoversOnce old fuse new left
+pub recovered_once : (old new : WorldView) (fuse left : Option ℕ) (answer : Applied) → power_in old ≡ power.Recovering → EitherWay answer → lab.Recovers old answer new → lets fuse (flush_of old 0) ≡ true → left ≡ burnt (flush_of old 0) fuse → RecoversOnce old fuse new left
 recovered_once old new fuse left applied.Stepped recovering way r may is = record {
   stays = record { config = r.config; at_start = r.at_start; start = ap (λ (log : Log). log.start) r.ends; limits = ap (λ (log : Log). log.limits) r.ends };
   burns = burns_act old.log.past new.log.past fuse left (flush_of old 0) may (ap (λ (log : Log). flushes_of log.past) r.ends ∙ act_flushes r.made 0 old.log.past ∙ ap (λ (flush : Bool). one_flush flush (flushes_of old.log.past)) r.flush) is;
@@ -137,10 +137,10 @@ pub no_refusal : (answer : Applied) → (answer ≡ applied.Stepped) ⊎ (answer
 no_refusal answer (inl is) refused = let opposed : applied.Stepped ≡ applied.Limit = sym is ∙ refused in cc opposed
 no_refusal answer (inr is) refused = let opposed : applied.Ready ≡ applied.Limit = sym is ∙ refused in cc opposed
 
-pub recovery_due : (old : Lab) (fuse : Option ℕ) → (flush_of old 0 ≡ true) × (fuse ≡ Some 0) → RecoveryStops old fuse (Due 0) old fuse
+pub recovery_due : (old : WorldView) (fuse : Option ℕ) → (flush_of old 0 ≡ true) × (fuse ≡ Some 0) → RecoveryStops old fuse (Due 0) old fuse
 recovery_due old fuse due = record { same = refl; kept = refl; stop = refl; stopped = due }
 
-pub recovery_limit : (old new : Lab) (fuse : Option ℕ) → HasNoPlace old new → RecoveryStops old fuse (Limit which.Marks) new fuse
+pub recovery_limit : (old new : WorldView) (fuse : Option ℕ) → HasNoPlace old new → RecoveryStops old fuse (Limit which.Marks) new fuse
 recovery_limit old new fuse none = rw none.same (record { same = refl; kept = refl; stop = refl; stopped = limit_met old none.short })
 
 -- the recovery has come so far
@@ -148,29 +148,29 @@ more_times : (count : ℕ) (old mid new : List Mark) → RecoversTimes count old
 more_times zero old mid new same r = (new, subst (λ (past : List Mark). Recovers past new) same r, refl)
 more_times (suc count) old mid new (next, first, rest) r = (next, first, more_times count next mid new rest r)
 
-abbrev pub IsOnTheWay : Lab → Lab → Type 0
+abbrev pub IsOnTheWay : WorldView → WorldView → Type 0
 IsOnTheWay old world =
     (((count : ℕ) × RecoversTimes count old.log.past world.log.past) × (power_in world ≡ power.Recovering))
     ⊎ (RecoversWhole old.log.past world.log.past × (power_in world ≡ power.On))
 
-pub record Waking (old : Lab) (fuse : Option ℕ) (world : Lab) (left : Option ℕ) : Type 0 where
+pub record Waking (old : WorldView) (fuse : Option ℕ) (world : WorldView) (left : Option ℕ) : Type 0 where
   pub on : RecoversOn old fuse world left
   pub way : IsOnTheWay old world
 
-pub waking_none : (old : Lab) (fuse : Option ℕ) → power_in old ≡ power.Recovering → Waking old fuse old fuse
+pub waking_none : (old : WorldView) (fuse : Option ℕ) → power_in old ≡ power.Recovering → Waking old fuse old fuse
 waking_none old fuse recovering = record {
   on = record { stays = record { config = refl; at_start = refl; start = refl; limits = refl }; burns = burns_none old.log.past old.log.past fuse refl };
   way = inl ((0, refl), recovering);
 }
 
-once_way : (old world new : Lab) (fuse left : Option ℕ) (count : ℕ) → RecoversTimes count old.log.past world.log.past → RecoversOnce world fuse new left → IsOnTheWay old new
+once_way : (old world new : WorldView) (fuse left : Option ℕ) (count : ℕ) → RecoversTimes count old.log.past world.log.past → RecoversOnce world fuse new left → IsOnTheWay old new
 once_way old world new fuse left count times r = by_way r.goes
   where
     by_way : (Recovers world.log.past new.log.past × (power_in new ≡ power.Recovering)) ⊎ ((last : List Mark) × Recovers world.log.past last × (new.log.past ≡ mark.Ready ∷ last)) → IsOnTheWay old new
     by_way (inl (act, still)) = inl ((suc count, more_times count old.log.past world.log.past new.log.past times act), still)
     by_way (inr (last, act, is)) = inr ((count, world.log.past, last, times, act, is), ap (power_of new.at_start) is)
 
-pub waking_more : (old world new : Lab) (fuse left after : Option ℕ) → Waking old fuse world left → power_in world ≡ power.Recovering → RecoversOnce world left new after → Waking old fuse new after
+pub waking_more : (old world new : WorldView) (fuse left after : Option ℕ) → Waking old fuse world left → power_in world ≡ power.Recovering → RecoversOnce world left new after → Waking old fuse new after
 waking_more old world new fuse left after h recovering r = record {
   on = record {
     stays = record { config = r.stays.config ∙ h.on.stays.config; at_start = r.stays.at_start ∙ h.on.stays.at_start; start = r.stays.start ∙ h.on.stays.start; limits = r.stays.limits ∙ h.on.stays.limits };
@@ -183,14 +183,14 @@ waking_more old world new fuse left after h recovering r = record {
     by_way (inl ((count, times), still)) = once_way old world new left after count times r
     by_way (inr (whole, on)) = let opposed : power.On ≡ power.Recovering = sym on ∙ recovering in absurd (cc opposed)
 
-pub waking_stops : (old world new : Lab) (fuse left after : Option ℕ) (why : Stop) → Waking old fuse world left → power_in world ≡ power.Recovering → RecoveryStops world left why new after → HasRecovered old fuse (Stopped why) new after
+pub waking_stops : (old world new : WorldView) (fuse left after : Option ℕ) (why : Stop) → Waking old fuse world left → power_in world ≡ power.Recovering → RecoveryStops world left why new after → HasRecovered old fuse (Stopped why) new after
 waking_stops old world new fuse left after why h recovering r = rw (r.same, r.kept) (h.on, by_way h.way, recovering, r.stop, rw (r.same, r.kept) at r.stopped)
   where
     by_way : IsOnTheWay old world → (count : ℕ) × RecoversTimes count old.log.past world.log.past
     by_way (inl (times, still)) = times
     by_way (inr (whole, on)) = let opposed : power.On ≡ power.Recovering = sym on ∙ recovering in absurd (cc opposed)
 
-pub waking_done : (old world : Lab) (fuse left : Option ℕ) → Waking old fuse world left → (power_in world ≡ power.Recovering → ⊥) → HasRecovered old fuse Finished world left
+pub waking_done : (old world : WorldView) (fuse left : Option ℕ) → Waking old fuse world left → (power_in world ≡ power.Recovering → ⊥) → HasRecovered old fuse Finished world left
 waking_done old world fuse left h over = (h.on, by_way h.way)
   where
     by_way : IsOnTheWay old world → RecoversWhole old.log.past world.log.past

@@ -11,11 +11,11 @@ use Rattle.bz_mark.specs.declared.marks.Mark.TheVariants as mark
 use Rattle.bz_sound.specs.declared.power.Power.{Power}
 use Rattle.bz_sound.specs.Calls.{Open, open_call}
 use Rattle.bz_sound.specs.Power.Times.{power_of}
-use Rattle.bz_world.specs.Lab.{Lab, IsWorker, flush_of, is_short, step_refusal, mark_of, IsStruck, GoesOn, Steps, IsApplied}
+use Rattle.bz_world.specs.WorldView.{WorldView, IsWorker, flush_of, is_short, step_refusal, mark_of, IsStruck, GoesOn, Steps, IsApplied}
 use Rattle.bz_world.specs.declared.answers.Applied.{Applied}
 use Rattle.bz_world.specs.declared.answers.Applied.TheVariants as applied
 use Rattle.bz_world.specs.declared.answers.Event.TheVariants as event
-use Rattle.bz_world.specs.declared.answers.Which.TheVariants as which
+use Rattle.bz_world.specs.declared.answers.LimitKind.TheVariants as which
 use Rattle.bz_sched.specs.Points.{actor, flushes_of, IsUpToOneEffect, TakesStep}
 use Rattle.bz_sched.specs.Fuses.{lets, burnt, Fused}
 use Rattle.bz_sched.specs.Runs.{point_in, IsReady, IsAtLimit, IsStopped, Keeps}
@@ -55,29 +55,29 @@ none_not_some : (opened : Option Open) → is_some opened ≡ true → is_none o
 none_not_some None is = absurd cc
 none_not_some (Some opened) is = refl
 
-refusal_is : (lab : Lab) (w : ℕ) → IsReady lab → IsWorker lab.config w → is_some (open_call w lab.log.past) ≡ true → step_refusal lab w ≡ by_step false (is_short lab.log) false
+refusal_is : (lab : WorldView) (w : ℕ) → IsReady lab → IsWorker lab.config w → is_some (open_call w lab.log.past) ≡ true → step_refusal lab w ≡ by_step false (is_short lab.log) false
 refusal_is lab w ready worker is =
     let in_range : nat_lt lab.config.workers w ≡ false = grind (arith, nat_tests, worker.in_range) in
     let busy : is_none (open_call w lab.log.past) ≡ false = none_not_some (open_call w lab.log.past) is in
     rw (in_range, ready.powered, busy) refl
 
 -- the answer is one of two
-pub record Goes (old : Lab) (w : ℕ) (answer : Applied) (new : Lab) : Type 0 where
+pub record Goes (old : WorldView) (w : ℕ) (answer : Applied) (new : WorldView) : Type 0 where
   pub room : is_short old.log ≡ false
   pub steps : Steps old w answer new
 
-pub record Refused (old : Lab) (answer : Applied) (new : Lab) : Type 0 where
+pub record Refused (old : WorldView) (answer : Applied) (new : WorldView) : Type 0 where
   pub short : is_short old.log ≡ true
   pub answered : answer ≡ applied.Limit
   pub same : new ≡ old
 
-step_cases : (short : Bool) (old : Lab) (w : ℕ) (answer : Applied) (new : Lab) → is_short old.log ≡ short
+step_cases : (short : Bool) (old : WorldView) (w : ℕ) (answer : Applied) (new : WorldView) → is_short old.log ≡ short
     → MatchOption (by_step false short false) (Steps old w answer new) (λ refusal. (answer ≡ refusal) × (new ≡ old))
     → Refused old answer new ⊎ Goes old w answer new
 step_cases true old w answer new is (e, same) = inl (record { short = is; answered = e; same = same })
 step_cases false old w answer new is h = inr (record { room = is; steps = h })
 
-pub stepped : (old : Lab) (w : ℕ) (answer : Applied) (new : Lab) → IsReady old → IsWorker old.config w → is_some (open_call w old.log.past) ≡ true → IsApplied old (event.Step w) answer new
+pub stepped : (old : WorldView) (w : ℕ) (answer : Applied) (new : WorldView) → IsReady old → IsWorker old.config w → is_some (open_call w old.log.past) ≡ true → IsApplied old (event.Step w) answer new
     → Refused old answer new ⊎ Goes old w answer new
 stepped old w answer new ready worker is h = step_cases (is_short old.log) old w answer new refl (rw (refusal_is old w ready worker is, ready.powered) at h)
 
@@ -88,13 +88,13 @@ step_answers (applied.Ended n) log new w g s e = e n refl
 step_answers other log new w g s e = absurd g
 
 -- a limit
-pub short_stops : (old : Lab) (queued : Fused) (new : Lab) → IsReady old → is_short old.log ≡ true → new ≡ old
+pub short_stops : (old : WorldView) (queued : Fused) (new : WorldView) → IsReady old → is_short old.log ≡ true → new ≡ old
     → Keeps old queued new queued × ((which.Marks ≡ which.Marks) × (point_in new queued ≡ point_in old queued)) × IsAtLimit new which.Marks
 short_stops old queued new ready short same =
     let met : IsAtLimit old which.Marks = grind (arith, nat_tests, short) in
     rw same (keeps_none old queued ready, (refl, refl), met)
 
-pub step_limit : (old : Lab) (queued : Fused) (w : ℕ) (new : Lab) → IsReady old → IsWorker old.config w → is_some (open_call w old.log.past) ≡ true → IsApplied old (event.Step w) applied.Limit new
+pub step_limit : (old : WorldView) (queued : Fused) (w : ℕ) (new : WorldView) → IsReady old → IsWorker old.config w → is_some (open_call w old.log.past) ≡ true → IsApplied old (event.Step w) applied.Limit new
     → Keeps old queued new queued × StopsStep (Limit which.Marks) w (point_in old queued) (point_in new queued) × IsAtLimit new which.Marks
 step_limit old queued w new ready worker is h = elim (stepped old w applied.Limit new ready worker is h) [
   | inl r ↦ short_stops old queued new ready r.short r.same
@@ -102,7 +102,7 @@ step_limit old queued w new ready worker is h = elim (stepped old w applied.Limi
 ]
 
 -- the step is the flush at which the power is cut
-pub step_due : (lab : Lab) (queued : Fused) (w : ℕ) → IsReady lab → (flush_of lab w ≡ true) × (queued.fuse ≡ Some 0)
+pub step_due : (lab : WorldView) (queued : Fused) (w : ℕ) → IsReady lab → (flush_of lab w ≡ true) × (queued.fuse ≡ Some 0)
     → Keeps lab queued lab queued × StopsStep (Due w) w (point_in lab queued) (point_in lab queued) × IsStopped lab queued.fuse (Due w)
 step_due lab queued w ready due = (keeps_none lab queued ready, (refl, refl), due)
 
@@ -114,17 +114,17 @@ pub record Burnt (flush : Bool) (queued left : Fused) : Type 0 where
   pub fuse : left.fuse ≡ burnt flush queued.fuse
 
 -- how many flushes were made by then
-step_flushes : (old : Lab) (w : ℕ) (made : Act) (struck : List Mark) → is_flush_act made ≡ flush_of old w → IsStruck (mark_of w made ∷ old.log.past) struck → flushes_of struck ≡ one_flush (flush_of old w) (flushes_of old.log.past)
+step_flushes : (old : WorldView) (w : ℕ) (made : Act) (struck : List Mark) → is_flush_act made ≡ flush_of old w → IsStruck (mark_of w made ∷ old.log.past) struck → flushes_of struck ≡ one_flush (flush_of old w) (flushes_of old.log.past)
 step_flushes old w made struck flush effect = struck_flushes (mark_of w made) old.log.past struck effect ∙ act_flushes made w old.log.past ∙ ap (λ (b : Bool). one_flush b (flushes_of old.log.past)) flush
 
 -- the call goes on
-on_ready : (old : Lab) (w : ℕ) (new : Lab) → IsReady old → Steps old w applied.Stepped new → IsReady new
+on_ready : (old : WorldView) (w : ℕ) (new : WorldView) → IsReady old → Steps old w applied.Stepped new → IsReady new
 on_ready old w new ready s = record {
   workers = rw s.config ready.workers;
   powered = ap (λ (p : Power). power_of p new.log.past) s.at_start ∙ ap (λ (log : Log). power_of old.at_start log.past) s.ends ∙ struck_power old.at_start (mark_of w s.made) old.log.past s.struck s.effect ∙ act_power old.at_start s.made w old.log.past ∙ ready.powered;
 }
 
-step_goes_on : (old : Lab) (queued left : Fused) (w : ℕ) (new : Lab) → IsReady old → Goes old w applied.Stepped new → Burnt (flush_of old w) queued left
+step_goes_on : (old : WorldView) (queued left : Fused) (w : ℕ) (new : WorldView) → IsReady old → Goes old w applied.Stepped new → Burnt (flush_of old w) queued left
     → Keeps old queued new left × TakesStep w (point_in old queued) (point_in new left)
 step_goes_on old queued left w new ready g b =
     let s = g.steps in
@@ -153,13 +153,13 @@ step_goes_on old queued left w new ready g b =
     )
 
 -- the call ends
-ended_ready : (old : Lab) (w n : ℕ) (new : Lab) → IsReady old → Steps old w (applied.Ended n) new → IsReady new
+ended_ready : (old : WorldView) (w n : ℕ) (new : WorldView) → IsReady old → Steps old w (applied.Ended n) new → IsReady new
 ended_ready old w n new ready s = record {
   workers = rw s.config ready.workers;
   powered = ap (λ (p : Power). power_of p new.log.past) s.at_start ∙ ap (λ (log : Log). power_of old.at_start log.past) s.ends.is ∙ struck_power old.at_start (mark_of w s.made) old.log.past s.struck s.effect ∙ act_power old.at_start s.made w old.log.past ∙ ready.powered;
 }
 
-step_ends : (old : Lab) (queued left : Fused) (w n : ℕ) (new : Lab) → IsReady old → Goes old w (applied.Ended n) new → Burnt (flush_of old w) queued left
+step_ends : (old : WorldView) (queued left : Fused) (w n : ℕ) (new : WorldView) → IsReady old → Goes old w (applied.Ended n) new → Burnt (flush_of old w) queued left
     → Keeps old queued new left × TakesStep w (point_in old queued) (point_in new left)
 step_ends old queued left w n new ready g b =
     let s = g.steps in
@@ -188,7 +188,7 @@ step_ends old queued left w n new ready g b =
     )
 
 -- one or the other
-pub step_made : (old : Lab) (queued left : Fused) (w : ℕ) (answer : Applied) (new : Lab) → IsReady old → Goes old w answer new → Burnt (flush_of old w) queued left
+pub step_made : (old : WorldView) (queued left : Fused) (w : ℕ) (answer : Applied) (new : WorldView) → IsReady old → Goes old w answer new → Burnt (flush_of old w) queued left
     → Keeps old queued new left × TakesStep w (point_in old queued) (point_in new left)
 step_made old queued left w applied.Stepped new ready g b = step_goes_on old queued left w new ready g b
 step_made old queued left w (applied.Ended n) new ready g b = step_ends old queued left w n new ready g b

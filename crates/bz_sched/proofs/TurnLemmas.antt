@@ -1,7 +1,7 @@
 -- A turn: its call begins, if it has to, and then the step is taken.
 use Rattle.std.proofs.Common.{◌≡◌, ℕ, true, sym, subst, ◌∙◌, inr}
-use Rattle.bz_world.specs.Lab.{Lab}
-use Rattle.bz_world.specs.declared.answers.Which.{Which}
+use Rattle.bz_world.specs.WorldView.{WorldView}
+use Rattle.bz_world.specs.declared.answers.LimitKind.{LimitKind}
 use Rattle.bz_sched.specs.declared.turn.Stop.{Stop}
 use Rattle.bz_sched.specs.declared.turn.Stop.TheVariants.{Due, Limit}
 use Rattle.bz_sched.specs.Points.{Point, is_busy, GetsReady, TakesStep, IsTurn}
@@ -13,18 +13,18 @@ use Rattle.bz_sched.specs.declared.turn.Turned.TheVariants.{Finished, Stopped}
 use Rattle.bz_sched.proofs.ReadyLemmas.{keeps_both}
 
 -- no call could begin
-pub turn_stops : (old : Lab) (queued : Fused) (w : ℕ) (why : Stop) (new : Lab) (left : Fused) → is_busy w (point_in old queued) ≡ true
+pub turn_stops : (old : WorldView) (queued : Fused) (w : ℕ) (why : Stop) (new : WorldView) (left : Fused) → is_busy w (point_in old queued) ≡ true
     → Keeps old queued new left × StopsBy why w (point_in old queued) (point_in new left) × IsStopped new left.fuse why
     → Keeps old queued new left × StopsTurn why w (point_in old queued) (point_in new left) × IsStopped new left.fuse why
 turn_stops old queued w why new left works (keeps, stops, met) = (keeps, (works, stops), met)
 
 -- the step stops, after the worker got ready for it
 step_stops : (w : ℕ) (why : Stop) (old mid new : Point) → GetsReady w old mid → StopsStep why w mid new → StopsBy why w old new
-step_stops w (Limit limit) old mid new readied (is, same) = subst (λ (limited : Which). StopsBy (Limit limited) w old new) (sym is) (inr (same ∙ readied))
+step_stops w (Limit limit) old mid new readied (is, same) = subst (λ (limited : LimitKind). StopsBy (Limit limited) w old new) (sym is) (inr (same ∙ readied))
 step_stops w (Due v) old mid new readied (is, same) = (is, same ∙ readied)
 
 -- a call is open, and the step is taken or stops
-pub turn_ends : (old : Lab) (queued : Fused) (w : ℕ) (mid : Lab) (between : Fused) (end : Turned) (new : Lab) (left : Fused) → is_busy w (point_in old queued) ≡ true
+pub turn_ends : (old : WorldView) (queued : Fused) (w : ℕ) (mid : WorldView) (between : Fused) (end : Turned) (new : WorldView) (left : Fused) → is_busy w (point_in old queued) ≡ true
     → Keeps old queued mid between × GetsReady w (point_in old queued) (point_in mid between) → EndsBy (TakesStep w) (λ why. StopsStep why w) mid between end new left
     → EndsBy (IsTurn w) (λ why. StopsTurn why w) old queued end new left
 turn_ends old queued w mid between Finished new left works (keeps, readied) (kept, step) = (

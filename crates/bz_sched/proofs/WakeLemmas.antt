@@ -6,9 +6,9 @@ use Rattle.bz_layout.specs.declared.config.Config.{Config}
 use Rattle.bz_mark.specs.declared.marks.Mark.{Mark}
 use Rattle.bz_sound.specs.Power.Times.{power_of}
 use Rattle.bz_sound.specs.declared.power.Power.TheVariants as power
-use Rattle.bz_world.specs.Lab.{Lab, power_in, flush_of}
-use Rattle.bz_world.specs.declared.answers.Which.{Which}
-use Rattle.bz_world.specs.declared.answers.Which.TheVariants as which
+use Rattle.bz_world.specs.WorldView.{WorldView, power_in, flush_of}
+use Rattle.bz_world.specs.declared.answers.LimitKind.{LimitKind}
+use Rattle.bz_world.specs.declared.answers.LimitKind.TheVariants as which
 use Rattle.bz_sched.specs.Cuts.{CutsOff, CutsOffInPart}
 use Rattle.bz_sched.specs.Cutting.{IsCutOff}
 use Rattle.bz_sched.specs.Plans.{IsBefore}
@@ -21,22 +21,22 @@ use Rattle.bz_sched.specs.declared.running.RunEnd.{RunEnd}
 use Rattle.bz_sched.specs.declared.running.RunEnd.TheVariants as end
 use Rattle.bz_sched.proofs.BurnLemmas.{due_flushes}
 
-stays_both : (a b c : Lab) → Stays a b → Stays b c → Stays a c
+stays_both : (a b c : WorldView) → Stays a b → Stays b c → Stays a c
 stays_both a b c h k = record { config = k.config ∙ h.config; at_start = k.at_start ∙ h.at_start; start = k.start ∙ h.start; limits = k.limits ∙ h.limits }
 
 -- a recovery that has begun is under way
-pub on_recovers : (old new : Lab) → IsStarted old new → power_in new ≡ power.Recovering
+pub on_recovers : (old new : WorldView) → IsStarted old new → power_in new ≡ power.Recovering
 on_recovers old new s = ap (power_of new.at_start) s.past
 
 -- a place was wanting before the recovery
-pub start_stops : (cut : Option CutPlan) (old new : Lab) → StartStopped old new → HasPower cut old (end.Limit which.Marks) new
+pub start_stops : (cut : Option CutPlan) (old new : WorldView) → StartStopped old new → HasPower cut old (end.Limit which.Marks) new
 start_stops cut old new h = elim h.past [
   | inl same ↦ (h.stays, (λ calls. (refl, inl (same, refl))), h.met)
   | inr off ↦ (h.stays, (λ calls. (refl, inr (inl (off, refl)))), h.met)
 ]
 
 -- the recovery began, and has come so far, with a cut armed or without
-module _ (old mid new : Lab) (fuse left : Option ℕ) (s : IsStarted old mid) (r : RecoversOn mid fuse new left) where
+module _ (old mid new : WorldView) (fuse left : Option ℕ) (s : IsStarted old mid) (r : RecoversOn mid fuse new left) where
   all_stay : Stays old new
   all_stay = stays_both old mid new s.stays r.stays
 
@@ -47,7 +47,7 @@ module _ (old mid new : Lab) (fuse left : Option ℕ) (s : IsStarted old mid) (r
     (λ calls. (subst (λ (past : List Mark). RecoversWhole past new.log.past) s.past whole, subst (λ (past : List Mark). IsBefore cut past new.log.past) s.past before, refl)),
   )
 
-  pub wake_limit : (cut : Option CutPlan) (why : Which) → IsBefore cut mid.log.past new.log.past → (count : ℕ) × RecoversTimes count mid.log.past new.log.past → why ≡ which.Marks → IsAtLimit new why → HasPower cut old (end.Limit why) new
+  pub wake_limit : (cut : Option CutPlan) (why : LimitKind) → IsBefore cut mid.log.past new.log.past → (count : ℕ) × RecoversTimes count mid.log.past new.log.past → why ≡ which.Marks → IsAtLimit new why → HasPower cut old (end.Limit why) new
   wake_limit cut why before (count, times) is met = (
     all_stay,
     (λ calls. (is, inr (inr (inl (count, subst (λ (past : List Mark). RecoversTimes count past new.log.past) s.past times, subst (λ (past : List Mark). IsBefore cut past new.log.past) s.past before, refl))))),
@@ -63,7 +63,7 @@ module _ (old mid new : Lab) (fuse left : Option ℕ) (s : IsStarted old mid) (r
     queue = refl;
   }
 
-  pub wake_cut : (cut : CutPlan) (end : RunEnd) (after : Lab) → ((calls : List (ℕ × Call)) → IsDueInRecovery old.at_start cut (point_with old calls) (point_with new calls)) → flush_of new 0 ≡ true → IsCutOff cut.seed new end after → HasPower (Some cut) old end after
+  pub wake_cut : (cut : CutPlan) (end : RunEnd) (after : WorldView) → ((calls : List (ℕ × Call)) → IsDueInRecovery old.at_start cut (point_with old calls) (point_with new calls)) → flush_of new 0 ≡ true → IsCutOff cut.seed new end after → HasPower (Some cut) old end after
   wake_cut cut end.Finished after due flush h = absurd h
   wake_cut cut end.Cut after due flush (stays, off, left_out, cuts) = (
     stays_both old new after all_stay stays,

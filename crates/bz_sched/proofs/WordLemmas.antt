@@ -3,7 +3,7 @@ use Rattle.std.proofs.Common.{◌≡◌, ◌≤◌, ◌<◌, ℕ, zero, suc, ◌
 use Rattle.std.proofs.lemmas.List.{drop_more}
 use Rattle.bz_script.specs.declared.turn_list.Turn.{Turn}
 use Rattle.bz_script.specs.RunLaws.{IsTurn as IsWord, AreTurns}
-use Rattle.bz_world.specs.Lab.{Lab}
+use Rattle.bz_world.specs.WorldView.{WorldView}
 use Rattle.bz_sched.specs.declared.turn.Stop.{Stop}
 use Rattle.bz_sched.specs.Points.{Point, is_busy, IsTurn}
 use Rattle.bz_sched.specs.Fuses.{Fused}
@@ -13,12 +13,12 @@ use Rattle.bz_sched.specs.TurnsInPart.{StopsTurn, TakesTurnsInPart, TakesWordInP
 use Rattle.bz_sched.proofs.ReadyLemmas.{keeps_none, keeps_both}
 
 -- so many turns of a worker were taken: what follows them follows from the start
-pub record Taking (w taken : ℕ) (old : Lab) (queued : Fused) (world : Lab) (left : Fused) : Type 0 where
+pub record Taking (w taken : ℕ) (old : WorldView) (queued : Fused) (world : WorldView) (left : Fused) : Type 0 where
   pub keeps : Keeps old queued world left
   pub whole : (more : ℕ) (new : Point) → TakesTurns w more (point_in world left) new → TakesTurns w (taken + more) (point_in old queued) new
   pub part : (why : Stop) (more : ℕ) (new : Point) → TakesTurnsInPart why w more (point_in world left) new → TakesTurnsInPart why w (taken + more) (point_in old queued) new
 
-pub taking_none : (w : ℕ) (old : Lab) (queued : Fused) → IsReady old → Taking w 0 old queued old queued
+pub taking_none : (w : ℕ) (old : WorldView) (queued : Fused) → IsReady old → Taking w 0 old queued old queued
 taking_none w old queued ready = record {
   keeps = keeps_none old queued ready;
   whole = λ more new takes. let all : more ≡ 0 + more = omega arith in subst (λ (count : ℕ). TakesTurns w count (point_in old queued) new) all takes;
@@ -26,7 +26,7 @@ taking_none w old queued ready = record {
 }
 
 -- a turn more
-pub taking_more : (w taken : ℕ) (old : Lab) (queued : Fused) (world : Lab) (left : Fused) (new : Lab) (after : Fused) → Taking w taken old queued world left
+pub taking_more : (w taken : ℕ) (old : WorldView) (queued : Fused) (world : WorldView) (left : Fused) (new : WorldView) (after : Fused) → Taking w taken old queued world left
     → Keeps world left new after → IsTurn w (point_in world left) (point_in new after) → Taking w (taken + 1) old queued new after
 taking_more w taken old queued world left new after t keeps turn = record {
   keeps = keeps_both old world new queued left after t.keeps keeps;
@@ -39,7 +39,7 @@ taking_more w taken old queued world left new after t keeps turn = record {
 }
 
 -- all were taken
-pub taking_all : (w taken count : ℕ) (old : Lab) (queued : Fused) (world : Lab) (left : Fused) → taken ≡ count → Taking w taken old queued world left
+pub taking_all : (w taken count : ℕ) (old : WorldView) (queued : Fused) (world : WorldView) (left : Fused) → taken ≡ count → Taking w taken old queued world left
     → Keeps old queued world left × TakesTurns w count (point_in old queued) (point_in world left)
 taking_all w taken count old queued world left is t =
     let all : taken + 0 ≡ count = omega arith in
@@ -50,18 +50,18 @@ idle_takes w zero point idle = refl
 idle_takes w (suc count) point idle = inl (idle, refl)
 
 -- the rest is left out
-pub taking_idle : (w taken count : ℕ) (old : Lab) (queued : Fused) (world : Lab) (left : Fused) → taken ≤ count → is_busy w (point_in world left) ≡ false → Taking w taken old queued world left
+pub taking_idle : (w taken count : ℕ) (old : WorldView) (queued : Fused) (world : WorldView) (left : Fused) → taken ≤ count → is_busy w (point_in world left) ≡ false → Taking w taken old queued world left
     → Keeps old queued world left × TakesTurns w count (point_in old queued) (point_in world left)
 taking_idle w taken count old queued world left few none t =
     let all : taken + (count - taken) ≡ count = omega arith in
     (t.keeps, subst (λ (n : ℕ). TakesTurns w n (point_in old queued) (point_in world left)) all (t.whole (count - taken) (point_in world left) (idle_takes w (count - taken) (point_in world left) none)))
 
 -- a limit is met
-taking_stops : (w taken more : ℕ) (old : Lab) (queued : Fused) (world : Lab) (left : Fused) (why : Stop) (new : Lab) (after : Fused) → Taking w taken old queued world left
+taking_stops : (w taken more : ℕ) (old : WorldView) (queued : Fused) (world : WorldView) (left : Fused) (why : Stop) (new : WorldView) (after : Fused) → Taking w taken old queued world left
     → StopsTurn why w (point_in world left) (point_in new after) → TakesTurnsInPart why w (taken + suc more) (point_in old queued) (point_in new after)
 taking_stops w taken more old queued world left why new after t stops = t.part why (suc more) (point_in new after) (inl stops)
 
-pub word_stops : (w taken count : ℕ) (old : Lab) (queued : Fused) (world : Lab) (left : Fused) (why : Stop) (new : Lab) (after : Fused) → taken < count → Taking w taken old queued world left
+pub word_stops : (w taken count : ℕ) (old : WorldView) (queued : Fused) (world : WorldView) (left : Fused) (why : Stop) (new : WorldView) (after : Fused) → taken < count → Taking w taken old queued world left
     → Keeps world left new after × StopsTurn why w (point_in world left) (point_in new after) × IsStopped new after.fuse why
     → Keeps old queued new after × TakesTurnsInPart why w count (point_in old queued) (point_in new after) × IsStopped new after.fuse why
 word_stops w taken count old queued world left why new after few t (keeps, stops, met) =
@@ -72,22 +72,22 @@ word_stops w taken count old queued world left why new after few t (keeps, stops
     )
 
 -- turns until nothing is to do
-pub record TakingSome (w : ℕ) (old : Lab) (queued : Fused) (world : Lab) (left : Fused) : Type 0 where
+pub record TakingSome (w : ℕ) (old : WorldView) (queued : Fused) (world : WorldView) (left : Fused) : Type 0 where
   pub taken : ℕ
   pub taking : Taking w taken old queued world left
 
-pub some_none : (w : ℕ) (old : Lab) (queued : Fused) → IsReady old → TakingSome w old queued old queued
+pub some_none : (w : ℕ) (old : WorldView) (queued : Fused) → IsReady old → TakingSome w old queued old queued
 some_none w old queued ready = record { taken = 0; taking = taking_none w old queued ready }
 
-pub some_more : (w : ℕ) (old : Lab) (queued : Fused) (world : Lab) (left : Fused) (new : Lab) (after : Fused) → TakingSome w old queued world left
+pub some_more : (w : ℕ) (old : WorldView) (queued : Fused) (world : WorldView) (left : Fused) (new : WorldView) (after : Fused) → TakingSome w old queued world left
     → Keeps world left new after × IsTurn w (point_in world left) (point_in new after) → TakingSome w old queued new after
 some_more w old queued world left new after s (keeps, turn) = record { taken = s.taken + 1; taking = taking_more w s.taken old queued world left new after s.taking keeps turn }
 
-pub one_ends : (w : ℕ) (old : Lab) (queued : Fused) (world : Lab) (left : Fused) → is_busy w (point_in world left) ≡ false → TakingSome w old queued world left
+pub one_ends : (w : ℕ) (old : WorldView) (queued : Fused) (world : WorldView) (left : Fused) → is_busy w (point_in world left) ≡ false → TakingSome w old queued world left
     → Keeps old queued world left × EndsOne w (point_in old queued) (point_in world left)
 one_ends w old queued world left none s = (s.taking.keeps, (s.taken + 0, s.taking.whole 0 (point_in world left) refl, none))
 
-pub one_stops : (w : ℕ) (old : Lab) (queued : Fused) (world : Lab) (left : Fused) (why : Stop) (new : Lab) (after : Fused) → TakingSome w old queued world left
+pub one_stops : (w : ℕ) (old : WorldView) (queued : Fused) (world : WorldView) (left : Fused) (why : Stop) (new : WorldView) (after : Fused) → TakingSome w old queued world left
     → Keeps world left new after × StopsTurn why w (point_in world left) (point_in new after) × IsStopped new after.fuse why
     → Keeps old queued new after × EndsOneInPart why w (point_in old queued) (point_in new after) × IsStopped new after.fuse why
 one_stops w old queued world left why new after s (keeps, stops, met) = (
@@ -97,12 +97,12 @@ one_stops w old queued world left why new after s (keeps, stops, met) = (
 )
 
 -- words of a list were done: what follows them follows from the start
-pub record Listing (turns : List Turn) (i : ℕ) (old : Lab) (queued : Fused) (world : Lab) (left : Fused) : Type 0 where
+pub record Listing (turns : List Turn) (i : ℕ) (old : WorldView) (queued : Fused) (world : WorldView) (left : Fused) : Type 0 where
   pub keeps : Keeps old queued world left
   pub whole : (new : Point) → RunsList (drop i turns) (point_in world left) new → RunsList turns (point_in old queued) new
   pub part : (why : Stop) (new : Point) → RunsListInPart why (drop i turns) (point_in world left) new → RunsListInPart why turns (point_in old queued) new
 
-pub listing_none : (turns : List Turn) (old : Lab) (queued : Fused) → IsReady old → Listing turns 0 old queued old queued
+pub listing_none : (turns : List Turn) (old : WorldView) (queued : Fused) → IsReady old → Listing turns 0 old queued old queued
 listing_none turns old queued ready = record { keeps = keeps_none old queued ready; whole = λ new runs. runs; part = λ why new runs. runs }
 
 -- the word that is read
@@ -119,7 +119,7 @@ word_is (turn ∷ turns) (suc i) other lt = same_word turns i other (get_or turn
 word_here : (turns : List Turn) (i : ℕ) (turn : Turn) → i < length turns → turn ≡ get_or turns i turn → drop i turns ≡ turn ∷ drop (i + 1) turns
 word_here turns i turn lt is = drop_more turns i turn lt ∙ ap (λ (word : Turn). word ∷ drop (i + 1) turns) (sym is)
 
-pub listing_more : (turns : List Turn) (i : ℕ) (turn : Turn) (old : Lab) (queued : Fused) (world : Lab) (left : Fused) (new : Lab) (after : Fused) → i < length turns → turn ≡ get_or turns i turn
+pub listing_more : (turns : List Turn) (i : ℕ) (turn : Turn) (old : WorldView) (queued : Fused) (world : WorldView) (left : Fused) (new : WorldView) (after : Fused) → i < length turns → turn ≡ get_or turns i turn
     → Listing turns i old queued world left → Keeps world left new after × TakesWord turn (point_in world left) (point_in new after) → Listing turns (i + 1) old queued new after
 listing_more turns i turn old queued world left new after lt is l (keeps, takes) = record {
   keeps = keeps_both old world new queued left after l.keeps keeps;
@@ -127,7 +127,7 @@ listing_more turns i turn old queued world left new after lt is l (keeps, takes)
   part = λ why end runs. l.part why end (subst (λ (words : List Turn). RunsListInPart why words (point_in world left) end) (sym (word_here turns i turn lt is)) (inr (point_in new after, takes, runs)));
 }
 
-pub listing_stops : (turns : List Turn) (i : ℕ) (turn : Turn) (old : Lab) (queued : Fused) (world : Lab) (left : Fused) (why : Stop) (new : Lab) (after : Fused) → i < length turns → turn ≡ get_or turns i turn
+pub listing_stops : (turns : List Turn) (i : ℕ) (turn : Turn) (old : WorldView) (queued : Fused) (world : WorldView) (left : Fused) (why : Stop) (new : WorldView) (after : Fused) → i < length turns → turn ≡ get_or turns i turn
     → Listing turns i old queued world left → Keeps world left new after × TakesWordInPart why turn (point_in world left) (point_in new after) × IsStopped new after.fuse why
     → Keeps old queued new after × RunsListInPart why turns (point_in old queued) (point_in new after) × IsStopped new after.fuse why
 listing_stops turns i turn old queued world left why new after lt is l (keeps, takes, met) = (
@@ -145,7 +145,7 @@ none_behind [] i all = drop_of_none i
 none_behind (turn ∷ turns) zero all = absurd (omega arith)
 none_behind (turn ∷ turns) (suc i) all = none_behind turns i (omega arith)
 
-pub listing_done : (turns : List Turn) (i : ℕ) (old : Lab) (queued : Fused) (world : Lab) (left : Fused) → length turns ≤ i → Listing turns i old queued world left
+pub listing_done : (turns : List Turn) (i : ℕ) (old : WorldView) (queued : Fused) (world : WorldView) (left : Fused) → length turns ≤ i → Listing turns i old queued world left
     → Keeps old queued world left × RunsList turns (point_in old queued) (point_in world left)
 listing_done turns i old queued world left all l = (l.keeps, l.whole (point_in world left) (rw (none_behind turns i all) refl))
 

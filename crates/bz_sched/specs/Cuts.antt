@@ -1,6 +1,6 @@
 -- An armed cut: the words that the draws of its seed evict, and then the cut. The newest mark stands first.
 use Rattle.std.specs.Prelude.{◌≡◌, ℕ, zero, suc, ◌+◌, ◌==◌, not, nat_le, if◌then◌else◌, Bool, true, false, List, [], ◌∷◌, ◌++◌, ◌⊎◌, slice_index}
-use Rattle.bz_mark.specs.WordsAfter.{words_of}
+use Rattle.bz_mark.specs.WordsAfter.{words_after_marks}
 use Rattle.bz_mark.specs.declared.marks.Mark.{Mark}
 use Rattle.bz_mark.specs.declared.marks.Mark.TheVariants.{Evict, Cut}
 use Rattle.bz_script.specs.Draws.{next_state, draw_of}
@@ -9,7 +9,7 @@ use Rattle.bz_sched.specs.declared.cut.TheConstants.{EVICTED_FROM}
 
 -- the cached and the durable word at an address differ after these marks, over a memory with this start
 abbrev pub differs_at : List ℕ → List Mark → ℕ → Bool
-differs_at start past a = not (slice_index (words_of start past).cached a == slice_index (words_of start past).durable a)
+differs_at start past a = not (slice_index (words_after_marks start past).cached a == slice_index (words_after_marks start past).durable a)
 
 -- the word of the draw from this state is evicted
 abbrev pub is_drawn : ℕ → Bool

@@ -3,8 +3,8 @@ use Rattle.std.specs.Prelude.{◌≡◌, ◌<◌, ℕ, ◌+◌, List, ◌⊎◌,
 use Rattle.bz_mark.specs.declared.marks.Mark.{Mark}
 use Rattle.bz_script.specs.declared.item.Plan.{Plan}
 use Rattle.bz_script.specs.declared.item.Plan.TheVariants.{Alone, List as ByList, Turns as ByTurns, Threads}
-use Rattle.bz_world.specs.declared.answers.Which.{Which}
-use Rattle.bz_world.specs.declared.answers.Which.TheVariants as which
+use Rattle.bz_world.specs.declared.answers.LimitKind.{LimitKind}
+use Rattle.bz_world.specs.declared.answers.LimitKind.TheVariants as which
 use Rattle.bz_sched.specs.Cuts.{CutsOff, CutsOffInPart}
 use Rattle.bz_sched.specs.Points.{Point, flushes_of}
 use Rattle.bz_sched.specs.Together.{RunsThreads, RunsThreadsInPart}
@@ -58,6 +58,6 @@ CutInPart start words None plan old new = ⊥
 CutInPart start words (Some cut) plan old new = (mid : Point) × ((w : ℕ) × IsDueInRun words cut plan w old mid) × CutsOffInPart start words cut.seed mid new
 
 -- a run that met a limit: by itself, or in what belongs to the cut
-abbrev pub RunsInPart : Which → List ℕ → ℕ → Option CutPlan → Plan → Point → Point → Type 0
+abbrev pub RunsInPart : LimitKind → List ℕ → ℕ → Option CutPlan → Plan → Point → Point → Type 0
 RunsInPart why start words cut plan old new =
     (RunsByInPart (Limit why) words plan old new × IsBefore cut old.past new.past) ⊎ ((why ≡ which.Marks) × CutInPart start words cut plan old new)

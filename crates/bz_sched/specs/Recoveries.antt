@@ -5,8 +5,8 @@ use Rattle.bz_mark.specs.declared.marks.Mark.TheVariants.{Cut, On, Ready}
 use Rattle.bz_sound.specs.Power.Times.{power_of}
 use Rattle.bz_sound.specs.declared.power.Power.{Power}
 use Rattle.bz_sound.specs.declared.power.Power.TheVariants as power
-use Rattle.bz_world.specs.declared.answers.Which.{Which}
-use Rattle.bz_world.specs.declared.answers.Which.TheVariants as which
+use Rattle.bz_world.specs.declared.answers.LimitKind.{LimitKind}
+use Rattle.bz_world.specs.declared.answers.LimitKind.TheVariants as which
 use Rattle.bz_sched.specs.Cuts.{CutsOff, CutsOffInPart}
 use Rattle.bz_sched.specs.Points.{Point, actor, flushes_of}
 use Rattle.bz_sched.specs.Plans.{IsBefore}
@@ -61,7 +61,7 @@ CutInRecoveryInPart at_start start words (Some cut) old new = (mid : Point) × I
 
 -- the limit on marks forbade what was to come: the cut of the power that is on, power on, an act of the recovery, or what
 -- belongs to the armed cut
-abbrev pub PowersInPart : Which → Power → List ℕ → ℕ → Option CutPlan → Point → Point → Type 0
+abbrev pub PowersInPart : LimitKind → Power → List ℕ → ℕ → Option CutPlan → Point → Point → Type 0
 PowersInPart why at_start start words cut old new =
     (why ≡ which.Marks)
     × (((new.past ≡ old.past) × (new.queue ≡ old.queue))

@@ -7,7 +7,7 @@ use Rattle.bz_script.specs.declared.item.Item.TheVariants.{Queue, Arm, Run, Powe
 use Rattle.bz_script.specs.declared.item.Plan.{Plan}
 use Rattle.bz_script.specs.declared.item.Plan.TheVariants.{Threads}
 use Rattle.bz_sound.specs.declared.power.Power.{Power as State}
-use Rattle.bz_world.specs.declared.answers.Which.{Which}
+use Rattle.bz_world.specs.declared.answers.LimitKind.{LimitKind}
 use Rattle.bz_sched.specs.OpenCalls.{EndsCalls}
 use Rattle.bz_sched.specs.Plans.{RunsWhole, RunsCut, RunsInPart}
 use Rattle.bz_sched.specs.Points.{Point}
@@ -30,7 +30,7 @@ LeadsTo at_start start words armed old (Power ∷ items) new =
     (mid : Point) × (Powers at_start armed old mid ⊎ PowersCut at_start start words armed old mid) × LeadsTo at_start start words None mid items new
 
 -- they lead there up to an item that met a limit; the items behind it are left out
-abbrev pub LeadsToInPart : Which → State → List ℕ → ℕ → Option CutPlan → Point → List Item → List Mark → Type 0
+abbrev pub LeadsToInPart : LimitKind → State → List ℕ → ℕ → Option CutPlan → Point → List Item → List Mark → Type 0
 LeadsToInPart why at_start start words armed old [] new = ⊥
 LeadsToInPart why at_start start words armed old (Queue w call ∷ items) new = LeadsToInPart why at_start start words armed (queued (w, call) old) items new
 LeadsToInPart why at_start start words armed old (Arm flush seed ∷ items) new = LeadsToInPart why at_start start words (Some (record { flush = flush; seed = seed })) old items new

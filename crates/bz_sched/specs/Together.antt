@@ -11,7 +11,7 @@ use Rattle.bz_sched.specs.Queued.{calls_of}
 use Rattle.bz_sched.specs.TurnsInPart.{StopsBy}
 use Rattle.bz_sched.specs.declared.turn.Stop.{Stop}
 use Rattle.bz_sched.specs.declared.turn.Stop.TheVariants.{Due, Limit}
-use Rattle.bz_world.specs.declared.answers.Which.{Which}
+use Rattle.bz_world.specs.declared.answers.LimitKind.{LimitKind}
 
 -- a mark of a call: its begin, an act, its effect or its end
 abbrev pub IsOfCall : Mark → Type 0
@@ -44,11 +44,11 @@ pub record MinglesWhole (old new : Point) : Type 0 where
   pub idle : (w : ℕ) → is_busy w new ≡ false
 
 -- where a worker stands that met a limit: its call was to begin, or to make an act
-abbrev pub StandsAt : Which → ℕ → Point → Type 0
+abbrev pub StandsAt : LimitKind → ℕ → Point → Type 0
 StandsAt why w point = (is_busy w point ≡ true) × StopsBy (Limit why) w point point
 
 -- they do so up to where each worker has ended its calls or met a limit; this is the limit of the lowest one that met one
-pub record MinglesInPart (why : Which) (old new : Point) : Type 0 where
+pub record MinglesInPart (why : LimitKind) (old new : Point) : Type 0 where
   pub mingles : Mingles old new
   pub worker : ℕ
   pub lowest : (w : ℕ) → w < worker → is_busy w new ≡ false
@@ -59,7 +59,7 @@ abbrev pub RunsThreads : Point → Point → Type 0
 RunsThreads old new = (mid : Point) × EndsCalls old mid × MinglesWhole mid new
 
 -- the same up to a limit
-abbrev pub RunsThreadsUpTo : Which → Point → Point → Type 0
+abbrev pub RunsThreadsUpTo : LimitKind → Point → Point → Type 0
 RunsThreadsUpTo why old new = EndsCallsInPart (Limit why) old new ⊎ ((mid : Point) × EndsCalls old mid × MinglesInPart why mid new)
 
 -- no cut is armed for it

@@ -7,7 +7,7 @@ use Rattle.bz_sound.specs.Calls.{open_call}
 use Rattle.bz_script.specs.Draws.{next_state, draw_of}
 use Rattle.bz_script.specs.declared.turn_list.Turn.{Turn}
 use Rattle.bz_script.specs.declared.turn_list.Turn.TheVariants.{Times}
-use Rattle.bz_world.specs.declared.answers.Which.TheVariants as which
+use Rattle.bz_world.specs.declared.answers.LimitKind.TheVariants as which
 use Rattle.bz_sched.specs.declared.turn.Stop.{Stop}
 use Rattle.bz_sched.specs.declared.turn.Stop.TheVariants.{Due, Limit}
 use Rattle.bz_sched.specs.Queued.{calls_of}

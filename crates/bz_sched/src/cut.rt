@@ -2,13 +2,13 @@
 ghost use Rattle.std.specs.Prelude.{◌≡◌, ◌≢◌, ◌<◌, true, false};
 ghost use Rattle.bz_layout.specs.Addresses.{words_of};
 ghost use Rattle.bz_sound.specs.declared.power.Power.TheVariants.{Off};
-ghost use Rattle.bz_world.specs.Lab.{power_in};
+ghost use Rattle.bz_world.specs.WorldView.{power_in};
 ghost use Rattle.bz_sched.specs.Cuts.{differs_at, state_behind};
 ghost use Rattle.bz_sched.specs.Cutting.{WordEvicted, HasNoPlace, WordPassed, PassStopped, WordsPassed, PassesStopped, AreEvicted, EvictionsStopped, IsCutOff};
 
 use crate::running::RunEnd;
 use bz_script::next_draw;
-use bz_world::{Applied, Event, Which, World};
+use bz_world::{Applied, Event, LimitKind, World};
 
 /// A cut of the power in a run, or in a recovery.
 #[derive(Clone, Copy, Debug, PartialEq, Eq)]
@@ -88,11 +88,11 @@ pub(crate) fn cut_off(world: &mut World, seed: u64) -> RunEnd
     ensures { IsCutOff seed world.old result world.new }
 {
     if !evict_drawn(world, seed) {
-        return RunEnd::Limit(Which::Marks);
+        return RunEnd::Limit(LimitKind::Marks);
     }
     match world.apply(Event::Cut) {
         Applied::Cut => RunEnd::Cut,
-        Applied::Limit => RunEnd::Limit(Which::Marks),
+        Applied::Limit => RunEnd::Limit(LimitKind::Marks),
         _ => unreachable!(),
     }
 }

@@ -17,7 +17,7 @@ use crate::queue::Queue;
 use crate::turn::{Stop, Turned, take_turn};
 use arrayvec::ArrayVec;
 use bz_script::next_draw;
-use bz_world::{Which, World};
+use bz_world::{LimitKind, World};
 
 // The workers that have something to do, in ascending order.
 fn list_busy(world: &World, queue: &Queue) -> ArrayVec<u8, 64>
@@ -43,7 +43,7 @@ fn evict(world: &mut World, a: u32) -> Turned
     if evict_word(world, a) {
         Turned::Finished
     } else {
-        Turned::Stopped(Stop::Limit(Which::Marks))
+        Turned::Stopped(Stop::Limit(LimitKind::Marks))
     }
 }
 

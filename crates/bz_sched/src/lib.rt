@@ -14,7 +14,7 @@ mod queue;
 mod running;
 mod turn;
 
-pub use bz_world::{BootError, OpenError, Power, Which, World};
+pub use bz_world::{BootError, LimitKind, OpenError, Power, World};
 pub use cut::{CutPlan, EVICTED_FROM};
 pub use open_calls::end_open_calls;
 pub use power_on::power;

@@ -1,7 +1,7 @@
 //! The calls that are open, ended one worker after the other.
 ghost use Rattle.std.specs.Prelude.{◌≡◌};
 ghost use Rattle.bz_sound.specs.declared.power.Power.TheVariants.{On};
-ghost use Rattle.bz_world.specs.Lab.{power_in};
+ghost use Rattle.bz_world.specs.WorldView.{power_in};
 ghost use Rattle.bz_sched.specs.Fuses.{with_fuse};
 ghost use Rattle.bz_sched.specs.OpenCalls.{EndsCall, EndsCalls, EndsCallInPart, EndsCallsInPart};
 ghost use Rattle.bz_sched.specs.Runs.{HasAllWorkers, IsOneOfAll, IsReady, EndsBy, HasEndedCalls};
@@ -9,7 +9,7 @@ ghost use Rattle.bz_sched.specs.Runs.{HasAllWorkers, IsOneOfAll, IsReady, EndsBy
 use crate::busy::has_open;
 use crate::queue::Queue;
 use crate::turn::{Stop, Turned, take_turn};
-use bz_world::{Which, World};
+use bz_world::{LimitKind, World};
 
 // Takes turns of a worker until no call of it is open.
 fn end_call(world: &mut World, queue: &mut Queue, fuse: &mut Option<u32>, w: u8) -> Turned
@@ -41,7 +41,7 @@ fn end_calls(world: &mut World, queue: &mut Queue, fuse: &mut Option<u32>) -> Tu
 }
 
 /// Ends the calls that are open, one worker after the other, and begins none. Tells the limit that was met, if one was.
-pub fn end_open_calls(world: &mut World, queue: &mut Queue) -> Option<Which>
+pub fn end_open_calls(world: &mut World, queue: &mut Queue) -> Option<LimitKind>
     requires powered { power_in world.old ≡ On }
     requires workers { HasAllWorkers world.old.config }
     ensures { HasEndedCalls world.old queue.old result world.new queue.new }

@@ -1,7 +1,7 @@
 //! Power on.
 ghost use Rattle.std.specs.Prelude.{IsTrue, ◌↔◌, ◌≡◌, ◌≢◌, ◌<◌, ◌≤◌, true, false, None, Some};
 ghost use Rattle.bz_sound.specs.declared.power.Power.TheVariants.{Off, Recovering};
-ghost use Rattle.bz_world.specs.Lab.{power_in};
+ghost use Rattle.bz_world.specs.WorldView.{power_in};
 ghost use Rattle.bz_sched.specs.Cutting.{HasNoPlace};
 ghost use Rattle.bz_sched.specs.Powering.{IsOff, IsOn, IsStarted, StartStopped, EndsRecovery, HasRecovered};
 ghost use Rattle.bz_sched.specs.Runs.{IsCutPlan, HasPower, marks_left};
@@ -12,7 +12,7 @@ use crate::fuse::{burn, lets};
 use crate::running::RunEnd;
 use crate::turn::{Stop, Turned};
 use bz_sound::Power;
-use bz_world::{Applied, Event, Which, World};
+use bz_world::{Applied, Event, LimitKind, World};
 
 // Cuts the power where it is on, and tells whether a place was left in the journal for that.
 fn turn_off(world: &mut World) -> bool
@@ -59,7 +59,7 @@ fn recover_once(world: &mut World, fuse: &mut Option<u32>) -> Turned
             burn(fuse, flush);
             Turned::Finished
         }
-        Applied::Limit => Turned::Stopped(Stop::Limit(Which::Marks)),
+        Applied::Limit => Turned::Stopped(Stop::Limit(LimitKind::Marks)),
         _ => unreachable!(),
     }
 }
@@ -102,7 +102,7 @@ fn power_unarmed(world: &mut World) -> RunEnd
     ensures { HasPower None world.old result world.new }
 {
     if !start_recovery(world) {
-        return RunEnd::Limit(Which::Marks);
+        return RunEnd::Limit(LimitKind::Marks);
     }
     let mut fuse = None;
     match recover(world, &mut fuse) {
@@ -119,7 +119,7 @@ fn power_armed(world: &mut World, cut: CutPlan) -> RunEnd
     ensures { HasPower (Some cut) world.old result world.new }
 {
     if !start_recovery(world) {
-        return RunEnd::Limit(Which::Marks);
+        return RunEnd::Limit(LimitKind::Marks);
     }
     let mut fuse = Some(cut.flush - 1);
     match recover(world, &mut fuse) {

@@ -3,7 +3,7 @@ ghost use Rattle.std.specs.Prelude.{◌≡◌, ◌≢◌, ◌≤◌, None, Some}
 ghost use Rattle.bz_layout.specs.Addresses.{words_of};
 ghost use Rattle.bz_script.specs.RunLaws.{IsPlan};
 ghost use Rattle.bz_sound.specs.declared.power.Power.TheVariants.{Off, On};
-ghost use Rattle.bz_world.specs.Lab.{power_in};
+ghost use Rattle.bz_world.specs.WorldView.{power_in};
 ghost use Rattle.bz_sched.specs.Cutting.{IsCutRun};
 ghost use Rattle.bz_sched.specs.Fuses.{with_fuse};
 ghost use Rattle.bz_sched.specs.Plans.{RunsBy, RunsByInPart};
@@ -16,7 +16,7 @@ use crate::list::run_list;
 use crate::queue::Queue;
 use crate::turn::{Stop, Turned};
 use bz_script::Plan;
-use bz_world::{Which, World};
+use bz_world::{LimitKind, World};
 
 /// How a run, or power on, ended.
 #[derive(Clone, Copy, Debug, PartialEq, Eq)]
@@ -28,7 +28,7 @@ pub enum RunEnd {
     Cut,
 
     /// A limit of the journal was met, and one more was needed.
-    Limit(Which),
+    Limit(LimitKind),
 }
 
 // Takes the turns of a plan.

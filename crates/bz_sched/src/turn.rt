@@ -11,7 +11,7 @@ ghost use Rattle.bz_sched.specs.declared.turn.Turned.TheVariants.{Finished};
 use crate::busy::has_open;
 use crate::fuse::{burn, lets};
 use crate::queue::Queue;
-use bz_world::{Applied, Begun, Event, Which, World};
+use bz_world::{Applied, Begun, Event, LimitKind, World};
 
 /// Why the turns of a run stopped before its plan was done.
 #[derive(Clone, Copy, Debug, PartialEq, Eq)]
@@ -20,7 +20,7 @@ pub(crate) enum Stop {
     Due(u8),
 
     /// A limit of the journal was met, and one more was needed.
-    Limit(Which),
+    Limit(LimitKind),
 }
 
 /// How the turns of a run, or a part of them, ended.
@@ -85,7 +85,7 @@ fn step(world: &mut World, fuse: &mut Option<u32>, w: u8) -> Turned
             burn(fuse, flush);
             Turned::Finished
         }
-        Applied::Limit => Turned::Stopped(Stop::Limit(Which::Marks)),
+        Applied::Limit => Turned::Stopped(Stop::Limit(LimitKind::Marks)),
         _ => unreachable!(),
     }
 }

@@ -3,7 +3,7 @@ use Rattle.std.proofs.Common.{◌≡◌, ◌<◌, ℕ, ◌+◌, List, [], ◌∷
 use Rattle.std.proofs.lemmas.List.{drop_more}
 use Rattle.bz_script.specs.Items.{Items}
 use Rattle.bz_script.specs.Order.{at_first, after}
-use Rattle.bz_script.specs.Words.{texts_of, words_of}
+use Rattle.bz_script.specs.Words.{texts_of, words_in_line}
 use Rattle.bz_script.specs.Script.{Fault, item_of, items_of, then_items}
 use Rattle.bz_script.specs.declared.fault.ScriptRule.{ScriptRule}
 use Rattle.bz_script.specs.declared.item.Item.{Item}
@@ -34,13 +34,13 @@ two_on lines i d h =
     drop_more lines i d here ∙ ap (λ rest. get_or lines i d ∷ rest) (drop_more lines (i + 1) d h)
 
 -- a line that gives an item
-items_more : (number : ℕ) (standing : Standing) (lines : List (Bor (List ℕ))) (i : ℕ) (d : Bor (List ℕ)) (item : Item) (items : List Item) → i + 1 < length lines → item_of standing (words_of (get_or lines i d).now) ≡ Ok item
+items_more : (number : ℕ) (standing : Standing) (lines : List (Bor (List ℕ))) (i : ℕ) (d : Bor (List ℕ)) (item : Item) (items : List Item) → i + 1 < length lines → item_of standing (words_in_line (get_or lines i d).now) ≡ Ok item
     → onto_items (items ++ item ∷ []) (items_of (number + 1) (after standing item) (texts_of (drop (i + 1) lines))) ≡ onto_items items (items_of number standing (texts_of (drop i lines)))
 items_more number standing lines i d item items h read =
     rw (two_on lines i d h, drop_more lines (i + 1) d h, read) (sym (onto_then number items item (items_of (number + 1) (after standing item) (texts_of (get_or lines (i + 1) d ∷ drop (i + 1 + 1) lines)))))
 
 -- a line that breaks a rule
-items_fault : (number : ℕ) (standing : Standing) (lines : List (Bor (List ℕ))) (i : ℕ) (d : Bor (List ℕ)) (rule : ScriptRule) → i + 1 < length lines → item_of standing (words_of (get_or lines i d).now) ≡ Err rule
+items_fault : (number : ℕ) (standing : Standing) (lines : List (Bor (List ℕ))) (i : ℕ) (d : Bor (List ℕ)) (rule : ScriptRule) → i + 1 < length lines → item_of standing (words_in_line (get_or lines i d).now) ≡ Err rule
     → items_of number standing (texts_of (drop i lines)) ≡ Err (record { line = number; rule = rule })
 items_fault number standing lines i d rule h read = rw (two_on lines i d h, read) refl
 
@@ -52,7 +52,7 @@ read_none items last lines none room = record {
 }
 
 -- one item more was read
-pub read_more : (items longer : Items) (standing next : Standing) (i last : ℕ) (lines : List (Bor (List ℕ))) (d : Bor (List ℕ)) (item : Item) → i < last → last + 1 ≡ length lines → item_of standing (words_of (get_or lines i d).now) ≡ Ok item
+pub read_more : (items longer : Items) (standing next : Standing) (i last : ℕ) (lines : List (Bor (List ℕ))) (d : Bor (List ℕ)) (item : Item) → i < last → last + 1 ≡ length lines → item_of standing (words_in_line (get_or lines i d).now) ≡ Ok item
     → next ≡ after standing item → longer.items ≡ items.items ++ item ∷ [] → longer.room + 1 ≡ items.room → IsRead items standing i last lines → IsRead longer next (i + 1) last lines
 read_more items longer standing next i last lines d item h counted read follows added room before =
     let number : i + 1 + 2 ≡ i + 2 + 1 = omega arith in
@@ -63,7 +63,7 @@ read_more items longer standing next i last lines d item h counted read follows 
     }
 
 -- the first fault
-pub read_fault : (items : Items) (standing : Standing) (i last : ℕ) (lines : List (Bor (List ℕ))) (d : Bor (List ℕ)) (rule : ScriptRule) → i < last → last + 1 ≡ length lines → item_of standing (words_of (get_or lines i d).now) ≡ Err rule
+pub read_fault : (items : Items) (standing : Standing) (i last : ℕ) (lines : List (Bor (List ℕ))) (d : Bor (List ℕ)) (rule : ScriptRule) → i < last → last + 1 ≡ length lines → item_of standing (words_in_line (get_or lines i d).now) ≡ Err rule
     → IsRead items standing i last lines → items_of 2 at_first (texts_of lines) ≡ Err (record { line = i + 2; rule = rule })
 read_fault items standing i last lines d rule h counted read before =
     sym before.so_far ∙ rw (items_fault (i + 2) standing lines i d rule (omega arith) read) refl

@@ -5,7 +5,7 @@ use Rattle.std.proofs.lemmas.List.{length-map}
 use Rattle.std.proofs.lemmas.List.Splits.{length-slice_split}
 use Rattle.std.proofs.lemmas.List.Sums.{count_by-le-length}
 use Rattle.bz_script.specs.Order.{at_first}
-use Rattle.bz_script.specs.Words.{texts_of, words_of}
+use Rattle.bz_script.specs.Words.{texts_of, words_in_line}
 use Rattle.bz_script.specs.Script.{Fault, IsFault, first_of, items_of, then_job, script_of_lines}
 use Rattle.bz_script.specs.declared.fault.ScriptFault.{ScriptFault}
 use Rattle.bz_script.specs.declared.fault.ScriptRule.{ScriptRule}
@@ -27,18 +27,18 @@ parts_counted p parts bytes same =
 
 -- where a further part follows, the first line is read and then the later ones
 two_parts : (image : Option (ℕ × ℕ)) (parts : List (Bor (List ℕ))) (d : Bor (List ℕ)) → 1 < length parts
-    → script_of_lines image (texts_of parts) ≡ then_job (first_of image (words_of (get_or parts 0 d).now)) (items_of 2 at_first (texts_of (drop 1 parts)))
+    → script_of_lines image (texts_of parts) ≡ then_job (first_of image (words_in_line (get_or parts 0 d).now)) (items_of 2 at_first (texts_of (drop 1 parts)))
 two_parts image [] d h = absurd (omega arith)
 two_parts image (line ∷ []) d h = absurd (omega arith)
 two_parts image (line ∷ next ∷ lines) d h = refl
 
 -- a first line that breaks a rule
-pub first_fault : (image : Option (ℕ × ℕ)) (parts : List (Bor (List ℕ))) (d : Bor (List ℕ)) (rule : ScriptRule) → 1 < length parts → first_of image (words_of (get_or parts 0 d).now) ≡ Err rule
+pub first_fault : (image : Option (ℕ × ℕ)) (parts : List (Bor (List ℕ))) (d : Bor (List ℕ)) (rule : ScriptRule) → 1 < length parts → first_of image (words_in_line (get_or parts 0 d).now) ≡ Err rule
     → script_of_lines image (texts_of parts) ≡ Err (record { line = 1; rule = rule })
 first_fault image parts d rule more read = two_parts image parts d more ∙ rw read refl
 
 -- a first line that breaks none
-pub first_read : (image : Option (ℕ × ℕ)) (parts : List (Bor (List ℕ))) (d : Bor (List ℕ)) (sizes : Sizes) → 1 < length parts → first_of image (words_of (get_or parts 0 d).now) ≡ Ok sizes
+pub first_read : (image : Option (ℕ × ℕ)) (parts : List (Bor (List ℕ))) (d : Bor (List ℕ)) (sizes : Sizes) → 1 < length parts → first_of image (words_in_line (get_or parts 0 d).now) ≡ Ok sizes
     → script_of_lines image (texts_of parts) ≡ then_job (Ok sizes) (items_of 2 at_first (texts_of (drop 1 parts)))
 first_read image parts d sizes more read = two_parts image parts d more ∙ rw read refl
 

@@ -1,6 +1,6 @@
 -- What it is to be the first fault, said for each part between line feeds by itself; only Order looks at the lines before it.
 use Rattle.std.specs.Prelude.{◌≡◌, ◌<◌, ℕ, zero, suc, ◌+◌, ◌==◌, if◌then◌else◌, List, [], ◌∷◌, length, drop, Option, Some, None, Result, Ok, Err, MatchResult}
-use Rattle.bz_script.specs.Words.{words_of, lines_of, word}
+use Rattle.bz_script.specs.Words.{words_in_line, lines_of, word}
 use Rattle.bz_script.specs.Order.{at_first}
 use Rattle.bz_script.specs.Script.{Fault, Job, first_of, item_of, standing_by, unended, script_of}
 use Rattle.bz_script.specs.declared.fault.ScriptRule.{ScriptRule}
@@ -22,17 +22,17 @@ rest_rule (b ∷ bytes) = Some NoEnd
 abbrev pub standing_at : Standing → List (List ℕ) → ℕ → Standing
 standing_at standing parts zero = standing
 standing_at standing [] (suc place) = standing
-standing_at standing (line ∷ parts) (suc place) = standing_at (standing_by standing (item_of standing (words_of line))) parts place
+standing_at standing (line ∷ parts) (suc place) = standing_at (standing_by standing (item_of standing (words_in_line line))) parts place
 
 -- the rule that a part behind the first line breaks: the last one stands behind the last line feed, and the others are lines
 abbrev pub later_rule : Standing → List (List ℕ) → ℕ → Option ScriptRule
 later_rule standing parts place =
-    if place + 1 == length parts then rest_rule (word parts place) else rule_of (item_of (standing_at standing parts place) (words_of (word parts place)))
+    if place + 1 == length parts then rest_rule (word parts place) else rule_of (item_of (standing_at standing parts place) (words_in_line (word parts place)))
 
 -- the rule that the part at a place breaks, the first at 0; where it is the only one, there is no line feed
 abbrev pub broken_at : Option (ℕ × ℕ) → List (List ℕ) → ℕ → Option ScriptRule
 broken_at image parts zero =
-    if length parts == 1 then Some (unended (word parts 0)) else rule_of (first_of image (words_of (word parts 0)))
+    if length parts == 1 then Some (unended (word parts 0)) else rule_of (first_of image (words_in_line (word parts 0)))
 broken_at image parts (suc place) = later_rule at_first (drop 1 parts) place
 
 -- no part breaks a rule

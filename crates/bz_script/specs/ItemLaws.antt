@@ -14,7 +14,7 @@ use Rattle.bz_script.specs.declared.fault.ScriptRule.{ScriptRule}
 use Rattle.bz_script.specs.declared.fault.ScriptRule.TheVariants.{Unknown, Words, Number, NoMemoryLine, Order}
 use Rattle.bz_script.specs.declared.order.Standing.{Standing}
 use Rattle.bz_script.specs.Number.{within, number_of, worker_of}
-use Rattle.bz_script.specs.Words.{word, is_word, words_of, lines_of}
+use Rattle.bz_script.specs.Words.{word, is_word, words_in_line, lines_of}
 use Rattle.bz_script.specs.Forms.{sizes_by, memory_of, queued, put_by, put_of, keyed_by, keyed_of, call_of, sized, entered, line_of}
 use Rattle.bz_script.specs.Order.{at_first, may_stand, AreInOrder}
 use Rattle.bz_script.specs.PowerForms.{cut_by, cut_of, power_of}
@@ -167,11 +167,11 @@ items_are number standing [] items is = no_items standing items cc
 items_are number standing ([] ∷ []) items is = no_items standing items cc
 items_are number standing ((b ∷ line) ∷ []) items is = absurd cc
 items_are number standing ([] ∷ next ∷ lines) items is =
-    items_then number standing (item_of standing (words_of [])) (items_of (number + 1) (standing_by standing (item_of standing (words_of []))) (next ∷ lines)) items (item_stands standing (words_of []))
-    (items_are (number + 1) (standing_by standing (item_of standing (words_of []))) (next ∷ lines)) is
+    items_then number standing (item_of standing (words_in_line [])) (items_of (number + 1) (standing_by standing (item_of standing (words_in_line []))) (next ∷ lines)) items (item_stands standing (words_in_line []))
+    (items_are (number + 1) (standing_by standing (item_of standing (words_in_line []))) (next ∷ lines)) is
 items_are number standing ((b ∷ line) ∷ next ∷ lines) items is =
-    items_then number standing (item_of standing (words_of (b ∷ line))) (items_of (number + 1) (standing_by standing (item_of standing (words_of (b ∷ line)))) (next ∷ lines)) items (item_stands standing (words_of (b ∷ line)))
-    (items_are (number + 1) (standing_by standing (item_of standing (words_of (b ∷ line)))) (next ∷ lines)) is
+    items_then number standing (item_of standing (words_in_line (b ∷ line))) (items_of (number + 1) (standing_by standing (item_of standing (words_in_line (b ∷ line)))) (next ∷ lines)) items (item_stands standing (words_in_line (b ∷ line)))
+    (items_are (number + 1) (standing_by standing (item_of standing (words_in_line (b ∷ line)))) (next ∷ lines)) is
 
 pub record AreSizes (sizes : Sizes) : Type 0 where
   pub some_nodes : 1 ≤ sizes.nodes
@@ -214,7 +214,7 @@ job_is (Ok sizes) (Ok items) job h k is =
 lines_job : (image : Option (ℕ × ℕ)) (lines : List (List ℕ)) (job : Job) → script_of_lines image lines ≡ Ok job → IsJob job
 lines_job image [] job is = absurd cc
 lines_job image (bytes ∷ []) job is = absurd cc
-lines_job image (line ∷ next ∷ lines) job is = job_is (first_of image (words_of line)) (items_of 2 at_first (next ∷ lines)) job (first_sizes image (words_of line)) (items_are 2 at_first (next ∷ lines)) is
+lines_job image (line ∷ next ∷ lines) job is = job_is (first_of image (words_in_line line)) (items_of 2 at_first (next ∷ lines)) job (first_sizes image (words_in_line line)) (items_are 2 at_first (next ∷ lines)) is
 
 -- a script's sizes are in range, its items are those that scripts have, and each may stand where it does
 pub scripts_are_jobs : (image : Option (ℕ × ℕ)) (bytes : List ℕ) (job : Job) → script_of image bytes ≡ Ok job → IsJob job

@@ -1,6 +1,6 @@
 -- What bytes are a script, and the first rule that others break.
 use Rattle.std.specs.Prelude.{◌≡◌, ℕ, ◌+◌, ◌==◌, ◌&&◌, if◌then◌else◌, List, [], ◌∷◌, codes, Option, Some, None, Result, Ok, Err}
-use Rattle.bz_script.specs.Words.{lines_of, words_of, is_word}
+use Rattle.bz_script.specs.Words.{lines_of, words_in_line, is_word}
 use Rattle.bz_script.specs.Forms.{memory_of, line_of}
 use Rattle.bz_script.specs.Order.{at_first, may_stand, after}
 use Rattle.bz_script.specs.declared.fault.ScriptRule.{ScriptRule}
@@ -64,7 +64,7 @@ items_of number standing [] = Ok []
 items_of number standing ([] ∷ []) = Ok []
 items_of number standing ((b ∷ line) ∷ []) = Err (record { line = number; rule = NoEnd })
 items_of number standing (line ∷ next ∷ lines) =
-    then_items number (item_of standing (words_of line)) (items_of (number + 1) (standing_by standing (item_of standing (words_of line))) (next ∷ lines))
+    then_items number (item_of standing (words_in_line line)) (items_of (number + 1) (standing_by standing (item_of standing (words_in_line line))) (next ∷ lines))
 
 -- the fault of the first line, or else the script that it makes with the items
 abbrev pub then_job : Result Sizes ScriptRule → Result (List Item) Fault → Result Job Fault
@@ -81,7 +81,7 @@ unended (b ∷ bytes) = NoEnd
 abbrev pub script_of_lines : Option (ℕ × ℕ) → List (List ℕ) → Result Job Fault
 script_of_lines image [] = Err (record { line = 1; rule = NoMemoryLine })
 script_of_lines image (bytes ∷ []) = Err (record { line = 1; rule = unended bytes })
-script_of_lines image (line ∷ next ∷ lines) = then_job (first_of image (words_of line)) (items_of 2 at_first (next ∷ lines))
+script_of_lines image (line ∷ next ∷ lines) = then_job (first_of image (words_in_line line)) (items_of 2 at_first (next ∷ lines))
 
 -- the script that the bytes are, or the first rule that they break. Where an image is given, with its
 -- numbers of nodes and swaps, the script is for that image.

@@ -12,8 +12,8 @@ abbrev pub lines_of : List ℕ → List (List ℕ)
 lines_of bytes = slice_split (λ b. b == 10) bytes
 
 -- the parts between single spaces
-abbrev pub words_of : List ℕ → List (List ℕ)
-words_of line = slice_split (λ b. b == 32) line
+abbrev pub words_in_line : List ℕ → List (List ℕ)
+words_in_line line = slice_split (λ b. b == 32) line
 
 -- the word at a place, counted from 0, or no bytes where there is none
 abbrev pub word : List (List ℕ) → ℕ → List ℕ

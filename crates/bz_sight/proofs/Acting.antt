@@ -19,7 +19,7 @@ use Rattle.bz_swap.specs.Evictions.{IsEviction, EvictsIn}
 use Rattle.bz_swap.specs.Held.{Holds, IsHeld}
 use Rattle.bz_swap.specs.PlainFields.{PlainFieldsStay}
 use Rattle.bz_swap.specs.Steps.{IsStep, IsAnswer}
-use Rattle.bz_swap.specs.SwapMemory.{SwapMemory, Doing, Idle, Reading, Swapping, Loading, Storing, Flushing, doing_of, is_named, words_of}
+use Rattle.bz_swap.specs.SwapMemory.{SwapMemory, Doing, Idle, Reading, Swapping, Loading, Storing, Flushing, doing_of, is_named, memory_words}
 use Rattle.bz_swap.specs.Writes.{StoresPrivate, StoresOwn}
 use Rattle.bz_swap.specs.declared.phase.Phase.{Phase}
 use Rattle.bz_swap.specs.declared.phase.Phase.TheVariants.{Opened, Running, Recovering}
@@ -52,9 +52,9 @@ act-either m (Store a v) b i = inl refl
 act-either m (Cas a before after found) b i = inl refl
 act-either m (Flush line) b i = flush-either m line b i
 
-step-either : (old new : SwapMemory) (made : Act) → IsMemory (words_of old) → IsActOf (words_of old) made (words_of new) → (b : ℕ) → (slice_index new.durable b ≡ slice_index old.durable b) ⊎ (slice_index new.durable b ≡ slice_index old.cached b)
+step-either : (old new : SwapMemory) (made : Act) → IsMemory (memory_words old) → IsActOf (memory_words old) made (memory_words new) → (b : ℕ) → (slice_index new.durable b ≡ slice_index old.durable b) ⊎ (slice_index new.durable b ≡ slice_index old.cached b)
 step-either old new made i act b =
-    subst (λ (n : Words). (slice_index n.durable b ≡ slice_index old.durable b) ⊎ (slice_index n.durable b ≡ slice_index old.cached b)) (sym act.after) (act-either (words_of old) made b i)
+    subst (λ (n : Words). (slice_index n.durable b ≡ slice_index old.durable b) ⊎ (slice_index n.durable b ≡ slice_index old.cached b)) (sym act.after) (act-either (memory_words old) made b i)
 
 -- what no step changes
 same-rest : (c : Config) (x : Instant) (old new : SwapMemory) (w : ℕ) (made : Act) (done : Done) (told : Option ℕ) → IsSeen c old x → IsStep old w made done told new → Holds new → SameRest old new
@@ -106,7 +106,7 @@ pub storing : StoringStepsStore
 storing c x old new w made done told a v seen step doing within =
     let told-so : (made ≡ Store a v) × (done ≡ Stored) = storing-answer new a v made done (subst (λ d. IsAnswer new d made done) doing step.one.answer) in
     let before : IsHeld old = held old seen.phase seen.holds in
-    let after : words_of new ≡ stored (words_of old) a v = step.one.act.after ∙ ap (after_act (words_of old)) told-so.0 in
+    let after : memory_words new ≡ stored (memory_words old) a v = step.one.act.after ∙ ap (after_act (memory_words old)) told-so.0 in
     record {
       act = told-so.0;
       answer = told-so.1;
@@ -128,12 +128,12 @@ pub flushing : FlushingStepsFlush
 flushing c x old new w made done told line seen step doing within =
     let told-so : (made ≡ Flush line) × (done ≡ Flushed) = flushing-answer new line made done (subst (λ d. IsAnswer new d made done) doing step.one.answer) in
     let before : IsHeld old = held old seen.phase seen.holds in
-    let after : words_of new ≡ flushed (words_of old) line = step.one.act.after ∙ ap (after_act (words_of old)) told-so.0 in
+    let after : memory_words new ≡ flushed (memory_words old) line = step.one.act.after ∙ ap (after_act (memory_words old)) told-so.0 in
     record {
       act = told-so.0;
       answer = told-so.1;
       quiet = no-effect done told step.later (λ e. absurd (let f : Flushed ≡ Busy = sym told-so.1 ∙ e in cc));
-      copies = λ b e. (let t : (b / 8 == line) ≡ true = grind (arith, common_steps) in ap (λ (n : Words). slice_index n.durable b) after ∙ ((flush (words_of old) line before.memory within).durable b ∙ rw t refl));
+      copies = λ b e. (let t : (b / 8 == line) ≡ true = grind (arith, common_steps) in ap (λ (n : Words). slice_index n.durable b) after ∙ ((flush (memory_words old) line before.memory within).durable b ∙ rw t refl));
     }
 
 pub quiet-step : PlainFieldsStay → QuietStepsPass

@@ -14,7 +14,7 @@ use Rattle.bz_key.specs.Packing.{packed, packed_len}
 use Rattle.bz_key.proofs.PackingLaws.{length-packed}
 use Rattle.bz_node.specs.Laws.{ReadsAsLeaf, LeavesAreRead}
 use Rattle.bz_node.specs.Layout.{Entry, IsEntry}
-use Rattle.bz_node.specs.Reading.{metas_in, payload_at, payload_len, shown, words_of, words_shown, extent_in, HasPair}
+use Rattle.bz_node.specs.Reading.{metas_in, payload_at, payload_len, shown, extent_words, words_shown, extent_in, HasPair}
 use Rattle.bz_node.specs.Records.{pair_entry, leaf_words, keys_of, IsPair, IsBefore, IsAtLeast, IsBelow, IsLeafList}
 use Rattle.bz_shape.specs.Order.{is_before, is_at_least, is_below, is_within}
 use Rattle.bz_word.specs.declared.meta.Meta.{Meta}
@@ -92,7 +92,7 @@ module _ (rs : List (List ℕ × List ℕ)) (lo hi : Option (List ℕ)) (each : 
   unfolding leaf
   shows i l = shows-made 0 lo hi (map pair_entry rs) h i (omega (arith, count, size))
 
-  inside : (i : ℕ) → i < (page leaf).count → (extent_of ((page leaf).meta i)).offset + words_of (extent_of ((page leaf).meta i)) ≤ length (leaf_words rs lo hi)
+  inside : (i : ℕ) → i < (page leaf).count → (extent_of ((page leaf).meta i)).offset + extent_words (extent_of ((page leaf).meta i)) ≤ length (leaf_words rs lo hi)
   unfolding leaf
   inside i l = omega (arith, h.front.size, (inside-made 0 lo hi (map pair_entry rs) h i (omega (arith, count, size))).ends)
 
@@ -141,7 +141,7 @@ module _ (rs : List (List ℕ × List ℕ)) (lo hi : Option (List ℕ)) (each : 
   unfolding leaf
   plain-key i l =
       let x : extent_of ((page leaf).meta i) ≡ ext 0 lo hi (map pair_entry rs) i = ext-made 0 lo hi (map pair_entry rs) h i (omega (arith, count, size)) in
-      let b : (ext 0 lo hi (map pair_entry rs) i).offset + words_of (ext 0 lo hi (map pair_entry rs) i) ≤ length (leaf_words rs lo hi) = rw x at (inside i l) in record {
+      let b : (ext 0 lo hi (map pair_entry rs) i).offset + extent_words (ext 0 lo hi (map pair_entry rs) i) ≤ length (leaf_words rs lo hi) = rw x at (inside i l) in record {
         stands = refl;
         packs = rw (x, part-at (leaf_words rs lo hi) (ext 0 lo hi (map pair_entry rs) i).offset (packed_len (ext 0 lo hi (map pair_entry rs) i).key) (omega arith)) (pair i l).key;
       }
@@ -150,7 +150,7 @@ module _ (rs : List (List ℕ × List ℕ)) (lo hi : Option (List ℕ)) (each : 
   unfolding leaf
   plain-payload i l =
       let x : extent_of ((page leaf).meta i) ≡ ext 0 lo hi (map pair_entry rs) i = ext-made 0 lo hi (map pair_entry rs) h i (omega (arith, count, size)) in
-      let b : (ext 0 lo hi (map pair_entry rs) i).offset + words_of (ext 0 lo hi (map pair_entry rs) i) ≤ length (leaf_words rs lo hi) = rw x at (inside i l) in record {
+      let b : (ext 0 lo hi (map pair_entry rs) i).offset + extent_words (ext 0 lo hi (map pair_entry rs) i) ≤ length (leaf_words rs lo hi) = rw x at (inside i l) in record {
         stands = refl;
         packs = rw (x, part-at (leaf_words rs lo hi) (payload_at (ext 0 lo hi (map pair_entry rs) i)) (packed_len (payload_len (ext 0 lo hi (map pair_entry rs) i))) (omega arith)) (pair i l).payload;
       }

@@ -10,7 +10,7 @@ use Rattle.std.proofs.lemmas.Slice.Eq.{bytes_eq-Decides}
 use Rattle.std.proofs.lemmas.List.{append-nil}
 use Rattle.std.proofs.lemmas.List.Concat.{flat_map-append}
 use Rattle.std.proofs.lemmas.List.FromFn.{map-range_with_len_more}
-use Rattle.bz_node.specs.Reading.{payload_at, payload_len, words_of, pair_in, shown}
+use Rattle.bz_node.specs.Reading.{payload_at, payload_len, extent_words, pair_in, shown}
 use Rattle.bz_key.specs.Packing.{packed_len, unpacked}
 use Rattle.bz_word.specs.declared.meta.Extent.{Extent}
 use Rattle.bz_word.specs.declared.meta.Meta.{Meta}
@@ -23,13 +23,13 @@ use Rattle.bz_slotted.proofs.Lists.{part-at}
 use Rattle.bz_slotted.proofs.Searches.{search-none}
 
 -- a record that lies within the words is read alike
-pub pair-read : (words : List ℕ) (e : Extent) → e.offset + words_of e ≤ length words → pair_in words e ≡ (key_in (node_of words) e, payload_in (node_of words) e)
+pub pair-read : (words : List ℕ) (e : Extent) → e.offset + extent_words e ≤ length words → pair_in words e ≡ (key_in (node_of words) e, payload_in (node_of words) e)
 pair-read words e within = λ i. (
   ap (unpacked e.key) (sym (part-at words e.offset (packed_len e.key) (omega arith))) i,
   ap (unpacked (payload_len e)) (sym (part-at words (payload_at e) (packed_len (payload_len e)) (omega arith))) i,
 )
 
-shown-read : (words : List ℕ) (m : Meta) → (visible m ≡ true → (extent_of m).offset + words_of (extent_of m) ≤ length words) →
+shown-read : (words : List ℕ) (m : Meta) → (visible m ≡ true → (extent_of m).offset + extent_words (extent_of m) ≤ length words) →
     shown words m ≡ if visible m then (key_in (node_of words) (extent_of m), payload_in (node_of words) (extent_of m)) ∷ [] else []
 unfolding visible extent_of
 shown-read words Unused h = refl
@@ -37,7 +37,7 @@ shown-read words (Reserved e) h = refl
 shown-read words (Visible e) h = ap (λ (x : List ℕ × List ℕ). x ∷ []) (pair-read words e (h refl))
 shown-read words (Deleted k t) h = refl
 
-pub records-range : (words : List ℕ) (meta : ℕ → Meta) (n : ℕ) → ((i : ℕ) → i < n → visible (meta i) ≡ true → (extent_of (meta i)).offset + words_of (extent_of (meta i)) ≤ length words) →
+pub records-range : (words : List ℕ) (meta : ℕ → Meta) (n : ℕ) → ((i : ℕ) → i < n → visible (meta i) ≡ true → (extent_of (meta i)).offset + extent_words (extent_of (meta i)) ≤ length words) →
     flat_map (shown words) (map meta (range_with_len 0 n)) ≡ records_to (node_of words) meta n
 unfolding records_to
 records-range words meta zero h = refl

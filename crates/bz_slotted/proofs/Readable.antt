@@ -7,7 +7,7 @@ use Rattle.std.specs.Cmp.Lexicographic.{slice_cmp}
 use Rattle.std.specs.Ordering.{nat_cmp}
 use Rattle.bz_key.specs.Packing.{packed_len, unpacked_key, unpacked_payload}
 use Rattle.bz_layout.specs.declared.sizes.TheConstants.{NODE_WORDS, META_AT, SHARED_WORDS}
-use Rattle.bz_node.specs.Reading.{count_in, meta_in, metas_in, payload_at, payload_len, pairs_in, pair_in, live_in, shown, words_shown, words_of, IsReadable, HasPair}
+use Rattle.bz_node.specs.Reading.{count_in, meta_in, metas_in, payload_at, payload_len, pairs_in, pair_in, live_in, shown, words_shown, extent_words, IsReadable, HasPair}
 use Rattle.bz_word.specs.declared.meta.Extent.{Extent}
 use Rattle.bz_word.specs.declared.meta.Meta.{Meta}
 use Rattle.bz_word.specs.declared.meta.Meta.TheVariants.{Visible}
@@ -50,7 +50,7 @@ module _ (raw : ℕ → ℕ) (words : List ℕ) (lo hi : Option (List ℕ)) (siz
   metas : metas_in words ≡ map (page (node_of words)).meta (range_with_len 0 (count_in words))
   metas = metas-range words size room readable.metas
 
-  inside : (i : ℕ) → i < count_in words → visible ((page (node_of words)).meta i) ≡ true → (extent_of ((page (node_of words)).meta i)).offset + words_of (extent_of ((page (node_of words)).meta i)) ≤ length words
+  inside : (i : ℕ) → i < count_in words → visible ((page (node_of words)).meta i) ≡ true → (extent_of ((page (node_of words)).meta i)).offset + extent_words (extent_of ((page (node_of words)).meta i)) ≤ length words
   inside i l v = omega (arith, size, (w.inside i l (held-visible ((page (node_of words)).meta i) v)).ends)
 
   live : live_in words ≡ live_to (page (node_of words)).meta (count_in words)
@@ -67,7 +67,7 @@ module _ (raw : ℕ → ℕ) (words : List ℕ) (lo hi : Option (List ℕ)) (siz
       let m : (page (node_of words)).meta i ≡ Visible e = seen i e l is in
       let v : visible ((page (node_of words)).meta i) ≡ true = visible-sees ((page (node_of words)).meta i) e m in
       let x : extent_of ((page (node_of words)).meta i) ≡ e = extent-sees ((page (node_of words)).meta i) e m in
-      let b : e.offset + words_of e ≤ length words = rw x at (inside i l v) in
+      let b : e.offset + extent_words e ≤ length words = rw x at (inside i l v) in
       let k : IsSome (unpacked_key e.key (words_at (node_of words) e.offset (packed_len e.key))) = rw x at (w.key i l v).packs in
       let p : IsSome (unpacked_payload (payload_len e) (words_at (node_of words) (payload_at e) (packed_len (payload_len e)))) = rw x at (w.payload i l v).packs in
       record {
@@ -80,7 +80,7 @@ module _ (raw : ℕ → ℕ) (words : List ℕ) (lo hi : Option (List ℕ)) (siz
   key-seen i e l is =
       let m : (page (node_of words)).meta i ≡ Visible e = seen i e l is in
       let x : extent_of ((page (node_of words)).meta i) ≡ e = extent-sees ((page (node_of words)).meta i) e m in
-      let b : e.offset + words_of e ≤ length words = rw x at (inside i l (visible-sees ((page (node_of words)).meta i) e m)) in
+      let b : e.offset + extent_words e ≤ length words = rw x at (inside i l (visible-sees ((page (node_of words)).meta i) e m)) in
       ap (λ (r : List ℕ × List ℕ). r.0) (pair-read words e b) ∙ ap (key_in (node_of words)) (sym x)
 
   shown-at : (i : ℕ) (e : Extent) → i < count_in words → meta_in words i ≡ Visible e → visible ((page (node_of words)).meta i) ≡ true

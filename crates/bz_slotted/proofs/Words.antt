@@ -6,7 +6,7 @@ use Rattle.std.proofs.lemmas.List.FromFn.{length-map-range_with_len, get_or-map-
 use Rattle.bz_key.specs.Packing.{packed_len, unpacked}
 use Rattle.bz_key.proofs.UnpackingLaws.{unpacked_key-sound}
 use Rattle.bz_layout.specs.declared.sizes.TheConstants.{FENCE_WORDS}
-use Rattle.bz_node.specs.Reading.{payload_at, payload_len, words_of}
+use Rattle.bz_node.specs.Reading.{payload_at, payload_len, extent_words}
 use Rattle.bz_word.specs.declared.meta.Extent.{Extent}
 use Rattle.bz_slotted.specs.Page.{words_at}
 use Rattle.bz_slotted.specs.Records.{key_words, payload_words, key_in, payload_in}
@@ -19,7 +19,7 @@ words_at-same f g at (suc count) h = rw (h at (omega arith) (omega arith), words
 
 -- two nodes agree on the words of a record
 abbrev pub Agree : (f g : ℕ → ℕ) → Extent → Type 0
-Agree f g e = (k : ℕ) → e.offset ≤ k → k < e.offset + words_of e → f k ≡ g k
+Agree f g e = (k : ℕ) → e.offset ≤ k → k < e.offset + extent_words e → f k ≡ g k
 
 pub key_words-same : (f g : ℕ → ℕ) (e : Extent) → Agree f g e → key_words f e ≡ key_words g e
 key_words-same f g e h = words_at-same f g e.offset (packed_len e.key) (λ k a b. h k a (omega arith))

@@ -1,7 +1,7 @@
 -- The records that a page shows, what a leaf says of a key, and the children of an inner node.
 use Rattle.std.specs.Prelude.{ℕ, zero, suc, ◌+◌, ◌&&◌, bytes_eq, if◌then◌else◌, List, [], ◌∷◌, ◌++◌, Option, Some, None}
 use Rattle.bz_key.specs.Packing.{packed_len, unpacked}
-use Rattle.bz_node.specs.Reading.{payload_at, payload_len, words_of}
+use Rattle.bz_node.specs.Reading.{payload_at, payload_len, extent_words}
 use Rattle.bz_word.specs.declared.meta.Extent.{Extent}
 use Rattle.bz_word.specs.declared.meta.Meta.{Meta}
 use Rattle.bz_slotted.specs.Page.{words_at, visible, extent_of, Page}
@@ -26,7 +26,7 @@ key_at p j = key_in p.word (extent_of (p.meta j))
 
 -- the block words of a record
 abbrev pub weight : Meta → ℕ
-weight m = words_of (extent_of m)
+weight m = extent_words (extent_of m)
 
 -- the block words of a record that is visible
 abbrev pub shown : Meta → ℕ

@@ -2,7 +2,7 @@
 ghost use Rattle.std.specs.Prelude.{◌≡◌, ◌+◌, ◌≤◌, ◌<◌, ◌^◌, length, true};
 ghost use Rattle.bz_key.specs.declared.limits.TheConstants.{KEY_BYTES as KEY, PAYLOAD_BYTES as PAYLOAD};
 ghost use Rattle.bz_layout.specs.declared.sizes.TheConstants.{NODE_WORDS as WORDS, SHARED_WORDS as SHARED, STATUS_AT as STATUS};
-ghost use Rattle.bz_node.specs.Reading.{words_of as words_in, payload_len};
+ghost use Rattle.bz_node.specs.Reading.{extent_words as words_in, payload_len};
 ghost use Rattle.bz_slotted.specs.Page.{page, extent_of as extent_in};
 ghost use Rattle.bz_slotted.specs.ReadingLaws.{node_of};
 ghost use Rattle.bz_slotted.specs.Records.{weight as words_held};

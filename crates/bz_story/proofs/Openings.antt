@@ -7,12 +7,12 @@ use Rattle.bz_pm.specs.Words.{Words}
 use Rattle.bz_sight.specs.Opening.{FreshMemoryIsSeen, fresh_instant}
 use Rattle.bz_sound.specs.Memory.Moments.{image_at}
 use Rattle.bz_swap.specs.Power.{IsOpened}
-use Rattle.bz_swap.specs.SwapMemory.{SwapMemory, words_of}
+use Rattle.bz_swap.specs.SwapMemory.{SwapMemory, memory_words}
 use Rattle.bz_story.specs.Opening.{FreshStoriesLive}
 
 -- the words of a memory as it was opened, whatever its phase
-opened-words : (m : SwapMemory) (start : List ℕ) (swaps workers : ℕ) → IsOpened m start swaps workers → ◌≡◌ {A = Words} (words_of m) (record { cached = start; durable = start })
-opened-words m start swaps workers o = ap words_of o.is
+opened-words : (m : SwapMemory) (start : List ℕ) (swaps workers : ℕ) → IsOpened m start swaps workers → ◌≡◌ {A = Words} (memory_words m) (record { cached = start; durable = start })
+opened-words m start swaps workers o = ap memory_words o.is
 
 -- the one moment's image is that of the words
 images : (c : Config) (i : ℕ) → 0 ≤ i → i ≤ 0 → (fresh_instant c).image ≡ image_at (fresh_words c) i []

@@ -20,7 +20,7 @@ use Rattle.bz_swap.specs.Held.{HoldsIn, IsHeld}
 use Rattle.bz_swap.specs.PlainFields.{PlainFieldsStay, HavePlainFields}
 use Rattle.bz_swap.specs.Power.{after_cut}
 use Rattle.bz_swap.specs.Starts.{MayRecover, begins_by_flush, started}
-use Rattle.bz_swap.specs.SwapMemory.{SwapMemory, Doing, Idle, Working, idle, words_of, doing_of}
+use Rattle.bz_swap.specs.SwapMemory.{SwapMemory, Doing, Idle, Working, idle, memory_words, doing_of}
 use Rattle.bz_swap.specs.declared.phase.Phase.{Phase}
 use Rattle.bz_swap.specs.declared.phase.Phase.TheVariants.{Opened, Running, Recovering}
 use Rattle.bz_task.specs.Instant.{Instant}
@@ -31,7 +31,7 @@ use Rattle.bz_story.specs.Recovering.{IsInRecovery, IsOff, Turn, Asked, Started,
 use Rattle.bz_story.specs.RecoveryLaws.{CutsLeaveTheImage, RecoveriesBegin, RecoveriesGoOn, ActsMayStart}
 
 -- a memory of these sizes has whole lines
-pub whole-lines : AddressesFit → (c : Config) (m : SwapMemory) → IsConfig c → length m.cached ≡ size_of c → length m.durable ≡ size_of c → IsMemory (words_of m)
+pub whole-lines : AddressesFit → (c : Config) (m : SwapMemory) → IsConfig c → length m.cached ≡ size_of c → length m.durable ≡ size_of c → IsMemory (memory_words m)
 whole-lines fit c m config cached durable = record {
   same = cached ∙ sym durable;
   lines = subst (λ n. n % 8 ≡ 0) (sym durable) (fit c config).lines;
@@ -86,7 +86,7 @@ cut b c v m h = record {
   };
   phase = λ e. cc;
   idle = rests m 0;
-  powered = b.keep c v (words_in m) (words_in (after_cut m)) h.image (b.acts.cut (words_of m) (whole-lines b.fit c m h.config h.cached h.durable));
+  powered = b.keep c v (words_in m) (words_in (after_cut m)) h.image (b.acts.cut (memory_words m) (whole-lines b.fit c m h.config h.cached h.durable));
 }
 
 -- outside a recovery time the memory is held

@@ -13,7 +13,7 @@ use Rattle.bz_layout.specs.declared.config.Config.{Config}
 use Rattle.bz_layout.specs.Slots.{FreeSlots}
 use Rattle.bz_mark.specs.Log.{Log, with_mark}
 use Rattle.bz_mark.proofs.MomentLaws.{at_moment-now}
-use Rattle.bz_mark.specs.WordsAfter.{words_of as words_after_marks, words_after}
+use Rattle.bz_mark.specs.WordsAfter.{words_after_marks, words_after}
 use Rattle.bz_mark.specs.declared.marks.Mark.{Mark}
 use Rattle.bz_mark.specs.declared.marks.Mark.TheVariants.{Evict, Ready}
 use Rattle.bz_pm.specs.Acts.{evicted, after_cut as words_after_cut}
@@ -31,7 +31,7 @@ use Rattle.bz_sound.specs.Memory.Spent.{is_taken, is_stored_into}
 use Rattle.bz_sound.specs.Power.Times.{since_on, image_at_on}
 use Rattle.bz_swap.specs.Power.{renewed}
 use Rattle.bz_swap.specs.Steps.{IsRawStep, StepsIn}
-use Rattle.bz_swap.specs.SwapMemory.{SwapMemory, words_of}
+use Rattle.bz_swap.specs.SwapMemory.{SwapMemory, memory_words}
 use Rattle.bz_story.specs.Living.{IsLiving}
 use Rattle.bz_story.proofs.Powering.{image-now}
 use Rattle.bz_story.specs.Recovering.{IsRecovering, Turn, Asked, Made, words_in}
@@ -83,8 +83,8 @@ act-words ws (act.Flush line) found = refl
 -- the durable words before and after such a mark, which hold the same
 record Keeps (c : Config) (old new : SwapMemory) (log : Log) (mark : Mark) : Type 0 where
   quiet : IsQuietMark log.start log.past mark
-  before : words_of old ≡ words_after_marks log.start log.past
-  after : words_of new ≡ words_after_marks log.start (mark ∷ log.past)
+  before : memory_words old ≡ words_after_marks log.start log.past
+  after : memory_words new ≡ words_after_marks log.start (mark ∷ log.past)
   same : SaysTheSame c (slice_index old.durable) (slice_index new.durable)
 
 still-decodes : (c : Config) (old new : SwapMemory) (log : Log) (mark : Mark) → Keeps c old new log mark → StillDecodes c log mark
@@ -124,7 +124,7 @@ cuts-marked law = record {
 }
 
 pub images-open : ImagesAreOff → ImagesOpenJournals
-images-open law c m image limits config size none is = record { off = law c m image config size none is; words = ap words_of is.is; calls = λ w. refl }
+images-open law c m image limits config size none is = record { off = law c m image config size none is; words = ap memory_words is.is; calls = λ w. refl }
 
 pub on-marked : RecoveriesBegin → PowerOnIsMarked
 on-marked law c v m log t off is-new = record {
@@ -155,7 +155,7 @@ acts-marked law c v old new log t made answer told r s =
     let k : Keeps c old new log (mark_of 0 made) = record {
       quiet = act-quiet log.start log.past made;
       before = r.words;
-      after = raw.one.act.after ∙ (sym (act-words (words_of old) made raw.one.act.found) ∙ ap (λ (ws : Words). words_after ws (mark_of 0 made)) r.words);
+      after = raw.one.act.after ∙ (sym (act-words (memory_words old) made raw.one.act.found) ∙ ap (λ (ws : Words). words_after ws (mark_of 0 made)) r.words);
       same = done.same;
     } in
     record {
@@ -167,7 +167,7 @@ acts-marked law c v old new log t made answer told r s =
 pub evictions-marked : EvictionsLeaveRecoveries → EvictionsAreMarked
 evictions-marked law c v old new log turn t a told r within h =
     let stays : StaysRecovering c v old new turn t told = law c v old new turn t a told r.recovering within h in
-    let words : words_of new ≡ evicted (words_of old) a = ap words_of h.is in
+    let words : memory_words new ≡ evicted (memory_words old) a = ap memory_words h.is in
     let k : Keeps c old new log (Evict a) = record {
       quiet = evict-quiet log.start log.past a;
       before = r.words;
@@ -185,7 +185,7 @@ none-open : (past : List Mark) (w : ℕ) (opened : Open) → open_call w past �
 none-open past w opened none some = let bad : None ≡ Some opened = sym none ∙ some in absurd cc
 
 -- the image of the moment where it begins
-first-image : (start : List ℕ) (past : List Mark) (m : SwapMemory) → words_of m ≡ words_after_marks start past → (i : ℕ) → suc (length past) ≤ i → i ≤ suc (length past) → slice_index m.durable ≡ image_at start i (Ready ∷ past)
+first-image : (start : List ℕ) (past : List Mark) (m : SwapMemory) → memory_words m ≡ words_after_marks start past → (i : ℕ) → suc (length past) ≤ i → i ≤ suc (length past) → slice_index m.durable ≡ image_at start i (Ready ∷ past)
 first-image start past m words i from to =
     let now : i ≡ length (Ready ∷ past) = omega (arith, from, to) in
     ap (λ (w : Words). slice_index w.durable) words ∙ sym (ap (λ k. image_at start k (Ready ∷ past)) now ∙ ap (image_after start) (at_moment-now (Ready ∷ past)))

@@ -21,7 +21,7 @@ use Rattle.bz_swap.specs.Evictions.{EvictsIn}
 use Rattle.bz_swap.specs.PlainFields.{PlainFieldsStay, WritesPlain}
 use Rattle.bz_swap.specs.Sizes.{SizesStay}
 use Rattle.bz_swap.specs.Steps.{IsAnswer, IsRawStep, StepsIn, doing_after}
-use Rattle.bz_swap.specs.SwapMemory.{SwapMemory, Idle, Swapping, Working, words_of, doing_of}
+use Rattle.bz_swap.specs.SwapMemory.{SwapMemory, Idle, Swapping, Working, memory_words, doing_of}
 use Rattle.bz_swap.specs.declared.phase.Phase.{Phase}
 use Rattle.bz_swap.specs.declared.phase.Phase.TheVariants.{Opened, Running, Recovering}
 use Rattle.bz_task.specs.Scene.{Waiting, Took}
@@ -46,14 +46,14 @@ holds-itself : (c : Config) (x : ℕ → ℕ) → image_fault c x ≡ None → S
 holds-itself c x form = record { well_formed = form; inside = λ k. refl; content = λ key. refl }
 
 -- where words became what they stand for
-resolved : Laws → (c : Config) (v : ℕ → ℕ) (old new : SwapMemory) (turn : Turn) (t : Recover) (w : Words) → IsRecovering c v old turn t → words_of new ≡ w → ResolvesSome (config_of t) v (slice_index old.durable) (slice_index w.durable)
+resolved : Laws → (c : Config) (v : ℕ → ℕ) (old new : SwapMemory) (turn : Turn) (t : Recover) (w : Words) → IsRecovering c v old turn t → memory_words new ≡ w → ResolvesSome (config_of t) v (slice_index old.durable) (slice_index w.durable)
     → SaysTheSame c (slice_index old.durable) (slice_index new.durable)
 resolved b c v old new turn t w r words h =
     subst (λ (z : Words). SaysTheSame c (slice_index old.durable) (slice_index z.durable)) (sym words)
     (b.content c v (slice_index old.durable) (slice_index w.durable) r.memory.form (subst (λ d. ResolvesSome d v (slice_index old.durable) (slice_index w.durable)) r.config h))
 
 module _ (b : Laws) (c : Config) (v : ℕ → ℕ) (old new : SwapMemory) (t : Recover) (made : Act) (answer : Done) (told : Option ℕ) (r : IsRecovering c v old Started t) (s : IsRawStep old 0 made answer told new) where
-  lines : IsMemory (words_of old)
+  lines : IsMemory (memory_words old)
   lines = whole-lines b.fit c old r.memory.config r.memory.cached r.memory.durable
 
   -- what no act changes, where it writes plain words and leaves what the durable words hold
@@ -74,13 +74,13 @@ module _ (b : Laws) (c : Config) (v : ℕ → ℕ) (old new : SwapMemory) (t : R
   not-running e = let bad : Recovering ≡ Running = sym r.phase ∙ (sym s.one.others.phase ∙ e) in absurd cc
 
   -- the words after an act
-  after : (a : Act) → made ≡ a → words_of new ≡ after_act (words_of old) a
-  after a is = s.one.act.after ∙ ap (after_act (words_of old)) is
+  after : (a : Act) → made ≡ a → memory_words new ≡ after_act (memory_words old) a
+  after a is = s.one.act.after ∙ ap (after_act (memory_words old)) is
 
-  unchanged : (w : Words) → words_of new ≡ w → w.durable ≡ old.durable → SaysTheSame c (slice_index old.durable) (slice_index new.durable)
+  unchanged : (w : Words) → memory_words new ≡ w → w.durable ≡ old.durable → SaysTheSame c (slice_index old.durable) (slice_index new.durable)
   unchanged w words same = subst (λ d. SaysTheSame c (slice_index old.durable) (slice_index d)) (sym (ap (λ (z : Words). z.durable) words ∙ same)) (holds-itself c (slice_index old.durable) r.memory.form)
 
-  known : (w : Words) → words_of new ≡ w → Knows t v Took (memory_of w) → Knows t v Took (words_in new)
+  known : (w : Words) → memory_words new ≡ w → Knows t v Took (memory_of w) → Knows t v Took (words_in new)
   known w words k = subst (λ z. Knows t v Took (memory_of z)) (sym words) k
 
   loads : (a x : ℕ) → asks_of t ≡ Some (todo.Load a) → answer ≡ done.Read x → made ≡ act.Load a x → Recovers c v old new t made answer told
@@ -96,23 +96,23 @@ module _ (b : Laws) (c : Config) (v : ℕ → ℕ) (old new : SwapMemory) (t : R
       phase = not-running;
       busy = tt;
       doing = s.one.doing ∙ subst (λ d. doing_after (doing_of old 0) d ≡ Idle) (sym is) refl;
-      knows = known (words_of old) words (b.know.loaded t v (words_in old) a r.ready e r.knows);
+      knows = known (memory_words old) words (b.know.loaded t v (words_in old) a r.ready e r.knows);
     };
     left = ap (λ (z : Words). acts_left t (memory_of z)) words;
     same = same;
   }
     where
-      words : words_of new ≡ words_of old
+      words : memory_words new ≡ memory_words old
       words = after (act.Load a x) load
 
       found : x ≡ slice_index old.cached a
-      found = subst (FoundRightly (words_of old)) load s.one.act.found
+      found = subst (FoundRightly (memory_words old)) load s.one.act.found
 
       fits : x < 2 ^ 64
       fits = subst (λ n. n < 2 ^ 64) (sym found) (b.know.words t v Waiting (words_in old) a r.ready r.knows (b.know.askable t v (words_in old) (todo.Load a) r.ready r.knows e))
 
       same : SaysTheSame c (slice_index old.durable) (slice_index new.durable)
-      same = unchanged (words_of old) words refl
+      same = unchanged (memory_words old) words refl
 
   stores : (a x : ℕ) → asks_of t ≡ Some (todo.Store a x) → answer ≡ done.Stored → made ≡ act.Store a x → Recovers c v old new t made answer told
   stores a x e is store = record {
@@ -127,23 +127,23 @@ module _ (b : Laws) (c : Config) (v : ℕ → ℕ) (old new : SwapMemory) (t : R
       phase = not-running;
       busy = tt;
       doing = s.one.doing ∙ subst (λ d. doing_after (doing_of old 0) d ≡ Idle) (sym is) refl;
-      knows = known (stored (words_of old) a x) words (b.know.stored t v (words_in old) (memory_of (stored (words_of old) a x)) a x r.ready e r.knows changes);
+      knows = known (stored (memory_words old) a x) words (b.know.stored t v (words_in old) (memory_of (stored (memory_words old) a x)) a x r.ready e r.knows changes);
     };
-    left = ap (λ (z : Words). acts_left t (memory_of z)) words ∙ b.left.stored t (words_in old) (memory_of (stored (words_of old) a x)) a x changes;
+    left = ap (λ (z : Words). acts_left t (memory_of z)) words ∙ b.left.stored t (words_in old) (memory_of (stored (memory_words old) a x)) a x changes;
     same = same;
   }
     where
       may : (a < size_of c) × (x < 2 ^ 61)
       may = askable-then b.know c v old t (todo.Store a x) r e
 
-      words : words_of new ≡ stored (words_of old) a x
+      words : memory_words new ≡ stored (memory_words old) a x
       words = after (act.Store a x) store
 
-      changes : Stores (words_in old) (memory_of (stored (words_of old) a x)) a x
-      changes = b.acts.store (words_of old) a x lines (subst (λ n. a < n) (sym r.memory.cached) may.0) (omega (arith, may.1))
+      changes : Stores (words_in old) (memory_of (stored (memory_words old) a x)) a x
+      changes = b.acts.store (memory_words old) a x lines (subst (λ n. a < n) (sym r.memory.cached) may.0) (omega (arith, may.1))
 
       same : SaysTheSame c (slice_index old.durable) (slice_index new.durable)
-      same = unchanged (stored (words_of old) a x) words refl
+      same = unchanged (stored (memory_words old) a x) words refl
 
   flushes : (line : ℕ) → asks_of t ≡ Some (todo.Flush line) → answer ≡ done.Flushed → made ≡ act.Flush line → Recovers c v old new t made answer told
   flushes line e is flush = record {
@@ -158,23 +158,23 @@ module _ (b : Laws) (c : Config) (v : ℕ → ℕ) (old new : SwapMemory) (t : R
       phase = not-running;
       busy = tt;
       doing = s.one.doing ∙ subst (λ d. doing_after (doing_of old 0) d ≡ Idle) (sym is) refl;
-      knows = known (flushed (words_of old) line) words (b.know.flushed t v (words_in old) (memory_of (flushed (words_of old) line)) line r.ready e r.knows changes);
+      knows = known (flushed (memory_words old) line) words (b.know.flushed t v (words_in old) (memory_of (flushed (memory_words old) line)) line r.ready e r.knows changes);
     };
-    left = ap (λ (z : Words). acts_left t (memory_of z)) words ∙ b.left.copied t v Waiting (words_in old) (memory_of (flushed (words_of old) line)) (λ k. line_of k == line) r.knows changes;
+    left = ap (λ (z : Words). acts_left t (memory_of z)) words ∙ b.left.copied t v Waiting (words_in old) (memory_of (flushed (memory_words old) line)) (λ k. line_of k == line) r.knows changes;
     same = same;
   }
     where
       may : line * LINE_WORDS < size_of c
       may = askable-then b.know c v old t (todo.Flush line) r e
 
-      words : words_of new ≡ flushed (words_of old) line
+      words : memory_words new ≡ flushed (memory_words old) line
       words = after (act.Flush line) flush
 
-      changes : Flushes (words_in old) (memory_of (flushed (words_of old) line)) line
-      changes = b.acts.flush (words_of old) line lines (subst (λ n. line * LINE_WORDS < n) (sym r.memory.cached) may)
+      changes : Flushes (words_in old) (memory_of (flushed (memory_words old) line)) line
+      changes = b.acts.flush (memory_words old) line lines (subst (λ n. line * LINE_WORDS < n) (sym r.memory.cached) may)
 
       same : SaysTheSame c (slice_index old.durable) (slice_index new.durable)
-      same = resolved b c v old new Started t (flushed (words_of old) line) r words (b.know.resolves t v Waiting (words_in old) (memory_of (flushed (words_of old) line)) (λ k. line_of k == line) r.ready r.knows changes)
+      same = resolved b c v old new Started t (flushed (memory_words old) line) r words (b.know.resolves t v Waiting (words_in old) (memory_of (flushed (memory_words old) line)) (λ k. line_of k == line) r.ready r.knows changes)
 
   -- by what was asked for
   by-asked : (q : Option Todo) (d : Done) → asks_of t ≡ q → answer ≡ d → IsAnswer new (doing_for q) made d → Recovers c v old new t made answer told
@@ -239,23 +239,23 @@ evictions-leave b c v old new turn t a told r within h = record {
     phase = subst (IsPhaseIn turn) (sym (ap (λ (z : SwapMemory). z.phase) h.is)) r.phase;
     doing = ap (λ z. doing_of z 0) h.is ∙ r.doing;
     busy = subst (IsBusyIn turn) (sym (ap (λ z. doing_of z 0) h.is)) r.busy;
-    knows = subst (λ z. Knows t v (stage_of turn) (memory_of z)) (sym words) (b.know.stable t v (stage_of turn) (words_in old) (memory_of (evicted (words_of old) a)) (λ k. k == a) r.ready r.knows evicts);
+    knows = subst (λ z. Knows t v (stage_of turn) (memory_of z)) (sym words) (b.know.stable t v (stage_of turn) (words_in old) (memory_of (evicted (memory_words old) a)) (λ k. k == a) r.ready r.knows evicts);
   };
-  left = ap (λ (z : Words). acts_left t (memory_of z)) words ∙ b.left.copied t v (stage_of turn) (words_in old) (memory_of (evicted (words_of old) a)) (λ k. k == a) r.knows evicts;
+  left = ap (λ (z : Words). acts_left t (memory_of z)) words ∙ b.left.copied t v (stage_of turn) (words_in old) (memory_of (evicted (memory_words old) a)) (λ k. k == a) r.knows evicts;
   same = same;
 }
   where
-    lines : IsMemory (words_of old)
+    lines : IsMemory (memory_words old)
     lines = whole-lines b.fit c old r.memory.config r.memory.cached r.memory.durable
 
-    words : words_of new ≡ evicted (words_of old) a
-    words = ap words_of h.is
+    words : memory_words new ≡ evicted (memory_words old) a
+    words = ap memory_words h.is
 
     cached : length new.cached ≡ size_of c
     cached = ap (λ (z : SwapMemory). length z.cached) h.is ∙ r.memory.cached
 
-    evicts : Evicts (words_in old) (memory_of (evicted (words_of old) a)) a
-    evicts = b.acts.evict (words_of old) a lines within
+    evicts : Evicts (words_in old) (memory_of (evicted (memory_words old) a)) a
+    evicts = b.acts.evict (memory_words old) a lines within
 
     same : SaysTheSame c (slice_index old.durable) (slice_index new.durable)
-    same = resolved b c v old new turn t (evicted (words_of old) a) r words (b.know.resolves t v (stage_of turn) (words_in old) (memory_of (evicted (words_of old) a)) (λ k. k == a) r.ready r.knows evicts)
+    same = resolved b c v old new turn t (evicted (memory_words old) a) r words (b.know.resolves t v (stage_of turn) (words_in old) (memory_of (evicted (memory_words old) a)) (λ k. k == a) r.ready r.knows evicts)

@@ -4,7 +4,7 @@ use Rattle.bz_layout.specs.Addresses.{slot_of, line_of}
 use Rattle.bz_layout.specs.Slots.{FreeSlots}
 use Rattle.bz_layout.specs.declared.config.Config.{Config}
 use Rattle.bz_mark.specs.Log.{Log, with_mark}
-use Rattle.bz_mark.specs.WordsAfter.{words_of as words_after_marks}
+use Rattle.bz_mark.specs.WordsAfter.{words_after_marks}
 use Rattle.bz_mark.specs.declared.marks.Mark.{Mark}
 use Rattle.bz_sight.specs.Effects.{TakesPlace, effect_instant}
 use Rattle.bz_sight.specs.Passing.{Passes, AllStay, StoresAt}
@@ -16,7 +16,7 @@ use Rattle.bz_sound.specs.Power.Laws.{LeavesPower}
 use Rattle.bz_sound.specs.Power.Times.{since_on}
 use Rattle.bz_word.specs.declared.entry.Entry.{Entry}
 use Rattle.bz_swap.specs.EntryLists.{IsEntryList}
-use Rattle.bz_swap.specs.SwapMemory.{SwapMemory, words_of, entries_of}
+use Rattle.bz_swap.specs.SwapMemory.{SwapMemory, memory_words, entries_of}
 use Rattle.bz_task.specs.OwnActs.{Stores, Flushes, is_gained, gained}
 use Rattle.bz_task.specs.Requests.{IsOwnStore}
 use Rattle.bz_task.specs.Scene.{IsLawful}
@@ -37,7 +37,7 @@ ScenesAreSeen =
 
 -- the memory has the words that the journal has after one mark more
 abbrev pub IsMarked : SwapMemory → Log → Mark → Type 0
-IsMarked new log mark = words_of new ≡ words_after_marks log.start (mark ∷ log.past)
+IsMarked new log mark = memory_words new ≡ words_after_marks log.start (mark ∷ log.past)
 
 -- the story one moment later: with this memory then, and these stores
 abbrev pub goes_on : Log → Story → SwapMemory → (ℕ → ℕ → Bool) → Story

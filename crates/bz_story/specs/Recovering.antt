@@ -11,7 +11,7 @@ use Rattle.bz_recover.specs.Places.{MOST_ACTS}
 use Rattle.bz_recover.specs.Sweep.{IsPoweredOn}
 use Rattle.bz_recover.specs.declared.recover.Recover.{Recover}
 use Rattle.bz_swap.specs.PlainFields.{HavePlainFields}
-use Rattle.bz_swap.specs.SwapMemory.{SwapMemory, Doing, Idle, Loading, Storing, Flushing, words_of, doing_of}
+use Rattle.bz_swap.specs.SwapMemory.{SwapMemory, Doing, Idle, Loading, Storing, Flushing, memory_words, doing_of}
 use Rattle.bz_swap.specs.declared.phase.Phase.{Phase}
 use Rattle.bz_swap.specs.declared.phase.Phase.TheVariants.{Running, Recovering}
 use Rattle.bz_task.specs.Scene.{Stage, Waiting, Took}
@@ -32,7 +32,7 @@ pub record IsInRecovery (c : Config) (m : SwapMemory) : Type 0 where
 
 -- its words, by address
 abbrev pub words_in : SwapMemory → Memory
-words_in m = memory_of (words_of m)
+words_in m = memory_of (memory_words m)
 
 -- the power is off, after a cut or where a memory was opened over an image: worker 0 does nothing either, and the caches hold the
 -- durable words, which resolve to these values

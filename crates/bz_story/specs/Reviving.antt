@@ -10,7 +10,7 @@ use Rattle.bz_layout.specs.Slots.{FreeSlots}
 use Rattle.bz_layout.specs.declared.config.Config.{Config}
 use Rattle.bz_machine.specs.declared.done.Done.{Done}
 use Rattle.bz_mark.specs.Log.{Log, Limits, with_mark}
-use Rattle.bz_mark.specs.WordsAfter.{words_of as words_after_marks}
+use Rattle.bz_mark.specs.WordsAfter.{words_after_marks}
 use Rattle.bz_mark.specs.declared.marks.Mark.{Mark}
 use Rattle.bz_mark.specs.declared.marks.Mark.TheVariants.{Load, Store, Cas, Flush, Evict, Cut, On, Ready}
 use Rattle.bz_recover.specs.Contents.{SaysTheSame}
@@ -27,7 +27,7 @@ use Rattle.bz_swap.specs.Evictions.{IsEviction}
 use Rattle.bz_swap.specs.Held.{Holds}
 use Rattle.bz_swap.specs.Power.{IsOpened, after_cut, renewed}
 use Rattle.bz_swap.specs.Steps.{StepsIn}
-use Rattle.bz_swap.specs.SwapMemory.{SwapMemory, words_of}
+use Rattle.bz_swap.specs.SwapMemory.{SwapMemory, memory_words}
 use Rattle.bz_task.specs.declared.todo.Todo.TheVariants.{Finish}
 use Rattle.bz_story.specs.Living.{IsLiving}
 use Rattle.bz_story.specs.Recovering.{IsOff, Turn, Asked, Started, Made, IsRecovering, IsNew, words_in}
@@ -51,14 +51,14 @@ to_come turn n = suc n
 -- the power is off: the journal's words are the memory's, and no call is open
 pub record IsOffIn (c : Config) (values : ℕ → ℕ) (m : SwapMemory) (log : Log) : Type 0 where
   pub off : IsOff c values m
-  pub words : words_of m ≡ words_after_marks log.start log.past
+  pub words : memory_words m ≡ words_after_marks log.start log.past
   pub calls : (w : ℕ) → open_call w log.past ≡ None
 
 -- a recovery goes on: so it is too, and the durable words hold what they held when the power came on; since then no descriptor was
 -- taken, and no slot stored into, and with the acts that are left worker 0 makes fewer than so many a word
 pub record IsRecoveringIn (c : Config) (values : ℕ → ℕ) (m : SwapMemory) (log : Log) (turn : Turn) (t : Recover) : Type 0 where
   pub recovering : IsRecovering c values m turn t
-  pub words : words_of m ≡ words_after_marks log.start log.past
+  pub words : memory_words m ≡ words_after_marks log.start log.past
   pub calls : (w : ℕ) → open_call w log.past ≡ None
   pub same : SaysTheSame c (image_at_on log.start log.past) (slice_index m.durable)
   pub untaken : (swap : ℕ) → is_taken swap (since_on log.past) ≡ false
@@ -87,7 +87,7 @@ PowerOnIsMarked = (c : Config) (values : ℕ → ℕ) (m : SwapMemory) (log : Lo
 -- what a recovery is told, and what worker 0 starts, makes no mark, where no more acts are left than before
 abbrev pub TurnsMakeNoMark : Type 0
 TurnsMakeNoMark =
-    (c : Config) (values : ℕ → ℕ) (m n : SwapMemory) (log : Log) (turn next : Turn) (t u : Recover) → IsRecoveringIn c values m log turn t → words_of n ≡ words_of m → IsRecovering c values n next u →
+    (c : Config) (values : ℕ → ℕ) (m n : SwapMemory) (log : Log) (turn next : Turn) (t u : Recover) → IsRecoveringIn c values m log turn t → memory_words n ≡ memory_words m → IsRecovering c values n next u →
     to_come next (acts_left u (words_in n)) ≤ to_come turn (acts_left t (words_in m)) →
     IsRecoveringIn c values n log next u
 

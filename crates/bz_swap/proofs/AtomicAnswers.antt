@@ -14,7 +14,7 @@ use Rattle.bz_swap.specs.Atomic.{value_of, NotesRightly, Answers}
 use Rattle.bz_swap.specs.Effects.{NotesMisses}
 use Rattle.bz_swap.specs.Held.{IsHeld}
 use Rattle.bz_swap.specs.Steps.{IsAnswer}
-use Rattle.bz_swap.specs.SwapMemory.{SwapMemory, Doing, Reading, Swapping, Loading, Storing, Flushing, words_of, value_at, is_named}
+use Rattle.bz_swap.specs.SwapMemory.{SwapMemory, Doing, Reading, Swapping, Loading, Storing, Flushing, memory_words, value_at, is_named}
 use Rattle.bz_swap.specs.declared.phase.Phase.TheVariants.{Recovering}
 use Rattle.bz_swap.proofs.AtomicValues.{value-named, value-private, entry-named}
 
@@ -26,29 +26,29 @@ notes old new misses = record {
 }
 
 -- a load finds the cached word, and leaves it
-loaded : (old new : SwapMemory) (made : Act) (a v : ℕ) → IsActOf (words_of old) made (words_of new) → made ≡ Load a v → slice_index new.cached a ≡ v
+loaded : (old new : SwapMemory) (made : Act) (a v : ℕ) → IsActOf (memory_words old) made (memory_words new) → made ≡ Load a v → slice_index new.cached a ≡ v
 loaded old new made a v act is =
-    let found : v ≡ slice_index old.cached a = subst (FoundRightly (words_of old)) is act.found in
-    let after : words_of new ≡ words_of old = act.after ∙ ap (after_act (words_of old)) is in
+    let found : v ≡ slice_index old.cached a = subst (FoundRightly (memory_words old)) is act.found in
+    let after : memory_words new ≡ memory_words old = act.after ∙ ap (after_act (memory_words old)) is in
     ap (λ (m : Words). slice_index m.cached a) after ∙ sym found
 
 -- a flush makes the words of its line durable
-flushed-line : (old new : SwapMemory) (made : Act) (line a : ℕ) → IsHeld old → IsActOf (words_of old) made (words_of new) → IsWithin (length old.cached) made → made ≡ Flush line → a / 8 ≡ line
+flushed-line : (old new : SwapMemory) (made : Act) (line a : ℕ) → IsHeld old → IsActOf (memory_words old) made (memory_words new) → IsWithin (length old.cached) made → made ≡ Flush line → a / 8 ≡ line
     → slice_index new.durable a ≡ slice_index new.cached a
 flushed-line old new made line a held act within is here =
-    let after = act.after ∙ ap (after_act (words_of old)) is in
+    let after = act.after ∙ ap (after_act (memory_words old)) is in
     let inside : line * 8 < length old.cached = subst (IsWithin (length old.cached)) is within in
     let test : (a / 8 == line) ≡ true = grind (arith, common_steps, here) in
-    ap (λ (m : Words). slice_index m.durable a) after ∙ (flush (words_of old) line held.memory inside).durable a ∙ rw test (ap (λ (m : Words). slice_index m.cached a) (sym after))
+    ap (λ (m : Words). slice_index m.durable a) after ∙ (flush (memory_words old) line held.memory inside).durable a ∙ rw test (ap (λ (m : Words). slice_index m.cached a) (sym after))
 
-read-answer : (old new : SwapMemory) (made : Act) (a v : ℕ) → new.phase ≢ Recovering → IsActOf (words_of old) made (words_of new) → made ≡ Load a v → (is_named new a ≡ true → value_at new a ≡ v) → value_of new a ≡ v
+read-answer : (old new : SwapMemory) (made : Act) (a v : ℕ) → new.phase ≢ Recovering → IsActOf (memory_words old) made (memory_words new) → made ≡ Load a v → (is_named new a ≡ true → value_at new a ≡ v) → value_of new a ≡ v
 read-answer old new made a v works act is value = by_name (is_named new a) refl
   where
     by_name : (b : Bool) → is_named new a ≡ b → value_of new a ≡ v
     by_name true named = value-named new a named ∙ value named
     by_name false private = value-private new a works private ∙ loaded old new made a v act is
 
-flush-answer : (old new : SwapMemory) (made : Act) (line : ℕ) → new.phase ≢ Recovering → IsHeld old → IsHeld new → IsActOf (words_of old) made (words_of new) → IsWithin (length old.cached) made → made ≡ Flush line
+flush-answer : (old new : SwapMemory) (made : Act) (line : ℕ) → new.phase ≢ Recovering → IsHeld old → IsHeld new → IsActOf (memory_words old) made (memory_words new) → IsWithin (length old.cached) made → made ≡ Flush line
     → (a : ℕ) → IsOutside new.swaps a → a / 8 ≡ line → value_at new a ≡ value_of new a
 flush-answer old new made line works held holds act within is a out here = by_name (is_named new a) refl
   where
@@ -56,7 +56,7 @@ flush-answer old new made line works held holds act within is a out here = by_na
     by_name true named = sym (value-named new a named)
     by_name false private = (holds.private a out private).1 ∙ flushed-line old new made line a held act within is here ∙ sym (value-private new a works private)
 
-pub answers : (old new : SwapMemory) (made : Act) (doing : Doing) (done : Done) → new.phase ≢ Recovering → IsHeld old → IsHeld new → IsActOf (words_of old) made (words_of new) → IsWithin (length old.cached) made
+pub answers : (old new : SwapMemory) (made : Act) (doing : Doing) (done : Done) → new.phase ≢ Recovering → IsHeld old → IsHeld new → IsActOf (memory_words old) made (memory_words new) → IsWithin (length old.cached) made
     → IsAnswer new doing made done → Answers new doing done
 answers old new made (Reading a) Busy works held holds act within answer = tt
 answers old new made (Reading a) (Read v) works held holds act within answer = read-answer old new made a v works act answer.load answer.value

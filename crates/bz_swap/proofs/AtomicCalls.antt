@@ -14,7 +14,7 @@ use Rattle.bz_swap.specs.Effects.{EffectIs}
 use Rattle.bz_swap.specs.Evictions.{IsEviction, EvictsIn}
 use Rattle.bz_swap.specs.Held.{IsHeld}
 use Rattle.bz_swap.specs.Steps.{IsStep, IsAnswer}
-use Rattle.bz_swap.specs.SwapMemory.{SwapMemory, Doing, Idle, Reading, Swapping, Loading, Storing, Flushing, words_of, doing_of}
+use Rattle.bz_swap.specs.SwapMemory.{SwapMemory, Doing, Idle, Reading, Swapping, Loading, Storing, Flushing, memory_words, doing_of}
 use Rattle.bz_swap.specs.Writes.{StoresPrivate, StoresOwn}
 use Rattle.bz_swap.specs.declared.phase.Phase.{Phase}
 use Rattle.bz_swap.specs.declared.phase.Phase.TheVariants.{Opened, Running, Recovering}
@@ -34,7 +34,7 @@ step-frame old new w made done told event working held holds step stores = recor
   swaps = step.one.others.swaps;
   begun = step.one.others.begun;
   cached = λ a out private other. step.untouched a out private (λ v. stores a v other);
-  durable = λ a. durable-act (words_of old) (words_of new) made a held.memory step.one.act.after;
+  durable = λ a. durable-act (memory_words old) (memory_words new) made a held.memory step.one.act.after;
 }
 
 -- a private store
@@ -49,7 +49,7 @@ stored-at old new w a v made Stored step doing is = (by_store (step.writes.store
     within = subst (IsWithin (length old.cached)) is step.one.within
 
     written : slice_index new.cached a ≡ v
-    written = ap (λ (m : Words). slice_index m.cached a) (step.one.act.after ∙ ap (after_act (words_of old)) is) ∙ get_or-set_same old.cached a v 0 within
+    written = ap (λ (m : Words). slice_index m.cached a) (step.one.act.after ∙ ap (after_act (memory_words old)) is) ∙ get_or-set_same old.cached a v 0 within
 stored-at old new w a v made done step doing is = absurd is
 
 store-happens : (old new : SwapMemory) (w a v : ℕ) (made : Act) (done : Done) → old.phase ≢ Recovering → IsHeld old → IsHeld new → IsStep old w made done None new → doing_of old w ≡ Storing a v → Happens old (PrivateStore a v) new

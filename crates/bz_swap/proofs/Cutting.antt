@@ -5,7 +5,7 @@ use Rattle.std.proofs.lemmas.List.{length-replicate, length-map}
 use Rattle.bz_machine.specs.declared.place.Place.TheVariants as place
 use Rattle.bz_machine.specs.declared.worker.Operation.TheVariants as operation
 use Rattle.bz_pm.specs.Acts.{after_cut as words_after_cut}
-use Rattle.bz_cells.specs.Store.{Store, HasRoom, words_of, with_words}
+use Rattle.bz_cells.specs.Store.{Store, HasRoom, store_words, with_words}
 use Rattle.bz_swap.specs.declared.phase.Phase.TheVariants.{Recovering}
 use Rattle.bz_swap.specs.Power.{after_cut}
 use Rattle.bz_swap.specs.SwapMemory.{idle}
@@ -16,7 +16,7 @@ use Rattle.bz_swap.proofs.Doings.{working-idle}
 
 -- the parts after a cut
 abbrev pub cut_parts : Parts → Parts
-cut_parts p = record { store = with_words p.store (words_after_cut (words_of p.store)); workers = replicate (length p.workers) idle_worker; phase = Recovering; steps = p.steps; allowance = record p.allowance { all = 0 } }
+cut_parts p = record { store = with_words p.store (words_after_cut (store_words p.store)); workers = replicate (length p.workers) idle_worker; phase = Recovering; steps = p.steps; allowance = record p.allowance { all = 0 } }
 
 each-idle : (n w : ℕ) → get_or (replicate n idle_worker) w idle_worker ≡ idle_worker
 each-idle zero w = refl

@@ -15,7 +15,7 @@ use Rattle.bz_machine.specs.Machine.{is_succeeded}
 use Rattle.bz_swap.specs.Evictions.{IsEviction}
 use Rattle.bz_swap.specs.Settled.{IsDropped, FreesStatuses, DroppedStay}
 use Rattle.bz_swap.specs.Steps.{IsRawStep}
-use Rattle.bz_swap.specs.SwapMemory.{SwapMemory, words_of}
+use Rattle.bz_swap.specs.SwapMemory.{SwapMemory, memory_words}
 use Rattle.bz_swap.proofs.SettledStay.{start-settled, cut-settled}
 use Rattle.bz_swap.proofs.StillDone.{step-before}
 use Rattle.bz_swap.proofs.WordActs.{set-keeps, flushed-keeps}
@@ -56,7 +56,7 @@ durable-none s m (Store a v) i cached durable = durable
 durable-none s m (Cas a before after found) i cached durable = durable
 durable-none s m (Flush line) i cached durable = flushed-keeps IsNone m line (swap_address s) i cached durable
 
-dropped-recovery : (old new : SwapMemory) (w : ℕ) (made : Act) (done : Done) (told : Option ℕ) (s : ℕ) → IsMemory (words_of old) → IsRawStep old w made done told new → FreesStatuses old.swaps made
+dropped-recovery : (old new : SwapMemory) (w : ℕ) (made : Act) (done : Done) (told : Option ℕ) (s : ℕ) → IsMemory (memory_words old) → IsRawStep old w made done told new → FreesStatuses old.swaps made
     → IsDropped old s → IsDropped new s
 dropped-recovery old new w made done told s i step frees dropped = record {
   settled = record {
@@ -65,11 +65,11 @@ dropped-recovery old new w made done told s i step frees dropped = record {
   };
   effect = subst (λ n. is_succeeded (status_at n new.durable s) ≡ false) (sym step.one.others.swaps)
       (subst (λ (m : Words). is_succeeded (status_at old.swaps m.durable s) ≡ false) (sym step.one.act.after)
-      (stays-none old.swaps s old.durable (after_act (words_of old) made).durable dropped.effect
-      (λ below durable. durable-none s (words_of old) made i (none-word old.swaps s old.cached below dropped.cached) durable)));
+      (stays-none old.swaps s old.durable (after_act (memory_words old) made).durable dropped.effect
+      (λ below durable. durable-none s (memory_words old) made i (none-word old.swaps s old.cached below dropped.cached) durable)));
   cached = subst (λ n. is_succeeded (status_at n new.cached s) ≡ false) (sym step.one.others.swaps)
       (subst (λ (m : Words). is_succeeded (status_at old.swaps m.cached s) ≡ false) (sym step.one.act.after)
-      (stays-none old.swaps s old.cached (after_act (words_of old) made).cached dropped.cached (λ below none. cached-none old.swaps s (words_of old) made below frees none)));
+      (stays-none old.swaps s old.cached (after_act (memory_words old) made).cached dropped.cached (λ below none. cached-none old.swaps s (memory_words old) made below frees none)));
 }
 
 dropped-eviction : (old new : SwapMemory) (a : ℕ) (told : Option ℕ) (s : ℕ) → IsEviction old a told new → IsDropped old s → IsDropped new s

@@ -17,7 +17,7 @@ use Rattle.bz_swap.specs.EffectPlaces.{EffectsByFlush, EffectsByEviction, Effect
 use Rattle.bz_swap.specs.Effects.{TakesEffect}
 use Rattle.bz_swap.specs.Evictions.{IsEviction, EvictsIn}
 use Rattle.bz_swap.specs.Steps.{IsStep}
-use Rattle.bz_swap.specs.SwapMemory.{SwapMemory, words_of, has_effect}
+use Rattle.bz_swap.specs.SwapMemory.{SwapMemory, memory_words, has_effect}
 use Rattle.bz_swap.proofs.WordActs.{set-other, flushed-other}
 
 -- a word outside the descriptors is no status, nor in the line of one
@@ -47,7 +47,7 @@ no-effect old new s swaps t same =
     true≢false (sym succeeds ∙ ap (λ x. is_succeeded (status_of x)) same ∙ not)
 
 -- an act that gives a swap its effect
-effect-act : (old new : SwapMemory) (s : ℕ) (made : Act) → IsMemory (words_of old) → new.swaps ≡ old.swaps → words_of new ≡ after_act (words_of old) made → TakesEffect old new s → EffectsByFlush old new made s
+effect-act : (old new : SwapMemory) (s : ℕ) (made : Act) → IsMemory (memory_words old) → new.swaps ≡ old.swaps → memory_words new ≡ after_act (memory_words old) made → TakesEffect old new s → EffectsByFlush old new made s
 effect-act old new s (Load a v) i swaps after t = absurd (no-effect old new s swaps t (ap (λ (m : Words). slice_index m.durable (swap_address s)) after))
 effect-act old new s (Store a v) i swaps after t = absurd (no-effect old new s swaps t (ap (λ (m : Words). slice_index m.durable (swap_address s)) after))
 effect-act old new s (Cas a before now found) i swaps after t = absurd (no-effect old new s swaps t (ap (λ (m : Words). slice_index m.durable (swap_address s)) after))
@@ -57,7 +57,7 @@ effect-act old new s (Flush line) i swaps after t = by_line (cases_eq line (swap
     number = rw swaps at (effect-number new s t.done)
 
     elsewhere : (b : ℕ) → b / 8 ≢ line → slice_index new.durable b ≡ slice_index old.durable b
-    elsewhere b other = ap (λ (m : Words). slice_index m.durable b) after ∙ flushed-other (words_of old) line b i other
+    elsewhere b other = ap (λ (m : Words). slice_index m.durable b) after ∙ flushed-other (memory_words old) line b i other
 
     by_line : (line ≡ swap_address s / 8) ⊎ (line ≢ swap_address s / 8) → EffectsByFlush old new (Flush line) s
     by_line (inl here) = record {
@@ -67,7 +67,7 @@ effect-act old new s (Flush line) i swaps after t = by_line (cases_eq line (swap
     }
     by_line (inr other) = absurd (no-effect old new s swaps t (elsewhere (swap_address s) (λ is. other (sym is))))
 
-effect-step : (old new : SwapMemory) (w : ℕ) (made : Act) (done : Done) (s : ℕ) → IsMemory (words_of old) → IsStep old w made done (Some s) new → EffectsByFlush old new made s
+effect-step : (old new : SwapMemory) (w : ℕ) (made : Act) (done : Done) (s : ℕ) → IsMemory (memory_words old) → IsStep old w made done (Some s) new → EffectsByFlush old new made s
 effect-step old new w made done s i step = effect-act old new s made i step.one.others.swaps step.one.act.after step.effect
 
 -- an eviction that does

@@ -10,7 +10,7 @@ use Rattle.bz_machine.specs.Lawful.{AreInRange, MayHold}
 use Rattle.bz_machine.specs.State.{State, IsState, MayHappen, happens}
 use Rattle.bz_machine.specs.Workers.{local_of}
 use Rattle.bz_machine.proofs.EventLaws.{keeps_state, keeps_range, stays_bounded}
-use Rattle.bz_cells.specs.Store.{Store, Beside, typed, words_of, with_words}
+use Rattle.bz_cells.specs.Store.{Store, Beside, typed, store_words, with_words}
 use Rattle.bz_acts.specs.Ready.{LiesOutside}
 use Rattle.bz_swap.specs.declared.phase.Phase.{Phase}
 use Rattle.bz_swap.specs.declared.phase.Phase.TheVariants.{Opened, Running, Recovering}
@@ -25,7 +25,7 @@ use Rattle.bz_swap.proofs.StepsLeft.{enough-evicted}
 
 -- the parts with the word at an address durable
 abbrev pub evicted_store : Store → ℕ → Store
-evicted_store st a = with_words st (evicted (words_of st) a)
+evicted_store st a = with_words st (evicted (store_words st) a)
 
 abbrev pub after_eviction : Parts → ℕ → Parts
 after_eviction p a = record p { store = evicted_store p.store a }

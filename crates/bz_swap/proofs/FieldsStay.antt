@@ -13,7 +13,7 @@ use Rattle.bz_machine.specs.declared.status.SwapStatus.TheVariants.{Undecided}
 use Rattle.bz_swap.specs.Evictions.{IsEviction}
 use Rattle.bz_swap.specs.PlainFields.{ArePlainFields, HavePlainFields, WritesPlain, PlainFieldsStay}
 use Rattle.bz_swap.specs.Steps.{IsStep, IsRawStep}
-use Rattle.bz_swap.specs.SwapMemory.{SwapMemory, words_of}
+use Rattle.bz_swap.specs.SwapMemory.{SwapMemory, memory_words}
 use Rattle.bz_swap.specs.Writes.{StoresPrivate, StoresField, StoresOwn, ChangesStatus, WritesLawfully}
 use Rattle.bz_swap.proofs.WordActs.{set-below, set-other, flushed-below}
 
@@ -69,18 +69,18 @@ may-write old w (Cas a before after found) writes = may-swap old a before after 
 may-write old w (Flush line) writes = tt
 
 -- the words after an act that writes no more
-fields-after : (old new : SwapMemory) (made : Act) → IsMemory (words_of old) → new.swaps ≡ old.swaps → words_of new ≡ after_act (words_of old) made
-    → ArePlainFields old.swaps (after_act (words_of old) made).cached → HavePlainFields old → HavePlainFields new
+fields-after : (old new : SwapMemory) (made : Act) → IsMemory (memory_words old) → new.swaps ≡ old.swaps → memory_words new ≡ after_act (memory_words old) made
+    → ArePlainFields old.swaps (after_act (memory_words old) made).cached → HavePlainFields old → HavePlainFields new
 fields-after old new made i swaps after cached plain =
-    let durable = durable-after old.swaps (words_of old) made i plain.cached plain.durable in
+    let durable = durable-after old.swaps (memory_words old) made i plain.cached plain.durable in
     record {
       cached = subst (λ n. ArePlainFields n new.cached) (sym swaps) (subst (λ (m : Words). ArePlainFields old.swaps m.cached) (sym after) cached);
       durable = subst (λ n. ArePlainFields n new.durable) (sym swaps) (subst (λ (m : Words). ArePlainFields old.swaps m.durable) (sym after) durable);
     }
 
-fields-step : (old new : SwapMemory) (w : ℕ) (made : Act) (done : Done) (told : Option ℕ) → IsMemory (words_of old) → IsStep old w made done told new → HavePlainFields old → HavePlainFields new
+fields-step : (old new : SwapMemory) (w : ℕ) (made : Act) (done : Done) (told : Option ℕ) → IsMemory (memory_words old) → IsStep old w made done told new → HavePlainFields old → HavePlainFields new
 fields-step old new w made done told i step plain =
-    fields-after old new made i step.one.others.swaps step.one.act.after (cached-after old.swaps (words_of old) made (may-write old w made step.writes) plain.cached) plain
+    fields-after old new made i step.one.others.swaps step.one.act.after (cached-after old.swaps (memory_words old) made (may-write old w made step.writes) plain.cached) plain
 
 -- the words after an act of a recovery that writes plain ones
 plain-after : (swaps : ℕ) (m : Words) (made : Act) → WritesPlain made → ArePlainFields swaps m.cached → ArePlainFields swaps (after_act m made).cached
@@ -93,10 +93,10 @@ plain-after swaps m (Cas a before after found) writes plain = λ s k lt less. by
     by_test false s k lt less = plain s k lt less
 plain-after swaps m (Flush line) writes plain = plain
 
-fields-recovery : (old new : SwapMemory) (w : ℕ) (made : Act) (done : Done) (told : Option ℕ) → IsMemory (words_of old) → IsRawStep old w made done told new → WritesPlain made
+fields-recovery : (old new : SwapMemory) (w : ℕ) (made : Act) (done : Done) (told : Option ℕ) → IsMemory (memory_words old) → IsRawStep old w made done told new → WritesPlain made
     → HavePlainFields old → HavePlainFields new
 fields-recovery old new w made done told i step writes plain =
-    fields-after old new made i step.one.others.swaps step.one.act.after (plain-after old.swaps (words_of old) made writes plain.cached) plain
+    fields-after old new made i step.one.others.swaps step.one.act.after (plain-after old.swaps (memory_words old) made writes plain.cached) plain
 
 fields-eviction : (old new : SwapMemory) (a : ℕ) (told : Option ℕ) → IsEviction old a told new → HavePlainFields old → HavePlainFields new
 fields-eviction old new a told h plain = subst HavePlainFields (sym h.is) (record {

@@ -10,7 +10,7 @@ use Rattle.bz_machine.specs.declared.worker.Operation.TheVariants as operation
 use Rattle.bz_machine.specs.declared.worker.Worker.{Worker}
 use Rattle.bz_machine.specs.Allowed.{for_worker}
 use Rattle.bz_machine.specs.Flushes.{is_flush}
-use Rattle.bz_cells.specs.Store.{Store, words_of}
+use Rattle.bz_cells.specs.Store.{Store, store_words}
 use Rattle.bz_acts.specs.Rule.{IsWithin, after_act, is_flush_act}
 use Rattle.bz_acts.specs.declared.acted.Act.{Act}
 use Rattle.bz_acts.specs.declared.acted.Act.TheVariants.{Load, Store as StoreAct, Cas, Flush}
@@ -158,13 +158,13 @@ raw-seen p k w store l acted phase within busy is made =
     let now : worker_of (seen q) w ≡ working (placed l place.Idle) = worker-seen q w ∙ ap working (same-worker p w store (placed l place.Idle) (workers-within p w within)) in
     record {
       one = record {
-        act = record { found = made.found; after = ap words_of made.after };
+        act = record { found = made.found; after = ap store_words made.after };
         within = asked-within p.store l.place acted (recovers-at p k w l phase busy is).0 made.asked;
         flush = asked-flush l.place acted made.asked ∙ ap (λ (u : Working). u.flush_next) (sym was);
         doing = ap (λ (u : Working). u.doing) now ∙ asked-idle l.place l.operation acted made.asked ∙ ap (λ (u : Working). doing_after u.doing acted.done) (sym was);
         steps = refl;
         others = record {
-          size = ap (λ (u : Store). length u.cached) made.after ∙ length-act (words_of p.store) acted.act;
+          size = ap (λ (u : Store). length u.cached) made.after ∙ length-act (store_words p.store) acted.act;
           count = counted p w store (placed l place.Idle);
           swaps = ap (λ (u : Store). u.swaps) made.after;
           phase = refl;

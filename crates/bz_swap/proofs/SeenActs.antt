@@ -20,7 +20,7 @@ use Rattle.bz_machine.specs.State.{Act as Acting}
 use Rattle.bz_machine.specs.Steps.{Local, Stepped, act, read_act}
 use Rattle.bz_machine.specs.Workers.{local_of}
 use Rattle.bz_machine.proofs.EventLaws.{acts_atomically}
-use Rattle.bz_cells.specs.Store.{Store, IsOutside, kind_at, typed, words_of}
+use Rattle.bz_cells.specs.Store.{Store, IsOutside, kind_at, typed, store_words}
 use Rattle.bz_acts.specs.Made.{made}
 use Rattle.bz_acts.specs.Rule.{IsActOf, IsToldAt, IsWithin, is_flush_act}
 use Rattle.bz_acts.specs.Writes.{WritesAt}
@@ -49,7 +49,7 @@ use Rattle.bz_swap.proofs.StepLies.{busy-going}
 
 -- the act that was made
 pub record IsMadeAct (p : Parts) (w : ℕ) (store : Store) (told : Act) : Type 0 where
-  pub rule : IsActOf (words_of p.store) told (words_of store)
+  pub rule : IsActOf (store_words p.store) told (store_words store)
   pub within : IsWithin (length p.store.cached) told
   pub flush : is_flush_act told ≡ is_flush (worker_at p w).place
   pub is_told : IsToldAt (worker_at p w).place told
@@ -81,7 +81,7 @@ read-found m l a v (Tag t i w q) is = absurd cc
 
 -- a read answers at a load of its address that found the plain word
 read-load : (p : Parts) (r : IsRunning p) (w : ℕ) (store : Store) (told : Act) (x : Place) (a v : ℕ) → ReadsAt x → AtPlace r.entries (typed p.store r.beside) (local_of (worker_at p w)) x
-    → PlaceLies p.store x → IsToldAt x told → IsActOf (words_of p.store) told (words_of store) → (act (typed p.store r.beside) w (local_of (worker_at p w)) x).done ≡ Read v
+    → PlaceLies p.store x → IsToldAt x told → IsActOf (store_words p.store) told (store_words store) → (act (typed p.store r.beside) w (local_of (worker_at p w)) x).done ≡ Read v
     → (worker_at p w).operation ≡ operation.Reading a → (told ≡ Load a v) × (v < 2 ^ 61)
 read-load p r w store told place.Idle a v reads at lies is rule done o = absurd reads
 read-load p r w store told (place.Prepare step) a v reads at lies is rule done o = absurd reads

@@ -17,7 +17,7 @@ use Rattle.bz_swap.specs.declared.role.WordRole.TheVariants.{Outside, Status, Fi
 use Rattle.bz_swap.specs.Effects.{EffectIs}
 use Rattle.bz_swap.specs.Inside.Evicted.{IsEvicted, memory_after, told_between, told_of}
 use Rattle.bz_swap.specs.Evictions.{IsEviction, EvictsIn}
-use Rattle.bz_swap.specs.SwapMemory.{SwapMemory, words_of as words_seen}
+use Rattle.bz_swap.specs.SwapMemory.{SwapMemory, memory_words as words_seen}
 use Rattle.bz_swap.specs.Inside.Parts.{Parts, prepares, words_in, entry_list, listed, begun_seen, seen}
 use Rattle.bz_swap.specs.Inside.Kept.{IsRunning, IsKept, state_of}
 use Rattle.bz_swap.proofs.Evicting.{evicted_store, after_eviction, eviction-running}

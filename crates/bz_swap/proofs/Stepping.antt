@@ -13,7 +13,7 @@ use Rattle.bz_acts.specs.Made.{made, beside_in}
 use Rattle.bz_acts.specs.Ready.{IsReady}
 use Rattle.bz_acts.specs.Rule.{IsActOf, IsToldAt, IsWithin, is_flush_act}
 use Rattle.bz_acts.specs.Writes.{WritesAt}
-use Rattle.bz_cells.specs.Store.{Store, Beside, IsStore, SameShape, typed, words_of}
+use Rattle.bz_cells.specs.Store.{Store, Beside, IsStore, SameShape, typed, store_words}
 use Rattle.bz_swap.specs.declared.phase.Phase.{Phase}
 use Rattle.bz_swap.specs.declared.phase.Phase.TheVariants.{Opened, Running, Recovering}
 use Rattle.bz_swap.specs.Held.{Holds}
@@ -92,7 +92,7 @@ acts-read p b w old store l done is local is_done memory words shape = record {
 }
 
 pub made-read : (p : Parts) (w : ℕ) (old : Worker) (store : Store) (told : Act) → old ≡ worker_at p w
-    → IsActOf (words_of p.store) told (words_of store) → IsWithin (length p.store.cached) told → is_flush_act told ≡ is_flush old.place → IsToldAt old.place told → WritesAt p.store.swaps old old.place told
+    → IsActOf (store_words p.store) told (store_words store) → IsWithin (length p.store.cached) told → is_flush_act told ≡ is_flush old.place → IsToldAt old.place told → WritesAt p.store.swaps old old.place told
     → IsMadeAct p w store told
 made-read p w old store told is rule within flush is_told writes = record {
   rule = rule;

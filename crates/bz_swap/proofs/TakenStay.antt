@@ -11,7 +11,7 @@ use Rattle.bz_acts.specs.declared.acted.Act.{Act}
 use Rattle.bz_acts.specs.declared.acted.Act.TheVariants.{Load, Store, Cas, Flush}
 use Rattle.bz_cells.specs.Store.{IsOutside, status_word}
 use Rattle.bz_machine.specs.declared.status.SwapStatus.TheVariants.{Undecided}
-use Rattle.bz_swap.specs.SwapMemory.{SwapMemory, words_of}
+use Rattle.bz_swap.specs.SwapMemory.{SwapMemory, memory_words}
 use Rattle.bz_swap.specs.TakenStatuses.{IsTaken, IsTaking, TakenStatusesStay}
 use Rattle.bz_swap.specs.Writes.{StoresPrivate, StoresField, StoresOwn, ChangesStatus, WritesLawfully}
 use Rattle.bz_swap.proofs.WordActs.{set-other}
@@ -58,7 +58,7 @@ may-take old w (Cas a before after found) s lt writes = cas-takes old w a before
 may-take old w (Flush line) s lt writes = tt
 
 -- the status after such an act
-stays-after : (old : SwapMemory) (w : ℕ) (made : Act) (s : ℕ) → MayTake old w made s → IsTaken old s → slice_index (after_act (words_of old) made).cached (swap_address s) ≢ 0
+stays-after : (old : SwapMemory) (w : ℕ) (made : Act) (s : ℕ) → MayTake old w made s → IsTaken old s → slice_index (after_act (memory_words old) made).cached (swap_address s) ≢ 0
 stays-after old w (Load a v) s may taken = taken
 stays-after old w (Store a v) s may taken = set-some old.cached a v (swap_address s) (λ here. (may here).0) taken
 stays-after old w (Cas a before after found) s may taken = by_test (slice_index old.cached a == before)
@@ -70,7 +70,7 @@ stays-after old w (Flush line) s may taken = taken
 
 -- and how it came to be, where it was free
 begins-by : (old : SwapMemory) (w : ℕ) (made : Act) (s : ℕ) → MayTake old w made s → slice_index old.cached (swap_address s) ≡ 0
-    → slice_index (after_act (words_of old) made).cached (swap_address s) ≢ 0 → IsTaking old w s made
+    → slice_index (after_act (memory_words old) made).cached (swap_address s) ≢ 0 → IsTaking old w s made
 begins-by old w (Load a v) s may free now = absurd (now free)
 begins-by old w (Store a v) s may free now = elim (cases_eq (swap_address s) a) [
   | inl here ↦ (may here).1

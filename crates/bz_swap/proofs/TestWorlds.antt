@@ -14,7 +14,7 @@ use Rattle.bz_machine.specs.declared.done.Done.{Done}
 use Rattle.bz_machine.specs.declared.done.Done.TheVariants.{Busy, Read, Swapped, Stored, Flushed}
 use Rattle.bz_swap.specs.declared.phase.Phase.{Phase}
 use Rattle.bz_swap.specs.declared.phase.Phase.TheVariants.{Opened, Running, Recovering}
-use Rattle.bz_swap.specs.SwapMemory.{SwapMemory, Doing, Idle, Swapping, Storing, Flushing, Working, idle, words_of, worker_of, doing_of, is_target, is_among, is_named}
+use Rattle.bz_swap.specs.SwapMemory.{SwapMemory, Doing, Idle, Swapping, Storing, Flushing, Working, idle, memory_words, worker_of, doing_of, is_target, is_among, is_named}
 use Rattle.bz_swap.specs.Starts.{started, swapping}
 use Rattle.bz_swap.specs.Steps.{IsOneAct, StepsIn, doing_after}
 use Rattle.bz_swap.specs.Power.{MayRenew}
@@ -192,7 +192,7 @@ one-sized : (old new : SwapMemory) (words descriptors workers : ℕ) (marks : Li
     → IsSized old words descriptors workers marks → IsSized new words descriptors workers marks
 one-sized old new words descriptors workers marks w act done one t = record {
   cached = one.others.size ∙ t.cached;
-  durable = ap (λ (m : Words). length m.durable) one.act.after ∙ act-length (words_of old) act (t.cached ∙ sym t.durable) ∙ t.durable;
+  durable = ap (λ (m : Words). length m.durable) one.act.after ∙ act-length (memory_words old) act (t.cached ∙ sym t.durable) ∙ t.durable;
   count = one.others.count ∙ t.count;
   swaps = one.others.swaps ∙ t.swaps;
   some = t.some;

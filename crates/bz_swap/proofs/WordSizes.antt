@@ -12,7 +12,7 @@ use Rattle.bz_acts.specs.declared.acted.Act.{Act}
 use Rattle.bz_acts.specs.declared.acted.Act.TheVariants.{Load, Store, Cas, Flush}
 use Rattle.bz_swap.specs.Evictions.{IsEviction}
 use Rattle.bz_swap.specs.Sizes.{SizesStay}
-use Rattle.bz_swap.specs.SwapMemory.{SwapMemory, words_of}
+use Rattle.bz_swap.specs.SwapMemory.{SwapMemory, memory_words}
 use Rattle.bz_swap.proofs.WordActs.{past-line}
 
 resized : (m : Words) (cached durable : List ℕ) → IsMemory m → length cached ≡ length m.cached → length durable ≡ length m.durable → IsMemory (record { cached = cached; durable = durable })
@@ -34,13 +34,13 @@ act-size m (Store a v) i = resized m (slice_set m.cached a v) m.durable i (lengt
 act-size m (Cas a before after found) i = resized m _ m.durable i (set-size (slice_index m.cached a == before) m.cached a after) refl
 act-size m (Flush line) i = resized m m.cached (flushed m line).durable i refl (flush-size m line i)
 
-eviction-size : (old new : SwapMemory) (a : ℕ) (told : Option ℕ) → IsEviction old a told new → IsMemory (words_of old) → IsMemory (words_of new)
-eviction-size old new a told h i = subst (λ (m : SwapMemory). IsMemory (words_of m)) (sym h.is) (resized (words_of old) old.cached _ i refl (length-set old.durable a (slice_index old.cached a)))
+eviction-size : (old new : SwapMemory) (a : ℕ) (told : Option ℕ) → IsEviction old a told new → IsMemory (memory_words old) → IsMemory (memory_words new)
+eviction-size old new a told h i = subst (λ (m : SwapMemory). IsMemory (memory_words m)) (sym h.is) (resized (memory_words old) old.cached _ i refl (length-set old.durable a (slice_index old.cached a)))
 
 pub sizes_stay : SizesStay
 sizes_stay = record {
   opening = λ phase start swaps workers lines size. record { same = refl; lines = lines; size = size };
-  step = λ old new w made done step i. subst IsMemory (sym step.act.after) (act-size (words_of old) made i);
+  step = λ old new w made done step i. subst IsMemory (sym step.act.after) (act-size (memory_words old) made i);
   eviction = eviction-size;
   cut = λ m i. record { same = refl; lines = i.lines; size = i.size };
 }

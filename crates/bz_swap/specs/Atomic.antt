@@ -10,7 +10,7 @@ use Rattle.bz_machine.specs.declared.done.Done.{Done}
 use Rattle.bz_machine.specs.declared.done.Done.TheVariants.{Busy, Read, Swapped, Stored, Flushed}
 use Rattle.bz_swap.specs.declared.phase.Phase.{Phase}
 use Rattle.bz_swap.specs.declared.phase.Phase.TheVariants.{Opened, Running, Recovering}
-use Rattle.bz_swap.specs.SwapMemory.{SwapMemory, Doing, Reading, words_of, Swapping, Loading, Storing, Flushing, value_at, has_effect, is_missed, entries_of, is_target, is_named}
+use Rattle.bz_swap.specs.SwapMemory.{SwapMemory, Doing, Reading, memory_words, Swapping, Loading, Storing, Flushing, value_at, has_effect, is_missed, entries_of, is_target, is_named}
 
 -- the value of an address: of a private word, which no swap has named since the last renewal, the cached word; of a named
 -- one, and of every one in a recovery time, what the durable words stand for, which a power cut leaves (`value_at`)
@@ -89,6 +89,6 @@ pub record IsAtomicStep (old : SwapMemory) (doing : Doing) (done : Done) (told :
 
 -- in a recovery time worker 0 alone loads, stores and flushes words as they are, by the memory's own rule
 pub record IsRecoveryStep (old : SwapMemory) (made : Act) (told : Option ℕ) (new : SwapMemory) : Type 0 where
-  pub rule : IsActOf (words_of old) made (words_of new)
+  pub rule : IsActOf (memory_words old) made (memory_words new)
   pub effect : told ≡ None
   pub notes : new.missed ≡ old.missed

@@ -10,7 +10,7 @@ use Rattle.bz_machine.specs.declared.status.SwapStatus.TheVariants.{Free, Undeci
 use Rattle.bz_machine.specs.declared.status.Verdict.TheVariants.{Succeeded, Failed}
 use Rattle.bz_swap.specs.Evictions.{IsEviction}
 use Rattle.bz_swap.specs.Steps.{IsStep}
-use Rattle.bz_swap.specs.SwapMemory.{SwapMemory, words_of}
+use Rattle.bz_swap.specs.SwapMemory.{SwapMemory, memory_words}
 
 -- no durable word outside the descriptors changes
 abbrev pub KeepsDurableOutside : SwapMemory → SwapMemory → Type 0
@@ -29,7 +29,7 @@ pub record EffectsByEviction (old new : SwapMemory) (a s : ℕ) : Type 0 where
   pub outside : KeepsDurableOutside old new
 
 pub record EffectsStayInside : Type 0 where
-  pub step : (old new : SwapMemory) (w : ℕ) (made : Act) (done : Done) (s : ℕ) → IsMemory (words_of old) → IsStep old w made done (Some s) new → EffectsByFlush old new made s
+  pub step : (old new : SwapMemory) (w : ℕ) (made : Act) (done : Done) (s : ℕ) → IsMemory (memory_words old) → IsStep old w made done (Some s) new → EffectsByFlush old new made s
   pub eviction : (old new : SwapMemory) (a s : ℕ) → IsEviction old a (Some s) new → EffectsByEviction old new a s
 
 -- the words of the statuses

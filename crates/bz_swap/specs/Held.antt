@@ -8,12 +8,12 @@ use Rattle.bz_pm.specs.Words.{IsMemory}
 use Rattle.bz_swap.specs.declared.phase.Phase.{Phase}
 use Rattle.bz_swap.specs.declared.phase.Phase.TheVariants.{Opened, Running, Recovering}
 use Rattle.bz_swap.specs.Lawful.{IsLawful}
-use Rattle.bz_swap.specs.SwapMemory.{SwapMemory, words_of, value_at, entries_of, is_named}
+use Rattle.bz_swap.specs.SwapMemory.{SwapMemory, memory_words, value_at, entries_of, is_named}
 use Rattle.bz_swap.specs.Starts.{IsAddress}
 
 pub record IsHeld (m : SwapMemory) : Type 0 where
   -- a durable word for each cached one, in whole lines
-  pub memory : IsMemory (words_of m)
+  pub memory : IsMemory (memory_words m)
   -- no more descriptors are taken than there are
   pub taken : m.taken ≤ m.swaps
   -- every word outside the descriptors is lawful, in the memory itself; each descriptor's status is one, in the

@@ -12,7 +12,7 @@ use Rattle.bz_swap.specs.Evictions.{IsEviction}
 use Rattle.bz_swap.specs.Power.{after_cut, opened, renewed}
 use Rattle.bz_swap.specs.Starts.{started, swapping}
 use Rattle.bz_swap.specs.Steps.{IsStep, IsRawStep}
-use Rattle.bz_swap.specs.SwapMemory.{SwapMemory, Doing, words_of}
+use Rattle.bz_swap.specs.SwapMemory.{SwapMemory, Doing, memory_words}
 
 -- each of these words has no bit from 61 on
 abbrev pub ArePlainFields : ℕ → List ℕ → Type 0
@@ -33,8 +33,8 @@ WritesPlain (Flush line) = Unit {0}
 -- from an opening on, whatever happens, where a recovery writes plain words
 pub record PlainFieldsStay : Type 0 where
   pub opening : (phase : Phase) (start : List ℕ) (swaps workers : ℕ) → ArePlainFields swaps start → HavePlainFields (opened phase start swaps workers)
-  pub step : (old new : SwapMemory) (w : ℕ) (made : Act) (done : Done) (told : Option ℕ) → IsMemory (words_of old) → IsStep old w made done told new → HavePlainFields old → HavePlainFields new
-  pub recovery : (old new : SwapMemory) (w : ℕ) (made : Act) (done : Done) (told : Option ℕ) → IsMemory (words_of old) → IsRawStep old w made done told new → WritesPlain made
+  pub step : (old new : SwapMemory) (w : ℕ) (made : Act) (done : Done) (told : Option ℕ) → IsMemory (memory_words old) → IsStep old w made done told new → HavePlainFields old → HavePlainFields new
+  pub recovery : (old new : SwapMemory) (w : ℕ) (made : Act) (done : Done) (told : Option ℕ) → IsMemory (memory_words old) → IsRawStep old w made done told new → WritesPlain made
       → HavePlainFields old → HavePlainFields new
   pub eviction : (old new : SwapMemory) (a : ℕ) (told : Option ℕ) → IsEviction old a told new → HavePlainFields old → HavePlainFields new
   pub start : (m : SwapMemory) (w : ℕ) (doing : Doing) → HavePlainFields m → HavePlainFields (started m w doing)

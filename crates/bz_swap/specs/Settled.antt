@@ -17,7 +17,7 @@ use Rattle.bz_swap.specs.Evictions.{IsEviction}
 use Rattle.bz_swap.specs.Power.{MayRenew, after_cut, opened, renewed}
 use Rattle.bz_swap.specs.Starts.{started, swapping}
 use Rattle.bz_swap.specs.Steps.{IsStep, IsRawStep}
-use Rattle.bz_swap.specs.SwapMemory.{SwapMemory, Doing, Idle, Swapping, words_of, has_effect, doing_of}
+use Rattle.bz_swap.specs.SwapMemory.{SwapMemory, Doing, Idle, Swapping, memory_words, has_effect, doing_of}
 
 -- swap s was begun since the last renewal, and no worker is doing it: it was answered, or the power was cut since
 pub record IsSettled (m : SwapMemory) (s : ℕ) : Type 0 where
@@ -58,7 +58,7 @@ FreesStatuses swaps (Flush line) = Unit {0}
 -- a swap without effect at a power cut has none up to the next renewal, where a recovery writes free into statuses alone
 pub record DroppedStay : Type 0 where
   pub cut : (m : SwapMemory) (s : ℕ) → s < m.taken → has_effect m s ≡ false → IsDropped (after_cut m) s
-  pub recovery : (old new : SwapMemory) (w : ℕ) (made : Act) (done : Done) (told : Option ℕ) (s : ℕ) → IsMemory (words_of old) → IsRawStep old w made done told new → FreesStatuses old.swaps made
+  pub recovery : (old new : SwapMemory) (w : ℕ) (made : Act) (done : Done) (told : Option ℕ) (s : ℕ) → IsMemory (memory_words old) → IsRawStep old w made done told new → FreesStatuses old.swaps made
       → IsDropped old s → IsDropped new s
   pub eviction : (old new : SwapMemory) (a : ℕ) (told : Option ℕ) (s : ℕ) → old.phase ≡ Recovering → IsEviction old a told new → IsDropped old s → IsDropped new s
   pub start : (m : SwapMemory) (w : ℕ) (doing : Doing) (s : ℕ) → doing ≢ Swapping s → IsDropped m s → IsDropped (started m w doing) s

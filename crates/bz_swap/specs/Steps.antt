@@ -9,7 +9,7 @@ use Rattle.bz_machine.specs.declared.done.Done.TheVariants.{Busy, Read, Swapped,
 use Rattle.bz_swap.specs.declared.phase.Phase.{Phase}
 use Rattle.bz_swap.specs.declared.phase.Phase.TheVariants.{Opened, Running, Recovering}
 use Rattle.bz_swap.specs.Alone.{left_to}
-use Rattle.bz_swap.specs.SwapMemory.{SwapMemory, Doing, Idle, Reading, Swapping, Loading, Storing, Flushing, words_of, value_at, has_effect, is_missed, is_named, worker_of, doing_of}
+use Rattle.bz_swap.specs.SwapMemory.{SwapMemory, Doing, Idle, Reading, Swapping, Loading, Storing, Flushing, memory_words, value_at, has_effect, is_missed, is_named, worker_of, doing_of}
 use Rattle.bz_swap.specs.Effects.{EffectIs, NotesMisses}
 use Rattle.bz_swap.specs.Writes.{WritesLawfully, IsDecided}
 
@@ -49,7 +49,7 @@ pub record KeepsOthers (old new : SwapMemory) (w : ℕ) : Type 0 where
 
 -- one step of worker w: exactly one memory act, on a word or line of the memory, by the memory's own rule
 pub record IsOneAct (old : SwapMemory) (w : ℕ) (made : Act) (done : Done) (new : SwapMemory) : Type 0 where
-  pub act : IsActOf (words_of old) made (words_of new)
+  pub act : IsActOf (memory_words old) made (memory_words new)
   pub within : IsWithin (length old.cached) made
   pub flush : is_flush_act made ≡ (worker_of old w).flush_next
   pub doing : doing_of new w ≡ doing_after (doing_of old w) done

@@ -40,8 +40,8 @@ pub record SwapMemory : Type 0 where
   pub runner : ℕ
   pub left : ℕ
 
-abbrev pub words_of : SwapMemory → Words
-words_of m = record { cached = m.cached; durable = m.durable }
+abbrev pub memory_words : SwapMemory → Words
+memory_words m = record { cached = m.cached; durable = m.durable }
 
 -- the value of an address outside the descriptors
 abbrev pub value_at : SwapMemory → ℕ → ℕ

@@ -12,7 +12,7 @@ use Rattle.bz_slotted.specs.Readers.{level_of}
 use Rattle.bz_word.specs.Headers.{header}
 use Rattle.bz_word.specs.declared.entry.Entry.{Entry}
 use Rattle.bz_content.specs.Content.{image_of, IsWellFormed}
-use Rattle.bz_content.specs.FromSwap.SwapMemory.{is_target}
+use Rattle.bz_swap.specs.SwapMemory.{is_target}
 use Rattle.bz_content.specs.Image.{node}
 use Rattle.bz_content.specs.Laws.{WellFormedImagesHaveNoFault}
 use Rattle.bz_content.specs.Resolving.{resolve}

@@ -11,7 +11,7 @@ use Rattle.bz_shape.specs.Split.{AreThree}
 use Rattle.bz_slotted.specs.Readers.{found_of}
 use Rattle.bz_slotted.specs.Rules.{node_fault}
 use Rattle.bz_content.specs.Content.{image_of, view_in}
-use Rattle.bz_content.specs.FromSwap.SwapMemory.{is_target}
+use Rattle.bz_swap.specs.SwapMemory.{is_target}
 use Rattle.bz_content.specs.Image.{Image, node}
 use Rattle.bz_content.specs.Laws.{PlainWordsStandForThemselves}
 use Rattle.bz_content.specs.Restructures.{children_of, SaysInHalves, Splits, StandsWhole}

@@ -16,8 +16,8 @@ use Rattle.bz_merge.specs.declared.phase.Phase.{Phase}
 use Rattle.bz_merge.specs.declared.phase.Phase.TheVariants.{Swap}
 use Rattle.bz_node.specs.declared.image.NodeImage.{NodeImage}
 use Rattle.bz_running.specs.Duties.{config_of, asks_of, facts_of}
-use Rattle.bz_running.specs.declared.running.Running.{Running}
-use Rattle.bz_running.specs.declared.running.Running.TheVariants.{Seeking, Finding, Reading, Inserting, Updating, Deleting, Freezing, Consolidating, Splitting, SplittingBelow, SplittingInner, SplittingInnerRoot, Merging}
+use Rattle.bz_running.specs.declared.running.AnyTask.{AnyTask}
+use Rattle.bz_running.specs.declared.running.AnyTask.TheVariants.{Seeking, Finding, Reading, Inserting, Updating, Deleting, Freezing, Consolidating, Splitting, SplittingBelow, SplittingInner, SplittingInnerRoot, Merging}
 use Rattle.bz_word.specs.declared.entry.Entry.{Entry}
 use Rattle.bz_task.specs.Instant.{Instant}
 use Rattle.bz_task.specs.Scene.{Scene}
@@ -93,7 +93,7 @@ merge-cases : (t : Merge) (phase : Phase) (s : Scene) (y : Instant) → MergeCou
 merge-cases t Swap s y h = inr (inr (record { slot = t.lower.slot; beside = t.side.slot; own = t.leaf.0; other = t.beside.0; is = (refl, (refl, (refl, refl))); merges = h }))
 merge-cases t phase s y h = inl h
 
-come-and-go : (t : Running) (s : Scene) (y : Instant) → LeavesFollow t s y → KeepsTheLeaves s y ⊎ (Grows t s y ⊎ Shrinks t s y)
+come-and-go : (t : AnyTask) (s : Scene) (y : Instant) → LeavesFollow t s y → KeepsTheLeaves s y ⊎ (Grows t s y ⊎ Shrinks t s y)
 come-and-go (Splitting t) s y h = inr (inl (record { slot = t.link.slot; is = refl; splits = h }))
 come-and-go (SplittingBelow t a) s y h = inr (inl (record { slot = t.lower.slot; is = refl; splits = h }))
 come-and-go (Merging t) s y h = merge-cases t t.phase s y h

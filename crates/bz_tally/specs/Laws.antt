@@ -21,8 +21,8 @@ use Rattle.bz_mutate.specs.UpdateDuties as update
 use Rattle.bz_mutate.specs.declared.delete.Delete.{Delete}
 use Rattle.bz_mutate.specs.declared.update.Update.{Update}
 use Rattle.bz_running.specs.Duties.{config_of, asks_of, facts_of}
-use Rattle.bz_running.specs.declared.running.Running.{Running}
-use Rattle.bz_running.specs.declared.running.Running.TheVariants.{Splitting, SplittingBelow, Merging}
+use Rattle.bz_running.specs.declared.running.AnyTask.{AnyTask}
+use Rattle.bz_running.specs.declared.running.AnyTask.TheVariants.{Splitting, SplittingBelow, Merging}
 use Rattle.bz_split.specs.Duties as split
 use Rattle.bz_split.specs.declared.split_root.SplitRoot.{SplitRoot}
 use Rattle.bz_word.specs.declared.entry.Entry.{Entry}
@@ -66,34 +66,34 @@ abbrev pub MergesCount : Type 0
 MergesCount = (t : Merge) (entries : List Entry) (s : Scene) (y : Instant) → IsOwnSwap t.config (merge.asks_of t) (merge.facts_of t) entries s y → MergeCounts t t.phase s y
 
 -- what the swap of any task makes of it
-abbrev pub LeavesFollow : Running → Scene → Instant → Type 0
+abbrev pub LeavesFollow : AnyTask → Scene → Instant → Type 0
 LeavesFollow (Splitting t) s y = SplitsLeaf t.link.slot s y
 LeavesFollow (SplittingBelow t a) s y = SplitsLeaf t.lower.slot s y
 LeavesFollow (Merging t) s y = MergeCounts t t.phase s y
 LeavesFollow t s y = KeepsTheLeaves s y
 
 abbrev pub SwapsCount : Type 0
-SwapsCount = (t : Running) (entries : List Entry) (s : Scene) (y : Instant) → IsOwnSwap (config_of t) (asks_of t) (facts_of t) entries s y → LeavesFollow t s y
+SwapsCount = (t : AnyTask) (entries : List Entry) (s : Scene) (y : Instant) → IsOwnSwap (config_of t) (asks_of t) (facts_of t) entries s y → LeavesFollow t s y
 
 -- the split of a leaf, in this slot
-abbrev pub IsSplitOf : Running → ℕ → Type 0
+abbrev pub IsSplitOf : AnyTask → ℕ → Type 0
 IsSplitOf (Splitting t) k = t.link.slot ≡ k
 IsSplitOf (SplittingBelow t a) k = t.lower.slot ≡ k
 IsSplitOf t k = ⊥
 
 -- the merge of the leaves in these slots, as they were read
-abbrev pub IsMergeOf : Running → ℕ → ℕ → List ℕ → List ℕ → Type 0
+abbrev pub IsMergeOf : AnyTask → ℕ → ℕ → List ℕ → List ℕ → Type 0
 IsMergeOf (Merging t) k j own other = (t.lower.slot ≡ k) × ((t.side.slot ≡ j) × ((t.leaf.0 ≡ own) × (t.beside.0 ≡ other)))
 IsMergeOf t k j own other = ⊥
 
 -- there is one more only by the split of a leaf
-pub record Grows (t : Running) (s : Scene) (y : Instant) : Type 0 where
+pub record Grows (t : AnyTask) (s : Scene) (y : Instant) : Type 0 where
   pub slot : ℕ
   pub is : IsSplitOf t slot
   pub splits : SplitsLeaf slot s y
 
 -- and one less only by the merge of two
-pub record Shrinks (t : Running) (s : Scene) (y : Instant) : Type 0 where
+pub record Shrinks (t : AnyTask) (s : Scene) (y : Instant) : Type 0 where
   pub slot : ℕ
   pub beside : ℕ
   pub own : List ℕ
@@ -104,5 +104,5 @@ pub record Shrinks (t : Running) (s : Scene) (y : Instant) : Type 0 where
 -- so no swap of a task changes the number in another way
 abbrev pub LeavesComeAndGo : Type 0
 LeavesComeAndGo =
-    (t : Running) (entries : List Entry) (s : Scene) (y : Instant) → IsOwnSwap (config_of t) (asks_of t) (facts_of t) entries s y →
+    (t : AnyTask) (entries : List Entry) (s : Scene) (y : Instant) → IsOwnSwap (config_of t) (asks_of t) (facts_of t) entries s y →
     KeepsTheLeaves s y ⊎ (Grows t s y ⊎ Shrinks t s y)

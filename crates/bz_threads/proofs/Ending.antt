@@ -30,21 +30,21 @@ use Rattle.bz_threads.specs.Inside.Batches.{paired, MetNone, IsAbove, IsBack, Is
 use Rattle.bz_threads.specs.Inside.Runs.{HasRunOn}
 use Rattle.bz_threads.specs.declared.running.ThreadsEnd.{ThreadsEnd}
 use Rattle.bz_threads.specs.declared.running.ThreadsEnd.TheVariants as end
-use Rattle.bz_index.specs.FromWorld.Lab.{Lab, IsWorker, power_in}
-use Rattle.bz_index.specs.FromWorld.Which.{Which}
-use Rattle.bz_index.specs.FromWorld.Which.TheVariants as which
+use Rattle.bz_index.specs.FromWorld.WorldView.{WorldView, IsWorker, power_in}
+use Rattle.bz_index.specs.FromWorld.LimitKind.{LimitKind}
+use Rattle.bz_index.specs.FromWorld.LimitKind.TheVariants as which
 
 marks-told : (past : List Mark) (pages : Pages) → marks_in (told past pages) ≡ past
 marks-told [] pages = refl
 marks-told (mark ∷ past) pages = ap (λ (marks : List Mark). mark ∷ marks) (marks-told past (if has_page mark then drop 1 pages else pages))
 
-pub stays_both : (a b c : Lab) → Stays a b → Stays b c → Stays a c
+pub stays_both : (a b c : WorldView) → Stays a b → Stays b c → Stays a c
 stays_both a b c p q = record { config = q.config ∙ p.config; at_start = q.at_start ∙ p.at_start; start = q.start ∙ p.start; limits = q.limits ∙ p.limits }
 
 same_limits : (a b : Limits) → a.marks ≡ b.marks → a.calls ≡ b.calls → a.pages ≡ b.pages → a ≡ b
 same_limits a b p q r = λ i. record { marks = p i; calls = q i; pages = r i }
 
-same_world : (a b : Lab) → origin_of b ≡ origin_of a → Stays a b
+same_world : (a b : WorldView) → origin_of b ≡ origin_of a → Stays a b
 same_world a b is = record {
   config = ap (λ (o : Origin). o.config) is;
   at_start = ap (λ (o : Origin). o.at_start) is;
@@ -56,7 +56,7 @@ idle_by : (opened : Option Open) (calls : List (ℕ × Call)) → opened ≡ Non
 idle_by opened calls none empty = rw (none, empty) refl
 
 -- a world in which the open calls were ended, the index that was opened over it, and the world when it was closed
-module _ (old mid new : Lab) (queued behind left : Queued) (index : Index) (first now : IndexPass) (ends : HasEndedCalls old queued None mid behind) (origin : origin_in index ≡ origin_of mid) (seen : seen_by first ≡ entries_in mid.log)
+module _ (old mid new : WorldView) (queued behind left : Queued) (index : Index) (first now : IndexPass) (ends : HasEndedCalls old queued None mid behind) (origin : origin_in index ≡ origin_of mid) (seen : seen_by first ≡ entries_in mid.log)
     (closed : origin_of new ≡ origin_in index) (past : new.log.past ≡ marks_in (seen_by now)) where
   stays : Stays old new
   stays = stays_both old mid new ends.0.stays (same_world mid new (closed ∙ origin))
@@ -68,7 +68,7 @@ module _ (old mid new : Lab) (queued behind left : Queued) (index : Index) (firs
   pub ended_only : seen_by now ≡ seen_by first → HasRunThreads old queued end.Memory new left
   ended_only same = (stays, (point_of mid behind, ends.3, sym (past ∙ ap marks_in same ∙ past_first)))
 
-  module _ (others : (w : ℕ) → (IsWorker new.config w → ⊥) → open_call w new.log.past ≡ None) (lowest : Option (ℕ × Which)) (j : IsJoined index behind.calls (seen_by first) now [] lowest) where
+  module _ (others : (w : ℕ) → (IsWorker new.config w → ⊥) → open_call w new.log.past ≡ None) (lowest : Option (ℕ × LimitKind)) (j : IsJoined index behind.calls (seen_by first) now [] lowest) where
     abbrev added : List IndexEntry
     added = j.grown.0
 
@@ -120,7 +120,7 @@ module _ (old mid new : Lab) (queued behind left : Queued) (index : Index) (firs
     -- all calls were made
     module _ (all : lowest ≡ None) (few : new.config.workers ≤ MAX_WORKERS) (empty : left.calls ≡ []) where
       met_none : (w : ℕ) → (back : IsBack index behind.calls (seen_by first) now lowest w) → MetNone back.met
-      met_none w back = subst (λ (low : Option (ℕ × Which)). IsAbove low w back.met) all back.above
+      met_none w back = subst (λ (low : Option (ℕ × LimitKind)). IsAbove low w back.met) all back.above
 
       none_at_end : (w : ℕ) → open_call w new.log.past ≡ None
       none_at_end w = open_none w (λ some most. let back = back_of w some most in ((left_of w most back).idle (met_none w back)).0) few
@@ -145,7 +145,7 @@ module _ (old mid new : Lab) (queued behind left : Queued) (index : Index) (firs
       ended_whole room = (record { stays = stays; room = room }, on_now, (runs_whole, tt))
 
     -- a limit was met
-    module _ (v : ℕ) (met : Which) (low : lowest ≡ Some (v, met)) (few : new.config.workers ≤ MAX_WORKERS) where
+    module _ (v : ℕ) (met : LimitKind) (low : lowest ≡ Some (v, met)) (few : new.config.workers ≤ MAX_WORKERS) where
       is_lowest : IsLowest index behind.calls (seen_by first) now (Some (v, met))
       is_lowest = subst (IsLowest index behind.calls (seen_by first) now) low j.limit
 
@@ -166,7 +166,7 @@ module _ (old mid new : Lab) (queued behind left : Queued) (index : Index) (firs
             l.rest,
             (
               l.begun,
-              (λ below. let idle = l.idle (subst (λ (low : Option (ℕ × Which)). IsAbove low w back.met) low back.above below) in idle_by (open_call w whole) (paired w l.rest) idle.0 idle.1),
+              (λ below. let idle = l.idle (subst (λ (low : Option (ℕ × LimitKind)). IsAbove low w back.met) low back.above below) in idle_by (open_call w whole) (paired w l.rest) idle.0 idle.1),
               (λ same. absurd (other same)),
             ),
           )
@@ -184,7 +184,7 @@ module _ (old mid new : Lab) (queued behind left : Queued) (index : Index) (firs
       here : Stopped (origin_in index) whole (open_call v whole) (calls_of v parts.0) met
       here = (parts.2 v is_lowest.0 (let most = is_lowest.1 in omega arith)).2 refl
 
-      stands_by : (kind : Which) → Stopped (origin_in index) whole (open_call v whole) (calls_of v parts.0) kind → is_busy v at_end ≡ true → StandsAt kind v at_end
+      stands_by : (kind : LimitKind) → Stopped (origin_in index) whole (open_call v whole) (calls_of v parts.0) kind → is_busy v at_end ≡ true → StandsAt kind v at_end
       stands_by which.Marks s busy = (busy, inl refl)
       stands_by which.Calls s busy = (busy, (subst (λ (marks : List Mark). open_call v marks ≡ None) (sym whole_is) s.here, refl))
       stands_by which.Pages s busy = (busy, (subst (λ (marks : List Mark). open_call v marks ≡ None) (sym whole_is) s.here.0, s.here.1, refl))
@@ -207,7 +207,7 @@ module _ (old mid new : Lab) (queued behind left : Queued) (index : Index) (firs
         },
       )
 
-      is_met : (kind : Which) → MeetsLimit (origin_in index) whole kind → IsAtLimit new kind
+      is_met : (kind : LimitKind) → MeetsLimit (origin_in index) whole kind → IsAtLimit new kind
       is_met which.Marks meets = subst (λ (o : Origin). o.marks - length new.log.past < 3) (sym closed) (subst (λ (marks : List Mark). (origin_in index).marks - length marks < 3) (sym whole_is) meets)
       is_met which.Calls meets = subst (λ (o : Origin). o.calls ≤ count_begins new.log.past) (sym closed) (subst (λ (marks : List Mark). (origin_in index).calls ≤ count_begins marks) (sym whole_is) meets)
       is_met which.Pages meets = subst (λ (o : Origin). o.pages ≤ count_page_calls new.log.past) (sym closed) (subst (λ (marks : List Mark). (origin_in index).pages ≤ count_page_calls marks) (sym whole_is) meets)
@@ -223,9 +223,9 @@ module _ (old mid new : Lab) (queued behind left : Queued) (index : Index) (firs
   ended others few empty room end.Memory same = ended_only same
 
 -- a limit was met before the index was opened
-pub ended_before : (old new : Lab) (queued left : Queued) (met : Which) → HasEndedCalls old queued (Some met) new left → HasRunThreads old queued (end.Limit met) new left
+pub ended_before : (old new : WorldView) (queued left : Queued) (met : LimitKind) → HasEndedCalls old queued (Some met) new left → HasRunThreads old queued (end.Limit met) new left
 ended_before old new queued left met (stays, part, is) = (stays, (point_of new left, inl part, refl), is)
 
 -- there was no memory for an index
-pub ended_early : (old new : Lab) (queued left : Queued) → HasEndedCalls old queued None new left → HasRunThreads old queued end.Memory new left
+pub ended_early : (old new : WorldView) (queued left : Queued) → HasEndedCalls old queued None new left → HasRunThreads old queued end.Memory new left
 ended_early old new queued left (leaves, on, shut, ends) = (leaves.stays, (point_of new left, ends, refl))

@@ -27,8 +27,8 @@ use Rattle.bz_threads.proofs.Owns.{ends_open, marks-append, begun_own, open_own,
 use Rattle.bz_threads.proofs.Taking.{paired-append}
 use Rattle.bz_threads.specs.Inside.Batches.{paired, Fate, MetNone}
 use Rattle.bz_threads.specs.Made.{own_of, AreMade, MakesAll}
-use Rattle.bz_index.specs.FromWorld.Which.{Which}
-use Rattle.bz_index.specs.FromWorld.Which.TheVariants as which
+use Rattle.bz_index.specs.FromWorld.LimitKind.{LimitKind}
+use Rattle.bz_index.specs.FromWorld.LimitKind.TheVariants as which
 
 -- the counts of a journal that has grown
 pub begins_grow : (xs ys : List Mark) → count_begins ys ≤ count_begins (xs ++ ys)
@@ -46,24 +46,24 @@ pages_grow (Begin w n call ∷ xs) ys = one_page_more (is_page call) (count_page
 pages_grow (mark ∷ xs) ys = pages_grow xs ys
 
 -- the limit is met in a journal
-abbrev pub MeetsLimit : Origin → List Mark → Which → Type 0
+abbrev pub MeetsLimit : Origin → List Mark → LimitKind → Type 0
 MeetsLimit origin past which.Marks = origin.marks - length past < 3
 MeetsLimit origin past which.Calls = origin.calls ≤ count_begins past
 MeetsLimit origin past which.Pages = origin.pages ≤ count_page_calls past
 
-still_met : (origin : Origin) (xs ys : List Mark) (met : Which) → MeetsLimit origin ys met → MeetsLimit origin (xs ++ ys) met
+still_met : (origin : Origin) (xs ys : List Mark) (met : LimitKind) → MeetsLimit origin ys met → MeetsLimit origin (xs ++ ys) met
 still_met origin xs ys which.Marks is = omega (arith, length-append xs ys)
 still_met origin xs ys which.Calls is = let more = begins_grow xs ys in omega arith
 still_met origin xs ys which.Pages is = let more = pages_grow xs ys in omega arith
 
 -- where a worker's calls stopped at a limit
-abbrev pub StoppedAt : Which → Option Open → List (ℕ × Call) → Type 0
+abbrev pub StoppedAt : LimitKind → Option Open → List (ℕ × Call) → Type 0
 StoppedAt which.Marks opened left = Unit {0}
 StoppedAt which.Calls opened left = opened ≡ None
 StoppedAt which.Pages opened left = (opened ≡ None) × IsPageNext left
 
 -- it met this limit, and its call was to begin or to make an act
-pub record Stopped (origin : Origin) (past : List Mark) (opened : Option Open) (left : List (ℕ × Call)) (met : Which) : Type 0 where
+pub record Stopped (origin : Origin) (past : List Mark) (opened : Option Open) (left : List (ℕ × Call)) (met : LimitKind) : Type 0 where
   pub busy : is_busy_by (is_some opened) left ≡ true
   pub here : StoppedAt met opened left
   pub meets : MeetsLimit origin past met
@@ -73,7 +73,7 @@ pub record IsLeft (origin : Origin) (w : ℕ) (waiting : List (ℕ × Call)) (ad
   pub rest : List Call
   pub begun : begun_in w added ++ paired w rest ≡ calls_of w waiting
   pub idle : MetNone met → (open_call w past ≡ None) × (paired w rest ≡ [])
-  pub stopped : (kind : Which) → met ≡ Some (Limit kind) → Stopped origin past (open_call w past) (paired w rest) kind
+  pub stopped : (kind : LimitKind) → met ≡ Some (Limit kind) → Stopped origin past (open_call w past) (paired w rest) kind
 
 none_is : (opened : Option Open) → is_some opened ≡ false → opened ≡ None
 none_is None is = refl
@@ -87,7 +87,7 @@ busy_open : (opened : Bool) (calls : List (ℕ × Call)) → opened ≡ true →
 busy_open true calls is = refl
 busy_open false calls is = absurd (cc is)
 
-same_which : (a b : Which) (P : Which → Type 0) → Some (Limit a) ≡ Some (Limit b) → P a → P b
+same_which : (a b : LimitKind) (P : LimitKind → Type 0) → Some (Limit a) ≡ Some (Limit b) → P a → P b
 same_which a b P is p = let same : a ≡ b = cc is in subst P same p
 
 lacks_both : (b c : Bool) → (b && c) ≡ true → (b ≡ true) × (c ≡ true)
@@ -128,7 +128,7 @@ module _ (origin : Origin) (w : ℕ) (waiting : List (ℕ × Call)) (first now a
       cut_quiet (marks_in since) (calls_quiet since none) cut
 
   module _ (seen : List IndexEntry) (since : Extends first seen) (extends : Extends seen now) (own : own_of w now ≡ own_of w seen) where
-    meets_still : (met : Which) → MeetsLimit origin (marks_in seen) met → MeetsLimit origin past met
+    meets_still : (met : LimitKind) → MeetsLimit origin (marks_in seen) met → MeetsLimit origin past met
     meets_still met meets =
         let (more, e) = extends in
         subst (λ (marks : List Mark). MeetsLimit origin marks met) (sym (marks-append more seen) ∙ ap marks_in (sym e) ∙ ap marks_in is ∙ marks-append added first) (still_met origin (marks_in more) (marks_in seen) met meets)
@@ -145,7 +145,7 @@ module _ (origin : Origin) (w : ℕ) (waiting : List (ℕ × Call)) (first now a
           stopped = λ kind met. absurd (cc met);
         }
 
-    module _ (calls made rest : List Call) (call : Call) (mid : List IndexEntry) (kind : Which) (are : paired w calls ≡ calls_of w waiting) (parts : calls ≡ made ++ call ∷ rest) (replied : AreMade w made (own_of w first) (own_of w mid)) (meets : MeetsLimit origin past kind) where
+    module _ (calls made rest : List Call) (call : Call) (mid : List IndexEntry) (kind : LimitKind) (are : paired w calls ≡ calls_of w waiting) (parts : calls ≡ made ++ call ∷ rest) (replied : AreMade w made (own_of w first) (own_of w mid)) (meets : MeetsLimit origin past kind) where
       whole : paired w made ++ ((w, call) ∷ paired w rest) ≡ calls_of w waiting
       whole = sym (paired-append w made (call ∷ rest)) ∙ ap (paired w) (sym parts) ∙ are
 
@@ -158,7 +158,7 @@ module _ (origin : Origin) (w : ℕ) (waiting : List (ℕ × Call)) (first now a
             rest = call ∷ rest;
             begun = ap (λ (xs : List (ℕ × Call)). xs ++ paired w (call ∷ rest)) (begun_by adds.added e ∙ adds.begun) ∙ whole;
             idle = λ none. absurd none;
-            stopped = λ other met. same_which kind other (λ (k : Which). Stopped origin past (open_call w past) (paired w (call ∷ rest)) k) met (record {
+            stopped = λ other met. same_which kind other (λ (k : LimitKind). Stopped origin past (open_call w past) (paired w (call ∷ rest)) k) met (record {
               busy = busy_left (is_some (open_call w past)) (w, call) (paired w rest);
               here = here (none_is (open_call w past) (open_by adds.added e ∙ adds.closed));
               meets = meets;
@@ -176,7 +176,7 @@ module _ (origin : Origin) (w : ℕ) (waiting : List (ℕ × Call)) (first now a
             rest = rest;
             begun = ap (λ (xs : List (ℕ × Call)). xs ++ paired w rest) (begun_by mine e ∙ began) ∙ append_assoc (paired w made) ((w, call) ∷ []) (paired w rest) ∙ whole;
             idle = λ none. absurd none;
-            stopped = λ other met. same_which kind other (λ (k : Which). Stopped origin past (open_call w past) (paired w rest) k) met (record {
+            stopped = λ other met. same_which kind other (λ (k : LimitKind). Stopped origin past (open_call w past) (paired w rest) k) met (record {
               busy = busy_open (is_some (open_call w past)) (paired w rest) (open_by mine e);
               here = rw marks tt;
               meets = meets;
@@ -184,7 +184,7 @@ module _ (origin : Origin) (w : ℕ) (waiting : List (ℕ × Call)) (first now a
           }
 
     -- the answer to the first call that was not replied to
-    left_by : (calls made rest : List Call) (call : Call) (mid : List IndexEntry) (page : List (List ℕ × List ℕ)) (met : Which) → paired w calls ≡ calls_of w waiting → calls ≡ made ++ call ∷ rest → AreMade w made (own_of w first) (own_of w mid)
+    left_by : (calls made rest : List Call) (call : Call) (mid : List IndexEntry) (page : List (List ℕ × List ℕ)) (met : LimitKind) → paired w calls ≡ calls_of w waiting → calls ≡ made ++ call ∷ rest → AreMade w made (own_of w first) (own_of w mid)
         → IsAnswer origin w call mid seen page (Limit met) → IsLeft origin w waiting (marks_in added) past (Some (Limit met))
     left_by calls made rest call mid page which.Marks are parts replied (short, how) =
         let meets = meets_still which.Marks (let few : origin.marks - length (marks_in seen) < 3 = grind (arith, nat_tests) in few) in

@@ -21,7 +21,7 @@ use Rattle.bz_threads.specs.Inside.Batches.{paired, IsFirstOf, IsWorkers, IsOpen
 use Rattle.bz_threads.specs.Inside.Runs.{end_of, HasRunOn}
 use Rattle.bz_threads.specs.Made.{own_of, MakesAll}
 use Rattle.bz_threads.specs.declared.batch.Batch.{Batch}
-use Rattle.bz_index.specs.FromWorld.Which.{Which}
+use Rattle.bz_index.specs.FromWorld.LimitKind.{LimitKind}
 
 -- what a thread made of a batch that was opened
 done_of : (index : Index) (waiting : List (ℕ × Call)) (first : List IndexEntry) (old new : Batch) → IsOpened index waiting first old → HasWorked index old new → IsDone index waiting first new
@@ -99,12 +99,12 @@ fate_stays origin w waiting first mid now met extends own f = record {
   made = f.made;
 }
 
-above_by : (b : Bool) (v u w : ℕ) (other which : Which) (met : Option Answer) → nat_lt v u ≡ b → (w < v → MetNone met) → IsAbove (if b then Some (v, other) else Some (u, which)) w met
+above_by : (b : Bool) (v u w : ℕ) (other which : LimitKind) (met : Option Answer) → nat_lt v u ≡ b → (w < v → MetNone met) → IsAbove (if b then Some (v, other) else Some (u, which)) w met
 above_by true v u w other which met is above = above
 above_by false v u w other which met is above = λ below. above (let not : u ≤ v = grind (arith, nat_tests) in omega arith)
 
 -- who was above the lowest one still is, once one more is asked
-above_stays : (lowest : Option (ℕ × Which)) (u w : ℕ) (stopped met : Option Answer) → IsAbove lowest w met → IsAbove (lowered lowest u stopped) w met
+above_stays : (lowest : Option (ℕ × LimitKind)) (u w : ℕ) (stopped met : Option Answer) → IsAbove lowest w met → IsAbove (lowered lowest u stopped) w met
 above_stays lowest u w None met above = above
 above_stays lowest u w (Some (Reply reply)) met above = above
 above_stays lowest u w (Some Off) met above = above
@@ -112,16 +112,16 @@ above_stays lowest u w (Some Recovering) met above = above
 above_stays None u w (Some (Limit which)) met above = λ below. above
 above_stays (Some (v, other)) u w (Some (Limit which)) met above = above_by (nat_lt v u) v u w other which met refl above
 
-met_none : (lowest : Option (ℕ × Which)) (w : ℕ) (met : Option Answer) → MetNone met → IsAbove lowest w met
+met_none : (lowest : Option (ℕ × LimitKind)) (w : ℕ) (met : Option Answer) → MetNone met → IsAbove lowest w met
 met_none None w met none = none
 met_none (Some (v, which)) w met none = λ below. none
 
-above_itself : (b : Bool) (v w : ℕ) (other which : Which) (met : Option Answer) → nat_lt v w ≡ b → IsAbove (if b then Some (v, other) else Some (w, which)) w met
+above_itself : (b : Bool) (v w : ℕ) (other which : LimitKind) (met : Option Answer) → nat_lt v w ≡ b → IsAbove (if b then Some (v, other) else Some (w, which)) w met
 above_itself true v w other which met is = λ below. absurd (let before : v < w = grind (arith, nat_tests) in omega arith)
 above_itself false v w other which met is = λ below. absurd (omega arith)
 
 -- and that one is
-above_own : (lowest : Option (ℕ × Which)) (w : ℕ) (met : Option Answer) → IsAbove (lowered lowest w met) w met
+above_own : (lowest : Option (ℕ × LimitKind)) (w : ℕ) (met : Option Answer) → IsAbove (lowered lowest w met) w met
 above_own lowest w None = met_none lowest w None tt
 above_own lowest w (Some (Reply reply)) = met_none lowest w (Some (Reply reply)) tt
 above_own lowest w (Some Off) = met_none lowest w (Some Off) tt
@@ -129,7 +129,7 @@ above_own lowest w (Some Recovering) = met_none lowest w (Some Recovering) tt
 above_own None w (Some (Limit which)) = λ below. absurd (omega arith)
 above_own (Some (v, other)) w (Some (Limit which)) = above_itself (nat_lt v w) v w other which (Some (Limit which)) refl
 
-module _ (index : Index) (waiting : List (ℕ × Call)) (first : List IndexEntry) (p now : IndexPass) (rest : List Batch) (batch : Batch) (lowest : Option (ℕ × Which))
+module _ (index : Index) (waiting : List (ℕ × Call)) (first : List IndexEntry) (p now : IndexPass) (rest : List Batch) (batch : Batch) (lowest : Option (ℕ × LimitKind))
     (j : IsJoined index waiting first p (rest ++ batch ∷ []) lowest) (pass : IsFirstOf index now)
     (join : IsJoinOf owner_of (seen_by p) (seen_by batch.pass) (worker_of batch.pass) (free_in p) (seen_by now))
     (free : (w : ℕ) → IsFree now w ↔ (IsFree p w ⊎ (w ≡ worker_of batch.pass))) where
@@ -158,20 +158,20 @@ module _ (index : Index) (waiting : List (ℕ × Call)) (first : List IndexEntry
     above = above_own lowest (worker_of batch.pass) batch.stopped;
   })
 
-  lowest_stays : (low : Option (ℕ × Which)) → IsLowest index waiting first p low → IsLowest index waiting first now low
+  lowest_stays : (low : Option (ℕ × LimitKind)) → IsLowest index waiting first p low → IsLowest index waiting first now low
   lowest_stays None low = tt
   lowest_stays (Some (v, which)) (some, most, was, f) =
       (some, most, (free v).1 (inl was), fate_stays (origin_in index) v waiting first (seen_by p) (seen_by now) (Some (Limit which)) join.extends_mine (join.others v (omega arith) was) f)
 
-  own_lowest : (which : Which) → Fate (origin_in index) (worker_of batch.pass) waiting first (seen_by now) (Some (Limit which)) → IsLowest index waiting first now (Some (worker_of batch.pass, which))
+  own_lowest : (which : LimitKind) → Fate (origin_in index) (worker_of batch.pass) waiting first (seen_by now) (Some (Limit which)) → IsLowest index waiting first now (Some (worker_of batch.pass, which))
   own_lowest which f = (done.pass.some, done.pass.most, (free (worker_of batch.pass)).1 (inr refl), f)
 
-  lower_by : (b : Bool) (v : ℕ) (other which : Which) → IsLowest index waiting first p (Some (v, other)) → Fate (origin_in index) (worker_of batch.pass) waiting first (seen_by now) (Some (Limit which))
+  lower_by : (b : Bool) (v : ℕ) (other which : LimitKind) → IsLowest index waiting first p (Some (v, other)) → Fate (origin_in index) (worker_of batch.pass) waiting first (seen_by now) (Some (Limit which))
       → IsLowest index waiting first now (if b then Some (v, other) else Some (worker_of batch.pass, which))
   lower_by true v other which low f = lowest_stays (Some (v, other)) low
   lower_by false v other which low f = own_lowest which f
 
-  lowest_by : (low : Option (ℕ × Which)) (met : Option Answer) → IsLowest index waiting first p low → Fate (origin_in index) (worker_of batch.pass) waiting first (seen_by now) met
+  lowest_by : (low : Option (ℕ × LimitKind)) (met : Option Answer) → IsLowest index waiting first p low → Fate (origin_in index) (worker_of batch.pass) waiting first (seen_by now) met
       → IsLowest index waiting first now (lowered low (worker_of batch.pass) met)
   lowest_by low None is f = lowest_stays low is
   lowest_by low (Some (Reply reply)) is f = lowest_stays low is
@@ -221,9 +221,9 @@ giving_more index first p now rest batch g batches seen pass join free = record 
 }
 
 -- every worker is back once all batches are joined
-pub all_back : (index : Index) (waiting : List (ℕ × Call)) (first : List IndexEntry) (p : IndexPass) (lowest : Option (ℕ × Which)) → IsJoined index waiting first p [] lowest → (w : ℕ) → 0 < w → w ≤ MAX_WORKERS → IsFree p w
+pub all_back : (index : Index) (waiting : List (ℕ × Call)) (first : List IndexEntry) (p : IndexPass) (lowest : Option (ℕ × LimitKind)) → IsJoined index waiting first p [] lowest → (w : ℕ) → 0 < w → w ≤ MAX_WORKERS → IsFree p w
 all_back index waiting first p lowest j w some most = ⊎_elim (λ none. absurd none) (λ back. back.free) (j.each w some most)
 
-pub all_joined : (index : Index) (waiting : List (ℕ × Call)) (first : List IndexEntry) (p : IndexPass) (lowest : Option (ℕ × Which)) → IsJoined index waiting first p [] lowest → HasRunOn index waiting first p (end_of lowest)
+pub all_joined : (index : Index) (waiting : List (ℕ × Call)) (first : List IndexEntry) (p : IndexPass) (lowest : Option (ℕ × LimitKind)) → IsJoined index waiting first p [] lowest → HasRunOn index waiting first p (end_of lowest)
 all_joined index waiting first p None j = j
 all_joined index waiting first p (Some (w, which)) j = (w, j)

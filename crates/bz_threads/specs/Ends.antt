@@ -9,11 +9,11 @@ use Rattle.bz_sched.specs.Together.{RunsThreadsUpTo}
 use Rattle.bz_sched.specs.declared.running.RunEnd.TheVariants as run
 use Rattle.bz_threads.specs.declared.running.ThreadsEnd.{ThreadsEnd}
 use Rattle.bz_threads.specs.declared.running.ThreadsEnd.TheVariants as end
-use Rattle.bz_index.specs.FromWorld.Lab.{Lab}
+use Rattle.bz_index.specs.FromWorld.WorldView.{WorldView}
 
 -- as a run by the plan; or up to a limit, and then the queue tells nothing; or, where memory was wanting, with the calls that
 -- were open ended and none begun
-abbrev pub HasRunThreads : Lab → Queued → ThreadsEnd → Lab → Queued → Type 0
+abbrev pub HasRunThreads : WorldView → Queued → ThreadsEnd → WorldView → Queued → Type 0
 HasRunThreads old queued end.Finished new left = HasRun None Threads old queued run.Finished new left
 HasRunThreads old queued (end.Limit why) new left =
     Stays old new × ((at : Point) × RunsThreadsUpTo why (point_of old queued) at × (at.past ≡ new.log.past)) × IsAtLimit new why

@@ -11,7 +11,7 @@ ghost use Rattle.bz_threads.specs.declared.batch.Batch.{Batch};
 
 use crate::batch::Batch;
 use bz_call::Call;
-use bz_index::{Answer, Gate, Index, IndexPass, Which};
+use bz_index::{Answer, Gate, Index, IndexPass, LimitKind};
 use bz_key::PageBuf;
 use bz_layout::MAX_WORKERS;
 use bz_memory::Memory;
@@ -117,7 +117,7 @@ pub(crate) fn work_all<G: Gate + Sync, R: Threads + Wait + Sync>(
 }
 
 // The limit of the lower worker.
-fn lower(lowest: Option<(u8, Which)>, worker: u8, which: Which) -> Option<(u8, Which)>
+fn lower(lowest: Option<(u8, LimitKind)>, worker: u8, which: LimitKind) -> Option<(u8, LimitKind)>
     ensures { result ≡ lower_of lowest worker which }
 {
     match lowest {
@@ -134,10 +134,10 @@ fn lower(lowest: Option<(u8, Which)>, worker: u8, which: Which) -> Option<(u8, W
 
 // The lowest worker that met a limit, and that limit, once one more is asked.
 fn lowest_of(
-    lowest: Option<(u8, Which)>,
+    lowest: Option<(u8, LimitKind)>,
     worker: u8,
     stopped: Option<Answer>,
-) -> Option<(u8, Which)>
+) -> Option<(u8, LimitKind)>
     ensures { result ≡ lowered lowest worker stopped }
 {
     match stopped {
@@ -154,7 +154,7 @@ pub(crate) fn join_batches(
     index: &Index,
     first: &mut IndexPass,
     batches: &mut Vec<Batch, Global>,
-) -> Option<(u8, Which)>
+) -> Option<(u8, LimitKind)>
     requires first { IsFirstOf index.now first.old }
     requires batches { All (λ j. IsWorkers index.now j.pass) batches.old.items }
     ensures { (waiting : List (ℕ × Call)) (seen : List IndexEntry) → IsJoined index.now waiting seen first.old batches.old.items None → IsJoined index.now waiting seen first.new [] result }

@@ -7,10 +7,10 @@ ghost use Rattle.bz_sound.specs.declared.power.Power.TheVariants.{On};
 ghost use Rattle.bz_threads.specs.Ends.{HasRunThreads};
 ghost use Rattle.bz_threads.specs.Inside.Batches.{IsFirstOf};
 ghost use Rattle.bz_threads.specs.Inside.Runs.{HasRunOn, end_of as named};
-ghost use Rattle.bz_index.specs.FromWorld.Lab.{power_in};
+ghost use Rattle.bz_index.specs.FromWorld.WorldView.{power_in};
 
 use crate::batches::{give_back, join_batches, open_batches, work_all};
-use bz_index::{Gate, Index, IndexPass, Which, World};
+use bz_index::{Gate, Index, IndexPass, LimitKind, World};
 use bz_layout::MAX_WORKERS;
 use bz_memory::Memory;
 use bz_sched::{Queue, end_open_calls};
@@ -25,13 +25,13 @@ pub enum ThreadsEnd {
     Finished,
 
     /// A limit of the journal was met, and one more was needed: that of the lowest worker that met one.
-    Limit(Which),
+    Limit(LimitKind),
 
     /// Want of memory, before any thread began.
     Memory,
 }
 
-fn end_of(lowest: Option<(u8, Which)>) -> ThreadsEnd
+fn end_of(lowest: Option<(u8, LimitKind)>) -> ThreadsEnd
     ensures { result ≡ named lowest }
 {
     match lowest {

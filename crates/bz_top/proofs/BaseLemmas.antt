@@ -14,7 +14,7 @@ use Rattle.bz_layout.specs.declared.limits.TheConstants.{MIN_NODES, MAX_NODES, M
 use Rattle.bz_script.specs.Forms.{memory_of}
 use Rattle.bz_script.specs.Order.{at_first}
 use Rattle.bz_script.specs.Script.{Job, Fault, IsFault, same_as, first_of, items_of, then_job, script_of_lines, script_of}
-use Rattle.bz_script.specs.Words.{is_word, lines_of, words_of}
+use Rattle.bz_script.specs.Words.{is_word, lines_of, words_in_line}
 use Rattle.bz_script.specs.declared.fault.ScriptFault.{ScriptFault}
 use Rattle.bz_script.specs.declared.fault.ScriptFault.TheVariants.{Rule}
 use Rattle.bz_script.specs.declared.fault.ScriptRule.{ScriptRule}
@@ -22,7 +22,7 @@ use Rattle.bz_script.specs.declared.fault.ScriptRule.TheVariants.{Number, NoMemo
 use Rattle.bz_script.specs.declared.item.Item.{Item}
 use Rattle.bz_sched.specs.Runs.{Stays}
 use Rattle.bz_sound.specs.declared.power.Power.TheVariants as power
-use Rattle.bz_sched.specs.FromWorld.Lab.{Lab, lab_over, image_lab}
+use Rattle.bz_sched.specs.FromWorld.WorldView.{WorldView, view_over, image_view}
 use Rattle.bz_top.specs.Bases.{Base, power_over, words_over, numbers_over, IsBase, IsBaseOf}
 use Rattle.bz_top.specs.Commands.{config_of}
 use Rattle.bz_top.specs.Endings.{IsMadeFor}
@@ -53,9 +53,9 @@ lines_numbers image [] job is = absurd cc
 lines_numbers image (bytes ∷ []) job is = absurd cc
 lines_numbers image (line ∷ next ∷ lines) job is =
     let rest : Result (List Item) Fault = items_of 2 at_first (next ∷ lines) in
-    let first : then_job (first_of (Some image) (words_of line)) rest ≡ Ok job → (job.nodes ≡ image.0) × (job.swaps ≡ image.1) =
-    elim (is_word (words_of line) 0 (codes "memory")) as (λ b. then_job (if b then same_as (Some image) (memory_of (words_of line)) else Err NoMemoryLine) rest ≡ Ok job → (job.nodes ≡ image.0) × (job.swaps ≡ image.1)) [
-      | true ↦ elim (memory_of (words_of line)) as (λ found. then_job (same_as (Some image) found) rest ≡ Ok job → (job.nodes ≡ image.0) × (job.swaps ≡ image.1)) [
+    let first : then_job (first_of (Some image) (words_in_line line)) rest ≡ Ok job → (job.nodes ≡ image.0) × (job.swaps ≡ image.1) =
+    elim (is_word (words_in_line line) 0 (codes "memory")) as (λ b. then_job (if b then same_as (Some image) (memory_of (words_in_line line)) else Err NoMemoryLine) rest ≡ Ok job → (job.nodes ≡ image.0) × (job.swaps ≡ image.1)) [
+      | true ↦ elim (memory_of (words_in_line line)) as (λ found. then_job (same_as (Some image) found) rest ≡ Ok job → (job.nodes ≡ image.0) × (job.swaps ≡ image.1)) [
         | Ok sizes ↦ λ made. chosen sizes (λ x. x.nodes) (λ x. x.swaps) Number image (λ r. then_job r rest) job
             (elim rest as (λ r. then_job (Ok sizes) r ≡ Ok job → (job.nodes ≡ sizes.nodes) × (job.swaps ≡ sizes.swaps)) [
               | Ok items ↦ λ is. same_job sizes.nodes sizes.swaps items job is
@@ -107,10 +107,10 @@ none_out config Calls is out = out.this is.calls_in_range
 none_out config Pages is out = out.this is.pages_in_range
 
 -- a world that was booted on an image
-pub booted_over : (config : Config) (base : Base) (image : Image) (words : List ℕ) (world : Lab) → base ≡ Some image → words ≡ image.words → world ≡ image_lab config words → world ≡ lab_over config (words_over config base) (power_over base)
+pub booted_over : (config : Config) (base : Base) (image : Image) (words : List ℕ) (world : WorldView) → base ≡ Some image → words ≡ image.words → world ≡ image_view config words → world ≡ view_over config (words_over config base) (power_over base)
 booted_over config base image words world is same booted = rw is (rw same at booted)
 
-pub booted_image : (config : Config) (base : Base) (image : Image) (words : List ℕ) (world : Lab) → base ≡ Some image → words ≡ image.words → IsBaseOf config base → world ≡ image_lab config words → IsImageOf world.config world.log.start
+pub booted_image : (config : Config) (base : Base) (image : Image) (words : List ℕ) (world : WorldView) → base ≡ Some image → words ≡ image.words → IsBaseOf config base → world ≡ image_view config words → IsImageOf world.config world.log.start
 booted_image config base image words world is same right booted = rw (booted, same) (rw is at right)
 
 pub not_recovering : (base : Base) → power_over base ≢ power.Recovering
@@ -118,11 +118,11 @@ not_recovering None is = absurd cc
 not_recovering (Some image) is = absurd cc
 
 -- a world that was opened for a script
-pub made_for : (marks : ℕ) (base : Base) (job : Job) (config : Config) (world : Lab) → config ≡ config_of marks job.nodes job.swaps → world ≡ lab_over config (words_over config base) (power_over base) → IsMadeFor marks base job world
+pub made_for : (marks : ℕ) (base : Base) (job : Job) (config : Config) (world : WorldView) → config ≡ config_of marks job.nodes job.swaps → world ≡ view_over config (words_over config base) (power_over base) → IsMadeFor marks base job world
 made_for marks base job config world e is = rw (is, e) (record { config = refl; at_start = refl; start = refl; limits = refl })
 
 -- is still one of the script when it has gone on
-pub made_still : (marks : ℕ) (base : Base) (job : Job) (old new : Lab) → IsMadeFor marks base job old → Stays old new → IsMadeFor marks base job new
+pub made_still : (marks : ℕ) (base : Base) (job : Job) (old new : WorldView) → IsMadeFor marks base job old → Stays old new → IsMadeFor marks base job new
 made_still marks base job old new made on = record {
   config = on.config ∙ made.config;
   at_start = on.at_start ∙ made.at_start;
@@ -130,11 +130,11 @@ made_still marks base job old new made on = record {
   limits = on.limits ∙ (made.limits ∙ ap (λ (c : Config). record { marks = c.marks; calls = c.calls; pages = c.pages }) (sym on.config));
 }
 
-pub image_still : (old new : Lab) → IsImageOf old.config old.log.start → Stays old new → IsImageOf new.config new.log.start
+pub image_still : (old new : WorldView) → IsImageOf old.config old.log.start → Stays old new → IsImageOf new.config new.log.start
 image_still old new is on = subst (λ (c : Config). IsImageOf c new.log.start) (sym on.config) (subst (λ (start : List ℕ). IsImageOf old.config start) (sym on.start) is)
 
 -- bytes that the reader of scripts refuses, where it was given these numbers
-pub refused_bytes : (base : Base) (bytes : List ℕ) (k : Sunk) (status : ℕ) (lab : Option Lab) (memory : Option (ℕ × ℕ)) (fault : ScriptFault) (line told : ℕ) (rule named : ScriptRule) → told ≡ line → named ≡ rule → fault ≡ Rule line rule
+pub refused_bytes : (base : Base) (bytes : List ℕ) (k : Sunk) (status : ℕ) (lab : Option WorldView) (memory : Option (ℕ × ℕ)) (fault : ScriptFault) (line told : ℕ) (rule named : ScriptRule) → told ≡ line → named ≡ rule → fault ≡ Rule line rule
     → memory ≡ numbers_over base → IsFault (script_of memory bytes) fault → lab ≡ None → SaysOrWants k 3 (fault_line (broken_text told named)) status → Refuses base bytes k status lab
 refused_bytes base bytes k status lab memory fault line told rule named same alike is numbers found none said = record {
   line = told;

@@ -9,7 +9,7 @@ use Rattle.bz_words.specs.CommandLine.{IsCommandLine}
 use Rattle.bz_words.specs.declared.command.Command.{Command}
 use Rattle.bz_words.specs.declared.command.Command.TheVariants.{Run, Dump, Load, Work}
 use Rattle.bz_words.specs.declared.command.CommandLine.{CommandLine}
-use Rattle.bz_sched.specs.FromWorld.Lab.{Lab}
+use Rattle.bz_sched.specs.FromWorld.WorldView.{WorldView}
 use Rattle.bz_gen.specs.Workload.{workload_of}
 use Rattle.bz_top.specs.Bases.{Base, front_over, IsBase, Reads, ReadsOver}
 use Rattle.bz_top.specs.Faults.{fault_line, broken_text, limit_text}
@@ -18,18 +18,18 @@ use Rattle.bz_top.specs.Parts.{given, sunk, Wants, RanWorld, RanScript, Refuses,
 use Rattle.bz_top.proofs.StatusLemmas.{Said, is_done, is_read, is_usage, is_broken, is_too_long, is_limited, is_want}
 use Rattle.bz_top.proofs.WriteLemmas.{rose_later}
 
-pub ended_usage : (o : Outside) (status : ℕ) (lab : Option Lab) → ¬ IsCommand o.words → o.left_after ≡ o.left → lab ≡ None → Said o 2 (fault_line (codes "usage")) status → IsEnded o status lab
+pub ended_usage : (o : Outside) (status : ℕ) (lab : Option WorldView) → ¬ IsCommand o.words → o.left_after ≡ o.left → lab ≡ None → Said o 2 (fault_line (codes "usage")) status → IsEnded o status lab
 ended_usage o status lab words left none said = is_usage o status lab _ (record { no_command = words; left = left; no_lab = none; writes = refl }) said
 
-pub ended_read : (o : Outside) (status : ℕ) (lab : Option Lab) → IsReading o.words → Rose o.read_faults o.read_faults_after → lab ≡ None → Said o 1 (fault_line (codes "read")) status → IsEnded o status lab
+pub ended_read : (o : Outside) (status : ℕ) (lab : Option WorldView) → IsReading o.words → Rose o.read_faults o.read_faults_after → lab ≡ None → Said o 1 (fault_line (codes "read")) status → IsEnded o status lab
 ended_read o status lab words rose none said = is_read o status lab _ (record { command = words; rose = rose; no_lab = none; writes = refl }) said
 
 -- memory was wanting before there was a world
-pub ended_early : (o : Outside) (status : ℕ) (lab : Option Lab) → IsReading o.words ⊎ (o.left_after ≡ o.left) → lab ≡ None → Said o 7 (fault_line (codes "memory")) status → IsEnded o status lab
+pub ended_early : (o : Outside) (status : ℕ) (lab : Option WorldView) → IsReading o.words ⊎ (o.left_after ≡ o.left) → lab ≡ None → Said o 7 (fault_line (codes "memory")) status → IsEnded o status lab
 ended_early o status lab asked none said = is_want o status lab _ (record { cause = inl (record { no_lab = none; asked = asked }); writes = refl }) said
 
 -- the script of a command
-module _ (o : Outside) (status : ℕ) (lab : Option Lab) (line : CommandLine) (base : Base) (script : Job) (asks : Asks o line base script) where
+module _ (o : Outside) (status : ℕ) (lab : Option WorldView) (line : CommandLine) (base : Base) (script : Job) (asks : Asks o line base script) where
   ended-world : RanWorld line.command line.marks base script (sunk o.held o.held_after o.write_faults o.write_faults_after) status lab → IsEnded o status lab
   ended-world (inl done) =
       is_done o status lab (printed line.command done.world)
@@ -62,7 +62,7 @@ reads_source Load base is = tt
 reads_source (Work seed calls workers) base is = absurd is
 
 -- the source has given what stands before the script, and this becomes of the rest
-module _ (o : Outside) (status : ℕ) (lab : Option Lab) (line : CommandLine) (command : IsCommandLine o.words line) (base : Base) (reads : ReadsOver line.command base) (is_base : IsBase line.marks base)
+module _ (o : Outside) (status : ℕ) (lab : Option WorldView) (line : CommandLine) (command : IsCommandLine o.words line) (base : Base) (reads : ReadsOver line.command base) (is_base : IsBase line.marks base)
     (mid : Option (List ℕ)) (faults : ℕ) (front : Consumes o.left mid (front_over base)) (later : o.read_faults ≤ faults) where
   reading : IsReading o.words
   reading = (line, command, reads_source line.command base reads)
@@ -113,7 +113,7 @@ none_before None = tt
 none_before (Some bytes) = refl
 
 -- the workload of a seed, for which nothing was read
-pub ended-workload : (o : Outside) (status : ℕ) (lab : Option Lab) (line : CommandLine) (seed calls workers : ℕ) → IsCommandLine o.words line → line.command ≡ Work seed calls workers → o.left_after ≡ o.left
+pub ended-workload : (o : Outside) (status : ℕ) (lab : Option WorldView) (line : CommandLine) (seed calls workers : ℕ) → IsCommandLine o.words line → line.command ≡ Work seed calls workers → o.left_after ≡ o.left
     → RanScript line.command line.marks None (workload_of seed calls workers) (sunk o.held o.held_after o.write_faults o.write_faults_after) status lab → IsEnded o status lab
 ended-workload o status lab line seed calls workers command is left ran =
     let has : HasScript o line.command None (workload_of seed calls workers) = subst (λ (c : Command). HasScript o c None (workload_of seed calls workers)) (sym is) (refl, left, refl) in

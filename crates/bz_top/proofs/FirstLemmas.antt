@@ -13,17 +13,17 @@ use Rattle.bz_sched.specs.Runs.{point_with, Stays, HasPower}
 use Rattle.bz_sched.specs.Scripts.{LeadsTo, LeadsToInPart, LeadsToWant}
 use Rattle.bz_sched.specs.declared.running.RunEnd.{RunEnd}
 use Rattle.bz_sched.specs.declared.running.RunEnd.TheVariants.{Finished, Cut, Limit}
-use Rattle.bz_sched.specs.FromWorld.Lab.{Lab, power_in}
+use Rattle.bz_sched.specs.FromWorld.WorldView.{WorldView, power_in}
 use Rattle.bz_top.specs.Endings.{at_first, items_from}
 use Rattle.bz_top.specs.Items.{end_in, ItemsDone, ItemsRan, IsTurnedOn, TurnsOn}
 use Rattle.bz_top.specs.declared.items.ItemsEnd.{ItemsEnd}
 use Rattle.bz_top.specs.declared.items.ItemsEnd.TheVariants as end
 
-pub steady_at_first : (world : Lab) → world.at_start ≢ power.Recovering → world.log.past ≡ [] → power_in world ≢ power.Recovering
+pub steady_at_first : (world : WorldView) → world.at_start ≢ power.Recovering → world.log.past ≡ [] → power_in world ≢ power.Recovering
 steady_at_first world known new = rw new known
 
 -- it stands where nothing has happened and no call waits
-first_point : (world : Lab) → world.log.past ≡ [] → point_with world [] ≡ at_first
+first_point : (world : WorldView) → world.log.past ≡ [] → point_with world [] ≡ at_first
 first_point world new = ap (λ (past : List Mark). record { past = past; queue = [] }) new
 
 from_on : (state : State) (items : List Item) → state ≡ power.On → items_from state items ≡ items
@@ -32,7 +32,7 @@ from_on state items is = rw is refl
 from_off : (state : State) (items : List Item) → state ≡ power.Off → items_from state items ≡ Power ∷ items
 from_off state items is = rw is refl
 
-module _ (old : Lab) (new_world : old.log.past ≡ []) where
+module _ (old : WorldView) (new_world : old.log.past ≡ []) where
   -- the power is on already
   pub turned_already : power_in old ≡ power.On → IsTurnedOn old old
   turned_already on =
@@ -52,7 +52,7 @@ module _ (old : Lab) (new_world : old.log.past ≡ []) where
       }
 
   -- or it comes on
-  pub turns_on : (new : Lab) (how : RunEnd) → power_in old ≡ power.Off → HasPower None old how new → TurnsOn old (end_in how) new
+  pub turns_on : (new : WorldView) (how : RunEnd) → power_in old ≡ power.Off → HasPower None old how new → TurnsOn old (end_in how) new
   turns_on new Finished off (stays, on, powers) =
       let first : old.at_start ≡ power.Off = rw new_world at off in
       let begun : Powers old.at_start None at_first (point_with new []) = subst (λ (p : Point). Powers old.at_start None p (point_with new [])) (first_point old new_world) (powers []) in
@@ -77,10 +77,10 @@ module _ (old : Lab) (new_world : old.log.past ≡ []) where
       }
 
 -- then the items are done
-both_stay : (old mid new : Lab) → Stays old mid → Stays mid new → Stays old new
+both_stay : (old mid new : WorldView) → Stays old mid → Stays mid new → Stays old new
 both_stay old mid new h k = record { config = k.config ∙ h.config; at_start = k.at_start ∙ h.at_start; start = k.start ∙ h.start; limits = k.limits ∙ h.limits }
 
-pub done_behind : (old mid new : Lab) (items : List Item) (how : ItemsEnd) → IsTurnedOn old mid → ItemsDone (point_with mid []) mid items how new → ItemsRan old items how new
+pub done_behind : (old mid new : WorldView) (items : List Item) (how : ItemsEnd) → IsTurnedOn old mid → ItemsDone (point_with mid []) mid items how new → ItemsRan old items how new
 done_behind old mid new items end.Finished turned done = record {
   on = both_stay old mid new turned.stays done.on;
   follows = turned.items items new.log.past

@@ -17,13 +17,13 @@ use Rattle.bz_sched.specs.Queued.{Queued}
 use Rattle.bz_sched.specs.Runs.{point_of, Stays, IsCutPlan}
 use Rattle.bz_sched.specs.Scripts.{LeadsTo, LeadsToInPart, LeadsToWant}
 use Rattle.bz_sched.specs.declared.cut.CutPlan.{CutPlan}
-use Rattle.bz_sched.specs.FromWorld.Lab.{Lab, power_in}
-use Rattle.bz_sched.specs.FromWorld.Which.{Which}
+use Rattle.bz_sched.specs.FromWorld.WorldView.{WorldView, power_in}
+use Rattle.bz_sched.specs.FromWorld.LimitKind.{LimitKind}
 use Rattle.bz_top.specs.Items.{IsReadyFor, Leads, LeadsInPart, LeadsToWantIn, LeavesPower, IsDoneItem, IsStoppedItem, IsWantingItem, IsLedFrom, IsLedFromInPart, IsLedFromToWant}
 
 -- so many items are done, and what the others lead to is what all of them lead to. These may stand where they do, with the cut
 -- that is armed, if one is, and whether one was used up; and where none was, so that a run may follow, the power is on.
-pub record Staged (items : List Item) (i : ℕ) (armed : Option CutPlan) (first : Point) (old world : Lab) (queue : Queued) : Type 0 where
+pub record Staged (items : List Item) (i : ℕ) (armed : Option CutPlan) (first : Point) (old world : WorldView) (queue : Queued) : Type 0 where
   pub on : Stays old world
   pub steady : power_in world ≢ power.Recovering
   pub room : length items ≤ queue.room + i
@@ -32,7 +32,7 @@ pub record Staged (items : List Item) (i : ℕ) (armed : Option CutPlan) (first 
   pub powered : used ≡ false → power_in world ≡ power.On
   pub cut : IsCutPlan armed
   pub follows : (new : List Mark) → LeadsTo old.at_start old.log.start (words_of old.config) armed (point_of world queue) (drop i items) new → LeadsTo old.at_start old.log.start (words_of old.config) None first items new
-  pub in_part : (why : Which) (new : List Mark) → LeadsToInPart why old.at_start old.log.start (words_of old.config) armed (point_of world queue) (drop i items) new → LeadsToInPart why old.at_start old.log.start (words_of old.config) None first items new
+  pub in_part : (why : LimitKind) (new : List Mark) → LeadsToInPart why old.at_start old.log.start (words_of old.config) armed (point_of world queue) (drop i items) new → LeadsToInPart why old.at_start old.log.start (words_of old.config) None first items new
   pub to_want : (new : List Mark) → LeadsToWant old.at_start old.log.start (words_of old.config) armed (point_of world queue) (drop i items) new → LeadsToWant old.at_start old.log.start (words_of old.config) None first items new
 
 pub item_at : (items : List Item) (i : ℕ) (item : Item) → AreItems items → i < length items → item ≡ get_or items i item → IsItem item
@@ -44,7 +44,7 @@ here_is : (items : List Item) (i : ℕ) (item : Item) → i < length items → i
 here_is items i item lt is = drop_more items i item lt ∙ ap (λ (x : Item). x ∷ drop (i + 1) items) (sym is)
 
 -- nothing is done yet
-pub staged_none : (items : List Item) (old : Lab) (queue : Queued) → power_in old ≢ power.Recovering → power_in old ≡ power.On → length items ≤ queue.room → AreInOrder first_standing items → Staged items 0 None (point_of old queue) old old queue
+pub staged_none : (items : List Item) (old : WorldView) (queue : Queued) → power_in old ≢ power.Recovering → power_in old ≡ power.On → length items ≤ queue.room → AreInOrder first_standing items → Staged items 0 None (point_of old queue) old old queue
 staged_none items old queue steady on fits order = record {
   on = record { config = refl; at_start = refl; start = refl; limits = refl };
   steady = steady;
@@ -69,13 +69,13 @@ not_armed true (Some cut) takes h is = absurd (cc h)
 not_armed false (Some cut) true h is = absurd (cc h)
 not_armed false (Some cut) false h is = absurd (cc is)
 
-ready_by : (world : Lab) (armed : Option CutPlan) (used : Bool) (item : Item) → IsItem item → may_stand (record { armed = is_some armed; used = used }) item ≡ true → (used ≡ false → power_in world ≡ power.On) → IsReadyFor armed world item
+ready_by : (world : WorldView) (armed : Option CutPlan) (used : Bool) (item : Item) → IsItem item → may_stand (record { armed = is_some armed; used = used }) item ≡ true → (used ≡ false → power_in world ≡ power.On) → IsReadyFor armed world item
 ready_by world armed used (Queue w call) is may powered = is
 ready_by world armed used (Arm flush seed) is may powered = is
 ready_by world armed used (Run plan) is may powered = (is, powered (not_used used (is_some armed) (takes_no_cut plan) may), not_armed used armed (takes_no_cut plan) may)
 ready_by world armed used Power is may powered = tt
 
-pub staged_ready : (items : List Item) (i : ℕ) (item : Item) (armed : Option CutPlan) (first : Point) (old world : Lab) (queue : Queued) → Staged items i armed first old world queue → AreItems items → i < length items → item ≡ get_or items i item → IsReadyFor armed world item
+pub staged_ready : (items : List Item) (i : ℕ) (item : Item) (armed : Option CutPlan) (first : Point) (old world : WorldView) (queue : Queued) → Staged items i armed first old world queue → AreItems items → i < length items → item ≡ get_or items i item → IsReadyFor armed world item
 staged_ready items i item armed first old world queue s all lt is =
     let order : AreInOrder (record { armed = is_some armed; used = s.used }) (item ∷ drop (i + 1) items) = subst (AreInOrder (record { armed = is_some armed; used = s.used })) (here_is items i item lt is) s.order in
     ready_by world armed s.used item (item_at items i item all lt is) order.0 s.powered
@@ -98,7 +98,7 @@ none_armed : (armed : Option CutPlan) → is_some armed ≡ false → armed ≡ 
 none_armed None is = refl
 none_armed (Some cut) is = absurd (cc is)
 
-powered_then : (armed : Option CutPlan) (used : Bool) (old new : Lab) (item : Item) → LeavesPower armed old item new → (used ≡ false → power_in old ≡ power.On) → used_then used armed item ≡ false → power_in new ≡ power.On
+powered_then : (armed : Option CutPlan) (used : Bool) (old new : WorldView) (item : Item) → LeavesPower armed old item new → (used ≡ false → power_in old ≡ power.On) → used_then used armed item ≡ false → power_in new ≡ power.On
 powered_then armed used old new (Queue w call) leaves powered free = leaves ∙ powered free
 powered_then armed used old new (Arm flush seed) leaves powered free = leaves ∙ powered free
 powered_then armed used old new (Run plan) leaves powered free = leaves (none_armed armed free)
@@ -111,7 +111,7 @@ then_leads at_start start words armed next p q (Arm flush seed) items new leads 
 then_leads at_start start words armed next p q (Run plan) items new leads rest = (q, leads.1, rw leads.0 at rest)
 then_leads at_start start words armed next p q Power items new leads rest = (q, leads.1, rw leads.0 at rest)
 
-then_in_part : (why : Which) (at_start : State) (start : List ℕ) (words : ℕ) (armed next : Option CutPlan) (p q : Point) (item : Item) (items : List Item) (new : List Mark) → Leads at_start start words armed p item next q → LeadsToInPart why at_start start words next q items new
+then_in_part : (why : LimitKind) (at_start : State) (start : List ℕ) (words : ℕ) (armed next : Option CutPlan) (p q : Point) (item : Item) (items : List Item) (new : List Mark) → Leads at_start start words armed p item next q → LeadsToInPart why at_start start words next q items new
     → LeadsToInPart why at_start start words armed p (item ∷ items) new
 then_in_part why at_start start words armed next p q (Queue w call) items new leads rest = rw (leads.0, leads.1) at rest
 then_in_part why at_start start words armed next p q (Arm flush seed) items new leads rest = rw (leads.0, leads.1) at rest
@@ -130,15 +130,15 @@ here_wants at_start start words armed p q (Arm flush seed) items wants = absurd 
 here_wants at_start start words armed p q (Run plan) items wants = inl (q, wants, refl)
 here_wants at_start start words armed p q Power items wants = absurd wants
 
-here_in_part : (why : Which) (at_start : State) (start : List ℕ) (words : ℕ) (armed : Option CutPlan) (p q : Point) (item : Item) (items : List Item) → LeadsInPart why at_start start words armed p item q → LeadsToInPart why at_start start words armed p (item ∷ items) q.past
+here_in_part : (why : LimitKind) (at_start : State) (start : List ℕ) (words : ℕ) (armed : Option CutPlan) (p q : Point) (item : Item) (items : List Item) → LeadsInPart why at_start start words armed p item q → LeadsToInPart why at_start start words armed p (item ∷ items) q.past
 here_in_part why at_start start words armed p q (Queue w call) items stops = absurd stops
 here_in_part why at_start start words armed p q (Arm flush seed) items stops = absurd stops
 here_in_part why at_start start words armed p q (Run plan) items stops = inl (q, stops, refl)
 here_in_part why at_start start words armed p q Power items stops = inl (q, stops, refl)
 
-module _ (items : List Item) (i : ℕ) (item : Item) (armed : Option CutPlan) (first : Point) (old world : Lab) (queue : Queued) (s : Staged items i armed first old world queue) (lt : i < length items) (is : item ≡ get_or items i item) where
+module _ (items : List Item) (i : ℕ) (item : Item) (armed : Option CutPlan) (first : Point) (old world : WorldView) (queue : Queued) (s : Staged items i armed first old world queue) (lt : i < length items) (is : item ≡ get_or items i item) where
   -- an item more is done
-  pub staged_more : (next : Option CutPlan) (new : Lab) (left : Queued) → IsDoneItem armed world queue item next new left → Staged items (i + 1) next first old new left
+  pub staged_more : (next : Option CutPlan) (new : WorldView) (left : Queued) → IsDoneItem armed world queue item next new left → Staged items (i + 1) next first old new left
   staged_more next new left d =
       let here = here_is items i item lt is in
       let order : AreInOrder (record { armed = is_some armed; used = s.used }) (item ∷ drop (i + 1) items) = subst (AreInOrder (record { armed = is_some armed; used = s.used })) here s.order in
@@ -160,7 +160,7 @@ module _ (items : List Item) (i : ℕ) (item : Item) (armed : Option CutPlan) (f
       }
 
   -- it meets a limit
-  pub staged_met : (why : Which) (new : Lab) → IsStoppedItem why armed world queue item new → IsLedFromInPart first old items why new
+  pub staged_met : (why : LimitKind) (new : WorldView) → IsStoppedItem why armed world queue item new → IsLedFromInPart first old items why new
   staged_met why new d =
       let here = here_is items i item lt is in
       let leads : LeadsInPart why old.at_start old.log.start (words_of old.config) armed (point_of world queue) item d.at =
@@ -174,7 +174,7 @@ module _ (items : List Item) (i : ℕ) (item : Item) (armed : Option CutPlan) (f
       }
 
   -- memory is wanting for it
-  pub staged_wants : (new : Lab) → IsWantingItem world queue item new → IsLedFromToWant first old items new
+  pub staged_wants : (new : WorldView) → IsWantingItem world queue item new → IsLedFromToWant first old items new
   staged_wants new d =
       let here = here_is items i item lt is in
       record {
@@ -183,7 +183,7 @@ module _ (items : List Item) (i : ℕ) (item : Item) (armed : Option CutPlan) (f
       }
 
 -- all items are done
-pub staged_done : (items : List Item) (i : ℕ) (armed : Option CutPlan) (first : Point) (old world : Lab) (queue : Queued) → Staged items i armed first old world queue → length items ≤ i → IsLedFrom first old items world
+pub staged_done : (items : List Item) (i : ℕ) (armed : Option CutPlan) (first : Point) (old world : WorldView) (queue : Queued) → Staged items i armed first old world queue → length items ≤ i → IsLedFrom first old items world
 staged_done items i armed first old world queue s all =
     let none : drop i items ≡ [] = grind (arith, common_steps) in
     record { on = s.on; follows = s.follows world.log.past (rw none refl) }

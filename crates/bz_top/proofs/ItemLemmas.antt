@@ -13,14 +13,14 @@ use Rattle.bz_sched.specs.declared.running.RunEnd.{RunEnd}
 use Rattle.bz_sched.specs.declared.running.RunEnd.TheVariants.{Finished, Cut, Limit}
 use Rattle.bz_layout.specs.Addresses.{words_of}
 use Rattle.bz_sound.specs.declared.power.Power.TheVariants as power
-use Rattle.bz_sched.specs.FromWorld.Lab.{Lab, power_in}
+use Rattle.bz_sched.specs.FromWorld.WorldView.{WorldView, power_in}
 use Rattle.bz_threads.specs.Ends.{HasRunThreads}
 use Rattle.bz_threads.specs.declared.running.ThreadsEnd.{ThreadsEnd}
 use Rattle.bz_threads.specs.declared.running.ThreadsEnd.TheVariants as threads
 use Rattle.bz_top.specs.Items.{HasDone, end_in, left_after, end_of_threads}
 use Rattle.bz_top.specs.declared.items.ItemsEnd.TheVariants as end
 
-pub queue_done : (world : Lab) (queue left : Queued) (armed : Option CutPlan) (w : ℕ) (call : Call) → power_in world ≢ power.Recovering → IsCutPlan armed → left.calls ≡ queue.calls ++ (w, call) ∷ [] → left.room + 1 ≡ queue.room
+pub queue_done : (world : WorldView) (queue left : Queued) (armed : Option CutPlan) (w : ℕ) (call : Call) → power_in world ≢ power.Recovering → IsCutPlan armed → left.calls ≡ queue.calls ++ (w, call) ∷ [] → left.room + 1 ≡ queue.room
     → HasDone armed world queue (Queue w call) end.Finished armed world left
 queue_done world queue left armed w call steady cut calls fits = record {
   stays = record { config = refl; at_start = refl; start = refl; limits = refl };
@@ -31,7 +31,7 @@ queue_done world queue left armed w call steady cut calls fits = record {
   power = refl;
 }
 
-pub arm_done : (world : Lab) (queue : Queued) (armed : Option CutPlan) (flush seed : ℕ) → power_in world ≢ power.Recovering → 1 ≤ flush → HasDone armed world queue (Arm flush seed) end.Finished (Some (record { flush = flush; seed = seed })) world queue
+pub arm_done : (world : WorldView) (queue : Queued) (armed : Option CutPlan) (flush seed : ℕ) → power_in world ≢ power.Recovering → 1 ≤ flush → HasDone armed world queue (Arm flush seed) end.Finished (Some (record { flush = flush; seed = seed })) world queue
 arm_done world queue armed flush seed steady some = record {
   stays = record { config = refl; at_start = refl; start = refl; limits = refl };
   steady = steady;
@@ -42,13 +42,13 @@ arm_done world queue armed flush seed steady some = record {
 }
 
 -- the power that is on or off is not that of a recovery
-pub on_steady : (world : Lab) → power_in world ≡ power.On → power_in world ≢ power.Recovering
+pub on_steady : (world : WorldView) → power_in world ≡ power.On → power_in world ≢ power.Recovering
 on_steady world on recovering = let opposed : power.On ≡ power.Recovering = sym on ∙ recovering in absurd (cc opposed)
 
-off_steady : (world : Lab) → power_in world ≡ power.Off → power_in world ≢ power.Recovering
+off_steady : (world : WorldView) → power_in world ≡ power.Off → power_in world ≢ power.Recovering
 off_steady world off recovering = let opposed : power.Off ≡ power.Recovering = sym off ∙ recovering in absurd (cc opposed)
 
-pub run_done : (old new : Lab) (queue left : Queued) (armed : Option CutPlan) (plan : Plan) (end : RunEnd) → HasRun armed plan old queue end new left → HasDone armed old queue (Run plan) (end_in end) None new left
+pub run_done : (old new : WorldView) (queue left : Queued) (armed : Option CutPlan) (plan : Plan) (end : RunEnd) → HasRun armed plan old queue end new left → HasDone armed old queue (Run plan) (end_in end) None new left
 run_done old new queue left armed plan Finished (leaves, on, runs) = record {
   stays = leaves.stays;
   steady = on_steady new on;
@@ -69,7 +69,7 @@ run_done old new queue left (Some cut) plan Cut (leaves, off, (w, runs, flush)) 
 run_done old new queue left armed plan (Limit which) (stays, runs, met) = record { stays = stays; at = point_of new left; leads = runs; past = refl; met = met }
 
 -- power on, and then the calls were dropped where its cut was made
-module _ (old new : Lab) (queue left : Queued) (fits : queue.room ≤ left.room) where
+module _ (old new : WorldView) (queue left : Queued) (fits : queue.room ≤ left.room) where
   pub power_done : (armed : Option CutPlan) (end : RunEnd) → left.calls ≡ left_after end queue.calls → HasPower armed old end new → HasDone armed old queue Power (end_in end) None new left
   power_done armed Finished same (stays, on, powers) = record {
     stays = stays;
@@ -103,7 +103,7 @@ of_threads (Listed turns) takes = absurd (cc takes)
 of_threads (Turns seed) takes = absurd (cc takes)
 of_threads Threads takes = refl
 
-by_threads : (old new : Lab) (queue left : Queued) (how : ThreadsEnd) → HasRunThreads old queue how new left → HasDone None old queue (Run Threads) (end_of_threads how) None new left
+by_threads : (old new : WorldView) (queue left : Queued) (how : ThreadsEnd) → HasRunThreads old queue how new left → HasDone None old queue (Run Threads) (end_of_threads how) None new left
 by_threads old new queue left threads.Finished (leaves, on, runs) = record {
   stays = leaves.stays;
   steady = on_steady new on;
@@ -115,7 +115,7 @@ by_threads old new queue left threads.Finished (leaves, on, runs) = record {
 by_threads old new queue left (threads.Limit which) (stays, (at, runs, past), met) = record { stays = stays; at = at; leads = inl (runs, tt); past = past; met = met }
 by_threads old new queue left threads.Memory (stays, (at, ends, past)) = record { stays = stays; at = at; leads = ends; past = past }
 
-pub threads_done : (old new : Lab) (queue left : Queued) (armed : Option CutPlan) (plan : Plan) (how : ThreadsEnd) → takes_no_cut plan ≡ true → (takes_no_cut plan ≡ true → armed ≡ None) → HasRunThreads old queue how new left
+pub threads_done : (old new : WorldView) (queue left : Queued) (armed : Option CutPlan) (plan : Plan) (how : ThreadsEnd) → takes_no_cut plan ≡ true → (takes_no_cut plan ≡ true → armed ≡ None) → HasRunThreads old queue how new left
     → HasDone armed old queue (Run plan) (end_of_threads how) None new left
 threads_done old new queue left armed plan how is none run =
     subst (λ (p : Plan). HasDone armed old queue (Run p) (end_of_threads how) None new left) (sym (of_threads plan is))

@@ -16,7 +16,7 @@ use Rattle.bz_words.specs.CommandLine.{IsCommandLine}
 use Rattle.bz_words.specs.declared.command.Command.{Command}
 use Rattle.bz_words.specs.declared.command.Command.TheVariants.{Load}
 use Rattle.bz_words.specs.declared.command.CommandLine.{CommandLine}
-use Rattle.bz_sched.specs.FromWorld.Lab.{Lab}
+use Rattle.bz_sched.specs.FromWorld.WorldView.{WorldView}
 use Rattle.bz_top.specs.Bases.{ReadsOver}
 use Rattle.bz_top.specs.Commands.{config_of}
 use Rattle.bz_top.specs.Endings.{Outside, IsLoad, IsReading, IsEnded}
@@ -40,7 +40,7 @@ load_reads_over command image is = rw is (image, refl)
 pub load_reading : (words : List (List ℕ)) (line : CommandLine) → IsCommandLine words line → line.command ≡ Load → IsReading words
 load_reading words line command is = (line, command, rw is tt)
 
-module _ (o : Outside) (status : ℕ) (lab : Option Lab) (line : CommandLine) (command : IsCommandLine o.words line) (is : line.command ≡ Load) (none : lab ≡ None) where
+module _ (o : Outside) (status : ℕ) (lab : Option WorldView) (line : CommandLine) (command : IsCommandLine o.words line) (is : line.command ≡ Load) (none : lab ≡ None) where
   is-load : IsLoad o.words line.marks
   is-load = subst (λ (c : Command). IsCommandLine o.words (record { command = c; marks = line.marks })) is command
 

@@ -8,8 +8,8 @@ use Rattle.bz_sched.specs.Scripts.{LeadsTo, LeadsToInPart, LeadsToWant}
 use Rattle.bz_sound.specs.Power.Sound.{IsSound}
 use Rattle.bz_sound.specs.declared.power.Power.{Power as State}
 use Rattle.bz_words.specs.declared.command.Command.{Command}
-use Rattle.bz_sched.specs.FromWorld.Lab.{Lab}
-use Rattle.bz_sched.specs.FromWorld.Which.{Which}
+use Rattle.bz_sched.specs.FromWorld.WorldView.{WorldView}
+use Rattle.bz_sched.specs.FromWorld.LimitKind.{LimitKind}
 use Rattle.bz_top.specs.Bases.{Base}
 use Rattle.bz_top.specs.Endings.{IsLab, IsMadeFor, IsFinished, IsCutShort, IsHeldUp, at_first, items_from, printed, printed_before}
 use Rattle.bz_top.specs.Faults.{fault_line, limit_text}
@@ -18,8 +18,8 @@ use Rattle.bz_top.specs.Parts.{Sunk, Says, SaysOrWants, RanWorld}
 use Rattle.bz_top.specs.declared.items.ItemsEnd.TheVariants.{Finished, Limit, Memory}
 use Rattle.bz_top.proofs.BaseLemmas.{made_still}
 
-module _ (marks : ℕ) (base : Base) (job : Job) (old new : Lab) (made : IsMadeFor marks base job old) (sound : IsSound new.config new.at_start new.log) where
-  pub ran-finished : (command : Command) (k : Sunk) (status : ℕ) (lab : Option Lab) → ItemsRan old job.items Finished new → lab ≡ Some new → SaysOrWants k 0 (printed command new) status → RanWorld command marks base job k status lab
+module _ (marks : ℕ) (base : Base) (job : Job) (old new : WorldView) (made : IsMadeFor marks base job old) (sound : IsSound new.config new.at_start new.log) where
+  pub ran-finished : (command : Command) (k : Sunk) (status : ℕ) (lab : Option WorldView) → ItemsRan old job.items Finished new → lab ≡ Some new → SaysOrWants k 0 (printed command new) status → RanWorld command marks base job k status lab
   ran-finished command k status lab ran is says =
       let right : IsLab marks base job new = record { made = made_still marks base job old new made ran.on; sound = sound } in
       let finished : IsFinished marks base job new = record {
@@ -33,7 +33,7 @@ module _ (marks : ℕ) (base : Base) (job : Job) (old new : Lab) (made : IsMadeF
         | inr said ↦ inr (inr (record { world = new; is_lab = is; led = inl finished; said = said }))
       ]
 
-  pub ran-limited : (command : Command) (k : Sunk) (status : ℕ) (lab : Option Lab) (which : Which) → ItemsRan old job.items (Limit which) new → lab ≡ Some new → SaysOrWants k 5 (printed_before command new ++ fault_line (limit_text which)) status
+  pub ran-limited : (command : Command) (k : Sunk) (status : ℕ) (lab : Option WorldView) (which : LimitKind) → ItemsRan old job.items (Limit which) new → lab ≡ Some new → SaysOrWants k 5 (printed_before command new ++ fault_line (limit_text which)) status
       → RanWorld command marks base job k status lab
   ran-limited command k status lab which ran is says =
       let right : IsLab marks base job new = record { made = made_still marks base job old new made ran.on; sound = sound } in
@@ -50,7 +50,7 @@ module _ (marks : ℕ) (base : Base) (job : Job) (old new : Lab) (made : IsMadeF
       ]
 
   -- memory was wanting for threads
-  pub ran-held : (command : Command) (k : Sunk) (status : ℕ) (lab : Option Lab) → ItemsRan old job.items Memory new → lab ≡ Some new → Says k 7 (fault_line (codes "memory")) status → RanWorld command marks base job k status lab
+  pub ran-held : (command : Command) (k : Sunk) (status : ℕ) (lab : Option WorldView) → ItemsRan old job.items Memory new → lab ≡ Some new → Says k 7 (fault_line (codes "memory")) status → RanWorld command marks base job k status lab
   ran-held command k status lab ran is said =
       let right : IsLab marks base job new = record { made = made_still marks base job old new made ran.on; sound = sound } in
       let held : IsHeldUp marks base job new = record {

@@ -5,14 +5,14 @@ use Rattle.bz_io.specs.Faults.{Rose}
 use Rattle.bz_io.specs.Transfers.{GrewByFront}
 use Rattle.bz_top.specs.Endings.{Outside, IsDone, IsLimited, IsReadFault, IsUsage, IsBroken, IsTooLong, IsWant, IsNoImage, IsMisshapen, IsToBeWritten, IsEnded}
 use Rattle.bz_top.specs.Parts.{sunk, Says}
-use Rattle.bz_sched.specs.FromWorld.Lab.{Lab}
+use Rattle.bz_sched.specs.FromWorld.WorldView.{WorldView}
 
 -- what the sink said, as the outside has it
 abbrev pub Said : Outside → ℕ → List ℕ → ℕ → Type 0
 Said o status text answer = Says (sunk o.held o.held_after o.write_faults o.write_faults_after) status text answer
 
 -- the sink failed while a text was written
-part : (o : Outside) (status : ℕ) (lab : Option Lab) (text : List ℕ) → IsToBeWritten o lab text → status ≡ 4 → Rose o.write_faults o.write_faults_after → GrewByFront o.held o.held_after text → IsEnded o status lab
+part : (o : Outside) (status : ℕ) (lab : Option WorldView) (text : List ℕ) → IsToBeWritten o lab text → status ≡ 4 → Rose o.write_faults o.write_faults_after → GrewByFront o.held o.held_after text → IsEnded o status lab
 part o status lab text cause is rose grew = record {
   done = λ e. absurd (omega arith);
   read = λ e. absurd (omega arith);
@@ -25,7 +25,7 @@ part o status lab text cause is rose grew = record {
   no_other = omega arith;
 }
 
-pub is_done : (o : Outside) (status : ℕ) (lab : Option Lab) (text : List ℕ) → IsDone o lab text → Said o 0 text status → IsEnded o status lab
+pub is_done : (o : Outside) (status : ℕ) (lab : Option WorldView) (text : List ℕ) → IsDone o lab text → Said o 0 text status → IsEnded o status lab
 is_done o status lab text cause (inl (is, wrote)) = record {
   done = λ e. (text, cause, wrote);
   read = λ e. absurd (omega arith);
@@ -39,7 +39,7 @@ is_done o status lab text cause (inl (is, wrote)) = record {
 }
 is_done o status lab text cause (inr (is, rose, grew)) = part o status lab text (inl cause) is rose grew
 
-pub is_read : (o : Outside) (status : ℕ) (lab : Option Lab) (text : List ℕ) → IsReadFault o lab text → Said o 1 text status → IsEnded o status lab
+pub is_read : (o : Outside) (status : ℕ) (lab : Option WorldView) (text : List ℕ) → IsReadFault o lab text → Said o 1 text status → IsEnded o status lab
 is_read o status lab text cause (inl (is, wrote)) = record {
   done = λ e. absurd (omega arith);
   read = λ e. (text, cause, wrote);
@@ -53,7 +53,7 @@ is_read o status lab text cause (inl (is, wrote)) = record {
 }
 is_read o status lab text cause (inr (is, rose, grew)) = part o status lab text (inr (inl cause)) is rose grew
 
-pub is_usage : (o : Outside) (status : ℕ) (lab : Option Lab) (text : List ℕ) → IsUsage o lab text → Said o 2 text status → IsEnded o status lab
+pub is_usage : (o : Outside) (status : ℕ) (lab : Option WorldView) (text : List ℕ) → IsUsage o lab text → Said o 2 text status → IsEnded o status lab
 is_usage o status lab text cause (inl (is, wrote)) = record {
   done = λ e. absurd (omega arith);
   read = λ e. absurd (omega arith);
@@ -67,7 +67,7 @@ is_usage o status lab text cause (inl (is, wrote)) = record {
 }
 is_usage o status lab text cause (inr (is, rose, grew)) = part o status lab text (inr (inr (inl cause))) is rose grew
 
-pub is_broken : (o : Outside) (status : ℕ) (lab : Option Lab) (text : List ℕ) → IsBroken o lab text → Said o 3 text status → IsEnded o status lab
+pub is_broken : (o : Outside) (status : ℕ) (lab : Option WorldView) (text : List ℕ) → IsBroken o lab text → Said o 3 text status → IsEnded o status lab
 is_broken o status lab text cause (inl (is, wrote)) = record {
   done = λ e. absurd (omega arith);
   read = λ e. absurd (omega arith);
@@ -81,7 +81,7 @@ is_broken o status lab text cause (inl (is, wrote)) = record {
 }
 is_broken o status lab text cause (inr (is, rose, grew)) = part o status lab text (inr (inr (inr (inl cause)))) is rose grew
 
-pub is_too_long : (o : Outside) (status : ℕ) (lab : Option Lab) (text : List ℕ) → IsTooLong o lab text → Said o 3 text status → IsEnded o status lab
+pub is_too_long : (o : Outside) (status : ℕ) (lab : Option WorldView) (text : List ℕ) → IsTooLong o lab text → Said o 3 text status → IsEnded o status lab
 is_too_long o status lab text cause (inl (is, wrote)) = record {
   done = λ e. absurd (omega arith);
   read = λ e. absurd (omega arith);
@@ -95,7 +95,7 @@ is_too_long o status lab text cause (inl (is, wrote)) = record {
 }
 is_too_long o status lab text cause (inr (is, rose, grew)) = part o status lab text (inr (inr (inr (inr (inl cause))))) is rose grew
 
-pub is_limited : (o : Outside) (status : ℕ) (lab : Option Lab) (text : List ℕ) → IsLimited o lab text → Said o 5 text status → IsEnded o status lab
+pub is_limited : (o : Outside) (status : ℕ) (lab : Option WorldView) (text : List ℕ) → IsLimited o lab text → Said o 5 text status → IsEnded o status lab
 is_limited o status lab text cause (inl (is, wrote)) = record {
   done = λ e. absurd (omega arith);
   read = λ e. absurd (omega arith);
@@ -109,7 +109,7 @@ is_limited o status lab text cause (inl (is, wrote)) = record {
 }
 is_limited o status lab text cause (inr (is, rose, grew)) = part o status lab text (inr (inr (inr (inr (inr (inl cause)))))) is rose grew
 
-pub is_want : (o : Outside) (status : ℕ) (lab : Option Lab) (text : List ℕ) → IsWant o lab text → Said o 7 text status → IsEnded o status lab
+pub is_want : (o : Outside) (status : ℕ) (lab : Option WorldView) (text : List ℕ) → IsWant o lab text → Said o 7 text status → IsEnded o status lab
 is_want o status lab text cause (inl (is, wrote)) = record {
   done = λ e. absurd (omega arith);
   read = λ e. absurd (omega arith);
@@ -123,7 +123,7 @@ is_want o status lab text cause (inl (is, wrote)) = record {
 }
 is_want o status lab text cause (inr (is, rose, grew)) = part o status lab text (inr (inr (inr (inr (inr (inr (inl cause))))))) is rose grew
 
-pub is_no_image : (o : Outside) (status : ℕ) (lab : Option Lab) (text : List ℕ) → IsNoImage o lab text → Said o 6 text status → IsEnded o status lab
+pub is_no_image : (o : Outside) (status : ℕ) (lab : Option WorldView) (text : List ℕ) → IsNoImage o lab text → Said o 6 text status → IsEnded o status lab
 is_no_image o status lab text cause (inl (is, wrote)) = record {
   done = λ e. absurd (omega arith);
   read = λ e. absurd (omega arith);
@@ -137,7 +137,7 @@ is_no_image o status lab text cause (inl (is, wrote)) = record {
 }
 is_no_image o status lab text cause (inr (is, rose, grew)) = part o status lab text (inr (inr (inr (inr (inr (inr (inr (inl cause)))))))) is rose grew
 
-pub is_misshapen : (o : Outside) (status : ℕ) (lab : Option Lab) (text : List ℕ) → IsMisshapen o lab text → Said o 6 text status → IsEnded o status lab
+pub is_misshapen : (o : Outside) (status : ℕ) (lab : Option WorldView) (text : List ℕ) → IsMisshapen o lab text → Said o 6 text status → IsEnded o status lab
 is_misshapen o status lab text cause (inl (is, wrote)) = record {
   done = λ e. absurd (omega arith);
   read = λ e. absurd (omega arith);

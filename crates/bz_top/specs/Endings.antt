@@ -19,8 +19,8 @@ use Rattle.bz_script.specs.declared.fault.ScriptRule.{ScriptRule}
 use Rattle.bz_script.specs.declared.item.Item.{Item}
 use Rattle.bz_script.specs.declared.item.Item.TheVariants.{Power}
 use Rattle.bz_script.specs.declared.read.TheConstants.{SCRIPT_BYTES}
-use Rattle.bz_sched.specs.FromWorld.Lab.{Lab}
-use Rattle.bz_sched.specs.FromWorld.Which.{Which}
+use Rattle.bz_sched.specs.FromWorld.WorldView.{WorldView}
+use Rattle.bz_sched.specs.FromWorld.LimitKind.{LimitKind}
 use Rattle.bz_sched.specs.Runs.{IsAtLimit}
 use Rattle.bz_sched.specs.Points.{Point}
 use Rattle.bz_sched.specs.Scripts.{LeadsTo, LeadsToInPart, LeadsToWant}
@@ -100,14 +100,14 @@ pub record Asks (o : Outside) (line : CommandLine) (base : Base) (script : Job) 
 
 -- a world is made for this script: it has the script's sizes, this limit on marks and the fixed other ones, and it begins as
 -- the base has it
-pub record IsMadeFor (marks : ℕ) (base : Base) (script : Job) (world : Lab) : Type 0 where
+pub record IsMadeFor (marks : ℕ) (base : Base) (script : Job) (world : WorldView) : Type 0 where
   pub config : world.config ≡ config_of marks script.nodes script.swaps
   pub at_start : world.at_start ≡ power_over base
   pub start : world.log.start ≡ words_over world.config base
   pub limits : world.log.limits ≡ record { marks = world.config.marks; calls = world.config.calls; pages = world.config.pages }
 
 -- the lab is such a world, and its journal is sound
-pub record IsLab (marks : ℕ) (base : Base) (script : Job) (world : Lab) : Type 0 where
+pub record IsLab (marks : ℕ) (base : Base) (script : Job) (world : WorldView) : Type 0 where
   pub made : IsMadeFor marks base script world
   pub sound : IsSound world.config world.at_start world.log
 
@@ -121,74 +121,74 @@ items_from power.On items = items
 items_from other items = Power ∷ items
 
 -- a run that is done: a world of the script, with a sound journal to which the whole script leads
-pub record IsFinished (marks : ℕ) (base : Base) (script : Job) (world : Lab) : Type 0 where
+pub record IsFinished (marks : ℕ) (base : Base) (script : Job) (world : WorldView) : Type 0 where
   pub right : IsLab marks base script world
   pub follows : LeadsTo world.at_start world.log.start (words_of world.config) None at_first (items_from world.at_start script.items) world.log.past
 
 -- a run that met a limit when one more was needed: a world of the script, with a sound journal to which the
 -- script leads up to there
-pub record IsCutShort (marks : ℕ) (base : Base) (script : Job) (world : Lab) (which : Which) : Type 0 where
+pub record IsCutShort (marks : ℕ) (base : Base) (script : Job) (world : WorldView) (which : LimitKind) : Type 0 where
   pub right : IsLab marks base script world
   pub follows : LeadsToInPart which world.at_start world.log.start (words_of world.config) None at_first (items_from world.at_start script.items) world.log.past
   pub met : IsAtLimit world which
 
 -- a run for which memory was wanting: a world of the script, with a sound journal to which the script leads up to a run on
 -- threads, of which no call was begun
-pub record IsHeldUp (marks : ℕ) (base : Base) (script : Job) (world : Lab) : Type 0 where
+pub record IsHeldUp (marks : ℕ) (base : Base) (script : Job) (world : WorldView) : Type 0 where
   pub right : IsLab marks base script world
   pub follows : LeadsToWant world.at_start world.log.start (words_of world.config) None at_first (items_from world.at_start script.items) world.log.past
 
 -- a world of the script, as the script has led to it: to its end, up to a limit, or up to want of memory
-abbrev pub IsLedTo : ℕ → Base → Job → Lab → Type 0
-IsLedTo marks base script world = IsFinished marks base script world ⊎ (((which : Which) × IsCutShort marks base script world which) ⊎ IsHeldUp marks base script world)
+abbrev pub IsLedTo : ℕ → Base → Job → WorldView → Type 0
+IsLedTo marks base script world = IsFinished marks base script world ⊎ (((which : LimitKind) × IsCutShort marks base script world which) ⊎ IsHeldUp marks base script world)
 
 -- what a command writes of a world in which its script was run to its end: its report, the file of the durable words that it has
 -- left, or its summary
-abbrev pub printed : Command → Lab → List ℕ
+abbrev pub printed : Command → WorldView → List ℕ
 printed Run world = report_of world.config world.log
 printed Dump world = file_of_world world
 printed Load world = report_of world.config world.log
 printed (Work seed calls workers) world = summary_of world.config calls workers world.log
 
 -- what it writes of one that met a limit, before the fault line
-abbrev pub printed_before : Command → Lab → List ℕ
+abbrev pub printed_before : Command → WorldView → List ℕ
 printed_before Run world = report_of world.config world.log
 printed_before Dump world = []
 printed_before Load world = report_of world.config world.log
 printed_before (Work seed calls workers) world = []
 
 -- done: what the command writes of the world is written
-pub record IsDone (o : Outside) (lab : Option Lab) (text : List ℕ) : Type 0 where
+pub record IsDone (o : Outside) (lab : Option WorldView) (text : List ℕ) : Type 0 where
   pub line : CommandLine
   pub base : Base
   pub script : Job
   pub asks : Asks o line base script
-  pub world : Lab
+  pub world : WorldView
   pub is_lab : lab ≡ Some world
   pub finished : IsFinished line.marks base script world
   pub writes : text ≡ printed line.command world
 
 -- a limit was met: what the command writes before a fault line is written, and then the fault line
-pub record IsLimited (o : Outside) (lab : Option Lab) (text : List ℕ) : Type 0 where
+pub record IsLimited (o : Outside) (lab : Option WorldView) (text : List ℕ) : Type 0 where
   pub line : CommandLine
   pub base : Base
   pub script : Job
   pub asks : Asks o line base script
-  pub world : Lab
+  pub world : WorldView
   pub is_lab : lab ≡ Some world
-  pub which : Which
+  pub which : LimitKind
   pub cut_short : IsCutShort line.marks base script world which
   pub writes : text ≡ printed_before line.command world ++ fault_line (limit_text which)
 
 -- the command reads, and reading failed
-pub record IsReadFault (o : Outside) (lab : Option Lab) (text : List ℕ) : Type 0 where
+pub record IsReadFault (o : Outside) (lab : Option WorldView) (text : List ℕ) : Type 0 where
   pub command : IsReading o.words
   pub rose : Rose o.read_faults o.read_faults_after
   pub no_lab : lab ≡ None
   pub writes : text ≡ fault_line (codes "read")
 
 -- what `load` reads first is no image file, and no script was asked for
-pub record IsNoImage (o : Outside) (lab : Option Lab) (text : List ℕ) : Type 0 where
+pub record IsNoImage (o : Outside) (lab : Option WorldView) (text : List ℕ) : Type 0 where
   pub marks : ℕ
   pub command : IsLoad o.words marks
   pub fault : ImageFault
@@ -197,7 +197,7 @@ pub record IsNoImage (o : Outside) (lab : Option Lab) (text : List ℕ) : Type 0
   pub writes : text ≡ fault_line (image_text fault)
 
 -- it is the file of an image that breaks a rule of shape: the first one, and where; no script was asked for
-pub record IsMisshapen (o : Outside) (lab : Option Lab) (text : List ℕ) : Type 0 where
+pub record IsMisshapen (o : Outside) (lab : Option WorldView) (text : List ℕ) : Type 0 where
   pub marks : ℕ
   pub command : IsLoad o.words marks
   pub image : Image
@@ -209,14 +209,14 @@ pub record IsMisshapen (o : Outside) (lab : Option Lab) (text : List ℕ) : Type
   pub writes : text ≡ fault_line (shape_text fault)
 
 -- the words are no command; the source was not asked
-pub record IsUsage (o : Outside) (lab : Option Lab) (text : List ℕ) : Type 0 where
+pub record IsUsage (o : Outside) (lab : Option WorldView) (text : List ℕ) : Type 0 where
   pub no_command : ¬ IsCommand o.words
   pub left : o.left_after ≡ o.left
   pub no_lab : lab ≡ None
   pub writes : text ≡ fault_line (codes "usage")
 
 -- the bytes of the script break a rule: the first line that breaks one, and the first rule that it breaks
-pub record IsBroken (o : Outside) (lab : Option Lab) (text : List ℕ) : Type 0 where
+pub record IsBroken (o : Outside) (lab : Option WorldView) (text : List ℕ) : Type 0 where
   pub base : Base
   pub comes : ComesTo o base
   pub bytes : List ℕ
@@ -228,7 +228,7 @@ pub record IsBroken (o : Outside) (lab : Option Lab) (text : List ℕ) : Type 0 
   pub writes : text ≡ fault_line (broken_text line rule)
 
 -- they are more than a script may have
-pub record IsTooLong (o : Outside) (lab : Option Lab) (text : List ℕ) : Type 0 where
+pub record IsTooLong (o : Outside) (lab : Option WorldView) (text : List ℕ) : Type 0 where
   pub base : Base
   pub comes : ComesTo o base
   pub more : IsOverlong o base
@@ -236,22 +236,22 @@ pub record IsTooLong (o : Outside) (lab : Option Lab) (text : List ℕ) : Type 0
   pub writes : text ≡ fault_line (codes "script too long")
 
 -- memory was wanting before there was a world; only a command that reads has then asked the source
-pub record WantsEarly (o : Outside) (lab : Option Lab) : Type 0 where
+pub record WantsEarly (o : Outside) (lab : Option WorldView) : Type 0 where
   pub no_lab : lab ≡ None
   pub asked : IsReading o.words ⊎ (o.left_after ≡ o.left)
 
 -- memory was wanting for threads, or for what is written of a world, and the world is told
-pub record WantsLater (o : Outside) (lab : Option Lab) : Type 0 where
+pub record WantsLater (o : Outside) (lab : Option WorldView) : Type 0 where
   pub line : CommandLine
   pub base : Base
   pub script : Job
   pub asks : Asks o line base script
-  pub world : Lab
+  pub world : WorldView
   pub is_lab : lab ≡ Some world
   pub led : IsLedTo line.marks base script world
 
 -- want of memory comes anywhere where memory is taken
-pub record IsWant (o : Outside) (lab : Option Lab) (text : List ℕ) : Type 0 where
+pub record IsWant (o : Outside) (lab : Option WorldView) (text : List ℕ) : Type 0 where
   pub cause : WantsEarly o lab ⊎ WantsLater o lab
   pub writes : text ≡ fault_line (codes "memory")
 
@@ -264,7 +264,7 @@ abbrev pub WritesPart : (List ℕ → Type 0) → Outside → Type 0
 WritesPart IsText o = (text : List ℕ) × IsText text × GrewByFront o.held o.held_after text
 
 -- what is to be written, whatever the ending
-abbrev pub IsToBeWritten : Outside → Option Lab → List ℕ → Type 0
+abbrev pub IsToBeWritten : Outside → Option WorldView → List ℕ → Type 0
 IsToBeWritten o lab text =
     IsDone o lab text
     ⊎ (IsReadFault o lab text
@@ -273,7 +273,7 @@ IsToBeWritten o lab text =
 
 -- Each status has its cause, and with each the sink has grown by exactly what is said. Status 4 comes only
 -- where the sink failed; it then has a part of what another ending whose cause holds writes.
-pub record IsEnded (o : Outside) (status : ℕ) (lab : Option Lab) : Type 0 where
+pub record IsEnded (o : Outside) (status : ℕ) (lab : Option WorldView) : Type 0 where
   pub done : status ≡ 0 → WritesWhole (IsDone o lab) o
   pub read : status ≡ 1 → WritesWhole (IsReadFault o lab) o
   pub usage : status ≡ 2 → WritesWhole (IsUsage o lab) o

@@ -9,8 +9,8 @@ use Rattle.bz_script.specs.Texts.{fault_text}
 use Rattle.bz_shape.specs.declared.rule.ShapeFault.{ShapeFault}
 use Rattle.bz_shape.specs.declared.rule.ShapeRule.{ShapeRule}
 use Rattle.bz_shape.specs.declared.rule.ShapeRule.TheVariants.{Super, Word, Root, Twice, Level, Fence, Status, Record, Order, Key, Child}
-use Rattle.bz_sched.specs.FromWorld.Which.{Which}
-use Rattle.bz_sched.specs.FromWorld.Which.TheVariants.{Marks, Calls, Pages}
+use Rattle.bz_sched.specs.FromWorld.LimitKind.{LimitKind}
+use Rattle.bz_sched.specs.FromWorld.LimitKind.TheVariants.{Marks, Calls, Pages}
 
 -- a fault line ends with a line feed
 abbrev pub fault_line : List ℕ → List ℕ
@@ -20,7 +20,7 @@ fault_line text = codes "fault: " ++ (text ++ (10 ∷ []))
 abbrev pub broken_text : ℕ → ScriptRule → List ℕ
 broken_text line rule = fault_text (Rule line rule)
 
-abbrev pub limit_text : Which → List ℕ
+abbrev pub limit_text : LimitKind → List ℕ
 limit_text Marks = codes "limit marks"
 limit_text Calls = codes "limit calls"
 limit_text Pages = codes "limit pages"

@@ -5,7 +5,7 @@ ghost use Rattle.bz_top.specs.Faults.{fault_line, broken_text, limit_text, image
 
 use bz_image::ImageFault;
 use bz_memory::Memory;
-use bz_sched::Which;
+use bz_sched::LimitKind;
 use bz_script::{ScriptFault, ScriptRule};
 use bz_shape::{ShapeFault, ShapeRule};
 use std::alloc::Global;
@@ -20,13 +20,13 @@ pub fn broken_line(alloc: Global, line: u32, rule: ScriptRule) -> Result<String,
 }
 
 /// The fault line of a limit.
-pub fn limit_line(which: Which) -> &'static [u8]
+pub fn limit_line(which: LimitKind) -> &'static [u8]
     ensures { result.now ≡ fault_line (limit_text which) }
 {
     match which {
-        Which::Marks => b"fault: limit marks\n",
-        Which::Calls => b"fault: limit calls\n",
-        Which::Pages => b"fault: limit pages\n",
+        LimitKind::Marks => b"fault: limit marks\n",
+        LimitKind::Calls => b"fault: limit calls\n",
+        LimitKind::Pages => b"fault: limit pages\n",
     }
 }
 

@@ -2,14 +2,14 @@
 ghost use Rattle.std.specs.Prelude.{◌≡◌, ◌≢◌, ◌≤◌, ◌<◌, [], length, None};
 ghost use Rattle.bz_layout.specs.declared.limits.TheConstants.{MAX_WORKERS};
 ghost use Rattle.bz_sound.specs.declared.power.Power.TheVariants.{On, Recovering};
-ghost use Rattle.bz_sched.specs.FromWorld.Lab.{power_in};
+ghost use Rattle.bz_sched.specs.FromWorld.WorldView.{power_in};
 ghost use Rattle.bz_sched.specs.Runs.{point_of, IsCutPlan};
 ghost use Rattle.bz_script.specs.ItemLaws.{AreItems};
 ghost use Rattle.bz_script.specs.Order.{at_first, takes_no_cut, AreInOrder};
 ghost use Rattle.bz_script.specs.declared.item.Item.TheVariants.{Run};
 ghost use Rattle.bz_top.specs.Items.{ItemsRan, ItemsDone, TurnsOn, IsReadyFor, HasDone, end_in, left_after, end_of_threads};
 
-use bz_sched::{CutPlan, Power, Queue, RunEnd, Which, World, power, run};
+use bz_sched::{CutPlan, LimitKind, Power, Queue, RunEnd, World, power, run};
 use bz_script::{Item, Plan};
 use bz_threads::{Gate, ThreadsEnd, run_threads};
 use std::alloc::Global;
@@ -22,7 +22,7 @@ pub enum ItemsEnd {
     Finished,
 
     /// A limit of the journal was met, and one more was needed.
-    Limit(Which),
+    Limit(LimitKind),
 
     /// Want of memory, before a thread began.
     Memory,

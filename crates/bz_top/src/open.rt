@@ -3,7 +3,7 @@ ghost use Rattle.std.specs.Prelude.{◌≡◌, IfOk};
 ghost use Rattle.bz_judge.specs.Held.{IsImageOf};
 ghost use Rattle.bz_layout.specs.Config.{IsConfig};
 ghost use Rattle.bz_layout.specs.Fresh.{fresh_words};
-ghost use Rattle.bz_sched.specs.FromWorld.Lab.{lab_over, new_lab, image_lab};
+ghost use Rattle.bz_sched.specs.FromWorld.WorldView.{view_over, new_view, image_view};
 ghost use Rattle.bz_top.specs.Bases.{IsBaseOf, numbers_over, power_over, words_over};
 
 use bz_content::laws::fresh_memory_is_empty;
@@ -36,7 +36,7 @@ fn starts_with_an_image(world: &World)
 // A world over fresh memory.
 fn open_fresh(alloc: Global, config: &Config) -> Result<World, Memory>
     requires { IsConfig config.now }
-    ensures made { IfOk result (λ world. world ≡ new_lab config.now) }
+    ensures made { IfOk result (λ world. world ≡ new_view config.now) }
     ensures image { IfOk result (λ world. IsImageOf world.config world.log.start) }
 {
     match World::open(alloc, config) {
@@ -52,7 +52,7 @@ fn open_fresh(alloc: Global, config: &Config) -> Result<World, Memory>
 // A world over an image that breaks no rule.
 fn boot_image(alloc: Global, config: &Config, image: &[u64]) -> Result<World, Memory>
     requires { IsImageOf config.now image.now }
-    ensures made { IfOk result (λ world. world ≡ image_lab config.now image.now) }
+    ensures made { IfOk result (λ world. world ≡ image_view config.now image.now) }
 {
     match World::boot(alloc, config, image) {
         Ok(world) => Ok(world),
@@ -70,7 +70,7 @@ pub(crate) fn open_world(
 ) -> Result<World, Memory>
     requires config { IsConfig config.now }
     requires base { IsBaseOf config.now base }
-    ensures made { IfOk result (λ world. world ≡ lab_over config.now (words_over config.now base) (power_over base)) }
+    ensures made { IfOk result (λ world. world ≡ view_over config.now (words_over config.now base) (power_over base)) }
     ensures image { IfOk result (λ world. IsImageOf world.config world.log.start) }
 {
     match base {

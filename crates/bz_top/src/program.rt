@@ -27,7 +27,7 @@ use bz_image::Image;
 use bz_io::{Failed, ReadFault, Sink, Source, read_all, write_all};
 use bz_layout::{Config, MAX_CALLS, MAX_PAGES, MAX_WORKERS};
 use bz_memory::Memory;
-use bz_sched::{Queue, Which, World};
+use bz_sched::{LimitKind, Queue, World};
 use bz_script::{SCRIPT_BYTES, Script, ScriptFault, ScriptRule, read_script};
 use bz_text::{TextError, write_report, write_summary};
 use bz_threads::Gate;
@@ -188,7 +188,7 @@ fn report<K: Sink>(alloc: Global, world: World, sink: &mut K) -> Outcome
 }
 
 /// Writes the report of a run that met a limit, and then its fault line.
-fn report_limit<K: Sink>(alloc: Global, world: World, which: Which, sink: &mut K) -> Outcome
+fn report_limit<K: Sink>(alloc: Global, world: World, which: LimitKind, sink: &mut K) -> Outcome
     requires image { IsImageOf world.config world.log.start }
     ensures lab { result.lab ≡ Some world }
     ensures sound { IsSound world.config world.at_start world.log }
@@ -261,7 +261,7 @@ fn print<K: Sink>(alloc: Global, command: Command, world: World, sink: &mut K) -
 }
 
 /// Writes the fault line of a limit alone.
-fn tell_limit<K: Sink>(world: World, which: Which, sink: &mut K) -> Outcome
+fn tell_limit<K: Sink>(world: World, which: LimitKind, sink: &mut K) -> Outcome
     ensures lab { result.lab ≡ Some world }
     ensures sound { IsSound world.config world.at_start world.log }
     ensures wrote { SaysOrWants
@@ -281,7 +281,7 @@ fn print_limit<K: Sink>(
     alloc: Global,
     command: Command,
     world: World,
-    which: Which,
+    which: LimitKind,
     sink: &mut K,
 ) -> Outcome
     requires image { IsImageOf world.config world.log.start }

@@ -13,9 +13,9 @@ use Rattle.bz_swap.specs.SwapMemory.{doing_of}
 use Rattle.bz_swap.specs.TakenStatuses.{TakenStatusesStay, BegunStayTaken}
 use Rattle.bz_world.specs.Inside.Acted.{IsActed, IsStriking}
 use Rattle.bz_world.specs.Inside.Kept.{IsAwake}
-use Rattle.bz_world.specs.Lab.{mark_of}
+use Rattle.bz_world.specs.WorldView.{mark_of}
 use Rattle.bz_world.specs.declared.parts.Parts.{Parts}
-use Rattle.bz_world.specs.declared.serving.Serving.{Serving}
+use Rattle.bz_world.specs.declared.serving.OpenCall.{OpenCall}
 use Rattle.bz_world.proofs.Owners.{pending-begun}
 use Rattle.bz_world.proofs.Marking.{act-marked, act-follows}
 use Rattle.bz_world.proofs.Powered.{may-act}
@@ -26,7 +26,7 @@ busy-by : (done : Done) (s : ℕ) → (done ≡ Busy) ⊎ (Some s ≡ None) → 
 busy-by done s (inl e) = e
 busy-by done s (inr e) = absurd (cc)
 
-pub act-strikes : EffectStepsTakePlace → EffectsStayInside → TakenStatusesStay → BegunStayTaken → (old new : Parts) (w s : ℕ) (x : Serving) (made : Act) (done : Done) → IsAwake old → get_or old.workers.items w None ≡ Some x → IsActed old w made done (Some s) new
+pub act-strikes : EffectStepsTakePlace → EffectsStayInside → TakenStatusesStay → BegunStayTaken → (old new : Parts) (w s : ℕ) (x : OpenCall) (made : Act) (done : Done) → IsAwake old → get_or old.workers.items w None ≡ Some x → IsActed old w made done (Some s) new
     → length old.journal.past < old.config.marks → IsStriking new s
 act-strikes place inside taken begun old new w s x made done k is-worker a room = record {
   before = old;

@@ -11,20 +11,20 @@ use Rattle.bz_task.specs.declared.todo.Todo.{Todo}
 use Rattle.bz_task.specs.declared.todo.Todo.TheVariants as todo
 use Rattle.bz_world.specs.Inside.Acted.{IsActed, IsTold, MustTell, HasActed}
 use Rattle.bz_world.specs.Inside.Kept.{IsAwake}
-use Rattle.bz_world.specs.Lab.{IsStruck}
+use Rattle.bz_world.specs.WorldView.{IsStruck}
 use Rattle.bz_world.specs.Inside.Laws.{StepLaws}
 use Rattle.bz_world.specs.Inside.Serving.{IsServing, IsDoing, IsSlot}
 use Rattle.bz_world.specs.declared.parts.Parts.{Parts}
-use Rattle.bz_world.specs.declared.serving.Serving.{Serving}
+use Rattle.bz_world.specs.declared.serving.OpenCall.{OpenCall}
 use Rattle.bz_world.proofs.Quiet.{serves}
 use Rattle.bz_world.proofs.Went.{Went, went}
 
 -- the worker's call is served
-pub record IsServed (p : Parts) (w : ℕ) (slot : Option Serving) : Type 0 where
-  pub serving : Serving
+pub record IsServed (p : Parts) (w : ℕ) (slot : Option OpenCall) : Type 0 where
+  pub serving : OpenCall
   pub is : slot ≡ Some serving
 
-served-by : (p : Parts) (k : IsAwake p) (w : ℕ) (slot : Option Serving) → IsSlot p.config p.access p.journal k.story p.owners.items w slot → open_call w p.journal.past ≢ None → IsServed p w slot
+served-by : (p : Parts) (k : IsAwake p) (w : ℕ) (slot : Option OpenCall) → IsSlot p.config p.access p.journal k.story p.owners.items w slot → open_call w p.journal.past ≢ None → IsServed p w slot
 served-by p k w None h open_is = absurd (open_is h.none_open)
 served-by p k w (Some x) h open_is = record { serving = x; is = refl }
 

@@ -20,7 +20,7 @@ use Rattle.bz_sound.specs.Calls.{Open}
 use Rattle.bz_story.specs.Laws.{HasBegun, goes_on}
 use Rattle.bz_story.specs.Living.{IsLiving}
 use Rattle.bz_story.specs.Story.{Story, scene, loaded, is_load_of}
-use Rattle.bz_swap.specs.SwapMemory.{SwapMemory, Reading, Swapping, Storing, Flushing, doing_of, has_effect, words_of, value_at, is_named}
+use Rattle.bz_swap.specs.SwapMemory.{SwapMemory, Reading, Swapping, Storing, Flushing, doing_of, has_effect, memory_words, value_at, is_named}
 use Rattle.bz_swap.specs.Steps.{AnswersRead}
 use Rattle.bz_acts.specs.Rule.{IsActOf}
 use Rattle.bz_cells.specs.Store.{is_outside}
@@ -39,10 +39,10 @@ use Rattle.bz_task.specs.declared.todo.Todo.TheVariants as todo
 use Rattle.bz_world.specs.Inside.Acted.{IsActed, IsTold, HasWon}
 use Rattle.bz_world.specs.Inside.Kept.{IsAwake}
 use Rattle.bz_world.specs.Inside.Lonely.{WhereLonely}
-use Rattle.bz_world.specs.Lab.{mark_of}
+use Rattle.bz_world.specs.WorldView.{mark_of}
 use Rattle.bz_world.specs.Inside.Serving.{IsServing, IsSlot, stage_in, MayGoOn, IsFinishing}
 use Rattle.bz_world.specs.declared.parts.Parts.{Parts}
-use Rattle.bz_world.specs.declared.serving.Serving.{Serving}
+use Rattle.bz_world.specs.declared.serving.OpenCall.{OpenCall}
 use Rattle.bz_world.specs.Inside.Laws.{StepLaws}
 use Rattle.bz_story.proofs.Powered.{stored-since}
 use Rattle.bz_world.proofs.Lonely.{lonely-act}
@@ -65,7 +65,7 @@ now-is : (at : ℕ → Instant) (n : ℕ) (y : Instant) → and_then at n y (suc
 now-is at n y = let t : (suc n == suc n) ≡ true = grind (arith, nat_tests) in rw t refl
 
 -- what is no swap finishes no call whose change stands
-pub no-finish : (m : SwapMemory) (w : ℕ) (x : Serving) (what : Seen) → ((s : ℕ) → doing_of m w ≢ Swapping s) → MayGoOn x ⊎ IsFinishing m w x → MayGoOn x ⊎ HasWon x what
+pub no-finish : (m : SwapMemory) (w : ℕ) (x : OpenCall) (what : Seen) → ((s : ℕ) → doing_of m w ≢ Swapping s) → MayGoOn x ⊎ IsFinishing m w x → MayGoOn x ⊎ HasWon x what
 no-finish m w x what none (inl may) = inl may
 no-finish m w x what none (inr f) = absurd (none f.swap f.doing)
 
@@ -74,7 +74,7 @@ none-of None e = refl
 none-of (Some at) e = absurd (true≢false e)
 
 -- an act that is no private store
-module _ (b : StepLaws) (old new : Parts) (w : ℕ) (x : Serving) (made : Act) (answer : Done) (k : IsAwake old) (is-worker : get_or old.workers.items w None ≡ Some x) (a : IsActed old w made answer None new) (room : length old.journal.past < old.config.marks)
+module _ (b : StepLaws) (old new : Parts) (w : ℕ) (x : OpenCall) (made : Act) (answer : Done) (k : IsAwake old) (is-worker : get_or old.workers.items w None ≡ Some x) (a : IsActed old w made answer None new) (room : length old.journal.past < old.config.marks)
     (no-store : (d u : ℕ) → doing_of old.access w ≢ Storing d u) where
   abbrev pub after : Story
   after = goes_on old.journal k.story new.access k.story.filled
@@ -142,7 +142,7 @@ module _ (b : StepLaws) (old new : Parts) (w : ℕ) (x : Serving) (made : Act) (
 
     cached-is : slice_index new.access.cached c ≡ v
     cached-is =
-        let act : IsActOf (words_of old.access) (Load c v) (words_of new.access) = subst (λ (z : Act). IsActOf (words_of old.access) z (words_of new.access)) found.load a.step.one.act in
+        let act : IsActOf (memory_words old.access) (Load c v) (memory_words new.access) = subst (λ (z : Act). IsActOf (memory_words old.access) z (memory_words new.access)) found.load a.step.one.act in
         ap (λ z. slice_index z.cached c) act.after ∙ sym act.found
 
     holds-by : (named : Bool) → is_named new.access c ≡ named → (if named then value_at new.access c else slice_index new.access.cached c) ≡ v

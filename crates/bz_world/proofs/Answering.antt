@@ -34,10 +34,10 @@ use Rattle.bz_world.specs.Inside.Going.{MustGoOn, MustAnswer, MustAnswerKey, Mus
 use Rattle.bz_world.specs.Inside.Laws.{AnswerLaws}
 use Rattle.bz_world.specs.Inside.Lonely.{WhereLonely}
 use Rattle.bz_world.specs.declared.parts.Parts.{Parts}
-use Rattle.bz_world.specs.declared.serving.Serving.{Serving}
+use Rattle.bz_world.specs.declared.serving.OpenCall.{OpenCall}
 
 -- the page that is put together is nothing to the world
-abbrev pub between-pages : (p : Parts) (w : ℕ) (x : Serving) (pairs : List (List ℕ × List ℕ)) → IsBetween p w x → IsBetween (record p { page = pairs }) w x
+abbrev pub between-pages : (p : Parts) (w : ℕ) (x : OpenCall) (pairs : List (List ℕ × List ℕ)) → IsBetween p w x → IsBetween (record p { page = pairs }) w x
 between-pages p w x pairs b = record {
   on = b.on;
   story = b.story;

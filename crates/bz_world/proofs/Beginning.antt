@@ -17,7 +17,7 @@ use Rattle.bz_running.specs.Duties.{config_of, asks_of, needs_of, wants_of, fact
 use Rattle.bz_running.specs.Hearing.{IsLookup}
 use Rattle.bz_running.specs.Laws.{AreLaws}
 use Rattle.bz_running.specs.LookingUp.{ForWay, look_of, reads_asked, LooksUpBriefly}
-use Rattle.bz_running.specs.declared.running.Running.{Running}
+use Rattle.bz_running.specs.declared.running.AnyTask.{AnyTask}
 use Rattle.bz_sound.specs.Calls.{Open, begun_calls}
 use Rattle.bz_sound.specs.Power.Sound.{IsSound}
 use Rattle.bz_story.specs.Laws.{GoesOn, goes_on}
@@ -29,15 +29,15 @@ use Rattle.bz_swap.specs.SwapMemory.{SwapMemory, Working, Reading}
 use Rattle.bz_task.specs.Scene.{Scene, HasFilled, Waiting}
 use Rattle.bz_task.specs.declared.todo.Todo.TheVariants.{Read}
 use Rattle.bz_world.specs.Inside.Acted.{IsBetween}
-use Rattle.bz_world.specs.Inside.Beginning.{MayBegin, HasBegun, lab_of, pages_asked, is_swap}
+use Rattle.bz_world.specs.Inside.Beginning.{MayBegin, HasBegun, world_view, pages_asked, is_swap}
 use Rattle.bz_world.specs.Inside.Kept.{IsTabled, IsAwake}
 use Rattle.bz_world.specs.Inside.Laws.{EndLaws, StartLaws}
 use Rattle.bz_world.specs.Inside.Lonely.{WhereLonely, IsLonelyGet}
-use Rattle.bz_world.specs.Lab.{supply_by}
+use Rattle.bz_world.specs.WorldView.{supply_by}
 use Rattle.bz_world.specs.Inside.Serving.{IsSlot, IsAtRest}
 use Rattle.bz_world.specs.Inside.Telling.{MustStart}
 use Rattle.bz_world.specs.declared.parts.Parts.{Parts}
-use Rattle.bz_world.specs.declared.serving.Serving.{Serving}
+use Rattle.bz_world.specs.declared.serving.OpenCall.{OpenCall}
 use Rattle.bz_story.proofs.Powered.{stored-since}
 use Rattle.bz_world.proofs.Counting.{pairs-stay}
 use Rattle.bz_world.proofs.Lonely.{acts-begin, all-idle}
@@ -78,18 +78,18 @@ module _ (p : Parts) (k : IsAwake p) (w : ℕ) (call : Call) (may : MayBegin p w
   at-rest : IsAtRest p.access p.journal k.story w
   at-rest = subst (IsSlot p.config p.access p.journal k.story p.owners.items w) may.none_open (k.workers w)
 
-  module _ (b : EndLaws) (s : StartLaws) (n : ℕ) (numbered : n ≡ begun_calls w p.journal.past + 1) (task : Running) (config : config_of task ≡ p.config) (laws : AreLaws task) (looks : makes_no_change task ≡ true)
+  module _ (b : EndLaws) (s : StartLaws) (n : ℕ) (numbered : n ≡ begun_calls w p.journal.past + 1) (task : AnyTask) (config : config_of task ≡ p.config) (laws : AreLaws task) (looks : makes_no_change task ≡ true)
       (lookup : IsLookup (key_of call) None task) (asks : asks_of task ≡ Some (Read 2)) (facts : (z : Scene) → HasFilled z → facts_of task Waiting z) (wants : wants_of task ≡ 0) (look : look_of task ≡ ForWay) (reads : reads_asked task ≡ 1) (brief : LooksUpBriefly task) where
     abbrev mark : Mark
     mark = Begin w n call
 
-    abbrev fresh : Serving
+    abbrev fresh : OpenCall
     fresh = record { call = call; task = task; path = None; had = None; effect = None; alone = false; froze = false }
 
     abbrev opened : Open
     opened = record { number = n; call = call; begun = length p.journal.past; effect = None }
 
-    abbrev workers : Vec (Option Serving)
+    abbrev workers : Vec (Option OpenCall)
     workers = with_item p.workers w (Some fresh)
 
     abbrev pub mid : Parts
@@ -225,8 +225,8 @@ module _ (p : Parts) (k : IsAwake p) (w : ℕ) (call : Call) (may : MayBegin p w
     has-begun new is holds = record {
       kept = read-kept s mid w 2 must-start new is holds;
       number = numbered;
-      after = ap (λ (m : SwapMemory). record (lab_of p) { log = with_mark p.journal mark; flushes = map (λ (v : Working). v.flush_next) m.workers; swapping = map (λ (v : Working). is_swap v.doing) m.workers; supply = supply_by p.power (record { taken = m.taken; left = length p.slots.free }) }) is
-          ∙ (λ t. record (lab_of p) { log = with_mark p.journal mark; flushes = flushes t; swapping = swapping t });
+      after = ap (λ (m : SwapMemory). record (world_view p) { log = with_mark p.journal mark; flushes = map (λ (v : Working). v.flush_next) m.workers; swapping = map (λ (v : Working). is_swap v.doing) m.workers; supply = supply_by p.power (record { taken = m.taken; left = length p.slots.free }) }) is
+          ∙ (λ t. record (world_view p) { log = with_mark p.journal mark; flushes = flushes t; swapping = swapping t });
     }
       where
         flushes : map (λ (v : Working). v.flush_next) (started p.access w (Reading 2)).workers ≡ slice_set (map (λ (v : Working). v.flush_next) p.access.workers) w false

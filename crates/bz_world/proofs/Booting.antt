@@ -13,9 +13,9 @@ use Rattle.bz_sound.specs.declared.power.Power.TheVariants as power
 use Rattle.bz_story.specs.Reviving.{IsOffIn, ImagesOpenJournals}
 use Rattle.bz_world.specs.Inside.Kept.{IsKept}
 use Rattle.bz_world.specs.Inside.Opening.{IsMadeOver}
-use Rattle.bz_world.specs.Lab.{lab_over}
+use Rattle.bz_world.specs.WorldView.{view_over}
 use Rattle.bz_world.specs.declared.parts.Parts.{Parts}
-use Rattle.bz_world.specs.declared.serving.Serving.{Serving}
+use Rattle.bz_world.specs.declared.serving.OpenCall.{OpenCall}
 use Rattle.bz_world.proofs.Openings.{tabled, same-everywhere}
 use Rattle.bz_world.proofs.Powered.{kept-off}
 
@@ -24,11 +24,11 @@ pub kept-image : FreshJournalsAreSound → ImagesOpenJournals → (c : Config) (
 kept-image sounds images c image p config whole form same slots made = kept-off p made.power (record {
   dark = record {
     tabled = tabled image power.Off p made;
-    sound = subst (λ (s : Power). IsSound p.config s p.journal) (sym made.at_start) (subst (IsSound p.config power.Off) (sym made.journal) (subst (λ d. IsSound d power.Off (lab_over d image power.Off).log) (sym same) (sounds c power.Off image (lab_over c image power.Off).log.limits whole form)));
-    none = λ w. ap (λ (xs : List (Option Serving)). get_or xs w None) made.workers ∙ same-everywhere 65 w None;
+    sound = subst (λ (s : Power). IsSound p.config s p.journal) (sym made.at_start) (subst (IsSound p.config power.Off) (sym made.journal) (subst (λ d. IsSound d power.Off (view_over d image power.Off).log) (sym same) (sounds c power.Off image (view_over c image power.Off).log.limits whole form)));
+    none = λ w. ap (λ (xs : List (Option OpenCall)). get_or xs w None) made.workers ∙ same-everywhere 65 w None;
     slots = ap (λ (s : FreeSlots). s.nodes) slots ∙ ap (λ (d : Config). d.nodes) (sym same);
     values = resolve (slice_index image);
   };
   memory = subst (IsOffIn p.config (resolve (slice_index image)) p.access) (sym made.journal)
-      (images p.config p.access image (lab_over p.config image power.Off).log.limits made.config (whole ∙ ap words_of (sym same)) (subst (λ d. image_fault d (slice_index image) ≡ None) (sym same) form) made.opened);
+      (images p.config p.access image (view_over p.config image power.Off).log.limits made.config (whole ∙ ap words_of (sym same)) (subst (λ d. image_fault d (slice_index image) ≡ None) (sym same) form) made.opened);
 })

@@ -11,7 +11,7 @@ use Rattle.bz_record.specs.Laws.{IsViewed}
 use Rattle.bz_running.specs.Duties.{config_of, asks_of, wants_of, change_of, facts_of}
 use Rattle.bz_running.specs.Hearing.{IsLookup}
 use Rattle.bz_running.specs.Laws.{AreLaws}
-use Rattle.bz_running.specs.declared.running.Running.{Running}
+use Rattle.bz_running.specs.declared.running.AnyTask.{AnyTask}
 use Rattle.bz_slotted.specs.Page.{Page, page}
 use Rattle.bz_slotted.specs.Readers.{live_of}
 use Rattle.bz_slotted.specs.ReadingLaws.{node_of}
@@ -129,7 +129,7 @@ module _ (scenes : ScenesAreSeen) (b : AnswerLaws) (p : Parts) (w : ℕ) (view :
   needs-split frozen many = needs-anew SPLIT_SLOTS (split-slots (live_of (node_of view.image.0)) many) frozen
 
 -- a task that makes the call's change may be begun, where its key was looked up
-pub must-change : ScenesAreSeen → (p : Parts) (w : ℕ) (view : KeyView) (m : MustAnswerKey p w view) (key : List ℕ) → key_of m.on.serving.call ≡ key → (task : Running) (had : Option (List ℕ)) → config_of task ≡ p.config → AreLaws task → IsChangeFor m.on.serving.call had (change_of task)
+pub must-change : ScenesAreSeen → (p : Parts) (w : ℕ) (view : KeyView) (m : MustAnswerKey p w view) (key : List ℕ) → key_of m.on.serving.call ≡ key → (task : AnyTask) (had : Option (List ℕ)) → config_of task ≡ p.config → AreLaws task → IsChangeFor m.on.serving.call had (change_of task)
     → ((way : Option Path) → IsLookup key way task) → asks_of task ≡ None → wants_of task ≡ 0 → ((s : Scene) → s.past.config ≡ p.config → s.effected ≡ false → IsScene s → IsKeyView key view s.past → facts_of task Waiting s) → MustChange p w had task
 must-change scenes p w view m key key-is task had config laws change lookup asks wants facts = record {
   reads = record { on = m.on; leads = m.leads; quiet = m.quiet; other = λ other get lonely. absurd (subst (λ called. IsChangeOf called had (change_of task).new) get change.is) };
@@ -144,7 +144,7 @@ pub tells-nothing : (p : Parts) (w : ℕ) (on : MustGoOn p w) (had : Option (Lis
 tells-nothing p w on had quiet at e = absurd (cc (e, on.between.call_open.effect, quiet))
 
 -- the task that it takes on, and what is known of the way to its leaf
-abbrev pub takes : (p : Parts) (w : ℕ) (had : Option (List ℕ)) (task : Running) (m : MustChange p w had task) → MustTakeOn p w task m.reads.on.serving.path had None
+abbrev pub takes : (p : Parts) (w : ℕ) (had : Option (List ℕ)) (task : AnyTask) (m : MustChange p w had task) → MustTakeOn p w task m.reads.on.serving.path had None
 takes p w had task m = record { on = m.reads.on; may = inl m.reads.quiet; tasked = m.tasked; asks = m.asks; facts = m.facts; wanted = none-wanted p w m.reads.on task m.wants; lonely = λ key get lonely. absurd (m.reads.other key get lonely) }
 
 abbrev pub knows : (p : Parts) (w : ℕ) (m : MustReadWhole p w) → KnowsWay p w m.on.serving m.on.between

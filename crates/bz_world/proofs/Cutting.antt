@@ -16,12 +16,12 @@ use Rattle.bz_story.specs.Recovering.{Started}
 use Rattle.bz_story.specs.Reviving.{CutsAreMarked}
 use Rattle.bz_swap.specs.Power.{after_cut}
 use Rattle.bz_swap.specs.SwapMemory.{Working, idle}
-use Rattle.bz_world.specs.Inside.Beginning.{lab_of, is_swap}
+use Rattle.bz_world.specs.Inside.Beginning.{world_view, is_swap}
 use Rattle.bz_world.specs.Inside.Kept.{IsTabled, IsAwake, IsOff, IsStarted, IsKept}
 use Rattle.bz_world.specs.Inside.Powering.{IsCut}
-use Rattle.bz_world.specs.Lab as lab
+use Rattle.bz_world.specs.WorldView as lab
 use Rattle.bz_world.specs.declared.parts.Parts.{Parts}
-use Rattle.bz_world.specs.declared.serving.Serving.{Serving}
+use Rattle.bz_world.specs.declared.serving.OpenCall.{OpenCall}
 use Rattle.bz_world.proofs.Counting.{pairs-stay}
 use Rattle.bz_world.proofs.Openings.{map-replicate}
 use Rattle.bz_world.proofs.Powered.{awake-in, started-in, kept-off}
@@ -33,12 +33,12 @@ pub record Laws : Type 0 where
   pub leave : CutsAreMarked
 
 -- the world after it
-abbrev cut-off : Parts → Vec (Option Serving) → ArrayVec Bool → Parts
+abbrev cut-off : Parts → Vec (Option OpenCall) → ArrayVec Bool → Parts
 cut-off p workers flags = record p { access = after_cut p.access; journal = with_mark p.journal Cut; power = power.Off; workers = workers; left_out = flags }
 
 -- whatever the power was, if it was not off
 module _ (b : Laws) (p : Parts) (t : IsTabled p) (sound : IsSound p.config p.at_start p.journal) (not-off : p.power ≢ power.Off) (room : length p.journal.past + 3 ≤ p.config.marks)
-    (workers : Vec (Option Serving)) (size : length workers.items ≡ length p.workers.items) (flags : ArrayVec Bool) where
+    (workers : Vec (Option OpenCall)) (size : length workers.items ≡ length p.workers.items) (flags : ArrayVec Bool) where
   tabled : IsTabled (cut-off p workers flags)
   tabled = record {
     config = t.config;
@@ -66,7 +66,7 @@ module _ (b : Laws) (p : Parts) (t : IsTabled p) (sound : IsSound p.config p.at_
   sound-on = b.follow p.config p.at_start p.journal sound no-cut
 
   -- so it is seen
-  lab-cut : flags.items ≡ map (λ (v : Working). v.flush_next) p.access.workers → lab_of (cut-off p workers flags) ≡ lab.after_cut (lab_of p)
+  lab-cut : flags.items ≡ map (λ (v : Working). v.flush_next) p.access.workers → world_view (cut-off p workers flags) ≡ lab.after_cut (world_view p)
   lab-cut same = λ t. record { config = p.config; at_start = p.at_start; log = with_mark p.journal Cut; flushes = flushes t; swapping = swapping t; left_out = same t; supply = record { taken = 0; left = 0 } }
     where
       flushes : map (λ (v : Working). v.flush_next) (after_cut p.access).workers ≡ replicate (p.config.workers + 1) false
@@ -75,7 +75,7 @@ module _ (b : Laws) (p : Parts) (t : IsTabled p) (sound : IsSound p.config p.at_
       swapping : map (λ (v : Working). is_swap v.doing) (after_cut p.access).workers ≡ replicate (p.config.workers + 1) false
       swapping = map-replicate (λ (v : Working). is_swap v.doing) (length p.access.workers) idle ∙ ap (λ n. replicate n false) t.crew
 
-module _ (b : Laws) (p : Parts) (room : length p.journal.past + 3 ≤ p.config.marks) (workers : Vec (Option Serving)) (size : length workers.items ≡ length p.workers.items) (flags : ArrayVec Bool) (none : (w : ℕ) → get_or workers.items w None ≡ None) where
+module _ (b : Laws) (p : Parts) (room : length p.journal.past + 3 ≤ p.config.marks) (workers : Vec (Option OpenCall)) (size : length workers.items ≡ length p.workers.items) (flags : ArrayVec Bool) (none : (w : ℕ) → get_or workers.items w None ≡ None) where
   awake-off : IsAwake p → IsOff (cut-off p workers flags)
   unfolding tabled sound-on
   awake-off k = record {
@@ -101,7 +101,7 @@ module _ (b : Laws) (p : Parts) (room : length p.journal.past + 3 ≤ p.config.m
     memory = b.leave.recovering p.config k.dark.values p.access p.journal Started p.recovery k.memory;
   }
 
-off-by : Laws → (p : Parts) → IsKept p → length p.journal.past + 3 ≤ p.config.marks → (workers : Vec (Option Serving)) → length workers.items ≡ length p.workers.items → (flags : ArrayVec Bool) → ((w : ℕ) → get_or workers.items w None ≡ None) → p.power ≢ power.Off → IsOff (cut-off p workers flags)
+off-by : Laws → (p : Parts) → IsKept p → length p.journal.past + 3 ≤ p.config.marks → (workers : Vec (Option OpenCall)) → length workers.items ≡ length p.workers.items → (flags : ArrayVec Bool) → ((w : ℕ) → get_or workers.items w None ≡ None) → p.power ≢ power.Off → IsOff (cut-off p workers flags)
 off-by b p k room workers size flags none ne = go p.power refl
   where
     go : (z : Power) → p.power ≡ z → IsOff (cut-off p workers flags)
@@ -112,5 +112,5 @@ off-by b p k room workers size flags none ne = go p.power refl
 pub cut-kept : Laws → (old new : Parts) → IsKept old → length old.journal.past + 3 ≤ old.config.marks → old.power ≢ power.Off → IsCut old new → IsKept new
 cut-kept b old new k room ne cut = subst IsKept (sym cut.rest) (kept-off (cut-off old new.workers new.left_out) refl (off-by b old k room new.workers cut.size new.left_out cut.none ne))
 
-pub cut-seen : Laws → (old new : Parts) → IsKept old → length old.journal.past + 3 ≤ old.config.marks → old.power ≢ power.Off → IsCut old new → lab_of new ≡ lab.after_cut (lab_of old)
-cut-seen b old new k room ne cut = ap lab_of cut.rest ∙ lab-cut b old k.tabled k.sound ne room new.workers cut.size new.left_out cut.flags
+pub cut-seen : Laws → (old new : Parts) → IsKept old → length old.journal.past + 3 ≤ old.config.marks → old.power ≢ power.Off → IsCut old new → world_view new ≡ lab.after_cut (world_view old)
+cut-seen b old new k room ne cut = ap world_view cut.rest ∙ lab-cut b old k.tabled k.sound ne room new.workers cut.size new.left_out cut.flags

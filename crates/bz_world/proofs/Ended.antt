@@ -27,7 +27,7 @@ use Rattle.bz_world.specs.Inside.Lonely.{IsLonelyIn}
 use Rattle.bz_world.specs.Inside.Serving.{IsSlot}
 use Rattle.bz_world.specs.declared.answers.Applied.TheVariants as applied
 use Rattle.bz_world.specs.declared.parts.Parts.{Parts}
-use Rattle.bz_world.specs.declared.serving.Serving.{Serving}
+use Rattle.bz_world.specs.declared.serving.OpenCall.{OpenCall}
 use Rattle.bz_story.proofs.Powered.{stored-since}
 use Rattle.bz_world.proofs.Counting.{pairs-stay}
 use Rattle.bz_world.proofs.Lonely.{none-in}
@@ -35,7 +35,7 @@ use Rattle.bz_world.proofs.LonelyEnds.{ends-briefly}
 use Rattle.bz_world.proofs.Staying.{slot-stays}
 
 -- what is known of a worker does not depend on the journal's pages
-slot-pages : (c : Config) (m : SwapMemory) (log : Log) (pages : Pages) (story : Story) (owners : List ℕ) (v : ℕ) (slot : Option Serving) → IsSlot c m log story owners v slot → IsSlot c m (record log { pages = pages }) story owners v slot
+slot-pages : (c : Config) (m : SwapMemory) (log : Log) (pages : Pages) (story : Story) (owners : List ℕ) (v : ℕ) (slot : Option OpenCall) → IsSlot c m log story owners v slot → IsSlot c m (record log { pages = pages }) story owners v slot
 slot-pages c m log pages story owners v None h = record { none_open = h.none_open; idle = h.idle; filled = h.filled }
 slot-pages c m log pages story owners v (Some x) h = record {
   opened = h.opened;

@@ -4,7 +4,7 @@ use Rattle.std.specs.Prelude.{get_or}
 use Rattle.bz_content.specs.Content.{image_fault, content_in}
 use Rattle.bz_mark.specs.Log.{with_mark}
 use Rattle.bz_mark.proofs.MomentLaws.{at_moment-now}
-use Rattle.bz_mark.specs.WordsAfter.{words_of as words_after_marks}
+use Rattle.bz_mark.specs.WordsAfter.{words_after_marks}
 use Rattle.bz_mark.specs.declared.marks.Mark.TheVariants.{Evict}
 use Rattle.bz_layout.specs.Addresses.{swap_address}
 use Rattle.bz_pm.specs.Acts.{evicted}
@@ -17,7 +17,7 @@ use Rattle.bz_story.specs.Living.{IsLiving}
 use Rattle.bz_story.specs.Story.{Story}
 use Rattle.bz_swap.specs.Effects.{IsQuiet, EffectIs}
 use Rattle.bz_swap.specs.Evictions.{EvictsIn}
-use Rattle.bz_swap.specs.SwapMemory.{SwapMemory, doing_of, words_of}
+use Rattle.bz_swap.specs.SwapMemory.{SwapMemory, doing_of, memory_words}
 use Rattle.bz_swap.specs.TakenStatuses.{BegunStayTaken}
 use Rattle.bz_swap.specs.declared.phase.Phase.{Phase}
 use Rattle.bz_swap.specs.declared.phase.Phase.TheVariants.{Opened, Running, Recovering}
@@ -40,8 +40,8 @@ effect-in Running old new told ne h = h
 effect-in Recovering old new told ne h = absurd (ne refl)
 
 module _ (old new : Parts) (a : ℕ) (told : Option ℕ) (k : IsAwake old) (e : IsEvicted old a told new) where
-  pub evict-marked : words_of new.access ≡ words_after_marks old.journal.start (Evict a ∷ old.journal.past)
-  evict-marked = ap words_of e.eviction.is ∙ ap (λ z. evicted z a) k.living.words
+  pub evict-marked : memory_words new.access ≡ words_after_marks old.journal.start (Evict a ∷ old.journal.past)
+  evict-marked = ap memory_words e.eviction.is ∙ ap (λ z. evicted z a) k.living.words
 
   pub evict-works : SameWork old.access new.access
   evict-works = record {

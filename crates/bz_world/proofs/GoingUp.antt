@@ -4,7 +4,7 @@ use Rattle.bz_call.specs.Map.{key_of}
 use Rattle.bz_running.specs.Duties.{config_of, asks_of, wants_of, facts_of, makes_no_change}
 use Rattle.bz_running.specs.Hearing.{IsLookup}
 use Rattle.bz_running.specs.Laws.{AreLaws}
-use Rattle.bz_running.specs.declared.running.Running.{Running}
+use Rattle.bz_running.specs.declared.running.AnyTask.{AnyTask}
 use Rattle.bz_story.specs.Laws.{ScenesAreSeen}
 use Rattle.bz_task.specs.Outcomes.{IsPath, IsView}
 use Rattle.bz_task.specs.Scene.{Scene, IsScene, Waiting}
@@ -19,7 +19,7 @@ use Rattle.bz_world.proofs.LonelyEnds.{other-ended}
 use Rattle.bz_world.proofs.TakingOn.{known-scene, lookup-taken}
 
 -- the split of its leaf, along a path of its key
-abbrev pub split-taken : ScenesAreSeen → (p : Parts) (w : ℕ) (path : Path) (view : LeafView) (m : MustMakeAnew p w path view) (key : List ℕ) → key ≡ key_of m.answer.on.serving.call → (task : Running) → config_of task ≡ p.config → AreLaws task → makes_no_change task ≡ true
+abbrev pub split-taken : ScenesAreSeen → (p : Parts) (w : ℕ) (path : Path) (view : LeafView) (m : MustMakeAnew p w path view) (key : List ℕ) → key ≡ key_of m.answer.on.serving.call → (task : AnyTask) → config_of task ≡ p.config → AreLaws task → makes_no_change task ≡ true
     → ((way : Option Path) → IsLookup key way task) → asks_of task ≡ None → (slots : ℕ) → wants_of task ≡ slots → NeedsAtLeast p.config p.journal.start p.journal.past m.answer.on.between.opened slots
     → ((s : Scene) → s.past.config ≡ p.config → IsScene s → IsPath key path s.past → IsView key view s.past → facts_of task Waiting s) → MustTakeOn p w task None m.answer.on.serving.had None
 split-taken scenes p w path view m key same task config laws looks lookup asks slots wants needs facts =
@@ -29,11 +29,11 @@ split-taken scenes p w path view m key same task config laws looks lookup asks s
     (λ key get lonely. absurd (m.answer.other key get lonely))
 
 -- the call is no lonely get, whose task ends by no want of room
-pub up-other : (p : Parts) (w : ℕ) (task : Running) (m : MustGoUp p w task) → IsNotLonely p.journal.past w m.ends.on.serving.call
+pub up-other : (p : Parts) (w : ℕ) (task : AnyTask) (m : MustGoUp p w task) → IsNotLonely p.journal.past w m.ends.on.serving.call
 up-other p w task m = other-ended p w m.ends.on NeedsRoom m.ends.end (λ path e. absurd (cc e)) (λ view e. absurd (cc e))
 
 -- the split of the node above
-abbrev pub up-taken : ScenesAreSeen → (p : Parts) (w : ℕ) (task : Running) (m : MustGoUp p w task) → AreLaws task → MustTakeOn p w task None m.ends.on.serving.had None
+abbrev pub up-taken : ScenesAreSeen → (p : Parts) (w : ℕ) (task : AnyTask) (m : MustGoUp p w task) → AreLaws task → MustTakeOn p w task None m.ends.on.serving.had None
 up-taken scenes p w task m laws =
     lookup-taken p w m.ends.on (inl m.ends.quiet) task None None (key_of m.ends.on.serving.call) (m.up.config ∙ m.ends.tasked.config) laws m.up.silent (m.up.ends (key_of m.ends.on.serving.call) m.ends.on.serving.path None m.ends.tasked.lookup) refl m.up.asks
     (m.up.facts (known p w m.ends.on) (sym m.ends.tasked.config) (known-scene scenes p w m.ends.on) m.ends.facts m.ends.end)

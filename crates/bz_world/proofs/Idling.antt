@@ -11,11 +11,11 @@ use Rattle.bz_swap.specs.SwapMemory.{SwapMemory, Idle, doing_of}
 use Rattle.bz_world.specs.Inside.Kept.{IsTabled, IsAwake, IsOff, IsStarted, IsKept}
 use Rattle.bz_world.specs.Inside.Serving.{IsSlot}
 use Rattle.bz_world.specs.declared.parts.Parts.{Parts}
-use Rattle.bz_world.specs.declared.serving.Serving.{Serving}
+use Rattle.bz_world.specs.declared.serving.OpenCall.{OpenCall}
 use Rattle.bz_world.proofs.Powered.{awake-in, off-in, started-in}
 
 -- with the power on: its call is open, or it is at rest; worker 0 has no call
-idle-slot : (c : Config) (m : SwapMemory) (log : Log) (story : Story) (owners : List ℕ) (w : ℕ) (slot : Option Serving) → IsSlot c m log story owners w slot → (HasOpenCall log.past w → ⊥) → doing_of m w ≡ Idle
+idle-slot : (c : Config) (m : SwapMemory) (log : Log) (story : Story) (owners : List ℕ) (w : ℕ) (slot : Option OpenCall) → IsSlot c m log story owners w slot → (HasOpenCall log.past w → ⊥) → doing_of m w ≡ Idle
 idle-slot c m log story owners w None rest none = rest.idle
 idle-slot c m log story owners w (Some x) serving none = absurd (none (record { opened = serving.opened; is_open = serving.call_open.is_open }))
 

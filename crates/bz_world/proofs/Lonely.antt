@@ -12,7 +12,7 @@ use Rattle.bz_mark.specs.Log.{Log}
 use Rattle.bz_mark.specs.declared.marks.Mark.{Mark}
 use Rattle.bz_mark.specs.declared.marks.Mark.TheVariants as mark
 use Rattle.bz_running.specs.LookingUp.{ForWay, ForKey, NoLook, look_of, IsReadOrEnd}
-use Rattle.bz_running.specs.declared.running.Running.{Running}
+use Rattle.bz_running.specs.declared.running.AnyTask.{AnyTask}
 use Rattle.bz_sound.specs.Calls.{Open, open_call}
 use Rattle.bz_sound.specs.Lonely.{IsLonely, acts_since, LonelyCallsAreAlone}
 use Rattle.bz_sound.specs.Memory.Moments.{IsAfterFlush}
@@ -27,9 +27,9 @@ use Rattle.bz_task.specs.declared.todo.Todo.TheVariants as todo
 use Rattle.bz_world.specs.Inside.Kept.{IsAwake}
 use Rattle.bz_world.specs.Inside.Lonely.{WhereLonely, IsLonelyGet, AsksBriefly, IsLonelyIn}
 use Rattle.bz_world.specs.Inside.Serving.{IsServing, IsDoing, IsSlot}
-use Rattle.bz_world.specs.Lab.{mark_of}
+use Rattle.bz_world.specs.WorldView.{mark_of}
 use Rattle.bz_world.specs.declared.parts.Parts.{Parts}
-use Rattle.bz_world.specs.declared.serving.Serving.{Serving}
+use Rattle.bz_world.specs.declared.serving.OpenCall.{OpenCall}
 
 -- an act begins no call
 pub lonely-act : (v w : ℕ) (past : List Mark) (made : Act) → IsLonely v (mark_of w made ∷ past) → IsLonely v past
@@ -81,7 +81,7 @@ alone-since fall c at first last begun since history from after now same =
     omega (arith, earlier, later, same)
 
 -- its task looks for something
-pub looks-some : (key : List ℕ) (way : Option Path) (t : Running) → LooksFor key way t → look_of t ≢ NoLook
+pub looks-some : (key : List ℕ) (way : Option Path) (t : AnyTask) → LooksFor key way t → look_of t ≢ NoLook
 looks-some key None t l e = let q : ForWay ≡ NoLook = sym l ∙ e in cc q
 looks-some key (Some path) t l e = let q : ForKey ≡ NoLook = sym l.0 ∙ e in cc q
 
@@ -98,31 +98,31 @@ does-read m owners w (todo.Flush line) d r = absurd r
 does-read m owners w (todo.Swap entries) d r = absurd r
 does-read m owners w todo.Finish d r = absurd d
 
-pub lonely-reads : (c : Config) (m : SwapMemory) (log : Log) (story : Story) (owners : List ℕ) (w : ℕ) (x : Serving) (opened : Open) (key : List ℕ) → IsServing c m log story owners w x → IsLonelyGet m log.past story w x opened key → DoesRead m w
+pub lonely-reads : (c : Config) (m : SwapMemory) (log : Log) (story : Story) (owners : List ℕ) (w : ℕ) (x : OpenCall) (opened : Open) (key : List ℕ) → IsServing c m log story owners w x → IsLonelyGet m log.past story w x opened key → DoesRead m w
 lonely-reads c m log story owners w x opened key s g = does-read m owners w s.asked s.doing (g.looks.asks s.asked (looks-some key x.path x.task g.brief.looks) s.asks)
 
 -- what is known of the call in a place is known of the one there
-pub in-place : (m : SwapMemory) (past : List Mark) (story : Story) (items : List (Option Serving)) (w : ℕ) (x : Serving) (its : Open) → get_or items w None ≡ Some x → open_call w past ≡ Some its → WhereLonely past w x.call (IsLonelyGet m past story w x its) → IsLonelyIn m past story items w
+pub in-place : (m : SwapMemory) (past : List Mark) (story : Story) (items : List (Option OpenCall)) (w : ℕ) (x : OpenCall) (its : Open) → get_or items w None ≡ Some x → open_call w past ≡ Some its → WhereLonely past w x.call (IsLonelyGet m past story w x its) → IsLonelyIn m past story items w
 in-place m past story items w x its is-x is-its holds y opened is-y is-open =
     let both : Some x ≡ Some y = sym is-x ∙ is-y in
     let calls : Some its ≡ Some opened = sym is-its ∙ is-open in
     let same : x ≡ y = cc both in
     let call : its ≡ opened = cc calls in
-    subst (λ (z : Serving). WhereLonely past w z.call (IsLonelyGet m past story w z opened)) same (subst (λ (o : Open). WhereLonely past w x.call (IsLonelyGet m past story w x o)) call holds)
+    subst (λ (z : OpenCall). WhereLonely past w z.call (IsLonelyGet m past story w z opened)) same (subst (λ (o : Open). WhereLonely past w x.call (IsLonelyGet m past story w x o)) call holds)
 
 -- beside an open call there is no such get
-pub only-own : LonelyCallsAreAlone → (m : SwapMemory) (past : List Mark) (story : Story) (items : List (Option Serving)) (w : ℕ) (its : Open) → open_call w past ≡ Some its → IsLonelyIn m past story items w → (v : ℕ) → IsLonelyIn m past story items v
+pub only-own : LonelyCallsAreAlone → (m : SwapMemory) (past : List Mark) (story : Story) (items : List (Option OpenCall)) (w : ℕ) (its : Open) → open_call w past ≡ Some its → IsLonelyIn m past story items w → (v : ℕ) → IsLonelyIn m past story items v
 only-own alone m past story items w its is-open own v = elim (cases_eq v w) [
   | inl e ↦ subst (IsLonelyIn m past story items) (sym e) own
   | inr ne ↦ λ x opened is call key get lonely. absurd (let never : None ≡ Some its = sym (alone v w past lonely (λ e. ne (sym e))) ∙ is-open in cc never)
 ]
 
 -- no table without a call has one
-pub none-in : (m : SwapMemory) (past : List Mark) (story : Story) (items : List (Option Serving)) (w : ℕ) → get_or items w None ≡ None → IsLonelyIn m past story items w
+pub none-in : (m : SwapMemory) (past : List Mark) (story : Story) (items : List (Option OpenCall)) (w : ℕ) → get_or items w None ≡ None → IsLonelyIn m past story items w
 none-in m past story items w none x opened is call key get lonely = absurd (let never : None ≡ Some x = sym none ∙ is in cc never)
 
 -- what it asks for is started
-pub started-lonely : (m : SwapMemory) (past : List Mark) (story : Story) (owners : List ℕ) (w : ℕ) (x : Serving) (opened : Open) (key : List ℕ) (doing : Doing) (asked : Todo) → AsksBriefly m past story w x opened key asked
+pub started-lonely : (m : SwapMemory) (past : List Mark) (story : Story) (owners : List ℕ) (w : ℕ) (x : OpenCall) (opened : Open) (key : List ℕ) (doing : Doing) (asked : Todo) → AsksBriefly m past story w x opened key asked
     → IsDoing (started m w doing) owners w asked → doing_of (started m w doing) w ≡ doing → IsLonelyGet (started m w doing) past story w x opened key
 started-lonely m past story owners w x opened key doing (todo.Read a) g d starts = subst (λ z. IsLonelyGet (started m w z) past story w x opened key) (sym d ∙ starts) g
 started-lonely m past story owners w x opened key doing (todo.Load a) g d starts = absurd g
@@ -132,7 +132,7 @@ started-lonely m past story owners w x opened key doing (todo.Swap entries) g d 
 started-lonely m past story owners w x opened key doing todo.Finish g d starts = absurd d
 
 -- where no call is open nobody does anything
-idle-in : (c : Config) (m : SwapMemory) (log : Log) (story : Story) (owners : List ℕ) (v : ℕ) (slot : Option Serving) → IsSlot c m log story owners v slot → open_call v log.past ≡ None → doing_of m v ≡ Idle
+idle-in : (c : Config) (m : SwapMemory) (log : Log) (story : Story) (owners : List ℕ) (v : ℕ) (slot : Option OpenCall) → IsSlot c m log story owners v slot → open_call v log.past ≡ None → doing_of m v ≡ Idle
 idle-in c m log story owners v None rest none = rest.idle
 idle-in c m log story owners v (Some x) s none = absurd (let never : None ≡ Some s.opened = sym none ∙ s.call_open.is_open in cc never)
 

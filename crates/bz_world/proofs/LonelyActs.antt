@@ -16,23 +16,23 @@ use Rattle.bz_world.specs.Inside.Kept.{IsAwake}
 use Rattle.bz_world.specs.Inside.Laws.{StepLaws, StrikeLaws}
 use Rattle.bz_world.specs.Inside.Lonely.{WhereLonely, IsNotLonely, IsLonelyGet, IsLonelyIn}
 use Rattle.bz_world.specs.Inside.Serving.{IsServing}
-use Rattle.bz_world.specs.Lab.{mark_of}
+use Rattle.bz_world.specs.WorldView.{mark_of}
 use Rattle.bz_world.specs.declared.parts.Parts.{Parts}
-use Rattle.bz_world.specs.declared.serving.Serving.{Serving}
+use Rattle.bz_world.specs.declared.serving.OpenCall.{OpenCall}
 use Rattle.bz_world.proofs.Lonely.{lonely-act, acts-act, lonely-flush, alone-on, DoesRead, lonely-reads, in-place, only-own}
 use Rattle.bz_world.proofs.Marking.{act-calls}
 use Rattle.bz_world.proofs.Quiet.{serves}
 use Rattle.bz_world.proofs.Striking.{old, kept, w as striker, its as its_call}
 
 -- the call that is served
-pub lonely-now : (p : Parts) (k : IsAwake p) (v : ℕ) (x : Serving) (is : get_or p.workers.items v None ≡ Some x) → WhereLonely p.journal.past v x.call (IsLonelyGet p.access p.journal.past k.story v x (serves p k v x is).opened)
+pub lonely-now : (p : Parts) (k : IsAwake p) (v : ℕ) (x : OpenCall) (is : get_or p.workers.items v None ≡ Some x) → WhereLonely p.journal.past v x.call (IsLonelyGet p.access p.journal.past k.story v x (serves p k v x is).opened)
 lonely-now p k v x is = k.lonely v x (serves p k v x is).opened is (serves p k v x is).call_open.is_open
 
-pub reads-now : (p : Parts) (k : IsAwake p) (v : ℕ) (x : Serving) → get_or p.workers.items v None ≡ Some x → WhereLonely p.journal.past v x.call (λ key. DoesRead p.access v)
+pub reads-now : (p : Parts) (k : IsAwake p) (v : ℕ) (x : OpenCall) → get_or p.workers.items v None ≡ Some x → WhereLonely p.journal.past v x.call (λ key. DoesRead p.access v)
 reads-now p k v x is key get lonely = lonely-reads p.config p.access p.journal k.story p.owners.items v x (serves p k v x is).opened key (serves p k v x is) (lonely-now p k v x is key get lonely)
 
 -- an act at which no swap took effect
-module _ (b : StepLaws) (old new : Parts) (w : ℕ) (x : Serving) (made : Act) (answer : Done) (k : IsAwake old) (is-worker : get_or old.workers.items w None ≡ Some x) (a : IsActed old w made answer None new) (filled : ℕ → ℕ → Bool) where
+module _ (b : StepLaws) (old new : Parts) (w : ℕ) (x : OpenCall) (made : Act) (answer : Done) (k : IsAwake old) (is-worker : get_or old.workers.items w None ≡ Some x) (a : IsActed old w made answer None new) (filled : ℕ → ℕ → Bool) where
   abbrev its : IsServing old.config old.access old.journal k.story old.owners.items w x
   its = serves old k w x is-worker
 
@@ -86,7 +86,7 @@ all-evicted b old new a k e v x opened is is-open key get lonely = record {
         subst (λ (o : Open). o.begun < length old.journal.past) same (omega (arith, (serves old k v x is).call_open.look.after_begin, (serves old k v x is).call_open.look.by_now))
 
 -- where a swap takes effect no get is lonely
-pub none-struck : (b : StrikeLaws) (p : Parts) (s : ℕ) (h : IsStriking p s) (v : ℕ) (x : Serving) → get_or (old b p s h).workers.items v None ≡ Some x → IsNotLonely (h.mark ∷ (old b p s h).journal.past) v x.call
+pub none-struck : (b : StrikeLaws) (p : Parts) (s : ℕ) (h : IsStriking p s) (v : ℕ) (x : OpenCall) → get_or (old b p s h).workers.items v None ≡ Some x → IsNotLonely (h.mark ∷ (old b p s h).journal.past) v x.call
 none-struck b p s h v x is key get lonely = elim (cases_eq v (striker b p s h)) [
   | inr ne ↦ (let never : None ≡ Some (its_call b p s h).opened = sym (b.lonely.alone v (striker b p s h) (old b p s h).journal.past before (λ e. ne (sym e))) ∙ (its_call b p s h).call_open.is_open in cc never)
   | inl e ↦ (

@@ -11,7 +11,7 @@ use Rattle.bz_mark.specs.Log.{Log}
 use Rattle.bz_mark.specs.declared.marks.Mark.TheVariants.{End}
 use Rattle.bz_running.specs.Duties.{end_of}
 use Rattle.bz_running.specs.LookingUp.{Look, ForWay, ForKey, NoLook, look_of, EndsAs}
-use Rattle.bz_running.specs.declared.running.Running.{Running}
+use Rattle.bz_running.specs.declared.running.AnyTask.{AnyTask}
 use Rattle.bz_sound.specs.Calls.{Open}
 use Rattle.bz_sound.specs.Lonely.{acts_since}
 use Rattle.bz_sound.specs.Memory.Moments.{image_at}
@@ -25,7 +25,7 @@ use Rattle.bz_task.specs.declared.view.KeyView.{KeyView}
 use Rattle.bz_world.specs.Inside.Going.{MustGoOn, MustAnswerKey, known}
 use Rattle.bz_world.specs.Inside.Laws.{LonelyLaws}
 use Rattle.bz_world.specs.Inside.Lonely.{WhereLonely, IsNotLonely, IsNotLonelyIn, HasLooked}
-use Rattle.bz_world.specs.Lab.{GetsBriefly}
+use Rattle.bz_world.specs.WorldView.{GetsBriefly}
 use Rattle.bz_world.specs.declared.parts.Parts.{Parts}
 use Rattle.bz_world.proofs.Lonely.{looks-some, alone-since}
 use Rattle.bz_world.proofs.TakingOn.{known-scene}
@@ -62,7 +62,7 @@ pub other-in : (p : Parts) (w : ℕ) (on : MustGoOn p w) → IsNotLonely p.journ
 other-in p w on other = subst (IsNotLonelyIn p.journal.past w) (sym on.is) other
 
 -- the path was looked for before it was found
-pub no-way : (m : SwapMemory) (w acts : ℕ) (key : List ℕ) (way : Option Path) (t : Running) (path : Path) → EndsAs (look_of t) (outcome.Path path) → IsBrief m w acts key way t → IsBrief m w acts key None t
+pub no-way : (m : SwapMemory) (w acts : ℕ) (key : List ℕ) (way : Option Path) (t : AnyTask) (path : Path) → EndsAs (look_of t) (outcome.Path path) → IsBrief m w acts key way t → IsBrief m w acts key None t
 no-way m w acts key None t path e brief = brief
 no-way m w acts key (Some found) t path e brief = absurd (subst (λ l. EndsAs l (outcome.Path path)) brief.looks.0 e)
 
@@ -71,7 +71,7 @@ pub record HasWay (way : Option Path) : Type 0 where
   pub path : Path
   pub is : way ≡ Some path
 
-some-way : (key : List ℕ) (way : Option Path) (t : Running) (view : KeyView) → EndsAs (look_of t) (outcome.Key view) → LooksFor key way t → HasWay way
+some-way : (key : List ℕ) (way : Option Path) (t : AnyTask) (view : KeyView) → EndsAs (look_of t) (outcome.Key view) → LooksFor key way t → HasWay way
 some-way key None t view e l = absurd (subst (λ z. EndsAs z (outcome.Key view)) l e)
 some-way key (Some path) t view e l = record { path = path; is = refl }
 

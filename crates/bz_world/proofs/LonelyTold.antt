@@ -24,10 +24,10 @@ use Rattle.bz_world.specs.Inside.Laws.{LonelyLaws}
 use Rattle.bz_world.specs.Inside.Lonely.{WhereLonely, IsLonelyGet, AsksBriefly}
 use Rattle.bz_world.specs.Inside.Telling.{HasTold}
 use Rattle.bz_world.specs.declared.parts.Parts.{Parts}
-use Rattle.bz_world.specs.declared.serving.Serving.{Serving}
+use Rattle.bz_world.specs.declared.serving.OpenCall.{OpenCall}
 use Rattle.bz_world.proofs.Lonely.{looks-some, alone-since}
 
-module _ (b : LonelyLaws) (p : Parts) (w : ℕ) (x : Serving) (seen : Seen) (told : IsTold p w x seen) (good : IsScene (scene p.config p.journal.past told.between.story w told.between.call_open.look.since told.between.opened)) (moment : ℕ) (asked : Todo) (left : FreeSlots) (y : Serving) (h : HasTold x seen moment p.slots asked y left) where
+module _ (b : LonelyLaws) (p : Parts) (w : ℕ) (x : OpenCall) (seen : Seen) (told : IsTold p w x seen) (good : IsScene (scene p.config p.journal.past told.between.story w told.between.call_open.look.since told.between.opened)) (moment : ℕ) (asked : Todo) (left : FreeSlots) (y : OpenCall) (h : HasTold x seen moment p.slots asked y left) where
   abbrev here : Scene
   here = scene p.config p.journal.past told.between.story w told.between.call_open.look.since told.between.opened
 
@@ -51,11 +51,11 @@ module _ (b : LonelyLaws) (p : Parts) (w : ℕ) (x : Serving) (seen : Seen) (tol
     -- it is as before, with another task
     gets : (m : SwapMemory) → IsBrief m w (acts_since w p.journal.past) key x.path y.task → IsLonelyGet m p.journal.past told.between.story w y told.between.opened key
     gets m brief = record {
-      brief = subst (λ (z : Option Path). IsBrief m w (acts_since w p.journal.past) key z y.task) (sym (ap (λ (z : Serving). z.path) h.rest)) brief;
+      brief = subst (λ (z : Option Path). IsBrief m w (acts_since w p.journal.past) key z y.task) (sym (ap (λ (z : OpenCall). z.path) h.rest)) brief;
       looks = h.looks;
       alone = was.alone;
-      quiet = ap (λ (z : Serving). z.effect) h.rest ∙ was.quiet;
-      thawed = ap (λ (z : Serving). z.froze) h.rest ∙ was.thawed;
+      quiet = ap (λ (z : OpenCall). z.effect) h.rest ∙ was.quiet;
+      thawed = ap (λ (z : OpenCall). z.froze) h.rest ∙ was.thawed;
     }
 
     asks : (z : Todo) → asked ≡ z → AsksBriefly p.access p.journal.past told.between.story w y told.between.opened key z
@@ -69,14 +69,14 @@ module _ (b : LonelyLaws) (p : Parts) (w : ℕ) (x : Serving) (seen : Seen) (tol
 
   pub told-lonely : WhereLonely p.journal.past w y.call (λ key. AsksBriefly p.access p.journal.past told.between.story w y told.between.opened key asked)
   told-lonely key get lonely =
-      let was = told.lonely key (sym (ap (λ (z : Serving). z.call) h.rest) ∙ get) lonely in
+      let was = told.lonely key (sym (ap (λ (z : OpenCall). z.call) h.rest) ∙ get) lonely in
       asks key was.0 was.1 asked refl
 
 -- which slots its worker took is nothing to that
-took-get : (m : SwapMemory) (past : List Mark) (story : Story) (w : ℕ) (x : Serving) (opened : Open) (key : List ℕ) (old new : FreeSlots) → IsLonelyGet m past story w x opened key → IsLonelyGet m past (takes_slots story w old new) w x opened key
+took-get : (m : SwapMemory) (past : List Mark) (story : Story) (w : ℕ) (x : OpenCall) (opened : Open) (key : List ℕ) (old new : FreeSlots) → IsLonelyGet m past story w x opened key → IsLonelyGet m past (takes_slots story w old new) w x opened key
 took-get m past story w x opened key old new g = record { brief = g.brief; looks = g.looks; alone = g.alone; quiet = g.quiet; thawed = g.thawed }
 
-pub took-lonely : (m : SwapMemory) (past : List Mark) (story : Story) (w : ℕ) (x : Serving) (opened : Open) (key : List ℕ) (old new : FreeSlots) (z : Todo) → AsksBriefly m past story w x opened key z → AsksBriefly m past (takes_slots story w old new) w x opened key z
+pub took-lonely : (m : SwapMemory) (past : List Mark) (story : Story) (w : ℕ) (x : OpenCall) (opened : Open) (key : List ℕ) (old new : FreeSlots) (z : Todo) → AsksBriefly m past story w x opened key z → AsksBriefly m past (takes_slots story w old new) w x opened key z
 took-lonely m past story w x opened key old new (todo.Read a) g = took-get (started m w (Reading a)) past story w x opened key old new g
 took-lonely m past story w x opened key old new todo.Finish g = record { get = took-get m past story w x opened key old new g.get; stands = g.stands }
 took-lonely m past story w x opened key old new (todo.Load a) g = absurd g

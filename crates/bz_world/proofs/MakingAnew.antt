@@ -5,7 +5,7 @@ use Rattle.bz_layout.specs.declared.thresholds.TheConstants.{MERGE_SLOTS}
 use Rattle.bz_running.specs.Duties.{config_of, asks_of, wants_of, facts_of, makes_no_change}
 use Rattle.bz_running.specs.Hearing.{IsLookup}
 use Rattle.bz_running.specs.Laws.{AreLaws}
-use Rattle.bz_running.specs.declared.running.Running.{Running}
+use Rattle.bz_running.specs.declared.running.AnyTask.{AnyTask}
 use Rattle.bz_story.specs.Laws.{ScenesAreSeen}
 use Rattle.bz_task.specs.Outcomes.{IsPath, IsView}
 use Rattle.bz_task.specs.Scene.{Scene, IsScene, Waiting}
@@ -18,14 +18,14 @@ use Rattle.bz_world.proofs.Answering.{on-pages}
 use Rattle.bz_world.proofs.TakingOn.{known-scene, lookup-taken, none-wanted}
 
 -- the freeze of a leaf
-abbrev pub freeze-taken : ScenesAreSeen → (p : Parts) (w : ℕ) (view : LeafView) (m : MustAnswer p w view) (task : Running) → config_of task ≡ p.config → AreLaws task → makes_no_change task ≡ true → ((key : List ℕ) (way : Option Path) → IsLookup key way task) → asks_of task ≡ None → wants_of task ≡ 0
+abbrev pub freeze-taken : ScenesAreSeen → (p : Parts) (w : ℕ) (view : LeafView) (m : MustAnswer p w view) (task : AnyTask) → config_of task ≡ p.config → AreLaws task → makes_no_change task ≡ true → ((key : List ℕ) (way : Option Path) → IsLookup key way task) → asks_of task ≡ None → wants_of task ≡ 0
     → ((key : List ℕ) (s : Scene) → s.past.config ≡ p.config → IsScene s → IsView key view s.past → facts_of task Waiting s) → MustTakeOn p w task None m.on.serving.had None
 freeze-taken scenes p w view m task config laws looks lookup asks wants facts =
     lookup-taken p w m.on (inl m.quiet) task None None (key_of m.on.serving.call) config laws looks (lookup (key_of m.on.serving.call) None) refl asks (facts (key_of m.on.serving.call) (known p w m.on) refl (known-scene scenes p w m.on) m.viewed)
     (none-wanted p w m.on task wants) (λ key get lonely. absurd (m.other key get lonely))
 
 -- its copy or its split
-abbrev pub anew-taken : ScenesAreSeen → (p : Parts) (w : ℕ) (path : Path) (view : LeafView) (m : MustMakeAnew p w path view) (task : Running) → config_of task ≡ p.config → AreLaws task → makes_no_change task ≡ true → ((key : List ℕ) (way : Option Path) → IsLookup key way task) → asks_of task ≡ None → (slots : ℕ) → wants_of task ≡ slots → NeedsAtLeast p.config p.journal.start p.journal.past m.answer.on.between.opened slots
+abbrev pub anew-taken : ScenesAreSeen → (p : Parts) (w : ℕ) (path : Path) (view : LeafView) (m : MustMakeAnew p w path view) (task : AnyTask) → config_of task ≡ p.config → AreLaws task → makes_no_change task ≡ true → ((key : List ℕ) (way : Option Path) → IsLookup key way task) → asks_of task ≡ None → (slots : ℕ) → wants_of task ≡ slots → NeedsAtLeast p.config p.journal.start p.journal.past m.answer.on.between.opened slots
     → ((key : List ℕ) (s : Scene) → s.past.config ≡ p.config → IsScene s → IsPath key path s.past → IsView key view s.past → facts_of task Waiting s) → MustTakeOn p w task None m.answer.on.serving.had None
 anew-taken scenes p w path view m task config laws looks lookup asks slots wants needs facts =
     lookup-taken p w m.answer.on (inl m.answer.quiet) task None None (key_of m.answer.on.serving.call) config laws looks (lookup (key_of m.answer.on.serving.call) None) refl asks
@@ -33,7 +33,7 @@ anew-taken scenes p w path view m task config laws looks lookup asks slots wants
     (λ quiet some. subst (NeedsAtLeast p.config p.journal.start p.journal.past m.answer.on.between.opened) (sym wants) needs) (λ key get lonely. absurd (m.answer.other key get lonely))
 
 -- its merge with a neighbour
-abbrev pub merge-taken : ScenesAreSeen → (p : Parts) (w : ℕ) (path : Path) (view : LeafView) (m : MustMerge p w path view) (task : Running) → config_of task ≡ p.config → AreLaws task → makes_no_change task ≡ true → ((key : List ℕ) (way : Option Path) → IsLookup key way task) → asks_of task ≡ None → wants_of task ≡ MERGE_SLOTS
+abbrev pub merge-taken : ScenesAreSeen → (p : Parts) (w : ℕ) (path : Path) (view : LeafView) (m : MustMerge p w path view) (task : AnyTask) → config_of task ≡ p.config → AreLaws task → makes_no_change task ≡ true → ((key : List ℕ) (way : Option Path) → IsLookup key way task) → asks_of task ≡ None → wants_of task ≡ MERGE_SLOTS
     → ((key : List ℕ) (s : Scene) → s.past.config ≡ p.config → IsScene s → IsPath key path s.past → IsView key view s.past → facts_of task Waiting s) → MustTakeOn p w task None m.on.serving.had None
 merge-taken scenes p w path view m task config laws looks lookup asks wants facts =
     lookup-taken p w m.on m.may task None None (key_of m.on.serving.call) config laws looks (lookup (key_of m.on.serving.call) None) refl asks

@@ -6,15 +6,15 @@ use Rattle.bz_acts.specs.declared.acted.Act.{Act}
 use Rattle.bz_acts.specs.declared.acted.Act.TheVariants.{Load, Store, Cas, Flush}
 use Rattle.bz_mark.specs.Log.{Log, count_begins, count_page_calls, count_page_ends}
 use Rattle.bz_mark.proofs.WordLaws.{found-read}
-use Rattle.bz_mark.specs.WordsAfter.{words_of as words_after_marks, words_after, Found}
+use Rattle.bz_mark.specs.WordsAfter.{words_after_marks, words_after, Found}
 use Rattle.bz_mark.specs.declared.marks.Mark.{Mark}
 use Rattle.bz_pm.specs.Words.{Words}
 use Rattle.bz_sound.specs.Calls.{open_call, begun_calls, map_after}
 use Rattle.bz_sound.specs.declared.power.Power.{Power}
 use Rattle.bz_sound.specs.Power.Calls.{MayAct, MayFollow}
 use Rattle.bz_call.specs.Map.{Map}
-use Rattle.bz_swap.specs.SwapMemory.{SwapMemory, words_of}
-use Rattle.bz_world.specs.Lab.{mark_of}
+use Rattle.bz_swap.specs.SwapMemory.{SwapMemory, memory_words}
+use Rattle.bz_world.specs.WorldView.{mark_of}
 
 -- the words after it
 marked-by : (w : ℕ) (ws : Words) (made : Act) → FoundRightly ws made → words_after ws (mark_of w made) ≡ after_act ws made
@@ -23,12 +23,12 @@ marked-by w ws (Store a v) found = refl
 marked-by w ws (Cas a old new seen) found = ap (λ (x : ℕ). let after : Words = record { cached = if x == old then slice_set ws.cached a new else ws.cached; durable = ws.durable } in after) found
 marked-by w ws (Flush line) found = refl
 
-pub act-marked : (w : ℕ) (old new : SwapMemory) (log : Log) (made : Act) → words_of old ≡ words_after_marks log.start log.past → IsActOf (words_of old) made (words_of new)
-    → words_of new ≡ words_after_marks log.start (mark_of w made ∷ log.past)
-act-marked w old new log made same act = act.after ∙ (sym (marked-by w (words_of old) made act.found) ∙ ap (λ (z : Words). words_after z (mark_of w made)) same)
+pub act-marked : (w : ℕ) (old new : SwapMemory) (log : Log) (made : Act) → memory_words old ≡ words_after_marks log.start log.past → IsActOf (memory_words old) made (memory_words new)
+    → memory_words new ≡ words_after_marks log.start (mark_of w made ∷ log.past)
+act-marked w old new log made same act = act.after ∙ (sym (marked-by w (memory_words old) made act.found) ∙ ap (λ (z : Words). words_after z (mark_of w made)) same)
 
 -- what it found
-pub act-found : (w : ℕ) (old new : SwapMemory) (log : Log) (made : Act) → words_of old ≡ words_after_marks log.start log.past → IsActOf (words_of old) made (words_of new) → IsWithin (length old.cached) made
+pub act-found : (w : ℕ) (old new : SwapMemory) (log : Log) (made : Act) → memory_words old ≡ words_after_marks log.start log.past → IsActOf (memory_words old) made (memory_words new) → IsWithin (length old.cached) made
     → Found (words_after_marks log.start log.past) (mark_of w made)
 act-found w old new log (Load a v) same act within = subst (λ (z : Words). Found z (mark_of w (Load a v))) same (found-read old.cached a v within act.found)
 act-found w old new log (Store a v) same act within = tt

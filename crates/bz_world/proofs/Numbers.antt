@@ -11,18 +11,18 @@ use Rattle.bz_sound.specs.Power.CallLaws.{OpenCallsAreLast}
 use Rattle.bz_world.specs.Inside.Kept.{IsKept, IsAwake}
 use Rattle.bz_world.specs.Inside.Serving.{IsSlot, IsServing}
 use Rattle.bz_world.specs.declared.parts.Parts.{Parts}
-use Rattle.bz_world.specs.declared.serving.Serving.{Serving}
+use Rattle.bz_world.specs.declared.serving.OpenCall.{OpenCall}
 use Rattle.bz_world.proofs.Powered.{awake-in, off-in, started-in}
 
 abbrev number-in : Parts → ℕ → Option ℕ
 number-in p w = option_map (λ (o : Open). o.number) (open_call w p.journal.past)
 
 -- what is served, with the power on
-slot-in : (p : Parts) (k : IsAwake p) (w : ℕ) (slot : Option Serving) → get_or p.workers.items w None ≡ slot → IsSlot p.config p.access p.journal k.story p.owners.items w slot
+slot-in : (p : Parts) (k : IsAwake p) (w : ℕ) (slot : Option OpenCall) → get_or p.workers.items w None ≡ slot → IsSlot p.config p.access p.journal k.story p.owners.items w slot
 slot-in p k w slot is = subst (IsSlot p.config p.access p.journal k.story p.owners.items w) is (k.workers w)
 
 -- where the table has a call of a worker, that has the number of the worker's last call
-pub number-open : OpenCallsAreLast → (p : Parts) → IsKept p → (w : ℕ) (x : Serving) → get_or p.workers.items w None ≡ Some x → w ≤ p.config.workers → number-in p w ≡ Some (slice_index p.numbers.items w)
+pub number-open : OpenCallsAreLast → (p : Parts) → IsKept p → (w : ℕ) (x : OpenCall) → get_or p.workers.items w None ≡ Some x → w ≤ p.config.workers → number-in p w ≡ Some (slice_index p.numbers.items w)
 number-open law p kept w x some within = go p.power refl
   where
     no-call : get_or p.workers.items w None ≡ None → number-in p w ≡ Some (slice_index p.numbers.items w)

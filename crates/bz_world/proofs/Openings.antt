@@ -30,16 +30,16 @@ use Rattle.bz_swap.specs.Power.{opened}
 use Rattle.bz_swap.specs.SwapMemory.{SwapMemory, Working, Idle, idle, doing_of, has_effect}
 use Rattle.bz_swap.specs.TakenStatuses.{BegunStayTaken, BegunAreTaken}
 use Rattle.bz_swap.specs.declared.phase.Phase.{Phase}
-use Rattle.bz_world.specs.Inside.Beginning.{lab_of, supply_of, is_swap}
+use Rattle.bz_world.specs.Inside.Beginning.{world_view, supply_of, is_swap}
 use Rattle.bz_world.proofs.Lonely.{none-in}
 use Rattle.bz_world.proofs.Powered.{kept-awake}
 use Rattle.bz_world.proofs.FreshSlots.{free-below, free-root, free-others}
 use Rattle.bz_world.specs.Inside.Kept.{IsTabled, AreTaken, AreFree, IsAwake, IsKept}
 use Rattle.bz_world.specs.Inside.Opening.{fresh_slots, IsMadeOver}
-use Rattle.bz_world.specs.Lab.{Supply, supply_by, new_lab, lab_over}
+use Rattle.bz_world.specs.WorldView.{Supply, supply_by, new_view, view_over}
 use Rattle.bz_world.specs.Inside.Serving.{IsSlot, IsAtRest}
 use Rattle.bz_world.specs.declared.parts.Parts.{Parts}
-use Rattle.bz_world.specs.declared.serving.Serving.{Serving}
+use Rattle.bz_world.specs.declared.serving.OpenCall.{OpenCall}
 
 -- the laws that these proofs stand on
 pub record Laws : Type 0 where
@@ -58,7 +58,7 @@ same-everywhere n w x = elim (cases_lt w n) [
 
 module _ (b : Laws) (c : Config) (config : IsConfig c) where
   abbrev log : Log
-  log = (new_lab c).log
+  log = (new_view c).log
 
   abbrev first : Phase → SwapMemory
   first phase = opened phase (fresh_words c) c.swaps c.workers
@@ -107,7 +107,7 @@ tabled start at_start p made = record {
   config = made.config;
   limits = ap (λ (l : Log). l.limits) made.journal;
   marks = omega (arith, no-marks);
-  places = ap length made.workers ∙ length-replicate {A = Option Serving} 65 None;
+  places = ap length made.workers ∙ length-replicate {A = Option OpenCall} 65 None;
   number_places = ap length made.numbers ∙ length-replicate {A = ℕ} 65 0;
   owner_places = ap length made.owners ∙ length-replicate {A = ℕ} p.config.swaps 0;
   crew = ap (λ (m : SwapMemory). length m.workers) made.opened.is ∙ length-replicate {A = Working} (p.config.workers + 1) idle;
@@ -143,14 +143,14 @@ kept-open b p made slots = record {
   story = fresh_story p.config;
   tabled = tabled (fresh_words p.config) power.On p made;
   taken = taken b p made;
-  living = subst (λ l. IsLiving p.config p.access l (fresh_story p.config)) (sym made.journal) (b.living p.config p.access ((new_lab p.config).log.limits) (record { config = made.config; opened = made.opened; holds = made.holds }));
+  living = subst (λ l. IsLiving p.config p.access l (fresh_story p.config)) (sym made.journal) (b.living p.config p.access ((new_view p.config).log.limits) (record { config = made.config; opened = made.opened; holds = made.holds }));
   sound = subst (λ (s : Power). IsSound p.config s p.journal) (sym made.at_start) (subst (IsSound p.config power.On) (sym made.journal) (sound b p.config made.config));
   free = subst (λ log. AreFree p.config (image_at_on log.start log.past) p.slots (fresh_story p.config).took) (sym made.journal) (subst (λ free. AreFree p.config (slice_index (fresh_words p.config)) free (fresh_story p.config).took) (sym slots) (free-fresh b p.config made.config));
   workers = λ w. subst (λ xs. IsSlot p.config p.access p.journal (fresh_story p.config) p.owners.items w (get_or xs w None)) (sym made.workers) (rest w (get_or (replicate 65 None) w None) (same-everywhere 65 w None));
   lonely = λ w. none-in p.access p.journal.past (fresh_story p.config) p.workers.items w (ap (λ xs. get_or xs w None) made.workers ∙ same-everywhere 65 w None);
 }
   where
-    rest : (w : ℕ) (entry : Option Serving) → entry ≡ None → IsSlot p.config p.access p.journal (fresh_story p.config) p.owners.items w entry
+    rest : (w : ℕ) (entry : Option OpenCall) → entry ≡ None → IsSlot p.config p.access p.journal (fresh_story p.config) p.owners.items w entry
     rest w entry e = subst (IsSlot p.config p.access p.journal (fresh_story p.config) p.owners.items w) (sym e)
         (subst (λ m. IsAtRest m p.journal (fresh_story p.config) w) (sym made.opened.is) (subst (λ l. IsAtRest (opened made.opened.phase (fresh_words p.config) p.config.swaps p.config.workers) l (fresh_story p.config) w) (sym made.journal) (at-rest b p.config made.config made.opened.phase w)))
 
@@ -164,7 +164,7 @@ pub made-over : (start : List ℕ) (at_start : Power) (p : Parts) (m : SwapMemor
 made-over start at_start p m j access journal made = subst (IsMadeOver start at_start) (λ t. record p { access = access t; journal = journal t }) made
 
 pub opened-journal : (j : Log) (start : List ℕ) (at_start : Power) (c : Config) → j.start ≡ start → j.past ≡ [] → j.pages ≡ [] → j.limits ≡ record { marks = c.marks; calls = c.calls; pages = c.pages }
-    → j ≡ (lab_over c start at_start).log
+    → j ≡ (view_over c start at_start).log
 opened-journal j start at_start c same past pages limits = λ t. record { start = same t; past = past t; pages = pages t; limits = limits t }
 
 -- no worker's next act is a flush
@@ -173,9 +173,9 @@ map-replicate f zero x = refl
 map-replicate f (suc n) x = ap (λ xs. f x ∷ xs) (map-replicate f n x)
 
 -- so it is seen
-pub lab-made : (c : Config) (start : List ℕ) (at_start : Power) (p : Parts) → p.config ≡ c → IsMadeOver start at_start p → (at_start ≡ power.On → length p.slots.free ≡ p.config.nodes - 1) → lab_of p ≡ lab_over c start at_start
+pub lab-made : (c : Config) (start : List ℕ) (at_start : Power) (p : Parts) → p.config ≡ c → IsMadeOver start at_start p → (at_start ≡ power.On → length p.slots.free ≡ p.config.nodes - 1) → world_view p ≡ view_over c start at_start
 lab-made c start at_start p config made left =
-    (λ t. record { config = p.config; at_start = made.at_start t; log = made.journal t; flushes = flushes t; swapping = swapping t; left_out = made.left_out t; supply = supply t }) ∙ ap (λ (d : Config). lab_over d start at_start) config
+    (λ t. record { config = p.config; at_start = made.at_start t; log = made.journal t; flushes = flushes t; swapping = swapping t; left_out = made.left_out t; supply = supply t }) ∙ ap (λ (d : Config). view_over d start at_start) config
   where
     flushes : map (λ (v : Working). v.flush_next) p.access.workers ≡ replicate (p.config.workers + 1) false
     flushes = ap (λ (m : SwapMemory). map (λ (v : Working). v.flush_next) m.workers) made.opened.is ∙ map-replicate (λ (v : Working). v.flush_next) (p.config.workers + 1) idle

@@ -26,8 +26,8 @@ use Rattle.bz_swap.specs.SwapMemory.{SwapMemory}
 use Rattle.bz_world.specs.Inside.Kept.{IsTabled, AreFree, IsAwake, IsOff, IsStarted, IsKeptIn, IsKept}
 use Rattle.bz_world.specs.declared.parts.Parts.{Parts}
 use Rattle.bz_world.specs.Inside.Serving.{IsOpened, LookUp}
-use Rattle.bz_world.specs.Lab.{mark_of}
-use Rattle.bz_world.specs.declared.serving.Serving.{Serving}
+use Rattle.bz_world.specs.WorldView.{mark_of}
+use Rattle.bz_world.specs.declared.serving.OpenCall.{OpenCall}
 
 -- acts, flushes and evictions leave the power
 pub leaves-power : (w : ℕ) (past : List Mark) (made : Act) → LeavesPower past (mark_of w made)
@@ -91,7 +91,7 @@ pub kept-started : (p : Parts) → p.power ≡ power.Recovering → IsStarted p 
 kept-started p is r = record { tabled = r.dark.tabled; sound = r.dark.sound; words = r.memory.words; state = subst (λ (z : Power). IsKeptIn z p) (sym is) r }
 
 -- a call that is open began in this life of the memory, and so did its look-up
-pub begun-in : {c : Config} {m : SwapMemory} {log : Log} {story : Story} {w : ℕ} {opened : Open} {x : Serving} → IsLiving c m log story → (o : IsOpened c log w opened x) → HasBegun log story o.look.since
+pub begun-in : {c : Config} {m : SwapMemory} {log : Log} {story : Story} {w : ℕ} {opened : Open} {x : OpenCall} → IsLiving c m log story → (o : IsOpened c log w opened x) → HasBegun log story o.look.since
 begun-in {w = w} {opened = opened} living o = record { from = omega (arith, living.begins w opened o.is_open, o.look.after_begin); by_now = o.look.by_now }
 
 -- and it goes on with one mark more

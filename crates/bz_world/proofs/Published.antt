@@ -34,7 +34,7 @@ use Rattle.bz_world.specs.Inside.Kept.{CountsPairs, IsAwake, IsTabled, AreTaken}
 use Rattle.bz_world.specs.Inside.Lonely.{IsLonelyIn}
 use Rattle.bz_world.specs.Inside.Serving.{IsServing, IsSlot, IsToldBy, effect_reply, size_after, pairs_after}
 use Rattle.bz_world.specs.declared.parts.Parts.{Parts}
-use Rattle.bz_world.specs.declared.serving.Serving.{Serving}
+use Rattle.bz_world.specs.declared.serving.OpenCall.{OpenCall}
 use Rattle.bz_story.proofs.Powered.{stored-since}
 use Rattle.bz_world.proofs.Counting.{pairs-change}
 use Rattle.bz_world.proofs.Powered.{begun-in, flush-leaves, free-on}
@@ -181,7 +181,7 @@ module _ (b : StrikeLaws) (p : Parts) (s : ℕ) (h : IsStriking p s) (publishes 
       (subst (λ o. facts_of (x b p s h).task Took (scene c (h.mark ∷ log.past) (after b p s h) worker since o)) opened-is (took b p s h)) told-scene.scene
       (b.quiet c p.access p.access with_flush (after b p s h) effect_mark worker since effected no-act (λ a out n. refl) begun-effected)
 
-  abbrev pub with_moment : Serving
+  abbrev pub with_moment : OpenCall
   with_moment = record (x b p s h) { effect = Some (suc (length log.past)) }
 
   -- so the map answers it directly before its effect
@@ -218,7 +218,7 @@ module _ (b : StrikeLaws) (p : Parts) (s : ℕ) (h : IsStriking p s) (publishes 
     covered = (its b p s h).covered;
   }
 
-  slots : (items : List (Option Serving)) → get_or items worker None ≡ Some with_moment → ((v : ℕ) → v ≢ worker → get_or items v None ≡ get_or (old b p s h).workers.items v None)
+  slots : (items : List (Option OpenCall)) → get_or items worker None ≡ Some with_moment → ((v : ℕ) → v ≢ worker → get_or items v None ≡ get_or (old b p s h).workers.items v None)
       → (v : ℕ) → IsSlot c p.access (with_mark with_flush effect_mark) told_story (old b p s h).owners.items v (get_or items v None)
   slots items here-is rest v = elim (cases_eq v worker) [
     | inr ne ↦ subst (IsSlot c p.access (with_mark with_flush effect_mark) told_story (old b p s h).owners.items v) (sym (rest v ne)) (slot-of v ne)
@@ -227,14 +227,14 @@ module _ (b : StrikeLaws) (p : Parts) (s : ℕ) (h : IsStriking p s) (publishes 
   ]
 
   -- and no get is lonely then
-  none-lonely : (items : List (Option Serving)) → get_or items worker None ≡ Some with_moment → ((v : ℕ) → v ≢ worker → get_or items v None ≡ get_or (old b p s h).workers.items v None)
+  none-lonely : (items : List (Option OpenCall)) → get_or items worker None ≡ Some with_moment → ((v : ℕ) → v ≢ worker → get_or items v None ≡ get_or (old b p s h).workers.items v None)
       → (v : ℕ) → IsLonelyIn p.access (effect_mark ∷ h.mark ∷ log.past) told_story items v
   none-lonely items here-is rest v y opened is is-open key get lonely = elim (cases_eq v worker) [
     | inr ne ↦ absurd (none-struck b p s h v y (sym (rest v ne) ∙ is) key get lonely)
     | inl e ↦ absurd (
         let both : Some with_moment ≡ Some y = sym here-is ∙ (ap (λ u. get_or items u None) (sym e) ∙ is) in
         let same : with_moment ≡ y = cc both in
-        none-struck b p s h worker (x b p s h) (owner b p s h).is key (ap (λ (z : Serving). z.call) same ∙ get) (subst (λ u. IsLonely u (h.mark ∷ log.past)) e lonely))
+        none-struck b p s h worker (x b p s h) (owner b p s h).is key (ap (λ (z : OpenCall). z.call) same ∙ get) (subst (λ u. IsLonely u (h.mark ∷ log.past)) e lonely))
   ]
 
   own-call : ¬ (open_call worker log.past ≡ None)
@@ -245,7 +245,7 @@ module _ (b : StrikeLaws) (p : Parts) (s : ℕ) (h : IsStriking p s) (publishes 
   counted was count is = subst (CountsPairs c log.start (effect_mark ∷ h.mark ∷ log.past)) (sym (is ∙ ap (λ called. size_after (Some (effect_reply called (x b p s h).had)) (old b p s h).pairs) (sym (its b p s h).call_open.call)))
       (pairs-change c log.start (h.mark ∷ log.past) worker its-open.number (old b p s h).pairs its-open (Some (effect_reply its-open.call (x b p s h).had)) (flush-calls worker h.mark log.past h.flush ∙ (its b p s h).call_open.is_open) replied was)
 
-  tabled-on : (workers : Vec (Option Serving)) → length workers.items ≡ 65 → length log.past + 1 < c.marks → (count : ℕ) → count ≡ pairs_after (Some (x b p s h)) (old b p s h).pairs
+  tabled-on : (workers : Vec (Option OpenCall)) → length workers.items ≡ 65 → length log.past + 1 < c.marks → (count : ℕ) → count ≡ pairs_after (Some (x b p s h)) (old b p s h).pairs
       → IsTabled (record (old b p s h) { access = p.access; journal = with_mark with_flush effect_mark; workers = workers; pairs = count })
   tabled-on workers places room count is = let t : IsTabled (record (old b p s h) { access = p.access; journal = with_flush }) = subst IsTabled h.rest h.tabled in record {
     config = t.config;
@@ -269,11 +269,11 @@ module _ (b : StrikeLaws) (p : Parts) (s : ℕ) (h : IsStriking p s) (publishes 
     power = t.power;
   }
 
-  taken-on : (workers : Vec (Option Serving)) (count : ℕ) → AreTaken (record (old b p s h) { access = p.access; journal = with_mark with_flush effect_mark; workers = workers; pairs = count })
+  taken-on : (workers : Vec (Option OpenCall)) (count : ℕ) → AreTaken (record (old b p s h) { access = p.access; journal = with_mark with_flush effect_mark; workers = workers; pairs = count })
   taken-on workers count = let t : AreTaken (record (old b p s h) { access = p.access; journal = with_flush }) = subst AreTaken h.rest h.taken in record { shown = t.shown; held = t.held; few = t.few; counted = t.counted; unused = t.unused }
 
   -- so the world goes on with the Effect, which the worker's call remembers
-  pub published : (workers : Vec (Option Serving)) → length workers.items ≡ 65 → length log.past + 1 < c.marks → get_or workers.items worker None ≡ Some with_moment → ((v : ℕ) → v ≢ worker → get_or workers.items v None ≡ get_or (old b p s h).workers.items v None)
+  pub published : (workers : Vec (Option OpenCall)) → length workers.items ≡ 65 → length log.past + 1 < c.marks → get_or workers.items worker None ≡ Some with_moment → ((v : ℕ) → v ≢ worker → get_or workers.items v None ≡ get_or (old b p s h).workers.items v None)
       → (count : ℕ) → count ≡ pairs_after (Some (x b p s h)) (old b p s h).pairs → IsAwake (record (old b p s h) { access = p.access; journal = with_mark with_flush effect_mark; workers = workers; pairs = count })
   published workers places room here-is rest count is = record {
     on = (kept b p s h).on;

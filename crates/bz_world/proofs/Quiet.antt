@@ -24,10 +24,10 @@ use Rattle.bz_task.specs.declared.todo.Todo.TheVariants as todo
 use Rattle.bz_world.specs.Inside.Acted.{IsActed, IsBetween}
 use Rattle.bz_world.specs.Inside.Kept.{IsTabled, AreTaken, AreFree, IsAwake}
 use Rattle.bz_world.specs.Inside.Lonely.{IsLonelyIn}
-use Rattle.bz_world.specs.Lab.{mark_of}
+use Rattle.bz_world.specs.WorldView.{mark_of}
 use Rattle.bz_world.specs.Inside.Serving.{IsServing, IsDoing, IsSlot, stage_in}
 use Rattle.bz_world.specs.declared.parts.Parts.{Parts}
-use Rattle.bz_world.specs.declared.serving.Serving.{Serving}
+use Rattle.bz_world.specs.declared.serving.OpenCall.{OpenCall}
 use Rattle.bz_sound.specs.Power.Times.{image_at_on}
 use Rattle.bz_world.proofs.Powered.{begun-in, looks-on, free-on, leaves-power, may-act}
 use Rattle.bz_world.proofs.Owners.{pending-begun}
@@ -37,7 +37,7 @@ use Rattle.bz_world.proofs.Stepped.{act-tabled, act-taken, act-sound, held}
 use Rattle.bz_world.proofs.Staying.{SameFor, slot-stays, told-stays, wanted-stays}
 
 -- the call of a worker that serves one is open, so it is one of the workers
-module _ (p : Parts) (k : IsAwake p) (w : ℕ) (x : Serving) (is-worker : get_or p.workers.items w None ≡ Some x) where
+module _ (p : Parts) (k : IsAwake p) (w : ℕ) (x : OpenCall) (is-worker : get_or p.workers.items w None ≡ Some x) where
   pub serves : IsServing p.config p.access p.journal k.story p.owners.items w x
   serves = subst (IsSlot p.config p.access p.journal k.story p.owners.items w) is-worker (k.workers w)
 
@@ -67,11 +67,11 @@ idle-by d Stored ne = refl
 idle-by d Flushed ne = refl
 
 -- worker w, which serves x, made an act at which no swap took effect
-module _ (b : StepLaws) (old new : Parts) (w : ℕ) (x : Serving) (made : Act) (done : Done) (k : IsAwake old) (is-worker : get_or old.workers.items w None ≡ Some x) (a : IsActed old w made done None new) where
+module _ (b : StepLaws) (old new : Parts) (w : ℕ) (x : OpenCall) (made : Act) (done : Done) (k : IsAwake old) (is-worker : get_or old.workers.items w None ≡ Some x) (a : IsActed old w made done None new) where
   abbrev pub s : IsServing old.config old.access old.journal k.story old.owners.items w x
   s = serves old k w x is-worker
 
-  pub sees : (v : ℕ) (y : Serving) → (t : IsServing old.config old.access old.journal k.story old.owners.items v y) → Sees old.config (k.story.at (length old.journal.past)) (scene old.config old.journal.past k.story v t.call_open.look.since t.opened)
+  pub sees : (v : ℕ) (y : OpenCall) → (t : IsServing old.config old.access old.journal k.story old.owners.items v y) → Sees old.config (k.story.at (length old.journal.past)) (scene old.config old.journal.past k.story v t.call_open.look.since t.opened)
   sees v y t = b.scenes old.config old.access old.journal k.story v t.call_open.look.since t.opened k.living (begun-in k.living t.call_open)
 
   -- what its task asks for may be asked for

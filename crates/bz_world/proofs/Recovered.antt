@@ -16,11 +16,11 @@ use Rattle.bz_story.specs.Reviving.{TurnsMakeNoMark}
 use Rattle.bz_swap.specs.SwapMemory.{worker_of}
 use Rattle.bz_task.specs.Scene.{Took}
 use Rattle.bz_task.specs.declared.todo.Seen.{Seen}
-use Rattle.bz_world.specs.Inside.Beginning.{lab_of}
+use Rattle.bz_world.specs.Inside.Beginning.{world_view}
 use Rattle.bz_world.specs.Inside.Kept.{IsRecovering}
 use Rattle.bz_world.specs.Inside.Powering.{IsRawAct}
 use Rattle.bz_sound.specs.declared.power.Power.TheVariants as power
-use Rattle.bz_world.specs.Lab.{Supply, Recovers, count_reached}
+use Rattle.bz_world.specs.WorldView.{Supply, Recovers, count_reached}
 use Rattle.bz_world.specs.declared.answers.Applied.TheVariants as applied
 use Rattle.bz_world.specs.declared.parts.Parts.{Parts}
 use Rattle.bz_world.proofs.Stepping.{flush-is, flush-same, swap-same}
@@ -66,7 +66,7 @@ asked-on go_on turns p seen next slots k on tells nodes learns = record {
 
 -- one act, and the recovery goes on
 pub seen-stepped : (old mid new : Parts) (made : Act) (done : Done) (told : Option ℕ) → old.power ≡ power.Recovering → IsRawAct old made done told mid → new.power ≡ mid.power → new.journal ≡ mid.journal → new.config ≡ mid.config → new.at_start ≡ mid.at_start → new.left_out ≡ mid.left_out → ((v : ℕ) → v ≢ 0 → worker_of new.access v ≡ worker_of mid.access v)
-    → Recovers (lab_of old) applied.Stepped (lab_of new)
+    → Recovers (world_view old) applied.Stepped (world_view new)
 seen-stepped old mid new made done told recovering a same journal config at_start left_out others = record {
   made = made;
   flush = a.step.one.flush ∙ sym (flush-is old 0);
@@ -81,15 +81,15 @@ seen-stepped old mid new made done told recovering a same journal config at_star
 
 -- or it has ended
 pub seen-woken : (old mid new : Parts) (made : Act) (done : Done) (told : Option ℕ) → IsRawAct old made done told mid → new.power ≡ power.On → new.access.taken ≡ 0 → length new.slots.free + count_reached mid.config mid.journal ≡ mid.config.nodes → new.journal ≡ with_mark mid.journal Ready → new.config ≡ mid.config → new.at_start ≡ mid.at_start → new.left_out ≡ mid.left_out → ((v : ℕ) → v ≢ 0 → worker_of new.access v ≡ worker_of mid.access v)
-    → Recovers (lab_of old) applied.Ready (lab_of new)
+    → Recovers (world_view old) applied.Ready (world_view new)
 seen-woken old mid new made done told a on taken left journal config at_start left_out others = record {
   made = made;
   flush = a.step.one.flush ∙ sym (flush-is old 0);
   ends = journal ∙ ap (λ (p : Parts). with_mark p.journal Ready) a.rest;
   supply = (
     ap (λ (s : Supply). s.taken) (shown-on new on) ∙ taken,
-    subst (λ (c : Config). (lab_of new).supply.left + count_reached c new.journal ≡ c.nodes) (sym config)
-        (subst (λ (j : Log). (lab_of new).supply.left + count_reached mid.config j ≡ mid.config.nodes) (sym journal)
+    subst (λ (c : Config). (world_view new).supply.left + count_reached c new.journal ≡ c.nodes) (sym config)
+        (subst (λ (j : Log). (world_view new).supply.left + count_reached mid.config j ≡ mid.config.nodes) (sym journal)
         (subst (λ (s : Supply). s.left + count_reached mid.config mid.journal ≡ mid.config.nodes) (sym (shown-on new on)) left)),
   );
   config = config ∙ ap (λ (p : Parts). p.config) a.rest;

@@ -6,7 +6,7 @@ use Rattle.bz_acts.specs.declared.acted.Act.TheVariants as act
 use Rattle.bz_content.specs.Content.{image_fault, content_in}
 use Rattle.bz_machine.specs.declared.done.Done.{Done}
 use Rattle.bz_mark.specs.Log.{with_mark}
-use Rattle.bz_mark.specs.WordsAfter.{words_of as words_after_marks}
+use Rattle.bz_mark.specs.WordsAfter.{words_after_marks}
 use Rattle.bz_mark.specs.declared.marks.Mark.{Mark}
 use Rattle.bz_mark.specs.declared.marks.Mark.TheVariants.{Evict}
 use Rattle.bz_sound.specs.declared.power.Power.TheVariants as power
@@ -24,12 +24,12 @@ use Rattle.bz_task.specs.declared.todo.Seen.{Seen}
 use Rattle.bz_story.specs.Reviving as reviving
 use Rattle.bz_story.specs.Reviving.{ActsAreMarked, EvictionsAreMarked, TurnsMakeNoMark, RecoversIn, EvictsIn}
 use Rattle.bz_swap.specs.Steps.{StepsIn}
-use Rattle.bz_swap.specs.SwapMemory.{Doing, words_of}
+use Rattle.bz_swap.specs.SwapMemory.{Doing, memory_words}
 use Rattle.bz_swap.specs.Starts.{started, begins_by_flush}
 use Rattle.bz_world.specs.Inside.Acted.{IsEvicted}
 use Rattle.bz_world.specs.Inside.Kept.{IsTabled, IsDark, IsRecovering, IsStarted, IsKept}
 use Rattle.bz_world.specs.Inside.Powering.{IsRawAct}
-use Rattle.bz_world.specs.Lab.{mark_of}
+use Rattle.bz_world.specs.WorldView.{mark_of}
 use Rattle.bz_world.specs.declared.parts.Parts.{Parts}
 use Rattle.bz_world.proofs.Counting.{pairs-stay}
 use Rattle.bz_world.proofs.Marking.{act-marked, act-found, act-calls, act-begun, act-map, act-counts}
@@ -75,7 +75,7 @@ module _ (b : Laws) (recovers : ActsAreMarked) (old new : Parts) (made : Act) (d
   abbrev raw : Recovers old.config k.dark.values old.access new.access old.recovery made done told
   raw = marked-raw.recovers
 
-  words : words_of new.access ≡ words_after_marks old.journal.start (mark_of 0 made ∷ old.journal.past)
+  words : memory_words new.access ≡ words_after_marks old.journal.start (mark_of 0 made ∷ old.journal.past)
   words = act-marked 0 old.access new.access old.journal made k.memory.words a.step.one.act
 
   was : image_after old.journal.start old.journal.past ≡ slice_index old.access.durable

@@ -8,51 +8,51 @@ use Rattle.bz_layout.specs.Addresses.{words_of}
 use Rattle.bz_sound.specs.declared.power.Power.{Power}
 use Rattle.bz_sound.specs.declared.power.Power.TheVariants as power
 use Rattle.bz_sound.specs.Calls.{open_call}
-use Rattle.bz_world.specs.Inside.Beginning.{lab_of, IsPoweredRefusal, IsRefusal}
+use Rattle.bz_world.specs.Inside.Beginning.{world_view, IsPoweredRefusal, IsRefusal}
 use Rattle.bz_world.specs.Inside.Kept.{IsTabled, IsAwake}
 use Rattle.bz_world.specs.Inside.Serving.{IsSlot}
-use Rattle.bz_world.specs.Lab.{Lab, Steps, Evicts, IsApplied, power_in, idle_refusal, step_by, StepsBy, off_refusal, on_by, answer_by, begin_answer, after_begin, after_cut, after_on}
+use Rattle.bz_world.specs.WorldView.{WorldView, Steps, Evicts, IsApplied, power_in, idle_refusal, step_by, StepsBy, off_refusal, on_by, answer_by, begin_answer, after_begin, after_cut, after_on}
 use Rattle.bz_world.specs.declared.answers.Applied.{Applied}
 use Rattle.bz_world.specs.declared.answers.Applied.TheVariants as applied
 use Rattle.bz_world.specs.declared.answers.Begun.{Begun}
 use Rattle.bz_world.specs.declared.answers.Event.TheVariants as event
 use Rattle.bz_world.specs.declared.parts.Parts.{Parts}
-use Rattle.bz_world.specs.declared.serving.Serving.{Serving}
+use Rattle.bz_world.specs.declared.serving.OpenCall.{OpenCall}
 
 -- a worker that serves a call has one open, and one that serves none has none
-open-by : (p : Parts) (k : IsAwake p) (w : ℕ) (slot : Option Serving) → IsSlot p.config p.access p.journal k.story p.owners.items w slot → is_none (open_call w p.journal.past) ≡ is_none slot
+open-by : (p : Parts) (k : IsAwake p) (w : ℕ) (slot : Option OpenCall) → IsSlot p.config p.access p.journal k.story p.owners.items w slot → is_none (open_call w p.journal.past) ≡ is_none slot
 open-by p k w None h = ap is_none h.none_open
 open-by p k w (Some x) h = ap is_none h.call_open.is_open
 
-pub call-open : (p : Parts) → IsAwake p → (w : ℕ) → w ≤ p.config.workers → (slot : Option Serving) → slot ≡ get_or p.workers.items w slot → is_none (open_call w p.journal.past) ≡ is_none slot
+pub call-open : (p : Parts) → IsAwake p → (w : ℕ) → w ≤ p.config.workers → (slot : Option OpenCall) → slot ≡ get_or p.workers.items w slot → is_none (open_call w p.journal.past) ≡ is_none slot
 call-open p k w within slot e =
     let read : slot ≡ get_or p.workers.items w None = get_or_read_under p.workers.items w (length p.workers.items) slot None e (omega (arith, within, k.tabled.places, k.tabled.config.workers_in_range.at_most)) refl in
     open-by p k w (get_or p.workers.items w None) (k.workers w) ∙ ap is_none (sym read)
 
-none-some : (slot : Option Serving) → is_some slot ≡ true → is_none slot ≡ false
+none-some : (slot : Option OpenCall) → is_some slot ≡ true → is_none slot ≡ false
 none-some None e = absurd (cc)
 none-some (Some x) e = refl
 
-some-none : (slot : Option Serving) → is_some slot ≡ false → is_none slot ≡ true
+some-none : (slot : Option OpenCall) → is_some slot ≡ false → is_none slot ≡ true
 some-none None e = refl
 some-none (Some x) e = absurd (cc)
 
 -- with the power on a worker with an open call makes a step
-pub stepped-powered : (p q : Parts) (w : ℕ) (answer : Applied) → IsAwake p → w ≤ p.config.workers → (slot : Option Serving) → slot ≡ get_or p.workers.items w slot → is_some slot ≡ true → Steps (lab_of p) w answer (lab_of q)
-    → MatchOption (idle_refusal (lab_of p) w) (Steps (lab_of p) w answer (lab_of q)) (λ refusal. (answer ≡ refusal) × (lab_of q ≡ lab_of p))
+pub stepped-powered : (p q : Parts) (w : ℕ) (answer : Applied) → IsAwake p → w ≤ p.config.workers → (slot : Option OpenCall) → slot ≡ get_or p.workers.items w slot → is_some slot ≡ true → Steps (world_view p) w answer (world_view q)
+    → MatchOption (idle_refusal (world_view p) w) (Steps (world_view p) w answer (world_view q)) (λ refusal. (answer ≡ refusal) × (world_view q ≡ world_view p))
 stepped-powered p q w answer k within slot e some steps =
     let busy : is_none (open_call w p.journal.past) ≡ false = call-open p k w within slot e ∙ none-some slot some in
     rw busy steps
 
 -- and one without is idle
-pub idle-powered : (p : Parts) (w : ℕ) → IsAwake p → w ≤ p.config.workers → (slot : Option Serving) → slot ≡ get_or p.workers.items w slot → is_some slot ≡ false
-    → MatchOption (idle_refusal (lab_of p) w) (Steps (lab_of p) w applied.Idle (lab_of p)) (λ refusal. (applied.Idle ≡ refusal) × (lab_of p ≡ lab_of p))
+pub idle-powered : (p : Parts) (w : ℕ) → IsAwake p → w ≤ p.config.workers → (slot : Option OpenCall) → slot ≡ get_or p.workers.items w slot → is_some slot ≡ false
+    → MatchOption (idle_refusal (world_view p) w) (Steps (world_view p) w applied.Idle (world_view p)) (λ refusal. (applied.Idle ≡ refusal) × (world_view p ≡ world_view p))
 idle-powered p w k within slot e none =
     let idle : is_none (open_call w p.journal.past) ≡ true = call-open p k w within slot e ∙ some-none slot none in
     rw idle (refl, refl)
 
 -- by the power
-module _ (old new : Lab) (answer : Applied) (room : 3 ≤ old.log.limits.marks - length old.log.past) (z : Power) (powered : power_in old ≡ z) where
+module _ (old new : WorldView) (answer : Applied) (room : 3 ≤ old.log.limits.marks - length old.log.past) (z : Power) (powered : power_in old ≡ z) where
   long : nat_lt (old.log.limits.marks - length old.log.past) 3 ≡ false
   long = grind (arith, nat_tests, room)
 
@@ -76,16 +76,16 @@ module _ (old new : Lab) (answer : Applied) (room : 3 ≤ old.log.limits.marks -
 
 -- a begin that is refused, or may be made
 module _ (p : Parts) (t : IsTabled p) (w : ℕ) (called : Call) (some : 0 < w) (within : w ≤ p.config.workers) (room : 3 ≤ p.journal.limits.marks - length p.journal.past) where
-  answers : (z : Power) → p.power ≡ z → begin_answer (lab_of p) w called ≡ answer_by z (lab_of p) w called
+  answers : (z : Power) → p.power ≡ z → begin_answer (world_view p) w called ≡ answer_by z (world_view p) w called
   answers z is =
       let known : ((w == 0) || nat_lt p.config.workers w) ≡ false = grind (arith, nat_tests, some, within) in
       let short : nat_lt (p.journal.limits.marks - length p.journal.past) 3 ≡ false = grind (arith, nat_tests) in
-      let powered : power_in (lab_of p) ≡ z = t.power ∙ is in
+      let powered : power_in (world_view p) ≡ z = t.power ∙ is in
       rw (known, short, powered) refl
 
-  pub dark-refusal : (z : Power) (r : Begun) → p.power ≡ z → answer_by z (lab_of p) w called ≡ r → after_begin (lab_of p) w called r ≡ lab_of p → IsRefusal p w called (Some r)
+  pub dark-refusal : (z : Power) (r : Begun) → p.power ≡ z → answer_by z (world_view p) w called ≡ r → after_begin (world_view p) w called r ≡ world_view p → IsRefusal p w called (Some r)
   dark-refusal z r is answered same = record {
-    some = λ answer e. let it : r ≡ answer = cc e in subst (λ a. (begin_answer (lab_of p) w called ≡ a) × (after_begin (lab_of p) w called a ≡ lab_of p)) it (answers z is ∙ answered, same);
+    some = λ answer e. let it : r ≡ answer = cc e in subst (λ a. (begin_answer (world_view p) w called ≡ a) × (after_begin (world_view p) w called a ≡ world_view p)) it (answers z is ∙ answered, same);
     none = λ e. absurd (cc e);
     begins = λ e. absurd (cc e);
   }

@@ -16,7 +16,7 @@ use Rattle.bz_world.specs.Inside.Acted.{IsBetween}
 use Rattle.bz_world.specs.Inside.Going.{LacksSwap}
 use Rattle.bz_world.specs.Inside.Serving.{IsDoing, IsSlot}
 use Rattle.bz_world.specs.declared.parts.Parts.{Parts}
-use Rattle.bz_world.specs.declared.serving.Serving.{Serving}
+use Rattle.bz_world.specs.declared.serving.OpenCall.{OpenCall}
 
 -- a worker that does a swap has an open call, and the table names it
 pub record IsHolder (log : Log) (owners : List ℕ) (v s : ℕ) : Type 0 where
@@ -34,12 +34,12 @@ holder-by m log owners v s opened is swaps (todo.Swap entries) d =
     let same : d.swap ≡ s = cc (d.doing, swaps) in
     record { opened = opened; is_open = is; owner = subst (λ t. slice_index owners t ≡ v) same d.owner }
 
-slot-holder : (c : Config) (m : SwapMemory) (log : Log) (story : Story) (owners : List ℕ) (v s : ℕ) (slot : Option Serving) → IsSlot c m log story owners v slot → doing_of m v ≡ Swapping s → IsHolder log owners v s
+slot-holder : (c : Config) (m : SwapMemory) (log : Log) (story : Story) (owners : List ℕ) (v s : ℕ) (slot : Option OpenCall) → IsSlot c m log story owners v slot → doing_of m v ≡ Swapping s → IsHolder log owners v s
 slot-holder c m log story owners v s None h swaps = absurd (cc (h.idle, swaps))
 slot-holder c m log story owners v s (Some x) h swaps = holder-by m log owners v s h.opened h.call_open.is_open swaps h.asked h.doing
 
 -- a worker with an open call, which is not this one, is one of the others
-pub is-other : (p : Parts) (w : ℕ) (x : Serving) → IsBetween p w x → (v : ℕ) → v ≢ w → (opened : Open) → open_call v p.journal.past ≡ Some opened → IsOther p.config p.journal.past w v
+pub is-other : (p : Parts) (w : ℕ) (x : OpenCall) → IsBetween p w x → (v : ℕ) → v ≢ w → (opened : Open) → open_call v p.journal.past ≡ Some opened → IsOther p.config p.journal.past w v
 is-other p w x was v other opened is = record { worker = some; configured = within; other = other; calls = record { opened = opened; is_open = is } }
   where
     some : 1 ≤ v

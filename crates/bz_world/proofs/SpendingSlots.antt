@@ -18,10 +18,10 @@ use Rattle.bz_story.specs.Story.{Story}
 use Rattle.bz_swap.specs.SwapMemory.{SwapMemory}
 use Rattle.bz_world.specs.Inside.Acted.{IsBetween}
 use Rattle.bz_world.specs.Inside.Going.{IsOutOfSlots}
-use Rattle.bz_world.specs.Lab.{LacksSlots}
+use Rattle.bz_world.specs.WorldView.{LacksSlots}
 use Rattle.bz_world.specs.Inside.Serving.{IsSlot, NeedsAtLeast}
 use Rattle.bz_world.specs.declared.parts.Parts.{Parts}
-use Rattle.bz_world.specs.declared.serving.Serving.{Serving}
+use Rattle.bz_world.specs.declared.serving.OpenCall.{OpenCall}
 use Rattle.bz_world.proofs.Spending.{is-other}
 
 -- the place of a number in a list
@@ -44,11 +44,11 @@ is-at [] k h = absurd (cc)
 is-at (x ∷ xs) k h = at-test x xs k (x == k) refl h (is-at xs k)
 
 -- the slots that a worker took and may not have stored into
-unfilled-of : (c : Config) (m : SwapMemory) (log : Log) (story : Story) (owners : List ℕ) (v : ℕ) (slot : Option Serving) → IsSlot c m log story owners v slot → List ℕ
+unfilled-of : (c : Config) (m : SwapMemory) (log : Log) (story : Story) (owners : List ℕ) (v : ℕ) (slot : Option OpenCall) → IsSlot c m log story owners v slot → List ℕ
 unfilled-of c m log story owners v None h = []
 unfilled-of c m log story owners v (Some x) h = h.covered.unfilled
 
-few-unfilled : (c : Config) (m : SwapMemory) (log : Log) (story : Story) (owners : List ℕ) (v : ℕ) (slot : Option Serving) (h : IsSlot c m log story owners v slot) → length (unfilled-of c m log story owners v slot h) ≤ SPLIT_SLOTS
+few-unfilled : (c : Config) (m : SwapMemory) (log : Log) (story : Story) (owners : List ℕ) (v : ℕ) (slot : Option OpenCall) (h : IsSlot c m log story owners v slot) → length (unfilled-of c m log story owners v slot h) ≤ SPLIT_SLOTS
 unfolding unfilled-of
 few-unfilled c m log story owners v None h = omega arith
 few-unfilled c m log story owners v (Some x) h = omega (arith, h.covered.few)
@@ -59,7 +59,7 @@ record IsHolding (log : Log) (v k : ℕ) (unfilled : List ℕ) : Type 0 where
   is_open : open_call v log.past ≡ Some opened
   among : is_among unfilled k ≡ true
 
-holding : (c : Config) (m : SwapMemory) (log : Log) (story : Story) (owners : List ℕ) (v k : ℕ) (slot : Option Serving) (h : IsSlot c m log story owners v slot) → story.took v k ≡ true → story.filled v k ≡ false → IsHolding log v k (unfilled-of c m log story owners v slot h)
+holding : (c : Config) (m : SwapMemory) (log : Log) (story : Story) (owners : List ℕ) (v k : ℕ) (slot : Option OpenCall) (h : IsSlot c m log story owners v slot) → story.took v k ≡ true → story.filled v k ≡ false → IsHolding log v k (unfilled-of c m log story owners v slot h)
 unfolding unfilled-of
 holding c m log story owners v k None h took unfilled = absurd (true≢false (sym (h.filled k took) ∙ unfilled))
 holding c m log story owners v k (Some x) h took unfilled = record { opened = h.opened; is_open = h.call_open.is_open; among = h.covered.all k took unfilled }

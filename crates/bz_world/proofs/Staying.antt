@@ -22,7 +22,7 @@ use Rattle.bz_task.specs.Scene.{Scene, IsLawful, Waiting, Took}
 use Rattle.bz_task.specs.declared.todo.Todo.{Todo}
 use Rattle.bz_task.specs.declared.todo.Todo.TheVariants as todo
 use Rattle.bz_world.specs.Inside.Serving.{IsServing, IsCovered, IsDoing, IsSlot, IsToldBy, IsWanted, NeedsAtLeast, MayGoOn, IsFinishing, effect_reply, stage_in}
-use Rattle.bz_world.specs.declared.serving.Serving.{Serving}
+use Rattle.bz_world.specs.declared.serving.OpenCall.{OpenCall}
 use Rattle.bz_world.proofs.Powered.{looks-on}
 
 -- what a worker does is the same in two memories, and so is whether its swap has taken effect
@@ -60,7 +60,7 @@ stage-stays : (m n : SwapMemory) (v : ℕ) → SameFor m n v → stage_in n (doi
 stage-stays m n v same = ap (stage_in n) same.doing ∙ stage-by m n (doing_of m v) same.effects
 
 -- a call whose change stands is finished as before, where its worker does what it did
-pub finishing-stays : (m n : SwapMemory) (v : ℕ) (x : Serving) → doing_of n v ≡ doing_of m v → MayGoOn x ⊎ IsFinishing m v x → MayGoOn x ⊎ IsFinishing n v x
+pub finishing-stays : (m n : SwapMemory) (v : ℕ) (x : OpenCall) → doing_of n v ≡ doing_of m v → MayGoOn x ⊎ IsFinishing m v x → MayGoOn x ⊎ IsFinishing n v x
 finishing-stays m n v x same (inl may) = inl may
 finishing-stays m n v x same (inr f) = inr (record { publishing = f.publishing; swap = f.swap; doing = same ∙ f.doing })
 
@@ -109,7 +109,7 @@ wanted-stays c log mark opened wants why quiet some =
       };
     }
 
-pub serving-stays : ScenesAreSeen → EffectsStayOpen → (c : Config) (m n : SwapMemory) (log : Log) (mark : Mark) (story after : Story) (owners : List ℕ) (v : ℕ) (x : Serving) → IsLiving c n (with_mark log mark) after → Leaves c m n log mark story after v
+pub serving-stays : ScenesAreSeen → EffectsStayOpen → (c : Config) (m n : SwapMemory) (log : Log) (mark : Mark) (story after : Story) (owners : List ℕ) (v : ℕ) (x : OpenCall) → IsLiving c n (with_mark log mark) after → Leaves c m n log mark story after v
     → IsServing c m log story owners v x → IsServing c n (with_mark log mark) after owners v x
 serving-stays seen stay c m n log mark story after owners v x living l s = record {
   opened = s.opened;
@@ -135,13 +135,13 @@ serving-stays seen stay c m n log mark story after owners v x living l s = recor
     since : after.from ≤ s.call_open.look.since
     since = omega (arith, living.begins v s.opened (l.calls ∙ s.call_open.is_open), s.call_open.look.after_begin)
 
-pub slot-stays : ScenesAreSeen → EffectsStayOpen → (c : Config) (m n : SwapMemory) (log : Log) (mark : Mark) (story after : Story) (owners : List ℕ) (v : ℕ) (slot : Option Serving) → IsLiving c n (with_mark log mark) after → Leaves c m n log mark story after v
+pub slot-stays : ScenesAreSeen → EffectsStayOpen → (c : Config) (m n : SwapMemory) (log : Log) (mark : Mark) (story after : Story) (owners : List ℕ) (v : ℕ) (slot : Option OpenCall) → IsLiving c n (with_mark log mark) after → Leaves c m n log mark story after v
     → IsSlot c m log story owners v slot → IsSlot c n (with_mark log mark) after owners v slot
 slot-stays seen stay c m n log mark story after owners v None living l s = record { none_open = l.calls ∙ s.none_open; idle = l.same.doing ∙ s.idle; filled = λ k t. l.filled k (s.filled k (sym (l.took k) ∙ t)) }
 slot-stays seen stay c m n log mark story after owners v (Some x) living l s = serving-stays seen stay c m n log mark story after owners v x living l s
 
 -- without a mark, in a memory in which a worker does the same
-pub slot-same : (c : Config) (m n : SwapMemory) (log : Log) (story : Story) (owners others : List ℕ) (v : ℕ) (slot : Option Serving) → SameFor m n v → ((s : ℕ) → doing_of m v ≡ Swapping s → slice_index others s ≡ slice_index owners s)
+pub slot-same : (c : Config) (m n : SwapMemory) (log : Log) (story : Story) (owners others : List ℕ) (v : ℕ) (slot : Option OpenCall) → SameFor m n v → ((s : ℕ) → doing_of m v ≡ Swapping s → slice_index others s ≡ slice_index owners s)
     → IsSlot c m log story owners v slot → IsSlot c n log story others v slot
 slot-same c m n log story owners others v None same table s = record { none_open = s.none_open; idle = same.doing ∙ s.idle; filled = s.filled }
 slot-same c m n log story owners others v (Some x) same table s = record {
@@ -165,7 +165,7 @@ slot-same c m n log story owners others v (Some x) same table s = record {
     doing-by m owners others v (todo.Swap entries) table d = record { swap = d.swap; doing = d.doing; same = d.same; owner = table d.swap d.doing ∙ d.owner; begun = d.begun; list = d.list }
 
 -- in another story that tells a worker the same
-pub slot-scenes : (c : Config) (m : SwapMemory) (log : Log) (story after : Story) (owners : List ℕ) (v : ℕ) (slot : Option Serving) (some : Open) → ((since : ℕ) (opened : Open) → scene c log.past after v since opened ≡ scene c log.past story v since opened)
+pub slot-scenes : (c : Config) (m : SwapMemory) (log : Log) (story after : Story) (owners : List ℕ) (v : ℕ) (slot : Option OpenCall) (some : Open) → ((since : ℕ) (opened : Open) → scene c log.past after v since opened ≡ scene c log.past story v since opened)
     → ((k : ℕ) → after.filled v k ≡ story.filled v k) → IsSlot c m log story owners v slot → IsSlot c m log after owners v slot
 slot-scenes c m log story after owners v None some same filled s = record { none_open = s.none_open; idle = s.idle; filled = λ k t. filled k ∙ s.filled k (sym (ap (λ (z : Scene). z.took k) (same zero some)) ∙ t) }
 slot-scenes c m log story after owners v (Some x) some same filled s = record {

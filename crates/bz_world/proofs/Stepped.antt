@@ -28,7 +28,7 @@ use Rattle.bz_swap.specs.TakenStatuses.{IsTaken, IsTaking, TakenStatusesStay, Be
 use Rattle.bz_content.specs.Content.{image_fault, content_in}
 use Rattle.bz_world.specs.Inside.Acted.{IsActed}
 use Rattle.bz_world.specs.Inside.Kept.{IsTabled, AreTaken}
-use Rattle.bz_world.specs.Lab.{mark_of}
+use Rattle.bz_world.specs.WorldView.{mark_of}
 use Rattle.bz_world.specs.Inside.Laws.{JournalLaws}
 use Rattle.bz_world.specs.declared.parts.Parts.{Parts}
 use Rattle.bz_story.proofs.Powered.{since-more}

@@ -8,35 +8,35 @@ use Rattle.bz_mark.specs.Log.{Log}
 use Rattle.bz_mark.specs.declared.marks.Mark.TheVariants.{End}
 use Rattle.bz_swap.specs.SwapMemory.{Working, idle, worker_of, doing_of}
 use Rattle.bz_world.specs.Inside.Acted.{HasActed}
-use Rattle.bz_world.specs.Inside.Beginning.{lab_of, is_swap, supply_of}
+use Rattle.bz_world.specs.Inside.Beginning.{world_view, is_swap, supply_of}
 use Rattle.bz_world.specs.Inside.Going.{WentOn}
 use Rattle.bz_world.specs.Inside.Kept.{IsAwake}
-use Rattle.bz_world.specs.Lab.{Spends, EndsFullRightly, GetsBriefly, Steps, GoesOn, flush_of, is_swapping}
+use Rattle.bz_world.specs.WorldView.{Spends, EndsFullRightly, GetsBriefly, Steps, GoesOn, flush_of, is_swapping}
 use Rattle.bz_world.specs.declared.answers.Applied.{Applied}
 use Rattle.bz_world.specs.declared.answers.Applied.TheVariants.{Stepped}
 use Rattle.bz_world.specs.declared.parts.Parts.{Parts}
 use Rattle.bz_world.proofs.Supplies.{shown-on, not-longer}
 
 -- what callers see of whether the next act is a flush
-pub flush-is : (p : Parts) (v : ℕ) → flush_of (lab_of p) v ≡ (worker_of p.access v).flush_next
+pub flush-is : (p : Parts) (v : ℕ) → flush_of (world_view p) v ≡ (worker_of p.access v).flush_next
 flush-is p v = get_or-map (λ (z : Working). z.flush_next) p.access.workers v idle
 
-pub flush-same : (old new : Parts) (v : ℕ) → worker_of new.access v ≡ worker_of old.access v → flush_of (lab_of new) v ≡ flush_of (lab_of old) v
+pub flush-same : (old new : Parts) (v : ℕ) → worker_of new.access v ≡ worker_of old.access v → flush_of (world_view new) v ≡ flush_of (world_view old) v
 flush-same old new v same = flush-is new v ∙ (ap (λ (z : Working). z.flush_next) same ∙ sym (flush-is old v))
 
 -- and of whether a swap is under way
-pub swap-is : (p : Parts) (v : ℕ) → is_swapping (lab_of p) v ≡ is_swap (doing_of p.access v)
+pub swap-is : (p : Parts) (v : ℕ) → is_swapping (world_view p) v ≡ is_swap (doing_of p.access v)
 swap-is p v = get_or-map (λ (z : Working). is_swap z.doing) p.access.workers v idle
 
-pub swap-same : (old new : Parts) (v : ℕ) → worker_of new.access v ≡ worker_of old.access v → is_swapping (lab_of new) v ≡ is_swapping (lab_of old) v
+pub swap-same : (old new : Parts) (v : ℕ) → worker_of new.access v ≡ worker_of old.access v → is_swapping (world_view new) v ≡ is_swapping (world_view old) v
 swap-same old new v same = swap-is new v ∙ (ap (λ (z : Working). is_swap z.doing) same ∙ sym (swap-is old v))
 
 -- and of what is taken and left
-spends-shown : (old new : Parts) (slots : ℕ) → IsAwake old → IsAwake new → Spends slots (supply_of old) (supply_of new) → Spends slots (lab_of old).supply (lab_of new).supply
-spends-shown old new slots was is spends = subst (λ z. Spends slots z (lab_of new).supply) (sym (shown-on old was.on)) (subst (Spends slots (supply_of old)) (sym (shown-on new is.on)) spends)
+spends-shown : (old new : Parts) (slots : ℕ) → IsAwake old → IsAwake new → Spends slots (supply_of old) (supply_of new) → Spends slots (world_view old).supply (world_view new).supply
+spends-shown old new slots was is spends = subst (λ z. Spends slots z (world_view new).supply) (sym (shown-on old was.on)) (subst (Spends slots (supply_of old)) (sym (shown-on new is.on)) spends)
 
 -- an act after which the call goes on as it did
-pub stepped-on : (old new : Parts) (w : ℕ) → IsAwake old → IsAwake new → HasActed old w new → new.access.taken ≡ old.access.taken → Steps (lab_of old) w Stepped (lab_of new)
+pub stepped-on : (old new : Parts) (w : ℕ) → IsAwake old → IsAwake new → HasActed old w new → new.access.taken ≡ old.access.taken → Steps (world_view old) w Stepped (world_view new)
 stepped-on old new w was is a taken = record {
   made = a.made;
   flush = a.flush ∙ sym (flush-is old w);
@@ -58,7 +58,7 @@ stepped-on old new w was is a taken = record {
 
 -- an act that ended what was asked for, and then what comes of that
 pub stepped-through : (old mid told new : Parts) (w : ℕ) (answer : Applied) → IsAwake old → HasActed old w mid → mid.access.taken ≡ old.access.taken → told ≡ record mid { slots = told.slots; workers = told.workers }
-    → length told.slots.free ≤ length mid.slots.free → length mid.slots.free ≤ length told.slots.free + SPLIT_SLOTS → WentOn told w answer new → Steps (lab_of old) w answer (lab_of new)
+    → length told.slots.free ≤ length mid.slots.free → length mid.slots.free ≤ length told.slots.free + SPLIT_SLOTS → WentOn told w answer new → Steps (world_view old) w answer (world_view new)
 stepped-through old mid told new w answer was a taken rest fewer few went = record {
   made = a.made;
   flush = a.flush ∙ sym (flush-is old w);

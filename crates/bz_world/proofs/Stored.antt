@@ -18,10 +18,10 @@ use Rattle.bz_task.specs.declared.todo.Seen.TheVariants as seen
 use Rattle.bz_task.specs.declared.todo.Todo.TheVariants as todo
 use Rattle.bz_world.specs.Inside.Acted.{IsActed, IsTold}
 use Rattle.bz_world.specs.Inside.Kept.{IsAwake}
-use Rattle.bz_world.specs.Lab.{mark_of}
+use Rattle.bz_world.specs.WorldView.{mark_of}
 use Rattle.bz_world.specs.Inside.Serving.{IsServing, IsSlot, stage_in}
 use Rattle.bz_world.specs.declared.parts.Parts.{Parts}
-use Rattle.bz_world.specs.declared.serving.Serving.{Serving}
+use Rattle.bz_world.specs.declared.serving.OpenCall.{OpenCall}
 use Rattle.bz_world.specs.Inside.Laws.{StepLaws}
 use Rattle.bz_sound.specs.Memory.Spent.{is_stored_into}
 use Rattle.bz_sound.specs.Power.Times.{since_on}
@@ -33,7 +33,7 @@ use Rattle.bz_world.proofs.Answered.{no-finish}
 use Rattle.bz_world.proofs.Lonely.{lonely-act}
 use Rattle.bz_world.proofs.LonelyActs.{reads-now}
 
-module _ (b : StepLaws) (old new : Parts) (w : ℕ) (x : Serving) (made : Act) (answer : Done) (k : IsAwake old) (is-worker : get_or old.workers.items w None ≡ Some x) (a : IsActed old w made answer None new) (room : length old.journal.past < old.config.marks) where
+module _ (b : StepLaws) (old new : Parts) (w : ℕ) (x : OpenCall) (made : Act) (answer : Done) (k : IsAwake old) (is-worker : get_or old.workers.items w None ≡ Some x) (a : IsActed old w made answer None new) (room : length old.journal.past < old.config.marks) where
   abbrev pub its : IsServing old.config old.access old.journal k.story old.owners.items w x
   its = serves old k w x is-worker
 

@@ -19,7 +19,7 @@ use Rattle.bz_world.specs.Inside.Acted.{IsStriking}
 use Rattle.bz_world.specs.Inside.Kept.{IsAwake}
 use Rattle.bz_world.specs.Inside.Serving.{IsServing, IsSlot, stage_in}
 use Rattle.bz_world.specs.declared.parts.Parts.{Parts}
-use Rattle.bz_world.specs.declared.serving.Serving.{Serving}
+use Rattle.bz_world.specs.declared.serving.OpenCall.{OpenCall}
 use Rattle.bz_world.proofs.Powered.{begun-in, flush-leaves}
 use Rattle.bz_world.proofs.Owners.{IsOwner, is-owner}
 use Rattle.bz_world.proofs.Staying.{SameFor, slot-stays}
@@ -52,7 +52,7 @@ module _ (b : StrikeLaws) (p : Parts) (s : ℕ) (h : IsStriking p s) where
   pub owner : IsOwner old kept w s (get_or old.workers.items w None)
   owner = is-owner old kept w s h.takes.effect.pending
 
-  abbrev pub x : Serving
+  abbrev pub x : OpenCall
   x = owner.serving
 
   abbrev pub its : IsServing old.config old.access old.journal kept.story old.owners.items w x

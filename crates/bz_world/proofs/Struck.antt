@@ -12,7 +12,7 @@ use Rattle.bz_world.specs.Inside.Acted.{IsStriking}
 use Rattle.bz_world.specs.Inside.Kept.{IsAwake}
 use Rattle.bz_world.specs.Inside.Serving.{IsSlot, noted, pairs_after}
 use Rattle.bz_world.specs.declared.parts.Parts.{Parts}
-use Rattle.bz_world.specs.declared.serving.Serving.{Serving}
+use Rattle.bz_world.specs.declared.serving.OpenCall.{OpenCall}
 use Rattle.bz_world.proofs.Quiet.{within-crew}
 use Rattle.bz_world.specs.Inside.Laws.{StrikeLaws}
 use Rattle.bz_world.proofs.Striking.{w, x, its, owner}
@@ -20,7 +20,7 @@ use Rattle.bz_world.proofs.StruckQuietly.{struck-quietly}
 use Rattle.bz_world.proofs.Published.{published}
 
 -- a table of the same entries
-pub kept-workers : (p : Parts) (workers : Vec (Option Serving)) → IsAwake p → length workers.items ≡ length p.workers.items → ((v : ℕ) → get_or workers.items v None ≡ get_or p.workers.items v None) → IsAwake (record p { workers = workers })
+pub kept-workers : (p : Parts) (workers : Vec (Option OpenCall)) → IsAwake p → length workers.items ≡ length p.workers.items → ((v : ℕ) → get_or workers.items v None ≡ get_or p.workers.items v None) → IsAwake (record p { workers = workers })
 kept-workers p workers k size same = record {
   on = k.on;
   story = k.story;
@@ -73,7 +73,7 @@ module _ (b : StrikeLaws) (p : Parts) (s : ℕ) (h : IsStriking p s) (v : ℕ) (
   slot-was = ap (λ z. get_or z.items v None) same-table ∙ (ap (λ u. get_or h.before.workers.items u None) worker-is ∙ (owner b p s h).is)
 
   -- the swap makes no change
-  pub struck-silent : (slot : Option Serving) → slot ≡ noted (Some (x b p s h)) (length p.journal.past) → publishing_of (x b p s h).task ≡ false → IsAwake (record p { workers = with_item p.workers v slot })
+  pub struck-silent : (slot : Option OpenCall) → slot ≡ noted (Some (x b p s h)) (length p.journal.past) → publishing_of (x b p s h).task ≡ false → IsAwake (record p { workers = with_item p.workers v slot })
   struck-silent slot is silent = kept-workers p (with_item p.workers v slot) (struck-quietly b p s h silent) (length-set p.workers.items v slot) same
     where
       slot-is : slot ≡ Some (x b p s h)
@@ -86,7 +86,7 @@ module _ (b : StrikeLaws) (p : Parts) (s : ℕ) (h : IsStriking p s) (v : ℕ) (
       ]
 
   -- or it makes it
-  pub struck-aloud : (slot : Option Serving) (n : ℕ) → slot ≡ noted (Some (x b p s h)) (length p.journal.past) → publishing_of (x b p s h).task ≡ true → n ≡ slice_index p.numbers.items v → length p.journal.past < p.config.marks
+  pub struck-aloud : (slot : Option OpenCall) (n : ℕ) → slot ≡ noted (Some (x b p s h)) (length p.journal.past) → publishing_of (x b p s h).task ≡ true → n ≡ slice_index p.numbers.items v → length p.journal.past < p.config.marks
       → (count : ℕ) → count ≡ pairs_after slot p.pairs → IsAwake (record p { journal = with_mark p.journal (Effect v n); workers = with_item p.workers v slot; pairs = count })
   struck-aloud slot n is publishes number room count counted = subst (λ (q : Parts). IsAwake (record q { journal = with_mark q.journal (Effect v n); workers = with_item p.workers v slot; pairs = count })) (sym h.rest)
       (subst (λ u. IsAwake (record h.before { access = p.access; journal = with_mark (with_mark h.before.journal h.mark) (Effect u n); workers = with_item p.workers v slot; pairs = count })) (sym worker-is)

@@ -10,23 +10,23 @@ use Rattle.bz_task.specs.OwnActs.{AreTakenFrom}
 use Rattle.bz_task.specs.declared.todo.Seen.{Seen}
 use Rattle.bz_task.specs.declared.todo.Todo.{Todo}
 use Rattle.bz_world.specs.Inside.Acted.{MustTell}
-use Rattle.bz_world.specs.Inside.Beginning.{lab_of, supply_of}
+use Rattle.bz_world.specs.Inside.Beginning.{world_view, supply_of}
 use Rattle.bz_world.specs.Inside.Going.{needs_in}
 use Rattle.bz_world.specs.Inside.Telling.{HasToldIn, MustStart}
-use Rattle.bz_world.specs.Lab.{supply_by}
+use Rattle.bz_world.specs.WorldView.{supply_by}
 use Rattle.bz_world.specs.declared.parts.Parts.{Parts}
-use Rattle.bz_world.specs.declared.serving.Serving.{Serving}
+use Rattle.bz_world.specs.declared.serving.OpenCall.{OpenCall}
 use Rattle.bz_world.proofs.Takings.{no-more-free}
 
 -- it is told while the power is on
-pub shown-on : (p : Parts) → p.power ≡ power.On → (lab_of p).supply ≡ supply_of p
+pub shown-on : (p : Parts) → p.power ≡ power.On → (world_view p).supply ≡ supply_of p
 shown-on p on = ap (λ z. supply_by z (supply_of p)) on
 
 -- and nothing of it before
-pub shown-off : (p : Parts) → p.power ≡ power.Off → (lab_of p).supply ≡ record { taken = 0; left = 0 }
+pub shown-off : (p : Parts) → p.power ≡ power.Off → (world_view p).supply ≡ record { taken = 0; left = 0 }
 shown-off p off = ap (λ z. supply_by z (supply_of p)) off
 
-pub shown-recovering : (p : Parts) → p.power ≡ power.Recovering → (lab_of p).supply ≡ record { taken = 0; left = 0 }
+pub shown-recovering : (p : Parts) → p.power ≡ power.Recovering → (world_view p).supply ≡ record { taken = 0; left = 0 }
 shown-recovering p recovering = ap (λ z. supply_by z (supply_of p)) recovering
 
 -- no list is longer than itself
@@ -38,12 +38,12 @@ taken-few : (needed left : ℕ) (old new : FreeSlots) → AreTakenFrom needed le
 taken-few needed left old new (inl t) = omega (arith, t.enough, t.none_left, length-drop needed old.free, ap (λ (z : FreeSlots). length z.free) t.slots)
 taken-few needed left old new (inr t) = omega (arith, t.fewer, ap (λ (z : FreeSlots). length z.free) t.slots)
 
-pub told-few : (old new : Option Serving) (seen : Seen) (moment : ℕ) (free : FreeSlots) (todo : Todo) (left : FreeSlots) → HasToldIn old seen moment free todo new left → length free.free + needs_in new ≤ length left.free + needs_in old
+pub told-few : (old new : Option OpenCall) (seen : Seen) (moment : ℕ) (free : FreeSlots) (todo : Todo) (left : FreeSlots) → HasToldIn old seen moment free todo new left → length free.free + needs_in new ≤ length left.free + needs_in old
 told-few None new seen moment free todo left h = absurd h
 told-few (Some x) None seen moment free todo left h = absurd h
 told-few (Some x) (Some y) seen moment free todo left h = taken-few (needs_of x.task) (needs_of y.task) free left h.heard.slots
 
-pub told-fewer : (old new : Option Serving) (seen : Seen) (moment : ℕ) (free : FreeSlots) (todo : Todo) (left : FreeSlots) → HasToldIn old seen moment free todo new left → length left.free ≤ length free.free
+pub told-fewer : (old new : Option OpenCall) (seen : Seen) (moment : ℕ) (free : FreeSlots) (todo : Todo) (left : FreeSlots) → HasToldIn old seen moment free todo new left → length left.free ≤ length free.free
 told-fewer None new seen moment free todo left h = absurd h
 told-fewer (Some x) None seen moment free todo left h = absurd h
 told-fewer (Some x) (Some y) seen moment free todo left h = no-more-free (needs_of x.task) (needs_of y.task) free left h.heard.slots

@@ -28,7 +28,7 @@ use Rattle.bz_world.specs.Inside.Kept.{IsAwake}
 use Rattle.bz_world.specs.Inside.Serving.{IsServing, IsDoing, IsSlot, stage_in}
 use Rattle.bz_world.specs.Inside.Telling.{MustStart}
 use Rattle.bz_world.specs.declared.parts.Parts.{Parts}
-use Rattle.bz_world.specs.declared.serving.Serving.{Serving}
+use Rattle.bz_world.specs.declared.serving.OpenCall.{OpenCall}
 use Rattle.bz_world.proofs.Lonely.{in-place, only-own}
 use Rattle.bz_world.proofs.Powered.{begun-in}
 use Rattle.bz_world.proofs.Starting.{starts-it, starts-others}
@@ -39,7 +39,7 @@ module _ (scenes : ScenesAreSeen) (hidden : OwnWordsAreHidden) (p : Parts) (w : 
   between = m.asking.between
 
   -- the stores that others do are hidden
-  store-by : (v a u : ℕ) (x : Serving) (h : IsServing p.config p.access p.journal between.story p.owners.items v x) (t : Todo) → h.asked ≡ t → IsDoing p.access p.owners.items v t → doing_of p.access v ≡ Storing a u → IsHidden p.config (between.story.at (length p.journal.past)) a
+  store-by : (v a u : ℕ) (x : OpenCall) (h : IsServing p.config p.access p.journal between.story p.owners.items v x) (t : Todo) → h.asked ≡ t → IsDoing p.access p.owners.items v t → doing_of p.access v ≡ Storing a u → IsHidden p.config (between.story.at (length p.journal.past)) a
   store-by v a u x h (todo.Read c) e d storing = absurd (cc (d, storing))
   store-by v a u x h (todo.Load c) e d storing = absurd d
   store-by v a u x h (todo.Flush line) e d storing = absurd (cc (d.0, storing))
@@ -54,7 +54,7 @@ module _ (scenes : ScenesAreSeen) (hidden : OwnWordsAreHidden) (p : Parts) (w : 
       (subst (λ z. facts_of x.task z (scene p.config p.journal.past between.story v h.call_open.look.since h.opened)) (ap (stage_in p.access) storing) h.facts) sees.scene (h.asks ∙ ap Some (e ∙ same)) in
       hidden p.config (between.story.at (length p.journal.past)) (scene p.config p.journal.past between.story v h.call_open.look.since h.opened) a sees own.mine
 
-  slot-store : (v a u : ℕ) (slot : Option Serving) → IsSlot p.config p.access p.journal between.story p.owners.items v slot → doing_of p.access v ≡ Storing a u → IsHidden p.config (between.story.at (length p.journal.past)) a
+  slot-store : (v a u : ℕ) (slot : Option OpenCall) → IsSlot p.config p.access p.journal between.story p.owners.items v slot → doing_of p.access v ≡ Storing a u → IsHidden p.config (between.story.at (length p.journal.past)) a
   slot-store v a u None h storing = absurd (cc (h.idle, storing))
   slot-store v a u (Some x) h storing = store-by v a u x h h.asked refl h.doing storing
 
@@ -127,7 +127,7 @@ module _ (starts : StartsAreSeen) (scenes : ScenesAreSeen) (begun : BegunStayTak
   }
 
   -- the others do what they did
-  other-begun : (v : ℕ) (slot : Option Serving) → IsSlot p.config p.access p.journal was.story p.owners.items v slot → (s : ℕ) → doing_of p.access v ≡ Swapping s → s < p.access.taken
+  other-begun : (v : ℕ) (slot : Option OpenCall) → IsSlot p.config p.access p.journal was.story p.owners.items v slot → (s : ℕ) → doing_of p.access v ≡ Swapping s → s < p.access.taken
   other-begun v None h s e = absurd (cc (h.idle, e))
   other-begun v (Some x) h s e = by-doing h.asked h.doing
     where
@@ -142,7 +142,7 @@ module _ (starts : StartsAreSeen) (scenes : ScenesAreSeen) (begun : BegunStayTak
   other-slot : (v : ℕ) → v ≢ w → IsSlot p.config new p.journal was.story owners.items v (get_or p.workers.items v None)
   other-slot v ne = slot-of (get_or p.workers.items v None) (was.others v ne)
     where
-      slot-of : (slot : Option Serving) → IsSlot p.config p.access p.journal was.story p.owners.items v slot → IsSlot p.config new p.journal was.story owners.items v slot
+      slot-of : (slot : Option OpenCall) → IsSlot p.config p.access p.journal was.story p.owners.items v slot → IsSlot p.config new p.journal was.story owners.items v slot
       slot-of None h = record { none_open = h.none_open; idle = starts-others p.access w v (Swapping p.access.taken) ne ∙ h.idle; filled = h.filled }
       slot-of (Some x) h = record {
         opened = h.opened;

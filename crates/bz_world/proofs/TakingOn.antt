@@ -14,7 +14,7 @@ use Rattle.bz_mark.specs.declared.marks.Mark.TheVariants.{End}
 use Rattle.bz_running.specs.Duties.{config_of, asks_of, end_of, needs_of, wants_of, facts_of, makes_no_change}
 use Rattle.bz_running.specs.Hearing.{IsLookup}
 use Rattle.bz_running.specs.Laws.{AreLaws}
-use Rattle.bz_running.specs.declared.running.Running.{Running}
+use Rattle.bz_running.specs.declared.running.AnyTask.{AnyTask}
 use Rattle.bz_sound.specs.Lonely.{IsLonely}
 use Rattle.bz_story.specs.Laws.{ScenesAreSeen}
 use Rattle.bz_swap.specs.SwapMemory.{SwapMemory, worker_of}
@@ -37,13 +37,13 @@ use Rattle.bz_world.specs.Inside.Going.{MustGoOn, MustLookUp, MustTakeOn, MustRe
 use Rattle.bz_world.specs.Inside.Beginning.{supply_of}
 use Rattle.bz_world.specs.Inside.Kept.{IsAwake}
 use Rattle.bz_world.specs.Inside.Lonely.{WhereLonely, IsNotLonely, IsNotLonelyIn, IsLonelyGet, HasLooked, AsksBriefly}
-use Rattle.bz_world.specs.Lab.{GoesOn, EndsFullRightly, GetsBriefly}
+use Rattle.bz_world.specs.WorldView.{GoesOn, EndsFullRightly, GetsBriefly}
 use Rattle.bz_world.specs.Inside.Serving.{IsOpened, IsSlot, IsToldBy, IsWanted, MayGoOn, effect_reply}
 use Rattle.bz_world.specs.Inside.Telling.{MustStart, HasTold, HasToldIn, LacksDescriptor, KnowsWay, MustTellOf, MustStartOf, MustBegin}
 use Rattle.bz_world.specs.declared.answers.Applied.{Applied}
 use Rattle.bz_world.specs.declared.answers.Applied.TheVariants as applied
 use Rattle.bz_world.specs.declared.parts.Parts.{Parts}
-use Rattle.bz_world.specs.declared.serving.Serving.{Serving}
+use Rattle.bz_world.specs.declared.serving.OpenCall.{OpenCall}
 use Rattle.bz_world.proofs.Powered.{begun-in}
 use Rattle.bz_world.proofs.Staying.{none-unfilled}
 use Rattle.bz_world.proofs.Supplies.{not-longer}
@@ -54,7 +54,7 @@ pub has-filled : (p : Parts) (w : ℕ) (on : MustGoOn p w) → HasFilled (known 
 has-filled p w on k e = on.filled k e
 
 -- what stands in the table of a worker whose task asks for something
-pub serving-is : (p : Parts) (w : ℕ) (todo : Todo) (m : MustStart p w todo) (slot : Option Serving) → slot ≡ get_or p.workers.items w slot → slot ≡ Some m.serving
+pub serving-is : (p : Parts) (w : ℕ) (todo : Todo) (m : MustStart p w todo) (slot : Option OpenCall) → slot ≡ get_or p.workers.items w slot → slot ≡ Some m.serving
 serving-is p w todo m slot e = get_or_read_under p.workers.items w (length p.workers.items) slot None e (omega (arith, m.asking.between.within, m.asking.between.tabled.places, m.asking.between.tabled.config.workers_in_range.at_most)) refl ∙ m.is
 
 -- a task that has ended, so that its call goes on
@@ -100,7 +100,7 @@ pub lacks-other : (p : Parts) (w : ℕ) (todo then : Todo) (m : MustStart p w to
     → HasToldIn (get_or p.workers.items w None) NoSwap moment free then (get_or q.workers.items w None) left → IsNotLonely q.journal.past w asks.serving.call
 lacks-other p w todo then m lacks q moment free left rest asks told key get lonely =
     let heard : HasTold m.serving NoSwap moment free then asks.serving left = subst (λ z. HasToldIn z NoSwap moment free then (Some asks.serving) left) m.is (subst (λ z. HasToldIn (get_or p.workers.items w None) NoSwap moment free then z left) asks.is told) in
-    no-swap p w todo m lacks key (sym (ap (λ (z : Serving). z.call) heard.rest) ∙ get) (subst (IsLonely w) (ap (λ (z : Parts). z.journal.past) rest) lonely)
+    no-swap p w todo m lacks key (sym (ap (λ (z : OpenCall). z.call) heard.rest) ∙ get) (subst (IsLonely w) (ap (λ (z : Parts). z.journal.past) rest) lonely)
 
 -- and then it has ended
 pub lacks-swap : (p : Parts) (w : ℕ) (todo then : Todo) (m : MustStart p w todo) → LacksDescriptor p todo → (q : Parts) (moment : ℕ) (free left : FreeSlots) → q ≡ record p { slots = q.slots; workers = q.workers } → MustStart q w then
@@ -114,7 +114,7 @@ lacks-swap p w todo then m lacks q moment free left rest asks told = record {
     heard = subst (λ z. HasToldIn z NoSwap moment free then (Some asks.serving) left) m.is (subst (λ z. HasToldIn (get_or p.workers.items w None) NoSwap moment free then z left) asks.is told)
 
 -- the world but for the worker's task
-pub between-tasks : (p : Parts) (w : ℕ) (x y : Serving) (b : IsBetween p w x) (workers : Vec (Option Serving)) → length workers.items ≡ length p.workers.items → ((v : ℕ) → v ≢ w → get_or workers.items v None ≡ get_or p.workers.items v None)
+pub between-tasks : (p : Parts) (w : ℕ) (x y : OpenCall) (b : IsBetween p w x) (workers : Vec (Option OpenCall)) → length workers.items ≡ length p.workers.items → ((v : ℕ) → v ≢ w → get_or workers.items v None ≡ get_or p.workers.items v None)
     → IsOpened p.config p.journal w b.opened y → IsBetween (record p { workers = workers }) w y
 between-tasks p w x y b workers size rest opened = record {
   on = b.on;
@@ -150,10 +150,10 @@ between-tasks p w x y b workers size rest opened = record {
 }
 
 -- what stands in the table, and the call there
-pub slot-is : (p : Parts) (w : ℕ) (on : MustGoOn p w) (slot : Option Serving) → slot ≡ get_or p.workers.items w slot → slot ≡ Some on.serving
+pub slot-is : (p : Parts) (w : ℕ) (on : MustGoOn p w) (slot : Option OpenCall) → slot ≡ get_or p.workers.items w slot → slot ≡ Some on.serving
 slot-is p w on slot e = get_or_read_under p.workers.items w (length p.workers.items) slot None e (omega (arith, on.between.within, on.between.tabled.places, on.between.tabled.config.workers_in_range.at_most)) refl ∙ on.is
 
-pub call-is : (p : Parts) (w : ℕ) (on : MustGoOn p w) (slot : Option Serving) (call : Call) → slot ≡ get_or p.workers.items w slot → call_in slot ≡ Some call → on.serving.call ≡ call
+pub call-is : (p : Parts) (w : ℕ) (on : MustGoOn p w) (slot : Option OpenCall) (call : Call) → slot ≡ get_or p.workers.items w slot → call_in slot ≡ Some call → on.serving.call ≡ call
 call-is p w on slot call e is = let same : Some on.serving.call ≡ Some call = sym (ap call_in (slot-is p w on slot e)) ∙ is in cc same
 
 pub called-is : (p : Parts) (w : ℕ) (on : MustGoOn p w) (call : Call) → call_in (get_or p.workers.items w None) ≡ Some call → on.serving.call ≡ call
@@ -174,11 +174,11 @@ looks-anew p w on = record on {
 }
 
 -- a task that takes no slot needs no reason
-pub none-wanted : (p : Parts) (w : ℕ) (on : MustGoOn p w) (task : Running) → wants_of task ≡ 0 → IsWanted p.config p.journal on.between.opened (wants_of task)
+pub none-wanted : (p : Parts) (w : ℕ) (on : MustGoOn p w) (task : AnyTask) → wants_of task ≡ 0 → IsWanted p.config p.journal on.between.opened (wants_of task)
 none-wanted p w on task none quiet some = absurd (omega (arith, none, some))
 
 -- a task that makes no change, for the call's key
-abbrev pub lookup-taken : (p : Parts) (w : ℕ) (on : MustGoOn p w) → MayGoOn on.serving → (task : Running) (way : Option Path) (asked : Option Todo) (key : List ℕ) → config_of task ≡ p.config → AreLaws task → makes_no_change task ≡ true → IsLookup key way task → key ≡ key_of on.serving.call
+abbrev pub lookup-taken : (p : Parts) (w : ℕ) (on : MustGoOn p w) → MayGoOn on.serving → (task : AnyTask) (way : Option Path) (asked : Option Todo) (key : List ℕ) → config_of task ≡ p.config → AreLaws task → makes_no_change task ≡ true → IsLookup key way task → key ≡ key_of on.serving.call
     → asks_of task ≡ asked → facts_of task Waiting (known p w on) → IsWanted p.config p.journal on.between.opened (wants_of task)
     → WhereLonely p.journal.past w on.serving.call (IsLonelyGet p.access p.journal.past on.between.story w (record on.serving { task = task; path = way }) on.between.opened) → MustTakeOn p w task way on.serving.had asked
 lookup-taken p w on may task way asked key config laws looks lookup same asks facts wanted lonely = record {
@@ -196,11 +196,11 @@ pub none-wanted-after : (p : Parts) (w at : ℕ) (had : HadEffect p w at) (wants
 none-wanted-after p w at had wants quiet some = let told : had.on.between.opened.effect ≡ Some at = had.on.between.call_open.effect ∙ had.effect in absurd (cc (told, quiet))
 
 -- the way by which its leaf was read since is one of its key
-pub read-way : (p : Parts) (w at : ℕ) (view : LeafView) (r : HasReadAfter p w at view) (slot : Option Serving) → slot ≡ get_or p.workers.items w slot → (way : Option Path) → way ≡ path_in slot → (path : Path) → way ≡ Some path → IsPath (key_of r.had.on.serving.call) path (known p w r.had.on).past
+pub read-way : (p : Parts) (w at : ℕ) (view : LeafView) (r : HasReadAfter p w at view) (slot : Option OpenCall) → slot ≡ get_or p.workers.items w slot → (way : Option Path) → way ≡ path_in slot → (path : Path) → way ≡ Some path → IsPath (key_of r.had.on.serving.call) path (known p w r.had.on).past
 read-way p w at view r slot e way named path is = r.leads path (ap path_in (sym (slot-is p w r.had.on slot e)) ∙ (sym named ∙ is))
 
 -- whether its leaf is copied alone is nothing to what is known
-pub said-alone : (p : Parts) (w : ℕ) (on : MustGoOn p w) → IsNotLonely p.journal.past w on.serving.call → (alone : Bool) (slot : Option Serving) → slot ≡ Some (record on.serving { alone = alone }) → MustGoOn (record p { workers = with_item p.workers w slot }) w
+pub said-alone : (p : Parts) (w : ℕ) (on : MustGoOn p w) → IsNotLonely p.journal.past w on.serving.call → (alone : Bool) (slot : Option OpenCall) → slot ≡ Some (record on.serving { alone = alone }) → MustGoOn (record p { workers = with_item p.workers w slot }) w
 unfolding between-tasks
 said-alone p w on other alone slot is = record {
   serving = record on.serving { alone = alone };
@@ -211,12 +211,12 @@ said-alone p w on other alone slot is = record {
   lonely = λ key get lonely. absurd (other key get lonely);
 }
 
-pub said-may : (p : Parts) (w : ℕ) (m : MustLookUp p w) (alone : Bool) (slot : Option Serving) → slot ≡ Some (record m.on.serving { alone = alone }) → MustLookUp (record p { workers = with_item p.workers w slot }) w
+pub said-may : (p : Parts) (w : ℕ) (m : MustLookUp p w) (alone : Bool) (slot : Option OpenCall) → slot ≡ Some (record m.on.serving { alone = alone }) → MustLookUp (record p { workers = with_item p.workers w slot }) w
 unfolding said-alone between-tasks
 said-may p w m alone slot is = record { on = said-alone p w m.on m.other alone slot is; may = m.may; other = m.other }
 
 -- nor is whether its own freeze of its leaf was the last to end
-pub said-froze : (p : Parts) (w : ℕ) (on : MustGoOn p w) → IsNotLonely p.journal.past w on.serving.call → (froze : Bool) (slot : Option Serving) → slot ≡ Some (record on.serving { froze = froze }) → MustGoOn (record p { workers = with_item p.workers w slot }) w
+pub said-froze : (p : Parts) (w : ℕ) (on : MustGoOn p w) → IsNotLonely p.journal.past w on.serving.call → (froze : Bool) (slot : Option OpenCall) → slot ≡ Some (record on.serving { froze = froze }) → MustGoOn (record p { workers = with_item p.workers w slot }) w
 unfolding between-tasks
 said-froze p w on other froze slot is = record {
   serving = record on.serving { froze = froze };
@@ -227,16 +227,16 @@ said-froze p w on other froze slot is = record {
   lonely = λ key get lonely. absurd (other key get lonely);
 }
 
-pub froze-may : (p : Parts) (w : ℕ) (m : MustLookUp p w) (froze : Bool) (slot : Option Serving) → slot ≡ Some (record m.on.serving { froze = froze }) → MustLookUp (record p { workers = with_item p.workers w slot }) w
+pub froze-may : (p : Parts) (w : ℕ) (m : MustLookUp p w) (froze : Bool) (slot : Option OpenCall) → slot ≡ Some (record m.on.serving { froze = froze }) → MustLookUp (record p { workers = with_item p.workers w slot }) w
 unfolding said-froze between-tasks
 froze-may p w m froze slot is = record { on = said-froze p w m.on m.other froze slot is; may = m.may; other = m.other }
 
-pub froze-read : (p : Parts) (w : ℕ) (path : Path) (m : MustRead p w path) (froze : Bool) (slot : Option Serving) → slot ≡ Some (record m.on.serving { froze = froze }) → MustRead (record p { workers = with_item p.workers w slot }) w path
+pub froze-read : (p : Parts) (w : ℕ) (path : Path) (m : MustRead p w path) (froze : Bool) (slot : Option OpenCall) → slot ≡ Some (record m.on.serving { froze = froze }) → MustRead (record p { workers = with_item p.workers w slot }) w path
 unfolding said-froze between-tasks
 froze-read p w path m froze slot is = record { on = said-froze p w m.on m.other froze slot is; may = m.may; leads = m.leads; other = m.other }
 
-module _ (p : Parts) (w : ℕ) (task : Running) (had : Option (List ℕ)) (asked : Option Todo) (path : Option Path) (m : MustTakeOn p w task path had asked) (slot : Option Serving) (is : slot ≡ Some (record m.on.serving { task = task; path = path; had = had })) (told : IsToldBy p.config p.journal m.on.between.opened had) where
-  abbrev pub next : Serving
+module _ (p : Parts) (w : ℕ) (task : AnyTask) (had : Option (List ℕ)) (asked : Option Todo) (path : Option Path) (m : MustTakeOn p w task path had asked) (slot : Option OpenCall) (is : slot ≡ Some (record m.on.serving { task = task; path = path; had = had })) (told : IsToldBy p.config p.journal m.on.between.opened had) where
+  abbrev pub next : OpenCall
   next = record m.on.serving { task = task; path = path; had = had }
 
   abbrev pub taken : Parts
@@ -310,24 +310,24 @@ module _ (p : Parts) (w : ℕ) (task : Running) (had : Option (List ℕ)) (asked
   }
 
 -- a task that was told something is of a call that may go on as before
-pub told-may : (old slot : Option Serving) (seen : Seen) (moment : ℕ) (free : FreeSlots) (todo : Todo) (left : FreeSlots) → HasToldIn old seen moment free todo slot left → MayGoOnIn old → MayGoOnIn slot
+pub told-may : (old slot : Option OpenCall) (seen : Seen) (moment : ℕ) (free : FreeSlots) (todo : Todo) (left : FreeSlots) → HasToldIn old seen moment free todo slot left → MayGoOnIn old → MayGoOnIn slot
 told-may (Some x) (Some y) seen moment free todo left h may = subst MayGoOn (sym h.rest) may
 told-may None slot seen moment free todo left h may = absurd may
 told-may (Some x) None seen moment free todo left h may = absurd h
 
 -- and of one that is no lonely get, or whose path was found
-pub told-other : (old slot : Option Serving) (seen : Seen) (moment : ℕ) (free : FreeSlots) (todo : Todo) (left : FreeSlots) → HasToldIn old seen moment free todo slot left → (past : List Mark) (w : ℕ) → IsNotLonelyIn past w old → IsNotLonelyIn past w slot
-told-other (Some x) (Some y) seen moment free todo left h past w other = subst (λ (z : Serving). IsNotLonely past w z.call) (sym h.rest) other
+pub told-other : (old slot : Option OpenCall) (seen : Seen) (moment : ℕ) (free : FreeSlots) (todo : Todo) (left : FreeSlots) → HasToldIn old seen moment free todo slot left → (past : List Mark) (w : ℕ) → IsNotLonelyIn past w old → IsNotLonelyIn past w slot
+told-other (Some x) (Some y) seen moment free todo left h past w other = subst (λ (z : OpenCall). IsNotLonely past w z.call) (sym h.rest) other
 told-other None slot seen moment free todo left h past w other = absurd h
 told-other (Some x) None seen moment free todo left h past w other = absurd h
 
-pub told-path : (old slot : Option Serving) (seen : Seen) (moment : ℕ) (free : FreeSlots) (todo : Todo) (left : FreeSlots) → HasToldIn old seen moment free todo slot left → path_in slot ≡ path_in old
-told-path (Some x) (Some y) seen moment free todo left h = ap (λ (z : Serving). z.path) h.rest
+pub told-path : (old slot : Option OpenCall) (seen : Seen) (moment : ℕ) (free : FreeSlots) (todo : Todo) (left : FreeSlots) → HasToldIn old seen moment free todo slot left → path_in slot ≡ path_in old
+told-path (Some x) (Some y) seen moment free todo left h = ap (λ (z : OpenCall). z.path) h.rest
 told-path None slot seen moment free todo left h = absurd h
 told-path (Some x) None seen moment free todo left h = absurd h
 
 -- and one that is told to begin is of such a call
-begins-by : (x : Serving) → MayGoOn x ⊎ HasWon x Start → MayGoOn x
+begins-by : (x : OpenCall) → MayGoOn x ⊎ HasWon x Start → MayGoOn x
 begins-by x (inl may) = may
 begins-by x (inr won) = absurd (cc won.won)
 
@@ -358,7 +358,7 @@ told-went old mid w answer new rest fewer few went = record {
 }
 
 -- or with another task, and another page on its way
-pub went-anew : (p : Parts) (workers : Vec (Option Serving)) (page : List (List ℕ × List ℕ)) (w : ℕ) (answer : Applied) (new : Parts) → WentOn (record p { workers = workers; page = page }) w answer new → WentOn p w answer new
+pub went-anew : (p : Parts) (workers : Vec (Option OpenCall)) (page : List (List ℕ × List ℕ)) (w : ℕ) (answer : Applied) (new : Parts) → WentOn (record p { workers = workers; page = page }) w answer new → WentOn p w answer new
 went-anew p workers page w answer new went = record {
   kept = went.kept;
   ends = went.ends;
@@ -372,7 +372,7 @@ went-anew p workers page w answer new went = record {
 }
 
 -- or that started something
-pub went-started : (p : Parts) (workers : Vec (Option Serving)) (w : ℕ) (new : Parts) → IsAwake new → new ≡ record p { access = new.access; owners = new.owners; workers = workers }
+pub went-started : (p : Parts) (workers : Vec (Option OpenCall)) (w : ℕ) (new : Parts) → IsAwake new → new ≡ record p { access = new.access; owners = new.owners; workers = workers }
     → (new.access.taken ≡ p.access.taken) ⊎ (new.access.taken ≡ p.access.taken + 1) → ((v : ℕ) → v ≢ w → worker_of new.access v ≡ worker_of p.access v) → WentOn p w applied.Stepped new
 went-started p workers w new kept rest taken others = record {
   kept = kept;

@@ -28,7 +28,7 @@ use Rattle.bz_world.specs.Inside.Lonely.{WhereLonely, AsksBriefly}
 use Rattle.bz_world.specs.Inside.Serving.{IsCovered, IsToldBy, IsTasked, IsSlot, IsChangeFor, NeedsAtLeast, MayGoOn}
 use Rattle.bz_world.specs.Inside.Telling.{CanHear, HasTold, HasToldIn, MustStart, KnowsWay, MustStartOf}
 use Rattle.bz_world.specs.declared.parts.Parts.{Parts}
-use Rattle.bz_world.specs.declared.serving.Serving.{Serving}
+use Rattle.bz_world.specs.declared.serving.OpenCall.{OpenCall}
 use Rattle.bz_sound.specs.Power.Times.{image_at_on}
 use Rattle.bz_world.proofs.LonelyTold.{told-lonely, took-lonely}
 use Rattle.bz_world.proofs.Powered.{begun-in}
@@ -37,24 +37,24 @@ use Rattle.bz_world.proofs.Takings.{covered-taken, may-take, no-more-free, still
 use Rattle.bz_task.specs.declared.todo.Todo.TheVariants.{Finish}
 
 -- the slot has a task that was told
-pub record IsNext (x : Serving) (seen : Seen) (moment : ℕ) (free : FreeSlots) (todo : Todo) (slot : Option Serving) (left : FreeSlots) : Type 0 where
-  pub next : Serving
+pub record IsNext (x : OpenCall) (seen : Seen) (moment : ℕ) (free : FreeSlots) (todo : Todo) (slot : Option OpenCall) (left : FreeSlots) : Type 0 where
+  pub next : OpenCall
   pub is : slot ≡ Some next
   pub told : HasTold x seen moment free todo next left
 
-next-of : (x : Serving) (seen : Seen) (moment : ℕ) (free : FreeSlots) (todo : Todo) (slot : Option Serving) (left : FreeSlots) → HasToldIn (Some x) seen moment free todo slot left → IsNext x seen moment free todo slot left
+next-of : (x : OpenCall) (seen : Seen) (moment : ℕ) (free : FreeSlots) (todo : Todo) (slot : Option OpenCall) (left : FreeSlots) → HasToldIn (Some x) seen moment free todo slot left → IsNext x seen moment free todo slot left
 next-of x seen moment free todo None left h = absurd h
 next-of x seen moment free todo (Some y) left h = record { next = y; is = refl; told = h }
 
 -- a task that has ended for want of slots found fewer than it takes in all
-pub full-rightly : (p : Parts) (w : ℕ) (seen : Seen) (m : MustTell p w seen) (moment : ℕ) (todo : Todo) (slot : Option Serving) (left : FreeSlots) → HasToldIn (Some m.serving) seen moment p.slots todo slot left → end_in slot ≡ Some (outcome.Full Nodes) → length left.free < wants_in slot
+pub full-rightly : (p : Parts) (w : ℕ) (seen : Seen) (m : MustTell p w seen) (moment : ℕ) (todo : Todo) (slot : Option OpenCall) (left : FreeSlots) → HasToldIn (Some m.serving) seen moment p.slots todo slot left → end_in slot ≡ Some (outcome.Full Nodes) → length left.free < wants_in slot
 full-rightly p w seen m moment todo slot left told ended =
     let n : IsNext m.serving seen moment p.slots todo slot left = next-of m.serving seen moment p.slots todo slot left told in
     let lacked = n.told.heard.full_nodes (sym (ap end_in n.is) ∙ ended) in
     omega (arith, lacked, m.told.tasked.laws.few, n.told.heard.wants, ap wants_in n.is, no-more-free (needs_of m.serving.task) (needs_of n.next.task) p.slots left n.told.heard.slots)
 
 module _ (scenes : ScenesAreSeen) (slots : SlotsAreTaken) (laws : LonelyLaws) (p : Parts) (w : ℕ) (seen : Seen) (m : MustTell p w seen) where
-  abbrev x : Serving
+  abbrev x : OpenCall
   x = m.serving
 
   abbrev told : IsTold p w x seen
@@ -66,7 +66,7 @@ module _ (scenes : ScenesAreSeen) (slots : SlotsAreTaken) (laws : LonelyLaws) (p
   sees : Sees p.config (told.between.story.at (length p.journal.past)) here
   sees = scenes p.config p.access p.journal told.between.story w told.between.call_open.look.since told.between.opened told.between.living (begun-in told.between.living told.between.call_open)
 
-  pub can-hear : (slot : Option Serving) → slot ≡ Some x → CanHear slot seen (length p.journal.past) p.slots
+  pub can-hear : (slot : Option OpenCall) → slot ≡ Some x → CanHear slot seen (length p.journal.past) p.slots
   can-hear slot e = subst (λ z. CanHear z seen (length p.journal.past) p.slots) (sym e) (
     told.hears,
     record {
@@ -92,9 +92,9 @@ module _ (scenes : ScenesAreSeen) (slots : SlotsAreTaken) (laws : LonelyLaws) (p
         | inr took ↦ true≢false (sym took.1 ∙ told.between.free.untaken took.0 k free)
       ])
 
-  module _ (todo : Todo) (left : FreeSlots) (y : Serving) (h : HasTold x seen (length p.journal.past) p.slots todo y left) where
+  module _ (todo : Todo) (left : FreeSlots) (y : OpenCall) (h : HasTold x seen (length p.journal.past) p.slots todo y left) where
     tasked : IsTasked p.config y.call y.path y.had y.task
-    tasked = subst (λ (z : Serving). IsTasked p.config z.call z.path z.had y.task) (sym h.rest) (record {
+    tasked = subst (λ (z : OpenCall). IsTasked p.config z.call z.path z.had y.task) (sym h.rest) (record {
       config = h.heard.config ∙ told.tasked.config;
       laws = h.laws;
       lookup = record {
@@ -134,7 +134,7 @@ module _ (scenes : ScenesAreSeen) (slots : SlotsAreTaken) (laws : LonelyLaws) (p
     other : (v : ℕ) → v ≢ w → (since : ℕ) (opened : Open) → scene p.config p.journal.past after v since opened ≡ scene p.config p.journal.past told.between.story v since opened
     other v ne since opened = slots.others p.config p.journal.past told.between.story w v since opened p.slots left ne
 
-    pub is-asking : (workers : Vec (Option Serving)) → length workers.items ≡ length p.workers.items → ((v : ℕ) → v ≢ w → get_or workers.items v None ≡ get_or p.workers.items v None) → IsAsking (record p { slots = left; workers = workers }) w y todo
+    pub is-asking : (workers : Vec (Option OpenCall)) → length workers.items ≡ length p.workers.items → ((v : ℕ) → v ≢ w → get_or workers.items v None ≡ get_or p.workers.items v None) → IsAsking (record p { slots = left; workers = workers }) w y todo
     is-asking workers size rest = record {
       between = record {
         on = told.between.on;
@@ -166,7 +166,7 @@ module _ (scenes : ScenesAreSeen) (slots : SlotsAreTaken) (laws : LonelyLaws) (p
         worker = told.between.worker;
         within = told.between.within;
         opened = told.between.opened;
-        call_open = let o = told.between.call_open in record { is_open = o.is_open; call = o.call ∙ ap (λ (z : Serving). z.call) (sym h.rest); effect = o.effect ∙ ap (λ (z : Serving). z.effect) (sym h.rest); look = o.look; told = subst (λ (z : Serving). IsToldBy p.config p.journal told.between.opened z.had) (sym h.rest) o.told; wanted = λ quiet some. subst (NeedsAtLeast p.config p.journal.start p.journal.past told.between.opened) (sym h.heard.wants) (o.wanted quiet (omega (arith, some, h.heard.wants))) };
+        call_open = let o = told.between.call_open in record { is_open = o.is_open; call = o.call ∙ ap (λ (z : OpenCall). z.call) (sym h.rest); effect = o.effect ∙ ap (λ (z : OpenCall). z.effect) (sym h.rest); look = o.look; told = subst (λ (z : OpenCall). IsToldBy p.config p.journal told.between.opened z.had) (sym h.rest) o.told; wanted = λ quiet some. subst (NeedsAtLeast p.config p.journal.start p.journal.past told.between.opened) (sym h.heard.wants) (o.wanted quiet (omega (arith, some, h.heard.wants))) };
         idle = told.between.idle;
       };
       tasked = tasked;
@@ -180,7 +180,7 @@ module _ (scenes : ScenesAreSeen) (slots : SlotsAreTaken) (laws : LonelyLaws) (p
       lonely = lonely;
     }
 
-  pub must-start : (todo : Todo) (left : FreeSlots) (old slot : Option Serving) → old ≡ Some x → HasToldIn old seen (length p.journal.past) p.slots todo slot left → MustStart (record p { slots = left; workers = with_item p.workers w slot }) w todo
+  pub must-start : (todo : Todo) (left : FreeSlots) (old slot : Option OpenCall) → old ≡ Some x → HasToldIn old seen (length p.journal.past) p.slots todo slot left → MustStart (record p { slots = left; workers = with_item p.workers w slot }) w todo
   must-start todo left old slot e h = let n = next-of x seen (length p.journal.past) p.slots todo slot left (subst (λ z. HasToldIn z seen (length p.journal.past) p.slots todo slot left) e h) in record {
     serving = n.next;
     is = get_or-set_same p.workers.items w slot None (omega (arith, told.between.within, told.between.tabled.places, told.between.tabled.config.workers_in_range.at_most)) ∙ n.is;
@@ -188,14 +188,14 @@ module _ (scenes : ScenesAreSeen) (slots : SlotsAreTaken) (laws : LonelyLaws) (p
   }
 
   -- the way to its leaf is known as before
-  pub still-knows : KnowsWay p w x told.between → (todo : Todo) (left : FreeSlots) (old slot : Option Serving) → old ≡ Some x → HasToldIn old seen (length p.journal.past) p.slots todo slot left → MustStartOf (record p { slots = left; workers = with_item p.workers w slot }) w todo
+  pub still-knows : KnowsWay p w x told.between → (todo : Todo) (left : FreeSlots) (old slot : Option OpenCall) → old ≡ Some x → HasToldIn old seen (length p.journal.past) p.slots todo slot left → MustStartOf (record p { slots = left; workers = with_item p.workers w slot }) w todo
   unfolding must-start is-asking
   still-knows k todo left old slot e h =
       let n = next-of x seen (length p.journal.past) p.slots todo slot left (subst (λ z. HasToldIn z seen (length p.journal.past) p.slots todo slot left) e h) in
       record {
         must = must-start todo left old slot e h;
         knows = record {
-          leads = λ path is. subst (λ (z : Serving). IsPath (key_of z.call) path here.past) (sym n.told.rest) (k.leads path (sym (ap (λ (z : Serving). z.path) n.told.rest) ∙ is));
-          quiet = ap (λ (z : Serving). z.effect) n.told.rest ∙ k.quiet;
+          leads = λ path is. subst (λ (z : OpenCall). IsPath (key_of z.call) path here.past) (sym n.told.rest) (k.leads path (sym (ap (λ (z : OpenCall). z.path) n.told.rest) ∙ is));
+          quiet = ap (λ (z : OpenCall). z.effect) n.told.rest ∙ k.quiet;
         };
       }

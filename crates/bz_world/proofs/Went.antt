@@ -13,21 +13,21 @@ use Rattle.bz_world.specs.Inside.Acted.{IsActed, IsTold}
 use Rattle.bz_world.specs.Inside.Kept.{IsAwake}
 use Rattle.bz_world.specs.Inside.Serving.{IsServing, IsDoing}
 use Rattle.bz_world.specs.declared.parts.Parts.{Parts}
-use Rattle.bz_world.specs.declared.serving.Serving.{Serving}
+use Rattle.bz_world.specs.declared.serving.OpenCall.{OpenCall}
 use Rattle.bz_world.specs.Inside.Laws.{StepLaws}
 use Rattle.bz_world.proofs.Quiet.{serves}
 use Rattle.bz_world.proofs.Answered.{busy-on, told-read, told-swap, told-flush}
 use Rattle.bz_world.proofs.Stored.{told-store}
 
 -- the call goes on, or its task is to be told
-abbrev pub Went : Parts → ℕ → Serving → Done → Type 0
+abbrev pub Went : Parts → ℕ → OpenCall → Done → Type 0
 Went p w x done.Busy = IsAwake p
 Went p w x (done.Read v) = IsTold p w x (seen.Read v)
 Went p w x (done.Swapped won) = IsTold p w x (seen.Swapped won)
 Went p w x done.Stored = IsTold p w x seen.Stored
 Went p w x done.Flushed = IsTold p w x seen.Flushed
 
-module _ (b : StepLaws) (old new : Parts) (w : ℕ) (x : Serving) (made : Act) (answer : Done) (k : IsAwake old) (is-worker : get_or old.workers.items w None ≡ Some x) (a : IsActed old w made answer None new) (room : length old.journal.past < old.config.marks) where
+module _ (b : StepLaws) (old new : Parts) (w : ℕ) (x : OpenCall) (made : Act) (answer : Done) (k : IsAwake old) (is-worker : get_or old.workers.items w None ≡ Some x) (a : IsActed old w made answer None new) (room : length old.journal.past < old.config.marks) where
   abbrev its : IsServing old.config old.access old.journal k.story old.owners.items w x
   its = serves old k w x is-worker
 

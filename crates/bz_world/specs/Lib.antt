@@ -1,2 +1,2 @@
-pub mod Lab
+pub mod WorldView
 pub mod Inside

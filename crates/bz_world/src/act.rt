@@ -7,11 +7,11 @@ ghost use Rattle.bz_swap.specs.declared.phase.Phase.TheVariants.{Recovering};
 ghost use Rattle.bz_sound.specs.Calls.{open_call};
 ghost use Rattle.bz_world.specs.Inside.Acted.{IsActed, MustTell, HasActed};
 ghost use Rattle.bz_world.specs.Inside.Kept.{IsAwake};
-ghost use Rattle.bz_world.specs.Lab.{mark_of as mark_in};
+ghost use Rattle.bz_world.specs.WorldView.{mark_of as mark_in};
 
 use crate::laws::step_laws;
+use crate::mark_effect::mark_effect;
 use crate::parts::Parts;
-use crate::strike::strike;
 use bz_mark::Mark;
 use bz_sight::laws as sight;
 use bz_swap::{Act, Done, Progress, laws as swap};
@@ -66,7 +66,7 @@ pub(crate) fn act(parts: &mut Parts, w: u8) -> Option<Seen>
     swap::effects_stay_inside();
     let progress = make_act(parts, w);
     if let Some(swap) = progress.effect {
-        strike(parts, swap);
+        mark_effect(parts, swap);
         return None;
     }
     match progress.done {

@@ -4,7 +4,7 @@ use bz_shape::ShapeFault;
 
 /// A limit of the journal.
 #[derive(Clone, Copy, Debug, PartialEq, Eq)]
-pub enum Which {
+pub enum LimitKind {
     Marks,
     Calls,
     Pages,
@@ -60,7 +60,7 @@ pub enum Begun {
     Recovering,
 
     /// The journal has no room.
-    Limit(Which),
+    Limit(LimitKind),
 }
 
 /// The answer to an event. `NoWorker`, `NoWord`, `Limit`, `Off`, `Powered`, `Recovering` and

@@ -1,18 +1,18 @@
 //! Begins of calls.
 ghost use Rattle.std.specs.Prelude.{◌≡◌, ◌≤◌};
-ghost use Rattle.bz_world.specs.Inside.Beginning.{pages_asked as pages_of_call, lab_of, MayBegin, IsPoweredRefusal, IsRefusal, HasBegun};
+ghost use Rattle.bz_world.specs.Inside.Beginning.{pages_asked as pages_of_call, world_view, MayBegin, IsPoweredRefusal, IsRefusal, HasBegun};
 ghost use Rattle.bz_world.specs.Inside.Kept.{IsAwake, IsKept};
-ghost use Rattle.bz_world.specs.Lab.{begin_answer, after_begin};
+ghost use Rattle.bz_world.specs.WorldView.{begin_answer, after_begin};
 
-use crate::answers::{Begun, Which};
+use crate::answers::{Begun, LimitKind};
 use crate::calls::key_of;
 use crate::laws::{end_laws, start_laws};
 use crate::parts::Parts;
-use crate::serving::Serving;
+use crate::serving::OpenCall;
 use bz_call::Call;
 use bz_layout::ROOT_STATUS_AT;
 use bz_mark::Mark;
-use bz_running::Running;
+use bz_running::AnyTask;
 use bz_sound::Power;
 
 // How many pages a call asks for.
@@ -35,10 +35,10 @@ fn powered_refusal(parts: &Parts, w: u8, call: &Call) -> Option<Begun>
         return Some(Begun::Busy);
     }
     if parts.begun >= parts.config.calls {
-        return Some(Begun::Limit(Which::Calls));
+        return Some(Begun::Limit(LimitKind::Calls));
     }
     if pages_asked(call) > 0 && parts.pages_begun >= parts.config.pages {
-        return Some(Begun::Limit(Which::Pages));
+        return Some(Begun::Limit(LimitKind::Pages));
     }
     None
 }
@@ -52,7 +52,7 @@ fn refusal(parts: &Parts, w: u8, call: &Call) -> Option<Begun>
         return Some(Begun::NoWorker);
     }
     if parts.journal.room() < 3 {
-        return Some(Begun::Limit(Which::Marks));
+        return Some(Begun::Limit(LimitKind::Marks));
     }
     match parts.power {
         Power::Off => Some(Begun::Off),
@@ -70,13 +70,13 @@ fn open_call(parts: &mut Parts, w: u8, call: Call) -> u32
     end_laws();
     start_laws();
     let n = parts.numbers[w as usize] + 1;
-    let task = Running::seek(&parts.config, key_of(&call));
+    let task = AnyTask::seek(&parts.config, key_of(&call));
     task.laws();
     task.looks();
     parts.numbers[w as usize] = n;
     parts.begun += 1;
     parts.pages_begun += pages_asked(&call);
-    parts.workers[w as usize] = Some(Serving {
+    parts.workers[w as usize] = Some(OpenCall {
         call,
         task,
         path: None,
@@ -94,8 +94,8 @@ fn open_call(parts: &mut Parts, w: u8, call: Call) -> u32
 pub(crate) fn begin(parts: &mut Parts, w: u8, call: Call) -> Begun
     requires { IsKept parts.old }
     ensures kept { IsKept parts.new }
-    ensures answer { result ≡ begin_answer (lab_of parts.old) w call }
-    ensures after { lab_of parts.new ≡ after_begin (lab_of parts.old) w call result }
+    ensures answer { result ≡ begin_answer (world_view parts.old) w call }
+    ensures after { world_view parts.new ≡ after_begin (world_view parts.old) w call result }
 {
     match refusal(parts, w, &call) {
         Some(refusal) => refusal,

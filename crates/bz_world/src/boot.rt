@@ -5,9 +5,9 @@ ghost use Rattle.bz_content.specs.Content.{image_fault};
 ghost use Rattle.bz_layout.specs.Addresses.{words_of};
 ghost use Rattle.bz_layout.specs.Config.{IsConfig};
 ghost use Rattle.bz_sound.specs.Memory.Moments.{map_at_start};
-ghost use Rattle.bz_world.specs.Inside.Beginning.{lab_of};
+ghost use Rattle.bz_world.specs.Inside.Beginning.{world_view};
 ghost use Rattle.bz_world.specs.Inside.Kept.{IsKept};
-ghost use Rattle.bz_world.specs.Lab.{IsBootFault, image_lab};
+ghost use Rattle.bz_world.specs.WorldView.{IsBootFault, image_view};
 
 use crate::answers::BootError;
 use crate::open::parts_over;
@@ -37,7 +37,7 @@ fn image_parts(alloc: Global, config: &Config, image: &[u64]) -> Result<Parts, M
     requires whole { length image.now ≡ words_of config.now }
     requires form { image_fault config.now (slice_index image.now) ≡ None }
     ensures kept { IfOk result IsKept }
-    ensures lab { IfOk result (λ parts. lab_of parts ≡ image_lab config.now image.now) }
+    ensures lab { IfOk result (λ parts. world_view parts ≡ image_view config.now image.now) }
 {
     bz_sound::power_laws::fresh_journals_are_sound();
     bz_story::recovery_laws::images_open_journals();
@@ -51,7 +51,7 @@ fn image_parts(alloc: Global, config: &Config, image: &[u64]) -> Result<Parts, M
 pub(crate) fn boot_parts(alloc: Global, config: &Config, image: &[u64]) -> Result<Parts, BootError>
     requires { IsConfig config.now → length image.now ≡ words_of config.now }
     ensures kept { IfOk result IsKept }
-    ensures ok { IfOk result (λ parts. lab_of parts ≡ image_lab config.now image.now) }
+    ensures ok { IfOk result (λ parts. world_view parts ≡ image_view config.now image.now) }
     ensures config { OnOk result (IsConfig config.now) }
     ensures form { OnOk result (image_fault config.now (slice_index image.now) ≡ None) }
     ensures err { IfErr result (IsBootFault config.now image.now) }

@@ -5,11 +5,11 @@ ghost use Rattle.bz_sound.specs.Memory.Replies.{IsWrite};
 ghost use Rattle.bz_task.specs.declared.todo.Todo.TheVariants.{Finish};
 ghost use Rattle.bz_world.specs.Inside.Going.{call_in, end_in, asks_in, path_in as way_in, had_in as payload_in, effect_in as moment_in, froze_in, CanGoUpIn, GoesUpIn, with_task, with_change, with_alone, with_froze};
 
-use crate::serving::Serving;
+use crate::serving::OpenCall;
 use bz_call::Call;
 use bz_key::{Key, Payload};
 use bz_layout::Config;
-use bz_running::Running;
+use bz_running::AnyTask;
 use bz_task::{Outcome, Path, Task};
 
 /// The key of a call.
@@ -37,7 +37,7 @@ pub(crate) fn is_write(call: &Call) -> bool
 }
 
 /// The call that is served.
-pub(crate) fn called(slot: &Option<Serving>) -> Call
+pub(crate) fn called(slot: &Option<OpenCall>) -> Call
     requires { IsSome slot.now }
     ensures { call_in slot.now ≡ Some result }
 {
@@ -48,7 +48,7 @@ pub(crate) fn called(slot: &Option<Serving>) -> Call
 }
 
 /// How its task has ended, if it has.
-pub(crate) fn ended_in(slot: &Option<Serving>) -> Option<Outcome>
+pub(crate) fn ended_in(slot: &Option<OpenCall>) -> Option<Outcome>
     ensures end { result ≡ end_in slot.now }
     ensures finish { asks_in slot.now ≡ Some Finish → IsSome result }
 {
@@ -59,7 +59,7 @@ pub(crate) fn ended_in(slot: &Option<Serving>) -> Option<Outcome>
 }
 
 /// The way to its leaf, if it was found.
-pub(crate) fn path_in(slot: &Option<Serving>) -> Option<Path>
+pub(crate) fn path_in(slot: &Option<OpenCall>) -> Option<Path>
     ensures { result ≡ way_in slot.now }
 {
     match slot {
@@ -69,7 +69,7 @@ pub(crate) fn path_in(slot: &Option<Serving>) -> Option<Path>
 }
 
 /// What its key had when its change was begun.
-pub(crate) fn had_in(slot: &Option<Serving>) -> Option<Payload>
+pub(crate) fn had_in(slot: &Option<OpenCall>) -> Option<Payload>
     ensures { result ≡ payload_in slot.now }
 {
     match slot {
@@ -79,7 +79,7 @@ pub(crate) fn had_in(slot: &Option<Serving>) -> Option<Payload>
 }
 
 /// The split of the node above, where its split lacked the room there.
-pub(crate) fn above(slot: &Option<Serving>, config: &Config) -> Option<Running>
+pub(crate) fn above(slot: &Option<OpenCall>, config: &Config) -> Option<AnyTask>
     requires { CanGoUpIn slot.now config.now }
     ensures { IfSome result (GoesUpIn slot.now) }
 {
@@ -90,7 +90,7 @@ pub(crate) fn above(slot: &Option<Serving>, config: &Config) -> Option<Running>
 }
 
 /// The moment before its effect, if it has had one.
-pub(crate) fn effect_in(slot: &Option<Serving>) -> Option<u32>
+pub(crate) fn effect_in(slot: &Option<OpenCall>) -> Option<u32>
     ensures { result ≡ moment_in slot.now }
 {
     match slot {
@@ -100,7 +100,7 @@ pub(crate) fn effect_in(slot: &Option<Serving>) -> Option<u32>
 }
 
 /// Whether its leaf is to be copied alone.
-pub(crate) fn is_alone(slot: &Option<Serving>) -> bool {
+pub(crate) fn is_alone(slot: &Option<OpenCall>) -> bool {
     match slot {
         Some(serving) => serving.alone,
         None => false,
@@ -108,7 +108,7 @@ pub(crate) fn is_alone(slot: &Option<Serving>) -> bool {
 }
 
 /// Whether its own freeze of its leaf was the last to end.
-pub(crate) fn has_frozen(slot: &Option<Serving>) -> bool
+pub(crate) fn has_frozen(slot: &Option<OpenCall>) -> bool
     ensures { result ≡ froze_in slot.now }
 {
     match slot {
@@ -118,23 +118,23 @@ pub(crate) fn has_frozen(slot: &Option<Serving>) -> bool
 }
 
 /// Whether its task freezes its leaf.
-pub(crate) fn is_freezing(slot: &Option<Serving>) -> bool {
+pub(crate) fn is_freezing(slot: &Option<OpenCall>) -> bool {
     match slot {
-        Some(serving) => matches!(serving.task, Running::Freezing(_)),
+        Some(serving) => matches!(serving.task, AnyTask::Freezing(_)),
         None => false,
     }
 }
 
 /// Whether its task merges its leaf.
-pub(crate) fn is_merging(slot: &Option<Serving>) -> bool {
+pub(crate) fn is_merging(slot: &Option<OpenCall>) -> bool {
     match slot {
-        Some(serving) => matches!(serving.task, Running::Merging(_)),
+        Some(serving) => matches!(serving.task, AnyTask::Merging(_)),
         None => false,
     }
 }
 
 /// Whether its task is a delete that leaves so little in its leaf, below a parent, that this may be merged.
-pub(crate) fn leaves_few(slot: &Option<Serving>) -> bool {
+pub(crate) fn leaves_few(slot: &Option<OpenCall>) -> bool {
     match slot {
         Some(serving) => is_deep(&serving.path) && serving.task.leaves_few(),
         None => false,
@@ -150,7 +150,7 @@ fn is_deep(path: &Option<Path>) -> bool {
 }
 
 /// Says whether its leaf is to be copied alone.
-pub(crate) fn set_alone(slot: &mut Option<Serving>, alone: bool)
+pub(crate) fn set_alone(slot: &mut Option<OpenCall>, alone: bool)
     ensures { slot.new ≡ with_alone slot.old alone }
 {
     if let Some(serving) = slot {
@@ -159,7 +159,7 @@ pub(crate) fn set_alone(slot: &mut Option<Serving>, alone: bool)
 }
 
 /// Says whether its own freeze of its leaf was the last to end.
-pub(crate) fn set_froze(slot: &mut Option<Serving>, froze: bool)
+pub(crate) fn set_froze(slot: &mut Option<OpenCall>, froze: bool)
     ensures { slot.new ≡ with_froze slot.old froze }
 {
     if let Some(serving) = slot {
@@ -168,7 +168,7 @@ pub(crate) fn set_froze(slot: &mut Option<Serving>, froze: bool)
 }
 
 /// Gives it a lookup.
-pub(crate) fn set_task(slot: &mut Option<Serving>, task: Running, path: Option<Path>)
+pub(crate) fn set_task(slot: &mut Option<OpenCall>, task: AnyTask, path: Option<Path>)
     ensures { slot.new ≡ with_task slot.old task path }
 {
     if let Some(serving) = slot {
@@ -178,7 +178,7 @@ pub(crate) fn set_task(slot: &mut Option<Serving>, task: Running, path: Option<P
 }
 
 /// Gives it the task that makes its change, where its key had this payload, or none.
-pub(crate) fn set_change(slot: &mut Option<Serving>, task: Running, had: Option<Payload>)
+pub(crate) fn set_change(slot: &mut Option<OpenCall>, task: AnyTask, had: Option<Payload>)
     ensures { slot.new ≡ with_change slot.old task had }
 {
     if let Some(serving) = slot {

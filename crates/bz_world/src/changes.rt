@@ -14,15 +14,15 @@ use crate::going::{go_on, look_up};
 use crate::laws::{answer_laws, start_laws};
 use crate::lookups::read_leaf;
 use crate::parts::Parts;
-use crate::serving::Serving;
+use crate::serving::OpenCall;
 use crate::tell::tell;
 use bz_call::Reply;
 use bz_key::{Key, Payload};
-use bz_running::Running;
+use bz_running::AnyTask;
 use bz_task::{KeyView, Outcome, Seen, Todo};
 
 // Whether a task ended because its leaf is frozen or lacks the words.
-fn needs_room(slot: &Option<Serving>) -> bool
+fn needs_room(slot: &Option<OpenCall>) -> bool
     ensures { result ≡ true → end_in slot.now ≡ Some NeedsRoom }
 {
     match ended_in(slot) {
@@ -58,7 +58,7 @@ fn go_on_changing(parts: &mut Parts, w: u8, todo: Todo) -> Applied
 }
 
 // Begins a change, by this task.
-fn begin_change(parts: &mut Parts, w: u8, had: Option<Payload>, task: Running) -> Applied
+fn begin_change(parts: &mut Parts, w: u8, had: Option<Payload>, task: AnyTask) -> Applied
     requires change { MustChange parts.old w had task }
     requires room { length parts.old.journal.past < parts.old.config.marks }
     ensures { WentOn parts.old w result parts.new }
@@ -79,7 +79,7 @@ fn insert(parts: &mut Parts, w: u8, view: &KeyView, key: Key, payload: Payload) 
     let Some(path) = path_in(&parts.workers[w as usize]) else {
         return look_up(parts, w);
     };
-    let task = Running::insert(&parts.config, path, *view, key, payload);
+    let task = AnyTask::insert(&parts.config, path, *view, key, payload);
     task.laws();
     begin_change(parts, w, None, task)
 }
@@ -102,7 +102,7 @@ fn update(
     let Some(path) = path_in(&parts.workers[w as usize]) else {
         return look_up(parts, w);
     };
-    let task = Running::update(&parts.config, path, *view, key, payload);
+    let task = AnyTask::update(&parts.config, path, *view, key, payload);
     task.laws();
     begin_change(parts, w, Some(had), task)
 }
@@ -118,7 +118,7 @@ fn delete(parts: &mut Parts, w: u8, view: &KeyView, key: Key, had: Payload) -> A
     let Some(path) = path_in(&parts.workers[w as usize]) else {
         return look_up(parts, w);
     };
-    let task = Running::delete(&parts.config, path, *view, key);
+    let task = AnyTask::delete(&parts.config, path, *view, key);
     task.laws();
     begin_change(parts, w, Some(had), task)
 }

@@ -17,7 +17,7 @@ use crate::tell::tell;
 use bz_call::{Call, Reply, Spent};
 use bz_key::Payload;
 use bz_layout::ROOT_STATUS_AT;
-use bz_running::Running;
+use bz_running::AnyTask;
 use bz_task::{Outcome, Seen, Todo};
 
 /// Begins the lookup of the call's key, again.
@@ -28,7 +28,7 @@ pub(crate) fn look_up(parts: &mut Parts, w: u8) -> Applied
 {
     start_laws();
     let call = called(&parts.workers[w as usize]);
-    let task = Running::seek(&parts.config, key_of(&call));
+    let task = AnyTask::seek(&parts.config, key_of(&call));
     task.laws();
     set_task(&mut parts.workers[w as usize], task, None);
     start(parts, w, Todo::Read(ROOT_STATUS_AT));

@@ -7,7 +7,7 @@ use crate::calls::{called, key_of, set_froze, set_task};
 use crate::going::begin_task;
 use crate::laws::start_laws;
 use crate::parts::Parts;
-use bz_running::Running;
+use bz_running::AnyTask;
 use bz_task::Path;
 
 /// Reads the leaf whole.
@@ -18,7 +18,7 @@ pub(crate) fn read_leaf(parts: &mut Parts, w: u8, path: Path) -> Applied
 {
     start_laws();
     let call = called(&parts.workers[w as usize]);
-    let task = Running::read_leaf(&parts.config, path, key_of(&call));
+    let task = AnyTask::read_leaf(&parts.config, path, key_of(&call));
     task.laws();
     set_task(&mut parts.workers[w as usize], task, Some(path));
     begin_task(parts, w)

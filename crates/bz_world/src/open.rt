@@ -4,14 +4,14 @@ ghost use Rattle.std.specs.FinMap.{len};
 ghost use Rattle.bz_layout.specs.Config.{IsConfig};
 ghost use Rattle.bz_layout.specs.Addresses.{words_of};
 ghost use Rattle.bz_sound.specs.Memory.Moments.{map_at_start};
-ghost use Rattle.bz_world.specs.Inside.Beginning.{lab_of};
+ghost use Rattle.bz_world.specs.Inside.Beginning.{world_view};
 ghost use Rattle.bz_world.specs.Inside.Kept.{IsKept};
-ghost use Rattle.bz_world.specs.Lab.{IsOpenFault, new_lab};
+ghost use Rattle.bz_world.specs.WorldView.{IsOpenFault, new_view};
 ghost use Rattle.bz_world.specs.Inside.Opening.{fresh_slots, IsMadeOver};
 
 use crate::answers::OpenError;
 use crate::parts::Parts;
-use crate::serving::Serving;
+use crate::serving::OpenCall;
 use arrayvec::ArrayVec;
 use bz_key::PageBuf;
 use bz_layout::{Config, Slots};
@@ -84,7 +84,7 @@ fn fresh_parts(alloc: Global, config: &Config) -> Result<Parts, Memory>
     requires { IsConfig config.now }
     ensures kept { IfOk result IsKept }
     ensures slots { IfOk result (λ parts. parts.slots ≡ fresh_slots config.now) }
-    ensures lab { IfOk result (λ parts. lab_of parts ≡ new_lab config.now) }
+    ensures lab { IfOk result (λ parts. world_view parts ≡ new_view config.now) }
 {
     bz_layout::fresh_words_say();
     bz_content::laws::fresh_memory_is_empty();
@@ -101,7 +101,7 @@ fn fresh_parts(alloc: Global, config: &Config) -> Result<Parts, Memory>
 
 /// A world over fresh memory, in which nothing has happened.
 pub(crate) fn open_parts(alloc: Global, config: &Config) -> Result<Parts, OpenError>
-    ensures ok { IfOk result (λ parts. lab_of parts ≡ new_lab config.now) }
+    ensures ok { IfOk result (λ parts. world_view parts ≡ new_view config.now) }
     ensures slots { IfOk result (λ parts. parts.slots ≡ fresh_slots config.now) }
     ensures kept { IfOk result IsKept }
     ensures err { IfErr result (IsOpenFault config.now) }

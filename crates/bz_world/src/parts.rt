@@ -1,5 +1,5 @@
 //! What a world is made of.
-use crate::serving::Serving;
+use crate::serving::OpenCall;
 use arrayvec::ArrayVec;
 use bz_key::PageBuf;
 use bz_layout::{Config, Slots};
@@ -21,7 +21,7 @@ pub(crate) struct Parts {
     /// What worker 0 does while the power is recovering.
     pub recovery: Recover,
     /// The open call of each worker, from worker 0 on.
-    pub workers: Vec<Option<Serving>>,
+    pub workers: Vec<Option<OpenCall>>,
     /// The worker of each swap, by its number.
     pub owners: Vec<u8>,
     /// The number of each worker's last call.

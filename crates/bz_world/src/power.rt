@@ -2,16 +2,16 @@
 ghost use Rattle.std.specs.Prelude.{◌≡◌, ◌≤◌, ◌<◌, ◌+◌, ℕ, IsTrue, ◌↔◌, None, get_or, length, map};
 ghost use Rattle.bz_sound.specs.declared.power.Power.TheVariants as power;
 ghost use Rattle.bz_swap.specs.SwapMemory.{Working};
-ghost use Rattle.bz_world.specs.Inside.Beginning.{lab_of};
+ghost use Rattle.bz_world.specs.Inside.Beginning.{world_view};
 ghost use Rattle.bz_world.specs.Inside.Kept.{IsOff, IsStarted, IsKept};
 ghost use Rattle.bz_world.specs.Inside.Powering.{IsCut};
-ghost use Rattle.bz_world.specs.Lab.{IsApplied, after_on};
+ghost use Rattle.bz_world.specs.WorldView.{IsApplied, after_on};
 ghost use Rattle.bz_world.specs.declared.answers.Event.TheVariants as event;
 
 use crate::answers::Applied;
 use crate::parts::Parts;
 use crate::recovery::start_act;
-use crate::serving::Serving;
+use crate::serving::OpenCall;
 use arrayvec::ArrayVec;
 use bz_mark::Mark;
 use bz_recover::Recover;
@@ -31,7 +31,7 @@ fn is_off(state: Power) -> bool
 }
 
 // Drops the calls of all workers.
-fn drop_calls(workers: &mut Vec<Option<Serving>>)
+fn drop_calls(workers: &mut Vec<Option<OpenCall>>)
     ensures size { length workers.new.items ≡ length workers.old.items }
     ensures none { (w : ℕ) → get_or workers.new.items w None ≡ None }
 {
@@ -73,7 +73,7 @@ fn make_cut(parts: &mut Parts)
 pub(crate) fn cut(parts: &mut Parts) -> Applied
     requires { IsKept parts.old }
     ensures kept { IsKept parts.new }
-    ensures applied { IsApplied (lab_of parts.old) event.Cut result (lab_of parts.new) }
+    ensures applied { IsApplied (world_view parts.old) event.Cut result (world_view parts.new) }
 {
     sound::cuts_follow();
     sound::power_tells_what_follows();
@@ -95,7 +95,7 @@ fn turn_on(parts: &mut Parts)
     requires room { length parts.old.journal.past + 3 ≤ parts.old.config.marks }
     ensures started { IsStarted parts.new }
     ensures power { parts.new.power ≡ power.Recovering }
-    ensures after { lab_of parts.new ≡ after_on (lab_of parts.old) }
+    ensures after { world_view parts.new ≡ after_on (world_view parts.old) }
 {
     sound::ons_follow();
     sound::power_tells_what_follows();
@@ -113,7 +113,7 @@ fn turn_on(parts: &mut Parts)
 pub(crate) fn power_on(parts: &mut Parts) -> Applied
     requires { IsKept parts.old }
     ensures kept { IsKept parts.new }
-    ensures applied { IsApplied (lab_of parts.old) event.On result (lab_of parts.new) }
+    ensures applied { IsApplied (world_view parts.old) event.On result (world_view parts.new) }
 {
     if parts.journal.room() < 3 {
         return Applied::Limit;

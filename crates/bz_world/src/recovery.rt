@@ -8,10 +8,10 @@ ghost use Rattle.bz_story.specs.RecoveryLaws.{seen_of as seen_in};
 ghost use Rattle.bz_swap.specs.Starts.{started};
 ghost use Rattle.bz_swap.specs.SwapMemory.{Loading, worker_of};
 ghost use Rattle.bz_task.specs.declared.todo.Todo.TheVariants.{Load, Finish};
-ghost use Rattle.bz_world.specs.Inside.Beginning.{lab_of};
+ghost use Rattle.bz_world.specs.Inside.Beginning.{world_view};
 ghost use Rattle.bz_world.specs.Inside.Kept.{IsAwake, IsRecovering, IsStarted, IsKept};
 ghost use Rattle.bz_world.specs.Inside.Powering.{IsRawAct, MustWake, Wakes};
-ghost use Rattle.bz_world.specs.Lab.{step_by, StepsBy, Recovers, Evicts};
+ghost use Rattle.bz_world.specs.WorldView.{step_by, StepsBy, Recovers, Evicts};
 
 use crate::act::mark_of;
 use crate::answers::Applied;
@@ -90,7 +90,7 @@ fn recover(parts: &mut Parts) -> Applied
     requires power { parts.old.power ≡ power.Recovering }
     requires room { length parts.old.journal.past + 3 ≤ parts.old.config.marks }
     ensures kept { IsKept parts.new }
-    ensures recovers { Recovers (lab_of parts.old) result (lab_of parts.new) }
+    ensures recovers { Recovers (world_view parts.old) result (world_view parts.new) }
 {
     sound::quiet_acts_follow();
     sound::flushes_follow();
@@ -116,7 +116,7 @@ pub(crate) fn step_recovering(parts: &mut Parts, w: u8) -> Applied
     requires power { parts.old.power ≡ power.Recovering }
     requires room { length parts.old.journal.past + 3 ≤ parts.old.config.marks }
     ensures kept { IsKept parts.new }
-    ensures applied { MatchOption (step_by power.Recovering (lab_of parts.old) w) (StepsBy power.Recovering (lab_of parts.old) w result (lab_of parts.new)) (λ refusal. (result ≡ refusal) × (lab_of parts.new ≡ lab_of parts.old)) }
+    ensures applied { MatchOption (step_by power.Recovering (world_view parts.old) w) (StepsBy power.Recovering (world_view parts.old) w result (world_view parts.new)) (λ refusal. (result ≡ refusal) × (world_view parts.new ≡ world_view parts.old)) }
 {
     if w > 0 {
         return Applied::Recovering;
@@ -131,7 +131,7 @@ pub(crate) fn evict_recovering(parts: &mut Parts, a: u32)
     requires within { a < words_of parts.old.config }
     requires room { length parts.old.journal.past + 3 ≤ parts.old.config.marks }
     ensures kept { IsKept parts.new }
-    ensures evicts { Evicts (lab_of parts.old) a Applied.Evicted (lab_of parts.new) }
+    ensures evicts { Evicts (world_view parts.old) a Applied.Evicted (world_view parts.new) }
 {
     sound::quiet_acts_follow();
     sound::flushes_follow();

@@ -2,9 +2,9 @@
 ghost use Rattle.std.specs.Prelude.{◌≡◌, ◌∷◌, List, None, Some};
 ghost use Rattle.bz_call.specs.declared.replies.Reply.{Reply as Answered};
 ghost use Rattle.bz_mark.specs.declared.marks.Mark.{Mark as Marked};
-ghost use Rattle.bz_world.specs.Inside.Beginning.{lab_of};
+ghost use Rattle.bz_world.specs.Inside.Beginning.{world_view};
 ghost use Rattle.bz_world.specs.Inside.Kept.{IsKept};
-ghost use Rattle.bz_world.specs.Lab.{open_number, reply_of};
+ghost use Rattle.bz_world.specs.WorldView.{open_number, reply_of};
 
 use crate::parts::Parts;
 use bz_call::Reply;
@@ -13,7 +13,7 @@ use bz_mark::{Journal, Mark};
 /// The number of a worker's open call, if one is open.
 pub(crate) fn number_of(parts: &Parts, w: u8) -> Option<u32>
     requires { IsKept parts.now }
-    ensures { result ≡ open_number (lab_of parts.now) w }
+    ensures { result ≡ open_number (world_view parts.now) w }
 {
     bz_sound::power_laws::open_calls_are_last();
     if u32::from(w) > parts.config.workers {

@@ -11,7 +11,7 @@ use crate::laws::{answer_laws, start_laws};
 use crate::parts::Parts;
 use bz_layout::SPLIT_ABOVE;
 use bz_page::live_words;
-use bz_running::{Running, is_due_alone as is_due, is_due_below, is_due_beside};
+use bz_running::{AnyTask, is_due_alone as is_due, is_due_below, is_due_beside};
 use bz_task::{LeafView, Path};
 
 // Freezes the leaf that was read.
@@ -22,7 +22,7 @@ fn freeze(parts: &mut Parts, w: u8, path: Path, view: &LeafView) -> Applied
     ensures { WentOn parts.old w result parts.new }
 {
     start_laws();
-    let task = Running::freeze(&parts.config, path, *view);
+    let task = AnyTask::freeze(&parts.config, path, *view);
     task.laws();
     set_task(&mut parts.workers[w as usize], task, None);
     begin_task(parts, w)
@@ -36,7 +36,7 @@ fn consolidate(parts: &mut Parts, w: u8, path: Path, view: &LeafView) -> Applied
 {
     start_laws();
     answer_laws();
-    let task = Running::consolidate(&parts.config, path, *view, &mut parts.page);
+    let task = AnyTask::consolidate(&parts.config, path, *view, &mut parts.page);
     task.laws();
     set_task(&mut parts.workers[w as usize], task, None);
     begin_task(parts, w)
@@ -49,7 +49,7 @@ pub(crate) fn merge(parts: &mut Parts, w: u8, path: Path, view: &LeafView) -> Ap
     ensures { WentOn parts.old w result parts.new }
 {
     start_laws();
-    let task = Running::merge(&parts.config, path, *view);
+    let task = AnyTask::merge(&parts.config, path, *view);
     task.laws();
     set_task(&mut parts.workers[w as usize], task, None);
     begin_task(parts, w)
@@ -63,7 +63,7 @@ fn split_root(parts: &mut Parts, w: u8, path: Path, view: &LeafView) -> Applied
 {
     start_laws();
     answer_laws();
-    let task = Running::split_root(&parts.config, path, *view, &mut parts.page);
+    let task = AnyTask::split_root(&parts.config, path, *view, &mut parts.page);
     task.laws();
     set_task(&mut parts.workers[w as usize], task, None);
     begin_task(parts, w)
@@ -78,14 +78,14 @@ fn split_below(parts: &mut Parts, w: u8, path: Path, view: &LeafView) -> Applied
     start_laws();
     answer_laws();
     let call = called(&parts.workers[w as usize]);
-    let task = Running::split_below(&parts.config, path, *view, key_of(&call), &mut parts.page);
+    let task = AnyTask::split_below(&parts.config, path, *view, key_of(&call), &mut parts.page);
     task.laws();
     set_task(&mut parts.workers[w as usize], task, None);
     begin_task(parts, w)
 }
 
 /// Splits the node above the one whose split lacked the room there. Its call begins again afterwards.
-pub(crate) fn split_above(parts: &mut Parts, w: u8, task: Running) -> Applied
+pub(crate) fn split_above(parts: &mut Parts, w: u8, task: AnyTask) -> Applied
     requires up { MustGoUp parts.old w task }
     requires room { length parts.old.journal.past < parts.old.config.marks }
     ensures { WentOn parts.old w result parts.new }

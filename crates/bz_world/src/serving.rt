@@ -1,15 +1,15 @@
 //! Open calls.
 use bz_call::Call;
 use bz_key::Payload;
-use bz_running::Running;
+use bz_running::AnyTask;
 use bz_task::Path;
 
 /// A worker's open call: how far it has come.
 #[derive(Drop)]
-pub(crate) struct Serving {
+pub(crate) struct OpenCall {
     pub call: Call,
     /// What is going on for it.
-    pub task: Running,
+    pub task: AnyTask,
     /// The way to the leaf of its key, once it was found.
     pub path: Option<Path>,
     /// What its key had when its change was begun.

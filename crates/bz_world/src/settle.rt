@@ -23,7 +23,7 @@ use crate::tell::tell;
 use bz_call::{Call, Reply, Spent};
 use bz_key::Key;
 use bz_page::collect;
-use bz_running::{Running, is_due_beside as is_due};
+use bz_running::{AnyTask, is_due_beside as is_due};
 use bz_task::{KeyView, LeafView, Outcome, Path, Seen, Todo};
 
 // Answers a get by what its leaf has.
@@ -103,7 +103,7 @@ fn find_key(parts: &mut Parts, w: u8, path: Path) -> Applied
 {
     start_laws();
     let call = called(&parts.workers[w as usize]);
-    let task = Running::find(&parts.config, path, key_of(&call));
+    let task = AnyTask::find(&parts.config, path, key_of(&call));
     task.laws();
     task.looks();
     set_task(&mut parts.workers[w as usize], task, Some(path));

@@ -3,10 +3,10 @@ ghost use Rattle.std.specs.Prelude.{◌≡◌, ◌≢◌, ◌<◌, ◌≤◌, �
 ghost use Rattle.bz_layout.specs.Addresses.{words_of};
 ghost use Rattle.bz_sound.specs.Calls.{open_call};
 ghost use Rattle.bz_world.specs.Inside.Acted.{IsEvicted};
-ghost use Rattle.bz_world.specs.Inside.Beginning.{lab_of};
+ghost use Rattle.bz_world.specs.Inside.Beginning.{world_view};
 ghost use Rattle.bz_world.specs.Inside.Going.{IsFullRightly, WentOn};
 ghost use Rattle.bz_world.specs.Inside.Kept.{IsAwake, IsKept};
-ghost use Rattle.bz_world.specs.Lab.{idle_refusal, Steps, Evicts, IsApplied};
+ghost use Rattle.bz_world.specs.WorldView.{idle_refusal, Steps, Evicts, IsApplied};
 ghost use Rattle.bz_world.specs.Inside.Telling.{MustStart};
 ghost use Rattle.bz_world.specs.declared.answers.Event.TheVariants as event;
 ghost use Rattle.bz_swap.specs.declared.phase.Phase.TheVariants.{Recovering};
@@ -15,10 +15,10 @@ use crate::act::act;
 use crate::answers::Applied;
 use crate::going::go_on;
 use crate::laws::step_laws;
+use crate::mark_effect::mark_effect;
 use crate::parts::Parts;
 use crate::recovery::{evict_recovering, step_recovering};
 use crate::settle::settle;
-use crate::strike::strike;
 use crate::tell::tell;
 use bz_mark::Mark;
 use bz_sight::laws as sight;
@@ -44,7 +44,7 @@ fn step_open(parts: &mut Parts, w: u8) -> Applied
     requires open { open_call w parts.old.journal.past ≢ None }
     requires room { length parts.old.journal.past + 3 ≤ parts.old.config.marks }
     ensures kept { IsAwake parts.new }
-    ensures steps { Steps (lab_of parts.old) w result (lab_of parts.new) }
+    ensures steps { Steps (world_view parts.old) w result (world_view parts.new) }
 {
     match act(parts, w) {
         Some(seen) => {
@@ -61,7 +61,7 @@ fn step_powered(parts: &mut Parts, w: u8) -> Applied
     requires within { w ≤ parts.old.config.workers }
     requires room { length parts.old.journal.past + 3 ≤ parts.old.config.marks }
     ensures kept { IsAwake parts.new }
-    ensures applied { MatchOption (idle_refusal (lab_of parts.old) w) (Steps (lab_of parts.old) w result (lab_of parts.new)) (λ refusal. (result ≡ refusal) × (lab_of parts.new ≡ lab_of parts.old)) }
+    ensures applied { MatchOption (idle_refusal (world_view parts.old) w) (Steps (world_view parts.old) w result (world_view parts.new)) (λ refusal. (result ≡ refusal) × (world_view parts.new ≡ world_view parts.old)) }
 {
     if parts.workers[w as usize].is_none() {
         return Applied::Idle;
@@ -73,7 +73,7 @@ fn step_powered(parts: &mut Parts, w: u8) -> Applied
 pub(crate) fn step(parts: &mut Parts, w: u8) -> Applied
     requires { IsKept parts.old }
     ensures kept { IsKept parts.new }
-    ensures applied { IsApplied (lab_of parts.old) (event.Step w) result (lab_of parts.new) }
+    ensures applied { IsApplied (world_view parts.old) (event.Step w) result (world_view parts.new) }
 {
     if u32::from(w) > parts.config.workers {
         return Applied::NoWorker;
@@ -105,12 +105,12 @@ fn evict_word(parts: &mut Parts, a: u32)
     requires within { a < words_of parts.old.config }
     requires room { length parts.old.journal.past + 3 ≤ parts.old.config.marks }
     ensures kept { IsAwake parts.new }
-    ensures evicts { Evicts (lab_of parts.old) a Applied.Evicted (lab_of parts.new) }
+    ensures evicts { Evicts (world_view parts.old) a Applied.Evicted (world_view parts.new) }
 {
     step_laws();
     sight::evictions_are_seen();
     if let Some(swap) = make_eviction(parts, a) {
-        strike(parts, swap);
+        mark_effect(parts, swap);
     }
 }
 
@@ -118,7 +118,7 @@ fn evict_word(parts: &mut Parts, a: u32)
 pub(crate) fn evict(parts: &mut Parts, a: u32) -> Applied
     requires { IsKept parts.old }
     ensures kept { IsKept parts.new }
-    ensures applied { IsApplied (lab_of parts.old) (event.Evict a) result (lab_of parts.new) }
+    ensures applied { IsApplied (world_view parts.old) (event.Evict a) result (world_view parts.new) }
 {
     if a >= parts.config.words() {
         return Applied::NoWord;

@@ -6,13 +6,13 @@ ghost use Rattle.bz_world.specs.Inside.Telling.{CanHear, HasToldIn, MustStart, M
 
 use crate::laws::lonely_laws;
 use crate::parts::Parts;
-use crate::serving::Serving;
+use crate::serving::OpenCall;
 use bz_layout::Slots;
 use bz_story::laws as story;
 use bz_task::{Seen, Todo};
 
 // Tells the task of a call, if one is served.
-fn hear_task(slot: &mut Option<Serving>, seen: Seen, slots: &mut Slots, moment: u32) -> Todo
+fn hear_task(slot: &mut Option<OpenCall>, seen: Seen, slots: &mut Slots, moment: u32) -> Todo
     requires { CanHear slot.old seen moment slots.old }
     ensures { HasToldIn slot.old seen moment slots.old result slot.new slots.new }
 {

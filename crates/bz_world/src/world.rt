@@ -3,7 +3,7 @@ ghost use Rattle.std.specs.Prelude.{IsTrue, ◌↔◌, ◌≡◌, ◌≢◌, ◌
 ghost use Rattle.bz_content.specs.Content.{image_fault};
 ghost use Rattle.bz_layout.specs.Addresses.{words_of as size_of};
 ghost use Rattle.bz_layout.specs.Config.{IsConfig};
-ghost use Rattle.bz_mark.specs.WordsAfter.{words_of};
+ghost use Rattle.bz_mark.specs.WordsAfter.{words_after_marks};
 ghost use Rattle.bz_sound.specs.Calls.{open_call};
 ghost use Rattle.bz_sound.specs.declared.power.Power.TheVariants.{Recovering, On};
 ghost use Rattle.bz_sound.specs.Power.Calls.{MayAct};
@@ -33,23 +33,23 @@ pub struct World {
 }
 
 impl Model for World {
-    ghost use Rattle.bz_world.specs.Inside.Beginning.{lab_of};
-    ghost use Rattle.bz_world.specs.Lab.{Lab};
+    ghost use Rattle.bz_world.specs.Inside.Beginning.{world_view};
+    ghost use Rattle.bz_world.specs.WorldView.{WorldView};
     ghost use Rattle.bz_world.specs.Inside.Kept.{IsKept};
 
-    ghost Value = { Lab };
+    ghost Value = { WorldView };
 
-    ghost view = { λ w. lab_of w.parts };
+    ghost view = { λ w. world_view w.parts };
 
     ghost invariant = { λ w. IsKept w.parts };
 }
 
 impl World {
-    ghost use Rattle.bz_world.specs.Lab.{Lab, IsWorker, new_lab, image_lab, IsOpenFault, IsBootFault, power_in, begin_answer, after_begin, flush_of, open_number, reply_of, pairs_in, recovery_acts, recovery_most, AreFinishing, IsApplied};
+    ghost use Rattle.bz_world.specs.WorldView.{WorldView, IsWorker, new_view, image_view, IsOpenFault, IsBootFault, power_in, begin_answer, after_begin, flush_of, open_number, reply_of, pairs_in, recovery_acts, recovery_most, AreFinishing, IsApplied};
 
     /// A world over fresh memory, in which nothing has happened.
     pub fn open(alloc: Global, config: &Config) -> Result<World, OpenError>
-        ensures ok { IfOk result (λ world. world ≡ new_lab config.now) }
+        ensures ok { IfOk result (λ world. world ≡ new_view config.now) }
         ensures config { OnOk result (IsConfig config.now) }
         ensures err { IfErr result (IsOpenFault config.now) }
     {
@@ -61,7 +61,7 @@ impl World {
     /// it. The image is refused by the first rule that it breaks, once the numbers are in their ranges.
     pub fn boot(alloc: Global, config: &Config, image: &[u64]) -> Result<World, BootError>
         requires { IsConfig config.now → length image.now ≡ size_of config.now }
-        ensures ok { IfOk result (λ world. world ≡ image_lab config.now image.now) }
+        ensures ok { IfOk result (λ world. world ≡ image_view config.now image.now) }
         ensures config { OnOk result (IsConfig config.now) }
         ensures form { OnOk result (image_fault config.now (slice_index image.now) ≡ None) }
         ensures err { IfErr result (IsBootFault config.now image.now) }
@@ -175,7 +175,7 @@ impl World {
     /// The cached word at an address: what the journal's marks make of it.
     pub fn cached(&self, a: u32) -> u64
         requires { a < size_of self.now.config }
-        ensures { result ≡ slice_index (words_of self.now.log.start self.now.log.past).cached a }
+        ensures { result ≡ slice_index (words_after_marks self.now.log.start self.now.log.past).cached a }
     {
         self.parts.access.cached(a)
     }
@@ -183,7 +183,7 @@ impl World {
     /// Whether a power cut would change the word at an address.
     pub fn differs(&self, a: u32) -> bool
         requires { a < size_of self.now.config }
-        ensures { IsTrue result ↔ (slice_index (words_of self.now.log.start self.now.log.past).cached a ≢ slice_index (words_of self.now.log.start self.now.log.past).durable a) }
+        ensures { IsTrue result ↔ (slice_index (words_after_marks self.now.log.start self.now.log.past).cached a ≢ slice_index (words_after_marks self.now.log.start self.now.log.past).durable a) }
     {
         self.parts.access.cached(a) != self.parts.access.durable(a)
     }
@@ -191,7 +191,7 @@ impl World {
     /// The durable word at an address: what a power cut would leave.
     pub fn durable(&self, a: u32) -> u64
         requires { a < size_of self.now.config }
-        ensures { result ≡ slice_index (words_of self.now.log.start self.now.log.past).durable a }
+        ensures { result ≡ slice_index (words_after_marks self.now.log.start self.now.log.past).durable a }
     {
         self.parts.access.durable(a)
     }

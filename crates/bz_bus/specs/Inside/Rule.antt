@@ -62,8 +62,8 @@ module _ {E F : Type 0} where
   abbrev pub Full : List E → List (View E F) → Type 0
   Full whole vs = Has vs (λ v. IsLive v × (v.seen ≡ whole))
 
-abbrev pub words_of : ℕ → ℕ → ℕ → List ℕ
-words_of served waiting count = ((served + waiting) % 2 ^ 64) ∷ (served % 2 ^ 64) ∷ count ∷ []
+abbrev pub table_words : ℕ → ℕ → ℕ → List ℕ
+table_words served waiting count = ((served + waiting) % 2 ^ 64) ∷ (served % 2 ^ 64) ∷ count ∷ []
 
 module _ {T E F : Type 0} (entries : T → List E) (fixed : T → F) where
   -- what the slot has
@@ -79,7 +79,7 @@ module _ {T E F : Type 0} (entries : T → List E) (fixed : T → F) where
     pub whole : List E
     pub free : List Bool
     pub place : Place
-    pub words : s.words ≡ words_of served (length line) (length whole)
+    pub words : s.words ≡ table_words served (length line) (length whole)
     pub slot : Lies s.homes s.views served whole (fixed key) place
     pub stands : Each s.views (Stands served line whole place)
     pub sees : Each s.views (Sees owner whole free (fixed key))

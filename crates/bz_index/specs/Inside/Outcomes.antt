@@ -15,13 +15,13 @@ use Rattle.bz_index.specs.declared.shared.Origin.{Origin}
 use Rattle.bz_mark.specs.Log.{Log, count_page_ends}
 use Rattle.bz_mark.specs.declared.marks.Mark.{Mark}
 use Rattle.bz_mark.specs.declared.marks.Mark.TheVariants.{End}
-use Rattle.bz_world.specs.Lab.{is_short}
+use Rattle.bz_world.specs.WorldView.{is_short}
 use Rattle.bz_world.specs.declared.answers.Applied.{Applied}
 use Rattle.bz_world.specs.declared.answers.Applied.TheVariants as applied
 use Rattle.bz_world.specs.declared.answers.Event.TheVariants as event
 use Rattle.bz_world.specs.declared.answers.Begun.{Begun}
 use Rattle.bz_world.specs.declared.answers.Begun.TheVariants as begun
-use Rattle.bz_world.specs.declared.answers.Which.TheVariants as which
+use Rattle.bz_world.specs.declared.answers.LimitKind.TheVariants as which
 
 -- the newest entry is an End with this reply, and if it names a page this is it
 abbrev pub EndsWith : List IndexEntry → Reply → List (List ℕ × List ℕ) → Type 0

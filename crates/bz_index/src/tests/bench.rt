@@ -8,7 +8,7 @@ use bz_call::Reply;
 use bz_key::{Key, Payload};
 use bz_layout::Config;
 use bz_memory::Memory;
-use bz_world::{Applied, Event, OpenError, Which, World};
+use bz_world::{Applied, Event, LimitKind, OpenError, World};
 use std::alloc::Global;
 use std::process::Abort;
 use std::sync::Wait;
@@ -124,8 +124,8 @@ pub(crate) fn short(answer: &Answer) -> Said {
         Answer::Reply(reply) => said_by(reply),
         Answer::Off => Said::Off,
         Answer::Recovering => Said::Recovering,
-        Answer::Limit(Which::Marks) => Said::Marks,
-        Answer::Limit(Which::Calls) => Said::Calls,
-        Answer::Limit(Which::Pages) => Said::Pages,
+        Answer::Limit(LimitKind::Marks) => Said::Marks,
+        Answer::Limit(LimitKind::Calls) => Said::Calls,
+        Answer::Limit(LimitKind::Pages) => Said::Pages,
     }
 }

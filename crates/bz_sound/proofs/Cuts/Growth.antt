@@ -4,7 +4,7 @@ use Rattle.bz_layout.specs.declared.config.Config.{Config}
 use Rattle.bz_content.specs.Laws.{WellFormedImagesHaveNoFault, MapIsTheContent}
 use Rattle.bz_call.specs.Pages.{names_page}
 use Rattle.bz_mark.specs.Log.{Log, with_mark, count_page_ends}
-use Rattle.bz_mark.specs.WordsAfter.{words_of, Found}
+use Rattle.bz_mark.specs.WordsAfter.{words_after_marks, Found}
 use Rattle.bz_mark.specs.declared.marks.Mark.{Mark}
 use Rattle.bz_mark.specs.declared.marks.Mark.TheVariants.{Begin, End, Load, Store, Cas, Flush, Evict, Cut, On, Ready, Effect}
 use Rattle.bz_sound.specs.declared.power.Power.{Power}
@@ -28,7 +28,7 @@ pub decodes-now : (c : Config) (at_start : Power) (log : Log) → IsSound c at_s
 decodes-now c at_start log sound = holds-now (Decodes c log.start) log.past sound.durable
 
 -- a mark that names no page
-pub grown : (c : Config) (at_start : Power) (log : Log) (mark : Mark) → IsSound c at_start log → Found (words_of log.start log.past) mark
+pub grown : (c : Config) (at_start : Power) (log : Log) (mark : Mark) → IsSound c at_start log → Found (words_after_marks log.start log.past) mark
     → MayFollow at_start (map_at_start c log.start) log.past mark → HasRightReply c log.start log.pages log.past mark
     → count_page_ends (mark ∷ log.past) ≡ count_page_ends log.past → Decodes c log.start (mark ∷ log.past) → IsSound c at_start (with_mark log mark)
 grown c at_start log mark sound found follows right pages decodes = record {
@@ -93,7 +93,7 @@ page-ends c at_start log answer pairs sound is paged right = record {
 }
 
 -- a flush or an eviction with the Effect of a call
-with-effect : (c : Config) (at_start : Power) (log : Log) (mark : Mark) (w n : ℕ) → IsSound c at_start log → Found (words_of log.start log.past) mark
+with-effect : (c : Config) (at_start : Power) (log : Log) (mark : Mark) (w n : ℕ) → IsSound c at_start log → Found (words_after_marks log.start log.past) mark
     → MayFollow at_start (map_at_start c log.start) log.past mark → HasRightReply c log.start log.pages log.past mark → count_page_ends (mark ∷ log.past) ≡ count_page_ends log.past
     → MayFollow at_start (map_at_start c log.start) (mark ∷ log.past) (Effect w n) → Decodes c log.start (Effect w n ∷ mark ∷ log.past)
     → IsSound c at_start (with_mark (with_mark log mark) (Effect w n))

@@ -7,7 +7,7 @@ use Rattle.bz_call.specs.declared.replies.Spent.{Spent}
 use Rattle.bz_mark.specs.Log.{Log, with_mark, count_page_ends}
 use Rattle.bz_mark.proofs.MomentLaws.{mark_at-newest}
 use Rattle.bz_mark.specs.Moments.{IsInner, mark_at}
-use Rattle.bz_mark.specs.WordsAfter.{words_of, Found}
+use Rattle.bz_mark.specs.WordsAfter.{words_after_marks, Found}
 use Rattle.bz_mark.specs.declared.marks.Mark.{Mark}
 use Rattle.bz_mark.specs.declared.marks.Mark.TheVariants.{Begin, End, Load, Store, Cas, Flush, Evict, Effect}
 use Rattle.bz_sound.specs.Calls.{Open, open_call}
@@ -25,7 +25,7 @@ pub decodes-now : (c : Config) (log : Log) → IsSound c log → Decodes c log.s
 decodes-now c log sound = holds-now (Decodes c log.start) log.past sound.durable
 
 -- a mark that names no page
-grown : (c : Config) (log : Log) (mark : Mark) → IsSound c log → Found (words_of log.start log.past) mark → MayFollow (map_at_start c log.start) log.past mark
+grown : (c : Config) (log : Log) (mark : Mark) → IsSound c log → Found (words_after_marks log.start log.past) mark → MayFollow (map_at_start c log.start) log.past mark
     → HasRightReply c log.start log.pages log.past mark → count_page_ends (mark ∷ log.past) ≡ count_page_ends log.past → Decodes c log.start (mark ∷ log.past)
     → IsSound c (with_mark log mark)
 grown c log mark sound found follows right pages decodes = record {
@@ -91,7 +91,7 @@ inner-effect w n mark past =
     (omega arith, (w, n, subst (λ (k : ℕ). mark_at k (Effect w n ∷ mark ∷ past) ≡ Some (Effect w n)) next (mark_at-newest (Effect w n) (mark ∷ past))))
 
 -- a flush or an eviction with the Effect of a call
-with-effect : (c : Config) (log : Log) (mark : Mark) (w n : ℕ) → IsSound c log → Found (words_of log.start log.past) mark → MayFollow (map_at_start c log.start) log.past mark
+with-effect : (c : Config) (log : Log) (mark : Mark) (w n : ℕ) → IsSound c log → Found (words_after_marks log.start log.past) mark → MayFollow (map_at_start c log.start) log.past mark
     → HasRightReply c log.start log.pages log.past mark → count_page_ends (mark ∷ log.past) ≡ count_page_ends log.past
     → MayFollow (map_at_start c log.start) (mark ∷ log.past) (Effect w n) → Decodes c log.start (Effect w n ∷ mark ∷ log.past)
     → IsSound c (with_mark (with_mark log mark) (Effect w n))

@@ -7,7 +7,7 @@ use Rattle.bz_call.specs.Pages.{names_page}
 use Rattle.bz_call.specs.declared.calls.Call.{Call}
 use Rattle.bz_mark.specs.Log.{Log, Limits, with_mark, with_page}
 use Rattle.bz_mark.specs.Moments.{at_moment}
-use Rattle.bz_mark.specs.WordsAfter.{words_of, Found}
+use Rattle.bz_mark.specs.WordsAfter.{words_after_marks, Found}
 use Rattle.bz_mark.specs.declared.marks.Mark.{Mark}
 use Rattle.bz_mark.specs.declared.marks.Mark.TheVariants.{Begin, End, Load, Store, Cas, Effect}
 use Rattle.bz_sound.specs.Calls.{open_call, MayBegin}
@@ -33,7 +33,7 @@ IsQuietAct mark = ⊥
 abbrev pub QuietActsFollow : Type 0
 QuietActsFollow =
     (c : Config) (log : Log) (mark : Mark) → IsSound c log → IsQuietAct mark → MayFollow (map_at_start c log.start) log.past mark →
-    Found (words_of log.start log.past) mark → IsSound c (with_mark log mark)
+    Found (words_after_marks log.start log.past) mark → IsSound c (with_mark log mark)
 
 -- a flush or an eviction may be added after which the durable words decode to the map as it was
 abbrev pub FlushesFollow : Type 0

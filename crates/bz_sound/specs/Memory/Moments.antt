@@ -7,14 +7,14 @@ use Rattle.bz_call.specs.Map.{Map}
 use Rattle.bz_content.specs.Content.{image_fault, content_in}
 use Rattle.bz_content.specs.Map.{map_in}
 use Rattle.bz_mark.specs.Moments.{at_moment}
-use Rattle.bz_mark.specs.WordsAfter.{words_of}
+use Rattle.bz_mark.specs.WordsAfter.{words_after_marks}
 use Rattle.bz_mark.specs.declared.marks.Mark.{Mark}
 use Rattle.bz_mark.specs.declared.marks.Mark.TheVariants.{Load, Flush, Evict}
 use Rattle.bz_sound.specs.Calls.{map_after}
 
 -- the durable words after these marks, as an image: what a power cut would leave
 abbrev pub image_after : List ℕ → List Mark → ℕ → ℕ
-image_after start past = slice_index (words_of start past).durable
+image_after start past = slice_index (words_after_marks start past).durable
 
 -- the image at a moment
 abbrev pub image_at : List ℕ → ℕ → List Mark → ℕ → ℕ

@@ -2,7 +2,7 @@
 use Rattle.std.specs.Prelude.{◌≡◌, ◌↔◌, ℕ, List, ◌∷◌, None}
 use Rattle.bz_layout.specs.declared.config.Config.{Config}
 use Rattle.bz_call.specs.Map.{Map}
-use Rattle.bz_mark.specs.WordsAfter.{words_of}
+use Rattle.bz_mark.specs.WordsAfter.{words_after_marks}
 use Rattle.bz_mark.specs.declared.marks.Mark.{Mark}
 use Rattle.bz_mark.specs.declared.marks.Mark.TheVariants.{Cut, On, Ready}
 use Rattle.bz_sound.specs.Calls.{open_call, begun_calls, map_after}
@@ -13,8 +13,8 @@ use Rattle.bz_sound.specs.Power.History.{Happens}
 -- what a cut after these marks leaves
 pub record CutLeaves (c : Config) (start : List ℕ) (past : List Mark) : Type 0 where
   -- the durable words, which are then the cached ones too
-  pub durable : (words_of start (Cut ∷ past)).durable ≡ (words_of start past).durable
-  pub cached : (words_of start (Cut ∷ past)).cached ≡ (words_of start past).durable
+  pub durable : (words_after_marks start (Cut ∷ past)).durable ≡ (words_after_marks start past).durable
+  pub cached : (words_after_marks start (Cut ∷ past)).cached ≡ (words_after_marks start past).durable
   -- the map, and so whether the durable words decode to it
   pub map : (map : Map) → map_after map (Cut ∷ past) ≡ map_after map past
   pub decodes : Decodes c start (Cut ∷ past) ↔ Decodes c start past
@@ -29,7 +29,7 @@ CutsLeave = (c : Config) (start : List ℕ) (past : List Mark) → CutLeaves c s
 
 -- a mark leaves all words, the map, and who has an open call
 pub record LeavesAll (start : List ℕ) (past : List Mark) (mark : Mark) : Type 0 where
-  pub words : words_of start (mark ∷ past) ≡ words_of start past
+  pub words : words_after_marks start (mark ∷ past) ≡ words_after_marks start past
   pub map : (map : Map) → map_after map (mark ∷ past) ≡ map_after map past
   pub calls : (w : ℕ) → open_call w (mark ∷ past) ≡ open_call w past
 

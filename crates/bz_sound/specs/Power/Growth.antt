@@ -7,7 +7,7 @@ use Rattle.bz_call.specs.Pages.{names_page}
 use Rattle.bz_call.specs.declared.calls.Call.{Call}
 use Rattle.bz_mark.specs.Log.{Log, Limits, with_mark, with_page}
 use Rattle.bz_mark.specs.Moments.{at_moment}
-use Rattle.bz_mark.specs.WordsAfter.{words_of, Found}
+use Rattle.bz_mark.specs.WordsAfter.{words_after_marks, Found}
 use Rattle.bz_mark.specs.declared.marks.Mark.{Mark}
 use Rattle.bz_mark.specs.declared.marks.Mark.TheVariants.{Begin, End, Effect}
 use Rattle.bz_sound.specs.declared.power.Power.{Power}
@@ -29,7 +29,7 @@ FreshJournalsAreSound =
 abbrev pub QuietActsFollow : Type 0
 QuietActsFollow =
     (c : Config) (at_start : Power) (log : Log) (mark : Mark) → IsSound c at_start log → IsQuietAct mark → MayFollow at_start (map_at_start c log.start) log.past mark →
-    Found (words_of log.start log.past) mark → IsSound c at_start (with_mark log mark)
+    Found (words_after_marks log.start log.past) mark → IsSound c at_start (with_mark log mark)
 
 -- a flush or an eviction may be added after which the durable words decode to the map as it was
 abbrev pub FlushesFollow : Type 0

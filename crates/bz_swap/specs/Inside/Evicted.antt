@@ -5,7 +5,7 @@ use Rattle.bz_pm.specs.Acts.{evicted}
 use Rattle.bz_machine.specs.Machine.{Memory, is_succeeded}
 use Rattle.bz_machine.specs.Changes.{with_copies, with_durable_status, with_durable_fields}
 use Rattle.bz_machine.specs.State.{Event, Evict, EvictStatus, EvictField}
-use Rattle.bz_cells.specs.Store.{Store, Beside, IsStore, SameShape, typed, words_of, with_words, status_at}
+use Rattle.bz_cells.specs.Store.{Store, Beside, IsStore, SameShape, typed, store_words, with_words, status_at}
 use Rattle.bz_swap.specs.declared.role.WordRole.{WordRole}
 use Rattle.bz_swap.specs.declared.role.WordRole.TheVariants.{Outside, Status, Field}
 
@@ -36,6 +36,6 @@ pub record IsEvicted (old : Store) (a : ℕ) (told : Option ℕ) (new : Store) :
   pub role : WordRole
   pub is_told : told ≡ told_of role old new
   pub changed : (b : Beside) → typed new b ≡ memory_after a role (typed old b)
-  pub words : new ≡ with_words old (evicted (words_of old) a)
+  pub words : new ≡ with_words old (evicted (store_words old) a)
   pub readable : IsStore new
   pub shape : SameShape old new

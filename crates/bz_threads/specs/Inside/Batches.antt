@@ -15,7 +15,7 @@ use Rattle.bz_layout.specs.declared.limits.TheConstants.{MAX_WORKERS}
 use Rattle.bz_sched.specs.Queued.{calls_of}
 use Rattle.bz_threads.specs.Made.{own_of, MakesAll}
 use Rattle.bz_threads.specs.declared.batch.Batch.{Batch}
-use Rattle.bz_index.specs.FromWorld.Which.{Which}
+use Rattle.bz_index.specs.FromWorld.LimitKind.{LimitKind}
 
 -- these calls, each with the worker
 abbrev pub paired : ℕ → List Call → List (ℕ × Call)
@@ -78,35 +78,35 @@ MetNone (Some (answer.Limit which)) = ⊥
 MetNone other = Unit {0}
 
 -- of two workers that met a limit the lower one
-abbrev pub lower_of : Option (ℕ × Which) → ℕ → Which → Option (ℕ × Which)
+abbrev pub lower_of : Option (ℕ × LimitKind) → ℕ → LimitKind → Option (ℕ × LimitKind)
 lower_of None w which = Some (w, which)
 lower_of (Some (v, other)) w which = if nat_lt v w then Some (v, other) else Some (w, which)
 
 -- the lowest worker that met a limit, and that limit, once one more is asked
-abbrev pub lowered : Option (ℕ × Which) → ℕ → Option Answer → Option (ℕ × Which)
+abbrev pub lowered : Option (ℕ × LimitKind) → ℕ → Option Answer → Option (ℕ × LimitKind)
 lowered lowest w (Some (answer.Limit which)) = lower_of lowest w which
 lowered lowest w other = lowest
 
 -- the lowest worker that met a limit is this one, with that limit: of the others so far, none below it met one
-abbrev pub IsAbove : Option (ℕ × Which) → ℕ → Option Answer → Type 0
+abbrev pub IsAbove : Option (ℕ × LimitKind) → ℕ → Option Answer → Type 0
 IsAbove None w met = MetNone met
 IsAbove (Some (v, which)) w met = w < v → MetNone met
 
 -- the worker is back, and this is what became of its calls
-pub record IsBack (index : Index) (waiting : List (ℕ × Call)) (first : List IndexEntry) (p : IndexPass) (lowest : Option (ℕ × Which)) (w : ℕ) : Type 0 where
+pub record IsBack (index : Index) (waiting : List (ℕ × Call)) (first : List IndexEntry) (p : IndexPass) (lowest : Option (ℕ × LimitKind)) (w : ℕ) : Type 0 where
   pub free : IsFree p w
   pub met : Option Answer
   pub fate : Fate (origin_in index) w waiting first (seen_by p) met
   pub above : IsAbove lowest w met
 
 -- the worker whose limit is the lowest one's
-abbrev pub IsLowest : Index → List (ℕ × Call) → List IndexEntry → IndexPass → Option (ℕ × Which) → Type 0
+abbrev pub IsLowest : Index → List (ℕ × Call) → List IndexEntry → IndexPass → Option (ℕ × LimitKind) → Type 0
 IsLowest index waiting first p None = Unit {0}
 IsLowest index waiting first p (Some (v, which)) =
     (0 < v) × (v ≤ MAX_WORKERS) × IsFree p v × Fate (origin_in index) v waiting first (seen_by p) (Some (answer.Limit which))
 
 -- some batches are joined and others are not yet
-pub record IsJoined (index : Index) (waiting : List (ℕ × Call)) (first : List IndexEntry) (p : IndexPass) (batches : List Batch) (lowest : Option (ℕ × Which)) : Type 0 where
+pub record IsJoined (index : Index) (waiting : List (ℕ × Call)) (first : List IndexEntry) (p : IndexPass) (batches : List Batch) (lowest : Option (ℕ × LimitKind)) : Type 0 where
   pub pass : IsFirstOf index p
   pub grown : Extends first (seen_by p)
   pub quiet : entries_of owner_of 0 (seen_by p) ≡ entries_of owner_of 0 first

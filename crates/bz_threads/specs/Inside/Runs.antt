@@ -8,10 +8,10 @@ use Rattle.bz_index.specs.declared.shared.IndexEntry.{IndexEntry}
 use Rattle.bz_threads.specs.Inside.Batches.{IsJoined}
 use Rattle.bz_threads.specs.declared.running.ThreadsEnd.{ThreadsEnd}
 use Rattle.bz_threads.specs.declared.running.ThreadsEnd.TheVariants.{Finished, Limit, Memory}
-use Rattle.bz_index.specs.FromWorld.Which.{Which}
+use Rattle.bz_index.specs.FromWorld.LimitKind.{LimitKind}
 
 -- by the lowest worker that met a limit
-abbrev pub end_of : Option (ℕ × Which) → ThreadsEnd
+abbrev pub end_of : Option (ℕ × LimitKind) → ThreadsEnd
 end_of None = Finished
 end_of (Some (w, which)) = Limit which
 

@@ -3,7 +3,7 @@
 use super::bench::{begin, key, payload, steps};
 use bz_call::Call;
 use bz_layout::{Config, ConfigError};
-use bz_world::{Applied, Begun, Event, OpenError, Which, World};
+use bz_world::{Applied, Begun, Event, LimitKind, OpenError, World};
 use std::process::Abort;
 use std::test::Fail;
 
@@ -65,7 +65,7 @@ fn a_world_names_what_it_refuses(rt: HostRuntime) -> Result<(), Fail> {
         (5, false, Begun::NoWorker),
         (2, true, Begun::Begun(1)),
         (2, false, Begun::Busy),
-        (1, true, Begun::Limit(Which::Pages)),
+        (1, true, Begun::Limit(LimitKind::Pages)),
         (1, false, Begun::Begun(1)),
         (3, false, Begun::Begun(1)),
         (4, false, Begun::Begun(1)),
@@ -82,7 +82,11 @@ fn a_journal_that_is_full_ends_the_world(rt: HostRuntime) -> Result<(), Fail> {
         begin(&mut world, 1, call);
         steps(&mut world, 1, 100);
     }
-    begins(&rt, &mut world, &[(2, false, Begun::Limit(Which::Calls))]);
+    begins(
+        &rt,
+        &mut world,
+        &[(2, false, Begun::Limit(LimitKind::Calls))],
+    );
     for _ in 0..1_024 {
         world.apply(Event::Evict(0));
     }
@@ -95,6 +99,10 @@ fn a_journal_that_is_full_ends_the_world(rt: HostRuntime) -> Result<(), Fail> {
         (Event::Evict(272), Applied::NoWord),
     ];
     applies(&rt, &mut world, &events);
-    begins(&rt, &mut world, &[(2, false, Begun::Limit(Which::Marks))]);
+    begins(
+        &rt,
+        &mut world,
+        &[(2, false, Begun::Limit(LimitKind::Marks))],
+    );
     Ok(())
 }

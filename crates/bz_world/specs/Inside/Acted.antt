@@ -30,10 +30,10 @@ use Rattle.bz_task.specs.declared.todo.Todo.{Todo}
 use Rattle.bz_task.specs.declared.todo.Todo.TheVariants.{Finish}
 use Rattle.bz_world.specs.Inside.Kept.{IsTabled, AreTaken, AreFree, IsAwake}
 use Rattle.bz_world.specs.Inside.Lonely.{WhereLonely, IsLonelyGet, AsksBriefly}
-use Rattle.bz_world.specs.Lab.{mark_of, IsStruck}
+use Rattle.bz_world.specs.WorldView.{mark_of, IsStruck}
 use Rattle.bz_world.specs.Inside.Serving.{IsCovered, IsSlot, IsOpened, IsTasked, MayGoOn}
 use Rattle.bz_world.specs.declared.parts.Parts.{Parts}
-use Rattle.bz_world.specs.declared.serving.Serving.{Serving}
+use Rattle.bz_world.specs.declared.serving.OpenCall.{OpenCall}
 
 -- a worker made an act, and its mark was added
 pub record IsActed (old : Parts) (w : ℕ) (made : Act) (done : Done) (told : Option ℕ) (new : Parts) : Type 0 where
@@ -68,7 +68,7 @@ pub record IsStriking (p : Parts) (s : ℕ) : Type 0 where
   pub rest : p ≡ record before { access = p.access; journal = with_mark before.journal mark }
 
 -- all is well but for worker w, whose call is open, and which does nothing
-pub record IsBetween (p : Parts) (w : ℕ) (x : Serving) : Type 0 where
+pub record IsBetween (p : Parts) (w : ℕ) (x : OpenCall) : Type 0 where
   pub on : p.power ≡ power.On
   pub story : Story
   pub tabled : IsTabled p
@@ -84,12 +84,12 @@ pub record IsBetween (p : Parts) (w : ℕ) (x : Serving) : Type 0 where
   pub idle : doing_of p.access w ≡ Idle
 
 -- its task's swap has made the change of the call, and it is told so
-pub record HasWon (x : Serving) (seen : Seen) : Type 0 where
+pub record HasWon (x : OpenCall) (seen : Seen) : Type 0 where
   pub publishing : publishing_of x.task ≡ true
   pub won : seen ≡ Swapped true
 
 -- and its task is to be told this
-pub record IsTold (p : Parts) (w : ℕ) (x : Serving) (seen : Seen) : Type 0 where
+pub record IsTold (p : Parts) (w : ℕ) (x : OpenCall) (seen : Seen) : Type 0 where
   pub between : IsBetween p w x
   pub tasked : IsTasked p.config x.call x.path x.had x.task
   pub stage : Stage
@@ -101,7 +101,7 @@ pub record IsTold (p : Parts) (w : ℕ) (x : Serving) (seen : Seen) : Type 0 whe
   pub lonely : WhereLonely p.journal.past w x.call (λ key. IsLonelyGet p.access p.journal.past between.story w x between.opened key × (stage ≡ Waiting))
 
 -- and its task asks for this: for nothing more, where its change is made
-pub record IsAsking (p : Parts) (w : ℕ) (x : Serving) (todo : Todo) : Type 0 where
+pub record IsAsking (p : Parts) (w : ℕ) (x : OpenCall) (todo : Todo) : Type 0 where
   pub between : IsBetween p w x
   pub tasked : IsTasked p.config x.call x.path x.had x.task
   pub asks : asks_of x.task ≡ Some todo
@@ -112,7 +112,7 @@ pub record IsAsking (p : Parts) (w : ℕ) (x : Serving) (todo : Todo) : Type 0 w
 
 -- the worker's call is served, and its task is to be told this
 pub record MustTell (p : Parts) (w : ℕ) (seen : Seen) : Type 0 where
-  pub serving : Serving
+  pub serving : OpenCall
   pub is : get_or p.workers.items w None ≡ Some serving
   pub told : IsTold p w serving seen
 

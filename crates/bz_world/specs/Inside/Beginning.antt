@@ -6,7 +6,7 @@ use Rattle.bz_sound.specs.declared.power.Power.TheVariants as power
 use Rattle.bz_sound.specs.Calls.{begun_calls}
 use Rattle.bz_swap.specs.SwapMemory.{Working, Doing, Swapping}
 use Rattle.bz_world.specs.Inside.Kept.{IsAwake}
-use Rattle.bz_world.specs.Lab.{Lab, Supply, supply_by, powered_answer, begin_answer, after_begin}
+use Rattle.bz_world.specs.WorldView.{WorldView, Supply, supply_by, powered_answer, begin_answer, after_begin}
 use Rattle.bz_world.specs.declared.answers.Begun.{Begun}
 use Rattle.bz_world.specs.declared.answers.Begun.TheVariants as begun
 use Rattle.bz_world.specs.declared.parts.Parts.{Parts}
@@ -21,8 +21,8 @@ is_swap (Swapping s) = true
 is_swap doing = false
 
 -- what callers see of a world of these parts
-abbrev pub lab_of : Parts → Lab
-lab_of p = record {
+abbrev pub world_view : Parts → WorldView
+world_view p = record {
   config = p.config;
   at_start = p.at_start;
   log = p.journal;
@@ -48,20 +48,20 @@ pub record MayBegin (p : Parts) (w : ℕ) (called : Call) : Type 0 where
 
 -- the refusal that is answered with the power on, if one applies
 pub record IsPoweredRefusal (p : Parts) (w : ℕ) (called : Call) (refusal : Option Begun) : Type 0 where
-  pub some : (answer : Begun) → refusal ≡ Some answer → (powered_answer (lab_of p) w called ≡ answer) × (after_begin (lab_of p) w called answer ≡ lab_of p)
+  pub some : (answer : Begun) → refusal ≡ Some answer → (powered_answer (world_view p) w called ≡ answer) × (after_begin (world_view p) w called answer ≡ world_view p)
   pub none_open : refusal ≡ None → get_or p.workers.items w None ≡ None
   pub calls : refusal ≡ None → p.begun < p.config.calls
   pub pages : refusal ≡ None → p.pages_begun + pages_asked called ≤ p.config.pages
-  pub begins : refusal ≡ None → powered_answer (lab_of p) w called ≡ begun.Begun (begun_calls w p.journal.past + 1)
+  pub begins : refusal ≡ None → powered_answer (world_view p) w called ≡ begun.Begun (begun_calls w p.journal.past + 1)
 
 -- and with any power
 pub record IsRefusal (p : Parts) (w : ℕ) (called : Call) (refusal : Option Begun) : Type 0 where
-  pub some : (answer : Begun) → refusal ≡ Some answer → (begin_answer (lab_of p) w called ≡ answer) × (after_begin (lab_of p) w called answer ≡ lab_of p)
+  pub some : (answer : Begun) → refusal ≡ Some answer → (begin_answer (world_view p) w called ≡ answer) × (after_begin (world_view p) w called answer ≡ world_view p)
   pub none : refusal ≡ None → MayBegin p w called
-  pub begins : refusal ≡ None → begin_answer (lab_of p) w called ≡ begun.Begun (begun_calls w p.journal.past + 1)
+  pub begins : refusal ≡ None → begin_answer (world_view p) w called ≡ begun.Begun (begun_calls w p.journal.past + 1)
 
 -- the call has begun with this number
 pub record HasBegun (old : Parts) (w : ℕ) (called : Call) (n : ℕ) (new : Parts) : Type 0 where
   pub kept : IsAwake new
   pub number : n ≡ begun_calls w old.journal.past + 1
-  pub after : lab_of new ≡ after_begin (lab_of old) w called (begun.Begun n)
+  pub after : world_view new ≡ after_begin (world_view old) w called (begun.Begun n)

@@ -15,7 +15,7 @@ use Rattle.bz_layout.specs.declared.thresholds.TheConstants.{MERGE_SLOTS, SPLIT_
 use Rattle.bz_alone.specs.Reads.{get_reads}
 use Rattle.bz_running.specs.Duties.{config_of, asks_of, end_of, needs_of, wants_of, facts_of}
 use Rattle.bz_running.specs.GoingUp.{GoesUp, IsInScene}
-use Rattle.bz_running.specs.declared.running.Running.{Running}
+use Rattle.bz_running.specs.declared.running.AnyTask.{AnyTask}
 use Rattle.bz_slotted.specs.Readers.{live_of}
 use Rattle.bz_slotted.specs.ReadingLaws.{node_of}
 use Rattle.bz_sound.specs.Lonely.{acts_since}
@@ -37,15 +37,15 @@ use Rattle.bz_world.specs.Inside.Acted.{IsBetween}
 use Rattle.bz_world.specs.Inside.Beginning.{supply_of}
 use Rattle.bz_world.specs.Inside.Kept.{IsAwake}
 use Rattle.bz_world.specs.Inside.Lonely.{WhereLonely, IsNotLonely, IsLonelyGet, HasLooked}
-use Rattle.bz_world.specs.Lab.{GoesOn, Spends, HasRunOut, EndsFullRightly, GetsBriefly, is_delete}
+use Rattle.bz_world.specs.WorldView.{GoesOn, Spends, HasRunOut, EndsFullRightly, GetsBriefly, is_delete}
 use Rattle.bz_world.specs.Inside.Serving.{IsTasked, IsWanted, MayGoOn}
 use Rattle.bz_world.specs.declared.answers.Applied.{Applied}
 use Rattle.bz_world.specs.declared.parts.Parts.{Parts}
-use Rattle.bz_world.specs.declared.serving.Serving.{Serving}
+use Rattle.bz_world.specs.declared.serving.OpenCall.{OpenCall}
 
 -- the worker's call is served, nothing goes on for it, and each slot that the worker took has been stored into
 pub record MustGoOn (p : Parts) (w : ℕ) : Type 0 where
-  pub serving : Serving
+  pub serving : OpenCall
   pub is : get_or p.workers.items w None ≡ Some serving
   pub between : IsBetween p w serving
   pub filled : (k : ℕ) → between.story.took w k ≡ true → between.story.filled w k ≡ true
@@ -58,7 +58,7 @@ pub record MustLookUp (p : Parts) (w : ℕ) : Type 0 where
   pub other : IsNotLonely p.journal.past w on.serving.call
 
 -- the call in this place may go on so
-abbrev pub MayGoOnIn : Option Serving → Type 0
+abbrev pub MayGoOnIn : Option OpenCall → Type 0
 MayGoOnIn None = ⊥
 MayGoOnIn (Some x) = MayGoOn x
 
@@ -67,54 +67,54 @@ abbrev pub known : (p : Parts) (w : ℕ) → MustGoOn p w → Scene
 known p w m = scene p.config p.journal.past m.between.story w m.between.call_open.look.since m.between.opened
 
 -- the call that is served, how its task has ended, what it asks for, the way to its leaf, its effect, and whether it froze its leaf last
-abbrev pub call_in : Option Serving → Option Call
-call_in slot = option_map (λ (x : Serving). x.call) slot
+abbrev pub call_in : Option OpenCall → Option Call
+call_in slot = option_map (λ (x : OpenCall). x.call) slot
 
-abbrev pub end_in : Option Serving → Option Outcome
+abbrev pub end_in : Option OpenCall → Option Outcome
 end_in None = None
 end_in (Some x) = end_of x.task
 
-abbrev pub asks_in : Option Serving → Option Todo
+abbrev pub asks_in : Option OpenCall → Option Todo
 asks_in None = None
 asks_in (Some x) = asks_of x.task
 
-abbrev pub path_in : Option Serving → Option Path
+abbrev pub path_in : Option OpenCall → Option Path
 path_in None = None
 path_in (Some x) = x.path
 
-abbrev pub effect_in : Option Serving → Option ℕ
+abbrev pub effect_in : Option OpenCall → Option ℕ
 effect_in None = None
 effect_in (Some x) = x.effect
 
-abbrev pub froze_in : Option Serving → Bool
+abbrev pub froze_in : Option OpenCall → Bool
 froze_in None = false
 froze_in (Some x) = x.froze
 
-abbrev pub had_in : Option Serving → Option (List ℕ)
+abbrev pub had_in : Option OpenCall → Option (List ℕ)
 had_in None = None
 had_in (Some x) = x.had
 
 -- how many slots its task takes from its begin to its end
-abbrev pub wants_in : Option Serving → ℕ
+abbrev pub wants_in : Option OpenCall → ℕ
 wants_in None = 0
 wants_in (Some x) = wants_of x.task
 
 -- and how many it still takes
-abbrev pub needs_in : Option Serving → ℕ
+abbrev pub needs_in : Option OpenCall → ℕ
 needs_in None = 0
 needs_in (Some x) = needs_of x.task
 
 -- its task knows what it should, of a memory of these sizes
-pub record CanGoUp (x : Serving) (c : Config) : Type 0 where
+pub record CanGoUp (x : OpenCall) (c : Config) : Type 0 where
   pub config : config_of x.task ≡ c
   pub known : IsInScene x.task
 
-abbrev pub CanGoUpIn : Option Serving → Config → Type 0
+abbrev pub CanGoUpIn : Option OpenCall → Config → Type 0
 CanGoUpIn None c = ⊥
 CanGoUpIn (Some x) c = CanGoUp x c
 
 -- a split may come before its own
-abbrev pub GoesUpIn : Option Serving → Running → Type 0
+abbrev pub GoesUpIn : Option OpenCall → AnyTask → Type 0
 GoesUpIn None next = ⊥
 GoesUpIn (Some x) next = GoesUp x.task next
 
@@ -123,24 +123,24 @@ abbrev pub IsFullRightly : Parts → ℕ → Type 0
 IsFullRightly p w = end_in (get_or p.workers.items w None) ≡ Some (outcomes.Full Nodes) → length p.slots.free < wants_in (get_or p.workers.items w None)
 
 -- the call gets another task, and with it a way
-abbrev pub with_task : Option Serving → Running → Option Path → Option Serving
-with_task slot task path = option_map (λ (x : Serving). record x { task = task; path = path }) slot
+abbrev pub with_task : Option OpenCall → AnyTask → Option Path → Option OpenCall
+with_task slot task path = option_map (λ (x : OpenCall). record x { task = task; path = path }) slot
 
 -- or one that makes its change, where its key had this payload, or none
-abbrev pub with_change : Option Serving → Running → Option (List ℕ) → Option Serving
-with_change slot task had = option_map (λ (x : Serving). record x { task = task; had = had }) slot
+abbrev pub with_change : Option OpenCall → AnyTask → Option (List ℕ) → Option OpenCall
+with_change slot task had = option_map (λ (x : OpenCall). record x { task = task; had = had }) slot
 
 -- or it is said whether its leaf is copied alone
-abbrev pub with_alone : Option Serving → Bool → Option Serving
-with_alone slot alone = option_map (λ (x : Serving). record x { alone = alone }) slot
+abbrev pub with_alone : Option OpenCall → Bool → Option OpenCall
+with_alone slot alone = option_map (λ (x : OpenCall). record x { alone = alone }) slot
 
 -- and whether its own freeze of its leaf was the last to end
-abbrev pub with_froze : Option Serving → Bool → Option Serving
-with_froze slot froze = option_map (λ (x : Serving). record x { froze = froze }) slot
+abbrev pub with_froze : Option OpenCall → Bool → Option OpenCall
+with_froze slot froze = option_map (λ (x : OpenCall). record x { froze = froze }) slot
 
 -- a task that it may get, which asks for this: after this path was found, if one was, and for the change of the call, where
 -- its key had this payload, or none
-pub record MustTakeOn (p : Parts) (w : ℕ) (task : Running) (way : Option Path) (had : Option (List ℕ)) (asked : Option Todo) : Type 0 where
+pub record MustTakeOn (p : Parts) (w : ℕ) (task : AnyTask) (way : Option Path) (had : Option (List ℕ)) (asked : Option Todo) : Type 0 where
   pub on : MustGoOn p w
   pub may : MayGoOn on.serving
   pub tasked : IsTasked p.config on.serving.call way had task
@@ -205,7 +205,7 @@ pub record MustReadWhole (p : Parts) (w : ℕ) : Type 0 where
   pub other : IsNotLonely p.journal.past w on.serving.call
 
 -- a task that makes its change, which is yet to begin
-pub record MustChange (p : Parts) (w : ℕ) (had : Option (List ℕ)) (task : Running) : Type 0 where
+pub record MustChange (p : Parts) (w : ℕ) (had : Option (List ℕ)) (task : AnyTask) : Type 0 where
   pub reads : MustReadWhole p w
   pub tasked : IsTasked p.config reads.on.serving.call reads.on.serving.path had task
   pub asks : asks_of task ≡ None
@@ -255,7 +255,7 @@ pub record MustMerge (p : Parts) (w : ℕ) (path : Path) (view : LeafView) : Typ
   pub other : IsNotLonely p.journal.past w on.serving.call
 
 -- its split has ended because the node above lacked the room, and this is the split of that one, which is yet to begin
-pub record MustGoUp (p : Parts) (w : ℕ) (task : Running) : Type 0 where
+pub record MustGoUp (p : Parts) (w : ℕ) (task : AnyTask) : Type 0 where
   pub ends : HasEnded p w outcomes.NeedsRoom
   pub up : GoesUp ends.on.serving.task task
 

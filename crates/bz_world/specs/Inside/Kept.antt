@@ -6,7 +6,7 @@ use Rattle.bz_recover.specs.Duties.{WalksIn}
 use Rattle.bz_layout.specs.Slots.{FreeSlots}
 use Rattle.bz_layout.specs.declared.config.Config.{Config}
 use Rattle.bz_mark.specs.Log.{count_begins, count_page_calls}
-use Rattle.bz_mark.specs.WordsAfter.{words_of as words_after_marks}
+use Rattle.bz_mark.specs.WordsAfter.{words_after_marks}
 use Rattle.bz_mark.specs.declared.marks.Mark.{Mark}
 use Rattle.bz_sound.specs.Calls.{open_call, begun_calls, map_after}
 use Rattle.bz_sound.specs.Memory.Moments.{map_at_start}
@@ -20,7 +20,7 @@ use Rattle.bz_story.specs.Living.{IsLiving}
 use Rattle.bz_story.specs.Recovering as recovery
 use Rattle.bz_story.specs.Reviving as reviving
 use Rattle.bz_story.specs.Story.{Story}
-use Rattle.bz_swap.specs.SwapMemory.{has_effect, words_of}
+use Rattle.bz_swap.specs.SwapMemory.{has_effect, memory_words}
 use Rattle.bz_swap.specs.TakenStatuses.{IsTaken, BegunAreTaken}
 use Rattle.bz_world.specs.Inside.Lonely.{IsLonelyIn}
 use Rattle.bz_world.specs.Inside.Serving.{IsSlot}
@@ -114,5 +114,5 @@ IsKeptIn power.Recovering p = IsStarted p
 pub record IsKept (p : Parts) : Type 0 where
   pub tabled : IsTabled p
   pub sound : IsSound p.config p.at_start p.journal
-  pub words : words_of p.access ≡ words_after_marks p.journal.start p.journal.past
+  pub words : memory_words p.access ≡ words_after_marks p.journal.start p.journal.past
   pub state : IsKeptIn p.power p

@@ -14,7 +14,7 @@ use Rattle.bz_swap.specs.SwapMemory.{SwapMemory, Reading}
 use Rattle.bz_task.specs.declared.todo.Outcome.TheVariants.{Restart}
 use Rattle.bz_task.specs.declared.todo.Todo.{Todo}
 use Rattle.bz_task.specs.declared.todo.Todo.TheVariants as todo
-use Rattle.bz_world.specs.declared.serving.Serving.{Serving}
+use Rattle.bz_world.specs.declared.serving.OpenCall.{OpenCall}
 
 -- this holds where the call of a worker is a lonely get: no other call has been open since its begin
 abbrev pub WhereLonely : List Mark → ℕ → Call → (List ℕ → Type 0) → Type 0
@@ -24,12 +24,12 @@ WhereLonely past w called holds = (key : List ℕ) → called ≡ call.Get key �
 abbrev pub IsNotLonely : List Mark → ℕ → Call → Type 0
 IsNotLonely past w called = WhereLonely past w called (λ key. ⊥)
 
-abbrev pub IsNotLonelyIn : List Mark → ℕ → Option Serving → Type 0
+abbrev pub IsNotLonelyIn : List Mark → ℕ → Option OpenCall → Type 0
 IsNotLonelyIn past w None = Unit {0}
 IsNotLonelyIn past w (Some x) = IsNotLonely past w x.call
 
 -- it is one: its look-up is brief, and no swap took effect since it began
-pub record IsLonelyGet (m : SwapMemory) (past : List Mark) (story : Story) (w : ℕ) (x : Serving) (opened : Open) (key : List ℕ) : Type 0 where
+pub record IsLonelyGet (m : SwapMemory) (past : List Mark) (story : Story) (w : ℕ) (x : OpenCall) (opened : Open) (key : List ℕ) : Type 0 where
   pub brief : IsBrief m w (acts_since w past) key x.path x.task
   pub looks : LooksUpBriefly x.task
   pub alone : (story.at (length past)).effects ≡ (story.at (suc opened.begun)).effects
@@ -37,16 +37,16 @@ pub record IsLonelyGet (m : SwapMemory) (past : List Mark) (story : Story) (w : 
   pub thawed : x.froze ≡ false
 
 -- what it looked for has ended, and is not to be begun again
-pub record HasLooked (m : SwapMemory) (past : List Mark) (story : Story) (w : ℕ) (x : Serving) (opened : Open) (key : List ℕ) : Type 0 where
+pub record HasLooked (m : SwapMemory) (past : List Mark) (story : Story) (w : ℕ) (x : OpenCall) (opened : Open) (key : List ℕ) : Type 0 where
   pub get : IsLonelyGet m past story w x opened key
   pub stands : end_of x.task ≢ Some Restart
 
 -- it asks for a read, which is to be started, or for nothing more
-abbrev pub AsksBriefly : SwapMemory → List Mark → Story → ℕ → Serving → Open → List ℕ → Todo → Type 0
+abbrev pub AsksBriefly : SwapMemory → List Mark → Story → ℕ → OpenCall → Open → List ℕ → Todo → Type 0
 AsksBriefly m past story w x opened key (todo.Read a) = IsLonelyGet (started m w (Reading a)) past story w x opened key
 AsksBriefly m past story w x opened key todo.Finish = HasLooked m past story w x opened key
 AsksBriefly m past story w x opened key other = ⊥
 
 -- so is the call of a worker served, if it is such a get
-abbrev pub IsLonelyIn : SwapMemory → List Mark → Story → List (Option Serving) → ℕ → Type 0
-IsLonelyIn m past story items w = (x : Serving) (opened : Open) → get_or items w None ≡ Some x → open_call w past ≡ Some opened → WhereLonely past w x.call (IsLonelyGet m past story w x opened)
+abbrev pub IsLonelyIn : SwapMemory → List Mark → Story → List (Option OpenCall) → ℕ → Type 0
+IsLonelyIn m past story items w = (x : OpenCall) (opened : Open) → get_or items w None ≡ Some x → open_call w past ≡ Some opened → WhereLonely past w x.call (IsLonelyGet m past story w x opened)

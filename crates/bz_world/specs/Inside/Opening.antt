@@ -8,7 +8,7 @@ use Rattle.bz_sound.specs.Memory.Moments.{map_at_start}
 use Rattle.bz_sound.specs.declared.power.Power.{Power}
 use Rattle.bz_swap.specs.Held.{Holds}
 use Rattle.bz_swap.specs.Power.{IsOpened}
-use Rattle.bz_world.specs.Lab.{lab_over}
+use Rattle.bz_world.specs.WorldView.{view_over}
 use Rattle.bz_world.specs.declared.parts.Parts.{Parts}
 
 -- all but the root's
@@ -20,7 +20,7 @@ pub record IsMadeOver (start : List ℕ) (first : Power) (p : Parts) : Type 0 wh
   pub config : IsConfig p.config
   pub opened : IsOpened p.access start p.config.swaps p.config.workers
   pub holds : Holds p.access
-  pub journal : p.journal ≡ (lab_over p.config start first).log
+  pub journal : p.journal ≡ (view_over p.config start first).log
   pub workers : p.workers.items ≡ replicate 65 None
   pub owners : p.owners.items ≡ replicate p.config.swaps 0
   pub numbers : p.numbers.items ≡ replicate 65 0

@@ -13,7 +13,7 @@ use Rattle.bz_swap.specs.Steps.{IsRawStep}
 use Rattle.bz_swap.specs.SwapMemory.{Working}
 use Rattle.bz_task.specs.declared.todo.Todo.TheVariants.{Finish}
 use Rattle.bz_world.specs.Inside.Kept.{IsAwake, IsRecovering}
-use Rattle.bz_world.specs.Lab.{mark_of, count_reached}
+use Rattle.bz_world.specs.WorldView.{mark_of, count_reached}
 use Rattle.bz_world.specs.declared.parts.Parts.{Parts}
 
 -- the durable words are all that is left, and no call is served; which of the next acts were flushes is kept

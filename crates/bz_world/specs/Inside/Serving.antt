@@ -13,7 +13,7 @@ use Rattle.bz_mark.specs.declared.marks.Mark.{Mark}
 use Rattle.bz_running.specs.Duties.{config_of, asks_of, needs_of, wants_of, change_of, publishing_of, facts_of, makes_no_change}
 use Rattle.bz_running.specs.Hearing.{IsLookup}
 use Rattle.bz_running.specs.Laws.{AreLaws}
-use Rattle.bz_running.specs.declared.running.Running.{Running}
+use Rattle.bz_running.specs.declared.running.AnyTask.{AnyTask}
 use Rattle.bz_sound.specs.Calls.{Open, open_call, map_at}
 use Rattle.bz_sound.specs.Memory.ImageLaws.{IsChangeOf}
 use Rattle.bz_sound.specs.Memory.Moments.{map_at_start}
@@ -27,8 +27,8 @@ use Rattle.bz_task.specs.declared.path.Path.{Path}
 use Rattle.bz_task.specs.declared.todo.Todo.{Todo}
 use Rattle.bz_task.specs.declared.todo.Todo.TheVariants as todo
 use Rattle.bz_word.specs.declared.entry.Entry.{Entry}
-use Rattle.bz_world.specs.Lab.{is_delete}
-use Rattle.bz_world.specs.declared.serving.Serving.{Serving}
+use Rattle.bz_world.specs.WorldView.{is_delete}
+use Rattle.bz_world.specs.declared.serving.OpenCall.{OpenCall}
 
 -- the change that a call makes where its key had this payload, or none
 pub record IsChangeFor (called : Call) (had : Option (List ℕ)) (change : Change) : Type 0 where
@@ -54,11 +54,11 @@ abbrev pub IsToldBy : Config → Log → Open → Option (List ℕ) → Type 0
 IsToldBy c log opened had = (at : ℕ) → opened.effect ≡ Some at → (apply (map_at (map_at_start c log.start) at log.past) opened.call).reply ≡ Some (effect_reply opened.call had)
 
 -- its change is still to be made, or it is a delete, which may go on to have its leaf merged
-abbrev pub MayGoOn : Serving → Type 0
+abbrev pub MayGoOn : OpenCall → Type 0
 MayGoOn x = (x.effect ≡ None) ⊎ (is_delete x.call ≡ true)
 
 -- else its worker is at the swap that made the change
-pub record IsFinishing (m : SwapMemory) (w : ℕ) (x : Serving) : Type 0 where
+pub record IsFinishing (m : SwapMemory) (w : ℕ) (x : OpenCall) : Type 0 where
   pub publishing : publishing_of x.task ≡ true
   pub swap : ℕ
   pub doing : doing_of m w ≡ Swapping swap
@@ -103,7 +103,7 @@ pub record LookUp (past : List Mark) (opened : Open) : Type 0 where
   pub by_now : since ≤ length past
 
 -- a call that is open, as it is served
-pub record IsOpened (c : Config) (log : Log) (w : ℕ) (opened : Open) (x : Serving) : Type 0 where
+pub record IsOpened (c : Config) (log : Log) (w : ℕ) (opened : Open) (x : OpenCall) : Type 0 where
   pub is_open : open_call w log.past ≡ Some opened
   pub call : opened.call ≡ x.call
   pub effect : opened.effect ≡ x.effect
@@ -119,14 +119,14 @@ pub record IsCovered (took filled : ℕ → Bool) (needs : ℕ) : Type 0 where
   pub all : (k : ℕ) → took k ≡ true → filled k ≡ false → is_among unfilled k ≡ true
 
 -- a task that serves it, after this path was found
-pub record IsTasked (c : Config) (called : Call) (way : Option Path) (had : Option (List ℕ)) (task : Running) : Type 0 where
+pub record IsTasked (c : Config) (called : Call) (way : Option Path) (had : Option (List ℕ)) (task : AnyTask) : Type 0 where
   pub config : config_of task ≡ c
   pub laws : AreLaws task
   pub lookup : IsLookup (key_of called) way task
   pub change : (makes_no_change task ≡ true) ⊎ IsChangeFor called had (change_of task)
 
 -- the task goes on: the worker does what it asked for, and it knows what it should
-pub record IsServing (c : Config) (m : SwapMemory) (log : Log) (story : Story) (owners : List ℕ) (w : ℕ) (x : Serving) : Type 0 where
+pub record IsServing (c : Config) (m : SwapMemory) (log : Log) (story : Story) (owners : List ℕ) (w : ℕ) (x : OpenCall) : Type 0 where
   pub opened : Open
   pub call_open : IsOpened c log w opened x
   pub tasked : IsTasked c x.call x.path x.had x.task
@@ -143,21 +143,21 @@ pub record IsAtRest (m : SwapMemory) (log : Log) (story : Story) (w : ℕ) : Typ
   pub idle : doing_of m w ≡ Idle
   pub filled : (k : ℕ) → story.took w k ≡ true → story.filled w k ≡ true
 
-abbrev pub IsSlot : Config → SwapMemory → Log → Story → List ℕ → ℕ → Option Serving → Type 0
+abbrev pub IsSlot : Config → SwapMemory → Log → Story → List ℕ → ℕ → Option OpenCall → Type 0
 IsSlot c m log story owners w None = IsAtRest m log story w
 IsSlot c m log story owners w (Some x) = IsServing c m log story owners w x
 
 -- its task's swap makes the change of the call
-abbrev pub is_publishing : Option Serving → Bool
+abbrev pub is_publishing : Option OpenCall → Bool
 is_publishing None = false
 is_publishing (Some x) = publishing_of x.task
 
 -- then the call has had its effect at this moment
-abbrev pub noted : Option Serving → ℕ → Option Serving
+abbrev pub noted : Option OpenCall → ℕ → Option OpenCall
 noted None moment = None
 noted (Some x) moment = Some (if publishing_of x.task then record x { effect = Some moment } else x)
 
 -- and how many pairs there are then
-abbrev pub pairs_after : Option Serving → ℕ → ℕ
+abbrev pub pairs_after : Option OpenCall → ℕ → ℕ
 pairs_after None n = n
 pairs_after (Some x) n = size_after (Some (effect_reply x.call x.had)) n

@@ -18,28 +18,28 @@ use Rattle.bz_word.specs.declared.entry.Entry.{Entry}
 use Rattle.bz_world.specs.Inside.Acted.{IsBetween, IsAsking, MustTell}
 use Rattle.bz_world.specs.Inside.Lonely.{IsNotLonely}
 use Rattle.bz_world.specs.declared.parts.Parts.{Parts}
-use Rattle.bz_world.specs.declared.serving.Serving.{Serving}
+use Rattle.bz_world.specs.declared.serving.OpenCall.{OpenCall}
 
 -- the task of the call that is served may be told this, in a memory with these slots
-abbrev pub CanHear : Option Serving → Seen → ℕ → FreeSlots → Type 0
+abbrev pub CanHear : Option OpenCall → Seen → ℕ → FreeSlots → Type 0
 CanHear None seen moment free = ⊥
 CanHear (Some x) seen moment free = Hears (asks_of x.task) seen × IsKnown (config_of x.task) (facts_of x.task) (asks_of x.task) seen moment × (0 < needs_of x.task → free.nodes ≡ (config_of x.task).nodes)
 
 -- it was told, and asks for something else
-pub record HasTold (x : Serving) (seen : Seen) (moment : ℕ) (free : FreeSlots) (todo : Todo) (y : Serving) (left : FreeSlots) : Type 0 where
+pub record HasTold (x : OpenCall) (seen : Seen) (moment : ℕ) (free : FreeSlots) (todo : Todo) (y : OpenCall) (left : FreeSlots) : Type 0 where
   pub rest : y ≡ record x { task = y.task }
   pub heard : HasHeard x.task seen moment free todo y.task left
   pub laws : AreLaws y.task
   pub counts : HasCounted x.task todo y.task
   pub looks : LooksUpBriefly y.task
 
-abbrev pub HasToldIn : Option Serving → Seen → ℕ → FreeSlots → Todo → Option Serving → FreeSlots → Type 0
+abbrev pub HasToldIn : Option OpenCall → Seen → ℕ → FreeSlots → Todo → Option OpenCall → FreeSlots → Type 0
 HasToldIn (Some x) seen moment free todo (Some y) left = HasTold x seen moment free todo y left
 HasToldIn old seen moment free todo new left = ⊥
 
 -- the worker's call is served, and its task asks for this
 pub record MustStart (p : Parts) (w : ℕ) (todo : Todo) : Type 0 where
-  pub serving : Serving
+  pub serving : OpenCall
   pub is : get_or p.workers.items w None ≡ Some serving
   pub asking : IsAsking p w serving todo
 
@@ -50,7 +50,7 @@ pub record LacksDescriptor (p : Parts) (todo : Todo) : Type 0 where
   pub spent : p.access.taken ≡ p.config.swaps
 
 -- the way to the leaf of a call without effect, if it was found, is one of the memory since its look-up began
-pub record KnowsWay (p : Parts) (w : ℕ) (x : Serving) (between : IsBetween p w x) : Type 0 where
+pub record KnowsWay (p : Parts) (w : ℕ) (x : OpenCall) (between : IsBetween p w x) : Type 0 where
   pub leads : (path : Path) → x.path ≡ Some path → IsPath (key_of x.call) path (scene p.config p.journal.past between.story w between.call_open.look.since between.opened).past
   pub quiet : x.effect ≡ None
 

@@ -1,7 +1,7 @@
 use Rattle.std.proofs.Common.{◌≡◌, ◌<◌, ◌*◌, take, length, arith, sym, ap, inl, inr}
 use Rattle.std.proofs.lemmas.Bool.{cases_lt}
 use Rattle.bz_node.proofs.Parts.{needed_nil}
-use Rattle.bz_halves.specs.Halves.{words_of}
+use Rattle.bz_halves.specs.Halves.{record_words}
 use Rattle.bz_halves.proofs.Cuts.{words-more}
 use Rattle.bz_halves.proofs.cut.cut_of.Goals as goal
 
@@ -20,7 +20,7 @@ loop-i-preserved c =
         | inl before ↦ v.fewest k before
         | inr last ↦ (
             let same : k ≡ i = omega (arith, l, last) in
-            omega (arith, too_few, v.words, ap (λ z. words_of (take z rs)) same))
+            omega (arith, too_few, v.words, ap (λ z. record_words (take z rs)) same))
       ];
       small = omega (arith, too_few, c.requires.room, c.record_words-words.ensures.few);
     }

@@ -1,7 +1,7 @@
 use Rattle.std.proofs.Common.{◌≡◌, ◌≤◌, ◌++◌, length, arith, sym, ap, subst, ◌∙◌}
 use Rattle.bz_layout.specs.declared.sizes.TheConstants.{SHARED_WORDS}
 use Rattle.bz_node.specs.Records.{leaf_words, IsLeafList}
-use Rattle.bz_halves.specs.Halves.{words_of}
+use Rattle.bz_halves.specs.Halves.{record_words}
 use Rattle.bz_join.proofs.OneLeaf.{fits, list, room, one-of}
 use Rattle.bz_join.proofs.leaf.joined_leaf.Goals as goal
 
@@ -23,7 +23,7 @@ unreachable-requires c =
     let a = c.sorted-both.result in
     let b = c.sorted-more.result in
     let is : c.pairs-2.result.now ≡ a.records ++ b.records = c.pairs-2.ensures.same ∙ (c.append.ensures ∙ ap (λ z. a.records ++ z) c.pairs.ensures.same) in
-    let t = c.in-None.ensures.fits.1 (subst (λ z. words_of z ≤ SHARED_WORDS) (sym is) (room c.args.left.now.0 c.args.right.now.0 a.records b.records a.low a.high b.low b.high c.requires c.sorted-both.ensures c.sorted-more.ensures c.neighbours_join.ensures)) in
+    let t = c.in-None.ensures.fits.1 (subst (λ z. record_words z ≤ SHARED_WORDS) (sym is) (room c.args.left.now.0 c.args.right.now.0 a.records b.records a.low a.high b.low b.high c.requires c.sorted-both.ensures c.sorted-more.ensures c.neighbours_join.ensures)) in
     absurd (cc)
 
 pub returns : goal.returns

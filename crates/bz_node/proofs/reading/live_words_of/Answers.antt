@@ -8,4 +8,4 @@ loop-i-preserved c =
     let below : c.loop-i.i < count_in c.args.words.now = omega (arith, c.count_of-i-end.ensures.count) in
     let more = live_more c.args.words.now c.loop-i.i c.requires.whole c.requires.readable.room below in
     let here = ap words_shown c.meta_of.ensures.says in
-    record { live = omega (arith, more, here, c.words_of-live.ensures.words); small = omega (arith, c.words_of-live.ensures.small) }
+    record { live = omega (arith, more, here, c.extent_words-live.ensures.words); small = omega (arith, c.extent_words-live.ensures.small) }

@@ -5,7 +5,7 @@ use Rattle.std.proofs.lemmas.List.{take_all, get_or_default}
 use Rattle.bz_node.specs.Reading.{children_in}
 use Rattle.bz_node.proofs.Parts.{needed_nil}
 use Rattle.bz_halves.proofs.PartedChildren.{children-count, child-read}
-use Rattle.bz_parted.specs.Parting.{words_of}
+use Rattle.bz_parted.specs.Parting.{child_words}
 use Rattle.bz_parted.proofs.Cuts.{words-more}
 use Rattle.bz_parted.proofs.cut.cut_of.Goals as goal
 
@@ -26,7 +26,7 @@ loop-j-preserved c =
         | inl before ↦ v.fewest k before
         | inr last ↦ (
             let same : k ≡ j = omega (arith, l, last) in
-            omega (arith, too_few, v.words, ap (λ z. words_of (take z cs)) same))
+            omega (arith, too_few, v.words, ap (λ z. child_words (take z cs)) same))
       ];
       small = omega (arith, too_few, c.requires.room, c.child_words-left.ensures.few);
     }
@@ -38,6 +38,6 @@ returns-clause-cut c =
     let all : take c.child_count-count.result cs ≡ cs = take_all c.child_count-count.result cs (omega (arith, c.child_count-count.ensures, counted)) in
     let last : c.loop-j.j ≡ c.child_count-count.result = omega (arith, c.loop-j-test.false) in
     record {
-      enough = omega (arith, ap words_of all);
-      fewest = λ k l. subst (λ z. 2 * words_of (take k cs) < z) c.requires.words (c.loop-j.invariant.fewest k (omega (arith, l, last)));
+      enough = omega (arith, ap child_words all);
+      fewest = λ k l. subst (λ z. 2 * child_words (take k cs) < z) c.requires.words (c.loop-j.invariant.fewest k (omega (arith, l, last)));
     }

@@ -1,5 +1,5 @@
 use Rattle.std.proofs.Common.{◌≡◌, ℕ, true, Some, refl, subst, ◌-◌}
-use Rattle.bz_world.specs.Lab.{flush_of}
+use Rattle.bz_world.specs.WorldView.{flush_of}
 use Rattle.bz_sched.proofs.BurnLemmas.{before_cut}
 use Rattle.bz_sched.proofs.RecoveryLemmas.{recovering_is_not_off}
 use Rattle.bz_sched.proofs.WakeLemmas.{start_stops, wakes, wake_limit, wake_due, wake_cut, on_recovers}

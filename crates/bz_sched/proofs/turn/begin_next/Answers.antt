@@ -1,5 +1,5 @@
 use Rattle.std.proofs.Common.{sym, ap, ◌∙◌, inl, inr, refl}
-use Rattle.bz_world.specs.Lab.{after_begin}
+use Rattle.bz_world.specs.WorldView.{after_begin}
 use Rattle.bz_sched.specs.Fuses.{with_fuse}
 use Rattle.bz_sched.proofs.BeginLemmas.{Waits, no_stranger, not_busy, not_off, not_recovering, begin_stops, begins, begun_is_open}
 use Rattle.bz_sched.proofs.ReadyLemmas.{is_worker}

@@ -4,7 +4,7 @@ use Rattle.bz_threads.proofs.Joining.{joined_more}
 use Rattle.bz_threads.proofs.batches.join_batches.Goals as goal
 use Rattle.bz_threads.specs.Inside.Batches.{IsWorkers, lowered, IsJoined}
 use Rattle.bz_threads.specs.declared.batch.Batch.{Batch}
-use Rattle.bz_index.specs.FromWorld.Which.{Which}
+use Rattle.bz_index.specs.FromWorld.LimitKind.{LimitKind}
 
 pub loop-batch-preserved : goal.loop-batch-preserved
 loop-batch-preserved c =
@@ -16,7 +16,7 @@ loop-batch-preserved c =
       popped.0,
       λ waiting seen none.
           let was = subst (λ (batches : List Batch). IsJoined index waiting seen c.loop-batch.first batches lowest) c.in-Some.ensures.items (c.loop-batch.invariant.2 waiting seen none) in
-          subst (λ (low : Option (ℕ × Which)). IsJoined index waiting seen c.join.new.into c.pop.new.self.items low) (sym (c.lowest_of-lowest.ensures ∙ ap (λ (w : ℕ). lowered lowest w batch.stopped) c.worker-worker.ensures))
+          subst (λ (low : Option (ℕ × LimitKind)). IsJoined index waiting seen c.join.new.into c.pop.new.self.items low) (sym (c.lowest_of-lowest.ensures ∙ ap (λ (w : ℕ). lowered lowest w batch.stopped) c.worker-worker.ensures))
           (joined_more index waiting seen c.loop-batch.first c.join.new.into c.pop.new.self.items batch lowest was c.join.ensures.pass c.join.ensures.seen c.join.ensures.free),
     )
 

@@ -6,7 +6,7 @@ use Rattle.bz_threads.proofs.Ending.{ended, ended_before, ended_early}
 use Rattle.bz_threads.proofs.running.run_threads.Goals as goal
 use Rattle.bz_threads.specs.Ends.{HasRunThreads}
 use Rattle.bz_threads.specs.declared.running.ThreadsEnd.TheVariants.{Memory}
-use Rattle.bz_index.specs.FromWorld.Lab.{Lab}
+use Rattle.bz_index.specs.FromWorld.WorldView.{WorldView}
 
 pub returns-in-Some : goal.returns-in-Some
 returns-in-Some g c = ended_before c.args.world c.end_open_calls.new.world c.args.queue.now c.end_open_calls.new.queue c.in-Some.which c.in-Some.ensures
@@ -22,5 +22,5 @@ returns-in-Ok g c =
 
 pub returns-in-Err : goal.returns-in-Err
 returns-in-Err g c =
-    subst (λ (world : Lab). HasRunThreads c.args.world c.args.queue.now Memory world c.end_open_calls.new.queue) (sym c.in-Err.ensures.err)
+    subst (λ (world : WorldView). HasRunThreads c.args.world c.args.queue.now Memory world c.end_open_calls.new.queue) (sym c.in-Err.ensures.err)
     (ended_early c.args.world c.end_open_calls.new.world c.args.queue.now c.end_open_calls.new.queue c.in-None.ensures)

@@ -9,15 +9,15 @@ use Rattle.bz_world.proofs.act.act.Goals as goal
 pub make_act-progress-requires-clause-busy : goal.make_act-progress-requires-clause-busy
 make_act-progress-requires-clause-busy c = is-busy c.args.parts.now c.requires.kept c.args.w c.requires.open
 
-pub strike-requires-clause-striking : goal.strike-requires-clause-striking
-strike-requires-clause-striking c =
+pub mark_effect-requires-clause-striking : goal.mark_effect-requires-clause-striking
+mark_effect-requires-clause-striking c =
     let served = is-served c.args.parts.now c.requires.kept c.args.w c.requires.open in
     act-strikes c.effect_steps_take_place.ensures c.effects_stay_inside.ensures c.step_laws.ensures.taken c.step_laws.ensures.begun c.args.parts.now c.make_act-progress.new.parts c.args.w c.in-Some.swap served.serving
     c.make_act-progress.result.act c.make_act-progress.result.done c.requires.kept served.is
     (subst (λ o. IsActed c.args.parts.now c.args.w c.make_act-progress.result.act c.make_act-progress.result.done o c.make_act-progress.new.parts) c.in-Some.is c.make_act-progress.ensures) (omega (arith, c.requires.room))
 
 pub returns-in-Some-clause-made : goal.returns-in-Some-clause-made
-returns-in-Some-clause-made c = struck-acted c.args.parts.now c.make_act-progress.new.parts c.strike.new.parts c.args.w c.make_act-progress.result.act c.make_act-progress.result.done c.make_act-progress.result.effect c.make_act-progress.ensures c.strike.ensures.struck c.strike.ensures.rest
+returns-in-Some-clause-made c = struck-acted c.args.parts.now c.make_act-progress.new.parts c.mark_effect.new.parts c.args.w c.make_act-progress.result.act c.make_act-progress.result.done c.make_act-progress.result.effect c.make_act-progress.ensures c.mark_effect.ensures.struck c.mark_effect.ensures.rest
 
 pub returns-in-Busy-clause-on : goal.returns-in-Busy-clause-on
 returns-in-Busy-clause-on c = λ e. went-on c.step_laws.ensures c.args.parts.now c.make_act-progress.new.parts c.args.w c.make_act-progress.result.act c.make_act-progress.result.done c.requires.kept c.requires.open

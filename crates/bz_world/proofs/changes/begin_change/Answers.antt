@@ -7,7 +7,7 @@ use Rattle.bz_task.specs.declared.todo.Seen.TheVariants.{Start}
 use Rattle.bz_world.specs.Inside.Going.{with_change, needs_in}
 use Rattle.bz_world.specs.Inside.Lonely.{IsNotLonelyIn}
 use Rattle.bz_world.specs.declared.parts.Parts.{Parts}
-use Rattle.bz_world.specs.declared.serving.Serving.{Serving}
+use Rattle.bz_world.specs.declared.serving.OpenCall.{OpenCall}
 use Rattle.bz_world.proofs.Changing.{takes, knows, tells-nothing}
 use Rattle.bz_world.proofs.TakingOn.{taken-begins, begins-knowing, here-is, slot-is, told-went, told-other, went-anew}
 use Rattle.bz_world.proofs.Supplies.{told-few, told-fewer}
@@ -18,7 +18,7 @@ tell-todo-requires c = taken-begins c.args.parts.now c.args.w c.args.task c.args
     (tells-nothing c.args.parts.now c.args.w c.requires.change.reads.on c.args.had c.requires.change.reads.quiet) refl
   where
     slot : c.set_change.new.slot ≡ Some (record c.requires.change.reads.on.serving { task = c.args.task; had = c.args.had })
-    slot = c.set_change.ensures ∙ ap (λ (z : Option Serving). with_change z c.args.task c.args.had) (slot-is c.args.parts.now c.args.w c.requires.change.reads.on c.index_mut.result.now c.index_mut.ensures.value)
+    slot = c.set_change.ensures ∙ ap (λ (z : Option OpenCall). with_change z c.args.task c.args.had) (slot-is c.args.parts.now c.args.w c.requires.change.reads.on c.index_mut.result.now c.index_mut.ensures.value)
 
 pub go_on_changing-requires-clause-asks : goal.go_on_changing-requires-clause-asks
 go_on_changing-requires-clause-asks c = c.tell-todo.ensures.knows
@@ -26,19 +26,19 @@ go_on_changing-requires-clause-asks c = c.tell-todo.ensures.knows
     (tells-nothing c.args.parts.now c.args.w c.requires.change.reads.on c.args.had c.requires.change.reads.quiet) refl (knows c.args.parts.now c.args.w c.requires.change.reads) refl)
   where
     slot : c.set_change.new.slot ≡ Some (record c.requires.change.reads.on.serving { task = c.args.task; had = c.args.had })
-    slot = c.set_change.ensures ∙ ap (λ (z : Option Serving). with_change z c.args.task c.args.had) (slot-is c.args.parts.now c.args.w c.requires.change.reads.on c.index_mut.result.now c.index_mut.ensures.value)
+    slot = c.set_change.ensures ∙ ap (λ (z : Option OpenCall). with_change z c.args.task c.args.had) (slot-is c.args.parts.now c.args.w c.requires.change.reads.on c.index_mut.result.now c.index_mut.ensures.value)
 
 pub go_on_changing-requires-clause-other : goal.go_on_changing-requires-clause-other
 go_on_changing-requires-clause-other c = subst (λ (z : Parts). IsNotLonelyIn z.journal.past c.args.w (get_or c.tell-todo.new.parts.workers.items c.args.w None)) (sym c.tell-todo.ensures.rest)
     (told-other (get_or workers.items c.args.w None) (get_or c.tell-todo.new.parts.workers.items c.args.w None) Start (length c.args.parts.now.journal.past) c.args.parts.now.slots c.tell-todo.result c.tell-todo.new.parts.slots c.tell-todo.ensures.told
     c.args.parts.now.journal.past c.args.w (subst (IsNotLonelyIn c.args.parts.now.journal.past c.args.w) (sym served) c.requires.change.reads.other))
   where
-    workers : Vec (Option Serving)
+    workers : Vec (Option OpenCall)
     workers = with_item c.args.parts.now.workers c.args.w c.set_change.new.slot
 
     served : get_or workers.items c.args.w None ≡ Some (record c.requires.change.reads.on.serving { task = c.args.task; had = c.args.had })
     served = here-is c.args.parts.now c.args.w c.args.task c.args.had None c.requires.change.reads.on.serving.path (takes c.args.parts.now c.args.w c.args.had c.args.task c.requires.change) c.set_change.new.slot
-        (c.set_change.ensures ∙ ap (λ (z : Option Serving). with_change z c.args.task c.args.had) (slot-is c.args.parts.now c.args.w c.requires.change.reads.on c.index_mut.result.now c.index_mut.ensures.value))
+        (c.set_change.ensures ∙ ap (λ (z : Option OpenCall). with_change z c.args.task c.args.had) (slot-is c.args.parts.now c.args.w c.requires.change.reads.on c.index_mut.result.now c.index_mut.ensures.value))
         (tells-nothing c.args.parts.now c.args.w c.requires.change.reads.on c.args.had c.requires.change.reads.quiet)
 
 pub go_on_changing-requires-clause-room : goal.go_on_changing-requires-clause-room
@@ -48,12 +48,12 @@ pub returns : goal.returns
 returns c = went-anew c.args.parts.now workers c.args.parts.now.page c.args.w c.go_on_changing.result c.go_on_changing.new.parts
     (told-went (record c.args.parts.now { workers = workers }) c.tell-todo.new.parts c.args.w c.go_on_changing.result c.go_on_changing.new.parts c.tell-todo.ensures.rest fewer (omega (arith, none, most)) c.go_on_changing.ensures)
   where
-    workers : Vec (Option Serving)
+    workers : Vec (Option OpenCall)
     workers = with_item c.args.parts.now.workers c.args.w c.set_change.new.slot
 
     served : get_or workers.items c.args.w None ≡ Some (record c.requires.change.reads.on.serving { task = c.args.task; had = c.args.had })
     served = here-is c.args.parts.now c.args.w c.args.task c.args.had None c.requires.change.reads.on.serving.path (takes c.args.parts.now c.args.w c.args.had c.args.task c.requires.change) c.set_change.new.slot
-        (c.set_change.ensures ∙ ap (λ (z : Option Serving). with_change z c.args.task c.args.had) (slot-is c.args.parts.now c.args.w c.requires.change.reads.on c.index_mut.result.now c.index_mut.ensures.value))
+        (c.set_change.ensures ∙ ap (λ (z : Option OpenCall). with_change z c.args.task c.args.had) (slot-is c.args.parts.now c.args.w c.requires.change.reads.on c.index_mut.result.now c.index_mut.ensures.value))
         (tells-nothing c.args.parts.now c.args.w c.requires.change.reads.on c.args.had c.requires.change.reads.quiet)
 
     -- a change takes no slot

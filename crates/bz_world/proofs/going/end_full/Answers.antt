@@ -4,7 +4,7 @@ use Rattle.bz_sound.specs.Memory.Replies.{IsWrite}
 use Rattle.bz_world.specs.Inside.Beginning.{supply_of}
 use Rattle.bz_world.specs.Inside.Going.{MustEnd}
 use Rattle.bz_world.specs.Inside.Lonely.{IsNotLonelyIn}
-use Rattle.bz_world.specs.Lab.{HasRunOut}
+use Rattle.bz_world.specs.WorldView.{HasRunOut}
 use Rattle.bz_world.proofs.TakingOn.{call-is}
 use Rattle.bz_world.proofs.going.end_full.Goals as goal
 

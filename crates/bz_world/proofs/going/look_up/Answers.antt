@@ -3,7 +3,7 @@ use Rattle.std.specs.Vec.{with_item}
 use Rattle.bz_call.specs.Map.{key_of}
 use Rattle.bz_task.specs.declared.todo.Todo.TheVariants.{Read}
 use Rattle.bz_world.specs.Inside.Going.{known, with_task}
-use Rattle.bz_world.specs.declared.serving.Serving.{Serving}
+use Rattle.bz_world.specs.declared.serving.OpenCall.{OpenCall}
 use Rattle.bz_world.proofs.TakingOn.{looks-anew, taken-asks, lookup-taken, none-wanted, slot-is, call-is, has-filled, went-started, starts-always}
 use Rattle.bz_world.proofs.going.look_up.Goals as goal
 
@@ -13,7 +13,7 @@ start-requires-clause-asks c = taken-asks c.args.parts.now c.args.w c.seek-task.
     (c.key_of.ensures ∙ ap key_of (sym (call-is c.args.parts.now c.args.w c.requires.on c.index.result.now c.called-call.result c.index.ensures c.called-call.ensures)))
     c.seek-task.ensures.asks (c.seek-task.ensures.facts (known c.args.parts.now c.args.w (looks-anew c.args.parts.now c.args.w c.requires.on)) (has-filled c.args.parts.now c.args.w (looks-anew c.args.parts.now c.args.w c.requires.on)))
     (none-wanted c.args.parts.now c.args.w (looks-anew c.args.parts.now c.args.w c.requires.on) c.seek-task.result c.seek-task.ensures.wants) (λ key get lonely. absurd (c.requires.other key get lonely)))
-    c.set_task.new.slot (c.set_task.ensures ∙ ap (λ (z : Option Serving). with_task z c.seek-task.result None) (slot-is c.args.parts.now c.args.w c.requires.on c.index_mut.result.now c.index_mut.ensures.value))
+    c.set_task.new.slot (c.set_task.ensures ∙ ap (λ (z : Option OpenCall). with_task z c.seek-task.result None) (slot-is c.args.parts.now c.args.w c.requires.on c.index_mut.result.now c.index_mut.ensures.value))
     c.requires.on.between.call_open.told c.requires.other (Read 2) refl
 
 pub returns-clause-went : goal.returns-clause-went

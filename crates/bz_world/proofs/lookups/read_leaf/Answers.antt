@@ -3,7 +3,7 @@ use Rattle.std.specs.Vec.{with_item}
 use Rattle.bz_call.specs.Map.{key_of}
 use Rattle.bz_task.specs.Outcomes.{IsPath}
 use Rattle.bz_world.specs.Inside.Going.{known, with_task}
-use Rattle.bz_world.specs.declared.serving.Serving.{Serving}
+use Rattle.bz_world.specs.declared.serving.OpenCall.{OpenCall}
 use Rattle.bz_world.proofs.TakingOn.{task-begins, lookup-taken, none-wanted, slot-is, call-is, known-scene, went-anew}
 use Rattle.bz_world.proofs.lookups.read_leaf.Goals as goal
 
@@ -13,7 +13,7 @@ begin_task-requires-clause-begins c = task-begins c.args.parts.now c.args.w c.re
     key c.read_leaf-task.ensures.asks (c.read_leaf-task.ensures.facts (known c.args.parts.now c.args.w c.requires.path.on) (known-scene c.start_laws.ensures.scenes c.args.parts.now c.args.w c.requires.path.on)
     (subst (λ k. IsPath k c.args.path (known c.args.parts.now c.args.w c.requires.path.on).past) (sym key) c.requires.path.leads))
     (none-wanted c.args.parts.now c.args.w c.requires.path.on c.read_leaf-task.result c.read_leaf-task.ensures.wants) (λ key get lonely. absurd (c.requires.path.other key get lonely)))
-    c.set_task.new.slot (c.set_task.ensures ∙ ap (λ (z : Option Serving). with_task z c.read_leaf-task.result (Some c.args.path)) (slot-is c.args.parts.now c.args.w c.requires.path.on c.index_mut.result.now c.index_mut.ensures.value))
+    c.set_task.new.slot (c.set_task.ensures ∙ ap (λ (z : Option OpenCall). with_task z c.read_leaf-task.result (Some c.args.path)) (slot-is c.args.parts.now c.args.w c.requires.path.on c.index_mut.result.now c.index_mut.ensures.value))
     c.requires.path.on.between.call_open.told c.requires.path.other refl
   where
     key : c.key_of.result ≡ key_of c.requires.path.on.serving.call

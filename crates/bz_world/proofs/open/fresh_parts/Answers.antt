@@ -4,7 +4,7 @@ use Rattle.bz_sound.specs.Memory.Moments.{map_at_start}
 use Rattle.bz_layout.specs.Slots.{FreeSlots, without}
 use Rattle.bz_layout.specs.declared.config.Config.{Config}
 use Rattle.bz_sound.specs.declared.power.Power.TheVariants as power
-use Rattle.bz_world.specs.Lab.{lab_over}
+use Rattle.bz_world.specs.WorldView.{view_over}
 use Rattle.bz_world.proofs.FreshSlots.{count-fresh}
 use Rattle.bz_world.proofs.Openings.{kept-fresh, lab-made, no-pairs}
 use Rattle.bz_world.proofs.open.fresh_parts.Goals as goal
@@ -37,4 +37,4 @@ returns-clause-slots c = c.in_ok-parts.ensures.slots ∙ (c.hold.ensures ∙ ap 
 
 pub returns-clause-lab : goal.returns-clause-lab
 returns-clause-lab c = lab-made c.args.config.now _ power.On _ c.in_ok-parts.ensures.config c.in_ok-parts.ensures.made (λ on. ap (λ (s : FreeSlots). length s.free) (c.in_ok-parts.ensures.slots ∙ (c.hold.ensures ∙ ap (λ (s : FreeSlots). record s { free = without 0 s.free }) c.in_ok-slots.ensures))
-    ∙ (count-fresh c.args.config.now.nodes ∙ ap (λ (d : Config). d.nodes - 1) (sym c.in_ok-parts.ensures.config))) ∙ ap (λ words. lab_over c.args.config.now words power.On) (c.deref.ensures.value ∙ c.in_ok-start.ensures)
+    ∙ (count-fresh c.args.config.now.nodes ∙ ap (λ (d : Config). d.nodes - 1) (sym c.in_ok-parts.ensures.config))) ∙ ap (λ words. view_over c.args.config.now words power.On) (c.deref.ensures.value ∙ c.in_ok-start.ensures)

@@ -2,7 +2,7 @@ use Rattle.std.proofs.Common.{◌≢◌, ◌+◌, ◌-◌, ◌≤◌, length, ar
 use Rattle.std.proofs.lemmas.Bool.{true≢false}
 use Rattle.bz_mark.specs.Log.{Limits}
 use Rattle.bz_sound.specs.declared.power.Power.TheVariants as power
-use Rattle.bz_world.specs.Inside.Beginning.{lab_of}
+use Rattle.bz_world.specs.Inside.Beginning.{world_view}
 use Rattle.bz_world.specs.declared.answers.Applied.TheVariants as applied
 use Rattle.bz_world.proofs.Cutting.{cut-kept, cut-seen}
 use Rattle.bz_world.proofs.Refusing.{cut-applied, off-by}
@@ -12,7 +12,7 @@ pub returns-then-is_off-clause-applied : goal.returns-then-is_off-clause-applied
 returns-then-is_off-clause-applied c =
     let p = c.args.parts.now in
     let room : 3 ≤ p.journal.limits.marks - length p.journal.past = omega arith in
-    cut-applied (lab_of p) (lab_of p) applied.Off room power.Off (c.requires.tabled.power ∙ c.is_off.ensures.0 c.if-is_off.true) (refl, refl)
+    cut-applied (world_view p) (world_view p) applied.Off room power.Off (c.requires.tabled.power ∙ c.is_off.ensures.0 c.if-is_off.true) (refl, refl)
 
 pub returns-clause-kept : goal.returns-clause-kept
 returns-clause-kept c =
@@ -28,5 +28,5 @@ returns-clause-applied c =
     let left : 3 ≤ p.journal.limits.marks - length p.journal.past = omega arith in
     let room : length p.journal.past + 3 ≤ p.config.marks = omega (arith, left, ap (λ (l : Limits). l.marks) c.requires.tabled.limits) in
     let on : p.power ≢ power.Off = λ off. absurd (true≢false (sym (c.is_off.ensures.1 off) ∙ c.if-is_off.false)) in
-    cut-applied (lab_of p) (lab_of c.make_cut.new.parts) applied.Cut left p.power c.requires.tabled.power
+    cut-applied (world_view p) (world_view c.make_cut.new.parts) applied.Cut left p.power c.requires.tabled.power
     (off-by p.power _ _ on (refl, cut-seen (record { follow = c.cuts_follow.ensures; tells = c.power_tells_what_follows.ensures; leave = c.cuts_are_marked.ensures }) p c.make_cut.new.parts c.requires room on c.make_cut.ensures))

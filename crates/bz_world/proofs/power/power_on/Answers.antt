@@ -1,7 +1,7 @@
 use Rattle.std.proofs.Common.{◌-◌, ◌≤◌, length, arith, refl, sym, ◌∙◌}
 use Rattle.std.proofs.lemmas.Bool.{true≢false}
 use Rattle.bz_sound.specs.declared.power.Power.TheVariants as power
-use Rattle.bz_world.specs.Inside.Beginning.{lab_of}
+use Rattle.bz_world.specs.Inside.Beginning.{world_view}
 use Rattle.bz_world.specs.declared.answers.Applied.TheVariants as applied
 use Rattle.bz_world.proofs.Powered.{off-in, kept-started}
 use Rattle.bz_world.proofs.Refusing.{on-applied, on-refused}
@@ -20,11 +20,11 @@ pub returns-then-is_off-clause-applied : goal.returns-then-is_off-clause-applied
 returns-then-is_off-clause-applied c =
     let p = c.args.parts.now in
     let room : 3 ≤ p.journal.limits.marks - length p.journal.past = omega arith in
-    on-applied (lab_of p) (lab_of c.turn_on.new.parts) applied.On room power.Off (c.requires.tabled.power ∙ c.is_off.ensures.0 c.if-is_off.true) (refl, c.turn_on.ensures.after)
+    on-applied (world_view p) (world_view c.turn_on.new.parts) applied.On room power.Off (c.requires.tabled.power ∙ c.is_off.ensures.0 c.if-is_off.true) (refl, c.turn_on.ensures.after)
 
 pub returns-clause-applied : goal.returns-clause-applied
 returns-clause-applied c =
     let p = c.args.parts.now in
     let room : 3 ≤ p.journal.limits.marks - length p.journal.past = omega arith in
-    on-applied (lab_of p) (lab_of p) applied.Powered room p.power c.requires.tabled.power
+    on-applied (world_view p) (world_view p) applied.Powered room p.power c.requires.tabled.power
     (on-refused p.power _ _ (λ off. absurd (true≢false (sym (c.is_off.ensures.1 off) ∙ c.if-is_off.false))) (refl, refl))

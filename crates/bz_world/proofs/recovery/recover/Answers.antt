@@ -3,7 +3,7 @@ use Rattle.std.proofs.lemmas.Bool.{true≢false}
 use Rattle.bz_layout.specs.Slots.{FreeSlots}
 use Rattle.bz_layout.specs.declared.config.Config.{Config}
 use Rattle.bz_swap.specs.SwapMemory.{worker_of}
-use Rattle.bz_world.specs.Lab.{count_reached}
+use Rattle.bz_world.specs.WorldView.{count_reached}
 use Rattle.bz_world.specs.declared.parts.Parts.{Parts}
 use Rattle.bz_world.proofs.Powered.{kept-awake}
 use Rattle.bz_world.proofs.Recovered.{asked-on, seen-stepped, seen-woken}

@@ -1,6 +1,6 @@
 use Rattle.std.proofs.Common.{◌≡◌, ◌≤◌, length}
 use Rattle.bz_mark.specs.Moments.{at_moment}
-use Rattle.bz_world.specs.Lab.{reply_of}
+use Rattle.bz_world.specs.WorldView.{reply_of}
 use Rattle.bz_world.proofs.replies.reply_in.Given as goal
 
 abbrev pub decreases-loop-left : goal.decreases-loop-left

@@ -3,7 +3,7 @@ use Rattle.bz_call.specs.Map.{key_of}
 use Rattle.bz_layout.specs.declared.thresholds.TheConstants.{CONSOLIDATION_SLOTS}
 use Rattle.std.specs.Vec.{with_item}
 use Rattle.bz_world.specs.Inside.Going.{with_task}
-use Rattle.bz_world.specs.declared.serving.Serving.{Serving}
+use Rattle.bz_world.specs.declared.serving.OpenCall.{OpenCall}
 use Rattle.bz_world.proofs.Changing.{needs-copy}
 use Rattle.bz_world.proofs.MakingAnew.{anew-taken, anew-pages}
 use Rattle.bz_world.proofs.TakingOn.{task-begins, slot-is, went-anew}
@@ -18,7 +18,7 @@ begin_task-requires-clause-begins c = task-begins (record c.args.parts.now { pag
     c.consolidate-task.result c.consolidate-task.ensures.config c.laws.ensures c.consolidate-task.ensures.silent c.consolidate-task.ensures.ends c.consolidate-task.ensures.asks CONSOLIDATION_SLOTS c.consolidate-task.ensures.wants
     (needs-copy c.start_laws.ensures.scenes c.answer_laws.ensures c.args.parts.now c.args.w c.args.view.now c.requires.copy.anew.answer (key_of c.requires.copy.anew.answer.on.serving.call) refl c.requires.copy.frozen)
     c.consolidate-task.ensures.facts)
-    c.set_task.new.slot (c.set_task.ensures ∙ ap (λ (z : Option Serving). with_task z c.consolidate-task.result None) (slot-is (record c.args.parts.now { page = c.consolidate-task.new.page }) c.args.w (anew-pages c.args.parts.now c.args.w c.args.path c.args.view.now c.consolidate-task.new.page c.requires.copy.anew).answer.on c.index_mut.result.now c.index_mut.ensures.value))
+    c.set_task.new.slot (c.set_task.ensures ∙ ap (λ (z : Option OpenCall). with_task z c.consolidate-task.result None) (slot-is (record c.args.parts.now { page = c.consolidate-task.new.page }) c.args.w (anew-pages c.args.parts.now c.args.w c.args.path c.args.view.now c.consolidate-task.new.page c.requires.copy.anew).answer.on c.index_mut.result.now c.index_mut.ensures.value))
     c.requires.copy.anew.answer.on.between.call_open.told c.requires.copy.anew.answer.other refl
 
 pub returns : goal.returns

@@ -1,7 +1,7 @@
 use Rattle.std.proofs.Common.{refl, ap, ◌∙◌, Option, None}
 use Rattle.std.specs.Vec.{with_item}
 use Rattle.bz_world.specs.Inside.Going.{with_task}
-use Rattle.bz_world.specs.declared.serving.Serving.{Serving}
+use Rattle.bz_world.specs.declared.serving.OpenCall.{OpenCall}
 use Rattle.bz_world.proofs.MakingAnew.{freeze-taken}
 use Rattle.bz_world.proofs.TakingOn.{task-begins, slot-is, went-anew}
 use Rattle.bz_world.proofs.restructuring.freeze.Goals as goal
@@ -9,7 +9,7 @@ use Rattle.bz_world.proofs.restructuring.freeze.Goals as goal
 pub begin_task-requires-clause-begins : goal.begin_task-requires-clause-begins
 begin_task-requires-clause-begins c = task-begins c.args.parts.now c.args.w c.freeze-task.result c.requires.answer.on.serving.had None None
     (freeze-taken c.start_laws.ensures.scenes c.args.parts.now c.args.w c.args.view.now c.requires.answer c.freeze-task.result c.freeze-task.ensures.config c.laws.ensures c.freeze-task.ensures.silent c.freeze-task.ensures.ends c.freeze-task.ensures.asks c.freeze-task.ensures.wants c.freeze-task.ensures.facts)
-    c.set_task.new.slot (c.set_task.ensures ∙ ap (λ (z : Option Serving). with_task z c.freeze-task.result None) (slot-is c.args.parts.now c.args.w c.requires.answer.on c.index_mut.result.now c.index_mut.ensures.value))
+    c.set_task.new.slot (c.set_task.ensures ∙ ap (λ (z : Option OpenCall). with_task z c.freeze-task.result None) (slot-is c.args.parts.now c.args.w c.requires.answer.on c.index_mut.result.now c.index_mut.ensures.value))
     c.requires.answer.on.between.call_open.told c.requires.answer.other refl
 
 pub returns : goal.returns

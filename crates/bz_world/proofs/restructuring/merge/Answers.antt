@@ -1,7 +1,7 @@
 use Rattle.std.proofs.Common.{refl, ap, ◌∙◌, Option, None}
 use Rattle.std.specs.Vec.{with_item}
 use Rattle.bz_world.specs.Inside.Going.{with_task}
-use Rattle.bz_world.specs.declared.serving.Serving.{Serving}
+use Rattle.bz_world.specs.declared.serving.OpenCall.{OpenCall}
 use Rattle.bz_world.proofs.MakingAnew.{merge-taken}
 use Rattle.bz_world.proofs.TakingOn.{task-begins, slot-is, went-anew}
 use Rattle.bz_world.proofs.restructuring.merge.Goals as goal
@@ -9,7 +9,7 @@ use Rattle.bz_world.proofs.restructuring.merge.Goals as goal
 pub begin_task-requires-clause-begins : goal.begin_task-requires-clause-begins
 begin_task-requires-clause-begins c = task-begins c.args.parts.now c.args.w c.merge-task.result c.requires.merge.on.serving.had None None
     (merge-taken c.start_laws.ensures.scenes c.args.parts.now c.args.w c.args.path c.args.view.now c.requires.merge c.merge-task.result c.merge-task.ensures.config c.laws.ensures c.merge-task.ensures.silent c.merge-task.ensures.ends c.merge-task.ensures.asks c.merge-task.ensures.wants c.merge-task.ensures.facts)
-    c.set_task.new.slot (c.set_task.ensures ∙ ap (λ (z : Option Serving). with_task z c.merge-task.result None) (slot-is c.args.parts.now c.args.w c.requires.merge.on c.index_mut.result.now c.index_mut.ensures.value))
+    c.set_task.new.slot (c.set_task.ensures ∙ ap (λ (z : Option OpenCall). with_task z c.merge-task.result None) (slot-is c.args.parts.now c.args.w c.requires.merge.on c.index_mut.result.now c.index_mut.ensures.value))
     c.requires.merge.on.between.call_open.told c.requires.merge.other refl
 
 pub returns : goal.returns

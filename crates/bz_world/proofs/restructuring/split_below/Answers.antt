@@ -3,7 +3,7 @@ use Rattle.bz_call.specs.Map.{key_of}
 use Rattle.bz_layout.specs.declared.thresholds.TheConstants.{SPLIT_SLOTS}
 use Rattle.std.specs.Vec.{with_item}
 use Rattle.bz_world.specs.Inside.Going.{with_task}
-use Rattle.bz_world.specs.declared.serving.Serving.{Serving}
+use Rattle.bz_world.specs.declared.serving.OpenCall.{OpenCall}
 use Rattle.bz_world.proofs.Changing.{needs-split}
 use Rattle.bz_world.proofs.GoingUp.{split-taken}
 use Rattle.bz_world.proofs.MakingAnew.{anew-pages}
@@ -19,7 +19,7 @@ begin_task-requires-clause-begins c = task-begins (record c.args.parts.now { pag
     c.key_of.result key c.split_below-task.result c.split_below-task.ensures.config c.laws.ensures c.split_below-task.ensures.silent c.split_below-task.ensures.ends c.split_below-task.ensures.asks SPLIT_SLOTS c.split_below-task.ensures.wants
     (needs-split c.start_laws.ensures.scenes c.answer_laws.ensures c.args.parts.now c.args.w c.args.view.now c.requires.split.anew.answer (key_of c.requires.split.anew.answer.on.serving.call) refl c.requires.split.frozen c.requires.split.many)
     c.split_below-task.ensures.facts)
-    c.set_task.new.slot (c.set_task.ensures ∙ ap (λ (z : Option Serving). with_task z c.split_below-task.result None) (slot-is (record c.args.parts.now { page = c.split_below-task.new.page }) c.args.w (anew-pages c.args.parts.now c.args.w c.args.path c.args.view.now c.split_below-task.new.page c.requires.split.anew).answer.on c.index_mut.result.now c.index_mut.ensures.value))
+    c.set_task.new.slot (c.set_task.ensures ∙ ap (λ (z : Option OpenCall). with_task z c.split_below-task.result None) (slot-is (record c.args.parts.now { page = c.split_below-task.new.page }) c.args.w (anew-pages c.args.parts.now c.args.w c.args.path c.args.view.now c.split_below-task.new.page c.requires.split.anew).answer.on c.index_mut.result.now c.index_mut.ensures.value))
     c.requires.split.anew.answer.on.between.call_open.told c.requires.split.anew.answer.other refl
   where
     key : c.key_of.result ≡ key_of c.requires.split.anew.answer.on.serving.call

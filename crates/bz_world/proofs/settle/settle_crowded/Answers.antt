@@ -1,8 +1,8 @@
 use Rattle.std.proofs.Common.{sym, subst, inl}
 use Rattle.std.specs.Prelude.{IfSome, Option}
-use Rattle.bz_running.specs.declared.running.Running.{Running}
+use Rattle.bz_running.specs.declared.running.AnyTask.{AnyTask}
 use Rattle.bz_world.specs.Inside.Going.{CanGoUpIn, GoesUpIn, known}
-use Rattle.bz_world.specs.declared.serving.Serving.{Serving}
+use Rattle.bz_world.specs.declared.serving.OpenCall.{OpenCall}
 use Rattle.bz_task.specs.declared.todo.Outcome.TheVariants.{NeedsRoom}
 use Rattle.bz_world.proofs.LonelyEnds.{other-ended}
 use Rattle.bz_world.proofs.TakingOn.{slot-is}
@@ -11,14 +11,14 @@ use Rattle.bz_world.proofs.settle.settle_crowded.Goals as goal
 pub above-requires : goal.above-requires
 above-requires c =
     let e = c.requires.ends in
-    subst (λ (z : Option Serving). CanGoUpIn z c.args.parts.now.config) (sym (slot-is c.args.parts.now c.args.w e.on c.index.result.now c.index.ensures))
+    subst (λ (z : Option OpenCall). CanGoUpIn z c.args.parts.now.config) (sym (slot-is c.args.parts.now c.args.w e.on c.index.result.now c.index.ensures))
     (record { config = e.tasked.config; known = record { scene = known c.args.parts.now c.args.w e.on; facts = e.facts } })
 
 pub split_above-requires-clause-up : goal.split_above-requires-clause-up
 split_above-requires-clause-up c =
     let e = c.requires.ends in
-    let found = subst (λ (z : Option Running). IfSome z (GoesUpIn c.index.result.now)) c.in-Some.is c.above.ensures in
-    record { ends = e; up = subst (λ (z : Option Serving). GoesUpIn z c.in-Some.task) (slot-is c.args.parts.now c.args.w e.on c.index.result.now c.index.ensures) found }
+    let found = subst (λ (z : Option AnyTask). IfSome z (GoesUpIn c.index.result.now)) c.in-Some.is c.above.ensures in
+    record { ends = e; up = subst (λ (z : Option OpenCall). GoesUpIn z c.in-Some.task) (slot-is c.args.parts.now c.args.w e.on c.index.result.now c.index.ensures) found }
 
 pub look_up_alone-requires : goal.look_up_alone-requires
 look_up_alone-requires c = record { on = c.requires.ends.on; may = inl c.requires.ends.quiet; other = other-ended c.args.parts.now c.args.w c.requires.ends.on NeedsRoom c.requires.ends.end (λ path e. cc e) (λ view e. cc e) }

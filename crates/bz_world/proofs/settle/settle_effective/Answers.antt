@@ -1,5 +1,5 @@
 use Rattle.std.proofs.Common.{ap, ◌∙◌, inr}
-use Rattle.bz_world.specs.Lab.{is_delete}
+use Rattle.bz_world.specs.WorldView.{is_delete}
 use Rattle.bz_world.proofs.TakingOn.{call-is}
 use Rattle.bz_world.proofs.settle.settle_effective.Goals as goal
 

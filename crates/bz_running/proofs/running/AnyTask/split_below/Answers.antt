@@ -3,7 +3,7 @@ use Rattle.bz_ascent.specs.declared.ascent.Ascent.{Ascent}
 use Rattle.bz_running.specs.Duties.{facts_of, means_of, ascent_of}
 use Rattle.bz_running.specs.MadeFor.{IsMadeFor}
 use Rattle.bz_running.proofs.Ascending.{same-ascent, lower-link, upper-link}
-use Rattle.bz_running.proofs.running.Running.split_below.Goals as goal
+use Rattle.bz_running.proofs.running.AnyTask.split_below.Goals as goal
 
 pub returns-clause-ends : goal.returns-clause-ends
 unfolding means_of ascent_of

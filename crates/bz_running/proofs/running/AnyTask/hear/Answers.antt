@@ -3,11 +3,11 @@ use Rattle.bz_running.specs.Duties.{config_of, asks_of, end_of, left_of, swaps_o
 use Rattle.bz_running.specs.Hearing.{HasHeard}
 use Rattle.bz_running.specs.LookingUp.{look_of, reads_asked, HasCounted}
 use Rattle.bz_running.specs.MadeFor.{IsMadeFor}
-use Rattle.bz_running.specs.declared.running.Running.TheVariants.{Seeking, Finding, Reading, Inserting, Updating, Deleting, Freezing, Consolidating, Splitting, SplittingBelow, SplittingInner, SplittingInnerRoot, Merging}
+use Rattle.bz_running.specs.declared.running.AnyTask.TheVariants.{Seeking, Finding, Reading, Inserting, Updating, Deleting, Freezing, Consolidating, Splitting, SplittingBelow, SplittingInner, SplittingInnerRoot, Merging}
 use Rattle.bz_running.proofs.Ascending.{meant-so}
 use Rattle.bz_running.proofs.Counting.{seek-counts, find-counts, none-counts}
 use Rattle.bz_running.proofs.Made.{copy-kept, split-kept, below-kept, fork-kept, crown-kept}
-use Rattle.bz_running.proofs.running.Running.hear.Goals as goal
+use Rattle.bz_running.proofs.running.AnyTask.hear.Goals as goal
 
 pub returns-in-Inserting : goal.returns-in-Inserting
 unfolding config_of asks_of end_of left_of swaps_of made_of change_swaps needs_of wants_of change_of publishing_of facts_of means_of ascent_of differs_of makes_no_change look_of IsMadeFor

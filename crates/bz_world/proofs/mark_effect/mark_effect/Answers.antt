@@ -9,7 +9,7 @@ use Rattle.bz_world.specs.Inside.Serving.{noted, is_publishing, pairs_after}
 use Rattle.bz_world.specs.Inside.Laws.{StrikeLaws}
 use Rattle.bz_world.proofs.Striking.{x}
 use Rattle.bz_world.proofs.Struck.{in-owners, in-table, slot-was, struck-silent, struck-aloud}
-use Rattle.bz_world.proofs.strike.strike.Goals as goal
+use Rattle.bz_world.proofs.mark_effect.mark_effect.Goals as goal
 
 pub index_mut-requires : goal.index_mut-requires
 index_mut-requires c = omega (arith, in-table b p c.args.swap h v named, h.tabled.places, vec-is)

@@ -1,6 +1,6 @@
 use Rattle.std.proofs.Common.{sym}
 use Rattle.bz_running.specs.MadeFor.{IsMadeFor}
-use Rattle.bz_running.proofs.running.Running.consolidate.Goals as goal
+use Rattle.bz_running.proofs.running.AnyTask.consolidate.Goals as goal
 
 pub returns-clause-made_for : goal.returns-clause-made_for
 unfolding IsMadeFor

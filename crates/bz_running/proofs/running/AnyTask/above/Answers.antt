@@ -6,13 +6,13 @@ use Rattle.bz_ascent.specs.declared.ascent.Ascent.{Ascent}
 use Rattle.bz_task.specs.declared.path.Path.{Path}
 use Rattle.bz_running.specs.Duties.{config_of, ascent_of}
 use Rattle.bz_running.specs.GoingUp.{IsSplitAt, GoesUp}
-use Rattle.bz_running.specs.declared.running.Running.{Running}
+use Rattle.bz_running.specs.declared.running.AnyTask.{AnyTask}
 use Rattle.bz_running.proofs.Rising.{goes-up, is-rising}
 use Rattle.bz_running.proofs.Statements.{Ends}
-use Rattle.bz_running.proofs.running.Running.above.Goals as goal
+use Rattle.bz_running.proofs.running.AnyTask.above.Goals as goal
 
 -- where the split of the node above may begin, it goes on from this one
-up : AscentsRise → (t : Running) (a next : Ascent) → Ends t → ascent_of t ≡ Some a → IsOneUp a next → (found : Option Running) → IfSome found (IsSplitAt (config_of t) next) → IfSome found (GoesUp t)
+up : AscentsRise → (t : AnyTask) (a next : Ascent) → Ends t → ascent_of t ≡ Some a → IsOneUp a next → (found : Option AnyTask) → IfSome found (IsSplitAt (config_of t) next) → IfSome found (GoesUp t)
 up law t a next ends is one None it = tt
 up law t a next ends is one (Some other) it = goes-up law t other a next ends is one it
 

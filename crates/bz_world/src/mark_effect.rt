@@ -2,19 +2,19 @@
 ghost use Rattle.std.specs.Prelude.{◌≡◌, ◌<◌, ◌+◌, ◌^◌, length};
 ghost use Rattle.bz_world.specs.Inside.Acted.{IsStriking};
 ghost use Rattle.bz_world.specs.Inside.Kept.{IsAwake};
-ghost use Rattle.bz_world.specs.Lab.{IsStruck};
+ghost use Rattle.bz_world.specs.WorldView.{IsStruck};
 ghost use Rattle.bz_world.specs.Inside.Serving.{noted, is_publishing, pairs_after};
 
 use crate::going::effect_reply;
 use crate::laws::strike_laws;
 use crate::parts::Parts;
-use crate::serving::Serving;
+use crate::serving::OpenCall;
 use bz_call::Reply;
 use bz_mark::Mark;
 use bz_task::Task;
 
 // Notes the moment at the call that is served, if its task's swap makes its change. Answers whether it does.
-fn note_effect(slot: &mut Option<Serving>, moment: u32) -> bool
+fn note_effect(slot: &mut Option<OpenCall>, moment: u32) -> bool
     ensures publishes { result ≡ is_publishing slot.old }
     ensures noted { slot.new ≡ noted slot.old moment }
 {
@@ -31,7 +31,7 @@ fn note_effect(slot: &mut Option<Serving>, moment: u32) -> bool
 }
 
 // How many pairs there are once the call that is served has made its change.
-fn count_pairs(slot: &Option<Serving>, pairs: u64) -> u64
+fn count_pairs(slot: &Option<OpenCall>, pairs: u64) -> u64
     requires { pairs + 1 < 2 ^ 64 }
     ensures { result ≡ pairs_after slot.now pairs }
 {
@@ -46,7 +46,7 @@ fn count_pairs(slot: &Option<Serving>, pairs: u64) -> u64
 }
 
 /// A swap has taken effect. Where it makes the change of its call, that is marked.
-pub(crate) fn strike(parts: &mut Parts, swap: u16)
+pub(crate) fn mark_effect(parts: &mut Parts, swap: u16)
     requires striking { IsStriking parts.old swap }
     requires room { length parts.old.journal.past < parts.old.config.marks }
     ensures kept { IsAwake parts.new }

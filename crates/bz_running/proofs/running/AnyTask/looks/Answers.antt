@@ -4,7 +4,7 @@ use Rattle.bz_find.specs.Facts.{find_reads}
 use Rattle.bz_task.specs.Instant.{durable}
 use Rattle.bz_running.specs.LookingUp.{LooksUpBriefly}
 use Rattle.bz_running.proofs.LookingUp.{seeks-briefly, finds-briefly, others-briefly}
-use Rattle.bz_running.proofs.running.Running.looks.Goals as goal
+use Rattle.bz_running.proofs.running.AnyTask.looks.Goals as goal
 
 pub returns-in-Seeking : goal.returns-in-Seeking
 returns-in-Seeking c = let a = c.asked-asked in subst LooksUpBriefly (sym c.in-Seeking.is) (seeks-briefly c.in-Seeking.task (λ path s f e. subst (λ z. z ≤ path_reads path) a.ensures.asked (a.ensures.found path s f e)))

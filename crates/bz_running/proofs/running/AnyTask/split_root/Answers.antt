@@ -1,6 +1,6 @@
 use Rattle.std.proofs.Common.{sym}
 use Rattle.bz_running.specs.MadeFor.{IsMadeFor}
-use Rattle.bz_running.proofs.running.Running.split_root.Goals as goal
+use Rattle.bz_running.proofs.running.AnyTask.split_root.Goals as goal
 
 pub returns-clause-made_for : goal.returns-clause-made_for
 unfolding IsMadeFor

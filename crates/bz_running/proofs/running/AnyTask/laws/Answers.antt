@@ -1,7 +1,7 @@
 use Rattle.bz_running.proofs.Heights.{filled-up}
 use Rattle.bz_running.proofs.Made.{made-stays}
 use Rattle.bz_running.proofs.Statements.{takes-few, wants-few, publishes-last}
-use Rattle.bz_running.proofs.running.Running.laws.Goals as goal
+use Rattle.bz_running.proofs.running.AnyTask.laws.Goals as goal
 
 pub returns : goal.returns
 returns c = let l = c.learnt.ensures in let a = c.acted.ensures in record {

@@ -1,9 +1,9 @@
 use Rattle.std.proofs.Common.{sym, subst}
 use Rattle.bz_running.specs.Duties.{config_of, asks_of, end_of, needs_of, facts_of, differs_of}
-use Rattle.bz_running.specs.declared.running.Running.TheVariants.{Consolidating, Splitting, SplittingBelow, SplittingInner, SplittingInnerRoot, Merging}
+use Rattle.bz_running.specs.declared.running.AnyTask.TheVariants.{Consolidating, Splitting, SplittingBelow, SplittingInner, SplittingInnerRoot, Merging}
 use Rattle.bz_running.proofs.Ascending.{meant-so}
 use Rattle.bz_running.proofs.Statements.{Learns, Restarts}
-use Rattle.bz_running.proofs.running.RunningTask.next.Goals as goal
+use Rattle.bz_running.proofs.running.AnyTaskTask.next.Goals as goal
 
 pub returns-in-Consolidating-clause-learns : goal.returns-in-Consolidating-clause-learns
 unfolding config_of asks_of needs_of facts_of

@@ -2,7 +2,7 @@ use Rattle.std.proofs.Common.{sym, subst}
 use Rattle.bz_running.specs.Duties.{config_of, asks_of, change_of, publishing_of, facts_of}
 use Rattle.bz_running.proofs.Statements.{Effect, Took, Stored, Flushed}
 use Rattle.bz_running.proofs.Ascending.{goes-on}
-use Rattle.bz_running.proofs.running.RunningTask.acted.Goals as goal
+use Rattle.bz_running.proofs.running.AnyTaskTask.acted.Goals as goal
 
 pub returns-in-Inserting-clause-effect : goal.returns-in-Inserting-clause-effect
 unfolding config_of asks_of change_of publishing_of facts_of

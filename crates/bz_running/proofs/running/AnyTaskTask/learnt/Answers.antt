@@ -2,7 +2,7 @@ use Rattle.std.proofs.Common.{sym, subst}
 use Rattle.bz_running.specs.Duties.{config_of, asks_of, facts_of, differs_of}
 use Rattle.bz_running.proofs.Ascending.{goes-on}
 use Rattle.bz_running.proofs.Statements.{Stable, Askable, Cause}
-use Rattle.bz_running.proofs.running.RunningTask.learnt.Goals as goal
+use Rattle.bz_running.proofs.running.AnyTaskTask.learnt.Goals as goal
 
 pub returns-in-Splitting-clause-stable : goal.returns-in-Splitting-clause-stable
 unfolding config_of facts_of

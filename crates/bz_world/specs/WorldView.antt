@@ -42,7 +42,7 @@ use Rattle.bz_world.specs.declared.answers.BootError.{BootError}
 use Rattle.bz_world.specs.declared.answers.BootError.TheVariants as boot_error
 use Rattle.bz_world.specs.declared.answers.OpenError.{OpenError}
 use Rattle.bz_world.specs.declared.answers.OpenError.TheVariants as open_error
-use Rattle.bz_world.specs.declared.answers.Which.TheVariants as which
+use Rattle.bz_world.specs.declared.answers.LimitKind.TheVariants as which
 
 -- how many descriptors were taken since the power came on, and how many slots of nodes are free
 pub record Supply : Type 0 where
@@ -57,7 +57,7 @@ supply_by other supply = record { taken = 0; left = 0 }
 -- the numbers that the world was made with, what the power was at first, its journal, and of each worker, from worker 0 on, whether its next act is a flush,
 -- whether it has a swap under way, and whether its next act was a flush when the power was cut last; before the first cut nobody has a flag of that last kind; and
 -- what is taken and left
-pub record Lab : Type 0 where
+pub record WorldView : Type 0 where
   pub config : Config
   pub at_start : Power
   pub log : Log
@@ -67,20 +67,20 @@ pub record Lab : Type 0 where
   pub supply : Supply
 
 -- whether the next act of a worker is a flush
-abbrev pub flush_of : Lab → ℕ → Bool
+abbrev pub flush_of : WorldView → ℕ → Bool
 flush_of lab w = get_or lab.flushes w false
 
 -- whether a worker has a swap under way: it has begun one, and has not been told what came of it
-abbrev pub is_swapping : Lab → ℕ → Bool
+abbrev pub is_swapping : WorldView → ℕ → Bool
 is_swapping lab w = get_or lab.swapping w false
 
 -- whether the act of a worker that the last power cut left out was a flush
-abbrev pub flush_left_out : Lab → ℕ → Bool
+abbrev pub flush_left_out : WorldView → ℕ → Bool
 flush_left_out lab w = get_or lab.left_out w false
 
 -- a world over these words, in which nothing has happened: of fresh memory all slots are free but the root's
-abbrev pub lab_over : Config → List ℕ → Power → Lab
-lab_over config start at_start = record {
+abbrev pub view_over : Config → List ℕ → Power → WorldView
+view_over config start at_start = record {
   config = config;
   at_start = at_start;
   log = record { start = start; past = []; pages = []; limits = record { marks = config.marks; calls = config.calls; pages = config.pages } };
@@ -91,19 +91,19 @@ lab_over config start at_start = record {
 }
 
 -- over fresh memory its power is on
-abbrev pub new_lab : Config → Lab
-new_lab config = lab_over config (fresh_words config) power.On
+abbrev pub new_view : Config → WorldView
+new_view config = view_over config (fresh_words config) power.On
 
 -- over an image, such as a power cut leaves, it is off
-abbrev pub image_lab : Config → List ℕ → Lab
-image_lab config image = lab_over config image power.Off
+abbrev pub image_view : Config → List ℕ → WorldView
+image_view config image = view_over config image power.Off
 
 -- what the power is
-abbrev pub power_in : Lab → Power
+abbrev pub power_in : WorldView → Power
 power_in lab = power_of lab.at_start lab.log.past
 
 -- how many acts worker 0 has made since the power came on last, and in a recovery fewer than this
-abbrev pub recovery_acts : Lab → ℕ
+abbrev pub recovery_acts : WorldView → ℕ
 recovery_acts lab = acts_by 0 (since_on lab.log.past)
 
 abbrev pub recovery_most : Config → ℕ
@@ -116,11 +116,11 @@ is_delete other = false
 
 -- an open call that has had its effect does nothing but finish the swap that made it, and ends when that is told: but for a delete, which may go on to have its leaf
 -- merged. So none looks for its key again once its change stands
-abbrev pub AreFinishing : Lab → Type 0
+abbrev pub AreFinishing : WorldView → Type 0
 AreFinishing lab = (w at : ℕ) (opened : Open) → open_call w lab.log.past ≡ Some opened → opened.effect ≡ Some at → is_delete opened.call ≡ false → is_swapping lab w ≡ true
 
 -- the number of a worker's open call, if one is open
-abbrev pub open_number : Lab → ℕ → Option ℕ
+abbrev pub open_number : WorldView → ℕ → Option ℕ
 open_number lab w = option_map (λ (opened : Open). opened.number) (open_call w lab.log.past)
 
 -- the reply of the call with this number of a worker, if the marks have its End
@@ -130,7 +130,7 @@ reply_of w n (End v m reply at ∷ past) = if (v == w) && (m == n) then Some rep
 reply_of w n (mark ∷ past) = reply_of w n past
 
 -- how many pairs the map has after all effects
-abbrev pub pairs_in : Lab → ℕ
+abbrev pub pairs_in : WorldView → ℕ
 pairs_in lab = len (map_after (map_at_start lab.config lab.log.start) lab.log.past)
 
 -- why no world was opened: the first number out of its range, or want of memory, and then none is
@@ -158,43 +158,43 @@ abbrev pub lacks_page : Log → Call → Bool
 lacks_page log called = is_page called && nat_le log.limits.pages (count_page_calls log.past)
 
 -- the answer to a begin with the power on: the first refusal that applies, or else the call's number
-abbrev pub powered_answer : Lab → ℕ → Call → Begun
+abbrev pub powered_answer : WorldView → ℕ → Call → Begun
 powered_answer lab w called =
     if is_some (open_call w lab.log.past) then begun.Busy
     else (if nat_le lab.log.limits.calls (count_begins lab.log.past) then begun.Limit which.Calls
     else (if lacks_page lab.log called then begun.Limit which.Pages
     else begun.Begun (begun_calls w lab.log.past + 1)))
 
-abbrev pub answer_by : Power → Lab → ℕ → Call → Begun
+abbrev pub answer_by : Power → WorldView → ℕ → Call → Begun
 answer_by power.Off lab w called = begun.Off
 answer_by power.Recovering lab w called = begun.Recovering
 answer_by power.On lab w called = powered_answer lab w called
 
 -- and to any begin
-abbrev pub begin_answer : Lab → ℕ → Call → Begun
+abbrev pub begin_answer : WorldView → ℕ → Call → Begun
 begin_answer lab w called =
     if (w == 0) || nat_lt lab.config.workers w then begun.NoWorker
     else (if is_short lab.log then begun.Limit which.Marks
     else answer_by (power_in lab) lab w called)
 
 -- a begin adds its mark where it is no refusal, and changes nothing else: a call's first act is no flush
-abbrev pub after_begin : Lab → ℕ → Call → Begun → Lab
+abbrev pub after_begin : WorldView → ℕ → Call → Begun → WorldView
 after_begin lab w called (begun.Begun n) = record lab { log = with_mark lab.log (Begin w n called); flushes = slice_set lab.flushes w false; swapping = slice_set lab.swapping w false }
 after_begin lab w called refusal = lab
 
 -- a worker without an open call makes no step
-abbrev pub idle_refusal : Lab → ℕ → Option Applied
+abbrev pub idle_refusal : WorldView → ℕ → Option Applied
 idle_refusal lab w = if is_none (open_call w lab.log.past) then Some applied.Idle else None
 
 -- in a recovery worker 0 alone acts
-abbrev pub step_by : Power → Lab → ℕ → Option Applied
+abbrev pub step_by : Power → WorldView → ℕ → Option Applied
 step_by power.Off lab w = Some applied.Off
 step_by power.Recovering lab zero = None
 step_by power.Recovering lab (suc w) = Some applied.Recovering
 step_by power.On lab w = idle_refusal lab w
 
 -- the first refusal of a step that applies
-abbrev pub step_refusal : Lab → ℕ → Option Applied
+abbrev pub step_refusal : WorldView → ℕ → Option Applied
 step_refusal lab w =
     if nat_lt lab.config.workers w then Some applied.NoWorker
     else (if is_short lab.log then Some applied.Limit
@@ -206,14 +206,14 @@ off_refusal power.Off = Some applied.Off
 off_refusal other = None
 
 -- and of an eviction
-abbrev pub evict_refusal : Lab → ℕ → Option Applied
+abbrev pub evict_refusal : WorldView → ℕ → Option Applied
 evict_refusal lab a =
     if nat_le (words_of lab.config) a then Some applied.NoWord
     else (if is_short lab.log then Some applied.Limit
     else off_refusal (power_in lab))
 
 -- and of a power cut
-abbrev pub cut_refusal : Lab → Option Applied
+abbrev pub cut_refusal : WorldView → Option Applied
 cut_refusal lab =
     if is_short lab.log then Some applied.Limit
     else off_refusal (power_in lab)
@@ -223,7 +223,7 @@ abbrev pub on_by : Power → Option Applied
 on_by power.Off = None
 on_by other = Some applied.Powered
 
-abbrev pub on_refusal : Lab → Option Applied
+abbrev pub on_refusal : WorldView → Option Applied
 on_refusal lab =
     if is_short lab.log then Some applied.Limit
     else on_by (power_in lab)
@@ -287,7 +287,7 @@ GetsBriefly config old w new =
 -- call's End, which is a Full only where what that names has run out, and that of a lonely get only after few acts. A task takes at
 -- most as many slots as a split does: the one that this act ends, and the next one. What the next acts of the others are stays, and
 -- which of them have a swap under way.
-pub record Steps (old : Lab) (w : ℕ) (answer : Applied) (new : Lab) : Type 0 where
+pub record Steps (old : WorldView) (w : ℕ) (answer : Applied) (new : WorldView) : Type 0 where
   pub made : Act
   pub flush : is_flush_act made ≡ flush_of old w
   pub struck : List Mark
@@ -318,7 +318,7 @@ GivesBack config log applied.Ready old new = (new.taken ≡ 0) × (new.left + co
 GivesBack config log other old new = new ≡ old
 
 -- a step of the recovery: exactly one act of worker 0, a flush exactly where that was said before
-pub record Recovers (old : Lab) (answer : Applied) (new : Lab) : Type 0 where
+pub record Recovers (old : WorldView) (answer : Applied) (new : WorldView) : Type 0 where
   pub made : Act
   pub flush : is_flush_act made ≡ flush_of old 0
   pub ends : EndsRecovery (with_mark old.log (mark_of 0 made)) answer new.log
@@ -329,27 +329,27 @@ pub record Recovers (old : Lab) (answer : Applied) (new : Lab) : Type 0 where
   pub others : (v : ℕ) → v ≢ 0 → flush_of new v ≡ flush_of old v
   pub apart : (v : ℕ) → v ≢ 0 → is_swapping new v ≡ is_swapping old v
 
-abbrev pub StepsBy : Power → Lab → ℕ → Applied → Lab → Type 0
+abbrev pub StepsBy : Power → WorldView → ℕ → Applied → WorldView → Type 0
 StepsBy power.Recovering old w answer new = Recovers old answer new
 StepsBy other old w answer new = Steps old w answer new
 
 -- an eviction: its mark, and at most one effect
-pub record Evicts (old : Lab) (a : ℕ) (answer : Applied) (new : Lab) : Type 0 where
+pub record Evicts (old : WorldView) (a : ℕ) (answer : Applied) (new : WorldView) : Type 0 where
   pub answered : answer ≡ applied.Evicted
   pub past : List Mark
   pub effect : IsStruck (Evict a ∷ old.log.past) past
   pub rest : new ≡ record old { log = record old.log { past = past } }
 
 -- a power cut adds its mark, and nobody has a next act: which of them were flushes is kept. What was taken is told no more
-abbrev pub after_cut : Lab → Lab
+abbrev pub after_cut : WorldView → WorldView
 after_cut lab = record lab { log = with_mark lab.log Cut; flushes = replicate (lab.config.workers + 1) false; swapping = replicate (lab.config.workers + 1) false; left_out = lab.flushes; supply = supply_by power.Off lab.supply }
 
 -- power on adds its mark: the first act of a recovery is no flush
-abbrev pub after_on : Lab → Lab
+abbrev pub after_on : WorldView → WorldView
 after_on lab = record lab { log = with_mark lab.log On; flushes = slice_set lab.flushes 0 false; swapping = slice_set lab.swapping 0 false }
 
 -- the answer to an event: a refusal exactly where one applies, and then nothing changes
-abbrev pub IsApplied : Lab → Event → Applied → Lab → Type 0
+abbrev pub IsApplied : WorldView → Event → Applied → WorldView → Type 0
 IsApplied old (event.Step w) answer new = MatchOption (step_refusal old w) (StepsBy (power_in old) old w answer new) (λ refusal. (answer ≡ refusal) × (new ≡ old))
 IsApplied old (event.Evict a) answer new = MatchOption (evict_refusal old a) (Evicts old a answer new) (λ refusal. (answer ≡ refusal) × (new ≡ old))
 IsApplied old event.Cut answer new = MatchOption (cut_refusal old) ((answer ≡ applied.Cut) × (new ≡ after_cut old)) (λ refusal. (answer ≡ refusal) × (new ≡ old))

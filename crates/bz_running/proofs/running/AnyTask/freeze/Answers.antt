@@ -2,7 +2,7 @@ use Rattle.std.proofs.Common.{ap, inl, inr}
 use Rattle.bz_task.specs.Basis.{Basis}
 use Rattle.bz_running.specs.MadeFor.{IsMadeFor}
 use Rattle.bz_running.proofs.Made.{lacked-viewed}
-use Rattle.bz_running.proofs.running.Running.freeze.Goals as goal
+use Rattle.bz_running.proofs.running.AnyTask.freeze.Goals as goal
 
 pub returns-clause-made_for : goal.returns-clause-made_for
 unfolding IsMadeFor
