@@ -1,0 +1,159 @@
+-- No task has more acts left, or more swaps among them, than at its begin.
+use Rattle.std.proofs.Common.{ℕ, ◌+◌, ◌-◌, ◌≤◌, Bool, true, false, arith}
+use Rattle.bz_below.specs.Facts.{below_acts, below_swaps}
+use Rattle.bz_consol.specs.Facts.{consol_acts, consol_left, consol_swaps}
+use Rattle.bz_crown.specs.Facts.{crown_acts, crown_left, crown_swaps}
+use Rattle.bz_descend.specs.SeekFacts.{asks_one, seek_reads}
+use Rattle.bz_find.specs.Facts.{find_acts}
+use Rattle.bz_find.specs.Phases.{reads_of}
+use Rattle.bz_fork.specs.Facts.{fork_acts, fork_left, fork_swaps}
+use Rattle.bz_freeze.specs.Facts.{freeze_left, freeze_swaps}
+use Rattle.bz_insert.specs.Facts.{insert_acts, insert_left, insert_swaps}
+use Rattle.bz_layout.specs.declared.swaps.TheConstants.{DELETE_SWAPS, FREEZE_SWAPS, INSERT_SWAPS, MERGE_SWAPS, RENEWAL_SWAPS, UPDATE_SWAPS}
+use Rattle.bz_leaf.specs.Facts.{leaf_acts, leaf_left}
+use Rattle.bz_merge.specs.Counts.{merge_swaps}
+use Rattle.bz_merge.specs.Facts.{merge_acts, merge_left}
+use Rattle.bz_mutate.specs.DeleteFacts.{delete_left, delete_swaps}
+use Rattle.bz_mutate.specs.UpdateFacts.{update_acts, update_left, update_swaps}
+use Rattle.bz_split.specs.Facts.{split_acts, split_left, split_swaps}
+use Rattle.bz_running.specs.Duties.{asks_of, left_of, swaps_of}
+use Rattle.bz_running.specs.declared.running.AnyTask.TheVariants.{Seeking, Finding, Reading, Inserting, Updating, Deleting, Freezing, Consolidating, Splitting, SplittingBelow, SplittingInner, SplittingInnerRoot, Merging}
+use Rattle.bz_costs.specs.Laws.{TasksWeighLittle}
+use Rattle.bz_costs.specs.Weights.{weight}
+use Rattle.bz_descend.specs.declared.sight.Way.{Way as SeekPhase}
+use Rattle.bz_descend.specs.declared.sight.Way.TheVariants as seek
+use Rattle.bz_find.specs.declared.phase.Phase.{Phase as FindPhase}
+use Rattle.bz_find.specs.declared.phase.Phase.TheVariants as find
+use Rattle.bz_leaf.specs.declared.phase.Phase.{Phase as LeafPhase}
+use Rattle.bz_leaf.specs.declared.phase.Phase.TheVariants as leaf
+use Rattle.bz_insert.specs.declared.phase.Phase.{Phase as InsertPhase}
+use Rattle.bz_insert.specs.declared.phase.Phase.TheVariants as insert
+use Rattle.bz_mutate.specs.declared.update_phase.UpdatePhase.{UpdatePhase as UpdatePhase}
+use Rattle.bz_mutate.specs.declared.update_phase.UpdatePhase.TheVariants as update
+use Rattle.bz_mutate.specs.declared.delete_phase.DeletePhase.{DeletePhase as DeletePhase}
+use Rattle.bz_mutate.specs.declared.delete_phase.DeletePhase.TheVariants as delete
+use Rattle.bz_freeze.specs.declared.phase.Phase.{Phase as FreezePhase}
+use Rattle.bz_freeze.specs.declared.phase.Phase.TheVariants as freeze
+use Rattle.bz_consol.specs.declared.phase.Phase.{Phase as ConsolPhase}
+use Rattle.bz_consol.specs.declared.phase.Phase.TheVariants as consol
+use Rattle.bz_split.specs.declared.phase.Phase.{Phase as SplitPhase}
+use Rattle.bz_split.specs.declared.phase.Phase.TheVariants as split
+use Rattle.bz_below.specs.declared.phase.Phase.{Phase as BelowPhase}
+use Rattle.bz_below.specs.declared.phase.Phase.TheVariants as below
+use Rattle.bz_crown.specs.declared.phase.Phase.{Phase as CrownPhase}
+use Rattle.bz_crown.specs.declared.phase.Phase.TheVariants as crown
+use Rattle.bz_fork.specs.declared.phase.Phase.{Phase as ForkPhase}
+use Rattle.bz_fork.specs.declared.phase.Phase.TheVariants as fork
+use Rattle.bz_merge.specs.declared.phase.Phase.{Phase as MergePhase}
+use Rattle.bz_merge.specs.declared.phase.Phase.TheVariants as merge
+
+-- each act of the two look-ups is counted as it is asked for
+seek-one : (p : SeekPhase) → asks_one p ≤ 1
+seek-one seek.Fresh = omega arith
+seek-one p = omega arith
+
+find-one : (p : FindPhase) → reads_of p ≤ 1
+find-one find.Fresh = omega arith
+find-one p = omega arith
+
+leaf-few : (p : LeafPhase) → leaf_left p ≤ leaf_acts
+leaf-few leaf.Fresh = omega arith
+leaf-few p = omega arith
+
+insert-few : (p : InsertPhase) → insert_left p ≤ insert_acts
+insert-few insert.Fresh = omega arith
+insert-few p = omega arith
+
+update-few : (p : UpdatePhase) → update_left p ≤ update_acts
+update-few update.Fresh = omega arith
+update-few p = omega arith
+
+delete-few : (p : DeletePhase) → delete_left p ≤ delete_left delete.Fresh
+delete-few delete.Fresh = omega arith
+delete-few p = omega arith
+
+freeze-few : (p : FreezePhase) → freeze_left p ≤ freeze_left freeze.Fresh
+freeze-few freeze.Fresh = omega arith
+freeze-few p = omega arith
+
+consol-few : (p : ConsolPhase) → consol_left p ≤ consol_acts
+consol-few consol.Fresh = omega arith
+consol-few p = omega arith
+
+split-few : (p : SplitPhase) → split_left p ≤ split_acts
+split-few split.Fresh = omega arith
+split-few p = omega arith
+
+crown-few : (p : CrownPhase) → crown_left p ≤ crown_acts
+crown-few crown.Fresh = omega arith
+crown-few p = omega arith
+
+fork-few : (p : ForkPhase) → fork_left p ≤ fork_acts
+fork-few fork.Fresh = omega arith
+fork-few p = omega arith
+
+merge-few : (right : Bool) (p : MergePhase) → merge_left right p ≤ merge_acts
+merge-few true merge.Fresh = omega arith
+merge-few true p = omega arith
+merge-few false merge.Fresh = omega arith
+merge-few false p = omega arith
+
+insert-swaps : (p : InsertPhase) → insert_swaps p ≤ INSERT_SWAPS
+insert-swaps insert.Fresh = omega arith
+insert-swaps p = omega arith
+
+update-swaps : (p : UpdatePhase) → update_swaps p ≤ UPDATE_SWAPS
+update-swaps update.Fresh = omega arith
+update-swaps p = omega arith
+
+delete-swaps : (p : DeletePhase) → delete_swaps p ≤ DELETE_SWAPS
+delete-swaps delete.Fresh = omega arith
+delete-swaps p = omega arith
+
+freeze-swaps : (p : FreezePhase) → freeze_swaps p ≤ FREEZE_SWAPS
+freeze-swaps freeze.Fresh = omega arith
+freeze-swaps p = omega arith
+
+consol-swaps : (p : ConsolPhase) → consol_swaps p ≤ RENEWAL_SWAPS
+consol-swaps consol.Fresh = omega arith
+consol-swaps p = omega arith
+
+split-swaps : (p : SplitPhase) → split_swaps p ≤ RENEWAL_SWAPS
+split-swaps split.Fresh = omega arith
+split-swaps p = omega arith
+
+below-swaps : (p : BelowPhase) → below_swaps p ≤ RENEWAL_SWAPS
+below-swaps below.Fresh = omega arith
+below-swaps p = omega arith
+
+crown-swaps : (p : CrownPhase) → crown_swaps p ≤ RENEWAL_SWAPS
+crown-swaps crown.Fresh = omega arith
+crown-swaps p = omega arith
+
+fork-swaps : (p : ForkPhase) → fork_swaps p ≤ RENEWAL_SWAPS
+fork-swaps fork.Fresh = omega arith
+fork-swaps p = omega arith
+
+merge-swaps : (p : MergePhase) → merge_swaps p ≤ MERGE_SWAPS
+merge-swaps merge.Fresh = omega arith
+merge-swaps p = omega arith
+
+-- fewer acts and fewer swaps weigh less, also where one swap is not counted any more
+lighter : (acts most swaps all now : ℕ) → acts ≤ most → swaps ≤ all → weight acts (swaps - now) ≤ weight most all
+lighter acts most swaps all now l s = omega (arith, l, s)
+
+pub weigh-little : TasksWeighLittle
+unfolding asks_of left_of swaps_of
+weigh-little (Seeking t) w = omega (arith, seek-one t.phase)
+weigh-little (Finding t) w = omega (arith, find-one t.phase)
+weigh-little (Reading t) w = omega (arith, leaf-few t.phase)
+weigh-little (Inserting t) w = lighter _ _ _ _ _ (insert-few t.phase) (insert-swaps t.phase)
+weigh-little (Updating t) w = lighter _ _ _ _ _ (update-few t.phase) (update-swaps t.phase)
+weigh-little (Deleting t) w = lighter _ _ _ _ _ (delete-few t.phase) (delete-swaps t.phase)
+weigh-little (Freezing t) w = lighter _ _ _ _ _ (freeze-few t.phase) (freeze-swaps t.phase)
+weigh-little (Consolidating t) w = lighter _ _ _ _ _ (consol-few t.phase) (consol-swaps t.phase)
+weigh-little (Splitting t) w = lighter _ _ _ _ _ (split-few t.phase) (split-swaps t.phase)
+weigh-little (SplittingBelow t a) w = lighter _ _ _ _ _ w (below-swaps t.phase)
+weigh-little (SplittingInner t a) w = lighter _ _ _ _ _ (fork-few t.phase) (fork-swaps t.phase)
+weigh-little (SplittingInnerRoot t a) w = lighter _ _ _ _ _ (crown-few t.phase) (crown-swaps t.phase)
+weigh-little (Merging t) w = lighter _ _ _ _ _ (merge-few t.side.right t.phase) (merge-swaps t.phase)

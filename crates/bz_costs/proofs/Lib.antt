@@ -1,0 +1,4 @@
+mod Asked
+mod Heard
+mod Least
+mod Lost

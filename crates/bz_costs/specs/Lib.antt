@@ -1,0 +1,4 @@
+pub mod Weights
+pub mod Most
+pub mod Failing
+pub mod Laws
