@@ -1,4 +1,8 @@
+mod Affordable
 mod Asked
+mod Examples
 mod Heard
 mod Least
 mod Lost
+mod Most
+mod Stages

@@ -1,5 +1,5 @@
 -- The laws of weights: what a task is told lowers its weight by what its next act is allowed, and no task weighs more than at its begin.
-use Rattle.std.specs.Prelude.{ℕ, ◌+◌, ◌*◌, ◌<◌, ◌≤◌, Some}
+use Rattle.std.specs.Prelude.{ℕ, ◌+◌, ◌<◌, ◌≤◌}
 use Rattle.bz_ascent.specs.declared.ascent.Ascent.{Ascent}
 use Rattle.bz_below.specs.Duties.{left_below}
 use Rattle.bz_below.specs.Facts.{below_acts, below_fails}

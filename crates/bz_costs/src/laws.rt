@@ -1,5 +1,7 @@
 //! Laws of costs. Each function does nothing: its contract is the law.
 
+ghost use Rattle.bz_costs.specs.Costs.{HigherStagesCostMore, RoundsArePaid, StretchesAreTheMost, LoneCallsAreAffordable};
+ghost use Rattle.bz_costs.specs.Examples.{WeightsAreTold, CostsAreTold};
 ghost use Rattle.bz_costs.specs.Laws.{AskedSwapsAreCounted, HearingIsPaid, TasksWeighLittle, LostSplitsCostLittle};
 
 /// A swap that a task asks for is one of those that were still to be asked for.
@@ -20,4 +22,34 @@ pub fn tasks_weigh_little()
 /// A split that ends for want of room has cost little.
 pub fn lost_splits_cost_little()
     ensures { LostSplitsCostLittle }
+{}
+
+/// A stage costs no less than a lower one.
+pub fn higher_stages_cost_more()
+    ensures { HigherStagesCostMore }
+{}
+
+/// What a round does that does not end the call, and all that comes after it, is paid for by the stage.
+pub fn rounds_are_paid()
+    ensures { RoundsArePaid }
+{}
+
+/// No stage costs more than a stretch, and no task more than the rest of a round.
+pub fn stretches_are_the_most()
+    ensures { StretchesAreTheMost }
+{}
+
+/// A call that steps alone costs no more marks than its configuration tells.
+pub fn lone_calls_are_affordable()
+    ensures { LoneCallsAreAffordable }
+{}
+
+/// The weights of the tasks in numbers.
+pub fn weights_are_told()
+    ensures { WeightsAreTold }
+{}
+
+/// The costs of stretches and of calls in numbers.
+pub fn costs_are_told()
+    ensures { CostsAreTold }
 {}
