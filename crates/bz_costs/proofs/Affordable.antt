@@ -1,5 +1,5 @@
 -- The one inequality that the values of the constants decide: what a call costs that steps alone, and the marks that are promised for it.
-use Rattle.std.proofs.Common.{◌+◌, ◌*◌, ◌≤◌, arith}
+use Rattle.std.proofs.Common.{arith}
 use Rattle.bz_search.specs.Digits.{digits_in}
 use Rattle.bz_costs.specs.Costs.{LoneCallsAreAffordable}
 

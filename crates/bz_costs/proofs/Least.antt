@@ -1,10 +1,9 @@
 -- No task has more acts left, or more swaps among them, than at its begin.
-use Rattle.std.proofs.Common.{ℕ, ◌+◌, ◌-◌, ◌≤◌, Bool, true, false, arith}
-use Rattle.bz_below.specs.Facts.{below_acts, below_swaps}
+use Rattle.std.proofs.Common.{ℕ, ◌-◌, ◌≤◌, Bool, true, false, arith}
+use Rattle.bz_below.specs.Facts.{below_swaps}
 use Rattle.bz_consol.specs.Facts.{consol_acts, consol_left, consol_swaps}
 use Rattle.bz_crown.specs.Facts.{crown_acts, crown_left, crown_swaps}
-use Rattle.bz_descend.specs.SeekFacts.{asks_one, seek_reads}
-use Rattle.bz_find.specs.Facts.{find_acts}
+use Rattle.bz_descend.specs.SeekFacts.{asks_one}
 use Rattle.bz_find.specs.Phases.{reads_of}
 use Rattle.bz_fork.specs.Facts.{fork_acts, fork_left, fork_swaps}
 use Rattle.bz_freeze.specs.Facts.{freeze_left, freeze_swaps}

@@ -1,6 +1,5 @@
 -- A split that may still end for want of room has done little.
-use Rattle.std.proofs.Common.{◌≡◌, ℕ, ◌+◌, ◌<◌, ◌≤◌, arith}
-use Rattle.std.specs.Prelude.{Option}
+use Rattle.std.proofs.Common.{◌+◌, ◌<◌, ◌≤◌, arith}
 use Rattle.bz_fork.specs.Duties.{fork_of}
 use Rattle.bz_fork.specs.Facts.{Fork, fork_acts, fork_asks, fork_fails, fork_left, fork_swaps}
 use Rattle.bz_layout.specs.declared.config.Config.{Config}

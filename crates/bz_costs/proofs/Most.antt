@@ -8,7 +8,7 @@ use Rattle.bz_costs.specs.Lone.{rest_of_round}
 use Rattle.bz_costs.specs.Most.{most_of, most_of_freeze}
 use Rattle.bz_costs.specs.Stretches.{cost_of_view, cost_from, top_stage, cost_at, lone_stretch}
 use Rattle.bz_running.specs.declared.running.AnyTask.{AnyTask}
-use Rattle.bz_running.specs.declared.running.AnyTask.TheVariants.{Seeking, Finding, Reading, Inserting, Updating, Deleting, Freezing, Consolidating, Splitting, SplittingBelow, SplittingInner, SplittingInnerRoot, Merging}
+use Rattle.bz_running.specs.declared.running.AnyTask.TheVariants.{Seeking}
 
 within : (low high more : ℕ) → low ≤ high → cost_from low ≤ more + cost_from high
 within low high more l = omega (arith, rise-from low high l)

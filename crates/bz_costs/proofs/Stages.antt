@@ -1,10 +1,9 @@
 -- A stage costs no less than a lower one, and pays for each kind of round.
-use Rattle.std.proofs.Common.{◌≡◌, ℕ, zero, suc, ◌+◌, ◌<◌, ◌≤◌, Bool, true, false, arith, ap, inl, inr}
-use Rattle.std.specs.Prelude.{min, max}
+use Rattle.std.proofs.Common.{◌≡◌, ℕ, zero, suc, ◌+◌, ◌<◌, ◌≤◌, false, arith, ap, inl, inr}
+use Rattle.std.specs.Prelude.{min}
 use Rattle.std.proofs.lemmas.Bool.{cases_lt}
 use Rattle.bz_costs.specs.Costs.{HigherStagesCostMore, RoundsArePaid}
-use Rattle.bz_costs.specs.Failing.{cost_of_lost_inner}
-use Rattle.bz_costs.specs.Most.{most_of_freeze, most_of_copy, most_of_root, most_of_merge, most_of_below}
+use Rattle.bz_costs.specs.Most.{most_of_copy, most_of_root, most_of_merge, most_of_below}
 use Rattle.bz_costs.specs.Stretches.{cost_of_view, cost_of_split_at, cost_once_viewed, cost_from, top_stage, cost_at}
 
 step : (stage : ℕ) → cost_once_viewed stage ≤ cost_once_viewed (suc stage)
@@ -49,9 +48,24 @@ halved = omega arith
 merged : most_of_merge + cost_of_view + most_of_copy + cost_from 0 ≤ cost_once_viewed 1
 merged = omega arith
 
-split : (stage level : ℕ) → 0 < level → level < top_stage → level < stage → cost_of_split_at level + cost_from level ≤ cost_once_viewed (min stage top_stage)
-split stage zero some high l = absurd (omega (arith, some))
-split stage (suc full) some high l = rise (suc (suc full)) (min stage top_stage) (omega (arith, high, l))
+-- a split higher up costs no less
+higher-split : (low high : ℕ) → low ≤ high → cost_of_split_at low ≤ cost_of_split_at high
+higher-split low high l = omega (arith, l)
+
+-- and of as many full nodes as the stage tells, the highest split is paid for, and what comes after it
+split-below : (level after full : ℕ) → level ≤ suc full → after ≤ suc full → cost_of_split_at level + cost_from after ≤ cost_once_viewed (suc (suc full))
+split-below level after full l m = omega (arith, higher-split level (suc full) l, rise-from after (suc full) m, viewed full)
+  where
+    viewed : (full : ℕ) → cost_of_split_at (suc full) + cost_from (suc full) ≤ cost_once_viewed (suc (suc full))
+    viewed full = rise (suc (suc full)) (suc (suc full)) (omega arith)
+
+split-at : (stage level after : ℕ) → 0 < level → level < stage → after < stage → cost_of_split_at level + cost_from after ≤ cost_once_viewed stage
+split-at zero level after some l m = absurd (omega (arith, l))
+split-at (suc zero) level after some l m = absurd (omega (arith, some, l))
+split-at (suc (suc full)) level after some l m = split-below level after full (omega (arith, l)) (omega (arith, m))
+
+split : (stage level after : ℕ) → 0 < level → level < stage → level < top_stage → after < stage → after < top_stage → cost_of_split_at level + cost_from after ≤ cost_once_viewed (min stage top_stage)
+split stage level after some l high m top = split-at (min stage top_stage) level after some (omega (arith, l, high)) (omega (arith, m, top))
 
 pub rounds-paid : RoundsArePaid
 rounds-paid = record {

@@ -17,15 +17,16 @@ pub record HigherStagesCostMore : Type 0 where
   -- and one round more for each
   pub round : (stage : ℕ) → cost_from stage + cost_of_view ≤ cost_from (stage + 1)
 
--- what a round does that does not end the call, and all that comes after it, is paid for by the stage: of a leaf that is frozen, and of one
--- that is frozen first. After the split of a leaf, a copy or a merge the stage is 0; after the split of an inner node at most its level
+-- what a round does that does not end the call, and all that comes after it, is paid for by the stage: of a leaf that is frozen first, and of
+-- one that is frozen. After a copy, the split of a leaf or a merge the stage is 0; after the split of an inner node it is lower than it was,
+-- and than the greatest that counts
 pub record RoundsArePaid : Type 0 where
   pub freeze : (stage : ℕ) → cost_of_view + most_of_freeze + cost_at true stage ≤ cost_at false (stage + 1)
   pub copy : (stage : ℕ) → most_of_copy + cost_from 0 ≤ cost_once_viewed (stage + 1)
   pub root : (stage : ℕ) → most_of_root + cost_from 0 ≤ cost_once_viewed (stage + 1)
   pub below : (stage : ℕ) → most_of_below + cost_from 0 ≤ cost_once_viewed (stage + 1)
   pub merge : (stage : ℕ) → most_of_merge + cost_of_view + most_of_copy + cost_from 0 ≤ cost_once_viewed (stage + 1)
-  pub inner : (stage level : ℕ) → 0 < level → level < top_stage → level < stage → cost_of_split_at level + cost_from level ≤ cost_once_viewed (min stage top_stage)
+  pub inner : (stage level after : ℕ) → 0 < level → level < stage → level < top_stage → after < stage → after < top_stage → cost_of_split_at level + cost_from after ≤ cost_once_viewed (min stage top_stage)
   -- one level higher is paid for by one split more that finds no room
   pub higher : (level : ℕ) → 0 < level → cost_of_split_at (level + 1) ≤ cost_of_split_at level + cost_of_lost_inner
 

@@ -1,5 +1,5 @@
 -- What a split costs that ends for want of room above.
-use Rattle.std.specs.Prelude.{ℕ, ◌+◌, ◌*◌}
+use Rattle.std.specs.Prelude.{ℕ}
 use Rattle.bz_below.specs.Facts.{below_fails}
 use Rattle.bz_fork.specs.Facts.{fork_fails}
 use Rattle.bz_layout.specs.declared.swaps.TheConstants.{RENEWAL_SWAPS}

@@ -43,8 +43,9 @@ cost_once_found stage = max cost_of_change (most_of_leaf + cost_once_viewed stag
 abbrev pub cost_from : ℕ → ℕ
 cost_from stage = cost_of_look_up + cost_once_found stage
 
--- the greatest stage of a frozen leaf that counts. An inner node is split only where the level above it may have a node, and the stage is at
--- most its level then: so where as many nodes are full as there are levels of inner nodes, that stage costs no more than the next lower one
+-- the greatest stage of a frozen leaf that counts. An inner node is split only where the level above it may have a node, and afterwards the
+-- stage is at most its own level: so where as many nodes are full as there may be levels of them, the stage falls by two at least, and costs
+-- no more than the next lower one
 abbrev pub top_stage : ℕ
 top_stage = MAX_LEVELS - 1
 
