@@ -59,12 +59,17 @@ leaf-anew b settled c x y key words gone new t r cut roomy few =
 one-up : (n : ℕ) → 0 < n → 1 + (n - 1) ≡ n
 one-up n h = omega arith
 
+-- the stage was above a level, and is at most this level afterwards
+pub record FallsToLevel (c : Config) (x y : Image) (key : List ℕ) (words level : ℕ) : Type 0 where
+  pub above : level < stage c x key words
+  pub within : stage c y key words ≤ level
+
 -- where a full node above the leaf goes, and each new one of its level is roomy, fewer are full directly above it
 pub inner-anew : Rules → (c : Config) (x y : Image) (key : List ℕ) (words level : ℕ) (gone new : List ℕ) → IsTree (view_of c x) → Regrows (view_of c x) (view_of c y) gone new → 0 < level → level < (view_of c x).height
     → IsCrowdedBelow c x key level → is_among gone (on_path (view_of c x) key level) ≡ true → is_among gone (leaf_of (view_of c x) key) ≡ false
     → node c y.words (leaf_of (view_of c x) key) ≡ node c x.words (leaf_of (view_of c x) key) → ((k : ℕ) → is_among new k ≡ true → level_of (node c y.words k) ≡ level → IsRoomyInner c y k)
-    → stage c y key words + 1 ≤ stage c x key words
-inner-anew b c x y key words level gone new t r some lt z cut far same roomy = omega (arith, before, after, high, low)
+    → FallsToLevel c x y key words level
+inner-anew b c x y key words level gone new t r some lt z cut far same roomy = record { above = omega (arith, before, high); within = omega (arith, after, low) }
   where
     u : IsTree (view_of c y)
     u = r.content.tree

@@ -23,7 +23,7 @@ full-counted c x key full le all next =
     (λ lt. not-less INNER_LIMIT (words_taken (page_on_path c x key (full + 1))) (next lt))
 
 -- a node that breaks no rule stands at a level that a tree may have
-lowest : LeafRulesAreFacts → InnerRulesAreFacts → (nodes l : ℕ) (r n : ℕ → ℕ) (lo hi : Option (List ℕ)) → node_fault nodes r n l lo hi ≡ None → l < MAX_LEVELS
+pub lowest : LeafRulesAreFacts → InnerRulesAreFacts → (nodes l : ℕ) (r n : ℕ → ℕ) (lo hi : Option (List ℕ)) → node_fault nodes r n l lo hi ≡ None → l < MAX_LEVELS
 lowest leaf inner nodes zero r n lo hi e = ((leaf nodes r n lo hi).0 e).level.lowest
 lowest leaf inner nodes (suc l) r n lo hi e = ((inner nodes r n (suc l) lo hi (omega arith)).0 e).level.lowest
 

@@ -1,7 +1,8 @@
 -- The split of a full node above the key's leaf lowers the stage, below an inner node and at the root.
-use Rattle.std.proofs.Common.{◌≡◌, ◌≢◌, ℕ, ◌+◌, ◌<◌, false, List, [], ◌∷◌, arith, refl, sym, ap, subst, inl, inr}
+use Rattle.std.proofs.Common.{◌≡◌, ◌≢◌, ℕ, ◌+◌, ◌<◌, ◌≤◌, false, List, [], ◌∷◌, arith, refl, sym, ap, subst, inl, inr}
 use Rattle.std.proofs.lemmas.Bool.{cases_lt}
 use Rattle.bz_layout.specs.declared.config.Config.{Config}
+use Rattle.bz_layout.specs.declared.thresholds.TheConstants.{MAX_LEVELS}
 use Rattle.bz_shape.proofs.Descents.{home}
 use Rattle.bz_shape.proofs.TreeForms.{fits}
 use Rattle.bz_shape.proofs.Trees.{among-first, not-among}
@@ -14,15 +15,17 @@ use Rattle.bz_content.proofs.Sames.{node-same}
 use Rattle.bz_content.specs.Changes.{SameNode}
 use Rattle.bz_content.specs.Image.{Image, node, root}
 use Rattle.bz_content.specs.Laws.{SplitsKeepTheContent, RootSplitsKeepTheContent}
+use Rattle.bz_content.specs.Restructures.{Splits, SplitsRoot}
 use Rattle.bz_content.specs.Swaps.{form_in}
 use Rattle.bz_content.specs.View.{view_of}
-use Rattle.bz_stage.proofs.Anew.{Rules, inner-anew, of-three}
+use Rattle.bz_stage.proofs.Anew.{Rules, FallsToLevel, inner-anew, of-three}
+use Rattle.bz_stage.proofs.Bounds.{lowest}
 use Rattle.bz_stage.proofs.LeafSplits.{root-is}
 use Rattle.bz_stage.proofs.Paths.{above-root, below-top, leaf-on-path, path-found}
-use Rattle.bz_stage.specs.Laws.{InnerSplitsLowerTheStage, RootSplitsLowerTheStage}
+use Rattle.bz_stage.specs.Laws.{InnerSplitsLowerTheStage, RootSplitsLowerTheStage, LeavesALevel, SplitsLeaveALevel}
 use Rattle.bz_stage.specs.Paths.{on_path, StandsOver}
-use Rattle.bz_stage.specs.Stages.{root_level}
-use Rattle.bz_stage.specs.Swaps.{IsRoomyInner}
+use Rattle.bz_stage.specs.Stages.{root_level, stage}
+use Rattle.bz_stage.specs.Swaps.{IsRoomyInner, IsCrowdedBelow}
 
 module _ (c : Config) (x : Image) (key : List ℕ) (t : IsTree (view_of c x)) where
   -- the key's leaf stands at the foot
@@ -36,10 +39,19 @@ module _ (c : Config) (x : Image) (key : List ℕ) (t : IsTree (view_of c x)) wh
   leaf-below : leaf_of (view_of c x) key ≢ c.nodes
   leaf-below = below-top (view_of c x) (form_in c x) key 0 (leaf_of (view_of c x) key) (fits (view_of c x) t) t.tall foot
 
-pub inner-splits : Rules → SplitsKeepTheContent → InnerSplitsLowerTheStage
-inner-splits b law c x y key words level q l r m sep t some z s left right =
-    inner-anew b c x y key words level (a ∷ f.up a ∷ []) (q ∷ l ∷ r ∷ []) t (law c x y a q l r m sep t s) some within z (among-first a a (f.up a ∷ []) refl) far
-    (node-same c (leaf_of (view_of c x) key) x.words y.words stays.words) (of-three c y (λ j. IsRoomyInner c y j) q l r level above left right)
+-- and there may be a node one level higher
+pub record FallsBelow (c : Config) (x y : Image) (key : List ℕ) (words level : ℕ) : Type 0 where
+  pub falls : FallsToLevel c x y key words level
+  pub levels : level + 1 < MAX_LEVELS
+
+inner-falls : Rules → SplitsKeepTheContent → (c : Config) (x y : Image) (key : List ℕ) (words level q l r m : ℕ) (sep : List ℕ) → IsTree (view_of c x) → 0 < level → IsCrowdedBelow c x key level →
+    Splits c x y (on_path (view_of c x) key level) q l r m sep → IsRoomyInner c y l → IsRoomyInner c y r → FallsBelow c x y key words level
+inner-falls b law c x y key words level q l r m sep t some z s left right = record {
+  falls =
+      inner-anew b c x y key words level (a ∷ f.up a ∷ []) (q ∷ l ∷ r ∷ []) t (law c x y a q l r m sep t s) some within z (among-first a a (f.up a ∷ []) refl) far
+      (node-same c (leaf_of (view_of c x) key) x.words y.words stays.words) (of-three c y (λ j. IsRoomyInner c y j) q l r level above left right);
+  levels = omega (arith, up, over.at_level, lowest b.leaf b.inner c.nodes (f.level (f.up a)) (node c y.raw q) (node c y.words q) _ _ s.whole_q);
+}
   where
     a : ℕ
     a = on_path (view_of c x) key level
@@ -70,11 +82,15 @@ inner-splits b law c x y key words level q l r m sep t some z s left right =
     above : level_of (node c y.words q) ≢ level
     above e = absurd (omega (arith, e, up, over.at_level, level-is b.leaf b.inner c.nodes (f.level (f.up a)) (node c y.raw q) (node c y.words q) _ _ s.whole_q))
 
-pub root-splits : Rules → RootSplitsKeepTheContent → RootSplitsLowerTheStage
-root-splits b law c x y key words q l r m sep t some z s left right =
-    inner-anew b c x y key words (root_level c x) (root x.words ∷ []) (q ∷ l ∷ r ∷ []) t (law c x y q l r m sep t s) some (omega arith) z
-    (among-first (root x.words) (on_path (view_of c x) key (root_level c x)) [] (root-is c x key t)) far
-    (node-same c (leaf_of (view_of c x) key) x.words y.words stays.words) (of-three c y (λ j. IsRoomyInner c y j) q l r (root_level c x) above left right)
+root-falls : Rules → RootSplitsKeepTheContent → (c : Config) (x y : Image) (key : List ℕ) (words q l r m : ℕ) (sep : List ℕ) → IsTree (view_of c x) → 0 < root_level c x → IsCrowdedBelow c x key (root_level c x) →
+    SplitsRoot c x y q l r m sep → IsRoomyInner c y l → IsRoomyInner c y r → FallsBelow c x y key words (root_level c x)
+root-falls b law c x y key words q l r m sep t some z s left right = record {
+  falls =
+      inner-anew b c x y key words (root_level c x) (root x.words ∷ []) (q ∷ l ∷ r ∷ []) t (law c x y q l r m sep t s) some (omega arith) z
+      (among-first (root x.words) (on_path (view_of c x) key (root_level c x)) [] (root-is c x key t)) far
+      (node-same c (leaf_of (view_of c x) key) x.words y.words stays.words) (of-three c y (λ j. IsRoomyInner c y j) q l r (root_level c x) above left right);
+  levels = lowest b.leaf b.inner c.nodes (root_level c x + 1) (node c y.raw q) (node c y.words q) _ _ s.whole_q;
+}
   where
     f : Form
     f = form_in c x
@@ -94,3 +110,21 @@ root-splits b law c x y key words q l r m sep t some z s left right =
     -- the new root stands one level higher
     above : level_of (node c y.words q) ≢ root_level c x
     above e = absurd (omega (arith, e, level-is b.leaf b.inner c.nodes (root_level c x + 1) (node c y.raw q) (node c y.words q) _ _ s.whole_q))
+
+lower-by-one : (c : Config) (x y : Image) (key : List ℕ) (words level : ℕ) → FallsBelow c x y key words level → stage c y key words + 1 ≤ stage c x key words
+lower-by-one c x y key words level h = omega (arith, h.falls.above, h.falls.within)
+
+leaves-a-level : (c : Config) (x y : Image) (key : List ℕ) (words level : ℕ) → FallsBelow c x y key words level → LeavesALevel c y key words level
+leaves-a-level c x y key words level h = record { stage_within = h.falls.within; one_higher = omega (arith, h.levels) }
+
+pub inner-splits : Rules → SplitsKeepTheContent → InnerSplitsLowerTheStage
+inner-splits b law c x y key words level q l r m sep t some z s left right = lower-by-one c x y key words level (inner-falls b law c x y key words level q l r m sep t some z s left right)
+
+pub root-splits : Rules → RootSplitsKeepTheContent → RootSplitsLowerTheStage
+root-splits b law c x y key words q l r m sep t some z s left right = lower-by-one c x y key words (root_level c x) (root-falls b law c x y key words q l r m sep t some z s left right)
+
+pub splits-leave-a-level : Rules → SplitsKeepTheContent → RootSplitsKeepTheContent → SplitsLeaveALevel
+splits-leave-a-level b law root_law = record {
+  inner = λ c x y key words level q l r m sep t some z s left right. leaves-a-level c x y key words level (inner-falls b law c x y key words level q l r m sep t some z s left right);
+  root = λ c x y key words q l r m sep t some z s left right. leaves-a-level c x y key words (root_level c x) (root-falls b root_law c x y key words q l r m sep t some z s left right);
+}

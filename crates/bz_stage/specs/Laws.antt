@@ -78,3 +78,15 @@ abbrev pub RootSplitsLowerTheStage : Type 0
 RootSplitsLowerTheStage =
     (c : Config) (x y : Image) (key : List ℕ) (words q l r m : ℕ) (sep : List ℕ) → IsTree (view_of c x) → 0 < root_level c x → IsCrowdedBelow c x key (root_level c x) →
     SplitsRoot c x y q l r m sep → IsRoomyInner c y l → IsRoomyInner c y r → stage c y key words + 1 ≤ stage c x key words
+
+-- the stage is at most this level, and a tree may have a node one level higher
+pub record LeavesALevel (c : Config) (y : Image) (key : List ℕ) (words level : ℕ) : Type 0 where
+  pub stage_within : stage c y key words ≤ level
+  pub one_higher : level + 2 ≤ MAX_LEVELS
+
+-- so it is after either, of the level of the node that was split
+pub record SplitsLeaveALevel : Type 0 where
+  pub inner : (c : Config) (x y : Image) (key : List ℕ) (words level q l r m : ℕ) (sep : List ℕ) → IsTree (view_of c x) → 0 < level → IsCrowdedBelow c x key level →
+      Splits c x y (on_path (view_of c x) key level) q l r m sep → IsRoomyInner c y l → IsRoomyInner c y r → LeavesALevel c y key words level
+  pub root : (c : Config) (x y : Image) (key : List ℕ) (words q l r m : ℕ) (sep : List ℕ) → IsTree (view_of c x) → 0 < root_level c x → IsCrowdedBelow c x key (root_level c x) →
+      SplitsRoot c x y q l r m sep → IsRoomyInner c y l → IsRoomyInner c y r → LeavesALevel c y key words (root_level c x)

@@ -1,7 +1,7 @@
 //! Laws of stages. Each function does nothing but call the laws that it follows from: its contract is the law.
 
 ghost use Rattle.bz_stage.specs.Examples.{StagesAreTold};
-ghost use Rattle.bz_stage.specs.Laws.{StagesSay, PathsAreOfKeys, FullNodesAreCounted, StagesAreBounded, FreezesLowerTheStage, CopiesGiveRoom, LeafSplitsGiveRoom, RootLeafSplitsGiveRoom, InnerSplitsLowerTheStage, RootSplitsLowerTheStage};
+ghost use Rattle.bz_stage.specs.Laws.{StagesSay, PathsAreOfKeys, FullNodesAreCounted, StagesAreBounded, FreezesLowerTheStage, CopiesGiveRoom, LeafSplitsGiveRoom, RootLeafSplitsGiveRoom, InnerSplitsLowerTheStage, RootSplitsLowerTheStage, SplitsLeaveALevel};
 ghost use Rattle.bz_stage.specs.Made.{MadeLeavesAreRoomy, MadeInnersTakeTheirEntries, EntriesTakeTheWords};
 
 use bz_content::laws as content;
@@ -86,6 +86,16 @@ pub fn inner_splits_lower_the_stage()
 pub fn root_splits_lower_the_stage()
     ensures { RootSplitsLowerTheStage }
 {
+    content::root_splits_keep_the_content();
+    slotted::leaf_rules_are_facts();
+    slotted::inner_rules_are_facts();
+}
+
+/// After both the stage is at most the level of the node that was split, above which there is one level more.
+pub fn splits_leave_a_level()
+    ensures { SplitsLeaveALevel }
+{
+    content::splits_keep_the_content();
     content::root_splits_keep_the_content();
     slotted::leaf_rules_are_facts();
     slotted::inner_rules_are_facts();
