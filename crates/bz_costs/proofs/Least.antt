@@ -17,7 +17,7 @@ use Rattle.bz_mutate.specs.UpdateFacts.{update_acts, update_left, update_swaps}
 use Rattle.bz_split.specs.Facts.{split_acts, split_left, split_swaps}
 use Rattle.bz_running.specs.Duties.{asks_of, left_of, swaps_of}
 use Rattle.bz_running.specs.declared.running.AnyTask.TheVariants.{Seeking, Finding, Reading, Inserting, Updating, Deleting, Freezing, Consolidating, Splitting, SplittingBelow, SplittingInner, SplittingInnerRoot, Merging}
-use Rattle.bz_costs.specs.Laws.{TasksWeighLittle}
+use Rattle.bz_costs.specs.Laws.{ActsAndSwapsWeigh, TasksWeighLittle}
 use Rattle.bz_costs.specs.Weights.{weight}
 use Rattle.bz_descend.specs.declared.sight.Way.{Way as SeekPhase}
 use Rattle.bz_descend.specs.declared.sight.Way.TheVariants as seek
@@ -140,6 +140,9 @@ merge-swaps p = omega arith
 -- fewer acts and fewer swaps weigh less, also where one swap is not counted any more
 lighter : (acts most swaps all now : ℕ) → acts ≤ most → swaps ≤ all → weight acts (swaps - now) ≤ weight most all
 lighter acts most swaps all now l s = omega (arith, l, s)
+
+pub acts-weigh : ActsAndSwapsWeigh
+acts-weigh t acts swaps l s = omega (arith, l, s)
 
 pub weigh-little : TasksWeighLittle
 unfolding asks_of left_of swaps_of

@@ -11,13 +11,13 @@ use Rattle.bz_layout.specs.Slots.{FreeSlots}
 use Rattle.bz_task.specs.Requests.{swaps_in}
 use Rattle.bz_task.specs.declared.todo.Seen.{Seen}
 use Rattle.bz_task.specs.declared.todo.Todo.{Todo}
-use Rattle.bz_running.specs.Duties.{asks_of, swaps_of}
+use Rattle.bz_running.specs.Duties.{asks_of, left_of, swaps_of}
 use Rattle.bz_running.specs.Hearing.{HasHeard}
 use Rattle.bz_running.specs.declared.running.AnyTask.{AnyTask}
 use Rattle.bz_running.specs.declared.running.AnyTask.TheVariants.{SplittingBelow, SplittingInner}
 use Rattle.bz_costs.specs.Failing.{cost_of_lost_below, cost_of_lost_inner}
 use Rattle.bz_costs.specs.Most.{most_of, most_of_below, most_of_inner, IsWithinItsActs}
-use Rattle.bz_costs.specs.Weights.{start_allows, weigh}
+use Rattle.bz_costs.specs.Weights.{start_allows, weigh, weight}
 
 -- a swap that is asked for is one of those that were still to be asked for
 abbrev pub AskedSwapsAreCounted : Type 0
@@ -27,7 +27,11 @@ AskedSwapsAreCounted = (t : AnyTask) → swaps_in (asks_of t) ≤ swaps_of t
 abbrev pub HearingIsPaid : Type 0
 HearingIsPaid = (old new : AnyTask) (seen : Seen) (moment : ℕ) (free left : FreeSlots) (todo : Todo) → HasHeard old seen moment free todo new left → weigh new + start_allows todo ≤ weigh old
 
--- no task weighs more than at its begin
+-- no task weighs more than its acts and its swaps
+abbrev pub ActsAndSwapsWeigh : Type 0
+ActsAndSwapsWeigh = (t : AnyTask) (acts swaps : ℕ) → left_of t ≤ acts → swaps_of t ≤ swaps → weigh t ≤ weight acts swaps
+
+-- nor than at its begin
 abbrev pub TasksWeighLittle : Type 0
 TasksWeighLittle = (t : AnyTask) → IsWithinItsActs t → weigh t ≤ most_of t
 

@@ -2,7 +2,7 @@
 
 ghost use Rattle.bz_costs.specs.Costs.{HigherStagesCostMore, RoundsArePaid, StretchesAreTheMost, LoneCallsAreAffordable};
 ghost use Rattle.bz_costs.specs.Examples.{WeightsAreTold, CostsAreTold};
-ghost use Rattle.bz_costs.specs.Laws.{AskedSwapsAreCounted, HearingIsPaid, TasksWeighLittle, LostSplitsCostLittle};
+ghost use Rattle.bz_costs.specs.Laws.{AskedSwapsAreCounted, HearingIsPaid, ActsAndSwapsWeigh, TasksWeighLittle, LostSplitsCostLittle};
 
 /// A swap that a task asks for is one of those that were still to be asked for.
 pub fn asked_swaps_are_counted()
@@ -14,7 +14,12 @@ pub fn hearing_is_paid()
     ensures { HearingIsPaid }
 {}
 
-/// No task weighs more than at its begin.
+/// No task weighs more than its acts and its swaps.
+pub fn acts_and_swaps_weigh()
+    ensures { ActsAndSwapsWeigh }
+{}
+
+/// Nor than at its begin.
 pub fn tasks_weigh_little()
     ensures { TasksWeighLittle }
 {}
