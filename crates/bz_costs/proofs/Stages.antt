@@ -4,7 +4,7 @@ use Rattle.std.specs.Prelude.{min}
 use Rattle.std.proofs.lemmas.Bool.{cases_lt}
 use Rattle.bz_costs.specs.Costs.{HigherStagesCostMore, RoundsArePaid}
 use Rattle.bz_costs.specs.Most.{most_of_copy, most_of_root, most_of_merge, most_of_below}
-use Rattle.bz_costs.specs.Stretches.{cost_of_view, cost_of_split_at, cost_once_viewed, cost_from, top_stage, cost_at}
+use Rattle.bz_costs.specs.Stretches.{cost_of_view, cost_of_split_at, cost_once_viewed, cost_from, top_stage, cost_viewed_at}
 
 step : (stage : ℕ) → cost_once_viewed stage ≤ cost_once_viewed (suc stage)
 step stage = omega arith
@@ -69,7 +69,7 @@ split stage level after some l high m top = split-at (min stage top_stage) level
 
 pub rounds-paid : RoundsArePaid
 rounds-paid = record {
-  freeze = λ stage. omega (arith, ap (cost_at false) (next-is stage));
+  freeze = λ stage. omega (arith, ap (cost_viewed_at false) (next-is stage));
   copy = λ stage. omega (arith, copied, rise 1 (stage + 1) (omega arith));
   root = λ stage. omega (arith, rooted, rise 1 (stage + 1) (omega arith));
   below = λ stage. omega (arith, halved, rise 1 (stage + 1) (omega arith));

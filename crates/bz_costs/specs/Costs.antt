@@ -7,7 +7,7 @@ use Rattle.bz_running.specs.declared.running.AnyTask.{AnyTask}
 use Rattle.bz_costs.specs.Failing.{cost_of_lost_inner}
 use Rattle.bz_costs.specs.Lone.{rest_of_round, lone_most}
 use Rattle.bz_costs.specs.Most.{most_of_freeze, most_of_copy, most_of_merge, most_of_root, most_of_below, IsWithinItsActs}
-use Rattle.bz_costs.specs.Stretches.{cost_of_view, cost_of_split_at, cost_once_viewed, cost_from, top_stage, cost_at, lone_stretch}
+use Rattle.bz_costs.specs.Stretches.{cost_of_view, cost_of_split_at, cost_once_viewed, cost_once_found, cost_from, top_stage, cost_viewed_at, cost_found_at, cost_at, lone_stretch}
 use Rattle.bz_costs.specs.Weights.{weigh}
 
 -- a stage costs no less than a lower one
@@ -21,7 +21,7 @@ pub record HigherStagesCostMore : Type 0 where
 -- one that is frozen. After a copy, the split of a leaf or a merge the stage is 0; after the split of an inner node it is lower than it was,
 -- and than the greatest that counts
 pub record RoundsArePaid : Type 0 where
-  pub freeze : (stage : ℕ) → cost_of_view + most_of_freeze + cost_at true stage ≤ cost_at false (stage + 1)
+  pub freeze : (stage : ℕ) → most_of_freeze + cost_at true stage ≤ cost_viewed_at false (stage + 1)
   pub copy : (stage : ℕ) → most_of_copy + cost_from 0 ≤ cost_once_viewed (stage + 1)
   pub root : (stage : ℕ) → most_of_root + cost_from 0 ≤ cost_once_viewed (stage + 1)
   pub below : (stage : ℕ) → most_of_below + cost_from 0 ≤ cost_once_viewed (stage + 1)
@@ -30,10 +30,13 @@ pub record RoundsArePaid : Type 0 where
   -- one level higher is paid for by one split more that finds no room
   pub higher : (level : ℕ) → 0 < level → cost_of_split_at (level + 1) ≤ cost_of_split_at level + cost_of_lost_inner
 
--- no stage costs more than a stretch, and no task more than the rest of a round
+-- no stage costs more than a stretch, and no task more than the rest of a round; where another worker's swap takes effect, what was still to
+-- come pays for the rest of the round
 pub record StretchesAreTheMost : Type 0 where
   pub stage : (frozen : Bool) (stage : ℕ) → cost_at frozen stage ≤ lone_stretch
   pub task : (t : AnyTask) → IsWithinItsActs t → weigh t ≤ rest_of_round
+  pub viewed : (frozen : Bool) (stage : ℕ) → cost_once_viewed 0 ≤ cost_viewed_at frozen stage
+  pub found : (frozen : Bool) (stage : ℕ) → cost_once_found 0 ≤ cost_found_at frozen stage
 
 -- a call that steps alone costs no more marks than the configuration tells
 abbrev pub LoneCallsAreAffordable : Type 0

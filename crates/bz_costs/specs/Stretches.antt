@@ -49,11 +49,17 @@ cost_from stage = cost_of_look_up + cost_once_found stage
 abbrev pub top_stage : ℕ
 top_stage = MAX_LEVELS - 1
 
--- from the begin of a round on, where the leaf is frozen or not: one that is not is frozen first, if its stage is above 0
+-- the same three where it is known besides whether the leaf is frozen. One that is not is frozen first, if its stage is above 0
+abbrev pub cost_viewed_at : Bool → ℕ → ℕ
+cost_viewed_at true stage = cost_once_viewed (min stage top_stage)
+cost_viewed_at false zero = cost_once_viewed 0
+cost_viewed_at false (suc stage) = most_of_freeze + cost_from (min stage top_stage)
+
+abbrev pub cost_found_at : Bool → ℕ → ℕ
+cost_found_at frozen stage = max cost_of_change (most_of_leaf + cost_viewed_at frozen stage)
+
 abbrev pub cost_at : Bool → ℕ → ℕ
-cost_at true stage = cost_from (min stage top_stage)
-cost_at false zero = cost_from 0
-cost_at false (suc stage) = cost_of_view + most_of_freeze + cost_from (min stage top_stage)
+cost_at frozen stage = cost_of_look_up + cost_found_at frozen stage
 
 -- the most that a stretch costs in which nobody disturbs the call, whatever the stage of its key
 abbrev pub lone_stretch : ℕ
