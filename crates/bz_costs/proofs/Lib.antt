@@ -5,4 +5,5 @@ mod Heard
 mod Least
 mod Lost
 mod Most
+mod Splits
 mod Stages

@@ -42,7 +42,7 @@ copied = omega arith
 rooted : most_of_root + cost_from 0 ≤ cost_once_viewed 1
 rooted = omega arith
 
-halved : most_of_below + cost_from 0 ≤ cost_once_viewed 1
+pub halved : most_of_below + cost_from 0 ≤ cost_once_viewed 1
 halved = omega arith
 
 merged : most_of_merge + cost_of_view + most_of_copy + cost_from 0 ≤ cost_once_viewed 1

@@ -3,6 +3,7 @@ pub mod Most
 pub mod Failing
 pub mod Stretches
 pub mod Lone
+pub mod Splits
 pub mod Laws
 pub mod Costs
 pub mod Examples

@@ -3,6 +3,7 @@
 ghost use Rattle.bz_costs.specs.Costs.{HigherStagesCostMore, RoundsArePaid, StretchesAreTheMost, LoneCallsAreAffordable};
 ghost use Rattle.bz_costs.specs.Examples.{WeightsAreTold, CostsAreTold};
 ghost use Rattle.bz_costs.specs.Laws.{AskedSwapsAreCounted, HearingIsPaid, ActsAndSwapsWeigh, TasksWeighLittle, LostSplitsCostLittle};
+ghost use Rattle.bz_costs.specs.Splits.{SplitsArePaid};
 
 /// A swap that a task asks for is one of those that were still to be asked for.
 pub fn asked_swaps_are_counted()
@@ -37,6 +38,11 @@ pub fn higher_stages_cost_more()
 /// What a round does that does not end the call, and all that comes after it, is paid for by the stage.
 pub fn rounds_are_paid()
     ensures { RoundsArePaid }
+{}
+
+/// While splits go up from a leaf, each is paid for that follows another which found no room.
+pub fn splits_are_paid()
+    ensures { SplitsArePaid }
 {}
 
 /// No stage costs more than a stretch, and no task more than the rest of a round.
