@@ -35,13 +35,17 @@ use Rattle.bz_rounds.proofs.Staying.{Laws as Staying}
 use Rattle.bz_rounds.proofs.Wanting.{lacks-now}
 use Rattle.bz_rounds.proofs.Lone.{Basis, at-most, good-now, tree-now, leaf-now, holds-now, below-top, same-entries}
 
--- the laws on which it rests
-pub record Laws : Type 0 where
+-- the laws on which the swap of a freeze rests, whose ever it is
+pub record Swapping : Type 0 where
   pub basis : Basis
-  pub stays : Staying
   pub slots : SwapsShowInSlots
   pub apart : SlotsApart
   pub codec : IsCodec Status IsStatus IsStatusWord status_word status
+
+-- and those of a task that freezes the key's leaf
+pub record Laws : Type 0 where
+  pub swapping : Swapping
+  pub stays : Staying
   pub go : FreezesGoOn
   pub lower : FreezesLowerTheStage
 
@@ -52,7 +56,7 @@ set-one e f a h = let t : (e.target == a) ≡ true = grind (arith, nat_tests) in
 leave-one : (e : Entry) (f : ℕ → ℕ) (a : ℕ) → e.target ≢ a → swapped (e ∷ []) f a ≡ f a
 leave-one e f a h = let t : (e.target == a) ≡ false = grind (arith, nat_tests) in rw t refl
 
-module _ (b : Laws) (s : Scene) (y : Instant) (k st : ℕ) (good : IsScene s) (inside : (form_at s.past.config (here s)).inside k ≡ true) (leaf : (form_at s.past.config (here s)).level k ≡ 0) (below : k ≢ s.past.config.nodes) (w : WasLeaf k st s.past)
+module _ (b : Swapping) (s : Scene) (y : Instant) (k st : ℕ) (good : IsScene s) (inside : (form_at s.past.config (here s)).inside k ≡ true) (leaf : (form_at s.past.config (here s)).level k ≡ 0) (below : k ≢ s.past.config.nodes) (w : WasLeaf k st s.past)
     (stand : Stand (entry_of s.past.config k st ∷ []) (here s)) (swaps : SwapsTo s.past.config (entry_of s.past.config k st ∷ []) (here s) y) where
   abbrev c : Config
   c = s.past.config
@@ -125,10 +129,10 @@ freezes b t key words entries s y l lacked =
     let f = swapping t.config t.slot t.status t.phase s entries l.knows l.asks in
     let is : entry_of s.past.config t.slot t.status ∷ [] ≡ entries = ap (λ (z : Config). entry_of z t.slot t.status ∷ []) l.config ∙ f.1 in
     let stand : Stand entries (here s) = (b.go t s l.config l.good l.knows l.alone).stands entries l.asks in
-    let h : Holds (form_at s.past.config (here s)) key t.slot = holds-now b.basis s l.good key t.slot l.alone lacked.was in
-    let leaf : leaf_in s.past.config (here s).image key ≡ t.slot = leaf-now b.basis s l.good key t.slot l.alone lacked.was in
+    let h : Holds (form_at s.past.config (here s)) key t.slot = holds-now b.swapping.basis s l.good key t.slot l.alone lacked.was in
+    let leaf : leaf_in s.past.config (here s).image key ≡ t.slot = leaf-now b.swapping.basis s l.good key t.slot l.alone lacked.was in
     let z : FreezesLeaf s.past.config (image_of (here s).image) (image_of y.image) t.slot =
-    freezes-leaf b s y t.slot t.status l.good h.inside h.leaf (below-top b.basis s l.good key t.slot l.alone lacked.was) f.0 (subst (λ d. Stand d (here s)) (sym is) stand) (subst (λ d. SwapsTo s.past.config d (here s) y) (sym is) l.leads) in
+    freezes-leaf b.swapping s y t.slot t.status l.good h.inside h.leaf (below-top b.swapping.basis s l.good key t.slot l.alone lacked.was) f.0 (subst (λ d. Stand d (here s)) (sym is) stand) (subst (λ d. SwapsTo s.past.config d (here s) y) (sym is) l.leads) in
     at-most (stage_in s.past.config y.image key words + 1) (stage_in s.past.config (here s).image key words)
-    (b.lower s.past.config (image_of (here s).image) (image_of y.image) key words (tree-now b.basis s l.good) (subst (λ j. FreezesLeaf s.past.config (image_of (here s).image) (image_of y.image) j) (sym leaf) z)
-    (lacks-now b.stays b.basis.tiles s l.good (b.basis.lonely.whole s l.good l.alone) key words t.slot lacked))
+    (b.lower s.past.config (image_of (here s).image) (image_of y.image) key words (tree-now b.swapping.basis s l.good) (subst (λ j. FreezesLeaf s.past.config (image_of (here s).image) (image_of y.image) j) (sym leaf) z)
+    (lacks-now (record { stays = b.stays; lonely = b.swapping.basis.lonely; tiles = b.swapping.basis.tiles }) s l.good l.alone key words t.slot lacked))

@@ -12,7 +12,7 @@ use Rattle.bz_alone.specs.Alone.{IsAlone}
 use Rattle.bz_alone.specs.FromRunning.MadeFor.{WasLeafOf}
 use Rattle.bz_rounds.proofs.Lone.{Basis, good-now, leaf-now, holds-now, below-top}
 
-some : (p : Page) (full words : ℕ) → p.frozen ≡ true → 0 < stage_of p full words
+pub some : (p : Page) (full words : ℕ) → p.frozen ≡ true → 0 < stage_of p full words
 some p full words frozen = let e : stage_of p full words ≡ frozen_stage p full = stage-frozen p full words frozen in omega (arith, e)
 
 -- the leaf of a key that reads find frozen is frozen in the image, so that it takes no words

@@ -1,16 +1,19 @@
 mod Copying
-mod Freezing
+mod Due
+pub mod Freezing
 mod HalvingBelow
 mod HalvingInner
-mod Lacking
-mod Lone
+pub mod Lacking
+pub mod Lone
 mod Made
 mod Parents
 mod PartingRoot
 mod Rising
 mod RootHalving
+mod Seeing
 mod Splitting
 mod Staying
 mod Stored
+mod Thawed
 mod Wanting
 mod Whichever

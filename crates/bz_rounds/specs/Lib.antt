@@ -1,4 +1,6 @@
 pub mod Crowded
+pub mod Due
 pub mod Falls
 pub mod Laws
 pub mod Lone
+pub mod Viewed

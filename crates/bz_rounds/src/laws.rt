@@ -1,7 +1,9 @@
 //! Laws of rounds. Each function does nothing but call the laws that it follows from: its contract is the law.
 
 ghost use Rattle.bz_rounds.specs.Crowded.{AscentsAreCrowded};
+ghost use Rattle.bz_rounds.specs.Due.{LoneGuardsAreThawed, LoneLeavesAreDue, LoneAscentsAreDue};
 ghost use Rattle.bz_rounds.specs.Laws.{LoneFreezesLowerTheStage, LoneCopiesGiveRoom, LoneRootLeafSplitsGiveRoom, LoneLeafSplitsGiveRoom, LoneInnerSplitsLowerTheStage, LoneRootSplitsLowerTheStage, LoneSwapsLowerTheStage};
+ghost use Rattle.bz_rounds.specs.Viewed.{LoneKeyViewsTellTheStage, LoneViewsTellTheStage, LoneViewsAgree};
 
 use bz_alone::laws as alone;
 use bz_content::laws as content;
@@ -161,4 +163,84 @@ pub fn lone_swaps_lower_the_stage()
     lone_leaf_splits_give_room();
     lone_inner_splits_lower_the_stage();
     lone_root_splits_lower_the_stage();
+}
+
+/// What a look-up of the key saw of the status of its leaf tells whether the stage is 0.
+pub fn lone_key_views_tell_the_stage()
+    ensures { LoneKeyViewsTellTheStage }
+{
+    alone::read_values_stand();
+    alone::trees_stand();
+    alone::lonely_times_are_quiet();
+    content::well_formed_images_have_no_fault();
+    shape::leaves_tile_the_keys();
+    slotted::leaf_rules_are_facts();
+    task::headers_say_the_level();
+}
+
+/// So does what was seen where the leaf was read whole.
+pub fn lone_views_tell_the_stage()
+    ensures { LoneViewsTellTheStage }
+{
+    alone::read_values_stand();
+    alone::trees_stand();
+    alone::lonely_times_are_quiet();
+    content::well_formed_images_have_no_fault();
+    shape::leaves_tile_the_keys();
+    slotted::leaf_rules_are_facts();
+    task::headers_say_the_level();
+}
+
+/// Both saw the same status, of the same leaf.
+pub fn lone_views_agree()
+    ensures { LoneViewsAgree }
+{
+    alone::read_values_stand();
+    alone::trees_stand();
+    alone::lonely_times_are_quiet();
+    content::well_formed_images_have_no_fault();
+    shape::leaves_tile_the_keys();
+    task::headers_say_the_level();
+}
+
+/// No guard of a link on the way to the leaf was a frozen node's.
+pub fn lone_guards_are_thawed()
+    ensures { LoneGuardsAreThawed }
+{
+    alone::read_values_stand();
+    alone::trees_stand();
+    alone::lonely_times_are_quiet();
+    content::well_formed_images_have_no_fault();
+    slotted::inner_rules_are_facts();
+    task::headers_say_the_level();
+}
+
+/// So a frozen leaf that was viewed may be made anew.
+pub fn lone_leaves_are_due()
+    ensures { LoneLeavesAreDue }
+{
+    alone::paths_lead_to_leaves();
+    alone::read_values_stand();
+    alone::trees_stand();
+    alone::lonely_times_are_quiet();
+    content::well_formed_images_have_no_fault();
+    shape::leaves_tile_the_keys();
+    slotted::inner_rules_are_facts();
+    task::headers_say_the_level();
+}
+
+/// And a node that was found full on the way up may be split.
+pub fn lone_ascents_are_due()
+    ensures { LoneAscentsAreDue }
+{
+    alone::read_values_stand();
+    alone::trees_stand();
+    alone::lonely_times_are_quiet();
+    content::well_formed_images_have_no_fault();
+    stage::paths_are_of_keys();
+    stage::entries_take_the_words();
+    shape::leaves_tile_the_keys();
+    slotted::leaf_rules_are_facts();
+    slotted::inner_rules_are_facts();
+    task::headers_say_the_level();
 }
