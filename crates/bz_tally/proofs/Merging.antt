@@ -291,13 +291,20 @@ module _ (b : Laws) (r : Merging) (s : Scene) (good : IsScene s) (f : IsMerging 
     not-above : (under : IsUnderNode s.past r.upper links.upper_guard.guarded) → p ≢ under.parent
     not-above under e = absurd (omega (arith, ap fm.level e, (b.links.stand s r.upper good links.upper_guard links.upper_thawed under upper-now).stands.level))
 
-    -- where the link to the parent stands
-    pub merges : Merges s.past.config (image_of (here s).image) (image_of y.image) first.slot second.slot (r.slot 0) (r.slot 1) sep
-    merges = elim links.upper_guard.under [
-      | inl root ↦ merges-at c.nodes 0 (p ∷ []) (b.root s y r.upper q (parent_freezing r.upper r.lower ∷ []) gone good root (f.writing.slots.within 0 (omega arith)) going stand swaps)
-      | inr node ↦ merges-at node.parent node.child.child (node.parent ∷ p ∷ [])
+    -- what is so wherever the link to the parent stands
+    by-turning : (P : Type 0) → ((top j : ℕ) (changed : List ℕ) → TurnsWith r.upper q (parent_freezing r.upper r.lower ∷ []) gone s y top j changed → P) → P
+    by-turning P told = elim links.upper_guard.under [
+      | inl root ↦ told c.nodes 0 (p ∷ []) (b.root s y r.upper q (parent_freezing r.upper r.lower ∷ []) gone good root (f.writing.slots.within 0 (omega arith)) going stand swaps)
+      | inr node ↦ told node.parent node.child.child (node.parent ∷ p ∷ [])
           (b.child s y r.upper q (parent_freezing r.upper r.lower ∷ []) gone good links.upper_guard links.upper_thawed node (out-one p node.parent (not-above node)) (f.writing.slots.within 0 (omega arith)) going stand swaps)
     ]
+
+    pub merges : Merges s.past.config (image_of (here s).image) (image_of y.image) first.slot second.slot (r.slot 0) (r.slot 1) sep
+    merges = by-turning (Merges c (image_of (here s).image) (image_of y.image) first.slot second.slot q m sep) merges-at
+
+    -- the merged leaf has the words that were stored
+    pub merged-words : durable s.past.config y (r.slot 1) ≡ node_of (r.image 1)
+    merged-words = by-turning (durable c y m ≡ node_of (r.image 1)) (λ top j changed t. has top j changed t 1 (omega arith))
 
   -- both are leaves now, in two slots
   abbrev IsLeafHere : SeenLeaf → Type 0

@@ -1,0 +1,5 @@
+mod Freezes
+mod Lone
+mod Merges
+mod Roomy
+mod Swapped

@@ -1,0 +1,95 @@
+//! Laws of merges. Each function does nothing but call the laws that it follows from: its contract is the law.
+
+ghost use Rattle.bz_joined.specs.Laws.{FreezesBesideKeepTheStage, SmallFreezesLeaveACopy, MergesGiveRoom};
+ghost use Rattle.bz_joined.specs.Lone.{LoneFreezesBesideKeepTheStage, LoneOwnFreezesLeaveACopy, MergeSwapsGiveRoom};
+
+use bz_alone::laws as alone;
+use bz_content::laws as content;
+use bz_join::laws as join;
+use bz_renew::laws as renew;
+use bz_shape::laws as shape;
+use bz_slotted::laws as slotted;
+use bz_stage::laws as stage;
+use bz_task::laws as task;
+
+/// The freeze of a neighbour leaves the stage.
+pub fn freezes_beside_keep_the_stage()
+    ensures { FreezesBesideKeepTheStage }
+{
+    content::quiet_swaps_keep_the_content();
+}
+
+/// That of a leaf with few live words leaves it to be copied.
+pub fn small_freezes_leave_a_copy()
+    ensures { SmallFreezesLeaveACopy }
+{
+    content::quiet_swaps_keep_the_content();
+    stage::stages_say();
+}
+
+/// The leaf that is put in the place of two has room.
+pub fn merges_give_room()
+    ensures { MergesGiveRoom }
+{
+    bz_layout::settled_leaf_takes_record();
+    content::merges_keep_the_content();
+    slotted::leaf_rules_are_facts();
+    slotted::inner_rules_are_facts();
+}
+
+/// So a merge that freezes the neighbour of the key's leaf leaves the stage.
+pub fn lone_freezes_beside_keep_the_stage()
+    ensures { LoneFreezesBesideKeepTheStage }
+{
+    freezes_beside_keep_the_stage();
+    small_freezes_leave_a_copy();
+    alone::merges_go_on();
+    alone::trees_stand();
+    alone::lonely_times_are_quiet();
+    bz_layout::slots_apart();
+    bz_word::laws::statuses();
+    content::well_formed_images_have_no_fault();
+    shape::leaves_tile_the_keys();
+    task::swaps_show_in_slots();
+}
+
+/// And one that freezes the key's leaf leaves it to be copied.
+pub fn lone_own_freezes_leave_a_copy()
+    ensures { LoneOwnFreezesLeaveACopy }
+{
+    freezes_beside_keep_the_stage();
+    small_freezes_leave_a_copy();
+    alone::merges_go_on();
+    alone::trees_stand();
+    alone::lonely_times_are_quiet();
+    bz_layout::slots_apart();
+    bz_word::laws::statuses();
+    content::well_formed_images_have_no_fault();
+    shape::leaves_tile_the_keys();
+    task::swaps_show_in_slots();
+}
+
+/// One that turns the link to the parent gives room.
+pub fn merge_swaps_give_room()
+    ensures { MergeSwapsGiveRoom }
+{
+    merges_give_room();
+    bz_word::laws::statuses();
+    content::well_formed_images_have_no_fault();
+    content::plain_words_stand_for_themselves();
+    join::children_join();
+    renew::links_turn();
+    renew::links_turn_and_nodes_freeze();
+    renew::guarded_links_stand();
+    shape::leaves_tile_the_keys();
+    slotted::leaf_rules_are_facts();
+    slotted::live_words_fit();
+    slotted::whole_leaves_are_readable();
+    slotted::high_fences_are_read();
+    bz_page::laws::ordered_pairs_are_found();
+    task::ranges_stay();
+    task::frozen_nodes_stay();
+    task::same_records_show_the_same();
+    task::seen_leaves_are_whole();
+    task::leaves_are_in_trees();
+}
