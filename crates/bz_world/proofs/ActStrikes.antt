@@ -5,14 +5,16 @@ use Rattle.std.proofs.lemmas.Bool.{cases_eq}
 use Rattle.bz_acts.specs.declared.acted.Act.{Act}
 use Rattle.bz_machine.specs.declared.done.Done.{Done}
 use Rattle.bz_machine.specs.declared.done.Done.TheVariants.{Busy}
+use Rattle.bz_rivals.specs.Wins.{OwnSwapsWin}
 use Rattle.bz_sight.specs.Acts.{EffectStepsTakePlace}
 use Rattle.bz_sound.specs.Memory.Moments.{IsAfterFlush, map_at_start}
 use Rattle.bz_swap.specs.EffectPlaces.{EffectsStayInside}
 use Rattle.bz_swap.specs.Steps.{doing_after}
 use Rattle.bz_swap.specs.SwapMemory.{doing_of}
-use Rattle.bz_swap.specs.TakenStatuses.{TakenStatusesStay, BegunStayTaken}
+use Rattle.bz_swap.specs.TakenStatuses.{TakenStatusesStay}
 use Rattle.bz_world.specs.Inside.Acted.{IsActed, IsStriking}
 use Rattle.bz_world.specs.Inside.Kept.{IsAwake}
+use Rattle.bz_world.specs.Inside.Laws.{BegunLaws}
 use Rattle.bz_world.specs.WorldView.{mark_of}
 use Rattle.bz_world.specs.declared.parts.Parts.{Parts}
 use Rattle.bz_world.specs.declared.serving.OpenCall.{OpenCall}
@@ -26,9 +28,9 @@ busy-by : (done : Done) (s : ℕ) → (done ≡ Busy) ⊎ (Some s ≡ None) → 
 busy-by done s (inl e) = e
 busy-by done s (inr e) = absurd (cc)
 
-pub act-strikes : EffectStepsTakePlace → EffectsStayInside → TakenStatusesStay → BegunStayTaken → (old new : Parts) (w s : ℕ) (x : OpenCall) (made : Act) (done : Done) → IsAwake old → get_or old.workers.items w None ≡ Some x → IsActed old w made done (Some s) new
+pub act-strikes : EffectStepsTakePlace → EffectsStayInside → TakenStatusesStay → BegunLaws → OwnSwapsWin → (old new : Parts) (w s : ℕ) (x : OpenCall) (made : Act) (done : Done) → IsAwake old → get_or old.workers.items w None ≡ Some x → IsActed old w made done (Some s) new
     → length old.journal.past < old.config.marks → IsStriking new s
-act-strikes place inside taken begun old new w s x made done k is-worker a room = record {
+act-strikes place inside taken begun wins old new w s x made done k is-worker a room = record {
   before = old;
   mark = mark_of w made;
   kept = k;
@@ -39,6 +41,7 @@ act-strikes place inside taken begun old new w s x made done k is-worker a room 
   marked = act-marked w old.access new.access old.journal made k.living.words a.step.one.act;
   flush = subst (λ (z : Act). IsAfterFlush (mark_of w z ∷ old.journal.past)) (sym (inside.step old.access new.access w made done s (held old.access k.living.seen.phase k.living.seen.holds).memory a.step).act) tt;
   follows = act-follows _ (map_at_start old.config old.journal.start) old.journal.past w made (may-act old.at_start old.journal.past w (some-worker old k w x is-worker) (call-is-open old k w x is-worker));
+  unnoted = λ t well. wins.unnoted old.access new.access w made done (Some s) t a.step well;
   rest = a.rest;
 }
   where

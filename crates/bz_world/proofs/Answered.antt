@@ -21,7 +21,7 @@ use Rattle.bz_story.specs.Laws.{HasBegun, goes_on}
 use Rattle.bz_story.specs.Living.{IsLiving}
 use Rattle.bz_story.specs.Story.{Story, scene, loaded, is_load_of}
 use Rattle.bz_swap.specs.SwapMemory.{SwapMemory, Reading, Swapping, Storing, Flushing, doing_of, has_effect, memory_words, value_at, is_named}
-use Rattle.bz_swap.specs.Steps.{AnswersRead}
+use Rattle.bz_swap.specs.Steps.{AnswersRead, IsStep}
 use Rattle.bz_acts.specs.Rule.{IsActOf}
 use Rattle.bz_cells.specs.Store.{is_outside}
 use Rattle.bz_layout.specs.Addresses.{IsOutsideSwaps}
@@ -31,12 +31,13 @@ use Rattle.bz_story.specs.Story.{and_then}
 use Rattle.bz_task.specs.Instant.{Instant}
 use Rattle.bz_task.specs.Requests.{Answers, IsReadable}
 use Rattle.bz_task.specs.OwnActs.{Flushes}
-use Rattle.bz_task.specs.Requests.{Hears, Tells}
+use Rattle.bz_task.specs.Requests.{Hears, Tells, effects_in}
 use Rattle.bz_task.specs.Scene.{Scene, Stage, IsLawful, Waiting, Took}
 use Rattle.bz_task.specs.declared.todo.Seen.{Seen}
 use Rattle.bz_task.specs.declared.todo.Seen.TheVariants as seen
 use Rattle.bz_task.specs.declared.todo.Todo.TheVariants as todo
 use Rattle.bz_world.specs.Inside.Acted.{IsActed, IsTold, HasWon}
+use Rattle.bz_world.specs.Inside.Alone.{untold, DoesWell}
 use Rattle.bz_world.specs.Inside.Kept.{IsAwake}
 use Rattle.bz_world.specs.Inside.Lonely.{WhereLonely}
 use Rattle.bz_world.specs.WorldView.{mark_of}
@@ -45,8 +46,10 @@ use Rattle.bz_world.specs.declared.parts.Parts.{Parts}
 use Rattle.bz_world.specs.declared.serving.OpenCall.{OpenCall}
 use Rattle.bz_world.specs.Inside.Laws.{StepLaws}
 use Rattle.bz_story.proofs.Powered.{stored-since}
+use Rattle.bz_world.proofs.Alone.{hears-on}
 use Rattle.bz_world.proofs.Lonely.{lonely-act}
 use Rattle.bz_world.proofs.LonelyActs.{own-acted, all-acted, reads-now}
+use Rattle.bz_world.proofs.Meant.{meant-on}
 use Rattle.bz_world.proofs.Powered.{begun-in, leaves-power}
 use Rattle.bz_world.proofs.Staying.{SameFor}
 use Rattle.bz_world.proofs.Quiet.{serves, sees, askable, goes, same-other, same-own, stays, goes-on, answered}
@@ -99,7 +102,7 @@ module _ (b : StepLaws) (old new : Parts) (w : ℕ) (x : OpenCall) (made : Act) 
   lawful v since opened begun = b.quiet old.config old.access new.access old.journal k.story (mark_of w made) v since opened (goes b old new w x made answer k is-worker a) all-stay begun
 
   pub slots : (v : ℕ) → SameFor old.access new.access v → IsSlot old.config new.access (with_mark old.journal (mark_of w made)) after old.owners.items v (get_or old.workers.items v None)
-  slots v same = stays b old new w x made answer k is-worker a after v living refl same (lawful v) (λ j. refl) (λ j h. h)
+  slots v same = stays b old new w x made answer k is-worker a after v living refl same (lawful v) (λ j. refl) (λ j h. h) refl
 
   pub others : (v : ℕ) → v ≢ w → IsSlot old.config new.access (with_mark old.journal (mark_of w made)) after old.owners.items v (get_or old.workers.items v None)
   others v ne = slots v (same-other b old new w x made answer k is-worker a v ne)
@@ -119,8 +122,9 @@ module _ (b : StepLaws) (old new : Parts) (w : ℕ) (x : OpenCall) (made : Act) 
   knows = its.tasked.laws.stable (stage_in old.access (doing_of old.access w)) before later (sym its.tasked.config) its.facts later-seen.scene (lawful w its.call_open.look.since its.opened (begun-in k.living its.call_open))
 
   -- and it is to be told
-  pub be-told : (stage : Stage) (what : Seen) → answer ≢ done.Busy → facts_of x.task stage later → MayGoOn x ⊎ HasWon x what → Hears (asks_of x.task) what → Tells (asks_of x.task) stage what later → WhereLonely old.journal.past w x.call (λ key. stage ≡ Waiting) → IsTold new w x what
-  be-told stage what ne facts finished hears tells waits = subst (λ p. IsTold p w x what) (sym a.rest) (record {
+  pub be-told : (stage : Stage) (what : Seen) → answer ≢ done.Busy → facts_of x.task stage later → MayGoOn x ⊎ HasWon x what → Hears (asks_of x.task) what → Tells (asks_of x.task) stage what later → WhereLonely old.journal.past w x.call (λ key. stage ≡ Waiting)
+      → untold old.access (doing_of old.access w) ≡ effects_in what → (DoesWell old.access (doing_of old.access w) → what ≢ seen.Swapped false) → IsTold new w x what
+  be-told stage what ne facts finished hears tells waits effects wins = subst (λ p. IsTold p w x what) (sym a.rest) (record {
     between = answered b old new w x made answer k is-worker a after room ne living k.free others;
     tasked = its.tasked;
     stage = stage;
@@ -130,6 +134,9 @@ module _ (b : StepLaws) (old new : Parts) (w : ℕ) (x : OpenCall) (made : Act) 
     hears = hears;
     tells = tells;
     lonely = λ key get lonely. (own-acted b old new w x made answer k is-worker a k.story.filled key get lonely, waits key get (lonely-act w w old.journal.past made lonely));
+    alone = hears-on old.config old.access new.access old.journal.past (mark_of w made) k.story after w its.call_open.look.since its.opened its.opened x.task (next_instant new.access (k.story.at (length old.journal.past))) refl its.call_open.look.by_now its.alone
+        what refl effects wins;
+    meant = λ quiet. meant-on x.call x.task before.past later.past its.tasked.laws (lawful w its.call_open.look.since its.opened (begun-in k.living its.call_open)).continues (its.meant quiet);
   })
 
   -- a read answers what the address holds
@@ -166,7 +173,7 @@ module _ (b : StepLaws) (old new : Parts) (w : ℕ) (x : OpenCall) (made : Act) 
         (no-finish old.access w x (seen.Read v) (λ s f. absurd (cc (reads, f))) its.finishing)
         (subst (λ z. Hears z (seen.Read v)) (sym (its.asks ∙ ap Some asked)) tt)
         (subst (λ z. Tells z Waiting (seen.Read v) later) (sym (its.asks ∙ ap Some asked)) answers)
-        (λ key get lonely. refl)
+        (λ key get lonely. refl) (ap (untold old.access) reads) (λ h e. absurd (cc e))
 
   -- a swap answers whether it took effect
   module _ (entries : List Entry) (t : ℕ) (won : Bool) (asked : its.asked ≡ todo.Swap entries) (swaps : doing_of old.access w ≡ Swapping t) (effect : has_effect new.access t ≡ won) where
@@ -189,12 +196,18 @@ module _ (b : StepLaws) (old new : Parts) (w : ℕ) (x : OpenCall) (made : Act) 
     finishes true e (inr f) = inr (record { publishing = f.publishing; won = ap seen.Swapped e })
     finishes false e (inr f) = inl (inl (unmade e f.publishing))
 
+    told-by : (z : Bool) → z ≡ won → (if z then 1 else 0) ≡ effects_in (seen.Swapped won)
+    told-by true e = ap (λ (y : Bool). effects_in (seen.Swapped y)) e
+    told-by false e = ap (λ (y : Bool). effects_in (seen.Swapped y)) e
+
     pub told-swap : answer ≡ done.Swapped won → IsTold new w x (seen.Swapped won)
     told-swap e = be-told (if has_effect old.access t then Took else Waiting) (seen.Swapped won) (λ f. absurd (cc (e, f))) (subst (λ z. facts_of x.task z later) stage-is knows)
         (finishes won refl its.finishing)
         (subst (λ z. Hears z (seen.Swapped won)) (sym (its.asks ∙ ap Some asked)) tt)
         (subst (λ z. Tells z (if has_effect old.access t then Took else Waiting) (seen.Swapped won) later) (sym (its.asks ∙ ap Some asked)) (stage-by (has_effect old.access t) (sym (a.step.effect.swaps t) ∙ effect)))
         (λ key get lonely. absurd (cc ((reads-now old k w x is-worker key get lonely).reads, swaps)))
+        (ap (untold old.access) swaps ∙ told-by (has_effect old.access t) (sym (a.step.effect.swaps t) ∙ effect))
+        (λ h lost. let wins : won ≡ true = (b.lone.wins.answer old.access new.access w made None t won (subst (λ (z : Done). IsStep old.access w made z None new.access) e a.step) swaps (subst (DoesWell old.access) swaps h)).0 in absurd (cc (wins, lost)))
 
   -- a flush has been made
   module _ (line : ℕ) (asked : its.asked ≡ todo.Flush line) (flushes : doing_of old.access w ≡ Flushing line) (within : line * 8 < length old.access.cached) where
@@ -212,4 +225,4 @@ module _ (b : StepLaws) (old new : Parts) (w : ℕ) (x : OpenCall) (made : Act) 
         (no-finish old.access w x seen.Flushed (λ s f. absurd (cc (flushes, f))) its.finishing)
         (subst (λ z. Hears z seen.Flushed) (sym (its.asks ∙ ap Some asked)) tt)
         (subst (λ z. Tells z Took seen.Flushed later) (sym (its.asks ∙ ap Some asked)) tt)
-        (λ key get lonely. absurd (cc ((reads-now old k w x is-worker key get lonely).reads, flushes)))
+        (λ key get lonely. absurd (cc ((reads-now old k w x is-worker key get lonely).reads, flushes))) (ap (untold old.access) flushes) (λ h e. absurd (cc e))

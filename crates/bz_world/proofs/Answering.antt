@@ -59,7 +59,7 @@ between-pages p w x pairs b = record {
     pairs = t.pairs;
     power = t.power;
   };
-  taken = let t = b.taken in record { shown = t.shown; held = t.held; few = t.few; counted = t.counted; unused = t.unused };
+  taken = let t = b.taken in record { shown = t.shown; held = t.held; few = t.few; notes = t.notes; unused = t.unused };
   living = b.living;
   sound = b.sound;
   free = b.free;

@@ -13,11 +13,12 @@ use Rattle.bz_call.specs.declared.calls.Call.{Call}
 use Rattle.bz_mark.specs.Log.{with_mark, count_begins, count_page_calls}
 use Rattle.bz_mark.specs.declared.marks.Mark.{Mark}
 use Rattle.bz_mark.specs.declared.marks.Mark.TheVariants.{Begin, End, Load, Store, Cas, Flush, Evict, Cut, On, Ready, Effect}
-use Rattle.bz_running.specs.Duties.{config_of, asks_of, needs_of, wants_of, facts_of, makes_no_change}
+use Rattle.bz_running.specs.Duties.{config_of, asks_of, swaps_of, needs_of, wants_of, facts_of, makes_no_change}
 use Rattle.bz_running.specs.Hearing.{IsLookup}
 use Rattle.bz_running.specs.Laws.{AreLaws}
 use Rattle.bz_running.specs.LookingUp.{ForWay, look_of, reads_asked, LooksUpBriefly}
 use Rattle.bz_running.specs.declared.running.AnyTask.{AnyTask}
+use Rattle.bz_sight.specs.Sight.{next_instant}
 use Rattle.bz_sound.specs.Calls.{Open, begun_calls}
 use Rattle.bz_sound.specs.Power.Sound.{IsSound}
 use Rattle.bz_story.specs.Laws.{GoesOn, goes_on}
@@ -27,6 +28,7 @@ use Rattle.bz_swap.specs.Held.{Holds}
 use Rattle.bz_swap.specs.Starts.{started}
 use Rattle.bz_swap.specs.SwapMemory.{SwapMemory, Working, Reading}
 use Rattle.bz_task.specs.Scene.{Scene, HasFilled, Waiting}
+use Rattle.bz_task.specs.declared.path.Path.{Path}
 use Rattle.bz_task.specs.declared.todo.Todo.TheVariants.{Read}
 use Rattle.bz_world.specs.Inside.Acted.{IsBetween}
 use Rattle.bz_world.specs.Inside.Beginning.{MayBegin, HasBegun, world_view, pages_asked, is_swap}
@@ -39,6 +41,7 @@ use Rattle.bz_world.specs.Inside.Telling.{MustStart}
 use Rattle.bz_world.specs.declared.parts.Parts.{Parts}
 use Rattle.bz_world.specs.declared.serving.OpenCall.{OpenCall}
 use Rattle.bz_story.proofs.Powered.{stored-since}
+use Rattle.bz_world.proofs.Alone.{waits-on}
 use Rattle.bz_world.proofs.Counting.{pairs-stay}
 use Rattle.bz_world.proofs.Lonely.{acts-begin, all-idle}
 use Rattle.bz_world.proofs.Powered.{is-on}
@@ -79,7 +82,7 @@ module _ (p : Parts) (k : IsAwake p) (w : ℕ) (call : Call) (may : MayBegin p w
   at-rest = subst (IsSlot p.config p.access p.journal k.story p.owners.items w) may.none_open (k.workers w)
 
   module _ (b : EndLaws) (s : StartLaws) (n : ℕ) (numbered : n ≡ begun_calls w p.journal.past + 1) (task : AnyTask) (config : config_of task ≡ p.config) (laws : AreLaws task) (looks : makes_no_change task ≡ true)
-      (lookup : IsLookup (key_of call) None task) (asks : asks_of task ≡ Some (Read 2)) (facts : (z : Scene) → HasFilled z → facts_of task Waiting z) (wants : wants_of task ≡ 0) (look : look_of task ≡ ForWay) (reads : reads_asked task ≡ 1) (brief : LooksUpBriefly task) where
+      (lookup : (way : Option Path) → IsLookup (key_of call) way task) (asks : asks_of task ≡ Some (Read 2)) (facts : (z : Scene) → HasFilled z → facts_of task Waiting z) (wants : wants_of task ≡ 0) (look : look_of task ≡ ForWay) (reads : reads_asked task ≡ 1) (brief : LooksUpBriefly task) (swaps : swaps_of task ≡ 0) where
     abbrev mark : Mark
     mark = Begin w n call
 
@@ -125,6 +128,7 @@ module _ (p : Parts) (k : IsAwake p) (w : ℕ) (call : Call) (may : MayBegin p w
           lawful = λ m o begins. b.quiet p.config p.access p.access p.journal k.story mark v m o no-act (λ a out n. refl) begins;
           took = λ j. refl;
           filled = λ j e. e;
+          alone = λ m o t l waits. waits-on p.config p.access p.access p.journal.past mark k.story after v m o o t (next_instant p.access (k.story.at (length p.journal.past))) refl l waits refl refl (λ j d. refl) (λ j d well. well);
         }) (k.workers v))
 
     -- the tables
@@ -179,7 +183,7 @@ module _ (p : Parts) (k : IsAwake p) (w : ℕ) (call : Call) (may : MayBegin p w
       on = k.on;
       story = after;
       tabled = tabled;
-      taken = let t = k.taken in record { shown = t.shown; held = t.held; few = t.few; counted = t.counted; unused = t.unused };
+      taken = let t = k.taken in record { shown = t.shown; held = t.held; few = t.few; notes = t.notes; unused = t.unused };
       living = lives;
       sound = sound;
       free = k.free;
@@ -211,12 +215,14 @@ module _ (p : Parts) (k : IsAwake p) (w : ℕ) (call : Call) (may : MayBegin p w
       is = get_or-set_same p.workers.items w (Some fresh) None (omega (arith, in-table, k.tabled.places));
       asking = record {
         between = between;
-        tasked = record { config = config; laws = laws; lookup = lookup; change = inl looks };
+        tasked = record { config = config; laws = laws; lookup = lookup None; change = inl looks; wayless = λ none. lookup };
         asks = asks;
         finished = inl (inl refl);
         facts = facts (scene p.config (mark ∷ p.journal.past) after w (suc (length p.journal.past)) opened) none-taken;
         covered = none-unfilled (k.story.took w) (k.story.filled w) (needs_of task) (omega (arith, laws.few, laws.most)) at-rest.filled;
         lonely = lonely-begun;
+        alone = record { others = 0; made = 0; counted = omega arith; stands = λ ends. absurd (cc ends) };
+        meant = λ quiet. inl (record { slots = wants; swaps = inl swaps });
       };
     }
 

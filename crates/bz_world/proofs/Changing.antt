@@ -8,7 +8,7 @@ use Rattle.bz_layout.specs.declared.sizes.TheConstants.{STATUS_AT}
 use Rattle.bz_layout.specs.declared.thresholds.TheConstants.{CONSOLIDATION_SLOTS, MERGE_BELOW, MERGE_SLOTS, SPLIT_ABOVE, SPLIT_SLOTS}
 use Rattle.bz_page.specs.Laws.{IsSaidBy}
 use Rattle.bz_record.specs.Laws.{IsViewed}
-use Rattle.bz_running.specs.Duties.{config_of, asks_of, wants_of, change_of, facts_of}
+use Rattle.bz_running.specs.Duties.{config_of, asks_of, change_swaps, wants_of, change_of, facts_of}
 use Rattle.bz_running.specs.Hearing.{IsLookup}
 use Rattle.bz_running.specs.Laws.{AreLaws}
 use Rattle.bz_running.specs.declared.running.AnyTask.{AnyTask}
@@ -130,13 +130,14 @@ module _ (scenes : ScenesAreSeen) (b : AnswerLaws) (p : Parts) (w : ℕ) (view :
 
 -- a task that makes the call's change may be begun, where its key was looked up
 pub must-change : ScenesAreSeen → (p : Parts) (w : ℕ) (view : KeyView) (m : MustAnswerKey p w view) (key : List ℕ) → key_of m.on.serving.call ≡ key → (task : AnyTask) (had : Option (List ℕ)) → config_of task ≡ p.config → AreLaws task → IsChangeFor m.on.serving.call had (change_of task)
-    → ((way : Option Path) → IsLookup key way task) → asks_of task ≡ None → wants_of task ≡ 0 → ((s : Scene) → s.past.config ≡ p.config → s.effected ≡ false → IsScene s → IsKeyView key view s.past → facts_of task Waiting s) → MustChange p w had task
-must-change scenes p w view m key key-is task had config laws change lookup asks wants facts = record {
-  reads = record { on = m.on; leads = m.leads; quiet = m.quiet; other = λ other get lonely. absurd (subst (λ called. IsChangeOf called had (change_of task).new) get change.is) };
-  tasked = record { config = config; laws = laws; lookup = subst (λ k. IsLookup k m.on.serving.path task) (sym key-is) (lookup m.on.serving.path); change = inr change };
+    → ((way : Option Path) → IsLookup key way task) → asks_of task ≡ None → wants_of task ≡ 0 → 0 < change_swaps task → ((s : Scene) → s.past.config ≡ p.config → s.effected ≡ false → IsScene s → IsKeyView key view s.past → facts_of task Waiting s) → MustChange p w had task
+must-change scenes p w view m key key-is task had config laws change lookup asks wants changes facts = record {
+  reads = record { on = m.on; leads = m.leads; quiet = m.quiet; some = m.some; other = λ other get lonely. absurd (subst (λ called. IsChangeOf called had (change_of task).new) get change.is) };
+  tasked = record { config = config; laws = laws; lookup = subst (λ k. IsLookup k m.on.serving.path task) (sym key-is) (lookup m.on.serving.path); change = inr change; wayless = λ none other. subst (λ k. IsLookup k other task) (sym key-is) (lookup other) };
   asks = asks;
   facts = facts (known p w m.on) refl (quiet-by m.on.between.opened.effect (m.on.between.call_open.effect ∙ m.quiet)) (known-scene scenes p w m.on) (subst (λ k. IsKeyView k view (known p w m.on).past) key-is m.viewed);
   wants = wants;
+  changes = changes;
 }
 
 -- the call has told nothing yet
@@ -145,10 +146,10 @@ tells-nothing p w on had quiet at e = absurd (cc (e, on.between.call_open.effect
 
 -- the task that it takes on, and what is known of the way to its leaf
 abbrev pub takes : (p : Parts) (w : ℕ) (had : Option (List ℕ)) (task : AnyTask) (m : MustChange p w had task) → MustTakeOn p w task m.reads.on.serving.path had None
-takes p w had task m = record { on = m.reads.on; may = inl m.reads.quiet; tasked = m.tasked; asks = m.asks; facts = m.facts; wanted = none-wanted p w m.reads.on task m.wants; lonely = λ key get lonely. absurd (m.reads.other key get lonely) }
+takes p w had task m = record { on = m.reads.on; may = inl m.reads.quiet; tasked = m.tasked; asks = m.asks; facts = m.facts; wanted = none-wanted p w m.reads.on task m.wants; lonely = λ key get lonely. absurd (m.reads.other key get lonely); meant = λ quiet. inl (record { slots = m.wants; swaps = inr m.changes }) }
 
 abbrev pub knows : (p : Parts) (w : ℕ) (m : MustReadWhole p w) → KnowsWay p w m.on.serving m.on.between
-knows p w m = record { leads = m.leads; quiet = m.quiet }
+knows p w m = record { leads = m.leads; quiet = m.quiet; some = m.some }
 
 -- where something was said of a key, it was found
 pub some-found : (o : Option Found) (had : List ℕ) → payload_of o ≡ Some had → o ≢ None

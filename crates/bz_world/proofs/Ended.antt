@@ -11,6 +11,7 @@ use Rattle.bz_layout.specs.declared.config.Config.{Config}
 use Rattle.bz_mark.specs.Log.{Log, HasRoom, with_mark, with_page, count_ends, count_page_ends}
 use Rattle.bz_mark.specs.declared.marks.Mark.{Mark}
 use Rattle.bz_mark.specs.declared.marks.Mark.TheVariants.{End}
+use Rattle.bz_sight.specs.Sight.{next_instant}
 use Rattle.bz_sound.specs.Calls.{open_call}
 use Rattle.bz_sound.specs.Replies.{Pages}
 use Rattle.bz_sound.specs.Memory.OpenCallLaws.{LeavesRoom}
@@ -29,6 +30,7 @@ use Rattle.bz_world.specs.declared.answers.Applied.TheVariants as applied
 use Rattle.bz_world.specs.declared.parts.Parts.{Parts}
 use Rattle.bz_world.specs.declared.serving.OpenCall.{OpenCall}
 use Rattle.bz_story.proofs.Powered.{stored-since}
+use Rattle.bz_world.proofs.Alone.{waits-on}
 use Rattle.bz_world.proofs.Counting.{pairs-stay}
 use Rattle.bz_world.proofs.Lonely.{none-in}
 use Rattle.bz_world.proofs.LonelyEnds.{ends-briefly}
@@ -47,6 +49,8 @@ slot-pages c m log pages story owners v (Some x) h = record {
   finishing = h.finishing;
   facts = h.facts;
   covered = h.covered;
+  alone = h.alone;
+  meant = h.meant;
 }
 
 living-pages : (c : Config) (m : SwapMemory) (log : Log) (pages : Pages) (story : Story) → IsLiving c m log story → IsLiving c m (record log { pages = pages }) story
@@ -114,6 +118,7 @@ module _ (b : EndLaws) (p : Parts) (w : ℕ) (on : MustGoOn p w) where
       lawful = λ m o begins. b.quiet p.config p.access p.access p.journal was.story mark v m o no-act (λ a out n. refl) begins;
       took = λ j. refl;
       filled = λ j e. e;
+      alone = λ m o t l waits. waits-on p.config p.access p.access p.journal.past mark was.story after v m o o t (next_instant p.access (was.story.at (length p.journal.past))) refl l waits refl refl (λ j d. refl) (λ j d well. well);
     }) (was.others v ne)
 
     module _ (pages : Pages) (sound : IsSound p.config p.at_start (record (with_mark p.journal mark) { pages = pages })) (room : length p.journal.past < p.config.marks) where
@@ -164,7 +169,7 @@ module _ (b : EndLaws) (p : Parts) (w : ℕ) (on : MustGoOn p w) where
         on = was.on;
         story = after;
         tabled = tabled;
-        taken = let t = was.taken in record { shown = t.shown; held = t.held; few = t.few; counted = t.counted; unused = t.unused };
+        taken = let t = was.taken in record { shown = t.shown; held = t.held; few = t.few; notes = t.notes; unused = t.unused };
         living = living-pages p.config p.access (with_mark p.journal mark) pages after lives;
         sound = sound;
         free = was.free;

@@ -9,7 +9,9 @@ use Rattle.bz_mark.specs.declared.marks.Mark.TheVariants.{Evict}
 use Rattle.bz_layout.specs.Addresses.{swap_address}
 use Rattle.bz_pm.specs.Acts.{evicted}
 use Rattle.bz_sight.specs.Acts.{EvictionsAreSeen}
+use Rattle.bz_rivals.specs.Wins.{OwnSwapsWin}
 use Rattle.bz_sight.specs.Passing.{Passes, Passed}
+use Rattle.bz_sight.specs.Sight.{next_instant}
 use Rattle.bz_sound.specs.Memory.Moments.{image_after}
 use Rattle.bz_sound.specs.Power.Sound.{IsSound}
 use Rattle.bz_story.specs.Laws.{GoesOn, goes_on}
@@ -18,15 +20,15 @@ use Rattle.bz_story.specs.Story.{Story}
 use Rattle.bz_swap.specs.Effects.{IsQuiet, EffectIs}
 use Rattle.bz_swap.specs.Evictions.{EvictsIn}
 use Rattle.bz_swap.specs.SwapMemory.{SwapMemory, doing_of, memory_words}
-use Rattle.bz_swap.specs.TakenStatuses.{BegunStayTaken}
 use Rattle.bz_swap.specs.declared.phase.Phase.{Phase}
 use Rattle.bz_swap.specs.declared.phase.Phase.TheVariants.{Opened, Running, Recovering}
 use Rattle.bz_world.specs.Inside.Acted.{IsEvicted, IsStriking, SameWork}
 use Rattle.bz_world.specs.Inside.Kept.{IsTabled, AreTaken, IsAwake}
 use Rattle.bz_world.specs.Inside.Serving.{IsSlot}
 use Rattle.bz_world.specs.declared.parts.Parts.{Parts}
-use Rattle.bz_world.specs.Inside.Laws.{StepLaws}
+use Rattle.bz_world.specs.Inside.Laws.{BegunLaws, StepLaws}
 use Rattle.bz_story.proofs.Powered.{stored-since}
+use Rattle.bz_world.proofs.Alone.{waits-on}
 use Rattle.bz_world.proofs.Counting.{pairs-stay}
 use Rattle.bz_world.proofs.LonelyActs.{all-evicted}
 use Rattle.bz_world.proofs.Powered.{is-not-off}
@@ -70,18 +72,21 @@ module _ (old new : Parts) (a : ℕ) (told : Option ℕ) (k : IsAwake old) (e : 
     power = t.power;
   })
 
-  pub evict-taken : BegunStayTaken → AreTaken new
+  pub evict-taken : BegunLaws → AreTaken new
   evict-taken begun = subst AreTaken (sym e.rest) (record {
     shown = λ s l h. k.taken.shown s l (λ f. h (ap (λ z. slice_index z.cached (swap_address s)) e.eviction.is ∙ f));
-    held = begun.eviction old.access new.access a told e.eviction k.taken.held;
+    held = begun.taken.eviction old.access new.access a told e.eviction k.taken.held;
     few = omega (arith, evict-works.taken, k.taken.few);
-    counted = ap (λ z. length z.begun) e.eviction.is ∙ (k.taken.counted ∙ sym evict-works.taken);
+    notes = record {
+      zero = begun.zero.eviction old.access new.access a told e.eviction k.taken.notes.zero;
+      noted = begun.noted.eviction old.access new.access a told e.eviction k.taken.notes.noted;
+    };
     unused = λ s l. unused-by old.access new.access told (pending-begun old k) k.taken.unused (effect-in old.access.phase old.access new.access told k.living.seen.phase e.eviction.effect) s (omega (arith, l, evict-works.taken));
   })
 
 -- it gives a swap its effect
-pub evict-strikes : EvictionsAreSeen → BegunStayTaken → (old new : Parts) (a s : ℕ) → IsAwake old → IsEvicted old a (Some s) new → length old.journal.past < old.config.marks → IsStriking new s
-evict-strikes sees begun old new a s k e room = record {
+pub evict-strikes : EvictionsAreSeen → BegunLaws → OwnSwapsWin → (old new : Parts) (a s : ℕ) → IsAwake old → IsEvicted old a (Some s) new → length old.journal.past < old.config.marks → IsStriking new s
+evict-strikes sees begun wins old new a s k e room = record {
   before = old;
   mark = Evict a;
   kept = k;
@@ -92,6 +97,7 @@ evict-strikes sees begun old new a s k e room = record {
   marked = evict-marked old new a (Some s) k e;
   flush = tt;
   follows = is-not-off old k.tabled k.on;
+  unnoted = λ t well. wins.evicted old.access new.access a (Some s) t e.eviction ∙ well.unnoted;
   rest = e.rest;
 }
 
@@ -132,6 +138,8 @@ module _ (b : StepLaws) (sees : EvictionsAreSeen) (old new : Parts) (a : ℕ) (k
     lawful = λ m o begins. b.quiet old.config old.access new.access old.journal k.story (Evict a) v m o goes (sees.leaves old.access new.access a None e.eviction) begins;
     took = λ j. refl;
     filled = λ j h. h;
+    alone = λ since opened t l h. waits-on old.config old.access new.access old.journal.past (Evict a) k.story after v since opened opened t (next_instant new.access (k.story.at (length old.journal.past))) refl l h refl (same v).doing (same v).effects
+        (λ j d well. b.lone.wins.eviction old.access new.access v a None j k.living.seen.phase e.eviction d refl well);
   }) (k.workers v)
 
   was : image_after old.journal.start old.journal.past ≡ (k.story.at (length old.journal.past)).image

@@ -1,3 +1,6 @@
+mod Alone
+mod AloneStarts
+mod Meant
 mod Staying
 mod Marking
 mod Powered

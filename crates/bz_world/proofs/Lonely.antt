@@ -64,10 +64,10 @@ lonely-flush v mark.On past f l = absurd f
 lonely-flush v mark.Ready past f l = absurd f
 
 -- where no swap takes effect at the next moment, none took effect since the begin
-now-is : (at : ℕ → Instant) (n : ℕ) (y : Instant) → and_then at n y (suc n) ≡ y
+pub now-is : (at : ℕ → Instant) (n : ℕ) (y : Instant) → and_then at n y (suc n) ≡ y
 now-is at n y = let t : (suc n == suc n) ≡ true = grind (arith, nat_tests) in rw t refl
 
-before-is : (at : ℕ → Instant) (n m : ℕ) (y : Instant) → m ≤ n → and_then at n y m ≡ at m
+pub before-is : (at : ℕ → Instant) (n m : ℕ) (y : Instant) → m ≤ n → and_then at n y m ≡ at m
 before-is at n m y l = let t : (m == suc n) ≡ false = grind (arith, nat_tests) in rw t refl
 
 pub alone-on : (at : ℕ → Instant) (n begun : ℕ) (y : Instant) → begun < n → y.effects ≡ (at n).effects → (at n).effects ≡ (at (suc begun)).effects → (and_then at n y (suc n)).effects ≡ (and_then at n y (suc begun)).effects

@@ -28,13 +28,14 @@ use Rattle.bz_story.specs.Living.{IsLiving}
 use Rattle.bz_story.specs.Opening.{FreshStoriesLive, fresh_story}
 use Rattle.bz_swap.specs.Power.{opened}
 use Rattle.bz_swap.specs.SwapMemory.{SwapMemory, Working, Idle, idle, doing_of, has_effect}
-use Rattle.bz_swap.specs.TakenStatuses.{BegunStayTaken, BegunAreTaken}
+use Rattle.bz_swap.specs.TakenStatuses.{BegunAreTaken}
 use Rattle.bz_swap.specs.declared.phase.Phase.{Phase}
 use Rattle.bz_world.specs.Inside.Beginning.{world_view, supply_of, is_swap}
 use Rattle.bz_world.proofs.Lonely.{none-in}
 use Rattle.bz_world.proofs.Powered.{kept-awake}
 use Rattle.bz_world.proofs.FreshSlots.{free-below, free-root, free-others}
-use Rattle.bz_world.specs.Inside.Kept.{IsTabled, AreTaken, AreFree, IsAwake, IsKept}
+use Rattle.bz_world.specs.Inside.Kept.{IsTabled, KeepsNotes, AreTaken, AreFree, IsAwake, IsKept}
+use Rattle.bz_world.specs.Inside.Laws.{BegunLaws}
 use Rattle.bz_world.specs.Inside.Opening.{fresh_slots, IsMadeOver}
 use Rattle.bz_world.specs.WorldView.{Supply, supply_by, new_view, view_over}
 use Rattle.bz_world.specs.Inside.Serving.{IsSlot, IsAtRest}
@@ -46,7 +47,7 @@ pub record Laws : Type 0 where
   pub says : FreshWordsSay
   pub empty : FreshMemoryIsEmpty
   pub reaches : FreshMemoryReachesSlotZero
-  pub taken : BegunStayTaken
+  pub begun : BegunLaws
   pub sound : FreshJournalsAreSound
   pub living : FreshStoriesLive
 
@@ -131,9 +132,12 @@ tabled start at_start p made = record {
 taken : Laws → (p : Parts) → IsMadeOver (fresh_words p.config) power.On p → AreTaken p
 taken b p made = record {
   shown = λ s l t. absurd (t (ap (λ (m : SwapMemory). slice_index m.cached (swap_address s)) made.opened.is ∙ untaken b p.config made.config s));
-  held = subst BegunAreTaken (sym made.opened.is) (b.taken.opening made.opened.phase (fresh_words p.config) p.config.swaps p.config.workers);
+  held = subst BegunAreTaken (sym made.opened.is) (b.begun.taken.opening made.opened.phase (fresh_words p.config) p.config.swaps p.config.workers);
   few = omega (arith, ap (λ (m : SwapMemory). m.taken) made.opened.is);
-  counted = ap (λ (m : SwapMemory). length m.begun) made.opened.is ∙ sym (ap (λ (m : SwapMemory). m.taken) made.opened.is);
+  notes = subst KeepsNotes (sym made.opened.is) (record {
+    zero = b.begun.zero.opening made.opened.phase (fresh_words p.config) p.config.swaps p.config.workers;
+    noted = b.begun.noted.opening made.opened.phase (fresh_words p.config) p.config.swaps p.config.workers;
+  });
   unused = λ s l. ap (λ (m : SwapMemory). has_effect m s) made.opened.is ∙ no-effect b p.config made.config s (nat_lt s p.config.swaps);
 }
 

@@ -14,7 +14,7 @@ use Rattle.bz_mark.specs.declared.marks.Mark.{Mark}
 use Rattle.bz_mark.specs.declared.marks.Mark.TheVariants.{Effect}
 use Rattle.bz_running.specs.Duties.{facts_of, publishing_of, change_of, no-change-is-published}
 use Rattle.bz_sight.specs.Effects.{effect_instant}
-use Rattle.bz_sight.specs.Sight.{IsSeen}
+use Rattle.bz_sight.specs.Sight.{IsSeen, next_instant}
 use Rattle.bz_sight.specs.Starts.{Sees}
 use Rattle.bz_sound.specs.Calls.{Open, open_call, with_effect, map_after, map_at}
 use Rattle.bz_sound.specs.Lonely.{IsLonely}
@@ -36,11 +36,12 @@ use Rattle.bz_world.specs.Inside.Serving.{IsServing, IsSlot, IsToldBy, effect_re
 use Rattle.bz_world.specs.declared.parts.Parts.{Parts}
 use Rattle.bz_world.specs.declared.serving.OpenCall.{OpenCall}
 use Rattle.bz_story.proofs.Powered.{stored-since}
+use Rattle.bz_world.proofs.Alone.{waits-on}
 use Rattle.bz_world.proofs.Counting.{pairs-change}
 use Rattle.bz_world.proofs.Powered.{begun-in, flush-leaves, free-on}
 use Rattle.bz_world.proofs.Staying.{slot-stays}
 use Rattle.bz_world.specs.Inside.Laws.{StrikeLaws}
-use Rattle.bz_world.proofs.Striking.{flush-calls, old, kept, w, x, its, owner, before, waits, good, after, living, opened, took, others}
+use Rattle.bz_world.proofs.Striking.{flush-calls, old, kept, w, x, its, owner, before, waits, good, after, living, opened, took, struck-alone, others}
 use Rattle.bz_world.proofs.LonelyActs.{none-struck}
 use Rattle.bz_world.proofs.StruckQuietly.{image-was, image-is, fault-is, stage-is, its-swap, its-asks, still-does}
 
@@ -152,6 +153,7 @@ module _ (b : StrikeLaws) (p : Parts) (s : ℕ) (h : IsStriking p s) (publishes 
     lawful = λ m o begins. b.quiet c p.access p.access with_flush (after b p s h) effect_mark v m o no-act (λ a out n. refl) begins;
     took = λ j. refl;
     filled = λ j e. e;
+    alone = λ m o t l waits. waits-on c p.access p.access with_flush.past effect_mark (after b p s h) told_story v m o o t (next_instant p.access ((after b p s h).at (length with_flush.past))) refl l waits refl refl (λ j d. refl) (λ j d well. well);
   }) (others b p s h v ne)
 
   -- the call, with its effect
@@ -216,6 +218,9 @@ module _ (b : StrikeLaws) (p : Parts) (s : ℕ) (h : IsStriking p s) (publishes 
     finishing = inr (record { publishing = publishes; swap = s; doing = still-does b p s h });
     facts = subst (λ z. facts_of (x b p s h).task z (scene c (effect_mark ∷ h.mark ∷ log.past) told_story worker since effected)) (sym (stage-is b p s h)) knows;
     covered = (its b p s h).covered;
+    alone = waits-on c p.access p.access with_flush.past effect_mark (after b p s h) told_story worker since effected effected (x b p s h).task (next_instant p.access ((after b p s h).at (length with_flush.past))) refl (omega (arith, begun-its.by_now)) (struck-alone b p s h)
+        refl refl (λ t d. refl) (λ t d well. well);
+    meant = λ quiet. absurd (cc quiet);
   }
 
   slots : (items : List (Option OpenCall)) → get_or items worker None ≡ Some with_moment → ((v : ℕ) → v ≢ worker → get_or items v None ≡ get_or (old b p s h).workers.items v None)
@@ -270,7 +275,7 @@ module _ (b : StrikeLaws) (p : Parts) (s : ℕ) (h : IsStriking p s) (publishes 
   }
 
   taken-on : (workers : Vec (Option OpenCall)) (count : ℕ) → AreTaken (record (old b p s h) { access = p.access; journal = with_mark with_flush effect_mark; workers = workers; pairs = count })
-  taken-on workers count = let t : AreTaken (record (old b p s h) { access = p.access; journal = with_flush }) = subst AreTaken h.rest h.taken in record { shown = t.shown; held = t.held; few = t.few; counted = t.counted; unused = t.unused }
+  taken-on workers count = let t : AreTaken (record (old b p s h) { access = p.access; journal = with_flush }) = subst AreTaken h.rest h.taken in record { shown = t.shown; held = t.held; few = t.few; notes = t.notes; unused = t.unused }
 
   -- so the world goes on with the Effect, which the worker's call remembers
   pub published : (workers : Vec (Option OpenCall)) → length workers.items ≡ 65 → length log.past + 1 < c.marks → get_or workers.items worker None ≡ Some with_moment → ((v : ℕ) → v ≢ worker → get_or workers.items v None ≡ get_or (old b p s h).workers.items v None)

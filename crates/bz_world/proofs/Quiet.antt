@@ -8,13 +8,14 @@ use Rattle.bz_machine.specs.declared.done.Done.TheVariants.{Busy, Read, Swapped,
 use Rattle.bz_mark.specs.Log.{with_mark}
 use Rattle.bz_running.specs.Duties.{wants_of, facts_of}
 use Rattle.bz_sight.specs.Passing.{Passes, Passed}
+use Rattle.bz_sight.specs.Sight.{next_instant}
 use Rattle.bz_sight.specs.Starts.{Sees}
 use Rattle.bz_sound.specs.Calls.{Open, open_call}
 use Rattle.bz_sound.specs.Memory.Calls.{HasOpenCall}
 use Rattle.bz_sound.specs.Power.Sound.{IsSound}
 use Rattle.bz_story.specs.Laws.{HasBegun, GoesOn}
 use Rattle.bz_story.specs.Living.{IsLiving}
-use Rattle.bz_story.specs.Story.{Story, scene}
+use Rattle.bz_story.specs.Story.{Story, scene, and_then}
 use Rattle.bz_swap.specs.SwapMemory.{Doing, Idle, Storing, doing_of}
 use Rattle.bz_swap.specs.Steps.{doing_after}
 use Rattle.bz_task.specs.Requests.{IsAskable, IsOwnStore}
@@ -29,6 +30,7 @@ use Rattle.bz_world.specs.Inside.Serving.{IsServing, IsDoing, IsSlot, stage_in}
 use Rattle.bz_world.specs.declared.parts.Parts.{Parts}
 use Rattle.bz_world.specs.declared.serving.OpenCall.{OpenCall}
 use Rattle.bz_sound.specs.Power.Times.{image_at_on}
+use Rattle.bz_world.proofs.Alone.{waits-on, well-acted}
 use Rattle.bz_world.proofs.Powered.{begun-in, looks-on, free-on, leaves-power, may-act}
 use Rattle.bz_world.proofs.Owners.{pending-begun}
 use Rattle.bz_world.proofs.Marking.{act-marked, act-calls}
@@ -125,15 +127,17 @@ module _ (b : StepLaws) (old new : Parts) (w : ℕ) (x : OpenCall) (made : Act) 
   -- so what is known of a worker stays, if the mark is a lawful step for it
   pub stays : (after : Story) (v : ℕ) → IsLiving old.config new.access (with_mark old.journal (mark_of w made)) after → after.from ≡ k.story.from → SameFor old.access new.access v
       → ((since : ℕ) (opened : Open) → HasBegun old.journal k.story since → IsLawful (scene old.config old.journal.past k.story v since opened) (scene old.config (mark_of w made ∷ old.journal.past) after v since opened))
-      → ((j : ℕ) → after.took v j ≡ k.story.took v j) → ((j : ℕ) → k.story.filled v j ≡ true → after.filled v j ≡ true)
+      → ((j : ℕ) → after.took v j ≡ k.story.took v j) → ((j : ℕ) → k.story.filled v j ≡ true → after.filled v j ≡ true) → after.at ≡ and_then k.story.at (length old.journal.past) (next_instant new.access (k.story.at (length old.journal.past)))
       → IsSlot old.config new.access (with_mark old.journal (mark_of w made)) after old.owners.items v (get_or old.workers.items v None)
-  stays after v living from same lawful took filled = slot-stays b.scenes b.stay old.config old.access new.access old.journal (mark_of w made) k.story after old.owners.items v (get_or old.workers.items v None) living (record {
+  stays after v living from same lawful took filled at = slot-stays b.scenes b.stay old.config old.access new.access old.journal (mark_of w made) k.story after old.owners.items v (get_or old.workers.items v None) living (record {
     same = same;
     calls = act-calls v w old.journal.past made;
     from = from;
     lawful = lawful;
     took = took;
     filled = filled;
+    alone = λ since opened t l h. waits-on old.config old.access new.access old.journal.past (mark_of w made) k.story after v since opened opened t (next_instant new.access (k.story.at (length old.journal.past))) at l h refl same.doing same.effects
+        (λ j d well. well-acted b.lone.wins old.access new.access w made done j a.step well);
   }) (k.workers v)
 
   pub tabled : length old.journal.past < old.config.marks → IsTabled new

@@ -3,7 +3,8 @@ use Rattle.std.proofs.Common.{◌≡◌, ◌≢◌, ℕ, ◌<◌, length, arith,
 use Rattle.std.specs.Prelude.{get_or}
 use Rattle.std.proofs.lemmas.Bool.{cases_eq}
 use Rattle.std.proofs.lemmas.List.{get_or-set_same, get_or-set_other, length-set}
-use Rattle.bz_running.specs.Duties.{facts_of}
+use Rattle.bz_alone.specs.Counts.{HasOthers}
+use Rattle.bz_running.specs.Duties.{made_of, facts_of}
 use Rattle.bz_sight.specs.Starts.{StartsAreSeen, Sees}
 use Rattle.bz_sound.specs.Lonely.{LonelyCallsAreAlone}
 use Rattle.bz_story.specs.Living.{IsLiving}
@@ -11,16 +12,17 @@ use Rattle.bz_story.specs.Story.{Story, scene}
 use Rattle.bz_task.specs.Requests.{IsAskable}
 use Rattle.bz_swap.specs.Held.{Holds}
 use Rattle.bz_swap.specs.Starts.{MayWork, started, begins_by_flush}
-use Rattle.bz_swap.specs.SwapMemory.{SwapMemory, Doing, Working, idle, doing_of}
-use Rattle.bz_swap.specs.TakenStatuses.{BegunStayTaken}
-use Rattle.bz_task.specs.Scene.{Scene, Waiting}
+use Rattle.bz_swap.specs.SwapMemory.{SwapMemory, Doing, Working, Swapping, idle, doing_of}
+use Rattle.bz_task.specs.Scene.{Scene, Waiting, IsScene}
 use Rattle.bz_task.specs.declared.todo.Todo.{Todo}
 use Rattle.bz_world.specs.Inside.Acted.{IsBetween}
-use Rattle.bz_world.specs.Inside.Kept.{IsAwake}
-use Rattle.bz_world.specs.Inside.Laws.{StartLaws}
+use Rattle.bz_world.specs.Inside.Alone.{WaitsAlone}
+use Rattle.bz_world.specs.Inside.Kept.{KeepsNotes, IsAwake}
+use Rattle.bz_world.specs.Inside.Laws.{AloneLaws, BegunLaws, StartLaws}
 use Rattle.bz_world.specs.Inside.Serving.{IsServing, IsDoing, IsSlot, stage_in}
 use Rattle.bz_world.specs.Inside.Telling.{MustStart}
 use Rattle.bz_world.specs.declared.parts.Parts.{Parts}
+use Rattle.bz_world.proofs.Alone.{none-untold, none-well}
 use Rattle.bz_world.proofs.Lonely.{in-place, only-own, started-lonely}
 use Rattle.bz_world.proofs.Powered.{begun-in}
 use Rattle.bz_world.proofs.Staying.{SameFor, slot-same}
@@ -55,8 +57,8 @@ may-ask b p w todo m =
     }
 
 -- a read, a store or a flush
-module _ (starts : StartsAreSeen) (begun : BegunStayTaken) (alone : LonelyCallsAreAlone) (p : Parts) (w : ℕ) (todo : Todo) (m : MustStart p w todo) (doing : Doing) (holds : Holds (started p.access w doing)) (does : IsDoing (started p.access w doing) p.owners.items w todo)
-    (waits : stage_in (started p.access w doing) doing ≡ Waiting) where
+module _ (lone : AloneLaws) (starts : StartsAreSeen) (begun : BegunLaws) (alone : LonelyCallsAreAlone) (p : Parts) (w : ℕ) (todo : Todo) (m : MustStart p w todo) (doing : Doing) (holds : Holds (started p.access w doing)) (does : IsDoing (started p.access w doing) p.owners.items w todo)
+    (waits : stage_in (started p.access w doing) doing ≡ Waiting) (no-swap : (s : ℕ) → doing ≢ Swapping s) where
   abbrev between : IsBetween p w m.serving
   between = m.asking.between
 
@@ -80,6 +82,24 @@ module _ (starts : StartsAreSeen) (begun : BegunStayTaken) (alone : LonelyCallsA
     stored = l.stored;
   }
 
+  abbrev its-scene : Scene
+  its-scene = scene p.config p.journal.past between.story w between.call_open.look.since between.opened
+
+  -- it is no swap
+  none : (s : ℕ) → doing_of (started p.access w doing) w ≢ Swapping s
+  none s e = no-swap s (sym (starts-it p.access w doing work.within) ∙ e)
+
+  waits-now : WaitsAlone (started p.access w doing) (doing_of (started p.access w doing) w) m.serving.task its-scene.past
+  waits-now =
+      let good : IsScene its-scene = (lone.scenes p.config p.access p.journal between.story w between.call_open.look.since between.opened between.living (begun-in between.living between.call_open)).scene in
+      let told : (others : ℕ) × HasOthers others (made_of m.serving.task) its-scene.past = lone.counted m.serving.task its-scene good m.asking.facts in
+      record {
+        others = told.0;
+        counted = omega (arith, told.1, none-untold (started p.access w doing) (doing_of (started p.access w doing) w) none);
+        well = λ alone. none-well (started p.access w doing) (doing_of (started p.access w doing) w) none;
+        waited = record { scene = its-scene; config = sym m.asking.tasked.config; facts = m.asking.facts };
+      }
+
   serves-on : IsServing p.config (started p.access w doing) p.journal between.story p.owners.items w m.serving
   serves-on = record {
     opened = between.opened;
@@ -94,6 +114,8 @@ module _ (starts : StartsAreSeen) (begun : BegunStayTaken) (alone : LonelyCallsA
     ];
     facts = subst (λ z. facts_of m.serving.task z (scene p.config p.journal.past between.story w between.call_open.look.since between.opened)) (sym (ap (stage_in (started p.access w doing)) (starts-it p.access w doing work.within) ∙ waits)) m.asking.facts;
     covered = m.asking.covered;
+    alone = waits-now;
+    meant = m.asking.meant;
   }
 
   same-other : (v : ℕ) → v ≢ w → SameFor p.access (started p.access w doing) v
@@ -101,10 +123,16 @@ module _ (starts : StartsAreSeen) (begun : BegunStayTaken) (alone : LonelyCallsA
 
   slots : (v : ℕ) → IsSlot p.config (started p.access w doing) p.journal between.story p.owners.items v (get_or p.workers.items v None)
   slots v = elim (cases_eq v w) [
-    | inr ne ↦ slot-same p.config p.access (started p.access w doing) p.journal between.story p.owners.items p.owners.items v (get_or p.workers.items v None) (same-other v ne) (λ s d. refl) (between.others v ne)
+    | inr ne ↦ slot-same p.config p.access (started p.access w doing) p.journal between.story p.owners.items p.owners.items v (get_or p.workers.items v None) (same-other v ne) (λ s d well. record { unnoted = well.unnoted; stands = well.stands }) (λ s d. refl) (between.others v ne)
     | inl e ↦ subst (λ u. IsSlot p.config (started p.access w doing) p.journal between.story p.owners.items u (get_or p.workers.items u None)) (sym e)
         (subst (IsSlot p.config (started p.access w doing) p.journal between.story p.owners.items w) (sym m.is) serves-on)
   ]
+
+  notes : KeepsNotes (started p.access w doing)
+  notes = let t = between.taken.notes in record {
+    zero = λ s e. t.zero s (sym (starts-others p.access w 0 doing (λ z. absurd (omega (arith, z, between.worker)))) ∙ e);
+    noted = begun.noted.start p.access w doing t.noted;
+  }
 
   pub started-kept : IsAwake (record p { access = started p.access w doing })
   started-kept = record {
@@ -128,7 +156,7 @@ module _ (starts : StartsAreSeen) (begun : BegunStayTaken) (alone : LonelyCallsA
       pairs = t.pairs;
       power = t.power;
     };
-    taken = let t = between.taken in record { shown = t.shown; held = begun.start p.access w doing between.idle t.held; few = t.few; counted = t.counted; unused = t.unused };
+    taken = let t = between.taken in record { shown = t.shown; held = begun.taken.start p.access w doing between.idle t.held; few = t.few; notes = notes; unused = t.unused };
     living = living;
     sound = between.sound;
     free = between.free;

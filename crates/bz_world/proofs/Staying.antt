@@ -8,7 +8,9 @@ use Rattle.bz_layout.specs.declared.thresholds.TheConstants.{SPLIT_SLOTS}
 use Rattle.bz_mark.specs.Log.{Log, with_mark}
 use Rattle.bz_mark.proofs.MomentLaws.{at_moment-earlier}
 use Rattle.bz_mark.specs.declared.marks.Mark.{Mark}
+use Rattle.bz_rivals.specs.Wins.{GoesWell}
 use Rattle.bz_running.specs.Duties.{needs_of, wants_of, facts_of}
+use Rattle.bz_running.specs.declared.running.AnyTask.{AnyTask}
 use Rattle.bz_slotted.specs.Records.{live_words}
 use Rattle.bz_sound.specs.Calls.{Open, open_call}
 use Rattle.bz_sound.specs.Memory.Moments.{map_at_start, image_after}
@@ -21,8 +23,12 @@ use Rattle.bz_swap.specs.SwapMemory.{SwapMemory, Doing, Idle, Reading, Swapping,
 use Rattle.bz_task.specs.Scene.{Scene, IsLawful, Waiting, Took}
 use Rattle.bz_task.specs.declared.todo.Todo.{Todo}
 use Rattle.bz_task.specs.declared.todo.Todo.TheVariants as todo
+use Rattle.bz_world.specs.Inside.Alone.{WaitsAlone}
+use Rattle.bz_world.specs.Inside.Meant.{IsMeantFor}
 use Rattle.bz_world.specs.Inside.Serving.{IsServing, IsCovered, IsDoing, IsSlot, IsToldBy, IsWanted, NeedsAtLeast, MayGoOn, IsFinishing, effect_reply, stage_in}
 use Rattle.bz_world.specs.declared.serving.OpenCall.{OpenCall}
+use Rattle.bz_world.proofs.Alone.{waits-same}
+use Rattle.bz_world.proofs.Meant.{meant-on}
 use Rattle.bz_world.proofs.Powered.{looks-on}
 
 -- what a worker does is the same in two memories, and so is whether its swap has taken effect
@@ -87,6 +93,7 @@ pub record Leaves (c : Config) (m n : SwapMemory) (log : Log) (mark : Mark) (sto
   pub lawful : (since : ℕ) (opened : Open) → HasBegun log story since → IsLawful (scene c log.past story v since opened) (scene c (mark ∷ log.past) after v since opened)
   pub took : (k : ℕ) → after.took v k ≡ story.took v k
   pub filled : (k : ℕ) → story.filled v k ≡ true → after.filled v k ≡ true
+  pub alone : (since : ℕ) (opened : Open) (t : AnyTask) → since ≤ length log.past → WaitsAlone m (doing_of m v) t (scene c log.past story v since opened).past → WaitsAlone n (doing_of n v) t (scene c (mark ∷ log.past) after v since opened).past
 
 -- the reply that tells its effect stays the map's
 pub told-stays : EffectsStayOpen → (c : Config) (log : Log) (mark : Mark) (w : ℕ) (opened : Open) (had : Option (List ℕ)) → open_call w log.past ≡ Some opened → IsToldBy c log opened had → IsToldBy c (with_mark log mark) opened had
@@ -130,6 +137,9 @@ serving-stays seen stay c m n log mark story after owners v x living l s = recor
       (s.tasked.laws.stable (stage_in m (doing_of m v)) (scene c log.past story v s.call_open.look.since s.opened) (scene c (mark ∷ log.past) after v s.call_open.look.since s.opened) (sym s.tasked.config) s.facts
       (seen c n (with_mark log mark) after v s.call_open.look.since s.opened living (record { from = since; by_now = omega (arith, s.call_open.look.by_now) })).scene (l.lawful s.call_open.look.since s.opened (record { from = omega (arith, since, l.from); by_now = s.call_open.look.by_now })));
   covered = covered-stays (story.took v) (after.took v) (story.filled v) (after.filled v) (needs_of x.task) l.took l.filled s.covered;
+  alone = l.alone s.call_open.look.since s.opened x.task s.call_open.look.by_now s.alone;
+  meant = λ quiet. meant-on x.call x.task (scene c log.past story v s.call_open.look.since s.opened).past (scene c (mark ∷ log.past) after v s.call_open.look.since s.opened).past s.tasked.laws
+      (l.lawful s.call_open.look.since s.opened (record { from = omega (arith, since, l.from); by_now = s.call_open.look.by_now })).continues (s.meant quiet);
 }
   where
     since : after.from ≤ s.call_open.look.since
@@ -141,10 +151,10 @@ slot-stays seen stay c m n log mark story after owners v None living l s = recor
 slot-stays seen stay c m n log mark story after owners v (Some x) living l s = serving-stays seen stay c m n log mark story after owners v x living l s
 
 -- without a mark, in a memory in which a worker does the same
-pub slot-same : (c : Config) (m n : SwapMemory) (log : Log) (story : Story) (owners others : List ℕ) (v : ℕ) (slot : Option OpenCall) → SameFor m n v → ((s : ℕ) → doing_of m v ≡ Swapping s → slice_index others s ≡ slice_index owners s)
+pub slot-same : (c : Config) (m n : SwapMemory) (log : Log) (story : Story) (owners others : List ℕ) (v : ℕ) (slot : Option OpenCall) → SameFor m n v → ((s : ℕ) → doing_of m v ≡ Swapping s → GoesWell m s → GoesWell n s) → ((s : ℕ) → doing_of m v ≡ Swapping s → slice_index others s ≡ slice_index owners s)
     → IsSlot c m log story owners v slot → IsSlot c n log story others v slot
-slot-same c m n log story owners others v None same table s = record { none_open = s.none_open; idle = same.doing ∙ s.idle; filled = s.filled }
-slot-same c m n log story owners others v (Some x) same table s = record {
+slot-same c m n log story owners others v None same well table s = record { none_open = s.none_open; idle = same.doing ∙ s.idle; filled = s.filled }
+slot-same c m n log story owners others v (Some x) same well table s = record {
   opened = s.opened;
   call_open = let o = s.call_open in record { is_open = o.is_open; call = o.call; effect = o.effect; look = o.look; told = o.told; wanted = o.wanted };
   tasked = s.tasked;
@@ -154,6 +164,8 @@ slot-same c m n log story owners others v (Some x) same table s = record {
   finishing = finishing-stays m n v x same.doing s.finishing;
   facts = subst (λ z. facts_of x.task z (scene c log.past story v s.call_open.look.since s.opened)) (sym (stage-stays m n v same)) s.facts;
   covered = s.covered;
+  alone = waits-same m n v x.task (scene c log.past story v s.call_open.look.since s.opened).past same.doing same.effects well s.alone;
+  meant = s.meant;
 }
   where
     doing-by : (m : SwapMemory) (owners others : List ℕ) (v : ℕ) (asked : Todo) → ((s : ℕ) → doing_of m v ≡ Swapping s → slice_index others s ≡ slice_index owners s) → IsDoing m owners v asked → IsDoing m others v asked
@@ -178,4 +190,6 @@ slot-scenes c m log story after owners v (Some x) some same filled s = record {
   finishing = s.finishing;
   facts = subst (facts_of x.task (stage_in m (doing_of m v))) (sym (same s.call_open.look.since s.opened)) s.facts;
   covered = covered-stays (story.took v) (after.took v) (story.filled v) (after.filled v) (needs_of x.task) (λ k. ap (λ (z : Scene). z.took k) (same s.call_open.look.since s.opened)) (λ k e. filled k ∙ e) s.covered;
+  alone = subst (λ (z : Scene). WaitsAlone m (doing_of m v) x.task z.past) (sym (same s.call_open.look.since s.opened)) s.alone;
+  meant = λ quiet. subst (λ (z : Scene). IsMeantFor x.call x.task z.past) (sym (same s.call_open.look.since s.opened)) (s.meant quiet);
 }

@@ -24,12 +24,12 @@ use Rattle.bz_swap.specs.declared.phase.Phase.{Phase}
 use Rattle.bz_swap.specs.declared.phase.Phase.TheVariants.{Opened, Running, Recovering}
 use Rattle.bz_swap.specs.SwapMemory.{SwapMemory, Swapping, doing_of, has_effect}
 use Rattle.bz_swap.specs.Effects.{EffectIs}
-use Rattle.bz_swap.specs.TakenStatuses.{IsTaken, IsTaking, TakenStatusesStay, BegunAreTaken, BegunStayTaken}
+use Rattle.bz_swap.specs.TakenStatuses.{IsTaken, IsTaking, TakenStatusesStay, BegunAreTaken}
 use Rattle.bz_content.specs.Content.{image_fault, content_in}
 use Rattle.bz_world.specs.Inside.Acted.{IsActed}
 use Rattle.bz_world.specs.Inside.Kept.{IsTabled, AreTaken}
 use Rattle.bz_world.specs.WorldView.{mark_of}
-use Rattle.bz_world.specs.Inside.Laws.{JournalLaws}
+use Rattle.bz_world.specs.Inside.Laws.{JournalLaws, BegunLaws}
 use Rattle.bz_world.specs.declared.parts.Parts.{Parts}
 use Rattle.bz_story.proofs.Powered.{since-more}
 use Rattle.bz_world.proofs.Powered.{leaves-power, power-more}
@@ -81,18 +81,21 @@ pub unused-by : (old new : SwapMemory) (told : Option ℕ) → ((v s : ℕ) → 
 unused-by old new None pending unused e s l = e.swaps s ∙ unused s l
 unused-by old new (Some t) pending unused e s l = e.other_swaps s (λ same. absurd (omega (arith, same, l, pending e.worker t e.pending))) ∙ unused s l
 
-pub act-taken : TakenStatusesStay → BegunStayTaken → (old new : Parts) (w : ℕ) (made : Act) (done : Done) (told : Option ℕ) → AreTaken old → IsHeld old.access → old.access.swaps ≡ old.config.swaps → IsActed old w made done told new → 0 < w
+pub act-taken : TakenStatusesStay → BegunLaws → (old new : Parts) (w : ℕ) (made : Act) (done : Done) (told : Option ℕ) → AreTaken old → IsHeld old.access → old.access.swaps ≡ old.config.swaps → IsActed old w made done told new → 0 < w
     → ((v s : ℕ) → doing_of old.access v ≡ Swapping s → s < old.access.taken) → AreTaken new
 act-taken stay begun old new w made done told t held swaps a some pending = subst AreTaken (sym a.rest) (record {
   shown = λ s l h. shown s l h (slice_index old.access.cached (swap_address s)) refl;
   held = after;
   few = omega (arith, a.step.one.others.taken, t.few);
-  counted = ap length a.step.one.others.begun ∙ (t.counted ∙ sym a.step.one.others.taken);
+  notes = record {
+    zero = begun.zero.act old.access new.access w made done a.step.one t.notes.zero;
+    noted = begun.noted.step old.access new.access w made done told a.step t.notes.noted;
+  };
   unused = λ s l. unused-by old.access new.access told pending t.unused a.step.effect s (omega (arith, l, a.step.one.others.taken));
 })
   where
     after : BegunAreTaken new.access
-    after = begun.step old.access new.access w made done told held a.step t.held
+    after = begun.taken.step old.access new.access w made done told held a.step t.held
 
     shown : (s : ℕ) → s < old.config.swaps → IsTaken new.access s → (z : ℕ) → slice_index old.access.cached (swap_address s) ≡ z → is_taken s (since_on (mark_of w made ∷ old.journal.past)) ≡ true
     shown s l h z e = elim (cases_eq z 0) [

@@ -6,6 +6,7 @@ use Rattle.bz_machine.specs.declared.done.Done.{Done}
 use Rattle.bz_mark.specs.Log.{with_mark}
 use Rattle.bz_running.specs.Duties.{needs_of, facts_of}
 use Rattle.bz_sight.specs.Acts.{IsStoring}
+use Rattle.bz_sight.specs.Sight.{next_instant}
 use Rattle.bz_sight.specs.Starts.{Sees}
 use Rattle.bz_story.specs.Laws.{HasBegun, IsStore, goes_on, fills}
 use Rattle.bz_story.specs.Living.{IsLiving}
@@ -17,6 +18,7 @@ use Rattle.bz_task.specs.Scene.{Scene, Took}
 use Rattle.bz_task.specs.declared.todo.Seen.TheVariants as seen
 use Rattle.bz_task.specs.declared.todo.Todo.TheVariants as todo
 use Rattle.bz_world.specs.Inside.Acted.{IsActed, IsTold}
+use Rattle.bz_world.specs.Inside.Alone.{untold}
 use Rattle.bz_world.specs.Inside.Kept.{IsAwake}
 use Rattle.bz_world.specs.WorldView.{mark_of}
 use Rattle.bz_world.specs.Inside.Serving.{IsServing, IsSlot, stage_in}
@@ -26,6 +28,8 @@ use Rattle.bz_world.specs.Inside.Laws.{StepLaws}
 use Rattle.bz_sound.specs.Memory.Spent.{is_stored_into}
 use Rattle.bz_sound.specs.Power.Times.{since_on}
 use Rattle.bz_story.proofs.Storing.{fills-stored}
+use Rattle.bz_world.proofs.Alone.{hears-on}
+use Rattle.bz_world.proofs.Meant.{meant-on}
 use Rattle.bz_world.proofs.Powered.{begun-in}
 use Rattle.bz_world.proofs.Staying.{covered-stays}
 use Rattle.bz_world.proofs.Quiet.{some-worker, serves, sees, own, goes, same-other, stays, answered}
@@ -66,7 +70,7 @@ module _ (b : StepLaws) (old new : Parts) (w : ℕ) (x : OpenCall) (made : Act) 
 
     others : (v : ℕ) → v ≢ w → IsSlot old.config new.access (with_mark old.journal (mark_of w made)) after old.owners.items v (get_or old.workers.items v None)
     others v ne = stays b old new w x made answer k is-worker a after v living refl (same-other b old new w x made answer k is-worker a v ne)
-        (λ since opened begun. b.stores.others old.config old.access new.access old.journal k.story (mark_of w made) w d u its.call_open.look.since its.opened v since opened (goes b old new w x made answer k is-worker a) is-store ne begun) (λ j. refl) (fills-more v)
+        (λ since opened begun. b.stores.others old.config old.access new.access old.journal k.story (mark_of w made) w d u its.call_open.look.since its.opened v since opened (goes b old new w x made answer k is-worker a) is-store ne begun) (λ j. refl) (fills-more v) refl
 
     stored : Stores d u before later
     stored = b.stores.own old.config old.access new.access old.journal k.story (mark_of w made) w d u its.call_open.look.since its.opened (goes b old new w x made answer k is-worker a) is-store
@@ -88,4 +92,7 @@ module _ (b : StepLaws) (old new : Parts) (w : ℕ) (x : OpenCall) (made : Act) 
       hears = subst (λ z. Hears z seen.Stored) (sym (its.asks ∙ ap Some asked)) tt;
       tells = subst (λ z. Tells z Took seen.Stored later) (sym (its.asks ∙ ap Some asked)) tt;
       lonely = λ key get lonely. absurd (cc ((reads-now old k w x is-worker key get (lonely-act w w old.journal.past made lonely)).reads, stores));
+      alone = hears-on old.config old.access new.access old.journal.past (mark_of w made) k.story after w its.call_open.look.since its.opened its.opened x.task (next_instant new.access (k.story.at (length old.journal.past))) refl its.call_open.look.by_now its.alone
+          seen.Stored refl (ap (untold old.access) stores) (λ h e. absurd (cc e));
+      meant = λ quiet. meant-on x.call x.task before.past later.past its.tasked.laws stored.continues (its.meant quiet);
     })

@@ -16,10 +16,14 @@ use Rattle.bz_swap.specs.SwapMemory.{Swapping, doing_of, entries_of}
 use Rattle.bz_task.specs.Scene.{Scene, Waiting, Took}
 use Rattle.bz_task.specs.Swaps.{IsGoodSwap, Takes}
 use Rattle.bz_world.specs.Inside.Acted.{IsStriking}
+use Rattle.bz_world.specs.Inside.Alone.{WaitsAlone}
 use Rattle.bz_world.specs.Inside.Kept.{IsAwake}
+use Rattle.bz_world.specs.Inside.Meant.{IsMeant}
 use Rattle.bz_world.specs.Inside.Serving.{IsServing, IsSlot, stage_in}
 use Rattle.bz_world.specs.declared.parts.Parts.{Parts}
 use Rattle.bz_world.specs.declared.serving.OpenCall.{OpenCall}
+use Rattle.bz_world.proofs.Alone.{waits-beside, waits-struck}
+use Rattle.bz_world.proofs.Meant.{meant-on}
 use Rattle.bz_world.proofs.Powered.{begun-in, flush-leaves}
 use Rattle.bz_world.proofs.Owners.{IsOwner, is-owner}
 use Rattle.bz_world.proofs.Staying.{SameFor, slot-stays}
@@ -117,6 +121,14 @@ module _ (b : StrikeLaws) (p : Parts) (s : ℕ) (h : IsStriking p s) where
   pub took : facts_of x.task Took later
   took = its.tasked.laws.took before later (entries_of old.access s) (sym its.tasked.config) waits before-seen.scene later-seen.scene owner.asks took-place.stand takes-effect
 
+  -- it was its own, of which it waits for the answer
+  pub struck-alone : WaitsAlone p.access (doing_of p.access w) x.task later.past
+  struck-alone = waits-struck old.config old.access p.access old.journal.past h.mark kept.story after w its.call_open.look.since its.opened opened x.task (effect_instant old.config p.access (kept.story.at (length old.journal.past))) refl its.call_open.look.by_now its.alone
+      s refl h.takes.effect.pending (h.work.doing w ∙ h.takes.effect.pending) h.takes.effect.before h.takes.effect.done (h.unnoted s)
+
+  pub struck-meant : IsMeant x later.past
+  struck-meant quiet = meant-on x.call x.task before.past later.past its.tasked.laws takes-effect.continues (its.meant quiet)
+
   -- no other worker does this swap
   other-swap : (v : ℕ) → v ≢ w → (t : ℕ) → doing_of old.access v ≡ Swapping t → t ≢ s
   other-swap v ne t doing e = ne (sym (is-owner old kept v s (doing ∙ ap Swapping e)).owner ∙ owner.owner)
@@ -138,4 +150,5 @@ module _ (b : StrikeLaws) (p : Parts) (s : ℕ) (h : IsStriking p s) where
     lawful = λ m o begins. b.told.others old.config old.access p.access old.journal kept.story h.mark s w its.call_open.look.since its.opened (publishing_of x.task) (change_of x.task) v m o strikes-it ne begins;
     took = λ j. refl;
     filled = λ j e. e;
+    alone = λ m o t l waits. waits-beside old.config old.access p.access old.journal.past h.mark kept.story after v m o o t (effect_instant old.config p.access (kept.story.at (length old.journal.past))) refl l waits refl (same-other v ne).doing (same-other v ne).effects;
   }) (kept.workers v)

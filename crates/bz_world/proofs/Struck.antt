@@ -42,7 +42,7 @@ kept-workers p workers k size same = record {
     pairs = t.pairs;
     power = t.power;
   };
-  taken = let t = k.taken in record { shown = t.shown; held = t.held; few = t.few; counted = t.counted; unused = t.unused };
+  taken = let t = k.taken in record { shown = t.shown; held = t.held; few = t.few; notes = t.notes; unused = t.unused };
   living = k.living;
   sound = k.sound;
   free = k.free;

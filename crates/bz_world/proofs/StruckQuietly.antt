@@ -23,7 +23,7 @@ use Rattle.bz_world.specs.Inside.Laws.{StrikeLaws}
 use Rattle.bz_world.proofs.LonelyActs.{none-struck}
 use Rattle.bz_world.proofs.Powered.{looks-on, flush-leaves, free-on}
 use Rattle.bz_world.proofs.Staying.{told-stays, wanted-stays, finishing-stays}
-use Rattle.bz_world.proofs.Striking.{flush-calls, old, kept, w, x, its, owner, before, good, after, living, opened, took, others}
+use Rattle.bz_world.proofs.Striking.{flush-calls, old, kept, w, x, its, owner, before, good, after, living, opened, took, struck-alone, struck-meant, others}
 
 module _ (b : StrikeLaws) (p : Parts) (s : ℕ) (h : IsStriking p s) where
   -- the image before and after it
@@ -89,6 +89,8 @@ module _ (b : StrikeLaws) (p : Parts) (s : ℕ) (h : IsStriking p s) where
       facts = subst (λ z. facts_of (x b p s h).task z (scene (old b p s h).config (h.mark ∷ (old b p s h).journal.past) (after b p s h) (w b p s h) (its b p s h).call_open.look.since (its b p s h).opened)) (sym stage-is)
           (subst (λ o. facts_of (x b p s h).task Took (scene (old b p s h).config (h.mark ∷ (old b p s h).journal.past) (after b p s h) (w b p s h) (its b p s h).call_open.look.since o)) opened-is (took b p s h));
       covered = (its b p s h).covered;
+      alone = struck-alone b p s h;
+      meant = struck-meant b p s h;
     }
 
     slots : (v : ℕ) → IsSlot (old b p s h).config p.access (with_mark (old b p s h).journal h.mark) (after b p s h) (old b p s h).owners.items v (get_or (old b p s h).workers.items v None)

@@ -1,12 +1,14 @@
 -- A worker starts a swap that its task asks for.
-use Rattle.std.proofs.Common.{◌≡◌, ◌≢◌, ℕ, ◌<◌, if◌then◌else◌, List, [], ◌∷◌, ◌++◌, length, slice_index, arith, refl, sym, ap, subst, ◌∙◌, inl, inr, Option, Some, None}
+use Rattle.std.proofs.Common.{◌≡◌, ◌≢◌, ℕ, ◌<◌, if◌then◌else◌, Bool, List, [], ◌∷◌, ◌++◌, length, slice_index, arith, refl, sym, ap, subst, ◌∙◌, inl, inr, Option, Some, None}
 use Rattle.std.specs.Prelude.{get_or, All}
 use Rattle.std.specs.Global.{Vec}
 use Rattle.std.proofs.lemmas.Bool.{cases_eq}
-use Rattle.std.proofs.lemmas.List.{length-set, length-append}
+use Rattle.std.proofs.lemmas.List.{length-set}
 use Rattle.std.proofs.Math.ListN.{get_or-append}
 use Rattle.std.proofs.Math.Seq.{get_or-append_seam}
-use Rattle.bz_running.specs.Duties.{facts_of}
+use Rattle.bz_alone.specs.Alone.{IsAlone}
+use Rattle.bz_alone.specs.Counts.{HasOthers}
+use Rattle.bz_running.specs.Duties.{made_of, facts_of}
 use Rattle.bz_sight.specs.Sight.{IsHidden}
 use Rattle.bz_sight.specs.Starts.{StartsAreSeen, Sees, StoresAreHidden, OwnWordsAreHidden}
 use Rattle.bz_sound.specs.Lonely.{LonelyCallsAreAlone}
@@ -17,18 +19,21 @@ use Rattle.bz_swap.specs.EntryLists.{IsEntryList}
 use Rattle.bz_swap.specs.Held.{Holds}
 use Rattle.bz_swap.specs.Starts.{MayWork, MaySwap, swapping, begins_by_flush}
 use Rattle.bz_swap.specs.SwapMemory.{SwapMemory, Doing, Idle, Reading, Swapping, Loading, Storing, Flushing, doing_of, entries_of}
-use Rattle.bz_swap.specs.TakenStatuses.{BegunStayTaken}
 use Rattle.bz_task.specs.Requests.{IsEntryToAsk, IsOwnStore}
-use Rattle.bz_task.specs.Scene.{Scene, Waiting, Took}
+use Rattle.bz_task.specs.Scene.{Scene, Waiting, Took, IsScene}
 use Rattle.bz_task.specs.declared.todo.Todo.{Todo}
 use Rattle.bz_task.specs.declared.todo.Todo.TheVariants as todo
 use Rattle.bz_word.specs.declared.entry.Entry.{Entry}
 use Rattle.bz_world.specs.Inside.Acted.{IsBetween}
+use Rattle.bz_world.specs.Inside.Alone.{untold, DoesWell, WaitsAlone}
 use Rattle.bz_world.specs.Inside.Kept.{IsAwake}
+use Rattle.bz_world.specs.Inside.Laws.{AloneLaws, BegunLaws}
 use Rattle.bz_world.specs.Inside.Serving.{IsServing, IsDoing, IsSlot, stage_in}
 use Rattle.bz_world.specs.Inside.Telling.{MustStart}
 use Rattle.bz_world.specs.declared.parts.Parts.{Parts}
 use Rattle.bz_world.specs.declared.serving.OpenCall.{OpenCall}
+use Rattle.bz_world.proofs.Alone.{waits-same}
+use Rattle.bz_world.proofs.AloneStarts.{stands-now, starts-well, well-beside}
 use Rattle.bz_world.proofs.Lonely.{in-place, only-own}
 use Rattle.bz_world.proofs.Powered.{begun-in}
 use Rattle.bz_world.proofs.Starting.{starts-it, starts-others}
@@ -65,7 +70,7 @@ module _ (scenes : ScenesAreSeen) (hidden : OwnWordsAreHidden) (p : Parts) (w : 
   ]
 
 -- the swap has the number of the next descriptor, and the table names its worker
-module _ (starts : StartsAreSeen) (scenes : ScenesAreSeen) (begun : BegunStayTaken) (alone : LonelyCallsAreAlone) (p : Parts) (w : ℕ) (entries : List Entry) (m : MustStart p w (todo.Swap entries)) (may : MaySwap p.access w entries) (ask : All (IsEntryToAsk (scene p.config p.journal.past m.asking.between.story w m.asking.between.call_open.look.since m.asking.between.opened)) entries)
+module _ (lone : AloneLaws) (starts : StartsAreSeen) (scenes : ScenesAreSeen) (begun : BegunLaws) (alone : LonelyCallsAreAlone) (p : Parts) (w : ℕ) (entries : List Entry) (m : MustStart p w (todo.Swap entries)) (may : MaySwap p.access w entries) (ask : All (IsEntryToAsk (scene p.config p.journal.past m.asking.between.story w m.asking.between.call_open.look.since m.asking.between.opened)) entries)
     (holds : Holds (swapping p.access w entries)) (list : IsEntryList entries) (room : p.access.taken < p.config.swaps) (owners : Vec ℕ) (size : length owners.items ≡ p.config.swaps) (mine : slice_index owners.items p.access.taken ≡ w)
     (rest : (s : ℕ) → s ≢ p.access.taken → slice_index owners.items s ≡ slice_index p.owners.items s) where
   abbrev was : IsBetween p w m.serving
@@ -75,7 +80,7 @@ module _ (starts : StartsAreSeen) (scenes : ScenesAreSeen) (begun : BegunStayTak
   new = swapping p.access w entries
 
   number : length p.access.begun ≡ p.access.taken
-  number = was.taken.counted
+  number = was.taken.notes.noted.begun
 
   -- its entries stand at its number, and those of the others where they stood
   own-entries : entries_of new p.access.taken ≡ entries
@@ -110,6 +115,32 @@ module _ (starts : StartsAreSeen) (scenes : ScenesAreSeen) (begun : BegunStayTak
   waits : stage_in new (doing_of new w) ≡ Waiting
   waits = ap (stage_in new) does ∙ ap (λ z. if z then Took else Waiting) (was.taken.unused p.access.taken (omega arith))
 
+  abbrev its-scene : Scene
+  its-scene = scene p.config p.journal.past was.story w was.call_open.look.since was.opened
+
+  -- while nobody else's swap took effect since its look-up began, it goes well
+  waits-now : WaitsAlone new (doing_of new w) m.serving.task its-scene.past
+  waits-now = record {
+    others = told.0;
+    counted = omega (arith, told.1, none-yet);
+    well = λ none. subst (DoesWell new) (sym does) (starts-well p.access w entries was.taken.notes.noted own-entries
+        (stands-now lone.stand p.config (was.story.at (length p.journal.past)) p.access w entries was.living.seen may
+        ((lone.goes_on m.serving.task its-scene (sym m.asking.tasked.config) good m.asking.facts (alone-by none)).stands entries m.asking.asks)));
+    waited = record { scene = its-scene; config = sym m.asking.tasked.config; facts = m.asking.facts };
+  }
+    where
+      good : IsScene its-scene
+      good = (scenes p.config p.access p.journal was.story w was.call_open.look.since was.opened was.living (begun-in was.living was.call_open)).scene
+
+      told : (others : ℕ) × HasOthers others (made_of m.serving.task) its-scene.past
+      told = lone.counted m.serving.task its-scene good m.asking.facts
+
+      none-yet : untold new (doing_of new w) ≡ 0
+      none-yet = ap (untold new) does ∙ ap (λ (z : Bool). if z then 1 else 0) (was.taken.unused p.access.taken (omega arith))
+
+      alone-by : told.0 ≡ 0 → IsAlone (made_of m.serving.task) its-scene.past
+      alone-by none = omega (arith, told.1, none)
+
   serves-on : IsServing p.config new p.journal was.story owners.items w m.serving
   serves-on = record {
     opened = was.opened;
@@ -124,6 +155,8 @@ module _ (starts : StartsAreSeen) (scenes : ScenesAreSeen) (begun : BegunStayTak
     ];
     facts = subst (λ z. facts_of m.serving.task z (scene p.config p.journal.past was.story w was.call_open.look.since was.opened)) (sym waits) m.asking.facts;
     covered = m.asking.covered;
+    alone = waits-now;
+    meant = m.asking.meant;
   }
 
   -- the others do what they did
@@ -154,6 +187,9 @@ module _ (starts : StartsAreSeen) (scenes : ScenesAreSeen) (begun : BegunStayTak
         finishing = finishing-stays p.access new v x (starts-others p.access w v (Swapping p.access.taken) ne) h.finishing;
         facts = subst (λ z. facts_of x.task z (scene p.config p.journal.past was.story v h.call_open.look.since h.opened)) (sym (ap (stage_in new) (starts-others p.access w v (Swapping p.access.taken) ne) ∙ same-stage (doing_of p.access v))) h.facts;
         covered = h.covered;
+        alone = waits-same p.access new v x.task (scene p.config p.journal.past was.story v h.call_open.look.since h.opened).past (starts-others p.access w v (Swapping p.access.taken) ne) (λ s d. refl)
+            (λ s d well. well-beside p.access w s entries (other-entries s (other-begun v (Some x) h s d)) well) h.alone;
+        meant = h.meant;
       }
         where
           same-stage : (d : Doing) → stage_in new d ≡ stage_in p.access d
@@ -210,9 +246,9 @@ module _ (starts : StartsAreSeen) (scenes : ScenesAreSeen) (begun : BegunStayTak
     };
     taken = let t = was.taken in record {
       shown = t.shown;
-      held = begun.swap p.access w entries work.within was.idle t.held;
+      held = begun.taken.swap p.access w entries work.within was.idle t.held;
       few = omega (arith, room);
-      counted = omega (arith, length-append p.access.begun (entries ∷ []), number);
+      notes = record { zero = begun.zero.swap p.access w entries was.worker t.notes.zero; noted = begun.noted.swap p.access w entries t.notes.noted };
       unused = λ s l. t.unused s (omega (arith, l));
     };
     living = living;

@@ -1,6 +1,6 @@
 -- A call that gets another task.
-use Rattle.std.proofs.Common.{◌≡◌, ◌≢◌, ◌⊎◌, ◌≤◌, ◌+◌, ℕ, Bool, true, false, List, length, arith, refl, sym, ap, subst, ◌∙◌, inl, inr, Option, Some, None}
-use Rattle.std.specs.Prelude.{get_or}
+use Rattle.std.proofs.Common.{◌≡◌, ◌≢◌, ◌⊎◌, ◌≤◌, ◌<◌, ◌+◌, ℕ, Bool, true, false, List, [], length, arith, refl, sym, ap, subst, ◌∙◌, inl, inr, Option, Some, None}
+use Rattle.std.specs.Prelude.{get_or, IsSome}
 use Rattle.std.specs.Global.{Vec}
 use Rattle.std.specs.Vec.{with_item}
 use Rattle.std.proofs.lemmas.List.{get_or_read_under, get_or-set_same, get_or-set_other, length-set}
@@ -11,7 +11,8 @@ use Rattle.bz_call.specs.declared.replies.Reply.TheVariants as reply
 use Rattle.bz_layout.specs.declared.thresholds.TheConstants.{SPLIT_SLOTS}
 use Rattle.bz_mark.specs.declared.marks.Mark.{Mark}
 use Rattle.bz_mark.specs.declared.marks.Mark.TheVariants.{End}
-use Rattle.bz_running.specs.Duties.{config_of, asks_of, end_of, needs_of, wants_of, facts_of, makes_no_change}
+use Rattle.bz_alone.specs.Counts.{HasOthers}
+use Rattle.bz_running.specs.Duties.{config_of, asks_of, end_of, made_of, needs_of, wants_of, facts_of, means_of, makes_no_change}
 use Rattle.bz_running.specs.Hearing.{IsLookup}
 use Rattle.bz_running.specs.Laws.{AreLaws}
 use Rattle.bz_running.specs.declared.running.AnyTask.{AnyTask}
@@ -20,7 +21,7 @@ use Rattle.bz_story.specs.Laws.{ScenesAreSeen}
 use Rattle.bz_swap.specs.SwapMemory.{SwapMemory, worker_of}
 use Rattle.bz_task.specs.Outcomes.{IsPath}
 use Rattle.bz_task.specs.Requests.{Hears, Tells}
-use Rattle.bz_task.specs.Scene.{IsScene, HasFilled, Waiting}
+use Rattle.bz_task.specs.Scene.{Scene, IsScene, HasFilled, Waiting}
 use Rattle.bz_task.specs.declared.path.Path.{Path}
 use Rattle.bz_task.specs.declared.view.LeafView.{LeafView}
 use Rattle.bz_call.specs.declared.replies.Spent.{Spent}
@@ -28,15 +29,19 @@ use Rattle.bz_call.specs.declared.replies.Spent.TheVariants.{Swaps}
 use Rattle.bz_layout.specs.Slots.{FreeSlots}
 use Rattle.bz_story.specs.Story.{scene}
 use Rattle.bz_task.specs.declared.todo.Outcome.{Outcome}
+use Rattle.bz_task.specs.declared.todo.Outcome.TheVariants as outcomes
 use Rattle.bz_task.specs.declared.todo.Outcome.TheVariants.{Full}
+use Rattle.bz_task.specs.declared.view.KeyView.{KeyView}
 use Rattle.bz_task.specs.declared.todo.Seen.TheVariants.{Start, NoSwap}
 use Rattle.bz_task.specs.declared.todo.Todo.{Todo}
-use Rattle.bz_task.specs.declared.todo.Todo.TheVariants.{Read}
+use Rattle.bz_task.specs.declared.todo.Todo.TheVariants.{Read, Finish}
 use Rattle.bz_world.specs.Inside.Acted.{IsBetween, MustTell, HasWon}
 use Rattle.bz_world.specs.Inside.Going.{MustGoOn, MustLookUp, MustTakeOn, MustRead, MustReadWhole, HadEffect, HasReadAfter, LacksSwap, known, call_in, end_in, path_in, WentOn, MayGoOnIn}
 use Rattle.bz_world.specs.Inside.Beginning.{supply_of}
 use Rattle.bz_world.specs.Inside.Kept.{IsAwake}
+use Rattle.bz_world.specs.Inside.Laws.{AloneLaws}
 use Rattle.bz_world.specs.Inside.Lonely.{WhereLonely, IsNotLonely, IsNotLonelyIn, IsLonelyGet, HasLooked, AsksBriefly}
+use Rattle.bz_world.specs.Inside.Meant.{IsMeantFor}
 use Rattle.bz_world.specs.WorldView.{GoesOn, EndsFullRightly, GetsBriefly}
 use Rattle.bz_world.specs.Inside.Serving.{IsOpened, IsSlot, IsToldBy, IsWanted, MayGoOn, effect_reply}
 use Rattle.bz_world.specs.Inside.Telling.{MustStart, HasTold, HasToldIn, LacksDescriptor, KnowsWay, MustTellOf, MustStartOf, MustBegin}
@@ -44,6 +49,7 @@ use Rattle.bz_world.specs.declared.answers.Applied.{Applied}
 use Rattle.bz_world.specs.declared.answers.Applied.TheVariants as applied
 use Rattle.bz_world.specs.declared.parts.Parts.{Parts}
 use Rattle.bz_world.specs.declared.serving.OpenCall.{OpenCall}
+use Rattle.bz_world.proofs.Alone.{hears-now}
 use Rattle.bz_world.proofs.Powered.{begun-in}
 use Rattle.bz_world.proofs.Staying.{none-unfilled}
 use Rattle.bz_world.proofs.Supplies.{not-longer}
@@ -75,8 +81,8 @@ no-swap : (p : Parts) (w : ℕ) (todo : Todo) (m : MustStart p w todo) → Lacks
 no-swap p w todo m lacks key get lonely = subst (AsksBriefly p.access p.journal.past m.asking.between.story w m.serving m.asking.between.opened key) lacks.is (m.asking.lonely key get lonely)
 
 -- a task that asks for a swap, for which there is no descriptor, is told so
-pub lacks-told : (p : Parts) (w : ℕ) (todo : Todo) → MustStart p w todo → LacksDescriptor p todo → MustTell p w NoSwap
-lacks-told p w todo m lacks = record {
+pub lacks-told : AloneLaws → (p : Parts) (w : ℕ) (todo : Todo) → MustStart p w todo → LacksDescriptor p todo → MustTell p w NoSwap
+lacks-told lone p w todo m lacks = record {
   serving = m.serving;
   is = m.is;
   told = record {
@@ -92,6 +98,10 @@ lacks-told p w todo m lacks = record {
     hears = subst (λ z. Hears z NoSwap) (sym (m.asking.asks ∙ ap Some lacks.is)) tt;
     tells = subst (λ z. Tells z Waiting NoSwap (scene p.config p.journal.past m.asking.between.story w m.asking.between.call_open.look.since m.asking.between.opened)) (sym (m.asking.asks ∙ ap Some lacks.is)) tt;
     lonely = λ key get lonely. absurd (no-swap p w todo m lacks key get lonely);
+    alone = hears-now lone.counted m.serving.task (scene p.config p.journal.past m.asking.between.story w m.asking.between.call_open.look.since m.asking.between.opened)
+        (lone.scenes p.config p.access p.journal m.asking.between.story w m.asking.between.call_open.look.since m.asking.between.opened m.asking.between.living (begun-in m.asking.between.living m.asking.between.call_open)).scene
+        (sym m.asking.tasked.config) m.asking.facts NoSwap refl (λ e. absurd (cc e));
+    meant = m.asking.meant;
   };
 }
 
@@ -137,7 +147,7 @@ between-tasks p w x y b workers size rest opened = record {
     pairs = t.pairs;
     power = t.power;
   };
-  taken = let t = b.taken in record { shown = t.shown; held = t.held; few = t.few; counted = t.counted; unused = t.unused };
+  taken = let t = b.taken in record { shown = t.shown; held = t.held; few = t.few; notes = t.notes; unused = t.unused };
   living = b.living;
   sound = b.sound;
   free = b.free;
@@ -152,6 +162,14 @@ between-tasks p w x y b workers size rest opened = record {
 -- what stands in the table, and the call there
 pub slot-is : (p : Parts) (w : ℕ) (on : MustGoOn p w) (slot : Option OpenCall) → slot ≡ get_or p.workers.items w slot → slot ≡ Some on.serving
 slot-is p w on slot e = get_or_read_under p.workers.items w (length p.workers.items) slot None e (omega (arith, on.between.within, on.between.tabled.places, on.between.tabled.config.workers_in_range.at_most)) refl ∙ on.is
+
+-- with the way to its leaf, if that was found
+some-of : (way : Option Path) → way ≢ None → IsSome way
+some-of None none = absurd (none refl)
+some-of (Some path) none = refl
+
+pub some-path : (p : Parts) (w : ℕ) (on : MustGoOn p w) (slot : Option OpenCall) → slot ≡ get_or p.workers.items w slot → on.serving.path ≢ None → IsSome (path_in slot)
+some-path p w on slot e some = subst (λ (z : Option OpenCall). IsSome (path_in z)) (sym (slot-is p w on slot e)) (some-of on.serving.path some)
 
 pub call-is : (p : Parts) (w : ℕ) (on : MustGoOn p w) (slot : Option OpenCall) (call : Call) → slot ≡ get_or p.workers.items w slot → call_in slot ≡ Some call → on.serving.call ≡ call
 call-is p w on slot call e is = let same : Some on.serving.call ≡ Some call = sym (ap call_in (slot-is p w on slot e)) ∙ is in cc same
@@ -177,18 +195,33 @@ looks-anew p w on = record on {
 pub none-wanted : (p : Parts) (w : ℕ) (on : MustGoOn p w) (task : AnyTask) → wants_of task ≡ 0 → IsWanted p.config p.journal on.between.opened (wants_of task)
 none-wanted p w on task none quiet some = absurd (omega (arith, none, some))
 
+-- a way that was found is one
+pub has-way : (path : Path) → Some path ≡ None → ⊥
+has-way path none = absurd (cc none)
+
+-- where no way was found it ends in no leaf
+abbrev bogus : Path
+bogus = record { links = []; depth = 0 }
+
+pub no-view : (key : List ℕ) (task : AnyTask) → ((way : Option Path) → IsLookup key way task) → (view : LeafView) (s : Scene) → means_of task (outcomes.View view) s → ⊥
+no-view key task looks view s means = let some : 0 < 0 = ((looks (Some bogus)).leads bogus refl view s means).some in omega (arith, some)
+
+pub no-key : (key : List ℕ) (task : AnyTask) → ((way : Option Path) → IsLookup key way task) → (view : KeyView) (s : Scene) → means_of task (outcomes.Key view) s → ⊥
+no-key key task looks view s means = let some : 0 < 0 = ((looks (Some bogus)).leads_found bogus refl view s means).some in omega (arith, some)
+
 -- a task that makes no change, for the call's key
-abbrev pub lookup-taken : (p : Parts) (w : ℕ) (on : MustGoOn p w) → MayGoOn on.serving → (task : AnyTask) (way : Option Path) (asked : Option Todo) (key : List ℕ) → config_of task ≡ p.config → AreLaws task → makes_no_change task ≡ true → IsLookup key way task → key ≡ key_of on.serving.call
+abbrev pub lookup-taken : (p : Parts) (w : ℕ) (on : MustGoOn p w) → MayGoOn on.serving → (task : AnyTask) (way : Option Path) (asked : Option Todo) (key : List ℕ) → config_of task ≡ p.config → AreLaws task → makes_no_change task ≡ true → IsLookup key way task → (way ≡ None → (other : Option Path) → IsLookup key other task) → key ≡ key_of on.serving.call
     → asks_of task ≡ asked → facts_of task Waiting (known p w on) → IsWanted p.config p.journal on.between.opened (wants_of task)
-    → WhereLonely p.journal.past w on.serving.call (IsLonelyGet p.access p.journal.past on.between.story w (record on.serving { task = task; path = way }) on.between.opened) → MustTakeOn p w task way on.serving.had asked
-lookup-taken p w on may task way asked key config laws looks lookup same asks facts wanted lonely = record {
+    → WhereLonely p.journal.past w on.serving.call (IsLonelyGet p.access p.journal.past on.between.story w (record on.serving { task = task; path = way }) on.between.opened) → (on.serving.effect ≡ None → IsMeantFor on.serving.call task (known p w on).past) → MustTakeOn p w task way on.serving.had asked
+lookup-taken p w on may task way asked key config laws looks lookup wayless same asks facts wanted lonely meant = record {
   on = on;
   may = may;
-  tasked = record { config = config; laws = laws; lookup = subst (λ k. IsLookup k way task) same lookup; change = inl looks };
+  tasked = record { config = config; laws = laws; lookup = subst (λ k. IsLookup k way task) same lookup; change = inl looks; wayless = λ none other. subst (λ k. IsLookup k other task) same (wayless none other) };
   asks = asks;
   facts = facts;
   wanted = wanted;
   lonely = lonely;
+  meant = meant;
 }
 
 -- and one that begins once the change was made needs none either
@@ -249,32 +282,38 @@ module _ (p : Parts) (w : ℕ) (task : AnyTask) (had : Option (List ℕ)) (asked
   pub here-is : get_or taken.workers.items w None ≡ Some next
   here-is = get_or-set_same p.workers.items w slot None (omega (arith, m.on.between.within, m.on.between.tabled.places, m.on.between.tabled.config.workers_in_range.at_most)) ∙ is
 
+  -- the swaps of others since its look-up began, by what its task knows
+  counts-now : AloneLaws → (others : ℕ) × HasOthers others (made_of task) (known p w m.on).past
+  counts-now lone = lone.counted task (known p w m.on) (known-scene lone.scenes p w m.on) m.facts
+
   -- which asks for something already
-  pub taken-asks : IsNotLonely p.journal.past w m.on.serving.call → (todo : Todo) → asked ≡ Some todo → MustStart taken w todo
+  pub taken-asks : AloneLaws → IsNotLonely p.journal.past w m.on.serving.call → (todo : Todo) → todo ≢ Finish → asked ≡ Some todo → MustStart taken w todo
   unfolding between between-tasks
-  taken-asks other todo e = record {
+  taken-asks lone other todo more e = record {
     serving = next;
     is = here-is;
     asking = record {
       between = between;
-      tasked = let t = m.tasked in record { config = t.config; laws = t.laws; lookup = t.lookup; change = t.change };
+      tasked = let t = m.tasked in record { config = t.config; laws = t.laws; lookup = t.lookup; change = t.change; wayless = t.wayless };
       asks = m.asks ∙ e;
       finished = inl m.may;
       facts = m.facts;
       covered = none-unfilled (m.on.between.story.took w) (m.on.between.story.filled w) (needs_of task) (omega (arith, m.tasked.laws.few, m.tasked.laws.most)) m.on.filled;
       lonely = λ key get lonely. absurd (other key get lonely);
+      alone = record { others = (counts-now lone).0; made = made_of task; counted = (counts-now lone).1; stands = λ ends. absurd (more ends) };
+      meant = m.meant;
     };
   }
 
   -- or is to be told to begin
-  pub taken-begins : asked ≡ None → MustTell taken w Start
+  pub taken-begins : AloneLaws → asked ≡ None → MustTell taken w Start
   unfolding between between-tasks
-  taken-begins e = record {
+  taken-begins lone e = record {
     serving = next;
     is = here-is;
     told = record {
       between = between;
-      tasked = let t = m.tasked in record { config = t.config; laws = t.laws; lookup = t.lookup; change = t.change };
+      tasked = let t = m.tasked in record { config = t.config; laws = t.laws; lookup = t.lookup; change = t.change; wayless = t.wayless };
       stage = Waiting;
       facts = m.facts;
       covered = none-unfilled (m.on.between.story.took w) (m.on.between.story.filled w) (needs_of task) (omega (arith, m.tasked.laws.few, m.tasked.laws.most)) m.on.filled;
@@ -282,30 +321,33 @@ module _ (p : Parts) (w : ℕ) (task : AnyTask) (had : Option (List ℕ)) (asked
       hears = subst (λ z. Hears z Start) (sym (m.asks ∙ e)) tt;
       tells = subst (λ z. Tells z Waiting Start (known p w m.on)) (sym (m.asks ∙ e)) (has-filled p w m.on);
       lonely = λ key get lonely. (m.lonely key get lonely, refl);
+      alone = hears-now lone.counted task (known p w m.on) (known-scene lone.scenes p w m.on) (sym m.tasked.config) m.facts Start refl (λ e. absurd (cc e));
+      meant = m.meant;
     };
   }
 
   -- where the call is no lonely get
-  pub task-begins : IsNotLonely p.journal.past w m.on.serving.call → asked ≡ None → MustBegin taken w
+  pub task-begins : AloneLaws → IsNotLonely p.journal.past w m.on.serving.call → asked ≡ None → MustBegin taken w
   unfolding taken-begins between between-tasks
-  task-begins other e = record { tell = taken-begins e; other = other }
+  task-begins lone other e = record { tell = taken-begins lone e; other = other }
 
   -- and the way to its leaf is known as before
-  pub begins-knowing : (e : asked ≡ None) → KnowsWay p w m.on.serving m.on.between → path ≡ m.on.serving.path → MustTellOf taken w Start
+  pub begins-knowing : (lone : AloneLaws) (e : asked ≡ None) → KnowsWay p w m.on.serving m.on.between → path ≡ m.on.serving.path → MustTellOf taken w Start
   unfolding taken-begins between between-tasks
-  begins-knowing e k same = record {
-    must = taken-begins e;
-    knows = record { leads = λ way is. k.leads way (sym same ∙ is); quiet = k.quiet };
+  begins-knowing lone e k same = record {
+    must = taken-begins lone e;
+    knows = record { leads = λ way is. k.leads way (sym same ∙ is); quiet = k.quiet; some = λ none. k.some (sym same ∙ none) };
   }
 
   -- or has just been found
-  pub begins-found : (e : asked ≡ None) (found : Path) → path ≡ Some found → IsPath (key_of m.on.serving.call) found (known p w m.on).past → m.on.serving.effect ≡ None → MustTellOf taken w Start
+  pub begins-found : (lone : AloneLaws) (e : asked ≡ None) (found : Path) → path ≡ Some found → IsPath (key_of m.on.serving.call) found (known p w m.on).past → m.on.serving.effect ≡ None → MustTellOf taken w Start
   unfolding taken-begins between between-tasks
-  begins-found e found at leads quiet = record {
-    must = taken-begins e;
+  begins-found lone e found at leads quiet = record {
+    must = taken-begins lone e;
     knows = record {
       leads = λ way is. let both : Some found ≡ Some way = sym at ∙ is in let same : found ≡ way = cc both in subst (λ z. IsPath (key_of m.on.serving.call) z (known p w m.on).past) same leads;
       quiet = quiet;
+      some = λ none. absurd (cc (at, none));
     };
   }
 
@@ -336,7 +378,7 @@ begins-may p w m = subst MayGoOnIn (sym m.is) (begins-by m.serving m.told.finish
 
 -- where its task has ended the leaf may be read whole
 abbrev pub must-read-whole : (p : Parts) (w : ℕ) (todo : Todo) (m : MustStartOf p w todo) (outcome : Outcome) → end_of m.must.serving.task ≡ Some outcome → IsNotLonely p.journal.past w m.must.serving.call → MustReadWhole p w
-must-read-whole p w todo m outcome ended other = record { on = must-go-on p w todo m.must outcome ended (λ key get lonely. absurd (other key get lonely)); leads = m.knows.leads; quiet = m.knows.quiet; other = other }
+must-read-whole p w todo m outcome ended other = record { on = must-go-on p w todo m.must outcome ended (λ key get lonely. absurd (other key get lonely)); leads = m.knows.leads; quiet = m.knows.quiet; other = other; some = m.knows.some }
 
 -- a call that went on from parts with other slots and tasks
 pub told-went : (old mid : Parts) (w : ℕ) (answer : Applied) (new : Parts) → mid ≡ record old { slots = mid.slots; workers = mid.workers } → length mid.slots.free ≤ length old.slots.free → length old.slots.free ≤ length new.slots.free + SPLIT_SLOTS

@@ -1,15 +1,18 @@
 -- A task that was told something asks for something else, and the world but for it is as it was.
-use Rattle.std.proofs.Common.{◌≡◌, ◌≢◌, ℕ, ◌<◌, ◌||◌, Bool, true, false, length, arith, refl, sym, ap, subst, ◌∙◌, inl, inr, Option, Some, None}
+use Rattle.std.proofs.Common.{◌≡◌, ◌≢◌, ℕ, ◌+◌, ◌<◌, ◌||◌, Bool, true, false, List, length, arith, refl, sym, ap, subst, ◌∙◌, inl, inr, Option, Some, None}
 use Rattle.std.specs.Prelude.{get_or}
 use Rattle.std.specs.Global.{Vec}
 use Rattle.std.specs.Vec.{with_item}
 use Rattle.std.proofs.lemmas.Bool.{true≢false}
 use Rattle.std.proofs.lemmas.List.{get_or-set_same, get_or-set_other, length-set}
 use Rattle.bz_call.specs.Map.{key_of}
-use Rattle.bz_call.specs.declared.replies.Spent.TheVariants.{Nodes}
+use Rattle.bz_call.specs.declared.replies.Spent.TheVariants.{Nodes, Swaps}
 use Rattle.bz_layout.specs.Slots.{FreeSlots}
 use Rattle.bz_layout.specs.declared.config.Config.{Config}
-use Rattle.bz_running.specs.Duties.{needs_of, facts_of}
+use Rattle.bz_alone.specs.Alone.{IsAlone}
+use Rattle.bz_running.specs.Duties.{asks_of, end_of, made_of, needs_of, facts_of, differs_of}
+use Rattle.bz_running.specs.Hearing.{IsLookup, HasHeard}
+use Rattle.bz_running.specs.declared.running.AnyTask.{AnyTask}
 use Rattle.bz_sight.specs.Starts.{Sees}
 use Rattle.bz_sound.specs.Calls.{Open}
 use Rattle.bz_story.specs.Laws.{ScenesAreSeen, SlotsAreTaken, takes_slots}
@@ -17,20 +20,27 @@ use Rattle.bz_story.specs.Living.{IsLiving}
 use Rattle.bz_story.specs.Story.{Story, scene}
 use Rattle.bz_task.specs.OwnActs.{AreUnreached, gained, is_gained}
 use Rattle.bz_task.specs.Outcomes.{IsPath}
+use Rattle.bz_task.specs.Requests.{effects_in}
 use Rattle.bz_task.specs.Scene.{Scene, Waiting}
+use Rattle.bz_task.specs.declared.path.Path.{Path}
 use Rattle.bz_task.specs.declared.todo.Outcome.TheVariants as outcome
 use Rattle.bz_task.specs.declared.todo.Seen.{Seen}
+use Rattle.bz_task.specs.declared.todo.Seen.TheVariants.{NoSwap}
 use Rattle.bz_task.specs.declared.todo.Todo.{Todo}
 use Rattle.bz_world.specs.Inside.Acted.{IsTold, IsAsking, MustTell}
+use Rattle.bz_world.specs.Inside.Alone.{HasWaited, AsksAlone}
 use Rattle.bz_world.specs.Inside.Going.{end_in, wants_in}
-use Rattle.bz_world.specs.Inside.Laws.{LonelyLaws}
+use Rattle.bz_world.specs.Inside.Laws.{AloneLaws, LonelyLaws}
 use Rattle.bz_world.specs.Inside.Lonely.{WhereLonely, AsksBriefly}
+use Rattle.bz_world.specs.Inside.Meant.{IsMeantFor, IsMeant}
 use Rattle.bz_world.specs.Inside.Serving.{IsCovered, IsToldBy, IsTasked, IsSlot, IsChangeFor, NeedsAtLeast, MayGoOn}
 use Rattle.bz_world.specs.Inside.Telling.{CanHear, HasTold, HasToldIn, MustStart, KnowsWay, MustStartOf}
 use Rattle.bz_world.specs.declared.parts.Parts.{Parts}
 use Rattle.bz_world.specs.declared.serving.OpenCall.{OpenCall}
 use Rattle.bz_sound.specs.Power.Times.{image_at_on}
+use Rattle.bz_world.proofs.Alone.{cause-none}
 use Rattle.bz_world.proofs.LonelyTold.{told-lonely, took-lonely}
+use Rattle.bz_world.proofs.Meant.{meant-told}
 use Rattle.bz_world.proofs.Powered.{begun-in}
 use Rattle.bz_world.proofs.Staying.{covered-stays, slot-scenes}
 use Rattle.bz_world.proofs.Takings.{covered-taken, may-take, no-more-free, still-free}
@@ -53,7 +63,22 @@ full-rightly p w seen m moment todo slot left told ended =
     let lacked = n.told.heard.full_nodes (sym (ap end_in n.is) ∙ ended) in
     omega (arith, lacked, m.told.tasked.laws.few, n.told.heard.wants, ap wants_in n.is, no-more-free (needs_of m.serving.task) (needs_of n.next.task) p.slots left n.told.heard.slots)
 
-module _ (scenes : ScenesAreSeen) (slots : SlotsAreTaken) (laws : LonelyLaws) (p : Parts) (w : ℕ) (seen : Seen) (m : MustTell p w seen) where
+-- and one that has ended for want of a descriptor was told so
+pub lacked-told : (p : Parts) (w : ℕ) (seen : Seen) (m : MustTell p w seen) (moment : ℕ) (todo : Todo) (slot : Option OpenCall) (left : FreeSlots) → HasToldIn (Some m.serving) seen moment p.slots todo slot left → end_in slot ≡ Some (outcome.Full Swaps) → seen ≡ NoSwap
+lacked-told p w seen m moment todo slot left told ended = let n : IsNext m.serving seen moment p.slots todo slot left = next-of m.serving seen moment p.slots todo slot left told in n.told.heard.full_swaps (sym (ap end_in n.is) ∙ ended)
+
+-- a look-up that was told something is one as before
+looks-still : (old new : AnyTask) (seen : Seen) (moment : ℕ) (free : FreeSlots) (todo : Todo) (left : FreeSlots) (key : List ℕ) (way : Option Path) → IsLookup key way old → HasHeard old seen moment free todo new left → IsLookup key way new
+looks-still old new seen moment free todo left key way l h = record {
+  path = λ path s means. l.path path s (h.meant (outcome.Path path) s means);
+  view = λ view s means. l.view view s (h.meant (outcome.View view) s means);
+  found = λ view s means. l.found view s (h.meant (outcome.Key view) s means);
+  leads = λ path is view s means. l.leads path is view s (h.meant (outcome.View view) s means);
+  leads_found = λ path is view s means. l.leads_found path is view s (h.meant (outcome.Key view) s means);
+  ascent = λ a is. l.ascent a (sym h.ascent ∙ is);
+}
+
+module _ (scenes : ScenesAreSeen) (slots : SlotsAreTaken) (laws : LonelyLaws) (lone : AloneLaws) (p : Parts) (w : ℕ) (seen : Seen) (m : MustTell p w seen) where
   abbrev x : OpenCall
   x = m.serving
 
@@ -97,14 +122,8 @@ module _ (scenes : ScenesAreSeen) (slots : SlotsAreTaken) (laws : LonelyLaws) (p
     tasked = subst (λ (z : OpenCall). IsTasked p.config z.call z.path z.had y.task) (sym h.rest) (record {
       config = h.heard.config ∙ told.tasked.config;
       laws = h.laws;
-      lookup = record {
-        path = λ path s means. told.tasked.lookup.path path s (h.heard.meant (outcome.Path path) s means);
-        view = λ view s means. told.tasked.lookup.view view s (h.heard.meant (outcome.View view) s means);
-        found = λ view s means. told.tasked.lookup.found view s (h.heard.meant (outcome.Key view) s means);
-        leads = λ path is view s means. told.tasked.lookup.leads path is view s (h.heard.meant (outcome.View view) s means);
-        ascent = λ a is. told.tasked.lookup.ascent a (sym h.heard.ascent ∙ is);
-        leads_found = λ path is view s means. told.tasked.lookup.leads_found path is view s (h.heard.meant (outcome.Key view) s means);
-      };
+      lookup = looks-still x.task y.task seen (length p.journal.past) p.slots todo left (key_of x.call) x.path told.tasked.lookup h.heard;
+      wayless = λ none other. looks-still x.task y.task seen (length p.journal.past) p.slots todo left (key_of x.call) other (told.tasked.wayless none other) h.heard;
       change = elim told.tasked.change [
         | inl look ↦ inl (h.heard.silent ∙ look)
         | inr is ↦ inr (subst (IsChangeFor x.call x.had) (sym h.heard.change) is)
@@ -127,6 +146,27 @@ module _ (scenes : ScenesAreSeen) (slots : SlotsAreTaken) (laws : LonelyLaws) (p
 
     lonely : WhereLonely p.journal.past w y.call (λ key. AsksBriefly p.access p.journal.past after w y told.between.opened key todo)
     lonely key get alone = took-lonely p.access p.journal.past told.between.story w y told.between.opened key p.slots left todo (told-lonely laws p w x seen told sees.scene (length p.journal.past) todo left y h key get alone)
+
+    -- where nobody else's swap took effect it has not ended to begin again
+    not-again : told.alone.others ≡ 0 → end_of y.task ≢ Some outcome.Restart
+    not-again none ends = told.alone.wins none (elim (h.heard.restart ends) [
+      | inl lost ↦ lost
+      | inr differs ↦ (lone.refused x.task y.task seen (length p.journal.past) p.slots left todo told.stage here h.heard ends (sym told.tasked.config) sees.scene told.facts told.tells (alone-by none differs)).answer
+    ])
+      where
+        alone-by : told.alone.others ≡ 0 → differs_of x.task seen → IsAlone (made_of x.task) here.past
+        alone-by none differs =
+            let waited : HasWaited x.task = told.alone.waited in
+            let untold : effects_in seen ≡ 0 = cause-none (asks_of x.task) seen waited.scene (told.tasked.laws.cause waited.scene seen waited.config waited.facts differs) in
+            omega (arith, told.alone.counted, none, untold)
+
+    asks-alone : AsksAlone y.task todo here.past
+    asks-alone = record { others = told.alone.others; made = made_of x.task + effects_in seen; counted = told.alone.counted; stands = λ ends none. not-again none }
+
+    -- and it is meant for what it was
+    still-meant : IsMeant y here.past
+    still-meant quiet = subst (λ (z : OpenCall). IsMeantFor z.call y.task here.past) (sym h.rest)
+        (meant-told x.call here.past x.task y.task seen (length p.journal.past) p.slots todo left h.heard (told.meant (sym (ap (λ (z : OpenCall). z.effect) h.rest) ∙ quiet)))
 
     living : IsLiving p.config p.access p.journal after
     living = slots.living p.config p.access p.journal told.between.story w p.slots left told.between.living (may-take p.config (image_at_on p.journal.start p.journal.past) told.between.story p.slots left told.between.free)
@@ -157,7 +197,7 @@ module _ (scenes : ScenesAreSeen) (slots : SlotsAreTaken) (laws : LonelyLaws) (p
           pairs = t.pairs;
           power = t.power;
         };
-        taken = let t = told.between.taken in record { shown = t.shown; held = t.held; few = t.few; counted = t.counted; unused = t.unused };
+        taken = let t = told.between.taken in record { shown = t.shown; held = t.held; few = t.few; notes = t.notes; unused = t.unused };
         living = living;
         sound = told.between.sound;
         free = still-free p.config (image_at_on p.journal.start p.journal.past) told.between.story w (needs_of x.task) (needs_of y.task) p.slots left h.heard.slots told.between.free;
@@ -178,6 +218,8 @@ module _ (scenes : ScenesAreSeen) (slots : SlotsAreTaken) (laws : LonelyLaws) (p
       facts = facts;
       covered = covered;
       lonely = lonely;
+      alone = asks-alone;
+      meant = still-meant;
     }
 
   pub must-start : (todo : Todo) (left : FreeSlots) (old slot : Option OpenCall) → old ≡ Some x → HasToldIn old seen (length p.journal.past) p.slots todo slot left → MustStart (record p { slots = left; workers = with_item p.workers w slot }) w todo
@@ -197,5 +239,6 @@ module _ (scenes : ScenesAreSeen) (slots : SlotsAreTaken) (laws : LonelyLaws) (p
         knows = record {
           leads = λ path is. subst (λ (z : OpenCall). IsPath (key_of z.call) path here.past) (sym n.told.rest) (k.leads path (sym (ap (λ (z : OpenCall). z.path) n.told.rest) ∙ is));
           quiet = ap (λ (z : OpenCall). z.effect) n.told.rest ∙ k.quiet;
+          some = λ none. k.some (sym (ap (λ (z : OpenCall). z.path) n.told.rest) ∙ none);
         };
       }

@@ -27,10 +27,10 @@ use Rattle.bz_swap.specs.Held.{Holds}
 use Rattle.bz_swap.specs.Power.{MayRenew, renewed}
 use Rattle.bz_swap.specs.Starts.{started}
 use Rattle.bz_swap.specs.SwapMemory.{SwapMemory, Working, Idle, Loading, doing_of}
-use Rattle.bz_swap.specs.TakenStatuses.{BegunStayTaken}
 use Rattle.bz_task.specs.declared.todo.Seen.TheVariants.{Start}
 use Rattle.bz_world.specs.Inside.Kept.{IsTabled, IsAwake, IsOff, IsRecovering}
 use Rattle.bz_world.specs.Inside.Beginning.{world_view, is_swap}
+use Rattle.bz_world.specs.Inside.Laws.{BegunLaws}
 use Rattle.bz_world.specs.Inside.Powering.{MustWake, Wakes}
 use Rattle.bz_world.specs.WorldView as lab
 use Rattle.bz_world.specs.Inside.Serving.{IsSlot}
@@ -99,7 +99,7 @@ pub record Ends : Type 0 where
   pub follow : ReadysFollow
   pub revive : RecoveriesGiveLife
   pub end : WalksEnd
-  pub taken : BegunStayTaken
+  pub begun : BegunLaws
 
 module _ (b : Ends) (p : Parts) (k : MustWake p) (order : IsInOrder p.slots) (holds : Holds (renewed p.access)) (room : length p.journal.past < p.config.marks) where
   reborn : IsReborn p.config p.access p.journal
@@ -159,9 +159,9 @@ module _ (b : Ends) (p : Parts) (k : MustWake p) (order : IsInOrder p.slots) (ho
     tabled = tabled;
     taken = record {
       shown = λ s l t. absurd (reborn.revived.untaken s l t);
-      held = b.taken.renewal p.access;
+      held = b.begun.taken.renewal p.access;
       few = omega arith;
-      counted = refl;
+      notes = record { zero = b.begun.zero.renewal p.access reborn.revived.may_renew; noted = b.begun.noted.renewal p.access };
       unused = λ s l. reborn.revived.unused s;
     };
     living = reborn.living holds;

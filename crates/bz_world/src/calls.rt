@@ -68,6 +68,17 @@ pub(crate) fn path_in(slot: &Option<OpenCall>) -> Option<Path>
     }
 }
 
+/// That way, which was found.
+pub(crate) fn found_path(slot: &Option<OpenCall>) -> Path
+    requires { IsSome (way_in slot.now) }
+    ensures { way_in slot.now ≡ Some result }
+{
+    match path_in(slot) {
+        Some(path) => path,
+        None => unreachable!(),
+    }
+}
+
 /// What its key had when its change was begun.
 pub(crate) fn had_in(slot: &Option<OpenCall>) -> Option<Payload>
     ensures { result ≡ payload_in slot.now }

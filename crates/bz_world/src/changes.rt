@@ -8,10 +8,10 @@ ghost use Rattle.bz_world.specs.Inside.Lonely.{IsNotLonelyIn};
 ghost use Rattle.bz_world.specs.Inside.Telling.{MustStartOf};
 
 use crate::answers::Applied;
-use crate::calls::{ended_in, path_in, set_change};
+use crate::calls::{ended_in, found_path, set_change};
 use crate::end::end;
-use crate::going::{go_on, look_up};
-use crate::laws::{answer_laws, start_laws};
+use crate::going::go_on;
+use crate::laws::{alone_laws, answer_laws, start_laws};
 use crate::lookups::read_leaf;
 use crate::parts::Parts;
 use crate::serving::OpenCall;
@@ -37,10 +37,8 @@ fn read_whole(parts: &mut Parts, w: u8) -> Applied
     requires room { length parts.old.journal.past < parts.old.config.marks }
     ensures { WentOn parts.old w result parts.new }
 {
-    match path_in(&parts.workers[w as usize]) {
-        Some(path) => read_leaf(parts, w, path),
-        None => look_up(parts, w),
-    }
+    let path = found_path(&parts.workers[w as usize]);
+    read_leaf(parts, w, path)
 }
 
 // Goes on with a change that was told to begin. Where its leaf is frozen or lacks the room, the leaf is read whole, to be made anew.
@@ -63,6 +61,7 @@ fn begin_change(parts: &mut Parts, w: u8, had: Option<Payload>, task: AnyTask) -
     requires room { length parts.old.journal.past < parts.old.config.marks }
     ensures { WentOn parts.old w result parts.new }
 {
+    alone_laws();
     set_change(&mut parts.workers[w as usize], task, had);
     let todo = tell(parts, w, Seen::Start);
     go_on_changing(parts, w, todo)
@@ -76,9 +75,7 @@ fn insert(parts: &mut Parts, w: u8, view: &KeyView, key: Key, payload: Payload) 
     ensures { WentOn parts.old w result parts.new }
 {
     start_laws();
-    let Some(path) = path_in(&parts.workers[w as usize]) else {
-        return look_up(parts, w);
-    };
+    let path = found_path(&parts.workers[w as usize]);
     let task = AnyTask::insert(&parts.config, path, *view, key, payload);
     task.laws();
     begin_change(parts, w, None, task)
@@ -99,9 +96,7 @@ fn update(
     ensures { WentOn parts.old w result parts.new }
 {
     start_laws();
-    let Some(path) = path_in(&parts.workers[w as usize]) else {
-        return look_up(parts, w);
-    };
+    let path = found_path(&parts.workers[w as usize]);
     let task = AnyTask::update(&parts.config, path, *view, key, payload);
     task.laws();
     begin_change(parts, w, Some(had), task)
@@ -115,9 +110,7 @@ fn delete(parts: &mut Parts, w: u8, view: &KeyView, key: Key, had: Payload) -> A
     ensures { WentOn parts.old w result parts.new }
 {
     start_laws();
-    let Some(path) = path_in(&parts.workers[w as usize]) else {
-        return look_up(parts, w);
-    };
+    let path = found_path(&parts.workers[w as usize]);
     let task = AnyTask::delete(&parts.config, path, *view, key);
     task.laws();
     begin_change(parts, w, Some(had), task)

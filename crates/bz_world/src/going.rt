@@ -10,7 +10,7 @@ ghost use Rattle.bz_world.specs.Inside.Telling.{MustBegin, MustStart};
 use crate::answers::Applied;
 use crate::calls::{called, effect_in, ended_in, had_in, is_write, key_of, set_task};
 use crate::end::end;
-use crate::laws::start_laws;
+use crate::laws::{alone_laws, start_laws};
 use crate::parts::Parts;
 use crate::start::start;
 use crate::tell::tell;
@@ -121,6 +121,7 @@ pub(crate) fn go_on(parts: &mut Parts, w: u8, todo: Todo) -> Applied
     if start(parts, w, todo) {
         Applied::Stepped
     } else {
+        alone_laws();
         let _ = tell(parts, w, Seen::NoSwap);
         end_swapless(parts, w)
     }

@@ -1,11 +1,21 @@
 //! The laws on which the world's acts stand, from the crates below. Each function does nothing.
-ghost use Rattle.bz_world.specs.Inside.Laws.{LonelyLaws, StepLaws, StrikeLaws, StartLaws, EndLaws, AnswerLaws};
+ghost use Rattle.bz_world.specs.Inside.Laws.{AloneLaws, BegunLaws, LonelyLaws, StepLaws, StrikeLaws, StartLaws, EndLaws, AnswerLaws};
 
 use bz_alone::laws as alone;
+use bz_rivals::laws as rivals;
 use bz_sight::laws as sight;
 use bz_sound::{memory_laws as calls, power_laws as sound};
 use bz_story::laws as story;
 use bz_swap::laws as swap;
+
+/// Those of the descriptors that are taken.
+pub(crate) fn begun_laws()
+    ensures { BegunLaws }
+{
+    swap::begun_stay_taken();
+    rivals::zero_swaps_nothing();
+    rivals::notes_are_of_begun();
+}
 
 /// Those of a lonely get.
 pub(crate) fn lonely_laws()
@@ -20,11 +30,24 @@ pub(crate) fn lonely_laws()
     story::scenes_are_seen();
 }
 
+/// Those of a worker that is alone.
+pub(crate) fn alone_laws()
+    ensures { AloneLaws }
+{
+    alone::own_swaps_are_counted();
+    alone::loners_go_on();
+    alone::lone_restarts_are_refusals();
+    rivals::own_swaps_win();
+    rivals::expected_stand();
+    story::scenes_are_seen();
+}
+
 /// Those of an act without effect.
 pub(crate) fn step_laws()
     ensures { StepLaws }
 {
     lonely_laws();
+    alone_laws();
     sight::acts_pass();
     sight::quiet_steps_pass();
     sight::steps_leave_caches();
@@ -40,7 +63,7 @@ pub(crate) fn step_laws()
     sound::flushes_follow();
     sound::same_content_decodes();
     swap::taken_statuses_stay();
-    swap::begun_stay_taken();
+    begun_laws();
     calls::effects_stay_open();
 }
 
@@ -69,11 +92,12 @@ pub(crate) fn start_laws()
     ensures { StartLaws }
 {
     lonely_laws();
+    alone_laws();
     sight::own_words_are_hidden();
     sight::tasks_may_start();
     sight::starts_are_seen();
     story::scenes_are_seen();
-    swap::begun_stay_taken();
+    begun_laws();
 }
 
 /// And those of the Begin and the End of a call.

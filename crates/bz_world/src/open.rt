@@ -10,6 +10,7 @@ ghost use Rattle.bz_world.specs.WorldView.{IsOpenFault, new_view};
 ghost use Rattle.bz_world.specs.Inside.Opening.{fresh_slots, IsMadeOver};
 
 use crate::answers::OpenError;
+use crate::laws::begun_laws;
 use crate::parts::Parts;
 use crate::serving::OpenCall;
 use arrayvec::ArrayVec;
@@ -89,7 +90,7 @@ fn fresh_parts(alloc: Global, config: &Config) -> Result<Parts, Memory>
     bz_layout::fresh_words_say();
     bz_content::laws::fresh_memory_is_empty();
     bz_content::laws::fresh_memory_reaches_slot_zero();
-    bz_swap::laws::begun_stay_taken();
+    begun_laws();
     bz_sound::power_laws::fresh_journals_are_sound();
     bz_story::laws::fresh_stories_live();
     let start = bz_layout::fresh(alloc, config)?;

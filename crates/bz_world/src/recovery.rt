@@ -15,12 +15,13 @@ ghost use Rattle.bz_world.specs.WorldView.{step_by, StepsBy, Recovers, Evicts};
 
 use crate::act::mark_of;
 use crate::answers::Applied;
+use crate::laws::begun_laws;
 use crate::parts::Parts;
 use crate::step::make_eviction;
 use bz_mark::Mark;
 use bz_sound::{Power, power_laws as sound};
 use bz_story::recovery_laws as story;
-use bz_swap::{Done, Progress, laws as swap};
+use bz_swap::{Done, Progress};
 use bz_task::{Seen, Todo};
 
 /// Starts what the recovery asks for, which is not the end.
@@ -76,7 +77,7 @@ fn wake(parts: &mut Parts)
     sound::readys_follow();
     story::recoveries_give_life();
     story::walks_end();
-    swap::begun_stay_taken();
+    begun_laws();
     // (free slots rise, and are slots of the memory)
     let _ = parts.slots.left();
     parts.access.renew();

@@ -2,10 +2,10 @@
 //! split, or to be merged with a neighbour; and what its parent needs, where that has no room for the split.
 ghost use Rattle.std.specs.Prelude.{◌≡◌, ◌<◌, true, false, length};
 ghost use Rattle.bz_word.specs.Statuses.{status};
-ghost use Rattle.bz_world.specs.Inside.Going.{MustAnswer, MustMakeAnew, MustCopy, MustMerge, MustSplit, MustSplitBelow, MustGoUp, WentOn};
+ghost use Rattle.bz_world.specs.Inside.Going.{MustRestructure, MustFreeze, MustMakeAnew, MustCopy, MustMerge, MustSplit, MustSplitBelow, MustGoUp, WentOn};
 
 use crate::answers::Applied;
-use crate::calls::{called, is_alone, key_of, path_in, set_task};
+use crate::calls::{called, found_path, is_alone, key_of, set_task};
 use crate::going::{begin_task, look_up};
 use crate::laws::{answer_laws, start_laws};
 use crate::parts::Parts;
@@ -16,7 +16,7 @@ use bz_task::{LeafView, Path};
 
 // Freezes the leaf that was read.
 fn freeze(parts: &mut Parts, w: u8, path: Path, view: &LeafView) -> Applied
-    requires answer { MustAnswer parts.old w view.now }
+    requires freeze { MustFreeze parts.old w view.now }
     requires thawed { (status view.now.status).frozen ≡ false }
     requires room { length parts.old.journal.past < parts.old.config.marks }
     ensures { WentOn parts.old w result parts.new }
@@ -136,13 +136,11 @@ fn make_anew(parts: &mut Parts, w: u8, path: Path, view: &LeafView) -> Applied
 
 /// Freezes the leaf that was read, or makes it anew where it is frozen. Its call begins again afterwards.
 pub(crate) fn restructure(parts: &mut Parts, w: u8, view: &LeafView) -> Applied
-    requires answer { MustAnswer parts.old w view.now }
+    requires lacks { MustRestructure parts.old w view.now }
     requires room { length parts.old.journal.past < parts.old.config.marks }
     ensures { WentOn parts.old w result parts.new }
 {
-    let Some(path) = path_in(&parts.workers[w as usize]) else {
-        return look_up(parts, w);
-    };
+    let path = found_path(&parts.workers[w as usize]);
     if view.is_frozen() {
         make_anew(parts, w, path, view)
     } else {

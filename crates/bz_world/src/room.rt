@@ -1,7 +1,7 @@
 //! Whether a leaf has room for the change of a call.
-ghost use Rattle.std.specs.Prelude.{◌≡◌, ◌<◌, ◌^◌, true};
-ghost use Rattle.bz_record.specs.Records.{words_for, LacksRoom};
-ghost use Rattle.bz_world.specs.Inside.Room.{LacksRoomFor};
+ghost use Rattle.std.specs.Prelude.{◌≡◌, ◌<◌, ◌^◌, true, false};
+ghost use Rattle.bz_record.specs.Records.{words_for, HasRoom, LacksRoom};
+ghost use Rattle.bz_world.specs.Inside.Room.{LacksRoomFor, HasRoomFor};
 
 use bz_call::Call;
 use bz_key::{Key, Payload};
@@ -11,7 +11,8 @@ use bz_task::LeafView;
 // Whether it has none for a record of this key and payload.
 fn lacks_words(view: &LeafView, key: Key, payload: Payload) -> bool
     requires plain { view.now.status < 2 ^ 61 }
-    ensures { result ≡ true → LacksRoom view.now.status (words_for key payload) }
+    ensures none { result ≡ true → LacksRoom view.now.status (words_for key payload) }
+    ensures room { result ≡ false → HasRoom view.now.status (words_for key payload) }
 {
     let record = NewRecord {
         slot: view.slot,
@@ -25,7 +26,8 @@ fn lacks_words(view: &LeafView, key: Key, payload: Payload) -> bool
 /// Whether a leaf that was viewed is frozen, or has no room for what a call puts there.
 pub(crate) fn lacks_room(call: &Call, view: &LeafView) -> bool
     requires plain { view.now.status < 2 ^ 61 }
-    ensures { result ≡ true → LacksRoomFor call.now view.now.status }
+    ensures none { result ≡ true → LacksRoomFor call.now view.now.status }
+    ensures room { result ≡ false → HasRoomFor call.now view.now.status }
 {
     match call {
         Call::Insert(key, payload) | Call::Update(key, payload) | Call::Upsert(key, payload) => {

@@ -3,7 +3,7 @@ ghost use Rattle.std.specs.Prelude.{◌≡◌, ◌<◌, None, Some, length, get_
 ghost use Rattle.bz_call.specs.declared.calls.Call.TheVariants as called;
 ghost use Rattle.bz_task.specs.declared.todo.Outcome.TheVariants.{Full, NeedsRoom};
 ghost use Rattle.bz_task.specs.declared.todo.Todo.TheVariants.{Finish};
-ghost use Rattle.bz_world.specs.Inside.Going.{MustAnswer, MustAnswerKey, MustFind, HasEnded, HasEndedAfter, HasReadAfter, IsFullRightly, MustLookUp, WentOn, call_in};
+ghost use Rattle.bz_world.specs.Inside.Going.{MustAnswer, MustAnswerKey, MustFind, HasEnded, HasEndedAfter, HasReadAfter, IsFullRightly, HasNotLackedSwaps, MustLookUp, WentOn, call_in};
 ghost use Rattle.bz_world.specs.Inside.Telling.{MustStart, MustStartFound};
 
 use crate::answers::Applied;
@@ -161,7 +161,7 @@ fn settle_full(parts: &mut Parts, w: u8, spent: Spent) -> Applied
     match spent {
         Spent::Nodes => end_full(parts, w, spent),
         Spent::Height => end_full(parts, w, spent),
-        Spent::Swaps => look_up(parts, w),
+        Spent::Swaps => unreachable!(),
     }
 }
 
@@ -261,6 +261,7 @@ fn settle_effective(parts: &mut Parts, w: u8, at: u32, outcome: Outcome) -> Appl
 pub(crate) fn settle(parts: &mut Parts, w: u8) -> Applied
     requires ends { MustStart parts.old w Finish }
     requires full { IsFullRightly parts.old w }
+    requires swaps { HasNotLackedSwaps parts.old w }
     requires room { length parts.old.journal.past < parts.old.config.marks }
     ensures { WentOn parts.old w result parts.new }
 {

@@ -1,10 +1,11 @@
 //! Telling a worker's task what came of what it asked for.
-ghost use Rattle.std.specs.Prelude.{◌≡◌, ◌<◌, None, get_or, length};
+ghost use Rattle.std.specs.Prelude.{◌≡◌, ◌≢◌, ◌<◌, None, get_or, length};
+ghost use Rattle.bz_task.specs.declared.todo.Seen.TheVariants.{NoSwap};
 ghost use Rattle.bz_world.specs.Inside.Acted.{MustTell};
-ghost use Rattle.bz_world.specs.Inside.Going.{IsFullRightly};
+ghost use Rattle.bz_world.specs.Inside.Going.{IsFullRightly, HasNotLackedSwaps};
 ghost use Rattle.bz_world.specs.Inside.Telling.{CanHear, HasToldIn, MustStart, MustTellOf, MustStartOf};
 
-use crate::laws::lonely_laws;
+use crate::laws::{alone_laws, lonely_laws};
 use crate::parts::Parts;
 use crate::serving::OpenCall;
 use bz_layout::Slots;
@@ -34,6 +35,8 @@ pub(crate) fn tell(parts: &mut Parts, w: u8, seen: Seen) -> Todo
     ensures told { HasToldIn (get_or parts.old.workers.items w None) seen (length parts.old.journal.past) parts.old.slots result (get_or parts.new.workers.items w None) parts.new.slots }
     // it has ended for want of slots only where fewer are left than it takes
     ensures full { IsFullRightly parts.new w }
+    // and for want of a descriptor only where it is told so
+    ensures swaps { seen ≢ NoSwap → HasNotLackedSwaps parts.new w }
     // the way to the leaf of its call is known as before
     ensures knows { MustTellOf parts.old w seen → MustStartOf parts.new w result }
     ensures rest { parts.new ≡ record parts.old { slots = parts.new.slots; workers = parts.new.workers } }
@@ -41,6 +44,7 @@ pub(crate) fn tell(parts: &mut Parts, w: u8, seen: Seen) -> Todo
     story::scenes_are_seen();
     story::slots_are_taken();
     lonely_laws();
+    alone_laws();
     let moment = parts.journal.length();
     hear_task(
         &mut parts.workers[w as usize],

@@ -1,12 +1,13 @@
 -- What stands between an act and the next: an act that was made, an effect that is not told, an answer that is not told, and a
 -- call whose task is to go on.
-use Rattle.std.specs.Prelude.{◌≡◌, ◌≢◌, ◌⊎◌, ℕ, ◌<◌, ◌≤◌, ◌∷◌, true, length, get_or, Option, Some, None}
+use Rattle.std.specs.Prelude.{◌≡◌, ◌≢◌, ◌⊎◌, ℕ, ◌<◌, ◌≤◌, ◌∷◌, true, false, length, get_or, Option, Some, None}
 use Rattle.bz_acts.specs.Rule.{is_flush_act}
 use Rattle.bz_acts.specs.declared.acted.Act.{Act}
 use Rattle.bz_machine.specs.declared.done.Done.{Done}
 use Rattle.bz_mark.specs.Log.{with_mark}
 use Rattle.bz_mark.specs.declared.marks.Mark.{Mark}
 use Rattle.bz_mark.specs.declared.marks.Mark.TheVariants.{Evict}
+use Rattle.bz_rivals.specs.Wins.{GoesWell}
 use Rattle.bz_running.specs.Duties.{asks_of, needs_of, publishing_of, facts_of}
 use Rattle.bz_sight.specs.Effects.{TakesPlace}
 use Rattle.bz_sound.specs.Calls.{Open}
@@ -21,15 +22,17 @@ use Rattle.bz_story.specs.Story.{Story, scene}
 use Rattle.bz_swap.specs.Evictions.{IsEviction}
 use Rattle.bz_swap.specs.Held.{Holds}
 use Rattle.bz_swap.specs.Steps.{IsStep}
-use Rattle.bz_swap.specs.SwapMemory.{SwapMemory, Idle, doing_of, worker_of}
+use Rattle.bz_swap.specs.SwapMemory.{SwapMemory, Idle, is_missed, doing_of, worker_of}
 use Rattle.bz_task.specs.Requests.{Hears, Tells}
 use Rattle.bz_task.specs.Scene.{Stage, Waiting}
 use Rattle.bz_task.specs.declared.todo.Seen.{Seen}
 use Rattle.bz_task.specs.declared.todo.Seen.TheVariants.{Swapped}
 use Rattle.bz_task.specs.declared.todo.Todo.{Todo}
 use Rattle.bz_task.specs.declared.todo.Todo.TheVariants.{Finish}
+use Rattle.bz_world.specs.Inside.Alone.{HearsAlone, AsksAlone}
 use Rattle.bz_world.specs.Inside.Kept.{IsTabled, AreTaken, AreFree, IsAwake}
 use Rattle.bz_world.specs.Inside.Lonely.{WhereLonely, IsLonelyGet, AsksBriefly}
+use Rattle.bz_world.specs.Inside.Meant.{IsMeant}
 use Rattle.bz_world.specs.WorldView.{mark_of, IsStruck}
 use Rattle.bz_world.specs.Inside.Serving.{IsCovered, IsSlot, IsOpened, IsTasked, MayGoOn}
 use Rattle.bz_world.specs.declared.parts.Parts.{Parts}
@@ -65,6 +68,8 @@ pub record IsStriking (p : Parts) (s : ℕ) : Type 0 where
   pub marked : IsMarked p.access before.journal mark
   pub flush : IsAfterFlush (mark ∷ before.journal.past)
   pub follows : MayFollow before.at_start (map_at_start before.config before.journal.start) before.journal.past mark
+  -- of a swap that went well no miss is noted
+  pub unnoted : (t : ℕ) → GoesWell before.access t → is_missed p.access t ≡ false
   pub rest : p ≡ record before { access = p.access; journal = with_mark before.journal mark }
 
 -- all is well but for worker w, whose call is open, and which does nothing
@@ -99,6 +104,8 @@ pub record IsTold (p : Parts) (w : ℕ) (x : OpenCall) (seen : Seen) : Type 0 wh
   pub hears : Hears (asks_of x.task) seen
   pub tells : Tells (asks_of x.task) stage seen (scene p.config p.journal.past between.story w between.call_open.look.since between.opened)
   pub lonely : WhereLonely p.journal.past w x.call (λ key. IsLonelyGet p.access p.journal.past between.story w x between.opened key × (stage ≡ Waiting))
+  pub alone : HearsAlone x.task seen (scene p.config p.journal.past between.story w between.call_open.look.since between.opened).past
+  pub meant : IsMeant x (scene p.config p.journal.past between.story w between.call_open.look.since between.opened).past
 
 -- and its task asks for this: for nothing more, where its change is made
 pub record IsAsking (p : Parts) (w : ℕ) (x : OpenCall) (todo : Todo) : Type 0 where
@@ -109,6 +116,8 @@ pub record IsAsking (p : Parts) (w : ℕ) (x : OpenCall) (todo : Todo) : Type 0 
   pub facts : facts_of x.task Waiting (scene p.config p.journal.past between.story w between.call_open.look.since between.opened)
   pub covered : IsCovered (between.story.took w) (between.story.filled w) (needs_of x.task)
   pub lonely : WhereLonely p.journal.past w x.call (λ key. AsksBriefly p.access p.journal.past between.story w x between.opened key todo)
+  pub alone : AsksAlone x.task todo (scene p.config p.journal.past between.story w between.call_open.look.since between.opened).past
+  pub meant : IsMeant x (scene p.config p.journal.past between.story w between.call_open.look.since between.opened).past
 
 -- the worker's call is served, and its task is to be told this
 pub record MustTell (p : Parts) (w : ℕ) (seen : Seen) : Type 0 where

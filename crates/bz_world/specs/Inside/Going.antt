@@ -7,13 +7,13 @@ use Rattle.bz_call.specs.declared.calls.Call.TheVariants as call
 use Rattle.bz_call.specs.declared.replies.Reply.{Reply}
 use Rattle.bz_call.specs.declared.replies.Reply.TheVariants.{Full, Page}
 use Rattle.bz_call.specs.declared.replies.Spent.{Spent}
-use Rattle.bz_call.specs.declared.replies.Spent.TheVariants.{Nodes}
+use Rattle.bz_call.specs.declared.replies.Spent.TheVariants.{Nodes, Swaps}
 use Rattle.bz_running.specs.FromBelow.Facts.{IsThawedAbove}
 use Rattle.bz_running.specs.FromConsol.Facts.{LeadsTo}
 use Rattle.bz_layout.specs.declared.config.Config.{Config}
 use Rattle.bz_layout.specs.declared.thresholds.TheConstants.{MERGE_SLOTS, SPLIT_ABOVE, SPLIT_SLOTS}
 use Rattle.bz_alone.specs.Reads.{get_reads}
-use Rattle.bz_running.specs.Duties.{config_of, asks_of, end_of, needs_of, wants_of, facts_of}
+use Rattle.bz_running.specs.Duties.{config_of, asks_of, end_of, change_swaps, needs_of, wants_of, facts_of}
 use Rattle.bz_running.specs.GoingUp.{GoesUp, IsInScene}
 use Rattle.bz_running.specs.declared.running.AnyTask.{AnyTask}
 use Rattle.bz_slotted.specs.Readers.{live_of}
@@ -34,8 +34,11 @@ use Rattle.bz_task.specs.declared.view.KeyView.{KeyView}
 use Rattle.bz_task.specs.declared.view.LeafView.{LeafView}
 use Rattle.bz_word.specs.Statuses.{status}
 use Rattle.bz_world.specs.Inside.Acted.{IsBetween}
+use Rattle.bz_world.specs.Inside.Alone.{EndsAlone}
 use Rattle.bz_world.specs.Inside.Beginning.{supply_of}
 use Rattle.bz_world.specs.Inside.Kept.{IsAwake}
+use Rattle.bz_world.specs.Inside.Meant.{IsMeantFor}
+use Rattle.bz_world.specs.Inside.Room.{LacksRoomFor}
 use Rattle.bz_world.specs.Inside.Lonely.{WhereLonely, IsNotLonely, IsLonelyGet, HasLooked}
 use Rattle.bz_world.specs.WorldView.{GoesOn, Spends, HasRunOut, EndsFullRightly, GetsBriefly, is_delete}
 use Rattle.bz_world.specs.Inside.Serving.{IsTasked, IsWanted, MayGoOn}
@@ -122,6 +125,10 @@ GoesUpIn (Some x) next = GoesUp x.task next
 abbrev pub IsFullRightly : Parts → ℕ → Type 0
 IsFullRightly p w = end_in (get_or p.workers.items w None) ≡ Some (outcomes.Full Nodes) → length p.slots.free < wants_in (get_or p.workers.items w None)
 
+-- nor has it ended for want of a descriptor
+abbrev pub HasNotLackedSwaps : Parts → ℕ → Type 0
+HasNotLackedSwaps p w = end_in (get_or p.workers.items w None) ≢ Some (outcomes.Full Swaps)
+
 -- the call gets another task, and with it a way
 abbrev pub with_task : Option OpenCall → AnyTask → Option Path → Option OpenCall
 with_task slot task path = option_map (λ (x : OpenCall). record x { task = task; path = path }) slot
@@ -148,6 +155,7 @@ pub record MustTakeOn (p : Parts) (w : ℕ) (task : AnyTask) (way : Option Path)
   pub facts : facts_of task Waiting (known p w on)
   pub wanted : IsWanted p.config p.journal on.between.opened (wants_of task)
   pub lonely : WhereLonely p.journal.past w on.serving.call (IsLonelyGet p.access p.journal.past on.between.story w (record on.serving { task = task; path = way; had = had }) on.between.opened)
+  pub meant : on.serving.effect ≡ None → IsMeantFor on.serving.call task (known p w on).past
 
 -- the way to its leaf was found, which is to be read whole
 pub record MustRead (p : Parts) (w : ℕ) (path : Path) : Type 0 where
@@ -180,6 +188,11 @@ pub record HasEnded (p : Parts) (w : ℕ) (outcome : Outcome) : Type 0 where
   pub leads_found : (view : KeyView) → outcome ≡ outcomes.Key view → (path : Path) → on.serving.path ≡ Some path → IsPath (key_of on.serving.call) path (known p w on).past
   pub leads : (view : LeafView) → outcome ≡ outcomes.View view → (path : Path) → on.serving.path ≡ Some path → IsPath (key_of on.serving.call) path (known p w on).past
   pub full : outcome ≡ outcomes.Full Nodes → length p.slots.free < wants_of on.serving.task
+  pub swaps : outcome ≢ outcomes.Full Swaps
+  pub some : (view : LeafView) → outcome ≡ outcomes.View view → on.serving.path ≢ None
+  pub some_found : (view : KeyView) → outcome ≡ outcomes.Key view → on.serving.path ≢ None
+  pub alone : EndsAlone outcome (known p w on).past
+  pub meant : IsMeantFor on.serving.call on.serving.task (known p w on).past
 
 -- its leaf was read, by the path that was found, and it had no effect
 pub record MustAnswer (p : Parts) (w : ℕ) (view : LeafView) : Type 0 where
@@ -188,6 +201,7 @@ pub record MustAnswer (p : Parts) (w : ℕ) (view : LeafView) : Type 0 where
   pub leads : (path : Path) → on.serving.path ≡ Some path → IsPath (key_of on.serving.call) path (known p w on).past
   pub quiet : on.serving.effect ≡ None
   pub other : IsNotLonely p.journal.past w on.serving.call
+  pub some : on.serving.path ≢ None
 
 -- or its key was looked up there
 pub record MustAnswerKey (p : Parts) (w : ℕ) (view : KeyView) : Type 0 where
@@ -196,13 +210,15 @@ pub record MustAnswerKey (p : Parts) (w : ℕ) (view : KeyView) : Type 0 where
   pub leads : (path : Path) → on.serving.path ≡ Some path → IsPath (key_of on.serving.call) path (known p w on).past
   pub quiet : on.serving.effect ≡ None
   pub ends : EndsSo p w on (outcomes.Key view)
+  pub some : on.serving.path ≢ None
 
--- the way to its leaf, if it was found, is known, and it had no effect
+-- the way to its leaf was found and is known, and it had no effect
 pub record MustReadWhole (p : Parts) (w : ℕ) : Type 0 where
   pub on : MustGoOn p w
   pub leads : (path : Path) → on.serving.path ≡ Some path → IsPath (key_of on.serving.call) path (known p w on).past
   pub quiet : on.serving.effect ≡ None
   pub other : IsNotLonely p.journal.past w on.serving.call
+  pub some : on.serving.path ≢ None
 
 -- a task that makes its change, which is yet to begin
 pub record MustChange (p : Parts) (w : ℕ) (had : Option (List ℕ)) (task : AnyTask) : Type 0 where
@@ -211,6 +227,17 @@ pub record MustChange (p : Parts) (w : ℕ) (had : Option (List ℕ)) (task : An
   pub asks : asks_of task ≡ None
   pub facts : facts_of task Waiting (known p w reads.on)
   pub wants : wants_of task ≡ 0
+  pub changes : 0 < change_swaps task
+
+-- that leaf is frozen, or has no room for what the call puts there
+pub record MustRestructure (p : Parts) (w : ℕ) (view : LeafView) : Type 0 where
+  pub answer : MustAnswer p w view
+  pub lacks : LacksRoomFor answer.on.serving.call view.status
+
+-- it is not frozen
+pub record MustFreeze (p : Parts) (w : ℕ) (view : LeafView) : Type 0 where
+  pub must : MustRestructure p w view
+  pub thawed : (status view.status).frozen ≡ false
 
 -- its leaf, which was found by this path, is to be made anew
 pub record MustMakeAnew (p : Parts) (w : ℕ) (path : Path) (view : LeafView) : Type 0 where

@@ -3,6 +3,7 @@ use Rattle.std.specs.Prelude.{◌≡◌, ◌⊎◌, ℕ, ◌+◌, ◌^◌, ◌<�
 use Rattle.std.specs.FinMap.{len}
 use Rattle.bz_layout.specs.Config.{IsConfig}
 use Rattle.bz_recover.specs.Duties.{WalksIn}
+use Rattle.bz_rivals.specs.Notes.{SwapsNothing, AreNoted}
 use Rattle.bz_layout.specs.Slots.{FreeSlots}
 use Rattle.bz_layout.specs.declared.config.Config.{Config}
 use Rattle.bz_mark.specs.Log.{count_begins, count_page_calls}
@@ -20,7 +21,7 @@ use Rattle.bz_story.specs.Living.{IsLiving}
 use Rattle.bz_story.specs.Recovering as recovery
 use Rattle.bz_story.specs.Reviving as reviving
 use Rattle.bz_story.specs.Story.{Story}
-use Rattle.bz_swap.specs.SwapMemory.{has_effect, memory_words}
+use Rattle.bz_swap.specs.SwapMemory.{SwapMemory, has_effect, memory_words}
 use Rattle.bz_swap.specs.TakenStatuses.{IsTaken, BegunAreTaken}
 use Rattle.bz_world.specs.Inside.Lonely.{IsLonelyIn}
 use Rattle.bz_world.specs.Inside.Serving.{IsSlot}
@@ -50,14 +51,19 @@ pub record IsTabled (p : Parts) : Type 0 where
   pub pairs : CountsPairs p.config p.journal.start p.journal.past p.pairs
   pub power : power_of p.at_start p.journal.past ≡ p.power
 
+-- worker 0 does no swap; as many swaps were begun as descriptors are taken, and no other is noted as missed
+pub record KeepsNotes (m : SwapMemory) : Type 0 where
+  pub zero : SwapsNothing m 0
+  pub noted : AreNoted m
+
 -- each descriptor that was taken is one in which the journal shows a swap begun since power on, or one that a worker is about to
 -- begin
 pub record AreTaken (p : Parts) : Type 0 where
   pub shown : (s : ℕ) → s < p.config.swaps → IsTaken p.access s → is_taken s (since_on p.journal.past) ≡ true
   pub held : BegunAreTaken p.access
   pub few : p.access.taken ≤ p.config.swaps
-  -- their entries are known, and no other has had an effect
-  pub counted : length p.access.begun ≡ p.access.taken
+  pub notes : KeepsNotes p.access
+  -- no other has had an effect
   pub unused : (s : ℕ) → p.access.taken ≤ s → has_effect p.access s ≡ false
 
 -- a free slot is one of the memory, which was not reached in the image at power on and which nobody took since; each other one

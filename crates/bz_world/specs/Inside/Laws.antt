@@ -1,8 +1,13 @@
 -- The laws of the crates below on which the world's acts stand.
 use Rattle.bz_alone.specs.Brief.{LookUpsAreBrief, WaysAreBrief, BriefLookUpsGoOn, GetsAreBrief}
+use Rattle.bz_alone.specs.Counts.{OwnSwapsAreCounted}
 use Rattle.bz_alone.specs.Quiet.{EffectsNeverFall}
+use Rattle.bz_alone.specs.Restarts.{LoneRestartsAreRefusals}
+use Rattle.bz_alone.specs.Tasks.{LonersGoOn}
 use Rattle.bz_page.specs.Laws.{ViewsSayWhatImagesSay}
 use Rattle.bz_record.specs.Laws.{ViewsShowLeaves}
+use Rattle.bz_rivals.specs.Notes.{NotesAreOfBegun, ZeroSwapsNothing}
+use Rattle.bz_rivals.specs.Wins.{OwnSwapsWin, ExpectedStand}
 use Rattle.bz_sight.specs.Acts.{FlushingStepsFlush, QuietStepsPass, StepsLeaveCaches, StoringStepsStore}
 use Rattle.bz_sight.specs.Effects.{EffectsTakePlace}
 use Rattle.bz_sight.specs.Passing.{ActsPass}
@@ -32,6 +37,21 @@ pub record LonelyLaws : Type 0 where
   pub fall : EffectsNeverFall
   pub scenes : ScenesAreSeen
 
+-- by which the swap memory keeps what is known of its descriptors
+pub record BegunLaws : Type 0 where
+  pub taken : BegunStayTaken
+  pub zero : ZeroSwapsNothing
+  pub noted : NotesAreOfBegun
+
+-- by which a worker that is alone does not begin again
+pub record AloneLaws : Type 0 where
+  pub counted : OwnSwapsAreCounted
+  pub goes_on : LonersGoOn
+  pub refused : LoneRestartsAreRefusals
+  pub wins : OwnSwapsWin
+  pub stand : ExpectedStand
+  pub scenes : ScenesAreSeen
+
 -- by which an act without effect leads on
 pub record StepLaws : Type 0 where
   pub journal : JournalLaws
@@ -47,9 +67,10 @@ pub record StepLaws : Type 0 where
   pub flushing : FlushingStepsFlush
   pub hidden : OwnWordsAreHidden
   pub taken : TakenStatusesStay
-  pub begun : BegunStayTaken
+  pub begun : BegunLaws
   pub stay : EffectsStayOpen
   pub lonely : LonelyLaws
+  pub lone : AloneLaws
 
 -- and by which the effect of a swap does
 pub record StrikeLaws : Type 0 where
@@ -74,8 +95,9 @@ pub record StartLaws : Type 0 where
   pub hidden : OwnWordsAreHidden
   pub may : TasksMayStart
   pub starts : StartsAreSeen
-  pub begun : BegunStayTaken
+  pub begun : BegunLaws
   pub lonely : LonelyLaws
+  pub lone : AloneLaws
 
 -- and by which the journal takes the marks of calls
 pub record EndLaws : Type 0 where

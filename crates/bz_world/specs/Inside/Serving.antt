@@ -27,6 +27,8 @@ use Rattle.bz_task.specs.declared.path.Path.{Path}
 use Rattle.bz_task.specs.declared.todo.Todo.{Todo}
 use Rattle.bz_task.specs.declared.todo.Todo.TheVariants as todo
 use Rattle.bz_word.specs.declared.entry.Entry.{Entry}
+use Rattle.bz_world.specs.Inside.Alone.{WaitsAlone}
+use Rattle.bz_world.specs.Inside.Meant.{IsMeant}
 use Rattle.bz_world.specs.WorldView.{is_delete}
 use Rattle.bz_world.specs.declared.serving.OpenCall.{OpenCall}
 
@@ -124,6 +126,8 @@ pub record IsTasked (c : Config) (called : Call) (way : Option Path) (had : Opti
   pub laws : AreLaws task
   pub lookup : IsLookup (key_of called) way task
   pub change : (makes_no_change task ≡ true) ⊎ IsChangeFor called had (change_of task)
+  -- where no way was found, it ends in no leaf: it is a look-up after whichever way
+  pub wayless : way ≡ None → (other : Option Path) → IsLookup (key_of called) other task
 
 -- the task goes on: the worker does what it asked for, and it knows what it should
 pub record IsServing (c : Config) (m : SwapMemory) (log : Log) (story : Story) (owners : List ℕ) (w : ℕ) (x : OpenCall) : Type 0 where
@@ -136,6 +140,8 @@ pub record IsServing (c : Config) (m : SwapMemory) (log : Log) (story : Story) (
   pub finishing : MayGoOn x ⊎ IsFinishing m w x
   pub facts : facts_of x.task (stage_in m (doing_of m w)) (scene c log.past story w call_open.look.since opened)
   pub covered : IsCovered (story.took w) (story.filled w) (needs_of x.task)
+  pub alone : WaitsAlone m (doing_of m w) x.task (scene c log.past story w call_open.look.since opened).past
+  pub meant : IsMeant x (scene c log.past story w call_open.look.since opened).past
 
 -- no call of the worker is open, it does nothing, and it has stored into each slot that it took
 pub record IsAtRest (m : SwapMemory) (log : Log) (story : Story) (w : ℕ) : Type 0 where

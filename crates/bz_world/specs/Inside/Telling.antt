@@ -1,5 +1,5 @@
 -- A task that is told what came of what it asked for.
-use Rattle.std.specs.Prelude.{◌≡◌, ◌<◌, ℕ, List, Option, Some, None, get_or}
+use Rattle.std.specs.Prelude.{◌≡◌, ◌≢◌, ◌<◌, ℕ, List, Option, Some, None, get_or}
 use Rattle.bz_call.specs.Map.{key_of}
 use Rattle.bz_layout.specs.Slots.{FreeSlots}
 use Rattle.bz_running.specs.Duties.{config_of, asks_of, needs_of, facts_of}
@@ -49,10 +49,11 @@ pub record LacksDescriptor (p : Parts) (todo : Todo) : Type 0 where
   pub is : todo ≡ Swap entries
   pub spent : p.access.taken ≡ p.config.swaps
 
--- the way to the leaf of a call without effect, if it was found, is one of the memory since its look-up began
+-- the way to the leaf of a call without effect was found, and is one of the memory since its look-up began
 pub record KnowsWay (p : Parts) (w : ℕ) (x : OpenCall) (between : IsBetween p w x) : Type 0 where
   pub leads : (path : Path) → x.path ≡ Some path → IsPath (key_of x.call) path (scene p.config p.journal.past between.story w between.call_open.look.since between.opened).past
   pub quiet : x.effect ≡ None
+  pub some : x.path ≢ None
 
 -- a task that is to be told this, with such a way
 pub record MustTellOf (p : Parts) (w : ℕ) (seen : Seen) : Type 0 where

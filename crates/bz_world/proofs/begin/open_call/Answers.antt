@@ -29,5 +29,5 @@ returns c =
     })) (sym c.push.ensures)
     (has-begun c.args.parts.now c.requires.kept c.args.w c.args.call c.requires.may c.end_laws.ensures c.start_laws.ensures (c.index.result.now + 1)
     (ap (λ m. m + 1) (number-is c.args.parts.now c.requires.kept c.args.w c.args.call c.requires.may c.index.result.now c.index.ensures))
-    c.seek-task.result c.seek-task.ensures.config c.laws.ensures c.seek-task.ensures.silent (subst (λ k. IsLookup k None c.seek-task.result) c.key_of.ensures (c.seek-task.ensures.ends None))
-    c.seek-task.ensures.asks c.seek-task.ensures.facts c.seek-task.ensures.wants c.seek-task.ensures.look c.seek-task.ensures.reads c.looks.ensures c.start_read.new.self c.start_read.ensures.started c.start_read.ensures.held))
+    c.seek-task.result c.seek-task.ensures.config c.laws.ensures c.seek-task.ensures.silent (λ way. subst (λ k. IsLookup k way c.seek-task.result) c.key_of.ensures (c.seek-task.ensures.ends way))
+    c.seek-task.ensures.asks c.seek-task.ensures.facts c.seek-task.ensures.wants c.seek-task.ensures.look c.seek-task.ensures.reads c.looks.ensures c.seek-task.ensures.swaps c.start_read.new.self c.start_read.ensures.started c.start_read.ensures.held))

@@ -15,7 +15,7 @@ use Rattle.bz_world.proofs.changes.begin_change.Goals as goal
 
 pub tell-todo-requires : goal.tell-todo-requires
 tell-todo-requires c = taken-begins c.args.parts.now c.args.w c.args.task c.args.had None c.requires.change.reads.on.serving.path (takes c.args.parts.now c.args.w c.args.had c.args.task c.requires.change) c.set_change.new.slot slot
-    (tells-nothing c.args.parts.now c.args.w c.requires.change.reads.on c.args.had c.requires.change.reads.quiet) refl
+    (tells-nothing c.args.parts.now c.args.w c.requires.change.reads.on c.args.had c.requires.change.reads.quiet) c.alone_laws.ensures refl
   where
     slot : c.set_change.new.slot ≡ Some (record c.requires.change.reads.on.serving { task = c.args.task; had = c.args.had })
     slot = c.set_change.ensures ∙ ap (λ (z : Option OpenCall). with_change z c.args.task c.args.had) (slot-is c.args.parts.now c.args.w c.requires.change.reads.on c.index_mut.result.now c.index_mut.ensures.value)
@@ -23,7 +23,7 @@ tell-todo-requires c = taken-begins c.args.parts.now c.args.w c.args.task c.args
 pub go_on_changing-requires-clause-asks : goal.go_on_changing-requires-clause-asks
 go_on_changing-requires-clause-asks c = c.tell-todo.ensures.knows
     (begins-knowing c.args.parts.now c.args.w c.args.task c.args.had None c.requires.change.reads.on.serving.path (takes c.args.parts.now c.args.w c.args.had c.args.task c.requires.change) c.set_change.new.slot slot
-    (tells-nothing c.args.parts.now c.args.w c.requires.change.reads.on c.args.had c.requires.change.reads.quiet) refl (knows c.args.parts.now c.args.w c.requires.change.reads) refl)
+    (tells-nothing c.args.parts.now c.args.w c.requires.change.reads.on c.args.had c.requires.change.reads.quiet) c.alone_laws.ensures refl (knows c.args.parts.now c.args.w c.requires.change.reads) refl)
   where
     slot : c.set_change.new.slot ≡ Some (record c.requires.change.reads.on.serving { task = c.args.task; had = c.args.had })
     slot = c.set_change.ensures ∙ ap (λ (z : Option OpenCall). with_change z c.args.task c.args.had) (slot-is c.args.parts.now c.args.w c.requires.change.reads.on c.index_mut.result.now c.index_mut.ensures.value)

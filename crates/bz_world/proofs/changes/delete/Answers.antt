@@ -1,16 +1,17 @@
-use Rattle.std.proofs.Common.{inl, ap, ◌∙◌, Some, None}
+use Rattle.std.proofs.Common.{arith, ap, ◌∙◌, Some, None}
 use Rattle.bz_call.specs.Map.{key_of}
 use Rattle.bz_world.proofs.Changing.{must-change, some-found, delete-changes}
+use Rattle.bz_world.proofs.TakingOn.{some-path}
 use Rattle.bz_world.proofs.changes.delete.Goals as goal
 
 pub begin_change-requires-clause-change : goal.begin_change-requires-clause-change
 begin_change-requires-clause-change c =
     must-change c.start_laws.ensures.scenes c.args.parts.now c.args.w c.args.view.now c.requires.must.answer c.args.key (ap key_of c.requires.must.may)
     c.delete-task.result (Some c.args.had) c.delete-task.ensures.config c.laws.ensures
-    (delete-changes c.requires.must.answer.on.serving.call c.args.key c.args.had _ c.requires.must.may (c.delete-task.ensures.change ∙ ap (λ old. record { key = c.args.key; old = old; new = None }) c.requires.present)) c.delete-task.ensures.ends c.delete-task.ensures.asks c.delete-task.ensures.wants c.delete-task.ensures.facts
+    (delete-changes c.requires.must.answer.on.serving.call c.args.key c.args.had _ c.requires.must.may (c.delete-task.ensures.change ∙ ap (λ old. record { key = c.args.key; old = old; new = None }) c.requires.present)) c.delete-task.ensures.ends c.delete-task.ensures.asks c.delete-task.ensures.wants (omega (arith, c.delete-task.ensures.takes)) c.delete-task.ensures.facts
 
 pub delete-task-requires : goal.delete-task-requires
 delete-task-requires c = record { present = some-found c.args.view.now.found c.args.had c.requires.present }
 
-pub look_up-requires : goal.look_up-requires
-look_up-requires c = record { on = c.requires.must.answer.on; may = inl c.requires.must.answer.quiet; other = λ key get lonely. absurd (cc (c.requires.must.may, get)) }
+pub found_path-path-requires : goal.found_path-path-requires
+found_path-path-requires c = some-path c.args.parts.now c.args.w c.requires.must.answer.on c.index.result.now c.index.ensures c.requires.must.answer.some

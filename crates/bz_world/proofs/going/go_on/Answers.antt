@@ -10,7 +10,7 @@ use Rattle.bz_world.specs.Inside.Lonely.{IsNotLonely, IsNotLonelyIn}
 use Rattle.bz_world.specs.Inside.Telling.{HasToldIn}
 use Rattle.bz_world.specs.declared.parts.Parts.{Parts}
 use Rattle.bz_world.proofs.Supplies.{told-few, told-fewer, few-asked}
-use Rattle.bz_world.proofs.TakingOn.{must-go-on, ended-by, lacks-told, lacks-swap, lacks-other, told-went}
+use Rattle.bz_world.proofs.TakingOn.{must-go-on, ended-by, lacks-told, lacks-swap, lacks-other, told-went, went-started}
 use Rattle.bz_world.proofs.going.go_on.Goals as goal
 use Rattle.bz_world.proofs.going.go_on.Goals.{in-Finish, in_default}
 
@@ -28,7 +28,7 @@ look_up-requires c =
     }
 
 pub tell-requires : goal.tell-requires
-tell-requires c = subst (λ (p : Parts). MustTell p c.args.w NoSwap) (sym (c.start.ensures.same c.if-start.false)) (lacks-told c.args.parts.now c.args.w c.args.todo c.requires.asks (c.start.ensures.lacks c.if-start.false))
+tell-requires c = subst (λ (p : Parts). MustTell p c.args.w NoSwap) (sym (c.start.ensures.same c.if-start.false)) (lacks-told c.alone_laws.ensures c.args.parts.now c.args.w c.args.todo c.requires.asks (c.start.ensures.lacks c.if-start.false))
 
 pub end_swapless-requires-clause-lacks : goal.end_swapless-requires-clause-lacks
 end_swapless-requires-clause-lacks c =
@@ -72,3 +72,6 @@ returns-else-start-clause-few c = omega (
   where
     told : HasToldIn (get_or c.args.parts.now.workers.items c.args.w None) NoSwap (length c.args.parts.now.journal.past) c.args.parts.now.slots c.tell.result (get_or c.tell.new.parts.workers.items c.args.w None) c.tell.new.parts.slots
     told = subst (λ (p : Parts). HasToldIn (get_or p.workers.items c.args.w None) NoSwap (length p.journal.past) p.slots c.tell.result (get_or c.tell.new.parts.workers.items c.args.w None) c.tell.new.parts.slots) (c.start.ensures.same c.if-start.false) c.tell.ensures.told
+
+pub returns-then-start-clause-went : goal.returns-then-start-clause-went
+returns-then-start-clause-went c = went-started c.args.parts.now c.args.parts.now.workers c.args.w c.start.new.parts (c.start.ensures.started c.if-start.true) c.start.ensures.rest c.start.ensures.taken c.start.ensures.others

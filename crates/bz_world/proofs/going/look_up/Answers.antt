@@ -1,4 +1,4 @@
-use Rattle.std.proofs.Common.{refl, sym, ap, ◌∙◌, Option, Some, None}
+use Rattle.std.proofs.Common.{refl, sym, ap, ◌∙◌, inl, Option, Some, None}
 use Rattle.std.specs.Vec.{with_item}
 use Rattle.bz_call.specs.Map.{key_of}
 use Rattle.bz_task.specs.declared.todo.Todo.TheVariants.{Read}
@@ -9,12 +9,13 @@ use Rattle.bz_world.proofs.going.look_up.Goals as goal
 
 pub start-requires-clause-asks : goal.start-requires-clause-asks
 start-requires-clause-asks c = taken-asks c.args.parts.now c.args.w c.seek-task.result c.requires.on.serving.had (Some (Read 2)) None
-    (lookup-taken c.args.parts.now c.args.w (looks-anew c.args.parts.now c.args.w c.requires.on) c.requires.may c.seek-task.result None (Some (Read 2)) c.key_of.result c.seek-task.ensures.config c.laws.ensures c.seek-task.ensures.silent (c.seek-task.ensures.ends None)
+    (lookup-taken c.args.parts.now c.args.w (looks-anew c.args.parts.now c.args.w c.requires.on) c.requires.may c.seek-task.result None (Some (Read 2)) c.key_of.result c.seek-task.ensures.config c.laws.ensures c.seek-task.ensures.silent (c.seek-task.ensures.ends None) (λ none. c.seek-task.ensures.ends)
     (c.key_of.ensures ∙ ap key_of (sym (call-is c.args.parts.now c.args.w c.requires.on c.index.result.now c.called-call.result c.index.ensures c.called-call.ensures)))
     c.seek-task.ensures.asks (c.seek-task.ensures.facts (known c.args.parts.now c.args.w (looks-anew c.args.parts.now c.args.w c.requires.on)) (has-filled c.args.parts.now c.args.w (looks-anew c.args.parts.now c.args.w c.requires.on)))
-    (none-wanted c.args.parts.now c.args.w (looks-anew c.args.parts.now c.args.w c.requires.on) c.seek-task.result c.seek-task.ensures.wants) (λ key get lonely. absurd (c.requires.other key get lonely)))
+    (none-wanted c.args.parts.now c.args.w (looks-anew c.args.parts.now c.args.w c.requires.on) c.seek-task.result c.seek-task.ensures.wants) (λ key get lonely. absurd (c.requires.other key get lonely))
+    (λ quiet. inl (record { slots = c.seek-task.ensures.wants; swaps = inl c.seek-task.ensures.swaps })))
     c.set_task.new.slot (c.set_task.ensures ∙ ap (λ (z : Option OpenCall). with_task z c.seek-task.result None) (slot-is c.args.parts.now c.args.w c.requires.on c.index_mut.result.now c.index_mut.ensures.value))
-    c.requires.on.between.call_open.told c.requires.other (Read 2) refl
+    c.requires.on.between.call_open.told c.start_laws.ensures.lone c.requires.other (Read 2) (λ e. absurd (cc e)) refl
 
 pub returns-clause-went : goal.returns-clause-went
 returns-clause-went c = went-started c.args.parts.now (with_item c.args.parts.now.workers c.args.w c.set_task.new.slot) c.args.w c.start.new.parts (starts-always _ 2 c.start.new.parts c.start.result c.start.ensures.started c.start.ensures.lacks) c.start.ensures.rest c.start.ensures.taken c.start.ensures.others

@@ -1,4 +1,4 @@
-use Rattle.std.proofs.Common.{◌≡◌, refl, sym, ap, subst, ◌∙◌, Option, Some, None}
+use Rattle.std.proofs.Common.{◌≡◌, refl, sym, ap, subst, ◌∙◌, inl, Option, Some, None}
 use Rattle.std.specs.Vec.{with_item}
 use Rattle.bz_call.specs.Map.{key_of}
 use Rattle.bz_task.specs.Outcomes.{IsPath}
@@ -9,12 +9,13 @@ use Rattle.bz_world.proofs.lookups.read_leaf.Goals as goal
 
 pub begin_task-requires-clause-begins : goal.begin_task-requires-clause-begins
 begin_task-requires-clause-begins c = task-begins c.args.parts.now c.args.w c.read_leaf-task.result c.requires.path.on.serving.had None (Some c.args.path)
-    (lookup-taken c.args.parts.now c.args.w c.requires.path.on c.requires.path.may c.read_leaf-task.result (Some c.args.path) None c.key_of.result c.read_leaf-task.ensures.config c.laws.ensures c.read_leaf-task.ensures.silent c.read_leaf-task.ensures.ends
+    (lookup-taken c.args.parts.now c.args.w c.requires.path.on c.requires.path.may c.read_leaf-task.result (Some c.args.path) None c.key_of.result c.read_leaf-task.ensures.config c.laws.ensures c.read_leaf-task.ensures.silent c.read_leaf-task.ensures.ends (λ none. absurd (cc none))
     key c.read_leaf-task.ensures.asks (c.read_leaf-task.ensures.facts (known c.args.parts.now c.args.w c.requires.path.on) (known-scene c.start_laws.ensures.scenes c.args.parts.now c.args.w c.requires.path.on)
     (subst (λ k. IsPath k c.args.path (known c.args.parts.now c.args.w c.requires.path.on).past) (sym key) c.requires.path.leads))
-    (none-wanted c.args.parts.now c.args.w c.requires.path.on c.read_leaf-task.result c.read_leaf-task.ensures.wants) (λ key get lonely. absurd (c.requires.path.other key get lonely)))
+    (none-wanted c.args.parts.now c.args.w c.requires.path.on c.read_leaf-task.result c.read_leaf-task.ensures.wants) (λ key get lonely. absurd (c.requires.path.other key get lonely))
+    (λ quiet. inl (record { slots = c.read_leaf-task.ensures.wants; swaps = inl c.read_leaf-task.ensures.swaps })))
     c.set_task.new.slot (c.set_task.ensures ∙ ap (λ (z : Option OpenCall). with_task z c.read_leaf-task.result (Some c.args.path)) (slot-is c.args.parts.now c.args.w c.requires.path.on c.index_mut.result.now c.index_mut.ensures.value))
-    c.requires.path.on.between.call_open.told c.requires.path.other refl
+    c.requires.path.on.between.call_open.told c.start_laws.ensures.lone c.requires.path.other refl
   where
     key : c.key_of.result ≡ key_of c.requires.path.on.serving.call
     key = c.key_of.ensures ∙ ap key_of (sym (call-is c.args.parts.now c.args.w c.requires.path.on c.index.result.now c.called-call.result c.index.ensures c.called-call.ensures))

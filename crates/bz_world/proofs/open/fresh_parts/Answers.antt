@@ -15,7 +15,7 @@ parts_over-requires-clause-counted c =
       says = c.fresh_words_say.ensures;
       empty = c.fresh_memory_is_empty.ensures;
       reaches = c.fresh_memory_reaches_slot_zero.ensures;
-      taken = c.begun_stay_taken.ensures;
+      begun = c.begun_laws.ensures;
       sound = c.fresh_journals_are_sound.ensures;
       living = c.fresh_stories_live.ensures;
     }) c.args.config.now c.requires)
@@ -26,7 +26,7 @@ returns-clause-kept c =
       says = c.fresh_words_say.ensures;
       empty = c.fresh_memory_is_empty.ensures;
       reaches = c.fresh_memory_reaches_slot_zero.ensures;
-      taken = c.begun_stay_taken.ensures;
+      begun = c.begun_laws.ensures;
       sound = c.fresh_journals_are_sound.ensures;
       living = c.fresh_stories_live.ensures;
     }) c.args.config.now _ _ (c.deref.ensures.value ∙ c.in_ok-start.ensures) c.in_ok-parts.ensures.config

@@ -1,8 +1,11 @@
-use Rattle.std.proofs.Common.{◌≡◌, refl, sym, ap, ◌∙◌, Option, None}
+use Rattle.std.proofs.Common.{◌≡◌, ℕ, List, refl, sym, ap, subst, ◌∙◌, Option, None}
 use Rattle.bz_call.specs.Map.{key_of}
 use Rattle.bz_layout.specs.declared.thresholds.TheConstants.{SPLIT_SLOTS}
 use Rattle.std.specs.Vec.{with_item}
-use Rattle.bz_world.specs.Inside.Going.{with_task}
+use Rattle.bz_running.specs.MadeFor.{IsMadeFor}
+use Rattle.bz_task.specs.Outcomes.{IsView}
+use Rattle.bz_world.specs.Inside.Going.{known, with_task}
+use Rattle.bz_world.specs.Inside.Meant.{words_asked}
 use Rattle.bz_world.specs.declared.serving.OpenCall.{OpenCall}
 use Rattle.bz_world.proofs.Changing.{needs-split}
 use Rattle.bz_world.proofs.GoingUp.{split-taken}
@@ -18,12 +21,18 @@ begin_task-requires-clause-begins c = task-begins (record c.args.parts.now { pag
     (split-taken c.start_laws.ensures.scenes (record c.args.parts.now { page = c.split_below-task.new.page }) c.args.w c.args.path c.args.view.now (anew-pages c.args.parts.now c.args.w c.args.path c.args.view.now c.split_below-task.new.page c.requires.split.anew)
     c.key_of.result key c.split_below-task.result c.split_below-task.ensures.config c.laws.ensures c.split_below-task.ensures.silent c.split_below-task.ensures.ends c.split_below-task.ensures.asks SPLIT_SLOTS c.split_below-task.ensures.wants
     (needs-split c.start_laws.ensures.scenes c.answer_laws.ensures c.args.parts.now c.args.w c.args.view.now c.requires.split.anew.answer (key_of c.requires.split.anew.answer.on.serving.call) refl c.requires.split.frozen c.requires.split.many)
-    c.split_below-task.ensures.facts)
+    c.split_below-task.ensures.facts made)
     c.set_task.new.slot (c.set_task.ensures ∙ ap (λ (z : Option OpenCall). with_task z c.split_below-task.result None) (slot-is (record c.args.parts.now { page = c.split_below-task.new.page }) c.args.w (anew-pages c.args.parts.now c.args.w c.args.path c.args.view.now c.split_below-task.new.page c.requires.split.anew).answer.on c.index_mut.result.now c.index_mut.ensures.value))
-    c.requires.split.anew.answer.on.between.call_open.told c.requires.split.anew.answer.other refl
+    c.requires.split.anew.answer.on.between.call_open.told c.start_laws.ensures.lone c.requires.split.anew.answer.other refl
   where
     key : c.key_of.result ≡ key_of c.requires.split.anew.answer.on.serving.call
     key = c.key_of.ensures ∙ ap key_of (sym (call-is c.args.parts.now c.args.w c.requires.split.anew.answer.on c.index.result.now c.called-call.result c.index.ensures c.called-call.ensures))
+
+    -- it is made for the key of the call
+    made : IsMadeFor c.split_below-task.result (key_of c.requires.split.anew.answer.on.serving.call) (words_asked c.requires.split.anew.answer.on.serving.call) (known c.args.parts.now c.args.w c.requires.split.anew.answer.on).past
+    made = subst (λ (k : List ℕ). IsMadeFor c.split_below-task.result k (words_asked c.requires.split.anew.answer.on.serving.call) (known c.args.parts.now c.args.w c.requires.split.anew.answer.on).past) key
+        (c.split_below-task.ensures.made_for (words_asked c.requires.split.anew.answer.on.serving.call) (known c.args.parts.now c.args.w c.requires.split.anew.answer.on).past
+        (subst (λ (k : List ℕ). IsView k c.args.view.now (known c.args.parts.now c.args.w c.requires.split.anew.answer.on).past) (sym key) c.requires.split.anew.answer.viewed))
 
 pub returns : goal.returns
 returns c = went-anew c.args.parts.now (with_item c.args.parts.now.workers c.args.w c.set_task.new.slot) c.split_below-task.new.page c.args.w c.begin_task.result c.begin_task.new.parts c.begin_task.ensures

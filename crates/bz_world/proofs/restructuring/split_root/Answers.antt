@@ -2,7 +2,8 @@ use Rattle.std.proofs.Common.{refl, ap, ◌∙◌, Option, None}
 use Rattle.bz_call.specs.Map.{key_of}
 use Rattle.bz_layout.specs.declared.thresholds.TheConstants.{SPLIT_SLOTS}
 use Rattle.std.specs.Vec.{with_item}
-use Rattle.bz_world.specs.Inside.Going.{with_task}
+use Rattle.bz_world.specs.Inside.Going.{known, with_task}
+use Rattle.bz_world.specs.Inside.Meant.{words_asked}
 use Rattle.bz_world.specs.declared.serving.OpenCall.{OpenCall}
 use Rattle.bz_world.proofs.Changing.{needs-split}
 use Rattle.bz_world.proofs.MakingAnew.{anew-taken, anew-pages}
@@ -17,9 +18,9 @@ begin_task-requires-clause-begins c = task-begins (record c.args.parts.now { pag
     (anew-taken c.start_laws.ensures.scenes (record c.args.parts.now { page = c.split_root-task.new.page }) c.args.w c.args.path c.args.view.now (anew-pages c.args.parts.now c.args.w c.args.path c.args.view.now c.split_root-task.new.page c.requires.split.anew)
     c.split_root-task.result c.split_root-task.ensures.config c.laws.ensures c.split_root-task.ensures.silent c.split_root-task.ensures.ends c.split_root-task.ensures.asks SPLIT_SLOTS c.split_root-task.ensures.wants
     (needs-split c.start_laws.ensures.scenes c.answer_laws.ensures c.args.parts.now c.args.w c.args.view.now c.requires.split.anew.answer (key_of c.requires.split.anew.answer.on.serving.call) refl c.requires.split.frozen c.requires.split.many)
-    c.split_root-task.ensures.facts)
+    c.split_root-task.ensures.facts (c.split_root-task.ensures.made_for (key_of c.requires.split.anew.answer.on.serving.call) (words_asked c.requires.split.anew.answer.on.serving.call) (known c.args.parts.now c.args.w c.requires.split.anew.answer.on).past c.requires.split.anew.answer.viewed))
     c.set_task.new.slot (c.set_task.ensures ∙ ap (λ (z : Option OpenCall). with_task z c.split_root-task.result None) (slot-is (record c.args.parts.now { page = c.split_root-task.new.page }) c.args.w (anew-pages c.args.parts.now c.args.w c.args.path c.args.view.now c.split_root-task.new.page c.requires.split.anew).answer.on c.index_mut.result.now c.index_mut.ensures.value))
-    c.requires.split.anew.answer.on.between.call_open.told c.requires.split.anew.answer.other refl
+    c.requires.split.anew.answer.on.between.call_open.told c.start_laws.ensures.lone c.requires.split.anew.answer.other refl
 
 pub returns : goal.returns
 returns c = went-anew c.args.parts.now (with_item c.args.parts.now.workers c.args.w c.set_task.new.slot) c.split_root-task.new.page c.args.w c.begin_task.result c.begin_task.new.parts c.begin_task.ensures

@@ -1,10 +1,11 @@
-use Rattle.std.proofs.Common.{◌≡◌, ◌<◌, length, sym, ap, subst, ◌∙◌, Some}
+use Rattle.std.proofs.Common.{◌≡◌, ◌<◌, length, refl, sym, ap, subst, ◌∙◌, Some}
+use Rattle.bz_call.specs.Map.{key_of}
 use Rattle.bz_running.specs.Duties.{end_of}
 use Rattle.bz_task.specs.Scene.{Scene}
 use Rattle.bz_task.specs.declared.todo.Outcome.TheVariants.{Path, View, Key}
 use Rattle.bz_task.specs.declared.todo.Todo.TheVariants.{Finish}
 use Rattle.bz_world.specs.Inside.Going.{MustGoOn, effect_in, wants_in, known}
-use Rattle.bz_world.proofs.TakingOn.{slot-is, must-go-on, ended-by}
+use Rattle.bz_world.proofs.TakingOn.{slot-is, must-go-on, ended-by, no-view, no-key}
 use Rattle.bz_world.proofs.settle.settle.Goals as goal
 
 pub settle_effective-requires-clause-ends : goal.settle_effective-requires-clause-ends
@@ -40,4 +41,9 @@ settle_quiet-requires-clause-ends c =
       found = λ view is. tasked.lookup.found view here (tasked.laws.ends here (Key view) facts (ended ∙ ap Some is)).0;
       leads_found = λ view is path way. tasked.lookup.leads_found path way view here (tasked.laws.ends here (Key view) facts (ended ∙ ap Some is)).0;
       leads = λ view is path way. tasked.lookup.leads path way view here (tasked.laws.ends here (View view) facts (ended ∙ ap Some is)).0;
+      alone = let a = c.requires.ends.asking.alone in record { others = a.others; made = a.made; counted = a.counted; stands = λ none again. a.stands refl none (ended ∙ ap Some again) };
+      meant = c.requires.ends.asking.meant (ap effect_in (sym (slot-is c.args.parts.now c.args.w on c.index.result.now c.index.ensures)) ∙ sym c.in-None.ensures);
+      some = λ view is none. no-view (key_of on.serving.call) on.serving.task (tasked.wayless none) view here (tasked.laws.ends here (View view) facts (ended ∙ ap Some is)).0;
+      some_found = λ view is none. no-key (key_of on.serving.call) on.serving.task (tasked.wayless none) view here (tasked.laws.ends here (Key view) facts (ended ∙ ap Some is)).0;
+      swaps = λ is. c.requires.swaps (c.outcome_of-outcome.ensures ∙ ap Some is);
     }

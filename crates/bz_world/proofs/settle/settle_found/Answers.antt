@@ -16,6 +16,7 @@ answer-requires-clause-view c =
       on = on;
       viewed = s.must.asking.tasked.lookup.found c.in-Key.view (known c.args.parts.now c.args.w on) (s.must.asking.tasked.laws.ends (known c.args.parts.now c.args.w on) (Key c.in-Key.view) s.must.asking.facts ended).0;
       leads = s.knows.leads;
+      some = s.knows.some;
       quiet = s.knows.quiet;
       ends = (s.must.asking.facts, ended);
     }

@@ -1,4 +1,4 @@
-use Rattle.std.proofs.Common.{ap, subst, sym, inl}
+use Rattle.std.proofs.Common.{ap, subst, sym}
 use Rattle.bz_call.specs.declared.replies.Spent.TheVariants.{Nodes, Height}
 use Rattle.bz_task.specs.declared.todo.Outcome.TheVariants.{Full}
 use Rattle.bz_world.specs.Inside.Going.{HasEnded, IsShort, IsOutOfSlots}
@@ -20,8 +20,8 @@ end_full-requires-in-Height-clause-short c =
     let short : IsShort c.args.parts.now c.args.w Height = record { on = e.on; quiet = e.quiet; cause = too-high c.start_laws.ensures.scenes c.args.parts.now c.args.w e; out = tt } in
     subst (IsShort c.args.parts.now c.args.w) (sym c.in-Height.is) short
 
-pub look_up-requires : goal.look_up-requires
-look_up-requires c = record { on = c.requires.ends.on; may = inl c.requires.ends.quiet; other = other-ended c.args.parts.now c.args.w c.requires.ends.on (Full c.args.spent) c.requires.ends.end (λ path e. cc e) (λ view e. cc e) }
+pub unreachable-requires : goal.unreachable-requires
+unreachable-requires c = c.requires.ends.swaps (ap Full c.in-Swaps.is)
 
 pub end_full-requires-clause-other : goal.end_full-requires-clause-other
 end_full-requires-clause-other c = other-in c.args.parts.now c.args.w c.requires.ends.on (other-ended c.args.parts.now c.args.w c.requires.ends.on (Full c.args.spent) c.requires.ends.end (λ path e. cc e) (λ view e. cc e))

@@ -1,4 +1,4 @@
-use Rattle.std.proofs.Common.{length, arith, None}
+use Rattle.std.proofs.Common.{length, arith, ap, ◌∙◌, Some, None}
 use Rattle.std.specs.Prelude.{get_or}
 use Rattle.bz_world.proofs.Stepping.{stepped-on, stepped-through}
 use Rattle.bz_world.proofs.Supplies.{told-few, told-fewer, few-told}
@@ -16,3 +16,6 @@ returns-in-Some-clause-steps c = stepped-through c.args.parts.now c.act.new.part
 
 pub returns-in-None-clause-steps : goal.returns-in-None-clause-steps
 returns-in-None-clause-steps c = stepped-on c.args.parts.now c.act.new.parts c.args.w c.requires.kept (c.act.ensures.on c.in-None.is) c.act.ensures.made c.act.ensures.taken
+
+pub follow-requires-clause-swaps : goal.follow-requires-clause-swaps
+follow-requires-clause-swaps c = c.tell-todo.ensures.swaps (λ none. c.act.ensures.swaps (c.in-Some.is ∙ ap Some none))
