@@ -4,17 +4,18 @@ use Rattle.std.specs.Prelude.{Some}
 use Rattle.bz_layout.specs.Addresses.{node_address}
 use Rattle.bz_layout.specs.declared.config.Config.{Config}
 use Rattle.bz_layout.specs.declared.sizes.TheConstants.{NODE_WORDS, STATUS_AT}
+use Rattle.bz_layout.specs.declared.thresholds.TheConstants.{SPLIT_ABOVE}
 use Rattle.bz_layout.specs.Slots.{FreeSlots}
 use Rattle.bz_halves.specs.Parents.{parted_words}
 use Rattle.bz_node.specs.Reading.{children_in}
 use Rattle.bz_node.specs.Records.{IsAbove, IsBelow}
-use Rattle.bz_slotted.specs.Readers.{found_of}
+use Rattle.bz_slotted.specs.Readers.{found_of, live_of}
 use Rattle.bz_slotted.specs.ReadingLaws.{node_of}
 use Rattle.bz_slotted.specs.Rules.{node_fault}
 use Rattle.bz_slotted.specs.Page.{Page}
 use Rattle.bz_slotted.specs.Records.{pointer_at}
 use Rattle.bz_word.specs.Statuses.{status}
-use Rattle.bz_task.specs.Instant.{Instant, words, page_at, form_at, is_inside}
+use Rattle.bz_task.specs.Instant.{Instant, words, durable, page_at, form_at, is_inside}
 use Rattle.bz_task.specs.Laws.{NothingIsGained}
 use Rattle.bz_task.specs.Outcomes.{IsUnderNode, IsGuarded}
 use Rattle.bz_task.specs.OwnActs.{gained}
@@ -88,6 +89,7 @@ module _ (p q : Past) (c : Continues p q) where
     is_child = v.is_child;
     moment = v.moment;
     leaf = frozen-leaf-stays p q c lower.slot v.moment v.leaf;
+    many = subst (λ n. SPLIT_ABOVE < n) (sym (λ t. live_of (durable (c.config t) (c.at v.moment v.leaf.now t) lower.slot))) v.many;
     separator = v.separator;
     above = subst (λ z. IsAbove z sep) (sym (λ t. (form_at (c.config t) (c.at v.moment v.leaf.now t)).low lower.slot)) v.above;
     below = subst (λ z. IsBelow z sep) (sym (λ t. (form_at (c.config t) (c.at v.moment v.leaf.now t)).high lower.slot)) v.below;

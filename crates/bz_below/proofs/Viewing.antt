@@ -1,14 +1,15 @@
 -- What a path of two links and more, and a view of a frozen leaf show.
-use Rattle.std.proofs.Common.{◌≡◌, ℕ, ◌+◌, ◌-◌, ◌≤◌, true, List, arith, refl, sym, subst, ◌∙◌, inl, inr, Some}
+use Rattle.std.proofs.Common.{◌≡◌, ℕ, ◌+◌, ◌-◌, ◌<◌, ◌≤◌, true, List, arith, refl, sym, subst, ◌∙◌, inl, inr, Some}
 use Rattle.std.specs.Prelude.{None, slice_get}
 use Rattle.bz_layout.specs.Addresses.{node_address, SlotsApart}
 use Rattle.bz_layout.specs.declared.sizes.TheConstants.{STATUS_AT}
+use Rattle.bz_layout.specs.declared.thresholds.TheConstants.{SPLIT_ABOVE}
 use Rattle.bz_node.specs.Records.{IsAbove, IsBelow}
-use Rattle.bz_slotted.specs.Readers.{found_of}
+use Rattle.bz_slotted.specs.Readers.{found_of, live_of}
 use Rattle.bz_slotted.specs.ReadingLaws.{node_of}
 use Rattle.bz_slotted.specs.Rules.{node_fault}
 use Rattle.bz_word.specs.Statuses.{status}
-use Rattle.bz_task.specs.Instant.{words, form_at}
+use Rattle.bz_task.specs.Instant.{words, durable, form_at}
 use Rattle.bz_task.specs.Outcomes.{IsPath, IsLink, IsView, IsUnderNode}
 use Rattle.bz_task.specs.Scene.{Scene, IsScene}
 use Rattle.bz_task.specs.declared.path.Link.{Link}
@@ -19,7 +20,7 @@ use Rattle.bz_renew.specs.FrozenLeaves.{WasFrozenLeaf, ShowsFrozenLeaf, ViewsSho
 use Rattle.bz_below.specs.Facts.{HasPartedBelow, IsThawedAbove}
 use Rattle.bz_split.specs.Parts.{ArePartsOf}
 
-module _ (views : ViewsShowFrozenLeaves) (apart : SlotsApart) (key : List ℕ) (path : Path) (view : LeafView) (upper lower : Link) (left right sep : List ℕ) (s : Scene) (good : IsScene s) (p : IsPath key path s.past) (v : IsView key view s.past) (f : (status view.status).frozen ≡ true) (leads : LeadsTo path view.slot) (thawed : IsThawedAbove path) (deep : 2 ≤ path.depth) (first : slice_get path.links (path.depth - 2) ≡ Some upper) (last : slice_get path.links (path.depth - 1) ≡ Some lower) (parts : ArePartsOf view.image.0 left right sep) where
+module _ (views : ViewsShowFrozenLeaves) (apart : SlotsApart) (key : List ℕ) (path : Path) (view : LeafView) (upper lower : Link) (left right sep : List ℕ) (s : Scene) (good : IsScene s) (p : IsPath key path s.past) (v : IsView key view s.past) (f : (status view.status).frozen ≡ true) (many : SPLIT_ABOVE < live_of (node_of view.image.0)) (leads : LeadsTo path view.slot) (thawed : IsThawedAbove path) (deep : 2 ≤ path.depth) (first : slice_get path.links (path.depth - 2) ≡ Some upper) (last : slice_get path.links (path.depth - 1) ≡ Some lower) (parts : ArePartsOf view.image.0 left right sep) where
   on : IsLink key s.past lower
   on = p.links (path.depth - 1) lower (omega (arith, deep)) last
 
@@ -52,6 +53,7 @@ module _ (views : ViewsShowFrozenLeaves) (apart : SlotsApart) (key : List ℕ) (
     is_child = refl;
     moment = view.at;
     leaf = subst (λ z. WasFrozenLeaf z view.at s.past) same shown.leaf;
+    many = subst (λ z. SPLIT_ABOVE < live_of (durable s.past.config (s.past.at view.at) z)) same (subst (λ n. SPLIT_ABOVE < n) shown.live many);
     separator = parts.separator;
     above = subst (λ z. IsAbove ((form_at s.past.config (s.past.at view.at)).low z) sep) same (parts.above s.past.config.nodes _ _ shown.whole);
     below = subst (λ z. IsBelow ((form_at s.past.config (s.past.at view.at)).high z) sep) same (parts.below s.past.config.nodes _ _ shown.whole);

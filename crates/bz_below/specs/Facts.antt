@@ -7,15 +7,15 @@ use Rattle.bz_layout.specs.Addresses.{node_address}
 use Rattle.bz_layout.specs.Slots.{FreeSlots}
 use Rattle.bz_layout.specs.declared.config.Config.{Config}
 use Rattle.bz_layout.specs.declared.sizes.TheConstants.{NODE_WORDS, STATUS_AT, SHARED_WORDS}
-use Rattle.bz_layout.specs.declared.thresholds.TheConstants.{SPLIT_SLOTS}
+use Rattle.bz_layout.specs.declared.thresholds.TheConstants.{SPLIT_ABOVE, SPLIT_SLOTS}
 use Rattle.bz_node.specs.Layout.{needed}
 use Rattle.bz_node.specs.Reading.{children_in}
 use Rattle.bz_node.specs.Records.{child_entry, IsAbove, IsBelow}
 use Rattle.bz_shape.specs.Order.{is_before}
-use Rattle.bz_slotted.specs.Readers.{found_of}
+use Rattle.bz_slotted.specs.Readers.{found_of, live_of}
 use Rattle.bz_slotted.specs.ReadingLaws.{node_of}
 use Rattle.bz_slotted.specs.Rules.{node_fault}
-use Rattle.bz_task.specs.Instant.{words, form_at}
+use Rattle.bz_task.specs.Instant.{words, durable, form_at}
 use Rattle.bz_task.specs.Scene.{Past, Scene, Stage, Waiting, Took, HasFilled}
 use Rattle.bz_task.specs.declared.path.Link.{Link}
 use Rattle.bz_task.specs.declared.path.Path.{Path}
@@ -135,8 +135,8 @@ store_after j = if nat_lt (j + 1) SPLIT_WORDS then Store (j + 1) else Flush 0
 abbrev pub flush_after : ℕ → Phase
 flush_after j = if nat_lt (j + 1) SPLIT_LINES then Flush (j + 1) else Named
 
--- both links were read; the leaf was frozen, and the two parts say what it says. The lower guard was read at moment `guarded`, and
--- the lower link was that to child `child`
+-- both links were read; the leaf was frozen, with more live words than a leaf may keep, and the two parts say what it says. The lower guard
+-- was read at moment `guarded`, and the lower link was that to child `child`
 pub record HasPartedBelow (upper lower : Link) (left right sep : List ℕ) (p : Past) : Type 0 where
   pub links : AreLinksDown upper lower p
   pub guarded : ℕ
@@ -145,6 +145,7 @@ pub record HasPartedBelow (upper lower : Link) (left right sep : List ℕ) (p : 
   pub is_child : links.under.child.child ≡ child
   pub moment : ℕ
   pub leaf : WasFrozenLeaf lower.slot moment p
+  pub many : SPLIT_ABOVE < live_of (durable p.config (p.at moment) lower.slot)
   pub separator : IsKey sep
   pub above : IsAbove ((form_at p.config (p.at moment)).low lower.slot) sep
   pub below : IsBelow ((form_at p.config (p.at moment)).high lower.slot) sep

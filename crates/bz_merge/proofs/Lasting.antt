@@ -4,12 +4,13 @@ use Rattle.bz_layout.specs.Addresses.{node_address}
 use Rattle.bz_layout.specs.declared.config.Config.{Config}
 use Rattle.bz_layout.specs.declared.limits.TheConstants.{MAX_NODES}
 use Rattle.bz_layout.specs.declared.sizes.TheConstants.{NODE_WORDS, STATUS_AT}
+use Rattle.bz_layout.specs.declared.thresholds.TheConstants.{MERGE_BELOW}
 use Rattle.bz_slotted.specs.Page.{Page}
-use Rattle.bz_slotted.specs.Readers.{child_of, found_of}
+use Rattle.bz_slotted.specs.Readers.{child_of, found_of, live_of}
 use Rattle.bz_slotted.specs.ReadingLaws.{node_of}
 use Rattle.bz_slotted.specs.Records.{pointer_at}
 use Rattle.bz_slotted.specs.Rules.{node_fault}
-use Rattle.bz_task.specs.Instant.{Instant, words, page_at, form_at, is_inside}
+use Rattle.bz_task.specs.Instant.{Instant, words, durable, page_at, form_at, is_inside}
 use Rattle.bz_task.specs.Outcomes.{IsUnderNode, IsGuarded}
 use Rattle.bz_task.specs.Requests.{IsPointerPlace}
 use Rattle.bz_task.specs.Scene.{Past, Continues}
@@ -98,6 +99,7 @@ module _ (p q : Past) (c : Continues p q) where
     low = v.low;
     high = v.high;
     seen = seen-stays own v.at v.low v.high v.seen;
+    few = subst (λ n. n < MERGE_BELOW) (sym (λ t. live_of (durable (c.config t) (c.at v.at v.seen.stood.now t) own.slot))) v.few;
   }
 
   word-stays : (k i v m : ℕ) → WasWord k i v m p → WasWord k i v m q

@@ -1,10 +1,13 @@
 -- What a path of two links and more, and a view, show.
-use Rattle.std.proofs.Common.{◌≡◌, ℕ, ◌+◌, ◌-◌, ◌≤◌, List, length, arith, refl, sym, subst, ◌∙◌, inl, inr, Some, Option}
+use Rattle.std.proofs.Common.{◌≡◌, ℕ, ◌+◌, ◌-◌, ◌<◌, ◌≤◌, List, length, arith, refl, sym, subst, ◌∙◌, inl, inr, Some, Option}
 use Rattle.std.specs.Prelude.{slice_get}
 use Rattle.bz_layout.specs.Addresses.{node_address, SlotsApart}
 use Rattle.bz_layout.specs.declared.sizes.TheConstants.{NODE_WORDS, STATUS_AT}
+use Rattle.bz_layout.specs.declared.thresholds.TheConstants.{MERGE_BELOW}
 use Rattle.bz_page.specs.Laws.{ViewsSayWhatImagesSay}
 use Rattle.bz_shape.specs.Form.{Holds}
+use Rattle.bz_slotted.specs.ReadingLaws.{node_of}
+use Rattle.bz_slotted.specs.Readers.{live_of}
 use Rattle.bz_task.specs.Good.{IsGood}
 use Rattle.bz_task.specs.Instant.{words, durable, form_at}
 use Rattle.bz_task.specs.Laws.{IsLeafInTree, LeavesAreInTrees, SeenLeavesAreWhole, SameRecordsShowTheSame, SaysAlike}
@@ -27,7 +30,7 @@ pub record Laws : Type 0 where
   pub shown : SameRecordsShowTheSame
   pub apart : SlotsApart
 
-module _ (b : Laws) (key : List ℕ) (path : Path) (view : LeafView) (upper lower : Link) (s : Scene) (good : IsScene s) (p : IsPath key path s.past) (v : IsView key view s.past) (size : length view.image.0 ≡ NODE_WORDS) (leads : LeadsTo path view.slot) (thawed : IsThawedAbove path) (deep : 2 ≤ path.depth)
+module _ (b : Laws) (key : List ℕ) (path : Path) (view : LeafView) (upper lower : Link) (s : Scene) (good : IsScene s) (p : IsPath key path s.past) (v : IsView key view s.past) (size : length view.image.0 ≡ NODE_WORDS) (few : live_of (node_of view.image.0) < MERGE_BELOW) (leads : LeadsTo path view.slot) (thawed : IsThawedAbove path) (deep : 2 ≤ path.depth)
     (first : slice_get path.links (path.depth - 2) ≡ Some upper) (last : slice_get path.links (path.depth - 1) ≡ Some lower) where
   on : IsLink key s.past lower
   on = p.links (path.depth - 1) lower (omega (arith, deep)) last
@@ -88,4 +91,5 @@ module _ (b : Laws) (key : List ℕ) (path : Path) (view : LeafView) (upper lowe
     low = low;
     high = high;
     seen = subst (λ z. WasSeen (record { slot = z; status = view.status; image = view.image.0 }) view.at low high s.past) same seen-there;
+    few = subst (λ z. live_of (durable s.past.config (s.past.at view.at) z) < MERGE_BELOW) same (subst (λ n. n < MERGE_BELOW) (b.views key view s.past v g).live few);
   }

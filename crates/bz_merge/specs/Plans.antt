@@ -1,12 +1,12 @@
 -- What a merge is to do: the two leaves, as they were read below a parent that was read, and why it is this neighbour.
 use Rattle.std.specs.Prelude.{◌≡◌, ℕ, ◌+◌, ◌^◌, ◌<◌, ◌≤◌, if◌then◌else◌, Bool, true, false, List, Option, Some, slice_index}
 use Rattle.bz_layout.specs.declared.sizes.TheConstants.{NODE_WORDS, STATUS_AT}
-use Rattle.bz_layout.specs.declared.thresholds.TheConstants.{SPLIT_ABOVE, MERGE_SLOTS}
+use Rattle.bz_layout.specs.declared.thresholds.TheConstants.{SPLIT_ABOVE, MERGE_BELOW, MERGE_SLOTS}
 use Rattle.bz_node.specs.Records.{IsAbove, IsBelow}
 use Rattle.bz_slotted.specs.Readers.{count_of, child_of, key_of, live_of}
 use Rattle.bz_slotted.specs.ReadingLaws.{node_of}
 use Rattle.bz_content.specs.Restructures.{children_of}
-use Rattle.bz_task.specs.Instant.{words}
+use Rattle.bz_task.specs.Instant.{words, durable}
 use Rattle.bz_task.specs.Scene.{Past}
 use Rattle.bz_task.specs.declared.path.Link.{Link}
 use Rattle.bz_renew.specs.Nodes.{Nodes}
@@ -59,7 +59,7 @@ pub record IsPair (read : List ℕ) (slot : ℕ) (right : Bool) (place beside : 
   pub own : IsChildAt read slot (own_place right place)
   pub other : child_of (node_of read) (other_place right place) ≡ beside
 
--- the leaf was viewed below the parent, whose status was read at moment `guarded`
+-- the leaf was viewed below the parent, whose status was read at moment `guarded`, and had fewer live words than one needs to stand alone
 pub record IsViewed (upper lower : Link) (own : SeenLeaf) (p : Past) : Type 0 where
   pub links : AreLinksDown upper lower p
   pub guarded : ℕ
@@ -69,6 +69,7 @@ pub record IsViewed (upper lower : Link) (own : SeenLeaf) (p : Past) : Type 0 wh
   pub low : Option (List ℕ)
   pub high : Option (List ℕ)
   pub seen : WasSeen own at low high p
+  pub few : live_of (durable p.config (p.at at) own.slot) < MERGE_BELOW
 
 -- the parent's words before a place were read, and none from there on
 pub record IsReadingParent (r : Merging) (place : ℕ) (p : Past) : Type 0 where

@@ -3,7 +3,7 @@
 ghost use Rattle.std.specs.Prelude.{◌≡◌, ◌≢◌, ◌↔◌, ◌+◌, ◌-◌, ◌<◌, ◌≤◌, ◌^◌, ◌⊎◌, ℕ, List, Option, Some, None, IsTrue, true, false, slice_get, slice_index, slice_set, length};
 ghost use Rattle.bz_layout.specs.declared.sizes.TheConstants.{NODE_WORDS, NODE_LINES};
 ghost use Rattle.bz_layout.specs.Config.{IsConfig};
-ghost use Rattle.bz_layout.specs.declared.thresholds.TheConstants.{MERGE_SLOTS, SPLIT_ABOVE, MAX_LEVELS};
+ghost use Rattle.bz_layout.specs.declared.thresholds.TheConstants.{MERGE_SLOTS, MERGE_BELOW, SPLIT_ABOVE, MAX_LEVELS};
 ghost use Rattle.bz_page.specs.Pages.{IsLeafByItself};
 ghost use Rattle.bz_join.specs.Leaves.{MayJoin, IsOneOf};
 ghost use Rattle.bz_renew.specs.Due.{LeadsTo};
@@ -76,10 +76,11 @@ pub struct Merge {
 }
 
 impl Merge {
-    /// The merge of a viewed leaf below a parent; whoever asks for it decides that the leaf is worth it.
+    /// The merge of a viewed leaf below a parent, which has too few live words to stand alone.
     pub fn new(config: &Config, path: Path, view: LeafView) -> Merge
         requires deep { 2 ≤ path.depth }
         requires few { path.depth ≤ MAX_LEVELS }
+        requires small { live_of (node_of view.image.0) < MERGE_BELOW }
         requires leads { LeadsTo path view.slot }
         requires thawed { IsThawedAbove path }
         ensures config { ⟦<Merge as Task>⟧.config result ≡ config.now }

@@ -37,7 +37,7 @@ module _ (b : Laws) (key : List ℕ) (view : LeafView) (s : Scene) (good : IsSce
   reads-alike = read-alike b.shown b.seen s.past.config (s.past.at view.at) view.slot g leaf
 
   pub shows : (status view.status).frozen ≡ true → ShowsFrozenLeaf view s.past
-  shows f = record { leaf = was-frozen f; whole = v.whole; says = λ k. (b.views key view s.past v g).says k ∙ sym (reads-alike.found k) }
+  shows f = record { leaf = was-frozen f; whole = v.whole; says = λ k. (b.views key view s.past v g).says k ∙ sym (reads-alike.found k); live = (b.views key view s.past v g).live }
 
 pub views-show : Laws → ViewsShowFrozenLeaves
 views-show b key view s good v f = shows b key view s good v f

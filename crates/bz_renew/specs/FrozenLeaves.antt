@@ -1,6 +1,6 @@
 -- A leaf that was frozen at a moment since the look-up began: it stands as it stood. And what a view of one shows.
 use Rattle.std.specs.Prelude.{◌≡◌, ℕ, ◌<◌, ◌≤◌, true, List, None}
-use Rattle.bz_slotted.specs.Readers.{found_of}
+use Rattle.bz_slotted.specs.Readers.{found_of, live_of}
 use Rattle.bz_slotted.specs.ReadingLaws.{node_of}
 use Rattle.bz_slotted.specs.Rules.{node_fault}
 use Rattle.bz_word.specs.Statuses.{status}
@@ -30,11 +30,13 @@ pub record StandsStill (k m : ℕ) (s : Scene) : Type 0 where
 abbrev pub FrozenLeavesStandStill : Type 0
 FrozenLeavesStandStill = (s : Scene) (k m : ℕ) → IsScene s → WasFrozenLeaf k m s.past → StandsStill k m s
 
--- the viewed slot was a frozen leaf; the view is a leaf between that leaf's bounds, and says of each key what reads of it said
+-- the viewed slot was a frozen leaf; the view is a leaf between that leaf's bounds, says of each key what reads of it said, and has as many
+-- live words as it had in the image
 pub record ShowsFrozenLeaf (view : LeafView) (p : Past) : Type 0 where
   pub leaf : WasFrozenLeaf view.slot view.at p
   pub whole : node_fault p.config.nodes (node_of view.image.0) (node_of view.image.0) 0 ((form_at p.config (p.at view.at)).low view.slot) ((form_at p.config (p.at view.at)).high view.slot) ≡ None
   pub says : (key : List ℕ) → found_of (node_of view.image.0) key ≡ found_of (words p.config (p.at view.at) view.slot) key
+  pub live : live_of (node_of view.image.0) ≡ live_of (durable p.config (p.at view.at) view.slot)
 
 abbrev pub ViewsShowFrozenLeaves : Type 0
 ViewsShowFrozenLeaves = (key : List ℕ) (view : LeafView) (s : Scene) → IsScene s → IsView key view s.past → (status view.status).frozen ≡ true → ShowsFrozenLeaf view s.past

@@ -33,7 +33,7 @@ use Rattle.bz_rounds.specs.Laws.{LoneCopiesGiveRoom}
 use Rattle.bz_rounds.proofs.Lacking.{lacks-room}
 use Rattle.bz_rounds.proofs.Lone.{Basis, tree-now, leaf-now, same-entries}
 use Rattle.bz_rounds.proofs.Made.{copy-has-room}
-use Rattle.bz_rounds.proofs.Stored.{one-held, one-fresh}
+use Rattle.bz_tally.proofs.Stored.{one-held, one-fresh}
 
 -- the laws on which it rests
 pub record Laws : Type 0 where

@@ -41,9 +41,10 @@ use Rattle.bz_rounds.specs.Laws.{LoneLeafSplitsGiveRoom}
 use Rattle.bz_rounds.proofs.Lacking.{lacks-room}
 use Rattle.bz_rounds.proofs.Lone.{Basis, tree-now, leaf-now, same-entries}
 use Rattle.bz_rounds.proofs.Made.{HasRoom, left-has-room, right-has-room}
-use Rattle.bz_rounds.proofs.Parents.{Links, out-one, guard-at, in-parent, node-leads, node-place, node-words, node-freezable, not-above}
-use Rattle.bz_rounds.proofs.Splitting.{Holds, IsReady, after, splits}
-use Rattle.bz_rounds.proofs.Stored.{node-held, node-fresh, are-three}
+use Rattle.bz_rounds.proofs.Parents.{Links, guard-at, node-leads, node-place, node-words, node-freezable, not-above}
+use Rattle.bz_tally.proofs.Links.{in-parent, out-one}
+use Rattle.bz_tally.proofs.Splitting.{Holds, IsReady, after, splits}
+use Rattle.bz_tally.proofs.Stored.{node-held, node-fresh, are-three}
 
 -- the laws on which it rests
 pub record Laws : Type 0 where

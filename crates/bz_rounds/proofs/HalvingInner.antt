@@ -40,9 +40,10 @@ use Rattle.bz_rounds.specs.Falls.{Falls}
 use Rattle.bz_rounds.specs.Laws.{LoneInnerSplitsLowerTheStage}
 use Rattle.bz_rounds.proofs.Lone.{Basis, tree-now, fits-now, same-entries}
 use Rattle.bz_rounds.proofs.Made.{IsFew, left-few, right-few}
-use Rattle.bz_rounds.proofs.Parents.{Links, out-one, out-two, in-parent, node-leads, node-place, node-words, node-freezable, not-above}
-use Rattle.bz_rounds.proofs.Splitting.{Holds, IsReady, after, splits}
-use Rattle.bz_rounds.proofs.Stored.{node-held, node-fresh, are-three}
+use Rattle.bz_rounds.proofs.Parents.{Links, node-leads, node-place, node-words, node-freezable, not-above}
+use Rattle.bz_tally.proofs.Links.{in-parent, out-one, out-two}
+use Rattle.bz_tally.proofs.Splitting.{Holds, IsReady, after, splits}
+use Rattle.bz_tally.proofs.Stored.{node-held, node-fresh, are-three}
 
 -- the laws on which it rests
 pub record Laws : Type 0 where

@@ -11,9 +11,8 @@ mod PartingRoot
 mod Rising
 mod RootHalving
 mod Seeing
-mod Splitting
 mod Staying
-mod Stored
 mod Thawed
+mod Staying
 mod Wanting
 mod Whichever

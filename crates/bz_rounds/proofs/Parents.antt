@@ -1,10 +1,8 @@
 -- The links to a parent and to a node in it, while nobody's swap takes effect: guards have the values that were read, the node is the
 -- parent's child, and the parent is as it was.
-use Rattle.std.proofs.Common.{◌≡◌, ◌≢◌, ℕ, ◌+◌, ◌≤◌, ◌==◌, false, [], ◌∷◌, arith, refl, subst, ◌∙◌, inl, inr}
-use Rattle.std.proofs.lemmas.Bool.Decides.{nat_tests}
+use Rattle.std.proofs.Common.{◌≡◌, ℕ, ◌+◌, ◌≤◌, arith, subst, ◌∙◌, inl, inr}
 use Rattle.bz_layout.specs.declared.config.Config.{Config}
 use Rattle.bz_layout.specs.declared.sizes.TheConstants.{STATUS_AT}
-use Rattle.bz_shape.specs.Walk.{is_among}
 use Rattle.bz_task.specs.Instant.{words, durable, form_at}
 use Rattle.bz_task.specs.Laws.{SamePlace, RangesStay}
 use Rattle.bz_task.specs.Outcomes.{IsUnderNode, IsGuarded}
@@ -61,14 +59,3 @@ module _ (b : Links) (s : Scene) (good : IsScene s) (quiet : IsQuietSince s.past
   -- a node is none of those above it
   pub not-above : (upper lower : Link) (d : AreLinksDown upper lower s.past) (under : IsUnderNode s.past upper d.upper_guard.guarded) → (form_at c (here s)).level upper.slot + 1 ≡ (form_at c (here s)).level under.parent
   not-above upper lower d under = (b.stand s upper good d.upper_guard d.upper_thawed under (guard-now upper d.upper_guard)).stands.level
-
--- the lower one of two links that lead down
-abbrev pub in-parent : (s : Scene) (upper lower : Link) → AreLinksDown upper lower s.past → IsOpenLink upper.slot lower s.past
-in-parent s upper lower d = record { guard = d.guard; thawed = d.thawed; under = d.under; parent = d.parent }
-
--- a slot that is none of those that go
-pub out-one : (x k : ℕ) → x ≢ k → is_among (x ∷ []) k ≡ false
-out-one x k ne = let t : (x == k) ≡ false = grind (arith, nat_tests) in rw t refl
-
-pub out-two : (x z k : ℕ) → x ≢ k → z ≢ k → is_among (x ∷ z ∷ []) k ≡ false
-out-two x z k ne other = let t : (x == k) ≡ false = grind (arith, nat_tests) in let u : (z == k) ≡ false = grind (arith, nat_tests) in rw (t, u) refl

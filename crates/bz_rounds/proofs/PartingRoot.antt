@@ -51,8 +51,8 @@ use Rattle.bz_rounds.specs.Laws.{LoneRootSplitsLowerTheStage}
 use Rattle.bz_rounds.proofs.Lone.{Basis, good-now, tree-now, fits-now, same-entries}
 use Rattle.bz_rounds.proofs.Made.{IsFew, left-few, right-few}
 use Rattle.bz_rounds.proofs.Parents.{Links, node-leads, node-place, node-words, node-freezable}
-use Rattle.bz_rounds.proofs.Splitting.{Holds, raw-after, after}
-use Rattle.bz_rounds.proofs.Stored.{node-held, node-fresh, are-three}
+use Rattle.bz_tally.proofs.Splitting.{Holds, raw-after, after}
+use Rattle.bz_tally.proofs.Stored.{node-held, node-fresh, are-three}
 
 -- the laws on which it rests
 pub record Laws : Type 0 where

@@ -42,7 +42,7 @@ use Rattle.bz_rounds.specs.Laws.{LoneRootLeafSplitsGiveRoom}
 use Rattle.bz_rounds.proofs.Lacking.{lacks-room}
 use Rattle.bz_rounds.proofs.Lone.{Basis, same-entries}
 use Rattle.bz_rounds.proofs.Made.{HasRoom, left-has-room, right-has-room}
-use Rattle.bz_rounds.proofs.Stored.{node-held, node-fresh}
+use Rattle.bz_tally.proofs.Stored.{node-held, node-fresh}
 
 -- the laws on which it rests
 pub record Laws : Type 0 where

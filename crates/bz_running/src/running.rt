@@ -4,7 +4,7 @@ ghost use Rattle.std.specs.Prelude.{◌≡◌, ◌+◌, ◌-◌, ◌<◌, ◌≢
 ghost use Rattle.bz_ascent.specs.FromBelow.Facts.{IsThawedAbove, LackedPart};
 ghost use Rattle.bz_consol.specs.Facts.{LeadsTo};
 ghost use Rattle.bz_leaf.specs.Facts.{IsLastLink};
-ghost use Rattle.bz_layout.specs.declared.thresholds.TheConstants.{CONSOLIDATION_SLOTS, MERGE_SLOTS, SPLIT_ABOVE, SPLIT_SLOTS, MAX_LEVELS};
+ghost use Rattle.bz_layout.specs.declared.thresholds.TheConstants.{CONSOLIDATION_SLOTS, MERGE_BELOW, MERGE_SLOTS, SPLIT_ABOVE, SPLIT_SLOTS, MAX_LEVELS};
 ghost use Rattle.bz_page.specs.Pages.{IsLeafByItself};
 ghost use Rattle.bz_record.specs.Records.{words_for, LacksRoom};
 ghost use Rattle.bz_slotted.specs.Readers.{live_of};
@@ -275,11 +275,13 @@ impl AnyTask {
         AnyTask::SplittingBelow(task, Ascent::from_leaf(key, path))
     }
 
-    /// The merge of a leaf below a parent, frozen or not, to which the path leads, with a neighbour.
+    /// The merge of a leaf below a parent, frozen or not, to which the path leads and which has too few live words to stand alone, with a
+    /// neighbour.
     #[tactic(auto, unfolding(crate::specs::Duties::config_of, crate::specs::Duties::asks_of, crate::specs::Duties::swaps_of, crate::specs::Duties::made_of, crate::specs::Duties::needs_of, crate::specs::Duties::wants_of, crate::specs::Duties::facts_of, crate::specs::Duties::means_of, crate::specs::Duties::ascent_of, crate::specs::Duties::makes_no_change))]
     pub fn merge(config: &Config, path: Path, view: LeafView) -> AnyTask
         requires deep { 2 ≤ path.depth }
         requires few { path.depth ≤ MAX_LEVELS }
+        requires small { live_of (node_of view.image.0) < MERGE_BELOW }
         requires leads { LeadsTo path view.slot }
         requires thawed { IsThawedAbove path }
         ensures config { config_of result ≡ config.now }

@@ -1,13 +1,14 @@
 -- What a split knows stays.
-use Rattle.std.proofs.Common.{◌≡◌, ℕ, ◌+◌, ◌≤◌, List, slice_index, arith, sym, ap, subst, ◌∙◌}
+use Rattle.std.proofs.Common.{◌≡◌, ℕ, ◌+◌, ◌<◌, ◌≤◌, List, slice_index, arith, sym, ap, subst, ◌∙◌}
 use Rattle.std.specs.Prelude.{Some}
 use Rattle.bz_layout.specs.Addresses.{node_address}
 use Rattle.bz_layout.specs.declared.config.Config.{Config}
 use Rattle.bz_layout.specs.Slots.{FreeSlots}
-use Rattle.bz_slotted.specs.Readers.{found_of}
+use Rattle.bz_layout.specs.declared.thresholds.TheConstants.{SPLIT_ABOVE}
+use Rattle.bz_slotted.specs.Readers.{found_of, live_of}
 use Rattle.bz_slotted.specs.ReadingLaws.{node_of}
 use Rattle.bz_slotted.specs.Rules.{node_fault}
-use Rattle.bz_task.specs.Instant.{Instant, words, form_at}
+use Rattle.bz_task.specs.Instant.{Instant, words, durable, form_at}
 use Rattle.bz_task.specs.Laws.{NothingIsGained}
 use Rattle.bz_task.specs.OwnActs.{gained}
 use Rattle.bz_task.specs.Scene.{Past, Scene, Stage, Waiting, Took, IsLawful, Continues, HasFilled}
@@ -28,6 +29,7 @@ module _ (p q : Past) (c : Continues p q) (link : Link) (left right sep : List �
     thawed = v.thawed;
     moment = v.moment;
     leaf = frozen-leaf-stays p q c link.slot v.moment v.leaf;
+    many = subst (λ n. SPLIT_ABOVE < n) (sym (λ t. live_of (durable (c.config t) (c.at v.moment v.leaf.now t) link.slot))) v.many;
     separator = v.separator;
     left_whole = (λ t. node_fault (c.config t).nodes (node_of left) (node_of left) 0 ((form_at (c.config t) (c.at v.moment v.leaf.now t)).low link.slot) (Some sep)) ∙ v.left_whole;
     right_whole = (λ t. node_fault (c.config t).nodes (node_of right) (node_of right) 0 (Some sep) ((form_at (c.config t) (c.at v.moment v.leaf.now t)).high link.slot)) ∙ v.right_whole;

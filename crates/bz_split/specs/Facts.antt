@@ -6,13 +6,13 @@ use Rattle.bz_layout.specs.Addresses.{node_address}
 use Rattle.bz_layout.specs.Slots.{FreeSlots}
 use Rattle.bz_layout.specs.declared.config.Config.{Config}
 use Rattle.bz_layout.specs.declared.sizes.TheConstants.{NODE_WORDS, NODE_LINES}
-use Rattle.bz_layout.specs.declared.thresholds.TheConstants.{SPLIT_SLOTS}
+use Rattle.bz_layout.specs.declared.thresholds.TheConstants.{SPLIT_ABOVE, SPLIT_SLOTS}
 use Rattle.bz_shape.specs.Order.{is_before}
-use Rattle.bz_slotted.specs.Readers.{found_of}
+use Rattle.bz_slotted.specs.Readers.{found_of, live_of}
 use Rattle.bz_slotted.specs.ReadingLaws.{node_of}
 use Rattle.bz_slotted.specs.Rules.{node_fault}
 use Rattle.bz_word.specs.Statuses.{status}
-use Rattle.bz_task.specs.Instant.{words, form_at}
+use Rattle.bz_task.specs.Instant.{words, durable, form_at}
 use Rattle.bz_task.specs.Outcomes.{IsUnderRoot, IsGuarded}
 use Rattle.bz_task.specs.Scene.{Past, Scene, Stage, Waiting, Took, HasFilled}
 use Rattle.bz_task.specs.Swaps.{Change}
@@ -98,13 +98,14 @@ next_store j = if nat_lt (j + 1) SPLIT_WORDS then Store (j + 1) else Flush 0
 abbrev pub next_flush : ℕ → Phase
 next_flush j = if nat_lt (j + 1) SPLIT_LINES then Flush (j + 1) else Swap
 
--- the root link was read; the leaf to which it leads was frozen, and the two parts say what it says
+-- the root link was read; the leaf to which it leads was frozen, with more live words than a leaf may keep, and the two parts say what it says
 pub record HasParted (link : Link) (left right sep : List ℕ) (p : Past) : Type 0 where
   pub under : IsUnderRoot link
   pub guard : IsGuarded p link
   pub thawed : (status link.status).frozen ≡ false
   pub moment : ℕ
   pub leaf : WasFrozenLeaf link.slot moment p
+  pub many : SPLIT_ABOVE < live_of (durable p.config (p.at moment) link.slot)
   pub separator : IsKey sep
   pub left_whole : node_fault p.config.nodes (node_of left) (node_of left) 0 ((form_at p.config (p.at moment)).low link.slot) (Some sep) ≡ None
   pub right_whole : node_fault p.config.nodes (node_of right) (node_of right) 0 (Some sep) ((form_at p.config (p.at moment)).high link.slot) ≡ None

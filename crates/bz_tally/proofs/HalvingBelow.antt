@@ -203,6 +203,5 @@ halves-below b t entries s y l =
     record {
       more = (b.count s.past.config (image_of (here s).image) (image_of y.image) t.lower.slot (r.slot 0) (r.slot 1) (r.slot 2) 0 r.sep (tree-now b.formed s l.good) d).leaf flat;
       leaf = leaf-now s t.lower.slot d.inside flat;
-      moment = f.0.planned.parted.moment;
-      frozen = f.0.planned.parted.leaf;
+      crowded = record { moment = f.0.planned.parted.moment; frozen = f.0.planned.parted.leaf; many = f.0.planned.parted.many };
     }

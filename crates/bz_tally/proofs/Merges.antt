@@ -56,6 +56,7 @@ module _ (b : Laws) (r : Merging) (s : Scene) (y : Instant) (good : IsScene s) (
     two = apart-of r.right own other (are-apart b.turning r s good f stand);
     leaf = to-own IsLeafHere r.right own other (first-leaf b.turning r s good f stand) (second-leaf b.turning r s good f stand);
     beside = to-other IsLeafHere r.right own other (first-leaf b.turning r s good f stand) (second-leaf b.turning r s good f stand);
+    small = let v = f.frozen.planned.paired.viewed in record { moment = v.at; since = v.seen.stood.since; now = v.seen.stood.now; inside = v.seen.stood.inside; leaf = v.seen.stood.leaf; few = v.few };
     frozen = f.frozen.own;
     beside_frozen = f.frozen.other;
     room = room-of r.right own other f.frozen.planned.room;

@@ -159,6 +159,5 @@ root-halves b t entries s y l =
     record {
       more = (b.count s.past.config (image_of (here s).image) (image_of y.image) (r.slot 0) (r.slot 1) (r.slot 2) 0 r.sep (tree-now b.formed s l.good) (halved b r s y l.good f.0 stand swaps)).leaf (at-foot b r s y l.good f.0 stand swaps);
       leaf = is-leaf b r s y l.good f.0 stand swaps;
-      moment = f.0.parted.moment;
-      frozen = f.0.parted.leaf;
+      crowded = record { moment = f.0.parted.moment; frozen = f.0.parted.leaf; many = f.0.parted.many };
     }

@@ -11,7 +11,7 @@ use Rattle.bz_call.specs.declared.replies.Spent.TheVariants.{Nodes, Swaps}
 use Rattle.bz_running.specs.FromBelow.Facts.{IsThawedAbove}
 use Rattle.bz_running.specs.FromConsol.Facts.{LeadsTo}
 use Rattle.bz_layout.specs.declared.config.Config.{Config}
-use Rattle.bz_layout.specs.declared.thresholds.TheConstants.{MERGE_SLOTS, SPLIT_ABOVE, SPLIT_SLOTS}
+use Rattle.bz_layout.specs.declared.thresholds.TheConstants.{MERGE_SLOTS, SPLIT_ABOVE, SPLIT_SLOTS, MERGE_BELOW}
 use Rattle.bz_alone.specs.Reads.{get_reads}
 use Rattle.bz_running.specs.Duties.{config_of, asks_of, end_of, change_swaps, needs_of, wants_of, facts_of}
 use Rattle.bz_running.specs.GoingUp.{GoesUp, IsInScene}
@@ -276,6 +276,7 @@ pub record MustMerge (p : Parts) (w : ℕ) (path : Path) (view : LeafView) : Typ
   pub viewed : IsView (key_of on.serving.call) view (known p w on).past
   pub way : IsPath (key_of on.serving.call) path (known p w on).past
   pub deep : 2 ≤ path.depth
+  pub small : live_of (node_of view.image.0) < MERGE_BELOW
   pub leads : LeadsTo path view.slot
   pub thawed : IsThawedAbove path
   pub wanted : IsWanted p.config p.journal on.between.opened MERGE_SLOTS

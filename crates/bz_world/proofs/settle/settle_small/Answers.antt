@@ -23,6 +23,7 @@ merge-requires-clause-merge c = let due = c.is_due.ensures.due.0 c.if-is_due.tru
   viewed = c.requires.read.viewed;
   way = read-way c.args.parts.now c.args.w c.args.at c.args.view.now c.requires.read c.index.result.now c.index.ensures c.path_in.result c.path_in.ensures c.in-Some.path c.in-Some.is;
   deep = due.0;
+  small = due.1.1.0;
   leads = c.is_due.ensures.leads c.if-is_due.true;
   thawed = due.1.0;
   wanted = none-wanted-after c.args.parts.now c.args.w c.args.at c.requires.read.had _;

@@ -10,7 +10,7 @@ one a b e = cc
 pub returns-clause-facts : goal.returns-clause-facts
 returns-clause-facts c key s same good path view =
     let h = c.parts_of-halves in record {
-      parted = parted-below c.views_show_frozen_leaves.ensures c.slots_apart.ensures key c.args.path c.args.view c.upper_link.result c.last_link-lower.result h.result.left.0 h.result.right.0 h.result.separator s good path view c.requires.frozen c.requires.leads c.requires.thawed c.requires.deep
+      parted = parted-below c.views_show_frozen_leaves.ensures c.slots_apart.ensures key c.args.path c.args.view c.upper_link.result c.last_link-lower.result h.result.left.0 h.result.right.0 h.result.separator s good path view c.requires.frozen c.requires.many c.requires.leads c.requires.thawed c.requires.deep
           c.upper_link.ensures c.last_link-lower.ensures h.ensures;
       unread = record { size = c.first_word.ensures.size; first = c.first_word.ensures.first; blank = λ i some. c.first_word.ensures.blank i some };
     }

@@ -7,7 +7,7 @@ use Rattle.bz_split.proofs.split_root.SplitRoot.new.Goals as goal
 pub returns-clause-facts : goal.returns-clause-facts
 returns-clause-facts c key s same good path view =
     let h = c.parts_of-halves in
-    has-parted c.views_show_frozen_leaves.ensures key c.args.path c.args.view c.last_link.result h.result.left.0 h.result.right.0 h.result.separator s good path view c.requires.frozen c.requires.leads c.requires.root c.last_link.ensures h.ensures
+    has-parted c.views_show_frozen_leaves.ensures key c.args.path c.args.view c.last_link.result h.result.left.0 h.result.right.0 h.result.separator s good path view c.requires.frozen c.requires.many c.requires.leads c.requires.root c.last_link.ensures h.ensures
 
 pub returns-clause-done : goal.returns-clause-done
 returns-clause-done c link s is means =
