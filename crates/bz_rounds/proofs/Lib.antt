@@ -13,6 +13,5 @@ mod RootHalving
 mod Seeing
 mod Staying
 mod Thawed
-mod Staying
 mod Wanting
 mod Whichever

@@ -42,6 +42,7 @@ pub goes-up : AscentsRise → (t next : AnyTask) (a up : Ascent) → Ends t → 
 goes-up law t next a up ends is one it = record {
   config = it.config;
   asks = it.asks;
+  left = it.left;
   swaps = it.swaps;
   made = it.made;
   wanted = (is-rising t a is).wants;

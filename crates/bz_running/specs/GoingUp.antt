@@ -1,5 +1,7 @@
 -- The split of the node above, where a split lacked the room there.
-use Rattle.std.specs.Prelude.{◌≡◌, ℕ, true, List, Option, Some, None}
+use Rattle.std.specs.Prelude.{◌≡◌, ◌≤◌, ℕ, max, true, List, Option, Some, None}
+use Rattle.bz_crown.specs.Facts.{crown_acts}
+use Rattle.bz_fork.specs.Facts.{fork_acts}
 use Rattle.bz_layout.specs.declared.config.Config.{Config}
 use Rattle.bz_layout.specs.declared.thresholds.TheConstants.{SPLIT_SLOTS}
 use Rattle.bz_ascent.specs.Ascents.{IsAscent}
@@ -9,7 +11,7 @@ use Rattle.bz_task.specs.declared.path.Path.{Path}
 use Rattle.bz_layout.specs.declared.swaps.TheConstants.{RENEWAL_SWAPS}
 use Rattle.bz_task.specs.declared.todo.Outcome.TheVariants.{NeedsRoom}
 use Rattle.bz_task.specs.declared.view.LeafView.{LeafView}
-use Rattle.bz_running.specs.Duties.{config_of, asks_of, end_of, swaps_of, made_of, wants_of, facts_of, makes_no_change}
+use Rattle.bz_running.specs.Duties.{config_of, asks_of, end_of, swaps_of, made_of, wants_of, facts_of, makes_no_change, left_of}
 use Rattle.bz_running.specs.Hearing.{IsLookup}
 use Rattle.bz_running.specs.MadeFor.{WasCrowded, IsMadeFor}
 use Rattle.bz_running.specs.declared.running.AnyTask.{AnyTask}
@@ -23,6 +25,7 @@ pub record IsInScene (t : AnyTask) : Type 0 where
 pub record IsSplitAt (c : Config) (a : Ascent) (t : AnyTask) : Type 0 where
   pub config : config_of t ≡ c
   pub asks : asks_of t ≡ None
+  pub left : left_of t ≤ max fork_acts crown_acts
   pub swaps : swaps_of t ≡ RENEWAL_SWAPS
   pub made : made_of t ≡ 0
   pub wants : wants_of t ≡ SPLIT_SLOTS
@@ -36,6 +39,7 @@ pub record IsSplitAt (c : Config) (a : Ascent) (t : AnyTask) : Type 0 where
 pub record GoesUp (t next : AnyTask) : Type 0 where
   pub config : config_of next ≡ config_of t
   pub asks : asks_of next ≡ None
+  pub left : left_of next ≤ max fork_acts crown_acts
   pub swaps : swaps_of next ≡ RENEWAL_SWAPS
   pub made : made_of next ≡ 0
   pub wanted : wants_of t ≡ SPLIT_SLOTS

@@ -1,10 +1,20 @@
 //! Whichever task it is.
 
 ghost use Rattle.std.specs.Prelude.{◌≡◌, ◌+◌, ◌-◌, ◌<◌, ◌≢◌, ◌≤◌, ℕ, List, true, false, Option, None, Some, slice_get};
-ghost use Rattle.bz_ascent.specs.FromBelow.Facts.{IsThawedAbove, LackedPart};
-ghost use Rattle.bz_consol.specs.Facts.{LeadsTo};
-ghost use Rattle.bz_leaf.specs.Facts.{IsLastLink};
+ghost use Rattle.bz_ascent.specs.FromBelow.Facts.{IsThawedAbove, LackedPart, below_acts};
+ghost use Rattle.bz_consol.specs.Facts.{LeadsTo, consol_acts};
+ghost use Rattle.bz_leaf.specs.Facts.{IsLastLink, leaf_acts};
 ghost use Rattle.bz_layout.specs.declared.thresholds.TheConstants.{CONSOLIDATION_SLOTS, MERGE_BELOW, MERGE_SLOTS, SPLIT_ABOVE, SPLIT_SLOTS, MAX_LEVELS};
+ghost use Rattle.bz_descend.specs.SeekFacts.{seek_reads};
+ghost use Rattle.bz_find.specs.Facts.{find_acts};
+ghost use Rattle.bz_freeze.specs.Facts.{freeze_left};
+ghost use Rattle.bz_freeze.specs.declared.phase.Phase.TheVariants.{Fresh as FreshFreeze};
+ghost use Rattle.bz_insert.specs.Facts.{insert_acts};
+ghost use Rattle.bz_merge.specs.Facts.{merge_acts};
+ghost use Rattle.bz_merge.specs.FromSplit.Facts.{split_acts};
+ghost use Rattle.bz_mutate.specs.DeleteFacts.{delete_left};
+ghost use Rattle.bz_mutate.specs.UpdateFacts.{update_acts};
+ghost use Rattle.bz_mutate.specs.declared.delete_phase.DeletePhase.TheVariants.{Fresh as FreshDelete};
 ghost use Rattle.bz_page.specs.Pages.{IsLeafByItself};
 ghost use Rattle.bz_record.specs.Records.{words_for, LacksRoom};
 ghost use Rattle.bz_slotted.specs.Readers.{live_of};
@@ -57,10 +67,11 @@ pub enum AnyTask {
 
 impl AnyTask {
     /// The way to the leaf of a key, by halving. It asks for the root status first.
-    #[tactic(auto, unfolding(crate::specs::Duties::config_of, crate::specs::Duties::asks_of, crate::specs::Duties::swaps_of, crate::specs::Duties::made_of, crate::specs::Duties::needs_of, crate::specs::Duties::wants_of, crate::specs::Duties::facts_of, crate::specs::Duties::means_of, crate::specs::Duties::ascent_of, crate::specs::Duties::makes_no_change, crate::specs::LookingUp::look_of, crate::specs::LookingUp::reads_asked))]
+    #[tactic(auto, unfolding(crate::specs::Duties::config_of, crate::specs::Duties::asks_of, crate::specs::Duties::left_of, crate::specs::Duties::swaps_of, crate::specs::Duties::made_of, crate::specs::Duties::needs_of, crate::specs::Duties::wants_of, crate::specs::Duties::facts_of, crate::specs::Duties::means_of, crate::specs::Duties::ascent_of, crate::specs::Duties::makes_no_change, crate::specs::LookingUp::look_of, crate::specs::LookingUp::reads_asked))]
     pub fn seek(config: &Config, key: Key) -> AnyTask
         ensures config { config_of result ≡ config.now }
         ensures asks { asks_of result ≡ Some (Read ROOT_STATUS_AT) }
+        ensures left { left_of result ≡ seek_reads }
         ensures swaps { swaps_of result ≡ 0 }
         ensures made { made_of result ≡ 0 }
         ensures needs { needs_of result ≡ 0 }
@@ -75,12 +86,13 @@ impl AnyTask {
     }
 
     /// A look-up of a key in the last leaf of a path.
-    #[tactic(auto, unfolding(crate::specs::Duties::config_of, crate::specs::Duties::asks_of, crate::specs::Duties::swaps_of, crate::specs::Duties::made_of, crate::specs::Duties::needs_of, crate::specs::Duties::wants_of, crate::specs::Duties::facts_of, crate::specs::Duties::means_of, crate::specs::Duties::ascent_of, crate::specs::Duties::makes_no_change, crate::specs::Duties::change_of, crate::specs::LookingUp::look_of, crate::specs::LookingUp::reads_asked))]
+    #[tactic(auto, unfolding(crate::specs::Duties::config_of, crate::specs::Duties::asks_of, crate::specs::Duties::left_of, crate::specs::Duties::swaps_of, crate::specs::Duties::made_of, crate::specs::Duties::needs_of, crate::specs::Duties::wants_of, crate::specs::Duties::facts_of, crate::specs::Duties::means_of, crate::specs::Duties::ascent_of, crate::specs::Duties::makes_no_change, crate::specs::Duties::change_of, crate::specs::LookingUp::look_of, crate::specs::LookingUp::reads_asked))]
     pub fn find(config: &Config, path: Path, key: Key) -> AnyTask
         requires some { 1 ≤ path.depth }
         requires few { path.depth ≤ MAX_LEVELS }
         ensures config { config_of result ≡ config.now }
         ensures asks { asks_of result ≡ None }
+        ensures left { left_of result ≡ find_acts }
         ensures swaps { swaps_of result ≡ 0 }
         ensures made { made_of result ≡ 0 }
         ensures needs { needs_of result ≡ 0 }
@@ -97,12 +109,13 @@ impl AnyTask {
     }
 
     /// A reading of the last leaf of a path.
-    #[tactic(auto, unfolding(crate::specs::Duties::config_of, crate::specs::Duties::asks_of, crate::specs::Duties::swaps_of, crate::specs::Duties::made_of, crate::specs::Duties::needs_of, crate::specs::Duties::wants_of, crate::specs::Duties::facts_of, crate::specs::Duties::means_of, crate::specs::Duties::ascent_of, crate::specs::Duties::makes_no_change))]
+    #[tactic(auto, unfolding(crate::specs::Duties::config_of, crate::specs::Duties::asks_of, crate::specs::Duties::left_of, crate::specs::Duties::swaps_of, crate::specs::Duties::made_of, crate::specs::Duties::needs_of, crate::specs::Duties::wants_of, crate::specs::Duties::facts_of, crate::specs::Duties::means_of, crate::specs::Duties::ascent_of, crate::specs::Duties::makes_no_change))]
     pub fn read_leaf(config: &Config, path: Path, key: Key) -> AnyTask
         requires some { 1 ≤ path.depth }
         requires few { path.depth ≤ MAX_LEVELS }
         ensures config { config_of result ≡ config.now }
         ensures asks { asks_of result ≡ None }
+        ensures left { left_of result ≡ leaf_acts }
         ensures swaps { swaps_of result ≡ 0 }
         ensures made { made_of result ≡ 0 }
         ensures needs { needs_of result ≡ 0 }
@@ -115,11 +128,12 @@ impl AnyTask {
     }
 
     /// The insert of a key that was not found in its leaf.
-    #[tactic(auto, unfolding(crate::specs::Duties::config_of, crate::specs::Duties::asks_of, crate::specs::Duties::swaps_of, crate::specs::Duties::made_of, crate::specs::Duties::change_swaps, crate::specs::Duties::needs_of, crate::specs::Duties::wants_of, crate::specs::Duties::change_of, crate::specs::Duties::facts_of, crate::specs::Duties::means_of, crate::specs::Duties::ascent_of))]
+    #[tactic(auto, unfolding(crate::specs::Duties::config_of, crate::specs::Duties::asks_of, crate::specs::Duties::left_of, crate::specs::Duties::swaps_of, crate::specs::Duties::made_of, crate::specs::Duties::change_swaps, crate::specs::Duties::needs_of, crate::specs::Duties::wants_of, crate::specs::Duties::change_of, crate::specs::Duties::facts_of, crate::specs::Duties::means_of, crate::specs::Duties::ascent_of))]
     pub fn insert(config: &Config, path: Path, view: KeyView, key: Key, payload: Payload) -> AnyTask
         requires absent { view.found ≡ None }
         ensures config { config_of result ≡ config.now }
         ensures asks { asks_of result ≡ None }
+        ensures left { left_of result ≡ insert_acts }
         ensures swaps { swaps_of result ≡ INSERT_SWAPS }
         ensures made { made_of result ≡ 0 }
         // its change takes so many swaps
@@ -136,11 +150,12 @@ impl AnyTask {
     }
 
     /// The update of a key that was found in its leaf.
-    #[tactic(auto, unfolding(crate::specs::Duties::config_of, crate::specs::Duties::asks_of, crate::specs::Duties::swaps_of, crate::specs::Duties::made_of, crate::specs::Duties::change_swaps, crate::specs::Duties::needs_of, crate::specs::Duties::wants_of, crate::specs::Duties::change_of, crate::specs::Duties::facts_of, crate::specs::Duties::means_of, crate::specs::Duties::ascent_of))]
+    #[tactic(auto, unfolding(crate::specs::Duties::config_of, crate::specs::Duties::asks_of, crate::specs::Duties::left_of, crate::specs::Duties::swaps_of, crate::specs::Duties::made_of, crate::specs::Duties::change_swaps, crate::specs::Duties::needs_of, crate::specs::Duties::wants_of, crate::specs::Duties::change_of, crate::specs::Duties::facts_of, crate::specs::Duties::means_of, crate::specs::Duties::ascent_of))]
     pub fn update(config: &Config, path: Path, view: KeyView, key: Key, payload: Payload) -> AnyTask
         requires present { view.found ≢ None }
         ensures config { config_of result ≡ config.now }
         ensures asks { asks_of result ≡ None }
+        ensures left { left_of result ≡ update_acts }
         ensures swaps { swaps_of result ≡ UPDATE_SWAPS }
         ensures made { made_of result ≡ 0 }
         // its change takes so many swaps
@@ -157,11 +172,12 @@ impl AnyTask {
     }
 
     /// The delete of a key that was found in its leaf.
-    #[tactic(auto, unfolding(crate::specs::Duties::config_of, crate::specs::Duties::asks_of, crate::specs::Duties::swaps_of, crate::specs::Duties::made_of, crate::specs::Duties::change_swaps, crate::specs::Duties::needs_of, crate::specs::Duties::wants_of, crate::specs::Duties::change_of, crate::specs::Duties::facts_of, crate::specs::Duties::means_of, crate::specs::Duties::ascent_of))]
+    #[tactic(auto, unfolding(crate::specs::Duties::config_of, crate::specs::Duties::asks_of, crate::specs::Duties::left_of, crate::specs::Duties::swaps_of, crate::specs::Duties::made_of, crate::specs::Duties::change_swaps, crate::specs::Duties::needs_of, crate::specs::Duties::wants_of, crate::specs::Duties::change_of, crate::specs::Duties::facts_of, crate::specs::Duties::means_of, crate::specs::Duties::ascent_of))]
     pub fn delete(config: &Config, path: Path, view: KeyView, key: Key) -> AnyTask
         requires present { view.found ≢ None }
         ensures config { config_of result ≡ config.now }
         ensures asks { asks_of result ≡ None }
+        ensures left { left_of result ≡ delete_left FreshDelete }
         ensures swaps { swaps_of result ≡ DELETE_SWAPS }
         ensures made { made_of result ≡ 0 }
         // its change takes so many swaps
@@ -178,11 +194,12 @@ impl AnyTask {
     }
 
     /// The freeze of a leaf that was not frozen when it was viewed.
-    #[tactic(auto, unfolding(crate::specs::Duties::config_of, crate::specs::Duties::asks_of, crate::specs::Duties::swaps_of, crate::specs::Duties::made_of, crate::specs::Duties::needs_of, crate::specs::Duties::wants_of, crate::specs::Duties::facts_of, crate::specs::Duties::means_of, crate::specs::Duties::ascent_of, crate::specs::Duties::makes_no_change))]
+    #[tactic(auto, unfolding(crate::specs::Duties::config_of, crate::specs::Duties::asks_of, crate::specs::Duties::left_of, crate::specs::Duties::swaps_of, crate::specs::Duties::made_of, crate::specs::Duties::needs_of, crate::specs::Duties::wants_of, crate::specs::Duties::facts_of, crate::specs::Duties::means_of, crate::specs::Duties::ascent_of, crate::specs::Duties::makes_no_change))]
     pub fn freeze(config: &Config, path: Path, view: LeafView) -> AnyTask
         requires thawed { (status view.status).frozen ≡ false }
         ensures config { config_of result ≡ config.now }
         ensures asks { asks_of result ≡ None }
+        ensures left { left_of result ≡ freeze_left FreshFreeze }
         ensures swaps { swaps_of result ≡ FREEZE_SWAPS }
         ensures made { made_of result ≡ 0 }
         ensures needs { needs_of result ≡ 0 }
@@ -197,7 +214,7 @@ impl AnyTask {
     }
 
     /// The consolidation of a frozen leaf, to which the path leads.
-    #[tactic(auto, unfolding(crate::specs::Duties::config_of, crate::specs::Duties::asks_of, crate::specs::Duties::swaps_of, crate::specs::Duties::made_of, crate::specs::Duties::needs_of, crate::specs::Duties::wants_of, crate::specs::Duties::facts_of, crate::specs::Duties::means_of, crate::specs::Duties::ascent_of, crate::specs::Duties::makes_no_change))]
+    #[tactic(auto, unfolding(crate::specs::Duties::config_of, crate::specs::Duties::asks_of, crate::specs::Duties::left_of, crate::specs::Duties::swaps_of, crate::specs::Duties::made_of, crate::specs::Duties::needs_of, crate::specs::Duties::wants_of, crate::specs::Duties::facts_of, crate::specs::Duties::means_of, crate::specs::Duties::ascent_of, crate::specs::Duties::makes_no_change))]
     pub fn consolidate(config: &Config, path: Path, view: LeafView, page: &mut PageBuf) -> AnyTask
         requires some { 1 ≤ path.depth }
         requires few { path.depth ≤ MAX_LEVELS }
@@ -206,6 +223,7 @@ impl AnyTask {
         requires alone { IsLeafByItself view.image.0 }
         ensures config { config_of result ≡ config.now }
         ensures asks { asks_of result ≡ None }
+        ensures left { left_of result ≡ consol_acts }
         ensures swaps { swaps_of result ≡ RENEWAL_SWAPS }
         ensures made { made_of result ≡ 0 }
         ensures needs { needs_of result ≡ CONSOLIDATION_SLOTS }
@@ -220,7 +238,7 @@ impl AnyTask {
     }
 
     /// The split of a frozen root leaf with more live words than it may keep, to which the path leads.
-    #[tactic(auto, unfolding(crate::specs::Duties::config_of, crate::specs::Duties::asks_of, crate::specs::Duties::swaps_of, crate::specs::Duties::made_of, crate::specs::Duties::needs_of, crate::specs::Duties::wants_of, crate::specs::Duties::facts_of, crate::specs::Duties::means_of, crate::specs::Duties::ascent_of, crate::specs::Duties::makes_no_change))]
+    #[tactic(auto, unfolding(crate::specs::Duties::config_of, crate::specs::Duties::asks_of, crate::specs::Duties::left_of, crate::specs::Duties::swaps_of, crate::specs::Duties::made_of, crate::specs::Duties::needs_of, crate::specs::Duties::wants_of, crate::specs::Duties::facts_of, crate::specs::Duties::means_of, crate::specs::Duties::ascent_of, crate::specs::Duties::makes_no_change))]
     pub fn split_root(config: &Config, path: Path, view: LeafView, page: &mut PageBuf) -> AnyTask
         requires root { path.depth ≡ 1 }
         requires alone { IsLeafByItself view.image.0 }
@@ -229,6 +247,7 @@ impl AnyTask {
         requires leads { LeadsTo path view.slot }
         ensures config { config_of result ≡ config.now }
         ensures asks { asks_of result ≡ None }
+        ensures left { left_of result ≡ split_acts }
         ensures swaps { swaps_of result ≡ RENEWAL_SWAPS }
         ensures made { made_of result ≡ 0 }
         ensures needs { needs_of result ≡ SPLIT_SLOTS }
@@ -242,7 +261,7 @@ impl AnyTask {
     }
 
     /// The split of a frozen leaf below a parent, with more live words than it may keep, to which the path leads.
-    #[tactic(auto, unfolding(crate::specs::Duties::config_of, crate::specs::Duties::asks_of, crate::specs::Duties::swaps_of, crate::specs::Duties::made_of, crate::specs::Duties::needs_of, crate::specs::Duties::wants_of, crate::specs::Duties::facts_of, crate::specs::Duties::means_of, crate::specs::Duties::ascent_of, crate::specs::Duties::makes_no_change))]
+    #[tactic(auto, unfolding(crate::specs::Duties::config_of, crate::specs::Duties::asks_of, crate::specs::Duties::left_of, crate::specs::Duties::swaps_of, crate::specs::Duties::made_of, crate::specs::Duties::needs_of, crate::specs::Duties::wants_of, crate::specs::Duties::facts_of, crate::specs::Duties::means_of, crate::specs::Duties::ascent_of, crate::specs::Duties::makes_no_change))]
     pub fn split_below(
         config: &Config,
         path: Path,
@@ -259,6 +278,7 @@ impl AnyTask {
         requires thawed { IsThawedAbove path }
         ensures config { config_of result ≡ config.now }
         ensures asks { asks_of result ≡ None }
+        ensures left { left_of result ≡ below_acts }
         ensures swaps { swaps_of result ≡ RENEWAL_SWAPS }
         ensures made { made_of result ≡ 0 }
         ensures needs { needs_of result ≡ SPLIT_SLOTS }
@@ -277,7 +297,7 @@ impl AnyTask {
 
     /// The merge of a leaf below a parent, frozen or not, to which the path leads and which has too few live words to stand alone, with a
     /// neighbour.
-    #[tactic(auto, unfolding(crate::specs::Duties::config_of, crate::specs::Duties::asks_of, crate::specs::Duties::swaps_of, crate::specs::Duties::made_of, crate::specs::Duties::needs_of, crate::specs::Duties::wants_of, crate::specs::Duties::facts_of, crate::specs::Duties::means_of, crate::specs::Duties::ascent_of, crate::specs::Duties::makes_no_change))]
+    #[tactic(auto, unfolding(crate::specs::Duties::config_of, crate::specs::Duties::asks_of, crate::specs::Duties::left_of, crate::specs::Duties::swaps_of, crate::specs::Duties::made_of, crate::specs::Duties::needs_of, crate::specs::Duties::wants_of, crate::specs::Duties::facts_of, crate::specs::Duties::means_of, crate::specs::Duties::ascent_of, crate::specs::Duties::makes_no_change))]
     pub fn merge(config: &Config, path: Path, view: LeafView) -> AnyTask
         requires deep { 2 ≤ path.depth }
         requires few { path.depth ≤ MAX_LEVELS }
@@ -286,6 +306,7 @@ impl AnyTask {
         requires thawed { IsThawedAbove path }
         ensures config { config_of result ≡ config.now }
         ensures asks { asks_of result ≡ None }
+        ensures left { left_of result ≡ merge_acts }
         ensures swaps { swaps_of result ≡ MERGE_SWAPS }
         ensures made { made_of result ≡ 0 }
         ensures needs { needs_of result ≡ MERGE_SLOTS }
