@@ -2,7 +2,7 @@
 //! split, or to be merged with a neighbour; and what its parent needs, where that has no room for the split.
 ghost use Rattle.std.specs.Prelude.{◌≡◌, ◌<◌, true, false, length};
 ghost use Rattle.bz_word.specs.Statuses.{status};
-ghost use Rattle.bz_world.specs.Inside.Going.{MustRestructure, MustFreeze, MustMakeAnew, MustCopy, MustMerge, MustSplit, MustSplitBelow, MustGoUp, WentOn};
+ghost use Rattle.bz_world.specs.Inside.Going.{MustRestructure, MustMakeAnew, MustCopy, MustMerge, MustSplit, MustSplitBelow, MustGoUp, WentOn};
 
 use crate::answers::Applied;
 use crate::calls::{called, found_path, is_alone, key_of, set_task};
@@ -16,7 +16,7 @@ use bz_task::{LeafView, Path};
 
 // Freezes the leaf that was read.
 fn freeze(parts: &mut Parts, w: u8, path: Path, view: &LeafView) -> Applied
-    requires freeze { MustFreeze parts.old w view.now }
+    requires lacks { MustRestructure parts.old w view.now }
     requires thawed { (status view.now.status).frozen ≡ false }
     requires room { length parts.old.journal.past < parts.old.config.marks }
     ensures { WentOn parts.old w result parts.new }

@@ -234,11 +234,6 @@ pub record MustRestructure (p : Parts) (w : ℕ) (view : LeafView) : Type 0 wher
   pub answer : MustAnswer p w view
   pub lacks : LacksRoomFor answer.on.serving.call view.status
 
--- it is not frozen
-pub record MustFreeze (p : Parts) (w : ℕ) (view : LeafView) : Type 0 where
-  pub must : MustRestructure p w view
-  pub thawed : (status view.status).frozen ≡ false
-
 -- its leaf, which was found by this path, is to be made anew
 pub record MustMakeAnew (p : Parts) (w : ℕ) (path : Path) (view : LeafView) : Type 0 where
   pub answer : MustAnswer p w view

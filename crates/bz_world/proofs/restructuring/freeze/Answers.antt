@@ -8,11 +8,11 @@ use Rattle.bz_world.proofs.TakingOn.{task-begins, slot-is, went-anew}
 use Rattle.bz_world.proofs.restructuring.freeze.Goals as goal
 
 pub begin_task-requires-clause-begins : goal.begin_task-requires-clause-begins
-begin_task-requires-clause-begins c = task-begins c.args.parts.now c.args.w c.freeze-task.result c.requires.freeze.must.answer.on.serving.had None None
-    (freeze-taken c.start_laws.ensures.scenes c.args.parts.now c.args.w c.args.view.now c.requires.freeze.must.answer c.freeze-task.result c.freeze-task.ensures.config c.laws.ensures c.freeze-task.ensures.silent c.freeze-task.ensures.ends c.freeze-task.ensures.asks c.freeze-task.ensures.wants c.freeze-task.ensures.facts
-    (freeze-meant c.requires.freeze.must.answer.on.serving.call c.freeze-task.result c.args.view.now (known c.args.parts.now c.args.w c.requires.freeze.must.answer.on).past c.requires.freeze.must.lacks c.requires.freeze.thawed c.requires.freeze.must.answer.viewed c.freeze-task.ensures.made_for))
-    c.set_task.new.slot (c.set_task.ensures ∙ ap (λ (z : Option OpenCall). with_task z c.freeze-task.result None) (slot-is c.args.parts.now c.args.w c.requires.freeze.must.answer.on c.index_mut.result.now c.index_mut.ensures.value))
-    c.requires.freeze.must.answer.on.between.call_open.told c.start_laws.ensures.lone c.requires.freeze.must.answer.other refl
+begin_task-requires-clause-begins c = task-begins c.args.parts.now c.args.w c.freeze-task.result c.requires.lacks.answer.on.serving.had None None
+    (freeze-taken c.start_laws.ensures.scenes c.args.parts.now c.args.w c.args.view.now c.requires.lacks.answer c.freeze-task.result c.freeze-task.ensures.config c.laws.ensures c.freeze-task.ensures.silent c.freeze-task.ensures.ends c.freeze-task.ensures.asks c.freeze-task.ensures.wants c.freeze-task.ensures.facts
+    (freeze-meant c.requires.lacks.answer.on.serving.call c.freeze-task.result c.args.view.now (known c.args.parts.now c.args.w c.requires.lacks.answer.on).past c.requires.lacks.lacks c.requires.thawed c.requires.lacks.answer.viewed c.freeze-task.ensures.made_for))
+    c.set_task.new.slot (c.set_task.ensures ∙ ap (λ (z : Option OpenCall). with_task z c.freeze-task.result None) (slot-is c.args.parts.now c.args.w c.requires.lacks.answer.on c.index_mut.result.now c.index_mut.ensures.value))
+    c.requires.lacks.answer.on.between.call_open.told c.start_laws.ensures.lone c.requires.lacks.answer.other refl
 
 pub returns : goal.returns
 returns c = went-anew c.args.parts.now (with_item c.args.parts.now.workers c.args.w c.set_task.new.slot) c.args.parts.now.page c.args.w c.begin_task.result c.begin_task.new.parts c.begin_task.ensures

@@ -6,8 +6,5 @@ use Rattle.bz_world.proofs.restructuring.restructure.Goals as goal
 pub make_anew-requires-clause-anew : goal.make_anew-requires-clause-anew
 make_anew-requires-clause-anew c = record { answer = c.requires.lacks.answer; way = c.requires.lacks.answer.leads c.found_path-path.result (ap path_in (sym (slot-is c.args.parts.now c.args.w c.requires.lacks.answer.on c.index.result.now c.index.ensures)) ∙ c.found_path-path.ensures) }
 
-pub freeze-requires-clause-freeze : goal.freeze-requires-clause-freeze
-freeze-requires-clause-freeze c = record { must = c.requires.lacks; thawed = sym c.is_frozen.ensures ∙ c.if-is_frozen.false }
-
 pub found_path-path-requires : goal.found_path-path-requires
 found_path-path-requires c = some-path c.args.parts.now c.args.w c.requires.lacks.answer.on c.index.result.now c.index.ensures c.requires.lacks.answer.some
