@@ -11,7 +11,7 @@ use Rattle.bz_task.specs.Scene.{Past, Scene, Waiting, IsScene, here}
 use Rattle.bz_task.specs.Steps.{next_stamp}
 use Rattle.bz_task.specs.Swaps.{Stand}
 use Rattle.bz_task.specs.declared.view.KeyView.{KeyView}
-use Rattle.bz_record.specs.Leaves.{WasLeaf, HasSwapped, WasReserved}
+use Rattle.bz_record.specs.Leaves.{WasLeafThen, HasSwapped, WasReserved}
 use Rattle.bz_record.specs.Records.{size_of, place_of, HasRoom, Fits}
 use Rattle.bz_record.specs.Replacing.{growth, replacement, status_grown, WasGrown}
 use Rattle.bz_record.specs.Swaps.{entries_of, status_entry, meta_entry, reservation, publication, status_reserved}
@@ -41,7 +41,7 @@ reserved-count codec r f =
 
 module _ (b : Laws) (codec : Statuses) (s : Scene) (good : IsScene s) (m : ℕ) (q : IsQuietSince m s.past) where
   -- the free metadata word, while the leaf is as it was viewed
-  reservation-stands : (r : NewRecord) (moment : ℕ) (w : WasLeaf r.slot r.status moment s.past) → m ≤ moment → HasRoom r.status (size_of r) → Stand (entries_of s.past.config (reservation r)) (here s)
+  reservation-stands : (r : NewRecord) (moment : ℕ) (w : WasLeafThen r.slot r.status moment s.past) → m ≤ moment → HasRoom r.status (size_of r) → Stand (entries_of s.past.config (reservation r)) (here s)
   reservation-stands r moment w from h =
       two-stand (status_entry s.past.config (reservation r)) (meta_entry s.past.config (reservation r)) s
       (leaf-status b s good m q r.slot r.status moment w from)
@@ -57,14 +57,14 @@ module _ (b : Laws) (codec : Statuses) (s : Scene) (good : IsScene s) (m : ℕ) 
       (inl (omega (arith, counted-as b s good m q r.slot (status_reserved r) was.moment was.leaf.leaf from, reserved-count codec r f)))
       was.meta)
 
-  growth-stands : (r : NewRecord) (moment : ℕ) (w : WasLeaf r.slot r.status moment s.past) → m ≤ moment → Stand (growth s.past.config r ∷ []) (here s)
+  growth-stands : (r : NewRecord) (moment : ℕ) (w : WasLeafThen r.slot r.status moment s.past) → m ≤ moment → Stand (growth s.past.config r ∷ []) (here s)
   growth-stands r moment w from = one-stands (growth s.past.config r) s (leaf-status b s good m q r.slot r.status moment w from)
 
   pub replacement-stands : (r : NewRecord) (old : List ℕ) (place : ℕ) (e : Extent) (grown : WasGrown r old place e s.past) → m ≤ grown.was.moment → Stand (entries_of s.past.config (replacement r place e)) (here s)
   replacement-stands r old place e grown from = swap-stands b s good m q (replacement r place e) r.key old e grown.was from refl
 
 -- the first swap took effect before the moment at which the leaf is known to have its words
-had-one : (k st m : ℕ) (p : Past) → WasLeaf k st m p → HasSwapped m p → HadEffects 1 m p
+had-one : (k st m : ℕ) (p : Past) → WasLeafThen k st m p → HasSwapped m p → HadEffects 1 m p
 had-one k st m p w h = record { since = w.since; now = w.now; effects = h }
 
 module _ (b : Laws) (codec : Statuses) (s : Scene) (good : IsScene s) where

@@ -16,7 +16,7 @@ use Rattle.bz_task.specs.Laws.{IsLeafInTree}
 use Rattle.bz_task.specs.Scene.{Scene, IsScene, here}
 use Rattle.bz_task.specs.Shown.{IsShown}
 use Rattle.bz_task.specs.Swaps.{Stand}
-use Rattle.bz_record.specs.Leaves.{WasLeaf}
+use Rattle.bz_record.specs.Leaves.{WasLeafThen}
 use Rattle.bz_record.specs.Replacing.{WasRecord}
 use Rattle.bz_record.specs.Swaps.{entries_of, status_entry, meta_entry}
 use Rattle.bz_record.specs.declared.record_swap.RecordSwap.{RecordSwap}
@@ -28,7 +28,7 @@ use Rattle.bz_alone.proofs.Standing.{good-at, reached-in, word-stands, status-st
 pub two-stand : (a b : Entry) (s : Scene) → (here s).value a.target ≡ a.expected → (here s).value b.target ≡ b.expected → Stand (a ∷ b ∷ []) (here s)
 two-stand a b s h k = All-cons (λ (z : Entry). (here s).value z.target ≡ z.expected) a (b ∷ []) h (All-cons (λ (z : Entry). (here s).value z.target ≡ z.expected) b [] k (λ i d l. absurd (omega (arith, l))))
 
-module _ (b : Laws) (s : Scene) (good : IsScene s) (m : ℕ) (q : IsQuietSince m s.past) (k st moment : ℕ) (w : WasLeaf k st moment s.past) (from : m ≤ moment) where
+module _ (b : Laws) (s : Scene) (good : IsScene s) (m : ℕ) (q : IsQuietSince m s.past) (k st moment : ℕ) (w : WasLeafThen k st moment s.past) (from : m ≤ moment) where
   pub leaf-reached : (s.past.at moment).reached k ≡ true
   leaf-reached = reached-in b.values s good m q moment k from w.now w.slot w.inside
 

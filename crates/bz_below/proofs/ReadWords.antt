@@ -21,7 +21,7 @@ use Rattle.bz_task.specs.Instant.{Instant, words, durable, page_at}
 use Rattle.bz_task.specs.Laws.{AreMoments, NodesStay}
 use Rattle.bz_task.specs.Requests.{Answers}
 use Rattle.bz_task.specs.Scene.{Past, Scene, IsScene, here}
-use Rattle.bz_task.specs.Shown.{SameNode}
+use Rattle.bz_task.specs.Shown.{SameShownNode}
 use Rattle.bz_renew.proofs.Words.{node-at, node-past}
 use Rattle.bz_below.specs.Parents.{WasWord, WasReadOrFree, WereRead}
 
@@ -108,7 +108,7 @@ module _ (nodes : NodesStay) (rules : InnerRulesAreFacts) (s : Scene) (k m st l 
 
   read-was : (j : ℕ) → WasWord k j (slice_index read j) m s.past → words c x k j ≡ slice_index read j
   read-was j r =
-      let same : SameNode c x (s.past.at r.moment) k = nodes c s.past.at s.past.since s.past.now m r.moment s.past.now k good.history moments r.order r.now reached (now ∙ sym was) in
+      let same : SameShownNode c x (s.past.at r.moment) k = nodes c s.past.at s.past.since s.past.now m r.moment s.past.now k good.history moments r.order r.now reached (now ∙ sym was) in
       sym (same j (inr (inr (inl inner)))) ∙ r.word
 
   header-was : WasReadOrFree k HEADER_AT m read s.past → words c x k HEADER_AT ≡ slice_index read HEADER_AT

@@ -20,7 +20,7 @@ use Rattle.bz_task.specs.declared.todo.Seen.TheVariants.{Start, Read as Was, Sto
 use Rattle.bz_consol.specs.Facts.{Renewal, HasViewed, IsCopying, HasBegun, HasLooked, consol_asks, consol_differs, consol_end, consol_left, consol_swaps, consol_needs, consol_facts, next_flush, IsReady}
 use Rattle.bz_renew.specs.Guards.{WasAsRead}
 use Rattle.bz_renew.specs.Renewals.{IsTurnable, LinksMayBeTurned}
-use Rattle.bz_renew.specs.Writing.{IsTaken, IsWriting}
+use Rattle.bz_renew.specs.Writing.{TakesFirst, IsWritingNode}
 use Rattle.bz_consol.specs.declared.phase.Phase.{Phase}
 use Rattle.bz_consol.specs.declared.phase.Phase.TheVariants.{Fresh, Guard, Store, Flush, Swap, Done, Restart, NoSlot, NoSwap}
 use Rattle.bz_renew.proofs.Guards.{answered-as-read}
@@ -50,7 +50,7 @@ pub begun-knows : SlotsApart → (r : Renewal) (phase : Phase) (s : Scene) (old 
 begun-knows apart r (Store i) s old new h nodes unreached filled viewed looked nothing =
     let below : r.slot < s.past.config.nodes = omega (arith, h.1.0.slot, nodes) in (
       taken-filled apart s old new r.slot h.1.0 below unreached filled,
-      (omega (arith, h.0), record { viewed = viewed; looked = looked; writing = subst (λ z. IsWriting r.slot r.image z 0 (gained s old new)) (sym h.0) (taken-writing apart s old new r.slot h.1.0 below unreached r.image) }),
+      (omega (arith, h.0), record { viewed = viewed; looked = looked; writing = subst (λ z. IsWritingNode r.slot r.image z 0 (gained s old new)) (sym h.0) (taken-writing apart s old new r.slot h.1.0 below unreached r.image) }),
     )
 begun-knows apart r NoSlot s old new h nodes unreached filled viewed looked nothing = subst (λ z. HasFilled (gained s old z)) (sym h.1) (nothing s old filled)
 begun-knows apart r Fresh s old new h nodes unreached filled viewed looked nothing = absurd (h)
@@ -157,7 +157,7 @@ pub takes-none : (o p : Phase) (free : FreeSlots) → p ≢ Fresh → p ≢ Guar
 takes-none o p free ne unlooked = inr (record { fewer = omega (arith, needs-none p ne unlooked); slots = refl })
 
 -- the slot is taken
-begun-taken : (slot : ℕ) (old new : FreeSlots) → IsTaken slot old new → new.nodes ≡ old.nodes → AreTakenFrom CONSOLIDATION_SLOTS 0 old new
+begun-taken : (slot : ℕ) (old new : FreeSlots) → TakesFirst slot old new → new.nodes ≡ old.nodes → AreTakenFrom CONSOLIDATION_SLOTS 0 old new
 begun-taken slot old new t nodes = inl (record {
   some = omega arith;
   enough = omega (arith, ap length t.first);

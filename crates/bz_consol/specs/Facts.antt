@@ -27,7 +27,7 @@ use Rattle.bz_renew.specs.FrozenLeaves.{WasFrozenLeaf}
 use Rattle.bz_renew.specs.Guards.{WasAsRead}
 use Rattle.bz_renew.specs.Renewals.{renewal}
 use Rattle.bz_renew.specs.Sorted.{IsSortedLeaf}
-use Rattle.bz_renew.specs.Writing.{IsWriting, HasFilledBut, IsTaken}
+use Rattle.bz_renew.specs.Writing.{IsWritingNode, HasFilledBut, TakesFirst}
 use Rattle.bz_consol.specs.declared.phase.Phase.{Phase}
 use Rattle.bz_consol.specs.declared.phase.Phase.TheVariants.{Fresh, Guard, Store, Flush, Swap, Done, Restart, NoSlot, NoSwap}
 
@@ -101,7 +101,7 @@ pub record HasViewed (link : Link) (image : List ℕ) (p : Past) : Type 0 where
 pub record IsCopying (r : Renewal) (count lines : ℕ) (s : Scene) : Type 0 where
   pub viewed : HasViewed r.link r.image s.past
   pub looked : WasAsRead r.link viewed.moment s.past
-  pub writing : IsWriting r.slot r.image count lines s
+  pub writing : IsWritingNode r.slot r.image count lines s
 
 -- the words are a leaf made whole of the records that a viewed leaf shows, in the order of their keys, between its fences
 pub record IsMadeOf (viewed copy : List ℕ) : Type 0 where
@@ -177,7 +177,7 @@ IsReady c r phase = Unit {0}
 
 -- a slot was taken for the copy, or there was none
 abbrev pub HasBegun : ℕ → Phase → FreeSlots → FreeSlots → Type 0
-HasBegun slot (Store i) old new = (i ≡ 0) × (IsTaken slot old new × (new.nodes ≡ old.nodes))
+HasBegun slot (Store i) old new = (i ≡ 0) × (TakesFirst slot old new × (new.nodes ≡ old.nodes))
 HasBegun slot NoSlot old new = (length old.free < CONSOLIDATION_SLOTS) × (new ≡ old)
 HasBegun slot phase old new = ⊥
 

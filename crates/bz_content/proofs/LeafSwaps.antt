@@ -18,7 +18,7 @@ use Rattle.bz_slotted.specs.Records.{key_in, key_at}
 use Rattle.bz_slotted.specs.Rules.{node_fault}
 use Rattle.bz_content.specs.Image.{Image, node}
 use Rattle.bz_content.specs.Laws.{LeafSwapsKeepTheTree, QuietSwapsKeepTheContent, RewritesChangeOneKey}
-use Rattle.bz_content.specs.Swaps.{form_in, OnLeaf, IsQuiet}
+use Rattle.bz_content.specs.Swaps.{form_in, OnLeaf, IsQuietChange}
 use Rattle.bz_content.specs.View.{view_of}
 use Rattle.bz_content.proofs.Honesty.{no}
 use Rattle.bz_content.proofs.Reached.{fits}
@@ -62,7 +62,7 @@ pub record OfLeaves : Type 0 where
 pub quiet-swaps : TreesHaveForms → LeafSwapsKeepTheTree → OfLeaves → QuietSwapsKeepTheContent
 quiet-swaps forms law l c x y k t s q = quiet forms c x y k t s law (alike q)
   where
-    alike : IsQuiet (node c x.raw k) (node c y.raw k) (node c x.words k) (node c y.words k)
+    alike : IsQuietChange (node c x.raw k) (node c y.raw k) (node c x.words k) (node c y.words k)
         → AnswersAlike c.nodes (node c y.raw k) (node c x.words k) (node c y.words k) ((form_in c x).low k) ((form_in c x).high k)
     alike (inl r) = l.reserves c.nodes (node c x.raw k) (node c y.raw k) (node c x.words k) (node c y.words k) _ _ r.0 (whole forms c x y k t s) r.1
     alike (inr o) = elim o [

@@ -19,7 +19,7 @@ use Rattle.bz_content.specs.Changes.{SameNode, SameRoot, SameBut, IsUnnamed}
 use Rattle.bz_content.specs.Content.{image_fault, IsWellFormed, content_in, view_in}
 use Rattle.bz_content.specs.Image.{Image, node, root}
 use Rattle.bz_content.specs.Resolving.{resolve}
-use Rattle.bz_content.specs.Swaps.{form_in, OnLeaf, StaysWhole, IsQuiet, TurnsLink, Consolidates}
+use Rattle.bz_content.specs.Swaps.{form_in, OnLeaf, StaysWhole, IsQuietChange, TurnsLink, Consolidates}
 use Rattle.bz_content.specs.Map.{map_of_image}
 use Rattle.bz_content.specs.Restructures.{Splits, SplitsRoot, Merges}
 use Rattle.bz_content.specs.View.{view_of}
@@ -69,7 +69,7 @@ LeafSwapsKeepTheTree =
 abbrev pub QuietSwapsKeepTheContent : Type 0
 QuietSwapsKeepTheContent =
     (c : Config) (x y : Image) (k : ℕ) → IsTree (view_of c x) → OnLeaf c x y k →
-    IsQuiet (node c x.raw k) (node c y.raw k) (node c x.words k) (node c y.words k) → SameTree (view_of c x) (view_of c y) × SameContent (view_of c x) (view_of c y)
+    IsQuietChange (node c x.raw k) (node c y.raw k) (node c x.words k) (node c y.words k) → SameTree (view_of c x) (view_of c y) × SameContent (view_of c x) (view_of c y)
 
 -- what is said of each key once record j of the leaf k says mt: nothing else than before of other keys than those
 -- of its old and its new record, the payload of a new one that is visible, and nothing of an old one that is gone

@@ -5,7 +5,7 @@ use Rattle.bz_layout.specs.declared.config.Config.{Config}
 use Rattle.bz_layout.specs.declared.sizes.TheConstants.{ROOT_AT, ROOT_STATUS_AT}
 use Rattle.bz_shape.specs.Form.{Form}
 use Rattle.bz_shape.specs.Walk.{is_among, form}
-use Rattle.bz_slotted.specs.Changes.{Reserves, Grows, Restamps, Stores}
+use Rattle.bz_slotted.specs.Changes.{Reserves, Grows, Restamps, StoresBeside}
 use Rattle.bz_slotted.specs.InnerChanges.{PointerSwap}
 use Rattle.bz_slotted.specs.Readers.{found_of}
 use Rattle.bz_slotted.specs.Rules.{node_fault}
@@ -31,8 +31,8 @@ StaysWhole c x y k = node_fault c.nodes (node c y.raw k) (node c y.words k) 0 ((
 
 -- a reservation, the first swap of an update, a freeze, or private stores into the block: the leaf's words
 -- before and after, as they stand and resolved
-abbrev pub IsQuiet : (r s n m : ℕ → ℕ) → Type 0
-IsQuiet r s n m = ((mt : Meta) × Reserves r s n m mt) ⊎ (((words : ℕ) × Grows r s n m words) ⊎ (Restamps r s n m ⊎ Stores r s n m))
+abbrev pub IsQuietChange : (r s n m : ℕ → ℕ) → Type 0
+IsQuietChange r s n m = ((mt : Meta) × Reserves r s n m mt) ⊎ (((words : ℕ) × Grows r s n m words) ⊎ (Restamps r s n m ⊎ StoresBeside r s n m))
 
 -- the root pointer goes to a slot, and of the root status nothing but the stamp is set
 pub record TurnsRoot (c : Config) (y : Image) (to : ℕ) : Type 0 where

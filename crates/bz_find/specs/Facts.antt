@@ -11,7 +11,7 @@ use Rattle.bz_leaf.specs.Facts.{IsKnownLeaf, Reading, HasLink, validating_reads}
 use Rattle.bz_task.specs.Instant.{durable}
 use Rattle.bz_task.specs.Outcomes.{IsPath, IsKeyView}
 use Rattle.bz_task.specs.Scene.{Past, Scene, Stage, Waiting, Took, HasFilled}
-use Rattle.bz_task.specs.Shown.{SameNode}
+use Rattle.bz_task.specs.Shown.{SameShownNode}
 use Rattle.bz_task.specs.Swaps.{Change}
 use Rattle.bz_task.specs.declared.path.Link.{Link}
 use Rattle.bz_task.specs.declared.path.Path.{Path}
@@ -78,7 +78,7 @@ pub record IsBounded (t : Find) : Type 0 where
 
 -- the words are those of a whole leaf, which is as it was at a moment since which they were read
 pub record IsStill (p : Past) (link : Link) (ws : List ℕ) (from : ℕ) : Type 0 where
-  pub same : (m : ℕ) → from ≤ m → m ≤ p.now → SameNode p.config (p.at from) (p.at m) link.slot
+  pub same : (m : ℕ) → from ≤ m → m ≤ p.now → SameShownNode p.config (p.at from) (p.at m) link.slot
   pub low : Option (List ℕ)
   pub high : Option (List ℕ)
   pub whole : Whole (node_of ws) (page (node_of ws)) low high

@@ -7,7 +7,7 @@ use Rattle.bz_task.specs.OwnActs.{Stores, Flushes}
 use Rattle.bz_task.specs.Scene.{Scene, Waiting, Took, IsScene, HasFilled, here}
 use Rattle.bz_task.specs.Swaps.{Stand, Takes}
 use Rattle.bz_task.specs.declared.todo.Todo.TheVariants.{Store as Stores_at, Flush as Flushes_line, Swap as Swaps_for}
-use Rattle.bz_record.specs.Laws.{LeavesWere, ReservationsTakeWords, IsTaken}
+use Rattle.bz_record.specs.Laws.{LeavesWere, ReservationsTakeWords, HasReserved}
 use Rattle.bz_record.specs.Records.{words_in, address_of}
 use Rattle.bz_record.specs.Swaps.{entries_of, reservation}
 use Rattle.bz_record.specs.Writing.{first_line, RecordsAreWritten}
@@ -29,7 +29,7 @@ pub took : ReservationsTakeWords → (c : Config) (r : NewRecord) (phase : Phase
 took law c r Fresh s after entries same f good later e stand t = absurd (cc)
 took law c r Reserve s after entries same f good later e stand t =
     let is : entries_of s.past.config (reservation r) ≡ entries = ap (λ z. entries_of z (reservation r)) same ∙ same-entries _ entries e in
-    let taken : IsTaken r after = law s after r f.1.viewed.moment good later (fits r s f.1) f.1.viewed.leaf (subst (λ z. Stand z (here s)) (sym is) stand) (subst (λ z. Takes false z s after) (sym is) t) in
+    let taken : HasReserved r after = law s after r f.1.viewed.moment good later (fits r s f.1) f.1.viewed.leaf (subst (λ z. Stand z (here s)) (sym is) stand) (subst (λ z. Takes false z s after) (sym is) t) in
     (filled-after false entries s after t f.0, record { fits = fits r s f.1; reserved = taken.reserved; writing = taken.words; going = t.effected ∙ f.1.viewed.going })
 took law c r (Store i) s after entries same f good later e stand t = absurd (cc)
 took law c r (Flush n) s after entries same f good later e stand t = absurd (cc)

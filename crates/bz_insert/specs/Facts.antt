@@ -13,7 +13,7 @@ use Rattle.bz_task.specs.declared.todo.Todo.TheVariants.{Store as Stores_at, Flu
 use Rattle.bz_record.specs.Leaves.{WasLeafOf, WasReserved}
 use Rattle.bz_record.specs.Records.{words_in, size_of, address_of, HasRoom, LacksRoom, Fits}
 use Rattle.bz_record.specs.Swaps.{entries_of, reservation, publication}
-use Rattle.bz_record.specs.Writing.{first_line, last_line, IsWriting, HasWritten}
+use Rattle.bz_record.specs.Writing.{first_line, last_line, IsWritingRecord, HasWritten}
 use Rattle.bz_record.specs.declared.new_record.NewRecord.{NewRecord}
 use Rattle.bz_insert.specs.declared.phase.Phase.{Phase}
 use Rattle.bz_insert.specs.declared.phase.Phase.TheVariants.{Fresh, Reserve, Store, Flush, Publish, Done, Restart, NeedsRoom, Full}
@@ -93,7 +93,7 @@ pub record CanReserve (r : NewRecord) (s : Scene) : Type 0 where
 pub record HasReserved (r : NewRecord) (words lines : ℕ) (s : Scene) : Type 0 where
   pub fits : Fits r
   pub reserved : WasReserved r s.past
-  pub writing : IsWriting r words lines s
+  pub writing : IsWritingRecord r words lines s
   pub going : s.effected ≡ false
 
 -- all of them are

@@ -21,7 +21,7 @@ use Rattle.bz_task.specs.Good.{IsGood}
 use Rattle.bz_task.specs.Instant.{Instant, durable, form_at, is_inside}
 use Rattle.bz_task.specs.Laws.{SamePlace}
 use Rattle.bz_task.specs.Scene.{Scene, Waiting, IsScene, here}
-use Rattle.bz_task.specs.Shown.{SameNode}
+use Rattle.bz_task.specs.Shown.{SameShownNode}
 use Rattle.bz_task.specs.Swaps.{Stand, SwapsTo}
 use Rattle.bz_task.specs.declared.todo.Todo.TheVariants.{Swap as Swaps_for}
 use Rattle.bz_stage.specs.Stages.{leaf_page, full_above}
@@ -102,7 +102,7 @@ module _ (b : Laws) (r : Merging) (s : Scene) (y : Instant) (good : IsScene s) (
     leaf-is = (b.tiles (view_in c (here s).image) (tree-now b.turning.formed s good) key k).0 holds
 
     -- and frozen
-    stays : SameNode c (s.past.at f.frozen.own.moment) (here s) k
+    stays : SameShownNode c (s.past.at f.frozen.own.moment) (here s) k
     stays = b.turning.leaf.frozen c s.past.at s.past.since s.past.now f.frozen.own.moment s.past.now k good.history (record { since = f.frozen.own.since; order = f.frozen.own.now; until = omega arith }) f.frozen.own.reached f.frozen.own.frozen
 
     frozen : (leaf_page s.past.config (image_of (here s).image) key).frozen ≡ true

@@ -25,7 +25,7 @@ use Rattle.bz_task.specs.Laws.{NodesStay, FrozenNodesStay, FrontsStay, RangesSta
 use Rattle.bz_task.specs.Outcomes.{IsView}
 use Rattle.bz_task.specs.Requests.{Answers}
 use Rattle.bz_task.specs.Scene.{Scene, IsScene, here}
-use Rattle.bz_task.specs.Shown.{IsShown, SameWords, SameRecords, SameNode}
+use Rattle.bz_task.specs.Shown.{IsShown, SameWords, SameRecords, SameShownNode}
 use Rattle.bz_task.specs.declared.path.Link.{Link}
 use Rattle.bz_task.specs.declared.view.LeafView.{LeafView}
 use Rattle.bz_leaf.specs.Facts.{is_used, WasWord, Reading, HasRead, HasLink, IsMade}
@@ -78,7 +78,7 @@ same-records n m s = record {
 
 -- from the look at the status on the node stayed as it was
 abbrev pub Stayed : Scene → ℕ → ℕ → Type 0
-Stayed s k from = (m : ℕ) → from ≤ m → m ≤ s.past.now → SameNode s.past.config (s.past.at from) (s.past.at m) k
+Stayed s k from = (m : ℕ) → from ≤ m → m ≤ s.past.now → SameShownNode s.past.config (s.past.at from) (s.past.at m) k
 
 module _ (b : Laws) (s : Scene) (good : IsScene s) (key : List ℕ) (link : Link) (ws : List ℕ) (r : Reading key link ws NODE_WORDS s.past) (a : ℕ) (from : r.read_at ≤ a) (to : a ≤ s.past.now)
     (stayed : Stayed s link.slot r.read_at) (leaf : IsLeafInTree s.past.config (s.past.at a) link.slot) where
@@ -91,7 +91,7 @@ module _ (b : Laws) (s : Scene) (good : IsScene s) (key : List ℕ) (link : Link
   w : Whole (node s.past.config (s.past.at a).image link.slot) (page (durable s.past.config (s.past.at a) link.slot)) ((form_at s.past.config (s.past.at a)).low link.slot) ((form_at s.past.config (s.past.at a)).high link.slot)
   w = (b.rules s.past.config.nodes (node s.past.config (s.past.at a).image link.slot) (durable s.past.config (s.past.at a) link.slot) _ _).0 leaf.whole
 
-  same-a : SameNode s.past.config (s.past.at r.read_at) (s.past.at a) link.slot
+  same-a : SameShownNode s.past.config (s.past.at r.read_at) (s.past.at a) link.slot
   same-a = stayed a from to
 
   pub status-a : words s.past.config (s.past.at a) link.slot STATUS_AT ≡ slice_index ws 0

@@ -10,7 +10,7 @@ use Rattle.bz_word.specs.declared.meta.Meta.{Meta}
 use Rattle.bz_content.specs.Changes.{SameNode, SameRoot}
 use Rattle.bz_content.specs.Image.{Image, node, root}
 use Rattle.bz_content.specs.Restructures.{Splits, SplitsRoot, Merges}
-use Rattle.bz_content.specs.Swaps.{form_in, OnLeaf, IsQuiet, Consolidates}
+use Rattle.bz_content.specs.Swaps.{form_in, OnLeaf, IsQuietChange, Consolidates}
 use Rattle.bz_content.specs.View.{view_of}
 use Rattle.bz_leaves.specs.Leaves.{is_leaf, leaf_count}
 
@@ -48,7 +48,7 @@ WordsOfLeavesDoNotCount = (c : Config) (x y : Image) → IsTree (view_of c x) �
 -- a reservation, the first swap of an update, a freeze and private stores leave it
 abbrev pub QuietSwapsKeepTheLeaves : Type 0
 QuietSwapsKeepTheLeaves =
-    (c : Config) (x y : Image) (k : ℕ) → IsTree (view_of c x) → OnLeaf c x y k → IsQuiet (node c x.raw k) (node c y.raw k) (node c x.words k) (node c y.words k) → AsManyLeaves c x y
+    (c : Config) (x y : Image) (k : ℕ) → IsTree (view_of c x) → OnLeaf c x y k → IsQuietChange (node c x.raw k) (node c y.raw k) (node c x.words k) (node c y.words k) → AsManyLeaves c x y
 
 -- so do a publication, a delete and the second swap of an update
 abbrev pub RewritesKeepTheLeaves : Type 0

@@ -8,7 +8,7 @@ use Rattle.bz_task.specs.Good.{IsGood}
 use Rattle.bz_task.specs.Instant.{words, durable, page_at, form_at, is_inside}
 use Rattle.bz_task.specs.Laws.{IsLeafInTree, SaysAlike, FrozenNodesStay, SameRecordsShowTheSame, SeenLeavesAreWhole, LeavesAreInTrees}
 use Rattle.bz_task.specs.Scene.{Scene, IsScene, here}
-use Rattle.bz_task.specs.Shown.{SameWords, SameNode}
+use Rattle.bz_task.specs.Shown.{SameWords, SameShownNode}
 use Rattle.bz_renew.proofs.FrozenLeaves.{same-records, read-alike}
 use Rattle.bz_merge.specs.Merges.{StoodFrozen}
 
@@ -23,7 +23,7 @@ module _ (b : Laws) (s : Scene) (k : ℕ) (image : List ℕ) (good : IsScene s) 
   now-good : IsGood s.past.config (here s)
   now-good = good.history.good s.past.now good.begun (omega arith)
 
-  same : SameNode s.past.config (s.past.at w.moment) (here s) k
+  same : SameShownNode s.past.config (s.past.at w.moment) (here s) k
   same = b.frozen s.past.config s.past.at s.past.since s.past.now w.moment s.past.now k good.history (record { since = w.since; order = w.now; until = omega arith }) w.reached w.frozen
 
   pub still-frozen : (page_at s.past.config (here s) k).frozen ≡ true

@@ -13,7 +13,7 @@ use Rattle.bz_task.specs.Good.{IsGood}
 use Rattle.bz_task.specs.Instant.{words, durable, form_at}
 use Rattle.bz_task.specs.Laws.{NodesStay, IsLeafInTree, SaysAlike, SameRecordsShowTheSame, SeenLeavesAreWhole, LeavesAreInTrees}
 use Rattle.bz_task.specs.Scene.{Scene, IsScene, here}
-use Rattle.bz_task.specs.Shown.{SameWords, SameNode, IsShown}
+use Rattle.bz_task.specs.Shown.{SameWords, SameShownNode, IsShown}
 use Rattle.bz_renew.proofs.FrozenLeaves.{same-records, read-alike}
 use Rattle.bz_renew.proofs.Words.{node-past}
 use Rattle.bz_merge.specs.Siblings.{WasWord, WasReadOrFree, WereRead, StoodBetween, SeenLeaf, WasSeen, LeavesReadWere}
@@ -30,11 +30,11 @@ pub record Laws : Type 0 where
 module _ (b : Laws) (s : Scene) (l : SeenLeaf) (n m : ℕ) (low high : Option (List ℕ)) (good : IsScene s) (since : s.past.since ≤ n) (order : n ≤ m) (reached : (s.past.at n).reached l.slot ≡ true) (was : words s.past.config (s.past.at n) l.slot STATUS_AT ≡ l.status) (plain : l.status < 2 ^ 61)
     (were : WereRead l.slot n l.status NODE_WORDS l.image s.past) (stood : StoodBetween l.slot m low high s.past) (now : words s.past.config (here s) l.slot STATUS_AT ≡ l.status) where
   -- nothing of it changed meanwhile
-  same-at : (j : ℕ) → n ≤ j → j ≤ s.past.now → SameNode s.past.config (s.past.at n) (s.past.at j) l.slot
+  same-at : (j : ℕ) → n ≤ j → j ≤ s.past.now → SameShownNode s.past.config (s.past.at n) (s.past.at j) l.slot
   same-at j a d = b.nodes s.past.config s.past.at s.past.since s.past.now n j s.past.now l.slot good.history (record { since = since; order = omega (arith, a, d); until = omega arith }) a d reached (now ∙ sym was)
 
   -- so at the moment at which it stood
-  between : SameNode s.past.config (s.past.at n) (s.past.at m) l.slot
+  between : SameShownNode s.past.config (s.past.at n) (s.past.at m) l.slot
   between = same-at m order stood.now
 
   good-then : IsGood s.past.config (s.past.at m)

@@ -20,7 +20,7 @@ use Rattle.bz_task.specs.Good.{IsGood}
 use Rattle.bz_task.specs.Instant.{Instant, words, durable, page_at, form_at}
 use Rattle.bz_task.specs.Laws.{NodesStay}
 use Rattle.bz_task.specs.Scene.{Scene, IsScene, here}
-use Rattle.bz_task.specs.Shown.{SameNode}
+use Rattle.bz_task.specs.Shown.{SameShownNode}
 use Rattle.bz_task.specs.declared.path.Link.{Link}
 use Rattle.bz_renew.proofs.Words.{node-at, node-past}
 use Rattle.bz_split.specs.BelowSplits.{AreLinksDown}
@@ -88,7 +88,7 @@ module _ (b : Laws) (s : Scene) (upper lower : Link) (read : List ℕ) (good : I
   -- each word that was read is that of the moment of the status
   read-was : (j : ℕ) → WasWord p j (slice_index read j) g s.past → words c was p j ≡ slice_index read j
   read-was j r =
-      let same : SameNode c was (s.past.at r.moment) p = b.nodes c s.past.at s.past.since s.past.now g r.moment s.past.now p good.history
+      let same : SameShownNode c was (s.past.at r.moment) p = b.nodes c s.past.at s.past.since s.past.now g r.moment s.past.now p good.history
       (record { since = links.guard.since; order = omega (arith, links.guard.order, links.guard.now); until = omega arith }) r.order r.now reached (status-now ∙ sym status-was) in
       sym (same j (inr (inr (inl inner)))) ∙ r.word
 

@@ -9,7 +9,7 @@ use Rattle.bz_task.specs.declared.todo.Seen.{Seen}
 use Rattle.bz_task.specs.declared.todo.Seen.TheVariants.{Start, Read as Was, Stored, Flushed, Swapped, NoSwap as NoneLeft}
 use Rattle.bz_merge.specs.Counts.{merge_swaps, merge_made}
 use Rattle.bz_merge.specs.Decisions.{HasSwapped}
-use Rattle.bz_merge.specs.Facts.{IsSwapping, IsWriting, merge_asks, merge_end, merge_facts, merge_left, merge_needs}
+use Rattle.bz_merge.specs.Facts.{IsSwapping, WritesOrSwaps, merge_asks, merge_end, merge_facts, merge_left, merge_needs}
 use Rattle.bz_merge.specs.Plans.{Merging}
 use Rattle.bz_merge.specs.declared.phase.Phase.{Phase}
 use Rattle.bz_merge.specs.declared.phase.Phase.TheVariants.{Fresh, Word, Again, Beside, Parent, Still, Freeze, FreezeBeside, Guard, Store, Flush, Swap, Done, Restart, NoNeighbour, NoSlot, NoSwap}
@@ -18,7 +18,7 @@ use Rattle.bz_merge.proofs.Counting.{IsThawed, one-freeze, no-freeze}
 use Rattle.bz_merge.proofs.Writing.{freeze-learns, beside-learns, swap-learns}
 
 -- of the phases in which something is written the others are those of swaps
-pub swapping-of : (phase : Phase) → IsWriting phase → ((j : ℕ) → phase ≢ Store j) → ((j : ℕ) → phase ≢ Flush j) → IsSwapping phase
+pub swapping-of : (phase : Phase) → WritesOrSwaps phase → ((j : ℕ) → phase ≢ Store j) → ((j : ℕ) → phase ≢ Flush j) → IsSwapping phase
 swapping-of Freeze w a b = tt
 swapping-of FreezeBeside w a b = tt
 swapping-of Swap w a b = tt

@@ -269,13 +269,13 @@ IsReady c r Swap = HaveSlots c.nodes (merge_nodes r) × IsSwapReady c r
 IsReady c r phase = Unit {0}
 
 -- the phase is one of a store, a flush or a swap
-abbrev pub IsWriting : Phase → Type 0
-IsWriting Freeze = Unit {0}
-IsWriting FreezeBeside = Unit {0}
-IsWriting (Store j) = Unit {0}
-IsWriting (Flush j) = Unit {0}
-IsWriting Swap = Unit {0}
-IsWriting phase = ⊥
+abbrev pub WritesOrSwaps : Phase → Type 0
+WritesOrSwaps Freeze = Unit {0}
+WritesOrSwaps FreezeBeside = Unit {0}
+WritesOrSwaps (Store j) = Unit {0}
+WritesOrSwaps (Flush j) = Unit {0}
+WritesOrSwaps Swap = Unit {0}
+WritesOrSwaps phase = ⊥
 
 -- it is one of a swap
 abbrev pub IsSwapping : Phase → Type 0

@@ -20,7 +20,7 @@ ghost use Rattle.bz_task.specs.declared.todo.Seen.TheVariants.{Read as Was, Swap
 ghost use Rattle.bz_merge.specs.Counts.{merge_swaps, merge_made};
 ghost use Rattle.bz_merge.specs.Decisions.{IsParentOfLeaf, HasTold, IsWeighable, HasSettled, HasFrozen, HasFirst, HasWon, HasSwapped, MayMerge, HasBegun, HasLooked};
 ghost use Rattle.bz_merge.specs.Duties.{merging_of, asks_of, end_of, left_of, swaps_of, made_of, needs_of, facts_of, differs_of};
-ghost use Rattle.bz_merge.specs.Facts.{merge_acts, merge_end, merge_left, merge_needs, merge_facts, merge_means, merge_change, WasMerged, NoneFitted, IsReady, IsWriting, IsSwapping, word_after, beside_after, store_after, flush_after};
+ghost use Rattle.bz_merge.specs.Facts.{merge_acts, merge_end, merge_left, merge_needs, merge_facts, merge_means, merge_change, WasMerged, NoneFitted, IsReady, WritesOrSwaps, IsSwapping, word_after, beside_after, store_after, flush_after};
 ghost use Rattle.bz_merge.specs.Plans.{merge_nodes, viewed_leaf, beside_leaf, first_of, second_of};
 ghost use Rattle.bz_merge.specs.Thawed.{IsThawedAbove};
 
@@ -330,7 +330,7 @@ impl Merge {
 
     // The phase after what came of a store, a flush or a swap.
     fn after(&self, seen: Seen, moment: u32) -> Phase
-        requires begun { IsWriting self.now.phase }
+        requires begun { WritesOrSwaps self.now.phase }
         requires hears { Hears (asks_of self.now) seen }
         requires known { IsKnown self.now.config (facts_of self.now) (asks_of self.now) seen moment }
         ensures nearer { merge_left self.now.side.right result < left_of self.now }

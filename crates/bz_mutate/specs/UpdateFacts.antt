@@ -18,7 +18,7 @@ use Rattle.bz_task.specs.declared.view.KeyView.{KeyView}
 use Rattle.bz_record.specs.Records.{words_in, size_of, address_of, HasRoom, LacksRoom, Fits}
 use Rattle.bz_record.specs.Replacing.{growth, replacement, WasRecord, WasGrown}
 use Rattle.bz_record.specs.Swaps.{entries_of}
-use Rattle.bz_record.specs.Writing.{first_line, last_line, IsWriting, HasWritten}
+use Rattle.bz_record.specs.Writing.{first_line, last_line, IsWritingRecord, HasWritten}
 use Rattle.bz_record.specs.declared.found_record.FoundRecord.{FoundRecord}
 use Rattle.bz_record.specs.declared.new_record.NewRecord.{NewRecord}
 use Rattle.bz_mutate.specs.Viewed.{HasViewed}
@@ -114,7 +114,7 @@ pub record CanGrow (v : KeyView) (r : NewRecord) (f : FoundRecord) (s : Scene) :
 pub record HasGrown (v : KeyView) (r : NewRecord) (f : FoundRecord) (words lines : ℕ) (s : Scene) : Type 0 where
   pub pair : IsPair v r f
   pub grown : WasGrown r pair.old f.place f.extent s.past
-  pub writing : IsWriting r words lines s
+  pub writing : IsWritingRecord r words lines s
   pub going : s.effected ≡ false
 
 -- all of them are

@@ -18,7 +18,7 @@ use Rattle.bz_task.specs.Scene.{Scene, IsScene, here}
 use Rattle.bz_task.specs.Shown.{SameWords}
 use Rattle.bz_task.specs.Steps.{IsStep, Moves}
 use Rattle.bz_record.specs.Laws.{IsPlaceIn, RecordSwapsMayBeAsked}
-use Rattle.bz_record.specs.Leaves.{WasLeaf}
+use Rattle.bz_record.specs.Leaves.{WasLeafThen}
 use Rattle.bz_record.specs.Swaps.{status_entry, meta_entry}
 use Rattle.bz_record.specs.declared.record_swap.RecordSwap.{RecordSwap}
 
@@ -70,7 +70,7 @@ pub record Laws : Type 0 where
   pub leaves : LeavesAreInTrees
   pub rules : LeafRulesAreFacts
 
-module _ (b : Laws) (s : Scene) (k st moment : ℕ) (good : IsScene s) (w : WasLeaf k st moment s.past) where
+module _ (b : Laws) (s : Scene) (k st moment : ℕ) (good : IsScene s) (w : WasLeafThen k st moment s.past) where
   moments : AreMoments s.past.since s.past.now moment s.past.now
   moments = record { since = w.since; order = w.now; until = omega arith }
 
@@ -132,7 +132,7 @@ module _ (b : Laws) (s : Scene) (k st moment : ℕ) (good : IsScene s) (w : WasL
     ];
   }
 
-module _ (b : Laws) (s : Scene) (w : RecordSwap) (moment : ℕ) (good : IsScene s) (leaf : WasLeaf w.slot w.status moment s.past) (place : IsPlaceIn w.status w.place) where
+module _ (b : Laws) (s : Scene) (w : RecordSwap) (moment : ℕ) (good : IsScene s) (leaf : WasLeafThen w.slot w.status moment s.past) (place : IsPlaceIn w.status w.place) where
   in-node : META_AT + w.place < NODE_WORDS
   in-node = let p = meta-place b s w.slot w.status moment good leaf w.place place in omega (arith, p.free)
 

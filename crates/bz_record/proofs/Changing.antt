@@ -14,7 +14,7 @@ use Rattle.bz_task.specs.Laws.{FrontsStay}
 use Rattle.bz_task.specs.Requests.{IsEntryToAsk}
 use Rattle.bz_task.specs.Scene.{Scene, IsScene, here}
 use Rattle.bz_record.specs.Laws.{RecordSwapsMayBeAsked}
-use Rattle.bz_record.specs.Leaves.{WasLeaf}
+use Rattle.bz_record.specs.Leaves.{WasLeafThen}
 use Rattle.bz_record.specs.Replacing.{status_grown, growth, replacement, removal}
 use Rattle.bz_record.specs.ReplacingLaws.{ChangesMayBeAsked}
 use Rattle.bz_record.proofs.Coding.{visible-meta-plain}
@@ -22,7 +22,7 @@ use Rattle.bz_record.proofs.Found.{counted-plain, visible-plain, deleted-plain}
 use Rattle.bz_record.proofs.Growing.{grown-plain}
 
 -- a slot that was a leaf of the tree is still reached
-still-reached : FrontsStay → (s : Scene) (k st moment : ℕ) → IsScene s → WasLeaf k st moment s.past → (here s).reached k ≡ true
+still-reached : FrontsStay → (s : Scene) (k st moment : ℕ) → IsScene s → WasLeafThen k st moment s.past → (here s).reached k ≡ true
 still-reached fronts s k st moment good w =
     let g : IsGood s.past.config (s.past.at moment) = good.history.good moment w.since w.now in
     (fronts s.past.config s.past.at s.past.since s.past.now moment s.past.now k good.history (record { since = w.since; order = w.now; until = omega arith }) (g.inside k w.inside (λ e. omega (arith, e, w.slot)))).reached

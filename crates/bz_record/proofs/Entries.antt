@@ -17,7 +17,7 @@ use Rattle.bz_task.specs.LeafSwaps.{IsWordOf}
 use Rattle.bz_task.specs.Scene.{Scene, IsScene, here}
 use Rattle.bz_task.specs.Swaps.{Stand, SwapsTo, swapped}
 use Rattle.bz_record.specs.Laws.{SameLeaf, LeavesStay}
-use Rattle.bz_record.specs.Leaves.{WasLeaf}
+use Rattle.bz_record.specs.Leaves.{WasLeafThen}
 use Rattle.bz_record.specs.Swaps.{status_entry, meta_entry, entries_of}
 use Rattle.bz_record.specs.declared.record_swap.RecordSwap.{RecordSwap}
 
@@ -104,7 +104,7 @@ pub each-target : (P : ℕ → Type 0) (c : Config) (w : RecordSwap) → P (node
 each-target P c w p q a h = elim (one-of (status_entry c w) (meta_entry c w) a h) [ inl e ↦ subst P (sym e) p | inr e ↦ subst P (sym e) q ]
 
 -- the leaf as it is now, where the status is the one that was read
-module _ (leaves : LeavesStay) (slots : SwapsShowInSlots) (s : Scene) (y : Instant) (w : RecordSwap) (moment : ℕ) (good : IsScene s) (leaf : WasLeaf w.slot w.status moment s.past) (thawed : (status w.status).frozen ≡ false) (stand : Stand (entries_of s.past.config w) (here s)) (swaps : SwapsTo s.past.config (entries_of s.past.config w) (here s) y) where
+module _ (leaves : LeavesStay) (slots : SwapsShowInSlots) (s : Scene) (y : Instant) (w : RecordSwap) (moment : ℕ) (good : IsScene s) (leaf : WasLeafThen w.slot w.status moment s.past) (thawed : (status w.status).frozen ≡ false) (stand : Stand (entries_of s.past.config w) (here s)) (swaps : SwapsTo s.past.config (entries_of s.past.config w) (here s) y) where
   pub status-now : words s.past.config (here s) w.slot STATUS_AT ≡ w.status
   status-now = ((slots s.past.config (entries_of s.past.config w) (here s) y w.slot swaps).within STATUS_AT (omega arith)).before ∙ stand 0 (status_entry s.past.config w) (omega arith)
 

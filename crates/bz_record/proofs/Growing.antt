@@ -24,7 +24,7 @@ use Rattle.bz_task.specs.Shown.{IsShown}
 use Rattle.bz_task.specs.Steps.{Moves, next_stamp}
 use Rattle.bz_task.specs.Swaps.{Change, Stand, SwapsTo, swapped}
 use Rattle.bz_record.specs.Laws.{SameLeaf, LeavesStay}
-use Rattle.bz_record.specs.Leaves.{WasLeaf}
+use Rattle.bz_record.specs.Leaves.{WasLeafThen}
 use Rattle.bz_record.specs.Records.{size_of, Fits}
 use Rattle.bz_record.specs.Replacing.{growth, status_grown}
 use Rattle.bz_record.specs.ReplacingLaws.{GrowthsAreGood}
@@ -56,7 +56,7 @@ module _ (codec : IsCodec Status IsStatus IsStatusWord status_word status) (r : 
   pub grown-reads : status (status_grown r) ≡ record (status r.status) { block = (status r.status).block + size_of r; dead = (status r.status).dead + size_of r; stamp = next_stamp (status r.status).stamp }
   grown-reads = codec.value _ grown-lawful
 
-module _ (b : Laws) (s : Scene) (y : Instant) (r : NewRecord) (moment : ℕ) (good : IsScene s) (f : Fits r) (leaf : WasLeaf r.slot r.status moment s.past) (stand : Stand (growth s.past.config r ∷ []) (here s)) (swaps : SwapsTo s.past.config (growth s.past.config r ∷ []) (here s) y) where
+module _ (b : Laws) (s : Scene) (y : Instant) (r : NewRecord) (moment : ℕ) (good : IsScene s) (f : Fits r) (leaf : WasLeafThen r.slot r.status moment s.past) (stand : Stand (growth s.past.config r ∷ []) (here s)) (swaps : SwapsTo s.past.config (growth s.past.config r ∷ []) (here s) y) where
   slot : SlotWords s.past.config (growth s.past.config r ∷ []) (here s) y r.slot
   slot = b.slots s.past.config (growth s.past.config r ∷ []) (here s) y r.slot swaps
 

@@ -26,7 +26,7 @@ use Rattle.bz_task.specs.Shown.{IsShown, SameWords, SameRecords}
 use Rattle.bz_task.specs.declared.view.KeyView.{KeyView}
 use Rattle.bz_task.specs.declared.view.LeafView.{LeafView}
 use Rattle.bz_record.specs.Laws.{SameLeaf, LeavesStay, IsViewed, ViewsShowLeaves, KeyViewsShowLeaves}
-use Rattle.bz_record.specs.Leaves.{WasLeaf, WasLeafOf}
+use Rattle.bz_record.specs.Leaves.{WasLeafThen, WasLeafOf}
 
 pub same-records : (n m : ℕ → ℕ) → SameWords n m → SameRecords n m
 same-records n m s = record {
@@ -46,7 +46,7 @@ durable-stay shown c x y k gx gy rx ry s i h =
     let b : IsShown (words c y k) i = (shown _ _ (same-records _ _ s) i).0 a in
     gy.shown k i ry b ∙ (s i a ∙ sym (gx.shown k i rx a))
 
-module _ (thawed : ThawedLeavesStay) (ranges : RangesStay) (shown : SameRecordsShowTheSame) (seen : SeenLeavesAreWhole) (leaves : LeavesAreInTrees) (s : Scene) (k st moment : ℕ) (good : IsScene s) (w : WasLeaf k st moment s.past) (t : (status st).frozen ≡ false) (e : words s.past.config (here s) k STATUS_AT ≡ st) where
+module _ (thawed : ThawedLeavesStay) (ranges : RangesStay) (shown : SameRecordsShowTheSame) (seen : SeenLeavesAreWhole) (leaves : LeavesAreInTrees) (s : Scene) (k st moment : ℕ) (good : IsScene s) (w : WasLeafThen k st moment s.past) (t : (status st).frozen ≡ false) (e : words s.past.config (here s) k STATUS_AT ≡ st) where
   moments : AreMoments s.past.since s.past.now moment s.past.now
   moments = record { since = w.since; order = w.now; until = omega arith }
 

@@ -14,7 +14,7 @@ use Rattle.bz_word.specs.declared.meta.Meta.TheVariants.{Reserved, Visible}
 use Rattle.bz_task.specs.Instant.{Instant, words, durable, page_at, form_at, is_inside}
 use Rattle.bz_task.specs.Scene.{Past, Continues}
 use Rattle.bz_record.specs.Laws.{LeavesWere}
-use Rattle.bz_record.specs.Leaves.{WasLeaf, WasLeafOf, WasReserved}
+use Rattle.bz_record.specs.Leaves.{WasLeafThen, WasLeafOf, WasReserved}
 use Rattle.bz_record.specs.Records.{place_of}
 use Rattle.bz_record.specs.Replacing.{status_grown, WasRecord}
 use Rattle.bz_record.specs.ReplacingLaws.{RecordsWere}
@@ -26,7 +26,7 @@ use Rattle.bz_record.proofs.Effects.{had-swapped}
 moved : (p q : Past) → Continues p q → (P : Config → Instant → Type 0) (m : ℕ) → m ≤ p.now → P p.config (p.at m) → P q.config (q.at m)
 moved p q n P m h f = subst (λ c. P c (q.at m)) (sym n.config) (subst (λ x. P p.config x) (sym (n.at m h)) f)
 
-abbrev leaf : (k st moment : ℕ) (p q : Past) → WasLeaf k st moment p → Continues p q → WasLeaf k st moment q
+abbrev leaf : (k st moment : ℕ) (p q : Past) → WasLeafThen k st moment p → Continues p q → WasLeafThen k st moment q
 leaf k st moment p q w n = record {
   since = omega (arith, w.since, n.since);
   now = omega (arith, w.now, n.now);

@@ -23,7 +23,7 @@ use Rattle.bz_task.specs.Shown.{IsOfRecord, IsShown}
 use Rattle.bz_task.specs.Steps.{Moves, next_stamp}
 use Rattle.bz_task.specs.Swaps.{Stand, SwapsTo}
 use Rattle.bz_record.specs.Laws.{SameLeaf, LeavesStay}
-use Rattle.bz_record.specs.Leaves.{WasLeaf}
+use Rattle.bz_record.specs.Leaves.{WasLeafThen}
 use Rattle.bz_record.specs.Records.{size_of, place_of, Fits}
 use Rattle.bz_record.specs.Swaps.{entries_of, reservation}
 use Rattle.bz_record.specs.declared.new_record.NewRecord.{NewRecord}
@@ -48,7 +48,7 @@ of-record n m i j e l r = record {
   to = subst (λ z. i < (extent_of (meta_of z)).offset + weight (meta_of z)) e r.to;
 }
 
-module _ (b : Laws) (s : Scene) (y : Instant) (r : NewRecord) (moment : ℕ) (good : IsScene s) (f : Fits r) (leaf : WasLeaf r.slot r.status moment s.past) (stand : Stand (entries_of s.past.config (reservation r)) (here s)) (swaps : SwapsTo s.past.config (entries_of s.past.config (reservation r)) (here s) y) where
+module _ (b : Laws) (s : Scene) (y : Instant) (r : NewRecord) (moment : ℕ) (good : IsScene s) (f : Fits r) (leaf : WasLeafThen r.slot r.status moment s.past) (stand : Stand (entries_of s.past.config (reservation r)) (here s)) (swaps : SwapsTo s.past.config (entries_of s.past.config (reservation r)) (here s) y) where
   pub place : META_AT + (status r.status).count < NODE_WORDS
   place = omega (arith, f.room.fits)
 

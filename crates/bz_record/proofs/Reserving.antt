@@ -9,14 +9,14 @@ use Rattle.bz_task.specs.Requests.{IsTarget}
 use Rattle.bz_task.specs.Scene.{Scene, IsScene, here}
 use Rattle.bz_task.specs.Swaps.{Change, Stand, SwapsTo}
 use Rattle.bz_record.specs.Laws.{SameLeaf, ReservationsAreGood}
-use Rattle.bz_record.specs.Leaves.{WasLeaf}
+use Rattle.bz_record.specs.Leaves.{WasLeafThen}
 use Rattle.bz_record.specs.Records.{Fits}
 use Rattle.bz_record.specs.Swaps.{entries_of, reservation}
 use Rattle.bz_record.specs.declared.new_record.NewRecord.{NewRecord}
 use Rattle.bz_record.proofs.Entries.{target-of, each-target}
 use Rattle.bz_record.proofs.Reserved.{Laws, place, same, count-was, block-was, moves, alike, shown-before}
 
-module _ (b : Laws) (swap : LeafSwapsAreGood) (s : Scene) (y : Instant) (r : NewRecord) (moment : ℕ) (change : Change) (good : IsScene s) (f : Fits r) (leaf : WasLeaf r.slot r.status moment s.past) (stand : Stand (entries_of s.past.config (reservation r)) (here s)) (swaps : SwapsTo s.past.config (entries_of s.past.config (reservation r)) (here s) y) where
+module _ (b : Laws) (swap : LeafSwapsAreGood) (s : Scene) (y : Instant) (r : NewRecord) (moment : ℕ) (change : Change) (good : IsScene s) (f : Fits r) (leaf : WasLeafThen r.slot r.status moment s.past) (stand : Stand (entries_of s.past.config (reservation r)) (here s)) (swaps : SwapsTo s.past.config (entries_of s.past.config (reservation r)) (here s) y) where
   now : SameLeaf s.past.config (s.past.at moment) (here s) r.slot
   now = same b s y r moment good f leaf stand swaps
 

@@ -22,8 +22,8 @@ use Rattle.bz_task.specs.Laws.{RangesStay, SamePlace}
 use Rattle.bz_task.specs.Scene.{Scene, IsMine, IsScene, here}
 use Rattle.bz_task.specs.Shown.{IsOfRecord, IsShown}
 use Rattle.bz_task.specs.Swaps.{Stand, grows_over, reserves as is_reserved, Takes}
-use Rattle.bz_record.specs.Laws.{SameLeaf, LeavesWere, IsTaken, ReservationsTakeWords}
-use Rattle.bz_record.specs.Leaves.{WasLeaf, WasLeafOf}
+use Rattle.bz_record.specs.Laws.{SameLeaf, LeavesWere, HasReserved, ReservationsTakeWords}
+use Rattle.bz_record.specs.Leaves.{WasLeafThen, WasLeafOf}
 use Rattle.bz_record.specs.Records.{size_of, offset_of, place_of, address_of, Fits}
 use Rattle.bz_record.specs.Swaps.{status_entry, entries_of, status_reserved, reservation}
 use Rattle.bz_record.specs.declared.new_record.NewRecord.{NewRecord}
@@ -127,7 +127,7 @@ module _ (b : Laws) (d : TakingLaws) (s after : Scene) (r : NewRecord) (moment :
   place-after =
       d.ranges after.past.config after.past.at after.past.since after.past.now moment after.past.now r.slot later.history (record { since = leaf-then.leaf.since; order = leaf-then.leaf.now; until = omega arith }) (λ e. omega (arith, e, leaf-then.leaf.slot)) leaf-then.leaf.inside inside-after
 
-  was-leaf : WasLeaf r.slot (status_reserved r) after.past.now after.past
+  was-leaf : WasLeafThen r.slot (status_reserved r) after.past.now after.past
   was-leaf = record {
     since = later.begun;
     now = omega arith;
@@ -149,7 +149,7 @@ module _ (b : Laws) (d : TakingLaws) (s after : Scene) (r : NewRecord) (moment :
   unsorted : (page (words s.past.config (here after) r.slot)).sorted ≤ (status r.status).count
   unsorted = omega (arith, sorted-words, whole.filled.sorted, count-durable b s (here after) r moment good f leaf.leaf stand t.swaps)
 
-  taken : IsTaken r after
+  taken : HasReserved r after
   taken = record {
     reserved = record {
       moment = after.past.now;

@@ -10,7 +10,7 @@ use Rattle.bz_task.specs.OwnActs.{Stores, Flushes, gained}
 use Rattle.bz_task.specs.Requests.{IsReadable}
 use Rattle.bz_task.specs.Scene.{Scene, IsMine, IsFlushed, IsScene, IsLawful, here}
 use Rattle.bz_record.specs.Records.{words_in, size_of, address_of, Fits}
-use Rattle.bz_record.specs.Writing.{line_in, IsWriting, HasWritten, RecordsAreWritten}
+use Rattle.bz_record.specs.Writing.{line_in, IsWritingRecord, HasWritten, RecordsAreWritten}
 use Rattle.bz_record.specs.declared.new_record.NewRecord.{NewRecord}
 use Rattle.bz_task.proofs.Stays.{gained-mine}
 use Rattle.bz_record.proofs.Reading.{word-plain}
@@ -20,7 +20,7 @@ resized : (r : NewRecord) (words lines : ℕ) (c d : Config) (s : Scene) → d �
     → ((i : ℕ) → i < size_of r → IsMine s (address_of c r i))
     → ((i : ℕ) → i < size_of r → i < words → (here s).value (address_of c r i) ≡ slice_index (words_in r) i)
     → ((i : ℕ) → i < size_of r → line_in c r i < line_in c r 0 + lines → IsFlushed s (address_of c r i))
-    → IsWriting r words lines s
+    → IsWritingRecord r words lines s
 resized r words lines c d s e q mine stored flushed =
     let p : s.past.config ≡ c = q ∙ e in record {
       mine = λ i l. subst (λ z. IsMine s (address_of z r i)) (sym p) (mine i l);
@@ -28,14 +28,14 @@ resized r words lines c d s e q mine stored flushed =
       flushed = λ i l n. subst (λ z. IsFlushed s (address_of z r i)) (sym p) (flushed i l (subst (λ z. line_in z r i < line_in z r 0 + lines) p n));
     }
 
-stays : (r : NewRecord) (words lines : ℕ) (s after : Scene) → IsWriting r words lines s → IsLawful s after → IsWriting r words lines after
+stays : (r : NewRecord) (words lines : ℕ) (s after : Scene) → IsWritingRecord r words lines s → IsLawful s after → IsWritingRecord r words lines after
 stays r words lines s after w l =
     resized r words lines s.past.config after.past.config after l.continues.config refl
     (λ i h. (l.keeps (address_of s.past.config r i) (w.mine i h)).mine)
     (λ i h n. (l.keeps (address_of s.past.config r i) (w.mine i h)).value ∙ w.stored i h n)
     (λ i h n. (l.keeps (address_of s.past.config r i) (w.mine i h)).flushed (w.flushed i h n))
 
-stores : (r : NewRecord) (i : ℕ) (s after : Scene) → i < size_of r → IsWriting r i 0 s → Stores (address_of s.past.config r i) (slice_index (words_in r) i) s after → IsWriting r (i + 1) 0 after
+stores : (r : NewRecord) (i : ℕ) (s after : Scene) → i < size_of r → IsWritingRecord r i 0 s → Stores (address_of s.past.config r i) (slice_index (words_in r) i) s after → IsWritingRecord r (i + 1) 0 after
 stores r i s after l w t =
     resized r (i + 1) 0 s.past.config after.past.config after t.continues.config refl
     (λ j h. t.mine (address_of s.past.config r j) (w.mine j h))
@@ -45,7 +45,7 @@ stores r i s after l w t =
     ])
     (λ j h n. absurd (omega (arith, n)))
 
-flushes : (r : NewRecord) (line : ℕ) (s after : Scene) → IsWriting r (size_of r) line s → Flushes (line_in s.past.config r 0 + line) s after → IsWriting r (size_of r) (line + 1) after
+flushes : (r : NewRecord) (line : ℕ) (s after : Scene) → IsWritingRecord r (size_of r) line s → Flushes (line_in s.past.config r 0 + line) s after → IsWritingRecord r (size_of r) (line + 1) after
 flushes r line s after w t =
     resized r (size_of r) (line + 1) s.past.config after.past.config after t.continues.config refl
     (λ j h. t.mine (address_of s.past.config r j) (w.mine j h))
@@ -63,7 +63,7 @@ written-stays r s after w l =
       flushed = λ i h. subst (λ z. IsFlushed after (address_of z r i)) (sym e) ((l.keeps (address_of s.past.config r i) (w.mine i h)).flushed (w.flushed i h));
     }
 
-no-slot : (r : NewRecord) (words lines : ℕ) (s : Scene) (free : FreeSlots) → IsWriting r words lines s → IsWriting r words lines (gained s free free)
+no-slot : (r : NewRecord) (words lines : ℕ) (s : Scene) (free : FreeSlots) → IsWritingRecord r words lines s → IsWritingRecord r words lines (gained s free free)
 no-slot r words lines s free w = record { mine = λ i l. gained-mine s free free (address_of s.past.config r i) (w.mine i l); stored = w.stored; flushed = w.flushed }
 
 written-no-slot : (r : NewRecord) (s : Scene) (free : FreeSlots) → HasWritten r s → HasWritten r (gained s free free)

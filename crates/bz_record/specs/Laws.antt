@@ -16,15 +16,15 @@ use Rattle.bz_task.specs.Laws.{SamePlace, IsLeafInTree}
 use Rattle.bz_task.specs.Outcomes.{payload_of, IsView, IsKeyView}
 use Rattle.bz_task.specs.Requests.{IsEntryToAsk}
 use Rattle.bz_task.specs.Scene.{Past, Scene, IsScene, Continues, here}
-use Rattle.bz_task.specs.Shown.{SameWords, SameNode}
+use Rattle.bz_task.specs.Shown.{SameWords, SameShownNode}
 use Rattle.bz_task.specs.Steps.{next_stamp}
 use Rattle.bz_task.specs.Swaps.{Change, Stand, SwapsTo, IsMineAndDurable, IsGoodSwap, Takes}
 use Rattle.bz_task.specs.declared.view.KeyView.{KeyView}
 use Rattle.bz_task.specs.declared.view.LeafView.{LeafView}
-use Rattle.bz_record.specs.Leaves.{WasLeaf, WasLeafOf, WasReserved}
+use Rattle.bz_record.specs.Leaves.{WasLeafThen, WasLeafOf, WasReserved}
 use Rattle.bz_record.specs.Records.{Fits}
 use Rattle.bz_record.specs.Swaps.{entries_of, reservation, publication}
-use Rattle.bz_record.specs.Writing.{IsWriting, HasWritten}
+use Rattle.bz_record.specs.Writing.{IsWritingRecord, HasWritten}
 use Rattle.bz_record.specs.declared.new_record.NewRecord.{NewRecord}
 use Rattle.bz_record.specs.declared.record_swap.RecordSwap.{RecordSwap}
 
@@ -32,14 +32,14 @@ use Rattle.bz_record.specs.declared.record_swap.RecordSwap.{RecordSwap}
 pub record SameLeaf (c : Config) (x y : Instant) (k : ℕ) : Type 0 where
   pub leaf : IsLeafInTree c y k
   pub place : SamePlace c x y k
-  pub shows : SameNode c x y k
+  pub shows : SameShownNode c x y k
   pub stands : SameWords (durable c x k) (durable c y k)
   pub found : (key : List ℕ) → found_of (durable c y k) key ≡ found_of (durable c x k) key
 
 -- while its status is the one that was read, and not frozen
 abbrev pub LeavesStay : Type 0
 LeavesStay =
-    (s : Scene) (k st moment : ℕ) → IsScene s → WasLeaf k st moment s.past → (status st).frozen ≡ false → words s.past.config (here s) k STATUS_AT ≡ st →
+    (s : Scene) (k st moment : ℕ) → IsScene s → WasLeafThen k st moment s.past → (status st).frozen ≡ false → words s.past.config (here s) k STATUS_AT ≡ st →
     SameLeaf s.past.config (s.past.at moment) (here s) k
 
 -- a view shows the key's leaf, and what it says of the key; no more words are dead than the block has
@@ -72,31 +72,31 @@ IsPlaceIn st place = (place < (status st).count) ⊎ ((place ≡ (status st).cou
 -- a swap of a leaf's status and of such a metadata word may be asked for, whatever became of the leaf
 abbrev pub RecordSwapsMayBeAsked : Type 0
 RecordSwapsMayBeAsked =
-    (s : Scene) (w : RecordSwap) (moment : ℕ) → IsScene s → WasLeaf w.slot w.status moment s.past → IsPlaceIn w.status w.place → w.new_status < 2 ^ 61 → w.meta < 2 ^ 61 → w.new_meta < 2 ^ 61 →
+    (s : Scene) (w : RecordSwap) (moment : ℕ) → IsScene s → WasLeafThen w.slot w.status moment s.past → IsPlaceIn w.status w.place → w.new_status < 2 ^ 61 → w.meta < 2 ^ 61 → w.new_meta < 2 ^ 61 →
     All (IsEntryToAsk s) (entries_of s.past.config w)
 
 -- so may the two swaps of a record that comes
 pub record NewRecordSwapsMayBeAsked : Type 0 where
-  pub first : (s : Scene) (r : NewRecord) (moment : ℕ) → IsScene s → Fits r → WasLeaf r.slot r.status moment s.past → All (IsEntryToAsk s) (entries_of s.past.config (reservation r))
+  pub first : (s : Scene) (r : NewRecord) (moment : ℕ) → IsScene s → Fits r → WasLeafThen r.slot r.status moment s.past → All (IsEntryToAsk s) (entries_of s.past.config (reservation r))
   pub second : (s : Scene) (r : NewRecord) → IsScene s → Fits r → WasReserved r s.past → All (IsEntryToAsk s) (entries_of s.past.config (publication r))
 
 -- where the status is the one that was read, a reservation is lawful for everybody and changes no content
 abbrev pub ReservationsAreGood : Type 0
 ReservationsAreGood =
-    (s : Scene) (y : Instant) (r : NewRecord) (moment : ℕ) (change : Change) → IsScene s → Fits r → WasLeaf r.slot r.status moment s.past →
+    (s : Scene) (y : Instant) (r : NewRecord) (moment : ℕ) (change : Change) → IsScene s → Fits r → WasLeafThen r.slot r.status moment s.past →
     Stand (entries_of s.past.config (reservation r)) (here s) → SwapsTo s.past.config (entries_of s.past.config (reservation r)) (here s) y →
     IsGoodSwap false change (entries_of s.past.config (reservation r)) s y
 
 -- afterwards the record has its place in the leaf, and its words are the worker's own
-pub record IsTaken (r : NewRecord) (after : Scene) : Type 0 where
+pub record HasReserved (r : NewRecord) (after : Scene) : Type 0 where
   pub reserved : WasReserved r after.past
-  pub words : IsWriting r 0 0 after
+  pub words : IsWritingRecord r 0 0 after
 
 abbrev pub ReservationsTakeWords : Type 0
 ReservationsTakeWords =
     (s after : Scene) (r : NewRecord) (moment : ℕ) → IsScene s → IsScene after → Fits r → WasLeafOf r.key None r.slot r.status moment s.past →
     Stand (entries_of s.past.config (reservation r)) (here s) → Takes false (entries_of s.past.config (reservation r)) s after →
-    IsTaken r after
+    HasReserved r after
 
 -- a status with count and block as they were, not frozen, and the next stamp
 pub record Restates (old new : ℕ) : Type 0 where

@@ -13,7 +13,7 @@ use Rattle.bz_record.specs.Swaps.{status_reserved}
 use Rattle.bz_record.specs.declared.new_record.NewRecord.{NewRecord}
 
 -- the slot was a leaf of the tree with this status at a moment since the look-up began
-pub record WasLeaf (k st moment : ℕ) (p : Past) : Type 0 where
+pub record WasLeafThen (k st moment : ℕ) (p : Past) : Type 0 where
   pub since : p.since ≤ moment
   pub now : moment ≤ p.now
   pub slot : k < p.config.nodes
@@ -24,7 +24,7 @@ pub record WasLeaf (k st moment : ℕ) (p : Past) : Type 0 where
 
 -- it was the leaf of the key, and said this of it
 pub record WasLeafOf (key : List ℕ) (said : Option (List ℕ)) (k st moment : ℕ) (p : Past) : Type 0 where
-  pub leaf : WasLeaf k st moment p
+  pub leaf : WasLeafThen k st moment p
   pub range : is_within key ((form_at p.config (p.at moment)).low k) ((form_at p.config (p.at moment)).high k) ≡ true
   pub found : found_of (durable p.config (p.at moment) k) key ≡ said
 

@@ -10,11 +10,11 @@ use Rattle.bz_task.specs.Swaps.{Change, Stand, SwapsTo, IsGoodSwap, Takes}
 use Rattle.bz_task.specs.declared.view.Found.{Found}
 use Rattle.bz_task.specs.declared.view.KeyView.{KeyView}
 use Rattle.bz_record.specs.Finding.{record_of}
-use Rattle.bz_record.specs.Leaves.{WasLeaf}
+use Rattle.bz_record.specs.Leaves.{WasLeafThen}
 use Rattle.bz_record.specs.Records.{Fits}
 use Rattle.bz_record.specs.Replacing.{growth, replacement, removal, WasRecord, WasGrown}
 use Rattle.bz_record.specs.Swaps.{entries_of}
-use Rattle.bz_record.specs.Writing.{IsWriting, HasWritten}
+use Rattle.bz_record.specs.Writing.{IsWritingRecord, HasWritten}
 use Rattle.bz_record.specs.declared.new_record.NewRecord.{NewRecord}
 
 -- what was so, was so
@@ -39,14 +39,14 @@ RemovalsAreGood =
 -- the first swap of an update is lawful for everybody and changes no content
 abbrev pub GrowthsAreGood : Type 0
 GrowthsAreGood =
-    (s : Scene) (y : Instant) (r : NewRecord) (moment : ℕ) (change : Change) → IsScene s → Fits r → WasLeaf r.slot r.status moment s.past →
+    (s : Scene) (y : Instant) (r : NewRecord) (moment : ℕ) (change : Change) → IsScene s → Fits r → WasLeafThen r.slot r.status moment s.past →
     Stand (growth s.past.config r ∷ []) (here s) → SwapsTo s.past.config (growth s.past.config r ∷ []) (here s) y →
     IsGoodSwap false change (growth s.past.config r ∷ []) s y
 
 -- afterwards the record's words are the worker's own, and the old record stands as it stood
 pub record IsGrown (r : NewRecord) (old : List ℕ) (place : ℕ) (e : Extent) (after : Scene) : Type 0 where
   pub grown : WasGrown r old place e after.past
-  pub words : IsWriting r 0 0 after
+  pub words : IsWritingRecord r 0 0 after
 
 abbrev pub GrowthsTakeWords : Type 0
 GrowthsTakeWords =
@@ -64,7 +64,7 @@ ReplacementsAreGood =
 -- these swaps may be asked for
 pub record ChangesMayBeAsked : Type 0 where
   pub removes : (s : Scene) (key payload : List ℕ) (k st place : ℕ) (e : Extent) → IsScene s → WasRecord key payload k st place e s.past → All (IsEntryToAsk s) (entries_of s.past.config (removal k st place e))
-  pub grows : (s : Scene) (r : NewRecord) (moment : ℕ) → IsScene s → Fits r → WasLeaf r.slot r.status moment s.past → All (IsEntryToAsk s) (growth s.past.config r ∷ [])
+  pub grows : (s : Scene) (r : NewRecord) (moment : ℕ) → IsScene s → Fits r → WasLeafThen r.slot r.status moment s.past → All (IsEntryToAsk s) (growth s.past.config r ∷ [])
   pub replaces : (s : Scene) (r : NewRecord) (old : List ℕ) (place : ℕ) (e : Extent) → IsScene s → Fits r → WasGrown r old place e s.past → All (IsEntryToAsk s) (entries_of s.past.config (replacement r place e))
 
 -- the record that was found of a key is one of the key's leaf

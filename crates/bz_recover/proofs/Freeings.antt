@@ -6,7 +6,7 @@ use Rattle.std.proofs.lemmas.Bool.Decides.{nat_tests}
 use Rattle.bz_layout.specs.Addresses.{swap_address, line_of, IsOutsideSwaps}
 use Rattle.bz_layout.specs.declared.config.Config.{Config}
 use Rattle.bz_recover.proofs.Images.{frees, plain-value}
-use Rattle.bz_recover.specs.Memory.{Memory, Stores, Copies, Flushes}
+use Rattle.bz_recover.specs.Memory.{Memory, StoresWord, Copies, Flushes}
 use Rattle.bz_recover.specs.Sweep.{IsOfSwap, IsFreeing, IsRecovered}
 
 alike : (b : Bool) (x y z w : ℕ) → z ≡ (if b then x else y) → x ≡ w → y ≡ w → z ≡ w
@@ -42,7 +42,7 @@ stored-same b p x y z e same = grind (arith, nat_tests)
 stored-other : (b p : ℕ) (x y z : ℕ) → z ≡ (if b == p then x else y) → b ≢ p → z ≡ y
 stored-other b p x y z e other = grind (arith, nat_tests)
 
-pub stored : (c : Config) (v : ℕ → ℕ) (m n : Memory) (u s : ℕ) → IsOfSwap c (swap_address s) → IsFreeing c v m u s → Stores m n (swap_address s) 0 → IsFreeing c v n u (s + 1)
+pub stored : (c : Config) (v : ℕ → ℕ) (m n : Memory) (u s : ℕ) → IsOfSwap c (swap_address s) → IsFreeing c v m u s → StoresWord m n (swap_address s) 0 → IsFreeing c v n u (s + 1)
 stored c v m n u s at h k = record {
   image = frees c v m.durable n.durable h.image (λ a p. k.durable a ∙ h.durable a p) (λ a p. inl (k.durable a));
   cached = λ a p. stored-other a (swap_address s) _ _ _ (k.cached a) (λ e. at.inside (subst (IsOutsideSwaps c) e p.outside)) ∙ h.cached a p;

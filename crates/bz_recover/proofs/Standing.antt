@@ -20,7 +20,7 @@ use Rattle.bz_recover.proofs.Freeings as freeing
 use Rattle.bz_recover.proofs.Sweeps as sweep
 use Rattle.bz_recover.specs.Duties.{IsSought, IsValueAt, knows_before, knows_after, knows_in, asks_in, end_in}
 use Rattle.bz_recover.specs.Laws.{IsAskable}
-use Rattle.bz_recover.specs.Memory.{Memory, Stores, Copies, Flushes}
+use Rattle.bz_recover.specs.Memory.{Memory, StoresWord, Copies, Flushes}
 use Rattle.bz_recover.specs.Places.{IsPlaced, IsPlace}
 use Rattle.bz_recover.specs.Sweep.{IsShared, IsOfSwap, IsImage, IsPoweredOn, IsSwept, IsRecovered}
 use Rattle.bz_recover.specs.Walking.{IsLoadOrEnd}
@@ -155,7 +155,7 @@ stable c v m n f Waiting p at k h = stable-before c v m n f p at.place k h
 stable c v m n f Took p at k h = stable-after c v m n f p at.place k h
 
 -- its own store
-pub stored : (c : Config) (v : ℕ → ℕ) (m n : Memory) (a x : ℕ) (p : Phase) (walks : Option Todo) → MayWalk c walks → IsPlace c p → asks_in p walks ≡ Some (Store a x) → Stores m n a x → knows_before c v m p → knows_after c v n p
+pub stored : (c : Config) (v : ℕ → ℕ) (m n : Memory) (a x : ℕ) (p : Phase) (walks : Option Todo) → MayWalk c walks → IsPlace c p → asks_in p walks ≡ Some (Store a x) → StoresWord m n a x → knows_before c v m p → knows_after c v n p
 stored c v m n a x Fresh walks may at e k h = absurd (cc)
 stored c v m n a x (Word p) walks may at e k h = absurd (cc)
 stored c v m n a x (Status p s) walks may at e k h = absurd (cc)
@@ -164,13 +164,13 @@ stored c v m n a x (Value p b) walks may at e k h = absurd (cc)
 stored c v m n a x (Resolve p y) walks may at e k h =
     let place : a ≡ p.at = cc in
     let word : x ≡ y = cc in
-    sweep.stored c v m n p.unflushed p.at y at.shared h.0 h.1 (subst (λ b. Stores m n b y) place (subst (Stores m n a) word k))
+    sweep.stored c v m n p.unflushed p.at y at.shared h.0 h.1 (subst (λ b. StoresWord m n b y) place (subst (StoresWord m n a) word k))
 stored c v m n a x (Flush p) walks may at e k h = absurd (cc)
 stored c v m n a x (SwapStatus s) walks may at e k h = absurd (cc)
 stored c v m n a x (Free s) walks may at e k h =
     let place : a ≡ swap_address s = cc in
     let word : x ≡ 0 = cc in
-    freeing.stored c v m n s s (first-of-swap c s at) h (subst (λ b. Stores m n b 0) place (subst (Stores m n a) word k))
+    freeing.stored c v m n s s (first-of-swap c s at) h (subst (λ b. StoresWord m n b 0) place (subst (StoresWord m n a) word k))
 stored c v m n a x (FlushFree s) walks may at e k h = absurd (cc)
 stored c v m n a x Walk walks may at e k h = absurd (may (Store a x) e)
 

@@ -6,7 +6,7 @@ use Rattle.std.proofs.lemmas.Bool.Decides.{nat_tests}
 use Rattle.bz_layout.specs.Addresses.{words_of, line_of, IsOutsideSwaps}
 use Rattle.bz_layout.specs.declared.config.Config.{Config}
 use Rattle.bz_recover.proofs.Images.{resolves}
-use Rattle.bz_recover.specs.Memory.{Memory, Stores, Copies, Flushes}
+use Rattle.bz_recover.specs.Memory.{Memory, StoresWord, Copies, Flushes}
 use Rattle.bz_recover.specs.Places.{IsNextShared}
 use Rattle.bz_recover.specs.Sweep.{IsShared, IsOfSwap, IsPoweredOn, IsSwept, IsFreeing}
 
@@ -56,7 +56,7 @@ stored-other b p x y z e other = grind (arith, nat_tests)
 differs : (c : Config) (a p : ℕ) → IsShared c p → IsOfSwap c a → a ≢ p
 differs c a p s t e = t.inside (subst (IsOutsideSwaps c) (sym e) s.outside)
 
-pub stored : (c : Config) (v : ℕ → ℕ) (m n : Memory) (u p x : ℕ) → IsShared c p → IsSwept c v m u p → x ≡ v p → Stores m n p x → IsSwept c v n u (p + 1)
+pub stored : (c : Config) (v : ℕ → ℕ) (m n : Memory) (u p x : ℕ) → IsShared c p → IsSwept c v m u p → x ≡ v p → StoresWord m n p x → IsSwept c v n u (p + 1)
 stored c v m n u p x at h e k = record {
   image = resolves c v m.durable n.durable h.image (λ a s. inl (k.durable a)) (λ a s. k.durable a);
   swaps = λ a s. stored-other a p _ _ _ (k.cached a) (differs c a p at s) ∙ (h.swaps a s ∙ sym (k.durable a));

@@ -10,7 +10,7 @@ use Rattle.bz_task.specs.declared.todo.Todo.TheVariants.{Load, Store, Flush, Fin
 use Rattle.bz_recover.specs.Contents.{ResolvesSome}
 use Rattle.bz_recover.specs.Duties.{config_of, asks_of, end_of, acts_left, Knows, WalksIn, IsReady}
 use Rattle.bz_recover.specs.Laws.{IsAskable}
-use Rattle.bz_recover.specs.Memory.{Memory, Stores, Copies, Flushes}
+use Rattle.bz_recover.specs.Memory.{Memory, StoresWord, Copies, Flushes}
 use Rattle.bz_recover.specs.Sweep.{IsShared, IsOfSwap, IsImage, IsRecovered}
 use Rattle.bz_recover.specs.Walking.{IsTreeOf, AreReached}
 use Rattle.bz_recover.specs.declared.recover.Recover.{Recover}
@@ -26,7 +26,7 @@ pub record RecoveriesKnow : Type 0 where
   pub resolves : (t : Recover) (values : ℕ → ℕ) (stage : Stage) (old new : Memory) (copied : ℕ → Bool) → IsReady t → Knows t values stage old → Copies old new copied → ResolvesSome (config_of t) values old.durable new.durable
   -- its own acts
   pub loaded : (t : Recover) (values : ℕ → ℕ) (m : Memory) (a : ℕ) → IsReady t → asks_of t ≡ Some (Load a) → Knows t values Waiting m → Knows t values Took m
-  pub stored : (t : Recover) (values : ℕ → ℕ) (old new : Memory) (a x : ℕ) → IsReady t → asks_of t ≡ Some (Store a x) → Knows t values Waiting old → Stores old new a x → Knows t values Took new
+  pub stored : (t : Recover) (values : ℕ → ℕ) (old new : Memory) (a x : ℕ) → IsReady t → asks_of t ≡ Some (Store a x) → Knows t values Waiting old → StoresWord old new a x → Knows t values Took new
   pub flushed : (t : Recover) (values : ℕ → ℕ) (old new : Memory) (line : ℕ) → IsReady t → asks_of t ≡ Some (Flush line) → Knows t values Waiting old → Flushes old new line → Knows t values Took new
   -- what it knows says of every moment
   pub image : (t : Recover) (values : ℕ → ℕ) (stage : Stage) (m : Memory) → IsReady t → Knows t values stage m → IsImage (config_of t) values m.durable
@@ -42,4 +42,4 @@ pub record RecoveriesKnow : Type 0 where
 -- how many acts are left changes by what a recovery is told alone
 pub record ActsLeftStay : Type 0 where
   pub copied : (t : Recover) (values : ℕ → ℕ) (stage : Stage) (old new : Memory) (copied : ℕ → Bool) → Knows t values stage old → Copies old new copied → acts_left t new ≡ acts_left t old
-  pub stored : (t : Recover) (old new : Memory) (a x : ℕ) → Stores old new a x → acts_left t new ≡ acts_left t old
+  pub stored : (t : Recover) (old new : Memory) (a x : ℕ) → StoresWord old new a x → acts_left t new ≡ acts_left t old

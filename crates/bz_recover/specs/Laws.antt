@@ -9,7 +9,7 @@ use Rattle.bz_swap.specs.Power.{MayRenew}
 use Rattle.bz_swap.specs.SwapMemory.{SwapMemory, Idle, doing_of, memory_words as words_in}
 use Rattle.bz_task.specs.declared.todo.Todo.{Todo}
 use Rattle.bz_task.specs.declared.todo.Todo.TheVariants.{Load, Store, Flush, Finish}
-use Rattle.bz_recover.specs.Memory.{Memory, memory_of, Stores, Flushes, Evicts, Cuts}
+use Rattle.bz_recover.specs.Memory.{Memory, memory_of, StoresWord, Flushes, Evicts, Cuts}
 use Rattle.bz_recover.specs.Sweep.{IsImage, IsPoweredOn, IsRecovered}
 
 -- what is asked for lies in the memory, and is a load, a store, a flush or the end
@@ -26,7 +26,7 @@ CutsKeepTheImage = (c : Config) (values : ℕ → ℕ) (old new : Memory) → Is
 
 -- what the acts of a simulated memory leave
 pub record ActsAreThese : Type 0 where
-  pub store : (m : Words) (a x : ℕ) → IsMemory m → a < length m.cached → x < 2 ^ 64 → Stores (memory_of m) (memory_of (stored m a x)) a x
+  pub store : (m : Words) (a x : ℕ) → IsMemory m → a < length m.cached → x < 2 ^ 64 → StoresWord (memory_of m) (memory_of (stored m a x)) a x
   pub flush : (m : Words) (line : ℕ) → IsMemory m → line * LINE_WORDS < length m.cached → Flushes (memory_of m) (memory_of (flushed m line)) line
   pub evict : (m : Words) (a : ℕ) → IsMemory m → a < length m.cached → Evicts (memory_of m) (memory_of (evicted m a)) a
   pub cut : (m : Words) → IsMemory m → Cuts (memory_of m) (memory_of (after_cut m))

@@ -13,7 +13,7 @@ abbrev pub memory_of : Words → Memory
 memory_of m = record { cached = slice_index m.cached; durable = slice_index m.durable }
 
 -- a store changes one cached word
-pub record Stores (old new : Memory) (a x : ℕ) : Type 0 where
+pub record StoresWord (old new : Memory) (a x : ℕ) : Type 0 where
   pub cached : (b : ℕ) → new.cached b ≡ (if b == a then x else old.cached b)
   pub durable : (b : ℕ) → new.durable b ≡ old.durable b
 

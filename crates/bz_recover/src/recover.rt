@@ -8,7 +8,7 @@ ghost use Rattle.bz_layout.specs.Config.{IsConfig};
 ghost use Rattle.bz_layout.specs.Slots.{FreeSlots};
 ghost use Rattle.bz_task.specs.Scene.{Stage, Waiting, Took};
 ghost use Rattle.bz_recover.specs.Duties.{IsSought, knows_before, config_of, asks_in, asks_of, end_of, left_with, left_of, acts_left, Knows, WalksIn, Hears, Tells, IsReady};
-ghost use Rattle.bz_recover.specs.Memory.{Memory, Stores, Flushes, Evicts};
+ghost use Rattle.bz_recover.specs.Memory.{Memory, StoresWord, Flushes, Evicts};
 ghost use Rattle.bz_recover.specs.Sweep.{IsPoweredOn, IsSwept, IsFreeing, IsImage, IsRecovered};
 ghost use Rattle.bz_recover.specs.Laws.{IsAskable};
 ghost use Rattle.bz_recover.specs.Walking.{IsTreeOf, AreReached};
@@ -126,7 +126,7 @@ impl Recover {
     /// Laws of the acts by which the memory changes. Does nothing.
     pub fn acted(&self)
         requires { IsReady self.now }
-        ensures stored { (values : ℕ → ℕ) (old new : Memory) (a x : ℕ) → asks_of self.now ≡ Some (Store a x) → Knows self.now values Waiting old → Stores old new a x → Knows self.now values Took new }
+        ensures stored { (values : ℕ → ℕ) (old new : Memory) (a x : ℕ) → asks_of self.now ≡ Some (Store a x) → Knows self.now values Waiting old → StoresWord old new a x → Knows self.now values Took new }
         ensures flushed { (values : ℕ → ℕ) (old new : Memory) (line : ℕ) → asks_of self.now ≡ Some (Flush line) → Knows self.now values Waiting old → Flushes old new line → Knows self.now values Took new }
     {}
 

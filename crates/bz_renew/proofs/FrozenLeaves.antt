@@ -8,7 +8,7 @@ use Rattle.bz_task.specs.Good.{IsGood}
 use Rattle.bz_task.specs.Instant.{Instant, words, durable, page_at, form_at, is_inside}
 use Rattle.bz_task.specs.Laws.{AreMoments, SamePlace, IsLeafInTree, SaysAlike, FrozenNodesStay, RangesStay, SameRecordsShowTheSame, SeenLeavesAreWhole, LeavesAreInTrees}
 use Rattle.bz_task.specs.Scene.{Scene, IsScene, here}
-use Rattle.bz_task.specs.Shown.{SameWords, SameNode, SameRecords}
+use Rattle.bz_task.specs.Shown.{SameWords, SameShownNode, SameRecords}
 use Rattle.bz_renew.specs.FrozenLeaves.{WasFrozenLeaf, FrozenLeavesStandStill}
 
 -- the laws that these proofs stand on
@@ -49,7 +49,7 @@ module _ (b : Laws) (s : Scene) (k m : ℕ) (good : IsScene s) (w : WasFrozenLea
   then-reached : (s.past.at m).reached k ≡ true
   then-reached = then-good.inside k w.inside below
 
-  same : SameNode s.past.config (s.past.at m) (here s) k
+  same : SameShownNode s.past.config (s.past.at m) (here s) k
   same = b.frozen s.past.config s.past.at s.past.since s.past.now m s.past.now k good.history moments then-reached w.frozen
 
   frozen : (page_at s.past.config (here s) k).frozen ≡ true

@@ -14,8 +14,8 @@ use Rattle.bz_content.specs.Resolving.{resolve}
 use Rattle.bz_task.specs.Good.{IsGood}
 use Rattle.bz_task.specs.Instant.{Instant, words, durable, page_at, is_inside}
 use Rattle.bz_task.specs.Scene.{Scene, IsScene, here}
-use Rattle.bz_task.specs.Shown.{IsShown, SameNode}
-use Rattle.bz_task.specs.Steps.{IsEffect, Moved}
+use Rattle.bz_task.specs.Shown.{IsShown, SameShownNode}
+use Rattle.bz_task.specs.Steps.{IsEffect, NodeMoves}
 use Rattle.bz_task.specs.Swaps.{IsMineAndDurable}
 use Rattle.bz_renew.specs.LinkSwaps.{IsFresh, IsLinkSwap, LinkSwapsAreGood}
 use Rattle.bz_renew.proofs.Words.{untouched, same-swapped, super-same, node-at, node-past, node-same, and-left, and-right, or-split, or-left, or-right}
@@ -179,7 +179,7 @@ module _ (formed : WellFormedImagesHaveNoFault) (plain : PlainWordsStandForThems
     root = w.root;
   }
     where
-      node : (t : Bool) (k : ℕ) → is_among changed k ≡ t → SameNode s.past.config (here s) y k ⊎ Moved s.past.config (here s) y k
+      node : (t : Bool) (k : ℕ) → is_among changed k ≡ t → SameShownNode s.past.config (here s) y k ⊎ NodeMoves s.past.config (here s) y k
       node true k e = inr (w.changes k e).moved
       node false k e = inl (λ i h. words-other k e i)
 

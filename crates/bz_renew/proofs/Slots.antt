@@ -7,7 +7,7 @@ use Rattle.std.proofs.lemmas.List.{get_or_append_left, get_or-take, length-take-
 use Rattle.bz_layout.specs.Slots.{FreeSlots, IsInOrder, TakenSlotsAreGone}
 use Rattle.bz_shape.specs.Walk.{is_among}
 use Rattle.bz_renew.specs.Nodes.{AreSlotsTaken}
-use Rattle.bz_renew.specs.Writing.{IsTaken}
+use Rattle.bz_renew.specs.Writing.{TakesFirst}
 use Rattle.bz_renew.proofs.Words.{or-right}
 
 -- a slot that is not contained is not among them
@@ -19,10 +19,10 @@ not-among k (x ∷ xs) out = go (x == k) refl (not-among k xs (λ h. out (suc h.
     go true e ih = let same : x ≡ k = grind (arith, nat_tests) in absurd (out (0, omega arith, same))
     go false e ih = rw e ih
 
-pub first-taken : TakenSlotsAreGone → (old : FreeSlots) (out rest : List ℕ) (new : FreeSlots) → IsInOrder old → 1 ≤ length old.free → out ≡ take 1 old.free ++ rest → new ≡ record old { free = drop 1 old.free } → IsTaken (slice_index_or out 0 0) old new
+pub first-taken : TakenSlotsAreGone → (old : FreeSlots) (out rest : List ℕ) (new : FreeSlots) → IsInOrder old → 1 ≤ length old.free → out ≡ take 1 old.free ++ rest → new ≡ record old { free = drop 1 old.free } → TakesFirst (slice_index_or out 0 0) old new
 first-taken law old out rest new order some is after = go old.free refl order.within some
   where
-    go : (free : List ℕ) → old.free ≡ free → All (λ slot. slot < old.nodes) free → 1 ≤ length free → IsTaken (slice_index_or out 0 0) old new
+    go : (free : List ℕ) → old.free ≡ free → All (λ slot. slot < old.nodes) free → 1 ≤ length free → TakesFirst (slice_index_or out 0 0) old new
     go [] e within l = absurd (omega (arith, l))
     go (k ∷ free) e within l =
         let first : slice_index_or out 0 0 ≡ k = ap (λ z. slice_index_or z 0 0) is ∙ ap (λ z. slice_index_or (take 1 z ++ rest) 0 0) e in

@@ -25,7 +25,7 @@ use Rattle.bz_task.specs.Laws.{AreMoments, SlotWords}
 use Rattle.bz_task.specs.Outcomes.{IsUnderNode, IsGuarded}
 use Rattle.bz_task.specs.Requests.{IsTarget}
 use Rattle.bz_task.specs.Scene.{Scene, IsScene, here}
-use Rattle.bz_task.specs.Shown.{SameNode as SameNodeRead}
+use Rattle.bz_task.specs.Shown.{SameShownNode as SameNodeRead}
 use Rattle.bz_task.specs.Swaps.{Stand, SwapsTo, swapped}
 use Rattle.bz_task.specs.declared.path.Link.{Link}
 use Rattle.bz_renew.specs.Freezings.{Freezing, slots_of, renewal_with}

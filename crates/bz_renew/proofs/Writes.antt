@@ -12,7 +12,7 @@ use Rattle.bz_task.specs.OwnActs.{Stores, Flushes, AreUnreached, is_gained, gain
 use Rattle.bz_task.specs.Requests.{IsOwnStore, IsReadable}
 use Rattle.bz_task.specs.Scene.{Scene, IsMine, IsFlushed, IsLawful, HasFilled, here}
 use Rattle.bz_task.proofs.Stays.{gained-mine}
-use Rattle.bz_renew.specs.Writing.{IsWriting, HasFilledBut, IsTaken}
+use Rattle.bz_renew.specs.Writing.{IsWritingNode, HasFilledBut, TakesFirst}
 use Rattle.bz_renew.proofs.Words.{or-left, or-right, or-split}
 
 same-test : (a b : ℕ) → a ≡ b → (a == b) ≡ true
@@ -26,7 +26,7 @@ resized : (k : ℕ) (image : List ℕ) (count lines : ℕ) (c : Config) (s : Sce
     → ((i : ℕ) → i < NODE_WORDS → IsMine s (node_address c k + i))
     → ((i : ℕ) → i < NODE_WORDS → i < count → (here s).value (node_address c k + i) ≡ slice_index image i)
     → ((i : ℕ) → i < NODE_WORDS → i < LINE_WORDS * lines → IsFlushed s (node_address c k + i))
-    → IsWriting k image count lines s
+    → IsWritingNode k image count lines s
 resized k image count lines c s p slot mine stored flushed = record {
   slot = subst (λ z. k < z.nodes) (sym p) slot;
   mine = λ i l. subst (λ z. IsMine s (node_address z k + i)) (sym p) (mine i l);
@@ -34,7 +34,7 @@ resized k image count lines c s p slot mine stored flushed = record {
   flushed = λ i l n. subst (λ z. IsFlushed s (node_address z k + i)) (sym p) (flushed i l n);
 }
 
-pub writing-stays : (k : ℕ) (image : List ℕ) (count lines : ℕ) (s after : Scene) → IsWriting k image count lines s → IsLawful s after → IsWriting k image count lines after
+pub writing-stays : (k : ℕ) (image : List ℕ) (count lines : ℕ) (s after : Scene) → IsWritingNode k image count lines s → IsLawful s after → IsWritingNode k image count lines after
 writing-stays k image count lines s after w l =
     resized k image count lines s.past.config after l.continues.config w.slot
     (λ i h. (l.keeps (node_address s.past.config k + i) (w.mine i h)).mine)
@@ -42,7 +42,7 @@ writing-stays k image count lines s after w l =
     (λ i h n. (l.keeps (node_address s.past.config k + i) (w.mine i h)).flushed (w.flushed i h n))
 
 -- the next word is stored
-pub writing-stores : (k : ℕ) (image : List ℕ) (i : ℕ) (s after : Scene) → IsWriting k image i 0 s → Stores (node_address s.past.config k + i) (slice_index image i) s after → IsWriting k image (i + 1) 0 after
+pub writing-stores : (k : ℕ) (image : List ℕ) (i : ℕ) (s after : Scene) → IsWritingNode k image i 0 s → Stores (node_address s.past.config k + i) (slice_index image i) s after → IsWritingNode k image (i + 1) 0 after
 writing-stores k image i s after w t =
     resized k image (i + 1) 0 s.past.config after t.continues.config w.slot
     (λ j h. t.mine (node_address s.past.config k + j) (w.mine j h))
@@ -53,7 +53,7 @@ writing-stores k image i s after w t =
     (λ j h n. absurd (omega (arith, n)))
 
 -- the next line is flushed
-pub writing-flushes : (k : ℕ) (image : List ℕ) (n : ℕ) (s after : Scene) → IsWriting k image NODE_WORDS n s → Flushes (line_of (node_address s.past.config k) + n) s after → IsWriting k image NODE_WORDS (n + 1) after
+pub writing-flushes : (k : ℕ) (image : List ℕ) (n : ℕ) (s after : Scene) → IsWritingNode k image NODE_WORDS n s → Flushes (line_of (node_address s.past.config k) + n) s after → IsWritingNode k image NODE_WORDS (n + 1) after
 writing-flushes k image n s after w t =
     resized k image NODE_WORDS (n + 1) s.past.config after t.continues.config w.slot
     (λ j h. t.mine (node_address s.past.config k + j) (w.mine j h))
@@ -78,7 +78,7 @@ filled-all k i v s after l f t j h = t.filled j ∙ go (cases_eq j k)
     go (inr ne) = or-left (s.filled j) _ (f j (sym (t.took j) ∙ h) ne)
 
 -- where a slot is taken
-module _ (apart : SlotsApart) (s : Scene) (old new : FreeSlots) (k : ℕ) (taken : IsTaken k old new) (below : k < s.past.config.nodes) (unreached : AreUnreached s old) where
+module _ (apart : SlotsApart) (s : Scene) (old new : FreeSlots) (k : ℕ) (taken : TakesFirst k old new) (below : k < s.past.config.nodes) (unreached : AreUnreached s old) where
   among-old : is_among old.free k ≡ true
   among-old = ap (λ z. is_among z k) taken.first ∙ or-left (k == k) _ (same-test k k refl)
 
@@ -109,7 +109,7 @@ module _ (apart : SlotsApart) (s : Scene) (old new : FreeSlots) (k : ℕ) (taken
       go true e h = e
       go false e h = absurd (true≢false (sym (or-split (s.took j) (is_gained old new j) h e) ∙ gained-only j ne))
 
-  pub taken-writing : (image : List ℕ) → IsWriting k image 0 0 (gained s old new)
+  pub taken-writing : (image : List ℕ) → IsWritingNode k image 0 0 (gained s old new)
   taken-writing image = record {
     slot = below;
     mine = taken-mine;
@@ -118,7 +118,7 @@ module _ (apart : SlotsApart) (s : Scene) (old new : FreeSlots) (k : ℕ) (taken
   }
 
 -- where none is taken, all stays
-pub writing-no-slot : (k : ℕ) (image : List ℕ) (count lines : ℕ) (s : Scene) (free : FreeSlots) → IsWriting k image count lines s → IsWriting k image count lines (gained s free free)
+pub writing-no-slot : (k : ℕ) (image : List ℕ) (count lines : ℕ) (s : Scene) (free : FreeSlots) → IsWritingNode k image count lines s → IsWritingNode k image count lines (gained s free free)
 writing-no-slot k image count lines s free w = record {
   slot = w.slot;
   mine = λ i l. gained-mine s free free (node_address s.past.config k + i) (w.mine i l);
@@ -138,7 +138,7 @@ filled-no-slot k s free f j h ne = f j (go (s.took j) refl h) ne
     go false e h = absurd (true≢false (sym (or-split (s.took j) (is_gained free free j) h e) ∙ never (is_among free.free j)))
 
 -- both may be asked for
-pub may-store : (k : ℕ) (image : List ℕ) (i : ℕ) (s : Scene) → i < NODE_WORDS → length image ≡ NODE_WORDS → All (λ v. v < 2 ^ 61) image → IsWriting k image i 0 s → IsOwnStore s (node_address s.past.config k + i) (slice_index image i)
+pub may-store : (k : ℕ) (image : List ℕ) (i : ℕ) (s : Scene) → i < NODE_WORDS → length image ≡ NODE_WORDS → All (λ v. v < 2 ^ 61) image → IsWritingNode k image i 0 s → IsOwnStore s (node_address s.past.config k + i) (slice_index image i)
 may-store k image i s l size plain w = record { mine = w.mine i l; value = plain i 0 (omega (arith, l, size)) }
 
 pub may-flush : (k : ℕ) (n : ℕ) (s : Scene) → k < s.past.config.nodes → n < NODE_LINES → IsReadable s (LINE_WORDS * (line_of (node_address s.past.config k) + n))

@@ -12,13 +12,13 @@ use Rattle.bz_task.specs.Instant.{Instant, words, page_at}
 use Rattle.bz_task.specs.Requests.{IsTarget}
 use Rattle.bz_task.specs.Scene.{Scene, IsScene, here}
 use Rattle.bz_task.specs.Shown.{IsShown}
-use Rattle.bz_task.specs.Steps.{Moved, ReplacedRootIsFrozen}
+use Rattle.bz_task.specs.Steps.{NodeMoves, ReplacedRootIsFrozen}
 use Rattle.bz_task.specs.Swaps.{Change, SwapsTo, IsMineAndDurable, IsGoodSwap}
 
 -- a reached slot is changed as nodes are, and no more of it is read afterwards
 pub record IsChanged (s : Scene) (y : Instant) (k : ℕ) : Type 0 where
   pub reached : (here s).reached k ≡ true
-  pub moved : Moved s.past.config (here s) y k
+  pub moved : NodeMoves s.past.config (here s) y k
   pub shown : (i : ℕ) → IsShown (words s.past.config y k) i → IsShown (words s.past.config (here s) k) i
 
 -- a slot that is all the worker's own, and durable

@@ -6,7 +6,7 @@ use Rattle.bz_content.specs.Content.{view_in}
 use Rattle.bz_task.specs.Instant.{page_at, form_at, is_inside}
 use Rattle.bz_task.specs.Outcomes.{IsUnderNode, IsGuarded}
 use Rattle.bz_task.specs.Scene.{Scene, IsScene, here}
-use Rattle.bz_task.specs.Shown.{SameNode}
+use Rattle.bz_task.specs.Shown.{SameShownNode}
 use Rattle.bz_task.specs.declared.path.Link.{Link}
 
 -- slot p is an inner node of the tree, not frozen, and as it was at this moment; the link's slot stands there as child i
@@ -15,7 +15,7 @@ pub record StillLeads (link : Link) (s : Scene) (m p i : ℕ) : Type 0 where
   pub thawed : (page_at s.past.config (here s) p).frozen ≡ false
   pub inner : 0 < (page_at s.past.config (here s) p).level
   pub inside : is_inside s.past.config (here s) p ≡ true
-  pub same : SameNode s.past.config (s.past.at m) (here s) p
+  pub same : SameShownNode s.past.config (s.past.at m) (here s) p
   pub stands : Stands (view_in s.past.config (here s).image) (form_at s.past.config (here s)) p i link.slot
 
 abbrev pub GuardedLinksStand : Type 0

@@ -7,7 +7,7 @@ use Rattle.bz_shape.specs.Walk.{is_among}
 use Rattle.bz_task.specs.Scene.{Scene, IsMine, IsFlushed, here}
 
 -- all words of the slot are the worker's own; the first so many are stored, and the first so many lines of them durable
-pub record IsWriting (k : ℕ) (image : List ℕ) (count lines : ℕ) (s : Scene) : Type 0 where
+pub record IsWritingNode (k : ℕ) (image : List ℕ) (count lines : ℕ) (s : Scene) : Type 0 where
   pub slot : k < s.past.config.nodes
   pub mine : (i : ℕ) → i < NODE_WORDS → IsMine s (node_address s.past.config k + i)
   pub stored : (i : ℕ) → i < NODE_WORDS → i < count → (here s).value (node_address s.past.config k + i) ≡ slice_index image i
@@ -18,7 +18,7 @@ abbrev pub HasFilledBut : ℕ → Scene → Type 0
 HasFilledBut slot s = (k : ℕ) → s.took k ≡ true → k ≢ slot → s.filled k ≡ true
 
 -- the first of the free slots is taken
-pub record IsTaken (k : ℕ) (old new : FreeSlots) : Type 0 where
+pub record TakesFirst (k : ℕ) (old new : FreeSlots) : Type 0 where
   pub first : old.free ≡ k ∷ new.free
   pub slot : k < old.nodes
   pub gone : is_among new.free k ≡ false

@@ -13,7 +13,7 @@ use Rattle.bz_acts.specs.declared.acted.Act.TheVariants.{Load, Store, Cas, Flush
 use Rattle.bz_cells.specs.Store.{IsOutside}
 use Rattle.bz_machine.specs.declared.done.Done.{Done}
 use Rattle.bz_machine.specs.declared.done.Done.TheVariants.{Busy, Read, Swapped, Stored, Flushed}
-use Rattle.bz_swap.specs.Effects.{IsQuiet, TakesEffect}
+use Rattle.bz_swap.specs.Effects.{NoneTakesEffect, TakesEffect}
 use Rattle.bz_swap.specs.EffectPlaces.{EffectsStayInside}
 use Rattle.bz_swap.specs.Evictions.{IsEviction, EvictsIn}
 use Rattle.bz_swap.specs.Held.{Holds, IsHeld}
@@ -199,10 +199,10 @@ module _ (old new : SwapMemory) (a : ℕ) (told : Option ℕ) (e : IsEviction ol
     size = ap length durable-set ∙ length-set old.durable a (slice_index old.cached a);
   }
 
-evict-quiet : (old new : SwapMemory) → old.phase ≢ Recovering → EvictsIn old.phase old None new → IsQuiet old new
+evict-quiet : (old new : SwapMemory) → old.phase ≢ Recovering → EvictsIn old.phase old None new → NoneTakesEffect old new
 evict-quiet old new ne h = go old.phase ne h
   where
-    go : (p : Phase) → p ≢ Recovering → EvictsIn p old None new → IsQuiet old new
+    go : (p : Phase) → p ≢ Recovering → EvictsIn p old None new → NoneTakesEffect old new
     go Opened n i = i
     go Running n i = i
     go Recovering n i = absurd (n refl)

@@ -3,7 +3,7 @@ use Rattle.std.specs.Prelude.{◌≡◌, ◌≢◌, ℕ, ◌⊎◌, false, lengt
 use Rattle.bz_layout.specs.Addresses.{line_of}
 use Rattle.bz_layout.specs.declared.config.Config.{Config}
 use Rattle.bz_cells.specs.Store.{IsOutside}
-use Rattle.bz_swap.specs.Effects.{IsQuiet}
+use Rattle.bz_swap.specs.Effects.{NoneTakesEffect}
 use Rattle.bz_swap.specs.Held.{Holds}
 use Rattle.bz_swap.specs.PlainFields.{HavePlainFields}
 use Rattle.bz_swap.specs.SwapMemory.{SwapMemory, is_named}
@@ -26,7 +26,7 @@ pub record Passes (c : Config) (x : Instant) (old new : SwapMemory) : Type 0 whe
   pub same : SameRest old new
   pub holds : Holds new
   pub fields : HavePlainFields new
-  pub quiet : IsQuiet old new
+  pub quiet : NoneTakesEffect old new
   pub durable : (a : ℕ) → (slice_index new.durable a ≡ slice_index old.durable a) ⊎ (slice_index new.durable a ≡ slice_index old.cached a)
   pub cached : (a : ℕ) → IsOutside old.swaps a → is_named old a ≡ false → (slice_index new.cached a ≡ slice_index old.cached a) ⊎ IsHidden c x a
 

@@ -3,7 +3,7 @@ use Rattle.std.specs.Prelude.{◌≡◌, ◌≢◌, ℕ, true, false, List, All,
 use Rattle.bz_layout.specs.declared.config.Config.{Config}
 use Rattle.bz_word.specs.declared.entry.Entry.{Entry}
 use Rattle.bz_cells.specs.Store.{IsOutside}
-use Rattle.bz_swap.specs.Effects.{TakesEffect, IsQuiet}
+use Rattle.bz_swap.specs.Effects.{TakesEffect, NoneTakesEffect}
 use Rattle.bz_swap.specs.Held.{Holds}
 use Rattle.bz_swap.specs.Lawful.{IsLawful}
 use Rattle.bz_swap.specs.Resolve.{resolve as swap_value}
@@ -62,4 +62,4 @@ EffectsShowOnTheImage =
 -- where nothing takes effect, no named word changes
 abbrev pub QuietMomentsChangeNothing : Type 0
 QuietMomentsChangeNothing =
-    (old new : SwapMemory) → HoldsAtBoth old new → IsQuiet old new → (a : ℕ) → IsOutside old.swaps a → is_named old a ≡ true → left_at new a ≡ left_at old a
+    (old new : SwapMemory) → HoldsAtBoth old new → NoneTakesEffect old new → (a : ℕ) → IsOutside old.swaps a → is_named old a ≡ true → left_at new a ≡ left_at old a

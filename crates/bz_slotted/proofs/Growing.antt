@@ -2,7 +2,7 @@
 use Rattle.std.proofs.Common.{◌≡◌, ℕ, ◌+◌, ◌^◌, ◌<◌, ◌≤◌, true, List, arith, sym, ap, ◌∙◌, Option}
 use Rattle.bz_layout.specs.declared.sizes.TheConstants.{NODE_WORDS, STATUS_AT, META_AT, SHARED_WORDS}
 use Rattle.bz_word.specs.Statuses.{status}
-use Rattle.bz_slotted.specs.Changes.{Grows, Restamps, Stores}
+use Rattle.bz_slotted.specs.Changes.{Grows, Restamps, StoresBeside}
 use Rattle.bz_slotted.specs.Page.{meta_of, visible, extent_of, page}
 use Rattle.bz_slotted.specs.Records.{key_in, key_at, live_block}
 use Rattle.bz_slotted.specs.Whole.{Whole}
@@ -78,7 +78,7 @@ restamped r s n m lo hi h c = record {
   room = omega (arith, h.filled.room);
 }
 
-pub stored : (r s n m : ℕ → ℕ) (lo hi : Option (List ℕ)) → Whole r (page n) lo hi → Stores r s n m → Stays r s n m 0
+pub stored : (r s n m : ℕ → ℕ) (lo hi : Option (List ℕ)) → Whole r (page n) lo hi → StoresBeside r s n m → Stays r s n m 0
 stored r s n m lo hi h c = let st : m STATUS_AT ≡ n STATUS_AT = c.others STATUS_AT (omega (arith, h.filled.room)) in record {
   front = λ i a b. c.others i (omega (arith, h.filled.room));
   status = rw st h.filled.status;

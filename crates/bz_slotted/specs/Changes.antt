@@ -66,6 +66,6 @@ pub record Restamps (r s n m : ℕ → ℕ) : Type 0 where
   pub dead : (page m).dead ≡ (page n).dead
 
 -- words of the block that no visible record holds change: the private stores of a record to come
-pub record Stores (r s n m : ℕ → ℕ) : Type 0 where
+pub record StoresBeside (r s n m : ℕ → ℕ) : Type 0 where
   pub others : (i : ℕ) → i + (page n).block < NODE_WORDS → m i ≡ n i
   pub records : (j i : ℕ) → j < (page n).count → visible ((page n).meta j) ≡ true → (extent_of ((page n).meta j)).offset ≤ i → i < (extent_of ((page n).meta j)).offset + weight ((page n).meta j) → (m i ≡ n i) × (s i ≡ r i)

@@ -1,7 +1,7 @@
 -- What swaps and private stores do to a leaf that breaks no rule: it breaks none, and which answers change.
 use Rattle.std.specs.Prelude.{◌≡◌, ◌≢◌, ℕ, true, false, List, Option, Some, None}
 use Rattle.bz_word.specs.declared.meta.Meta.{Meta}
-use Rattle.bz_slotted.specs.Changes.{Rewrites, Reserves, Grows, Restamps, Stores}
+use Rattle.bz_slotted.specs.Changes.{Rewrites, Reserves, Grows, Restamps, StoresBeside}
 use Rattle.bz_slotted.specs.Page.{visible, extent_of, page}
 use Rattle.bz_slotted.specs.Readers.{found_of}
 use Rattle.bz_slotted.specs.Records.{key_in, payload_in, key_at}
@@ -32,4 +32,4 @@ abbrev pub FreezeIsQuiet : Type 0
 FreezeIsQuiet = (nodes : ℕ) (r s n m : ℕ → ℕ) (lo hi : Option (List ℕ)) → node_fault nodes r n 0 lo hi ≡ None → Restamps r s n m → AnswersAlike nodes s n m lo hi
 
 abbrev pub StoresAreQuiet : Type 0
-StoresAreQuiet = (nodes : ℕ) (r s n m : ℕ → ℕ) (lo hi : Option (List ℕ)) → node_fault nodes r n 0 lo hi ≡ None → Stores r s n m → AnswersAlike nodes s n m lo hi
+StoresAreQuiet = (nodes : ℕ) (r s n m : ℕ → ℕ) (lo hi : Option (List ℕ)) → node_fault nodes r n 0 lo hi ≡ None → StoresBeside r s n m → AnswersAlike nodes s n m lo hi

@@ -11,8 +11,8 @@ use Rattle.bz_sound.specs.Memory.Moments.{image_at, image_after}
 use Rattle.bz_sound.specs.Memory.Spent.{is_reached_in}
 use Rattle.bz_task.specs.Good.{IsGood}
 use Rattle.bz_task.specs.Instant.{Instant, words, page_at}
-use Rattle.bz_task.specs.Shown.{SameNode}
-use Rattle.bz_task.specs.Steps.{IsStep, IsHistory, Moved}
+use Rattle.bz_task.specs.Shown.{SameShownNode}
+use Rattle.bz_task.specs.Steps.{IsStep, IsHistory, NodeMoves}
 use Rattle.bz_word.specs.Statuses.{status}
 use Rattle.bz_story.specs.Laws.{LivesGoOn}
 use Rattle.bz_story.specs.Living.{IsInBlock}
@@ -60,7 +60,7 @@ block-on c x y a b reached grown = record {
 same-block : (n m : ℕ → ℕ) → m STATUS_AT ≡ n STATUS_AT → (status (m STATUS_AT)).block ≡ (status (n STATUS_AT)).block
 same-block n m e = ap (λ w. (status w).block) e
 
-pub node-block : (c : Config) (x y : Instant) (k : ℕ) → SameNode c x y k ⊎ Moved c x y k → (page_at c x k).block ≤ (page_at c y k).block
+pub node-block : (c : Config) (x y : Instant) (k : ℕ) → SameShownNode c x y k ⊎ NodeMoves c x y k → (page_at c x k).block ≤ (page_at c y k).block
 node-block c x y k (inl s) = omega (arith, same-block (words c x k) (words c y k) (s STATUS_AT (inl (omega arith))))
 node-block c x y k (inr v) = v.block
 

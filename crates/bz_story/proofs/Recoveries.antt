@@ -15,7 +15,7 @@ use Rattle.bz_recover.specs.Contents.{ResolvesSome, SaysTheSame, ResolvingKeepsT
 use Rattle.bz_recover.specs.Duties.{config_of, asks_of, acts_left, Knows, hears_in, tells_in}
 use Rattle.bz_recover.specs.Knowledge.{RecoveriesKnow, ActsLeftStay}
 use Rattle.bz_recover.specs.Laws.{ActsAreThese}
-use Rattle.bz_recover.specs.Memory.{Stores, Flushes, Evicts, memory_of}
+use Rattle.bz_recover.specs.Memory.{StoresWord, Flushes, Evicts, memory_of}
 use Rattle.bz_recover.specs.declared.recover.Recover.{Recover}
 use Rattle.bz_swap.specs.Evictions.{EvictsIn}
 use Rattle.bz_swap.specs.PlainFields.{PlainFieldsStay, WritesPlain}
@@ -139,7 +139,7 @@ module _ (b : Laws) (c : Config) (v : ℕ → ℕ) (old new : SwapMemory) (t : R
       words : memory_words new ≡ stored (memory_words old) a x
       words = after (act.Store a x) store
 
-      changes : Stores (words_in old) (memory_of (stored (memory_words old) a x)) a x
+      changes : StoresWord (words_in old) (memory_of (stored (memory_words old) a x)) a x
       changes = b.acts.store (memory_words old) a x lines (subst (λ n. a < n) (sym r.memory.cached) may.0) (omega (arith, may.1))
 
       same : SaysTheSame c (slice_index old.durable) (slice_index new.durable)

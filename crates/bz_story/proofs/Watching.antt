@@ -16,7 +16,7 @@ use Rattle.bz_task.specs.Laws.{SameRecordsShowTheSame}
 use Rattle.bz_task.specs.Others.{AreApart, SharersOfNothingAreApart, Watches, LeavesAll, StoresTo, QuietActsAreLawful, StoresAreLawful}
 use Rattle.bz_task.specs.OwnActs.{Stores, Flushes}
 use Rattle.bz_task.specs.Scene.{Scene, IsOfTaken, IsMine, IsFlushed, Continues, IsLawful, here}
-use Rattle.bz_task.specs.Shown.{IsShown, SameNode, SameRecords}
+use Rattle.bz_task.specs.Shown.{IsShown, SameShownNode, SameRecords}
 use Rattle.bz_task.specs.Steps.{IsQuiet}
 use Rattle.bz_word.specs.Statuses.{status}
 use Rattle.bz_story.specs.Laws.{HasBegun, ScenesAreSeen, GoesOn, QuietMarksAreLawful, IsStore, StoresAreTold, FlushesAreTold, goes_on, fills}
@@ -60,7 +60,7 @@ mine-stays law s after config q reserved took a mine = record {
       unreached = q.reached o.slot ∙ o.unreached;
     }
 
-    records : (k : ℕ) → SameNode s.past.config (here s) (here after) k → SameRecords (words s.past.config (here s) k) (words s.past.config (here after) k)
+    records : (k : ℕ) → SameShownNode s.past.config (here s) (here after) k → SameRecords (words s.past.config (here s) k) (words s.past.config (here after) k)
     records k n = record {
       count = ap (λ w. (status w).count) (n 0 (inl (omega arith)));
       block = ap (λ w. (status w).block) (n 0 (inl (omega arith)));

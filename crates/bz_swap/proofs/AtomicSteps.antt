@@ -9,7 +9,7 @@ use Rattle.bz_acts.specs.declared.acted.Act.{Act}
 use Rattle.bz_acts.specs.declared.acted.Act.TheVariants.{Load, Store, Cas, Flush}
 use Rattle.bz_cells.specs.Store.{IsOutside}
 use Rattle.bz_swap.specs.Atomic.{value_of, Event, Quiet, Effect, changes, Happens}
-use Rattle.bz_swap.specs.Effects.{IsQuiet, TakesEffect}
+use Rattle.bz_swap.specs.Effects.{NoneTakesEffect, TakesEffect}
 use Rattle.bz_swap.specs.Held.{IsHeld}
 use Rattle.bz_swap.specs.SwapMemory.{SwapMemory, value_at, is_named}
 use Rattle.bz_swap.specs.declared.phase.Phase.TheVariants.{Recovering}
@@ -57,7 +57,7 @@ left-kept old new event f a out = by_name (is_named old a) refl
     by_name false private = private-left private (f.durable a)
 
 -- nothing, or the effect of a swap
-pub quiet-happens : (old new : SwapMemory) → IsFrame old new Quiet → IsQuiet old new → Happens old Quiet new
+pub quiet-happens : (old new : SwapMemory) → IsFrame old new Quiet → NoneTakesEffect old new → Happens old Quiet new
 quiet-happens old new f quiet = record {
   changed = tt;
   others = others-kept old new Quiet f (λ a named other. quiet.values a named);

@@ -9,7 +9,7 @@ use Rattle.bz_cells.specs.Store.{typed}
 use Rattle.bz_swap.specs.declared.phase.Phase.{Phase}
 use Rattle.bz_swap.specs.declared.phase.Phase.TheVariants.{Opened, Running, Recovering}
 use Rattle.bz_swap.specs.SwapMemory.{SwapMemory, Swapping, value_at, has_effect, is_missed, entries_of, is_target, is_named, is_among, doing_of}
-use Rattle.bz_swap.specs.Effects.{TakesEffect, IsQuiet, SomeDiffers, NotesMisses}
+use Rattle.bz_swap.specs.Effects.{TakesEffect, NoneTakesEffect, SomeDiffers, NotesMisses}
 use Rattle.bz_swap.specs.Inside.Parts.{Parts, listed, entry_of, entry_list, begun_seen, seen}
 use Rattle.bz_swap.specs.Inside.Kept.{IsRunning}
 use Rattle.bz_swap.proofs.Begun.{begun_is}
@@ -40,7 +40,7 @@ shows p r phase =
       entries = λ s below. ap (λ b. get_or b s []) begun ∙ listed-at (λ t. entry_list (r.entries t)) 0 p.store.taken s [] below ∙ ap (λ t. entry_list (r.entries t)) (omega arith);
     }
 
-pub quiet-shown : (m n : SwapMemory) (e : ℕ → Entries) (x y : Memory) → Shows m e x → Shows n e y → machine.Quiet e x y → IsQuiet m n
+pub quiet-shown : (m n : SwapMemory) (e : ℕ → Entries) (x y : Memory) → Shows m e x → Shows n e y → machine.Quiet e x y → NoneTakesEffect m n
 quiet-shown m n e x y f g q = record {
   values = λ a named. g.values a ∙ q.content a (sym (f.named a) ∙ named) ∙ sym (f.values a);
   swaps = λ s. g.effects s ∙ q.swaps s ∙ sym (f.effects s);

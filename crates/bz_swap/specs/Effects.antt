@@ -16,13 +16,13 @@ pub record TakesEffect (old new : SwapMemory) (s : ℕ) : Type 0 where
   pub others : (a : ℕ) → is_named old a ≡ true → is_target (entries_of old s) a ≡ false → value_at new a ≡ value_at old a
 
 -- nothing takes effect, and every named address keeps its value
-pub record IsQuiet (old new : SwapMemory) : Type 0 where
+pub record NoneTakesEffect (old new : SwapMemory) : Type 0 where
   pub values : (a : ℕ) → is_named old a ≡ true → value_at new a ≡ value_at old a
   pub swaps : (s : ℕ) → has_effect new s ≡ has_effect old s
 
 -- the swap that is told takes effect; where none is told, none does
 abbrev pub EffectIs : SwapMemory → SwapMemory → Option ℕ → Type 0
-EffectIs old new None = IsQuiet old new
+EffectIs old new None = NoneTakesEffect old new
 EffectIs old new (Some s) = TakesEffect old new s
 
 -- some entry's target does not hold the expected value

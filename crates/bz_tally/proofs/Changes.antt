@@ -15,7 +15,7 @@ use Rattle.bz_mutate.specs.declared.delete_phase.DeletePhase.{DeletePhase}
 use Rattle.bz_mutate.specs.declared.delete_phase.DeletePhase.TheVariants.{Remove}
 use Rattle.bz_mutate.specs.declared.update_phase.UpdatePhase.{UpdatePhase}
 use Rattle.bz_mutate.specs.declared.update_phase.UpdatePhase.TheVariants.{Grow, Replace}
-use Rattle.bz_record.specs.Leaves.{WasLeaf}
+use Rattle.bz_record.specs.Leaves.{WasLeafThen}
 use Rattle.bz_record.specs.Replacing.{growth, removal, replacement}
 use Rattle.bz_record.specs.Swaps.{entries_of, publication, reservation}
 use Rattle.bz_record.specs.declared.new_record.NewRecord.{NewRecord}
@@ -40,7 +40,7 @@ use Rattle.bz_tally.specs.Laws.{ChangesKeepTheLeaves}
 pub same-entries : (a b : List Entry) → Some (Swaps_for a) ≡ Some (Swaps_for b) → a ≡ b
 same-entries a b e = cc
 
-once : (k st moment : ℕ) (p : Past) → WasLeaf k st moment p → WasLeafOnce k p
+once : (k st moment : ℕ) (p : Past) → WasLeafThen k st moment p → WasLeafOnce k p
 once k st moment p w = record { moment = moment; since = w.since; now = w.now; slot = w.slot; inside = w.inside; leaf = w.leaf }
 
 -- a swap of a record that is one of a leaf
@@ -53,7 +53,7 @@ module _ (b : Laws) (s : Scene) (y : Instant) (entries : List Entry) (good : IsS
   by-status e k was is at = keeps b (e ∷ []) s y k good was (names-status s.past.config k e at) (subst (λ z. SwapsTo s.past.config z (here s) y) (sym is) swaps)
 
 -- a leaf has no more records than it has words
-count-fits : LeavesAreInTrees → LeafRulesAreFacts → (s : Scene) (k st moment : ℕ) → IsScene s → WasLeaf k st moment s.past → (status st).count ≤ SHARED_WORDS
+count-fits : LeavesAreInTrees → LeafRulesAreFacts → (s : Scene) (k st moment : ℕ) → IsScene s → WasLeafThen k st moment s.past → (status st).count ≤ SHARED_WORDS
 count-fits leaves rules s k st moment good w =
     let g : IsGood s.past.config (s.past.at moment) = good.history.good moment w.since w.now in
     let l : IsLeafInTree s.past.config (s.past.at moment) k = leaves s.past.config (s.past.at moment) k g w.slot w.inside w.leaf in

@@ -8,7 +8,7 @@ use Rattle.bz_task.specs.Good.{IsGood}
 use Rattle.bz_task.specs.Instant.{words, durable, form_at, is_inside}
 use Rattle.bz_task.specs.Laws.{FrozenNodesStay, IsLeafInTree, LeavesAreInTrees, SameRecordsShowTheSame, SaysAlike, SeenLeavesAreWhole}
 use Rattle.bz_task.specs.Scene.{Scene, IsScene, here}
-use Rattle.bz_task.specs.Shown.{SameNode, SameWords}
+use Rattle.bz_task.specs.Shown.{SameShownNode, SameWords}
 
 -- the laws on which it rests
 pub record Frozen : Type 0 where
@@ -24,7 +24,7 @@ still-says b s k image good w slot inside flat key = sym (now.found key) ∙ (sy
     g : IsGood s.past.config (here s)
     g = good.history.good s.past.now good.begun (omega arith)
 
-    same : SameNode s.past.config (s.past.at w.moment) (here s) k
+    same : SameShownNode s.past.config (s.past.at w.moment) (here s) k
     same = b.frozen s.past.config s.past.at s.past.since s.past.now w.moment s.past.now k good.history (record { since = w.since; order = w.now; until = omega arith }) w.reached w.frozen
 
     l : IsLeafInTree s.past.config (here s) k

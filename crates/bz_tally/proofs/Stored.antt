@@ -10,12 +10,12 @@ use Rattle.bz_task.specs.Instant.{words}
 use Rattle.bz_task.specs.Scene.{Scene, here}
 use Rattle.bz_renew.specs.LinkSwaps.{IsFresh}
 use Rattle.bz_renew.specs.Nodes.{ArePlain, AreWriting}
-use Rattle.bz_renew.specs.Writing.{IsWriting}
+use Rattle.bz_renew.specs.Writing.{IsWritingNode}
 use Rattle.bz_renew.proofs.Words.{node-at, node-past}
 use Rattle.bz_split.specs.Facts.{SPLIT_WORDS, SPLIT_LINES}
 
 -- one node
-module _ (k : ℕ) (image : List ℕ) (s : Scene) (size : length image ≡ NODE_WORDS) (w : IsWriting k image NODE_WORDS NODE_LINES s) where
+module _ (k : ℕ) (image : List ℕ) (s : Scene) (size : length image ≡ NODE_WORDS) (w : IsWritingNode k image NODE_WORDS NODE_LINES s) where
   pub one-held : words s.past.config (here s) k ≡ node_of image
   one-held = λ t i. each i t
     where

@@ -6,7 +6,7 @@ use Rattle.bz_slotted.specs.Page.{page}
 use Rattle.bz_word.specs.Statuses.{status}
 use Rattle.bz_task.specs.Instant.{Instant, words, page_at}
 use Rattle.bz_task.specs.Laws.{AreMoments, NodesStay}
-use Rattle.bz_task.specs.Shown.{SameNode, SameWords}
+use Rattle.bz_task.specs.Shown.{SameShownNode, SameWords}
 use Rattle.bz_task.specs.Steps.{IsStep, IsHistory, Moves}
 use Rattle.bz_task.proofs.Sames.{same-refl, same-trans, status-same}
 use Rattle.bz_task.proofs.Walks.{walk}
@@ -15,7 +15,7 @@ pub record Ages (c : Config) (x y : Instant) (k : ℕ) : Type 0 where
   pub changes : ℕ
   pub most : x.effects + changes ≤ y.effects
   pub stamp : (page_at c y k).stamp ≡ ((page_at c x k).stamp + changes) % 2 ^ 32
-  pub same : changes ≡ 0 → SameNode c x y k
+  pub same : changes ≡ 0 → SameShownNode c x y k
   pub reached : y.reached k ≡ true
 
 pub stamp-fits : (w : ℕ) → (status w).stamp < 2 ^ 32
@@ -35,7 +35,7 @@ stamp-same : (n m : ℕ → ℕ) → SameWords n m → (page m).stamp ≡ (page 
 stamp-same n m s = ap (λ x. (status x).stamp) (status-same n m s)
 
 -- a node that stays
-age-stay : (c : Config) (x y z : Instant) (k : ℕ) → Ages c x y k → y.effects ≤ z.effects → z.reached k ≡ true → SameNode c y z k → Ages c x z k
+age-stay : (c : Config) (x y z : Instant) (k : ℕ) → Ages c x y k → y.effects ≤ z.effects → z.reached k ≡ true → SameShownNode c y z k → Ages c x z k
 age-stay c x y z k a e r s = record {
   changes = a.changes;
   most = omega (arith, a.most, e);

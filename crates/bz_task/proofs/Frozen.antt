@@ -4,7 +4,7 @@ use Rattle.bz_layout.specs.declared.config.Config.{Config}
 use Rattle.bz_word.specs.Statuses.{status}
 use Rattle.bz_task.specs.Instant.{Instant, words, page_at}
 use Rattle.bz_task.specs.Laws.{FrozenNodesStay, KeepsFront, FrontsStay}
-use Rattle.bz_task.specs.Shown.{SameNode}
+use Rattle.bz_task.specs.Shown.{SameShownNode}
 use Rattle.bz_task.specs.Steps.{IsStep}
 use Rattle.bz_task.proofs.Sames.{front-shown, same-refl, same-trans, status-same}
 use Rattle.bz_task.proofs.Walks.{walk}
@@ -25,9 +25,9 @@ fronts-stay c at first last m j k h o r =
 record Keeps (c : Config) (x y : Instant) (k : ℕ) : Type 0 where
   reached : y.reached k ≡ true
   frozen : (page_at c y k).frozen ≡ true
-  same : SameNode c x y k
+  same : SameShownNode c x y k
 
-keep-same : (c : Config) (x y z : Instant) (k : ℕ) → Keeps c x y k → z.reached k ≡ true → SameNode c y z k → Keeps c x z k
+keep-same : (c : Config) (x y z : Instant) (k : ℕ) → Keeps c x y k → z.reached k ≡ true → SameShownNode c y z k → Keeps c x z k
 keep-same c x y z k f r s = record {
   reached = r;
   frozen = ap (λ w. (status w).frozen) (status-same (words c y k) (words c z k) s) ∙ f.frozen;

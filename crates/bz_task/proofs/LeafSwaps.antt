@@ -28,7 +28,7 @@ use Rattle.bz_task.specs.Laws.{SwapsShowInSlots}
 use Rattle.bz_task.specs.LeafSwaps.{SaysAsItShould, IsLeafSwap, LeafSwapsAreGood}
 use Rattle.bz_task.specs.Scene.{Scene, IsScene, here}
 use Rattle.bz_task.specs.Shown.{IsShown}
-use Rattle.bz_task.specs.Steps.{IsEffect, Moved}
+use Rattle.bz_task.specs.Steps.{IsEffect, NodeMoves}
 use Rattle.bz_task.specs.Swaps.{Change, swapped, ContentFollows, IsMineAndDurable}
 
 -- what swaps leave and what they set
@@ -250,7 +250,7 @@ module _ (b : Laws) (publishes : Bool) (change : Change) (entries : List Entry) 
     effects = w.swaps.effects;
     reached = λ j r. reached-same j ∙ r;
     nodes = λ j r. elim (cases_eq j k) [
-      | inl e ↦ inr (subst (λ z. Moved s.past.config (here s) y z) (sym e) w.moves)
+      | inl e ↦ inr (subst (λ z. NodeMoves s.past.config (here s) y z) (sym e) w.moves)
       | inr ne ↦ inl (λ i h. words-other j ne i)
     ];
     root = inl (root-value ROOT_AT (omega arith));

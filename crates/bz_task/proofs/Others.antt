@@ -9,7 +9,7 @@ use Rattle.bz_task.specs.Instant.{Instant, words}
 use Rattle.bz_task.specs.Others.{AreApart, IsOfReached, ShareNothing, SharersOfNothingAreApart, Watches, LeavesAll, StoresTo, QuietActsAreLawful, StoresAreLawful, EffectsAreLawful}
 use Rattle.bz_task.specs.Requests.{IsNodeTarget, IsTarget, IsOwnStore}
 use Rattle.bz_task.specs.Scene.{Scene, IsOfTaken, IsMine, IsFlushed, IsScene, IsLawful, here}
-use Rattle.bz_task.specs.Shown.{IsShown, SameNode}
+use Rattle.bz_task.specs.Shown.{IsShown, SameShownNode}
 use Rattle.bz_task.specs.Steps.{IsQuiet, IsStep}
 use Rattle.bz_task.specs.Swaps.{Change, SwapsTo, IsGoodSwap}
 use Rattle.bz_task.proofs.LeafSwaps.{node-at, node-past, node-same, untouched}
@@ -86,7 +86,7 @@ module _ (s v : Scene) (a w : ℕ) (y : Instant) (good : IsScene s) (own : IsOwn
   not-shown : (k i : ℕ) → (here s).reached k ≡ true → i < NODE_WORDS → IsShown (words s.past.config (here s) k) i → node_address s.past.config k + i ≢ a
   not-shown k i r l h e = own.mine.hidden k i r l (sym e) h
 
-  store-node : (k : ℕ) → (here s).reached k ≡ true → SameNode s.past.config (here s) y k
+  store-node : (k : ℕ) → (here s).reached k ≡ true → SameShownNode s.past.config (here s) y k
   store-node k r i h = elim (cases_lt i NODE_WORDS) [
     | inl l ↦ node-at s.past.config y.value k i l ∙ (st.others (node_address s.past.config k + i) (not-shown k i r l h) ∙ sym (node-at s.past.config (here s).value k i l))
     | inr l ↦ node-past s.past.config y.value k i l ∙ sym (node-past s.past.config (here s).value k i l)

@@ -12,7 +12,7 @@ use Rattle.bz_shape.specs.Slots.{SameSlot, SameTop}
 use Rattle.bz_shape.specs.SwapLaws.{QuietSlotsKeepTheTree}
 use Rattle.bz_shape.specs.TreeLaws.{TreesHaveForms}
 use Rattle.bz_shape.specs.Walk.{form, form_of}
-use Rattle.bz_slotted.specs.Changes.{Stores}
+use Rattle.bz_slotted.specs.Changes.{StoresBeside}
 use Rattle.bz_slotted.specs.InnerChanges.{StandsAlike, StandingIsQuiet}
 use Rattle.bz_slotted.specs.Laws.{LeafRulesAreFacts}
 use Rattle.bz_slotted.specs.LeafLaws.{AnswersAlike, StoresAreQuiet}
@@ -104,7 +104,7 @@ module _ (b : Laws) (c : Config) (x y : Instant) (g : IsGood c x) (r : Rests c x
       block : (page (durable c x k)).block ≡ (page (words c x k)).block
       block = (places k e).block
 
-      stores : Stores (node c x.image k) (node c y.image k) (durable c x k) (durable c y k)
+      stores : StoresBeside (node c x.image k) (node c y.image k) (durable c x k) (durable c y k)
       stores = record {
         others = λ j h. resolved k j e (inr (inl h));
         records = λ j i lt vis from to.

@@ -14,8 +14,8 @@ use Rattle.bz_task.specs.Instant.{Instant, words, durable, page_at, form_at}
 use Rattle.bz_task.specs.Laws.{HeadersSayTheLevel, LeavesAreInTrees, IsLeafInTree}
 use Rattle.bz_task.specs.Requests.{IsNodeTarget, IsMetaPlace, IsPointerPlace}
 use Rattle.bz_task.specs.Scene.{here}
-use Rattle.bz_task.specs.Shown.{IsShown, SameNode, SameRecords, SameSeparators}
-use Rattle.bz_task.specs.Steps.{Moves, Moved}
+use Rattle.bz_task.specs.Shown.{IsShown, SameShownNode, SameRecords, SameSeparators}
+use Rattle.bz_task.specs.Steps.{Moves, NodeMoves}
 use Rattle.bz_task.specs.Targets.{alone, TargetsAreOfTheMemory, TargetsStay, OwnWordsAreNoTargets}
 use Rattle.bz_task.proofs.Sames.{SamePlaces, words-places}
 
@@ -101,19 +101,19 @@ module _ (b : Laws) (c : Config) (x y : Instant) (gx : IsGood c x) (gy : IsGood 
         inr (omega (arith, p.count, p.block, w.filled.room)))
   ]
 
-  kind-same : (k i : ℕ) → SameNode c x y k → Kind (page_at c x k) i → Kind (page_at c y k) i
+  kind-same : (k i : ℕ) → SameShownNode c x y k → Kind (page_at c x k) i → Kind (page_at c y k) i
   kind-same k i s (inl m) = inl (meta-same (words c x k) (words c y k) i (words-places (words c x k) (words c y k) s) m)
   kind-same k i s (inr q) =
       let p : SamePlaces (words c x k) (words c y k) = words-places (words c x k) (words c y k) s in
       inr (pointer-same (words c x k) (words c y k) i p.level p.count p.meta q)
 
-  kind-moved : (k i : ℕ) → y.reached k ≡ true → Moved c x y k → Kind (page_at c x k) i → Kind (page_at c y k) i
+  kind-moved : (k i : ℕ) → y.reached k ≡ true → NodeMoves c x y k → Kind (page_at c x k) i → Kind (page_at c y k) i
   kind-moved k i e v (inl m) =
       let flat : (page_at c y k).level ≡ 0 = ap (λ w. (header w).level) (v.front HEADER_AT (λ e. omega (arith, e)) (omega arith)) ∙ m.leaf in
       inl (meta-moved (words c x k) (words c y k) i v (room-after k e flat) m)
   kind-moved k i e v (inr q) = inr (pointer-moved (words c x k) (words c y k) i v q)
 
-  stays : (a : ℕ) (t : IsNodeTarget (alone c x) a) → y.reached t.slot ≡ true → SameNode c x y t.slot ⊎ Moved c x y t.slot → IsNodeTarget (alone c y) a
+  stays : (a : ℕ) (t : IsNodeTarget (alone c x) a) → y.reached t.slot ≡ true → SameShownNode c x y t.slot ⊎ NodeMoves c x y t.slot → IsNodeTarget (alone c y) a
   stays a t e step = record {
     slot = t.slot;
     place = t.place;

@@ -15,7 +15,7 @@ use Rattle.bz_task.specs.Instant.{Instant, words, durable, page_at, form_at, is_
 use Rattle.bz_task.specs.Outcomes.{IsPath, IsView, IsKeyView}
 use Rattle.bz_task.specs.OwnActs.{gained}
 use Rattle.bz_task.specs.Scene.{Past, Scene, Continues, HasFilled}
-use Rattle.bz_task.specs.Shown.{IsShown, SameWords, SameNode, SameRecords, SameSeparators}
+use Rattle.bz_task.specs.Shown.{IsShown, SameWords, SameShownNode, SameRecords, SameSeparators}
 use Rattle.bz_task.specs.Steps.{IsHistory}
 use Rattle.bz_task.specs.Swaps.{swapped, SwapsTo}
 use Rattle.bz_task.specs.declared.path.Path.{Path}
@@ -32,7 +32,7 @@ pub record AreMoments (first last m i : ℕ) : Type 0 where
 abbrev pub NodesStay : Type 0
 NodesStay =
     (c : Config) (at : ℕ → Instant) (first last m i j k : ℕ) → IsHistory c at first last → AreMoments first last m j → m ≤ i → i ≤ j →
-    (at m).reached k ≡ true → words c (at j) k STATUS_AT ≡ words c (at m) k STATUS_AT → SameNode c (at m) (at i) k
+    (at m).reached k ≡ true → words c (at j) k STATUS_AT ≡ words c (at m) k STATUS_AT → SameShownNode c (at m) (at i) k
 
 -- while it is not frozen, the root pointer leads to the root
 abbrev pub ThawedRootsStay : Type 0
@@ -44,7 +44,7 @@ ThawedRootsStay =
 abbrev pub FrozenNodesStay : Type 0
 FrozenNodesStay =
     (c : Config) (at : ℕ → Instant) (first last m j k : ℕ) → IsHistory c at first last → AreMoments first last m j →
-    (at m).reached k ≡ true → (page_at c (at m) k).frozen ≡ true → SameNode c (at m) (at j) k
+    (at m).reached k ≡ true → (page_at c (at m) k).frozen ≡ true → SameShownNode c (at m) (at j) k
 
 -- of an inner node separators and children's places stay
 abbrev pub SeparatorsStay : Type 0
@@ -158,7 +158,7 @@ ChildrenAreInTrees =
 -- a leaf of the tree whose status was read, and was not frozen, is in the tree and as it was while it has this status
 pub record StillLeaf (c : Config) (x y : Instant) (k : ℕ) : Type 0 where
   pub leaf : IsLeafInTree c y k
-  pub same : SameNode c x y k
+  pub same : SameShownNode c x y k
 
 abbrev pub ThawedLeavesStay : Type 0
 ThawedLeavesStay =

@@ -22,8 +22,8 @@ IsShown n i = (i < META_AT + (page n).count) ⊎ ((i + (page n).block < NODE_WOR
 abbrev pub SameWords : (n m : ℕ → ℕ) → Type 0
 SameWords n m = (i : ℕ) → IsShown n i → m i ≡ n i
 
-abbrev pub SameNode : Config → Instant → Instant → ℕ → Type 0
-SameNode c x y k = SameWords (words c x k) (words c y k)
+abbrev pub SameShownNode : Config → Instant → Instant → ℕ → Type 0
+SameShownNode c x y k = SameWords (words c x k) (words c y k)
 
 -- the same but for the status, of which count and block are as they were
 pub record SameRecords (n m : ℕ → ℕ) : Type 0 where

@@ -6,7 +6,7 @@ use Rattle.bz_slotted.specs.Page.{page}
 use Rattle.bz_word.specs.Statuses.{status, status_word}
 use Rattle.bz_task.specs.Good.{IsGood}
 use Rattle.bz_task.specs.Instant.{Instant, words, page_at}
-use Rattle.bz_task.specs.Shown.{SameNode, SameRecords, SameSeparators, SameRoot}
+use Rattle.bz_task.specs.Shown.{SameShownNode, SameRecords, SameSeparators, SameRoot}
 
 -- the stamp after the next change
 abbrev pub next_stamp : ℕ → ℕ
@@ -31,8 +31,8 @@ pub record Moves (n m : ℕ → ℕ) : Type 0 where
   pub block : (page n).block ≤ (page m).block
   pub spare : (page m).count ≡ (page n).count → (page n).count + (page n).block < SHARED_WORDS → (page m).count + (page m).block < SHARED_WORDS
 
-abbrev pub Moved : Config → Instant → Instant → ℕ → Type 0
-Moved c x y k = Moves (words c x k) (words c y k)
+abbrev pub NodeMoves : Config → Instant → Instant → ℕ → Type 0
+NodeMoves c x y k = Moves (words c x k) (words c y k)
 
 -- the root is the one that it was, or that one is frozen
 abbrev pub ReplacedRootIsFrozen : Config → Instant → Instant → Type 0
@@ -42,14 +42,14 @@ ReplacedRootIsFrozen c x y = (y.value ROOT_AT ≡ x.value ROOT_AT) ⊎ ((page_at
 pub record IsQuiet (c : Config) (x y : Instant) : Type 0 where
   pub effects : y.effects ≡ x.effects
   pub reached : (k : ℕ) → y.reached k ≡ x.reached k
-  pub nodes : (k : ℕ) → x.reached k ≡ true → SameNode c x y k
+  pub nodes : (k : ℕ) → x.reached k ≡ true → SameShownNode c x y k
   pub root : SameRoot x y
 
 -- a swap takes effect: each reached node stays or is changed, and a root that is replaced is frozen
 pub record IsEffect (c : Config) (x y : Instant) : Type 0 where
   pub effects : y.effects ≡ x.effects + 1
   pub reached : (k : ℕ) → x.reached k ≡ true → y.reached k ≡ true
-  pub nodes : (k : ℕ) → x.reached k ≡ true → SameNode c x y k ⊎ Moved c x y k
+  pub nodes : (k : ℕ) → x.reached k ≡ true → SameShownNode c x y k ⊎ NodeMoves c x y k
   pub root : ReplacedRootIsFrozen c x y
 
 abbrev pub IsStep : Config → Instant → Instant → Type 0

@@ -14,7 +14,7 @@ use Rattle.bz_running.specs.Duties.{config_of, made_of, facts_of}
 use Rattle.bz_running.specs.declared.running.AnyTask.{AnyTask}
 use Rattle.bz_sound.specs.Calls.{Open}
 use Rattle.bz_story.specs.Story.{Story, scene, and_then}
-use Rattle.bz_swap.specs.Effects.{IsQuiet}
+use Rattle.bz_swap.specs.Effects.{NoneTakesEffect}
 use Rattle.bz_swap.specs.Steps.{IsStep}
 use Rattle.bz_swap.specs.SwapMemory.{SwapMemory, Doing, Idle, Reading, Swapping, Loading, Storing, Flushing, doing_of, value_at, has_effect, is_missed, entries_of}
 use Rattle.bz_swap.proofs.AtomicValues.{entry-named}
@@ -67,7 +67,7 @@ well-by m n (Flushing line) e h = tt
 blank : Entry
 blank = record { target = 0; expected = 0; new = 0 }
 
-pub well-quiet : (old new : SwapMemory) (s : ℕ) → IsQuiet old new → new.begun ≡ old.begun → is_missed new s ≡ false → GoesWell old s → GoesWell new s
+pub well-quiet : (old new : SwapMemory) (s : ℕ) → NoneTakesEffect old new → new.begun ≡ old.begun → is_missed new s ≡ false → GoesWell old s → GoesWell new s
 well-quiet old new s quiet begun unnoted well = record { unnoted = unnoted; stands = stands }
   where
     still : Stand old (entries_of old s) → Stand new (entries_of old s)

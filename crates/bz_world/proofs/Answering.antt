@@ -19,7 +19,7 @@ use Rattle.bz_slotted.specs.Readers.{found_of}
 use Rattle.bz_sound.specs.Lonely.{acts_since}
 use Rattle.bz_sound.specs.Memory.ImageLaws.{ReadsAt, ImageAnswersBy}
 use Rattle.bz_sound.specs.Memory.Moments.{image_at, IsAfterLoad}
-use Rattle.bz_sound.specs.Memory.Replies.{is_below}
+use Rattle.bz_sound.specs.Memory.Replies.{ends_after}
 use Rattle.bz_sound.specs.Power.Spent.{IsSpent}
 use Rattle.bz_story.specs.Story.{is_load_of, loaded}
 use Rattle.bz_task.specs.Good.{IsGood}
@@ -106,7 +106,7 @@ after-load w zero past l is = absurd (true≢false (sym is))
 after-load w (suc m) past l is = after-by w m past (omega (arith, l)) (mark_at m past) refl is
 
 -- both say the same of a key and an end
-same-below : (end : Option (List ℕ)) (key : List ℕ) → order.is_below key end ≡ is_below end key
+same-below : (end : Option (List ℕ)) (key : List ℕ) → order.is_below key end ≡ ends_after end key
 unfolding order.is_before
 same-below None key = refl
 same-below (Some next) key = refl
@@ -184,7 +184,7 @@ module _ (b : AnswerLaws) (p : Parts) (w at : ℕ) (on : MustGoOn p w) (l : IsLo
       leaf_end = page.next ∙ ap (λ i. leaf_end_in p.config i from) image-is;
       rises = page.rises;
       finds = λ key. page.finds key ∙ (ap (λ z. if is_from from key && z then content_in p.config (past.at at).image key else None) (same-below next key)
-          ∙ ap (λ i. if is_from from key && is_below next key then content_in p.config i key else None) image-is);
+          ∙ ap (λ i. if is_from from key && ends_after next key then content_in p.config i key else None) image-is);
     });
   }
 

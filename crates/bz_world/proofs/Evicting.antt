@@ -17,7 +17,7 @@ use Rattle.bz_sound.specs.Power.Sound.{IsSound}
 use Rattle.bz_story.specs.Laws.{GoesOn, goes_on}
 use Rattle.bz_story.specs.Living.{IsLiving}
 use Rattle.bz_story.specs.Story.{Story}
-use Rattle.bz_swap.specs.Effects.{IsQuiet, EffectIs}
+use Rattle.bz_swap.specs.Effects.{NoneTakesEffect, EffectIs}
 use Rattle.bz_swap.specs.Evictions.{EvictsIn}
 use Rattle.bz_swap.specs.SwapMemory.{SwapMemory, doing_of, memory_words}
 use Rattle.bz_swap.specs.declared.phase.Phase.{Phase}
@@ -118,7 +118,7 @@ module _ (b : StepLaws) (sees : EvictionsAreSeen) (old new : Parts) (a : ℕ) (k
   living : IsLiving old.config new.access (with_mark old.journal (Evict a)) after
   living = b.lives old.config old.access new.access old.journal k.story (Evict a) k.story.filled goes (λ v j f. stored-since old.config old.journal.past (Evict a) j tt (k.living.stored v j f))
 
-  quiet : IsQuiet old.access new.access
+  quiet : NoneTakesEffect old.access new.access
   quiet = effect-in old.access.phase old.access new.access None k.living.seen.phase e.eviction.effect
 
   same : (v : ℕ) → SameFor old.access new.access v

@@ -14,7 +14,7 @@ use Rattle.bz_call.specs.declared.replies.Spent.{Spent}
 use Rattle.bz_mark.specs.Log.{Log, count_page_ends}
 use Rattle.bz_mark.specs.Moments.{at_moment}
 use Rattle.bz_sound.specs.Calls.{Open, map_at}
-use Rattle.bz_sound.specs.Memory.ImageLaws.{ReadsAt, IsPageOf, PagesComeFromTheImage}
+use Rattle.bz_sound.specs.Memory.ImageLaws.{ReadsAt, IsImagePage, PagesComeFromTheImage}
 use Rattle.bz_sound.specs.Memory.Moments.{image_at, map_at_start, Decodes}
 use Rattle.bz_sound.specs.Memory.Replies.{IsAnswerBy, IsRightReplyBy, is_within, pairs_within}
 use Rattle.bz_sound.specs.Memory.Spent.{IsSpent}
@@ -41,7 +41,7 @@ last-page (first ∷ pages) page = last-page pages page
 
 pub pages-by : (Cause : Spent → Type 0) (c : Config) (log : Log) (w at : ℕ) (opened : Open) (from : List ℕ) (next : Option (List ℕ)) (pairs : List (List ℕ × List ℕ))
     → Decodes c log.start (at_moment at log.past) → length log.pages ≡ count_page_ends log.past → ReadsAt log.past w opened at → opened.call ≡ call.Page from
-    → IsPageOf c (image_at log.start at log.past) from next pairs
+    → IsImagePage c (image_at log.start at log.past) from next pairs
     → IsRightReplyBy Cause c log.start (log.pages ++ pairs ∷ []) log.past (record { worker = w; opened = opened; reply = Page (length log.pages) next; at = at })
 pages-by Cause c log w at opened from next pairs decodes count reads asked is = record {
   after_begin = reads.after_begin;

@@ -54,7 +54,7 @@ abbrev pub AnswersComeFromTheImage : Type 0
 AnswersComeFromTheImage = (c : Config) (log : Log) (w at : ℕ) (opened : Open) → IsSound c log → ReadsAt log.past w opened at → ImageAnswers c log w opened at
 
 -- pairs that an image has from a key on, up to the end of its leaf
-pub record IsPageOf (c : Config) (image : ℕ → ℕ) (from : List ℕ) (next : Option (List ℕ)) (pairs : List (List ℕ × List ℕ)) : Type 0 where
+pub record IsImagePage (c : Config) (image : ℕ → ℕ) (from : List ℕ) (next : Option (List ℕ)) (pairs : List (List ℕ × List ℕ)) : Type 0 where
   pub leaf_end : next ≡ leaf_end_in c image from
   pub rises : is_sorted (slice_cmp nat_cmp) pairs ≡ true
   pub finds : (key : List ℕ) → find (slice_cmp nat_cmp) key pairs ≡ (if is_within from next key then content_in c image key else None)
@@ -63,7 +63,7 @@ pub record IsPageOf (c : Config) (image : ℕ → ℕ) (from : List ℕ) (next :
 abbrev pub PagesComeFromTheImage : Type 0
 PagesComeFromTheImage =
     (c : Config) (log : Log) (w at : ℕ) (opened : Open) (from : List ℕ) (next : Option (List ℕ)) (pairs : List (List ℕ × List ℕ)) →
-    IsSound c log → ReadsAt log.past w opened at → opened.call ≡ call.Page from → IsPageOf c (image_at log.start at log.past) from next pairs →
+    IsSound c log → ReadsAt log.past w opened at → opened.call ≡ call.Page from → IsImagePage c (image_at log.start at log.past) from next pairs →
     IsRightReply c log.start (log.pages ++ pairs ∷ []) log.past (record { worker = w; opened = opened; reply = Page (length log.pages) next; at = at })
 
 -- one image has what the other has, but for a key, which has the new payload, or none, in place of the old one, or none

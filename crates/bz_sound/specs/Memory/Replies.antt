@@ -30,13 +30,13 @@ pub record Answer : Type 0 where
   pub at : ℕ
 
 -- the key lies below the end, if there is one
-abbrev pub is_below : Option (List ℕ) → List ℕ → Bool
-is_below None key = true
-is_below (Some next) key = is_lt (slice_cmp nat_cmp key next)
+abbrev pub ends_after : Option (List ℕ) → List ℕ → Bool
+ends_after None key = true
+ends_after (Some next) key = is_lt (slice_cmp nat_cmp key next)
 
 -- a page's range: from its key on, up to the end
 abbrev pub is_within : List ℕ → Option (List ℕ) → List ℕ → Bool
-is_within from next key = is_from from key && is_below next key
+is_within from next key = is_from from key && ends_after next key
 
 -- the pairs of a map in that range, in ascending order of their keys
 abbrev pub pairs_within : Map → List ℕ → Option (List ℕ) → List (List ℕ × List ℕ)

@@ -12,7 +12,7 @@ use Rattle.bz_mark.specs.Log.{Log}
 use Rattle.bz_mark.specs.declared.marks.Mark.{Mark}
 use Rattle.bz_sound.specs.declared.power.Power.{Power}
 use Rattle.bz_sound.specs.Calls.{Open, open_call, map_at}
-use Rattle.bz_sound.specs.Memory.ImageLaws.{ReadsAt, ImageAnswersBy, IsPageOf, ChangesKey, IsChangeOf, EffectFollows, AreHeldBy, AreOthersHeld}
+use Rattle.bz_sound.specs.Memory.ImageLaws.{ReadsAt, ImageAnswersBy, IsImagePage, ChangesKey, IsChangeOf, EffectFollows, AreHeldBy, AreOthersHeld}
 use Rattle.bz_sound.specs.Memory.Moments.{image_after, image_at, map_at_start, Decodes, IsAfterFlush}
 use Rattle.bz_sound.specs.Memory.Replies.{IsWrite}
 use Rattle.bz_sound.specs.Memory.Spent.{is_taken, LacksSlots}
@@ -31,7 +31,7 @@ AnswersComeFromTheImage =
 abbrev pub PagesComeFromTheImage : Type 0
 PagesComeFromTheImage =
     (c : Config) (at_start : Power) (log : Log) (w at : ℕ) (opened : Open) (from : List ℕ) (next : Option (List ℕ)) (pairs : List (List ℕ × List ℕ)) →
-    IsSound c at_start log → ReadsAt log.past w opened at → opened.call ≡ call.Page from → IsPageOf c (image_at log.start at log.past) from next pairs →
+    IsSound c at_start log → ReadsAt log.past w opened at → opened.call ≡ call.Page from → IsImagePage c (image_at log.start at log.past) from next pairs →
     IsRightReply c log.start (log.pages ++ pairs ∷ []) log.past (record { worker = w; opened = opened; reply = Page (length log.pages) next; at = at })
 
 -- where a flush or an eviction changes the content as an open call does that has no Effect yet, its Effect may follow
