@@ -1,5 +1,6 @@
 pub mod Ascending
 pub mod Duties
+pub mod Kinds
 pub mod MadeFor
 pub mod Laws
 pub mod LookingUp

@@ -1,0 +1,42 @@
+-- Which task it is, without what it has learnt.
+use Rattle.std.specs.Prelude.{ℕ, ◌-◌}
+use Rattle.bz_ascent.specs.declared.ascent.Ascent.{Ascent}
+use Rattle.bz_running.specs.declared.running.AnyTask.{AnyTask}
+use Rattle.bz_running.specs.declared.running.AnyTask.TheVariants.{Seeking, Finding, Reading, Inserting, Updating, Deleting, Freezing, Consolidating, Splitting, SplittingBelow, SplittingInner, SplittingInnerRoot, Merging}
+
+-- the way to the leaf of a key, the key in its leaf, a leaf read whole; the changes of a record; the freeze and the copy of a leaf; the splits: of
+-- a root that is a leaf, of a leaf below a parent, of an inner node below a parent, and of a root that is one, each of the last three with how
+-- far up the way from the leaf it is; and a merge
+pub data Kind : Type 0 where
+  Seek : Kind
+  Find : Kind
+  ReadWhole : Kind
+  Insert : Kind
+  Update : Kind
+  Delete : Kind
+  Freeze : Kind
+  Copy : Kind
+  SplitRootLeaf : Kind
+  SplitLeaf : (a : Ascent) → Kind
+  SplitNode : (a : Ascent) → Kind
+  SplitRootNode : (a : Ascent) → Kind
+  Merge : Kind
+
+unfoldable pub kind_of : AnyTask → Kind
+kind_of (Seeking t) = Seek
+kind_of (Finding t) = Find
+kind_of (Reading t) = ReadWhole
+kind_of (Inserting t) = Insert
+kind_of (Updating t) = Update
+kind_of (Deleting t) = Delete
+kind_of (Freezing t) = Freeze
+kind_of (Consolidating t) = Copy
+kind_of (Splitting t) = SplitRootLeaf
+kind_of (SplittingBelow t a) = SplitLeaf a
+kind_of (SplittingInner t a) = SplitNode a
+kind_of (SplittingInnerRoot t a) = SplitRootNode a
+kind_of (Merging t) = Merge
+
+-- the level of the node to which an ascent has come: that of the leaf is 0
+abbrev pub level_of : Ascent → ℕ
+level_of a = a.path.depth - 1 - a.place
