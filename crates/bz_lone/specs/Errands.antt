@@ -1,0 +1,51 @@
+-- A call that is served, as far as its costs go: its own words, and what has come of it so far.
+use Rattle.std.specs.Prelude.{◌≡◌, ◌⊎◌, ℕ, ◌+◌, Bool, true, false}
+use Rattle.bz_call.specs.declared.calls.Call.{Call}
+use Rattle.bz_call.specs.declared.calls.Call.TheVariants as call
+use Rattle.bz_record.specs.Records.{words_for}
+use Rattle.bz_running.specs.Kinds as kinds
+use Rattle.bz_running.specs.Kinds.{Kind}
+
+pub record Errand : Type 0 where
+  pub call : Call
+  -- it has had its effect
+  pub effected : Bool
+  -- its leaf is to be copied alone, since no neighbour had room for it
+  pub alone : Bool
+  -- its own freeze of its leaf was the last task to end, so that it reads that leaf whole
+  pub froze : Bool
+
+-- the words that a call asks its leaf for: those of a record, and a metadata word; a delete asks for none
+abbrev pub words_asked : Call → ℕ
+words_asked (call.Insert key payload) = words_for key payload + 1
+words_asked (call.Update key payload) = words_for key payload + 1
+words_asked (call.Upsert key payload) = words_for key payload + 1
+words_asked other = 0
+
+-- it changes nothing
+abbrev pub is_read : Call → Bool
+is_read (call.Get key) = true
+is_read (call.Page key) = true
+is_read other = false
+
+-- a get looks its key up, and a page reads its leaf; neither does anything else
+abbrev pub IsLookOf : Call → Kind → Type 0
+IsLookOf (call.Get key) kind = (kind ≡ kinds.Seek) ⊎ (kind ≡ kinds.Find)
+IsLookOf (call.Page key) kind = (kind ≡ kinds.Seek) ⊎ (kind ≡ kinds.ReadWhole)
+IsLookOf other kind = Unit {0}
+
+-- the call as it is looked up once a task of this kind was done: after a freeze it reads its leaf whole
+abbrev pub is_freeze : Kind → Bool
+is_freeze kinds.Freeze = true
+is_freeze kind = false
+
+abbrev pub after : Errand → Kind → Errand
+after e kind = record e { froze = is_freeze kind }
+
+-- a task that may have had an effect of its own while its call goes on without one, or has it now
+abbrev pub may_swap_twice : Kind → Bool
+may_swap_twice kinds.Insert = true
+may_swap_twice kinds.Update = true
+may_swap_twice kinds.Delete = true
+may_swap_twice kinds.Merge = true
+may_swap_twice kind = false

@@ -1,0 +1,110 @@
+//! Laws of the number. Each function does nothing but call the laws that it follows from: its contract is the law.
+
+ghost use Rattle.bz_lone.specs.Renewals.{RenewalsArePaid, AscentsArePaid};
+ghost use Rattle.bz_lone.specs.Rounds.{LessIsSpared, EndsAreAfforded, EndsArePaid, WaysArePaid, ChangesArePaid, LeavesAreRead, ReadLeavesArePaid, TasksMayBegin, RoundsBegin, DisturbedRoundsArePaid, EndsLeaveARound};
+ghost use Rattle.bz_lone.specs.Steps.{AnyCallIsPaid, QuietStepsArePaid, ForeignEffectsArePaid, EffectMarksArePaid, LessIsPaid, OwnEffectsArePaid, HearingsArePaid, StartsArePaid};
+
+/// Whatever a call has come to, it ends within what the configuration tells.
+pub fn any_call_is_paid()
+    ensures { AnyCallIsPaid }
+{}
+
+/// A step without an effect is paid for.
+pub fn quiet_steps_are_paid()
+    ensures { QuietStepsArePaid }
+{}
+
+/// So is one at which another worker's swap takes effect.
+pub fn foreign_effects_are_paid()
+    ensures { ForeignEffectsArePaid }
+{}
+
+/// So is the mark of an effect.
+pub fn effect_marks_are_paid()
+    ensures { EffectMarksArePaid }
+{}
+
+/// What pays for more pays for less.
+pub fn less_is_paid()
+    ensures { LessIsPaid }
+{}
+
+/// A step at which the worker's own swap takes effect is paid for, and what comes after that.
+pub fn own_effects_are_paid()
+    ensures { OwnEffectsArePaid }
+{}
+
+/// What a task is told pays for the start of its next act.
+pub fn hearings_are_paid()
+    ensures { HearingsArePaid }
+{}
+
+/// That start is paid for.
+pub fn starts_are_paid()
+    ensures { StartsArePaid }
+{}
+
+/// What spares more spares less.
+pub fn less_is_spared()
+    ensures { LessIsSpared }
+{}
+
+/// At the end of a task a mark is left for the end of its call.
+pub fn ends_are_afforded()
+    ensures { EndsAreAfforded }
+{}
+
+/// The end of a look-up leaves what may come after it.
+pub fn ends_are_paid()
+    ensures { EndsArePaid }
+{}
+
+/// A way that was found leaves what may come after it.
+pub fn ways_are_paid()
+    ensures { WaysArePaid }
+{}
+
+/// A change is paid for once its key was looked up.
+pub fn changes_are_paid()
+    ensures { ChangesArePaid }
+{}
+
+/// So is the reading of a leaf without room.
+pub fn leaves_are_read()
+    ensures { LeavesAreRead }
+{}
+
+/// What comes after that is paid for.
+pub fn read_leaves_are_paid()
+    ensures { ReadLeavesArePaid }
+{}
+
+/// A task that is spared may begin.
+pub fn tasks_may_begin()
+    ensures { TasksMayBegin }
+{}
+
+/// A round that is paid for may begin.
+pub fn rounds_begin()
+    ensures { RoundsBegin }
+{}
+
+/// A round is paid for where the one before was disturbed.
+pub fn disturbed_rounds_are_paid()
+    ensures { DisturbedRoundsArePaid }
+{}
+
+/// And after the end of a task that left the leaf better than it was.
+pub fn ends_leave_a_round()
+    ensures { EndsLeaveARound }
+{}
+
+/// What is done to a leaf without room is paid for.
+pub fn renewals_are_paid()
+    ensures { RenewalsArePaid }
+{}
+
+/// So is what is done to the full nodes above it.
+pub fn ascents_are_paid()
+    ensures { AscentsArePaid }
+{}
