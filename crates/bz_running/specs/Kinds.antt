@@ -1,6 +1,8 @@
 -- Which task it is, without what it has learnt.
-use Rattle.std.specs.Prelude.{ℕ, ◌-◌}
+use Rattle.std.specs.Prelude.{◌≡◌, ℕ, ◌-◌, List}
+use Rattle.bz_ascent.specs.Ascents.{IsAtLeaf}
 use Rattle.bz_ascent.specs.declared.ascent.Ascent.{Ascent}
+use Rattle.bz_task.specs.declared.path.Path.{Path}
 use Rattle.bz_running.specs.declared.running.AnyTask.{AnyTask}
 use Rattle.bz_running.specs.declared.running.AnyTask.TheVariants.{Seeking, Finding, Reading, Inserting, Updating, Deleting, Freezing, Consolidating, Splitting, SplittingBelow, SplittingInner, SplittingInnerRoot, Merging}
 
@@ -40,3 +42,9 @@ kind_of (Merging t) = Merge
 -- the level of the node to which an ascent has come: that of the leaf is 0
 abbrev pub level_of : Ascent → ℕ
 level_of a = a.path.depth - 1 - a.place
+
+-- the split of the key's leaf below a parent, to which the path leads
+pub record IsLeafSplit (key : List ℕ) (path : Path) (k : Kind) : Type 0 where
+  pub from : Ascent
+  pub is : k ≡ SplitLeaf from
+  pub leaf : IsAtLeaf from key path

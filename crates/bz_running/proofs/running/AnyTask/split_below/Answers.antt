@@ -1,6 +1,7 @@
-use Rattle.std.proofs.Common.{sym, ap, ◌∙◌}
+use Rattle.std.proofs.Common.{refl, sym, ap, ◌∙◌}
 use Rattle.bz_ascent.specs.declared.ascent.Ascent.{Ascent}
 use Rattle.bz_running.specs.Duties.{facts_of, means_of, ascent_of}
+use Rattle.bz_running.specs.Kinds.{kind_of}
 use Rattle.bz_running.specs.MadeFor.{IsMadeFor}
 use Rattle.bz_running.proofs.Ascending.{same-ascent, lower-link, upper-link}
 use Rattle.bz_running.proofs.running.AnyTask.split_below.Goals as goal
@@ -42,3 +43,7 @@ returns-clause-made_for c words p is = (
   },
   c.from_leaf.ensures.key_is,
 )
+
+pub returns-clause-kind : goal.returns-clause-kind
+unfolding kind_of
+returns-clause-kind c = record { from = c.from_leaf.result; is = refl; leaf = c.from_leaf.ensures }
