@@ -13,8 +13,10 @@ use Rattle.bz_freeze.specs.Facts.{freeze_basis}
 use Rattle.bz_freeze.specs.declared.freeze.Freeze.{Freeze}
 use Rattle.bz_layout.specs.declared.config.Config.{Config}
 use Rattle.bz_layout.specs.declared.sizes.TheConstants.{SHARED_WORDS, STATUS_AT}
+use Rattle.bz_merge.specs.Duties as merge
 use Rattle.bz_merge.specs.FromSplit.Duties as split
 use Rattle.bz_merge.specs.FromSplit.SplitRoot.{SplitRoot}
+use Rattle.bz_merge.specs.declared.merge.Merge.{Merge}
 use Rattle.bz_task.specs.Basis.{Basis}
 use Rattle.bz_task.specs.FromContent.Content.{leaf_in}
 use Rattle.bz_task.specs.Instant.{words as words_at, page_at}
@@ -24,7 +26,7 @@ use Rattle.bz_task.specs.Scene.{Past, Continues}
 use Rattle.bz_task.specs.declared.view.LeafView.{LeafView}
 use Rattle.bz_word.specs.Statuses.{status}
 use Rattle.bz_running.specs.Duties.{ascent_of}
-use Rattle.bz_running.specs.MadeFor.{WasLeafOf, LackedWords, WasCrowded, IsCopyFor, AreHalvesFor, HasComeTo, IsMadeFor}
+use Rattle.bz_running.specs.MadeFor.{WasLeafOf, LackedWords, WasCrowded, IsCopyFor, AreHalvesFor, HasComeTo, IsMadeFor, IsMergeOf, IsMergeFor}
 use Rattle.bz_running.specs.declared.running.AnyTask.{AnyTask}
 use Rattle.bz_running.specs.declared.running.AnyTask.TheVariants.{Seeking, Finding, Reading, Inserting, Updating, Deleting, Freezing, Consolidating, Splitting, SplittingBelow, SplittingInner, SplittingInnerRoot, Merging}
 use Rattle.bz_running.proofs.Ascending.{same-ascent}
@@ -73,6 +75,18 @@ fork-kept t u a e key words p m = subst (λ (k : ℕ). HasComeTo key k a p) (sym
 pub crown-kept : (t u : SplitInnerRoot) (a : Ascent) → basis_crown u ≡ basis_crown t → Kept (SplittingInnerRoot t a) (SplittingInnerRoot u a)
 unfolding IsMadeFor
 crown-kept t u a e key words p m = subst (λ (k : ℕ). HasComeTo key k a p) (sym (ap (λ (b : Basis). b.slot) e)) m
+
+abbrev pub KeptMerge : AnyTask → AnyTask → Type 0
+KeptMerge t u = (key : List ℕ) (p : Past) → IsMergeFor t key p → IsMergeFor u key p
+
+same-status : (a b : ℕ) → (a ∷ []) ∷ [] ≡ (b ∷ []) ∷ [] → a ≡ b
+same-status a b e = cc
+
+pub merge-kept : (t u : Merge) → merge.basis_of u ≡ merge.basis_of t → KeptMerge (Merging t) (Merging u)
+unfolding IsMergeFor
+merge-kept t u e key p m =
+    let viewed : u.status ≡ t.status = same-status u.status t.status (ap (λ (b : Basis). b.nodes) e) in
+    subst (λ (k : ℕ). IsMergeOf key k u.status p) (sym (ap (λ (b : Basis). b.slot) e)) (subst (λ (st : ℕ). IsMergeOf key t.lower.slot st p) (sym viewed) m)
 
 -- the leaf that was viewed, and lacked the words and the metadata word of a record
 pub lacked-viewed : (key : List ℕ) (view : LeafView) (slot words : ℕ) (p : Past) → IsView key view p → slot ≡ view.slot → SHARED_WORDS < (status view.status).count + 1 + (status view.status).block + words → LackedWords key (words + 1) slot p
@@ -127,6 +141,11 @@ made-stays v (SplittingBelow t a) key words p q m n = (halves-stay p q n v key t
 made-stays v (SplittingInner t a) key words p q m n = come-stays p q n v key t.middle.slot a m
 made-stays v (SplittingInnerRoot t a) key words p q m n = come-stays p q n v key t.upper.slot a m
 made-stays v (Merging t) key words p q m n = absurd m
+
+pub merge-stays : (t : AnyTask) (key : List ℕ) (p q : Past) → IsMergeFor t key p → Continues p q → IsMergeFor t key q
+unfolding IsMergeFor
+merge-stays (Merging t) key p q m n = record { leaf = leaf-stays p q n key t.lower.slot m.leaf; frozen = m.frozen }
+merge-stays t key p q m n = absurd m
 
 -- at the foot of an ascent stands a leaf that has to be split
 pub record StandsOnCrowded (a : Ascent) (key : List ℕ) (p : Past) : Type 0 where

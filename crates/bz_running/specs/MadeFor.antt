@@ -67,6 +67,11 @@ pub record HasComeTo (key : List ℕ) (slot : ℕ) (a : Ascent) (p : Past) : Typ
   pub view : LeafView
   pub leaf : WasCrowded key view p
 
+-- a merge of the key's leaf, which was frozen when it was viewed
+pub record IsMergeOf (key : List ℕ) (slot st : ℕ) (p : Past) : Type 0 where
+  pub leaf : WasLeafOf key slot p
+  pub frozen : (status st).frozen ≡ true
+
 -- the task is the freeze of a leaf that lacked the words, or one of these, for this key and these words
 unfoldable pub IsMadeFor : AnyTask → List ℕ → ℕ → Past → Type 0
 IsMadeFor (Seeking t) = λ key words p. ⊥
@@ -82,3 +87,8 @@ IsMadeFor (SplittingBelow t a) = λ key words p. AreHalvesFor key t.lower.slot t
 IsMadeFor (SplittingInner t a) = λ key words p. HasComeTo key t.middle.slot a p
 IsMadeFor (SplittingInnerRoot t a) = λ key words p. HasComeTo key t.upper.slot a p
 IsMadeFor (Merging t) = λ key words p. ⊥
+
+-- the task is a merge for this key, which stands in the place of a copy
+unfoldable pub IsMergeFor : AnyTask → List ℕ → Past → Type 0
+IsMergeFor (Merging t) = λ key p. IsMergeOf key t.lower.slot t.status p
+IsMergeFor t = λ key p. ⊥
