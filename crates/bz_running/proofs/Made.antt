@@ -26,7 +26,7 @@ use Rattle.bz_task.specs.Scene.{Past, Continues}
 use Rattle.bz_task.specs.declared.view.LeafView.{LeafView}
 use Rattle.bz_word.specs.Statuses.{status}
 use Rattle.bz_running.specs.Duties.{ascent_of}
-use Rattle.bz_running.specs.MadeFor.{WasLeafOf, LackedWords, WasCrowded, IsCopyFor, AreHalvesFor, HasComeTo, IsMadeFor, IsMergeOf, IsMergeFor}
+use Rattle.bz_running.specs.MadeFor.{WasLeafOf, LackedWords, WasCrowded, IsCopyFor, AreHalvesFor, HasComeTo, HasComeBelow, HasComeToRoot, IsMadeFor, IsMergeOf, IsMergeFor}
 use Rattle.bz_running.specs.declared.running.AnyTask.{AnyTask}
 use Rattle.bz_running.specs.declared.running.AnyTask.TheVariants.{Seeking, Finding, Reading, Inserting, Updating, Deleting, Freezing, Consolidating, Splitting, SplittingBelow, SplittingInner, SplittingInnerRoot, Merging}
 use Rattle.bz_running.proofs.Ascending.{same-ascent}
@@ -63,18 +63,18 @@ split-kept t u e key words p m =
 
 pub below-kept : (t u : SplitBelow) (a : Ascent) → basis_below u ≡ basis_below t → Kept (SplittingBelow t a) (SplittingBelow u a)
 unfolding IsMadeFor
-below-kept t u a e key words p m = (
-  halves-kept key p t.lower.slot u.lower.slot t.halves.left.0 t.halves.right.0 t.halves.separator u.halves.left.0 u.halves.right.0 u.halves.separator (ap (λ (b : Basis). b.slot) e) (ap (λ (b : Basis). b.nodes) e) m.0,
-  m.1,
-)
+below-kept t u a e key words p m = record {
+  halves = halves-kept key p t.lower.slot u.lower.slot t.halves.left.0 t.halves.right.0 t.halves.separator u.halves.left.0 u.halves.right.0 u.halves.separator (ap (λ (b : Basis). b.slot) e) (ap (λ (b : Basis). b.nodes) e) m.halves;
+  foot = m.foot;
+}
 
 pub fork-kept : (t u : SplitInner) (a : Ascent) → basis_fork u ≡ basis_fork t → Kept (SplittingInner t a) (SplittingInner u a)
 unfolding IsMadeFor
-fork-kept t u a e key words p m = subst (λ (k : ℕ). HasComeTo key k a p) (sym (ap (λ (b : Basis). b.slot) e)) m
+fork-kept t u a e key words p m = subst (λ (k : ℕ). HasComeBelow key k a p) (sym (ap (λ (b : Basis). b.slot) e)) m
 
 pub crown-kept : (t u : SplitInnerRoot) (a : Ascent) → basis_crown u ≡ basis_crown t → Kept (SplittingInnerRoot t a) (SplittingInnerRoot u a)
 unfolding IsMadeFor
-crown-kept t u a e key words p m = subst (λ (k : ℕ). HasComeTo key k a p) (sym (ap (λ (b : Basis). b.slot) e)) m
+crown-kept t u a e key words p m = subst (λ (k : ℕ). HasComeToRoot key k a p) (sym (ap (λ (b : Basis). b.slot) e)) m
 
 abbrev pub KeptMerge : AnyTask → AnyTask → Type 0
 KeptMerge t u = (key : List ℕ) (p : Past) → IsMergeFor t key p → IsMergeFor u key p
@@ -137,9 +137,9 @@ made-stays v (Deleting t) key words p q m n = absurd m
 made-stays v (Freezing t) key words p q m n = lacked-stays p q n key words t.slot m
 made-stays v (Consolidating t) key words p q m n = record { view = m.view; is = v key m.view p q m.is n; at = m.at; small = m.small }
 made-stays v (Splitting t) key words p q m n = halves-stay p q n v key t.link.slot t.halves.left.0 t.halves.right.0 t.halves.separator m
-made-stays v (SplittingBelow t a) key words p q m n = (halves-stay p q n v key t.lower.slot t.halves.left.0 t.halves.right.0 t.halves.separator m.0, m.1)
-made-stays v (SplittingInner t a) key words p q m n = come-stays p q n v key t.middle.slot a m
-made-stays v (SplittingInnerRoot t a) key words p q m n = come-stays p q n v key t.upper.slot a m
+made-stays v (SplittingBelow t a) key words p q m n = record { halves = halves-stay p q n v key t.lower.slot t.halves.left.0 t.halves.right.0 t.halves.separator m.halves; foot = m.foot }
+made-stays v (SplittingInner t a) key words p q m n = record { come = come-stays p q n v key t.middle.slot a m.come; below = m.below }
+made-stays v (SplittingInnerRoot t a) key words p q m n = record { come = come-stays p q n v key t.upper.slot a m.come; root = m.root }
 made-stays v (Merging t) key words p q m n = absurd m
 
 pub merge-stays : (t : AnyTask) (key : List ℕ) (p q : Past) → IsMergeFor t key p → Continues p q → IsMergeFor t key q
@@ -155,7 +155,7 @@ pub record StandsOnCrowded (a : Ascent) (key : List ℕ) (p : Past) : Type 0 whe
 
 pub stands-on-crowded : (t : AnyTask) (a : Ascent) → ascent_of t ≡ Some a → (key : List ℕ) (words : ℕ) (p : Past) → IsMadeFor t key words p → StandsOnCrowded a key p
 unfolding ascent_of IsMadeFor
-stands-on-crowded (SplittingBelow t b) a e key words p m = subst (λ (z : Ascent). StandsOnCrowded z key p) (same-ascent b a e) (record { key_is = m.1; view = m.0.view; leaf = m.0.leaf })
-stands-on-crowded (SplittingInner t b) a e key words p m = subst (λ (z : Ascent). StandsOnCrowded z key p) (same-ascent b a e) (record { key_is = m.key_is; view = m.view; leaf = m.leaf })
-stands-on-crowded (SplittingInnerRoot t b) a e key words p m = subst (λ (z : Ascent). StandsOnCrowded z key p) (same-ascent b a e) (record { key_is = m.key_is; view = m.view; leaf = m.leaf })
+stands-on-crowded (SplittingBelow t b) a e key words p m = subst (λ (z : Ascent). StandsOnCrowded z key p) (same-ascent b a e) (record { key_is = m.foot.key_is; view = m.halves.view; leaf = m.halves.leaf })
+stands-on-crowded (SplittingInner t b) a e key words p m = subst (λ (z : Ascent). StandsOnCrowded z key p) (same-ascent b a e) (record { key_is = m.come.key_is; view = m.come.view; leaf = m.come.leaf })
+stands-on-crowded (SplittingInnerRoot t b) a e key words p m = subst (λ (z : Ascent). StandsOnCrowded z key p) (same-ascent b a e) (record { key_is = m.come.key_is; view = m.come.view; leaf = m.come.leaf })
 stands-on-crowded t a e key words p m = absurd (cc)

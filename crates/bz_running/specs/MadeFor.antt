@@ -67,6 +67,27 @@ pub record HasComeTo (key : List ℕ) (slot : ℕ) (a : Ascent) (p : Past) : Typ
   pub view : LeafView
   pub leaf : WasCrowded key view p
 
+-- the ascent is one for this key, and is at the leaf, which stands below another node
+pub record IsAtFoot (key : List ℕ) (a : Ascent) : Type 0 where
+  pub key_is : a.key ≡ key
+  pub below : 0 < a.place
+  pub last : a.place + 1 ≡ a.path.depth
+
+-- the halves of the key's leaf, from which such an ascent begins
+pub record AreHalvesAtFoot (key : List ℕ) (slot : ℕ) (left right sep : List ℕ) (a : Ascent) (p : Past) : Type 0 where
+  pub halves : AreHalvesFor key slot left right sep p
+  pub foot : IsAtFoot key a
+
+-- the node to which an ascent has come stands below another one
+pub record HasComeBelow (key : List ℕ) (slot : ℕ) (a : Ascent) (p : Past) : Type 0 where
+  pub come : HasComeTo key slot a p
+  pub below : 0 < a.place
+
+-- or it is the root
+pub record HasComeToRoot (key : List ℕ) (slot : ℕ) (a : Ascent) (p : Past) : Type 0 where
+  pub come : HasComeTo key slot a p
+  pub root : a.place ≡ 0
+
 -- a merge of the key's leaf, which was frozen when it was viewed
 pub record IsMergeOf (key : List ℕ) (slot st : ℕ) (p : Past) : Type 0 where
   pub leaf : WasLeafOf key slot p
@@ -83,9 +104,9 @@ IsMadeFor (Deleting t) = λ key words p. ⊥
 IsMadeFor (Freezing t) = λ key words p. LackedWords key words t.slot p
 IsMadeFor (Consolidating t) = λ key words p. IsCopyFor key t.link.slot t.image.0 p
 IsMadeFor (Splitting t) = λ key words p. AreHalvesFor key t.link.slot t.halves.left.0 t.halves.right.0 t.halves.separator p
-IsMadeFor (SplittingBelow t a) = λ key words p. AreHalvesFor key t.lower.slot t.halves.left.0 t.halves.right.0 t.halves.separator p × (a.key ≡ key)
-IsMadeFor (SplittingInner t a) = λ key words p. HasComeTo key t.middle.slot a p
-IsMadeFor (SplittingInnerRoot t a) = λ key words p. HasComeTo key t.upper.slot a p
+IsMadeFor (SplittingBelow t a) = λ key words p. AreHalvesAtFoot key t.lower.slot t.halves.left.0 t.halves.right.0 t.halves.separator a p
+IsMadeFor (SplittingInner t a) = λ key words p. HasComeBelow key t.middle.slot a p
+IsMadeFor (SplittingInnerRoot t a) = λ key words p. HasComeToRoot key t.upper.slot a p
 IsMadeFor (Merging t) = λ key words p. ⊥
 
 -- the task is a merge for this key, which stands in the place of a copy

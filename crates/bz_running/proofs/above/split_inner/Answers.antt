@@ -35,10 +35,13 @@ returns c = record {
   made_for = λ view words p w. (
       let down : c.args.ascent.place ≡ c.args.ascent.place - 1 + 1 = omega (arith, c.requires.below) in
       record {
-        key_is = refl;
-        node = sym (c.new-task.ensures.node c.args.ascent.node (subst (λ z. slice_get c.args.ascent.path.links z ≡ Some c.args.ascent.node) down c.requires.node));
-        view = view;
-        leaf = w;
+        come = record {
+          key_is = refl;
+          node = sym (c.new-task.ensures.node c.args.ascent.node (subst (λ z. slice_get c.args.ascent.path.links z ≡ Some c.args.ascent.node) down c.requires.node));
+          view = view;
+          leaf = w;
+        };
+        below = c.requires.below;
       });
   ends = λ way. record {
     path = λ path s means. absurd (c.new-task.ensures.no_path path s means);

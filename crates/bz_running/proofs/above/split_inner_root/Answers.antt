@@ -27,10 +27,13 @@ returns c = record {
     ),
   );
   made_for = λ view words p w. record {
-    key_is = refl;
-    node = sym (c.new-task.ensures.node c.args.ascent.node (subst (λ z. slice_get c.args.ascent.path.links z ≡ Some c.args.ascent.node) c.requires.root c.requires.node));
-    view = view;
-    leaf = w;
+    come = record {
+      key_is = refl;
+      node = sym (c.new-task.ensures.node c.args.ascent.node (subst (λ z. slice_get c.args.ascent.path.links z ≡ Some c.args.ascent.node) c.requires.root c.requires.node));
+      view = view;
+      leaf = w;
+    };
+    root = c.requires.root;
   };
   ends = λ way. record {
     path = λ path s means. absurd (c.new-task.ensures.no_path path s means);

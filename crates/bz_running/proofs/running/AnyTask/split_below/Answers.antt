@@ -1,5 +1,6 @@
-use Rattle.std.proofs.Common.{refl, sym, ap, ◌∙◌}
+use Rattle.std.proofs.Common.{◌≡◌, arith, refl, sym, ap, ◌∙◌}
 use Rattle.bz_ascent.specs.declared.ascent.Ascent.{Ascent}
+use Rattle.bz_task.specs.declared.path.Path.{Path}
 use Rattle.bz_running.specs.Duties.{facts_of, means_of, ascent_of}
 use Rattle.bz_running.specs.Kinds.{kind_of}
 use Rattle.bz_running.specs.MadeFor.{IsMadeFor}
@@ -34,15 +35,18 @@ returns-clause-facts c s same good path view = (
 
 pub returns-clause-made_for : goal.returns-clause-made_for
 unfolding IsMadeFor
-returns-clause-made_for c words p is = (
-  record {
-    view = c.args.view;
-    leaf = record { is = is; frozen = c.requires.frozen; many = c.requires.many };
-    at = sym c.new-task.ensures.slot;
-    halves = c.new-task.ensures.halves.halves;
-  },
-  c.from_leaf.ensures.key_is,
-)
+returns-clause-made_for c words p is =
+    let at = c.from_leaf.ensures in
+    let depth : c.from_leaf.result.path.depth ≡ c.args.path.depth = ap (λ (z : Path). z.depth) at.path_is in
+    record {
+      halves = record {
+        view = c.args.view;
+        leaf = record { is = is; frozen = c.requires.frozen; many = c.requires.many };
+        at = sym c.new-task.ensures.slot;
+        halves = c.new-task.ensures.halves.halves;
+      };
+      foot = record { key_is = at.key_is; below = omega (arith, at.last, c.requires.deep); last = at.last ∙ sym depth };
+    }
 
 pub returns-clause-kind : goal.returns-clause-kind
 unfolding kind_of
