@@ -26,7 +26,7 @@ use Rattle.bz_task.specs.Scene.{Past, Continues}
 use Rattle.bz_task.specs.declared.view.LeafView.{LeafView}
 use Rattle.bz_word.specs.Statuses.{status}
 use Rattle.bz_running.specs.Duties.{ascent_of}
-use Rattle.bz_running.specs.MadeFor.{WasLeafOf, LackedWords, WasCrowded, IsCopyFor, AreHalvesFor, HasComeTo, HasComeBelow, HasComeToRoot, IsMadeFor, IsMergeOf, IsMergeFor}
+use Rattle.bz_running.specs.MadeFor.{HasFoot, WasLeafOf, LackedWords, WasCrowded, IsCopyFor, AreHalvesFor, HasComeTo, HasComeBelow, HasComeToRoot, IsMadeFor, IsMergeOf, IsMergeFor}
 use Rattle.bz_running.specs.declared.running.AnyTask.{AnyTask}
 use Rattle.bz_running.specs.declared.running.AnyTask.TheVariants.{Seeking, Finding, Reading, Inserting, Updating, Deleting, Freezing, Consolidating, Splitting, SplittingBelow, SplittingInner, SplittingInnerRoot, Merging}
 use Rattle.bz_running.proofs.Ascending.{same-ascent}
@@ -124,7 +124,7 @@ module _ (p q : Past) (n : Continues p q) where
     halves-stay slot left right sep m = record { view = m.view; leaf = crowded-stays m.view m.leaf; at = m.at; halves = m.halves }
 
     come-stays : (slot : ℕ) (a : Ascent) → HasComeTo key slot a p → HasComeTo key slot a q
-    come-stays slot a m = record { key_is = m.key_is; node = m.node; view = m.view; leaf = crowded-stays m.view m.leaf }
+    come-stays slot a m = record { key_is = m.key_is; node = m.node; foot = m.foot; view = m.view; leaf = crowded-stays m.view m.leaf }
 
 pub made-stays : ViewsStay → (t : AnyTask) (key : List ℕ) (words : ℕ) (p q : Past) → IsMadeFor t key words p → Continues p q → IsMadeFor t key words q
 unfolding IsMadeFor
@@ -150,12 +150,13 @@ merge-stays t key p q m n = absurd m
 -- at the foot of an ascent stands a leaf that has to be split
 pub record StandsOnCrowded (a : Ascent) (key : List ℕ) (p : Past) : Type 0 where
   pub key_is : a.key ≡ key
+  pub foot : HasFoot a
   pub view : LeafView
   pub leaf : WasCrowded key view p
 
 pub stands-on-crowded : (t : AnyTask) (a : Ascent) → ascent_of t ≡ Some a → (key : List ℕ) (words : ℕ) (p : Past) → IsMadeFor t key words p → StandsOnCrowded a key p
 unfolding ascent_of IsMadeFor
-stands-on-crowded (SplittingBelow t b) a e key words p m = subst (λ (z : Ascent). StandsOnCrowded z key p) (same-ascent b a e) (record { key_is = m.foot.key_is; view = m.halves.view; leaf = m.halves.leaf })
-stands-on-crowded (SplittingInner t b) a e key words p m = subst (λ (z : Ascent). StandsOnCrowded z key p) (same-ascent b a e) (record { key_is = m.come.key_is; view = m.come.view; leaf = m.come.leaf })
-stands-on-crowded (SplittingInnerRoot t b) a e key words p m = subst (λ (z : Ascent). StandsOnCrowded z key p) (same-ascent b a e) (record { key_is = m.come.key_is; view = m.come.view; leaf = m.come.leaf })
+stands-on-crowded (SplittingBelow t b) a e key words p m = subst (λ (z : Ascent). StandsOnCrowded z key p) (same-ascent b a e) (record { key_is = m.foot.key_is; foot = m.foot.foot; view = m.halves.view; leaf = m.halves.leaf })
+stands-on-crowded (SplittingInner t b) a e key words p m = subst (λ (z : Ascent). StandsOnCrowded z key p) (same-ascent b a e) (record { key_is = m.come.key_is; foot = m.come.foot; view = m.come.view; leaf = m.come.leaf })
+stands-on-crowded (SplittingInnerRoot t b) a e key words p m = subst (λ (z : Ascent). StandsOnCrowded z key p) (same-ascent b a e) (record { key_is = m.come.key_is; foot = m.come.foot; view = m.come.view; leaf = m.come.leaf })
 stands-on-crowded t a e key words p m = absurd (cc)

@@ -1,5 +1,5 @@
 -- The split of the node above knows what it must where the one below lacked the room there.
-use Rattle.std.proofs.Common.{◌≡◌, ◌-◌, arith, refl, sym, subst, ◌∙◌, Some}
+use Rattle.std.proofs.Common.{◌≡◌, ◌-◌, slice_get, arith, refl, sym, subst, ◌∙◌, Some}
 use Rattle.bz_ascent.specs.Ascents.{IsAscent, IsOneUp}
 use Rattle.bz_ascent.specs.Laws.{AscentsRise}
 use Rattle.bz_ascent.specs.declared.ascent.Ascent.{Ascent}
@@ -57,7 +57,7 @@ goes-up law t next a up ends is one it = record {
       it.facts s same good (law a up s l.sep one good k.0 l.lacked));
   made_for = λ key words p m. (
       let w = stands-on-crowded t a is key words p m in
-      subst (λ k. IsMadeFor next k words p) (one.key_is ∙ w.key_is) (it.made_for w.view words p (subst (λ k. WasCrowded k w.view p) (sym (one.key_is ∙ w.key_is)) w.leaf)));
+      subst (λ k. IsMadeFor next k words p) (one.key_is ∙ w.key_is) (it.made_for w.view words p (record { last = w.foot.last; is = subst (λ z. slice_get z.links (z.depth - 1) ≡ Some w.foot.last) (sym one.path_is) w.foot.is }) (subst (λ k. WasCrowded k w.view p) (sym (one.key_is ∙ w.key_is)) w.leaf)));
   ends = λ key way other h. subst (λ k. IsLookup k other next) (one.key_is ∙ h.ascent a is) (it.ends other);
 }
 

@@ -16,7 +16,7 @@ use Rattle.bz_task.specs.declared.view.LeafView.{LeafView}
 use Rattle.bz_running.specs.Duties.{config_of, asks_of, end_of, swaps_of, made_of, wants_of, ascent_of, facts_of, makes_no_change, left_of}
 use Rattle.bz_running.specs.Hearing.{IsLookup}
 use Rattle.bz_running.specs.Kinds.{kind_of, IsNodeSplit}
-use Rattle.bz_running.specs.MadeFor.{WasCrowded, IsMadeFor}
+use Rattle.bz_running.specs.MadeFor.{HasFoot, WasCrowded, IsMadeFor}
 use Rattle.bz_running.specs.declared.running.AnyTask.{AnyTask}
 
 -- the task knows what it should, in some scene
@@ -42,7 +42,7 @@ pub record IsSplitAt (c : Config) (a : Ascent) (t : AnyTask) : Type 0 where
   pub facts : (s : Scene) → s.past.config ≡ c → IsScene s → IsAscent a s.past → facts_of t Waiting s
   pub ends : (way : Option Path) → IsLookup a.key way t
   -- it is made for the key of the ascent, where that begins at a leaf which has to be split
-  pub made_for : (view : LeafView) (words : ℕ) (p : Past) → WasCrowded a.key view p → IsMadeFor t a.key words p
+  pub made_for : (view : LeafView) (words : ℕ) (p : Past) → HasFoot a → WasCrowded a.key view p → IsMadeFor t a.key words p
 
 -- the ascent of one split, and that of the next, which has come one node further up
 pub record IsNextUp (t next : AnyTask) : Type 0 where

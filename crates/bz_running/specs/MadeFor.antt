@@ -1,6 +1,6 @@
 -- What a task was made of that freezes a leaf or makes a node anew, told of the key that its call looks for and of the words that it asks
 -- for: facts of moments since the look-up began, which no later step can change.
-use Rattle.std.specs.Prelude.{◌≡◌, ℕ, ◌+◌, ◌<◌, ◌≤◌, true, List}
+use Rattle.std.specs.Prelude.{◌≡◌, ℕ, ◌+◌, ◌-◌, ◌<◌, ◌≤◌, true, List, Some, slice_get}
 use Rattle.bz_ascent.specs.declared.ascent.Ascent.{Ascent}
 use Rattle.bz_consol.specs.Facts.{IsMadeOf}
 use Rattle.bz_layout.specs.declared.sizes.TheConstants.{SHARED_WORDS}
@@ -13,6 +13,7 @@ use Rattle.bz_task.specs.FromContent.Content.{leaf_in}
 use Rattle.bz_task.specs.Instant.{page_at}
 use Rattle.bz_task.specs.Outcomes.{IsView}
 use Rattle.bz_task.specs.Scene.{Past}
+use Rattle.bz_task.specs.declared.path.Link.{Link}
 use Rattle.bz_task.specs.declared.view.LeafView.{LeafView}
 use Rattle.bz_running.specs.declared.running.AnyTask.{AnyTask}
 use Rattle.bz_running.specs.declared.running.AnyTask.TheVariants.{Seeking, Finding, Reading, Inserting, Updating, Deleting, Freezing, Consolidating, Splitting, SplittingBelow, SplittingInner, SplittingInnerRoot, Merging}
@@ -60,10 +61,16 @@ pub record AreHalvesFor (key : List ℕ) (slot : ℕ) (left right sep : List ℕ
   pub at : view.slot ≡ slot
   pub halves : AreHalvesFrom view.image.0 left right sep
 
+-- the path of an ascent has its last link, which leads to the leaf
+pub record HasFoot (a : Ascent) : Type 0 where
+  pub last : Link
+  pub is : slice_get a.path.links (a.path.depth - 1) ≡ Some last
+
 -- an ascent from the key's leaf, which has to be split, has come to the node in this slot
 pub record HasComeTo (key : List ℕ) (slot : ℕ) (a : Ascent) (p : Past) : Type 0 where
   pub key_is : a.key ≡ key
   pub node : a.node.slot ≡ slot
+  pub foot : HasFoot a
   pub view : LeafView
   pub leaf : WasCrowded key view p
 
@@ -72,6 +79,7 @@ pub record IsAtFoot (key : List ℕ) (a : Ascent) : Type 0 where
   pub key_is : a.key ≡ key
   pub below : 0 < a.place
   pub last : a.place + 1 ≡ a.path.depth
+  pub foot : HasFoot a
 
 -- the halves of the key's leaf, from which such an ascent begins
 pub record AreHalvesAtFoot (key : List ℕ) (slot : ℕ) (left right sep : List ℕ) (a : Ascent) (p : Past) : Type 0 where

@@ -34,12 +34,13 @@ returns-clause-split c = record {
       },
     ),
   );
-  made_for = λ view words p w. (
+  made_for = λ view words p foot w. (
       let down : c.args.ascent.place ≡ c.args.ascent.place - 1 + 1 = omega (arith, c.requires.below) in
       record {
         come = record {
           key_is = refl;
           node = sym (c.new-task.ensures.node c.args.ascent.node (subst (λ z. slice_get c.args.ascent.path.links z ≡ Some c.args.ascent.node) down c.requires.node));
+          foot = foot;
           view = view;
           leaf = w;
         };

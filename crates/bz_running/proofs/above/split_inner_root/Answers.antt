@@ -28,10 +28,11 @@ returns-clause-split c = record {
       },
     ),
   );
-  made_for = λ view words p w. record {
+  made_for = λ view words p foot w. record {
     come = record {
       key_is = refl;
       node = sym (c.new-task.ensures.node c.args.ascent.node (subst (λ z. slice_get c.args.ascent.path.links z ≡ Some c.args.ascent.node) c.requires.root c.requires.node));
+      foot = foot;
       view = view;
       leaf = w;
     };
