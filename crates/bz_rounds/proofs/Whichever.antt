@@ -49,8 +49,8 @@ lone-swaps b (Consolidating t) key words entries s y l m few =
 lone-swaps b (Splitting t) key words entries s y l m few =
     falls s.past.config (here s) y key words (b.root_leaves t key m.view.image.0 words entries s y l (viewed key m.view t.link.slot s.past m.leaf.is m.at) (record { halves = m.halves; many = m.leaf.many }) few)
 lone-swaps b (SplittingBelow t a) key words entries s y l m few =
-    let h = m.0 in
+    let h = m.halves in
     falls s.past.config (here s) y key words (b.leaves t key h.view.image.0 words entries s y (own _ _ _ _ entries s y l) (viewed key h.view t.lower.slot s.past h.leaf.is h.at) (record { halves = h.halves; many = h.leaf.many }) few)
-lone-swaps b (SplittingInner t a) key words entries s y l m few = b.inners t a key words entries s y (own _ _ _ _ entries s y l) l.knows.1.0 m
-lone-swaps b (SplittingInnerRoot t a) key words entries s y l m few = b.roots t a key words entries s y (own _ _ _ _ entries s y l) l.knows.1.0 m
+lone-swaps b (SplittingInner t a) key words entries s y l m few = b.inners t a key words entries s y (own _ _ _ _ entries s y l) l.knows.1.0 m.come
+lone-swaps b (SplittingInnerRoot t a) key words entries s y l m few = b.roots t a key words entries s y (own _ _ _ _ entries s y l) l.knows.1.0 m.come
 lone-swaps b (Merging t) key words entries s y l m few = absurd m

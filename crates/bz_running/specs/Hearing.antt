@@ -17,7 +17,8 @@ use Rattle.bz_task.specs.declared.todo.Todo.TheVariants.{Finish}
 use Rattle.bz_task.specs.declared.view.KeyView.{KeyView}
 use Rattle.bz_task.specs.declared.view.LeafView.{LeafView}
 use Rattle.bz_running.specs.Duties.{config_of, asks_of, end_of, left_of, swaps_of, made_of, change_swaps, needs_of, wants_of, change_of, publishing_of, ascent_of, facts_of, means_of, differs_of, makes_no_change}
-use Rattle.bz_running.specs.MadeFor.{IsMadeFor}
+use Rattle.bz_running.specs.Kinds.{kind_of}
+use Rattle.bz_running.specs.MadeFor.{IsMadeFor, IsMergeFor}
 use Rattle.bz_running.specs.declared.running.AnyTask.{AnyTask}
 
 -- a path or a view with which the task ends is one of this key; and with a view, of the leaf or of the key alone, this path, if there
@@ -41,9 +42,11 @@ pub record HasHeard (old : AnyTask) (seen : Seen) (moment : ℕ) (free : FreeSlo
   pub wants : wants_of new ≡ wants_of old
   pub change : change_of new ≡ change_of old
   pub ascent : ascent_of new ≡ ascent_of old
+  pub kind : kind_of new ≡ kind_of old
   pub silent : makes_no_change new ≡ makes_no_change old
   -- what it was made for it still is
   pub made_for : (key : List ℕ) (words : ℕ) (p : Past) → IsMadeFor old key words p → IsMadeFor new key words p
+  pub merge_for : (key : List ℕ) (p : Past) → IsMergeFor old key p → IsMergeFor new key p
   pub meant : (o : Outcome) (s : Scene) → means_of new o s → means_of old o s
   pub slots : AreTakenFrom (needs_of old) (needs_of new) free left
   pub done : end_of new ≡ Some outcome.Done → seen ≡ Swapped true

@@ -1,6 +1,9 @@
 -- Which task it is, without what it has learnt.
-use Rattle.std.specs.Prelude.{ℕ, ◌-◌}
+use Rattle.std.specs.Prelude.{◌≡◌, ◌<◌, ◌⊎◌, ℕ, ◌-◌, List, Option, Some, None, refl}
+use Rattle.bz_ascent.specs.Ascents.{IsAtLeaf}
 use Rattle.bz_ascent.specs.declared.ascent.Ascent.{Ascent}
+use Rattle.bz_task.specs.declared.path.Path.{Path}
+use Rattle.bz_running.specs.Duties.{ascent_of}
 use Rattle.bz_running.specs.declared.running.AnyTask.{AnyTask}
 use Rattle.bz_running.specs.declared.running.AnyTask.TheVariants.{Seeking, Finding, Reading, Inserting, Updating, Deleting, Freezing, Consolidating, Splitting, SplittingBelow, SplittingInner, SplittingInnerRoot, Merging}
 
@@ -40,3 +43,27 @@ kind_of (Merging t) = Merge
 -- the level of the node to which an ascent has come: that of the leaf is 0
 abbrev pub level_of : Ascent → ℕ
 level_of a = a.path.depth - 1 - a.place
+
+-- the split of the key's leaf below a parent, to which the path leads
+pub record IsLeafSplit (key : List ℕ) (path : Path) (k : Kind) : Type 0 where
+  pub from : Ascent
+  pub is : k ≡ SplitLeaf from
+  pub leaf : IsAtLeaf from key path
+
+-- the split of the inner node to which an ascent has come, below a parent or at the root
+abbrev pub IsNodeSplit : Ascent → Kind → Type 0
+IsNodeSplit a k = ((k ≡ SplitNode a) × (0 < a.place)) ⊎ ((k ≡ SplitRootNode a) × (a.place ≡ 0))
+
+-- how far up the way from the leaf a task of this kind splits, if it does
+abbrev pub ascent_in : Kind → Option Ascent
+ascent_in (SplitLeaf a) = Some a
+ascent_in (SplitNode a) = Some a
+ascent_in (SplitRootNode a) = Some a
+ascent_in k = None
+
+pub kinds-tell-the-ascent : (t : AnyTask) → ascent_of t ≡ ascent_in (kind_of t)
+unfolding ascent_of kind_of
+kinds-tell-the-ascent (SplittingBelow t a) = refl
+kinds-tell-the-ascent (SplittingInner t a) = refl
+kinds-tell-the-ascent (SplittingInnerRoot t a) = refl
+kinds-tell-the-ascent t = refl

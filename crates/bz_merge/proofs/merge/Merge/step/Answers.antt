@@ -211,6 +211,7 @@ returns-in_default c =
       config = refl;
       upper = refl;
       lower = refl;
+      status = refl;
       leaf = refl;
       known = a.config;
       begun = a.begun;

@@ -1,16 +1,17 @@
 use Rattle.std.proofs.Common.{sym, subst, refl, ap}
 use Rattle.bz_running.specs.Duties.{config_of, asks_of, end_of, left_of, swaps_of, made_of, change_swaps, needs_of, wants_of, change_of, publishing_of, facts_of, means_of, ascent_of, differs_of, makes_no_change}
 use Rattle.bz_running.specs.Hearing.{HasHeard}
+use Rattle.bz_running.specs.Kinds.{kind_of}
 use Rattle.bz_running.specs.LookingUp.{look_of, reads_asked, HasCounted}
-use Rattle.bz_running.specs.MadeFor.{IsMadeFor}
+use Rattle.bz_running.specs.MadeFor.{IsMadeFor, IsMergeFor}
 use Rattle.bz_running.specs.declared.running.AnyTask.TheVariants.{Seeking, Finding, Reading, Inserting, Updating, Deleting, Freezing, Consolidating, Splitting, SplittingBelow, SplittingInner, SplittingInnerRoot, Merging}
 use Rattle.bz_running.proofs.Ascending.{meant-so}
 use Rattle.bz_running.proofs.Counting.{seek-counts, find-counts, none-counts}
-use Rattle.bz_running.proofs.Made.{copy-kept, split-kept, below-kept, fork-kept, crown-kept}
+use Rattle.bz_running.proofs.Made.{copy-kept, split-kept, below-kept, fork-kept, crown-kept, merge-kept}
 use Rattle.bz_running.proofs.running.AnyTask.hear.Goals as goal
 
 pub returns-in-Inserting : goal.returns-in-Inserting
-unfolding config_of asks_of end_of left_of swaps_of made_of change_swaps needs_of wants_of change_of publishing_of facts_of means_of ascent_of differs_of makes_no_change look_of IsMadeFor
+unfolding config_of asks_of end_of left_of swaps_of made_of change_swaps needs_of wants_of change_of publishing_of facts_of means_of ascent_of differs_of makes_no_change look_of kind_of IsMadeFor IsMergeFor
 returns-in-Inserting c = record {
   heard = subst (λ t. HasHeard t c.args.seen c.args.moment c.args.slots.now c.next-in-Inserting.result (Inserting c.next-in-Inserting.new.self) c.next-in-Inserting.new.slots) (sym c.in-Inserting.is) (let e = c.next-in-Inserting.ensures in record {
     asked = e.asked;
@@ -22,8 +23,10 @@ returns-in-Inserting c = record {
     wants = refl;
     change = e.change;
     ascent = refl;
+    kind = refl;
     silent = refl;
     made_for = λ key words p m. absurd m;
+    merge_for = λ key p m. absurd m;
     meant = e.meant;
     slots = e.slots;
     done = e.done;
@@ -38,7 +41,7 @@ returns-in-Inserting c = record {
 }
 
 pub returns-in-Updating : goal.returns-in-Updating
-unfolding config_of asks_of end_of left_of swaps_of made_of change_swaps needs_of wants_of change_of publishing_of facts_of means_of ascent_of differs_of makes_no_change look_of IsMadeFor
+unfolding config_of asks_of end_of left_of swaps_of made_of change_swaps needs_of wants_of change_of publishing_of facts_of means_of ascent_of differs_of makes_no_change look_of kind_of IsMadeFor IsMergeFor
 returns-in-Updating c = record {
   heard = subst (λ t. HasHeard t c.args.seen c.args.moment c.args.slots.now c.next-in-Updating.result (Updating c.next-in-Updating.new.self) c.next-in-Updating.new.slots) (sym c.in-Updating.is) (let e = c.next-in-Updating.ensures in record {
     asked = e.asked;
@@ -50,8 +53,10 @@ returns-in-Updating c = record {
     wants = refl;
     change = e.change;
     ascent = refl;
+    kind = refl;
     silent = refl;
     made_for = λ key words p m. absurd m;
+    merge_for = λ key p m. absurd m;
     meant = e.meant;
     slots = e.slots;
     done = e.done;
@@ -66,7 +71,7 @@ returns-in-Updating c = record {
 }
 
 pub returns-in-Consolidating : goal.returns-in-Consolidating
-unfolding config_of asks_of end_of left_of swaps_of made_of change_swaps needs_of wants_of change_of publishing_of facts_of means_of ascent_of differs_of makes_no_change look_of IsMadeFor
+unfolding config_of asks_of end_of left_of swaps_of made_of change_swaps needs_of wants_of change_of publishing_of facts_of means_of ascent_of differs_of makes_no_change look_of kind_of IsMadeFor IsMergeFor
 returns-in-Consolidating c = record {
   heard = subst (λ t. HasHeard t c.args.seen c.args.moment c.args.slots.now c.next-in-Consolidating.result (Consolidating c.next-in-Consolidating.new.self) c.next-in-Consolidating.new.slots) (sym c.in-Consolidating.is) (let e = c.next-in-Consolidating.ensures in record {
     asked = e.asked;
@@ -78,8 +83,10 @@ returns-in-Consolidating c = record {
     wants = refl;
     change = e.change;
     ascent = refl;
+    kind = refl;
     silent = refl;
     made_for = copy-kept c.in-Consolidating.task c.next-in-Consolidating.new.self e.basis;
+    merge_for = λ key p m. absurd m;
     meant = e.meant;
     slots = e.slots;
     done = e.done;
@@ -94,7 +101,7 @@ returns-in-Consolidating c = record {
 }
 
 pub returns-in-Splitting : goal.returns-in-Splitting
-unfolding config_of asks_of end_of left_of swaps_of made_of change_swaps needs_of wants_of change_of publishing_of facts_of means_of ascent_of differs_of makes_no_change look_of IsMadeFor
+unfolding config_of asks_of end_of left_of swaps_of made_of change_swaps needs_of wants_of change_of publishing_of facts_of means_of ascent_of differs_of makes_no_change look_of kind_of IsMadeFor IsMergeFor
 returns-in-Splitting c = record {
   heard = subst (λ t. HasHeard t c.args.seen c.args.moment c.args.slots.now c.next-in-Splitting.result (Splitting c.next-in-Splitting.new.self) c.next-in-Splitting.new.slots) (sym c.in-Splitting.is) (let e = c.next-in-Splitting.ensures in record {
     asked = e.asked;
@@ -106,8 +113,10 @@ returns-in-Splitting c = record {
     wants = refl;
     change = e.change;
     ascent = refl;
+    kind = refl;
     silent = refl;
     made_for = split-kept c.in-Splitting.task c.next-in-Splitting.new.self e.basis;
+    merge_for = λ key p m. absurd m;
     meant = e.meant;
     slots = e.slots;
     done = e.done;
@@ -122,7 +131,7 @@ returns-in-Splitting c = record {
 }
 
 pub returns-in-SplittingBelow : goal.returns-in-SplittingBelow
-unfolding config_of asks_of end_of left_of swaps_of made_of change_swaps needs_of wants_of change_of publishing_of facts_of means_of ascent_of differs_of makes_no_change look_of IsMadeFor
+unfolding config_of asks_of end_of left_of swaps_of made_of change_swaps needs_of wants_of change_of publishing_of facts_of means_of ascent_of differs_of makes_no_change look_of kind_of IsMadeFor IsMergeFor
 returns-in-SplittingBelow c = record {
   heard = subst (λ t. HasHeard t c.args.seen c.args.moment c.args.slots.now c.next-in-SplittingBelow.result (SplittingBelow c.next-in-SplittingBelow.new.self c.in-SplittingBelow.field-1) c.next-in-SplittingBelow.new.slots) (sym c.in-SplittingBelow.is) (let e = c.next-in-SplittingBelow.ensures in record {
     asked = e.asked;
@@ -134,8 +143,10 @@ returns-in-SplittingBelow c = record {
     wants = refl;
     change = e.change;
     ascent = refl;
+    kind = refl;
     silent = refl;
     made_for = below-kept c.in-SplittingBelow.task c.next-in-SplittingBelow.new.self c.in-SplittingBelow.field-1 e.basis;
+    merge_for = λ key p m. absurd m;
     meant = e.meant;
     slots = e.slots;
     done = e.done;
@@ -150,7 +161,7 @@ returns-in-SplittingBelow c = record {
 }
 
 pub returns-in-SplittingInner : goal.returns-in-SplittingInner
-unfolding config_of asks_of end_of left_of swaps_of made_of change_swaps needs_of wants_of change_of publishing_of facts_of means_of ascent_of differs_of makes_no_change look_of IsMadeFor
+unfolding config_of asks_of end_of left_of swaps_of made_of change_swaps needs_of wants_of change_of publishing_of facts_of means_of ascent_of differs_of makes_no_change look_of kind_of IsMadeFor IsMergeFor
 returns-in-SplittingInner c = record {
   heard = subst (λ t. HasHeard t c.args.seen c.args.moment c.args.slots.now c.next-in-SplittingInner.result (SplittingInner c.next-in-SplittingInner.new.self c.in-SplittingInner.field-1) c.next-in-SplittingInner.new.slots) (sym c.in-SplittingInner.is) (let e = c.next-in-SplittingInner.ensures in record {
     asked = e.asked;
@@ -162,8 +173,10 @@ returns-in-SplittingInner c = record {
     wants = refl;
     change = e.change;
     ascent = refl;
+    kind = refl;
     silent = refl;
     made_for = fork-kept c.in-SplittingInner.task c.next-in-SplittingInner.new.self c.in-SplittingInner.field-1 e.basis;
+    merge_for = λ key p m. absurd m;
     meant = e.meant;
     slots = e.slots;
     done = e.done;
@@ -178,7 +191,7 @@ returns-in-SplittingInner c = record {
 }
 
 pub returns-in-SplittingInnerRoot : goal.returns-in-SplittingInnerRoot
-unfolding config_of asks_of end_of left_of swaps_of made_of change_swaps needs_of wants_of change_of publishing_of facts_of means_of ascent_of differs_of makes_no_change look_of IsMadeFor
+unfolding config_of asks_of end_of left_of swaps_of made_of change_swaps needs_of wants_of change_of publishing_of facts_of means_of ascent_of differs_of makes_no_change look_of kind_of IsMadeFor IsMergeFor
 returns-in-SplittingInnerRoot c = record {
   heard = subst (λ t. HasHeard t c.args.seen c.args.moment c.args.slots.now c.next-in-SplittingInnerRoot.result (SplittingInnerRoot c.next-in-SplittingInnerRoot.new.self c.in-SplittingInnerRoot.field-1) c.next-in-SplittingInnerRoot.new.slots) (sym c.in-SplittingInnerRoot.is) (let e = c.next-in-SplittingInnerRoot.ensures in record {
     asked = e.asked;
@@ -190,8 +203,10 @@ returns-in-SplittingInnerRoot c = record {
     wants = refl;
     change = e.change;
     ascent = refl;
+    kind = refl;
     silent = refl;
     made_for = crown-kept c.in-SplittingInnerRoot.task c.next-in-SplittingInnerRoot.new.self c.in-SplittingInnerRoot.field-1 e.basis;
+    merge_for = λ key p m. absurd m;
     meant = e.meant;
     slots = e.slots;
     done = e.done;
@@ -206,7 +221,7 @@ returns-in-SplittingInnerRoot c = record {
 }
 
 pub returns-in-Merging : goal.returns-in-Merging
-unfolding config_of asks_of end_of left_of swaps_of made_of change_swaps needs_of wants_of change_of publishing_of facts_of means_of ascent_of differs_of makes_no_change look_of IsMadeFor
+unfolding config_of asks_of end_of left_of swaps_of made_of change_swaps needs_of wants_of change_of publishing_of facts_of means_of ascent_of differs_of makes_no_change look_of kind_of IsMadeFor IsMergeFor
 returns-in-Merging c = record {
   heard = subst (λ t. HasHeard t c.args.seen c.args.moment c.args.slots.now c.next-in-Merging.result (Merging c.next-in-Merging.new.self) c.next-in-Merging.new.slots) (sym c.in-Merging.is) (let e = c.next-in-Merging.ensures in record {
     asked = e.asked;
@@ -218,8 +233,10 @@ returns-in-Merging c = record {
     wants = refl;
     change = e.change;
     ascent = refl;
+    kind = refl;
     silent = refl;
     made_for = λ key words p m. absurd m;
+    merge_for = merge-kept c.in-Merging.task c.next-in-Merging.new.self e.basis;
     meant = e.meant;
     slots = e.slots;
     done = e.done;
