@@ -4,6 +4,7 @@ pub mod Freezing
 mod HalvingBelow
 mod HalvingInner
 pub mod Lacking
+mod Lasting
 pub mod Lone
 mod Made
 mod Parents
@@ -13,5 +14,6 @@ mod RootHalving
 mod Seeing
 mod Staying
 mod Thawed
+mod Viewing
 mod Wanting
 mod Whichever

@@ -3,4 +3,5 @@ pub mod Due
 pub mod Falls
 pub mod Laws
 pub mod Lone
+pub mod Stands
 pub mod Viewed

@@ -3,6 +3,7 @@
 ghost use Rattle.bz_rounds.specs.Crowded.{AscentsAreCrowded};
 ghost use Rattle.bz_rounds.specs.Due.{LoneGuardsAreThawed, LoneLeavesAreDue, LoneAscentsAreDue};
 ghost use Rattle.bz_rounds.specs.Laws.{LoneFreezesLowerTheStage, LoneCopiesGiveRoom, LoneRootLeafSplitsGiveRoom, LoneLeafSplitsGiveRoom, LoneInnerSplitsLowerTheStage, LoneRootSplitsLowerTheStage, LoneSwapsLowerTheStage};
+ghost use Rattle.bz_rounds.specs.Stands.{StagesStand, LoneKeyViewsTellTheLeaf, LoneViewsTellTheLeaf};
 ghost use Rattle.bz_rounds.specs.Viewed.{LoneKeyViewsTellTheStage, LoneViewsTellTheStage, LoneViewsAgree};
 
 use bz_alone::laws as alone;
@@ -242,5 +243,40 @@ pub fn lone_ascents_are_due()
     shape::leaves_tile_the_keys();
     slotted::leaf_rules_are_facts();
     slotted::inner_rules_are_facts();
+    task::headers_say_the_level();
+}
+
+/// While nobody's swap takes effect the stage of a key stands.
+pub fn stages_stand()
+    ensures { StagesStand }
+{
+    alone::read_values_stand();
+    alone::trees_stand();
+    content::well_formed_images_have_no_fault();
+    shape::leaves_tile_the_keys();
+}
+
+/// The key's leaf is frozen now where it was when the key was looked up.
+pub fn lone_key_views_tell_the_leaf()
+    ensures { LoneKeyViewsTellTheLeaf }
+{
+    alone::read_values_stand();
+    alone::trees_stand();
+    alone::lonely_times_are_quiet();
+    content::well_formed_images_have_no_fault();
+    shape::leaves_tile_the_keys();
+    task::headers_say_the_level();
+}
+
+/// And it is frozen and crowded now where it was when it was read whole.
+pub fn lone_views_tell_the_leaf()
+    ensures { LoneViewsTellTheLeaf }
+{
+    alone::read_values_stand();
+    alone::trees_stand();
+    alone::lonely_times_are_quiet();
+    content::well_formed_images_have_no_fault();
+    shape::leaves_tile_the_keys();
+    slotted::leaf_rules_are_facts();
     task::headers_say_the_level();
 }
