@@ -5,6 +5,7 @@ mod HalvingBelow
 mod HalvingInner
 pub mod Lacking
 mod Lasting
+mod Levels
 pub mod Lone
 mod Made
 mod Parents

@@ -3,6 +3,7 @@
 ghost use Rattle.bz_rounds.specs.Crowded.{AscentsAreCrowded};
 ghost use Rattle.bz_rounds.specs.Due.{LoneGuardsAreThawed, LoneLeavesAreDue, LoneAscentsAreDue};
 ghost use Rattle.bz_rounds.specs.Laws.{LoneFreezesLowerTheStage, LoneCopiesGiveRoom, LoneRootLeafSplitsGiveRoom, LoneLeafSplitsGiveRoom, LoneInnerSplitsLowerTheStage, LoneRootSplitsLowerTheStage, LoneSwapsLowerTheStage};
+ghost use Rattle.bz_rounds.specs.Levels.{AscentsStandAtLevels, LoneAscentsAreBelowTheStage};
 ghost use Rattle.bz_rounds.specs.Stands.{StagesStand, LoneKeyViewsTellTheLeaf, LoneViewsTellTheLeaf};
 ghost use Rattle.bz_rounds.specs.Viewed.{LoneKeyViewsTellTheStage, LoneViewsTellTheStage, LoneViewsAgree};
 
@@ -278,5 +279,30 @@ pub fn lone_views_tell_the_leaf()
     content::well_formed_images_have_no_fault();
     shape::leaves_tile_the_keys();
     slotted::leaf_rules_are_facts();
+    task::headers_say_the_level();
+}
+
+/// The node to which an ascent has come stands at the level that its place on the path tells.
+pub fn ascents_stand_at_levels()
+    ensures { AscentsStandAtLevels }
+{
+    alone::read_values_stand();
+    alone::trees_stand();
+    alone::lonely_times_are_quiet();
+    content::well_formed_images_have_no_fault();
+    renew::guarded_links_stand();
+    slotted::inner_rules_are_facts();
+    task::headers_say_the_level();
+}
+
+/// So the stage of a key whose leaf has to be split is above that level.
+pub fn lone_ascents_are_below_the_stage()
+    ensures { LoneAscentsAreBelowTheStage }
+{
+    ascents_are_crowded();
+    ascents_stand_at_levels();
+    alone::read_values_stand();
+    alone::trees_stand();
+    content::well_formed_images_have_no_fault();
     task::headers_say_the_level();
 }
