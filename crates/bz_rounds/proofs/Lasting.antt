@@ -1,6 +1,6 @@
 -- In a quiet time the key's leaf has the status and the metadata words that it had, and the nodes above it have their statuses: so the stage
 -- of the key is what it was.
-use Rattle.std.proofs.Common.{◌≡◌, ◌≢◌, ℕ, ◌+◌, ◌-◌, ◌<◌, ◌≤◌, if◌then◌else◌, ◌&&◌, Bool, true, List, arith, refl, sym, ap, ◌∙◌, inl, inr}
+use Rattle.std.proofs.Common.{◌≡◌, ◌≢◌, ℕ, ◌+◌, ◌-◌, ◌<◌, if◌then◌else◌, ◌&&◌, Bool, true, List, arith, refl, sym, ap, ◌∙◌, inl, inr}
 use Rattle.std.specs.Prelude.{not, nat_lt, nat_le}
 use Rattle.std.proofs.lemmas.Bool.{cases_lt}
 use Rattle.bz_layout.specs.Addresses.{node_address}
@@ -32,7 +32,7 @@ use Rattle.bz_stage.proofs.Paths.{path-found, path-unique, below-top}
 use Rattle.bz_stage.proofs.Runs.{run-same}
 use Rattle.bz_stage.specs.Paths.{on_path, run_from, StandsOver}
 use Rattle.bz_stage.specs.Rooms.{is_crowded, is_full, words_taken}
-use Rattle.bz_stage.specs.Stages.{leaf_page, page_on_path, root_level, full_above, stage_in}
+use Rattle.bz_stage.specs.Stages.{leaf_page, page_on_path, root_level, full_above}
 use Rattle.bz_alone.specs.Quiet.{IsQuietSince, IsIn, ReadValuesStand}
 use Rattle.bz_alone.specs.Trees.{SameTree, TreesStand}
 use Rattle.bz_rounds.specs.Stands.{SameStage, StagesStand}

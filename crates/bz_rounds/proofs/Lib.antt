@@ -5,9 +5,11 @@ mod HalvingBelow
 mod HalvingInner
 pub mod Lacking
 mod Lasting
+mod Left
 mod Levels
 pub mod Lone
 mod Made
+mod Nodes
 mod Parents
 mod PartingRoot
 mod Rising

@@ -2,6 +2,7 @@ pub mod Crowded
 pub mod Due
 pub mod Falls
 pub mod Laws
+pub mod Left
 pub mod Levels
 pub mod Lone
 pub mod Stands
