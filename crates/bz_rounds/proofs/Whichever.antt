@@ -28,11 +28,11 @@ falls : (c : Config) (x y : Instant) (key : List ℕ) (words : ℕ) → GivesRoo
 falls c x y key words g = omega (arith, g.lacked, g.room)
 
 -- the viewed leaf
-viewed : (key : List ℕ) (view : LeafView) (slot : ℕ) (p : Past) → IsView key view p → view.slot ≡ slot → WasLeafOf key slot p
+pub viewed : (key : List ℕ) (view : LeafView) (slot : ℕ) (p : Past) → IsView key view p → view.slot ≡ slot → WasLeafOf key slot p
 viewed key view slot p is at = record { moment = view.at; since = is.since; now = is.now; leaf = is.leaf ∙ at }
 
 -- what a split on the way up knows beside its own is left out
-own : (c : Config) (asked : Option Todo) (facts more : Stage → Scene → Type 0) (entries : List Entry) (s : Scene) (y : Instant) → IsLoneSwap c asked (λ stage s. facts stage s × more stage s) entries s y → IsLoneSwap c asked facts entries s y
+pub own : (c : Config) (asked : Option Todo) (facts more : Stage → Scene → Type 0) (entries : List Entry) (s : Scene) (y : Instant) → IsLoneSwap c asked (λ stage s. facts stage s × more stage s) entries s y → IsLoneSwap c asked facts entries s y
 own c asked facts more entries s y l = record { config = l.config; good = l.good; knows = l.knows.0; asks = l.asks; alone = l.alone; leads = l.leads }
 
 pub lone-swaps : Laws → LoneSwapsLowerTheStage
