@@ -5,3 +5,4 @@ mod Rising
 mod Counting
 mod LookingUp
 mod Made
+mod Beginning
