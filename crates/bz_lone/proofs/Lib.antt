@@ -1,0 +1,7 @@
+mod Sparing
+mod Coming
+mod Ways
+mod Pricing
+mod Reading
+mod Ends
+mod Begins

@@ -4,6 +4,8 @@ ghost use Rattle.bz_lone.specs.Renewals.{RenewalsArePaid, AscentsArePaid};
 ghost use Rattle.bz_lone.specs.Rounds.{LessIsSpared, EndsAreAfforded, EndsArePaid, WaysArePaid, ChangesArePaid, LeavesAreRead, ReadLeavesArePaid, TasksMayBegin, RoundsBegin, DisturbedRoundsArePaid, EndsLeaveARound};
 ghost use Rattle.bz_lone.specs.Steps.{AnyCallIsPaid, QuietStepsArePaid, ForeignEffectsArePaid, EffectMarksArePaid, LessIsPaid, OwnEffectsArePaid, HearingsArePaid, StartsArePaid};
 
+use bz_costs::laws as costs;
+
 /// Whatever a call has come to, it ends within what the configuration tells.
 pub fn any_call_is_paid()
     ensures { AnyCallIsPaid }
@@ -77,12 +79,18 @@ pub fn leaves_are_read()
 /// What comes after that is paid for.
 pub fn read_leaves_are_paid()
     ensures { ReadLeavesArePaid }
-{}
+{
+    costs::higher_stages_cost_more();
+    costs::rounds_are_paid();
+    costs::stretches_are_the_most();
+}
 
 /// A task that is spared may begin.
 pub fn tasks_may_begin()
     ensures { TasksMayBegin }
-{}
+{
+    costs::tasks_weigh_little();
+}
 
 /// A round that is paid for may begin.
 pub fn rounds_begin()
