@@ -5,3 +5,4 @@ mod Pricing
 mod Reading
 mod Ends
 mod Begins
+mod Leaving

@@ -100,12 +100,20 @@ pub fn rounds_begin()
 /// A round is paid for where the one before was disturbed.
 pub fn disturbed_rounds_are_paid()
     ensures { DisturbedRoundsArePaid }
-{}
+{
+    costs::higher_stages_cost_more();
+    costs::rounds_are_paid();
+    costs::stretches_are_the_most();
+}
 
 /// And after the end of a task that left the leaf better than it was.
 pub fn ends_leave_a_round()
     ensures { EndsLeaveARound }
-{}
+{
+    costs::higher_stages_cost_more();
+    costs::rounds_are_paid();
+    costs::stretches_are_the_most();
+}
 
 /// What is done to a leaf without room is paid for.
 pub fn renewals_are_paid()
