@@ -6,3 +6,5 @@ mod Reading
 mod Ends
 mod Begins
 mod Leaving
+mod Renewing
+mod Climbing

@@ -118,9 +118,16 @@ pub fn ends_leave_a_round()
 /// What is done to a leaf without room is paid for.
 pub fn renewals_are_paid()
     ensures { RenewalsArePaid }
-{}
+{
+    costs::rounds_are_paid();
+}
 
 /// So is what is done to the full nodes above it.
 pub fn ascents_are_paid()
     ensures { AscentsArePaid }
-{}
+{
+    costs::rounds_are_paid();
+    costs::splits_are_paid();
+    bz_below::laws::want_of_room_costs_little();
+    bz_fork::laws::want_of_room_costs_little();
+}
