@@ -1,5 +1,5 @@
 -- A task begins, and a round.
-use Rattle.std.proofs.Common.{◌≡◌, ◌⊎◌, ℕ, ◌+◌, ◌≤◌, true, false, arith, ap, refl, inl, inr, sym, subst, ◌∙◌}
+use Rattle.std.proofs.Common.{◌≡◌, ℕ, ◌+◌, ◌≤◌, false, arith, ap, refl, inl, sym, subst, ◌∙◌}
 use Rattle.std.specs.Prelude.{Option, Some, None}
 use Rattle.bz_alone.specs.Alone.{IsAlone}
 use Rattle.bz_call.specs.declared.calls.Call.{Call}
@@ -7,10 +7,9 @@ use Rattle.bz_call.specs.declared.calls.Call.TheVariants as call
 use Rattle.bz_costs.specs.Laws.{TasksWeighLittle}
 use Rattle.bz_costs.specs.Most.{most_of, most_of_seek}
 use Rattle.bz_costs.specs.Weights.{weigh}
-use Rattle.bz_descend.specs.SeekFacts.{seek_reads}
 use Rattle.bz_layout.specs.declared.config.Config.{Config}
 use Rattle.bz_machine.specs.Allowed.{for_act}
-use Rattle.bz_running.specs.Duties.{end_of, left_of, made_of, swaps_of}
+use Rattle.bz_running.specs.Duties.{end_of, made_of, swaps_of}
 use Rattle.bz_running.specs.Kinds as kinds
 use Rattle.bz_running.specs.Kinds.{Kind, kind_of}
 use Rattle.bz_running.specs.declared.running.AnyTask.{AnyTask}
@@ -22,7 +21,7 @@ use Rattle.bz_lone.proofs.Sparing.{less-afforded}
 use Rattle.bz_lone.specs.Errands.{Errand, IsLookOf}
 use Rattle.bz_lone.specs.Prices.{prices_in, coming, round_price}
 use Rattle.bz_lone.specs.Rounds.{IsBegunAt, TasksMayBegin, RoundsBegin}
-use Rattle.bz_lone.specs.Sum.{Affords, Round, Disturbed, Clean, In, IsIn, IsClean, IsSmall, reserve, prices_of, left_in, still_takes, kept_by}
+use Rattle.bz_lone.specs.Sum.{Affords, Round, Disturbed, Clean, In, IsIn, IsSmall, reserve, prices_of, left_in, kept_by}
 
 -- nothing is kept of a task that goes on
 keeps-none : (t : AnyTask) → end_of t ≡ None → kept_by (end_of t) (kind_of t) ≡ 0

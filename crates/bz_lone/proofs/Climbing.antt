@@ -1,5 +1,5 @@
 -- The split of the node above one that found no room is paid for.
-use Rattle.std.proofs.Common.{◌≡◌, ◌⊎◌, ℕ, ◌+◌, ◌-◌, ◌*◌, ◌<◌, ◌≤◌, min, max, Bool, true, false, arith, ap, refl, inl, inr, sym, ◌∙◌}
+use Rattle.std.proofs.Common.{◌≡◌, ◌⊎◌, ℕ, ◌+◌, ◌-◌, ◌*◌, ◌<◌, ◌≤◌, min, Bool, false, arith, ap, refl, inl, inr, ◌∙◌}
 use Rattle.std.specs.Prelude.{Option, Some, if◌then◌else◌, nat_lt}
 use Rattle.std.proofs.lemmas.Bool.{cases_lt}
 use Rattle.std.proofs.lemmas.Bool.Decides.{nat_tests}
@@ -11,7 +11,7 @@ use Rattle.bz_costs.specs.Costs.{RoundsArePaid}
 use Rattle.bz_costs.specs.Failing.{cost_of_lost_below, cost_of_lost_inner}
 use Rattle.bz_costs.specs.Most.{most_of, most_of_below, most_of_inner, most_of_inner_root}
 use Rattle.bz_costs.specs.Splits.{cost_after_below, cost_after_inner, most_of_higher, SplitsArePaid}
-use Rattle.bz_costs.specs.Stretches.{cost_of_split_at, cost_once_viewed, cost_from, top_stage, cost_viewed_at}
+use Rattle.bz_costs.specs.Stretches.{cost_once_viewed, cost_from, top_stage}
 use Rattle.bz_costs.specs.Weights.{weigh, weight}
 use Rattle.bz_fork.specs.Duties as fork
 use Rattle.bz_layout.specs.declared.swaps.TheConstants.{RENEWAL_SWAPS}
@@ -26,8 +26,9 @@ use Rattle.bz_task.specs.Scene.{Past}
 use Rattle.bz_task.specs.declared.path.Path.{Path}
 use Rattle.bz_task.specs.declared.todo.Outcome.{Outcome}
 use Rattle.bz_task.specs.declared.todo.Outcome.TheVariants.{NeedsRoom}
-use Rattle.bz_lone.proofs.Coming.{either, comes-to-write}
+use Rattle.bz_lone.proofs.Coming.{comes-to-write}
 use Rattle.bz_lone.proofs.Ends.{unmade, alone-yet}
+use Rattle.bz_lone.proofs.Pricing.{less}
 use Rattle.bz_lone.proofs.Sparing.{less-afforded}
 use Rattle.bz_lone.specs.Errands.{Errand, is_read, may_swap_twice}
 use Rattle.bz_lone.specs.Prices.{Prices, disturbed_prices, prices_in, coming, coming_to_write}
@@ -117,9 +118,6 @@ clean-inner : (own level stage from : ℕ) → level + 1 < stage → level + 1 <
 clean-inner own level stage from more high l = omega (arith, more, high, l)
 
 -- a node below the greatest level has its price
-less : (a b : ℕ) → a < b → nat_lt a b ≡ true
-less a b l = grind (arith, nat_tests)
-
 not-less : (a b : ℕ) → b ≤ a → nat_lt a b ≡ false
 not-less a b l = grind (arith, nat_tests)
 

@@ -1,6 +1,6 @@
 -- At the end of a task.
-use Rattle.std.proofs.Common.{◌≡◌, ◌≢◌, ◌⊎◌, ℕ, ◌+◌, ◌≤◌, true, false, arith, ap, refl, inl, inr, sym, subst}
-use Rattle.std.specs.Prelude.{◌*◌, Bool, Option, Some, None, if◌then◌else◌}
+use Rattle.std.proofs.Common.{◌≡◌, ◌≢◌, ℕ, ◌+◌, ◌≤◌, true, false, arith, inl, inr, subst}
+use Rattle.std.specs.Prelude.{◌*◌, Bool, Some, if◌then◌else◌}
 use Rattle.bz_alone.specs.Alone.{IsAlone}
 use Rattle.bz_costs.specs.Stretches.{lone_stretch}
 use Rattle.bz_rivals.specs.Rivals.{rivals}

@@ -27,7 +27,7 @@ use Rattle.bz_lone.proofs.Sparing.{less-afforded}
 use Rattle.bz_lone.specs.Errands.{Errand, is_read, is_freeze, IsLookOf, after}
 use Rattle.bz_lone.specs.Prices.{Prices, clean_prices, prices_in, way_price, coming, round_price}
 use Rattle.bz_lone.specs.Rounds.{stage_now, DisturbedRoundsArePaid, EndsLeaveARound}
-use Rattle.bz_lone.specs.Sum.{Affords, IsThawed, Round, Disturbed, Clean, State, In, Made, IsIn, IsSmall, Spares, PaysForRound, reserve, prices_of, left_in, still_takes}
+use Rattle.bz_lone.specs.Sum.{Affords, IsThawed, Round, Disturbed, Clean, State, In, Made, IsIn, IsSmall, PaysForRound, reserve, prices_of, left_in, still_takes}
 
 -- in a round that was disturbed a stretch is kept for the next one
 of-reserve : (stretch rest price : ℕ) → price ≤ stretch → price ≤ stretch + rest

@@ -4,9 +4,9 @@ use Rattle.std.specs.Prelude.{not, nat_lt, nat_le}
 use Rattle.std.proofs.lemmas.Bool.Decides.{nat_tests}
 use Rattle.bz_call.specs.Map.{key_of}
 use Rattle.bz_content.specs.Content.{image_of}
-use Rattle.bz_costs.specs.Costs.{HigherStagesCostMore, RoundsArePaid, StretchesAreTheMost}
-use Rattle.bz_costs.specs.Most.{most_of_seek, most_of_find, most_of_leaf, most_of_freeze, most_of_copy}
-use Rattle.bz_costs.specs.Stretches.{cost_of_look_up, cost_of_view, cost_of_change, cost_once_viewed, cost_from, top_stage, cost_viewed_at, cost_at, lone_stretch}
+use Rattle.bz_costs.specs.Costs.{HigherStagesCostMore, StretchesAreTheMost}
+use Rattle.bz_costs.specs.Most.{most_of_find, most_of_leaf, most_of_freeze, most_of_copy}
+use Rattle.bz_costs.specs.Stretches.{cost_of_look_up, cost_of_view, cost_of_change, cost_from, top_stage, cost_viewed_at, lone_stretch}
 use Rattle.bz_layout.specs.declared.config.Config.{Config}
 use Rattle.bz_layout.specs.declared.sizes.TheConstants.{SHARED_WORDS}
 use Rattle.bz_running.specs.Kinds as kinds
@@ -15,7 +15,7 @@ use Rattle.bz_stage.specs.Rooms.{words_taken, is_crowded}
 use Rattle.bz_stage.specs.Stages.{leaf_page, frozen_stage, stage_of, stage_in}
 use Rattle.bz_lone.proofs.Coming.{either, two-ways, comes-within}
 use Rattle.bz_lone.specs.Errands.{Errand, words_asked}
-use Rattle.bz_lone.specs.Prices.{Prices, viewed_price, clean_prices, prices_in, found_price, way_price, coming_after, coming_to_read, coming_to_write, round_price}
+use Rattle.bz_lone.specs.Prices.{Prices, viewed_price, clean_prices, prices_in, way_price, round_price}
 
 -- the stage of a frozen leaf is not 0
 pub frozen-lacks : (leaf : Page) (full words : ℕ) → leaf.frozen ≡ true → 1 ≤ stage_of leaf full words
@@ -55,7 +55,7 @@ viewed-small alone leaf stage frozen few = ap (λ (b : Bool). price-for alone b 
     small-for false = refl
 
 -- what is read whole is what is viewed, where the stage is not 0
-less : (a b : ℕ) → a < b → nat_lt a b ≡ true
+pub less : (a b : ℕ) → a < b → nat_lt a b ≡ true
 less a b l = grind (arith, nat_tests)
 
 pub some-read : (viewed ready stage : ℕ) → 0 < stage → (if nat_lt 0 stage then viewed else ready) ≡ viewed
@@ -67,7 +67,6 @@ none-read viewed ready stage none = ap (λ (n : ℕ). if nat_lt 0 n then viewed 
 -- the laws of costs on which all this rests
 pub record Laws : Type 0 where
   pub higher : HigherStagesCostMore
-  pub rounds : RoundsArePaid
   pub most : StretchesAreTheMost
 
 -- no leaf costs more than a freeze and a round at the greatest stage that counts

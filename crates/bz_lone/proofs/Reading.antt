@@ -1,10 +1,10 @@
 -- The reading of a leaf that may lack room, and what comes after it.
-use Rattle.std.proofs.Common.{◌≡◌, ℕ, ◌+◌, ◌<◌, ◌≤◌, max, Bool, true, false, arith, ap, refl, ◌∙◌}
+use Rattle.std.proofs.Common.{◌≡◌, ℕ, ◌+◌, ◌<◌, ◌≤◌, false, arith, ap, refl, ◌∙◌}
 use Rattle.bz_alone.specs.Alone.{IsAlone}
 use Rattle.bz_call.specs.Map.{key_of}
 use Rattle.bz_content.specs.Content.{image_of}
-use Rattle.bz_costs.specs.Most.{most_of_seek, most_of_find, most_of_leaf}
-use Rattle.bz_costs.specs.Stretches.{cost_of_change, cost_once_viewed, cost_from, cost_viewed_at, lone_stretch}
+use Rattle.bz_costs.specs.Most.{most_of_leaf}
+use Rattle.bz_costs.specs.Stretches.{cost_once_viewed, cost_from, cost_viewed_at, lone_stretch}
 use Rattle.bz_running.specs.Kinds as kinds
 use Rattle.bz_slotted.specs.Page.{Page}
 use Rattle.bz_stage.specs.Stages.{leaf_page, full_above}
@@ -16,7 +16,7 @@ use Rattle.bz_lone.proofs.Sparing.{less-afforded, spend}
 use Rattle.bz_lone.specs.Errands.{Errand, words_asked, is_read, after}
 use Rattle.bz_lone.specs.Prices.{Prices, disturbed_prices, viewed_price, clean_prices, prices_in, coming, round_price}
 use Rattle.bz_lone.specs.Rounds.{stage_now, LeavesAreRead, ReadLeavesArePaid}
-use Rattle.bz_lone.specs.Sum.{Affords, Round, Disturbed, Clean, reserve, prices_of, Spares, PaysForRound}
+use Rattle.bz_lone.specs.Sum.{Round, Disturbed, Clean, reserve, prices_of, Spares, PaysForRound}
 
 
 pub leaves-read : LeavesAreRead

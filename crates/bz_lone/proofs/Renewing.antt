@@ -1,20 +1,19 @@
 -- A leaf that was read whole and lacks room: its freeze, its copy, its split or its merge is paid for.
-use Rattle.std.proofs.Common.{◌≡◌, ℕ, suc, ◌+◌, ◌-◌, ◌<◌, ◌≤◌, min, Bool, true, false, arith, ap, subst, ◌∙◌}
+use Rattle.std.proofs.Common.{◌≡◌, ℕ, ◌+◌, ◌-◌, ◌<◌, ◌≤◌, min, Bool, true, false, arith, ap, subst, ◌∙◌}
 use Rattle.std.specs.Prelude.{if◌then◌else◌}
 use Rattle.bz_alone.specs.Alone.{IsAlone}
 use Rattle.bz_call.specs.Map.{key_of}
 use Rattle.bz_content.specs.Content.{image_of}
 use Rattle.bz_costs.specs.Costs.{RoundsArePaid}
 use Rattle.bz_costs.specs.Most.{most_of_freeze, most_of_copy, most_of_merge, most_of_root, most_of_below}
-use Rattle.bz_costs.specs.Splits.{cost_after_below}
 use Rattle.bz_costs.specs.Stretches.{cost_of_view, cost_once_viewed, cost_from, top_stage, cost_viewed_at, cost_at}
-use Rattle.bz_stage.specs.Stages.{leaf_page, full_above}
+use Rattle.bz_stage.specs.Stages.{full_above}
 use Rattle.bz_swap.specs.SwapMemory.{SwapMemory}
 use Rattle.bz_task.specs.Scene.{Past}
-use Rattle.bz_lone.proofs.Pricing.{Laws, frozen-lacks, viewed-thawed, viewed-large, viewed-small}
+use Rattle.bz_lone.proofs.Pricing.{frozen-lacks, viewed-thawed, viewed-large, viewed-small}
 use Rattle.bz_lone.proofs.Sparing.{spend}
 use Rattle.bz_lone.specs.Errands.{Errand, words_asked}
-use Rattle.bz_lone.specs.Prices.{Prices, disturbed_prices, viewed_price, prices_in}
+use Rattle.bz_lone.specs.Prices.{prices_in}
 use Rattle.bz_lone.specs.Renewals.{leaf_now, IsLacking, IsLarge, RenewalsArePaid}
 use Rattle.bz_lone.specs.Rounds.{stage_now}
 use Rattle.bz_lone.specs.Sum.{IsSmall, Spares}

@@ -1,9 +1,9 @@
 -- After a way, and once a key was looked up.
-use Rattle.std.proofs.Common.{◌≡◌, ◌⊎◌, ℕ, ◌+◌, ◌≤◌, if◌then◌else◌, Bool, true, false, arith, ap, inl, inr}
+use Rattle.std.proofs.Common.{◌≡◌, ◌⊎◌, ◌+◌, ◌≤◌, if◌then◌else◌, Bool, true, false, arith, ap, inl, inr}
 use Rattle.bz_costs.specs.Most.{most_of_find, most_of_leaf}
 use Rattle.bz_running.specs.Kinds as kinds
 use Rattle.bz_running.specs.Kinds.{kind_of}
-use Rattle.bz_running.specs.declared.running.AnyTask.TheVariants.{Seeking, Finding, Reading, Inserting, Updating, Deleting, Freezing, Consolidating, Splitting, SplittingBelow, SplittingInner, SplittingInnerRoot, Merging}
+use Rattle.bz_running.specs.declared.running.AnyTask.TheVariants.{Inserting, Updating, Deleting}
 use Rattle.bz_lone.proofs.Coming.{two-ways, comes-after, comes-to-write, comes-to-read}
 use Rattle.bz_lone.specs.Errands.{Errand, is_read}
 use Rattle.bz_lone.specs.Prices.{Prices, found_price, way_price, coming}

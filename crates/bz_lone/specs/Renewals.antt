@@ -18,7 +18,7 @@ use Rattle.bz_swap.specs.SwapMemory.{SwapMemory}
 use Rattle.bz_task.specs.Scene.{Past}
 use Rattle.bz_task.specs.declared.todo.Outcome.TheVariants.{NeedsRoom}
 use Rattle.bz_lone.specs.Errands.{Errand, is_read}
-use Rattle.bz_lone.specs.Prices.{Prices, coming}
+use Rattle.bz_lone.specs.Prices.{coming}
 use Rattle.bz_lone.specs.Rounds.{stage_now}
 use Rattle.bz_lone.specs.Sum.{Spares, IsSmall, IsPaid}
 

@@ -1,12 +1,11 @@
 -- The one number that falls: how many marks are left to a worker that steps alone, of those by which its call is to end, and what its task and
 -- all that may come after it may still take of them.
-use Rattle.std.specs.Prelude.{◌≡◌, ◌≢◌, ◌⊎◌, ℕ, ◌+◌, ◌*◌, ◌≤◌, if◌then◌else◌, Bool, true, false, List, Option, Some, None}
+use Rattle.std.specs.Prelude.{◌≡◌, ◌≢◌, ◌⊎◌, ℕ, ◌+◌, ◌*◌, ◌≤◌, if◌then◌else◌, true, false, Option, Some, None}
 use Rattle.bz_alone.specs.Alone.{IsAlone}
 use Rattle.bz_call.specs.Map.{key_of}
 use Rattle.bz_content.specs.Content.{image_of}
 use Rattle.bz_costs.specs.Stretches.{lone_stretch}
 use Rattle.bz_costs.specs.Weights.{weight, weigh}
-use Rattle.bz_layout.specs.declared.config.Config.{Config}
 use Rattle.bz_layout.specs.declared.swaps.TheConstants.{RENEWAL_SWAPS}
 use Rattle.bz_rivals.specs.Rivals.{rivals}
 use Rattle.bz_running.specs.Duties.{end_of, made_of, swaps_of, makes_no_change}

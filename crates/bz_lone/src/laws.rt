@@ -81,7 +81,6 @@ pub fn read_leaves_are_paid()
     ensures { ReadLeavesArePaid }
 {
     costs::higher_stages_cost_more();
-    costs::rounds_are_paid();
     costs::stretches_are_the_most();
 }
 
@@ -102,7 +101,6 @@ pub fn disturbed_rounds_are_paid()
     ensures { DisturbedRoundsArePaid }
 {
     costs::higher_stages_cost_more();
-    costs::rounds_are_paid();
     costs::stretches_are_the_most();
 }
 
@@ -111,7 +109,6 @@ pub fn ends_leave_a_round()
     ensures { EndsLeaveARound }
 {
     costs::higher_stages_cost_more();
-    costs::rounds_are_paid();
     costs::stretches_are_the_most();
 }
 
