@@ -50,7 +50,7 @@ tasks-begin little m w e t by p goes none within look small s = record {
   state = In s.round;
   holds = begun-in e t p goes none small s.round s.alone;
   affords = less-afforded m w e p.now by (reserve s.round + (most_of t + coming (prices_of s.round e p) e (kind_of t))) (0 + left_in (In s.round) e t p)
-    (lighter (reserve s.round) (weigh t) (kept_by (end_of t) (kind_of t)) (most_of t) (coming (prices_of s.round e p) e (kind_of t)) (little t within) (keeps-none t goes)) s.affords;
+      (lighter (reserve s.round) (weigh t) (kept_by (end_of t) (kind_of t)) (most_of t) (coming (prices_of s.round e p) e (kind_of t)) (little t within) (keeps-none t goes)) s.affords;
 }
   where
     lighter : (spare own kept most price : ℕ) → own ≤ most → kept ≡ 0 → 0 + (spare + (own + kept + price)) ≤ spare + (most + price)

@@ -212,7 +212,7 @@ module _ (b : Laws) (e : Errand) (t next : AnyTask) (a up : Ascent) (quiet : e.e
     alone = alone-yet e t round p once h;
     thawed = thawed;
     affords = less-afforded m w e p.now by (0 + left_in (In round) e t p) (reserve round + (most_of next + coming (prices_of round e p) e (kind_of next)))
-      (beside (reserve round) _ _ (price-in p full round (alone-yet e t round p once h))) afford;
+        (beside (reserve round) _ _ (price-in p full round (alone-yet e t round p once h))) afford;
   }
     where
       beside : (kept price paid : ℕ) → price ≤ paid → kept + price ≤ 0 + (kept + paid)

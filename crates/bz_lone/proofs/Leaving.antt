@@ -112,7 +112,7 @@ merge-in b m w e t by p quiet write ended merge thawed (In Clean) h a =
     let small : IsSmall e p = h.small quiet merge in
     pays m w e (record e { alone = true }) by p _ refl thawed
     (rest (still_takes t) (coming (prices_in p.config (p.at p.now).image e) e (kind_of t)) _ _ merged
-      (copied (record e { alone = true }) (leaf_page p.config (image_of (p.at p.now).image) (key_of e.call)) (stage_now e p) quiet write refl small.frozen small.few)) a
+    (copied (record e { alone = true }) (leaf_page p.config (image_of (p.at p.now).image) (key_of e.call)) (stage_now e p) quiet write refl small.frozen small.few)) a
   where
     merged : coming (prices_in p.config (p.at p.now).image e) e (kind_of t) ≡ cost_of_view + (most_of_copy + cost_from 0)
     merged = ap (coming (prices_in p.config (p.at p.now).image e) e) merge ∙ comes-to-write (prices_in p.config (p.at p.now).image e) e kinds.Merge quiet write

@@ -18,7 +18,6 @@ use Rattle.bz_lone.specs.Prices.{Prices, disturbed_prices, viewed_price, clean_p
 use Rattle.bz_lone.specs.Rounds.{stage_now, LeavesAreRead, ReadLeavesArePaid}
 use Rattle.bz_lone.specs.Sum.{Round, Disturbed, Clean, reserve, prices_of, Spares, PaysForRound}
 
-
 pub leaves-read : LeavesAreRead
 leaves-read m w e by p quiet write some s = spend m w e by p _ _ hurt clean s
   where
