@@ -1,6 +1,6 @@
 -- At the end of a task.
 use Rattle.std.proofs.Common.{◌≡◌, ◌≢◌, ℕ, ◌+◌, ◌≤◌, true, false, arith, inl, inr, subst}
-use Rattle.std.specs.Prelude.{◌*◌, Bool, Some, if◌then◌else◌}
+use Rattle.std.specs.Prelude.{◌*◌, Bool, Some}
 use Rattle.bz_alone.specs.Alone.{IsAlone}
 use Rattle.bz_costs.specs.Stretches.{lone_stretch}
 use Rattle.bz_rivals.specs.Rivals.{rivals}
@@ -16,14 +16,17 @@ use Rattle.bz_lone.proofs.Sparing.{less-afforded}
 use Rattle.bz_lone.specs.Errands.{Errand, may_swap_twice}
 use Rattle.bz_lone.specs.Prices.{coming}
 use Rattle.bz_lone.specs.Rounds.{EndsAreAfforded, EndsArePaid}
-use Rattle.bz_lone.specs.Sum.{Affords, Round, Disturbed, Clean, State, In, Made, IsIn, IsMade, IsThawed, Spares, reserve, prices_of, left_in, still_takes}
+use Rattle.bz_lone.specs.Sum.{Affords, Round, Disturbed, Clean, State, In, Made, IsIn, IsMade, IsThawed, Spares, own_left, reserve, prices_of, left_in, still_takes}
 
 pub ends-afforded : EndsAreAfforded
-ends-afforded m w e t untold extra by p paid = one (e.effected) (paid.affords.enough)
+ends-afforded m w e t untold extra by p paid = one ((lone_stretch + 1) * rivals m w + left_to m w) (own_left e) (extra + left_in paid.state e t p) (some e.effected) paid.affords.enough
   where
-    one : (done : Bool) → (lone_stretch + 1) * rivals m w + left_to m w + (if done then 2 else 3) + p.now + (extra + left_in paid.state e t p) ≤ by → p.now + 1 ≤ by
-    one true l = omega (arith, l)
-    one false l = omega (arith, l)
+    some : (done : Bool) → 1 ≤ own_left (record e { effected = done })
+    some true = omega arith
+    some false = omega arith
+
+    one : (kept own rest : ℕ) → 1 ≤ own → kept + own + p.now + rest ≤ by → p.now + 1 ≤ by
+    one kept own rest l enough = omega (arith, l, enough)
 
 -- no task that was told all and has not ended well is one whose swap was made
 pub unmade : (e : Errand) (t : AnyTask) (o : Outcome) (P : Type 0) → end_of t ≡ Some o → o ≢ Done → IsMade e t 0 → P

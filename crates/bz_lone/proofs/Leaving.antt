@@ -27,7 +27,7 @@ use Rattle.bz_lone.proofs.Sparing.{less-afforded}
 use Rattle.bz_lone.specs.Errands.{Errand, is_read, is_freeze, IsLookOf, after}
 use Rattle.bz_lone.specs.Prices.{Prices, clean_prices, prices_in, way_price, coming, round_price}
 use Rattle.bz_lone.specs.Rounds.{stage_now, DisturbedRoundsArePaid, EndsLeaveARound}
-use Rattle.bz_lone.specs.Sum.{Affords, IsThawed, Round, Disturbed, Clean, State, In, Made, IsIn, IsSmall, PaysForRound, reserve, prices_of, left_in, still_takes}
+use Rattle.bz_lone.specs.Sum.{Affords, IsThawed, Round, Disturbed, Clean, State, In, Made, IsIn, IsSmall, PaysForRound, own_left, reserve, prices_of, left_in, still_takes}
 
 -- in a round that was disturbed a stretch is kept for the next one
 of-reserve : (stretch rest price : ℕ) → price ≤ stretch → price ≤ stretch + rest
@@ -36,15 +36,15 @@ of-reserve stretch rest price l = omega (arith, l)
 of-all : (stretch rest price : ℕ) → price ≤ stretch → price ≤ 0 + (stretch + rest)
 of-all stretch rest price l = omega (arith, l)
 
--- so much pays for the round of a call that has come to this, where that has had its effect just as before
-pays : (m : SwapMemory) (w : ℕ) (e next : Errand) (by : ℕ) (p : Past) (much : ℕ) → next.effected ≡ e.effected → IsThawed next → round_price (prices_in p.config (p.at p.now).image next) next ≤ much → Affords m w e p.now by much → PaysForRound m w next by p
+-- so much pays for the round of a call that has come to this, where as many marks of its own are left as before
+pays : (m : SwapMemory) (w : ℕ) (e next : Errand) (by : ℕ) (p : Past) (much : ℕ) → own_left next ≡ own_left e → IsThawed next → round_price (prices_in p.config (p.at p.now).image next) next ≤ much → Affords m w e p.now by much → PaysForRound m w next by p
 pays m w e next by p much same thawed l a = record {
   thawed = thawed;
   affords = as-before (less-afforded m w e p.now by much (round_price (prices_in p.config (p.at p.now).image next) next) l a);
 }
   where
     as-before : Affords m w e p.now by (round_price (prices_in p.config (p.at p.now).image next) next) → Affords m w next p.now by (round_price (prices_in p.config (p.at p.now).image next) next)
-    as-before b = record { enough = subst (λ (done : Bool). (lone_stretch + 1) * rivals m w + left_to m w + (if done then 2 else 3) + p.now + round_price (prices_in p.config (p.at p.now).image next) next ≤ by) (sym same) b.enough }
+    as-before b = record { enough = subst (λ (own : ℕ). (lone_stretch + 1) * rivals m w + left_to m w + own + p.now + round_price (prices_in p.config (p.at p.now).image next) next ≤ by) (sym same) b.enough }
 
 disturbed-in : Laws → (m : SwapMemory) (w : ℕ) (e : Errand) (by : ℕ) (p : Past) (price : Prices → ℕ) → (IsAlone 0 p → ⊥) → IsThawed e → (round : Round) → (round ≡ Clean → IsAlone 0 p) → Affords m w e p.now by (reserve round + price (prices_of round e p)) → PaysForRound m w e by p
 disturbed-in b m w e by p price hurt thawed Disturbed alone a = pays m w e e by p _ refl thawed (of-reserve lone_stretch _ _ (round-within b p.config (p.at p.now).image e)) a
