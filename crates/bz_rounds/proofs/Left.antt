@@ -52,10 +52,10 @@ lone-left b (Consolidating t) key words entries s y l m few = b.copies t key m.v
 lone-left b (Splitting t) key words entries s y l m few =
     b.root_leaves t key m.view.image.0 words entries s y l (viewed key m.view t.link.slot s.past m.leaf.is m.at) (record { halves = m.halves; many = m.leaf.many }) few
 lone-left b (SplittingBelow t a) key words entries s y l m few =
-    let h = m.0 in
+    let h = m.halves in
     b.leaves t key h.view.image.0 words entries s y (own _ _ _ _ entries s y l) (viewed key h.view t.lower.slot s.past h.leaf.is h.at) (record { halves = h.halves; many = h.leaf.many }) few
 lone-left b (SplittingInner t a) key words entries s y l m few =
-    has-split b.levels a key words s y l.good l.alone l.knows.1.0 (b.inners t a key words entries s y (own _ _ _ _ entries s y l) l.knows.1.0 m) (b.inners_leave t a key words entries s y (own _ _ _ _ entries s y l) l.knows.1.0 m)
+    has-split b.levels a key words s y l.good l.alone l.knows.1.0 (b.inners t a key words entries s y (own _ _ _ _ entries s y l) l.knows.1.0 m.come) (b.inners_leave t a key words entries s y (own _ _ _ _ entries s y l) l.knows.1.0 m.come)
 lone-left b (SplittingInnerRoot t a) key words entries s y l m few =
-    has-split b.levels a key words s y l.good l.alone l.knows.1.0 (b.roots t a key words entries s y (own _ _ _ _ entries s y l) l.knows.1.0 m) (b.roots_leave t a key words entries s y (own _ _ _ _ entries s y l) l.knows.1.0 m)
+    has-split b.levels a key words s y l.good l.alone l.knows.1.0 (b.roots t a key words entries s y (own _ _ _ _ entries s y l) l.knows.1.0 m.come) (b.roots_leave t a key words entries s y (own _ _ _ _ entries s y l) l.knows.1.0 m.come)
 lone-left b (Merging t) key words entries s y l m few = absurd m
