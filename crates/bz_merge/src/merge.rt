@@ -15,7 +15,7 @@ ghost use Rattle.bz_task.specs.OwnActs.{AreTakenFrom, AreUnreached, gained};
 ghost use Rattle.bz_task.specs.Requests.{Hears, Tells, IsKnown, swaps_in, effects_in};
 ghost use Rattle.bz_task.specs.Scene.{Scene, Stage, Waiting, IsScene};
 ghost use Rattle.bz_layout.specs.declared.swaps.TheConstants.{MERGE_SWAPS};
-ghost use Rattle.bz_task.specs.declared.todo.Seen.TheVariants.{Read as Was, Swapped, NoSwap as NoneLeft};
+ghost use Rattle.bz_task.specs.declared.todo.Seen.TheVariants.{Start, Read as Was, Swapped, NoSwap as NoneLeft};
 ghost use Rattle.bz_merge.specs.Counts.{merge_swaps, merge_made};
 ghost use Rattle.bz_merge.specs.Decisions.{IsParentOfLeaf, HasTold, IsWeighable, HasSettled, HasFrozen, HasFirst, HasWon, HasSwapped, MayMerge, HasBegun, HasLooked};
 ghost use Rattle.bz_merge.specs.Duties.{merging_of, asks_of, end_of, left_of, swaps_of, made_of, needs_of, basis_of, facts_of, differs_of};
@@ -339,6 +339,8 @@ impl Merge {
         ensures counted { merge_end result ≡ None → merge_made (merging_of self.now) result ≡ made_of self.now + effects_in seen }
         ensures needs { merge_needs result ≤ needs_of self.now }
         ensures done { result ≡ Phase.Done → seen ≡ Swapped true }
+        ensures last { seen ≡ Swapped true → swaps_of self.now ≡ 1 → result ≡ Phase.Done }
+        ensures only_last { result ≡ Phase.Done → swaps_of self.now ≡ 1 }
         ensures restart { result ≡ Phase.Restart → seen ≡ Swapped false }
         ensures no_swap { (result ≡ Phase.NoSwap) ↔ (seen ≡ NoneLeft) }
         ensures slots { result ≢ Phase.NoSlot }
@@ -373,7 +375,10 @@ impl Merge {
         ensures fewer { swaps_of self.new + swaps_in (asks_of self.old) ≤ swaps_of self.old }
         ensures counted { end_of self.new ≡ None → made_of self.new ≡ made_of self.old + effects_in seen }
         ensures slots { AreTakenFrom (needs_of self.old) (needs_of self.new) slots.old slots.new }
+        ensures begins { seen ≡ Start → end_of self.new ≡ None }
         ensures done { end_of self.new ≡ Some Outcome.Done → seen ≡ Swapped true }
+        ensures last { seen ≡ Swapped true → swaps_of self.old ≡ 1 → end_of self.new ≡ Some Outcome.Done }
+        ensures only_last { end_of self.new ≡ Some Outcome.Done → swaps_of self.old ≡ 1 }
         ensures restart { end_of self.new ≡ Some Outcome.Restart → (seen ≡ Swapped false) ⊎ differs_of self.old seen }
         ensures no_swap { seen ≡ NoneLeft → end_of self.new ≡ Some (Outcome.Full Spent.Swaps) }
         ensures full_swaps { end_of self.new ≡ Some (Outcome.Full Spent.Swaps) → seen ≡ NoneLeft }
