@@ -5,3 +5,5 @@ mod Rising
 mod Counting
 mod LookingUp
 mod Made
+mod Ends
+mod Going
