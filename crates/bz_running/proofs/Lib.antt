@@ -6,3 +6,5 @@ mod Counting
 mod LookingUp
 mod Made
 mod Beginning
+mod Ends
+mod Going

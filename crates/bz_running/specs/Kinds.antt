@@ -1,5 +1,5 @@
 -- Which task it is, without what it has learnt.
-use Rattle.std.specs.Prelude.{◌≡◌, ◌<◌, ◌⊎◌, ℕ, ◌-◌, List, Option, Some, None, refl}
+use Rattle.std.specs.Prelude.{◌≡◌, ◌<◌, ◌⊎◌, ℕ, ◌-◌, Bool, true, false, List, Option, Some, None, refl}
 use Rattle.bz_ascent.specs.Ascents.{IsAtLeaf}
 use Rattle.bz_ascent.specs.declared.ascent.Ascent.{Ascent}
 use Rattle.bz_task.specs.declared.path.Path.{Path}
@@ -39,6 +39,23 @@ kind_of (SplittingBelow t a) = SplitLeaf a
 kind_of (SplittingInner t a) = SplitNode a
 kind_of (SplittingInnerRoot t a) = SplitRootNode a
 kind_of (Merging t) = Merge
+
+-- the three that look up and do no more
+abbrev pub is_look : Kind → Bool
+is_look Seek = true
+is_look Find = true
+is_look ReadWhole = true
+is_look k = false
+
+-- those that freeze a leaf, or put new nodes in the place of one, by one swap
+abbrev pub is_renewal : Kind → Bool
+is_renewal Freeze = true
+is_renewal Copy = true
+is_renewal SplitRootLeaf = true
+is_renewal (SplitLeaf a) = true
+is_renewal (SplitNode a) = true
+is_renewal (SplitRootNode a) = true
+is_renewal k = false
 
 -- the level of the node to which an ascent has come: that of the leaf is 0
 abbrev pub level_of : Ascent → ℕ

@@ -361,7 +361,10 @@ impl AnyTask {
     }
 
     /// Whether it is a delete that leaves so little in its leaf that this may be merged.
-    pub fn leaves_few(&self) -> bool {
+    #[tactic(auto, unfolding(crate::specs::Kinds::kind_of))]
+    pub fn leaves_few(&self) -> bool
+        ensures { result ≡ true → kind_of self.now ≡ kind.Delete }
+    {
         match self {
             AnyTask::Deleting(task) => task.leaves_few(),
             _ => false,
