@@ -1,10 +1,7 @@
 -- A task that makes no change goes on as it begins, but for a look-up in a leaf: one that takes slots by its contract, and the others by what
 -- they may end with.
 use Rattle.std.proofs.Common.{◌≡◌, ℕ, zero, suc, ◌<◌, Option, Some, None, arith, refl, subst}
-use Rattle.bz_ascent.specs.FromBelow.Duties.{below_of, asks_below, end_below, needs_below}
-use Rattle.bz_ascent.specs.FromBelow.Facts.{Below, below_asks, below_needs}
-use Rattle.bz_ascent.specs.FromBelow.Phase.{Phase as BelowPhase}
-use Rattle.bz_ascent.specs.FromBelow.Phase.TheVariants as below
+use Rattle.bz_ascent.specs.FromBelow.Duties.{asks_below, end_below, needs_below}
 use Rattle.bz_ascent.specs.FromBelow.SplitBelow.{SplitBelow}
 use Rattle.bz_consol.specs.Duties as consol
 use Rattle.bz_consol.specs.Facts.{Renewal, consol_asks, consol_needs}
@@ -38,9 +35,6 @@ use Rattle.bz_leaf.specs.declared.read_leaf.ReadLeaf.{ReadLeaf}
 use Rattle.bz_merge.specs.Duties as merge
 use Rattle.bz_merge.specs.Facts.{merge_asks, merge_needs}
 use Rattle.bz_merge.specs.FromSplit.Duties as split
-use Rattle.bz_merge.specs.FromSplit.Facts.{Split, split_asks, split_needs}
-use Rattle.bz_merge.specs.FromSplit.Phase.{Phase as SplitPhase}
-use Rattle.bz_merge.specs.FromSplit.Phase.TheVariants as split_phase
 use Rattle.bz_merge.specs.FromSplit.SplitRoot.{SplitRoot}
 use Rattle.bz_merge.specs.Plans.{Merging as Plan}
 use Rattle.bz_merge.specs.declared.merge.Merge.{Merge}
@@ -72,13 +66,11 @@ copy-takes : (c : Config) (r : Renewal) (p : CopyPhase) → Hears (consol_asks c
 copy-takes c r copy.Fresh h = omega arith
 copy-takes c r p h = absurd h
 
-split-takes : (c : Config) (r : Split) (p : SplitPhase) → Hears (split_asks c r p) Start → 0 < split_needs p
-split-takes c r split_phase.Fresh h = omega arith
-split-takes c r p h = absurd h
+split-takes : (t : SplitRoot) → Hears (split.asks_of t) Start → 0 < split.needs_of t
+split-takes t h = grind arith
 
-below-takes : (c : Config) (r : Below) (p : BelowPhase) → Hears (below_asks c r p) Start → 0 < below_needs p
-below-takes c r below.Fresh h = omega arith
-below-takes c r p h = absurd h
+below-takes : (t : SplitBelow) → Hears (asks_below t) Start → 0 < needs_below t
+below-takes t h = grind arith
 
 fork-takes : (c : Config) (r : Fork) (p : ForkPhase) → Hears (fork_asks c r p) Start → 0 < fork_needs p
 fork-takes c r fork.Fresh h = omega arith
@@ -96,10 +88,10 @@ pub copy-begins : (t u : Consolidate) → Hears (consol.asks_of t) Start → AtO
 copy-begins t u h f = goes-on (consol.end_of u) (consol.needs_of t) (copy-takes t.config (consol.renewal_of t) t.phase h) f
 
 pub split-begins : (t u : SplitRoot) → Hears (split.asks_of t) Start → AtOnce (split.end_of u) (split.needs_of t) → split.end_of u ≡ None
-split-begins t u h f = goes-on (split.end_of u) (split.needs_of t) (split-takes t.config (split.split_of t) t.phase h) f
+split-begins t u h f = goes-on (split.end_of u) (split.needs_of t) (split-takes t h) f
 
 pub below-begins : (t u : SplitBelow) → Hears (asks_below t) Start → AtOnce (end_below u) (needs_below t) → end_below u ≡ None
-below-begins t u h f = goes-on (end_below u) (needs_below t) (below-takes t.config (below_of t) t.phase h) f
+below-begins t u h f = goes-on (end_below u) (needs_below t) (below-takes t h) f
 
 pub fork-begins : (t u : SplitInner) → Hears (asks_fork t) Start → AtOnce (end_fork u) (needs_fork t) → end_fork u ≡ None
 fork-begins t u h f = goes-on (end_fork u) (needs_fork t) (fork-takes t.config (fork_of t) t.phase h) f

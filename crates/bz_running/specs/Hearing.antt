@@ -54,8 +54,6 @@ pub record HasHeard (old : AnyTask) (seen : Seen) (moment : ℕ) (free : FreeSlo
   -- it ends with Done where the last swap that it could still ask for took effect, and nowhere else
   pub last : seen ≡ Swapped true → swaps_of old ≡ 1 → end_of new ≡ Some outcome.Done
   pub only_last : end_of new ≡ Some outcome.Done → swaps_of old ≡ 1
-  -- want of room shows as it begins, or while slots are still to be taken
-  pub crowds : end_of new ≡ Some outcome.NeedsRoom → (seen ≡ Start) ⊎ (0 < needs_of old)
   pub done : end_of new ≡ Some outcome.Done → seen ≡ Swapped true
   -- the swap that makes the change is its last act, where it takes effect
   pub published : publishing_of old ≡ true → seen ≡ Swapped true → asks_of new ≡ Some Finish
