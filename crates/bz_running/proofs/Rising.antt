@@ -5,11 +5,11 @@ use Rattle.bz_ascent.specs.Laws.{AscentsRise}
 use Rattle.bz_ascent.specs.declared.ascent.Ascent.{Ascent}
 use Rattle.bz_crown.specs.Due as crown
 use Rattle.bz_fork.specs.Due as fork
-use Rattle.bz_task.specs.Scene.{Scene, Waiting}
+use Rattle.bz_task.specs.Scene.{Scene, Waiting, IsScene}
 use Rattle.bz_task.specs.declared.todo.Outcome.TheVariants.{NeedsRoom}
 use Rattle.bz_layout.specs.declared.thresholds.TheConstants.{SPLIT_SLOTS}
 use Rattle.bz_running.specs.Ascending.{LooksUp}
-use Rattle.bz_running.specs.Duties.{config_of, wants_of, ascent_of, facts_of, means_of}
+use Rattle.bz_running.specs.Duties.{config_of, end_of, wants_of, ascent_of, facts_of, means_of}
 use Rattle.bz_running.specs.GoingUp.{MayBeSplit, IsSplitAt, GoesUp}
 use Rattle.bz_running.specs.Hearing.{IsLookup}
 use Rattle.bz_running.specs.MadeFor.{WasCrowded, IsMadeFor}
@@ -39,6 +39,12 @@ is-rising (SplittingBelow t b) a e = subst (IsRising (SplittingBelow t b)) (same
 is-rising (SplittingInner t b) a e = subst (IsRising (SplittingInner t b)) (same-ascent b a e) (record { wants = refl; knows = λ s f. f.1 })
 is-rising (SplittingInnerRoot t b) a e = subst (IsRising (SplittingInnerRoot t b)) (same-ascent b a e) (record { wants = refl; knows = λ s f. f.1 })
 is-rising (Merging t) a e = absurd (cc)
+
+pub rises-on : AscentsRise → (t : AnyTask) → Ends t → (a up : Ascent) (s : Scene) → ascent_of t ≡ Some a → IsOneUp a up → s.past.config ≡ config_of t → IsScene s → facts_of t Waiting s → end_of t ≡ Some NeedsRoom → IsAscent up s.past
+rises-on law t ends a up s is one same good f e =
+    let k = (is-rising t a is).knows s f in
+    let l = k.1.lacks up s one (ends s NeedsRoom f e).0 in
+    law a up s l.sep one good k.0 l.lacked
 
 pub goes-up : AscentsRise → (t next : AnyTask) (a up : Ascent) → Ends t → ascent_of t ≡ Some a → IsOneUp a up → IsSplitAt (config_of t) up next → GoesUp t next
 goes-up law t next a up ends is one it = record {

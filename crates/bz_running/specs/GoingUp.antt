@@ -44,6 +44,11 @@ pub record IsSplitAt (c : Config) (a : Ascent) (t : AnyTask) : Type 0 where
   -- it is made for the key of the ascent, where that begins at a leaf which has to be split
   pub made_for : (view : LeafView) (words : ℕ) (p : Past) → HasFoot a → WasCrowded a.key view p → IsMadeFor t a.key words p
 
+-- a node stands above the one to which an ascent has come
+pub record HasOneUp (a : Ascent) : Type 0 where
+  pub up : Ascent
+  pub one : IsOneUp a up
+
 -- the ascent of one split, and that of the next, which has come one node further up
 pub record IsNextUp (t next : AnyTask) : Type 0 where
   pub from : Ascent

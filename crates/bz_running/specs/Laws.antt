@@ -1,5 +1,6 @@
 -- The laws of a task, whichever it is: those that its contract gives.
 use Rattle.std.specs.Prelude.{◌≡◌, ◌≢◌, ◌≤◌, ℕ, ◌+◌, true, false, IsSome, List, Option, Some, None}
+use Rattle.bz_ascent.specs.Ascents.{IsAscent, IsOneUp}
 use Rattle.bz_ascent.specs.Full.{AreAllFull}
 use Rattle.bz_ascent.specs.declared.ascent.Ascent.{Ascent}
 use Rattle.bz_call.specs.declared.replies.Spent.TheVariants.{Height}
@@ -52,6 +53,8 @@ pub record AreLaws (t : AnyTask) : Type 0 where
   pub finish : asks_of t ≡ Some Finish → IsSome (end_of t)
   pub only : IsSome (end_of t) → asks_of t ≡ Some Finish
   pub ends : (s : Scene) (outcome : Outcome) → facts_of t Waiting s → end_of t ≡ Some outcome → means_of t outcome s × HasFilled s
+  -- where a split found no room in the node above, its ascent goes on there
+  pub rises : (a up : Ascent) (s : Scene) → ascent_of t ≡ Some a → IsOneUp a up → s.past.config ≡ config_of t → IsScene s → facts_of t Waiting s → end_of t ≡ Some NeedsRoom → IsAscent up s.past
   -- the tree is too high only where an inner node of each level above the leaf of its key was full
   pub height : (s : Scene) → IsScene s → facts_of t Waiting s → end_of t ≡ Some (Full Height) → (wants_of t ≡ SPLIT_SLOTS) × HaveFilledUp (ascent_of t) s.past
   pub effect : (s : Scene) (y : Instant) (entries : List Entry) → s.past.config ≡ config_of t → facts_of t Waiting s → IsScene s → asks_of t ≡ Some (Swap entries) → Stand entries (here s)

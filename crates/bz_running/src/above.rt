@@ -6,7 +6,7 @@ ghost use Rattle.bz_ascent.specs.Ascents.{IsOneUp};
 ghost use Rattle.bz_crown.specs.Due as crown;
 ghost use Rattle.bz_fork.specs.Due as fork;
 ghost use Rattle.bz_running.specs.Duties.{config_of, ascent_of};
-ghost use Rattle.bz_running.specs.GoingUp.{IsInScene, MayBeSplit, IsSplitAt, GoesUp};
+ghost use Rattle.bz_running.specs.GoingUp.{HasOneUp, IsInScene, MayBeSplit, IsSplitAt, GoesUp};
 
 use crate::running::AnyTask;
 use bz_ascent::Ascent;
@@ -84,6 +84,7 @@ impl AnyTask {
         ensures up { IfSome result (GoesUp self.now) }
         // it is asked in vain only where no node stands above, or that may not be split
         ensures due { (a up : Ascent) → ascent_of self.now ≡ Some a → IsOneUp a up → MayBeSplit up → IsSome result }
+        ensures stands { (a : Ascent) → ascent_of self.now ≡ Some a → 0 < a.place → HasOneUp a }
     {
         bz_ascent::laws::ascents_rise();
         self.learnt();

@@ -393,6 +393,7 @@ impl AnyTask {
         bz_consol::laws::consolidations_take_one_slot();
         bz_merge::laws::merges_take_two_slots();
         bz_ascent::laws::ascents_end();
+        bz_ascent::laws::ascents_rise();
         laws::views_stay();
         let _ended = self.ended();
         self.learnt();

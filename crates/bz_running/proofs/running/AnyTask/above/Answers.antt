@@ -39,3 +39,8 @@ pub returns-clause-due : goal.returns-clause-due
 returns-clause-due c a next is one may =
     let same : a ≡ c.in_ok-ascent.ascent = same-ascent a c.in_ok-ascent.ascent (sym is ∙ (sym c.ascent.ensures ∙ c.in_ok-ascent.was)) in
     c.split_at.ensures.due (still-due a next c.one_up.result one (subst (λ z. IsOneUp z c.one_up.result) (sym same) c.one_up.ensures) may)
+
+pub returns-clause-stands : goal.returns-clause-stands
+returns-clause-stands c a is below =
+    let same : a ≡ c.in_ok-ascent.ascent = same-ascent a c.in_ok-ascent.ascent (sym is ∙ (sym c.ascent.ensures ∙ c.in_ok-ascent.was)) in
+    record { up = c.one_up.result; one = subst (λ z. IsOneUp z c.one_up.result) (sym same) c.one_up.ensures }

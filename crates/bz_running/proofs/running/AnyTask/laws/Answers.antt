@@ -4,6 +4,7 @@ use Rattle.bz_running.proofs.Ends.{looks-take-nothing, renewals-take-one-swap, e
 use Rattle.bz_running.proofs.Going.{last-swap-publishes, goes-on-in-room}
 use Rattle.bz_running.proofs.Heights.{filled-up}
 use Rattle.bz_running.proofs.Made.{made-stays, merge-stays}
+use Rattle.bz_running.proofs.Rising.{rises-on}
 use Rattle.bz_running.proofs.Statements.{takes-few, wants-few, publishes-last}
 use Rattle.bz_running.proofs.running.AnyTask.laws.Goals as goal
 
@@ -26,6 +27,7 @@ returns c = let e = c.ended-ended.ensures in let l = c.learnt.ensures in let a =
   finish = λ f. subst IsSome e.end (e.finish f);
   only = λ k. e.only (subst IsSome (sym e.end) k);
   ends = l.ends;
+  rises = rises-on c.ascents_rise.ensures c.args.self.now l.ends;
   height = filled-up c.ascents_end.ensures c.args.self.now l.ends;
   effect = a.effect;
   took = a.took;
