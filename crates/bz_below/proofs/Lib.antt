@@ -19,3 +19,4 @@ mod Viewing
 mod NewParents
 mod Briefness
 pub mod FromSplit
+mod Beginning

@@ -15,7 +15,7 @@ ghost use Rattle.bz_task.specs.OwnActs.{AreTakenFrom, AreUnreached, gained};
 ghost use Rattle.bz_task.specs.Requests.{Hears, Tells, IsKnown, swaps_in, effects_in};
 ghost use Rattle.bz_task.specs.Scene.{Scene, Stage, Waiting, IsScene};
 ghost use Rattle.bz_layout.specs.declared.swaps.TheConstants.{RENEWAL_SWAPS};
-ghost use Rattle.bz_task.specs.declared.todo.Seen.TheVariants.{Read as Was, Swapped, NoSwap as NoneLeft};
+ghost use Rattle.bz_task.specs.declared.todo.Seen.TheVariants.{Start, Read as Was, Swapped, NoSwap as NoneLeft};
 ghost use Rattle.bz_below.specs.Duties.{below_of, asks_below, end_below, left_below, swaps_below, made_below, needs_below, facts_below, differs_below, basis_below};
 ghost use Rattle.bz_below.specs.Facts.{IsEndOfSplitBelow, below_nodes, below_acts, below_end, below_left, below_swaps, below_facts, below_means, HasRoom, HasParent, IsNewParent, HasBegunBelow, HasLookedBelow, HasOpened, HasTold, IsNotOvertaken, HasBegunOrWaits, IsReadyBelow, IsThawedAbove, WasPartedBelow, LackedPart, below_needs, word_after, store_after, flush_after};
 ghost use Rattle.bz_split.specs.Facts.{split_change};
@@ -276,6 +276,7 @@ impl SplitBelow {
         ensures counted { below_end result ≡ None → effects_in seen ≡ 0 }
         ensures needs { below_needs result ≡ 0 }
         ensures done { result ≡ Phase.Done → seen ≡ Swapped true }
+        ensures last { seen ≡ Swapped true → result ≡ Phase.Done }
         ensures restart { result ≡ Phase.Restart → seen ≡ Swapped false }
         ensures no_swap { (result ≡ Phase.NoSwap) ↔ (seen ≡ NoneLeft) }
         ensures slots { result ≢ Phase.NoSlot }
@@ -310,7 +311,9 @@ impl SplitBelow {
         ensures fewer { swaps_below self.new + swaps_in (asks_below self.old) ≤ swaps_below self.old }
         ensures counted { end_below self.new ≡ None → effects_in seen ≡ 0 }
         ensures slots { AreTakenFrom (needs_below self.old) (needs_below self.new) slots.old slots.new }
+        ensures begins { seen ≡ Start → end_below self.new ≡ None }
         ensures done { end_below self.new ≡ Some Outcome.Done → seen ≡ Swapped true }
+        ensures last { seen ≡ Swapped true → end_below self.new ≡ Some Outcome.Done }
         ensures restart { end_below self.new ≡ Some Outcome.Restart → (seen ≡ Swapped false) ⊎ differs_below self.old seen }
         ensures no_swap { seen ≡ NoneLeft → end_below self.new ≡ Some (Outcome.Full Spent.Swaps) }
         ensures full_swaps { end_below self.new ≡ Some (Outcome.Full Spent.Swaps) → seen ≡ NoneLeft }

@@ -4,3 +4,4 @@ mod Knowing
 mod Renewing
 mod Acting
 mod Viewing
+mod Beginning

@@ -8,3 +8,4 @@ mod Telling
 mod Looking
 mod Writing
 mod Viewing
+mod Beginning

@@ -11,7 +11,7 @@ ghost use Rattle.bz_task.specs.OwnActs.{AreTakenFrom, AreUnreached, gained};
 ghost use Rattle.bz_task.specs.Requests.{Hears, Tells, IsKnown, swaps_in, effects_in};
 ghost use Rattle.bz_task.specs.Scene.{Scene, Stage, Waiting, IsScene};
 ghost use Rattle.bz_layout.specs.declared.swaps.TheConstants.{RENEWAL_SWAPS};
-ghost use Rattle.bz_task.specs.declared.todo.Seen.TheVariants.{Read as Was, Swapped, NoSwap as NoneLeft};
+ghost use Rattle.bz_task.specs.declared.todo.Seen.TheVariants.{Start, Read as Was, Swapped, NoSwap as NoneLeft};
 ghost use Rattle.bz_branch.specs.FromSplit.Facts.{split_change};
 ghost use Rattle.bz_crown.specs.Due.{IsDue};
 ghost use Rattle.bz_crown.specs.Duties.{crown_of, asks_crown, basis_crown, end_crown, left_crown, swaps_crown, made_crown, needs_crown, facts_crown, differs_crown};
@@ -176,6 +176,7 @@ impl SplitInnerRoot {
         ensures counted { crown_end result ≡ None → effects_in seen ≡ 0 }
         ensures needs { crown_needs result ≡ 0 }
         ensures done { result ≡ Phase.Done → seen ≡ Swapped true }
+        ensures last { seen ≡ Swapped true → result ≡ Phase.Done }
         ensures restart { result ≡ Phase.Restart → seen ≡ Swapped false }
         ensures no_swap { (result ≡ Phase.NoSwap) ↔ (seen ≡ NoneLeft) }
         ensures slots { result ≢ Phase.NoSlot }
@@ -209,7 +210,9 @@ impl SplitInnerRoot {
         ensures fewer { swaps_crown self.new + swaps_in (asks_crown self.old) ≤ swaps_crown self.old }
         ensures counted { end_crown self.new ≡ None → effects_in seen ≡ 0 }
         ensures slots { AreTakenFrom (needs_crown self.old) (needs_crown self.new) slots.old slots.new }
+        ensures begins { seen ≡ Start → end_crown self.new ≡ None }
         ensures done { end_crown self.new ≡ Some Outcome.Done → seen ≡ Swapped true }
+        ensures last { seen ≡ Swapped true → end_crown self.new ≡ Some Outcome.Done }
         ensures restart { end_crown self.new ≡ Some Outcome.Restart → (seen ≡ Swapped false) ⊎ differs_crown self.old seen }
         ensures no_swap { seen ≡ NoneLeft → end_crown self.new ≡ Some (Outcome.Full Spent.Swaps) }
         ensures full_swaps { end_crown self.new ≡ Some (Outcome.Full Spent.Swaps) → seen ≡ NoneLeft }

@@ -13,6 +13,7 @@ ghost use Rattle.bz_task.specs.Outcomes.{IsPath};
 ghost use Rattle.bz_task.specs.Requests.{Hears, Tells, IsKnown};
 ghost use Rattle.bz_task.specs.Scene.{Scene, Stage, Waiting, IsScene, HasFilled};
 ghost use Rattle.bz_task.specs.declared.todo.Outcome.{Outcome as Ends};
+ghost use Rattle.bz_task.specs.declared.todo.Seen.TheVariants.{Start};
 ghost use Rattle.bz_task.specs.declared.todo.Todo.TheVariants.{Read};
 ghost use Rattle.bz_descend.specs.Duties.{config_of, asks_of, end_of, left_of, facts_of, means_of, differs_of};
 ghost use Rattle.bz_descend.specs.Facts.{descend_reads, descend_asks, descend_left, descend_learnt, descend_facts, descend_differs, descend_change, descend_bounds, descend_heard, IsEndOfDescent, IsInNode, IsProbe, first_of, next_phase};
@@ -109,6 +110,7 @@ impl Descend {
         ensures config { self.new.config ≡ self.old.config }
         ensures key { self.new.key ≡ self.old.key }
         ensures begun { result ≢ Phase.Fresh }
+        ensures begins { seen ≡ Start → result ≡ Phase.Guard }
         ensures nearer { descend_left self.new.path.depth result < descend_left self.old.path.depth self.old.phase }
         ensures bounds { descend_bounds self.old.config self.new.path.depth result }
         ensures restart { result ≡ Phase.Changed → descend_differs self.old.phase seen }

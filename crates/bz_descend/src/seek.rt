@@ -14,6 +14,7 @@ ghost use Rattle.bz_task.specs.Outcomes.{IsPath};
 ghost use Rattle.bz_task.specs.Requests.{Hears, Tells, IsKnown};
 ghost use Rattle.bz_task.specs.Scene.{Scene, Stage, Waiting, IsScene, HasFilled};
 ghost use Rattle.bz_task.specs.declared.todo.Outcome.{Outcome as Ends};
+ghost use Rattle.bz_task.specs.declared.todo.Seen.TheVariants.{Start};
 ghost use Rattle.bz_task.specs.declared.todo.Todo.TheVariants.{Read};
 ghost use Rattle.bz_descend.specs.Facts.{descend_change, IsEndOfDescent, IsInNode};
 ghost use Rattle.bz_descend.specs.Grounds.{Laws};
@@ -138,6 +139,7 @@ impl Seek {
         ensures asked { self.new.asked ≡ self.old.asked }
         ensures low { self.new.height < MAX_LEVELS }
         ensures begun { result ≢ Way.Fresh }
+        ensures begins { seen ≡ Start → result ≡ Way.Guard }
         ensures nearer { seek_left self.new.path.depth result < seek_left self.old.path.depth self.old.phase }
         ensures reads { reads_at self.old.path self.old.phase + asks_one result ≤ reads_at self.new.path result }
         ensures bounds { seek_bounds self.old.config self.new.path.depth result }

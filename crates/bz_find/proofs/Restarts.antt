@@ -87,3 +87,8 @@ end-counted u Of_link = refl
 end-counted u (Guard at) = refl
 end-counted u (Viewed at) = refl
 end-counted u Changed = refl
+
+-- told to begin it goes on
+pub begins-at : (t : Find) (phase : Phase) (now : ℕ) → find_end (told t phase Start now) (told t phase Start now).phase ≡ None
+begins-at t Fresh now = refl
+begins-at t phase now = refl

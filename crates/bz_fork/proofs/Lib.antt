@@ -17,3 +17,4 @@ mod Opening
 mod Telling
 mod Looking
 mod Writing
+mod Beginning

@@ -10,7 +10,7 @@ ghost use Rattle.bz_task.specs.OwnActs.{AreTakenFrom, AreUnreached, gained};
 ghost use Rattle.bz_task.specs.Requests.{Hears, Tells, IsKnown, swaps_in, effects_in};
 ghost use Rattle.bz_task.specs.Scene.{Scene, Stage, Waiting, IsScene};
 ghost use Rattle.bz_layout.specs.declared.swaps.TheConstants.{RENEWAL_SWAPS};
-ghost use Rattle.bz_task.specs.declared.todo.Seen.TheVariants.{Read as Was, Swapped, NoSwap as NoneLeft};
+ghost use Rattle.bz_task.specs.declared.todo.Seen.TheVariants.{Start, Read as Was, Swapped, NoSwap as NoneLeft};
 ghost use Rattle.bz_branch.specs.FromSplit.Facts.{split_change};
 ghost use Rattle.bz_branch.specs.Parts.{IsFullNode};
 ghost use Rattle.bz_fork.specs.Due.{IsDue};
@@ -218,6 +218,7 @@ impl SplitInner {
         ensures counted { fork_end result ≡ None → effects_in seen ≡ 0 }
         ensures needs { fork_needs result ≡ 0 }
         ensures done { result ≡ Phase.Done → seen ≡ Swapped true }
+        ensures last { seen ≡ Swapped true → result ≡ Phase.Done }
         ensures restart { result ≡ Phase.Restart → seen ≡ Swapped false }
         ensures no_swap { (result ≡ Phase.NoSwap) ↔ (seen ≡ NoneLeft) }
         ensures slots { result ≢ Phase.NoSlot }
@@ -251,7 +252,9 @@ impl SplitInner {
         ensures fewer { swaps_fork self.new + swaps_in (asks_fork self.old) ≤ swaps_fork self.old }
         ensures counted { end_fork self.new ≡ None → effects_in seen ≡ 0 }
         ensures slots { AreTakenFrom (needs_fork self.old) (needs_fork self.new) slots.old slots.new }
+        ensures begins { seen ≡ Start → end_fork self.new ≡ None }
         ensures done { end_fork self.new ≡ Some Outcome.Done → seen ≡ Swapped true }
+        ensures last { seen ≡ Swapped true → end_fork self.new ≡ Some Outcome.Done }
         ensures restart { end_fork self.new ≡ Some Outcome.Restart → (seen ≡ Swapped false) ⊎ differs_fork self.old seen }
         ensures no_swap { seen ≡ NoneLeft → end_fork self.new ≡ Some (Outcome.Full Spent.Swaps) }
         ensures full_swaps { end_fork self.new ≡ Some (Outcome.Full Spent.Swaps) → seen ≡ NoneLeft }

@@ -8,7 +8,7 @@ ghost use Rattle.bz_task.specs.Outcomes.{IsView};
 ghost use Rattle.bz_task.specs.Requests.{Hears, Tells, IsKnown, swaps_in, effects_in};
 ghost use Rattle.bz_task.specs.Scene.{Scene, Stage, Waiting, IsScene};
 ghost use Rattle.bz_layout.specs.declared.swaps.TheConstants.{FREEZE_SWAPS};
-ghost use Rattle.bz_task.specs.declared.todo.Seen.TheVariants.{Swapped, NoSwap};
+ghost use Rattle.bz_task.specs.declared.todo.Seen.TheVariants.{Start, Swapped, NoSwap};
 ghost use Rattle.bz_task.specs.Steps.{frozen_word};
 ghost use Rattle.bz_freeze.specs.Facts.{IsEndOfFreeze, WasFrozen, freeze_asks, freeze_basis, freeze_end, freeze_left, freeze_swaps, freeze_facts, freeze_means, freeze_change, entry_of};
 
@@ -97,6 +97,9 @@ impl Freeze {
         ensures counted { freeze_end result ≡ None → effects_in seen ≡ 0 }
         ensures done { result ≡ Phase.Done → seen ≡ Swapped true }
         ensures restart { result ≡ Phase.Restart → seen ≡ Swapped false }
+        ensures begins { seen ≡ Start → result ≡ Phase.Swap }
+        ensures last { seen ≡ Swapped true → result ≡ Phase.Done }
+        ensures only_last { result ≡ Phase.Done → freeze_swaps self.now.phase ≡ 1 }
         ensures full { (result ≡ Phase.Full) ↔ (seen ≡ NoSwap) }
         ensures begun { result ≢ Phase.Fresh }
         ensures config { IsConfig self.now.config }

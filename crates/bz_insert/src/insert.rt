@@ -8,7 +8,7 @@ ghost use Rattle.bz_task.specs.Outcomes.{IsKeyView};
 ghost use Rattle.bz_task.specs.Requests.{Hears, Tells, IsKnown, swaps_in, effects_in};
 ghost use Rattle.bz_task.specs.Scene.{Scene, Stage, Waiting, IsScene};
 ghost use Rattle.bz_layout.specs.declared.swaps.TheConstants.{INSERT_SWAPS};
-ghost use Rattle.bz_task.specs.declared.todo.Seen.TheVariants.{Swapped, NoSwap};
+ghost use Rattle.bz_task.specs.declared.todo.Seen.TheVariants.{Start, Swapped, NoSwap};
 ghost use Rattle.bz_record.specs.Laws.{inserts};
 ghost use Rattle.bz_record.specs.Records.{words_for, size_of, HasRoom, LacksRoom};
 ghost use Rattle.bz_insert.specs.Duties.{config_of, asks_of, end_of, left_of, swaps_of, made_of, change_of, publishing_of, facts_of, means_of};
@@ -77,6 +77,9 @@ impl Insert {
         ensures fewer { insert_swaps result + swaps_in (insert_asks self.now.config self.now.added self.now.phase) ≤ insert_swaps self.now.phase }
         ensures counted { insert_end result ≡ None → insert_made result ≡ insert_made self.now.phase + effects_in seen }
         ensures done { result ≡ Phase.Done → seen ≡ Swapped true }
+        ensures begins { seen ≡ Start → (result ≡ Phase.Reserve) ⊎ (result ≡ Phase.NeedsRoom) }
+        ensures last { seen ≡ Swapped true → insert_swaps self.now.phase ≡ 1 → result ≡ Phase.Done }
+        ensures only_last { result ≡ Phase.Done → insert_swaps self.now.phase ≡ 1 }
         ensures published { insert_publishes self.now.phase ≡ true → seen ≡ Swapped true → result ≡ Phase.Done }
         ensures restart { result ≡ Phase.Restart → seen ≡ Swapped false }
         ensures full { (result ≡ Phase.Full) ↔ (seen ≡ NoSwap) }

@@ -7,6 +7,7 @@ ghost use Rattle.bz_task.specs.Basis.{no_basis};
 ghost use Rattle.bz_task.specs.Outcomes.{IsPath, IsView};
 ghost use Rattle.bz_task.specs.Requests.{Hears, Tells, IsKnown};
 ghost use Rattle.bz_task.specs.Scene.{Scene, Stage, Waiting, IsScene, HasFilled};
+ghost use Rattle.bz_task.specs.declared.todo.Seen.TheVariants.{Start};
 ghost use Rattle.bz_leaf.specs.Duties.{config_of, asks_of, end_of, left_of, facts_of, means_of, differs_of};
 ghost use Rattle.bz_leaf.specs.Facts.{IsEndOfReading, leaf_acts, leaf_asks, leaf_left, leaf_learnt, leaf_facts, leaf_means, leaf_differs, leaf_change, leaf_places, IsAfter, IsBlank, view_of};
 
@@ -83,6 +84,7 @@ impl ReadLeaf {
         ensures path { self.new.path ≡ self.old.path }
         ensures nearer { leaf_left result < leaf_left self.old.phase }
         ensures restart { result ≡ Phase.Changed → leaf_differs self.old.link self.old.image.0 self.old.phase seen }
+        ensures begins { seen ≡ Start → result ≡ Phase.Status }
         ensures begun { result ≢ Phase.Fresh }
         ensures sizes { IsConfig self.old.config }
         ensures places { leaf_places self.old.config self.old.link result }

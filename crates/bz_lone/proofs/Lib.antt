@@ -1,0 +1,10 @@
+mod Sparing
+mod Coming
+mod Ways
+mod Pricing
+mod Reading
+mod Ends
+mod Begins
+mod Leaving
+mod Renewing
+mod Climbing

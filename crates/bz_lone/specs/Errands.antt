@@ -30,17 +30,17 @@ is_read other = false
 
 -- a get looks its key up, and a page reads its leaf; neither does anything else
 abbrev pub IsLookOf : Call → Kind → Type 0
-IsLookOf (call.Get key) kind = (kind ≡ kinds.Seek) ⊎ (kind ≡ kinds.Find)
-IsLookOf (call.Page key) kind = (kind ≡ kinds.Seek) ⊎ (kind ≡ kinds.ReadWhole)
-IsLookOf other kind = Unit {0}
+IsLookOf (call.Get key) k = (k ≡ kinds.Seek) ⊎ (k ≡ kinds.Find)
+IsLookOf (call.Page key) k = (k ≡ kinds.Seek) ⊎ (k ≡ kinds.ReadWhole)
+IsLookOf other k = Unit {0}
 
 -- the call as it is looked up once a task of this kind was done: after a freeze it reads its leaf whole
 abbrev pub is_freeze : Kind → Bool
 is_freeze kinds.Freeze = true
-is_freeze kind = false
+is_freeze other = false
 
 abbrev pub after : Errand → Kind → Errand
-after e kind = record e { froze = is_freeze kind }
+after e k = record e { froze = is_freeze k }
 
 -- a task that may have had an effect of its own while its call goes on without one, or has it now
 abbrev pub may_swap_twice : Kind → Bool
@@ -48,4 +48,4 @@ may_swap_twice kinds.Insert = true
 may_swap_twice kinds.Update = true
 may_swap_twice kinds.Delete = true
 may_swap_twice kinds.Merge = true
-may_swap_twice kind = false
+may_swap_twice other = false

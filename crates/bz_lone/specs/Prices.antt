@@ -1,6 +1,6 @@
 -- What may still come of a call after its present task, by the kind of that task: in a round in which another worker's swap took effect, in
 -- the rest of that round; in a clean one, in all rounds. It stands on the prices of what the round may still do.
-use Rattle.std.specs.Prelude.{ℕ, ◌+◌, ◌-◌, ◌*◌, ◌&&◌, max, not, nat_lt, if◌then◌else◌, Bool, true, false, List}
+use Rattle.std.specs.Prelude.{ℕ, ◌+◌, ◌-◌, ◌*◌, ◌&&◌, max, not, nat_lt, if◌then◌else◌, Bool, true}
 use Rattle.bz_call.specs.Map.{key_of}
 use Rattle.bz_content.specs.Content.{image_of}
 use Rattle.bz_costs.specs.Failing.{cost_of_lost_inner}

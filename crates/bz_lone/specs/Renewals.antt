@@ -18,7 +18,7 @@ use Rattle.bz_swap.specs.SwapMemory.{SwapMemory}
 use Rattle.bz_task.specs.Scene.{Past}
 use Rattle.bz_task.specs.declared.todo.Outcome.TheVariants.{NeedsRoom}
 use Rattle.bz_lone.specs.Errands.{Errand, is_read}
-use Rattle.bz_lone.specs.Prices.{Prices, coming}
+use Rattle.bz_lone.specs.Prices.{coming}
 use Rattle.bz_lone.specs.Rounds.{stage_now}
 use Rattle.bz_lone.specs.Sum.{Spares, IsSmall, IsPaid}
 
@@ -47,8 +47,8 @@ pub record IsAbove (t next : AnyTask) (a up : Ascent) : Type 0 where
   pub one : IsOneUp a up
   pub low : a.place < a.path.depth
   pub few : a.path.depth ≤ MAX_LEVELS
-  pub kind : ((kind_of t ≡ kinds.SplitLeaf a) × (a.place + 1 ≡ a.path.depth)) ⊎ (kind_of t ≡ kinds.SplitNode a)
-  pub next : ((kind_of next ≡ kinds.SplitNode up) × (0 < up.place)) ⊎ (kind_of next ≡ kinds.SplitRootNode up)
+  pub from : ((kind_of t ≡ kinds.SplitLeaf a) × (a.place + 1 ≡ a.path.depth)) ⊎ (kind_of t ≡ kinds.SplitNode a)
+  pub to : ((kind_of next ≡ kinds.SplitNode up) × (0 < up.place)) ⊎ (kind_of next ≡ kinds.SplitRootNode up)
 
 -- it is paid for, in a clean round where the node is one of the full ones directly above the leaf
 abbrev pub AscentsArePaid : Type 0

@@ -5,7 +5,7 @@ use Rattle.bz_call.specs.Map.{key_of}
 use Rattle.bz_costs.specs.Most.{most_of, most_of_find, most_of_leaf, IsWithinItsActs}
 use Rattle.bz_descend.specs.SeekFacts.{seek_reads}
 use Rattle.bz_machine.specs.Allowed.{for_act}
-use Rattle.bz_running.specs.Duties.{end_of, left_of, made_of, swaps_of}
+use Rattle.bz_running.specs.Duties.{end_of, left_of, made_of}
 use Rattle.bz_running.specs.Kinds as kinds
 use Rattle.bz_running.specs.Kinds.{Kind, kind_of}
 use Rattle.bz_running.specs.declared.running.AnyTask.{AnyTask}

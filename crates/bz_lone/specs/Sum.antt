@@ -1,12 +1,12 @@
 -- The one number that falls: how many marks are left to a worker that steps alone, of those by which its call is to end, and what its task and
 -- all that may come after it may still take of them.
-use Rattle.std.specs.Prelude.{◌≡◌, ◌≢◌, ◌⊎◌, ℕ, ◌+◌, ◌*◌, ◌≤◌, if◌then◌else◌, Bool, true, false, List, Option, Some, None}
+use Rattle.std.specs.Prelude.{◌≡◌, ◌≢◌, ◌⊎◌, ℕ, ◌+◌, ◌*◌, ◌≤◌, if◌then◌else◌, true, false, Option, Some, None}
 use Rattle.bz_alone.specs.Alone.{IsAlone}
 use Rattle.bz_call.specs.Map.{key_of}
 use Rattle.bz_content.specs.Content.{image_of}
 use Rattle.bz_costs.specs.Stretches.{lone_stretch}
-use Rattle.bz_costs.specs.Weights.{weigh}
-use Rattle.bz_layout.specs.declared.config.Config.{Config}
+use Rattle.bz_costs.specs.Weights.{weight, weigh}
+use Rattle.bz_layout.specs.declared.swaps.TheConstants.{RENEWAL_SWAPS}
 use Rattle.bz_rivals.specs.Rivals.{rivals}
 use Rattle.bz_running.specs.Duties.{end_of, made_of, swaps_of, makes_no_change}
 use Rattle.bz_running.specs.Kinds as kinds
@@ -17,7 +17,8 @@ use Rattle.bz_stage.specs.Stages.{leaf_page}
 use Rattle.bz_swap.specs.Alone.{left_to}
 use Rattle.bz_swap.specs.SwapMemory.{SwapMemory}
 use Rattle.bz_task.specs.Scene.{Past}
-use Rattle.bz_task.specs.declared.todo.Outcome.TheVariants.{Done, Restart}
+use Rattle.bz_task.specs.declared.todo.Outcome.{Outcome}
+use Rattle.bz_task.specs.declared.todo.Outcome.TheVariants.{Done, NeedsRoom, Restart}
 use Rattle.bz_lone.specs.Errands.{Errand, is_read, IsLookOf, may_swap_twice, after}
 use Rattle.bz_lone.specs.Prices.{Prices, disturbed_prices, prices_in, coming, round_price}
 
@@ -94,10 +95,19 @@ IsIn (In Disturbed) e t untold p = Unit {0}
 IsIn (In Clean) e t untold p = IsClean e t untold p
 IsIn Made e t untold p = IsMade e t untold
 
+-- the split of an inner node that ended for want of room has asked for no swap: what that was allowed is kept for the split above
+abbrev pub kept_by : Option Outcome → Kind → ℕ
+kept_by (Some NeedsRoom) (kinds.SplitNode a) = weight 0 RENEWAL_SWAPS
+kept_by ended other = 0
+
+-- what a task may still take, and leaves to the next one of its round
+abbrev pub still_takes : AnyTask → ℕ
+still_takes t = weigh t + kept_by (end_of t) (kind_of t)
+
 -- what its task and all that comes after it may still take
 abbrev pub left_in : State → Errand → AnyTask → Past → ℕ
-left_in (In round) e t p = reserve round + (weigh t + coming (prices_of round e p) e (kind_of t))
-left_in Made e t p = weigh t + round_price (prices_in p.config (p.at p.now).image (after e (kind_of t))) (after e (kind_of t))
+left_in (In round) e t p = reserve round + (still_takes t + coming (prices_of round e p) e (kind_of t))
+left_in Made e t p = still_takes t + round_price (prices_in p.config (p.at p.now).image (after e (kind_of t))) (after e (kind_of t))
 
 -- its call ends by this number of marks, if its worker steps alone from now on; of what its task asks for so much was not started yet
 pub record IsPaid (m : SwapMemory) (w : ℕ) (e : Errand) (t : AnyTask) (untold extra by : ℕ) (p : Past) : Type 0 where

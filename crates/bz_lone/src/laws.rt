@@ -4,6 +4,8 @@ ghost use Rattle.bz_lone.specs.Renewals.{RenewalsArePaid, AscentsArePaid};
 ghost use Rattle.bz_lone.specs.Rounds.{LessIsSpared, EndsAreAfforded, EndsArePaid, WaysArePaid, ChangesArePaid, LeavesAreRead, ReadLeavesArePaid, TasksMayBegin, RoundsBegin, DisturbedRoundsArePaid, EndsLeaveARound};
 ghost use Rattle.bz_lone.specs.Steps.{AnyCallIsPaid, QuietStepsArePaid, ForeignEffectsArePaid, EffectMarksArePaid, LessIsPaid, OwnEffectsArePaid, HearingsArePaid, StartsArePaid};
 
+use bz_costs::laws as costs;
+
 /// Whatever a call has come to, it ends within what the configuration tells.
 pub fn any_call_is_paid()
     ensures { AnyCallIsPaid }
@@ -77,12 +79,17 @@ pub fn leaves_are_read()
 /// What comes after that is paid for.
 pub fn read_leaves_are_paid()
     ensures { ReadLeavesArePaid }
-{}
+{
+    costs::higher_stages_cost_more();
+    costs::stretches_are_the_most();
+}
 
 /// A task that is spared may begin.
 pub fn tasks_may_begin()
     ensures { TasksMayBegin }
-{}
+{
+    costs::tasks_weigh_little();
+}
 
 /// A round that is paid for may begin.
 pub fn rounds_begin()
@@ -92,19 +99,32 @@ pub fn rounds_begin()
 /// A round is paid for where the one before was disturbed.
 pub fn disturbed_rounds_are_paid()
     ensures { DisturbedRoundsArePaid }
-{}
+{
+    costs::higher_stages_cost_more();
+    costs::stretches_are_the_most();
+}
 
 /// And after the end of a task that left the leaf better than it was.
 pub fn ends_leave_a_round()
     ensures { EndsLeaveARound }
-{}
+{
+    costs::higher_stages_cost_more();
+    costs::stretches_are_the_most();
+}
 
 /// What is done to a leaf without room is paid for.
 pub fn renewals_are_paid()
     ensures { RenewalsArePaid }
-{}
+{
+    costs::rounds_are_paid();
+}
 
 /// So is what is done to the full nodes above it.
 pub fn ascents_are_paid()
     ensures { AscentsArePaid }
-{}
+{
+    costs::rounds_are_paid();
+    costs::splits_are_paid();
+    bz_below::laws::want_of_room_costs_little();
+    bz_fork::laws::want_of_room_costs_little();
+}

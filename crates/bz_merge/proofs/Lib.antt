@@ -24,3 +24,4 @@ mod Looking
 mod Viewing
 mod Ending
 mod Needing
+mod Beginning

@@ -124,6 +124,8 @@ pub record Comes (r : Merging) (phase : Phase) (seen : Seen) (q : Phase) : Type 
   pub counted : merge_end q ≡ None → merge_made r q ≡ merge_made r phase + effects_in seen
   pub needs : merge_needs q ≤ merge_needs phase
   pub done : q ≡ Done → seen ≡ Swapped true
+  pub last : seen ≡ Swapped true → merge_swaps phase ≡ 1 → q ≡ Done
+  pub only_last : q ≡ Done → merge_swaps phase ≡ 1
   pub restart : q ≡ Restart → seen ≡ Swapped false
   pub no_swap : (q ≡ NoSwap) ↔ (seen ≡ NoneLeft)
   pub slots : q ≢ NoSlot
@@ -132,6 +134,9 @@ pub record Comes (r : Merging) (phase : Phase) (seen : Seen) (q : Phase) : Type 
 none-won : (seen : Seen) (won : Bool) → seen ≡ Swapped won → seen ≡ NoneLeft → ⊥
 none-won seen won a b = let h = sym a ∙ b in absurd (cc)
 
+none-lost : (seen : Seen) → seen ≡ Swapped false → seen ≡ Swapped true → ⊥
+none-lost seen a b = let h = sym a ∙ b in absurd (cc)
+
 pub comes : (r : Merging) (phase : Phase) (seen : Seen) (q : Phase) → IsSwapping phase → IsThawed r phase → HasSwapped r phase seen q → Comes r phase seen q
 comes r phase seen NoSwap w thawed h = record {
   nearer = some-left r.right phase w;
@@ -139,6 +144,8 @@ comes r phase seen NoSwap w thawed h = record {
   counted = λ e. absurd (cc);
   needs = omega arith;
   done = λ e. absurd (cc);
+  last = λ a n. absurd (none-won seen true a h);
+  only_last = λ e. absurd (cc);
   restart = λ e. absurd (cc);
   no_swap = (λ e. h, λ e. refl);
   slots = λ e. absurd (cc);
@@ -150,6 +157,8 @@ comes r phase seen Restart w thawed h = record {
   counted = λ e. absurd (cc);
   needs = omega arith;
   done = λ e. absurd (cc);
+  last = λ a n. absurd (none-lost seen h a);
+  only_last = λ e. absurd (cc);
   restart = λ e. h;
   no_swap = (λ e. absurd (cc), λ e. absurd (none-won seen false h e));
   slots = λ e. absurd (cc);
@@ -161,6 +170,8 @@ comes r phase seen FreezeBeside w thawed h = record {
   counted = λ e. omega (arith, one-freeze r.status (thawed.own h.1.0), ap (merge_made r) h.1.0, ap effects_in h.0);
   needs = omega (arith, ap merge_needs h.1.0);
   done = λ e. absurd (cc);
+  last = λ a n. absurd (omega (arith, n, ap merge_swaps h.1.0));
+  only_last = λ e. absurd (cc);
   restart = λ e. absurd (cc);
   no_swap = (λ e. absurd (cc), λ e. absurd (none-won seen true h.0 e));
   slots = λ e. absurd (cc);
@@ -175,6 +186,8 @@ comes r phase seen Guard w thawed h = record {
   ];
   needs = elim h.1 [ inl a ↦ omega (arith, ap merge_needs a.0) | inr a ↦ omega (arith, ap merge_needs a) ];
   done = λ e. absurd (cc);
+  last = λ a n. absurd (elim h.1 [ inl w ↦ omega (arith, n, ap merge_swaps w.0) | inr w ↦ omega (arith, n, ap merge_swaps w) ]);
+  only_last = λ e. absurd (cc);
   restart = λ e. absurd (cc);
   no_swap = (λ e. absurd (cc), λ e. absurd (none-won seen true h.0 e));
   slots = λ e. absurd (cc);
@@ -186,6 +199,8 @@ comes r phase seen Done w thawed h = record {
   counted = λ e. absurd (cc);
   needs = omega arith;
   done = λ e. h.0;
+  last = λ a n. refl;
+  only_last = λ e. ap merge_swaps h.1;
   restart = λ e. absurd (cc);
   no_swap = (λ e. absurd (cc), λ e. absurd (none-won seen true h.0 e));
   slots = λ e. absurd (cc);

@@ -1,5 +1,6 @@
 -- A merge as a task.
-use Rattle.std.specs.Prelude.{ℕ, zero, suc, List, Option, slice_index}
+use Rattle.std.specs.Prelude.{ℕ, zero, suc, List, [], ◌∷◌, Option, slice_index}
+use Rattle.bz_task.specs.Basis.{Basis}
 use Rattle.bz_task.specs.Scene.{Scene, Stage}
 use Rattle.bz_task.specs.declared.todo.Outcome.{Outcome}
 use Rattle.bz_task.specs.declared.todo.Seen.{Seen}
@@ -46,6 +47,10 @@ made_of t = merge_made (merging_of t) t.phase
 
 abbrev pub needs_of : Merge → ℕ
 needs_of t = merge_needs t.phase
+
+-- the leaf that was viewed, and its status then
+abbrev pub basis_of : Merge → Basis
+basis_of t = record { slot = t.lower.slot; nodes = (t.status ∷ []) ∷ [] }
 
 abbrev pub facts_of : Merge → Stage → Scene → Type 0
 facts_of t = merge_facts (merging_of t) t.phase

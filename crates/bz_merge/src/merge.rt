@@ -10,16 +10,15 @@ ghost use Rattle.bz_renew.specs.Due.{LeadsTo};
 ghost use Rattle.bz_renew.specs.Nodes.{word_value};
 ghost use Rattle.bz_slotted.specs.Readers.{live_of};
 ghost use Rattle.bz_slotted.specs.ReadingLaws.{node_of};
-ghost use Rattle.bz_task.specs.Basis.{no_basis};
 ghost use Rattle.bz_task.specs.Outcomes.{IsPath, IsView};
 ghost use Rattle.bz_task.specs.OwnActs.{AreTakenFrom, AreUnreached, gained};
 ghost use Rattle.bz_task.specs.Requests.{Hears, Tells, IsKnown, swaps_in, effects_in};
 ghost use Rattle.bz_task.specs.Scene.{Scene, Stage, Waiting, IsScene};
 ghost use Rattle.bz_layout.specs.declared.swaps.TheConstants.{MERGE_SWAPS};
-ghost use Rattle.bz_task.specs.declared.todo.Seen.TheVariants.{Read as Was, Swapped, NoSwap as NoneLeft};
+ghost use Rattle.bz_task.specs.declared.todo.Seen.TheVariants.{Start, Read as Was, Swapped, NoSwap as NoneLeft};
 ghost use Rattle.bz_merge.specs.Counts.{merge_swaps, merge_made};
 ghost use Rattle.bz_merge.specs.Decisions.{IsParentOfLeaf, HasTold, IsWeighable, HasSettled, HasFrozen, HasFirst, HasWon, HasSwapped, MayMerge, HasBegun, HasLooked};
-ghost use Rattle.bz_merge.specs.Duties.{merging_of, asks_of, end_of, left_of, swaps_of, made_of, needs_of, facts_of, differs_of};
+ghost use Rattle.bz_merge.specs.Duties.{merging_of, asks_of, end_of, left_of, swaps_of, made_of, needs_of, basis_of, facts_of, differs_of};
 ghost use Rattle.bz_merge.specs.Facts.{merge_acts, merge_end, merge_left, merge_needs, merge_facts, merge_means, merge_change, WasMerged, NoneFitted, IsReady, WritesOrSwaps, IsSwapping, word_after, beside_after, store_after, flush_after};
 ghost use Rattle.bz_merge.specs.Plans.{merge_nodes, viewed_leaf, beside_leaf, first_of, second_of};
 ghost use Rattle.bz_merge.specs.Thawed.{IsThawedAbove};
@@ -89,6 +88,8 @@ impl Merge {
         ensures swaps { ⟦<Merge as Task>⟧.swaps result ≡ MERGE_SWAPS }
         ensures made { ⟦<Merge as Task>⟧.made result ≡ 0 }
         ensures needs { ⟦<Merge as Task>⟧.needs result ≡ MERGE_SLOTS }
+        ensures slot { (⟦<Merge as Task>⟧.basis result).slot ≡ view.slot }
+        ensures status { result.status ≡ view.status }
         ensures change { ⟦<Merge as Task>⟧.change result ≡ merge_change }
         ensures facts { (key : List ℕ) (s : Scene) → s.past.config ≡ config.now → IsScene s → IsPath key path s.past → IsView key view s.past → ⟦<Merge as Task>⟧.facts result Waiting s }
         ensures done { (upper lower : Link) (s : Scene) → slice_get path.links (path.depth - 2) ≡ Some upper → slice_get path.links (path.depth - 1) ≡ Some lower → ⟦<Merge as Task>⟧.means result Outcome.Done s → WasMerged upper lower view.image.0 s.past }
@@ -338,6 +339,8 @@ impl Merge {
         ensures counted { merge_end result ≡ None → merge_made (merging_of self.now) result ≡ made_of self.now + effects_in seen }
         ensures needs { merge_needs result ≤ needs_of self.now }
         ensures done { result ≡ Phase.Done → seen ≡ Swapped true }
+        ensures last { seen ≡ Swapped true → swaps_of self.now ≡ 1 → result ≡ Phase.Done }
+        ensures only_last { result ≡ Phase.Done → swaps_of self.now ≡ 1 }
         ensures restart { result ≡ Phase.Restart → seen ≡ Swapped false }
         ensures no_swap { (result ≡ Phase.NoSwap) ↔ (seen ≡ NoneLeft) }
         ensures slots { result ≢ Phase.NoSlot }
@@ -363,6 +366,7 @@ impl Merge {
         ensures config { self.new.config ≡ self.old.config }
         ensures upper { self.new.upper ≡ self.old.upper }
         ensures lower { self.new.lower ≡ self.old.lower }
+        ensures status { self.new.status ≡ self.old.status }
         ensures leaf { self.new.leaf ≡ self.old.leaf }
         ensures known { IsConfig self.new.config }
         ensures begun { self.new.phase ≢ Phase.Fresh }
@@ -371,7 +375,10 @@ impl Merge {
         ensures fewer { swaps_of self.new + swaps_in (asks_of self.old) ≤ swaps_of self.old }
         ensures counted { end_of self.new ≡ None → made_of self.new ≡ made_of self.old + effects_in seen }
         ensures slots { AreTakenFrom (needs_of self.old) (needs_of self.new) slots.old slots.new }
+        ensures begins { seen ≡ Start → end_of self.new ≡ None }
         ensures done { end_of self.new ≡ Some Outcome.Done → seen ≡ Swapped true }
+        ensures last { seen ≡ Swapped true → swaps_of self.old ≡ 1 → end_of self.new ≡ Some Outcome.Done }
+        ensures only_last { end_of self.new ≡ Some Outcome.Done → swaps_of self.old ≡ 1 }
         ensures restart { end_of self.new ≡ Some Outcome.Restart → (seen ≡ Swapped false) ⊎ differs_of self.old seen }
         ensures no_swap { seen ≡ NoneLeft → end_of self.new ≡ Some (Outcome.Full Spent.Swaps) }
         ensures full_swaps { end_of self.new ≡ Some (Outcome.Full Spent.Swaps) → seen ≡ NoneLeft }
@@ -553,7 +560,7 @@ impl Task for Merge {
 
     ghost change = { λ t. merge_change };
 
-    ghost basis = { λ t. no_basis };
+    ghost basis = { basis_of };
 
     ghost publishing = { λ t. false };
 

@@ -8,7 +8,7 @@ ghost use Rattle.bz_task.specs.Outcomes.{IsKeyView, payload_of};
 ghost use Rattle.bz_task.specs.Requests.{Hears, Tells, IsKnown, swaps_in, effects_in};
 ghost use Rattle.bz_task.specs.Scene.{Scene, Stage, Waiting, IsScene};
 ghost use Rattle.bz_layout.specs.declared.swaps.TheConstants.{DELETE_SWAPS};
-ghost use Rattle.bz_task.specs.declared.todo.Seen.TheVariants.{Swapped, NoSwap};
+ghost use Rattle.bz_task.specs.declared.todo.Seen.TheVariants.{Start, Swapped, NoSwap};
 ghost use Rattle.bz_record.specs.declared.found_record.FoundRecord.{FoundRecord};
 ghost use Rattle.bz_mutate.specs.Viewed.{IsVisible, IsFound};
 ghost use Rattle.bz_mutate.specs.DeleteDuties.{config_of, asks_of, end_of, left_of, swaps_of, change_of, publishing_of, facts_of, means_of};
@@ -87,6 +87,9 @@ impl Delete {
         ensures fewer { delete_swaps result + swaps_in (delete_asks self.now.config self.now.view self.now.phase) ≤ delete_swaps self.now.phase }
         ensures counted { delete_end result ≡ None → effects_in seen ≡ 0 }
         ensures done { result ≡ DeletePhase.Done → seen ≡ Swapped true }
+        ensures begins { seen ≡ Start → IsFirst result }
+        ensures last { seen ≡ Swapped true → result ≡ DeletePhase.Done }
+        ensures only_last { result ≡ DeletePhase.Done → delete_swaps self.now.phase ≡ 1 }
         ensures published { delete_publishes self.now.phase ≡ true → seen ≡ Swapped true → result ≡ DeletePhase.Done }
         ensures restart { result ≡ DeletePhase.Restart → seen ≡ Swapped false }
         ensures full { (result ≡ DeletePhase.Full) ↔ (seen ≡ NoSwap) }

@@ -9,7 +9,7 @@ ghost use Rattle.bz_task.specs.Outcomes.{IsKeyView, payload_of};
 ghost use Rattle.bz_task.specs.Requests.{Hears, Tells, IsKnown, swaps_in, effects_in};
 ghost use Rattle.bz_task.specs.Scene.{Scene, Stage, Waiting, IsScene};
 ghost use Rattle.bz_layout.specs.declared.swaps.TheConstants.{UPDATE_SWAPS};
-ghost use Rattle.bz_task.specs.declared.todo.Seen.TheVariants.{Swapped, NoSwap};
+ghost use Rattle.bz_task.specs.declared.todo.Seen.TheVariants.{Start, Swapped, NoSwap};
 ghost use Rattle.bz_record.specs.Records.{words_for, size_of, HasRoom, LacksRoom};
 ghost use Rattle.bz_record.specs.declared.found_record.FoundRecord.{FoundRecord};
 ghost use Rattle.bz_mutate.specs.Viewed.{IsVisible, IsFound};
@@ -79,6 +79,9 @@ impl Update {
         ensures fewer { update_swaps result + swaps_in (update_asks self.now.config self.now.added self.now.phase) ≤ update_swaps self.now.phase }
         ensures counted { update_end result ≡ None → update_made result ≡ update_made self.now.phase + effects_in seen }
         ensures done { result ≡ UpdatePhase.Done → seen ≡ Swapped true }
+        ensures begins { seen ≡ Start → IsFirst result }
+        ensures last { seen ≡ Swapped true → update_swaps self.now.phase ≡ 1 → result ≡ UpdatePhase.Done }
+        ensures only_last { result ≡ UpdatePhase.Done → update_swaps self.now.phase ≡ 1 }
         ensures published { update_publishes self.now.phase ≡ true → seen ≡ Swapped true → result ≡ UpdatePhase.Done }
         ensures restart { result ≡ UpdatePhase.Restart → seen ≡ Swapped false }
         ensures full { (result ≡ UpdatePhase.Full) ↔ (seen ≡ NoSwap) }

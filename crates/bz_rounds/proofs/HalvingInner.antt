@@ -1,5 +1,7 @@
 -- The swap of the split of an inner node puts its halves in its place below a new parent.
 use Rattle.std.proofs.Common.{◌≡◌, ◌≢◌, ℕ, ◌<◌, List, [], ◌∷◌, Some, arith, refl, sym, ap, subst, ◌∙◌, inl, inr}
+use Rattle.bz_ascent.specs.Ascents.{IsAscent}
+use Rattle.bz_ascent.specs.declared.ascent.Ascent.{Ascent}
 use Rattle.bz_layout.specs.declared.config.Config.{Config}
 use Rattle.bz_layout.specs.declared.thresholds.TheConstants.{SPLIT_SLOTS}
 use Rattle.bz_node.specs.Reading.{children_in}
@@ -24,22 +26,26 @@ use Rattle.bz_split.specs.Facts.{SPLIT_WORDS, SPLIT_LINES}
 use Rattle.bz_branch.specs.InnerSplits.{both_freezings, inner_swap}
 use Rattle.bz_branch.specs.Nodes.{IsOpenLink}
 use Rattle.bz_branch.proofs.Standing.{node-below}
-use Rattle.bz_fork.specs.Duties.{fork_of}
+use Rattle.bz_fork.specs.Duties.{asks_fork, facts_fork, fork_of}
 use Rattle.bz_fork.specs.Facts.{Fork, IsSplitting, fork_asks, fork_facts, parent_words}
 use Rattle.bz_fork.specs.declared.phase.Phase.{Phase}
 use Rattle.bz_fork.specs.declared.phase.Phase.TheVariants.{Swap}
-use Rattle.bz_stage.specs.Laws.{InnerSplitsLowerTheStage, PathsAreOfKeys}
+use Rattle.bz_fork.specs.declared.split_inner.SplitInner.{SplitInner}
+use Rattle.bz_stage.specs.Laws.{InnerSplitsLowerTheStage, LeavesALevel, SplitsLeaveALevel, PathsAreOfKeys}
 use Rattle.bz_stage.specs.Made.{MadeInnersTakeTheirEntries}
 use Rattle.bz_stage.specs.Paths.{on_path}
 use Rattle.bz_stage.specs.Swaps.{IsRoomyInner}
 use Rattle.bz_alone.specs.Laws.{InnerSplitsGoOn}
 use Rattle.bz_alone.specs.Quiet.{IsQuietSince}
-use Rattle.bz_alone.specs.FromRunning.MadeFor.{WasCrowded}
+use Rattle.bz_alone.specs.FromRunning.MadeFor.{HasComeTo, WasCrowded}
 use Rattle.bz_rounds.specs.Crowded.{IsRisen, AscentsAreCrowded}
 use Rattle.bz_rounds.specs.Falls.{Falls}
 use Rattle.bz_rounds.specs.Laws.{LoneInnerSplitsLowerTheStage}
+use Rattle.bz_rounds.specs.Left.{LoneInnerSplitsLeaveALevel}
+use Rattle.bz_rounds.specs.Lone.{IsLoneSwap}
 use Rattle.bz_rounds.proofs.Lone.{Basis, tree-now, fits-now, same-entries}
 use Rattle.bz_rounds.proofs.Made.{IsFew, left-few, right-few}
+use Rattle.bz_rounds.proofs.Nodes.{SplitsNode}
 use Rattle.bz_rounds.proofs.Parents.{Links, node-leads, node-place, node-words, node-freezable, not-above}
 use Rattle.bz_tally.proofs.Links.{in-parent, out-one, out-two}
 use Rattle.bz_tally.proofs.Splitting.{Holds, IsReady, after, splits}
@@ -58,7 +64,6 @@ pub record Laws : Type 0 where
   pub made : MadeInnersTakeTheirEntries
   pub paths : PathsAreOfKeys
   pub crowded : AscentsAreCrowded
-  pub lower : InnerSplitsLowerTheStage
 
 module _ (b : Laws) (r : Fork) (s : Scene) (y : Instant) (good : IsScene s) (quiet : IsQuietSince s.past.since s.past) (f : IsSplitting r SPLIT_WORDS SPLIT_LINES s) where
   abbrev c : Config
@@ -186,8 +191,10 @@ swapping : (c : Config) (r : Fork) (phase : Phase) (s : Scene) (entries : List E
 swapping c r Swap s entries f e = (f.1, same-entries (inner_swap c r.upper r.middle r.lower (r.slot 0)) entries e)
 swapping c r phase s entries f e = absurd (cc)
 
-pub inner-halves : Laws → LoneInnerSplitsLowerTheStage
-inner-halves b t a key words entries s y l up-to come =
+-- the split of the node to which an ascent has come
+halves-node : Laws → (t : SplitInner) (a : Ascent) (key : List ℕ) (entries : List Entry) (s : Scene) (y : Instant) → IsLoneSwap t.config (asks_fork t) (facts_fork t) entries s y → IsAscent a s.past → HasComeTo key t.middle.slot a s.past
+    → SplitsNode s.past.config (image_of (here s).image) (image_of y.image) a.key ((form_at s.past.config (here s)).level a.node.slot)
+halves-node b t a key entries s y l up-to come =
     let r : Fork = fork_of t in
     let f = swapping t.config r t.phase s entries l.knows l.asks in
     let quiet : IsQuietSince s.past.since s.past = b.basis.lonely.whole s l.good l.alone in
@@ -196,12 +203,32 @@ inner-halves b t a key words entries s y l up-to come =
     let crowded : WasCrowded a.key come.view s.past = subst (λ k. WasCrowded k come.view s.past) (sym come.key_is) come.leaf in
     let up : IsRisen a s = b.crowded a come.view s l.good l.alone up-to crowded in
     let n : ℕ = (form_at s.past.config (here s)).level a.node.slot in
-    let some : 0 < n = subst (λ k. 0 < (form_at s.past.config (here s)).level k) (sym come.node) (high b r s y l.good quiet f.0) in
     let below : a.node.slot ≢ s.past.config.nodes = λ e. absurd (omega (arith, e, come.node, node-below s t.middle.slot t.lower l.good f.0.planned.links.node)) in
     let within : n < (view_in s.past.config (here s).image).height = ((fits-now b.basis s l.good).hangs a.node.slot up.stands.inside below).lower in
     let on : on_path (view_in s.past.config (here s).image) a.key n ≡ t.middle.slot = (b.paths (view_in s.past.config (here s).image) a.key n a.node.slot (tree-now b.basis s l.good) (omega (arith, within))).0 up.stands ∙ come.node in
     let d = halved b r s y l.good quiet f.0 (subst (λ z. SwapsTo s.past.config z (here s) y) (sym is) l.leads) (subst (λ z. Stand z (here s)) (sym is) stand) in
-    let fall : Falls s.past.config (here s) y a.key words =
-    b.lower s.past.config (image_of (here s).image) (image_of y.image) a.key words n (r.slot 0) (r.slot 1) (r.slot 2) f.0.halves.cut f.0.planned.sep (tree-now b.basis s l.good) some up.crowded
-    (subst (λ (k : ℕ). Splits s.past.config (image_of (here s).image) (image_of y.image) k (r.slot 0) (r.slot 1) (r.slot 2) f.0.halves.cut f.0.planned.sep) (sym on) d.0) d.1.0 d.1.1 in
-    subst (λ k. Falls s.past.config (here s) y k words) come.key_is fall
+    record {
+      tree = tree-now b.basis s l.good;
+      some = subst (λ k. 0 < (form_at s.past.config (here s)).level k) (sym come.node) (high b r s y l.good quiet f.0);
+      crowded = up.crowded;
+      above = r.slot 0;
+      left = r.slot 1;
+      right = r.slot 2;
+      cut = f.0.halves.cut;
+      separator = f.0.planned.sep;
+      splits = subst (λ (k : ℕ). Splits s.past.config (image_of (here s).image) (image_of y.image) k (r.slot 0) (r.slot 1) (r.slot 2) f.0.halves.cut f.0.planned.sep) (sym on) d.0;
+      left_roomy = d.1.0;
+      right_roomy = d.1.1;
+    }
+
+pub inner-halves : Laws → InnerSplitsLowerTheStage → LoneInnerSplitsLowerTheStage
+inner-halves b lower t a key words entries s y l up-to come =
+    let z : SplitsNode s.past.config (image_of (here s).image) (image_of y.image) a.key ((form_at s.past.config (here s)).level a.node.slot) = halves-node b t a key entries s y l up-to come in
+    subst (λ k. Falls s.past.config (here s) y k words) come.key_is
+    (lower s.past.config (image_of (here s).image) (image_of y.image) a.key words ((form_at s.past.config (here s)).level a.node.slot) z.above z.left z.right z.cut z.separator z.tree z.some z.crowded z.splits z.left_roomy z.right_roomy)
+
+pub inner-halves-leave : Laws → SplitsLeaveALevel → LoneInnerSplitsLeaveALevel
+inner-halves-leave b leave t a key words entries s y l up-to come =
+    let z : SplitsNode s.past.config (image_of (here s).image) (image_of y.image) a.key ((form_at s.past.config (here s)).level a.node.slot) = halves-node b t a key entries s y l up-to come in
+    subst (λ k. LeavesALevel s.past.config (image_of y.image) k words ((form_at s.past.config (here s)).level a.node.slot)) come.key_is
+    (leave.inner s.past.config (image_of (here s).image) (image_of y.image) a.key words ((form_at s.past.config (here s)).level a.node.slot) z.above z.left z.right z.cut z.separator z.tree z.some z.crowded z.splits z.left_roomy z.right_roomy)

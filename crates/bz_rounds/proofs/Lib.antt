@@ -4,8 +4,12 @@ pub mod Freezing
 mod HalvingBelow
 mod HalvingInner
 pub mod Lacking
+mod Lasting
+mod Left
+mod Levels
 pub mod Lone
 mod Made
+mod Nodes
 mod Parents
 mod PartingRoot
 mod Rising
@@ -13,5 +17,6 @@ mod RootHalving
 mod Seeing
 mod Staying
 mod Thawed
+mod Viewing
 mod Wanting
 mod Whichever

@@ -1,6 +1,8 @@
 -- The swap of the split of an inner root puts a new root over its halves.
 use Rattle.std.proofs.Common.{◌≡◌, ℕ, ◌+◌, ◌-◌, ◌<◌, List, [], ◌∷◌, Some, arith, refl, sym, ap, subst, ◌∙◌}
 use Rattle.std.specs.Prelude.{None}
+use Rattle.bz_ascent.specs.Ascents.{IsAscent}
+use Rattle.bz_ascent.specs.declared.ascent.Ascent.{Ascent}
 use Rattle.bz_layout.specs.declared.config.Config.{Config}
 use Rattle.bz_layout.specs.declared.sizes.TheConstants.{ROOT_AT}
 use Rattle.bz_layout.specs.declared.thresholds.TheConstants.{SPLIT_SLOTS}
@@ -34,22 +36,26 @@ use Rattle.bz_split.specs.BelowSplits.{parent_freezing, below_swap}
 use Rattle.bz_split.specs.Facts.{SPLIT_WORDS, SPLIT_LINES}
 use Rattle.bz_branch.specs.Nodes.{IsOpenLink}
 use Rattle.bz_branch.proofs.Standing.{node-below}
-use Rattle.bz_crown.specs.Duties.{crown_of}
+use Rattle.bz_crown.specs.Duties.{asks_crown, facts_crown, crown_of}
 use Rattle.bz_crown.specs.Facts.{Crown, IsSplitting, crown_asks, crown_facts}
 use Rattle.bz_crown.specs.declared.phase.Phase.{Phase}
 use Rattle.bz_crown.specs.declared.phase.Phase.TheVariants.{Swap}
-use Rattle.bz_stage.specs.Laws.{RootSplitsLowerTheStage}
+use Rattle.bz_crown.specs.declared.split_inner_root.SplitInnerRoot.{SplitInnerRoot}
+use Rattle.bz_stage.specs.Laws.{RootSplitsLowerTheStage, LeavesALevel, SplitsLeaveALevel}
 use Rattle.bz_stage.specs.Made.{MadeInnersTakeTheirEntries}
 use Rattle.bz_stage.specs.Stages.{root_level}
 use Rattle.bz_stage.specs.Swaps.{IsCrowdedBelow, IsRoomyInner}
 use Rattle.bz_alone.specs.Laws.{InnerRootSplitsGoOn}
 use Rattle.bz_alone.specs.Quiet.{IsQuietSince}
-use Rattle.bz_alone.specs.FromRunning.MadeFor.{WasCrowded}
+use Rattle.bz_alone.specs.FromRunning.MadeFor.{HasComeTo, WasCrowded}
 use Rattle.bz_rounds.specs.Crowded.{IsRisen, AscentsAreCrowded}
 use Rattle.bz_rounds.specs.Falls.{Falls}
 use Rattle.bz_rounds.specs.Laws.{LoneRootSplitsLowerTheStage}
+use Rattle.bz_rounds.specs.Left.{LoneRootSplitsLeaveALevel}
+use Rattle.bz_rounds.specs.Lone.{IsLoneSwap}
 use Rattle.bz_rounds.proofs.Lone.{Basis, good-now, tree-now, fits-now, same-entries}
 use Rattle.bz_rounds.proofs.Made.{IsFew, left-few, right-few}
+use Rattle.bz_rounds.proofs.Nodes.{SplitsTop}
 use Rattle.bz_rounds.proofs.Parents.{Links, node-leads, node-place, node-words, node-freezable}
 use Rattle.bz_tally.proofs.Splitting.{Holds, raw-after, after}
 use Rattle.bz_tally.proofs.Stored.{node-held, node-fresh, are-three}
@@ -68,7 +74,6 @@ pub record Laws : Type 0 where
   pub part : ChildrenPartInHalves
   pub made : MadeInnersTakeTheirEntries
   pub crowded : AscentsAreCrowded
-  pub lower : RootSplitsLowerTheStage
 
 module _ (b : Laws) (r : Crown) (s : Scene) (y : Instant) (good : IsScene s) (quiet : IsQuietSince s.past.since s.past) (f : IsSplitting r SPLIT_WORDS SPLIT_LINES s) (stand : Stand (below_swap s.past.config r.upper r.lower (r.slot 0)) (here s)) where
   abbrev c : Config
@@ -186,8 +191,10 @@ swapping : (c : Config) (r : Crown) (phase : Phase) (s : Scene) (entries : List 
 swapping c r Swap s entries f e = (f.1, same-entries (below_swap c r.upper r.lower (r.slot 0)) entries e)
 swapping c r phase s entries f e = absurd (cc)
 
-pub root-parts : Laws → LoneRootSplitsLowerTheStage
-root-parts b t a key words entries s y l up-to come =
+-- the split of the root, to which an ascent has come
+parts-top : Laws → (t : SplitInnerRoot) (a : Ascent) (key : List ℕ) (entries : List Entry) (s : Scene) (y : Instant) → IsLoneSwap t.config (asks_crown t) (facts_crown t) entries s y → IsAscent a s.past → HasComeTo key t.upper.slot a s.past
+    → SplitsTop s.past.config (image_of (here s).image) (image_of y.image) a.key ((form_at s.past.config (here s)).level a.node.slot)
+parts-top b t a key entries s y l up-to come =
     let r : Crown = crown_of t in
     let f = swapping t.config r t.phase s entries l.knows l.asks in
     let quiet : IsQuietSince s.past.since s.past = b.basis.lonely.whole s l.good l.alone in
@@ -197,8 +204,30 @@ root-parts b t a key words entries s y l up-to come =
     let crowded : WasCrowded a.key come.view s.past = subst (λ k. WasCrowded k come.view s.past) (sym come.key_is) come.leaf in
     let up : IsRisen a s = b.crowded a come.view s l.good l.alone up-to crowded in
     let top : (form_at s.past.config (here s)).level a.node.slot ≡ root_level s.past.config (image_of (here s).image) = ap (form_at s.past.config (here s)).level come.node ∙ sym (at-top b r s y l.good quiet f.0 stand) in
-    let fall : Falls s.past.config (here s) y a.key words =
-    b.lower s.past.config (image_of (here s).image) (image_of y.image) a.key words (r.slot 0) (r.slot 1) (r.slot 2) f.0.parts.cut f.0.sep (tree-now b.basis s l.good) (high b r s y l.good quiet f.0 stand)
-    (subst (λ n. IsCrowdedBelow s.past.config (image_of (here s).image) a.key n) top up.crowded)
-    (parts-root b r s y l.good quiet f.0 stand swaps) (left-roomy b r s y l.good quiet f.0 stand swaps) (right-roomy b r s y l.good quiet f.0 stand swaps) in
-    subst (λ k. Falls s.past.config (here s) y k words) come.key_is fall
+    record {
+      at_level = top;
+      tree = tree-now b.basis s l.good;
+      some = high b r s y l.good quiet f.0 stand;
+      crowded = subst (λ n. IsCrowdedBelow s.past.config (image_of (here s).image) a.key n) top up.crowded;
+      above = r.slot 0;
+      left = r.slot 1;
+      right = r.slot 2;
+      cut = f.0.parts.cut;
+      separator = f.0.sep;
+      splits = parts-root b r s y l.good quiet f.0 stand swaps;
+      left_roomy = left-roomy b r s y l.good quiet f.0 stand swaps;
+      right_roomy = right-roomy b r s y l.good quiet f.0 stand swaps;
+    }
+
+pub root-parts : Laws → RootSplitsLowerTheStage → LoneRootSplitsLowerTheStage
+root-parts b lower t a key words entries s y l up-to come =
+    let z : SplitsTop s.past.config (image_of (here s).image) (image_of y.image) a.key ((form_at s.past.config (here s)).level a.node.slot) = parts-top b t a key entries s y l up-to come in
+    subst (λ k. Falls s.past.config (here s) y k words) come.key_is
+    (lower s.past.config (image_of (here s).image) (image_of y.image) a.key words z.above z.left z.right z.cut z.separator z.tree z.some z.crowded z.splits z.left_roomy z.right_roomy)
+
+pub root-parts-leave : Laws → SplitsLeaveALevel → LoneRootSplitsLeaveALevel
+root-parts-leave b leave t a key words entries s y l up-to come =
+    let z : SplitsTop s.past.config (image_of (here s).image) (image_of y.image) a.key ((form_at s.past.config (here s)).level a.node.slot) = parts-top b t a key entries s y l up-to come in
+    subst (λ k. LeavesALevel s.past.config (image_of y.image) k words ((form_at s.past.config (here s)).level a.node.slot)) come.key_is
+    (subst (λ n. LeavesALevel s.past.config (image_of y.image) a.key words n) (sym z.at_level)
+    (leave.root s.past.config (image_of (here s).image) (image_of y.image) a.key words z.above z.left z.right z.cut z.separator z.tree z.some z.crowded z.splits z.left_roomy z.right_roomy))

@@ -24,6 +24,7 @@ use Rattle.bz_stage.specs.Stages.{leaf_page, full_above, frozen_stage, stage_of,
 use Rattle.bz_alone.specs.Alone.{IsAlone}
 use Rattle.bz_alone.specs.FromRunning.MadeFor.{WasLeafOf}
 use Rattle.bz_alone.specs.Quiet.{IsQuietSince, LonelyTimesAreQuiet}
+use Rattle.bz_rounds.specs.Stands.{LoneKeyViewsTellTheLeaf}
 use Rattle.bz_rounds.specs.Viewed.{TellsTheStage, LoneKeyViewsTellTheStage, LoneViewsTellTheStage, LoneViewsAgree}
 use Rattle.bz_rounds.proofs.Lacking.{some}
 use Rattle.bz_rounds.proofs.Staying.{Laws as Staying, reached-at, no-fault, good-then, same-tree, word-stays}
@@ -130,6 +131,9 @@ key-views-tell b rules key view s good alone v = tells b s good alone key view.s
 
 pub views-tell : Laws → LeafRulesAreFacts → LoneViewsTellTheStage
 views-tell b rules key view s good alone v = tells b s good alone key view.slot view.status (read-whole key view s.past v) rules
+
+pub key-views-tell-leaf : Laws → LoneKeyViewsTellTheLeaf
+key-views-tell-leaf b key view s good alone v = frozen-now b s good alone key view.slot view.status (looked-up key view s.past v)
 
 -- the leaf that was read whole is the key's leaf now
 pub viewed-now : (b : Laws) (s : Scene) → IsScene s → IsAlone 0 s.past → (key : List ℕ) (view : LeafView) → IsView key view s.past → leaf_in s.past.config (here s).image key ≡ view.slot

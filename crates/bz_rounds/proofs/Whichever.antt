@@ -28,11 +28,11 @@ falls : (c : Config) (x y : Instant) (key : List ℕ) (words : ℕ) → GivesRoo
 falls c x y key words g = omega (arith, g.lacked, g.room)
 
 -- the viewed leaf
-viewed : (key : List ℕ) (view : LeafView) (slot : ℕ) (p : Past) → IsView key view p → view.slot ≡ slot → WasLeafOf key slot p
+pub viewed : (key : List ℕ) (view : LeafView) (slot : ℕ) (p : Past) → IsView key view p → view.slot ≡ slot → WasLeafOf key slot p
 viewed key view slot p is at = record { moment = view.at; since = is.since; now = is.now; leaf = is.leaf ∙ at }
 
 -- what a split on the way up knows beside its own is left out
-own : (c : Config) (asked : Option Todo) (facts more : Stage → Scene → Type 0) (entries : List Entry) (s : Scene) (y : Instant) → IsLoneSwap c asked (λ stage s. facts stage s × more stage s) entries s y → IsLoneSwap c asked facts entries s y
+pub own : (c : Config) (asked : Option Todo) (facts more : Stage → Scene → Type 0) (entries : List Entry) (s : Scene) (y : Instant) → IsLoneSwap c asked (λ stage s. facts stage s × more stage s) entries s y → IsLoneSwap c asked facts entries s y
 own c asked facts more entries s y l = record { config = l.config; good = l.good; knows = l.knows.0; asks = l.asks; alone = l.alone; leads = l.leads }
 
 pub lone-swaps : Laws → LoneSwapsLowerTheStage
@@ -49,8 +49,8 @@ lone-swaps b (Consolidating t) key words entries s y l m few =
 lone-swaps b (Splitting t) key words entries s y l m few =
     falls s.past.config (here s) y key words (b.root_leaves t key m.view.image.0 words entries s y l (viewed key m.view t.link.slot s.past m.leaf.is m.at) (record { halves = m.halves; many = m.leaf.many }) few)
 lone-swaps b (SplittingBelow t a) key words entries s y l m few =
-    let h = m.0 in
+    let h = m.halves in
     falls s.past.config (here s) y key words (b.leaves t key h.view.image.0 words entries s y (own _ _ _ _ entries s y l) (viewed key h.view t.lower.slot s.past h.leaf.is h.at) (record { halves = h.halves; many = h.leaf.many }) few)
-lone-swaps b (SplittingInner t a) key words entries s y l m few = b.inners t a key words entries s y (own _ _ _ _ entries s y l) l.knows.1.0 m
-lone-swaps b (SplittingInnerRoot t a) key words entries s y l m few = b.roots t a key words entries s y (own _ _ _ _ entries s y l) l.knows.1.0 m
+lone-swaps b (SplittingInner t a) key words entries s y l m few = b.inners t a key words entries s y (own _ _ _ _ entries s y l) l.knows.1.0 m.come
+lone-swaps b (SplittingInnerRoot t a) key words entries s y l m few = b.roots t a key words entries s y (own _ _ _ _ entries s y l) l.knows.1.0 m.come
 lone-swaps b (Merging t) key words entries s y l m few = absurd m

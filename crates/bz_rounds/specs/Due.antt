@@ -4,8 +4,6 @@ use Rattle.std.specs.Prelude.{◌≡◌, ℕ, ◌+◌, ◌-◌, ◌<◌, ◌≤�
 use Rattle.bz_ascent.specs.Ascents.{IsAscent}
 use Rattle.bz_ascent.specs.declared.ascent.Ascent.{Ascent}
 use Rattle.bz_below.specs.Facts.{IsThawedAbove}
-use Rattle.bz_crown.specs.Due as crown
-use Rattle.bz_fork.specs.Due as fork
 use Rattle.bz_merge.specs.Thawed.{IsLedTo}
 use Rattle.bz_renew.specs.Due.{IsStatusOf, IsDue}
 use Rattle.bz_word.specs.Statuses.{status}
@@ -15,6 +13,7 @@ use Rattle.bz_task.specs.declared.path.Link.{Link}
 use Rattle.bz_task.specs.declared.path.Path.{Path}
 use Rattle.bz_task.specs.declared.view.LeafView.{LeafView}
 use Rattle.bz_alone.specs.Alone.{IsAlone}
+use Rattle.bz_alone.specs.FromRunning.GoingUp.{MayBeSplit}
 
 -- no guard of a link of the path, as it was read, was a frozen node's
 abbrev pub LoneGuardsAreThawed : Type 0
@@ -31,11 +30,6 @@ pub record MayBeMadeAnew (path : Path) (view : LeafView) : Type 0 where
 
 abbrev pub LoneLeavesAreDue : Type 0
 LoneLeavesAreDue = (key : List ℕ) (path : Path) (view : LeafView) (s : Scene) → IsScene s → IsAlone 0 s.past → IsPath key path s.past → IsView key view s.past → MayBeMadeAnew path view
-
--- the node to which an ascent has come, above another one, may be split: below a parent and at the root
-pub record MayBeSplit (a : Ascent) : Type 0 where
-  pub below : 0 < a.place → fork.IsDue a.path (a.place - 1)
-  pub root : a.place ≡ 0 → crown.IsDue a.path
 
 abbrev pub LoneAscentsAreDue : Type 0
 LoneAscentsAreDue = (a : Ascent) (s : Scene) → IsScene s → IsAlone 0 s.past → IsAscent a s.past → a.place + 1 < a.path.depth → MayBeSplit a

@@ -2,5 +2,8 @@ pub mod Crowded
 pub mod Due
 pub mod Falls
 pub mod Laws
+pub mod Left
+pub mod Levels
 pub mod Lone
+pub mod Stands
 pub mod Viewed

@@ -3,6 +3,9 @@
 ghost use Rattle.bz_rounds.specs.Crowded.{AscentsAreCrowded};
 ghost use Rattle.bz_rounds.specs.Due.{LoneGuardsAreThawed, LoneLeavesAreDue, LoneAscentsAreDue};
 ghost use Rattle.bz_rounds.specs.Laws.{LoneFreezesLowerTheStage, LoneCopiesGiveRoom, LoneRootLeafSplitsGiveRoom, LoneLeafSplitsGiveRoom, LoneInnerSplitsLowerTheStage, LoneRootSplitsLowerTheStage, LoneSwapsLowerTheStage};
+ghost use Rattle.bz_rounds.specs.Left.{LoneInnerSplitsLeaveALevel, LoneRootSplitsLeaveALevel, LoneSwapsLeave};
+ghost use Rattle.bz_rounds.specs.Levels.{AscentsStandAtLevels, LoneAscentsAreBelowTheStage};
+ghost use Rattle.bz_rounds.specs.Stands.{StagesStand, LoneKeyViewsTellTheLeaf, LoneViewsTellTheLeaf};
 ghost use Rattle.bz_rounds.specs.Viewed.{LoneKeyViewsTellTheStage, LoneViewsTellTheStage, LoneViewsAgree};
 
 use bz_alone::laws as alone;
@@ -243,4 +246,127 @@ pub fn lone_ascents_are_due()
     slotted::leaf_rules_are_facts();
     slotted::inner_rules_are_facts();
     task::headers_say_the_level();
+}
+
+/// While nobody's swap takes effect the stage of a key stands.
+pub fn stages_stand()
+    ensures { StagesStand }
+{
+    alone::read_values_stand();
+    alone::trees_stand();
+    content::well_formed_images_have_no_fault();
+    shape::leaves_tile_the_keys();
+}
+
+/// The key's leaf is frozen now where it was when the key was looked up.
+pub fn lone_key_views_tell_the_leaf()
+    ensures { LoneKeyViewsTellTheLeaf }
+{
+    alone::read_values_stand();
+    alone::trees_stand();
+    alone::lonely_times_are_quiet();
+    content::well_formed_images_have_no_fault();
+    shape::leaves_tile_the_keys();
+    task::headers_say_the_level();
+}
+
+/// And it is frozen and crowded now where it was when it was read whole.
+pub fn lone_views_tell_the_leaf()
+    ensures { LoneViewsTellTheLeaf }
+{
+    alone::read_values_stand();
+    alone::trees_stand();
+    alone::lonely_times_are_quiet();
+    content::well_formed_images_have_no_fault();
+    shape::leaves_tile_the_keys();
+    slotted::leaf_rules_are_facts();
+    task::headers_say_the_level();
+}
+
+/// The node to which an ascent has come stands at the level that its place on the path tells.
+pub fn ascents_stand_at_levels()
+    ensures { AscentsStandAtLevels }
+{
+    alone::read_values_stand();
+    alone::trees_stand();
+    alone::lonely_times_are_quiet();
+    content::well_formed_images_have_no_fault();
+    renew::guarded_links_stand();
+    slotted::inner_rules_are_facts();
+    task::headers_say_the_level();
+}
+
+/// So the stage of a key whose leaf has to be split is above that level.
+pub fn lone_ascents_are_below_the_stage()
+    ensures { LoneAscentsAreBelowTheStage }
+{
+    ascents_are_crowded();
+    ascents_stand_at_levels();
+    alone::read_values_stand();
+    alone::trees_stand();
+    content::well_formed_images_have_no_fault();
+    task::headers_say_the_level();
+}
+
+/// After the split of a full node on the way up the stage is at most the level of that node.
+pub fn lone_inner_splits_leave_a_level()
+    ensures { LoneInnerSplitsLeaveALevel }
+{
+    ascents_are_crowded();
+    alone::trees_stand();
+    alone::read_values_stand();
+    alone::lonely_times_are_quiet();
+    alone::inner_splits_go_on();
+    stage::paths_are_of_keys();
+    stage::made_inners_take_their_entries();
+    stage::splits_leave_a_level();
+    content::well_formed_images_have_no_fault();
+    content::plain_words_stand_for_themselves();
+    halves::parents_of_halves_are_whole();
+    parted::children_part_in_halves();
+    renew::links_turn();
+    renew::links_turn_and_nodes_freeze();
+    renew::guarded_links_stand();
+    shape::leaves_tile_the_keys();
+    task::ranges_stay();
+}
+
+/// So it is after that of a full root.
+pub fn lone_root_splits_leave_a_level()
+    ensures { LoneRootSplitsLeaveALevel }
+{
+    ascents_are_crowded();
+    alone::trees_stand();
+    alone::read_values_stand();
+    alone::lonely_times_are_quiet();
+    alone::inner_root_splits_go_on();
+    stage::made_inners_take_their_entries();
+    stage::splits_leave_a_level();
+    content::well_formed_images_have_no_fault();
+    content::plain_words_stand_for_themselves();
+    parted::children_part_in_halves();
+    parted::roots_stand_at_levels();
+    renew::links_turn();
+    renew::links_turn_and_nodes_freeze();
+    renew::guarded_links_stand();
+    shape::leaves_tile_the_keys();
+    slotted::leaf_rules_are_facts();
+    slotted::inner_rules_are_facts();
+    task::ranges_stay();
+    task::roots_are_reached();
+}
+
+/// What the swap of whichever of these tasks leaves of the stage, by its kind.
+pub fn lone_swaps_leave()
+    ensures { LoneSwapsLeave }
+{
+    lone_freezes_lower_the_stage();
+    lone_copies_give_room();
+    lone_root_leaf_splits_give_room();
+    lone_leaf_splits_give_room();
+    lone_inner_splits_lower_the_stage();
+    lone_root_splits_lower_the_stage();
+    lone_inner_splits_leave_a_level();
+    lone_root_splits_leave_a_level();
+    ascents_stand_at_levels();
 }

@@ -5,3 +5,6 @@ mod Rising
 mod Counting
 mod LookingUp
 mod Made
+mod Beginning
+mod Ends
+mod Going

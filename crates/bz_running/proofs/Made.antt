@@ -13,8 +13,10 @@ use Rattle.bz_freeze.specs.Facts.{freeze_basis}
 use Rattle.bz_freeze.specs.declared.freeze.Freeze.{Freeze}
 use Rattle.bz_layout.specs.declared.config.Config.{Config}
 use Rattle.bz_layout.specs.declared.sizes.TheConstants.{SHARED_WORDS, STATUS_AT}
+use Rattle.bz_merge.specs.Duties as merge
 use Rattle.bz_merge.specs.FromSplit.Duties as split
 use Rattle.bz_merge.specs.FromSplit.SplitRoot.{SplitRoot}
+use Rattle.bz_merge.specs.declared.merge.Merge.{Merge}
 use Rattle.bz_task.specs.Basis.{Basis}
 use Rattle.bz_task.specs.FromContent.Content.{leaf_in}
 use Rattle.bz_task.specs.Instant.{words as words_at, page_at}
@@ -24,7 +26,7 @@ use Rattle.bz_task.specs.Scene.{Past, Continues}
 use Rattle.bz_task.specs.declared.view.LeafView.{LeafView}
 use Rattle.bz_word.specs.Statuses.{status}
 use Rattle.bz_running.specs.Duties.{ascent_of}
-use Rattle.bz_running.specs.MadeFor.{WasLeafOf, LackedWords, WasCrowded, IsCopyFor, AreHalvesFor, HasComeTo, IsMadeFor}
+use Rattle.bz_running.specs.MadeFor.{HasFoot, WasLeafOf, LackedWords, WasCrowded, IsCopyFor, AreHalvesFor, HasComeTo, HasComeBelow, HasComeToRoot, IsMadeFor, IsMergeOf, IsMergeFor}
 use Rattle.bz_running.specs.declared.running.AnyTask.{AnyTask}
 use Rattle.bz_running.specs.declared.running.AnyTask.TheVariants.{Seeking, Finding, Reading, Inserting, Updating, Deleting, Freezing, Consolidating, Splitting, SplittingBelow, SplittingInner, SplittingInnerRoot, Merging}
 use Rattle.bz_running.proofs.Ascending.{same-ascent}
@@ -61,18 +63,30 @@ split-kept t u e key words p m =
 
 pub below-kept : (t u : SplitBelow) (a : Ascent) → basis_below u ≡ basis_below t → Kept (SplittingBelow t a) (SplittingBelow u a)
 unfolding IsMadeFor
-below-kept t u a e key words p m = (
-  halves-kept key p t.lower.slot u.lower.slot t.halves.left.0 t.halves.right.0 t.halves.separator u.halves.left.0 u.halves.right.0 u.halves.separator (ap (λ (b : Basis). b.slot) e) (ap (λ (b : Basis). b.nodes) e) m.0,
-  m.1,
-)
+below-kept t u a e key words p m = record {
+  halves = halves-kept key p t.lower.slot u.lower.slot t.halves.left.0 t.halves.right.0 t.halves.separator u.halves.left.0 u.halves.right.0 u.halves.separator (ap (λ (b : Basis). b.slot) e) (ap (λ (b : Basis). b.nodes) e) m.halves;
+  foot = m.foot;
+}
 
 pub fork-kept : (t u : SplitInner) (a : Ascent) → basis_fork u ≡ basis_fork t → Kept (SplittingInner t a) (SplittingInner u a)
 unfolding IsMadeFor
-fork-kept t u a e key words p m = subst (λ (k : ℕ). HasComeTo key k a p) (sym (ap (λ (b : Basis). b.slot) e)) m
+fork-kept t u a e key words p m = subst (λ (k : ℕ). HasComeBelow key k a p) (sym (ap (λ (b : Basis). b.slot) e)) m
 
 pub crown-kept : (t u : SplitInnerRoot) (a : Ascent) → basis_crown u ≡ basis_crown t → Kept (SplittingInnerRoot t a) (SplittingInnerRoot u a)
 unfolding IsMadeFor
-crown-kept t u a e key words p m = subst (λ (k : ℕ). HasComeTo key k a p) (sym (ap (λ (b : Basis). b.slot) e)) m
+crown-kept t u a e key words p m = subst (λ (k : ℕ). HasComeToRoot key k a p) (sym (ap (λ (b : Basis). b.slot) e)) m
+
+abbrev pub KeptMerge : AnyTask → AnyTask → Type 0
+KeptMerge t u = (key : List ℕ) (p : Past) → IsMergeFor t key p → IsMergeFor u key p
+
+same-status : (a b : ℕ) → (a ∷ []) ∷ [] ≡ (b ∷ []) ∷ [] → a ≡ b
+same-status a b e = cc
+
+pub merge-kept : (t u : Merge) → merge.basis_of u ≡ merge.basis_of t → KeptMerge (Merging t) (Merging u)
+unfolding IsMergeFor
+merge-kept t u e key p m =
+    let viewed : u.status ≡ t.status = same-status u.status t.status (ap (λ (b : Basis). b.nodes) e) in
+    subst (λ (k : ℕ). IsMergeOf key k u.status p) (sym (ap (λ (b : Basis). b.slot) e)) (subst (λ (st : ℕ). IsMergeOf key t.lower.slot st p) (sym viewed) m)
 
 -- the leaf that was viewed, and lacked the words and the metadata word of a record
 pub lacked-viewed : (key : List ℕ) (view : LeafView) (slot words : ℕ) (p : Past) → IsView key view p → slot ≡ view.slot → SHARED_WORDS < (status view.status).count + 1 + (status view.status).block + words → LackedWords key (words + 1) slot p
@@ -110,7 +124,7 @@ module _ (p q : Past) (n : Continues p q) where
     halves-stay slot left right sep m = record { view = m.view; leaf = crowded-stays m.view m.leaf; at = m.at; halves = m.halves }
 
     come-stays : (slot : ℕ) (a : Ascent) → HasComeTo key slot a p → HasComeTo key slot a q
-    come-stays slot a m = record { key_is = m.key_is; node = m.node; view = m.view; leaf = crowded-stays m.view m.leaf }
+    come-stays slot a m = record { key_is = m.key_is; node = m.node; foot = m.foot; view = m.view; leaf = crowded-stays m.view m.leaf }
 
 pub made-stays : ViewsStay → (t : AnyTask) (key : List ℕ) (words : ℕ) (p q : Past) → IsMadeFor t key words p → Continues p q → IsMadeFor t key words q
 unfolding IsMadeFor
@@ -123,20 +137,26 @@ made-stays v (Deleting t) key words p q m n = absurd m
 made-stays v (Freezing t) key words p q m n = lacked-stays p q n key words t.slot m
 made-stays v (Consolidating t) key words p q m n = record { view = m.view; is = v key m.view p q m.is n; at = m.at; small = m.small }
 made-stays v (Splitting t) key words p q m n = halves-stay p q n v key t.link.slot t.halves.left.0 t.halves.right.0 t.halves.separator m
-made-stays v (SplittingBelow t a) key words p q m n = (halves-stay p q n v key t.lower.slot t.halves.left.0 t.halves.right.0 t.halves.separator m.0, m.1)
-made-stays v (SplittingInner t a) key words p q m n = come-stays p q n v key t.middle.slot a m
-made-stays v (SplittingInnerRoot t a) key words p q m n = come-stays p q n v key t.upper.slot a m
+made-stays v (SplittingBelow t a) key words p q m n = record { halves = halves-stay p q n v key t.lower.slot t.halves.left.0 t.halves.right.0 t.halves.separator m.halves; foot = m.foot }
+made-stays v (SplittingInner t a) key words p q m n = record { come = come-stays p q n v key t.middle.slot a m.come; below = m.below }
+made-stays v (SplittingInnerRoot t a) key words p q m n = record { come = come-stays p q n v key t.upper.slot a m.come; root = m.root }
 made-stays v (Merging t) key words p q m n = absurd m
+
+pub merge-stays : (t : AnyTask) (key : List ℕ) (p q : Past) → IsMergeFor t key p → Continues p q → IsMergeFor t key q
+unfolding IsMergeFor
+merge-stays (Merging t) key p q m n = record { leaf = leaf-stays p q n key t.lower.slot m.leaf; frozen = m.frozen }
+merge-stays t key p q m n = absurd m
 
 -- at the foot of an ascent stands a leaf that has to be split
 pub record StandsOnCrowded (a : Ascent) (key : List ℕ) (p : Past) : Type 0 where
   pub key_is : a.key ≡ key
+  pub foot : HasFoot a
   pub view : LeafView
   pub leaf : WasCrowded key view p
 
 pub stands-on-crowded : (t : AnyTask) (a : Ascent) → ascent_of t ≡ Some a → (key : List ℕ) (words : ℕ) (p : Past) → IsMadeFor t key words p → StandsOnCrowded a key p
 unfolding ascent_of IsMadeFor
-stands-on-crowded (SplittingBelow t b) a e key words p m = subst (λ (z : Ascent). StandsOnCrowded z key p) (same-ascent b a e) (record { key_is = m.1; view = m.0.view; leaf = m.0.leaf })
-stands-on-crowded (SplittingInner t b) a e key words p m = subst (λ (z : Ascent). StandsOnCrowded z key p) (same-ascent b a e) (record { key_is = m.key_is; view = m.view; leaf = m.leaf })
-stands-on-crowded (SplittingInnerRoot t b) a e key words p m = subst (λ (z : Ascent). StandsOnCrowded z key p) (same-ascent b a e) (record { key_is = m.key_is; view = m.view; leaf = m.leaf })
+stands-on-crowded (SplittingBelow t b) a e key words p m = subst (λ (z : Ascent). StandsOnCrowded z key p) (same-ascent b a e) (record { key_is = m.foot.key_is; foot = m.foot.foot; view = m.halves.view; leaf = m.halves.leaf })
+stands-on-crowded (SplittingInner t b) a e key words p m = subst (λ (z : Ascent). StandsOnCrowded z key p) (same-ascent b a e) (record { key_is = m.come.key_is; foot = m.come.foot; view = m.come.view; leaf = m.come.leaf })
+stands-on-crowded (SplittingInnerRoot t b) a e key words p m = subst (λ (z : Ascent). StandsOnCrowded z key p) (same-ascent b a e) (record { key_is = m.come.key_is; foot = m.come.foot; view = m.come.view; leaf = m.come.leaf })
 stands-on-crowded t a e key words p m = absurd (cc)

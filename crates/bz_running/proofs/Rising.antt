@@ -1,14 +1,16 @@
 -- The split of the node above knows what it must where the one below lacked the room there.
-use Rattle.std.proofs.Common.{◌≡◌, refl, sym, subst, ◌∙◌, Some}
+use Rattle.std.proofs.Common.{◌≡◌, ◌-◌, slice_get, arith, refl, sym, subst, ◌∙◌, Some}
 use Rattle.bz_ascent.specs.Ascents.{IsAscent, IsOneUp}
 use Rattle.bz_ascent.specs.Laws.{AscentsRise}
 use Rattle.bz_ascent.specs.declared.ascent.Ascent.{Ascent}
+use Rattle.bz_crown.specs.Due as crown
+use Rattle.bz_fork.specs.Due as fork
 use Rattle.bz_task.specs.Scene.{Scene, Waiting}
 use Rattle.bz_task.specs.declared.todo.Outcome.TheVariants.{NeedsRoom}
 use Rattle.bz_layout.specs.declared.thresholds.TheConstants.{SPLIT_SLOTS}
 use Rattle.bz_running.specs.Ascending.{LooksUp}
 use Rattle.bz_running.specs.Duties.{config_of, wants_of, ascent_of, facts_of, means_of}
-use Rattle.bz_running.specs.GoingUp.{IsSplitAt, GoesUp}
+use Rattle.bz_running.specs.GoingUp.{MayBeSplit, IsSplitAt, GoesUp}
 use Rattle.bz_running.specs.Hearing.{IsLookup}
 use Rattle.bz_running.specs.MadeFor.{WasCrowded, IsMadeFor}
 use Rattle.bz_running.specs.declared.running.AnyTask.{AnyTask}
@@ -41,6 +43,7 @@ is-rising (Merging t) a e = absurd (cc)
 pub goes-up : AscentsRise → (t next : AnyTask) (a up : Ascent) → Ends t → ascent_of t ≡ Some a → IsOneUp a up → IsSplitAt (config_of t) up next → GoesUp t next
 goes-up law t next a up ends is one it = record {
   config = it.config;
+  above = record { from = a; up = up; begun = is; one = one; kind = it.kind };
   asks = it.asks;
   left = it.left;
   swaps = it.swaps;
@@ -54,6 +57,16 @@ goes-up law t next a up ends is one it = record {
       it.facts s same good (law a up s l.sep one good k.0 l.lacked));
   made_for = λ key words p m. (
       let w = stands-on-crowded t a is key words p m in
-      subst (λ k. IsMadeFor next k words p) (one.key_is ∙ w.key_is) (it.made_for w.view words p (subst (λ k. WasCrowded k w.view p) (sym (one.key_is ∙ w.key_is)) w.leaf)));
+      subst (λ k. IsMadeFor next k words p) (one.key_is ∙ w.key_is) (it.made_for w.view words p (record { last = w.foot.last; is = subst (λ z. slice_get z.links (z.depth - 1) ≡ Some w.foot.last) (sym one.path_is) w.foot.is }) (subst (λ k. WasCrowded k w.view p) (sym (one.key_is ∙ w.key_is)) w.leaf)));
   ends = λ key way other h. subst (λ k. IsLookup k other next) (one.key_is ∙ h.ascent a is) (it.ends other);
 }
+
+-- there is one node above
+pub still-due : (from up next : Ascent) → IsOneUp from up → IsOneUp from next → MayBeSplit up → MayBeSplit next
+still-due from up next one other may =
+    let path : up.path ≡ next.path = one.path_is ∙ sym other.path_is in
+    let place : up.place ≡ next.place = omega (arith, one.before, other.before) in
+    record {
+      below = λ some. subst (λ p. fork.IsDue p (next.place - 1)) path (subst (λ i. fork.IsDue up.path (i - 1)) place (may.below (omega (arith, some, place))));
+      root = λ none. subst crown.IsDue path (may.root (place ∙ none));
+    }

@@ -206,7 +206,7 @@ basis_of (Splitting t) = split.basis_of t
 basis_of (SplittingBelow t a) = basis_below t
 basis_of (SplittingInner t a) = basis_fork t
 basis_of (SplittingInnerRoot t a) = basis_crown t
-basis_of (Merging t) = no_basis
+basis_of (Merging t) = merge.basis_of t
 
 unfoldable pub publishing_of : AnyTask → Bool
 publishing_of (Seeking t) = false

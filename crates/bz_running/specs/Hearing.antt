@@ -1,5 +1,5 @@
 -- What a task is told, and what comes of that.
-use Rattle.std.specs.Prelude.{◌≡◌, ℕ, ◌+◌, ◌<◌, ◌≤◌, ◌⊎◌, true, false, List, Option, Some, None, length}
+use Rattle.std.specs.Prelude.{◌≡◌, ◌≢◌, ℕ, ◌+◌, ◌<◌, ◌≤◌, ◌⊎◌, true, false, List, Option, Some, None, length}
 use Rattle.bz_ascent.specs.declared.ascent.Ascent.{Ascent}
 use Rattle.bz_call.specs.declared.replies.Spent.TheVariants.{Nodes, Swaps}
 use Rattle.bz_layout.specs.Slots.{FreeSlots}
@@ -11,13 +11,14 @@ use Rattle.bz_task.specs.declared.path.Path.{Path}
 use Rattle.bz_task.specs.declared.todo.Outcome.{Outcome}
 use Rattle.bz_task.specs.declared.todo.Outcome.TheVariants as outcome
 use Rattle.bz_task.specs.declared.todo.Seen.{Seen}
-use Rattle.bz_task.specs.declared.todo.Seen.TheVariants.{Swapped, NoSwap}
+use Rattle.bz_task.specs.declared.todo.Seen.TheVariants.{Start, Swapped, NoSwap}
 use Rattle.bz_task.specs.declared.todo.Todo.{Todo}
 use Rattle.bz_task.specs.declared.todo.Todo.TheVariants.{Finish}
 use Rattle.bz_task.specs.declared.view.KeyView.{KeyView}
 use Rattle.bz_task.specs.declared.view.LeafView.{LeafView}
 use Rattle.bz_running.specs.Duties.{config_of, asks_of, end_of, left_of, swaps_of, made_of, change_swaps, needs_of, wants_of, change_of, publishing_of, ascent_of, facts_of, means_of, differs_of, makes_no_change}
-use Rattle.bz_running.specs.MadeFor.{IsMadeFor}
+use Rattle.bz_running.specs.Kinds.{Find, kind_of}
+use Rattle.bz_running.specs.MadeFor.{IsMadeFor, IsMergeFor}
 use Rattle.bz_running.specs.declared.running.AnyTask.{AnyTask}
 
 -- a path or a view with which the task ends is one of this key; and with a view, of the leaf or of the key alone, this path, if there
@@ -41,11 +42,20 @@ pub record HasHeard (old : AnyTask) (seen : Seen) (moment : ℕ) (free : FreeSlo
   pub wants : wants_of new ≡ wants_of old
   pub change : change_of new ≡ change_of old
   pub ascent : ascent_of new ≡ ascent_of old
+  pub kind : kind_of new ≡ kind_of old
   pub silent : makes_no_change new ≡ makes_no_change old
   -- what it was made for it still is
   pub made_for : (key : List ℕ) (words : ℕ) (p : Past) → IsMadeFor old key words p → IsMadeFor new key words p
+  pub merge_for : (key : List ℕ) (p : Past) → IsMergeFor old key p → IsMergeFor new key p
   pub meant : (o : Outcome) (s : Scene) → means_of new o s → means_of old o s
   pub slots : AreTakenFrom (needs_of old) (needs_of new) free left
+  -- told to begin it goes on, where it makes no change and is no look-up in a leaf
+  pub begins : seen ≡ Start → makes_no_change old ≡ true → kind_of old ≢ Find → end_of new ≡ None
+  -- it ends with Done where the last swap that it could still ask for took effect, and nowhere else
+  pub last : seen ≡ Swapped true → swaps_of old ≡ 1 → end_of new ≡ Some outcome.Done
+  pub only_last : end_of new ≡ Some outcome.Done → swaps_of old ≡ 1
+  -- want of room shows as it begins, or while slots are still to be taken
+  pub crowds : end_of new ≡ Some outcome.NeedsRoom → (seen ≡ Start) ⊎ (0 < needs_of old)
   pub done : end_of new ≡ Some outcome.Done → seen ≡ Swapped true
   -- the swap that makes the change is its last act, where it takes effect
   pub published : publishing_of old ≡ true → seen ≡ Swapped true → asks_of new ≡ Some Finish

@@ -1,6 +1,9 @@
 -- Which task it is, without what it has learnt.
-use Rattle.std.specs.Prelude.{ℕ, ◌-◌}
+use Rattle.std.specs.Prelude.{◌≡◌, ◌<◌, ◌⊎◌, ℕ, ◌-◌, Bool, true, false, List, Option, Some, None, refl}
+use Rattle.bz_ascent.specs.Ascents.{IsAtLeaf}
 use Rattle.bz_ascent.specs.declared.ascent.Ascent.{Ascent}
+use Rattle.bz_task.specs.declared.path.Path.{Path}
+use Rattle.bz_running.specs.Duties.{ascent_of}
 use Rattle.bz_running.specs.declared.running.AnyTask.{AnyTask}
 use Rattle.bz_running.specs.declared.running.AnyTask.TheVariants.{Seeking, Finding, Reading, Inserting, Updating, Deleting, Freezing, Consolidating, Splitting, SplittingBelow, SplittingInner, SplittingInnerRoot, Merging}
 
@@ -37,6 +40,47 @@ kind_of (SplittingInner t a) = SplitNode a
 kind_of (SplittingInnerRoot t a) = SplitRootNode a
 kind_of (Merging t) = Merge
 
+-- the three that look up and do no more
+abbrev pub is_look : Kind → Bool
+is_look Seek = true
+is_look Find = true
+is_look ReadWhole = true
+is_look k = false
+
+-- those that freeze a leaf, or put new nodes in the place of one, by one swap
+abbrev pub is_renewal : Kind → Bool
+is_renewal Freeze = true
+is_renewal Copy = true
+is_renewal SplitRootLeaf = true
+is_renewal (SplitLeaf a) = true
+is_renewal (SplitNode a) = true
+is_renewal (SplitRootNode a) = true
+is_renewal k = false
+
 -- the level of the node to which an ascent has come: that of the leaf is 0
 abbrev pub level_of : Ascent → ℕ
 level_of a = a.path.depth - 1 - a.place
+
+-- the split of the key's leaf below a parent, to which the path leads
+pub record IsLeafSplit (key : List ℕ) (path : Path) (k : Kind) : Type 0 where
+  pub from : Ascent
+  pub is : k ≡ SplitLeaf from
+  pub leaf : IsAtLeaf from key path
+
+-- the split of the inner node to which an ascent has come, below a parent or at the root
+abbrev pub IsNodeSplit : Ascent → Kind → Type 0
+IsNodeSplit a k = ((k ≡ SplitNode a) × (0 < a.place)) ⊎ ((k ≡ SplitRootNode a) × (a.place ≡ 0))
+
+-- how far up the way from the leaf a task of this kind splits, if it does
+abbrev pub ascent_in : Kind → Option Ascent
+ascent_in (SplitLeaf a) = Some a
+ascent_in (SplitNode a) = Some a
+ascent_in (SplitRootNode a) = Some a
+ascent_in k = None
+
+pub kinds-tell-the-ascent : (t : AnyTask) → ascent_of t ≡ ascent_in (kind_of t)
+unfolding ascent_of kind_of
+kinds-tell-the-ascent (SplittingBelow t a) = refl
+kinds-tell-the-ascent (SplittingInner t a) = refl
+kinds-tell-the-ascent (SplittingInnerRoot t a) = refl
+kinds-tell-the-ascent t = refl

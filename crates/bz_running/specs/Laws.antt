@@ -1,5 +1,5 @@
 -- The laws of a task, whichever it is: those that its contract gives.
-use Rattle.std.specs.Prelude.{◌≡◌, ◌≤◌, ℕ, ◌+◌, true, false, List, Option, Some, None}
+use Rattle.std.specs.Prelude.{◌≡◌, ◌≢◌, ◌≤◌, ℕ, ◌+◌, true, false, IsSome, List, Option, Some, None}
 use Rattle.bz_ascent.specs.Full.{AreAllFull}
 use Rattle.bz_ascent.specs.declared.ascent.Ascent.{Ascent}
 use Rattle.bz_call.specs.declared.replies.Spent.TheVariants.{Height}
@@ -11,12 +11,14 @@ use Rattle.bz_task.specs.Requests.{IsAskable, IsCause}
 use Rattle.bz_task.specs.Scene.{Past, Scene, Continues, Stage, Waiting, Took, IsScene, IsLawful, HasFilled, here}
 use Rattle.bz_task.specs.Swaps.{Stand, SwapsTo, IsGoodSwap, Takes}
 use Rattle.bz_task.specs.declared.todo.Outcome.{Outcome}
-use Rattle.bz_task.specs.declared.todo.Outcome.TheVariants.{Full}
+use Rattle.bz_task.specs.declared.todo.Outcome.TheVariants.{Full, NeedsRoom}
 use Rattle.bz_task.specs.declared.todo.Seen.{Seen}
 use Rattle.bz_task.specs.declared.todo.Todo.{Todo}
-use Rattle.bz_task.specs.declared.todo.Todo.TheVariants.{Store, Flush, Swap}
-use Rattle.bz_running.specs.Duties.{config_of, asks_of, end_of, made_of, change_swaps, needs_of, wants_of, ascent_of, change_of, publishing_of, facts_of, means_of, differs_of}
-use Rattle.bz_running.specs.MadeFor.{IsMadeFor}
+use Rattle.bz_task.specs.declared.todo.Todo.TheVariants.{Store, Flush, Swap, Finish}
+use Rattle.bz_running.specs.Duties.{config_of, asks_of, end_of, swaps_of, made_of, change_swaps, needs_of, wants_of, ascent_of, change_of, publishing_of, facts_of, means_of, differs_of, makes_no_change}
+use Rattle.bz_running.specs.Ends.{IsEndOf, TakesNothing, TakesOneSwap}
+use Rattle.bz_running.specs.Kinds.{kind_of, is_look, is_renewal}
+use Rattle.bz_running.specs.MadeFor.{IsMadeFor, IsMergeFor}
 use Rattle.bz_running.specs.declared.running.AnyTask.{AnyTask}
 
 -- on the way up each level that inner nodes may have was full
@@ -29,6 +31,7 @@ pub record AreLaws (t : AnyTask) : Type 0 where
   pub stable : (stage : Stage) (s after : Scene) → s.past.config ≡ config_of t → facts_of t stage s → IsScene after → IsLawful s after → facts_of t stage after
   -- so does what it was made for
   pub made_for : (key : List ℕ) (words : ℕ) (p q : Past) → IsMadeFor t key words p → Continues p q → IsMadeFor t key words q
+  pub merge_for : (key : List ℕ) (p q : Past) → IsMergeFor t key p → Continues p q → IsMergeFor t key q
   pub askable : (s : Scene) (todo : Todo) → s.past.config ≡ config_of t → facts_of t Waiting s → IsScene s → asks_of t ≡ Some todo → IsAskable s todo
   pub cause : (s : Scene) (seen : Seen) → s.past.config ≡ config_of t → facts_of t Waiting s → differs_of t seen → IsCause (asks_of t) seen s
   -- what it still is to take is no more than what it takes in all, and that no more than a split takes
@@ -37,6 +40,17 @@ pub record AreLaws (t : AnyTask) : Type 0 where
   pub once : (s : Scene) → facts_of t Waiting s → publishing_of t ≡ true → s.effected ≡ false
   -- the swap that makes the change is the last one of those that the change takes
   pub last : publishing_of t ≡ true → made_of t + 1 ≡ change_swaps t
+  -- so is the one that a change asks for where no more than one is left
+  pub publishes_last : (entries : List Entry) → makes_no_change t ≡ false → swaps_of t ≤ 1 → asks_of t ≡ Some (Swap entries) → publishing_of t ≡ true
+  pub looks : is_look (kind_of t) ≡ true → TakesNothing t
+  pub single : is_renewal (kind_of t) ≡ true → TakesOneSwap t
+  -- it ends in no way but those of its kind
+  pub ends_of : (o : Outcome) (s : Scene) → means_of t o s → IsEndOf (kind_of t) o
+  -- a change that goes on was found to have room, so it never ends for want of it
+  pub going : (todo : Todo) (stage : Stage) (s z : Scene) → makes_no_change t ≡ false → asks_of t ≡ Some todo → todo ≢ Finish → facts_of t stage s → means_of t NeedsRoom z → ⊥
+  -- it has ended exactly where it asks for nothing more
+  pub finish : asks_of t ≡ Some Finish → IsSome (end_of t)
+  pub only : IsSome (end_of t) → asks_of t ≡ Some Finish
   pub ends : (s : Scene) (outcome : Outcome) → facts_of t Waiting s → end_of t ≡ Some outcome → means_of t outcome s × HasFilled s
   -- the tree is too high only where an inner node of each level above the leaf of its key was full
   pub height : (s : Scene) → IsScene s → facts_of t Waiting s → end_of t ≡ Some (Full Height) → (wants_of t ≡ SPLIT_SLOTS) × HaveFilledUp (ascent_of t) s.past

@@ -1,6 +1,7 @@
 pub mod Ascending
 pub mod Duties
 pub mod Kinds
+pub mod Ends
 pub mod MadeFor
 pub mod Laws
 pub mod LookingUp

@@ -1,6 +1,6 @@
 -- What a task was made of that freezes a leaf or makes a node anew, told of the key that its call looks for and of the words that it asks
 -- for: facts of moments since the look-up began, which no later step can change.
-use Rattle.std.specs.Prelude.{◌≡◌, ℕ, ◌+◌, ◌<◌, ◌≤◌, true, List}
+use Rattle.std.specs.Prelude.{◌≡◌, ℕ, ◌+◌, ◌-◌, ◌<◌, ◌≤◌, true, List, Some, slice_get}
 use Rattle.bz_ascent.specs.declared.ascent.Ascent.{Ascent}
 use Rattle.bz_consol.specs.Facts.{IsMadeOf}
 use Rattle.bz_layout.specs.declared.sizes.TheConstants.{SHARED_WORDS}
@@ -13,6 +13,7 @@ use Rattle.bz_task.specs.FromContent.Content.{leaf_in}
 use Rattle.bz_task.specs.Instant.{page_at}
 use Rattle.bz_task.specs.Outcomes.{IsView}
 use Rattle.bz_task.specs.Scene.{Past}
+use Rattle.bz_task.specs.declared.path.Link.{Link}
 use Rattle.bz_task.specs.declared.view.LeafView.{LeafView}
 use Rattle.bz_running.specs.declared.running.AnyTask.{AnyTask}
 use Rattle.bz_running.specs.declared.running.AnyTask.TheVariants.{Seeking, Finding, Reading, Inserting, Updating, Deleting, Freezing, Consolidating, Splitting, SplittingBelow, SplittingInner, SplittingInnerRoot, Merging}
@@ -60,12 +61,45 @@ pub record AreHalvesFor (key : List ℕ) (slot : ℕ) (left right sep : List ℕ
   pub at : view.slot ≡ slot
   pub halves : AreHalvesFrom view.image.0 left right sep
 
+-- the path of an ascent has its last link, which leads to the leaf
+pub record HasFoot (a : Ascent) : Type 0 where
+  pub last : Link
+  pub is : slice_get a.path.links (a.path.depth - 1) ≡ Some last
+
 -- an ascent from the key's leaf, which has to be split, has come to the node in this slot
 pub record HasComeTo (key : List ℕ) (slot : ℕ) (a : Ascent) (p : Past) : Type 0 where
   pub key_is : a.key ≡ key
   pub node : a.node.slot ≡ slot
+  pub foot : HasFoot a
   pub view : LeafView
   pub leaf : WasCrowded key view p
+
+-- the ascent is one for this key, and is at the leaf, which stands below another node
+pub record IsAtFoot (key : List ℕ) (a : Ascent) : Type 0 where
+  pub key_is : a.key ≡ key
+  pub below : 0 < a.place
+  pub last : a.place + 1 ≡ a.path.depth
+  pub foot : HasFoot a
+
+-- the halves of the key's leaf, from which such an ascent begins
+pub record AreHalvesAtFoot (key : List ℕ) (slot : ℕ) (left right sep : List ℕ) (a : Ascent) (p : Past) : Type 0 where
+  pub halves : AreHalvesFor key slot left right sep p
+  pub foot : IsAtFoot key a
+
+-- the node to which an ascent has come stands below another one
+pub record HasComeBelow (key : List ℕ) (slot : ℕ) (a : Ascent) (p : Past) : Type 0 where
+  pub come : HasComeTo key slot a p
+  pub below : 0 < a.place
+
+-- or it is the root
+pub record HasComeToRoot (key : List ℕ) (slot : ℕ) (a : Ascent) (p : Past) : Type 0 where
+  pub come : HasComeTo key slot a p
+  pub root : a.place ≡ 0
+
+-- a merge of the key's leaf, which was frozen when it was viewed
+pub record IsMergeOf (key : List ℕ) (slot st : ℕ) (p : Past) : Type 0 where
+  pub leaf : WasLeafOf key slot p
+  pub frozen : (status st).frozen ≡ true
 
 -- the task is the freeze of a leaf that lacked the words, or one of these, for this key and these words
 unfoldable pub IsMadeFor : AnyTask → List ℕ → ℕ → Past → Type 0
@@ -78,7 +112,12 @@ IsMadeFor (Deleting t) = λ key words p. ⊥
 IsMadeFor (Freezing t) = λ key words p. LackedWords key words t.slot p
 IsMadeFor (Consolidating t) = λ key words p. IsCopyFor key t.link.slot t.image.0 p
 IsMadeFor (Splitting t) = λ key words p. AreHalvesFor key t.link.slot t.halves.left.0 t.halves.right.0 t.halves.separator p
-IsMadeFor (SplittingBelow t a) = λ key words p. AreHalvesFor key t.lower.slot t.halves.left.0 t.halves.right.0 t.halves.separator p × (a.key ≡ key)
-IsMadeFor (SplittingInner t a) = λ key words p. HasComeTo key t.middle.slot a p
-IsMadeFor (SplittingInnerRoot t a) = λ key words p. HasComeTo key t.upper.slot a p
+IsMadeFor (SplittingBelow t a) = λ key words p. AreHalvesAtFoot key t.lower.slot t.halves.left.0 t.halves.right.0 t.halves.separator a p
+IsMadeFor (SplittingInner t a) = λ key words p. HasComeBelow key t.middle.slot a p
+IsMadeFor (SplittingInnerRoot t a) = λ key words p. HasComeToRoot key t.upper.slot a p
 IsMadeFor (Merging t) = λ key words p. ⊥
+
+-- the task is a merge for this key, which stands in the place of a copy
+unfoldable pub IsMergeFor : AnyTask → List ℕ → Past → Type 0
+IsMergeFor (Merging t) = λ key p. IsMergeOf key t.lower.slot t.status p
+IsMergeFor t = λ key p. ⊥

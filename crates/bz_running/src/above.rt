@@ -1,9 +1,12 @@
 //! The split of the node above, where a split lacked the room there.
 
 ghost use Rattle.bz_layout.specs.declared.thresholds.TheConstants.{MAX_LEVELS};
-ghost use Rattle.std.specs.Prelude.{◌≡◌, ◌<◌, ◌≤◌, IfSome, Some, slice_get};
+ghost use Rattle.std.specs.Prelude.{◌≡◌, ◌<◌, ◌≤◌, ◌-◌, IfSome, IsSome, Some, slice_get};
+ghost use Rattle.bz_ascent.specs.Ascents.{IsOneUp};
+ghost use Rattle.bz_crown.specs.Due as crown;
+ghost use Rattle.bz_fork.specs.Due as fork;
 ghost use Rattle.bz_running.specs.Duties.{config_of, ascent_of};
-ghost use Rattle.bz_running.specs.GoingUp.{IsInScene, IsSplitAt, GoesUp};
+ghost use Rattle.bz_running.specs.GoingUp.{IsInScene, MayBeSplit, IsSplitAt, GoesUp};
 
 use crate::running::AnyTask;
 use bz_ascent::Ascent;
@@ -18,7 +21,8 @@ fn split_inner(config: &Config, ascent: Ascent) -> Option<AnyTask>
     requires within { ascent.place < MAX_LEVELS }
     requires below { 0 < ascent.place }
     requires node { slice_get ascent.path.links ascent.place ≡ Some ascent.node }
-    ensures { IfSome result (IsSplitAt config.now ascent) }
+    ensures split { IfSome result (IsSplitAt config.now ascent) }
+    ensures due { fork.IsDue ascent.path (ascent.place - 1) → IsSome result }
 {
     let upper = ascent.place - 1;
     if !bz_fork::is_due(&ascent.path, upper) {
@@ -33,7 +37,8 @@ fn split_inner_root(config: &Config, ascent: Ascent) -> Option<AnyTask>
     requires few { ascent.path.depth ≤ MAX_LEVELS }
     requires root { ascent.place ≡ 0 }
     requires node { slice_get ascent.path.links ascent.place ≡ Some ascent.node }
-    ensures { IfSome result (IsSplitAt config.now ascent) }
+    ensures split { IfSome result (IsSplitAt config.now ascent) }
+    ensures due { crown.IsDue ascent.path → IsSome result }
 {
     if !bz_crown::is_due(&ascent.path) {
         return None;
@@ -47,7 +52,8 @@ fn split_at(config: &Config, ascent: Ascent) -> Option<AnyTask>
     requires few { ascent.path.depth ≤ MAX_LEVELS }
     requires within { ascent.place < MAX_LEVELS }
     requires node { slice_get ascent.path.links ascent.place ≡ Some ascent.node }
-    ensures { IfSome result (IsSplitAt config.now ascent) }
+    ensures split { IfSome result (IsSplitAt config.now ascent) }
+    ensures due { MayBeSplit ascent → IsSome result }
 {
     if ascent.place == 0 {
         split_inner_root(config, ascent)
@@ -75,7 +81,9 @@ impl AnyTask {
     pub fn above(&self, config: &Config) -> Option<AnyTask>
         requires config { config_of self.now ≡ config.now }
         requires known { IsInScene self.now }
-        ensures { IfSome result (GoesUp self.now) }
+        ensures up { IfSome result (GoesUp self.now) }
+        // it is asked in vain only where no node stands above, or that may not be split
+        ensures due { (a up : Ascent) → ascent_of self.now ≡ Some a → IsOneUp a up → MayBeSplit up → IsSome result }
     {
         bz_ascent::laws::ascents_rise();
         self.learnt();

@@ -27,9 +27,11 @@ ghost use Rattle.bz_layout.specs.declared.swaps.TheConstants.{DELETE_SWAPS, FREE
 ghost use Rattle.bz_task.specs.declared.path.Link.{Link as LastLink};
 ghost use Rattle.bz_task.specs.declared.todo.Todo.TheVariants.{Read};
 ghost use Rattle.bz_running.specs.Hearing.{IsLookup, HasHeard};
+ghost use Rattle.bz_running.specs.Kinds as kind;
+ghost use Rattle.bz_running.specs.Kinds.{kind_of, IsLeafSplit};
 ghost use Rattle.bz_running.specs.Duties.{config_of, asks_of, basis_of, end_of, left_of, swaps_of, made_of, change_swaps, needs_of, wants_of, change_of, ascent_of, publishing_of, facts_of, means_of, differs_of, makes_no_change};
 ghost use Rattle.bz_running.specs.Laws.{AreLaws};
-ghost use Rattle.bz_running.specs.MadeFor.{IsMadeFor};
+ghost use Rattle.bz_running.specs.MadeFor.{IsMadeFor, IsMergeFor};
 ghost use Rattle.bz_running.specs.LookingUp.{ForWay, ForKey, look_of, reads_asked, HasCounted, LooksUpBriefly};
 
 use bz_ascent::{Ascent, SplitBelow};
@@ -67,9 +69,10 @@ pub enum AnyTask {
 
 impl AnyTask {
     /// The way to the leaf of a key, by halving. It asks for the root status first.
-    #[tactic(auto, unfolding(crate::specs::Duties::config_of, crate::specs::Duties::asks_of, crate::specs::Duties::left_of, crate::specs::Duties::swaps_of, crate::specs::Duties::made_of, crate::specs::Duties::needs_of, crate::specs::Duties::wants_of, crate::specs::Duties::facts_of, crate::specs::Duties::means_of, crate::specs::Duties::ascent_of, crate::specs::Duties::makes_no_change, crate::specs::LookingUp::look_of, crate::specs::LookingUp::reads_asked))]
+    #[tactic(auto, unfolding(crate::specs::Duties::config_of, crate::specs::Duties::asks_of, crate::specs::Duties::left_of, crate::specs::Duties::swaps_of, crate::specs::Duties::made_of, crate::specs::Duties::needs_of, crate::specs::Duties::wants_of, crate::specs::Duties::facts_of, crate::specs::Duties::means_of, crate::specs::Duties::ascent_of, crate::specs::Duties::makes_no_change, crate::specs::LookingUp::look_of, crate::specs::LookingUp::reads_asked, crate::specs::Kinds::kind_of))]
     pub fn seek(config: &Config, key: Key) -> AnyTask
         ensures config { config_of result ≡ config.now }
+        ensures kind { kind_of result ≡ kind.Seek }
         ensures asks { asks_of result ≡ Some (Read ROOT_STATUS_AT) }
         ensures left { left_of result ≡ seek_reads }
         ensures swaps { swaps_of result ≡ 0 }
@@ -86,11 +89,12 @@ impl AnyTask {
     }
 
     /// A look-up of a key in the last leaf of a path.
-    #[tactic(auto, unfolding(crate::specs::Duties::config_of, crate::specs::Duties::asks_of, crate::specs::Duties::left_of, crate::specs::Duties::swaps_of, crate::specs::Duties::made_of, crate::specs::Duties::needs_of, crate::specs::Duties::wants_of, crate::specs::Duties::facts_of, crate::specs::Duties::means_of, crate::specs::Duties::ascent_of, crate::specs::Duties::makes_no_change, crate::specs::Duties::change_of, crate::specs::LookingUp::look_of, crate::specs::LookingUp::reads_asked))]
+    #[tactic(auto, unfolding(crate::specs::Duties::config_of, crate::specs::Duties::asks_of, crate::specs::Duties::left_of, crate::specs::Duties::swaps_of, crate::specs::Duties::made_of, crate::specs::Duties::needs_of, crate::specs::Duties::wants_of, crate::specs::Duties::facts_of, crate::specs::Duties::means_of, crate::specs::Duties::ascent_of, crate::specs::Duties::makes_no_change, crate::specs::Duties::change_of, crate::specs::LookingUp::look_of, crate::specs::LookingUp::reads_asked, crate::specs::Kinds::kind_of))]
     pub fn find(config: &Config, path: Path, key: Key) -> AnyTask
         requires some { 1 ≤ path.depth }
         requires few { path.depth ≤ MAX_LEVELS }
         ensures config { config_of result ≡ config.now }
+        ensures kind { kind_of result ≡ kind.Find }
         ensures asks { asks_of result ≡ None }
         ensures left { left_of result ≡ find_acts }
         ensures swaps { swaps_of result ≡ 0 }
@@ -109,11 +113,12 @@ impl AnyTask {
     }
 
     /// A reading of the last leaf of a path.
-    #[tactic(auto, unfolding(crate::specs::Duties::config_of, crate::specs::Duties::asks_of, crate::specs::Duties::left_of, crate::specs::Duties::swaps_of, crate::specs::Duties::made_of, crate::specs::Duties::needs_of, crate::specs::Duties::wants_of, crate::specs::Duties::facts_of, crate::specs::Duties::means_of, crate::specs::Duties::ascent_of, crate::specs::Duties::makes_no_change))]
+    #[tactic(auto, unfolding(crate::specs::Duties::config_of, crate::specs::Duties::asks_of, crate::specs::Duties::left_of, crate::specs::Duties::swaps_of, crate::specs::Duties::made_of, crate::specs::Duties::needs_of, crate::specs::Duties::wants_of, crate::specs::Duties::facts_of, crate::specs::Duties::means_of, crate::specs::Duties::ascent_of, crate::specs::Duties::makes_no_change, crate::specs::Kinds::kind_of))]
     pub fn read_leaf(config: &Config, path: Path, key: Key) -> AnyTask
         requires some { 1 ≤ path.depth }
         requires few { path.depth ≤ MAX_LEVELS }
         ensures config { config_of result ≡ config.now }
+        ensures kind { kind_of result ≡ kind.ReadWhole }
         ensures asks { asks_of result ≡ None }
         ensures left { left_of result ≡ leaf_acts }
         ensures swaps { swaps_of result ≡ 0 }
@@ -128,10 +133,11 @@ impl AnyTask {
     }
 
     /// The insert of a key that was not found in its leaf.
-    #[tactic(auto, unfolding(crate::specs::Duties::config_of, crate::specs::Duties::asks_of, crate::specs::Duties::left_of, crate::specs::Duties::swaps_of, crate::specs::Duties::made_of, crate::specs::Duties::change_swaps, crate::specs::Duties::needs_of, crate::specs::Duties::wants_of, crate::specs::Duties::change_of, crate::specs::Duties::facts_of, crate::specs::Duties::means_of, crate::specs::Duties::ascent_of))]
+    #[tactic(auto, unfolding(crate::specs::Duties::config_of, crate::specs::Duties::asks_of, crate::specs::Duties::left_of, crate::specs::Duties::swaps_of, crate::specs::Duties::made_of, crate::specs::Duties::change_swaps, crate::specs::Duties::needs_of, crate::specs::Duties::wants_of, crate::specs::Duties::change_of, crate::specs::Duties::facts_of, crate::specs::Duties::means_of, crate::specs::Duties::ascent_of, crate::specs::Kinds::kind_of))]
     pub fn insert(config: &Config, path: Path, view: KeyView, key: Key, payload: Payload) -> AnyTask
         requires absent { view.found ≡ None }
         ensures config { config_of result ≡ config.now }
+        ensures kind { kind_of result ≡ kind.Insert }
         ensures asks { asks_of result ≡ None }
         ensures left { left_of result ≡ insert_acts }
         ensures swaps { swaps_of result ≡ INSERT_SWAPS }
@@ -150,10 +156,11 @@ impl AnyTask {
     }
 
     /// The update of a key that was found in its leaf.
-    #[tactic(auto, unfolding(crate::specs::Duties::config_of, crate::specs::Duties::asks_of, crate::specs::Duties::left_of, crate::specs::Duties::swaps_of, crate::specs::Duties::made_of, crate::specs::Duties::change_swaps, crate::specs::Duties::needs_of, crate::specs::Duties::wants_of, crate::specs::Duties::change_of, crate::specs::Duties::facts_of, crate::specs::Duties::means_of, crate::specs::Duties::ascent_of))]
+    #[tactic(auto, unfolding(crate::specs::Duties::config_of, crate::specs::Duties::asks_of, crate::specs::Duties::left_of, crate::specs::Duties::swaps_of, crate::specs::Duties::made_of, crate::specs::Duties::change_swaps, crate::specs::Duties::needs_of, crate::specs::Duties::wants_of, crate::specs::Duties::change_of, crate::specs::Duties::facts_of, crate::specs::Duties::means_of, crate::specs::Duties::ascent_of, crate::specs::Kinds::kind_of))]
     pub fn update(config: &Config, path: Path, view: KeyView, key: Key, payload: Payload) -> AnyTask
         requires present { view.found ≢ None }
         ensures config { config_of result ≡ config.now }
+        ensures kind { kind_of result ≡ kind.Update }
         ensures asks { asks_of result ≡ None }
         ensures left { left_of result ≡ update_acts }
         ensures swaps { swaps_of result ≡ UPDATE_SWAPS }
@@ -172,10 +179,11 @@ impl AnyTask {
     }
 
     /// The delete of a key that was found in its leaf.
-    #[tactic(auto, unfolding(crate::specs::Duties::config_of, crate::specs::Duties::asks_of, crate::specs::Duties::left_of, crate::specs::Duties::swaps_of, crate::specs::Duties::made_of, crate::specs::Duties::change_swaps, crate::specs::Duties::needs_of, crate::specs::Duties::wants_of, crate::specs::Duties::change_of, crate::specs::Duties::facts_of, crate::specs::Duties::means_of, crate::specs::Duties::ascent_of))]
+    #[tactic(auto, unfolding(crate::specs::Duties::config_of, crate::specs::Duties::asks_of, crate::specs::Duties::left_of, crate::specs::Duties::swaps_of, crate::specs::Duties::made_of, crate::specs::Duties::change_swaps, crate::specs::Duties::needs_of, crate::specs::Duties::wants_of, crate::specs::Duties::change_of, crate::specs::Duties::facts_of, crate::specs::Duties::means_of, crate::specs::Duties::ascent_of, crate::specs::Kinds::kind_of))]
     pub fn delete(config: &Config, path: Path, view: KeyView, key: Key) -> AnyTask
         requires present { view.found ≢ None }
         ensures config { config_of result ≡ config.now }
+        ensures kind { kind_of result ≡ kind.Delete }
         ensures asks { asks_of result ≡ None }
         ensures left { left_of result ≡ delete_left FreshDelete }
         ensures swaps { swaps_of result ≡ DELETE_SWAPS }
@@ -194,10 +202,11 @@ impl AnyTask {
     }
 
     /// The freeze of a leaf that was not frozen when it was viewed.
-    #[tactic(auto, unfolding(crate::specs::Duties::config_of, crate::specs::Duties::asks_of, crate::specs::Duties::left_of, crate::specs::Duties::swaps_of, crate::specs::Duties::made_of, crate::specs::Duties::needs_of, crate::specs::Duties::wants_of, crate::specs::Duties::facts_of, crate::specs::Duties::means_of, crate::specs::Duties::ascent_of, crate::specs::Duties::makes_no_change))]
+    #[tactic(auto, unfolding(crate::specs::Duties::config_of, crate::specs::Duties::asks_of, crate::specs::Duties::left_of, crate::specs::Duties::swaps_of, crate::specs::Duties::made_of, crate::specs::Duties::needs_of, crate::specs::Duties::wants_of, crate::specs::Duties::facts_of, crate::specs::Duties::means_of, crate::specs::Duties::ascent_of, crate::specs::Duties::makes_no_change, crate::specs::Kinds::kind_of))]
     pub fn freeze(config: &Config, path: Path, view: LeafView) -> AnyTask
         requires thawed { (status view.status).frozen ≡ false }
         ensures config { config_of result ≡ config.now }
+        ensures kind { kind_of result ≡ kind.Freeze }
         ensures asks { asks_of result ≡ None }
         ensures left { left_of result ≡ freeze_left FreshFreeze }
         ensures swaps { swaps_of result ≡ FREEZE_SWAPS }
@@ -214,7 +223,7 @@ impl AnyTask {
     }
 
     /// The consolidation of a frozen leaf, to which the path leads.
-    #[tactic(auto, unfolding(crate::specs::Duties::config_of, crate::specs::Duties::asks_of, crate::specs::Duties::left_of, crate::specs::Duties::swaps_of, crate::specs::Duties::made_of, crate::specs::Duties::needs_of, crate::specs::Duties::wants_of, crate::specs::Duties::facts_of, crate::specs::Duties::means_of, crate::specs::Duties::ascent_of, crate::specs::Duties::makes_no_change))]
+    #[tactic(auto, unfolding(crate::specs::Duties::config_of, crate::specs::Duties::asks_of, crate::specs::Duties::left_of, crate::specs::Duties::swaps_of, crate::specs::Duties::made_of, crate::specs::Duties::needs_of, crate::specs::Duties::wants_of, crate::specs::Duties::facts_of, crate::specs::Duties::means_of, crate::specs::Duties::ascent_of, crate::specs::Duties::makes_no_change, crate::specs::Kinds::kind_of))]
     pub fn consolidate(config: &Config, path: Path, view: LeafView, page: &mut PageBuf) -> AnyTask
         requires some { 1 ≤ path.depth }
         requires few { path.depth ≤ MAX_LEVELS }
@@ -222,6 +231,7 @@ impl AnyTask {
         requires leads { LeadsTo path view.slot }
         requires alone { IsLeafByItself view.image.0 }
         ensures config { config_of result ≡ config.now }
+        ensures kind { kind_of result ≡ kind.Copy }
         ensures asks { asks_of result ≡ None }
         ensures left { left_of result ≡ consol_acts }
         ensures swaps { swaps_of result ≡ RENEWAL_SWAPS }
@@ -238,7 +248,7 @@ impl AnyTask {
     }
 
     /// The split of a frozen root leaf with more live words than it may keep, to which the path leads.
-    #[tactic(auto, unfolding(crate::specs::Duties::config_of, crate::specs::Duties::asks_of, crate::specs::Duties::left_of, crate::specs::Duties::swaps_of, crate::specs::Duties::made_of, crate::specs::Duties::needs_of, crate::specs::Duties::wants_of, crate::specs::Duties::facts_of, crate::specs::Duties::means_of, crate::specs::Duties::ascent_of, crate::specs::Duties::makes_no_change))]
+    #[tactic(auto, unfolding(crate::specs::Duties::config_of, crate::specs::Duties::asks_of, crate::specs::Duties::left_of, crate::specs::Duties::swaps_of, crate::specs::Duties::made_of, crate::specs::Duties::needs_of, crate::specs::Duties::wants_of, crate::specs::Duties::facts_of, crate::specs::Duties::means_of, crate::specs::Duties::ascent_of, crate::specs::Duties::makes_no_change, crate::specs::Kinds::kind_of))]
     pub fn split_root(config: &Config, path: Path, view: LeafView, page: &mut PageBuf) -> AnyTask
         requires root { path.depth ≡ 1 }
         requires alone { IsLeafByItself view.image.0 }
@@ -246,6 +256,7 @@ impl AnyTask {
         requires frozen { (status view.status).frozen ≡ true }
         requires leads { LeadsTo path view.slot }
         ensures config { config_of result ≡ config.now }
+        ensures kind { kind_of result ≡ kind.SplitRootLeaf }
         ensures asks { asks_of result ≡ None }
         ensures left { left_of result ≡ split_acts }
         ensures swaps { swaps_of result ≡ RENEWAL_SWAPS }
@@ -261,7 +272,7 @@ impl AnyTask {
     }
 
     /// The split of a frozen leaf below a parent, with more live words than it may keep, to which the path leads.
-    #[tactic(auto, unfolding(crate::specs::Duties::config_of, crate::specs::Duties::asks_of, crate::specs::Duties::left_of, crate::specs::Duties::swaps_of, crate::specs::Duties::made_of, crate::specs::Duties::needs_of, crate::specs::Duties::wants_of, crate::specs::Duties::facts_of, crate::specs::Duties::means_of, crate::specs::Duties::ascent_of, crate::specs::Duties::makes_no_change))]
+    #[tactic(auto, unfolding(crate::specs::Duties::config_of, crate::specs::Duties::asks_of, crate::specs::Duties::left_of, crate::specs::Duties::swaps_of, crate::specs::Duties::made_of, crate::specs::Duties::needs_of, crate::specs::Duties::wants_of, crate::specs::Duties::facts_of, crate::specs::Duties::means_of, crate::specs::Duties::ascent_of, crate::specs::Duties::makes_no_change, crate::specs::Kinds::kind_of))]
     pub fn split_below(
         config: &Config,
         path: Path,
@@ -277,6 +288,7 @@ impl AnyTask {
         requires leads { LeadsTo path view.slot }
         requires thawed { IsThawedAbove path }
         ensures config { config_of result ≡ config.now }
+        ensures kind { IsLeafSplit key path (kind_of result) }
         ensures asks { asks_of result ≡ None }
         ensures left { left_of result ≡ below_acts }
         ensures swaps { swaps_of result ≡ RENEWAL_SWAPS }
@@ -297,7 +309,7 @@ impl AnyTask {
 
     /// The merge of a leaf below a parent, frozen or not, to which the path leads and which has too few live words to stand alone, with a
     /// neighbour.
-    #[tactic(auto, unfolding(crate::specs::Duties::config_of, crate::specs::Duties::asks_of, crate::specs::Duties::left_of, crate::specs::Duties::swaps_of, crate::specs::Duties::made_of, crate::specs::Duties::needs_of, crate::specs::Duties::wants_of, crate::specs::Duties::facts_of, crate::specs::Duties::means_of, crate::specs::Duties::ascent_of, crate::specs::Duties::makes_no_change))]
+    #[tactic(auto, unfolding(crate::specs::Duties::config_of, crate::specs::Duties::asks_of, crate::specs::Duties::left_of, crate::specs::Duties::swaps_of, crate::specs::Duties::made_of, crate::specs::Duties::needs_of, crate::specs::Duties::wants_of, crate::specs::Duties::facts_of, crate::specs::Duties::means_of, crate::specs::Duties::ascent_of, crate::specs::Duties::makes_no_change, crate::specs::Kinds::kind_of))]
     pub fn merge(config: &Config, path: Path, view: LeafView) -> AnyTask
         requires deep { 2 ≤ path.depth }
         requires few { path.depth ≤ MAX_LEVELS }
@@ -305,6 +317,7 @@ impl AnyTask {
         requires leads { LeadsTo path view.slot }
         requires thawed { IsThawedAbove path }
         ensures config { config_of result ≡ config.now }
+        ensures kind { kind_of result ≡ kind.Merge }
         ensures asks { asks_of result ≡ None }
         ensures left { left_of result ≡ merge_acts }
         ensures swaps { swaps_of result ≡ MERGE_SWAPS }
@@ -314,12 +327,14 @@ impl AnyTask {
         ensures silent { makes_no_change result ≡ true }
         ensures facts { (key : List ℕ) (s : Scene) → s.past.config ≡ config.now → IsScene s → IsPath key path s.past → IsView key view s.past → facts_of result Waiting s }
         ensures ends { (key : List ℕ) (way : Option Path) → IsLookup key way result }
+        // it is one for the key of the leaf, where that was frozen when it was viewed
+        ensures merge_for { (key : List ℕ) (p : Past) → IsView key view p → (status view.status).frozen ≡ true → IsMergeFor result key p }
     {
         AnyTask::Merging(Merge::new(config, path, view))
     }
 
     /// Tells the task what came of its last act, and answers what it asks for next: `next`, and that one which makes no change makes none later.
-    #[tactic(auto, unfolding(crate::specs::Duties::config_of, crate::specs::Duties::asks_of, crate::specs::Duties::end_of, crate::specs::Duties::left_of, crate::specs::Duties::swaps_of, crate::specs::Duties::made_of, crate::specs::Duties::change_swaps, crate::specs::Duties::needs_of, crate::specs::Duties::wants_of, crate::specs::Duties::change_of, crate::specs::Duties::facts_of, crate::specs::Duties::means_of, crate::specs::Duties::differs_of, crate::specs::Duties::ascent_of, crate::specs::Duties::makes_no_change, crate::specs::MadeFor::IsMadeFor))]
+    #[tactic(auto, unfolding(crate::specs::Duties::config_of, crate::specs::Duties::asks_of, crate::specs::Duties::end_of, crate::specs::Duties::left_of, crate::specs::Duties::swaps_of, crate::specs::Duties::made_of, crate::specs::Duties::change_swaps, crate::specs::Duties::needs_of, crate::specs::Duties::wants_of, crate::specs::Duties::change_of, crate::specs::Duties::facts_of, crate::specs::Duties::means_of, crate::specs::Duties::differs_of, crate::specs::Duties::ascent_of, crate::specs::Duties::makes_no_change, crate::specs::MadeFor::IsMadeFor, crate::specs::MadeFor::IsMergeFor, crate::specs::Kinds::kind_of))]
     pub fn hear(&mut self, seen: Seen, slots: &mut Slots, moment: u32) -> Todo
         requires hears { Hears (asks_of self.old) seen }
         requires known { IsKnown (config_of self.old) (facts_of self.old) (asks_of self.old) seen moment }
@@ -346,7 +361,10 @@ impl AnyTask {
     }
 
     /// Whether it is a delete that leaves so little in its leaf that this may be merged.
-    pub fn leaves_few(&self) -> bool {
+    #[tactic(auto, unfolding(crate::specs::Kinds::kind_of))]
+    pub fn leaves_few(&self) -> bool
+        ensures { result ≡ true → kind_of self.now ≡ kind.Delete }
+    {
         match self {
             AnyTask::Deleting(task) => task.leaves_few(),
             _ => false,
@@ -376,6 +394,7 @@ impl AnyTask {
         bz_merge::laws::merges_take_two_slots();
         bz_ascent::laws::ascents_end();
         laws::views_stay();
+        let _ended = self.ended();
         self.learnt();
         self.acted();
     }

@@ -6,3 +6,4 @@ mod Knowing
 pub mod Counting
 mod Acting
 mod Viewing
+mod Beginning

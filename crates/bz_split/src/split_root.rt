@@ -15,7 +15,7 @@ ghost use Rattle.bz_task.specs.OwnActs.{AreTakenFrom, AreUnreached, gained};
 ghost use Rattle.bz_task.specs.Requests.{Hears, Tells, IsKnown, swaps_in, effects_in};
 ghost use Rattle.bz_task.specs.Scene.{Scene, Stage, Waiting, IsScene};
 ghost use Rattle.bz_layout.specs.declared.swaps.TheConstants.{RENEWAL_SWAPS};
-ghost use Rattle.bz_task.specs.declared.todo.Seen.TheVariants.{Read as Was, Swapped, NoSwap as NoneLeft};
+ghost use Rattle.bz_task.specs.declared.todo.Seen.TheVariants.{Start, Read as Was, Swapped, NoSwap as NoneLeft};
 ghost use Rattle.bz_split.specs.Duties.{split_of, asks_of, basis_of, end_of, left_of, swaps_of, made_of, needs_of, facts_of, differs_of};
 ghost use Rattle.bz_split.specs.Parts.{ArePartsOf};
 ghost use Rattle.bz_split.specs.Facts.{IsEndOfSplit, HasBegun, HasLooked, nodes_in, split_acts, split_end, split_left, split_swaps, split_facts, split_means, split_change, IsReady, WasParted, next_store, next_flush};
@@ -102,6 +102,7 @@ impl SplitRoot {
         ensures fewer { split_swaps result + swaps_in (asks_of self.now) ≤ swaps_of self.now }
         ensures counted { split_end result ≡ None → effects_in seen ≡ 0 }
         ensures done { result ≡ Phase.Done → seen ≡ Swapped true }
+        ensures last { seen ≡ Swapped true → result ≡ Phase.Done }
         ensures restart { result ≡ Phase.Restart → seen ≡ Swapped false }
         ensures no_swap { (result ≡ Phase.NoSwap) ↔ (seen ≡ NoneLeft) }
         ensures slots { result ≢ Phase.NoSlot }
@@ -169,7 +170,9 @@ impl SplitRoot {
         ensures fewer { swaps_of self.new + swaps_in (asks_of self.old) ≤ swaps_of self.old }
         ensures counted { end_of self.new ≡ None → effects_in seen ≡ 0 }
         ensures slots { AreTakenFrom (needs_of self.old) (needs_of self.new) slots.old slots.new }
+        ensures begins { seen ≡ Start → end_of self.new ≡ None }
         ensures done { end_of self.new ≡ Some Outcome.Done → seen ≡ Swapped true }
+        ensures last { seen ≡ Swapped true → end_of self.new ≡ Some Outcome.Done }
         ensures restart { end_of self.new ≡ Some Outcome.Restart → (seen ≡ Swapped false) ⊎ differs_of self.old seen }
         ensures no_swap { seen ≡ NoneLeft → end_of self.new ≡ Some (Outcome.Full Spent.Swaps) }
         ensures full_swaps { end_of self.new ≡ Some (Outcome.Full Spent.Swaps) → seen ≡ NoneLeft }

@@ -1,15 +1,16 @@
 -- The stage of a leaf, case by case.
-use Rattle.std.proofs.Common.{◌≡◌, ℕ, ◌+◌, ◌<◌, ◌≤◌, if◌then◌else◌, ◌&&◌, Bool, true, false, arith, ap, ◌∙◌}
+use Rattle.std.proofs.Common.{◌≡◌, ℕ, ◌+◌, ◌<◌, ◌≤◌, if◌then◌else◌, ◌&&◌, Bool, true, false, arith, ap, ◌∙◌, inl, inr}
 use Rattle.std.specs.Prelude.{not, nat_lt, nat_le}
+use Rattle.std.proofs.lemmas.Bool.{cases_lt}
 use Rattle.std.proofs.lemmas.Bool.Decides.{nat_tests}
 use Rattle.bz_layout.specs.Rooms.{SettledLeafTakesRecord}
 use Rattle.bz_layout.specs.declared.sizes.TheConstants.{SHARED_WORDS}
 use Rattle.bz_layout.specs.declared.thresholds.TheConstants.{LEAF_RECORD_WORDS, SPLIT_ABOVE}
 use Rattle.bz_slotted.specs.Page.{Page}
 use Rattle.bz_slotted.specs.Records.{live_words}
-use Rattle.bz_stage.specs.Laws.{StagesSay}
+use Rattle.bz_stage.specs.Laws.{StagesSay, LackingLeavesSay}
 use Rattle.bz_stage.specs.Rooms.{words_taken, has_room, is_crowded}
-use Rattle.bz_stage.specs.Stages.{frozen_stage, stage_of}
+use Rattle.bz_stage.specs.Stages.{leaf_page, full_above, frozen_stage, stage_of}
 use Rattle.bz_stage.specs.Swaps.{IsRoomy}
 
 pub less : (a b : ℕ) → a < b → nat_lt a b ≡ true
@@ -55,6 +56,27 @@ stage-copied p full words frozen few = stage-frozen p full words frozen ∙ ap (
 
 pub stages-say : StagesSay
 stages-say = record { ready = stage-ready; lacking = stage-lacking; copied = stage-copied; split = stage-split }
+
+-- a leaf that is not frozen and has no room
+thawed-lacks : (p : Page) (full words : ℕ) → p.frozen ≡ false → 0 < stage_of p full words → 2 ≤ stage_of p full words
+thawed-lacks p full words thawed some = elim (cases_lt SHARED_WORDS (words_taken p + words)) [
+  | inl l ↦ let e : stage_of p full words ≡ 1 + frozen_stage p full = stage-lacking p full words thawed l in omega (arith, e)
+  | inr l ↦ let e : stage_of p full words ≡ 0 = stage-ready p full words thawed l in absurd (omega (arith, e, some))
+]
+
+-- and frozen ones
+frozen-lacks : (p : Page) (full words : ℕ) → p.frozen ≡ true → 1 ≤ stage_of p full words
+frozen-lacks p full words frozen = let e : stage_of p full words ≡ frozen_stage p full = stage-frozen p full words frozen in omega (arith, e)
+
+few-copied : (p : Page) (full words : ℕ) → p.frozen ≡ true → is_crowded p ≡ false → stage_of p full words ≡ 1
+few-copied p full words frozen few = stage-frozen p full words frozen ∙ ap (λ (b : Bool). 1 + (if b then full else 0)) few
+
+pub lacking-leaves-say : LackingLeavesSay
+lacking-leaves-say = record {
+  thawed = λ c x key words. thawed-lacks (leaf_page c x key) (full_above c x key) words;
+  frozen = λ c x key words. frozen-lacks (leaf_page c x key) (full_above c x key) words;
+  copied = λ c x key words. few-copied (leaf_page c x key) (full_above c x key) words;
+}
 
 -- a roomy leaf has room for any record, and one word more
 pub roomy-ready : SettledLeafTakesRecord → (p : Page) (full words : ℕ) → IsRoomy p → words ≤ LEAF_RECORD_WORDS + 1 → stage_of p full words ≡ 0

@@ -13,7 +13,7 @@ use Rattle.bz_content.specs.Restructures.{Splits, SplitsRoot}
 use Rattle.bz_content.specs.Swaps.{Consolidates}
 use Rattle.bz_content.specs.View.{view_of}
 use Rattle.bz_stage.specs.Paths.{on_path, StandsOver}
-use Rattle.bz_stage.specs.Rooms.{words_taken}
+use Rattle.bz_stage.specs.Rooms.{words_taken, is_crowded}
 use Rattle.bz_stage.specs.Stages.{leaf_page, page_on_path, root_level, full_above, frozen_stage, stage_of, stage}
 use Rattle.bz_stage.specs.Swaps.{FreezesLeaf, IsRoomyLeaf, IsRoomyInner, IsCrowdedBelow}
 
@@ -23,6 +23,13 @@ pub record StagesSay : Type 0 where
   pub lacking : (p : Page) (full words : ℕ) → p.frozen ≡ false → SHARED_WORDS < words_taken p + words → stage_of p full words ≡ 1 + frozen_stage p full
   pub copied : (p : Page) (full words : ℕ) → p.frozen ≡ true → live_words p ≤ SPLIT_ABOVE → stage_of p full words ≡ 1
   pub split : (p : Page) (full words : ℕ) → p.frozen ≡ true → SPLIT_ABOVE < live_words p → stage_of p full words ≡ 1 + full
+
+-- so of a key in an image: a leaf that is not frozen and has no room is two rounds away from it at least, as it is frozen first; a frozen one is
+-- one round away, and no more where it is copied
+pub record LackingLeavesSay : Type 0 where
+  pub thawed : (c : Config) (x : Image) (key : List ℕ) (words : ℕ) → (leaf_page c x key).frozen ≡ false → 0 < stage c x key words → 2 ≤ stage c x key words
+  pub frozen : (c : Config) (x : Image) (key : List ℕ) (words : ℕ) → (leaf_page c x key).frozen ≡ true → 1 ≤ stage c x key words
+  pub copied : (c : Config) (x : Image) (key : List ℕ) (words : ℕ) → (leaf_page c x key).frozen ≡ true → is_crowded (leaf_page c x key) ≡ false → stage c x key words ≡ 1
 
 -- the slot on the way to a key is the one reached slot of its level in whose range the key is
 abbrev pub PathsAreOfKeys : Type 0

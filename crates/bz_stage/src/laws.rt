@@ -1,7 +1,7 @@
 //! Laws of stages. Each function does nothing but call the laws that it follows from: its contract is the law.
 
 ghost use Rattle.bz_stage.specs.Examples.{StagesAreTold};
-ghost use Rattle.bz_stage.specs.Laws.{StagesSay, PathsAreOfKeys, FullNodesAreCounted, StagesAreBounded, FreezesLowerTheStage, CopiesGiveRoom, LeafSplitsGiveRoom, RootLeafSplitsGiveRoom, InnerSplitsLowerTheStage, RootSplitsLowerTheStage, SplitsLeaveALevel};
+ghost use Rattle.bz_stage.specs.Laws.{StagesSay, LackingLeavesSay, PathsAreOfKeys, FullNodesAreCounted, StagesAreBounded, FreezesLowerTheStage, CopiesGiveRoom, LeafSplitsGiveRoom, RootLeafSplitsGiveRoom, InnerSplitsLowerTheStage, RootSplitsLowerTheStage, SplitsLeaveALevel};
 ghost use Rattle.bz_stage.specs.Made.{MadeLeavesAreRoomy, MadeInnersTakeTheirEntries, EntriesTakeTheWords};
 
 use bz_content::laws as content;
@@ -16,6 +16,11 @@ pub fn stages_are_told()
 /// What the stage of a leaf says of it.
 pub fn stages_say()
     ensures { StagesSay }
+{}
+
+/// So a key whose leaf has no room is two rounds away from it at least, or where the leaf is frozen one.
+pub fn lacking_leaves_say()
+    ensures { LackingLeavesSay }
 {}
 
 /// The node of a level on the way to a key is the one reached node of that level in whose range the key is.

@@ -1,5 +1,5 @@
 -- What a task may ask for, and what it may be told of it.
-use Rattle.std.specs.Prelude.{◌≡◌, ℕ, ◌+◌, ◌*◌, ◌^◌, ◌<◌, ◌≤◌, ◌⊎◌, true, false, All, Option, Some, None, ◌≢◌}
+use Rattle.std.specs.Prelude.{◌≡◌, ℕ, zero, ◌+◌, ◌*◌, ◌^◌, ◌<◌, ◌≤◌, ◌⊎◌, true, false, All, Option, Some, None, ◌≢◌}
 use Rattle.bz_layout.specs.Addresses.{node_address, words_of, IsOutsideSwaps}
 use Rattle.bz_layout.specs.declared.config.Config.{Config}
 use Rattle.bz_layout.specs.declared.sizes.TheConstants.{LINE_WORDS, NODE_WORDS, STATUS_AT, META_AT, ROOT_AT, ROOT_STATUS_AT}
@@ -9,6 +9,8 @@ use Rattle.bz_word.specs.Statuses.{status}
 use Rattle.bz_word.specs.declared.entry.Entry.{Entry}
 use Rattle.bz_task.specs.Instant.{page_at}
 use Rattle.bz_task.specs.Scene.{Scene, Stage, Waiting, Took, IsMine, IsScene, HasFilled, here}
+use Rattle.bz_task.specs.declared.todo.Outcome.{Outcome}
+use Rattle.bz_task.specs.declared.todo.Outcome.TheVariants.{Key, NeedsRoom}
 use Rattle.bz_task.specs.declared.todo.Seen.{Seen}
 use Rattle.bz_task.specs.declared.todo.Seen.TheVariants.{Start, Read as Was, Stored, Flushed, Swapped, NoSwap}
 use Rattle.bz_task.specs.declared.todo.Todo.{Todo}
@@ -84,6 +86,13 @@ Hears (Some (Flush line)) Flushed = Unit {0}
 Hears (Some (Swap entries)) (Swapped won) = Unit {0}
 Hears (Some (Swap entries)) NoSwap = Unit {0}
 Hears asked seen = ⊥
+
+-- with this a task may end as it begins: one that takes no slots, with what its leaf says of its key, or because its leaf has no
+-- room
+abbrev pub EndsAtOnce : ℕ → Outcome → Type 0
+EndsAtOnce zero (Key view) = Unit {0}
+EndsAtOnce zero NeedsRoom = Unit {0}
+EndsAtOnce needs outcome = ⊥
 
 -- a read answers what the address holds, directly after a load of the task's own
 pub record Answers (s : Scene) (a v : ℕ) : Type 0 where

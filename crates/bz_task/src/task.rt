@@ -9,12 +9,12 @@ ghost use Rattle.bz_word.specs.declared.entry.Entry.{Entry};
 ghost use Rattle.bz_task.specs.Basis.{Basis};
 ghost use Rattle.bz_task.specs.Instant.{Instant};
 ghost use Rattle.bz_task.specs.OwnActs.{Stores, Flushes, AreTakenFrom, AreUnreached, gained};
-ghost use Rattle.bz_task.specs.Requests.{IsAskable, Hears, Tells, IsKnown, IsCause, swaps_in, effects_in};
+ghost use Rattle.bz_task.specs.Requests.{IsAskable, Hears, Tells, IsKnown, IsCause, EndsAtOnce, swaps_in, effects_in};
 ghost use Rattle.bz_task.specs.Scene.{Scene, Stage, Waiting, Took, IsScene, IsLawful, HasFilled, here};
 ghost use Rattle.bz_task.specs.Swaps.{Change, Stand, SwapsTo, IsGoodSwap, Takes};
 ghost use Rattle.bz_task.specs.declared.todo.Outcome.TheVariants.{Done, Restart, Full};
 ghost use Rattle.bz_task.specs.declared.todo.Outcome.{Outcome};
-ghost use Rattle.bz_task.specs.declared.todo.Seen.TheVariants.{Swapped, NoSwap};
+ghost use Rattle.bz_task.specs.declared.todo.Seen.TheVariants.{Start, Swapped, NoSwap};
 ghost use Rattle.bz_task.specs.declared.todo.Seen.{Seen};
 ghost use Rattle.bz_task.specs.declared.todo.Todo.TheVariants.{Store, Flush, Swap, Finish};
 ghost use Rattle.bz_task.specs.declared.todo.Todo.{Todo};
@@ -89,6 +89,12 @@ pub trait Task: Drop {
         ensures meant { (outcome : Outcome) (s : Scene) → means self.new outcome s → means self.old outcome s }
         ensures slots { AreTakenFrom (needs self.old) (needs self.new) slots.old slots.new }
         // how it ends, and why
+        // told to begin it asks for an act; only one that takes no slots may end at once: with what its leaf says of the key, or
+        // for want of room there
+        ensures begins { (outcome : Outcome) → seen ≡ Start → end self.new ≡ Some outcome → EndsAtOnce (needs self.old) outcome }
+        // it ends with Done where the last swap that it could still ask for took effect, and nowhere else
+        ensures last { seen ≡ Swapped true → swaps self.old ≡ 1 → end self.new ≡ Some Done }
+        ensures only_last { end self.new ≡ Some Done → swaps self.old ≡ 1 }
         ensures done { end self.new ≡ Some Done → seen ≡ Swapped true }
         // the swap that makes the change is its last act, where it takes effect
         ensures published { publishing self.old ≡ true → seen ≡ Swapped true → asks self.new ≡ Some Finish }

@@ -15,5 +15,4 @@ returns c =
       made = c.made_inners_take_their_entries.ensures;
       paths = c.paths_are_of_keys.ensures;
       crowded = c.ascents_are_crowded.ensures;
-      lower = c.inner_splits_lower_the_stage.ensures;
-    })
+    }) c.inner_splits_lower_the_stage.ensures

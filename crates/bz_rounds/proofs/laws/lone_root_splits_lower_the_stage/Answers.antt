@@ -16,5 +16,4 @@ returns c =
       part = c.children_part_in_halves.ensures;
       made = c.made_inners_take_their_entries.ensures;
       crowded = c.ascents_are_crowded.ensures;
-      lower = c.root_splits_lower_the_stage.ensures;
-    })
+    }) c.root_splits_lower_the_stage.ensures

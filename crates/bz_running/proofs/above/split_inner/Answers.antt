@@ -1,15 +1,17 @@
-use Rattle.std.proofs.Common.{◌≡◌, ◌+◌, ◌-◌, arith, refl, sym, ap, subst, Some}
+use Rattle.std.proofs.Common.{◌≡◌, ◌+◌, ◌-◌, arith, refl, sym, ap, subst, Some, inl}
 use Rattle.std.specs.Prelude.{slice_get}
 use Rattle.bz_ascent.specs.declared.ascent.Ascent.{Ascent}
 use Rattle.bz_running.specs.Duties.{config_of, asks_of, swaps_of, made_of, wants_of, ascent_of, facts_of, means_of, makes_no_change, left_of}
+use Rattle.bz_running.specs.Kinds.{kind_of}
 use Rattle.bz_running.specs.MadeFor.{IsMadeFor}
 use Rattle.bz_running.proofs.Ascending.{same-ascent}
 use Rattle.bz_running.proofs.above.split_inner.Goals as goal
 
-pub returns : goal.returns
-unfolding config_of asks_of swaps_of made_of wants_of ascent_of facts_of means_of makes_no_change IsMadeFor left_of
-returns c = record {
+pub returns-clause-split : goal.returns-clause-split
+unfolding config_of asks_of swaps_of made_of wants_of ascent_of facts_of means_of makes_no_change IsMadeFor left_of kind_of
+returns-clause-split c = record {
   config = c.new-task.ensures.config;
+  kind = inl (refl, c.requires.below);
   asks = c.new-task.ensures.asks;
   left = omega (arith, c.new-task.ensures.left);
   swaps = c.new-task.ensures.swaps;
@@ -32,13 +34,17 @@ returns c = record {
       },
     ),
   );
-  made_for = λ view words p w. (
+  made_for = λ view words p foot w. (
       let down : c.args.ascent.place ≡ c.args.ascent.place - 1 + 1 = omega (arith, c.requires.below) in
       record {
-        key_is = refl;
-        node = sym (c.new-task.ensures.node c.args.ascent.node (subst (λ z. slice_get c.args.ascent.path.links z ≡ Some c.args.ascent.node) down c.requires.node));
-        view = view;
-        leaf = w;
+        come = record {
+          key_is = refl;
+          node = sym (c.new-task.ensures.node c.args.ascent.node (subst (λ z. slice_get c.args.ascent.path.links z ≡ Some c.args.ascent.node) down c.requires.node));
+          foot = foot;
+          view = view;
+          leaf = w;
+        };
+        below = c.requires.below;
       });
   ends = λ way. record {
     path = λ path s means. absurd (c.new-task.ensures.no_path path s means);

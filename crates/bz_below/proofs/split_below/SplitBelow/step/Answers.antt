@@ -1,4 +1,4 @@
-use Rattle.std.proofs.Common.{◌≡◌, ◌<◌, ℕ, slice_index, slice_set, sym, ap, subst, ◌∙◌, refl, arith, inl, Some}
+use Rattle.std.proofs.Common.{◌≡◌, true, ◌<◌, ℕ, slice_index, slice_set, sym, ap, subst, ◌∙◌, refl, arith, inl, Some}
 use Rattle.bz_task.specs.Requests.{Answers, Hears, Tells, swaps_in}
 use Rattle.bz_layout.specs.Config.{IsConfig}
 use Rattle.bz_layout.specs.declared.sizes.TheConstants.{NODE_WORDS}
@@ -6,13 +6,14 @@ use Rattle.bz_layout.specs.declared.thresholds.TheConstants.{SPLIT_SLOTS}
 use Rattle.bz_task.specs.OwnActs.{AreTakenFrom, gained}
 use Rattle.bz_task.specs.Scene.{Scene, Stage, Waiting}
 use Rattle.bz_task.specs.declared.todo.Seen.{Seen}
-use Rattle.bz_task.specs.declared.todo.Seen.TheVariants.{Read as Was}
+use Rattle.bz_task.specs.declared.todo.Seen.TheVariants.{Start, Read as Was, Swapped}
 use Rattle.bz_task.specs.declared.todo.Todo.TheVariants.{Read as Reads}
 use Rattle.bz_below.specs.Duties.{below_of, asks_below, three}
-use Rattle.bz_below.specs.Facts.{Below, below_facts, below_asks, below_needs, below_left, below_swaps, word_after, IsReadyBelow}
+use Rattle.bz_below.specs.Facts.{Below, below_facts, below_asks, below_needs, below_left, below_swaps, word_after, IsReadyBelow, below_end}
 use Rattle.bz_below.specs.declared.phase.Phase.{Phase}
 use Rattle.bz_below.specs.declared.phase.Phase.TheVariants.{Fresh, Room, Word, Again, Guard, Named}
 use Rattle.bz_below.specs.declared.split_below.SplitBelow.{SplitBelow}
+use Rattle.bz_below.proofs.Beginning.{heard-in, begins-fresh}
 use Rattle.bz_below.proofs.Counting.{Counts, counts}
 use Rattle.bz_below.proofs.Ending.{EndsWell, ends-well, first-ends, takes-none, word-answers}
 use Rattle.bz_below.proofs.Opening.{Opens, opens, opened-learns, found}
@@ -69,7 +70,9 @@ returns-in-Again c =
       fewer = m.fewer;
       counted = λ z. m.counted;
       slots = subst (λ z. AreTakenFrom z (below_needs c.told-self.result) c.args.slots.now c.args.slots.now) (sym needed) b.taken;
+      begins = λ q. absurd (heard-in t.config (below_of t) t.phase Again c.args.seen Start c.in-Again.is q c.requires.hears);
       done = ends.done;
+      last = λ q. absurd (heard-in t.config (below_of t) t.phase Again c.args.seen (Swapped true) c.in-Again.is q c.requires.hears);
       restart = ends.restart;
       no_swap = ends.no_swap;
       full_swaps = ends.full_swaps;
@@ -109,7 +112,9 @@ returns-in-Guard c =
       fewer = m.fewer;
       counted = λ z. m.counted;
       slots = subst (λ z. AreTakenFrom z (below_needs new.phase) c.args.slots.now left) (sym needed) b.taken;
+      begins = λ q. absurd (heard-in t.config (below_of t) t.phase Guard c.args.seen Start c.in-Guard.is q c.requires.hears);
       done = ends.done;
+      last = λ q. absurd (heard-in t.config (below_of t) t.phase Guard c.args.seen (Swapped true) c.in-Guard.is q c.requires.hears);
       restart = ends.restart;
       no_swap = ends.no_swap;
       full_swaps = ends.full_swaps;
@@ -150,7 +155,9 @@ returns-in-Named c =
       fewer = m.fewer;
       counted = λ z. m.counted;
       slots = subst (λ z. AreTakenFrom z (below_needs p) c.args.slots.now c.args.slots.now) (sym (ap below_needs c.in-Named.is)) b.taken;
+      begins = λ q. absurd (heard-in t.config (below_of t) t.phase Named c.args.seen Start c.in-Named.is q c.requires.hears);
       done = ends.done;
+      last = λ q. absurd (heard-in t.config (below_of t) t.phase Named c.args.seen (Swapped true) c.in-Named.is q c.requires.hears);
       restart = ends.restart;
       no_swap = ends.no_swap;
       full_swaps = ends.full_swaps;
@@ -177,7 +184,9 @@ returns-in_default c =
       fewer = a.fewer;
       counted = a.counted;
       slots = takes-none t.phase c.after-self.result c.args.slots.now (omega (arith, a.needs));
+      begins = λ q. absurd (c.in_default.not-Fresh (begins-fresh t.config (below_of t) t.phase (subst (Hears (below_asks t.config (below_of t) t.phase)) q c.requires.hears)));
       done = e.done;
+      last = λ q. ap below_end (a.last q);
       restart = e.restart;
       no_swap = e.no_swap;
       full_swaps = e.full_swaps;
@@ -204,7 +213,9 @@ returns-in-Fresh c =
       fewer = m.fewer;
       counted = λ z. m.counted;
       slots = takes-none t.phase Room c.args.slots.now (omega (arith, ap below_needs c.in-Fresh.is));
+      begins = λ q. refl;
       done = e.done;
+      last = λ q. absurd (heard-in t.config (below_of t) t.phase Fresh c.args.seen (Swapped true) c.in-Fresh.is q c.requires.hears);
       restart = e.restart;
       no_swap = e.no_swap;
       full_swaps = e.full_swaps;
@@ -235,7 +246,9 @@ returns-in-Room c =
       fewer = m.fewer;
       counted = λ z. m.counted;
       slots = takes-none t.phase new.phase c.args.slots.now (omega (arith, b.fewer, ap below_needs c.in-Room.is));
+      begins = λ q. absurd (heard-in t.config (below_of t) t.phase Room c.args.seen Start c.in-Room.is q c.requires.hears);
       done = ends.done;
+      last = λ q. absurd (heard-in t.config (below_of t) t.phase Room c.args.seen (Swapped true) c.in-Room.is q c.requires.hears);
       restart = ends.restart;
       no_swap = ends.no_swap;
       full_swaps = ends.full_swaps;
@@ -273,7 +286,9 @@ returns-in-Word c =
       fewer = m.fewer;
       counted = λ z. m.counted;
       slots = takes-none t.phase c.after_word-self.result c.args.slots.now (omega (arith, b.fewer, ap below_needs c.in-Word.is));
+      begins = λ q. absurd (heard-in t.config (below_of t) t.phase (Word i) c.args.seen Start c.in-Word.is q c.requires.hears);
       done = e.done;
+      last = λ q. absurd (heard-in t.config (below_of t) t.phase (Word i) c.args.seen (Swapped true) c.in-Word.is q c.requires.hears);
       restart = e.restart;
       no_swap = e.no_swap;
       full_swaps = e.full_swaps;

@@ -1,13 +1,15 @@
-use Rattle.std.proofs.Common.{◌≡◌, sym, ap, subst, ◌∙◌, refl, arith, inr, Some}
+use Rattle.std.proofs.Common.{◌≡◌, true, sym, ap, subst, ◌∙◌, refl, arith, inr, Some}
 use Rattle.bz_task.specs.Requests.{Hears, Tells, swaps_in}
 use Rattle.bz_layout.specs.Config.{IsConfig}
 use Rattle.bz_layout.specs.declared.thresholds.TheConstants.{CONSOLIDATION_SLOTS}
 use Rattle.bz_task.specs.OwnActs.{AreTakenFrom}
 use Rattle.bz_task.specs.declared.path.Link.{Link}
+use Rattle.bz_task.specs.declared.todo.Seen.TheVariants.{Start, Swapped}
 use Rattle.bz_task.specs.declared.todo.Todo.TheVariants.{Read as Reads}
 use Rattle.bz_consol.specs.Duties.{renewal_of}
-use Rattle.bz_consol.specs.Facts.{consol_facts, consol_asks, consol_needs, consol_left, consol_swaps}
-use Rattle.bz_consol.specs.declared.phase.Phase.TheVariants.{Guard}
+use Rattle.bz_consol.specs.Facts.{consol_facts, consol_asks, consol_needs, consol_left, consol_swaps, consol_end}
+use Rattle.bz_consol.specs.declared.phase.Phase.TheVariants.{Fresh, Guard}
+use Rattle.bz_consol.proofs.Beginning.{heard-in, begins-fresh}
 use Rattle.bz_consol.proofs.Knowing.{EndsWell, Looks, ends-well, first-ends, takes-none, looks, looked-learns, fresh-known, swaps-few}
 use Rattle.bz_consol.proofs.Staying.{no-slot}
 use Rattle.bz_consol.proofs.consolidate.Consolidate.step.Goals as goal
@@ -27,7 +29,9 @@ returns-in_default c =
       fewer = a.fewer;
       counted = e.counted;
       slots = takes-none c.args.self.now.phase c.after-self.result c.args.slots.now a.begun a.looked;
+      begins = λ q. absurd (c.in_default.not-Fresh (begins-fresh c.args.self.now.config (renewal_of c.args.self.now) c.args.self.now.phase (subst (Hears (consol_asks c.args.self.now.config (renewal_of c.args.self.now) c.args.self.now.phase)) q c.requires.hears)));
       done = e.done;
+      last = λ q. ap consol_end (a.last q);
       restart = e.restart;
       no_swap = e.no_swap;
       full_swaps = e.full_swaps;
@@ -52,7 +56,9 @@ returns-in-Fresh c =
       fewer = omega (arith, ap consol_swaps c.in-Fresh.is, ap (λ z. swaps_in (consol_asks t.config (renewal_of t) z)) c.in-Fresh.is);
       counted = e.counted;
       slots = inr (record { fewer = omega (arith, ap consol_needs c.in-Fresh.is); slots = refl });
+      begins = λ q. refl;
       done = e.done;
+      last = λ q. absurd (heard-in t.config (renewal_of t) t.phase Fresh c.args.seen (Swapped true) c.in-Fresh.is q c.requires.hears);
       restart = e.restart;
       no_swap = e.no_swap;
       full_swaps = e.full_swaps;
@@ -87,7 +93,9 @@ returns-in-Guard c =
       fewer = omega (arith, swaps-few new.phase, ap consol_swaps c.in-Guard.is, ap (λ z. swaps_in (consol_asks t.config (renewal_of t) z)) c.in-Guard.is);
       counted = ends.counted;
       slots = subst (λ z. AreTakenFrom z (consol_needs new.phase) c.args.slots.now left) (sym needed) b.taken;
+      begins = λ q. absurd (heard-in t.config (renewal_of t) t.phase Guard c.args.seen Start c.in-Guard.is q c.requires.hears);
       done = ends.done;
+      last = λ q. absurd (heard-in t.config (renewal_of t) t.phase Guard c.args.seen (Swapped true) c.in-Guard.is q c.requires.hears);
       restart = ends.restart;
       no_swap = ends.no_swap;
       full_swaps = ends.full_swaps;

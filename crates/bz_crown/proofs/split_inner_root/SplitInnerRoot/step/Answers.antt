@@ -1,15 +1,17 @@
-use Rattle.std.proofs.Common.{◌≡◌, ◌<◌, ℕ, slice_index, slice_set, sym, ap, subst, ◌∙◌, refl, arith, inl, Some}
+use Rattle.std.proofs.Common.{◌≡◌, true, ◌<◌, ℕ, slice_index, slice_set, sym, ap, subst, ◌∙◌, refl, arith, inl, Some}
 use Rattle.bz_task.specs.Requests.{Hears, Tells, swaps_in}
 use Rattle.bz_layout.specs.Config.{IsConfig}
 use Rattle.bz_layout.specs.declared.sizes.TheConstants.{NODE_WORDS}
 use Rattle.bz_layout.specs.declared.thresholds.TheConstants.{SPLIT_SLOTS}
 use Rattle.bz_task.specs.OwnActs.{AreTakenFrom, gained}
 use Rattle.bz_task.specs.Scene.{Waiting}
+use Rattle.bz_task.specs.declared.todo.Seen.TheVariants.{Start, Swapped}
 use Rattle.bz_task.specs.declared.todo.Todo.TheVariants.{Read as Reads}
 use Rattle.bz_crown.specs.Duties.{crown_of, three}
-use Rattle.bz_crown.specs.Facts.{Crown, crown_facts, crown_asks, crown_needs, crown_left, crown_swaps, word_after, IsReadyCrown}
+use Rattle.bz_crown.specs.Facts.{Crown, crown_facts, crown_asks, crown_needs, crown_left, crown_swaps, word_after, IsReadyCrown, crown_end}
 use Rattle.bz_crown.specs.declared.phase.Phase.TheVariants.{Fresh, Word, Again, Guard}
 use Rattle.bz_crown.specs.declared.split_inner_root.SplitInnerRoot.{SplitInnerRoot}
+use Rattle.bz_crown.proofs.Beginning.{heard-in, begins-fresh}
 use Rattle.bz_crown.proofs.Counting.{Counts, counts}
 use Rattle.bz_crown.proofs.Ending.{EndsWell, ends-well, first-ends, takes-none}
 use Rattle.bz_crown.proofs.Telling.{Tolds, tolds, told-learns}
@@ -47,7 +49,9 @@ returns-in-Again c =
       fewer = m.fewer;
       counted = λ z. m.counted;
       slots = subst (λ z. AreTakenFrom z (crown_needs c.told-self.result) c.args.slots.now c.args.slots.now) (sym needed) b.taken;
+      begins = λ q. absurd (heard-in t.config (crown_of t) t.phase Again c.args.seen Start c.in-Again.is q c.requires.hears);
       done = ends.done;
+      last = λ q. absurd (heard-in t.config (crown_of t) t.phase Again c.args.seen (Swapped true) c.in-Again.is q c.requires.hears);
       restart = ends.restart;
       no_swap = ends.no_swap;
       full_swaps = ends.full_swaps;
@@ -83,7 +87,9 @@ returns-in-Guard c =
       fewer = m.fewer;
       counted = λ z. m.counted;
       slots = subst (λ z. AreTakenFrom z (crown_needs new.phase) c.args.slots.now left) (sym needed) b.taken;
+      begins = λ q. absurd (heard-in t.config (crown_of t) t.phase Guard c.args.seen Start c.in-Guard.is q c.requires.hears);
       done = ends.done;
+      last = λ q. absurd (heard-in t.config (crown_of t) t.phase Guard c.args.seen (Swapped true) c.in-Guard.is q c.requires.hears);
       restart = ends.restart;
       no_swap = ends.no_swap;
       full_swaps = ends.full_swaps;
@@ -109,7 +115,9 @@ returns-in_default c =
       fewer = a.fewer;
       counted = a.counted;
       slots = takes-none t.phase c.after-self.result c.args.slots.now (omega (arith, a.needs));
+      begins = λ q. absurd (c.in_default.not-Fresh (begins-fresh t.config (crown_of t) t.phase (subst (Hears (crown_asks t.config (crown_of t) t.phase)) q c.requires.hears)));
       done = e.done;
+      last = λ q. ap crown_end (a.last q);
       restart = e.restart;
       no_swap = e.no_swap;
       full_swaps = e.full_swaps;
@@ -134,7 +142,9 @@ returns-in-Fresh c =
       fewer = m.fewer;
       counted = λ z. m.counted;
       slots = takes-none t.phase (Word 1) c.args.slots.now (omega (arith, ap crown_needs c.in-Fresh.is));
+      begins = λ q. refl;
       done = e.done;
+      last = λ q. absurd (heard-in t.config (crown_of t) t.phase Fresh c.args.seen (Swapped true) c.in-Fresh.is q c.requires.hears);
       restart = e.restart;
       no_swap = e.no_swap;
       full_swaps = e.full_swaps;
@@ -167,7 +177,9 @@ returns-in-Word c =
       fewer = m.fewer;
       counted = λ z. m.counted;
       slots = takes-none t.phase c.after_word-self.result c.args.slots.now (omega (arith, b.fewer, ap crown_needs c.in-Word.is));
+      begins = λ q. absurd (heard-in t.config (crown_of t) t.phase (Word i) c.args.seen Start c.in-Word.is q c.requires.hears);
       done = e.done;
+      last = λ q. absurd (heard-in t.config (crown_of t) t.phase (Word i) c.args.seen (Swapped true) c.in-Word.is q c.requires.hears);
       restart = e.restart;
       no_swap = e.no_swap;
       full_swaps = e.full_swaps;

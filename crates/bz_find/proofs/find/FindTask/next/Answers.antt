@@ -1,5 +1,5 @@
 use Rattle.std.proofs.Common.{◌≡◌, ap, subst, sym, ◌∙◌, inr}
-use Rattle.std.specs.Prelude.{Some}
+use Rattle.std.specs.Prelude.{Some, None}
 use Rattle.bz_leaf.specs.Facts.{IsLastLink}
 use Rattle.bz_task.specs.Outcomes.{IsPath}
 use Rattle.bz_task.specs.OwnActs.{gained}
@@ -7,9 +7,9 @@ use Rattle.bz_task.specs.Scene.{Waiting}
 use Rattle.bz_task.specs.declared.todo.Outcome.TheVariants.{Restart}
 use Rattle.bz_find.specs.Duties.{end_of, facts_of}
 use Rattle.bz_find.specs.Facts.{find_change}
-use Rattle.bz_find.specs.Phases.{told, counted}
+use Rattle.bz_find.specs.Phases.{find_end, told, counted}
 use Rattle.bz_find.proofs.Keeping.{keeps-at}
-use Rattle.bz_find.proofs.Restarts.{restarts-at, end-counted}
+use Rattle.bz_find.proofs.Restarts.{restarts-at, begins-at, end-counted}
 use Rattle.bz_find.proofs.Stepping.{steps, fewer-left}
 use Rattle.bz_find.proofs.Telling.{tells, no-slot}
 use Rattle.bz_find.proofs.find.FindTask.next.Goals as goal
@@ -45,3 +45,13 @@ returns-clause-learns c stage s now same good free facts told-so =
     let all : facts_of (counted u) Waiting (gained s c.args.slots.now c.args.slots.now) =
     (no-slot c.nothing_is_gained.ensures (counted u) u.phase s c.args.slots.now learnt, path, (steps t c.args.seen c.args.moment c.heard.ensures.bounded c.requires.hears c.heard.ensures.plain).0, last) in
     subst (λ z. facts_of z Waiting (gained s c.args.slots.now c.args.slots.now)) (sym new) all
+
+pub returns-clause-begins : goal.returns-clause-begins
+returns-clause-begins c outcome s e =
+    let t = c.args.self.now in
+    let u = told t t.phase c.args.seen c.args.moment in
+    let new : c.answered.new.self ≡ counted u = c.answered.ensures.new in
+    let goes_on : find_end u u.phase ≡ None = subst (λ z. find_end (told t t.phase z c.args.moment) (told t t.phase z c.args.moment).phase ≡ None) (sym s) (begins-at t t.phase c.args.moment) in
+    let ends : find_end u u.phase ≡ Some outcome = sym (end-counted u u.phase) ∙ subst (λ z. end_of z ≡ Some outcome) new e in
+    let no : None ≡ Some outcome = sym goes_on ∙ ends in
+    absurd (cc)

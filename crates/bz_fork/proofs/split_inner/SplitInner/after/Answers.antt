@@ -1,10 +1,11 @@
-use Rattle.std.proofs.Common.{◌≡◌, sym, ap, subst}
+use Rattle.std.proofs.Common.{◌≡◌, true, sym, ap, subst, ◌∙◌}
 use Rattle.bz_layout.specs.Config.{IsConfig}
 use Rattle.bz_task.specs.Requests.{Hears, swaps_in}
-use Rattle.bz_task.specs.declared.todo.Seen.TheVariants.{Stored, Flushed}
+use Rattle.bz_task.specs.declared.todo.Seen.TheVariants.{Stored, Flushed, Swapped}
 use Rattle.bz_fork.specs.Duties.{fork_of}
-use Rattle.bz_fork.specs.Facts.{fork_asks, fork_facts, fork_swaps, store_after, flush_after}
+use Rattle.bz_fork.specs.Facts.{fork_asks, fork_facts, fork_swaps, store_after, flush_after, swap_after}
 use Rattle.bz_fork.specs.declared.phase.Phase.TheVariants.{Store, Flush, Swap}
+use Rattle.bz_fork.proofs.Beginning.{heard-in}
 use Rattle.bz_fork.proofs.Counting.{Counts, counts}
 use Rattle.bz_fork.proofs.Ends.{Afters, heard-stored, heard-flushed, stored-after, flushed-after, is-swap, swapped-after, swapped-fewer, swapped-counted, swapped-ready, swapped-learns}
 use Rattle.bz_fork.proofs.Writing.{store-ready, store-learns, store-within, flush-ready, flush-learns, flush-within}
@@ -25,6 +26,7 @@ returns-in-Store c =
       counted = λ z. m.counted;
       needs = a.needs;
       done = a.done;
+      last = λ q. absurd (heard-in t.config (fork_of t) t.phase (Store j) c.args.seen (Swapped true) c.in-Store.is q c.requires.hears);
       restart = a.restart;
       no_swap = a.no_swap;
       slots = a.slots;
@@ -49,6 +51,7 @@ returns-in-Flush c =
       counted = λ z. m.counted;
       needs = a.needs;
       done = a.done;
+      last = λ q. absurd (heard-in t.config (fork_of t) t.phase (Flush j) c.args.seen (Swapped true) c.in-Flush.is q c.requires.hears);
       restart = a.restart;
       no_swap = a.no_swap;
       slots = a.slots;
@@ -70,6 +73,7 @@ returns-in_default c =
       counted = swapped-counted t.config (fork_of t) t.phase c.after_swap.result c.args.seen is c.after_swap.ensures;
       needs = a.needs;
       done = a.done;
+      last = λ q. c.after_swap.ensures ∙ ap swap_after q;
       restart = a.restart;
       no_swap = a.no_swap;
       slots = a.slots;

@@ -1,15 +1,17 @@
-use Rattle.std.proofs.Common.{◌≡◌, ◌<◌, ℕ, slice_index, slice_set, sym, ap, subst, ◌∙◌, refl, arith, inl, Some}
+use Rattle.std.proofs.Common.{◌≡◌, true, ◌<◌, ℕ, slice_index, slice_set, sym, ap, subst, ◌∙◌, refl, arith, inl, Some}
 use Rattle.bz_task.specs.Requests.{Hears, Tells, swaps_in}
 use Rattle.bz_layout.specs.Config.{IsConfig}
 use Rattle.bz_layout.specs.declared.sizes.TheConstants.{NODE_WORDS}
 use Rattle.bz_layout.specs.declared.thresholds.TheConstants.{SPLIT_SLOTS}
 use Rattle.bz_task.specs.OwnActs.{AreTakenFrom, gained}
 use Rattle.bz_task.specs.Scene.{Waiting}
+use Rattle.bz_task.specs.declared.todo.Seen.TheVariants.{Start, Swapped}
 use Rattle.bz_task.specs.declared.todo.Todo.TheVariants.{Read as Reads}
 use Rattle.bz_fork.specs.Duties.{fork_of, three}
-use Rattle.bz_fork.specs.Facts.{Fork, fork_facts, fork_asks, fork_needs, fork_left, fork_swaps, word_after, above_after, IsReadyFork}
+use Rattle.bz_fork.specs.Facts.{Fork, fork_facts, fork_asks, fork_needs, fork_left, fork_swaps, word_after, above_after, IsReadyFork, fork_end}
 use Rattle.bz_fork.specs.declared.phase.Phase.TheVariants.{Fresh, Word, Again, Room, Above, Check, Guard}
 use Rattle.bz_fork.specs.declared.split_inner.SplitInner.{SplitInner}
+use Rattle.bz_fork.proofs.Beginning.{heard-in, begins-fresh}
 use Rattle.bz_fork.proofs.Counting.{Counts, counts}
 use Rattle.bz_fork.proofs.Ending.{EndsWell, ends-well, first-ends, takes-none}
 use Rattle.bz_fork.proofs.Opening.{Opens, opens, opened-learns, found, full-node}
@@ -63,7 +65,9 @@ returns-in-Again c =
       fewer = m.fewer;
       counted = λ z. m.counted;
       slots = takes-none t.phase c.read_on-self.result c.args.slots.now (omega (arith, b.fewer, ap fork_needs c.in-Again.is));
+      begins = λ q. absurd (heard-in t.config (fork_of t) t.phase Again c.args.seen Start c.in-Again.is q c.requires.hears);
       done = e.done;
+      last = λ q. absurd (heard-in t.config (fork_of t) t.phase Again c.args.seen (Swapped true) c.in-Again.is q c.requires.hears);
       restart = e.restart;
       no_swap = e.no_swap;
       full_swaps = e.full_swaps;
@@ -93,7 +97,9 @@ returns-in-Room c =
       fewer = m.fewer;
       counted = λ z. m.counted;
       slots = takes-none t.phase c.opened-self.result c.args.slots.now (omega (arith, b.fewer, ap fork_needs c.in-Room.is));
+      begins = λ q. absurd (heard-in t.config (fork_of t) t.phase Room c.args.seen Start c.in-Room.is q c.requires.hears);
       done = e.done;
+      last = λ q. absurd (heard-in t.config (fork_of t) t.phase Room c.args.seen (Swapped true) c.in-Room.is q c.requires.hears);
       restart = e.restart;
       no_swap = e.no_swap;
       full_swaps = e.full_swaps;
@@ -124,7 +130,9 @@ returns-in-Check c =
       fewer = m.fewer;
       counted = λ z. m.counted;
       slots = subst (λ z. AreTakenFrom z (fork_needs c.told-self.result) c.args.slots.now c.args.slots.now) (sym needed) b.taken;
+      begins = λ q. absurd (heard-in t.config (fork_of t) t.phase Check c.args.seen Start c.in-Check.is q c.requires.hears);
       done = ends.done;
+      last = λ q. absurd (heard-in t.config (fork_of t) t.phase Check c.args.seen (Swapped true) c.in-Check.is q c.requires.hears);
       restart = ends.restart;
       no_swap = ends.no_swap;
       full_swaps = ends.full_swaps;
@@ -161,7 +169,9 @@ returns-in-Guard c =
       fewer = m.fewer;
       counted = λ z. m.counted;
       slots = subst (λ z. AreTakenFrom z (fork_needs new.phase) c.args.slots.now left) (sym needed) b.taken;
+      begins = λ q. absurd (heard-in t.config (fork_of t) t.phase Guard c.args.seen Start c.in-Guard.is q c.requires.hears);
       done = ends.done;
+      last = λ q. absurd (heard-in t.config (fork_of t) t.phase Guard c.args.seen (Swapped true) c.in-Guard.is q c.requires.hears);
       restart = ends.restart;
       no_swap = ends.no_swap;
       full_swaps = ends.full_swaps;
@@ -188,7 +198,9 @@ returns-in_default c =
       fewer = a.fewer;
       counted = a.counted;
       slots = takes-none t.phase c.after-self.result c.args.slots.now (omega (arith, a.needs));
+      begins = λ q. absurd (c.in_default.not-Fresh (begins-fresh t.config (fork_of t) t.phase (subst (Hears (fork_asks t.config (fork_of t) t.phase)) q c.requires.hears)));
       done = e.done;
+      last = λ q. ap fork_end (a.last q);
       restart = e.restart;
       no_swap = e.no_swap;
       full_swaps = e.full_swaps;
@@ -214,7 +226,9 @@ returns-in-Fresh c =
       fewer = m.fewer;
       counted = λ z. m.counted;
       slots = takes-none t.phase (Word 1) c.args.slots.now (omega (arith, ap fork_needs c.in-Fresh.is));
+      begins = λ q. refl;
       done = e.done;
+      last = λ q. absurd (heard-in t.config (fork_of t) t.phase Fresh c.args.seen (Swapped true) c.in-Fresh.is q c.requires.hears);
       restart = e.restart;
       no_swap = e.no_swap;
       full_swaps = e.full_swaps;
@@ -248,7 +262,9 @@ returns-in-Word c =
       fewer = m.fewer;
       counted = λ z. m.counted;
       slots = takes-none t.phase c.after_word-self.result c.args.slots.now (omega (arith, b.fewer, ap fork_needs c.in-Word.is));
+      begins = λ q. absurd (heard-in t.config (fork_of t) t.phase (Word i) c.args.seen Start c.in-Word.is q c.requires.hears);
       done = e.done;
+      last = λ q. absurd (heard-in t.config (fork_of t) t.phase (Word i) c.args.seen (Swapped true) c.in-Word.is q c.requires.hears);
       restart = e.restart;
       no_swap = e.no_swap;
       full_swaps = e.full_swaps;
@@ -283,7 +299,9 @@ returns-in-Above c =
       fewer = m.fewer;
       counted = λ z. m.counted;
       slots = takes-none t.phase c.after_above-self.result c.args.slots.now (omega (arith, b.fewer, ap fork_needs c.in-Above.is));
+      begins = λ q. absurd (heard-in t.config (fork_of t) t.phase (Above i) c.args.seen Start c.in-Above.is q c.requires.hears);
       done = e.done;
+      last = λ q. absurd (heard-in t.config (fork_of t) t.phase (Above i) c.args.seen (Swapped true) c.in-Above.is q c.requires.hears);
       restart = e.restart;
       no_swap = e.no_swap;
       full_swaps = e.full_swaps;

@@ -1,6 +1,26 @@
+use Rattle.std.proofs.Common.{◌≡◌, ◌⊎◌, sym, ap, subst, ◌∙◌, inl, inr, Some, None}
+use Rattle.bz_task.specs.Requests.{EndsAtOnce}
+use Rattle.bz_task.specs.declared.todo.Outcome.{Outcome}
+use Rattle.bz_task.specs.declared.todo.Outcome.TheVariants.{NeedsRoom as Needs}
+use Rattle.bz_insert.specs.Facts.{insert_end}
+use Rattle.bz_insert.specs.declared.phase.Phase.{Phase}
+use Rattle.bz_insert.specs.declared.phase.Phase.TheVariants.{Reserve, NeedsRoom}
 use Rattle.bz_insert.proofs.Staying.{no-slot}
 use Rattle.bz_insert.proofs.insert.InsertTask.next.Goals as goal
 
 pub returns-clause-learns : goal.returns-clause-learns
 returns-clause-learns c stage s now same good free facts tells =
     no-slot c.nothing_is_gained.ensures c.records_are_written.ensures c.args.self.now.added s c.args.slots.now c.after-self.result (c.after-self.ensures.learns stage s same facts tells)
+
+-- it may end as it begins for want of room alone
+first-ends : (p : Phase) (outcome : Outcome) → (p ≡ Reserve) ⊎ (p ≡ NeedsRoom) → insert_end p ≡ Some outcome → EndsAtOnce 0 outcome
+first-ends p outcome h e = elim h [ inl a ↦ goes-on (sym (ap insert_end a) ∙ e) | inr a ↦ subst (EndsAtOnce 0) (one (sym (ap insert_end a) ∙ e)) tt ]
+  where
+    goes-on : None ≡ Some outcome → EndsAtOnce 0 outcome
+    goes-on e = absurd (cc)
+
+    one : Some Needs ≡ Some outcome → Needs ≡ outcome
+    one e = cc
+
+pub returns-clause-begins : goal.returns-clause-begins
+returns-clause-begins c outcome s e = first-ends c.after-self.result outcome (c.after-self.ensures.begins s) e

@@ -1,8 +1,12 @@
-use Rattle.std.proofs.Common.{subst}
+use Rattle.std.proofs.Common.{true, ap, subst}
 use Rattle.bz_layout.specs.Config.{IsConfig}
 use Rattle.bz_task.specs.Requests.{Hears}
+use Rattle.bz_task.specs.declared.todo.Seen.TheVariants.{Swapped}
+use Rattle.bz_merge.specs.Counts.{merge_swaps}
 use Rattle.bz_merge.specs.Duties.{merging_of}
 use Rattle.bz_merge.specs.Facts.{merge_asks}
+use Rattle.bz_merge.specs.declared.phase.Phase.TheVariants.{Store, Flush}
+use Rattle.bz_merge.proofs.Beginning.{heard-in}
 use Rattle.bz_merge.proofs.Counting.{is-thawed, stored-fewer, stored-counted, flushed-fewer, flushed-counted}
 use Rattle.bz_merge.proofs.Ready.{ready-of}
 use Rattle.bz_merge.proofs.Swapping.{swapping-of, store-seen, flush-seen, swap-plain, comes, comes-fewer, learns-swapped}
@@ -24,6 +28,12 @@ returns-in-Store-clause-fewer c = let t = c.args.self.now in stored-fewer t.conf
 pub returns-in-Store-clause-counted : goal.returns-in-Store-clause-counted
 returns-in-Store-clause-counted c e = let t = c.args.self.now in stored-counted t.config (merging_of t) t.phase c.after_store.result c.in-Store.j c.args.seen c.in-Store.is c.after_store.ensures c.requires.hears
 
+pub returns-in-Store-clause-last : goal.returns-in-Store-clause-last
+returns-in-Store-clause-last c q n = let t = c.args.self.now in absurd (heard-in t.config (merging_of t) t.phase (Store c.in-Store.j) c.args.seen (Swapped true) c.in-Store.is q c.requires.hears)
+
+pub returns-in-Store-clause-only_last : goal.returns-in-Store-clause-only_last
+returns-in-Store-clause-only_last c e = ap merge_swaps c.in-Store.is
+
 pub returns-in-Store-clause-ready : goal.returns-in-Store-clause-ready
 returns-in-Store-clause-ready c =
     let t = c.args.self.now in
@@ -42,6 +52,12 @@ returns-in-Flush-clause-fewer c = let t = c.args.self.now in flushed-fewer t.con
 
 pub returns-in-Flush-clause-counted : goal.returns-in-Flush-clause-counted
 returns-in-Flush-clause-counted c e = let t = c.args.self.now in flushed-counted t.config (merging_of t) t.phase c.after_flush.result c.in-Flush.j c.args.seen c.in-Flush.is c.after_flush.ensures c.requires.hears
+
+pub returns-in-Flush-clause-last : goal.returns-in-Flush-clause-last
+returns-in-Flush-clause-last c q n = let t = c.args.self.now in absurd (heard-in t.config (merging_of t) t.phase (Flush c.in-Flush.j) c.args.seen (Swapped true) c.in-Flush.is q c.requires.hears)
+
+pub returns-in-Flush-clause-only_last : goal.returns-in-Flush-clause-only_last
+returns-in-Flush-clause-only_last c e = ap merge_swaps c.in-Flush.is
 
 pub returns-in-Flush-clause-ready : goal.returns-in-Flush-clause-ready
 returns-in-Flush-clause-ready c =
@@ -68,6 +84,8 @@ returns-in_default c =
       counted = h.counted;
       needs = h.needs;
       done = h.done;
+      last = h.last;
+      only_last = h.only_last;
       restart = h.restart;
       no_swap = h.no_swap;
       slots = h.slots;

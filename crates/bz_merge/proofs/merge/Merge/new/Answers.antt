@@ -14,3 +14,6 @@ returns-clause-facts c key s same good path view = record {
   were = record { size = c.first_word.ensures.size; first = c.first_word.ensures.first; rest = λ i some l. absurd (omega (arith, some, l)) };
   blank = λ i some. c.first_word.ensures.blank i some;
 }
+
+pub returns-clause-slot : goal.returns-clause-slot
+returns-clause-slot c = (c.requires.leads c.last_link-lower.result c.last_link-lower.ensures).0

@@ -1,11 +1,13 @@
-use Rattle.std.proofs.Common.{◌≡◌, slice_index, slice_set, sym, ap, subst, refl, arith, ◌∙◌, inl, inr}
+use Rattle.std.proofs.Common.{◌≡◌, true, slice_index, slice_set, sym, ap, subst, refl, arith, ◌∙◌, inl, inr}
 use Rattle.bz_task.specs.Requests.{Hears, Tells}
 use Rattle.bz_task.specs.OwnActs.{gained}
 use Rattle.bz_task.specs.Scene.{Waiting}
+use Rattle.bz_task.specs.declared.todo.Seen.TheVariants.{Start, Swapped}
 use Rattle.bz_merge.specs.Duties.{merging_of, two}
 use Rattle.bz_merge.specs.Facts.{merge_asks, merge_end, merge_facts, merge_differs, merge_needs, word_after, beside_after}
 use Rattle.bz_merge.specs.Counts.{merge_made}
-use Rattle.bz_merge.specs.declared.phase.Phase.TheVariants.{Fresh, Word, Again, Beside, Parent, Still}
+use Rattle.bz_merge.specs.declared.phase.Phase.TheVariants.{Fresh, Word, Again, Beside, Parent, Still, Guard}
+use Rattle.bz_merge.proofs.Beginning.{heard-in, begins-fresh}
 use Rattle.bz_merge.proofs.Counting.{choosing-fewer, choosing-counted, word-none, beside-none, told-none, settled-none, looked-fewer, looked-counted}
 use Rattle.bz_merge.proofs.Ending.{ends-done, ends-restart, ends-no-swap, ends-no-slot}
 use Rattle.bz_merge.proofs.Looking.{with_nodes, look-may, looked-learns, looked-restarts}
@@ -203,6 +205,46 @@ returns-in-Guard-clause-counted c =
     let n = c.look.new.self in
     looked-counted t.config (merging_of t) (merging_of n) t.phase n.phase c.args.seen c.args.slots.now c.look.new.slots c.in-Guard.is c.look.ensures.looked c.look.ensures.status (ap (λ z. z.0) c.look.ensures.beside) c.requires.hears
 
+-- one that is told to begin is fresh, and one that is told of its swap has asked for it
+pub returns-in-Fresh-clause-last : goal.returns-in-Fresh-clause-last
+returns-in-Fresh-clause-last c q n = let t = c.args.self.now in absurd (heard-in t.config (merging_of t) t.phase Fresh c.args.seen (Swapped true) c.in-Fresh.is q c.requires.hears)
+
+pub returns-in-Word-clause-begins : goal.returns-in-Word-clause-begins
+returns-in-Word-clause-begins c q = let t = c.args.self.now in absurd (heard-in t.config (merging_of t) t.phase (Word c.in-Word.i) c.args.seen Start c.in-Word.is q c.requires.hears)
+
+pub returns-in-Word-clause-last : goal.returns-in-Word-clause-last
+returns-in-Word-clause-last c q n = let t = c.args.self.now in absurd (heard-in t.config (merging_of t) t.phase (Word c.in-Word.i) c.args.seen (Swapped true) c.in-Word.is q c.requires.hears)
+
+pub returns-in-Again-clause-begins : goal.returns-in-Again-clause-begins
+returns-in-Again-clause-begins c q = let t = c.args.self.now in absurd (heard-in t.config (merging_of t) t.phase Again c.args.seen Start c.in-Again.is q c.requires.hears)
+
+pub returns-in-Again-clause-last : goal.returns-in-Again-clause-last
+returns-in-Again-clause-last c q n = let t = c.args.self.now in absurd (heard-in t.config (merging_of t) t.phase Again c.args.seen (Swapped true) c.in-Again.is q c.requires.hears)
+
+pub returns-in-Beside-clause-begins : goal.returns-in-Beside-clause-begins
+returns-in-Beside-clause-begins c q = let t = c.args.self.now in absurd (heard-in t.config (merging_of t) t.phase (Beside c.in-Beside.i) c.args.seen Start c.in-Beside.is q c.requires.hears)
+
+pub returns-in-Beside-clause-last : goal.returns-in-Beside-clause-last
+returns-in-Beside-clause-last c q n = let t = c.args.self.now in absurd (heard-in t.config (merging_of t) t.phase (Beside c.in-Beside.i) c.args.seen (Swapped true) c.in-Beside.is q c.requires.hears)
+
+pub returns-in-Parent-clause-begins : goal.returns-in-Parent-clause-begins
+returns-in-Parent-clause-begins c q = let t = c.args.self.now in absurd (heard-in t.config (merging_of t) t.phase Parent c.args.seen Start c.in-Parent.is q c.requires.hears)
+
+pub returns-in-Parent-clause-last : goal.returns-in-Parent-clause-last
+returns-in-Parent-clause-last c q n = let t = c.args.self.now in absurd (heard-in t.config (merging_of t) t.phase Parent c.args.seen (Swapped true) c.in-Parent.is q c.requires.hears)
+
+pub returns-in-Still-clause-begins : goal.returns-in-Still-clause-begins
+returns-in-Still-clause-begins c q = let t = c.args.self.now in absurd (heard-in t.config (merging_of t) t.phase Still c.args.seen Start c.in-Still.is q c.requires.hears)
+
+pub returns-in-Still-clause-last : goal.returns-in-Still-clause-last
+returns-in-Still-clause-last c q n = let t = c.args.self.now in absurd (heard-in t.config (merging_of t) t.phase Still c.args.seen (Swapped true) c.in-Still.is q c.requires.hears)
+
+pub returns-in-Guard-clause-begins : goal.returns-in-Guard-clause-begins
+returns-in-Guard-clause-begins c q = let t = c.args.self.now in absurd (heard-in t.config (merging_of t) t.phase Guard c.args.seen Start c.in-Guard.is q c.requires.hears)
+
+pub returns-in-Guard-clause-last : goal.returns-in-Guard-clause-last
+returns-in-Guard-clause-last c q n = let t = c.args.self.now in absurd (heard-in t.config (merging_of t) t.phase Guard c.args.seen (Swapped true) c.in-Guard.is q c.requires.hears)
+
 pub returns-in_default : goal.returns-in_default
 returns-in_default c =
     let t = c.args.self.now in
@@ -211,6 +253,7 @@ returns-in_default c =
       config = refl;
       upper = refl;
       lower = refl;
+      status = refl;
       leaf = refl;
       known = a.config;
       begun = a.begun;
@@ -219,7 +262,10 @@ returns-in_default c =
       fewer = a.fewer;
       counted = a.counted;
       slots = inr (record { fewer = a.needs; slots = refl });
+      begins = (λ q. absurd (c.in_default.not-Fresh (begins-fresh t.config (merging_of t) t.phase (subst (Hears (merge_asks t.config (merging_of t) t.phase)) q c.requires.hears))));
       done = (λ q. a.done (ends-done c.after-self.result q));
+      last = (λ q n. ap merge_end (a.last q n));
+      only_last = (λ q. a.only_last (ends-done c.after-self.result q));
       restart = (λ q. inl (a.restart (ends-restart c.after-self.result q)));
       no_swap = (λ q. ap merge_end (a.no_swap.1 q));
       full_swaps = (λ q. a.no_swap.0 (ends-no-swap c.after-self.result q));

@@ -1,6 +1,25 @@
+use Rattle.std.proofs.Common.{◌≡◌, subst, Some}
+use Rattle.bz_task.specs.Requests.{EndsAtOnce}
+use Rattle.bz_task.specs.declared.todo.Outcome.{Outcome}
+use Rattle.bz_task.specs.declared.todo.Outcome.TheVariants.{NeedsRoom as Needs}
+use Rattle.bz_mutate.specs.UpdateFacts.{IsFirst, update_end}
+use Rattle.bz_mutate.specs.declared.update_phase.UpdatePhase.{UpdatePhase}
+use Rattle.bz_mutate.specs.declared.update_phase.UpdatePhase.TheVariants.{Grow, NeedsRoom}
 use Rattle.bz_mutate.proofs.UpdateStaying.{no-slot}
 use Rattle.bz_mutate.proofs.update.UpdateTask.next.Goals as goal
 
 pub returns-clause-learns : goal.returns-clause-learns
 returns-clause-learns c stage s now same good free facts tells =
     let t = c.args.self.now in no-slot c.nothing_is_gained.ensures c.records_are_written.ensures t.view t.added s c.args.slots.now c.after-self.result (c.after-self.ensures.learns stage s same good facts tells)
+
+-- it may end as it begins for want of room alone
+first-ends : (p : UpdatePhase) (outcome : Outcome) → IsFirst p → update_end p ≡ Some outcome → EndsAtOnce 0 outcome
+first-ends (Grow f) outcome w e = absurd (cc)
+first-ends NeedsRoom outcome w e = subst (EndsAtOnce 0) (one outcome e) tt
+  where
+    one : (o : Outcome) → Some Needs ≡ Some o → Needs ≡ o
+    one o e = cc
+first-ends p outcome w e = absurd (w)
+
+pub returns-clause-begins : goal.returns-clause-begins
+returns-clause-begins c outcome s e = first-ends c.after-self.result outcome (c.after-self.ensures.begins s) e

@@ -7,7 +7,8 @@ use Rattle.bz_task.specs.declared.path.Path.{Path}
 use Rattle.bz_running.specs.Duties.{config_of, ascent_of}
 use Rattle.bz_running.specs.GoingUp.{IsSplitAt, GoesUp}
 use Rattle.bz_running.specs.declared.running.AnyTask.{AnyTask}
-use Rattle.bz_running.proofs.Rising.{goes-up, is-rising}
+use Rattle.bz_running.proofs.Ascending.{same-ascent}
+use Rattle.bz_running.proofs.Rising.{goes-up, is-rising, still-due}
 use Rattle.bz_running.proofs.Statements.{Ends}
 use Rattle.bz_running.proofs.running.AnyTask.above.Goals as goal
 
@@ -31,5 +32,10 @@ split_at-requires-clause-within c =
     let k = (is-rising c.args.self.now c.in_ok-ascent.ascent (sym c.ascent.ensures ∙ c.in_ok-ascent.was)).knows c.requires.known.scene c.requires.known.facts in
     omega (arith, k.0.within, k.0.path.few, c.one_up.ensures.before)
 
-pub returns : goal.returns
-returns c = up c.ascents_rise.ensures c.args.self.now c.in_ok-ascent.ascent c.one_up.result c.learnt.ensures.ends (sym c.ascent.ensures ∙ c.in_ok-ascent.was) c.one_up.ensures c.split_at.result (subst (λ z. IfSome c.split_at.result (IsSplitAt z c.one_up.result)) (sym c.requires.config) c.split_at.ensures)
+pub returns-clause-up : goal.returns-clause-up
+returns-clause-up c = up c.ascents_rise.ensures c.args.self.now c.in_ok-ascent.ascent c.one_up.result c.learnt.ensures.ends (sym c.ascent.ensures ∙ c.in_ok-ascent.was) c.one_up.ensures c.split_at.result (subst (λ z. IfSome c.split_at.result (IsSplitAt z c.one_up.result)) (sym c.requires.config) c.split_at.ensures.split)
+
+pub returns-clause-due : goal.returns-clause-due
+returns-clause-due c a next is one may =
+    let same : a ≡ c.in_ok-ascent.ascent = same-ascent a c.in_ok-ascent.ascent (sym is ∙ (sym c.ascent.ensures ∙ c.in_ok-ascent.was)) in
+    c.split_at.ensures.due (still-due a next c.one_up.result one (subst (λ z. IsOneUp z c.one_up.result) (sym same) c.one_up.ensures) may)

@@ -1,18 +1,30 @@
+use Rattle.std.proofs.Common.{sym, subst}
+use Rattle.std.specs.Prelude.{IsSome}
+use Rattle.bz_running.proofs.Ends.{looks-take-nothing, renewals-take-one-swap, ends-so}
+use Rattle.bz_running.proofs.Going.{last-swap-publishes, goes-on-in-room}
 use Rattle.bz_running.proofs.Heights.{filled-up}
-use Rattle.bz_running.proofs.Made.{made-stays}
+use Rattle.bz_running.proofs.Made.{made-stays, merge-stays}
 use Rattle.bz_running.proofs.Statements.{takes-few, wants-few, publishes-last}
 use Rattle.bz_running.proofs.running.AnyTask.laws.Goals as goal
 
 pub returns : goal.returns
-returns c = let l = c.learnt.ensures in let a = c.acted.ensures in record {
+returns c = let e = c.ended-ended.ensures in let l = c.learnt.ensures in let a = c.acted.ensures in record {
   stable = l.stable;
   made_for = made-stays c.views_stay.ensures c.args.self.now;
+  merge_for = merge-stays c.args.self.now;
   askable = l.askable;
   cause = l.cause;
   few = takes-few c.consolidations_take_one_slot.ensures c.merges_take_two_slots.ensures c.args.self.now l.few;
   most = wants-few c.args.self.now;
   once = l.once;
   last = publishes-last c.args.self.now;
+  publishes_last = last-swap-publishes c.args.self.now;
+  looks = looks-take-nothing c.args.self.now;
+  single = renewals-take-one-swap c.args.self.now;
+  ends_of = ends-so c.args.self.now;
+  going = goes-on-in-room c.args.self.now;
+  finish = λ f. subst IsSome e.end (e.finish f);
+  only = λ k. e.only (subst IsSome (sym e.end) k);
   ends = l.ends;
   height = filled-up c.ascents_end.ensures c.args.self.now l.ends;
   effect = a.effect;

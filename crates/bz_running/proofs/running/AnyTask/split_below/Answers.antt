@@ -1,6 +1,9 @@
-use Rattle.std.proofs.Common.{sym, ap, ◌∙◌}
+use Rattle.std.proofs.Common.{◌≡◌, ◌-◌, arith, refl, sym, ap, subst, ◌∙◌, Some}
+use Rattle.std.specs.Prelude.{slice_get}
 use Rattle.bz_ascent.specs.declared.ascent.Ascent.{Ascent}
+use Rattle.bz_task.specs.declared.path.Path.{Path}
 use Rattle.bz_running.specs.Duties.{facts_of, means_of, ascent_of}
+use Rattle.bz_running.specs.Kinds.{kind_of}
 use Rattle.bz_running.specs.MadeFor.{IsMadeFor}
 use Rattle.bz_running.proofs.Ascending.{same-ascent, lower-link, upper-link}
 use Rattle.bz_running.proofs.running.AnyTask.split_below.Goals as goal
@@ -33,12 +36,21 @@ returns-clause-facts c s same good path view = (
 
 pub returns-clause-made_for : goal.returns-clause-made_for
 unfolding IsMadeFor
-returns-clause-made_for c words p is = (
-  record {
-    view = c.args.view;
-    leaf = record { is = is; frozen = c.requires.frozen; many = c.requires.many };
-    at = sym c.new-task.ensures.slot;
-    halves = c.new-task.ensures.halves.halves;
-  },
-  c.from_leaf.ensures.key_is,
-)
+returns-clause-made_for c words p is =
+    let at = c.from_leaf.ensures in
+    let place : c.from_leaf.result.place ≡ c.from_leaf.result.path.depth - 1 = omega (arith, at.last, ap (λ (z : Path). z.depth) at.path_is) in
+    let last : slice_get c.from_leaf.result.path.links (c.from_leaf.result.path.depth - 1) ≡ Some c.from_leaf.result.node = subst (λ i. slice_get c.from_leaf.result.path.links i ≡ Some c.from_leaf.result.node) place (subst (λ z. slice_get z.links c.from_leaf.result.place ≡ Some c.from_leaf.result.node) (sym at.path_is) at.node) in
+    let depth : c.from_leaf.result.path.depth ≡ c.args.path.depth = ap (λ (z : Path). z.depth) at.path_is in
+    record {
+      halves = record {
+        view = c.args.view;
+        leaf = record { is = is; frozen = c.requires.frozen; many = c.requires.many };
+        at = sym c.new-task.ensures.slot;
+        halves = c.new-task.ensures.halves.halves;
+      };
+      foot = record { key_is = at.key_is; below = omega (arith, at.last, c.requires.deep); last = at.last ∙ sym depth; foot = record { last = c.from_leaf.result.node; is = last } };
+    }
+
+pub returns-clause-kind : goal.returns-clause-kind
+unfolding kind_of
+returns-clause-kind c = record { from = c.from_leaf.result; is = refl; leaf = c.from_leaf.ensures }

@@ -1,13 +1,15 @@
-use Rattle.std.proofs.Common.{◌≡◌, sym, ap, subst, ◌∙◌, refl, arith, inr, Some}
+use Rattle.std.proofs.Common.{◌≡◌, true, sym, ap, subst, ◌∙◌, refl, arith, inr, Some}
 use Rattle.bz_task.specs.Requests.{Hears, Tells, swaps_in}
 use Rattle.bz_layout.specs.Config.{IsConfig}
 use Rattle.bz_layout.specs.declared.thresholds.TheConstants.{SPLIT_SLOTS}
 use Rattle.bz_task.specs.OwnActs.{AreTakenFrom}
 use Rattle.bz_task.specs.declared.path.Link.{Link}
+use Rattle.bz_task.specs.declared.todo.Seen.TheVariants.{Start, Swapped}
 use Rattle.bz_task.specs.declared.todo.Todo.TheVariants.{Read as Reads}
 use Rattle.bz_split.specs.Duties.{split_of}
-use Rattle.bz_split.specs.Facts.{split_facts, split_asks, split_needs, split_left, split_swaps}
-use Rattle.bz_split.specs.declared.phase.Phase.TheVariants.{Guard}
+use Rattle.bz_split.specs.Facts.{split_facts, split_asks, split_needs, split_left, split_swaps, split_end}
+use Rattle.bz_split.specs.declared.phase.Phase.TheVariants.{Fresh, Guard}
+use Rattle.bz_split.proofs.Beginning.{heard-in, begins-fresh}
 use Rattle.bz_split.proofs.Counting.{Counts, counts}
 use Rattle.bz_split.proofs.Knowing.{EndsWell, Looks, ends-well, first-ends, takes-none, looks, looked-learns, fresh-known}
 use Rattle.bz_split.proofs.Staying.{no-slot}
@@ -28,7 +30,9 @@ returns-in_default c =
       fewer = a.fewer;
       counted = a.counted;
       slots = takes-none c.args.self.now.phase c.after-self.result c.args.slots.now a.begun a.looked;
+      begins = λ q. absurd (c.in_default.not-Fresh (begins-fresh c.args.self.now.config (split_of c.args.self.now) c.args.self.now.phase (subst (Hears (split_asks c.args.self.now.config (split_of c.args.self.now) c.args.self.now.phase)) q c.requires.hears)));
       done = e.done;
+      last = λ q. ap split_end (a.last q);
       restart = e.restart;
       no_swap = e.no_swap;
       full_swaps = e.full_swaps;
@@ -54,7 +58,9 @@ returns-in-Fresh c =
       fewer = n.fewer;
       counted = λ z. n.counted;
       slots = inr (record { fewer = omega (arith, ap split_needs c.in-Fresh.is); slots = refl });
+      begins = λ q. refl;
       done = e.done;
+      last = λ q. absurd (heard-in t.config (split_of t) t.phase Fresh c.args.seen (Swapped true) c.in-Fresh.is q c.requires.hears);
       restart = e.restart;
       no_swap = e.no_swap;
       full_swaps = e.full_swaps;
@@ -90,7 +96,9 @@ returns-in-Guard c =
       fewer = n.fewer;
       counted = λ z. n.counted;
       slots = subst (λ z. AreTakenFrom z (split_needs new.phase) c.args.slots.now left) (sym needed) b.taken;
+      begins = λ q. absurd (heard-in t.config (split_of t) t.phase Guard c.args.seen Start c.in-Guard.is q c.requires.hears);
       done = ends.done;
+      last = λ q. absurd (heard-in t.config (split_of t) t.phase Guard c.args.seen (Swapped true) c.in-Guard.is q c.requires.hears);
       restart = ends.restart;
       no_swap = ends.no_swap;
       full_swaps = ends.full_swaps;

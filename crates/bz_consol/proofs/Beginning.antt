@@ -1,0 +1,23 @@
+-- A consolidation that is told to begin, and one whose swap took effect.
+use Rattle.std.proofs.Common.{◌≡◌, true, refl, subst}
+use Rattle.bz_layout.specs.declared.config.Config.{Config}
+use Rattle.bz_task.specs.Requests.{Hears}
+use Rattle.bz_task.specs.declared.todo.Seen.{Seen}
+use Rattle.bz_task.specs.declared.todo.Seen.TheVariants.{Start, Swapped}
+use Rattle.bz_consol.specs.Facts.{Renewal, consol_asks, consol_swaps}
+use Rattle.bz_consol.specs.declared.phase.Phase.{Phase}
+use Rattle.bz_consol.specs.declared.phase.Phase.TheVariants.{Fresh, Swap}
+
+-- what is heard in a phase is heard in the phase that it is
+pub heard-in : (c : Config) (r : Renewal) (o p : Phase) (seen told : Seen) → o ≡ p → seen ≡ told → Hears (consol_asks c r o) seen → Hears (consol_asks c r p) told
+heard-in c r o p seen told e g h = subst (λ z. Hears (consol_asks c r z) told) e (subst (λ z. Hears (consol_asks c r o) z) g h)
+
+-- only one that has asked for nothing is told to begin
+pub begins-fresh : (c : Config) (r : Renewal) (p : Phase) → Hears (consol_asks c r p) Start → p ≡ Fresh
+begins-fresh c r Fresh h = refl
+begins-fresh c r p h = absurd (h)
+
+-- one swap was left where it was told that a swap took effect
+pub one-left : (c : Config) (r : Renewal) (p : Phase) → Hears (consol_asks c r p) (Swapped true) → consol_swaps p ≡ 1
+one-left c r Swap h = refl
+one-left c r p h = absurd (h)

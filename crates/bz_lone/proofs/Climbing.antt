@@ -1,0 +1,223 @@
+-- The split of the node above one that found no room is paid for.
+use Rattle.std.proofs.Common.{◌≡◌, ◌⊎◌, ℕ, ◌+◌, ◌-◌, ◌*◌, ◌<◌, ◌≤◌, min, Bool, false, arith, ap, refl, inl, inr, ◌∙◌}
+use Rattle.std.specs.Prelude.{Option, Some, if◌then◌else◌, nat_lt}
+use Rattle.std.proofs.lemmas.Bool.{cases_lt}
+use Rattle.std.proofs.lemmas.Bool.Decides.{nat_tests}
+use Rattle.bz_alone.specs.Alone.{IsAlone}
+use Rattle.bz_ascent.specs.Ascents.{IsOneUp}
+use Rattle.bz_ascent.specs.declared.ascent.Ascent.{Ascent}
+use Rattle.bz_below.specs.Duties as below
+use Rattle.bz_costs.specs.Costs.{RoundsArePaid}
+use Rattle.bz_costs.specs.Failing.{cost_of_lost_below, cost_of_lost_inner}
+use Rattle.bz_costs.specs.Most.{most_of, most_of_below, most_of_inner, most_of_inner_root}
+use Rattle.bz_costs.specs.Splits.{cost_after_below, cost_after_inner, most_of_higher, SplitsArePaid}
+use Rattle.bz_costs.specs.Stretches.{cost_once_viewed, cost_from, top_stage}
+use Rattle.bz_costs.specs.Weights.{weigh, weight}
+use Rattle.bz_fork.specs.Duties as fork
+use Rattle.bz_layout.specs.declared.swaps.TheConstants.{RENEWAL_SWAPS}
+use Rattle.bz_layout.specs.declared.thresholds.TheConstants.{MAX_LEVELS}
+use Rattle.bz_running.specs.Duties.{end_of, left_of}
+use Rattle.bz_running.specs.Kinds as kinds
+use Rattle.bz_running.specs.Kinds.{Kind, kind_of, level_of}
+use Rattle.bz_running.specs.declared.running.AnyTask.{AnyTask}
+use Rattle.bz_running.specs.declared.running.AnyTask.TheVariants.{SplittingBelow, SplittingInner, SplittingInnerRoot}
+use Rattle.bz_swap.specs.SwapMemory.{SwapMemory}
+use Rattle.bz_task.specs.Scene.{Past}
+use Rattle.bz_task.specs.declared.path.Path.{Path}
+use Rattle.bz_task.specs.declared.todo.Outcome.{Outcome}
+use Rattle.bz_task.specs.declared.todo.Outcome.TheVariants.{NeedsRoom}
+use Rattle.bz_lone.proofs.Coming.{comes-to-write}
+use Rattle.bz_lone.proofs.Ends.{unmade, alone-yet}
+use Rattle.bz_lone.proofs.Pricing.{less}
+use Rattle.bz_lone.proofs.Sparing.{less-afforded}
+use Rattle.bz_lone.specs.Errands.{Errand, is_read, may_swap_twice}
+use Rattle.bz_lone.specs.Prices.{Prices, disturbed_prices, prices_in, coming, coming_to_write}
+use Rattle.bz_lone.specs.Renewals.{IsAbove, AscentsArePaid}
+use Rattle.bz_lone.specs.Rounds.{stage_now}
+use Rattle.bz_lone.specs.Sum.{Affords, IsThawed, Round, Disturbed, Clean, State, In, Made, IsIn, Spares, reserve, prices_of, left_in, still_takes, kept_by}
+
+pub record Laws : Type 0 where
+  pub rounds : RoundsArePaid
+  pub splits : SplitsArePaid
+  pub below : below.WantOfRoomCostsLittle
+  pub fork : fork.WantOfRoomCostsLittle
+
+-- a split that found no room has its whole weight left but for little: that of a leaf
+left-below : below.WantOfRoomCostsLittle → (t : AnyTask) (a : Ascent) → kind_of t ≡ kinds.SplitLeaf a → end_of t ≡ Some NeedsRoom → most_of_below ≤ weigh t + cost_of_lost_below
+unfolding kind_of end_of left_of
+left-below few (SplittingBelow t b) a k ended = omega (arith, few t ended)
+left-below few t a k ended = absurd (cc)
+
+-- and that of an inner node
+left-inner : fork.WantOfRoomCostsLittle → (t : AnyTask) (a : Ascent) → kind_of t ≡ kinds.SplitNode a → end_of t ≡ Some NeedsRoom → most_of_inner ≤ weigh t + weight 0 RENEWAL_SWAPS + cost_of_lost_inner
+unfolding kind_of end_of left_of
+left-inner few (SplittingInner t b) a k ended = omega (arith, few t ended)
+left-inner few t a k ended = absurd (cc)
+
+kept-inner : (t : AnyTask) (a : Ascent) → kind_of t ≡ kinds.SplitNode a → end_of t ≡ Some NeedsRoom → kept_by (end_of t) (kind_of t) ≡ weight 0 RENEWAL_SWAPS
+kept-inner t a k ended = ap (λ (o : Option Outcome). kept_by o (kind_of t)) ended ∙ ap (λ (k : Kind). kept_by (Some NeedsRoom) k) k
+
+still-inner : fork.WantOfRoomCostsLittle → (t : AnyTask) (a : Ascent) → kind_of t ≡ kinds.SplitNode a → end_of t ≡ Some NeedsRoom → most_of_inner ≤ still_takes t + cost_of_lost_inner
+still-inner few t a k ended = joined (weigh t) (kept_by (end_of t) (kind_of t)) (kept-inner t a k ended) (left-inner few t a k ended)
+  where
+    joined : (own kept : ℕ) → kept ≡ weight 0 RENEWAL_SWAPS → most_of_inner ≤ own + weight 0 RENEWAL_SWAPS + cost_of_lost_inner → most_of_inner ≤ own + kept + cost_of_lost_inner
+    joined own kept same l = omega (arith, same, l)
+
+-- the next split
+next-inner : (t : AnyTask) (a : Ascent) → kind_of t ≡ kinds.SplitNode a → most_of t ≤ most_of_higher
+unfolding kind_of
+next-inner (SplittingInner t b) a k = omega arith
+next-inner t a k = absurd (cc)
+
+next-root : (t : AnyTask) (a : Ascent) → kind_of t ≡ kinds.SplitRootNode a → most_of t ≤ most_of_inner_root
+unfolding kind_of
+next-root (SplittingInnerRoot t b) a k = omega arith
+next-root t a k = absurd (cc)
+
+next-higher : (t : AnyTask) (up : Ascent) → ((kind_of t ≡ kinds.SplitNode up) × (0 < up.place)) ⊎ (kind_of t ≡ kinds.SplitRootNode up) → most_of t ≤ most_of_higher
+next-higher t up (inl i) = next-inner t up i.0
+next-higher t up (inr r) = omega (arith, next-root t up r)
+
+-- one level up
+one-up : (a up : Ascent) → IsOneUp a up → a.place < a.path.depth → level_of up ≡ level_of a + 1
+one-up a up one low = omega (arith, one.before, ap (λ (path : Path). path.depth) one.path_is, low)
+
+low-up : (a up : Ascent) → IsOneUp a up → a.path.depth ≤ MAX_LEVELS → level_of up + 1 ≤ MAX_LEVELS
+low-up a up one few = omega (arith, few, ap (λ (path : Path). path.depth) one.path_is)
+
+below-top : (a up : Ascent) → IsOneUp a up → a.path.depth ≤ MAX_LEVELS → 0 < up.place → level_of up < top_stage
+below-top a up one few some = omega (arith, few, some, ap (λ (path : Path). path.depth) one.path_is)
+
+-- what comes after the next
+after-next : (q : Prices) (e : Errand) (t : AnyTask) (up : Ascent) → e.effected ≡ false → is_read e.call ≡ false → ((kind_of t ≡ kinds.SplitNode up) × (0 < up.place)) ⊎ (kind_of t ≡ kinds.SplitRootNode up) → coming q e (kind_of t) ≡ q.inner (level_of up)
+after-next q e t up quiet write (inl i) = comes-to-write q e (kind_of t) quiet write ∙ ap (coming_to_write q e) i.0
+after-next q e t up quiet write (inr r) = comes-to-write q e (kind_of t) quiet write ∙ ap (coming_to_write q e) r
+
+after-leaf : (q : Prices) (e : Errand) (t : AnyTask) (a : Ascent) → e.effected ≡ false → is_read e.call ≡ false → kind_of t ≡ kinds.SplitLeaf a → coming q e (kind_of t) ≡ q.below
+after-leaf q e t a quiet write k = comes-to-write q e (kind_of t) quiet write ∙ ap (coming_to_write q e) k
+
+after-inner : (q : Prices) (e : Errand) (t : AnyTask) (a : Ascent) → e.effected ≡ false → is_read e.call ≡ false → kind_of t ≡ kinds.SplitNode a → coming q e (kind_of t) ≡ q.inner (level_of a)
+after-inner q e t a quiet write k = comes-to-write q e (kind_of t) quiet write ∙ ap (coming_to_write q e) k
+
+-- in a disturbed round
+hurt-leaf : (own : ℕ) → most_of_below ≤ own + cost_of_lost_below → most_of_higher + disturbed_prices.inner 1 ≤ own + disturbed_prices.below
+hurt-leaf own l = omega (arith, l)
+
+hurt-inner : (own level : ℕ) → level + 2 ≤ MAX_LEVELS → most_of_inner ≤ own + cost_of_lost_inner → most_of_higher + disturbed_prices.inner (level + 1) ≤ own + disturbed_prices.inner level
+hurt-inner own level high l = omega (arith, high, l)
+
+-- in a clean one
+clean-leaf : (own viewed from lost : ℕ) → most_of_below ≤ own + cost_of_lost_below → cost_of_lost_below + lost + most_of_higher + from ≤ viewed → most_of_higher + (lost + from) ≤ own + (viewed - most_of_below)
+clean-leaf own viewed from lost l paid = omega (arith, l, paid)
+
+higher-paid : RoundsArePaid → (stage : ℕ) → 2 ≤ stage → cost_of_lost_below + cost_of_lost_inner * (min stage top_stage - 1 - 1) + most_of_higher + cost_from (min stage top_stage - 1) ≤ cost_once_viewed (min stage top_stage)
+higher-paid b stage some = b.inner stage (min stage top_stage - 1) (min stage top_stage - 1) (omega (arith, some)) (omega (arith, some)) (omega arith) (omega (arith, some)) (omega arith)
+
+clean-inner : (own level stage from : ℕ) → level + 1 < stage → level + 1 < top_stage → most_of_inner ≤ own + cost_of_lost_inner →
+    most_of_higher + (cost_of_lost_inner * (min stage top_stage - 1 - (level + 1)) + from) ≤ own + (cost_of_lost_inner * (min stage top_stage - 1 - level) + from)
+clean-inner own level stage from more high l = omega (arith, more, high, l)
+
+-- a node below the greatest level has its price
+not-less : (a b : ℕ) → b ≤ a → nat_lt a b ≡ false
+not-less a b l = grind (arith, nat_tests)
+
+low-price : (e : Errand) (p : Past) (level : ℕ) → level < top_stage → (prices_in p.config (p.at p.now).image e).inner level ≡ cost_after_inner level (stage_now e p)
+low-price e p level low = ap (λ (b : Bool). if b then cost_after_inner level (stage_now e p) else 0) (less level top_stage low)
+
+top-price : (e : Errand) (p : Past) (level : ℕ) → top_stage ≤ level → (prices_in p.config (p.at p.now).image e).inner level ≡ 0
+top-price e p level high = ap (λ (b : Bool). if b then cost_after_inner level (stage_now e p) else 0) (not-less level top_stage high)
+
+-- what is to come is paid for, by what is left and what was to come
+fit : (most own next old higher new before : ℕ) → most ≤ higher → next ≡ new → old ≡ before → higher + new ≤ own + before → most + next ≤ own + old
+fit most own next old higher new before l a b paid = omega (arith, l, a, b, paid)
+
+kept-too : (own kept price : ℕ) → price ≤ own → price ≤ own + kept
+kept-too own kept price l = omega (arith, l)
+
+module _ (b : Laws) (e : Errand) (t next : AnyTask) (a up : Ascent) (quiet : e.effected ≡ false) (write : is_read e.call ≡ false) (above : IsAbove t next a up) (ended : end_of t ≡ Some NeedsRoom) where
+  -- a leaf's parent
+  parent : a.place + 1 ≡ a.path.depth → level_of up ≡ 1
+  parent foot = omega (arith, one-up a up above.one above.low, foot)
+
+  from-leaf : kind_of t ≡ kinds.SplitLeaf a → most_of_below ≤ still_takes t + cost_of_lost_below
+  from-leaf k = more (weigh t) (kept_by (end_of t) (kind_of t)) (left-below b.below t a k ended)
+    where
+      more : (own kept : ℕ) → most_of_below ≤ own + cost_of_lost_below → most_of_below ≤ own + kept + cost_of_lost_below
+      more own kept l = omega (arith, l)
+
+  from-inner : kind_of t ≡ kinds.SplitNode a → most_of_inner ≤ still_takes t + cost_of_lost_inner
+  from-inner k = still-inner b.fork t a k ended
+
+  disturbed : most_of next + coming disturbed_prices e (kind_of next) ≤ still_takes t + coming disturbed_prices e (kind_of t)
+  disturbed = elim above.from [
+    | inl leaf ↦ fit _ _ _ _ most_of_higher (disturbed_prices.inner 1) disturbed_prices.below (next-higher next up above.to)
+        (after-next disturbed_prices e next up quiet write above.to ∙ ap (λ (level : ℕ). disturbed_prices.inner level) (parent leaf.1)) (after-leaf disturbed_prices e t a quiet write leaf.0)
+        (hurt-leaf (still_takes t) (from-leaf leaf.0))
+    | inr node ↦ fit _ _ _ _ most_of_higher (disturbed_prices.inner (level_of a + 1)) (disturbed_prices.inner (level_of a)) (next-higher next up above.to)
+        (after-next disturbed_prices e next up quiet write above.to ∙ ap (λ (level : ℕ). disturbed_prices.inner level) (one-up a up above.one above.low)) (after-inner disturbed_prices e t a quiet write node)
+        (hurt-inner (still_takes t) (level_of a) (omega (arith, one-up a up above.one above.low, low-up a up above.one above.few)) (from-inner node))
+  ]
+
+  module _ (p : Past) (full : level_of up + 1 ≤ stage_now e p) where
+    clean-parent : kind_of t ≡ kinds.SplitLeaf a → level_of up ≡ 1 → most_of next + coming (prices_in p.config (p.at p.now).image e) e (kind_of next) ≤ still_takes t + coming (prices_in p.config (p.at p.now).image e) e (kind_of t)
+    clean-parent k one =
+        let q : Prices = prices_in p.config (p.at p.now).image e in
+        let m : ℕ = min (stage_now e p) top_stage in
+        fit _ _ _ _ most_of_higher (cost_after_inner 1 (stage_now e p)) (cost_after_below (stage_now e p)) (next-higher next up above.to)
+        (after-next q e next up quiet write above.to ∙ (ap (λ (level : ℕ). q.inner level) one ∙ low-price e p 1 (omega arith))) (after-leaf q e t a quiet write k)
+        (clean-leaf (still_takes t) (cost_once_viewed m) (cost_from (m - 1)) (cost_of_lost_inner * (m - 1 - 1)) (from-leaf k) (higher-paid b.rounds (stage_now e p) (omega (arith, full, one))))
+
+    clean-low : kind_of t ≡ kinds.SplitNode a → level_of up < top_stage → most_of next + coming (prices_in p.config (p.at p.now).image e) e (kind_of next) ≤ still_takes t + coming (prices_in p.config (p.at p.now).image e) e (kind_of t)
+    clean-low k low =
+        let q : Prices = prices_in p.config (p.at p.now).image e in
+        let one : level_of up ≡ level_of a + 1 = one-up a up above.one above.low in
+        fit _ _ _ _ most_of_higher (cost_after_inner (level_of a + 1) (stage_now e p)) (cost_after_inner (level_of a) (stage_now e p)) (next-higher next up above.to)
+        (after-next q e next up quiet write above.to ∙ (ap (λ (level : ℕ). q.inner level) one ∙ low-price e p (level_of a + 1) (omega (arith, one, low))))
+        (after-inner q e t a quiet write k ∙ low-price e p (level_of a) (omega (arith, one, low)))
+        (clean-inner (still_takes t) (level_of a) (stage_now e p) (cost_from (min (stage_now e p) top_stage - 1)) (omega (arith, one, full)) (omega (arith, one, low)) (from-inner k))
+
+    -- a root at the greatest level ends the call
+    is-root : top_stage ≤ level_of up → kind_of next ≡ kinds.SplitRootNode up
+    is-root high = elim above.to [ inl node ↦ absurd (omega (arith, high, below-top a up above.one above.few node.1)) | inr root ↦ root ]
+
+    clean-top : kind_of t ≡ kinds.SplitNode a → top_stage ≤ level_of up → most_of next + coming (prices_in p.config (p.at p.now).image e) e (kind_of next) ≤ still_takes t + coming (prices_in p.config (p.at p.now).image e) e (kind_of t)
+    clean-top k high =
+        let q : Prices = prices_in p.config (p.at p.now).image e in
+        let one : level_of up ≡ level_of a + 1 = one-up a up above.one above.low in
+        let top : level_of up + 1 ≤ MAX_LEVELS = low-up a up above.one above.few in
+        fit _ _ _ _ most_of_inner_root 0 (cost_after_inner (level_of a) (stage_now e p)) (next-root next up (is-root high)) (after-next q e next up quiet write above.to ∙ top-price e p (level_of up) high)
+        (after-inner q e t a quiet write k ∙ low-price e p (level_of a) (omega (arith, one, top)))
+        (beyond (still_takes t) _ (b.splits.too_high (level_of a) (stage_now e p)))
+      where
+        beyond : (own price : ℕ) → most_of_inner_root ≤ price → most_of_inner_root + 0 ≤ own + price
+        beyond own price l = omega (arith, l)
+
+    clean : most_of next + coming (prices_in p.config (p.at p.now).image e) e (kind_of next) ≤ still_takes t + coming (prices_in p.config (p.at p.now).image e) e (kind_of t)
+    clean = elim above.from [
+      | inl leaf ↦ clean-parent leaf.0 (parent leaf.1)
+      | inr node ↦ elim (cases_lt (level_of up) top_stage) [ inl low ↦ clean-low node low | inr high ↦ clean-top node high ]
+    ]
+
+  -- a split asks for one swap
+  once : may_swap_twice (kind_of t) ≡ false
+  once = elim above.from [ inl leaf ↦ ap may_swap_twice leaf.0 | inr node ↦ ap may_swap_twice node ]
+
+  price-in : (p : Past) → (IsAlone 0 p → level_of up + 1 ≤ stage_now e p) → (round : Round) → (round ≡ Clean → IsAlone 0 p) → most_of next + coming (prices_of round e p) e (kind_of next) ≤ still_takes t + coming (prices_of round e p) e (kind_of t)
+  price-in p full Disturbed alone = disturbed
+  price-in p full Clean alone = clean p (full (alone refl))
+
+  climb-in : (m : SwapMemory) (w by : ℕ) (p : Past) → (IsAlone 0 p → level_of up + 1 ≤ stage_now e p) → IsThawed e → (state : State) → IsIn state e t 0 p → Affords m w e p.now by (0 + left_in state e t p) → Spares m w e by p (λ q. most_of next + coming q e (kind_of next))
+  climb-in m w by p full thawed (In round) h afford = record {
+    round = round;
+    alone = alone-yet e t round p once h;
+    thawed = thawed;
+    affords = less-afforded m w e p.now by (0 + left_in (In round) e t p) (reserve round + (most_of next + coming (prices_of round e p) e (kind_of next)))
+        (beside (reserve round) _ _ (price-in p full round (alone-yet e t round p once h))) afford;
+  }
+    where
+      beside : (kept price paid : ℕ) → price ≤ paid → kept + price ≤ 0 + (kept + paid)
+      beside kept price paid l = omega (arith, l)
+  climb-in m w by p full thawed Made h afford = unmade e t NeedsRoom _ ended (λ same. cc) h
+
+pub ascents-paid : Laws → AscentsArePaid
+ascents-paid b m w e t next a up by p quiet write above ended full paid = climb-in b e t next a up quiet write above ended m w by p full paid.thawed paid.state paid.holds paid.affords

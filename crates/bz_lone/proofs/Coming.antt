@@ -1,0 +1,30 @@
+-- What may come after a task, of each sort of call.
+use Rattle.std.proofs.Common.{◌≡◌, ℕ, ◌≤◌, if◌then◌else◌, Bool, true, false, ap, refl, ◌∙◌}
+use Rattle.bz_running.specs.Kinds.{Kind}
+use Rattle.bz_lone.specs.Errands.{Errand, is_read}
+use Rattle.bz_lone.specs.Prices.{Prices, coming_to_read, coming_to_write, coming_after, coming}
+
+-- what holds of both ways holds of each
+pub either : (b : Bool) (x y z : ℕ) → x ≤ z → y ≤ z → (if b then x else y) ≤ z
+either true x y z l r = l
+either false x y z l r = r
+
+-- whichever it is
+pub two-ways : (b : Bool) (P : Type 0) → (b ≡ true → P) → (b ≡ false → P) → P
+two-ways true _ on off = on refl
+two-ways false _ on off = off refl
+
+pub comes-within : (q : Prices) (e : Errand) (k : Kind) (z : ℕ) → coming_after k ≤ z → coming_to_read k ≤ z → coming_to_write q e k ≤ z → coming q e k ≤ z
+comes-within q e k z late read write = either e.effected _ _ z late (either (is_read e.call) _ _ z read write)
+
+pub comes-after : (q : Prices) (e : Errand) (k : Kind) → e.effected ≡ true → coming q e k ≡ coming_after k
+comes-after q e k done = ap (λ (b : Bool). if b then coming_after k else if is_read e.call then coming_to_read k else coming_to_write q e k) done
+
+pub comes-before : (q : Prices) (e : Errand) (k : Kind) → e.effected ≡ false → coming q e k ≡ (if is_read e.call then coming_to_read k else coming_to_write q e k)
+comes-before q e k quiet = ap (λ (b : Bool). if b then coming_after k else if is_read e.call then coming_to_read k else coming_to_write q e k) quiet
+
+pub comes-to-write : (q : Prices) (e : Errand) (k : Kind) → e.effected ≡ false → is_read e.call ≡ false → coming q e k ≡ coming_to_write q e k
+comes-to-write q e k quiet write = comes-before q e k quiet ∙ ap (λ (b : Bool). if b then coming_to_read k else coming_to_write q e k) write
+
+pub comes-to-read : (q : Prices) (e : Errand) (k : Kind) → e.effected ≡ false → is_read e.call ≡ true → coming q e k ≡ coming_to_read k
+comes-to-read q e k quiet read = comes-before q e k quiet ∙ ap (λ (b : Bool). if b then coming_to_read k else coming_to_write q e k) read

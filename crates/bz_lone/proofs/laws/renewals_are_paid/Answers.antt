@@ -1,0 +1,5 @@
+use Rattle.bz_lone.proofs.Renewing.{renewals-paid}
+use Rattle.bz_lone.proofs.laws.renewals_are_paid.Goals as goal
+
+pub returns : goal.returns
+returns c = renewals-paid c.rounds_are_paid.ensures

@@ -1,0 +1,5 @@
+use Rattle.bz_lone.proofs.Begins.{tasks-begin}
+use Rattle.bz_lone.proofs.laws.tasks_may_begin.Goals as goal
+
+pub returns : goal.returns
+returns c = tasks-begin c.tasks_weigh_little.ensures
