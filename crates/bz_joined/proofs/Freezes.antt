@@ -1,5 +1,5 @@
 -- The freeze of one leaf of a merge: the nodes above stay, the other leaves stay, and the leaf itself keeps its live words.
-use Rattle.std.proofs.Common.{◌≡◌, ◌≢◌, ℕ, ◌+◌, ◌<◌, ◌≤◌, List, arith, refl, sym, ap, subst, ◌∙◌, inl, inr}
+use Rattle.std.proofs.Common.{◌≡◌, ◌≢◌, ℕ, ◌+◌, ◌<◌, ◌≤◌, true, List, arith, refl, sym, ap, subst, ◌∙◌, inl, inr}
 use Rattle.bz_layout.specs.declared.config.Config.{Config}
 use Rattle.bz_layout.specs.declared.sizes.TheConstants.{META_AT}
 use Rattle.bz_layout.specs.declared.thresholds.TheConstants.{SPLIT_ABOVE}
@@ -24,7 +24,7 @@ use Rattle.bz_stage.specs.Paths.{on_path, run_from, StandsOver}
 use Rattle.bz_stage.specs.Rooms.{is_full}
 use Rattle.bz_stage.specs.Stages.{leaf_page, page_on_path, root_level, full_above, stage_of, stage}
 use Rattle.bz_stage.specs.Swaps.{FreezesLeaf}
-use Rattle.bz_joined.specs.Laws.{FreezesBesideKeepTheStage, SmallFreezesLeaveACopy}
+use Rattle.bz_joined.specs.Laws.{FreezesBesideKeepTheStage, FreezesBesideKeepTheLeaf, FrozenLeavesAreTheKeys, SmallFreezesLeaveACopy}
 
 -- the records are as they were
 live-same : (r s n m : ℕ → ℕ) → Restamps r s n m → live_words (page m) ≡ live_words (page n)
@@ -87,14 +87,23 @@ module _ (c : Config) (x y : Image) (key : List ℕ) (k : ℕ) (t : IsTree (view
     here-is : leaf_page c y key ≡ page (node c y.words k)
     here-is = leaf-is ∙ ap (λ j. page (node c y.words j)) (sym own)
 
+    frozen-is : (leaf_page c y key).frozen ≡ true
+    frozen-is = ap (λ (p : Page). p.frozen) here-is ∙ z.frozen
+
     live-is : live_words (leaf_page c y key) ≡ live_words (leaf_page c x key)
     live-is = ap live_words here-is ∙ (live-same (node c x.raw k) (node c y.raw k) (node c x.words k) (node c y.words k) z.restamps ∙ ap (λ j. live_words (page (node c x.words j))) own)
 
     copied : StagesSay → (words : ℕ) → live_words (leaf_page c x key) ≤ SPLIT_ABOVE → stage c y key words ≡ 1
-    copied say words few = say.copied (leaf_page c y key) (full_above c y key) words (ap (λ (p : Page). p.frozen) here-is ∙ z.frozen) (subst (λ n. n ≤ SPLIT_ABOVE) (sym live-is) few)
+    copied say words few = say.copied (leaf_page c y key) (full_above c y key) words frozen-is (subst (λ n. n ≤ SPLIT_ABOVE) (sym live-is) few)
 
 pub freezes-beside : QuietSwapsKeepTheContent → FreezesBesideKeepTheStage
 freezes-beside law c x y key words k t z ne = kept c x y key k t z (law c x y k t z.on_leaf (inr (inr (inl z.restamps)))).0 words ne
+
+pub freezes-beside-leaf : QuietSwapsKeepTheContent → FreezesBesideKeepTheLeaf
+freezes-beside-leaf law c x y key k t z ne = page-same c x y key k t z (law c x y k t z.on_leaf (inr (inr (inl z.restamps)))).0 ne
+
+pub freezes-own : QuietSwapsKeepTheContent → FrozenLeavesAreTheKeys
+freezes-own law c x y key t z = frozen-is c x y key (leaf_of (view_of c x) key) t z (law c x y (leaf_of (view_of c x) key) t z.on_leaf (inr (inr (inl z.restamps)))).0 refl
 
 pub small-freezes : QuietSwapsKeepTheContent → StagesSay → SmallFreezesLeaveACopy
 small-freezes law say c x y key words t z few = copied c x y key (leaf_of (view_of c x) key) t z (law c x y (leaf_of (view_of c x) key) t z.on_leaf (inr (inr (inl z.restamps)))).0 refl say words few

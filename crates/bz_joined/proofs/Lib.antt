@@ -2,4 +2,5 @@ mod Freezes
 mod Lone
 mod Merges
 mod Roomy
+mod Single
 mod Swapped

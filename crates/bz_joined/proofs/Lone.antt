@@ -4,7 +4,7 @@ use Rattle.std.specs.Prelude.{slice_index}
 use Rattle.bz_freeze.specs.Facts.{WasLeaf, entry_of}
 use Rattle.bz_layout.specs.declared.config.Config.{Config}
 use Rattle.bz_layout.specs.declared.sizes.TheConstants.{STATUS_AT}
-use Rattle.bz_merge.specs.Duties.{merging_of, made_of}
+use Rattle.bz_merge.specs.Duties.{merging_of, made_of, asks_of, facts_of}
 use Rattle.bz_merge.specs.Counts.{freezes_of, merge_made}
 use Rattle.bz_merge.specs.Facts.{merge_asks, merge_facts}
 use Rattle.bz_merge.specs.Plans.{Merging, viewed_leaf, beside_leaf, IsPair, IsPlanned}
@@ -12,9 +12,11 @@ use Rattle.bz_merge.specs.Siblings.{SeenLeaf, WasSeen}
 use Rattle.bz_merge.specs.declared.merge.Merge.{Merge}
 use Rattle.bz_merge.specs.declared.phase.Phase.{Phase}
 use Rattle.bz_merge.specs.declared.phase.Phase.TheVariants.{Freeze, FreezeBeside}
+use Rattle.bz_shape.specs.Descent.{leaf_of}
 use Rattle.bz_word.specs.Statuses.{status}
 use Rattle.bz_word.specs.declared.entry.Entry.{Entry}
 use Rattle.bz_content.specs.Content.{image_of, leaf_in}
+use Rattle.bz_content.specs.View.{view_of}
 use Rattle.bz_task.specs.Instant.{Instant}
 use Rattle.bz_task.specs.Scene.{Past, Scene, Waiting, IsScene, here}
 use Rattle.bz_task.specs.Swaps.{Stand, SwapsTo}
@@ -22,12 +24,14 @@ use Rattle.bz_task.specs.declared.todo.Todo.TheVariants.{Swap as Swaps_for}
 use Rattle.bz_stage.specs.Swaps.{FreezesLeaf}
 use Rattle.bz_alone.specs.Alone.{IsAlone}
 use Rattle.bz_alone.specs.Changes.{MergesGoOn}
+use Rattle.bz_alone.specs.FromRunning.MadeFor.{WasLeafOf}
 use Rattle.bz_alone.specs.Trees.{SameTree}
 use Rattle.bz_rounds.proofs.Freezing.{Swapping, freezes-leaf}
+use Rattle.bz_rounds.specs.Lone.{IsLoneSwap}
 use Rattle.bz_rounds.proofs.Lone.{tree-now, leaf-now, same-entries}
 use Rattle.bz_tally.proofs.Pairs.{to-other, to-own}
-use Rattle.bz_joined.specs.Laws.{FreezesBesideKeepTheStage, SmallFreezesLeaveACopy}
-use Rattle.bz_joined.specs.Lone.{LoneFreezesBesideKeepTheStage, LoneOwnFreezesLeaveACopy}
+use Rattle.bz_joined.specs.Laws.{FreezesBesideKeepTheStage, FreezesBesideKeepTheLeaf, SmallFreezesLeaveACopy}
+use Rattle.bz_joined.specs.Lone.{LoneFreezesBesideKeepTheStage, LoneFreezesBesideKeepTheLeaf, LoneOwnFreezesLeaveACopy}
 
 -- the laws on which it rests
 pub record Laws : Type 0 where
@@ -103,16 +107,27 @@ seen-own r p f = to-own (λ l. Once l p) r.right (viewed_leaf r) (beside_leaf r)
 seen-beside : (r : Merging) (p : Past) → IsPlanned r p → Once (beside_leaf r) p
 seen-beside r p f = to-other (λ l. Once l p) r.right (viewed_leaf r) (beside_leaf r) (record { at = f.first_at; low = _; high = _; seen = f.first }) (record { at = f.second_at; low = _; high = _; seen = f.second })
 
-pub freezes-beside-lone : Laws → LoneFreezesBesideKeepTheStage
-freezes-beside-lone b t key words entries s y l e frozen was =
+-- that of the neighbour freezes another leaf than the key's
+freezes-other : Laws → (t : Merge) (key : List ℕ) (entries : List Entry) (s : Scene) (y : Instant) → IsLoneSwap t.config (asks_of t) (facts_of t) entries s y → t.phase ≡ FreezeBeside → (status t.status).frozen ≡ true → WasLeafOf key t.lower.slot s.past →
+    FreezesLeaf s.past.config (image_of (here s).image) (image_of y.image) t.side.slot × (t.side.slot ≢ leaf_of (view_of s.past.config (image_of (here s).image)) key)
+freezes-other b t key entries s y l e frozen was =
     let r : Merging = merging_of t in
     let f = plan-beside r t.phase s e l.knows in
     let is : entry_of s.past.config r.beside_slot (slice_index r.beside STATUS_AT) ∷ [] ≡ entries = ap (λ (z : Config). entry_of z r.beside_slot (slice_index r.beside STATUS_AT) ∷ []) l.config ∙ asked-beside t.config r t.phase entries e l.asks in
     let stand : Stand entries (here s) = (b.go t s l.config l.good l.knows (subst (λ n. IsAlone n s.past) (made-none t e frozen) l.alone)).stands entries l.asks in
     let leaf : leaf_in s.past.config (here s).image key ≡ t.lower.slot = leaf-now b.swapping.basis s l.good key t.lower.slot l.alone was in
     let apart : r.beside_slot ≢ r.lower.slot = are-two r.read r.lower.slot r.right r.place r.beside_slot f.0.paired.pair in
-    b.beside s.past.config (image_of (here s).image) (image_of y.image) key words r.beside_slot (tree-now b.swapping.basis s l.good)
-    (froze b s y l.good l.alone (beside_leaf r) (was-leaf (beside_leaf r) s.past (seen-beside r s.past f.0) f.1) entries is stand l.leads) (λ z. apart (z ∙ leaf))
+    (froze b s y l.good l.alone (beside_leaf r) (was-leaf (beside_leaf r) s.past (seen-beside r s.past f.0) f.1) entries is stand l.leads, λ z. apart (z ∙ leaf))
+
+pub freezes-beside-lone : Laws → LoneFreezesBesideKeepTheStage
+freezes-beside-lone b t key words entries s y l e frozen was =
+    let z = freezes-other b t key entries s y l e frozen was in
+    b.beside s.past.config (image_of (here s).image) (image_of y.image) key words t.side.slot (tree-now b.swapping.basis s l.good) z.0 z.1
+
+pub freezes-beside-leaf-lone : Laws → FreezesBesideKeepTheLeaf → LoneFreezesBesideKeepTheLeaf
+freezes-beside-leaf-lone b law t key entries s y l e frozen was =
+    let z = freezes-other b t key entries s y l e frozen was in
+    law s.past.config (image_of (here s).image) (image_of y.image) key t.side.slot (tree-now b.swapping.basis s l.good) z.0 z.1
 
 pub own-freezes-lone : Laws → LoneOwnFreezesLeaveACopy
 own-freezes-lone b t key words entries s y l e was few =

@@ -1,6 +1,6 @@
 -- What a merge makes of the stage of a key: the freeze of one of its two leaves, and the swap that puts one leaf in the place of both. Told
 -- of images.
-use Rattle.std.specs.Prelude.{◌≡◌, ◌≢◌, ℕ, ◌+◌, ◌≤◌, ◌⊎◌, List}
+use Rattle.std.specs.Prelude.{◌≡◌, ◌≢◌, ℕ, ◌+◌, ◌≤◌, ◌⊎◌, true, List}
 use Rattle.bz_layout.specs.declared.config.Config.{Config}
 use Rattle.bz_layout.specs.declared.thresholds.TheConstants.{LEAF_RECORD_WORDS, SPLIT_ABOVE}
 use Rattle.bz_shape.specs.Descent.{leaf_of}
@@ -16,6 +16,14 @@ use Rattle.bz_stage.specs.Swaps.{FreezesLeaf, IsRoomyLeaf}
 abbrev pub FreezesBesideKeepTheStage : Type 0
 FreezesBesideKeepTheStage =
     (c : Config) (x y : Image) (key : List ℕ) (words k : ℕ) → IsTree (view_of c x) → FreezesLeaf c x y k → k ≢ leaf_of (view_of c x) key → stage c y key words ≡ stage c x key words
+
+-- and that leaf as it is
+abbrev pub FreezesBesideKeepTheLeaf : Type 0
+FreezesBesideKeepTheLeaf = (c : Config) (x y : Image) (key : List ℕ) (k : ℕ) → IsTree (view_of c x) → FreezesLeaf c x y k → k ≢ leaf_of (view_of c x) key → leaf_page c y key ≡ leaf_page c x key
+
+-- that of the key's leaf leaves it frozen
+abbrev pub FrozenLeavesAreTheKeys : Type 0
+FrozenLeavesAreTheKeys = (c : Config) (x y : Image) (key : List ℕ) → IsTree (view_of c x) → FreezesLeaf c x y (leaf_of (view_of c x) key) → (leaf_page c y key).frozen ≡ true
 
 -- that of the key's leaf, where it has no more live words than it may keep, leaves it one copy away from room
 abbrev pub SmallFreezesLeaveACopy : Type 0

@@ -1,6 +1,8 @@
 -- The swaps of a merge of the key's leaf: its freezes, where nobody else's swap took effect since its look-up began, and the swap that turns
 -- the link to the parent, wherever its expected values stand.
 use Rattle.std.specs.Prelude.{◌≡◌, ℕ, ◌+◌, ◌≤◌, true, List}
+use Rattle.bz_freeze.specs.Facts.{freeze_asks, freeze_facts}
+use Rattle.bz_freeze.specs.declared.freeze.Freeze.{Freeze as SingleFreeze}
 use Rattle.bz_layout.specs.declared.thresholds.TheConstants.{LEAF_RECORD_WORDS, SPLIT_ABOVE}
 use Rattle.bz_merge.specs.Duties.{asks_of, facts_of}
 use Rattle.bz_merge.specs.declared.merge.Merge.{Merge}
@@ -23,6 +25,12 @@ LoneFreezesBesideKeepTheStage =
     (t : Merge) (key : List ℕ) (words : ℕ) (entries : List Entry) (s : Scene) (y : Instant) → IsLoneSwap t.config (asks_of t) (facts_of t) entries s y →
     t.phase ≡ FreezeBeside → (status t.status).frozen ≡ true → WasLeafOf key t.lower.slot s.past → stage_in s.past.config y.image key words ≡ stage_in s.past.config (here s).image key words
 
+-- and the key's leaf as it is
+abbrev pub LoneFreezesBesideKeepTheLeaf : Type 0
+LoneFreezesBesideKeepTheLeaf =
+    (t : Merge) (key : List ℕ) (entries : List Entry) (s : Scene) (y : Instant) → IsLoneSwap t.config (asks_of t) (facts_of t) entries s y →
+    t.phase ≡ FreezeBeside → (status t.status).frozen ≡ true → WasLeafOf key t.lower.slot s.past → leaf_page s.past.config (image_of y.image) key ≡ leaf_page s.past.config (image_of (here s).image) key
+
 -- that of the key's leaf, where it has no more live words than it may keep, leaves it one copy away from room
 abbrev pub LoneOwnFreezesLeaveACopy : Type 0
 LoneOwnFreezesLeaveACopy =
@@ -34,3 +42,9 @@ abbrev pub MergeSwapsGiveRoom : Type 0
 MergeSwapsGiveRoom =
     (t : Merge) (key : List ℕ) (words : ℕ) (entries : List Entry) (s : Scene) (y : Instant) → IsOwnSwap t.config (asks_of t) (facts_of t) entries s y →
     t.phase ≡ Swap → WasLeafOf key t.lower.slot s.past → words ≤ LEAF_RECORD_WORDS + 1 → GivesRoom s.past.config (here s) y key words
+
+-- the freeze of the key's leaf by itself leaves it frozen
+abbrev pub LoneFreezesFreezeTheLeaf : Type 0
+LoneFreezesFreezeTheLeaf =
+    (t : SingleFreeze) (key : List ℕ) (entries : List Entry) (s : Scene) (y : Instant) → IsLoneSwap t.config (freeze_asks t.config t.slot t.status t.phase) (freeze_facts t.slot t.status t.phase) entries s y →
+    WasLeafOf key t.slot s.past → (leaf_page s.past.config (image_of y.image) key).frozen ≡ true

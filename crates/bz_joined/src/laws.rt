@@ -1,7 +1,7 @@
 //! Laws of merges. Each function does nothing but call the laws that it follows from: its contract is the law.
 
-ghost use Rattle.bz_joined.specs.Laws.{FreezesBesideKeepTheStage, SmallFreezesLeaveACopy, MergesGiveRoom};
-ghost use Rattle.bz_joined.specs.Lone.{LoneFreezesBesideKeepTheStage, LoneOwnFreezesLeaveACopy, MergeSwapsGiveRoom};
+ghost use Rattle.bz_joined.specs.Laws.{FreezesBesideKeepTheStage, FreezesBesideKeepTheLeaf, FrozenLeavesAreTheKeys, SmallFreezesLeaveACopy, MergesGiveRoom};
+ghost use Rattle.bz_joined.specs.Lone.{LoneFreezesBesideKeepTheStage, LoneFreezesBesideKeepTheLeaf, LoneOwnFreezesLeaveACopy, MergeSwapsGiveRoom, LoneFreezesFreezeTheLeaf};
 
 use bz_alone::laws as alone;
 use bz_content::laws as content;
@@ -15,6 +15,20 @@ use bz_task::laws as task;
 /// The freeze of a neighbour leaves the stage.
 pub fn freezes_beside_keep_the_stage()
     ensures { FreezesBesideKeepTheStage }
+{
+    content::quiet_swaps_keep_the_content();
+}
+
+/// And the leaf of the key as it is.
+pub fn freezes_beside_keep_the_leaf()
+    ensures { FreezesBesideKeepTheLeaf }
+{
+    content::quiet_swaps_keep_the_content();
+}
+
+/// That of the key's leaf leaves it frozen.
+pub fn frozen_leaves_are_the_keys()
+    ensures { FrozenLeavesAreTheKeys }
 {
     content::quiet_swaps_keep_the_content();
 }
@@ -53,7 +67,24 @@ pub fn lone_freezes_beside_keep_the_stage()
     task::swaps_show_in_slots();
 }
 
-/// And one that freezes the key's leaf leaves it to be copied.
+/// And the key's leaf as it is.
+pub fn lone_freezes_beside_keep_the_leaf()
+    ensures { LoneFreezesBesideKeepTheLeaf }
+{
+    freezes_beside_keep_the_stage();
+    freezes_beside_keep_the_leaf();
+    small_freezes_leave_a_copy();
+    alone::merges_go_on();
+    alone::trees_stand();
+    alone::lonely_times_are_quiet();
+    bz_layout::slots_apart();
+    bz_word::laws::statuses();
+    content::well_formed_images_have_no_fault();
+    shape::leaves_tile_the_keys();
+    task::swaps_show_in_slots();
+}
+
+/// One that freezes the key's leaf leaves it to be copied.
 pub fn lone_own_freezes_leave_a_copy()
     ensures { LoneOwnFreezesLeaveACopy }
 {
@@ -92,4 +123,19 @@ pub fn merge_swaps_give_room()
     task::same_records_show_the_same();
     task::seen_leaves_are_whole();
     task::leaves_are_in_trees();
+}
+
+/// A freeze of the key's leaf by itself leaves it frozen.
+pub fn lone_freezes_freeze_the_leaf()
+    ensures { LoneFreezesFreezeTheLeaf }
+{
+    frozen_leaves_are_the_keys();
+    alone::freezes_go_on();
+    alone::trees_stand();
+    alone::lonely_times_are_quiet();
+    bz_layout::slots_apart();
+    bz_word::laws::statuses();
+    content::well_formed_images_have_no_fault();
+    shape::leaves_tile_the_keys();
+    task::swaps_show_in_slots();
 }

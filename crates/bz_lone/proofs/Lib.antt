@@ -8,3 +8,17 @@ mod Begins
 mod Leaving
 mod Renewing
 mod Climbing
+mod Spending
+mod Rises
+mod Kept
+mod Any
+mod Simple
+mod Foreign
+mod Same
+mod Quiet
+mod Heard
+mod OwnKinds
+mod OwnPrices
+mod OwnLeft
+mod OwnMerges
+mod Own

@@ -27,7 +27,7 @@ use Rattle.bz_task.specs.declared.todo.Seen.{Seen}
 use Rattle.bz_task.specs.declared.todo.Todo.{Todo}
 use Rattle.bz_task.specs.declared.todo.Todo.TheVariants.{Swap}
 use Rattle.bz_word.specs.declared.entry.Entry.{Entry}
-use Rattle.bz_lone.specs.Errands.{Errand, words_asked, IsLookOf}
+use Rattle.bz_lone.specs.Errands.{Errand, words_asked, IsLookOf, may_swap_twice}
 use Rattle.bz_lone.specs.Meant.{IsMeantFor}
 use Rattle.bz_lone.specs.Sum.{IsPaid, IsThawed}
 
@@ -89,10 +89,17 @@ pub record IsOwnEffect (t : AnyTask) (s : Scene) (entries : List Entry) (y : Ins
   pub asks : asks_of t ≡ Some (Swap entries)
   pub leads : SwapsTo s.past.config entries (here s) y
 
+-- what the task serves whose swap it is: of a call that has had its effect it publishes nothing, and makes nothing anew but by a merge; of one
+-- without effect it is one that is meant for it
+pub record IsServing (e : Errand) (t : AnyTask) (p : Past) : Type 0 where
+  pub once : publishing_of t ≡ true → e.effected ≡ false
+  pub later : e.effected ≡ true → may_swap_twice (kind_of t) ≡ true
+  pub meant : e.effected ≡ false → IsMeantFor e.call t p
+
 -- a step at which the worker's own swap takes effect
 abbrev pub OwnEffectsArePaid : Type 0
 OwnEffectsArePaid =
-    (m n : SwapMemory) (w : ℕ) (e : Errand) (t : AnyTask) (entries : List Entry) (by : ℕ) (s : Scene) (y : Instant) (q : Past) → IsOwnEffect t s entries y → (e.effected ≡ false → IsMeantFor e.call t s.past) → words_asked e.call ≤ LEAF_RECORD_WORDS + 1 →
+    (m n : SwapMemory) (w : ℕ) (e : Errand) (t : AnyTask) (entries : List Entry) (by : ℕ) (s : Scene) (y : Instant) (q : Past) → IsOwnEffect t s entries y → IsServing e t s.past → words_asked e.call ≤ LEAF_RECORD_WORDS + 1 →
     IsNext 1 s.past q → q.at q.now ≡ y → HasStepped m n w → IsPaid m w e t 0 0 by s.past → IsPaid n w (effected_by (publishing_of t) e) t 1 (mark_of_effect (publishing_of t)) by q
 
 -- a task that is told something: what that lowers its weight by is what the start of its next act is allowed

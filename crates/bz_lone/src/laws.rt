@@ -4,27 +4,43 @@ ghost use Rattle.bz_lone.specs.Renewals.{RenewalsArePaid, AscentsArePaid};
 ghost use Rattle.bz_lone.specs.Rounds.{LessIsSpared, EndsAreAfforded, EndsArePaid, WaysArePaid, ChangesArePaid, LeavesAreRead, ReadLeavesArePaid, TasksMayBegin, RoundsBegin, DisturbedRoundsArePaid, EndsLeaveARound};
 ghost use Rattle.bz_lone.specs.Steps.{AnyCallIsPaid, QuietStepsArePaid, ForeignEffectsArePaid, EffectMarksArePaid, LessIsPaid, OwnEffectsArePaid, HearingsArePaid, StartsArePaid};
 
+use bz_alone::laws as alone;
 use bz_costs::laws as costs;
+use bz_joined::laws as joined;
+use bz_rivals::laws as rivals;
+use bz_rounds::laws as rounds;
+use bz_swap::laws as swap;
 
 /// Whatever a call has come to, it ends within what the configuration tells.
 pub fn any_call_is_paid()
     ensures { AnyCallIsPaid }
-{}
+{
+    rivals::rivals_are_few();
+    swap::lone_steps_are_allowed();
+    costs::tasks_weigh_little();
+}
 
 /// A step without an effect is paid for.
 pub fn quiet_steps_are_paid()
     ensures { QuietStepsArePaid }
-{}
+{
+    rounds::stages_stand();
+}
 
 /// So is one at which another worker's swap takes effect.
 pub fn foreign_effects_are_paid()
     ensures { ForeignEffectsArePaid }
-{}
+{
+    costs::stretches_are_the_most();
+    costs::higher_stages_cost_more();
+}
 
 /// So is the mark of an effect.
 pub fn effect_marks_are_paid()
     ensures { EffectMarksArePaid }
-{}
+{
+    rounds::stages_stand();
+}
 
 /// What pays for more pays for less.
 pub fn less_is_paid()
@@ -34,12 +50,25 @@ pub fn less_is_paid()
 /// A step at which the worker's own swap takes effect is paid for, and what comes after that.
 pub fn own_effects_are_paid()
     ensures { OwnEffectsArePaid }
-{}
+{
+    alone::loners_go_on();
+    costs::asked_swaps_are_counted();
+    costs::higher_stages_cost_more();
+    costs::rounds_are_paid();
+    costs::splits_are_paid();
+    joined::lone_freezes_beside_keep_the_leaf();
+    joined::lone_freezes_freeze_the_leaf();
+    joined::merge_swaps_give_room();
+    rounds::lone_swaps_leave();
+}
 
 /// What a task is told pays for the start of its next act.
 pub fn hearings_are_paid()
     ensures { HearingsArePaid }
-{}
+{
+    costs::hearing_is_paid();
+    costs::asked_swaps_are_counted();
+}
 
 /// That start is paid for.
 pub fn starts_are_paid()

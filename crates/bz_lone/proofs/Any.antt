@@ -1,0 +1,117 @@
+-- Whatever a call has come to, it ends within what the configuration tells.
+use Rattle.std.proofs.Common.{◌≡◌, ℕ, zero, suc, ◌+◌, ◌-◌, ◌*◌, ◌<◌, ◌≤◌, if◌then◌else◌, Bool, true, false, arith, refl, sym, subst, max, length, mul-le-mul_left}
+use Rattle.bz_costs.specs.Laws.{TasksWeighLittle}
+use Rattle.bz_costs.specs.Lone.{rest_of_round, own_marks}
+use Rattle.bz_costs.specs.Most.{most_of, most_of_seek, most_of_find, most_of_leaf, most_of_insert, most_of_update, most_of_delete, most_of_freeze, most_of_copy, most_of_merge, most_of_root, most_of_below, most_of_inner, most_of_inner_root}
+use Rattle.bz_costs.specs.Stretches.{cost_of_change, lone_stretch}
+use Rattle.bz_machine.specs.Allowed.{for_worker, sum_below}
+use Rattle.bz_rivals.specs.Laws.{RivalsAreFew}
+use Rattle.bz_rivals.specs.Rivals.{rivals}
+use Rattle.bz_running.specs.Kinds as kinds
+use Rattle.bz_running.specs.Kinds.{Kind, kind_of}
+use Rattle.bz_running.specs.declared.running.AnyTask.{AnyTask}
+use Rattle.bz_running.specs.declared.running.AnyTask.TheVariants.{Seeking}
+use Rattle.bz_swap.specs.Alone.{allowed_while, left_to}
+use Rattle.bz_swap.specs.LoneRuns.{LoneStepsAreAllowed}
+use Rattle.bz_swap.specs.SwapMemory.{Doing, Idle, doing_of}
+use Rattle.bz_lone.specs.Errands.{Errand, is_read}
+use Rattle.bz_lone.specs.Prices.{disturbed_prices, coming_to_read, coming_to_write, coming_after, coming}
+use Rattle.bz_lone.specs.Steps.{AnyCallIsPaid}
+use Rattle.bz_lone.specs.Sum.{In, Disturbed, own_left, still_takes}
+use Rattle.bz_lone.proofs.Kept.{still-little}
+use Rattle.bz_lone.proofs.Rises.{by_tests}
+
+-- the laws on which it rests
+pub record Laws : Type 0 where
+  pub few : RivalsAreFew
+  pub allowed : LoneStepsAreAllowed
+  pub little : TasksWeighLittle
+
+-- the greatest weight of a task, by its kind
+abbrev most_for : Kind → ℕ
+most_for kinds.Seek = most_of_seek
+most_for kinds.Find = most_of_find
+most_for kinds.ReadWhole = most_of_leaf
+most_for kinds.Insert = most_of_insert
+most_for kinds.Update = most_of_update
+most_for kinds.Delete = most_of_delete
+most_for kinds.Freeze = most_of_freeze
+most_for kinds.Copy = most_of_copy
+most_for kinds.SplitRootLeaf = most_of_root
+most_for (kinds.SplitLeaf a) = most_of_below
+most_for (kinds.SplitNode a) = most_of_inner
+most_for (kinds.SplitRootNode a) = most_of_inner_root
+most_for kinds.Merge = most_of_merge
+
+most-is : (t : AnyTask) → most_of t ≡ most_for (kind_of t)
+unfolding kind_of
+most-is (Seeking t) = refl
+most-is t = refl
+
+-- a task and what may come after it are no more than the rest of a round
+last-fits : (k : Kind) → most_for k + coming_after k ≤ rest_of_round
+last-fits kinds.Seek = omega arith
+last-fits k = omega arith
+
+read-fits : (k : Kind) → most_for k + coming_to_read k ≤ rest_of_round
+read-fits kinds.Seek = omega arith
+read-fits k = omega arith
+
+way-fits : (froze : Bool) (seek leaf find change v : ℕ) → seek + (if froze then leaf + v else (find + max change (leaf + v))) ≤ seek + find + max change (leaf + v)
+way-fits true seek leaf find change v = omega arith
+way-fits false seek leaf find change v = omega arith
+
+write-fits : (e : Errand) (k : Kind) → most_for k + coming_to_write disturbed_prices e k ≤ rest_of_round
+write-fits e kinds.Seek = way-fits e.froze most_of_seek most_of_leaf most_of_find cost_of_change disturbed_prices.read
+write-fits e k = omega arith
+
+by-fits : (effected reads : Bool) (most last read write rest : ℕ) → most + last ≤ rest → most + read ≤ rest → most + write ≤ rest → most + by_tests effected reads last read write ≤ rest
+by-fits true reads most last read write rest l m n = l
+by-fits false true most last read write rest l m n = m
+by-fits false false most last read write rest l m n = n
+
+fits : (e : Errand) (k : Kind) → most_for k + coming disturbed_prices e k ≤ rest_of_round
+fits e k = by-fits e.effected (is_read e.call) (most_for k) (coming_after k) (coming_to_read k) (coming_to_write disturbed_prices e k) rest_of_round (last-fits k) (read-fits k) (write-fits e k)
+
+-- what all workers allow
+sum-few : (f : ℕ → ℕ) (each n : ℕ) → ((v : ℕ) → f v ≤ each) → sum_below f n ≤ each * n
+sum-few f each zero l = omega arith
+sum-few f each (suc n) l = omega (arith, sum-few f each n l, l n)
+
+each-few : (d : Doing) → allowed_while d ≤ for_worker
+each-few Idle = omega arith
+each-few d = omega arith
+
+own-few : (b : Bool) → (if b then 2 else 3) ≤ 3
+own-few true = omega arith
+own-few false = omega arith
+
+-- all together
+sums : (k rivals workers size left own now stretch weigh coming most rest by : ℕ) → size ≡ workers + 1 → rivals + 2 ≤ size → left ≤ for_worker * size → own ≤ 3 → weigh ≤ most → most + coming ≤ rest →
+    now + (k * (workers - 1) + (rest + stretch) + for_worker * (workers + 1) + own_marks) ≤ by → k * rivals + left + own + now + (0 + (stretch + (weigh + coming))) ≤ by
+sums k rivals workers size left own now stretch weigh coming most rest by s few l o w m h =
+    let r : k * rivals ≤ k * (workers - 1) = mul-le-mul_left k (omega (arith, s, few)) in
+    omega (arith, r, s, few, l, o, w, m, h)
+
+both : (a b c : ℕ) → a ≤ b → b ≤ c → a ≤ c
+both a b c l m = omega (arith, l, m)
+
+pub any-paid : Laws → AnyCallIsPaid
+any-paid b c m w e t untold by p crew within look thawed enough = record {
+  look = look;
+  thawed = thawed;
+  state = In Disturbed;
+  holds = tt;
+  affords = record {
+    enough = sums (lone_stretch + 1) (rivals m w) c.workers (length m.workers) (left_to m w) (own_left e) p.now lone_stretch (still_takes t) (coming disturbed_prices e (kind_of t)) (most_of t) rest_of_round by crew.size
+        (b.few.others m w crew.worker (inside w c.workers (length m.workers) crew.within crew.size) crew.zero)
+        (both _ _ _ (b.allowed.most m w) (sum-few (λ v. allowed_while (doing_of m v)) for_worker (length m.workers) (λ v. each-few (doing_of m v))))
+        (own-few e.effected) (still-little b.little t within) (task-fits e t) enough;
+  };
+}
+  where
+    inside : (w workers size : ℕ) → w ≤ workers → size ≡ workers + 1 → w < size
+    inside w workers size l s = omega (arith, l, s)
+
+    task-fits : (e : Errand) (t : AnyTask) → most_of t + coming disturbed_prices e (kind_of t) ≤ rest_of_round
+    task-fits e t = subst (λ n. n + coming disturbed_prices e (kind_of t) ≤ rest_of_round) (sym (most-is t)) (fits e (kind_of t))

@@ -1,0 +1,5 @@
+use Rattle.bz_lone.proofs.Quiet.{quiet-paid}
+use Rattle.bz_lone.proofs.laws.quiet_steps_are_paid.Goals as goal
+
+pub returns : goal.returns
+returns c = quiet-paid c.stages_stand.ensures

@@ -1,0 +1,5 @@
+use Rattle.bz_lone.proofs.Simple.{starts-paid}
+use Rattle.bz_lone.proofs.laws.starts_are_paid.Goals as goal
+
+pub returns : goal.returns
+returns c = starts-paid
