@@ -8,7 +8,7 @@ use Rattle.bz_costs.specs.Stretches.{lone_stretch}
 use Rattle.bz_layout.specs.declared.swaps.TheConstants.{RENEWAL_SWAPS}
 use Rattle.bz_layout.specs.Slots.{FreeSlots}
 use Rattle.bz_rivals.specs.Rivals.{rivals}
-use Rattle.bz_running.specs.Duties.{asks_of, end_of, made_of, needs_of}
+use Rattle.bz_running.specs.Duties.{asks_of, end_of, left_of, made_of}
 use Rattle.bz_running.specs.Hearing.{HasHeard}
 use Rattle.bz_running.specs.Kinds.{Kind, SplitNode, kind_of}
 use Rattle.bz_running.specs.Laws.{AreLaws}
@@ -27,7 +27,7 @@ use Rattle.bz_lone.specs.Errands.{Errand, is_read, IsLookOf, may_swap_twice, aft
 use Rattle.bz_lone.specs.Prices.{coming, round_price, prices_in}
 use Rattle.bz_lone.specs.Steps.{HearingsArePaid}
 use Rattle.bz_lone.specs.Sum.{State, In, Disturbed, Clean, Made, IsIn, IsClean, IsMade, IsPaid, Affords, kept_by, own_left, still_takes, left_in, reserve, prices_of}
-use Rattle.bz_lone.proofs.Kept.{node-lost, node-open}
+use Rattle.bz_lone.proofs.Kept.{node-lost, node-open, node-stops}
 use Rattle.bz_lone.proofs.Spending.{hears, hears-made}
 
 -- the laws on which it rests
@@ -61,11 +61,6 @@ won-asked None h = absurd h
 won-asked (Some (Swap entries)) h = refl
 won-asked (Some todo) h = absurd h
 
-begun : (asked : Option Todo) → Hears asked Start → asked ≡ None
-begun None h = refl
-begun (Some Finish) h = absurd h
-begun (Some todo) h = absurd h
-
 one-effect : (seen : Seen) → seen ≡ Swapped true → effects_in seen ≡ 1
 one-effect seen e = ap effects_in e
 
@@ -85,11 +80,7 @@ module _ (b : Laws) (m : SwapMemory) (w : ℕ) (e : Errand) (old new : AnyTask) 
 
   -- the split of an inner node that ends for want of room was still to ask for its swap
   lost : (a : Ascent) → kind_of new ≡ SplitNode a → end_of new ≡ Some NeedsRoom → weigh new + weight 0 RENEWAL_SWAPS + start_allows todo ≤ weigh old
-  lost a k f = omega (arith, h.nearer, node-lost new a k f, node-open old a (sym h.kind ∙ k) (early (h.crowds f)), ends f)
-    where
-      early : (seen ≡ Start) ⊎ (0 < needs_of old) → (asks_of old ≡ None) ⊎ (0 < needs_of old)
-      early (inl e) = inl (begun (asks_of old) (subst (λ z. Hears (asks_of old) z) e hears_it))
-      early (inr l) = inr l
+  lost a k f = omega (arith, h.nearer, node-lost new a k f, node-open old a (sym h.kind ∙ k) (subst (λ n. n < left_of old) (node-stops new a k f) h.nearer), ends f)
 
   pays : still_takes new + start_allows todo ≤ still_takes old
   pays = more (weigh old) (kept_by (end_of old) (kind_of old)) (still_takes new + start_allows todo) (go (end_of new) (kind_of new) refl refl)

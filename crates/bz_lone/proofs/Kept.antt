@@ -1,16 +1,16 @@
 -- The split of an inner node that ended for want of room has asked for no swap: so what was kept for it is there.
-use Rattle.std.proofs.Common.{◌≡◌, ◌⊎◌, ℕ, ◌+◌, ◌<◌, ◌≤◌, Option, Some, None, arith, refl, inl, inr}
+use Rattle.std.proofs.Common.{◌≡◌, ℕ, ◌+◌, ◌-◌, ◌<◌, ◌≤◌, Option, Some, arith, refl}
 use Rattle.bz_ascent.specs.declared.ascent.Ascent.{Ascent}
 use Rattle.bz_costs.specs.Laws.{TasksWeighLittle}
 use Rattle.bz_costs.specs.Most.{most_of, IsWithinItsActs}
 use Rattle.bz_costs.specs.Weights.{weight, weigh}
 use Rattle.bz_fork.specs.Duties.{fork_of}
-use Rattle.bz_fork.specs.Facts.{Fork, fork_acts, fork_asks, fork_end, fork_left, fork_needs, fork_swaps}
+use Rattle.bz_fork.specs.Facts.{Fork, fork_acts, fork_asks, fork_end, fork_fails, fork_left, fork_swaps}
 use Rattle.bz_fork.specs.declared.phase.Phase.{Phase}
 use Rattle.bz_fork.specs.declared.phase.Phase.TheVariants as fork
 use Rattle.bz_layout.specs.declared.config.Config.{Config}
 use Rattle.bz_layout.specs.declared.swaps.TheConstants.{RENEWAL_SWAPS}
-use Rattle.bz_running.specs.Duties.{asks_of, end_of, left_of, needs_of, swaps_of}
+use Rattle.bz_running.specs.Duties.{asks_of, end_of, left_of, swaps_of}
 use Rattle.bz_running.specs.Kinds.{Kind, SplitNode, kind_of}
 use Rattle.bz_running.specs.declared.running.AnyTask.{AnyTask}
 use Rattle.bz_running.specs.declared.running.AnyTask.TheVariants.{SplittingInner}
@@ -19,27 +19,37 @@ use Rattle.bz_task.specs.declared.todo.Outcome.{Outcome}
 use Rattle.bz_task.specs.declared.todo.Outcome.TheVariants.{NeedsRoom}
 use Rattle.bz_lone.specs.Sum.{kept_by, still_takes}
 
--- while slots are still to be taken, and as it begins, the swap is to be asked for
-fork-open : (c : Config) (r : Fork) (p : Phase) → (fork_asks c r p ≡ None) ⊎ (0 < fork_needs p) → swaps_in (fork_asks c r p) + 1 ≤ fork_swaps p
-fork-open c r fork.Fresh h = omega arith
-fork-open c r (fork.Word i) h = omega arith
-fork-open c r fork.Again h = omega arith
-fork-open c r fork.Room h = omega arith
-fork-open c r (fork.Above i) h = omega arith
-fork-open c r fork.Check h = omega arith
-fork-open c r fork.Guard h = omega arith
-fork-open c r p (inl e) = absurd (cc)
-fork-open c r p (inr l) = absurd (omega (arith, l))
+-- while so many acts are left as where it ends so, the swap is to be asked for
+fork-open : (c : Config) (r : Fork) (p : Phase) → fork_acts - fork_fails < fork_left p → swaps_in (fork_asks c r p) + 1 ≤ fork_swaps p
+fork-open c r fork.Fresh l = omega arith
+fork-open c r (fork.Word i) l = omega arith
+fork-open c r fork.Again l = omega arith
+fork-open c r fork.Room l = omega arith
+fork-open c r (fork.Above i) l = omega arith
+fork-open c r fork.Check l = omega arith
+fork-open c r fork.Guard l = omega arith
+fork-open c r (fork.Store j) l = omega arith
+fork-open c r (fork.Flush j) l = omega arith
+fork-open c r p l = absurd (omega (arith, l))
 
 -- once it has ended so none is
 fork-lost : (p : Phase) → fork_end p ≡ Some NeedsRoom → (fork_swaps p ≡ 0) × (weight (fork_left p) 0 + weight 0 RENEWAL_SWAPS ≤ weight fork_acts RENEWAL_SWAPS)
 fork-lost fork.NoRoom e = (refl, omega arith)
 fork-lost p e = absurd (cc)
 
-pub node-open : (t : AnyTask) (a : Ascent) → kind_of t ≡ SplitNode a → (asks_of t ≡ None) ⊎ (0 < needs_of t) → swaps_in (asks_of t) + 1 ≤ swaps_of t
-unfolding kind_of asks_of needs_of swaps_of
-node-open (SplittingInner t b) a k h = fork-open t.config (fork_of t) t.phase h
-node-open t a k h = absurd (cc)
+fork-stops : (p : Phase) → fork_end p ≡ Some NeedsRoom → fork_left p ≡ fork_acts - fork_fails
+fork-stops fork.NoRoom e = refl
+fork-stops p e = absurd (cc)
+
+pub node-stops : (t : AnyTask) (a : Ascent) → kind_of t ≡ SplitNode a → end_of t ≡ Some NeedsRoom → left_of t ≡ fork_acts - fork_fails
+unfolding kind_of end_of left_of
+node-stops (SplittingInner t b) a k e = fork-stops t.phase e
+node-stops t a k e = absurd (cc)
+
+pub node-open : (t : AnyTask) (a : Ascent) → kind_of t ≡ SplitNode a → fork_acts - fork_fails < left_of t → swaps_in (asks_of t) + 1 ≤ swaps_of t
+unfolding kind_of asks_of left_of swaps_of
+node-open (SplittingInner t b) a k l = fork-open t.config (fork_of t) t.phase l
+node-open t a k l = absurd (cc)
 
 pub node-lost : (t : AnyTask) (a : Ascent) → kind_of t ≡ SplitNode a → end_of t ≡ Some NeedsRoom → swaps_of t ≡ 0
 unfolding kind_of end_of swaps_of
