@@ -13,12 +13,14 @@ use Rattle.bz_running.specs.declared.running.AnyTask.{AnyTask}
 use Rattle.bz_running.specs.declared.running.AnyTask.TheVariants.{Seeking}
 use Rattle.bz_swap.specs.Alone.{allowed_while, left_to}
 use Rattle.bz_swap.specs.LoneRuns.{LoneStepsAreAllowed}
-use Rattle.bz_swap.specs.SwapMemory.{Doing, Idle, doing_of}
+use Rattle.bz_swap.specs.SwapMemory.{SwapMemory, Doing, Idle, doing_of}
 use Rattle.bz_lone.specs.Errands.{Errand, is_read}
 use Rattle.bz_lone.specs.Prices.{disturbed_prices, coming_to_read, coming_to_write, coming_after, coming}
-use Rattle.bz_lone.specs.Steps.{AnyCallIsPaid}
+use Rattle.bz_lone.specs.Steps.{AnyCallIsPaid, AnyRoundIsPaid}
 use Rattle.bz_lone.specs.Sum.{In, Disturbed, own_left, still_takes}
 use Rattle.bz_lone.proofs.Kept.{still-little}
+use Rattle.bz_lone.proofs.Leaving.{pays}
+use Rattle.bz_lone.proofs.Pricing as pricing
 use Rattle.bz_lone.proofs.Rises.{by_tests}
 
 -- the laws on which it rests
@@ -96,6 +98,12 @@ sums k rivals workers size left own now stretch weigh coming most rest by s few 
 both : (a b c : ℕ) → a ≤ b → b ≤ c → a ≤ c
 both a b c l m = omega (arith, l, m)
 
+inside : (w workers size : ℕ) → w ≤ workers → size ≡ workers + 1 → w < size
+inside w workers size l s = omega (arith, l, s)
+
+all-allowed : Laws → (m : SwapMemory) (w : ℕ) → left_to m w ≤ for_worker * length m.workers
+all-allowed b m w = both _ _ _ (b.allowed.most m w) (sum-few (λ v. allowed_while (doing_of m v)) for_worker (length m.workers) (λ v. each-few (doing_of m v)))
+
 pub any-paid : Laws → AnyCallIsPaid
 any-paid b c m w e t untold by p crew within look thawed enough = record {
   look = look;
@@ -105,13 +113,24 @@ any-paid b c m w e t untold by p crew within look thawed enough = record {
   affords = record {
     enough = sums (lone_stretch + 1) (rivals m w) c.workers (length m.workers) (left_to m w) (own_left e) p.now lone_stretch (still_takes t) (coming disturbed_prices e (kind_of t)) (most_of t) rest_of_round by crew.size
         (b.few.others m w crew.worker (inside w c.workers (length m.workers) crew.within crew.size) crew.zero)
-        (both _ _ _ (b.allowed.most m w) (sum-few (λ v. allowed_while (doing_of m v)) for_worker (length m.workers) (λ v. each-few (doing_of m v))))
-        (own-few e.effected) (still-little b.little t within) (task-fits e t) enough;
+        (all-allowed b m w) (own-few e.effected) (still-little b.little t within) (task-fits e t) enough;
   };
 }
   where
-    inside : (w workers size : ℕ) → w ≤ workers → size ≡ workers + 1 → w < size
-    inside w workers size l s = omega (arith, l, s)
-
     task-fits : (e : Errand) (t : AnyTask) → most_of t + coming disturbed_prices e (kind_of t) ≤ rest_of_round
     task-fits e t = subst (λ n. n + coming disturbed_prices e (kind_of t) ≤ rest_of_round) (sym (most-is t)) (fits e (kind_of t))
+
+-- a round takes no more than a stretch
+whole : (k rivals left own now stretch by : ℕ) → k * rivals + left + own + now + (0 + (stretch + (0 + 0))) ≤ by → k * rivals + left + own + now + stretch ≤ by
+whole k rivals left own now stretch by l = omega (arith, l)
+
+none-more : (n : ℕ) → 0 + 0 ≤ n
+none-more n = omega arith
+
+pub any-round-paid : Laws → pricing.Laws → AnyRoundIsPaid
+any-round-paid b d c m w e by p crew thawed enough = pays m w e e by p lone_stretch refl thawed (pricing.round-within d p.config (p.at p.now).image e) (record {
+  enough = whole (lone_stretch + 1) (rivals m w) (left_to m w) (own_left e) p.now lone_stretch by
+      (sums (lone_stretch + 1) (rivals m w) c.workers (length m.workers) (left_to m w) (own_left e) p.now lone_stretch 0 0 0 rest_of_round by crew.size
+      (b.few.others m w crew.worker (inside w c.workers (length m.workers) crew.within crew.size) crew.zero)
+      (all-allowed b m w) (own-few e.effected) (omega arith) (none-more rest_of_round) enough);
+})

@@ -37,7 +37,7 @@ of-all : (stretch rest price : ℕ) → price ≤ stretch → price ≤ 0 + (str
 of-all stretch rest price l = omega (arith, l)
 
 -- so much pays for the round of a call that has come to this, where as many marks of its own are left as before
-pays : (m : SwapMemory) (w : ℕ) (e next : Errand) (by : ℕ) (p : Past) (much : ℕ) → own_left next ≡ own_left e → IsThawed next → round_price (prices_in p.config (p.at p.now).image next) next ≤ much → Affords m w e p.now by much → PaysForRound m w next by p
+pub pays : (m : SwapMemory) (w : ℕ) (e next : Errand) (by : ℕ) (p : Past) (much : ℕ) → own_left next ≡ own_left e → IsThawed next → round_price (prices_in p.config (p.at p.now).image next) next ≤ much → Affords m w e p.now by much → PaysForRound m w next by p
 pays m w e next by p much same thawed l a = record {
   thawed = thawed;
   affords = as-before (less-afforded m w e p.now by much (round_price (prices_in p.config (p.at p.now).image next) next) l a);

@@ -29,7 +29,7 @@ use Rattle.bz_task.specs.declared.todo.Todo.TheVariants.{Swap}
 use Rattle.bz_word.specs.declared.entry.Entry.{Entry}
 use Rattle.bz_lone.specs.Errands.{Errand, words_asked, IsLookOf, may_swap_twice}
 use Rattle.bz_lone.specs.Meant.{IsMeantFor}
-use Rattle.bz_lone.specs.Sum.{IsPaid, IsThawed}
+use Rattle.bz_lone.specs.Sum.{IsPaid, IsThawed, PaysForRound}
 
 -- the workers of such a memory, of which worker 0 swaps nothing
 pub record IsCrew (c : Config) (m : SwapMemory) (w : ℕ) : Type 0 where
@@ -44,6 +44,10 @@ abbrev pub AnyCallIsPaid : Type 0
 AnyCallIsPaid =
     (c : Config) (m : SwapMemory) (w : ℕ) (e : Errand) (t : AnyTask) (untold by : ℕ) (p : Past) → IsCrew c m w → IsWithinItsActs t → (e.effected ≡ false → IsLookOf e.call (kind_of t)) → IsThawed e →
     p.now + lone_most c ≤ by → IsPaid m w e t untold 0 by p
+
+-- and so is a round that is yet to begin
+abbrev pub AnyRoundIsPaid : Type 0
+AnyRoundIsPaid = (c : Config) (m : SwapMemory) (w : ℕ) (e : Errand) (by : ℕ) (p : Past) → IsCrew c m w → IsThawed e → p.now + lone_most c ≤ by → PaysForRound m w e by p
 
 -- a step of the worker: less is left to it, and no rival is new
 pub record HasStepped (m n : SwapMemory) (w : ℕ) : Type 0 where

@@ -2,7 +2,7 @@
 
 ghost use Rattle.bz_lone.specs.Renewals.{RenewalsArePaid, AscentsArePaid};
 ghost use Rattle.bz_lone.specs.Rounds.{LessIsSpared, EndsAreAfforded, EndsArePaid, WaysArePaid, ChangesArePaid, LeavesAreRead, ReadLeavesArePaid, TasksMayBegin, RoundsBegin, DisturbedRoundsArePaid, EndsLeaveARound};
-ghost use Rattle.bz_lone.specs.Steps.{AnyCallIsPaid, QuietStepsArePaid, ForeignEffectsArePaid, EffectMarksArePaid, LessIsPaid, OwnEffectsArePaid, HearingsArePaid, StartsArePaid};
+ghost use Rattle.bz_lone.specs.Steps.{AnyCallIsPaid, AnyRoundIsPaid, QuietStepsArePaid, ForeignEffectsArePaid, EffectMarksArePaid, LessIsPaid, OwnEffectsArePaid, HearingsArePaid, StartsArePaid};
 
 use bz_alone::laws as alone;
 use bz_costs::laws as costs;
@@ -18,6 +18,17 @@ pub fn any_call_is_paid()
     rivals::rivals_are_few();
     swap::lone_steps_are_allowed();
     costs::tasks_weigh_little();
+}
+
+/// So does one that is about to look its key up.
+pub fn any_round_is_paid()
+    ensures { AnyRoundIsPaid }
+{
+    rivals::rivals_are_few();
+    swap::lone_steps_are_allowed();
+    costs::tasks_weigh_little();
+    costs::higher_stages_cost_more();
+    costs::stretches_are_the_most();
 }
 
 /// A step without an effect is paid for.

@@ -12,13 +12,15 @@ use Rattle.bz_swap.specs.EffectPlaces.{EffectsStayInside}
 use Rattle.bz_swap.specs.Steps.{doing_after}
 use Rattle.bz_swap.specs.SwapMemory.{doing_of}
 use Rattle.bz_swap.specs.TakenStatuses.{TakenStatusesStay}
-use Rattle.bz_world.specs.Inside.Acted.{IsActed, IsStriking}
+use Rattle.bz_rivals.specs.Laws.{RivalsFall}
+use Rattle.bz_world.specs.Inside.Acted.{IsActed, IsStriking, StepsAt}
 use Rattle.bz_world.specs.Inside.Kept.{IsAwake}
 use Rattle.bz_world.specs.Inside.Laws.{BegunLaws}
-use Rattle.bz_world.specs.WorldView.{mark_of}
+use Rattle.bz_world.specs.WorldView.{mark_of, stepper}
 use Rattle.bz_world.specs.declared.parts.Parts.{Parts}
 use Rattle.bz_world.specs.declared.serving.OpenCall.{OpenCall}
 use Rattle.bz_world.proofs.Owners.{pending-begun}
+use Rattle.bz_world.proofs.Paid.{act-steps, who-steps}
 use Rattle.bz_world.proofs.Marking.{act-marked, act-follows}
 use Rattle.bz_world.proofs.Powered.{may-act}
 use Rattle.bz_world.proofs.Quiet.{some-worker, call-is-open}
@@ -28,9 +30,9 @@ busy-by : (done : Done) (s : ℕ) → (done ≡ Busy) ⊎ (Some s ≡ None) → 
 busy-by done s (inl e) = e
 busy-by done s (inr e) = absurd (cc)
 
-pub act-strikes : EffectStepsTakePlace → EffectsStayInside → TakenStatusesStay → BegunLaws → OwnSwapsWin → (old new : Parts) (w s : ℕ) (x : OpenCall) (made : Act) (done : Done) → IsAwake old → get_or old.workers.items w None ≡ Some x → IsActed old w made done (Some s) new
+pub act-strikes : EffectStepsTakePlace → EffectsStayInside → TakenStatusesStay → BegunLaws → OwnSwapsWin → RivalsFall → (old new : Parts) (w s : ℕ) (x : OpenCall) (made : Act) (done : Done) → IsAwake old → get_or old.workers.items w None ≡ Some x → IsActed old w made done (Some s) new
     → length old.journal.past < old.config.marks → IsStriking new s
-act-strikes place inside taken begun wins old new w s x made done k is-worker a room = record {
+act-strikes place inside taken begun wins rivals old new w s x made done k is-worker a room = record {
   before = old;
   mark = mark_of w made;
   kept = k;
@@ -42,6 +44,8 @@ act-strikes place inside taken begun wins old new w s x made done k is-worker a 
   flush = subst (λ (z : Act). IsAfterFlush (mark_of w z ∷ old.journal.past)) (sym (inside.step old.access new.access w made done s (held old.access k.living.seen.phase k.living.seen.holds).memory a.step).act) tt;
   follows = act-follows _ (map_at_start old.config old.journal.start) old.journal.past w made (may-act old.at_start old.journal.past w (some-worker old k w x is-worker) (call-is-open old k w x is-worker));
   unnoted = λ t well. wins.unnoted old.access new.access w made done (Some s) t a.step well;
+  stepped = λ v steps. subst (λ u. StepsAt old.access new.access u s) (sym (who-steps v w (stepper (mark_of w made ∷ old.journal.past)) (act-steps w made old.journal.past) steps))
+      (record { left = a.step.one.spent; rivals = rivals.step old.access new.access w made done (Some s) a.step });
   rest = a.rest;
 }
   where

@@ -47,7 +47,7 @@ none-well m (Storing a u) none = tt
 none-well m (Flushing line) none = tt
 
 -- in a memory in which it has had its effect as before, and still goes well
-untold-by : (m n : SwapMemory) (d : Doing) → ((s : ℕ) → d ≡ Swapping s → has_effect n s ≡ has_effect m s) → untold n d ≡ untold m d
+pub untold-by : (m n : SwapMemory) (d : Doing) → ((s : ℕ) → d ≡ Swapping s → has_effect n s ≡ has_effect m s) → untold n d ≡ untold m d
 untold-by m n Idle e = refl
 untold-by m n (Reading a) e = refl
 untold-by m n (Swapping s) e = ap (λ (t : Bool). if t then 1 else 0) (e s refl)

@@ -9,11 +9,13 @@ use Rattle.bz_call.specs.declared.calls.Call.{Call}
 use Rattle.bz_call.specs.declared.calls.Call.TheVariants as call
 use Rattle.bz_call.specs.declared.replies.Reply.TheVariants.{Exists, Missing, Value}
 use Rattle.bz_content.specs.Content.{content_in, leaf_end_in, view_in}
+use Rattle.bz_lone.specs.Prices.{coming}
 use Rattle.bz_mark.specs.Moments.{at_moment, mark_at}
 use Rattle.bz_mark.proofs.MomentLaws.{at_moment-next}
 use Rattle.bz_mark.specs.declared.marks.Mark.{Mark}
 use Rattle.bz_mark.specs.declared.marks.Mark.TheVariants.{Begin, End, Load, Store, Cas, Flush, Evict, Cut, On, Ready, Effect}
 use Rattle.bz_page.specs.Pages.{IsPageOf}
+use Rattle.bz_running.specs.Kinds as kinds
 use Rattle.bz_shape.specs.Order as order
 use Rattle.bz_slotted.specs.Readers.{found_of}
 use Rattle.bz_sound.specs.Lonely.{acts_since}
@@ -30,11 +32,13 @@ use Rattle.bz_task.specs.declared.view.Found.{Found}
 use Rattle.bz_task.specs.declared.view.KeyView.{KeyView}
 use Rattle.bz_task.specs.declared.view.LeafView.{LeafView}
 use Rattle.bz_world.specs.Inside.Acted.{IsBetween}
-use Rattle.bz_world.specs.Inside.Going.{MustGoOn, MustAnswer, MustAnswerKey, MustEnd, MustEndPage, known}
+use Rattle.bz_world.specs.Inside.Going.{MustGoOn, MustAnswer, MustAnswerKey, MustEnd, MustEndPage, HasRoomForEnd, known}
 use Rattle.bz_world.specs.Inside.Laws.{AnswerLaws}
 use Rattle.bz_world.specs.Inside.Lonely.{WhereLonely}
+use Rattle.bz_world.specs.Inside.Paid.{errand_of}
 use Rattle.bz_world.specs.declared.parts.Parts.{Parts}
 use Rattle.bz_world.specs.declared.serving.OpenCall.{OpenCall}
+use Rattle.bz_world.proofs.Spared.{spared-room}
 
 -- the page that is put together is nothing to the world
 abbrev pub between-pages : (p : Parts) (w : ℕ) (x : OpenCall) (pairs : List (List ℕ × List ℕ)) → IsBetween p w x → IsBetween (record p { page = pairs }) w x
@@ -69,6 +73,7 @@ between-pages p w x pairs b = record {
   opened = b.opened;
   call_open = b.call_open;
   idle = b.idle;
+  steps = b.steps;
 }
 
 abbrev pub on-pages : (p : Parts) (w : ℕ) (pairs : List (List ℕ × List ℕ)) → MustGoOn p w → MustGoOn (record p { page = pairs }) w
@@ -77,6 +82,7 @@ on-pages p w pairs on = record {
   is = on.is;
   between = between-pages p w on.serving pairs on.between;
   filled = on.filled;
+  fit = let f = on.fit in record { words = f.words; thawed = f.thawed };
   lonely = λ key get lonely. let h = on.lonely key get lonely in record { get = let g = h.get in record { brief = g.brief; looks = g.looks; alone = g.alone; quiet = g.quiet; thawed = g.thawed }; stands = h.stands };
 }
 
@@ -111,19 +117,20 @@ unfolding order.is_before
 same-below None key = refl
 same-below (Some next) key = refl
 
--- a moment directly after a load of the worker's own, since its look-up began, of a call which had no effect
+-- a moment directly after a load of the worker's own, since its look-up began, of a call which had no effect; a mark is left for its end
 pub record IsLooking (p : Parts) (w at : ℕ) (on : MustGoOn p w) : Type 0 where
   pub since : (known p w on).past.since ≤ at
   pub now : at ≤ (known p w on).past.now
   pub loads : (known p w on).past.loads at ≡ true
   pub quiet : on.serving.effect ≡ None
+  pub room : HasRoomForEnd p w
 
 -- that of a view of a leaf, and of a key
 abbrev pub looking-leaf : (p : Parts) (w : ℕ) (view : LeafView) (m : MustAnswer p w view) → IsLooking p w view.at m.on
-looking-leaf p w view m = record { since = m.viewed.since; now = m.viewed.now; loads = m.viewed.loads; quiet = m.quiet }
+looking-leaf p w view m = record { since = m.viewed.since; now = m.viewed.now; loads = m.viewed.loads; quiet = m.quiet; room = spared-room p w m.on.serving (known p w m.on).past (λ q. coming q (errand_of m.on.serving) kinds.ReadWhole) refl m.spares }
 
 abbrev pub looking-key : (p : Parts) (w : ℕ) (view : KeyView) (m : MustAnswerKey p w view) → IsLooking p w view.at m.on
-looking-key p w view m = record { since = m.viewed.since; now = m.viewed.now; loads = m.viewed.loads; quiet = m.quiet }
+looking-key p w view m = record { since = m.viewed.since; now = m.viewed.now; loads = m.viewed.loads; quiet = m.quiet; room = spared-room p w m.on.serving (known p w m.on).past (λ q. coming q (errand_of m.on.serving) kinds.Find) refl m.spares }
 
 module _ (b : AnswerLaws) (p : Parts) (w at : ℕ) (on : MustGoOn p w) (l : IsLooking p w at on) (called : Call) (is : on.serving.call ≡ called) where
   abbrev was : IsBetween p w on.serving
@@ -162,24 +169,25 @@ module _ (b : AnswerLaws) (p : Parts) (w at : ℕ) (on : MustGoOn p w) (l : IsLo
   IsFew = WhereLonely p.journal.past w on.serving.call (λ key. acts_since w p.journal.past ≤ 2 * get_reads p.config (image_at p.journal.start at p.journal.past) key)
 
   pub value-right : IsFew → (key had : List ℕ) → called ≡ call.Get key → content_in p.config (past.at at).image key ≡ Some had → MustEnd p w (Value had) at
-  value-right few key had e has = record { on = on; right = answers.value key had (opened-is ∙ e) (ap (λ i. content_in p.config i key) (sym image-is) ∙ has); full = λ spent e. absurd (cc e); brief = few }
+  value-right few key had e has = record { on = on; right = answers.value key had (opened-is ∙ e) (ap (λ i. content_in p.config i key) (sym image-is) ∙ has); full = λ spent e. absurd (cc e); room = l.room; brief = few }
 
   pub missing-right : IsFew → (key : List ℕ) → called ≡ call.Get key → content_in p.config (past.at at).image key ≡ None → MustEnd p w Missing at
-  missing-right few key e has = record { on = on; right = answers.no_value key (opened-is ∙ e) (ap (λ i. content_in p.config i key) (sym image-is) ∙ has); full = λ spent e. absurd (cc e); brief = few }
+  missing-right few key e has = record { on = on; right = answers.no_value key (opened-is ∙ e) (ap (λ i. content_in p.config i key) (sym image-is) ∙ has); full = λ spent e. absurd (cc e); room = l.room; brief = few }
 
   pub exists-right : (key payload had : List ℕ) → called ≡ call.Insert key payload → content_in p.config (past.at at).image key ≡ Some had → MustEnd p w Exists at
-  exists-right key payload had e has = record { on = on; right = answers.exists key payload had (opened-is ∙ e) (ap (λ i. content_in p.config i key) (sym image-is) ∙ has); full = λ spent e. absurd (cc e); brief = λ other get lonely. absurd (cc (is, e, get)) }
+  exists-right key payload had e has = record { on = on; right = answers.exists key payload had (opened-is ∙ e) (ap (λ i. content_in p.config i key) (sym image-is) ∙ has); full = λ spent e. absurd (cc e); room = l.room; brief = λ other get lonely. absurd (cc (is, e, get)) }
 
   pub no-delete-right : (key : List ℕ) → called ≡ call.Delete key → content_in p.config (past.at at).image key ≡ None → MustEnd p w Missing at
-  no-delete-right key e has = record { on = on; right = answers.no_delete key (opened-is ∙ e) (ap (λ i. content_in p.config i key) (sym image-is) ∙ has); full = λ spent e. absurd (cc e); brief = λ other get lonely. absurd (cc (is, e, get)) }
+  no-delete-right key e has = record { on = on; right = answers.no_delete key (opened-is ∙ e) (ap (λ i. content_in p.config i key) (sym image-is) ∙ has); full = λ spent e. absurd (cc e); room = l.room; brief = λ other get lonely. absurd (cc (is, e, get)) }
 
   pub no-update-right : (key payload : List ℕ) → called ≡ call.Update key payload → content_in p.config (past.at at).image key ≡ None → MustEnd p w Missing at
-  no-update-right key payload e has = record { on = on; right = answers.no_update key payload (opened-is ∙ e) (ap (λ i. content_in p.config i key) (sym image-is) ∙ has); full = λ spent e. absurd (cc e); brief = λ other get lonely. absurd (cc (is, e, get)) }
+  no-update-right key payload e has = record { on = on; right = answers.no_update key payload (opened-is ∙ e) (ap (λ i. content_in p.config i key) (sym image-is) ∙ has); full = λ spent e. absurd (cc e); room = l.room; brief = λ other get lonely. absurd (cc (is, e, get)) }
 
   pub page-right : (from : List ℕ) (next : Option (List ℕ)) (pairs : List (List ℕ × List ℕ)) → called ≡ call.Page from → IsPageOf p.config (past.at at).image from pairs next → MustEndPage (record p { page = pairs }) w next at
   page-right from next pairs e page = record {
     on = on-pages p w pairs on;
     asks = ap is_page (is ∙ e);
+    room = l.room;
     right = b.pages p.config p.at_start p.journal w at was.opened from next pairs was.sound reads (opened-is ∙ e) (record {
       leaf_end = page.next ∙ ap (λ i. leaf_end_in p.config i from) image-is;
       rises = page.rises;

@@ -10,11 +10,16 @@ use Rattle.bz_alone.specs.Brief.{IsBrief}
 use Rattle.bz_call.specs.Map.{key_of}
 use Rattle.bz_call.specs.Pages.{is_page}
 use Rattle.bz_call.specs.declared.calls.Call.{Call}
+use Rattle.bz_layout.specs.declared.thresholds.TheConstants.{LEAF_RECORD_WORDS}
+use Rattle.bz_lone.specs.Errands.{words_asked, IsLookOf}
+use Rattle.bz_lone.specs.Rounds.{IsBegunAt}
 use Rattle.bz_mark.specs.Log.{with_mark, count_begins, count_page_calls}
 use Rattle.bz_mark.specs.declared.marks.Mark.{Mark}
 use Rattle.bz_mark.specs.declared.marks.Mark.TheVariants.{Begin, End, Load, Store, Cas, Flush, Evict, Cut, On, Ready, Effect}
 use Rattle.bz_running.specs.Duties.{config_of, asks_of, swaps_of, needs_of, wants_of, facts_of, makes_no_change}
 use Rattle.bz_running.specs.Hearing.{IsLookup}
+use Rattle.bz_running.specs.Kinds as kinds
+use Rattle.bz_running.specs.Kinds.{is_renewal, kind_of}
 use Rattle.bz_running.specs.Laws.{AreLaws}
 use Rattle.bz_running.specs.LookingUp.{ForWay, look_of, reads_asked, LooksUpBriefly}
 use Rattle.bz_running.specs.declared.running.AnyTask.{AnyTask}
@@ -27,7 +32,7 @@ use Rattle.bz_story.specs.Story.{Story, scene}
 use Rattle.bz_swap.specs.Held.{Holds}
 use Rattle.bz_swap.specs.Starts.{started}
 use Rattle.bz_swap.specs.SwapMemory.{SwapMemory, Working, Reading}
-use Rattle.bz_task.specs.Scene.{Scene, HasFilled, Waiting}
+use Rattle.bz_task.specs.Scene.{Past, Scene, HasFilled, Waiting}
 use Rattle.bz_task.specs.declared.path.Path.{Path}
 use Rattle.bz_task.specs.declared.todo.Todo.TheVariants.{Read}
 use Rattle.bz_world.specs.Inside.Acted.{IsBetween}
@@ -35,7 +40,8 @@ use Rattle.bz_world.specs.Inside.Beginning.{MayBegin, HasBegun, world_view, page
 use Rattle.bz_world.specs.Inside.Kept.{IsTabled, IsAwake}
 use Rattle.bz_world.specs.Inside.Laws.{EndLaws, StartLaws}
 use Rattle.bz_world.specs.Inside.Lonely.{WhereLonely, IsLonelyGet}
-use Rattle.bz_world.specs.WorldView.{supply_by}
+use Rattle.bz_world.specs.Inside.Paid.{errand_of}
+use Rattle.bz_world.specs.WorldView.{supply_by, deadline}
 use Rattle.bz_world.specs.Inside.Serving.{IsSlot, IsAtRest}
 use Rattle.bz_world.specs.Inside.Telling.{MustStart}
 use Rattle.bz_world.specs.declared.parts.Parts.{Parts}
@@ -44,7 +50,9 @@ use Rattle.bz_story.proofs.Powered.{stored-since}
 use Rattle.bz_world.proofs.Alone.{waits-on}
 use Rattle.bz_world.proofs.Counting.{pairs-stay}
 use Rattle.bz_world.proofs.Lonely.{acts-begin, all-idle}
+use Rattle.bz_world.proofs.Paid.{within-of}
 use Rattle.bz_world.proofs.Powered.{is-on}
+use Rattle.bz_world.proofs.Spared.{seeks}
 use Rattle.bz_world.proofs.Staying.{none-unfilled, slot-stays}
 use Rattle.bz_world.proofs.Started.{read-kept}
 
@@ -82,7 +90,8 @@ module _ (p : Parts) (k : IsAwake p) (w : ℕ) (call : Call) (may : MayBegin p w
   at-rest = subst (IsSlot p.config p.access p.journal k.story p.owners.items w) may.none_open (k.workers w)
 
   module _ (b : EndLaws) (s : StartLaws) (n : ℕ) (numbered : n ≡ begun_calls w p.journal.past + 1) (task : AnyTask) (config : config_of task ≡ p.config) (laws : AreLaws task) (looks : makes_no_change task ≡ true)
-      (lookup : (way : Option Path) → IsLookup (key_of call) way task) (asks : asks_of task ≡ Some (Read 2)) (facts : (z : Scene) → HasFilled z → facts_of task Waiting z) (wants : wants_of task ≡ 0) (look : look_of task ≡ ForWay) (reads : reads_asked task ≡ 1) (brief : LooksUpBriefly task) (swaps : swaps_of task ≡ 0) where
+      (lookup : (way : Option Path) → IsLookup (key_of call) way task) (asks : asks_of task ≡ Some (Read 2)) (facts : (z : Scene) → HasFilled z → facts_of task Waiting z) (wants : wants_of task ≡ 0) (look : look_of task ≡ ForWay) (reads : reads_asked task ≡ 1) (brief : LooksUpBriefly task) (swaps : swaps_of task ≡ 0)
+      (kind : kind_of task ≡ kinds.Seek) (begun : (q : Past) → q.since ≡ q.now → IsBegunAt task q q) (few : words_asked call ≤ LEAF_RECORD_WORDS + 1) where
     abbrev mark : Mark
     mark = Begin w n call
 
@@ -129,7 +138,7 @@ module _ (p : Parts) (k : IsAwake p) (w : ℕ) (call : Call) (may : MayBegin p w
           took = λ j. refl;
           filled = λ j e. e;
           alone = λ m o t l waits. waits-on p.config p.access p.access p.journal.past mark k.story after v m o o t (next_instant p.access (k.story.at (length p.journal.past))) refl l waits refl refl (λ j d. refl) (λ j d well. well);
-        }) (k.workers v))
+        }) (λ y t steps. absurd (cc steps)) (k.workers v))
 
     -- the tables
     own-count : (t : Bool) → t ≡ true → n ≡ (if t then begun_calls w p.journal.past + 1 else begun_calls w p.journal.past)
@@ -193,7 +202,11 @@ module _ (p : Parts) (k : IsAwake p) (w : ℕ) (call : Call) (may : MayBegin p w
       opened = opened;
       call_open = record { is_open = (b.calls w p.journal.past).own_begin n call; call = refl; effect = refl; look = record { since = suc (length p.journal.past); after_begin = omega arith; by_now = omega arith }; told = λ at e. absurd (cc e); wanted = λ quiet some. absurd (omega (arith, some, wants)) };
       idle = at-rest.idle;
+      steps = λ v is. absurd (cc is);
     }
+
+    abbrev here : Scene
+    here = scene p.config (mark ∷ p.journal.past) after w (suc (length p.journal.past)) opened
 
     none-taken : HasFilled (scene p.config (mark ∷ p.journal.past) after w (suc (length p.journal.past)) opened)
     none-taken i e = at-rest.filled i e
@@ -222,7 +235,10 @@ module _ (p : Parts) (k : IsAwake p) (w : ℕ) (call : Call) (may : MayBegin p w
         covered = none-unfilled (k.story.took w) (k.story.filled w) (needs_of task) (omega (arith, laws.few, laws.most)) at-rest.filled;
         lonely = lonely-begun;
         alone = record { others = 0; made = 0; counted = omega arith; stands = λ ends. absurd (cc ends) };
-        meant = λ quiet. inl (record { slots = wants; swaps = inl swaps });
+        meant = record { within = within-of task (λ a e. absurd (let other : kinds.Seek ≡ kinds.SplitLeaf a = sym kind ∙ e in cc other)); fit = record { words = few; thawed = λ froze. absurd (true≢false (sym froze)) }; look = λ quiet. subst (IsLookOf call) (sym kind) (seeks call); meant = λ quiet. inl (record { slots = wants; swaps = inl swaps }); later = λ at is. ap is_renewal kind };
+        paid = s.lone.rounds.begin p.access w (errand_of fresh) task (deadline p.config w (mark ∷ p.journal.past)) here.past here.past
+            (begun here.past refl)
+            (s.lone.paid.round p.config p.access w (errand_of fresh) (deadline p.config w (mark ∷ p.journal.past)) here.past (record { config = k.tabled.config; size = k.tabled.crew; worker = may.worker; within = may.within; zero = k.taken.notes.zero }) (λ froze. absurd (true≢false (sym froze))) (omega (arith, s.lone.paid.affordable p.config k.tabled.config)));
       };
     }
 

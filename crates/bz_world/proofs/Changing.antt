@@ -4,14 +4,18 @@ use Rattle.std.specs.Prelude.{is_some}
 use Rattle.bz_call.specs.Map.{key_of}
 use Rattle.bz_call.specs.declared.calls.Call.{Call}
 use Rattle.bz_call.specs.declared.calls.Call.TheVariants as call
+use Rattle.bz_lone.specs.Errands.{is_read}
 use Rattle.bz_layout.specs.declared.sizes.TheConstants.{STATUS_AT}
 use Rattle.bz_layout.specs.declared.thresholds.TheConstants.{CONSOLIDATION_SLOTS, MERGE_BELOW, MERGE_SLOTS, SPLIT_ABOVE, SPLIT_SLOTS}
 use Rattle.bz_page.specs.Laws.{IsSaidBy}
 use Rattle.bz_record.specs.Laws.{IsViewed}
-use Rattle.bz_running.specs.Duties.{config_of, asks_of, change_swaps, wants_of, change_of, facts_of}
+use Rattle.bz_record.specs.Records.{words_for, LacksRoom}
+use Rattle.bz_running.specs.Duties.{config_of, asks_of, made_of, change_swaps, wants_of, change_of, facts_of, means_of, makes_no_change}
 use Rattle.bz_running.specs.Hearing.{IsLookup}
+use Rattle.bz_running.specs.Kinds.{kind_of}
 use Rattle.bz_running.specs.Laws.{AreLaws}
 use Rattle.bz_running.specs.declared.running.AnyTask.{AnyTask}
+use Rattle.bz_running.specs.declared.running.AnyTask.TheVariants.{Inserting, Updating, Deleting}
 use Rattle.bz_slotted.specs.Page.{Page, page}
 use Rattle.bz_slotted.specs.Readers.{live_of}
 use Rattle.bz_slotted.specs.ReadingLaws.{node_of}
@@ -26,17 +30,20 @@ use Rattle.bz_task.specs.Outcomes.{payload_of, IsView, IsKeyView}
 use Rattle.bz_task.specs.Scene.{Scene, IsScene, Waiting}
 use Rattle.bz_task.specs.Swaps.{Change}
 use Rattle.bz_task.specs.declared.path.Path.{Path}
+use Rattle.bz_task.specs.declared.todo.Outcome.TheVariants.{NeedsRoom}
 use Rattle.bz_task.specs.declared.view.Found.{Found}
 use Rattle.bz_task.specs.declared.view.KeyView.{KeyView}
 use Rattle.bz_task.specs.declared.view.LeafView.{LeafView}
 use Rattle.bz_word.specs.Statuses.{status}
-use Rattle.bz_world.specs.Inside.Going.{MustGoOn, MustTakeOn, MustAnswer, MustAnswerKey, MustReadWhole, MustChange, MayInsert, MayUpdate, known}
-use Rattle.bz_world.specs.Inside.Laws.{AnswerLaws}
+use Rattle.bz_world.specs.Inside.Going.{MustGoOn, MustAnswer, MustAnswerKey, MustChange, IsChangeKind, MayInsert, MayUpdate, known}
+use Rattle.bz_world.specs.Inside.Laws.{AloneLaws, AnswerLaws}
+use Rattle.bz_world.specs.Inside.Room.{LacksRoomFor}
 use Rattle.bz_world.specs.Inside.Serving.{IsChangeFor, IsToldBy, NeedsAtLeast}
-use Rattle.bz_world.specs.Inside.Telling.{KnowsWay}
 use Rattle.bz_world.specs.declared.parts.Parts.{Parts}
 use Rattle.bz_world.proofs.SlotsFor.{least-slots, merge-slots, split-slots}
-use Rattle.bz_world.proofs.TakingOn.{known-scene, none-wanted}
+use Rattle.bz_world.proofs.Endings.{is_change, changes}
+use Rattle.bz_world.proofs.Spared.{lacks-stage}
+use Rattle.bz_world.proofs.TakingOn.{known-scene}
 
 abbrev quiet-by : (o : Option ℕ) → o ≡ None → is_some o ≡ false
 quiet-by o e = ap is_some e
@@ -128,28 +135,54 @@ module _ (scenes : ScenesAreSeen) (b : AnswerLaws) (p : Parts) (w : ℕ) (view :
   pub needs-split : (status view.status).frozen ≡ true → SPLIT_ABOVE < live_of (node_of view.image.0) → NeedsAtLeast p.config p.journal.start p.journal.past m.on.between.opened SPLIT_SLOTS
   needs-split frozen many = needs-anew SPLIT_SLOTS (split-slots (live_of (node_of view.image.0)) many) frozen
 
--- a task that makes the call's change may be begun, where its key was looked up
-pub must-change : ScenesAreSeen → (p : Parts) (w : ℕ) (view : KeyView) (m : MustAnswerKey p w view) (key : List ℕ) → key_of m.on.serving.call ≡ key → (task : AnyTask) (had : Option (List ℕ)) → config_of task ≡ p.config → AreLaws task → IsChangeFor m.on.serving.call had (change_of task)
-    → ((way : Option Path) → IsLookup key way task) → asks_of task ≡ None → wants_of task ≡ 0 → 0 < change_swaps task → ((s : Scene) → s.past.config ≡ p.config → s.effected ≡ false → IsScene s → IsKeyView key view s.past → facts_of task Waiting s) → MustChange p w had task
-must-change scenes p w view m key key-is task had config laws change lookup asks wants changes facts = record {
+-- a call that makes a change is none that reads
+change-writes : (called : Call) (had new : Option (List ℕ)) → IsChangeOf called had new → is_read called ≡ false
+change-writes (call.Insert key payload) had new e = refl
+change-writes (call.Update key payload) had new e = refl
+change-writes (call.Upsert key payload) had new e = refl
+change-writes (call.Delete key) had new e = refl
+change-writes (call.Get key) had new e = absurd e
+change-writes (call.Page key) had new e = absurd e
+
+-- a task of such a kind makes one
+not-silent : (t : AnyTask) → is_change (kind_of t) ≡ true → makes_no_change t ≡ false
+unfolding kind_of makes_no_change
+not-silent (Inserting t) e = refl
+not-silent (Updating t) e = refl
+not-silent (Deleting t) e = refl
+not-silent t e = absurd (cc e)
+
+-- a leaf with this status has no room for it
+pub insert-lacks : (called : Call) (key payload : List ℕ) (st : ℕ) → MayInsert called key payload → LacksRoom st (words_for key payload) → LacksRoomFor called st
+insert-lacks called key payload st (inl e) l = subst (λ k. LacksRoomFor k st) (sym e) l
+insert-lacks called key payload st (inr e) l = subst (λ k. LacksRoomFor k st) (sym e) l
+
+pub update-lacks : (called : Call) (key payload : List ℕ) (st : ℕ) → MayUpdate called key payload → LacksRoom st (words_for key payload) → LacksRoomFor called st
+update-lacks called key payload st (inl e) l = subst (λ k. LacksRoomFor k st) (sym e) l
+update-lacks called key payload st (inr e) l = subst (λ k. LacksRoomFor k st) (sym e) l
+
+-- a task that makes the call's change may be begun, where its key was looked up; it ends for want of room only where the leaf lacks that
+pub must-change : AloneLaws → (p : Parts) (w : ℕ) (view : KeyView) (m : MustAnswerKey p w view) (key : List ℕ) → key_of m.on.serving.call ≡ key → (task : AnyTask) (had : Option (List ℕ)) → config_of task ≡ p.config → AreLaws task → IsChangeFor m.on.serving.call had (change_of task)
+    → ((way : Option Path) → IsLookup key way task) → asks_of task ≡ None → wants_of task ≡ 0 → 0 < change_swaps task → ((s : Scene) → s.past.config ≡ p.config → s.effected ≡ false → IsScene s → IsKeyView key view s.past → facts_of task Waiting s)
+    → IsChangeKind (kind_of task) → made_of task ≡ 0 → ((s : Scene) → means_of task NeedsRoom s → LacksRoomFor m.on.serving.call view.status) → MustChange p w had task
+must-change b p w view m key key-is task had config laws change lookup asks wants swaps facts kind made lacks = record {
   reads = record { on = m.on; leads = m.leads; quiet = m.quiet; some = m.some; other = λ other get lonely. absurd (subst (λ called. IsChangeOf called had (change_of task).new) get change.is) };
   tasked = record { config = config; laws = laws; lookup = subst (λ k. IsLookup k m.on.serving.path task) (sym key-is) (lookup m.on.serving.path); change = inr change; wayless = λ none other. subst (λ k. IsLookup k other task) (sym key-is) (lookup other) };
   asks = asks;
-  facts = facts (known p w m.on) refl (quiet-by m.on.between.opened.effect (m.on.between.call_open.effect ∙ m.quiet)) (known-scene scenes p w m.on) (subst (λ k. IsKeyView k view (known p w m.on).past) key-is m.viewed);
+  facts = facts (known p w m.on) refl (quiet-by m.on.between.opened.effect (m.on.between.call_open.effect ∙ m.quiet)) (known-scene b.scenes p w m.on) (subst (λ k. IsKeyView k view (known p w m.on).past) key-is m.viewed);
   wants = wants;
-  changes = changes;
+  changes = swaps;
+  kind = kind;
+  write = change-writes m.on.serving.call had (change_of task).new change.is;
+  spares = m.spares;
+  made = made;
+  silent = not-silent task (changes (kind_of task) kind);
+  lacks = λ z means alone. lacks-stage m.on.serving.call view.status (known p w m.on) (b.rounds.key_stages (key_of m.on.serving.call) view (known p w m.on) (known-scene b.scenes p w m.on) alone m.viewed) (lacks z means);
 }
 
 -- the call has told nothing yet
 pub tells-nothing : (p : Parts) (w : ℕ) (on : MustGoOn p w) (had : Option (List ℕ)) → on.serving.effect ≡ None → IsToldBy p.config p.journal on.between.opened had
 tells-nothing p w on had quiet at e = absurd (cc (e, on.between.call_open.effect, quiet))
-
--- the task that it takes on, and what is known of the way to its leaf
-abbrev pub takes : (p : Parts) (w : ℕ) (had : Option (List ℕ)) (task : AnyTask) (m : MustChange p w had task) → MustTakeOn p w task m.reads.on.serving.path had None
-takes p w had task m = record { on = m.reads.on; may = inl m.reads.quiet; tasked = m.tasked; asks = m.asks; facts = m.facts; wanted = none-wanted p w m.reads.on task m.wants; lonely = λ key get lonely. absurd (m.reads.other key get lonely); meant = λ quiet. inl (record { slots = m.wants; swaps = inr m.changes }) }
-
-abbrev pub knows : (p : Parts) (w : ℕ) (m : MustReadWhole p w) → KnowsWay p w m.on.serving m.on.between
-knows p w m = record { leads = m.leads; quiet = m.quiet; some = m.some }
 
 -- where something was said of a key, it was found
 pub some-found : (o : Option Found) (had : List ℕ) → payload_of o ≡ Some had → o ≢ None

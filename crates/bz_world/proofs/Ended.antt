@@ -51,6 +51,7 @@ slot-pages c m log pages story owners v (Some x) h = record {
   covered = h.covered;
   alone = h.alone;
   meant = h.meant;
+  paid = h.paid;
 }
 
 living-pages : (c : Config) (m : SwapMemory) (log : Log) (pages : Pages) (story : Story) → IsLiving c m log story → IsLiving c m (record log { pages = pages }) story
@@ -119,7 +120,7 @@ module _ (b : EndLaws) (p : Parts) (w : ℕ) (on : MustGoOn p w) where
       took = λ j. refl;
       filled = λ j e. e;
       alone = λ m o t l waits. waits-on p.config p.access p.access p.journal.past mark was.story after v m o o t (next_instant p.access (was.story.at (length p.journal.past))) refl l waits refl refl (λ j d. refl) (λ j d well. well);
-    }) (was.others v ne)
+    }) (λ y t steps. absurd (cc steps)) (was.others v ne)
 
     module _ (pages : Pages) (sound : IsSound p.config p.at_start (record (with_mark p.journal mark) { pages = pages })) (room : length p.journal.past < p.config.marks) where
       abbrev done : Parts
@@ -196,6 +197,7 @@ end-went b p w n reply at m number plain room = record {
   spends = record { taken = inl refl; fewer = omega arith; few = omega arith };
   full = λ number moment spent e. m.full spent (cc e);
   brief = ends-briefly p w n reply at m.on (with_mark p.journal (End w n reply at)) refl m.brief;
+  lone = m.room;
 }
   where
     sound : IsSound p.config p.at_start (with_mark p.journal (End w n reply at))
@@ -221,6 +223,7 @@ end-page-went b p w n page next at m number place room = record {
   spends = record { taken = inl refl; fewer = omega arith; few = omega arith };
   full = λ number moment spent e. absurd (cc e);
   brief = ends-briefly p w n (Page page next) at m.on (with_mark (with_page p.journal p.page) (End w n (Page page next) at)) refl (λ key get lonely. absurd (true≢false (sym m.asks ∙ ap is_page get)));
+  lone = m.room;
 }
   where
     sound : IsSound p.config p.at_start (with_mark (with_page p.journal p.page) (End w n (Page page next) at))

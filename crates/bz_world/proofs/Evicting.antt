@@ -98,6 +98,7 @@ evict-strikes sees begun wins old new a s k e room = record {
   flush = tt;
   follows = is-not-off old k.tabled k.on;
   unnoted = λ t well. wins.evicted old.access new.access a (Some s) t e.eviction ∙ well.unnoted;
+  stepped = λ w steps. absurd (cc steps);
   rest = e.rest;
 }
 
@@ -140,7 +141,7 @@ module _ (b : StepLaws) (sees : EvictionsAreSeen) (old new : Parts) (a : ℕ) (k
     filled = λ j h. h;
     alone = λ since opened t l h. waits-on old.config old.access new.access old.journal.past (Evict a) k.story after v since opened opened t (next_instant new.access (k.story.at (length old.journal.past))) refl l h refl (same v).doing (same v).effects
         (λ j d well. b.lone.wins.eviction old.access new.access v a None j k.living.seen.phase e.eviction d refl well);
-  }) (k.workers v)
+  }) (λ y t steps. absurd (cc steps)) (k.workers v)
 
   was : image_after old.journal.start old.journal.past ≡ (k.story.at (length old.journal.past)).image
   was = sym (k.living.images (length old.journal.past) k.living.from (omega arith) ∙ ap (image_after old.journal.start) (at_moment-now old.journal.past))

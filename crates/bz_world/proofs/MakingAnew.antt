@@ -1,50 +1,141 @@
 -- A leaf that is made anew: the task that does it.
-use Rattle.std.proofs.Common.{◌≡◌, ℕ, true, List, refl, sym, subst, inl, inr, Option, None}
+use Rattle.std.proofs.Common.{◌≡◌, ◌≢◌, ℕ, ◌+◌, if◌then◌else◌, Bool, true, false, List, arith, refl, sym, ap, subst, ◌∙◌, inl, inr, Option, None, is_some}
+use Rattle.bz_ascent.specs.declared.ascent.Ascent.{Ascent}
 use Rattle.bz_call.specs.Map.{key_of}
+use Rattle.bz_costs.specs.Most.{most_of_freeze, most_of_copy, most_of_merge, most_of_root, most_of_below, IsWithinItsActs}
+use Rattle.bz_layout.specs.declared.config.Config.{Config}
 use Rattle.bz_layout.specs.declared.thresholds.TheConstants.{MERGE_SLOTS}
-use Rattle.bz_running.specs.Duties.{config_of, asks_of, wants_of, facts_of, makes_no_change}
+use Rattle.bz_lone.specs.Errands.{words_asked, is_read}
+use Rattle.bz_lone.specs.Meant.{IsMeantFor}
+use Rattle.bz_lone.specs.Prices.{Prices, coming, coming_after, coming_to_read, coming_to_write}
+use Rattle.bz_rounds.specs.Due.{MayBeMadeAnew}
+use Rattle.bz_running.specs.Duties.{config_of, asks_of, made_of, wants_of, facts_of, makes_no_change}
 use Rattle.bz_running.specs.Hearing.{IsLookup}
+use Rattle.bz_running.specs.Kinds as kinds
+use Rattle.bz_running.specs.Kinds.{Kind, is_renewal, kind_of}
 use Rattle.bz_running.specs.Laws.{AreLaws}
-use Rattle.bz_running.specs.MadeFor.{IsMadeFor}
+use Rattle.bz_running.specs.MadeFor.{IsMadeFor, IsMergeFor}
 use Rattle.bz_running.specs.declared.running.AnyTask.{AnyTask}
-use Rattle.bz_story.specs.Laws.{ScenesAreSeen}
 use Rattle.bz_task.specs.Outcomes.{IsPath, IsView}
-use Rattle.bz_task.specs.Scene.{Scene, IsScene, Waiting}
+use Rattle.bz_task.specs.Scene.{Past, Scene, IsScene, Waiting}
 use Rattle.bz_task.specs.declared.path.Path.{Path}
 use Rattle.bz_task.specs.declared.view.LeafView.{LeafView}
-use Rattle.bz_world.specs.Inside.Going.{MustTakeOn, MustAnswer, MustMakeAnew, MustMerge, known}
-use Rattle.bz_world.specs.Inside.Meant.{words_asked}
+use Rattle.bz_word.specs.Statuses.{status}
+use Rattle.bz_world.specs.Inside.Going.{MustGoOn, MustTakeOn, MustRestructure, MustMakeAnew, MustCopy, MustSplit, MustSplitBelow, MustMerge, known}
+use Rattle.bz_world.specs.Inside.Laws.{AloneLaws, RoundLaws}
+use Rattle.bz_world.specs.Inside.Meant.{IsMeant}
+use Rattle.bz_world.specs.Inside.Paid.{errand_of, IsPaidFor, HasToSpare, HasARound}
 use Rattle.bz_world.specs.Inside.Serving.{IsWanted, NeedsAtLeast}
+use Rattle.bz_world.specs.WorldView.{deadline}
 use Rattle.bz_world.specs.declared.parts.Parts.{Parts}
+use Rattle.bz_world.specs.declared.serving.OpenCall.{OpenCall}
 use Rattle.bz_world.proofs.Answering.{on-pages}
+use Rattle.bz_world.proofs.Paid.{within-of}
+use Rattle.bz_world.proofs.Spared.{most_in, task-paid, writes-look, lacks-write, is-small, is-large, is-lacking}
 use Rattle.bz_world.proofs.TakingOn.{known-scene, lookup-taken, none-wanted}
 
--- the freeze of a leaf
-abbrev pub freeze-taken : ScenesAreSeen → (p : Parts) (w : ℕ) (view : LeafView) (m : MustAnswer p w view) (task : AnyTask) → config_of task ≡ p.config → AreLaws task → makes_no_change task ≡ true → ((key : List ℕ) (way : Option Path) → IsLookup key way task) → asks_of task ≡ None → wants_of task ≡ 0
-    → ((key : List ℕ) (s : Scene) → s.past.config ≡ p.config → IsScene s → IsView key view s.past → facts_of task Waiting s) → IsMadeFor task (key_of m.on.serving.call) (words_asked m.on.serving.call) (known p w m.on).past → MustTakeOn p w task None m.on.serving.had None
-freeze-taken scenes p w view m task config laws looks lookup asks wants facts made =
-    lookup-taken p w m.on (inl m.quiet) task None None (key_of m.on.serving.call) config laws looks (lookup (key_of m.on.serving.call) None) (λ none. lookup (key_of m.on.serving.call)) refl asks (facts (key_of m.on.serving.call) (known p w m.on) refl (known-scene scenes p w m.on) m.viewed)
-    (none-wanted p w m.on task wants) (λ key get lonely. absurd (m.other key get lonely)) (λ quiet. inr (inr made))
+-- of a call that makes a change and has had no effect, this is what may come after a task of some kind
+coming-is : (q : Prices) (x : OpenCall) (k : Kind) → x.effect ≡ None → is_read x.call ≡ false → coming q (errand_of x) k ≡ coming_to_write q (errand_of x) k
+coming-is q x k quiet write = ap (λ (b : Bool). if b then coming_after k else (if is_read x.call then coming_to_read k else coming_to_write q (errand_of x) k)) (ap is_some quiet) ∙ ap (λ (b : Bool). if b then coming_to_read k else coming_to_write q (errand_of x) k) write
+
+-- so it is paid for, where what may come so is
+spared-so : RoundLaws → (p : Parts) (w : ℕ) (on : MustGoOn p w) → on.serving.effect ≡ None → is_read on.serving.call ≡ false → (k : Kind) → HasToSpare p w on.serving (known p w on).past (λ q. most_in k + coming_to_write q (errand_of on.serving) k) → HasToSpare p w on.serving (known p w on).past (λ q. most_in k + coming q (errand_of on.serving) k)
+spared-so b p w on quiet write k s = b.less p.access w (errand_of on.serving) (deadline p.config w p.journal.past) (known p w on).past (λ q. most_in k + coming_to_write q (errand_of on.serving) k) (λ q. most_in k + coming q (errand_of on.serving) k) (λ q. omega (arith, coming-is q on.serving k quiet write)) s
+
+-- what is left once a leaf without room was read whole pays for its freeze, its copy, its split and its merge
+pub freeze-spares : AloneLaws → (p : Parts) (w : ℕ) (view : LeafView) (m : MustRestructure p w view) → (status view.status).frozen ≡ false → HasToSpare p w m.answer.on.serving (known p w m.answer.on).past (λ q. most_of_freeze + q.froze)
+freeze-spares lone p w view m thawed = lone.rounds.renewals.freeze p.access w (errand_of m.answer.on.serving) (deadline p.config w p.journal.past) (known p w m.answer.on).past (is-lacking lone p w m.answer.on view m.answer.viewed thawed m.lacks) m.spares
+
+pub copy-spares : AloneLaws → (p : Parts) (w : ℕ) (path : Path) (view : LeafView) (m : MustCopy p w path view) → HasToSpare p w m.anew.answer.on.serving (known p w m.anew.answer.on).past (λ q. most_of_copy + q.renewed)
+copy-spares lone p w path view m = lone.rounds.renewals.copy p.access w (errand_of m.anew.answer.on.serving) (deadline p.config w p.journal.past) (known p w m.anew.answer.on).past (is-small lone p w m.anew.answer.on view m.anew.answer.viewed m.frozen m.few) m.anew.spares
+
+pub root-spares : AloneLaws → (p : Parts) (w : ℕ) (path : Path) (view : LeafView) (m : MustSplit p w path view) → HasToSpare p w m.anew.answer.on.serving (known p w m.anew.answer.on).past (λ q. most_of_root + q.renewed)
+root-spares lone p w path view m = lone.rounds.renewals.root p.access w (errand_of m.anew.answer.on.serving) (deadline p.config w p.journal.past) (known p w m.anew.answer.on).past (is-large lone p w m.anew.answer.on view m.anew.answer.viewed m.frozen m.many) m.anew.spares
+
+pub below-spares : AloneLaws → (p : Parts) (w : ℕ) (path : Path) (view : LeafView) (m : MustSplitBelow p w path view) → HasToSpare p w m.anew.answer.on.serving (known p w m.anew.answer.on).past (λ q. most_of_below + q.below)
+below-spares lone p w path view m = lone.rounds.renewals.below p.access w (errand_of m.anew.answer.on.serving) (deadline p.config w p.journal.past) (known p w m.anew.answer.on).past (is-large lone p w m.anew.answer.on view m.anew.answer.viewed m.frozen m.many) m.anew.spares
+
+pub merge-spares : AloneLaws → (p : Parts) (w : ℕ) (path : Path) (view : LeafView) (m : MustCopy p w path view) → m.anew.answer.on.serving.alone ≡ false → HasToSpare p w m.anew.answer.on.serving (known p w m.anew.answer.on).past (λ q. most_of_merge + coming q (errand_of m.anew.answer.on.serving) kinds.Merge)
+merge-spares lone p w path view m beside = spared-so lone.rounds p w m.anew.answer.on m.anew.answer.quiet (lacks-write m.anew.answer.on.serving.call view.status m.anew.lacks) kinds.Merge
+    (lone.rounds.renewals.merge p.access w (errand_of m.anew.answer.on.serving) (deadline p.config w p.journal.past) (known p w m.anew.answer.on).past beside (is-small lone p w m.anew.answer.on view m.anew.answer.viewed m.frozen m.few) m.anew.spares)
+
+-- where it may not be made anew another's swap took effect, and the key is looked up again
+pub not-due : AloneLaws → (p : Parts) (w : ℕ) (path : Path) (view : LeafView) (m : MustMakeAnew p w path view) → (MayBeMadeAnew path view → ⊥) → HasARound p w m.answer.on.serving (known p w m.answer.on).past
+not-due lone p w path view m not = lone.rounds.disturbed p.access w (errand_of m.answer.on.serving) (deadline p.config w p.journal.past) (known p w m.answer.on).past (λ q. q.viewed)
+    (λ alone. not (lone.rounds.due (key_of m.answer.on.serving.call) path view (known p w m.answer.on) (known-scene lone.scenes p w m.answer.on) alone m.way m.answer.viewed)) m.spares
+
+-- what is told of a task that is yet to begin, and that makes no change
+pub record IsFresh (c : Config) (task : AnyTask) (k : Kind) : Type 0 where
+  pub config : config_of task ≡ c
+  pub laws : AreLaws task
+  pub silent : makes_no_change task ≡ true
+  pub asks : asks_of task ≡ None
+  pub kind : kind_of task ≡ k
+  pub made : made_of task ≡ 0
+  pub within : IsWithinItsActs task
+
+-- only the split of a leaf below a parent may ask for more acts than at its begin
+pub no-leaf-split : (task : AnyTask) (k : Kind) → kind_of task ≡ k → ((a : Ascent) → k ≢ kinds.SplitLeaf a) → IsWithinItsActs task
+no-leaf-split task k kind other = within-of task (λ a e. absurd (other a (sym kind ∙ e)))
+
+-- a task that freezes a leaf, or makes it anew, is meant for its call
+pub renewal-meant : (p : Parts) (w : ℕ) (on : MustGoOn p w) → on.serving.effect ≡ None → is_read on.serving.call ≡ false → (task : AnyTask) → IsWithinItsActs task → IsMeantFor on.serving.call task (known p w on).past → IsMeant (record on.serving { task = task; path = None }) (known p w on).past
+renewal-meant p w on quiet write task within meant = record {
+  within = within;
+  look = λ none. writes-look on.serving.call (kind_of task) write;
+  fit = record { words = on.fit.words; thawed = on.fit.thawed };
+  meant = λ none. meant;
+  later = λ at is. absurd (cc (quiet, is));
+}
+
+-- and is paid for
+pub renewal-paid : RoundLaws → (p : Parts) (w : ℕ) (on : MustGoOn p w) (quiet : on.serving.effect ≡ None) (write : is_read on.serving.call ≡ false) (task : AnyTask) (k : Kind) (f : IsFresh p.config task k) → k ≢ kinds.Merge → IsMeantFor on.serving.call task (known p w on).past → HasToSpare p w on.serving (known p w on).past (λ q. most_in k + coming_to_write q (errand_of on.serving) k) → IsPaidFor p w (record on.serving { task = task; path = None }) 0 0 (known p w on).past
+renewal-paid b p w on quiet write task k f other meant s = task-paid b p w on task None on.serving.had k f.kind f.laws f.asks f.made (renewal-meant p w on quiet write task f.within meant) (λ none merge. absurd (other merge)) (spared-so b p w on quiet write k s)
+
+-- the freeze of a leaf, which is none by a merge
+pub freeze-no-merge : kinds.Freeze ≢ kinds.Merge
+freeze-no-merge e = cc e
+
+abbrev pub freeze-taken : AloneLaws → (p : Parts) (w : ℕ) (view : LeafView) (m : MustRestructure p w view) → (status view.status).frozen ≡ false → (task : AnyTask) → IsFresh p.config task kinds.Freeze → ((key : List ℕ) (way : Option Path) → IsLookup key way task) → wants_of task ≡ 0
+    → ((key : List ℕ) (s : Scene) → s.past.config ≡ p.config → IsScene s → IsView key view s.past → facts_of task Waiting s) → IsMadeFor task (key_of m.answer.on.serving.call) (words_asked m.answer.on.serving.call) (known p w m.answer.on).past → MustTakeOn p w task None m.answer.on.serving.had None
+freeze-taken lone p w view m thawed task f lookup wants facts made =
+    lookup-taken p w m.answer.on (inl m.answer.quiet) task None None (key_of m.answer.on.serving.call) f.config f.laws f.silent (lookup (key_of m.answer.on.serving.call) None) (λ none. lookup (key_of m.answer.on.serving.call)) refl f.asks (facts (key_of m.answer.on.serving.call) (known p w m.answer.on) refl (known-scene lone.scenes p w m.answer.on) m.answer.viewed)
+    (none-wanted p w m.answer.on task wants) (λ key get lonely. absurd (m.answer.other key get lonely)) (renewal-meant p w m.answer.on m.answer.quiet (lacks-write m.answer.on.serving.call view.status m.lacks) task f.within (inr (inr made)))
+    (renewal-paid lone.rounds p w m.answer.on m.answer.quiet (lacks-write m.answer.on.serving.call view.status m.lacks) task kinds.Freeze f freeze-no-merge (inr (inr made)) (freeze-spares lone p w view m thawed))
 
 -- its copy or its split
-abbrev pub anew-taken : ScenesAreSeen → (p : Parts) (w : ℕ) (path : Path) (view : LeafView) (m : MustMakeAnew p w path view) (task : AnyTask) → config_of task ≡ p.config → AreLaws task → makes_no_change task ≡ true → ((key : List ℕ) (way : Option Path) → IsLookup key way task) → asks_of task ≡ None → (slots : ℕ) → wants_of task ≡ slots → NeedsAtLeast p.config p.journal.start p.journal.past m.answer.on.between.opened slots
-    → ((key : List ℕ) (s : Scene) → s.past.config ≡ p.config → IsScene s → IsPath key path s.past → IsView key view s.past → facts_of task Waiting s) → IsMadeFor task (key_of m.answer.on.serving.call) (words_asked m.answer.on.serving.call) (known p w m.answer.on).past → MustTakeOn p w task None m.answer.on.serving.had None
-anew-taken scenes p w path view m task config laws looks lookup asks slots wants needs facts made =
-    lookup-taken p w m.answer.on (inl m.answer.quiet) task None None (key_of m.answer.on.serving.call) config laws looks (lookup (key_of m.answer.on.serving.call) None) (λ none. lookup (key_of m.answer.on.serving.call)) refl asks
-    (facts (key_of m.answer.on.serving.call) (known p w m.answer.on) refl (known-scene scenes p w m.answer.on) m.way m.answer.viewed)
-    (λ quiet some. subst (NeedsAtLeast p.config p.journal.start p.journal.past m.answer.on.between.opened) (sym wants) needs) (λ key get lonely. absurd (m.answer.other key get lonely)) (λ quiet. inr (inr made))
+abbrev pub anew-taken : AloneLaws → (p : Parts) (w : ℕ) (path : Path) (view : LeafView) (m : MustMakeAnew p w path view) (task : AnyTask) (k : Kind) → IsFresh p.config task k → k ≢ kinds.Merge → ((way : Option Path) → IsLookup (key_of m.answer.on.serving.call) way task) → (slots : ℕ) → wants_of task ≡ slots → NeedsAtLeast p.config p.journal.start p.journal.past m.answer.on.between.opened slots
+    → ((s : Scene) → s.past.config ≡ p.config → IsScene s → IsPath (key_of m.answer.on.serving.call) path s.past → IsView (key_of m.answer.on.serving.call) view s.past → facts_of task Waiting s) → IsMadeFor task (key_of m.answer.on.serving.call) (words_asked m.answer.on.serving.call) (known p w m.answer.on).past
+    → HasToSpare p w m.answer.on.serving (known p w m.answer.on).past (λ q. most_in k + coming_to_write q (errand_of m.answer.on.serving) k) → MustTakeOn p w task None m.answer.on.serving.had None
+anew-taken lone p w path view m task k f other lookup slots wants needs facts made spares =
+    lookup-taken p w m.answer.on (inl m.answer.quiet) task None None (key_of m.answer.on.serving.call) f.config f.laws f.silent (lookup None) (λ none. lookup) refl f.asks
+    (facts (known p w m.answer.on) refl (known-scene lone.scenes p w m.answer.on) m.way m.answer.viewed)
+    (λ quiet some. subst (NeedsAtLeast p.config p.journal.start p.journal.past m.answer.on.between.opened) (sym wants) needs) (λ key get lonely. absurd (m.answer.other key get lonely)) (renewal-meant p w m.answer.on m.answer.quiet (lacks-write m.answer.on.serving.call view.status m.lacks) task f.within (inr (inr made)))
+    (renewal-paid lone.rounds p w m.answer.on m.answer.quiet (lacks-write m.answer.on.serving.call view.status m.lacks) task k f other (inr (inr made)) spares)
 
 -- its merge with a neighbour
-abbrev pub merge-taken : ScenesAreSeen → (p : Parts) (w : ℕ) (path : Path) (view : LeafView) (m : MustMerge p w path view) (task : AnyTask) → config_of task ≡ p.config → AreLaws task → makes_no_change task ≡ true → ((key : List ℕ) (way : Option Path) → IsLookup key way task) → asks_of task ≡ None → wants_of task ≡ MERGE_SLOTS
-    → ((key : List ℕ) (s : Scene) → s.past.config ≡ p.config → IsScene s → IsPath key path s.past → IsView key view s.past → facts_of task Waiting s) → MustTakeOn p w task None m.on.serving.had None
-merge-taken scenes p w path view m task config laws looks lookup asks wants facts =
-    lookup-taken p w m.on m.may task None None (key_of m.on.serving.call) config laws looks (lookup (key_of m.on.serving.call) None) (λ none. lookup (key_of m.on.serving.call)) refl asks
-    (facts (key_of m.on.serving.call) (known p w m.on) refl (known-scene scenes p w m.on) m.way m.viewed)
-    (subst (IsWanted p.config p.journal m.on.between.opened) (sym wants) m.wanted) (λ key get lonely. absurd (m.other key get lonely)) (λ quiet. inr (inl wants))
+pub merge-meant : (p : Parts) (w : ℕ) (path : Path) (view : LeafView) (m : MustMerge p w path view) (task : AnyTask) → IsFresh p.config task kinds.Merge → ((key : List ℕ) (q : Past) → IsView key view q → (status view.status).frozen ≡ true → IsMergeFor task key q) → IsMeant (record m.on.serving { task = task; path = None }) (known p w m.on).past
+merge-meant p w path view m task f for = record {
+  within = f.within;
+  look = λ quiet. writes-look m.on.serving.call (kind_of task) (m.write quiet);
+  fit = record { words = m.on.fit.words; thawed = m.on.fit.thawed };
+  meant = λ quiet. inr (inl (for (key_of m.on.serving.call) (known p w m.on).past m.viewed (m.frozen quiet)));
+  later = λ at is. ap is_renewal f.kind;
+}
+
+abbrev pub merge-taken : AloneLaws → (p : Parts) (w : ℕ) (path : Path) (view : LeafView) (m : MustMerge p w path view) (task : AnyTask) → IsFresh p.config task kinds.Merge → ((key : List ℕ) (way : Option Path) → IsLookup key way task) → wants_of task ≡ MERGE_SLOTS
+    → ((key : List ℕ) (s : Scene) → s.past.config ≡ p.config → IsScene s → IsPath key path s.past → IsView key view s.past → facts_of task Waiting s) → ((key : List ℕ) (q : Past) → IsView key view q → (status view.status).frozen ≡ true → IsMergeFor task key q) → MustTakeOn p w task None m.on.serving.had None
+merge-taken lone p w path view m task f lookup wants facts for =
+    lookup-taken p w m.on m.may task None None (key_of m.on.serving.call) f.config f.laws f.silent (lookup (key_of m.on.serving.call) None) (λ none. lookup (key_of m.on.serving.call)) refl f.asks
+    (facts (key_of m.on.serving.call) (known p w m.on) refl (known-scene lone.scenes p w m.on) m.way m.viewed)
+    (subst (IsWanted p.config p.journal m.on.between.opened) (sym wants) m.wanted) (λ key get lonely. absurd (m.other key get lonely)) (merge-meant p w path view m task f for)
+    (task-paid lone.rounds p w m.on task None m.on.serving.had kinds.Merge f.kind f.laws f.asks f.made (merge-meant p w path view m task f for) (λ quiet merge. is-small lone p w m.on view m.viewed (m.frozen quiet) (omega (arith, m.small))) m.spares)
 
 -- the page that is put together for that is nothing to the world
 abbrev pub anew-pages : (p : Parts) (w : ℕ) (path : Path) (view : LeafView) (pairs : List (List ℕ × List ℕ)) → MustMakeAnew p w path view → MustMakeAnew (record p { page = pairs }) w path view
 anew-pages p w path view pairs m = record {
-  answer = record { on = on-pages p w pairs m.answer.on; viewed = m.answer.viewed; leads = m.answer.leads; quiet = m.answer.quiet; other = m.answer.other; some = m.answer.some };
+  answer = record { on = on-pages p w pairs m.answer.on; viewed = m.answer.viewed; leads = m.answer.leads; quiet = m.answer.quiet; other = m.answer.other; some = m.answer.some; spares = m.answer.spares; look = m.answer.look; kind = m.answer.kind };
   way = m.way;
+  lacks = m.lacks;
+  spares = m.spares;
 }

@@ -1,30 +1,39 @@
 -- What a task is meant for stays, and those that make a leaf anew are made for the key and the words of their call.
-use Rattle.std.proofs.Common.{◌≡◌, ◌⊎◌, ℕ, ◌+◌, ◌<◌, List, false, arith, sym, subst, ◌∙◌, inl, inr}
+use Rattle.std.proofs.Common.{◌≡◌, ◌⊎◌, ℕ, ◌+◌, ◌<◌, List, true, false, arith, refl, sym, ap, subst, ◌∙◌, inl, inr}
 use Rattle.std.proofs.lemmas.Bool.{true≢false}
 use Rattle.bz_call.specs.Map.{key_of}
 use Rattle.bz_call.specs.declared.calls.Call.{Call}
 use Rattle.bz_call.specs.declared.calls.Call.TheVariants as call
 use Rattle.bz_layout.specs.Slots.{FreeSlots}
-use Rattle.bz_layout.specs.declared.thresholds.TheConstants.{SPLIT_SLOTS}
+use Rattle.bz_layout.specs.declared.thresholds.TheConstants.{MERGE_SLOTS, SPLIT_SLOTS}
 use Rattle.bz_record.specs.Records.{words_for, LacksRoom}
-use Rattle.bz_running.specs.Duties.{swaps_of, change_swaps, wants_of}
+use Rattle.bz_running.specs.Duties.{swaps_of, change_swaps, wants_of, publishing_of}
 use Rattle.bz_running.specs.Hearing.{HasHeard}
 use Rattle.bz_running.specs.Laws.{AreLaws}
-use Rattle.bz_running.specs.MadeFor.{IsMadeFor}
+use Rattle.bz_lone.specs.Errands.{IsLookOf, may_swap_twice}
+use Rattle.bz_running.specs.Kinds as kinds
+use Rattle.bz_running.specs.Kinds.{Kind, is_look, is_renewal, kind_of}
+use Rattle.bz_running.specs.MadeFor.{IsMadeFor, IsMergeFor}
 use Rattle.bz_running.specs.declared.running.AnyTask.{AnyTask}
+use Rattle.bz_running.specs.declared.running.AnyTask.TheVariants.{Seeking, Finding, Reading, Inserting, Updating, Deleting, Freezing, Consolidating, Splitting, SplittingBelow, SplittingInner, SplittingInnerRoot, Merging}
 use Rattle.bz_task.specs.Outcomes.{IsView}
 use Rattle.bz_task.specs.Scene.{Past, Continues}
 use Rattle.bz_task.specs.declared.todo.Seen.{Seen}
 use Rattle.bz_task.specs.declared.todo.Todo.{Todo}
 use Rattle.bz_task.specs.declared.view.LeafView.{LeafView}
 use Rattle.bz_word.specs.Statuses.{status}
-use Rattle.bz_world.specs.Inside.Meant.{words_asked, IsMeantFor}
+use Rattle.bz_lone.specs.Errands.{words_asked}
+use Rattle.bz_lone.specs.Meant.{IsMeantFor}
+use Rattle.bz_world.specs.Inside.Meant.{IsMeant}
+use Rattle.bz_world.specs.Inside.Telling.{HasTold}
+use Rattle.bz_world.specs.declared.serving.OpenCall.{OpenCall}
+use Rattle.bz_world.proofs.Paid.{within-told}
 use Rattle.bz_world.specs.Inside.Room.{LacksRoomFor}
 
 -- one moment later
 pub meant-on : (called : Call) (t : AnyTask) (p q : Past) → AreLaws t → Continues p q → IsMeantFor called t p → IsMeantFor called t q
 meant-on called t p q laws on (inl none) = inl none
-meant-on called t p q laws on (inr (inl merges)) = inr (inl merges)
+meant-on called t p q laws on (inr (inl merges)) = inr (inl (laws.merge_for (key_of called) p q merges on))
 meant-on called t p q laws on (inr (inr made)) = inr (inr (laws.made_for (key_of called) (words_asked called) p q made on))
 
 -- once it was told something
@@ -34,13 +43,30 @@ still-none old new seen moment free todo left h (inr some) = inr (subst (λ n. 0
 
 pub meant-told : (called : Call) (p : Past) (old new : AnyTask) (seen : Seen) (moment : ℕ) (free : FreeSlots) (todo : Todo) (left : FreeSlots) → HasHeard old seen moment free todo new left → IsMeantFor called old p → IsMeantFor called new p
 meant-told called p old new seen moment free todo left h (inl none) = inl (record { slots = h.wants ∙ none.slots; swaps = still-none old new seen moment free todo left h none.swaps })
-meant-told called p old new seen moment free todo left h (inr (inl merges)) = inr (inl (h.wants ∙ merges))
+meant-told called p old new seen moment free todo left h (inr (inl merges)) = inr (inl (h.merge_for (key_of called) p merges))
 meant-told called p old new seen moment free todo left h (inr (inr made)) = inr (inr (h.made_for (key_of called) (words_asked called) p made))
+
+-- a merge takes two slots
+merges-want : (t : AnyTask) (key : List ℕ) (p : Past) → IsMergeFor t key p → wants_of t ≡ MERGE_SLOTS
+unfolding wants_of IsMergeFor
+merges-want (Seeking t) key p m = absurd m
+merges-want (Finding t) key p m = absurd m
+merges-want (Reading t) key p m = absurd m
+merges-want (Inserting t) key p m = absurd m
+merges-want (Updating t) key p m = absurd m
+merges-want (Deleting t) key p m = absurd m
+merges-want (Freezing t) key p m = absurd m
+merges-want (Consolidating t) key p m = absurd m
+merges-want (Splitting t) key p m = absurd m
+merges-want (SplittingBelow t a) key p m = absurd m
+merges-want (SplittingInner t a) key p m = absurd m
+merges-want (SplittingInnerRoot t a) key p m = absurd m
+merges-want (Merging t) key p m = refl
 
 -- a split was made for them
 pub split-meant : (called : Call) (t : AnyTask) (p : Past) → wants_of t ≡ SPLIT_SLOTS → IsMeantFor called t p → IsMadeFor t (key_of called) (words_asked called) p
 split-meant called t p wants (inl none) = absurd (omega (arith, wants, none.slots))
-split-meant called t p wants (inr (inl merges)) = absurd (omega (arith, wants, merges))
+split-meant called t p wants (inr (inl merges)) = absurd (omega (arith, wants, merges-want t (key_of called) p merges))
 split-meant called t p wants (inr (inr made)) = made
 
 -- and so is the freeze of a leaf without room for the call
@@ -52,3 +78,49 @@ freeze-meant (call.Upsert key payload) t view p lacks thawed viewed made = made 
 freeze-meant (call.Delete key) t view p lacks thawed viewed made = absurd (true≢false (sym lacks ∙ thawed))
 freeze-meant (call.Get key) t view p lacks thawed viewed made = absurd lacks
 freeze-meant (call.Page from) t view p lacks thawed viewed made = absurd lacks
+
+-- so it stays of a call, from moment to moment, and once its task was told something
+pub call-meant-on : (x : OpenCall) (p q : Past) → AreLaws x.task → Continues p q → IsMeant x p → IsMeant x q
+call-meant-on x p q laws on m = record { within = m.within; fit = m.fit; look = m.look; meant = λ quiet. meant-on x.call x.task p q laws on (m.meant quiet); later = m.later }
+
+pub call-meant-told : (x : OpenCall) (p : Past) (seen : Seen) (moment : ℕ) (free : FreeSlots) (todo : Todo) (y : OpenCall) (left : FreeSlots) → HasTold x seen moment free todo y left → IsMeant x p → IsMeant y p
+call-meant-told x p seen moment free todo y left h m = subst (λ (z : OpenCall). IsMeant z p) (sym h.rest) (record {
+  within = within-told x.task y.task seen moment free todo left h.heard m.within;
+  fit = record { words = m.fit.words; thawed = m.fit.thawed };
+  look = λ quiet. subst (IsLookOf x.call) (sym h.heard.kind) (m.look quiet);
+  meant = λ quiet. meant-told x.call p x.task y.task seen moment free todo left h.heard (m.meant quiet);
+  later = λ at is. ap is_renewal h.heard.kind ∙ m.later at is;
+})
+
+-- the swap of a change makes nothing anew
+pub publishing-kind : (t : AnyTask) → publishing_of t ≡ true → is_renewal (kind_of t) ≡ false
+unfolding publishing_of kind_of
+publishing-kind (Seeking t) e = refl
+publishing-kind (Finding t) e = refl
+publishing-kind (Reading t) e = refl
+publishing-kind (Inserting t) e = refl
+publishing-kind (Updating t) e = refl
+publishing-kind (Deleting t) e = refl
+publishing-kind (Freezing t) e = absurd (true≢false (sym e))
+publishing-kind (Consolidating t) e = absurd (true≢false (sym e))
+publishing-kind (Splitting t) e = absurd (true≢false (sym e))
+publishing-kind (SplittingBelow t a) e = absurd (true≢false (sym e))
+publishing-kind (SplittingInner t a) e = absurd (true≢false (sym e))
+publishing-kind (SplittingInnerRoot t a) e = absurd (true≢false (sym e))
+publishing-kind (Merging t) e = refl
+
+-- a task that swaps, and makes nothing anew but by a merge, is a change or a merge
+pub swaps-or-merges : (k : Kind) → is_renewal k ≡ false → (is_look k ≡ true → ⊥) → may_swap_twice k ≡ true
+swaps-or-merges kinds.Seek r l = absurd (l refl)
+swaps-or-merges kinds.Find r l = absurd (l refl)
+swaps-or-merges kinds.ReadWhole r l = absurd (l refl)
+swaps-or-merges kinds.Insert r l = refl
+swaps-or-merges kinds.Update r l = refl
+swaps-or-merges kinds.Delete r l = refl
+swaps-or-merges kinds.Freeze r l = absurd (true≢false r)
+swaps-or-merges kinds.Copy r l = absurd (true≢false r)
+swaps-or-merges kinds.SplitRootLeaf r l = absurd (true≢false r)
+swaps-or-merges (kinds.SplitLeaf a) r l = absurd (true≢false r)
+swaps-or-merges (kinds.SplitNode a) r l = absurd (true≢false r)
+swaps-or-merges (kinds.SplitRootNode a) r l = absurd (true≢false r)
+swaps-or-merges kinds.Merge r l = refl

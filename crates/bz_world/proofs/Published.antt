@@ -1,5 +1,5 @@
 -- The effect of a swap that makes the change of its call: the Effect mark follows.
-use Rattle.std.proofs.Common.{◌≡◌, ◌≢◌, ℕ, suc, ◌+◌, ◌<◌, if◌then◌else◌, true, false, List, ◌∷◌, length, arith, refl, sym, ap, subst, ◌∙◌, inl, inr, Option, Some, None}
+use Rattle.std.proofs.Common.{◌≡◌, ◌≢◌, ℕ, suc, ◌+◌, ◌<◌, if◌then◌else◌, Bool, true, false, List, ◌∷◌, length, arith, refl, sym, ap, subst, ◌∙◌, inl, inr, Option, Some, None}
 use Rattle.std.specs.Prelude.{get_or, is_some, bytes_eq, option_map}
 use Rattle.std.specs.Global.{Vec}
 use Rattle.std.proofs.lemmas.Bool.{cases_eq, true≢false}
@@ -25,7 +25,7 @@ use Rattle.bz_sound.specs.Power.Sound.{IsSound}
 use Rattle.bz_story.specs.Laws.{HasBegun, GoesOn, goes_on, opened_after}
 use Rattle.bz_story.specs.Living.{IsLiving}
 use Rattle.bz_story.specs.Story.{Story, scene}
-use Rattle.bz_swap.specs.SwapMemory.{entries_of}
+use Rattle.bz_swap.specs.SwapMemory.{doing_of, entries_of}
 use Rattle.bz_task.specs.Scene.{Took, here}
 use Rattle.bz_task.specs.Swaps.{Changes, ContentFollows}
 use Rattle.bz_task.specs.declared.todo.Todo.TheVariants as todo
@@ -39,9 +39,18 @@ use Rattle.bz_story.proofs.Powered.{stored-since}
 use Rattle.bz_world.proofs.Alone.{waits-on}
 use Rattle.bz_world.proofs.Counting.{pairs-change}
 use Rattle.bz_world.proofs.Powered.{begun-in, flush-leaves, free-on}
-use Rattle.bz_world.proofs.Staying.{slot-stays}
+use Rattle.bz_lone.specs.Errands.{Errand}
+use Rattle.bz_lone.specs.Steps.{effected_by, mark_of_effect}
+use Rattle.bz_lone.specs.Sum.{IsPaid}
+use Rattle.bz_running.specs.declared.running.AnyTask.{AnyTask}
+use Rattle.bz_world.specs.Inside.Alone.{untold}
+use Rattle.bz_world.specs.Inside.Paid.{errand_of}
+use Rattle.bz_world.specs.WorldView.{stepper, deadline}
+use Rattle.bz_world.proofs.Meant.{publishing-kind}
+use Rattle.bz_world.proofs.Paid.{run-on, next-is}
+use Rattle.bz_world.proofs.Staying.{Leaves, none-stays, serving-stays}
 use Rattle.bz_world.specs.Inside.Laws.{StrikeLaws}
-use Rattle.bz_world.proofs.Striking.{flush-calls, old, kept, w, x, its, owner, before, waits, good, after, living, opened, took, struck-alone, others}
+use Rattle.bz_world.proofs.Striking.{flush-calls, old, kept, w, x, its, owner, before, waits, good, after, living, opened, later, took, struck-alone, struck-meant, own-paid, other-paid, leaves}
 use Rattle.bz_world.proofs.LonelyActs.{none-struck}
 use Rattle.bz_world.proofs.StruckQuietly.{image-was, image-is, fault-is, stage-is, its-swap, its-asks, still-does}
 
@@ -145,8 +154,8 @@ module _ (b : StrikeLaws) (p : Parts) (s : ℕ) (h : IsStriking p s) (publishes 
   lives : IsLiving c p.access (with_mark with_flush effect_mark) told_story
   lives = b.lives c p.access p.access with_flush (after b p s h) effect_mark (after b p s h).filled no-act (λ v j f. stored-since c with_flush.past effect_mark j tt ((living b p s h).stored v j f))
 
-  slot-of : (v : ℕ) → v ≢ worker → IsSlot c p.access (with_mark with_flush effect_mark) told_story (old b p s h).owners.items v (get_or (old b p s h).workers.items v None)
-  slot-of v ne = slot-stays b.scenes b.stay c p.access p.access with_flush effect_mark (after b p s h) told_story (old b p s h).owners.items v (get_or (old b p s h).workers.items v None) lives (record {
+  told-leaves : (v : ℕ) → v ≢ worker → Leaves c p.access p.access with_flush effect_mark (after b p s h) told_story v
+  told-leaves v ne = record {
     same = record { doing = refl; begun = refl; taken = refl; size = refl; effects = λ t d. refl };
     calls = (b.calls v (h.mark ∷ log.past)).other_effect worker its-open.number (λ e. ne (sym e));
     from = refl;
@@ -154,7 +163,29 @@ module _ (b : StrikeLaws) (p : Parts) (s : ℕ) (h : IsStriking p s) (publishes 
     took = λ j. refl;
     filled = λ j e. e;
     alone = λ m o t l waits. waits-on c p.access p.access with_flush.past effect_mark (after b p s h) told_story v m o o t (next_instant p.access ((after b p s h).at (length with_flush.past))) refl l waits refl refl (λ j d. refl) (λ j d well. well);
-  }) (others b p s h v ne)
+  }
+
+  -- the mark of the effect is paid for
+  marked : (v : ℕ) (e : Errand) (t : AnyTask) (u since : ℕ) (o : Open) → HasBegun log (kept b p s h).story since → stepper with_flush.past ≡ Some v → IsPaid p.access v e t u 1 (deadline c v with_flush.past) (scene c with_flush.past (after b p s h) v since o).past
+      → IsPaid p.access v e t u 0 (deadline c v (effect_mark ∷ with_flush.past)) (scene c (effect_mark ∷ with_flush.past) told_story v since o).past
+  marked v e t u since o begun steps was = subst (λ by. IsPaid p.access v e t u 0 by (scene c (effect_mark ∷ with_flush.past) told_story v since o).past) (sym (run-on c v effect_mark with_flush.past steps))
+      (b.paid.marks p.access v e t u (deadline c v with_flush.past) (scene c with_flush.past (after b p s h) v since o).past (scene c (effect_mark ∷ with_flush.past) told_story v since o)
+      (b.scenes c p.access (with_mark with_flush effect_mark) told_story v since o lives (record { from = begun.from; by_now = omega (arith, begun.by_now) })).scene
+      (next-is c with_flush.past effect_mark (after b p s h) told_story v since o o (next_instant p.access ((after b p s h).at (length with_flush.past))) 0 refl (omega (arith, begun.by_now)) (omega arith)
+      (b.quiet c p.access p.access with_flush (after b p s h) effect_mark v since o no-act (λ a out n. refl) (record { from = begun.from; by_now = omega (arith, begun.by_now) })).continues) was)
+
+  -- with it the calls of the others are paid for, too
+  slot-of : (v : ℕ) → v ≢ worker → IsSlot c p.access (with_mark with_flush effect_mark) told_story (old b p s h).owners.items v (get_or (old b p s h).workers.items v None)
+  unfolding serving-stays
+  slot-of v ne = both (get_or (old b p s h).workers.items v None) ((kept b p s h).workers v)
+    where
+      both : (slot : Option OpenCall) → IsSlot c (old b p s h).access log (kept b p s h).story (old b p s h).owners.items v slot → IsSlot c p.access (with_mark with_flush effect_mark) told_story (old b p s h).owners.items v slot
+      both None t = none-stays c p.access p.access with_flush effect_mark (after b p s h) told_story (old b p s h).owners.items v (told-leaves v ne)
+          (none-stays c (old b p s h).access p.access log h.mark (kept b p s h).story (after b p s h) (old b p s h).owners.items v (leaves b p s h v ne) t)
+      both (Some y) t = serving-stays b.scenes b.stay c p.access p.access with_flush effect_mark (after b p s h) told_story (old b p s h).owners.items v y lives (told-leaves v ne)
+          (serving-stays b.scenes b.stay c (old b p s h).access p.access log h.mark (kept b p s h).story (after b p s h) (old b p s h).owners.items v y (living b p s h) (leaves b p s h v ne) t
+          (λ steps. b.paid.less p.access v (errand_of y) y.task (untold p.access (doing_of p.access v)) 1 0 (deadline c v with_flush.past) (scene c with_flush.past (after b p s h) v t.call_open.look.since t.opened).past (omega arith) (other-paid b p s h v ne y t steps)))
+          (λ steps. marked v (errand_of y) y.task (untold p.access (doing_of p.access v)) t.call_open.look.since t.opened (begun-in (kept b p s h).living t.call_open) steps (other-paid b p s h v ne y t steps))
 
   -- the call, with its effect
   abbrev effected : Open
@@ -220,7 +251,12 @@ module _ (b : StrikeLaws) (p : Parts) (s : ℕ) (h : IsStriking p s) (publishes 
     covered = (its b p s h).covered;
     alone = waits-on c p.access p.access with_flush.past effect_mark (after b p s h) told_story worker since effected effected (x b p s h).task (next_instant p.access ((after b p s h).at (length with_flush.past))) refl (omega (arith, begun-its.by_now)) (struck-alone b p s h)
         refl refl (λ t d. refl) (λ t d well. well);
-    meant = λ quiet. absurd (cc quiet);
+    meant = let m = (struck-meant b p s h) in record { within = m.within; fit = record { words = m.fit.words; thawed = m.fit.thawed }; look = λ quiet. absurd (cc quiet); meant = λ quiet. absurd (cc quiet); later = λ at is. publishing-kind (x b p s h).task publishes };
+    paid = λ steps. subst (λ u. IsPaid p.access worker (errand_of with_moment) (x b p s h).task u 0 (deadline c worker (effect_mark ∷ with_flush.past)) (scene c (effect_mark ∷ with_flush.past) told_story worker since effected).past)
+        (sym (ap (untold p.access) (still-does b p s h) ∙ ap (λ (z : Bool). if z then 1 else 0) h.takes.effect.done))
+        (marked worker (errand_of with_moment) (x b p s h).task 1 since effected begun-its steps
+        (subst (λ by. IsPaid p.access worker (errand_of with_moment) (x b p s h).task 1 1 by (later b p s h).past) (sym (run-on c worker h.mark log.past steps))
+        (subst (λ z. IsPaid p.access worker (effected_by z (errand_of (x b p s h))) (x b p s h).task 1 (mark_of_effect z) (deadline c worker log.past) (later b p s h).past) publishes (own-paid b p s h steps))));
   }
 
   slots : (items : List (Option OpenCall)) → get_or items worker None ≡ Some with_moment → ((v : ℕ) → v ≢ worker → get_or items v None ≡ get_or (old b p s h).workers.items v None)

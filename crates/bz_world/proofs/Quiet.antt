@@ -1,5 +1,5 @@
 -- An act of a worker by which no swap takes effect: the world but for this worker.
-use Rattle.std.proofs.Common.{◌≡◌, ◌≢◌, ℕ, ◌<◌, ◌≤◌, ◌∷◌, true, length, arith, refl, sym, ap, subst, ◌∙◌, inl, inr, Some, None}
+use Rattle.std.proofs.Common.{◌≡◌, ◌≢◌, ℕ, ◌+◌, ◌<◌, ◌≤◌, ◌∷◌, true, length, arith, refl, sym, ap, subst, ◌∙◌, inl, inr, Some, None}
 use Rattle.std.specs.Prelude.{get_or}
 use Rattle.std.proofs.lemmas.Bool.{cases_eq, cases_lt}
 use Rattle.bz_acts.specs.declared.acted.Act.{Act}
@@ -19,7 +19,7 @@ use Rattle.bz_story.specs.Story.{Story, scene, and_then}
 use Rattle.bz_swap.specs.SwapMemory.{Doing, Idle, Storing, doing_of}
 use Rattle.bz_swap.specs.Steps.{doing_after}
 use Rattle.bz_task.specs.Requests.{IsAskable, IsOwnStore}
-use Rattle.bz_task.specs.Scene.{IsLawful, Waiting}
+use Rattle.bz_task.specs.Scene.{Continues, IsLawful, Waiting}
 use Rattle.bz_task.specs.declared.todo.Todo.{Todo}
 use Rattle.bz_task.specs.declared.todo.Todo.TheVariants as todo
 use Rattle.bz_world.specs.Inside.Acted.{IsActed, IsBetween}
@@ -30,13 +30,20 @@ use Rattle.bz_world.specs.Inside.Serving.{IsServing, IsDoing, IsSlot, stage_in}
 use Rattle.bz_world.specs.declared.parts.Parts.{Parts}
 use Rattle.bz_world.specs.declared.serving.OpenCall.{OpenCall}
 use Rattle.bz_sound.specs.Power.Times.{image_at_on}
+use Rattle.bz_lone.specs.Steps.{HasStepped}
+use Rattle.bz_lone.specs.Sum.{IsPaid}
+use Rattle.bz_rivals.specs.Rivals.{rivals}
+use Rattle.bz_world.specs.Inside.Alone.{untold}
+use Rattle.bz_world.specs.Inside.Paid.{errand_of}
+use Rattle.bz_world.specs.WorldView.{stepper, deadline}
 use Rattle.bz_world.proofs.Alone.{waits-on, well-acted}
+use Rattle.bz_world.proofs.Paid.{act-steps, one-steps, who-steps, run-on, paid-here, next-is}
 use Rattle.bz_world.proofs.Powered.{begun-in, looks-on, free-on, leaves-power, may-act}
 use Rattle.bz_world.proofs.Owners.{pending-begun}
 use Rattle.bz_world.proofs.Marking.{act-marked, act-calls}
 use Rattle.bz_world.specs.Inside.Laws.{StepLaws}
 use Rattle.bz_world.proofs.Stepped.{act-tabled, act-taken, act-sound, held}
-use Rattle.bz_world.proofs.Staying.{SameFor, slot-stays, told-stays, wanted-stays}
+use Rattle.bz_world.proofs.Staying.{SameFor, Pays, slot-stays, told-stays, wanted-stays}
 
 -- the call of a worker that serves one is open, so it is one of the workers
 module _ (p : Parts) (k : IsAwake p) (w : ℕ) (x : OpenCall) (is-worker : get_or p.workers.items w None ≡ Some x) where
@@ -124,12 +131,34 @@ module _ (b : StepLaws) (old new : Parts) (w : ℕ) (x : OpenCall) (made : Act) 
     effects = λ t d. a.step.effect.swaps t;
   }
 
+  -- it has stepped
+  pub stepped : HasStepped old.access new.access w
+  stepped = record { left = a.step.one.spent; rivals = let few : rivals new.access w + 0 ≤ rivals old.access w = b.lone.paid.rivals.step old.access new.access w made done None a.step in omega (arith, few) }
+
+  -- which is paid for
+  pub quiet-paid : (after : Story) → IsLiving old.config new.access (with_mark old.journal (mark_of w made)) after → after.at ≡ and_then k.story.at (length old.journal.past) (next_instant new.access (k.story.at (length old.journal.past)))
+      → (y : OpenCall) (t : IsServing old.config old.access old.journal k.story old.owners.items w y) → HasBegun (with_mark old.journal (mark_of w made)) after t.call_open.look.since
+      → Continues (scene old.config old.journal.past k.story w t.call_open.look.since t.opened).past (scene old.config (mark_of w made ∷ old.journal.past) after w t.call_open.look.since t.opened).past
+      → IsPaid new.access w (errand_of y) y.task (untold old.access (doing_of old.access w)) 0 (deadline old.config w (mark_of w made ∷ old.journal.past)) (scene old.config (mark_of w made ∷ old.journal.past) after w t.call_open.look.since t.opened).past
+  quiet-paid after living at y t begun continues =
+      subst (λ by. IsPaid new.access w (errand_of y) y.task (untold old.access (doing_of old.access w)) 0 by (scene old.config (mark_of w made ∷ old.journal.past) after w t.call_open.look.since t.opened).past)
+      (sym (run-on old.config w (mark_of w made) old.journal.past (act-steps w made old.journal.past)))
+      (b.lone.paid.quiet old.access new.access w (errand_of y) y.task (untold old.access (doing_of old.access w)) (deadline old.config w old.journal.past) (scene old.config old.journal.past k.story w t.call_open.look.since t.opened).past
+      (scene old.config (mark_of w made ∷ old.journal.past) after w t.call_open.look.since t.opened)
+      (b.scenes old.config new.access (with_mark old.journal (mark_of w made)) after w t.call_open.look.since t.opened living begun).scene
+      (next-is old.config old.journal.past (mark_of w made) k.story after w t.call_open.look.since t.opened t.opened (next_instant new.access (k.story.at (length old.journal.past))) 0 at t.call_open.look.by_now (omega arith) continues)
+      stepped (paid-here b.lone.paid old k w y t (some-worker old k w x is-worker) (within-crew old k w x is-worker)))
+
+  -- and the others do not step
+  pub none-pays : (after : Story) (v : ℕ) → v ≢ w → Pays old.config old.access old.journal (mark_of w made) k.story after old.owners.items new.access v
+  none-pays after v ne y t steps = absurd (one-steps v w ne (stepper (mark_of w made ∷ old.journal.past)) (act-steps w made old.journal.past) steps)
+
   -- so what is known of a worker stays, if the mark is a lawful step for it
   pub stays : (after : Story) (v : ℕ) → IsLiving old.config new.access (with_mark old.journal (mark_of w made)) after → after.from ≡ k.story.from → SameFor old.access new.access v
       → ((since : ℕ) (opened : Open) → HasBegun old.journal k.story since → IsLawful (scene old.config old.journal.past k.story v since opened) (scene old.config (mark_of w made ∷ old.journal.past) after v since opened))
       → ((j : ℕ) → after.took v j ≡ k.story.took v j) → ((j : ℕ) → k.story.filled v j ≡ true → after.filled v j ≡ true) → after.at ≡ and_then k.story.at (length old.journal.past) (next_instant new.access (k.story.at (length old.journal.past)))
-      → IsSlot old.config new.access (with_mark old.journal (mark_of w made)) after old.owners.items v (get_or old.workers.items v None)
-  stays after v living from same lawful took filled at = slot-stays b.scenes b.stay old.config old.access new.access old.journal (mark_of w made) k.story after old.owners.items v (get_or old.workers.items v None) living (record {
+      → Pays old.config old.access old.journal (mark_of w made) k.story after old.owners.items new.access v → IsSlot old.config new.access (with_mark old.journal (mark_of w made)) after old.owners.items v (get_or old.workers.items v None)
+  stays after v living from same lawful took filled at pays = slot-stays b.scenes b.stay old.config old.access new.access old.journal (mark_of w made) k.story after old.owners.items v (get_or old.workers.items v None) living (record {
     same = same;
     calls = act-calls v w old.journal.past made;
     from = from;
@@ -138,7 +167,7 @@ module _ (b : StepLaws) (old new : Parts) (w : ℕ) (x : OpenCall) (made : Act) 
     filled = filled;
     alone = λ since opened t l h. waits-on old.config old.access new.access old.journal.past (mark_of w made) k.story after v since opened opened t (next_instant new.access (k.story.at (length old.journal.past))) at l h refl same.doing same.effects
         (λ j d well. well-acted b.lone.wins old.access new.access w made done j a.step well);
-  }) (k.workers v)
+  }) pays (k.workers v)
 
   pub tabled : length old.journal.past < old.config.marks → IsTabled new
   tabled room = act-tabled old new w made done None k.tabled a room
@@ -186,4 +215,5 @@ module _ (b : StepLaws) (old new : Parts) (w : ℕ) (x : OpenCall) (made : Act) 
       wanted = wanted-stays old.config old.journal (mark_of w made) s.opened (wants_of x.task) s.call_open.wanted;
     };
     idle = a.step.one.doing ∙ idle-by (doing_of old.access w) done ne;
+    steps = λ v is. who-steps v w (stepper (mark_of w made ∷ old.journal.past)) (act-steps w made old.journal.past) is;
   }

@@ -1,5 +1,5 @@
 -- A worker starts what its task asks for.
-use Rattle.std.proofs.Common.{◌≡◌, ◌≢◌, ℕ, ◌<◌, length, arith, refl, sym, ap, subst, ◌∙◌, inl, inr, None}
+use Rattle.std.proofs.Common.{◌≡◌, ◌≢◌, ℕ, ◌+◌, ◌<◌, ◌≤◌, length, arith, refl, sym, ap, subst, ◌∙◌, inl, inr, None}
 use Rattle.std.specs.Prelude.{get_or}
 use Rattle.std.proofs.lemmas.Bool.{cases_eq}
 use Rattle.std.proofs.lemmas.List.{get_or-set_same, get_or-set_other, length-set}
@@ -22,6 +22,11 @@ use Rattle.bz_world.specs.Inside.Laws.{AloneLaws, BegunLaws, StartLaws}
 use Rattle.bz_world.specs.Inside.Serving.{IsServing, IsDoing, IsSlot, stage_in}
 use Rattle.bz_world.specs.Inside.Telling.{MustStart}
 use Rattle.bz_world.specs.declared.parts.Parts.{Parts}
+use Rattle.bz_costs.specs.Weights.{start_allows}
+use Rattle.bz_lone.specs.Sum.{IsPaid}
+use Rattle.bz_swap.specs.Alone.{allowed_for, left_to}
+use Rattle.bz_world.specs.Inside.Paid.{errand_of}
+use Rattle.bz_world.specs.WorldView.{deadline}
 use Rattle.bz_world.proofs.Alone.{none-untold, none-well}
 use Rattle.bz_world.proofs.Lonely.{in-place, only-own, started-lonely}
 use Rattle.bz_world.proofs.Powered.{begun-in}
@@ -58,7 +63,7 @@ may-ask b p w todo m =
 
 -- a read, a store or a flush
 module _ (lone : AloneLaws) (starts : StartsAreSeen) (begun : BegunLaws) (alone : LonelyCallsAreAlone) (p : Parts) (w : ℕ) (todo : Todo) (m : MustStart p w todo) (doing : Doing) (holds : Holds (started p.access w doing)) (does : IsDoing (started p.access w doing) p.owners.items w todo)
-    (waits : stage_in (started p.access w doing) doing ≡ Waiting) (no-swap : (s : ℕ) → doing ≢ Swapping s) where
+    (waits : stage_in (started p.access w doing) doing ≡ Waiting) (no-swap : (s : ℕ) → doing ≢ Swapping s) (allows : allowed_for doing ≡ start_allows todo) where
   abbrev between : IsBetween p w m.serving
   between = m.asking.between
 
@@ -100,6 +105,11 @@ module _ (lone : AloneLaws) (starts : StartsAreSeen) (begun : BegunLaws) (alone 
         waited = record { scene = its-scene; config = sym m.asking.tasked.config; facts = m.asking.facts };
       }
 
+  -- its start is paid for
+  pays : IsPaid (started p.access w doing) w (errand_of m.serving) m.serving.task 0 0 (deadline p.config w p.journal.past) its-scene.past
+  pays = lone.paid.starts p.access (started p.access w doing) w (errand_of m.serving) m.serving.task 0 (deadline p.config w p.journal.past) todo its-scene.past
+      (let more : left_to (started p.access w doing) w ≤ left_to p.access w + allowed_for doing = lone.paid.steps.start p.access w doing in omega (arith, more, allows)) (lone.paid.rivals.start p.access w doing) m.asking.paid
+
   serves-on : IsServing p.config (started p.access w doing) p.journal between.story p.owners.items w m.serving
   serves-on = record {
     opened = between.opened;
@@ -116,6 +126,7 @@ module _ (lone : AloneLaws) (starts : StartsAreSeen) (begun : BegunLaws) (alone 
     covered = m.asking.covered;
     alone = waits-now;
     meant = m.asking.meant;
+    paid = λ steps. subst (λ u. IsPaid (started p.access w doing) w (errand_of m.serving) m.serving.task u 0 (deadline p.config w p.journal.past) its-scene.past) (sym (none-untold (started p.access w doing) (doing_of (started p.access w doing) w) none)) pays;
   }
 
   same-other : (v : ℕ) → v ≢ w → SameFor p.access (started p.access w doing) v
@@ -123,7 +134,7 @@ module _ (lone : AloneLaws) (starts : StartsAreSeen) (begun : BegunLaws) (alone 
 
   slots : (v : ℕ) → IsSlot p.config (started p.access w doing) p.journal between.story p.owners.items v (get_or p.workers.items v None)
   slots v = elim (cases_eq v w) [
-    | inr ne ↦ slot-same p.config p.access (started p.access w doing) p.journal between.story p.owners.items p.owners.items v (get_or p.workers.items v None) (same-other v ne) (λ s d well. record { unnoted = well.unnoted; stands = well.stands }) (λ s d. refl) (between.others v ne)
+    | inr ne ↦ slot-same p.config p.access (started p.access w doing) p.journal between.story p.owners.items p.owners.items v (get_or p.workers.items v None) (same-other v ne) (λ s d well. record { unnoted = well.unnoted; stands = well.stands }) (λ s d. refl) (λ is. ne (between.steps v is)) (between.others v ne)
     | inl e ↦ subst (λ u. IsSlot p.config (started p.access w doing) p.journal between.story p.owners.items u (get_or p.workers.items u None)) (sym e)
         (subst (IsSlot p.config (started p.access w doing) p.journal between.story p.owners.items w) (sym m.is) serves-on)
   ]

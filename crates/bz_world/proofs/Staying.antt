@@ -5,6 +5,7 @@ use Rattle.std.proofs.lemmas.Bool.{true≢false}
 use Rattle.bz_call.specs.Map.{key_of}
 use Rattle.bz_layout.specs.declared.config.Config.{Config}
 use Rattle.bz_layout.specs.declared.thresholds.TheConstants.{SPLIT_SLOTS}
+use Rattle.bz_lone.specs.Sum.{IsPaid}
 use Rattle.bz_mark.specs.Log.{Log, with_mark}
 use Rattle.bz_mark.proofs.MomentLaws.{at_moment-earlier}
 use Rattle.bz_mark.specs.declared.marks.Mark.{Mark}
@@ -23,12 +24,14 @@ use Rattle.bz_swap.specs.SwapMemory.{SwapMemory, Doing, Idle, Reading, Swapping,
 use Rattle.bz_task.specs.Scene.{Scene, IsLawful, Waiting, Took}
 use Rattle.bz_task.specs.declared.todo.Todo.{Todo}
 use Rattle.bz_task.specs.declared.todo.Todo.TheVariants as todo
-use Rattle.bz_world.specs.Inside.Alone.{WaitsAlone}
-use Rattle.bz_world.specs.Inside.Meant.{IsMeantFor}
+use Rattle.bz_world.specs.Inside.Alone.{WaitsAlone, untold}
+use Rattle.bz_world.specs.Inside.Meant.{IsMeant}
+use Rattle.bz_world.specs.Inside.Paid.{errand_of}
+use Rattle.bz_world.specs.WorldView.{stepper, deadline}
 use Rattle.bz_world.specs.Inside.Serving.{IsServing, IsCovered, IsDoing, IsSlot, IsToldBy, IsWanted, NeedsAtLeast, MayGoOn, IsFinishing, effect_reply, stage_in}
 use Rattle.bz_world.specs.declared.serving.OpenCall.{OpenCall}
 use Rattle.bz_world.proofs.Alone.{waits-same}
-use Rattle.bz_world.proofs.Meant.{meant-on}
+use Rattle.bz_world.proofs.Meant.{call-meant-on}
 use Rattle.bz_world.proofs.Powered.{looks-on}
 
 -- what a worker does is the same in two memories, and so is whether its swap has taken effect
@@ -62,7 +65,7 @@ stage-by m n (Loading a) e = refl
 stage-by m n (Storing a u) e = refl
 stage-by m n (Flushing line) e = refl
 
-stage-stays : (m n : SwapMemory) (v : ℕ) → SameFor m n v → stage_in n (doing_of n v) ≡ stage_in m (doing_of m v)
+pub stage-stays : (m n : SwapMemory) (v : ℕ) → SameFor m n v → stage_in n (doing_of n v) ≡ stage_in m (doing_of m v)
 stage-stays m n v same = ap (stage_in n) same.doing ∙ stage-by m n (doing_of m v) same.effects
 
 -- a call whose change stands is finished as before, where its worker does what it did
@@ -116,9 +119,15 @@ wanted-stays c log mark opened wants why quiet some =
       };
     }
 
-pub serving-stays : ScenesAreSeen → EffectsStayOpen → (c : Config) (m n : SwapMemory) (log : Log) (mark : Mark) (story after : Story) (owners : List ℕ) (v : ℕ) (x : OpenCall) → IsLiving c n (with_mark log mark) after → Leaves c m n log mark story after v
-    → IsServing c m log story owners v x → IsServing c n (with_mark log mark) after owners v x
-serving-stays seen stay c m n log mark story after owners v x living l s = record {
+-- it pays for what is to come one mark later
+abbrev pub Pays : Config → SwapMemory → Log → Mark → Story → Story → List ℕ → SwapMemory → ℕ → Type 0
+Pays c m log mark story after owners n v = (x : OpenCall) (s : IsServing c m log story owners v x) → stepper (mark ∷ log.past) ≡ Some v
+    → IsPaid n v (errand_of x) x.task (untold n (doing_of n v)) 0 (deadline c v (mark ∷ log.past)) (scene c (mark ∷ log.past) after v s.call_open.look.since s.opened).past
+
+unfoldable pub serving-stays : ScenesAreSeen → EffectsStayOpen → (c : Config) (m n : SwapMemory) (log : Log) (mark : Mark) (story after : Story) (owners : List ℕ) (v : ℕ) (x : OpenCall) → IsLiving c n (with_mark log mark) after → Leaves c m n log mark story after v
+    → (s : IsServing c m log story owners v x) → (stepper (mark ∷ log.past) ≡ Some v → IsPaid n v (errand_of x) x.task (untold n (doing_of n v)) 0 (deadline c v (mark ∷ log.past)) (scene c (mark ∷ log.past) after v s.call_open.look.since s.opened).past)
+    → IsServing c n (with_mark log mark) after owners v x
+serving-stays seen stay c m n log mark story after owners v x living l s pays = record {
   opened = s.opened;
   call_open = record {
     is_open = l.calls ∙ s.call_open.is_open;
@@ -138,23 +147,27 @@ serving-stays seen stay c m n log mark story after owners v x living l s = recor
       (seen c n (with_mark log mark) after v s.call_open.look.since s.opened living (record { from = since; by_now = omega (arith, s.call_open.look.by_now) })).scene (l.lawful s.call_open.look.since s.opened (record { from = omega (arith, since, l.from); by_now = s.call_open.look.by_now })));
   covered = covered-stays (story.took v) (after.took v) (story.filled v) (after.filled v) (needs_of x.task) l.took l.filled s.covered;
   alone = l.alone s.call_open.look.since s.opened x.task s.call_open.look.by_now s.alone;
-  meant = λ quiet. meant-on x.call x.task (scene c log.past story v s.call_open.look.since s.opened).past (scene c (mark ∷ log.past) after v s.call_open.look.since s.opened).past s.tasked.laws
-      (l.lawful s.call_open.look.since s.opened (record { from = omega (arith, since, l.from); by_now = s.call_open.look.by_now })).continues (s.meant quiet);
+  meant = call-meant-on x (scene c log.past story v s.call_open.look.since s.opened).past (scene c (mark ∷ log.past) after v s.call_open.look.since s.opened).past s.tasked.laws
+      (l.lawful s.call_open.look.since s.opened (record { from = omega (arith, since, l.from); by_now = s.call_open.look.by_now })).continues s.meant;
+  paid = pays;
 }
   where
     since : after.from ≤ s.call_open.look.since
     since = omega (arith, living.begins v s.opened (l.calls ∙ s.call_open.is_open), s.call_open.look.after_begin)
 
+pub none-stays : (c : Config) (m n : SwapMemory) (log : Log) (mark : Mark) (story after : Story) (owners : List ℕ) (v : ℕ) → Leaves c m n log mark story after v → IsSlot c m log story owners v None → IsSlot c n (with_mark log mark) after owners v None
+none-stays c m n log mark story after owners v l s = record { none_open = l.calls ∙ s.none_open; idle = l.same.doing ∙ s.idle; filled = λ k t. l.filled k (s.filled k (sym (l.took k) ∙ t)) }
+
 pub slot-stays : ScenesAreSeen → EffectsStayOpen → (c : Config) (m n : SwapMemory) (log : Log) (mark : Mark) (story after : Story) (owners : List ℕ) (v : ℕ) (slot : Option OpenCall) → IsLiving c n (with_mark log mark) after → Leaves c m n log mark story after v
-    → IsSlot c m log story owners v slot → IsSlot c n (with_mark log mark) after owners v slot
-slot-stays seen stay c m n log mark story after owners v None living l s = record { none_open = l.calls ∙ s.none_open; idle = l.same.doing ∙ s.idle; filled = λ k t. l.filled k (s.filled k (sym (l.took k) ∙ t)) }
-slot-stays seen stay c m n log mark story after owners v (Some x) living l s = serving-stays seen stay c m n log mark story after owners v x living l s
+    → Pays c m log mark story after owners n v → IsSlot c m log story owners v slot → IsSlot c n (with_mark log mark) after owners v slot
+slot-stays seen stay c m n log mark story after owners v None living l pays s = none-stays c m n log mark story after owners v l s
+slot-stays seen stay c m n log mark story after owners v (Some x) living l pays s = serving-stays seen stay c m n log mark story after owners v x living l s (pays x s)
 
 -- without a mark, in a memory in which a worker does the same
 pub slot-same : (c : Config) (m n : SwapMemory) (log : Log) (story : Story) (owners others : List ℕ) (v : ℕ) (slot : Option OpenCall) → SameFor m n v → ((s : ℕ) → doing_of m v ≡ Swapping s → GoesWell m s → GoesWell n s) → ((s : ℕ) → doing_of m v ≡ Swapping s → slice_index others s ≡ slice_index owners s)
-    → IsSlot c m log story owners v slot → IsSlot c n log story others v slot
-slot-same c m n log story owners others v None same well table s = record { none_open = s.none_open; idle = same.doing ∙ s.idle; filled = s.filled }
-slot-same c m n log story owners others v (Some x) same well table s = record {
+    → (stepper log.past ≡ Some v → ⊥) → IsSlot c m log story owners v slot → IsSlot c n log story others v slot
+slot-same c m n log story owners others v None same well table still s = record { none_open = s.none_open; idle = same.doing ∙ s.idle; filled = s.filled }
+slot-same c m n log story owners others v (Some x) same well table still s = record {
   opened = s.opened;
   call_open = let o = s.call_open in record { is_open = o.is_open; call = o.call; effect = o.effect; look = o.look; told = o.told; wanted = o.wanted };
   tasked = s.tasked;
@@ -166,6 +179,7 @@ slot-same c m n log story owners others v (Some x) same well table s = record {
   covered = s.covered;
   alone = waits-same m n v x.task (scene c log.past story v s.call_open.look.since s.opened).past same.doing same.effects well s.alone;
   meant = s.meant;
+  paid = λ steps. absurd (still steps);
 }
   where
     doing-by : (m : SwapMemory) (owners others : List ℕ) (v : ℕ) (asked : Todo) → ((s : ℕ) → doing_of m v ≡ Swapping s → slice_index others s ≡ slice_index owners s) → IsDoing m owners v asked → IsDoing m others v asked
@@ -191,5 +205,6 @@ slot-scenes c m log story after owners v (Some x) some same filled s = record {
   facts = subst (facts_of x.task (stage_in m (doing_of m v))) (sym (same s.call_open.look.since s.opened)) s.facts;
   covered = covered-stays (story.took v) (after.took v) (story.filled v) (after.filled v) (needs_of x.task) (λ k. ap (λ (z : Scene). z.took k) (same s.call_open.look.since s.opened)) (λ k e. filled k ∙ e) s.covered;
   alone = subst (λ (z : Scene). WaitsAlone m (doing_of m v) x.task z.past) (sym (same s.call_open.look.since s.opened)) s.alone;
-  meant = λ quiet. subst (λ (z : Scene). IsMeantFor x.call x.task z.past) (sym (same s.call_open.look.since s.opened)) (s.meant quiet);
+  meant = subst (λ (z : Scene). IsMeant x z.past) (sym (same s.call_open.look.since s.opened)) s.meant;
+  paid = λ steps. subst (λ (z : Scene). IsPaid m v (errand_of x) x.task (untold m (doing_of m v)) 0 (deadline c v log.past) z.past) (sym (same s.call_open.look.since s.opened)) (s.paid steps);
 }

@@ -1,20 +1,33 @@
 -- A step: one act, and what its call does without an act.
-use Rattle.std.proofs.Common.{◌≡◌, ◌⊎◌, ◌≤◌, ◌+◌, ◌*◌, ℕ, Bool, length, arith, sym, ap, subst, ◌∙◌, inl}
+use Rattle.std.proofs.Common.{◌≡◌, ◌≢◌, ◌⊎◌, ◌≤◌, ◌+◌, ◌*◌, ◌==◌, if◌then◌else◌, ℕ, suc, Bool, true, false, List, ◌∷◌, length, arith, sym, ap, subst, ◌∙◌, inl, inr, Option, Some, None}
+use Rattle.std.specs.Prelude.{get_or, option_map}
 use Rattle.std.proofs.Math.ListN.{get_or-map}
 use Rattle.arrayvec.specs.ArrayVec.{ArrayVec}
+use Rattle.bz_acts.specs.declared.acted.Act.{Act}
 use Rattle.bz_call.specs.declared.replies.Reply.TheVariants.{Full}
 use Rattle.bz_layout.specs.declared.thresholds.TheConstants.{SPLIT_SLOTS}
 use Rattle.bz_mark.specs.Log.{Log}
+use Rattle.bz_mark.specs.declared.marks.Mark.{Mark}
 use Rattle.bz_mark.specs.declared.marks.Mark.TheVariants.{End}
+use Rattle.bz_sound.specs.Calls.{Open, open_call, with_effect}
+use Rattle.bz_story.specs.Story.{scene}
 use Rattle.bz_swap.specs.SwapMemory.{Working, idle, worker_of, doing_of}
+use Rattle.bz_lone.specs.Sum.{IsPaid}
 use Rattle.bz_world.specs.Inside.Acted.{HasActed}
 use Rattle.bz_world.specs.Inside.Beginning.{world_view, is_swap, supply_of}
 use Rattle.bz_world.specs.Inside.Going.{WentOn}
 use Rattle.bz_world.specs.Inside.Kept.{IsAwake}
-use Rattle.bz_world.specs.WorldView.{Spends, EndsFullRightly, GetsBriefly, Steps, GoesOn, flush_of, is_swapping}
+use Rattle.bz_world.specs.Inside.Alone.{untold}
+use Rattle.bz_world.specs.Inside.Paid.{errand_of}
+use Rattle.bz_world.specs.Inside.Serving.{IsServing}
+use Rattle.bz_world.specs.WorldView.{mark_of, stepper, deadline, IsStruck, Spends, EndsFullRightly, GetsBriefly, Steps, GoesOn, flush_of, is_swapping}
 use Rattle.bz_world.specs.declared.answers.Applied.{Applied}
 use Rattle.bz_world.specs.declared.answers.Applied.TheVariants.{Stepped}
 use Rattle.bz_world.specs.declared.parts.Parts.{Parts}
+use Rattle.bz_world.proofs.Acting.{IsServed, is-served}
+use Rattle.bz_world.proofs.Marking.{act-calls}
+use Rattle.bz_world.proofs.Paid.{act-steps, affords-room}
+use Rattle.bz_world.proofs.Quiet.{serves}
 use Rattle.bz_world.proofs.Supplies.{shown-on, not-longer}
 
 -- what callers see of whether the next act is a flush
@@ -35,9 +48,34 @@ swap-same old new v same = swap-is new v ∙ (ap (λ (z : Working). is_swap z.do
 spends-shown : (old new : Parts) (slots : ℕ) → IsAwake old → IsAwake new → Spends slots (supply_of old) (supply_of new) → Spends slots (world_view old).supply (world_view new).supply
 spends-shown old new slots was is spends = subst (λ z. Spends slots z (world_view new).supply) (sym (shown-on old was.on)) (subst (Spends slots (supply_of old)) (sym (shown-on new is.on)) spends)
 
+-- an act leaves the call of its worker open, and so does an effect that it has
+effect-open : (t : Bool) (moment : ℕ) (o : Option Open) → o ≢ None → (if t then option_map (with_effect moment) o else o) ≢ None
+effect-open true moment None some e = some e
+effect-open true moment (Some opened) some e = absurd (cc e)
+effect-open false moment o some e = some e
+
+struck-open : (w : ℕ) (made : Act) (past new : List Mark) → open_call w past ≢ None → IsStruck (mark_of w made ∷ past) new → open_call w new ≢ None
+struck-open w made past new some (inl same) = subst (λ (marks : List Mark). open_call w marks ≢ None) (sym same) (λ e. some (sym (act-calls w w past made) ∙ e))
+struck-open w made past new some (inr struck) = subst (λ (marks : List Mark). open_call w marks ≢ None) (sym struck.1.1)
+    (effect-open (struck.0 == w) (length (mark_of w made ∷ past)) (open_call w (mark_of w made ∷ past)) (λ e. some (sym (act-calls w w past made) ∙ e)))
+
+-- and it is that worker that steps
+struck-steps : (w : ℕ) (made : Act) (past new : List Mark) → IsStruck (mark_of w made ∷ past) new → stepper new ≡ Some w
+struck-steps w made past new (inl same) = ap stepper same ∙ act-steps w made past
+struck-steps w made past new (inr struck) = ap stepper struck.1.1 ∙ act-steps w made past
+
+-- the call of a worker that steps ends in time
+in-time : (p : Parts) → IsAwake p → (w : ℕ) → open_call w p.journal.past ≢ None → stepper p.journal.past ≡ Some w → length p.journal.past ≤ deadline p.config w p.journal.past
+in-time p k w some steps =
+    let s : IsServed p w (get_or p.workers.items w None) = is-served p k w some in
+    let h : IsServing p.config p.access p.journal k.story p.owners.items w s.serving = serves p k w s.serving s.is in
+    let paid : IsPaid p.access w (errand_of s.serving) s.serving.task (untold p.access (doing_of p.access w)) 0 (deadline p.config w p.journal.past) (scene p.config p.journal.past k.story w h.call_open.look.since h.opened).past = h.paid steps in
+    let room : suc (length p.journal.past) ≤ deadline p.config w p.journal.past = affords-room p.access w (errand_of s.serving) (length p.journal.past) (deadline p.config w p.journal.past) _ paid.affords in
+    omega (arith, room)
+
 -- an act after which the call goes on as it did
-pub stepped-on : (old new : Parts) (w : ℕ) → IsAwake old → IsAwake new → HasActed old w new → new.access.taken ≡ old.access.taken → Steps (world_view old) w Stepped (world_view new)
-stepped-on old new w was is a taken = record {
+pub stepped-on : (old new : Parts) (w : ℕ) → IsAwake old → IsAwake new → open_call w old.journal.past ≢ None → HasActed old w new → new.access.taken ≡ old.access.taken → Steps (world_view old) w Stepped (world_view new)
+stepped-on old new w was is some a taken = record {
   made = a.made;
   flush = a.flush ∙ sym (flush-is old w);
   struck = new.journal.past;
@@ -51,6 +89,7 @@ stepped-on old new w was is a taken = record {
   left_out = ap (λ (p : Parts). p.left_out.items) a.rest;
   others = λ v ne. flush-same old new v (a.others v ne);
   apart = λ v ne. swap-same old new v (a.others v ne);
+  lone = in-time new is w (struck-open w a.made old.journal.past new.journal.past some a.struck) (struck-steps w a.made old.journal.past new.journal.past a.struck);
 }
   where
     left : length new.slots.free ≡ length old.slots.free
@@ -77,6 +116,7 @@ stepped-through old mid told new w answer was a taken rest fewer few went = reco
   left_out = ap (λ (flags : ArrayVec Bool). flags.items) (went.left_out ∙ (ap (λ (p : Parts). p.left_out) rest ∙ ap (λ (p : Parts). p.left_out) a.rest));
   others = λ v ne. flush-same old new v (went.others v ne ∙ (ap (λ (p : Parts). worker_of p.access v) rest ∙ a.others v ne));
   apart = λ v ne. swap-same old new v (went.others v ne ∙ (ap (λ (p : Parts). worker_of p.access v) rest ∙ a.others v ne));
+  lone = subst (λ (j : Log). length new.journal.past ≤ deadline new.config w j.past) journal went.lone;
 }
   where
     journal : told.journal ≡ record old.journal { past = mid.journal.past }

@@ -29,10 +29,13 @@ use Rattle.bz_sound.specs.Memory.Spent.{is_stored_into}
 use Rattle.bz_sound.specs.Power.Times.{since_on}
 use Rattle.bz_story.proofs.Storing.{fills-stored}
 use Rattle.bz_world.proofs.Alone.{hears-on}
-use Rattle.bz_world.proofs.Meant.{meant-on}
+use Rattle.bz_lone.specs.Sum.{IsPaid}
+use Rattle.bz_world.specs.Inside.Paid.{errand_of}
+use Rattle.bz_world.specs.WorldView.{deadline}
+use Rattle.bz_world.proofs.Meant.{call-meant-on}
 use Rattle.bz_world.proofs.Powered.{begun-in}
 use Rattle.bz_world.proofs.Staying.{covered-stays}
-use Rattle.bz_world.proofs.Quiet.{some-worker, serves, sees, own, goes, same-other, stays, answered}
+use Rattle.bz_world.proofs.Quiet.{some-worker, serves, sees, own, goes, same-other, stays, answered, quiet-paid, none-pays}
 use Rattle.bz_world.proofs.Answered.{no-finish}
 use Rattle.bz_world.proofs.Lonely.{lonely-act}
 use Rattle.bz_world.proofs.LonelyActs.{reads-now}
@@ -70,7 +73,7 @@ module _ (b : StepLaws) (old new : Parts) (w : ℕ) (x : OpenCall) (made : Act) 
 
     others : (v : ℕ) → v ≢ w → IsSlot old.config new.access (with_mark old.journal (mark_of w made)) after old.owners.items v (get_or old.workers.items v None)
     others v ne = stays b old new w x made answer k is-worker a after v living refl (same-other b old new w x made answer k is-worker a v ne)
-        (λ since opened begun. b.stores.others old.config old.access new.access old.journal k.story (mark_of w made) w d u its.call_open.look.since its.opened v since opened (goes b old new w x made answer k is-worker a) is-store ne begun) (λ j. refl) (fills-more v) refl
+        (λ since opened begun. b.stores.others old.config old.access new.access old.journal k.story (mark_of w made) w d u its.call_open.look.since its.opened v since opened (goes b old new w x made answer k is-worker a) is-store ne begun) (λ j. refl) (fills-more v) refl (none-pays b old new w x made answer k is-worker a after v ne)
 
     stored : Stores d u before later
     stored = b.stores.own old.config old.access new.access old.journal k.story (mark_of w made) w d u its.call_open.look.since its.opened (goes b old new w x made answer k is-worker a) is-store
@@ -94,5 +97,7 @@ module _ (b : StepLaws) (old new : Parts) (w : ℕ) (x : OpenCall) (made : Act) 
       lonely = λ key get lonely. absurd (cc ((reads-now old k w x is-worker key get (lonely-act w w old.journal.past made lonely)).reads, stores));
       alone = hears-on old.config old.access new.access old.journal.past (mark_of w made) k.story after w its.call_open.look.since its.opened its.opened x.task (next_instant new.access (k.story.at (length old.journal.past))) refl its.call_open.look.by_now its.alone
           seen.Stored refl (ap (untold old.access) stores) (λ h e. absurd (cc e));
-      meant = λ quiet. meant-on x.call x.task before.past later.past its.tasked.laws stored.continues (its.meant quiet);
+      meant = call-meant-on x before.past later.past its.tasked.laws stored.continues its.meant;
+      paid = subst (λ u. IsPaid new.access w (errand_of x) x.task u 0 (deadline old.config w (mark_of w made ∷ old.journal.past)) later.past) (ap (untold old.access) stores)
+          (quiet-paid b old new w x made answer k is-worker a after living refl x its (let h : HasBegun old.journal k.story its.call_open.look.since = begun-in k.living its.call_open in record { from = h.from; by_now = omega (arith, h.by_now) }) stored.continues);
     })

@@ -1,10 +1,13 @@
 -- The effect of a swap: what it is to its worker and to the others, one mark on.
-use Rattle.std.proofs.Common.{◌≡◌, ◌≢◌, ℕ, suc, ◌+◌, ◌^◌, ◌<◌, ◌≤◌, if◌then◌else◌, List, ◌∷◌, length, arith, refl, sym, ap, subst, ◌∙◌, None}
+use Rattle.std.proofs.Common.{◌≡◌, ◌≢◌, ◌==◌, Bool, false, not, inl, inr, Some, ℕ, suc, ◌+◌, ◌^◌, ◌<◌, ◌≤◌, if◌then◌else◌, List, ◌∷◌, length, arith, refl, sym, ap, subst, ◌∙◌, None, is_some}
 use Rattle.std.specs.Prelude.{get_or}
+use Rattle.std.proofs.lemmas.Bool.{cases_eq, cases_lt}
+use Rattle.std.proofs.lemmas.Bool.Decides.{nat_tests}
 use Rattle.bz_mark.specs.Log.{with_mark}
 use Rattle.bz_mark.specs.declared.marks.Mark.{Mark}
 use Rattle.bz_mark.specs.declared.marks.Mark.TheVariants as mark
 use Rattle.bz_running.specs.Duties.{facts_of, publishing_of, change_of}
+use Rattle.bz_running.specs.Kinds.{kind_of}
 use Rattle.bz_sight.specs.Effects.{TookPlace, effect_instant}
 use Rattle.bz_sight.specs.Starts.{Sees}
 use Rattle.bz_sound.specs.Calls.{Open, open_call}
@@ -12,21 +15,30 @@ use Rattle.bz_sound.specs.Memory.Moments.{IsAfterFlush}
 use Rattle.bz_story.specs.Laws.{HasBegun, Strikes, strikes, opened_after}
 use Rattle.bz_story.specs.Living.{IsLiving}
 use Rattle.bz_story.specs.Story.{Story, scene}
-use Rattle.bz_swap.specs.SwapMemory.{Swapping, doing_of, entries_of}
-use Rattle.bz_task.specs.Scene.{Scene, Waiting, Took}
+use Rattle.bz_swap.specs.SwapMemory.{Doing, Idle, Reading, Swapping, Loading, Storing, Flushing, doing_of, entries_of}
+use Rattle.bz_task.specs.Scene.{Scene, IsLawful, Waiting, Took}
 use Rattle.bz_task.specs.Swaps.{IsGoodSwap, Takes}
-use Rattle.bz_world.specs.Inside.Acted.{IsStriking}
+use Rattle.bz_world.specs.Inside.Acted.{IsStriking, StepsAt}
 use Rattle.bz_world.specs.Inside.Alone.{WaitsAlone}
 use Rattle.bz_world.specs.Inside.Kept.{IsAwake}
 use Rattle.bz_world.specs.Inside.Meant.{IsMeant}
 use Rattle.bz_world.specs.Inside.Serving.{IsServing, IsSlot, stage_in}
 use Rattle.bz_world.specs.declared.parts.Parts.{Parts}
 use Rattle.bz_world.specs.declared.serving.OpenCall.{OpenCall}
-use Rattle.bz_world.proofs.Alone.{waits-beside, waits-struck}
-use Rattle.bz_world.proofs.Meant.{meant-on}
+use Rattle.bz_lone.specs.Steps.{IsServing as Serves, effected_by, mark_of_effect}
+use Rattle.bz_lone.specs.Sum.{IsPaid}
+use Rattle.bz_machine.specs.Allowed.{counted}
+use Rattle.bz_rivals.specs.Rivals.{is_own, rivals, foreign}
+use Rattle.bz_world.specs.Inside.Alone.{untold}
+use Rattle.bz_world.specs.Inside.Paid.{errand_of}
+use Rattle.bz_world.specs.WorldView.{stepper, deadline}
+use Rattle.bz_world.proofs.Alone.{untold-by, waits-beside, waits-struck}
+use Rattle.bz_world.proofs.Lonely.{now-is}
+use Rattle.bz_world.proofs.Meant.{call-meant-on, swaps-or-merges}
+use Rattle.bz_world.proofs.Paid.{none-of, run-on, paid-here, next-is, swapless, some-moment}
 use Rattle.bz_world.proofs.Powered.{begun-in, flush-leaves}
 use Rattle.bz_world.proofs.Owners.{IsOwner, is-owner}
-use Rattle.bz_world.proofs.Staying.{SameFor, slot-stays}
+use Rattle.bz_world.proofs.Staying.{SameFor, Leaves, slot-stays}
 use Rattle.bz_world.specs.Inside.Laws.{StrikeLaws}
 
 -- a flush or an eviction opens and ends no call
@@ -127,7 +139,42 @@ module _ (b : StrikeLaws) (p : Parts) (s : ℕ) (h : IsStriking p s) where
       s refl h.takes.effect.pending (h.work.doing w ∙ h.takes.effect.pending) h.takes.effect.before h.takes.effect.done (h.unnoted s)
 
   pub struck-meant : IsMeant x later.past
-  struck-meant quiet = meant-on x.call x.task before.past later.past its.tasked.laws takes-effect.continues (its.meant quiet)
+  struck-meant = call-meant-on x before.past later.past its.tasked.laws takes-effect.continues its.meant
+
+  -- the call of a worker that serves one is open, so it is one of the workers
+  a-worker : (v : ℕ) (y : OpenCall) (t : IsServing old.config old.access old.journal kept.story old.owners.items v y) → (0 < v) × (v ≤ old.config.workers)
+  a-worker v y t = (
+    elim (cases_eq v 0) [
+      | inl e ↦ absurd (cc (kept.tabled.strangers v (inl e), t.call_open.is_open))
+      | inr ne ↦ omega (arith, ne)
+    ],
+    elim (cases_lt old.config.workers v) [
+      | inl l ↦ absurd (cc (kept.tabled.strangers v (inr l), t.call_open.is_open))
+      | inr l ↦ l
+    ],
+  )
+
+  -- what it was paid before
+  was-paid : (v : ℕ) (y : OpenCall) (t : IsServing old.config old.access old.journal kept.story old.owners.items v y) → IsPaid old.access v (errand_of y) y.task (untold old.access (doing_of old.access v)) 0 (deadline old.config v old.journal.past) (scene old.config old.journal.past kept.story v t.call_open.look.since t.opened).past
+  was-paid v y t = paid-here b.paid old kept v y t (a-worker v y t).0 (a-worker v y t).1
+
+  -- its task serves the call as far as it has come
+  serves : Serves (errand_of x) x.task before.past
+  serves = record {
+    once = λ publishes. ap is_some (sym its.call_open.effect) ∙ its.tasked.laws.once before waits publishes;
+    later = λ effected. swaps-or-merges (kind_of x.task) (let at = some-moment x.effect effected in its.meant.later at.0 at.1) (λ look. swapless b.paid.asked x.task (entries_of old.access s) owner.asks (its.tasked.laws.looks look).swaps);
+    meant = λ quiet. its.meant.meant (none-of x.effect quiet);
+  }
+
+  -- where its worker made the act by which its own swap took effect, it is paid for, and for the mark of that if there is one
+  pub own-paid : stepper (h.mark ∷ old.journal.past) ≡ Some w → IsPaid p.access w (effected_by (publishing_of x.task) (errand_of x)) x.task 1 (mark_of_effect (publishing_of x.task)) (deadline old.config w old.journal.past) later.past
+  own-paid steps = b.paid.own old.access p.access w (errand_of x) x.task (entries_of old.access s) (deadline old.config w old.journal.past) before (effect_instant old.config p.access (kept.story.at (length old.journal.past))) later.past
+      (record { laws = its.tasked.laws; good = before-seen.scene; config = sym its.tasked.config; knows = waits; asks = owner.asks; leads = took-place.swaps (omega (arith, few, kept.living.effects)) })
+      serves its.meant.fit.words
+      (next-is old.config old.journal.past h.mark kept.story after w its.call_open.look.since its.opened opened (effect_instant old.config p.access (kept.story.at (length old.journal.past))) 1 refl its.call_open.look.by_now refl takes-effect.continues)
+      (now-is kept.story.at (length old.journal.past) (effect_instant old.config p.access (kept.story.at (length old.journal.past))))
+      (let stepped : StepsAt old.access p.access w s = h.stepped w steps in record { left = stepped.left; rivals = omega (arith, stepped.rivals) })
+      (subst (λ u. IsPaid old.access w (errand_of x) x.task u 0 (deadline old.config w old.journal.past) before.past) (ap (untold old.access) h.takes.effect.pending ∙ ap (λ (z : Bool). if z then 1 else 0) h.takes.effect.before) (was-paid w x its))
 
   -- no other worker does this swap
   other-swap : (v : ℕ) → v ≢ w → (t : ℕ) → doing_of old.access v ≡ Swapping t → t ≢ s
@@ -142,13 +189,46 @@ module _ (b : StrikeLaws) (p : Parts) (s : ℕ) (h : IsStriking p s) where
     effects = λ t d. h.takes.effect.other_swaps t (other-swap v ne t d);
   }
 
-  pub others : (v : ℕ) → v ≢ w → IsSlot old.config p.access (with_mark old.journal h.mark) after old.owners.items v (get_or old.workers.items v None)
-  others v ne = slot-stays b.scenes b.stay old.config old.access p.access old.journal h.mark kept.story after old.owners.items v (get_or old.workers.items v None) living (record {
+  -- no other does it
+  not-own : (d : Doing) → ((t : ℕ) → d ≡ Swapping t → t ≢ s) → is_own d s ≡ false
+  not-own Idle ne = refl
+  not-own (Reading a) ne = refl
+  not-own (Swapping t) ne = let other : (t == s) ≡ false = let n : t ≢ s = ne t refl in grind (arith, nat_tests) in other
+  not-own (Loading a) ne = refl
+  not-own (Storing a u) ne = refl
+  not-own (Flushing line) ne = refl
+
+  lawful-other : (v : ℕ) → v ≢ w → (m : ℕ) (o : Open) → HasBegun old.journal kept.story m → IsLawful (scene old.config old.journal.past kept.story v m o) (scene old.config (h.mark ∷ old.journal.past) after v m o)
+  lawful-other v ne m o begins = b.told.others old.config old.access p.access old.journal kept.story h.mark s w its.call_open.look.since its.opened (publishing_of x.task) (change_of x.task) v m o strikes-it ne begins
+
+  -- of the worker that made the act, if that is another one, the call is paid for, and the mark of this effect too
+  pub other-paid : (v : ℕ) → v ≢ w → (y : OpenCall) (t : IsServing old.config old.access old.journal kept.story old.owners.items v y) → stepper (h.mark ∷ old.journal.past) ≡ Some v
+      → IsPaid p.access v (errand_of y) y.task (untold p.access (doing_of p.access v)) 1 (deadline old.config v (h.mark ∷ old.journal.past)) (scene old.config (h.mark ∷ old.journal.past) after v t.call_open.look.since t.opened).past
+  other-paid v ne y t steps =
+      subst (λ by. IsPaid p.access v (errand_of y) y.task (untold p.access (doing_of p.access v)) 1 by (scene old.config (h.mark ∷ old.journal.past) after v t.call_open.look.since t.opened).past) (sym (run-on old.config v h.mark old.journal.past steps))
+      (subst (λ u. IsPaid p.access v (errand_of y) y.task u 1 (deadline old.config v old.journal.past) (scene old.config (h.mark ∷ old.journal.past) after v t.call_open.look.since t.opened).past)
+      (sym (ap (untold p.access) (same-other v ne).doing ∙ untold-by old.access p.access (doing_of old.access v) (same-other v ne).effects))
+      (b.paid.foreign old.access p.access v (errand_of y) y.task (untold old.access (doing_of old.access v)) (deadline old.config v old.journal.past) (scene old.config old.journal.past kept.story v t.call_open.look.since t.opened).past
+      (scene old.config (h.mark ∷ old.journal.past) after v t.call_open.look.since t.opened).past
+      (next-is old.config old.journal.past h.mark kept.story after v t.call_open.look.since t.opened t.opened (effect_instant old.config p.access (kept.story.at (length old.journal.past))) 1 refl t.call_open.look.by_now refl
+      (lawful-other v ne t.call_open.look.since t.opened (begun-in kept.living t.call_open)).continues)
+      (h.stepped v steps).left fewer (was-paid v y t)))
+    where
+      fewer : rivals p.access v + 1 ≤ rivals old.access v
+      fewer = let l : rivals p.access v + foreign old.access v (Some s) ≤ rivals old.access v = (h.stepped v steps).rivals in
+          let one : foreign old.access v (Some s) ≡ 1 = ap (λ (z : Bool). counted (not z) 1) (not-own (doing_of old.access v) (other-swap v ne)) in omega (arith, l, one)
+
+  pub leaves : (v : ℕ) → v ≢ w → Leaves old.config old.access p.access old.journal h.mark kept.story after v
+  leaves v ne = record {
     same = same-other v ne;
     calls = flush-calls v h.mark old.journal.past h.flush;
     from = refl;
-    lawful = λ m o begins. b.told.others old.config old.access p.access old.journal kept.story h.mark s w its.call_open.look.since its.opened (publishing_of x.task) (change_of x.task) v m o strikes-it ne begins;
+    lawful = λ m o begins. lawful-other v ne m o begins;
     took = λ j. refl;
     filled = λ j e. e;
     alone = λ m o t l waits. waits-beside old.config old.access p.access old.journal.past h.mark kept.story after v m o o t (effect_instant old.config p.access (kept.story.at (length old.journal.past))) refl l waits refl (same-other v ne).doing (same-other v ne).effects;
-  }) (kept.workers v)
+  }
+
+  pub others : (v : ℕ) → v ≢ w → IsSlot old.config p.access (with_mark old.journal h.mark) after old.owners.items v (get_or old.workers.items v None)
+  others v ne = slot-stays b.scenes b.stay old.config old.access p.access old.journal h.mark kept.story after old.owners.items v (get_or old.workers.items v None) living (leaves v ne)
+      (λ y t steps. b.paid.less p.access v (errand_of y) y.task (untold p.access (doing_of p.access v)) 1 0 (deadline old.config v (h.mark ∷ old.journal.past)) (scene old.config (h.mark ∷ old.journal.past) after v t.call_open.look.since t.opened).past (omega arith) (other-paid v ne y t steps)) (kept.workers v)

@@ -1,5 +1,5 @@
 -- The effect of a swap that does not make the change of its call: the world goes on without an Effect mark.
-use Rattle.std.proofs.Common.{◌≡◌, ℕ, suc, if◌then◌else◌, false, List, [], ◌∷◌, length, slice_index, arith, refl, sym, ap, subst, ◌∙◌, inl, inr, Some, None}
+use Rattle.std.proofs.Common.{◌≡◌, Bool, ℕ, suc, if◌then◌else◌, false, List, [], ◌∷◌, length, slice_index, arith, refl, sym, ap, subst, ◌∙◌, inl, inr, Some, None}
 use Rattle.std.specs.Prelude.{get_or}
 use Rattle.std.proofs.lemmas.Bool.{cases_eq}
 use Rattle.bz_content.specs.Content.{image_fault, content_in}
@@ -20,10 +20,16 @@ use Rattle.bz_world.specs.Inside.Kept.{IsAwake, IsTabled, AreTaken}
 use Rattle.bz_world.specs.Inside.Serving.{IsServing, IsSlot, IsSwapping, stage_in}
 use Rattle.bz_world.specs.declared.parts.Parts.{Parts}
 use Rattle.bz_world.specs.Inside.Laws.{StrikeLaws}
+use Rattle.bz_lone.specs.Steps.{effected_by, mark_of_effect}
+use Rattle.bz_lone.specs.Sum.{IsPaid}
+use Rattle.bz_world.specs.Inside.Alone.{untold}
+use Rattle.bz_world.specs.Inside.Paid.{errand_of}
+use Rattle.bz_world.specs.WorldView.{deadline}
+use Rattle.bz_world.proofs.Paid.{run-on}
 use Rattle.bz_world.proofs.LonelyActs.{none-struck}
 use Rattle.bz_world.proofs.Powered.{looks-on, flush-leaves, free-on}
 use Rattle.bz_world.proofs.Staying.{told-stays, wanted-stays, finishing-stays}
-use Rattle.bz_world.proofs.Striking.{flush-calls, old, kept, w, x, its, owner, before, good, after, living, opened, took, struck-alone, struck-meant, others}
+use Rattle.bz_world.proofs.Striking.{flush-calls, old, kept, w, x, its, owner, before, good, after, living, opened, later, took, struck-alone, struck-meant, own-paid, others}
 
 module _ (b : StrikeLaws) (p : Parts) (s : ℕ) (h : IsStriking p s) where
   -- the image before and after it
@@ -91,6 +97,10 @@ module _ (b : StrikeLaws) (p : Parts) (s : ℕ) (h : IsStriking p s) where
       covered = (its b p s h).covered;
       alone = struck-alone b p s h;
       meant = struck-meant b p s h;
+      paid = λ steps. subst (λ u. IsPaid p.access (w b p s h) (errand_of (x b p s h)) (x b p s h).task u 0 (deadline (old b p s h).config (w b p s h) (h.mark ∷ (old b p s h).journal.past)) (later b p s h).past)
+          (sym (ap (untold p.access) still-does ∙ ap (λ (z : Bool). if z then 1 else 0) h.takes.effect.done))
+          (subst (λ by. IsPaid p.access (w b p s h) (errand_of (x b p s h)) (x b p s h).task 1 0 by (later b p s h).past) (sym (run-on (old b p s h).config (w b p s h) h.mark (old b p s h).journal.past steps))
+          (subst (λ z. IsPaid p.access (w b p s h) (effected_by z (errand_of (x b p s h))) (x b p s h).task 1 (mark_of_effect z) (deadline (old b p s h).config (w b p s h) (old b p s h).journal.past) (later b p s h).past) silent (own-paid b p s h steps)));
     }
 
     slots : (v : ℕ) → IsSlot (old b p s h).config p.access (with_mark (old b p s h).journal h.mark) (after b p s h) (old b p s h).owners.items v (get_or (old b p s h).workers.items v None)

@@ -32,6 +32,9 @@ use Rattle.bz_world.specs.Inside.Serving.{IsServing, IsDoing, IsSlot, stage_in}
 use Rattle.bz_world.specs.Inside.Telling.{MustStart}
 use Rattle.bz_world.specs.declared.parts.Parts.{Parts}
 use Rattle.bz_world.specs.declared.serving.OpenCall.{OpenCall}
+use Rattle.bz_lone.specs.Sum.{IsPaid}
+use Rattle.bz_world.specs.Inside.Paid.{errand_of}
+use Rattle.bz_world.specs.WorldView.{deadline}
 use Rattle.bz_world.proofs.Alone.{waits-same}
 use Rattle.bz_world.proofs.AloneStarts.{stands-now, starts-well, well-beside}
 use Rattle.bz_world.proofs.Lonely.{in-place, only-own}
@@ -118,6 +121,9 @@ module _ (lone : AloneLaws) (starts : StartsAreSeen) (scenes : ScenesAreSeen) (b
   abbrev its-scene : Scene
   its-scene = scene p.config p.journal.past was.story w was.call_open.look.since was.opened
 
+  none-yet : untold new (doing_of new w) ≡ 0
+  none-yet = ap (untold new) does ∙ ap (λ (z : Bool). if z then 1 else 0) (was.taken.unused p.access.taken (omega arith))
+
   -- while nobody else's swap took effect since its look-up began, it goes well
   waits-now : WaitsAlone new (doing_of new w) m.serving.task its-scene.past
   waits-now = record {
@@ -135,11 +141,13 @@ module _ (lone : AloneLaws) (starts : StartsAreSeen) (scenes : ScenesAreSeen) (b
       told : (others : ℕ) × HasOthers others (made_of m.serving.task) its-scene.past
       told = lone.counted m.serving.task its-scene good m.asking.facts
 
-      none-yet : untold new (doing_of new w) ≡ 0
-      none-yet = ap (untold new) does ∙ ap (λ (z : Bool). if z then 1 else 0) (was.taken.unused p.access.taken (omega arith))
-
       alone-by : told.0 ≡ 0 → IsAlone (made_of m.serving.task) its-scene.past
       alone-by none = omega (arith, told.1, none)
+
+  -- its start is paid for
+  pays : IsPaid new w (errand_of m.serving) m.serving.task 0 0 (deadline p.config w p.journal.past) its-scene.past
+  pays = lone.paid.starts p.access new w (errand_of m.serving) m.serving.task 0 (deadline p.config w p.journal.past) (todo.Swap entries) its-scene.past
+      (lone.paid.steps.swap p.access w entries) (lone.paid.rivals.swap p.access w entries) m.asking.paid
 
   serves-on : IsServing p.config new p.journal was.story owners.items w m.serving
   serves-on = record {
@@ -157,6 +165,7 @@ module _ (lone : AloneLaws) (starts : StartsAreSeen) (scenes : ScenesAreSeen) (b
     covered = m.asking.covered;
     alone = waits-now;
     meant = m.asking.meant;
+    paid = λ steps. subst (λ u. IsPaid new w (errand_of m.serving) m.serving.task u 0 (deadline p.config w p.journal.past) its-scene.past) (sym none-yet) pays;
   }
 
   -- the others do what they did
@@ -190,6 +199,7 @@ module _ (lone : AloneLaws) (starts : StartsAreSeen) (scenes : ScenesAreSeen) (b
         alone = waits-same p.access new v x.task (scene p.config p.journal.past was.story v h.call_open.look.since h.opened).past (starts-others p.access w v (Swapping p.access.taken) ne) (λ s d. refl)
             (λ s d well. well-beside p.access w s entries (other-entries s (other-begun v (Some x) h s d)) well) h.alone;
         meant = h.meant;
+        paid = λ steps. absurd (ne (was.steps v steps));
       }
         where
           same-stage : (d : Doing) → stage_in new d ≡ stage_in p.access d

@@ -21,7 +21,7 @@ use Rattle.bz_story.specs.Laws.{ScenesAreSeen}
 use Rattle.bz_swap.specs.SwapMemory.{SwapMemory, worker_of}
 use Rattle.bz_task.specs.Outcomes.{IsPath}
 use Rattle.bz_task.specs.Requests.{Hears, Tells}
-use Rattle.bz_task.specs.Scene.{Scene, IsScene, HasFilled, Waiting}
+use Rattle.bz_task.specs.Scene.{Past, Scene, IsScene, HasFilled, Waiting}
 use Rattle.bz_task.specs.declared.path.Path.{Path}
 use Rattle.bz_task.specs.declared.view.LeafView.{LeafView}
 use Rattle.bz_call.specs.declared.replies.Spent.{Spent}
@@ -35,16 +35,32 @@ use Rattle.bz_task.specs.declared.view.KeyView.{KeyView}
 use Rattle.bz_task.specs.declared.todo.Seen.TheVariants.{Start, NoSwap}
 use Rattle.bz_task.specs.declared.todo.Todo.{Todo}
 use Rattle.bz_task.specs.declared.todo.Todo.TheVariants.{Read, Finish}
-use Rattle.bz_world.specs.Inside.Acted.{IsBetween, MustTell, HasWon}
-use Rattle.bz_world.specs.Inside.Going.{MustGoOn, MustLookUp, MustTakeOn, MustRead, MustReadWhole, HadEffect, HasReadAfter, LacksSwap, known, call_in, end_in, path_in, WentOn, MayGoOnIn}
+use Rattle.bz_world.specs.Inside.Acted.{IsBetween, MustTell}
+use Rattle.bz_world.specs.Inside.Going.{MustGoOn, MustLookUp, MustLookUpAs, MustTakeOn, MustRead, MustReadWhole, HasRoomForEnd, allowed_for, HadEffect, HasReadAfter, LacksSwap, known, call_in, end_in, path_in, WentOn, MayGoOnIn}
 use Rattle.bz_world.specs.Inside.Beginning.{supply_of}
 use Rattle.bz_world.specs.Inside.Kept.{IsAwake}
 use Rattle.bz_world.specs.Inside.Laws.{AloneLaws}
 use Rattle.bz_world.specs.Inside.Lonely.{WhereLonely, IsNotLonely, IsNotLonelyIn, IsLonelyGet, HasLooked, AsksBriefly}
-use Rattle.bz_world.specs.Inside.Meant.{IsMeantFor}
+use Rattle.bz_alone.specs.Alone.{IsAlone}
+use Rattle.bz_costs.specs.Weights.{start_allows}
+use Rattle.bz_layout.specs.declared.config.Config.{Config}
+use Rattle.bz_costs.specs.Most.{most_of_leaf}
+use Rattle.bz_lone.specs.Errands.{Errand, is_read, is_freeze, after}
+use Rattle.bz_lone.specs.Prices.{coming}
+use Rattle.bz_lone.specs.Rounds.{stage_now}
+use Rattle.bz_lone.specs.Sum.{Affords, Round, Disturbed, Clean, reserve, prices_of, Spares, PaysForRound}
+use Rattle.bz_mark.specs.Log.{Log}
+use Rattle.bz_running.specs.Kinds as kinds
+use Rattle.bz_running.specs.Kinds.{kind_of}
+use Rattle.std.proofs.lemmas.Bool.{true≢false}
+use Rattle.bz_world.specs.Inside.Laws.{RoundLaws}
+use Rattle.bz_world.specs.Inside.Meant.{IsMeant}
+use Rattle.bz_world.specs.Inside.Paid.{errand_of, is_merge, crowded, IsPaidFor, HasToSpare}
+use Rattle.bz_world.specs.WorldView.{deadline}
+use Rattle.bz_world.proofs.Paid.{swaps-write, swapless}
 use Rattle.bz_world.specs.WorldView.{GoesOn, EndsFullRightly, GetsBriefly}
 use Rattle.bz_world.specs.Inside.Serving.{IsOpened, IsSlot, IsToldBy, IsWanted, MayGoOn, effect_reply}
-use Rattle.bz_world.specs.Inside.Telling.{MustStart, HasTold, HasToldIn, LacksDescriptor, KnowsWay, MustTellOf, MustStartOf, MustBegin}
+use Rattle.bz_world.specs.Inside.Telling.{MustStart, HasTold, HasToldIn, LacksDescriptor, MustTellOf, MustStartOf, MustBegin}
 use Rattle.bz_world.specs.declared.answers.Applied.{Applied}
 use Rattle.bz_world.specs.declared.answers.Applied.TheVariants as applied
 use Rattle.bz_world.specs.declared.parts.Parts.{Parts}
@@ -70,6 +86,7 @@ must-go-on p w todo m outcome ended lonely = record {
   is = m.is;
   between = m.asking.between;
   filled = (m.asking.tasked.laws.ends (scene p.config p.journal.past m.asking.between.story w m.asking.between.call_open.look.since m.asking.between.opened) outcome m.asking.facts ended).1;
+  fit = m.asking.meant.fit;
   lonely = lonely;
 }
 
@@ -102,6 +119,7 @@ lacks-told lone p w todo m lacks = record {
         (lone.scenes p.config p.access p.journal m.asking.between.story w m.asking.between.call_open.look.since m.asking.between.opened m.asking.between.living (begun-in m.asking.between.living m.asking.between.call_open)).scene
         (sym m.asking.tasked.config) m.asking.facts NoSwap refl (λ e. absurd (cc e));
     meant = m.asking.meant;
+    paid = lone.paid.less p.access w (errand_of m.serving) m.serving.task 0 (start_allows todo) 0 (deadline p.config w p.journal.past) (scene p.config p.journal.past m.asking.between.story w m.asking.between.call_open.look.since m.asking.between.opened).past (omega arith) m.asking.paid;
   };
 }
 
@@ -113,11 +131,14 @@ lacks-other p w todo then m lacks q moment free left rest asks told key get lone
     no-swap p w todo m lacks key (sym (ap (λ (z : OpenCall). z.call) heard.rest) ∙ get) (subst (IsLonely w) (ap (λ (z : Parts). z.journal.past) rest) lonely)
 
 -- and then it has ended
-pub lacks-swap : (p : Parts) (w : ℕ) (todo then : Todo) (m : MustStart p w todo) → LacksDescriptor p todo → (q : Parts) (moment : ℕ) (free left : FreeSlots) → q ≡ record p { slots = q.slots; workers = q.workers } → MustStart q w then
+pub lacks-swap : RoundLaws → (p : Parts) (w : ℕ) (todo then : Todo) (m : MustStart p w todo) → LacksDescriptor p todo → (q : Parts) (moment : ℕ) (free left : FreeSlots) → q ≡ record p { slots = q.slots; workers = q.workers } → MustStart q w then
     → HasToldIn (get_or p.workers.items w None) NoSwap moment free then (get_or q.workers.items w None) left → LacksSwap q w
-lacks-swap p w todo then m lacks q moment free left rest asks told = record {
+lacks-swap b p w todo then m lacks q moment free left rest asks told = record {
   on = must-go-on q w then asks (Full Swaps) (heard.heard.no_swap refl) (λ key get lonely. absurd (lacks-other p w todo then m lacks q moment free left rest asks told key get lonely));
   spent = ap (λ (z : Parts). z.access.taken) rest ∙ (lacks.spent ∙ sym (ap (λ (z : Parts). z.config.swaps) rest));
+  room = let l = b.afforded q.access w (errand_of asks.serving) asks.serving.task 0 (start_allows then) (deadline q.config w q.journal.past) (scene q.config q.journal.past asks.asking.between.story w asks.asking.between.call_open.look.since asks.asking.between.opened).past asks.asking.paid in omega (arith, l);
+  write = λ quiet. subst (λ (x : OpenCall). is_read x.call ≡ false) (sym heard.rest) (swaps-write m.serving.call (kind_of m.serving.task) (m.asking.meant.look (sym (ap (λ (x : OpenCall). x.effect) heard.rest) ∙ quiet))
+      (λ look. swapless b.asked m.serving.task lacks.entries (m.asking.asks ∙ ap Some lacks.is) (m.asking.tasked.laws.looks look).swaps));
 }
   where
     heard : HasTold m.serving NoSwap moment free then asks.serving left
@@ -157,6 +178,7 @@ between-tasks p w x y b workers size rest opened = record {
   opened = b.opened;
   call_open = opened;
   idle = b.idle;
+  steps = b.steps;
 }
 
 -- what stands in the table, and the call there
@@ -212,8 +234,8 @@ no-key key task looks view s means = let some : 0 < 0 = ((looks (Some bogus)).le
 -- a task that makes no change, for the call's key
 abbrev pub lookup-taken : (p : Parts) (w : ℕ) (on : MustGoOn p w) → MayGoOn on.serving → (task : AnyTask) (way : Option Path) (asked : Option Todo) (key : List ℕ) → config_of task ≡ p.config → AreLaws task → makes_no_change task ≡ true → IsLookup key way task → (way ≡ None → (other : Option Path) → IsLookup key other task) → key ≡ key_of on.serving.call
     → asks_of task ≡ asked → facts_of task Waiting (known p w on) → IsWanted p.config p.journal on.between.opened (wants_of task)
-    → WhereLonely p.journal.past w on.serving.call (IsLonelyGet p.access p.journal.past on.between.story w (record on.serving { task = task; path = way }) on.between.opened) → (on.serving.effect ≡ None → IsMeantFor on.serving.call task (known p w on).past) → MustTakeOn p w task way on.serving.had asked
-lookup-taken p w on may task way asked key config laws looks lookup wayless same asks facts wanted lonely meant = record {
+    → WhereLonely p.journal.past w on.serving.call (IsLonelyGet p.access p.journal.past on.between.story w (record on.serving { task = task; path = way }) on.between.opened) → IsMeant (record on.serving { task = task; path = way }) (known p w on).past → IsPaidFor p w (record on.serving { task = task; path = way }) 0 (allowed_for asked) (known p w on).past → MustTakeOn p w task way on.serving.had asked
+lookup-taken p w on may task way asked key config laws looks lookup wayless same asks facts wanted lonely meant paid = record {
   on = on;
   may = may;
   tasked = record { config = config; laws = laws; lookup = subst (λ k. IsLookup k way task) same lookup; change = inl looks; wayless = λ none other. subst (λ k. IsLookup k other task) same (wayless none other) };
@@ -222,6 +244,7 @@ lookup-taken p w on may task way asked key config laws looks lookup wayless same
   wanted = wanted;
   lonely = lonely;
   meant = meant;
+  paid = paid;
 }
 
 -- and one that begins once the change was made needs none either
@@ -241,32 +264,63 @@ said-alone p w on other alone slot is = record {
   between = between-tasks p w on.serving (record on.serving { alone = alone }) on.between (with_item p.workers w slot) (length-set p.workers.items w slot) (λ v ne. get_or-set_other p.workers.items w v slot None ne)
       (let o = on.between.call_open in record { is_open = o.is_open; call = o.call; effect = o.effect; look = o.look; told = o.told; wanted = o.wanted });
   filled = on.filled;
+  fit = record { words = on.fit.words; thawed = on.fit.thawed };
   lonely = λ key get lonely. absurd (other key get lonely);
 }
 
-pub said-may : (p : Parts) (w : ℕ) (m : MustLookUp p w) (alone : Bool) (slot : Option OpenCall) → slot ≡ Some (record m.on.serving { alone = alone }) → MustLookUp (record p { workers = with_item p.workers w slot }) w
+pub said-may : (p : Parts) (w : ℕ) (m : MustLookUpAs p w crowded) (alone : Bool) → alone ≡ is_merge (kind_of m.on.serving.task) → (slot : Option OpenCall) → slot ≡ Some (record m.on.serving { alone = alone }) → MustLookUp (record p { workers = with_item p.workers w slot }) w
 unfolding said-alone between-tasks
-said-may p w m alone slot is = record { on = said-alone p w m.on m.other alone slot is; may = m.may; other = m.other }
+said-may p w m alone merges slot is = record {
+  on = said-alone p w m.on m.other alone slot is;
+  may = m.may;
+  other = m.other;
+  pays = subst (λ (a : Bool). PaysForRound p.access w (record (errand_of m.on.serving) { alone = a }) (deadline p.config w p.journal.past) (known p w m.on).past) (sym merges) m.pays;
+}
 
 -- nor is whether its own freeze of its leaf was the last to end
-pub said-froze : (p : Parts) (w : ℕ) (on : MustGoOn p w) → IsNotLonely p.journal.past w on.serving.call → (froze : Bool) (slot : Option OpenCall) → slot ≡ Some (record on.serving { froze = froze }) → MustGoOn (record p { workers = with_item p.workers w slot }) w
+pub said-froze : (p : Parts) (w : ℕ) (on : MustGoOn p w) → IsNotLonely p.journal.past w on.serving.call → (froze : Bool) → (froze ≡ true → is_read on.serving.call ≡ false) → (slot : Option OpenCall) → slot ≡ Some (record on.serving { froze = froze }) → MustGoOn (record p { workers = with_item p.workers w slot }) w
 unfolding between-tasks
-said-froze p w on other froze slot is = record {
+said-froze p w on other froze thawed slot is = record {
   serving = record on.serving { froze = froze };
   is = get_or-set_same p.workers.items w slot None (omega (arith, on.between.within, on.between.tabled.places, on.between.tabled.config.workers_in_range.at_most)) ∙ is;
   between = between-tasks p w on.serving (record on.serving { froze = froze }) on.between (with_item p.workers w slot) (length-set p.workers.items w slot) (λ v ne. get_or-set_other p.workers.items w v slot None ne)
       (let o = on.between.call_open in record { is_open = o.is_open; call = o.call; effect = o.effect; look = o.look; told = o.told; wanted = o.wanted });
   filled = on.filled;
+  fit = record { words = on.fit.words; thawed = thawed };
   lonely = λ key get lonely. absurd (other key get lonely);
 }
 
-pub froze-may : (p : Parts) (w : ℕ) (m : MustLookUp p w) (froze : Bool) (slot : Option OpenCall) → slot ≡ Some (record m.on.serving { froze = froze }) → MustLookUp (record p { workers = with_item p.workers w slot }) w
+pub froze-may : (p : Parts) (w : ℕ) (m : MustLookUpAs p w after) (froze : Bool) → froze ≡ is_freeze (kind_of m.on.serving.task) → (slot : Option OpenCall) → slot ≡ Some (record m.on.serving { froze = froze }) → MustLookUp (record p { workers = with_item p.workers w slot }) w
 unfolding said-froze between-tasks
-froze-may p w m froze slot is = record { on = said-froze p w m.on m.other froze slot is; may = m.may; other = m.other }
+froze-may p w m froze freezes slot is = record {
+  on = said-froze p w m.on m.other froze (λ e. m.pays.thawed (sym freezes ∙ e)) slot is;
+  may = m.may;
+  other = m.other;
+  pays = subst (λ (f : Bool). PaysForRound p.access w (record (errand_of m.on.serving) { froze = f }) (deadline p.config w p.journal.past) (known p w m.on).past) (sym freezes) m.pays;
+}
 
-pub froze-read : (p : Parts) (w : ℕ) (path : Path) (m : MustRead p w path) (froze : Bool) (slot : Option OpenCall) → slot ≡ Some (record m.on.serving { froze = froze }) → MustRead (record p { workers = with_item p.workers w slot }) w path
+thawed-spares : (m : SwapMemory) (w : ℕ) (e : Errand) (by : ℕ) (p : Past) → Spares m w e by p (λ q. most_of_leaf + coming q e kinds.ReadWhole) → Spares m w (record e { froze = false }) by p (λ q. most_of_leaf + coming q (record e { froze = false }) kinds.ReadWhole)
+thawed-spares m w e by p s = by-round s.round s.alone s.affords
+  where
+    by-round : (r : Round) → (r ≡ Clean → IsAlone 0 p) → Affords m w e p.now by (reserve r + (most_of_leaf + coming (prices_of r e p) e kinds.ReadWhole)) → Spares m w (record e { froze = false }) by p (λ q. most_of_leaf + coming q (record e { froze = false }) kinds.ReadWhole)
+    by-round Disturbed alone a = record { round = Disturbed; alone = alone; thawed = λ f. absurd (true≢false (sym f)); affords = record { enough = a.enough } }
+    by-round Clean alone a = record { round = Clean; alone = alone; thawed = λ f. absurd (true≢false (sym f)); affords = record { enough = a.enough } }
+
+pub thawed-read : (p : Parts) (w : ℕ) (path : Path) (m : MustRead p w path) (slot : Option OpenCall) → slot ≡ Some (record m.on.serving { froze = false }) → MustRead (record p { workers = with_item p.workers w slot }) w path
 unfolding said-froze between-tasks
-froze-read p w path m froze slot is = record { on = said-froze p w m.on m.other froze slot is; may = m.may; leads = m.leads; other = m.other }
+thawed-read p w path m slot is = record {
+  on = said-froze p w m.on m.other false (λ e. absurd (true≢false (sym e))) slot is;
+  may = m.may;
+  leads = m.leads;
+  other = m.other;
+  look = m.look;
+  spares = thawed-spares p.access w (errand_of m.on.serving) (deadline p.config w p.journal.past) (known p w m.on).past m.spares;
+}
+
+-- what may come once the key was looked up is paid for, and a task ends for want of room only where there is none
+pub record IsSpared (p : Parts) (w : ℕ) (on : MustGoOn p w) (task : AnyTask) : Type 0 where
+  pub spares : HasToSpare p w on.serving (known p w on).past (λ q. coming q (errand_of on.serving) kinds.Find)
+  pub lacks : (z : Scene) → means_of task outcomes.NeedsRoom z → IsAlone 0 (known p w on).past → 0 < stage_now (errand_of on.serving) (known p w on).past
 
 module _ (p : Parts) (w : ℕ) (task : AnyTask) (had : Option (List ℕ)) (asked : Option Todo) (path : Option Path) (m : MustTakeOn p w task path had asked) (slot : Option OpenCall) (is : slot ≡ Some (record m.on.serving { task = task; path = path; had = had })) (told : IsToldBy p.config p.journal m.on.between.opened had) where
   abbrev pub next : OpenCall
@@ -302,6 +356,7 @@ module _ (p : Parts) (w : ℕ) (task : AnyTask) (had : Option (List ℕ)) (asked
       lonely = λ key get lonely. absurd (other key get lonely);
       alone = record { others = (counts-now lone).0; made = made_of task; counted = (counts-now lone).1; stands = λ ends. absurd (more ends) };
       meant = m.meant;
+      paid = subst (λ (o : Option Todo). IsPaidFor p w next 0 (allowed_for o) (known p w m.on).past) e m.paid;
     };
   }
 
@@ -323,31 +378,34 @@ module _ (p : Parts) (w : ℕ) (task : AnyTask) (had : Option (List ℕ)) (asked
       lonely = λ key get lonely. (m.lonely key get lonely, refl);
       alone = hears-now lone.counted task (known p w m.on) (known-scene lone.scenes p w m.on) (sym m.tasked.config) m.facts Start refl (λ e. absurd (cc e));
       meant = m.meant;
+      paid = subst (λ (o : Option Todo). IsPaidFor p w next 0 (allowed_for o) (known p w m.on).past) e m.paid;
     };
   }
 
   -- where the call is no lonely get
-  pub task-begins : AloneLaws → IsNotLonely p.journal.past w m.on.serving.call → asked ≡ None → MustBegin taken w
+  pub task-begins : AloneLaws → IsNotLonely p.journal.past w m.on.serving.call → asked ≡ None → makes_no_change task ≡ true → kind_of task ≢ kinds.Find → MustBegin taken w
   unfolding taken-begins between between-tasks
-  task-begins lone other e = record { tell = taken-begins lone e; other = other }
+  task-begins lone other e silent kind = record { tell = taken-begins lone e; other = other; silent = silent; kind = kind }
 
   -- and the way to its leaf is known as before
-  pub begins-knowing : (lone : AloneLaws) (e : asked ≡ None) → KnowsWay p w m.on.serving m.on.between → path ≡ m.on.serving.path → MustTellOf taken w Start
+  pub begins-knowing : (lone : AloneLaws) (e : asked ≡ None) → ((way : Path) → m.on.serving.path ≡ Some way → IsPath (key_of m.on.serving.call) way (known p w m.on).past) → m.on.serving.effect ≡ None → m.on.serving.path ≢ None → path ≡ m.on.serving.path → (pays : IsSpared p w m.on task) → MustTellOf taken w Start
   unfolding taken-begins between between-tasks
-  begins-knowing lone e k same = record {
+  begins-knowing lone e leads quiet some same pays = record {
     must = taken-begins lone e;
-    knows = record { leads = λ way is. k.leads way (sym same ∙ is); quiet = k.quiet; some = λ none. k.some (sym same ∙ none) };
+    knows = record { leads = λ way is. leads way (sym same ∙ is); quiet = quiet; some = λ none. some (sym same ∙ none); spares = pays.spares; lacks = pays.lacks };
   }
 
   -- or has just been found
-  pub begins-found : (lone : AloneLaws) (e : asked ≡ None) (found : Path) → path ≡ Some found → IsPath (key_of m.on.serving.call) found (known p w m.on).past → m.on.serving.effect ≡ None → MustTellOf taken w Start
+  pub begins-found : (lone : AloneLaws) (e : asked ≡ None) (found : Path) → path ≡ Some found → IsPath (key_of m.on.serving.call) found (known p w m.on).past → m.on.serving.effect ≡ None → (pays : IsSpared p w m.on task) → MustTellOf taken w Start
   unfolding taken-begins between between-tasks
-  begins-found lone e found at leads quiet = record {
+  begins-found lone e found at leads quiet pays = record {
     must = taken-begins lone e;
     knows = record {
       leads = λ way is. let both : Some found ≡ Some way = sym at ∙ is in let same : found ≡ way = cc both in subst (λ z. IsPath (key_of m.on.serving.call) z (known p w m.on).past) same leads;
       quiet = quiet;
       some = λ none. absurd (cc (at, none));
+      spares = pays.spares;
+      lacks = pays.lacks;
     };
   }
 
@@ -368,13 +426,15 @@ told-path (Some x) (Some y) seen moment free todo left h = ap (λ (z : OpenCall)
 told-path None slot seen moment free todo left h = absurd h
 told-path (Some x) None seen moment free todo left h = absurd h
 
--- and one that is told to begin is of such a call
-begins-by : (x : OpenCall) → MayGoOn x ⊎ HasWon x Start → MayGoOn x
-begins-by x (inl may) = may
-begins-by x (inr won) = absurd (cc won.won)
-
-pub begins-may : (p : Parts) (w : ℕ) → MustTell p w Start → MayGoOnIn (get_or p.workers.items w None)
-begins-may p w m = subst MayGoOnIn (sym m.is) (begins-by m.serving m.told.finished)
+-- a task that makes no change, and looks no key up in its leaf, does not end as it begins
+pub never-ends : (old slot : Option OpenCall) (moment : ℕ) (free : FreeSlots) (todo : Todo) (left : FreeSlots) → HasToldIn old Start moment free todo slot left → (x : OpenCall) → old ≡ Some x → makes_no_change x.task ≡ true → kind_of x.task ≢ kinds.Find → todo ≡ Finish → ⊥
+never-ends (Some y) (Some z) moment free todo left h x is silent kind ends =
+    let same : y ≡ x = cc is in
+    let none : end_of z.task ≡ None = h.heard.begins refl (subst (λ (o : OpenCall). makes_no_change o.task ≡ true) (sym same) silent) (subst (λ (o : OpenCall). kind_of o.task ≢ kinds.Find) (sym same) kind) in
+    let some : IsSome (end_of z.task) = h.laws.finish (h.heard.asked ∙ ap Some ends) in
+    cc (subst IsSome none some)
+never-ends None slot moment free todo left h x is silent kind ends = absurd h
+never-ends (Some y) None moment free todo left h x is silent kind ends = absurd h
 
 -- where its task has ended the leaf may be read whole
 abbrev pub must-read-whole : (p : Parts) (w : ℕ) (todo : Todo) (m : MustStartOf p w todo) (outcome : Outcome) → end_of m.must.serving.task ≡ Some outcome → IsNotLonely p.journal.past w m.must.serving.call → MustReadWhole p w
@@ -393,6 +453,7 @@ told-went old mid w answer new rest fewer few went = record {
   };
   full = subst (λ j. EndsFullRightly new.config j w new.journal (supply_of new)) (ap (λ (p : Parts). p.journal) rest) went.full;
   brief = subst (λ j. GetsBriefly new.config j w new.journal) (ap (λ (p : Parts). p.journal) rest) went.brief;
+  lone = subst (λ (j : Log). length new.journal.past ≤ deadline new.config w j.past) (ap (λ (p : Parts). p.journal) rest) went.lone;
   config = went.config ∙ ap (λ (p : Parts). p.config) rest;
   at_start = went.at_start ∙ ap (λ (p : Parts). p.at_start) rest;
   left_out = went.left_out ∙ ap (λ (p : Parts). p.left_out) rest;
@@ -411,12 +472,13 @@ went-anew p workers page w answer new went = record {
   left_out = went.left_out;
   others = went.others;
   brief = went.brief;
+  lone = went.lone;
 }
 
 -- or that started something
 pub went-started : (p : Parts) (workers : Vec (Option OpenCall)) (w : ℕ) (new : Parts) → IsAwake new → new ≡ record p { access = new.access; owners = new.owners; workers = workers }
-    → (new.access.taken ≡ p.access.taken) ⊎ (new.access.taken ≡ p.access.taken + 1) → ((v : ℕ) → v ≢ w → worker_of new.access v ≡ worker_of p.access v) → WentOn p w applied.Stepped new
-went-started p workers w new kept rest taken others = record {
+    → (new.access.taken ≡ p.access.taken) ⊎ (new.access.taken ≡ p.access.taken + 1) → ((v : ℕ) → v ≢ w → worker_of new.access v ≡ worker_of p.access v) → HasRoomForEnd p w → WentOn p w applied.Stepped new
+went-started p workers w new kept rest taken others room = record {
   kept = kept;
   ends = ap (λ (z : Parts). z.journal) rest;
   spends = record {
@@ -430,6 +492,7 @@ went-started p workers w new kept rest taken others = record {
   at_start = ap (λ (z : Parts). z.at_start) rest;
   left_out = ap (λ (z : Parts). z.left_out) rest;
   others = others;
+  lone = let l : length new.journal.past ≡ length p.journal.past = ap (λ (z : Parts). length z.journal.past) rest in subst (λ (c : Config). length new.journal.past ≤ deadline c w p.journal.past) (sym (ap (λ (z : Parts). z.config) rest)) (omega (arith, l, room));
 }
 
 -- for what is no swap there is always room

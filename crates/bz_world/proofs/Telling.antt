@@ -32,7 +32,15 @@ use Rattle.bz_world.specs.Inside.Alone.{HasWaited, AsksAlone}
 use Rattle.bz_world.specs.Inside.Going.{end_in, wants_in}
 use Rattle.bz_world.specs.Inside.Laws.{AloneLaws, LonelyLaws}
 use Rattle.bz_world.specs.Inside.Lonely.{WhereLonely, AsksBriefly}
-use Rattle.bz_world.specs.Inside.Meant.{IsMeantFor, IsMeant}
+use Rattle.bz_costs.specs.Weights.{start_allows}
+use Rattle.bz_lone.specs.Errands.{Errand}
+use Rattle.bz_lone.specs.Prices.{coming}
+use Rattle.bz_lone.specs.Rounds.{stage_now}
+use Rattle.bz_lone.specs.Sum.{Spares, IsPaid}
+use Rattle.bz_running.specs.Kinds as kinds
+use Rattle.bz_world.specs.Inside.Meant.{IsMeant}
+use Rattle.bz_world.specs.Inside.Paid.{errand_of, IsPaidFor}
+use Rattle.bz_world.specs.WorldView.{deadline}
 use Rattle.bz_world.specs.Inside.Serving.{IsCovered, IsToldBy, IsTasked, IsSlot, IsChangeFor, NeedsAtLeast, MayGoOn}
 use Rattle.bz_world.specs.Inside.Telling.{CanHear, HasTold, HasToldIn, MustStart, KnowsWay, MustStartOf}
 use Rattle.bz_world.specs.declared.parts.Parts.{Parts}
@@ -40,7 +48,7 @@ use Rattle.bz_world.specs.declared.serving.OpenCall.{OpenCall}
 use Rattle.bz_sound.specs.Power.Times.{image_at_on}
 use Rattle.bz_world.proofs.Alone.{cause-none}
 use Rattle.bz_world.proofs.LonelyTold.{told-lonely, took-lonely}
-use Rattle.bz_world.proofs.Meant.{meant-told}
+use Rattle.bz_world.proofs.Meant.{call-meant-told}
 use Rattle.bz_world.proofs.Powered.{begun-in}
 use Rattle.bz_world.proofs.Staying.{covered-stays, slot-scenes}
 use Rattle.bz_world.proofs.Takings.{covered-taken, may-take, no-more-free, still-free}
@@ -165,8 +173,13 @@ module _ (scenes : ScenesAreSeen) (slots : SlotsAreTaken) (laws : LonelyLaws) (l
 
     -- and it is meant for what it was
     still-meant : IsMeant y here.past
-    still-meant quiet = subst (λ (z : OpenCall). IsMeantFor z.call y.task here.past) (sym h.rest)
-        (meant-told x.call here.past x.task y.task seen (length p.journal.past) p.slots todo left h.heard (told.meant (sym (ap (λ (z : OpenCall). z.effect) h.rest) ∙ quiet)))
+    still-meant = call-meant-told x here.past seen (length p.journal.past) p.slots todo y left h told.meant
+
+    -- the start of its next act is paid for
+    still-paid : IsPaidFor p w y 0 (start_allows todo) here.past
+    still-paid = subst (λ (e : Errand). IsPaid p.access w e y.task 0 (start_allows todo) (deadline p.config w p.journal.past) here.past) (sym (ap errand_of h.rest))
+        (lone.paid.heard p.access w (errand_of x) x.task y.task seen (length p.journal.past) p.slots left todo (deadline p.config w p.journal.past) here.past h.heard told.tasked.laws h.laws told.hears
+        (λ alone. not-again (omega (arith, told.alone.counted, alone))) told.paid)
 
     living : IsLiving p.config p.access p.journal after
     living = slots.living p.config p.access p.journal told.between.story w p.slots left told.between.living (may-take p.config (image_at_on p.journal.start p.journal.past) told.between.story p.slots left told.between.free)
@@ -208,6 +221,7 @@ module _ (scenes : ScenesAreSeen) (slots : SlotsAreTaken) (laws : LonelyLaws) (l
         opened = told.between.opened;
         call_open = let o = told.between.call_open in record { is_open = o.is_open; call = o.call ∙ ap (λ (z : OpenCall). z.call) (sym h.rest); effect = o.effect ∙ ap (λ (z : OpenCall). z.effect) (sym h.rest); look = o.look; told = subst (λ (z : OpenCall). IsToldBy p.config p.journal told.between.opened z.had) (sym h.rest) o.told; wanted = λ quiet some. subst (NeedsAtLeast p.config p.journal.start p.journal.past told.between.opened) (sym h.heard.wants) (o.wanted quiet (omega (arith, some, h.heard.wants))) };
         idle = told.between.idle;
+        steps = told.between.steps;
       };
       tasked = tasked;
       asks = h.heard.asked;
@@ -220,6 +234,7 @@ module _ (scenes : ScenesAreSeen) (slots : SlotsAreTaken) (laws : LonelyLaws) (l
       lonely = lonely;
       alone = asks-alone;
       meant = still-meant;
+      paid = still-paid;
     }
 
   pub must-start : (todo : Todo) (left : FreeSlots) (old slot : Option OpenCall) → old ≡ Some x → HasToldIn old seen (length p.journal.past) p.slots todo slot left → MustStart (record p { slots = left; workers = with_item p.workers w slot }) w todo
@@ -240,5 +255,7 @@ module _ (scenes : ScenesAreSeen) (slots : SlotsAreTaken) (laws : LonelyLaws) (l
           leads = λ path is. subst (λ (z : OpenCall). IsPath (key_of z.call) path here.past) (sym n.told.rest) (k.leads path (sym (ap (λ (z : OpenCall). z.path) n.told.rest) ∙ is));
           quiet = ap (λ (z : OpenCall). z.effect) n.told.rest ∙ k.quiet;
           some = λ none. k.some (sym (ap (λ (z : OpenCall). z.path) n.told.rest) ∙ none);
+          spares = subst (λ (e : Errand). Spares p.access w e (deadline p.config w p.journal.past) here.past (λ q. coming q e kinds.Find)) (sym (ap errand_of n.told.rest)) k.spares;
+          lacks = λ z means alone. subst (λ (e : Errand). 0 < stage_now e here.past) (sym (ap errand_of n.told.rest)) (k.lacks z (n.told.heard.meant outcome.NeedsRoom z means) alone);
         };
       }

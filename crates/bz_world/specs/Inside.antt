@@ -1,6 +1,7 @@
 -- What a world keeps true of its parts, and what stands between one act and the next. Its own functions alone cite it.
 pub mod Alone
 pub mod Meant
+pub mod Paid
 pub mod Serving
 pub mod Lonely
 pub mod Kept

@@ -1,2 +1,3 @@
 pub mod WorldView
+pub mod Solo
 pub mod Inside

@@ -18,7 +18,7 @@ use Rattle.bz_layout.specs.Addresses.{words_of}
 use Rattle.bz_layout.specs.Config.{IsConfig, IsFirstOutOfRange}
 use Rattle.bz_layout.specs.Fresh.{fresh_words}
 use Rattle.bz_layout.specs.declared.config.Config.{Config}
-use Rattle.bz_layout.specs.declared.thresholds.TheConstants.{SPLIT_SLOTS}
+use Rattle.bz_layout.specs.declared.thresholds.TheConstants.{MARKS_PER_CALL, SPLIT_SLOTS}
 use Rattle.bz_mark.specs.Log.{Log, with_mark, count_begins, count_page_calls, count_page_ends}
 use Rattle.bz_mark.specs.declared.marks.Mark.{Mark}
 use Rattle.bz_mark.specs.declared.marks.Mark.TheVariants.{Begin, End, Load, Store, Cas, Flush, Evict, Cut, On, Ready, Effect}
@@ -235,6 +235,29 @@ mark_of w (act.Store a v) = Store w a v
 mark_of w (act.Cas a old new found) = Cas w a old new found
 mark_of w (act.Flush line) = Flush w line
 
+-- the worker that made the newest act, if nothing else came since but that act's effect
+abbrev pub stepper : List Mark → Option ℕ
+stepper [] = None
+stepper (Load w a v ∷ past) = Some w
+stepper (Store w a v ∷ past) = Some w
+stepper (Cas w a old new found ∷ past) = Some w
+stepper (Flush w line ∷ past) = Some w
+stepper (Effect w n ∷ past) = stepper past
+stepper (mark ∷ past) = None
+
+abbrev pub is_stepper : ℕ → Option ℕ → Bool
+is_stepper w None = false
+is_stepper w (Some v) = v == w
+
+-- how many marks there were before the run of acts in which a worker steps alone; where it did not make the newest act, all
+abbrev pub run_begin : ℕ → List Mark → ℕ
+run_begin w [] = 0
+run_begin w (mark ∷ past) = if is_stepper w (stepper (mark ∷ past)) then run_begin w past else suc (length past)
+
+-- by how many marks the call of a worker has ended, if it steps alone from the begin of its present run on
+abbrev pub deadline : Config → ℕ → List Mark → ℕ
+deadline c w past = run_begin w past + MARKS_PER_CALL * (c.workers + 2)
+
 -- at most an Effect follows, of any worker's call
 abbrev pub IsStruck : List Mark → List Mark → Type 0
 IsStruck past new = (new ≡ past) ⊎ ((w : ℕ) × ((n : ℕ) × (new ≡ Effect w n ∷ past)))
@@ -301,6 +324,9 @@ pub record Steps (old : WorldView) (w : ℕ) (answer : Applied) (new : WorldView
   pub others : (v : ℕ) → v ≢ w → flush_of new v ≡ flush_of old v
   pub apart : (v : ℕ) → v ≢ w → is_swapping new v ≡ is_swapping old v
   pub brief : GetsBriefly new.config (record old.log { past = struck }) w new.log
+  -- a worker that steps alone ends its call within so many marks, whatever the others have come to: their swaps under way, and words that
+  -- they reserved
+  pub lone : length new.log.past ≤ deadline new.config w struck
 
 -- the recovery goes on, or has ended with this act: its Ready follows directly
 abbrev pub EndsRecovery : Log → Applied → Log → Type 0

@@ -1,7 +1,7 @@
 //! One memory act of a worker, its mark, and its effect.
 ghost use Rattle.std.specs.Prelude.{◌≡◌, ◌≢◌, ◌<◌, ◌+◌, ◌^◌, length, None, Some};
 ghost use Rattle.bz_task.specs.declared.todo.Seen.{Seen};
-ghost use Rattle.bz_task.specs.declared.todo.Seen.TheVariants.{NoSwap};
+ghost use Rattle.bz_task.specs.declared.todo.Seen.TheVariants.{NoSwap, Start};
 ghost use Rattle.bz_swap.specs.Held.{Holds};
 ghost use Rattle.bz_swap.specs.SwapMemory.{Idle, doing_of};
 ghost use Rattle.bz_swap.specs.declared.phase.Phase.TheVariants.{Recovering};
@@ -60,6 +60,8 @@ pub(crate) fn act(parts: &mut Parts, w: u8) -> Option<Seen>
     ensures told { (seen : Seen) → result ≡ Some seen → MustTell parts.new w seen }
     // a descriptor was there
     ensures swaps { result ≢ Some NoSwap }
+    // a task is not told to begin by an act
+    ensures begun { result ≢ Some Start }
     ensures made { HasActed parts.old w parts.new }
     // it takes no descriptor
     ensures taken { parts.new.access.taken ≡ parts.old.access.taken }

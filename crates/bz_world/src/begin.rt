@@ -8,6 +8,7 @@ use crate::answers::{Begun, LimitKind};
 use crate::calls::key_of;
 use crate::laws::{end_laws, start_laws};
 use crate::parts::Parts;
+use crate::room::asks_little;
 use crate::serving::OpenCall;
 use bz_call::Call;
 use bz_layout::ROOT_STATUS_AT;
@@ -69,6 +70,7 @@ fn open_call(parts: &mut Parts, w: u8, call: Call) -> u32
 {
     end_laws();
     start_laws();
+    asks_little(&call);
     let n = parts.numbers[w as usize] + 1;
     let task = AnyTask::seek(&parts.config, key_of(&call));
     task.laws();

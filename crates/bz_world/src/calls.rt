@@ -1,9 +1,9 @@
 //! What a served call asks for, and how far it has come.
-ghost use Rattle.std.specs.Prelude.{◌≡◌, ◌↔◌, IsTrue, IsSome, IfSome, Some};
+ghost use Rattle.std.specs.Prelude.{◌≡◌, ◌↔◌, true, IsTrue, IsSome, IfSome, Some};
 ghost use Rattle.bz_call.specs.Map.{key_of as key_in};
 ghost use Rattle.bz_sound.specs.Memory.Replies.{IsWrite};
 ghost use Rattle.bz_task.specs.declared.todo.Todo.TheVariants.{Finish};
-ghost use Rattle.bz_world.specs.Inside.Going.{call_in, end_in, asks_in, path_in as way_in, had_in as payload_in, effect_in as moment_in, froze_in, CanGoUpIn, GoesUpIn, with_task, with_change, with_alone, with_froze};
+ghost use Rattle.bz_world.specs.Inside.Going.{call_in, end_in, asks_in, path_in as way_in, had_in as payload_in, effect_in as moment_in, froze_in, alone_in, freezes_in, merges_in, DeletesIn, CanGoUpIn, MayGoUpIn, StandsBelowIn, GoesUpIn, with_task, with_change, with_alone, with_froze};
 
 use crate::serving::OpenCall;
 use bz_call::Call;
@@ -92,7 +92,9 @@ pub(crate) fn had_in(slot: &Option<OpenCall>) -> Option<Payload>
 /// The split of the node above, where its split lacked the room there.
 pub(crate) fn above(slot: &Option<OpenCall>, config: &Config) -> Option<AnyTask>
     requires { CanGoUpIn slot.now config.now }
-    ensures { IfSome result (GoesUpIn slot.now) }
+    ensures up { IfSome result (GoesUpIn slot.now) }
+    ensures due { MayGoUpIn slot.now → IsSome result }
+    ensures stands { StandsBelowIn slot.now }
 {
     match slot {
         Some(serving) => serving.task.above(config),
@@ -111,7 +113,9 @@ pub(crate) fn effect_in(slot: &Option<OpenCall>) -> Option<u32>
 }
 
 /// Whether its leaf is to be copied alone.
-pub(crate) fn is_alone(slot: &Option<OpenCall>) -> bool {
+pub(crate) fn is_alone(slot: &Option<OpenCall>) -> bool
+    ensures { result ≡ alone_in slot.now }
+{
     match slot {
         Some(serving) => serving.alone,
         None => false,
@@ -129,7 +133,10 @@ pub(crate) fn has_frozen(slot: &Option<OpenCall>) -> bool
 }
 
 /// Whether its task freezes its leaf.
-pub(crate) fn is_freezing(slot: &Option<OpenCall>) -> bool {
+#[tactic(auto, unfolding(bz_running::specs::Kinds::kind_of))]
+pub(crate) fn is_freezing(slot: &Option<OpenCall>) -> bool
+    ensures { result ≡ freezes_in slot.now }
+{
     match slot {
         Some(serving) => matches!(serving.task, AnyTask::Freezing(_)),
         None => false,
@@ -137,7 +144,10 @@ pub(crate) fn is_freezing(slot: &Option<OpenCall>) -> bool {
 }
 
 /// Whether its task merges its leaf.
-pub(crate) fn is_merging(slot: &Option<OpenCall>) -> bool {
+#[tactic(auto, unfolding(bz_running::specs::Kinds::kind_of))]
+pub(crate) fn is_merging(slot: &Option<OpenCall>) -> bool
+    ensures { result ≡ merges_in slot.now }
+{
     match slot {
         Some(serving) => matches!(serving.task, AnyTask::Merging(_)),
         None => false,
@@ -145,7 +155,9 @@ pub(crate) fn is_merging(slot: &Option<OpenCall>) -> bool {
 }
 
 /// Whether its task is a delete that leaves so little in its leaf, below a parent, that this may be merged.
-pub(crate) fn leaves_few(slot: &Option<OpenCall>) -> bool {
+pub(crate) fn leaves_few(slot: &Option<OpenCall>) -> bool
+    ensures { result ≡ true → DeletesIn slot.now }
+{
     match slot {
         Some(serving) => is_deep(&serving.path) && serving.task.leaves_few(),
         None => false,

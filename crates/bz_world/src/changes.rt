@@ -1,9 +1,10 @@
 //! The changes of records: what a leaf has decides whether a call makes one.
-ghost use Rattle.std.specs.Prelude.{◌≡◌, ◌<◌, true, None, Some, length, get_or};
+ghost use Rattle.std.specs.Prelude.{◌≡◌, ◌≢◌, ◌<◌, true, false, None, Some, length, get_or};
 ghost use Rattle.bz_call.specs.declared.calls.Call.TheVariants as called;
 ghost use Rattle.bz_task.specs.Outcomes.{payload_of};
 ghost use Rattle.bz_task.specs.declared.todo.Outcome.TheVariants.{NeedsRoom};
-ghost use Rattle.bz_world.specs.Inside.Going.{MustAnswerKey, MustReadWhole, MustChange, MustInsert, MustUpdate, MustDelete, WentOn, call_in, end_in};
+ghost use Rattle.bz_task.specs.declared.todo.Todo.TheVariants.{Finish};
+ghost use Rattle.bz_world.specs.Inside.Going.{MustAnswerKey, MustReadCrowded, MustChange, MustInsert, MustUpdate, MustDelete, WentOn, call_in, end_in};
 ghost use Rattle.bz_world.specs.Inside.Lonely.{IsNotLonelyIn};
 ghost use Rattle.bz_world.specs.Inside.Telling.{MustStartOf};
 
@@ -11,7 +12,7 @@ use crate::answers::Applied;
 use crate::calls::{ended_in, found_path, set_change};
 use crate::end::end;
 use crate::going::go_on;
-use crate::laws::{alone_laws, answer_laws, start_laws};
+use crate::laws::{alone_laws, answer_laws, round_laws, start_laws};
 use crate::lookups::read_leaf;
 use crate::parts::Parts;
 use crate::serving::OpenCall;
@@ -23,7 +24,8 @@ use bz_task::{KeyView, Outcome, Seen, Todo};
 
 // Whether a task ended because its leaf is frozen or lacks the words.
 fn needs_room(slot: &Option<OpenCall>) -> bool
-    ensures { result ≡ true → end_in slot.now ≡ Some NeedsRoom }
+    ensures needs { result ≡ true → end_in slot.now ≡ Some NeedsRoom }
+    ensures goes { result ≡ false → end_in slot.now ≢ Some NeedsRoom }
 {
     match ended_in(slot) {
         Some(Outcome::NeedsRoom) => true,
@@ -33,7 +35,7 @@ fn needs_room(slot: &Option<OpenCall>) -> bool
 
 // Reads the leaf of a change whole, which has no room for it.
 fn read_whole(parts: &mut Parts, w: u8) -> Applied
-    requires way { MustReadWhole parts.old w }
+    requires way { MustReadCrowded parts.old w }
     requires room { length parts.old.journal.past < parts.old.config.marks }
     ensures { WentOn parts.old w result parts.new }
 {
@@ -44,10 +46,12 @@ fn read_whole(parts: &mut Parts, w: u8) -> Applied
 // Goes on with a change that was told to begin. Where its leaf is frozen or lacks the room, the leaf is read whole, to be made anew.
 fn go_on_changing(parts: &mut Parts, w: u8, todo: Todo) -> Applied
     requires asks { MustStartOf parts.old w todo }
+    requires ends { todo ≡ Finish → end_in (get_or parts.old.workers.items w None) ≡ Some NeedsRoom }
     requires other { IsNotLonelyIn parts.old.journal.past w (get_or parts.old.workers.items w None) }
     requires room { length parts.old.journal.past < parts.old.config.marks }
     ensures { WentOn parts.old w result parts.new }
 {
+    round_laws();
     if needs_room(&parts.workers[w as usize]) {
         read_whole(parts, w)
     } else {

@@ -1,14 +1,14 @@
 //! How a call goes on when its task has ended, or asks for something.
-ghost use Rattle.std.specs.Prelude.{◌≡◌, ◌<◌, ◌≤◌, ◌+◌, false, None, Some, get_or, length};
+ghost use Rattle.std.specs.Prelude.{◌≡◌, ◌≢◌, ◌<◌, ◌≤◌, ◌+◌, false, None, Some, get_or, length};
 ghost use Rattle.bz_task.specs.declared.todo.Todo.TheVariants.{Finish};
 ghost use Rattle.bz_call.specs.Pages.{names_page};
-ghost use Rattle.bz_world.specs.Inside.Going.{MustLookUp, MayGoOnIn, HadEffect, LacksSwap, IsShort, WentOn, end_in, needs_in};
+ghost use Rattle.bz_world.specs.Inside.Going.{MustLookUp, HadEffect, LacksSwap, IsShort, WentOn, end_in, needs_in};
 ghost use Rattle.bz_world.specs.Inside.Lonely.{IsNotLonelyIn};
 ghost use Rattle.bz_world.specs.Inside.Serving.{effect_reply as reply_in};
 ghost use Rattle.bz_world.specs.Inside.Telling.{MustBegin, MustStart};
 
 use crate::answers::Applied;
-use crate::calls::{called, effect_in, ended_in, had_in, is_write, key_of, set_task};
+use crate::calls::{called, effect_in, ended_in, had_in, key_of, set_task};
 use crate::end::end;
 use crate::laws::{alone_laws, start_laws};
 use crate::parts::Parts;
@@ -60,7 +60,7 @@ pub(crate) fn end_effective(parts: &mut Parts, w: u8, at: u32) -> Applied
     end(parts, w, effect_reply(&call, had), at)
 }
 
-/// Ends a call without effect for want of what was spent.
+/// Ends a call without effect, which makes a change, for want of what was spent.
 pub(crate) fn end_full(parts: &mut Parts, w: u8, spent: Spent) -> Applied
     requires short { IsShort parts.old w spent }
     requires other { IsNotLonelyIn parts.old.journal.past w (get_or parts.old.workers.items w None) }
@@ -69,13 +69,8 @@ pub(crate) fn end_full(parts: &mut Parts, w: u8, spent: Spent) -> Applied
     ensures slots { parts.new.slots ≡ parts.old.slots }
 {
     bz_sound::power_laws::spent_answers_full();
-    let call = called(&parts.workers[w as usize]);
-    if is_write(&call) {
-        let now = parts.journal.length();
-        end(parts, w, Reply::Full(spent), now)
-    } else {
-        look_up(parts, w)
-    }
+    let now = parts.journal.length();
+    end(parts, w, Reply::Full(spent), now)
 }
 
 // Ends a call for want of a descriptor.
@@ -104,20 +99,15 @@ pub(crate) fn outcome_of(parts: &Parts, w: u8) -> Outcome
     }
 }
 
-/// Starts what a task asks for; where it has ended at once, its call is looked up again.
+/// Starts what a task asks for, which has not ended.
 pub(crate) fn go_on(parts: &mut Parts, w: u8, todo: Todo) -> Applied
     requires asks { MustStart parts.old w todo }
-    requires may { MayGoOnIn (get_or parts.old.workers.items w None) }
-    requires other { todo ≡ Finish → IsNotLonelyIn parts.old.journal.past w (get_or parts.old.workers.items w None) }
+    requires more { todo ≢ Finish }
     requires room { length parts.old.journal.past < parts.old.config.marks }
     ensures went { WentOn parts.old w result parts.new }
     // no more slots are gone than its task was still to take
     ensures few { length parts.old.slots.free ≤ length parts.new.slots.free + needs_in (get_or parts.old.workers.items w None) }
 {
-    if matches!(todo, Todo::Finish) {
-        let _ = outcome_of(parts, w);
-        return look_up(parts, w);
-    }
     if start(parts, w, todo) {
         Applied::Stepped
     } else {

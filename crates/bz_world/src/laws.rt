@@ -1,10 +1,14 @@
 //! The laws on which the world's acts stand, from the crates below. Each function does nothing.
-ghost use Rattle.bz_world.specs.Inside.Laws.{AloneLaws, BegunLaws, LonelyLaws, StepLaws, StrikeLaws, StartLaws, EndLaws, AnswerLaws};
+ghost use Rattle.bz_world.specs.Inside.Laws.{AloneLaws, BegunLaws, LonelyLaws, PaidLaws, RoundLaws, StepLaws, StrikeLaws, StartLaws, EndLaws, AnswerLaws};
 
 use bz_alone::laws as alone;
+use bz_costs::laws as costs;
+use bz_lone::laws as lone;
 use bz_rivals::laws as rivals;
+use bz_rounds::laws as rounds;
 use bz_sight::laws as sight;
 use bz_sound::{memory_laws as calls, power_laws as sound};
+use bz_stage::laws as stage;
 use bz_story::laws as story;
 use bz_swap::laws as swap;
 
@@ -30,6 +34,52 @@ pub(crate) fn lonely_laws()
     story::scenes_are_seen();
 }
 
+/// Those by which the call of a worker that steps alone is paid for.
+pub(crate) fn paid_laws()
+    ensures { PaidLaws }
+{
+    costs::lone_calls_are_affordable();
+    lone::any_call_is_paid();
+    lone::any_round_is_paid();
+    lone::quiet_steps_are_paid();
+    lone::foreign_effects_are_paid();
+    lone::effect_marks_are_paid();
+    lone::less_is_paid();
+    lone::own_effects_are_paid();
+    lone::hearings_are_paid();
+    lone::starts_are_paid();
+    costs::asked_swaps_are_counted();
+    rivals::rivals_fall();
+    swap::lone_steps_are_allowed();
+}
+
+/// Those of what comes after a task.
+pub(crate) fn round_laws()
+    ensures { RoundLaws }
+{
+    lone::less_is_spared();
+    lone::ends_are_afforded();
+    lone::ends_are_paid();
+    lone::ways_are_paid();
+    lone::changes_are_paid();
+    lone::leaves_are_read();
+    lone::read_leaves_are_paid();
+    lone::tasks_may_begin();
+    lone::rounds_begin();
+    lone::disturbed_rounds_are_paid();
+    lone::ends_leave_a_round();
+    lone::renewals_are_paid();
+    lone::ascents_are_paid();
+    costs::asked_swaps_are_counted();
+    rounds::lone_views_tell_the_leaf();
+    rounds::lone_views_tell_the_stage();
+    rounds::lone_key_views_tell_the_stage();
+    rounds::lone_leaves_are_due();
+    rounds::lone_ascents_are_due();
+    rounds::lone_ascents_are_below_the_stage();
+    stage::lacking_leaves_say();
+}
+
 /// Those of a worker that is alone.
 pub(crate) fn alone_laws()
     ensures { AloneLaws }
@@ -40,6 +90,8 @@ pub(crate) fn alone_laws()
     rivals::own_swaps_win();
     rivals::expected_stand();
     story::scenes_are_seen();
+    paid_laws();
+    round_laws();
 }
 
 /// Those of an act without effect.
@@ -72,6 +124,7 @@ pub(crate) fn strike_laws()
     ensures { StrikeLaws }
 {
     lonely_laws();
+    paid_laws();
     sight::effects_take_place();
     sight::acts_pass();
     story::scenes_are_seen();

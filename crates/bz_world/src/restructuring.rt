@@ -121,6 +121,7 @@ fn make_anew(parts: &mut Parts, w: u8, path: Path, view: &LeafView) -> Applied
     requires room { length parts.old.journal.past < parts.old.config.marks }
     ensures { WentOn parts.old w result parts.new }
 {
+    start_laws();
     if !is_due(&path, view) {
         look_up(parts, w)
     } else if live_words(view) <= SPLIT_ABOVE {

@@ -1,5 +1,7 @@
 //! Whether a leaf has room for the change of a call.
-ghost use Rattle.std.specs.Prelude.{◌≡◌, ◌<◌, ◌^◌, true, false};
+ghost use Rattle.std.specs.Prelude.{◌≡◌, ◌+◌, ◌<◌, ◌≤◌, ◌^◌, true, false};
+ghost use Rattle.bz_layout.specs.declared.thresholds.TheConstants.{LEAF_RECORD_WORDS, RECORD_WORDS};
+ghost use Rattle.bz_lone.specs.Errands.{words_asked};
 ghost use Rattle.bz_record.specs.Records.{words_for, HasRoom, LacksRoom};
 ghost use Rattle.bz_world.specs.Inside.Room.{LacksRoomFor, HasRoomFor};
 
@@ -35,5 +37,30 @@ pub(crate) fn lacks_room(call: &Call, view: &LeafView) -> bool
         }
         Call::Delete(_) => view.is_frozen(),
         Call::Get(_) | Call::Page(_) => false,
+    }
+}
+
+// A record of a key and a payload has few words.
+fn has_few_words(key: Key, payload: Payload)
+    ensures { words_for key payload ≤ RECORD_WORDS }
+{
+    let record = NewRecord {
+        slot: 0,
+        status: 0,
+        key,
+        payload,
+    };
+    let _words = record.size();
+}
+
+/// A call asks its leaf for no more words than a record may have, and one more. This does nothing.
+pub(crate) fn asks_little(call: &Call)
+    ensures { words_asked call.now ≤ LEAF_RECORD_WORDS + 1 }
+{
+    match call {
+        Call::Insert(key, payload) | Call::Update(key, payload) | Call::Upsert(key, payload) => {
+            has_few_words(*key, *payload)
+        }
+        Call::Delete(_) | Call::Get(_) | Call::Page(_) => {}
     }
 }

@@ -1,9 +1,11 @@
 //! What comes of the end of a task: the next task of its call, or its reply.
-ghost use Rattle.std.specs.Prelude.{◌≡◌, ◌<◌, None, Some, length, get_or};
+ghost use Rattle.std.specs.Prelude.{◌≡◌, ◌<◌, false, None, Some, length, get_or};
 ghost use Rattle.bz_call.specs.declared.calls.Call.TheVariants as called;
 ghost use Rattle.bz_task.specs.declared.todo.Outcome.TheVariants.{Full, NeedsRoom};
 ghost use Rattle.bz_task.specs.declared.todo.Todo.TheVariants.{Finish};
-ghost use Rattle.bz_world.specs.Inside.Going.{MustAnswer, MustAnswerKey, MustFind, HasEnded, HasEndedAfter, HasReadAfter, IsFullRightly, HasNotLackedSwaps, MustLookUp, WentOn, call_in};
+ghost use Rattle.bz_world.specs.Inside.Going.{MustAnswer, MustAnswerKey, MustFind, HasEnded, HasEndedAfter, HasReadAfter, IsFullRightly, HasNotLackedSwaps, HasNotLackedRoom, MustLookUpAs, LooksUpIn, WentOn, call_in, froze_in};
+ghost use Rattle.bz_world.specs.Inside.Paid.{crowded};
+ghost use Rattle.bz_lone.specs.Errands.{after};
 ghost use Rattle.bz_world.specs.Inside.Telling.{MustStart, MustStartFound};
 
 use crate::answers::Applied;
@@ -14,7 +16,7 @@ use crate::calls::{
 use crate::changes::{answer_delete, answer_insert, answer_update, answer_upsert};
 use crate::end::{end, end_page};
 use crate::going::{end_effective, end_full, go_on, look_up, outcome_of};
-use crate::laws::{answer_laws, start_laws};
+use crate::laws::{answer_laws, round_laws, start_laws};
 use crate::lookups::{read_frozen, read_leaf};
 use crate::parts::Parts;
 use crate::restructuring::{merge, restructure, split_above};
@@ -67,7 +69,7 @@ fn answer(parts: &mut Parts, w: u8, view: &KeyView) -> Applied
         Call::Update(key, payload) => answer_update(parts, w, view, key, payload),
         Call::Upsert(key, payload) => answer_upsert(parts, w, view, key, payload),
         // a page reads its leaf whole
-        Call::Page(_) => look_up(parts, w),
+        Call::Page(_) => unreachable!(),
     }
 }
 
@@ -77,6 +79,7 @@ fn settle_found(parts: &mut Parts, w: u8) -> Applied
     requires room { length parts.old.journal.past < parts.old.config.marks }
     ensures { WentOn parts.old w result parts.new }
 {
+    round_laws();
     match outcome_of(parts, w) {
         Outcome::Key(view) => answer(parts, w, &view),
         _ => look_up(parts, w),
@@ -98,6 +101,8 @@ fn go_on_finding(parts: &mut Parts, w: u8, todo: Todo) -> Applied
 // Looks the call's key up there.
 fn find_key(parts: &mut Parts, w: u8, path: Path) -> Applied
     requires path { MustFind parts.old w path }
+    requires thawed { froze_in (get_or parts.old.workers.items w None) ≡ false }
+    requires look { LooksUpIn (get_or parts.old.workers.items w None) }
     requires room { length parts.old.journal.past < parts.old.config.marks }
     ensures { WentOn parts.old w result parts.new }
 {
@@ -118,6 +123,7 @@ fn look_into(parts: &mut Parts, w: u8, path: Path) -> Applied
     requires room { length parts.old.journal.past < parts.old.config.marks }
     ensures { WentOn parts.old w result parts.new }
 {
+    round_laws();
     if has_frozen(&parts.workers[w as usize]) {
         return read_frozen(parts, w, path);
     }
@@ -137,13 +143,16 @@ fn answer_whole(parts: &mut Parts, w: u8, view: &LeafView) -> Applied
     requires room { length parts.old.journal.past < parts.old.config.marks }
     ensures { WentOn parts.old w result parts.new }
 {
+    start_laws();
     match called(&parts.workers[w as usize]) {
         Call::Page(from) => answer_page(parts, w, view, &from),
+        // a get looks its key up
+        Call::Get(_) => unreachable!(),
         call => {
             if lacks_room(&call, view) {
                 restructure(parts, w, view)
             } else {
-                look_up(parts, w)
+                look_up_frozen(parts, w)
             }
         }
     }
@@ -167,7 +176,7 @@ fn settle_full(parts: &mut Parts, w: u8, spent: Spent) -> Applied
 
 // Looks the call's key up again. Where its leaf was to be merged, no neighbour had room for it, and it is copied then.
 fn look_up_alone(parts: &mut Parts, w: u8) -> Applied
-    requires { MustLookUp parts.old w }
+    requires { MustLookUpAs parts.old w crowded }
     ensures { WentOn parts.old w result parts.new }
 {
     let alone = is_merging(&parts.workers[w as usize]);
@@ -177,7 +186,7 @@ fn look_up_alone(parts: &mut Parts, w: u8) -> Applied
 
 // Looks the call's key up again. Where it has just frozen its leaf itself, which has no room for it then, it reads that whole.
 fn look_up_frozen(parts: &mut Parts, w: u8) -> Applied
-    requires { MustLookUp parts.old w }
+    requires { MustLookUpAs parts.old w after }
     ensures { WentOn parts.old w result parts.new }
 {
     let froze = is_freezing(&parts.workers[w as usize]);
@@ -192,6 +201,7 @@ fn settle_crowded(parts: &mut Parts, w: u8) -> Applied
     requires room { length parts.old.journal.past < parts.old.config.marks }
     ensures { WentOn parts.old w result parts.new }
 {
+    start_laws();
     match above(&parts.workers[w as usize], &parts.config) {
         Some(task) => split_above(parts, w, task),
         None => look_up_alone(parts, w),
@@ -204,6 +214,7 @@ fn settle_quiet(parts: &mut Parts, w: u8, outcome: Outcome) -> Applied
     requires room { length parts.old.journal.past < parts.old.config.marks }
     ensures { WentOn parts.old w result parts.new }
 {
+    round_laws();
     match outcome {
         Outcome::Path(path) => look_into(parts, w, path),
         Outcome::Key(view) => answer(parts, w, &view),
@@ -221,6 +232,7 @@ fn settle_small(parts: &mut Parts, w: u8, at: u32, view: &LeafView) -> Applied
     requires room { length parts.old.journal.past < parts.old.config.marks }
     ensures { WentOn parts.old w result parts.new }
 {
+    round_laws();
     let Some(path) = path_in(&parts.workers[w as usize]) else {
         return end_effective(parts, w, at);
     };
@@ -239,6 +251,7 @@ fn settle_effective(parts: &mut Parts, w: u8, at: u32, outcome: Outcome) -> Appl
     requires room { length parts.old.journal.past < parts.old.config.marks }
     ensures { WentOn parts.old w result parts.new }
 {
+    round_laws();
     let call = called(&parts.workers[w as usize]);
     let Call::Delete(_) = call else {
         return end_effective(parts, w, at);
@@ -262,9 +275,11 @@ pub(crate) fn settle(parts: &mut Parts, w: u8) -> Applied
     requires ends { MustStart parts.old w Finish }
     requires full { IsFullRightly parts.old w }
     requires swaps { HasNotLackedSwaps parts.old w }
+    requires crowded { HasNotLackedRoom parts.old w }
     requires room { length parts.old.journal.past < parts.old.config.marks }
     ensures { WentOn parts.old w result parts.new }
 {
+    round_laws();
     let outcome = outcome_of(parts, w);
     match effect_in(&parts.workers[w as usize]) {
         Some(at) => settle_effective(parts, w, at, outcome),

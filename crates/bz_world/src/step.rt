@@ -4,7 +4,7 @@ ghost use Rattle.bz_layout.specs.Addresses.{words_of};
 ghost use Rattle.bz_sound.specs.Calls.{open_call};
 ghost use Rattle.bz_world.specs.Inside.Acted.{IsEvicted};
 ghost use Rattle.bz_world.specs.Inside.Beginning.{world_view};
-ghost use Rattle.bz_world.specs.Inside.Going.{IsFullRightly, HasNotLackedSwaps, WentOn};
+ghost use Rattle.bz_world.specs.Inside.Going.{IsFullRightly, HasNotLackedSwaps, HasNotLackedRoom, WentOn};
 ghost use Rattle.bz_world.specs.Inside.Kept.{IsAwake, IsKept};
 ghost use Rattle.bz_world.specs.WorldView.{idle_refusal, Steps, Evicts, IsApplied};
 ghost use Rattle.bz_world.specs.Inside.Telling.{MustStart};
@@ -30,6 +30,7 @@ fn follow(parts: &mut Parts, w: u8, todo: Todo) -> Applied
     requires asks { MustStart parts.old w todo }
     requires full { IsFullRightly parts.old w }
     requires swaps { HasNotLackedSwaps parts.old w }
+    requires crowded { HasNotLackedRoom parts.old w }
     requires room { length parts.old.journal.past < parts.old.config.marks }
     ensures { WentOn parts.old w result parts.new }
 {

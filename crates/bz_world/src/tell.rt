@@ -1,8 +1,8 @@
 //! Telling a worker's task what came of what it asked for.
 ghost use Rattle.std.specs.Prelude.{◌≡◌, ◌≢◌, ◌<◌, None, get_or, length};
-ghost use Rattle.bz_task.specs.declared.todo.Seen.TheVariants.{NoSwap};
+ghost use Rattle.bz_task.specs.declared.todo.Seen.TheVariants.{NoSwap, Start};
 ghost use Rattle.bz_world.specs.Inside.Acted.{MustTell};
-ghost use Rattle.bz_world.specs.Inside.Going.{IsFullRightly, HasNotLackedSwaps};
+ghost use Rattle.bz_world.specs.Inside.Going.{IsFullRightly, HasNotLackedSwaps, HasNotLackedRoom};
 ghost use Rattle.bz_world.specs.Inside.Telling.{CanHear, HasToldIn, MustStart, MustTellOf, MustStartOf};
 
 use crate::laws::{alone_laws, lonely_laws};
@@ -37,6 +37,8 @@ pub(crate) fn tell(parts: &mut Parts, w: u8, seen: Seen) -> Todo
     ensures full { IsFullRightly parts.new w }
     // and for want of a descriptor only where it is told so
     ensures swaps { seen ≢ NoSwap → HasNotLackedSwaps parts.new w }
+    // and a change for want of room only as it begins
+    ensures crowded { seen ≢ Start → HasNotLackedRoom parts.new w }
     // the way to the leaf of its call is known as before
     ensures knows { MustTellOf parts.old w seen → MustStartOf parts.new w result }
     ensures rest { parts.new ≡ record parts.old { slots = parts.new.slots; workers = parts.new.workers } }

@@ -1,5 +1,5 @@
 //! Worlds.
-ghost use Rattle.std.specs.Prelude.{IsTrue, ◌↔◌, ◌≡◌, ◌≢◌, ◌<◌, ◌≤◌, OnOk, IfOk, length, IfErr, None, ℕ, false, slice_index};
+ghost use Rattle.std.specs.Prelude.{IsTrue, ◌↔◌, ◌≡◌, ◌≢◌, ◌<◌, ◌≤◌, OnOk, IfOk, length, IfErr, None, ℕ, true, false, slice_index};
 ghost use Rattle.bz_content.specs.Content.{image_fault};
 ghost use Rattle.bz_layout.specs.Addresses.{words_of as size_of};
 ghost use Rattle.bz_layout.specs.Config.{IsConfig};
@@ -10,6 +10,7 @@ ghost use Rattle.bz_sound.specs.Power.Calls.{MayAct};
 ghost use Rattle.bz_sound.specs.Power.Sound.{IsSound};
 ghost use Rattle.bz_sound.specs.Power.Laws.{IsUnbroken};
 ghost use Rattle.bz_sound.specs.Memory.Sound as before;
+ghost use Rattle.bz_world.specs.declared.answers.Applied.TheVariants as applied;
 
 use crate::answers::{Applied, Begun, BootError, Event, OpenError};
 use crate::begin::begin;
@@ -25,6 +26,14 @@ use bz_mark::Journal;
 use bz_sound::Power;
 use std::alloc::Global;
 use std::marker::Model;
+
+// Whether a call goes on after a step.
+fn goes_on(answer: &Applied) -> bool
+    ensures goes { result ≡ true → answer.now ≡ applied.Stepped }
+    ensures stops { result ≡ false → answer.now ≢ applied.Stepped }
+{
+    matches!(answer, Applied::Stepped)
+}
 
 /// A memory, the workers that use it, and the journal of what happened. It takes no memory after its opening.
 #[derive(Drop)]
@@ -46,6 +55,7 @@ impl Model for World {
 
 impl World {
     ghost use Rattle.bz_world.specs.WorldView.{WorldView, IsWorker, new_view, image_view, IsOpenFault, IsBootFault, power_in, begin_answer, after_begin, flush_of, open_number, reply_of, pairs_in, recovery_acts, recovery_most, AreFinishing, IsApplied};
+    ghost use Rattle.bz_world.specs.Solo.{RunsAlone};
 
     /// A world over fresh memory, in which nothing has happened.
     pub fn open(alloc: Global, config: &Config) -> Result<World, OpenError>
@@ -88,6 +98,19 @@ impl World {
             Event::Cut => cut(&mut self.parts),
             Event::On => power_on(&mut self.parts),
         }
+    }
+
+    /// Makes steps of a worker until its call has ended, and answers that; or until another answer comes. A worker that has an open call, with
+    /// the power on, ends it so, whatever the others have come to: within a number of marks that the configuration tells, and
+    /// with a limit only where the journal has fewer than three places left.
+    pub fn solo(&mut self, w: u8) -> Applied
+        ensures { RunsAlone self.old w result self.new }
+    {
+        let mut answer = Applied::Stepped;
+        while goes_on(&answer) {
+            answer = self.apply(Event::Step(w));
+        }
+        answer
     }
 
     /// The journal, which is sound.

@@ -1,12 +1,14 @@
 -- What stands between an act and the next: an act that was made, an effect that is not told, an answer that is not told, and a
 -- call whose task is to go on.
-use Rattle.std.specs.Prelude.{◌≡◌, ◌≢◌, ◌⊎◌, ℕ, ◌<◌, ◌≤◌, ◌∷◌, true, false, length, get_or, Option, Some, None}
+use Rattle.std.specs.Prelude.{◌≡◌, ◌≢◌, ◌⊎◌, ℕ, ◌+◌, ◌<◌, ◌≤◌, ◌∷◌, true, false, length, get_or, Option, Some, None}
 use Rattle.bz_acts.specs.Rule.{is_flush_act}
 use Rattle.bz_acts.specs.declared.acted.Act.{Act}
 use Rattle.bz_machine.specs.declared.done.Done.{Done}
 use Rattle.bz_mark.specs.Log.{with_mark}
 use Rattle.bz_mark.specs.declared.marks.Mark.{Mark}
 use Rattle.bz_mark.specs.declared.marks.Mark.TheVariants.{Evict}
+use Rattle.bz_costs.specs.Weights.{start_allows}
+use Rattle.bz_rivals.specs.Rivals.{rivals, foreign}
 use Rattle.bz_rivals.specs.Wins.{GoesWell}
 use Rattle.bz_running.specs.Duties.{asks_of, needs_of, publishing_of, facts_of}
 use Rattle.bz_sight.specs.Effects.{TakesPlace}
@@ -19,11 +21,12 @@ use Rattle.bz_sound.specs.Power.Times.{image_at_on}
 use Rattle.bz_story.specs.Laws.{IsMarked}
 use Rattle.bz_story.specs.Living.{IsLiving}
 use Rattle.bz_story.specs.Story.{Story, scene}
+use Rattle.bz_swap.specs.Alone.{left_to}
 use Rattle.bz_swap.specs.Evictions.{IsEviction}
 use Rattle.bz_swap.specs.Held.{Holds}
 use Rattle.bz_swap.specs.Steps.{IsStep}
 use Rattle.bz_swap.specs.SwapMemory.{SwapMemory, Idle, is_missed, doing_of, worker_of}
-use Rattle.bz_task.specs.Requests.{Hears, Tells}
+use Rattle.bz_task.specs.Requests.{Hears, Tells, effects_in}
 use Rattle.bz_task.specs.Scene.{Stage, Waiting}
 use Rattle.bz_task.specs.declared.todo.Seen.{Seen}
 use Rattle.bz_task.specs.declared.todo.Seen.TheVariants.{Swapped}
@@ -33,7 +36,8 @@ use Rattle.bz_world.specs.Inside.Alone.{HearsAlone, AsksAlone}
 use Rattle.bz_world.specs.Inside.Kept.{IsTabled, AreTaken, AreFree, IsAwake}
 use Rattle.bz_world.specs.Inside.Lonely.{WhereLonely, IsLonelyGet, AsksBriefly}
 use Rattle.bz_world.specs.Inside.Meant.{IsMeant}
-use Rattle.bz_world.specs.WorldView.{mark_of, IsStruck}
+use Rattle.bz_world.specs.Inside.Paid.{IsPaidFor}
+use Rattle.bz_world.specs.WorldView.{mark_of, IsStruck, stepper}
 use Rattle.bz_world.specs.Inside.Serving.{IsCovered, IsSlot, IsOpened, IsTasked, MayGoOn}
 use Rattle.bz_world.specs.declared.parts.Parts.{Parts}
 use Rattle.bz_world.specs.declared.serving.OpenCall.{OpenCall}
@@ -56,6 +60,11 @@ pub record SameWork (old new : SwapMemory) : Type 0 where
   pub taken : new.taken ≡ old.taken
   pub size : length new.cached ≡ length old.cached
 
+-- less is left to a worker after its step, and it has a rival fewer where the effect is of another's swap
+pub record StepsAt (old new : SwapMemory) (w s : ℕ) : Type 0 where
+  pub left : left_to new w < left_to old w
+  pub rivals : rivals new w + foreign old w (Some s) ≤ rivals old w
+
 -- an act or an eviction gave swap s its effect, which is not told yet
 pub record IsStriking (p : Parts) (s : ℕ) : Type 0 where
   pub before : Parts
@@ -70,6 +79,8 @@ pub record IsStriking (p : Parts) (s : ℕ) : Type 0 where
   pub follows : MayFollow before.at_start (map_at_start before.config before.journal.start) before.journal.past mark
   -- of a swap that went well no miss is noted
   pub unnoted : (t : ℕ) → GoesWell before.access t → is_missed p.access t ≡ false
+  -- of the worker that made the act, if it was one
+  pub stepped : (w : ℕ) → stepper (mark ∷ before.journal.past) ≡ Some w → StepsAt before.access p.access w s
   pub rest : p ≡ record before { access = p.access; journal = with_mark before.journal mark }
 
 -- all is well but for worker w, whose call is open, and which does nothing
@@ -87,6 +98,8 @@ pub record IsBetween (p : Parts) (w : ℕ) (x : OpenCall) : Type 0 where
   pub opened : Open
   pub call_open : IsOpened p.config p.journal w opened x
   pub idle : doing_of p.access w ≡ Idle
+  -- no other made the newest act
+  pub steps : (v : ℕ) → stepper p.journal.past ≡ Some v → v ≡ w
 
 -- its task's swap has made the change of the call, and it is told so
 pub record HasWon (x : OpenCall) (seen : Seen) : Type 0 where
@@ -106,6 +119,7 @@ pub record IsTold (p : Parts) (w : ℕ) (x : OpenCall) (seen : Seen) : Type 0 wh
   pub lonely : WhereLonely p.journal.past w x.call (λ key. IsLonelyGet p.access p.journal.past between.story w x between.opened key × (stage ≡ Waiting))
   pub alone : HearsAlone x.task seen (scene p.config p.journal.past between.story w between.call_open.look.since between.opened).past
   pub meant : IsMeant x (scene p.config p.journal.past between.story w between.call_open.look.since between.opened).past
+  pub paid : IsPaidFor p w x (effects_in seen) 0 (scene p.config p.journal.past between.story w between.call_open.look.since between.opened).past
 
 -- and its task asks for this: for nothing more, where its change is made
 pub record IsAsking (p : Parts) (w : ℕ) (x : OpenCall) (todo : Todo) : Type 0 where
@@ -118,6 +132,7 @@ pub record IsAsking (p : Parts) (w : ℕ) (x : OpenCall) (todo : Todo) : Type 0 
   pub lonely : WhereLonely p.journal.past w x.call (λ key. AsksBriefly p.access p.journal.past between.story w x between.opened key todo)
   pub alone : AsksAlone x.task todo (scene p.config p.journal.past between.story w between.call_open.look.since between.opened).past
   pub meant : IsMeant x (scene p.config p.journal.past between.story w between.call_open.look.since between.opened).past
+  pub paid : IsPaidFor p w x 0 (start_allows todo) (scene p.config p.journal.past between.story w between.call_open.look.since between.opened).past
 
 -- the worker's call is served, and its task is to be told this
 pub record MustTell (p : Parts) (w : ℕ) (seen : Seen) : Type 0 where

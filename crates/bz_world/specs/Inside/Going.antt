@@ -1,5 +1,5 @@
 -- A call whose task has ended: nothing goes on for it, until it is answered or gets another task.
-use Rattle.std.specs.Prelude.{◌≡◌, ◌≢◌, ◌<◌, ◌≤◌, ◌⊎◌, ℕ, ◌++◌, ◌∷◌, [], ◌*◌, Bool, true, false, List, length, get_or, Option, Some, None, option_map}
+use Rattle.std.specs.Prelude.{◌≡◌, ◌≢◌, suc, ◌+◌, ◌<◌, ◌≤◌, ◌⊎◌, ℕ, ◌++◌, ◌∷◌, [], ◌*◌, Bool, true, false, List, length, get_or, Option, Some, None, option_map}
 use Rattle.bz_call.specs.Map.{key_of}
 use Rattle.bz_call.specs.Pages.{is_page}
 use Rattle.bz_call.specs.declared.calls.Call.{Call}
@@ -10,11 +10,22 @@ use Rattle.bz_call.specs.declared.replies.Spent.{Spent}
 use Rattle.bz_call.specs.declared.replies.Spent.TheVariants.{Nodes, Swaps}
 use Rattle.bz_running.specs.FromBelow.Facts.{IsThawedAbove}
 use Rattle.bz_running.specs.FromConsol.Facts.{LeadsTo}
+use Rattle.bz_costs.specs.Most.{most_of_leaf, most_of_merge}
+use Rattle.bz_costs.specs.Weights.{start_allows}
 use Rattle.bz_layout.specs.declared.config.Config.{Config}
+use Rattle.bz_lone.specs.Errands.{Errand, is_read, is_freeze, IsLookOf}
+use Rattle.bz_lone.specs.Prices.{coming}
+use Rattle.bz_lone.specs.Rounds.{stage_now}
+use Rattle.bz_lone.specs.Sum.{IsThawed, PaysForRound}
 use Rattle.bz_layout.specs.declared.thresholds.TheConstants.{MERGE_SLOTS, SPLIT_ABOVE, SPLIT_SLOTS, MERGE_BELOW}
+use Rattle.bz_alone.specs.Alone.{IsAlone}
 use Rattle.bz_alone.specs.Reads.{get_reads}
-use Rattle.bz_running.specs.Duties.{config_of, asks_of, end_of, change_swaps, needs_of, wants_of, facts_of}
-use Rattle.bz_running.specs.GoingUp.{GoesUp, IsInScene}
+use Rattle.bz_running.specs.Duties.{config_of, asks_of, end_of, made_of, ascent_of, change_swaps, needs_of, wants_of, facts_of, means_of, makes_no_change}
+use Rattle.bz_ascent.specs.Ascents.{IsOneUp}
+use Rattle.bz_ascent.specs.declared.ascent.Ascent.{Ascent}
+use Rattle.bz_running.specs.GoingUp.{GoesUp, HasOneUp, IsInScene, MayBeSplit}
+use Rattle.bz_running.specs.Kinds as kinds
+use Rattle.bz_running.specs.Kinds.{Kind, kind_of}
 use Rattle.bz_running.specs.declared.running.AnyTask.{AnyTask}
 use Rattle.bz_slotted.specs.Readers.{live_of}
 use Rattle.bz_slotted.specs.ReadingLaws.{node_of}
@@ -37,10 +48,11 @@ use Rattle.bz_world.specs.Inside.Acted.{IsBetween}
 use Rattle.bz_world.specs.Inside.Alone.{EndsAlone}
 use Rattle.bz_world.specs.Inside.Beginning.{supply_of}
 use Rattle.bz_world.specs.Inside.Kept.{IsAwake}
-use Rattle.bz_world.specs.Inside.Meant.{IsMeantFor}
+use Rattle.bz_world.specs.Inside.Meant.{IsMeant}
+use Rattle.bz_world.specs.Inside.Paid.{errand_of, is_merge, IsFit, IsPaidFor, HasToSpare, HasARound}
 use Rattle.bz_world.specs.Inside.Room.{LacksRoomFor}
 use Rattle.bz_world.specs.Inside.Lonely.{WhereLonely, IsNotLonely, IsLonelyGet, HasLooked}
-use Rattle.bz_world.specs.WorldView.{GoesOn, Spends, HasRunOut, EndsFullRightly, GetsBriefly, is_delete}
+use Rattle.bz_world.specs.WorldView.{deadline, GoesOn, Spends, HasRunOut, EndsFullRightly, GetsBriefly, is_delete}
 use Rattle.bz_world.specs.Inside.Serving.{IsTasked, IsWanted, MayGoOn}
 use Rattle.bz_world.specs.declared.answers.Applied.{Applied}
 use Rattle.bz_world.specs.declared.parts.Parts.{Parts}
@@ -52,13 +64,13 @@ pub record MustGoOn (p : Parts) (w : ℕ) : Type 0 where
   pub is : get_or p.workers.items w None ≡ Some serving
   pub between : IsBetween p w serving
   pub filled : (k : ℕ) → between.story.took w k ≡ true → between.story.filled w k ≡ true
+  pub fit : IsFit serving
   pub lonely : WhereLonely p.journal.past w serving.call (HasLooked p.access p.journal.past between.story w serving between.opened)
 
--- and it may look its key up, or have its leaf changed: it is no lonely get, which is never looked up again
-pub record MustLookUp (p : Parts) (w : ℕ) : Type 0 where
-  pub on : MustGoOn p w
-  pub may : MayGoOn on.serving
-  pub other : IsNotLonely p.journal.past w on.serving.call
+-- the call in this place changes nothing
+abbrev pub is_read_in : Option OpenCall → Bool
+is_read_in None = false
+is_read_in (Some x) = is_read x.call
 
 -- the call in this place may go on so
 abbrev pub MayGoOnIn : Option OpenCall → Type 0
@@ -68,6 +80,20 @@ MayGoOnIn (Some x) = MayGoOn x
 -- what is known of the memory since the present look-up of the call began
 abbrev pub known : (p : Parts) (w : ℕ) → MustGoOn p w → Scene
 known p w m = scene p.config p.journal.past m.between.story w m.between.call_open.look.since m.between.opened
+
+-- and it may look its key up, or have its leaf changed: it is no lonely get, which is never looked up again
+pub record MustLookUp (p : Parts) (w : ℕ) : Type 0 where
+  pub on : MustGoOn p w
+  pub may : MayGoOn on.serving
+  pub other : IsNotLonely p.journal.past w on.serving.call
+  pub pays : HasARound p w on.serving (known p w on).past
+
+-- the same, where it is looked up as the end of its task leaves it: so its leaf is read whole after its own freeze, or copied alone
+pub record MustLookUpAs (p : Parts) (w : ℕ) (change : Errand → Kind → Errand) : Type 0 where
+  pub on : MustGoOn p w
+  pub may : MayGoOn on.serving
+  pub other : IsNotLonely p.journal.past w on.serving.call
+  pub pays : PaysForRound p.access w (change (errand_of on.serving) (kind_of on.serving.task)) (deadline p.config w p.journal.past) (known p w on).past
 
 -- the call that is served, how its task has ended, what it asks for, the way to its leaf, its effect, and whether it froze its leaf last
 abbrev pub call_in : Option OpenCall → Option Call
@@ -93,6 +119,28 @@ abbrev pub froze_in : Option OpenCall → Bool
 froze_in None = false
 froze_in (Some x) = x.froze
 
+-- whether its leaf is to be copied alone; whether its task freezes or merges a leaf; that it is a delete
+abbrev pub alone_in : Option OpenCall → Bool
+alone_in None = false
+alone_in (Some x) = x.alone
+
+abbrev pub freezes_in : Option OpenCall → Bool
+freezes_in None = false
+freezes_in (Some x) = is_freeze (kind_of x.task)
+
+abbrev pub merges_in : Option OpenCall → Bool
+merges_in None = false
+merges_in (Some x) = is_merge (kind_of x.task)
+
+abbrev pub DeletesIn : Option OpenCall → Type 0
+DeletesIn None = ⊥
+DeletesIn (Some x) = kind_of x.task ≡ kinds.Delete
+
+-- its key may be looked up in its leaf: it is no page
+abbrev pub LooksUpIn : Option OpenCall → Type 0
+LooksUpIn None = ⊥
+LooksUpIn (Some x) = IsLookOf x.call kinds.Find
+
 abbrev pub had_in : Option OpenCall → Option (List ℕ)
 had_in None = None
 had_in (Some x) = x.had
@@ -117,6 +165,26 @@ CanGoUpIn None c = ⊥
 CanGoUpIn (Some x) c = CanGoUp x c
 
 -- a split may come before its own
+-- a node stands above the one that it splits, and may be split
+pub record MayGoUp (t : AnyTask) : Type 0 where
+  pub from : Ascent
+  pub up : Ascent
+  pub begun : ascent_of t ≡ Some from
+  pub one : IsOneUp from up
+  pub may : MayBeSplit up
+
+abbrev pub MayGoUpIn : Option OpenCall → Type 0
+MayGoUpIn None = ⊥
+MayGoUpIn (Some x) = MayGoUp x.task
+
+-- it stands there wherever the node is no root
+abbrev pub StandsBelow : AnyTask → Type 0
+StandsBelow t = (a : Ascent) → ascent_of t ≡ Some a → 0 < a.place → HasOneUp a
+
+abbrev pub StandsBelowIn : Option OpenCall → Type 0
+StandsBelowIn None = Unit {0}
+StandsBelowIn (Some x) = StandsBelow x.task
+
 abbrev pub GoesUpIn : Option OpenCall → AnyTask → Type 0
 GoesUpIn None next = ⊥
 GoesUpIn (Some x) next = GoesUp x.task next
@@ -128,6 +196,14 @@ IsFullRightly p w = end_in (get_or p.workers.items w None) ≡ Some (outcomes.Fu
 -- nor has it ended for want of a descriptor
 abbrev pub HasNotLackedSwaps : Parts → ℕ → Type 0
 HasNotLackedSwaps p w = end_in (get_or p.workers.items w None) ≢ Some (outcomes.Full Swaps)
+
+-- and for want of room only if it makes no change
+abbrev pub makes_none_in : Option OpenCall → Bool
+makes_none_in None = true
+makes_none_in (Some x) = makes_no_change x.task
+
+abbrev pub HasNotLackedRoom : Parts → ℕ → Type 0
+HasNotLackedRoom p w = end_in (get_or p.workers.items w None) ≡ Some outcomes.NeedsRoom → makes_none_in (get_or p.workers.items w None) ≡ true
 
 -- the call gets another task, and with it a way
 abbrev pub with_task : Option OpenCall → AnyTask → Option Path → Option OpenCall
@@ -145,6 +221,11 @@ with_alone slot alone = option_map (λ (x : OpenCall). record x { alone = alone 
 abbrev pub with_froze : Option OpenCall → Bool → Option OpenCall
 with_froze slot froze = option_map (λ (x : OpenCall). record x { froze = froze }) slot
 
+-- what the start of this allows, if it is asked for
+abbrev pub allowed_for : Option Todo → ℕ
+allowed_for None = 0
+allowed_for (Some todo) = start_allows todo
+
 -- a task that it may get, which asks for this: after this path was found, if one was, and for the change of the call, where
 -- its key had this payload, or none
 pub record MustTakeOn (p : Parts) (w : ℕ) (task : AnyTask) (way : Option Path) (had : Option (List ℕ)) (asked : Option Todo) : Type 0 where
@@ -155,7 +236,8 @@ pub record MustTakeOn (p : Parts) (w : ℕ) (task : AnyTask) (way : Option Path)
   pub facts : facts_of task Waiting (known p w on)
   pub wanted : IsWanted p.config p.journal on.between.opened (wants_of task)
   pub lonely : WhereLonely p.journal.past w on.serving.call (IsLonelyGet p.access p.journal.past on.between.story w (record on.serving { task = task; path = way; had = had }) on.between.opened)
-  pub meant : on.serving.effect ≡ None → IsMeantFor on.serving.call task (known p w on).past
+  pub meant : IsMeant (record on.serving { task = task; path = way; had = had }) (known p w on).past
+  pub paid : IsPaidFor p w (record on.serving { task = task; path = way; had = had }) 0 (allowed_for asked) (known p w on).past
 
 -- the way to its leaf was found, which is to be read whole
 pub record MustRead (p : Parts) (w : ℕ) (path : Path) : Type 0 where
@@ -163,6 +245,8 @@ pub record MustRead (p : Parts) (w : ℕ) (path : Path) : Type 0 where
   pub may : MayGoOn on.serving
   pub leads : IsPath (key_of on.serving.call) path (known p w on).past
   pub other : IsNotLonely p.journal.past w on.serving.call
+  pub spares : HasToSpare p w on.serving (known p w on).past (λ q. most_of_leaf + coming q (errand_of on.serving) kinds.ReadWhole)
+  pub look : on.serving.effect ≡ None → IsLookOf on.serving.call kinds.ReadWhole
 
 -- its task knows what it should, and has ended so
 abbrev pub EndsSo : (p : Parts) (w : ℕ) → MustGoOn p w → Outcome → Type 0
@@ -174,6 +258,7 @@ pub record MustFind (p : Parts) (w : ℕ) (path : Path) : Type 0 where
   pub quiet : on.serving.effect ≡ None
   pub leads : IsPath (key_of on.serving.call) path (known p w on).past
   pub ends : EndsSo p w on (outcomes.Path path)
+  pub spares : HasToSpare p w on.serving (known p w on).past (λ q. coming q (errand_of on.serving) kinds.Seek)
 
 -- its task has ended so, and it had no effect
 pub record HasEnded (p : Parts) (w : ℕ) (outcome : Outcome) : Type 0 where
@@ -189,10 +274,12 @@ pub record HasEnded (p : Parts) (w : ℕ) (outcome : Outcome) : Type 0 where
   pub leads : (view : LeafView) → outcome ≡ outcomes.View view → (path : Path) → on.serving.path ≡ Some path → IsPath (key_of on.serving.call) path (known p w on).past
   pub full : outcome ≡ outcomes.Full Nodes → length p.slots.free < wants_of on.serving.task
   pub swaps : outcome ≢ outcomes.Full Swaps
+  pub silent : outcome ≡ outcomes.NeedsRoom → makes_no_change on.serving.task ≡ true
   pub some : (view : LeafView) → outcome ≡ outcomes.View view → on.serving.path ≢ None
   pub some_found : (view : KeyView) → outcome ≡ outcomes.Key view → on.serving.path ≢ None
   pub alone : EndsAlone outcome (known p w on).past
-  pub meant : IsMeantFor on.serving.call on.serving.task (known p w on).past
+  pub meant : IsMeant on.serving (known p w on).past
+  pub paid : IsPaidFor p w on.serving 0 0 (known p w on).past
 
 -- its leaf was read, by the path that was found, and it had no effect
 pub record MustAnswer (p : Parts) (w : ℕ) (view : LeafView) : Type 0 where
@@ -202,6 +289,9 @@ pub record MustAnswer (p : Parts) (w : ℕ) (view : LeafView) : Type 0 where
   pub quiet : on.serving.effect ≡ None
   pub other : IsNotLonely p.journal.past w on.serving.call
   pub some : on.serving.path ≢ None
+  pub spares : HasToSpare p w on.serving (known p w on).past (λ q. coming q (errand_of on.serving) kinds.ReadWhole)
+  pub look : IsLookOf on.serving.call kinds.ReadWhole
+  pub kind : kind_of on.serving.task ≡ kinds.ReadWhole
 
 -- or its key was looked up there
 pub record MustAnswerKey (p : Parts) (w : ℕ) (view : KeyView) : Type 0 where
@@ -211,6 +301,8 @@ pub record MustAnswerKey (p : Parts) (w : ℕ) (view : KeyView) : Type 0 where
   pub quiet : on.serving.effect ≡ None
   pub ends : EndsSo p w on (outcomes.Key view)
   pub some : on.serving.path ≢ None
+  pub spares : HasToSpare p w on.serving (known p w on).past (λ q. coming q (errand_of on.serving) kinds.Find)
+  pub look : IsLookOf on.serving.call kinds.Find
 
 -- the way to its leaf was found and is known, and it had no effect
 pub record MustReadWhole (p : Parts) (w : ℕ) : Type 0 where
@@ -220,6 +312,16 @@ pub record MustReadWhole (p : Parts) (w : ℕ) : Type 0 where
   pub other : IsNotLonely p.journal.past w on.serving.call
   pub some : on.serving.path ≢ None
 
+-- a change of a record
+abbrev pub IsChangeKind : Kind → Type 0
+IsChangeKind kind = (kind ≡ kinds.Insert) ⊎ ((kind ≡ kinds.Update) ⊎ (kind ≡ kinds.Delete))
+
+-- that leaf is to be read whole, since it has no room for the change
+pub record MustReadCrowded (p : Parts) (w : ℕ) : Type 0 where
+  pub reads : MustReadWhole p w
+  pub write : is_read reads.on.serving.call ≡ false
+  pub spares : HasToSpare p w reads.on.serving (known p w reads.on).past (λ q. most_of_leaf + coming q (errand_of reads.on.serving) kinds.ReadWhole)
+
 -- a task that makes its change, which is yet to begin
 pub record MustChange (p : Parts) (w : ℕ) (had : Option (List ℕ)) (task : AnyTask) : Type 0 where
   pub reads : MustReadWhole p w
@@ -228,16 +330,26 @@ pub record MustChange (p : Parts) (w : ℕ) (had : Option (List ℕ)) (task : An
   pub facts : facts_of task Waiting (known p w reads.on)
   pub wants : wants_of task ≡ 0
   pub changes : 0 < change_swaps task
+  pub kind : IsChangeKind (kind_of task)
+  pub write : is_read reads.on.serving.call ≡ false
+  pub spares : HasToSpare p w reads.on.serving (known p w reads.on).past (λ q. coming q (errand_of reads.on.serving) kinds.Find)
+  pub made : made_of task ≡ 0
+  pub silent : makes_no_change task ≡ false
+  -- it ends for want of room only where there is none, in a clean round
+  pub lacks : (z : Scene) → means_of task outcomes.NeedsRoom z → IsAlone 0 (known p w reads.on).past → 0 < stage_now (errand_of reads.on.serving) (known p w reads.on).past
 
 -- that leaf is frozen, or has no room for what the call puts there
 pub record MustRestructure (p : Parts) (w : ℕ) (view : LeafView) : Type 0 where
   pub answer : MustAnswer p w view
   pub lacks : LacksRoomFor answer.on.serving.call view.status
+  pub spares : HasToSpare p w answer.on.serving (known p w answer.on).past (λ q. q.viewed)
 
 -- its leaf, which was found by this path, is to be made anew
 pub record MustMakeAnew (p : Parts) (w : ℕ) (path : Path) (view : LeafView) : Type 0 where
   pub answer : MustAnswer p w view
   pub way : IsPath (key_of answer.on.serving.call) path (known p w answer.on).past
+  pub lacks : LacksRoomFor answer.on.serving.call view.status
+  pub spares : HasToSpare p w answer.on.serving (known p w answer.on).past (λ q. q.viewed)
 
 -- and is frozen, so that it may be copied
 pub record MustCopy (p : Parts) (w : ℕ) (path : Path) (view : LeafView) : Type 0 where
@@ -276,11 +388,19 @@ pub record MustMerge (p : Parts) (w : ℕ) (path : Path) (view : LeafView) : Typ
   pub thawed : IsThawedAbove path
   pub wanted : IsWanted p.config p.journal on.between.opened MERGE_SLOTS
   pub other : IsNotLonely p.journal.past w on.serving.call
+  pub frozen : on.serving.effect ≡ None → (status view.status).frozen ≡ true
+  pub write : on.serving.effect ≡ None → is_read on.serving.call ≡ false
+  pub thawed_call : IsThawed (errand_of on.serving)
+  pub spares : HasToSpare p w on.serving (known p w on).past (λ q. most_of_merge + coming q (errand_of on.serving) kinds.Merge)
 
 -- its split has ended because the node above lacked the room, and this is the split of that one, which is yet to begin
 pub record MustGoUp (p : Parts) (w : ℕ) (task : AnyTask) : Type 0 where
   pub ends : HasEnded p w outcomes.NeedsRoom
   pub up : GoesUp ends.on.serving.task task
+
+-- a mark is left for the end of the call
+abbrev pub HasRoomForEnd : Parts → ℕ → Type 0
+HasRoomForEnd p w = suc (length p.journal.past) ≤ deadline p.config w p.journal.past
 
 -- the call puts this payload at its key, where the key is absent, or present
 abbrev pub MayInsert : Call → List ℕ → List ℕ → Type 0
@@ -306,10 +426,15 @@ pub record MustDelete (p : Parts) (w : ℕ) (view : KeyView) (key : List ℕ) : 
 pub record HadEffect (p : Parts) (w at : ℕ) : Type 0 where
   pub on : MustGoOn p w
   pub effect : on.serving.effect ≡ Some at
+  pub room : HasRoomForEnd p w
 
 -- and its task has ended so
 pub record HasEndedAfter (p : Parts) (w at : ℕ) (outcome : Outcome) : Type 0 where
   pub had : HadEffect p w at
+  pub ends : end_of had.on.serving.task ≡ Some outcome
+  pub facts : facts_of had.on.serving.task Waiting (known p w had.on)
+  pub tasked : IsTasked p.config had.on.serving.call had.on.serving.path had.on.serving.had had.on.serving.task
+  pub paid : IsPaidFor p w had.on.serving 0 0 (known p w had.on).past
   pub path : (path : Path) → outcome ≡ outcomes.Path path → IsPath (key_of had.on.serving.call) path (known p w had.on).past
   pub view : (view : LeafView) → outcome ≡ outcomes.View view → IsView (key_of had.on.serving.call) view (known p w had.on).past
   pub leads : (view : LeafView) → outcome ≡ outcomes.View view → (path : Path) → had.on.serving.path ≡ Some path → IsPath (key_of had.on.serving.call) path (known p w had.on).past
@@ -320,11 +445,14 @@ pub record HasReadAfter (p : Parts) (w at : ℕ) (view : LeafView) : Type 0 wher
   pub deletes : is_delete had.on.serving.call ≡ true
   pub viewed : IsView (key_of had.on.serving.call) view (known p w had.on).past
   pub leads : (path : Path) → had.on.serving.path ≡ Some path → IsPath (key_of had.on.serving.call) path (known p w had.on).past
+  pub spares : HasToSpare p w had.on.serving (known p w had.on).past (λ q. coming q (errand_of had.on.serving) kinds.ReadWhole)
 
 -- no descriptor is left
 pub record LacksSwap (p : Parts) (w : ℕ) : Type 0 where
   pub on : MustGoOn p w
   pub spent : p.access.taken ≡ p.config.swaps
+  pub room : HasRoomForEnd p w
+  pub write : on.serving.effect ≡ None → is_read on.serving.call ≡ false
 
 -- fewer slots are left than its task takes, and the call had no effect
 pub record IsOutOfSlots (p : Parts) (w : ℕ) : Type 0 where
@@ -336,6 +464,8 @@ pub record IsOutOfSlots (p : Parts) (w : ℕ) : Type 0 where
 pub record IsShort (p : Parts) (w : ℕ) (spent : Spent) : Type 0 where
   pub on : MustGoOn p w
   pub quiet : on.serving.effect ≡ None
+  pub write : is_read on.serving.call ≡ false
+  pub room : HasRoomForEnd p w
   pub cause : IsSpent p.config p.journal.start p.journal.past w on.between.opened spent
   pub out : HasRunOut p.config p.journal w (supply_of p) spent
 
@@ -344,6 +474,7 @@ pub record MustEnd (p : Parts) (w : ℕ) (reply : Reply) (at : ℕ) : Type 0 whe
   pub on : MustGoOn p w
   pub right : IsRightReply p.config p.journal.start p.journal.pages p.journal.past (record { worker = w; opened = on.between.opened; reply = reply; at = at })
   pub full : (spent : Spent) → reply ≡ Full spent → HasRunOut p.config p.journal w (supply_of p) spent
+  pub room : HasRoomForEnd p w
   pub brief : WhereLonely p.journal.past w on.serving.call (λ key. acts_since w p.journal.past ≤ 2 * get_reads p.config (image_at p.journal.start at p.journal.past) key)
 
 -- the page that was put together is the right one, up to this key
@@ -351,6 +482,7 @@ pub record MustEndPage (p : Parts) (w : ℕ) (next : Option (List ℕ)) (at : �
   pub on : MustGoOn p w
   pub asks : is_page on.serving.call ≡ true
   pub right : IsRightReply p.config p.journal.start (p.journal.pages ++ p.page ∷ []) p.journal.past (record { worker = w; opened = on.between.opened; reply = Page (length p.journal.pages) next; at = at })
+  pub room : HasRoomForEnd p w
 
 -- the call went on without an act: at most its End was added, a Full only where what it names has run out, and that of a lonely get
 -- only after few acts; at most one descriptor was taken, and the slots of at most one task; and what the other workers do is the same
@@ -364,3 +496,4 @@ pub record WentOn (old : Parts) (w : ℕ) (answer : Applied) (new : Parts) : Typ
   pub left_out : new.left_out ≡ old.left_out
   pub others : (v : ℕ) → v ≢ w → worker_of new.access v ≡ worker_of old.access v
   pub brief : GetsBriefly new.config old.journal w new.journal
+  pub lone : length new.journal.past ≤ deadline new.config w old.journal.past

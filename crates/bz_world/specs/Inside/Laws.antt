@@ -4,10 +4,20 @@ use Rattle.bz_alone.specs.Counts.{OwnSwapsAreCounted}
 use Rattle.bz_alone.specs.Quiet.{EffectsNeverFall}
 use Rattle.bz_alone.specs.Restarts.{LoneRestartsAreRefusals}
 use Rattle.bz_alone.specs.Tasks.{LonersGoOn}
+use Rattle.bz_costs.specs.Costs.{LoneCallsAreAffordable}
+use Rattle.bz_costs.specs.Laws.{AskedSwapsAreCounted}
+use Rattle.bz_lone.specs.Renewals.{RenewalsArePaid, AscentsArePaid}
+use Rattle.bz_lone.specs.Rounds.{LessIsSpared, EndsAreAfforded, EndsArePaid, WaysArePaid, ChangesArePaid, LeavesAreRead, ReadLeavesArePaid, TasksMayBegin, RoundsBegin, DisturbedRoundsArePaid, EndsLeaveARound}
+use Rattle.bz_lone.specs.Steps.{AnyCallIsPaid, AnyRoundIsPaid, QuietStepsArePaid, ForeignEffectsArePaid, EffectMarksArePaid, LessIsPaid, OwnEffectsArePaid, HearingsArePaid, StartsArePaid}
 use Rattle.bz_page.specs.Laws.{ViewsSayWhatImagesSay}
 use Rattle.bz_record.specs.Laws.{ViewsShowLeaves}
+use Rattle.bz_rivals.specs.Laws.{RivalsFall}
 use Rattle.bz_rivals.specs.Notes.{NotesAreOfBegun, ZeroSwapsNothing}
 use Rattle.bz_rivals.specs.Wins.{OwnSwapsWin, ExpectedStand}
+use Rattle.bz_rounds.specs.Due.{LoneLeavesAreDue, LoneAscentsAreDue}
+use Rattle.bz_rounds.specs.Levels.{LoneAscentsAreBelowTheStage}
+use Rattle.bz_rounds.specs.Stands.{LoneViewsTellTheLeaf}
+use Rattle.bz_rounds.specs.Viewed.{LoneViewsTellTheStage, LoneKeyViewsTellTheStage}
 use Rattle.bz_sight.specs.Acts.{FlushingStepsFlush, QuietStepsPass, StepsLeaveCaches, StoringStepsStore}
 use Rattle.bz_sight.specs.Effects.{EffectsTakePlace}
 use Rattle.bz_sight.specs.Passing.{ActsPass}
@@ -18,7 +28,9 @@ use Rattle.bz_sound.specs.Memory.OpenCallLaws.{EffectsStayOpen}
 use Rattle.bz_sound.specs.Power.CallLaws.{OpenCallsAreLast, OpenCallsLeaveRoom}
 use Rattle.bz_sound.specs.Power.Growth.{BeginsFollow, EffectsFollowActs, EndsFollow, FlushesFollow, PageEndsFollow, QuietActsFollow}
 use Rattle.bz_sound.specs.Power.ImageLaws.{AnswersComeFromTheImage, ChangesFollow, PagesComeFromTheImage, SameContentDecodes, SpentAnswersFull}
+use Rattle.bz_stage.specs.Laws.{LackingLeavesSay}
 use Rattle.bz_story.specs.Laws.{EffectsAreTold, FlushesAreTold, LivesGoOn, QuietMarksAreLawful, ScenesAreSeen, StoresAreTold}
+use Rattle.bz_swap.specs.LoneRuns.{LoneStepsAreAllowed}
 use Rattle.bz_swap.specs.TakenStatuses.{BegunStayTaken, TakenStatusesStay}
 
 -- by which the journal stays sound
@@ -43,6 +55,46 @@ pub record BegunLaws : Type 0 where
   pub zero : ZeroSwapsNothing
   pub noted : NotesAreOfBegun
 
+-- by which the call of a worker that steps alone is paid for
+pub record PaidLaws : Type 0 where
+  pub affordable : LoneCallsAreAffordable
+  pub any : AnyCallIsPaid
+  pub round : AnyRoundIsPaid
+  pub quiet : QuietStepsArePaid
+  pub foreign : ForeignEffectsArePaid
+  pub marks : EffectMarksArePaid
+  pub less : LessIsPaid
+  pub own : OwnEffectsArePaid
+  pub heard : HearingsArePaid
+  pub starts : StartsArePaid
+  pub asked : AskedSwapsAreCounted
+  pub steps : LoneStepsAreAllowed
+  pub rivals : RivalsFall
+
+-- and what comes after a task
+pub record RoundLaws : Type 0 where
+  pub less : LessIsSpared
+  pub afforded : EndsAreAfforded
+  pub ends : EndsArePaid
+  pub ways : WaysArePaid
+  pub changes : ChangesArePaid
+  pub leaves : LeavesAreRead
+  pub read : ReadLeavesArePaid
+  pub tasks : TasksMayBegin
+  pub begin : RoundsBegin
+  pub disturbed : DisturbedRoundsArePaid
+  pub rounds : EndsLeaveARound
+  pub renewals : RenewalsArePaid
+  pub ascents : AscentsArePaid
+  pub asked : AskedSwapsAreCounted
+  pub views : LoneViewsTellTheLeaf
+  pub stages : LoneViewsTellTheStage
+  pub key_stages : LoneKeyViewsTellTheStage
+  pub due : LoneLeavesAreDue
+  pub up_due : LoneAscentsAreDue
+  pub below : LoneAscentsAreBelowTheStage
+  pub lacking : LackingLeavesSay
+
 -- by which a worker that is alone does not begin again
 pub record AloneLaws : Type 0 where
   pub counted : OwnSwapsAreCounted
@@ -51,6 +103,8 @@ pub record AloneLaws : Type 0 where
   pub wins : OwnSwapsWin
   pub stand : ExpectedStand
   pub scenes : ScenesAreSeen
+  pub paid : PaidLaws
+  pub rounds : RoundLaws
 
 -- by which an act without effect leads on
 pub record StepLaws : Type 0 where
@@ -88,6 +142,7 @@ pub record StrikeLaws : Type 0 where
   pub pass : ActsPass
   pub stay : EffectsStayOpen
   pub lonely : LonelyLaws
+  pub paid : PaidLaws
 
 -- and by which a start leaves the world as it should be
 pub record StartLaws : Type 0 where

@@ -8,6 +8,7 @@ use Rattle.bz_call.specs.declared.replies.Reply.TheVariants.{Inserted, Deleted, 
 use Rattle.bz_layout.specs.declared.config.Config.{Config}
 use Rattle.bz_layout.specs.declared.thresholds.TheConstants.{SPLIT_SLOTS}
 use Rattle.bz_shape.specs.Walk.{is_among}
+use Rattle.bz_lone.specs.Sum.{IsPaid}
 use Rattle.bz_mark.specs.Log.{Log}
 use Rattle.bz_mark.specs.declared.marks.Mark.{Mark}
 use Rattle.bz_running.specs.Duties.{config_of, asks_of, needs_of, wants_of, change_of, publishing_of, facts_of, makes_no_change}
@@ -27,9 +28,10 @@ use Rattle.bz_task.specs.declared.path.Path.{Path}
 use Rattle.bz_task.specs.declared.todo.Todo.{Todo}
 use Rattle.bz_task.specs.declared.todo.Todo.TheVariants as todo
 use Rattle.bz_word.specs.declared.entry.Entry.{Entry}
-use Rattle.bz_world.specs.Inside.Alone.{WaitsAlone}
+use Rattle.bz_world.specs.Inside.Alone.{WaitsAlone, untold}
 use Rattle.bz_world.specs.Inside.Meant.{IsMeant}
-use Rattle.bz_world.specs.WorldView.{is_delete}
+use Rattle.bz_world.specs.Inside.Paid.{errand_of}
+use Rattle.bz_world.specs.WorldView.{is_delete, stepper, deadline}
 use Rattle.bz_world.specs.declared.serving.OpenCall.{OpenCall}
 
 -- the change that a call makes where its key had this payload, or none
@@ -142,6 +144,7 @@ pub record IsServing (c : Config) (m : SwapMemory) (log : Log) (story : Story) (
   pub covered : IsCovered (story.took w) (story.filled w) (needs_of x.task)
   pub alone : WaitsAlone m (doing_of m w) x.task (scene c log.past story w call_open.look.since opened).past
   pub meant : IsMeant x (scene c log.past story w call_open.look.since opened).past
+  pub paid : stepper log.past ≡ Some w → IsPaid m w (errand_of x) x.task (untold m (doing_of m w)) 0 (deadline c w log.past) (scene c log.past story w call_open.look.since opened).past
 
 -- no call of the worker is open, it does nothing, and it has stored into each slot that it took
 pub record IsAtRest (m : SwapMemory) (log : Log) (story : Story) (w : ℕ) : Type 0 where

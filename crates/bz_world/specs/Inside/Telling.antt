@@ -1,15 +1,22 @@
 -- A task that is told what came of what it asked for.
-use Rattle.std.specs.Prelude.{◌≡◌, ◌≢◌, ◌<◌, ℕ, List, Option, Some, None, get_or}
+use Rattle.std.specs.Prelude.{◌≡◌, ◌≢◌, ◌<◌, ℕ, true, List, Option, Some, None, get_or}
 use Rattle.bz_call.specs.Map.{key_of}
 use Rattle.bz_layout.specs.Slots.{FreeSlots}
-use Rattle.bz_running.specs.Duties.{config_of, asks_of, needs_of, facts_of}
+use Rattle.bz_running.specs.Duties.{config_of, asks_of, needs_of, facts_of, means_of, makes_no_change}
 use Rattle.bz_running.specs.Hearing.{HasHeard}
+use Rattle.bz_alone.specs.Alone.{IsAlone}
+use Rattle.bz_lone.specs.Prices.{coming}
+use Rattle.bz_lone.specs.Rounds.{stage_now}
+use Rattle.bz_running.specs.Kinds as kinds
+use Rattle.bz_running.specs.Kinds.{kind_of}
 use Rattle.bz_running.specs.Laws.{AreLaws}
 use Rattle.bz_running.specs.LookingUp.{HasCounted, LooksUpBriefly}
 use Rattle.bz_story.specs.Story.{scene}
 use Rattle.bz_task.specs.Outcomes.{IsPath}
 use Rattle.bz_task.specs.Requests.{Hears, IsKnown}
 use Rattle.bz_task.specs.declared.path.Path.{Path}
+use Rattle.bz_task.specs.Scene.{Scene}
+use Rattle.bz_task.specs.declared.todo.Outcome.TheVariants.{NeedsRoom}
 use Rattle.bz_task.specs.declared.todo.Seen.{Seen}
 use Rattle.bz_task.specs.declared.todo.Seen.TheVariants.{Start}
 use Rattle.bz_task.specs.declared.todo.Todo.{Todo}
@@ -17,6 +24,7 @@ use Rattle.bz_task.specs.declared.todo.Todo.TheVariants.{Swap}
 use Rattle.bz_word.specs.declared.entry.Entry.{Entry}
 use Rattle.bz_world.specs.Inside.Acted.{IsBetween, IsAsking, MustTell}
 use Rattle.bz_world.specs.Inside.Lonely.{IsNotLonely}
+use Rattle.bz_world.specs.Inside.Paid.{errand_of, HasToSpare}
 use Rattle.bz_world.specs.declared.parts.Parts.{Parts}
 use Rattle.bz_world.specs.declared.serving.OpenCall.{OpenCall}
 
@@ -54,6 +62,10 @@ pub record KnowsWay (p : Parts) (w : ℕ) (x : OpenCall) (between : IsBetween p 
   pub leads : (path : Path) → x.path ≡ Some path → IsPath (key_of x.call) path (scene p.config p.journal.past between.story w between.call_open.look.since between.opened).past
   pub quiet : x.effect ≡ None
   pub some : x.path ≢ None
+  pub spares : HasToSpare p w x (scene p.config p.journal.past between.story w between.call_open.look.since between.opened).past (λ q. coming q (errand_of x) kinds.Find)
+  -- its task ends for want of room only where there is none, in a clean round
+  pub lacks : (z : Scene) → means_of x.task NeedsRoom z → IsAlone 0 (scene p.config p.journal.past between.story w between.call_open.look.since between.opened).past
+      → 0 < stage_now (errand_of x) (scene p.config p.journal.past between.story w between.call_open.look.since between.opened).past
 
 -- a task that is to be told this, with such a way
 pub record MustTellOf (p : Parts) (w : ℕ) (seen : Seen) : Type 0 where
@@ -69,9 +81,13 @@ pub record MustStartOf (p : Parts) (w : ℕ) (todo : Todo) : Type 0 where
 pub record MustBegin (p : Parts) (w : ℕ) : Type 0 where
   pub tell : MustTell p w Start
   pub other : IsNotLonely p.journal.past w tell.serving.call
+  -- it makes no change, and looks no key up in its leaf: so it does not end as it begins
+  pub silent : makes_no_change tell.serving.task ≡ true
+  pub kind : kind_of tell.serving.task ≢ kinds.Find
 
--- the task of a call whose path was found has been told to begin, and asks for this
+-- the look-up of a call's key, whose path was found, has been told to begin, and asks for this
 pub record MustStartFound (p : Parts) (w : ℕ) (todo : Todo) : Type 0 where
   pub start : MustStartOf p w todo
+  pub kind : kind_of start.must.serving.task ≡ kinds.Find
   pub path : Path
   pub found : start.must.serving.path ≡ Some path

@@ -9,6 +9,7 @@ end-requires-clause-right c = subst (λ r. MustEnd c.args.parts.now c.args.w r c
   on = c.requires.had.on;
   right = c.effects_answer.ensures c.args.parts.now.config c.args.parts.now.journal c.args.w c.args.at c.requires.had.on.between.opened (effect_reply c.requires.had.on.between.opened.call c.requires.had.on.serving.had)
       c.requires.had.on.between.call_open.is_open effect (c.requires.had.on.between.call_open.told c.args.at effect);
+  room = c.requires.had.room;
   full = λ spent e. absurd (no-full c.requires.had.on.between.opened.call c.requires.had.on.serving.had spent e);
   brief = λ key get lonely. absurd (let never : None ≡ Some c.args.at = sym (c.requires.had.on.lonely key get lonely).get.quiet ∙ c.requires.had.effect in cc never);
 })

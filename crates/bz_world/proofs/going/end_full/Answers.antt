@@ -1,11 +1,11 @@
-use Rattle.std.proofs.Common.{refl, sym, subst, ◌∙◌, inl}
+use Rattle.std.proofs.Common.{sym, subst, ◌∙◌}
 use Rattle.bz_call.specs.declared.replies.Reply.TheVariants.{Full}
 use Rattle.bz_sound.specs.Memory.Replies.{IsWrite}
 use Rattle.bz_world.specs.Inside.Beginning.{supply_of}
 use Rattle.bz_world.specs.Inside.Going.{MustEnd}
 use Rattle.bz_world.specs.Inside.Lonely.{IsNotLonelyIn}
 use Rattle.bz_world.specs.WorldView.{HasRunOut}
-use Rattle.bz_world.proofs.TakingOn.{call-is}
+use Rattle.bz_world.proofs.Spared.{is-write}
 use Rattle.bz_world.proofs.going.end_full.Goals as goal
 
 pub end-requires-clause-right : goal.end-requires-clause-right
@@ -13,12 +13,10 @@ end-requires-clause-right c = subst (MustEnd c.args.parts.now c.args.w (Full c.a
   on = c.requires.short.on;
   right = c.spent_answers_full.ensures c.args.parts.now.config c.args.parts.now.journal c.args.w c.requires.short.on.between.opened c.args.spent c.requires.short.on.between.call_open.is_open
       (c.requires.short.on.between.call_open.effect ∙ c.requires.short.quiet) writes c.requires.short.cause;
+  room = c.requires.short.room;
   full = λ spent e. subst (HasRunOut c.args.parts.now.config c.args.parts.now.journal c.args.w (supply_of c.args.parts.now)) (cc e) c.requires.short.out;
   brief = λ key get lonely. absurd (subst (IsNotLonelyIn c.args.parts.now.journal.past c.args.w) c.requires.short.on.is c.requires.other key get lonely);
 })
   where
     writes : IsWrite c.requires.short.on.between.opened.call
-    writes = subst IsWrite (sym (c.requires.short.on.between.call_open.call ∙ call-is c.args.parts.now c.args.w c.requires.short.on c.index.result.now c.called-call.result c.index.ensures c.called-call.ensures)) (c.if-is_write.ensures.0 refl)
-
-pub look_up-requires : goal.look_up-requires
-look_up-requires c = record { on = c.requires.short.on; may = inl c.requires.short.quiet; other = subst (IsNotLonelyIn c.args.parts.now.journal.past c.args.w) c.requires.short.on.is c.requires.other }
+    writes = subst IsWrite (sym c.requires.short.on.between.call_open.call) (is-write c.requires.short.on.serving.call c.requires.short.write)

@@ -5,7 +5,7 @@ use Rattle.bz_world.proofs.TakingOn.{slot-is}
 use Rattle.bz_world.proofs.going.end_swapless.Goals as goal
 
 pub end_effective-requires-clause-had : goal.end_effective-requires-clause-had
-end_effective-requires-clause-had c = record { on = c.requires.lacks.on; effect = ap effect_in (sym (slot-is c.args.parts.now c.args.w c.requires.lacks.on c.index.result.now c.index.ensures)) ∙ sym c.in-Some.ensures }
+end_effective-requires-clause-had c = record { on = c.requires.lacks.on; effect = ap effect_in (sym (slot-is c.args.parts.now c.args.w c.requires.lacks.on c.index.result.now c.index.ensures)) ∙ sym c.in-Some.ensures; room = c.requires.lacks.room }
 
 pub end_full-requires-clause-short : goal.end_full-requires-clause-short
 end_full-requires-clause-short c = record {
@@ -13,4 +13,6 @@ end_full-requires-clause-short c = record {
   quiet = ap effect_in (sym (slot-is c.args.parts.now c.args.w c.requires.lacks.on c.index.result.now c.index.ensures)) ∙ sym c.in-None.ensures;
   cause = c.held_swaps_are_spent.ensures c.args.parts.now.config c.args.parts.now.journal.start c.args.parts.now.journal.past c.args.w c.requires.lacks.on.between.opened (slice_index c.args.parts.now.owners.items) (are-held c.args.parts.now c.args.w c.requires.lacks);
   out = c.requires.lacks.spent;
+  room = c.requires.lacks.room;
+  write = c.requires.lacks.write (ap effect_in (sym (slot-is c.args.parts.now c.args.w c.requires.lacks.on c.index.result.now c.index.ensures)) ∙ sym c.in-None.ensures);
 }

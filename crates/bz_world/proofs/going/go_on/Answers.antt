@@ -1,31 +1,17 @@
-use Rattle.std.proofs.Common.{◌≡◌, length, arith, sym, ap, subst, ◌∙◌, None}
+use Rattle.std.proofs.Common.{◌≡◌, length, arith, sym, ap, subst, None}
 use Rattle.std.specs.Prelude.{get_or}
-use Rattle.std.proofs.lemmas.Bool.{true≢false}
 use Rattle.bz_layout.specs.Slots.{FreeSlots}
 use Rattle.bz_task.specs.declared.todo.Seen.TheVariants.{NoSwap}
-use Rattle.bz_task.specs.declared.todo.Todo.TheVariants.{Finish}
 use Rattle.bz_world.specs.Inside.Acted.{MustTell}
-use Rattle.bz_world.specs.Inside.Going.{MayGoOnIn}
-use Rattle.bz_world.specs.Inside.Lonely.{IsNotLonely, IsNotLonelyIn}
+use Rattle.bz_world.specs.Inside.Lonely.{IsNotLonelyIn}
 use Rattle.bz_world.specs.Inside.Telling.{HasToldIn}
 use Rattle.bz_world.specs.declared.parts.Parts.{Parts}
+use Rattle.bz_world.proofs.Paid.{affords-room}
+use Rattle.bz_world.specs.WorldView.{deadline}
+use Rattle.bz_world.specs.Inside.Paid.{errand_of}
 use Rattle.bz_world.proofs.Supplies.{told-few, told-fewer, few-asked}
-use Rattle.bz_world.proofs.TakingOn.{must-go-on, ended-by, lacks-told, lacks-swap, lacks-other, told-went, went-started}
+use Rattle.bz_world.proofs.TakingOn.{lacks-told, lacks-swap, lacks-other, told-went, went-started}
 use Rattle.bz_world.proofs.going.go_on.Goals as goal
-use Rattle.bz_world.proofs.going.go_on.Goals.{in-Finish, in_default}
-
-pub look_up-requires : goal.look_up-requires
-look_up-requires c =
-    let ends : c.args.todo ≡ Finish = elim c.match-matches.branch [
-      | in-Finish w ↦ w.in-Finish.is
-      | in_default w ↦ absurd (true≢false (sym c.if-matches.true ∙ w.matches-is))
-    ] in
-    let other : IsNotLonely c.args.parts.now.journal.past c.args.w c.requires.asks.serving.call = subst (IsNotLonelyIn c.args.parts.now.journal.past c.args.w) c.requires.asks.is (c.requires.other ends) in
-    record {
-      on = must-go-on c.args.parts.now c.args.w c.args.todo c.requires.asks c.outcome_of.result (ended-by c.args.parts.now c.args.w c.args.todo c.requires.asks c.outcome_of.result c.outcome_of.ensures) (λ key get lonely. absurd (other key get lonely));
-      may = subst MayGoOnIn c.requires.asks.is c.requires.may;
-      other = other;
-    }
 
 pub tell-requires : goal.tell-requires
 tell-requires c = subst (λ (p : Parts). MustTell p c.args.w NoSwap) (sym (c.start.ensures.same c.if-start.false)) (lacks-told c.alone_laws.ensures c.args.parts.now c.args.w c.args.todo c.requires.asks (c.start.ensures.lacks c.if-start.false))
@@ -33,7 +19,7 @@ tell-requires c = subst (λ (p : Parts). MustTell p c.args.w NoSwap) (sym (c.sta
 pub end_swapless-requires-clause-lacks : goal.end_swapless-requires-clause-lacks
 end_swapless-requires-clause-lacks c =
     let same : c.start.new.parts ≡ c.args.parts.now = c.start.ensures.same c.if-start.false in
-    lacks-swap c.args.parts.now c.args.w c.args.todo c.tell.result c.requires.asks (c.start.ensures.lacks c.if-start.false) c.tell.new.parts (length c.args.parts.now.journal.past) c.args.parts.now.slots c.tell.new.parts.slots
+    lacks-swap c.alone_laws.ensures.rounds c.args.parts.now c.args.w c.args.todo c.tell.result c.requires.asks (c.start.ensures.lacks c.if-start.false) c.tell.new.parts (length c.args.parts.now.journal.past) c.args.parts.now.slots c.tell.new.parts.slots
     (subst (λ (p : Parts). c.tell.new.parts ≡ record p { slots = c.tell.new.parts.slots; workers = c.tell.new.parts.workers }) same c.tell.ensures.rest) c.tell.ensures.asks
     (subst (λ (p : Parts). HasToldIn (get_or p.workers.items c.args.w None) NoSwap (length p.journal.past) p.slots c.tell.result (get_or c.tell.new.parts.workers.items c.args.w None) c.tell.new.parts.slots) same c.tell.ensures.told)
 
@@ -75,3 +61,4 @@ returns-else-start-clause-few c = omega (
 
 pub returns-then-start-clause-went : goal.returns-then-start-clause-went
 returns-then-start-clause-went c = went-started c.args.parts.now c.args.parts.now.workers c.args.w c.start.new.parts (c.start.ensures.started c.if-start.true) c.start.ensures.rest c.start.ensures.taken c.start.ensures.others
+    (affords-room c.args.parts.now.access c.args.w (errand_of c.requires.asks.serving) (length c.args.parts.now.journal.past) (deadline c.args.parts.now.config c.args.w c.args.parts.now.journal.past) _ c.requires.asks.asking.paid.affords)

@@ -1,9 +1,16 @@
-use Rattle.std.proofs.Common.{refl, sym, ap, ◌∙◌, inl, Option, Some, None}
+use Rattle.std.proofs.Common.{◌≡◌, length, arith, refl, sym, ap, subst, ◌∙◌, inl, Option, Some, None}
 use Rattle.std.specs.Vec.{with_item}
 use Rattle.bz_call.specs.Map.{key_of}
 use Rattle.bz_task.specs.declared.todo.Todo.TheVariants.{Read}
 use Rattle.bz_world.specs.Inside.Going.{known, with_task}
 use Rattle.bz_world.specs.declared.serving.OpenCall.{OpenCall}
+use Rattle.bz_world.proofs.Spared.{not-ended, seeks}
+use Rattle.bz_world.proofs.Paid.{within-of, affords-room}
+use Rattle.bz_world.specs.WorldView.{deadline}
+use Rattle.bz_world.specs.Inside.Paid.{errand_of}
+use Rattle.bz_running.specs.Kinds as kinds
+use Rattle.bz_running.specs.Kinds.{is_renewal}
+use Rattle.bz_lone.specs.Errands.{IsLookOf}
 use Rattle.bz_world.proofs.TakingOn.{looks-anew, taken-asks, lookup-taken, none-wanted, slot-is, call-is, has-filled, went-started, starts-always}
 use Rattle.bz_world.proofs.going.look_up.Goals as goal
 
@@ -13,9 +20,19 @@ start-requires-clause-asks c = taken-asks c.args.parts.now c.args.w c.seek-task.
     (c.key_of.ensures ∙ ap key_of (sym (call-is c.args.parts.now c.args.w c.requires.on c.index.result.now c.called-call.result c.index.ensures c.called-call.ensures)))
     c.seek-task.ensures.asks (c.seek-task.ensures.facts (known c.args.parts.now c.args.w (looks-anew c.args.parts.now c.args.w c.requires.on)) (has-filled c.args.parts.now c.args.w (looks-anew c.args.parts.now c.args.w c.requires.on)))
     (none-wanted c.args.parts.now c.args.w (looks-anew c.args.parts.now c.args.w c.requires.on) c.seek-task.result c.seek-task.ensures.wants) (λ key get lonely. absurd (c.requires.other key get lonely))
-    (λ quiet. inl (record { slots = c.seek-task.ensures.wants; swaps = inl c.seek-task.ensures.swaps })))
+    (record {
+      within = within-of c.seek-task.result (λ a e. absurd (let other : kinds.Seek ≡ kinds.SplitLeaf a = sym c.seek-task.ensures.kind ∙ e in cc other));
+      fit = record { words = c.requires.on.fit.words; thawed = c.requires.on.fit.thawed };
+      look = λ quiet. subst (IsLookOf c.requires.on.serving.call) (sym c.seek-task.ensures.kind) (seeks c.requires.on.serving.call);
+      meant = λ quiet. inl (record { slots = c.seek-task.ensures.wants; swaps = inl c.seek-task.ensures.swaps });
+      later = λ at is. ap is_renewal c.seek-task.ensures.kind;
+    })
+    (c.start_laws.ensures.lone.rounds.begin c.args.parts.now.access c.args.w (errand_of c.requires.on.serving) c.seek-task.result (deadline c.args.parts.now.config c.args.w c.args.parts.now.journal.past) (known c.args.parts.now c.args.w c.requires.on).past
+    (known c.args.parts.now c.args.w (looks-anew c.args.parts.now c.args.w c.requires.on)).past
+    (record { kind = c.seek-task.ensures.kind; left = omega (arith, c.seek-task.ensures.left); goes = not-ended c.seek-task.result (Read 2) c.laws.ensures c.seek-task.ensures.asks (λ e. cc e); config = refl; now = refl; since = refl; image = refl }) c.requires.pays))
     c.set_task.new.slot (c.set_task.ensures ∙ ap (λ (z : Option OpenCall). with_task z c.seek-task.result None) (slot-is c.args.parts.now c.args.w c.requires.on c.index_mut.result.now c.index_mut.ensures.value))
     c.requires.on.between.call_open.told c.start_laws.ensures.lone c.requires.other (Read 2) (λ e. absurd (cc e)) refl
 
 pub returns-clause-went : goal.returns-clause-went
 returns-clause-went c = went-started c.args.parts.now (with_item c.args.parts.now.workers c.args.w c.set_task.new.slot) c.args.w c.start.new.parts (starts-always _ 2 c.start.new.parts c.start.result c.start.ensures.started c.start.ensures.lacks) c.start.ensures.rest c.start.ensures.taken c.start.ensures.others
+    (affords-room c.args.parts.now.access c.args.w (errand_of c.requires.on.serving) (length c.args.parts.now.journal.past) (deadline c.args.parts.now.config c.args.w c.args.parts.now.journal.past) _ c.requires.pays.affords)

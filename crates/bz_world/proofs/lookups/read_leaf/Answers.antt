@@ -4,6 +4,12 @@ use Rattle.bz_call.specs.Map.{key_of}
 use Rattle.bz_task.specs.Outcomes.{IsPath}
 use Rattle.bz_world.specs.Inside.Going.{known, with_task}
 use Rattle.bz_world.specs.declared.serving.OpenCall.{OpenCall}
+use Rattle.bz_world.proofs.Spared.{task-paid}
+use Rattle.bz_world.proofs.Paid.{within-of}
+use Rattle.bz_world.specs.Inside.Meant.{IsMeant}
+use Rattle.bz_running.specs.Kinds as kinds
+use Rattle.bz_running.specs.Kinds.{is_renewal}
+use Rattle.bz_lone.specs.Errands.{IsLookOf}
 use Rattle.bz_world.proofs.TakingOn.{task-begins, lookup-taken, none-wanted, slot-is, call-is, known-scene, went-anew}
 use Rattle.bz_world.proofs.lookups.read_leaf.Goals as goal
 
@@ -13,10 +19,21 @@ begin_task-requires-clause-begins c = task-begins c.args.parts.now c.args.w c.re
     key c.read_leaf-task.ensures.asks (c.read_leaf-task.ensures.facts (known c.args.parts.now c.args.w c.requires.path.on) (known-scene c.start_laws.ensures.scenes c.args.parts.now c.args.w c.requires.path.on)
     (subst (λ k. IsPath k c.args.path (known c.args.parts.now c.args.w c.requires.path.on).past) (sym key) c.requires.path.leads))
     (none-wanted c.args.parts.now c.args.w c.requires.path.on c.read_leaf-task.result c.read_leaf-task.ensures.wants) (λ key get lonely. absurd (c.requires.path.other key get lonely))
-    (λ quiet. inl (record { slots = c.read_leaf-task.ensures.wants; swaps = inl c.read_leaf-task.ensures.swaps })))
+    meant
+    (task-paid c.start_laws.ensures.lone.rounds c.args.parts.now c.args.w c.requires.path.on c.read_leaf-task.result (Some c.args.path) c.requires.path.on.serving.had kinds.ReadWhole c.read_leaf-task.ensures.kind c.laws.ensures c.read_leaf-task.ensures.asks c.read_leaf-task.ensures.made
+    meant (λ quiet merge. absurd (cc merge)) c.requires.path.spares))
     c.set_task.new.slot (c.set_task.ensures ∙ ap (λ (z : Option OpenCall). with_task z c.read_leaf-task.result (Some c.args.path)) (slot-is c.args.parts.now c.args.w c.requires.path.on c.index_mut.result.now c.index_mut.ensures.value))
-    c.requires.path.on.between.call_open.told c.start_laws.ensures.lone c.requires.path.other refl
+    c.requires.path.on.between.call_open.told c.start_laws.ensures.lone c.requires.path.other refl c.read_leaf-task.ensures.silent (λ e. cc (c.read_leaf-task.ensures.kind, e))
   where
+    meant : IsMeant (record c.requires.path.on.serving { task = c.read_leaf-task.result; path = Some c.args.path }) (known c.args.parts.now c.args.w c.requires.path.on).past
+    meant = record {
+      within = within-of c.read_leaf-task.result (λ a e. absurd (let other : kinds.ReadWhole ≡ kinds.SplitLeaf a = sym c.read_leaf-task.ensures.kind ∙ e in cc other));
+      fit = record { words = c.requires.path.on.fit.words; thawed = c.requires.path.on.fit.thawed };
+      look = λ quiet. subst (IsLookOf c.requires.path.on.serving.call) (sym c.read_leaf-task.ensures.kind) (c.requires.path.look quiet);
+      meant = λ quiet. inl (record { slots = c.read_leaf-task.ensures.wants; swaps = inl c.read_leaf-task.ensures.swaps });
+      later = λ at is. ap is_renewal c.read_leaf-task.ensures.kind;
+    }
+
     key : c.key_of.result ≡ key_of c.requires.path.on.serving.call
     key = c.key_of.ensures ∙ ap key_of (sym (call-is c.args.parts.now c.args.w c.requires.path.on c.index.result.now c.called-call.result c.index.ensures c.called-call.ensures))
 

@@ -1,8 +1,15 @@
-use Rattle.std.proofs.Common.{arith, inl}
+use Rattle.std.proofs.Common.{◌≤◌, arith, sym, ◌∙◌, inl}
+use Rattle.std.proofs.lemmas.Bool.{true≢false}
+use Rattle.bz_world.proofs.MakingAnew.{not-due}
 use Rattle.bz_world.proofs.restructuring.make_anew.Goals as goal
 
 pub look_up-requires : goal.look_up-requires
-look_up-requires c = record { on = c.requires.anew.answer.on; may = inl c.requires.anew.answer.quiet; other = c.requires.anew.answer.other }
+look_up-requires c = record {
+  on = c.requires.anew.answer.on;
+  may = inl c.requires.anew.answer.quiet;
+  other = c.requires.anew.answer.other;
+  pays = not-due c.start_laws.ensures.lone c.args.parts.now c.args.w c.args.path c.args.view.now c.requires.anew (λ may. true≢false (sym (c.is_due.ensures.due.1 (may.due c.requires.frozen)) ∙ c.if-not-is_due.true));
+}
 
 pub merge_or_copy-requires-clause-copy : goal.merge_or_copy-requires-clause-copy
 merge_or_copy-requires-clause-copy c = record { anew = c.requires.anew; frozen = c.requires.frozen; few = omega (arith, c.if-live_words-le-SPLIT_ABOVE.true, c.live_words.ensures); leads = c.is_due.ensures.leads c.if-not-is_due.false }
@@ -21,4 +28,12 @@ split_below-requires-clause-split c = record {
 }
 
 pub look_up-requires-else-is_due : goal.look_up-requires-else-is_due
-look_up-requires-else-is_due c = record { on = c.requires.anew.answer.on; may = inl c.requires.anew.answer.quiet; other = c.requires.anew.answer.other }
+look_up-requires-else-is_due c =
+    let deep : 2 ≤ c.args.path.depth = omega (arith, c.requires.anew.way.some, c.if-path-eq1.false) in
+    record {
+      on = c.requires.anew.answer.on;
+      may = inl c.requires.anew.answer.quiet;
+      other = c.requires.anew.answer.other;
+      pays = not-due c.start_laws.ensures.lone c.args.parts.now c.args.w c.args.path c.args.view.now c.requires.anew
+          (λ may. true≢false (sym (c.is_due-else-path-eq1.ensures.due.1 (deep, (may.above deep, (omega (arith, c.if-live_words-le-SPLIT_ABOVE.false, c.live_words.ensures), may.due c.requires.frozen)))) ∙ c.if-is_due.false));
+    }

@@ -1,6 +1,10 @@
-use Rattle.std.proofs.Common.{refl, inl}
+use Rattle.std.proofs.Common.{refl, sym, ap, ◌∙◌, inl}
 use Rattle.bz_call.specs.Map.{key_of}
+use Rattle.bz_world.specs.Inside.Going.{alone_in}
 use Rattle.bz_world.proofs.Changing.{needs-merge}
+use Rattle.bz_world.proofs.MakingAnew.{merge-spares}
+use Rattle.bz_world.proofs.Spared.{lacks-write}
+use Rattle.bz_world.proofs.TakingOn.{slot-is}
 use Rattle.bz_world.proofs.restructuring.merge_or_copy.Goals as goal
 
 pub merge-requires-clause-merge : goal.merge-requires-clause-merge
@@ -15,4 +19,8 @@ merge-requires-clause-merge c = let due = c.is_due.ensures.due.0 c.if-is_due.tru
   thawed = due.1.0;
   wanted = λ quiet some. needs-merge c.start_laws.ensures.scenes c.answer_laws.ensures c.args.parts.now c.args.w c.args.view.now c.requires.copy.anew.answer (key_of c.requires.copy.anew.answer.on.serving.call) refl c.requires.copy.frozen due.1.1.0;
   other = c.requires.copy.anew.answer.other;
+  frozen = λ quiet. c.requires.copy.frozen;
+  write = λ quiet. lacks-write c.requires.copy.anew.answer.on.serving.call c.args.view.now.status c.requires.copy.anew.lacks;
+  thawed_call = c.requires.copy.anew.answer.on.fit.thawed;
+  spares = merge-spares c.start_laws.ensures.lone c.args.parts.now c.args.w c.args.path c.args.view.now c.requires.copy (sym (ap alone_in (slot-is c.args.parts.now c.args.w c.requires.copy.anew.answer.on c.index.result.now c.index.ensures)) ∙ (sym c.is_alone.ensures ∙ c.if-is_alone.false));
 }

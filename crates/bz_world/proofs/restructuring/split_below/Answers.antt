@@ -1,15 +1,20 @@
-use Rattle.std.proofs.Common.{◌≡◌, ℕ, List, refl, sym, ap, subst, ◌∙◌, Option, None}
+use Rattle.std.proofs.Common.{◌≡◌, ℕ, List, arith, refl, sym, ap, subst, ◌∙◌, Option, None}
 use Rattle.bz_call.specs.Map.{key_of}
 use Rattle.bz_layout.specs.declared.thresholds.TheConstants.{SPLIT_SLOTS}
+use Rattle.bz_lone.specs.Errands.{words_asked}
 use Rattle.std.specs.Vec.{with_item}
+use Rattle.bz_running.specs.Duties.{facts_of}
+use Rattle.bz_running.specs.Hearing.{IsLookup}
+use Rattle.bz_running.specs.Kinds as kinds
 use Rattle.bz_running.specs.MadeFor.{IsMadeFor}
-use Rattle.bz_task.specs.Outcomes.{IsView}
+use Rattle.bz_task.specs.Outcomes.{IsPath, IsView}
+use Rattle.bz_task.specs.Scene.{Scene, IsScene, Waiting}
+use Rattle.bz_task.specs.declared.path.Path.{Path}
 use Rattle.bz_world.specs.Inside.Going.{known, with_task}
-use Rattle.bz_world.specs.Inside.Meant.{words_asked}
 use Rattle.bz_world.specs.declared.serving.OpenCall.{OpenCall}
 use Rattle.bz_world.proofs.Changing.{needs-split}
-use Rattle.bz_world.proofs.GoingUp.{split-taken}
-use Rattle.bz_world.proofs.MakingAnew.{anew-pages}
+use Rattle.bz_world.proofs.MakingAnew.{below-spares, anew-taken, anew-pages}
+use Rattle.bz_world.proofs.Paid.{within-of}
 use Rattle.bz_world.proofs.TakingOn.{task-begins, slot-is, call-is, went-anew}
 use Rattle.bz_world.proofs.restructuring.split_below.Goals as goal
 
@@ -18,15 +23,23 @@ split_below-task-requires-clause-alone c = record { nodes = _; low = _; high = _
 
 pub begin_task-requires-clause-begins : goal.begin_task-requires-clause-begins
 begin_task-requires-clause-begins c = task-begins (record c.args.parts.now { page = c.split_below-task.new.page }) c.args.w c.split_below-task.result c.requires.split.anew.answer.on.serving.had None None
-    (split-taken c.start_laws.ensures.scenes (record c.args.parts.now { page = c.split_below-task.new.page }) c.args.w c.args.path c.args.view.now (anew-pages c.args.parts.now c.args.w c.args.path c.args.view.now c.split_below-task.new.page c.requires.split.anew)
-    c.key_of.result key c.split_below-task.result c.split_below-task.ensures.config c.laws.ensures c.split_below-task.ensures.silent c.split_below-task.ensures.ends c.split_below-task.ensures.asks SPLIT_SLOTS c.split_below-task.ensures.wants
+    (anew-taken c.start_laws.ensures.lone (record c.args.parts.now { page = c.split_below-task.new.page }) c.args.w c.args.path c.args.view.now (anew-pages c.args.parts.now c.args.w c.args.path c.args.view.now c.split_below-task.new.page c.requires.split.anew)
+    c.split_below-task.result (kinds.SplitLeaf c.split_below-task.ensures.kind.from)
+    (record { config = c.split_below-task.ensures.config; laws = c.laws.ensures; silent = c.split_below-task.ensures.silent; asks = c.split_below-task.ensures.asks; kind = c.split_below-task.ensures.kind.is; made = c.split_below-task.ensures.made; within = within-of c.split_below-task.result (λ a e. omega (arith, c.split_below-task.ensures.left)) })
+    (λ merge. cc merge) looks SPLIT_SLOTS c.split_below-task.ensures.wants
     (needs-split c.start_laws.ensures.scenes c.answer_laws.ensures c.args.parts.now c.args.w c.args.view.now c.requires.split.anew.answer (key_of c.requires.split.anew.answer.on.serving.call) refl c.requires.split.frozen c.requires.split.many)
-    c.split_below-task.ensures.facts made)
+    facts made (below-spares c.start_laws.ensures.lone c.args.parts.now c.args.w c.args.path c.args.view.now c.requires.split))
     c.set_task.new.slot (c.set_task.ensures ∙ ap (λ (z : Option OpenCall). with_task z c.split_below-task.result None) (slot-is (record c.args.parts.now { page = c.split_below-task.new.page }) c.args.w (anew-pages c.args.parts.now c.args.w c.args.path c.args.view.now c.split_below-task.new.page c.requires.split.anew).answer.on c.index_mut.result.now c.index_mut.ensures.value))
-    c.requires.split.anew.answer.on.between.call_open.told c.start_laws.ensures.lone c.requires.split.anew.answer.other refl
+    c.requires.split.anew.answer.on.between.call_open.told c.start_laws.ensures.lone c.requires.split.anew.answer.other refl c.split_below-task.ensures.silent (λ find. cc (c.split_below-task.ensures.kind.is, find))
   where
     key : c.key_of.result ≡ key_of c.requires.split.anew.answer.on.serving.call
     key = c.key_of.ensures ∙ ap key_of (sym (call-is c.args.parts.now c.args.w c.requires.split.anew.answer.on c.index.result.now c.called-call.result c.index.ensures c.called-call.ensures))
+
+    looks : (way : Option Path) → IsLookup (key_of c.requires.split.anew.answer.on.serving.call) way c.split_below-task.result
+    looks way = subst (λ (k : List ℕ). IsLookup k way c.split_below-task.result) key (c.split_below-task.ensures.ends way)
+
+    facts : (s : Scene) → s.past.config ≡ c.args.parts.now.config → IsScene s → IsPath (key_of c.requires.split.anew.answer.on.serving.call) c.args.path s.past → IsView (key_of c.requires.split.anew.answer.on.serving.call) c.args.view.now s.past → facts_of c.split_below-task.result Waiting s
+    facts s config good path viewed = c.split_below-task.ensures.facts s config good (subst (λ (k : List ℕ). IsPath k c.args.path s.past) (sym key) path) (subst (λ (k : List ℕ). IsView k c.args.view.now s.past) (sym key) viewed)
 
     -- it is made for the key of the call
     made : IsMadeFor c.split_below-task.result (key_of c.requires.split.anew.answer.on.serving.call) (words_asked c.requires.split.anew.answer.on.serving.call) (known c.args.parts.now c.args.w c.requires.split.anew.answer.on).past

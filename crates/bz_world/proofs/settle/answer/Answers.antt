@@ -1,10 +1,12 @@
-use Rattle.std.proofs.Common.{inl}
+use Rattle.std.proofs.Common.{subst, inl, inr}
+use Rattle.bz_lone.specs.Errands.{IsLookOf}
+use Rattle.bz_running.specs.Kinds as kinds
 use Rattle.bz_world.proofs.TakingOn.{call-is}
 use Rattle.bz_world.proofs.settle.answer.Goals as goal
 
-pub look_up-requires : goal.look_up-requires
-look_up-requires c = record {
-  on = c.requires.view.on;
-  may = inl c.requires.view.quiet;
-  other = λ key get lonely. absurd (cc (call-is c.args.parts.now c.args.w c.requires.view.on c.index.result.now _ c.index.ensures c.in-Page.ensures, get));
-}
+-- a page does not look its key up
+pub unreachable-requires : goal.unreachable-requires
+unreachable-requires c = elim (subst (λ z. IsLookOf z kinds.Find) (call-is c.args.parts.now c.args.w c.requires.view.on c.index.result.now _ c.index.ensures c.in-Page.ensures) c.requires.view.look) [
+  | inl e ↦ cc e
+  | inr e ↦ cc e
+]

@@ -1,4 +1,5 @@
-use Rattle.std.proofs.Common.{◌≡◌, refl, sym, subst, Some, None}
+use Rattle.std.proofs.Common.{◌≡◌, refl, sym, ap, subst, Some, None}
+use Rattle.bz_call.specs.Pages.{names_page}
 use Rattle.bz_call.specs.declared.calls.Call.TheVariants.{Get}
 use Rattle.bz_world.specs.Inside.Going.{MustEnd}
 use Rattle.bz_world.proofs.Answering.{looking-key, value-right, missing-right, content-is}
@@ -19,3 +20,9 @@ end-requires-clause-right c = elim c.match-view.branch [
   where
     called : c.requires.view.on.serving.call ≡ Get c.args.key.now
     called = called-is c.args.parts.now c.args.w c.requires.view.on (Get c.args.key.now) c.requires.call
+
+pub end-requires-clause-plain : goal.end-requires-clause-plain
+end-requires-clause-plain c = elim c.match-view.branch [
+  | in-Some w ↦ ap names_page w.reply-is
+  | in-None w ↦ ap names_page w.reply-is
+]

@@ -1,5 +1,4 @@
-use Rattle.std.proofs.Common.{sym, subst, inl}
-use Rattle.bz_world.specs.Inside.Going.{MayGoOnIn}
+use Rattle.std.proofs.Common.{subst}
 use Rattle.bz_world.specs.Inside.Telling.{MustStartFound}
 use Rattle.bz_world.proofs.settle.go_on_finding.Goals as goal
 
@@ -9,5 +8,5 @@ settle_found-requires-clause-ends c = subst (MustStartFound c.args.parts.now c.a
 pub go_on-requires-clause-asks : goal.go_on-requires-clause-asks
 go_on-requires-clause-asks c = c.requires.asks.start.must
 
-pub go_on-requires-clause-may : goal.go_on-requires-clause-may
-go_on-requires-clause-may c = subst MayGoOnIn (sym c.requires.asks.start.must.is) (inl c.requires.asks.start.knows.quiet)
+pub go_on-requires-clause-more : goal.go_on-requires-clause-more
+go_on-requires-clause-more c ends = c.in_default.not-Finish ends

@@ -1,10 +1,10 @@
-use Rattle.std.proofs.Common.{sym, subst, inl}
+use Rattle.std.proofs.Common.{◌≡◌, sym, ap, subst, ◌∙◌, inl, Some, is_some}
+use Rattle.std.proofs.lemmas.Bool.{true≢false}
 use Rattle.std.specs.Prelude.{IfSome, Option}
 use Rattle.bz_running.specs.declared.running.AnyTask.{AnyTask}
-use Rattle.bz_world.specs.Inside.Going.{CanGoUpIn, GoesUpIn, known}
+use Rattle.bz_world.specs.Inside.Going.{CanGoUpIn, GoesUpIn, MayGoUpIn, StandsBelowIn, known}
 use Rattle.bz_world.specs.declared.serving.OpenCall.{OpenCall}
-use Rattle.bz_task.specs.declared.todo.Outcome.TheVariants.{NeedsRoom}
-use Rattle.bz_world.proofs.LonelyEnds.{other-ended}
+use Rattle.bz_world.proofs.GoingUp.{crowded-other, crowded-pays}
 use Rattle.bz_world.proofs.TakingOn.{slot-is}
 use Rattle.bz_world.proofs.settle.settle_crowded.Goals as goal
 
@@ -17,8 +17,17 @@ above-requires c =
 pub split_above-requires-clause-up : goal.split_above-requires-clause-up
 split_above-requires-clause-up c =
     let e = c.requires.ends in
-    let found = subst (λ (z : Option AnyTask). IfSome z (GoesUpIn c.index.result.now)) c.in-Some.is c.above.ensures in
+    let found = subst (λ (z : Option AnyTask). IfSome z (GoesUpIn c.index.result.now)) c.in-Some.is c.above.ensures.up in
     record { ends = e; up = subst (λ (z : Option OpenCall). GoesUpIn z c.in-Some.task) (slot-is c.args.parts.now c.args.w e.on c.index.result.now c.index.ensures) found }
 
 pub look_up_alone-requires : goal.look_up_alone-requires
-look_up_alone-requires c = record { on = c.requires.ends.on; may = inl c.requires.ends.quiet; other = other-ended c.args.parts.now c.args.w c.requires.ends.on NeedsRoom c.requires.ends.end (λ path e. cc e) (λ view e. cc e) }
+look_up_alone-requires c = record {
+  on = c.requires.ends.on;
+  may = inl c.requires.ends.quiet;
+  other = crowded-other c.args.parts.now c.args.w c.requires.ends;
+  pays = crowded-pays c.start_laws.ensures.lone c.args.parts.now c.args.w c.requires.ends (subst StandsBelowIn here c.above.ensures.stands)
+      (λ up. true≢false (sym (c.above.ensures.due (subst MayGoUpIn (sym here) up)) ∙ ap is_some c.in-None.is));
+}
+  where
+    here : c.index.result.now ≡ Some c.requires.ends.on.serving
+    here = slot-is c.args.parts.now c.args.w c.requires.ends.on c.index.result.now c.index.ensures

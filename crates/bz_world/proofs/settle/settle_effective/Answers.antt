@@ -1,27 +1,50 @@
-use Rattle.std.proofs.Common.{ap, ◌∙◌, inr}
-use Rattle.bz_world.specs.WorldView.{is_delete}
-use Rattle.bz_world.proofs.TakingOn.{call-is}
+use Rattle.std.proofs.Common.{◌≡◌, refl, ap, subst, ◌∙◌, inr, Some, Option, is_some}
+use Rattle.bz_running.specs.Duties.{end_of}
+use Rattle.bz_running.specs.Kinds as kinds
+use Rattle.bz_running.specs.Kinds.{kind_of}
+use Rattle.bz_task.specs.declared.todo.Outcome.TheVariants.{Path, View}
+use Rattle.bz_world.specs.Inside.Going.{DeletesIn, known}
+use Rattle.bz_world.specs.Inside.Paid.{errand_of}
+use Rattle.bz_world.specs.WorldView.{is_delete, deadline}
+use Rattle.bz_world.specs.declared.serving.OpenCall.{OpenCall}
+use Rattle.bz_world.proofs.Spared.{after-read, ended-spares, path-kind, view-kind}
+use Rattle.bz_world.proofs.TakingOn.{call-is, slot-is}
 use Rattle.bz_world.proofs.settle.settle_effective.Goals as goal
 
 pub look_up-requires : goal.look_up-requires
-look_up-requires c = record {
-  on = c.requires.ends.had.on;
-  other = λ key get lonely. absurd (cc (call-is c.args.parts.now c.args.w c.requires.ends.had.on c.index.result.now c.called-call.result c.index.ensures c.called-call.ensures, c.in-Delete.is, get));
-  may = inr (ap is_delete (call-is c.args.parts.now c.args.w c.requires.ends.had.on c.index.result.now c.called-call.result c.index.ensures c.called-call.ensures ∙ c.in-Delete.is));
-}
+look_up-requires c =
+    let e = c.requires.ends in
+    record {
+      on = e.had.on;
+      other = λ key get lonely. absurd (cc (call-is c.args.parts.now c.args.w e.had.on c.index.result.now c.called-call.result c.index.ensures c.called-call.ensures, c.in-Delete.is, get));
+      may = inr (ap is_delete (call-is c.args.parts.now c.args.w e.had.on c.index.result.now c.called-call.result c.index.ensures c.called-call.ensures ∙ c.in-Delete.is));
+      pays = c.round_laws.ensures.rounds.delete c.args.parts.now.access c.args.w (errand_of e.had.on.serving) e.had.on.serving.task (deadline c.args.parts.now.config c.args.w c.args.parts.now.journal.past) (known c.args.parts.now c.args.w e.had.on).past (ap is_some e.had.effect)
+          (subst (λ (z : Option OpenCall). DeletesIn z) (slot-is c.args.parts.now c.args.w e.had.on c.index-in-Done.result.now c.index-in-Done.ensures) (c.if-leaves_few.ensures refl)) e.paid;
+    }
 
 pub read_leaf-requires-clause-path : goal.read_leaf-requires-clause-path
-read_leaf-requires-clause-path c = record {
-  on = c.requires.ends.had.on;
-  may = inr (ap is_delete (call-is c.args.parts.now c.args.w c.requires.ends.had.on c.index.result.now c.called-call.result c.index.ensures c.called-call.ensures ∙ c.in-Delete.is));
-  leads = c.requires.ends.path c.in-Path.path c.in-Path.is;
-  other = λ key get lonely. absurd (cc (call-is c.args.parts.now c.args.w c.requires.ends.had.on c.index.result.now c.called-call.result c.index.ensures c.called-call.ensures, c.in-Delete.is, get));
-}
+read_leaf-requires-clause-path c =
+    let e = c.requires.ends in
+    let ended : end_of e.had.on.serving.task ≡ Some (Path c.in-Path.path) = e.ends ∙ ap Some c.in-Path.is in
+    let kind : kind_of e.had.on.serving.task ≡ kinds.Seek = path-kind (kind_of e.had.on.serving.task) c.in-Path.path (e.tasked.laws.ends_of (Path c.in-Path.path) (known c.args.parts.now c.args.w e.had.on) (e.tasked.laws.ends (known c.args.parts.now c.args.w e.had.on) (Path c.in-Path.path) e.facts ended).0) in
+    record {
+      on = e.had.on;
+      may = inr (ap is_delete (call-is c.args.parts.now c.args.w e.had.on c.index.result.now c.called-call.result c.index.ensures c.called-call.ensures ∙ c.in-Delete.is));
+      leads = e.path c.in-Path.path c.in-Path.is;
+      other = λ key get lonely. absurd (cc (call-is c.args.parts.now c.args.w e.had.on c.index.result.now c.called-call.result c.index.ensures c.called-call.ensures, c.in-Delete.is, get));
+      spares = after-read c.round_laws.ensures c.args.parts.now c.args.w e.had.on (ap is_some e.had.effect) (ended-spares c.round_laws.ensures c.args.parts.now c.args.w e.had.on (Path c.in-Path.path) kinds.Seek kind refl ended (λ e. cc e) e.paid);
+      look = λ quiet. absurd (cc (e.had.effect, quiet));
+    }
 
 pub settle_small-requires-clause-read : goal.settle_small-requires-clause-read
-settle_small-requires-clause-read c = record {
-  had = c.requires.ends.had;
-  deletes = ap is_delete (call-is c.args.parts.now c.args.w c.requires.ends.had.on c.index.result.now c.called-call.result c.index.ensures c.called-call.ensures ∙ c.in-Delete.is);
-  viewed = c.requires.ends.view c.in-View.view c.in-View.is;
-  leads = c.requires.ends.leads c.in-View.view c.in-View.is;
-}
+settle_small-requires-clause-read c =
+    let e = c.requires.ends in
+    let ended : end_of e.had.on.serving.task ≡ Some (View c.in-View.view) = e.ends ∙ ap Some c.in-View.is in
+    let kind : kind_of e.had.on.serving.task ≡ kinds.ReadWhole = view-kind (kind_of e.had.on.serving.task) c.in-View.view (e.tasked.laws.ends_of (View c.in-View.view) (known c.args.parts.now c.args.w e.had.on) (e.tasked.laws.ends (known c.args.parts.now c.args.w e.had.on) (View c.in-View.view) e.facts ended).0) in
+    record {
+      had = e.had;
+      deletes = ap is_delete (call-is c.args.parts.now c.args.w e.had.on c.index.result.now c.called-call.result c.index.ensures c.called-call.ensures ∙ c.in-Delete.is);
+      viewed = e.view c.in-View.view c.in-View.is;
+      leads = e.leads c.in-View.view c.in-View.is;
+      spares = ended-spares c.round_laws.ensures c.args.parts.now c.args.w e.had.on (View c.in-View.view) kinds.ReadWhole kind refl ended (λ e. cc e) e.paid;
+    }

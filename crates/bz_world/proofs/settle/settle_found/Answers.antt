@@ -1,8 +1,15 @@
-use Rattle.std.proofs.Common.{◌≡◌, inl, Some}
-use Rattle.bz_running.specs.Duties.{end_of}
-use Rattle.bz_task.specs.declared.todo.Outcome.TheVariants.{Key}
+use Rattle.std.proofs.Common.{◌≡◌, inl, Some, refl, ap, subst, ◌∙◌, is_some}
+use Rattle.bz_running.specs.Duties.{end_of, means_of}
+use Rattle.bz_running.specs.Ends.{IsEndOf}
+use Rattle.bz_task.specs.declared.todo.Outcome.TheVariants.{Key, Restart}
 use Rattle.bz_task.specs.declared.todo.Todo.TheVariants.{Finish}
 use Rattle.bz_world.specs.Inside.Going.{MustGoOn, known}
+use Rattle.bz_world.specs.Inside.Paid.{errand_of}
+use Rattle.bz_world.specs.WorldView.{deadline}
+use Rattle.bz_world.proofs.Endings.{find-restarts}
+use Rattle.bz_world.proofs.Spared.{ended-spares}
+use Rattle.bz_running.specs.Kinds as kinds
+use Rattle.bz_lone.specs.Errands.{IsLookOf}
 use Rattle.bz_world.proofs.LonelyEnds.{other-found}
 use Rattle.bz_world.proofs.TakingOn.{must-go-on, ended-by}
 use Rattle.bz_world.proofs.settle.settle_found.Goals as goal
@@ -19,6 +26,8 @@ answer-requires-clause-view c =
       some = s.knows.some;
       quiet = s.knows.quiet;
       ends = (s.must.asking.facts, ended);
+      spares = ended-spares c.round_laws.ensures c.args.parts.now c.args.w on (Key c.in-Key.view) kinds.Find c.requires.ends.kind refl ended (λ e. cc e) s.must.asking.paid;
+      look = subst (IsLookOf s.must.serving.call) c.requires.ends.kind (s.must.asking.meant.look s.knows.quiet);
     }
 
 pub look_up-requires : goal.look_up-requires
@@ -26,8 +35,11 @@ look_up-requires c =
     let s = c.requires.ends.start in
     let ended : end_of s.must.serving.task ≡ Some c.outcome_of.result = ended-by c.args.parts.now c.args.w Finish s.must c.outcome_of.result c.outcome_of.ensures in
     let on : MustGoOn c.args.parts.now c.args.w = must-go-on c.args.parts.now c.args.w Finish s.must c.outcome_of.result ended s.must.asking.lonely in
+    let means : means_of s.must.serving.task c.outcome_of.result (known c.args.parts.now c.args.w on) = (s.must.asking.tasked.laws.ends (known c.args.parts.now c.args.w on) c.outcome_of.result s.must.asking.facts ended).0 in
+    let again : c.outcome_of.result ≡ Restart = find-restarts c.outcome_of.result (subst (λ k. IsEndOf k c.outcome_of.result) c.requires.ends.kind (s.must.asking.tasked.laws.ends_of c.outcome_of.result (known c.args.parts.now c.args.w on) means)) (λ view e. c.in_default.not-Key view e) in
     record {
       on = on;
       may = inl s.knows.quiet;
       other = other-found c.args.parts.now c.args.w on c.outcome_of.result ended c.requires.ends.path c.requires.ends.found (λ view e. c.in_default.not-Key view e);
+      pays = c.round_laws.ensures.rounds.restart c.args.parts.now.access c.args.w (errand_of s.must.serving) s.must.serving.task (deadline c.args.parts.now.config c.args.w c.args.parts.now.journal.past) (known c.args.parts.now c.args.w on).past (ap is_some s.knows.quiet) (ended ∙ ap Some again) s.must.asking.paid;
     }

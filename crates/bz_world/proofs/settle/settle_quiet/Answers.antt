@@ -1,16 +1,62 @@
-use Rattle.std.proofs.Common.{subst, inl, ap, ◌∙◌, Some}
-use Rattle.bz_world.specs.Inside.Going.{HasEnded}
+use Rattle.std.proofs.Common.{◌≡◌, refl, ap, subst, ◌∙◌, inl, Some, is_some}
+use Rattle.bz_lone.specs.Errands.{IsLookOf}
+use Rattle.bz_running.specs.Duties.{end_of}
+use Rattle.bz_running.specs.Kinds as kinds
+use Rattle.bz_running.specs.Kinds.{kind_of}
+use Rattle.bz_task.specs.declared.todo.Outcome.TheVariants.{Path, View, Key, Done, Restart}
+use Rattle.bz_world.specs.Inside.Going.{HasEnded, known}
+use Rattle.bz_world.specs.Inside.Paid.{errand_of}
+use Rattle.bz_world.specs.WorldView.{deadline}
+use Rattle.bz_world.proofs.Endings.{restarts}
 use Rattle.bz_world.proofs.LonelyEnds.{other-ended}
+use Rattle.bz_world.proofs.Spared.{ended-spares, path-kind, key-kind, view-kind}
 use Rattle.bz_world.proofs.settle.settle_quiet.Goals as goal
 
 pub look_into-requires-clause-path : goal.look_into-requires-clause-path
-look_into-requires-clause-path c = record { on = c.requires.ends.on; quiet = c.requires.ends.quiet; leads = c.requires.ends.path c.in-Path.path c.in-Path.is; ends = (c.requires.ends.facts, c.requires.ends.end ∙ ap Some c.in-Path.is) }
+look_into-requires-clause-path c =
+    let e = c.requires.ends in
+    let ended : end_of e.on.serving.task ≡ Some (Path c.in-Path.path) = e.end ∙ ap Some c.in-Path.is in
+    let kind : kind_of e.on.serving.task ≡ kinds.Seek = path-kind (kind_of e.on.serving.task) c.in-Path.path (e.tasked.laws.ends_of (Path c.in-Path.path) (known c.args.parts.now c.args.w e.on) (e.tasked.laws.ends (known c.args.parts.now c.args.w e.on) (Path c.in-Path.path) e.facts ended).0) in
+    record {
+      on = e.on;
+      quiet = e.quiet;
+      leads = e.path c.in-Path.path c.in-Path.is;
+      ends = (e.facts, ended);
+      spares = ended-spares c.round_laws.ensures c.args.parts.now c.args.w e.on (Path c.in-Path.path) kinds.Seek kind refl ended (λ e. cc e) e.paid;
+    }
 
 pub answer-requires-clause-view : goal.answer-requires-clause-view
-answer-requires-clause-view c = record { on = c.requires.ends.on; viewed = c.requires.ends.found c.in-Key.view c.in-Key.is; leads = c.requires.ends.leads_found c.in-Key.view c.in-Key.is; some = c.requires.ends.some_found c.in-Key.view c.in-Key.is; quiet = c.requires.ends.quiet; ends = (c.requires.ends.facts, c.requires.ends.end ∙ ap Some c.in-Key.is) }
+answer-requires-clause-view c =
+    let e = c.requires.ends in
+    let ended : end_of e.on.serving.task ≡ Some (Key c.in-Key.view) = e.end ∙ ap Some c.in-Key.is in
+    let kind : kind_of e.on.serving.task ≡ kinds.Find = key-kind (kind_of e.on.serving.task) c.in-Key.view (e.tasked.laws.ends_of (Key c.in-Key.view) (known c.args.parts.now c.args.w e.on) (e.tasked.laws.ends (known c.args.parts.now c.args.w e.on) (Key c.in-Key.view) e.facts ended).0) in
+    record {
+      on = e.on;
+      viewed = e.found c.in-Key.view c.in-Key.is;
+      leads = e.leads_found c.in-Key.view c.in-Key.is;
+      some = e.some_found c.in-Key.view c.in-Key.is;
+      quiet = e.quiet;
+      ends = (e.facts, ended);
+      spares = ended-spares c.round_laws.ensures c.args.parts.now c.args.w e.on (Key c.in-Key.view) kinds.Find kind refl ended (λ e. cc e) e.paid;
+      look = subst (IsLookOf e.on.serving.call) kind (e.meant.look e.quiet);
+    }
 
 pub answer_whole-requires-clause-view : goal.answer_whole-requires-clause-view
-answer_whole-requires-clause-view c = record { on = c.requires.ends.on; viewed = c.requires.ends.view c.in-View.view c.in-View.is; leads = c.requires.ends.leads c.in-View.view c.in-View.is; some = c.requires.ends.some c.in-View.view c.in-View.is; quiet = c.requires.ends.quiet; other = other-ended c.args.parts.now c.args.w c.requires.ends.on c.args.outcome c.requires.ends.end (λ path e. cc (c.in-View.is, e)) (λ view e. cc (c.in-View.is, e)) }
+answer_whole-requires-clause-view c =
+    let e = c.requires.ends in
+    let ended : end_of e.on.serving.task ≡ Some (View c.in-View.view) = e.end ∙ ap Some c.in-View.is in
+    let kind : kind_of e.on.serving.task ≡ kinds.ReadWhole = view-kind (kind_of e.on.serving.task) c.in-View.view (e.tasked.laws.ends_of (View c.in-View.view) (known c.args.parts.now c.args.w e.on) (e.tasked.laws.ends (known c.args.parts.now c.args.w e.on) (View c.in-View.view) e.facts ended).0) in
+    record {
+      on = e.on;
+      viewed = e.view c.in-View.view c.in-View.is;
+      leads = e.leads c.in-View.view c.in-View.is;
+      some = e.some c.in-View.view c.in-View.is;
+      quiet = e.quiet;
+      other = other-ended c.args.parts.now c.args.w e.on (View c.in-View.view) ended (λ path e. cc e) (λ view e. cc e);
+      spares = ended-spares c.round_laws.ensures c.args.parts.now c.args.w e.on (View c.in-View.view) kinds.ReadWhole kind refl ended (λ e. cc e) e.paid;
+      look = subst (IsLookOf e.on.serving.call) kind (e.meant.look e.quiet);
+      kind = kind;
+    }
 
 pub settle_full-requires-clause-ends : goal.settle_full-requires-clause-ends
 settle_full-requires-clause-ends c = subst (HasEnded c.args.parts.now c.args.w) c.in-Full.is c.requires.ends
@@ -19,7 +65,24 @@ pub settle_crowded-requires-clause-ends : goal.settle_crowded-requires-clause-en
 settle_crowded-requires-clause-ends c = subst (HasEnded c.args.parts.now c.args.w) c.in-NeedsRoom.is c.requires.ends
 
 pub look_up_frozen-requires : goal.look_up_frozen-requires
-look_up_frozen-requires c = record { on = c.requires.ends.on; may = inl c.requires.ends.quiet; other = other-ended c.args.parts.now c.args.w c.requires.ends.on c.args.outcome c.requires.ends.end (λ path e. cc (c.in-Done.is, e)) (λ view e. cc (c.in-Done.is, e)) }
+look_up_frozen-requires c =
+    let e = c.requires.ends in
+    let ended : end_of e.on.serving.task ≡ Some Done = e.end ∙ ap Some c.in-Done.is in
+    record {
+      on = e.on;
+      may = inl e.quiet;
+      other = other-ended c.args.parts.now c.args.w e.on Done ended (λ path e. cc e) (λ view e. cc e);
+      pays = c.round_laws.ensures.rounds.done c.args.parts.now.access c.args.w (errand_of e.on.serving) e.on.serving.task (deadline c.args.parts.now.config c.args.w c.args.parts.now.journal.past) (known c.args.parts.now c.args.w e.on).past (ap is_some e.quiet) ended e.paid;
+    }
 
 pub look_up-requires : goal.look_up-requires
-look_up-requires c = record { on = c.requires.ends.on; may = inl c.requires.ends.quiet; other = other-ended c.args.parts.now c.args.w c.requires.ends.on c.args.outcome c.requires.ends.end (λ path e. c.in_default.not-Path path e) (λ view e. c.in_default.not-Key view e) }
+look_up-requires c =
+    let e = c.requires.ends in
+    let again : c.args.outcome ≡ Restart = restarts (kind_of e.on.serving.task) c.args.outcome (e.tasked.laws.ends_of c.args.outcome (known c.args.parts.now c.args.w e.on) (e.tasked.laws.ends (known c.args.parts.now c.args.w e.on) c.args.outcome e.facts e.end).0)
+    (λ path e. c.in_default.not-Path path e) (λ view e. c.in_default.not-Key view e) (λ view e. c.in_default.not-View view e) (λ spent e. c.in_default.not-Full spent e) (λ e. c.in_default.not-NeedsRoom e) (λ e. c.in_default.not-Done e) in
+    record {
+      on = e.on;
+      may = inl e.quiet;
+      other = other-ended c.args.parts.now c.args.w e.on c.args.outcome e.end (λ path e. c.in_default.not-Path path e) (λ view e. c.in_default.not-Key view e);
+      pays = c.round_laws.ensures.rounds.restart c.args.parts.now.access c.args.w (errand_of e.on.serving) e.on.serving.task (deadline c.args.parts.now.config c.args.w c.args.parts.now.journal.past) (known c.args.parts.now c.args.w e.on).past (ap is_some e.quiet) (e.end ∙ ap Some again) e.paid;
+    }

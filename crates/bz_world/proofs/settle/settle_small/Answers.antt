@@ -1,6 +1,7 @@
-use Rattle.std.proofs.Common.{inr, sym, ap, ◌∙◌}
+use Rattle.std.proofs.Common.{inr, sym, ap, ◌∙◌, is_some}
 use Rattle.std.proofs.lemmas.Bool.{true≢false}
 use Rattle.bz_world.specs.WorldView.{is_delete}
+use Rattle.bz_world.proofs.Spared.{after-merge}
 use Rattle.bz_world.proofs.TakingOn.{read-way, none-wanted-after}
 use Rattle.bz_world.proofs.settle.settle_small.Goals as goal
 
@@ -28,4 +29,8 @@ merge-requires-clause-merge c = let due = c.is_due.ensures.due.0 c.if-is_due.tru
   thawed = due.1.0;
   wanted = none-wanted-after c.args.parts.now c.args.w c.args.at c.requires.read.had _;
   other = λ key get lonely. absurd (true≢false (sym c.requires.read.deletes ∙ ap is_delete get));
+  frozen = λ quiet. absurd (cc (c.requires.read.had.effect, quiet));
+  write = λ quiet. absurd (cc (c.requires.read.had.effect, quiet));
+  thawed_call = c.requires.read.had.on.fit.thawed;
+  spares = after-merge c.round_laws.ensures c.args.parts.now c.args.w c.requires.read.had.on (ap is_some c.requires.read.had.effect) c.requires.read.spares;
 }

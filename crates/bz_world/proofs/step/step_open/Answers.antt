@@ -15,7 +15,10 @@ returns-in-Some-clause-steps c = stepped-through c.args.parts.now c.act.new.part
     c.follow.ensures
 
 pub returns-in-None-clause-steps : goal.returns-in-None-clause-steps
-returns-in-None-clause-steps c = stepped-on c.args.parts.now c.act.new.parts c.args.w c.requires.kept (c.act.ensures.on c.in-None.is) c.act.ensures.made c.act.ensures.taken
+returns-in-None-clause-steps c = stepped-on c.args.parts.now c.act.new.parts c.args.w c.requires.kept (c.act.ensures.on c.in-None.is) c.requires.open c.act.ensures.made c.act.ensures.taken
 
 pub follow-requires-clause-swaps : goal.follow-requires-clause-swaps
 follow-requires-clause-swaps c = c.tell-todo.ensures.swaps (λ none. c.act.ensures.swaps (c.in-Some.is ∙ ap Some none))
+
+pub follow-requires-clause-crowded : goal.follow-requires-clause-crowded
+follow-requires-clause-crowded c = c.tell-todo.ensures.crowded (λ start. c.act.ensures.begun (c.in-Some.is ∙ ap Some start))

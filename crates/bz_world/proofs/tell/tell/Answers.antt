@@ -1,8 +1,10 @@
 use Rattle.std.proofs.Common.{◌≡◌, ◌<◌, length, refl, sym, ap, subst, ◌∙◌, arith, Some, None, get_or, slice_set}
 use Rattle.std.proofs.lemmas.List.{get_or_read_under, get_or-set_same}
+use Rattle.std.specs.Vec.{with_item}
 use Rattle.bz_world.specs.Inside.Going.{end_in, wants_in}
 use Rattle.bz_world.specs.Inside.Telling.{CanHear, HasToldIn}
 use Rattle.bz_world.proofs.Telling.{can-hear, full-rightly, lacked-told, must-start, still-knows}
+use Rattle.bz_world.proofs.Roomless.{room-found}
 use Rattle.bz_world.proofs.tell.tell.Goals as goal
 
 pub hear_task-requires : goal.hear_task-requires
@@ -52,6 +54,10 @@ returns-clause-swaps c other ended = other (lacked-told c.args.parts.now c.args.
 
     was : c.index_mut.result.now ≡ Some c.requires.serving
     was = get_or_read_under c.args.parts.now.workers.items c.args.w (length c.args.parts.now.workers.items) c.index_mut.result.now None c.index_mut.ensures.value in-table refl ∙ c.requires.is
+
+pub returns-clause-crowded : goal.returns-clause-crowded
+returns-clause-crowded c other = room-found c.args.parts.now c.args.w c.args.seen c.requires other (record c.args.parts.now { slots = c.hear_task.new.slots; workers = with_item c.args.parts.now.workers c.args.w c.hear_task.new.slot }) c.hear_task.result (returns-clause-asks c)
+    (length c.args.parts.now.journal.past) c.args.parts.now.slots c.hear_task.new.slots (returns-clause-told c)
 
 pub returns-clause-knows : goal.returns-clause-knows
 returns-clause-knows c m = still-knows c.scenes_are_seen.ensures c.slots_are_taken.ensures c.lonely_laws.ensures c.alone_laws.ensures c.args.parts.now c.args.w c.args.seen m.must m.knows c.hear_task.result c.hear_task.new.slots c.index_mut.result.now c.hear_task.new.slot was

@@ -1,0 +1,35 @@
+-- What comes of a world in which one worker steps alone.
+use Rattle.std.specs.Prelude.{◌≡◌, ◌≢◌, ◌⊎◌, ◌≤◌, ℕ, zero, suc, ◌+◌, ◌*◌, true, length, None}
+use Rattle.bz_layout.specs.declared.thresholds.TheConstants.{MARKS_PER_CALL}
+use Rattle.bz_sound.specs.Calls.{open_call}
+use Rattle.bz_sound.specs.declared.power.Power.TheVariants as power
+use Rattle.bz_world.specs.WorldView.{WorldView, power_in, is_short, IsApplied}
+use Rattle.bz_world.specs.declared.answers.Applied.{Applied}
+use Rattle.bz_world.specs.declared.answers.Applied.TheVariants as applied
+use Rattle.bz_world.specs.declared.answers.Event.TheVariants as event
+
+-- so many steps of a worker, one after the other, and after each its call goes on
+abbrev pub StepsOn : ℕ → WorldView → ℕ → WorldView → Type 0
+StepsOn zero old w new = new ≡ old
+StepsOn (suc n) old w new = (mid : WorldView) × (StepsOn n old w mid × IsApplied mid (event.Step w) applied.Stepped new)
+
+-- the worker has an open call, and the power is on
+pub record MayStep (lab : WorldView) (w : ℕ) : Type 0 where
+  pub on : power_in lab ≡ power.On
+  pub within : w ≤ lab.config.workers
+  pub is_open : open_call w lab.log.past ≢ None
+
+-- its call has ended, or fewer than three places are left in the journal; and so it is within a number of marks that the configuration tells, whatever the
+-- others have come to
+pub record EndsAlone (old : WorldView) (answer : Applied) (new : WorldView) : Type 0 where
+  pub answered : ((n : ℕ) × (answer ≡ applied.Ended n)) ⊎ ((answer ≡ applied.Limit) × (is_short new.log ≡ true))
+  pub marks : length new.log.past ≤ length old.log.past + MARKS_PER_CALL * (old.config.workers + 2)
+
+-- the worker steps until the answer is another one
+pub record RunsAlone (old : WorldView) (w : ℕ) (answer : Applied) (new : WorldView) : Type 0 where
+  pub steps : ℕ
+  pub last : WorldView
+  pub stepped : StepsOn steps old w last
+  pub answered : IsApplied last (event.Step w) answer new
+  pub stops : answer ≢ applied.Stepped
+  pub ends : MayStep old w → EndsAlone old answer new
