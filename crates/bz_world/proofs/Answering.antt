@@ -39,30 +39,14 @@ use Rattle.bz_world.specs.Inside.Paid.{errand_of}
 use Rattle.bz_world.specs.declared.parts.Parts.{Parts}
 use Rattle.bz_world.specs.declared.serving.OpenCall.{OpenCall}
 use Rattle.bz_world.proofs.Spared.{spared-room}
+use Rattle.bz_world.proofs.Tabled.{tabled-beside}
 
 -- the page that is put together is nothing to the world
 abbrev pub between-pages : (p : Parts) (w : ℕ) (x : OpenCall) (pairs : List (List ℕ × List ℕ)) → IsBetween p w x → IsBetween (record p { page = pairs }) w x
 between-pages p w x pairs b = record {
   on = b.on;
   story = b.story;
-  tabled = let t = b.tabled in record {
-    config = t.config;
-    limits = t.limits;
-    marks = t.marks;
-    places = t.places;
-    number_places = t.number_places;
-    owner_places = t.owner_places;
-    crew = t.crew;
-    counted = t.counted;
-    strangers = t.strangers;
-    begins = t.begins;
-    few_begins = t.few_begins;
-    page_calls = t.page_calls;
-    few_page_calls = t.few_page_calls;
-    steps = t.steps;
-    pairs = t.pairs;
-    power = t.power;
-  };
+  tabled = tabled-beside (record { workers = refl; owners = refl; crew = refl; steps = refl; rest = refl }) b.tabled;
   taken = let t = b.taken in record { shown = t.shown; held = t.held; few = t.few; notes = t.notes; unused = t.unused };
   living = b.living;
   sound = b.sound;

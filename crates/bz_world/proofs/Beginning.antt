@@ -192,7 +192,7 @@ module _ (p : Parts) (k : IsAwake p) (w : ℕ) (call : Call) (may : MayBegin p w
       on = k.on;
       story = after;
       tabled = tabled;
-      taken = let t = k.taken in record { shown = t.shown; held = t.held; few = t.few; notes = t.notes; unused = t.unused };
+      taken = assumption k.taken;
       living = lives;
       sound = sound;
       free = k.free;

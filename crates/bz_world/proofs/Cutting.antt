@@ -22,9 +22,9 @@ use Rattle.bz_world.specs.Inside.Powering.{IsCut}
 use Rattle.bz_world.specs.WorldView as lab
 use Rattle.bz_world.specs.declared.parts.Parts.{Parts}
 use Rattle.bz_world.specs.declared.serving.OpenCall.{OpenCall}
-use Rattle.bz_world.proofs.Counting.{pairs-stay}
 use Rattle.bz_world.proofs.Openings.{map-replicate}
 use Rattle.bz_world.proofs.Powered.{awake-in, started-in, kept-off}
+use Rattle.bz_world.proofs.Tabled.{tabled-plain}
 
 -- the laws that these proofs stand on
 pub record Laws : Type 0 where
@@ -40,24 +40,7 @@ cut-off p workers flags = record p { access = after_cut p.access; journal = with
 module _ (b : Laws) (p : Parts) (t : IsTabled p) (sound : IsSound p.config p.at_start p.journal) (not-off : p.power ≢ power.Off) (room : length p.journal.past + 3 ≤ p.config.marks)
     (workers : Vec (Option OpenCall)) (size : length workers.items ≡ length p.workers.items) (flags : ArrayVec Bool) where
   tabled : IsTabled (cut-off p workers flags)
-  tabled = record {
-    config = t.config;
-    limits = t.limits;
-    marks = omega (arith, room);
-    places = size ∙ t.places;
-    number_places = t.number_places;
-    owner_places = t.owner_places;
-    crew = length-replicate {A = Working} (length p.access.workers) idle ∙ t.crew;
-    counted = t.counted;
-    strangers = λ w o. refl;
-    begins = t.begins;
-    few_begins = t.few_begins;
-    page_calls = t.page_calls;
-    few_page_calls = t.few_page_calls;
-    steps = omega (arith, t.steps);
-    pairs = pairs-stay p.config p.journal.start p.journal.past Cut p.pairs (λ map. refl) t.pairs;
-    power = refl;
-  }
+  tabled = tabled-plain p (cut-off p workers flags) Cut tt (record { room = omega (arith, room); workers = size; crew = length-replicate {A = Working} (length p.access.workers) idle; steps = omega (arith, t.steps); power = refl; rest = refl }) refl t
 
   no-cut : IsAfterCut p.at_start p.journal.past → ⊥
   no-cut after = not-off (sym t.power ∙ (b.tells p.at_start (map_at_start p.config p.journal.start) p.journal.past sound.once).off.1 after)

@@ -12,7 +12,6 @@ use Rattle.bz_mark.specs.Log.{Log, HasRoom, with_mark, with_page, count_ends, co
 use Rattle.bz_mark.specs.declared.marks.Mark.{Mark}
 use Rattle.bz_mark.specs.declared.marks.Mark.TheVariants.{End}
 use Rattle.bz_sight.specs.Sight.{next_instant}
-use Rattle.bz_sound.specs.Calls.{open_call}
 use Rattle.bz_sound.specs.Replies.{Pages}
 use Rattle.bz_sound.specs.Memory.OpenCallLaws.{LeavesRoom}
 use Rattle.bz_sound.specs.Power.Sound.{IsSound}
@@ -31,17 +30,17 @@ use Rattle.bz_world.specs.declared.parts.Parts.{Parts}
 use Rattle.bz_world.specs.declared.serving.OpenCall.{OpenCall}
 use Rattle.bz_story.proofs.Powered.{stored-since}
 use Rattle.bz_world.proofs.Alone.{waits-on}
-use Rattle.bz_world.proofs.Counting.{pairs-stay}
 use Rattle.bz_world.proofs.Lonely.{none-in}
 use Rattle.bz_world.proofs.LonelyEnds.{ends-briefly}
 use Rattle.bz_world.proofs.Staying.{slot-stays}
+use Rattle.bz_world.proofs.Tabled.{tabled-plain}
 
 -- what is known of a worker does not depend on the journal's pages
 slot-pages : (c : Config) (m : SwapMemory) (log : Log) (pages : Pages) (story : Story) (owners : List ℕ) (v : ℕ) (slot : Option OpenCall) → IsSlot c m log story owners v slot → IsSlot c m (record log { pages = pages }) story owners v slot
 slot-pages c m log pages story owners v None h = record { none_open = h.none_open; idle = h.idle; filled = h.filled }
 slot-pages c m log pages story owners v (Some x) h = record {
   opened = h.opened;
-  call_open = let o = h.call_open in record { is_open = o.is_open; call = o.call; effect = o.effect; look = o.look; told = o.told; wanted = o.wanted };
+  call_open = assumption h.call_open;
   tasked = h.tasked;
   asked = h.asked;
   asks = h.asks;
@@ -55,7 +54,7 @@ slot-pages c m log pages story owners v (Some x) h = record {
 }
 
 living-pages : (c : Config) (m : SwapMemory) (log : Log) (pages : Pages) (story : Story) → IsLiving c m log story → IsLiving c m (record log { pages = pages }) story
-living-pages c m log pages story l = record { from = l.from; begins = l.begins; seen = l.seen; history = l.history; words = l.words; images = l.images; effects = l.effects; reserved = l.reserved; apart = l.apart; took = l.took; took_apart = l.took_apart; came = l.came; stored = l.stored }
+living-pages c m log pages story l = assumption l
 
 module _ (b : EndLaws) (p : Parts) (w : ℕ) (on : MustGoOn p w) where
   abbrev was : IsBetween p w on.serving
@@ -143,34 +142,14 @@ module _ (b : EndLaws) (p : Parts) (w : ℕ) (on : MustGoOn p w) where
       ]
 
       tabled : IsTabled done
-      tabled = let t = was.tabled in record {
-        config = t.config;
-        limits = t.limits;
-        marks = omega (arith, room);
-        places = length-set p.workers.items w None ∙ t.places;
-        number_places = t.number_places;
-        owner_places = t.owner_places;
-        crew = t.crew;
-        counted = t.counted;
-        strangers = λ v o. elim (cases_eq v w) [
-          | inl e ↦ subst (λ u. open_call u (mark ∷ p.journal.past) ≡ None) (sym e) ((b.calls w p.journal.past).own_end n at reply)
-          | inr ne ↦ (b.calls v p.journal.past).other_end w n at reply (λ e. ne (sym e)) ∙ t.strangers v o
-        ];
-        begins = t.begins;
-        few_begins = t.few_begins;
-        page_calls = t.page_calls;
-        few_page_calls = t.few_page_calls;
-        steps = omega (arith, t.steps);
-        pairs = pairs-stay p.config p.journal.start p.journal.past mark p.pairs (λ map. refl) t.pairs;
-        power = t.power;
-      }
+      tabled = let t = was.tabled in tabled-plain p done mark tt (record { room = room; workers = length-set p.workers.items w None; crew = refl; steps = omega (arith, t.steps); power = t.power; rest = refl }) refl t
 
       pub ended-kept : IsAwake done
       ended-kept = record {
         on = was.on;
         story = after;
         tabled = tabled;
-        taken = let t = was.taken in record { shown = t.shown; held = t.held; few = t.few; notes = t.notes; unused = t.unused };
+        taken = assumption was.taken;
         living = living-pages p.config p.access (with_mark p.journal mark) pages after lives;
         sound = sound;
         free = was.free;

@@ -29,12 +29,12 @@ use Rattle.bz_world.specs.declared.parts.Parts.{Parts}
 use Rattle.bz_world.specs.Inside.Laws.{BegunLaws, StepLaws}
 use Rattle.bz_story.proofs.Powered.{stored-since}
 use Rattle.bz_world.proofs.Alone.{waits-on}
-use Rattle.bz_world.proofs.Counting.{pairs-stay}
 use Rattle.bz_world.proofs.LonelyActs.{all-evicted}
 use Rattle.bz_world.proofs.Powered.{is-not-off}
 use Rattle.bz_world.proofs.Owners.{pending-begun}
 use Rattle.bz_world.proofs.Stepped.{unused-by}
 use Rattle.bz_world.proofs.Staying.{SameFor, slot-stays}
+use Rattle.bz_world.proofs.Tabled.{tabled-evicted}
 
 effect-in : (phase : Phase) (old new : SwapMemory) (told : Option ℕ) → phase ≢ Recovering → EvictsIn phase old told new → EffectIs old new told
 effect-in Opened old new told ne h = h
@@ -53,24 +53,7 @@ module _ (old new : Parts) (a : ℕ) (told : Option ℕ) (k : IsAwake old) (e : 
   }
 
   pub evict-tabled : length old.journal.past < old.config.marks → IsTabled new
-  evict-tabled room = let t = k.tabled in subst IsTabled (sym e.rest) (record {
-    config = t.config;
-    limits = t.limits;
-    marks = omega (arith, room);
-    places = t.places;
-    number_places = t.number_places;
-    owner_places = t.owner_places;
-    crew = ap (λ z. length z.workers) e.eviction.is ∙ t.crew;
-    counted = t.counted;
-    strangers = t.strangers;
-    begins = t.begins;
-    few_begins = t.few_begins;
-    page_calls = t.page_calls;
-    few_page_calls = t.few_page_calls;
-    steps = omega (arith, ap (λ z. z.steps) e.eviction.is, t.steps);
-    pairs = pairs-stay old.config old.journal.start old.journal.past (Evict a) old.pairs (λ map. refl) t.pairs;
-    power = t.power;
-  })
+  evict-tabled room = subst IsTabled (sym e.rest) (tabled-evicted old a told new.access e.eviction room k.tabled)
 
   pub evict-taken : BegunLaws → AreTaken new
   evict-taken begun = subst AreTaken (sym e.rest) (record {

@@ -60,4 +60,5 @@ mod Refusing
 mod Recovered
 mod Contained
 mod Counting
+mod Tabled
 mod Numbers

@@ -4,12 +4,12 @@ use Rattle.std.specs.Prelude.{slice_set, ◌==◌, if◌then◌else◌}
 use Rattle.bz_acts.specs.Rule.{IsActOf, IsWithin, FoundRightly, after_act}
 use Rattle.bz_acts.specs.declared.acted.Act.{Act}
 use Rattle.bz_acts.specs.declared.acted.Act.TheVariants.{Load, Store, Cas, Flush}
-use Rattle.bz_mark.specs.Log.{Log, count_begins, count_page_calls, count_page_ends}
+use Rattle.bz_mark.specs.Log.{Log}
 use Rattle.bz_mark.proofs.WordLaws.{found-read}
 use Rattle.bz_mark.specs.WordsAfter.{words_after_marks, words_after, Found}
 use Rattle.bz_mark.specs.declared.marks.Mark.{Mark}
 use Rattle.bz_pm.specs.Words.{Words}
-use Rattle.bz_sound.specs.Calls.{open_call, begun_calls, map_after}
+use Rattle.bz_sound.specs.Calls.{open_call}
 use Rattle.bz_sound.specs.declared.power.Power.{Power}
 use Rattle.bz_sound.specs.Power.Calls.{MayAct, MayFollow}
 use Rattle.bz_call.specs.Map.{Map}
@@ -35,7 +35,7 @@ act-found w old new log (Store a v) same act within = tt
 act-found w old new log (Cas a before after found) same act within = subst (λ (z : Words). Found z (mark_of w (Cas a before after found))) same (found-read old.cached a found within act.found)
 act-found w old new log (Flush line) same act within = tt
 
--- it may follow where the worker may act, and leaves every open call, the map and every count
+-- it may follow where the worker may act, and leaves every open call
 pub act-follows : (at_start : Power) (start : Map) (past : List Mark) (w : ℕ) (made : Act) → MayAct at_start past w → MayFollow at_start start past (mark_of w made)
 act-follows at_start start past w (Load a v) h = h
 act-follows at_start start past w (Store a v) h = h
@@ -47,26 +47,3 @@ act-calls v w past (Load a x) = refl
 act-calls v w past (Store a x) = refl
 act-calls v w past (Cas a old new found) = refl
 act-calls v w past (Flush line) = refl
-
-pub act-begun : (v w : ℕ) (past : List Mark) (made : Act) → begun_calls v (mark_of w made ∷ past) ≡ begun_calls v past
-act-begun v w past (Load a x) = refl
-act-begun v w past (Store a x) = refl
-act-begun v w past (Cas a old new found) = refl
-act-begun v w past (Flush line) = refl
-
-pub act-map : (map : Map) (w : ℕ) (past : List Mark) (made : Act) → map_after map (mark_of w made ∷ past) ≡ map_after map past
-act-map map w past (Load a x) = refl
-act-map map w past (Store a x) = refl
-act-map map w past (Cas a old new found) = refl
-act-map map w past (Flush line) = refl
-
-pub record SameCounts (new past : List Mark) : Type 0 where
-  pub begins : count_begins new ≡ count_begins past
-  pub page_calls : count_page_calls new ≡ count_page_calls past
-  pub page_ends : count_page_ends new ≡ count_page_ends past
-
-pub act-counts : (w : ℕ) (past : List Mark) (made : Act) → SameCounts (mark_of w made ∷ past) past
-act-counts w past (Load a x) = record { begins = refl; page_calls = refl; page_ends = refl }
-act-counts w past (Store a x) = record { begins = refl; page_calls = refl; page_ends = refl }
-act-counts w past (Cas a old new found) = record { begins = refl; page_calls = refl; page_ends = refl }
-act-counts w past (Flush line) = record { begins = refl; page_calls = refl; page_ends = refl }

@@ -53,6 +53,7 @@ use Rattle.bz_world.specs.Inside.Laws.{StrikeLaws}
 use Rattle.bz_world.proofs.Striking.{flush-calls, old, kept, w, x, its, owner, before, waits, good, after, living, opened, later, took, struck-alone, struck-meant, own-paid, other-paid, leaves}
 use Rattle.bz_world.proofs.LonelyActs.{none-struck}
 use Rattle.bz_world.proofs.StruckQuietly.{image-was, image-is, fault-is, stage-is, its-swap, its-asks, still-does}
+use Rattle.bz_world.proofs.Tabled.{tabled-marked}
 
 -- the reply to a call that makes a change, by what its key had
 reply-of : (called : Call) (had new : Option (List ℕ)) (map : Map) → IsChangeOf called had new → (apply_at had map called).reply ≡ Some (effect_reply called had)
@@ -278,9 +279,6 @@ module _ (b : StrikeLaws) (p : Parts) (s : ℕ) (h : IsStriking p s) (publishes 
         none-struck b p s h worker (x b p s h) (owner b p s h).is key (ap (λ (z : OpenCall). z.call) same ∙ get) (subst (λ u. IsLonely u (h.mark ∷ log.past)) e lonely))
   ]
 
-  own-call : ¬ (open_call worker log.past ≡ None)
-  own-call e = absurd (cc (e, (its b p s h).call_open.is_open))
-
   -- and the map has as many pairs as that reply tells
   counted : CountsPairs c log.start (h.mark ∷ log.past) (old b p s h).pairs → (count : ℕ) → count ≡ pairs_after (Some (x b p s h)) (old b p s h).pairs → CountsPairs c log.start (effect_mark ∷ h.mark ∷ log.past) count
   counted was count is = subst (CountsPairs c log.start (effect_mark ∷ h.mark ∷ log.past)) (sym (is ∙ ap (λ called. size_after (Some (effect_reply called (x b p s h).had)) (old b p s h).pairs) (sym (its b p s h).call_open.call)))
@@ -288,30 +286,11 @@ module _ (b : StrikeLaws) (p : Parts) (s : ℕ) (h : IsStriking p s) (publishes 
 
   tabled-on : (workers : Vec (Option OpenCall)) → length workers.items ≡ 65 → length log.past + 1 < c.marks → (count : ℕ) → count ≡ pairs_after (Some (x b p s h)) (old b p s h).pairs
       → IsTabled (record (old b p s h) { access = p.access; journal = with_mark with_flush effect_mark; workers = workers; pairs = count })
-  tabled-on workers places room count is = let t : IsTabled (record (old b p s h) { access = p.access; journal = with_flush }) = subst IsTabled h.rest h.tabled in record {
-    config = t.config;
-    limits = t.limits;
-    marks = omega (arith, room);
-    places = places;
-    number_places = t.number_places;
-    owner_places = t.owner_places;
-    crew = t.crew;
-    counted = t.counted;
-    strangers = λ v o. elim (cases_eq v worker) [
-      | inl e ↦ absurd (own-call (subst (λ u. open_call u log.past ≡ None) e ((kept b p s h).tabled.strangers v o)))
-      | inr ne ↦ (b.calls v (h.mark ∷ log.past)).other_effect worker its-open.number (λ e. ne (sym e)) ∙ t.strangers v o
-    ];
-    begins = t.begins;
-    few_begins = t.few_begins;
-    page_calls = t.page_calls;
-    few_page_calls = t.few_page_calls;
-    steps = omega (arith, t.steps);
-    pairs = counted t.pairs count is;
-    power = t.power;
-  }
+  tabled-on workers places room count is = let t : IsTabled (record (old b p s h) { access = p.access; journal = with_flush }) = subst IsTabled h.rest h.tabled in
+      tabled-marked (record (old b p s h) { access = p.access; journal = with_flush }) (record (old b p s h) { access = p.access; journal = with_mark with_flush effect_mark; workers = workers; pairs = count }) effect_mark tt (record { room = omega (arith, room); workers = places ∙ sym t.places; crew = refl; steps = omega (arith, t.steps); power = t.power; rest = refl }) (counted t.pairs count is) t
 
   taken-on : (workers : Vec (Option OpenCall)) (count : ℕ) → AreTaken (record (old b p s h) { access = p.access; journal = with_mark with_flush effect_mark; workers = workers; pairs = count })
-  taken-on workers count = let t : AreTaken (record (old b p s h) { access = p.access; journal = with_flush }) = subst AreTaken h.rest h.taken in record { shown = t.shown; held = t.held; few = t.few; notes = t.notes; unused = t.unused }
+  taken-on workers count = let t : AreTaken (record (old b p s h) { access = p.access; journal = with_flush }) = subst AreTaken h.rest h.taken in assumption t
 
   -- so the world goes on with the Effect, which the worker's call remembers
   pub published : (workers : Vec (Option OpenCall)) → length workers.items ≡ 65 → length log.past + 1 < c.marks → get_or workers.items worker None ≡ Some with_moment → ((v : ℕ) → v ≢ worker → get_or workers.items v None ≡ get_or (old b p s h).workers.items v None)

@@ -25,6 +25,7 @@ use Rattle.bz_world.specs.declared.answers.Applied.TheVariants as applied
 use Rattle.bz_world.specs.declared.parts.Parts.{Parts}
 use Rattle.bz_world.proofs.Stepping.{flush-is, flush-same, swap-same}
 use Rattle.bz_world.proofs.Supplies.{shown-on, shown-recovering}
+use Rattle.bz_world.proofs.Tabled.{tabled-beside}
 
 -- what it knows of the slots after `next`, where it was told what its act made of them
 abbrev pub Learns : Recover → FreeSlots → Seen → Recover → FreeSlots → Type 0
@@ -36,24 +37,7 @@ pub asked-on : RecoveriesGoOn → TurnsMakeNoMark → (p : Parts) (seen : Seen) 
     → slots.nodes ≡ p.slots.nodes → Learns p.recovery p.slots seen next slots → IsRecovering (record p { recovery = next; slots = slots }) recovery.Asked
 asked-on go_on turns p seen next slots k on tells nodes learns = record {
   dark = record {
-    tabled = let t = k.dark.tabled in record {
-      config = t.config;
-      limits = t.limits;
-      marks = t.marks;
-      places = t.places;
-      number_places = t.number_places;
-      owner_places = t.owner_places;
-      crew = t.crew;
-      counted = t.counted;
-      strangers = t.strangers;
-      begins = t.begins;
-      few_begins = t.few_begins;
-      page_calls = t.page_calls;
-      few_page_calls = t.few_page_calls;
-      steps = t.steps;
-      pairs = t.pairs;
-      power = t.power;
-    };
+    tabled = tabled-beside (record { workers = refl; owners = refl; crew = refl; steps = refl; rest = refl }) k.dark.tabled;
     sound = k.dark.sound;
     none = k.dark.none;
     slots = nodes ∙ k.dark.slots;

@@ -31,9 +31,9 @@ use Rattle.bz_world.specs.Inside.Kept.{IsTabled, IsDark, IsRecovering, IsStarted
 use Rattle.bz_world.specs.Inside.Powering.{IsRawAct}
 use Rattle.bz_world.specs.WorldView.{mark_of}
 use Rattle.bz_world.specs.declared.parts.Parts.{Parts}
-use Rattle.bz_world.proofs.Counting.{pairs-stay}
-use Rattle.bz_world.proofs.Marking.{act-marked, act-found, act-calls, act-begun, act-map, act-counts}
-use Rattle.bz_world.proofs.Powered.{leaves-power, power-more, kept-started}
+use Rattle.bz_world.proofs.Marking.{act-marked, act-found}
+use Rattle.bz_world.proofs.Powered.{kept-started}
+use Rattle.bz_world.proofs.Tabled.{tabled-beside, tabled-acted, tabled-evicted}
 
 -- the laws that these proofs stand on
 pub record Laws : Type 0 where
@@ -101,24 +101,7 @@ module _ (b : Laws) (recovers : ActsAreMarked) (old new : Parts) (made : Act) (d
           (λ key. ap (λ i. content_in old.config i key) becomes ∙ (raw.same.content key ∙ ap (λ i. content_in old.config i key) (sym was))))
 
   tabled : IsTabled (record old { access = new.access; journal = with_mark old.journal (mark_of 0 made) })
-  tabled = let t = k.dark.tabled in record {
-    config = t.config;
-    limits = t.limits;
-    marks = omega (arith, room);
-    places = t.places;
-    number_places = t.number_places;
-    owner_places = t.owner_places;
-    crew = a.step.one.others.count ∙ t.crew;
-    counted = λ v l. t.counted v l ∙ sym (act-begun v 0 old.journal.past made);
-    strangers = λ v o. act-calls v 0 old.journal.past made ∙ t.strangers v o;
-    begins = t.begins ∙ sym (act-counts 0 old.journal.past made).begins;
-    few_begins = t.few_begins;
-    page_calls = t.page_calls ∙ sym (act-counts 0 old.journal.past made).page_calls;
-    few_page_calls = t.few_page_calls;
-    steps = omega (arith, a.step.one.steps, t.steps);
-    pairs = pairs-stay old.config old.journal.start old.journal.past (mark_of 0 made) old.pairs (λ map. act-map map 0 old.journal.past made) t.pairs;
-    power = power-more old.at_start old.journal.past (mark_of 0 made) (leaves-power 0 old.journal.past made) ∙ t.power;
-  }
+  tabled = tabled-acted old 0 made done new.access a.step.one (omega (arith, room)) k.dark.tabled
 
   -- the act is made, and the recovery is to be told
   pub raw-made : IsRecovering (record old { access = new.access; journal = with_mark old.journal (mark_of 0 made) }) recovery.Made
@@ -162,24 +145,7 @@ module _ (b : Laws) (leave : EvictionsAreMarked) (old new : Parts) (a : ℕ) (to
       (λ key. ap (λ i. content_in old.config i key) becomes ∙ (stays.same.content key ∙ ap (λ i. content_in old.config i key) (sym was))))
 
   evict-tabled : IsTabled (record old { access = new.access; journal = with_mark old.journal (Evict a) })
-  evict-tabled = let t = k.dark.tabled in record {
-    config = t.config;
-    limits = t.limits;
-    marks = omega (arith, room);
-    places = t.places;
-    number_places = t.number_places;
-    owner_places = t.owner_places;
-    crew = ap (λ z. length z.workers) e.eviction.is ∙ t.crew;
-    counted = t.counted;
-    strangers = t.strangers;
-    begins = t.begins;
-    few_begins = t.few_begins;
-    page_calls = t.page_calls;
-    few_page_calls = t.few_page_calls;
-    steps = omega (arith, ap (λ z. z.steps) e.eviction.is, t.steps);
-    pairs = pairs-stay old.config old.journal.start old.journal.past (Evict a) old.pairs (λ map. refl) t.pairs;
-    power = t.power;
-  }
+  evict-tabled = tabled-evicted old a told new.access e.eviction (omega (arith, room)) k.dark.tabled
 
   pub evict-started : IsKept new
   evict-started = subst IsKept (sym e.rest) (kept-started (record old { access = new.access; journal = with_mark old.journal (Evict a) }) is (record {
@@ -202,24 +168,7 @@ module _ (turns : TurnsMakeNoMark) (p : Parts) (k : IsRecovering p recovery.Aske
   pub started-recovering : IsStarted (record p { access = started p.access 0 doing })
   started-recovering = record {
     dark = record {
-      tabled = let t = k.dark.tabled in record {
-        config = t.config;
-        limits = t.limits;
-        marks = t.marks;
-        places = t.places;
-        number_places = t.number_places;
-        owner_places = t.owner_places;
-        crew = length-set p.access.workers 0 (record { doing = doing; flush_next = begins_by_flush doing }) ∙ t.crew;
-        counted = t.counted;
-        strangers = t.strangers;
-        begins = t.begins;
-        few_begins = t.few_begins;
-        page_calls = t.page_calls;
-        few_page_calls = t.few_page_calls;
-        steps = t.steps;
-        pairs = t.pairs;
-        power = t.power;
-      };
+      tabled = tabled-beside (record { workers = refl; owners = refl; crew = length-set p.access.workers 0 (record { doing = doing; flush_next = begins_by_flush doing }); steps = refl; rest = refl }) k.dark.tabled;
       sound = k.dark.sound;
       none = k.dark.none;
       slots = k.dark.slots;

@@ -5,6 +5,7 @@ use Rattle.std.proofs.lemmas.Bool.{cases_eq}
 use Rattle.std.proofs.lemmas.List.{get_or-set_same, get_or-set_other, length-set}
 use Rattle.bz_alone.specs.Counts.{HasOthers}
 use Rattle.bz_running.specs.Duties.{made_of, facts_of}
+use Rattle.bz_sight.specs.Sight.{IsSeen}
 use Rattle.bz_sight.specs.Starts.{StartsAreSeen, Sees}
 use Rattle.bz_sound.specs.Lonely.{LonelyCallsAreAlone}
 use Rattle.bz_story.specs.Living.{IsLiving}
@@ -31,6 +32,7 @@ use Rattle.bz_world.proofs.Alone.{none-untold, none-well}
 use Rattle.bz_world.proofs.Lonely.{in-place, only-own, started-lonely}
 use Rattle.bz_world.proofs.Powered.{begun-in}
 use Rattle.bz_world.proofs.Staying.{SameFor, slot-same}
+use Rattle.bz_world.proofs.Tabled.{tabled-beside}
 
 -- what a worker does that has started something, and what the others do
 pub starts-it : (m : SwapMemory) (w : ℕ) (doing : Doing) → w < length m.workers → doing_of (started m w doing) w ≡ doing
@@ -71,21 +73,9 @@ module _ (lone : AloneLaws) (starts : StartsAreSeen) (begun : BegunLaws) (alone 
   work = may-work p w todo m
 
   living : IsLiving p.config (started p.access w doing) p.journal between.story
-  living = let l = between.living in record {
-    from = l.from;
-    begins = l.begins;
-    seen = starts.start p.config (between.story.at (length p.journal.past)) p.access w doing l.seen work.some holds;
-    history = l.history;
-    words = l.words;
-    images = l.images;
-    effects = l.effects;
-    reserved = l.reserved;
-    apart = l.apart;
-    took = l.took;
-    took_apart = l.took_apart;
-    came = l.came;
-    stored = l.stored;
-  }
+  living =
+      let seen : IsSeen p.config (started p.access w doing) (between.story.at (length p.journal.past)) = starts.start p.config (between.story.at (length p.journal.past)) p.access w doing between.living.seen work.some holds in
+      assumption (between.living, seen)
 
   abbrev its-scene : Scene
   its-scene = scene p.config p.journal.past between.story w between.call_open.look.since between.opened
@@ -149,24 +139,7 @@ module _ (lone : AloneLaws) (starts : StartsAreSeen) (begun : BegunLaws) (alone 
   started-kept = record {
     on = between.on;
     story = between.story;
-    tabled = let t = between.tabled in record {
-      config = t.config;
-      limits = t.limits;
-      marks = t.marks;
-      places = t.places;
-      number_places = t.number_places;
-      owner_places = t.owner_places;
-      crew = length-set p.access.workers w (record { doing = doing; flush_next = begins_by_flush doing }) ∙ t.crew;
-      counted = t.counted;
-      strangers = t.strangers;
-      begins = t.begins;
-      few_begins = t.few_begins;
-      page_calls = t.page_calls;
-      few_page_calls = t.few_page_calls;
-      steps = t.steps;
-      pairs = t.pairs;
-      power = t.power;
-    };
+    tabled = tabled-beside (record { workers = refl; owners = refl; crew = length-set p.access.workers w (record { doing = doing; flush_next = begins_by_flush doing }); steps = refl; rest = refl }) between.tabled;
     taken = let t = between.taken in record { shown = t.shown; held = begun.taken.start p.access w doing between.idle t.held; few = t.few; notes = notes; unused = t.unused };
     living = living;
     sound = between.sound;

@@ -169,7 +169,7 @@ pub slot-same : (c : Config) (m n : SwapMemory) (log : Log) (story : Story) (own
 slot-same c m n log story owners others v None same well table still s = record { none_open = s.none_open; idle = same.doing ∙ s.idle; filled = s.filled }
 slot-same c m n log story owners others v (Some x) same well table still s = record {
   opened = s.opened;
-  call_open = let o = s.call_open in record { is_open = o.is_open; call = o.call; effect = o.effect; look = o.look; told = o.told; wanted = o.wanted };
+  call_open = assumption s.call_open;
   tasked = s.tasked;
   asked = s.asked;
   asks = s.asks;
@@ -196,7 +196,7 @@ pub slot-scenes : (c : Config) (m : SwapMemory) (log : Log) (story after : Story
 slot-scenes c m log story after owners v None some same filled s = record { none_open = s.none_open; idle = s.idle; filled = λ k t. filled k ∙ s.filled k (sym (ap (λ (z : Scene). z.took k) (same zero some)) ∙ t) }
 slot-scenes c m log story after owners v (Some x) some same filled s = record {
   opened = s.opened;
-  call_open = let o = s.call_open in record { is_open = o.is_open; call = o.call; effect = o.effect; look = o.look; told = o.told; wanted = o.wanted };
+  call_open = assumption s.call_open;
   tasked = s.tasked;
   asked = s.asked;
   asks = s.asks;

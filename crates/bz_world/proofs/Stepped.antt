@@ -32,30 +32,13 @@ use Rattle.bz_world.specs.WorldView.{mark_of}
 use Rattle.bz_world.specs.Inside.Laws.{JournalLaws, BegunLaws}
 use Rattle.bz_world.specs.declared.parts.Parts.{Parts}
 use Rattle.bz_story.proofs.Powered.{since-more}
-use Rattle.bz_world.proofs.Powered.{leaves-power, power-more}
-use Rattle.bz_world.proofs.Counting.{pairs-stay}
-use Rattle.bz_world.proofs.Marking.{act-marked, act-found, act-follows, act-calls, act-begun, act-map, act-counts}
+use Rattle.bz_world.proofs.Powered.{leaves-power}
+use Rattle.bz_world.proofs.Marking.{act-marked, act-found, act-follows}
+use Rattle.bz_world.proofs.Tabled.{tabled-acted}
 
 -- the tables
 pub act-tabled : (old new : Parts) (w : ℕ) (made : Act) (done : Done) (told : Option ℕ) → IsTabled old → IsActed old w made done told new → length old.journal.past < old.config.marks → IsTabled new
-act-tabled old new w made done told t a room = subst IsTabled (sym a.rest) (record {
-  config = t.config;
-  limits = t.limits;
-  marks = omega (arith, room);
-  places = t.places;
-  number_places = t.number_places;
-  owner_places = t.owner_places;
-  crew = a.step.one.others.count ∙ t.crew;
-  counted = λ v l. t.counted v l ∙ sym (act-begun v w old.journal.past made);
-  strangers = λ v o. act-calls v w old.journal.past made ∙ t.strangers v o;
-  begins = t.begins ∙ sym (act-counts w old.journal.past made).begins;
-  few_begins = t.few_begins;
-  page_calls = t.page_calls ∙ sym (act-counts w old.journal.past made).page_calls;
-  few_page_calls = t.few_page_calls;
-  steps = omega (arith, a.step.one.steps, t.steps);
-  pairs = pairs-stay old.config old.journal.start old.journal.past (mark_of w made) old.pairs (λ map. act-map map w old.journal.past made) t.pairs;
-  power = power-more old.at_start old.journal.past (mark_of w made) (leaves-power w old.journal.past made) ∙ t.power;
-})
+act-tabled old new w made done told t a room = subst IsTabled (sym a.rest) (tabled-acted old w made done new.access a.step.one room t)
 
 -- a descriptor that the journal shows taken stays so
 or-right : (a b : Bool) → b ≡ true → a || b ≡ true

@@ -1,5 +1,5 @@
 -- The world once the effect of a swap is noted.
-use Rattle.std.proofs.Common.{◌≡◌, ◌≢◌, ℕ, suc, ◌<◌, ◌≤◌, if◌then◌else◌, true, false, ◌∷◌, length, slice_index, slice_set, arith, sym, ap, subst, ◌∙◌, inl, inr, Option, Some, None}
+use Rattle.std.proofs.Common.{◌≡◌, ◌≢◌, ℕ, suc, ◌<◌, ◌≤◌, if◌then◌else◌, true, false, ◌∷◌, length, slice_index, slice_set, arith, refl, sym, ap, subst, ◌∙◌, inl, inr, Option, Some, None}
 use Rattle.std.specs.Prelude.{get_or}
 use Rattle.std.specs.Global.{Vec}
 use Rattle.std.specs.Vec.{with_item}
@@ -18,31 +18,15 @@ use Rattle.bz_world.specs.Inside.Laws.{StrikeLaws}
 use Rattle.bz_world.proofs.Striking.{w, x, its, owner}
 use Rattle.bz_world.proofs.StruckQuietly.{struck-quietly}
 use Rattle.bz_world.proofs.Published.{published}
+use Rattle.bz_world.proofs.Tabled.{tabled-beside}
 
 -- a table of the same entries
 pub kept-workers : (p : Parts) (workers : Vec (Option OpenCall)) → IsAwake p → length workers.items ≡ length p.workers.items → ((v : ℕ) → get_or workers.items v None ≡ get_or p.workers.items v None) → IsAwake (record p { workers = workers })
 kept-workers p workers k size same = record {
   on = k.on;
   story = k.story;
-  tabled = let t = k.tabled in record {
-    config = t.config;
-    limits = t.limits;
-    marks = t.marks;
-    places = size ∙ t.places;
-    number_places = t.number_places;
-    owner_places = t.owner_places;
-    crew = t.crew;
-    counted = t.counted;
-    strangers = t.strangers;
-    begins = t.begins;
-    few_begins = t.few_begins;
-    page_calls = t.page_calls;
-    few_page_calls = t.few_page_calls;
-    steps = t.steps;
-    pairs = t.pairs;
-    power = t.power;
-  };
-  taken = let t = k.taken in record { shown = t.shown; held = t.held; few = t.few; notes = t.notes; unused = t.unused };
+  tabled = tabled-beside (record { workers = size; owners = refl; crew = refl; steps = refl; rest = refl }) k.tabled;
+  taken = assumption k.taken;
   living = k.living;
   sound = k.sound;
   free = k.free;

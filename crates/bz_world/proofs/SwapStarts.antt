@@ -9,7 +9,7 @@ use Rattle.std.proofs.Math.Seq.{get_or-append_seam}
 use Rattle.bz_alone.specs.Alone.{IsAlone}
 use Rattle.bz_alone.specs.Counts.{HasOthers}
 use Rattle.bz_running.specs.Duties.{made_of, facts_of}
-use Rattle.bz_sight.specs.Sight.{IsHidden}
+use Rattle.bz_sight.specs.Sight.{IsHidden, IsSeen}
 use Rattle.bz_sight.specs.Starts.{StartsAreSeen, Sees, StoresAreHidden, OwnWordsAreHidden}
 use Rattle.bz_sound.specs.Lonely.{LonelyCallsAreAlone}
 use Rattle.bz_story.specs.Laws.{ScenesAreSeen}
@@ -41,6 +41,7 @@ use Rattle.bz_world.proofs.Lonely.{in-place, only-own}
 use Rattle.bz_world.proofs.Powered.{begun-in}
 use Rattle.bz_world.proofs.Starting.{starts-it, starts-others}
 use Rattle.bz_world.proofs.Staying.{finishing-stays}
+use Rattle.bz_world.proofs.Tabled.{tabled-beside}
 
 module _ (scenes : ScenesAreSeen) (hidden : OwnWordsAreHidden) (p : Parts) (w : ℕ) (asked : Todo) (m : MustStart p w asked) where
   abbrev pub between : IsBetween p w m.serving
@@ -96,21 +97,9 @@ module _ (lone : AloneLaws) (starts : StartsAreSeen) (scenes : ScenesAreSeen) (b
   work = may.work
 
   living : IsLiving p.config new p.journal was.story
-  living = let l = was.living in record {
-    from = l.from;
-    begins = l.begins;
-    seen = starts.swap p.config (was.story.at (length p.journal.past)) p.access w entries (scene p.config p.journal.past was.story w was.call_open.look.since was.opened) l.seen (scenes p.config p.access p.journal was.story w was.call_open.look.since was.opened l (begun-in l was.call_open)) may ask holds;
-    history = l.history;
-    words = l.words;
-    images = l.images;
-    effects = l.effects;
-    reserved = l.reserved;
-    apart = l.apart;
-    took = l.took;
-    took_apart = l.took_apart;
-    came = l.came;
-    stored = l.stored;
-  }
+  living =
+      let seen : IsSeen p.config new (was.story.at (length p.journal.past)) = starts.swap p.config (was.story.at (length p.journal.past)) p.access w entries (scene p.config p.journal.past was.story w was.call_open.look.since was.opened) was.living.seen (scenes p.config p.access p.journal was.story w was.call_open.look.since was.opened was.living (begun-in was.living was.call_open)) may ask holds in
+      assumption (was.living, seen)
 
   does : doing_of new w ≡ Swapping p.access.taken
   does = starts-it p.access w (Swapping p.access.taken) work.within
@@ -188,7 +177,7 @@ module _ (lone : AloneLaws) (starts : StartsAreSeen) (scenes : ScenesAreSeen) (b
       slot-of None h = record { none_open = h.none_open; idle = starts-others p.access w v (Swapping p.access.taken) ne ∙ h.idle; filled = h.filled }
       slot-of (Some x) h = record {
         opened = h.opened;
-        call_open = let o = h.call_open in record { is_open = o.is_open; call = o.call; effect = o.effect; look = o.look; told = o.told; wanted = o.wanted };
+        call_open = assumption h.call_open;
         tasked = h.tasked;
         asked = h.asked;
         asks = h.asks;
@@ -236,24 +225,7 @@ module _ (lone : AloneLaws) (starts : StartsAreSeen) (scenes : ScenesAreSeen) (b
   swapping-kept = record {
     on = was.on;
     story = was.story;
-    tabled = let t = was.tabled in record {
-      config = t.config;
-      limits = t.limits;
-      marks = t.marks;
-      places = t.places;
-      number_places = t.number_places;
-      owner_places = size;
-      crew = length-set p.access.workers w (record { doing = Swapping p.access.taken; flush_next = begins_by_flush (Swapping p.access.taken) }) ∙ t.crew;
-      counted = t.counted;
-      strangers = t.strangers;
-      begins = t.begins;
-      few_begins = t.few_begins;
-      page_calls = t.page_calls;
-      few_page_calls = t.few_page_calls;
-      steps = t.steps;
-      pairs = t.pairs;
-      power = t.power;
-    };
+    tabled = let t = was.tabled in tabled-beside (record { workers = refl; owners = size ∙ sym t.owner_places; crew = length-set p.access.workers w (record { doing = Swapping p.access.taken; flush_next = begins_by_flush (Swapping p.access.taken) }); steps = refl; rest = refl }) t;
     taken = let t = was.taken in record {
       shown = t.shown;
       held = begun.taken.swap p.access w entries work.within was.idle t.held;

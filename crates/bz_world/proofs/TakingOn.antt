@@ -69,6 +69,7 @@ use Rattle.bz_world.proofs.Alone.{hears-now}
 use Rattle.bz_world.proofs.Powered.{begun-in}
 use Rattle.bz_world.proofs.Staying.{none-unfilled}
 use Rattle.bz_world.proofs.Supplies.{not-longer}
+use Rattle.bz_world.proofs.Tabled.{tabled-beside}
 use Rattle.bz_task.specs.declared.todo.Seen.{Seen}
 
 -- each slot that was taken has been stored into
@@ -150,25 +151,8 @@ pub between-tasks : (p : Parts) (w : ℕ) (x y : OpenCall) (b : IsBetween p w x)
 between-tasks p w x y b workers size rest opened = record {
   on = b.on;
   story = b.story;
-  tabled = let t = b.tabled in record {
-    config = t.config;
-    limits = t.limits;
-    marks = t.marks;
-    places = size ∙ t.places;
-    number_places = t.number_places;
-    owner_places = t.owner_places;
-    crew = t.crew;
-    counted = t.counted;
-    strangers = t.strangers;
-    begins = t.begins;
-    few_begins = t.few_begins;
-    page_calls = t.page_calls;
-    few_page_calls = t.few_page_calls;
-    steps = t.steps;
-    pairs = t.pairs;
-    power = t.power;
-  };
-  taken = let t = b.taken in record { shown = t.shown; held = t.held; few = t.few; notes = t.notes; unused = t.unused };
+  tabled = tabled-beside (record { workers = size; owners = refl; crew = refl; steps = refl; rest = refl }) b.tabled;
+  taken = assumption b.taken;
   living = b.living;
   sound = b.sound;
   free = b.free;
@@ -262,7 +246,7 @@ said-alone p w on other alone slot is = record {
   serving = record on.serving { alone = alone };
   is = get_or-set_same p.workers.items w slot None (omega (arith, on.between.within, on.between.tabled.places, on.between.tabled.config.workers_in_range.at_most)) ∙ is;
   between = between-tasks p w on.serving (record on.serving { alone = alone }) on.between (with_item p.workers w slot) (length-set p.workers.items w slot) (λ v ne. get_or-set_other p.workers.items w v slot None ne)
-      (let o = on.between.call_open in record { is_open = o.is_open; call = o.call; effect = o.effect; look = o.look; told = o.told; wanted = o.wanted });
+      (assumption on.between.call_open);
   filled = on.filled;
   fit = record { words = on.fit.words; thawed = on.fit.thawed };
   lonely = λ key get lonely. absurd (other key get lonely);
@@ -284,7 +268,7 @@ said-froze p w on other froze thawed slot is = record {
   serving = record on.serving { froze = froze };
   is = get_or-set_same p.workers.items w slot None (omega (arith, on.between.within, on.between.tabled.places, on.between.tabled.config.workers_in_range.at_most)) ∙ is;
   between = between-tasks p w on.serving (record on.serving { froze = froze }) on.between (with_item p.workers w slot) (length-set p.workers.items w slot) (λ v ne. get_or-set_other p.workers.items w v slot None ne)
-      (let o = on.between.call_open in record { is_open = o.is_open; call = o.call; effect = o.effect; look = o.look; told = o.told; wanted = o.wanted });
+      (assumption on.between.call_open);
   filled = on.filled;
   fit = record { words = on.fit.words; thawed = thawed };
   lonely = λ key get lonely. absurd (other key get lonely);
@@ -331,7 +315,7 @@ module _ (p : Parts) (w : ℕ) (task : AnyTask) (had : Option (List ℕ)) (asked
 
   between : IsBetween taken w next
   between = between-tasks p w m.on.serving next m.on.between (with_item p.workers w slot) (length-set p.workers.items w slot) (λ v ne. get_or-set_other p.workers.items w v slot None ne)
-      (let o = m.on.between.call_open in record { is_open = o.is_open; call = o.call; effect = o.effect; look = o.look; told = told; wanted = m.wanted })
+      (assumption (told, m.wanted, m.on.between.call_open))
 
   pub here-is : get_or taken.workers.items w None ≡ Some next
   here-is = get_or-set_same p.workers.items w slot None (omega (arith, m.on.between.within, m.on.between.tabled.places, m.on.between.tabled.config.workers_in_range.at_most)) ∙ is

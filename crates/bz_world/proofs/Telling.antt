@@ -52,6 +52,7 @@ use Rattle.bz_world.proofs.Meant.{call-meant-told}
 use Rattle.bz_world.proofs.Powered.{begun-in}
 use Rattle.bz_world.proofs.Staying.{covered-stays, slot-scenes}
 use Rattle.bz_world.proofs.Takings.{covered-taken, may-take, no-more-free, still-free}
+use Rattle.bz_world.proofs.Tabled.{tabled-beside}
 use Rattle.bz_task.specs.declared.todo.Todo.TheVariants.{Finish}
 
 -- the slot has a task that was told
@@ -192,25 +193,8 @@ module _ (scenes : ScenesAreSeen) (slots : SlotsAreTaken) (laws : LonelyLaws) (l
       between = record {
         on = told.between.on;
         story = after;
-        tabled = let t = told.between.tabled in record {
-          config = t.config;
-          limits = t.limits;
-          marks = t.marks;
-          places = size ∙ t.places;
-          number_places = t.number_places;
-          owner_places = t.owner_places;
-          crew = t.crew;
-          counted = t.counted;
-          strangers = t.strangers;
-          begins = t.begins;
-          few_begins = t.few_begins;
-          page_calls = t.page_calls;
-          few_page_calls = t.few_page_calls;
-          steps = t.steps;
-          pairs = t.pairs;
-          power = t.power;
-        };
-        taken = let t = told.between.taken in record { shown = t.shown; held = t.held; few = t.few; notes = t.notes; unused = t.unused };
+        tabled = tabled-beside (record { workers = size; owners = refl; crew = refl; steps = refl; rest = refl }) told.between.tabled;
+        taken = assumption told.between.taken;
         living = living;
         sound = told.between.sound;
         free = still-free p.config (image_at_on p.journal.start p.journal.past) told.between.story w (needs_of x.task) (needs_of y.task) p.slots left h.heard.slots told.between.free;

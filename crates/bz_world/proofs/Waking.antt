@@ -37,11 +37,11 @@ use Rattle.bz_world.specs.Inside.Serving.{IsSlot}
 use Rattle.bz_world.specs.declared.parts.Parts.{Parts}
 use Rattle.bz_world.specs.declared.serving.OpenCall.{OpenCall}
 use Rattle.bz_world.proofs.Lonely.{none-in}
-use Rattle.bz_world.proofs.Counting.{pairs-stay}
 use Rattle.bz_world.proofs.Recovered.{Learns}
 use Rattle.bz_world.proofs.Supplies.{shown-off}
 use Rattle.bz_world.proofs.Contained.{among-contains, contains-among}
 use Rattle.bz_world.proofs.LeftSlots.{count-left}
+use Rattle.bz_world.proofs.Tabled.{tabled-plain}
 
 -- the laws of a beginning
 pub record Begins : Type 0 where
@@ -59,24 +59,7 @@ module _ (b : Begins) (p : Parts) (k : IsOff p) (off : p.power ≡ power.Off) (r
   pub begun : IsRecovering turned recovery.Asked
   begun = record {
     dark = record {
-      tabled = let t = k.dark.tabled in record {
-        config = t.config;
-        limits = t.limits;
-        marks = omega (arith, room);
-        places = t.places;
-        number_places = t.number_places;
-        owner_places = t.owner_places;
-        crew = t.crew;
-        counted = t.counted;
-        strangers = t.strangers;
-        begins = t.begins;
-        few_begins = t.few_begins;
-        page_calls = t.page_calls;
-        few_page_calls = t.few_page_calls;
-        steps = omega (arith, t.steps);
-        pairs = pairs-stay p.config p.journal.start p.journal.past On p.pairs (λ map. refl) t.pairs;
-        power = refl;
-      };
+      tabled = let t = k.dark.tabled in tabled-plain p turned On tt (record { room = omega (arith, room); workers = refl; crew = refl; steps = omega (arith, t.steps); power = refl; rest = refl }) refl t;
       sound = b.follow p.config p.at_start p.journal k.dark.sound ((b.tells p.at_start (map_at_start p.config p.journal.start) p.journal.past k.dark.sound.once).off.0 (k.dark.tabled.power ∙ off));
       none = k.dark.none;
       slots = nodes ∙ k.dark.slots;
@@ -109,24 +92,7 @@ module _ (b : Ends) (p : Parts) (k : MustWake p) (order : IsInOrder p.slots) (ho
   life = renewed_story p.config p.access p.journal
 
   tabled : IsTabled (record p { access = renewed p.access; journal = with_mark p.journal Ready; power = power.On })
-  tabled = let t = k.recovering.dark.tabled in record {
-    config = t.config;
-    limits = t.limits;
-    marks = omega (arith, room);
-    places = t.places;
-    number_places = t.number_places;
-    owner_places = t.owner_places;
-    crew = t.crew;
-    counted = t.counted;
-    strangers = t.strangers;
-    begins = t.begins;
-    few_begins = t.few_begins;
-    page_calls = t.page_calls;
-    few_page_calls = t.few_page_calls;
-    steps = omega arith;
-    pairs = pairs-stay p.config p.journal.start p.journal.past Ready p.pairs (λ map. refl) t.pairs;
-    power = refl;
-  }
+  tabled = let t = k.recovering.dark.tabled in tabled-plain p (record p { access = renewed p.access; journal = with_mark p.journal Ready; power = power.On }) Ready tt (record { room = room; workers = refl; crew = refl; steps = omega arith; power = refl; rest = refl }) refl t
 
   idle-all : (w : ℕ) → doing_of (renewed p.access) w ≡ Idle
   idle-all w = reborn.revived.may_renew.idle w
