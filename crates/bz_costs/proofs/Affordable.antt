@@ -1,8 +1,12 @@
--- The one inequality that the values of the constants decide: what a call costs that steps alone, and the marks that are promised for it.
+-- The two inequalities that the values of the constants decide: what a call costs that steps alone, and the marks that are promised for it.
 use Rattle.std.proofs.Common.{arith}
 use Rattle.bz_search.specs.Digits.{digits_in}
-use Rattle.bz_costs.specs.Costs.{LoneCallsAreAffordable}
+use Rattle.bz_costs.specs.Costs.{LoneCallsAreAffordable, WholeCallsAreAffordable}
 
 pub affordable : LoneCallsAreAffordable
 unfolding digits_in
 affordable c k = omega (arith, k.workers_in_range.at_least, k.workers_in_range.at_most)
+
+pub whole-affordable : WholeCallsAreAffordable
+unfolding digits_in
+whole-affordable = omega arith

@@ -5,7 +5,7 @@ use Rattle.bz_layout.specs.declared.config.Config.{Config}
 use Rattle.bz_layout.specs.declared.thresholds.TheConstants.{MARKS_PER_CALL}
 use Rattle.bz_running.specs.declared.running.AnyTask.{AnyTask}
 use Rattle.bz_costs.specs.Failing.{cost_of_lost_inner}
-use Rattle.bz_costs.specs.Lone.{rest_of_round, lone_most}
+use Rattle.bz_costs.specs.Lone.{own_marks, begin_marks, rest_of_round, lone_most}
 use Rattle.bz_costs.specs.Most.{most_of_freeze, most_of_copy, most_of_merge, most_of_root, most_of_below, IsWithinItsActs}
 use Rattle.bz_costs.specs.Stretches.{cost_of_view, cost_of_split_at, cost_once_viewed, cost_once_found, cost_from, top_stage, cost_viewed_at, cost_found_at, cost_at, lone_stretch}
 use Rattle.bz_costs.specs.Weights.{weigh}
@@ -41,3 +41,7 @@ pub record StretchesAreTheMost : Type 0 where
 -- a call that steps alone costs no more marks than the configuration tells
 abbrev pub LoneCallsAreAffordable : Type 0
 LoneCallsAreAffordable = (c : Config) → IsConfig c → lone_most c ≤ MARKS_PER_CALL * (c.workers + 2)
+
+-- nor does one cost more than is promised for each call whose worker steps alone from its begin on, while no other call is open
+abbrev pub WholeCallsAreAffordable : Type 0
+WholeCallsAreAffordable = lone_stretch + own_marks + begin_marks ≤ MARKS_PER_CALL

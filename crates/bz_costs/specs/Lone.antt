@@ -8,6 +8,10 @@ use Rattle.bz_costs.specs.Stretches.{cost_from, lone_stretch}
 abbrev pub own_marks : ℕ
 own_marks = 3
 
+-- the mark of its begin, and the places of the journal that a step asks for
+abbrev pub begin_marks : ℕ
+begin_marks = 4
+
 -- the rest of the round in which the counting begins, or in which another worker's swap took effect
 abbrev pub rest_of_round : ℕ
 rest_of_round = cost_from 0

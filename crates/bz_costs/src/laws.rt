@@ -1,6 +1,6 @@
 //! Laws of costs. Each function does nothing: its contract is the law.
 
-ghost use Rattle.bz_costs.specs.Costs.{HigherStagesCostMore, RoundsArePaid, StretchesAreTheMost, LoneCallsAreAffordable};
+ghost use Rattle.bz_costs.specs.Costs.{HigherStagesCostMore, RoundsArePaid, StretchesAreTheMost, LoneCallsAreAffordable, WholeCallsAreAffordable};
 ghost use Rattle.bz_costs.specs.Examples.{WeightsAreTold, CostsAreTold};
 ghost use Rattle.bz_costs.specs.Laws.{AskedSwapsAreCounted, HearingIsPaid, ActsAndSwapsWeigh, TasksWeighLittle, LostSplitsCostLittle};
 ghost use Rattle.bz_costs.specs.Splits.{SplitsArePaid};
@@ -53,6 +53,11 @@ pub fn stretches_are_the_most()
 /// A call that steps alone costs no more marks than its configuration tells.
 pub fn lone_calls_are_affordable()
     ensures { LoneCallsAreAffordable }
+{}
+
+/// Nor does a call that begins while no other is open cost more than is promised for each.
+pub fn whole_calls_are_affordable()
+    ensures { WholeCallsAreAffordable }
 {}
 
 /// The weights of the tasks in numbers.

@@ -7,6 +7,11 @@ use bz_alone::laws as alone;
 use bz_content::laws as content;
 use bz_join::laws as join;
 use bz_renew::laws as renew;
+pub use bz_rounds::laws::{
+    lone_ascents_are_below_the_stage, lone_ascents_are_due, lone_key_views_tell_the_stage,
+    lone_leaves_are_due, lone_swaps_leave, lone_views_tell_the_leaf, lone_views_tell_the_stage,
+    stages_stand,
+};
 use bz_shape::laws as shape;
 use bz_slotted::laws as slotted;
 use bz_stage::laws as stage;

@@ -12,6 +12,7 @@ mod Spending
 mod Rises
 mod Kept
 mod Any
+mod First
 mod Simple
 mod Foreign
 mod Same

@@ -11,8 +11,8 @@ use Rattle.bz_costs.specs.Stretches.{lone_stretch}
 use Rattle.bz_joined.specs.Lone.{LoneFreezesFreezeTheLeaf}
 use Rattle.bz_layout.specs.declared.thresholds.TheConstants.{LEAF_RECORD_WORDS}
 use Rattle.bz_rivals.specs.Rivals.{rivals}
-use Rattle.bz_rounds.specs.Left.{LoneSwapsLeave}
-use Rattle.bz_rounds.specs.Lone.{IsLoneSwap}
+use Rattle.bz_joined.specs.FromRounds.Left.{LoneSwapsLeave}
+use Rattle.bz_joined.specs.FromRounds.Lone.{IsLoneSwap}
 use Rattle.bz_running.specs.Duties.{config_of, end_of, made_of, facts_of, asks_of, swaps_of, change_swaps, publishing_of, makes_no_change}
 use Rattle.bz_running.specs.Kinds as kinds
 use Rattle.bz_running.specs.Kinds.{Kind, kind_of, is_look}

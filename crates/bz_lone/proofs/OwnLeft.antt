@@ -6,8 +6,8 @@ use Rattle.bz_content.specs.Content.{image_of}
 use Rattle.bz_costs.specs.Stretches.{cost_from, top_stage}
 use Rattle.bz_joined.specs.Lone.{LoneFreezesFreezeTheLeaf}
 use Rattle.bz_layout.specs.declared.config.Config.{Config}
-use Rattle.bz_rounds.specs.Left.{HasSplit, IsLeft}
-use Rattle.bz_rounds.specs.Lone.{IsLoneSwap}
+use Rattle.bz_joined.specs.FromRounds.Left.{HasSplit, IsLeft}
+use Rattle.bz_joined.specs.FromRounds.Lone.{IsLoneSwap}
 use Rattle.bz_running.specs.Duties.{config_of, asks_of, facts_of}
 use Rattle.bz_running.specs.Kinds as kinds
 use Rattle.bz_running.specs.Kinds.{Kind, kind_of, is_look, level_of}

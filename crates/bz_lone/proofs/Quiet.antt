@@ -3,7 +3,7 @@ use Rattle.std.proofs.Common.{◌≡◌, ℕ, ◌+◌, refl, ap, ◌∙◌}
 use Rattle.bz_call.specs.Map.{key_of}
 use Rattle.bz_costs.specs.Stretches.{lone_stretch}
 use Rattle.bz_rivals.specs.Rivals.{rivals}
-use Rattle.bz_rounds.specs.Stands.{StagesStand}
+use Rattle.bz_joined.specs.FromRounds.Stands.{StagesStand}
 use Rattle.bz_running.specs.Kinds.{kind_of}
 use Rattle.bz_running.specs.declared.running.AnyTask.{AnyTask}
 use Rattle.bz_swap.specs.Alone.{left_to}

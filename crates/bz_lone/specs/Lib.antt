@@ -5,3 +5,5 @@ pub mod Sum
 pub mod Steps
 pub mod Rounds
 pub mod Renewals
+pub mod FromRounds
+pub mod FromCosts

@@ -1,14 +1,14 @@
 -- What a worker's steps, what its task is told and what it starts, make of the number: it is paid for by what they take.
-use Rattle.std.specs.Prelude.{◌≡◌, ◌≢◌, ℕ, ◌+◌, ◌<◌, ◌≤◌, if◌then◌else◌, Bool, true, false, List, length, Some}
+use Rattle.std.specs.Prelude.{◌≡◌, ◌≢◌, ℕ, ◌+◌, ◌-◌, ◌<◌, ◌≤◌, if◌then◌else◌, Bool, true, false, List, length, Some}
 use Rattle.bz_alone.specs.Alone.{IsAlone}
 use Rattle.bz_alone.specs.Counts.{Adds}
-use Rattle.bz_costs.specs.Lone.{lone_most}
+use Rattle.bz_costs.specs.Lone.{begin_marks, lone_most}
 use Rattle.bz_costs.specs.Most.{IsWithinItsActs}
 use Rattle.bz_costs.specs.Weights.{start_allows}
 use Rattle.bz_layout.specs.Config.{IsConfig}
 use Rattle.bz_layout.specs.Slots.{FreeSlots}
 use Rattle.bz_layout.specs.declared.config.Config.{Config}
-use Rattle.bz_layout.specs.declared.thresholds.TheConstants.{LEAF_RECORD_WORDS}
+use Rattle.bz_layout.specs.declared.thresholds.TheConstants.{LEAF_RECORD_WORDS, MARKS_PER_CALL}
 use Rattle.bz_rivals.specs.Notes.{SwapsNothing}
 use Rattle.bz_rivals.specs.Rivals.{rivals}
 use Rattle.bz_running.specs.Duties.{config_of, asks_of, end_of, made_of, publishing_of, facts_of}
@@ -17,7 +17,7 @@ use Rattle.bz_running.specs.Kinds.{kind_of}
 use Rattle.bz_running.specs.Laws.{AreLaws}
 use Rattle.bz_running.specs.declared.running.AnyTask.{AnyTask}
 use Rattle.bz_swap.specs.Alone.{left_to}
-use Rattle.bz_swap.specs.SwapMemory.{SwapMemory}
+use Rattle.bz_swap.specs.SwapMemory.{SwapMemory, Idle, doing_of}
 use Rattle.bz_task.specs.Instant.{Instant}
 use Rattle.bz_task.specs.Requests.{Hears, effects_in}
 use Rattle.bz_task.specs.Scene.{Past, Scene, Waiting, IsScene, here}
@@ -48,6 +48,10 @@ AnyCallIsPaid =
 -- and so is a round that is yet to begin
 abbrev pub AnyRoundIsPaid : Type 0
 AnyRoundIsPaid = (c : Config) (m : SwapMemory) (w : ℕ) (e : Errand) (by : ℕ) (p : Past) → IsCrew c m w → IsThawed e → p.now + lone_most c ≤ by → PaysForRound m w e by p
+
+-- where nobody does anything, it is paid for by what is promised for each call
+abbrev pub FirstRoundsArePaid : Type 0
+FirstRoundsArePaid = (m : SwapMemory) (w : ℕ) (e : Errand) (by : ℕ) (p : Past) → ((v : ℕ) → doing_of m v ≡ Idle) → IsThawed e → p.now + (MARKS_PER_CALL - begin_marks) ≤ by → PaysForRound m w e by p
 
 -- a step of the worker: less is left to it, and no rival is new
 pub record HasStepped (m n : SwapMemory) (w : ℕ) : Type 0 where

@@ -2,13 +2,17 @@
 
 ghost use Rattle.bz_lone.specs.Renewals.{RenewalsArePaid, AscentsArePaid};
 ghost use Rattle.bz_lone.specs.Rounds.{LessIsSpared, EndsAreAfforded, EndsArePaid, WaysArePaid, ChangesArePaid, LeavesAreRead, ReadLeavesArePaid, TasksMayBegin, RoundsBegin, DisturbedRoundsArePaid, EndsLeaveARound};
-ghost use Rattle.bz_lone.specs.Steps.{AnyCallIsPaid, AnyRoundIsPaid, QuietStepsArePaid, ForeignEffectsArePaid, EffectMarksArePaid, LessIsPaid, OwnEffectsArePaid, HearingsArePaid, StartsArePaid};
+ghost use Rattle.bz_lone.specs.Steps.{AnyCallIsPaid, AnyRoundIsPaid, FirstRoundsArePaid, QuietStepsArePaid, ForeignEffectsArePaid, EffectMarksArePaid, LessIsPaid, OwnEffectsArePaid, HearingsArePaid, StartsArePaid};
 
 use bz_alone::laws as alone;
 use bz_costs::laws as costs;
+pub use bz_costs::laws::{asked_swaps_are_counted, lone_calls_are_affordable};
 use bz_joined::laws as joined;
+pub use bz_joined::laws::{
+    lone_ascents_are_below_the_stage, lone_ascents_are_due, lone_key_views_tell_the_stage,
+    lone_leaves_are_due, lone_views_tell_the_leaf, lone_views_tell_the_stage,
+};
 use bz_rivals::laws as rivals;
-use bz_rounds::laws as rounds;
 use bz_swap::laws as swap;
 
 /// Whatever a call has come to, it ends within what the configuration tells.
@@ -31,11 +35,21 @@ pub fn any_round_is_paid()
     costs::stretches_are_the_most();
 }
 
+/// So does one that begins while nobody does anything, within what is promised for each call.
+pub fn first_rounds_are_paid()
+    ensures { FirstRoundsArePaid }
+{
+    swap::lone_steps_are_allowed();
+    costs::higher_stages_cost_more();
+    costs::stretches_are_the_most();
+    costs::whole_calls_are_affordable();
+}
+
 /// A step without an effect is paid for.
 pub fn quiet_steps_are_paid()
     ensures { QuietStepsArePaid }
 {
-    rounds::stages_stand();
+    joined::stages_stand();
 }
 
 /// So is one at which another worker's swap takes effect.
@@ -50,7 +64,7 @@ pub fn foreign_effects_are_paid()
 pub fn effect_marks_are_paid()
     ensures { EffectMarksArePaid }
 {
-    rounds::stages_stand();
+    joined::stages_stand();
 }
 
 /// What pays for more pays for less.
@@ -70,7 +84,7 @@ pub fn own_effects_are_paid()
     joined::lone_freezes_beside_keep_the_leaf();
     joined::lone_freezes_freeze_the_leaf();
     joined::merge_swaps_give_room();
-    rounds::lone_swaps_leave();
+    joined::lone_swaps_leave();
 }
 
 /// What a task is told pays for the start of its next act.

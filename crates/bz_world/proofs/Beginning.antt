@@ -1,9 +1,9 @@
 -- A call that has begun, with the lookup of its key.
-use Rattle.std.proofs.Common.{◌≡◌, ◌≢◌, ◌⊎◌, ℕ, suc, ◌+◌, ◌^◌, ◌<◌, ◌≤◌, ◌==◌, if◌then◌else◌, Bool, true, false, List, [], ◌∷◌, length, slice_index, slice_set, arith, refl, sym, ap, subst, ◌∙◌, inl, inr, Option, Some, None}
+use Rattle.std.proofs.Common.{◌≡◌, ◌≢◌, ◌⊎◌, ℕ, suc, ◌+◌, ◌^◌, ◌<◌, ◌≤◌, ◌==◌, ◌&&◌, if◌then◌else◌, Bool, true, false, List, [], ◌∷◌, length, slice_index, slice_set, arith, refl, sym, ap, subst, ◌∙◌, inl, inr, Option, Some, None}
 use Rattle.std.specs.Prelude.{get_or, map}
 use Rattle.std.specs.Global.{Vec}
 use Rattle.std.specs.Vec.{with_item}
-use Rattle.std.proofs.lemmas.Bool.{cases_eq, true≢false}
+use Rattle.std.proofs.lemmas.Bool.{cases_eq, cases_lt, true≢false}
 use Rattle.std.proofs.lemmas.Bool.Decides.{nat_tests}
 use Rattle.std.proofs.lemmas.List.{get_or_read_under, get_or-set_same, get_or-set_other, length-set, map-set}
 use Rattle.bz_alone.specs.Brief.{IsBrief}
@@ -13,6 +13,7 @@ use Rattle.bz_call.specs.declared.calls.Call.{Call}
 use Rattle.bz_layout.specs.declared.thresholds.TheConstants.{LEAF_RECORD_WORDS}
 use Rattle.bz_lone.specs.Errands.{words_asked, IsLookOf}
 use Rattle.bz_lone.specs.Rounds.{IsBegunAt}
+use Rattle.bz_lone.specs.Sum.{PaysForRound}
 use Rattle.bz_mark.specs.Log.{with_mark, count_begins, count_page_calls}
 use Rattle.bz_mark.specs.declared.marks.Mark.{Mark}
 use Rattle.bz_mark.specs.declared.marks.Mark.TheVariants.{Begin, End, Load, Store, Cas, Flush, Evict, Cut, On, Ready, Effect}
@@ -24,7 +25,7 @@ use Rattle.bz_running.specs.Laws.{AreLaws}
 use Rattle.bz_running.specs.LookingUp.{ForWay, look_of, reads_asked, LooksUpBriefly}
 use Rattle.bz_running.specs.declared.running.AnyTask.{AnyTask}
 use Rattle.bz_sight.specs.Sight.{next_instant}
-use Rattle.bz_sound.specs.Calls.{Open, begun_calls}
+use Rattle.bz_sound.specs.Calls.{Open, open_call, begun_calls}
 use Rattle.bz_sound.specs.Power.Sound.{IsSound}
 use Rattle.bz_story.specs.Laws.{GoesOn, goes_on}
 use Rattle.bz_story.specs.Living.{IsLiving}
@@ -41,7 +42,7 @@ use Rattle.bz_world.specs.Inside.Kept.{IsTabled, IsAwake}
 use Rattle.bz_world.specs.Inside.Laws.{EndLaws, StartLaws}
 use Rattle.bz_world.specs.Inside.Lonely.{WhereLonely, IsLonelyGet}
 use Rattle.bz_world.specs.Inside.Paid.{errand_of}
-use Rattle.bz_world.specs.WorldView.{supply_by, deadline}
+use Rattle.bz_world.specs.WorldView.{supply_by, are_closed, run_marks, deadline}
 use Rattle.bz_world.specs.Inside.Serving.{IsSlot, IsAtRest}
 use Rattle.bz_world.specs.Inside.Telling.{MustStart}
 use Rattle.bz_world.specs.declared.parts.Parts.{Parts}
@@ -50,7 +51,7 @@ use Rattle.bz_story.proofs.Powered.{stored-since}
 use Rattle.bz_world.proofs.Alone.{waits-on}
 use Rattle.bz_world.proofs.Counting.{pairs-stay}
 use Rattle.bz_world.proofs.Lonely.{acts-begin, all-idle}
-use Rattle.bz_world.proofs.Paid.{within-of}
+use Rattle.bz_world.proofs.Paid.{within-of, begin-runs, each-closed}
 use Rattle.bz_world.proofs.Powered.{is-on}
 use Rattle.bz_world.proofs.Spared.{seeks}
 use Rattle.bz_world.proofs.Staying.{none-unfilled, slot-stays}
@@ -138,7 +139,7 @@ module _ (p : Parts) (k : IsAwake p) (w : ℕ) (call : Call) (may : MayBegin p w
           took = λ j. refl;
           filled = λ j e. e;
           alone = λ m o t l waits. waits-on p.config p.access p.access p.journal.past mark k.story after v m o o t (next_instant p.access (k.story.at (length p.journal.past))) refl l waits refl refl (λ j d. refl) (λ j d well. well);
-        }) (λ y t steps. absurd (cc steps)) (k.workers v))
+        }) (λ y t runs. absurd (ne (sym (begin-runs p.config w v n call p.journal.past runs)))) (k.workers v))
 
     -- the tables
     own-count : (t : Bool) → t ≡ true → n ≡ (if t then begun_calls w p.journal.past + 1 else begun_calls w p.journal.past)
@@ -202,7 +203,7 @@ module _ (p : Parts) (k : IsAwake p) (w : ℕ) (call : Call) (may : MayBegin p w
       opened = opened;
       call_open = record { is_open = (b.calls w p.journal.past).own_begin n call; call = refl; effect = refl; look = record { since = suc (length p.journal.past); after_begin = omega arith; by_now = omega arith }; told = λ at e. absurd (cc e); wanted = λ quiet some. absurd (omega (arith, some, wants)) };
       idle = at-rest.idle;
-      steps = λ v is. absurd (cc is);
+      steps = λ v is. sym (begin-runs p.config w v n call p.journal.past is);
     }
 
     abbrev here : Scene
@@ -210,6 +211,24 @@ module _ (p : Parts) (k : IsAwake p) (w : ℕ) (call : Call) (may : MayBegin p w
 
     none-taken : HasFilled (scene p.config (mark ∷ p.journal.past) after w (suc (length p.journal.past)) opened)
     none-taken i e = at-rest.filled i e
+
+    -- it is paid for, by as much as is promised for each call where no other is open
+    none-open : are_closed p.config.workers p.journal.past ≡ true → (v : ℕ) → open_call v p.journal.past ≡ None
+    none-open closed v = elim (cases_lt p.config.workers v) [
+      | inl many ↦ k.tabled.strangers v (inr many)
+      | inr few ↦ each-closed p.config.workers p.journal.past closed v (omega (arith, few))
+    ]
+
+    pays-by : (b : Bool) → are_closed p.config.workers p.journal.past ≡ b → PaysForRound p.access w (errand_of fresh) (suc (length p.journal.past) + run_marks p.config b) here.past
+    pays-by true closed = s.lone.paid.first p.access w (errand_of fresh) (suc (length p.journal.past) + run_marks p.config true) here.past (all-idle p k (none-open closed)) (λ froze. absurd (true≢false (sym froze))) (omega arith)
+    pays-by false some = s.lone.paid.round p.config p.access w (errand_of fresh) (suc (length p.journal.past) + run_marks p.config false) here.past (record { config = k.tabled.config; size = k.tabled.crew; worker = may.worker; within = may.within; zero = k.taken.notes.zero }) (λ froze. absurd (true≢false (sym froze)))
+        (omega (arith, s.lone.paid.affordable p.config k.tabled.config))
+
+    pays : PaysForRound p.access w (errand_of fresh) (deadline p.config w (mark ∷ p.journal.past)) here.past
+    pays = subst (λ (own : Bool). PaysForRound p.access w (errand_of fresh) (suc (length p.journal.past) + run_marks p.config (own && are_closed p.config.workers p.journal.past)) here.past) (sym own) (pays-by (are_closed p.config.workers p.journal.past) refl)
+      where
+        own : (w == w) ≡ true
+        own = grind (arith, nat_tests)
 
     -- where no other call is open it is a brief look-up
     lonely-begun : WhereLonely (mark ∷ p.journal.past) w call (IsLonelyGet (started p.access w (Reading 2)) (mark ∷ p.journal.past) after w fresh opened)
@@ -238,7 +257,7 @@ module _ (p : Parts) (k : IsAwake p) (w : ℕ) (call : Call) (may : MayBegin p w
         meant = record { within = within-of task (λ a e. absurd (let other : kinds.Seek ≡ kinds.SplitLeaf a = sym kind ∙ e in cc other)); fit = record { words = few; thawed = λ froze. absurd (true≢false (sym froze)) }; look = λ quiet. subst (IsLookOf call) (sym kind) (seeks call); meant = λ quiet. inl (record { slots = wants; swaps = inl swaps }); later = λ at is. ap is_renewal kind };
         paid = s.lone.rounds.begin p.access w (errand_of fresh) task (deadline p.config w (mark ∷ p.journal.past)) here.past here.past
             (begun here.past refl)
-            (s.lone.paid.round p.config p.access w (errand_of fresh) (deadline p.config w (mark ∷ p.journal.past)) here.past (record { config = k.tabled.config; size = k.tabled.crew; worker = may.worker; within = may.within; zero = k.taken.notes.zero }) (λ froze. absurd (true≢false (sym froze))) (omega (arith, s.lone.paid.affordable p.config k.tabled.config)));
+            pays;
       };
     }
 

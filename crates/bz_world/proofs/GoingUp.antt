@@ -6,7 +6,7 @@ use Rattle.bz_ascent.specs.Ascents.{IsAscent, IsOneUp}
 use Rattle.bz_ascent.specs.declared.ascent.Ascent.{Ascent}
 use Rattle.bz_call.specs.Map.{key_of}
 use Rattle.bz_call.specs.declared.calls.Call.{Call}
-use Rattle.bz_costs.specs.Most.{IsWithinItsActs}
+use Rattle.bz_lone.specs.FromCosts.Most.{IsWithinItsActs}
 use Rattle.bz_lone.specs.Errands.{words_asked, is_read, may_swap_twice}
 use Rattle.bz_lone.specs.Meant.{IsMeantFor}
 use Rattle.bz_lone.specs.Prices.{coming}

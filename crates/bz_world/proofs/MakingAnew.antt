@@ -2,13 +2,13 @@
 use Rattle.std.proofs.Common.{◌≡◌, ◌≢◌, ℕ, ◌+◌, if◌then◌else◌, Bool, true, false, List, arith, refl, sym, ap, subst, ◌∙◌, inl, inr, Option, None, is_some}
 use Rattle.bz_ascent.specs.declared.ascent.Ascent.{Ascent}
 use Rattle.bz_call.specs.Map.{key_of}
-use Rattle.bz_costs.specs.Most.{most_of_freeze, most_of_copy, most_of_merge, most_of_root, most_of_below, IsWithinItsActs}
+use Rattle.bz_lone.specs.FromCosts.Most.{most_of_freeze, most_of_copy, most_of_merge, most_of_root, most_of_below, IsWithinItsActs}
 use Rattle.bz_layout.specs.declared.config.Config.{Config}
 use Rattle.bz_layout.specs.declared.thresholds.TheConstants.{MERGE_SLOTS}
 use Rattle.bz_lone.specs.Errands.{words_asked, is_read}
 use Rattle.bz_lone.specs.Meant.{IsMeantFor}
 use Rattle.bz_lone.specs.Prices.{Prices, coming, coming_after, coming_to_read, coming_to_write}
-use Rattle.bz_rounds.specs.Due.{MayBeMadeAnew}
+use Rattle.bz_lone.specs.FromRounds.Due.{MayBeMadeAnew}
 use Rattle.bz_running.specs.Duties.{config_of, asks_of, made_of, wants_of, facts_of, makes_no_change}
 use Rattle.bz_running.specs.Hearing.{IsLookup}
 use Rattle.bz_running.specs.Kinds as kinds

@@ -1,12 +1,12 @@
 -- The call of a worker that steps alone stays paid for.
-use Rattle.std.proofs.Common.{◌≡◌, ◌≢◌, ◌⊎◌, ℕ, suc, ◌+◌, ◌*◌, ◌≤◌, ◌<◌, ◌==◌, if◌then◌else◌, Bool, true, false, List, [], ◌∷◌, length, arith, refl, sym, ap, subst, ◌∙◌, inl, inr, Option, Some, None, is_some}
+use Rattle.std.proofs.Common.{◌≡◌, ◌≢◌, ◌⊎◌, ℕ, zero, suc, ◌+◌, ◌*◌, ◌≤◌, ◌<◌, ◌==◌, ◌&&◌, if◌then◌else◌, Bool, true, false, List, [], ◌∷◌, length, arith, refl, sym, ap, subst, ◌∙◌, inl, inr, Option, Some, None, is_some, is_none}
 use Rattle.std.proofs.lemmas.Bool.{cases_eq, true≢false}
 use Rattle.std.proofs.lemmas.Bool.Decides.{nat_tests}
 use Rattle.bz_acts.specs.declared.acted.Act.{Act}
 use Rattle.bz_acts.specs.declared.acted.Act.TheVariants.{Load, Store, Cas, Flush}
 use Rattle.bz_below.specs.Facts.{below_acts}
-use Rattle.bz_costs.specs.Laws.{AskedSwapsAreCounted}
-use Rattle.bz_costs.specs.Most.{IsWithinItsActs}
+use Rattle.bz_lone.specs.FromCosts.Laws.{AskedSwapsAreCounted}
+use Rattle.bz_lone.specs.FromCosts.Most.{IsWithinItsActs}
 use Rattle.bz_layout.specs.Slots.{FreeSlots}
 use Rattle.bz_layout.specs.declared.config.Config.{Config}
 use Rattle.bz_layout.specs.declared.thresholds.TheConstants.{MARKS_PER_CALL}
@@ -16,13 +16,15 @@ use Rattle.bz_lone.specs.Errands.{Errand, is_read, IsLookOf}
 use Rattle.bz_lone.specs.Steps.{IsNext}
 use Rattle.bz_lone.specs.Sum.{Affords, own_left, IsPaid}
 use Rattle.bz_mark.specs.declared.marks.Mark.{Mark}
+use Rattle.bz_mark.specs.declared.marks.Mark.TheVariants as mark
 use Rattle.bz_running.specs.Duties.{asks_of, left_of, swaps_of}
 use Rattle.bz_running.specs.Hearing.{HasHeard}
 use Rattle.bz_running.specs.Kinds as kinds
 use Rattle.bz_running.specs.Kinds.{Kind, is_look, kind_of}
 use Rattle.bz_running.specs.declared.running.AnyTask.{AnyTask}
 use Rattle.bz_running.specs.declared.running.AnyTask.TheVariants.{Seeking, Finding, Reading, Inserting, Updating, Deleting, Freezing, Consolidating, Splitting, SplittingBelow, SplittingInner, SplittingInnerRoot, Merging}
-use Rattle.bz_sound.specs.Calls.{Open}
+use Rattle.bz_sound.specs.Calls.{Open, open_call}
+use Rattle.bz_sound.specs.Memory.Moments.{IsAfterFlush}
 use Rattle.bz_story.specs.Story.{Story, scene, and_then}
 use Rattle.bz_swap.specs.SwapMemory.{SwapMemory, doing_of}
 use Rattle.bz_task.specs.Instant.{Instant}
@@ -35,9 +37,9 @@ use Rattle.bz_word.specs.declared.entry.Entry.{Entry}
 use Rattle.bz_world.specs.Inside.Alone.{untold}
 use Rattle.bz_world.specs.Inside.Kept.{IsAwake}
 use Rattle.bz_world.specs.Inside.Laws.{PaidLaws}
-use Rattle.bz_world.specs.Inside.Paid.{errand_of}
+use Rattle.bz_world.specs.Inside.Paid.{errand_of, runner}
 use Rattle.bz_world.specs.Inside.Serving.{IsServing}
-use Rattle.bz_world.specs.WorldView.{mark_of, stepper, is_stepper, run_begin, deadline}
+use Rattle.bz_world.specs.WorldView.{mark_of, stepper, is_stepper, before_run, are_closed, begins_alone, run_marks, deadline_from, deadline}
 use Rattle.bz_world.specs.declared.parts.Parts.{Parts}
 use Rattle.bz_world.specs.declared.serving.OpenCall.{OpenCall}
 use Rattle.bz_world.proofs.Lonely.{now-is}
@@ -60,20 +62,20 @@ self-is : (w : ℕ) → (w == w) ≡ true
 self-is w = grind (arith, nat_tests)
 
 -- while it does, its run began where it did
-pub begun-before : (w : ℕ) (m : Mark) (past : List Mark) → stepper (m ∷ past) ≡ Some w → run_begin w (m ∷ past) ≡ run_begin w past
-begun-before w m past is = ap (λ (z : Option ℕ). if is_stepper w z then run_begin w past else suc (length past)) is ∙ ap (λ (z : Bool). if z then run_begin w past else suc (length past)) (self-is w)
+pub before-on : (w : ℕ) (m : Mark) (past : List Mark) → stepper (m ∷ past) ≡ Some w → before_run w (m ∷ past) ≡ before_run w past
+before-on w m past is = ap (λ (z : Option ℕ). if is_stepper w z then before_run w past else m ∷ past) is ∙ ap (λ (z : Bool). if z then before_run w past else m ∷ past) (self-is w)
 
 pub run-on : (c : Config) (w : ℕ) (m : Mark) (past : List Mark) → stepper (m ∷ past) ≡ Some w → deadline c w (m ∷ past) ≡ deadline c w past
-run-on c w m past is = ap (λ (n : ℕ). n + MARKS_PER_CALL * (c.workers + 2)) (begun-before w m past is)
+run-on c w m past is = ap (deadline_from c w) (before-on w m past is)
 
 -- no run begins later than now
-run-by-or : (b : Bool) (w : ℕ) (past : List Mark) → run_begin w past ≤ length past → (if b then run_begin w past else suc (length past)) ≤ suc (length past)
-run-by-or true w past l = omega (arith, l)
-run-by-or false w past l = omega arith
+run-by-or : (b : Bool) (w : ℕ) (m : Mark) (past : List Mark) → length (before_run w past) ≤ length past → length (if b then before_run w past else m ∷ past) ≤ suc (length past)
+run-by-or true w m past l = omega (arith, l)
+run-by-or false w m past l = omega arith
 
-pub run-by-now : (w : ℕ) (past : List Mark) → run_begin w past ≤ length past
+pub run-by-now : (w : ℕ) (past : List Mark) → length (before_run w past) ≤ length past
 run-by-now w [] = omega arith
-run-by-now w (m ∷ past) = run-by-or (is_stepper w (stepper (m ∷ past))) w past (run-by-now w past)
+run-by-now w (m ∷ past) = run-by-or (is_stepper w (stepper (m ∷ past))) w m past (run-by-now w past)
 
 other-run : (w : ℕ) (o : Option ℕ) → o ≢ Some w → is_stepper w o ≡ false
 other-run w None ne = refl
@@ -83,9 +85,73 @@ other-run w (Some v) ne = elim (cases_eq v w) [
 ]
 
 -- else it begins now
-run-now : (w : ℕ) (past : List Mark) → stepper past ≢ Some w → run_begin w past ≡ length past
+run-now : (w : ℕ) (past : List Mark) → stepper past ≢ Some w → before_run w past ≡ past
 run-now w [] ne = refl
-run-now w (m ∷ past) ne = ap (λ (z : Bool). if z then run_begin w past else suc (length past)) (other-run w (stepper (m ∷ past)) ne)
+run-now w (m ∷ past) ne = ap (λ (z : Bool). if z then before_run w past else m ∷ past) (other-run w (stepper (m ∷ past)) ne)
+
+-- the worker that steps is known to be paid for
+pub steps-run : (c : Config) (w : ℕ) (past : List Mark) → stepper past ≡ Some w → runner c past ≡ Some w
+steps-run c w [] is = is
+steps-run c w (mark.Begin v n called ∷ past) is = absurd (cc is)
+steps-run c w (m ∷ past) is = is
+
+pub act-runs : (c : Config) (w : ℕ) (made : Act) (past : List Mark) → runner c (mark_of w made ∷ past) ≡ Some w
+act-runs c w made past = steps-run c w (mark_of w made ∷ past) (act-steps w made past)
+
+-- after a flush, or an eviction, it is the one that steps
+pub flush-runs : (c : Config) (w : ℕ) (past : List Mark) → IsAfterFlush past → runner c past ≡ Some w → stepper past ≡ Some w
+flush-runs c w (mark.Flush v line ∷ past) flush is = is
+flush-runs c w (mark.Evict a ∷ past) flush is = is
+flush-runs c w past flush is = absurd flush
+
+-- after the begin of a call, the worker of that call
+begin-or : (b : Bool) (v w : ℕ) → (if b then Some v else None) ≡ Some w → (b ≡ true) × (v ≡ w)
+begin-or true v w is = (refl, cc is)
+begin-or false v w is = absurd (cc is)
+
+pub begin-runs : (c : Config) (v w n : ℕ) (called : Call) (past : List Mark) → runner c (mark.Begin v n called ∷ past) ≡ Some w → v ≡ w
+begin-runs c v w n called past is = (begin-or (are_closed c.workers past) v w is).1
+
+-- where no call was open it begins alone
+closed-begin : (b : Bool) (v w : ℕ) → (if b then Some v else None) ≢ Some w → ((v == w) && b) ≡ false
+closed-begin true v w ne = elim (cases_eq v w) [
+  | inl e ↦ absurd (ne (ap Some e))
+  | inr n ↦ (let t : (v == w) ≡ false = grind (arith, nat_tests) in ap (λ (z : Bool). z && true) t)
+]
+closed-begin false v w ne = neither (v == w)
+  where
+    neither : (z : Bool) → (z && false) ≡ false
+    neither true = refl
+    neither false = refl
+
+begins-else : (c : Config) (w : ℕ) (past : List Mark) → runner c past ≢ Some w → begins_alone c w past ≡ false
+begins-else c w [] ne = refl
+begins-else c w (mark.Begin v n called ∷ past) ne = closed-begin (are_closed c.workers past) v w ne
+begins-else c w (m ∷ past) ne = refl
+
+-- so the call of one of which nothing is known yet has all that is promised for any
+all-left : (c : Config) (w : ℕ) (past : List Mark) → runner c past ≢ Some w → deadline c w past ≡ length past + MARKS_PER_CALL * (c.workers + 2)
+all-left c w past ne = ap (deadline_from c w) (run-now w past (λ is. ne (steps-run c w past is))) ∙ ap (λ (b : Bool). length past + run_marks c b) (begins-else c w past ne)
+
+none-open : (o : Option Open) → is_none o ≡ true → o ≡ None
+none-open None e = refl
+none-open (Some opened) e = absurd (true≢false (sym e))
+
+first-of : (a b : Bool) → (a && b) ≡ true → a ≡ true
+first-of true b e = refl
+first-of false b e = e
+
+second-of : (a b : Bool) → (a && b) ≡ true → b ≡ true
+second-of true b e = e
+second-of false b e = absurd (true≢false (sym e))
+
+-- then no worker has an open call
+pub each-closed : (n : ℕ) (past : List Mark) → are_closed n past ≡ true → (v : ℕ) → v ≤ n → open_call v past ≡ None
+each-closed zero past closed v few = subst (λ (u : ℕ). open_call u past ≡ None) (omega (arith, few)) (none-open (open_call 0 past) closed)
+each-closed (suc n) past closed v few = elim (cases_eq v (suc n)) [
+  | inl e ↦ subst (λ (u : ℕ). open_call u past ≡ None) (sym e) (none-open (open_call (suc n) past) (first-of (is_none (open_call (suc n) past)) (are_closed n past) closed))
+  | inr ne ↦ each-closed n past (second-of (is_none (open_call (suc n) past)) (are_closed n past) closed) v (omega (arith, few, ne))
+]
 
 -- whether it steps
 steps-or : (w : ℕ) (o : Option ℕ) → (o ≡ Some w) ⊎ (o ≢ Some w)
@@ -138,10 +204,10 @@ within-told old new seen moment free todo left h within = within-of new (λ a e.
 -- the call of a worker is paid for, whoever stepped last
 pub paid-here : PaidLaws → (p : Parts) (k : IsAwake p) (w : ℕ) (x : OpenCall) (s : IsServing p.config p.access p.journal k.story p.owners.items w x) → 0 < w → w ≤ p.config.workers
     → IsPaid p.access w (errand_of x) x.task (untold p.access (doing_of p.access w)) 0 (deadline p.config w p.journal.past) (scene p.config p.journal.past k.story w s.call_open.look.since s.opened).past
-paid-here b p k w x s some within = elim (steps-or w (stepper p.journal.past)) [
+paid-here b p k w x s some within = elim (steps-or w (runner p.config p.journal.past)) [
   | inl is ↦ s.paid is
   | inr ne ↦ b.any p.config p.access w (errand_of x) x.task (untold p.access (doing_of p.access w)) (deadline p.config w p.journal.past) (scene p.config p.journal.past k.story w s.call_open.look.since s.opened).past
-      (record { config = k.tabled.config; size = k.tabled.crew; worker = some; within = within; zero = k.taken.notes.zero }) s.meant.within (λ quiet. s.meant.look (none-of x.effect quiet)) s.meant.fit.thawed (omega (arith, run-now w p.journal.past ne, b.affordable p.config k.tabled.config))
+      (record { config = k.tabled.config; size = k.tabled.crew; worker = some; within = within; zero = k.taken.notes.zero }) s.meant.within (λ quiet. s.meant.look (none-of x.effect quiet)) s.meant.fit.thawed (omega (arith, all-left p.config w p.journal.past ne, b.affordable p.config k.tabled.config))
 ]
 
 -- one mark later so many swaps took effect

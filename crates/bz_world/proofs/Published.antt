@@ -47,7 +47,7 @@ use Rattle.bz_world.specs.Inside.Alone.{untold}
 use Rattle.bz_world.specs.Inside.Paid.{errand_of}
 use Rattle.bz_world.specs.WorldView.{stepper, deadline}
 use Rattle.bz_world.proofs.Meant.{publishing-kind}
-use Rattle.bz_world.proofs.Paid.{run-on, next-is}
+use Rattle.bz_world.proofs.Paid.{run-on, flush-runs, next-is}
 use Rattle.bz_world.proofs.Staying.{Leaves, none-stays, serving-stays}
 use Rattle.bz_world.specs.Inside.Laws.{StrikeLaws}
 use Rattle.bz_world.proofs.Striking.{flush-calls, old, kept, w, x, its, owner, before, waits, good, after, living, opened, later, took, struck-alone, struck-meant, own-paid, other-paid, leaves}
@@ -185,7 +185,7 @@ module _ (b : StrikeLaws) (p : Parts) (s : ℕ) (h : IsStriking p s) (publishes 
           (none-stays c (old b p s h).access p.access log h.mark (kept b p s h).story (after b p s h) (old b p s h).owners.items v (leaves b p s h v ne) t)
       both (Some y) t = serving-stays b.scenes b.stay c p.access p.access with_flush effect_mark (after b p s h) told_story (old b p s h).owners.items v y lives (told-leaves v ne)
           (serving-stays b.scenes b.stay c (old b p s h).access p.access log h.mark (kept b p s h).story (after b p s h) (old b p s h).owners.items v y (living b p s h) (leaves b p s h v ne) t
-          (λ steps. b.paid.less p.access v (errand_of y) y.task (untold p.access (doing_of p.access v)) 1 0 (deadline c v with_flush.past) (scene c with_flush.past (after b p s h) v t.call_open.look.since t.opened).past (omega arith) (other-paid b p s h v ne y t steps)))
+          (λ runs. b.paid.less p.access v (errand_of y) y.task (untold p.access (doing_of p.access v)) 1 0 (deadline c v with_flush.past) (scene c with_flush.past (after b p s h) v t.call_open.look.since t.opened).past (omega arith) (other-paid b p s h v ne y t (flush-runs c v with_flush.past h.flush runs))))
           (λ steps. marked v (errand_of y) y.task (untold p.access (doing_of p.access v)) t.call_open.look.since t.opened (begun-in (kept b p s h).living t.call_open) steps (other-paid b p s h v ne y t steps))
 
   -- the call, with its effect

@@ -34,10 +34,10 @@ use Rattle.bz_lone.specs.Steps.{HasStepped}
 use Rattle.bz_lone.specs.Sum.{IsPaid}
 use Rattle.bz_rivals.specs.Rivals.{rivals}
 use Rattle.bz_world.specs.Inside.Alone.{untold}
-use Rattle.bz_world.specs.Inside.Paid.{errand_of}
-use Rattle.bz_world.specs.WorldView.{stepper, deadline}
+use Rattle.bz_world.specs.Inside.Paid.{errand_of, runner}
+use Rattle.bz_world.specs.WorldView.{deadline}
 use Rattle.bz_world.proofs.Alone.{waits-on, well-acted}
-use Rattle.bz_world.proofs.Paid.{act-steps, one-steps, who-steps, run-on, paid-here, next-is}
+use Rattle.bz_world.proofs.Paid.{act-steps, act-runs, one-steps, who-steps, run-on, paid-here, next-is}
 use Rattle.bz_world.proofs.Powered.{begun-in, looks-on, free-on, leaves-power, may-act}
 use Rattle.bz_world.proofs.Owners.{pending-begun}
 use Rattle.bz_world.proofs.Marking.{act-marked, act-calls}
@@ -151,7 +151,7 @@ module _ (b : StepLaws) (old new : Parts) (w : ℕ) (x : OpenCall) (made : Act) 
 
   -- and the others do not step
   pub none-pays : (after : Story) (v : ℕ) → v ≢ w → Pays old.config old.access old.journal (mark_of w made) k.story after old.owners.items new.access v
-  none-pays after v ne y t steps = absurd (one-steps v w ne (stepper (mark_of w made ∷ old.journal.past)) (act-steps w made old.journal.past) steps)
+  none-pays after v ne y t steps = absurd (one-steps v w ne (runner old.config (mark_of w made ∷ old.journal.past)) (act-runs old.config w made old.journal.past) steps)
 
   -- so what is known of a worker stays, if the mark is a lawful step for it
   pub stays : (after : Story) (v : ℕ) → IsLiving old.config new.access (with_mark old.journal (mark_of w made)) after → after.from ≡ k.story.from → SameFor old.access new.access v
@@ -215,5 +215,5 @@ module _ (b : StepLaws) (old new : Parts) (w : ℕ) (x : OpenCall) (made : Act) 
       wanted = wanted-stays old.config old.journal (mark_of w made) s.opened (wants_of x.task) s.call_open.wanted;
     };
     idle = a.step.one.doing ∙ idle-by (doing_of old.access w) done ne;
-    steps = λ v is. who-steps v w (stepper (mark_of w made ∷ old.journal.past)) (act-steps w made old.journal.past) is;
+    steps = λ v is. who-steps v w (runner old.config (mark_of w made ∷ old.journal.past)) (act-runs old.config w made old.journal.past) is;
   }

@@ -1,9 +1,11 @@
 -- A worker that steps alone: its run began where it began, and its call is open until it ends.
-use Rattle.std.proofs.Common.{◌≡◌, ◌≢◌, ◌⊎◌, inl, inr, ℕ, zero, suc, ◌+◌, ◌*◌, ◌-◌, ◌≤◌, ◌<◌, ◌==◌, Bool, true, false, List, ◌∷◌, length, arith, refl, sym, ap, subst, ◌∙◌, Option, Some, None, nat_lt}
+use Rattle.std.proofs.Common.{◌≡◌, ◌≢◌, ◌⊎◌, inl, inr, ℕ, zero, suc, ◌+◌, ◌*◌, ◌-◌, ◌≤◌, ◌<◌, ◌==◌, Bool, true, false, List, [], ◌∷◌, length, arith, refl, sym, ap, subst, ◌∙◌, Option, Some, None, nat_lt}
 use Rattle.std.specs.Prelude.{is_none, if◌then◌else◌, option_map, MatchOption}
+use Rattle.std.proofs.lemmas.Bool.{true≢false}
 use Rattle.std.proofs.lemmas.Bool.Decides.{nat_tests}
 use Rattle.bz_acts.specs.declared.acted.Act.{Act}
 use Rattle.bz_acts.specs.declared.acted.Act.TheVariants as act
+use Rattle.bz_lone.specs.FromCosts.Lone.{begin_marks}
 use Rattle.bz_layout.specs.declared.config.Config.{Config}
 use Rattle.bz_layout.specs.declared.thresholds.TheConstants.{MARKS_PER_CALL}
 use Rattle.bz_mark.specs.Log.{Log}
@@ -14,12 +16,12 @@ use Rattle.bz_sound.specs.Power.Times.{power_of}
 use Rattle.bz_sound.specs.declared.power.Power.{Power}
 use Rattle.bz_sound.specs.declared.power.Power.TheVariants as power
 use Rattle.bz_world.specs.Solo.{StepsOn, MayStep, EndsAlone, RunsAlone}
-use Rattle.bz_world.specs.WorldView.{WorldView, power_in, is_short, step_refusal, step_by, mark_of, run_begin, IsStruck, GoesOn, Steps, StepsBy, Recovers, IsApplied}
+use Rattle.bz_world.specs.WorldView.{WorldView, power_in, is_short, step_refusal, step_by, mark_of, before_run, begins_alone, run_marks, deadline_from, IsStruck, GoesOn, Steps, StepsBy, Recovers, IsApplied}
 use Rattle.bz_world.specs.declared.answers.Applied.{Applied}
 use Rattle.bz_world.specs.declared.answers.Applied.TheVariants as applied
 use Rattle.bz_world.specs.declared.answers.Event.TheVariants as event
 use Rattle.bz_world.proofs.Marking.{act-calls}
-use Rattle.bz_world.proofs.Paid.{act-steps, begun-before, run-by-now}
+use Rattle.bz_world.proofs.Paid.{act-steps, before-on, run-by-now}
 
 -- what is left of the journal
 abbrev pub places : WorldView → ℕ
@@ -44,32 +46,59 @@ still-open false n o some e = some e
 record Struck (at_start : Power) (w : ℕ) (made : Act) (past struck : List Mark) : Type 0 where
   power : power_of at_start struck ≡ power_of at_start past
   opened : open_call w past ≢ None → open_call w struck ≢ None
-  run : run_begin w struck ≡ run_begin w past
+  run : before_run w struck ≡ before_run w past
   more : suc (length past) ≤ length struck
 
 struck-is : (at_start : Power) (w : ℕ) (made : Act) (past struck : List Mark) → IsStruck (mark_of w made ∷ past) struck → Struck at_start w made past struck
 struck-is at_start w made past struck (inl same) = record {
   power = ap (power_of at_start) same ∙ act-power at_start made w past;
   opened = λ some none. some (sym (act-calls w w past made) ∙ (ap (open_call w) (sym same) ∙ none));
-  run = ap (run_begin w) same ∙ begun-before w (mark_of w made) past (act-steps w made past);
+  run = ap (before_run w) same ∙ before-on w (mark_of w made) past (act-steps w made past);
   more = omega (arith, ap length same);
 }
 struck-is at_start w made past struck (inr (v, (n, is))) = record {
   power = ap (power_of at_start) is ∙ act-power at_start made w past;
   opened = λ some none. still-open (v == w) (suc (length past)) (open_call w (mark_of w made ∷ past)) (λ e. some (sym (act-calls w w past made) ∙ e)) (ap (open_call w) (sym is) ∙ none);
-  run = ap (run_begin w) is ∙ (begun-before w (mark.Effect v n) (mark_of w made ∷ past) (act-steps w made past) ∙ begun-before w (mark_of w made) past (act-steps w made past));
+  run = ap (before_run w) is ∙ (before-on w (mark.Effect v n) (mark_of w made ∷ past) (act-steps w made past) ∙ before-on w (mark_of w made) past (act-steps w made past));
   more = omega (arith, ap length is);
 }
+
+-- so few marks were added
+pub record IsInTime (old : WorldView) (w : ℕ) (lab : WorldView) : Type 0 where
+  pub marks : length lab.log.past ≤ length old.log.past + MARKS_PER_CALL * (old.config.workers + 2)
+  pub whole : begins_alone old.config w old.log.past ≡ true → length lab.log.past + begin_marks ≤ length old.log.past + MARKS_PER_CALL
+
+begin-fits : begin_marks ≤ MARKS_PER_CALL
+begin-fits = omega arith
+
+-- by the deadline
+run-fits : (c : Config) (b : Bool) → run_marks c b ≤ MARKS_PER_CALL * (c.workers + 2)
+run-fits c true = omega arith
+run-fits c false = omega arith
+
+-- where it has just begun its call, with no other open, its run is still to begin
+begin-now : (c : Config) (w : ℕ) (past : List Mark) → begins_alone c w past ≡ true → before_run w past ≡ past
+begin-now c w [] begins = refl
+begin-now c w (mark.Begin v n called ∷ past) begins = refl
+begin-now c w (m ∷ past) begins = absurd (true≢false (sym begins))
+
+in-time : (c : Config) (w now : ℕ) (past : List Mark) → now ≤ deadline_from c w (before_run w past) → (now ≤ length past + MARKS_PER_CALL * (c.workers + 2)) × (begins_alone c w past ≡ true → now + begin_marks ≤ length past + MARKS_PER_CALL)
+in-time c w now past l = (
+  omega (arith, l, run-fits c (begins_alone c w (before_run w past)), run-by-now w past),
+  λ begins.
+      let by : deadline_from c w (before_run w past) ≡ length past + run_marks c true = ap (deadline_from c w) (begin-now c w past begins) ∙ ap (λ (b : Bool). length past + run_marks c b) begins in
+      omega (arith, l, by, begin-fits),
+)
 
 -- so much is known of a world in which the worker has stepped alone since that one
 pub record Alone (old : WorldView) (w : ℕ) (lab : WorldView) : Type 0 where
   pub may : MayStep lab w
   pub config : lab.config ≡ old.config
-  pub run : run_begin w lab.log.past ≡ run_begin w old.log.past
-  pub few : length lab.log.past ≤ length old.log.past + MARKS_PER_CALL * (old.config.workers + 2)
+  pub run : before_run w lab.log.past ≡ before_run w old.log.past
+  pub few : IsInTime old w lab
 
 pub alone-at-first : (old : WorldView) (w : ℕ) → MayStep old w → Alone old w old
-alone-at-first old w may = record { may = may; config = refl; run = refl; few = omega arith }
+alone-at-first old w may = record { may = may; config = refl; run = refl; few = record { marks = omega arith; whole = λ begins. omega (arith, begin-fits) } }
 
 -- a step is made, or the journal is short
 refusal-is : (lab : WorldView) (w : ℕ) → MayStep lab w → step_refusal lab w ≡ by_tests false (is_short lab.log) None
@@ -95,11 +124,13 @@ pub stepped : (old : WorldView) (w : ℕ) (answer : Applied) (new : WorldView) �
 stepped old w answer new may h = step-cases (is_short old.log) old w answer new refl (rw (refusal-is old w may, may.on) at h)
 
 -- its marks are few, since its run began before
-within : (old last new : WorldView) (w : ℕ) (answer : Applied) → Alone old w last → Steps last w answer new → length new.log.past ≤ length old.log.past + MARKS_PER_CALL * (old.config.workers + 2)
+within : (old last new : WorldView) (w : ℕ) (answer : Applied) → Alone old w last → Steps last w answer new → IsInTime old w new
 within old last new w answer a s =
     let struck = struck-is last.at_start w s.made last.log.past s.struck s.effect in
-    let bound : length new.log.past ≤ run_begin w s.struck + MARKS_PER_CALL * (old.config.workers + 2) = subst (λ (c : Config). length new.log.past ≤ run_begin w s.struck + MARKS_PER_CALL * (c.workers + 2)) (s.config ∙ a.config) s.lone in
-    omega (arith, bound, struck.run, a.run, run-by-now w old.log.past)
+    let bound : length new.log.past ≤ deadline_from old.config w (before_run w old.log.past) = subst (λ (before : List Mark). length new.log.past ≤ deadline_from old.config w before) (struck.run ∙ a.run)
+    (subst (λ (c : Config). length new.log.past ≤ deadline_from c w (before_run w s.struck)) (s.config ∙ a.config) s.lone) in
+    let both = in-time old.config w (length new.log.past) old.log.past bound in
+    record { marks = both.0; whole = both.1 }
 
 -- its call goes on
 pub alone-on : (old last new : WorldView) (w : ℕ) → Alone old w last → IsApplied last (event.Step w) applied.Stepped new → Alone old w new
@@ -115,7 +146,7 @@ alone-on old last new w a h = elim (stepped last w applied.Stepped new a.may h) 
           is_open = subst (λ (z : List Mark). open_call w z ≢ None) (sym past) (struck.opened a.may.is_open);
         };
         config = s.config ∙ a.config;
-        run = ap (run_begin w) past ∙ (struck.run ∙ a.run);
+        run = ap (before_run w) past ∙ (struck.run ∙ a.run);
         few = within old last new w applied.Stepped a s;
       }
       )
@@ -127,14 +158,18 @@ ended-or applied.Stepped log new w g s = absurd (s refl)
 ended-or (applied.Ended n) log new w g s = (n, refl)
 ended-or other log new w g s = absurd g
 
-pub alone-ends : (old last new : WorldView) (w : ℕ) (answer : Applied) → Alone old w last → IsApplied last (event.Step w) answer new → answer ≢ applied.Stepped → EndsAlone old answer new
+pub alone-ends : (old last new : WorldView) (w : ℕ) (answer : Applied) → Alone old w last → IsApplied last (event.Step w) answer new → answer ≢ applied.Stepped → EndsAlone old w answer new
 alone-ends old last new w answer a h stops = elim (stepped last w answer new a.may h) [
   | inl short ↦ record {
     answered = inr (short.answered, ap (λ (z : WorldView). is_short z.log) short.same ∙ short.short);
-    marks = subst (λ (z : WorldView). length z.log.past ≤ length old.log.past + MARKS_PER_CALL * (old.config.workers + 2)) (sym short.same) a.few;
+    marks = (few short.same).marks;
+    whole = (few short.same).whole;
   }
-  | inr s ↦ record { answered = inl (ended-or answer (record last.log { past = s.struck }) new.log w s.ends stops); marks = within old last new w answer a s }
+  | inr s ↦ record { answered = inl (ended-or answer (record last.log { past = s.struck }) new.log w s.ends stops); marks = (within old last new w answer a s).marks; whole = (within old last new w answer a s).whole }
 ]
+  where
+    few : new ≡ last → IsInTime old w new
+    few same = subst (IsInTime old w) (sym same) a.few
 
 -- so far each step was answered Stepped
 pub record GoesOnAlone (old : WorldView) (w : ℕ) (new : WorldView) : Type 0 where

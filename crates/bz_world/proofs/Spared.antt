@@ -6,7 +6,7 @@ use Rattle.bz_call.specs.Map.{key_of}
 use Rattle.bz_layout.specs.declared.thresholds.TheConstants.{SPLIT_ABOVE}
 use Rattle.bz_lone.specs.Renewals.{IsLacking, IsLarge}
 use Rattle.bz_record.specs.Records.{words_for}
-use Rattle.bz_rounds.specs.Viewed.{TellsTheStage}
+use Rattle.bz_lone.specs.FromRounds.Viewed.{TellsTheStage}
 use Rattle.bz_slotted.specs.Readers.{live_of}
 use Rattle.bz_slotted.specs.ReadingLaws.{node_of}
 use Rattle.bz_stage.specs.Stages.{stage_in}
@@ -18,7 +18,7 @@ use Rattle.bz_alone.specs.Alone.{IsAlone}
 use Rattle.bz_call.specs.declared.replies.Spent.{Spent}
 use Rattle.bz_call.specs.declared.calls.Call.{Call}
 use Rattle.bz_call.specs.declared.calls.Call.TheVariants as call
-use Rattle.bz_costs.specs.Most.{most_of, most_of_seek, most_of_find, most_of_leaf, most_of_insert, most_of_update, most_of_delete, most_of_freeze, most_of_copy, most_of_merge, most_of_root, most_of_below, most_of_inner, most_of_inner_root}
+use Rattle.bz_lone.specs.FromCosts.Most.{most_of, most_of_seek, most_of_find, most_of_leaf, most_of_insert, most_of_update, most_of_delete, most_of_freeze, most_of_copy, most_of_merge, most_of_root, most_of_below, most_of_inner, most_of_inner_root}
 use Rattle.bz_lone.specs.Errands.{Errand, words_asked, is_read, IsLookOf, may_swap_twice, after}
 use Rattle.bz_lone.specs.Prices.{Prices, coming}
 use Rattle.bz_lone.specs.Sum.{IsSmall, PaysForRound, reserve, prices_of}

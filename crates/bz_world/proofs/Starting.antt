@@ -23,7 +23,7 @@ use Rattle.bz_world.specs.Inside.Laws.{AloneLaws, BegunLaws, StartLaws}
 use Rattle.bz_world.specs.Inside.Serving.{IsServing, IsDoing, IsSlot, stage_in}
 use Rattle.bz_world.specs.Inside.Telling.{MustStart}
 use Rattle.bz_world.specs.declared.parts.Parts.{Parts}
-use Rattle.bz_costs.specs.Weights.{start_allows}
+use Rattle.bz_lone.specs.FromCosts.Weights.{start_allows}
 use Rattle.bz_lone.specs.Sum.{IsPaid}
 use Rattle.bz_swap.specs.Alone.{allowed_for, left_to}
 use Rattle.bz_world.specs.Inside.Paid.{errand_of}

@@ -26,8 +26,8 @@ use Rattle.bz_task.specs.declared.todo.Todo.{Todo}
 use Rattle.bz_task.specs.declared.todo.Todo.TheVariants as todo
 use Rattle.bz_world.specs.Inside.Alone.{WaitsAlone, untold}
 use Rattle.bz_world.specs.Inside.Meant.{IsMeant}
-use Rattle.bz_world.specs.Inside.Paid.{errand_of}
-use Rattle.bz_world.specs.WorldView.{stepper, deadline}
+use Rattle.bz_world.specs.Inside.Paid.{errand_of, runner}
+use Rattle.bz_world.specs.WorldView.{deadline}
 use Rattle.bz_world.specs.Inside.Serving.{IsServing, IsCovered, IsDoing, IsSlot, IsToldBy, IsWanted, NeedsAtLeast, MayGoOn, IsFinishing, effect_reply, stage_in}
 use Rattle.bz_world.specs.declared.serving.OpenCall.{OpenCall}
 use Rattle.bz_world.proofs.Alone.{waits-same}
@@ -121,11 +121,11 @@ wanted-stays c log mark opened wants why quiet some =
 
 -- it pays for what is to come one mark later
 abbrev pub Pays : Config → SwapMemory → Log → Mark → Story → Story → List ℕ → SwapMemory → ℕ → Type 0
-Pays c m log mark story after owners n v = (x : OpenCall) (s : IsServing c m log story owners v x) → stepper (mark ∷ log.past) ≡ Some v
+Pays c m log mark story after owners n v = (x : OpenCall) (s : IsServing c m log story owners v x) → runner c (mark ∷ log.past) ≡ Some v
     → IsPaid n v (errand_of x) x.task (untold n (doing_of n v)) 0 (deadline c v (mark ∷ log.past)) (scene c (mark ∷ log.past) after v s.call_open.look.since s.opened).past
 
 unfoldable pub serving-stays : ScenesAreSeen → EffectsStayOpen → (c : Config) (m n : SwapMemory) (log : Log) (mark : Mark) (story after : Story) (owners : List ℕ) (v : ℕ) (x : OpenCall) → IsLiving c n (with_mark log mark) after → Leaves c m n log mark story after v
-    → (s : IsServing c m log story owners v x) → (stepper (mark ∷ log.past) ≡ Some v → IsPaid n v (errand_of x) x.task (untold n (doing_of n v)) 0 (deadline c v (mark ∷ log.past)) (scene c (mark ∷ log.past) after v s.call_open.look.since s.opened).past)
+    → (s : IsServing c m log story owners v x) → (runner c (mark ∷ log.past) ≡ Some v → IsPaid n v (errand_of x) x.task (untold n (doing_of n v)) 0 (deadline c v (mark ∷ log.past)) (scene c (mark ∷ log.past) after v s.call_open.look.since s.opened).past)
     → IsServing c n (with_mark log mark) after owners v x
 serving-stays seen stay c m n log mark story after owners v x living l s pays = record {
   opened = s.opened;
@@ -165,7 +165,7 @@ slot-stays seen stay c m n log mark story after owners v (Some x) living l pays 
 
 -- without a mark, in a memory in which a worker does the same
 pub slot-same : (c : Config) (m n : SwapMemory) (log : Log) (story : Story) (owners others : List ℕ) (v : ℕ) (slot : Option OpenCall) → SameFor m n v → ((s : ℕ) → doing_of m v ≡ Swapping s → GoesWell m s → GoesWell n s) → ((s : ℕ) → doing_of m v ≡ Swapping s → slice_index others s ≡ slice_index owners s)
-    → (stepper log.past ≡ Some v → ⊥) → IsSlot c m log story owners v slot → IsSlot c n log story others v slot
+    → (runner c log.past ≡ Some v → ⊥) → IsSlot c m log story owners v slot → IsSlot c n log story others v slot
 slot-same c m n log story owners others v None same well table still s = record { none_open = s.none_open; idle = same.doing ∙ s.idle; filled = s.filled }
 slot-same c m n log story owners others v (Some x) same well table still s = record {
   opened = s.opened;

@@ -26,7 +26,7 @@ use Rattle.bz_world.specs.declared.answers.Applied.TheVariants.{Stepped}
 use Rattle.bz_world.specs.declared.parts.Parts.{Parts}
 use Rattle.bz_world.proofs.Acting.{IsServed, is-served}
 use Rattle.bz_world.proofs.Marking.{act-calls}
-use Rattle.bz_world.proofs.Paid.{act-steps, affords-room}
+use Rattle.bz_world.proofs.Paid.{act-steps, steps-run, affords-room}
 use Rattle.bz_world.proofs.Quiet.{serves}
 use Rattle.bz_world.proofs.Supplies.{shown-on, not-longer}
 
@@ -69,7 +69,7 @@ in-time : (p : Parts) → IsAwake p → (w : ℕ) → open_call w p.journal.past
 in-time p k w some steps =
     let s : IsServed p w (get_or p.workers.items w None) = is-served p k w some in
     let h : IsServing p.config p.access p.journal k.story p.owners.items w s.serving = serves p k w s.serving s.is in
-    let paid : IsPaid p.access w (errand_of s.serving) s.serving.task (untold p.access (doing_of p.access w)) 0 (deadline p.config w p.journal.past) (scene p.config p.journal.past k.story w h.call_open.look.since h.opened).past = h.paid steps in
+    let paid : IsPaid p.access w (errand_of s.serving) s.serving.task (untold p.access (doing_of p.access w)) 0 (deadline p.config w p.journal.past) (scene p.config p.journal.past k.story w h.call_open.look.since h.opened).past = h.paid (steps-run p.config w p.journal.past steps) in
     let room : suc (length p.journal.past) ≤ deadline p.config w p.journal.past = affords-room p.access w (errand_of s.serving) (length p.journal.past) (deadline p.config w p.journal.past) _ paid.affords in
     omega (arith, room)
 

@@ -35,7 +35,7 @@ use Rattle.bz_world.specs.WorldView.{stepper, deadline}
 use Rattle.bz_world.proofs.Alone.{untold-by, waits-beside, waits-struck}
 use Rattle.bz_world.proofs.Lonely.{now-is}
 use Rattle.bz_world.proofs.Meant.{call-meant-on, swaps-or-merges}
-use Rattle.bz_world.proofs.Paid.{none-of, run-on, paid-here, next-is, swapless, some-moment}
+use Rattle.bz_world.proofs.Paid.{none-of, run-on, flush-runs, paid-here, next-is, swapless, some-moment}
 use Rattle.bz_world.proofs.Powered.{begun-in, flush-leaves}
 use Rattle.bz_world.proofs.Owners.{IsOwner, is-owner}
 use Rattle.bz_world.proofs.Staying.{SameFor, Leaves, slot-stays}
@@ -231,4 +231,4 @@ module _ (b : StrikeLaws) (p : Parts) (s : ℕ) (h : IsStriking p s) where
 
   pub others : (v : ℕ) → v ≢ w → IsSlot old.config p.access (with_mark old.journal h.mark) after old.owners.items v (get_or old.workers.items v None)
   others v ne = slot-stays b.scenes b.stay old.config old.access p.access old.journal h.mark kept.story after old.owners.items v (get_or old.workers.items v None) living (leaves v ne)
-      (λ y t steps. b.paid.less p.access v (errand_of y) y.task (untold p.access (doing_of p.access v)) 1 0 (deadline old.config v (h.mark ∷ old.journal.past)) (scene old.config (h.mark ∷ old.journal.past) after v t.call_open.look.since t.opened).past (omega arith) (other-paid v ne y t steps)) (kept.workers v)
+      (λ y t runs. b.paid.less p.access v (errand_of y) y.task (untold p.access (doing_of p.access v)) 1 0 (deadline old.config v (h.mark ∷ old.journal.past)) (scene old.config (h.mark ∷ old.journal.past) after v t.call_open.look.since t.opened).past (omega arith) (other-paid v ne y t (flush-runs old.config v (h.mark ∷ old.journal.past) h.flush runs))) (kept.workers v)

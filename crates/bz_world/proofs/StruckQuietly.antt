@@ -25,7 +25,7 @@ use Rattle.bz_lone.specs.Sum.{IsPaid}
 use Rattle.bz_world.specs.Inside.Alone.{untold}
 use Rattle.bz_world.specs.Inside.Paid.{errand_of}
 use Rattle.bz_world.specs.WorldView.{deadline}
-use Rattle.bz_world.proofs.Paid.{run-on}
+use Rattle.bz_world.proofs.Paid.{run-on, flush-runs}
 use Rattle.bz_world.proofs.LonelyActs.{none-struck}
 use Rattle.bz_world.proofs.Powered.{looks-on, flush-leaves, free-on}
 use Rattle.bz_world.proofs.Staying.{told-stays, wanted-stays, finishing-stays}
@@ -97,7 +97,7 @@ module _ (b : StrikeLaws) (p : Parts) (s : ℕ) (h : IsStriking p s) where
       covered = (its b p s h).covered;
       alone = struck-alone b p s h;
       meant = struck-meant b p s h;
-      paid = λ steps. subst (λ u. IsPaid p.access (w b p s h) (errand_of (x b p s h)) (x b p s h).task u 0 (deadline (old b p s h).config (w b p s h) (h.mark ∷ (old b p s h).journal.past)) (later b p s h).past)
+      paid = λ runs. let steps = flush-runs (old b p s h).config (w b p s h) (h.mark ∷ (old b p s h).journal.past) h.flush runs in subst (λ u. IsPaid p.access (w b p s h) (errand_of (x b p s h)) (x b p s h).task u 0 (deadline (old b p s h).config (w b p s h) (h.mark ∷ (old b p s h).journal.past)) (later b p s h).past)
           (sym (ap (untold p.access) still-does ∙ ap (λ (z : Bool). if z then 1 else 0) h.takes.effect.done))
           (subst (λ by. IsPaid p.access (w b p s h) (errand_of (x b p s h)) (x b p s h).task 1 0 by (later b p s h).past) (sym (run-on (old b p s h).config (w b p s h) h.mark (old b p s h).journal.past steps))
           (subst (λ z. IsPaid p.access (w b p s h) (effected_by z (errand_of (x b p s h))) (x b p s h).task 1 (mark_of_effect z) (deadline (old b p s h).config (w b p s h) (old b p s h).journal.past) (later b p s h).past) silent (own-paid b p s h steps)));

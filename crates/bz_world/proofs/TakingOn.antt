@@ -42,9 +42,9 @@ use Rattle.bz_world.specs.Inside.Kept.{IsAwake}
 use Rattle.bz_world.specs.Inside.Laws.{AloneLaws}
 use Rattle.bz_world.specs.Inside.Lonely.{WhereLonely, IsNotLonely, IsNotLonelyIn, IsLonelyGet, HasLooked, AsksBriefly}
 use Rattle.bz_alone.specs.Alone.{IsAlone}
-use Rattle.bz_costs.specs.Weights.{start_allows}
+use Rattle.bz_lone.specs.FromCosts.Weights.{start_allows}
 use Rattle.bz_layout.specs.declared.config.Config.{Config}
-use Rattle.bz_costs.specs.Most.{most_of_leaf}
+use Rattle.bz_lone.specs.FromCosts.Most.{most_of_leaf}
 use Rattle.bz_lone.specs.Errands.{Errand, is_read, is_freeze, after}
 use Rattle.bz_lone.specs.Prices.{coming}
 use Rattle.bz_lone.specs.Rounds.{stage_now}

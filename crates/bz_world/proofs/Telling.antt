@@ -32,7 +32,7 @@ use Rattle.bz_world.specs.Inside.Alone.{HasWaited, AsksAlone}
 use Rattle.bz_world.specs.Inside.Going.{end_in, wants_in}
 use Rattle.bz_world.specs.Inside.Laws.{AloneLaws, LonelyLaws}
 use Rattle.bz_world.specs.Inside.Lonely.{WhereLonely, AsksBriefly}
-use Rattle.bz_costs.specs.Weights.{start_allows}
+use Rattle.bz_lone.specs.FromCosts.Weights.{start_allows}
 use Rattle.bz_lone.specs.Errands.{Errand}
 use Rattle.bz_lone.specs.Prices.{coming}
 use Rattle.bz_lone.specs.Rounds.{stage_now}

@@ -1,9 +1,10 @@
 -- What comes of a world in which one worker steps alone.
 use Rattle.std.specs.Prelude.{◌≡◌, ◌≢◌, ◌⊎◌, ◌≤◌, ℕ, zero, suc, ◌+◌, ◌*◌, true, length, None}
+use Rattle.bz_lone.specs.FromCosts.Lone.{begin_marks}
 use Rattle.bz_layout.specs.declared.thresholds.TheConstants.{MARKS_PER_CALL}
 use Rattle.bz_sound.specs.Calls.{open_call}
 use Rattle.bz_sound.specs.declared.power.Power.TheVariants as power
-use Rattle.bz_world.specs.WorldView.{WorldView, power_in, is_short, IsApplied}
+use Rattle.bz_world.specs.WorldView.{WorldView, power_in, is_short, begins_alone, IsApplied}
 use Rattle.bz_world.specs.declared.answers.Applied.{Applied}
 use Rattle.bz_world.specs.declared.answers.Applied.TheVariants as applied
 use Rattle.bz_world.specs.declared.answers.Event.TheVariants as event
@@ -21,9 +22,11 @@ pub record MayStep (lab : WorldView) (w : ℕ) : Type 0 where
 
 -- its call has ended, or fewer than three places are left in the journal; and so it is within a number of marks that the configuration tells, whatever the
 -- others have come to
-pub record EndsAlone (old : WorldView) (answer : Applied) (new : WorldView) : Type 0 where
+pub record EndsAlone (old : WorldView) (w : ℕ) (answer : Applied) (new : WorldView) : Type 0 where
   pub answered : ((n : ℕ) × (answer ≡ applied.Ended n)) ⊎ ((answer ≡ applied.Limit) × (is_short new.log ≡ true))
   pub marks : length new.log.past ≤ length old.log.past + MARKS_PER_CALL * (old.config.workers + 2)
+  -- within fewer where its call has just begun, and no other was open
+  pub whole : begins_alone old.config w old.log.past ≡ true → length new.log.past + begin_marks ≤ length old.log.past + MARKS_PER_CALL
 
 -- the worker steps until the answer is another one
 pub record RunsAlone (old : WorldView) (w : ℕ) (answer : Applied) (new : WorldView) : Type 0 where
@@ -32,4 +35,4 @@ pub record RunsAlone (old : WorldView) (w : ℕ) (answer : Applied) (new : World
   pub stepped : StepsOn steps old w last
   pub answered : IsApplied last (event.Step w) answer new
   pub stops : answer ≢ applied.Stepped
-  pub ends : MayStep old w → EndsAlone old answer new
+  pub ends : MayStep old w → EndsAlone old w answer new

@@ -14,6 +14,7 @@ use Rattle.bz_call.specs.declared.replies.Reply.TheVariants.{Full}
 use Rattle.bz_call.specs.declared.replies.Spent.{Spent}
 use Rattle.bz_call.specs.declared.replies.Spent.TheVariants.{Nodes, Swaps, Height}
 use Rattle.bz_content.specs.Content.{image_fault}
+use Rattle.bz_lone.specs.FromCosts.Lone.{begin_marks}
 use Rattle.bz_layout.specs.Addresses.{words_of}
 use Rattle.bz_layout.specs.Config.{IsConfig, IsFirstOutOfRange}
 use Rattle.bz_layout.specs.Fresh.{fresh_words}
@@ -249,14 +250,33 @@ abbrev pub is_stepper : ℕ → Option ℕ → Bool
 is_stepper w None = false
 is_stepper w (Some v) = v == w
 
--- how many marks there were before the run of acts in which a worker steps alone; where it did not make the newest act, all
-abbrev pub run_begin : ℕ → List Mark → ℕ
-run_begin w [] = 0
-run_begin w (mark ∷ past) = if is_stepper w (stepper (mark ∷ past)) then run_begin w past else suc (length past)
+-- the marks before the run of acts in which a worker steps alone; where it did not make the newest act, all
+abbrev pub before_run : ℕ → List Mark → List Mark
+before_run w [] = []
+before_run w (mark ∷ past) = if is_stepper w (stepper (mark ∷ past)) then before_run w past else mark ∷ past
 
--- by how many marks the call of a worker has ended, if it steps alone from the begin of its present run on
+-- none of the workers up to this one has an open call
+abbrev pub are_closed : ℕ → List Mark → Bool
+are_closed zero past = is_none (open_call 0 past)
+are_closed (suc w) past = is_none (open_call (suc w) past) && are_closed w past
+
+-- the newest mark is the begin of a call of this worker, and no call was open before it
+abbrev pub begins_alone : Config → ℕ → List Mark → Bool
+begins_alone c w (Begin v n called ∷ past) = (v == w) && are_closed c.workers past
+begins_alone c w other = false
+
+-- how many marks a run may take until its call has ended: one that follows directly the begin of its call, with no other call open; and any
+abbrev pub run_marks : Config → Bool → ℕ
+run_marks c true = MARKS_PER_CALL - begin_marks
+run_marks c false = MARKS_PER_CALL * (c.workers + 2)
+
+-- by how many marks the call of a worker has ended, if it steps alone after these
+abbrev pub deadline_from : Config → ℕ → List Mark → ℕ
+deadline_from c w before = length before + run_marks c (begins_alone c w before)
+
+-- and from the begin of its present run on
 abbrev pub deadline : Config → ℕ → List Mark → ℕ
-deadline c w past = run_begin w past + MARKS_PER_CALL * (c.workers + 2)
+deadline c w past = deadline_from c w (before_run w past)
 
 -- at most an Effect follows, of any worker's call
 abbrev pub IsStruck : List Mark → List Mark → Type 0
@@ -325,7 +345,7 @@ pub record Steps (old : WorldView) (w : ℕ) (answer : Applied) (new : WorldView
   pub apart : (v : ℕ) → v ≢ w → is_swapping new v ≡ is_swapping old v
   pub brief : GetsBriefly new.config (record old.log { past = struck }) w new.log
   -- a worker that steps alone ends its call within so many marks, whatever the others have come to: their swaps under way, and words that
-  -- they reserved
+  -- they reserved; and within fewer where it has done so since the call's begin, and no other call was open then
   pub lone : length new.log.past ≤ deadline new.config w struck
 
 -- the recovery goes on, or has ended with this act: its Ready follows directly

@@ -2,10 +2,8 @@
 ghost use Rattle.bz_world.specs.Inside.Laws.{AloneLaws, BegunLaws, LonelyLaws, PaidLaws, RoundLaws, StepLaws, StrikeLaws, StartLaws, EndLaws, AnswerLaws};
 
 use bz_alone::laws as alone;
-use bz_costs::laws as costs;
 use bz_lone::laws as lone;
 use bz_rivals::laws as rivals;
-use bz_rounds::laws as rounds;
 use bz_sight::laws as sight;
 use bz_sound::{memory_laws as calls, power_laws as sound};
 use bz_stage::laws as stage;
@@ -38,9 +36,10 @@ pub(crate) fn lonely_laws()
 pub(crate) fn paid_laws()
     ensures { PaidLaws }
 {
-    costs::lone_calls_are_affordable();
+    lone::lone_calls_are_affordable();
     lone::any_call_is_paid();
     lone::any_round_is_paid();
+    lone::first_rounds_are_paid();
     lone::quiet_steps_are_paid();
     lone::foreign_effects_are_paid();
     lone::effect_marks_are_paid();
@@ -48,7 +47,7 @@ pub(crate) fn paid_laws()
     lone::own_effects_are_paid();
     lone::hearings_are_paid();
     lone::starts_are_paid();
-    costs::asked_swaps_are_counted();
+    lone::asked_swaps_are_counted();
     rivals::rivals_fall();
     swap::lone_steps_are_allowed();
 }
@@ -70,13 +69,13 @@ pub(crate) fn round_laws()
     lone::ends_leave_a_round();
     lone::renewals_are_paid();
     lone::ascents_are_paid();
-    costs::asked_swaps_are_counted();
-    rounds::lone_views_tell_the_leaf();
-    rounds::lone_views_tell_the_stage();
-    rounds::lone_key_views_tell_the_stage();
-    rounds::lone_leaves_are_due();
-    rounds::lone_ascents_are_due();
-    rounds::lone_ascents_are_below_the_stage();
+    lone::asked_swaps_are_counted();
+    lone::lone_views_tell_the_leaf();
+    lone::lone_views_tell_the_stage();
+    lone::lone_key_views_tell_the_stage();
+    lone::lone_leaves_are_due();
+    lone::lone_ascents_are_due();
+    lone::lone_ascents_are_below_the_stage();
     stage::lacking_leaves_say();
 }
 

@@ -7,7 +7,7 @@ use Rattle.bz_machine.specs.declared.done.Done.{Done}
 use Rattle.bz_mark.specs.Log.{with_mark}
 use Rattle.bz_mark.specs.declared.marks.Mark.{Mark}
 use Rattle.bz_mark.specs.declared.marks.Mark.TheVariants.{Evict}
-use Rattle.bz_costs.specs.Weights.{start_allows}
+use Rattle.bz_lone.specs.FromCosts.Weights.{start_allows}
 use Rattle.bz_rivals.specs.Rivals.{rivals, foreign}
 use Rattle.bz_rivals.specs.Wins.{GoesWell}
 use Rattle.bz_running.specs.Duties.{asks_of, needs_of, publishing_of, facts_of}
@@ -36,7 +36,7 @@ use Rattle.bz_world.specs.Inside.Alone.{HearsAlone, AsksAlone}
 use Rattle.bz_world.specs.Inside.Kept.{IsTabled, AreTaken, AreFree, IsAwake}
 use Rattle.bz_world.specs.Inside.Lonely.{WhereLonely, IsLonelyGet, AsksBriefly}
 use Rattle.bz_world.specs.Inside.Meant.{IsMeant}
-use Rattle.bz_world.specs.Inside.Paid.{IsPaidFor}
+use Rattle.bz_world.specs.Inside.Paid.{runner, IsPaidFor}
 use Rattle.bz_world.specs.WorldView.{mark_of, IsStruck, stepper}
 use Rattle.bz_world.specs.Inside.Serving.{IsCovered, IsSlot, IsOpened, IsTasked, MayGoOn}
 use Rattle.bz_world.specs.declared.parts.Parts.{Parts}
@@ -99,7 +99,7 @@ pub record IsBetween (p : Parts) (w : ℕ) (x : OpenCall) : Type 0 where
   pub call_open : IsOpened p.config p.journal w opened x
   pub idle : doing_of p.access w ≡ Idle
   -- no other made the newest act
-  pub steps : (v : ℕ) → stepper p.journal.past ≡ Some v → v ≡ w
+  pub steps : (v : ℕ) → runner p.config p.journal.past ≡ Some v → v ≡ w
 
 -- its task's swap has made the change of the call, and it is told so
 pub record HasWon (x : OpenCall) (seen : Seen) : Type 0 where

@@ -10,8 +10,8 @@ use Rattle.bz_call.specs.declared.replies.Spent.{Spent}
 use Rattle.bz_call.specs.declared.replies.Spent.TheVariants.{Nodes, Swaps}
 use Rattle.bz_running.specs.FromBelow.Facts.{IsThawedAbove}
 use Rattle.bz_running.specs.FromConsol.Facts.{LeadsTo}
-use Rattle.bz_costs.specs.Most.{most_of_leaf, most_of_merge}
-use Rattle.bz_costs.specs.Weights.{start_allows}
+use Rattle.bz_lone.specs.FromCosts.Most.{most_of_leaf, most_of_merge}
+use Rattle.bz_lone.specs.FromCosts.Weights.{start_allows}
 use Rattle.bz_layout.specs.declared.config.Config.{Config}
 use Rattle.bz_lone.specs.Errands.{Errand, is_read, is_freeze, IsLookOf}
 use Rattle.bz_lone.specs.Prices.{coming}

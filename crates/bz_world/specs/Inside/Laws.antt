@@ -4,20 +4,20 @@ use Rattle.bz_alone.specs.Counts.{OwnSwapsAreCounted}
 use Rattle.bz_alone.specs.Quiet.{EffectsNeverFall}
 use Rattle.bz_alone.specs.Restarts.{LoneRestartsAreRefusals}
 use Rattle.bz_alone.specs.Tasks.{LonersGoOn}
-use Rattle.bz_costs.specs.Costs.{LoneCallsAreAffordable}
-use Rattle.bz_costs.specs.Laws.{AskedSwapsAreCounted}
+use Rattle.bz_lone.specs.FromCosts.Costs.{LoneCallsAreAffordable}
+use Rattle.bz_lone.specs.FromCosts.Laws.{AskedSwapsAreCounted}
 use Rattle.bz_lone.specs.Renewals.{RenewalsArePaid, AscentsArePaid}
 use Rattle.bz_lone.specs.Rounds.{LessIsSpared, EndsAreAfforded, EndsArePaid, WaysArePaid, ChangesArePaid, LeavesAreRead, ReadLeavesArePaid, TasksMayBegin, RoundsBegin, DisturbedRoundsArePaid, EndsLeaveARound}
-use Rattle.bz_lone.specs.Steps.{AnyCallIsPaid, AnyRoundIsPaid, QuietStepsArePaid, ForeignEffectsArePaid, EffectMarksArePaid, LessIsPaid, OwnEffectsArePaid, HearingsArePaid, StartsArePaid}
+use Rattle.bz_lone.specs.Steps.{AnyCallIsPaid, AnyRoundIsPaid, FirstRoundsArePaid, QuietStepsArePaid, ForeignEffectsArePaid, EffectMarksArePaid, LessIsPaid, OwnEffectsArePaid, HearingsArePaid, StartsArePaid}
 use Rattle.bz_page.specs.Laws.{ViewsSayWhatImagesSay}
 use Rattle.bz_record.specs.Laws.{ViewsShowLeaves}
 use Rattle.bz_rivals.specs.Laws.{RivalsFall}
 use Rattle.bz_rivals.specs.Notes.{NotesAreOfBegun, ZeroSwapsNothing}
 use Rattle.bz_rivals.specs.Wins.{OwnSwapsWin, ExpectedStand}
-use Rattle.bz_rounds.specs.Due.{LoneLeavesAreDue, LoneAscentsAreDue}
-use Rattle.bz_rounds.specs.Levels.{LoneAscentsAreBelowTheStage}
-use Rattle.bz_rounds.specs.Stands.{LoneViewsTellTheLeaf}
-use Rattle.bz_rounds.specs.Viewed.{LoneViewsTellTheStage, LoneKeyViewsTellTheStage}
+use Rattle.bz_lone.specs.FromRounds.Due.{LoneLeavesAreDue, LoneAscentsAreDue}
+use Rattle.bz_lone.specs.FromRounds.Levels.{LoneAscentsAreBelowTheStage}
+use Rattle.bz_lone.specs.FromRounds.Stands.{LoneViewsTellTheLeaf}
+use Rattle.bz_lone.specs.FromRounds.Viewed.{LoneViewsTellTheStage, LoneKeyViewsTellTheStage}
 use Rattle.bz_sight.specs.Acts.{FlushingStepsFlush, QuietStepsPass, StepsLeaveCaches, StoringStepsStore}
 use Rattle.bz_sight.specs.Effects.{EffectsTakePlace}
 use Rattle.bz_sight.specs.Passing.{ActsPass}
@@ -60,6 +60,7 @@ pub record PaidLaws : Type 0 where
   pub affordable : LoneCallsAreAffordable
   pub any : AnyCallIsPaid
   pub round : AnyRoundIsPaid
+  pub first : FirstRoundsArePaid
   pub quiet : QuietStepsArePaid
   pub foreign : ForeignEffectsArePaid
   pub marks : EffectMarksArePaid

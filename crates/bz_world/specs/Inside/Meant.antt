@@ -1,6 +1,6 @@
 -- What the task of a call is meant for.
 use Rattle.std.specs.Prelude.{◌≡◌, ℕ, false, Some, None}
-use Rattle.bz_costs.specs.Most.{IsWithinItsActs}
+use Rattle.bz_lone.specs.FromCosts.Most.{IsWithinItsActs}
 use Rattle.bz_lone.specs.Errands.{IsLookOf}
 use Rattle.bz_lone.specs.Meant.{IsMeantFor}
 use Rattle.bz_running.specs.Kinds.{is_renewal, kind_of}

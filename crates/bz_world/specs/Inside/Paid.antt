@@ -1,13 +1,16 @@
 -- What is left of the marks by which the call of a worker ends that steps alone: for the tasks that are still to come.
-use Rattle.std.specs.Prelude.{ℕ, ◌+◌, ◌≤◌, is_some, Bool, true, false}
+use Rattle.std.specs.Prelude.{ℕ, ◌+◌, ◌≤◌, if◌then◌else◌, is_some, Bool, true, false, List, [], ◌∷◌, Option, Some, None}
+use Rattle.bz_layout.specs.declared.config.Config.{Config}
 use Rattle.bz_layout.specs.declared.thresholds.TheConstants.{LEAF_RECORD_WORDS}
 use Rattle.bz_lone.specs.Errands.{Errand, words_asked}
 use Rattle.bz_lone.specs.Prices.{Prices}
 use Rattle.bz_lone.specs.Sum.{IsThawed, Spares, PaysForRound, IsPaid}
+use Rattle.bz_mark.specs.declared.marks.Mark.{Mark}
+use Rattle.bz_mark.specs.declared.marks.Mark.TheVariants.{Begin}
 use Rattle.bz_running.specs.Kinds as kinds
 use Rattle.bz_running.specs.Kinds.{Kind}
 use Rattle.bz_task.specs.Scene.{Past}
-use Rattle.bz_world.specs.WorldView.{deadline}
+use Rattle.bz_world.specs.WorldView.{stepper, are_closed, deadline}
 use Rattle.bz_world.specs.declared.parts.Parts.{Parts}
 use Rattle.bz_world.specs.declared.serving.OpenCall.{OpenCall}
 
@@ -27,6 +30,12 @@ crowded e kind = record e { alone = is_merge kind }
 pub record IsFit (x : OpenCall) : Type 0 where
   pub words : words_asked x.call ≤ LEAF_RECORD_WORDS + 1
   pub thawed : IsThawed (errand_of x)
+
+-- the worker of whose call it is known at each mark: the one that steps, or that has just begun its call while none was open
+abbrev pub runner : Config → List Mark → Option ℕ
+runner c [] = None
+runner c (Begin w n called ∷ past) = if are_closed c.workers past then Some w else None
+runner c (mark ∷ past) = stepper (mark ∷ past)
 
 -- its task is paid for, and what comes after it
 abbrev pub IsPaidFor : Parts → ℕ → OpenCall → ℕ → ℕ → Past → Type 0

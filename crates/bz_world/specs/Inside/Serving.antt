@@ -30,8 +30,8 @@ use Rattle.bz_task.specs.declared.todo.Todo.TheVariants as todo
 use Rattle.bz_word.specs.declared.entry.Entry.{Entry}
 use Rattle.bz_world.specs.Inside.Alone.{WaitsAlone, untold}
 use Rattle.bz_world.specs.Inside.Meant.{IsMeant}
-use Rattle.bz_world.specs.Inside.Paid.{errand_of}
-use Rattle.bz_world.specs.WorldView.{is_delete, stepper, deadline}
+use Rattle.bz_world.specs.Inside.Paid.{errand_of, runner}
+use Rattle.bz_world.specs.WorldView.{is_delete, deadline}
 use Rattle.bz_world.specs.declared.serving.OpenCall.{OpenCall}
 
 -- the change that a call makes where its key had this payload, or none
@@ -144,7 +144,7 @@ pub record IsServing (c : Config) (m : SwapMemory) (log : Log) (story : Story) (
   pub covered : IsCovered (story.took w) (story.filled w) (needs_of x.task)
   pub alone : WaitsAlone m (doing_of m w) x.task (scene c log.past story w call_open.look.since opened).past
   pub meant : IsMeant x (scene c log.past story w call_open.look.since opened).past
-  pub paid : stepper log.past ≡ Some w → IsPaid m w (errand_of x) x.task (untold m (doing_of m w)) 0 (deadline c w log.past) (scene c log.past story w call_open.look.since opened).past
+  pub paid : runner c log.past ≡ Some w → IsPaid m w (errand_of x) x.task (untold m (doing_of m w)) 0 (deadline c w log.past) (scene c log.past story w call_open.look.since opened).past
 
 -- no call of the worker is open, it does nothing, and it has stored into each slot that it took
 pub record IsAtRest (m : SwapMemory) (log : Log) (story : Story) (w : ℕ) : Type 0 where
