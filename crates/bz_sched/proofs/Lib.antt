@@ -14,6 +14,7 @@ pub mod EvictionLemmas
 pub mod PassLemmas
 pub mod CutLemmas
 pub mod TurnLemmas
+pub mod EnoughLemmas
 pub mod RunLemmas
 pub mod RecoveryLemmas
 pub mod WakeLemmas

@@ -11,6 +11,7 @@ pub mod Plans
 pub mod Recoveries
 pub mod Scripts
 pub mod Runs
+pub mod Enough
 pub mod Cutting
 pub mod Powering
 pub mod TurnLaws

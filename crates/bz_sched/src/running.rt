@@ -1,13 +1,16 @@
 //! Runs.
-ghost use Rattle.std.specs.Prelude.{◌≡◌, ◌≢◌, ◌≤◌, None, Some};
+ghost use Rattle.std.specs.Prelude.{◌≡◌, ◌≢◌, ◌≤◌, ℕ, None, Some};
 ghost use Rattle.bz_layout.specs.Addresses.{words_of};
 ghost use Rattle.bz_script.specs.RunLaws.{IsPlan};
+ghost use Rattle.bz_script.specs.declared.item.Plan.TheVariants.{Alone};
 ghost use Rattle.bz_sound.specs.declared.power.Power.TheVariants.{Off, On};
 ghost use Rattle.bz_world.specs.WorldView.{power_in};
 ghost use Rattle.bz_sched.specs.Cutting.{IsCutRun};
+ghost use Rattle.bz_sched.specs.Enough.{IsBetweenCalls, ServesAll};
 ghost use Rattle.bz_sched.specs.Fuses.{with_fuse};
 ghost use Rattle.bz_sched.specs.Plans.{RunsBy, RunsByInPart};
 ghost use Rattle.bz_sched.specs.Runs.{HasAllWorkers, IsReady, EndsBy, IsOfTurns, IsCutPlan, HasRun};
+ghost use Rattle.bz_sched.specs.declared.turn.Turned.TheVariants.{Finished};
 
 use crate::alone::run_alone;
 use crate::cut::{CutPlan, cut_off};
@@ -35,7 +38,8 @@ pub enum RunEnd {
 fn run_plan(world: &mut World, queue: &mut Queue, fuse: &mut Option<u32>, plan: &Plan) -> Turned
     requires plan { IsPlan plan.now × IsOfTurns plan.now }
     requires ready { IsReady world.old }
-    ensures { EndsBy (RunsBy (words_of world.old.config) plan.now) (λ why. RunsByInPart why (words_of world.old.config) plan.now) world.old (with_fuse queue.old fuse.old) result world.new (with_fuse queue.new fuse.new) }
+    ensures ends { EndsBy (RunsBy (words_of world.old.config) plan.now) (λ why. RunsByInPart why (words_of world.old.config) plan.now) world.old (with_fuse queue.old fuse.old) result world.new (with_fuse queue.new fuse.new) }
+    ensures enough { plan.now ≡ Alone → (most : ℕ) → IsBetweenCalls most world.old queue.old.calls fuse.old → (result ≡ Finished) × IsBetweenCalls most world.new queue.new.calls fuse.new }
 {
     match plan {
         Plan::Alone => run_alone(world, queue, fuse),
@@ -49,7 +53,8 @@ fn run_plan(world: &mut World, queue: &mut Queue, fuse: &mut Option<u32>, plan: 
 fn run_unarmed(world: &mut World, queue: &mut Queue, plan: &Plan) -> RunEnd
     requires plan { IsPlan plan.now × IsOfTurns plan.now }
     requires ready { IsReady world.old }
-    ensures { HasRun None plan.now world.old queue.old result world.new queue.new }
+    ensures ends { HasRun None plan.now world.old queue.old result world.new queue.new }
+    ensures enough { ServesAll None plan.now world.old queue.old result world.new queue.new }
 {
     let mut fuse = None;
     match run_plan(world, queue, &mut fuse, plan) {
@@ -87,13 +92,15 @@ fn run_armed(world: &mut World, queue: &mut Queue, plan: &Plan, cut: CutPlan) ->
 }
 
 /// Runs the calls that wait, and those that are open, by a plan. Where a cut is armed, the power is cut before that flush of the
-/// run is made, and the calls that wait are dropped; a run that ends before it makes no cut.
+/// run is made, and the calls that wait are dropped; a run that ends before it makes no cut. A run of one worker after the other
+/// meets no limit, with no cut armed, where no call is open and the journal has room for all that wait: `MARKS_PER_CALL` marks each.
 pub fn run(world: &mut World, queue: &mut Queue, plan: &Plan, cut: Option<CutPlan>) -> RunEnd
     requires powered { power_in world.old ≡ On }
     requires workers { HasAllWorkers world.old.config }
     requires plan { IsPlan plan.now × IsOfTurns plan.now }
     requires cut { IsCutPlan cut }
-    ensures { HasRun cut plan.now world.old queue.old result world.new queue.new }
+    ensures ends { HasRun cut plan.now world.old queue.old result world.new queue.new }
+    ensures enough { ServesAll cut plan.now world.old queue.old result world.new queue.new }
 {
     match cut {
         None => run_unarmed(world, queue, plan),

@@ -1,12 +1,25 @@
+use Rattle.std.proofs.Common.{◌+◌, ◌*◌, length, refl, sym, ap}
+use Rattle.bz_layout.specs.declared.thresholds.TheConstants.{MARKS_PER_CALL}
+use Rattle.bz_sched.proofs.EnoughLemmas.{at_first}
 use Rattle.bz_sched.proofs.RunLemmas.{unarmed_ends, unarmed_limit, unarmed_never}
 use Rattle.bz_sched.proofs.running.run_unarmed.Goals as goal
 
-pub returns-in-Finished : goal.returns-in-Finished
-returns-in-Finished c = unarmed_ends c.args.plan.now c.args.world.now c.run_plan.new.world c.args.queue.now c.run_plan.new.queue c.run_plan.new.fuse c.in-Finished.ensures
+pub returns-in-Finished-clause-ends : goal.returns-in-Finished-clause-ends
+returns-in-Finished-clause-ends c = unarmed_ends c.args.plan.now c.args.world.now c.run_plan.new.world c.args.queue.now c.run_plan.new.queue c.run_plan.new.fuse c.in-Finished.ensures.ends
 
-pub returns-in-Stopped-Limit : goal.returns-in-Stopped-Limit
-returns-in-Stopped-Limit c =
-    unarmed_limit c.args.plan.now c.args.world.now c.run_plan.new.world c.args.queue.now c.run_plan.new.queue c.run_plan.new.fuse c.in-Stopped-Limit.which (rw c.in-Stopped-Limit.field-0-is at c.in-Stopped-Limit.ensures)
+pub returns-in-Stopped-Limit-clause-ends : goal.returns-in-Stopped-Limit-clause-ends
+returns-in-Stopped-Limit-clause-ends c =
+    unarmed_limit c.args.plan.now c.args.world.now c.run_plan.new.world c.args.queue.now c.run_plan.new.queue c.run_plan.new.fuse c.in-Stopped-Limit.which (rw c.in-Stopped-Limit.field-0-is at c.in-Stopped-Limit.ensures.ends)
 
 pub unreachable-requires : goal.unreachable-requires
-unreachable-requires c = unarmed_never c.args.plan.now c.args.world.now c.run_plan.new.world c.args.queue.now c.run_plan.new.queue c.run_plan.new.fuse _ (rw c.in-Stopped-Due.field-0-is at c.in-Stopped-Due.ensures)
+unreachable-requires c = unarmed_never c.args.plan.now c.args.world.now c.run_plan.new.world c.args.queue.now c.run_plan.new.queue c.run_plan.new.fuse _ (rw c.in-Stopped-Due.field-0-is at c.in-Stopped-Due.ensures.ends)
+
+pub returns-in-Finished-clause-enough : goal.returns-in-Finished-clause-enough
+returns-in-Finished-clause-enough c = λ none alone closed enough.
+    let ends = c.in-Finished.ensures.enough alone (length c.args.world.now.log.past + MARKS_PER_CALL * length c.args.queue.now.calls) (at_first c.args.world.now c.args.queue.now.calls closed enough) in
+    record { finished = refl; closed = ends.1.awaits.closed; marks = ends.1.awaits.enough }
+
+pub returns-in-Stopped-Limit-clause-enough : goal.returns-in-Stopped-Limit-clause-enough
+returns-in-Stopped-Limit-clause-enough c = λ none alone closed enough.
+    let ends = c.in-Stopped-Limit.ensures.enough alone (length c.args.world.now.log.past + MARKS_PER_CALL * length c.args.queue.now.calls) (at_first c.args.world.now c.args.queue.now.calls closed enough) in
+    let never = ends.0 in absurd (cc never)

@@ -1,8 +1,10 @@
-use Rattle.std.proofs.Common.{sym, ap, ◌∙◌, inl, inr, refl}
+use Rattle.std.proofs.Common.{sym, ap, ◌∙◌, inl, inr, refl, None}
 use Rattle.bz_world.specs.WorldView.{after_begin}
 use Rattle.bz_sched.specs.Fuses.{with_fuse}
 use Rattle.bz_sched.proofs.BeginLemmas.{Waits, no_stranger, not_busy, not_off, not_recovering, begin_stops, begins, begun_is_open}
+use Rattle.bz_sched.proofs.EnoughLemmas.{begins_well, not_limited}
 use Rattle.bz_sched.proofs.ReadyLemmas.{is_worker}
+use Rattle.bz_sched.specs.Runs.{point_with}
 use Rattle.bz_sched.proofs.turn.begin_next.Goals as goal
 
 pub unreachable-requires : goal.unreachable-requires
@@ -34,3 +36,15 @@ returns-in-Limit-clause-ends c = λ fuse.
     let waits : Waits c.args.world.now c.args.queue.now.calls c.args.w c.in-Some.call = record { ready = c.requires.ready; worker = is_worker _ _ c.requires.ready c.requires.worker; closed = c.requires.closed; first = c.in-Some.ensures } in
     begin_stops c.args.world.now (with_fuse c.args.queue.now fuse) c.args.w c.in-Some.call c.in-Limit.which c.begin.new.self waits (sym c.in-Limit.is ∙ c.begin.ensures.answer)
     (c.begin.ensures.after ∙ ap (after_begin c.args.world.now c.args.w c.in-Some.call) c.in-Limit.is)
+
+pub returns-in-Begun-clause-enough : goal.returns-in-Begun-clause-enough
+returns-in-Begun-clause-enough c = λ most room awaits.
+    let well = begins_well most c.args.w c.in-Begun.field-0 c.args.world.now c.begin.new.self c.in-Some.call c.args.queue.now.calls c.leave_out.new.self.calls c.in-Some.ensures.0 c.in-Some.ensures.1 c.in-Begun.ensures.after c.leave_out.ensures.calls room awaits in
+    (refl, well.0, well.1)
+
+pub returns-in-Limit-clause-enough : goal.returns-in-Limit-clause-enough
+returns-in-Limit-clause-enough c = λ most room awaits.
+    let waits : Waits c.args.world.now c.args.queue.now.calls c.args.w c.in-Some.call = record { ready = c.requires.ready; worker = is_worker _ _ c.requires.ready c.requires.worker; closed = c.requires.closed; first = c.in-Some.ensures } in
+    let same = c.begin.ensures.after ∙ ap (after_begin c.args.world.now c.args.w c.in-Some.call) c.in-Limit.is in
+    let stops = begin_stops c.args.world.now (with_fuse c.args.queue.now None) c.args.w c.in-Some.call c.in-Limit.which c.begin.new.self waits (sym c.in-Limit.is ∙ c.begin.ensures.answer) same in
+    absurd (not_limited most c.args.w c.args.world.now c.begin.new.self c.in-Some.call c.args.queue.now.calls c.in-Some.ensures.0 c.in-Limit.which (point_with c.begin.new.self c.args.queue.now.calls) c.in-Some.ensures.1 same room awaits stops.1 stops.2)

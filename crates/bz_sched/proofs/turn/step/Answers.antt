@@ -1,6 +1,7 @@
 use Rattle.std.proofs.Common.{inl, inr, refl, sym, ◌∙◌}
 use Rattle.bz_sched.specs.Fuses.{with_fuse}
 use Rattle.bz_sched.proofs.BurnLemmas.{due_is}
+use Rattle.bz_sched.proofs.EnoughLemmas.{never_due, steps_well, has_places}
 use Rattle.bz_sched.proofs.ReadyLemmas.{is_worker}
 use Rattle.bz_sched.proofs.StepLemmas.{Burnt, stepped, step_answers, step_due, step_limit, step_made}
 use Rattle.bz_sched.proofs.turn.step.Goals as goal
@@ -33,4 +34,21 @@ unreachable-requires c =
     elim (stepped c.args.world.now c.args.w c.apply.result c.apply.new.self c.requires.ready (is_worker c.args.world.now c.args.w c.requires.ready c.requires.worker) c.requires.«open» c.apply.ensures) [
       | inl refused ↦ c.in_default.not-Limit refused.answered
       | inr goes ↦ step_answers c.apply.result _ _ c.args.w goes.steps.ends c.in_default.not-Stepped c.in_default.not-Ended
+    ]
+
+pub returns-then-not-lets-clause-enough : goal.returns-then-not-lets-clause-enough
+returns-then-not-lets-clause-enough c = λ most calls unarmed room inside. absurd (never_due c.flush_next-flush.result c.args.fuse.now unarmed (sym c.if-not-lets.ensures))
+
+pub returns-in-Stepped-clause-enough : goal.returns-in-Stepped-clause-enough
+returns-in-Stepped-clause-enough c = λ most calls unarmed room inside.
+    elim (stepped c.args.world.now c.args.w c.apply.result c.apply.new.self c.requires.ready (is_worker c.args.world.now c.args.w c.requires.ready c.requires.worker) c.requires.«open» c.apply.ensures) [
+      | inl refused ↦ let other = refused.answered in elim c.in-Stepped.is [ inl is ↦ absurd (cc) | inr is ↦ absurd (cc) ]
+      | inr goes ↦ (refl, steps_well most c.args.w c.args.world.now c.apply.new.self calls c.apply.result c.flush_next-flush.result c.args.fuse.now c.burn.new.fuse unarmed c.burn.ensures room inside goes.steps)
+    ]
+
+pub returns-in-Limit-clause-enough : goal.returns-in-Limit-clause-enough
+returns-in-Limit-clause-enough c = λ most calls unarmed room inside.
+    elim (stepped c.args.world.now c.args.w _ c.apply.new.self c.requires.ready (is_worker c.args.world.now c.args.w c.requires.ready c.requires.worker) c.requires.«open» c.in-Limit.ensures) [
+      | inl refused ↦ absurd (has_places most c.args.w c.args.world.now calls room inside refused.short)
+      | inr goes ↦ absurd goes.steps.ends
     ]

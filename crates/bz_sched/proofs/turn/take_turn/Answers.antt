@@ -13,3 +13,11 @@ pub returns-in-Finished-clause-ends : goal.returns-in-Finished-clause-ends
 returns-in-Finished-clause-ends c =
     turn_ends c.args.world.now (with_fuse c.args.queue.now c.args.fuse.now) c.args.w c.get_ready.new.world (with_fuse c.get_ready.new.queue c.args.fuse.now) c.step.result c.step.new.world (with_fuse c.get_ready.new.queue c.step.new.fuse) c.requires.busy
     (c.in-Finished.ensures.ends c.args.fuse.now) (c.step.ensures.ends c.get_ready.new.queue)
+
+pub returns-in-Stopped-clause-enough : goal.returns-in-Stopped-clause-enough
+returns-in-Stopped-clause-enough c = λ most goes. let never = (c.in-Stopped.ensures.enough most c.args.fuse.now goes).0 in absurd (cc never)
+
+pub returns-in-Finished-clause-enough : goal.returns-in-Finished-clause-enough
+returns-in-Finished-clause-enough c = λ most goes.
+    let ready = c.in-Finished.ensures.enough most c.args.fuse.now goes in
+    c.step.ensures.enough most c.get_ready.new.queue.calls goes.unarmed ready.1 ready.2

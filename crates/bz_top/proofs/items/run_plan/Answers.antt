@@ -14,4 +14,4 @@ pub returns-then-is_on_threads : goal.returns-then-is_on_threads
 returns-then-is_on_threads g c = rw c.threads_end.ensures (threads_done c.args.world c.run_threads-world.result.0 c.args.queue.now c.run_threads-world.new.queue c.args.armed c.args.plan.now c.run_threads-world.result.1 (sym c.if-is_on_threads.ensures) c.requires.item.2 c.run_threads-world.ensures)
 
 pub returns-else-is_on_threads : goal.returns-else-is_on_threads
-returns-else-is_on_threads g c = rw c.end_of.ensures (run_done c.args.world c.run-end.new.world c.args.queue.now c.run-end.new.queue c.args.armed c.args.plan.now c.run-end.result c.run-end.ensures)
+returns-else-is_on_threads g c = rw c.end_of.ensures (run_done c.args.world c.run-end.new.world c.args.queue.now c.run-end.new.queue c.args.armed c.args.plan.now c.run-end.result c.run-end.ensures.ends)
