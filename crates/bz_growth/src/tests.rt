@@ -10,5 +10,6 @@ mod merging;
 mod neighbours;
 mod pages;
 mod random;
+mod solo;
 mod split;
 mod tall;

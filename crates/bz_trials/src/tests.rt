@@ -14,5 +14,6 @@ mod power;
 mod random;
 mod reader;
 mod restart;
+mod solo;
 mod spent;
 mod worked;

@@ -79,15 +79,24 @@ fn decode_long(world: &World) -> Option<Keys> {
     Some(keys)
 }
 
-// What was read of a journal: which keys are there after its effects, and each worker's last call.
+/// What was read of a journal of up to eight workers: which keys are there after its effects, and each worker's last call.
 #[derive(Drop)]
-struct Effects {
+pub(super) struct Effects {
     keys: Keys,
-    calls: [Option<Call>; 5],
+    calls: [Option<Call>; 9],
     read: u32,
 }
 
 impl Effects {
+    /// Nothing was read yet.
+    pub(super) fn unread() -> Effects {
+        Effects {
+            keys: [false; 1_000],
+            calls: [None; 9],
+            read: 0,
+        }
+    }
+
     // An effect of a worker: its call's key is there, or is not.
     fn read_effect(&mut self, w: u8) {
         match self.calls.get(w as usize) {
@@ -121,8 +130,8 @@ impl Effects {
         }
     }
 
-    // The memory has the keys.
-    fn agree(&mut self, rt: &impl Abort, world: &World) {
+    /// The memory has the keys.
+    pub(super) fn agree(&mut self, rt: &impl Abort, world: &World) {
         self.read_on(world);
         assert!(rt; decode_long(world) == Some(self.keys));
     }
@@ -185,11 +194,7 @@ fn run(rt: &impl Abort, alloc: Global, growth: Growth) {
     let mut random = Random {
         state: u64::from(growth.keys),
     };
-    let mut effects = Effects {
-        keys: [false; 1_000],
-        calls: [None; 5],
-        read: 0,
-    };
+    let mut effects = Effects::unread();
     for _ in 0..200 {
         for _ in 0..500 {
             act(rt, &mut world, &mut random, growth.deletes);

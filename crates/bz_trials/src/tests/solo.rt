@@ -1,0 +1,129 @@
+//! Calls that are ended by a worker alone, in worlds of 64 workers of which others have stopped in the middle of an insert.
+
+use super::bench::{Answer, answered, begin, numbered, payload, steps, whole};
+use super::reader::Reader;
+use bz_call::Call;
+use bz_key::Key;
+use bz_layout::{Config, MARKS_PER_CALL};
+use bz_world::{Applied, World};
+use std::alloc::Global;
+use std::process::Abort;
+
+// A world of 64 workers with little room: its journal is shorter than what a call may take, so that one that goes on meets the limit.
+fn open(rt: &impl Abort, alloc: Global) -> World {
+    let config = Config {
+        nodes: 4,
+        swaps: 256,
+        workers: 64,
+        marks: 1 << 13,
+        calls: 256,
+        pages: 1,
+    };
+    World::open(alloc, &config).expect(rt, "a world")
+}
+
+// The same with four records in its leaf, of which one was updated so often that a short record has no room beside them.
+fn crowded(rt: &impl Abort, alloc: Global) -> World {
+    let mut world = open(rt, alloc);
+    let long = payload(rt, &[b'x'; 28]);
+    for number in 0..4 {
+        let call = Call::Insert(numbered(rt, number), long);
+        assert_eq!(rt; whole(&mut world, 1, call), Some(Answer::Inserted));
+    }
+    for _ in 0..19 {
+        let call = Call::Update(numbered(rt, 0), long);
+        assert_eq!(rt; whole(&mut world, 1, call), Some(Answer::Updated(long)));
+    }
+    world
+}
+
+// A worker's open call ends while it steps alone, within as many marks as the numbers of the world allow.
+fn ends_alone(rt: &impl Abort, world: &mut World, w: u8) {
+    let before = world.journal().length();
+    let workers = world.config().workers;
+    assert!(rt; matches!(world.solo(w), Applied::Ended(_)), "worker {w}");
+    let marks = world.journal().length().saturating_sub(before);
+    assert!(rt; marks <= MARKS_PER_CALL.saturating_mul(workers.saturating_add(2)));
+    assert!(rt; world.open_call(w).is_none());
+}
+
+// A plain map explains each reply.
+fn explained(rt: &impl Abort, alloc: Global, world: &World) {
+    let mut reader = Reader::open(alloc).expect(rt, "a reader");
+    assert!(rt; reader.read_on(world).expect(rt, "room for the maps"));
+}
+
+// Worker 1 has made so many acts of its insert, or all of them, when worker 2 begins to get the key, and ends that alone. Then the
+// insert is ended alone too. Whether the get found the key.
+fn get_beside(rt: &impl Abort, alloc: Global, world: &mut World, acts: u32) -> bool {
+    let (k, new) = (numbered(rt, 4), payload(rt, b"1"));
+    assert!(rt; begin(world, 1, Call::Insert(k, new)));
+    let (_, ended) = steps(world, 1, acts);
+    assert!(rt; begin(world, 2, Call::Get(k)));
+    ends_alone(rt, world, 2);
+    explained(rt, alloc, world);
+    let found = answered(world, 2, 1);
+    assert!(rt;
+        found == Some(Answer::Value(new)) || ended.is_none() && found == Some(Answer::Missing)
+    );
+    if ended.is_none() {
+        ends_alone(rt, world, 1);
+        explained(rt, alloc, world);
+    }
+    found != Some(Answer::Missing)
+}
+
+// How many of so many gets found the key, one after each number of acts of the insert, in steps of so many.
+fn found_beside(rt: &impl Abort, alloc: Global, full: bool, stops: u32, step: u32) -> u32 {
+    let mut found = 0u32;
+    for k in 0..stops {
+        let mut world = if full {
+            crowded(rt, alloc)
+        } else {
+            open(rt, alloc)
+        };
+        let acts = step.saturating_mul(k.saturating_add(1));
+        if get_beside(rt, alloc, &mut world, acts) {
+            found = found.saturating_add(1);
+        }
+    }
+    found
+}
+
+// The insert into an empty leaf takes sixty-three acts. Into a full one, which is copied for it, it takes more than a thousand.
+#[test]
+fn a_get_beside_a_stopped_insert_ends_alone(rt: HostRuntime) {
+    for (full, stops, step) in [(false, 200, 1), (true, 40, 40)] {
+        let found = found_beside(&rt, rt.alloc(), full, stops, step);
+        // it is not there at first, and is there once the insert has ended
+        assert!(rt; found > 0 && found < stops, "{full} {found}");
+    }
+}
+
+// Each of the first 63 workers stops in the middle of the insert of a key, one some acts after the other.
+fn stopped(rt: &impl Abort, world: &mut World, k: Key, acts: u32, apart: u32) {
+    for w in 1..64u8 {
+        assert!(rt; begin(world, w, Call::Insert(k, payload(rt, &[w]))));
+        let more = u32::from(w).saturating_mul(apart) % 64;
+        steps(world, w, acts.saturating_add(more));
+    }
+}
+
+#[test]
+fn each_of_sixty_four_workers_ends_alone(rt: HostRuntime) {
+    for apart in [0, 1, 5, 13] {
+        for acts in 0..16 {
+            let mut world = open(&rt, rt.alloc());
+            let k = numbered(&rt, 0);
+            stopped(&rt, &mut world, k, 4 * acts, apart);
+            assert!(rt; begin(&mut world, 64, Call::Get(k)));
+            for w in 1..65u8 {
+                if world.open_call(65 - w).is_some() {
+                    ends_alone(&rt, &mut world, 65 - w);
+                }
+            }
+            explained(&rt, rt.alloc(), &world);
+            assert_eq!(rt; world.pairs(), 1);
+        }
+    }
+}
