@@ -23,4 +23,5 @@ pub mod AloneLemmas
 pub mod BusyLemmas
 pub mod OthersLemmas
 pub mod DrawLemmas
+pub mod OpenTurns
 pub mod OpenLemmas

@@ -1,92 +1,55 @@
 -- Ending the calls that are open, one worker after the other.
-use Rattle.std.proofs.Common.{◌≡◌, ◌≤◌, ◌<◌, ⊎_elim, ℕ, suc, ◌+◌, ◌-◌, true, false, refl, sym, subst, arith, inl, inr, Option, Some, None}
-use Rattle.std.specs.Prelude.{is_some}
+use Rattle.std.proofs.Common.{◌≡◌, ◌≤◌, ◌<◌, ⊎_elim, ℕ, suc, ◌+◌, ◌-◌, List, refl, sym, subst, arith, inl, inr, Some, None}
 use Rattle.std.proofs.lemmas.Bool.{cases_lt}
-use Rattle.bz_sound.specs.Calls.{Open, open_call}
+use Rattle.bz_call.specs.declared.calls.Call.{Call}
 use Rattle.bz_layout.specs.Config.{IsConfig}
 use Rattle.bz_layout.specs.declared.config.Config.{Config}
+use Rattle.bz_sound.specs.Calls.{open_call}
 use Rattle.bz_world.specs.WorldView.{WorldView, IsWorker}
 use Rattle.bz_world.specs.declared.answers.LimitKind.{LimitKind}
-use Rattle.bz_sched.specs.declared.turn.Stop.{Stop}
-use Rattle.bz_sched.specs.declared.turn.Stop.TheVariants.{Due, Limit}
 use Rattle.bz_sched.specs.OpenCalls.{EndsCall, EndsCallsFrom, EndsCalls, EndsCallInPart, EndsCallsFromInPart, EndsCallsInPart}
-use Rattle.bz_sched.proofs.OpenEnds.{none_open}
-use Rattle.bz_sched.specs.Points.{Point, IsTurn}
-use Rattle.bz_sched.specs.Fuses.{Fused, with_fuse}
+use Rattle.bz_sched.specs.Points.{Point}
 use Rattle.bz_sched.specs.Queued.{Queued}
-use Rattle.bz_sched.specs.Runs.{point_of, point_in, IsReady, IsAtLimit, IsStopped, Keeps, HasEndedCalls}
-use Rattle.bz_sched.specs.TurnsInPart.{StopsTurn}
-use Rattle.bz_sched.proofs.BurnLemmas.{never_due}
-use Rattle.bz_sched.proofs.ReadyLemmas.{keeps_none, keeps_both}
-use Rattle.bz_sched.proofs.RunLemmas.{kept_leaves}
-
--- turns of a worker whose call was open were taken: what follows them follows from the start
-pub record EndingCall (w : ℕ) (old : WorldView) (queued : Fused) (world : WorldView) (left : Fused) : Type 0 where
-  pub keeps : Keeps old queued world left
-  pub whole : (new : Point) → EndsCall w (point_in world left) new → EndsCall w (point_in old queued) new
-  pub part : (why : Stop) (new : Point) → EndsCallInPart why w (point_in world left) new → EndsCallInPart why w (point_in old queued) new
-
-pub call_none : (w : ℕ) (old : WorldView) (queued : Fused) → IsReady old → EndingCall w old queued old queued
-call_none w old queued ready = record { keeps = keeps_none old queued ready; whole = λ new ends. ends; part = λ why new ends. ends }
-
--- a turn more
-pub call_more : (w : ℕ) (old : WorldView) (queued : Fused) (world : WorldView) (left : Fused) (new : WorldView) (after : Fused) → is_some (open_call w world.log.past) ≡ true → EndingCall w old queued world left
-    → Keeps world left new after × IsTurn w (point_in world left) (point_in new after) → EndingCall w old queued new after
-call_more w old queued world left new after is_open e (keeps, turn) =
-    record {
-      keeps = keeps_both old world new queued left after e.keeps keeps;
-      whole = λ end ends. e.whole end (suc ends.0, (is_open, (point_in new after, turn, ends.1)));
-      part = λ why end ends. e.part why end (suc ends.0, (is_open, (point_in new after, turn, ends.1)));
-    }
-
-no_open : (opened : Option Open) → is_some opened ≡ false → opened ≡ None
-no_open None is = refl
-no_open (Some opened) is = absurd (cc is)
-
-pub call_ends : (w : ℕ) (old : WorldView) (queued : Fused) (world : WorldView) (left : Fused) → is_some (open_call w world.log.past) ≡ false → EndingCall w old queued world left
-    → Keeps old queued world left × EndsCall w (point_in old queued) (point_in world left)
-call_ends w old queued world left none e = (e.keeps, e.whole (point_in world left) (0, (no_open (open_call w world.log.past) none, refl)))
-
-pub call_stops : (w : ℕ) (old : WorldView) (queued : Fused) (world : WorldView) (left : Fused) (why : Stop) (new : WorldView) (after : Fused) → is_some (open_call w world.log.past) ≡ true → EndingCall w old queued world left
-    → Keeps world left new after × StopsTurn why w (point_in world left) (point_in new after) × IsStopped new after.fuse why
-    → Keeps old queued new after × EndsCallInPart why w (point_in old queued) (point_in new after) × IsStopped new after.fuse why
-call_stops w old queued world left why new after is_open e (keeps, stops, met) =
-    (keeps_both old world new queued left after e.keeps keeps, e.part why (point_in new after) (0, (is_open, stops)), met)
+use Rattle.bz_sched.specs.Runs.{point_of, point_with, IsReady, Stays, EndsOpenBy, HasEndedCalls}
+use Rattle.bz_sched.specs.declared.turn.Stop.{Stop}
+use Rattle.bz_sched.specs.declared.turn.Stop.TheVariants.{Limit}
+use Rattle.bz_sched.proofs.OpenEnds.{none_open}
+use Rattle.bz_sched.proofs.OpenTurns.{no_change}
+use Rattle.bz_sched.proofs.WakeLemmas.{stays_both}
 
 -- the workers before this one have no open call: what follows that follows from the start
-pub record EndingCalls (w : ℕ) (old : WorldView) (queued : Fused) (world : WorldView) (left : Fused) : Type 0 where
-  pub keeps : Keeps old queued world left
-  pub whole : (new : Point) → EndsCallsFrom w (65 - w) (point_in world left) new → EndsCalls (point_in old queued) new
-  pub part : (why : Stop) (new : Point) → EndsCallsFromInPart why w (65 - w) (point_in world left) new → EndsCallsInPart why (point_in old queued) new
+pub record EndingCalls (w : ℕ) (old world : WorldView) : Type 0 where
+  pub stays : Stays old world
+  pub ready : IsReady world
+  pub whole : (calls : List (ℕ × Call)) (new : Point) → EndsCallsFrom w (65 - w) (point_with world calls) new → EndsCalls (point_with old calls) new
+  pub part : (why : Stop) (calls : List (ℕ × Call)) (new : Point) → EndsCallsFromInPart why w (65 - w) (point_with world calls) new → EndsCallsInPart why (point_with old calls) new
 
-pub calls_none : (old : WorldView) (queued : Fused) → IsReady old → EndingCalls 1 old queued old queued
-calls_none old queued ready = record { keeps = keeps_none old queued ready; whole = λ new ends. ends; part = λ why new ends. ends }
+pub calls_none : (old : WorldView) → IsReady old → EndingCalls 1 old old
+calls_none old ready = record { stays = no_change old; ready = ready; whole = λ calls new ends. ends; part = λ why calls new ends. ends }
 
-pub calls_more : (w : ℕ) (old : WorldView) (queued : Fused) (world : WorldView) (left : Fused) (new : WorldView) (after : Fused) → w < 65 → EndingCalls w old queued world left
-    → Keeps world left new after × EndsCall w (point_in world left) (point_in new after) → EndingCalls (w + 1) old queued new after
-calls_more w old queued world left new after few e (keeps, one) =
+pub calls_more : (w : ℕ) (old world new : WorldView) → w < 65 → EndingCalls w old world → EndsOpenBy (EndsCall w) (λ why. EndsCallInPart why w) world None new → EndingCalls (w + 1) old new
+calls_more w old world new few e (stays, ready, one) =
     let more : 65 - w ≡ suc (65 - (w + 1)) = omega arith in
     record {
-      keeps = keeps_both old world new queued left after e.keeps keeps;
-      whole = λ end ends. e.whole end (subst (λ (count : ℕ). EndsCallsFrom w count (point_in world left) end) (sym more) (point_in new after, one, ends));
-      part = λ why end ends. e.part why end (subst (λ (count : ℕ). EndsCallsFromInPart why w count (point_in world left) end) (sym more) (inr (point_in new after, one, ends)));
+      stays = stays_both old world new e.stays stays;
+      ready = ready;
+      whole = λ calls end ends. e.whole calls end (subst (λ (count : ℕ). EndsCallsFrom w count (point_with world calls) end) (sym more) (point_with new calls, one calls, ends));
+      part = λ why calls end ends. e.part why calls end (subst (λ (count : ℕ). EndsCallsFromInPart why w count (point_with world calls) end) (sym more) (inr (point_with new calls, one calls, ends)));
     }
 
-pub calls_stop : (w : ℕ) (old : WorldView) (queued : Fused) (world : WorldView) (left : Fused) (why : Stop) (new : WorldView) (after : Fused) → w < 65 → EndingCalls w old queued world left
-    → Keeps world left new after × EndsCallInPart why w (point_in world left) (point_in new after) × IsStopped new after.fuse why
-    → Keeps old queued new after × EndsCallsInPart why (point_in old queued) (point_in new after) × IsStopped new after.fuse why
-calls_stop w old queued world left why new after few e (keeps, one, met) =
+pub calls_stop : (w : ℕ) (old world : WorldView) (why : LimitKind) (new : WorldView) → w < 65 → EndingCalls w old world → EndsOpenBy (EndsCall w) (λ why. EndsCallInPart why w) world (Some why) new
+    → EndsOpenBy EndsCalls EndsCallsInPart old (Some why) new
+calls_stop w old world why new few e (stays, one, met) =
     let more : 65 - w ≡ suc (65 - (w + 1)) = omega arith in (
-      keeps_both old world new queued left after e.keeps keeps,
-      e.part why (point_in new after) (subst (λ (count : ℕ). EndsCallsFromInPart why w count (point_in world left) (point_in new after)) (sym more) (inl one)),
+      stays_both old world new e.stays stays,
+      (λ calls. e.part (Limit why) calls (point_with new calls) (subst (λ (count : ℕ). EndsCallsFromInPart (Limit why) w count (point_with world calls) (point_with new calls)) (sym more) (inl (one calls)))),
       met,
     )
 
-pub calls_done : (w : ℕ) (old : WorldView) (queued : Fused) (world : WorldView) (left : Fused) → 65 ≤ w → EndingCalls w old queued world left
-    → Keeps old queued world left × EndsCalls (point_in old queued) (point_in world left)
-calls_done w old queued world left all e =
+pub calls_done : (w : ℕ) (old world : WorldView) → 65 ≤ w → EndingCalls w old world → EndsOpenBy EndsCalls EndsCallsInPart old None world
+calls_done w old world all e =
     let none : 65 - w ≡ 0 = omega arith in
-    (e.keeps, e.whole (point_in world left) (subst (λ (count : ℕ). EndsCallsFrom w count (point_in world left) (point_in world left)) (sym none) refl))
+    (e.stays, e.ready, λ calls. e.whole calls (point_with world calls) (subst (λ (count : ℕ). EndsCallsFrom w count (point_with world calls) (point_with world calls)) (sym none) refl))
 
 -- then no call is open, of a worker from 1 to 64, nor of one that is none
 all_closed : (old new : Point) (config : Config) → IsConfig config → ((w : ℕ) → (IsWorker config w → ⊥) → open_call w new.past ≡ None) → EndsCalls old new → (w : ℕ) → open_call w new.past ≡ None
@@ -100,17 +63,14 @@ all_closed old new config in_range others ends w =
     (λ none. others w (λ worker. let some = worker.some in absurd (omega arith)))
     (cases_lt 0 w)
 
-module _ (old new : WorldView) (queued left : Queued) (fuse : Option ℕ) where
-  pub ended_whole : IsConfig new.config → ((w : ℕ) → (IsWorker new.config w → ⊥) → open_call w new.log.past ≡ None) → Keeps old (with_fuse queued None) new (with_fuse left fuse) × EndsCalls (point_of old queued) (point_of new left) → HasEndedCalls old queued None new left
-  ended_whole in_range others (keeps, ends) = (
-    kept_leaves old new queued left None fuse keeps,
-    keeps.ready.powered,
-    all_closed (point_of old queued) (point_of new left) new.config in_range others ends,
-    ends,
+module _ (old new : WorldView) (queued : Queued) where
+  pub ended_whole : IsConfig new.config → ((w : ℕ) → (IsWorker new.config w → ⊥) → open_call w new.log.past ≡ None) → EndsOpenBy EndsCalls EndsCallsInPart old None new → HasEndedCalls old queued None new queued
+  ended_whole in_range others (stays, ready, ends) = (
+    record { stays = stays; room = omega arith },
+    ready.powered,
+    all_closed (point_of old queued) (point_of new queued) new.config in_range others (ends queued.calls),
+    ends queued.calls,
   )
 
-  pub ended_limit : (why : LimitKind) → Keeps old (with_fuse queued None) new (with_fuse left fuse) × EndsCallsInPart (Limit why) (point_of old queued) (point_of new left) × IsAtLimit new why → HasEndedCalls old queued (Some why) new left
-  ended_limit why (keeps, ends, met) = (record { config = keeps.config; at_start = keeps.at_start; start = keeps.start; limits = keeps.limits }, ends, met)
-
-  pub ended_never : (w : ℕ) → Keeps old (with_fuse queued None) new (with_fuse left fuse) × EndsCallsInPart (Due w) (point_of old queued) (point_of new left) × IsStopped new fuse (Due w) → ⊥
-  ended_never w (keeps, ends, due) = never_due old.log.past new.log.past None fuse refl due.1 keeps.fuse
+  pub ended_limit : (why : LimitKind) → EndsOpenBy EndsCalls EndsCallsInPart old (Some why) new → HasEndedCalls old queued (Some why) new queued
+  ended_limit why (stays, ends, met) = (stays, ends queued.calls, met)

@@ -21,7 +21,7 @@ use Rattle.bz_sched.specs.declared.running.RunEnd.{RunEnd}
 use Rattle.bz_sched.specs.declared.running.RunEnd.TheVariants as end
 use Rattle.bz_sched.proofs.BurnLemmas.{due_flushes}
 
-stays_both : (a b c : WorldView) → Stays a b → Stays b c → Stays a c
+pub stays_both : (a b c : WorldView) → Stays a b → Stays b c → Stays a c
 stays_both a b c h k = record { config = k.config ∙ h.config; at_start = k.at_start ∙ h.at_start; start = k.start ∙ h.start; limits = k.limits ∙ h.limits }
 
 -- a recovery that has begun is under way

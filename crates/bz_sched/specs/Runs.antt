@@ -96,6 +96,13 @@ pub record Leaves (old : WorldView) (queued : Queued) (new : WorldView) (left : 
   pub stays : Stays old new
   pub room : queued.room ≤ left.room
 
+-- how the ending of calls that are open, or a part of it, ends, whatever calls wait: it is whole by the one relation of points, and a next
+-- part may begin; or by the other one up to a limit
+abbrev pub EndsOpenBy : (Point → Point → Type 0) → (Stop → Point → Point → Type 0) → WorldView → Option LimitKind → WorldView → Type 0
+EndsOpenBy Whole InPart old None new = Stays old new × IsReady new × ((calls : List (ℕ × Call)) → Whole (point_with old calls) (point_with new calls))
+EndsOpenBy Whole InPart old (Some why) new =
+    Stays old new × ((calls : List (ℕ × Call)) → InPart (stop.Limit why) (point_with old calls) (point_with new calls)) × IsAtLimit new why
+
 -- the turns of the plan are taken one after the other, and not on threads
 abbrev pub IsOfTurns : Plan → Type 0
 IsOfTurns Threads = ⊥

@@ -88,7 +88,7 @@ pub fn run_threads<G: Gate + Sync, R: Threads + Wait + Sync>(
     ensures { HasRunThreads world queue.old result.1 result.0 queue.new }
 {
     let mut world = world;
-    match end_open_calls(&mut world, queue) {
+    match end_open_calls(&mut world) {
         Some(which) => (world, ThreadsEnd::Limit(which)),
         None => match Index::open(alloc, world) {
             Ok((index, mut first)) => {

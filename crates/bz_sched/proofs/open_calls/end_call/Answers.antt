@@ -1,16 +1,17 @@
-use Rattle.std.proofs.Common.{sym}
-use Rattle.bz_sched.specs.Fuses.{with_fuse}
-use Rattle.bz_sched.proofs.OpenLemmas.{call_none, call_more, call_ends, call_stops}
+use Rattle.std.proofs.Common.{sym, ◌∙◌}
+use Rattle.bz_sched.proofs.OpenTurns.{call_closed, call_ends, call_stops, call_answers}
 use Rattle.bz_sched.proofs.open_calls.end_call.Goals as goal
 
-pub loop-world-init : goal.loop-world-init
-loop-world-init c = call_none c.args.w c.args.world.now (with_fuse c.args.queue.now c.args.fuse.now) c.requires.ready
+pub returns-then-not-has_open : goal.returns-then-not-has_open
+returns-then-not-has_open c = call_closed c.args.w c.args.world.now c.requires.ready (sym c.if-not-has_open.ensures)
 
-pub loop-world-preserved : goal.loop-world-preserved
-loop-world-preserved c = call_more c.args.w c.args.world.now (with_fuse c.args.queue.now c.args.fuse.now) c.loop-world.world (with_fuse c.loop-world.queue c.loop-world.fuse) _ _ (sym c.loop-world-test.ensures) c.loop-world.invariant c.in-Finished.ensures.ends
+pub returns-in-Ended : goal.returns-in-Ended
+returns-in-Ended c =
+    call_ends c.args.w c.args.world.now c.requires.worker c.requires.ready (sym c.has_open.ensures ∙ c.if-not-has_open.false) c.in-Ended.field-0 c.solo.new.self c.in-Ended.ensures
 
-pub returns-in-Stopped : goal.returns-in-Stopped
-returns-in-Stopped c = call_stops c.args.w c.args.world.now (with_fuse c.args.queue.now c.args.fuse.now) c.loop-world.world (with_fuse c.loop-world.queue c.loop-world.fuse) c.in-Stopped.why _ _ (sym c.loop-world-test.ensures) c.loop-world.invariant c.in-Stopped.ensures.ends
+pub returns-in-Limit : goal.returns-in-Limit
+returns-in-Limit c = call_stops c.args.w c.args.world.now c.requires.worker c.requires.ready (sym c.has_open.ensures ∙ c.if-not-has_open.false) c.solo.new.self c.in-Limit.ensures
 
-pub returns : goal.returns
-returns c = call_ends c.args.w c.args.world.now (with_fuse c.args.queue.now c.args.fuse.now) c.loop-world.world (with_fuse c.loop-world.queue c.loop-world.fuse) (sym c.loop-world-test.ensures) c.loop-world.invariant
+pub unreachable-requires : goal.unreachable-requires
+unreachable-requires c =
+    call_answers c.args.w c.args.world.now c.requires.worker c.requires.ready (sym c.has_open.ensures ∙ c.if-not-has_open.false) c.solo.result c.solo.new.self c.solo.ensures c.in_default.not-Ended c.in_default.not-Limit

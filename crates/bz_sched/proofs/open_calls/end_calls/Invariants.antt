@@ -1,6 +1,5 @@
-use Rattle.bz_sched.specs.Fuses.{with_fuse}
 use Rattle.bz_sched.proofs.OpenLemmas.{EndingCalls}
 use Rattle.bz_sched.proofs.open_calls.end_calls.Given as goal
 
 abbrev pub invariant-loop-w : goal.invariant-loop-w
-invariant-loop-w l = EndingCalls l.w l.initial.world (with_fuse l.initial.queue l.initial.fuse) l.world (with_fuse l.queue l.fuse)
+invariant-loop-w l = EndingCalls l.w l.initial.world l.world
