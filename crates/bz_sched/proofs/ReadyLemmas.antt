@@ -1,5 +1,5 @@
 -- What runs leave as it was, and what is known of a worker that has something to do.
-use Rattle.std.proofs.Common.{◌≡◌, ℕ, ◌-◌, Bool, true, false, List, [], refl, sym, ap, ◌∙◌, arith, Option, Some, None}
+use Rattle.std.proofs.Common.{◌≡◌, ℕ, Bool, true, false, List, [], refl, sym, ap, ◌∙◌, arith, Option, Some, None}
 use Rattle.std.specs.Prelude.{if◌then◌else◌, is_some, option_map}
 use Rattle.bz_call.specs.declared.calls.Call.{Call}
 use Rattle.bz_sound.specs.Calls.{Open, open_call}
