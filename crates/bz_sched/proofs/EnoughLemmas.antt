@@ -9,7 +9,7 @@ use Rattle.bz_call.specs.Pages.{is_page}
 use Rattle.bz_call.specs.declared.calls.Call.{Call}
 use Rattle.bz_layout.specs.declared.config.Config.{Config}
 use Rattle.bz_layout.specs.declared.thresholds.TheConstants.{MARKS_PER_CALL}
-use Rattle.bz_mark.specs.Log.{Log, count_begins, count_page_calls}
+use Rattle.bz_mark.specs.Log.{Log, Limits, count_begins, count_page_calls}
 use Rattle.bz_mark.specs.declared.marks.Mark.{Mark}
 use Rattle.bz_mark.specs.declared.marks.Mark.TheVariants as mark
 use Rattle.bz_sound.specs.Calls.{Open, open_call}
@@ -19,10 +19,10 @@ use Rattle.bz_world.specs.declared.answers.Applied.TheVariants as applied
 use Rattle.bz_world.specs.declared.answers.Begun.TheVariants.{Begun}
 use Rattle.bz_world.specs.declared.answers.LimitKind.{LimitKind}
 use Rattle.bz_world.specs.declared.answers.LimitKind.TheVariants as which
-use Rattle.bz_sched.specs.Enough.{count_pages, AreClosed, HasRoomFor, AwaitsCalls, IsInCall, GoesOnAlone, IsBetweenCalls, HasEnough}
+use Rattle.bz_sched.specs.Enough.{count_pages, AreClosed, HasRoomFor, AwaitsCalls, IsInCall, GoesOnAlone, IsBetweenCalls, HasEnough, AreServed}
 use Rattle.bz_sched.specs.Fuses.{lets, burnt}
 use Rattle.bz_sched.specs.Points.{Point}
-use Rattle.bz_sched.specs.Queued.{calls_of, without_first, is_busy_by}
+use Rattle.bz_sched.specs.Queued.{Queued, calls_of, without_first, is_busy_by}
 use Rattle.bz_sched.specs.Runs.{point_with, IsAtLimit}
 use Rattle.bz_sched.specs.TurnsInPart.{IsPageNext, StopsBy}
 use Rattle.bz_sched.specs.declared.turn.Stop.TheVariants as stop
@@ -81,7 +81,7 @@ page-fits call pages queued left limit e l = by (is_page call) e
     by true e = omega (arith, e, l)
     by false e = omega (arith, e, l)
 
-pub begins_well : (most w n : ℕ) (world new : WorldView) (call : Call) (calls left rest : List (ℕ × Call)) → calls_of w calls ≡ (w, call) ∷ rest → new ≡ after_begin world w call (Begun n) → left ≡ without_first w calls
+pub begins_well : (most : Limits) (w n : ℕ) (world new : WorldView) (call : Call) (calls left rest : List (ℕ × Call)) → calls_of w calls ≡ (w, call) ∷ rest → new ≡ after_begin world w call (Begun n) → left ≡ without_first w calls
     → HasRoomFor most world calls → AwaitsCalls most world calls → HasRoomFor most new left × IsInCall most w new left
 begins_well most w n world new call calls left rest first after gone r a =
     subst (λ (z : WorldView). HasRoomFor most z left × IsInCall most w z left) (sym after) (subst (λ (z : List (ℕ × Call)). HasRoomFor most (after_begin world w call (Begun n)) z × IsInCall most w (after_begin world w call (Begun n)) z) (sym gone) (room, inside))
@@ -99,7 +99,9 @@ begins_well most w n world new call calls left rest first after gone r a =
     room = record {
       marks = r.marks;
       calls = omega (arith, r.calls, out.fewer);
-      pages = page-fits call (count_page_calls world.log.past) (count_pages calls) (count_pages (without_first w calls)) world.log.limits.pages out.pages r.pages;
+      pages = page-fits call (count_page_calls world.log.past) (count_pages calls) (count_pages (without_first w calls)) most.pages out.pages r.pages;
+      call_limit = r.call_limit;
+      page_limit = r.page_limit;
     }
 
     begins : begins_alone world.config w (mark.Begin w n call ∷ world.log.past) ≡ true
@@ -121,17 +123,17 @@ some-page w call calls rest first page =
     let one : count_pages (without_first w calls) + 1 ≡ count_pages calls = ap (λ (b : Bool). if b then count_pages (without_first w calls) + 1 else count_pages (without_first w calls)) (sym asks) ∙ (taken-out w call calls rest first).pages in
     omega (arith, one)
 
-pub not_limited : (most w : ℕ) (world new : WorldView) (call : Call) (calls rest : List (ℕ × Call)) (why : LimitKind) (end : Point) → calls_of w calls ≡ (w, call) ∷ rest → new ≡ world → HasRoomFor most world calls → AwaitsCalls most world calls
+pub not_limited : (most : Limits) (w : ℕ) (world new : WorldView) (call : Call) (calls rest : List (ℕ × Call)) (why : LimitKind) (end : Point) → calls_of w calls ≡ (w, call) ∷ rest → new ≡ world → HasRoomFor most world calls → AwaitsCalls most world calls
     → StopsBy (stop.Limit why) w (point_with world calls) end → IsAtLimit new why → ⊥
 not_limited most w world new call calls rest which.Marks end first same r a stops met =
     let short : IsAtLimit world which.Marks = subst (λ (z : WorldView). IsAtLimit z which.Marks) same met in
     absurd (omega (arith, short, r.marks, a.enough, (taken-out w call calls rest first).fewer))
 not_limited most w world new call calls rest which.Calls end first same r a stops met =
     let full : IsAtLimit world which.Calls = subst (λ (z : WorldView). IsAtLimit z which.Calls) same met in
-    absurd (omega (arith, full, r.calls, (taken-out w call calls rest first).fewer))
+    absurd (omega (arith, full, r.calls, r.call_limit, (taken-out w call calls rest first).fewer))
 not_limited most w world new call calls rest which.Pages end first same r a stops met =
     let full : IsAtLimit world which.Pages = subst (λ (z : WorldView). IsAtLimit z which.Pages) same met in
-    absurd (omega (arith, full, r.pages, some-page w call calls rest first stops.1))
+    absurd (omega (arith, full, r.pages, r.page_limit, some-page w call calls rest first stops.1))
 
 -- an act is one of its worker's run
 act-steps : (w : ℕ) (made : Act) (past : List Mark) → stepper (mark_of w made ∷ past) ≡ Some w
@@ -186,7 +188,7 @@ moves w made past struck (inr (u, (n, is))) = record {
 }
 
 -- it has room for its step
-pub has_places : (most w : ℕ) (world : WorldView) (calls : List (ℕ × Call)) → HasRoomFor most world calls → IsInCall most w world calls → is_short world.log ≡ true → ⊥
+pub has_places : (most : Limits) (w : ℕ) (world : WorldView) (calls : List (ℕ × Call)) → HasRoomFor most world calls → IsInCall most w world calls → is_short world.log ≡ true → ⊥
 has_places most w world calls r i short =
     let met : IsAtLimit world which.Marks = grind (arith, nat_tests, short) in
     absurd (omega (arith, met, r.marks, i.enough, i.in_time, due_is world.config w world.log.past i.begins))
@@ -198,15 +200,17 @@ ended-closed w v o none = elim (cases_eq v w) [
   | inr ne ↦ (let other : (w == v) ≡ false = grind (arith, nat_tests, ne) in ap (λ (b : Bool). if b then None else o) other ∙ none ne)
 ]
 
-goes-well : (most w : ℕ) (old new : WorldView) (calls : List (ℕ × Call)) (answer : Applied) → HasRoomFor most old calls → IsInCall most w old calls → Steps old w answer new → HasRoomFor most new calls × (AwaitsCalls most new calls ⊎ IsInCall most w new calls)
+goes-well : (most : Limits) (w : ℕ) (old new : WorldView) (calls : List (ℕ × Call)) (answer : Applied) → HasRoomFor most old calls → IsInCall most w old calls → Steps old w answer new → HasRoomFor most new calls × (AwaitsCalls most new calls ⊎ IsInCall most w new calls)
 goes-well most w old new calls applied.Stepped r i s =
     let m = moves w s.made old.log.past s.struck s.effect in
     let past : new.log.past ≡ s.struck = ap (λ (log : Log). log.past) s.ends in
     let before : before_run w new.log.past ≡ before_run w old.log.past = ap (before_run w) past ∙ m.before in (
       record {
         marks = omega (arith, r.marks, ap (λ (log : Log). log.limits.marks) s.ends);
-        calls = omega (arith, r.calls, ap (λ (log : Log). log.limits.calls) s.ends, ap count_begins past, m.begins);
-        pages = omega (arith, r.pages, ap (λ (log : Log). log.limits.pages) s.ends, ap count_page_calls past, m.pages);
+        calls = omega (arith, r.calls, ap count_begins past, m.begins);
+        call_limit = omega (arith, r.call_limit, ap (λ (log : Log). log.limits.calls) s.ends);
+        pages = omega (arith, r.pages, ap count_page_calls past, m.pages);
+        page_limit = omega (arith, r.page_limit, ap (λ (log : Log). log.limits.pages) s.ends);
       },
       inr (record {
         is_open = ap (λ (z : List Mark). is_some (open_call w z)) past ∙ (m.opens ∙ i.is_open);
@@ -223,8 +227,10 @@ goes-well most w old new calls (applied.Ended n) r i s =
     let by : length new.log.past ≤ deadline new.config w s.struck = s.lone in (
       record {
         marks = omega (arith, r.marks, ap (λ (log : Log). log.limits.marks) s.ends.is);
-        calls = omega (arith, r.calls, ap (λ (log : Log). log.limits.calls) s.ends.is, ap count_begins past, m.begins);
-        pages = omega (arith, r.pages, ap (λ (log : Log). log.limits.pages) s.ends.is, ap count_page_calls past, m.pages);
+        calls = omega (arith, r.calls, ap count_begins past, m.begins);
+        call_limit = omega (arith, r.call_limit, ap (λ (log : Log). log.limits.calls) s.ends.is);
+        pages = omega (arith, r.pages, ap count_page_calls past, m.pages);
+        page_limit = omega (arith, r.page_limit, ap (λ (log : Log). log.limits.pages) s.ends.is);
       },
       inl (record {
         closed = λ v. ap (open_call v) past ∙ ended-closed w v (open_call v s.struck) (λ ne. m.others v (i.others v ne));
@@ -238,7 +244,7 @@ unarmed-on : (flush : Bool) (fuse left : Option ℕ) → fuse ≡ None → left 
 unarmed-on true fuse left none is = is ∙ ap (burnt true) none
 unarmed-on false fuse left none is = is ∙ none
 
-pub steps_well : (most w : ℕ) (old new : WorldView) (calls : List (ℕ × Call)) (answer : Applied) (flush : Bool) (fuse left : Option ℕ) → fuse ≡ None → left ≡ burnt flush fuse → HasRoomFor most old calls → IsInCall most w old calls → Steps old w answer new → GoesOnAlone most w new calls left
+pub steps_well : (most : Limits) (w : ℕ) (old new : WorldView) (calls : List (ℕ × Call)) (answer : Applied) (flush : Bool) (fuse left : Option ℕ) → fuse ≡ None → left ≡ burnt flush fuse → HasRoomFor most old calls → IsInCall most w old calls → Steps old w answer new → GoesOnAlone most w new calls left
 steps_well most w old new calls answer flush fuse left none is r i s =
     let on = goes-well most w old new calls answer r i s in
     record { room = on.0; unarmed = unarmed-on flush fuse left none is; state = on.1 }
@@ -247,11 +253,11 @@ pub never_due : (flush : Bool) (fuse : Option ℕ) → fuse ≡ None → lets fu
 never_due flush fuse none stops = true≢false (sym (ap (λ (f : Option ℕ). lets f flush) none) ∙ stops)
 
 -- where its call is open, and where it is not
-pub is_in : (most w : ℕ) (world : WorldView) (calls : List (ℕ × Call)) → AwaitsCalls most world calls ⊎ IsInCall most w world calls → is_some (open_call w world.log.past) ≡ true → IsInCall most w world calls
+pub is_in : (most : Limits) (w : ℕ) (world : WorldView) (calls : List (ℕ × Call)) → AwaitsCalls most world calls ⊎ IsInCall most w world calls → is_some (open_call w world.log.past) ≡ true → IsInCall most w world calls
 is_in most w world calls (inl a) some = absurd (true≢false (sym some ∙ ap is_some (a.closed w)))
 is_in most w world calls (inr i) some = i
 
-pub is_out : (most w : ℕ) (world : WorldView) (calls : List (ℕ × Call)) → AwaitsCalls most world calls ⊎ IsInCall most w world calls → is_some (open_call w world.log.past) ≡ false → AwaitsCalls most world calls
+pub is_out : (most : Limits) (w : ℕ) (world : WorldView) (calls : List (ℕ × Call)) → AwaitsCalls most world calls ⊎ IsInCall most w world calls → is_some (open_call w world.log.past) ≡ false → AwaitsCalls most world calls
 is_out most w world calls (inl a) none = a
 is_out most w world calls (inr i) none = absurd (true≢false (sym i.is_open ∙ none))
 
@@ -259,6 +265,20 @@ pub idle_is_closed : (o : Bool) (calls : List (ℕ × Call)) → is_busy_by o ca
 idle_is_closed true calls idle = absurd (true≢false idle)
 idle_is_closed false calls idle = refl
 
--- at the begin of a run
-pub at_first : (world : WorldView) (calls : List (ℕ × Call)) → AreClosed world.log.past → HasEnough world calls → IsBetweenCalls (length world.log.past + MARKS_PER_CALL * length calls) world calls None
-at_first world calls closed e = record { room = record { marks = e.marks; calls = e.calls; pages = e.pages }; unarmed = refl; awaits = record { closed = closed; enough = omega arith } }
+-- what a run needs, and what it leaves
+abbrev pub needed_for : WorldView → List (ℕ × Call) → Limits
+needed_for world calls = record {
+  marks = length world.log.past + MARKS_PER_CALL * length calls;
+  calls = count_begins world.log.past + length calls;
+  pages = count_page_calls world.log.past + count_pages calls;
+}
+
+pub at_first : (world : WorldView) (calls : List (ℕ × Call)) → AreClosed world.log.past → HasEnough world calls → IsBetweenCalls (needed_for world calls) world calls None
+at_first world calls closed e = record {
+  room = record { marks = e.marks; calls = omega arith; pages = omega arith; call_limit = e.calls; page_limit = e.pages };
+  unarmed = refl;
+  awaits = record { closed = closed; enough = omega arith };
+}
+
+pub are_served : (old new : WorldView) (queued left : Queued) (fuse : Option ℕ) → IsBetweenCalls (needed_for old queued.calls) new left.calls fuse → AreServed old queued new left
+are_served old new queued left fuse b = record { closed = b.awaits.closed; marks = b.awaits.enough; calls = b.room.calls; pages = b.room.pages }

@@ -15,6 +15,7 @@ pub mod PassLemmas
 pub mod CutLemmas
 pub mod TurnLemmas
 pub mod EnoughLemmas
+pub mod FewLemmas
 pub mod RunLemmas
 pub mod RecoveryLemmas
 pub mod WakeLemmas

@@ -12,6 +12,7 @@ pub mod Recoveries
 pub mod Scripts
 pub mod Runs
 pub mod Enough
+pub mod Sums
 pub mod Cutting
 pub mod Powering
 pub mod TurnLaws

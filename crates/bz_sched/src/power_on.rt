@@ -1,8 +1,9 @@
 //! Power on.
 ghost use Rattle.std.specs.Prelude.{IsTrue, ◌↔◌, ◌≡◌, ◌≢◌, ◌<◌, ◌≤◌, true, false, None, Some};
 ghost use Rattle.bz_sound.specs.declared.power.Power.TheVariants.{Off, Recovering};
-ghost use Rattle.bz_world.specs.WorldView.{power_in};
+ghost use Rattle.bz_world.specs.WorldView.{power_in, recovery_acts};
 ghost use Rattle.bz_sched.specs.Cutting.{HasNoPlace};
+ghost use Rattle.bz_sched.specs.Enough.{IsFew, ComesOn};
 ghost use Rattle.bz_sched.specs.Powering.{IsOff, IsOn, IsStarted, StartStopped, EndsRecovery, HasRecovered};
 ghost use Rattle.bz_sched.specs.Runs.{IsCutPlan, HasPower, marks_left};
 ghost use Rattle.bz_sched.specs.declared.turn.Turned.TheVariants.{Finished};
@@ -73,9 +74,11 @@ fn is_recovering(world: &World) -> bool
 // Takes the steps of the recovery, to its end.
 fn recover(world: &mut World, fuse: &mut Option<u32>) -> Turned
     requires { power_in world.old ≡ Recovering }
-    ensures { HasRecovered world.old fuse.old result world.new fuse.new }
+    ensures ends { HasRecovered world.old fuse.old result world.new fuse.new }
+    ensures few { recovery_acts world.old ≡ 0 → IsFew world.old result world.new }
 {
     while is_recovering(world) {
+        world.journal();
         match recover_once(world, fuse) {
             Turned::Finished => {}
             Turned::Stopped(why) => return Turned::Stopped(why),
@@ -99,7 +102,8 @@ fn start_recovery(world: &mut World) -> bool
 // Turns the power on with no cut armed.
 fn power_unarmed(world: &mut World) -> RunEnd
     requires { power_in world.old ≢ Recovering }
-    ensures { HasPower None world.old result world.new }
+    ensures ends { HasPower None world.old result world.new }
+    ensures enough { ComesOn None world.old result world.new }
 {
     if !start_recovery(world) {
         return RunEnd::Limit(LimitKind::Marks);
@@ -131,11 +135,13 @@ fn power_armed(world: &mut World, cut: CutPlan) -> RunEnd
 
 /// Turns the power on and lets worker 0 recover to the end. Where the power is on it is cut before, without evictions, and the
 /// calls that wait stay. Where a cut is armed, the power is cut again before that flush of the recovery is made: the caller
-/// then drops the calls that wait. A recovery that ends before it makes no cut.
+/// then drops the calls that wait. A recovery that ends before it makes no cut. With no cut armed the power comes on where the
+/// journal has room for the acts of a recovery and `MARKS_PER_POWER_ON` marks more.
 pub fn power(world: &mut World, cut: Option<CutPlan>) -> RunEnd
     requires steady { power_in world.old ≢ Recovering }
     requires cut { IsCutPlan cut }
-    ensures { HasPower cut world.old result world.new }
+    ensures ends { HasPower cut world.old result world.new }
+    ensures enough { ComesOn cut world.old result world.new }
 {
     match cut {
         None => power_unarmed(world),

@@ -40,7 +40,7 @@ item_at [] i item all lt is = absurd (omega arith)
 item_at (x ∷ items) zero item all lt is = rw is all.0
 item_at (x ∷ items) (suc i) item all lt is = item_at items i item all.1 (omega arith) is
 
-here_is : (items : List Item) (i : ℕ) (item : Item) → i < length items → item ≡ get_or items i item → drop i items ≡ item ∷ drop (i + 1) items
+pub here_is : (items : List Item) (i : ℕ) (item : Item) → i < length items → item ≡ get_or items i item → drop i items ≡ item ∷ drop (i + 1) items
 here_is items i item lt is = drop_more items i item lt ∙ ap (λ (x : Item). x ∷ drop (i + 1) items) (sym is)
 
 -- nothing is done yet

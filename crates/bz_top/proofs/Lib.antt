@@ -6,6 +6,7 @@ pub mod EndLemmas
 pub mod LoadLemmas
 pub mod BaseLemmas
 pub mod FirstLemmas
+pub mod SumLemmas
 mod RunLemmas
 pub mod FreshLemmas
 pub mod ReportLemmas

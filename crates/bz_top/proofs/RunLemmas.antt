@@ -5,6 +5,7 @@ use Rattle.bz_layout.specs.Addresses.{words_of}
 use Rattle.bz_layout.specs.declared.config.Config.{Config}
 use Rattle.bz_script.specs.Script.{Job}
 use Rattle.bz_sched.specs.Scripts.{LeadsTo, LeadsToInPart, LeadsToWant}
+use Rattle.bz_sched.specs.Sums.{SufficesFor}
 use Rattle.bz_sound.specs.Power.Sound.{IsSound}
 use Rattle.bz_sound.specs.declared.power.Power.{Power as State}
 use Rattle.bz_words.specs.declared.command.Command.{Command}
@@ -17,6 +18,7 @@ use Rattle.bz_top.specs.Items.{ItemsRan}
 use Rattle.bz_top.specs.Parts.{Sunk, Says, SaysOrWants, RanWorld}
 use Rattle.bz_top.specs.declared.items.ItemsEnd.TheVariants.{Finished, Limit, Memory}
 use Rattle.bz_top.proofs.BaseLemmas.{made_still}
+use Rattle.bz_top.proofs.SumLemmas.{lacks_still}
 
 module _ (marks : ℕ) (base : Base) (job : Job) (old new : WorldView) (made : IsMadeFor marks base job old) (sound : IsSound new.config new.at_start new.log) where
   pub ran-finished : (command : Command) (k : Sunk) (status : ℕ) (lab : Option WorldView) → ItemsRan old job.items Finished new → lab ≡ Some new → SaysOrWants k 0 (printed command new) status → RanWorld command marks base job k status lab
@@ -33,9 +35,9 @@ module _ (marks : ℕ) (base : Base) (job : Job) (old new : WorldView) (made : I
         | inr said ↦ inr (inr (record { world = new; is_lab = is; led = inl finished; said = said }))
       ]
 
-  pub ran-limited : (command : Command) (k : Sunk) (status : ℕ) (lab : Option WorldView) (which : LimitKind) → ItemsRan old job.items (Limit which) new → lab ≡ Some new → SaysOrWants k 5 (printed_before command new ++ fault_line (limit_text which)) status
+  pub ran-limited : (command : Command) (k : Sunk) (status : ℕ) (lab : Option WorldView) (which : LimitKind) → ItemsRan old job.items (Limit which) new → (SufficesFor old.config old.log.limits (items_from old.at_start job.items) → ⊥) → lab ≡ Some new → SaysOrWants k 5 (printed_before command new ++ fault_line (limit_text which)) status
       → RanWorld command marks base job k status lab
-  ran-limited command k status lab which ran is says =
+  ran-limited command k status lab which ran lacks is says =
       let right : IsLab marks base job new = record { made = made_still marks base job old new made ran.on; sound = sound } in
       let cut_short : IsCutShort marks base job new which = record {
         right = right;
@@ -43,6 +45,7 @@ module _ (marks : ℕ) (base : Base) (job : Job) (old new : WorldView) (made : I
             (subst (λ (start : List ℕ). LeadsToInPart which old.at_start start (words_of new.config) None at_first (items_from old.at_start job.items) new.log.past) (sym ran.on.start)
             (subst (λ (c : Config). LeadsToInPart which old.at_start old.log.start (words_of c) None at_first (items_from old.at_start job.items) new.log.past) (sym ran.on.config) ran.follows));
         met = ran.met;
+        lacks = lacks_still old new job.items ran.on lacks;
       } in
       elim says [
         | inl said ↦ inr (inl (record { world = new; which = which; is_lab = is; cut_short = cut_short; said = said }))

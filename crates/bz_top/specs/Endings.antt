@@ -24,6 +24,7 @@ use Rattle.bz_sched.specs.FromWorld.LimitKind.{LimitKind}
 use Rattle.bz_sched.specs.Runs.{IsAtLimit}
 use Rattle.bz_sched.specs.Points.{Point}
 use Rattle.bz_sched.specs.Scripts.{LeadsTo, LeadsToInPart, LeadsToWant}
+use Rattle.bz_sched.specs.Sums.{SufficesFor}
 use Rattle.bz_gen.specs.Workload.{workload_of}
 use Rattle.bz_text.specs.Report.{report_of}
 use Rattle.bz_text.specs.Summary.{summary_of}
@@ -126,11 +127,12 @@ pub record IsFinished (marks : ℕ) (base : Base) (script : Job) (world : WorldV
   pub follows : LeadsTo world.at_start world.log.start (words_of world.config) None at_first (items_from world.at_start script.items) world.log.past
 
 -- a run that met a limit when one more was needed: a world of the script, with a sound journal to which the
--- script leads up to there
+-- script leads up to there. Where each run of the script goes one worker after the other, and no cut is armed, its sums were beyond the limits
 pub record IsCutShort (marks : ℕ) (base : Base) (script : Job) (world : WorldView) (which : LimitKind) : Type 0 where
   pub right : IsLab marks base script world
   pub follows : LeadsToInPart which world.at_start world.log.start (words_of world.config) None at_first (items_from world.at_start script.items) world.log.past
   pub met : IsAtLimit world which
+  pub lacks : SufficesFor world.config world.log.limits (items_from world.at_start script.items) → ⊥
 
 -- a run for which memory was wanting: a world of the script, with a sound journal to which the script leads up to a run on
 -- threads, of which no call was begun

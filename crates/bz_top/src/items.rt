@@ -1,13 +1,19 @@
 //! Running the items of a script.
-ghost use Rattle.std.specs.Prelude.{◌≡◌, ◌≢◌, ◌≤◌, ◌<◌, [], length, None};
+ghost use Rattle.std.specs.Prelude.{◌≡◌, ◌≢◌, ◌≤◌, ◌<◌, List, [], ◌∷◌, length, None};
 ghost use Rattle.bz_layout.specs.declared.limits.TheConstants.{MAX_WORKERS};
 ghost use Rattle.bz_sound.specs.declared.power.Power.TheVariants.{On, Recovering};
 ghost use Rattle.bz_sched.specs.FromWorld.WorldView.{power_in};
+ghost use Rattle.bz_sched.specs.Enough.{AreClosed, HasEnough, AreServed};
 ghost use Rattle.bz_sched.specs.Runs.{point_of, IsCutPlan};
+ghost use Rattle.bz_sched.specs.Sums.{SufficesFor, Affords};
 ghost use Rattle.bz_script.specs.ItemLaws.{AreItems};
 ghost use Rattle.bz_script.specs.Order.{at_first, takes_no_cut, AreInOrder};
+ghost use Rattle.bz_script.specs.declared.item.Item.{Item};
 ghost use Rattle.bz_script.specs.declared.item.Item.TheVariants.{Run};
+ghost use Rattle.bz_script.specs.declared.item.Plan.TheVariants.{Alone};
+ghost use Rattle.bz_top.specs.Endings.{items_from};
 ghost use Rattle.bz_top.specs.Items.{ItemsRan, ItemsDone, TurnsOn, IsReadyFor, HasDone, end_in, left_after, end_of_threads};
+ghost use Rattle.bz_top.specs.declared.items.ItemsEnd.TheVariants.{Finished};
 
 use bz_sched::{CutPlan, LimitKind, Power, Queue, RunEnd, World, power, run};
 use bz_script::{Item, Plan};
@@ -74,7 +80,8 @@ fn run_plan<R: Threads + Wait + Sync, G: Gate + Sync>(
     requires workers { world.config.workers ≡ MAX_WORKERS }
     requires armed { IsCutPlan armed }
     requires item { IsReadyFor armed world (Run plan.now) }
-    ensures { HasDone armed world queue.old (Run plan.now) result.1 None result.0 queue.new }
+    ensures ends { HasDone armed world queue.old (Run plan.now) result.1 None result.0 queue.new }
+    ensures enough { armed ≡ None → plan.now ≡ Alone → AreClosed world.log.past → HasEnough world queue.old.calls → (result.1 ≡ Finished) × AreServed world queue.old result.0 queue.new }
 {
     if is_on_threads(plan) {
         let (world, end) = run_threads(rt, alloc, world, queue, gate);
@@ -111,7 +118,8 @@ fn do_item<R: Threads + Wait + Sync, G: Gate + Sync>(
     requires room { 0 < queue.old.room }
     requires armed { IsCutPlan armed.old }
     requires item { IsReadyFor armed.old world item.now }
-    ensures { HasDone armed.old world queue.old item.now result.1 armed.new result.0 queue.new }
+    ensures ends { HasDone armed.old world queue.old item.now result.1 armed.new result.0 queue.new }
+    ensures enough { (rest : List Item) → Affords world queue.old.calls armed.old (item.now ∷ rest) → (result.1 ≡ Finished) × Affords result.0 queue.new.calls armed.new rest }
 {
     match item {
         Item::Queue(w, call) => {
@@ -155,7 +163,8 @@ fn do_items<R: Threads + Wait + Sync, G: Gate + Sync>(
     requires room { length items.now ≤ queue.old.room }
     requires items { AreItems items.now }
     requires order { AreInOrder at_first items.now }
-    ensures { ItemsDone (point_of world queue.old) world items.now result.1 result.0 }
+    ensures ends { ItemsDone (point_of world queue.old) world items.now result.1 result.0 }
+    ensures enough { Affords world queue.old.calls None items.now → result.1 ≡ Finished }
 {
     let mut world = world;
     let mut armed: Option<CutPlan> = None;
@@ -175,7 +184,8 @@ fn do_items<R: Threads + Wait + Sync, G: Gate + Sync>(
 fn turn_on(world: &mut World) -> ItemsEnd
     requires steady { power_in world.old ≢ Recovering }
     requires new { world.old.log.past ≡ [] }
-    ensures { TurnsOn world.old result world.new }
+    ensures ends { TurnsOn world.old result world.new }
+    ensures enough { (items : List Item) → Affords world.old [] None (items_from world.old.at_start items) → (result ≡ Finished) × Affords world.new [] None items }
 {
     match world.power() {
         Power::On => ItemsEnd::Finished,
@@ -201,7 +211,8 @@ pub fn run_items<R: Threads + Wait + Sync, G: Gate + Sync>(
     requires room { queue.old.room ≡ length items.now }
     requires items { AreItems items.now }
     requires order { AreInOrder at_first items.now }
-    ensures { ItemsRan world items.now result.1 result.0 }
+    ensures ends { ItemsRan world items.now result.1 result.0 }
+    ensures enough { SufficesFor world.config world.log.limits (items_from world.at_start items.now) → result.1 ≡ Finished }
 {
     let mut world = world;
     match turn_on(&mut world) {

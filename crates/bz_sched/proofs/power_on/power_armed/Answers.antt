@@ -14,24 +14,24 @@ recover-requires c = on_recovers _ _ (c.start_recovery.ensures.started c.if-not-
 pub returns-in-Finished : goal.returns-in-Finished
 returns-in-Finished c =
     let s = c.start_recovery.ensures.started c.if-not-start_recovery.false in
-    let e = c.in-Finished.ensures in
+    let e = c.in-Finished.ensures.ends in
     wakes c.args.world.now c.start_recovery.new.world c.recover.new.world (Some (c.args.cut.flush - 1)) c.recover.new.fuse s e.0 (Some c.args.cut)
     (before_cut c.args.cut c.start_recovery.new.world.log.past c.recover.new.world.log.past _ c.recover.new.fuse c.requires.cut refl e.0.burns) e.1
 
 pub returns-in-Stopped-Limit : goal.returns-in-Stopped-Limit
 returns-in-Stopped-Limit c =
     let s = c.start_recovery.ensures.started c.if-not-start_recovery.false in
-    let e = rw c.in-Stopped-Limit.field-0-is at c.in-Stopped-Limit.ensures in
+    let e = rw c.in-Stopped-Limit.field-0-is at c.in-Stopped-Limit.ensures.ends in
     wake_limit c.args.world.now c.start_recovery.new.world c.recover.new.world (Some (c.args.cut.flush - 1)) c.recover.new.fuse s e.0 (Some c.args.cut) c.in-Stopped-Limit.which
     (before_cut c.args.cut c.start_recovery.new.world.log.past c.recover.new.world.log.past _ c.recover.new.fuse c.requires.cut refl e.0.burns) e.1 e.3 e.4
 
 pub returns-in-Stopped-Due : goal.returns-in-Stopped-Due
 returns-in-Stopped-Due c =
     let s = c.start_recovery.ensures.started c.if-not-start_recovery.false in
-    let e = rw c.in-Stopped-Due.field-0-is at c.in-Stopped-Due.ensures in
+    let e = rw c.in-Stopped-Due.field-0-is at c.in-Stopped-Due.ensures.ends in
     let due = wake_due c.args.world.now c.start_recovery.new.world c.recover.new.world (Some (c.args.cut.flush - 1)) c.recover.new.fuse s e.0 c.args.cut c.requires.cut refl e.1 e.4.1 in
     wake_cut c.args.world.now c.start_recovery.new.world c.recover.new.world (Some (c.args.cut.flush - 1)) c.recover.new.fuse s e.0 c.args.cut c.cut_off.result c.cut_off.new.world due
     (subst (λ (w : ℕ). flush_of c.recover.new.world w ≡ true) e.3 e.4.0) c.cut_off.ensures
 
 pub cut_off-requires : goal.cut_off-requires
-cut_off-requires c = record { powered = recovering_is_not_off c.recover.new.world c.in-Stopped-Due.ensures.2 }
+cut_off-requires c = record { powered = recovering_is_not_off c.recover.new.world c.in-Stopped-Due.ensures.ends.2 }

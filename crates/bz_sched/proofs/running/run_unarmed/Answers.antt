@@ -1,6 +1,5 @@
-use Rattle.std.proofs.Common.{◌+◌, ◌*◌, length, refl, sym, ap}
-use Rattle.bz_layout.specs.declared.thresholds.TheConstants.{MARKS_PER_CALL}
-use Rattle.bz_sched.proofs.EnoughLemmas.{at_first}
+use Rattle.std.proofs.Common.{refl}
+use Rattle.bz_sched.proofs.EnoughLemmas.{needed_for, at_first, are_served}
 use Rattle.bz_sched.proofs.RunLemmas.{unarmed_ends, unarmed_limit, unarmed_never}
 use Rattle.bz_sched.proofs.running.run_unarmed.Goals as goal
 
@@ -16,10 +15,10 @@ unreachable-requires c = unarmed_never c.args.plan.now c.args.world.now c.run_pl
 
 pub returns-in-Finished-clause-enough : goal.returns-in-Finished-clause-enough
 returns-in-Finished-clause-enough c = λ none alone closed enough.
-    let ends = c.in-Finished.ensures.enough alone (length c.args.world.now.log.past + MARKS_PER_CALL * length c.args.queue.now.calls) (at_first c.args.world.now c.args.queue.now.calls closed enough) in
-    record { finished = refl; closed = ends.1.awaits.closed; marks = ends.1.awaits.enough }
+    let ends = c.in-Finished.ensures.enough alone (needed_for c.args.world.now c.args.queue.now.calls) (at_first c.args.world.now c.args.queue.now.calls closed enough) in
+    (refl, are_served c.args.world.now c.run_plan.new.world c.args.queue.now c.run_plan.new.queue c.run_plan.new.fuse ends.1)
 
 pub returns-in-Stopped-Limit-clause-enough : goal.returns-in-Stopped-Limit-clause-enough
 returns-in-Stopped-Limit-clause-enough c = λ none alone closed enough.
-    let ends = c.in-Stopped-Limit.ensures.enough alone (length c.args.world.now.log.past + MARKS_PER_CALL * length c.args.queue.now.calls) (at_first c.args.world.now c.args.queue.now.calls closed enough) in
+    let ends = c.in-Stopped-Limit.ensures.enough alone (needed_for c.args.world.now c.args.queue.now.calls) (at_first c.args.world.now c.args.queue.now.calls closed enough) in
     let never = ends.0 in absurd (cc never)

@@ -1,0 +1,66 @@
+-- What a whole script needs, whose runs go one worker after the other, and in which no cut is armed: by the sums of its items.
+use Rattle.std.specs.Prelude.{◌≡◌, ℕ, ◌+◌, ◌*◌, ◌≤◌, if◌then◌else◌, ◌&&◌, Bool, true, false, List, [], ◌∷◌, length, Option, None}
+use Rattle.bz_call.specs.Pages.{is_page}
+use Rattle.bz_call.specs.declared.calls.Call.{Call}
+use Rattle.bz_layout.specs.declared.config.Config.{Config}
+use Rattle.bz_layout.specs.declared.thresholds.TheConstants.{MARKS_PER_CALL, MARKS_PER_POWER_ON}
+use Rattle.bz_mark.specs.Log.{Limits, count_begins, count_page_calls}
+use Rattle.bz_script.specs.declared.item.Item.{Item}
+use Rattle.bz_script.specs.declared.item.Item.TheVariants.{Queue, Arm, Run, Power}
+use Rattle.bz_script.specs.declared.item.Plan.{Plan}
+use Rattle.bz_script.specs.declared.item.Plan.TheVariants.{Alone}
+use Rattle.bz_world.specs.WorldView.{WorldView, recovery_most}
+use Rattle.bz_sched.specs.Enough.{AreClosed, count_pages}
+use Rattle.bz_sched.specs.declared.cut.CutPlan.{CutPlan}
+
+-- the plan goes one worker after the other
+abbrev pub is_alone : Plan → Bool
+is_alone Alone = true
+is_alone other = false
+
+-- the item queues a call, runs by that plan, or turns the power on
+abbrev pub is_plain : Item → Bool
+is_plain (Queue w call) = true
+is_plain (Arm flush seed) = false
+is_plain (Run plan) = is_alone plan
+is_plain Power = true
+
+abbrev pub are_plain : List Item → Bool
+are_plain [] = true
+are_plain (item ∷ items) = is_plain item && are_plain items
+
+-- how many calls an item queues, how many of them ask for a page, and how many marks they take at most, or a power on: the acts of a
+-- recovery, and a few more
+abbrev pub calls_in : Item → ℕ
+calls_in (Queue w call) = 1
+calls_in other = 0
+
+abbrev pub pages_in : Item → ℕ
+pages_in (Queue w call) = if is_page call then 1 else 0
+pages_in other = 0
+
+abbrev pub marks_in : Config → Item → ℕ
+marks_in c (Queue w call) = MARKS_PER_CALL
+marks_in c Power = recovery_most c + MARKS_PER_POWER_ON
+marks_in c other = 0
+
+-- and of all items
+abbrev pub sum_of : (Item → ℕ) → List Item → ℕ
+sum_of count [] = 0
+sum_of count (item ∷ items) = count item + sum_of count items
+
+-- a journal within these limits has room for all of them, of a memory with these numbers
+pub record SufficesFor (c : Config) (limits : Limits) (items : List Item) : Type 0 where
+  pub plain : are_plain items ≡ true
+  pub marks : sum_of (marks_in c) items ≤ limits.marks
+  pub calls : sum_of calls_in items ≤ limits.calls
+  pub pages : sum_of pages_in items ≤ limits.pages
+
+-- so has that of a world in which no call is open, while these calls wait
+pub record Affords (world : WorldView) (waiting : List (ℕ × Call)) (armed : Option CutPlan) (items : List Item) : Type 0 where
+  pub unarmed : armed ≡ None
+  pub closed : AreClosed world.log.past
+  pub plain : are_plain items ≡ true
+  pub marks : length world.log.past + (MARKS_PER_CALL * length waiting + sum_of (marks_in world.config) items) ≤ world.log.limits.marks
+  pub calls : count_begins world.log.past + (length waiting + sum_of calls_in items) ≤ world.log.limits.calls
+  pub pages : count_page_calls world.log.past + (count_pages waiting + sum_of pages_in items) ≤ world.log.limits.pages

@@ -1,0 +1,166 @@
+-- The sums of a script whose runs go one worker after the other: each item leaves enough for those that follow.
+use Rattle.std.proofs.Common.{◌≡◌, ◌≢◌, ℕ, ◌+◌, ◌*◌, ◌<◌, ◌≤◌, ◌&&◌, if◌then◌else◌, Bool, true, false, List, [], ◌∷◌, ◌++◌, length, drop, get_or, refl, sym, ap, subst, ◌∙◌, arith, Option, Some, None}
+use Rattle.std.proofs.lemmas.Bool.{true≢false}
+use Rattle.bz_call.specs.Pages.{is_page}
+use Rattle.bz_call.specs.declared.calls.Call.{Call}
+use Rattle.bz_layout.specs.declared.config.Config.{Config}
+use Rattle.bz_layout.specs.declared.thresholds.TheConstants.{MARKS_PER_CALL}
+use Rattle.bz_mark.specs.Log.{Limits, count_begins, count_page_calls}
+use Rattle.bz_mark.specs.declared.marks.Mark.{Mark}
+use Rattle.bz_script.specs.Order.{takes_no_cut}
+use Rattle.bz_script.specs.declared.item.Item.{Item}
+use Rattle.bz_script.specs.declared.item.Item.TheVariants.{Queue, Arm, Run, Power}
+use Rattle.bz_script.specs.declared.item.Plan.{Plan}
+use Rattle.bz_script.specs.declared.item.Plan.TheVariants.{Alone, List as Listed, Turns, Threads}
+use Rattle.bz_sound.specs.declared.power.Power.{Power as State}
+use Rattle.bz_sound.specs.declared.power.Power.TheVariants as power
+use Rattle.bz_sched.specs.Enough.{AreClosed, count_pages, HasEnough, AreServed, HasComeOn, ComesOn}
+use Rattle.bz_sched.specs.FromWorld.WorldView.{WorldView, power_in}
+use Rattle.bz_sched.specs.Queued.{Queued}
+use Rattle.bz_sched.specs.Runs.{Stays, HasPower}
+use Rattle.bz_sched.specs.Sums.{is_alone, is_plain, are_plain, calls_in, pages_in, marks_in, sum_of, SufficesFor, Affords}
+use Rattle.bz_sched.specs.declared.cut.CutPlan.{CutPlan}
+use Rattle.bz_sched.specs.declared.running.RunEnd.{RunEnd}
+use Rattle.bz_sched.specs.declared.running.RunEnd.TheVariants.{Finished, Cut}
+use Rattle.bz_top.specs.Endings.{items_from}
+use Rattle.bz_top.specs.Items.{HasDone, end_in, left_after}
+use Rattle.bz_top.specs.declared.items.ItemsEnd.{ItemsEnd}
+use Rattle.bz_top.specs.declared.items.ItemsEnd.TheVariants as end
+use Rattle.bz_top.proofs.FollowLemmas.{here_is}
+
+both-plain : (a b : Bool) → (a && b) ≡ true → (a ≡ true) × (b ≡ true)
+both-plain true b e = (refl, e)
+both-plain false b e = absurd (true≢false (sym e))
+
+alone-is : (plan : Plan) → is_alone plan ≡ true → plan ≡ Alone
+alone-is Alone e = refl
+alone-is (Listed turns) e = absurd (true≢false (sym e))
+alone-is (Turns seed) e = absurd (true≢false (sym e))
+alone-is Threads e = absurd (true≢false (sym e))
+
+pub not_on_threads : (plan : Plan) → plan ≡ Alone → takes_no_cut plan ≡ true → ⊥
+not_on_threads plan is takes = true≢false (sym takes ∙ ap takes_no_cut is)
+
+-- the numbers of the memory and the limits are the same
+marks-same : (old new : WorldView) (items : List Item) → new.config ≡ old.config → sum_of (marks_in new.config) items ≡ sum_of (marks_in old.config) items
+marks-same old new items same = ap (λ (c : Config). sum_of (marks_in c) items) same
+
+-- a call is queued
+one-more : (calls : List (ℕ × Call)) (x : ℕ × Call) → length (calls ++ x ∷ []) ≡ length calls + 1
+one-more [] x = refl
+one-more (y ∷ calls) x = omega (arith, one-more calls x)
+
+page-on : (b : Bool) (m n k : ℕ) → m ≡ n + k → (if b then m + 1 else m) ≡ (if b then n + 1 else n) + k
+page-on true m n k e = omega (arith, e)
+page-on false m n k e = e
+
+page-first : (b : Bool) → (if b then 0 + 1 else 0) ≡ 0 + (if b then 1 else 0)
+page-first true = refl
+page-first false = refl
+
+pages-more : (calls : List (ℕ × Call)) (w : ℕ) (call : Call) → count_pages (calls ++ (w, call) ∷ []) ≡ count_pages calls + pages_in (Queue w call)
+pages-more [] w call = page-first (is_page call)
+pages-more (y ∷ calls) w call = page-on (is_page y.1) (count_pages (calls ++ (w, call) ∷ [])) (count_pages calls) (pages_in (Queue w call)) (pages-more calls w call)
+
+pub affords_queued : (world : WorldView) (queue left : Queued) (armed : Option CutPlan) (w : ℕ) (call : Call) (rest : List Item) → left.calls ≡ queue.calls ++ (w, call) ∷ [] → Affords world queue.calls armed (Queue w call ∷ rest) → Affords world left.calls armed rest
+affords_queued world queue left armed w call rest is a = subst (λ (calls : List (ℕ × Call)). Affords world calls armed rest) (sym is) (record {
+  unarmed = a.unarmed;
+  closed = a.closed;
+  plain = a.plain;
+  marks = omega (arith, a.marks, one-more queue.calls (w, call));
+  calls = omega (arith, a.calls, one-more queue.calls (w, call));
+  pages = omega (arith, a.pages, pages-more queue.calls w call);
+})
+
+-- none is armed
+pub never_armed : (world : WorldView) (waiting : List (ℕ × Call)) (armed : Option CutPlan) (flush seed : ℕ) (rest : List Item) → Affords world waiting armed (Arm flush seed ∷ rest) → ⊥
+never_armed world waiting armed flush seed rest a = true≢false (sym a.plain)
+
+-- a run has enough, and leaves it
+pub runs_alone : (world : WorldView) (waiting : List (ℕ × Call)) (armed : Option CutPlan) (plan : Plan) (rest : List Item) → Affords world waiting armed (Run plan ∷ rest) → plan ≡ Alone
+runs_alone world waiting armed plan rest a = alone-is plan (both-plain (is_alone plan) (are_plain rest) a.plain).0
+
+pub has_enough : (world : WorldView) (waiting : List (ℕ × Call)) (armed : Option CutPlan) (plan : Plan) (rest : List Item) → Affords world waiting armed (Run plan ∷ rest) → HasEnough world waiting
+has_enough world waiting armed plan rest a = record { marks = omega (arith, a.marks); calls = omega (arith, a.calls); pages = omega (arith, a.pages) }
+
+pub affords_run : (old new : WorldView) (queue left : Queued) (armed : Option CutPlan) (plan : Plan) (rest : List Item) → Stays old new → AreServed old queue new left → Affords old queue.calls armed (Run plan ∷ rest) → Affords new left.calls None rest
+affords_run old new queue left armed plan rest stays s a = record {
+  unarmed = refl;
+  closed = s.closed;
+  plain = (both-plain (is_alone plan) (are_plain rest) a.plain).1;
+  marks = omega (arith, a.marks, s.marks, marks-same old new rest stays.config, ap (λ (l : Limits). l.marks) stays.limits);
+  calls = omega (arith, a.calls, s.calls, ap (λ (l : Limits). l.calls) stays.limits);
+  pages = omega (arith, a.pages, s.pages, ap (λ (l : Limits). l.pages) stays.limits);
+}
+
+-- so does power on
+pub affords_power : (old new : WorldView) (waiting left : List (ℕ × Call)) (armed : Option CutPlan) (rest : List Item) → left ≡ waiting → Stays old new → HasComeOn old new → Affords old waiting armed (Power ∷ rest) → Affords new left None rest
+affords_power old new waiting left armed rest is stays on a = subst (λ (calls : List (ℕ × Call)). Affords new calls None rest) (sym is) (record {
+  unarmed = refl;
+  closed = on.closed a.closed;
+  plain = a.plain;
+  marks = omega (arith, a.marks, on.marks, marks-same old new rest stays.config, ap (λ (l : Limits). l.marks) stays.limits);
+  calls = omega (arith, a.calls, on.calls, ap (λ (l : Limits). l.calls) stays.limits);
+  pages = omega (arith, a.pages, on.pages, ap (λ (l : Limits). l.pages) stays.limits);
+})
+
+-- at first
+none-open : (past : List Mark) → past ≡ [] → AreClosed past
+none-open past new = subst AreClosed (sym new) (λ v. refl)
+
+pub affords_first : (world : WorldView) (items : List Item) → world.log.past ≡ [] → SufficesFor world.config world.log.limits items → Affords world [] None items
+affords_first world items new s = record {
+  unarmed = refl;
+  closed = none-open world.log.past new;
+  plain = s.plain;
+  marks = omega (arith, s.marks, ap length new);
+  calls = omega (arith, s.calls, ap count_begins new);
+  pages = omega (arith, s.pages, ap count_page_calls new);
+}
+
+-- a script whose sums were beyond the limits of a world is so for the world as it is now
+pub lacks_still : (old new : WorldView) (items : List Item) → Stays old new → (SufficesFor old.config old.log.limits (items_from old.at_start items) → ⊥) → SufficesFor new.config new.log.limits (items_from new.at_start items) → ⊥
+lacks_still old new items stays lacks s =
+    lacks (subst (λ (state : State). SufficesFor old.config old.log.limits (items_from state items)) stays.at_start
+    (subst (λ (limits : Limits). SufficesFor old.config limits (items_from new.at_start items)) stays.limits
+    (subst (λ (c : Config). SufficesFor c new.log.limits (items_from new.at_start items)) stays.config s)))
+
+-- an item was done
+pub run_affords : (old new : WorldView) (queue left : Queued) (armed : Option CutPlan) (plan : Plan) (rest : List Item) (how : ItemsEnd) → Affords old queue.calls armed (Run plan ∷ rest) → HasDone armed old queue (Run plan) how None new left
+    → (armed ≡ None → plan ≡ Alone → AreClosed old.log.past → HasEnough old queue.calls → (how ≡ end.Finished) × AreServed old queue new left) → (how ≡ end.Finished) × Affords new left.calls None rest
+run_affords old new queue left armed plan rest how a done serves =
+    let served = serves a.unarmed (runs_alone old queue.calls armed plan rest a) a.closed (has_enough old queue.calls armed plan rest a) in
+    let whole : HasDone armed old queue (Run plan) end.Finished None new left = subst (λ (e : ItemsEnd). HasDone armed old queue (Run plan) e None new left) served.0 done in
+    (served.0, affords_run old new queue left armed plan rest whole.stays served.1 a)
+
+pub power_affords : (old new : WorldView) (waiting left : List (ℕ × Call)) (armed : Option CutPlan) (rest : List Item) (how : RunEnd) → Affords old waiting armed (Power ∷ rest) → HasPower armed old how new → ComesOn armed old how new → left ≡ left_after how waiting
+    → (end_in how ≡ end.Finished) × Affords new left None rest
+power_affords old new waiting left armed rest how a done comes is =
+    let on = comes a.unarmed (omega (arith, a.marks)) in
+    let whole : HasPower armed old Finished new = subst (λ (e : RunEnd). HasPower armed old e new) on.0 done in
+    (ap end_in on.0, affords_power old new waiting left armed rest (is ∙ ap (λ (e : RunEnd). left_after e waiting) on.0) whole.0 on.1 a)
+
+-- the power is on at first, or comes on
+at-start : (world : WorldView) (state : State) → world.log.past ≡ [] → power_in world ≡ state → world.at_start ≡ state
+at-start world state new is = rw new at is
+
+from-on : (state : State) (items : List Item) → state ≡ power.On → items_from state items ≡ items
+from-on state items is = rw is refl
+
+from-off : (state : State) (items : List Item) → state ≡ power.Off → items_from state items ≡ Power ∷ items
+from-off state items is = rw is refl
+
+pub on_affords : (world : WorldView) (items : List Item) → world.log.past ≡ [] → power_in world ≡ power.On → Affords world [] None (items_from world.at_start items) → Affords world [] None items
+on_affords world items new on a = subst (Affords world [] None) (from-on world.at_start items (at-start world power.On new on)) a
+
+pub off_affords : (old new : WorldView) (items : List Item) (how : RunEnd) → old.log.past ≡ [] → power_in old ≡ power.Off → Affords old [] None (items_from old.at_start items) → HasPower None old how new → ComesOn None old how new → (end_in how ≡ end.Finished) × Affords new [] None items
+off_affords old new items how first off a done comes =
+    power_affords old new [] [] None items how (subst (Affords old [] None) (from-off old.at_start items (at-start old power.Off first off)) a) done comes (none how)
+  where
+    none : (how : RunEnd) → [] ≡ left_after how []
+    none Cut = refl
+    none how = refl
+
+-- the items that are left begin with this one
+pub affords_here : (items : List Item) (i : ℕ) (item : Item) (armed : Option CutPlan) (world : WorldView) (waiting : List (ℕ × Call)) → i < length items → item ≡ get_or items i item → Affords world waiting armed (drop i items) → Affords world waiting armed (item ∷ drop (i + 1) items)
+affords_here items i item armed world waiting lt is a = subst (Affords world waiting armed) (here_is items i item lt is) a
