@@ -26,10 +26,10 @@ steady_at_first world known new = rw new known
 first_point : (world : WorldView) → world.log.past ≡ [] → point_with world [] ≡ at_first
 first_point world new = ap (λ (past : List Mark). record { past = past; queue = [] }) new
 
-from_on : (state : State) (items : List Item) → state ≡ power.On → items_from state items ≡ items
+pub from_on : (state : State) (items : List Item) → state ≡ power.On → items_from state items ≡ items
 from_on state items is = rw is refl
 
-from_off : (state : State) (items : List Item) → state ≡ power.Off → items_from state items ≡ Power ∷ items
+pub from_off : (state : State) (items : List Item) → state ≡ power.Off → items_from state items ≡ Power ∷ items
 from_off state items is = rw is refl
 
 module _ (old : WorldView) (new_world : old.log.past ≡ []) where

@@ -26,6 +26,7 @@ use Rattle.bz_top.specs.Endings.{items_from}
 use Rattle.bz_top.specs.Items.{HasDone, end_in, left_after}
 use Rattle.bz_top.specs.declared.items.ItemsEnd.{ItemsEnd}
 use Rattle.bz_top.specs.declared.items.ItemsEnd.TheVariants as end
+use Rattle.bz_top.proofs.FirstLemmas.{from_on, from_off}
 use Rattle.bz_top.proofs.FollowLemmas.{here_is}
 
 both-plain : (a b : Bool) → (a && b) ≡ true → (a ≡ true) × (b ≡ true)
@@ -144,18 +145,12 @@ power_affords old new waiting left armed rest how a done comes is =
 at-start : (world : WorldView) (state : State) → world.log.past ≡ [] → power_in world ≡ state → world.at_start ≡ state
 at-start world state new is = rw new at is
 
-from-on : (state : State) (items : List Item) → state ≡ power.On → items_from state items ≡ items
-from-on state items is = rw is refl
-
-from-off : (state : State) (items : List Item) → state ≡ power.Off → items_from state items ≡ Power ∷ items
-from-off state items is = rw is refl
-
 pub on_affords : (world : WorldView) (items : List Item) → world.log.past ≡ [] → power_in world ≡ power.On → Affords world [] None (items_from world.at_start items) → Affords world [] None items
-on_affords world items new on a = subst (Affords world [] None) (from-on world.at_start items (at-start world power.On new on)) a
+on_affords world items new on a = subst (Affords world [] None) (from_on world.at_start items (at-start world power.On new on)) a
 
 pub off_affords : (old new : WorldView) (items : List Item) (how : RunEnd) → old.log.past ≡ [] → power_in old ≡ power.Off → Affords old [] None (items_from old.at_start items) → HasPower None old how new → ComesOn None old how new → (end_in how ≡ end.Finished) × Affords new [] None items
 off_affords old new items how first off a done comes =
-    power_affords old new [] [] None items how (subst (Affords old [] None) (from-off old.at_start items (at-start old power.Off first off)) a) done comes (none how)
+    power_affords old new [] [] None items how (subst (Affords old [] None) (from_off old.at_start items (at-start old power.Off first off)) a) done comes (none how)
   where
     none : (how : RunEnd) → [] ≡ left_after how []
     none Cut = refl
