@@ -1,5 +1,5 @@
 -- The End that stands at the end of a journal.
-use Rattle.std.proofs.Common.{◌≡◌, ℕ, ◌<◌, ◌≤◌, ◌⊎◌, ⊎_elim, true, List, [], ◌∷◌, length, get_or, reverse, refl, sym, ap, subst}
+use Rattle.std.proofs.Common.{◌≡◌, ℕ, ◌<◌, ◌≤◌, ⊎_elim, true, List, [], ◌∷◌, get_or, reverse, refl, sym, ap, subst}
 use Rattle.bz_call.specs.Pages.{names_page}
 use Rattle.bz_call.specs.declared.replies.Reply.{Reply}
 use Rattle.bz_index.proofs.Steps.{read_step}

@@ -1,10 +1,9 @@
 -- What a turn of a call that has begun leaves.
-use Rattle.std.proofs.Common.{◌≡◌, ℕ, ◌<◌, ◌≤◌, ◌⊎◌, inl, inr, ⊎_elim, Bool, true, false, List, ◌∷◌, ◌==◌, refl, sym, ap, ◌∙◌, subst, Option, Some, None}
+use Rattle.std.proofs.Common.{◌≡◌, ℕ, ◌<◌, ◌≤◌, inl, inr, ⊎_elim, Bool, true, false, List, ◌∷◌, ◌==◌, refl, sym, ap, ◌∙◌, subst, Option, Some, None}
 use Rattle.std.specs.Prelude.{if◌then◌else◌}
 use borrow.Author.Tests.{eqb-false}
 use Rattle.bz_bus.specs.declared.TheConstants.{PASSES}
 use Rattle.bz_call.specs.declared.calls.Call.{Call}
-use Rattle.bz_call.specs.declared.replies.Reply.{Reply}
 use Rattle.bz_index.proofs.Leaves.{leaves-acted}
 use Rattle.bz_index.proofs.Lists.{marks-told, log-told}
 use Rattle.bz_index.proofs.Runs.{run_acted, replied}

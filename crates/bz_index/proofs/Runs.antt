@@ -1,5 +1,5 @@
 -- A call that has begun goes on from turn to turn.
-use Rattle.std.proofs.Common.{◌≡◌, ℕ, ◌<◌, ◌⊎◌, ⊎_elim, Bool, true, false, List, [], ◌∷◌, ◌++◌, length, append_assoc, refl, sym, ap, ◌∙◌, subst, arith, ◌==◌, Option, Some, None}
+use Rattle.std.proofs.Common.{◌≡◌, ℕ, ◌<◌, ⊎_elim, Bool, true, false, List, [], ◌∷◌, ◌++◌, length, append_assoc, refl, sym, ap, ◌∙◌, subst, arith, ◌==◌, Option, Some, None}
 use Rattle.std.specs.Prelude.{if◌then◌else◌, IsSomeAnd}
 use borrow.Author.Tests.{eqb-false}
 use Rattle.std.proofs.lemmas.List.Elements.{filter-append}

@@ -1,5 +1,5 @@
 -- How a call of an index is answered, told by what its pass had seen and has seen now.
-use Rattle.std.specs.Prelude.{◌≡◌, ◌<◌, ◌≤◌, ◌⊎◌, ℕ, true, List, [], ◌∷◌, ◌++◌, length, nat_le}
+use Rattle.std.specs.Prelude.{◌≡◌, ◌<◌, ◌⊎◌, ℕ, true, List, [], ◌∷◌, ◌++◌, length, nat_le}
 use Rattle.bz_bus.specs.Entries.{Extends, entries_of}
 use Rattle.bz_call.specs.Pages.{names_page}
 use Rattle.bz_call.specs.declared.calls.Call.{Call}
