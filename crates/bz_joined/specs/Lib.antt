@@ -1,3 +1,4 @@
 pub mod Laws
 pub mod Lone
 pub mod FromRounds
+pub mod FromAlone

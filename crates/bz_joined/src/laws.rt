@@ -4,6 +4,10 @@ ghost use Rattle.bz_joined.specs.Laws.{FreezesBesideKeepTheStage, FreezesBesideK
 ghost use Rattle.bz_joined.specs.Lone.{LoneFreezesBesideKeepTheStage, LoneFreezesBesideKeepTheLeaf, LoneOwnFreezesLeaveACopy, MergeSwapsGiveRoom, LoneFreezesFreezeTheLeaf};
 
 use bz_alone::laws as alone;
+pub use bz_alone::laws::{
+    brief_look_ups_go_on, effects_never_fall, gets_are_brief, lone_restarts_are_refusals,
+    loners_go_on, look_ups_are_brief, own_swaps_are_counted, ways_are_brief,
+};
 use bz_content::laws as content;
 use bz_join::laws as join;
 use bz_renew::laws as renew;

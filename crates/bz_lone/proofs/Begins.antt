@@ -1,7 +1,7 @@
 -- A task begins, and a round.
 use Rattle.std.proofs.Common.{◌≡◌, ℕ, ◌+◌, ◌≤◌, false, arith, ap, refl, inl, sym, subst, ◌∙◌}
 use Rattle.std.specs.Prelude.{Option, Some, None}
-use Rattle.bz_alone.specs.Alone.{IsAlone}
+use Rattle.bz_joined.specs.FromAlone.Alone.{IsAlone}
 use Rattle.bz_call.specs.declared.calls.Call.{Call}
 use Rattle.bz_call.specs.declared.calls.Call.TheVariants as call
 use Rattle.bz_costs.specs.Laws.{TasksWeighLittle}

@@ -1,7 +1,7 @@
 -- At the end of a task.
 use Rattle.std.proofs.Common.{◌≡◌, ◌≢◌, ℕ, ◌+◌, ◌≤◌, true, false, arith, inl, inr, subst}
 use Rattle.std.specs.Prelude.{◌*◌, Bool, Some}
-use Rattle.bz_alone.specs.Alone.{IsAlone}
+use Rattle.bz_joined.specs.FromAlone.Alone.{IsAlone}
 use Rattle.bz_costs.specs.Stretches.{lone_stretch}
 use Rattle.bz_rivals.specs.Rivals.{rivals}
 use Rattle.bz_running.specs.Duties.{end_of}

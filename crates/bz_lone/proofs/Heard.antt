@@ -1,7 +1,7 @@
 -- What a task is told lowers its weight by what the start of its next act is allowed; and the round stays what it is.
 use Rattle.std.proofs.Common.{◌≡◌, ◌≢◌, ◌⊎◌, ℕ, ◌+◌, ◌*◌, ◌<◌, ◌≤◌, true, false, Option, Some, None, IsSome, arith, refl, sym, ap, subst, ◌∙◌, inl, inr}
 use Rattle.bz_ascent.specs.declared.ascent.Ascent.{Ascent}
-use Rattle.bz_alone.specs.Alone.{IsAlone}
+use Rattle.bz_joined.specs.FromAlone.Alone.{IsAlone}
 use Rattle.bz_costs.specs.Laws.{AskedSwapsAreCounted, HearingIsPaid}
 use Rattle.bz_costs.specs.Weights.{start_allows, weigh, weight}
 use Rattle.bz_costs.specs.Stretches.{lone_stretch}

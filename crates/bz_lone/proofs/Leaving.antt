@@ -1,7 +1,7 @@
 -- What the end of a task leaves: the next round is paid for.
 use Rattle.std.proofs.Common.{◌≡◌, ℕ, ◌+◌, ◌*◌, ◌≤◌, Bool, true, false, true≢false, arith, ap, refl, sym, subst, inl, inr, ◌∙◌}
 use Rattle.std.specs.Prelude.{Some, if◌then◌else◌, nat_lt}
-use Rattle.bz_alone.specs.Alone.{IsAlone}
+use Rattle.bz_joined.specs.FromAlone.Alone.{IsAlone}
 use Rattle.bz_call.specs.Map.{key_of}
 use Rattle.bz_call.specs.declared.calls.Call.{Call}
 use Rattle.bz_call.specs.declared.calls.Call.TheVariants as call

@@ -2,8 +2,8 @@
 use Rattle.std.proofs.Common.{◌≡◌, ◌⊎◌, ℕ, ◌+◌, ◌*◌, ◌<◌, ◌≤◌, Bool, true, false, List, Some, arith, refl, sym, ap, subst, ◌∙◌, inl, inr, if◌then◌else◌}
 use Rattle.std.specs.Prelude.{None}
 use Rattle.std.proofs.lemmas.Bool.{cases_lt}
-use Rattle.bz_alone.specs.Alone.{IsAlone}
-use Rattle.bz_alone.specs.Tasks.{LonersGoOn}
+use Rattle.bz_joined.specs.FromAlone.Alone.{IsAlone}
+use Rattle.bz_joined.specs.FromAlone.Tasks.{LonersGoOn}
 use Rattle.bz_call.specs.Map.{key_of}
 use Rattle.bz_content.specs.Content.{image_of}
 use Rattle.bz_costs.specs.Laws.{AskedSwapsAreCounted}

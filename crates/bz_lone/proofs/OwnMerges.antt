@@ -1,7 +1,7 @@
 -- The own swap of a merge that stands in the place of a copy: the freeze of the neighbour, which leaves the key's leaf as it is, or the last one,
 -- after which the leaf has room.
 use Rattle.std.proofs.Common.{◌≡◌, ◌⊎◌, ℕ, ◌+◌, ◌≤◌, true, false, List, Some, arith, refl, sym, ap, subst, ◌∙◌, inl, inr}
-use Rattle.bz_alone.specs.Alone.{IsAlone}
+use Rattle.bz_joined.specs.FromAlone.Alone.{IsAlone}
 use Rattle.bz_content.specs.Content.{image_of}
 use Rattle.bz_joined.specs.Lone.{LoneFreezesBesideKeepTheLeaf, MergeSwapsGiveRoom}
 use Rattle.bz_layout.specs.declared.config.Config.{Config}

@@ -1,7 +1,7 @@
 -- A leaf that was read whole and lacks room: its freeze, its copy, its split or its merge is paid for.
 use Rattle.std.proofs.Common.{◌≡◌, ℕ, ◌+◌, ◌-◌, ◌<◌, ◌≤◌, min, Bool, true, false, arith, ap, subst, ◌∙◌}
 use Rattle.std.specs.Prelude.{if◌then◌else◌}
-use Rattle.bz_alone.specs.Alone.{IsAlone}
+use Rattle.bz_joined.specs.FromAlone.Alone.{IsAlone}
 use Rattle.bz_call.specs.Map.{key_of}
 use Rattle.bz_content.specs.Content.{image_of}
 use Rattle.bz_costs.specs.Costs.{RoundsArePaid}

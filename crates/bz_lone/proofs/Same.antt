@@ -1,8 +1,8 @@
 -- One mark later, where no swap took effect: the key's leaf is frozen and crowded or not as it was, and the stage is the same. So the prices are.
 use Rattle.std.proofs.Common.{◌≡◌, ℕ, ◌+◌, ◌-◌, if◌then◌else◌, ◌&&◌, Bool, true, List, arith, ap, ◌∙◌}
 use Rattle.std.specs.Prelude.{not, nat_lt}
-use Rattle.bz_alone.specs.Alone.{IsAlone}
-use Rattle.bz_alone.specs.Counts.{Adds}
+use Rattle.bz_joined.specs.FromAlone.Alone.{IsAlone}
+use Rattle.bz_joined.specs.FromAlone.Counts.{Adds}
 use Rattle.bz_content.specs.Content.{image_of}
 use Rattle.bz_costs.specs.Most.{most_of_copy}
 use Rattle.bz_costs.specs.Splits.{cost_after_below, cost_after_inner}

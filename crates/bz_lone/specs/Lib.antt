@@ -7,3 +7,4 @@ pub mod Rounds
 pub mod Renewals
 pub mod FromRounds
 pub mod FromCosts
+pub mod FromAlone

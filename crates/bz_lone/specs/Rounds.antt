@@ -1,6 +1,6 @@
 -- What comes after a task is paid for by what it has left: the next task of the round, or the next round.
 use Rattle.std.specs.Prelude.{◌≡◌, ◌≢◌, ◌⊎◌, ℕ, ◌+◌, ◌<◌, ◌≤◌, true, false, None, Some}
-use Rattle.bz_alone.specs.Alone.{IsAlone}
+use Rattle.bz_joined.specs.FromAlone.Alone.{IsAlone}
 use Rattle.bz_call.specs.Map.{key_of}
 use Rattle.bz_costs.specs.Most.{most_of, most_of_find, most_of_leaf, IsWithinItsActs}
 use Rattle.bz_descend.specs.SeekFacts.{seek_reads}

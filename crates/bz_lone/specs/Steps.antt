@@ -1,7 +1,7 @@
 -- What a worker's steps, what its task is told and what it starts, make of the number: it is paid for by what they take.
 use Rattle.std.specs.Prelude.{◌≡◌, ◌≢◌, ℕ, ◌+◌, ◌-◌, ◌<◌, ◌≤◌, if◌then◌else◌, Bool, true, false, List, length, Some}
-use Rattle.bz_alone.specs.Alone.{IsAlone}
-use Rattle.bz_alone.specs.Counts.{Adds}
+use Rattle.bz_joined.specs.FromAlone.Alone.{IsAlone}
+use Rattle.bz_joined.specs.FromAlone.Counts.{Adds}
 use Rattle.bz_costs.specs.Lone.{begin_marks, lone_most}
 use Rattle.bz_costs.specs.Most.{IsWithinItsActs}
 use Rattle.bz_costs.specs.Weights.{start_allows}

@@ -1,7 +1,7 @@
 -- The one number that falls: how many marks are left to a worker that steps alone, of those by which its call is to end, and what its task and
 -- all that may come after it may still take of them.
 use Rattle.std.specs.Prelude.{◌≡◌, ◌≢◌, ◌⊎◌, ℕ, ◌+◌, ◌*◌, ◌≤◌, if◌then◌else◌, true, false, Option, Some, None}
-use Rattle.bz_alone.specs.Alone.{IsAlone}
+use Rattle.bz_joined.specs.FromAlone.Alone.{IsAlone}
 use Rattle.bz_call.specs.Map.{key_of}
 use Rattle.bz_content.specs.Content.{image_of}
 use Rattle.bz_costs.specs.Stretches.{lone_stretch}

@@ -4,13 +4,14 @@ ghost use Rattle.bz_lone.specs.Renewals.{RenewalsArePaid, AscentsArePaid};
 ghost use Rattle.bz_lone.specs.Rounds.{LessIsSpared, EndsAreAfforded, EndsArePaid, WaysArePaid, ChangesArePaid, LeavesAreRead, ReadLeavesArePaid, TasksMayBegin, RoundsBegin, DisturbedRoundsArePaid, EndsLeaveARound};
 ghost use Rattle.bz_lone.specs.Steps.{AnyCallIsPaid, AnyRoundIsPaid, FirstRoundsArePaid, QuietStepsArePaid, ForeignEffectsArePaid, EffectMarksArePaid, LessIsPaid, OwnEffectsArePaid, HearingsArePaid, StartsArePaid};
 
-use bz_alone::laws as alone;
 use bz_costs::laws as costs;
 pub use bz_costs::laws::{asked_swaps_are_counted, lone_calls_are_affordable};
 use bz_joined::laws as joined;
 pub use bz_joined::laws::{
-    lone_ascents_are_below_the_stage, lone_ascents_are_due, lone_key_views_tell_the_stage,
-    lone_leaves_are_due, lone_views_tell_the_leaf, lone_views_tell_the_stage,
+    brief_look_ups_go_on, effects_never_fall, gets_are_brief, lone_ascents_are_below_the_stage,
+    lone_ascents_are_due, lone_key_views_tell_the_stage, lone_leaves_are_due,
+    lone_restarts_are_refusals, lone_views_tell_the_leaf, lone_views_tell_the_stage, loners_go_on,
+    look_ups_are_brief, own_swaps_are_counted, ways_are_brief,
 };
 use bz_rivals::laws as rivals;
 use bz_swap::laws as swap;
@@ -76,7 +77,7 @@ pub fn less_is_paid()
 pub fn own_effects_are_paid()
     ensures { OwnEffectsArePaid }
 {
-    alone::loners_go_on();
+    joined::loners_go_on();
     costs::asked_swaps_are_counted();
     costs::higher_stages_cost_more();
     costs::rounds_are_paid();

@@ -5,7 +5,7 @@ use Rattle.std.specs.Prelude.{get_or}
 use Rattle.std.proofs.lemmas.Bool.{true≢false}
 use Rattle.std.proofs.lemmas.List.Elements.{All-from_get_or, All-get_or, All-same}
 use Rattle.bz_acts.specs.declared.acted.Act.{Act}
-use Rattle.bz_alone.specs.Counts.{HasOthers, OwnSwapsAreCounted}
+use Rattle.bz_lone.specs.FromAlone.Counts.{HasOthers, OwnSwapsAreCounted}
 use Rattle.bz_layout.specs.declared.config.Config.{Config}
 use Rattle.bz_machine.specs.declared.done.Done.{Done}
 use Rattle.bz_mark.specs.declared.marks.Mark.{Mark}

@@ -2,7 +2,7 @@
 use Rattle.std.proofs.Common.{◌≡◌, ℕ, zero, suc, ◌*◌, ◌<◌, ◌≤◌, ◌&&◌, if◌then◌else◌, ◌==◌, true, false, List, ◌∷◌, length, arith, refl, sym, ap, subst, ◌∙◌, Option, Some, None}
 use Rattle.std.proofs.lemmas.Bool.{true≢false}
 use Rattle.std.proofs.lemmas.Bool.Decides.{nat_tests}
-use Rattle.bz_alone.specs.Reads.{get_reads}
+use Rattle.bz_lone.specs.FromAlone.Reads.{get_reads}
 use Rattle.bz_call.specs.Map.{key_of}
 use Rattle.bz_call.specs.Pages.{is_from, is_page}
 use Rattle.bz_call.specs.declared.calls.Call.{Call}

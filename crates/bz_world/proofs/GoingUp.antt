@@ -1,7 +1,7 @@
 -- A call that gets a split on the way up from its leaf.
 use Rattle.std.proofs.Common.{◌≡◌, ◌≢◌, ◌⊎◌, ℕ, ◌+◌, ◌-◌, ◌<◌, ◌≤◌, slice_get, true, false, List, arith, refl, sym, ap, subst, ◌∙◌, inl, inr, Some, None, is_some}
 use Rattle.std.proofs.lemmas.Bool.{true≢false}
-use Rattle.bz_alone.specs.Alone.{IsAlone}
+use Rattle.bz_lone.specs.FromAlone.Alone.{IsAlone}
 use Rattle.bz_ascent.specs.Ascents.{IsAscent, IsOneUp}
 use Rattle.bz_ascent.specs.declared.ascent.Ascent.{Ascent}
 use Rattle.bz_call.specs.Map.{key_of}

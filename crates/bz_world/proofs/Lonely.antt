@@ -5,8 +5,8 @@ use Rattle.std.proofs.lemmas.Bool.{cases_eq}
 use Rattle.std.proofs.lemmas.Bool.Decides.{nat_tests}
 use Rattle.bz_acts.specs.declared.acted.Act.{Act}
 use Rattle.bz_acts.specs.declared.acted.Act.TheVariants as act
-use Rattle.bz_alone.specs.Brief.{AllIdle, LooksFor}
-use Rattle.bz_alone.specs.Quiet.{EffectsNeverFall}
+use Rattle.bz_lone.specs.FromAlone.Brief.{AllIdle, LooksFor}
+use Rattle.bz_lone.specs.FromAlone.Quiet.{EffectsNeverFall}
 use Rattle.bz_layout.specs.declared.config.Config.{Config}
 use Rattle.bz_mark.specs.Log.{Log}
 use Rattle.bz_mark.specs.declared.marks.Mark.{Mark}

@@ -3,7 +3,7 @@ use Rattle.std.proofs.Common.{◌≡◌, ℕ, ◌<◌, Bool, ◌∷◌, length, 
 use Rattle.std.specs.Prelude.{get_or}
 use Rattle.std.proofs.lemmas.Bool.{cases_eq}
 use Rattle.bz_acts.specs.declared.acted.Act.{Act}
-use Rattle.bz_alone.specs.Brief.{IsBrief}
+use Rattle.bz_lone.specs.FromAlone.Brief.{IsBrief}
 use Rattle.bz_machine.specs.declared.done.Done.{Done}
 use Rattle.bz_mark.specs.declared.marks.Mark.TheVariants.{Evict}
 use Rattle.bz_sight.specs.Sight.{next_instant}

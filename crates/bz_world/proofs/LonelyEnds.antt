@@ -1,9 +1,9 @@
 -- A lonely get whose look-up has ended.
 use Rattle.std.proofs.Common.{◌≡◌, ◌≢◌, ℕ, ◌*◌, ◌≤◌, length, arith, refl, sym, ap, subst, ◌∙◌, List, ◌∷◌, Option, Some, None}
 use Rattle.std.specs.Prelude.{get_or}
-use Rattle.bz_alone.specs.Alone.{IsAlone}
-use Rattle.bz_alone.specs.Brief.{IsBrief, LooksFor}
-use Rattle.bz_alone.specs.Reads.{get_reads}
+use Rattle.bz_lone.specs.FromAlone.Alone.{IsAlone}
+use Rattle.bz_lone.specs.FromAlone.Brief.{IsBrief, LooksFor}
+use Rattle.bz_lone.specs.FromAlone.Reads.{get_reads}
 use Rattle.bz_call.specs.Map.{key_of}
 use Rattle.bz_call.specs.declared.calls.Call.TheVariants as call
 use Rattle.bz_call.specs.declared.replies.Reply.{Reply}

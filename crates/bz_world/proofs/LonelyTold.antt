@@ -1,7 +1,7 @@
 -- A lonely get whose task is told what it read.
 use Rattle.std.proofs.Common.{◌≡◌, ◌≢◌, ℕ, length, arith, refl, sym, ap, subst, ◌∙◌, List, Option, Some}
-use Rattle.bz_alone.specs.Alone.{IsAlone}
-use Rattle.bz_alone.specs.Brief.{IsBrief}
+use Rattle.bz_lone.specs.FromAlone.Alone.{IsAlone}
+use Rattle.bz_lone.specs.FromAlone.Brief.{IsBrief}
 use Rattle.bz_layout.specs.Slots.{FreeSlots}
 use Rattle.bz_mark.specs.declared.marks.Mark.{Mark}
 use Rattle.bz_running.specs.Duties.{asks_of, end_of, facts_of}

@@ -14,7 +14,7 @@ use Rattle.bz_task.specs.Outcomes.{IsView}
 use Rattle.bz_task.specs.declared.view.LeafView.{LeafView}
 use Rattle.bz_word.specs.Statuses.{status}
 use Rattle.bz_world.specs.Inside.Room.{LacksRoomFor, HasRoomFor}
-use Rattle.bz_alone.specs.Alone.{IsAlone}
+use Rattle.bz_lone.specs.FromAlone.Alone.{IsAlone}
 use Rattle.bz_call.specs.declared.replies.Spent.{Spent}
 use Rattle.bz_call.specs.declared.calls.Call.{Call}
 use Rattle.bz_call.specs.declared.calls.Call.TheVariants as call

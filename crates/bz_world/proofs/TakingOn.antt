@@ -11,7 +11,7 @@ use Rattle.bz_call.specs.declared.replies.Reply.TheVariants as reply
 use Rattle.bz_layout.specs.declared.thresholds.TheConstants.{SPLIT_SLOTS}
 use Rattle.bz_mark.specs.declared.marks.Mark.{Mark}
 use Rattle.bz_mark.specs.declared.marks.Mark.TheVariants.{End}
-use Rattle.bz_alone.specs.Counts.{HasOthers}
+use Rattle.bz_lone.specs.FromAlone.Counts.{HasOthers}
 use Rattle.bz_running.specs.Duties.{config_of, asks_of, end_of, made_of, needs_of, wants_of, facts_of, means_of, makes_no_change}
 use Rattle.bz_running.specs.Hearing.{IsLookup}
 use Rattle.bz_running.specs.Laws.{AreLaws}
@@ -41,7 +41,7 @@ use Rattle.bz_world.specs.Inside.Beginning.{supply_of}
 use Rattle.bz_world.specs.Inside.Kept.{IsAwake}
 use Rattle.bz_world.specs.Inside.Laws.{AloneLaws}
 use Rattle.bz_world.specs.Inside.Lonely.{WhereLonely, IsNotLonely, IsNotLonelyIn, IsLonelyGet, HasLooked, AsksBriefly}
-use Rattle.bz_alone.specs.Alone.{IsAlone}
+use Rattle.bz_lone.specs.FromAlone.Alone.{IsAlone}
 use Rattle.bz_lone.specs.FromCosts.Weights.{start_allows}
 use Rattle.bz_layout.specs.declared.config.Config.{Config}
 use Rattle.bz_lone.specs.FromCosts.Most.{most_of_leaf}

@@ -9,7 +9,7 @@ use Rattle.bz_call.specs.Map.{key_of}
 use Rattle.bz_call.specs.declared.replies.Spent.TheVariants.{Nodes, Swaps}
 use Rattle.bz_layout.specs.Slots.{FreeSlots}
 use Rattle.bz_layout.specs.declared.config.Config.{Config}
-use Rattle.bz_alone.specs.Alone.{IsAlone}
+use Rattle.bz_lone.specs.FromAlone.Alone.{IsAlone}
 use Rattle.bz_running.specs.Duties.{asks_of, end_of, made_of, needs_of, facts_of, differs_of}
 use Rattle.bz_running.specs.Hearing.{IsLookup, HasHeard}
 use Rattle.bz_running.specs.declared.running.AnyTask.{AnyTask}

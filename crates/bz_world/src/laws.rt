@@ -1,7 +1,6 @@
 //! The laws on which the world's acts stand, from the crates below. Each function does nothing.
 ghost use Rattle.bz_world.specs.Inside.Laws.{AloneLaws, BegunLaws, LonelyLaws, PaidLaws, RoundLaws, StepLaws, StrikeLaws, StartLaws, EndLaws, AnswerLaws};
 
-use bz_alone::laws as alone;
 use bz_lone::laws as lone;
 use bz_rivals::laws as rivals;
 use bz_sight::laws as sight;
@@ -24,11 +23,11 @@ pub(crate) fn lonely_laws()
     ensures { LonelyLaws }
 {
     sound::lonely_calls_are_alone();
-    alone::look_ups_are_brief();
-    alone::ways_are_brief();
-    alone::brief_look_ups_go_on();
-    alone::gets_are_brief();
-    alone::effects_never_fall();
+    lone::look_ups_are_brief();
+    lone::ways_are_brief();
+    lone::brief_look_ups_go_on();
+    lone::gets_are_brief();
+    lone::effects_never_fall();
     story::scenes_are_seen();
 }
 
@@ -83,9 +82,9 @@ pub(crate) fn round_laws()
 pub(crate) fn alone_laws()
     ensures { AloneLaws }
 {
-    alone::own_swaps_are_counted();
-    alone::loners_go_on();
-    alone::lone_restarts_are_refusals();
+    lone::own_swaps_are_counted();
+    lone::loners_go_on();
+    lone::lone_restarts_are_refusals();
     rivals::own_swaps_win();
     rivals::expected_stand();
     story::scenes_are_seen();

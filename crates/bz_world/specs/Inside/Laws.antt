@@ -1,9 +1,9 @@
 -- The laws of the crates below on which the world's acts stand.
-use Rattle.bz_alone.specs.Brief.{LookUpsAreBrief, WaysAreBrief, BriefLookUpsGoOn, GetsAreBrief}
-use Rattle.bz_alone.specs.Counts.{OwnSwapsAreCounted}
-use Rattle.bz_alone.specs.Quiet.{EffectsNeverFall}
-use Rattle.bz_alone.specs.Restarts.{LoneRestartsAreRefusals}
-use Rattle.bz_alone.specs.Tasks.{LonersGoOn}
+use Rattle.bz_lone.specs.FromAlone.Brief.{LookUpsAreBrief, WaysAreBrief, BriefLookUpsGoOn, GetsAreBrief}
+use Rattle.bz_lone.specs.FromAlone.Counts.{OwnSwapsAreCounted}
+use Rattle.bz_lone.specs.FromAlone.Quiet.{EffectsNeverFall}
+use Rattle.bz_lone.specs.FromAlone.Restarts.{LoneRestartsAreRefusals}
+use Rattle.bz_lone.specs.FromAlone.Tasks.{LonersGoOn}
 use Rattle.bz_lone.specs.FromCosts.Costs.{LoneCallsAreAffordable}
 use Rattle.bz_lone.specs.FromCosts.Laws.{AskedSwapsAreCounted}
 use Rattle.bz_lone.specs.Renewals.{RenewalsArePaid, AscentsArePaid}

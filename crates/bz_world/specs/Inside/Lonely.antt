@@ -1,6 +1,6 @@
 -- A lonely get, as it is served: it is made while no other call is open, so no swap takes effect beside it, and its acts are few.
 use Rattle.std.specs.Prelude.{◌≡◌, ◌≢◌, ℕ, suc, false, List, length, get_or, Option, Some, None}
-use Rattle.bz_alone.specs.Brief.{IsBrief}
+use Rattle.bz_lone.specs.FromAlone.Brief.{IsBrief}
 use Rattle.bz_call.specs.declared.calls.Call.{Call}
 use Rattle.bz_call.specs.declared.calls.Call.TheVariants as call
 use Rattle.bz_mark.specs.declared.marks.Mark.{Mark}

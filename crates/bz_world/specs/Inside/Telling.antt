@@ -4,7 +4,7 @@ use Rattle.bz_call.specs.Map.{key_of}
 use Rattle.bz_layout.specs.Slots.{FreeSlots}
 use Rattle.bz_running.specs.Duties.{config_of, asks_of, needs_of, facts_of, means_of, makes_no_change}
 use Rattle.bz_running.specs.Hearing.{HasHeard}
-use Rattle.bz_alone.specs.Alone.{IsAlone}
+use Rattle.bz_lone.specs.FromAlone.Alone.{IsAlone}
 use Rattle.bz_lone.specs.Prices.{coming}
 use Rattle.bz_lone.specs.Rounds.{stage_now}
 use Rattle.bz_running.specs.Kinds as kinds

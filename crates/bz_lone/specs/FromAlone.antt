@@ -1,0 +1,8 @@
+-- What crates above take of bz_alone by this one.
+pub use Rattle.bz_joined.specs.FromAlone.Alone
+pub use Rattle.bz_joined.specs.FromAlone.Brief
+pub use Rattle.bz_joined.specs.FromAlone.Counts
+pub use Rattle.bz_joined.specs.FromAlone.Quiet
+pub use Rattle.bz_joined.specs.FromAlone.Reads
+pub use Rattle.bz_joined.specs.FromAlone.Restarts
+pub use Rattle.bz_joined.specs.FromAlone.Tasks
