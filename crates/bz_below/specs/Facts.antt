@@ -92,11 +92,11 @@ below_acts = below_waits + below_once
 abbrev pub below_fails : ℕ
 below_fails = 2
 
--- the most swaps that are still asked for: that of the link to the parent, until it has ended
+-- the most swaps that are still asked for: that of the link to the parent, until it has ended. Where it ended for want of room it has not
+-- asked for it
 abbrev pub below_swaps : Phase → ℕ
 below_swaps Done = 0
 below_swaps Restart = 0
-below_swaps NoRoom = 0
 below_swaps NoSlot = 0
 below_swaps NoSwap = 0
 below_swaps phase = 1
@@ -115,13 +115,14 @@ below_left Named = 2
 below_left Swap = 1
 below_left phase = 0
 
--- the slots are taken when both guards have been looked at again
+-- the slots are taken when both guards have been looked at again: none where it ended for want of room
 abbrev pub below_needs : Phase → ℕ
 below_needs Fresh = SPLIT_SLOTS
 below_needs Room = SPLIT_SLOTS
 below_needs (Word i) = SPLIT_SLOTS
 below_needs Again = SPLIT_SLOTS
 below_needs Guard = SPLIT_SLOTS
+below_needs NoRoom = SPLIT_SLOTS
 below_needs phase = 0
 
 -- after a word comes the next one that is read, or the parent's status once more

@@ -9,4 +9,4 @@ weights-are-told = record { seek = refl; find = refl; leaf = refl; insert = refl
 
 pub costs-are-told : CostsAreTold
 unfolding digits_in
-costs-are-told = record { last_round = refl; one_more = refl; two_more = refl; top = refl; rest = refl; stretch = refl; one = refl; eight = refl; most = refl }
+costs-are-told = record { last_round = refl; one_more = refl; two_more = refl; top = refl; rest = refl; stretch = refl; descriptors = refl; slots = refl; one = refl; eight = refl; most = refl }

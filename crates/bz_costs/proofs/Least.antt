@@ -1,23 +1,25 @@
--- No task has more acts left, or more swaps among them, than at its begin.
+-- No task has more acts left, more swaps among them, or more slots to take, than at its begin.
 use Rattle.std.proofs.Common.{ℕ, ◌-◌, ◌≤◌, Bool, true, false, arith}
-use Rattle.bz_below.specs.Facts.{below_swaps}
-use Rattle.bz_consol.specs.Facts.{consol_acts, consol_left, consol_swaps}
-use Rattle.bz_crown.specs.Facts.{crown_acts, crown_left, crown_swaps}
+use Rattle.bz_below.specs.Facts.{below_needs, below_swaps}
+use Rattle.bz_consol.specs.Facts.{consol_acts, consol_left, consol_needs, consol_swaps}
+use Rattle.bz_crown.specs.Facts.{crown_acts, crown_left, crown_needs, crown_swaps}
 use Rattle.bz_descend.specs.SeekFacts.{asks_one}
 use Rattle.bz_find.specs.Phases.{reads_of}
-use Rattle.bz_fork.specs.Facts.{fork_acts, fork_left, fork_swaps}
+use Rattle.bz_fork.specs.Facts.{fork_acts, fork_left, fork_needs, fork_swaps}
 use Rattle.bz_freeze.specs.Facts.{freeze_left, freeze_swaps}
 use Rattle.bz_insert.specs.Facts.{insert_acts, insert_left, insert_swaps}
 use Rattle.bz_layout.specs.declared.swaps.TheConstants.{DELETE_SWAPS, FREEZE_SWAPS, INSERT_SWAPS, MERGE_SWAPS, RENEWAL_SWAPS, UPDATE_SWAPS}
+use Rattle.bz_layout.specs.declared.thresholds.TheConstants.{CONSOLIDATION_SLOTS, MERGE_SLOTS, SPLIT_SLOTS}
 use Rattle.bz_leaf.specs.Facts.{leaf_acts, leaf_left}
 use Rattle.bz_merge.specs.Counts.{merge_swaps}
-use Rattle.bz_merge.specs.Facts.{merge_acts, merge_left}
+use Rattle.bz_merge.specs.Facts.{merge_acts, merge_left, merge_needs}
 use Rattle.bz_mutate.specs.DeleteFacts.{delete_left, delete_swaps}
 use Rattle.bz_mutate.specs.UpdateFacts.{update_acts, update_left, update_swaps}
-use Rattle.bz_split.specs.Facts.{split_acts, split_left, split_swaps}
-use Rattle.bz_running.specs.Duties.{asks_of, left_of, swaps_of}
+use Rattle.bz_split.specs.Facts.{split_acts, split_left, split_needs, split_swaps}
+use Rattle.bz_running.specs.Duties.{asks_of, left_of, needs_of, swaps_of}
 use Rattle.bz_running.specs.declared.running.AnyTask.TheVariants.{Seeking, Finding, Reading, Inserting, Updating, Deleting, Freezing, Consolidating, Splitting, SplittingBelow, SplittingInner, SplittingInnerRoot, Merging}
-use Rattle.bz_costs.specs.Laws.{ActsAndSwapsWeigh, TasksWeighLittle}
+use Rattle.bz_costs.specs.Resources.{Resource, Marks, Descriptors, Slots}
+use Rattle.bz_costs.specs.Laws.{TasksWeighLittle}
 use Rattle.bz_costs.specs.Weights.{weight}
 use Rattle.bz_descend.specs.declared.sight.Way.{Way as SeekPhase}
 use Rattle.bz_descend.specs.declared.sight.Way.TheVariants as seek
@@ -137,25 +139,51 @@ merge-swaps : (p : MergePhase) → merge_swaps p ≤ MERGE_SWAPS
 merge-swaps merge.Fresh = omega arith
 merge-swaps p = omega arith
 
--- fewer acts and fewer swaps weigh less, also where one swap is not counted any more
-lighter : (acts most swaps all now : ℕ) → acts ≤ most → swaps ≤ all → weight acts (swaps - now) ≤ weight most all
-lighter acts most swaps all now l s = omega (arith, l, s)
+none : 0 ≤ 0
+none = omega arith
 
-pub acts-weigh : ActsAndSwapsWeigh
-acts-weigh t acts swaps l s = omega (arith, l, s)
+consol-needs : (p : ConsolPhase) → consol_needs p ≤ CONSOLIDATION_SLOTS
+consol-needs consol.Fresh = omega arith
+consol-needs p = omega arith
 
-pub weigh-little : TasksWeighLittle
-unfolding asks_of left_of swaps_of
-weigh-little (Seeking t) w = omega (arith, seek-one t.phase)
-weigh-little (Finding t) w = omega (arith, find-one t.phase)
-weigh-little (Reading t) w = omega (arith, leaf-few t.phase)
-weigh-little (Inserting t) w = lighter _ _ _ _ _ (insert-few t.phase) (insert-swaps t.phase)
-weigh-little (Updating t) w = lighter _ _ _ _ _ (update-few t.phase) (update-swaps t.phase)
-weigh-little (Deleting t) w = lighter _ _ _ _ _ (delete-few t.phase) (delete-swaps t.phase)
-weigh-little (Freezing t) w = lighter _ _ _ _ _ (freeze-few t.phase) (freeze-swaps t.phase)
-weigh-little (Consolidating t) w = lighter _ _ _ _ _ (consol-few t.phase) (consol-swaps t.phase)
-weigh-little (Splitting t) w = lighter _ _ _ _ _ (split-few t.phase) (split-swaps t.phase)
-weigh-little (SplittingBelow t a) w = lighter _ _ _ _ _ w (below-swaps t.phase)
-weigh-little (SplittingInner t a) w = lighter _ _ _ _ _ (fork-few t.phase) (fork-swaps t.phase)
-weigh-little (SplittingInnerRoot t a) w = lighter _ _ _ _ _ (crown-few t.phase) (crown-swaps t.phase)
-weigh-little (Merging t) w = lighter _ _ _ _ _ (merge-few t.side.right t.phase) (merge-swaps t.phase)
+split-needs : (p : SplitPhase) → split_needs p ≤ SPLIT_SLOTS
+split-needs split.Fresh = omega arith
+split-needs p = omega arith
+
+below-needs : (p : BelowPhase) → below_needs p ≤ SPLIT_SLOTS
+below-needs below.Fresh = omega arith
+below-needs p = omega arith
+
+crown-needs : (p : CrownPhase) → crown_needs p ≤ SPLIT_SLOTS
+crown-needs crown.Fresh = omega arith
+crown-needs p = omega arith
+
+fork-needs : (p : ForkPhase) → fork_needs p ≤ SPLIT_SLOTS
+fork-needs fork.Fresh = omega arith
+fork-needs p = omega arith
+
+merge-needs : (p : MergePhase) → merge_needs p ≤ MERGE_SLOTS
+merge-needs merge.Fresh = omega arith
+merge-needs p = omega arith
+
+-- fewer acts, swaps and slots weigh less, also where one swap is not counted any more
+lighter : (r : Resource) (acts most swaps all now slots needs : ℕ) → acts ≤ most → swaps ≤ all → needs ≤ slots → weight r acts (swaps - now) needs ≤ weight r most all slots
+lighter Marks acts most swaps all now slots needs l s n = omega (arith, l, s)
+lighter Descriptors acts most swaps all now slots needs l s n = omega (arith, s)
+lighter Slots acts most swaps all now slots needs l s n = n
+
+pub weigh-little : (r : Resource) → TasksWeighLittle r
+unfolding asks_of left_of swaps_of needs_of
+weigh-little r (Seeking t) w = lighter r _ _ _ _ _ _ _ (omega (arith, seek-one t.phase)) none none
+weigh-little r (Finding t) w = lighter r _ _ _ _ _ _ _ (omega (arith, find-one t.phase)) none none
+weigh-little r (Reading t) w = lighter r _ _ _ _ _ _ _ (leaf-few t.phase) none none
+weigh-little r (Inserting t) w = lighter r _ _ _ _ _ _ _ (insert-few t.phase) (insert-swaps t.phase) none
+weigh-little r (Updating t) w = lighter r _ _ _ _ _ _ _ (update-few t.phase) (update-swaps t.phase) none
+weigh-little r (Deleting t) w = lighter r _ _ _ _ _ _ _ (delete-few t.phase) (delete-swaps t.phase) none
+weigh-little r (Freezing t) w = lighter r _ _ _ _ _ _ _ (freeze-few t.phase) (freeze-swaps t.phase) none
+weigh-little r (Consolidating t) w = lighter r _ _ _ _ _ _ _ (consol-few t.phase) (consol-swaps t.phase) (consol-needs t.phase)
+weigh-little r (Splitting t) w = lighter r _ _ _ _ _ _ _ (split-few t.phase) (split-swaps t.phase) (split-needs t.phase)
+weigh-little r (SplittingBelow t a) w = lighter r _ _ _ _ _ _ _ w (below-swaps t.phase) (below-needs t.phase)
+weigh-little r (SplittingInner t a) w = lighter r _ _ _ _ _ _ _ (fork-few t.phase) (fork-swaps t.phase) (fork-needs t.phase)
+weigh-little r (SplittingInnerRoot t a) w = lighter r _ _ _ _ _ _ _ (crown-few t.phase) (crown-swaps t.phase) (crown-needs t.phase)
+weigh-little r (Merging t) w = lighter r _ _ _ _ _ _ _ (merge-few t.side.right t.phase) (merge-swaps t.phase) (merge-needs t.phase)

@@ -1,36 +1,45 @@
--- A split that may still end for want of room has done little.
-use Rattle.std.proofs.Common.{◌+◌, ◌<◌, ◌≤◌, arith}
+-- A split that has ended for want of room has done little.
+use Rattle.std.proofs.Common.{◌≡◌, ℕ, ◌+◌, ◌-◌, ◌≤◌, Some, arith}
+use Rattle.bz_below.specs.Duties.{below_of}
+use Rattle.bz_below.specs.Facts.{Below, below_asks, below_end, below_left, below_needs, below_swaps}
+use Rattle.bz_below.specs.declared.phase.Phase.{Phase as BelowPhase}
+use Rattle.bz_below.specs.declared.phase.Phase.TheVariants as below
 use Rattle.bz_fork.specs.Duties.{fork_of}
-use Rattle.bz_fork.specs.Facts.{Fork, fork_acts, fork_asks, fork_fails, fork_left, fork_swaps}
-use Rattle.bz_layout.specs.declared.config.Config.{Config}
-use Rattle.bz_layout.specs.declared.swaps.TheConstants.{RENEWAL_SWAPS}
-use Rattle.bz_task.specs.Requests.{swaps_in}
-use Rattle.bz_running.specs.Duties.{asks_of, left_of, swaps_of}
-use Rattle.bz_costs.specs.Laws.{LostSplitsCostLittle}
+use Rattle.bz_fork.specs.Facts.{Fork, fork_asks, fork_end, fork_left, fork_needs, fork_swaps}
 use Rattle.bz_fork.specs.declared.phase.Phase.{Phase as ForkPhase}
 use Rattle.bz_fork.specs.declared.phase.Phase.TheVariants as fork
+use Rattle.bz_layout.specs.declared.config.Config.{Config}
+use Rattle.bz_running.specs.Duties.{asks_of, left_of, needs_of, swaps_of}
+use Rattle.bz_task.specs.Requests.{swaps_in}
+use Rattle.bz_task.specs.declared.todo.Outcome.TheVariants.{NeedsRoom}
+use Rattle.bz_costs.specs.Failing.{cost_of_lost_below, cost_of_lost_inner}
+use Rattle.bz_costs.specs.Laws.{LostSplitsCostLittle}
+use Rattle.bz_costs.specs.Most.{most_of_below, most_of_inner}
+use Rattle.bz_costs.specs.Resources.{Resource, Marks}
+use Rattle.bz_costs.specs.Weights.{weight}
 
--- up to there the split of an inner node has its swap still to ask for
-still : (c : Config) (r : Fork) (p : ForkPhase) → fork_acts < fork_left p + fork_fails → RENEWAL_SWAPS + swaps_in (fork_asks c r p) ≤ fork_swaps p
-still c r fork.Fresh l = omega arith
-still c r (fork.Word i) l = omega arith
-still c r fork.Again l = omega arith
-still c r fork.Room l = omega arith
-still c r (fork.Above i) l = omega arith
-still c r fork.Check l = omega arith
-still c r fork.Guard l = omega arith
-still c r (fork.Store i) l = absurd (omega (arith, l))
-still c r (fork.Flush i) l = absurd (omega (arith, l))
-still c r fork.Swap l = absurd (omega (arith, l))
-still c r fork.Done l = absurd (omega (arith, l))
-still c r fork.Restart l = absurd (omega (arith, l))
-still c r fork.NoRoom l = absurd (omega (arith, l))
-still c r fork.NoSlot l = absurd (omega (arith, l))
-still c r fork.NoSwap l = absurd (omega (arith, l))
+-- that of a leaf, whatever loads it might still have spent on waiting
+leaf-left : (r : Resource) (waits : ℕ) → most_of_below r ≤ weight r (waits + below_left below.NoRoom) (below_swaps below.NoRoom) (below_needs below.NoRoom) + cost_of_lost_below r
+leaf-left Marks waits = omega arith
+leaf-left r waits = omega arith
 
-pub lost-little : LostSplitsCostLittle
-unfolding asks_of left_of swaps_of
-lost-little = record {
-  below = λ t a l. omega (arith, l);
-  inner = λ t a l. omega (arith, l, still t.config (fork_of t) t.phase l);
+leaf-lost : (r : Resource) (c : Config) (x : Below) (waits : ℕ) (p : BelowPhase) → below_end p ≡ Some NeedsRoom →
+    most_of_below r ≤ weight r (waits + below_left p) (below_swaps p - swaps_in (below_asks c x p)) (below_needs p) + cost_of_lost_below r
+leaf-lost r c x waits below.NoRoom e = leaf-left r waits
+leaf-lost r c x waits p e = absurd (cc)
+
+-- and that of an inner node
+node-left : (r : Resource) → most_of_inner r ≤ weight r (fork_left fork.NoRoom) (fork_swaps fork.NoRoom) (fork_needs fork.NoRoom) + cost_of_lost_inner r
+node-left Marks = omega arith
+node-left r = omega arith
+
+node-lost : (r : Resource) (c : Config) (x : Fork) (p : ForkPhase) → fork_end p ≡ Some NeedsRoom → most_of_inner r ≤ weight r (fork_left p) (fork_swaps p - swaps_in (fork_asks c x p)) (fork_needs p) + cost_of_lost_inner r
+node-lost r c x fork.NoRoom e = node-left r
+node-lost r c x p e = absurd (cc)
+
+pub lost-little : (r : Resource) → LostSplitsCostLittle r
+unfolding asks_of left_of needs_of swaps_of
+lost-little r = record {
+  below = λ t a e. leaf-lost r t.config (below_of t) t.waits t.phase e;
+  inner = λ t a e. node-lost r t.config (fork_of t) t.phase e;
 }

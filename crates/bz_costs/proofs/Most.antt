@@ -1,6 +1,7 @@
 -- No stage costs more than a stretch, and no task more than the rest of a round.
 use Rattle.std.proofs.Common.{ℕ, zero, suc, ◌+◌, ◌≤◌, Bool, true, false, arith}
 use Rattle.std.specs.Prelude.{min}
+use Rattle.bz_costs.specs.Resources.{Resource, Marks}
 use Rattle.bz_costs.proofs.Least.{weigh-little}
 use Rattle.bz_costs.proofs.Stages.{rise, rise-from}
 use Rattle.bz_costs.specs.Costs.{StretchesAreTheMost}
@@ -11,36 +12,38 @@ use Rattle.bz_running.specs.declared.running.AnyTask.{AnyTask}
 use Rattle.bz_running.specs.declared.running.AnyTask.TheVariants.{Seeking}
 
 -- what is still to come pays for the rest of the round
-rest : (frozen : Bool) (stage : ℕ) → cost_once_viewed 0 ≤ cost_viewed_at frozen stage
-rest true stage = rise 0 (min stage top_stage) (omega arith)
-rest false zero = omega arith
-rest false (suc stage) = omega (arith, rise 0 (min stage top_stage) (omega arith))
+rest : (r : Resource) (frozen : Bool) (stage : ℕ) → cost_once_viewed r 0 ≤ cost_viewed_at r frozen stage
+rest r true stage = rise r 0 (min stage top_stage) (omega arith)
+rest r false zero = omega arith
+rest r false (suc stage) = omega (arith, rise r 0 (min stage top_stage) (omega arith))
 
-rest-found : (frozen : Bool) (stage : ℕ) → cost_once_found 0 ≤ cost_found_at frozen stage
-rest-found frozen stage = omega (arith, rest frozen stage)
+rest-found : (r : Resource) (frozen : Bool) (stage : ℕ) → cost_once_found r 0 ≤ cost_found_at r frozen stage
+rest-found r frozen stage = omega (arith, rest r frozen stage)
 
 -- and a stretch for what comes from a round on
-within : (frozen : Bool) (stage top : ℕ) → cost_viewed_at frozen stage ≤ most_of_freeze + cost_from top → cost_at frozen stage ≤ cost_of_view + most_of_freeze + cost_from top
-within frozen stage top l = omega (arith, l)
+within : (r : Resource) (frozen : Bool) (stage top : ℕ) → cost_viewed_at r frozen stage ≤ most_of_freeze r + cost_from r top → cost_at r frozen stage ≤ cost_of_view r + most_of_freeze r + cost_from r top
+within r frozen stage top l = omega (arith, l)
 
-viewed-from : (low high : ℕ) → low ≤ high → cost_once_viewed low ≤ most_of_freeze + cost_from high
-viewed-from low high l = omega (arith, rise low high l)
+viewed-from : (r : Resource) (low high : ℕ) → low ≤ high → cost_once_viewed r low ≤ most_of_freeze r + cost_from r high
+viewed-from r low high l = omega (arith, rise r low high l)
 
-behind : (low high : ℕ) → low ≤ high → most_of_freeze + cost_from low ≤ most_of_freeze + cost_from high
-behind low high l = omega (arith, rise-from low high l)
+behind : (r : Resource) (low high : ℕ) → low ≤ high → most_of_freeze r + cost_from r low ≤ most_of_freeze r + cost_from r high
+behind r low high l = omega (arith, rise-from r low high l)
 
-few : (frozen : Bool) (stage : ℕ) → cost_at frozen stage ≤ lone_stretch
-few true stage = within true stage top_stage (viewed-from (min stage top_stage) top_stage (omega arith))
-few false zero = within false zero top_stage (viewed-from 0 top_stage (omega arith))
-few false (suc stage) = within false (suc stage) top_stage (behind (min stage top_stage) top_stage (omega arith))
+few : (r : Resource) (frozen : Bool) (stage : ℕ) → cost_at r frozen stage ≤ lone_stretch r
+few r true stage = within r true stage top_stage (viewed-from r (min stage top_stage) top_stage (omega arith))
+few r false zero = within r false zero top_stage (viewed-from r 0 top_stage (omega arith))
+few r false (suc stage) = within r false (suc stage) top_stage (behind r (min stage top_stage) top_stage (omega arith))
 
 -- the greatest weight of each task fits
-fits : (t : AnyTask) → most_of t ≤ rest_of_round
-fits (Seeking t) = omega arith
-fits t = omega arith
+fits : (r : Resource) (t : AnyTask) → most_of r t ≤ rest_of_round r
+fits Marks (Seeking t) = omega arith
+fits Marks t = omega arith
+fits r (Seeking t) = omega arith
+fits r t = omega arith
 
 both : (a b c : ℕ) → a ≤ b → b ≤ c → a ≤ c
 both a b c l m = omega (arith, l, m)
 
-pub the-most : StretchesAreTheMost
-the-most = record { stage = few; task = λ t w. both _ _ _ (weigh-little t w) (fits t); viewed = rest; found = rest-found }
+pub the-most : (r : Resource) → StretchesAreTheMost r
+the-most r = record { stage = few r; task = λ t w. both _ _ _ (weigh-little r t w) (fits r t); viewed = rest r; found = rest-found r }

@@ -1,3 +1,4 @@
+pub mod Resources
 pub mod Weights
 pub mod Most
 pub mod Failing

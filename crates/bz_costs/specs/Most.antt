@@ -11,6 +11,7 @@ use Rattle.bz_freeze.specs.Facts.{freeze_left}
 use Rattle.bz_freeze.specs.declared.phase.Phase.TheVariants as freeze
 use Rattle.bz_insert.specs.Facts.{insert_acts}
 use Rattle.bz_layout.specs.declared.swaps.TheConstants.{DELETE_SWAPS, FREEZE_SWAPS, INSERT_SWAPS, MERGE_SWAPS, RENEWAL_SWAPS, UPDATE_SWAPS}
+use Rattle.bz_layout.specs.declared.thresholds.TheConstants.{CONSOLIDATION_SLOTS, MERGE_SLOTS, SPLIT_SLOTS}
 use Rattle.bz_leaf.specs.Facts.{leaf_acts}
 use Rattle.bz_merge.specs.Facts.{merge_acts}
 use Rattle.bz_mutate.specs.DeleteFacts.{delete_left}
@@ -19,66 +20,67 @@ use Rattle.bz_mutate.specs.declared.delete_phase.DeletePhase.TheVariants as dele
 use Rattle.bz_split.specs.Facts.{split_acts}
 use Rattle.bz_running.specs.declared.running.AnyTask.{AnyTask}
 use Rattle.bz_running.specs.declared.running.AnyTask.TheVariants.{Seeking, Finding, Reading, Inserting, Updating, Deleting, Freezing, Consolidating, Splitting, SplittingBelow, SplittingInner, SplittingInnerRoot, Merging}
+use Rattle.bz_costs.specs.Resources.{Resource}
 use Rattle.bz_costs.specs.Weights.{weight}
 
 -- the way to the leaf of a key: its reads, and its end
-abbrev pub most_of_seek : ℕ
-most_of_seek = weight (seek_reads + 1) 0
+abbrev pub most_of_seek : Resource → ℕ
+most_of_seek r = weight r (seek_reads + 1) 0 0
 
 -- a look-up of a key in a leaf
-abbrev pub most_of_find : ℕ
-most_of_find = weight find_acts 0
+abbrev pub most_of_find : Resource → ℕ
+most_of_find r = weight r find_acts 0 0
 
 -- a leaf that is read whole
-abbrev pub most_of_leaf : ℕ
-most_of_leaf = weight leaf_acts 0
+abbrev pub most_of_leaf : Resource → ℕ
+most_of_leaf r = weight r leaf_acts 0 0
 
 -- the changes of a record
-abbrev pub most_of_insert : ℕ
-most_of_insert = weight insert_acts INSERT_SWAPS
+abbrev pub most_of_insert : Resource → ℕ
+most_of_insert r = weight r insert_acts INSERT_SWAPS 0
 
-abbrev pub most_of_update : ℕ
-most_of_update = weight update_acts UPDATE_SWAPS
+abbrev pub most_of_update : Resource → ℕ
+most_of_update r = weight r update_acts UPDATE_SWAPS 0
 
-abbrev pub most_of_delete : ℕ
-most_of_delete = weight (delete_left delete.Fresh) DELETE_SWAPS
+abbrev pub most_of_delete : Resource → ℕ
+most_of_delete r = weight r (delete_left delete.Fresh) DELETE_SWAPS 0
 
 -- a freeze, a copy, a merge, and the splits: of a root that is a leaf, of a leaf below a parent, of an inner node, and of a root that is one
-abbrev pub most_of_freeze : ℕ
-most_of_freeze = weight (freeze_left freeze.Fresh) FREEZE_SWAPS
+abbrev pub most_of_freeze : Resource → ℕ
+most_of_freeze r = weight r (freeze_left freeze.Fresh) FREEZE_SWAPS 0
 
-abbrev pub most_of_copy : ℕ
-most_of_copy = weight consol_acts RENEWAL_SWAPS
+abbrev pub most_of_copy : Resource → ℕ
+most_of_copy r = weight r consol_acts RENEWAL_SWAPS CONSOLIDATION_SLOTS
 
-abbrev pub most_of_merge : ℕ
-most_of_merge = weight merge_acts MERGE_SWAPS
+abbrev pub most_of_merge : Resource → ℕ
+most_of_merge r = weight r merge_acts MERGE_SWAPS MERGE_SLOTS
 
-abbrev pub most_of_root : ℕ
-most_of_root = weight split_acts RENEWAL_SWAPS
+abbrev pub most_of_root : Resource → ℕ
+most_of_root r = weight r split_acts RENEWAL_SWAPS SPLIT_SLOTS
 
-abbrev pub most_of_below : ℕ
-most_of_below = weight below_acts RENEWAL_SWAPS
+abbrev pub most_of_below : Resource → ℕ
+most_of_below r = weight r below_acts RENEWAL_SWAPS SPLIT_SLOTS
 
-abbrev pub most_of_inner : ℕ
-most_of_inner = weight fork_acts RENEWAL_SWAPS
+abbrev pub most_of_inner : Resource → ℕ
+most_of_inner r = weight r fork_acts RENEWAL_SWAPS SPLIT_SLOTS
 
-abbrev pub most_of_inner_root : ℕ
-most_of_inner_root = weight crown_acts RENEWAL_SWAPS
+abbrev pub most_of_inner_root : Resource → ℕ
+most_of_inner_root r = weight r crown_acts RENEWAL_SWAPS SPLIT_SLOTS
 
-abbrev pub most_of : AnyTask → ℕ
-most_of (Seeking t) = most_of_seek
-most_of (Finding t) = most_of_find
-most_of (Reading t) = most_of_leaf
-most_of (Inserting t) = most_of_insert
-most_of (Updating t) = most_of_update
-most_of (Deleting t) = most_of_delete
-most_of (Freezing t) = most_of_freeze
-most_of (Consolidating t) = most_of_copy
-most_of (Splitting t) = most_of_root
-most_of (SplittingBelow t a) = most_of_below
-most_of (SplittingInner t a) = most_of_inner
-most_of (SplittingInnerRoot t a) = most_of_inner_root
-most_of (Merging t) = most_of_merge
+abbrev pub most_of : Resource → AnyTask → ℕ
+most_of r (Seeking t) = most_of_seek r
+most_of r (Finding t) = most_of_find r
+most_of r (Reading t) = most_of_leaf r
+most_of r (Inserting t) = most_of_insert r
+most_of r (Updating t) = most_of_update r
+most_of r (Deleting t) = most_of_delete r
+most_of r (Freezing t) = most_of_freeze r
+most_of r (Consolidating t) = most_of_copy r
+most_of r (Splitting t) = most_of_root r
+most_of r (SplittingBelow t a) = most_of_below r
+most_of r (SplittingInner t a) = most_of_inner r
+most_of r (SplittingInnerRoot t a) = most_of_inner_root r
+most_of r (Merging t) = most_of_merge r
 
 -- it has no more acts left than at its begin: of the split of a leaf below a parent this is to be known, since the number of loads in which
 -- it may read its parent anew is one that it keeps; of each other task it is always so

@@ -1,19 +1,23 @@
--- What a task may still cost a worker that steps alone, in steps of the swap memory.
-use Rattle.std.specs.Prelude.{ℕ, ◌+◌, ◌-◌, ◌*◌}
+-- What a task may still take of a worker that steps alone: of marks, the steps of the swap memory that are allowed for its acts.
+use Rattle.std.specs.Prelude.{ℕ, ◌+◌, ◌-◌, ◌*◌, Some, length}
+use Rattle.bz_layout.specs.Slots.{FreeSlots}
 use Rattle.bz_machine.specs.Allowed.{for_act, for_swap}
 use Rattle.bz_task.specs.Requests.{swaps_in}
 use Rattle.bz_task.specs.declared.todo.Todo.{Todo}
 use Rattle.bz_task.specs.declared.todo.Todo.TheVariants.{Read, Load, Store, Flush, Swap, Finish}
-use Rattle.bz_running.specs.Duties.{asks_of, left_of, swaps_of}
+use Rattle.bz_running.specs.Duties.{asks_of, left_of, needs_of, swaps_of}
 use Rattle.bz_running.specs.declared.running.AnyTask.{AnyTask}
+use Rattle.bz_costs.specs.Resources.{Resource, Marks, Descriptors, Slots}
 
 -- so many steps more a swap is allowed than another act
 abbrev pub for_more : ℕ
 for_more = for_swap - for_act
 
--- the steps that are allowed for so many acts, of which so many are swaps
-abbrev pub weight : ℕ → ℕ → ℕ
-weight acts swaps = for_act * acts + for_more * swaps
+-- so much is taken by so many acts, of which so many are swaps, and with so many slots
+abbrev pub weight : Resource → ℕ → ℕ → ℕ → ℕ
+weight Marks acts swaps slots = for_act * acts + for_more * swaps
+weight Descriptors acts swaps slots = swaps
+weight Slots acts swaps slots = slots
 
 -- what the start of this allows; an end starts nothing
 abbrev pub start_allows : Todo → ℕ
@@ -24,7 +28,18 @@ start_allows (Flush line) = for_act
 start_allows (Swap entries) = for_swap
 start_allows Finish = 0
 
--- what a task may still cost: each act that it may still ask for, and each swap among them. The swap that it asks for now was allowed its
--- steps when it was started, and is not counted any more
-abbrev pub weigh : AnyTask → ℕ
-weigh t = weight (left_of t) (swaps_of t - swaps_in (asks_of t))
+-- and what it takes: a swap takes a descriptor
+abbrev pub start_takes : Resource → Todo → ℕ
+start_takes Marks todo = start_allows todo
+start_takes Descriptors todo = swaps_in (Some todo)
+start_takes Slots todo = 0
+
+-- before its start, so many slots are gone
+abbrev pub slots_gone : Resource → FreeSlots → FreeSlots → ℕ
+slots_gone Slots free left = length free.free - length left.free
+slots_gone other free left = 0
+
+-- what a task may still take: for each act that it may still ask for, each swap among them, and each slot. The swap that it asks for now has
+-- taken what it may when it was started, and is not counted any more
+abbrev pub weigh : Resource → AnyTask → ℕ
+weigh r t = weight r (left_of t) (swaps_of t - swaps_in (asks_of t)) (needs_of t)

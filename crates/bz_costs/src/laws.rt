@@ -2,7 +2,8 @@
 
 ghost use Rattle.bz_costs.specs.Costs.{HigherStagesCostMore, RoundsArePaid, StretchesAreTheMost, LoneCallsAreAffordable, WholeCallsAreAffordable};
 ghost use Rattle.bz_costs.specs.Examples.{WeightsAreTold, CostsAreTold};
-ghost use Rattle.bz_costs.specs.Laws.{AskedSwapsAreCounted, HearingIsPaid, ActsAndSwapsWeigh, TasksWeighLittle, LostSplitsCostLittle};
+ghost use Rattle.bz_costs.specs.Laws.{AskedSwapsAreCounted, HearingIsPaid, TasksWeighLittle, LostSplitsCostLittle};
+ghost use Rattle.bz_costs.specs.Resources.{Resource};
 ghost use Rattle.bz_costs.specs.Splits.{SplitsArePaid};
 
 /// A swap that a task asks for is one of those that were still to be asked for.
@@ -10,44 +11,39 @@ pub fn asked_swaps_are_counted()
     ensures { AskedSwapsAreCounted }
 {}
 
-/// What a task is told lowers its weight by what the start of its next act allows.
+/// What a task is told lowers its weight by the slots that are gone then, and by what the start of its next act takes.
 pub fn hearing_is_paid()
-    ensures { HearingIsPaid }
+    ensures { (r : Resource) → HearingIsPaid r }
 {}
 
-/// No task weighs more than its acts and its swaps.
-pub fn acts_and_swaps_weigh()
-    ensures { ActsAndSwapsWeigh }
-{}
-
-/// Nor than at its begin.
+/// No task weighs more than at its begin.
 pub fn tasks_weigh_little()
-    ensures { TasksWeighLittle }
+    ensures { (r : Resource) → TasksWeighLittle r }
 {}
 
 /// A split that ends for want of room has cost little.
 pub fn lost_splits_cost_little()
-    ensures { LostSplitsCostLittle }
+    ensures { (r : Resource) → LostSplitsCostLittle r }
 {}
 
 /// A stage costs no less than a lower one.
 pub fn higher_stages_cost_more()
-    ensures { HigherStagesCostMore }
+    ensures { (r : Resource) → HigherStagesCostMore r }
 {}
 
 /// What a round does that does not end the call, and all that comes after it, is paid for by the stage.
 pub fn rounds_are_paid()
-    ensures { RoundsArePaid }
+    ensures { (r : Resource) → RoundsArePaid r }
 {}
 
 /// While splits go up from a leaf, each is paid for that follows another which found no room.
 pub fn splits_are_paid()
-    ensures { SplitsArePaid }
+    ensures { (r : Resource) → SplitsArePaid r }
 {}
 
 /// No stage costs more than a stretch, and no task more than the rest of a round.
 pub fn stretches_are_the_most()
-    ensures { StretchesAreTheMost }
+    ensures { (r : Resource) → StretchesAreTheMost r }
 {}
 
 /// A call that steps alone costs no more marks than its configuration tells.
@@ -55,9 +51,9 @@ pub fn lone_calls_are_affordable()
     ensures { LoneCallsAreAffordable }
 {}
 
-/// Nor does a call that begins while no other is open cost more than is promised for each.
+/// Nor does a call that begins while no other is open take more than is promised for each.
 pub fn whole_calls_are_affordable()
-    ensures { WholeCallsAreAffordable }
+    ensures { (r : Resource) → WholeCallsAreAffordable r }
 {}
 
 /// The weights of the tasks in numbers.

@@ -78,11 +78,11 @@ fork_acts = NODE_WORDS + (NODE_WORDS + SPLIT_WORDS + SPLIT_LINES + 4)
 abbrev pub fork_fails : ℕ
 fork_fails = NODE_WORDS + 2
 
--- the most swaps that are still asked for: that of the link to the parent, until it has ended
+-- the most swaps that are still asked for: that of the link to the parent, until it has ended. Where it ended for want of room it has not
+-- asked for it
 abbrev pub fork_swaps : Phase → ℕ
 fork_swaps Done = 0
 fork_swaps Restart = 0
-fork_swaps NoRoom = 0
 fork_swaps NoSlot = 0
 fork_swaps NoSwap = 0
 fork_swaps phase = 1
@@ -101,7 +101,7 @@ fork_left (Flush j) = SPLIT_LINES + 1 - j
 fork_left Swap = 1
 fork_left phase = 0
 
--- the slots are taken when all guards have been looked at again
+-- the slots are taken when all guards have been looked at again: none where it ended for want of room
 abbrev pub fork_needs : Phase → ℕ
 fork_needs Fresh = SPLIT_SLOTS
 fork_needs (Word i) = SPLIT_SLOTS
@@ -110,6 +110,7 @@ fork_needs Room = SPLIT_SLOTS
 fork_needs (Above i) = SPLIT_SLOTS
 fork_needs Check = SPLIT_SLOTS
 fork_needs Guard = SPLIT_SLOTS
+fork_needs NoRoom = SPLIT_SLOTS
 fork_needs phase = 0
 
 -- after a word comes the next one that is read, or the status once more

@@ -4,12 +4,13 @@ use Rattle.std.specs.Prelude.{Option, Some, None}
 use Rattle.bz_joined.specs.FromAlone.Alone.{IsAlone}
 use Rattle.bz_call.specs.declared.calls.Call.{Call}
 use Rattle.bz_call.specs.declared.calls.Call.TheVariants as call
+use Rattle.bz_costs.specs.Resources.{Resource, Marks, Descriptors, Slots}
 use Rattle.bz_costs.specs.Laws.{TasksWeighLittle}
 use Rattle.bz_costs.specs.Most.{most_of, most_of_seek}
-use Rattle.bz_costs.specs.Weights.{weigh}
+use Rattle.bz_costs.specs.Weights.{start_takes, weigh}
+use Rattle.bz_descend.specs.SeekFacts.{seek_reads}
 use Rattle.bz_layout.specs.declared.config.Config.{Config}
-use Rattle.bz_machine.specs.Allowed.{for_act}
-use Rattle.bz_running.specs.Duties.{end_of, made_of, swaps_of}
+use Rattle.bz_running.specs.Duties.{end_of, left_of, made_of, needs_of, swaps_of}
 use Rattle.bz_running.specs.Kinds as kinds
 use Rattle.bz_running.specs.Kinds.{Kind, kind_of}
 use Rattle.bz_running.specs.declared.running.AnyTask.{AnyTask}
@@ -17,15 +18,12 @@ use Rattle.bz_running.specs.declared.running.AnyTask.TheVariants.{Seeking}
 use Rattle.bz_swap.specs.SwapMemory.{SwapMemory}
 use Rattle.bz_task.specs.Scene.{Past}
 use Rattle.bz_task.specs.declared.todo.Outcome.{Outcome}
+use Rattle.bz_task.specs.declared.todo.Todo.TheVariants.{Read}
 use Rattle.bz_lone.proofs.Sparing.{less-afforded}
 use Rattle.bz_lone.specs.Errands.{Errand, IsLookOf}
 use Rattle.bz_lone.specs.Prices.{prices_in, coming, round_price}
 use Rattle.bz_lone.specs.Rounds.{IsBegunAt, TasksMayBegin, RoundsBegin}
-use Rattle.bz_lone.specs.Sum.{Affords, Round, Disturbed, Clean, In, IsIn, IsSmall, reserve, prices_of, left_in, kept_by}
-
--- nothing is kept of a task that goes on
-keeps-none : (t : AnyTask) → end_of t ≡ None → kept_by (end_of t) (kind_of t) ≡ 0
-keeps-none t goes = ap (λ (o : Option Outcome). kept_by o (kind_of t)) goes
+use Rattle.bz_lone.specs.Sum.{Round, Disturbed, Clean, In, IsIn, IsSmall, reserve, prices_of, left_in}
 
 goes-on : (t : AnyTask) (o : Outcome) → end_of t ≡ None → end_of t ≡ Some o → ⊥
 goes-on t o goes ended = cc
@@ -43,24 +41,35 @@ begun-in e t p goes none small Clean alone = record {
   small = λ quiet merge. small quiet merge (alone refl);
 }
 
-pub tasks-begin : TasksWeighLittle → TasksMayBegin
-tasks-begin little m w e t by p goes none within look small s = record {
+pub tasks-begin : (r : Resource) → TasksWeighLittle r → TasksMayBegin r
+tasks-begin r little m w e t used by p goes none within look small s = record {
   look = look;
   thawed = s.thawed;
   state = In s.round;
   holds = begun-in e t p goes none small s.round s.alone;
-  affords = less-afforded m w e p.now by (reserve s.round + (most_of t + coming (prices_of s.round e p) e (kind_of t))) (0 + left_in (In s.round) e t p)
-      (lighter (reserve s.round) (weigh t) (kept_by (end_of t) (kind_of t)) (most_of t) (coming (prices_of s.round e p) e (kind_of t)) (little t within) (keeps-none t goes)) s.affords;
+  affords = less-afforded r m w e used by (reserve r s.round + (most_of r t + coming r (prices_of r s.round e p) e (kind_of t))) (0 + left_in r (In s.round) e t p)
+      (lighter (reserve r s.round) (weigh r t) (most_of r t) (coming r (prices_of r s.round e p) e (kind_of t)) (little t within)) s.affords;
 }
   where
-    lighter : (spare own kept most price : ℕ) → own ≤ most → kept ≡ 0 → 0 + (spare + (own + kept + price)) ≤ spare + (most + price)
-    lighter spare own kept most price l k = omega (arith, l, k)
+    lighter : (spare own most price : ℕ) → own ≤ most → 0 + (spare + (own + price)) ≤ spare + (most + price)
+    lighter spare own most price l = omega (arith, l)
 
--- a look-up swaps nothing
+-- a look-up swaps nothing, and takes no slot
 seek-swaps : (t : AnyTask) → kind_of t ≡ kinds.Seek → swaps_of t ≡ 0
 unfolding kind_of swaps_of
 seek-swaps (Seeking t) k = refl
 seek-swaps t k = absurd (cc)
+
+seek-needs : (t : AnyTask) → kind_of t ≡ kinds.Seek → needs_of t ≡ 0
+unfolding kind_of needs_of
+seek-needs (Seeking t) k = refl
+seek-needs t k = absurd (cc)
+
+-- its first read and those that follow are no more than its weight at its begin
+seek-paid : (r : Resource) (t : AnyTask) (a : ℕ) → kind_of t ≡ kinds.Seek → left_of t ≤ seek_reads → start_takes r (Read a) + weigh r t ≤ most_of_seek r
+seek-paid Marks t a k few = omega (arith, few, seek-swaps t k)
+seek-paid Descriptors t a k few = omega (arith, seek-swaps t k)
+seek-paid Slots t a k few = omega (arith, seek-needs t k)
 
 seek-made : (t : AnyTask) → kind_of t ≡ kinds.Seek → made_of t ≡ 0
 unfolding kind_of made_of
@@ -75,27 +84,27 @@ seek-looks called k is = tt
 no-merge : (k : Kind) → k ≡ kinds.Seek → k ≡ kinds.Merge → ⊥
 no-merge k seek merge = cc
 
-module _ (m : SwapMemory) (w : ℕ) (e : Errand) (t : AnyTask) (by : ℕ) (p q : Past) (b : IsBegunAt t p q) where
-  same-price : coming (prices_in q.config (q.at q.now).image e) e (kind_of t) ≡ coming (prices_in p.config (p.at p.now).image e) e kinds.Seek
+module _ (r : Resource) (m : SwapMemory) (w : ℕ) (e : Errand) (t : AnyTask) (used by : ℕ) (p q : Past) (b : IsBegunAt t p q) where
+  same-price : coming r (prices_in r q.config (q.at q.now).image e) e (kind_of t) ≡ coming r (prices_in r p.config (p.at p.now).image e) e kinds.Seek
   same-price =
-      ap (λ (c : Config). coming (prices_in c (q.at q.now).image e) e (kind_of t)) b.config
-      ∙ ap (λ (image : ℕ → ℕ). coming (prices_in p.config image e) e (kind_of t)) b.image
-      ∙ ap (λ (k : Kind). coming (prices_in p.config (p.at p.now).image e) e k) b.kind
+      ap (λ (c : Config). coming r (prices_in r c (q.at q.now).image e) e (kind_of t)) b.config
+      ∙ ap (λ (image : ℕ → ℕ). coming r (prices_in r p.config image e) e (kind_of t)) b.image
+      ∙ ap (λ (k : Kind). coming r (prices_in r p.config (p.at p.now).image e) e k) b.kind
 
-  enough : for_act + left_in (In Clean) e t q ≤ round_price (prices_in p.config (p.at p.now).image e) e
-  enough = few (coming (prices_in q.config (q.at q.now).image e) e (kind_of t)) (coming (prices_in p.config (p.at p.now).image e) e kinds.Seek) (kept_by (end_of t) (kind_of t)) same-price (keeps-none t b.goes)
+  enough : (a : ℕ) → start_takes r (Read a) + left_in r (In Clean) e t q ≤ round_price r (prices_in r p.config (p.at p.now).image e) e
+  enough a = few (start_takes r (Read a)) (weigh r t) (most_of_seek r) (coming r (prices_in r q.config (q.at q.now).image e) e (kind_of t)) (coming r (prices_in r p.config (p.at p.now).image e) e kinds.Seek) same-price (seek-paid r t a b.kind b.left)
     where
-      few : (now before kept : ℕ) → now ≡ before → kept ≡ 0 → for_act + (0 + (weigh t + kept + now)) ≤ most_of_seek + before
-      few now before kept same none = omega (arith, same, none, b.left, seek-swaps t b.kind)
+      few : (first own most now before : ℕ) → now ≡ before → first + own ≤ most → first + (0 + (own + now)) ≤ most + before
+      few first own most now before same l = omega (arith, same, l)
 
   alone : IsAlone 0 q
   alone = omega (arith, ap (λ (n : ℕ). (q.at n).effects) b.since)
 
-pub rounds-begin : RoundsBegin
-rounds-begin m w e t by p q b pays = record {
+pub rounds-begin : (r : Resource) → RoundsBegin r
+rounds-begin r m w e t used by a p q b pays = record {
   look = λ _. seek-looks e.call (kind_of t) b.kind;
   thawed = pays.thawed;
   state = In Clean;
-  holds = begun-in e t q b.goes (seek-made t b.kind) (λ _ merge. absurd (no-merge (kind_of t) b.kind merge)) Clean (λ _. alone m w e t by p q b);
-  affords = subst (λ (now : ℕ). Affords m w e now by (for_act + left_in (In Clean) e t q)) (sym b.now) (less-afforded m w e p.now by _ _ (enough m w e t by p q b) pays.affords);
+  holds = begun-in e t q b.goes (seek-made t b.kind) (λ _ merge. absurd (no-merge (kind_of t) b.kind merge)) Clean (λ _. alone r m w e t used by p q b);
+  affords = less-afforded r m w e used by _ _ (enough r m w e t used by p q b a) pays.affords;
 }

@@ -3,6 +3,7 @@ use Rattle.std.proofs.Common.{◌≡◌, ℕ, ◌≤◌, if◌then◌else◌, Bo
 use Rattle.bz_running.specs.Kinds.{Kind}
 use Rattle.bz_lone.specs.Errands.{Errand, is_read}
 use Rattle.bz_lone.specs.Prices.{Prices, coming_to_read, coming_to_write, coming_after, coming}
+use Rattle.bz_costs.specs.Resources.{Resource}
 
 -- what holds of both ways holds of each
 pub either : (b : Bool) (x y z : ℕ) → x ≤ z → y ≤ z → (if b then x else y) ≤ z
@@ -14,17 +15,17 @@ pub two-ways : (b : Bool) (P : Type 0) → (b ≡ true → P) → (b ≡ false �
 two-ways true _ on off = on refl
 two-ways false _ on off = off refl
 
-pub comes-within : (q : Prices) (e : Errand) (k : Kind) (z : ℕ) → coming_after k ≤ z → coming_to_read k ≤ z → coming_to_write q e k ≤ z → coming q e k ≤ z
-comes-within q e k z late read write = either e.effected _ _ z late (either (is_read e.call) _ _ z read write)
+pub comes-within : (r : Resource) (q : Prices) (e : Errand) (k : Kind) (z : ℕ) → coming_after r k ≤ z → coming_to_read r k ≤ z → coming_to_write r q e k ≤ z → coming r q e k ≤ z
+comes-within r q e k z late read write = either e.effected _ _ z late (either (is_read e.call) _ _ z read write)
 
-pub comes-after : (q : Prices) (e : Errand) (k : Kind) → e.effected ≡ true → coming q e k ≡ coming_after k
-comes-after q e k done = ap (λ (b : Bool). if b then coming_after k else if is_read e.call then coming_to_read k else coming_to_write q e k) done
+pub comes-after : (r : Resource) (q : Prices) (e : Errand) (k : Kind) → e.effected ≡ true → coming r q e k ≡ coming_after r k
+comes-after r q e k done = ap (λ (b : Bool). if b then coming_after r k else if is_read e.call then coming_to_read r k else coming_to_write r q e k) done
 
-pub comes-before : (q : Prices) (e : Errand) (k : Kind) → e.effected ≡ false → coming q e k ≡ (if is_read e.call then coming_to_read k else coming_to_write q e k)
-comes-before q e k quiet = ap (λ (b : Bool). if b then coming_after k else if is_read e.call then coming_to_read k else coming_to_write q e k) quiet
+pub comes-before : (r : Resource) (q : Prices) (e : Errand) (k : Kind) → e.effected ≡ false → coming r q e k ≡ (if is_read e.call then coming_to_read r k else coming_to_write r q e k)
+comes-before r q e k quiet = ap (λ (b : Bool). if b then coming_after r k else if is_read e.call then coming_to_read r k else coming_to_write r q e k) quiet
 
-pub comes-to-write : (q : Prices) (e : Errand) (k : Kind) → e.effected ≡ false → is_read e.call ≡ false → coming q e k ≡ coming_to_write q e k
-comes-to-write q e k quiet write = comes-before q e k quiet ∙ ap (λ (b : Bool). if b then coming_to_read k else coming_to_write q e k) write
+pub comes-to-write : (r : Resource) (q : Prices) (e : Errand) (k : Kind) → e.effected ≡ false → is_read e.call ≡ false → coming r q e k ≡ coming_to_write r q e k
+comes-to-write r q e k quiet write = comes-before r q e k quiet ∙ ap (λ (b : Bool). if b then coming_to_read r k else coming_to_write r q e k) write
 
-pub comes-to-read : (q : Prices) (e : Errand) (k : Kind) → e.effected ≡ false → is_read e.call ≡ true → coming q e k ≡ coming_to_read k
-comes-to-read q e k quiet read = comes-before q e k quiet ∙ ap (λ (b : Bool). if b then coming_to_read k else coming_to_write q e k) read
+pub comes-to-read : (r : Resource) (q : Prices) (e : Errand) (k : Kind) → e.effected ≡ false → is_read e.call ≡ true → coming r q e k ≡ coming_to_read r k
+comes-to-read r q e k quiet read = comes-before r q e k quiet ∙ ap (λ (b : Bool). if b then coming_to_read r k else coming_to_write r q e k) read

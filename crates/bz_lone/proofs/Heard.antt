@@ -1,24 +1,23 @@
--- What a task is told lowers its weight by what the start of its next act is allowed; and the round stays what it is.
+-- What a task is told lowers its weight by what the slots take that are gone then, and the start of its next act; and the round stays what it is.
 use Rattle.std.proofs.Common.{◌≡◌, ◌≢◌, ◌⊎◌, ℕ, ◌+◌, ◌*◌, ◌<◌, ◌≤◌, true, false, Option, Some, None, IsSome, arith, refl, sym, ap, subst, ◌∙◌, inl, inr}
-use Rattle.bz_ascent.specs.declared.ascent.Ascent.{Ascent}
 use Rattle.bz_joined.specs.FromAlone.Alone.{IsAlone}
+use Rattle.bz_costs.specs.Lone.{one_mark}
+use Rattle.bz_costs.specs.Resources.{Resource}
 use Rattle.bz_costs.specs.Laws.{AskedSwapsAreCounted, HearingIsPaid}
-use Rattle.bz_costs.specs.Weights.{start_allows, weigh, weight}
+use Rattle.bz_costs.specs.Weights.{slots_gone, start_takes, weigh}
 use Rattle.bz_costs.specs.Stretches.{lone_stretch}
-use Rattle.bz_layout.specs.declared.swaps.TheConstants.{RENEWAL_SWAPS}
 use Rattle.bz_layout.specs.Slots.{FreeSlots}
 use Rattle.bz_rivals.specs.Rivals.{rivals}
-use Rattle.bz_running.specs.Duties.{asks_of, end_of, left_of, made_of}
+use Rattle.bz_running.specs.Duties.{asks_of, end_of, made_of}
 use Rattle.bz_running.specs.Hearing.{HasHeard}
-use Rattle.bz_running.specs.Kinds.{Kind, SplitNode, kind_of}
+use Rattle.bz_running.specs.Kinds.{kind_of}
 use Rattle.bz_running.specs.Laws.{AreLaws}
 use Rattle.bz_running.specs.declared.running.AnyTask.{AnyTask}
-use Rattle.bz_swap.specs.Alone.{left_to}
 use Rattle.bz_swap.specs.SwapMemory.{SwapMemory}
 use Rattle.bz_task.specs.Requests.{Hears, effects_in, swaps_in}
 use Rattle.bz_task.specs.Scene.{Past}
 use Rattle.bz_task.specs.declared.todo.Outcome.{Outcome}
-use Rattle.bz_task.specs.declared.todo.Outcome.TheVariants.{Done, NeedsRoom, Restart}
+use Rattle.bz_task.specs.declared.todo.Outcome.TheVariants.{Done, Restart}
 use Rattle.bz_task.specs.declared.todo.Seen.{Seen}
 use Rattle.bz_task.specs.declared.todo.Seen.TheVariants.{Start, Swapped}
 use Rattle.bz_task.specs.declared.todo.Todo.{Todo}
@@ -26,13 +25,12 @@ use Rattle.bz_task.specs.declared.todo.Todo.TheVariants.{Swap, Finish}
 use Rattle.bz_lone.specs.Errands.{Errand, is_read, IsLookOf, may_swap_twice, after}
 use Rattle.bz_lone.specs.Prices.{coming, round_price, prices_in}
 use Rattle.bz_lone.specs.Steps.{HearingsArePaid}
-use Rattle.bz_lone.specs.Sum.{State, In, Disturbed, Clean, Made, IsIn, IsClean, IsMade, IsPaid, Affords, kept_by, own_left, still_takes, left_in, reserve, prices_of}
-use Rattle.bz_lone.proofs.Kept.{node-lost, node-open, node-stops}
+use Rattle.bz_lone.specs.Sum.{State, In, Disturbed, Clean, Made, IsIn, IsClean, IsMade, IsPaid, Affords, own_left, left_in, reserve, prices_of}
 use Rattle.bz_lone.proofs.Spending.{hears, hears-made}
 
 -- the laws on which it rests
-pub record Laws : Type 0 where
-  pub hearing : HearingIsPaid
+pub record Laws (r : Resource) : Type 0 where
+  pub hearing : HearingIsPaid r
   pub asked : AskedSwapsAreCounted
 
 -- a task that is told something has not ended
@@ -64,36 +62,13 @@ won-asked (Some todo) h = absurd h
 one-effect : (seen : Seen) → seen ≡ Swapped true → effects_in seen ≡ 1
 one-effect seen e = ap effects_in e
 
-module _ (b : Laws) (m : SwapMemory) (w : ℕ) (e : Errand) (old new : AnyTask) (seen : Seen) (moment : ℕ) (free left : FreeSlots) (todo : Todo) (by : ℕ) (p : Past) (h : HasHeard old seen moment free todo new left) (before : AreLaws old) (now : AreLaws new) (hears_it : Hears (asks_of old) seen)
-    (stands : IsAlone (made_of old + effects_in seen) p → end_of new ≢ Some Restart) where
-  abbrev kept : ℕ
-  kept = (lone_stretch + 1) * rivals m w
-
+module _ (r : Resource) (b : Laws r) (m : SwapMemory) (w : ℕ) (e : Errand) (old new : AnyTask) (seen : Seen) (moment : ℕ) (free left : FreeSlots) (todo : Todo) (used next by : ℕ) (p : Past) (h : HasHeard old seen moment free todo new left) (before : AreLaws old)
+    (hears_it : Hears (asks_of old) seen) (stands : IsAlone (made_of old + effects_in seen) p → end_of new ≢ Some Restart) (gone : next ≤ used + slots_gone r free left) where
   goes-on : end_of old ≡ None
   goes-on = not-ended old seen before hears_it
 
-  ends : end_of new ≡ Some NeedsRoom → start_allows todo ≡ 0
-  ends f = ap start_allows (finished todo (sym h.asked ∙ now.only (subst IsSome (sym f) refl)))
-    where
-      finished : (todo : Todo) → Some todo ≡ Some Finish → todo ≡ Finish
-      finished todo e = cc
-
-  -- the split of an inner node that ends for want of room was still to ask for its swap
-  lost : (a : Ascent) → kind_of new ≡ SplitNode a → end_of new ≡ Some NeedsRoom → weigh new + weight 0 RENEWAL_SWAPS + start_allows todo ≤ weigh old
-  lost a k f = omega (arith, h.nearer, node-lost new a k f, node-open old a (sym h.kind ∙ k) (subst (λ n. n < left_of old) (node-stops new a k f) h.nearer), ends f)
-
-  pays : still_takes new + start_allows todo ≤ still_takes old
-  pays = more (weigh old) (kept_by (end_of old) (kind_of old)) (still_takes new + start_allows todo) (go (end_of new) (kind_of new) refl refl)
-    where
-      more : (a b c : ℕ) → c ≤ a → c ≤ a + b
-      more a b c l = omega (arith, l)
-
-      none : (a b c : ℕ) → a + b ≤ c → a + 0 + b ≤ c
-      none a b c l = omega (arith, l)
-
-      go : (o : Option Outcome) (k : Kind) → end_of new ≡ o → kind_of new ≡ k → weigh new + kept_by o k + start_allows todo ≤ weigh old
-      go (Some NeedsRoom) (SplitNode a) e f = lost a f e
-      go o k e f = none (weigh new) (start_allows todo) (weigh old) (b.hearing old new seen moment free left todo h)
+  pays : weigh r new + (slots_gone r free left + start_takes r todo) ≤ weigh r old
+  pays = b.hearing old new seen moment free left todo h
 
   -- a clean round stays one: its last swap was not told of before its end
   cleanly : IsClean e old (effects_in seen) p → IsClean e new 0 p
@@ -125,15 +100,18 @@ module _ (b : Laws) (m : SwapMemory) (w : ℕ) (e : Errand) (old new : AnyTask) 
           h.last won (omega (arith, one, b.asked old, c.last))
       done (inr d) = absurd (cc (goes-on, d))
 
-  paid : (look : e.effected ≡ false → IsLookOf e.call (kind_of old)) (thawed : e.froze ≡ true → is_read e.call ≡ false) (state : State) → IsIn state e old (effects_in seen) p → Affords m w e p.now by (0 + left_in state e old p) → IsPaid m w e new 0 (start_allows todo) by p
+  abbrev kept : ℕ
+  kept = (lone_stretch r + one_mark r) * rivals m w
+
+  paid : (look : e.effected ≡ false → IsLookOf e.call (kind_of old)) (thawed : e.froze ≡ true → is_read e.call ≡ false) (state : State) → IsIn state e old (effects_in seen) p → Affords r m w e used by (0 + left_in r state e old p) → IsPaid r m w e new 0 (start_takes r todo) next by p
   paid look thawed (In Disturbed) c a = record {
     look = λ f. subst (IsLookOf e.call) (sym h.kind) (look f);
     thawed = thawed;
     state = In Disturbed;
     holds = tt;
     affords = record {
-      enough = subst (λ k. kept + left_to m w + own_left e + p.now + (start_allows todo + (reserve Disturbed + (still_takes new + coming (prices_of Disturbed e p) e k))) ≤ by) (sym h.kind)
-          (hears kept (left_to m w) (own_left e) p.now (still_takes old) (still_takes new) (start_allows todo) (reserve Disturbed) (coming (prices_of Disturbed e p) e (kind_of old)) by pays a.enough);
+      enough = subst (λ k. kept + own_left r e + next + (start_takes r todo + (reserve r Disturbed + (weigh r new + coming r (prices_of r Disturbed e p) e k))) ≤ by) (sym h.kind)
+          (hears kept (own_left r e) used next (slots_gone r free left) (weigh r old) (weigh r new) (start_takes r todo) (reserve r Disturbed) (coming r (prices_of r Disturbed e p) e (kind_of old)) by pays gone a.enough);
     };
   }
   paid look thawed (In Clean) c a = record {
@@ -142,8 +120,8 @@ module _ (b : Laws) (m : SwapMemory) (w : ℕ) (e : Errand) (old new : AnyTask) 
     state = In Clean;
     holds = cleanly c;
     affords = record {
-      enough = subst (λ k. kept + left_to m w + own_left e + p.now + (start_allows todo + (reserve Clean + (still_takes new + coming (prices_of Clean e p) e k))) ≤ by) (sym h.kind)
-          (hears kept (left_to m w) (own_left e) p.now (still_takes old) (still_takes new) (start_allows todo) (reserve Clean) (coming (prices_of Clean e p) e (kind_of old)) by pays a.enough);
+      enough = subst (λ k. kept + own_left r e + next + (start_takes r todo + (reserve r Clean + (weigh r new + coming r (prices_of r Clean e p) e k))) ≤ by) (sym h.kind)
+          (hears kept (own_left r e) used next (slots_gone r free left) (weigh r old) (weigh r new) (start_takes r todo) (reserve r Clean) (coming r (prices_of r Clean e p) e (kind_of old)) by pays gone a.enough);
     };
   }
   paid look thawed Made c a = record {
@@ -152,10 +130,11 @@ module _ (b : Laws) (m : SwapMemory) (w : ℕ) (e : Errand) (old new : AnyTask) 
     state = Made;
     holds = ended c;
     affords = record {
-      enough = subst (λ k. kept + left_to m w + own_left e + p.now + (start_allows todo + (still_takes new + round_price (prices_in p.config (p.at p.now).image (after e k)) (after e k))) ≤ by) (sym h.kind)
-          (hears-made kept (left_to m w) (own_left e) p.now (still_takes old) (still_takes new) (start_allows todo) (round_price (prices_in p.config (p.at p.now).image (after e (kind_of old))) (after e (kind_of old))) by pays a.enough);
+      enough = subst (λ k. kept + own_left r e + next + (start_takes r todo + (weigh r new + round_price r (prices_in r p.config (p.at p.now).image (after e k)) (after e k))) ≤ by) (sym h.kind)
+          (hears-made kept (own_left r e) used next (slots_gone r free left) (weigh r old) (weigh r new) (start_takes r todo) (round_price r (prices_in r p.config (p.at p.now).image (after e (kind_of old))) (after e (kind_of old))) by pays gone a.enough);
     };
   }
 
-pub heard-paid : Laws → HearingsArePaid
-heard-paid b m w e old new seen moment free left todo by p h before now hears_it stands paid_before = paid b m w e old new seen moment free left todo by p h before now hears_it stands paid_before.look paid_before.thawed paid_before.state paid_before.holds paid_before.affords
+pub heard-paid : (r : Resource) → Laws r → HearingsArePaid r
+heard-paid r b m w e old new seen moment free left todo used next by p h before now hears_it stands gone was =
+    paid r b m w e old new seen moment free left todo used next by p h before hears_it stands gone was.look was.thawed was.state was.holds was.affords

@@ -10,7 +10,6 @@ mod Renewing
 mod Climbing
 mod Spending
 mod Rises
-mod Kept
 mod Any
 mod First
 mod Simple

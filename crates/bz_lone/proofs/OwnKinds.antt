@@ -15,6 +15,7 @@ use Rattle.bz_task.specs.declared.todo.Todo.TheVariants.{Swap, Finish}
 use Rattle.bz_word.specs.declared.entry.Entry.{Entry}
 use Rattle.bz_lone.specs.Errands.{Errand, is_read, IsLookOf, may_swap_twice}
 use Rattle.bz_lone.specs.Prices.{Prices, coming_to_write, coming_after}
+use Rattle.bz_costs.specs.Resources.{Resource}
 
 abbrev pub is_change : Kind → Bool
 is_change kinds.Insert = true
@@ -49,17 +50,17 @@ pub change-merge : (k : Kind) → is_change k ≡ true → k ≡ kinds.Merge →
 change-merge k c e = different (sym (sym (ap is_change e) ∙ c))
 
 -- what comes after a change does not stand on the leaf, nor on whether it has had its effect
-pub change-coming : (q r : Prices) (e : Errand) (k : Kind) → is_change k ≡ true → coming_to_write q e k ≡ coming_to_write r e k
-change-coming q r e kinds.Insert c = refl
-change-coming q r e kinds.Update c = refl
-change-coming q r e kinds.Delete c = refl
-change-coming q r e k c = absurd (cc)
+pub change-coming : (r : Resource) (q x : Prices) (e : Errand) (k : Kind) → is_change k ≡ true → coming_to_write r q e k ≡ coming_to_write r x e k
+change-coming r q x e kinds.Insert c = refl
+change-coming r q x e kinds.Update c = refl
+change-coming r q x e kinds.Delete c = refl
+change-coming r q x e k c = absurd (cc)
 
-pub change-after : (q : Prices) (e : Errand) (k : Kind) → is_change k ≡ true → coming_after k ≡ coming_to_write q e k
-change-after q e kinds.Insert c = refl
-change-after q e kinds.Update c = refl
-change-after q e kinds.Delete c = refl
-change-after q e k c = absurd (cc)
+pub change-after : (r : Resource) (q : Prices) (e : Errand) (k : Kind) → is_change k ≡ true → coming_after r k ≡ coming_to_write r q e k
+change-after r q e kinds.Insert c = refl
+change-after r q e kinds.Update c = refl
+change-after r q e kinds.Delete c = refl
+change-after r q e k c = absurd (cc)
 
 -- the tasks that make a change
 pub publishing-change : (t : AnyTask) → publishing_of t ≡ true → is_change (kind_of t) ≡ true

@@ -3,6 +3,7 @@ use Rattle.std.proofs.Common.{◌≡◌, ℕ, ◌<◌, ◌≤◌, true, false, L
 use Rattle.bz_ascent.specs.declared.ascent.Ascent.{Ascent}
 use Rattle.bz_call.specs.Map.{key_of}
 use Rattle.bz_content.specs.Content.{image_of}
+use Rattle.bz_costs.specs.Resources.{Resource}
 use Rattle.bz_costs.specs.Stretches.{cost_from, top_stage}
 use Rattle.bz_joined.specs.Lone.{LoneFreezesFreezeTheLeaf}
 use Rattle.bz_layout.specs.declared.config.Config.{Config}
@@ -41,7 +42,7 @@ unfolding config_of asks_of facts_of IsMadeFor kind_of
 leaf-frozen law (Freezing u) key words entries s y l made is = law u key entries s y l made.was
 leaf-frozen law t key words entries s y l made is = absurd (cc)
 
-module _ (b : Laws) (e : Errand) (c : Config) (x y : Instant) (quiet : e.effected ≡ false) (write : is_read e.call ≡ false) where
+module _ (r : Resource) (b : Laws r) (e : Errand) (c : Config) (x y : Instant) (quiet : e.effected ≡ false) (write : is_read e.call ≡ false) where
   abbrev key : List ℕ
   key = key_of e.call
 
@@ -49,27 +50,27 @@ module _ (b : Laws) (e : Errand) (c : Config) (x y : Instant) (quiet : e.effecte
   words = words_asked e.call
 
   -- the next round, at a stage that counts
-  next : (k : Kind) → is_freeze k ≡ false → stage_in c y.image key words ≤ top_stage → round_price (prices_in c y.image (after e k)) (after e k) ≤ cost_from (stage_in c y.image key words)
-  next k f l = round-few b e k e.alone (leaf_page c (image_of y.image) key) (full_above c (image_of y.image) key) words quiet write f l
+  next : (k : Kind) → is_freeze k ≡ false → stage_in c y.image key words ≤ top_stage → round_price r (prices_in r c y.image (after e k)) (after e k) ≤ cost_from r (stage_in c y.image key words)
+  next k f l = round-few r b e k e.alone (leaf_page c (image_of y.image) key) (full_above c (image_of y.image) key) words quiet write f l
 
-  pub roomy : (k : Kind) → is_freeze k ≡ false → stage_in c y.image key words ≡ 0 → round_price (prices_in c y.image (after e k)) (after e k) ≤ cost_from 0
-  roomy k f z = subst (λ n. round_price (prices_in c y.image (after e k)) (after e k) ≤ cost_from n) z (next k f (omega (arith, z)))
+  pub roomy : (k : Kind) → is_freeze k ≡ false → stage_in c y.image key words ≡ 0 → round_price r (prices_in r c y.image (after e k)) (after e k) ≤ cost_from r 0
+  roomy k f z = subst (λ n. round_price r (prices_in r c y.image (after e k)) (after e k) ≤ cost_from r n) z (next k f (omega (arith, z)))
 
   both : (a b c : ℕ) → a ≤ b → b ≤ c → a ≤ c
   both a b c l m = omega (arith, l, m)
 
-  split : (k : Kind) (a : Ascent) → is_freeze k ≡ false → HasSplit c x y key words a → HasFoot a → round_price (prices_in c y.image (after e k)) (after e k) ≤ (prices_in c x.image e).inner (level_of a)
+  split : (k : Kind) (a : Ascent) → is_freeze k ≡ false → HasSplit c x y key words a → HasFoot a → round_price r (prices_in r c y.image (after e k)) (after e k) ≤ (prices_in r c x.image e).inner (level_of a)
   split k a f h foot =
       let few : stage_in c y.image key words < top_stage = omega (arith, h.few) in
       both _ _ _ (next k f (omega (arith, few)))
-      (room-inner b (level_of a) (stage_in c x.image key words) (stage_in c y.image key words) (omega (arith, h.one_higher foot.last foot.is)) (omega (arith, h.falls)) few)
+      (room-inner r b (level_of a) (stage_in c x.image key words) (stage_in c y.image key words) (omega (arith, h.one_higher foot.last foot.is)) (omega (arith, h.falls)) few)
 
   pub left-price : (k : Kind) → may_swap_twice k ≡ false → is_look k ≡ false → IsLeft k c x y key words → (k ≡ kinds.Freeze → (leaf_page c (image_of y.image) key).frozen ≡ true) → HasFootIn k →
-      round_price (prices_in c y.image (after e k)) (after e k) ≤ coming_to_write (prices_in c x.image e) e k
-  left-price kinds.Freeze o w h f on = froze-few b e e.alone (leaf_page c (image_of y.image) key) (full_above c (image_of y.image) key) words (stage_in c x.image key words) quiet write (f refl) h
+      round_price r (prices_in r c y.image (after e k)) (after e k) ≤ coming_to_write r (prices_in r c x.image e) e k
+  left-price kinds.Freeze o w h f on = froze-few r b e e.alone (leaf_page c (image_of y.image) key) (full_above c (image_of y.image) key) words (stage_in c x.image key words) quiet write (f refl) h
   left-price kinds.Copy o w h f on = roomy kinds.Copy refl h.room
   left-price kinds.SplitRootLeaf o w h f on = roomy kinds.SplitRootLeaf refl h.room
-  left-price (kinds.SplitLeaf a) o w h f on = both _ _ _ (roomy (kinds.SplitLeaf a) refl h.room) (room-below b (stage_in c x.image key words) h.lacked)
+  left-price (kinds.SplitLeaf a) o w h f on = both _ _ _ (roomy (kinds.SplitLeaf a) refl h.room) (room-below r b (stage_in c x.image key words) h.lacked)
   left-price (kinds.SplitNode a) o w h f on = split (kinds.SplitNode a) a refl h on
   left-price (kinds.SplitRootNode a) o w h f on = split (kinds.SplitRootNode a) a refl h on
   left-price k o w h f on = absurd (cc)

@@ -4,6 +4,7 @@ use Rattle.std.specs.Prelude.{not, nat_lt, nat_le}
 use Rattle.std.proofs.lemmas.Bool.Decides.{nat_tests}
 use Rattle.bz_call.specs.Map.{key_of}
 use Rattle.bz_content.specs.Content.{image_of}
+use Rattle.bz_costs.specs.Resources.{Resource}
 use Rattle.bz_costs.specs.Costs.{HigherStagesCostMore, StretchesAreTheMost}
 use Rattle.bz_costs.specs.Most.{most_of_find, most_of_leaf, most_of_freeze, most_of_copy}
 use Rattle.bz_costs.specs.Stretches.{cost_of_look_up, cost_of_view, cost_of_change, cost_from, top_stage, cost_viewed_at, lone_stretch}
@@ -28,29 +29,29 @@ pub ready-thawed : (leaf : Page) (full words : ℕ) → stage_of leaf full words
 ready-thawed leaf full words ready = two-ways leaf.frozen _ (λ frozen. absurd (omega (arith, ready, frozen-lacks leaf full words frozen))) (λ thawed. thawed)
 
 -- a leaf without room, by what is known of it
-abbrev price-for : Bool → Bool → Bool → ℕ → ℕ
-price-for alone frozen crowded stage = if alone && (frozen && not crowded) then most_of_copy + cost_from 0 else cost_viewed_at frozen stage
+abbrev price-for : Resource → Bool → Bool → Bool → ℕ → ℕ
+price-for r alone frozen crowded stage = if alone && (frozen && not crowded) then most_of_copy r + cost_from r 0 else cost_viewed_at r frozen stage
 
-thawed-for : (alone crowded : Bool) (stage : ℕ) → price-for alone false crowded stage ≡ cost_viewed_at false stage
-thawed-for true crowded stage = refl
-thawed-for false crowded stage = refl
+thawed-for : (r : Resource) (alone crowded : Bool) (stage : ℕ) → price-for r alone false crowded stage ≡ cost_viewed_at r false stage
+thawed-for r true crowded stage = refl
+thawed-for r false crowded stage = refl
 
-pub viewed-thawed : (alone : Bool) (leaf : Page) (stage : ℕ) → leaf.frozen ≡ false → viewed_price alone leaf stage ≡ cost_viewed_at false stage
-viewed-thawed alone leaf stage thawed = ap (λ (b : Bool). price-for alone b (is_crowded leaf) stage) thawed ∙ thawed-for alone (is_crowded leaf) stage
+pub viewed-thawed : (r : Resource) (alone : Bool) (leaf : Page) (stage : ℕ) → leaf.frozen ≡ false → viewed_price r alone leaf stage ≡ cost_viewed_at r false stage
+viewed-thawed r alone leaf stage thawed = ap (λ (b : Bool). price-for r alone b (is_crowded leaf) stage) thawed ∙ thawed-for r alone (is_crowded leaf) stage
 
-large-for : (alone : Bool) (stage : ℕ) → price-for alone true true stage ≡ cost_viewed_at true stage
-large-for true stage = refl
-large-for false stage = refl
+large-for : (r : Resource) (alone : Bool) (stage : ℕ) → price-for r alone true true stage ≡ cost_viewed_at r true stage
+large-for r true stage = refl
+large-for r false stage = refl
 
-pub viewed-large : (alone : Bool) (leaf : Page) (stage : ℕ) → leaf.frozen ≡ true → is_crowded leaf ≡ true → viewed_price alone leaf stage ≡ cost_viewed_at true stage
-viewed-large alone leaf stage frozen many =
-    ap (λ (b : Bool). price-for alone b (is_crowded leaf) stage) frozen ∙ ap (λ (b : Bool). price-for alone true b stage) many ∙ large-for alone stage
+pub viewed-large : (r : Resource) (alone : Bool) (leaf : Page) (stage : ℕ) → leaf.frozen ≡ true → is_crowded leaf ≡ true → viewed_price r alone leaf stage ≡ cost_viewed_at r true stage
+viewed-large r alone leaf stage frozen many =
+    ap (λ (b : Bool). price-for r alone b (is_crowded leaf) stage) frozen ∙ ap (λ (b : Bool). price-for r alone true b stage) many ∙ large-for r alone stage
 
 -- one that is small enough: it is to be copied alone, or may be merged
-pub viewed-small : (alone : Bool) (leaf : Page) (stage : ℕ) → leaf.frozen ≡ true → is_crowded leaf ≡ false → viewed_price alone leaf stage ≡ (if alone then most_of_copy + cost_from 0 else cost_viewed_at true stage)
-viewed-small alone leaf stage frozen few = ap (λ (b : Bool). price-for alone b (is_crowded leaf) stage) frozen ∙ ap (λ (b : Bool). price-for alone true b stage) few ∙ small-for alone
+pub viewed-small : (r : Resource) (alone : Bool) (leaf : Page) (stage : ℕ) → leaf.frozen ≡ true → is_crowded leaf ≡ false → viewed_price r alone leaf stage ≡ (if alone then most_of_copy r + cost_from r 0 else cost_viewed_at r true stage)
+viewed-small r alone leaf stage frozen few = ap (λ (b : Bool). price-for r alone b (is_crowded leaf) stage) frozen ∙ ap (λ (b : Bool). price-for r alone true b stage) few ∙ small-for alone
   where
-    small-for : (alone : Bool) → price-for alone true false stage ≡ (if alone then most_of_copy + cost_from 0 else cost_viewed_at true stage)
+    small-for : (alone : Bool) → price-for r alone true false stage ≡ (if alone then most_of_copy r + cost_from r 0 else cost_viewed_at r true stage)
     small-for true = refl
     small-for false = refl
 
@@ -65,41 +66,41 @@ pub none-read : (viewed ready stage : ℕ) → stage ≡ 0 → (if nat_lt 0 stag
 none-read viewed ready stage none = ap (λ (n : ℕ). if nat_lt 0 n then viewed else ready) none
 
 -- the laws of costs on which all this rests
-pub record Laws : Type 0 where
-  pub higher : HigherStagesCostMore
-  pub most : StretchesAreTheMost
+pub record Laws (r : Resource) : Type 0 where
+  pub higher : HigherStagesCostMore r
+  pub most : StretchesAreTheMost r
 
 -- no leaf costs more than a freeze and a round at the greatest stage that counts
-at-most : (viewed from : ℕ) → cost_of_look_up + max cost_of_change (most_of_leaf + viewed) ≤ cost_of_view + most_of_freeze + from → viewed ≤ most_of_freeze + from
-at-most viewed from l = omega (arith, l)
+at-most : (r : Resource) (viewed from : ℕ) → cost_of_look_up r + max (cost_of_change r) (most_of_leaf r + viewed) ≤ cost_of_view r + most_of_freeze r + from → viewed ≤ most_of_freeze r + from
+at-most r viewed from l = omega (arith, l)
 
-copied-within : (one from : ℕ) → cost_from 0 + cost_of_view ≤ one → one ≤ from → most_of_copy + cost_from 0 ≤ most_of_freeze + from
-copied-within one from l h = omega (arith, l, h)
+copied-within : (r : Resource) (one from : ℕ) → cost_from r 0 + (cost_of_view r + most_of_copy r) ≤ one → one ≤ from → most_of_copy r + cost_from r 0 ≤ most_of_freeze r + from
+copied-within r one from l h = omega (arith, l, h)
 
-viewed-within : Laws → (alone : Bool) (leaf : Page) (stage : ℕ) → viewed_price alone leaf stage ≤ most_of_freeze + cost_from top_stage
-viewed-within b alone leaf stage =
+viewed-within : (r : Resource) → Laws r → (alone : Bool) (leaf : Page) (stage : ℕ) → viewed_price r alone leaf stage ≤ most_of_freeze r + cost_from r top_stage
+viewed-within r b alone leaf stage =
     either (alone && (leaf.frozen && not (is_crowded leaf))) _ _ _
-    (copied-within (cost_from (0 + 1)) (cost_from top_stage) (b.higher.round 0) (b.higher.from (0 + 1) top_stage (omega arith)))
-    (at-most (cost_viewed_at leaf.frozen stage) (cost_from top_stage) (b.most.stage leaf.frozen stage))
+    (copied-within r (cost_from r (0 + 1)) (cost_from r top_stage) (b.higher.round 0) (b.higher.from (0 + 1) top_stage (omega arith)))
+    (at-most r (cost_viewed_at r leaf.frozen stage) (cost_from r top_stage) (b.most.stage leaf.frozen stage))
 
 -- and so no round costs more than a stretch
-way-within : (q : Prices) (e : Errand) (from : ℕ) → q.viewed ≤ most_of_freeze + from → q.read ≤ most_of_freeze + from → cost_from 0 ≤ from → way_price q e ≤ most_of_find + (most_of_leaf + (most_of_freeze + from))
-way-within q e from viewed read last = either e.froze _ _ _ (omega (arith, read)) (omega (arith, viewed, last))
+way-within : (r : Resource) (q : Prices) (e : Errand) (from : ℕ) → q.viewed ≤ most_of_freeze r + from → q.read ≤ most_of_freeze r + from → cost_from r 0 ≤ from → way_price r q e ≤ most_of_find r + (most_of_leaf r + (most_of_freeze r + from))
+way-within r q e from viewed read last = either e.froze _ _ _ (omega (arith, read)) (omega (arith, viewed, last))
 
-from-within : (q : Prices) (e : Errand) (from : ℕ) → q.viewed ≤ most_of_freeze + from → q.read ≤ most_of_freeze + from → cost_from 0 ≤ from → round_price q e ≤ cost_of_view + most_of_freeze + from
-from-within q e from viewed read last = omega (arith, comes-within q e kinds.Seek (most_of_find + (most_of_leaf + (most_of_freeze + from))) (omega (arith, last)) (omega arith) (way-within q e from viewed read last))
+from-within : (r : Resource) (q : Prices) (e : Errand) (from : ℕ) → q.viewed ≤ most_of_freeze r + from → q.read ≤ most_of_freeze r + from → cost_from r 0 ≤ from → round_price r q e ≤ cost_of_view r + most_of_freeze r + from
+from-within r q e from viewed read last = omega (arith, comes-within r q e kinds.Seek (most_of_find r + (most_of_leaf r + (most_of_freeze r + from))) (omega (arith, last)) (omega arith) (way-within r q e from viewed read last))
 
-last-within : (from : ℕ) → cost_from 0 ≤ from → cost_from 0 ≤ most_of_freeze + from
-last-within from l = omega (arith, l)
+last-within : (r : Resource) (from : ℕ) → cost_from r 0 ≤ from → cost_from r 0 ≤ most_of_freeze r + from
+last-within r from l = omega (arith, l)
 
-clean-within : Laws → (e : Errand) (leaf : Page) (stage : ℕ) → round_price (clean_prices e.alone leaf stage) e ≤ lone_stretch
-clean-within b e leaf stage = from-within (clean_prices e.alone leaf stage) e (cost_from top_stage) viewed (either (nat_lt 0 stage) _ _ _ viewed (last-within (cost_from top_stage) last)) last
+clean-within : (r : Resource) → Laws r → (e : Errand) (leaf : Page) (stage : ℕ) → round_price r (clean_prices r e.alone leaf stage) e ≤ lone_stretch r
+clean-within r b e leaf stage = from-within r (clean_prices r e.alone leaf stage) e (cost_from r top_stage) viewed (either (nat_lt 0 stage) _ _ _ viewed (last-within r (cost_from r top_stage) last)) last
   where
-    viewed : viewed_price e.alone leaf stage ≤ most_of_freeze + cost_from top_stage
-    viewed = viewed-within b e.alone leaf stage
+    viewed : viewed_price r e.alone leaf stage ≤ most_of_freeze r + cost_from r top_stage
+    viewed = viewed-within r b e.alone leaf stage
 
-    last : cost_from 0 ≤ cost_from top_stage
+    last : cost_from r 0 ≤ cost_from r top_stage
     last = b.higher.from 0 top_stage (omega arith)
 
-pub round-within : Laws → (c : Config) (image : ℕ → ℕ) (e : Errand) → round_price (prices_in c image e) e ≤ lone_stretch
-round-within b c image e = clean-within b e (leaf_page c (image_of image) (key_of e.call)) (stage_in c image (key_of e.call) (words_asked e.call))
+pub round-within : (r : Resource) → Laws r → (c : Config) (image : ℕ → ℕ) (e : Errand) → round_price r (prices_in r c image e) e ≤ lone_stretch r
+round-within r b c image e = clean-within r b e (leaf_page c (image_of image) (key_of e.call)) (stage_in c image (key_of e.call) (words_asked e.call))

@@ -4,6 +4,7 @@ use Rattle.std.proofs.Common.{◌≡◌, ℕ, ◌+◌, ◌-◌, ◌*◌, ◌<◌
 use Rattle.std.specs.Prelude.{nat_lt, max}
 use Rattle.std.proofs.lemmas.Bool.{cases_lt}
 use Rattle.std.proofs.lemmas.Bool.Decides.{nat_tests}
+use Rattle.bz_costs.specs.Resources.{Resource, Marks}
 use Rattle.bz_costs.specs.Costs.{HigherStagesCostMore, StretchesAreTheMost}
 use Rattle.bz_costs.specs.Failing.{cost_of_lost_inner}
 use Rattle.bz_costs.specs.Most.{most_of_seek, most_of_find, most_of_leaf, most_of_copy, most_of_insert, most_of_update, most_of_delete, most_of_merge, most_of_below}
@@ -25,18 +26,18 @@ rises-by true reads last read write more l = omega arith
 rises-by false true last read write more l = omega arith
 rises-by false false last read write more l = l
 
-pub coming-rises : (q r : Prices) (e : Errand) (k : Kind) → coming_to_write q e k ≤ coming_to_write r e k → coming q e k ≤ coming r e k
-coming-rises q r e k l = rises-by e.effected (is_read e.call) (coming_after k) (coming_to_read k) (coming_to_write q e k) (coming_to_write r e k) l
+pub coming-rises : (r : Resource) (q x : Prices) (e : Errand) (k : Kind) → coming_to_write r q e k ≤ coming_to_write r x e k → coming r q e k ≤ coming r x e k
+coming-rises r q x e k l = rises-by e.effected (is_read e.call) (coming_after r k) (coming_to_read r k) (coming_to_write r q e k) (coming_to_write r x e k) l
 
 -- the prices where another's swap took effect, and others of which none is lower
-pub record IsNoMore (q r : Prices) : Type 0 where
-  pub viewed : q.viewed ≤ r.viewed
-  pub read : q.read ≤ r.read
-  pub froze : q.froze ≤ r.froze
-  pub renewed : q.renewed ≤ r.renewed
-  pub below : q.below ≤ r.below
-  pub inner : (level : ℕ) → q.inner level ≤ r.inner level
-  pub merged : q.merged ≤ r.merged
+pub record IsNoMore (q x : Prices) : Type 0 where
+  pub viewed : q.viewed ≤ x.viewed
+  pub read : q.read ≤ x.read
+  pub froze : q.froze ≤ x.froze
+  pub renewed : q.renewed ≤ x.renewed
+  pub below : q.below ≤ x.below
+  pub inner : (level : ℕ) → q.inner level ≤ x.inner level
+  pub merged : q.merged ≤ x.merged
 
 found-rises : (change leaf v w : ℕ) → v ≤ w → max change (leaf + v) ≤ max change (leaf + w)
 found-rises change leaf v w l = omega (arith, l)
@@ -51,23 +52,23 @@ same n = omega arith
 pub least : (n : ℕ) → 0 ≤ n
 least n = omega arith
 
-written-rises : (q r : Prices) (e : Errand) (k : Kind) → IsNoMore q r → coming_to_write q e k ≤ coming_to_write r e k
-written-rises q r e kinds.Seek h = way-rises e.froze most_of_leaf most_of_find cost_of_change q.read r.read q.viewed r.viewed h.read h.viewed
-written-rises q r e kinds.Find h = found-rises cost_of_change most_of_leaf q.viewed r.viewed h.viewed
-written-rises q r e kinds.ReadWhole h = h.read
-written-rises q r e kinds.Insert h = least 0
-written-rises q r e kinds.Update h = least 0
-written-rises q r e kinds.Delete h = same (most_of_seek + (most_of_leaf + most_of_merge))
-written-rises q r e kinds.Freeze h = h.froze
-written-rises q r e kinds.Copy h = h.renewed
-written-rises q r e kinds.SplitRootLeaf h = h.renewed
-written-rises q r e (kinds.SplitLeaf a) h = h.below
-written-rises q r e (kinds.SplitNode a) h = h.inner (level_of a)
-written-rises q r e (kinds.SplitRootNode a) h = h.inner (level_of a)
-written-rises q r e kinds.Merge h = h.merged
+written-rises : (r : Resource) (q x : Prices) (e : Errand) (k : Kind) → IsNoMore q x → coming_to_write r q e k ≤ coming_to_write r x e k
+written-rises r q x e kinds.Seek h = way-rises e.froze (most_of_leaf r) (most_of_find r) (cost_of_change r) q.read x.read q.viewed x.viewed h.read h.viewed
+written-rises r q x e kinds.Find h = found-rises (cost_of_change r) (most_of_leaf r) q.viewed x.viewed h.viewed
+written-rises r q x e kinds.ReadWhole h = h.read
+written-rises r q x e kinds.Insert h = least 0
+written-rises r q x e kinds.Update h = least 0
+written-rises r q x e kinds.Delete h = same (most_of_seek r + (most_of_leaf r + most_of_merge r))
+written-rises r q x e kinds.Freeze h = h.froze
+written-rises r q x e kinds.Copy h = h.renewed
+written-rises r q x e kinds.SplitRootLeaf h = h.renewed
+written-rises r q x e (kinds.SplitLeaf a) h = h.below
+written-rises r q x e (kinds.SplitNode a) h = h.inner (level_of a)
+written-rises r q x e (kinds.SplitRootNode a) h = h.inner (level_of a)
+written-rises r q x e kinds.Merge h = h.merged
 
-pub all-rises : (q r : Prices) (e : Errand) (k : Kind) → IsNoMore q r → coming q e k ≤ coming r e k
-all-rises q r e k h = coming-rises q r e k (written-rises q r e k h)
+pub all-rises : (r : Resource) (q x : Prices) (e : Errand) (k : Kind) → IsNoMore q x → coming r q e k ≤ coming r x e k
+all-rises r q x e k h = coming-rises r q x e k (written-rises r q x e k h)
 
 -- whichever way a test goes
 pick : (b : Bool) (n x y : ℕ) → n ≤ x → n ≤ y → n ≤ (if b then x else y)
@@ -77,8 +78,8 @@ pick false n x y l m = m
 copied-least : (copy look change leaf v : ℕ) → v ≤ copy + (look + max change (leaf + v))
 copied-least copy look change leaf v = omega arith
 
-pub viewed-least : StretchesAreTheMost → (alone : Bool) (leaf : Page) (stage : ℕ) → cost_once_viewed 0 ≤ viewed_price alone leaf stage
-viewed-least law alone leaf stage = pick _ (cost_once_viewed 0) _ _ (copied-least most_of_copy (most_of_seek + most_of_find) cost_of_change most_of_leaf (cost_once_viewed 0)) (law.viewed leaf.frozen stage)
+pub viewed-least : (r : Resource) → StretchesAreTheMost r → (alone : Bool) (leaf : Page) (stage : ℕ) → cost_once_viewed r 0 ≤ viewed_price r alone leaf stage
+viewed-least r law alone leaf stage = pick _ (cost_once_viewed r 0) _ _ (copied-least (most_of_copy r) (most_of_seek r + most_of_find r) (cost_of_change r) (most_of_leaf r) (cost_once_viewed r 0)) (law.viewed leaf.frozen stage)
 
 last-least : (look change leaf v : ℕ) → v ≤ look + max change (leaf + v)
 last-least look change leaf v = omega arith
@@ -93,29 +94,31 @@ both : (a b c : ℕ) → a ≤ b → b ≤ c → a ≤ c
 both a b c l m = omega (arith, l, m)
 
 -- all splits that find no room cost less than a last round
-lost-few : (level : ℕ) → cost_of_lost_inner * (MAX_LEVELS - 1 - level) ≤ cost_from 0
-lost-few level = omega arith
+lost-few : (r : Resource) (level : ℕ) → cost_of_lost_inner r * (MAX_LEVELS - 1 - level) ≤ cost_from r 0
+lost-few Marks level = omega arith
+lost-few r level = omega arith
 
 added : (a b c : ℕ) → a ≤ c → a ≤ b + c
 added a b c l = omega (arith, l)
 
-lost-none : (level : ℕ) → top_stage ≤ level → cost_of_lost_inner * (MAX_LEVELS - 1 - level) ≤ 0
-lost-none level l = omega (arith, l)
+lost-none : (r : Resource) (level : ℕ) → top_stage ≤ level → cost_of_lost_inner r * (MAX_LEVELS - 1 - level) ≤ 0
+lost-none Marks level l = omega (arith, l)
+lost-none r level l = omega (arith, l)
 
-inner-least : HigherStagesCostMore → (level stage : ℕ) → cost_of_lost_inner * (MAX_LEVELS - 1 - level) ≤ (if nat_lt level top_stage then cost_after_inner level stage else 0)
-inner-least more level stage = elim (cases_lt level top_stage) [
-  | inl l ↦ simp (less level top_stage l) (added _ _ _ (both _ _ _ (lost-few level) (more.from 0 _ (least _))))
-  | inr l ↦ both _ _ _ (lost-none level l) (least _)
+inner-least : (r : Resource) → HigherStagesCostMore r → (level stage : ℕ) → cost_of_lost_inner r * (MAX_LEVELS - 1 - level) ≤ (if nat_lt level top_stage then cost_after_inner r level stage else 0)
+inner-least r more level stage = elim (cases_lt level top_stage) [
+  | inl l ↦ simp (less level top_stage l) (added _ _ _ (both _ _ _ (lost-few r level) (more.from 0 _ (least _))))
+  | inr l ↦ both _ _ _ (lost-none r level l) (least _)
 ]
 
-pub disturbed-least : StretchesAreTheMost → HigherStagesCostMore → (alone : Bool) (leaf : Page) (stage : ℕ) → IsNoMore disturbed_prices (clean_prices alone leaf stage)
-disturbed-least law more alone leaf stage = record {
-  viewed = viewed-least law alone leaf stage;
-  read = pick (nat_lt 0 stage) (cost_once_viewed 0) (viewed_price alone leaf stage) (cost_from 0) (viewed-least law alone leaf stage) (last-least (most_of_seek + most_of_find) cost_of_change most_of_leaf (cost_once_viewed 0));
-  froze = least (cost_at true (stage - 1));
-  renewed = least (cost_from 0);
-  below = taken (cost_once_viewed 0) _ most_of_below (law.viewed true stage);
-  inner = λ level. inner-least more level stage;
+pub disturbed-least : (r : Resource) → StretchesAreTheMost r → HigherStagesCostMore r → (alone : Bool) (leaf : Page) (stage : ℕ) → IsNoMore (disturbed_prices r) (clean_prices r alone leaf stage)
+disturbed-least r law more alone leaf stage = record {
+  viewed = viewed-least r law alone leaf stage;
+  read = pick (nat_lt 0 stage) (cost_once_viewed r 0) (viewed_price r alone leaf stage) (cost_from r 0) (viewed-least r law alone leaf stage) (last-least (most_of_seek r + most_of_find r) (cost_of_change r) (most_of_leaf r) (cost_once_viewed r 0));
+  froze = least (cost_at r true (stage - 1));
+  renewed = least (cost_from r 0);
+  below = taken (cost_once_viewed r 0) _ (most_of_below r) (law.viewed true stage);
+  inner = λ level. inner-least r more level stage;
   merged = least _;
 }
 
@@ -139,17 +142,17 @@ next-deleted seek leaf merge find most delete w = omega arith
 next-lost : (lost seek leaf find change v w : ℕ) → lost ≤ seek + find + max change (leaf + v) → v ≤ w → lost ≤ seek + (find + max change (leaf + w))
 next-lost lost seek leaf find change v w l m = omega (arith, l, m)
 
-pub next-pays : StretchesAreTheMost → (e : Errand) (k : Kind) (alone : Bool) (leaf : Page) (stage : ℕ) → coming_to_write disturbed_prices e k ≤ most_of_seek + way_price (clean_prices alone leaf stage) (after e k)
-next-pays law e kinds.Seek alone leaf stage = next-way e.froze most_of_seek most_of_leaf most_of_find cost_of_change (cost_once_viewed 0) _ (viewed-least law alone leaf stage)
-next-pays law e kinds.Find alone leaf stage = next-found most_of_seek most_of_leaf most_of_find cost_of_change (cost_once_viewed 0) _ (viewed-least law alone leaf stage)
-next-pays law e kinds.ReadWhole alone leaf stage = next-read most_of_seek most_of_leaf most_of_find cost_of_change (cost_once_viewed 0) _ (viewed-least law alone leaf stage)
-next-pays law e kinds.Insert alone leaf stage = least _
-next-pays law e kinds.Update alone leaf stage = least _
-next-pays law e kinds.Delete alone leaf stage = next-deleted most_of_seek most_of_leaf most_of_merge most_of_find (max most_of_insert most_of_update) most_of_delete _
-next-pays law e kinds.Freeze alone leaf stage = least _
-next-pays law e kinds.Copy alone leaf stage = least _
-next-pays law e kinds.SplitRootLeaf alone leaf stage = least _
-next-pays law e (kinds.SplitLeaf a) alone leaf stage = next-viewed most_of_seek most_of_leaf most_of_find cost_of_change (cost_once_viewed 0) _ most_of_below (viewed-least law alone leaf stage)
-next-pays law e (kinds.SplitNode a) alone leaf stage = next-lost _ most_of_seek most_of_leaf most_of_find cost_of_change (cost_once_viewed 0) _ (lost-few (level_of a)) (viewed-least law alone leaf stage)
-next-pays law e (kinds.SplitRootNode a) alone leaf stage = next-lost _ most_of_seek most_of_leaf most_of_find cost_of_change (cost_once_viewed 0) _ (lost-few (level_of a)) (viewed-least law alone leaf stage)
-next-pays law e kinds.Merge alone leaf stage = least _
+pub next-pays : (r : Resource) → StretchesAreTheMost r → (e : Errand) (k : Kind) (alone : Bool) (leaf : Page) (stage : ℕ) → coming_to_write r (disturbed_prices r) e k ≤ most_of_seek r + way_price r (clean_prices r alone leaf stage) (after e k)
+next-pays r law e kinds.Seek alone leaf stage = next-way e.froze (most_of_seek r) (most_of_leaf r) (most_of_find r) (cost_of_change r) (cost_once_viewed r 0) _ (viewed-least r law alone leaf stage)
+next-pays r law e kinds.Find alone leaf stage = next-found (most_of_seek r) (most_of_leaf r) (most_of_find r) (cost_of_change r) (cost_once_viewed r 0) _ (viewed-least r law alone leaf stage)
+next-pays r law e kinds.ReadWhole alone leaf stage = next-read (most_of_seek r) (most_of_leaf r) (most_of_find r) (cost_of_change r) (cost_once_viewed r 0) _ (viewed-least r law alone leaf stage)
+next-pays r law e kinds.Insert alone leaf stage = least _
+next-pays r law e kinds.Update alone leaf stage = least _
+next-pays r law e kinds.Delete alone leaf stage = next-deleted (most_of_seek r) (most_of_leaf r) (most_of_merge r) (most_of_find r) (max (most_of_insert r) (most_of_update r)) (most_of_delete r) _
+next-pays r law e kinds.Freeze alone leaf stage = least _
+next-pays r law e kinds.Copy alone leaf stage = least _
+next-pays r law e kinds.SplitRootLeaf alone leaf stage = least _
+next-pays r law e (kinds.SplitLeaf a) alone leaf stage = next-viewed (most_of_seek r) (most_of_leaf r) (most_of_find r) (cost_of_change r) (cost_once_viewed r 0) _ (most_of_below r) (viewed-least r law alone leaf stage)
+next-pays r law e (kinds.SplitNode a) alone leaf stage = next-lost _ (most_of_seek r) (most_of_leaf r) (most_of_find r) (cost_of_change r) (cost_once_viewed r 0) _ (lost-few r (level_of a)) (viewed-least r law alone leaf stage)
+next-pays r law e (kinds.SplitRootNode a) alone leaf stage = next-lost _ (most_of_seek r) (most_of_leaf r) (most_of_find r) (cost_of_change r) (cost_once_viewed r 0) _ (lost-few r (level_of a)) (viewed-least r law alone leaf stage)
+next-pays r law e kinds.Merge alone leaf stage = least _

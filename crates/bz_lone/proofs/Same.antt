@@ -4,6 +4,7 @@ use Rattle.std.specs.Prelude.{not, nat_lt}
 use Rattle.bz_joined.specs.FromAlone.Alone.{IsAlone}
 use Rattle.bz_joined.specs.FromAlone.Counts.{Adds}
 use Rattle.bz_content.specs.Content.{image_of}
+use Rattle.bz_costs.specs.Resources.{Resource}
 use Rattle.bz_costs.specs.Most.{most_of_copy}
 use Rattle.bz_costs.specs.Splits.{cost_after_below, cost_after_inner}
 use Rattle.bz_costs.specs.Stretches.{cost_of_view, cost_from, cost_at, cost_viewed_at, top_stage}
@@ -25,23 +26,23 @@ pub record SameLeaf (p q : Past) (key : List ℕ) : Type 0 where
   pub stage : (words : ℕ) → stage_in q.config (q.at q.now).image key words ≡ stage_in p.config (p.at p.now).image key words
 
 -- the prices of a clean round, by what they stand on
-abbrev prices_by : Bool → Bool → Bool → ℕ → Prices
-prices_by alone frozen crowded stage = record {
-  viewed = if alone && (frozen && not crowded) then most_of_copy + cost_from 0 else cost_viewed_at frozen stage;
-  read = if nat_lt 0 stage then (if alone && (frozen && not crowded) then most_of_copy + cost_from 0 else cost_viewed_at frozen stage) else cost_from 0;
-  froze = cost_at true (stage - 1);
-  renewed = cost_from 0;
-  below = cost_after_below stage;
-  inner = λ level. if nat_lt level top_stage then cost_after_inner level stage else 0;
-  merged = cost_of_view + (most_of_copy + cost_from 0);
+abbrev prices_by : Resource → Bool → Bool → Bool → ℕ → Prices
+prices_by r alone frozen crowded stage = record {
+  viewed = if alone && (frozen && not crowded) then most_of_copy r + cost_from r 0 else cost_viewed_at r frozen stage;
+  read = if nat_lt 0 stage then (if alone && (frozen && not crowded) then most_of_copy r + cost_from r 0 else cost_viewed_at r frozen stage) else cost_from r 0;
+  froze = cost_at r true (stage - 1);
+  renewed = cost_from r 0;
+  below = cost_after_below r stage;
+  inner = λ level. if nat_lt level top_stage then cost_after_inner r level stage else 0;
+  merged = cost_of_view r + (most_of_copy r + cost_from r 0);
 }
 
-clean-same : (alone : Bool) (x y : Page) (n m : ℕ) → y.frozen ≡ x.frozen → is_crowded y ≡ is_crowded x → m ≡ n → clean_prices alone y m ≡ clean_prices alone x n
-clean-same alone x y n m f c s = λ i. prices_by alone (f i) (c i) (s i)
+clean-same : (r : Resource) (alone : Bool) (x y : Page) (n m : ℕ) → y.frozen ≡ x.frozen → is_crowded y ≡ is_crowded x → m ≡ n → clean_prices r alone y m ≡ clean_prices r alone x n
+clean-same r alone x y n m f c s = λ i. prices_by r alone (f i) (c i) (s i)
 
-pub prices-same : (p q : Past) (e : Errand) → SameLeaf p q (key_of e.call) → prices_in q.config (q.at q.now).image e ≡ prices_in p.config (p.at p.now).image e
-prices-same p q e h =
-    clean-same e.alone (leaf_page p.config (image_of (p.at p.now).image) (key_of e.call)) (leaf_page q.config (image_of (q.at q.now).image) (key_of e.call)) (stage_in p.config (p.at p.now).image (key_of e.call) (words_asked e.call))
+pub prices-same : (r : Resource) (p q : Past) (e : Errand) → SameLeaf p q (key_of e.call) → prices_in r q.config (q.at q.now).image e ≡ prices_in r p.config (p.at p.now).image e
+prices-same r p q e h =
+    clean-same r e.alone (leaf_page p.config (image_of (p.at p.now).image) (key_of e.call)) (leaf_page q.config (image_of (q.at q.now).image) (key_of e.call)) (stage_in p.config (p.at p.now).image (key_of e.call) (words_asked e.call))
     (stage_in q.config (q.at q.now).image (key_of e.call) (words_asked e.call)) h.frozen h.crowded (h.stage (words_asked e.call))
 
 -- how many effects there were when the look-up began does not change

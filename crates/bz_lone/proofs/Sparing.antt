@@ -7,26 +7,27 @@ use Rattle.bz_lone.specs.Errands.{Errand}
 use Rattle.bz_lone.specs.Prices.{Prices, disturbed_prices, prices_in}
 use Rattle.bz_lone.specs.Rounds.{LessIsSpared}
 use Rattle.bz_lone.specs.Sum.{Affords, IsThawed, Round, Disturbed, Clean, reserve, prices_of, Spares}
+use Rattle.bz_costs.specs.Resources.{Resource}
 
-pub less-afforded : (m : SwapMemory) (w : ℕ) (e : Errand) (now by much little : ℕ) → little ≤ much → Affords m w e now by much → Affords m w e now by little
-less-afforded m w e now by much little l a = record { enough = omega (arith, l, a.enough) }
+pub less-afforded : (r : Resource) (m : SwapMemory) (w : ℕ) (e : Errand) (used by much little : ℕ) → little ≤ much → Affords r m w e used by much → Affords r m w e used by little
+less-afforded r m w e used by much little l a = record { enough = omega (arith, l, a.enough) }
 
-module _ (m : SwapMemory) (w : ℕ) (e : Errand) (by : ℕ) (p : Past) (price less : Prices → ℕ) where
-  in-round : (round : Round) → less (prices_of round e p) ≤ price (prices_of round e p) → (round ≡ Clean → IsAlone 0 p) → IsThawed e → Affords m w e p.now by (reserve round + price (prices_of round e p)) → Spares m w e by p less
+module _ (r : Resource) (m : SwapMemory) (w : ℕ) (e : Errand) (used by : ℕ) (p : Past) (price less : Prices → ℕ) where
+  in-round : (round : Round) → less (prices_of r round e p) ≤ price (prices_of r round e p) → (round ≡ Clean → IsAlone 0 p) → IsThawed e → Affords r m w e used by (reserve r round + price (prices_of r round e p)) → Spares r m w e used by p less
   in-round round l alone thawed a = record {
     round = round;
     alone = alone;
     thawed = thawed;
-    affords = less-afforded m w e p.now by (reserve round + price (prices_of round e p)) (reserve round + less (prices_of round e p)) (omega (arith, l)) a;
+    affords = less-afforded r m w e used by (reserve r round + price (prices_of r round e p)) (reserve r round + less (prices_of r round e p)) (omega (arith, l)) a;
   }
 
   -- in a clean round what is known of it may be used
-  cheaper : (less disturbed_prices ≤ price disturbed_prices) → (IsAlone 0 p → less (prices_in p.config (p.at p.now).image e) ≤ price (prices_in p.config (p.at p.now).image e)) → (round : Round) → (round ≡ Clean → IsAlone 0 p) → less (prices_of round e p) ≤ price (prices_of round e p)
+  cheaper : (less (disturbed_prices r) ≤ price (disturbed_prices r)) → (IsAlone 0 p → less (prices_in r p.config (p.at p.now).image e) ≤ price (prices_in r p.config (p.at p.now).image e)) → (round : Round) → (round ≡ Clean → IsAlone 0 p) → less (prices_of r round e p) ≤ price (prices_of r round e p)
   cheaper hurt clean Disturbed alone = hurt
   cheaper hurt clean Clean alone = clean (alone refl)
 
-  pub spend : (less disturbed_prices ≤ price disturbed_prices) → (IsAlone 0 p → less (prices_in p.config (p.at p.now).image e) ≤ price (prices_in p.config (p.at p.now).image e)) → Spares m w e by p price → Spares m w e by p less
+  pub spend : (less (disturbed_prices r) ≤ price (disturbed_prices r)) → (IsAlone 0 p → less (prices_in r p.config (p.at p.now).image e) ≤ price (prices_in r p.config (p.at p.now).image e)) → Spares r m w e used by p price → Spares r m w e used by p less
   spend hurt clean s = in-round s.round (cheaper hurt clean s.round s.alone) s.alone s.thawed s.affords
 
-pub less-is-spared : LessIsSpared
-less-is-spared m w e by p price less l s = spend m w e by p price less (l disturbed_prices) (λ alone. l (prices_in p.config (p.at p.now).image e)) s
+pub less-is-spared : (r : Resource) → LessIsSpared r
+less-is-spared r m w e used by p price less l s = spend r m w e used by p price less (l (disturbed_prices r)) (λ alone. l (prices_in r p.config (p.at p.now).image e)) s

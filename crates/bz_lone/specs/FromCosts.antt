@@ -3,4 +3,5 @@ pub use Rattle.bz_costs.specs.Costs
 pub use Rattle.bz_costs.specs.Laws
 pub use Rattle.bz_costs.specs.Lone
 pub use Rattle.bz_costs.specs.Most
+pub use Rattle.bz_costs.specs.Resources
 pub use Rattle.bz_costs.specs.Weights

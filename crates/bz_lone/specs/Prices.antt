@@ -3,6 +3,7 @@
 use Rattle.std.specs.Prelude.{ℕ, ◌+◌, ◌-◌, ◌*◌, ◌&&◌, max, not, nat_lt, if◌then◌else◌, Bool, true}
 use Rattle.bz_call.specs.Map.{key_of}
 use Rattle.bz_content.specs.Content.{image_of}
+use Rattle.bz_costs.specs.Resources.{Resource}
 use Rattle.bz_costs.specs.Failing.{cost_of_lost_inner}
 use Rattle.bz_costs.specs.Most.{most_of_seek, most_of_find, most_of_leaf, most_of_copy, most_of_merge, most_of_below}
 use Rattle.bz_costs.specs.Splits.{cost_after_below, cost_after_inner}
@@ -29,76 +30,76 @@ pub record Prices : Type 0 where
   pub merged : ℕ
 
 -- where another's swap took effect, the round may still do whatever there is to do, and ends then
-abbrev pub disturbed_prices : Prices
-disturbed_prices = record {
-  viewed = cost_once_viewed 0;
-  read = cost_once_viewed 0;
+abbrev pub disturbed_prices : Resource → Prices
+disturbed_prices r = record {
+  viewed = cost_once_viewed r 0;
+  read = cost_once_viewed r 0;
   froze = 0;
   renewed = 0;
-  below = cost_once_viewed 0 - most_of_below;
-  inner = λ level. cost_of_lost_inner * (MAX_LEVELS - 1 - level);
+  below = cost_once_viewed r 0 - most_of_below r;
+  inner = λ level. cost_of_lost_inner r * (MAX_LEVELS - 1 - level);
   merged = 0;
 }
 
 -- a frozen leaf that a call is to copy alone is copied, where that is what it needs
-abbrev pub viewed_price : Bool → Page → ℕ → ℕ
-viewed_price alone leaf stage = if alone && (leaf.frozen && not (is_crowded leaf)) then most_of_copy + cost_from 0 else cost_viewed_at leaf.frozen stage
+abbrev pub viewed_price : Resource → Bool → Page → ℕ → ℕ
+viewed_price r alone leaf stage = if alone && (leaf.frozen && not (is_crowded leaf)) then most_of_copy r + cost_from r 0 else cost_viewed_at r leaf.frozen stage
 
 -- in a clean round, of a key with this leaf and at this stage
-abbrev pub clean_prices : Bool → Page → ℕ → Prices
-clean_prices alone leaf stage = record {
-  viewed = viewed_price alone leaf stage;
-  read = if nat_lt 0 stage then viewed_price alone leaf stage else cost_from 0;
-  froze = cost_at true (stage - 1);
-  renewed = cost_from 0;
-  below = cost_after_below stage;
-  inner = λ level. if nat_lt level top_stage then cost_after_inner level stage else 0;
-  merged = cost_of_view + (most_of_copy + cost_from 0);
+abbrev pub clean_prices : Resource → Bool → Page → ℕ → Prices
+clean_prices r alone leaf stage = record {
+  viewed = viewed_price r alone leaf stage;
+  read = if nat_lt 0 stage then viewed_price r alone leaf stage else cost_from r 0;
+  froze = cost_at r true (stage - 1);
+  renewed = cost_from r 0;
+  below = cost_after_below r stage;
+  inner = λ level. if nat_lt level top_stage then cost_after_inner r level stage else 0;
+  merged = cost_of_view r + (most_of_copy r + cost_from r 0);
 }
 
 -- those in the image of a moment
-abbrev pub prices_in : Config → (ℕ → ℕ) → Errand → Prices
-prices_in c image e = clean_prices e.alone (leaf_page c (image_of image) (key_of e.call)) (stage_in c image (key_of e.call) (words_asked e.call))
+abbrev pub prices_in : Resource → Config → (ℕ → ℕ) → Errand → Prices
+prices_in r c image e = clean_prices r e.alone (leaf_page c (image_of image) (key_of e.call)) (stage_in c image (key_of e.call) (words_asked e.call))
 
 -- once the key was looked up: a change, or the leaf is read whole
-abbrev pub found_price : Prices → ℕ
-found_price q = max cost_of_change (most_of_leaf + q.viewed)
+abbrev pub found_price : Resource → Prices → ℕ
+found_price r q = max (cost_of_change r) (most_of_leaf r + q.viewed)
 
 -- once the way to the leaf was found
-abbrev pub way_price : Prices → Errand → ℕ
-way_price q e = if e.froze then most_of_leaf + q.read else (most_of_find + found_price q)
+abbrev pub way_price : Resource → Prices → Errand → ℕ
+way_price r q e = if e.froze then most_of_leaf r + q.read else (most_of_find r + found_price r q)
 
 -- after a task of a call that changes nothing
-abbrev pub coming_to_read : Kind → ℕ
-coming_to_read kinds.Seek = max most_of_find most_of_leaf
-coming_to_read other = 0
+abbrev pub coming_to_read : Resource → Kind → ℕ
+coming_to_read r kinds.Seek = max (most_of_find r) (most_of_leaf r)
+coming_to_read r other = 0
 
 -- of one that has a change to make
-abbrev pub coming_to_write : Prices → Errand → Kind → ℕ
-coming_to_write q e kinds.Seek = way_price q e
-coming_to_write q e kinds.Find = found_price q
-coming_to_write q e kinds.ReadWhole = q.read
-coming_to_write q e kinds.Insert = 0
-coming_to_write q e kinds.Update = 0
-coming_to_write q e kinds.Delete = most_of_seek + (most_of_leaf + most_of_merge)
-coming_to_write q e kinds.Freeze = q.froze
-coming_to_write q e kinds.Copy = q.renewed
-coming_to_write q e kinds.SplitRootLeaf = q.renewed
-coming_to_write q e (kinds.SplitLeaf a) = q.below
-coming_to_write q e (kinds.SplitNode a) = q.inner (level_of a)
-coming_to_write q e (kinds.SplitRootNode a) = q.inner (level_of a)
-coming_to_write q e kinds.Merge = q.merged
+abbrev pub coming_to_write : Resource → Prices → Errand → Kind → ℕ
+coming_to_write r q e kinds.Seek = way_price r q e
+coming_to_write r q e kinds.Find = found_price r q
+coming_to_write r q e kinds.ReadWhole = q.read
+coming_to_write r q e kinds.Insert = 0
+coming_to_write r q e kinds.Update = 0
+coming_to_write r q e kinds.Delete = most_of_seek r + (most_of_leaf r + most_of_merge r)
+coming_to_write r q e kinds.Freeze = q.froze
+coming_to_write r q e kinds.Copy = q.renewed
+coming_to_write r q e kinds.SplitRootLeaf = q.renewed
+coming_to_write r q e (kinds.SplitLeaf a) = q.below
+coming_to_write r q e (kinds.SplitNode a) = q.inner (level_of a)
+coming_to_write r q e (kinds.SplitRootNode a) = q.inner (level_of a)
+coming_to_write r q e kinds.Merge = q.merged
 
 -- and of one that has had it: a delete may look its leaf up once more, and have it merged
-abbrev pub coming_after : Kind → ℕ
-coming_after kinds.Seek = most_of_leaf + most_of_merge
-coming_after kinds.ReadWhole = most_of_merge
-coming_after kinds.Delete = most_of_seek + (most_of_leaf + most_of_merge)
-coming_after other = 0
+abbrev pub coming_after : Resource → Kind → ℕ
+coming_after r kinds.Seek = most_of_leaf r + most_of_merge r
+coming_after r kinds.ReadWhole = most_of_merge r
+coming_after r kinds.Delete = most_of_seek r + (most_of_leaf r + most_of_merge r)
+coming_after r other = 0
 
-abbrev pub coming : Prices → Errand → Kind → ℕ
-coming q e kind = if e.effected then coming_after kind else if is_read e.call then coming_to_read kind else coming_to_write q e kind
+abbrev pub coming : Resource → Prices → Errand → Kind → ℕ
+coming r q e kind = if e.effected then coming_after r kind else if is_read e.call then coming_to_read r kind else coming_to_write r q e kind
 
 -- a round from its begin on
-abbrev pub round_price : Prices → Errand → ℕ
-round_price q e = most_of_seek + coming q e kinds.Seek
+abbrev pub round_price : Resource → Prices → Errand → ℕ
+round_price r q e = most_of_seek r + coming r q e kinds.Seek

@@ -5,6 +5,7 @@ use Rattle.bz_ascent.specs.Ascents.{IsOneUp}
 use Rattle.bz_ascent.specs.declared.ascent.Ascent.{Ascent}
 use Rattle.bz_call.specs.Map.{key_of}
 use Rattle.bz_content.specs.Content.{image_of}
+use Rattle.bz_costs.specs.Resources.{Resource}
 use Rattle.bz_costs.specs.Most.{most_of, most_of_freeze, most_of_copy, most_of_merge, most_of_root, most_of_below}
 use Rattle.bz_layout.specs.declared.thresholds.TheConstants.{MAX_LEVELS}
 use Rattle.bz_running.specs.Duties.{end_of}
@@ -35,12 +36,12 @@ pub record IsLarge (e : Errand) (p : Past) : Type 0 where
   pub many : is_crowded (leaf_now e p) ≡ true
 
 -- a leaf that was read whole is frozen, copied, split or merged
-pub record RenewalsArePaid : Type 0 where
-  pub freeze : (m : SwapMemory) (w : ℕ) (e : Errand) (by : ℕ) (p : Past) → (IsAlone 0 p → IsLacking e p) → Spares m w e by p (λ q. q.viewed) → Spares m w e by p (λ q. most_of_freeze + q.froze)
-  pub copy : (m : SwapMemory) (w : ℕ) (e : Errand) (by : ℕ) (p : Past) → (IsAlone 0 p → IsSmall e p) → Spares m w e by p (λ q. q.viewed) → Spares m w e by p (λ q. most_of_copy + q.renewed)
-  pub merge : (m : SwapMemory) (w : ℕ) (e : Errand) (by : ℕ) (p : Past) → e.alone ≡ false → (IsAlone 0 p → IsSmall e p) → Spares m w e by p (λ q. q.viewed) → Spares m w e by p (λ q. most_of_merge + q.merged)
-  pub root : (m : SwapMemory) (w : ℕ) (e : Errand) (by : ℕ) (p : Past) → (IsAlone 0 p → IsLarge e p) → Spares m w e by p (λ q. q.viewed) → Spares m w e by p (λ q. most_of_root + q.renewed)
-  pub below : (m : SwapMemory) (w : ℕ) (e : Errand) (by : ℕ) (p : Past) → (IsAlone 0 p → IsLarge e p) → Spares m w e by p (λ q. q.viewed) → Spares m w e by p (λ q. most_of_below + q.below)
+pub record RenewalsArePaid (r : Resource) : Type 0 where
+  pub freeze : (m : SwapMemory) (w : ℕ) (e : Errand) (used by : ℕ) (p : Past) → (IsAlone 0 p → IsLacking e p) → Spares r m w e used by p (λ q. q.viewed) → Spares r m w e used by p (λ q. most_of_freeze r + q.froze)
+  pub copy : (m : SwapMemory) (w : ℕ) (e : Errand) (used by : ℕ) (p : Past) → (IsAlone 0 p → IsSmall e p) → Spares r m w e used by p (λ q. q.viewed) → Spares r m w e used by p (λ q. most_of_copy r + q.renewed)
+  pub merge : (m : SwapMemory) (w : ℕ) (e : Errand) (used by : ℕ) (p : Past) → e.alone ≡ false → (IsAlone 0 p → IsSmall e p) → Spares r m w e used by p (λ q. q.viewed) → Spares r m w e used by p (λ q. most_of_merge r + q.merged)
+  pub root : (m : SwapMemory) (w : ℕ) (e : Errand) (used by : ℕ) (p : Past) → (IsAlone 0 p → IsLarge e p) → Spares r m w e used by p (λ q. q.viewed) → Spares r m w e used by p (λ q. most_of_root r + q.renewed)
+  pub below : (m : SwapMemory) (w : ℕ) (e : Errand) (used by : ℕ) (p : Past) → (IsAlone 0 p → IsLarge e p) → Spares r m w e used by p (λ q. q.viewed) → Spares r m w e used by p (λ q. most_of_below r + q.below)
 
 -- the split of the node above one whose split found no room there: below a parent, or of the root
 pub record IsAbove (t next : AnyTask) (a up : Ascent) : Type 0 where
@@ -51,7 +52,7 @@ pub record IsAbove (t next : AnyTask) (a up : Ascent) : Type 0 where
   pub to : ((kind_of next ≡ kinds.SplitNode up) × (0 < up.place)) ⊎ (kind_of next ≡ kinds.SplitRootNode up)
 
 -- it is paid for, in a clean round where the node is one of the full ones directly above the leaf
-abbrev pub AscentsArePaid : Type 0
-AscentsArePaid =
-    (m : SwapMemory) (w : ℕ) (e : Errand) (t next : AnyTask) (a up : Ascent) (by : ℕ) (p : Past) → e.effected ≡ false → is_read e.call ≡ false → IsAbove t next a up → end_of t ≡ Some NeedsRoom → (IsAlone 0 p → level_of up + 1 ≤ stage_now e p) →
-    IsPaid m w e t 0 0 by p → Spares m w e by p (λ q. most_of next + coming q e (kind_of next))
+abbrev pub AscentsArePaid : Resource → Type 0
+AscentsArePaid r =
+    (m : SwapMemory) (w : ℕ) (e : Errand) (t next : AnyTask) (a up : Ascent) (used by : ℕ) (p : Past) → e.effected ≡ false → is_read e.call ≡ false → IsAbove t next a up → end_of t ≡ Some NeedsRoom → (IsAlone 0 p → level_of up + 1 ≤ stage_now e p) →
+    IsPaid r m w e t 0 0 used by p → Spares r m w e used by p (λ q. most_of r next + coming r q e (kind_of next))

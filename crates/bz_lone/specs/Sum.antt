@@ -1,35 +1,39 @@
--- The one number that falls: how many marks are left to a worker that steps alone, of those by which its call is to end, and what its task and
--- all that may come after it may still take of them.
-use Rattle.std.specs.Prelude.{◌≡◌, ◌≢◌, ◌⊎◌, ℕ, ◌+◌, ◌*◌, ◌≤◌, if◌then◌else◌, true, false, Option, Some, None}
+-- The one number that falls: what is left of a resource to a worker that steps alone, of that by which its call is to end, and what its task
+-- and all that may come after it may still take of it.
+use Rattle.std.specs.Prelude.{◌≡◌, ◌≢◌, ◌⊎◌, ℕ, ◌+◌, ◌*◌, ◌≤◌, if◌then◌else◌, Bool, true, false, Some, None}
 use Rattle.bz_joined.specs.FromAlone.Alone.{IsAlone}
 use Rattle.bz_call.specs.Map.{key_of}
 use Rattle.bz_content.specs.Content.{image_of}
+use Rattle.bz_costs.specs.Lone.{one_mark}
+use Rattle.bz_costs.specs.Resources.{Resource, Marks}
 use Rattle.bz_costs.specs.Stretches.{lone_stretch}
-use Rattle.bz_costs.specs.Weights.{weight, weigh}
-use Rattle.bz_layout.specs.declared.swaps.TheConstants.{RENEWAL_SWAPS}
+use Rattle.bz_costs.specs.Weights.{weigh}
 use Rattle.bz_rivals.specs.Rivals.{rivals}
 use Rattle.bz_running.specs.Duties.{end_of, made_of, swaps_of, makes_no_change}
 use Rattle.bz_running.specs.Kinds as kinds
-use Rattle.bz_running.specs.Kinds.{Kind, kind_of}
+use Rattle.bz_running.specs.Kinds.{kind_of}
 use Rattle.bz_running.specs.declared.running.AnyTask.{AnyTask}
 use Rattle.bz_stage.specs.Rooms.{is_crowded}
 use Rattle.bz_stage.specs.Stages.{leaf_page}
-use Rattle.bz_swap.specs.Alone.{left_to}
 use Rattle.bz_swap.specs.SwapMemory.{SwapMemory}
 use Rattle.bz_task.specs.Scene.{Past}
-use Rattle.bz_task.specs.declared.todo.Outcome.{Outcome}
-use Rattle.bz_task.specs.declared.todo.Outcome.TheVariants.{Done, NeedsRoom, Restart}
+use Rattle.bz_task.specs.declared.todo.Outcome.TheVariants.{Done, Restart}
 use Rattle.bz_lone.specs.Errands.{Errand, is_read, IsLookOf, may_swap_twice, after}
 use Rattle.bz_lone.specs.Prices.{Prices, disturbed_prices, prices_in, coming, round_price}
 
--- the marks of the call's own that are no steps: that of its effect, that of its end, and one to spare
-abbrev pub own_left : Errand → ℕ
-own_left e = if e.effected then 2 else 3
+-- what those marks of a call still take that are no steps of the swap memory, by whether it has had its effect: that of its effect, that of its
+-- end, and one to spare
+abbrev pub own_by : Resource → Bool → ℕ
+own_by Marks effected = if effected then 2 else 3
+own_by other effected = 0
 
--- after so many marks so many more suffice for its tasks, if it is to end by some number of marks: the rest is kept for the swaps of others
--- that may still take effect, for what the swap memory still allows, and for the call's own marks
-pub record Affords (m : SwapMemory) (w : ℕ) (e : Errand) (now by n : ℕ) : Type 0 where
-  pub enough : (lone_stretch + 1) * rivals m w + left_to m w + own_left e + now + n ≤ by
+abbrev pub own_left : Resource → Errand → ℕ
+own_left r e = own_by r e.effected
+
+-- with so much used, which of marks are those of the journal and all that the swap memory still allows, so much more suffices for its tasks, if
+-- no more is to be used than some number: the rest is kept for the swaps of others that may still take effect, and for the call's own marks
+pub record Affords (r : Resource) (m : SwapMemory) (w : ℕ) (e : Errand) (used by n : ℕ) : Type 0 where
+  pub enough : (lone_stretch r + one_mark r) * rivals m w + own_left r e + used + n ≤ by
 
 -- a round in which another's swap took effect, and a clean one
 pub data Round : Type 0 where
@@ -37,29 +41,29 @@ pub data Round : Type 0 where
   Clean : Round
 
 -- after a disturbed round a whole stretch may come
-abbrev pub reserve : Round → ℕ
-reserve Disturbed = lone_stretch
-reserve Clean = 0
+abbrev pub reserve : Resource → Round → ℕ
+reserve r Disturbed = lone_stretch r
+reserve r Clean = 0
 
-abbrev pub prices_of : Round → Errand → Past → Prices
-prices_of Disturbed e p = disturbed_prices
-prices_of Clean e p = prices_in p.config (p.at p.now).image e
+abbrev pub prices_of : Resource → Round → Errand → Past → Prices
+prices_of r Disturbed e p = disturbed_prices r
+prices_of r Clean e p = prices_in r p.config (p.at p.now).image e
 
 -- only a call that makes a change reads a leaf whole that it froze itself
 abbrev pub IsThawed : Errand → Type 0
 IsThawed e = e.froze ≡ true → is_read e.call ≡ false
 
 -- between two tasks: this may be paid for, in the present round
-pub record Spares (m : SwapMemory) (w : ℕ) (e : Errand) (by : ℕ) (p : Past) (price : Prices → ℕ) : Type 0 where
+pub record Spares (r : Resource) (m : SwapMemory) (w : ℕ) (e : Errand) (used by : ℕ) (p : Past) (price : Prices → ℕ) : Type 0 where
   pub round : Round
   pub alone : round ≡ Clean → IsAlone 0 p
   pub thawed : IsThawed e
-  pub affords : Affords m w e p.now by (reserve round + price (prices_of round e p))
+  pub affords : Affords r m w e used by (reserve r round + price (prices_of r round e p))
 
 -- and this, if the key is looked up again
-pub record PaysForRound (m : SwapMemory) (w : ℕ) (e : Errand) (by : ℕ) (p : Past) : Type 0 where
+pub record PaysForRound (r : Resource) (m : SwapMemory) (w : ℕ) (e : Errand) (used by : ℕ) (p : Past) : Type 0 where
   pub thawed : IsThawed e
-  pub affords : Affords m w e p.now by (round_price (prices_in p.config (p.at p.now).image e) e)
+  pub affords : Affords r m w e used by (round_price r (prices_in r p.config (p.at p.now).image e) e)
 
 -- the leaf of its key is frozen, and small enough to be copied
 pub record IsSmall (e : Errand) (p : Past) : Type 0 where
@@ -95,24 +99,15 @@ IsIn (In Disturbed) e t untold p = Unit {0}
 IsIn (In Clean) e t untold p = IsClean e t untold p
 IsIn Made e t untold p = IsMade e t untold
 
--- the split of an inner node that ended for want of room has asked for no swap: what that was allowed is kept for the split above
-abbrev pub kept_by : Option Outcome → Kind → ℕ
-kept_by (Some NeedsRoom) (kinds.SplitNode a) = weight 0 RENEWAL_SWAPS
-kept_by ended other = 0
-
--- what a task may still take, and leaves to the next one of its round
-abbrev pub still_takes : AnyTask → ℕ
-still_takes t = weigh t + kept_by (end_of t) (kind_of t)
-
 -- what its task and all that comes after it may still take
-abbrev pub left_in : State → Errand → AnyTask → Past → ℕ
-left_in (In round) e t p = reserve round + (still_takes t + coming (prices_of round e p) e (kind_of t))
-left_in Made e t p = still_takes t + round_price (prices_in p.config (p.at p.now).image (after e (kind_of t))) (after e (kind_of t))
+abbrev pub left_in : Resource → State → Errand → AnyTask → Past → ℕ
+left_in r (In round) e t p = reserve r round + (weigh r t + coming r (prices_of r round e p) e (kind_of t))
+left_in r Made e t p = weigh r t + round_price r (prices_in r p.config (p.at p.now).image (after e (kind_of t))) (after e (kind_of t))
 
--- its call ends by this number of marks, if its worker steps alone from now on; of what its task asks for so much was not started yet
-pub record IsPaid (m : SwapMemory) (w : ℕ) (e : Errand) (t : AnyTask) (untold extra by : ℕ) (p : Past) : Type 0 where
+-- its call ends with no more used than this, if its worker steps alone from now on; of what its task asks for so much was not started yet
+pub record IsPaid (r : Resource) (m : SwapMemory) (w : ℕ) (e : Errand) (t : AnyTask) (untold extra used by : ℕ) (p : Past) : Type 0 where
   pub look : e.effected ≡ false → IsLookOf e.call (kind_of t)
   pub thawed : IsThawed e
   pub state : State
   pub holds : IsIn state e t untold p
-  pub affords : Affords m w e p.now by (extra + left_in state e t p)
+  pub affords : Affords r m w e used by (extra + left_in r state e t p)

@@ -1,8 +1,9 @@
 //! Laws of the number. Each function does nothing but call the laws that it follows from: its contract is the law.
 
+ghost use Rattle.bz_costs.specs.Resources.{Resource};
 ghost use Rattle.bz_lone.specs.Renewals.{RenewalsArePaid, AscentsArePaid};
 ghost use Rattle.bz_lone.specs.Rounds.{LessIsSpared, EndsAreAfforded, EndsArePaid, WaysArePaid, ChangesArePaid, LeavesAreRead, ReadLeavesArePaid, TasksMayBegin, RoundsBegin, DisturbedRoundsArePaid, EndsLeaveARound};
-ghost use Rattle.bz_lone.specs.Steps.{AnyCallIsPaid, AnyRoundIsPaid, FirstRoundsArePaid, QuietStepsArePaid, ForeignEffectsArePaid, EffectMarksArePaid, LessIsPaid, OwnEffectsArePaid, HearingsArePaid, StartsArePaid};
+ghost use Rattle.bz_lone.specs.Steps.{AnyCallIsPaid, AnyRoundIsPaid, FirstRoundsArePaid, IdleMemoriesAllowNothing, QuietStepsArePaid, ForeignEffectsArePaid, EffectMarksArePaid, LessIsPaid, OwnEffectsArePaid, HearingsArePaid, StartsArePaid};
 
 use bz_costs::laws as costs;
 pub use bz_costs::laws::{asked_swaps_are_counted, lone_calls_are_affordable};
@@ -16,7 +17,7 @@ pub use bz_joined::laws::{
 use bz_rivals::laws as rivals;
 use bz_swap::laws as swap;
 
-/// Whatever a call has come to, it ends within what the configuration tells.
+/// Whatever a call has come to, it ends within the marks that the configuration tells.
 pub fn any_call_is_paid()
     ensures { AnyCallIsPaid }
 {
@@ -38,24 +39,30 @@ pub fn any_round_is_paid()
 
 /// So does one that begins while nobody does anything, within what is promised for each call.
 pub fn first_rounds_are_paid()
-    ensures { FirstRoundsArePaid }
+    ensures { (r : Resource) → FirstRoundsArePaid r }
 {
-    swap::lone_steps_are_allowed();
     costs::higher_stages_cost_more();
     costs::stretches_are_the_most();
     costs::whole_calls_are_affordable();
 }
 
+/// Then the swap memory allows nothing more.
+pub fn idle_memories_allow_nothing()
+    ensures { IdleMemoriesAllowNothing }
+{
+    swap::lone_steps_are_allowed();
+}
+
 /// A step without an effect is paid for.
 pub fn quiet_steps_are_paid()
-    ensures { QuietStepsArePaid }
+    ensures { (r : Resource) → QuietStepsArePaid r }
 {
     joined::stages_stand();
 }
 
 /// So is one at which another worker's swap takes effect.
 pub fn foreign_effects_are_paid()
-    ensures { ForeignEffectsArePaid }
+    ensures { (r : Resource) → ForeignEffectsArePaid r }
 {
     costs::stretches_are_the_most();
     costs::higher_stages_cost_more();
@@ -63,19 +70,19 @@ pub fn foreign_effects_are_paid()
 
 /// So is the mark of an effect.
 pub fn effect_marks_are_paid()
-    ensures { EffectMarksArePaid }
+    ensures { (r : Resource) → EffectMarksArePaid r }
 {
     joined::stages_stand();
 }
 
 /// What pays for more pays for less.
 pub fn less_is_paid()
-    ensures { LessIsPaid }
+    ensures { (r : Resource) → LessIsPaid r }
 {}
 
 /// A step at which the worker's own swap takes effect is paid for, and what comes after that.
 pub fn own_effects_are_paid()
-    ensures { OwnEffectsArePaid }
+    ensures { (r : Resource) → OwnEffectsArePaid r }
 {
     joined::loners_go_on();
     costs::asked_swaps_are_counted();
@@ -88,9 +95,9 @@ pub fn own_effects_are_paid()
     joined::lone_swaps_leave();
 }
 
-/// What a task is told pays for the start of its next act.
+/// What a task is told pays for the slots that are gone then, and for the start of its next act.
 pub fn hearings_are_paid()
-    ensures { HearingsArePaid }
+    ensures { (r : Resource) → HearingsArePaid r }
 {
     costs::hearing_is_paid();
     costs::asked_swaps_are_counted();
@@ -98,42 +105,42 @@ pub fn hearings_are_paid()
 
 /// That start is paid for.
 pub fn starts_are_paid()
-    ensures { StartsArePaid }
+    ensures { (r : Resource) → StartsArePaid r }
 {}
 
 /// What spares more spares less.
 pub fn less_is_spared()
-    ensures { LessIsSpared }
+    ensures { (r : Resource) → LessIsSpared r }
 {}
 
-/// At the end of a task a mark is left for the end of its call.
+/// What a task has not started yet is there, what it may still take besides, and a mark for the end of its call.
 pub fn ends_are_afforded()
-    ensures { EndsAreAfforded }
+    ensures { (r : Resource) → EndsAreAfforded r }
 {}
 
 /// The end of a look-up leaves what may come after it.
 pub fn ends_are_paid()
-    ensures { EndsArePaid }
+    ensures { (r : Resource) → EndsArePaid r }
 {}
 
 /// A way that was found leaves what may come after it.
 pub fn ways_are_paid()
-    ensures { WaysArePaid }
+    ensures { (r : Resource) → WaysArePaid r }
 {}
 
 /// A change is paid for once its key was looked up.
 pub fn changes_are_paid()
-    ensures { ChangesArePaid }
+    ensures { (r : Resource) → ChangesArePaid r }
 {}
 
 /// So is the reading of a leaf without room.
 pub fn leaves_are_read()
-    ensures { LeavesAreRead }
+    ensures { (r : Resource) → LeavesAreRead r }
 {}
 
 /// What comes after that is paid for.
 pub fn read_leaves_are_paid()
-    ensures { ReadLeavesArePaid }
+    ensures { (r : Resource) → ReadLeavesArePaid r }
 {
     costs::higher_stages_cost_more();
     costs::stretches_are_the_most();
@@ -141,19 +148,19 @@ pub fn read_leaves_are_paid()
 
 /// A task that is spared may begin.
 pub fn tasks_may_begin()
-    ensures { TasksMayBegin }
+    ensures { (r : Resource) → TasksMayBegin r }
 {
     costs::tasks_weigh_little();
 }
 
 /// A round that is paid for may begin.
 pub fn rounds_begin()
-    ensures { RoundsBegin }
+    ensures { (r : Resource) → RoundsBegin r }
 {}
 
 /// A round is paid for where the one before was disturbed.
 pub fn disturbed_rounds_are_paid()
-    ensures { DisturbedRoundsArePaid }
+    ensures { (r : Resource) → DisturbedRoundsArePaid r }
 {
     costs::higher_stages_cost_more();
     costs::stretches_are_the_most();
@@ -161,7 +168,7 @@ pub fn disturbed_rounds_are_paid()
 
 /// And after the end of a task that left the leaf better than it was.
 pub fn ends_leave_a_round()
-    ensures { EndsLeaveARound }
+    ensures { (r : Resource) → EndsLeaveARound r }
 {
     costs::higher_stages_cost_more();
     costs::stretches_are_the_most();
@@ -169,17 +176,16 @@ pub fn ends_leave_a_round()
 
 /// What is done to a leaf without room is paid for.
 pub fn renewals_are_paid()
-    ensures { RenewalsArePaid }
+    ensures { (r : Resource) → RenewalsArePaid r }
 {
     costs::rounds_are_paid();
 }
 
 /// So is what is done to the full nodes above it.
 pub fn ascents_are_paid()
-    ensures { AscentsArePaid }
+    ensures { (r : Resource) → AscentsArePaid r }
 {
     costs::rounds_are_paid();
     costs::splits_are_paid();
-    bz_below::laws::want_of_room_costs_little();
-    bz_fork::laws::want_of_room_costs_little();
+    costs::lost_splits_cost_little();
 }

@@ -13,6 +13,7 @@ use Rattle.bz_world.specs.Inside.Acted.{IsActed, IsTold, MustTell, HasActed}
 use Rattle.bz_world.specs.Inside.Kept.{IsAwake}
 use Rattle.bz_world.specs.WorldView.{IsStruck}
 use Rattle.bz_world.specs.Inside.Laws.{StepLaws}
+use Rattle.bz_world.specs.Inside.Paid.{stock_of}
 use Rattle.bz_world.specs.Inside.Serving.{IsServing, IsDoing, IsSlot}
 use Rattle.bz_world.specs.declared.parts.Parts.{Parts}
 use Rattle.bz_world.specs.declared.serving.OpenCall.{OpenCall}
@@ -24,7 +25,7 @@ pub record IsServed (p : Parts) (w : ℕ) (slot : Option OpenCall) : Type 0 wher
   pub serving : OpenCall
   pub is : slot ≡ Some serving
 
-served-by : (p : Parts) (k : IsAwake p) (w : ℕ) (slot : Option OpenCall) → IsSlot p.config p.access p.journal k.story p.owners.items w slot → open_call w p.journal.past ≢ None → IsServed p w slot
+served-by : (p : Parts) (k : IsAwake p) (w : ℕ) (slot : Option OpenCall) → IsSlot p.config p.access p.journal k.story p.owners.items (stock_of p) w slot → open_call w p.journal.past ≢ None → IsServed p w slot
 served-by p k w None h open_is = absurd (open_is h.none_open)
 served-by p k w (Some x) h open_is = record { serving = x; is = refl }
 
@@ -41,7 +42,7 @@ does-asked m owners w (todo.Swap entries) d = λ e. absurd (cc (d.doing, e))
 does-asked m owners w todo.Finish d = absurd d
 
 pub is-busy : (p : Parts) (k : IsAwake p) (w : ℕ) → open_call w p.journal.past ≢ None → doing_of p.access w ≢ Idle
-is-busy p k w open_is = let s = is-served p k w open_is in let h : IsServing p.config p.access p.journal k.story p.owners.items w s.serving = serves p k w s.serving s.is in does-asked p.access p.owners.items w h.asked h.doing
+is-busy p k w open_is = let s = is-served p k w open_is in let h : IsServing p.config p.access p.journal k.story p.owners.items (stock_of p) w s.serving = serves p k w s.serving s.is in does-asked p.access p.owners.items w h.asked h.doing
 
 -- an act without effect
 module _ (b : StepLaws) (old new : Parts) (w : ℕ) (made : Act) (answer : Done) (k : IsAwake old) (open_is : open_call w old.journal.past ≢ None) (a : IsActed old w made answer None new) (room : length old.journal.past + 1 < old.config.marks) where

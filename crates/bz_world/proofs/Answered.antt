@@ -46,9 +46,7 @@ use Rattle.bz_world.specs.declared.parts.Parts.{Parts}
 use Rattle.bz_world.specs.declared.serving.OpenCall.{OpenCall}
 use Rattle.bz_world.specs.Inside.Laws.{StepLaws}
 use Rattle.bz_story.proofs.Powered.{stored-since}
-use Rattle.bz_lone.specs.Sum.{IsPaid}
-use Rattle.bz_world.specs.Inside.Paid.{errand_of}
-use Rattle.bz_world.specs.WorldView.{deadline}
+use Rattle.bz_world.specs.Inside.Paid.{errand_of, no_extra, stock_of, IsPaidIn}
 use Rattle.bz_world.proofs.Alone.{hears-on, untold-by}
 use Rattle.bz_world.proofs.Lonely.{lonely-act}
 use Rattle.bz_world.proofs.LonelyActs.{own-acted, all-acted, reads-now}
@@ -85,7 +83,7 @@ module _ (b : StepLaws) (old new : Parts) (w : ℕ) (x : OpenCall) (made : Act) 
   abbrev pub after : Story
   after = goes_on old.journal k.story new.access k.story.filled
 
-  abbrev pub its : IsServing old.config old.access old.journal k.story old.owners.items w x
+  abbrev pub its : IsServing old.config old.access old.journal k.story old.owners.items (stock_of old) w x
   its = serves old k w x is-worker
 
   abbrev pub before : Scene
@@ -105,22 +103,22 @@ module _ (b : StepLaws) (old new : Parts) (w : ℕ) (x : OpenCall) (made : Act) 
   lawful v since opened begun = b.quiet old.config old.access new.access old.journal k.story (mark_of w made) v since opened (goes b old new w x made answer k is-worker a) all-stay begun
 
   -- it is paid for
-  its-paid : (y : OpenCall) (t : IsServing old.config old.access old.journal k.story old.owners.items w y) → IsPaid new.access w (errand_of y) y.task (untold old.access (doing_of old.access w)) 0 (deadline old.config w (mark_of w made ∷ old.journal.past)) (scene old.config (mark_of w made ∷ old.journal.past) after w t.call_open.look.since t.opened).past
+  its-paid : (y : OpenCall) (t : IsServing old.config old.access old.journal k.story old.owners.items (stock_of old) w y) → IsPaidIn old.config new.access (mark_of w made ∷ old.journal.past) (stock_of old) w (errand_of y) y.task (untold old.access (doing_of old.access w)) no_extra (scene old.config (mark_of w made ∷ old.journal.past) after w t.call_open.look.since t.opened).past
   its-paid y t = let h : HasBegun old.journal k.story t.call_open.look.since = begun-in k.living t.call_open in
       quiet-paid b old new w x made answer k is-worker a after living refl y t (record { from = h.from; by_now = omega (arith, h.by_now) }) (lawful w t.call_open.look.since t.opened h).continues
 
-  pub slots : (v : ℕ) → SameFor old.access new.access v → Pays old.config old.access old.journal (mark_of w made) k.story after old.owners.items new.access v → IsSlot old.config new.access (with_mark old.journal (mark_of w made)) after old.owners.items v (get_or old.workers.items v None)
+  pub slots : (v : ℕ) → SameFor old.access new.access v → Pays old.config old.access old.journal (mark_of w made) k.story after old.owners.items (stock_of old) (stock_of old) new.access v → IsSlot old.config new.access (with_mark old.journal (mark_of w made)) after old.owners.items (stock_of old) v (get_or old.workers.items v None)
   slots v same pays = stays b old new w x made answer k is-worker a after v living refl same (lawful v) (λ j. refl) (λ j h. h) refl pays
 
-  pub others : (v : ℕ) → v ≢ w → IsSlot old.config new.access (with_mark old.journal (mark_of w made)) after old.owners.items v (get_or old.workers.items v None)
+  pub others : (v : ℕ) → v ≢ w → IsSlot old.config new.access (with_mark old.journal (mark_of w made)) after old.owners.items (stock_of old) v (get_or old.workers.items v None)
   others v ne = slots v (same-other b old new w x made answer k is-worker a v ne) (none-pays b old new w x made answer k is-worker a after v ne)
 
   -- it goes on
   pub busy-on : answer ≡ done.Busy → IsAwake new
   busy-on e = goes-on b old new w x made answer k is-worker a after room living k.free (λ v. elim (cases_eq v w) [
     | inl same ↦ slots v (subst (SameFor old.access new.access) (sym same) (same-own b old new w x made answer k is-worker a e))
-        (subst (Pays old.config old.access old.journal (mark_of w made) k.story after old.owners.items new.access) (sym same)
-        (λ y t steps. subst (λ u. IsPaid new.access w (errand_of y) y.task u 0 (deadline old.config w (mark_of w made ∷ old.journal.past)) (scene old.config (mark_of w made ∷ old.journal.past) after w t.call_open.look.since t.opened).past)
+        (subst (Pays old.config old.access old.journal (mark_of w made) k.story after old.owners.items (stock_of old) (stock_of old) new.access) (sym same)
+        (λ y t steps. subst (λ u. IsPaidIn old.config new.access (mark_of w made ∷ old.journal.past) (stock_of old) w (errand_of y) y.task u no_extra (scene old.config (mark_of w made ∷ old.journal.past) after w t.call_open.look.since t.opened).past)
         (sym (let own : SameFor old.access new.access w = same-own b old new w x made answer k is-worker a e in ap (untold new.access) own.doing ∙ untold-by old.access new.access (doing_of old.access w) own.effects)) (its-paid y t)))
     | inr ne ↦ others v ne
   ]) (all-acted b old new w x made answer k is-worker a k.story.filled)
@@ -148,7 +146,7 @@ module _ (b : StepLaws) (old new : Parts) (w : ℕ) (x : OpenCall) (made : Act) 
     alone = hears-on old.config old.access new.access old.journal.past (mark_of w made) k.story after w its.call_open.look.since its.opened its.opened x.task (next_instant new.access (k.story.at (length old.journal.past))) refl its.call_open.look.by_now its.alone
         what refl effects wins;
     meant = call-meant-on x before.past later.past its.tasked.laws (lawful w its.call_open.look.since its.opened (begun-in k.living its.call_open)).continues its.meant;
-    paid = subst (λ u. IsPaid new.access w (errand_of x) x.task u 0 (deadline old.config w (mark_of w made ∷ old.journal.past)) later.past) effects (its-paid x its);
+    paid = subst (λ u. IsPaidIn old.config new.access (mark_of w made ∷ old.journal.past) (stock_of old) w (errand_of x) x.task u no_extra later.past) effects (its-paid x its);
   })
 
   -- a read answers what the address holds

@@ -111,10 +111,10 @@ pub record IsLooking (p : Parts) (w at : ℕ) (on : MustGoOn p w) : Type 0 where
 
 -- that of a view of a leaf, and of a key
 abbrev pub looking-leaf : (p : Parts) (w : ℕ) (view : LeafView) (m : MustAnswer p w view) → IsLooking p w view.at m.on
-looking-leaf p w view m = record { since = m.viewed.since; now = m.viewed.now; loads = m.viewed.loads; quiet = m.quiet; room = spared-room p w m.on.serving (known p w m.on).past (λ q. coming q (errand_of m.on.serving) kinds.ReadWhole) refl m.spares }
+looking-leaf p w view m = record { since = m.viewed.since; now = m.viewed.now; loads = m.viewed.loads; quiet = m.quiet; room = spared-room p w m.on.serving (known p w m.on).past (λ r q. coming r q (errand_of m.on.serving) kinds.ReadWhole) m.spares }
 
 abbrev pub looking-key : (p : Parts) (w : ℕ) (view : KeyView) (m : MustAnswerKey p w view) → IsLooking p w view.at m.on
-looking-key p w view m = record { since = m.viewed.since; now = m.viewed.now; loads = m.viewed.loads; quiet = m.quiet; room = spared-room p w m.on.serving (known p w m.on).past (λ q. coming q (errand_of m.on.serving) kinds.Find) refl m.spares }
+looking-key p w view m = record { since = m.viewed.since; now = m.viewed.now; loads = m.viewed.loads; quiet = m.quiet; room = spared-room p w m.on.serving (known p w m.on).past (λ r q. coming r q (errand_of m.on.serving) kinds.Find) m.spares }
 
 module _ (b : AnswerLaws) (p : Parts) (w at : ℕ) (on : MustGoOn p w) (l : IsLooking p w at on) (called : Call) (is : on.serving.call ≡ called) where
   abbrev was : IsBetween p w on.serving

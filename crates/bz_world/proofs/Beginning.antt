@@ -7,11 +7,12 @@ use Rattle.std.proofs.lemmas.Bool.{cases_eq, cases_lt, true≢false}
 use Rattle.std.proofs.lemmas.Bool.Decides.{nat_tests}
 use Rattle.std.proofs.lemmas.List.{get_or_read_under, get_or-set_same, get_or-set_other, length-set, map-set}
 use Rattle.bz_lone.specs.FromAlone.Brief.{IsBrief}
+use Rattle.bz_lone.specs.FromCosts.Resources.{Marks, Descriptors, Slots}
 use Rattle.bz_call.specs.Map.{key_of}
 use Rattle.bz_call.specs.Pages.{is_page}
 use Rattle.bz_call.specs.declared.calls.Call.{Call}
 use Rattle.bz_layout.specs.declared.thresholds.TheConstants.{LEAF_RECORD_WORDS}
-use Rattle.bz_lone.specs.Errands.{words_asked, IsLookOf}
+use Rattle.bz_lone.specs.Errands.{is_read, words_asked, IsLookOf}
 use Rattle.bz_lone.specs.Rounds.{IsBegunAt}
 use Rattle.bz_lone.specs.Sum.{PaysForRound}
 use Rattle.bz_mark.specs.Log.{with_mark, count_begins, count_page_calls}
@@ -41,8 +42,8 @@ use Rattle.bz_world.specs.Inside.Beginning.{MayBegin, HasBegun, world_view, page
 use Rattle.bz_world.specs.Inside.Kept.{IsTabled, IsAwake}
 use Rattle.bz_world.specs.Inside.Laws.{EndLaws, StartLaws}
 use Rattle.bz_world.specs.Inside.Lonely.{WhereLonely, IsLonelyGet}
-use Rattle.bz_world.specs.Inside.Paid.{errand_of}
-use Rattle.bz_world.specs.WorldView.{supply_by, are_closed, run_marks, deadline}
+use Rattle.bz_world.specs.Inside.Paid.{bound_in, begun_with, errand_of, stock_of, used_in, HasARoundAs}
+use Rattle.bz_world.specs.WorldView.{supply_by, are_closed, run_marks}
 use Rattle.bz_world.specs.Inside.Serving.{IsSlot, IsAtRest}
 use Rattle.bz_world.specs.Inside.Telling.{MustStart}
 use Rattle.bz_world.specs.declared.parts.Parts.{Parts}
@@ -51,11 +52,12 @@ use Rattle.bz_story.proofs.Powered.{stored-since}
 use Rattle.bz_world.proofs.Alone.{waits-on}
 use Rattle.bz_world.proofs.Counting.{pairs-stay}
 use Rattle.bz_world.proofs.Lonely.{acts-begin, all-idle}
-use Rattle.bz_world.proofs.Paid.{within-of, begin-runs, each-closed}
+use Rattle.bz_world.proofs.Paid.{within-of, begin-runs, each-closed, second-of}
 use Rattle.bz_world.proofs.Powered.{is-on}
 use Rattle.bz_world.proofs.Spared.{seeks}
 use Rattle.bz_world.proofs.Staying.{none-unfilled, slot-stays}
 use Rattle.bz_world.proofs.Started.{read-kept}
+use Rattle.bz_world.proofs.Supplies.{shown-on}
 
 -- a worker has begun no more calls than there are
 step-up : (t : Bool) (a b : ℕ) → a ≤ b → (if t then a + 1 else a) ≤ b + 1
@@ -88,7 +90,7 @@ module _ (p : Parts) (k : IsAwake p) (w : ℕ) (call : Call) (may : MayBegin p w
   few-numbers n e = omega (arith, number-is n e, few-calls w p.journal.past, k.tabled.begins, k.tabled.few_begins, k.tabled.config.calls_in_range.at_most)
 
   at-rest : IsAtRest p.access p.journal k.story w
-  at-rest = subst (IsSlot p.config p.access p.journal k.story p.owners.items w) may.none_open (k.workers w)
+  at-rest = subst (IsSlot p.config p.access p.journal k.story p.owners.items (stock_of p) w) may.none_open (k.workers w)
 
   module _ (b : EndLaws) (s : StartLaws) (n : ℕ) (numbered : n ≡ begun_calls w p.journal.past + 1) (task : AnyTask) (config : config_of task ≡ p.config) (laws : AreLaws task) (looks : makes_no_change task ≡ true)
       (lookup : (way : Option Path) → IsLookup (key_of call) way task) (asks : asks_of task ≡ Some (Read 2)) (facts : (z : Scene) → HasFilled z → facts_of task Waiting z) (wants : wants_of task ≡ 0) (look : look_of task ≡ ForWay) (reads : reads_asked task ≡ 1) (brief : LooksUpBriefly task) (swaps : swaps_of task ≡ 0)
@@ -106,7 +108,7 @@ module _ (p : Parts) (k : IsAwake p) (w : ℕ) (call : Call) (may : MayBegin p w
     workers = with_item p.workers w (Some fresh)
 
     abbrev pub mid : Parts
-    mid = record p { journal = with_mark p.journal mark; workers = workers; numbers = with_item p.numbers w n; begun = p.begun + 1; pages_begun = p.pages_begun + pages_asked call }
+    mid = record p { journal = with_mark p.journal mark; workers = workers; numbers = with_item p.numbers w n; taken_then = p.access.taken; left_then = length p.slots.free; begun = p.begun + 1; pages_begun = p.pages_begun + pages_asked call }
 
     no-act : GoesOn p.config p.access p.access p.journal k.story mark
     no-act = record {
@@ -129,9 +131,9 @@ module _ (p : Parts) (k : IsAwake p) (w : ℕ) (call : Call) (may : MayBegin p w
     lives : IsLiving p.config p.access (with_mark p.journal mark) after
     lives = b.lives p.config p.access p.access p.journal k.story mark k.story.filled no-act (λ v j f. stored-since p.config p.journal.past mark j tt (k.living.stored v j f))
 
-    slot-of : (v : ℕ) → v ≢ w → IsSlot p.config p.access (with_mark p.journal mark) after p.owners.items v (get_or workers.items v None)
-    slot-of v ne = subst (IsSlot p.config p.access (with_mark p.journal mark) after p.owners.items v) (sym (get_or-set_other p.workers.items w v (Some fresh) None ne))
-        (slot-stays b.scenes b.stay p.config p.access p.access p.journal mark k.story after p.owners.items v (get_or p.workers.items v None) lives (record {
+    slot-of : (v : ℕ) → v ≢ w → IsSlot p.config p.access (with_mark p.journal mark) after p.owners.items (stock_of mid) v (get_or workers.items v None)
+    slot-of v ne = subst (IsSlot p.config p.access (with_mark p.journal mark) after p.owners.items (stock_of mid) v) (sym (get_or-set_other p.workers.items w v (Some fresh) None ne))
+        (slot-stays b.scenes b.stay p.config p.access p.access p.journal mark k.story after p.owners.items (stock_of p) (stock_of mid) v (get_or p.workers.items v None) lives (record {
           same = record { doing = refl; begun = refl; taken = refl; size = refl; effects = λ t d. refl };
           calls = (b.calls v p.journal.past).other_begin w n call (λ e. ne (sym e));
           from = refl;
@@ -219,16 +221,22 @@ module _ (p : Parts) (k : IsAwake p) (w : ℕ) (call : Call) (may : MayBegin p w
       | inr few ↦ each-closed p.config.workers p.journal.past closed v (omega (arith, few))
     ]
 
-    pays-by : (b : Bool) → are_closed p.config.workers p.journal.past ≡ b → PaysForRound p.access w (errand_of fresh) (suc (length p.journal.past) + run_marks p.config b) here.past
-    pays-by true closed = s.lone.paid.first p.access w (errand_of fresh) (suc (length p.journal.past) + run_marks p.config true) here.past (all-idle p k (none-open closed)) (λ froze. absurd (true≢false (sym froze))) (omega arith)
-    pays-by false some = s.lone.paid.round p.config p.access w (errand_of fresh) (suc (length p.journal.past) + run_marks p.config false) here.past (record { config = k.tabled.config; size = k.tabled.crew; worker = may.worker; within = may.within; zero = k.taken.notes.zero }) (λ froze. absurd (true≢false (sym froze)))
+    unfrozen : (errand_of fresh).froze ≡ true → is_read call ≡ false
+    unfrozen froze = absurd (true≢false (sym froze))
+
+    -- of marks, whatever the others do
+    marks-by : (b : Bool) → are_closed p.config.workers p.journal.past ≡ b → PaysForRound Marks p.access w (errand_of fresh) (used_in Marks mid w) (suc (length p.journal.past) + run_marks p.config b) here.past
+    marks-by true closed = s.lone.paid.first Marks p.access w (errand_of fresh) (used_in Marks mid w) (suc (length p.journal.past) + run_marks p.config true) here.past (all-idle p k (none-open closed)) unfrozen (omega (arith, s.lone.paid.idle p.access w (all-idle p k (none-open closed))))
+    marks-by false some = s.lone.paid.round p.config p.access w (errand_of fresh) (suc (length p.journal.past) + run_marks p.config false) here.past (record { config = k.tabled.config; size = k.tabled.crew; worker = may.worker; within = may.within; zero = k.taken.notes.zero }) unfrozen
         (omega (arith, s.lone.paid.affordable p.config k.tabled.config))
 
-    pays : PaysForRound p.access w (errand_of fresh) (deadline p.config w (mark ∷ p.journal.past)) here.past
-    pays = subst (λ (own : Bool). PaysForRound p.access w (errand_of fresh) (suc (length p.journal.past) + run_marks p.config (own && are_closed p.config.workers p.journal.past)) here.past) (sym own) (pays-by (are_closed p.config.workers p.journal.past) refl)
-      where
-        own : (w == w) ≡ true
-        own = grind (arith, nat_tests)
+    own : (w == w) ≡ true
+    own = grind (arith, nat_tests)
+
+    pays : HasARoundAs mid w (errand_of fresh) here.past
+    pays Marks counted = subst (λ (own : Bool). PaysForRound Marks p.access w (errand_of fresh) (used_in Marks mid w) (suc (length p.journal.past) + run_marks p.config (own && are_closed p.config.workers p.journal.past)) here.past) (sym own) (marks-by (are_closed p.config.workers p.journal.past) refl)
+    pays Descriptors counted = s.lone.paid.first Descriptors p.access w (errand_of fresh) (used_in Descriptors mid w) (bound_in Descriptors mid w) here.past (all-idle p k (none-open (second-of (w == w) (are_closed p.config.workers p.journal.past) counted))) unfrozen (omega arith)
+    pays Slots counted = s.lone.paid.first Slots p.access w (errand_of fresh) (used_in Slots mid w) (bound_in Slots mid w) here.past (all-idle p k (none-open (second-of (w == w) (are_closed p.config.workers p.journal.past) counted))) unfrozen (omega arith)
 
     -- where no other call is open it is a brief look-up
     lonely-begun : WhereLonely (mark ∷ p.journal.past) w call (IsLonelyGet (started p.access w (Reading 2)) (mark ∷ p.journal.past) after w fresh opened)
@@ -255,9 +263,7 @@ module _ (p : Parts) (k : IsAwake p) (w : ℕ) (call : Call) (may : MayBegin p w
         lonely = lonely-begun;
         alone = record { others = 0; made = 0; counted = omega arith; stands = λ ends. absurd (cc ends) };
         meant = record { within = within-of task (λ a e. absurd (let other : kinds.Seek ≡ kinds.SplitLeaf a = sym kind ∙ e in cc other)); fit = record { words = few; thawed = λ froze. absurd (true≢false (sym froze)) }; look = λ quiet. subst (IsLookOf call) (sym kind) (seeks call); meant = λ quiet. inl (record { slots = wants; swaps = inl swaps }); later = λ at is. ap is_renewal kind };
-        paid = s.lone.rounds.begin p.access w (errand_of fresh) task (deadline p.config w (mark ∷ p.journal.past)) here.past here.past
-            (begun here.past refl)
-            pays;
+        paid = λ r counted. s.lone.rounds.begin r p.access w (errand_of fresh) task (used_in r mid w) (bound_in r mid w) 2 here.past here.past (begun here.past refl) (pays r counted);
       };
     }
 
@@ -266,8 +272,8 @@ module _ (p : Parts) (k : IsAwake p) (w : ℕ) (call : Call) (may : MayBegin p w
     has-begun new is holds = record {
       kept = read-kept s mid w 2 must-start new is holds;
       number = numbered;
-      after = ap (λ (m : SwapMemory). record (world_view p) { log = with_mark p.journal mark; flushes = map (λ (v : Working). v.flush_next) m.workers; swapping = map (λ (v : Working). is_swap v.doing) m.workers; supply = supply_by p.power (record { taken = m.taken; left = length p.slots.free }) }) is
-          ∙ (λ t. record (world_view p) { log = with_mark p.journal mark; flushes = flushes t; swapping = swapping t });
+      after = ap (λ (m : SwapMemory). record (world_view p) { log = with_mark p.journal mark; flushes = map (λ (v : Working). v.flush_next) m.workers; swapping = map (λ (v : Working). is_swap v.doing) m.workers; supply = supply_by p.power (record { taken = m.taken; left = length p.slots.free }); at_begin = begun_with mid }) is
+          ∙ (λ t. record (world_view p) { log = with_mark p.journal mark; flushes = flushes t; swapping = swapping t; at_begin = sym (shown-on p may.on) t });
     }
       where
         flushes : map (λ (v : Working). v.flush_next) (started p.access w (Reading 2)).workers ≡ slice_set (map (λ (v : Working). v.flush_next) p.access.workers) w false

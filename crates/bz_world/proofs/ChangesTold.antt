@@ -24,9 +24,8 @@ use Rattle.bz_world.specs.Inside.Going.{MustTakeOn, MustChange, MustReadCrowded,
 use Rattle.bz_world.specs.Inside.Laws.{AloneLaws, RoundLaws}
 use Rattle.bz_world.specs.Inside.Lonely.{IsNotLonely}
 use Rattle.bz_world.specs.Inside.Meant.{IsMeant}
-use Rattle.bz_world.specs.Inside.Paid.{errand_of, HasToSpare}
+use Rattle.bz_world.specs.Inside.Paid.{bound_in, errand_of, used_in, HasToSpare}
 use Rattle.bz_world.specs.Inside.Telling.{MustStart, MustStartOf, HasToldIn, HasTold}
-use Rattle.bz_world.specs.WorldView.{deadline}
 use Rattle.bz_world.specs.declared.parts.Parts.{Parts}
 use Rattle.bz_world.specs.declared.serving.OpenCall.{OpenCall}
 use Rattle.bz_world.proofs.Endings.{is_change, changes, change-renews-none, change-needs-room, room-no-look}
@@ -45,9 +44,10 @@ change-meant p w had task m = record {
   later = λ at is. change-renews-none (kind_of task) (changes (kind_of task) m.kind);
 }
 
-pub change-spares : RoundLaws → (p : Parts) (w : ℕ) (had : Option (List ℕ)) (task : AnyTask) (m : MustChange p w had task) → HasToSpare p w m.reads.on.serving (known p w m.reads.on).past (λ q. most_in (kind_of task) + coming q (errand_of m.reads.on.serving) (kind_of task))
-change-spares b p w had task m = b.less p.access w (errand_of m.reads.on.serving) (deadline p.config w p.journal.past) (known p w m.reads.on).past (λ q. coming q (errand_of m.reads.on.serving) kinds.Find) (λ q. most_in (kind_of task) + coming q (errand_of m.reads.on.serving) (kind_of task))
-    (λ q. omega (arith, most-kind task, b.changes q (errand_of m.reads.on.serving) task (ap is_some m.reads.quiet) m.write m.kind)) m.spares
+pub change-spares : RoundLaws → (p : Parts) (w : ℕ) (had : Option (List ℕ)) (task : AnyTask) (m : MustChange p w had task) → HasToSpare p w m.reads.on.serving (known p w m.reads.on).past (λ r q. most_in r (kind_of task) + coming r q (errand_of m.reads.on.serving) (kind_of task))
+change-spares b p w had task m r counted =
+    b.less r p.access w (errand_of m.reads.on.serving) (used_in r p w) (bound_in r p w) (known p w m.reads.on).past (λ q. coming r q (errand_of m.reads.on.serving) kinds.Find) (λ q. most_in r (kind_of task) + coming r q (errand_of m.reads.on.serving) (kind_of task))
+    (λ q. omega (arith, most-kind r task, b.changes r q (errand_of m.reads.on.serving) task (ap is_some m.reads.quiet) m.write m.kind)) (m.spares r counted)
 
 -- and no change is a merge
 pub no-merge : (k : Kind) → IsChangeKind k → k ≡ kinds.Merge → ⊥
@@ -112,7 +112,7 @@ pub must-read-crowded : RoundLaws → (p : Parts) (w : ℕ) (todo : Todo) (m : M
 must-read-crowded b p w todo m ended other = record {
   reads = must-read-whole p w todo m NeedsRoom ended other;
   write = writes;
-  spares = b.leaves p.access w (errand_of m.must.serving) (deadline p.config w p.journal.past) here.past (ap is_some m.knows.quiet) writes (λ alone. m.knows.lacks here means alone) m.knows.spares;
+  spares = λ r counted. b.leaves r p.access w (errand_of m.must.serving) (used_in r p w) (bound_in r p w) here.past (ap is_some m.knows.quiet) writes (λ alone. m.knows.lacks here means alone) (m.knows.spares r counted);
 }
   where
     here : Scene

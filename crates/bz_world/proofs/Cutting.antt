@@ -18,6 +18,7 @@ use Rattle.bz_swap.specs.Power.{after_cut}
 use Rattle.bz_swap.specs.SwapMemory.{Working, idle}
 use Rattle.bz_world.specs.Inside.Beginning.{world_view, is_swap}
 use Rattle.bz_world.specs.Inside.Kept.{IsTabled, IsAwake, IsOff, IsStarted, IsKept}
+use Rattle.bz_world.specs.Inside.Paid.{begun_with}
 use Rattle.bz_world.specs.Inside.Powering.{IsCut}
 use Rattle.bz_world.specs.WorldView as lab
 use Rattle.bz_world.specs.declared.parts.Parts.{Parts}
@@ -50,7 +51,7 @@ module _ (b : Laws) (p : Parts) (t : IsTabled p) (sound : IsSound p.config p.at_
 
   -- so it is seen
   lab-cut : flags.items ≡ map (λ (v : Working). v.flush_next) p.access.workers → world_view (cut-off p workers flags) ≡ lab.after_cut (world_view p)
-  lab-cut same = λ t. record { config = p.config; at_start = p.at_start; log = with_mark p.journal Cut; flushes = flushes t; swapping = swapping t; left_out = same t; supply = record { taken = 0; left = 0 } }
+  lab-cut same = λ t. record { config = p.config; at_start = p.at_start; log = with_mark p.journal Cut; flushes = flushes t; swapping = swapping t; left_out = same t; supply = record { taken = 0; left = 0 }; at_begin = begun_with p }
     where
       flushes : map (λ (v : Working). v.flush_next) (after_cut p.access).workers ≡ replicate (p.config.workers + 1) false
       flushes = map-replicate (λ (v : Working). v.flush_next) (length p.access.workers) idle ∙ ap (λ n. replicate n false) t.crew

@@ -1,5 +1,5 @@
 -- A call that has ended: the world but for its End is as it was.
-use Rattle.std.proofs.Common.{◌≡◌, ◌≢◌, ℕ, ◌+◌, ◌<◌, true, false, List, [], ◌∷◌, ◌++◌, length, slice_index, arith, refl, sym, ap, subst, ◌∙◌, inl, inr, Option, Some, None, append-nil}
+use Rattle.std.proofs.Common.{◌≡◌, ◌≢◌, ℕ, suc, ◌+◌, ◌<◌, ◌≤◌, true, false, List, [], ◌∷◌, ◌++◌, length, slice_index, arith, refl, sym, ap, subst, ◌∙◌, inl, inr, Option, Some, None, append-nil}
 use Rattle.std.specs.Prelude.{get_or, if◌then◌else◌}
 use Rattle.std.specs.Vec.{with_item}
 use Rattle.std.proofs.lemmas.Bool.{cases_eq, true≢false}
@@ -29,16 +29,21 @@ use Rattle.bz_world.specs.declared.answers.Applied.TheVariants as applied
 use Rattle.bz_world.specs.declared.parts.Parts.{Parts}
 use Rattle.bz_world.specs.declared.serving.OpenCall.{OpenCall}
 use Rattle.bz_story.proofs.Powered.{stored-since}
+use Rattle.bz_lone.specs.FromCosts.Resources.{Marks}
+use Rattle.bz_swap.specs.Alone.{left_to}
+use Rattle.bz_world.specs.Inside.Paid.{Stock, stock_of}
+use Rattle.bz_world.specs.WorldView.{deadline}
 use Rattle.bz_world.proofs.Alone.{waits-on}
+use Rattle.bz_world.proofs.PaidSteps.{keeps-supply}
 use Rattle.bz_world.proofs.Lonely.{none-in}
 use Rattle.bz_world.proofs.LonelyEnds.{ends-briefly}
 use Rattle.bz_world.proofs.Staying.{slot-stays}
 use Rattle.bz_world.proofs.Tabled.{tabled-plain}
 
 -- what is known of a worker does not depend on the journal's pages
-slot-pages : (c : Config) (m : SwapMemory) (log : Log) (pages : Pages) (story : Story) (owners : List ℕ) (v : ℕ) (slot : Option OpenCall) → IsSlot c m log story owners v slot → IsSlot c m (record log { pages = pages }) story owners v slot
-slot-pages c m log pages story owners v None h = record { none_open = h.none_open; idle = h.idle; filled = h.filled }
-slot-pages c m log pages story owners v (Some x) h = record {
+slot-pages : (c : Config) (m : SwapMemory) (log : Log) (pages : Pages) (story : Story) (owners : List ℕ) (stock : Stock) (v : ℕ) (slot : Option OpenCall) → IsSlot c m log story owners stock v slot → IsSlot c m (record log { pages = pages }) story owners stock v slot
+slot-pages c m log pages story owners stock v None h = record { none_open = h.none_open; idle = h.idle; filled = h.filled }
+slot-pages c m log pages story owners stock v (Some x) h = record {
   opened = h.opened;
   call_open = assumption h.call_open;
   tasked = h.tasked;
@@ -110,8 +115,8 @@ module _ (b : EndLaws) (p : Parts) (w : ℕ) (on : MustGoOn p w) where
     lives : IsLiving p.config p.access (with_mark p.journal mark) after
     lives = b.lives p.config p.access p.access p.journal was.story mark was.story.filled no-act (λ v j f. stored-since p.config p.journal.past mark j tt (was.living.stored v j f))
 
-    slot-of : (v : ℕ) → v ≢ w → IsSlot p.config p.access (with_mark p.journal mark) after p.owners.items v (get_or p.workers.items v None)
-    slot-of v ne = slot-stays b.scenes b.stay p.config p.access p.access p.journal mark was.story after p.owners.items v (get_or p.workers.items v None) lives (record {
+    slot-of : (v : ℕ) → v ≢ w → IsSlot p.config p.access (with_mark p.journal mark) after p.owners.items (stock_of p) v (get_or p.workers.items v None)
+    slot-of v ne = slot-stays b.scenes b.stay p.config p.access p.access p.journal mark was.story after p.owners.items (stock_of p) (stock_of p) v (get_or p.workers.items v None) lives (record {
       same = record { doing = refl; begun = refl; taken = refl; size = refl; effects = λ t d. refl };
       calls = (b.calls v p.journal.past).other_end w n at reply (λ e. ne (sym e));
       from = refl;
@@ -125,12 +130,12 @@ module _ (b : EndLaws) (p : Parts) (w : ℕ) (on : MustGoOn p w) where
       abbrev done : Parts
       done = record p { journal = record (with_mark p.journal mark) { pages = pages }; workers = with_item p.workers w None }
 
-      slots : (v : ℕ) → IsSlot p.config p.access done.journal after p.owners.items v (get_or done.workers.items v None)
+      slots : (v : ℕ) → IsSlot p.config p.access done.journal after p.owners.items (stock_of p) v (get_or done.workers.items v None)
       slots v = elim (cases_eq v w) [
-        | inr ne ↦ subst (IsSlot p.config p.access done.journal after p.owners.items v) (sym (get_or-set_other p.workers.items w v None None ne))
-            (slot-pages p.config p.access (with_mark p.journal mark) pages after p.owners.items v (get_or p.workers.items v None) (slot-of v ne))
-        | inl e ↦ subst (λ u. IsSlot p.config p.access done.journal after p.owners.items u (get_or done.workers.items u None)) (sym e)
-            (subst (IsSlot p.config p.access done.journal after p.owners.items w) (sym (get_or-set_same p.workers.items w None None (omega (arith, in-table, was.tabled.places))))
+        | inr ne ↦ subst (IsSlot p.config p.access done.journal after p.owners.items (stock_of p) v) (sym (get_or-set_other p.workers.items w v None None ne))
+            (slot-pages p.config p.access (with_mark p.journal mark) pages after p.owners.items (stock_of p) v (get_or p.workers.items v None) (slot-of v ne))
+        | inl e ↦ subst (λ u. IsSlot p.config p.access done.journal after p.owners.items (stock_of p) u (get_or done.workers.items u None)) (sym e)
+            (subst (IsSlot p.config p.access done.journal after p.owners.items (stock_of p) w) (sym (get_or-set_same p.workers.items w None None (omega (arith, in-table, was.tabled.places))))
             (record { none_open = (b.calls w p.journal.past).own_end n at reply; idle = was.idle; filled = on.filled }))
       ]
 
@@ -174,11 +179,17 @@ end-went b p w n reply at m number plain room = record {
   left_out = refl;
   others = λ v ne. refl;
   spends = record { taken = inl refl; fewer = omega arith; few = omega arith };
-  full = λ number moment spent e. m.full spent (cc e);
+  full = λ number moment spent e. (m.full spent (cc e)).out;
   brief = ends-briefly p w n reply at m.on (with_mark p.journal (End w n reply at)) refl m.brief;
-  lone = m.room;
+  lone = in-time (m.room Marks tt);
+  begun = refl;
+  supplied = keeps-supply p w m.room;
+  little = λ whole number moment spent e. (m.full spent (cc e)).little whole;
 }
   where
+    in-time : length p.journal.past + left_to p.access w + 1 ≤ deadline p.config w p.journal.past → suc (length p.journal.past) ≤ deadline p.config w p.journal.past
+    in-time l = omega (arith, l)
+
     sound : IsSound p.config p.at_start (with_mark p.journal (End w n reply at))
     sound = subst (λ z. IsSound p.config p.at_start (with_mark p.journal (End w z reply at))) (sym (number ∙ number-is b p w m.on))
         (b.ends p.config p.at_start p.journal (record { worker = w; opened = m.on.between.opened; reply = reply; at = at }) m.on.between.sound m.on.between.call_open.is_open plain m.right)
@@ -202,9 +213,15 @@ end-page-went b p w n page next at m number place room = record {
   spends = record { taken = inl refl; fewer = omega arith; few = omega arith };
   full = λ number moment spent e. absurd (cc e);
   brief = ends-briefly p w n (Page page next) at m.on (with_mark (with_page p.journal p.page) (End w n (Page page next) at)) refl (λ key get lonely. absurd (true≢false (sym m.asks ∙ ap is_page get)));
-  lone = m.room;
+  lone = in-time (m.room Marks tt);
+  begun = refl;
+  supplied = keeps-supply p w m.room;
+  little = λ whole number moment spent e. absurd (cc e);
 }
   where
+    in-time : length p.journal.past + left_to p.access w + 1 ≤ deadline p.config w p.journal.past → suc (length p.journal.past) ≤ deadline p.config w p.journal.past
+    in-time l = omega (arith, l)
+
     sound : IsSound p.config p.at_start (with_mark (with_page p.journal p.page) (End w n (Page page next) at))
     sound = subst (λ z. IsSound p.config p.at_start (with_mark (with_page p.journal p.page) (End w z (Page page next) at))) (sym (number ∙ number-is b p w m.on))
         (subst (λ z. IsSound p.config p.at_start (with_mark (with_page p.journal p.page) (End w m.on.between.opened.number (Page z next) at))) (sym place)

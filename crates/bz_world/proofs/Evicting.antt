@@ -28,6 +28,7 @@ use Rattle.bz_world.specs.Inside.Serving.{IsSlot}
 use Rattle.bz_world.specs.declared.parts.Parts.{Parts}
 use Rattle.bz_world.specs.Inside.Laws.{BegunLaws, StepLaws}
 use Rattle.bz_story.proofs.Powered.{stored-since}
+use Rattle.bz_world.specs.Inside.Paid.{stock_of}
 use Rattle.bz_world.proofs.Alone.{waits-on}
 use Rattle.bz_world.proofs.LonelyActs.{all-evicted}
 use Rattle.bz_world.proofs.Powered.{is-not-off}
@@ -114,8 +115,8 @@ module _ (b : StepLaws) (sees : EvictionsAreSeen) (old new : Parts) (a : ℕ) (k
     effects = λ t d. quiet.swaps t;
   }
 
-  slots : (v : ℕ) → IsSlot old.config new.access (with_mark old.journal (Evict a)) after old.owners.items v (get_or old.workers.items v None)
-  slots v = slot-stays b.scenes b.stay old.config old.access new.access old.journal (Evict a) k.story after old.owners.items v (get_or old.workers.items v None) living (record {
+  slots : (v : ℕ) → IsSlot old.config new.access (with_mark old.journal (Evict a)) after old.owners.items (stock_of old) v (get_or old.workers.items v None)
+  slots v = slot-stays b.scenes b.stay old.config old.access new.access old.journal (Evict a) k.story after old.owners.items (stock_of old) (stock_of old) v (get_or old.workers.items v None) living (record {
     same = same v;
     calls = refl;
     from = refl;

@@ -12,7 +12,7 @@ use Rattle.bz_lone.specs.Meant.{IsMeantFor}
 use Rattle.bz_lone.specs.Prices.{coming}
 use Rattle.bz_lone.specs.Renewals.{IsAbove}
 use Rattle.bz_lone.specs.Rounds.{stage_now}
-use Rattle.bz_lone.specs.Sum.{PaysForRound, IsClean}
+use Rattle.bz_lone.specs.Sum.{Spares, IsClean}
 use Rattle.bz_running.specs.Duties.{ascent_of, wants_of, facts_of, makes_no_change}
 use Rattle.bz_running.specs.Ends.{IsEndOf}
 use Rattle.bz_running.specs.GoingUp.{HasOneUp}
@@ -31,9 +31,8 @@ use Rattle.bz_world.specs.Inside.Going.{MustTakeOn, MustGoUp, HasEnded, MayGoUp,
 use Rattle.bz_world.specs.Inside.Laws.{AloneLaws}
 use Rattle.bz_world.specs.Inside.Lonely.{IsNotLonely}
 use Rattle.bz_world.specs.Inside.Meant.{IsMeant}
-use Rattle.bz_world.specs.Inside.Paid.{errand_of, crowded, IsPaidFor, HasToSpare}
+use Rattle.bz_world.specs.Inside.Paid.{bound_in, crowded, errand_of, no_extra, used_in, IsPaidFor, HasARoundAs, HasToSpare}
 use Rattle.bz_world.specs.Inside.Serving.{NeedsAtLeast}
-use Rattle.bz_world.specs.WorldView.{deadline}
 use Rattle.bz_world.specs.declared.parts.Parts.{Parts}
 use Rattle.bz_world.proofs.LonelyEnds.{other-ended}
 use Rattle.bz_world.proofs.MakingAnew.{renewal-meant}
@@ -110,20 +109,20 @@ module _ (lone : AloneLaws) (p : Parts) (w : ℕ) (e : HasEnded p w NeedsRoom) w
     not-clean : may_swap_twice (kind_of e.on.serving.task) ≡ false → IsClean (errand_of e.on.serving) e.on.serving.task 0 here.past → ⊥
     not-clean once clean = not-alone (subst (λ n. IsAlone n here.past) (clean.none once) clean.alone)
 
-    again : may_swap_twice (kind_of e.on.serving.task) ≡ false → PaysForRound p.access w (record (errand_of e.on.serving) { alone = false }) (deadline p.config w p.journal.past) here.past
-    again once = lone.rounds.rounds.crowded p.access w (errand_of e.on.serving) e.on.serving.task (deadline p.config w p.journal.past) here.past (ap is_some e.quiet) e.end (not-clean once) e.paid
+    again : may_swap_twice (kind_of e.on.serving.task) ≡ false → HasARoundAs p w (record (errand_of e.on.serving) { alone = false }) here.past
+    again once r counted = (lone.rounds.rounds r).crowded p.access w (errand_of e.on.serving) e.on.serving.task (used_in r p w) (bound_in r p w) here.past (ap is_some e.quiet) e.end (not-clean once) (e.paid r counted)
 
-    split-again : PaysForRound p.access w (crowded (errand_of e.on.serving) (kind_of e.on.serving.task)) (deadline p.config w p.journal.past) here.past
+    split-again : HasARoundAs p w (crowded (errand_of e.on.serving) (kind_of e.on.serving.task)) here.past
     split-again = elim o.from [
-      | inl leaf ↦ subst (λ k. PaysForRound p.access w (crowded (errand_of e.on.serving) k) (deadline p.config w p.journal.past) here.past) (sym leaf.0) (again (ap may_swap_twice leaf.0))
-      | inr node ↦ subst (λ k. PaysForRound p.access w (crowded (errand_of e.on.serving) k) (deadline p.config w p.journal.past) here.past) (sym node) (again (ap may_swap_twice node))
+      | inl leaf ↦ subst (λ k. HasARoundAs p w (crowded (errand_of e.on.serving) k) here.past) (sym leaf.0) (again (ap may_swap_twice leaf.0))
+      | inr node ↦ subst (λ k. HasARoundAs p w (crowded (errand_of e.on.serving) k) here.past) (sym node) (again (ap may_swap_twice node))
     ]
 
   -- so the key is looked up again, and after a merge its leaf is copied alone
-  pub crowded-pays : StandsBelow e.on.serving.task → (MayGoUp e.on.serving.task → ⊥) → PaysForRound p.access w (crowded (errand_of e.on.serving) (kind_of e.on.serving.task)) (deadline p.config w p.journal.past) here.past
+  pub crowded-pays : StandsBelow e.on.serving.task → (MayGoUp e.on.serving.task → ⊥) → HasARoundAs p w (crowded (errand_of e.on.serving) (kind_of e.on.serving.task)) here.past
   crowded-pays stands none = elim lacked [
-    | inl merge ↦ subst (λ k. PaysForRound p.access w (crowded (errand_of e.on.serving) k) (deadline p.config w p.journal.past) here.past) (sym merge)
-        (lone.rounds.rounds.merge p.access w (errand_of e.on.serving) e.on.serving.task (deadline p.config w p.journal.past) here.past (ap is_some e.quiet) e.end merge e.paid)
+    | inl merge ↦ subst (λ k. HasARoundAs p w (crowded (errand_of e.on.serving) k) here.past) (sym merge)
+        (λ r counted. (lone.rounds.rounds r).merge p.access w (errand_of e.on.serving) e.on.serving.task (used_in r p w) (bound_in r p w) here.past (ap is_some e.quiet) e.end merge (e.paid r counted))
     | inr o ↦ split-again o stands none
   ]
 
@@ -175,9 +174,9 @@ module _ (lone : AloneLaws) (p : Parts) (w : ℕ) (task : AnyTask) (m : MustGoUp
       (lone.rounds.below m.up.above.up rising.foot.last rising.view (words_asked m.ends.on.serving.call) (known p w m.ends.on) (known-scene lone.scenes p w m.ends.on) alone
       (rises lone p w m.ends m.up.above.from m.up.above.up m.up.above.begun m.up.above.one) last-up (subst (λ k. WasCrowded k rising.view now) (sym key-up) rising.leaf))
 
-  up-spares : HasToSpare p w m.ends.on.serving now (λ q. most_in (kind_of task) + coming q (errand_of m.ends.on.serving) (kind_of task))
-  up-spares = subst (λ n. HasToSpare p w m.ends.on.serving now (λ q. n + coming q (errand_of m.ends.on.serving) (kind_of task))) (most-kind task)
-      (lone.rounds.ascents p.access w (errand_of m.ends.on.serving) m.ends.on.serving.task task rising.at m.up.above.up (deadline p.config w p.journal.past) now (ap is_some m.ends.quiet) write is-above m.ends.end below-stage m.ends.paid)
+  up-spares : HasToSpare p w m.ends.on.serving now (λ r q. most_in r (kind_of task) + coming r q (errand_of m.ends.on.serving) (kind_of task))
+  up-spares r counted = subst (λ n. Spares r p.access w (errand_of m.ends.on.serving) (used_in r p w) (bound_in r p w) now (λ q. n + coming r q (errand_of m.ends.on.serving) (kind_of task))) (most-kind r task)
+      (lone.rounds.ascents r p.access w (errand_of m.ends.on.serving) m.ends.on.serving.task task rising.at m.up.above.up (used_in r p w) (bound_in r p w) now (ap is_some m.ends.quiet) write is-above m.ends.end below-stage (m.ends.paid r counted))
 
   -- which is no split of a leaf, nor a merge
   up-within : IsWithinItsActs task
@@ -202,7 +201,7 @@ module _ (lone : AloneLaws) (p : Parts) (w : ℕ) (task : AnyTask) (m : MustGoUp
   up-meant = renewal-meant p w m.ends.on m.ends.quiet write task up-within
       (inr (inr (m.up.made_for (key_of m.ends.on.serving.call) (words_asked m.ends.on.serving.call) now (split-meant m.ends.on.serving.call m.ends.on.serving.task now m.up.wanted (m.ends.meant.meant m.ends.quiet)))))
 
-  pub up-paid : AreLaws task → IsPaidFor p w (record m.ends.on.serving { task = task; path = None }) 0 0 now
+  pub up-paid : AreLaws task → IsPaidFor p w (record m.ends.on.serving { task = task; path = None }) 0 no_extra now
   up-paid laws = task-paid lone.rounds p w m.ends.on task None m.ends.on.serving.had (kind_of task) refl laws m.up.asks m.up.made up-meant (λ quiet merge. absurd (no-merge merge)) up-spares
 
   abbrev pub up-taken : AreLaws task → MustTakeOn p w task None m.ends.on.serving.had None

@@ -9,22 +9,23 @@ use Rattle.bz_sound.specs.Power.Calls.{MayAct}
 use Rattle.bz_story.specs.Story.{Story}
 use Rattle.bz_swap.specs.SwapMemory.{SwapMemory, Idle, doing_of}
 use Rattle.bz_world.specs.Inside.Kept.{IsTabled, IsAwake, IsOff, IsStarted, IsKept}
+use Rattle.bz_world.specs.Inside.Paid.{Stock, stock_of}
 use Rattle.bz_world.specs.Inside.Serving.{IsSlot}
 use Rattle.bz_world.specs.declared.parts.Parts.{Parts}
 use Rattle.bz_world.specs.declared.serving.OpenCall.{OpenCall}
 use Rattle.bz_world.proofs.Powered.{awake-in, off-in, started-in}
 
 -- with the power on: its call is open, or it is at rest; worker 0 has no call
-idle-slot : (c : Config) (m : SwapMemory) (log : Log) (story : Story) (owners : List ℕ) (w : ℕ) (slot : Option OpenCall) → IsSlot c m log story owners w slot → (HasOpenCall log.past w → ⊥) → doing_of m w ≡ Idle
-idle-slot c m log story owners w None rest none = rest.idle
-idle-slot c m log story owners w (Some x) serving none = absurd (none (record { opened = serving.opened; is_open = serving.call_open.is_open }))
+idle-slot : (c : Config) (m : SwapMemory) (log : Log) (story : Story) (owners : List ℕ) (stock : Stock) (w : ℕ) (slot : Option OpenCall) → IsSlot c m log story owners stock w slot → (HasOpenCall log.past w → ⊥) → doing_of m w ≡ Idle
+idle-slot c m log story owners stock w None rest none = rest.idle
+idle-slot c m log story owners stock w (Some x) serving none = absurd (none (record { opened = serving.opened; is_open = serving.call_open.is_open }))
 
 has-none : (p : Parts) (w : ℕ) → IsTabled p → (MayAct p.at_start p.journal.past w → ⊥) → HasOpenCall p.journal.past w → ⊥
 has-none p zero t none h = let never : None ≡ Some h.opened = sym (t.strangers 0 (inl refl)) ∙ h.is_open in absurd (cc never)
 has-none p (suc w) t none h = none h
 
 idle-on : (p : Parts) (w : ℕ) → IsAwake p → (MayAct p.at_start p.journal.past w → ⊥) → doing_of p.access w ≡ Idle
-idle-on p w a none = idle-slot p.config p.access p.journal a.story p.owners.items w (get_or p.workers.items w None) (a.workers w) (has-none p w a.tabled none)
+idle-on p w a none = idle-slot p.config p.access p.journal a.story p.owners.items (stock_of p) w (get_or p.workers.items w None) (a.workers w) (has-none p w a.tabled none)
 
 -- with the power off nobody does anything, and in a recovery nobody but worker 0
 idle-off : (p : Parts) (w : ℕ) → IsOff p → doing_of p.access w ≡ Idle

@@ -1,5 +1,5 @@
 -- A rising list of the numbers of a range that a test leaves out has as many as the others leave.
-use Rattle.std.proofs.Common.{◌≡◌, ◌≢◌, ℕ, zero, suc, ◌+◌, ◌<◌, ◌≤◌, ◌||◌, ◌==◌, Bool, true, false, cond, List, [], ◌∷◌, Contains, length, arith, refl, sym, ap, ◌∙◌, inl, inr}
+use Rattle.std.proofs.Common.{◌≡◌, ◌≢◌, ℕ, zero, suc, ◌+◌, ◌<◌, ◌≤◌, ◌||◌, ◌==◌, not, Bool, true, false, cond, List, [], ◌∷◌, Contains, length, arith, refl, sym, ap, ◌∙◌, inl, inr}
 use Rattle.std.specs.Prelude.{count_by, filter, slice_index_or}
 use Rattle.std.specs.List.{range_with_len}
 use Rattle.std.specs.List.Sorted.{IsStrictlyIncreasing}
@@ -97,6 +97,51 @@ count-among : (f : ℕ → Bool) (a n : ℕ) (xs : List ℕ) → AreLeftOut f a 
 count-among f a zero [] l = refl
 count-among f a zero (x ∷ xs) l = absurd (omega (arith, l.from x (first-among x xs), l.below x (first-among x xs)))
 count-among f a (suc n) xs l = count-first f a n (count-among f (a + 1) n) xs l (f a) refl
+
+-- a test that passes more
+filter-more : (f g : ℕ → Bool) → ((j : ℕ) → f j ≡ true → g j ≡ true) → (xs : List ℕ) → length (filter f xs) ≤ length (filter g xs)
+filter-more f g more [] = omega arith
+filter-more f g more (x ∷ xs) = by (f x) (g x) (more x) (filter-more f g more xs)
+  where
+    by : (a b : Bool) → (a ≡ true → b ≡ true) → length (filter f xs) ≤ length (filter g xs) → length (cond a (x ∷ filter f xs) (filter f xs)) ≤ length (cond b (x ∷ filter g xs) (filter g xs))
+    by true true passes l = omega (arith, l)
+    by true false passes l = absurd (true≢false (sym (passes refl)))
+    by false true passes l = omega (arith, l)
+    by false false passes l = l
+
+-- numbers of a range that do not pass, and there may be more of these
+pub record DoNotPass (f : ℕ → Bool) (n : ℕ) (xs : List ℕ) : Type 0 where
+  pub rising : IsStrictlyIncreasing xs
+  pub below : (j : ℕ) → is_among xs j ≡ true → j < n
+  pub fails : (j : ℕ) → is_among xs j ≡ true → f j ≡ false
+
+not-of : (b : Bool) → not b ≡ false → b ≡ true
+not-of true e = refl
+not-of false e = absurd (true≢false e)
+
+passes-not : (f : ℕ → Bool) (xs : List ℕ) (j : ℕ) → (is_among xs j ≡ true → f j ≡ false) → f j ≡ true → not (is_among xs j) ≡ true
+passes-not f xs j fails passes = by (is_among xs j) fails
+  where
+    by : (b : Bool) → (b ≡ true → f j ≡ false) → not b ≡ true
+    by true h = absurd (true≢false (sym passes ∙ h refl))
+    by false h = refl
+
+pub count-fewer : (f : ℕ → Bool) (n : ℕ) (xs : List ℕ) → DoNotPass f n xs → length xs + count_by f (range_with_len 0 n) ≤ n
+count-fewer f n xs d = omega (
+  arith,
+  count-among (λ j. not (is_among xs j)) 0 n xs (record { rising = d.rising; from = λ j h. omega arith; below = λ j h. omega (arith, d.below j h); fails = λ j h. ap not h; all = λ j some few fails. not-of (is_among xs j) fails }),
+  length-filter f (range_with_len 0 n),
+  filter-more f (λ j. not (is_among xs j)) (λ j passes. passes-not f xs j (d.fails j) passes) (range_with_len 0 n),
+)
+
+-- a range of which the first number alone passes
+none-passes : (f : ℕ → Bool) (a n : ℕ) → ((j : ℕ) → a ≤ j → j < a + n → f j ≡ false) → filter f (range_with_len a n) ≡ []
+none-passes f a zero fails = refl
+none-passes f a (suc n) fails = rw (fails a (omega arith) (omega arith)) (none-passes f (a + 1) n (λ j some few. fails j (omega (arith, some)) (omega (arith, few))))
+
+pub count-one : (f : ℕ → Bool) (n : ℕ) → 0 < n → f 0 ≡ true → ((j : ℕ) → 1 ≤ j → j < n → f j ≡ false) → count_by f (range_with_len 0 n) ≡ 1
+count-one f zero some first fails = absurd (omega (arith, some))
+count-one f (suc n) some first fails = sym (length-filter f (range_with_len 0 (suc n))) ∙ rw first (ap (λ (xs : List ℕ). suc (length xs)) (none-passes f 1 n (λ j above few. fails j above (omega (arith, few)))))
 
 pub count-left : (f : ℕ → Bool) (a n : ℕ) (xs : List ℕ) → AreLeftOut f a n xs → length xs + count_by f (range_with_len a n) ≡ n
 count-left f a n xs l = ap (λ m. length xs + m) (sym (length-filter f (range_with_len a n))) ∙ count-among f a n xs l

@@ -17,6 +17,7 @@ mod Stored
 mod Went
 mod Owners
 mod Paid
+mod PaidSteps
 mod Spared
 mod Striking
 mod StruckQuietly
@@ -44,6 +45,7 @@ mod Stepping
 mod Finishing
 mod FreshSlots
 mod LeftSlots
+mod ReachedNow
 mod Openings
 mod Booting
 mod Takings

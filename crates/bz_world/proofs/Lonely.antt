@@ -26,6 +26,7 @@ use Rattle.bz_task.specs.declared.todo.Todo.{Todo}
 use Rattle.bz_task.specs.declared.todo.Todo.TheVariants as todo
 use Rattle.bz_world.specs.Inside.Kept.{IsAwake}
 use Rattle.bz_world.specs.Inside.Lonely.{WhereLonely, IsLonelyGet, AsksBriefly, IsLonelyIn}
+use Rattle.bz_world.specs.Inside.Paid.{Stock, stock_of}
 use Rattle.bz_world.specs.Inside.Serving.{IsServing, IsDoing, IsSlot}
 use Rattle.bz_world.specs.WorldView.{mark_of}
 use Rattle.bz_world.specs.declared.parts.Parts.{Parts}
@@ -98,8 +99,8 @@ does-read m owners w (todo.Flush line) d r = absurd r
 does-read m owners w (todo.Swap entries) d r = absurd r
 does-read m owners w todo.Finish d r = absurd d
 
-pub lonely-reads : (c : Config) (m : SwapMemory) (log : Log) (story : Story) (owners : List ℕ) (w : ℕ) (x : OpenCall) (opened : Open) (key : List ℕ) → IsServing c m log story owners w x → IsLonelyGet m log.past story w x opened key → DoesRead m w
-lonely-reads c m log story owners w x opened key s g = does-read m owners w s.asked s.doing (g.looks.asks s.asked (looks-some key x.path x.task g.brief.looks) s.asks)
+pub lonely-reads : (c : Config) (m : SwapMemory) (log : Log) (story : Story) (owners : List ℕ) (stock : Stock) (w : ℕ) (x : OpenCall) (opened : Open) (key : List ℕ) → IsServing c m log story owners stock w x → IsLonelyGet m log.past story w x opened key → DoesRead m w
+lonely-reads c m log story owners stock w x opened key s g = does-read m owners w s.asked s.doing (g.looks.asks s.asked (looks-some key x.path x.task g.brief.looks) s.asks)
 
 -- what is known of the call in a place is known of the one there
 pub in-place : (m : SwapMemory) (past : List Mark) (story : Story) (items : List (Option OpenCall)) (w : ℕ) (x : OpenCall) (its : Open) → get_or items w None ≡ Some x → open_call w past ≡ Some its → WhereLonely past w x.call (IsLonelyGet m past story w x its) → IsLonelyIn m past story items w
@@ -132,9 +133,9 @@ started-lonely m past story owners w x opened key doing (todo.Swap entries) g d 
 started-lonely m past story owners w x opened key doing todo.Finish g d starts = absurd d
 
 -- where no call is open nobody does anything
-idle-in : (c : Config) (m : SwapMemory) (log : Log) (story : Story) (owners : List ℕ) (v : ℕ) (slot : Option OpenCall) → IsSlot c m log story owners v slot → open_call v log.past ≡ None → doing_of m v ≡ Idle
-idle-in c m log story owners v None rest none = rest.idle
-idle-in c m log story owners v (Some x) s none = absurd (let never : None ≡ Some s.opened = sym none ∙ s.call_open.is_open in cc never)
+idle-in : (c : Config) (m : SwapMemory) (log : Log) (story : Story) (owners : List ℕ) (stock : Stock) (v : ℕ) (slot : Option OpenCall) → IsSlot c m log story owners stock v slot → open_call v log.past ≡ None → doing_of m v ≡ Idle
+idle-in c m log story owners stock v None rest none = rest.idle
+idle-in c m log story owners stock v (Some x) s none = absurd (let never : None ≡ Some s.opened = sym none ∙ s.call_open.is_open in cc never)
 
 pub all-idle : (p : Parts) → IsAwake p → ((v : ℕ) → open_call v p.journal.past ≡ None) → AllIdle p.access
-all-idle p k none v = idle-in p.config p.access p.journal k.story p.owners.items v (get_or p.workers.items v None) (k.workers v) (none v)
+all-idle p k none v = idle-in p.config p.access p.journal k.story p.owners.items (stock_of p) v (get_or p.workers.items v None) (k.workers v) (none v)

@@ -15,6 +15,7 @@ use Rattle.bz_world.specs.Inside.Acted.{IsActed, IsEvicted, IsStriking}
 use Rattle.bz_world.specs.Inside.Kept.{IsAwake}
 use Rattle.bz_world.specs.Inside.Laws.{StepLaws, StrikeLaws}
 use Rattle.bz_world.specs.Inside.Lonely.{WhereLonely, IsNotLonely, IsLonelyGet, IsLonelyIn}
+use Rattle.bz_world.specs.Inside.Paid.{stock_of}
 use Rattle.bz_world.specs.Inside.Serving.{IsServing}
 use Rattle.bz_world.specs.WorldView.{mark_of}
 use Rattle.bz_world.specs.declared.parts.Parts.{Parts}
@@ -29,11 +30,11 @@ pub lonely-now : (p : Parts) (k : IsAwake p) (v : ℕ) (x : OpenCall) (is : get_
 lonely-now p k v x is = k.lonely v x (serves p k v x is).opened is (serves p k v x is).call_open.is_open
 
 pub reads-now : (p : Parts) (k : IsAwake p) (v : ℕ) (x : OpenCall) → get_or p.workers.items v None ≡ Some x → WhereLonely p.journal.past v x.call (λ key. DoesRead p.access v)
-reads-now p k v x is key get lonely = lonely-reads p.config p.access p.journal k.story p.owners.items v x (serves p k v x is).opened key (serves p k v x is) (lonely-now p k v x is key get lonely)
+reads-now p k v x is key get lonely = lonely-reads p.config p.access p.journal k.story p.owners.items (stock_of p) v x (serves p k v x is).opened key (serves p k v x is) (lonely-now p k v x is key get lonely)
 
 -- an act at which no swap took effect
 module _ (b : StepLaws) (old new : Parts) (w : ℕ) (x : OpenCall) (made : Act) (answer : Done) (k : IsAwake old) (is-worker : get_or old.workers.items w None ≡ Some x) (a : IsActed old w made answer None new) (filled : ℕ → ℕ → Bool) where
-  abbrev its : IsServing old.config old.access old.journal k.story old.owners.items w x
+  abbrev its : IsServing old.config old.access old.journal k.story old.owners.items (stock_of old) w x
   its = serves old k w x is-worker
 
   -- of its own is one more

@@ -7,6 +7,7 @@ use Rattle.bz_layout.specs.declared.config.Config.{Config}
 use Rattle.bz_layout.specs.declared.thresholds.TheConstants.{MERGE_SLOTS}
 use Rattle.bz_lone.specs.Errands.{words_asked, is_read}
 use Rattle.bz_lone.specs.Meant.{IsMeantFor}
+use Rattle.bz_lone.specs.FromCosts.Resources.{Resource}
 use Rattle.bz_lone.specs.Prices.{Prices, coming, coming_after, coming_to_read, coming_to_write}
 use Rattle.bz_lone.specs.FromRounds.Due.{MayBeMadeAnew}
 use Rattle.bz_running.specs.Duties.{config_of, asks_of, made_of, wants_of, facts_of, makes_no_change}
@@ -24,9 +25,8 @@ use Rattle.bz_word.specs.Statuses.{status}
 use Rattle.bz_world.specs.Inside.Going.{MustGoOn, MustTakeOn, MustRestructure, MustMakeAnew, MustCopy, MustSplit, MustSplitBelow, MustMerge, known}
 use Rattle.bz_world.specs.Inside.Laws.{AloneLaws, RoundLaws}
 use Rattle.bz_world.specs.Inside.Meant.{IsMeant}
-use Rattle.bz_world.specs.Inside.Paid.{errand_of, IsPaidFor, HasToSpare, HasARound}
+use Rattle.bz_world.specs.Inside.Paid.{bound_in, errand_of, no_extra, used_in, IsPaidFor, HasToSpare, HasARound}
 use Rattle.bz_world.specs.Inside.Serving.{IsWanted, NeedsAtLeast}
-use Rattle.bz_world.specs.WorldView.{deadline}
 use Rattle.bz_world.specs.declared.parts.Parts.{Parts}
 use Rattle.bz_world.specs.declared.serving.OpenCall.{OpenCall}
 use Rattle.bz_world.proofs.Answering.{on-pages}
@@ -35,34 +35,35 @@ use Rattle.bz_world.proofs.Spared.{most_in, task-paid, writes-look, lacks-write,
 use Rattle.bz_world.proofs.TakingOn.{known-scene, lookup-taken, none-wanted}
 
 -- of a call that makes a change and has had no effect, this is what may come after a task of some kind
-coming-is : (q : Prices) (x : OpenCall) (k : Kind) → x.effect ≡ None → is_read x.call ≡ false → coming q (errand_of x) k ≡ coming_to_write q (errand_of x) k
-coming-is q x k quiet write = ap (λ (b : Bool). if b then coming_after k else (if is_read x.call then coming_to_read k else coming_to_write q (errand_of x) k)) (ap is_some quiet) ∙ ap (λ (b : Bool). if b then coming_to_read k else coming_to_write q (errand_of x) k) write
+coming-is : (r : Resource) (q : Prices) (x : OpenCall) (k : Kind) → x.effect ≡ None → is_read x.call ≡ false → coming r q (errand_of x) k ≡ coming_to_write r q (errand_of x) k
+coming-is r q x k quiet write = ap (λ (b : Bool). if b then coming_after r k else (if is_read x.call then coming_to_read r k else coming_to_write r q (errand_of x) k)) (ap is_some quiet) ∙ ap (λ (b : Bool). if b then coming_to_read r k else coming_to_write r q (errand_of x) k) write
 
 -- so it is paid for, where what may come so is
-spared-so : RoundLaws → (p : Parts) (w : ℕ) (on : MustGoOn p w) → on.serving.effect ≡ None → is_read on.serving.call ≡ false → (k : Kind) → HasToSpare p w on.serving (known p w on).past (λ q. most_in k + coming_to_write q (errand_of on.serving) k) → HasToSpare p w on.serving (known p w on).past (λ q. most_in k + coming q (errand_of on.serving) k)
-spared-so b p w on quiet write k s = b.less p.access w (errand_of on.serving) (deadline p.config w p.journal.past) (known p w on).past (λ q. most_in k + coming_to_write q (errand_of on.serving) k) (λ q. most_in k + coming q (errand_of on.serving) k) (λ q. omega (arith, coming-is q on.serving k quiet write)) s
+spared-so : RoundLaws → (p : Parts) (w : ℕ) (on : MustGoOn p w) → on.serving.effect ≡ None → is_read on.serving.call ≡ false → (k : Kind) → HasToSpare p w on.serving (known p w on).past (λ r q. most_in r k + coming_to_write r q (errand_of on.serving) k) → HasToSpare p w on.serving (known p w on).past (λ r q. most_in r k + coming r q (errand_of on.serving) k)
+spared-so b p w on quiet write k s r counted =
+    b.less r p.access w (errand_of on.serving) (used_in r p w) (bound_in r p w) (known p w on).past (λ q. most_in r k + coming_to_write r q (errand_of on.serving) k) (λ q. most_in r k + coming r q (errand_of on.serving) k) (λ q. omega (arith, coming-is r q on.serving k quiet write)) (s r counted)
 
 -- what is left once a leaf without room was read whole pays for its freeze, its copy, its split and its merge
-pub freeze-spares : AloneLaws → (p : Parts) (w : ℕ) (view : LeafView) (m : MustRestructure p w view) → (status view.status).frozen ≡ false → HasToSpare p w m.answer.on.serving (known p w m.answer.on).past (λ q. most_of_freeze + q.froze)
-freeze-spares lone p w view m thawed = lone.rounds.renewals.freeze p.access w (errand_of m.answer.on.serving) (deadline p.config w p.journal.past) (known p w m.answer.on).past (is-lacking lone p w m.answer.on view m.answer.viewed thawed m.lacks) m.spares
+pub freeze-spares : AloneLaws → (p : Parts) (w : ℕ) (view : LeafView) (m : MustRestructure p w view) → (status view.status).frozen ≡ false → HasToSpare p w m.answer.on.serving (known p w m.answer.on).past (λ r q. most_of_freeze r + q.froze)
+freeze-spares lone p w view m thawed r counted = (lone.rounds.renewals r).freeze p.access w (errand_of m.answer.on.serving) (used_in r p w) (bound_in r p w) (known p w m.answer.on).past (is-lacking lone p w m.answer.on view m.answer.viewed thawed m.lacks) (m.spares r counted)
 
-pub copy-spares : AloneLaws → (p : Parts) (w : ℕ) (path : Path) (view : LeafView) (m : MustCopy p w path view) → HasToSpare p w m.anew.answer.on.serving (known p w m.anew.answer.on).past (λ q. most_of_copy + q.renewed)
-copy-spares lone p w path view m = lone.rounds.renewals.copy p.access w (errand_of m.anew.answer.on.serving) (deadline p.config w p.journal.past) (known p w m.anew.answer.on).past (is-small lone p w m.anew.answer.on view m.anew.answer.viewed m.frozen m.few) m.anew.spares
+pub copy-spares : AloneLaws → (p : Parts) (w : ℕ) (path : Path) (view : LeafView) (m : MustCopy p w path view) → HasToSpare p w m.anew.answer.on.serving (known p w m.anew.answer.on).past (λ r q. most_of_copy r + q.renewed)
+copy-spares lone p w path view m r counted = (lone.rounds.renewals r).copy p.access w (errand_of m.anew.answer.on.serving) (used_in r p w) (bound_in r p w) (known p w m.anew.answer.on).past (is-small lone p w m.anew.answer.on view m.anew.answer.viewed m.frozen m.few) (m.anew.spares r counted)
 
-pub root-spares : AloneLaws → (p : Parts) (w : ℕ) (path : Path) (view : LeafView) (m : MustSplit p w path view) → HasToSpare p w m.anew.answer.on.serving (known p w m.anew.answer.on).past (λ q. most_of_root + q.renewed)
-root-spares lone p w path view m = lone.rounds.renewals.root p.access w (errand_of m.anew.answer.on.serving) (deadline p.config w p.journal.past) (known p w m.anew.answer.on).past (is-large lone p w m.anew.answer.on view m.anew.answer.viewed m.frozen m.many) m.anew.spares
+pub root-spares : AloneLaws → (p : Parts) (w : ℕ) (path : Path) (view : LeafView) (m : MustSplit p w path view) → HasToSpare p w m.anew.answer.on.serving (known p w m.anew.answer.on).past (λ r q. most_of_root r + q.renewed)
+root-spares lone p w path view m r counted = (lone.rounds.renewals r).root p.access w (errand_of m.anew.answer.on.serving) (used_in r p w) (bound_in r p w) (known p w m.anew.answer.on).past (is-large lone p w m.anew.answer.on view m.anew.answer.viewed m.frozen m.many) (m.anew.spares r counted)
 
-pub below-spares : AloneLaws → (p : Parts) (w : ℕ) (path : Path) (view : LeafView) (m : MustSplitBelow p w path view) → HasToSpare p w m.anew.answer.on.serving (known p w m.anew.answer.on).past (λ q. most_of_below + q.below)
-below-spares lone p w path view m = lone.rounds.renewals.below p.access w (errand_of m.anew.answer.on.serving) (deadline p.config w p.journal.past) (known p w m.anew.answer.on).past (is-large lone p w m.anew.answer.on view m.anew.answer.viewed m.frozen m.many) m.anew.spares
+pub below-spares : AloneLaws → (p : Parts) (w : ℕ) (path : Path) (view : LeafView) (m : MustSplitBelow p w path view) → HasToSpare p w m.anew.answer.on.serving (known p w m.anew.answer.on).past (λ r q. most_of_below r + q.below)
+below-spares lone p w path view m r counted = (lone.rounds.renewals r).below p.access w (errand_of m.anew.answer.on.serving) (used_in r p w) (bound_in r p w) (known p w m.anew.answer.on).past (is-large lone p w m.anew.answer.on view m.anew.answer.viewed m.frozen m.many) (m.anew.spares r counted)
 
-pub merge-spares : AloneLaws → (p : Parts) (w : ℕ) (path : Path) (view : LeafView) (m : MustCopy p w path view) → m.anew.answer.on.serving.alone ≡ false → HasToSpare p w m.anew.answer.on.serving (known p w m.anew.answer.on).past (λ q. most_of_merge + coming q (errand_of m.anew.answer.on.serving) kinds.Merge)
+pub merge-spares : AloneLaws → (p : Parts) (w : ℕ) (path : Path) (view : LeafView) (m : MustCopy p w path view) → m.anew.answer.on.serving.alone ≡ false → HasToSpare p w m.anew.answer.on.serving (known p w m.anew.answer.on).past (λ r q. most_of_merge r + coming r q (errand_of m.anew.answer.on.serving) kinds.Merge)
 merge-spares lone p w path view m beside = spared-so lone.rounds p w m.anew.answer.on m.anew.answer.quiet (lacks-write m.anew.answer.on.serving.call view.status m.anew.lacks) kinds.Merge
-    (lone.rounds.renewals.merge p.access w (errand_of m.anew.answer.on.serving) (deadline p.config w p.journal.past) (known p w m.anew.answer.on).past beside (is-small lone p w m.anew.answer.on view m.anew.answer.viewed m.frozen m.few) m.anew.spares)
+    (λ r counted. (lone.rounds.renewals r).merge p.access w (errand_of m.anew.answer.on.serving) (used_in r p w) (bound_in r p w) (known p w m.anew.answer.on).past beside (is-small lone p w m.anew.answer.on view m.anew.answer.viewed m.frozen m.few) (m.anew.spares r counted))
 
 -- where it may not be made anew another's swap took effect, and the key is looked up again
 pub not-due : AloneLaws → (p : Parts) (w : ℕ) (path : Path) (view : LeafView) (m : MustMakeAnew p w path view) → (MayBeMadeAnew path view → ⊥) → HasARound p w m.answer.on.serving (known p w m.answer.on).past
-not-due lone p w path view m not = lone.rounds.disturbed p.access w (errand_of m.answer.on.serving) (deadline p.config w p.journal.past) (known p w m.answer.on).past (λ q. q.viewed)
-    (λ alone. not (lone.rounds.due (key_of m.answer.on.serving.call) path view (known p w m.answer.on) (known-scene lone.scenes p w m.answer.on) alone m.way m.answer.viewed)) m.spares
+not-due lone p w path view m not r counted = lone.rounds.disturbed r p.access w (errand_of m.answer.on.serving) (used_in r p w) (bound_in r p w) (known p w m.answer.on).past (λ q. q.viewed)
+    (λ alone. not (lone.rounds.due (key_of m.answer.on.serving.call) path view (known p w m.answer.on) (known-scene lone.scenes p w m.answer.on) alone m.way m.answer.viewed)) (m.spares r counted)
 
 -- what is told of a task that is yet to begin, and that makes no change
 pub record IsFresh (c : Config) (task : AnyTask) (k : Kind) : Type 0 where
@@ -89,7 +90,7 @@ renewal-meant p w on quiet write task within meant = record {
 }
 
 -- and is paid for
-pub renewal-paid : RoundLaws → (p : Parts) (w : ℕ) (on : MustGoOn p w) (quiet : on.serving.effect ≡ None) (write : is_read on.serving.call ≡ false) (task : AnyTask) (k : Kind) (f : IsFresh p.config task k) → k ≢ kinds.Merge → IsMeantFor on.serving.call task (known p w on).past → HasToSpare p w on.serving (known p w on).past (λ q. most_in k + coming_to_write q (errand_of on.serving) k) → IsPaidFor p w (record on.serving { task = task; path = None }) 0 0 (known p w on).past
+pub renewal-paid : RoundLaws → (p : Parts) (w : ℕ) (on : MustGoOn p w) (quiet : on.serving.effect ≡ None) (write : is_read on.serving.call ≡ false) (task : AnyTask) (k : Kind) (f : IsFresh p.config task k) → k ≢ kinds.Merge → IsMeantFor on.serving.call task (known p w on).past → HasToSpare p w on.serving (known p w on).past (λ r q. most_in r k + coming_to_write r q (errand_of on.serving) k) → IsPaidFor p w (record on.serving { task = task; path = None }) 0 no_extra (known p w on).past
 renewal-paid b p w on quiet write task k f other meant s = task-paid b p w on task None on.serving.had k f.kind f.laws f.asks f.made (renewal-meant p w on quiet write task f.within meant) (λ none merge. absurd (other merge)) (spared-so b p w on quiet write k s)
 
 -- the freeze of a leaf, which is none by a merge
@@ -106,7 +107,7 @@ freeze-taken lone p w view m thawed task f lookup wants facts made =
 -- its copy or its split
 abbrev pub anew-taken : AloneLaws → (p : Parts) (w : ℕ) (path : Path) (view : LeafView) (m : MustMakeAnew p w path view) (task : AnyTask) (k : Kind) → IsFresh p.config task k → k ≢ kinds.Merge → ((way : Option Path) → IsLookup (key_of m.answer.on.serving.call) way task) → (slots : ℕ) → wants_of task ≡ slots → NeedsAtLeast p.config p.journal.start p.journal.past m.answer.on.between.opened slots
     → ((s : Scene) → s.past.config ≡ p.config → IsScene s → IsPath (key_of m.answer.on.serving.call) path s.past → IsView (key_of m.answer.on.serving.call) view s.past → facts_of task Waiting s) → IsMadeFor task (key_of m.answer.on.serving.call) (words_asked m.answer.on.serving.call) (known p w m.answer.on).past
-    → HasToSpare p w m.answer.on.serving (known p w m.answer.on).past (λ q. most_in k + coming_to_write q (errand_of m.answer.on.serving) k) → MustTakeOn p w task None m.answer.on.serving.had None
+    → HasToSpare p w m.answer.on.serving (known p w m.answer.on).past (λ r q. most_in r k + coming_to_write r q (errand_of m.answer.on.serving) k) → MustTakeOn p w task None m.answer.on.serving.had None
 anew-taken lone p w path view m task k f other lookup slots wants needs facts made spares =
     lookup-taken p w m.answer.on (inl m.answer.quiet) task None None (key_of m.answer.on.serving.call) f.config f.laws f.silent (lookup None) (λ none. lookup) refl f.asks
     (facts (known p w m.answer.on) refl (known-scene lone.scenes p w m.answer.on) m.way m.answer.viewed)

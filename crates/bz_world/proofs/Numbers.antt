@@ -9,6 +9,7 @@ use Rattle.bz_sound.specs.declared.power.Power.{Power}
 use Rattle.bz_sound.specs.declared.power.Power.TheVariants as power
 use Rattle.bz_sound.specs.Power.CallLaws.{OpenCallsAreLast}
 use Rattle.bz_world.specs.Inside.Kept.{IsKept, IsAwake}
+use Rattle.bz_world.specs.Inside.Paid.{stock_of}
 use Rattle.bz_world.specs.Inside.Serving.{IsSlot, IsServing}
 use Rattle.bz_world.specs.declared.parts.Parts.{Parts}
 use Rattle.bz_world.specs.declared.serving.OpenCall.{OpenCall}
@@ -18,8 +19,8 @@ abbrev number-in : Parts → ℕ → Option ℕ
 number-in p w = option_map (λ (o : Open). o.number) (open_call w p.journal.past)
 
 -- what is served, with the power on
-slot-in : (p : Parts) (k : IsAwake p) (w : ℕ) (slot : Option OpenCall) → get_or p.workers.items w None ≡ slot → IsSlot p.config p.access p.journal k.story p.owners.items w slot
-slot-in p k w slot is = subst (IsSlot p.config p.access p.journal k.story p.owners.items w) is (k.workers w)
+slot-in : (p : Parts) (k : IsAwake p) (w : ℕ) (slot : Option OpenCall) → get_or p.workers.items w None ≡ slot → IsSlot p.config p.access p.journal k.story p.owners.items (stock_of p) w slot
+slot-in p k w slot is = subst (IsSlot p.config p.access p.journal k.story p.owners.items (stock_of p) w) is (k.workers w)
 
 -- where the table has a call of a worker, that has the number of the worker's last call
 pub number-open : OpenCallsAreLast → (p : Parts) → IsKept p → (w : ℕ) (x : OpenCall) → get_or p.workers.items w None ≡ Some x → w ≤ p.config.workers → number-in p w ≡ Some (slice_index p.numbers.items w)
@@ -33,7 +34,7 @@ number-open law p kept w x some within = go p.power refl
 
     go : (z : Power) → p.power ≡ z → number-in p w ≡ Some (slice_index p.numbers.items w)
     go power.On e =
-        let s : IsServing p.config p.access p.journal (awake-in p kept e).story p.owners.items w x = slot-in p (awake-in p kept e) w (Some x) some in
+        let s : IsServing p.config p.access p.journal (awake-in p kept e).story p.owners.items (stock_of p) w x = slot-in p (awake-in p kept e) w (Some x) some in
         ap (option_map (λ (o : Open). o.number)) s.call_open.is_open ∙ ap Some ((law p.config p.at_start p.journal w s.opened kept.sound s.call_open.is_open).last ∙ sym (kept.tabled.counted w in-table))
     go power.Off e = no-call ((off-in p kept e).dark.none w)
     go power.Recovering e = no-call ((started-in p kept e).dark.none w)

@@ -37,6 +37,7 @@ use Rattle.bz_world.proofs.FreshSlots.{free-below, free-root, free-others}
 use Rattle.bz_world.specs.Inside.Kept.{IsTabled, KeepsNotes, AreTaken, AreFree, IsAwake, IsKept}
 use Rattle.bz_world.specs.Inside.Laws.{BegunLaws}
 use Rattle.bz_world.specs.Inside.Opening.{fresh_slots, IsMadeOver}
+use Rattle.bz_world.specs.Inside.Paid.{stock_of}
 use Rattle.bz_world.specs.WorldView.{Supply, supply_by, new_view, view_over}
 use Rattle.bz_world.specs.Inside.Serving.{IsSlot, IsAtRest}
 use Rattle.bz_world.specs.declared.parts.Parts.{Parts}
@@ -150,12 +151,12 @@ kept-open b p made slots = record {
   living = subst (λ l. IsLiving p.config p.access l (fresh_story p.config)) (sym made.journal) (b.living p.config p.access ((new_view p.config).log.limits) (record { config = made.config; opened = made.opened; holds = made.holds }));
   sound = subst (λ (s : Power). IsSound p.config s p.journal) (sym made.at_start) (subst (IsSound p.config power.On) (sym made.journal) (sound b p.config made.config));
   free = subst (λ log. AreFree p.config (image_at_on log.start log.past) p.slots (fresh_story p.config).took) (sym made.journal) (subst (λ free. AreFree p.config (slice_index (fresh_words p.config)) free (fresh_story p.config).took) (sym slots) (free-fresh b p.config made.config));
-  workers = λ w. subst (λ xs. IsSlot p.config p.access p.journal (fresh_story p.config) p.owners.items w (get_or xs w None)) (sym made.workers) (rest w (get_or (replicate 65 None) w None) (same-everywhere 65 w None));
+  workers = λ w. subst (λ xs. IsSlot p.config p.access p.journal (fresh_story p.config) p.owners.items (stock_of p) w (get_or xs w None)) (sym made.workers) (rest w (get_or (replicate 65 None) w None) (same-everywhere 65 w None));
   lonely = λ w. none-in p.access p.journal.past (fresh_story p.config) p.workers.items w (ap (λ xs. get_or xs w None) made.workers ∙ same-everywhere 65 w None);
 }
   where
-    rest : (w : ℕ) (entry : Option OpenCall) → entry ≡ None → IsSlot p.config p.access p.journal (fresh_story p.config) p.owners.items w entry
-    rest w entry e = subst (IsSlot p.config p.access p.journal (fresh_story p.config) p.owners.items w) (sym e)
+    rest : (w : ℕ) (entry : Option OpenCall) → entry ≡ None → IsSlot p.config p.access p.journal (fresh_story p.config) p.owners.items (stock_of p) w entry
+    rest w entry e = subst (IsSlot p.config p.access p.journal (fresh_story p.config) p.owners.items (stock_of p) w) (sym e)
         (subst (λ m. IsAtRest m p.journal (fresh_story p.config) w) (sym made.opened.is) (subst (λ l. IsAtRest (opened made.opened.phase (fresh_words p.config) p.config.swaps p.config.workers) l (fresh_story p.config) w) (sym made.journal) (at-rest b p.config made.config made.opened.phase w)))
 
 -- over fresh memory a world is kept
@@ -179,7 +180,7 @@ map-replicate f (suc n) x = ap (λ xs. f x ∷ xs) (map-replicate f n x)
 -- so it is seen
 pub lab-made : (c : Config) (start : List ℕ) (at_start : Power) (p : Parts) → p.config ≡ c → IsMadeOver start at_start p → (at_start ≡ power.On → length p.slots.free ≡ p.config.nodes - 1) → world_view p ≡ view_over c start at_start
 lab-made c start at_start p config made left =
-    (λ t. record { config = p.config; at_start = made.at_start t; log = made.journal t; flushes = flushes t; swapping = swapping t; left_out = made.left_out t; supply = supply t }) ∙ ap (λ (d : Config). view_over d start at_start) config
+    (λ t. record { config = p.config; at_start = made.at_start t; log = made.journal t; flushes = flushes t; swapping = swapping t; left_out = made.left_out t; supply = supply t; at_begin = made.at_begin t }) ∙ ap (λ (d : Config). view_over d start at_start) config
   where
     flushes : map (λ (v : Working). v.flush_next) p.access.workers ≡ replicate (p.config.workers + 1) false
     flushes = ap (λ (m : SwapMemory). map (λ (v : Working). v.flush_next) m.workers) made.opened.is ∙ map-replicate (λ (v : Working). v.flush_next) (p.config.workers + 1) idle

@@ -7,6 +7,7 @@ use Rattle.bz_swap.specs.SwapMemory.{Swapping, doing_of, entries_of}
 use Rattle.bz_task.specs.declared.todo.Todo.{Todo}
 use Rattle.bz_task.specs.declared.todo.Todo.TheVariants as todo
 use Rattle.bz_world.specs.Inside.Kept.{IsAwake}
+use Rattle.bz_world.specs.Inside.Paid.{stock_of}
 use Rattle.bz_world.specs.Inside.Serving.{IsServing, IsDoing, IsSlot}
 use Rattle.bz_world.specs.declared.parts.Parts.{Parts}
 use Rattle.bz_world.specs.declared.serving.OpenCall.{OpenCall}
@@ -15,14 +16,14 @@ use Rattle.bz_world.specs.declared.serving.OpenCall.{OpenCall}
 pub record IsOwner (p : Parts) (k : IsAwake p) (w s : ℕ) (slot : Option OpenCall) : Type 0 where
   pub serving : OpenCall
   pub is : slot ≡ Some serving
-  pub serves : IsServing p.config p.access p.journal k.story p.owners.items w serving
+  pub serves : IsServing p.config p.access p.journal k.story p.owners.items (stock_of p) w serving
   pub asks : asks_of serving.task ≡ Some (todo.Swap (entries_of p.access s))
   pub owner : slice_index p.owners.items s ≡ w
   pub begun : s < p.access.taken
   pub list : IsEntryList (entries_of p.access s)
 
 module _ (p : Parts) (k : IsAwake p) (w s : ℕ) (pending : doing_of p.access w ≡ Swapping s) where
-  by-asked : (x : OpenCall) (h : IsServing p.config p.access p.journal k.story p.owners.items w x) (t : Todo) → h.asked ≡ t → IsDoing p.access p.owners.items w t → IsOwner p k w s (Some x)
+  by-asked : (x : OpenCall) (h : IsServing p.config p.access p.journal k.story p.owners.items (stock_of p) w x) (t : Todo) → h.asked ≡ t → IsDoing p.access p.owners.items w t → IsOwner p k w s (Some x)
   by-asked x h (todo.Read c) e d = absurd (cc (d, pending))
   by-asked x h (todo.Load c) e d = absurd d
   by-asked x h (todo.Store a v) e d = absurd (cc (d.0, pending))
@@ -41,7 +42,7 @@ module _ (p : Parts) (k : IsAwake p) (w s : ℕ) (pending : doing_of p.access w 
         list = subst IsEntryList (sym entries-are) d.list;
       }
 
-  by-slot : (slot : Option OpenCall) → IsSlot p.config p.access p.journal k.story p.owners.items w slot → IsOwner p k w s slot
+  by-slot : (slot : Option OpenCall) → IsSlot p.config p.access p.journal k.story p.owners.items (stock_of p) w slot → IsOwner p k w s slot
   by-slot None h = absurd (cc (h.idle, pending))
   by-slot (Some x) h = by-asked x h h.asked refl h.doing
 

@@ -6,7 +6,9 @@ use Rattle.bz_acts.specs.declared.acted.Act.{Act}
 use Rattle.bz_acts.specs.declared.acted.Act.TheVariants.{Load, Store, Cas, Flush}
 use Rattle.bz_below.specs.Facts.{below_acts}
 use Rattle.bz_lone.specs.FromCosts.Laws.{AskedSwapsAreCounted}
+use Rattle.bz_lone.specs.FromCosts.Lone.{one_mark}
 use Rattle.bz_lone.specs.FromCosts.Most.{IsWithinItsActs}
+use Rattle.bz_lone.specs.FromCosts.Resources.{Resource, Marks, Descriptors, Slots}
 use Rattle.bz_layout.specs.Slots.{FreeSlots}
 use Rattle.bz_layout.specs.declared.config.Config.{Config}
 use Rattle.bz_layout.specs.declared.thresholds.TheConstants.{MARKS_PER_CALL}
@@ -14,7 +16,7 @@ use Rattle.bz_call.specs.declared.calls.Call.{Call}
 use Rattle.bz_call.specs.declared.calls.Call.TheVariants as call
 use Rattle.bz_lone.specs.Errands.{Errand, is_read, IsLookOf}
 use Rattle.bz_lone.specs.Steps.{IsNext}
-use Rattle.bz_lone.specs.Sum.{Affords, own_left, IsPaid}
+use Rattle.bz_lone.specs.Sum.{Affords, own_by, own_left}
 use Rattle.bz_mark.specs.declared.marks.Mark.{Mark}
 use Rattle.bz_mark.specs.declared.marks.Mark.TheVariants as mark
 use Rattle.bz_running.specs.Duties.{asks_of, left_of, swaps_of}
@@ -37,9 +39,9 @@ use Rattle.bz_word.specs.declared.entry.Entry.{Entry}
 use Rattle.bz_world.specs.Inside.Alone.{untold}
 use Rattle.bz_world.specs.Inside.Kept.{IsAwake}
 use Rattle.bz_world.specs.Inside.Laws.{PaidLaws}
-use Rattle.bz_world.specs.Inside.Paid.{errand_of, runner}
+use Rattle.bz_world.specs.Inside.Paid.{bound_of, errand_of, no_extra, runner, stock_of, IsCounted, IsPaidIn}
 use Rattle.bz_world.specs.Inside.Serving.{IsServing}
-use Rattle.bz_world.specs.WorldView.{mark_of, stepper, is_stepper, before_run, are_closed, begins_alone, run_marks, deadline_from, deadline}
+use Rattle.bz_world.specs.WorldView.{mark_of, stepper, is_stepper, before_run, are_closed, begins_alone, run_marks, deadline_from, deadline, RunsWhole}
 use Rattle.bz_world.specs.declared.parts.Parts.{Parts}
 use Rattle.bz_world.specs.declared.serving.OpenCall.{OpenCall}
 use Rattle.bz_world.proofs.Lonely.{now-is}
@@ -141,7 +143,7 @@ first-of : (a b : Bool) → (a && b) ≡ true → a ≡ true
 first-of true b e = refl
 first-of false b e = e
 
-second-of : (a b : Bool) → (a && b) ≡ true → b ≡ true
+pub second-of : (a b : Bool) → (a && b) ≡ true → b ≡ true
 second-of true b e = e
 second-of false b e = absurd (true≢false (sym e))
 
@@ -154,7 +156,7 @@ each-closed (suc n) past closed v few = elim (cases_eq v (suc n)) [
 ]
 
 -- whether it steps
-steps-or : (w : ℕ) (o : Option ℕ) → (o ≡ Some w) ⊎ (o ≢ Some w)
+pub steps-or : (w : ℕ) (o : Option ℕ) → (o ≡ Some w) ⊎ (o ≢ Some w)
 steps-or w None = inr (λ e. cc e)
 steps-or w (Some v) = elim (cases_eq v w) [
   | inl e ↦ inl (ap Some e)
@@ -201,14 +203,31 @@ left-within (Merging t) a e within = absurd (cc e)
 pub within-told : (old new : AnyTask) (seen : Seen) (moment : ℕ) (free : FreeSlots) (todo : Todo) (left : FreeSlots) → HasHeard old seen moment free todo new left → IsWithinItsActs old → IsWithinItsActs new
 within-told old new seen moment free todo left h within = within-of new (λ a e. omega (arith, h.nearer, left-within old a (sym h.kind ∙ e) within))
 
+-- what may be used of a resource is what it was, while a worker steps, and it is known as before
+pub bound-on : (r : Resource) (c : Config) (w : ℕ) (m : Mark) (past : List Mark) → stepper (m ∷ past) ≡ Some w → bound_of r c (m ∷ past) w ≡ bound_of r c past w
+bound-on Marks c w m past is = run-on c w m past is
+bound-on r c w m past is = refl
+
+pub counted-on : (r : Resource) (c : Config) (w : ℕ) (m : Mark) (past : List Mark) → stepper (m ∷ past) ≡ Some w → IsCounted r c w (m ∷ past) → IsCounted r c w past
+counted-on Marks c w m past is h = tt
+counted-on Descriptors c w m past is h = sym (ap (begins_alone c w) (before-on w m past is)) ∙ h
+counted-on Slots c w m past is h = sym (ap (begins_alone c w) (before-on w m past is)) ∙ h
+
+-- a run of one of which nothing is known yet does not follow the begin of its call
+pub not-whole : (c : Config) (w : ℕ) (past : List Mark) → runner c past ≢ Some w → RunsWhole c w past → ⊥
+not-whole c w past ne h = true≢false (sym h ∙ (ap (begins_alone c w) (run-now w past (λ is. ne (steps-run c w past is))) ∙ begins-else c w past ne))
+
 -- the call of a worker is paid for, whoever stepped last
-pub paid-here : PaidLaws → (p : Parts) (k : IsAwake p) (w : ℕ) (x : OpenCall) (s : IsServing p.config p.access p.journal k.story p.owners.items w x) → 0 < w → w ≤ p.config.workers
-    → IsPaid p.access w (errand_of x) x.task (untold p.access (doing_of p.access w)) 0 (deadline p.config w p.journal.past) (scene p.config p.journal.past k.story w s.call_open.look.since s.opened).past
-paid-here b p k w x s some within = elim (steps-or w (runner p.config p.journal.past)) [
-  | inl is ↦ s.paid is
-  | inr ne ↦ b.any p.config p.access w (errand_of x) x.task (untold p.access (doing_of p.access w)) (deadline p.config w p.journal.past) (scene p.config p.journal.past k.story w s.call_open.look.since s.opened).past
-      (record { config = k.tabled.config; size = k.tabled.crew; worker = some; within = within; zero = k.taken.notes.zero }) s.meant.within (λ quiet. s.meant.look (none-of x.effect quiet)) s.meant.fit.thawed (omega (arith, all-left p.config w p.journal.past ne, b.affordable p.config k.tabled.config))
-]
+pub paid-here : PaidLaws → (p : Parts) (k : IsAwake p) (w : ℕ) (x : OpenCall) (s : IsServing p.config p.access p.journal k.story p.owners.items (stock_of p) w x) → 0 < w → w ≤ p.config.workers
+    → IsPaidIn p.config p.access p.journal.past (stock_of p) w (errand_of x) x.task (untold p.access (doing_of p.access w)) no_extra (scene p.config p.journal.past k.story w s.call_open.look.since s.opened).past
+paid-here b p k w x s some within = elim (steps-or w (runner p.config p.journal.past)) [ inl is ↦ s.paid is | inr ne ↦ else-paid ne ]
+  where
+    else-paid : runner p.config p.journal.past ≢ Some w → IsPaidIn p.config p.access p.journal.past (stock_of p) w (errand_of x) x.task (untold p.access (doing_of p.access w)) no_extra (scene p.config p.journal.past k.story w s.call_open.look.since s.opened).past
+    else-paid ne Marks counted =
+        b.any p.config p.access w (errand_of x) x.task (untold p.access (doing_of p.access w)) (deadline p.config w p.journal.past) (scene p.config p.journal.past k.story w s.call_open.look.since s.opened).past
+        (record { config = k.tabled.config; size = k.tabled.crew; worker = some; within = within; zero = k.taken.notes.zero }) s.meant.within (λ quiet. s.meant.look (none-of x.effect quiet)) s.meant.fit.thawed (omega (arith, all-left p.config w p.journal.past ne, b.affordable p.config k.tabled.config))
+    else-paid ne Descriptors counted = absurd (not-whole p.config w p.journal.past ne counted)
+    else-paid ne Slots counted = absurd (not-whole p.config w p.journal.past ne counted)
 
 -- one mark later so many swaps took effect
 pub next-is : (c : Config) (past : List Mark) (m : Mark) (story after : Story) (v since : ℕ) (opened later : Open) (y : Instant) (more : ℕ) → after.at ≡ and_then story.at (length past) y → since ≤ length past → y.effects ≡ (story.at (length past)).effects + more
@@ -241,12 +260,17 @@ swaps-write called k l none = go (is_read called) refl
     go true e = absurd (none (reads-look called k e l))
 
 -- while something is afforded a mark is left for the end
-pub affords-room : (m : SwapMemory) (w : ℕ) (e : Errand) (now by n : ℕ) → Affords m w e now by n → suc now ≤ by
-affords-room m w e now by n h = go e.effected refl
+pub affords-room : (r : Resource) (m : SwapMemory) (w : ℕ) (e : Errand) (used by n : ℕ) → Affords r m w e used by n → used + one_mark r ≤ by
+affords-room r m w e used by n h = all _ (own_left r e) (some r e.effected) h.enough
   where
-    go : (b : Bool) → e.effected ≡ b → suc now ≤ by
-    go true is = let own : own_left e ≡ 2 = ap (λ (z : Bool). if z then 2 else 3) is in omega (arith, h.enough, own)
-    go false is = let own : own_left e ≡ 3 = ap (λ (z : Bool). if z then 2 else 3) is in omega (arith, h.enough, own)
+    some : (r : Resource) (done : Bool) → one_mark r ≤ own_by r done
+    some Marks true = omega arith
+    some Marks false = omega arith
+    some Descriptors done = omega arith
+    some Slots done = omega arith
+
+    all : (kept own : ℕ) → one_mark r ≤ own → kept + own + used + n ≤ by → used + one_mark r ≤ by
+    all kept own l enough = omega (arith, l, enough)
 
 -- a task that may ask for no swap asks for none
 pub swapless : AskedSwapsAreCounted → (t : AnyTask) (entries : List Entry) → asks_of t ≡ Some (Swap entries) → swaps_of t ≡ 0 → ⊥

@@ -41,13 +41,14 @@ use Rattle.bz_world.proofs.Counting.{pairs-change}
 use Rattle.bz_world.proofs.Powered.{begun-in, flush-leaves, free-on}
 use Rattle.bz_lone.specs.Errands.{Errand}
 use Rattle.bz_lone.specs.Steps.{effected_by, mark_of_effect}
-use Rattle.bz_lone.specs.Sum.{IsPaid}
+use Rattle.bz_lone.specs.FromCosts.Lone.{one_mark}
 use Rattle.bz_running.specs.declared.running.AnyTask.{AnyTask}
 use Rattle.bz_world.specs.Inside.Alone.{untold}
-use Rattle.bz_world.specs.Inside.Paid.{errand_of}
-use Rattle.bz_world.specs.WorldView.{stepper, deadline}
+use Rattle.bz_world.specs.Inside.Paid.{errand_of, no_extra, stock_of, IsPaidIn}
+use Rattle.bz_world.specs.WorldView.{stepper}
 use Rattle.bz_world.proofs.Meant.{publishing-kind}
-use Rattle.bz_world.proofs.Paid.{run-on, flush-runs, next-is}
+use Rattle.bz_world.proofs.Paid.{flush-runs, next-is}
+use Rattle.bz_world.proofs.PaidSteps.{less-in, marks-in}
 use Rattle.bz_world.proofs.Staying.{Leaves, none-stays, serving-stays}
 use Rattle.bz_world.specs.Inside.Laws.{StrikeLaws}
 use Rattle.bz_world.proofs.Striking.{flush-calls, old, kept, w, x, its, owner, before, waits, good, after, living, opened, later, took, struck-alone, struck-meant, own-paid, other-paid, leaves}
@@ -167,25 +168,25 @@ module _ (b : StrikeLaws) (p : Parts) (s : ℕ) (h : IsStriking p s) (publishes 
   }
 
   -- the mark of the effect is paid for
-  marked : (v : ℕ) (e : Errand) (t : AnyTask) (u since : ℕ) (o : Open) → HasBegun log (kept b p s h).story since → stepper with_flush.past ≡ Some v → IsPaid p.access v e t u 1 (deadline c v with_flush.past) (scene c with_flush.past (after b p s h) v since o).past
-      → IsPaid p.access v e t u 0 (deadline c v (effect_mark ∷ with_flush.past)) (scene c (effect_mark ∷ with_flush.past) told_story v since o).past
-  marked v e t u since o begun steps was = subst (λ by. IsPaid p.access v e t u 0 by (scene c (effect_mark ∷ with_flush.past) told_story v since o).past) (sym (run-on c v effect_mark with_flush.past steps))
-      (b.paid.marks p.access v e t u (deadline c v with_flush.past) (scene c with_flush.past (after b p s h) v since o).past (scene c (effect_mark ∷ with_flush.past) told_story v since o)
+  marked : (v : ℕ) (e : Errand) (t : AnyTask) (u since : ℕ) (o : Open) → HasBegun log (kept b p s h).story since → stepper with_flush.past ≡ Some v → IsPaidIn c p.access with_flush.past (stock_of (old b p s h)) v e t u one_mark (scene c with_flush.past (after b p s h) v since o).past
+      → IsPaidIn c p.access (effect_mark ∷ with_flush.past) (stock_of (old b p s h)) v e t u no_extra (scene c (effect_mark ∷ with_flush.past) told_story v since o).past
+  marked v e t u since o begun steps was =
+      marks-in b.paid c p.access with_flush.past effect_mark (stock_of (old b p s h)) v e t u (scene c with_flush.past (after b p s h) v since o).past (scene c (effect_mark ∷ with_flush.past) told_story v since o)
       (b.scenes c p.access (with_mark with_flush effect_mark) told_story v since o lives (record { from = begun.from; by_now = omega (arith, begun.by_now) })).scene
       (next-is c with_flush.past effect_mark (after b p s h) told_story v since o o (next_instant p.access ((after b p s h).at (length with_flush.past))) 0 refl (omega (arith, begun.by_now)) (omega arith)
-      (b.quiet c p.access p.access with_flush (after b p s h) effect_mark v since o no-act (λ a out n. refl) (record { from = begun.from; by_now = omega (arith, begun.by_now) })).continues) was)
+      (b.quiet c p.access p.access with_flush (after b p s h) effect_mark v since o no-act (λ a out n. refl) (record { from = begun.from; by_now = omega (arith, begun.by_now) })).continues) steps was
 
   -- with it the calls of the others are paid for, too
-  slot-of : (v : ℕ) → v ≢ worker → IsSlot c p.access (with_mark with_flush effect_mark) told_story (old b p s h).owners.items v (get_or (old b p s h).workers.items v None)
+  slot-of : (v : ℕ) → v ≢ worker → IsSlot c p.access (with_mark with_flush effect_mark) told_story (old b p s h).owners.items (stock_of (old b p s h)) v (get_or (old b p s h).workers.items v None)
   unfolding serving-stays
   slot-of v ne = both (get_or (old b p s h).workers.items v None) ((kept b p s h).workers v)
     where
-      both : (slot : Option OpenCall) → IsSlot c (old b p s h).access log (kept b p s h).story (old b p s h).owners.items v slot → IsSlot c p.access (with_mark with_flush effect_mark) told_story (old b p s h).owners.items v slot
-      both None t = none-stays c p.access p.access with_flush effect_mark (after b p s h) told_story (old b p s h).owners.items v (told-leaves v ne)
-          (none-stays c (old b p s h).access p.access log h.mark (kept b p s h).story (after b p s h) (old b p s h).owners.items v (leaves b p s h v ne) t)
-      both (Some y) t = serving-stays b.scenes b.stay c p.access p.access with_flush effect_mark (after b p s h) told_story (old b p s h).owners.items v y lives (told-leaves v ne)
-          (serving-stays b.scenes b.stay c (old b p s h).access p.access log h.mark (kept b p s h).story (after b p s h) (old b p s h).owners.items v y (living b p s h) (leaves b p s h v ne) t
-          (λ runs. b.paid.less p.access v (errand_of y) y.task (untold p.access (doing_of p.access v)) 1 0 (deadline c v with_flush.past) (scene c with_flush.past (after b p s h) v t.call_open.look.since t.opened).past (omega arith) (other-paid b p s h v ne y t (flush-runs c v with_flush.past h.flush runs))))
+      both : (slot : Option OpenCall) → IsSlot c (old b p s h).access log (kept b p s h).story (old b p s h).owners.items (stock_of (old b p s h)) v slot → IsSlot c p.access (with_mark with_flush effect_mark) told_story (old b p s h).owners.items (stock_of (old b p s h)) v slot
+      both None t = none-stays c p.access p.access with_flush effect_mark (after b p s h) told_story (old b p s h).owners.items (stock_of (old b p s h)) (stock_of (old b p s h)) v (told-leaves v ne)
+          (none-stays c (old b p s h).access p.access log h.mark (kept b p s h).story (after b p s h) (old b p s h).owners.items (stock_of (old b p s h)) (stock_of (old b p s h)) v (leaves b p s h v ne) t)
+      both (Some y) t = serving-stays b.scenes b.stay c p.access p.access with_flush effect_mark (after b p s h) told_story (old b p s h).owners.items (stock_of (old b p s h)) (stock_of (old b p s h)) v y lives (told-leaves v ne)
+          (serving-stays b.scenes b.stay c (old b p s h).access p.access log h.mark (kept b p s h).story (after b p s h) (old b p s h).owners.items (stock_of (old b p s h)) (stock_of (old b p s h)) v y (living b p s h) (leaves b p s h v ne) t
+          (λ runs. less-in b.paid c p.access with_flush.past (stock_of (old b p s h)) v (errand_of y) y.task (untold p.access (doing_of p.access v)) one_mark (scene c with_flush.past (after b p s h) v t.call_open.look.since t.opened).past (other-paid b p s h v ne y t (flush-runs c v with_flush.past h.flush runs))))
           (λ steps. marked v (errand_of y) y.task (untold p.access (doing_of p.access v)) t.call_open.look.since t.opened (begun-in (kept b p s h).living t.call_open) steps (other-paid b p s h v ne y t steps))
 
   -- the call, with its effect
@@ -231,7 +232,7 @@ module _ (b : StrikeLaws) (p : Parts) (s : ℕ) (h : IsStriking p s) (publishes 
       ap (λ k. map_at (map_at_start c log.start) k (effect_mark ∷ h.mark ∷ log.past)) when ∙ ap (map_after (map_at_start c log.start)) (at_moment-before effect_mark (h.mark ∷ log.past)) in
       ap (λ map. (apply map its-open.call).reply) before-it ∙ replied
 
-  serves-on : IsServing c p.access (with_mark with_flush effect_mark) told_story (old b p s h).owners.items worker with_moment
+  serves-on : IsServing c p.access (with_mark with_flush effect_mark) told_story (old b p s h).owners.items (stock_of (old b p s h)) worker with_moment
   serves-on = record {
     opened = effected;
     call_open = record {
@@ -253,19 +254,18 @@ module _ (b : StrikeLaws) (p : Parts) (s : ℕ) (h : IsStriking p s) (publishes 
     alone = waits-on c p.access p.access with_flush.past effect_mark (after b p s h) told_story worker since effected effected (x b p s h).task (next_instant p.access ((after b p s h).at (length with_flush.past))) refl (omega (arith, begun-its.by_now)) (struck-alone b p s h)
         refl refl (λ t d. refl) (λ t d well. well);
     meant = let m = (struck-meant b p s h) in record { within = m.within; fit = record { words = m.fit.words; thawed = m.fit.thawed }; look = λ quiet. absurd (cc quiet); meant = λ quiet. absurd (cc quiet); later = λ at is. publishing-kind (x b p s h).task publishes };
-    paid = λ steps. subst (λ u. IsPaid p.access worker (errand_of with_moment) (x b p s h).task u 0 (deadline c worker (effect_mark ∷ with_flush.past)) (scene c (effect_mark ∷ with_flush.past) told_story worker since effected).past)
+    paid = λ steps. subst (λ u. IsPaidIn c p.access (effect_mark ∷ with_flush.past) (stock_of (old b p s h)) worker (errand_of with_moment) (x b p s h).task u no_extra (scene c (effect_mark ∷ with_flush.past) told_story worker since effected).past)
         (sym (ap (untold p.access) (still-does b p s h) ∙ ap (λ (z : Bool). if z then 1 else 0) h.takes.effect.done))
         (marked worker (errand_of with_moment) (x b p s h).task 1 since effected begun-its steps
-        (subst (λ by. IsPaid p.access worker (errand_of with_moment) (x b p s h).task 1 1 by (later b p s h).past) (sym (run-on c worker h.mark log.past steps))
-        (subst (λ z. IsPaid p.access worker (effected_by z (errand_of (x b p s h))) (x b p s h).task 1 (mark_of_effect z) (deadline c worker log.past) (later b p s h).past) publishes (own-paid b p s h steps))));
+        (subst (λ z. IsPaidIn c p.access with_flush.past (stock_of (old b p s h)) worker (effected_by z (errand_of (x b p s h))) (x b p s h).task 1 (λ r. mark_of_effect r z) (later b p s h).past) publishes (own-paid b p s h steps)));
   }
 
   slots : (items : List (Option OpenCall)) → get_or items worker None ≡ Some with_moment → ((v : ℕ) → v ≢ worker → get_or items v None ≡ get_or (old b p s h).workers.items v None)
-      → (v : ℕ) → IsSlot c p.access (with_mark with_flush effect_mark) told_story (old b p s h).owners.items v (get_or items v None)
+      → (v : ℕ) → IsSlot c p.access (with_mark with_flush effect_mark) told_story (old b p s h).owners.items (stock_of (old b p s h)) v (get_or items v None)
   slots items here-is rest v = elim (cases_eq v worker) [
-    | inr ne ↦ subst (IsSlot c p.access (with_mark with_flush effect_mark) told_story (old b p s h).owners.items v) (sym (rest v ne)) (slot-of v ne)
-    | inl e ↦ subst (λ u. IsSlot c p.access (with_mark with_flush effect_mark) told_story (old b p s h).owners.items u (get_or items u None)) (sym e)
-        (subst (IsSlot c p.access (with_mark with_flush effect_mark) told_story (old b p s h).owners.items worker) (sym here-is) serves-on)
+    | inr ne ↦ subst (IsSlot c p.access (with_mark with_flush effect_mark) told_story (old b p s h).owners.items (stock_of (old b p s h)) v) (sym (rest v ne)) (slot-of v ne)
+    | inl e ↦ subst (λ u. IsSlot c p.access (with_mark with_flush effect_mark) told_story (old b p s h).owners.items (stock_of (old b p s h)) u (get_or items u None)) (sym e)
+        (subst (IsSlot c p.access (with_mark with_flush effect_mark) told_story (old b p s h).owners.items (stock_of (old b p s h)) worker) (sym here-is) serves-on)
   ]
 
   -- and no get is lonely then

@@ -30,14 +30,12 @@ use Rattle.bz_world.specs.Inside.Serving.{IsServing, IsDoing, IsSlot, stage_in}
 use Rattle.bz_world.specs.declared.parts.Parts.{Parts}
 use Rattle.bz_world.specs.declared.serving.OpenCall.{OpenCall}
 use Rattle.bz_sound.specs.Power.Times.{image_at_on}
-use Rattle.bz_lone.specs.Steps.{HasStepped}
-use Rattle.bz_lone.specs.Sum.{IsPaid}
 use Rattle.bz_rivals.specs.Rivals.{rivals}
 use Rattle.bz_world.specs.Inside.Alone.{untold}
-use Rattle.bz_world.specs.Inside.Paid.{errand_of, runner}
-use Rattle.bz_world.specs.WorldView.{deadline}
+use Rattle.bz_world.specs.Inside.Paid.{errand_of, no_extra, runner, stock_of, IsPaidIn}
 use Rattle.bz_world.proofs.Alone.{waits-on, well-acted}
-use Rattle.bz_world.proofs.Paid.{act-steps, act-runs, one-steps, who-steps, run-on, paid-here, next-is}
+use Rattle.bz_world.proofs.Paid.{act-steps, act-runs, one-steps, who-steps, paid-here, next-is}
+use Rattle.bz_world.proofs.PaidSteps.{StepsFurther, quiet-in}
 use Rattle.bz_world.proofs.Powered.{begun-in, looks-on, free-on, leaves-power, may-act}
 use Rattle.bz_world.proofs.Owners.{pending-begun}
 use Rattle.bz_world.proofs.Marking.{act-marked, act-calls}
@@ -47,8 +45,8 @@ use Rattle.bz_world.proofs.Staying.{SameFor, Pays, slot-stays, told-stays, wante
 
 -- the call of a worker that serves one is open, so it is one of the workers
 module _ (p : Parts) (k : IsAwake p) (w : ℕ) (x : OpenCall) (is-worker : get_or p.workers.items w None ≡ Some x) where
-  pub serves : IsServing p.config p.access p.journal k.story p.owners.items w x
-  serves = subst (IsSlot p.config p.access p.journal k.story p.owners.items w) is-worker (k.workers w)
+  pub serves : IsServing p.config p.access p.journal k.story p.owners.items (stock_of p) w x
+  serves = subst (IsSlot p.config p.access p.journal k.story p.owners.items (stock_of p) w) is-worker (k.workers w)
 
   has-call : ¬ (open_call w p.journal.past ≡ None)
   has-call e = absurd (cc (e, serves.call_open.is_open))
@@ -77,10 +75,10 @@ idle-by d Flushed ne = refl
 
 -- worker w, which serves x, made an act at which no swap took effect
 module _ (b : StepLaws) (old new : Parts) (w : ℕ) (x : OpenCall) (made : Act) (done : Done) (k : IsAwake old) (is-worker : get_or old.workers.items w None ≡ Some x) (a : IsActed old w made done None new) where
-  abbrev pub s : IsServing old.config old.access old.journal k.story old.owners.items w x
+  abbrev pub s : IsServing old.config old.access old.journal k.story old.owners.items (stock_of old) w x
   s = serves old k w x is-worker
 
-  pub sees : (v : ℕ) (y : OpenCall) → (t : IsServing old.config old.access old.journal k.story old.owners.items v y) → Sees old.config (k.story.at (length old.journal.past)) (scene old.config old.journal.past k.story v t.call_open.look.since t.opened)
+  pub sees : (v : ℕ) (y : OpenCall) → (t : IsServing old.config old.access old.journal k.story old.owners.items (stock_of old) v y) → Sees old.config (k.story.at (length old.journal.past)) (scene old.config old.journal.past k.story v t.call_open.look.since t.opened)
   sees v y t = b.scenes old.config old.access old.journal k.story v t.call_open.look.since t.opened k.living (begun-in k.living t.call_open)
 
   -- what its task asks for may be asked for
@@ -131,34 +129,35 @@ module _ (b : StepLaws) (old new : Parts) (w : ℕ) (x : OpenCall) (made : Act) 
     effects = λ t d. a.step.effect.swaps t;
   }
 
-  -- it has stepped
-  pub stepped : HasStepped old.access new.access w
-  stepped = record { left = a.step.one.spent; rivals = let few : rivals new.access w + 0 ≤ rivals old.access w = b.lone.paid.rivals.step old.access new.access w made done None a.step in omega (arith, few) }
+  -- it has stepped, and took no descriptor
+  pub further : StepsFurther old.access new.access w
+  further = record { left = a.step.one.spent; taken = a.step.one.others.taken }
+
+  pub few-rivals : rivals new.access w ≤ rivals old.access w
+  few-rivals = let few : rivals new.access w + 0 ≤ rivals old.access w = b.lone.paid.rivals.step old.access new.access w made done None a.step in omega (arith, few)
 
   -- which is paid for
   pub quiet-paid : (after : Story) → IsLiving old.config new.access (with_mark old.journal (mark_of w made)) after → after.at ≡ and_then k.story.at (length old.journal.past) (next_instant new.access (k.story.at (length old.journal.past)))
-      → (y : OpenCall) (t : IsServing old.config old.access old.journal k.story old.owners.items w y) → HasBegun (with_mark old.journal (mark_of w made)) after t.call_open.look.since
+      → (y : OpenCall) (t : IsServing old.config old.access old.journal k.story old.owners.items (stock_of old) w y) → HasBegun (with_mark old.journal (mark_of w made)) after t.call_open.look.since
       → Continues (scene old.config old.journal.past k.story w t.call_open.look.since t.opened).past (scene old.config (mark_of w made ∷ old.journal.past) after w t.call_open.look.since t.opened).past
-      → IsPaid new.access w (errand_of y) y.task (untold old.access (doing_of old.access w)) 0 (deadline old.config w (mark_of w made ∷ old.journal.past)) (scene old.config (mark_of w made ∷ old.journal.past) after w t.call_open.look.since t.opened).past
+      → IsPaidIn old.config new.access (mark_of w made ∷ old.journal.past) (stock_of old) w (errand_of y) y.task (untold old.access (doing_of old.access w)) no_extra (scene old.config (mark_of w made ∷ old.journal.past) after w t.call_open.look.since t.opened).past
   quiet-paid after living at y t begun continues =
-      subst (λ by. IsPaid new.access w (errand_of y) y.task (untold old.access (doing_of old.access w)) 0 by (scene old.config (mark_of w made ∷ old.journal.past) after w t.call_open.look.since t.opened).past)
-      (sym (run-on old.config w (mark_of w made) old.journal.past (act-steps w made old.journal.past)))
-      (b.lone.paid.quiet old.access new.access w (errand_of y) y.task (untold old.access (doing_of old.access w)) (deadline old.config w old.journal.past) (scene old.config old.journal.past k.story w t.call_open.look.since t.opened).past
+      quiet-in b.lone.paid old.config old.access new.access old.journal.past (mark_of w made) (stock_of old) w (errand_of y) y.task (untold old.access (doing_of old.access w)) (scene old.config old.journal.past k.story w t.call_open.look.since t.opened).past
       (scene old.config (mark_of w made ∷ old.journal.past) after w t.call_open.look.since t.opened)
       (b.scenes old.config new.access (with_mark old.journal (mark_of w made)) after w t.call_open.look.since t.opened living begun).scene
       (next-is old.config old.journal.past (mark_of w made) k.story after w t.call_open.look.since t.opened t.opened (next_instant new.access (k.story.at (length old.journal.past))) 0 at t.call_open.look.by_now (omega arith) continues)
-      stepped (paid-here b.lone.paid old k w y t (some-worker old k w x is-worker) (within-crew old k w x is-worker)))
+      (act-steps w made old.journal.past) further few-rivals (paid-here b.lone.paid old k w y t (some-worker old k w x is-worker) (within-crew old k w x is-worker))
 
   -- and the others do not step
-  pub none-pays : (after : Story) (v : ℕ) → v ≢ w → Pays old.config old.access old.journal (mark_of w made) k.story after old.owners.items new.access v
+  pub none-pays : (after : Story) (v : ℕ) → v ≢ w → Pays old.config old.access old.journal (mark_of w made) k.story after old.owners.items (stock_of old) (stock_of old) new.access v
   none-pays after v ne y t steps = absurd (one-steps v w ne (runner old.config (mark_of w made ∷ old.journal.past)) (act-runs old.config w made old.journal.past) steps)
 
   -- so what is known of a worker stays, if the mark is a lawful step for it
   pub stays : (after : Story) (v : ℕ) → IsLiving old.config new.access (with_mark old.journal (mark_of w made)) after → after.from ≡ k.story.from → SameFor old.access new.access v
       → ((since : ℕ) (opened : Open) → HasBegun old.journal k.story since → IsLawful (scene old.config old.journal.past k.story v since opened) (scene old.config (mark_of w made ∷ old.journal.past) after v since opened))
       → ((j : ℕ) → after.took v j ≡ k.story.took v j) → ((j : ℕ) → k.story.filled v j ≡ true → after.filled v j ≡ true) → after.at ≡ and_then k.story.at (length old.journal.past) (next_instant new.access (k.story.at (length old.journal.past)))
-      → Pays old.config old.access old.journal (mark_of w made) k.story after old.owners.items new.access v → IsSlot old.config new.access (with_mark old.journal (mark_of w made)) after old.owners.items v (get_or old.workers.items v None)
-  stays after v living from same lawful took filled at pays = slot-stays b.scenes b.stay old.config old.access new.access old.journal (mark_of w made) k.story after old.owners.items v (get_or old.workers.items v None) living (record {
+      → Pays old.config old.access old.journal (mark_of w made) k.story after old.owners.items (stock_of old) (stock_of old) new.access v → IsSlot old.config new.access (with_mark old.journal (mark_of w made)) after old.owners.items (stock_of old) v (get_or old.workers.items v None)
+  stays after v living from same lawful took filled at pays = slot-stays b.scenes b.stay old.config old.access new.access old.journal (mark_of w made) k.story after old.owners.items (stock_of old) (stock_of old) v (get_or old.workers.items v None) living (record {
     same = same;
     calls = act-calls v w old.journal.past made;
     from = from;
@@ -177,7 +176,7 @@ module _ (b : StepLaws) (old new : Parts) (w : ℕ) (x : OpenCall) (made : Act) 
 
   -- the world goes on
   pub goes-on : (after : Story) → length old.journal.past < old.config.marks → IsLiving old.config new.access (with_mark old.journal (mark_of w made)) after
-      → AreFree old.config (image_at_on old.journal.start old.journal.past) old.slots after.took → ((v : ℕ) → IsSlot old.config new.access (with_mark old.journal (mark_of w made)) after old.owners.items v (get_or old.workers.items v None)) → ((v : ℕ) → IsLonelyIn new.access (mark_of w made ∷ old.journal.past) after old.workers.items v) → IsAwake new
+      → AreFree old.config (image_at_on old.journal.start old.journal.past) old.slots after.took → ((v : ℕ) → IsSlot old.config new.access (with_mark old.journal (mark_of w made)) after old.owners.items (stock_of old) v (get_or old.workers.items v None)) → ((v : ℕ) → IsLonelyIn new.access (mark_of w made ∷ old.journal.past) after old.workers.items v) → IsAwake new
   goes-on after room living free slots lonely = subst IsAwake (sym a.rest) (record {
     on = k.on;
     story = after;
@@ -192,7 +191,7 @@ module _ (b : StepLaws) (old new : Parts) (w : ℕ) (x : OpenCall) (made : Act) 
 
   -- and the worker, whose operation was answered, is to be told
   abbrev pub answered : (after : Story) → length old.journal.past < old.config.marks → done ≢ Busy → IsLiving old.config new.access (with_mark old.journal (mark_of w made)) after
-      → AreFree old.config (image_at_on old.journal.start old.journal.past) old.slots after.took → ((v : ℕ) → v ≢ w → IsSlot old.config new.access (with_mark old.journal (mark_of w made)) after old.owners.items v (get_or old.workers.items v None))
+      → AreFree old.config (image_at_on old.journal.start old.journal.past) old.slots after.took → ((v : ℕ) → v ≢ w → IsSlot old.config new.access (with_mark old.journal (mark_of w made)) after old.owners.items (stock_of old) v (get_or old.workers.items v None))
       → IsBetween (record old { access = new.access; journal = with_mark old.journal (mark_of w made) }) w x
   answered after room ne living free slots = record {
     on = k.on;

@@ -18,6 +18,7 @@ use Rattle.bz_task.specs.Scene.{Took}
 use Rattle.bz_task.specs.declared.todo.Seen.{Seen}
 use Rattle.bz_world.specs.Inside.Beginning.{world_view}
 use Rattle.bz_world.specs.Inside.Kept.{IsRecovering}
+use Rattle.bz_world.specs.Inside.Paid.{begun_with}
 use Rattle.bz_world.specs.Inside.Powering.{IsRawAct}
 use Rattle.bz_sound.specs.declared.power.Power.TheVariants as power
 use Rattle.bz_world.specs.WorldView.{Supply, Recovers, count_reached}
@@ -49,13 +50,14 @@ asked-on go_on turns p seen next slots k on tells nodes learns = record {
 }
 
 -- one act, and the recovery goes on
-pub seen-stepped : (old mid new : Parts) (made : Act) (done : Done) (told : Option ℕ) → old.power ≡ power.Recovering → IsRawAct old made done told mid → new.power ≡ mid.power → new.journal ≡ mid.journal → new.config ≡ mid.config → new.at_start ≡ mid.at_start → new.left_out ≡ mid.left_out → ((v : ℕ) → v ≢ 0 → worker_of new.access v ≡ worker_of mid.access v)
+pub seen-stepped : (old mid new : Parts) (made : Act) (done : Done) (told : Option ℕ) → old.power ≡ power.Recovering → IsRawAct old made done told mid → new.power ≡ mid.power → new.journal ≡ mid.journal → new.config ≡ mid.config → begun_with new ≡ begun_with mid → new.at_start ≡ mid.at_start → new.left_out ≡ mid.left_out → ((v : ℕ) → v ≢ 0 → worker_of new.access v ≡ worker_of mid.access v)
     → Recovers (world_view old) applied.Stepped (world_view new)
-seen-stepped old mid new made done told recovering a same journal config at_start left_out others = record {
+seen-stepped old mid new made done told recovering a same journal config at_begin at_start left_out others = record {
   made = made;
   flush = a.step.one.flush ∙ sym (flush-is old 0);
   ends = journal ∙ ap (λ (p : Parts). p.journal) a.rest;
   supply = shown-recovering new (same ∙ (ap (λ (p : Parts). p.power) a.rest ∙ recovering)) ∙ sym (shown-recovering old recovering);
+  at_begin = at_begin ∙ ap begun_with a.rest;
   config = config ∙ ap (λ (p : Parts). p.config) a.rest;
   at_start = at_start ∙ ap (λ (p : Parts). p.at_start) a.rest;
   left_out = ap (λ (flags : ArrayVec Bool). flags.items) (left_out ∙ ap (λ (p : Parts). p.left_out) a.rest);
@@ -64,9 +66,9 @@ seen-stepped old mid new made done told recovering a same journal config at_star
 }
 
 -- or it has ended
-pub seen-woken : (old mid new : Parts) (made : Act) (done : Done) (told : Option ℕ) → IsRawAct old made done told mid → new.power ≡ power.On → new.access.taken ≡ 0 → length new.slots.free + count_reached mid.config mid.journal ≡ mid.config.nodes → new.journal ≡ with_mark mid.journal Ready → new.config ≡ mid.config → new.at_start ≡ mid.at_start → new.left_out ≡ mid.left_out → ((v : ℕ) → v ≢ 0 → worker_of new.access v ≡ worker_of mid.access v)
+pub seen-woken : (old mid new : Parts) (made : Act) (done : Done) (told : Option ℕ) → IsRawAct old made done told mid → new.power ≡ power.On → new.access.taken ≡ 0 → length new.slots.free + count_reached mid.config mid.journal ≡ mid.config.nodes → new.journal ≡ with_mark mid.journal Ready → new.config ≡ mid.config → begun_with new ≡ begun_with mid → new.at_start ≡ mid.at_start → new.left_out ≡ mid.left_out → ((v : ℕ) → v ≢ 0 → worker_of new.access v ≡ worker_of mid.access v)
     → Recovers (world_view old) applied.Ready (world_view new)
-seen-woken old mid new made done told a on taken left journal config at_start left_out others = record {
+seen-woken old mid new made done told a on taken left journal config at_begin at_start left_out others = record {
   made = made;
   flush = a.step.one.flush ∙ sym (flush-is old 0);
   ends = journal ∙ ap (λ (p : Parts). with_mark p.journal Ready) a.rest;
@@ -76,6 +78,7 @@ seen-woken old mid new made done told a on taken left journal config at_start le
         (subst (λ (j : Log). (world_view new).supply.left + count_reached mid.config j ≡ mid.config.nodes) (sym journal)
         (subst (λ (s : Supply). s.left + count_reached mid.config mid.journal ≡ mid.config.nodes) (sym (shown-on new on)) left)),
   );
+  at_begin = at_begin ∙ ap begun_with a.rest;
   config = config ∙ ap (λ (p : Parts). p.config) a.rest;
   at_start = at_start ∙ ap (λ (p : Parts). p.at_start) a.rest;
   left_out = ap (λ (flags : ArrayVec Bool). flags.items) (left_out ∙ ap (λ (p : Parts). p.left_out) a.rest);

@@ -10,6 +10,7 @@ use Rattle.bz_sound.specs.declared.power.Power.TheVariants as power
 use Rattle.bz_sound.specs.Calls.{open_call}
 use Rattle.bz_world.specs.Inside.Beginning.{world_view, IsPoweredRefusal, IsRefusal}
 use Rattle.bz_world.specs.Inside.Kept.{IsTabled, IsAwake}
+use Rattle.bz_world.specs.Inside.Paid.{stock_of}
 use Rattle.bz_world.specs.Inside.Serving.{IsSlot}
 use Rattle.bz_world.specs.WorldView.{WorldView, Steps, Evicts, IsApplied, power_in, idle_refusal, step_by, StepsBy, off_refusal, on_by, answer_by, begin_answer, after_begin, after_cut, after_on}
 use Rattle.bz_world.specs.declared.answers.Applied.{Applied}
@@ -20,7 +21,7 @@ use Rattle.bz_world.specs.declared.parts.Parts.{Parts}
 use Rattle.bz_world.specs.declared.serving.OpenCall.{OpenCall}
 
 -- a worker that serves a call has one open, and one that serves none has none
-open-by : (p : Parts) (k : IsAwake p) (w : ℕ) (slot : Option OpenCall) → IsSlot p.config p.access p.journal k.story p.owners.items w slot → is_none (open_call w p.journal.past) ≡ is_none slot
+open-by : (p : Parts) (k : IsAwake p) (w : ℕ) (slot : Option OpenCall) → IsSlot p.config p.access p.journal k.story p.owners.items (stock_of p) w slot → is_none (open_call w p.journal.past) ≡ is_none slot
 open-by p k w None h = ap is_none h.none_open
 open-by p k w (Some x) h = ap is_none h.call_open.is_open
 

@@ -5,6 +5,8 @@ use Rattle.std.proofs.lemmas.Bool.{true≢false}
 use Rattle.std.proofs.lemmas.Bool.Decides.{nat_tests}
 use Rattle.bz_acts.specs.declared.acted.Act.{Act}
 use Rattle.bz_acts.specs.declared.acted.Act.TheVariants as act
+use Rattle.bz_call.specs.declared.replies.Reply.{Reply}
+use Rattle.bz_call.specs.declared.replies.Reply.TheVariants.{Full}
 use Rattle.bz_lone.specs.FromCosts.Lone.{begin_marks}
 use Rattle.bz_layout.specs.declared.config.Config.{Config}
 use Rattle.bz_layout.specs.declared.thresholds.TheConstants.{MARKS_PER_CALL}
@@ -15,8 +17,8 @@ use Rattle.bz_sound.specs.Calls.{Open, open_call, with_effect}
 use Rattle.bz_sound.specs.Power.Times.{power_of}
 use Rattle.bz_sound.specs.declared.power.Power.{Power}
 use Rattle.bz_sound.specs.declared.power.Power.TheVariants as power
-use Rattle.bz_world.specs.Solo.{StepsOn, MayStep, EndsAlone, RunsAlone}
-use Rattle.bz_world.specs.WorldView.{WorldView, power_in, is_short, step_refusal, step_by, mark_of, before_run, begins_alone, run_marks, deadline_from, IsStruck, GoesOn, Steps, StepsBy, Recovers, IsApplied}
+use Rattle.bz_world.specs.Solo.{StepsOn, MayStep, EndsAlone, HasBegunAlone, IsFullOfLittle, RunsAlone}
+use Rattle.bz_world.specs.WorldView.{WorldView, Supply, power_in, is_short, step_refusal, step_by, mark_of, before_run, begins_alone, run_marks, deadline_from, HadFew, IsStruck, IsEnding, GoesOn, KeepsSupply, RunsWhole, Steps, StepsBy, Recovers, IsApplied}
 use Rattle.bz_world.specs.declared.answers.Applied.{Applied}
 use Rattle.bz_world.specs.declared.answers.Applied.TheVariants as applied
 use Rattle.bz_world.specs.declared.answers.Event.TheVariants as event
@@ -96,9 +98,18 @@ pub record Alone (old : WorldView) (w : ℕ) (lab : WorldView) : Type 0 where
   pub config : lab.config ≡ old.config
   pub run : before_run w lab.log.past ≡ before_run w old.log.past
   pub few : IsInTime old w lab
+  pub at_begin : lab.at_begin ≡ old.at_begin
+  pub supplied : HasBegunAlone old w → KeepsSupply old.supply lab.supply
 
 pub alone-at-first : (old : WorldView) (w : ℕ) → MayStep old w → Alone old w old
-alone-at-first old w may = record { may = may; config = refl; run = refl; few = record { marks = omega arith; whole = λ begins. omega (arith, begin-fits) } }
+alone-at-first old w may = record {
+  may = may;
+  config = refl;
+  run = refl;
+  few = record { marks = omega arith; whole = λ begins. omega (arith, begin-fits) };
+  at_begin = refl;
+  supplied = λ begins. record { swaps = omega arith; slots = omega arith };
+}
 
 -- a step is made, or the journal is short
 refusal-is : (lab : WorldView) (w : ℕ) → MayStep lab w → step_refusal lab w ≡ by_tests false (is_short lab.log) None
@@ -132,6 +143,35 @@ within old last new w answer a s =
     let both = in-time old.config w (length new.log.past) old.log.past bound in
     record { marks = both.0; whole = both.1 }
 
+-- and so is what it takes, where its run began at the begin of its call
+module _ (old last new : WorldView) (w : ℕ) (answer : Applied) (a : Alone old w last) (s : Steps last w answer new) (begins : HasBegunAlone old w) where
+  runs-whole : RunsWhole new.config w s.struck
+  runs-whole =
+      let struck = struck-is last.at_start w s.made last.log.past s.struck s.effect in
+      subst (λ (c : Config). RunsWhole c w s.struck) (sym (s.config ∙ a.config)) (ap (begins_alone old.config w) (struck.run ∙ (a.run ∙ begin-now old.config w old.log.past begins.newest)) ∙ begins.newest)
+
+  supply-at : new.at_begin ≡ old.supply
+  supply-at = s.at_begin ∙ (a.at_begin ∙ begins.supply)
+
+  keeps-supply : KeepsSupply old.supply new.supply
+  keeps-supply = subst (λ (z : Supply). KeepsSupply z new.supply) supply-at (s.supplied runs-whole)
+
+  ends-full : (n : ℕ) → answer ≡ applied.Ended n → IsFullOfLittle old.config w new.log old.supply
+  ends-full n is m at spent before newest =
+      let ending : IsEnding (record last.log { past = s.struck }) w n new.log = subst (λ (z : Applied). GoesOn (record last.log { past = s.struck }) w z new.log) is s.ends in
+      let past : new.log.past ≡ mark.End w n ending.reply ending.at ∷ s.struck = ap (λ (log : Log). log.past) ending.is in
+      let same : before ≡ s.struck = cc (newest, past) in
+      subst (λ (c : Config). HadFew c old.supply spent) (s.config ∙ a.config)
+      (subst (λ (z : Supply). HadFew new.config z spent) supply-at (s.little runs-whole m at spent (newest ∙ ap (λ (z : List Mark). mark.End w m (Full spent) at ∷ z) same)))
+
+-- no call is open of which the end is the newest mark
+not-ended : (b : Bool) (o : Option Open) → b ≡ true → (if b then None else o) ≢ None → ⊥
+not-ended true o e some = some refl
+not-ended false o e some = true≢false (sym e)
+
+no-end : (lab : WorldView) (w n at : ℕ) (reply : Reply) (before : List Mark) → open_call w lab.log.past ≢ None → lab.log.past ≡ mark.End w n reply at ∷ before → ⊥
+no-end lab w n at reply before some is = not-ended (w == w) (open_call w before) (grind (arith, nat_tests)) (subst (λ (z : List Mark). open_call w z ≢ None) is some)
+
 -- its call goes on
 pub alone-on : (old last new : WorldView) (w : ℕ) → Alone old w last → IsApplied last (event.Step w) applied.Stepped new → Alone old w new
 alone-on old last new w a h = elim (stepped last w applied.Stepped new a.may h) [
@@ -148,6 +188,8 @@ alone-on old last new w a h = elim (stepped last w applied.Stepped new a.may h) 
         config = s.config ∙ a.config;
         run = ap (before_run w) past ∙ (struck.run ∙ a.run);
         few = within old last new w applied.Stepped a s;
+        at_begin = s.at_begin ∙ a.at_begin;
+        supplied = keeps-supply old last new w applied.Stepped a s;
       }
       )
 ]
@@ -164,8 +206,16 @@ alone-ends old last new w answer a h stops = elim (stepped last w answer new a.m
     answered = inr (short.answered, ap (λ (z : WorldView). is_short z.log) short.same ∙ short.short);
     marks = (few short.same).marks;
     whole = (few short.same).whole;
+    supplied = λ begins. subst (λ (z : WorldView). KeepsSupply old.supply z.supply) (sym short.same) (a.supplied begins);
+    little = λ begins n at spent before newest. absurd (no-end last w n at (Full spent) before a.may.is_open (ap (λ (z : WorldView). z.log.past) (sym short.same) ∙ newest));
   }
-  | inr s ↦ record { answered = inl (ended-or answer (record last.log { past = s.struck }) new.log w s.ends stops); marks = (within old last new w answer a s).marks; whole = (within old last new w answer a s).whole }
+  | inr s ↦ let ended : (n : ℕ) × (answer ≡ applied.Ended n) = ended-or answer (record last.log { past = s.struck }) new.log w s.ends stops in record {
+    answered = inl ended;
+    marks = (within old last new w answer a s).marks;
+    whole = (within old last new w answer a s).whole;
+    supplied = keeps-supply old last new w answer a s;
+    little = λ begins. ends-full old last new w answer a s begins ended.0 ended.1;
+  }
 ]
   where
     few : new ≡ last → IsInTime old w new

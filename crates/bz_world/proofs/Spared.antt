@@ -1,5 +1,5 @@
 -- A task that a call gets is paid for.
-use Rattle.std.proofs.Common.{◌≡◌, ◌≢◌, ◌⊎◌, ℕ, ◌+◌, ◌≤◌, ◌<◌, true, false, List, length, arith, refl, sym, ap, subst, ◌∙◌, inl, inr, Option, Some, None, is_some}
+use Rattle.std.proofs.Common.{◌≡◌, ◌≢◌, ◌⊎◌, ℕ, ◌+◌, ◌≤◌, ◌<◌, true, false, List, arith, refl, sym, ap, subst, ◌∙◌, inl, inr, Option, Some, None, is_some}
 use Rattle.std.specs.Prelude.{IsSome, nat_lt}
 use Rattle.std.proofs.lemmas.Bool.Decides.{nat_tests}
 use Rattle.bz_call.specs.Map.{key_of}
@@ -21,7 +21,8 @@ use Rattle.bz_call.specs.declared.calls.Call.TheVariants as call
 use Rattle.bz_lone.specs.FromCosts.Most.{most_of, most_of_seek, most_of_find, most_of_leaf, most_of_insert, most_of_update, most_of_delete, most_of_freeze, most_of_copy, most_of_merge, most_of_root, most_of_below, most_of_inner, most_of_inner_root}
 use Rattle.bz_lone.specs.Errands.{Errand, words_asked, is_read, IsLookOf, may_swap_twice, after}
 use Rattle.bz_lone.specs.Prices.{Prices, coming}
-use Rattle.bz_lone.specs.Sum.{IsSmall, PaysForRound, reserve, prices_of}
+use Rattle.bz_lone.specs.FromCosts.Resources.{Resource}
+use Rattle.bz_lone.specs.Sum.{IsSmall}
 use Rattle.bz_running.specs.Duties.{asks_of, end_of, made_of}
 use Rattle.bz_running.specs.Kinds as kinds
 use Rattle.bz_running.specs.Kinds.{Kind, is_look, kind_of}
@@ -41,45 +42,45 @@ use Rattle.bz_task.specs.declared.todo.Todo.TheVariants.{Finish}
 use Rattle.bz_world.specs.Inside.Going.{MustGoOn, MustFind, MustAnswer, HasEnded, HasRoomForEnd, known}
 use Rattle.bz_world.specs.Inside.Laws.{AloneLaws, RoundLaws}
 use Rattle.bz_world.specs.Inside.Meant.{IsMeant}
-use Rattle.bz_world.specs.Inside.Paid.{errand_of, IsPaidFor, HasToSpare}
-use Rattle.bz_world.specs.WorldView.{deadline}
+use Rattle.bz_world.specs.Inside.Paid.{bound_in, errand_of, no_extra, used_in, IsPaidFor, HasARoundAs, HasToSpare}
 use Rattle.bz_world.specs.declared.parts.Parts.{Parts}
 use Rattle.bz_world.specs.declared.serving.OpenCall.{OpenCall}
 use Rattle.bz_world.proofs.Endings.{full-no-look}
 use Rattle.bz_world.proofs.Paid.{none-of, affords-room, swaps-write}
+use Rattle.bz_world.proofs.PaidSteps.{room-of}
 use Rattle.bz_world.proofs.TakingOn.{known-scene}
 
 -- the greatest weight of a task by its kind
-abbrev pub most_in : Kind → ℕ
-most_in kinds.Seek = most_of_seek
-most_in kinds.Find = most_of_find
-most_in kinds.ReadWhole = most_of_leaf
-most_in kinds.Insert = most_of_insert
-most_in kinds.Update = most_of_update
-most_in kinds.Delete = most_of_delete
-most_in kinds.Freeze = most_of_freeze
-most_in kinds.Copy = most_of_copy
-most_in kinds.SplitRootLeaf = most_of_root
-most_in (kinds.SplitLeaf a) = most_of_below
-most_in (kinds.SplitNode a) = most_of_inner
-most_in (kinds.SplitRootNode a) = most_of_inner_root
-most_in kinds.Merge = most_of_merge
+abbrev pub most_in : Resource → Kind → ℕ
+most_in r kinds.Seek = most_of_seek r
+most_in r kinds.Find = most_of_find r
+most_in r kinds.ReadWhole = most_of_leaf r
+most_in r kinds.Insert = most_of_insert r
+most_in r kinds.Update = most_of_update r
+most_in r kinds.Delete = most_of_delete r
+most_in r kinds.Freeze = most_of_freeze r
+most_in r kinds.Copy = most_of_copy r
+most_in r kinds.SplitRootLeaf = most_of_root r
+most_in r (kinds.SplitLeaf a) = most_of_below r
+most_in r (kinds.SplitNode a) = most_of_inner r
+most_in r (kinds.SplitRootNode a) = most_of_inner_root r
+most_in r kinds.Merge = most_of_merge r
 
-pub most-kind : (t : AnyTask) → most_of t ≡ most_in (kind_of t)
+pub most-kind : (r : Resource) (t : AnyTask) → most_of r t ≡ most_in r (kind_of t)
 unfolding kind_of
-most-kind (Seeking t) = refl
-most-kind (Finding t) = refl
-most-kind (Reading t) = refl
-most-kind (Inserting t) = refl
-most-kind (Updating t) = refl
-most-kind (Deleting t) = refl
-most-kind (Freezing t) = refl
-most-kind (Consolidating t) = refl
-most-kind (Splitting t) = refl
-most-kind (SplittingBelow t a) = refl
-most-kind (SplittingInner t a) = refl
-most-kind (SplittingInnerRoot t a) = refl
-most-kind (Merging t) = refl
+most-kind r (Seeking t) = refl
+most-kind r (Finding t) = refl
+most-kind r (Reading t) = refl
+most-kind r (Inserting t) = refl
+most-kind r (Updating t) = refl
+most-kind r (Deleting t) = refl
+most-kind r (Freezing t) = refl
+most-kind r (Consolidating t) = refl
+most-kind r (Splitting t) = refl
+most-kind r (SplittingBelow t a) = refl
+most-kind r (SplittingInner t a) = refl
+most-kind r (SplittingInnerRoot t a) = refl
+most-kind r (Merging t) = refl
 
 -- a task that asks for nothing yet has not ended
 no-end : (o : Option Outcome) (asked : Option Todo) → (IsSome o → asked ≡ Some Finish) → asked ≡ None → o ≡ None
@@ -122,12 +123,12 @@ seeks (call.Page key) = inl refl
 
 pub task-paid : RoundLaws → (p : Parts) (w : ℕ) (on : MustGoOn p w) (task : AnyTask) (way : Option Path) (had : Option (List ℕ)) (k : Kind) → kind_of task ≡ k → AreLaws task → asks_of task ≡ None → made_of task ≡ 0
     → IsMeant (record on.serving { task = task; path = way; had = had }) (known p w on).past → (on.serving.effect ≡ None → k ≡ kinds.Merge → IsAlone 0 (known p w on).past → IsSmall (errand_of on.serving) (known p w on).past)
-    → HasToSpare p w on.serving (known p w on).past (λ q. most_in k + coming q (errand_of on.serving) k) → IsPaidFor p w (record on.serving { task = task; path = way; had = had }) 0 0 (known p w on).past
-task-paid b p w on task way had k kind laws asks made meant small spares =
-    b.tasks p.access w (errand_of on.serving) task (deadline p.config w p.journal.past) (known p w on).past (no-end (end_of task) (asks_of task) laws.only asks) made meant.within (λ quiet. meant.look (none-of on.serving.effect quiet))
+    → HasToSpare p w on.serving (known p w on).past (λ r q. most_in r k + coming r q (errand_of on.serving) k) → IsPaidFor p w (record on.serving { task = task; path = way; had = had }) 0 no_extra (known p w on).past
+task-paid b p w on task way had k kind laws asks made meant small spares r counted =
+    b.tasks r p.access w (errand_of on.serving) task (used_in r p w) (bound_in r p w) (known p w on).past (no-end (end_of task) (asks_of task) laws.only asks) made meant.within (λ quiet. meant.look (none-of on.serving.effect quiet))
     (λ quiet merge. small (none-of on.serving.effect quiet) (sym kind ∙ merge))
-    (b.less p.access w (errand_of on.serving) (deadline p.config w p.journal.past) (known p w on).past (λ q. most_in k + coming q (errand_of on.serving) k) (λ q. most_of task + coming q (errand_of on.serving) (kind_of task))
-    (λ q. omega (arith, most-kind task, ap most_in kind, ap (coming q (errand_of on.serving)) kind)) spares)
+    (b.less r p.access w (errand_of on.serving) (used_in r p w) (bound_in r p w) (known p w on).past (λ q. most_in r k + coming r q (errand_of on.serving) k) (λ q. most_of r task + coming r q (errand_of on.serving) (kind_of task))
+    (λ q. omega (arith, most-kind r task, ap (most_in r) kind, ap (coming r q (errand_of on.serving)) kind)) (spares r counted))
 
 -- a look-up has no effect of its own
 look-swaps : (k : Kind) → is_look k ≡ true → may_swap_twice k ≡ false
@@ -143,23 +144,26 @@ too-many : (n : ℕ) → SPLIT_ABOVE < n → nat_lt SPLIT_ABOVE n ≡ true
 too-many n many = grind (arith, nat_tests)
 
 -- the end of a look-up of this kind leaves what may come after it
-pub ended-spares : RoundLaws → (p : Parts) (w : ℕ) (on : MustGoOn p w) (o : Outcome) (k : Kind) → kind_of on.serving.task ≡ k → is_look k ≡ true → end_of on.serving.task ≡ Some o → o ≢ Done → IsPaidFor p w on.serving 0 0 (known p w on).past
-    → HasToSpare p w on.serving (known p w on).past (λ q. coming q (errand_of on.serving) k)
-ended-spares b p w on o k kind look ended goes paid = subst (λ z. HasToSpare p w on.serving (known p w on).past (λ q. coming q (errand_of on.serving) z)) kind
-    (b.ends p.access w (errand_of on.serving) on.serving.task o (deadline p.config w p.journal.past) (known p w on).past ended goes (look-swaps (kind_of on.serving.task) (ap is_look kind ∙ look)) paid)
+pub ended-spares : RoundLaws → (p : Parts) (w : ℕ) (on : MustGoOn p w) (o : Outcome) (k : Kind) → kind_of on.serving.task ≡ k → is_look k ≡ true → end_of on.serving.task ≡ Some o → o ≢ Done → IsPaidFor p w on.serving 0 no_extra (known p w on).past
+    → HasToSpare p w on.serving (known p w on).past (λ r q. coming r q (errand_of on.serving) k)
+ended-spares b p w on o k kind look ended goes paid = subst (λ z. HasToSpare p w on.serving (known p w on).past (λ r q. coming r q (errand_of on.serving) z)) kind
+    (λ r counted. b.ends r p.access w (errand_of on.serving) on.serving.task o (used_in r p w) (bound_in r p w) (known p w on).past ended goes (look-swaps (kind_of on.serving.task) (ap is_look kind ∙ look)) (paid r counted))
 
 -- a mark is left for the end of the call
-pub end-room : RoundLaws → (p : Parts) (w : ℕ) (x : OpenCall) (past : Past) → past.now ≡ length p.journal.past → IsPaidFor p w x 0 0 past → HasRoomForEnd p w
-end-room b p w x past now paid = let l = b.afforded p.access w (errand_of x) x.task 0 0 (deadline p.config w p.journal.past) past paid in omega (arith, l, now)
+pub end-room : RoundLaws → (p : Parts) (w : ℕ) (x : OpenCall) (past : Past) → IsPaidFor p w x 0 no_extra past → HasRoomForEnd p w
+end-room b p w x past paid = room-of b p w x 0 no_extra past paid
 
-pub spared-room : (p : Parts) (w : ℕ) (x : OpenCall) (past : Past) (price : Prices → ℕ) → past.now ≡ length p.journal.past → HasToSpare p w x past price → HasRoomForEnd p w
-spared-room p w x past price now s = let l = affords-room p.access w (errand_of x) past.now (deadline p.config w p.journal.past) (reserve s.round + price (prices_of s.round (errand_of x) past)) s.affords in omega (arith, l, now)
+pub spared-room : (p : Parts) (w : ℕ) (x : OpenCall) (past : Past) (price : Resource → Prices → ℕ) → HasToSpare p w x past price → HasRoomForEnd p w
+spared-room p w x past price s r counted = affords-room r p.access w (errand_of x) (used_in r p w) (bound_in r p w) _ (s r counted).affords
+
+pub round-room : (p : Parts) (w : ℕ) (e : Errand) (past : Past) → HasARoundAs p w e past → HasRoomForEnd p w
+round-room p w e past h r counted = affords-room r p.access w e (used_in r p w) (bound_in r p w) _ (h r counted).affords
 
 -- what is left once the way was found pays for the reading of the whole leaf
 pub way-read : RoundLaws → (p : Parts) (w : ℕ) (path : Path) (m : MustFind p w path) → ((errand_of m.on.serving).effected ≡ true) ⊎ ((is_read m.on.serving.call ≡ true) ⊎ (m.on.serving.froze ≡ true))
-    → HasToSpare p w m.on.serving (known p w m.on).past (λ q. most_of_leaf + coming q (errand_of m.on.serving) kinds.ReadWhole)
-way-read b p w path m why = b.less p.access w (errand_of m.on.serving) (deadline p.config w p.journal.past) (known p w m.on).past (λ q. coming q (errand_of m.on.serving) kinds.Seek) (λ q. most_of_leaf + coming q (errand_of m.on.serving) kinds.ReadWhole)
-    (λ q. b.ways.read q (errand_of m.on.serving) why) m.spares
+    → HasToSpare p w m.on.serving (known p w m.on).past (λ r q. most_of_leaf r + coming r q (errand_of m.on.serving) kinds.ReadWhole)
+way-read b p w path m why r counted = b.less r p.access w (errand_of m.on.serving) (used_in r p w) (bound_in r p w) (known p w m.on).past (λ q. coming r q (errand_of m.on.serving) kinds.Seek) (λ q. most_of_leaf r + coming r q (errand_of m.on.serving) kinds.ReadWhole)
+    (λ q. (b.ways r).read q (errand_of m.on.serving) why) (m.spares r counted)
 
 -- what the leaf's status tells of the stage
 pub lacks-stage : (called : Call) (st : ℕ) (s : Scene) → TellsTheStage st (key_of called) s → LacksRoomFor called st → 0 < stage_in s.past.config (here s).image (key_of called) (words_asked called)
@@ -179,16 +183,16 @@ has-stage (call.Get key) st s w t h = absurd (cc w)
 has-stage (call.Page key) st s w t h = absurd (cc w)
 
 -- a leaf that was read whole, and has no room
-pub read-lacks : AloneLaws → (p : Parts) (w : ℕ) (view : LeafView) (m : MustAnswer p w view) → is_read m.on.serving.call ≡ false → LacksRoomFor m.on.serving.call view.status → HasToSpare p w m.on.serving (known p w m.on).past (λ q. q.viewed)
-read-lacks b p w view m write lacks = b.rounds.read.lacks p.access w (errand_of m.on.serving) (deadline p.config w p.journal.past) (known p w m.on).past (ap is_some m.quiet) write
-    (λ alone. lacks-stage m.on.serving.call view.status (known p w m.on) (b.rounds.stages (key_of m.on.serving.call) view (known p w m.on) (known-scene b.scenes p w m.on) alone m.viewed) lacks) m.spares
+pub read-lacks : AloneLaws → (p : Parts) (w : ℕ) (view : LeafView) (m : MustAnswer p w view) → is_read m.on.serving.call ≡ false → LacksRoomFor m.on.serving.call view.status → HasToSpare p w m.on.serving (known p w m.on).past (λ r q. q.viewed)
+read-lacks b p w view m write lacks r counted = (b.rounds.read r).lacks p.access w (errand_of m.on.serving) (used_in r p w) (bound_in r p w) (known p w m.on).past (ap is_some m.quiet) write
+    (λ alone. lacks-stage m.on.serving.call view.status (known p w m.on) (b.rounds.stages (key_of m.on.serving.call) view (known p w m.on) (known-scene b.scenes p w m.on) alone m.viewed) lacks) (m.spares r counted)
 
 -- or has it, so that the key is looked up again
 pub read-has : AloneLaws → (p : Parts) (w : ℕ) (view : LeafView) (m : MustAnswer p w view) → is_read m.on.serving.call ≡ false → HasRoomFor m.on.serving.call view.status
-    → PaysForRound p.access w (after (errand_of m.on.serving) (kind_of m.on.serving.task)) (deadline p.config w p.journal.past) (known p w m.on).past
-read-has b p w view m write has = subst (λ k. PaysForRound p.access w (after (errand_of m.on.serving) k) (deadline p.config w p.journal.past) (known p w m.on).past) (sym m.kind)
-    (b.rounds.read.has p.access w (errand_of m.on.serving) (deadline p.config w p.journal.past) (known p w m.on).past (ap is_some m.quiet) write
-    (λ alone. has-stage m.on.serving.call view.status (known p w m.on) write (b.rounds.stages (key_of m.on.serving.call) view (known p w m.on) (known-scene b.scenes p w m.on) alone m.viewed) has) m.spares)
+    → HasARoundAs p w (after (errand_of m.on.serving) (kind_of m.on.serving.task)) (known p w m.on).past
+read-has b p w view m write has = subst (λ k. HasARoundAs p w (after (errand_of m.on.serving) k) (known p w m.on).past) (sym m.kind)
+    (λ r counted. (b.rounds.read r).has p.access w (errand_of m.on.serving) (used_in r p w) (bound_in r p w) (known p w m.on).past (ap is_some m.quiet) write
+    (λ alone. has-stage m.on.serving.call view.status (known p w m.on) write (b.rounds.stages (key_of m.on.serving.call) view (known p w m.on) (known-scene b.scenes p w m.on) alone m.viewed) has) (m.spares r counted))
 
 -- a frozen leaf that lacks the room is small, or large; one that is not is frozen first
 pub is-small : AloneLaws → (p : Parts) (w : ℕ) (on : MustGoOn p w) (view : LeafView) → IsView (key_of on.serving.call) view (known p w on).past → (status view.status).frozen ≡ true → live_of (node_of view.image.0) ≤ SPLIT_ABOVE → IsAlone 0 (known p w on).past → IsSmall (errand_of on.serving) (known p w on).past
@@ -234,18 +238,18 @@ full-writes p w spent e = swaps-write e.on.serving.call (kind_of e.on.serving.ta
     (full-no-look (kind_of e.on.serving.task) spent (e.tasked.laws.ends_of (outcome.Full spent) (known p w e.on) (e.tasked.laws.ends (known p w e.on) (outcome.Full spent) e.facts e.end).0))
 
 -- once a call has had its effect its leaf is read whole, and merged then
-pub after-read : RoundLaws → (p : Parts) (w : ℕ) (on : MustGoOn p w) → is_some on.serving.effect ≡ true → HasToSpare p w on.serving (known p w on).past (λ q. coming q (errand_of on.serving) kinds.Seek)
-    → HasToSpare p w on.serving (known p w on).past (λ q. most_of_leaf + coming q (errand_of on.serving) kinds.ReadWhole)
-after-read b p w on effected spares = b.less p.access w (errand_of on.serving) (deadline p.config w p.journal.past) (known p w on).past (λ q. coming q (errand_of on.serving) kinds.Seek) (λ q. most_of_leaf + coming q (errand_of on.serving) kinds.ReadWhole)
-    (λ q. b.ways.read q (errand_of on.serving) (inl effected)) spares
+pub after-read : RoundLaws → (p : Parts) (w : ℕ) (on : MustGoOn p w) → is_some on.serving.effect ≡ true → HasToSpare p w on.serving (known p w on).past (λ r q. coming r q (errand_of on.serving) kinds.Seek)
+    → HasToSpare p w on.serving (known p w on).past (λ r q. most_of_leaf r + coming r q (errand_of on.serving) kinds.ReadWhole)
+after-read b p w on effected spares r counted = b.less r p.access w (errand_of on.serving) (used_in r p w) (bound_in r p w) (known p w on).past (λ q. coming r q (errand_of on.serving) kinds.Seek) (λ q. most_of_leaf r + coming r q (errand_of on.serving) kinds.ReadWhole)
+    (λ q. (b.ways r).read q (errand_of on.serving) (inl effected)) (spares r counted)
 
-merge-comes : (q : Prices) (e : Errand) → e.effected ≡ true → most_of_merge + coming q e kinds.Merge ≤ coming q e kinds.ReadWhole
-merge-comes q e effected = rw effected (omega arith)
+merge-comes : (r : Resource) (q : Prices) (e : Errand) → e.effected ≡ true → most_of_merge r + coming r q e kinds.Merge ≤ coming r q e kinds.ReadWhole
+merge-comes r q e effected = rw effected (omega arith)
 
-pub after-merge : RoundLaws → (p : Parts) (w : ℕ) (on : MustGoOn p w) → is_some on.serving.effect ≡ true → HasToSpare p w on.serving (known p w on).past (λ q. coming q (errand_of on.serving) kinds.ReadWhole)
-    → HasToSpare p w on.serving (known p w on).past (λ q. most_of_merge + coming q (errand_of on.serving) kinds.Merge)
-after-merge b p w on effected spares = b.less p.access w (errand_of on.serving) (deadline p.config w p.journal.past) (known p w on).past (λ q. coming q (errand_of on.serving) kinds.ReadWhole) (λ q. most_of_merge + coming q (errand_of on.serving) kinds.Merge)
-    (λ q. merge-comes q (errand_of on.serving) effected) spares
+pub after-merge : RoundLaws → (p : Parts) (w : ℕ) (on : MustGoOn p w) → is_some on.serving.effect ≡ true → HasToSpare p w on.serving (known p w on).past (λ r q. coming r q (errand_of on.serving) kinds.ReadWhole)
+    → HasToSpare p w on.serving (known p w on).past (λ r q. most_of_merge r + coming r q (errand_of on.serving) kinds.Merge)
+after-merge b p w on effected spares r counted = b.less r p.access w (errand_of on.serving) (used_in r p w) (bound_in r p w) (known p w on).past (λ q. coming r q (errand_of on.serving) kinds.ReadWhole) (λ q. most_of_merge r + coming r q (errand_of on.serving) kinds.Merge)
+    (λ q. merge-comes r q (errand_of on.serving) effected) (spares r counted)
 
 -- neither a get nor a page
 pub no-read : (called : Call) → ((key : List ℕ) → called ≢ call.Get key) → ((key : List ℕ) → called ≢ call.Page key) → is_read called ≡ false

@@ -14,6 +14,7 @@ use Rattle.bz_task.specs.declared.todo.Todo.{Todo}
 use Rattle.bz_task.specs.declared.todo.Todo.TheVariants as todo
 use Rattle.bz_world.specs.Inside.Acted.{IsBetween}
 use Rattle.bz_world.specs.Inside.Going.{LacksSwap}
+use Rattle.bz_world.specs.Inside.Paid.{Stock, stock_of}
 use Rattle.bz_world.specs.Inside.Serving.{IsDoing, IsSlot}
 use Rattle.bz_world.specs.declared.parts.Parts.{Parts}
 use Rattle.bz_world.specs.declared.serving.OpenCall.{OpenCall}
@@ -34,9 +35,9 @@ holder-by m log owners v s opened is swaps (todo.Swap entries) d =
     let same : d.swap ≡ s = cc (d.doing, swaps) in
     record { opened = opened; is_open = is; owner = subst (λ t. slice_index owners t ≡ v) same d.owner }
 
-slot-holder : (c : Config) (m : SwapMemory) (log : Log) (story : Story) (owners : List ℕ) (v s : ℕ) (slot : Option OpenCall) → IsSlot c m log story owners v slot → doing_of m v ≡ Swapping s → IsHolder log owners v s
-slot-holder c m log story owners v s None h swaps = absurd (cc (h.idle, swaps))
-slot-holder c m log story owners v s (Some x) h swaps = holder-by m log owners v s h.opened h.call_open.is_open swaps h.asked h.doing
+slot-holder : (c : Config) (m : SwapMemory) (log : Log) (story : Story) (owners : List ℕ) (stock : Stock) (v s : ℕ) (slot : Option OpenCall) → IsSlot c m log story owners stock v slot → doing_of m v ≡ Swapping s → IsHolder log owners v s
+slot-holder c m log story owners stock v s None h swaps = absurd (cc (h.idle, swaps))
+slot-holder c m log story owners stock v s (Some x) h swaps = holder-by m log owners v s h.opened h.call_open.is_open swaps h.asked h.doing
 
 -- a worker with an open call, which is not this one, is one of the others
 pub is-other : (p : Parts) (w : ℕ) (x : OpenCall) → IsBetween p w x → (v : ℕ) → v ≢ w → (opened : Open) → open_call v p.journal.past ≡ Some opened → IsOther p.config p.journal.past w v
@@ -70,7 +71,7 @@ module _ (p : Parts) (w : ℕ) (l : LacksSwap p w) where
     holder = v;
     other = not-it;
     swaps = swaps;
-    is = slot-holder p.config p.access p.journal was.story p.owners.items v s (get_or p.workers.items v None) (was.others v not-it) swaps;
+    is = slot-holder p.config p.access p.journal was.story p.owners.items (stock_of p) v s (get_or p.workers.items v None) (was.others v not-it) swaps;
   }
     where
       not-it : v ≢ w

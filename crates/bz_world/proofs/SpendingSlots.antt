@@ -18,6 +18,7 @@ use Rattle.bz_story.specs.Story.{Story}
 use Rattle.bz_swap.specs.SwapMemory.{SwapMemory}
 use Rattle.bz_world.specs.Inside.Acted.{IsBetween}
 use Rattle.bz_world.specs.Inside.Going.{IsOutOfSlots}
+use Rattle.bz_world.specs.Inside.Paid.{Stock, stock_of}
 use Rattle.bz_world.specs.WorldView.{LacksSlots}
 use Rattle.bz_world.specs.Inside.Serving.{IsSlot, NeedsAtLeast}
 use Rattle.bz_world.specs.declared.parts.Parts.{Parts}
@@ -44,14 +45,14 @@ is-at [] k h = absurd (cc)
 is-at (x ∷ xs) k h = at-test x xs k (x == k) refl h (is-at xs k)
 
 -- the slots that a worker took and may not have stored into
-unfilled-of : (c : Config) (m : SwapMemory) (log : Log) (story : Story) (owners : List ℕ) (v : ℕ) (slot : Option OpenCall) → IsSlot c m log story owners v slot → List ℕ
-unfilled-of c m log story owners v None h = []
-unfilled-of c m log story owners v (Some x) h = h.covered.unfilled
+unfilled-of : (c : Config) (m : SwapMemory) (log : Log) (story : Story) (owners : List ℕ) (stock : Stock) (v : ℕ) (slot : Option OpenCall) → IsSlot c m log story owners stock v slot → List ℕ
+unfilled-of c m log story owners stock v None h = []
+unfilled-of c m log story owners stock v (Some x) h = h.covered.unfilled
 
-few-unfilled : (c : Config) (m : SwapMemory) (log : Log) (story : Story) (owners : List ℕ) (v : ℕ) (slot : Option OpenCall) (h : IsSlot c m log story owners v slot) → length (unfilled-of c m log story owners v slot h) ≤ SPLIT_SLOTS
+few-unfilled : (c : Config) (m : SwapMemory) (log : Log) (story : Story) (owners : List ℕ) (stock : Stock) (v : ℕ) (slot : Option OpenCall) (h : IsSlot c m log story owners stock v slot) → length (unfilled-of c m log story owners stock v slot h) ≤ SPLIT_SLOTS
 unfolding unfilled-of
-few-unfilled c m log story owners v None h = omega arith
-few-unfilled c m log story owners v (Some x) h = omega (arith, h.covered.few)
+few-unfilled c m log story owners stock v None h = omega arith
+few-unfilled c m log story owners stock v (Some x) h = omega (arith, h.covered.few)
 
 -- a worker that took a slot and has not stored into it has an open call
 record IsHolding (log : Log) (v k : ℕ) (unfilled : List ℕ) : Type 0 where
@@ -59,10 +60,10 @@ record IsHolding (log : Log) (v k : ℕ) (unfilled : List ℕ) : Type 0 where
   is_open : open_call v log.past ≡ Some opened
   among : is_among unfilled k ≡ true
 
-holding : (c : Config) (m : SwapMemory) (log : Log) (story : Story) (owners : List ℕ) (v k : ℕ) (slot : Option OpenCall) (h : IsSlot c m log story owners v slot) → story.took v k ≡ true → story.filled v k ≡ false → IsHolding log v k (unfilled-of c m log story owners v slot h)
+holding : (c : Config) (m : SwapMemory) (log : Log) (story : Story) (owners : List ℕ) (stock : Stock) (v k : ℕ) (slot : Option OpenCall) (h : IsSlot c m log story owners stock v slot) → story.took v k ≡ true → story.filled v k ≡ false → IsHolding log v k (unfilled-of c m log story owners stock v slot h)
 unfolding unfilled-of
-holding c m log story owners v k None h took unfilled = absurd (true≢false (sym (h.filled k took) ∙ unfilled))
-holding c m log story owners v k (Some x) h took unfilled = record { opened = h.opened; is_open = h.call_open.is_open; among = h.covered.all k took unfilled }
+holding c m log story owners stock v k None h took unfilled = absurd (true≢false (sym (h.filled k took) ∙ unfilled))
+holding c m log story owners stock v k (Some x) h took unfilled = record { opened = h.opened; is_open = h.call_open.is_open; among = h.covered.all k took unfilled }
 
 unused-both : (a b : Bool) → a || b ≡ false → (a ≡ false) × (b ≡ false)
 unused-both true b e = absurd (cc)
@@ -82,7 +83,7 @@ module _ (p : Parts) (w : ℕ) (l : IsOutOfSlots p w) where
   -- those of another worker
   list-by : (v : ℕ) (b : Bool) → (v == w) ≡ b → List ℕ
   list-by v true e = []
-  list-by v false e = unfilled-of p.config p.access p.journal was.story p.owners.items v (get_or p.workers.items v None) (was.others v (differs v e))
+  list-by v false e = unfilled-of p.config p.access p.journal was.story p.owners.items (stock_of p) v (get_or p.workers.items v None) (was.others v (differs v e))
 
   list : ℕ → List ℕ
   list v = list-by v (v == w) refl
@@ -90,12 +91,12 @@ module _ (p : Parts) (w : ℕ) (l : IsOutOfSlots p w) where
   list-few : (v : ℕ) (b : Bool) (e : (v == w) ≡ b) → length (list-by v b e) ≤ SPLIT_SLOTS
   unfolding list-by
   list-few v true e = omega arith
-  list-few v false e = few-unfilled p.config p.access p.journal was.story p.owners.items v (get_or p.workers.items v None) (was.others v (differs v e))
+  list-few v false e = few-unfilled p.config p.access p.journal was.story p.owners.items (stock_of p) v (get_or p.workers.items v None) (was.others v (differs v e))
 
   list-has : (v k : ℕ) (b : Bool) (e : (v == w) ≡ b) → v ≢ w → was.story.took v k ≡ true → was.story.filled v k ≡ false → IsHolding p.journal v k (list-by v b e)
   unfolding list-by
   list-has v k true e ne took unfilled = absurd (ne (let t : v ≡ w = grind (arith, nat_tests) in t))
-  list-has v k false e ne took unfilled = holding p.config p.access p.journal was.story p.owners.items v k (get_or p.workers.items v None) (was.others v (differs v e)) took unfilled
+  list-has v k false e ne took unfilled = holding p.config p.access p.journal was.story p.owners.items (stock_of p) v k (get_or p.workers.items v None) (was.others v (differs v e)) took unfilled
 
   -- slot k is held by another worker
   record HoldsSlot (k v : ℕ) : Type 0 where

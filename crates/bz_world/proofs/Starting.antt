@@ -24,10 +24,9 @@ use Rattle.bz_world.specs.Inside.Serving.{IsServing, IsDoing, IsSlot, stage_in}
 use Rattle.bz_world.specs.Inside.Telling.{MustStart}
 use Rattle.bz_world.specs.declared.parts.Parts.{Parts}
 use Rattle.bz_lone.specs.FromCosts.Weights.{start_allows}
-use Rattle.bz_lone.specs.Sum.{IsPaid}
 use Rattle.bz_swap.specs.Alone.{allowed_for, left_to}
-use Rattle.bz_world.specs.Inside.Paid.{errand_of}
-use Rattle.bz_world.specs.WorldView.{deadline}
+use Rattle.bz_world.specs.Inside.Paid.{errand_of, no_extra, stock_of, IsPaidIn}
+use Rattle.bz_world.proofs.PaidSteps.{starts-in}
 use Rattle.bz_world.proofs.Alone.{none-untold, none-well}
 use Rattle.bz_world.proofs.Lonely.{in-place, only-own, started-lonely}
 use Rattle.bz_world.proofs.Powered.{begun-in}
@@ -96,11 +95,14 @@ module _ (lone : AloneLaws) (starts : StartsAreSeen) (begun : BegunLaws) (alone 
       }
 
   -- its start is paid for
-  pays : IsPaid (started p.access w doing) w (errand_of m.serving) m.serving.task 0 0 (deadline p.config w p.journal.past) its-scene.past
-  pays = lone.paid.starts p.access (started p.access w doing) w (errand_of m.serving) m.serving.task 0 (deadline p.config w p.journal.past) todo its-scene.past
-      (let more : left_to (started p.access w doing) w ≤ left_to p.access w + allowed_for doing = lone.paid.steps.start p.access w doing in omega (arith, more, allows)) (lone.paid.rivals.start p.access w doing) m.asking.paid
+  pays : IsPaidIn p.config (started p.access w doing) p.journal.past (stock_of p) w (errand_of m.serving) m.serving.task 0 no_extra its-scene.past
+  pays = starts-in lone.paid p.config p.access (started p.access w doing) p.journal.past (stock_of p) w (errand_of m.serving) m.serving.task 0 todo its-scene.past (record {
+    left = let more : left_to (started p.access w doing) w ≤ left_to p.access w + allowed_for doing = lone.paid.steps.start p.access w doing in omega (arith, more, allows);
+    taken = omega arith;
+    rivals = lone.paid.rivals.start p.access w doing;
+  }) m.asking.paid
 
-  serves-on : IsServing p.config (started p.access w doing) p.journal between.story p.owners.items w m.serving
+  serves-on : IsServing p.config (started p.access w doing) p.journal between.story p.owners.items (stock_of p) w m.serving
   serves-on = record {
     opened = between.opened;
     call_open = between.call_open;
@@ -116,17 +118,17 @@ module _ (lone : AloneLaws) (starts : StartsAreSeen) (begun : BegunLaws) (alone 
     covered = m.asking.covered;
     alone = waits-now;
     meant = m.asking.meant;
-    paid = λ steps. subst (λ u. IsPaid (started p.access w doing) w (errand_of m.serving) m.serving.task u 0 (deadline p.config w p.journal.past) its-scene.past) (sym (none-untold (started p.access w doing) (doing_of (started p.access w doing) w) none)) pays;
+    paid = λ steps. subst (λ u. IsPaidIn p.config (started p.access w doing) p.journal.past (stock_of p) w (errand_of m.serving) m.serving.task u no_extra its-scene.past) (sym (none-untold (started p.access w doing) (doing_of (started p.access w doing) w) none)) pays;
   }
 
   same-other : (v : ℕ) → v ≢ w → SameFor p.access (started p.access w doing) v
   same-other v ne = record { doing = starts-others p.access w v doing ne; begun = refl; taken = refl; size = refl; effects = λ s d. refl }
 
-  slots : (v : ℕ) → IsSlot p.config (started p.access w doing) p.journal between.story p.owners.items v (get_or p.workers.items v None)
+  slots : (v : ℕ) → IsSlot p.config (started p.access w doing) p.journal between.story p.owners.items (stock_of p) v (get_or p.workers.items v None)
   slots v = elim (cases_eq v w) [
-    | inr ne ↦ slot-same p.config p.access (started p.access w doing) p.journal between.story p.owners.items p.owners.items v (get_or p.workers.items v None) (same-other v ne) (λ s d well. record { unnoted = well.unnoted; stands = well.stands }) (λ s d. refl) (λ is. ne (between.steps v is)) (between.others v ne)
-    | inl e ↦ subst (λ u. IsSlot p.config (started p.access w doing) p.journal between.story p.owners.items u (get_or p.workers.items u None)) (sym e)
-        (subst (IsSlot p.config (started p.access w doing) p.journal between.story p.owners.items w) (sym m.is) serves-on)
+    | inr ne ↦ slot-same p.config p.access (started p.access w doing) p.journal between.story p.owners.items p.owners.items (stock_of p) (stock_of p) v (get_or p.workers.items v None) (same-other v ne) (λ s d well. record { unnoted = well.unnoted; stands = well.stands }) (λ s d. refl) (λ is. ne (between.steps v is)) (between.others v ne)
+    | inl e ↦ subst (λ u. IsSlot p.config (started p.access w doing) p.journal between.story p.owners.items (stock_of p) u (get_or p.workers.items u None)) (sym e)
+        (subst (IsSlot p.config (started p.access w doing) p.journal between.story p.owners.items (stock_of p) w) (sym m.is) serves-on)
   ]
 
   notes : KeepsNotes (started p.access w doing)

@@ -5,7 +5,6 @@ use Rattle.std.proofs.lemmas.Bool.{true≢false}
 use Rattle.bz_call.specs.Map.{key_of}
 use Rattle.bz_layout.specs.declared.config.Config.{Config}
 use Rattle.bz_layout.specs.declared.thresholds.TheConstants.{SPLIT_SLOTS}
-use Rattle.bz_lone.specs.Sum.{IsPaid}
 use Rattle.bz_mark.specs.Log.{Log, with_mark}
 use Rattle.bz_mark.proofs.MomentLaws.{at_moment-earlier}
 use Rattle.bz_mark.specs.declared.marks.Mark.{Mark}
@@ -26,8 +25,7 @@ use Rattle.bz_task.specs.declared.todo.Todo.{Todo}
 use Rattle.bz_task.specs.declared.todo.Todo.TheVariants as todo
 use Rattle.bz_world.specs.Inside.Alone.{WaitsAlone, untold}
 use Rattle.bz_world.specs.Inside.Meant.{IsMeant}
-use Rattle.bz_world.specs.Inside.Paid.{errand_of, runner}
-use Rattle.bz_world.specs.WorldView.{deadline}
+use Rattle.bz_world.specs.Inside.Paid.{Stock, IsPaidIn, errand_of, no_extra, runner}
 use Rattle.bz_world.specs.Inside.Serving.{IsServing, IsCovered, IsDoing, IsSlot, IsToldBy, IsWanted, NeedsAtLeast, MayGoOn, IsFinishing, effect_reply, stage_in}
 use Rattle.bz_world.specs.declared.serving.OpenCall.{OpenCall}
 use Rattle.bz_world.proofs.Alone.{waits-same}
@@ -120,14 +118,15 @@ wanted-stays c log mark opened wants why quiet some =
     }
 
 -- it pays for what is to come one mark later
-abbrev pub Pays : Config → SwapMemory → Log → Mark → Story → Story → List ℕ → SwapMemory → ℕ → Type 0
-Pays c m log mark story after owners n v = (x : OpenCall) (s : IsServing c m log story owners v x) → runner c (mark ∷ log.past) ≡ Some v
-    → IsPaid n v (errand_of x) x.task (untold n (doing_of n v)) 0 (deadline c v (mark ∷ log.past)) (scene c (mark ∷ log.past) after v s.call_open.look.since s.opened).past
+abbrev pub Pays : Config → SwapMemory → Log → Mark → Story → Story → List ℕ → Stock → Stock → SwapMemory → ℕ → Type 0
+Pays c m log mark story after owners stock more n v = (x : OpenCall) (s : IsServing c m log story owners stock v x) → runner c (mark ∷ log.past) ≡ Some v
+    → IsPaidIn c n (mark ∷ log.past) more v (errand_of x) x.task (untold n (doing_of n v)) no_extra (scene c (mark ∷ log.past) after v s.call_open.look.since s.opened).past
 
-unfoldable pub serving-stays : ScenesAreSeen → EffectsStayOpen → (c : Config) (m n : SwapMemory) (log : Log) (mark : Mark) (story after : Story) (owners : List ℕ) (v : ℕ) (x : OpenCall) → IsLiving c n (with_mark log mark) after → Leaves c m n log mark story after v
-    → (s : IsServing c m log story owners v x) → (runner c (mark ∷ log.past) ≡ Some v → IsPaid n v (errand_of x) x.task (untold n (doing_of n v)) 0 (deadline c v (mark ∷ log.past)) (scene c (mark ∷ log.past) after v s.call_open.look.since s.opened).past)
-    → IsServing c n (with_mark log mark) after owners v x
-serving-stays seen stay c m n log mark story after owners v x living l s pays = record {
+unfoldable pub serving-stays : ScenesAreSeen → EffectsStayOpen → (c : Config) (m n : SwapMemory) (log : Log) (mark : Mark) (story after : Story) (owners : List ℕ) (stock more : Stock) (v : ℕ) (x : OpenCall) → IsLiving c n (with_mark log mark) after → Leaves c m n log mark story after v
+    → (s : IsServing c m log story owners stock v x)
+    → (runner c (mark ∷ log.past) ≡ Some v → IsPaidIn c n (mark ∷ log.past) more v (errand_of x) x.task (untold n (doing_of n v)) no_extra (scene c (mark ∷ log.past) after v s.call_open.look.since s.opened).past)
+    → IsServing c n (with_mark log mark) after owners more v x
+serving-stays seen stay c m n log mark story after owners stock more v x living l s pays = record {
   opened = s.opened;
   call_open = record {
     is_open = l.calls ∙ s.call_open.is_open;
@@ -155,19 +154,19 @@ serving-stays seen stay c m n log mark story after owners v x living l s pays = 
     since : after.from ≤ s.call_open.look.since
     since = omega (arith, living.begins v s.opened (l.calls ∙ s.call_open.is_open), s.call_open.look.after_begin)
 
-pub none-stays : (c : Config) (m n : SwapMemory) (log : Log) (mark : Mark) (story after : Story) (owners : List ℕ) (v : ℕ) → Leaves c m n log mark story after v → IsSlot c m log story owners v None → IsSlot c n (with_mark log mark) after owners v None
-none-stays c m n log mark story after owners v l s = record { none_open = l.calls ∙ s.none_open; idle = l.same.doing ∙ s.idle; filled = λ k t. l.filled k (s.filled k (sym (l.took k) ∙ t)) }
+pub none-stays : (c : Config) (m n : SwapMemory) (log : Log) (mark : Mark) (story after : Story) (owners : List ℕ) (stock more : Stock) (v : ℕ) → Leaves c m n log mark story after v → IsSlot c m log story owners stock v None → IsSlot c n (with_mark log mark) after owners more v None
+none-stays c m n log mark story after owners stock more v l s = record { none_open = l.calls ∙ s.none_open; idle = l.same.doing ∙ s.idle; filled = λ k t. l.filled k (s.filled k (sym (l.took k) ∙ t)) }
 
-pub slot-stays : ScenesAreSeen → EffectsStayOpen → (c : Config) (m n : SwapMemory) (log : Log) (mark : Mark) (story after : Story) (owners : List ℕ) (v : ℕ) (slot : Option OpenCall) → IsLiving c n (with_mark log mark) after → Leaves c m n log mark story after v
-    → Pays c m log mark story after owners n v → IsSlot c m log story owners v slot → IsSlot c n (with_mark log mark) after owners v slot
-slot-stays seen stay c m n log mark story after owners v None living l pays s = none-stays c m n log mark story after owners v l s
-slot-stays seen stay c m n log mark story after owners v (Some x) living l pays s = serving-stays seen stay c m n log mark story after owners v x living l s (pays x s)
+pub slot-stays : ScenesAreSeen → EffectsStayOpen → (c : Config) (m n : SwapMemory) (log : Log) (mark : Mark) (story after : Story) (owners : List ℕ) (stock more : Stock) (v : ℕ) (slot : Option OpenCall) → IsLiving c n (with_mark log mark) after → Leaves c m n log mark story after v
+    → Pays c m log mark story after owners stock more n v → IsSlot c m log story owners stock v slot → IsSlot c n (with_mark log mark) after owners more v slot
+slot-stays seen stay c m n log mark story after owners stock more v None living l pays s = none-stays c m n log mark story after owners stock more v l s
+slot-stays seen stay c m n log mark story after owners stock more v (Some x) living l pays s = serving-stays seen stay c m n log mark story after owners stock more v x living l s (pays x s)
 
 -- without a mark, in a memory in which a worker does the same
-pub slot-same : (c : Config) (m n : SwapMemory) (log : Log) (story : Story) (owners others : List ℕ) (v : ℕ) (slot : Option OpenCall) → SameFor m n v → ((s : ℕ) → doing_of m v ≡ Swapping s → GoesWell m s → GoesWell n s) → ((s : ℕ) → doing_of m v ≡ Swapping s → slice_index others s ≡ slice_index owners s)
-    → (runner c log.past ≡ Some v → ⊥) → IsSlot c m log story owners v slot → IsSlot c n log story others v slot
-slot-same c m n log story owners others v None same well table still s = record { none_open = s.none_open; idle = same.doing ∙ s.idle; filled = s.filled }
-slot-same c m n log story owners others v (Some x) same well table still s = record {
+pub slot-same : (c : Config) (m n : SwapMemory) (log : Log) (story : Story) (owners others : List ℕ) (stock more : Stock) (v : ℕ) (slot : Option OpenCall) → SameFor m n v → ((s : ℕ) → doing_of m v ≡ Swapping s → GoesWell m s → GoesWell n s) → ((s : ℕ) → doing_of m v ≡ Swapping s → slice_index others s ≡ slice_index owners s)
+    → (runner c log.past ≡ Some v → ⊥) → IsSlot c m log story owners stock v slot → IsSlot c n log story others more v slot
+slot-same c m n log story owners others stock more v None same well table still s = record { none_open = s.none_open; idle = same.doing ∙ s.idle; filled = s.filled }
+slot-same c m n log story owners others stock more v (Some x) same well table still s = record {
   opened = s.opened;
   call_open = assumption s.call_open;
   tasked = s.tasked;
@@ -191,10 +190,10 @@ slot-same c m n log story owners others v (Some x) same well table still s = rec
     doing-by m owners others v (todo.Swap entries) table d = record { swap = d.swap; doing = d.doing; same = d.same; owner = table d.swap d.doing ∙ d.owner; begun = d.begun; list = d.list }
 
 -- in another story that tells a worker the same
-pub slot-scenes : (c : Config) (m : SwapMemory) (log : Log) (story after : Story) (owners : List ℕ) (v : ℕ) (slot : Option OpenCall) (some : Open) → ((since : ℕ) (opened : Open) → scene c log.past after v since opened ≡ scene c log.past story v since opened)
-    → ((k : ℕ) → after.filled v k ≡ story.filled v k) → IsSlot c m log story owners v slot → IsSlot c m log after owners v slot
-slot-scenes c m log story after owners v None some same filled s = record { none_open = s.none_open; idle = s.idle; filled = λ k t. filled k ∙ s.filled k (sym (ap (λ (z : Scene). z.took k) (same zero some)) ∙ t) }
-slot-scenes c m log story after owners v (Some x) some same filled s = record {
+pub slot-scenes : (c : Config) (m : SwapMemory) (log : Log) (story after : Story) (owners : List ℕ) (stock more : Stock) (v : ℕ) (slot : Option OpenCall) (some : Open) → ((since : ℕ) (opened : Open) → scene c log.past after v since opened ≡ scene c log.past story v since opened)
+    → ((k : ℕ) → after.filled v k ≡ story.filled v k) → (runner c log.past ≡ Some v → ⊥) → IsSlot c m log story owners stock v slot → IsSlot c m log after owners more v slot
+slot-scenes c m log story after owners stock more v None some same filled still s = record { none_open = s.none_open; idle = s.idle; filled = λ k t. filled k ∙ s.filled k (sym (ap (λ (z : Scene). z.took k) (same zero some)) ∙ t) }
+slot-scenes c m log story after owners stock more v (Some x) some same filled still s = record {
   opened = s.opened;
   call_open = assumption s.call_open;
   tasked = s.tasked;
@@ -206,5 +205,5 @@ slot-scenes c m log story after owners v (Some x) some same filled s = record {
   covered = covered-stays (story.took v) (after.took v) (story.filled v) (after.filled v) (needs_of x.task) (λ k. ap (λ (z : Scene). z.took k) (same s.call_open.look.since s.opened)) (λ k e. filled k ∙ e) s.covered;
   alone = subst (λ (z : Scene). WaitsAlone m (doing_of m v) x.task z.past) (sym (same s.call_open.look.since s.opened)) s.alone;
   meant = subst (λ (z : Scene). IsMeant x z.past) (sym (same s.call_open.look.since s.opened)) s.meant;
-  paid = λ steps. subst (λ (z : Scene). IsPaid m v (errand_of x) x.task (untold m (doing_of m v)) 0 (deadline c v log.past) z.past) (sym (same s.call_open.look.since s.opened)) (s.paid steps);
+  paid = λ steps. absurd (still steps);
 }

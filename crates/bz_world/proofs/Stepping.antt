@@ -1,5 +1,5 @@
 -- A step: one act, and what its call does without an act.
-use Rattle.std.proofs.Common.{◌≡◌, ◌≢◌, ◌⊎◌, ◌≤◌, ◌+◌, ◌*◌, ◌==◌, if◌then◌else◌, ℕ, suc, Bool, true, false, List, ◌∷◌, length, arith, sym, ap, subst, ◌∙◌, inl, inr, Option, Some, None}
+use Rattle.std.proofs.Common.{◌≡◌, ◌≢◌, ◌⊎◌, ◌≤◌, ◌+◌, ◌*◌, ◌==◌, if◌then◌else◌, ℕ, Bool, true, false, List, ◌∷◌, length, arith, sym, ap, subst, ◌∙◌, inl, inr, Option, Some, None}
 use Rattle.std.specs.Prelude.{get_or, option_map}
 use Rattle.std.proofs.Math.ListN.{get_or-map}
 use Rattle.arrayvec.specs.ArrayVec.{ArrayVec}
@@ -10,23 +10,23 @@ use Rattle.bz_mark.specs.Log.{Log}
 use Rattle.bz_mark.specs.declared.marks.Mark.{Mark}
 use Rattle.bz_mark.specs.declared.marks.Mark.TheVariants.{End}
 use Rattle.bz_sound.specs.Calls.{Open, open_call, with_effect}
-use Rattle.bz_story.specs.Story.{scene}
 use Rattle.bz_swap.specs.SwapMemory.{Working, idle, worker_of, doing_of}
-use Rattle.bz_lone.specs.Sum.{IsPaid}
+use Rattle.bz_lone.specs.FromCosts.Resources.{Marks}
+use Rattle.bz_swap.specs.Alone.{left_to}
 use Rattle.bz_world.specs.Inside.Acted.{HasActed}
 use Rattle.bz_world.specs.Inside.Beginning.{world_view, is_swap, supply_of}
 use Rattle.bz_world.specs.Inside.Going.{WentOn}
 use Rattle.bz_world.specs.Inside.Kept.{IsAwake}
-use Rattle.bz_world.specs.Inside.Alone.{untold}
-use Rattle.bz_world.specs.Inside.Paid.{errand_of}
+use Rattle.bz_world.specs.Inside.Paid.{begun_with, bound_in, errand_of, stock_of, used_in}
 use Rattle.bz_world.specs.Inside.Serving.{IsServing}
-use Rattle.bz_world.specs.WorldView.{mark_of, stepper, deadline, IsStruck, Spends, EndsFullRightly, GetsBriefly, Steps, GoesOn, flush_of, is_swapping}
+use Rattle.bz_world.specs.WorldView.{mark_of, stepper, deadline, IsStruck, Spends, EndsFullOfLittle, EndsFullRightly, GetsBriefly, KeepsSupply, RunsWhole, Steps, GoesOn, flush_of, is_swapping}
 use Rattle.bz_world.specs.declared.answers.Applied.{Applied}
 use Rattle.bz_world.specs.declared.answers.Applied.TheVariants.{Stepped}
 use Rattle.bz_world.specs.declared.parts.Parts.{Parts}
 use Rattle.bz_world.proofs.Acting.{IsServed, is-served}
 use Rattle.bz_world.proofs.Marking.{act-calls}
 use Rattle.bz_world.proofs.Paid.{act-steps, steps-run, affords-room}
+use Rattle.bz_world.proofs.PaidSteps.{kept-supply}
 use Rattle.bz_world.proofs.Quiet.{serves}
 use Rattle.bz_world.proofs.Supplies.{shown-on, not-longer}
 
@@ -66,12 +66,20 @@ struck-steps w made past new (inr struck) = ap stepper struck.1.1 ∙ act-steps 
 
 -- the call of a worker that steps ends in time
 in-time : (p : Parts) → IsAwake p → (w : ℕ) → open_call w p.journal.past ≢ None → stepper p.journal.past ≡ Some w → length p.journal.past ≤ deadline p.config w p.journal.past
-in-time p k w some steps =
-    let s : IsServed p w (get_or p.workers.items w None) = is-served p k w some in
-    let h : IsServing p.config p.access p.journal k.story p.owners.items w s.serving = serves p k w s.serving s.is in
-    let paid : IsPaid p.access w (errand_of s.serving) s.serving.task (untold p.access (doing_of p.access w)) 0 (deadline p.config w p.journal.past) (scene p.config p.journal.past k.story w h.call_open.look.since h.opened).past = h.paid (steps-run p.config w p.journal.past steps) in
-    let room : suc (length p.journal.past) ≤ deadline p.config w p.journal.past = affords-room p.access w (errand_of s.serving) (length p.journal.past) (deadline p.config w p.journal.past) _ paid.affords in
-    omega (arith, room)
+in-time p k w some steps = within (affords-room Marks p.access w (errand_of s.serving) (used_in Marks p w) (bound_in Marks p w) _ (h.paid (steps-run p.config w p.journal.past steps) Marks tt).affords)
+  where
+    s : IsServed p w (get_or p.workers.items w None)
+    s = is-served p k w some
+
+    h : IsServing p.config p.access p.journal k.story p.owners.items (stock_of p) w s.serving
+    h = serves p k w s.serving s.is
+
+    within : length p.journal.past + left_to p.access w + 1 ≤ deadline p.config w p.journal.past → length p.journal.past ≤ deadline p.config w p.journal.past
+    within l = omega (arith, l)
+
+-- and it has taken no more than is promised for it, if its worker has stepped alone since its begin
+keeps-shown : (p : Parts) (k : IsAwake p) (w : ℕ) → open_call w p.journal.past ≢ None → RunsWhole p.config w p.journal.past → KeepsSupply (begun_with p) (world_view p).supply
+keeps-shown p k w some whole = let s : IsServed p w (get_or p.workers.items w None) = is-served p k w some in subst (KeepsSupply (begun_with p)) (sym (shown-on p k.on)) (kept-supply p k w s.serving s.is whole)
 
 -- an act after which the call goes on as it did
 pub stepped-on : (old new : Parts) (w : ℕ) → IsAwake old → IsAwake new → open_call w old.journal.past ≢ None → HasActed old w new → new.access.taken ≡ old.access.taken → Steps (world_view old) w Stepped (world_view new)
@@ -90,6 +98,9 @@ stepped-on old new w was is some a taken = record {
   others = λ v ne. flush-same old new v (a.others v ne);
   apart = λ v ne. swap-same old new v (a.others v ne);
   lone = in-time new is w (struck-open w a.made old.journal.past new.journal.past some a.struck) (struck-steps w a.made old.journal.past new.journal.past a.struck);
+  at_begin = ap begun_with a.rest;
+  supplied = keeps-shown new is w (struck-open w a.made old.journal.past new.journal.past some a.struck);
+  little = λ whole n at spent e. absurd (not-longer (End w n (Full spent) at) new.journal.past e);
 }
   where
     left : length new.slots.free ≡ length old.slots.free
@@ -117,6 +128,9 @@ stepped-through old mid told new w answer was a taken rest fewer few went = reco
   others = λ v ne. flush-same old new v (went.others v ne ∙ (ap (λ (p : Parts). worker_of p.access v) rest ∙ a.others v ne));
   apart = λ v ne. swap-same old new v (went.others v ne ∙ (ap (λ (p : Parts). worker_of p.access v) rest ∙ a.others v ne));
   lone = subst (λ (j : Log). length new.journal.past ≤ deadline new.config w j.past) journal went.lone;
+  at_begin = went.begun ∙ (ap begun_with rest ∙ ap begun_with a.rest);
+  supplied = λ whole. subst (KeepsSupply (begun_with new)) (sym (shown-on new went.kept.on)) (went.supplied (subst (λ (j : Log). RunsWhole new.config w j.past) (sym journal) whole));
+  little = λ whole. subst (λ (j : Log). EndsFullOfLittle new.config j w new.journal (begun_with new)) journal (went.little (subst (λ (j : Log). RunsWhole new.config w j.past) (sym journal) whole));
 }
   where
     journal : told.journal ≡ record old.journal { past = mid.journal.past }

@@ -29,9 +29,7 @@ use Rattle.bz_sound.specs.Memory.Spent.{is_stored_into}
 use Rattle.bz_sound.specs.Power.Times.{since_on}
 use Rattle.bz_story.proofs.Storing.{fills-stored}
 use Rattle.bz_world.proofs.Alone.{hears-on}
-use Rattle.bz_lone.specs.Sum.{IsPaid}
-use Rattle.bz_world.specs.Inside.Paid.{errand_of}
-use Rattle.bz_world.specs.WorldView.{deadline}
+use Rattle.bz_world.specs.Inside.Paid.{errand_of, no_extra, stock_of, IsPaidIn}
 use Rattle.bz_world.proofs.Meant.{call-meant-on}
 use Rattle.bz_world.proofs.Powered.{begun-in}
 use Rattle.bz_world.proofs.Staying.{covered-stays}
@@ -41,7 +39,7 @@ use Rattle.bz_world.proofs.Lonely.{lonely-act}
 use Rattle.bz_world.proofs.LonelyActs.{reads-now}
 
 module _ (b : StepLaws) (old new : Parts) (w : ℕ) (x : OpenCall) (made : Act) (answer : Done) (k : IsAwake old) (is-worker : get_or old.workers.items w None ≡ Some x) (a : IsActed old w made answer None new) (room : length old.journal.past < old.config.marks) where
-  abbrev pub its : IsServing old.config old.access old.journal k.story old.owners.items w x
+  abbrev pub its : IsServing old.config old.access old.journal k.story old.owners.items (stock_of old) w x
   its = serves old k w x is-worker
 
   module _ (d u : ℕ) (asked : its.asked ≡ todo.Store d u) (stores : doing_of old.access w ≡ Storing d u) (within : d < length old.access.cached) where
@@ -71,7 +69,7 @@ module _ (b : StepLaws) (old new : Parts) (w : ℕ) (x : OpenCall) (made : Act) 
     living : IsLiving old.config new.access (with_mark old.journal (mark_of w made)) after
     living = b.lives old.config old.access new.access old.journal k.story (mark_of w made) (fills old.config k.story w d) (goes b old new w x made answer k is-worker a) shown
 
-    others : (v : ℕ) → v ≢ w → IsSlot old.config new.access (with_mark old.journal (mark_of w made)) after old.owners.items v (get_or old.workers.items v None)
+    others : (v : ℕ) → v ≢ w → IsSlot old.config new.access (with_mark old.journal (mark_of w made)) after old.owners.items (stock_of old) v (get_or old.workers.items v None)
     others v ne = stays b old new w x made answer k is-worker a after v living refl (same-other b old new w x made answer k is-worker a v ne)
         (λ since opened begun. b.stores.others old.config old.access new.access old.journal k.story (mark_of w made) w d u its.call_open.look.since its.opened v since opened (goes b old new w x made answer k is-worker a) is-store ne begun) (λ j. refl) (fills-more v) refl (none-pays b old new w x made answer k is-worker a after v ne)
 
@@ -98,6 +96,6 @@ module _ (b : StepLaws) (old new : Parts) (w : ℕ) (x : OpenCall) (made : Act) 
       alone = hears-on old.config old.access new.access old.journal.past (mark_of w made) k.story after w its.call_open.look.since its.opened its.opened x.task (next_instant new.access (k.story.at (length old.journal.past))) refl its.call_open.look.by_now its.alone
           seen.Stored refl (ap (untold old.access) stores) (λ h e. absurd (cc e));
       meant = call-meant-on x before.past later.past its.tasked.laws stored.continues its.meant;
-      paid = subst (λ u. IsPaid new.access w (errand_of x) x.task u 0 (deadline old.config w (mark_of w made ∷ old.journal.past)) later.past) (ap (untold old.access) stores)
+      paid = subst (λ u. IsPaidIn old.config new.access (mark_of w made ∷ old.journal.past) (stock_of old) w (errand_of x) x.task u no_extra later.past) (ap (untold old.access) stores)
           (quiet-paid b old new w x made answer k is-worker a after living refl x its (let h : HasBegun old.journal k.story its.call_open.look.since = begun-in k.living its.call_open in record { from = h.from; by_now = omega (arith, h.by_now) }) stored.continues);
     })

@@ -26,16 +26,17 @@ use Rattle.bz_world.specs.Inside.Serving.{IsServing, IsSlot, stage_in}
 use Rattle.bz_world.specs.declared.parts.Parts.{Parts}
 use Rattle.bz_world.specs.declared.serving.OpenCall.{OpenCall}
 use Rattle.bz_lone.specs.Steps.{IsServing as Serves, effected_by, mark_of_effect}
-use Rattle.bz_lone.specs.Sum.{IsPaid}
+use Rattle.bz_lone.specs.FromCosts.Lone.{one_mark}
 use Rattle.bz_machine.specs.Allowed.{counted}
 use Rattle.bz_rivals.specs.Rivals.{is_own, rivals, foreign}
 use Rattle.bz_world.specs.Inside.Alone.{untold}
-use Rattle.bz_world.specs.Inside.Paid.{errand_of}
-use Rattle.bz_world.specs.WorldView.{stepper, deadline}
+use Rattle.bz_world.specs.Inside.Paid.{errand_of, no_extra, stock_of, IsPaidIn}
+use Rattle.bz_world.specs.WorldView.{stepper}
 use Rattle.bz_world.proofs.Alone.{untold-by, waits-beside, waits-struck}
 use Rattle.bz_world.proofs.Lonely.{now-is}
 use Rattle.bz_world.proofs.Meant.{call-meant-on, swaps-or-merges}
-use Rattle.bz_world.proofs.Paid.{none-of, run-on, flush-runs, paid-here, next-is, swapless, some-moment}
+use Rattle.bz_world.proofs.Paid.{none-of, flush-runs, paid-here, next-is, swapless, some-moment}
+use Rattle.bz_world.proofs.PaidSteps.{StepsFurther, foreign-in, less-in, own-in}
 use Rattle.bz_world.proofs.Powered.{begun-in, flush-leaves}
 use Rattle.bz_world.proofs.Owners.{IsOwner, is-owner}
 use Rattle.bz_world.proofs.Staying.{SameFor, Leaves, slot-stays}
@@ -71,7 +72,7 @@ module _ (b : StrikeLaws) (p : Parts) (s : ℕ) (h : IsStriking p s) where
   abbrev pub x : OpenCall
   x = owner.serving
 
-  abbrev pub its : IsServing old.config old.access old.journal kept.story old.owners.items w x
+  abbrev pub its : IsServing old.config old.access old.journal kept.story old.owners.items (stock_of old) w x
   its = owner.serves
 
   abbrev pub before : Scene
@@ -142,7 +143,7 @@ module _ (b : StrikeLaws) (p : Parts) (s : ℕ) (h : IsStriking p s) where
   struck-meant = call-meant-on x before.past later.past its.tasked.laws takes-effect.continues its.meant
 
   -- the call of a worker that serves one is open, so it is one of the workers
-  a-worker : (v : ℕ) (y : OpenCall) (t : IsServing old.config old.access old.journal kept.story old.owners.items v y) → (0 < v) × (v ≤ old.config.workers)
+  a-worker : (v : ℕ) (y : OpenCall) (t : IsServing old.config old.access old.journal kept.story old.owners.items (stock_of old) v y) → (0 < v) × (v ≤ old.config.workers)
   a-worker v y t = (
     elim (cases_eq v 0) [
       | inl e ↦ absurd (cc (kept.tabled.strangers v (inl e), t.call_open.is_open))
@@ -155,7 +156,7 @@ module _ (b : StrikeLaws) (p : Parts) (s : ℕ) (h : IsStriking p s) where
   )
 
   -- what it was paid before
-  was-paid : (v : ℕ) (y : OpenCall) (t : IsServing old.config old.access old.journal kept.story old.owners.items v y) → IsPaid old.access v (errand_of y) y.task (untold old.access (doing_of old.access v)) 0 (deadline old.config v old.journal.past) (scene old.config old.journal.past kept.story v t.call_open.look.since t.opened).past
+  was-paid : (v : ℕ) (y : OpenCall) (t : IsServing old.config old.access old.journal kept.story old.owners.items (stock_of old) v y) → IsPaidIn old.config old.access old.journal.past (stock_of old) v (errand_of y) y.task (untold old.access (doing_of old.access v)) no_extra (scene old.config old.journal.past kept.story v t.call_open.look.since t.opened).past
   was-paid v y t = paid-here b.paid old kept v y t (a-worker v y t).0 (a-worker v y t).1
 
   -- its task serves the call as far as it has come
@@ -166,15 +167,18 @@ module _ (b : StrikeLaws) (p : Parts) (s : ℕ) (h : IsStriking p s) where
     meant = λ quiet. its.meant.meant (none-of x.effect quiet);
   }
 
+  further : (v : ℕ) → stepper (h.mark ∷ old.journal.past) ≡ Some v → StepsFurther old.access p.access v
+  further v steps = record { left = (h.stepped v steps).left; taken = h.work.taken }
+
   -- where its worker made the act by which its own swap took effect, it is paid for, and for the mark of that if there is one
-  pub own-paid : stepper (h.mark ∷ old.journal.past) ≡ Some w → IsPaid p.access w (effected_by (publishing_of x.task) (errand_of x)) x.task 1 (mark_of_effect (publishing_of x.task)) (deadline old.config w old.journal.past) later.past
-  own-paid steps = b.paid.own old.access p.access w (errand_of x) x.task (entries_of old.access s) (deadline old.config w old.journal.past) before (effect_instant old.config p.access (kept.story.at (length old.journal.past))) later.past
+  pub own-paid : stepper (h.mark ∷ old.journal.past) ≡ Some w → IsPaidIn old.config p.access (h.mark ∷ old.journal.past) (stock_of old) w (effected_by (publishing_of x.task) (errand_of x)) x.task 1 (λ r. mark_of_effect r (publishing_of x.task)) later.past
+  own-paid steps = own-in b.paid old.config old.access p.access old.journal.past h.mark (stock_of old) w (errand_of x) x.task (entries_of old.access s) before (effect_instant old.config p.access (kept.story.at (length old.journal.past))) later.past
       (record { laws = its.tasked.laws; good = before-seen.scene; config = sym its.tasked.config; knows = waits; asks = owner.asks; leads = took-place.swaps (omega (arith, few, kept.living.effects)) })
       serves its.meant.fit.words
       (next-is old.config old.journal.past h.mark kept.story after w its.call_open.look.since its.opened opened (effect_instant old.config p.access (kept.story.at (length old.journal.past))) 1 refl its.call_open.look.by_now refl takes-effect.continues)
       (now-is kept.story.at (length old.journal.past) (effect_instant old.config p.access (kept.story.at (length old.journal.past))))
-      (let stepped : StepsAt old.access p.access w s = h.stepped w steps in record { left = stepped.left; rivals = omega (arith, stepped.rivals) })
-      (subst (λ u. IsPaid old.access w (errand_of x) x.task u 0 (deadline old.config w old.journal.past) before.past) (ap (untold old.access) h.takes.effect.pending ∙ ap (λ (z : Bool). if z then 1 else 0) h.takes.effect.before) (was-paid w x its))
+      steps (further w steps) (let stepped : StepsAt old.access p.access w s = h.stepped w steps in omega (arith, stepped.rivals))
+      (subst (λ u. IsPaidIn old.config old.access old.journal.past (stock_of old) w (errand_of x) x.task u no_extra before.past) (ap (untold old.access) h.takes.effect.pending ∙ ap (λ (z : Bool). if z then 1 else 0) h.takes.effect.before) (was-paid w x its))
 
   -- no other worker does this swap
   other-swap : (v : ℕ) → v ≢ w → (t : ℕ) → doing_of old.access v ≡ Swapping t → t ≢ s
@@ -202,17 +206,16 @@ module _ (b : StrikeLaws) (p : Parts) (s : ℕ) (h : IsStriking p s) where
   lawful-other v ne m o begins = b.told.others old.config old.access p.access old.journal kept.story h.mark s w its.call_open.look.since its.opened (publishing_of x.task) (change_of x.task) v m o strikes-it ne begins
 
   -- of the worker that made the act, if that is another one, the call is paid for, and the mark of this effect too
-  pub other-paid : (v : ℕ) → v ≢ w → (y : OpenCall) (t : IsServing old.config old.access old.journal kept.story old.owners.items v y) → stepper (h.mark ∷ old.journal.past) ≡ Some v
-      → IsPaid p.access v (errand_of y) y.task (untold p.access (doing_of p.access v)) 1 (deadline old.config v (h.mark ∷ old.journal.past)) (scene old.config (h.mark ∷ old.journal.past) after v t.call_open.look.since t.opened).past
+  pub other-paid : (v : ℕ) → v ≢ w → (y : OpenCall) (t : IsServing old.config old.access old.journal kept.story old.owners.items (stock_of old) v y) → stepper (h.mark ∷ old.journal.past) ≡ Some v
+      → IsPaidIn old.config p.access (h.mark ∷ old.journal.past) (stock_of old) v (errand_of y) y.task (untold p.access (doing_of p.access v)) one_mark (scene old.config (h.mark ∷ old.journal.past) after v t.call_open.look.since t.opened).past
   other-paid v ne y t steps =
-      subst (λ by. IsPaid p.access v (errand_of y) y.task (untold p.access (doing_of p.access v)) 1 by (scene old.config (h.mark ∷ old.journal.past) after v t.call_open.look.since t.opened).past) (sym (run-on old.config v h.mark old.journal.past steps))
-      (subst (λ u. IsPaid p.access v (errand_of y) y.task u 1 (deadline old.config v old.journal.past) (scene old.config (h.mark ∷ old.journal.past) after v t.call_open.look.since t.opened).past)
+      subst (λ u. IsPaidIn old.config p.access (h.mark ∷ old.journal.past) (stock_of old) v (errand_of y) y.task u one_mark (scene old.config (h.mark ∷ old.journal.past) after v t.call_open.look.since t.opened).past)
       (sym (ap (untold p.access) (same-other v ne).doing ∙ untold-by old.access p.access (doing_of old.access v) (same-other v ne).effects))
-      (b.paid.foreign old.access p.access v (errand_of y) y.task (untold old.access (doing_of old.access v)) (deadline old.config v old.journal.past) (scene old.config old.journal.past kept.story v t.call_open.look.since t.opened).past
+      (foreign-in b.paid old.config old.access p.access old.journal.past h.mark (stock_of old) v (errand_of y) y.task (untold old.access (doing_of old.access v)) (scene old.config old.journal.past kept.story v t.call_open.look.since t.opened).past
       (scene old.config (h.mark ∷ old.journal.past) after v t.call_open.look.since t.opened).past
       (next-is old.config old.journal.past h.mark kept.story after v t.call_open.look.since t.opened t.opened (effect_instant old.config p.access (kept.story.at (length old.journal.past))) 1 refl t.call_open.look.by_now refl
       (lawful-other v ne t.call_open.look.since t.opened (begun-in kept.living t.call_open)).continues)
-      (h.stepped v steps).left fewer (was-paid v y t)))
+      steps (further v steps) fewer (was-paid v y t))
     where
       fewer : rivals p.access v + 1 ≤ rivals old.access v
       fewer = let l : rivals p.access v + foreign old.access v (Some s) ≤ rivals old.access v = (h.stepped v steps).rivals in
@@ -229,6 +232,6 @@ module _ (b : StrikeLaws) (p : Parts) (s : ℕ) (h : IsStriking p s) where
     alone = λ m o t l waits. waits-beside old.config old.access p.access old.journal.past h.mark kept.story after v m o o t (effect_instant old.config p.access (kept.story.at (length old.journal.past))) refl l waits refl (same-other v ne).doing (same-other v ne).effects;
   }
 
-  pub others : (v : ℕ) → v ≢ w → IsSlot old.config p.access (with_mark old.journal h.mark) after old.owners.items v (get_or old.workers.items v None)
-  others v ne = slot-stays b.scenes b.stay old.config old.access p.access old.journal h.mark kept.story after old.owners.items v (get_or old.workers.items v None) living (leaves v ne)
-      (λ y t runs. b.paid.less p.access v (errand_of y) y.task (untold p.access (doing_of p.access v)) 1 0 (deadline old.config v (h.mark ∷ old.journal.past)) (scene old.config (h.mark ∷ old.journal.past) after v t.call_open.look.since t.opened).past (omega arith) (other-paid v ne y t (flush-runs old.config v (h.mark ∷ old.journal.past) h.flush runs))) (kept.workers v)
+  pub others : (v : ℕ) → v ≢ w → IsSlot old.config p.access (with_mark old.journal h.mark) after old.owners.items (stock_of old) v (get_or old.workers.items v None)
+  others v ne = slot-stays b.scenes b.stay old.config old.access p.access old.journal h.mark kept.story after old.owners.items (stock_of old) (stock_of old) v (get_or old.workers.items v None) living (leaves v ne)
+      (λ y t runs. less-in b.paid old.config p.access (h.mark ∷ old.journal.past) (stock_of old) v (errand_of y) y.task (untold p.access (doing_of p.access v)) one_mark (scene old.config (h.mark ∷ old.journal.past) after v t.call_open.look.since t.opened).past (other-paid v ne y t (flush-runs old.config v (h.mark ∷ old.journal.past) h.flush runs))) (kept.workers v)

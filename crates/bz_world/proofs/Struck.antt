@@ -15,6 +15,7 @@ use Rattle.bz_world.specs.declared.parts.Parts.{Parts}
 use Rattle.bz_world.specs.declared.serving.OpenCall.{OpenCall}
 use Rattle.bz_world.proofs.Quiet.{within-crew}
 use Rattle.bz_world.specs.Inside.Laws.{StrikeLaws}
+use Rattle.bz_world.specs.Inside.Paid.{stock_of}
 use Rattle.bz_world.proofs.Striking.{w, x, its, owner}
 use Rattle.bz_world.proofs.StruckQuietly.{struck-quietly}
 use Rattle.bz_world.proofs.Published.{published}
@@ -30,7 +31,7 @@ kept-workers p workers k size same = record {
   living = k.living;
   sound = k.sound;
   free = k.free;
-  workers = λ v. subst (IsSlot p.config p.access p.journal k.story p.owners.items v) (sym (same v)) (k.workers v);
+  workers = λ v. subst (IsSlot p.config p.access p.journal k.story p.owners.items (stock_of p) v) (sym (same v)) (k.workers v);
   lonely = λ v x opened is. k.lonely v x opened (sym (same v) ∙ is);
 }
 

@@ -21,11 +21,9 @@ use Rattle.bz_world.specs.Inside.Serving.{IsServing, IsSlot, IsSwapping, stage_i
 use Rattle.bz_world.specs.declared.parts.Parts.{Parts}
 use Rattle.bz_world.specs.Inside.Laws.{StrikeLaws}
 use Rattle.bz_lone.specs.Steps.{effected_by, mark_of_effect}
-use Rattle.bz_lone.specs.Sum.{IsPaid}
 use Rattle.bz_world.specs.Inside.Alone.{untold}
-use Rattle.bz_world.specs.Inside.Paid.{errand_of}
-use Rattle.bz_world.specs.WorldView.{deadline}
-use Rattle.bz_world.proofs.Paid.{run-on, flush-runs}
+use Rattle.bz_world.specs.Inside.Paid.{errand_of, no_extra, stock_of, IsPaidIn}
+use Rattle.bz_world.proofs.Paid.{flush-runs}
 use Rattle.bz_world.proofs.LonelyActs.{none-struck}
 use Rattle.bz_world.proofs.Powered.{looks-on, flush-leaves, free-on}
 use Rattle.bz_world.proofs.Staying.{told-stays, wanted-stays, finishing-stays}
@@ -76,7 +74,7 @@ module _ (b : StrikeLaws) (p : Parts) (s : ℕ) (h : IsStriking p s) where
     sound : IsSound (old b p s h).config (old b p s h).at_start (with_mark (old b p s h).journal h.mark)
     sound = b.flushes (old b p s h).config (old b p s h).at_start (old b p s h).journal h.mark (kept b p s h).sound h.flush h.follows (b.same (old b p s h).config (old b p s h).at_start (old b p s h).journal h.mark (kept b p s h).sound h.flush fault-is same-content)
 
-    serves-on : IsServing (old b p s h).config p.access (with_mark (old b p s h).journal h.mark) (after b p s h) (old b p s h).owners.items (w b p s h) (x b p s h)
+    serves-on : IsServing (old b p s h).config p.access (with_mark (old b p s h).journal h.mark) (after b p s h) (old b p s h).owners.items (stock_of (old b p s h)) (w b p s h) (x b p s h)
     serves-on = record {
       opened = (its b p s h).opened;
       call_open = record {
@@ -97,17 +95,17 @@ module _ (b : StrikeLaws) (p : Parts) (s : ℕ) (h : IsStriking p s) where
       covered = (its b p s h).covered;
       alone = struck-alone b p s h;
       meant = struck-meant b p s h;
-      paid = λ runs. let steps = flush-runs (old b p s h).config (w b p s h) (h.mark ∷ (old b p s h).journal.past) h.flush runs in subst (λ u. IsPaid p.access (w b p s h) (errand_of (x b p s h)) (x b p s h).task u 0 (deadline (old b p s h).config (w b p s h) (h.mark ∷ (old b p s h).journal.past)) (later b p s h).past)
+      paid = λ runs. let steps = flush-runs (old b p s h).config (w b p s h) (h.mark ∷ (old b p s h).journal.past) h.flush runs in
+          subst (λ u. IsPaidIn (old b p s h).config p.access (h.mark ∷ (old b p s h).journal.past) (stock_of (old b p s h)) (w b p s h) (errand_of (x b p s h)) (x b p s h).task u no_extra (later b p s h).past)
           (sym (ap (untold p.access) still-does ∙ ap (λ (z : Bool). if z then 1 else 0) h.takes.effect.done))
-          (subst (λ by. IsPaid p.access (w b p s h) (errand_of (x b p s h)) (x b p s h).task 1 0 by (later b p s h).past) (sym (run-on (old b p s h).config (w b p s h) h.mark (old b p s h).journal.past steps))
-          (subst (λ z. IsPaid p.access (w b p s h) (effected_by z (errand_of (x b p s h))) (x b p s h).task 1 (mark_of_effect z) (deadline (old b p s h).config (w b p s h) (old b p s h).journal.past) (later b p s h).past) silent (own-paid b p s h steps)));
+          (subst (λ z. IsPaidIn (old b p s h).config p.access (h.mark ∷ (old b p s h).journal.past) (stock_of (old b p s h)) (w b p s h) (effected_by z (errand_of (x b p s h))) (x b p s h).task 1 (λ r. mark_of_effect r z) (later b p s h).past) silent (own-paid b p s h steps));
     }
 
-    slots : (v : ℕ) → IsSlot (old b p s h).config p.access (with_mark (old b p s h).journal h.mark) (after b p s h) (old b p s h).owners.items v (get_or (old b p s h).workers.items v None)
+    slots : (v : ℕ) → IsSlot (old b p s h).config p.access (with_mark (old b p s h).journal h.mark) (after b p s h) (old b p s h).owners.items (stock_of (old b p s h)) v (get_or (old b p s h).workers.items v None)
     slots v = elim (cases_eq v (w b p s h)) [
       | inr ne ↦ others b p s h v ne
-      | inl e ↦ subst (λ u. IsSlot (old b p s h).config p.access (with_mark (old b p s h).journal h.mark) (after b p s h) (old b p s h).owners.items u (get_or (old b p s h).workers.items u None)) (sym e)
-          (subst (IsSlot (old b p s h).config p.access (with_mark (old b p s h).journal h.mark) (after b p s h) (old b p s h).owners.items (w b p s h)) (sym (owner b p s h).is) serves-on)
+      | inl e ↦ subst (λ u. IsSlot (old b p s h).config p.access (with_mark (old b p s h).journal h.mark) (after b p s h) (old b p s h).owners.items (stock_of (old b p s h)) u (get_or (old b p s h).workers.items u None)) (sym e)
+          (subst (IsSlot (old b p s h).config p.access (with_mark (old b p s h).journal h.mark) (after b p s h) (old b p s h).owners.items (stock_of (old b p s h)) (w b p s h)) (sym (owner b p s h).is) serves-on)
     ]
 
     pub struck-quietly : IsAwake p

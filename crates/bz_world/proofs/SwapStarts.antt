@@ -32,9 +32,8 @@ use Rattle.bz_world.specs.Inside.Serving.{IsServing, IsDoing, IsSlot, stage_in}
 use Rattle.bz_world.specs.Inside.Telling.{MustStart}
 use Rattle.bz_world.specs.declared.parts.Parts.{Parts}
 use Rattle.bz_world.specs.declared.serving.OpenCall.{OpenCall}
-use Rattle.bz_lone.specs.Sum.{IsPaid}
-use Rattle.bz_world.specs.Inside.Paid.{errand_of}
-use Rattle.bz_world.specs.WorldView.{deadline}
+use Rattle.bz_world.specs.Inside.Paid.{errand_of, no_extra, stock_of, IsPaidIn}
+use Rattle.bz_world.proofs.PaidSteps.{starts-in}
 use Rattle.bz_world.proofs.Alone.{waits-same}
 use Rattle.bz_world.proofs.AloneStarts.{stands-now, starts-well, well-beside}
 use Rattle.bz_world.proofs.Lonely.{in-place, only-own}
@@ -48,7 +47,7 @@ module _ (scenes : ScenesAreSeen) (hidden : OwnWordsAreHidden) (p : Parts) (w : 
   between = m.asking.between
 
   -- the stores that others do are hidden
-  store-by : (v a u : ℕ) (x : OpenCall) (h : IsServing p.config p.access p.journal between.story p.owners.items v x) (t : Todo) → h.asked ≡ t → IsDoing p.access p.owners.items v t → doing_of p.access v ≡ Storing a u → IsHidden p.config (between.story.at (length p.journal.past)) a
+  store-by : (v a u : ℕ) (x : OpenCall) (h : IsServing p.config p.access p.journal between.story p.owners.items (stock_of p) v x) (t : Todo) → h.asked ≡ t → IsDoing p.access p.owners.items v t → doing_of p.access v ≡ Storing a u → IsHidden p.config (between.story.at (length p.journal.past)) a
   store-by v a u x h (todo.Read c) e d storing = absurd (cc (d, storing))
   store-by v a u x h (todo.Load c) e d storing = absurd d
   store-by v a u x h (todo.Flush line) e d storing = absurd (cc (d.0, storing))
@@ -63,7 +62,7 @@ module _ (scenes : ScenesAreSeen) (hidden : OwnWordsAreHidden) (p : Parts) (w : 
       (subst (λ z. facts_of x.task z (scene p.config p.journal.past between.story v h.call_open.look.since h.opened)) (ap (stage_in p.access) storing) h.facts) sees.scene (h.asks ∙ ap Some (e ∙ same)) in
       hidden p.config (between.story.at (length p.journal.past)) (scene p.config p.journal.past between.story v h.call_open.look.since h.opened) a sees own.mine
 
-  slot-store : (v a u : ℕ) (slot : Option OpenCall) → IsSlot p.config p.access p.journal between.story p.owners.items v slot → doing_of p.access v ≡ Storing a u → IsHidden p.config (between.story.at (length p.journal.past)) a
+  slot-store : (v a u : ℕ) (slot : Option OpenCall) → IsSlot p.config p.access p.journal between.story p.owners.items (stock_of p) v slot → doing_of p.access v ≡ Storing a u → IsHidden p.config (between.story.at (length p.journal.past)) a
   slot-store v a u None h storing = absurd (cc (h.idle, storing))
   slot-store v a u (Some x) h storing = store-by v a u x h h.asked refl h.doing storing
 
@@ -134,11 +133,11 @@ module _ (lone : AloneLaws) (starts : StartsAreSeen) (scenes : ScenesAreSeen) (b
       alone-by none = omega (arith, told.1, none)
 
   -- its start is paid for
-  pays : IsPaid new w (errand_of m.serving) m.serving.task 0 0 (deadline p.config w p.journal.past) its-scene.past
-  pays = lone.paid.starts p.access new w (errand_of m.serving) m.serving.task 0 (deadline p.config w p.journal.past) (todo.Swap entries) its-scene.past
-      (lone.paid.steps.swap p.access w entries) (lone.paid.rivals.swap p.access w entries) m.asking.paid
+  pays : IsPaidIn p.config new p.journal.past (stock_of p) w (errand_of m.serving) m.serving.task 0 no_extra its-scene.past
+  pays = starts-in lone.paid p.config p.access new p.journal.past (stock_of p) w (errand_of m.serving) m.serving.task 0 (todo.Swap entries) its-scene.past
+      (record { left = lone.paid.steps.swap p.access w entries; taken = omega arith; rivals = lone.paid.rivals.swap p.access w entries }) m.asking.paid
 
-  serves-on : IsServing p.config new p.journal was.story owners.items w m.serving
+  serves-on : IsServing p.config new p.journal was.story owners.items (stock_of p) w m.serving
   serves-on = record {
     opened = was.opened;
     call_open = was.call_open;
@@ -154,11 +153,11 @@ module _ (lone : AloneLaws) (starts : StartsAreSeen) (scenes : ScenesAreSeen) (b
     covered = m.asking.covered;
     alone = waits-now;
     meant = m.asking.meant;
-    paid = λ steps. subst (λ u. IsPaid new w (errand_of m.serving) m.serving.task u 0 (deadline p.config w p.journal.past) its-scene.past) (sym none-yet) pays;
+    paid = λ steps. subst (λ u. IsPaidIn p.config new p.journal.past (stock_of p) w (errand_of m.serving) m.serving.task u no_extra its-scene.past) (sym none-yet) pays;
   }
 
   -- the others do what they did
-  other-begun : (v : ℕ) (slot : Option OpenCall) → IsSlot p.config p.access p.journal was.story p.owners.items v slot → (s : ℕ) → doing_of p.access v ≡ Swapping s → s < p.access.taken
+  other-begun : (v : ℕ) (slot : Option OpenCall) → IsSlot p.config p.access p.journal was.story p.owners.items (stock_of p) v slot → (s : ℕ) → doing_of p.access v ≡ Swapping s → s < p.access.taken
   other-begun v None h s e = absurd (cc (h.idle, e))
   other-begun v (Some x) h s e = by-doing h.asked h.doing
     where
@@ -170,10 +169,10 @@ module _ (lone : AloneLaws) (starts : StartsAreSeen) (scenes : ScenesAreSeen) (b
       by-doing todo.Finish d = absurd d
       by-doing (todo.Swap others) d = let same : d.swap ≡ s = cc (d.doing, e) in subst (λ t. t < p.access.taken) same d.begun
 
-  other-slot : (v : ℕ) → v ≢ w → IsSlot p.config new p.journal was.story owners.items v (get_or p.workers.items v None)
+  other-slot : (v : ℕ) → v ≢ w → IsSlot p.config new p.journal was.story owners.items (stock_of p) v (get_or p.workers.items v None)
   other-slot v ne = slot-of (get_or p.workers.items v None) (was.others v ne)
     where
-      slot-of : (slot : Option OpenCall) → IsSlot p.config p.access p.journal was.story p.owners.items v slot → IsSlot p.config new p.journal was.story owners.items v slot
+      slot-of : (slot : Option OpenCall) → IsSlot p.config p.access p.journal was.story p.owners.items (stock_of p) v slot → IsSlot p.config new p.journal was.story owners.items (stock_of p) v slot
       slot-of None h = record { none_open = h.none_open; idle = starts-others p.access w v (Swapping p.access.taken) ne ∙ h.idle; filled = h.filled }
       slot-of (Some x) h = record {
         opened = h.opened;
@@ -214,11 +213,11 @@ module _ (lone : AloneLaws) (starts : StartsAreSeen) (scenes : ScenesAreSeen) (b
             list = d.list;
           }
 
-  slots : (v : ℕ) → IsSlot p.config new p.journal was.story owners.items v (get_or p.workers.items v None)
+  slots : (v : ℕ) → IsSlot p.config new p.journal was.story owners.items (stock_of p) v (get_or p.workers.items v None)
   slots v = elim (cases_eq v w) [
     | inr ne ↦ other-slot v ne
-    | inl e ↦ subst (λ u. IsSlot p.config new p.journal was.story owners.items u (get_or p.workers.items u None)) (sym e)
-        (subst (IsSlot p.config new p.journal was.story owners.items w) (sym m.is) serves-on)
+    | inl e ↦ subst (λ u. IsSlot p.config new p.journal was.story owners.items (stock_of p) u (get_or p.workers.items u None)) (sym e)
+        (subst (IsSlot p.config new p.journal was.story owners.items (stock_of p) w) (sym m.is) serves-on)
   ]
 
   pub swapping-kept : IsAwake (record p { access = new; owners = owners })

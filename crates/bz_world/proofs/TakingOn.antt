@@ -1,5 +1,5 @@
 -- A call that gets another task.
-use Rattle.std.proofs.Common.{◌≡◌, ◌≢◌, ◌⊎◌, ◌≤◌, ◌<◌, ◌+◌, ℕ, Bool, true, false, List, [], length, arith, refl, sym, ap, subst, ◌∙◌, inl, inr, Option, Some, None}
+use Rattle.std.proofs.Common.{◌≡◌, ◌≢◌, ◌⊎◌, ◌≤◌, ◌<◌, ◌+◌, ◌-◌, ℕ, Bool, true, false, List, [], length, arith, refl, sym, ap, subst, ◌∙◌, inl, inr, Option, Some, None}
 use Rattle.std.specs.Prelude.{get_or, IsSome}
 use Rattle.std.specs.Global.{Vec}
 use Rattle.std.specs.Vec.{with_item}
@@ -20,7 +20,7 @@ use Rattle.bz_sound.specs.Lonely.{IsLonely}
 use Rattle.bz_story.specs.Laws.{ScenesAreSeen}
 use Rattle.bz_swap.specs.SwapMemory.{SwapMemory, worker_of}
 use Rattle.bz_task.specs.Outcomes.{IsPath}
-use Rattle.bz_task.specs.Requests.{Hears, Tells}
+use Rattle.bz_task.specs.Requests.{Hears, Tells, swaps_in}
 use Rattle.bz_task.specs.Scene.{Past, Scene, IsScene, HasFilled, Waiting}
 use Rattle.bz_task.specs.declared.path.Path.{Path}
 use Rattle.bz_task.specs.declared.view.LeafView.{LeafView}
@@ -36,29 +36,33 @@ use Rattle.bz_task.specs.declared.todo.Seen.TheVariants.{Start, NoSwap}
 use Rattle.bz_task.specs.declared.todo.Todo.{Todo}
 use Rattle.bz_task.specs.declared.todo.Todo.TheVariants.{Read, Finish}
 use Rattle.bz_world.specs.Inside.Acted.{IsBetween, MustTell}
-use Rattle.bz_world.specs.Inside.Going.{MustGoOn, MustLookUp, MustLookUpAs, MustTakeOn, MustRead, MustReadWhole, HasRoomForEnd, allowed_for, HadEffect, HasReadAfter, LacksSwap, known, call_in, end_in, path_in, WentOn, MayGoOnIn}
+use Rattle.bz_world.specs.Inside.Going.{MustGoOn, MustLookUp, MustLookUpAs, MustTakeOn, MustRead, MustReadWhole, HasRoomForEnd, taken_for, HadEffect, HasReadAfter, LacksSwap, known, call_in, end_in, path_in, WentOn, MayGoOnIn}
 use Rattle.bz_world.specs.Inside.Beginning.{supply_of}
 use Rattle.bz_world.specs.Inside.Kept.{IsAwake}
 use Rattle.bz_world.specs.Inside.Laws.{AloneLaws}
 use Rattle.bz_world.specs.Inside.Lonely.{WhereLonely, IsNotLonely, IsNotLonelyIn, IsLonelyGet, HasLooked, AsksBriefly}
 use Rattle.bz_lone.specs.FromAlone.Alone.{IsAlone}
-use Rattle.bz_lone.specs.FromCosts.Weights.{start_allows}
+use Rattle.bz_layout.specs.declared.thresholds.TheConstants.{SWAPS_PER_CALL}
+use Rattle.bz_lone.specs.FromCosts.Resources.{Resource, Marks, Descriptors}
+use Rattle.bz_lone.specs.FromCosts.Weights.{start_takes, weigh}
+use Rattle.bz_swap.specs.Alone.{left_to}
 use Rattle.bz_layout.specs.declared.config.Config.{Config}
 use Rattle.bz_lone.specs.FromCosts.Most.{most_of_leaf}
 use Rattle.bz_lone.specs.Errands.{Errand, is_read, is_freeze, after}
 use Rattle.bz_lone.specs.Prices.{coming}
 use Rattle.bz_lone.specs.Rounds.{stage_now}
-use Rattle.bz_lone.specs.Sum.{Affords, Round, Disturbed, Clean, reserve, prices_of, Spares, PaysForRound}
+use Rattle.bz_lone.specs.Sum.{Affords, Round, Disturbed, Clean, reserve, prices_of, Spares}
 use Rattle.bz_mark.specs.Log.{Log}
 use Rattle.bz_running.specs.Kinds as kinds
 use Rattle.bz_running.specs.Kinds.{kind_of}
 use Rattle.std.proofs.lemmas.Bool.{true≢false}
 use Rattle.bz_world.specs.Inside.Laws.{RoundLaws}
 use Rattle.bz_world.specs.Inside.Meant.{IsMeant}
-use Rattle.bz_world.specs.Inside.Paid.{errand_of, is_merge, crowded, IsPaidFor, HasToSpare}
+use Rattle.bz_world.specs.Inside.Paid.{begun_with, bound_in, crowded, errand_of, is_merge, stock_of, used_in, IsPaidFor, HasARoundAs, HasToSpare}
 use Rattle.bz_world.specs.WorldView.{deadline}
 use Rattle.bz_world.proofs.Paid.{swaps-write, swapless}
-use Rattle.bz_world.specs.WorldView.{GoesOn, EndsFullRightly, GetsBriefly}
+use Rattle.bz_world.proofs.PaidSteps.{kept-supply, less-in, room-of}
+use Rattle.bz_world.specs.WorldView.{GoesOn, EndsFullOfLittle, EndsFullRightly, GetsBriefly, RunsWhole}
 use Rattle.bz_world.specs.Inside.Serving.{IsOpened, IsSlot, IsToldBy, IsWanted, MayGoOn, effect_reply}
 use Rattle.bz_world.specs.Inside.Telling.{MustStart, HasTold, HasToldIn, LacksDescriptor, MustTellOf, MustStartOf, MustBegin}
 use Rattle.bz_world.specs.declared.answers.Applied.{Applied}
@@ -120,7 +124,7 @@ lacks-told lone p w todo m lacks = record {
         (lone.scenes p.config p.access p.journal m.asking.between.story w m.asking.between.call_open.look.since m.asking.between.opened m.asking.between.living (begun-in m.asking.between.living m.asking.between.call_open)).scene
         (sym m.asking.tasked.config) m.asking.facts NoSwap refl (λ e. absurd (cc e));
     meant = m.asking.meant;
-    paid = lone.paid.less p.access w (errand_of m.serving) m.serving.task 0 (start_allows todo) 0 (deadline p.config w p.journal.past) (scene p.config p.journal.past m.asking.between.story w m.asking.between.call_open.look.since m.asking.between.opened).past (omega arith) m.asking.paid;
+    paid = less-in lone.paid p.config p.access p.journal.past (stock_of p) w (errand_of m.serving) m.serving.task 0 (λ r. start_takes r todo) (scene p.config p.journal.past m.asking.between.story w m.asking.between.call_open.look.since m.asking.between.opened).past m.asking.paid;
   };
 }
 
@@ -137,13 +141,24 @@ pub lacks-swap : RoundLaws → (p : Parts) (w : ℕ) (todo then : Todo) (m : Mus
 lacks-swap b p w todo then m lacks q moment free left rest asks told = record {
   on = must-go-on q w then asks (Full Swaps) (heard.heard.no_swap refl) (λ key get lonely. absurd (lacks-other p w todo then m lacks q moment free left rest asks told key get lonely));
   spent = ap (λ (z : Parts). z.access.taken) rest ∙ (lacks.spent ∙ sym (ap (λ (z : Parts). z.config.swaps) rest));
-  room = let l = b.afforded q.access w (errand_of asks.serving) asks.serving.task 0 (start_allows then) (deadline q.config w q.journal.past) (scene q.config q.journal.past asks.asking.between.story w asks.asking.between.call_open.look.since asks.asking.between.opened).past asks.asking.paid in omega (arith, l);
+  little = λ whole. omega (
+    arith,
+    few (b.afforded Descriptors p.access w (errand_of m.serving) m.serving.task 0 (start_takes Descriptors todo) (used_in Descriptors p w) (bound_in Descriptors p w) (scene p.config p.journal.past m.asking.between.story w m.asking.between.call_open.look.since m.asking.between.opened).past
+        (m.asking.paid Descriptors (subst (λ (z : Parts). RunsWhole z.config w z.journal.past) rest whole))),
+    ap (λ (z : Parts). z.config.swaps) rest,
+    ap (λ (z : Parts). z.taken_then) rest,
+  );
+  room = room-of b q w asks.serving 0 (λ r. start_takes r then) (scene q.config q.journal.past asks.asking.between.story w asks.asking.between.call_open.look.since asks.asking.between.opened).past asks.asking.paid;
   write = λ quiet. subst (λ (x : OpenCall). is_read x.call ≡ false) (sym heard.rest) (swaps-write m.serving.call (kind_of m.serving.task) (m.asking.meant.look (sym (ap (λ (x : OpenCall). x.effect) heard.rest) ∙ quiet))
       (λ look. swapless b.asked m.serving.task lacks.entries (m.asking.asks ∙ ap Some lacks.is) (m.asking.tasked.laws.looks look).swaps));
 }
   where
     heard : HasTold m.serving NoSwap moment free then asks.serving left
     heard = subst (λ z. HasToldIn z NoSwap moment free then (Some asks.serving) left) m.is (subst (λ z. HasToldIn (get_or p.workers.items w None) NoSwap moment free then z left) asks.is told)
+
+    -- the descriptor that is asked for was still to be had, by what is promised for the call
+    few : p.access.taken - p.taken_then + (start_takes Descriptors todo + weigh Descriptors m.serving.task) + 0 ≤ SWAPS_PER_CALL → p.config.swaps < p.taken_then + SWAPS_PER_CALL
+    few l = omega (arith, l, lacks.spent, ap (λ (z : Todo). swaps_in (Some z)) lacks.is)
 
 -- the world but for the worker's task
 pub between-tasks : (p : Parts) (w : ℕ) (x y : OpenCall) (b : IsBetween p w x) (workers : Vec (Option OpenCall)) → length workers.items ≡ length p.workers.items → ((v : ℕ) → v ≢ w → get_or workers.items v None ≡ get_or p.workers.items v None)
@@ -156,7 +171,7 @@ between-tasks p w x y b workers size rest opened = record {
   living = b.living;
   sound = b.sound;
   free = b.free;
-  others = λ v ne. subst (IsSlot p.config p.access p.journal b.story p.owners.items v) (sym (rest v ne)) (b.others v ne);
+  others = λ v ne. subst (IsSlot p.config p.access p.journal b.story p.owners.items (stock_of p) v) (sym (rest v ne)) (b.others v ne);
   worker = b.worker;
   within = b.within;
   opened = b.opened;
@@ -218,7 +233,7 @@ no-key key task looks view s means = let some : 0 < 0 = ((looks (Some bogus)).le
 -- a task that makes no change, for the call's key
 abbrev pub lookup-taken : (p : Parts) (w : ℕ) (on : MustGoOn p w) → MayGoOn on.serving → (task : AnyTask) (way : Option Path) (asked : Option Todo) (key : List ℕ) → config_of task ≡ p.config → AreLaws task → makes_no_change task ≡ true → IsLookup key way task → (way ≡ None → (other : Option Path) → IsLookup key other task) → key ≡ key_of on.serving.call
     → asks_of task ≡ asked → facts_of task Waiting (known p w on) → IsWanted p.config p.journal on.between.opened (wants_of task)
-    → WhereLonely p.journal.past w on.serving.call (IsLonelyGet p.access p.journal.past on.between.story w (record on.serving { task = task; path = way }) on.between.opened) → IsMeant (record on.serving { task = task; path = way }) (known p w on).past → IsPaidFor p w (record on.serving { task = task; path = way }) 0 (allowed_for asked) (known p w on).past → MustTakeOn p w task way on.serving.had asked
+    → WhereLonely p.journal.past w on.serving.call (IsLonelyGet p.access p.journal.past on.between.story w (record on.serving { task = task; path = way }) on.between.opened) → IsMeant (record on.serving { task = task; path = way }) (known p w on).past → IsPaidFor p w (record on.serving { task = task; path = way }) 0 (taken_for asked) (known p w on).past → MustTakeOn p w task way on.serving.had asked
 lookup-taken p w on may task way asked key config laws looks lookup wayless same asks facts wanted lonely meant paid = record {
   on = on;
   may = may;
@@ -258,7 +273,7 @@ said-may p w m alone merges slot is = record {
   on = said-alone p w m.on m.other alone slot is;
   may = m.may;
   other = m.other;
-  pays = subst (λ (a : Bool). PaysForRound p.access w (record (errand_of m.on.serving) { alone = a }) (deadline p.config w p.journal.past) (known p w m.on).past) (sym merges) m.pays;
+  pays = subst (λ (a : Bool). HasARoundAs p w (record (errand_of m.on.serving) { alone = a }) (known p w m.on).past) (sym merges) m.pays;
 }
 
 -- nor is whether its own freeze of its leaf was the last to end
@@ -277,16 +292,16 @@ said-froze p w on other froze thawed slot is = record {
 pub froze-may : (p : Parts) (w : ℕ) (m : MustLookUpAs p w after) (froze : Bool) → froze ≡ is_freeze (kind_of m.on.serving.task) → (slot : Option OpenCall) → slot ≡ Some (record m.on.serving { froze = froze }) → MustLookUp (record p { workers = with_item p.workers w slot }) w
 unfolding said-froze between-tasks
 froze-may p w m froze freezes slot is = record {
-  on = said-froze p w m.on m.other froze (λ e. m.pays.thawed (sym freezes ∙ e)) slot is;
+  on = said-froze p w m.on m.other froze (λ e. (m.pays Marks tt).thawed (sym freezes ∙ e)) slot is;
   may = m.may;
   other = m.other;
-  pays = subst (λ (f : Bool). PaysForRound p.access w (record (errand_of m.on.serving) { froze = f }) (deadline p.config w p.journal.past) (known p w m.on).past) (sym freezes) m.pays;
+  pays = subst (λ (f : Bool). HasARoundAs p w (record (errand_of m.on.serving) { froze = f }) (known p w m.on).past) (sym freezes) m.pays;
 }
 
-thawed-spares : (m : SwapMemory) (w : ℕ) (e : Errand) (by : ℕ) (p : Past) → Spares m w e by p (λ q. most_of_leaf + coming q e kinds.ReadWhole) → Spares m w (record e { froze = false }) by p (λ q. most_of_leaf + coming q (record e { froze = false }) kinds.ReadWhole)
-thawed-spares m w e by p s = by-round s.round s.alone s.affords
+thawed-spares : (r : Resource) (m : SwapMemory) (w : ℕ) (e : Errand) (used by : ℕ) (p : Past) → Spares r m w e used by p (λ q. most_of_leaf r + coming r q e kinds.ReadWhole) → Spares r m w (record e { froze = false }) used by p (λ q. most_of_leaf r + coming r q (record e { froze = false }) kinds.ReadWhole)
+thawed-spares r m w e used by p s = by-round s.round s.alone s.affords
   where
-    by-round : (r : Round) → (r ≡ Clean → IsAlone 0 p) → Affords m w e p.now by (reserve r + (most_of_leaf + coming (prices_of r e p) e kinds.ReadWhole)) → Spares m w (record e { froze = false }) by p (λ q. most_of_leaf + coming q (record e { froze = false }) kinds.ReadWhole)
+    by-round : (round : Round) → (round ≡ Clean → IsAlone 0 p) → Affords r m w e used by (reserve r round + (most_of_leaf r + coming r (prices_of r round e p) e kinds.ReadWhole)) → Spares r m w (record e { froze = false }) used by p (λ q. most_of_leaf r + coming r q (record e { froze = false }) kinds.ReadWhole)
     by-round Disturbed alone a = record { round = Disturbed; alone = alone; thawed = λ f. absurd (true≢false (sym f)); affords = record { enough = a.enough } }
     by-round Clean alone a = record { round = Clean; alone = alone; thawed = λ f. absurd (true≢false (sym f)); affords = record { enough = a.enough } }
 
@@ -298,12 +313,13 @@ thawed-read p w path m slot is = record {
   leads = m.leads;
   other = m.other;
   look = m.look;
-  spares = thawed-spares p.access w (errand_of m.on.serving) (deadline p.config w p.journal.past) (known p w m.on).past m.spares;
+  spares = λ r counted. thawed-spares r p.access w (errand_of m.on.serving) (used_in r p w) (bound_in r p w) (known p w m.on).past (m.spares r counted);
 }
 
 -- what may come once the key was looked up is paid for, and a task ends for want of room only where there is none
 pub record IsSpared (p : Parts) (w : ℕ) (on : MustGoOn p w) (task : AnyTask) : Type 0 where
-  pub spares : HasToSpare p w on.serving (known p w on).past (λ q. coming q (errand_of on.serving) kinds.Find)
+  pub slotless : needs_of task ≡ 0
+  pub spares : HasToSpare p w on.serving (known p w on).past (λ r q. coming r q (errand_of on.serving) kinds.Find)
   pub lacks : (z : Scene) → means_of task outcomes.NeedsRoom z → IsAlone 0 (known p w on).past → 0 < stage_now (errand_of on.serving) (known p w on).past
 
 module _ (p : Parts) (w : ℕ) (task : AnyTask) (had : Option (List ℕ)) (asked : Option Todo) (path : Option Path) (m : MustTakeOn p w task path had asked) (slot : Option OpenCall) (is : slot ≡ Some (record m.on.serving { task = task; path = path; had = had })) (told : IsToldBy p.config p.journal m.on.between.opened had) where
@@ -340,7 +356,7 @@ module _ (p : Parts) (w : ℕ) (task : AnyTask) (had : Option (List ℕ)) (asked
       lonely = λ key get lonely. absurd (other key get lonely);
       alone = record { others = (counts-now lone).0; made = made_of task; counted = (counts-now lone).1; stands = λ ends. absurd (more ends) };
       meant = m.meant;
-      paid = subst (λ (o : Option Todo). IsPaidFor p w next 0 (allowed_for o) (known p w m.on).past) e m.paid;
+      paid = subst (λ (o : Option Todo). IsPaidFor p w next 0 (taken_for o) (known p w m.on).past) e m.paid;
     };
   }
 
@@ -362,7 +378,7 @@ module _ (p : Parts) (w : ℕ) (task : AnyTask) (had : Option (List ℕ)) (asked
       lonely = λ key get lonely. (m.lonely key get lonely, refl);
       alone = hears-now lone.counted task (known p w m.on) (known-scene lone.scenes p w m.on) (sym m.tasked.config) m.facts Start refl (λ e. absurd (cc e));
       meant = m.meant;
-      paid = subst (λ (o : Option Todo). IsPaidFor p w next 0 (allowed_for o) (known p w m.on).past) e m.paid;
+      paid = subst (λ (o : Option Todo). IsPaidFor p w next 0 (taken_for o) (known p w m.on).past) e m.paid;
     };
   }
 
@@ -376,7 +392,7 @@ module _ (p : Parts) (w : ℕ) (task : AnyTask) (had : Option (List ℕ)) (asked
   unfolding taken-begins between between-tasks
   begins-knowing lone e leads quiet some same pays = record {
     must = taken-begins lone e;
-    knows = record { leads = λ way is. leads way (sym same ∙ is); quiet = quiet; some = λ none. some (sym same ∙ none); spares = pays.spares; lacks = pays.lacks };
+    knows = record { leads = λ way is. leads way (sym same ∙ is); quiet = quiet; some = λ none. some (sym same ∙ none); slotless = pays.slotless; spares = pays.spares; lacks = pays.lacks };
   }
 
   -- or has just been found
@@ -388,6 +404,7 @@ module _ (p : Parts) (w : ℕ) (task : AnyTask) (had : Option (List ℕ)) (asked
       leads = λ way is. let both : Some found ≡ Some way = sym at ∙ is in let same : found ≡ way = cc both in subst (λ z. IsPath (key_of m.on.serving.call) z (known p w m.on).past) same leads;
       quiet = quiet;
       some = λ none. absurd (cc (at, none));
+      slotless = pays.slotless;
       spares = pays.spares;
       lacks = pays.lacks;
     };
@@ -438,6 +455,9 @@ told-went old mid w answer new rest fewer few went = record {
   full = subst (λ j. EndsFullRightly new.config j w new.journal (supply_of new)) (ap (λ (p : Parts). p.journal) rest) went.full;
   brief = subst (λ j. GetsBriefly new.config j w new.journal) (ap (λ (p : Parts). p.journal) rest) went.brief;
   lone = subst (λ (j : Log). length new.journal.past ≤ deadline new.config w j.past) (ap (λ (p : Parts). p.journal) rest) went.lone;
+  begun = went.begun ∙ ap begun_with rest;
+  supplied = λ whole. went.supplied (subst (λ (j : Log). RunsWhole new.config w j.past) (sym (ap (λ (p : Parts). p.journal) rest)) whole);
+  little = λ whole. subst (λ (j : Log). EndsFullOfLittle new.config j w new.journal (begun_with new)) (ap (λ (p : Parts). p.journal) rest) (went.little (subst (λ (j : Log). RunsWhole new.config w j.past) (sym (ap (λ (p : Parts). p.journal) rest)) whole));
   config = went.config ∙ ap (λ (p : Parts). p.config) rest;
   at_start = went.at_start ∙ ap (λ (p : Parts). p.at_start) rest;
   left_out = went.left_out ∙ ap (λ (p : Parts). p.left_out) rest;
@@ -457,12 +477,15 @@ went-anew p workers page w answer new went = record {
   others = went.others;
   brief = went.brief;
   lone = went.lone;
+  begun = went.begun;
+  supplied = went.supplied;
+  little = went.little;
 }
 
 -- or that started something
 pub went-started : (p : Parts) (workers : Vec (Option OpenCall)) (w : ℕ) (new : Parts) → IsAwake new → new ≡ record p { access = new.access; owners = new.owners; workers = workers }
-    → (new.access.taken ≡ p.access.taken) ⊎ (new.access.taken ≡ p.access.taken + 1) → ((v : ℕ) → v ≢ w → worker_of new.access v ≡ worker_of p.access v) → HasRoomForEnd p w → WentOn p w applied.Stepped new
-went-started p workers w new kept rest taken others room = record {
+    → (new.access.taken ≡ p.access.taken) ⊎ (new.access.taken ≡ p.access.taken + 1) → ((v : ℕ) → v ≢ w → worker_of new.access v ≡ worker_of p.access v) → HasRoomForEnd p w → (x : OpenCall) → get_or workers.items w None ≡ Some x → WentOn p w applied.Stepped new
+went-started p workers w new kept rest taken others room x here = record {
   kept = kept;
   ends = ap (λ (z : Parts). z.journal) rest;
   spends = record {
@@ -476,8 +499,14 @@ went-started p workers w new kept rest taken others room = record {
   at_start = ap (λ (z : Parts). z.at_start) rest;
   left_out = ap (λ (z : Parts). z.left_out) rest;
   others = others;
-  lone = let l : length new.journal.past ≡ length p.journal.past = ap (λ (z : Parts). length z.journal.past) rest in subst (λ (c : Config). length new.journal.past ≤ deadline c w p.journal.past) (sym (ap (λ (z : Parts). z.config) rest)) (omega (arith, l, room));
+  lone = let l : length new.journal.past ≡ length p.journal.past = ap (λ (z : Parts). length z.journal.past) rest in subst (λ (c : Config). length new.journal.past ≤ deadline c w p.journal.past) (sym (ap (λ (z : Parts). z.config) rest)) (in-time l (room Marks tt));
+  begun = ap begun_with rest;
+  supplied = λ whole. kept-supply new kept w x (subst (λ (z : Parts). get_or z.workers.items w None ≡ Some x) (sym rest) here) (subst (λ (j : Log). RunsWhole new.config w j.past) (sym (ap (λ (z : Parts). z.journal) rest)) whole);
+  little = λ whole n at spent e. absurd (not-longer (End w n (reply.Full spent) at) p.journal.past (sym (ap (λ (z : Parts). z.journal.past) rest) ∙ e));
 }
+  where
+    in-time : length new.journal.past ≡ length p.journal.past → length p.journal.past + left_to p.access w + 1 ≤ deadline p.config w p.journal.past → length new.journal.past ≤ deadline p.config w p.journal.past
+    in-time l enough = omega (arith, l, enough)
 
 -- for what is no swap there is always room
 pub starts-always : (p : Parts) (a : ℕ) (new : Parts) (b : Bool) → (b ≡ true → IsAwake new) → (b ≡ false → LacksDescriptor p (Read a)) → IsAwake new

@@ -1,5 +1,5 @@
 -- A task that was told something asks for something else, and the world but for it is as it was.
-use Rattle.std.proofs.Common.{◌≡◌, ◌≢◌, ℕ, ◌+◌, ◌<◌, ◌||◌, Bool, true, false, List, length, arith, refl, sym, ap, subst, ◌∙◌, inl, inr, Option, Some, None}
+use Rattle.std.proofs.Common.{◌≡◌, ◌≢◌, ℕ, ◌+◌, ◌-◌, ◌<◌, ◌≤◌, ◌||◌, Bool, true, false, List, length, arith, refl, sym, ap, subst, ◌∙◌, inl, inr, Option, Some, None}
 use Rattle.std.specs.Prelude.{get_or}
 use Rattle.std.specs.Global.{Vec}
 use Rattle.std.specs.Vec.{with_item}
@@ -18,7 +18,7 @@ use Rattle.bz_sound.specs.Calls.{Open}
 use Rattle.bz_story.specs.Laws.{ScenesAreSeen, SlotsAreTaken, takes_slots}
 use Rattle.bz_story.specs.Living.{IsLiving}
 use Rattle.bz_story.specs.Story.{Story, scene}
-use Rattle.bz_task.specs.OwnActs.{AreUnreached, gained, is_gained}
+use Rattle.bz_task.specs.OwnActs.{AreTakenFrom, AreUnreached, gained, is_gained}
 use Rattle.bz_task.specs.Outcomes.{IsPath}
 use Rattle.bz_task.specs.Requests.{effects_in}
 use Rattle.bz_task.specs.Scene.{Scene, Waiting}
@@ -30,17 +30,19 @@ use Rattle.bz_task.specs.declared.todo.Todo.{Todo}
 use Rattle.bz_world.specs.Inside.Acted.{IsTold, IsAsking, MustTell}
 use Rattle.bz_world.specs.Inside.Alone.{HasWaited, AsksAlone}
 use Rattle.bz_world.specs.Inside.Going.{end_in, wants_in}
-use Rattle.bz_world.specs.Inside.Laws.{AloneLaws, LonelyLaws}
+use Rattle.bz_world.specs.Inside.Laws.{AloneLaws, LonelyLaws, RoundLaws}
 use Rattle.bz_world.specs.Inside.Lonely.{WhereLonely, AsksBriefly}
-use Rattle.bz_lone.specs.FromCosts.Weights.{start_allows}
+use Rattle.bz_layout.specs.declared.thresholds.TheConstants.{SLOTS_PER_CALL}
+use Rattle.bz_lone.specs.FromCosts.Resources.{Slots}
+use Rattle.bz_lone.specs.FromCosts.Weights.{start_takes}
 use Rattle.bz_lone.specs.Errands.{Errand}
 use Rattle.bz_lone.specs.Prices.{coming}
 use Rattle.bz_lone.specs.Rounds.{stage_now}
-use Rattle.bz_lone.specs.Sum.{Spares, IsPaid}
+use Rattle.bz_lone.specs.Sum.{Spares}
 use Rattle.bz_running.specs.Kinds as kinds
 use Rattle.bz_world.specs.Inside.Meant.{IsMeant}
-use Rattle.bz_world.specs.Inside.Paid.{errand_of, IsPaidFor}
-use Rattle.bz_world.specs.WorldView.{deadline}
+use Rattle.bz_world.specs.Inside.Paid.{begun_with, bound_in, errand_of, stock_of, used_in, used_of, IsPaidIn}
+use Rattle.bz_world.specs.WorldView.{HadFew, RunsWhole}
 use Rattle.bz_world.specs.Inside.Serving.{IsCovered, IsToldBy, IsTasked, IsSlot, IsChangeFor, NeedsAtLeast, MayGoOn}
 use Rattle.bz_world.specs.Inside.Telling.{CanHear, HasTold, HasToldIn, MustStart, KnowsWay, MustStartOf}
 use Rattle.bz_world.specs.declared.parts.Parts.{Parts}
@@ -49,6 +51,7 @@ use Rattle.bz_sound.specs.Power.Times.{image_at_on}
 use Rattle.bz_world.proofs.Alone.{cause-none}
 use Rattle.bz_world.proofs.LonelyTold.{told-lonely, took-lonely}
 use Rattle.bz_world.proofs.Meant.{call-meant-told}
+use Rattle.bz_world.proofs.PaidSteps.{heard-in}
 use Rattle.bz_world.proofs.Powered.{begun-in}
 use Rattle.bz_world.proofs.Staying.{covered-stays, slot-scenes}
 use Rattle.bz_world.proofs.Takings.{covered-taken, may-take, no-more-free, still-free}
@@ -65,16 +68,36 @@ next-of : (x : OpenCall) (seen : Seen) (moment : ℕ) (free : FreeSlots) (todo :
 next-of x seen moment free todo None left h = absurd h
 next-of x seen moment free todo (Some y) left h = record { next = y; is = refl; told = h }
 
--- a task that has ended for want of slots found fewer than it takes in all
-pub full-rightly : (p : Parts) (w : ℕ) (seen : Seen) (m : MustTell p w seen) (moment : ℕ) (todo : Todo) (slot : Option OpenCall) (left : FreeSlots) → HasToldIn (Some m.serving) seen moment p.slots todo slot left → end_in slot ≡ Some (outcome.Full Nodes) → length left.free < wants_in slot
-full-rightly p w seen m moment todo slot left told ended =
-    let n : IsNext m.serving seen moment p.slots todo slot left = next-of m.serving seen moment p.slots todo slot left told in
-    let lacked = n.told.heard.full_nodes (sym (ap end_in n.is) ∙ ended) in
-    omega (arith, lacked, m.told.tasked.laws.few, n.told.heard.wants, ap wants_in n.is, no-more-free (needs_of m.serving.task) (needs_of n.next.task) p.slots left n.told.heard.slots)
+-- a task that has ended for want of slots found fewer than it takes in all; and where its worker steps alone from the begin of its call on, there
+-- were few at that begin, since those that it takes are paid for
+pub full-rightly : RoundLaws → (p : Parts) (w : ℕ) (seen : Seen) (m : MustTell p w seen) (moment : ℕ) (todo : Todo) (slot : Option OpenCall) (left : FreeSlots) → HasToldIn (Some m.serving) seen moment p.slots todo slot left → end_in slot ≡ Some (outcome.Full Nodes)
+    → (length left.free < wants_in slot) × (RunsWhole p.config w p.journal.past → HadFew p.config (begun_with p) Nodes)
+full-rightly b p w seen m moment todo slot left told ended = (
+  omega (arith, lacked, m.told.tasked.laws.few, n.told.heard.wants, ap wants_in n.is, no-more-free (needs_of m.serving.task) (needs_of n.next.task) p.slots left n.told.heard.slots),
+  λ whole. few (b.afforded Slots p.access w (errand_of m.serving) m.serving.task (effects_in seen) 0 (used_in Slots p w) (bound_in Slots p w) (scene p.config p.journal.past m.told.between.story w m.told.between.call_open.look.since m.told.between.opened).past (m.told.paid Slots whole)),
+)
+  where
+    n : IsNext m.serving seen moment p.slots todo slot left
+    n = next-of m.serving seen moment p.slots todo slot left told
+
+    lacked : length p.slots.free < needs_of m.serving.task
+    lacked = n.told.heard.full_nodes (sym (ap end_in n.is) ∙ ended)
+
+    few : p.left_then - length p.slots.free + (0 + needs_of m.serving.task) + 0 ≤ SLOTS_PER_CALL → p.left_then < SLOTS_PER_CALL
+    few enough = omega (arith, enough, lacked)
 
 -- and one that has ended for want of a descriptor was told so
 pub lacked-told : (p : Parts) (w : ℕ) (seen : Seen) (m : MustTell p w seen) (moment : ℕ) (todo : Todo) (slot : Option OpenCall) (left : FreeSlots) → HasToldIn (Some m.serving) seen moment p.slots todo slot left → end_in slot ≡ Some (outcome.Full Swaps) → seen ≡ NoSwap
 lacked-told p w seen m moment todo slot left told ended = let n : IsNext m.serving seen moment p.slots todo slot left = next-of m.serving seen moment p.slots todo slot left told in n.told.heard.full_swaps (sym (ap end_in n.is) ∙ ended)
+
+-- of a task that takes none, none is gone, and it takes none later
+slots-fewer : (before after : ℕ) (free left : FreeSlots) → AreTakenFrom before after free left → after ≤ before
+slots-fewer before after free left (inl all) = omega (arith, all.none_left)
+slots-fewer before after free left (inr none) = none.fewer
+
+slots-same : (before after : ℕ) (free left : FreeSlots) → before ≡ 0 → AreTakenFrom before after free left → left ≡ free
+slots-same before after free left zero (inl all) = absurd (omega (arith, zero, all.some))
+slots-same before after free left zero (inr none) = none.slots
 
 -- a look-up that was told something is one as before
 looks-still : (old new : AnyTask) (seen : Seen) (moment : ℕ) (free : FreeSlots) (todo : Todo) (left : FreeSlots) (key : List ℕ) (way : Option Path) → IsLookup key way old → HasHeard old seen moment free todo new left → IsLookup key way new
@@ -177,9 +200,9 @@ module _ (scenes : ScenesAreSeen) (slots : SlotsAreTaken) (laws : LonelyLaws) (l
     still-meant = call-meant-told x here.past seen (length p.journal.past) p.slots todo y left h told.meant
 
     -- the start of its next act is paid for
-    still-paid : IsPaidFor p w y 0 (start_allows todo) here.past
-    still-paid = subst (λ (e : Errand). IsPaid p.access w e y.task 0 (start_allows todo) (deadline p.config w p.journal.past) here.past) (sym (ap errand_of h.rest))
-        (lone.paid.heard p.access w (errand_of x) x.task y.task seen (length p.journal.past) p.slots left todo (deadline p.config w p.journal.past) here.past h.heard told.tasked.laws h.laws told.hears
+    still-paid : IsPaidIn p.config p.access p.journal.past (record (stock_of p) { left = length left.free }) w (errand_of y) y.task 0 (λ r. start_takes r todo) here.past
+    still-paid = subst (λ (e : Errand). IsPaidIn p.config p.access p.journal.past (record (stock_of p) { left = length left.free }) w e y.task 0 (λ r. start_takes r todo) here.past) (sym (ap errand_of h.rest))
+        (heard-in lone.paid p.config p.access p.journal.past (stock_of p) w (errand_of x) x.task y.task seen (length p.journal.past) p.slots left todo here.past refl h.heard told.tasked.laws h.laws told.hears
         (λ alone. not-again (omega (arith, told.alone.counted, alone))) told.paid)
 
     living : IsLiving p.config p.access p.journal after
@@ -198,8 +221,8 @@ module _ (scenes : ScenesAreSeen) (slots : SlotsAreTaken) (laws : LonelyLaws) (l
         living = living;
         sound = told.between.sound;
         free = still-free p.config (image_at_on p.journal.start p.journal.past) told.between.story w (needs_of x.task) (needs_of y.task) p.slots left h.heard.slots told.between.free;
-        others = λ v ne. subst (IsSlot p.config p.access p.journal after p.owners.items v) (sym (rest v ne))
-            (slot-scenes p.config p.access p.journal told.between.story after p.owners.items v (get_or p.workers.items v None) told.between.opened (other v ne) (λ k. refl) (told.between.others v ne));
+        others = λ v ne. subst (IsSlot p.config p.access p.journal after p.owners.items (record (stock_of p) { left = length left.free }) v) (sym (rest v ne))
+            (slot-scenes p.config p.access p.journal told.between.story after p.owners.items (stock_of p) (record (stock_of p) { left = length left.free }) v (get_or p.workers.items v None) told.between.opened (other v ne) (λ k. refl) (λ is. ne (told.between.steps v is)) (told.between.others v ne));
         worker = told.between.worker;
         within = told.between.within;
         opened = told.between.opened;
@@ -239,7 +262,9 @@ module _ (scenes : ScenesAreSeen) (slots : SlotsAreTaken) (laws : LonelyLaws) (l
           leads = λ path is. subst (λ (z : OpenCall). IsPath (key_of z.call) path here.past) (sym n.told.rest) (k.leads path (sym (ap (λ (z : OpenCall). z.path) n.told.rest) ∙ is));
           quiet = ap (λ (z : OpenCall). z.effect) n.told.rest ∙ k.quiet;
           some = λ none. k.some (sym (ap (λ (z : OpenCall). z.path) n.told.rest) ∙ none);
-          spares = subst (λ (e : Errand). Spares p.access w e (deadline p.config w p.journal.past) here.past (λ q. coming q e kinds.Find)) (sym (ap errand_of n.told.rest)) k.spares;
+          slotless = omega (arith, k.slotless, slots-fewer (needs_of x.task) (needs_of n.next.task) p.slots left n.told.heard.slots);
+          spares = λ r counted. subst (λ (e : Errand). Spares r p.access w e (used_of r p.access p.journal.past (record (stock_of p) { left = length left.free }) w) (bound_in r p w) here.past (λ q. coming r q e kinds.Find)) (sym (ap errand_of n.told.rest))
+              (subst (λ (f : FreeSlots). Spares r p.access w (errand_of x) (used_of r p.access p.journal.past (record (stock_of p) { left = length f.free }) w) (bound_in r p w) here.past (λ q. coming r q (errand_of x) kinds.Find)) (sym (slots-same (needs_of x.task) (needs_of n.next.task) p.slots left k.slotless n.told.heard.slots)) (k.spares r counted));
           lacks = λ z means alone. subst (λ (e : Errand). 0 < stage_now e here.past) (sym (ap errand_of n.told.rest)) (k.lacks z (n.told.heard.meant outcome.NeedsRoom z means) alone);
         };
       }

@@ -31,6 +31,7 @@ use Rattle.bz_task.specs.declared.todo.Seen.TheVariants.{Start}
 use Rattle.bz_world.specs.Inside.Kept.{IsTabled, IsAwake, IsOff, IsRecovering}
 use Rattle.bz_world.specs.Inside.Beginning.{world_view, is_swap}
 use Rattle.bz_world.specs.Inside.Laws.{BegunLaws}
+use Rattle.bz_world.specs.Inside.Paid.{begun_with, stock_of}
 use Rattle.bz_world.specs.Inside.Powering.{MustWake, Wakes}
 use Rattle.bz_world.specs.WorldView as lab
 use Rattle.bz_world.specs.Inside.Serving.{IsSlot}
@@ -97,7 +98,7 @@ module _ (b : Ends) (p : Parts) (k : MustWake p) (order : IsInOrder p.slots) (ho
   idle-all : (w : ℕ) → doing_of (renewed p.access) w ≡ Idle
   idle-all w = reborn.revived.may_renew.idle w
 
-  slot-by : (w : ℕ) (slot : Option OpenCall) → slot ≡ None → IsSlot p.config (renewed p.access) (with_mark p.journal Ready) life p.owners.items w slot
+  slot-by : (w : ℕ) (slot : Option OpenCall) → slot ≡ None → IsSlot p.config (renewed p.access) (with_mark p.journal Ready) life p.owners.items (stock_of p) w slot
   slot-by w None e = record { none_open = k.recovering.memory.calls w; idle = idle-all w; filled = λ j t. absurd (true≢false (sym t)) }
   slot-by w (Some x) e = absurd (cc (e))
 
@@ -169,8 +170,8 @@ wakes b p k order room access journal is holds marked = subst (λ (j : Log). Wak
 -- power on as it is seen: worker 0's first act is no flush
 pub seen-on : (p q : Parts) (journal : Log) (next : Recover) (slots : FreeSlots) → p.power ≡ power.Off → journal ≡ with_mark p.journal On → q ≡ record p { access = q.access; journal = journal; power = power.Recovering; recovery = next; slots = slots } → q.access ≡ started p.access 0 (Loading 0) → world_view q ≡ lab.after_on (world_view p)
 seen-on p q journal next slots off marked rest is = ap world_view rest
-    ∙ (ap (λ (m : SwapMemory). record { config = p.config; at_start = p.at_start; log = journal; flushes = map (λ (v : Working). v.flush_next) m.workers; swapping = map (λ (v : Working). is_swap v.doing) m.workers; left_out = p.left_out.items; supply = record { taken = 0; left = 0 } }) is
-    ∙ ((λ t. record { config = p.config; at_start = p.at_start; log = marked t; flushes = flushes t; swapping = swapping t; left_out = p.left_out.items; supply = record { taken = 0; left = 0 } })
+    ∙ (ap (λ (m : SwapMemory). record { config = p.config; at_start = p.at_start; log = journal; flushes = map (λ (v : Working). v.flush_next) m.workers; swapping = map (λ (v : Working). is_swap v.doing) m.workers; left_out = p.left_out.items; supply = record { taken = 0; left = 0 }; at_begin = begun_with p }) is
+    ∙ ((λ t. record { config = p.config; at_start = p.at_start; log = marked t; flushes = flushes t; swapping = swapping t; left_out = p.left_out.items; supply = record { taken = 0; left = 0 }; at_begin = begun_with p })
     ∙ ap (λ (s : lab.Supply). record (lab.after_on (world_view p)) { supply = s }) (sym (shown-off p off))))
   where
     flushes : map (λ (v : Working). v.flush_next) (started p.access 0 (Loading 0)).workers ≡ slice_set (map (λ (v : Working). v.flush_next) p.access.workers) 0 false

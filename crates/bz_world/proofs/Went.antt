@@ -15,6 +15,7 @@ use Rattle.bz_world.specs.Inside.Serving.{IsServing, IsDoing}
 use Rattle.bz_world.specs.declared.parts.Parts.{Parts}
 use Rattle.bz_world.specs.declared.serving.OpenCall.{OpenCall}
 use Rattle.bz_world.specs.Inside.Laws.{StepLaws}
+use Rattle.bz_world.specs.Inside.Paid.{stock_of}
 use Rattle.bz_world.proofs.Quiet.{serves}
 use Rattle.bz_world.proofs.Answered.{busy-on, told-read, told-swap, told-flush}
 use Rattle.bz_world.proofs.Stored.{told-store}
@@ -28,7 +29,7 @@ Went p w x done.Stored = IsTold p w x seen.Stored
 Went p w x done.Flushed = IsTold p w x seen.Flushed
 
 module _ (b : StepLaws) (old new : Parts) (w : ℕ) (x : OpenCall) (made : Act) (answer : Done) (k : IsAwake old) (is-worker : get_or old.workers.items w None ≡ Some x) (a : IsActed old w made answer None new) (room : length old.journal.past < old.config.marks) where
-  abbrev its : IsServing old.config old.access old.journal k.story old.owners.items w x
+  abbrev its : IsServing old.config old.access old.journal k.story old.owners.items (stock_of old) w x
   its = serves old k w x is-worker
 
   reads : (c : ℕ) → its.asked ≡ todo.Read c → doing_of old.access w ≡ Reading c → (z : Done) → answer ≡ z → IsAnswer new.access (Reading c) made z → Went new w x z

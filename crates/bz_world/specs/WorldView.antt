@@ -19,7 +19,7 @@ use Rattle.bz_layout.specs.Addresses.{words_of}
 use Rattle.bz_layout.specs.Config.{IsConfig, IsFirstOutOfRange}
 use Rattle.bz_layout.specs.Fresh.{fresh_words}
 use Rattle.bz_layout.specs.declared.config.Config.{Config}
-use Rattle.bz_layout.specs.declared.thresholds.TheConstants.{MARKS_PER_CALL, SPLIT_SLOTS}
+use Rattle.bz_layout.specs.declared.thresholds.TheConstants.{MARKS_PER_CALL, SLOTS_PER_CALL, SPLIT_SLOTS, SWAPS_PER_CALL}
 use Rattle.bz_mark.specs.Log.{Log, with_mark, count_begins, count_page_calls, count_page_ends}
 use Rattle.bz_mark.specs.declared.marks.Mark.{Mark}
 use Rattle.bz_mark.specs.declared.marks.Mark.TheVariants.{Begin, End, Load, Store, Cas, Flush, Evict, Cut, On, Ready, Effect}
@@ -28,7 +28,7 @@ use Rattle.bz_sound.specs.declared.power.Power.{Power}
 use Rattle.bz_sound.specs.declared.power.Power.TheVariants as power
 use Rattle.bz_sound.specs.Calls.{Open, open_call, begun_calls, map_after}
 use Rattle.bz_sound.specs.Lonely.{IsLonely, acts_since}
-use Rattle.bz_sound.specs.Memory.Moments.{map_at_start, image_at}
+use Rattle.bz_sound.specs.Memory.Moments.{map_at_start, image_after, image_at}
 use Rattle.bz_sound.specs.Memory.Spent.{NeedsSlots, is_reached_in}
 use Rattle.bz_sound.specs.Power.Times.{power_of, since_on, image_at_on}
 use Rattle.bz_sound.specs.Replies.{Pages}
@@ -56,8 +56,8 @@ supply_by power.On supply = supply
 supply_by other supply = record { taken = 0; left = 0 }
 
 -- the numbers that the world was made with, what the power was at first, its journal, and of each worker, from worker 0 on, whether its next act is a flush,
--- whether it has a swap under way, and whether its next act was a flush when the power was cut last; before the first cut nobody has a flag of that last kind; and
--- what is taken and left
+-- whether it has a swap under way, and whether its next act was a flush when the power was cut last; before the first cut nobody has a flag of that last kind;
+-- what is taken and left; and what was when the newest call began
 pub record WorldView : Type 0 where
   pub config : Config
   pub at_start : Power
@@ -66,6 +66,7 @@ pub record WorldView : Type 0 where
   pub swapping : List Bool
   pub left_out : List Bool
   pub supply : Supply
+  pub at_begin : Supply
 
 -- whether the next act of a worker is a flush
 abbrev pub flush_of : WorldView → ℕ → Bool
@@ -89,6 +90,7 @@ view_over config start at_start = record {
   swapping = replicate (config.workers + 1) false;
   left_out = [];
   supply = supply_by at_start (record { taken = 0; left = config.nodes - 1 });
+  at_begin = record { taken = 0; left = 0 };
 }
 
 -- over fresh memory its power is on
@@ -180,7 +182,7 @@ begin_answer lab w called =
 
 -- a begin adds its mark where it is no refusal, and changes nothing else: a call's first act is no flush
 abbrev pub after_begin : WorldView → ℕ → Call → Begun → WorldView
-after_begin lab w called (begun.Begun n) = record lab { log = with_mark lab.log (Begin w n called); flushes = slice_set lab.flushes w false; swapping = slice_set lab.swapping w false }
+after_begin lab w called (begun.Begun n) = record lab { log = with_mark lab.log (Begin w n called); flushes = slice_set lab.flushes w false; swapping = slice_set lab.swapping w false; at_begin = lab.supply }
 after_begin lab w called refusal = lab
 
 -- a worker without an open call makes no step
@@ -274,6 +276,10 @@ run_marks c false = MARKS_PER_CALL * (c.workers + 2)
 abbrev pub deadline_from : Config → ℕ → List Mark → ℕ
 deadline_from c w before = length before + run_marks c (begins_alone c w before)
 
+-- its present run follows directly the begin of its call, with no other call open
+abbrev pub RunsWhole : Config → ℕ → List Mark → Type 0
+RunsWhole c w past = begins_alone c w (before_run w past) ≡ true
+
 -- and from the begin of its present run on
 abbrev pub deadline : Config → ℕ → List Mark → ℕ
 deadline c w past = deadline_from c w (before_run w past)
@@ -319,6 +325,21 @@ HasRunOut config log w supply Height = Unit {0}
 abbrev pub EndsFullRightly : Config → Log → ℕ → Log → Supply → Type 0
 EndsFullRightly config old w new supply = (n at : ℕ) (spent : Spent) → new.past ≡ End w n (Full spent) at ∷ old.past → HasRunOut config old w supply spent
 
+-- a call has taken no more than is promised for each, since its begin
+pub record KeepsSupply (begun supply : Supply) : Type 0 where
+  pub swaps : supply.taken ≤ begun.taken + SWAPS_PER_CALL
+  pub slots : begun.left ≤ supply.left + SLOTS_PER_CALL
+
+-- at its begin less was left of it than is promised for each
+abbrev pub HadFew : Config → Supply → Spent → Type 0
+HadFew config begun Swaps = config.swaps < begun.taken + SWAPS_PER_CALL
+HadFew config begun Nodes = begun.left < SLOTS_PER_CALL
+HadFew config begun Height = Unit {0}
+
+-- a Full ends the worker's call, of something of which there was little at its begin
+abbrev pub EndsFullOfLittle : Config → Log → ℕ → Log → Supply → Type 0
+EndsFullOfLittle config old w new begun = (n at : ℕ) (spent : Spent) → new.past ≡ End w n (Full spent) at ∷ old.past → HadFew config begun spent
+
 -- a lonely get, during which no other call was open, ends after at most twice as many acts as the reads that a get may ask for: of the
 -- inner nodes above the leaf of its key and of that leaf, in the image of the moment that its reply is of. So none reads its leaf whole
 abbrev pub GetsBriefly : Config → Log → ℕ → Log → Type 0
@@ -347,6 +368,10 @@ pub record Steps (old : WorldView) (w : ℕ) (answer : Applied) (new : WorldView
   -- a worker that steps alone ends its call within so many marks, whatever the others have come to: their swaps under way, and words that
   -- they reserved; and within fewer where it has done so since the call's begin, and no other call was open then
   pub lone : length new.log.past ≤ deadline new.config w struck
+  -- and then it takes no more descriptors and slots than are promised for each call, and is Full of them only where there were fewer at its begin
+  pub at_begin : new.at_begin ≡ old.at_begin
+  pub supplied : RunsWhole new.config w struck → KeepsSupply new.at_begin new.supply
+  pub little : RunsWhole new.config w struck → EndsFullOfLittle new.config (record old.log { past = struck }) w new.log new.at_begin
 
 -- the recovery goes on, or has ended with this act: its Ready follows directly
 abbrev pub EndsRecovery : Log → Applied → Log → Type 0
@@ -354,9 +379,17 @@ EndsRecovery old applied.Stepped new = new ≡ old
 EndsRecovery old applied.Ready new = new ≡ with_mark old Ready
 EndsRecovery old other new = ⊥
 
--- how many slots of nodes the tree reached in the image at power on
+-- how many slots of nodes the tree of an image reaches
+abbrev pub count_in : Config → (ℕ → ℕ) → ℕ
+count_in config image = count_by (λ slot. is_reached_in config image slot) (range_with_len 0 config.nodes)
+
+-- and that of the image at power on
 abbrev pub count_reached : Config → Log → ℕ
-count_reached config log = count_by (λ slot. is_reached_in config (image_at_on log.start log.past) slot) (range_with_len 0 config.nodes)
+count_reached config log = count_in config (image_at_on log.start log.past)
+
+-- while the power is on, none of the slots that the tree of the durable words reaches is free
+abbrev pub KeepsApart : WorldView → Type 0
+KeepsApart lab = power_in lab ≡ power.On → lab.supply.left + count_in lab.config (image_after lab.log.start lab.log.past) ≤ lab.config.nodes
 
 -- then no descriptor is taken yet, and all slots are free but those
 abbrev pub GivesBack : Config → Log → Applied → Supply → Supply → Type 0
@@ -369,6 +402,7 @@ pub record Recovers (old : WorldView) (answer : Applied) (new : WorldView) : Typ
   pub flush : is_flush_act made ≡ flush_of old 0
   pub ends : EndsRecovery (with_mark old.log (mark_of 0 made)) answer new.log
   pub supply : GivesBack new.config new.log answer old.supply new.supply
+  pub at_begin : new.at_begin ≡ old.at_begin
   pub config : new.config ≡ old.config
   pub at_start : new.at_start ≡ old.at_start
   pub left_out : new.left_out ≡ old.left_out

@@ -76,6 +76,8 @@ fn open_call(parts: &mut Parts, w: u8, call: Call) -> u32
     task.laws();
     task.looks();
     parts.numbers[w as usize] = n;
+    parts.taken_then = parts.access.taken();
+    parts.left_then = parts.slots.left();
     parts.begun += 1;
     parts.pages_begun += pages_asked(&call);
     parts.workers[w as usize] = Some(OpenCall {

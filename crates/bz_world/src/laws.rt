@@ -46,6 +46,7 @@ pub(crate) fn paid_laws()
     lone::own_effects_are_paid();
     lone::hearings_are_paid();
     lone::starts_are_paid();
+    lone::idle_memories_allow_nothing();
     lone::asked_swaps_are_counted();
     rivals::rivals_fall();
     swap::lone_steps_are_allowed();

@@ -75,6 +75,8 @@ pub(crate) fn parts_over(
         page: PageBuf::open(alloc)?,
         left_out: ArrayVec::new(),
         pairs,
+        taken_then: 0,
+        left_then: 0,
         begun: 0,
         pages_begun: 0,
     })

@@ -32,6 +32,9 @@ pub(crate) struct Parts {
     pub left_out: ArrayVec<bool, 65>,
     /// How many pairs the map has.
     pub pairs: u64,
+    /// How many descriptors were taken, and how many slots were free, when the newest call began.
+    pub taken_then: u32,
+    pub left_then: u32,
     /// How many calls have begun.
     pub begun: u32,
     /// How many of them ask for a page.

@@ -3,6 +3,7 @@ ghost use Rattle.std.specs.Prelude.{IsTrue, ◌↔◌, ◌≡◌, ◌≢◌, ◌
 ghost use Rattle.bz_content.specs.Content.{image_fault};
 ghost use Rattle.bz_layout.specs.Addresses.{words_of as size_of};
 ghost use Rattle.bz_layout.specs.Config.{IsConfig};
+ghost use Rattle.bz_layout.specs.Fresh.{fresh_words};
 ghost use Rattle.bz_mark.specs.WordsAfter.{words_after_marks};
 ghost use Rattle.bz_sound.specs.Calls.{open_call};
 ghost use Rattle.bz_sound.specs.declared.power.Power.TheVariants.{Recovering, On};
@@ -54,15 +55,18 @@ impl Model for World {
 }
 
 impl World {
-    ghost use Rattle.bz_world.specs.WorldView.{WorldView, IsWorker, new_view, image_view, IsOpenFault, IsBootFault, power_in, begin_answer, after_begin, flush_of, open_number, reply_of, pairs_in, recovery_acts, recovery_most, AreFinishing, IsApplied};
+    ghost use Rattle.bz_world.specs.WorldView.{WorldView, IsWorker, new_view, image_view, IsOpenFault, IsBootFault, power_in, begin_answer, after_begin, flush_of, open_number, reply_of, pairs_in, recovery_acts, recovery_most, AreFinishing, IsApplied, KeepsApart, count_in};
     ghost use Rattle.bz_world.specs.Solo.{RunsAlone};
 
     /// A world over fresh memory, in which nothing has happened.
     pub fn open(alloc: Global, config: &Config) -> Result<World, OpenError>
         ensures ok { IfOk result (λ world. world ≡ new_view config.now) }
         ensures config { OnOk result (IsConfig config.now) }
+        // the tree takes one slot, the root's
+        ensures root { OnOk result (count_in config.now (slice_index (fresh_words config.now)) ≡ 1) }
         ensures err { IfErr result (IsOpenFault config.now) }
     {
+        bz_content::laws::fresh_memory_reaches_slot_zero();
         let parts = open_parts(alloc, config)?;
         Ok(World { parts })
     }
@@ -169,7 +173,9 @@ impl World {
 
     /// How many slots of nodes are free. With no power on none is told.
     pub fn left(&self) -> u32
-        ensures { result ≡ self.now.supply.left }
+        ensures left { result ≡ self.now.supply.left }
+        // none of those that the tree reaches now
+        ensures apart { KeepsApart self.now }
     {
         match self.parts.power {
             Power::On => self.parts.slots.left(),

@@ -7,7 +7,7 @@ use Rattle.bz_machine.specs.declared.done.Done.{Done}
 use Rattle.bz_mark.specs.Log.{with_mark}
 use Rattle.bz_mark.specs.declared.marks.Mark.{Mark}
 use Rattle.bz_mark.specs.declared.marks.Mark.TheVariants.{Evict}
-use Rattle.bz_lone.specs.FromCosts.Weights.{start_allows}
+use Rattle.bz_lone.specs.FromCosts.Weights.{start_takes}
 use Rattle.bz_rivals.specs.Rivals.{rivals, foreign}
 use Rattle.bz_rivals.specs.Wins.{GoesWell}
 use Rattle.bz_running.specs.Duties.{asks_of, needs_of, publishing_of, facts_of}
@@ -36,7 +36,7 @@ use Rattle.bz_world.specs.Inside.Alone.{HearsAlone, AsksAlone}
 use Rattle.bz_world.specs.Inside.Kept.{IsTabled, AreTaken, AreFree, IsAwake}
 use Rattle.bz_world.specs.Inside.Lonely.{WhereLonely, IsLonelyGet, AsksBriefly}
 use Rattle.bz_world.specs.Inside.Meant.{IsMeant}
-use Rattle.bz_world.specs.Inside.Paid.{runner, IsPaidFor}
+use Rattle.bz_world.specs.Inside.Paid.{no_extra, runner, stock_of, IsPaidFor}
 use Rattle.bz_world.specs.WorldView.{mark_of, IsStruck, stepper}
 use Rattle.bz_world.specs.Inside.Serving.{IsCovered, IsSlot, IsOpened, IsTasked, MayGoOn}
 use Rattle.bz_world.specs.declared.parts.Parts.{Parts}
@@ -60,7 +60,7 @@ pub record SameWork (old new : SwapMemory) : Type 0 where
   pub taken : new.taken ≡ old.taken
   pub size : length new.cached ≡ length old.cached
 
--- less is left to a worker after its step, and it has a rival fewer where the effect is of another's swap
+-- less is left to a worker after its step, which has taken no descriptor, and it has a rival fewer where the effect is of another's swap
 pub record StepsAt (old new : SwapMemory) (w s : ℕ) : Type 0 where
   pub left : left_to new w < left_to old w
   pub rivals : rivals new w + foreign old w (Some s) ≤ rivals old w
@@ -92,7 +92,7 @@ pub record IsBetween (p : Parts) (w : ℕ) (x : OpenCall) : Type 0 where
   pub living : IsLiving p.config p.access p.journal story
   pub sound : IsSound p.config p.at_start p.journal
   pub free : AreFree p.config (image_at_on p.journal.start p.journal.past) p.slots story.took
-  pub others : (v : ℕ) → v ≢ w → IsSlot p.config p.access p.journal story p.owners.items v (get_or p.workers.items v None)
+  pub others : (v : ℕ) → v ≢ w → IsSlot p.config p.access p.journal story p.owners.items (stock_of p) v (get_or p.workers.items v None)
   pub worker : 0 < w
   pub within : w ≤ p.config.workers
   pub opened : Open
@@ -119,7 +119,7 @@ pub record IsTold (p : Parts) (w : ℕ) (x : OpenCall) (seen : Seen) : Type 0 wh
   pub lonely : WhereLonely p.journal.past w x.call (λ key. IsLonelyGet p.access p.journal.past between.story w x between.opened key × (stage ≡ Waiting))
   pub alone : HearsAlone x.task seen (scene p.config p.journal.past between.story w between.call_open.look.since between.opened).past
   pub meant : IsMeant x (scene p.config p.journal.past between.story w between.call_open.look.since between.opened).past
-  pub paid : IsPaidFor p w x (effects_in seen) 0 (scene p.config p.journal.past between.story w between.call_open.look.since between.opened).past
+  pub paid : IsPaidFor p w x (effects_in seen) no_extra (scene p.config p.journal.past between.story w between.call_open.look.since between.opened).past
 
 -- and its task asks for this: for nothing more, where its change is made
 pub record IsAsking (p : Parts) (w : ℕ) (x : OpenCall) (todo : Todo) : Type 0 where
@@ -132,7 +132,7 @@ pub record IsAsking (p : Parts) (w : ℕ) (x : OpenCall) (todo : Todo) : Type 0 
   pub lonely : WhereLonely p.journal.past w x.call (λ key. AsksBriefly p.access p.journal.past between.story w x between.opened key todo)
   pub alone : AsksAlone x.task todo (scene p.config p.journal.past between.story w between.call_open.look.since between.opened).past
   pub meant : IsMeant x (scene p.config p.journal.past between.story w between.call_open.look.since between.opened).past
-  pub paid : IsPaidFor p w x 0 (start_allows todo) (scene p.config p.journal.past between.story w between.call_open.look.since between.opened).past
+  pub paid : IsPaidFor p w x 0 (λ r. start_takes r todo) (scene p.config p.journal.past between.story w between.call_open.look.since between.opened).past
 
 -- the worker's call is served, and its task is to be told this
 pub record MustTell (p : Parts) (w : ℕ) (seen : Seen) : Type 0 where

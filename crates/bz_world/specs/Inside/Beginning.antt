@@ -6,6 +6,7 @@ use Rattle.bz_sound.specs.declared.power.Power.TheVariants as power
 use Rattle.bz_sound.specs.Calls.{begun_calls}
 use Rattle.bz_swap.specs.SwapMemory.{Working, Doing, Swapping}
 use Rattle.bz_world.specs.Inside.Kept.{IsAwake}
+use Rattle.bz_world.specs.Inside.Paid.{begun_with}
 use Rattle.bz_world.specs.WorldView.{WorldView, Supply, supply_by, powered_answer, begin_answer, after_begin}
 use Rattle.bz_world.specs.declared.answers.Begun.{Begun}
 use Rattle.bz_world.specs.declared.answers.Begun.TheVariants as begun
@@ -30,6 +31,7 @@ world_view p = record {
   swapping = map (λ (v : Working). is_swap v.doing) p.access.workers;
   left_out = p.left_out.items;
   supply = supply_by p.power (supply_of p);
+  at_begin = begun_with p;
 }
 
 -- how many pages a call asks for

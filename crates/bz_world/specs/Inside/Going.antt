@@ -1,5 +1,5 @@
 -- A call whose task has ended: nothing goes on for it, until it is answered or gets another task.
-use Rattle.std.specs.Prelude.{◌≡◌, ◌≢◌, suc, ◌+◌, ◌<◌, ◌≤◌, ◌⊎◌, ℕ, ◌++◌, ◌∷◌, [], ◌*◌, Bool, true, false, List, length, get_or, Option, Some, None, option_map}
+use Rattle.std.specs.Prelude.{◌≡◌, ◌≢◌, ◌+◌, ◌<◌, ◌≤◌, ◌⊎◌, ℕ, ◌++◌, ◌∷◌, [], ◌*◌, Bool, true, false, List, length, get_or, Option, Some, None, option_map}
 use Rattle.bz_call.specs.Map.{key_of}
 use Rattle.bz_call.specs.Pages.{is_page}
 use Rattle.bz_call.specs.declared.calls.Call.{Call}
@@ -11,12 +11,14 @@ use Rattle.bz_call.specs.declared.replies.Spent.TheVariants.{Nodes, Swaps}
 use Rattle.bz_running.specs.FromBelow.Facts.{IsThawedAbove}
 use Rattle.bz_running.specs.FromConsol.Facts.{LeadsTo}
 use Rattle.bz_lone.specs.FromCosts.Most.{most_of_leaf, most_of_merge}
-use Rattle.bz_lone.specs.FromCosts.Weights.{start_allows}
+use Rattle.bz_lone.specs.FromCosts.Lone.{one_mark}
+use Rattle.bz_lone.specs.FromCosts.Resources.{Resource}
+use Rattle.bz_lone.specs.FromCosts.Weights.{start_takes}
 use Rattle.bz_layout.specs.declared.config.Config.{Config}
 use Rattle.bz_lone.specs.Errands.{Errand, is_read, is_freeze, IsLookOf}
 use Rattle.bz_lone.specs.Prices.{coming}
 use Rattle.bz_lone.specs.Rounds.{stage_now}
-use Rattle.bz_lone.specs.Sum.{IsThawed, PaysForRound}
+use Rattle.bz_lone.specs.Sum.{IsThawed}
 use Rattle.bz_layout.specs.declared.thresholds.TheConstants.{MERGE_SLOTS, SPLIT_ABOVE, SPLIT_SLOTS, MERGE_BELOW}
 use Rattle.bz_lone.specs.FromAlone.Alone.{IsAlone}
 use Rattle.bz_lone.specs.FromAlone.Reads.{get_reads}
@@ -49,10 +51,10 @@ use Rattle.bz_world.specs.Inside.Alone.{EndsAlone}
 use Rattle.bz_world.specs.Inside.Beginning.{supply_of}
 use Rattle.bz_world.specs.Inside.Kept.{IsAwake}
 use Rattle.bz_world.specs.Inside.Meant.{IsMeant}
-use Rattle.bz_world.specs.Inside.Paid.{errand_of, is_merge, IsFit, IsPaidFor, HasToSpare, HasARound}
+use Rattle.bz_world.specs.Inside.Paid.{begun_with, bound_in, errand_of, is_merge, no_extra, used_in, IsCounted, IsFit, IsPaidFor, HasToSpare, HasARound, HasARoundAs}
 use Rattle.bz_world.specs.Inside.Room.{LacksRoomFor}
 use Rattle.bz_world.specs.Inside.Lonely.{WhereLonely, IsNotLonely, IsLonelyGet, HasLooked}
-use Rattle.bz_world.specs.WorldView.{deadline, GoesOn, Spends, HasRunOut, EndsFullRightly, GetsBriefly, is_delete}
+use Rattle.bz_world.specs.WorldView.{deadline, GoesOn, Spends, HadFew, HasRunOut, EndsFullOfLittle, EndsFullRightly, GetsBriefly, KeepsSupply, RunsWhole, is_delete}
 use Rattle.bz_world.specs.Inside.Serving.{IsTasked, IsWanted, MayGoOn}
 use Rattle.bz_world.specs.declared.answers.Applied.{Applied}
 use Rattle.bz_world.specs.declared.parts.Parts.{Parts}
@@ -93,7 +95,7 @@ pub record MustLookUpAs (p : Parts) (w : ℕ) (change : Errand → Kind → Erra
   pub on : MustGoOn p w
   pub may : MayGoOn on.serving
   pub other : IsNotLonely p.journal.past w on.serving.call
-  pub pays : PaysForRound p.access w (change (errand_of on.serving) (kind_of on.serving.task)) (deadline p.config w p.journal.past) (known p w on).past
+  pub pays : HasARoundAs p w (change (errand_of on.serving) (kind_of on.serving.task)) (known p w on).past
 
 -- the call that is served, how its task has ended, what it asks for, the way to its leaf, its effect, and whether it froze its leaf last
 abbrev pub call_in : Option OpenCall → Option Call
@@ -189,9 +191,9 @@ abbrev pub GoesUpIn : Option OpenCall → AnyTask → Type 0
 GoesUpIn None next = ⊥
 GoesUpIn (Some x) next = GoesUp x.task next
 
--- its task has ended for want of slots only where fewer are left
+-- its task has ended for want of slots only where fewer are left, and where it runs alone from the begin of its call on, there were few then
 abbrev pub IsFullRightly : Parts → ℕ → Type 0
-IsFullRightly p w = end_in (get_or p.workers.items w None) ≡ Some (outcomes.Full Nodes) → length p.slots.free < wants_in (get_or p.workers.items w None)
+IsFullRightly p w = end_in (get_or p.workers.items w None) ≡ Some (outcomes.Full Nodes) → (length p.slots.free < wants_in (get_or p.workers.items w None)) × (RunsWhole p.config w p.journal.past → HadFew p.config (begun_with p) Nodes)
 
 -- nor has it ended for want of a descriptor
 abbrev pub HasNotLackedSwaps : Parts → ℕ → Type 0
@@ -221,10 +223,10 @@ with_alone slot alone = option_map (λ (x : OpenCall). record x { alone = alone 
 abbrev pub with_froze : Option OpenCall → Bool → Option OpenCall
 with_froze slot froze = option_map (λ (x : OpenCall). record x { froze = froze }) slot
 
--- what the start of this allows, if it is asked for
-abbrev pub allowed_for : Option Todo → ℕ
-allowed_for None = 0
-allowed_for (Some todo) = start_allows todo
+-- what the start of this takes, if it is asked for
+abbrev pub taken_for : Option Todo → Resource → ℕ
+taken_for None r = 0
+taken_for (Some todo) r = start_takes r todo
 
 -- a task that it may get, which asks for this: after this path was found, if one was, and for the change of the call, where
 -- its key had this payload, or none
@@ -237,7 +239,7 @@ pub record MustTakeOn (p : Parts) (w : ℕ) (task : AnyTask) (way : Option Path)
   pub wanted : IsWanted p.config p.journal on.between.opened (wants_of task)
   pub lonely : WhereLonely p.journal.past w on.serving.call (IsLonelyGet p.access p.journal.past on.between.story w (record on.serving { task = task; path = way; had = had }) on.between.opened)
   pub meant : IsMeant (record on.serving { task = task; path = way; had = had }) (known p w on).past
-  pub paid : IsPaidFor p w (record on.serving { task = task; path = way; had = had }) 0 (allowed_for asked) (known p w on).past
+  pub paid : IsPaidFor p w (record on.serving { task = task; path = way; had = had }) 0 (taken_for asked) (known p w on).past
 
 -- the way to its leaf was found, which is to be read whole
 pub record MustRead (p : Parts) (w : ℕ) (path : Path) : Type 0 where
@@ -245,7 +247,7 @@ pub record MustRead (p : Parts) (w : ℕ) (path : Path) : Type 0 where
   pub may : MayGoOn on.serving
   pub leads : IsPath (key_of on.serving.call) path (known p w on).past
   pub other : IsNotLonely p.journal.past w on.serving.call
-  pub spares : HasToSpare p w on.serving (known p w on).past (λ q. most_of_leaf + coming q (errand_of on.serving) kinds.ReadWhole)
+  pub spares : HasToSpare p w on.serving (known p w on).past (λ r q. most_of_leaf r + coming r q (errand_of on.serving) kinds.ReadWhole)
   pub look : on.serving.effect ≡ None → IsLookOf on.serving.call kinds.ReadWhole
 
 -- its task knows what it should, and has ended so
@@ -258,7 +260,7 @@ pub record MustFind (p : Parts) (w : ℕ) (path : Path) : Type 0 where
   pub quiet : on.serving.effect ≡ None
   pub leads : IsPath (key_of on.serving.call) path (known p w on).past
   pub ends : EndsSo p w on (outcomes.Path path)
-  pub spares : HasToSpare p w on.serving (known p w on).past (λ q. coming q (errand_of on.serving) kinds.Seek)
+  pub spares : HasToSpare p w on.serving (known p w on).past (λ r q. coming r q (errand_of on.serving) kinds.Seek)
 
 -- its task has ended so, and it had no effect
 pub record HasEnded (p : Parts) (w : ℕ) (outcome : Outcome) : Type 0 where
@@ -272,14 +274,14 @@ pub record HasEnded (p : Parts) (w : ℕ) (outcome : Outcome) : Type 0 where
   pub found : (view : KeyView) → outcome ≡ outcomes.Key view → IsKeyView (key_of on.serving.call) view (known p w on).past
   pub leads_found : (view : KeyView) → outcome ≡ outcomes.Key view → (path : Path) → on.serving.path ≡ Some path → IsPath (key_of on.serving.call) path (known p w on).past
   pub leads : (view : LeafView) → outcome ≡ outcomes.View view → (path : Path) → on.serving.path ≡ Some path → IsPath (key_of on.serving.call) path (known p w on).past
-  pub full : outcome ≡ outcomes.Full Nodes → length p.slots.free < wants_of on.serving.task
+  pub full : outcome ≡ outcomes.Full Nodes → (length p.slots.free < wants_of on.serving.task) × (RunsWhole p.config w p.journal.past → HadFew p.config (begun_with p) Nodes)
   pub swaps : outcome ≢ outcomes.Full Swaps
   pub silent : outcome ≡ outcomes.NeedsRoom → makes_no_change on.serving.task ≡ true
   pub some : (view : LeafView) → outcome ≡ outcomes.View view → on.serving.path ≢ None
   pub some_found : (view : KeyView) → outcome ≡ outcomes.Key view → on.serving.path ≢ None
   pub alone : EndsAlone outcome (known p w on).past
   pub meant : IsMeant on.serving (known p w on).past
-  pub paid : IsPaidFor p w on.serving 0 0 (known p w on).past
+  pub paid : IsPaidFor p w on.serving 0 no_extra (known p w on).past
 
 -- its leaf was read, by the path that was found, and it had no effect
 pub record MustAnswer (p : Parts) (w : ℕ) (view : LeafView) : Type 0 where
@@ -289,7 +291,7 @@ pub record MustAnswer (p : Parts) (w : ℕ) (view : LeafView) : Type 0 where
   pub quiet : on.serving.effect ≡ None
   pub other : IsNotLonely p.journal.past w on.serving.call
   pub some : on.serving.path ≢ None
-  pub spares : HasToSpare p w on.serving (known p w on).past (λ q. coming q (errand_of on.serving) kinds.ReadWhole)
+  pub spares : HasToSpare p w on.serving (known p w on).past (λ r q. coming r q (errand_of on.serving) kinds.ReadWhole)
   pub look : IsLookOf on.serving.call kinds.ReadWhole
   pub kind : kind_of on.serving.task ≡ kinds.ReadWhole
 
@@ -301,7 +303,7 @@ pub record MustAnswerKey (p : Parts) (w : ℕ) (view : KeyView) : Type 0 where
   pub quiet : on.serving.effect ≡ None
   pub ends : EndsSo p w on (outcomes.Key view)
   pub some : on.serving.path ≢ None
-  pub spares : HasToSpare p w on.serving (known p w on).past (λ q. coming q (errand_of on.serving) kinds.Find)
+  pub spares : HasToSpare p w on.serving (known p w on).past (λ r q. coming r q (errand_of on.serving) kinds.Find)
   pub look : IsLookOf on.serving.call kinds.Find
 
 -- the way to its leaf was found and is known, and it had no effect
@@ -320,7 +322,7 @@ IsChangeKind kind = (kind ≡ kinds.Insert) ⊎ ((kind ≡ kinds.Update) ⊎ (ki
 pub record MustReadCrowded (p : Parts) (w : ℕ) : Type 0 where
   pub reads : MustReadWhole p w
   pub write : is_read reads.on.serving.call ≡ false
-  pub spares : HasToSpare p w reads.on.serving (known p w reads.on).past (λ q. most_of_leaf + coming q (errand_of reads.on.serving) kinds.ReadWhole)
+  pub spares : HasToSpare p w reads.on.serving (known p w reads.on).past (λ r q. most_of_leaf r + coming r q (errand_of reads.on.serving) kinds.ReadWhole)
 
 -- a task that makes its change, which is yet to begin
 pub record MustChange (p : Parts) (w : ℕ) (had : Option (List ℕ)) (task : AnyTask) : Type 0 where
@@ -332,7 +334,7 @@ pub record MustChange (p : Parts) (w : ℕ) (had : Option (List ℕ)) (task : An
   pub changes : 0 < change_swaps task
   pub kind : IsChangeKind (kind_of task)
   pub write : is_read reads.on.serving.call ≡ false
-  pub spares : HasToSpare p w reads.on.serving (known p w reads.on).past (λ q. coming q (errand_of reads.on.serving) kinds.Find)
+  pub spares : HasToSpare p w reads.on.serving (known p w reads.on).past (λ r q. coming r q (errand_of reads.on.serving) kinds.Find)
   pub made : made_of task ≡ 0
   pub silent : makes_no_change task ≡ false
   -- it ends for want of room only where there is none, in a clean round
@@ -342,14 +344,14 @@ pub record MustChange (p : Parts) (w : ℕ) (had : Option (List ℕ)) (task : An
 pub record MustRestructure (p : Parts) (w : ℕ) (view : LeafView) : Type 0 where
   pub answer : MustAnswer p w view
   pub lacks : LacksRoomFor answer.on.serving.call view.status
-  pub spares : HasToSpare p w answer.on.serving (known p w answer.on).past (λ q. q.viewed)
+  pub spares : HasToSpare p w answer.on.serving (known p w answer.on).past (λ r q. q.viewed)
 
 -- its leaf, which was found by this path, is to be made anew
 pub record MustMakeAnew (p : Parts) (w : ℕ) (path : Path) (view : LeafView) : Type 0 where
   pub answer : MustAnswer p w view
   pub way : IsPath (key_of answer.on.serving.call) path (known p w answer.on).past
   pub lacks : LacksRoomFor answer.on.serving.call view.status
-  pub spares : HasToSpare p w answer.on.serving (known p w answer.on).past (λ q. q.viewed)
+  pub spares : HasToSpare p w answer.on.serving (known p w answer.on).past (λ r q. q.viewed)
 
 -- and is frozen, so that it may be copied
 pub record MustCopy (p : Parts) (w : ℕ) (path : Path) (view : LeafView) : Type 0 where
@@ -391,16 +393,21 @@ pub record MustMerge (p : Parts) (w : ℕ) (path : Path) (view : LeafView) : Typ
   pub frozen : on.serving.effect ≡ None → (status view.status).frozen ≡ true
   pub write : on.serving.effect ≡ None → is_read on.serving.call ≡ false
   pub thawed_call : IsThawed (errand_of on.serving)
-  pub spares : HasToSpare p w on.serving (known p w on).past (λ q. most_of_merge + coming q (errand_of on.serving) kinds.Merge)
+  pub spares : HasToSpare p w on.serving (known p w on).past (λ r q. most_of_merge r + coming r q (errand_of on.serving) kinds.Merge)
 
 -- its split has ended because the node above lacked the room, and this is the split of that one, which is yet to begin
 pub record MustGoUp (p : Parts) (w : ℕ) (task : AnyTask) : Type 0 where
   pub ends : HasEnded p w outcomes.NeedsRoom
   pub up : GoesUp ends.on.serving.task task
 
--- a mark is left for the end of the call
+-- no more is used than may be, and a mark is left for the end of the call
 abbrev pub HasRoomForEnd : Parts → ℕ → Type 0
-HasRoomForEnd p w = suc (length p.journal.past) ≤ deadline p.config w p.journal.past
+HasRoomForEnd p w = (r : Resource) → IsCounted r p.config w p.journal.past → used_in r p w + one_mark r ≤ bound_in r p w
+
+-- what is spent has run out, which of a call whose worker steps alone from its begin on is so only where there was little then
+pub record RunsOut (p : Parts) (w : ℕ) (spent : Spent) : Type 0 where
+  pub out : HasRunOut p.config p.journal w (supply_of p) spent
+  pub little : RunsWhole p.config w p.journal.past → HadFew p.config (begun_with p) spent
 
 -- the call puts this payload at its key, where the key is absent, or present
 abbrev pub MayInsert : Call → List ℕ → List ℕ → Type 0
@@ -434,7 +441,7 @@ pub record HasEndedAfter (p : Parts) (w at : ℕ) (outcome : Outcome) : Type 0 w
   pub ends : end_of had.on.serving.task ≡ Some outcome
   pub facts : facts_of had.on.serving.task Waiting (known p w had.on)
   pub tasked : IsTasked p.config had.on.serving.call had.on.serving.path had.on.serving.had had.on.serving.task
-  pub paid : IsPaidFor p w had.on.serving 0 0 (known p w had.on).past
+  pub paid : IsPaidFor p w had.on.serving 0 no_extra (known p w had.on).past
   pub path : (path : Path) → outcome ≡ outcomes.Path path → IsPath (key_of had.on.serving.call) path (known p w had.on).past
   pub view : (view : LeafView) → outcome ≡ outcomes.View view → IsView (key_of had.on.serving.call) view (known p w had.on).past
   pub leads : (view : LeafView) → outcome ≡ outcomes.View view → (path : Path) → had.on.serving.path ≡ Some path → IsPath (key_of had.on.serving.call) path (known p w had.on).past
@@ -445,12 +452,13 @@ pub record HasReadAfter (p : Parts) (w at : ℕ) (view : LeafView) : Type 0 wher
   pub deletes : is_delete had.on.serving.call ≡ true
   pub viewed : IsView (key_of had.on.serving.call) view (known p w had.on).past
   pub leads : (path : Path) → had.on.serving.path ≡ Some path → IsPath (key_of had.on.serving.call) path (known p w had.on).past
-  pub spares : HasToSpare p w had.on.serving (known p w had.on).past (λ q. coming q (errand_of had.on.serving) kinds.ReadWhole)
+  pub spares : HasToSpare p w had.on.serving (known p w had.on).past (λ r q. coming r q (errand_of had.on.serving) kinds.ReadWhole)
 
 -- no descriptor is left
 pub record LacksSwap (p : Parts) (w : ℕ) : Type 0 where
   pub on : MustGoOn p w
   pub spent : p.access.taken ≡ p.config.swaps
+  pub little : RunsWhole p.config w p.journal.past → HadFew p.config (begun_with p) Swaps
   pub room : HasRoomForEnd p w
   pub write : on.serving.effect ≡ None → is_read on.serving.call ≡ false
 
@@ -459,6 +467,7 @@ pub record IsOutOfSlots (p : Parts) (w : ℕ) : Type 0 where
   pub on : MustGoOn p w
   pub quiet : on.serving.effect ≡ None
   pub fewer : length p.slots.free < wants_of on.serving.task
+  pub little : RunsWhole p.config w p.journal.past → HadFew p.config (begun_with p) Nodes
 
 -- something is spent and has run out, and the call had no effect
 pub record IsShort (p : Parts) (w : ℕ) (spent : Spent) : Type 0 where
@@ -467,13 +476,13 @@ pub record IsShort (p : Parts) (w : ℕ) (spent : Spent) : Type 0 where
   pub write : is_read on.serving.call ≡ false
   pub room : HasRoomForEnd p w
   pub cause : IsSpent p.config p.journal.start p.journal.past w on.between.opened spent
-  pub out : HasRunOut p.config p.journal w (supply_of p) spent
+  pub out : RunsOut p w spent
 
 -- this is a right reply to it, at this moment; a Full only where what it names has run out; and where it is a lonely get, after few acts
 pub record MustEnd (p : Parts) (w : ℕ) (reply : Reply) (at : ℕ) : Type 0 where
   pub on : MustGoOn p w
   pub right : IsRightReply p.config p.journal.start p.journal.pages p.journal.past (record { worker = w; opened = on.between.opened; reply = reply; at = at })
-  pub full : (spent : Spent) → reply ≡ Full spent → HasRunOut p.config p.journal w (supply_of p) spent
+  pub full : (spent : Spent) → reply ≡ Full spent → RunsOut p w spent
   pub room : HasRoomForEnd p w
   pub brief : WhereLonely p.journal.past w on.serving.call (λ key. acts_since w p.journal.past ≤ 2 * get_reads p.config (image_at p.journal.start at p.journal.past) key)
 
@@ -497,3 +506,6 @@ pub record WentOn (old : Parts) (w : ℕ) (answer : Applied) (new : Parts) : Typ
   pub others : (v : ℕ) → v ≢ w → worker_of new.access v ≡ worker_of old.access v
   pub brief : GetsBriefly new.config old.journal w new.journal
   pub lone : length new.journal.past ≤ deadline new.config w old.journal.past
+  pub begun : begun_with new ≡ begun_with old
+  pub supplied : RunsWhole new.config w old.journal.past → KeepsSupply (begun_with new) (supply_of new)
+  pub little : RunsWhole new.config w old.journal.past → EndsFullOfLittle new.config old.journal w new.journal (begun_with new)

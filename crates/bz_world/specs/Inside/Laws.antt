@@ -6,9 +6,10 @@ use Rattle.bz_lone.specs.FromAlone.Restarts.{LoneRestartsAreRefusals}
 use Rattle.bz_lone.specs.FromAlone.Tasks.{LonersGoOn}
 use Rattle.bz_lone.specs.FromCosts.Costs.{LoneCallsAreAffordable}
 use Rattle.bz_lone.specs.FromCosts.Laws.{AskedSwapsAreCounted}
+use Rattle.bz_lone.specs.FromCosts.Resources.{Resource}
 use Rattle.bz_lone.specs.Renewals.{RenewalsArePaid, AscentsArePaid}
 use Rattle.bz_lone.specs.Rounds.{LessIsSpared, EndsAreAfforded, EndsArePaid, WaysArePaid, ChangesArePaid, LeavesAreRead, ReadLeavesArePaid, TasksMayBegin, RoundsBegin, DisturbedRoundsArePaid, EndsLeaveARound}
-use Rattle.bz_lone.specs.Steps.{AnyCallIsPaid, AnyRoundIsPaid, FirstRoundsArePaid, QuietStepsArePaid, ForeignEffectsArePaid, EffectMarksArePaid, LessIsPaid, OwnEffectsArePaid, HearingsArePaid, StartsArePaid}
+use Rattle.bz_lone.specs.Steps.{AnyCallIsPaid, AnyRoundIsPaid, FirstRoundsArePaid, IdleMemoriesAllowNothing, QuietStepsArePaid, ForeignEffectsArePaid, EffectMarksArePaid, LessIsPaid, OwnEffectsArePaid, HearingsArePaid, StartsArePaid}
 use Rattle.bz_page.specs.Laws.{ViewsSayWhatImagesSay}
 use Rattle.bz_record.specs.Laws.{ViewsShowLeaves}
 use Rattle.bz_rivals.specs.Laws.{RivalsFall}
@@ -60,33 +61,34 @@ pub record PaidLaws : Type 0 where
   pub affordable : LoneCallsAreAffordable
   pub any : AnyCallIsPaid
   pub round : AnyRoundIsPaid
-  pub first : FirstRoundsArePaid
-  pub quiet : QuietStepsArePaid
-  pub foreign : ForeignEffectsArePaid
-  pub marks : EffectMarksArePaid
-  pub less : LessIsPaid
-  pub own : OwnEffectsArePaid
-  pub heard : HearingsArePaid
-  pub starts : StartsArePaid
+  pub first : (r : Resource) → FirstRoundsArePaid r
+  pub quiet : (r : Resource) → QuietStepsArePaid r
+  pub foreign : (r : Resource) → ForeignEffectsArePaid r
+  pub marks : (r : Resource) → EffectMarksArePaid r
+  pub less : (r : Resource) → LessIsPaid r
+  pub own : (r : Resource) → OwnEffectsArePaid r
+  pub heard : (r : Resource) → HearingsArePaid r
+  pub starts : (r : Resource) → StartsArePaid r
+  pub idle : IdleMemoriesAllowNothing
   pub asked : AskedSwapsAreCounted
   pub steps : LoneStepsAreAllowed
   pub rivals : RivalsFall
 
 -- and what comes after a task
 pub record RoundLaws : Type 0 where
-  pub less : LessIsSpared
-  pub afforded : EndsAreAfforded
-  pub ends : EndsArePaid
-  pub ways : WaysArePaid
-  pub changes : ChangesArePaid
-  pub leaves : LeavesAreRead
-  pub read : ReadLeavesArePaid
-  pub tasks : TasksMayBegin
-  pub begin : RoundsBegin
-  pub disturbed : DisturbedRoundsArePaid
-  pub rounds : EndsLeaveARound
-  pub renewals : RenewalsArePaid
-  pub ascents : AscentsArePaid
+  pub less : (r : Resource) → LessIsSpared r
+  pub afforded : (r : Resource) → EndsAreAfforded r
+  pub ends : (r : Resource) → EndsArePaid r
+  pub ways : (r : Resource) → WaysArePaid r
+  pub changes : (r : Resource) → ChangesArePaid r
+  pub leaves : (r : Resource) → LeavesAreRead r
+  pub read : (r : Resource) → ReadLeavesArePaid r
+  pub tasks : (r : Resource) → TasksMayBegin r
+  pub begin : (r : Resource) → RoundsBegin r
+  pub disturbed : (r : Resource) → DisturbedRoundsArePaid r
+  pub rounds : (r : Resource) → EndsLeaveARound r
+  pub renewals : (r : Resource) → RenewalsArePaid r
+  pub ascents : (r : Resource) → AscentsArePaid r
   pub asked : AskedSwapsAreCounted
   pub views : LoneViewsTellTheLeaf
   pub stages : LoneViewsTellTheStage

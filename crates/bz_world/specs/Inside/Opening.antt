@@ -8,6 +8,7 @@ use Rattle.bz_sound.specs.Memory.Moments.{map_at_start}
 use Rattle.bz_sound.specs.declared.power.Power.{Power}
 use Rattle.bz_swap.specs.Held.{Holds}
 use Rattle.bz_swap.specs.Power.{IsOpened}
+use Rattle.bz_world.specs.Inside.Paid.{begun_with}
 use Rattle.bz_world.specs.WorldView.{view_over}
 use Rattle.bz_world.specs.declared.parts.Parts.{Parts}
 
@@ -27,6 +28,7 @@ pub record IsMadeOver (start : List ℕ) (first : Power) (p : Parts) : Type 0 wh
   pub left_out : p.left_out.items ≡ []
   pub pairs : p.pairs ≡ len (map_at_start p.config start)
   pub few_pairs : p.pairs < 2 ^ 63
+  pub at_begin : begun_with p ≡ record { taken = 0; left = 0 }
   pub begun : p.begun ≡ 0
   pub pages_begun : p.pages_begun ≡ 0
   pub at_start : p.at_start ≡ first

@@ -8,7 +8,6 @@ use Rattle.bz_call.specs.declared.replies.Reply.TheVariants.{Inserted, Deleted, 
 use Rattle.bz_layout.specs.declared.config.Config.{Config}
 use Rattle.bz_layout.specs.declared.thresholds.TheConstants.{SPLIT_SLOTS}
 use Rattle.bz_shape.specs.Walk.{is_among}
-use Rattle.bz_lone.specs.Sum.{IsPaid}
 use Rattle.bz_mark.specs.Log.{Log}
 use Rattle.bz_mark.specs.declared.marks.Mark.{Mark}
 use Rattle.bz_running.specs.Duties.{config_of, asks_of, needs_of, wants_of, change_of, publishing_of, facts_of, makes_no_change}
@@ -30,8 +29,8 @@ use Rattle.bz_task.specs.declared.todo.Todo.TheVariants as todo
 use Rattle.bz_word.specs.declared.entry.Entry.{Entry}
 use Rattle.bz_world.specs.Inside.Alone.{WaitsAlone, untold}
 use Rattle.bz_world.specs.Inside.Meant.{IsMeant}
-use Rattle.bz_world.specs.Inside.Paid.{errand_of, runner}
-use Rattle.bz_world.specs.WorldView.{is_delete, deadline}
+use Rattle.bz_world.specs.Inside.Paid.{Stock, IsPaidIn, errand_of, no_extra, runner}
+use Rattle.bz_world.specs.WorldView.{is_delete}
 use Rattle.bz_world.specs.declared.serving.OpenCall.{OpenCall}
 
 -- the change that a call makes where its key had this payload, or none
@@ -132,7 +131,7 @@ pub record IsTasked (c : Config) (called : Call) (way : Option Path) (had : Opti
   pub wayless : way ≡ None → (other : Option Path) → IsLookup (key_of called) other task
 
 -- the task goes on: the worker does what it asked for, and it knows what it should
-pub record IsServing (c : Config) (m : SwapMemory) (log : Log) (story : Story) (owners : List ℕ) (w : ℕ) (x : OpenCall) : Type 0 where
+pub record IsServing (c : Config) (m : SwapMemory) (log : Log) (story : Story) (owners : List ℕ) (stock : Stock) (w : ℕ) (x : OpenCall) : Type 0 where
   pub opened : Open
   pub call_open : IsOpened c log w opened x
   pub tasked : IsTasked c x.call x.path x.had x.task
@@ -144,7 +143,7 @@ pub record IsServing (c : Config) (m : SwapMemory) (log : Log) (story : Story) (
   pub covered : IsCovered (story.took w) (story.filled w) (needs_of x.task)
   pub alone : WaitsAlone m (doing_of m w) x.task (scene c log.past story w call_open.look.since opened).past
   pub meant : IsMeant x (scene c log.past story w call_open.look.since opened).past
-  pub paid : runner c log.past ≡ Some w → IsPaid m w (errand_of x) x.task (untold m (doing_of m w)) 0 (deadline c w log.past) (scene c log.past story w call_open.look.since opened).past
+  pub paid : runner c log.past ≡ Some w → IsPaidIn c m log.past stock w (errand_of x) x.task (untold m (doing_of m w)) no_extra (scene c log.past story w call_open.look.since opened).past
 
 -- no call of the worker is open, it does nothing, and it has stored into each slot that it took
 pub record IsAtRest (m : SwapMemory) (log : Log) (story : Story) (w : ℕ) : Type 0 where
@@ -152,9 +151,9 @@ pub record IsAtRest (m : SwapMemory) (log : Log) (story : Story) (w : ℕ) : Typ
   pub idle : doing_of m w ≡ Idle
   pub filled : (k : ℕ) → story.took w k ≡ true → story.filled w k ≡ true
 
-abbrev pub IsSlot : Config → SwapMemory → Log → Story → List ℕ → ℕ → Option OpenCall → Type 0
-IsSlot c m log story owners w None = IsAtRest m log story w
-IsSlot c m log story owners w (Some x) = IsServing c m log story owners w x
+abbrev pub IsSlot : Config → SwapMemory → Log → Story → List ℕ → Stock → ℕ → Option OpenCall → Type 0
+IsSlot c m log story owners stock w None = IsAtRest m log story w
+IsSlot c m log story owners stock w (Some x) = IsServing c m log story owners stock w x
 
 -- its task's swap makes the change of the call
 abbrev pub is_publishing : Option OpenCall → Bool

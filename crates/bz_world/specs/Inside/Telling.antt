@@ -62,7 +62,9 @@ pub record KnowsWay (p : Parts) (w : ℕ) (x : OpenCall) (between : IsBetween p 
   pub leads : (path : Path) → x.path ≡ Some path → IsPath (key_of x.call) path (scene p.config p.journal.past between.story w between.call_open.look.since between.opened).past
   pub quiet : x.effect ≡ None
   pub some : x.path ≢ None
-  pub spares : HasToSpare p w x (scene p.config p.journal.past between.story w between.call_open.look.since between.opened).past (λ q. coming q (errand_of x) kinds.Find)
+  -- and its task takes no slot
+  pub slotless : needs_of x.task ≡ 0
+  pub spares : HasToSpare p w x (scene p.config p.journal.past between.story w between.call_open.look.since between.opened).past (λ r q. coming r q (errand_of x) kinds.Find)
   -- its task ends for want of room only where there is none, in a clean round
   pub lacks : (z : Scene) → means_of x.task NeedsRoom z → IsAlone 0 (scene p.config p.journal.past between.story w between.call_open.look.since between.opened).past
       → 0 < stage_now (errand_of x) (scene p.config p.journal.past between.story w between.call_open.look.since between.opened).past

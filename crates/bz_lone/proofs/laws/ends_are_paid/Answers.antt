@@ -2,4 +2,4 @@ use Rattle.bz_lone.proofs.Ends.{ends-paid}
 use Rattle.bz_lone.proofs.laws.ends_are_paid.Goals as goal
 
 pub returns : goal.returns
-returns c = ends-paid
+returns c = λ r. ends-paid r

@@ -2,4 +2,4 @@ use Rattle.bz_lone.proofs.Sparing.{less-is-spared}
 use Rattle.bz_lone.proofs.laws.less_is_spared.Goals as goal
 
 pub returns : goal.returns
-returns c = less-is-spared
+returns c = λ r. less-is-spared r

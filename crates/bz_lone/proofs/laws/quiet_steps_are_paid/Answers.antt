@@ -2,4 +2,4 @@ use Rattle.bz_lone.proofs.Quiet.{quiet-paid}
 use Rattle.bz_lone.proofs.laws.quiet_steps_are_paid.Goals as goal
 
 pub returns : goal.returns
-returns c = quiet-paid c.stages_stand.ensures
+returns c = λ r. quiet-paid r c.stages_stand.ensures

@@ -24,7 +24,7 @@ tell-todo-requires c = taken-begins c.args.parts.now c.args.w c.args.task c.args
 pub go_on_changing-requires-clause-asks : goal.go_on_changing-requires-clause-asks
 go_on_changing-requires-clause-asks c = c.tell-todo.ensures.knows
     (begins-knowing c.args.parts.now c.args.w c.args.task c.args.had None c.requires.change.reads.on.serving.path (takes c.alone_laws.ensures.rounds c.args.parts.now c.args.w c.args.had c.args.task c.requires.change) c.set_change.new.slot slot
-    (tells-nothing c.args.parts.now c.args.w c.requires.change.reads.on c.args.had c.requires.change.reads.quiet) c.alone_laws.ensures refl c.requires.change.reads.leads c.requires.change.reads.quiet c.requires.change.reads.some refl (record { spares = c.requires.change.spares; lacks = c.requires.change.lacks }))
+    (tells-nothing c.args.parts.now c.args.w c.requires.change.reads.on c.args.had c.requires.change.reads.quiet) c.alone_laws.ensures refl c.requires.change.reads.leads c.requires.change.reads.quiet c.requires.change.reads.some refl (record { slotless = omega (arith, c.requires.change.tasked.laws.few, c.requires.change.wants); spares = c.requires.change.spares; lacks = c.requires.change.lacks }))
   where
     slot : c.set_change.new.slot ≡ Some (record c.requires.change.reads.on.serving { task = c.args.task; had = c.args.had })
     slot = c.set_change.ensures ∙ ap (λ (z : Option OpenCall). with_change z c.args.task c.args.had) (slot-is c.args.parts.now c.args.w c.requires.change.reads.on c.index_mut.result.now c.index_mut.ensures.value)

@@ -1,10 +1,8 @@
 use Rattle.std.proofs.Common.{sym, subst, ◌∙◌}
 use Rattle.bz_call.specs.declared.replies.Reply.TheVariants.{Full}
 use Rattle.bz_sound.specs.Memory.Replies.{IsWrite}
-use Rattle.bz_world.specs.Inside.Beginning.{supply_of}
-use Rattle.bz_world.specs.Inside.Going.{MustEnd}
+use Rattle.bz_world.specs.Inside.Going.{MustEnd, RunsOut}
 use Rattle.bz_world.specs.Inside.Lonely.{IsNotLonelyIn}
-use Rattle.bz_world.specs.WorldView.{HasRunOut}
 use Rattle.bz_world.proofs.Spared.{is-write}
 use Rattle.bz_world.proofs.going.end_full.Goals as goal
 
@@ -14,7 +12,7 @@ end-requires-clause-right c = subst (MustEnd c.args.parts.now c.args.w (Full c.a
   right = c.spent_answers_full.ensures c.args.parts.now.config c.args.parts.now.journal c.args.w c.requires.short.on.between.opened c.args.spent c.requires.short.on.between.call_open.is_open
       (c.requires.short.on.between.call_open.effect ∙ c.requires.short.quiet) writes c.requires.short.cause;
   room = c.requires.short.room;
-  full = λ spent e. subst (HasRunOut c.args.parts.now.config c.args.parts.now.journal c.args.w (supply_of c.args.parts.now)) (cc e) c.requires.short.out;
+  full = λ spent e. subst (RunsOut c.args.parts.now c.args.w) (cc e) c.requires.short.out;
   brief = λ key get lonely. absurd (subst (IsNotLonelyIn c.args.parts.now.journal.past c.args.w) c.requires.short.on.is c.requires.other key get lonely);
 })
   where

@@ -12,7 +12,7 @@ end_full-requires-clause-short c = record {
   on = c.requires.lacks.on;
   quiet = ap effect_in (sym (slot-is c.args.parts.now c.args.w c.requires.lacks.on c.index.result.now c.index.ensures)) ∙ sym c.in-None.ensures;
   cause = c.held_swaps_are_spent.ensures c.args.parts.now.config c.args.parts.now.journal.start c.args.parts.now.journal.past c.args.w c.requires.lacks.on.between.opened (slice_index c.args.parts.now.owners.items) (are-held c.args.parts.now c.args.w c.requires.lacks);
-  out = c.requires.lacks.spent;
+  out = record { out = c.requires.lacks.spent; little = c.requires.lacks.little };
   room = c.requires.lacks.room;
   write = c.requires.lacks.write (ap effect_in (sym (slot-is c.args.parts.now c.args.w c.requires.lacks.on c.index.result.now c.index.ensures)) ∙ sym c.in-None.ensures);
 }

@@ -1,4 +1,4 @@
-use Rattle.std.proofs.Common.{◌≡◌, length, arith, sym, ap, subst, None}
+use Rattle.std.proofs.Common.{◌≡◌, ℕ, length, arith, sym, ap, subst, None}
 use Rattle.std.specs.Prelude.{get_or}
 use Rattle.bz_layout.specs.Slots.{FreeSlots}
 use Rattle.bz_task.specs.declared.todo.Seen.TheVariants.{NoSwap}
@@ -6,9 +6,12 @@ use Rattle.bz_world.specs.Inside.Acted.{MustTell}
 use Rattle.bz_world.specs.Inside.Lonely.{IsNotLonelyIn}
 use Rattle.bz_world.specs.Inside.Telling.{HasToldIn}
 use Rattle.bz_world.specs.declared.parts.Parts.{Parts}
+use Rattle.bz_lone.specs.FromCosts.Resources.{Resource}
+use Rattle.bz_lone.specs.FromCosts.Weights.{start_takes}
+use Rattle.bz_story.specs.Story.{scene}
 use Rattle.bz_world.proofs.Paid.{affords-room}
-use Rattle.bz_world.specs.WorldView.{deadline}
-use Rattle.bz_world.specs.Inside.Paid.{errand_of}
+use Rattle.bz_world.specs.Inside.Going.{HasRoomForEnd}
+use Rattle.bz_world.specs.Inside.Paid.{bound_in, errand_of, used_in, IsPaidFor}
 use Rattle.bz_world.proofs.Supplies.{told-few, told-fewer, few-asked}
 use Rattle.bz_world.proofs.TakingOn.{lacks-told, lacks-swap, lacks-other, told-went, went-started}
 use Rattle.bz_world.proofs.going.go_on.Goals as goal
@@ -61,4 +64,7 @@ returns-else-start-clause-few c = omega (
 
 pub returns-then-start-clause-went : goal.returns-then-start-clause-went
 returns-then-start-clause-went c = went-started c.args.parts.now c.args.parts.now.workers c.args.w c.start.new.parts (c.start.ensures.started c.if-start.true) c.start.ensures.rest c.start.ensures.taken c.start.ensures.others
-    (affords-room c.args.parts.now.access c.args.w (errand_of c.requires.asks.serving) (length c.args.parts.now.journal.past) (deadline c.args.parts.now.config c.args.w c.args.parts.now.journal.past) _ c.requires.asks.asking.paid.affords)
+    (room-in (λ r. start_takes r c.args.todo) c.requires.asks.asking.paid) c.requires.asks.serving c.requires.asks.is
+  where
+    room-in : (extra : Resource → ℕ) → IsPaidFor c.args.parts.now c.args.w c.requires.asks.serving 0 extra (scene c.args.parts.now.config c.args.parts.now.journal.past c.requires.asks.asking.between.story c.args.w c.requires.asks.asking.between.call_open.look.since c.requires.asks.asking.between.opened).past → HasRoomForEnd c.args.parts.now c.args.w
+    room-in extra paid r counted = affords-room r c.args.parts.now.access c.args.w (errand_of c.requires.asks.serving) (used_in r c.args.parts.now c.args.w) (bound_in r c.args.parts.now c.args.w) _ (paid r counted).affords

@@ -1,13 +1,13 @@
-use Rattle.std.proofs.Common.{◌≡◌, length, arith, refl, sym, ap, subst, ◌∙◌, inl, Option, Some, None}
+use Rattle.std.proofs.Common.{◌≡◌, ◌<◌, length, arith, refl, sym, ap, subst, ◌∙◌, inl, Option, Some, None}
+use Rattle.std.proofs.lemmas.List.{get_or-set_same}
 use Rattle.std.specs.Vec.{with_item}
 use Rattle.bz_call.specs.Map.{key_of}
 use Rattle.bz_task.specs.declared.todo.Todo.TheVariants.{Read}
 use Rattle.bz_world.specs.Inside.Going.{known, with_task}
 use Rattle.bz_world.specs.declared.serving.OpenCall.{OpenCall}
-use Rattle.bz_world.proofs.Spared.{not-ended, seeks}
-use Rattle.bz_world.proofs.Paid.{within-of, affords-room}
-use Rattle.bz_world.specs.WorldView.{deadline}
-use Rattle.bz_world.specs.Inside.Paid.{errand_of}
+use Rattle.bz_world.proofs.Spared.{not-ended, round-room, seeks}
+use Rattle.bz_world.proofs.Paid.{within-of}
+use Rattle.bz_world.specs.Inside.Paid.{bound_in, errand_of, used_in}
 use Rattle.bz_running.specs.Kinds as kinds
 use Rattle.bz_running.specs.Kinds.{is_renewal}
 use Rattle.bz_lone.specs.Errands.{IsLookOf}
@@ -27,12 +27,17 @@ start-requires-clause-asks c = taken-asks c.args.parts.now c.args.w c.seek-task.
       meant = λ quiet. inl (record { slots = c.seek-task.ensures.wants; swaps = inl c.seek-task.ensures.swaps });
       later = λ at is. ap is_renewal c.seek-task.ensures.kind;
     })
-    (c.start_laws.ensures.lone.rounds.begin c.args.parts.now.access c.args.w (errand_of c.requires.on.serving) c.seek-task.result (deadline c.args.parts.now.config c.args.w c.args.parts.now.journal.past) (known c.args.parts.now c.args.w c.requires.on).past
+    (λ r counted. c.start_laws.ensures.lone.rounds.begin r c.args.parts.now.access c.args.w (errand_of c.requires.on.serving) c.seek-task.result (used_in r c.args.parts.now c.args.w) (bound_in r c.args.parts.now c.args.w) 2 (known c.args.parts.now c.args.w c.requires.on).past
     (known c.args.parts.now c.args.w (looks-anew c.args.parts.now c.args.w c.requires.on)).past
-    (record { kind = c.seek-task.ensures.kind; left = omega (arith, c.seek-task.ensures.left); goes = not-ended c.seek-task.result (Read 2) c.laws.ensures c.seek-task.ensures.asks (λ e. cc e); config = refl; now = refl; since = refl; image = refl }) c.requires.pays))
+    (record { kind = c.seek-task.ensures.kind; left = omega (arith, c.seek-task.ensures.left); goes = not-ended c.seek-task.result (Read 2) c.laws.ensures c.seek-task.ensures.asks (λ e. cc e); config = refl; now = refl; since = refl; image = refl }) (c.requires.pays r counted)))
     c.set_task.new.slot (c.set_task.ensures ∙ ap (λ (z : Option OpenCall). with_task z c.seek-task.result None) (slot-is c.args.parts.now c.args.w c.requires.on c.index_mut.result.now c.index_mut.ensures.value))
     c.requires.on.between.call_open.told c.start_laws.ensures.lone c.requires.other (Read 2) (λ e. absurd (cc e)) refl
 
 pub returns-clause-went : goal.returns-clause-went
 returns-clause-went c = went-started c.args.parts.now (with_item c.args.parts.now.workers c.args.w c.set_task.new.slot) c.args.w c.start.new.parts (starts-always _ 2 c.start.new.parts c.start.result c.start.ensures.started c.start.ensures.lacks) c.start.ensures.rest c.start.ensures.taken c.start.ensures.others
-    (affords-room c.args.parts.now.access c.args.w (errand_of c.requires.on.serving) (length c.args.parts.now.journal.past) (deadline c.args.parts.now.config c.args.w c.args.parts.now.journal.past) _ c.requires.pays.affords)
+    (round-room c.args.parts.now c.args.w (errand_of c.requires.on.serving) (known c.args.parts.now c.args.w c.requires.on).past c.requires.pays)
+    (record c.requires.on.serving { task = c.seek-task.result; path = None })
+    (get_or-set_same c.args.parts.now.workers.items c.args.w c.set_task.new.slot None in-table ∙ (c.set_task.ensures ∙ ap (λ (z : Option OpenCall). with_task z c.seek-task.result None) (slot-is c.args.parts.now c.args.w c.requires.on c.index_mut.result.now c.index_mut.ensures.value)))
+  where
+    in-table : c.args.w < length c.args.parts.now.workers.items
+    in-table = omega (arith, c.requires.on.between.within, c.requires.on.between.tabled.places, c.requires.on.between.tabled.config.workers_in_range.at_most)

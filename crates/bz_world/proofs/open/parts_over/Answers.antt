@@ -15,6 +15,7 @@ returns-clause-made c =
       left_out = search rules;
       pairs = c.requires.counted;
       few_pairs = c.requires.few;
+      at_begin = refl;
       begun = refl;
       pages_begun = refl;
       at_start = refl;

@@ -3,6 +3,7 @@ use Rattle.std.proofs.lemmas.Bool.{true≢false}
 use Rattle.bz_layout.specs.Slots.{FreeSlots}
 use Rattle.bz_layout.specs.declared.config.Config.{Config}
 use Rattle.bz_swap.specs.SwapMemory.{worker_of}
+use Rattle.bz_world.specs.Inside.Paid.{begun_with}
 use Rattle.bz_world.specs.WorldView.{count_reached}
 use Rattle.bz_world.specs.declared.parts.Parts.{Parts}
 use Rattle.bz_world.proofs.Powered.{kept-awake}
@@ -38,7 +39,7 @@ pub returns-then-matches-clause-recovers : goal.returns-then-matches-clause-reco
 returns-then-matches-clause-recovers c = seen-woken c.args.parts.now c.make_raw_act-progress.new.parts c.wake.new.parts c.make_raw_act-progress.result.act c.make_raw_act-progress.result.done c.make_raw_act-progress.result.effect c.make_raw_act-progress.ensures
     (ap (λ (p : Parts). p.power) c.wake.ensures.rest) (ap (λ (p : Parts). p.access.taken) c.wake.ensures.rest)
     (subst (λ (s : FreeSlots). length s.free + count_reached c.make_raw_act-progress.new.parts.config c.make_raw_act-progress.new.parts.journal ≡ c.make_raw_act-progress.new.parts.config.nodes) (sym (ap (λ (p : Parts). p.slots) c.wake.ensures.rest)) c.wake.ensures.left)
-    (ap (λ (p : Parts). p.journal) c.wake.ensures.rest) (ap (λ (p : Parts). p.config) c.wake.ensures.rest) (ap (λ (p : Parts). p.at_start) c.wake.ensures.rest) (ap (λ (p : Parts). p.left_out) c.wake.ensures.rest) (λ v ne. ap (λ (p : Parts). worker_of p.access v) c.wake.ensures.rest)
+    (ap (λ (p : Parts). p.journal) c.wake.ensures.rest) (ap (λ (p : Parts). p.config) c.wake.ensures.rest) (ap begun_with c.wake.ensures.rest) (ap (λ (p : Parts). p.at_start) c.wake.ensures.rest) (ap (λ (p : Parts). p.left_out) c.wake.ensures.rest) (λ v ne. ap (λ (p : Parts). worker_of p.access v) c.wake.ensures.rest)
 
 pub start_act-requires-clause-asked : goal.start_act-requires-clause-asked
 start_act-requires-clause-asked c =
@@ -51,4 +52,4 @@ start_act-requires-clause-asked c =
 pub returns-clause-recovers : goal.returns-clause-recovers
 returns-clause-recovers c = seen-stepped c.args.parts.now c.make_raw_act-progress.new.parts c.start_act.new.parts c.make_raw_act-progress.result.act c.make_raw_act-progress.result.done c.make_raw_act-progress.result.effect c.requires.power c.make_raw_act-progress.ensures
     (ap (λ (p : Parts). p.power) c.start_act.ensures.rest)
-    (ap (λ (p : Parts). p.journal) c.start_act.ensures.rest) (ap (λ (p : Parts). p.config) c.start_act.ensures.rest) (ap (λ (p : Parts). p.at_start) c.start_act.ensures.rest) (ap (λ (p : Parts). p.left_out) c.start_act.ensures.rest) c.start_act.ensures.others
+    (ap (λ (p : Parts). p.journal) c.start_act.ensures.rest) (ap (λ (p : Parts). p.config) c.start_act.ensures.rest) (ap begun_with c.start_act.ensures.rest) (ap (λ (p : Parts). p.at_start) c.start_act.ensures.rest) (ap (λ (p : Parts). p.left_out) c.start_act.ensures.rest) c.start_act.ensures.others

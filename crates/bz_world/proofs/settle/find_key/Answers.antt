@@ -45,6 +45,7 @@ go_on_finding-requires-clause-asks c = record {
         c.set_task.new.slot (c.set_task.ensures ∙ ap (λ (z : Option OpenCall). with_task z c.find-task.result (Some c.args.path)) (slot-is c.args.parts.now c.args.w c.requires.path.on c.index_mut.result.now c.index_mut.ensures.value))
         c.requires.path.on.between.call_open.told c.start_laws.ensures.lone refl c.args.path refl c.requires.path.leads c.requires.path.quiet
         (record {
+          slotless = c.find-task.ensures.needs;
           spares = find-left c.start_laws.ensures.lone.rounds c.args.parts.now c.args.w c.args.path c.requires.path (subst (λ z. froze_in z ≡ false) c.requires.path.on.is c.requires.thawed);
           lacks = λ z means. absurd (subst (λ k. IsEndOf k NeedsRoom) c.find-task.ensures.kind (c.laws.ensures.ends_of NeedsRoom z means));
         }))

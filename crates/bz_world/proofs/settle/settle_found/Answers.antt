@@ -4,8 +4,8 @@ use Rattle.bz_running.specs.Ends.{IsEndOf}
 use Rattle.bz_task.specs.declared.todo.Outcome.TheVariants.{Key, Restart}
 use Rattle.bz_task.specs.declared.todo.Todo.TheVariants.{Finish}
 use Rattle.bz_world.specs.Inside.Going.{MustGoOn, known}
-use Rattle.bz_world.specs.Inside.Paid.{errand_of}
-use Rattle.bz_world.specs.WorldView.{deadline}
+use Rattle.bz_world.specs.Inside.Paid.{bound_in, errand_of, used_in}
+use Rattle.bz_world.proofs.PaidSteps.{finished-for}
 use Rattle.bz_world.proofs.Endings.{find-restarts}
 use Rattle.bz_world.proofs.Spared.{ended-spares}
 use Rattle.bz_running.specs.Kinds as kinds
@@ -26,7 +26,7 @@ answer-requires-clause-view c =
       some = s.knows.some;
       quiet = s.knows.quiet;
       ends = (s.must.asking.facts, ended);
-      spares = ended-spares c.round_laws.ensures c.args.parts.now c.args.w on (Key c.in-Key.view) kinds.Find c.requires.ends.kind refl ended (λ e. cc e) s.must.asking.paid;
+      spares = ended-spares c.round_laws.ensures c.args.parts.now c.args.w on (Key c.in-Key.view) kinds.Find c.requires.ends.kind refl ended (λ e. cc e) (finished-for c.args.parts.now c.args.w s.must.serving (known c.args.parts.now c.args.w on).past s.must.asking.paid);
       look = subst (IsLookOf s.must.serving.call) c.requires.ends.kind (s.must.asking.meant.look s.knows.quiet);
     }
 
@@ -41,5 +41,6 @@ look_up-requires c =
       on = on;
       may = inl s.knows.quiet;
       other = other-found c.args.parts.now c.args.w on c.outcome_of.result ended c.requires.ends.path c.requires.ends.found (λ view e. c.in_default.not-Key view e);
-      pays = c.round_laws.ensures.rounds.restart c.args.parts.now.access c.args.w (errand_of s.must.serving) s.must.serving.task (deadline c.args.parts.now.config c.args.w c.args.parts.now.journal.past) (known c.args.parts.now c.args.w on).past (ap is_some s.knows.quiet) (ended ∙ ap Some again) s.must.asking.paid;
+      pays = λ r counted. (c.round_laws.ensures.rounds r).restart c.args.parts.now.access c.args.w (errand_of s.must.serving) s.must.serving.task (used_in r c.args.parts.now c.args.w) (bound_in r c.args.parts.now c.args.w) (known c.args.parts.now c.args.w on).past (ap is_some s.knows.quiet) (ended ∙ ap Some again)
+          (finished-for c.args.parts.now c.args.w s.must.serving (known c.args.parts.now c.args.w on).past s.must.asking.paid r counted);
     }

@@ -5,8 +5,7 @@ use Rattle.bz_running.specs.Kinds as kinds
 use Rattle.bz_running.specs.Kinds.{kind_of}
 use Rattle.bz_task.specs.declared.todo.Outcome.TheVariants.{Path, View, Key, Done, Restart}
 use Rattle.bz_world.specs.Inside.Going.{HasEnded, known}
-use Rattle.bz_world.specs.Inside.Paid.{errand_of}
-use Rattle.bz_world.specs.WorldView.{deadline}
+use Rattle.bz_world.specs.Inside.Paid.{bound_in, errand_of, used_in}
 use Rattle.bz_world.proofs.Endings.{restarts}
 use Rattle.bz_world.proofs.LonelyEnds.{other-ended}
 use Rattle.bz_world.proofs.Spared.{ended-spares, path-kind, key-kind, view-kind}
@@ -72,7 +71,7 @@ look_up_frozen-requires c =
       on = e.on;
       may = inl e.quiet;
       other = other-ended c.args.parts.now c.args.w e.on Done ended (λ path e. cc e) (λ view e. cc e);
-      pays = c.round_laws.ensures.rounds.done c.args.parts.now.access c.args.w (errand_of e.on.serving) e.on.serving.task (deadline c.args.parts.now.config c.args.w c.args.parts.now.journal.past) (known c.args.parts.now c.args.w e.on).past (ap is_some e.quiet) ended e.paid;
+      pays = λ r counted. (c.round_laws.ensures.rounds r).done c.args.parts.now.access c.args.w (errand_of e.on.serving) e.on.serving.task (used_in r c.args.parts.now c.args.w) (bound_in r c.args.parts.now c.args.w) (known c.args.parts.now c.args.w e.on).past (ap is_some e.quiet) ended (e.paid r counted);
     }
 
 pub look_up-requires : goal.look_up-requires
@@ -84,5 +83,5 @@ look_up-requires c =
       on = e.on;
       may = inl e.quiet;
       other = other-ended c.args.parts.now c.args.w e.on c.args.outcome e.end (λ path e. c.in_default.not-Path path e) (λ view e. c.in_default.not-Key view e);
-      pays = c.round_laws.ensures.rounds.restart c.args.parts.now.access c.args.w (errand_of e.on.serving) e.on.serving.task (deadline c.args.parts.now.config c.args.w c.args.parts.now.journal.past) (known c.args.parts.now c.args.w e.on).past (ap is_some e.quiet) (e.end ∙ ap Some again) e.paid;
+      pays = λ r counted. (c.round_laws.ensures.rounds r).restart c.args.parts.now.access c.args.w (errand_of e.on.serving) e.on.serving.task (used_in r c.args.parts.now c.args.w) (bound_in r c.args.parts.now c.args.w) (known c.args.parts.now c.args.w e.on).past (ap is_some e.quiet) (e.end ∙ ap Some again) (e.paid r counted);
     }

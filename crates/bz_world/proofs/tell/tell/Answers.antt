@@ -1,7 +1,10 @@
 use Rattle.std.proofs.Common.{◌≡◌, ◌<◌, length, refl, sym, ap, subst, ◌∙◌, arith, Some, None, get_or, slice_set}
 use Rattle.std.proofs.lemmas.List.{get_or_read_under, get_or-set_same}
 use Rattle.std.specs.Vec.{with_item}
+use Rattle.bz_call.specs.declared.replies.Spent.TheVariants.{Nodes}
 use Rattle.bz_world.specs.Inside.Going.{end_in, wants_in}
+use Rattle.bz_world.specs.Inside.Paid.{begun_with}
+use Rattle.bz_world.specs.WorldView.{HadFew, RunsWhole}
 use Rattle.bz_world.specs.Inside.Telling.{CanHear, HasToldIn}
 use Rattle.bz_world.proofs.Telling.{can-hear, full-rightly, lacked-told, must-start, still-knows}
 use Rattle.bz_world.proofs.Roomless.{room-found}
@@ -35,15 +38,19 @@ returns-clause-told c =
     was = get_or_read_under c.args.parts.now.workers.items c.args.w (length c.args.parts.now.workers.items) c.index_mut.result.now None c.index_mut.ensures.value in-table refl
 
 pub returns-clause-full : goal.returns-clause-full
-returns-clause-full c ended = subst (λ z. length c.hear_task.new.slots.free < wants_in z) (sym (get_or-set_same c.args.parts.now.workers.items c.args.w c.hear_task.new.slot None in-table))
-    (full-rightly c.args.parts.now c.args.w c.args.seen c.requires c.length-moment.result c.hear_task.result c.hear_task.new.slot c.hear_task.new.slots (subst (λ z. HasToldIn z c.args.seen c.length-moment.result c.args.parts.now.slots c.hear_task.result c.hear_task.new.slot c.hear_task.new.slots) was c.hear_task.ensures)
-    (ap end_in (sym (get_or-set_same c.args.parts.now.workers.items c.args.w c.hear_task.new.slot None in-table)) ∙ ended))
+returns-clause-full c ended = (subst (λ z. length c.hear_task.new.slots.free < wants_in z) (sym (get_or-set_same c.args.parts.now.workers.items c.args.w c.hear_task.new.slot None in-table)) rightly.0, rightly.1)
   where
     in-table : c.args.w < length c.args.parts.now.workers.items
     in-table = omega (arith, c.requires.told.between.within, c.requires.told.between.tabled.places, c.requires.told.between.tabled.config.workers_in_range.at_most)
 
     was : c.index_mut.result.now ≡ Some c.requires.serving
     was = get_or_read_under c.args.parts.now.workers.items c.args.w (length c.args.parts.now.workers.items) c.index_mut.result.now None c.index_mut.ensures.value in-table refl ∙ c.requires.is
+
+    rightly : (length c.hear_task.new.slots.free < wants_in c.hear_task.new.slot) × (RunsWhole c.args.parts.now.config c.args.w c.args.parts.now.journal.past → HadFew c.args.parts.now.config (begun_with c.args.parts.now) Nodes)
+    rightly =
+        full-rightly c.alone_laws.ensures.rounds c.args.parts.now c.args.w c.args.seen c.requires c.length-moment.result c.hear_task.result c.hear_task.new.slot c.hear_task.new.slots
+        (subst (λ z. HasToldIn z c.args.seen c.length-moment.result c.args.parts.now.slots c.hear_task.result c.hear_task.new.slot c.hear_task.new.slots) was c.hear_task.ensures)
+        (ap end_in (sym (get_or-set_same c.args.parts.now.workers.items c.args.w c.hear_task.new.slot None in-table)) ∙ ended)
 
 pub returns-clause-swaps : goal.returns-clause-swaps
 returns-clause-swaps c other ended = other (lacked-told c.args.parts.now c.args.w c.args.seen c.requires c.length-moment.result c.hear_task.result c.hear_task.new.slot c.hear_task.new.slots (subst (λ z. HasToldIn z c.args.seen c.length-moment.result c.args.parts.now.slots c.hear_task.result c.hear_task.new.slot c.hear_task.new.slots) was c.hear_task.ensures)
