@@ -10,15 +10,16 @@ use Rattle.bz_sound.specs.Calls.{open_call}
 use Rattle.bz_sound.specs.Power.Times.{power_of}
 use Rattle.bz_sound.specs.declared.power.Power.{Power}
 use Rattle.bz_sound.specs.declared.power.Power.TheVariants as power
-use Rattle.bz_world.specs.WorldView.{WorldView, power_in, recovery_acts, recovery_most}
+use Rattle.bz_world.specs.WorldView.{WorldView, power_in, recovery_acts, recovery_most, KeepsApart}
 use Rattle.bz_world.specs.declared.answers.LimitKind.{LimitKind}
 use Rattle.bz_world.specs.declared.answers.LimitKind.TheVariants as which
-use Rattle.bz_sched.specs.Enough.{AreClosed, IsFew, IsFewSoFar, HasComeOn}
+use Rattle.bz_sched.specs.Enough.{count_wanting, AreClosed, IsFew, IsFewSoFar, HasComeOn}
 use Rattle.bz_sched.specs.Points.{actor}
-use Rattle.bz_sched.specs.Powering.{IsStarted, StartStopped, RecoversOnce}
+use Rattle.bz_sched.specs.Powering.{GoesOnOrEnds, IsGivenBack, IsStarted, StartStopped, RecoversOnce}
 use Rattle.bz_sched.specs.Recoveries.{off_by, turned_off, turned_on, Recovers, RecoversTimes, RecoversWhole}
 use Rattle.bz_sched.specs.Runs.{IsAtLimit, Stays}
 use Rattle.bz_sched.specs.declared.turn.Turned.TheVariants.{Finished, Stopped}
+use Rattle.bz_sched.proofs.GivenLemmas.{no_fewer}
 
 -- a world after other marks, and the acts of its recovery then
 abbrev at_marks : WorldView → List Mark → WorldView
@@ -61,9 +62,9 @@ few_more old world new left after config few recovering bounded r = by_way r.goe
     now : length world.log.past ≡ length old.log.past + recovery_acts world
     now = so-far old world few recovering
 
-    by_way : (Recovers world.log.past new.log.past × (power_in new ≡ power.Recovering)) ⊎ ((last : List Mark) × Recovers world.log.past last × (new.log.past ≡ mark.Ready ∷ last)) → IsFewSoFar old new
+    by_way : GoesOnOrEnds world new → IsFewSoFar old new
     by_way (inl (act, still)) = inl (still, omega (arith, now, ap length act.is, acts-more world new act))
-    by_way (inr (last, act, is)) = inr (ap (power_of new.at_start) is, omega (arith, now, bounded, most-same old world config, ap length is, ap length act.is))
+    by_way (inr (last, act, is, given)) = inr (ap (power_of new.at_start) is, omega (arith, now, bounded, most-same old world config, ap length is, ap length act.is))
 
 pub few_stops : (old world new : WorldView) → world.config ≡ old.config → IsFewSoFar old world → power_in world ≡ power.Recovering → recovery_acts world < recovery_most world.config → new ≡ world → length new.log.past < length old.log.past + recovery_most old.config
 few_stops old world new config few recovering bounded same = omega (arith, so-far old world few recovering, bounded, most-same old world config, ap (λ (z : WorldView). length z.log.past) same)
@@ -111,42 +112,46 @@ whole-closed old new (count, mid, last, times, act, is) closed = subst AreClosed
 record SameCalls (old new : List Mark) : Type 0 where
   begins : count_begins new ≡ count_begins old
   pages : count_page_calls new ≡ count_page_calls old
+  wanting : count_wanting new ≡ count_wanting old
 
 same-both : (a b c : List Mark) → SameCalls a b → SameCalls b c → SameCalls a c
-same-both a b c s t = record { begins = t.begins ∙ s.begins; pages = t.pages ∙ s.pages }
+same-both a b c s t = record { begins = t.begins ∙ s.begins; pages = t.pages ∙ s.pages; wanting = t.wanting ∙ s.wanting }
 
 off-same : (p : Power) (past : List Mark) → SameCalls past (off_by p past)
-off-same power.Off past = record { begins = refl; pages = refl }
-off-same power.Recovering past = record { begins = refl; pages = refl }
-off-same power.On past = record { begins = refl; pages = refl }
+off-same power.Off past = record { begins = refl; pages = refl; wanting = refl }
+off-same power.Recovering past = record { begins = refl; pages = refl; wanting = refl }
+off-same power.On past = record { begins = refl; pages = refl; wanting = refl }
 
 act-same : (m : Mark) (past : List Mark) → actor m ≡ Some 0 → SameCalls past (m ∷ past)
-act-same (mark.Load w a v) past own = record { begins = refl; pages = refl }
-act-same (mark.Store w a v) past own = record { begins = refl; pages = refl }
-act-same (mark.Cas w a old new found) past own = record { begins = refl; pages = refl }
-act-same (mark.Flush w line) past own = record { begins = refl; pages = refl }
+act-same (mark.Load w a v) past own = record { begins = refl; pages = refl; wanting = refl }
+act-same (mark.Store w a v) past own = record { begins = refl; pages = refl; wanting = refl }
+act-same (mark.Cas w a old new found) past own = record { begins = refl; pages = refl; wanting = refl }
+act-same (mark.Flush w line) past own = record { begins = refl; pages = refl; wanting = refl }
 act-same m past own = absurd (cc own)
 
 one-same : (old new : List Mark) → Recovers old new → SameCalls old new
 one-same old new r = subst (SameCalls old) (sym r.is) (act-same r.act old r.own)
 
 times-same : (count : ℕ) (old new : List Mark) → RecoversTimes count old new → SameCalls old new
-times-same zero old new same = subst (SameCalls old) (sym same) (record { begins = refl; pages = refl })
+times-same zero old new same = subst (SameCalls old) (sym same) (record { begins = refl; pages = refl; wanting = refl })
 times-same (suc count) old new (mid, first, rest) = same-both old mid new (one-same old mid first) (times-same count mid new rest)
 
 whole-same : (old new : List Mark) → RecoversWhole old new → SameCalls old new
-whole-same old new (count, mid, last, times, act, is) = subst (SameCalls old) (sym is) (same-both old mid (mark.Ready ∷ last) (times-same count old mid times) (subst (λ (z : List Mark). SameCalls mid (mark.Ready ∷ z)) (sym act.is) (let s = act-same act.act mid act.own in record { begins = s.begins; pages = s.pages })))
+whole-same old new (count, mid, last, times, act, is) = subst (SameCalls old) (sym is) (same-both old mid (mark.Ready ∷ last) (times-same count old mid times) (subst (λ (z : List Mark). SameCalls mid (mark.Ready ∷ z)) (sym act.is) (let s = act-same act.act mid act.own in record { begins = s.begins; pages = s.pages; wanting = s.wanting })))
 
-pub comes_on : (old mid new : WorldView) → IsStarted old mid → RecoversWhole mid.log.past new.log.past → length new.log.past ≤ length mid.log.past + recovery_most mid.config + 1 → HasComeOn old new
-comes_on old mid new s whole few = record {
+pub comes_on : (old mid new : WorldView) → IsStarted old mid → Stays mid new → RecoversWhole mid.log.past new.log.past → IsGivenBack new → KeepsApart old → length new.log.past ≤ length mid.log.past + recovery_most mid.config + 1 → HasComeOn old new
+comes_on old mid new s stays whole given apart few = record {
   closed = λ closed. whole-closed mid.log.past new.log.past whole (subst AreClosed (sym s.past) (off-closed (power_of old.at_start old.log.past) old.log.past closed));
   marks = omega (arith, few, started-few old mid s, most-same old mid s.stays.config);
   calls = same.begins;
   pages = same.pages;
+  wanting = same.wanting;
+  taken = given.taken;
+  left = no_fewer old mid new s stays whole given apart;
 }
   where
     began : SameCalls old.log.past mid.log.past
-    began = subst (SameCalls old.log.past) (sym s.past) (let o = off-same (power_of old.at_start old.log.past) old.log.past in record { begins = o.begins; pages = o.pages })
+    began = subst (SameCalls old.log.past) (sym s.past) (let o = off-same (power_of old.at_start old.log.past) old.log.past in record { begins = o.begins; pages = o.pages; wanting = o.wanting })
 
     same : SameCalls old.log.past new.log.past
     same = same-both old.log.past mid.log.past new.log.past began (whole-same mid.log.past new.log.past whole)

@@ -16,6 +16,7 @@ pub mod CutLemmas
 pub mod TurnLemmas
 pub mod EnoughLemmas
 pub mod FewLemmas
+pub mod GivenLemmas
 pub mod RunLemmas
 pub mod RecoveryLemmas
 pub mod WakeLemmas

@@ -19,7 +19,7 @@ use Rattle.bz_world.specs.declared.answers.LimitKind.TheVariants as which
 use Rattle.bz_sched.specs.Cutting.{HasNoPlace}
 use Rattle.bz_sched.specs.Points.{actor, flushes_of}
 use Rattle.bz_sched.specs.Fuses.{lets, burnt}
-use Rattle.bz_sched.specs.Powering.{IsOff, IsOn, IsStarted, StartStopped, RecoversOnce, RecoveryStops, RecoversOn, HasRecovered}
+use Rattle.bz_sched.specs.Powering.{IsOff, IsOn, IsStarted, StartStopped, IsGivenBack, GoesOnOrEnds, RecoversOnce, RecoveryStops, RecoversOn, HasRecovered}
 use Rattle.bz_sched.specs.Recoveries.{off_by, Recovers, RecoversTimes, RecoversWhole}
 use Rattle.bz_sched.specs.declared.turn.Stop.{Stop}
 use Rattle.bz_sched.specs.declared.turn.Stop.TheVariants.{Due, Limit}
@@ -123,7 +123,7 @@ recovered_once old new fuse left applied.Stepped recovering way r may is = recor
 recovered_once old new fuse left applied.Ready recovering way r may is = record {
   stays = record { config = r.config; at_start = r.at_start; start = ap (λ (log : Log). log.start) r.ends; limits = ap (λ (log : Log). log.limits) r.ends };
   burns = burns_act old.log.past new.log.past fuse left (flush_of old 0) may (ap (λ (log : Log). flushes_of log.past) r.ends ∙ act_flushes r.made 0 old.log.past ∙ ap (λ (flush : Bool). one_flush flush (flushes_of old.log.past)) r.flush) is;
-  goes = inr (mark_of 0 r.made ∷ old.log.past, record { act = mark_of 0 r.made; own = act_own r.made; is = refl }, ap (λ (log : Log). log.past) r.ends);
+  goes = inr (mark_of 0 r.made ∷ old.log.past, record { act = mark_of 0 r.made; own = act_own r.made; is = refl }, ap (λ (log : Log). log.past) r.ends, record { taken = r.supply.0; left = r.supply.1 });
 }
 recovered_once old new fuse left answer recovering way r may is = absurd way
 
@@ -151,7 +151,7 @@ more_times (suc count) old mid new (next, first, rest) r = (next, first, more_ti
 abbrev pub IsOnTheWay : WorldView → WorldView → Type 0
 IsOnTheWay old world =
     (((count : ℕ) × RecoversTimes count old.log.past world.log.past) × (power_in world ≡ power.Recovering))
-    ⊎ (RecoversWhole old.log.past world.log.past × (power_in world ≡ power.On))
+    ⊎ (RecoversWhole old.log.past world.log.past × (power_in world ≡ power.On) × IsGivenBack world)
 
 pub record Waking (old : WorldView) (fuse : Option ℕ) (world : WorldView) (left : Option ℕ) : Type 0 where
   pub on : RecoversOn old fuse world left
@@ -166,9 +166,9 @@ waking_none old fuse recovering = record {
 once_way : (old world new : WorldView) (fuse left : Option ℕ) (count : ℕ) → RecoversTimes count old.log.past world.log.past → RecoversOnce world fuse new left → IsOnTheWay old new
 once_way old world new fuse left count times r = by_way r.goes
   where
-    by_way : (Recovers world.log.past new.log.past × (power_in new ≡ power.Recovering)) ⊎ ((last : List Mark) × Recovers world.log.past last × (new.log.past ≡ mark.Ready ∷ last)) → IsOnTheWay old new
+    by_way : GoesOnOrEnds world new → IsOnTheWay old new
     by_way (inl (act, still)) = inl ((suc count, more_times count old.log.past world.log.past new.log.past times act), still)
-    by_way (inr (last, act, is)) = inr ((count, world.log.past, last, times, act, is), ap (power_of new.at_start) is)
+    by_way (inr (last, act, is, given)) = inr ((count, world.log.past, last, times, act, is), ap (power_of new.at_start) is, given)
 
 pub waking_more : (old world new : WorldView) (fuse left after : Option ℕ) → Waking old fuse world left → power_in world ≡ power.Recovering → RecoversOnce world left new after → Waking old fuse new after
 waking_more old world new fuse left after h recovering r = record {
@@ -181,18 +181,18 @@ waking_more old world new fuse left after h recovering r = record {
   where
     by_way : IsOnTheWay old world → IsOnTheWay old new
     by_way (inl ((count, times), still)) = once_way old world new left after count times r
-    by_way (inr (whole, on)) = let opposed : power.On ≡ power.Recovering = sym on ∙ recovering in absurd (cc opposed)
+    by_way (inr (whole, on, given)) = let opposed : power.On ≡ power.Recovering = sym on ∙ recovering in absurd (cc opposed)
 
 pub waking_stops : (old world new : WorldView) (fuse left after : Option ℕ) (why : Stop) → Waking old fuse world left → power_in world ≡ power.Recovering → RecoveryStops world left why new after → HasRecovered old fuse (Stopped why) new after
 waking_stops old world new fuse left after why h recovering r = rw (r.same, r.kept) (h.on, by_way h.way, recovering, r.stop, rw (r.same, r.kept) at r.stopped)
   where
     by_way : IsOnTheWay old world → (count : ℕ) × RecoversTimes count old.log.past world.log.past
     by_way (inl (times, still)) = times
-    by_way (inr (whole, on)) = let opposed : power.On ≡ power.Recovering = sym on ∙ recovering in absurd (cc opposed)
+    by_way (inr (whole, on, given)) = let opposed : power.On ≡ power.Recovering = sym on ∙ recovering in absurd (cc opposed)
 
 pub waking_done : (old world : WorldView) (fuse left : Option ℕ) → Waking old fuse world left → (power_in world ≡ power.Recovering → ⊥) → HasRecovered old fuse Finished world left
-waking_done old world fuse left h over = (h.on, by_way h.way)
+waking_done old world fuse left h over = by_way h.way
   where
-    by_way : IsOnTheWay old world → RecoversWhole old.log.past world.log.past
+    by_way : IsOnTheWay old world → HasRecovered old fuse Finished world left
     by_way (inl (times, still)) = absurd (over still)
-    by_way (inr (whole, on)) = whole
+    by_way (inr (whole, on, given)) = (h.on, whole, given)

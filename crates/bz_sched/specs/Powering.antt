@@ -1,9 +1,9 @@
 -- What the parts of power on do to a world and to the fuse of a cut.
-use Rattle.std.specs.Prelude.{◌≡◌, ◌<◌, ℕ, List, ◌∷◌, ◌⊎◌, Option}
+use Rattle.std.specs.Prelude.{◌≡◌, ◌<◌, ◌+◌, ℕ, List, ◌∷◌, ◌⊎◌, Option}
 use Rattle.bz_mark.specs.declared.marks.Mark.{Mark}
 use Rattle.bz_mark.specs.declared.marks.Mark.TheVariants.{On, Ready}
 use Rattle.bz_sound.specs.declared.power.Power.TheVariants as power
-use Rattle.bz_world.specs.WorldView.{WorldView, power_in}
+use Rattle.bz_world.specs.WorldView.{WorldView, count_reached, power_in}
 use Rattle.bz_world.specs.declared.answers.LimitKind.TheVariants as which
 use Rattle.bz_sched.specs.Fuses.{Burns}
 use Rattle.bz_sched.specs.Recoveries.{turned_off, turned_on, Recovers, RecoversTimes, RecoversWhole}
@@ -35,11 +35,16 @@ pub record StartStopped (old new : WorldView) : Type 0 where
   pub past : (new.log.past ≡ old.log.past) ⊎ (new.log.past ≡ turned_off old.at_start old.log.past)
   pub met : marks_left new < 3
 
+-- no descriptor is taken, and all slots are free but those that the tree reached in the image at power on
+pub record IsGivenBack (world : WorldView) : Type 0 where
+  pub taken : world.supply.taken ≡ 0
+  pub left : world.supply.left + count_reached world.config world.log ≡ world.config.nodes
+
 -- the recovery makes an act, and goes on or has ended with it
 abbrev pub GoesOnOrEnds : WorldView → WorldView → Type 0
 GoesOnOrEnds old new =
     (Recovers old.log.past new.log.past × (power_in new ≡ power.Recovering))
-    ⊎ ((last : List Mark) × Recovers old.log.past last × (new.log.past ≡ Ready ∷ last))
+    ⊎ ((last : List Mark) × Recovers old.log.past last × (new.log.past ≡ Ready ∷ last) × IsGivenBack new)
 
 pub record RecoversOnce (old : WorldView) (fuse : Option ℕ) (new : WorldView) (left : Option ℕ) : Type 0 where
   pub stays : Stays old new
@@ -67,6 +72,6 @@ pub record RecoversOn (old : WorldView) (fuse : Option ℕ) (new : WorldView) (l
   pub burns : Burns old.log.past fuse new.log.past left
 
 abbrev pub HasRecovered : WorldView → Option ℕ → Turned → WorldView → Option ℕ → Type 0
-HasRecovered old fuse Finished new left = RecoversOn old fuse new left × RecoversWhole old.log.past new.log.past
+HasRecovered old fuse Finished new left = RecoversOn old fuse new left × RecoversWhole old.log.past new.log.past × IsGivenBack new
 HasRecovered old fuse (Stopped why) new left =
     RecoversOn old fuse new left × ((count : ℕ) × RecoversTimes count old.log.past new.log.past) × (power_in new ≡ power.Recovering) × IsRecoveryStop why × IsStopped new left why

@@ -1,16 +1,17 @@
 -- What a whole script needs, whose runs go one worker after the other, and in which no cut is armed: by the sums of its items.
-use Rattle.std.specs.Prelude.{◌≡◌, ℕ, ◌+◌, ◌*◌, ◌≤◌, if◌then◌else◌, ◌&&◌, Bool, true, false, List, [], ◌∷◌, length, Option, None}
+use Rattle.std.specs.Prelude.{◌≡◌, ℕ, ◌+◌, ◌*◌, ◌≤◌, if◌then◌else◌, ◌&&◌, Bool, true, false, List, [], ◌∷◌, length, slice_index, Option, None}
 use Rattle.bz_call.specs.Pages.{is_page}
 use Rattle.bz_call.specs.declared.calls.Call.{Call}
 use Rattle.bz_layout.specs.declared.config.Config.{Config}
-use Rattle.bz_layout.specs.declared.thresholds.TheConstants.{MARKS_PER_CALL, MARKS_PER_POWER_ON}
+use Rattle.bz_layout.specs.declared.thresholds.TheConstants.{MARKS_PER_CALL, MARKS_PER_POWER_ON, SLOTS_PER_CALL, SWAPS_PER_CALL}
 use Rattle.bz_mark.specs.Log.{Limits, count_begins, count_page_calls}
 use Rattle.bz_script.specs.declared.item.Item.{Item}
 use Rattle.bz_script.specs.declared.item.Item.TheVariants.{Queue, Arm, Run, Power}
 use Rattle.bz_script.specs.declared.item.Plan.{Plan}
 use Rattle.bz_script.specs.declared.item.Plan.TheVariants.{Alone}
-use Rattle.bz_world.specs.WorldView.{WorldView, recovery_most}
-use Rattle.bz_sched.specs.Enough.{AreClosed, count_pages}
+use Rattle.bz_sound.specs.declared.power.Power.TheVariants as power
+use Rattle.bz_world.specs.WorldView.{WorldView, count_in, power_in, recovery_most}
+use Rattle.bz_sched.specs.Enough.{AreClosed, count_pages, count_wanting, free_slots}
 use Rattle.bz_sched.specs.declared.cut.CutPlan.{CutPlan}
 
 -- the plan goes one worker after the other
@@ -56,11 +57,37 @@ pub record SufficesFor (c : Config) (limits : Limits) (items : List Item) : Type
   pub calls : sum_of calls_in items ≤ limits.calls
   pub pages : sum_of pages_in items ≤ limits.pages
 
+-- and such a memory has as many descriptors as are promised for so many calls, and as many slots besides those that the tree of this start image reaches
+pub record HasStockFor (c : Config) (start : List ℕ) (calls : ℕ) : Type 0 where
+  pub swaps : SWAPS_PER_CALL * calls ≤ c.swaps
+  pub slots : SLOTS_PER_CALL * calls + count_in c (slice_index start) ≤ c.nodes
+
+-- in a world in which nothing has happened no descriptor is taken; with the power on all slots are free but those that the tree reaches
+pub record IsStockedAtFirst (world : WorldView) : Type 0 where
+  pub taken : world.supply.taken ≡ 0
+  pub left : power_in world ≡ power.On → world.supply.left + count_in world.config (slice_index world.log.start) ≡ world.config.nodes
+
+-- as much is left of both, and no call has ended for want so far
+pub record Supplies (world : WorldView) (calls : ℕ) : Type 0 where
+  pub swaps : world.supply.taken + SWAPS_PER_CALL * calls ≤ world.config.swaps
+  pub slots : SLOTS_PER_CALL * calls ≤ free_slots world
+  pub wanting : count_wanting world.log.past ≡ 0
+
+-- where that is asked
+abbrev pub SuppliesIf : Bool → WorldView → ℕ → Type 0
+SuppliesIf false world calls = Unit {0}
+SuppliesIf true world calls = Supplies world calls
+
+abbrev pub WantsNothingIf : Bool → WorldView → Type 0
+WantsNothingIf false world = Unit {0}
+WantsNothingIf true world = count_wanting world.log.past ≡ 0
+
 -- so has that of a world in which no call is open, while these calls wait
-pub record Affords (world : WorldView) (waiting : List (ℕ × Call)) (armed : Option CutPlan) (items : List Item) : Type 0 where
+pub record Affords (supplied : Bool) (world : WorldView) (waiting : List (ℕ × Call)) (armed : Option CutPlan) (items : List Item) : Type 0 where
   pub unarmed : armed ≡ None
   pub closed : AreClosed world.log.past
   pub plain : are_plain items ≡ true
   pub marks : length world.log.past + (MARKS_PER_CALL * length waiting + sum_of (marks_in world.config) items) ≤ world.log.limits.marks
   pub calls : count_begins world.log.past + (length waiting + sum_of calls_in items) ≤ world.log.limits.calls
   pub pages : count_page_calls world.log.past + (count_pages waiting + sum_of pages_in items) ≤ world.log.limits.pages
+  pub supplies : SuppliesIf supplied world (length waiting + sum_of calls_in items)

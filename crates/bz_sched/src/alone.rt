@@ -1,7 +1,6 @@
 //! Runs of one worker after the other.
 ghost use Rattle.std.specs.Prelude.{◌≡◌, ℕ};
-ghost use Rattle.bz_mark.specs.Log.{Limits};
-ghost use Rattle.bz_sched.specs.Enough.{IsBetweenCalls};
+ghost use Rattle.bz_sched.specs.Enough.{Bounds, IsBetweenCalls};
 ghost use Rattle.bz_sched.specs.Fuses.{with_fuse};
 ghost use Rattle.bz_sched.specs.Runs.{IsOneOfAll, IsReady, EndsBy};
 ghost use Rattle.bz_sched.specs.Turns.{EndsOne, EndsAlone};
@@ -18,7 +17,7 @@ fn end_worker(world: &mut World, queue: &mut Queue, fuse: &mut Option<u32>, w: u
     requires worker { IsOneOfAll w }
     requires ready { IsReady world.old }
     ensures ends { EndsBy (EndsOne w) (λ why. EndsOneInPart why w) world.old (with_fuse queue.old fuse.old) result world.new (with_fuse queue.new fuse.new) }
-    ensures enough { (most : Limits) → IsBetweenCalls most world.old queue.old.calls fuse.old → (result ≡ Finished) × IsBetweenCalls most world.new queue.new.calls fuse.new }
+    ensures enough { (most : Bounds) → IsBetweenCalls most world.old queue.old.calls fuse.old → (result ≡ Finished) × IsBetweenCalls most world.new queue.new.calls fuse.new }
 {
     while has_work(world, queue, w) {
         match take_turn(world, queue, fuse, w) {
@@ -33,7 +32,7 @@ fn end_worker(world: &mut World, queue: &mut Queue, fuse: &mut Option<u32>, w: u
 pub(crate) fn run_alone(world: &mut World, queue: &mut Queue, fuse: &mut Option<u32>) -> Turned
     requires ready { IsReady world.old }
     ensures ends { EndsBy EndsAlone EndsAloneInPart world.old (with_fuse queue.old fuse.old) result world.new (with_fuse queue.new fuse.new) }
-    ensures enough { (most : Limits) → IsBetweenCalls most world.old queue.old.calls fuse.old → (result ≡ Finished) × IsBetweenCalls most world.new queue.new.calls fuse.new }
+    ensures enough { (most : Bounds) → IsBetweenCalls most world.old queue.old.calls fuse.old → (result ≡ Finished) × IsBetweenCalls most world.new queue.new.calls fuse.new }
 {
     for w in 1..65u8 {
         match end_worker(world, queue, fuse, w) {

@@ -105,6 +105,8 @@ fn power_unarmed(world: &mut World) -> RunEnd
     ensures ends { HasPower None world.old result world.new }
     ensures enough { ComesOn None world.old result world.new }
 {
+    // (none of the slots that the tree reaches is free)
+    let _ = world.left();
     if !start_recovery(world) {
         return RunEnd::Limit(LimitKind::Marks);
     }

@@ -6,8 +6,7 @@ ghost use Rattle.bz_script.specs.declared.item.Plan.TheVariants.{Alone};
 ghost use Rattle.bz_sound.specs.declared.power.Power.TheVariants.{Off, On};
 ghost use Rattle.bz_world.specs.WorldView.{power_in};
 ghost use Rattle.bz_sched.specs.Cutting.{IsCutRun};
-ghost use Rattle.bz_mark.specs.Log.{Limits};
-ghost use Rattle.bz_sched.specs.Enough.{IsBetweenCalls, ServesAll};
+ghost use Rattle.bz_sched.specs.Enough.{Bounds, IsBetweenCalls, ServesAll};
 ghost use Rattle.bz_sched.specs.Fuses.{with_fuse};
 ghost use Rattle.bz_sched.specs.Plans.{RunsBy, RunsByInPart};
 ghost use Rattle.bz_sched.specs.Runs.{HasAllWorkers, IsReady, EndsBy, IsOfTurns, IsCutPlan, HasRun};
@@ -40,7 +39,7 @@ fn run_plan(world: &mut World, queue: &mut Queue, fuse: &mut Option<u32>, plan: 
     requires plan { IsPlan plan.now × IsOfTurns plan.now }
     requires ready { IsReady world.old }
     ensures ends { EndsBy (RunsBy (words_of world.old.config) plan.now) (λ why. RunsByInPart why (words_of world.old.config) plan.now) world.old (with_fuse queue.old fuse.old) result world.new (with_fuse queue.new fuse.new) }
-    ensures enough { plan.now ≡ Alone → (most : Limits) → IsBetweenCalls most world.old queue.old.calls fuse.old → (result ≡ Finished) × IsBetweenCalls most world.new queue.new.calls fuse.new }
+    ensures enough { plan.now ≡ Alone → (most : Bounds) → IsBetweenCalls most world.old queue.old.calls fuse.old → (result ≡ Finished) × IsBetweenCalls most world.new queue.new.calls fuse.new }
 {
     match plan {
         Plan::Alone => run_alone(world, queue, fuse),

@@ -1,8 +1,7 @@
 //! One turn of a worker.
 ghost use Rattle.std.specs.Prelude.{◌≡◌, ◌≢◌, ◌<◌, ◌≤◌, ℕ, List, [], is_some, true, false, Option, None};
 ghost use Rattle.bz_call.specs.declared.calls.Call.{Call};
-ghost use Rattle.bz_mark.specs.Log.{Limits};
-ghost use Rattle.bz_sched.specs.Enough.{HasRoomFor, AwaitsCalls, IsInCall, GoesOnAlone};
+ghost use Rattle.bz_sched.specs.Enough.{Bounds, HasRoomFor, AwaitsCalls, IsInCall, GoesOnAlone};
 ghost use Rattle.bz_sound.specs.Calls.{open_call};
 ghost use Rattle.bz_sched.specs.Fuses.{with_fuse};
 ghost use Rattle.bz_sched.specs.Points.{is_busy, GetsReady, TakesStep, IsTurn};
@@ -42,7 +41,7 @@ fn begin_next(world: &mut World, queue: &mut Queue, w: u8) -> Turned
     ensures ends { (fuse : Option ℕ) → EndsBy (GetsReady w) (λ why. StopsBy why w) world.old (with_fuse queue.old fuse) result world.new (with_fuse queue.new fuse) }
     ensures open { result ≡ Finished → is_some (open_call w world.new.log.past) ≡ true }
     ensures left { marks_left world.new ≤ marks_left world.old }
-    ensures enough { (most : Limits) → HasRoomFor most world.old queue.old.calls → AwaitsCalls most world.old queue.old.calls → (result ≡ Finished) × HasRoomFor most world.new queue.new.calls × IsInCall most w world.new queue.new.calls }
+    ensures enough { (most : Bounds) → HasRoomFor most world.old queue.old.calls → AwaitsCalls most world.old queue.old.calls → (result ≡ Finished) × HasRoomFor most world.new queue.new.calls × IsInCall most w world.new queue.new.calls }
 {
     match queue.first(w) {
         Some(call) => match world.begin(w, call) {
@@ -65,7 +64,7 @@ fn get_ready(world: &mut World, queue: &mut Queue, w: u8) -> Turned
     ensures ends { (fuse : Option ℕ) → EndsBy (GetsReady w) (λ why. StopsBy why w) world.old (with_fuse queue.old fuse) result world.new (with_fuse queue.new fuse) }
     ensures open { result ≡ Finished → is_some (open_call w world.new.log.past) ≡ true }
     ensures left { marks_left world.new ≤ marks_left world.old }
-    ensures enough { (most : Limits) (fuse : Option ℕ) → GoesOnAlone most w world.old queue.old.calls fuse → (result ≡ Finished) × HasRoomFor most world.new queue.new.calls × IsInCall most w world.new queue.new.calls }
+    ensures enough { (most : Bounds) (fuse : Option ℕ) → GoesOnAlone most w world.old queue.old.calls fuse → (result ≡ Finished) × HasRoomFor most world.new queue.new.calls × IsInCall most w world.new queue.new.calls }
 {
     if has_open(world, w) {
         return Turned::Finished;
@@ -80,7 +79,7 @@ fn step(world: &mut World, fuse: &mut Option<u32>, w: u8) -> Turned
     requires open { is_some (open_call w world.old.log.past) ≡ true }
     ensures ends { (queue : Queued) → EndsBy (TakesStep w) (λ why. StopsStep why w) world.old (with_fuse queue fuse.old) result world.new (with_fuse queue fuse.new) }
     ensures left { result ≡ Finished → marks_left world.new < marks_left world.old }
-    ensures enough { (most : Limits) (calls : List (ℕ × Call)) → fuse.old ≡ None → HasRoomFor most world.old calls → IsInCall most w world.old calls → (result ≡ Finished) × GoesOnAlone most w world.new calls fuse.new }
+    ensures enough { (most : Bounds) (calls : List (ℕ × Call)) → fuse.old ≡ None → HasRoomFor most world.old calls → IsInCall most w world.old calls → (result ≡ Finished) × GoesOnAlone most w world.new calls fuse.new }
 {
     let flush = world.flush_next(w);
     if !lets(*fuse, flush) {
@@ -108,7 +107,7 @@ pub(crate) fn take_turn(
     requires busy { is_busy w (point_of world.old queue.old) ≡ true }
     ensures ends { EndsBy (IsTurn w) (λ why. StopsTurn why w) world.old (with_fuse queue.old fuse.old) result world.new (with_fuse queue.new fuse.new) }
     ensures left { result ≡ Finished → marks_left world.new < marks_left world.old }
-    ensures enough { (most : Limits) → GoesOnAlone most w world.old queue.old.calls fuse.old → (result ≡ Finished) × GoesOnAlone most w world.new queue.new.calls fuse.new }
+    ensures enough { (most : Bounds) → GoesOnAlone most w world.old queue.old.calls fuse.old → (result ≡ Finished) × GoesOnAlone most w world.new queue.new.calls fuse.new }
 {
     match get_ready(world, queue, w) {
         Turned::Finished => step(world, fuse, w),

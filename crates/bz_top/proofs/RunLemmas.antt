@@ -5,7 +5,8 @@ use Rattle.bz_layout.specs.Addresses.{words_of}
 use Rattle.bz_layout.specs.declared.config.Config.{Config}
 use Rattle.bz_script.specs.Script.{Job}
 use Rattle.bz_sched.specs.Scripts.{LeadsTo, LeadsToInPart, LeadsToWant}
-use Rattle.bz_sched.specs.Sums.{SufficesFor}
+use Rattle.bz_sched.specs.Enough.{count_wanting}
+use Rattle.bz_sched.specs.Sums.{calls_in, sum_of, SufficesFor, HasStockFor}
 use Rattle.bz_sound.specs.Power.Sound.{IsSound}
 use Rattle.bz_sound.specs.declared.power.Power.{Power as State}
 use Rattle.bz_words.specs.declared.command.Command.{Command}
@@ -18,17 +19,19 @@ use Rattle.bz_top.specs.Items.{ItemsRan}
 use Rattle.bz_top.specs.Parts.{Sunk, Says, SaysOrWants, RanWorld}
 use Rattle.bz_top.specs.declared.items.ItemsEnd.TheVariants.{Finished, Limit, Memory}
 use Rattle.bz_top.proofs.BaseLemmas.{made_still}
-use Rattle.bz_top.proofs.SumLemmas.{lacks_still}
+use Rattle.bz_top.proofs.SumLemmas.{lacks_still, served_still}
 
 module _ (marks : ℕ) (base : Base) (job : Job) (old new : WorldView) (made : IsMadeFor marks base job old) (sound : IsSound new.config new.at_start new.log) where
-  pub ran-finished : (command : Command) (k : Sunk) (status : ℕ) (lab : Option WorldView) → ItemsRan old job.items Finished new → lab ≡ Some new → SaysOrWants k 0 (printed command new) status → RanWorld command marks base job k status lab
-  ran-finished command k status lab ran is says =
+  pub ran-finished : (command : Command) (k : Sunk) (status : ℕ) (lab : Option WorldView) → ItemsRan old job.items Finished new → (SufficesFor old.config old.log.limits (items_from old.at_start job.items) → HasStockFor old.config old.log.start (sum_of calls_in (items_from old.at_start job.items)) → count_wanting new.log.past ≡ 0) → lab ≡ Some new
+      → SaysOrWants k 0 (printed command new) status → RanWorld command marks base job k status lab
+  ran-finished command k status lab ran served is says =
       let right : IsLab marks base job new = record { made = made_still marks base job old new made ran.on; sound = sound } in
       let finished : IsFinished marks base job new = record {
         right = right;
         follows = subst (λ (s : State). LeadsTo s new.log.start (words_of new.config) None at_first (items_from s job.items) new.log.past) (sym ran.on.at_start)
             (subst (λ (start : List ℕ). LeadsTo old.at_start start (words_of new.config) None at_first (items_from old.at_start job.items) new.log.past) (sym ran.on.start)
             (subst (λ (c : Config). LeadsTo old.at_start old.log.start (words_of c) None at_first (items_from old.at_start job.items) new.log.past) (sym ran.on.config) ran.follows));
+        served = served_still old new job.items ran.on served;
       } in
       elim says [
         | inl said ↦ inl (record { world = new; is_lab = is; finished = finished; said = said })

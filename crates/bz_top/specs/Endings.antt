@@ -19,12 +19,13 @@ use Rattle.bz_script.specs.declared.fault.ScriptRule.{ScriptRule}
 use Rattle.bz_script.specs.declared.item.Item.{Item}
 use Rattle.bz_script.specs.declared.item.Item.TheVariants.{Power}
 use Rattle.bz_script.specs.declared.read.TheConstants.{SCRIPT_BYTES}
+use Rattle.bz_sched.specs.Enough.{count_wanting}
 use Rattle.bz_sched.specs.FromWorld.WorldView.{WorldView}
 use Rattle.bz_sched.specs.FromWorld.LimitKind.{LimitKind}
 use Rattle.bz_sched.specs.Runs.{IsAtLimit}
 use Rattle.bz_sched.specs.Points.{Point}
 use Rattle.bz_sched.specs.Scripts.{LeadsTo, LeadsToInPart, LeadsToWant}
-use Rattle.bz_sched.specs.Sums.{SufficesFor}
+use Rattle.bz_sched.specs.Sums.{calls_in, sum_of, SufficesFor, HasStockFor}
 use Rattle.bz_gen.specs.Workload.{workload_of}
 use Rattle.bz_text.specs.Report.{report_of}
 use Rattle.bz_text.specs.Summary.{summary_of}
@@ -121,10 +122,12 @@ abbrev pub items_from : State → List Item → List Item
 items_from power.On items = items
 items_from other items = Power ∷ items
 
--- a run that is done: a world of the script, with a sound journal to which the whole script leads
+-- a run that is done: a world of the script, with a sound journal to which the whole script leads. Where each run of the script goes one worker after
+-- the other, and no cut is armed, no call has ended for want of a descriptor or of slots, if as many of these are there as are promised for each call
 pub record IsFinished (marks : ℕ) (base : Base) (script : Job) (world : WorldView) : Type 0 where
   pub right : IsLab marks base script world
   pub follows : LeadsTo world.at_start world.log.start (words_of world.config) None at_first (items_from world.at_start script.items) world.log.past
+  pub served : SufficesFor world.config world.log.limits (items_from world.at_start script.items) → HasStockFor world.config world.log.start (sum_of calls_in (items_from world.at_start script.items)) → count_wanting world.log.past ≡ 0
 
 -- a run that met a limit when one more was needed: a world of the script, with a sound journal to which the
 -- script leads up to there. Where each run of the script goes one worker after the other, and no cut is armed, its sums were beyond the limits

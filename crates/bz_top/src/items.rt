@@ -1,11 +1,11 @@
 //! Running the items of a script.
-ghost use Rattle.std.specs.Prelude.{◌≡◌, ◌≢◌, ◌≤◌, ◌<◌, List, [], ◌∷◌, length, None};
+ghost use Rattle.std.specs.Prelude.{◌≡◌, ◌≢◌, ◌≤◌, ◌<◌, Bool, List, [], ◌∷◌, length, None};
 ghost use Rattle.bz_layout.specs.declared.limits.TheConstants.{MAX_WORKERS};
 ghost use Rattle.bz_sound.specs.declared.power.Power.TheVariants.{On, Recovering};
 ghost use Rattle.bz_sched.specs.FromWorld.WorldView.{power_in};
-ghost use Rattle.bz_sched.specs.Enough.{AreClosed, HasEnough, AreServed};
+ghost use Rattle.bz_sched.specs.Enough.{count_wanting, AreClosed, HasEnough, HasSupply, AreServed, AreSupplied};
 ghost use Rattle.bz_sched.specs.Runs.{point_of, IsCutPlan};
-ghost use Rattle.bz_sched.specs.Sums.{SufficesFor, Affords};
+ghost use Rattle.bz_sched.specs.Sums.{calls_in, sum_of, SufficesFor, HasStockFor, IsStockedAtFirst, Affords, WantsNothingIf};
 ghost use Rattle.bz_script.specs.ItemLaws.{AreItems};
 ghost use Rattle.bz_script.specs.Order.{at_first, takes_no_cut, AreInOrder};
 ghost use Rattle.bz_script.specs.declared.item.Item.{Item};
@@ -81,7 +81,7 @@ fn run_plan<R: Threads + Wait + Sync, G: Gate + Sync>(
     requires armed { IsCutPlan armed }
     requires item { IsReadyFor armed world (Run plan.now) }
     ensures ends { HasDone armed world queue.old (Run plan.now) result.1 None result.0 queue.new }
-    ensures enough { armed ≡ None → plan.now ≡ Alone → AreClosed world.log.past → HasEnough world queue.old.calls → (result.1 ≡ Finished) × AreServed world queue.old result.0 queue.new }
+    ensures enough { armed ≡ None → plan.now ≡ Alone → AreClosed world.log.past → HasEnough world queue.old.calls → (result.1 ≡ Finished) × AreServed world queue.old result.0 queue.new × (HasSupply world queue.old.calls → AreSupplied world queue.old result.0 queue.new) }
 {
     if is_on_threads(plan) {
         let (world, end) = run_threads(rt, alloc, world, queue, gate);
@@ -119,7 +119,7 @@ fn do_item<R: Threads + Wait + Sync, G: Gate + Sync>(
     requires armed { IsCutPlan armed.old }
     requires item { IsReadyFor armed.old world item.now }
     ensures ends { HasDone armed.old world queue.old item.now result.1 armed.new result.0 queue.new }
-    ensures enough { (rest : List Item) → Affords world queue.old.calls armed.old (item.now ∷ rest) → (result.1 ≡ Finished) × Affords result.0 queue.new.calls armed.new rest }
+    ensures enough { (supplied : Bool) (rest : List Item) → Affords supplied world queue.old.calls armed.old (item.now ∷ rest) → (result.1 ≡ Finished) × Affords supplied result.0 queue.new.calls armed.new rest }
 {
     match item {
         Item::Queue(w, call) => {
@@ -164,7 +164,7 @@ fn do_items<R: Threads + Wait + Sync, G: Gate + Sync>(
     requires items { AreItems items.now }
     requires order { AreInOrder at_first items.now }
     ensures ends { ItemsDone (point_of world queue.old) world items.now result.1 result.0 }
-    ensures enough { Affords world queue.old.calls None items.now → result.1 ≡ Finished }
+    ensures enough { (supplied : Bool) → Affords supplied world queue.old.calls None items.now → (result.1 ≡ Finished) × WantsNothingIf supplied result.0 }
 {
     let mut world = world;
     let mut armed: Option<CutPlan> = None;
@@ -185,7 +185,7 @@ fn turn_on(world: &mut World) -> ItemsEnd
     requires steady { power_in world.old ≢ Recovering }
     requires new { world.old.log.past ≡ [] }
     ensures ends { TurnsOn world.old result world.new }
-    ensures enough { (items : List Item) → Affords world.old [] None (items_from world.old.at_start items) → (result ≡ Finished) × Affords world.new [] None items }
+    ensures enough { (supplied : Bool) (items : List Item) → Affords supplied world.old [] None (items_from world.old.at_start items) → (result ≡ Finished) × Affords supplied world.new [] None items }
 {
     match world.power() {
         Power::On => ItemsEnd::Finished,
@@ -212,7 +212,7 @@ pub fn run_items<R: Threads + Wait + Sync, G: Gate + Sync>(
     requires items { AreItems items.now }
     requires order { AreInOrder at_first items.now }
     ensures ends { ItemsRan world items.now result.1 result.0 }
-    ensures enough { SufficesFor world.config world.log.limits (items_from world.at_start items.now) → result.1 ≡ Finished }
+    ensures enough { SufficesFor world.config world.log.limits (items_from world.at_start items.now) → (result.1 ≡ Finished) × (IsStockedAtFirst world → HasStockFor world.config world.log.start (sum_of calls_in (items_from world.at_start items.now)) → count_wanting result.0.log.past ≡ 0) }
 {
     let mut world = world;
     match turn_on(&mut world) {

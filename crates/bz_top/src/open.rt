@@ -4,6 +4,7 @@ ghost use Rattle.bz_judge.specs.Held.{IsImageOf};
 ghost use Rattle.bz_layout.specs.Config.{IsConfig};
 ghost use Rattle.bz_layout.specs.Fresh.{fresh_words};
 ghost use Rattle.bz_sched.specs.FromWorld.WorldView.{view_over, new_view, image_view};
+ghost use Rattle.bz_sched.specs.Sums.{IsStockedAtFirst};
 ghost use Rattle.bz_top.specs.Bases.{IsBaseOf, numbers_over, power_over, words_over};
 
 use bz_content::laws::fresh_memory_is_empty;
@@ -37,6 +38,7 @@ fn starts_with_an_image(world: &World)
 fn open_fresh(alloc: Global, config: &Config) -> Result<World, Memory>
     requires { IsConfig config.now }
     ensures made { IfOk result (λ world. world ≡ new_view config.now) }
+    ensures stocked { IfOk result IsStockedAtFirst }
     ensures image { IfOk result (λ world. IsImageOf world.config world.log.start) }
 {
     match World::open(alloc, config) {
@@ -53,6 +55,7 @@ fn open_fresh(alloc: Global, config: &Config) -> Result<World, Memory>
 fn boot_image(alloc: Global, config: &Config, image: &[u64]) -> Result<World, Memory>
     requires { IsImageOf config.now image.now }
     ensures made { IfOk result (λ world. world ≡ image_view config.now image.now) }
+    ensures stocked { IfOk result IsStockedAtFirst }
 {
     match World::boot(alloc, config, image) {
         Ok(world) => Ok(world),
@@ -71,6 +74,7 @@ pub(crate) fn open_world(
     requires config { IsConfig config.now }
     requires base { IsBaseOf config.now base }
     ensures made { IfOk result (λ world. world ≡ view_over config.now (words_over config.now base) (power_over base)) }
+    ensures stocked { IfOk result IsStockedAtFirst }
     ensures image { IfOk result (λ world. IsImageOf world.config world.log.start) }
 {
     match base {

@@ -4,6 +4,7 @@ ghost use Rattle.bz_layout.specs.declared.limits.TheConstants.{MIN_MARKS, MAX_MA
 ghost use Rattle.bz_judge.specs.Held.{IsImageOf};
 ghost use Rattle.bz_gen.specs.Workload.{workload_of};
 ghost use Rattle.bz_gen.specs.declared.workload.TheConstants.{MOST_CALLS};
+ghost use Rattle.bz_sched.specs.Sums.{IsStockedAtFirst};
 ghost use Rattle.bz_sound.specs.declared.power.Power.TheVariants.{Recovering};
 ghost use Rattle.bz_top.specs.Commands.{config_of};
 ghost use Rattle.bz_sound.specs.Power.Sound.{IsSound};
@@ -74,6 +75,7 @@ fn run_world<R: Threads + Wait + Sync, K: Sink, G: Gate + Sync>(
     requires first { world.at_start ≢ Recovering }
     requires new { world.log.past ≡ [] }
     requires workers { world.config.workers ≡ MOST_WORKERS }
+    requires stocked { IsStockedAtFirst world }
     requires image { IsImageOf world.config world.log.start }
     requires none_wait { queue.calls ≡ [] }
     requires room { queue.room ≡ length (job_of script.now).items }

@@ -32,7 +32,7 @@ returns-then-not-start_recovery-clause-enough c = λ none room. absurd (not_refu
 pub returns-in-Finished-clause-enough : goal.returns-in-Finished-clause-enough
 returns-in-Finished-clause-enough c = λ none room.
     let s = c.start_recovery.ensures.started c.if-not-start_recovery.false in
-    (refl, comes_on c.args.world.now c.start_recovery.new.world c.recover.new.world s c.in-Finished.ensures.ends.1 (c.in-Finished.ensures.few (starts_fresh c.args.world.now c.start_recovery.new.world s)))
+    (refl, comes_on c.args.world.now c.start_recovery.new.world c.recover.new.world s c.in-Finished.ensures.ends.0.stays c.in-Finished.ensures.ends.1 c.in-Finished.ensures.ends.2 c.left.ensures.apart (c.in-Finished.ensures.few (starts_fresh c.args.world.now c.start_recovery.new.world s)))
 
 pub returns-in-Stopped-Limit-clause-enough : goal.returns-in-Stopped-Limit-clause-enough
 returns-in-Stopped-Limit-clause-enough c = λ none room.

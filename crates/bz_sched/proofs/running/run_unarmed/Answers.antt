@@ -1,5 +1,5 @@
-use Rattle.std.proofs.Common.{refl}
-use Rattle.bz_sched.proofs.EnoughLemmas.{needed_for, at_first, are_served}
+use Rattle.std.proofs.Common.{Some, None, refl}
+use Rattle.bz_sched.proofs.EnoughLemmas.{needed_for, ration_for, at_first, rationed_first, are_served, are_supplied}
 use Rattle.bz_sched.proofs.RunLemmas.{unarmed_ends, unarmed_limit, unarmed_never}
 use Rattle.bz_sched.proofs.running.run_unarmed.Goals as goal
 
@@ -15,10 +15,15 @@ unreachable-requires c = unarmed_never c.args.plan.now c.args.world.now c.run_pl
 
 pub returns-in-Finished-clause-enough : goal.returns-in-Finished-clause-enough
 returns-in-Finished-clause-enough c = λ none alone closed enough.
-    let ends = c.in-Finished.ensures.enough alone (needed_for c.args.world.now c.args.queue.now.calls) (at_first c.args.world.now c.args.queue.now.calls closed enough) in
-    (refl, are_served c.args.world.now c.run_plan.new.world c.args.queue.now c.run_plan.new.queue c.run_plan.new.fuse ends.1)
+    let ends = c.in-Finished.ensures.enough alone (needed_for None c.args.world.now c.args.queue.now.calls) (at_first None c.args.world.now c.args.queue.now.calls closed enough tt tt) in (
+      refl,
+      are_served None c.args.world.now c.run_plan.new.world c.args.queue.now c.run_plan.new.queue c.run_plan.new.fuse ends.1,
+      λ supply.
+          let supplied = c.in-Finished.ensures.enough alone (needed_for (Some (ration_for c.args.world.now c.args.queue.now.calls)) c.args.world.now c.args.queue.now.calls) (rationed_first c.args.world.now c.args.queue.now.calls closed enough supply) in
+          are_supplied c.args.world.now c.run_plan.new.world c.args.queue.now c.run_plan.new.queue c.run_plan.new.fuse supplied.1,
+    )
 
 pub returns-in-Stopped-Limit-clause-enough : goal.returns-in-Stopped-Limit-clause-enough
 returns-in-Stopped-Limit-clause-enough c = λ none alone closed enough.
-    let ends = c.in-Stopped-Limit.ensures.enough alone (needed_for c.args.world.now c.args.queue.now.calls) (at_first c.args.world.now c.args.queue.now.calls closed enough) in
+    let ends = c.in-Stopped-Limit.ensures.enough alone (needed_for None c.args.world.now c.args.queue.now.calls) (at_first None c.args.world.now c.args.queue.now.calls closed enough tt tt) in
     let never = ends.0 in absurd (cc never)

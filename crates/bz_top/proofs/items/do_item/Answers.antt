@@ -21,20 +21,20 @@ pub returns-in-Power-clause-ends : goal.returns-in-Power-clause-ends
 returns-in-Power-clause-ends g c = rw (c.in-Power.is, c.end_of.ensures) (power_done c.args.world c.power-end.new.world c.args.queue.now c.drop_after.new.queue c.drop_after.ensures.room c.args.armed.now c.power-end.result c.drop_after.ensures.calls c.power-end.ensures.ends)
 
 pub returns-in-Queue-clause-enough : goal.returns-in-Queue-clause-enough
-returns-in-Queue-clause-enough g c = λ rest affords.
-    (refl, affords_queued c.args.world c.args.queue.now c.push.new.self c.args.armed.now c.in-Queue.w c.in-Queue.call rest c.push.ensures.calls (subst (λ (item : Item). Affords c.args.world c.args.queue.now.calls c.args.armed.now (item ∷ rest)) c.in-Queue.is affords))
+returns-in-Queue-clause-enough g c = λ supplied rest affords.
+    (refl, affords_queued supplied c.args.world c.args.queue.now c.push.new.self c.args.armed.now c.in-Queue.w c.in-Queue.call rest c.push.ensures.calls (subst (λ (item : Item). Affords supplied c.args.world c.args.queue.now.calls c.args.armed.now (item ∷ rest)) c.in-Queue.is affords))
 
 pub returns-in-Arm-clause-enough : goal.returns-in-Arm-clause-enough
-returns-in-Arm-clause-enough g c = λ rest affords.
-    absurd (never_armed c.args.world c.args.queue.now.calls c.args.armed.now c.in-Arm.flush c.in-Arm.seed rest (subst (λ (item : Item). Affords c.args.world c.args.queue.now.calls c.args.armed.now (item ∷ rest)) c.in-Arm.is affords))
+returns-in-Arm-clause-enough g c = λ supplied rest affords.
+    absurd (never_armed supplied c.args.world c.args.queue.now.calls c.args.armed.now c.in-Arm.flush c.in-Arm.seed rest (subst (λ (item : Item). Affords supplied c.args.world c.args.queue.now.calls c.args.armed.now (item ∷ rest)) c.in-Arm.is affords))
 
 pub returns-in-Run-clause-enough : goal.returns-in-Run-clause-enough
-returns-in-Run-clause-enough g c = λ rest affords.
-    run_affords c.args.world c.run_plan-done.result.0 c.args.queue.now c.run_plan-done.new.queue c.args.armed.now c.in-Run.plan rest c.run_plan-done.result.1
-    (subst (λ (item : Item). Affords c.args.world c.args.queue.now.calls c.args.armed.now (item ∷ rest)) c.in-Run.is affords) c.run_plan-done.ensures.ends c.run_plan-done.ensures.enough
+returns-in-Run-clause-enough g c = λ supplied rest affords.
+    run_affords supplied c.args.world c.run_plan-done.result.0 c.args.queue.now c.run_plan-done.new.queue c.args.armed.now c.in-Run.plan rest c.run_plan-done.result.1 (rw c.in-Run.is at c.requires.item).1
+    (subst (λ (item : Item). Affords supplied c.args.world c.args.queue.now.calls c.args.armed.now (item ∷ rest)) c.in-Run.is affords) c.run_plan-done.ensures.ends c.run_plan-done.ensures.enough
 
 pub returns-in-Power-clause-enough : goal.returns-in-Power-clause-enough
-returns-in-Power-clause-enough g c = λ rest affords.
-    let done = power_affords c.args.world c.power-end.new.world c.args.queue.now.calls c.drop_after.new.queue.calls c.args.armed.now rest c.power-end.result
-    (subst (λ (item : Item). Affords c.args.world c.args.queue.now.calls c.args.armed.now (item ∷ rest)) c.in-Power.is affords) c.power-end.ensures.ends c.power-end.ensures.enough c.drop_after.ensures.calls in
+returns-in-Power-clause-enough g c = λ supplied rest affords.
+    let done = power_affords supplied c.args.world c.power-end.new.world c.args.queue.now.calls c.drop_after.new.queue.calls c.args.armed.now rest c.power-end.result
+    (subst (λ (item : Item). Affords supplied c.args.world c.args.queue.now.calls c.args.armed.now (item ∷ rest)) c.in-Power.is affords) c.power-end.ensures.ends c.power-end.ensures.enough c.drop_after.ensures.calls in
     (c.end_of.ensures ∙ done.0, done.1)

@@ -24,4 +24,4 @@ returns-then-is_on_threads-clause-enough g c = λ unarmed alone closed enough. a
 pub returns-else-is_on_threads-clause-enough : goal.returns-else-is_on_threads-clause-enough
 returns-else-is_on_threads-clause-enough g c = λ unarmed alone closed enough.
     let served = c.run-end.ensures.enough unarmed alone closed enough in
-    (c.end_of.ensures ∙ ap end_in served.0, served.1)
+    (c.end_of.ensures ∙ ap end_in served.0, served.1, served.2)

@@ -1,6 +1,7 @@
-use Rattle.std.proofs.Common.{List, sym, subst, ◌∙◌}
+use Rattle.std.proofs.Common.{◌≡◌, List, sym, subst, ◌∙◌}
 use Rattle.bz_script.specs.declared.item.Item.{Item}
-use Rattle.bz_sched.specs.Sums.{SufficesFor}
+use Rattle.bz_sched.specs.Enough.{count_wanting}
+use Rattle.bz_sched.specs.Sums.{calls_in, sum_of, SufficesFor, HasStockFor}
 use Rattle.bz_top.specs.Endings.{items_from}
 use Rattle.bz_script.specs.Script.{job_of}
 use Rattle.bz_top.specs.Items.{ItemsRan}
@@ -25,7 +26,9 @@ returns-in-Finished g c base made =
     let ran : ItemsRan c.args.world _ Finished c.run_items-world.result.0 = rw c.in-Finished.is at c.run_items-world.ensures.ends in
     ran-finished c.args.line.marks base (job_of c.args.script.now) c.args.world c.run_items-world.result.0 made c.print.ensures.sound c.args.line.command
     (sunk (g.K.Sink.held c.args.sink.now) (g.K.Sink.held c.print.new.sink) (g.K.Sink.faults c.args.sink.now) (g.K.Sink.faults c.print.new.sink))
-    c.print.result.status c.print.result.lab (subst (λ items. ItemsRan c.args.world items Finished c.run_items-world.result.0) c.items.ensures ran) c.print.ensures.lab c.print.ensures.wrote
+    c.print.result.status c.print.result.lab (subst (λ items. ItemsRan c.args.world items Finished c.run_items-world.result.0) c.items.ensures ran)
+    (λ suffices. subst (λ (items : List Item). HasStockFor c.args.world.config c.args.world.log.start (sum_of calls_in (items_from c.args.world.at_start items)) → count_wanting c.run_items-world.result.0.log.past ≡ 0) c.items.ensures
+    ((c.run_items-world.ensures.enough (subst (λ (items : List Item). SufficesFor c.args.world.config c.args.world.log.limits (items_from c.args.world.at_start items)) (sym c.items.ensures) suffices)).1 c.requires.stocked)) c.print.ensures.lab c.print.ensures.wrote
 
 pub returns-in-Limit : goal.returns-in-Limit
 returns-in-Limit g c base made =
@@ -33,7 +36,7 @@ returns-in-Limit g c base made =
     ran-limited c.args.line.marks base (job_of c.args.script.now) c.args.world c.run_items-world.result.0 made c.print_limit.ensures.sound c.args.line.command
     (sunk (g.K.Sink.held c.args.sink.now) (g.K.Sink.held c.print_limit.new.sink) (g.K.Sink.faults c.args.sink.now) (g.K.Sink.faults c.print_limit.new.sink))
     c.print_limit.result.status c.print_limit.result.lab c.in-Limit.which (subst (λ items. ItemsRan c.args.world items (Limit c.in-Limit.which) c.run_items-world.result.0) c.items.ensures ran)
-    (λ suffices. let never = sym (c.run_items-world.ensures.enough (subst (λ (items : List Item). SufficesFor c.args.world.config c.args.world.log.limits (items_from c.args.world.at_start items)) (sym c.items.ensures) suffices)) ∙ c.in-Limit.is in absurd (cc never))
+    (λ suffices. let never = sym (c.run_items-world.ensures.enough (subst (λ (items : List Item). SufficesFor c.args.world.config c.args.world.log.limits (items_from c.args.world.at_start items)) (sym c.items.ensures) suffices)).0 ∙ c.in-Limit.is in absurd (cc never))
     c.print_limit.ensures.lab c.print_limit.ensures.wrote
 
 pub returns : goal.returns
