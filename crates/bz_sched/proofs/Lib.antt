@@ -27,3 +27,5 @@ pub mod OthersLemmas
 pub mod DrawLemmas
 pub mod OpenTurns
 pub mod OpenLemmas
+pub mod AboveLemmas
+pub mod ApartLemmas

@@ -17,4 +17,5 @@ pub mod Cutting
 pub mod Powering
 pub mod TurnLaws
 pub mod TurnExample
+pub mod AloneLaws
 pub mod FromWorld

@@ -1,5 +1,6 @@
 //! The laws of runs. Each function does nothing: its contract is the law.
 
+ghost use Rattle.bz_sched.specs.AloneLaws.{CallsAboveEnd, CallsGoApart};
 ghost use Rattle.bz_sched.specs.TurnLaws.{AloneEndsIdle, TurnsEndIdle, WordsAreKept};
 
 /// A turn word adds acts of its worker alone, at most as many as it says, and fewer only where no call of that worker is then
@@ -16,4 +17,14 @@ pub fn alone_ends_idle()
 /// After `run turns` no call of the workers 1 to 64 is open or waits.
 pub fn turns_end_idle()
     ensures { TurnsEndIdle }
+{}
+
+/// Where each run goes one worker after the other, and no cut is armed, each call that stands above a run has ended.
+pub fn calls_above_end()
+    ensures { CallsAboveEnd }
+{}
+
+/// Where the power does not come on besides, no call has begun while another was open.
+pub fn calls_go_apart()
+    ensures { CallsGoApart }
 {}

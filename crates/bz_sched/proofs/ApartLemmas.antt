@@ -1,0 +1,113 @@
+-- Where the power does not come on, the calls of runs of one worker after the other go apart.
+use Rattle.std.proofs.Common.{◌≡◌, ◌≢◌, ℕ, zero, suc, ◌+◌, ◌&&◌, Bool, true, false, List, [], ◌∷◌, ◌++◌, refl, sym, subst, Option, Some, None, inl, inr}
+use Rattle.std.specs.Prelude.{is_some}
+use Rattle.std.proofs.lemmas.Bool.{cases_eq, true≢false}
+use Rattle.bz_call.specs.declared.calls.Call.{Call}
+use Rattle.bz_mark.specs.declared.marks.Mark.{Mark}
+use Rattle.bz_mark.specs.declared.marks.Mark.TheVariants as mark
+use Rattle.bz_script.specs.declared.item.Item.{Item}
+use Rattle.bz_script.specs.declared.item.Item.TheVariants.{Queue, Arm, Run, Power}
+use Rattle.bz_script.specs.declared.item.Plan.{Plan}
+use Rattle.bz_sound.specs.Calls.{Open, open_call}
+use Rattle.bz_sound.specs.Memory.Sound.{IsApart}
+use Rattle.bz_sched.specs.AloneLaws.{is_no_power, without_power, CallsGoApart}
+use Rattle.bz_sched.specs.Enough.{AreClosed}
+use Rattle.bz_sched.specs.Plans.{RunsBy}
+use Rattle.bz_sched.specs.Points.{Point, actor, IsUpToOneEffect, IsUpToOneEnd, IsStep, ready_by, ready, is_busy, IsTurn}
+use Rattle.bz_sched.specs.Queued.{calls_of}
+use Rattle.bz_sched.specs.Sums.{is_alone, are_plain}
+use Rattle.bz_sched.specs.Turns.{TakesTurns, EndsOne, EndsFrom}
+use Rattle.bz_sched.proofs.AboveLemmas.{alone_is}
+use Rattle.bz_sched.proofs.IdleRuns.{idle_is, open_stays_none}
+use Rattle.bz_sched.proofs.TurnAdds.{turn_adds}
+
+-- no call of another worker than this is open, and those so far went apart
+record GoesApart (v : ℕ) (past : List Mark) : Type 0 where
+  others : (u : ℕ) → u ≢ v → open_call u past ≡ None
+  apart : IsApart past
+
+none-open : (o : Option Open) → is_some o ≡ false → o ≡ None
+none-open None e = refl
+none-open (Some opened) e = absurd (true≢false e)
+
+ready-apart : (v : ℕ) (opened : Bool) (calls : List (ℕ × Call)) (point : Point) → is_some (open_call v point.past) ≡ opened → GoesApart v point.past → IsApart (ready_by v opened calls point).past
+ready-apart v true calls point is g = g.apart
+ready-apart v false [] point is g = g.apart
+ready-apart v false (call ∷ calls) point is g = (closed, g.apart)
+  where
+    closed : (u : ℕ) → open_call u point.past ≡ None
+    closed u = elim (cases_eq u v) [
+      | inl e ↦ subst (λ (z : ℕ). open_call z point.past ≡ None) (sym e) (none-open (open_call v point.past) is)
+      | inr ne ↦ g.others u ne
+    ]
+
+act-apart : (act : Mark) (past : List Mark) (v : ℕ) → actor act ≡ Some v → IsApart past → IsApart (act ∷ past)
+act-apart (mark.Load u a x) past v own apart = (tt, apart)
+act-apart (mark.Store u a x) past v own apart = (tt, apart)
+act-apart (mark.Cas u a old new found) past v own apart = (tt, apart)
+act-apart (mark.Flush u line) past v own apart = (tt, apart)
+act-apart other past v own apart = absurd (cc own)
+
+effect-apart : (effect past : List Mark) → IsUpToOneEffect effect → IsApart past → IsApart (effect ++ past)
+effect-apart [] past one apart = apart
+effect-apart (mark.Effect u n ∷ []) past one apart = (tt, apart)
+effect-apart other past one apart = absurd one
+
+end-apart : (v : ℕ) (ending past : List Mark) → IsUpToOneEnd v ending → IsApart past → IsApart (ending ++ past)
+end-apart v [] past one apart = apart
+end-apart v (mark.End u n reply at ∷ []) past one apart = (tt, apart)
+end-apart v other past one apart = absurd one
+
+step-apart : (v : ℕ) (past new : List Mark) → IsStep v past new → IsApart past → IsApart new
+step-apart v past new s apart = subst IsApart (sym s.is) (end-apart v s.ending (s.effect ++ s.act ∷ past) s.one_end (effect-apart s.effect (s.act ∷ past) s.one_effect (act-apart s.act past v s.own apart)))
+
+turn-apart : (v : ℕ) (old new : Point) → IsTurn v old new → GoesApart v old.past → GoesApart v new.past
+turn-apart v old new turn g = record {
+  others = λ u ne. let adds = turn_adds v old new turn in subst (λ (past : List Mark). open_call u past ≡ None) (sym adds.is) (open_stays_none u v adds.added old.past ne adds.own (g.others u ne));
+  apart = step-apart v (ready v old).past new.past turn.step.0 (ready-apart v (is_some (open_call v old.past)) (calls_of v old.queue) old refl g);
+}
+
+turns-apart : (v count : ℕ) (old new : Point) → TakesTurns v count old new → GoesApart v old.past → GoesApart v new.past
+turns-apart v zero old new is g = subst (λ (point : Point). GoesApart v point.past) (sym is) g
+turns-apart v (suc count) old new (inl rest) g = subst (λ (point : Point). GoesApart v point.past) (sym rest.1) g
+turns-apart v (suc count) old new (inr some) g = turns-apart v count some.0 new some.2 (turn-apart v old some.0 some.1 g)
+
+-- between the calls of two workers none is open
+record IsClosedApart (past : List Mark) : Type 0 where
+  closed : AreClosed past
+  apart : IsApart past
+
+one-apart : (v : ℕ) (old new : Point) → EndsOne v old new → IsClosedApart old.past → IsClosedApart new.past
+one-apart v old new (count, turns, idle) c =
+    let g = turns-apart v count old new turns (record { others = λ u ne. c.closed u; apart = c.apart }) in
+    record {
+      closed = λ u. elim (cases_eq u v) [
+        | inl e ↦ subst (λ (z : ℕ). open_call z new.past ≡ None) (sym e) (idle_is v (open_call v new.past) (calls_of v new.queue) idle).none_open
+        | inr ne ↦ g.others u ne
+      ];
+      apart = g.apart;
+    }
+
+ends-apart : (v more : ℕ) (old new : Point) → EndsFrom v more old new → IsClosedApart old.past → IsClosedApart new.past
+ends-apart v zero old new is c = subst (λ (point : Point). IsClosedApart point.past) (sym is) c
+ends-apart v (suc more) old new run c = ends-apart (v + 1) more run.0 new run.2 (one-apart v old run.0 run.1 c)
+
+both : (a b : Bool) → (a && b) ≡ true → (a ≡ true) × (b ≡ true)
+both true b e = (refl, e)
+both false b e = absurd (true≢false (sym e))
+
+pub calls-go-apart : CallsGoApart
+calls-go-apart at_start start words old [] new plain no_power closed apart is = subst IsApart (sym is) apart
+calls-go-apart at_start start words old (Queue v call ∷ items) new plain no_power closed apart leads =
+    calls-go-apart at_start start words (record { past = old.past; queue = old.queue ++ (v, call) ∷ [] }) items new plain no_power closed apart leads
+calls-go-apart at_start start words old (Arm flush seed ∷ items) new plain no_power closed apart leads = absurd (true≢false (sym plain))
+calls-go-apart at_start start words old (Run plan ∷ items) new plain no_power closed apart (mid, runs, leads) =
+    let alone = both (is_alone plan) (are_plain items) plain in
+    elim runs [
+      | inl whole ↦ (
+          let c = ends-apart 1 64 old mid (subst (λ (p : Plan). RunsBy words p old mid) (alone_is plan alone.0) whole.0) (record { closed = closed; apart = apart }) in
+          calls-go-apart at_start start words mid items new alone.1 no_power c.closed c.apart leads
+          )
+      | inr cut ↦ absurd cut
+    ]
+calls-go-apart at_start start words old (Power ∷ items) new plain no_power closed apart leads = absurd (true≢false (sym no_power))
