@@ -2,3 +2,4 @@ pub mod Laws
 pub mod Lone
 pub mod FromRounds
 pub mod FromAlone
+pub mod FromTally

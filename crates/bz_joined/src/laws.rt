@@ -19,6 +19,7 @@ pub use bz_rounds::laws::{
 use bz_shape::laws as shape;
 use bz_slotted::laws as slotted;
 use bz_stage::laws as stage;
+pub use bz_tally::laws::leaves_come_and_go;
 use bz_task::laws as task;
 
 /// The freeze of a neighbour leaves the stage.

@@ -45,7 +45,7 @@ other : (a b : Bool) → b ≡ true → a || b ≡ true
 other true b e = refl
 other false b e = e
 
-one-of : (a b c : Bool) → a || (b && not c) ≡ true → (a ≡ true) ⊎ ((b ≡ true) × (c ≡ false))
+pub one-of : (a b c : Bool) → a || (b && not c) ≡ true → (a ≡ true) ⊎ ((b ≡ true) × (c ≡ false))
 one-of true b c e = inl refl
 one-of false true false e = inr (refl, refl)
 one-of false true true e = absurd (cc)

@@ -19,7 +19,10 @@ use Rattle.bz_leaves.specs.Leaves.{leaf_count}
 
 pub leaf-words : Nodes → WordsOfLeavesDoNotCount
 unfolding leaf_count
-leaf-words b c x y t s = ap (λ (us : List Visit). count_by (λ k. (form_of us).inside k && ((form_of us).level k == 0)) (range_with_len 0 c.nodes)) same
+leaf-words b c x y t s = record {
+  leaves = ap (λ (us : List Visit). count_by (λ k. (form_of us).inside k && ((form_of us).level k == 0)) (range_with_len 0 c.nodes)) same;
+  inside = λ k. ap (λ (us : List Visit). (form_of us).inside k) same;
+}
   where
     f : Form
     f = form_in c x

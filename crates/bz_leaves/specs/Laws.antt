@@ -41,9 +41,14 @@ pub record OnLeaves (c : Config) (x y : Image) : Type 0 where
   pub inners : (k : ℕ) → (form_in c x).inside k ≡ true → 0 < (form_in c x).level k → k ≢ c.nodes → SameNode c x y k
   pub leaves : (k : ℕ) → (form_in c x).inside k ≡ true → (form_in c x).level k ≡ 0 → level_of (node c y.words k) ≡ level_of (node c x.words k)
 
--- then the number is the same, whatever the leaves say
+-- then each slot is in the tree that was, and the number is the same
+pub record KeepsSlots (c : Config) (x y : Image) : Type 0 where
+  pub leaves : AsManyLeaves c x y
+  pub inside : (k : ℕ) → (form_in c y).inside k ≡ (form_in c x).inside k
+
+-- whatever the leaves say
 abbrev pub WordsOfLeavesDoNotCount : Type 0
-WordsOfLeavesDoNotCount = (c : Config) (x y : Image) → IsTree (view_of c x) → OnLeaves c x y → AsManyLeaves c x y
+WordsOfLeavesDoNotCount = (c : Config) (x y : Image) → IsTree (view_of c x) → OnLeaves c x y → KeepsSlots c x y
 
 -- a reservation, the first swap of an update, a freeze and private stores leave it
 abbrev pub QuietSwapsKeepTheLeaves : Type 0

@@ -8,3 +8,4 @@ pub mod Renewals
 pub mod FromRounds
 pub mod FromCosts
 pub mod FromAlone
+pub mod FromTally

@@ -28,7 +28,7 @@ use Rattle.bz_freeze.specs.declared.phase.Phase.{Phase as FreezePhase}
 use Rattle.bz_freeze.specs.declared.phase.Phase.TheVariants as freeze
 use Rattle.bz_layout.specs.declared.config.Config.{Config}
 use Rattle.bz_leaf.specs.Duties as leaf
-use Rattle.bz_leaf.specs.Facts.{leaf_end, view_of}
+use Rattle.bz_leaf.specs.Facts.{leaf_end}
 use Rattle.bz_leaf.specs.declared.phase.Phase.{Phase as LeafPhase}
 use Rattle.bz_leaf.specs.declared.phase.Phase.TheVariants as leaf_phase
 use Rattle.bz_leaf.specs.declared.read_leaf.ReadLeaf.{ReadLeaf}

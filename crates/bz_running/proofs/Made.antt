@@ -26,7 +26,7 @@ use Rattle.bz_task.specs.Scene.{Past, Continues}
 use Rattle.bz_task.specs.declared.view.LeafView.{LeafView}
 use Rattle.bz_word.specs.Statuses.{status}
 use Rattle.bz_running.specs.Duties.{ascent_of}
-use Rattle.bz_running.specs.MadeFor.{HasFoot, WasLeafOf, LackedWords, WasCrowded, IsCopyFor, AreHalvesFor, HasComeTo, HasComeBelow, HasComeToRoot, IsMadeFor, IsMergeOf, IsMergeFor}
+use Rattle.bz_running.specs.MadeFor.{HasFoot, WasLeafOf, LackedWords, WasCrowded, WasSmallLeafOf, IsCopyFor, AreHalvesFor, HasComeTo, HasComeBelow, HasComeToRoot, IsMadeFor, IsMergeOf, IsMergeFor, IsSmallMerge}
 use Rattle.bz_running.specs.declared.running.AnyTask.{AnyTask}
 use Rattle.bz_running.specs.declared.running.AnyTask.TheVariants.{Seeking, Finding, Reading, Inserting, Updating, Deleting, Freezing, Consolidating, Splitting, SplittingBelow, SplittingInner, SplittingInnerRoot, Merging}
 use Rattle.bz_running.proofs.Ascending.{same-ascent}
@@ -88,6 +88,13 @@ merge-kept t u e key p m =
     let viewed : u.status ≡ t.status = same-status u.status t.status (ap (λ (b : Basis). b.nodes) e) in
     subst (λ (k : ℕ). IsMergeOf key k u.status p) (sym (ap (λ (b : Basis). b.slot) e)) (subst (λ (st : ℕ). IsMergeOf key t.lower.slot st p) (sym viewed) m)
 
+abbrev pub KeptSmall : AnyTask → AnyTask → Type 0
+KeptSmall t u = (key : List ℕ) (p : Past) → IsSmallMerge t key p → IsSmallMerge u key p
+
+pub small-kept : (t u : Merge) → merge.basis_of u ≡ merge.basis_of t → KeptSmall (Merging t) (Merging u)
+unfolding IsSmallMerge
+small-kept t u e key p m = subst (λ (k : ℕ). WasSmallLeafOf key k p) (sym (ap (λ (b : Basis). b.slot) e)) m
+
 -- the leaf that was viewed, and lacked the words and the metadata word of a record
 pub lacked-viewed : (key : List ℕ) (view : LeafView) (slot words : ℕ) (p : Past) → IsView key view p → slot ≡ view.slot → SHARED_WORDS < (status view.status).count + 1 + (status view.status).block + words → LackedWords key (words + 1) slot p
 lacked-viewed key view slot words p is e few =
@@ -146,6 +153,11 @@ pub merge-stays : (t : AnyTask) (key : List ℕ) (p q : Past) → IsMergeFor t k
 unfolding IsMergeFor
 merge-stays (Merging t) key p q m n = record { leaf = leaf-stays p q n key t.lower.slot m.leaf; frozen = m.frozen }
 merge-stays t key p q m n = absurd m
+
+pub small-stays : ViewsStay → (t : AnyTask) (key : List ℕ) (p q : Past) → IsSmallMerge t key p → Continues p q → IsSmallMerge t key q
+unfolding IsSmallMerge
+small-stays v (Merging t) key p q m n = record { view = m.view; is = v key m.view p q m.is n; at = m.at; few = m.few }
+small-stays v t key p q m n = absurd m
 
 -- at the foot of an ascent stands a leaf that has to be split
 pub record StandsOnCrowded (a : Ascent) (key : List ℕ) (p : Past) : Type 0 where

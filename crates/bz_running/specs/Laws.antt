@@ -19,7 +19,7 @@ use Rattle.bz_task.specs.declared.todo.Todo.TheVariants.{Store, Flush, Swap, Fin
 use Rattle.bz_running.specs.Duties.{config_of, asks_of, end_of, swaps_of, made_of, change_swaps, needs_of, wants_of, ascent_of, change_of, publishing_of, facts_of, means_of, differs_of, makes_no_change}
 use Rattle.bz_running.specs.Ends.{IsEndOf, TakesNothing, TakesOneSwap}
 use Rattle.bz_running.specs.Kinds.{kind_of, is_look, is_renewal}
-use Rattle.bz_running.specs.MadeFor.{IsMadeFor, IsMergeFor}
+use Rattle.bz_running.specs.MadeFor.{IsMadeFor, IsMergeFor, IsSmallMerge}
 use Rattle.bz_running.specs.declared.running.AnyTask.{AnyTask}
 
 -- on the way up each level that inner nodes may have was full
@@ -33,6 +33,7 @@ pub record AreLaws (t : AnyTask) : Type 0 where
   -- so does what it was made for
   pub made_for : (key : List ℕ) (words : ℕ) (p q : Past) → IsMadeFor t key words p → Continues p q → IsMadeFor t key words q
   pub merge_for : (key : List ℕ) (p q : Past) → IsMergeFor t key p → Continues p q → IsMergeFor t key q
+  pub small_for : (key : List ℕ) (p q : Past) → IsSmallMerge t key p → Continues p q → IsSmallMerge t key q
   pub askable : (s : Scene) (todo : Todo) → s.past.config ≡ config_of t → facts_of t Waiting s → IsScene s → asks_of t ≡ Some todo → IsAskable s todo
   pub cause : (s : Scene) (seen : Seen) → s.past.config ≡ config_of t → facts_of t Waiting s → differs_of t seen → IsCause (asks_of t) seen s
   -- what it still is to take is no more than what it takes in all, and that no more than a split takes

@@ -4,7 +4,7 @@ use Rattle.std.specs.Prelude.{◌≡◌, ℕ, ◌+◌, ◌-◌, ◌<◌, ◌≤�
 use Rattle.bz_ascent.specs.declared.ascent.Ascent.{Ascent}
 use Rattle.bz_consol.specs.Facts.{IsMadeOf}
 use Rattle.bz_layout.specs.declared.sizes.TheConstants.{SHARED_WORDS}
-use Rattle.bz_layout.specs.declared.thresholds.TheConstants.{SPLIT_ABOVE}
+use Rattle.bz_layout.specs.declared.thresholds.TheConstants.{MERGE_BELOW, SPLIT_ABOVE}
 use Rattle.bz_merge.specs.FromSplit.Parts.{AreHalvesFrom}
 use Rattle.bz_slotted.specs.Readers.{live_of}
 use Rattle.bz_slotted.specs.ReadingLaws.{node_of}
@@ -101,6 +101,13 @@ pub record IsMergeOf (key : List ℕ) (slot st : ℕ) (p : Past) : Type 0 where
   pub leaf : WasLeafOf key slot p
   pub frozen : (status st).frozen ≡ true
 
+-- the key's leaf was viewed, with too few live words to stand alone
+pub record WasSmallLeafOf (key : List ℕ) (slot : ℕ) (p : Past) : Type 0 where
+  pub view : LeafView
+  pub is : IsView key view p
+  pub at : view.slot ≡ slot
+  pub few : live_of (node_of view.image.0) < MERGE_BELOW
+
 -- the task is the freeze of a leaf that lacked the words, or one of these, for this key and these words
 unfoldable pub IsMadeFor : AnyTask → List ℕ → ℕ → Past → Type 0
 IsMadeFor (Seeking t) = λ key words p. ⊥
@@ -121,3 +128,8 @@ IsMadeFor (Merging t) = λ key words p. ⊥
 unfoldable pub IsMergeFor : AnyTask → List ℕ → Past → Type 0
 IsMergeFor (Merging t) = λ key p. IsMergeOf key t.lower.slot t.status p
 IsMergeFor t = λ key p. ⊥
+
+-- the task is a merge of that leaf, frozen or not
+unfoldable pub IsSmallMerge : AnyTask → List ℕ → Past → Type 0
+IsSmallMerge (Merging t) = λ key p. WasSmallLeafOf key t.lower.slot p
+IsSmallMerge t = λ key p. ⊥

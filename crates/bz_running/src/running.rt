@@ -31,7 +31,7 @@ ghost use Rattle.bz_running.specs.Kinds as kind;
 ghost use Rattle.bz_running.specs.Kinds.{kind_of, IsLeafSplit};
 ghost use Rattle.bz_running.specs.Duties.{config_of, asks_of, basis_of, end_of, left_of, swaps_of, made_of, change_swaps, needs_of, wants_of, change_of, ascent_of, publishing_of, facts_of, means_of, differs_of, makes_no_change};
 ghost use Rattle.bz_running.specs.Laws.{AreLaws};
-ghost use Rattle.bz_running.specs.MadeFor.{IsMadeFor, IsMergeFor};
+ghost use Rattle.bz_running.specs.MadeFor.{IsMadeFor, IsMergeFor, IsSmallMerge};
 ghost use Rattle.bz_running.specs.LookingUp.{ForWay, ForKey, look_of, reads_asked, HasCounted, LooksUpBriefly};
 
 use bz_ascent::{Ascent, SplitBelow};
@@ -329,12 +329,14 @@ impl AnyTask {
         ensures ends { (key : List ℕ) (way : Option Path) → IsLookup key way result }
         // it is one for the key of the leaf, where that was frozen when it was viewed
         ensures merge_for { (key : List ℕ) (p : Past) → IsView key view p → (status view.status).frozen ≡ true → IsMergeFor result key p }
+        // and of a leaf with too few live words
+        ensures small_for { (key : List ℕ) (p : Past) → IsView key view p → IsSmallMerge result key p }
     {
         AnyTask::Merging(Merge::new(config, path, view))
     }
 
     /// Tells the task what came of its last act, and answers what it asks for next: `next`, and that one which makes no change makes none later.
-    #[tactic(auto, unfolding(crate::specs::Duties::config_of, crate::specs::Duties::asks_of, crate::specs::Duties::end_of, crate::specs::Duties::left_of, crate::specs::Duties::swaps_of, crate::specs::Duties::made_of, crate::specs::Duties::change_swaps, crate::specs::Duties::needs_of, crate::specs::Duties::wants_of, crate::specs::Duties::change_of, crate::specs::Duties::facts_of, crate::specs::Duties::means_of, crate::specs::Duties::differs_of, crate::specs::Duties::ascent_of, crate::specs::Duties::makes_no_change, crate::specs::MadeFor::IsMadeFor, crate::specs::MadeFor::IsMergeFor, crate::specs::Kinds::kind_of))]
+    #[tactic(auto, unfolding(crate::specs::Duties::config_of, crate::specs::Duties::asks_of, crate::specs::Duties::end_of, crate::specs::Duties::left_of, crate::specs::Duties::swaps_of, crate::specs::Duties::made_of, crate::specs::Duties::change_swaps, crate::specs::Duties::needs_of, crate::specs::Duties::wants_of, crate::specs::Duties::change_of, crate::specs::Duties::facts_of, crate::specs::Duties::means_of, crate::specs::Duties::differs_of, crate::specs::Duties::ascent_of, crate::specs::Duties::makes_no_change, crate::specs::MadeFor::IsMadeFor, crate::specs::MadeFor::IsMergeFor, crate::specs::MadeFor::IsSmallMerge, crate::specs::Kinds::kind_of))]
     pub fn hear(&mut self, seen: Seen, slots: &mut Slots, moment: u32) -> Todo
         requires hears { Hears (asks_of self.old) seen }
         requires known { IsKnown (config_of self.old) (facts_of self.old) (asks_of self.old) seen moment }

@@ -6,6 +6,7 @@ use Rattle.bz_consol.specs.declared.phase.Phase.{Phase}
 use Rattle.bz_consol.specs.declared.phase.Phase.TheVariants.{Swap}
 use Rattle.bz_layout.specs.declared.config.Config.{Config}
 use Rattle.bz_layout.specs.declared.sizes.TheConstants.{NODE_WORDS, NODE_LINES}
+use Rattle.bz_leaves.proofs.Consolidations.{only-one}
 use Rattle.bz_leaves.specs.Laws.{ConsolidationsKeepTheLeaves}
 use Rattle.bz_renew.specs.FrozenLeaves.{StandsStill, FrozenLeavesStandStill}
 use Rattle.bz_renew.specs.LinkSwaps.{IsFresh}
@@ -18,13 +19,14 @@ use Rattle.bz_slotted.specs.Rules.{node_fault}
 use Rattle.bz_word.specs.declared.entry.Entry.{Entry}
 use Rattle.bz_content.specs.Content.{image_of}
 use Rattle.bz_content.specs.Image.{node}
-use Rattle.bz_content.specs.Laws.{WellFormedImagesHaveNoFault, PlainWordsStandForThemselves}
+use Rattle.bz_content.specs.Laws.{ConsolidationsKeepTheContent, WellFormedImagesHaveNoFault, PlainWordsStandForThemselves}
 use Rattle.bz_content.specs.Swaps.{Consolidates, TurnsLink}
 use Rattle.bz_task.specs.Instant.{Instant, durable, form_at}
 use Rattle.bz_task.specs.Laws.{SamePlace}
 use Rattle.bz_task.specs.Scene.{Scene, Waiting, IsScene, here}
 use Rattle.bz_task.specs.Swaps.{Stand, SwapsTo}
 use Rattle.bz_task.specs.declared.todo.Todo.TheVariants.{Swap as Swaps_for}
+use Rattle.bz_tally.proofs.Backs.{none-back}
 use Rattle.bz_tally.proofs.Changes.{same-entries}
 use Rattle.bz_tally.proofs.Links.{tree-now}
 use Rattle.bz_tally.proofs.Stored.{one-held, one-fresh}
@@ -37,6 +39,7 @@ pub record Laws : Type 0 where
   pub root : RootLinksTurn
   pub child : ChildLinksTurn
   pub still : FrozenLeavesStandStill
+  pub grows : ConsolidationsKeepTheContent
   pub count : ConsolidationsKeepTheLeaves
 
 module _ (b : Laws) (r : Renewal) (s : Scene) (y : Instant) (good : IsScene s) (f : IsCopying r NODE_WORDS NODE_LINES s) (swaps : SwapsTo s.past.config (renewal r.link r.slot) (here s) y) where
@@ -92,5 +95,9 @@ pub copies : Laws → CopiesKeepTheLeaves
 copies b t entries s y w =
     let r : Renewal = renewal_of t in
     let f = swapping t.config r t.phase s entries w.knows w.asks in
-    b.count s.past.config (image_of (here s).image) (image_of y.image) t.link.slot t.slot (tree-now b.formed s w.good)
-    (copied b r s y w.good f.0 (subst (λ z. SwapsTo s.past.config z (here s) y) (sym f.1) w.leads) (subst (λ z. Stand z (here s)) (sym f.1) w.stand))
+    let d = copied b r s y w.good f.0 (subst (λ z. SwapsTo s.past.config z (here s) y) (sym f.1) w.leads) (subst (λ z. Stand z (here s)) (sym f.1) w.stand) in
+    record {
+      same = b.count s.past.config (image_of (here s).image) (image_of y.image) t.link.slot t.slot (tree-now b.formed s w.good) d;
+      back = none-back s y (t.link.slot ∷ []) (t.slot ∷ []) w.good (b.grows s.past.config (image_of (here s).image) (image_of y.image) t.link.slot t.slot (tree-now b.formed s w.good) d)
+          (λ k e. subst (IsFresh s) (sym (only-one t.slot k e)) (one-fresh r.slot r.image s f.0.viewed.size f.0.writing));
+    }

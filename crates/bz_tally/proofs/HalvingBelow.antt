@@ -23,6 +23,7 @@ use Rattle.bz_renew.proofs.Freezings.{renewal-holds}
 use Rattle.bz_renew.proofs.Inserting.{all-inserted-first}
 use Rattle.bz_renew.proofs.TwoEntries.{both-stand}
 use Rattle.bz_renew.proofs.Words.{or-right}
+use Rattle.bz_shape.proofs.Trees.{among-first}
 use Rattle.bz_shape.specs.Slots.{Wider}
 use Rattle.bz_shape.specs.Walk.{is_among}
 use Rattle.bz_slotted.specs.ReadingLaws.{node_of}
@@ -31,7 +32,7 @@ use Rattle.bz_split.specs.BelowSplits.{parent_freezing, below_swap}
 use Rattle.bz_split.specs.Facts.{SPLIT_WORDS, SPLIT_LINES}
 use Rattle.bz_word.specs.declared.entry.Entry.{Entry}
 use Rattle.bz_content.specs.Content.{image_of}
-use Rattle.bz_content.specs.Laws.{WellFormedImagesHaveNoFault, PlainWordsStandForThemselves}
+use Rattle.bz_content.specs.Laws.{WellFormedImagesHaveNoFault, PlainWordsStandForThemselves, SplitsKeepTheContent}
 use Rattle.bz_content.specs.Restructures.{children_of, Splits}
 use Rattle.bz_task.specs.Instant.{Instant, words, durable, form_at}
 use Rattle.bz_task.specs.Laws.{SamePlace}
@@ -40,6 +41,7 @@ use Rattle.bz_task.specs.Scene.{Scene, Waiting, IsScene, here}
 use Rattle.bz_task.specs.Swaps.{Stand, SwapsTo}
 use Rattle.bz_task.specs.declared.path.Link.{Link}
 use Rattle.bz_task.specs.declared.todo.Todo.TheVariants.{Swap as Swaps_for}
+use Rattle.bz_tally.proofs.Backs.{AreFresh, is-gone, none-back, three-fresh}
 use Rattle.bz_tally.proofs.Changes.{same-entries}
 use Rattle.bz_tally.proofs.Links.{Links, in-parent, leaf-now, node-freezable, node-leads, node-place, node-words, out-one, tree-now}
 use Rattle.bz_tally.proofs.Splitting.{Holds, IsReady, splits}
@@ -55,6 +57,7 @@ pub record Laws : Type 0 where
   pub child : ChildLinksTurnWith
   pub still : FrozenLeavesStandStill
   pub wholes : ParentsOfHalvesAreWhole
+  pub grows : SplitsKeepTheContent
   pub count : LeafSplitsAddOne
 
 -- the upper link with the guard that is named
@@ -200,8 +203,12 @@ halves-below b t entries s y l =
     let stand : Stand (below_swap s.past.config (named r) r.lower (r.slot 0)) (here s) = subst (λ z. Stand z (here s)) (sym is) l.stand in
     let d = halved b r s y l.good f.0 f.1.0 stand (subst (λ z. SwapsTo s.past.config z (here s) y) (sym is) l.leads) in
     let flat : (form_at s.past.config (here s)).level t.lower.slot ≡ 0 = is-flat b r s y l.good f.0 f.1.0 stand in
+    let fresh : AreFresh s (r.slot 0 ∷ r.slot 1 ∷ r.slot 2 ∷ []) = three-fresh s (r.slot 0) (r.slot 1) (r.slot 2) (node-fresh r.slot r.image s f.0.plain f.0.writing 0 (omega arith)) (node-fresh r.slot r.image s f.0.plain f.0.writing 1 (omega arith)) (node-fresh r.slot r.image s f.0.plain f.0.writing 2 (omega arith)) in
+    let grows = b.grows s.past.config (image_of (here s).image) (image_of y.image) t.lower.slot (r.slot 0) (r.slot 1) (r.slot 2) 0 r.sep (tree-now b.formed s l.good) d in
     record {
       more = (b.count s.past.config (image_of (here s).image) (image_of y.image) t.lower.slot (r.slot 0) (r.slot 1) (r.slot 2) 0 r.sep (tree-now b.formed s l.good) d).leaf flat;
       leaf = leaf-now s t.lower.slot d.inside flat;
       crowded = record { moment = f.0.planned.parted.moment; frozen = f.0.planned.parted.leaf; many = f.0.planned.parted.many };
+      gone = is-gone s y (t.lower.slot ∷ (form_at s.past.config (here s)).up t.lower.slot ∷ []) (r.slot 0 ∷ r.slot 1 ∷ r.slot 2 ∷ []) l.good grows fresh t.lower.slot d.inside (among-first t.lower.slot t.lower.slot ((form_at s.past.config (here s)).up t.lower.slot ∷ []) refl);
+      back = none-back s y (t.lower.slot ∷ (form_at s.past.config (here s)).up t.lower.slot ∷ []) (r.slot 0 ∷ r.slot 1 ∷ r.slot 2 ∷ []) l.good grows fresh;
     }

@@ -29,7 +29,7 @@ use Rattle.bz_slotted.specs.ReadingLaws.{node_of}
 use Rattle.bz_slotted.specs.Rules.{node_fault}
 use Rattle.bz_word.specs.declared.entry.Entry.{Entry}
 use Rattle.bz_content.specs.Content.{image_of}
-use Rattle.bz_content.specs.Laws.{WellFormedImagesHaveNoFault, PlainWordsStandForThemselves}
+use Rattle.bz_content.specs.Laws.{WellFormedImagesHaveNoFault, PlainWordsStandForThemselves, SplitsKeepTheContent}
 use Rattle.bz_content.specs.Restructures.{children_of, Splits}
 use Rattle.bz_task.specs.Instant.{Instant, words, durable, form_at}
 use Rattle.bz_task.specs.Laws.{SamePlace}
@@ -37,6 +37,7 @@ use Rattle.bz_task.specs.Outcomes.{IsUnderNode}
 use Rattle.bz_task.specs.Scene.{Scene, Waiting, IsScene, here}
 use Rattle.bz_task.specs.Swaps.{Stand, SwapsTo}
 use Rattle.bz_task.specs.declared.todo.Todo.TheVariants.{Swap as Swaps_for}
+use Rattle.bz_tally.proofs.Backs.{none-back, three-fresh}
 use Rattle.bz_tally.proofs.Changes.{same-entries}
 use Rattle.bz_tally.proofs.Links.{Links, in-parent, node-freezable, node-leads, node-place, node-words, out-one, out-two, tree-now}
 use Rattle.bz_tally.proofs.Splitting.{Holds, IsReady, splits}
@@ -51,6 +52,7 @@ pub record Laws : Type 0 where
   pub root : RootLinksTurnWith
   pub child : ChildLinksTurnWith
   pub wholes : ParentsOfHalvesAreWhole
+  pub grows : SplitsKeepTheContent
   pub count : LeafSplitsAddOne
 
 module _ (b : Laws) (r : Fork) (s : Scene) (y : Instant) (good : IsScene s) (f : IsSplitting r SPLIT_WORDS SPLIT_LINES s) (stand : Stand (inner_swap s.past.config r.upper r.middle r.lower (r.slot 0)) (here s)) where
@@ -201,4 +203,9 @@ halves-inner b t entries s y l =
     let is : inner_swap s.past.config r.upper r.middle r.lower (r.slot 0) ≡ entries = ap (λ (z : Config). inner_swap z r.upper r.middle r.lower (r.slot 0)) l.config ∙ f.1 in
     let stand : Stand (inner_swap s.past.config r.upper r.middle r.lower (r.slot 0)) (here s) = subst (λ z. Stand z (here s)) (sym is) l.stand in
     let d = halved b r s y l.good f.0 stand (subst (λ z. SwapsTo s.past.config z (here s) y) (sym is) l.leads) in
-    (b.count s.past.config (image_of (here s).image) (image_of y.image) t.middle.slot (r.slot 0) (r.slot 1) (r.slot 2) f.0.halves.cut f.0.planned.sep (tree-now b.formed s l.good) d).inner (high b r s y l.good f.0 stand)
+    record {
+      same = (b.count s.past.config (image_of (here s).image) (image_of y.image) t.middle.slot (r.slot 0) (r.slot 1) (r.slot 2) f.0.halves.cut f.0.planned.sep (tree-now b.formed s l.good) d).inner (high b r s y l.good f.0 stand);
+      back = none-back s y (t.middle.slot ∷ (form_at s.past.config (here s)).up t.middle.slot ∷ []) (r.slot 0 ∷ r.slot 1 ∷ r.slot 2 ∷ []) l.good
+          (b.grows s.past.config (image_of (here s).image) (image_of y.image) t.middle.slot (r.slot 0) (r.slot 1) (r.slot 2) f.0.halves.cut f.0.planned.sep (tree-now b.formed s l.good) d)
+          (three-fresh s (r.slot 0) (r.slot 1) (r.slot 2) (node-fresh r.slot r.image s f.0.plain f.0.writing 0 (omega arith)) (node-fresh r.slot r.image s f.0.plain f.0.writing 1 (omega arith)) (node-fresh r.slot r.image s f.0.plain f.0.writing 2 (omega arith)));
+    }

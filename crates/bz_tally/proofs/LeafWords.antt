@@ -4,7 +4,7 @@ use Rattle.std.proofs.lemmas.Bool.Decides.{nat_tests}
 use Rattle.bz_layout.specs.Addresses.{node_address, IsOutsideSwaps, SlotsApart}
 use Rattle.bz_layout.specs.declared.config.Config.{Config}
 use Rattle.bz_layout.specs.declared.sizes.TheConstants.{NODE_WORDS, SUPERBLOCK_WORDS, STATUS_AT, HEADER_AT, META_AT, ROOT_AT, ROOT_STATUS_AT}
-use Rattle.bz_leaves.specs.Laws.{OnLeaves, WordsOfLeavesDoNotCount}
+use Rattle.bz_leaves.specs.Laws.{KeepsSlots, OnLeaves, WordsOfLeavesDoNotCount}
 use Rattle.bz_merge.specs.Merges.{WasLeafOnce}
 use Rattle.bz_record.specs.Swaps.{entries_of}
 use Rattle.bz_record.specs.declared.record_swap.RecordSwap.{RecordSwap}
@@ -95,7 +95,8 @@ module _ (b : Laws) (entries : List Entry) (s : Scene) (y : Instant) (k : ℕ) (
   pub keeps : KeepsTheLeaves s y
   keeps =
       let w : IsWellFormed c (here s).image = (b.formed c (here s).image).0 g.form in
-      b.count c (image_of (here s).image) (image_of y.image) w.tree on-leaves
+      let kept : KeepsSlots c (image_of (here s).image) (image_of y.image) = b.count c (image_of (here s).image) (image_of y.image) w.tree on-leaves in
+      record { same = kept.leaves; back = λ k i. inl (sym (kept.inside k) ∙ i) }
 
 -- the entries of a leaf's status, and of one of its metadata words besides
 pub names-status : (c : Config) (k : ℕ) (e : Entry) → e.target ≡ node_address c k + STATUS_AT → (a : ℕ) → is_target (e ∷ []) a ≡ true → IsBody c k a

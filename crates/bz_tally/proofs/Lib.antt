@@ -1,3 +1,4 @@
+pub mod Backs
 pub mod Changes
 pub mod Copies
 pub mod Frozen

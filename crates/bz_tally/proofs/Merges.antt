@@ -1,8 +1,9 @@
 -- Of the swaps of a merge the two freezes name words of one leaf, and that of the link leaves one leaf less.
-use Rattle.std.proofs.Common.{◌≡◌, List, [], ◌∷◌, Some, refl, sym, ap, subst, ◌∙◌}
+use Rattle.std.proofs.Common.{◌≡◌, ◌<◌, List, [], ◌∷◌, Some, arith, refl, sym, ap, subst, ◌∙◌}
 use Rattle.bz_freeze.specs.Facts.{entry_of}
 use Rattle.bz_layout.specs.declared.config.Config.{Config}
 use Rattle.bz_layout.specs.declared.sizes.TheConstants.{STATUS_AT}
+use Rattle.bz_layout.specs.declared.thresholds.TheConstants.{MERGE_SLOTS}
 use Rattle.bz_leaves.specs.Laws.{MergesTakeOne}
 use Rattle.bz_merge.specs.Duties.{merging_of}
 use Rattle.bz_merge.specs.Facts.{MERGE_WORDS, MERGE_LINES, IsMerging, merge_asks, merge_facts}
@@ -14,15 +15,18 @@ use Rattle.bz_split.specs.BelowSplits.{below_swap}
 use Rattle.bz_word.specs.declared.entry.Entry.{Entry}
 use Rattle.std.specs.Prelude.{slice_index}
 use Rattle.bz_content.specs.Content.{image_of}
-use Rattle.bz_task.specs.Instant.{Instant}
+use Rattle.bz_content.specs.Laws.{MergesKeepTheContent}
+use Rattle.bz_task.specs.Instant.{Instant, form_at}
 use Rattle.bz_task.specs.Scene.{Scene, Waiting, IsScene, here}
 use Rattle.bz_task.specs.Swaps.{Stand, SwapsTo}
 use Rattle.bz_task.specs.declared.todo.Todo.TheVariants.{Swap as Swaps_for}
+use Rattle.bz_tally.proofs.Backs.{none-back, two-fresh}
 use Rattle.bz_tally.proofs.Changes.{by-status, same-entries}
 use Rattle.bz_tally.proofs.LeafWords.{Laws as Words}
 use Rattle.bz_tally.proofs.Links.{tree-now}
 use Rattle.bz_tally.proofs.Merging.{Laws as Turning, are-apart, first-leaf, merges, second-leaf}
 use Rattle.bz_tally.proofs.Pairs.{apart-of, other-once, own-once, room-of, to-other, to-own}
+use Rattle.bz_tally.proofs.Stored.{each-fresh}
 use Rattle.bz_tally.specs.Counts.{IsLeafNow, KeepsTheLeaves, MergesLeaves}
 use Rattle.bz_tally.specs.Laws.{MergeCounts, MergesCount}
 use Rattle.bz_merge.specs.Siblings.{SeenLeaf}
@@ -31,6 +35,7 @@ use Rattle.bz_merge.specs.Siblings.{SeenLeaf}
 pub record Laws : Type 0 where
   pub words : Words
   pub turning : Turning
+  pub grows : MergesKeepTheContent
   pub count : MergesTakeOne
 
 -- what the swap of a phase leads to
@@ -60,6 +65,9 @@ module _ (b : Laws) (r : Merging) (s : Scene) (y : Instant) (good : IsScene s) (
     frozen = f.frozen.own;
     beside_frozen = f.frozen.other;
     room = room-of r.right own other f.frozen.planned.room;
+    back = none-back s y ((first_of r.right own other).slot ∷ (second_of r.right own other).slot ∷ (form_at s.past.config (here s)).up (first_of r.right own other).slot ∷ []) (r.slot 0 ∷ r.slot 1 ∷ []) good
+        (b.grows s.past.config (image_of (here s).image) (image_of y.image) (first_of r.right own other).slot (second_of r.right own other).slot (r.slot 0) (r.slot 1) (sep_of r.read r.place) (tree-now b.turning.formed s good) (merges b.turning r s good f stand y swaps))
+        (two-fresh s (r.slot 0) (r.slot 1) (each-fresh MERGE_SLOTS r.slot r.image s f.plain f.writing 0 (omega arith)) (each-fresh MERGE_SLOTS r.slot r.image s f.plain f.writing 1 (omega arith)));
   }
 
 merge-counts : Laws → (c : Config) (r : Merging) (phase : Phase) (s : Scene) (y : Instant) (entries : List Entry) → s.past.config ≡ c → merge_facts r phase Waiting s → IsScene s → merge_asks c r phase ≡ Some (Swaps_for entries)

@@ -33,7 +33,7 @@ use Rattle.bz_word.specs.declared.entry.Entry.{Entry}
 use Rattle.bz_content.proofs.Reached.{level-at}
 use Rattle.bz_content.specs.Content.{image_of, view_in}
 use Rattle.bz_content.specs.Image.{Image, node, root}
-use Rattle.bz_content.specs.Laws.{WellFormedImagesHaveNoFault, PlainWordsStandForThemselves}
+use Rattle.bz_content.specs.Laws.{WellFormedImagesHaveNoFault, PlainWordsStandForThemselves, RootSplitsKeepTheContent}
 use Rattle.bz_content.specs.Resolving.{resolve}
 use Rattle.bz_content.specs.Restructures.{children_of, SplitsRoot}
 use Rattle.bz_content.specs.Swaps.{TurnsLink}
@@ -43,6 +43,7 @@ use Rattle.bz_task.specs.Laws.{SamePlace, HasRoot, RootsAreReached}
 use Rattle.bz_task.specs.Scene.{Scene, Waiting, IsScene, here}
 use Rattle.bz_task.specs.Swaps.{Stand, SwapsTo}
 use Rattle.bz_task.specs.declared.todo.Todo.TheVariants.{Swap as Swaps_for}
+use Rattle.bz_tally.proofs.Backs.{none-back, three-fresh}
 use Rattle.bz_tally.proofs.Changes.{same-entries}
 use Rattle.bz_tally.proofs.Links.{Links, node-freezable, node-leads, node-place, node-words, tree-now}
 use Rattle.bz_tally.proofs.Splitting.{Holds, raw-after, after}
@@ -59,6 +60,7 @@ pub record Laws : Type 0 where
   pub turn : RootLinksTurnWith
   pub roots : RootsAreReached
   pub over : RootsStandAtLevels
+  pub grows : RootSplitsKeepTheContent
   pub count : RootLeafSplitsAddOne
 
 module _ (b : Laws) (r : Crown) (s : Scene) (y : Instant) (good : IsScene s) (f : IsSplitting r SPLIT_WORDS SPLIT_LINES s) (stand : Stand (below_swap s.past.config r.upper r.lower (r.slot 0)) (here s)) where
@@ -180,4 +182,9 @@ root-parts b t entries s y l =
     let is : below_swap s.past.config r.upper r.lower (r.slot 0) ≡ entries = ap (λ (z : Config). below_swap z r.upper r.lower (r.slot 0)) l.config ∙ f.1 in
     let stand : Stand (below_swap s.past.config r.upper r.lower (r.slot 0)) (here s) = subst (λ z. Stand z (here s)) (sym is) l.stand in
     let d = parts-root b r s y l.good f.0 stand (subst (λ z. SwapsTo s.past.config z (here s) y) (sym is) l.leads) in
-    (b.count s.past.config (image_of (here s).image) (image_of y.image) (r.slot 0) (r.slot 1) (r.slot 2) f.0.parts.cut f.0.sep (tree-now b.formed s l.good) d).inner (high b r s y l.good f.0 stand)
+    record {
+      same = (b.count s.past.config (image_of (here s).image) (image_of y.image) (r.slot 0) (r.slot 1) (r.slot 2) f.0.parts.cut f.0.sep (tree-now b.formed s l.good) d).inner (high b r s y l.good f.0 stand);
+      back = none-back s y (root (resolve (here s).image) ∷ []) (r.slot 0 ∷ r.slot 1 ∷ r.slot 2 ∷ []) l.good
+          (b.grows s.past.config (image_of (here s).image) (image_of y.image) (r.slot 0) (r.slot 1) (r.slot 2) f.0.parts.cut f.0.sep (tree-now b.formed s l.good) d)
+          (three-fresh s (r.slot 0) (r.slot 1) (r.slot 2) (node-fresh r.slot r.image s f.0.plain f.0.writing 0 (omega arith)) (node-fresh r.slot r.image s f.0.plain f.0.writing 1 (omega arith)) (node-fresh r.slot r.image s f.0.plain f.0.writing 2 (omega arith)));
+    }

@@ -1,5 +1,5 @@
 -- The swap of a root leaf's split puts a new root over its halves.
-use Rattle.std.proofs.Common.{◌≡◌, ℕ, ◌+◌, ◌-◌, ◌<◌, List, [], ◌∷◌, Some, arith, sym, ap, subst, ◌∙◌}
+use Rattle.std.proofs.Common.{◌≡◌, ℕ, ◌+◌, ◌-◌, ◌<◌, true, List, [], ◌∷◌, Some, arith, sym, ap, subst, ◌∙◌}
 use Rattle.std.specs.Prelude.{None}
 use Rattle.bz_halves.specs.Laws.{IsRootOver, RootsStandOverTwo}
 use Rattle.bz_layout.specs.declared.config.Config.{Config}
@@ -13,6 +13,7 @@ use Rattle.bz_renew.specs.Turning.{TurnsAt, RootLinksTurn}
 use Rattle.bz_renew.proofs.FreshSlots.{outside-tree, raw-is, durable-is}
 use Rattle.bz_renew.proofs.TwoEntries.{both-stand}
 use Rattle.bz_shape.proofs.TreeForms.{fits}
+use Rattle.bz_shape.proofs.Trees.{among-first}
 use Rattle.bz_shape.specs.Slots.{AreTwo}
 use Rattle.bz_slotted.specs.Laws.{LeafRulesAreFacts, InnerRulesAreFacts}
 use Rattle.bz_slotted.specs.ReadingLaws.{node_of}
@@ -26,16 +27,17 @@ use Rattle.bz_word.specs.declared.entry.Entry.{Entry}
 use Rattle.bz_content.proofs.Reached.{level-at}
 use Rattle.bz_content.specs.Content.{image_of, view_in}
 use Rattle.bz_content.specs.Image.{Image, node, root}
-use Rattle.bz_content.specs.Laws.{WellFormedImagesHaveNoFault, PlainWordsStandForThemselves}
+use Rattle.bz_content.specs.Laws.{WellFormedImagesHaveNoFault, PlainWordsStandForThemselves, RootSplitsKeepTheContent}
 use Rattle.bz_content.specs.Resolving.{resolve}
 use Rattle.bz_content.specs.Restructures.{children_of, SaysInHalves, SplitsRoot}
 use Rattle.bz_content.specs.Swaps.{TurnsLink}
 use Rattle.bz_task.specs.Good.{IsGood}
-use Rattle.bz_task.specs.Instant.{Instant, durable, form_at}
+use Rattle.bz_task.specs.Instant.{Instant, durable, form_at, is_inside}
 use Rattle.bz_task.specs.Laws.{SamePlace, HasRoot, RootsAreReached}
 use Rattle.bz_task.specs.Scene.{Scene, Waiting, IsScene, here}
 use Rattle.bz_task.specs.Swaps.{Stand, SwapsTo}
 use Rattle.bz_task.specs.declared.todo.Todo.TheVariants.{Swap as Swaps_for}
+use Rattle.bz_tally.proofs.Backs.{AreFresh, is-gone, none-back, three-fresh}
 use Rattle.bz_tally.proofs.Changes.{same-entries}
 use Rattle.bz_tally.proofs.Links.{leaf-now, tree-now}
 use Rattle.bz_tally.proofs.Stored.{node-held, node-fresh, are-three}
@@ -52,6 +54,7 @@ pub record Laws : Type 0 where
   pub roots : RootsAreReached
   pub still : FrozenLeavesStandStill
   pub over : RootsStandOverTwo
+  pub grows : RootSplitsKeepTheContent
   pub count : RootLeafSplitsAddOne
 
 module _ (b : Laws) (r : Split) (s : Scene) (y : Instant) (good : IsScene s) (f : IsSplitting r SPLIT_WORDS SPLIT_LINES s) (stand : Stand (renewal r.link (r.slot 0)) (here s)) (swaps : SwapsTo s.past.config (renewal r.link (r.slot 0)) (here s) y) where
@@ -77,7 +80,7 @@ module _ (b : Laws) (r : Split) (s : Scene) (y : Instant) (good : IsScene s) (f 
   led : (here s).value ROOT_AT ≡ a + 1
   led = ap (here s).value (sym f.parted.under.pointer) ∙ (both-stand (link_entry r.link (r.slot 0)) (guard_entry r.link) (here s) stand).0
 
-  root-is : root (resolve (here s).image) ≡ a
+  pub root-is : root (resolve (here s).image) ≡ a
   root-is = omega (arith, g.root, led)
 
   holds-all : HasRoot c (here s) a
@@ -142,6 +145,9 @@ module _ (b : Laws) (r : Split) (s : Scene) (y : Instant) (good : IsScene s) (f 
   pub at-foot : level_of (durable s.past.config (here s) (root (resolve (here s).image))) ≡ 0
   at-foot = level
 
+  pub still-inside : is_inside s.past.config (here s) r.link.slot ≡ true
+  still-inside = t.inside
+
   pub is-leaf : IsLeafNow s r.link.slot
   is-leaf = leaf-now s a t.inside flat
 
@@ -156,8 +162,13 @@ root-halves b t entries s y l =
     let f = swapping t.config r t.phase s entries l.knows l.asks in
     let stand : Stand (renewal r.link (r.slot 0)) (here s) = subst (λ z. Stand z (here s)) (sym f.1) l.stand in
     let swaps : SwapsTo s.past.config (renewal r.link (r.slot 0)) (here s) y = subst (λ z. SwapsTo s.past.config z (here s) y) (sym f.1) l.leads in
+    let d = halved b r s y l.good f.0 stand swaps in
+    let fresh : AreFresh s (r.slot 0 ∷ r.slot 1 ∷ r.slot 2 ∷ []) = three-fresh s (r.slot 0) (r.slot 1) (r.slot 2) (node-fresh r.slot r.image s f.0.plain f.0.writing 0 (omega arith)) (node-fresh r.slot r.image s f.0.plain f.0.writing 1 (omega arith)) (node-fresh r.slot r.image s f.0.plain f.0.writing 2 (omega arith)) in
+    let grows = b.grows s.past.config (image_of (here s).image) (image_of y.image) (r.slot 0) (r.slot 1) (r.slot 2) 0 r.sep (tree-now b.formed s l.good) d in
     record {
-      more = (b.count s.past.config (image_of (here s).image) (image_of y.image) (r.slot 0) (r.slot 1) (r.slot 2) 0 r.sep (tree-now b.formed s l.good) (halved b r s y l.good f.0 stand swaps)).leaf (at-foot b r s y l.good f.0 stand swaps);
+      more = (b.count s.past.config (image_of (here s).image) (image_of y.image) (r.slot 0) (r.slot 1) (r.slot 2) 0 r.sep (tree-now b.formed s l.good) d).leaf (at-foot b r s y l.good f.0 stand swaps);
       leaf = is-leaf b r s y l.good f.0 stand swaps;
       crowded = record { moment = f.0.parted.moment; frozen = f.0.parted.leaf; many = f.0.parted.many };
+      gone = is-gone s y (root (resolve (here s).image) ∷ []) (r.slot 0 ∷ r.slot 1 ∷ r.slot 2 ∷ []) l.good grows fresh t.link.slot (still-inside b r s y l.good f.0 stand swaps) (among-first (root (resolve (here s).image)) t.link.slot [] (sym (root-is b r s y l.good f.0 stand swaps)));
+      back = none-back s y (root (resolve (here s).image) ∷ []) (r.slot 0 ∷ r.slot 1 ∷ r.slot 2 ∷ []) l.good grows fresh;
     }

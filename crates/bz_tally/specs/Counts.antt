@@ -1,5 +1,5 @@
 -- What becomes of the leaves of the tree by a swap.
-use Rattle.std.specs.Prelude.{◌≡◌, ◌≢◌, ℕ, ◌+◌, ◌<◌, ◌≤◌, true, List}
+use Rattle.std.specs.Prelude.{◌≡◌, ◌≢◌, ◌⊎◌, ℕ, ◌+◌, ◌<◌, ◌≤◌, true, false, List}
 use Rattle.bz_layout.specs.declared.thresholds.TheConstants.{SPLIT_ABOVE, MERGE_BELOW}
 use Rattle.bz_leaves.specs.Leaves.{is_leaf, leaves_in}
 use Rattle.bz_merge.specs.Merges.{StoodFrozen}
@@ -17,9 +17,14 @@ leaves_now s = leaves_in s.past.config (here s).image
 abbrev pub leaves_then : Scene → Instant → ℕ
 leaves_then s y = leaves_in s.past.config y.image
 
+-- each slot of the tree then is one of it now, or one to which no link has led: none comes back that the tree has left
+abbrev pub BringsNoneBack : Scene → Instant → Type 0
+BringsNoneBack s y = (k : ℕ) → is_inside s.past.config y k ≡ true → (is_inside s.past.config (here s) k ≡ true) ⊎ ((here s).reached k ≡ false)
+
 -- there are as many
-abbrev pub KeepsTheLeaves : Scene → Instant → Type 0
-KeepsTheLeaves s y = leaves_then s y ≡ leaves_now s
+pub record KeepsTheLeaves (s : Scene) (y : Instant) : Type 0 where
+  pub same : leaves_then s y ≡ leaves_now s
+  pub back : BringsNoneBack s y
 
 -- slot k is a leaf of the tree now
 abbrev pub IsLeafNow : Scene → ℕ → Type 0
@@ -40,11 +45,13 @@ pub record WasSmallLeaf (k : ℕ) (p : Past) : Type 0 where
   pub leaf : (form_at p.config (p.at moment)).level k ≡ 0
   pub few : live_of (durable p.config (p.at moment) k) < MERGE_BELOW
 
--- there is one more: two for the leaf in slot k, which had too many live words
+-- there is one more: two for the leaf in slot k, which had too many live words, and which the tree leaves
 pub record SplitsLeaf (k : ℕ) (s : Scene) (y : Instant) : Type 0 where
   pub more : leaves_then s y ≡ leaves_now s + 1
   pub leaf : IsLeafNow s k
   pub crowded : WasCrowdedLeaf k s.past
+  pub gone : is_inside s.past.config y k ≡ false
+  pub back : BringsNoneBack s y
 
 -- there is one less: one for the leaves in the slots k and j. The first one had too few live words to stand alone. Both were frozen at
 -- moments since the call began, and said then what these words say; and these have together no more live words than a leaf may keep
@@ -57,3 +64,4 @@ pub record MergesLeaves (k j : ℕ) (own other : List ℕ) (s : Scene) (y : Inst
   pub frozen : StoodFrozen k own s.past
   pub beside_frozen : StoodFrozen j other s.past
   pub room : live_of (node_of own) + live_of (node_of other) ≤ SPLIT_ABOVE
+  pub back : BringsNoneBack s y

@@ -29,6 +29,7 @@ pub fn copies_keep_the_leaves()
     ensures { CopiesKeepTheLeaves }
 {
     leaves::consolidations_keep_the_leaves();
+    content::consolidations_keep_the_content();
     content::well_formed_images_have_no_fault();
     content::plain_words_stand_for_themselves();
     renew::links_turn();
@@ -40,6 +41,7 @@ pub fn leaf_splits_count()
     ensures { LeafSplitsCount }
 {
     leaves::leaf_splits_add_one();
+    content::splits_keep_the_content();
     content::well_formed_images_have_no_fault();
     content::plain_words_stand_for_themselves();
     halves::parents_of_halves_are_whole();
@@ -55,6 +57,7 @@ pub fn inner_splits_keep_the_leaves()
     ensures { InnerSplitsKeepTheLeaves }
 {
     leaves::leaf_splits_add_one();
+    content::splits_keep_the_content();
     content::well_formed_images_have_no_fault();
     content::plain_words_stand_for_themselves();
     halves::parents_of_halves_are_whole();
@@ -69,6 +72,7 @@ pub fn root_leaf_splits_count()
     ensures { RootLeafSplitsCount }
 {
     leaves::root_leaf_splits_add_one();
+    content::root_splits_keep_the_content();
     content::well_formed_images_have_no_fault();
     content::plain_words_stand_for_themselves();
     halves::roots_stand_over_two();
@@ -84,6 +88,7 @@ pub fn inner_root_splits_keep_the_leaves()
     ensures { InnerRootSplitsKeepTheLeaves }
 {
     leaves::root_leaf_splits_add_one();
+    content::root_splits_keep_the_content();
     content::well_formed_images_have_no_fault();
     content::plain_words_stand_for_themselves();
     parted::roots_stand_at_levels();
@@ -102,6 +107,7 @@ pub fn merges_count()
 {
     leaves::words_of_leaves_do_not_count();
     leaves::merges_take_one();
+    content::merges_keep_the_content();
     bz_layout::slots_apart();
     content::well_formed_images_have_no_fault();
     content::plain_words_stand_for_themselves();

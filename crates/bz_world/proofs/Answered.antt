@@ -52,8 +52,8 @@ use Rattle.bz_world.proofs.Lonely.{lonely-act}
 use Rattle.bz_world.proofs.LonelyActs.{own-acted, all-acted, reads-now}
 use Rattle.bz_world.proofs.Meant.{call-meant-on}
 use Rattle.bz_world.proofs.Powered.{begun-in, leaves-power}
-use Rattle.bz_world.proofs.Staying.{SameFor, Pays}
-use Rattle.bz_world.proofs.Quiet.{serves, sees, askable, goes, same-other, same-own, stays, goes-on, answered, quiet-paid, none-pays}
+use Rattle.bz_world.proofs.Staying.{SameFor, Pays, Takes}
+use Rattle.bz_world.proofs.Quiet.{serves, sees, askable, goes, same-other, same-own, stays, goes-on, answered, quiet-paid, none-pays, none-takes, own-takes}
 
 -- the world with an act made
 abbrev pub acted : Parts → Parts → ℕ → Act → Parts
@@ -107,11 +107,11 @@ module _ (b : StepLaws) (old new : Parts) (w : ℕ) (x : OpenCall) (made : Act) 
   its-paid y t = let h : HasBegun old.journal k.story t.call_open.look.since = begun-in k.living t.call_open in
       quiet-paid b old new w x made answer k is-worker a after living refl y t (record { from = h.from; by_now = omega (arith, h.by_now) }) (lawful w t.call_open.look.since t.opened h).continues
 
-  pub slots : (v : ℕ) → SameFor old.access new.access v → Pays old.config old.access old.journal (mark_of w made) k.story after old.owners.items (stock_of old) (stock_of old) new.access v → IsSlot old.config new.access (with_mark old.journal (mark_of w made)) after old.owners.items (stock_of old) v (get_or old.workers.items v None)
-  slots v same pays = stays b old new w x made answer k is-worker a after v living refl same (lawful v) (λ j. refl) (λ j h. h) refl pays
+  pub slots : (v : ℕ) → SameFor old.access new.access v → Pays old.config old.access old.journal (mark_of w made) k.story after old.owners.items (stock_of old) (stock_of old) new.access v → Takes old.config old.access old.journal (mark_of w made) k.story old.owners.items (stock_of old) (stock_of old) new.access v → IsSlot old.config new.access (with_mark old.journal (mark_of w made)) after old.owners.items (stock_of old) v (get_or old.workers.items v None)
+  slots v same pays takes = stays b old new w x made answer k is-worker a after v living refl same (lawful v) (λ j. refl) (λ j h. h) refl pays takes
 
   pub others : (v : ℕ) → v ≢ w → IsSlot old.config new.access (with_mark old.journal (mark_of w made)) after old.owners.items (stock_of old) v (get_or old.workers.items v None)
-  others v ne = slots v (same-other b old new w x made answer k is-worker a v ne) (none-pays b old new w x made answer k is-worker a after v ne)
+  others v ne = slots v (same-other b old new w x made answer k is-worker a v ne) (none-pays b old new w x made answer k is-worker a after v ne) (none-takes b old new w x made answer k is-worker a v ne)
 
   -- it goes on
   pub busy-on : answer ≡ done.Busy → IsAwake new
@@ -120,6 +120,7 @@ module _ (b : StepLaws) (old new : Parts) (w : ℕ) (x : OpenCall) (made : Act) 
         (subst (Pays old.config old.access old.journal (mark_of w made) k.story after old.owners.items (stock_of old) (stock_of old) new.access) (sym same)
         (λ y t steps. subst (λ u. IsPaidIn old.config new.access (mark_of w made ∷ old.journal.past) (stock_of old) w (errand_of y) y.task u no_extra (scene old.config (mark_of w made ∷ old.journal.past) after w t.call_open.look.since t.opened).past)
         (sym (let own : SameFor old.access new.access w = same-own b old new w x made answer k is-worker a e in ap (untold new.access) own.doing ∙ untold-by old.access new.access (doing_of old.access w) own.effects)) (its-paid y t)))
+        (subst (Takes old.config old.access old.journal (mark_of w made) k.story old.owners.items (stock_of old) (stock_of old) new.access) (sym same) (own-takes b old new w x made answer k is-worker a))
     | inr ne ↦ others v ne
   ]) (all-acted b old new w x made answer k is-worker a k.story.filled)
 

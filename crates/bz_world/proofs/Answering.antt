@@ -50,6 +50,7 @@ between-pages p w x pairs b = record {
   taken = let t = b.taken in record { shown = t.shown; held = t.held; few = t.few; notes = t.notes; unused = t.unused };
   living = b.living;
   sound = b.sound;
+  leaves = b.leaves;
   free = b.free;
   others = b.others;
   worker = b.worker;
@@ -57,6 +58,7 @@ between-pages p w x pairs b = record {
   opened = b.opened;
   call_open = b.call_open;
   idle = b.idle;
+  due = b.due;
   steps = b.steps;
 }
 
@@ -91,7 +93,7 @@ after-by w m past l (Some mark) e is =
     let next : at_moment (suc m) past ≡ mark ∷ at_moment m past = ap (λ k. at_moment k past) (omega arith) ∙ at_moment-next m mark past e l in
     subst (IsAfterLoad w) (sym next) (load-by w (Some mark) (at_moment m past) is mark refl)
 
-after-load : (w m : ℕ) (past : List Mark) → m ≤ length past → loaded past w m ≡ true → IsAfterLoad w (at_moment m past)
+pub after-load : (w m : ℕ) (past : List Mark) → m ≤ length past → loaded past w m ≡ true → IsAfterLoad w (at_moment m past)
 after-load w zero past l is = absurd (true≢false (sym is))
 after-load w (suc m) past l is = after-by w m past (omega (arith, l)) (mark_at m past) refl is
 

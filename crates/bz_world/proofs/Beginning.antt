@@ -39,6 +39,7 @@ use Rattle.bz_task.specs.declared.path.Path.{Path}
 use Rattle.bz_task.specs.declared.todo.Todo.TheVariants.{Read}
 use Rattle.bz_world.specs.Inside.Acted.{IsBetween}
 use Rattle.bz_world.specs.Inside.Beginning.{MayBegin, HasBegun, world_view, pages_asked, is_swap}
+use Rattle.bz_world.specs.Inside.Due.{only_looks}
 use Rattle.bz_world.specs.Inside.Kept.{IsTabled, IsAwake}
 use Rattle.bz_world.specs.Inside.Laws.{EndLaws, StartLaws}
 use Rattle.bz_world.specs.Inside.Lonely.{WhereLonely, IsLonelyGet}
@@ -51,6 +52,7 @@ use Rattle.bz_world.specs.declared.serving.OpenCall.{OpenCall}
 use Rattle.bz_story.proofs.Powered.{stored-since}
 use Rattle.bz_world.proofs.Alone.{waits-on}
 use Rattle.bz_world.proofs.Counting.{pairs-stay}
+use Rattle.bz_world.proofs.LeavesKept.{same-leaves}
 use Rattle.bz_world.proofs.Lonely.{acts-begin, all-idle}
 use Rattle.bz_world.proofs.Paid.{within-of, begin-runs, each-closed, second-of}
 use Rattle.bz_world.proofs.Powered.{is-on}
@@ -141,7 +143,7 @@ module _ (p : Parts) (k : IsAwake p) (w : ℕ) (call : Call) (may : MayBegin p w
           took = λ j. refl;
           filled = λ j e. e;
           alone = λ m o t l waits. waits-on p.config p.access p.access p.journal.past mark k.story after v m o o t (next_instant p.access (k.story.at (length p.journal.past))) refl l waits refl refl (λ j d. refl) (λ j d well. well);
-        }) (λ y t runs. absurd (ne (sym (begin-runs p.config w v n call p.journal.past runs)))) (k.workers v))
+        }) (λ y t runs. absurd (ne (sym (begin-runs p.config w v n call p.journal.past runs)))) (λ y t quiet lonely. absurd (ne (sym lonely.0))) (k.workers v))
 
     -- the tables
     own-count : (t : Bool) → t ≡ true → n ≡ (if t then begun_calls w p.journal.past + 1 else begun_calls w p.journal.past)
@@ -198,6 +200,7 @@ module _ (p : Parts) (k : IsAwake p) (w : ℕ) (call : Call) (may : MayBegin p w
       taken = assumption k.taken;
       living = lives;
       sound = sound;
+      leaves = (λ now. same-leaves _ _ _ _ refl, k.leaves);
       free = k.free;
       others = slot-of;
       worker = may.worker;
@@ -205,6 +208,7 @@ module _ (p : Parts) (k : IsAwake p) (w : ℕ) (call : Call) (may : MayBegin p w
       opened = opened;
       call_open = record { is_open = (b.calls w p.journal.past).own_begin n call; call = refl; effect = refl; look = record { since = suc (length p.journal.past); after_begin = omega arith; by_now = omega arith }; told = λ at e. absurd (cc e); wanted = λ quiet some. absurd (omega (arith, some, wants)) };
       idle = at-rest.idle;
+      due = λ quiet lonely. inr (record { looks = ap (only_looks call) kind; thawed = refl; same_taken = refl; same_left = refl });
       steps = λ v is. sym (begin-runs p.config w v n call p.journal.past is);
     }
 
@@ -262,7 +266,7 @@ module _ (p : Parts) (k : IsAwake p) (w : ℕ) (call : Call) (may : MayBegin p w
         covered = none-unfilled (k.story.took w) (k.story.filled w) (needs_of task) (omega (arith, laws.few, laws.most)) at-rest.filled;
         lonely = lonely-begun;
         alone = record { others = 0; made = 0; counted = omega arith; stands = λ ends. absurd (cc ends) };
-        meant = record { within = within-of task (λ a e. absurd (let other : kinds.Seek ≡ kinds.SplitLeaf a = sym kind ∙ e in cc other)); fit = record { words = few; thawed = λ froze. absurd (true≢false (sym froze)) }; look = λ quiet. subst (IsLookOf call) (sym kind) (seeks call); meant = λ quiet. inl (record { slots = wants; swaps = inl swaps }); later = λ at is. ap is_renewal kind };
+        meant = record { within = within-of task (λ a e. absurd (let other : kinds.Seek ≡ kinds.SplitLeaf a = sym kind ∙ e in cc other)); fit = record { words = few; thawed = λ froze. absurd (true≢false (sym froze)) }; look = λ quiet. subst (IsLookOf call) (sym kind) (seeks call); meant = λ quiet. inl (record { slots = wants; swaps = inl swaps }); later = λ at is. ap is_renewal kind; small = λ merge. absurd (let other : kinds.Seek ≡ kinds.Merge = sym kind ∙ merge in cc other) };
         paid = λ r counted. s.lone.rounds.begin r p.access w (errand_of fresh) task (used_in r mid w) (bound_in r mid w) 2 here.past here.past (begun here.past refl) (pays r counted);
       };
     }

@@ -6,6 +6,7 @@ use Rattle.bz_layout.specs.Addresses.{words_of}
 use Rattle.bz_layout.specs.Config.{IsConfig}
 use Rattle.bz_layout.specs.Slots.{FreeSlots, all_free}
 use Rattle.bz_layout.specs.declared.config.Config.{Config}
+use Rattle.bz_mark.specs.Log.{Log}
 use Rattle.bz_sound.specs.Power.Growth.{FreshJournalsAreSound}
 use Rattle.bz_sound.specs.Power.Sound.{IsSound}
 use Rattle.bz_sound.specs.declared.power.Power.{Power}
@@ -13,6 +14,7 @@ use Rattle.bz_sound.specs.declared.power.Power.TheVariants as power
 use Rattle.bz_story.specs.Reviving.{IsOffIn, ImagesOpenJournals}
 use Rattle.bz_world.specs.Inside.Kept.{IsKept}
 use Rattle.bz_world.specs.Inside.Opening.{IsMadeOver}
+use Rattle.bz_world.specs.Leaves.{AreLeavesKept}
 use Rattle.bz_world.specs.WorldView.{view_over}
 use Rattle.bz_world.specs.declared.parts.Parts.{Parts}
 use Rattle.bz_world.specs.declared.serving.OpenCall.{OpenCall}
@@ -25,6 +27,7 @@ kept-image sounds images c image p config whole form same slots made = kept-off 
   dark = record {
     tabled = tabled image power.Off p made;
     sound = subst (λ (s : Power). IsSound p.config s p.journal) (sym made.at_start) (subst (IsSound p.config power.Off) (sym made.journal) (subst (λ d. IsSound d power.Off (view_over d image power.Off).log) (sym same) (sounds c power.Off image (view_over c image power.Off).log.limits whole form)));
+    leaves = subst (λ (l : Log). AreLeavesKept p.config p.at_start l) (sym made.journal) tt;
     none = λ w. ap (λ (xs : List (Option OpenCall)). get_or xs w None) made.workers ∙ same-everywhere 65 w None;
     slots = ap (λ (s : FreeSlots). s.nodes) slots ∙ ap (λ (d : Config). d.nodes) (sym same);
     values = resolve (slice_index image);

@@ -28,6 +28,7 @@ use Rattle.bz_world.specs.Inside.Paid.{bound_in, errand_of, used_in, HasToSpare}
 use Rattle.bz_world.specs.Inside.Telling.{MustStart, MustStartOf, HasToldIn, HasTold}
 use Rattle.bz_world.specs.declared.parts.Parts.{Parts}
 use Rattle.bz_world.specs.declared.serving.OpenCall.{OpenCall}
+use Rattle.bz_world.proofs.Due.{looks-only}
 use Rattle.bz_world.proofs.Endings.{is_change, changes, change-renews-none, change-needs-room, room-no-look}
 use Rattle.bz_world.proofs.Paid.{within-of, swaps-write}
 use Rattle.bz_world.proofs.Powered.{begun-in}
@@ -42,6 +43,7 @@ change-meant p w had task m = record {
   fit = record { words = m.reads.on.fit.words; thawed = m.reads.on.fit.thawed };
   meant = λ quiet. inl (record { slots = m.wants; swaps = inr m.changes });
   later = λ at is. change-renews-none (kind_of task) (changes (kind_of task) m.kind);
+  small = λ merge. absurd (cc (sym (changes (kind_of task) m.kind) ∙ ap is_change merge));
 }
 
 pub change-spares : RoundLaws → (p : Parts) (w : ℕ) (had : Option (List ℕ)) (task : AnyTask) (m : MustChange p w had task) → HasToSpare p w m.reads.on.serving (known p w m.reads.on).past (λ r q. most_in r (kind_of task) + coming r q (errand_of m.reads.on.serving) (kind_of task))
@@ -64,6 +66,7 @@ takes b p w had task m = record {
   lonely = λ key get lonely. absurd (m.reads.other key get lonely);
   meant = change-meant p w had task m;
   paid = task-paid b p w m.reads.on task m.reads.on.serving.path had (kind_of task) refl m.tasked.laws m.asks m.made (change-meant p w had task m) (λ quiet merge. absurd (no-merge (kind_of task) m.kind merge)) (change-spares b p w had task m);
+  due = λ quiet lonely. inl (m.due lonely);
 }
 
 -- told to begin, it ends in no other way
@@ -113,6 +116,10 @@ must-read-crowded b p w todo m ended other = record {
   reads = must-read-whole p w todo m NeedsRoom ended other;
   write = writes;
   spares = λ r counted. b.leaves r p.access w (errand_of m.must.serving) (used_in r p w) (bound_in r p w) here.past (ap is_some m.knows.quiet) writes (λ alone. m.knows.lacks here means alone) (m.knows.spares r counted);
+  due = λ lonely. elim (m.must.asking.between.due m.knows.quiet lonely) [
+    | inl due ↦ due
+    | inr none ↦ absurd (room-no-look (kind_of m.must.serving.task) (m.must.asking.tasked.laws.ends_of NeedsRoom here means) (looks-only m.must.serving.call (kind_of m.must.serving.task) none.looks))
+  ];
 }
   where
     here : Scene

@@ -1,12 +1,15 @@
 -- A call that makes its change, in the leaf that was looked into, or has it made anew.
 use Rattle.std.proofs.Common.{◌≡◌, ◌≢◌, ℕ, ◌<◌, ◌≤◌, true, false, List, arith, refl, sym, ap, subst, ◌∙◌, inl, inr, Option, Some, None}
+use Rattle.std.specs.FinMap.{get}
 use Rattle.std.specs.Prelude.{is_some}
-use Rattle.bz_call.specs.Map.{key_of}
+use Rattle.bz_call.specs.Map.{key_of, Map, apply, apply_at, IsChange}
 use Rattle.bz_call.specs.declared.calls.Call.{Call}
 use Rattle.bz_call.specs.declared.calls.Call.TheVariants as call
+use Rattle.bz_content.specs.Content.{content_in}
 use Rattle.bz_lone.specs.Errands.{is_read}
 use Rattle.bz_layout.specs.declared.sizes.TheConstants.{STATUS_AT}
 use Rattle.bz_layout.specs.declared.thresholds.TheConstants.{CONSOLIDATION_SLOTS, MERGE_BELOW, MERGE_SLOTS, SPLIT_ABOVE, SPLIT_SLOTS}
+use Rattle.bz_mark.specs.Moments.{at_moment}
 use Rattle.bz_page.specs.Laws.{IsSaidBy}
 use Rattle.bz_record.specs.Laws.{IsViewed}
 use Rattle.bz_record.specs.Records.{words_for, LacksRoom}
@@ -20,9 +23,12 @@ use Rattle.bz_slotted.specs.Page.{Page, page}
 use Rattle.bz_slotted.specs.Readers.{live_of}
 use Rattle.bz_slotted.specs.ReadingLaws.{node_of}
 use Rattle.bz_slotted.specs.Records.{live_words}
+use Rattle.bz_sound.specs.Calls.{map_at, map_after}
+use Rattle.bz_sound.specs.Lonely.{IsLonely, LonelyCallsAreAlone}
 use Rattle.bz_sound.specs.Memory.ImageLaws.{IsChangeOf}
-use Rattle.bz_sound.specs.Memory.Moments.{image_at}
+use Rattle.bz_sound.specs.Memory.Moments.{image_at, Decodes, map_at_start}
 use Rattle.bz_sound.specs.Memory.Spent.{leaf_page, slots_for}
+use Rattle.bz_sound.specs.Power.Growth.{LoadsAreSettled}
 use Rattle.bz_story.specs.Laws.{ScenesAreSeen}
 use Rattle.bz_task.specs.Good.{IsGood}
 use Rattle.bz_task.specs.Instant.{durable}
@@ -35,11 +41,14 @@ use Rattle.bz_task.specs.declared.view.Found.{Found}
 use Rattle.bz_task.specs.declared.view.KeyView.{KeyView}
 use Rattle.bz_task.specs.declared.view.LeafView.{LeafView}
 use Rattle.bz_word.specs.Statuses.{status}
+use Rattle.bz_world.specs.Inside.Due.{IsDue}
 use Rattle.bz_world.specs.Inside.Going.{MustGoOn, MustAnswer, MustAnswerKey, MustChange, IsChangeKind, MayInsert, MayUpdate, known}
 use Rattle.bz_world.specs.Inside.Laws.{AloneLaws, AnswerLaws}
 use Rattle.bz_world.specs.Inside.Room.{LacksRoomFor}
 use Rattle.bz_world.specs.Inside.Serving.{IsChangeFor, IsToldBy, NeedsAtLeast}
 use Rattle.bz_world.specs.declared.parts.Parts.{Parts}
+use Rattle.bz_world.proofs.Answering.{after-load, content-is}
+use Rattle.bz_world.proofs.Due.{map-still}
 use Rattle.bz_world.proofs.SlotsFor.{least-slots, merge-slots, split-slots}
 use Rattle.bz_world.proofs.Endings.{is_change, changes}
 use Rattle.bz_world.proofs.Spared.{lacks-stage}
@@ -161,11 +170,45 @@ pub update-lacks : (called : Call) (key payload : List ℕ) (st : ℕ) → MayUp
 update-lacks called key payload st (inl e) l = subst (λ k. LacksRoomFor k st) (sym e) l
 update-lacks called key payload st (inr e) l = subst (λ k. LacksRoomFor k st) (sym e) l
 
+-- where the map has this at its key, such a call changes it
+changes-map : (called : Call) (had new : Option (List ℕ)) (map : Map) → IsChangeOf called had new → IsChange (apply_at had map called).reply
+changes-map (call.Insert key payload) None new map is = tt
+changes-map (call.Insert key payload) (Some had) new map is = absurd is
+changes-map (call.Delete key) None new map is = absurd is
+changes-map (call.Delete key) (Some had) new map is = tt
+changes-map (call.Update key payload) None new map is = absurd is
+changes-map (call.Update key payload) (Some had) new map is = tt
+changes-map (call.Upsert key payload) None new map is = tt
+changes-map (call.Upsert key payload) (Some had) new map is = tt
+changes-map (call.Get key) None new map is = absurd is
+changes-map (call.Get key) (Some had) new map is = absurd is
+changes-map (call.Page from) None new map is = absurd is
+changes-map (call.Page from) (Some had) new map is = absurd is
+
+-- so a call whose key was looked up is to change the map, where it makes a change of what was found and no other call is open
+module _ (settled : LoadsAreSettled) (alone : LonelyCallsAreAlone) (p : Parts) (w : ℕ) (view : KeyView) (m : MustAnswerKey p w view) (lonely : IsLonely w p.journal.past) where
+  abbrev map_then : Map
+  map_then = map_at (map_at_start p.config p.journal.start) view.at p.journal.past
+
+  viewed-since : m.on.between.story.from ≤ view.at
+  viewed-since = omega (arith, m.viewed.since, m.on.between.call_open.look.after_begin, m.on.between.living.begins w m.on.between.opened m.on.between.call_open.is_open)
+
+  gets-what-was-found : get map_then (key_of m.on.serving.call) ≡ payload_of view.found
+  gets-what-was-found =
+      let decodes : Decodes p.config p.journal.start (at_moment view.at p.journal.past) = settled p.config p.at_start p.journal w view.at m.on.between.sound m.viewed.now (after-load w view.at p.journal.past m.viewed.now m.viewed.loads) in
+      sym (decodes.content (key_of m.on.serving.call)) ∙ (ap (λ i. content_in p.config i (key_of m.on.serving.call)) (sym (m.on.between.living.images view.at viewed-since m.viewed.now)) ∙ content-is p w view m m.on.serving.call refl view.found refl)
+
+  still-so : map_then ≡ map_after (map_at_start p.config p.journal.start) p.journal.past
+  still-so = map-still alone (map_at_start p.config p.journal.start) w view.at p.journal.past m.on.between.opened lonely m.on.between.call_open.is_open (m.on.between.call_open.effect ∙ m.quiet) (omega (arith, m.viewed.since, m.on.between.call_open.look.after_begin)) m.viewed.now
+
+  pub change-due : (had new : Option (List ℕ)) → payload_of view.found ≡ had → IsChangeOf m.on.serving.call had new → IsDue p.config p.journal m.on.serving.call
+  change-due had new found change = subst (λ (map : Map). IsChange (apply map m.on.serving.call).reply) still-so (subst (λ (o : Option (List ℕ)). IsChange (apply_at o map_then m.on.serving.call).reply) (sym (gets-what-was-found ∙ found)) (changes-map m.on.serving.call had new map_then change))
+
 -- a task that makes the call's change may be begun, where its key was looked up; it ends for want of room only where the leaf lacks that
-pub must-change : AloneLaws → (p : Parts) (w : ℕ) (view : KeyView) (m : MustAnswerKey p w view) (key : List ℕ) → key_of m.on.serving.call ≡ key → (task : AnyTask) (had : Option (List ℕ)) → config_of task ≡ p.config → AreLaws task → IsChangeFor m.on.serving.call had (change_of task)
+pub must-change : AloneLaws → LonelyCallsAreAlone → (p : Parts) (w : ℕ) (view : KeyView) (m : MustAnswerKey p w view) (key : List ℕ) → key_of m.on.serving.call ≡ key → (task : AnyTask) (had : Option (List ℕ)) → payload_of view.found ≡ had → config_of task ≡ p.config → AreLaws task → IsChangeFor m.on.serving.call had (change_of task)
     → ((way : Option Path) → IsLookup key way task) → asks_of task ≡ None → wants_of task ≡ 0 → 0 < change_swaps task → ((s : Scene) → s.past.config ≡ p.config → s.effected ≡ false → IsScene s → IsKeyView key view s.past → facts_of task Waiting s)
     → IsChangeKind (kind_of task) → made_of task ≡ 0 → ((s : Scene) → means_of task NeedsRoom s → LacksRoomFor m.on.serving.call view.status) → MustChange p w had task
-must-change b p w view m key key-is task had config laws change lookup asks wants swaps facts kind made lacks = record {
+must-change b alone p w view m key key-is task had found config laws change lookup asks wants swaps facts kind made lacks = record {
   reads = record { on = m.on; leads = m.leads; quiet = m.quiet; some = m.some; other = λ other get lonely. absurd (subst (λ called. IsChangeOf called had (change_of task).new) get change.is) };
   tasked = record { config = config; laws = laws; lookup = subst (λ k. IsLookup k m.on.serving.path task) (sym key-is) (lookup m.on.serving.path); change = inr change; wayless = λ none other. subst (λ k. IsLookup k other task) (sym key-is) (lookup other) };
   asks = asks;
@@ -177,7 +220,8 @@ must-change b p w view m key key-is task had config laws change lookup asks want
   spares = m.spares;
   made = made;
   silent = not-silent task (changes (kind_of task) kind);
-  lacks = λ z means alone. lacks-stage m.on.serving.call view.status (known p w m.on) (b.rounds.key_stages (key_of m.on.serving.call) view (known p w m.on) (known-scene b.scenes p w m.on) alone m.viewed) (lacks z means);
+  lacks = λ z means none. lacks-stage m.on.serving.call view.status (known p w m.on) (b.rounds.key_stages (key_of m.on.serving.call) view (known p w m.on) (known-scene b.scenes p w m.on) none m.viewed) (lacks z means);
+  due = λ lonely. change-due b.settled alone p w view m lonely had (change_of task).new found change.is;
 }
 
 -- the call has told nothing yet

@@ -23,6 +23,7 @@ use Rattle.bz_world.specs.Inside.Powering.{IsCut}
 use Rattle.bz_world.specs.WorldView as lab
 use Rattle.bz_world.specs.declared.parts.Parts.{Parts}
 use Rattle.bz_world.specs.declared.serving.OpenCall.{OpenCall}
+use Rattle.bz_world.proofs.LeavesKept.{same-leaves}
 use Rattle.bz_world.proofs.Openings.{map-replicate}
 use Rattle.bz_world.proofs.Powered.{awake-in, started-in, kept-off}
 use Rattle.bz_world.proofs.Tabled.{tabled-plain}
@@ -66,6 +67,7 @@ module _ (b : Laws) (p : Parts) (room : length p.journal.past + 3 ≤ p.config.m
     dark = record {
       tabled = tabled b p k.tabled k.sound (λ e. let on = k.on in absurd (cc (e, on))) room workers size flags;
       sound = sound-on b p k.tabled k.sound (λ e. let on = k.on in absurd (cc (e, on))) room workers size flags;
+      leaves = (λ now. same-leaves _ _ _ _ refl, k.leaves);
       none = none;
       slots = k.free.nodes;
       values = resolve (k.story.at (length p.journal.past)).image;
@@ -78,6 +80,7 @@ module _ (b : Laws) (p : Parts) (room : length p.journal.past + 3 ≤ p.config.m
     dark = record {
       tabled = tabled b p k.dark.tabled k.dark.sound (λ e. absurd (cc (e, is))) room workers size flags;
       sound = sound-on b p k.dark.tabled k.dark.sound (λ e. absurd (cc (e, is))) room workers size flags;
+      leaves = (λ now. same-leaves _ _ _ _ refl, k.dark.leaves);
       none = none;
       slots = k.dark.slots;
       values = k.dark.values;

@@ -32,13 +32,16 @@ use Rattle.bz_story.proofs.Powered.{stored-since}
 use Rattle.bz_lone.specs.FromCosts.Resources.{Marks}
 use Rattle.bz_swap.specs.Alone.{left_to}
 use Rattle.bz_world.specs.Inside.Paid.{Stock, stock_of}
-use Rattle.bz_world.specs.WorldView.{deadline}
+use Rattle.bz_world.specs.WorldView.{deadline, tells_only}
 use Rattle.bz_world.proofs.Alone.{waits-on}
+use Rattle.bz_world.proofs.Due.{not-lonely}
+use Rattle.bz_world.proofs.LeavesKept.{same-leaves}
 use Rattle.bz_world.proofs.PaidSteps.{keeps-supply}
 use Rattle.bz_world.proofs.Lonely.{none-in}
 use Rattle.bz_world.proofs.LonelyEnds.{ends-briefly}
 use Rattle.bz_world.proofs.Staying.{slot-stays}
 use Rattle.bz_world.proofs.Tabled.{tabled-plain}
+use Rattle.bz_world.proofs.Unspent.{nothing-taken}
 
 -- what is known of a worker does not depend on the journal's pages
 slot-pages : (c : Config) (m : SwapMemory) (log : Log) (pages : Pages) (story : Story) (owners : List ℕ) (stock : Stock) (v : ℕ) (slot : Option OpenCall) → IsSlot c m log story owners stock v slot → IsSlot c m (record log { pages = pages }) story owners stock v slot
@@ -56,6 +59,7 @@ slot-pages c m log pages story owners stock v (Some x) h = record {
   alone = h.alone;
   meant = h.meant;
   paid = h.paid;
+  due = h.due;
 }
 
 living-pages : (c : Config) (m : SwapMemory) (log : Log) (pages : Pages) (story : Story) → IsLiving c m log story → IsLiving c m (record log { pages = pages }) story
@@ -124,7 +128,7 @@ module _ (b : EndLaws) (p : Parts) (w : ℕ) (on : MustGoOn p w) where
       took = λ j. refl;
       filled = λ j e. e;
       alone = λ m o t l waits. waits-on p.config p.access p.access p.journal.past mark was.story after v m o o t (next_instant p.access (was.story.at (length p.journal.past))) refl l waits refl refl (λ j d. refl) (λ j d well. well);
-    }) (λ y t steps. absurd (cc steps)) (was.others v ne)
+    }) (λ y t steps. absurd (cc steps)) (λ y t quiet lonely. absurd (not-lonely b.lonely.alone w v p.journal.past was.opened was.call_open.is_open ne lonely)) (was.others v ne)
 
     module _ (pages : Pages) (sound : IsSound p.config p.at_start (record (with_mark p.journal mark) { pages = pages })) (room : length p.journal.past < p.config.marks) where
       abbrev done : Parts
@@ -157,6 +161,7 @@ module _ (b : EndLaws) (p : Parts) (w : ℕ) (on : MustGoOn p w) where
         taken = assumption was.taken;
         living = living-pages p.config p.access (with_mark p.journal mark) pages after lives;
         sound = sound;
+        leaves = (λ now. same-leaves _ _ _ _ refl, was.leaves);
         free = was.free;
         workers = slots;
         lonely = none-lonely;
@@ -185,6 +190,7 @@ end-went b p w n reply at m number plain room = record {
   begun = refl;
   supplied = keeps-supply p w m.room;
   little = λ whole number moment spent e. (m.full spent (cc e)).little whole;
+  unspent = λ number moment answer e tells lonely. nothing-taken b.lonely.alone p w m.on lonely p.journal.pages reply at (let same : reply ≡ answer = cc e in ap tells_only same ∙ tells) m.right;
 }
   where
     in-time : length p.journal.past + left_to p.access w + 1 ≤ deadline p.config w p.journal.past → suc (length p.journal.past) ≤ deadline p.config w p.journal.past
@@ -217,6 +223,7 @@ end-page-went b p w n page next at m number place room = record {
   begun = refl;
   supplied = keeps-supply p w m.room;
   little = λ whole number moment spent e. absurd (cc e);
+  unspent = λ number moment answer e tells lonely. nothing-taken b.lonely.alone p w m.on lonely (p.journal.pages ++ p.page ∷ []) (Page (length p.journal.pages) next) at refl m.right;
 }
   where
     in-time : length p.journal.past + left_to p.access w + 1 ≤ deadline p.config w p.journal.past → suc (length p.journal.past) ≤ deadline p.config w p.journal.past

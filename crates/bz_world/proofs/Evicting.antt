@@ -30,6 +30,8 @@ use Rattle.bz_world.specs.Inside.Laws.{BegunLaws, StepLaws}
 use Rattle.bz_story.proofs.Powered.{stored-since}
 use Rattle.bz_world.specs.Inside.Paid.{stock_of}
 use Rattle.bz_world.proofs.Alone.{waits-on}
+use Rattle.bz_world.proofs.Due.{rightly-on}
+use Rattle.bz_world.proofs.LeavesKept.{passed-leaves}
 use Rattle.bz_world.proofs.LonelyActs.{all-evicted}
 use Rattle.bz_world.proofs.Powered.{is-not-off}
 use Rattle.bz_world.proofs.Owners.{pending-begun}
@@ -125,7 +127,7 @@ module _ (b : StepLaws) (sees : EvictionsAreSeen) (old new : Parts) (a : ℕ) (k
     filled = λ j h. h;
     alone = λ since opened t l h. waits-on old.config old.access new.access old.journal.past (Evict a) k.story after v since opened opened t (next_instant new.access (k.story.at (length old.journal.past))) refl l h refl (same v).doing (same v).effects
         (λ j d well. b.lone.wins.eviction old.access new.access v a None j k.living.seen.phase e.eviction d refl well);
-  }) (λ y t steps. absurd (cc steps)) (k.workers v)
+  }) (λ y t steps. absurd (cc steps)) (λ y t. rightly-on old.config old.access.taken new.access.taken old.journal (Evict a) (stock_of old) v y (same v).taken (λ map. refl) (λ l. l) t.due) (k.workers v)
 
   was : image_after old.journal.start old.journal.past ≡ (k.story.at (length old.journal.past)).image
   was = sym (k.living.images (length old.journal.past) k.living.from (omega arith) ∙ ap (image_after old.journal.start) (at_moment-now old.journal.past))
@@ -146,6 +148,7 @@ module _ (b : StepLaws) (sees : EvictionsAreSeen) (old new : Parts) (a : ℕ) (k
     taken = subst AreTaken e.rest (evict-taken old new a None k e b.begun);
     living = living;
     sound = sound;
+    leaves = (passed-leaves b.ranges old.config old.at_start old.access new.access old.journal (Evict a) k.story after k.living living refl passed, k.leaves);
     free = k.free;
     workers = slots;
     lonely = all-evicted b old new a k e;

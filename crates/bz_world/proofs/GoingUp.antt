@@ -34,6 +34,7 @@ use Rattle.bz_world.specs.Inside.Meant.{IsMeant}
 use Rattle.bz_world.specs.Inside.Paid.{bound_in, crowded, errand_of, no_extra, used_in, IsPaidFor, HasARoundAs, HasToSpare}
 use Rattle.bz_world.specs.Inside.Serving.{NeedsAtLeast}
 use Rattle.bz_world.specs.declared.parts.Parts.{Parts}
+use Rattle.bz_world.proofs.Due.{looks-only}
 use Rattle.bz_world.proofs.LonelyEnds.{other-ended}
 use Rattle.bz_world.proofs.MakingAnew.{renewal-meant}
 use Rattle.bz_world.proofs.Meant.{split-meant}
@@ -156,11 +157,15 @@ module _ (lone : AloneLaws) (p : Parts) (w : ℕ) (task : AnyTask) (m : MustGoUp
     ];
   }
 
-  write : is_read m.ends.on.serving.call ≡ false
-  write = swaps-write m.ends.on.serving.call (kind_of m.ends.on.serving.task) (m.ends.meant.look m.ends.quiet) (λ look. elim rising.from [
+  -- which is no look-up
+  pub no-look : is_look (kind_of m.ends.on.serving.task) ≡ true → ⊥
+  no-look look = elim rising.from [
     | inl leaf ↦ true≢false (sym look ∙ ap is_look leaf.0)
     | inr node ↦ true≢false (sym look ∙ ap is_look node)
-  ])
+  ]
+
+  write : is_read m.ends.on.serving.call ≡ false
+  write = swaps-write m.ends.on.serving.call (kind_of m.ends.on.serving.task) (m.ends.meant.look m.ends.quiet) no-look
 
   -- the stage is above the level of that node
   key-up : m.up.above.up.key ≡ key_of m.ends.on.serving.call
@@ -198,7 +203,7 @@ module _ (lone : AloneLaws) (p : Parts) (w : ℕ) (task : AnyTask) (m : MustGoUp
   ]
 
   pub up-meant : IsMeant (record m.ends.on.serving { task = task; path = None }) now
-  up-meant = renewal-meant p w m.ends.on m.ends.quiet write task up-within
+  up-meant = renewal-meant p w m.ends.on m.ends.quiet write task up-within no-merge
       (inr (inr (m.up.made_for (key_of m.ends.on.serving.call) (words_asked m.ends.on.serving.call) now (split-meant m.ends.on.serving.call m.ends.on.serving.task now m.up.wanted (m.ends.meant.meant m.ends.quiet)))))
 
   pub up-paid : AreLaws task → IsPaidFor p w (record m.ends.on.serving { task = task; path = None }) 0 no_extra now
@@ -210,3 +215,7 @@ module _ (lone : AloneLaws) (p : Parts) (w : ℕ) (task : AnyTask) (m : MustGoUp
       (m.up.facts (known p w m.ends.on) (sym m.ends.tasked.config) (known-scene lone.scenes p w m.ends.on) m.ends.facts m.ends.end)
       (λ quiet some. subst (NeedsAtLeast p.config p.journal.start p.journal.past m.ends.on.between.opened) (m.up.wanted ∙ sym m.up.wants) (m.ends.on.between.call_open.wanted quiet (omega (arith, m.up.wanted))))
       (λ key get lonely. absurd (crowded-other p w m.ends key get lonely)) up-meant (up-paid laws)
+      (λ quiet lonely. elim (m.ends.on.between.due quiet lonely) [
+        | inl due ↦ inl due
+        | inr none ↦ absurd (no-look (looks-only m.ends.on.serving.call (kind_of m.ends.on.serving.task) none.looks))
+      ])

@@ -1,8 +1,10 @@
 mod Alone
 mod AloneStarts
 mod Meant
+mod Due
 mod Staying
 mod Marking
+mod LeavesKept
 mod Powered
 mod Idling
 mod Stepped
@@ -14,12 +16,14 @@ mod LonelyEnds
 mod Finding
 mod Answered
 mod Stored
+mod Unspent
 mod Went
 mod Owners
 mod Paid
 mod PaidSteps
 mod Spared
 mod Striking
+mod LeavesStruck
 mod StruckQuietly
 mod Published
 mod ActStrikes

@@ -1,5 +1,6 @@
 -- A leaf that is made anew: the task that does it.
 use Rattle.std.proofs.Common.{◌≡◌, ◌≢◌, ℕ, ◌+◌, if◌then◌else◌, Bool, true, false, List, arith, refl, sym, ap, subst, ◌∙◌, inl, inr, Option, None, is_some}
+use Rattle.std.proofs.lemmas.Bool.{true≢false}
 use Rattle.bz_ascent.specs.declared.ascent.Ascent.{Ascent}
 use Rattle.bz_call.specs.Map.{key_of}
 use Rattle.bz_lone.specs.FromCosts.Most.{most_of_freeze, most_of_copy, most_of_merge, most_of_root, most_of_below, IsWithinItsActs}
@@ -15,14 +16,15 @@ use Rattle.bz_running.specs.Hearing.{IsLookup}
 use Rattle.bz_running.specs.Kinds as kinds
 use Rattle.bz_running.specs.Kinds.{Kind, is_renewal, kind_of}
 use Rattle.bz_running.specs.Laws.{AreLaws}
-use Rattle.bz_running.specs.MadeFor.{IsMadeFor, IsMergeFor}
+use Rattle.bz_running.specs.MadeFor.{IsMadeFor, IsMergeFor, IsSmallMerge}
 use Rattle.bz_running.specs.declared.running.AnyTask.{AnyTask}
 use Rattle.bz_task.specs.Outcomes.{IsPath, IsView}
 use Rattle.bz_task.specs.Scene.{Past, Scene, IsScene, Waiting}
 use Rattle.bz_task.specs.declared.path.Path.{Path}
 use Rattle.bz_task.specs.declared.view.LeafView.{LeafView}
 use Rattle.bz_word.specs.Statuses.{status}
-use Rattle.bz_world.specs.Inside.Going.{MustGoOn, MustTakeOn, MustRestructure, MustMakeAnew, MustCopy, MustSplit, MustSplitBelow, MustMerge, known}
+use Rattle.bz_world.specs.Inside.Due.{IsDueAlone, only_looks}
+use Rattle.bz_world.specs.Inside.Going.{MustGoOn, MustTakeOn, MustRestructure, MustMakeAnew, MustCopy, MustSplit, MustSplitBelow, MustMerge, known, MustAnswer}
 use Rattle.bz_world.specs.Inside.Laws.{AloneLaws, RoundLaws}
 use Rattle.bz_world.specs.Inside.Meant.{IsMeant}
 use Rattle.bz_world.specs.Inside.Paid.{bound_in, errand_of, no_extra, used_in, IsPaidFor, HasToSpare, HasARound}
@@ -30,6 +32,7 @@ use Rattle.bz_world.specs.Inside.Serving.{IsWanted, NeedsAtLeast}
 use Rattle.bz_world.specs.declared.parts.Parts.{Parts}
 use Rattle.bz_world.specs.declared.serving.OpenCall.{OpenCall}
 use Rattle.bz_world.proofs.Answering.{on-pages}
+use Rattle.bz_world.proofs.Due.{page-reads}
 use Rattle.bz_world.proofs.Paid.{within-of}
 use Rattle.bz_world.proofs.Spared.{most_in, task-paid, writes-look, lacks-write, is-small, is-large, is-lacking}
 use Rattle.bz_world.proofs.TakingOn.{known-scene, lookup-taken, none-wanted}
@@ -80,18 +83,26 @@ pub no-leaf-split : (task : AnyTask) (k : Kind) → kind_of task ≡ k → ((a :
 no-leaf-split task k kind other = within-of task (λ a e. absurd (other a (sym kind ∙ e)))
 
 -- a task that freezes a leaf, or makes it anew, is meant for its call
-pub renewal-meant : (p : Parts) (w : ℕ) (on : MustGoOn p w) → on.serving.effect ≡ None → is_read on.serving.call ≡ false → (task : AnyTask) → IsWithinItsActs task → IsMeantFor on.serving.call task (known p w on).past → IsMeant (record on.serving { task = task; path = None }) (known p w on).past
-renewal-meant p w on quiet write task within meant = record {
+pub renewal-meant : (p : Parts) (w : ℕ) (on : MustGoOn p w) → on.serving.effect ≡ None → is_read on.serving.call ≡ false → (task : AnyTask) → IsWithinItsActs task → (kind_of task ≡ kinds.Merge → ⊥) → IsMeantFor on.serving.call task (known p w on).past → IsMeant (record on.serving { task = task; path = None }) (known p w on).past
+renewal-meant p w on quiet write task within other meant = record {
   within = within;
   look = λ none. writes-look on.serving.call (kind_of task) write;
   fit = record { words = on.fit.words; thawed = on.fit.thawed };
   meant = λ none. meant;
   later = λ at is. absurd (cc (quiet, is));
+  small = λ merge. absurd (other merge);
 }
 
 -- and is paid for
 pub renewal-paid : RoundLaws → (p : Parts) (w : ℕ) (on : MustGoOn p w) (quiet : on.serving.effect ≡ None) (write : is_read on.serving.call ≡ false) (task : AnyTask) (k : Kind) (f : IsFresh p.config task k) → k ≢ kinds.Merge → IsMeantFor on.serving.call task (known p w on).past → HasToSpare p w on.serving (known p w on).past (λ r q. most_in r k + coming_to_write r q (errand_of on.serving) k) → IsPaidFor p w (record on.serving { task = task; path = None }) 0 no_extra (known p w on).past
-renewal-paid b p w on quiet write task k f other meant s = task-paid b p w on task None on.serving.had k f.kind f.laws f.asks f.made (renewal-meant p w on quiet write task f.within meant) (λ none merge. absurd (other merge)) (spared-so b p w on quiet write k s)
+renewal-paid b p w on quiet write task k f other meant s = task-paid b p w on task None on.serving.had k f.kind f.laws f.asks f.made (renewal-meant p w on quiet write task f.within (λ merge. other (sym f.kind ∙ merge)) meant) (λ none merge. absurd (other merge)) (spared-so b p w on quiet write k s)
+
+-- a call that changes the map, and has read its leaf whole, is to change it
+pub read-due : (p : Parts) (w : ℕ) (view : LeafView) (m : MustAnswer p w view) → is_read m.on.serving.call ≡ false → IsDueAlone p.config p.journal w m.on.serving.call
+read-due p w view m write lonely = elim (m.on.between.due m.quiet lonely) [
+  | inl due ↦ due
+  | inr none ↦ absurd (true≢false (sym (page-reads m.on.serving.call (sym (ap (only_looks m.on.serving.call) m.kind) ∙ none.looks)) ∙ write))
+]
 
 -- the freeze of a leaf, which is none by a merge
 pub freeze-no-merge : kinds.Freeze ≢ kinds.Merge
@@ -101,8 +112,9 @@ abbrev pub freeze-taken : AloneLaws → (p : Parts) (w : ℕ) (view : LeafView) 
     → ((key : List ℕ) (s : Scene) → s.past.config ≡ p.config → IsScene s → IsView key view s.past → facts_of task Waiting s) → IsMadeFor task (key_of m.answer.on.serving.call) (words_asked m.answer.on.serving.call) (known p w m.answer.on).past → MustTakeOn p w task None m.answer.on.serving.had None
 freeze-taken lone p w view m thawed task f lookup wants facts made =
     lookup-taken p w m.answer.on (inl m.answer.quiet) task None None (key_of m.answer.on.serving.call) f.config f.laws f.silent (lookup (key_of m.answer.on.serving.call) None) (λ none. lookup (key_of m.answer.on.serving.call)) refl f.asks (facts (key_of m.answer.on.serving.call) (known p w m.answer.on) refl (known-scene lone.scenes p w m.answer.on) m.answer.viewed)
-    (none-wanted p w m.answer.on task wants) (λ key get lonely. absurd (m.answer.other key get lonely)) (renewal-meant p w m.answer.on m.answer.quiet (lacks-write m.answer.on.serving.call view.status m.lacks) task f.within (inr (inr made)))
+    (none-wanted p w m.answer.on task wants) (λ key get lonely. absurd (m.answer.other key get lonely)) (renewal-meant p w m.answer.on m.answer.quiet (lacks-write m.answer.on.serving.call view.status m.lacks) task f.within (λ merge. freeze-no-merge (sym f.kind ∙ merge)) (inr (inr made)))
     (renewal-paid lone.rounds p w m.answer.on m.answer.quiet (lacks-write m.answer.on.serving.call view.status m.lacks) task kinds.Freeze f freeze-no-merge (inr (inr made)) (freeze-spares lone p w view m thawed))
+    (λ quiet lonely. inl (read-due p w view m.answer (lacks-write m.answer.on.serving.call view.status m.lacks) lonely))
 
 -- its copy or its split
 abbrev pub anew-taken : AloneLaws → (p : Parts) (w : ℕ) (path : Path) (view : LeafView) (m : MustMakeAnew p w path view) (task : AnyTask) (k : Kind) → IsFresh p.config task k → k ≢ kinds.Merge → ((way : Option Path) → IsLookup (key_of m.answer.on.serving.call) way task) → (slots : ℕ) → wants_of task ≡ slots → NeedsAtLeast p.config p.journal.start p.journal.past m.answer.on.between.opened slots
@@ -111,26 +123,29 @@ abbrev pub anew-taken : AloneLaws → (p : Parts) (w : ℕ) (path : Path) (view 
 anew-taken lone p w path view m task k f other lookup slots wants needs facts made spares =
     lookup-taken p w m.answer.on (inl m.answer.quiet) task None None (key_of m.answer.on.serving.call) f.config f.laws f.silent (lookup None) (λ none. lookup) refl f.asks
     (facts (known p w m.answer.on) refl (known-scene lone.scenes p w m.answer.on) m.way m.answer.viewed)
-    (λ quiet some. subst (NeedsAtLeast p.config p.journal.start p.journal.past m.answer.on.between.opened) (sym wants) needs) (λ key get lonely. absurd (m.answer.other key get lonely)) (renewal-meant p w m.answer.on m.answer.quiet (lacks-write m.answer.on.serving.call view.status m.lacks) task f.within (inr (inr made)))
+    (λ quiet some. subst (NeedsAtLeast p.config p.journal.start p.journal.past m.answer.on.between.opened) (sym wants) needs) (λ key get lonely. absurd (m.answer.other key get lonely)) (renewal-meant p w m.answer.on m.answer.quiet (lacks-write m.answer.on.serving.call view.status m.lacks) task f.within (λ merge. other (sym f.kind ∙ merge)) (inr (inr made)))
     (renewal-paid lone.rounds p w m.answer.on m.answer.quiet (lacks-write m.answer.on.serving.call view.status m.lacks) task k f other (inr (inr made)) spares)
+    (λ quiet lonely. inl (read-due p w view m.answer (lacks-write m.answer.on.serving.call view.status m.lacks) lonely))
 
 -- its merge with a neighbour
-pub merge-meant : (p : Parts) (w : ℕ) (path : Path) (view : LeafView) (m : MustMerge p w path view) (task : AnyTask) → IsFresh p.config task kinds.Merge → ((key : List ℕ) (q : Past) → IsView key view q → (status view.status).frozen ≡ true → IsMergeFor task key q) → IsMeant (record m.on.serving { task = task; path = None }) (known p w m.on).past
-merge-meant p w path view m task f for = record {
+pub merge-meant : (p : Parts) (w : ℕ) (path : Path) (view : LeafView) (m : MustMerge p w path view) (task : AnyTask) → IsFresh p.config task kinds.Merge → ((key : List ℕ) (q : Past) → IsView key view q → (status view.status).frozen ≡ true → IsMergeFor task key q) → ((key : List ℕ) (q : Past) → IsView key view q → IsSmallMerge task key q) → IsMeant (record m.on.serving { task = task; path = None }) (known p w m.on).past
+merge-meant p w path view m task f for small = record {
   within = f.within;
   look = λ quiet. writes-look m.on.serving.call (kind_of task) (m.write quiet);
   fit = record { words = m.on.fit.words; thawed = m.on.fit.thawed };
   meant = λ quiet. inr (inl (for (key_of m.on.serving.call) (known p w m.on).past m.viewed (m.frozen quiet)));
   later = λ at is. ap is_renewal f.kind;
+  small = λ merge. small (key_of m.on.serving.call) (known p w m.on).past m.viewed;
 }
 
 abbrev pub merge-taken : AloneLaws → (p : Parts) (w : ℕ) (path : Path) (view : LeafView) (m : MustMerge p w path view) (task : AnyTask) → IsFresh p.config task kinds.Merge → ((key : List ℕ) (way : Option Path) → IsLookup key way task) → wants_of task ≡ MERGE_SLOTS
-    → ((key : List ℕ) (s : Scene) → s.past.config ≡ p.config → IsScene s → IsPath key path s.past → IsView key view s.past → facts_of task Waiting s) → ((key : List ℕ) (q : Past) → IsView key view q → (status view.status).frozen ≡ true → IsMergeFor task key q) → MustTakeOn p w task None m.on.serving.had None
-merge-taken lone p w path view m task f lookup wants facts for =
+    → ((key : List ℕ) (s : Scene) → s.past.config ≡ p.config → IsScene s → IsPath key path s.past → IsView key view s.past → facts_of task Waiting s) → ((key : List ℕ) (q : Past) → IsView key view q → (status view.status).frozen ≡ true → IsMergeFor task key q) → ((key : List ℕ) (q : Past) → IsView key view q → IsSmallMerge task key q) → MustTakeOn p w task None m.on.serving.had None
+merge-taken lone p w path view m task f lookup wants facts for small =
     lookup-taken p w m.on m.may task None None (key_of m.on.serving.call) f.config f.laws f.silent (lookup (key_of m.on.serving.call) None) (λ none. lookup (key_of m.on.serving.call)) refl f.asks
     (facts (key_of m.on.serving.call) (known p w m.on) refl (known-scene lone.scenes p w m.on) m.way m.viewed)
-    (subst (IsWanted p.config p.journal m.on.between.opened) (sym wants) m.wanted) (λ key get lonely. absurd (m.other key get lonely)) (merge-meant p w path view m task f for)
-    (task-paid lone.rounds p w m.on task None m.on.serving.had kinds.Merge f.kind f.laws f.asks f.made (merge-meant p w path view m task f for) (λ quiet merge. is-small lone p w m.on view m.viewed (m.frozen quiet) (omega (arith, m.small))) m.spares)
+    (subst (IsWanted p.config p.journal m.on.between.opened) (sym wants) m.wanted) (λ key get lonely. absurd (m.other key get lonely)) (merge-meant p w path view m task f for small)
+    (task-paid lone.rounds p w m.on task None m.on.serving.had kinds.Merge f.kind f.laws f.asks f.made (merge-meant p w path view m task f for small) (λ quiet merge. is-small lone p w m.on view m.viewed (m.frozen quiet) (omega (arith, m.small))) m.spares)
+    (λ quiet lonely. inl (m.due quiet lonely))
 
 -- the page that is put together for that is nothing to the world
 abbrev pub anew-pages : (p : Parts) (w : ℕ) (path : Path) (view : LeafView) (pairs : List (List ℕ × List ℕ)) → MustMakeAnew p w path view → MustMakeAnew (record p { page = pairs }) w path view

@@ -81,7 +81,7 @@ freeze-meant (call.Page from) t view p lacks thawed viewed made = absurd lacks
 
 -- so it stays of a call, from moment to moment, and once its task was told something
 pub call-meant-on : (x : OpenCall) (p q : Past) → AreLaws x.task → Continues p q → IsMeant x p → IsMeant x q
-call-meant-on x p q laws on m = record { within = m.within; fit = m.fit; look = m.look; meant = λ quiet. meant-on x.call x.task p q laws on (m.meant quiet); later = m.later }
+call-meant-on x p q laws on m = record { within = m.within; fit = m.fit; look = m.look; meant = λ quiet. meant-on x.call x.task p q laws on (m.meant quiet); later = m.later; small = λ merge. laws.small_for (key_of x.call) p q (m.small merge) on }
 
 pub call-meant-told : (x : OpenCall) (p : Past) (seen : Seen) (moment : ℕ) (free : FreeSlots) (todo : Todo) (y : OpenCall) (left : FreeSlots) → HasTold x seen moment free todo y left → IsMeant x p → IsMeant y p
 call-meant-told x p seen moment free todo y left h m = subst (λ (z : OpenCall). IsMeant z p) (sym h.rest) (record {
@@ -90,9 +90,18 @@ call-meant-told x p seen moment free todo y left h m = subst (λ (z : OpenCall).
   look = λ quiet. subst (IsLookOf x.call) (sym h.heard.kind) (m.look quiet);
   meant = λ quiet. meant-told x.call p x.task y.task seen moment free todo left h.heard (m.meant quiet);
   later = λ at is. ap is_renewal h.heard.kind ∙ m.later at is;
+  small = λ merge. h.heard.small_for (key_of x.call) p (m.small (sym h.heard.kind ∙ merge));
 })
 
--- the swap of a change makes nothing anew
+-- the swap of a change merges nothing
+pub publishing-no-merge : (t : AnyTask) → publishing_of t ≡ true → kind_of t ≡ kinds.Merge → ⊥
+unfolding publishing_of kind_of
+publishing-no-merge (Inserting t) e merge = cc merge
+publishing-no-merge (Updating t) e merge = cc merge
+publishing-no-merge (Deleting t) e merge = cc merge
+publishing-no-merge t e merge = true≢false (sym e)
+
+-- and makes nothing anew
 pub publishing-kind : (t : AnyTask) → publishing_of t ≡ true → is_renewal (kind_of t) ≡ false
 unfolding publishing_of kind_of
 publishing-kind (Seeking t) e = refl

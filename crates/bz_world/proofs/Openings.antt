@@ -38,6 +38,7 @@ use Rattle.bz_world.specs.Inside.Kept.{IsTabled, KeepsNotes, AreTaken, AreFree, 
 use Rattle.bz_world.specs.Inside.Laws.{BegunLaws}
 use Rattle.bz_world.specs.Inside.Opening.{fresh_slots, IsMadeOver}
 use Rattle.bz_world.specs.Inside.Paid.{stock_of}
+use Rattle.bz_world.specs.Leaves.{AreLeavesKept}
 use Rattle.bz_world.specs.WorldView.{Supply, supply_by, new_view, view_over}
 use Rattle.bz_world.specs.Inside.Serving.{IsSlot, IsAtRest}
 use Rattle.bz_world.specs.declared.parts.Parts.{Parts}
@@ -150,6 +151,7 @@ kept-open b p made slots = record {
   taken = taken b p made;
   living = subst (λ l. IsLiving p.config p.access l (fresh_story p.config)) (sym made.journal) (b.living p.config p.access ((new_view p.config).log.limits) (record { config = made.config; opened = made.opened; holds = made.holds }));
   sound = subst (λ (s : Power). IsSound p.config s p.journal) (sym made.at_start) (subst (IsSound p.config power.On) (sym made.journal) (sound b p.config made.config));
+  leaves = subst (λ (l : Log). AreLeavesKept p.config p.at_start l) (sym made.journal) tt;
   free = subst (λ log. AreFree p.config (image_at_on log.start log.past) p.slots (fresh_story p.config).took) (sym made.journal) (subst (λ free. AreFree p.config (slice_index (fresh_words p.config)) free (fresh_story p.config).took) (sym slots) (free-fresh b p.config made.config));
   workers = λ w. subst (λ xs. IsSlot p.config p.access p.journal (fresh_story p.config) p.owners.items (stock_of p) w (get_or xs w None)) (sym made.workers) (rest w (get_or (replicate 65 None) w None) (same-everywhere 65 w None));
   lonely = λ w. none-in p.access p.journal.past (fresh_story p.config) p.workers.items w (ap (λ xs. get_or xs w None) made.workers ∙ same-everywhere 65 w None);

@@ -82,13 +82,13 @@ pub few-acts : (p : Parts) → IsKept p → power_of p.at_start p.journal.past �
 few-acts p k is = omega (arith, (started-in p k (sym k.tabled.power ∙ is)).memory.spent)
 
 pub kept-awake : (p : Parts) → IsAwake p → IsKept p
-kept-awake p a = record { tabled = a.tabled; sound = a.sound; words = a.living.words; state = subst (λ (z : Power). IsKeptIn z p) (sym a.on) a }
+kept-awake p a = record { tabled = a.tabled; sound = a.sound; leaves = a.leaves; words = a.living.words; state = subst (λ (z : Power). IsKeptIn z p) (sym a.on) a }
 
 pub kept-off : (p : Parts) → p.power ≡ power.Off → IsOff p → IsKept p
-kept-off p off o = record { tabled = o.dark.tabled; sound = o.dark.sound; words = o.memory.words; state = subst (λ (z : Power). IsKeptIn z p) (sym off) o }
+kept-off p off o = record { tabled = o.dark.tabled; sound = o.dark.sound; leaves = o.dark.leaves; words = o.memory.words; state = subst (λ (z : Power). IsKeptIn z p) (sym off) o }
 
 pub kept-started : (p : Parts) → p.power ≡ power.Recovering → IsStarted p → IsKept p
-kept-started p is r = record { tabled = r.dark.tabled; sound = r.dark.sound; words = r.memory.words; state = subst (λ (z : Power). IsKeptIn z p) (sym is) r }
+kept-started p is r = record { tabled = r.dark.tabled; sound = r.dark.sound; leaves = r.dark.leaves; words = r.memory.words; state = subst (λ (z : Power). IsKeptIn z p) (sym is) r }
 
 -- a call that is open began in this life of the memory, and so did its look-up
 pub begun-in : {c : Config} {m : SwapMemory} {log : Log} {story : Story} {w : ℕ} {opened : Open} {x : OpenCall} → IsLiving c m log story → (o : IsOpened c log w opened x) → HasBegun log story o.look.since

@@ -38,6 +38,8 @@ use Rattle.bz_world.specs.declared.serving.OpenCall.{OpenCall}
 use Rattle.bz_story.proofs.Powered.{stored-since}
 use Rattle.bz_world.proofs.Alone.{waits-on}
 use Rattle.bz_world.proofs.Counting.{pairs-change}
+use Rattle.bz_world.proofs.LeavesKept.{same-leaves}
+use Rattle.bz_world.proofs.LeavesStruck.{struck-leaves}
 use Rattle.bz_world.proofs.Powered.{begun-in, flush-leaves, free-on}
 use Rattle.bz_lone.specs.Errands.{Errand}
 use Rattle.bz_lone.specs.Steps.{effected_by, mark_of_effect}
@@ -46,12 +48,12 @@ use Rattle.bz_running.specs.declared.running.AnyTask.{AnyTask}
 use Rattle.bz_world.specs.Inside.Alone.{untold}
 use Rattle.bz_world.specs.Inside.Paid.{errand_of, no_extra, stock_of, IsPaidIn}
 use Rattle.bz_world.specs.WorldView.{stepper}
-use Rattle.bz_world.proofs.Meant.{publishing-kind}
+use Rattle.bz_world.proofs.Meant.{publishing-kind, publishing-no-merge}
 use Rattle.bz_world.proofs.Paid.{flush-runs, next-is}
 use Rattle.bz_world.proofs.PaidSteps.{less-in, marks-in}
 use Rattle.bz_world.proofs.Staying.{Leaves, none-stays, serving-stays}
 use Rattle.bz_world.specs.Inside.Laws.{StrikeLaws}
-use Rattle.bz_world.proofs.Striking.{flush-calls, old, kept, w, x, its, owner, before, waits, good, after, living, opened, later, took, struck-alone, struck-meant, own-paid, other-paid, leaves}
+use Rattle.bz_world.proofs.Striking.{flush-calls, old, kept, w, x, its, owner, before, waits, good, after, living, opened, later, took, struck-alone, struck-meant, own-paid, other-paid, leaves, beside}
 use Rattle.bz_world.proofs.LonelyActs.{none-struck}
 use Rattle.bz_world.proofs.StruckQuietly.{image-was, image-is, fault-is, stage-is, its-swap, its-asks, still-does}
 use Rattle.bz_world.proofs.Tabled.{tabled-marked}
@@ -186,8 +188,10 @@ module _ (b : StrikeLaws) (p : Parts) (s : ℕ) (h : IsStriking p s) (publishes 
           (none-stays c (old b p s h).access p.access log h.mark (kept b p s h).story (after b p s h) (old b p s h).owners.items (stock_of (old b p s h)) (stock_of (old b p s h)) v (leaves b p s h v ne) t)
       both (Some y) t = serving-stays b.scenes b.stay c p.access p.access with_flush effect_mark (after b p s h) told_story (old b p s h).owners.items (stock_of (old b p s h)) (stock_of (old b p s h)) v y lives (told-leaves v ne)
           (serving-stays b.scenes b.stay c (old b p s h).access p.access log h.mark (kept b p s h).story (after b p s h) (old b p s h).owners.items (stock_of (old b p s h)) (stock_of (old b p s h)) v y (living b p s h) (leaves b p s h v ne) t
-          (λ runs. less-in b.paid c p.access with_flush.past (stock_of (old b p s h)) v (errand_of y) y.task (untold p.access (doing_of p.access v)) one_mark (scene c with_flush.past (after b p s h) v t.call_open.look.since t.opened).past (other-paid b p s h v ne y t (flush-runs c v with_flush.past h.flush runs))))
+          (λ runs. less-in b.paid c p.access with_flush.past (stock_of (old b p s h)) v (errand_of y) y.task (untold p.access (doing_of p.access v)) one_mark (scene c with_flush.past (after b p s h) v t.call_open.look.since t.opened).past (other-paid b p s h v ne y t (flush-runs c v with_flush.past h.flush runs)))
+          (λ quiet lonely. absurd (beside b p s h v ne lonely)))
           (λ steps. marked v (errand_of y) y.task (untold p.access (doing_of p.access v)) t.call_open.look.since t.opened (begun-in (kept b p s h).living t.call_open) steps (other-paid b p s h v ne y t steps))
+          (λ quiet lonely. absurd (beside b p s h v ne lonely))
 
   -- the call, with its effect
   abbrev effected : Open
@@ -253,11 +257,12 @@ module _ (b : StrikeLaws) (p : Parts) (s : ℕ) (h : IsStriking p s) (publishes 
     covered = (its b p s h).covered;
     alone = waits-on c p.access p.access with_flush.past effect_mark (after b p s h) told_story worker since effected effected (x b p s h).task (next_instant p.access ((after b p s h).at (length with_flush.past))) refl (omega (arith, begun-its.by_now)) (struck-alone b p s h)
         refl refl (λ t d. refl) (λ t d well. well);
-    meant = let m = (struck-meant b p s h) in record { within = m.within; fit = record { words = m.fit.words; thawed = m.fit.thawed }; look = λ quiet. absurd (cc quiet); meant = λ quiet. absurd (cc quiet); later = λ at is. publishing-kind (x b p s h).task publishes };
+    meant = let m = (struck-meant b p s h) in record { within = m.within; fit = record { words = m.fit.words; thawed = m.fit.thawed }; look = λ quiet. absurd (cc quiet); meant = λ quiet. absurd (cc quiet); later = λ at is. publishing-kind (x b p s h).task publishes; small = λ merge. absurd (publishing-no-merge (x b p s h).task publishes merge) };
     paid = λ steps. subst (λ u. IsPaidIn c p.access (effect_mark ∷ with_flush.past) (stock_of (old b p s h)) worker (errand_of with_moment) (x b p s h).task u no_extra (scene c (effect_mark ∷ with_flush.past) told_story worker since effected).past)
         (sym (ap (untold p.access) (still-does b p s h) ∙ ap (λ (z : Bool). if z then 1 else 0) h.takes.effect.done))
         (marked worker (errand_of with_moment) (x b p s h).task 1 since effected begun-its steps
         (subst (λ z. IsPaidIn c p.access with_flush.past (stock_of (old b p s h)) worker (effected_by z (errand_of (x b p s h))) (x b p s h).task 1 (λ r. mark_of_effect r z) (later b p s h).past) publishes (own-paid b p s h steps)));
+    due = λ quiet lonely. absurd (cc quiet);
   }
 
   slots : (items : List (Option OpenCall)) → get_or items worker None ≡ Some with_moment → ((v : ℕ) → v ≢ worker → get_or items v None ≡ get_or (old b p s h).workers.items v None)
@@ -302,6 +307,7 @@ module _ (b : StrikeLaws) (p : Parts) (s : ℕ) (h : IsStriking p s) (publishes 
     taken = taken-on workers count;
     living = lives;
     sound = sound;
+    leaves = (λ now. same-leaves _ _ _ _ refl, (struck-leaves b p s h, (kept b p s h).leaves));
     free = free-on c log.start log.past h.mark (old b p s h).slots (after b p s h).took (flush-leaves h.mark log.past h.flush) (kept b p s h).free;
     workers = slots workers.items here-is rest;
     lonely = none-lonely workers.items here-is rest;

@@ -13,7 +13,7 @@ use Rattle.bz_sight.specs.Starts.{Sees}
 use Rattle.bz_sound.specs.Calls.{Open, open_call}
 use Rattle.bz_sound.specs.Memory.Calls.{HasOpenCall}
 use Rattle.bz_sound.specs.Power.Sound.{IsSound}
-use Rattle.bz_story.specs.Laws.{HasBegun, GoesOn}
+use Rattle.bz_story.specs.Laws.{HasBegun, GoesOn, goes_on}
 use Rattle.bz_story.specs.Living.{IsLiving}
 use Rattle.bz_story.specs.Story.{Story, scene, and_then}
 use Rattle.bz_swap.specs.SwapMemory.{Doing, Idle, Storing, doing_of}
@@ -31,17 +31,22 @@ use Rattle.bz_world.specs.declared.parts.Parts.{Parts}
 use Rattle.bz_world.specs.declared.serving.OpenCall.{OpenCall}
 use Rattle.bz_sound.specs.Power.Times.{image_at_on}
 use Rattle.bz_rivals.specs.Rivals.{rivals}
+use Rattle.bz_story.proofs.Powered.{stored-since}
 use Rattle.bz_world.specs.Inside.Alone.{untold}
 use Rattle.bz_world.specs.Inside.Paid.{errand_of, no_extra, runner, stock_of, IsPaidIn}
 use Rattle.bz_world.proofs.Alone.{waits-on, well-acted}
+use Rattle.bz_world.proofs.Due.{act-map, not-lonely, rightly-on}
+use Rattle.bz_world.proofs.LeavesKept.{passed-leaves}
+use Rattle.bz_world.proofs.Lonely.{lonely-act}
 use Rattle.bz_world.proofs.Paid.{act-steps, act-runs, one-steps, who-steps, paid-here, next-is}
 use Rattle.bz_world.proofs.PaidSteps.{StepsFurther, quiet-in}
 use Rattle.bz_world.proofs.Powered.{begun-in, looks-on, free-on, leaves-power, may-act}
 use Rattle.bz_world.proofs.Owners.{pending-begun}
 use Rattle.bz_world.proofs.Marking.{act-marked, act-calls}
 use Rattle.bz_world.specs.Inside.Laws.{StepLaws}
+use Rattle.bz_world.specs.Leaves.{LeavesFollow}
 use Rattle.bz_world.proofs.Stepped.{act-tabled, act-taken, act-sound, held}
-use Rattle.bz_world.proofs.Staying.{SameFor, Pays, slot-stays, told-stays, wanted-stays}
+use Rattle.bz_world.proofs.Staying.{SameFor, Pays, slot-stays, told-stays, wanted-stays, Takes}
 
 -- the call of a worker that serves one is open, so it is one of the workers
 module _ (p : Parts) (k : IsAwake p) (w : ℕ) (x : OpenCall) (is-worker : get_or p.workers.items w None ≡ Some x) where
@@ -110,6 +115,13 @@ module _ (b : StepLaws) (old new : Parts) (w : ℕ) (x : OpenCall) (made : Act) 
   pub sound : IsSound old.config old.at_start (with_mark old.journal (mark_of w made))
   sound = act-sound b.journal old new k.story w made done None k.living k.sound a (may-act old.at_start old.journal.past w (some-worker old k w x is-worker) (call-is-open old k w x is-worker)) passed
 
+  -- the leaves stay as many
+  life : IsLiving old.config new.access (with_mark old.journal (mark_of w made)) (goes_on old.journal k.story new.access k.story.filled)
+  life = b.lives old.config old.access new.access old.journal k.story (mark_of w made) k.story.filled goes (λ v j f. stored-since old.config old.journal.past (mark_of w made) j (leaves-power w old.journal.past made) (k.living.stored v j f))
+
+  pub leaves : LeavesFollow old.config old.at_start old.journal.start old.journal.past (mark_of w made)
+  leaves = passed-leaves b.ranges old.config old.at_start old.access new.access old.journal (mark_of w made) k.story (goes_on old.journal k.story new.access k.story.filled) k.living life refl passed
+
   -- what others do is the same
   pub same-other : (v : ℕ) → v ≢ w → SameFor old.access new.access v
   same-other v ne = record {
@@ -152,12 +164,19 @@ module _ (b : StepLaws) (old new : Parts) (w : ℕ) (x : OpenCall) (made : Act) 
   pub none-pays : (after : Story) (v : ℕ) → v ≢ w → Pays old.config old.access old.journal (mark_of w made) k.story after old.owners.items (stock_of old) (stock_of old) new.access v
   none-pays after v ne y t steps = absurd (one-steps v w ne (runner old.config (mark_of w made ∷ old.journal.past)) (act-runs old.config w made old.journal.past) steps)
 
+  -- none of them is alone, and the worker itself has taken no more
+  pub none-takes : (v : ℕ) → v ≢ w → Takes old.config old.access old.journal (mark_of w made) k.story old.owners.items (stock_of old) (stock_of old) new.access v
+  none-takes v ne y t quiet lonely = absurd (not-lonely b.lonely.alone w v (mark_of w made ∷ old.journal.past) s.opened (act-calls w w old.journal.past made ∙ s.call_open.is_open) ne lonely)
+
+  pub own-takes : Takes old.config old.access old.journal (mark_of w made) k.story old.owners.items (stock_of old) (stock_of old) new.access w
+  own-takes y t = rightly-on old.config old.access.taken new.access.taken old.journal (mark_of w made) (stock_of old) w y a.step.one.others.taken (act-map w made old.journal.past) (lonely-act w w old.journal.past made) t.due
+
   -- so what is known of a worker stays, if the mark is a lawful step for it
   pub stays : (after : Story) (v : ℕ) → IsLiving old.config new.access (with_mark old.journal (mark_of w made)) after → after.from ≡ k.story.from → SameFor old.access new.access v
       → ((since : ℕ) (opened : Open) → HasBegun old.journal k.story since → IsLawful (scene old.config old.journal.past k.story v since opened) (scene old.config (mark_of w made ∷ old.journal.past) after v since opened))
       → ((j : ℕ) → after.took v j ≡ k.story.took v j) → ((j : ℕ) → k.story.filled v j ≡ true → after.filled v j ≡ true) → after.at ≡ and_then k.story.at (length old.journal.past) (next_instant new.access (k.story.at (length old.journal.past)))
-      → Pays old.config old.access old.journal (mark_of w made) k.story after old.owners.items (stock_of old) (stock_of old) new.access v → IsSlot old.config new.access (with_mark old.journal (mark_of w made)) after old.owners.items (stock_of old) v (get_or old.workers.items v None)
-  stays after v living from same lawful took filled at pays = slot-stays b.scenes b.stay old.config old.access new.access old.journal (mark_of w made) k.story after old.owners.items (stock_of old) (stock_of old) v (get_or old.workers.items v None) living (record {
+      → Pays old.config old.access old.journal (mark_of w made) k.story after old.owners.items (stock_of old) (stock_of old) new.access v → Takes old.config old.access old.journal (mark_of w made) k.story old.owners.items (stock_of old) (stock_of old) new.access v → IsSlot old.config new.access (with_mark old.journal (mark_of w made)) after old.owners.items (stock_of old) v (get_or old.workers.items v None)
+  stays after v living from same lawful took filled at pays takes = slot-stays b.scenes b.stay old.config old.access new.access old.journal (mark_of w made) k.story after old.owners.items (stock_of old) (stock_of old) v (get_or old.workers.items v None) living (record {
     same = same;
     calls = act-calls v w old.journal.past made;
     from = from;
@@ -166,7 +185,7 @@ module _ (b : StepLaws) (old new : Parts) (w : ℕ) (x : OpenCall) (made : Act) 
     filled = filled;
     alone = λ since opened t l h. waits-on old.config old.access new.access old.journal.past (mark_of w made) k.story after v since opened opened t (next_instant new.access (k.story.at (length old.journal.past))) at l h refl same.doing same.effects
         (λ j d well. well-acted b.lone.wins old.access new.access w made done j a.step well);
-  }) pays (k.workers v)
+  }) pays takes (k.workers v)
 
   pub tabled : length old.journal.past < old.config.marks → IsTabled new
   tabled room = act-tabled old new w made done None k.tabled a room
@@ -184,6 +203,7 @@ module _ (b : StepLaws) (old new : Parts) (w : ℕ) (x : OpenCall) (made : Act) 
     taken = subst AreTaken a.rest taken;
     living = living;
     sound = sound;
+    leaves = (leaves, k.leaves);
     free = free-on old.config old.journal.start old.journal.past (mark_of w made) old.slots after.took (leaves-power w old.journal.past made) free;
     workers = slots;
     lonely = lonely;
@@ -200,6 +220,7 @@ module _ (b : StepLaws) (old new : Parts) (w : ℕ) (x : OpenCall) (made : Act) 
     taken = subst AreTaken a.rest taken;
     living = living;
     sound = sound;
+    leaves = (leaves, k.leaves);
     free = free-on old.config old.journal.start old.journal.past (mark_of w made) old.slots after.took (leaves-power w old.journal.past made) free;
     others = slots;
     worker = some-worker old k w x is-worker;
@@ -214,5 +235,6 @@ module _ (b : StepLaws) (old new : Parts) (w : ℕ) (x : OpenCall) (made : Act) 
       wanted = wanted-stays old.config old.journal (mark_of w made) s.opened (wants_of x.task) s.call_open.wanted;
     };
     idle = a.step.one.doing ∙ idle-by (doing_of old.access w) done ne;
+    due = own-takes x s;
     steps = λ v is. who-steps v w (runner old.config (mark_of w made ∷ old.journal.past)) (act-runs old.config w made old.journal.past) is;
   }

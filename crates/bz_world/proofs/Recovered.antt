@@ -40,6 +40,7 @@ asked-on go_on turns p seen next slots k on tells nodes learns = record {
   dark = record {
     tabled = tabled-beside (record { workers = refl; owners = refl; crew = refl; steps = refl; rest = refl }) k.dark.tabled;
     sound = k.dark.sound;
+    leaves = k.dark.leaves;
     none = k.dark.none;
     slots = nodes ∙ k.dark.slots;
     values = k.dark.values;

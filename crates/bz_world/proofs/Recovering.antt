@@ -109,6 +109,7 @@ module _ (b : Laws) (recovers : ActsAreMarked) (old new : Parts) (made : Act) (d
     dark = record {
       tabled = tabled;
       sound = sound;
+      leaves = (λ on. absurd (let says : power.On ≡ power.Recovering = sym on ∙ log-power in cc says), k.dark.leaves);
       none = k.dark.none;
       slots = k.dark.slots;
       values = k.dark.values;
@@ -152,6 +153,7 @@ module _ (b : Laws) (leave : EvictionsAreMarked) (old new : Parts) (a : ℕ) (to
     dark = record {
       tabled = evict-tabled;
       sound = evict-sound;
+      leaves = (λ on. absurd (let says : power.On ≡ power.Recovering = sym on ∙ (k.dark.tabled.power ∙ is) in cc says), k.dark.leaves);
       none = k.dark.none;
       slots = k.dark.slots;
       values = k.dark.values;
@@ -170,6 +172,7 @@ module _ (turns : TurnsMakeNoMark) (p : Parts) (k : IsRecovering p recovery.Aske
     dark = record {
       tabled = tabled-beside (record { workers = refl; owners = refl; crew = length-set p.access.workers 0 (record { doing = doing; flush_next = begins_by_flush doing }); steps = refl; rest = refl }) k.dark.tabled;
       sound = k.dark.sound;
+      leaves = k.dark.leaves;
       none = k.dark.none;
       slots = k.dark.slots;
       values = k.dark.values;

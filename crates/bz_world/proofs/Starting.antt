@@ -28,6 +28,7 @@ use Rattle.bz_swap.specs.Alone.{allowed_for, left_to}
 use Rattle.bz_world.specs.Inside.Paid.{errand_of, no_extra, stock_of, IsPaidIn}
 use Rattle.bz_world.proofs.PaidSteps.{starts-in}
 use Rattle.bz_world.proofs.Alone.{none-untold, none-well}
+use Rattle.bz_world.proofs.Due.{not-lonely}
 use Rattle.bz_world.proofs.Lonely.{in-place, only-own, started-lonely}
 use Rattle.bz_world.proofs.Powered.{begun-in}
 use Rattle.bz_world.proofs.Staying.{SameFor, slot-same}
@@ -119,6 +120,7 @@ module _ (lone : AloneLaws) (starts : StartsAreSeen) (begun : BegunLaws) (alone 
     alone = waits-now;
     meant = m.asking.meant;
     paid = λ steps. subst (λ u. IsPaidIn p.config (started p.access w doing) p.journal.past (stock_of p) w (errand_of m.serving) m.serving.task u no_extra its-scene.past) (sym (none-untold (started p.access w doing) (doing_of (started p.access w doing) w) none)) pays;
+    due = between.due;
   }
 
   same-other : (v : ℕ) → v ≢ w → SameFor p.access (started p.access w doing) v
@@ -126,7 +128,7 @@ module _ (lone : AloneLaws) (starts : StartsAreSeen) (begun : BegunLaws) (alone 
 
   slots : (v : ℕ) → IsSlot p.config (started p.access w doing) p.journal between.story p.owners.items (stock_of p) v (get_or p.workers.items v None)
   slots v = elim (cases_eq v w) [
-    | inr ne ↦ slot-same p.config p.access (started p.access w doing) p.journal between.story p.owners.items p.owners.items (stock_of p) (stock_of p) v (get_or p.workers.items v None) (same-other v ne) (λ s d well. record { unnoted = well.unnoted; stands = well.stands }) (λ s d. refl) (λ is. ne (between.steps v is)) (between.others v ne)
+    | inr ne ↦ slot-same p.config p.access (started p.access w doing) p.journal between.story p.owners.items p.owners.items (stock_of p) (stock_of p) v (get_or p.workers.items v None) (same-other v ne) (λ s d well. record { unnoted = well.unnoted; stands = well.stands }) (λ s d. refl) (λ is. ne (between.steps v is)) (not-lonely alone w v p.journal.past between.opened between.call_open.is_open ne) (between.others v ne)
     | inl e ↦ subst (λ u. IsSlot p.config (started p.access w doing) p.journal between.story p.owners.items (stock_of p) u (get_or p.workers.items u None)) (sym e)
         (subst (IsSlot p.config (started p.access w doing) p.journal between.story p.owners.items (stock_of p) w) (sym m.is) serves-on)
   ]
@@ -145,6 +147,7 @@ module _ (lone : AloneLaws) (starts : StartsAreSeen) (begun : BegunLaws) (alone 
     taken = let t = between.taken in record { shown = t.shown; held = begun.taken.start p.access w doing between.idle t.held; few = t.few; notes = notes; unused = t.unused };
     living = living;
     sound = between.sound;
+    leaves = between.leaves;
     free = between.free;
     workers = slots;
     lonely = only-own alone (started p.access w doing) p.journal.past between.story p.workers.items w between.opened between.call_open.is_open

@@ -13,6 +13,7 @@ use Rattle.bz_running.specs.Duties.{needs_of, wants_of, facts_of}
 use Rattle.bz_running.specs.declared.running.AnyTask.{AnyTask}
 use Rattle.bz_slotted.specs.Records.{live_words}
 use Rattle.bz_sound.specs.Calls.{Open, open_call}
+use Rattle.bz_sound.specs.Lonely.{IsLonely}
 use Rattle.bz_sound.specs.Memory.Moments.{map_at_start, image_after}
 use Rattle.bz_sound.specs.Memory.OpenCallLaws.{EffectsStayOpen}
 use Rattle.bz_sound.specs.Memory.Spent.{NeedsSlots, leaf_page, slots_for}
@@ -24,6 +25,7 @@ use Rattle.bz_task.specs.Scene.{Scene, IsLawful, Waiting, Took}
 use Rattle.bz_task.specs.declared.todo.Todo.{Todo}
 use Rattle.bz_task.specs.declared.todo.Todo.TheVariants as todo
 use Rattle.bz_world.specs.Inside.Alone.{WaitsAlone, untold}
+use Rattle.bz_world.specs.Inside.Due.{TakesRightly}
 use Rattle.bz_world.specs.Inside.Meant.{IsMeant}
 use Rattle.bz_world.specs.Inside.Paid.{Stock, IsPaidIn, errand_of, no_extra, runner}
 use Rattle.bz_world.specs.Inside.Serving.{IsServing, IsCovered, IsDoing, IsSlot, IsToldBy, IsWanted, NeedsAtLeast, MayGoOn, IsFinishing, effect_reply, stage_in}
@@ -122,11 +124,15 @@ abbrev pub Pays : Config → SwapMemory → Log → Mark → Story → Story →
 Pays c m log mark story after owners stock more n v = (x : OpenCall) (s : IsServing c m log story owners stock v x) → runner c (mark ∷ log.past) ≡ Some v
     → IsPaidIn c n (mark ∷ log.past) more v (errand_of x) x.task (untold n (doing_of n v)) no_extra (scene c (mark ∷ log.past) after v s.call_open.look.since s.opened).past
 
+-- and what it has taken is right then
+abbrev pub Takes : Config → SwapMemory → Log → Mark → Story → List ℕ → Stock → Stock → SwapMemory → ℕ → Type 0
+Takes c m log mark story owners stock more n v = (x : OpenCall) (s : IsServing c m log story owners stock v x) → TakesRightly c n.taken (with_mark log mark) more v x
+
 unfoldable pub serving-stays : ScenesAreSeen → EffectsStayOpen → (c : Config) (m n : SwapMemory) (log : Log) (mark : Mark) (story after : Story) (owners : List ℕ) (stock more : Stock) (v : ℕ) (x : OpenCall) → IsLiving c n (with_mark log mark) after → Leaves c m n log mark story after v
     → (s : IsServing c m log story owners stock v x)
     → (runner c (mark ∷ log.past) ≡ Some v → IsPaidIn c n (mark ∷ log.past) more v (errand_of x) x.task (untold n (doing_of n v)) no_extra (scene c (mark ∷ log.past) after v s.call_open.look.since s.opened).past)
-    → IsServing c n (with_mark log mark) after owners more v x
-serving-stays seen stay c m n log mark story after owners stock more v x living l s pays = record {
+    → TakesRightly c n.taken (with_mark log mark) more v x → IsServing c n (with_mark log mark) after owners more v x
+serving-stays seen stay c m n log mark story after owners stock more v x living l s pays takes = record {
   opened = s.opened;
   call_open = record {
     is_open = l.calls ∙ s.call_open.is_open;
@@ -149,6 +155,7 @@ serving-stays seen stay c m n log mark story after owners stock more v x living 
   meant = call-meant-on x (scene c log.past story v s.call_open.look.since s.opened).past (scene c (mark ∷ log.past) after v s.call_open.look.since s.opened).past s.tasked.laws
       (l.lawful s.call_open.look.since s.opened (record { from = omega (arith, since, l.from); by_now = s.call_open.look.by_now })).continues s.meant;
   paid = pays;
+  due = takes;
 }
   where
     since : after.from ≤ s.call_open.look.since
@@ -158,15 +165,15 @@ pub none-stays : (c : Config) (m n : SwapMemory) (log : Log) (mark : Mark) (stor
 none-stays c m n log mark story after owners stock more v l s = record { none_open = l.calls ∙ s.none_open; idle = l.same.doing ∙ s.idle; filled = λ k t. l.filled k (s.filled k (sym (l.took k) ∙ t)) }
 
 pub slot-stays : ScenesAreSeen → EffectsStayOpen → (c : Config) (m n : SwapMemory) (log : Log) (mark : Mark) (story after : Story) (owners : List ℕ) (stock more : Stock) (v : ℕ) (slot : Option OpenCall) → IsLiving c n (with_mark log mark) after → Leaves c m n log mark story after v
-    → Pays c m log mark story after owners stock more n v → IsSlot c m log story owners stock v slot → IsSlot c n (with_mark log mark) after owners more v slot
-slot-stays seen stay c m n log mark story after owners stock more v None living l pays s = none-stays c m n log mark story after owners stock more v l s
-slot-stays seen stay c m n log mark story after owners stock more v (Some x) living l pays s = serving-stays seen stay c m n log mark story after owners stock more v x living l s (pays x s)
+    → Pays c m log mark story after owners stock more n v → Takes c m log mark story owners stock more n v → IsSlot c m log story owners stock v slot → IsSlot c n (with_mark log mark) after owners more v slot
+slot-stays seen stay c m n log mark story after owners stock more v None living l pays takes s = none-stays c m n log mark story after owners stock more v l s
+slot-stays seen stay c m n log mark story after owners stock more v (Some x) living l pays takes s = serving-stays seen stay c m n log mark story after owners stock more v x living l s (pays x s) (takes x s)
 
 -- without a mark, in a memory in which a worker does the same
 pub slot-same : (c : Config) (m n : SwapMemory) (log : Log) (story : Story) (owners others : List ℕ) (stock more : Stock) (v : ℕ) (slot : Option OpenCall) → SameFor m n v → ((s : ℕ) → doing_of m v ≡ Swapping s → GoesWell m s → GoesWell n s) → ((s : ℕ) → doing_of m v ≡ Swapping s → slice_index others s ≡ slice_index owners s)
-    → (runner c log.past ≡ Some v → ⊥) → IsSlot c m log story owners stock v slot → IsSlot c n log story others more v slot
-slot-same c m n log story owners others stock more v None same well table still s = record { none_open = s.none_open; idle = same.doing ∙ s.idle; filled = s.filled }
-slot-same c m n log story owners others stock more v (Some x) same well table still s = record {
+    → (runner c log.past ≡ Some v → ⊥) → (IsLonely v log.past → ⊥) → IsSlot c m log story owners stock v slot → IsSlot c n log story others more v slot
+slot-same c m n log story owners others stock more v None same well table still beside s = record { none_open = s.none_open; idle = same.doing ∙ s.idle; filled = s.filled }
+slot-same c m n log story owners others stock more v (Some x) same well table still beside s = record {
   opened = s.opened;
   call_open = assumption s.call_open;
   tasked = s.tasked;
@@ -179,6 +186,7 @@ slot-same c m n log story owners others stock more v (Some x) same well table st
   alone = waits-same m n v x.task (scene c log.past story v s.call_open.look.since s.opened).past same.doing same.effects well s.alone;
   meant = s.meant;
   paid = λ steps. absurd (still steps);
+  due = λ quiet lonely. absurd (beside lonely);
 }
   where
     doing-by : (m : SwapMemory) (owners others : List ℕ) (v : ℕ) (asked : Todo) → ((s : ℕ) → doing_of m v ≡ Swapping s → slice_index others s ≡ slice_index owners s) → IsDoing m owners v asked → IsDoing m others v asked
@@ -191,9 +199,9 @@ slot-same c m n log story owners others stock more v (Some x) same well table st
 
 -- in another story that tells a worker the same
 pub slot-scenes : (c : Config) (m : SwapMemory) (log : Log) (story after : Story) (owners : List ℕ) (stock more : Stock) (v : ℕ) (slot : Option OpenCall) (some : Open) → ((since : ℕ) (opened : Open) → scene c log.past after v since opened ≡ scene c log.past story v since opened)
-    → ((k : ℕ) → after.filled v k ≡ story.filled v k) → (runner c log.past ≡ Some v → ⊥) → IsSlot c m log story owners stock v slot → IsSlot c m log after owners more v slot
-slot-scenes c m log story after owners stock more v None some same filled still s = record { none_open = s.none_open; idle = s.idle; filled = λ k t. filled k ∙ s.filled k (sym (ap (λ (z : Scene). z.took k) (same zero some)) ∙ t) }
-slot-scenes c m log story after owners stock more v (Some x) some same filled still s = record {
+    → ((k : ℕ) → after.filled v k ≡ story.filled v k) → (runner c log.past ≡ Some v → ⊥) → (IsLonely v log.past → ⊥) → IsSlot c m log story owners stock v slot → IsSlot c m log after owners more v slot
+slot-scenes c m log story after owners stock more v None some same filled still beside s = record { none_open = s.none_open; idle = s.idle; filled = λ k t. filled k ∙ s.filled k (sym (ap (λ (z : Scene). z.took k) (same zero some)) ∙ t) }
+slot-scenes c m log story after owners stock more v (Some x) some same filled still beside s = record {
   opened = s.opened;
   call_open = assumption s.call_open;
   tasked = s.tasked;
@@ -206,4 +214,5 @@ slot-scenes c m log story after owners stock more v (Some x) some same filled st
   alone = subst (λ (z : Scene). WaitsAlone m (doing_of m v) x.task z.past) (sym (same s.call_open.look.since s.opened)) s.alone;
   meant = subst (λ (z : Scene). IsMeant x z.past) (sym (same s.call_open.look.since s.opened)) s.meant;
   paid = λ steps. absurd (still steps);
+  due = λ quiet lonely. absurd (beside lonely);
 }

@@ -33,7 +33,7 @@ use Rattle.bz_world.specs.Inside.Paid.{errand_of, no_extra, stock_of, IsPaidIn}
 use Rattle.bz_world.proofs.Meant.{call-meant-on}
 use Rattle.bz_world.proofs.Powered.{begun-in}
 use Rattle.bz_world.proofs.Staying.{covered-stays}
-use Rattle.bz_world.proofs.Quiet.{some-worker, serves, sees, own, goes, same-other, stays, answered, quiet-paid, none-pays}
+use Rattle.bz_world.proofs.Quiet.{some-worker, serves, sees, own, goes, same-other, stays, answered, quiet-paid, none-pays, none-takes}
 use Rattle.bz_world.proofs.Answered.{no-finish}
 use Rattle.bz_world.proofs.Lonely.{lonely-act}
 use Rattle.bz_world.proofs.LonelyActs.{reads-now}
@@ -71,7 +71,7 @@ module _ (b : StepLaws) (old new : Parts) (w : ℕ) (x : OpenCall) (made : Act) 
 
     others : (v : ℕ) → v ≢ w → IsSlot old.config new.access (with_mark old.journal (mark_of w made)) after old.owners.items (stock_of old) v (get_or old.workers.items v None)
     others v ne = stays b old new w x made answer k is-worker a after v living refl (same-other b old new w x made answer k is-worker a v ne)
-        (λ since opened begun. b.stores.others old.config old.access new.access old.journal k.story (mark_of w made) w d u its.call_open.look.since its.opened v since opened (goes b old new w x made answer k is-worker a) is-store ne begun) (λ j. refl) (fills-more v) refl (none-pays b old new w x made answer k is-worker a after v ne)
+        (λ since opened begun. b.stores.others old.config old.access new.access old.journal k.story (mark_of w made) w d u its.call_open.look.since its.opened v since opened (goes b old new w x made answer k is-worker a) is-store ne begun) (λ j. refl) (fills-more v) refl (none-pays b old new w x made answer k is-worker a after v ne) (none-takes b old new w x made answer k is-worker a v ne)
 
     stored : Stores d u before later
     stored = b.stores.own old.config old.access new.access old.journal k.story (mark_of w made) w d u its.call_open.look.since its.opened (goes b old new w x made answer k is-worker a) is-store

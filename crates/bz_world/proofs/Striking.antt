@@ -1,23 +1,25 @@
 -- The effect of a swap: what it is to its worker and to the others, one mark on.
-use Rattle.std.proofs.Common.{◌≡◌, ◌≢◌, ◌==◌, Bool, false, not, inl, inr, Some, ℕ, suc, ◌+◌, ◌^◌, ◌<◌, ◌≤◌, if◌then◌else◌, List, ◌∷◌, length, arith, refl, sym, ap, subst, ◌∙◌, None, is_some}
+use Rattle.std.proofs.Common.{◌≡◌, ◌≢◌, ◌==◌, Bool, false, not, inl, inr, Some, ℕ, suc, ◌+◌, ◌^◌, ◌<◌, ◌≤◌, if◌then◌else◌, List, ◌∷◌, length, slice_index, arith, refl, sym, ap, subst, ◌∙◌, None, is_some}
 use Rattle.std.specs.Prelude.{get_or}
 use Rattle.std.proofs.lemmas.Bool.{cases_eq, cases_lt}
 use Rattle.std.proofs.lemmas.Bool.Decides.{nat_tests}
 use Rattle.bz_mark.specs.Log.{with_mark}
 use Rattle.bz_mark.specs.declared.marks.Mark.{Mark}
 use Rattle.bz_mark.specs.declared.marks.Mark.TheVariants as mark
+use Rattle.bz_mark.proofs.MomentLaws.{at_moment-now}
 use Rattle.bz_running.specs.Duties.{facts_of, publishing_of, change_of}
 use Rattle.bz_running.specs.Kinds.{kind_of}
 use Rattle.bz_sight.specs.Effects.{TookPlace, effect_instant}
 use Rattle.bz_sight.specs.Starts.{Sees}
 use Rattle.bz_sound.specs.Calls.{Open, open_call}
-use Rattle.bz_sound.specs.Memory.Moments.{IsAfterFlush}
+use Rattle.bz_sound.specs.Lonely.{IsLonely}
+use Rattle.bz_sound.specs.Memory.Moments.{IsAfterFlush, image_after}
 use Rattle.bz_story.specs.Laws.{HasBegun, Strikes, strikes, opened_after}
 use Rattle.bz_story.specs.Living.{IsLiving}
 use Rattle.bz_story.specs.Story.{Story, scene}
 use Rattle.bz_swap.specs.SwapMemory.{Doing, Idle, Reading, Swapping, Loading, Storing, Flushing, doing_of, entries_of}
-use Rattle.bz_task.specs.Scene.{Scene, IsLawful, Waiting, Took}
-use Rattle.bz_task.specs.Swaps.{IsGoodSwap, Takes}
+use Rattle.bz_task.specs.Scene.{Scene, IsLawful, Waiting, Took, here}
+use Rattle.bz_task.specs.Swaps.{IsGoodSwap, SwapsTo, Takes}
 use Rattle.bz_world.specs.Inside.Acted.{IsStriking, StepsAt}
 use Rattle.bz_world.specs.Inside.Alone.{WaitsAlone}
 use Rattle.bz_world.specs.Inside.Kept.{IsAwake}
@@ -33,6 +35,7 @@ use Rattle.bz_world.specs.Inside.Alone.{untold}
 use Rattle.bz_world.specs.Inside.Paid.{errand_of, no_extra, stock_of, IsPaidIn}
 use Rattle.bz_world.specs.WorldView.{stepper}
 use Rattle.bz_world.proofs.Alone.{untold-by, waits-beside, waits-struck}
+use Rattle.bz_world.proofs.Due.{not-lonely}
 use Rattle.bz_world.proofs.Lonely.{now-is}
 use Rattle.bz_world.proofs.Meant.{call-meant-on, swaps-or-merges}
 use Rattle.bz_world.proofs.Paid.{none-of, flush-runs, paid-here, next-is, swapless, some-moment}
@@ -85,8 +88,19 @@ module _ (b : StrikeLaws) (p : Parts) (s : ℕ) (h : IsStriking p s) where
   few = let r = kept.tabled.config.marks_in_range in let t : length p.journal.past ≤ p.config.marks = h.tabled.marks in
       let u : length (h.mark ∷ old.journal.past) ≤ old.config.marks = subst (λ (q : Parts). length q.journal.past ≤ q.config.marks) h.rest t in omega (arith, u, r.at_most)
 
-  took-place : TookPlace old.config (kept.story.at (length old.journal.past)) old.access p.access s
+  pub took-place : TookPlace old.config (kept.story.at (length old.journal.past)) old.access p.access s
   took-place = b.place old.config (kept.story.at (length old.journal.past)) old.access p.access s kept.living.seen h.takes
+
+  -- so it leads there
+  pub swaps-to : SwapsTo old.config (entries_of old.access s) (here before) (effect_instant old.config p.access (kept.story.at (length old.journal.past)))
+  swaps-to = took-place.swaps (omega (arith, few, kept.living.effects))
+
+  -- the image before and after it
+  pub was-image : image_after old.journal.start old.journal.past ≡ (kept.story.at (length old.journal.past)).image
+  was-image = sym (kept.living.images (length old.journal.past) kept.living.from (omega arith) ∙ ap (image_after old.journal.start) (at_moment-now old.journal.past))
+
+  pub is-image : image_after old.journal.start (h.mark ∷ old.journal.past) ≡ slice_index p.access.durable
+  is-image = ap (λ z. slice_index z.durable) (sym h.marked)
 
   -- its task waited for the swap
   pub waits : facts_of x.task Waiting before
@@ -232,6 +246,11 @@ module _ (b : StrikeLaws) (p : Parts) (s : ℕ) (h : IsStriking p s) where
     alone = λ m o t l waits. waits-beside old.config old.access p.access old.journal.past h.mark kept.story after v m o o t (effect_instant old.config p.access (kept.story.at (length old.journal.past))) refl l waits refl (same-other v ne).doing (same-other v ne).effects;
   }
 
+  -- none of the others is alone
+  pub beside : (v : ℕ) → v ≢ w → IsLonely v (h.mark ∷ old.journal.past) → ⊥
+  beside v ne lonely = not-lonely b.lonely.alone w v (h.mark ∷ old.journal.past) its.opened (flush-calls w h.mark old.journal.past h.flush ∙ its.call_open.is_open) ne lonely
+
   pub others : (v : ℕ) → v ≢ w → IsSlot old.config p.access (with_mark old.journal h.mark) after old.owners.items (stock_of old) v (get_or old.workers.items v None)
   others v ne = slot-stays b.scenes b.stay old.config old.access p.access old.journal h.mark kept.story after old.owners.items (stock_of old) (stock_of old) v (get_or old.workers.items v None) living (leaves v ne)
-      (λ y t runs. less-in b.paid old.config p.access (h.mark ∷ old.journal.past) (stock_of old) v (errand_of y) y.task (untold p.access (doing_of p.access v)) one_mark (scene old.config (h.mark ∷ old.journal.past) after v t.call_open.look.since t.opened).past (other-paid v ne y t (flush-runs old.config v (h.mark ∷ old.journal.past) h.flush runs))) (kept.workers v)
+      (λ y t runs. less-in b.paid old.config p.access (h.mark ∷ old.journal.past) (stock_of old) v (errand_of y) y.task (untold p.access (doing_of p.access v)) one_mark (scene old.config (h.mark ∷ old.journal.past) after v t.call_open.look.since t.opened).past (other-paid v ne y t (flush-runs old.config v (h.mark ∷ old.journal.past) h.flush runs)))
+      (λ y t quiet lonely. absurd (beside v ne lonely)) (kept.workers v)

@@ -30,6 +30,7 @@ kept-workers p workers k size same = record {
   taken = assumption k.taken;
   living = k.living;
   sound = k.sound;
+  leaves = k.leaves;
   free = k.free;
   workers = λ v. subst (IsSlot p.config p.access p.journal k.story p.owners.items (stock_of p) v) (sym (same v)) (k.workers v);
   lonely = λ v x opened is. k.lonely v x opened (sym (same v) ∙ is);

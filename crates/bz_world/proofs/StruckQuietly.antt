@@ -4,7 +4,6 @@ use Rattle.std.specs.Prelude.{get_or}
 use Rattle.std.proofs.lemmas.Bool.{cases_eq}
 use Rattle.bz_content.specs.Content.{image_fault, content_in}
 use Rattle.bz_mark.specs.Log.{with_mark}
-use Rattle.bz_mark.proofs.MomentLaws.{at_moment-now}
 use Rattle.bz_running.specs.Duties.{asks_of, wants_of, facts_of, publishing_of, change_of}
 use Rattle.bz_sight.specs.Effects.{effect_instant}
 use Rattle.bz_sound.specs.Memory.Moments.{image_after}
@@ -23,19 +22,21 @@ use Rattle.bz_world.specs.Inside.Laws.{StrikeLaws}
 use Rattle.bz_lone.specs.Steps.{effected_by, mark_of_effect}
 use Rattle.bz_world.specs.Inside.Alone.{untold}
 use Rattle.bz_world.specs.Inside.Paid.{errand_of, no_extra, stock_of, IsPaidIn}
+use Rattle.bz_world.proofs.Due.{flush-lonely, flush-map, rightly-on}
 use Rattle.bz_world.proofs.Paid.{flush-runs}
+use Rattle.bz_world.proofs.LeavesStruck.{struck-leaves}
 use Rattle.bz_world.proofs.LonelyActs.{none-struck}
 use Rattle.bz_world.proofs.Powered.{looks-on, flush-leaves, free-on}
 use Rattle.bz_world.proofs.Staying.{told-stays, wanted-stays, finishing-stays}
-use Rattle.bz_world.proofs.Striking.{flush-calls, old, kept, w, x, its, owner, before, good, after, living, opened, later, took, struck-alone, struck-meant, own-paid, others}
+use Rattle.bz_world.proofs.Striking.{flush-calls, old, kept, w, x, its, owner, before, good, after, living, opened, later, took, struck-alone, struck-meant, own-paid, others, was-image, is-image}
 
 module _ (b : StrikeLaws) (p : Parts) (s : ℕ) (h : IsStriking p s) where
   -- the image before and after it
   pub image-was : image_after (old b p s h).journal.start (old b p s h).journal.past ≡ ((kept b p s h).story.at (length (old b p s h).journal.past)).image
-  image-was = sym ((kept b p s h).living.images (length (old b p s h).journal.past) (kept b p s h).living.from (omega arith) ∙ ap (image_after (old b p s h).journal.start) (at_moment-now (old b p s h).journal.past))
+  image-was = was-image b p s h
 
   pub image-is : image_after (old b p s h).journal.start (h.mark ∷ (old b p s h).journal.past) ≡ slice_index p.access.durable
-  image-is = ap (λ z. slice_index z.durable) (sym h.marked)
+  image-is = is-image b p s h
 
   pub fault-is : image_fault (old b p s h).config (image_after (old b p s h).journal.start (h.mark ∷ (old b p s h).journal.past)) ≡ None
   fault-is = subst (λ i. image_fault (old b p s h).config i ≡ None) (sym image-is) (good b p s h).good.form
@@ -99,6 +100,7 @@ module _ (b : StrikeLaws) (p : Parts) (s : ℕ) (h : IsStriking p s) where
           subst (λ u. IsPaidIn (old b p s h).config p.access (h.mark ∷ (old b p s h).journal.past) (stock_of (old b p s h)) (w b p s h) (errand_of (x b p s h)) (x b p s h).task u no_extra (later b p s h).past)
           (sym (ap (untold p.access) still-does ∙ ap (λ (z : Bool). if z then 1 else 0) h.takes.effect.done))
           (subst (λ z. IsPaidIn (old b p s h).config p.access (h.mark ∷ (old b p s h).journal.past) (stock_of (old b p s h)) (w b p s h) (effected_by z (errand_of (x b p s h))) (x b p s h).task 1 (λ r. mark_of_effect r z) (later b p s h).past) silent (own-paid b p s h steps));
+      due = rightly-on (old b p s h).config (old b p s h).access.taken p.access.taken (old b p s h).journal h.mark (stock_of (old b p s h)) (w b p s h) (x b p s h) h.work.taken (flush-map h.mark (old b p s h).journal.past h.flush) (flush-lonely (w b p s h) h.mark (old b p s h).journal.past h.flush) (its b p s h).due;
     }
 
     slots : (v : ℕ) → IsSlot (old b p s h).config p.access (with_mark (old b p s h).journal h.mark) (after b p s h) (old b p s h).owners.items (stock_of (old b p s h)) v (get_or (old b p s h).workers.items v None)
@@ -116,6 +118,7 @@ module _ (b : StrikeLaws) (p : Parts) (s : ℕ) (h : IsStriking p s) where
       taken = subst AreTaken h.rest h.taken;
       living = living b p s h;
       sound = sound;
+      leaves = (struck-leaves b p s h, (kept b p s h).leaves);
       free = free-on (old b p s h).config (old b p s h).journal.start (old b p s h).journal.past h.mark (old b p s h).slots (after b p s h).took (flush-leaves h.mark (old b p s h).journal.past h.flush) (kept b p s h).free;
       workers = slots;
       lonely = λ v y opened is is-open key get lonely. absurd (none-struck b p s h v y is key get lonely);

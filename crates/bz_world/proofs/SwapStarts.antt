@@ -9,6 +9,7 @@ use Rattle.std.proofs.Math.Seq.{get_or-append_seam}
 use Rattle.bz_lone.specs.FromAlone.Alone.{IsAlone}
 use Rattle.bz_lone.specs.FromAlone.Counts.{HasOthers}
 use Rattle.bz_running.specs.Duties.{made_of, facts_of}
+use Rattle.bz_running.specs.Kinds.{kind_of}
 use Rattle.bz_sight.specs.Sight.{IsHidden, IsSeen}
 use Rattle.bz_sight.specs.Starts.{StartsAreSeen, Sees, StoresAreHidden, OwnWordsAreHidden}
 use Rattle.bz_sound.specs.Lonely.{LonelyCallsAreAlone}
@@ -36,7 +37,9 @@ use Rattle.bz_world.specs.Inside.Paid.{errand_of, no_extra, stock_of, IsPaidIn}
 use Rattle.bz_world.proofs.PaidSteps.{starts-in}
 use Rattle.bz_world.proofs.Alone.{waits-same}
 use Rattle.bz_world.proofs.AloneStarts.{stands-now, starts-well, well-beside}
+use Rattle.bz_world.proofs.Due.{looks-only, not-lonely}
 use Rattle.bz_world.proofs.Lonely.{in-place, only-own}
+use Rattle.bz_world.proofs.Paid.{swapless}
 use Rattle.bz_world.proofs.Powered.{begun-in}
 use Rattle.bz_world.proofs.Starting.{starts-it, starts-others}
 use Rattle.bz_world.proofs.Staying.{finishing-stays}
@@ -154,6 +157,11 @@ module _ (lone : AloneLaws) (starts : StartsAreSeen) (scenes : ScenesAreSeen) (b
     alone = waits-now;
     meant = m.asking.meant;
     paid = λ steps. subst (λ u. IsPaidIn p.config new p.journal.past (stock_of p) w (errand_of m.serving) m.serving.task u no_extra its-scene.past) (sym none-yet) pays;
+    -- what only looks asks for no swap
+    due = λ quiet lonely. elim (was.due quiet lonely) [
+      | inl due ↦ inl due
+      | inr none ↦ absurd (swapless lone.paid.asked m.serving.task entries m.asking.asks (m.asking.tasked.laws.looks (looks-only m.serving.call (kind_of m.serving.task) none.looks)).swaps)
+    ];
   }
 
   -- the others do what they did
@@ -188,6 +196,7 @@ module _ (lone : AloneLaws) (starts : StartsAreSeen) (scenes : ScenesAreSeen) (b
             (λ s d well. well-beside p.access w s entries (other-entries s (other-begun v (Some x) h s d)) well) h.alone;
         meant = h.meant;
         paid = λ steps. absurd (ne (was.steps v steps));
+        due = λ quiet lonely. absurd (not-lonely alone w v p.journal.past was.opened was.call_open.is_open ne lonely);
       }
         where
           same-stage : (d : Doing) → stage_in new d ≡ stage_in p.access d
@@ -234,6 +243,7 @@ module _ (lone : AloneLaws) (starts : StartsAreSeen) (scenes : ScenesAreSeen) (b
     };
     living = living;
     sound = was.sound;
+    leaves = was.leaves;
     free = was.free;
     workers = slots;
     lonely = only-own alone new p.journal.past was.story p.workers.items w was.opened was.call_open.is_open

@@ -38,6 +38,7 @@ use Rattle.bz_task.specs.declared.todo.Todo.TheVariants.{Read, Finish}
 use Rattle.bz_world.specs.Inside.Acted.{IsBetween, MustTell}
 use Rattle.bz_world.specs.Inside.Going.{MustGoOn, MustLookUp, MustLookUpAs, MustTakeOn, MustRead, MustReadWhole, HasRoomForEnd, taken_for, HadEffect, HasReadAfter, LacksSwap, known, call_in, end_in, path_in, WentOn, MayGoOnIn}
 use Rattle.bz_world.specs.Inside.Beginning.{supply_of}
+use Rattle.bz_world.specs.Inside.Due.{TakesRightly, only_looks}
 use Rattle.bz_world.specs.Inside.Kept.{IsAwake}
 use Rattle.bz_world.specs.Inside.Laws.{AloneLaws}
 use Rattle.bz_world.specs.Inside.Lonely.{WhereLonely, IsNotLonely, IsNotLonelyIn, IsLonelyGet, HasLooked, AsksBriefly}
@@ -62,7 +63,7 @@ use Rattle.bz_world.specs.Inside.Paid.{begun_with, bound_in, crowded, errand_of,
 use Rattle.bz_world.specs.WorldView.{deadline}
 use Rattle.bz_world.proofs.Paid.{swaps-write, swapless}
 use Rattle.bz_world.proofs.PaidSteps.{kept-supply, less-in, room-of}
-use Rattle.bz_world.specs.WorldView.{GoesOn, EndsFullOfLittle, EndsFullRightly, GetsBriefly, RunsWhole}
+use Rattle.bz_world.specs.WorldView.{GoesOn, EndsFullOfLittle, EndsFullRightly, EndsUnspent, GetsBriefly, RunsWhole}
 use Rattle.bz_world.specs.Inside.Serving.{IsOpened, IsSlot, IsToldBy, IsWanted, MayGoOn, effect_reply}
 use Rattle.bz_world.specs.Inside.Telling.{MustStart, HasTold, HasToldIn, LacksDescriptor, MustTellOf, MustStartOf, MustBegin}
 use Rattle.bz_world.specs.declared.answers.Applied.{Applied}
@@ -70,6 +71,7 @@ use Rattle.bz_world.specs.declared.answers.Applied.TheVariants as applied
 use Rattle.bz_world.specs.declared.parts.Parts.{Parts}
 use Rattle.bz_world.specs.declared.serving.OpenCall.{OpenCall}
 use Rattle.bz_world.proofs.Alone.{hears-now}
+use Rattle.bz_world.proofs.Due.{freezes-no-look}
 use Rattle.bz_world.proofs.Powered.{begun-in}
 use Rattle.bz_world.proofs.Staying.{none-unfilled}
 use Rattle.bz_world.proofs.Supplies.{not-longer}
@@ -162,14 +164,15 @@ lacks-swap b p w todo then m lacks q moment free left rest asks told = record {
 
 -- the world but for the worker's task
 pub between-tasks : (p : Parts) (w : ℕ) (x y : OpenCall) (b : IsBetween p w x) (workers : Vec (Option OpenCall)) → length workers.items ≡ length p.workers.items → ((v : ℕ) → v ≢ w → get_or workers.items v None ≡ get_or p.workers.items v None)
-    → IsOpened p.config p.journal w b.opened y → IsBetween (record p { workers = workers }) w y
-between-tasks p w x y b workers size rest opened = record {
+    → IsOpened p.config p.journal w b.opened y → TakesRightly p.config p.access.taken p.journal (stock_of p) w y → IsBetween (record p { workers = workers }) w y
+between-tasks p w x y b workers size rest opened due = record {
   on = b.on;
   story = b.story;
   tabled = tabled-beside (record { workers = size; owners = refl; crew = refl; steps = refl; rest = refl }) b.tabled;
   taken = assumption b.taken;
   living = b.living;
   sound = b.sound;
+  leaves = b.leaves;
   free = b.free;
   others = λ v ne. subst (IsSlot p.config p.access p.journal b.story p.owners.items (stock_of p) v) (sym (rest v ne)) (b.others v ne);
   worker = b.worker;
@@ -177,6 +180,7 @@ between-tasks p w x y b workers size rest opened = record {
   opened = b.opened;
   call_open = opened;
   idle = b.idle;
+  due = due;
   steps = b.steps;
 }
 
@@ -220,6 +224,13 @@ none-wanted p w on task none quiet some = absurd (omega (arith, none, some))
 pub has-way : (path : Path) → Some path ≡ None → ⊥
 has-way path none = absurd (cc none)
 
+-- a look-up takes nothing, and what was taken before was taken rightly
+pub looks-right : (p : Parts) (w : ℕ) (on : MustGoOn p w) (task : AnyTask) (way : Option Path) → only_looks on.serving.call (kind_of task) ≡ true → TakesRightly p.config p.access.taken p.journal (stock_of p) w (record on.serving { task = task; path = way })
+looks-right p w on task way looks quiet lonely = elim (on.between.due quiet lonely) [
+  | inl due ↦ inl due
+  | inr none ↦ inr (record { looks = looks; thawed = none.thawed; same_taken = none.same_taken; same_left = none.same_left })
+]
+
 -- where no way was found it ends in no leaf
 abbrev bogus : Path
 bogus = record { links = []; depth = 0 }
@@ -233,8 +244,9 @@ no-key key task looks view s means = let some : 0 < 0 = ((looks (Some bogus)).le
 -- a task that makes no change, for the call's key
 abbrev pub lookup-taken : (p : Parts) (w : ℕ) (on : MustGoOn p w) → MayGoOn on.serving → (task : AnyTask) (way : Option Path) (asked : Option Todo) (key : List ℕ) → config_of task ≡ p.config → AreLaws task → makes_no_change task ≡ true → IsLookup key way task → (way ≡ None → (other : Option Path) → IsLookup key other task) → key ≡ key_of on.serving.call
     → asks_of task ≡ asked → facts_of task Waiting (known p w on) → IsWanted p.config p.journal on.between.opened (wants_of task)
-    → WhereLonely p.journal.past w on.serving.call (IsLonelyGet p.access p.journal.past on.between.story w (record on.serving { task = task; path = way }) on.between.opened) → IsMeant (record on.serving { task = task; path = way }) (known p w on).past → IsPaidFor p w (record on.serving { task = task; path = way }) 0 (taken_for asked) (known p w on).past → MustTakeOn p w task way on.serving.had asked
-lookup-taken p w on may task way asked key config laws looks lookup wayless same asks facts wanted lonely meant paid = record {
+    → WhereLonely p.journal.past w on.serving.call (IsLonelyGet p.access p.journal.past on.between.story w (record on.serving { task = task; path = way }) on.between.opened) → IsMeant (record on.serving { task = task; path = way }) (known p w on).past → IsPaidFor p w (record on.serving { task = task; path = way }) 0 (taken_for asked) (known p w on).past
+    → TakesRightly p.config p.access.taken p.journal (stock_of p) w (record on.serving { task = task; path = way }) → MustTakeOn p w task way on.serving.had asked
+lookup-taken p w on may task way asked key config laws looks lookup wayless same asks facts wanted lonely meant paid due = record {
   on = on;
   may = may;
   tasked = record { config = config; laws = laws; lookup = subst (λ k. IsLookup k way task) same lookup; change = inl looks; wayless = λ none other. subst (λ k. IsLookup k other task) same (wayless none other) };
@@ -244,6 +256,7 @@ lookup-taken p w on may task way asked key config laws looks lookup wayless same
   lonely = lonely;
   meant = meant;
   paid = paid;
+  due = due;
 }
 
 -- and one that begins once the change was made needs none either
@@ -261,7 +274,7 @@ said-alone p w on other alone slot is = record {
   serving = record on.serving { alone = alone };
   is = get_or-set_same p.workers.items w slot None (omega (arith, on.between.within, on.between.tabled.places, on.between.tabled.config.workers_in_range.at_most)) ∙ is;
   between = between-tasks p w on.serving (record on.serving { alone = alone }) on.between (with_item p.workers w slot) (length-set p.workers.items w slot) (λ v ne. get_or-set_other p.workers.items w v slot None ne)
-      (assumption on.between.call_open);
+      (assumption on.between.call_open) on.between.due;
   filled = on.filled;
   fit = record { words = on.fit.words; thawed = on.fit.thawed };
   lonely = λ key get lonely. absurd (other key get lonely);
@@ -277,22 +290,32 @@ said-may p w m alone merges slot is = record {
 }
 
 -- nor is whether its own freeze of its leaf was the last to end
-pub said-froze : (p : Parts) (w : ℕ) (on : MustGoOn p w) → IsNotLonely p.journal.past w on.serving.call → (froze : Bool) → (froze ≡ true → is_read on.serving.call ≡ false) → (slot : Option OpenCall) → slot ≡ Some (record on.serving { froze = froze }) → MustGoOn (record p { workers = with_item p.workers w slot }) w
+pub said-froze : (p : Parts) (w : ℕ) (on : MustGoOn p w) → IsNotLonely p.journal.past w on.serving.call → (froze : Bool) → (froze ≡ true → is_read on.serving.call ≡ false) → (froze ≡ true → only_looks on.serving.call (kind_of on.serving.task) ≡ true → ⊥) → (slot : Option OpenCall) → slot ≡ Some (record on.serving { froze = froze }) → MustGoOn (record p { workers = with_item p.workers w slot }) w
 unfolding between-tasks
-said-froze p w on other froze thawed slot is = record {
+said-froze p w on other froze thawed freezes slot is = record {
   serving = record on.serving { froze = froze };
   is = get_or-set_same p.workers.items w slot None (omega (arith, on.between.within, on.between.tabled.places, on.between.tabled.config.workers_in_range.at_most)) ∙ is;
   between = between-tasks p w on.serving (record on.serving { froze = froze }) on.between (with_item p.workers w slot) (length-set p.workers.items w slot) (λ v ne. get_or-set_other p.workers.items w v slot None ne)
-      (assumption on.between.call_open);
+      (assumption on.between.call_open) right;
   filled = on.filled;
   fit = record { words = on.fit.words; thawed = thawed };
   lonely = λ key get lonely. absurd (other key get lonely);
 }
+  where
+    unfrozen : only_looks on.serving.call (kind_of on.serving.task) ≡ true → (f : Bool) → froze ≡ f → froze ≡ false
+    unfrozen looks true e = absurd (freezes e looks)
+    unfrozen looks false e = e
+
+    right : TakesRightly p.config p.access.taken p.journal (stock_of p) w (record on.serving { froze = froze })
+    right quiet lonely = elim (on.between.due quiet lonely) [
+      | inl due ↦ inl due
+      | inr none ↦ inr (record { looks = none.looks; thawed = unfrozen none.looks froze refl; same_taken = none.same_taken; same_left = none.same_left })
+    ]
 
 pub froze-may : (p : Parts) (w : ℕ) (m : MustLookUpAs p w after) (froze : Bool) → froze ≡ is_freeze (kind_of m.on.serving.task) → (slot : Option OpenCall) → slot ≡ Some (record m.on.serving { froze = froze }) → MustLookUp (record p { workers = with_item p.workers w slot }) w
 unfolding said-froze between-tasks
 froze-may p w m froze freezes slot is = record {
-  on = said-froze p w m.on m.other froze (λ e. (m.pays Marks tt).thawed (sym freezes ∙ e)) slot is;
+  on = said-froze p w m.on m.other froze (λ e. (m.pays Marks tt).thawed (sym freezes ∙ e)) (λ e. freezes-no-look m.on.serving.call (kind_of m.on.serving.task) (sym freezes ∙ e)) slot is;
   may = m.may;
   other = m.other;
   pays = subst (λ (f : Bool). HasARoundAs p w (record (errand_of m.on.serving) { froze = f }) (known p w m.on).past) (sym freezes) m.pays;
@@ -308,11 +331,12 @@ thawed-spares r m w e used by p s = by-round s.round s.alone s.affords
 pub thawed-read : (p : Parts) (w : ℕ) (path : Path) (m : MustRead p w path) (slot : Option OpenCall) → slot ≡ Some (record m.on.serving { froze = false }) → MustRead (record p { workers = with_item p.workers w slot }) w path
 unfolding said-froze between-tasks
 thawed-read p w path m slot is = record {
-  on = said-froze p w m.on m.other false (λ e. absurd (true≢false (sym e))) slot is;
+  on = said-froze p w m.on m.other false (λ e. absurd (true≢false (sym e))) (λ e. absurd (true≢false (sym e))) slot is;
   may = m.may;
   leads = m.leads;
   other = m.other;
   look = m.look;
+  due = m.due;
   spares = λ r counted. thawed-spares r p.access w (errand_of m.on.serving) (used_in r p w) (bound_in r p w) (known p w m.on).past (m.spares r counted);
 }
 
@@ -331,7 +355,7 @@ module _ (p : Parts) (w : ℕ) (task : AnyTask) (had : Option (List ℕ)) (asked
 
   between : IsBetween taken w next
   between = between-tasks p w m.on.serving next m.on.between (with_item p.workers w slot) (length-set p.workers.items w slot) (λ v ne. get_or-set_other p.workers.items w v slot None ne)
-      (assumption (told, m.wanted, m.on.between.call_open))
+      (assumption (told, m.wanted, m.on.between.call_open)) m.due
 
   pub here-is : get_or taken.workers.items w None ≡ Some next
   here-is = get_or-set_same p.workers.items w slot None (omega (arith, m.on.between.within, m.on.between.tabled.places, m.on.between.tabled.config.workers_in_range.at_most)) ∙ is
@@ -458,6 +482,7 @@ told-went old mid w answer new rest fewer few went = record {
   begun = went.begun ∙ ap begun_with rest;
   supplied = λ whole. went.supplied (subst (λ (j : Log). RunsWhole new.config w j.past) (sym (ap (λ (p : Parts). p.journal) rest)) whole);
   little = λ whole. subst (λ (j : Log). EndsFullOfLittle new.config j w new.journal (begun_with new)) (ap (λ (p : Parts). p.journal) rest) (went.little (subst (λ (j : Log). RunsWhole new.config w j.past) (sym (ap (λ (p : Parts). p.journal) rest)) whole));
+  unspent = subst (λ (j : Log). EndsUnspent j w new.journal (begun_with new) (supply_of new)) (ap (λ (p : Parts). p.journal) rest) went.unspent;
   config = went.config ∙ ap (λ (p : Parts). p.config) rest;
   at_start = went.at_start ∙ ap (λ (p : Parts). p.at_start) rest;
   left_out = went.left_out ∙ ap (λ (p : Parts). p.left_out) rest;
@@ -480,6 +505,7 @@ went-anew p workers page w answer new went = record {
   begun = went.begun;
   supplied = went.supplied;
   little = went.little;
+  unspent = went.unspent;
 }
 
 -- or that started something
@@ -503,6 +529,7 @@ went-started p workers w new kept rest taken others room x here = record {
   begun = ap begun_with rest;
   supplied = λ whole. kept-supply new kept w x (subst (λ (z : Parts). get_or z.workers.items w None ≡ Some x) (sym rest) here) (subst (λ (j : Log). RunsWhole new.config w j.past) (sym (ap (λ (z : Parts). z.journal) rest)) whole);
   little = λ whole n at spent e. absurd (not-longer (End w n (reply.Full spent) at) p.journal.past (sym (ap (λ (z : Parts). z.journal.past) rest) ∙ e));
+  unspent = λ n at answer e tells lonely. absurd (not-longer (End w n answer at) p.journal.past (sym (ap (λ (z : Parts). z.journal.past) rest) ∙ e));
 }
   where
     in-time : length new.journal.past ≡ length p.journal.past → length p.journal.past + left_to p.access w + 1 ≤ deadline p.config w p.journal.past → length new.journal.past ≤ deadline p.config w p.journal.past

@@ -29,6 +29,7 @@ use Rattle.bz_task.specs.declared.todo.Seen.TheVariants.{NoSwap}
 use Rattle.bz_task.specs.declared.todo.Todo.{Todo}
 use Rattle.bz_world.specs.Inside.Acted.{IsTold, IsAsking, MustTell}
 use Rattle.bz_world.specs.Inside.Alone.{HasWaited, AsksAlone}
+use Rattle.bz_world.specs.Inside.Due.{IsDue, TakesRightly, only_looks}
 use Rattle.bz_world.specs.Inside.Going.{end_in, wants_in}
 use Rattle.bz_world.specs.Inside.Laws.{AloneLaws, LonelyLaws, RoundLaws}
 use Rattle.bz_world.specs.Inside.Lonely.{WhereLonely, AsksBriefly}
@@ -40,6 +41,7 @@ use Rattle.bz_lone.specs.Prices.{coming}
 use Rattle.bz_lone.specs.Rounds.{stage_now}
 use Rattle.bz_lone.specs.Sum.{Spares}
 use Rattle.bz_running.specs.Kinds as kinds
+use Rattle.bz_running.specs.Kinds.{kind_of}
 use Rattle.bz_world.specs.Inside.Meant.{IsMeant}
 use Rattle.bz_world.specs.Inside.Paid.{begun_with, bound_in, errand_of, stock_of, used_in, used_of, IsPaidIn}
 use Rattle.bz_world.specs.WorldView.{HadFew, RunsWhole}
@@ -49,6 +51,7 @@ use Rattle.bz_world.specs.declared.parts.Parts.{Parts}
 use Rattle.bz_world.specs.declared.serving.OpenCall.{OpenCall}
 use Rattle.bz_sound.specs.Power.Times.{image_at_on}
 use Rattle.bz_world.proofs.Alone.{cause-none}
+use Rattle.bz_world.proofs.Due.{looks-only, not-lonely}
 use Rattle.bz_world.proofs.LonelyTold.{told-lonely, took-lonely}
 use Rattle.bz_world.proofs.Meant.{call-meant-told}
 use Rattle.bz_world.proofs.PaidSteps.{heard-in}
@@ -211,6 +214,18 @@ module _ (scenes : ScenesAreSeen) (slots : SlotsAreTaken) (laws : LonelyLaws) (l
     other : (v : ℕ) → v ≢ w → (since : ℕ) (opened : Open) → scene p.config p.journal.past after v since opened ≡ scene p.config p.journal.past told.between.story v since opened
     other v ne since opened = slots.others p.config p.journal.past told.between.story w v since opened p.slots left ne
 
+    -- a look-up has taken nothing more
+    still-right : TakesRightly p.config p.access.taken p.journal (record (stock_of p) { left = length left.free }) w y
+    still-right quiet lonely = elim (told.between.due (sym (ap (λ (z : OpenCall). z.effect) h.rest) ∙ quiet) lonely) [
+      | inl due ↦ inl (subst (λ (z : OpenCall). IsDue p.config p.journal z.call) (sym h.rest) due)
+      | inr none ↦ inr (record {
+        looks = ap (λ (z : OpenCall). only_looks z.call (kind_of y.task)) h.rest ∙ (ap (only_looks x.call) h.heard.kind ∙ none.looks);
+        thawed = ap (λ (z : OpenCall). z.froze) h.rest ∙ none.thawed;
+        same_taken = none.same_taken;
+        same_left = ap (λ (f : FreeSlots). length f.free) (slots-same (needs_of x.task) (needs_of y.task) p.slots left (told.tasked.laws.looks (looks-only x.call (kind_of x.task) none.looks)).needs h.heard.slots) ∙ none.same_left;
+      })
+    ]
+
     pub is-asking : (workers : Vec (Option OpenCall)) → length workers.items ≡ length p.workers.items → ((v : ℕ) → v ≢ w → get_or workers.items v None ≡ get_or p.workers.items v None) → IsAsking (record p { slots = left; workers = workers }) w y todo
     is-asking workers size rest = record {
       between = record {
@@ -220,14 +235,16 @@ module _ (scenes : ScenesAreSeen) (slots : SlotsAreTaken) (laws : LonelyLaws) (l
         taken = assumption told.between.taken;
         living = living;
         sound = told.between.sound;
+        leaves = told.between.leaves;
         free = still-free p.config (image_at_on p.journal.start p.journal.past) told.between.story w (needs_of x.task) (needs_of y.task) p.slots left h.heard.slots told.between.free;
         others = λ v ne. subst (IsSlot p.config p.access p.journal after p.owners.items (record (stock_of p) { left = length left.free }) v) (sym (rest v ne))
-            (slot-scenes p.config p.access p.journal told.between.story after p.owners.items (stock_of p) (record (stock_of p) { left = length left.free }) v (get_or p.workers.items v None) told.between.opened (other v ne) (λ k. refl) (λ is. ne (told.between.steps v is)) (told.between.others v ne));
+            (slot-scenes p.config p.access p.journal told.between.story after p.owners.items (stock_of p) (record (stock_of p) { left = length left.free }) v (get_or p.workers.items v None) told.between.opened (other v ne) (λ k. refl) (λ is. ne (told.between.steps v is)) (not-lonely laws.alone w v p.journal.past told.between.opened told.between.call_open.is_open ne) (told.between.others v ne));
         worker = told.between.worker;
         within = told.between.within;
         opened = told.between.opened;
         call_open = let o = told.between.call_open in record { is_open = o.is_open; call = o.call ∙ ap (λ (z : OpenCall). z.call) (sym h.rest); effect = o.effect ∙ ap (λ (z : OpenCall). z.effect) (sym h.rest); look = o.look; told = subst (λ (z : OpenCall). IsToldBy p.config p.journal told.between.opened z.had) (sym h.rest) o.told; wanted = λ quiet some. subst (NeedsAtLeast p.config p.journal.start p.journal.past told.between.opened) (sym h.heard.wants) (o.wanted quiet (omega (arith, some, h.heard.wants))) };
         idle = told.between.idle;
+        due = still-right;
         steps = told.between.steps;
       };
       tasked = tasked;

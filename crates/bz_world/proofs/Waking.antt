@@ -41,6 +41,7 @@ use Rattle.bz_world.proofs.Lonely.{none-in}
 use Rattle.bz_world.proofs.Recovered.{Learns}
 use Rattle.bz_world.proofs.Supplies.{shown-off}
 use Rattle.bz_world.proofs.Contained.{among-contains, contains-among}
+use Rattle.bz_world.proofs.LeavesKept.{same-leaves}
 use Rattle.bz_world.proofs.LeftSlots.{count-left}
 use Rattle.bz_world.proofs.Tabled.{tabled-plain}
 
@@ -62,6 +63,7 @@ module _ (b : Begins) (p : Parts) (k : IsOff p) (off : p.power ≡ power.Off) (r
     dark = record {
       tabled = let t = k.dark.tabled in tabled-plain p turned On tt (record { room = omega (arith, room); workers = refl; crew = refl; steps = omega (arith, t.steps); power = refl; rest = refl }) refl t;
       sound = b.follow p.config p.at_start p.journal k.dark.sound ((b.tells p.at_start (map_at_start p.config p.journal.start) p.journal.past k.dark.sound.once).off.0 (k.dark.tabled.power ∙ off));
+      leaves = (λ now. same-leaves _ _ _ _ refl, k.dark.leaves);
       none = k.dark.none;
       slots = nodes ∙ k.dark.slots;
       values = k.dark.values;
@@ -133,6 +135,7 @@ module _ (b : Ends) (p : Parts) (k : MustWake p) (order : IsInOrder p.slots) (ho
     };
     living = reborn.living holds;
     sound = b.follow p.config p.at_start p.journal k.recovering.dark.sound k.after;
+    leaves = (λ now. same-leaves _ _ _ _ refl, k.recovering.dark.leaves);
     free = record {
       nodes = reached.nodes;
       within = within;

@@ -2,6 +2,7 @@
 pub mod Alone
 pub mod Meant
 pub mod Paid
+pub mod Due
 pub mod Serving
 pub mod Lonely
 pub mod Kept

@@ -1,3 +1,4 @@
 pub mod WorldView
 pub mod Solo
+pub mod Leaves
 pub mod Inside

@@ -10,7 +10,7 @@ use Rattle.bz_call.specs.Pages.{is_page}
 use Rattle.bz_call.specs.declared.calls.Call.{Call}
 use Rattle.bz_call.specs.declared.calls.Call.TheVariants as call
 use Rattle.bz_call.specs.declared.replies.Reply.{Reply}
-use Rattle.bz_call.specs.declared.replies.Reply.TheVariants.{Full}
+use Rattle.bz_call.specs.declared.replies.Reply.TheVariants.{Exists, Missing, Value, Page, Full}
 use Rattle.bz_call.specs.declared.replies.Spent.{Spent}
 use Rattle.bz_call.specs.declared.replies.Spent.TheVariants.{Nodes, Swaps, Height}
 use Rattle.bz_content.specs.Content.{image_fault}
@@ -347,6 +347,18 @@ GetsBriefly config old w new =
     (n at : ℕ) (reply : Reply) (opened : Open) (key : List ℕ) → new.past ≡ End w n reply at ∷ old.past → open_call w old.past ≡ Some opened → opened.call ≡ call.Get key → IsLonely w old.past →
     acts_since w old.past ≤ 2 * get_reads config (image_at old.start at old.past) key
 
+-- a reply that tells of no change, and of no want
+abbrev pub tells_only : Reply → Bool
+tells_only Exists = true
+tells_only Missing = true
+tells_only (Value payload) = true
+tells_only (Page page next) = true
+tells_only other = false
+
+-- a call that is answered so, and beside which no other was open, has taken neither descriptors nor slots since its begin
+abbrev pub EndsUnspent : Log → ℕ → Log → Supply → Supply → Type 0
+EndsUnspent old w new begun supply = (n at : ℕ) (reply : Reply) → new.past ≡ End w n reply at ∷ old.past → tells_only reply ≡ true → IsLonely w old.past → supply ≡ begun
+
 -- a step of a worker: exactly one act of it, a flush exactly where that was said before; at most one effect; at most its
 -- call's End, which is a Full only where what that names has run out, and that of a lonely get only after few acts. A task takes at
 -- most as many slots as a split does: the one that this act ends, and the next one. What the next acts of the others are stays, and
@@ -372,6 +384,8 @@ pub record Steps (old : WorldView) (w : ℕ) (answer : Applied) (new : WorldView
   pub at_begin : new.at_begin ≡ old.at_begin
   pub supplied : RunsWhole new.config w struck → KeepsSupply new.at_begin new.supply
   pub little : RunsWhole new.config w struck → EndsFullOfLittle new.config (record old.log { past = struck }) w new.log new.at_begin
+  -- and where no other call was open beside it, whatever was evicted, it takes none for a reply that tells of no change
+  pub unspent : EndsUnspent (record old.log { past = struck }) w new.log new.at_begin new.supply
 
 -- the recovery goes on, or has ended with this act: its Ready follows directly
 abbrev pub EndsRecovery : Log → Applied → Log → Type 0

@@ -89,6 +89,7 @@ pub(crate) fn alone_laws()
     rivals::own_swaps_win();
     rivals::expected_stand();
     story::scenes_are_seen();
+    sound::loads_are_settled();
     paid_laws();
     round_laws();
 }
@@ -106,6 +107,7 @@ pub(crate) fn step_laws()
     sight::flushing_steps_flush();
     sight::own_words_are_hidden();
     story::scenes_are_seen();
+    bz_task::laws::ranges_stay();
     story::lives_go_on();
     story::quiet_marks_are_lawful();
     story::stores_are_told();
@@ -124,6 +126,9 @@ pub(crate) fn strike_laws()
 {
     lonely_laws();
     paid_laws();
+    lone::leaves_come_and_go();
+    bz_task::laws::fronts_stay();
+    bz_page::laws::views_say_what_images_say();
     sight::effects_take_place();
     sight::acts_pass();
     story::scenes_are_seen();

@@ -56,6 +56,7 @@ impl Model for World {
 
 impl World {
     ghost use Rattle.bz_world.specs.WorldView.{WorldView, IsWorker, new_view, image_view, IsOpenFault, IsBootFault, power_in, begin_answer, after_begin, flush_of, open_number, reply_of, pairs_in, recovery_acts, recovery_most, AreFinishing, IsApplied, KeepsApart, count_in};
+    ghost use Rattle.bz_world.specs.Leaves.{AreLeavesKept};
     ghost use Rattle.bz_world.specs.Solo.{RunsAlone};
 
     /// A world over fresh memory, in which nothing has happened.
@@ -121,6 +122,8 @@ impl World {
     pub fn journal(&self) -> &Journal
         ensures journal { result.now ≡ self.now.log }
         ensures sound { IsSound self.now.config self.now.at_start self.now.log }
+        // the tree has a leaf more only by the split of one, and one less only by a merge
+        ensures leaves { AreLeavesKept self.now.config self.now.at_start self.now.log }
         // a recovery is bounded
         ensures bounded { power_in self.now ≡ Recovering → recovery_acts self.now < recovery_most self.now.config }
         ensures unbroken { self.now.at_start ≡ On → IsUnbroken self.now.log.past → before.IsSound self.now.config self.now.log }

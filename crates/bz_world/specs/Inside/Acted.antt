@@ -33,10 +33,12 @@ use Rattle.bz_task.specs.declared.todo.Seen.TheVariants.{Swapped}
 use Rattle.bz_task.specs.declared.todo.Todo.{Todo}
 use Rattle.bz_task.specs.declared.todo.Todo.TheVariants.{Finish}
 use Rattle.bz_world.specs.Inside.Alone.{HearsAlone, AsksAlone}
+use Rattle.bz_world.specs.Inside.Due.{TakesRightly}
 use Rattle.bz_world.specs.Inside.Kept.{IsTabled, AreTaken, AreFree, IsAwake}
 use Rattle.bz_world.specs.Inside.Lonely.{WhereLonely, IsLonelyGet, AsksBriefly}
 use Rattle.bz_world.specs.Inside.Meant.{IsMeant}
 use Rattle.bz_world.specs.Inside.Paid.{no_extra, runner, stock_of, IsPaidFor}
+use Rattle.bz_world.specs.Leaves.{AreLeavesKept}
 use Rattle.bz_world.specs.WorldView.{mark_of, IsStruck, stepper}
 use Rattle.bz_world.specs.Inside.Serving.{IsCovered, IsSlot, IsOpened, IsTasked, MayGoOn}
 use Rattle.bz_world.specs.declared.parts.Parts.{Parts}
@@ -91,6 +93,7 @@ pub record IsBetween (p : Parts) (w : ℕ) (x : OpenCall) : Type 0 where
   pub taken : AreTaken p
   pub living : IsLiving p.config p.access p.journal story
   pub sound : IsSound p.config p.at_start p.journal
+  pub leaves : AreLeavesKept p.config p.at_start p.journal
   pub free : AreFree p.config (image_at_on p.journal.start p.journal.past) p.slots story.took
   pub others : (v : ℕ) → v ≢ w → IsSlot p.config p.access p.journal story p.owners.items (stock_of p) v (get_or p.workers.items v None)
   pub worker : 0 < w
@@ -98,6 +101,7 @@ pub record IsBetween (p : Parts) (w : ℕ) (x : OpenCall) : Type 0 where
   pub opened : Open
   pub call_open : IsOpened p.config p.journal w opened x
   pub idle : doing_of p.access w ≡ Idle
+  pub due : TakesRightly p.config p.access.taken p.journal (stock_of p) w x
   -- no other made the newest act
   pub steps : (v : ℕ) → runner p.config p.journal.past ≡ Some v → v ≡ w
 

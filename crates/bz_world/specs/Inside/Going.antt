@@ -31,7 +31,7 @@ use Rattle.bz_running.specs.Kinds.{Kind, kind_of}
 use Rattle.bz_running.specs.declared.running.AnyTask.{AnyTask}
 use Rattle.bz_slotted.specs.Readers.{live_of}
 use Rattle.bz_slotted.specs.ReadingLaws.{node_of}
-use Rattle.bz_sound.specs.Lonely.{acts_since}
+use Rattle.bz_sound.specs.Lonely.{IsLonely, acts_since}
 use Rattle.bz_sound.specs.Memory.Moments.{image_at}
 use Rattle.bz_sound.specs.Power.Replies.{IsRightReply}
 use Rattle.bz_sound.specs.Power.Spent.{IsSpent}
@@ -49,12 +49,13 @@ use Rattle.bz_word.specs.Statuses.{status}
 use Rattle.bz_world.specs.Inside.Acted.{IsBetween}
 use Rattle.bz_world.specs.Inside.Alone.{EndsAlone}
 use Rattle.bz_world.specs.Inside.Beginning.{supply_of}
+use Rattle.bz_world.specs.Inside.Due.{IsDue, IsDueAlone, TakesRightly}
 use Rattle.bz_world.specs.Inside.Kept.{IsAwake}
 use Rattle.bz_world.specs.Inside.Meant.{IsMeant}
-use Rattle.bz_world.specs.Inside.Paid.{begun_with, bound_in, errand_of, is_merge, no_extra, used_in, IsCounted, IsFit, IsPaidFor, HasToSpare, HasARound, HasARoundAs}
+use Rattle.bz_world.specs.Inside.Paid.{begun_with, bound_in, errand_of, is_merge, no_extra, stock_of, used_in, IsCounted, IsFit, IsPaidFor, HasToSpare, HasARound, HasARoundAs}
 use Rattle.bz_world.specs.Inside.Room.{LacksRoomFor}
 use Rattle.bz_world.specs.Inside.Lonely.{WhereLonely, IsNotLonely, IsLonelyGet, HasLooked}
-use Rattle.bz_world.specs.WorldView.{deadline, GoesOn, Spends, HadFew, HasRunOut, EndsFullOfLittle, EndsFullRightly, GetsBriefly, KeepsSupply, RunsWhole, is_delete}
+use Rattle.bz_world.specs.WorldView.{deadline, GoesOn, Spends, HadFew, HasRunOut, EndsFullOfLittle, EndsFullRightly, EndsUnspent, GetsBriefly, KeepsSupply, RunsWhole, is_delete}
 use Rattle.bz_world.specs.Inside.Serving.{IsTasked, IsWanted, MayGoOn}
 use Rattle.bz_world.specs.declared.answers.Applied.{Applied}
 use Rattle.bz_world.specs.declared.parts.Parts.{Parts}
@@ -240,6 +241,7 @@ pub record MustTakeOn (p : Parts) (w : ℕ) (task : AnyTask) (way : Option Path)
   pub lonely : WhereLonely p.journal.past w on.serving.call (IsLonelyGet p.access p.journal.past on.between.story w (record on.serving { task = task; path = way; had = had }) on.between.opened)
   pub meant : IsMeant (record on.serving { task = task; path = way; had = had }) (known p w on).past
   pub paid : IsPaidFor p w (record on.serving { task = task; path = way; had = had }) 0 (taken_for asked) (known p w on).past
+  pub due : TakesRightly p.config p.access.taken p.journal (stock_of p) w (record on.serving { task = task; path = way; had = had })
 
 -- the way to its leaf was found, which is to be read whole
 pub record MustRead (p : Parts) (w : ℕ) (path : Path) : Type 0 where
@@ -249,6 +251,8 @@ pub record MustRead (p : Parts) (w : ℕ) (path : Path) : Type 0 where
   pub other : IsNotLonely p.journal.past w on.serving.call
   pub spares : HasToSpare p w on.serving (known p w on).past (λ r q. most_of_leaf r + coming r q (errand_of on.serving) kinds.ReadWhole)
   pub look : on.serving.effect ≡ None → IsLookOf on.serving.call kinds.ReadWhole
+  -- for a page, or to make it anew
+  pub due : on.serving.effect ≡ None → IsLonely w p.journal.past → (is_page on.serving.call ≡ true) ⊎ IsDue p.config p.journal on.serving.call
 
 -- its task knows what it should, and has ended so
 abbrev pub EndsSo : (p : Parts) (w : ℕ) → MustGoOn p w → Outcome → Type 0
@@ -323,6 +327,7 @@ pub record MustReadCrowded (p : Parts) (w : ℕ) : Type 0 where
   pub reads : MustReadWhole p w
   pub write : is_read reads.on.serving.call ≡ false
   pub spares : HasToSpare p w reads.on.serving (known p w reads.on).past (λ r q. most_of_leaf r + coming r q (errand_of reads.on.serving) kinds.ReadWhole)
+  pub due : IsDueAlone p.config p.journal w reads.on.serving.call
 
 -- a task that makes its change, which is yet to begin
 pub record MustChange (p : Parts) (w : ℕ) (had : Option (List ℕ)) (task : AnyTask) : Type 0 where
@@ -339,6 +344,7 @@ pub record MustChange (p : Parts) (w : ℕ) (had : Option (List ℕ)) (task : An
   pub silent : makes_no_change task ≡ false
   -- it ends for want of room only where there is none, in a clean round
   pub lacks : (z : Scene) → means_of task outcomes.NeedsRoom z → IsAlone 0 (known p w reads.on).past → 0 < stage_now (errand_of reads.on.serving) (known p w reads.on).past
+  pub due : IsDueAlone p.config p.journal w reads.on.serving.call
 
 -- that leaf is frozen, or has no room for what the call puts there
 pub record MustRestructure (p : Parts) (w : ℕ) (view : LeafView) : Type 0 where
@@ -393,6 +399,7 @@ pub record MustMerge (p : Parts) (w : ℕ) (path : Path) (view : LeafView) : Typ
   pub frozen : on.serving.effect ≡ None → (status view.status).frozen ≡ true
   pub write : on.serving.effect ≡ None → is_read on.serving.call ≡ false
   pub thawed_call : IsThawed (errand_of on.serving)
+  pub due : on.serving.effect ≡ None → IsDueAlone p.config p.journal w on.serving.call
   pub spares : HasToSpare p w on.serving (known p w on).past (λ r q. most_of_merge r + coming r q (errand_of on.serving) kinds.Merge)
 
 -- its split has ended because the node above lacked the room, and this is the split of that one, which is yet to begin
@@ -509,3 +516,4 @@ pub record WentOn (old : Parts) (w : ℕ) (answer : Applied) (new : Parts) : Typ
   pub begun : begun_with new ≡ begun_with old
   pub supplied : RunsWhole new.config w old.journal.past → KeepsSupply (begun_with new) (supply_of new)
   pub little : RunsWhole new.config w old.journal.past → EndsFullOfLittle new.config old.journal w new.journal (begun_with new)
+  pub unspent : EndsUnspent old.journal w new.journal (begun_with new) (supply_of new)

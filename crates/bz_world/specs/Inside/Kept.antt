@@ -26,6 +26,7 @@ use Rattle.bz_swap.specs.TakenStatuses.{IsTaken, BegunAreTaken}
 use Rattle.bz_world.specs.Inside.Lonely.{IsLonelyIn}
 use Rattle.bz_world.specs.Inside.Paid.{stock_of}
 use Rattle.bz_world.specs.Inside.Serving.{IsSlot}
+use Rattle.bz_world.specs.Leaves.{AreLeavesKept}
 use Rattle.bz_world.specs.declared.parts.Parts.{Parts}
 
 -- so many pairs the map has: fewer than a list has room for at first, and each mark adds at most one
@@ -84,6 +85,7 @@ pub record IsAwake (p : Parts) : Type 0 where
   pub taken : AreTaken p
   pub living : IsLiving p.config p.access p.journal story
   pub sound : IsSound p.config p.at_start p.journal
+  pub leaves : AreLeavesKept p.config p.at_start p.journal
   pub free : AreFree p.config (image_at_on p.journal.start p.journal.past) p.slots story.took
   pub workers : (w : ℕ) → IsSlot p.config p.access p.journal story p.owners.items (stock_of p) w (get_or p.workers.items w None)
   pub lonely : (w : ℕ) → IsLonelyIn p.access p.journal.past story p.workers.items w
@@ -92,6 +94,7 @@ pub record IsAwake (p : Parts) : Type 0 where
 pub record IsDark (p : Parts) : Type 0 where
   pub tabled : IsTabled p
   pub sound : IsSound p.config p.at_start p.journal
+  pub leaves : AreLeavesKept p.config p.at_start p.journal
   pub none : (w : ℕ) → get_or p.workers.items w None ≡ None
   pub slots : p.slots.nodes ≡ p.config.nodes
   -- the values to which the durable words resolved when the power failed
@@ -121,5 +124,6 @@ IsKeptIn power.Recovering p = IsStarted p
 pub record IsKept (p : Parts) : Type 0 where
   pub tabled : IsTabled p
   pub sound : IsSound p.config p.at_start p.journal
+  pub leaves : AreLeavesKept p.config p.at_start p.journal
   pub words : memory_words p.access ≡ words_after_marks p.journal.start p.journal.past
   pub state : IsKeptIn p.power p

@@ -18,6 +18,7 @@ use Rattle.bz_rivals.specs.Wins.{OwnSwapsWin, ExpectedStand}
 use Rattle.bz_lone.specs.FromRounds.Due.{LoneLeavesAreDue, LoneAscentsAreDue}
 use Rattle.bz_lone.specs.FromRounds.Levels.{LoneAscentsAreBelowTheStage}
 use Rattle.bz_lone.specs.FromRounds.Stands.{LoneViewsTellTheLeaf}
+use Rattle.bz_lone.specs.FromTally.Laws.{LeavesComeAndGo}
 use Rattle.bz_lone.specs.FromRounds.Viewed.{LoneViewsTellTheStage, LoneKeyViewsTellTheStage}
 use Rattle.bz_sight.specs.Acts.{FlushingStepsFlush, QuietStepsPass, StepsLeaveCaches, StoringStepsStore}
 use Rattle.bz_sight.specs.Effects.{EffectsTakePlace}
@@ -27,12 +28,13 @@ use Rattle.bz_sound.specs.Lonely.{LonelyCallsAreAlone}
 use Rattle.bz_sound.specs.Memory.CallLaws.{OpenCallsAreKept}
 use Rattle.bz_sound.specs.Memory.OpenCallLaws.{EffectsStayOpen}
 use Rattle.bz_sound.specs.Power.CallLaws.{OpenCallsAreLast, OpenCallsLeaveRoom}
-use Rattle.bz_sound.specs.Power.Growth.{BeginsFollow, EffectsFollowActs, EndsFollow, FlushesFollow, PageEndsFollow, QuietActsFollow}
+use Rattle.bz_sound.specs.Power.Growth.{BeginsFollow, EffectsFollowActs, EndsFollow, FlushesFollow, LoadsAreSettled, PageEndsFollow, QuietActsFollow}
 use Rattle.bz_sound.specs.Power.ImageLaws.{AnswersComeFromTheImage, ChangesFollow, PagesComeFromTheImage, SameContentDecodes, SpentAnswersFull}
 use Rattle.bz_stage.specs.Laws.{LackingLeavesSay}
 use Rattle.bz_story.specs.Laws.{EffectsAreTold, FlushesAreTold, LivesGoOn, QuietMarksAreLawful, ScenesAreSeen, StoresAreTold}
 use Rattle.bz_swap.specs.LoneRuns.{LoneStepsAreAllowed}
 use Rattle.bz_swap.specs.TakenStatuses.{BegunStayTaken, TakenStatusesStay}
+use Rattle.bz_task.specs.Laws.{FrontsStay, RangesStay}
 
 -- by which the journal stays sound
 pub record JournalLaws : Type 0 where
@@ -108,11 +110,13 @@ pub record AloneLaws : Type 0 where
   pub scenes : ScenesAreSeen
   pub paid : PaidLaws
   pub rounds : RoundLaws
+  pub settled : LoadsAreSettled
 
 -- by which an act without effect leads on
 pub record StepLaws : Type 0 where
   pub journal : JournalLaws
   pub scenes : ScenesAreSeen
+  pub ranges : RangesStay
   pub lives : LivesGoOn
   pub quiet : QuietMarksAreLawful
   pub stores : StoresAreTold
@@ -144,6 +148,9 @@ pub record StrikeLaws : Type 0 where
   pub last : OpenCallsAreLast
   pub pass : ActsPass
   pub stay : EffectsStayOpen
+  pub leaves : LeavesComeAndGo
+  pub fronts : FrontsStay
+  pub said : ViewsSayWhatImagesSay
   pub lonely : LonelyLaws
   pub paid : PaidLaws
 

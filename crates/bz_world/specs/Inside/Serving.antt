@@ -28,6 +28,7 @@ use Rattle.bz_task.specs.declared.todo.Todo.{Todo}
 use Rattle.bz_task.specs.declared.todo.Todo.TheVariants as todo
 use Rattle.bz_word.specs.declared.entry.Entry.{Entry}
 use Rattle.bz_world.specs.Inside.Alone.{WaitsAlone, untold}
+use Rattle.bz_world.specs.Inside.Due.{TakesRightly}
 use Rattle.bz_world.specs.Inside.Meant.{IsMeant}
 use Rattle.bz_world.specs.Inside.Paid.{Stock, IsPaidIn, errand_of, no_extra, runner}
 use Rattle.bz_world.specs.WorldView.{is_delete}
@@ -144,6 +145,7 @@ pub record IsServing (c : Config) (m : SwapMemory) (log : Log) (story : Story) (
   pub alone : WaitsAlone m (doing_of m w) x.task (scene c log.past story w call_open.look.since opened).past
   pub meant : IsMeant x (scene c log.past story w call_open.look.since opened).past
   pub paid : runner c log.past ≡ Some w → IsPaidIn c m log.past stock w (errand_of x) x.task (untold m (doing_of m w)) no_extra (scene c log.past story w call_open.look.since opened).past
+  pub due : TakesRightly c m.taken log stock w x
 
 -- no call of the worker is open, it does nothing, and it has stored into each slot that it took
 pub record IsAtRest (m : SwapMemory) (log : Log) (story : Story) (w : ℕ) : Type 0 where

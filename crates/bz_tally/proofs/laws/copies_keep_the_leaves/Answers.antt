@@ -8,5 +8,6 @@ returns c = copies (record {
   root = c.links_turn.ensures.root;
   child = c.links_turn.ensures.child;
   still = c.frozen_leaves_stand_still.ensures;
+  grows = c.consolidations_keep_the_content.ensures;
   count = c.consolidations_keep_the_leaves.ensures;
 })

@@ -11,5 +11,6 @@ returns c = root-parts (record {
   turn = c.links_turn_and_nodes_freeze.ensures.root;
   roots = c.roots_are_reached.ensures;
   over = c.roots_stand_at_levels.ensures;
+  grows = c.root_splits_keep_the_content.ensures;
   count = c.root_leaf_splits_add_one.ensures;
 })

@@ -9,5 +9,6 @@ returns c = halves-inner (record {
   root = c.links_turn_and_nodes_freeze.ensures.root;
   child = c.links_turn_and_nodes_freeze.ensures.child;
   wholes = c.parents_of_halves_are_whole.ensures;
+  grows = c.splits_keep_the_content.ensures;
   count = c.leaf_splits_add_one.ensures;
 })

@@ -10,5 +10,6 @@ returns c = halves-below (record {
   child = c.links_turn_and_nodes_freeze.ensures.child;
   still = c.frozen_leaves_stand_still.ensures;
   wholes = c.parents_of_halves_are_whole.ensures;
+  grows = c.splits_keep_the_content.ensures;
   count = c.leaf_splits_add_one.ensures;
 })

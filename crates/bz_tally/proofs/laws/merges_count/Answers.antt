@@ -18,5 +18,6 @@ returns c = merges-count (record {
     join = c.children_join.ensures;
     leaf = record { frozen = c.frozen_nodes_stay.ensures; shown = c.same_records_show_the_same.ensures; seen = c.seen_leaves_are_whole.ensures; leaves = c.leaves_are_in_trees.ensures };
   };
+  grows = c.merges_keep_the_content.ensures;
   count = c.merges_take_one.ensures;
 })

@@ -11,5 +11,6 @@ returns c = root-halves (record {
   roots = c.roots_are_reached.ensures;
   still = c.frozen_leaves_stand_still.ensures;
   over = c.roots_stand_over_two.ensures;
+  grows = c.root_splits_keep_the_content.ensures;
   count = c.root_leaf_splits_add_one.ensures;
 })

@@ -1,4 +1,4 @@
-use Rattle.std.proofs.Common.{sym, ap, ◌∙◌, inl}
+use Rattle.std.proofs.Common.{sym, ap, ◌∙◌, inl, inr}
 use Rattle.bz_running.specs.Kinds as kinds
 use Rattle.bz_world.specs.Inside.Going.{path_in}
 use Rattle.bz_world.proofs.Spared.{writes-look}
@@ -12,6 +12,7 @@ read_leaf-requires-clause-path c = let r = c.requires.way.reads in record {
   leads = r.leads c.found_path-path.result (ap path_in (sym (slot-is c.args.parts.now c.args.w r.on c.index.result.now c.index.ensures)) ∙ c.found_path-path.ensures);
   other = r.other;
   spares = c.requires.way.spares;
+  due = λ quiet lonely. inr (c.requires.way.due lonely);
   look = λ quiet. writes-look r.on.serving.call kinds.ReadWhole c.requires.way.write;
 }
 

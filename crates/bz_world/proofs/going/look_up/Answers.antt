@@ -3,6 +3,7 @@ use Rattle.std.proofs.lemmas.List.{get_or-set_same}
 use Rattle.std.specs.Vec.{with_item}
 use Rattle.bz_call.specs.Map.{key_of}
 use Rattle.bz_task.specs.declared.todo.Todo.TheVariants.{Read}
+use Rattle.bz_world.specs.Inside.Due.{only_looks}
 use Rattle.bz_world.specs.Inside.Going.{known, with_task}
 use Rattle.bz_world.specs.declared.serving.OpenCall.{OpenCall}
 use Rattle.bz_world.proofs.Spared.{not-ended, round-room, seeks}
@@ -11,7 +12,7 @@ use Rattle.bz_world.specs.Inside.Paid.{bound_in, errand_of, used_in}
 use Rattle.bz_running.specs.Kinds as kinds
 use Rattle.bz_running.specs.Kinds.{is_renewal}
 use Rattle.bz_lone.specs.Errands.{IsLookOf}
-use Rattle.bz_world.proofs.TakingOn.{looks-anew, taken-asks, lookup-taken, none-wanted, slot-is, call-is, has-filled, went-started, starts-always}
+use Rattle.bz_world.proofs.TakingOn.{looks-anew, looks-right, taken-asks, lookup-taken, none-wanted, slot-is, call-is, has-filled, went-started, starts-always}
 use Rattle.bz_world.proofs.going.look_up.Goals as goal
 
 pub start-requires-clause-asks : goal.start-requires-clause-asks
@@ -26,10 +27,12 @@ start-requires-clause-asks c = taken-asks c.args.parts.now c.args.w c.seek-task.
       look = λ quiet. subst (IsLookOf c.requires.on.serving.call) (sym c.seek-task.ensures.kind) (seeks c.requires.on.serving.call);
       meant = λ quiet. inl (record { slots = c.seek-task.ensures.wants; swaps = inl c.seek-task.ensures.swaps });
       later = λ at is. ap is_renewal c.seek-task.ensures.kind;
+      small = λ merge. absurd (let other : kinds.Seek ≡ kinds.Merge = sym c.seek-task.ensures.kind ∙ merge in cc other);
     })
     (λ r counted. c.start_laws.ensures.lone.rounds.begin r c.args.parts.now.access c.args.w (errand_of c.requires.on.serving) c.seek-task.result (used_in r c.args.parts.now c.args.w) (bound_in r c.args.parts.now c.args.w) 2 (known c.args.parts.now c.args.w c.requires.on).past
     (known c.args.parts.now c.args.w (looks-anew c.args.parts.now c.args.w c.requires.on)).past
-    (record { kind = c.seek-task.ensures.kind; left = omega (arith, c.seek-task.ensures.left); goes = not-ended c.seek-task.result (Read 2) c.laws.ensures c.seek-task.ensures.asks (λ e. cc e); config = refl; now = refl; since = refl; image = refl }) (c.requires.pays r counted)))
+    (record { kind = c.seek-task.ensures.kind; left = omega (arith, c.seek-task.ensures.left); goes = not-ended c.seek-task.result (Read 2) c.laws.ensures c.seek-task.ensures.asks (λ e. cc e); config = refl; now = refl; since = refl; image = refl }) (c.requires.pays r counted))
+    (looks-right c.args.parts.now c.args.w (looks-anew c.args.parts.now c.args.w c.requires.on) c.seek-task.result None (ap (only_looks c.requires.on.serving.call) c.seek-task.ensures.kind)))
     c.set_task.new.slot (c.set_task.ensures ∙ ap (λ (z : Option OpenCall). with_task z c.seek-task.result None) (slot-is c.args.parts.now c.args.w c.requires.on c.index_mut.result.now c.index_mut.ensures.value))
     c.requires.on.between.call_open.told c.start_laws.ensures.lone c.requires.other (Read 2) (λ e. absurd (cc e)) refl
 

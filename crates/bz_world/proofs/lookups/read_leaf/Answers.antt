@@ -1,4 +1,4 @@
-use Rattle.std.proofs.Common.{◌≡◌, refl, sym, ap, subst, ◌∙◌, inl, Option, Some, None}
+use Rattle.std.proofs.Common.{◌≡◌, refl, sym, ap, subst, ◌∙◌, inl, inr, Option, Some, None}
 use Rattle.std.specs.Vec.{with_item}
 use Rattle.bz_call.specs.Map.{key_of}
 use Rattle.bz_task.specs.Outcomes.{IsPath}
@@ -6,11 +6,12 @@ use Rattle.bz_world.specs.Inside.Going.{known, with_task}
 use Rattle.bz_world.specs.declared.serving.OpenCall.{OpenCall}
 use Rattle.bz_world.proofs.Spared.{task-paid}
 use Rattle.bz_world.proofs.Paid.{within-of}
+use Rattle.bz_world.specs.Inside.Due.{only_looks}
 use Rattle.bz_world.specs.Inside.Meant.{IsMeant}
 use Rattle.bz_running.specs.Kinds as kinds
 use Rattle.bz_running.specs.Kinds.{is_renewal}
 use Rattle.bz_lone.specs.Errands.{IsLookOf}
-use Rattle.bz_world.proofs.TakingOn.{task-begins, lookup-taken, none-wanted, slot-is, call-is, known-scene, went-anew}
+use Rattle.bz_world.proofs.TakingOn.{task-begins, lookup-taken, looks-right, none-wanted, slot-is, call-is, known-scene, went-anew}
 use Rattle.bz_world.proofs.lookups.read_leaf.Goals as goal
 
 pub begin_task-requires-clause-begins : goal.begin_task-requires-clause-begins
@@ -21,7 +22,11 @@ begin_task-requires-clause-begins c = task-begins c.args.parts.now c.args.w c.re
     (none-wanted c.args.parts.now c.args.w c.requires.path.on c.read_leaf-task.result c.read_leaf-task.ensures.wants) (λ key get lonely. absurd (c.requires.path.other key get lonely))
     meant
     (task-paid c.start_laws.ensures.lone.rounds c.args.parts.now c.args.w c.requires.path.on c.read_leaf-task.result (Some c.args.path) c.requires.path.on.serving.had kinds.ReadWhole c.read_leaf-task.ensures.kind c.laws.ensures c.read_leaf-task.ensures.asks c.read_leaf-task.ensures.made
-    meant (λ quiet merge. absurd (cc merge)) c.requires.path.spares))
+    meant (λ quiet merge. absurd (cc merge)) c.requires.path.spares)
+    (λ quiet lonely. elim (c.requires.path.due quiet lonely) [
+      | inl page ↦ looks-right c.args.parts.now c.args.w c.requires.path.on c.read_leaf-task.result (Some c.args.path) (ap (only_looks c.requires.path.on.serving.call) c.read_leaf-task.ensures.kind ∙ page) quiet lonely
+      | inr due ↦ inl due
+    ]))
     c.set_task.new.slot (c.set_task.ensures ∙ ap (λ (z : Option OpenCall). with_task z c.read_leaf-task.result (Some c.args.path)) (slot-is c.args.parts.now c.args.w c.requires.path.on c.index_mut.result.now c.index_mut.ensures.value))
     c.requires.path.on.between.call_open.told c.start_laws.ensures.lone c.requires.path.other refl c.read_leaf-task.ensures.silent (λ e. cc (c.read_leaf-task.ensures.kind, e))
   where
@@ -32,6 +37,7 @@ begin_task-requires-clause-begins c = task-begins c.args.parts.now c.args.w c.re
       look = λ quiet. subst (IsLookOf c.requires.path.on.serving.call) (sym c.read_leaf-task.ensures.kind) (c.requires.path.look quiet);
       meant = λ quiet. inl (record { slots = c.read_leaf-task.ensures.wants; swaps = inl c.read_leaf-task.ensures.swaps });
       later = λ at is. ap is_renewal c.read_leaf-task.ensures.kind;
+      small = λ merge. absurd (let other : kinds.ReadWhole ≡ kinds.Merge = sym c.read_leaf-task.ensures.kind ∙ merge in cc other);
     }
 
     key : c.key_of.result ≡ key_of c.requires.path.on.serving.call

@@ -1,5 +1,6 @@
 use Rattle.std.proofs.Common.{◌≡◌, ℕ, true, List, refl, sym, ap, subst, ◌∙◌, inl, inr}
 use Rattle.std.proofs.lemmas.Bool.{true≢false}
+use Rattle.bz_call.specs.Pages.{is_page}
 use Rattle.bz_call.specs.declared.calls.Call.TheVariants.{Page}
 use Rattle.bz_world.specs.Inside.Going.{froze_in, LooksUpIn}
 use Rattle.bz_world.proofs.Spared.{writes-look, way-read, finds}
@@ -15,6 +16,10 @@ read_frozen-requires-clause-path c = record {
   leads = c.requires.path.leads;
   other = λ key get lonely. absurd (true≢false (c.if-has_frozen.ensures ∙ (ap froze_in (slot-is c.args.parts.now c.args.w c.requires.path.on c.index.result.now c.index.ensures) ∙ (c.requires.path.on.lonely key get lonely).get.thawed)));
   look = λ quiet. writes-look c.requires.path.on.serving.call kinds.ReadWhole (c.requires.path.on.fit.thawed froze);
+  due = λ quiet lonely. elim (c.requires.path.on.between.due quiet lonely) [
+    | inl due ↦ inr due
+    | inr none ↦ absurd (true≢false (sym froze ∙ none.thawed))
+  ];
   spares = way-read c.round_laws.ensures c.args.parts.now c.args.w c.args.path c.requires.path (inr (inr froze));
 }
   where
@@ -30,6 +35,7 @@ read_leaf-requires-clause-path c =
       leads = c.requires.path.leads;
       other = λ key get lonely. absurd (cc (page, get));
       look = λ quiet. subst (λ z. IsLookOf z kinds.ReadWhole) (sym page) (inr refl);
+      due = λ quiet lonely. inl (ap is_page page);
       spares = way-read c.round_laws.ensures c.args.parts.now c.args.w c.args.path c.requires.path (inr (inl (ap is_read page)));
     }
 

@@ -34,6 +34,7 @@ read_leaf-requires-clause-path c =
       other = λ key get lonely. absurd (cc (call-is c.args.parts.now c.args.w e.had.on c.index.result.now c.called-call.result c.index.ensures c.called-call.ensures, c.in-Delete.is, get));
       spares = after-read c.round_laws.ensures c.args.parts.now c.args.w e.had.on (ap is_some e.had.effect) (ended-spares c.round_laws.ensures c.args.parts.now c.args.w e.had.on (Path c.in-Path.path) kinds.Seek kind refl ended (λ e. cc e) e.paid);
       look = λ quiet. absurd (cc (e.had.effect, quiet));
+      due = λ quiet lonely. absurd (cc (e.had.effect, quiet));
     }
 
 pub settle_small-requires-clause-read : goal.settle_small-requires-clause-read

@@ -32,5 +32,6 @@ merge-requires-clause-merge c = let due = c.is_due.ensures.due.0 c.if-is_due.tru
   frozen = λ quiet. absurd (cc (c.requires.read.had.effect, quiet));
   write = λ quiet. absurd (cc (c.requires.read.had.effect, quiet));
   thawed_call = c.requires.read.had.on.fit.thawed;
+  due = λ quiet. absurd (cc (c.requires.read.had.effect, quiet));
   spares = after-merge c.round_laws.ensures c.args.parts.now c.args.w c.requires.read.had.on (ap is_some c.requires.read.had.effect) c.requires.read.spares;
 }

@@ -3,7 +3,7 @@ use Rattle.std.specs.Prelude.{IsSome}
 use Rattle.bz_running.proofs.Ends.{looks-take-nothing, renewals-take-one-swap, ends-so}
 use Rattle.bz_running.proofs.Going.{last-swap-publishes, goes-on-in-room}
 use Rattle.bz_running.proofs.Heights.{filled-up}
-use Rattle.bz_running.proofs.Made.{made-stays, merge-stays}
+use Rattle.bz_running.proofs.Made.{made-stays, merge-stays, small-stays}
 use Rattle.bz_running.proofs.Rising.{rises-on}
 use Rattle.bz_running.proofs.Statements.{takes-few, wants-few, publishes-last}
 use Rattle.bz_running.proofs.running.AnyTask.laws.Goals as goal
@@ -13,6 +13,7 @@ returns c = let e = c.ended-ended.ensures in let l = c.learnt.ensures in let a =
   stable = l.stable;
   made_for = made-stays c.views_stay.ensures c.args.self.now;
   merge_for = merge-stays c.args.self.now;
+  small_for = small-stays c.views_stay.ensures c.args.self.now;
   askable = l.askable;
   cause = l.cause;
   few = takes-few c.consolidations_take_one_slot.ensures c.merges_take_two_slots.ensures c.args.self.now l.few;
