@@ -1,4 +1,5 @@
-//! The tallest tree, made word by word: an insert into its full leaf, below inner nodes that are all full, is answered Full(Height).
+//! Tall trees, made word by word, with a full leaf below inner nodes that are all full. Of the tallest one an insert there is answered
+//! Full(Height). Of one that is a level lower it splits the leaf and every node above it, and no insert alone costs more.
 //!
 //! On the path of the least key the inner node of each level has a first child, which the path goes on to, and nineteen more.
 //! Below each of these hangs a chain of inner nodes with one child, down to an empty leaf. A node of the path comes right before
@@ -9,7 +10,7 @@ ghost use Rattle.bz_layout.specs.Addresses.{words_of};
 
 use super::bench::{Answer, begin, key, payload, steps};
 use bz_call::Call;
-use bz_layout::{Config, MAX_LEVELS, NODE_WORDS};
+use bz_layout::{Config, MAX_LEVELS, NODE_WORDS, SPLIT_SLOTS};
 use bz_world::{Applied, Event, World};
 use std::alloc::Global;
 use std::process::Abort;
@@ -132,17 +133,17 @@ fn put_chain(words: &mut Vec<u64>, config: &Config, slot: u32, levels: u32, low:
 }
 
 // The bound after a chain: the key of the next one, or the end of the node's range.
-fn bound_after(level: u32, chain: u32) -> Bound {
+fn bound_after(level: u32, chain: u32, top: u32) -> Bound {
     if chain < CHAINS {
         Some((level, chain.saturating_add(1)))
     } else {
-        above(level)
+        above(level, top)
     }
 }
 
-// The end of the range of the path's node at a level: none for the root.
-fn above(level: u32) -> Bound {
-    if level < MAX_LEVELS - 1 {
+// The end of the range of the path's node at a level: none for the root, which stands at the top one.
+fn above(level: u32, top: u32) -> Bound {
+    if level < top {
         Some((level.saturating_add(1), 1))
     } else {
         None
@@ -156,11 +157,11 @@ fn next_slot(slot: u32, level: u32) -> u32 {
 }
 
 // The path's node at a level, with its chains.
-fn put_path(words: &mut Vec<u64>, config: &Config, slot: u32, level: u32)
+fn put_path(words: &mut Vec<u64>, config: &Config, slot: u32, level: u32, top: u32)
     ensures { length words.new.items ≡ length words.old.items }
 {
     let node = node_at(config, slot);
-    put_front(words, node, level, CHAINS + 1, None, above(level));
+    put_front(words, node, level, CHAINS + 1, None, above(level, top));
     put_status(words, node, CHAINS + 1, 5 * CHAINS + 1);
     put_first(words, node, next_slot(slot, level));
     for chain in 1..=CHAINS {
@@ -174,17 +175,17 @@ fn put_path(words: &mut Vec<u64>, config: &Config, slot: u32, level: u32)
             first,
             level,
             Some((level, chain)),
-            bound_after(level, chain),
+            bound_after(level, chain, top),
         );
     }
 }
 
 // The leaf of the path: thirty-nine records of three words.
-fn put_leaf(words: &mut Vec<u64>, config: &Config, slot: u32)
+fn put_leaf(words: &mut Vec<u64>, config: &Config, slot: u32, top: u32)
     ensures { length words.new.items ≡ length words.old.items }
 {
     let node = node_at(config, slot);
-    put_front(words, node, 0, 39, None, above(0));
+    put_front(words, node, 0, 39, None, above(0, top));
     put_status(words, node, 39, 78);
     for number in 0..39u32 {
         let offset = (NODE_WORDS - 2).saturating_sub(number.saturating_mul(2));
@@ -196,21 +197,21 @@ fn put_leaf(words: &mut Vec<u64>, config: &Config, slot: u32)
     }
 }
 
-// The tree, level by level from the root, in fresh memory.
-fn put_tree(words: &mut Vec<u64>, config: &Config)
+// The tree, level by level from the root, which stands at this one, in fresh memory.
+fn put_tree(words: &mut Vec<u64>, config: &Config, top: u32)
     ensures { length words.new.items ≡ length words.old.items }
 {
     let mut slot = 0u32;
-    for down in 1..MAX_LEVELS {
-        let level = MAX_LEVELS - down;
-        put_path(words, config, slot, level);
+    for down in 0..top {
+        let level = top.saturating_sub(down);
+        put_path(words, config, slot, level, top);
         slot = next_slot(slot, level);
     }
-    put_leaf(words, config, slot);
+    put_leaf(words, config, slot, top);
 }
 
 // A world over the tree, once it has recovered.
-fn tall(rt: &impl Abort, alloc: Global, nodes: u32) -> World {
+fn tall(rt: &impl Abort, alloc: Global, nodes: u32, top: u32) -> World {
     let numbers = Config {
         nodes,
         swaps: 64,
@@ -221,7 +222,7 @@ fn tall(rt: &impl Abort, alloc: Global, nodes: u32) -> World {
     };
     let config = World::open(alloc, &numbers).expect(rt, "a world").config();
     let mut words = bz_layout::fresh(alloc, &config).expect(rt, "the words");
-    put_tree(&mut words, &config);
+    put_tree(&mut words, &config, top);
     let mut world = World::boot(alloc, &config, &words).expect(rt, "a world");
     assert_eq!(rt; world.apply(Event::On), Applied::On);
     while_recovering(rt, &mut world);
@@ -245,11 +246,31 @@ fn while_recovering(rt: &impl Abort, world: &mut World) {
 fn a_tree_of_the_greatest_height_takes_no_more_leaves(rt: HostRuntime) {
     // also where no slot is left
     for nodes in [2_048, 1_266] {
-        let mut world = tall(&rt, rt.alloc(), nodes);
+        let mut world = tall(&rt, rt.alloc(), nodes, MAX_LEVELS - 1);
         assert_eq!(rt; world.pairs(), 39);
         let insert = Call::Insert(key(&rt, b"a40"), payload(&rt, b"v"));
         assert!(rt; begin(&mut world, 1, insert));
         let (_, answer) = steps(&mut world, 1, 40_000);
         assert_eq!(rt; answer, Some(Answer::FullHeight));
     }
+}
+
+// The most acts of an insert that is alone.
+const WORST: u32 = 17_935;
+
+#[test]
+fn the_worst_insert_alone_takes_no_more_than_its_numbers(rt: HostRuntime) {
+    let mut world = tall(&rt, rt.alloc(), 2_048, MAX_LEVELS - 2);
+    let (taken, left) = (world.taken(), world.left());
+    let insert = Call::Insert(key(&rt, b"a40"), payload(&rt, b"v"));
+    assert!(rt; begin(&mut world, 1, insert));
+    let (_, answer) = steps(&mut world, 1, WORST);
+    assert_eq!(rt; answer, Some(Answer::Inserted));
+    // the leaf is frozen, it and each node above it are split, and the record is put there by two swaps
+    assert_eq!(rt; world.taken(), taken.saturating_add(MAX_LEVELS - 1 + 3));
+    assert_eq!(rt;
+        left,
+        world.left().saturating_add(SPLIT_SLOTS * (MAX_LEVELS - 1))
+    );
+    assert_eq!(rt; world.pairs(), 40);
 }
