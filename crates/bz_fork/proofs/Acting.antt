@@ -46,7 +46,7 @@ use Rattle.bz_branch.specs.FromSplit.BelowSplits.{parent_freezing}
 use Rattle.bz_branch.specs.FromSplit.Facts.{SPLIT_WORDS, SPLIT_LINES, StoodFresh, split_change}
 use Rattle.bz_branch.specs.FromSplit.RootSplits.{AreFreshThree}
 use Rattle.bz_fork.specs.declared.phase.Phase.{Phase}
-use Rattle.bz_fork.specs.declared.phase.Phase.TheVariants.{Fresh, Word, Again, Room, Above, Check, Guard, Store, Flush, Swap, Done, Restart, NoRoom, NoSlot, NoSwap}
+use Rattle.bz_fork.specs.declared.phase.Phase.TheVariants.{Fresh, Unread, Tight, Word, Again, Room, Above, Check, Guard, Store, Flush, Swap, Done, Restart, NoRoom, NoSlot, NoSwap}
 use Rattle.bz_branch.specs.Nodes.{IsOpenLink}
 use Rattle.bz_branch.proofs.Standing.{guard-is, node-below}
 use Rattle.bz_fork.proofs.Staying.{has-links-stay, guarded-now, counted-now, planned-stays, looked-stays, parts-stay, over-stays, clear-stays}
@@ -92,6 +92,8 @@ may-swap turned codec r s good f =
 
 pub askable : LinksMayBeTurned → IsCodec Status IsStatus IsStatusWord status_word status → (c : Config) (r : Fork) (phase : Phase) (s : Scene) (todo : Todo) → s.past.config ≡ c → fork_facts r phase Waiting s → IsScene s → fork_asks c r phase ≡ Some todo → IsAskable s todo
 askable turned codec c r Fresh s todo same f good e = absurd (cc)
+askable turned codec c r Unread s todo same f good e = subst (IsAskable s) (some-same _ todo e) (guard-readable s r.lower good f.1.0.links.node.guard)
+askable turned codec c r Tight s todo same f good e = subst (IsAskable s) (some-same _ todo e) (guard-readable s r.middle good f.1.links.down.guard)
 askable turned codec c r (Word i) s todo same f good e =
     subst (IsAskable s) (some-same _ todo e)
     (subst (λ (z : Config). IsReadable s (node_address z r.middle.slot + i)) same (word-readable r.upper r.middle r.lower s good f.1.1.1.links i f.1.1.0))
@@ -119,6 +121,18 @@ askable turned codec c r NoSwap s todo same f good e = subst (IsAskable s) (some
 
 -- a guard that differs has been changed since it was read
 pub cause : (c : Config) (r : Fork) (phase : Phase) (s : Scene) (seen : Seen) → fork_facts r phase Waiting s → fork_differs r.upper r.middle r.lower phase seen → IsCause (fork_asks c r phase) seen s
+cause c r Unread s (Was v) f d = inl (guard-differed s r.lower v f.1.0.links.node.guard d)
+cause c r Unread s Start f d = absurd (d)
+cause c r Unread s Stored f d = absurd (d)
+cause c r Unread s Flushed f d = absurd (d)
+cause c r Unread s (Swapped won) f d = absurd (d)
+cause c r Unread s NoneLeft f d = absurd (d)
+cause c r Tight s (Was v) f d = inl (guard-differed s r.middle v f.1.links.down.guard d)
+cause c r Tight s Start f d = absurd (d)
+cause c r Tight s Stored f d = absurd (d)
+cause c r Tight s Flushed f d = absurd (d)
+cause c r Tight s (Swapped won) f d = absurd (d)
+cause c r Tight s NoneLeft f d = absurd (d)
 cause c r Again s (Was v) f d = inl (guard-differed s r.lower v f.1.links.node.guard d)
 cause c r Again s Start f d = absurd (d)
 cause c r Again s Stored f d = absurd (d)
@@ -229,6 +243,8 @@ same-entries a b e = cc
 pub effect : InnerSplitsAreGood → ParentsOfHalvesAreWhole → (c : Config) (r : Fork) (phase : Phase) (s : Scene) (y : Instant) (entries : List Entry) → s.past.config ≡ c → fork_facts r phase Waiting s → IsScene s → fork_asks c r phase ≡ Some (Swaps_for entries) → Stand entries (here s)
     → SwapsTo s.past.config entries (here s) y → IsGoodSwap false split_change entries s y
 effect law wholes c r Fresh s y entries same f good e stand swaps = absurd (cc)
+effect law wholes c r Unread s y entries same f good e stand swaps = absurd (cc)
+effect law wholes c r Tight s y entries same f good e stand swaps = absurd (cc)
 effect law wholes c r (Word i) s y entries same f good e stand swaps = absurd (cc)
 effect law wholes c r Again s y entries same f good e stand swaps = absurd (cc)
 effect law wholes c r Room s y entries same f good e stand swaps = absurd (cc)
@@ -275,6 +291,8 @@ stored apart c r (Store j) s after a v same f e t =
       ),
     )
 stored apart c r Fresh s after a v same f e t = absurd (cc)
+stored apart c r Unread s after a v same f e t = absurd (cc)
+stored apart c r Tight s after a v same f e t = absurd (cc)
 stored apart c r (Word i) s after a v same f e t = absurd (cc)
 stored apart c r Again s after a v same f e t = absurd (cc)
 stored apart c r Room s after a v same f e t = absurd (cc)
@@ -308,6 +326,8 @@ flushed c r (Flush j) s after line same f e t =
       ),
     )
 flushed c r Fresh s after line same f e t = absurd (cc)
+flushed c r Unread s after line same f e t = absurd (cc)
+flushed c r Tight s after line same f e t = absurd (cc)
 flushed c r (Word i) s after line same f e t = absurd (cc)
 flushed c r Again s after line same f e t = absurd (cc)
 flushed c r Room s after line same f e t = absurd (cc)
@@ -385,6 +405,8 @@ took may c r Swap s after entries same f good e takes =
     let is : inner_swap s.past.config r.upper r.middle r.lower (r.slot 0) ≡ entries = ap (λ (z : Config). inner_swap z r.upper r.middle r.lower (r.slot 0)) same ∙ same-entries (inner_swap c r.upper r.middle r.lower (r.slot 0)) entries e in
     (filled-after s after f.0 takes, was-split may r s after good f.1 (subst (λ (z : List Entry). Takes false z s after) (sym is) takes))
 took may c r Fresh s after entries same f good e takes = absurd (cc)
+took may c r Unread s after entries same f good e takes = absurd (cc)
+took may c r Tight s after entries same f good e takes = absurd (cc)
 took may c r (Word i) s after entries same f good e takes = absurd (cc)
 took may c r Again s after entries same f good e takes = absurd (cc)
 took may c r Room s after entries same f good e takes = absurd (cc)

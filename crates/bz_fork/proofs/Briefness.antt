@@ -5,11 +5,13 @@ use Rattle.bz_task.specs.declared.todo.Outcome.TheVariants.{NeedsRoom}
 use Rattle.bz_fork.specs.Duties.{WantOfRoomCostsLittle}
 use Rattle.bz_fork.specs.Facts.{fork_acts, fork_fails, fork_end, fork_left}
 use Rattle.bz_fork.specs.declared.phase.Phase.{Phase}
-use Rattle.bz_fork.specs.declared.phase.Phase.TheVariants.{Fresh, Word, Again, Room, Above, Check, Guard, Store, Flush, Swap, Done, Restart, NoRoom, NoSlot, NoSwap}
+use Rattle.bz_fork.specs.declared.phase.Phase.TheVariants.{Fresh, Unread, Tight, Word, Again, Room, Above, Check, Guard, Store, Flush, Swap, Done, Restart, NoRoom, NoSlot, NoSwap}
 
 few-done : (p : Phase) → fork_end p ≡ Some NeedsRoom → fork_acts ≤ fork_left p + fork_fails
 few-done NoRoom e = omega arith
 few-done Fresh e = absurd (cc)
+few-done Unread e = absurd (cc)
+few-done Tight e = absurd (cc)
 few-done (Word i) e = absurd (cc)
 few-done Again e = absurd (cc)
 few-done Room e = absurd (cc)

@@ -14,12 +14,14 @@ use Rattle.bz_task.specs.declared.todo.Outcome.TheVariants.{Done as IsDone, Rest
 use Rattle.bz_task.specs.declared.todo.Seen.TheVariants.{Start, Read as Was, Stored, Flushed, Swapped, NoSwap as NoneLeft}
 use Rattle.bz_fork.specs.Facts.{Fork, fork_asks, fork_differs, fork_end, fork_needs}
 use Rattle.bz_fork.specs.declared.phase.Phase.{Phase}
-use Rattle.bz_fork.specs.declared.phase.Phase.TheVariants.{Fresh, Word, Again, Room, Above, Check, Guard, Store, Flush, Swap, Done, Restart, NoRoom, NoSlot, NoSwap}
+use Rattle.bz_fork.specs.declared.phase.Phase.TheVariants.{Fresh, Unread, Tight, Word, Again, Room, Above, Check, Guard, Store, Flush, Swap, Done, Restart, NoRoom, NoSlot, NoSwap}
 
 -- how phases end
 ends-done : (p : Phase) → fork_end p ≡ Some IsDone → p ≡ Done
 ends-done Done e = refl
 ends-done Fresh e = absurd (cc)
+ends-done Unread e = absurd (cc)
+ends-done Tight e = absurd (cc)
 ends-done (Word i) e = absurd (cc)
 ends-done Again e = absurd (cc)
 ends-done Room e = absurd (cc)
@@ -37,6 +39,8 @@ ends-done NoSwap e = absurd (cc)
 ends-restart : (p : Phase) → fork_end p ≡ Some Restarts → p ≡ Restart
 ends-restart Restart e = refl
 ends-restart Fresh e = absurd (cc)
+ends-restart Unread e = absurd (cc)
+ends-restart Tight e = absurd (cc)
 ends-restart (Word i) e = absurd (cc)
 ends-restart Again e = absurd (cc)
 ends-restart Room e = absurd (cc)
@@ -54,6 +58,8 @@ ends-restart NoSwap e = absurd (cc)
 ends-no-swap : (p : Phase) → fork_end p ≡ Some (IsFull NoSwaps) → p ≡ NoSwap
 ends-no-swap NoSwap e = refl
 ends-no-swap Fresh e = absurd (cc)
+ends-no-swap Unread e = absurd (cc)
+ends-no-swap Tight e = absurd (cc)
 ends-no-swap (Word i) e = absurd (cc)
 ends-no-swap Again e = absurd (cc)
 ends-no-swap Room e = absurd (cc)
@@ -71,6 +77,8 @@ ends-no-swap NoSlot e = absurd (cc)
 ends-no-slot : (p : Phase) → fork_end p ≡ Some (IsFull NoNodes) → p ≡ NoSlot
 ends-no-slot NoSlot e = refl
 ends-no-slot Fresh e = absurd (cc)
+ends-no-slot Unread e = absurd (cc)
+ends-no-slot Tight e = absurd (cc)
 ends-no-slot (Word i) e = absurd (cc)
 ends-no-slot Again e = absurd (cc)
 ends-no-slot Room e = absurd (cc)
@@ -164,11 +172,20 @@ other-first upper middle lower Flushed h ne = absurd (h)
 other-first upper middle lower (Swapped won) h ne = absurd (h)
 other-first upper middle lower NoneLeft h ne = absurd (h)
 
--- what the first act is: the load of the node's first word after its status
-pub first-ends : (c : Config) (r : Fork) (seen : Seen) (free : FreeSlots) → Hears (fork_asks c r Fresh) seen → EndsWell r.upper r.middle r.lower seen Fresh (Word 1) free
-first-ends c r Start free h = goes-on r.upper r.middle r.lower Start Fresh (Word 1) free refl (λ e. absurd (cc))
-first-ends c r (Was v) free h = absurd (h)
-first-ends c r Stored free h = absurd (h)
-first-ends c r Flushed free h = absurd (h)
-first-ends c r (Swapped won) free h = absurd (h)
-first-ends c r NoneLeft free h = absurd (h)
+-- where the node's words are not read
+pub other-unread : (upper middle lower : Link) (seen : Seen) → Hears (Some (Reads lower.guard)) seen → seen ≢ Was lower.status → fork_differs upper middle lower Unread seen
+other-unread upper middle lower (Was v) h ne = λ e. ne (ap Was e)
+other-unread upper middle lower seen h ne = absurd (h)
+
+pub other-tight : (upper middle lower : Link) (seen : Seen) → Hears (Some (Reads middle.guard)) seen → seen ≢ Was middle.status → fork_differs upper middle lower Tight seen
+other-tight upper middle lower (Was v) h ne = λ e. ne (ap Was e)
+other-tight upper middle lower seen h ne = absurd (h)
+
+-- the first act is no end
+pub first-ends : (c : Config) (r : Fork) (seen : Seen) (p : Phase) (free : FreeSlots) → Hears (fork_asks c r Fresh) seen → fork_end p ≡ None → EndsWell r.upper r.middle r.lower seen Fresh p free
+first-ends c r Start p free h none = goes-on r.upper r.middle r.lower Start Fresh p free none (λ e. absurd (cc))
+first-ends c r (Was v) p free h none = absurd (h)
+first-ends c r Stored p free h none = absurd (h)
+first-ends c r Flushed p free h none = absurd (h)
+first-ends c r (Swapped won) p free h none = absurd (h)
+first-ends c r NoneLeft p free h none = absurd (h)

@@ -10,7 +10,7 @@ use Rattle.bz_task.specs.declared.todo.Seen.TheVariants.{Start, Read as Was, Sto
 use Rattle.bz_branch.specs.FromSplit.Facts.{SPLIT_WORDS, SPLIT_LINES}
 use Rattle.bz_fork.specs.Facts.{Fork, fork_asks, fork_end, fork_facts, fork_left, fork_swaps, fork_needs, store_after, flush_after, swap_after, IsReadyFork}
 use Rattle.bz_fork.specs.declared.phase.Phase.{Phase}
-use Rattle.bz_fork.specs.declared.phase.Phase.TheVariants.{Fresh, Word, Again, Room, Above, Check, Guard, Store, Flush, Swap, Done, Restart, NoRoom, NoSlot, NoSwap}
+use Rattle.bz_fork.specs.declared.phase.Phase.TheVariants.{Fresh, Unread, Tight, Word, Again, Room, Above, Check, Guard, Store, Flush, Swap, Done, Restart, NoRoom, NoSlot, NoSwap}
 
 -- the phase after an answer, told of how it ends the task
 pub record Afters (o q : Phase) (seen : Seen) : Type 0 where
@@ -54,22 +54,24 @@ flushed-after j l = choose (nat_lt (j + 1) SPLIT_LINES) refl
     choose false e = record { nearer = omega (arith, l); needs = refl; done = λ q. absurd (cc); restart = λ q. absurd (cc); no_swap = (λ q. absurd (cc), λ q. absurd (cc)); slots = λ q. absurd (cc); begun = λ q. absurd (cc) }
 
 -- the phases that ask for something else
-pub is-swap : (c : Config) (r : Fork) (p : Phase) (seen : Seen) → p ≢ Fresh → ((i : ℕ) → p ≢ Word i) → p ≢ Again → p ≢ Room → ((i : ℕ) → p ≢ Above i) → p ≢ Check → p ≢ Guard → ((j : ℕ) → p ≢ Store j) → ((j : ℕ) → p ≢ Flush j) → Hears (fork_asks c r p) seen → p ≡ Swap
-is-swap c r Swap seen f w a o b k g s l h = refl
-is-swap c r Fresh seen f w a o b k g s l h = absurd (f refl)
-is-swap c r (Word i) seen f w a o b k g s l h = absurd (w i refl)
-is-swap c r Again seen f w a o b k g s l h = absurd (a refl)
-is-swap c r Room seen f w a o b k g s l h = absurd (o refl)
-is-swap c r (Above i) seen f w a o b k g s l h = absurd (b i refl)
-is-swap c r Check seen f w a o b k g s l h = absurd (k refl)
-is-swap c r Guard seen f w a o b k g s l h = absurd (g refl)
-is-swap c r (Store j) seen f w a o b k g s l h = absurd (s j refl)
-is-swap c r (Flush j) seen f w a o b k g s l h = absurd (l j refl)
-is-swap c r Done seen f w a o b k g s l h = absurd (h)
-is-swap c r Restart seen f w a o b k g s l h = absurd (h)
-is-swap c r NoRoom seen f w a o b k g s l h = absurd (h)
-is-swap c r NoSlot seen f w a o b k g s l h = absurd (h)
-is-swap c r NoSwap seen f w a o b k g s l h = absurd (h)
+pub is-swap : (c : Config) (r : Fork) (p : Phase) (seen : Seen) → p ≢ Fresh → p ≢ Unread → p ≢ Tight → ((i : ℕ) → p ≢ Word i) → p ≢ Again → p ≢ Room → ((i : ℕ) → p ≢ Above i) → p ≢ Check → p ≢ Guard → ((j : ℕ) → p ≢ Store j) → ((j : ℕ) → p ≢ Flush j) → Hears (fork_asks c r p) seen → p ≡ Swap
+is-swap c r Swap seen f u t w a o b k g s l h = refl
+is-swap c r Fresh seen f u t w a o b k g s l h = absurd (f refl)
+is-swap c r Unread seen f u t w a o b k g s l h = absurd (u refl)
+is-swap c r Tight seen f u t w a o b k g s l h = absurd (t refl)
+is-swap c r (Word i) seen f u t w a o b k g s l h = absurd (w i refl)
+is-swap c r Again seen f u t w a o b k g s l h = absurd (a refl)
+is-swap c r Room seen f u t w a o b k g s l h = absurd (o refl)
+is-swap c r (Above i) seen f u t w a o b k g s l h = absurd (b i refl)
+is-swap c r Check seen f u t w a o b k g s l h = absurd (k refl)
+is-swap c r Guard seen f u t w a o b k g s l h = absurd (g refl)
+is-swap c r (Store j) seen f u t w a o b k g s l h = absurd (s j refl)
+is-swap c r (Flush j) seen f u t w a o b k g s l h = absurd (l j refl)
+is-swap c r Done seen f u t w a o b k g s l h = absurd (h)
+is-swap c r Restart seen f u t w a o b k g s l h = absurd (h)
+is-swap c r NoRoom seen f u t w a o b k g s l h = absurd (h)
+is-swap c r NoSlot seen f u t w a o b k g s l h = absurd (h)
+is-swap c r NoSwap seen f u t w a o b k g s l h = absurd (h)
 
 swap-cases : (c : Config) (r : Fork) (seen : Seen) → Hears (fork_asks c r Swap) seen → Afters Swap (swap_after seen) seen
 swap-cases c r (Swapped true) h = record { nearer = omega arith; needs = refl; done = λ q. refl; restart = λ q. absurd (cc); no_swap = (λ q. absurd (cc), λ q. absurd (cc)); slots = λ q. absurd (cc); begun = λ q. absurd (cc) }

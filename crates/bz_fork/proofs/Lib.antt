@@ -18,3 +18,7 @@ mod Telling
 mod Looking
 mod Writing
 mod Beginning
+mod Halving
+mod Starting
+mod Passing
+mod Refusing

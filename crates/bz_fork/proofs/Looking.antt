@@ -22,7 +22,7 @@ use Rattle.bz_branch.specs.FromBelow.Facts.{HasRoom, HasParent}
 use Rattle.bz_branch.specs.Parts.{ArePartsOfNode}
 use Rattle.bz_fork.specs.Facts.{Fork, fork_nodes, HasLinks, IsPlan, IsPlanned, AreClear, HasPlace, HasBegunFork, HasLookedFork, fork_asks, fork_left, fork_needs, fork_facts, IsReadyFork}
 use Rattle.bz_fork.specs.declared.phase.Phase.{Phase}
-use Rattle.bz_fork.specs.declared.phase.Phase.TheVariants.{Fresh, Word, Again, Room, Above, Check, Guard, Store, Flush, Swap, Done, Restart, NoRoom, NoSlot, NoSwap}
+use Rattle.bz_fork.specs.declared.phase.Phase.TheVariants.{Fresh, Unread, Tight, Word, Again, Room, Above, Check, Guard, Store, Flush, Swap, Done, Restart, NoRoom, NoSlot, NoSwap}
 use Rattle.bz_fork.proofs.Ending.{EndsWell, other-upper, read-answers, was-no-swap}
 use Rattle.bz_fork.proofs.Making.{begun-knows}
 use Rattle.bz_fork.proofs.Clearing.{are-clear}
@@ -56,6 +56,8 @@ begins n r c NoSlot old new h nodes = record {
   ends = record { done = λ e. absurd (cc); restart = λ e. absurd (cc); no_swap = λ e. absurd (cc); full_swaps = λ e. absurd (cc); full_nodes = λ e. h.0 };
 }
 begins n r c Fresh old new h nodes = absurd (h)
+begins n r c Unread old new h nodes = absurd (h)
+begins n r c Tight old new h nodes = absurd (h)
 begins n r c (Word i) old new h nodes = absurd (h)
 begins n r c Again old new h nodes = absurd (h)
 begins n r c Room old new h nodes = absurd (h)

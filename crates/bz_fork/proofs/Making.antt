@@ -19,7 +19,7 @@ use Rattle.bz_branch.specs.FromBelow.Facts.{IsNewParent}
 use Rattle.bz_branch.specs.Parts.{AreHalvesOfNode}
 use Rattle.bz_fork.specs.Facts.{Fork, fork_nodes, IsPlanned, AreClear, IsSplitting, AreMadeOf, HasBegunFork, parent_words, fork_facts}
 use Rattle.bz_fork.specs.declared.phase.Phase.{Phase}
-use Rattle.bz_fork.specs.declared.phase.Phase.TheVariants.{Fresh, Word, Again, Room, Above, Check, Guard, Store, Flush, Swap, Done, Restart, NoRoom, NoSlot, NoSwap}
+use Rattle.bz_fork.specs.declared.phase.Phase.TheVariants.{Fresh, Unread, Tight, Word, Again, Room, Above, Check, Guard, Store, Flush, Swap, Done, Restart, NoRoom, NoSlot, NoSwap}
 use Rattle.bz_fork.proofs.Uniting.{one-separator}
 
 -- the three nodes are words that may be stored
@@ -82,6 +82,8 @@ begun-knows apart may nothing r (Store j) s old new good h nodes unreached fille
     )
 begun-knows apart may nothing r NoSlot s old new good h nodes unreached filled v looked clear = subst (λ z. HasFilled (gained s old z)) (sym h.1) (nothing s old filled)
 begun-knows apart may nothing r Fresh s old new good h nodes unreached filled v looked clear = absurd (h)
+begun-knows apart may nothing r Unread s old new good h nodes unreached filled v looked clear = absurd (h)
+begun-knows apart may nothing r Tight s old new good h nodes unreached filled v looked clear = absurd (h)
 begun-knows apart may nothing r (Word i) s old new good h nodes unreached filled v looked clear = absurd (h)
 begun-knows apart may nothing r Again s old new good h nodes unreached filled v looked clear = absurd (h)
 begun-knows apart may nothing r Room s old new good h nodes unreached filled v looked clear = absurd (h)

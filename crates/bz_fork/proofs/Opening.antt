@@ -12,7 +12,7 @@ use Rattle.bz_branch.specs.Nodes.{ParentsOfNodesWere}
 use Rattle.bz_branch.specs.Parts.{IsFullNode}
 use Rattle.bz_fork.specs.Facts.{Fork, HasReadNode, IsReadingAbove, HasOpened, fork_asks, fork_left, fork_needs, fork_facts, IsReadyFork}
 use Rattle.bz_fork.specs.declared.phase.Phase.{Phase}
-use Rattle.bz_fork.specs.declared.phase.Phase.TheVariants.{Fresh, Word, Again, Room, Above, Check, Guard, Store, Flush, Swap, Done, Restart, NoRoom, NoSlot, NoSwap}
+use Rattle.bz_fork.specs.declared.phase.Phase.TheVariants.{Fresh, Unread, Tight, Word, Again, Room, Above, Check, Guard, Store, Flush, Swap, Done, Restart, NoRoom, NoSlot, NoSwap}
 use Rattle.bz_fork.proofs.Acting.{upper-slot}
 use Rattle.bz_fork.proofs.Ending.{EndsWell, goes-on, other-first, read-answers, was-no-swap}
 use Rattle.bz_fork.proofs.ParentsThen.{counted-since, counted-until, lacked-room}
@@ -48,15 +48,17 @@ opened-learns law have c r NoRoom seen stage s h good f t =
         left = a.left;
         right = a.right;
         sep = a.sep;
-        since = counted-since r s good g.1.links n;
-        now = counted-until r s good g.1.links n;
+        since = counted-since r s good g.1.links r.read n;
+        now = counted-until r s good g.1.links r.read n;
         node = n;
         parts = parts;
-        lacked = lacked-room r s good g.1.links n law (found c r seen stage s t h.0).value have a.left a.right a.sep parts h.1.room;
+        lacked = lacked-room r s good g.1.links r.read n law (found c r seen stage s t h.0).value have a.left a.right a.sep parts h.1.room;
       },
     )
 opened-learns law have c r Restart seen stage s h good f t = (waits r stage s f).0
 opened-learns law have c r Fresh seen stage s h good f t = absurd (h)
+opened-learns law have c r Unread seen stage s h good f t = absurd (h)
+opened-learns law have c r Tight seen stage s h good f t = absurd (h)
 opened-learns law have c r (Word i) seen stage s h good f t = absurd (h)
 opened-learns law have c r Again seen stage s h good f t = absurd (h)
 opened-learns law have c r Room seen stage s h good f t = absurd (h)
@@ -102,6 +104,8 @@ opens r c seen Restart free stage s same good f hears h = record {
   };
 }
 opens r c seen Fresh free stage s same good f hears h = absurd (h)
+opens r c seen Unread free stage s same good f hears h = absurd (h)
+opens r c seen Tight free stage s same good f hears h = absurd (h)
 opens r c seen (Word i) free stage s same good f hears h = absurd (h)
 opens r c seen Again free stage s same good f hears h = absurd (h)
 opens r c seen Room free stage s same good f hears h = absurd (h)

@@ -20,7 +20,7 @@ use Rattle.bz_branch.proofs.Standing.{guard-is}
 use Rattle.bz_fork.specs.Facts.{Fork, HasLinks}
 use Rattle.bz_fork.proofs.Acting.{above-of}
 
-module _ (r : Fork) (s : Scene) (good : IsScene s) (v : HasLinks r.upper r.middle r.lower s.past) (node : WasInner r.middle.slot v.counted r.read s.past) where
+module _ (r : Fork) (s : Scene) (good : IsScene s) (v : HasLinks r.upper r.middle r.lower s.past) (read : List ℕ) (node : WasInner r.middle.slot v.counted read s.past) where
   pub counted-since : s.past.since ≤ v.counted
   counted-since = omega (arith, v.node.guard.since, v.is_counted)
 
@@ -41,7 +41,7 @@ module _ (r : Fork) (s : Scene) (good : IsScene s) (v : HasLinks r.upper r.middl
       (node-at s.past.config was.value r.upper.slot STATUS_AT (omega arith) ∙ (ap was.value (sym (guard-is s r.upper.slot r.middle good (above-of r.upper r.middle r.lower s v))) ∙ v.down.guard.status))
 
   module _ (law : ParentsOfNodesWere) (now : (here s).value r.middle.guard ≡ r.middle.status) where
-    pub was-parent : (above left right sep : List ℕ) → WereRead r.upper.slot v.guarded r.middle.status NODE_WORDS above s.past → AreHalvesOfNode s.past.config.nodes r.read left right sep node.level node.low node.high → WasParent r.upper r.middle v.guarded v.child sep above s.past
+    pub was-parent : (above left right sep : List ℕ) → WereRead r.upper.slot v.guarded r.middle.status NODE_WORDS above s.past → AreHalvesOfNode s.past.config.nodes read left right sep node.level node.low node.high → WasParent r.upper r.middle v.guarded v.child sep above s.past
     was-parent above left right sep were h =
         let w : WasParent r.upper r.middle v.down.guard.guarded v.down.under.child.child sep above s.past = law s r.upper r.middle v.counted sep above good v.down counted-since counted-until node.inside now
         (subst (λ z. WereRead r.upper.slot z r.middle.status NODE_WORDS above s.past) (sym v.is_guarded) were) h.separator
@@ -49,7 +49,7 @@ module _ (r : Fork) (s : Scene) (good : IsScene s) (v : HasLinks r.upper r.middl
         subst (λ z. WasParent r.upper r.middle z v.child sep above s.past) v.is_guarded (subst (λ z. WasParent r.upper r.middle v.down.guard.guarded z sep above s.past) v.is_child w)
 
     -- where its status leaves no room for the separator of the halves, it lacked the room, whatever its words were
-    pub lacked-room : ReadNodesHaveChildren → (left right sep : List ℕ) → AreHalvesOfNode s.past.config.nodes r.read left right sep node.level node.low node.high → SHARED_WORDS < words_with r.middle.status sep → LackedRoom r.upper r.middle sep s.past
+    pub lacked-room : ReadNodesHaveChildren → (left right sep : List ℕ) → AreHalvesOfNode s.past.config.nodes read left right sep node.level node.low node.high → SHARED_WORDS < words_with r.middle.status sep → LackedRoom r.upper r.middle sep s.past
     lacked-room have left right sep h more =
         let above : List ℕ = listed (words s.past.config (s.past.at v.guarded) r.upper.slot) in
         let were : WereRead r.upper.slot v.guarded r.middle.status NODE_WORDS above s.past = all-read r.upper.slot v.guarded r.middle.status s.past guarded-until status-was in

@@ -1,8 +1,8 @@
 -- What the node's status tells, found once more: its words are those of one moment.
-use Rattle.std.proofs.Common.{◌≡◌, ◌≢◌, ◌<◌, ◌≤◌, arith, refl, sym, ap, subst, inr}
+use Rattle.std.proofs.Common.{◌≡◌, ◌≢◌, ◌<◌, ◌≤◌, List, ℕ, slice_index, arith, refl, sym, ap, subst, inr}
 use Rattle.bz_layout.specs.Slots.{FreeSlots}
 use Rattle.bz_layout.specs.declared.config.Config.{Config}
-use Rattle.bz_layout.specs.declared.sizes.TheConstants.{NODE_WORDS}
+use Rattle.bz_layout.specs.declared.sizes.TheConstants.{NODE_WORDS, STATUS_AT}
 use Rattle.bz_layout.specs.declared.thresholds.TheConstants.{INNER_LIMIT, SPLIT_SLOTS}
 use Rattle.bz_node.specs.Reading.{children_in}
 use Rattle.bz_parted.specs.Parting.{child_words}
@@ -13,22 +13,22 @@ use Rattle.bz_task.specs.declared.todo.Seen.{Seen}
 use Rattle.bz_task.specs.declared.todo.Seen.TheVariants.{Read as Was}
 use Rattle.bz_branch.specs.FromBelow.Parents.{WereRead}
 use Rattle.bz_branch.specs.Nodes.{WasInner, ReadNodesWere}
-use Rattle.bz_fork.specs.Facts.{Fork, IsReading, HasRead, fork_asks, fork_left, fork_needs, fork_facts, IsReadyFork}
+use Rattle.bz_fork.specs.Facts.{Fork, HasLinks, IsReading, HasRead, fork_asks, fork_left, fork_needs, fork_facts, IsReadyFork}
 use Rattle.bz_fork.specs.declared.phase.Phase.{Phase}
-use Rattle.bz_fork.specs.declared.phase.Phase.TheVariants.{Fresh, Word, Again, Room, Above, Check, Guard, Store, Flush, Swap, Done, Restart, NoRoom, NoSlot, NoSwap}
+use Rattle.bz_fork.specs.declared.phase.Phase.TheVariants.{Fresh, Unread, Tight, Word, Again, Room, Above, Check, Guard, Store, Flush, Swap, Done, Restart, NoRoom, NoSlot, NoSwap}
 use Rattle.bz_fork.proofs.Ending.{EndsWell, goes-on, other-lower, read-answers, was-no-swap}
 
 -- the node, where its status is found as it was
-was-inner : ReadNodesWere → (r : Fork) (s : Scene) → IsScene s → (f : IsReading r NODE_WORDS s.past) → (here s).value r.lower.guard ≡ r.lower.status → WasInner r.middle.slot f.links.counted r.read s.past
-was-inner law r s good f now =
-    let v = f.links in
-    let w : WasInner r.middle.slot v.node.guard.guarded r.read s.past = law s r.middle.slot r.lower r.read good v.node now
-    (subst (λ z. WereRead r.middle.slot z r.lower.status NODE_WORDS r.read s.past) (sym v.is_counted) f.were) in
-    subst (λ z. WasInner r.middle.slot z r.read s.past) v.is_counted w
+pub was-inner : ReadNodesWere → (r : Fork) (s : Scene) → IsScene s → (v : HasLinks r.upper r.middle r.lower s.past) (read : List ℕ) → WereRead r.middle.slot v.counted r.lower.status NODE_WORDS read s.past → (here s).value r.lower.guard ≡ r.lower.status →
+    WasInner r.middle.slot v.counted read s.past
+was-inner law r s good v read were now =
+    let w : WasInner r.middle.slot v.node.guard.guarded read s.past = law s r.middle.slot r.lower read good v.node now
+    (subst (λ z. WereRead r.middle.slot z r.lower.status NODE_WORDS read s.past) (sym v.is_counted) were) in
+    subst (λ z. WasInner r.middle.slot z read s.past) v.is_counted w
 
 -- it takes the words that its status counts
-is-many : (r : Fork) (s : Scene) (f : IsReading r NODE_WORDS s.past) → WasInner r.middle.slot f.links.counted r.read s.past → INNER_LIMIT < child_words (children_in r.read)
-is-many r s f w = omega (arith, w.node.node.taken, ap (λ z. (status z).count) f.were.first, ap (λ z. (status z).block) f.were.first, f.links.many)
+pub is-many : (r : Fork) (s : Scene) (v : HasLinks r.upper r.middle r.lower s.past) (read : List ℕ) → slice_index read STATUS_AT ≡ r.lower.status → WasInner r.middle.slot v.counted read s.past → INNER_LIMIT < child_words (children_in read)
+is-many r s v read first w = omega (arith, w.node.node.taken, ap (λ z. (status z).count) first, ap (λ z. (status z).block) first, v.many)
 
 found-now : (c : Config) (r : Fork) (seen : Seen) (stage : Stage) (s : Scene) → Tells (fork_asks c r Again) stage seen s → seen ≡ Was r.lower.status → (here s).value r.lower.guard ≡ r.lower.status
 found-now c r seen stage s t e = (read-answers r.lower.guard r.lower.status stage s (subst (λ z. Tells (fork_asks c r Again) stage z s) e t)).1.value
@@ -41,10 +41,12 @@ waits r Took s f = absurd (f)
 pub read-learns : ReadNodesWere → (c : Config) (r : Fork) (p : Phase) (seen : Seen) (stage : Stage) (s : Scene) → HasRead r seen p → IsScene s → fork_facts r Again stage s → Tells (fork_asks c r Again) stage seen s → fork_facts r p Waiting s
 read-learns law c r Room seen stage s h good f t =
     let g = waits r stage s f in
-    let w = was-inner law r s good g.1 (found-now c r seen stage s t h) in
-    (g.0, record { links = g.1.links; node = w; many = is-many r s g.1 w; above = g.1.above })
+    let w = was-inner law r s good g.1.links r.read g.1.were (found-now c r seen stage s t h) in
+    (g.0, record { links = g.1.links; node = w; many = is-many r s g.1.links r.read g.1.were.first w; above = g.1.above })
 read-learns law c r Restart seen stage s h good f t = (waits r stage s f).0
 read-learns law c r Fresh seen stage s h good f t = absurd (h)
+read-learns law c r Unread seen stage s h good f t = absurd (h)
+read-learns law c r Tight seen stage s h good f t = absurd (h)
 read-learns law c r (Word i) seen stage s h good f t = absurd (h)
 read-learns law c r Again seen stage s h good f t = absurd (h)
 read-learns law c r (Above i) seen stage s h good f t = absurd (h)
@@ -83,6 +85,8 @@ reads r c seen Restart free hears h = record {
   };
 }
 reads r c seen Fresh free hears h = absurd (h)
+reads r c seen Unread free hears h = absurd (h)
+reads r c seen Tight free hears h = absurd (h)
 reads r c seen (Word i) free hears h = absurd (h)
 reads r c seen Again free hears h = absurd (h)
 reads r c seen (Above i) free hears h = absurd (h)

@@ -18,9 +18,9 @@ use Rattle.bz_branch.proofs.FromSplit.Staying.{stood-stays}
 use Rattle.bz_branch.specs.FromBelow.Facts.{LackedRoom}
 use Rattle.bz_branch.specs.Parts.{AreHalvesOfNode}
 use Rattle.bz_branch.proofs.Staying.{open-stays, open-guarded, links-stay, links-guarded, links-child, read-stays, inner-stays, parent-stays, halves-stay}
-use Rattle.bz_fork.specs.Facts.{Fork, fork_nodes, HasLinks, IsReading, HasReadNode, IsReadingAbove, IsPlan, LackedPart, AreClear, IsSplitting, WasSplitInner, fork_facts}
+use Rattle.bz_fork.specs.Facts.{Fork, fork_nodes, HasLinks, IsReading, HasPassedNode, HasReadNode, IsReadingAbove, IsPlan, LackedPart, AreClear, IsSplitting, WasSplitInner, fork_facts}
 use Rattle.bz_fork.specs.declared.phase.Phase.{Phase}
-use Rattle.bz_fork.specs.declared.phase.Phase.TheVariants.{Fresh, Word, Again, Room, Above, Check, Guard, Store, Flush, Swap, Done, Restart, NoRoom, NoSlot, NoSwap}
+use Rattle.bz_fork.specs.declared.phase.Phase.TheVariants.{Fresh, Unread, Tight, Word, Again, Room, Above, Check, Guard, Store, Flush, Swap, Done, Restart, NoRoom, NoSlot, NoSwap}
 
 module _ (p q : Past) (c : Continues p q) where
   unfoldable pub has-links-stay : (upper middle lower : Link) → HasLinks upper middle lower p → HasLinks upper middle lower q
@@ -49,6 +49,16 @@ module _ (p q : Past) (c : Continues p q) where
     links = has-links-stay r.upper r.middle r.lower v.links;
     were = read-stays p q c r.middle.slot v.links.counted r.lower.status place r.read v.were;
     above = read-stays p q c r.upper.slot v.links.guarded r.middle.status 1 r.above v.above;
+  }
+
+  passed-stays : (r : Fork) → HasPassedNode r p → HasPassedNode r q
+  unfolding has-links-stay
+  passed-stays r v = record {
+    links = has-links-stay r.upper r.middle r.lower v.links;
+    unread = v.unread;
+    node = inner-stays p q c r.middle.slot v.links.counted v.unread (counted-now r.upper r.middle r.lower v.links) v.node;
+    many = v.many;
+    tight = v.tight;
   }
 
   node-stays : (r : Fork) → HasReadNode r p → HasReadNode r q
@@ -177,6 +187,8 @@ module _ (r : Fork) (s after : Scene) (l : IsLawful s after) where
 
   pub stable : (phase : Phase) (stage : Stage) → fork_facts r phase stage s → fork_facts r phase stage after
   stable Fresh Waiting f = reading-stays s.past after.past l.continues r 1 f
+  stable Unread Waiting f = (filled f.0, (reading-stays s.past after.past l.continues r 1 f.1.0, f.1.1))
+  stable Tight Waiting f = (filled f.0, passed-stays s.past after.past l.continues r f.1)
   stable (Word i) Waiting f = (filled f.0, (f.1.0, (f.1.1.0, reading-stays s.past after.past l.continues r i f.1.1.1)))
   stable Again Waiting f = (filled f.0, reading-stays s.past after.past l.continues r NODE_WORDS f.1)
   stable Room Waiting f = (filled f.0, node-stays s.past after.past l.continues r f.1)
@@ -195,6 +207,8 @@ module _ (r : Fork) (s after : Scene) (l : IsLawful s after) where
   stable NoSlot Waiting f = filled f
   stable NoSwap Waiting f = filled f
   stable Fresh Took f = absurd (f)
+  stable Unread Took f = absurd (f)
+  stable Tight Took f = absurd (f)
   stable (Word i) Took f = absurd (f)
   stable Again Took f = absurd (f)
   stable Room Took f = absurd (f)
@@ -222,6 +236,8 @@ module _ (nothing : NothingIsGained) (r : Fork) (s : Scene) (free : FreeSlots) w
 
   pub no-slot : (phase : Phase) → fork_facts r phase Waiting s → fork_facts r phase Waiting (gained s free free)
   no-slot Fresh f = f
+  no-slot Unread f = (nothing s free f.0, f.1)
+  no-slot Tight f = (nothing s free f.0, f.1)
   no-slot (Word i) f = (nothing s free f.0, f.1)
   no-slot Again f = (nothing s free f.0, f.1)
   no-slot Room f = (nothing s free f.0, f.1)

@@ -15,7 +15,7 @@ use Rattle.bz_branch.specs.FromBelow.Parents.{WasParent}
 use Rattle.bz_branch.specs.Nodes.{ParentsOfNodesWere}
 use Rattle.bz_fork.specs.Facts.{Fork, IsReadingAbove, HasTold, fork_asks, fork_left, fork_needs, fork_facts, IsReadyFork}
 use Rattle.bz_fork.specs.declared.phase.Phase.{Phase}
-use Rattle.bz_fork.specs.declared.phase.Phase.TheVariants.{Fresh, Word, Again, Room, Above, Check, Guard, Store, Flush, Swap, Done, Restart, NoRoom, NoSlot, NoSwap}
+use Rattle.bz_fork.specs.declared.phase.Phase.TheVariants.{Fresh, Unread, Tight, Word, Again, Room, Above, Check, Guard, Store, Flush, Swap, Done, Restart, NoRoom, NoSlot, NoSwap}
 use Rattle.bz_fork.proofs.Ending.{EndsWell, goes-on, other-middle, read-answers, was-no-swap}
 use Rattle.bz_fork.proofs.ParentsThen.{was-parent, levels, two}
 use Rattle.bz_branch.proofs.FromBelow.ParentsThen.{taken}
@@ -37,7 +37,7 @@ told-learns law stand ranges have c r Guard seen stage s h good f t =
     let n = g.1.node in
     let a = g.1.fits.has in
     let parts = a.parts s.past.config.nodes n.level n.low n.high n.node in
-    let w : WasParent r.upper r.middle v.guarded v.child a.sep r.above s.past = was-parent r s good v n law now r.above a.left a.right a.sep g.1.above parts in (
+    let w : WasParent r.upper r.middle v.guarded v.child a.sep r.above s.past = was-parent r s good v r.read n law now r.above a.left a.right a.sep g.1.above parts in (
       g.0,
       record {
         links = v;
@@ -48,13 +48,15 @@ told-learns law stand ranges have c r Guard seen stage s h good f t =
         sep = a.sep;
         parts = parts;
         parent = w;
-        levels = levels r s good v n stand ranges now v.child a.sep r.above w;
-        two = two r s good v n stand ranges now;
+        levels = levels r s good v r.read n stand ranges now v.child a.sep r.above w;
+        two = two r s good v r.read n stand ranges now;
         room = omega (arith, g.1.fits.room, taken have s.past.config.nodes r.middle.slot a.sep r.above w.level v.child w.low w.high r.middle.status w.parent g.1.above.first);
       },
     )
 told-learns law stand ranges have c r Restart seen stage s h good f t = (waits r stage s f).0
 told-learns law stand ranges have c r Fresh seen stage s h good f t = absurd (h)
+told-learns law stand ranges have c r Unread seen stage s h good f t = absurd (h)
+told-learns law stand ranges have c r Tight seen stage s h good f t = absurd (h)
 told-learns law stand ranges have c r (Word i) seen stage s h good f t = absurd (h)
 told-learns law stand ranges have c r Again seen stage s h good f t = absurd (h)
 told-learns law stand ranges have c r Room seen stage s h good f t = absurd (h)
@@ -93,6 +95,8 @@ tolds r c seen Restart free hears h = record {
   };
 }
 tolds r c seen Fresh free hears h = absurd (h)
+tolds r c seen Unread free hears h = absurd (h)
+tolds r c seen Tight free hears h = absurd (h)
 tolds r c seen (Word i) free hears h = absurd (h)
 tolds r c seen Again free hears h = absurd (h)
 tolds r c seen Room free hears h = absurd (h)

@@ -31,7 +31,8 @@ use Rattle.bz_branch.specs.InnerSplits.{inner_swap}
 use Rattle.bz_branch.specs.Nodes.{IsOpenLink, WasInner}
 use Rattle.bz_branch.specs.Parts.{IsFullNode, AreHalvesOfNode, ArePartsOfNode}
 use Rattle.bz_fork.specs.declared.phase.Phase.{Phase}
-use Rattle.bz_fork.specs.declared.phase.Phase.TheVariants.{Fresh, Word, Again, Room, Above, Check, Guard, Store, Flush, Swap, Done, Restart, NoRoom, NoSlot, NoSwap}
+use Rattle.bz_fork.specs.declared.phase.Phase.TheVariants.{Fresh, Unread, Tight, Word, Again, Room, Above, Check, Guard, Store, Flush, Swap, Done, Restart, NoRoom, NoSlot, NoSwap}
+use Rattle.bz_fork.specs.declared.room.TheConstants.{LEAST_CHILD_WORDS}
 
 -- the links to the parent and to the node, and one in the node; the slots and the words of the new parent, of the left half and of
 -- the right half; and the words that were read of the node and of the parent so far
@@ -49,6 +50,8 @@ fork_nodes r = record { count = SPLIT_SLOTS; slot = r.slot; image = r.image }
 
 abbrev pub fork_asks : Config → Fork → Phase → Option Todo
 fork_asks c r Fresh = None
+fork_asks c r Unread = Some (Reads r.lower.guard)
+fork_asks c r Tight = Some (Reads r.middle.guard)
 fork_asks c r (Word i) = Some (Reads (node_address c r.middle.slot + i))
 fork_asks c r Again = Some (Reads r.lower.guard)
 fork_asks c r Room = Some (Reads r.middle.guard)
@@ -89,6 +92,8 @@ fork_swaps phase = 1
 
 abbrev pub fork_left : Phase → ℕ
 fork_left Fresh = fork_acts
+fork_left Unread = fork_acts - 1
+fork_left Tight = fork_acts - 2
 fork_left (Word i) = fork_acts - i
 fork_left Again = NODE_WORDS + SPLIT_WORDS + SPLIT_LINES + 4
 fork_left Room = NODE_WORDS + SPLIT_WORDS + SPLIT_LINES + 3
@@ -104,6 +109,8 @@ fork_left phase = 0
 -- the slots are taken when all guards have been looked at again: none where it ended for want of room
 abbrev pub fork_needs : Phase → ℕ
 fork_needs Fresh = SPLIT_SLOTS
+fork_needs Unread = SPLIT_SLOTS
+fork_needs Tight = SPLIT_SLOTS
 fork_needs (Word i) = SPLIT_SLOTS
 fork_needs Again = SPLIT_SLOTS
 fork_needs Room = SPLIT_SLOTS
@@ -146,6 +153,10 @@ pub record HasLinks (upper middle lower : Link) (p : Past) : Type 0 where
   pub is_counted : node.guard.guarded ≡ counted
   pub many : INNER_LIMIT < (status lower.status).count + (status lower.status).block
 
+-- an inner node with this status has room for no child more, below any separator
+abbrev pub TakesNoChild : ℕ → Type 0
+TakesNoChild st = SHARED_WORDS < (status st).count + (status st).block + LEAST_CHILD_WORDS
+
 -- the node's words before a place were read, and of the parent the status alone
 pub record IsReading (r : Fork) (place : ℕ) (p : Past) : Type 0 where
   pub links : HasLinks r.upper r.middle r.lower p
@@ -158,6 +169,14 @@ pub record HasReadNode (r : Fork) (p : Past) : Type 0 where
   pub node : WasInner r.middle.slot links.counted r.read p
   pub many : INNER_LIMIT < child_words (children_in r.read)
   pub above : WereRead r.upper.slot links.guarded r.middle.status 1 r.above p
+
+-- the node's words were these, which were not read, and it is above its limit; and the parent's status leaves room for no child more
+pub record HasPassedNode (r : Fork) (p : Past) : Type 0 where
+  pub links : HasLinks r.upper r.middle r.lower p
+  pub unread : List ℕ
+  pub node : WasInner r.middle.slot links.counted unread p
+  pub many : INNER_LIMIT < child_words (children_in unread)
+  pub tight : TakesNoChild r.middle.status
 
 -- the halves of the node, and their separator
 pub record HasParts (read : List ℕ) : Type 0 where
@@ -270,6 +289,8 @@ pub record WasSplitInner (upper middle : Link) (p : Past) : Type 0 where
 
 abbrev pub fork_facts : Fork → Phase → Stage → Scene → Type 0
 fork_facts r Fresh Waiting s = IsReading r 1 s.past
+fork_facts r Unread Waiting s = HasFilled s × (IsReading r 1 s.past × TakesNoChild r.middle.status)
+fork_facts r Tight Waiting s = HasFilled s × HasPassedNode r s.past
 fork_facts r (Word i) Waiting s = HasFilled s × ((0 < i) × ((i < NODE_WORDS) × IsReading r i s.past))
 fork_facts r Again Waiting s = HasFilled s × IsReading r NODE_WORDS s.past
 fork_facts r Room Waiting s = HasFilled s × HasReadNode r s.past
@@ -285,6 +306,8 @@ fork_facts r Swap Took s = HasFilled s × WasSplitInner r.upper r.middle s.past
 fork_facts r Done Waiting s = HasFilled s × WasSplitInner r.upper r.middle s.past
 fork_facts r NoRoom Waiting s = HasFilled s × LackedPart r.upper r.middle s.past
 fork_facts r Fresh Took s = ⊥
+fork_facts r Unread Took s = ⊥
+fork_facts r Tight Took s = ⊥
 fork_facts r (Word i) Took s = ⊥
 fork_facts r Again Took s = ⊥
 fork_facts r Room Took s = ⊥
@@ -306,6 +329,8 @@ fork_means upper middle outcome s = ⊥
 
 -- a guard is another one than the path names
 abbrev pub fork_differs : Link → Link → Link → Phase → Seen → Type 0
+fork_differs upper middle lower Unread (Was v) = v ≢ lower.status
+fork_differs upper middle lower Tight (Was v) = v ≢ middle.status
 fork_differs upper middle lower Again (Was v) = v ≢ lower.status
 fork_differs upper middle lower Room (Was v) = v ≢ middle.status
 fork_differs upper middle lower Check (Was v) = v ≢ middle.status
@@ -361,6 +386,24 @@ HasBegunFork nodes r phase old new = ⊥
 abbrev pub HasLookedFork : ℕ → Fork → Seen → Phase → FreeSlots → FreeSlots → Type 0
 HasLookedFork nodes r seen phase old new =
     ((seen ≡ Was r.upper.status) × HasBegunFork nodes r phase old new) ⊎ ((seen ≢ Was r.upper.status) × ((phase ≡ Restart) × (new ≡ old)))
+
+-- the node's words are read, unless the parent's status leaves room for no child
+abbrev pub IsFirst : Fork → Phase → Type 0
+IsFirst r Unread = TakesNoChild r.middle.status
+IsFirst r (Word i) = (i ≡ 1) × ¬ TakesNoChild r.middle.status
+IsFirst r phase = ⊥
+
+-- where they are not read, and the node's status is as it was, the parent's is looked at once more
+abbrev pub HasPassed : Fork → Seen → Phase → Type 0
+HasPassed r seen Tight = seen ≡ Was r.lower.status
+HasPassed r seen Restart = seen ≢ Was r.lower.status
+HasPassed r seen phase = ⊥
+
+-- and where that is as it was too, the task ends
+abbrev pub HasRefused : Fork → Seen → Phase → Type 0
+HasRefused r seen NoRoom = seen ≡ Was r.middle.status
+HasRefused r seen Restart = seen ≢ Was r.middle.status
+HasRefused r seen phase = ⊥
 
 -- where the node's status is as it was, the parent's is looked at
 abbrev pub HasRead : Fork → Seen → Phase → Type 0

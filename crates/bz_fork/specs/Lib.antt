@@ -1,3 +1,4 @@
 pub mod Due
 pub mod Duties
 pub mod Facts
+pub mod Halves

@@ -5,6 +5,7 @@ mod due;
 pub mod laws;
 mod parent;
 mod phase;
+mod room;
 mod split_inner;
 
 pub use due::is_due;

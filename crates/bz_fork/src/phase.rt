@@ -5,6 +5,10 @@
 pub(crate) enum Phase {
     /// Nothing was asked for yet.
     Fresh,
+    /// The load of the node's status, once more, where its words are not read: the parent has no room for any child more.
+    Unread,
+    /// The load of the parent's status there, once more.
+    Tight,
     /// The load of the node's word at this place.
     Word(u32),
     /// The load of the node's status, once more.

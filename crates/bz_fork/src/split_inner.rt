@@ -15,10 +15,12 @@ ghost use Rattle.bz_branch.specs.FromSplit.Facts.{split_change};
 ghost use Rattle.bz_branch.specs.Parts.{IsFullNode};
 ghost use Rattle.bz_fork.specs.Due.{IsDue};
 ghost use Rattle.bz_fork.specs.Duties.{fork_of, asks_fork, end_fork, left_fork, swaps_fork, made_fork, needs_fork, facts_fork, differs_fork, basis_fork};
-ghost use Rattle.bz_fork.specs.Facts.{fork_nodes, fork_acts, fork_end, fork_left, fork_swaps, fork_facts, fork_means, HasBegunFork, HasLookedFork, HasRead, HasOpened, HasTold, AreMadeOf, HasPlace, IsReadyFork, WasSplitInner, LackedPart, fork_needs, word_after, above_after, store_after, flush_after, swap_after, HasNode};
+ghost use Rattle.bz_fork.specs.Facts.{fork_nodes, fork_acts, fork_end, fork_left, fork_swaps, fork_facts, fork_means, HasBegunFork, HasLookedFork, HasRead, HasOpened, HasTold, AreMadeOf, HasPlace, IsReadyFork, WasSplitInner, LackedPart, fork_needs, IsFirst, HasPassed, HasRefused, word_after, above_after, store_after, flush_after, swap_after, HasNode};
 
+use crate::laws::full_nodes_have_halves;
 use crate::parent::parent_with;
 use crate::phase::Phase;
+use crate::room::takes_no_child;
 use bz_branch::laws::{inner_splits_are_good, parents_of_nodes_were, read_nodes_were};
 use bz_branch::{is_read, leaves_room, link_at, parts_of, swap_freezing_two, word_in};
 use bz_call::Spent;
@@ -36,8 +38,8 @@ const SPLIT_LINES: u32 = NODE_LINES * SPLIT_SLOTS;
 
 /// The split of an inner node of a path, below a parent. It ends with Done where a new parent, with the node's halves in its place, has
 /// taken the old one's place, and both are frozen; with Restart where a link or a status was another one; with NeedsRoom where the
-/// parent has no room for the separator, as its status tells before a word of it is read; and with Full where fewer than three slots or
-/// no descriptor were left.
+/// parent has no room for the separator, as its status tells before a word of it is read, and, where it has room for none, before one
+/// of the node is; and with Full where fewer than three slots or no descriptor were left.
 #[derive(Drop)]
 pub struct SplitInner {
     config: Config,
@@ -99,6 +101,40 @@ impl SplitInner {
 }
 
 impl SplitInner {
+    // The first phase that asks for something: the node's words are read, unless the parent's status, as the path names it, leaves room
+    // for no child.
+    fn first(&self) -> Phase
+        requires { self.now.middle.status < 2 ^ 61 }
+        ensures { IsFirst (fork_of self.now) result }
+    {
+        if takes_no_child(self.middle.status) {
+            Phase::Unread
+        } else {
+            Phase::Word(1)
+        }
+    }
+
+    // The phase after the status of the node whose words are not read, once more: where it is as it was, that of the parent.
+    fn passed(&self, seen: Seen) -> Phase
+        ensures { HasPassed (fork_of self.now) seen result }
+    {
+        if is_read(seen, self.lower.status) {
+            Phase::Tight
+        } else {
+            Phase::Restart
+        }
+    }
+
+    // The phase after the parent's status, once more, where it has room for no child.
+    fn refused(&self, seen: Seen) -> Phase
+        ensures { HasRefused (fork_of self.now) seen result }
+    {
+        if !is_read(seen, self.middle.status) {
+            return Phase::Restart;
+        }
+        Phase::NoRoom
+    }
+
     // The phase after the node's status, once more: the parent is looked at, where it is as it was.
     fn read_on(&self, seen: Seen) -> Phase
         ensures { HasRead (fork_of self.now) seen result }
@@ -205,6 +241,8 @@ impl SplitInner {
     // The phase after what came of a store, a flush or the swap.
     fn after(&self, seen: Seen, moment: u32) -> Phase
         requires begun { self.now.phase ≢ Phase.Fresh }
+        requires passed { self.now.phase ≢ Phase.Unread }
+        requires refused { self.now.phase ≢ Phase.Tight }
         requires read { (i : ℕ) → self.now.phase ≢ Phase.Word i }
         requires again { self.now.phase ≢ Phase.Again }
         requires opened { self.now.phase ≢ Phase.Room }
@@ -270,8 +308,11 @@ impl SplitInner {
         bz_parted::laws::read_nodes_have_children();
         read_nodes_were();
         parents_of_nodes_were();
+        full_nodes_have_halves();
         match self.phase {
-            Phase::Fresh => self.phase = Phase::Word(1),
+            Phase::Fresh => self.phase = self.first(),
+            Phase::Unread => self.phase = self.passed(seen),
+            Phase::Tight => self.phase = self.refused(seen),
             Phase::Word(i) => {
                 self.read.0[i as usize] = word_in(seen);
                 let next = next_place(&self.read, i);
@@ -312,9 +353,9 @@ impl SplitInner {
     {
         match self.phase {
             Phase::Word(i) => Todo::Read(self.config.node_at(self.middle.slot as u32) + i),
-            Phase::Again => Todo::Read(self.lower.guard),
+            Phase::Again | Phase::Unread => Todo::Read(self.lower.guard),
             Phase::Above(i) => Todo::Read(self.config.node_at(self.upper.slot as u32) + i),
-            Phase::Room | Phase::Check => Todo::Read(self.middle.guard),
+            Phase::Room | Phase::Check | Phase::Tight => Todo::Read(self.middle.guard),
             Phase::Guard => Todo::Read(self.upper.guard),
             Phase::Store(j) => {
                 let slot = self.slots[(j / NODE_WORDS) as usize] as u32;

@@ -65,7 +65,7 @@ pub returns-in_default : goal.returns-in_default
 returns-in_default c =
     let t = c.args.self.now in
     let k = c.requires.known in
-    let is : t.phase ≡ Swap = is-swap t.config (fork_of t) t.phase c.args.seen c.requires.begun c.requires.read c.requires.again c.requires.opened c.requires.above c.requires.told c.requires.looked c.in_default.not-Store c.in_default.not-Flush c.requires.hears in
+    let is : t.phase ≡ Swap = is-swap t.config (fork_of t) t.phase c.args.seen c.requires.begun c.requires.passed c.requires.refused c.requires.read c.requires.again c.requires.opened c.requires.above c.requires.told c.requires.looked c.in_default.not-Store c.in_default.not-Flush c.requires.hears in
     let a : Afters t.phase c.after_swap.result c.args.seen = swapped-after t.config (fork_of t) t.phase c.after_swap.result c.args.seen is c.after_swap.ensures c.requires.hears in
     record {
       nearer = a.nearer;

@@ -9,15 +9,18 @@ use Rattle.bz_task.specs.declared.todo.Seen.TheVariants.{Start, Swapped}
 use Rattle.bz_task.specs.declared.todo.Todo.TheVariants.{Read as Reads}
 use Rattle.bz_fork.specs.Duties.{fork_of, three}
 use Rattle.bz_fork.specs.Facts.{Fork, fork_facts, fork_asks, fork_needs, fork_left, fork_swaps, word_after, above_after, IsReadyFork, fork_end}
-use Rattle.bz_fork.specs.declared.phase.Phase.TheVariants.{Fresh, Word, Again, Room, Above, Check, Guard}
+use Rattle.bz_fork.specs.declared.phase.Phase.TheVariants.{Fresh, Unread, Tight, Word, Again, Room, Above, Check, Guard}
 use Rattle.bz_fork.specs.declared.split_inner.SplitInner.{SplitInner}
 use Rattle.bz_fork.proofs.Beginning.{heard-in, begins-fresh}
 use Rattle.bz_fork.proofs.Counting.{Counts, counts}
-use Rattle.bz_fork.proofs.Ending.{EndsWell, ends-well, first-ends, takes-none}
+use Rattle.bz_fork.proofs.Ending.{EndsWell, ends-well, takes-none}
 use Rattle.bz_fork.proofs.Opening.{Opens, opens, opened-learns, found, full-node}
 use Rattle.bz_fork.proofs.Telling.{Tolds, tolds, told-learns}
 use Rattle.bz_fork.proofs.Looking.{Looks, looks, looked-learns, planned-place}
-use Rattle.bz_fork.proofs.Reading.{Words, fresh-ready, word-within, words-on, fresh-known, word-known, word-ready}
+use Rattle.bz_fork.proofs.Passing.{Passes, passes, passed-learns}
+use Rattle.bz_fork.proofs.Refusing.{Refuses, refuses, refused-learns}
+use Rattle.bz_fork.proofs.Starting.{Firsts, plain, firsts, first-learns}
+use Rattle.bz_fork.proofs.Reading.{Words, word-within, words-on, word-known, word-ready}
 use Rattle.bz_fork.proofs.ReadingAbove.{Aboves, above-within, aboves-on, above-known, above-ready}
 use Rattle.bz_fork.proofs.ReadingOn.{Ons, reads, read-learns}
 use Rattle.bz_fork.proofs.Staying.{no-slot}
@@ -30,6 +33,12 @@ kept-of t i v = record { upper = t.upper; middle = t.middle; lower = t.lower; sl
 -- and with one word more of the parent
 abbrev kept-above : SplitInner → ℕ → ℕ → Fork
 kept-above t i v = record { upper = t.upper; middle = t.middle; lower = t.lower; slot = slice_index t.slots; image = three t.parent.0 t.left.0 t.right.0; read = t.read.0; above = slice_set t.above.0 i v }
+
+pub first-self-requires : goal.first-self-requires
+first-self-requires c =
+    let t = c.args.self.now in
+    let k = c.requires.known in
+    plain c.links_turn.ensures.asked (fork_of t) k.stage k.scene k.good (subst (λ z. fork_facts (fork_of t) z k.stage k.scene) c.in-Fresh.is k.holds)
 
 pub opened-self-requires : goal.opened-self-requires
 opened-self-requires c =
@@ -45,6 +54,70 @@ look-requires c =
     let t = c.args.self.now in
     let k = c.requires.known in
     planned-place t.config (fork_of t) k.stage k.scene k.config (subst (λ z. fork_facts (fork_of t) z k.stage k.scene) c.in-Guard.is k.holds)
+
+pub returns-in-Unread : goal.returns-in-Unread
+returns-in-Unread c =
+    let t = c.args.self.now in
+    let k = c.requires.known in
+    let hears : Hears (fork_asks t.config (fork_of t) Unread) c.args.seen = subst (λ z. Hears (fork_asks t.config (fork_of t) z) c.args.seen) c.in-Unread.is c.requires.hears in
+    let b : Passes (fork_of t) t.config c.args.seen c.passed-self.result c.args.slots.now = passes (fork_of t) t.config c.args.seen c.passed-self.result c.args.slots.now hears c.passed-self.ensures in
+    let e : EndsWell t.upper t.middle t.lower c.args.seen t.phase c.passed-self.result c.args.slots.now = subst (λ z. EndsWell t.upper t.middle t.lower c.args.seen z c.passed-self.result c.args.slots.now) (sym c.in-Unread.is) b.ends in
+    let m : Counts t.config (fork_of t) t.phase c.passed-self.result c.args.seen = counts t.config (fork_of t) t.phase c.passed-self.result c.args.seen (ap fork_swaps c.in-Unread.is) (ap (λ z. swaps_in (fork_asks t.config (fork_of t) z)) c.in-Unread.is) c.requires.hears in
+    record {
+      config = refl;
+      upper = refl;
+      middle = refl;
+      known = subst IsConfig k.config k.good.config;
+      begun = b.begun;
+      ready = b.ready;
+      nearer = omega (arith, b.nearer, ap fork_left c.in-Unread.is);
+      fewer = m.fewer;
+      counted = λ z. m.counted;
+      slots = takes-none t.phase c.passed-self.result c.args.slots.now (omega (arith, b.fewer, ap fork_needs c.in-Unread.is));
+      begins = λ q. absurd (heard-in t.config (fork_of t) t.phase Unread c.args.seen Start c.in-Unread.is q c.requires.hears);
+      done = e.done;
+      last = λ q. absurd (heard-in t.config (fork_of t) t.phase Unread c.args.seen (Swapped true) c.in-Unread.is q c.requires.hears);
+      restart = e.restart;
+      no_swap = e.no_swap;
+      full_swaps = e.full_swaps;
+      full_nodes = e.full_nodes;
+      learns = λ stage s same good free facts tells. no-slot c.nothing_is_gained.ensures (fork_of t) s c.args.slots.now c.passed-self.result
+          (passed-learns c.read_nodes_were.ensures t.config (fork_of t) c.passed-self.result c.args.seen stage s c.passed-self.ensures good
+          (subst (λ z. fork_facts (fork_of t) z stage s) c.in-Unread.is facts)
+          (subst (λ z. Tells (fork_asks t.config (fork_of t) z) stage c.args.seen s) c.in-Unread.is tells));
+    }
+
+pub returns-in-Tight : goal.returns-in-Tight
+returns-in-Tight c =
+    let t = c.args.self.now in
+    let k = c.requires.known in
+    let hears : Hears (fork_asks t.config (fork_of t) Tight) c.args.seen = subst (λ z. Hears (fork_asks t.config (fork_of t) z) c.args.seen) c.in-Tight.is c.requires.hears in
+    let b : Refuses (fork_of t) t.config c.args.seen c.refused-self.result c.args.slots.now = refuses (fork_of t) t.config c.args.seen c.refused-self.result c.args.slots.now hears c.refused-self.ensures in
+    let e : EndsWell t.upper t.middle t.lower c.args.seen t.phase c.refused-self.result c.args.slots.now = subst (λ z. EndsWell t.upper t.middle t.lower c.args.seen z c.refused-self.result c.args.slots.now) (sym c.in-Tight.is) b.ends in
+    let m : Counts t.config (fork_of t) t.phase c.refused-self.result c.args.seen = counts t.config (fork_of t) t.phase c.refused-self.result c.args.seen (ap fork_swaps c.in-Tight.is) (ap (λ z. swaps_in (fork_asks t.config (fork_of t) z)) c.in-Tight.is) c.requires.hears in
+    record {
+      config = refl;
+      upper = refl;
+      middle = refl;
+      known = subst IsConfig k.config k.good.config;
+      begun = b.begun;
+      ready = b.ready;
+      nearer = omega (arith, b.nearer, ap fork_left c.in-Tight.is);
+      fewer = m.fewer;
+      counted = λ z. m.counted;
+      slots = takes-none t.phase c.refused-self.result c.args.slots.now (omega (arith, b.fewer, ap fork_needs c.in-Tight.is));
+      begins = λ q. absurd (heard-in t.config (fork_of t) t.phase Tight c.args.seen Start c.in-Tight.is q c.requires.hears);
+      done = e.done;
+      last = λ q. absurd (heard-in t.config (fork_of t) t.phase Tight c.args.seen (Swapped true) c.in-Tight.is q c.requires.hears);
+      restart = e.restart;
+      no_swap = e.no_swap;
+      full_swaps = e.full_swaps;
+      full_nodes = e.full_nodes;
+      learns = λ stage s same good free facts tells. no-slot c.nothing_is_gained.ensures (fork_of t) s c.args.slots.now c.refused-self.result
+          (refused-learns c.parents_of_nodes_were.ensures c.read_nodes_have_children.ensures c.full_nodes_have_halves.ensures t.config (fork_of t) c.refused-self.result c.args.seen stage s c.refused-self.ensures good
+          (subst (λ z. fork_facts (fork_of t) z stage s) c.in-Tight.is facts)
+          (subst (λ z. Tells (fork_asks t.config (fork_of t) z) stage c.args.seen s) c.in-Tight.is tells));
+    }
 
 pub returns-in-Again : goal.returns-in-Again
 returns-in-Again c =
@@ -213,28 +286,29 @@ returns-in-Fresh c =
     let t = c.args.self.now in
     let k = c.requires.known in
     let hears : Hears (fork_asks t.config (fork_of t) Fresh) c.args.seen = subst (λ z. Hears (fork_asks t.config (fork_of t) z) c.args.seen) c.in-Fresh.is c.requires.hears in
-    let e : EndsWell t.upper t.middle t.lower c.args.seen t.phase (Word 1) c.args.slots.now = subst (λ z. EndsWell t.upper t.middle t.lower c.args.seen z (Word 1) c.args.slots.now) (sym c.in-Fresh.is) (first-ends t.config (fork_of t) c.args.seen c.args.slots.now hears) in
-    let m : Counts t.config (fork_of t) t.phase (Word 1) c.args.seen = counts t.config (fork_of t) t.phase (Word 1) c.args.seen (ap fork_swaps c.in-Fresh.is) (ap (λ z. swaps_in (fork_asks t.config (fork_of t) z)) c.in-Fresh.is) c.requires.hears in
+    let b : Firsts (fork_of t) t.config c.args.seen c.first-self.result c.args.slots.now = firsts (fork_of t) t.config c.args.seen c.first-self.result c.args.slots.now k.stage k.scene k.config k.good (subst (λ z. fork_facts (fork_of t) z k.stage k.scene) c.in-Fresh.is k.holds) hears c.first-self.ensures in
+    let e : EndsWell t.upper t.middle t.lower c.args.seen t.phase c.first-self.result c.args.slots.now = subst (λ z. EndsWell t.upper t.middle t.lower c.args.seen z c.first-self.result c.args.slots.now) (sym c.in-Fresh.is) b.ends in
+    let m : Counts t.config (fork_of t) t.phase c.first-self.result c.args.seen = counts t.config (fork_of t) t.phase c.first-self.result c.args.seen (ap fork_swaps c.in-Fresh.is) (ap (λ z. swaps_in (fork_asks t.config (fork_of t) z)) c.in-Fresh.is) c.requires.hears in
     record {
       config = refl;
       upper = refl;
       middle = refl;
       known = subst IsConfig k.config k.good.config;
-      begun = λ z. absurd (cc);
-      ready = fresh-ready t.config (fork_of t) c.args.seen k.stage k.scene k.config k.good (subst (λ z. fork_facts (fork_of t) z k.stage k.scene) c.in-Fresh.is k.holds);
-      nearer = omega (arith, ap fork_left c.in-Fresh.is);
+      begun = b.begun;
+      ready = b.ready;
+      nearer = omega (arith, b.nearer, ap fork_left c.in-Fresh.is);
       fewer = m.fewer;
       counted = λ z. m.counted;
-      slots = takes-none t.phase (Word 1) c.args.slots.now (omega (arith, ap fork_needs c.in-Fresh.is));
-      begins = λ q. refl;
+      slots = takes-none t.phase c.first-self.result c.args.slots.now (omega (arith, b.fewer, ap fork_needs c.in-Fresh.is));
+      begins = λ q. b.goes;
       done = e.done;
       last = λ q. absurd (heard-in t.config (fork_of t) t.phase Fresh c.args.seen (Swapped true) c.in-Fresh.is q c.requires.hears);
       restart = e.restart;
       no_swap = e.no_swap;
       full_swaps = e.full_swaps;
       full_nodes = e.full_nodes;
-      learns = λ stage s same good free facts tells. no-slot c.nothing_is_gained.ensures (fork_of t) s c.args.slots.now (Word 1)
-          (fresh-known t.config (fork_of t) c.args.seen stage s (subst (λ z. fork_facts (fork_of t) z stage s) c.in-Fresh.is facts) (subst (λ z. Tells (fork_asks t.config (fork_of t) z) stage c.args.seen s) c.in-Fresh.is tells));
+      learns = λ stage s same good free facts tells. no-slot c.nothing_is_gained.ensures (fork_of t) s c.args.slots.now c.first-self.result
+          (first-learns t.config (fork_of t) c.first-self.result c.args.seen stage s c.first-self.ensures (subst (λ z. fork_facts (fork_of t) z stage s) c.in-Fresh.is facts) (subst (λ z. Tells (fork_asks t.config (fork_of t) z) stage c.args.seen s) c.in-Fresh.is tells));
     }
 
 pub returns-in-Word : goal.returns-in-Word
