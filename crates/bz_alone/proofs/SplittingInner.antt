@@ -6,7 +6,7 @@ use Rattle.bz_branch.specs.InnerSplits.{inner_swap}
 use Rattle.bz_fork.specs.Duties.{fork_of}
 use Rattle.bz_fork.specs.Facts.{Fork, fork_asks, fork_facts, fork_differs}
 use Rattle.bz_fork.specs.declared.phase.Phase.{Phase}
-use Rattle.bz_fork.specs.declared.phase.Phase.TheVariants.{Again, Room, Check, Guard, Swap}
+use Rattle.bz_fork.specs.declared.phase.Phase.TheVariants.{Unread, Tight, Again, Room, Check, Guard, Swap}
 use Rattle.bz_alone.specs.Alone.{GoesOn}
 use Rattle.bz_alone.specs.Laws.{InnerSplitsGoOn}
 use Rattle.bz_alone.specs.Quiet.{IsQuietSince}
@@ -15,6 +15,8 @@ use Rattle.bz_alone.proofs.Going.{idles, reads, swaps}
 use Rattle.bz_alone.proofs.Links.{guard-same, inner-stands, open-below}
 
 goes : Laws → (s : Scene) → IsScene s → IsQuietSince s.past.since s.past → (r : Fork) (phase : Phase) → fork_facts r phase Waiting s → GoesOn (fork_asks s.past.config r phase) (fork_differs r.upper r.middle r.lower phase) s
+goes b s good q r Unread f = reads r.lower.guard (fork_differs r.upper r.middle r.lower Unread) s (λ v a d. d (guard-same b.values s good q r.lower v f.1.0.links.node.guard a))
+goes b s good q r Tight f = reads r.middle.guard (fork_differs r.upper r.middle r.lower Tight) s (λ v a d. d (guard-same b.values s good q r.middle v f.1.links.down.guard a))
 goes b s good q r Again f = reads r.lower.guard (fork_differs r.upper r.middle r.lower Again) s (λ v a d. d (guard-same b.values s good q r.lower v f.1.links.node.guard a))
 goes b s good q r Room f = reads r.middle.guard (fork_differs r.upper r.middle r.lower Room) s (λ v a d. d (guard-same b.values s good q r.middle v f.1.links.down.guard a))
 goes b s good q r Check f = reads r.middle.guard (fork_differs r.upper r.middle r.lower Check) s (λ v a d. d (guard-same b.values s good q r.middle v f.1.links.down.guard a))
