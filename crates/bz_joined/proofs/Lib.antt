@@ -1,6 +1,12 @@
+mod Alike
+mod Families
 mod Freezes
+mod Knowing
+mod Lacked
 mod Lone
 mod Merges
+mod Quiet
 mod Roomy
 mod Single
+mod Standing
 mod Swapped

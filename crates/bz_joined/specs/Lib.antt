@@ -1,5 +1,6 @@
 pub mod Laws
 pub mod Lone
+pub mod Neighbours
 pub mod FromRounds
 pub mod FromAlone
 pub mod FromTally

@@ -2,6 +2,7 @@
 
 ghost use Rattle.bz_joined.specs.Laws.{FreezesBesideKeepTheStage, FreezesBesideKeepTheLeaf, FrozenLeavesAreTheKeys, SmallFreezesLeaveACopy, MergesGiveRoom};
 ghost use Rattle.bz_joined.specs.Lone.{LoneFreezesBesideKeepTheStage, LoneFreezesBesideKeepTheLeaf, LoneOwnFreezesLeaveACopy, MergeSwapsGiveRoom, LoneFreezesFreezeTheLeaf};
+ghost use Rattle.bz_joined.specs.Neighbours.{NeighboursStand, LoneNeighboursLackRoom, LoneMergesTryTheirNeighbours, MergesKnowTheirLeaf, KnownLeavesStay, LoneTasksTryTheirNeighbours};
 
 use bz_alone::laws as alone;
 pub use bz_alone::laws::{
@@ -148,4 +149,56 @@ pub fn lone_freezes_freeze_the_leaf()
     content::well_formed_images_have_no_fault();
     shape::leaves_tile_the_keys();
     task::swaps_show_in_slots();
+}
+
+/// In a quiet time a leaf that may be merged may be merged throughout.
+pub fn neighbours_stand()
+    ensures { NeighboursStand }
+{
+    alone::read_values_stand();
+    alone::trees_stand();
+    content::well_formed_images_have_no_fault();
+    shape::leaves_tile_the_keys();
+    task::headers_say_the_level();
+}
+
+/// Where no neighbour of the key's leaf had room for it, none has while nobody's swap takes effect.
+pub fn lone_neighbours_lack_room()
+    ensures { LoneNeighboursLackRoom }
+{
+    alone::read_values_stand();
+    alone::trees_stand();
+    alone::lonely_times_are_quiet();
+    content::well_formed_images_have_no_fault();
+    slotted::leaf_rules_are_facts();
+    task::headers_say_the_level();
+    task::leaves_are_in_trees();
+    task::same_records_show_the_same();
+    task::seen_leaves_are_whole();
+}
+
+/// So a merge that has ended for want of a neighbour leaves a leaf that may not be merged.
+pub fn lone_merges_try_their_neighbours()
+    ensures { LoneMergesTryTheirNeighbours }
+{
+    lone_neighbours_lack_room();
+}
+
+/// A merge that goes on knows the leaf that it was made for.
+pub fn merges_know_their_leaf()
+    ensures { MergesKnowTheirLeaf }
+{
+}
+
+/// And it goes on knowing it.
+pub fn known_leaves_stay()
+    ensures { KnownLeavesStay }
+{
+}
+
+/// So whichever task ends for want of a neighbour leaves a leaf that may not be merged.
+pub fn lone_tasks_try_their_neighbours()
+    ensures { LoneTasksTryTheirNeighbours }
+{
+    lone_neighbours_lack_room();
 }

@@ -1,0 +1,102 @@
+-- A leaf that could be merged with a neighbour; and what a merge that ends for want of one tells of that.
+use Rattle.std.specs.Prelude.{◌≡◌, ◌⊎◌, ℕ, ◌+◌, ◌<◌, ◌≤◌, List, Option, Some, None}
+use Rattle.bz_layout.specs.declared.config.Config.{Config}
+use Rattle.bz_layout.specs.declared.thresholds.TheConstants.{MERGE_BELOW, SPLIT_ABOVE}
+use Rattle.bz_merge.specs.Duties.{facts_of}
+use Rattle.bz_merge.specs.Facts.{NoneFitted}
+use Rattle.bz_merge.specs.Siblings.{WasSeen}
+use Rattle.bz_merge.specs.declared.merge.Merge.{Merge}
+use Rattle.bz_merge.specs.declared.phase.Phase.TheVariants.{NoNeighbour}
+use Rattle.bz_shape.specs.Walk.{form}
+use Rattle.bz_slotted.specs.Page.{page}
+use Rattle.bz_slotted.specs.Records.{live_words}
+use Rattle.bz_content.specs.Content.{image_of, leaf_in, view_in}
+use Rattle.bz_content.specs.Image.{node}
+use Rattle.bz_content.specs.Resolving.{resolve}
+use Rattle.bz_task.specs.Scene.{Past, Scene, Waiting, Continues, IsScene, here}
+use Rattle.bz_task.specs.declared.path.Link.{Link}
+use Rattle.bz_task.specs.declared.todo.Outcome.{Outcome}
+use Rattle.bz_task.specs.declared.todo.Outcome.TheVariants.{NeedsRoom}
+use Rattle.bz_stage.specs.Stages.{leaf_page}
+use Rattle.bz_alone.specs.Alone.{IsAlone}
+use Rattle.bz_alone.specs.FromRunning.AnyTask.{AnyTask}
+use Rattle.bz_alone.specs.FromRunning.Duties as any
+use Rattle.bz_alone.specs.FromRunning.Kinds as kinds
+use Rattle.bz_alone.specs.FromRunning.MadeFor.{WasLeafOf, IsSmallMerge}
+use Rattle.bz_alone.specs.Quiet.{IsQuietSince, IsIn}
+
+-- the slot of the node above the key's leaf, and which of that node's children the leaf is
+abbrev pub parent_in : Config → (ℕ → ℕ) → List ℕ → ℕ
+parent_in c raw key = (form (view_in c raw)).up (leaf_in c raw key)
+
+abbrev pub place_in : Config → (ℕ → ℕ) → List ℕ → ℕ
+place_in c raw key = (form (view_in c raw)).index (leaf_in c raw key)
+
+-- the live words of the leaf, and those of child j of the node above it, which is a leaf too
+abbrev pub own_live : Config → (ℕ → ℕ) → List ℕ → ℕ
+own_live c raw key = live_words (leaf_page c (image_of raw) key)
+
+abbrev pub beside_live : Config → (ℕ → ℕ) → List ℕ → ℕ → ℕ
+beside_live c raw key j = live_words (page (node c (resolve raw) ((view_in c raw).child (parent_in c raw key) j)))
+
+-- in this image the key's leaf has fewer live words than a leaf needs to stand alone; and directly before or after it, below the same
+-- node, stands one with which it has together no more than a leaf may keep. A leaf that is the root has no neighbour: above it stands the
+-- superblock, which has one child
+pub record MayBeMerged (c : Config) (raw : ℕ → ℕ) (key : List ℕ) : Type 0 where
+  pub small : own_live c raw key < MERGE_BELOW
+  pub place : ℕ
+  pub within : place < (view_in c raw).count (parent_in c raw key)
+  pub next : (place ≡ place_in c raw key + 1) ⊎ (place + 1 ≡ place_in c raw key)
+  pub room : own_live c raw key + beside_live c raw key place ≤ SPLIT_ABOVE
+
+-- at each two moments of a quiet time, whichever is the later one: what may be merged at the one may be merged at the other
+abbrev pub NeighboursStand : Type 0
+NeighboursStand =
+    (s : Scene) (m i j : ℕ) (key : List ℕ) → IsScene s → IsQuietSince m s.past → IsIn m s.past i → IsIn m s.past j →
+    MayBeMerged s.past.config (s.past.at i).image key → MayBeMerged s.past.config (s.past.at j).image key
+
+-- the upper link leads to a node; and at a moment since the look-up began the leaf to which the lower one leads said what these words say
+pub record WasReadBelow (upper lower : Link) (leaf : List ℕ) (p : Past) : Type 0 where
+  pub above : upper.slot < p.config.nodes
+  pub status : ℕ
+  pub at : ℕ
+  pub low : Option (List ℕ)
+  pub high : Option (List ℕ)
+  pub seen : WasSeen (record { slot = lower.slot; status = status; image = leaf }) at low high p
+
+-- where nobody's swap took effect since the look-up began, no neighbour has room now for the key's leaf, where none had when it was read
+abbrev pub LoneNeighboursLackRoom : Type 0
+LoneNeighboursLackRoom =
+    (key : List ℕ) (upper lower : Link) (leaf : List ℕ) (s : Scene) → IsScene s → IsAlone 0 s.past → WasLeafOf key lower.slot s.past → WasReadBelow upper lower leaf s.past →
+    NoneFitted upper lower leaf s.past → MayBeMerged s.past.config (here s).image key → ⊥
+
+-- so a merge of the key's leaf that has ended because no neighbour fits leaves one that may not be merged
+abbrev pub LoneMergesTryTheirNeighbours : Type 0
+LoneMergesTryTheirNeighbours =
+    (t : Merge) (key : List ℕ) (s : Scene) → s.past.config ≡ t.config → IsScene s → facts_of t Waiting s → t.phase ≡ NoNeighbour → IsAlone 0 s.past →
+    WasLeafOf key t.lower.slot s.past → WasReadBelow t.upper t.lower t.leaf.0 s.past → MayBeMerged s.past.config (here s).image key → ⊥
+
+-- the task is one of which NeedsRoom means that no neighbour fitted the key's leaf, as it was read
+pub record KnowsItsLeaf (t : AnyTask) (key : List ℕ) (p : Past) : Type 0 where
+  pub upper : Link
+  pub lower : Link
+  pub leaf : List ℕ
+  pub was : WasLeafOf key lower.slot p
+  pub read : WasReadBelow upper lower leaf p
+  pub means : (z : Scene) → any.means_of t NeedsRoom z → NoneFitted upper lower leaf z.past
+
+-- a merge of that leaf is one while it goes on. So it is at a later moment, and when it was told something: what it means then it meant
+-- before
+abbrev pub MergesKnowTheirLeaf : Type 0
+MergesKnowTheirLeaf =
+    (t : AnyTask) (key : List ℕ) (s : Scene) → IsScene s → any.facts_of t Waiting s → kinds.kind_of t ≡ kinds.Merge → any.end_of t ≡ None → IsSmallMerge t key s.past → KnowsItsLeaf t key s.past
+
+pub record KnownLeavesStay : Type 0 where
+  pub later : (t : AnyTask) (key : List ℕ) (p q : Past) → KnowsItsLeaf t key p → Continues p q → KnowsItsLeaf t key q
+  pub heard : (old new : AnyTask) (key : List ℕ) (p : Past) → KnowsItsLeaf old key p → ((o : Outcome) (s : Scene) → any.means_of new o s → any.means_of old o s) → KnowsItsLeaf new key p
+
+-- where such a task ends with NeedsRoom, the key's leaf may not be merged
+abbrev pub LoneTasksTryTheirNeighbours : Type 0
+LoneTasksTryTheirNeighbours =
+    (t : AnyTask) (key : List ℕ) (s : Scene) → IsScene s → any.facts_of t Waiting s → kinds.kind_of t ≡ kinds.Merge → any.end_of t ≡ Some NeedsRoom → IsAlone 0 s.past →
+    KnowsItsLeaf t key s.past → MayBeMerged s.past.config (here s).image key → ⊥
