@@ -55,7 +55,8 @@ search-is : (n : ℕ → ℕ) (key : List ℕ) → search_to n (page n).meta key
 unfolding found_of
 search-is n key = refl
 
-live-is : (n : ℕ → ℕ) → live_to (page n).meta (page n).count ≡ live_of n
+-- the live words of a page are those of its words
+pub live-is : (n : ℕ → ℕ) → live_to (page n).meta (page n).count ≡ live_of n
 unfolding live_of
 live-is n = refl
 

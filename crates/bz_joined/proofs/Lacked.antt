@@ -25,7 +25,7 @@ use Rattle.bz_alone.specs.FromRunning.MadeFor.{WasLeafOf}
 use Rattle.bz_alone.specs.Quiet.{IsQuietSince, IsIn, LonelyTimesAreQuiet}
 use Rattle.bz_alone.specs.Trees.{SameTree}
 use Rattle.bz_joined.specs.Neighbours.{parent_in, place_in, own_live, beside_live, MayBeMerged, WasReadBelow, LoneNeighboursLackRoom}
-use Rattle.bz_joined.proofs.Alike.{live-alike}
+use Rattle.bz_joined.proofs.Alike.{live-alike, live-is}
 use Rattle.bz_joined.proofs.Families.{count-is, child-is, high-inside, up-is, index-is}
 use Rattle.bz_joined.proofs.Quiet.{Laws as Standing, fits-at, inner-read, same-tree, live-same, inner-same}
 
@@ -37,10 +37,6 @@ pub record Laws : Type 0 where
   pub leaves : LeavesAreInTrees
   pub shown : SameRecordsShowTheSame
   pub whole : SeenLeavesAreWhole
-
-live-is : (n : ℕ → ℕ) → live_of n ≡ live_words (page n)
-unfolding live_of
-live-is n = λ t. live_of n
 
 module _ (b : Laws) (s : Scene) (good : IsScene s) (alone : IsAlone 0 s.past) where
   abbrev c : Config
@@ -78,7 +74,7 @@ module _ (b : Laws) (s : Scene) (good : IsScene s) (alone : IsAlone 0 s.past) wh
         (λ key. sym (alike.found key) ∙ w.says key)
 
     live-now : live_words (page (durable s.past.config (here s) l.slot)) ≡ live_of (node_of l.image)
-    live-now = live-same b.standing s s.past.since at s.past.now good q then-it now l.slot below w.stood.inside ∙ (sym (live-is (durable c (s.past.at at) l.slot)) ∙ live-then)
+    live-now = live-same b.standing s s.past.since at s.past.now good q then-it now l.slot below w.stood.inside ∙ (live-is (durable c (s.past.at at) l.slot) ∙ live-then)
 
   -- the node above, of which these words were read
   module _ (key : List ℕ) (upper lower : Link) (read-leaf : List ℕ) (was : WasLeafOf key lower.slot s.past) (r : WasReadBelow upper lower read-leaf s.past) (f : NoneFitted upper lower read-leaf s.past) where

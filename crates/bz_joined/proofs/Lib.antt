@@ -1,4 +1,5 @@
 mod Alike
+mod DueMerges
 mod Families
 mod Freezes
 mod Knowing

@@ -1,6 +1,7 @@
 pub mod Laws
 pub mod Lone
 pub mod Neighbours
+pub mod DueMerges
 pub mod FromRounds
 pub mod FromAlone
 pub mod FromTally

@@ -2,6 +2,7 @@
 
 ghost use Rattle.bz_joined.specs.Laws.{FreezesBesideKeepTheStage, FreezesBesideKeepTheLeaf, FrozenLeavesAreTheKeys, SmallFreezesLeaveACopy, MergesGiveRoom};
 ghost use Rattle.bz_joined.specs.Lone.{LoneFreezesBesideKeepTheStage, LoneFreezesBesideKeepTheLeaf, LoneOwnFreezesLeaveACopy, MergeSwapsGiveRoom, LoneFreezesFreezeTheLeaf};
+ghost use Rattle.bz_joined.specs.DueMerges.{LoneViewsTellTheLiveWords, LoneRootLeavesHaveNoNeighbour, LoneMergesAreDue};
 ghost use Rattle.bz_joined.specs.Neighbours.{NeighboursStand, LoneNeighboursLackRoom, LoneMergesTryTheirNeighbours, MergesKnowTheirLeaf, KnownLeavesStay, LoneTasksTryTheirNeighbours};
 
 use bz_alone::laws as alone;
@@ -201,4 +202,35 @@ pub fn lone_tasks_try_their_neighbours()
     ensures { LoneTasksTryTheirNeighbours }
 {
     lone_neighbours_lack_room();
+}
+
+/// A leaf that was viewed has the live words of the view.
+pub fn lone_views_tell_the_live_words()
+    ensures { LoneViewsTellTheLiveWords }
+{
+    bz_page::laws::views_say_what_images_say();
+    alone::read_values_stand();
+    alone::trees_stand();
+    alone::lonely_times_are_quiet();
+    content::well_formed_images_have_no_fault();
+    task::headers_say_the_level();
+}
+
+/// A leaf that is the root may not be merged.
+pub fn lone_root_leaves_have_no_neighbour()
+    ensures { LoneRootLeavesHaveNoNeighbour }
+{
+    alone::read_values_stand();
+    alone::lonely_times_are_quiet();
+    alone::paths_lead_to_leaves();
+    content::well_formed_images_have_no_fault();
+}
+
+/// So where a leaf may be merged, its merge is due.
+pub fn lone_merges_are_due()
+    ensures { LoneMergesAreDue }
+{
+    lone_leaves_are_due();
+    lone_views_tell_the_live_words();
+    lone_root_leaves_have_no_neighbour();
 }

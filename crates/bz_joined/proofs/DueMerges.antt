@@ -1,0 +1,125 @@
+-- What was viewed of the key's leaf tells whether it may be merged, while nobody's swap takes effect.
+use Rattle.std.proofs.Common.{◌≡◌, ◌≢◌, ℕ, ◌+◌, ◌-◌, ◌<◌, ◌≤◌, ◌==◌, if◌then◌else◌, true, List, arith, refl, sym, ap, subst, ◌∙◌, inl, inr, Some}
+use Rattle.std.specs.Prelude.{slice_get}
+use Rattle.std.proofs.lemmas.Bool.{cases_lt}
+use Rattle.std.proofs.lemmas.Bool.Decides.{nat_tests}
+use Rattle.bz_layout.specs.declared.config.Config.{Config}
+use Rattle.bz_layout.specs.declared.sizes.TheConstants.{ROOT_AT}
+use Rattle.bz_page.specs.Laws.{IsSaidBy, ViewsSayWhatImagesSay}
+use Rattle.bz_shape.specs.Form.{Fits, Form}
+use Rattle.bz_shape.specs.View.{View}
+use Rattle.bz_slotted.specs.Page.{page}
+use Rattle.bz_slotted.specs.Readers.{child_of}
+use Rattle.bz_slotted.specs.Records.{live_words}
+use Rattle.bz_content.specs.Content.{image_of, leaf_in, view_in}
+use Rattle.bz_content.specs.Image.{Image, node, root}
+use Rattle.bz_content.specs.Laws.{WellFormedImagesHaveNoFault}
+use Rattle.bz_content.specs.Resolving.{resolve}
+use Rattle.bz_content.specs.View.{view_of}
+use Rattle.bz_task.specs.Good.{IsGood}
+use Rattle.bz_task.specs.Instant.{durable, form_at}
+use Rattle.bz_task.specs.Outcomes.{IsLink, IsPath}
+use Rattle.bz_task.specs.Scene.{Scene, IsScene, here}
+use Rattle.bz_task.specs.declared.path.Link.{Link}
+use Rattle.bz_task.specs.declared.path.Path.{Path}
+use Rattle.bz_alone.specs.Alone.{IsAlone}
+use Rattle.bz_alone.specs.Quiet.{IsQuietSince, IsIn, LonelyTimesAreQuiet, ReadValuesStand}
+use Rattle.bz_alone.specs.Trees.{PathsLeadToLeaves}
+use Rattle.bz_rounds.specs.Due.{LoneLeavesAreDue, MayBeMadeAnew}
+use Rattle.bz_joined.specs.DueMerges.{LoneViewsTellTheLiveWords, LoneRootLeavesHaveNoNeighbour, LoneMergesAreDue}
+use Rattle.bz_joined.specs.Neighbours.{parent_in, place_in, MayBeMerged}
+use Rattle.bz_joined.proofs.Alike.{live-is}
+use Rattle.bz_joined.proofs.Families.{up-is, index-is}
+use Rattle.bz_joined.proofs.Quiet.{Laws as Standing, live-same}
+use Rattle.bz_shape.proofs.TreeForms.{fits}
+
+-- the view has as many live words as its leaf
+pub views-tell-live : Standing → LonelyTimesAreQuiet → ViewsSayWhatImagesSay → LoneViewsTellTheLiveWords
+views-tell-live b lonely views key view s good alone v =
+    let q : IsQuietSince s.past.since s.past = lonely.whole s good alone in
+    let then-it : IsIn s.past.since s.past view.at = record { from = v.since; to = v.now } in
+    let now : IsIn s.past.since s.past s.past.now = record { from = good.begun; to = omega arith } in
+    let said : IsSaidBy key view s.past = views key view s.past v (good.history.good view.at v.since v.now) in
+    let below : view.slot ≢ s.past.config.nodes = λ e. absurd (omega (arith, e, v.slot)) in
+    let leaf : leaf_in s.past.config (here s).image key ≡ view.slot = (b.trees s s.past.since view.at s.past.now good q then-it now).leaf key ∙ v.leaf in
+    ap (λ k. live_words (page (durable s.past.config (here s) k))) leaf
+    ∙ (live-same b s s.past.since view.at s.past.now good q then-it now view.slot below said.holds.inside ∙ (live-is (durable s.past.config (s.past.at view.at) view.slot) ∙ sym said.live))
+
+itself : (k : ℕ) → (k == k) ≡ true
+itself k = grind (arith, nat_tests)
+
+-- the one child of the superblock
+root-child : (c : Config) (x : Image) → (view_of c x).child c.nodes 0 ≡ root x.words
+root-child c x = ap (λ t. if t then (if 0 == 0 then root x.words else 0) else child_of (node c x.words c.nodes) 0) (itself c.nodes)
+
+-- the laws on which it rests
+pub record Laws : Type 0 where
+  pub formed : WellFormedImagesHaveNoFault
+  pub values : ReadValuesStand
+  pub lonely : LonelyTimesAreQuiet
+  pub leads : PathsLeadToLeaves
+
+module _ (b : Laws) (key : List ℕ) (path : Path) (link : Link) (s : Scene) (good : IsScene s) (alone : IsAlone 0 s.past) (p : IsPath key path s.past) (last : slice_get path.links (path.depth - 1) ≡ Some link) (one : path.depth ≡ 1) where
+  abbrev c : Config
+  c = s.past.config
+
+  abbrev v : View
+  v = view_in s.past.config (here s).image
+
+  abbrev fm : Form
+  fm = form_at s.past.config (here s)
+
+  first : slice_get path.links 0 ≡ Some link
+  first = let e : path.depth - 1 ≡ 0 = omega (arith, one) in subst (λ i. slice_get path.links i ≡ Some link) e last
+
+  on : IsLink key s.past link
+  on = p.links 0 link (omega (arith, one)) first
+
+  good-now : IsGood s.past.config (here s)
+  good-now = good.history.good s.past.now good.begun (omega arith)
+
+  fits-now : Fits (view_in s.past.config (here s).image) (form_at s.past.config (here s))
+  fits-now = fits v ((b.formed c (here s).image).0 good-now.form).tree
+
+  pointer-now : (here s).value ROOT_AT ≡ link.slot + 1
+  pointer-now =
+      let was : IsIn s.past.since s.past on.was = record { from = on.since; to = on.now } in
+      b.values s s.past.since on.was ROOT_AT good (b.lonely.whole s good alone) was (inl refl) s.past.now on.was (record { from = good.begun; to = omega arith }) was
+      ∙ (ap (s.past.at on.was).value (sym (p.first link first).pointer) ∙ on.led)
+
+  root-now : root (resolve (here s).image) ≡ link.slot
+  root-now = omega (arith, good-now.root, pointer-now)
+
+  child-now : (view_in s.past.config (here s).image).child s.past.config.nodes 0 ≡ link.slot
+  child-now = root-child c (image_of (here s).image) ∙ root-now
+
+  leaf-now : leaf_in s.past.config (here s).image key ≡ link.slot
+  leaf-now = b.leads s key path link good alone p last
+
+  high : 0 < (form_at s.past.config (here s)).level s.past.config.nodes
+  high = omega (arith, fits-now.height, fits-now.tall)
+
+  within : 0 < (view_in s.past.config (here s).image).count s.past.config.nodes
+  within = omega (arith, fits-now.top_one)
+
+  -- it hangs from the superblock
+  up-now : parent_in s.past.config (here s).image key ≡ s.past.config.nodes
+  up-now = ap fm.up leaf-now ∙ up-is v fm fits-now c.nodes 0 link.slot fits-now.top high within child-now
+
+  place-now : place_in s.past.config (here s).image key ≡ 0
+  place-now = ap fm.index leaf-now ∙ index-is v fm fits-now c.nodes 0 link.slot fits-now.top high within child-now
+
+  pub no-neighbour : MayBeMerged s.past.config (here s).image key → ⊥
+  no-neighbour m = elim m.next [
+    | inl after ↦ absurd (omega (arith, after, place-now, m.within, ap v.count up-now, fits-now.top_one))
+    | inr before ↦ absurd (omega (arith, before, place-now))
+  ]
+
+pub roots-have-none : Laws → LoneRootLeavesHaveNoNeighbour
+roots-have-none b key path link s good alone p last one m = no-neighbour b key path link s good alone p last one m
+
+pub merges-are-due : LoneLeavesAreDue → LoneViewsTellTheLiveWords → LoneRootLeavesHaveNoNeighbour → LoneMergesAreDue
+merges-are-due due live root-law key path link view s good alone p last v m =
+    let anew : MayBeMadeAnew path view = due key path view s good alone p v in
+    let deep : 2 ≤ path.depth = elim (cases_lt path.depth 2) [ inl low ↦ absurd (root-law key path link s good alone p last (omega (arith, low, p.some)) m) | inr high ↦ high ] in
+    (deep, (anew.above deep, (omega (arith, m.small, live key view s good alone v), anew.led)))
