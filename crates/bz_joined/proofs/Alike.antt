@@ -23,7 +23,6 @@ use Rattle.bz_slotted.proofs.Pairs.{find-records}
 use Rattle.bz_slotted.proofs.Searches.{search-none}
 use Rattle.bz_word.specs.declared.meta.Extent.{Extent}
 
-
 abbrev map_of : List (List ℕ × List ℕ) → FinMap (slice_cmp nat_cmp) (List ℕ)
 map_of rs = from_entries rs
 

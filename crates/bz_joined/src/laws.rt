@@ -188,14 +188,12 @@ pub fn lone_merges_try_their_neighbours()
 /// A merge that goes on knows the leaf that it was made for.
 pub fn merges_know_their_leaf()
     ensures { MergesKnowTheirLeaf }
-{
-}
+{}
 
 /// And it goes on knowing it.
 pub fn known_leaves_stay()
     ensures { KnownLeavesStay }
-{
-}
+{}
 
 /// So whichever task ends for want of a neighbour leaves a leaf that may not be merged.
 pub fn lone_tasks_try_their_neighbours()
