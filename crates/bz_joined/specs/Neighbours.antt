@@ -85,17 +85,17 @@ pub record KnowsItsLeaf (t : AnyTask) (key : List ℕ) (p : Past) : Type 0 where
   pub read : WasReadBelow upper lower leaf p
   pub means : (z : Scene) → any.means_of t NeedsRoom z → NoneFitted upper lower leaf z.past
 
--- a merge of that leaf is one while it goes on. So it is at a later moment, and when it was told something: what it means then it meant
--- before
+-- a merge of the key's leaf is such a task while it goes on
 abbrev pub MergesKnowTheirLeaf : Type 0
 MergesKnowTheirLeaf =
     (t : AnyTask) (key : List ℕ) (s : Scene) → IsScene s → any.facts_of t Waiting s → kinds.kind_of t ≡ kinds.Merge → any.end_of t ≡ None → IsSmallMerge t key s.past → KnowsItsLeaf t key s.past
 
+-- it is one later too, and once it was told something, where what it means then it meant before
 pub record KnownLeavesStay : Type 0 where
   pub later : (t : AnyTask) (key : List ℕ) (p q : Past) → KnowsItsLeaf t key p → Continues p q → KnowsItsLeaf t key q
   pub heard : (old new : AnyTask) (key : List ℕ) (p : Past) → KnowsItsLeaf old key p → ((o : Outcome) (s : Scene) → any.means_of new o s → any.means_of old o s) → KnowsItsLeaf new key p
 
--- where such a task ends with NeedsRoom, the key's leaf may not be merged
+-- and where such a merge ends with NeedsRoom, the key's leaf may not be merged
 abbrev pub LoneTasksTryTheirNeighbours : Type 0
 LoneTasksTryTheirNeighbours =
     (t : AnyTask) (key : List ℕ) (s : Scene) → IsScene s → any.facts_of t Waiting s → kinds.kind_of t ≡ kinds.Merge → any.end_of t ≡ Some NeedsRoom → IsAlone 0 s.past →
