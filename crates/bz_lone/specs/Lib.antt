@@ -5,6 +5,7 @@ pub mod Sum
 pub mod Steps
 pub mod Rounds
 pub mod Renewals
+pub mod FromJoined
 pub mod FromRounds
 pub mod FromCosts
 pub mod FromAlone

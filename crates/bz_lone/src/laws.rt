@@ -9,11 +9,12 @@ use bz_costs::laws as costs;
 pub use bz_costs::laws::{asked_swaps_are_counted, lone_calls_are_affordable};
 use bz_joined::laws as joined;
 pub use bz_joined::laws::{
-    brief_look_ups_go_on, effects_never_fall, gets_are_brief, leaves_come_and_go,
-    lone_ascents_are_below_the_stage, lone_ascents_are_due, lone_key_views_tell_the_stage,
-    lone_leaves_are_due, lone_restarts_are_refusals, lone_views_tell_the_leaf,
-    lone_views_tell_the_stage, loners_go_on, look_ups_are_brief, own_swaps_are_counted,
-    ways_are_brief,
+    brief_look_ups_go_on, effects_never_fall, gets_are_brief, known_leaves_stay,
+    leaves_come_and_go, lone_ascents_are_below_the_stage, lone_ascents_are_due,
+    lone_key_views_tell_the_stage, lone_leaves_are_due, lone_merges_are_due,
+    lone_restarts_are_refusals, lone_tasks_try_their_neighbours, lone_views_tell_the_leaf,
+    lone_views_tell_the_live_words, lone_views_tell_the_stage, loners_go_on, look_ups_are_brief,
+    merges_know_their_leaf, neighbours_stand, own_swaps_are_counted, ways_are_brief,
 };
 use bz_rivals::laws as rivals;
 use bz_swap::laws as swap;
