@@ -4,6 +4,7 @@ pub mod Copies
 pub mod Frozen
 pub mod HalvingBelow
 pub mod HalvingInner
+pub mod Lasts
 pub mod LeafWords
 pub mod Links
 pub mod Merges

@@ -1,5 +1,5 @@
 -- What the swap of each task makes of the number of leaves.
-use Rattle.std.specs.Prelude.{◌≡◌, ◌⊎◌, ℕ, List}
+use Rattle.std.specs.Prelude.{◌≡◌, ◌⊎◌, ℕ, ◌+◌, ◌<◌, ◌≤◌, List}
 use Rattle.bz_below.specs.Duties.{asks_below, facts_below}
 use Rattle.bz_below.specs.declared.split_below.SplitBelow.{SplitBelow}
 use Rattle.bz_consol.specs.Duties as consol
@@ -20,7 +20,9 @@ use Rattle.bz_mutate.specs.DeleteDuties as delete
 use Rattle.bz_mutate.specs.UpdateDuties as update
 use Rattle.bz_mutate.specs.declared.delete.Delete.{Delete}
 use Rattle.bz_mutate.specs.declared.update.Update.{Update}
-use Rattle.bz_running.specs.Duties.{config_of, asks_of, facts_of}
+use Rattle.bz_running.specs.Duties.{config_of, asks_of, facts_of, swaps_of}
+use Rattle.bz_running.specs.Kinds.{kind_of}
+use Rattle.bz_running.specs.Kinds as kinds
 use Rattle.bz_running.specs.declared.running.AnyTask.{AnyTask}
 use Rattle.bz_running.specs.declared.running.AnyTask.TheVariants.{Splitting, SplittingBelow, Merging}
 use Rattle.bz_split.specs.Duties as split
@@ -28,7 +30,7 @@ use Rattle.bz_split.specs.declared.split_root.SplitRoot.{SplitRoot}
 use Rattle.bz_word.specs.declared.entry.Entry.{Entry}
 use Rattle.bz_task.specs.Instant.{Instant}
 use Rattle.bz_task.specs.Scene.{Scene}
-use Rattle.bz_tally.specs.Counts.{KeepsTheLeaves, SplitsLeaf, MergesLeaves}
+use Rattle.bz_tally.specs.Counts.{KeepsTheLeaves, SplitsLeaf, MergesLeaves, leaves_now, leaves_then}
 use Rattle.bz_tally.specs.Swaps.{IsOwnSwap}
 
 -- both swaps of an insert and of an update, that of a delete and that of a freeze leave the number
@@ -106,3 +108,12 @@ abbrev pub LeavesComeAndGo : Type 0
 LeavesComeAndGo =
     (t : AnyTask) (entries : List Entry) (s : Scene) (y : Instant) → IsOwnSwap (config_of t) (asks_of t) (facts_of t) entries s y →
     KeepsTheLeaves s y ⊎ (Grows t s y ⊎ Shrinks t s y)
+
+-- with the last swap that a merge can still ask for there is one leaf less, and with those before it there are as many
+pub record CountsAtLast (t : AnyTask) (s : Scene) (y : Instant) : Type 0 where
+  pub last : swaps_of t ≤ 1 → leaves_then s y + 1 ≡ leaves_now s
+  pub before : 1 < swaps_of t → leaves_then s y ≡ leaves_now s
+
+abbrev pub MergesCountAtLast : Type 0
+MergesCountAtLast =
+    (t : AnyTask) (entries : List Entry) (s : Scene) (y : Instant) → IsOwnSwap (config_of t) (asks_of t) (facts_of t) entries s y → kind_of t ≡ kinds.Merge → CountsAtLast t s y

@@ -1,7 +1,7 @@
 //! Laws of what the swaps of tasks make of the number of leaves. Each function does nothing but call the laws that it follows from: its
 //! contract is the law.
 
-ghost use Rattle.bz_tally.specs.Laws.{ChangesKeepTheLeaves, CopiesKeepTheLeaves, LeafSplitsCount, InnerSplitsKeepTheLeaves, RootLeafSplitsCount, InnerRootSplitsKeepTheLeaves, MergesCount, SwapsCount, LeavesComeAndGo};
+ghost use Rattle.bz_tally.specs.Laws.{ChangesKeepTheLeaves, CopiesKeepTheLeaves, LeafSplitsCount, InnerSplitsKeepTheLeaves, RootLeafSplitsCount, InnerRootSplitsKeepTheLeaves, MergesCount, SwapsCount, LeavesComeAndGo, MergesCountAtLast};
 
 use bz_content::laws as content;
 use bz_halves::laws as halves;
@@ -138,6 +138,13 @@ pub fn swaps_count()
 /// One leaf more comes only by the split of a leaf, and one less only by the merge of two.
 pub fn leaves_come_and_go()
     ensures { LeavesComeAndGo }
+{
+    swaps_count();
+}
+
+/// With the last swap that a merge can still ask for there is one leaf less, and with those before it there are as many.
+pub fn merges_count_at_last()
+    ensures { MergesCountAtLast }
 {
     swaps_count();
 }
