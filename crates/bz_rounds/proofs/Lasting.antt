@@ -1,5 +1,5 @@
--- In a quiet time the key's leaf has the status and the metadata words that it had, and the nodes above it have their statuses: so the stage
--- of the key is what it was.
+-- In a quiet time the key's leaf has the status and the metadata words that it had, and the nodes above it have their statuses: so its live
+-- words, the height of the tree and the stage of the key are what they were.
 use Rattle.std.proofs.Common.{◌≡◌, ◌≢◌, ℕ, ◌+◌, ◌-◌, ◌<◌, if◌then◌else◌, ◌&&◌, Bool, true, List, arith, refl, sym, ap, ◌∙◌, inl, inr}
 use Rattle.std.specs.Prelude.{not, nat_lt, nat_le}
 use Rattle.std.proofs.lemmas.Bool.{cases_lt}
@@ -134,8 +134,11 @@ module _ (b : Laws) (s : Scene) (m i j : ℕ) (key : List ℕ) (good : IsScene s
   taken-same : words_taken (leaf_page c (image_of y.image) key) ≡ words_taken (leaf_page c (image_of x.image) key)
   taken-same = ap (λ k. words_taken (page (durable c y k))) (same.leaf key) ∙ ap (λ z. (status z).count + (status z).block) leaf-status
 
+  live-stays : live_words (leaf_page c (image_of y.image) key) ≡ live_words (leaf_page c (image_of x.image) key)
+  live-stays = ap (λ k. live_words (page (durable c y k))) (same.leaf key) ∙ live-is leaf leaf-below holds.inside
+
   crowded-same : is_crowded (leaf_page c (image_of y.image) key) ≡ is_crowded (leaf_page c (image_of x.image) key)
-  crowded-same = ap (λ k. is_crowded (page (durable c y k))) (same.leaf key) ∙ ap (λ n. nat_lt SPLIT_ABOVE n) (live-is leaf leaf-below holds.inside)
+  crowded-same = ap (λ n. nat_lt SPLIT_ABOVE n) live-stays
 
   -- the root, and its level
   root-same : root (resolve y.image) ≡ root (resolve x.image)
@@ -173,7 +176,13 @@ module _ (b : Laws) (s : Scene) (m i j : ℕ) (key : List ℕ) (good : IsScene s
       ∙ run-same (λ level. is_full (page_on_path c (image_of y.image) key level)) (λ level. is_full (page_on_path c (image_of x.image) key level)) 1 (root_level c (image_of x.image)) (λ level some within. full-same level within)
 
   pub same-stage : SameStage s.past.config (s.past.at i) (s.past.at j) key
-  same-stage = record { frozen = frozen-same; crowded = crowded-same; stage = λ need t. stage_by (frozen-same t) (taken-same t) (crowded-same t) (above-same t) need }
+  same-stage = record {
+    frozen = frozen-same;
+    crowded = crowded-same;
+    live = live-stays;
+    height = ap (λ n. n + 1) levels-same;
+    stage = λ need t. stage_by (frozen-same t) (taken-same t) (crowded-same t) (above-same t) need;
+  }
 
 pub stages-stand : Laws → StagesStand
 stages-stand b s m i j key good q in-i in-j = same-stage b s m i j key good q in-i in-j

@@ -1,6 +1,6 @@
 -- Before a node is made anew it is asked whether the guards of the links on the way to it were no frozen nodes'. While nobody's swap takes
 -- effect they were not: inner nodes of a tree are not frozen, and neither is the root status.
-use Rattle.std.specs.Prelude.{◌≡◌, ℕ, ◌+◌, ◌-◌, ◌<◌, ◌≤◌, true, false, List, Some, slice_get}
+use Rattle.std.specs.Prelude.{◌≡◌, ℕ, ◌+◌, ◌<◌, ◌≤◌, true, false, List, Some, slice_get}
 use Rattle.bz_ascent.specs.Ascents.{IsAscent}
 use Rattle.bz_ascent.specs.declared.ascent.Ascent.{Ascent}
 use Rattle.bz_below.specs.Facts.{IsThawedAbove}

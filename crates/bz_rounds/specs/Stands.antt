@@ -4,8 +4,9 @@ use Rattle.bz_layout.specs.declared.config.Config.{Config}
 use Rattle.bz_layout.specs.declared.thresholds.TheConstants.{SPLIT_ABOVE}
 use Rattle.bz_slotted.specs.Readers.{live_of}
 use Rattle.bz_slotted.specs.ReadingLaws.{node_of}
+use Rattle.bz_slotted.specs.Records.{live_words}
 use Rattle.bz_word.specs.Statuses.{status}
-use Rattle.bz_content.specs.Content.{image_of}
+use Rattle.bz_content.specs.Content.{image_of, view_in}
 use Rattle.bz_task.specs.Instant.{Instant}
 use Rattle.bz_task.specs.Outcomes.{IsView, IsKeyView}
 use Rattle.bz_task.specs.Scene.{Scene, IsScene, here}
@@ -16,10 +17,13 @@ use Rattle.bz_stage.specs.Stages.{leaf_page, stage_in}
 use Rattle.bz_alone.specs.Alone.{IsAlone}
 use Rattle.bz_alone.specs.Quiet.{IsQuietSince, IsIn}
 
--- the key's leaf is frozen or not, crowded or not, as it was, and the stage is the same, for however many words
+-- the key's leaf is frozen or not, crowded or not, with the live words that it had, the tree is as high as it was, and the stage is the same,
+-- for however many words
 pub record SameStage (c : Config) (x y : Instant) (key : List ℕ) : Type 0 where
   pub frozen : (leaf_page c (image_of y.image) key).frozen ≡ (leaf_page c (image_of x.image) key).frozen
   pub crowded : is_crowded (leaf_page c (image_of y.image) key) ≡ is_crowded (leaf_page c (image_of x.image) key)
+  pub live : live_words (leaf_page c (image_of y.image) key) ≡ live_words (leaf_page c (image_of x.image) key)
+  pub height : (view_in c y.image).height ≡ (view_in c x.image).height
   pub stage : (words : ℕ) → stage_in c y.image key words ≡ stage_in c x.image key words
 
 -- at each two moments of a quiet time, whichever is the later one
