@@ -22,6 +22,8 @@ unfolding leaf_count
 leaf-words b c x y t s = record {
   leaves = ap (λ (us : List Visit). count_by (λ k. (form_of us).inside k && ((form_of us).level k == 0)) (range_with_len 0 c.nodes)) same;
   inside = λ k. ap (λ (us : List Visit). (form_of us).inside k) same;
+  form = ap form_of same;
+  height = height;
 }
   where
     f : Form

@@ -41,10 +41,12 @@ pub record OnLeaves (c : Config) (x y : Image) : Type 0 where
   pub inners : (k : ℕ) → (form_in c x).inside k ≡ true → 0 < (form_in c x).level k → k ≢ c.nodes → SameNode c x y k
   pub leaves : (k : ℕ) → (form_in c x).inside k ≡ true → (form_in c x).level k ≡ 0 → level_of (node c y.words k) ≡ level_of (node c x.words k)
 
--- then each slot is in the tree that was, and the number is the same
+-- then each slot is in the tree that was, and stands where it stood, the tree is as high as it was, and the number is the same
 pub record KeepsSlots (c : Config) (x y : Image) : Type 0 where
   pub leaves : AsManyLeaves c x y
   pub inside : (k : ℕ) → (form_in c y).inside k ≡ (form_in c x).inside k
+  pub form : form_in c y ≡ form_in c x
+  pub height : (view_of c y).height ≡ (view_of c x).height
 
 -- whatever the leaves say
 abbrev pub WordsOfLeavesDoNotCount : Type 0

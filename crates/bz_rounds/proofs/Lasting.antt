@@ -36,7 +36,7 @@ use Rattle.bz_stage.specs.Stages.{leaf_page, page_on_path, root_level, full_abov
 use Rattle.bz_alone.specs.Quiet.{IsQuietSince, IsIn, ReadValuesStand}
 use Rattle.bz_alone.specs.Trees.{SameTree, TreesStand}
 use Rattle.bz_rounds.specs.Stands.{SameStage, StagesStand}
-use Rattle.bz_rounds.proofs.Viewing.{live-same}
+use Rattle.bz_tally.proofs.Lives.{live-same}
 
 -- the laws on which it rests
 pub record Laws : Type 0 where

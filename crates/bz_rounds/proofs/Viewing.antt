@@ -1,5 +1,5 @@
 -- The key's leaf as it was read whole, while nobody's swap takes effect: it is so now.
-use Rattle.std.proofs.Common.{◌≡◌, ℕ, zero, suc, ◌+◌, ◌<◌, if◌then◌else◌, true, List, arith, refl, sym, ap, ◌∙◌, inl}
+use Rattle.std.proofs.Common.{◌≡◌, ℕ, ◌+◌, ◌<◌, true, List, arith, refl, sym, ap, ◌∙◌, inl}
 use Rattle.std.specs.Prelude.{slice_index, nat_lt}
 use Rattle.bz_layout.specs.declared.config.Config.{Config}
 use Rattle.bz_layout.specs.declared.sizes.TheConstants.{STATUS_AT, META_AT}
@@ -7,13 +7,12 @@ use Rattle.bz_layout.specs.declared.thresholds.TheConstants.{SPLIT_ABOVE}
 use Rattle.bz_shape.specs.Form.{Holds}
 use Rattle.bz_shape.specs.TreeLaws.{LeavesTileTheKeys}
 use Rattle.bz_slotted.specs.Laws.{LeafRulesAreFacts}
-use Rattle.bz_slotted.specs.Page.{page, meta_of, visible}
+use Rattle.bz_slotted.specs.Page.{page, meta_of}
 use Rattle.bz_slotted.specs.ReadingLaws.{node_of}
 use Rattle.bz_slotted.specs.Readers.{live_of}
-use Rattle.bz_slotted.specs.Records.{live_to, live_words, weight}
+use Rattle.bz_slotted.specs.Records.{live_to, live_words}
 use Rattle.bz_slotted.specs.Whole.{Whole}
 use Rattle.bz_word.specs.Statuses.{status}
-use Rattle.bz_word.specs.declared.meta.Meta.{Meta}
 use Rattle.bz_content.specs.Content.{image_of, leaf_in, view_in}
 use Rattle.bz_task.specs.Good.{IsGood}
 use Rattle.bz_task.specs.Instant.{words, durable, form_at}
@@ -23,13 +22,9 @@ use Rattle.bz_task.specs.declared.view.LeafView.{LeafView}
 use Rattle.bz_stage.specs.Stages.{leaf_page}
 use Rattle.bz_alone.specs.Quiet.{IsQuietSince}
 use Rattle.bz_rounds.specs.Stands.{LoneViewsTellTheLeaf}
+use Rattle.bz_tally.proofs.Lives.{live-same}
 use Rattle.bz_rounds.proofs.Seeing.{Laws}
 use Rattle.bz_rounds.proofs.Staying.{Laws as Staying, reached-at, good-then, same-tree, word-stays}
-
-pub live-same : (f g : ℕ → Meta) (n : ℕ) → ((j : ℕ) → j < n → f j ≡ g j) → live_to f n ≡ live_to g n
-unfolding live_to
-live-same f g zero h = refl
-live-same f g (suc n) h = λ t. live-same f g n (λ j l. h j (omega arith)) t + (if visible (h n (omega arith) t) then 1 + weight (h n (omega arith) t) else 0)
 
 live-is : (n : ℕ → ℕ) → live_of n ≡ live_words (page n)
 unfolding live_of

@@ -92,11 +92,11 @@ module _ (b : Laws) (entries : List Entry) (s : Scene) (y : Instant) (k : ℕ) (
     leaves = λ j i e. header-same (node c (resolve (here s).image) j) (node c (resolve y.image) j) (header-stays j);
   }
 
+  pub kept : KeepsSlots s.past.config (image_of (here s).image) (image_of y.image)
+  kept = let w : IsWellFormed c (here s).image = (b.formed c (here s).image).0 g.form in b.count c (image_of (here s).image) (image_of y.image) w.tree on-leaves
+
   pub keeps : KeepsTheLeaves s y
-  keeps =
-      let w : IsWellFormed c (here s).image = (b.formed c (here s).image).0 g.form in
-      let kept : KeepsSlots c (image_of (here s).image) (image_of y.image) = b.count c (image_of (here s).image) (image_of y.image) w.tree on-leaves in
-      record { same = kept.leaves; back = λ k i. inl (sym (kept.inside k) ∙ i) }
+  keeps = record { same = kept.leaves; back = λ k i. inl (sym (kept.inside k) ∙ i) }
 
 -- the entries of a leaf's status, and of one of its metadata words besides
 pub names-status : (c : Config) (k : ℕ) (e : Entry) → e.target ≡ node_address c k + STATUS_AT → (a : ℕ) → is_target (e ∷ []) a ≡ true → IsBody c k a

@@ -1,4 +1,5 @@
 pub mod Counts
+pub mod Deletes
 pub mod Laws
 pub mod Swaps
 pub mod FromLeaves

@@ -1,6 +1,7 @@
 //! Laws of what the swaps of tasks make of the number of leaves. Each function does nothing but call the laws that it follows from: its
 //! contract is the law.
 
+ghost use Rattle.bz_tally.specs.Deletes.{DeletesTakeOneRecord};
 ghost use Rattle.bz_tally.specs.Laws.{ChangesKeepTheLeaves, CopiesKeepTheLeaves, LeafSplitsCount, InnerSplitsKeepTheLeaves, RootLeafSplitsCount, InnerRootSplitsKeepTheLeaves, MergesCount, SwapsCount, LeavesComeAndGo, MergesCountAtLast};
 
 use bz_content::laws as content;
@@ -8,6 +9,7 @@ use bz_halves::laws as halves;
 use bz_join::laws as join;
 use bz_leaves::laws as leaves;
 use bz_parted::laws as parted;
+use bz_record::laws as record;
 use bz_renew::laws as renew;
 use bz_slotted::laws as slotted;
 use bz_task::laws as task;
@@ -147,4 +149,20 @@ pub fn merges_count_at_last()
     ensures { MergesCountAtLast }
 {
     swaps_count();
+}
+
+/// The swap of a delete leaves the leaf of its key all live words but those of one record, and the tree as it stands.
+pub fn deletes_take_one_record()
+    ensures { DeletesTakeOneRecord }
+{
+    leaves::words_of_leaves_do_not_count();
+    bz_layout::slots_apart();
+    bz_shape::laws::leaves_tile_the_keys();
+    bz_word::laws::statuses();
+    content::well_formed_images_have_no_fault();
+    record::leaves_stay();
+    record::removals_are_good();
+    slotted::leaf_rules_are_facts();
+    task::ranges_stay();
+    task::swaps_show_in_slots();
 }

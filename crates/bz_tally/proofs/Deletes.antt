@@ -1,0 +1,32 @@
+-- A delete asks for the removal of the record that it found.
+use Rattle.std.proofs.Common.{◌≡◌, ℕ, List, Some, ap, subst, sym, ◌∙◌}
+use Rattle.bz_layout.specs.declared.config.Config.{Config}
+use Rattle.bz_mutate.specs.DeleteFacts.{delete_asks, delete_facts}
+use Rattle.bz_mutate.specs.declared.delete_phase.DeletePhase.{DeletePhase}
+use Rattle.bz_mutate.specs.declared.delete_phase.DeletePhase.TheVariants.{Remove}
+use Rattle.bz_record.specs.Replacing.{removal}
+use Rattle.bz_record.specs.Swaps.{entries_of}
+use Rattle.bz_running.specs.Duties.{config_of, asks_of, facts_of, change_of}
+use Rattle.bz_running.specs.Kinds.{kind_of}
+use Rattle.bz_running.specs.declared.running.AnyTask.TheVariants.{Deleting}
+use Rattle.bz_word.specs.declared.entry.Entry.{Entry}
+use Rattle.bz_task.specs.Instant.{Instant}
+use Rattle.bz_task.specs.Scene.{Scene, Waiting, IsScene, here}
+use Rattle.bz_task.specs.Swaps.{Stand, SwapsTo}
+use Rattle.bz_task.specs.declared.todo.Todo.TheVariants.{Swap as Swaps_for}
+use Rattle.bz_task.specs.declared.view.KeyView.{KeyView}
+use Rattle.bz_tally.proofs.Changes.{same-entries}
+use Rattle.bz_tally.proofs.Removals.{Laws, loses}
+use Rattle.bz_tally.specs.Deletes.{DeletesTakeOneRecord, LosesOneRecord}
+
+delete-loses : Laws → (c : Config) (key : List ℕ) (v : KeyView) (phase : DeletePhase) (s : Scene) (y : Instant) (entries : List Entry) → s.past.config ≡ c → delete_facts key v phase Waiting s → IsScene s
+    → delete_asks c v phase ≡ Some (Swaps_for entries) → Stand entries (here s) → SwapsTo s.past.config entries (here s) y → LosesOneRecord key s y
+delete-loses b c key v (Remove f) s y entries same facts good e stand swaps =
+    let is : entries_of s.past.config (removal v.slot v.status f.place f.extent) ≡ entries = ap (λ z. entries_of z (removal v.slot v.status f.place f.extent)) same ∙ same-entries _ entries e in
+    loses b s y key facts.1.payload v.slot v.status f.place f.extent good facts.1.was facts.1.thawed (subst (λ z. Stand z (here s)) (sym is) stand) (subst (λ z. SwapsTo s.past.config z (here s) y) (sym is) swaps)
+delete-loses b c key v phase s y entries same facts good e stand swaps = absurd (cc)
+
+pub deletes-take-one : Laws → DeletesTakeOneRecord
+unfolding config_of asks_of facts_of change_of kind_of
+deletes-take-one b (Deleting t) entries s y w e = delete-loses b t.config t.key t.view t.phase s y entries w.config w.knows w.good w.asks w.stand w.leads
+deletes-take-one b t entries s y w e = absurd (cc)
