@@ -14,7 +14,7 @@ pub use bz_joined::laws::{
     lone_key_views_tell_the_stage, lone_leaves_are_due, lone_merges_are_due,
     lone_restarts_are_refusals, lone_tasks_try_their_neighbours, lone_views_tell_the_leaf,
     lone_views_tell_the_live_words, lone_views_tell_the_stage, loners_go_on, look_ups_are_brief,
-    merges_know_their_leaf, neighbours_stand, own_swaps_are_counted, ways_are_brief,
+    merges_know_their_leaf, neighbours_stand, own_swaps_are_counted, stages_stand, ways_are_brief,
 };
 use bz_rivals::laws as rivals;
 use bz_swap::laws as swap;

@@ -85,7 +85,7 @@ well-acted wins old new w made done s step well = well-quiet old new s step.effe
 sums : (now before since made others own rest more : ℕ) → now ≡ before + more → before ≡ since + made + others → own + rest ≡ made + others + more → now ≡ since + own + rest
 sums now before since made others own rest more up was both = omega (arith, up, was, both)
 
-others-on : (c : Config) (past : List Mark) (mark : Mark) (story after : Story) (v since : ℕ) (opened later : Open) (y : Instant) (others made rest own more : ℕ) → after.at ≡ and_then story.at (length past) y → since ≤ length past
+pub others-on : (c : Config) (past : List Mark) (mark : Mark) (story after : Story) (v since : ℕ) (opened later : Open) (y : Instant) (others made rest own more : ℕ) → after.at ≡ and_then story.at (length past) y → since ≤ length past
     → y.effects ≡ (story.at (length past)).effects + more → own + rest ≡ made + others + more → HasOthers others made (scene c past story v since opened).past → HasOthers rest own (scene c (mark ∷ past) after v since later).past
 others-on c past mark story after v since opened later y others made rest own more is l up both was =
     subst (λ (at : ℕ → Instant). (at (suc (length past))).effects ≡ (at since).effects + own + rest) (sym is)

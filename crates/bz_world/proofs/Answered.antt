@@ -38,6 +38,7 @@ use Rattle.bz_task.specs.declared.todo.Seen.TheVariants as seen
 use Rattle.bz_task.specs.declared.todo.Todo.TheVariants as todo
 use Rattle.bz_world.specs.Inside.Acted.{IsActed, IsTold, HasWon}
 use Rattle.bz_world.specs.Inside.Alone.{untold, DoesWell}
+use Rattle.bz_world.specs.Inside.Exact.{answered_in, underway}
 use Rattle.bz_world.specs.Inside.Kept.{IsAwake}
 use Rattle.bz_world.specs.Inside.Lonely.{WhereLonely}
 use Rattle.bz_world.specs.WorldView.{mark_of}
@@ -53,7 +54,7 @@ use Rattle.bz_world.proofs.LonelyActs.{own-acted, all-acted, reads-now}
 use Rattle.bz_world.proofs.Meant.{call-meant-on}
 use Rattle.bz_world.proofs.Powered.{begun-in, leaves-power}
 use Rattle.bz_world.proofs.Staying.{SameFor, Pays, Takes}
-use Rattle.bz_world.proofs.Quiet.{serves, sees, askable, goes, same-other, same-own, stays, goes-on, answered, quiet-paid, none-pays, none-takes, own-takes}
+use Rattle.bz_world.proofs.Quiet.{serves, sees, askable, goes, same-other, same-own, stays, goes-on, answered, quiet-paid, none-pays, none-takes, own-exactly, own-takes}
 
 -- the world with an act made
 abbrev pub acted : Parts → Parts → ℕ → Act → Parts
@@ -107,11 +108,11 @@ module _ (b : StepLaws) (old new : Parts) (w : ℕ) (x : OpenCall) (made : Act) 
   its-paid y t = let h : HasBegun old.journal k.story t.call_open.look.since = begun-in k.living t.call_open in
       quiet-paid b old new w x made answer k is-worker a after living refl y t (record { from = h.from; by_now = omega (arith, h.by_now) }) (lawful w t.call_open.look.since t.opened h).continues
 
-  pub slots : (v : ℕ) → SameFor old.access new.access v → Pays old.config old.access old.journal (mark_of w made) k.story after old.owners.items (stock_of old) (stock_of old) new.access v → Takes old.config old.access old.journal (mark_of w made) k.story old.owners.items (stock_of old) (stock_of old) new.access v → IsSlot old.config new.access (with_mark old.journal (mark_of w made)) after old.owners.items (stock_of old) v (get_or old.workers.items v None)
+  pub slots : (v : ℕ) → SameFor old.access new.access v → Pays old.config old.access old.journal (mark_of w made) k.story after old.owners.items (stock_of old) (stock_of old) new.access v → Takes old.config old.access old.journal (mark_of w made) k.story after old.owners.items (stock_of old) (stock_of old) new.access v → IsSlot old.config new.access (with_mark old.journal (mark_of w made)) after old.owners.items (stock_of old) v (get_or old.workers.items v None)
   slots v same pays takes = stays b old new w x made answer k is-worker a after v living refl same (lawful v) (λ j. refl) (λ j h. h) refl pays takes
 
   pub others : (v : ℕ) → v ≢ w → IsSlot old.config new.access (with_mark old.journal (mark_of w made)) after old.owners.items (stock_of old) v (get_or old.workers.items v None)
-  others v ne = slots v (same-other b old new w x made answer k is-worker a v ne) (none-pays b old new w x made answer k is-worker a after v ne) (none-takes b old new w x made answer k is-worker a v ne)
+  others v ne = slots v (same-other b old new w x made answer k is-worker a v ne) (none-pays b old new w x made answer k is-worker a after v ne) (none-takes b old new w x made answer k is-worker a after v ne)
 
   -- it goes on
   pub busy-on : answer ≡ done.Busy → IsAwake new
@@ -120,7 +121,7 @@ module _ (b : StepLaws) (old new : Parts) (w : ℕ) (x : OpenCall) (made : Act) 
         (subst (Pays old.config old.access old.journal (mark_of w made) k.story after old.owners.items (stock_of old) (stock_of old) new.access) (sym same)
         (λ y t steps. subst (λ u. IsPaidIn old.config new.access (mark_of w made ∷ old.journal.past) (stock_of old) w (errand_of y) y.task u no_extra (scene old.config (mark_of w made ∷ old.journal.past) after w t.call_open.look.since t.opened).past)
         (sym (let own : SameFor old.access new.access w = same-own b old new w x made answer k is-worker a e in ap (untold new.access) own.doing ∙ untold-by old.access new.access (doing_of old.access w) own.effects)) (its-paid y t)))
-        (subst (Takes old.config old.access old.journal (mark_of w made) k.story old.owners.items (stock_of old) (stock_of old) new.access) (sym same) (own-takes b old new w x made answer k is-worker a))
+        (subst (Takes old.config old.access old.journal (mark_of w made) k.story after old.owners.items (stock_of old) (stock_of old) new.access) (sym same) (own-takes b old new w x made answer k is-worker a after refl (same-own b old new w x made answer k is-worker a e)))
     | inr ne ↦ others v ne
   ]) (all-acted b old new w x made answer k is-worker a k.story.filled)
 
@@ -133,8 +134,8 @@ module _ (b : StepLaws) (old new : Parts) (w : ℕ) (x : OpenCall) (made : Act) 
 
   -- and it is to be told
   pub be-told : (stage : Stage) (what : Seen) → answer ≢ done.Busy → facts_of x.task stage later → MayGoOn x ⊎ HasWon x what → Hears (asks_of x.task) what → Tells (asks_of x.task) stage what later → WhereLonely old.journal.past w x.call (λ key. stage ≡ Waiting)
-      → untold old.access (doing_of old.access w) ≡ effects_in what → (DoesWell old.access (doing_of old.access w) → what ≢ seen.Swapped false) → IsTold new w x what
-  be-told stage what ne facts finished hears tells waits effects wins = subst (λ p. IsTold p w x what) (sym a.rest) (record {
+      → untold old.access (doing_of old.access w) ≡ effects_in what → underway (doing_of old.access w) ≡ answered_in what → (DoesWell old.access (doing_of old.access w) → what ≢ seen.Swapped false) → IsTold new w x what
+  be-told stage what ne facts finished hears tells waits effects way wins = subst (λ p. IsTold p w x what) (sym a.rest) (record {
     between = answered b old new w x made answer k is-worker a after room ne living k.free others;
     tasked = its.tasked;
     stage = stage;
@@ -148,6 +149,7 @@ module _ (b : StepLaws) (old new : Parts) (w : ℕ) (x : OpenCall) (made : Act) 
         what refl effects wins;
     meant = call-meant-on x before.past later.past its.tasked.laws (lawful w its.call_open.look.since its.opened (begun-in k.living its.call_open)).continues its.meant;
     paid = subst (λ u. IsPaidIn old.config new.access (mark_of w made ∷ old.journal.past) (stock_of old) w (errand_of x) x.task u no_extra later.past) effects (its-paid x its);
+    exact = own-exactly b old new w x made answer k is-worker a after refl (effects_in what) (answered_in what) effects way x its;
   })
 
   -- a read answers what the address holds
@@ -184,7 +186,7 @@ module _ (b : StepLaws) (old new : Parts) (w : ℕ) (x : OpenCall) (made : Act) 
         (no-finish old.access w x (seen.Read v) (λ s f. absurd (cc (reads, f))) its.finishing)
         (subst (λ z. Hears z (seen.Read v)) (sym (its.asks ∙ ap Some asked)) tt)
         (subst (λ z. Tells z Waiting (seen.Read v) later) (sym (its.asks ∙ ap Some asked)) answers)
-        (λ key get lonely. refl) (ap (untold old.access) reads) (λ h e. absurd (cc e))
+        (λ key get lonely. refl) (ap (untold old.access) reads) (ap underway reads) (λ h e. absurd (cc e))
 
   -- a swap answers whether it took effect
   module _ (entries : List Entry) (t : ℕ) (won : Bool) (asked : its.asked ≡ todo.Swap entries) (swaps : doing_of old.access w ≡ Swapping t) (effect : has_effect new.access t ≡ won) where
@@ -217,7 +219,7 @@ module _ (b : StepLaws) (old new : Parts) (w : ℕ) (x : OpenCall) (made : Act) 
         (subst (λ z. Hears z (seen.Swapped won)) (sym (its.asks ∙ ap Some asked)) tt)
         (subst (λ z. Tells z (if has_effect old.access t then Took else Waiting) (seen.Swapped won) later) (sym (its.asks ∙ ap Some asked)) (stage-by (has_effect old.access t) (sym (a.step.effect.swaps t) ∙ effect)))
         (λ key get lonely. absurd (cc ((reads-now old k w x is-worker key get lonely).reads, swaps)))
-        (ap (untold old.access) swaps ∙ told-by (has_effect old.access t) (sym (a.step.effect.swaps t) ∙ effect))
+        (ap (untold old.access) swaps ∙ told-by (has_effect old.access t) (sym (a.step.effect.swaps t) ∙ effect)) (ap underway swaps)
         (λ h lost. let wins : won ≡ true = (b.lone.wins.answer old.access new.access w made None t won (subst (λ (z : Done). IsStep old.access w made z None new.access) e a.step) swaps (subst (DoesWell old.access) swaps h)).0 in absurd (cc (wins, lost)))
 
   -- a flush has been made
@@ -236,4 +238,4 @@ module _ (b : StepLaws) (old new : Parts) (w : ℕ) (x : OpenCall) (made : Act) 
         (no-finish old.access w x seen.Flushed (λ s f. absurd (cc (flushes, f))) its.finishing)
         (subst (λ z. Hears z seen.Flushed) (sym (its.asks ∙ ap Some asked)) tt)
         (subst (λ z. Tells z Took seen.Flushed later) (sym (its.asks ∙ ap Some asked)) tt)
-        (λ key get lonely. absurd (cc ((reads-now old k w x is-worker key get lonely).reads, flushes))) (ap (untold old.access) flushes) (λ h e. absurd (cc e))
+        (λ key get lonely. absurd (cc ((reads-now old k w x is-worker key get lonely).reads, flushes))) (ap (untold old.access) flushes) (ap underway flushes) (λ h e. absurd (cc e))

@@ -57,7 +57,8 @@ use Rattle.bz_world.proofs.Lonely.{acts-begin, all-idle}
 use Rattle.bz_world.proofs.Paid.{within-of, begin-runs, each-closed, second-of}
 use Rattle.bz_world.proofs.Powered.{is-on}
 use Rattle.bz_world.proofs.Spared.{seeks}
-use Rattle.bz_world.proofs.Staying.{none-unfilled, slot-stays}
+use Rattle.bz_world.proofs.Staying.{none-takes-well, none-unfilled, slot-stays}
+use Rattle.bz_world.proofs.Exact.{seek-seeks}
 use Rattle.bz_world.proofs.Started.{read-kept}
 use Rattle.bz_world.proofs.Supplies.{shown-on}
 
@@ -143,7 +144,7 @@ module _ (p : Parts) (k : IsAwake p) (w : ℕ) (call : Call) (may : MayBegin p w
           took = λ j. refl;
           filled = λ j e. e;
           alone = λ m o t l waits. waits-on p.config p.access p.access p.journal.past mark k.story after v m o o t (next_instant p.access (k.story.at (length p.journal.past))) refl l waits refl refl (λ j d. refl) (λ j d well. well);
-        }) (λ y t runs. absurd (ne (sym (begin-runs p.config w v n call p.journal.past runs)))) (λ y t quiet lonely. absurd (ne (sym lonely.0))) (k.workers v))
+        }) (λ y t runs. absurd (ne (sym (begin-runs p.config w v n call p.journal.past runs)))) (none-takes-well p.config p.access p.access p.journal mark k.story after p.owners.items (stock_of p) (stock_of mid) v (λ lonely. ne (sym lonely.0))) (k.workers v))
 
     -- the tables
     own-count : (t : Bool) → t ≡ true → n ≡ (if t then begun_calls w p.journal.past + 1 else begun_calls w p.journal.past)
@@ -267,6 +268,7 @@ module _ (p : Parts) (k : IsAwake p) (w : ℕ) (call : Call) (may : MayBegin p w
         lonely = lonely-begun;
         alone = record { others = 0; made = 0; counted = omega arith; stands = λ ends. absurd (cc ends) };
         meant = record { within = within-of task (λ a e. absurd (let other : kinds.Seek ≡ kinds.SplitLeaf a = sym kind ∙ e in cc other)); fit = record { words = few; thawed = λ froze. absurd (true≢false (sym froze)) }; look = λ quiet. subst (IsLookOf call) (sym kind) (seeks call); meant = λ quiet. inl (record { slots = wants; swaps = inl swaps }); later = λ at is. ap is_renewal kind; small = λ merge. absurd (let other : kinds.Seek ≡ kinds.Merge = sym kind ∙ merge in cc other) };
+        exact = λ lonely room. inl (record { quiet = refl; looks = seek-seeks (kind_of task) kind; thawed = refl; same_taken = refl; same_left = refl; first = refl; alone = omega arith });
         paid = λ r counted. s.lone.rounds.begin r p.access w (errand_of fresh) task (used_in r mid w) (bound_in r mid w) 2 here.past here.past (begun here.past refl) (pays r counted);
       };
     }

@@ -29,6 +29,7 @@ use Rattle.bz_world.specs.Inside.Telling.{MustStart, MustStartOf, HasToldIn, Has
 use Rattle.bz_world.specs.declared.parts.Parts.{Parts}
 use Rattle.bz_world.specs.declared.serving.OpenCall.{OpenCall}
 use Rattle.bz_world.proofs.Due.{looks-only}
+use Rattle.bz_world.proofs.Exactly.{again-ended}
 use Rattle.bz_world.proofs.Endings.{is_change, changes, change-renews-none, change-needs-room, room-no-look}
 use Rattle.bz_world.proofs.Paid.{within-of, swaps-write}
 use Rattle.bz_world.proofs.Powered.{begun-in}
@@ -67,6 +68,7 @@ takes b p w had task m = record {
   meant = change-meant p w had task m;
   paid = task-paid b p w m.reads.on task m.reads.on.serving.path had (kind_of task) refl m.tasked.laws m.asks m.made (change-meant p w had task m) (λ quiet merge. absurd (no-merge (kind_of task) m.kind merge)) (change-spares b p w had task m);
   due = λ quiet lonely. inl (m.due lonely);
+  exact = m.exact;
 }
 
 -- told to begin, it ends in no other way
@@ -120,6 +122,7 @@ must-read-crowded b p w todo m ended other = record {
     | inl due ↦ due
     | inr none ↦ absurd (room-no-look (kind_of m.must.serving.task) (m.must.asking.tasked.laws.ends_of NeedsRoom here means) (looks-only m.must.serving.call (kind_of m.must.serving.task) none.looks))
   ];
+  again = λ lonely room. again-ended p w (must-read-whole p w todo m NeedsRoom ended other).on m.knows.quiet NeedsRoom ended (m.must.asking.tasked.laws.ends_of NeedsRoom here means) (λ e. e) (λ e. e) lonely room;
 }
   where
     here : Scene

@@ -1,19 +1,22 @@
 -- A call that makes its change, in the leaf that was looked into, or has it made anew.
-use Rattle.std.proofs.Common.{◌≡◌, ◌≢◌, ℕ, ◌<◌, ◌≤◌, true, false, List, arith, refl, sym, ap, subst, ◌∙◌, inl, inr, Option, Some, None}
+use Rattle.std.proofs.Common.{◌≡◌, ◌≢◌, ℕ, ◌+◌, ◌<◌, ◌≤◌, true, false, List, arith, refl, sym, ap, subst, ◌∙◌, inl, inr, Option, Some, None}
 use Rattle.std.specs.FinMap.{get}
 use Rattle.std.specs.Prelude.{is_some}
 use Rattle.bz_call.specs.Map.{key_of, Map, apply, apply_at, IsChange}
 use Rattle.bz_call.specs.declared.calls.Call.{Call}
 use Rattle.bz_call.specs.declared.calls.Call.TheVariants as call
+use Rattle.bz_call.specs.declared.replies.Reply.{Reply}
+use Rattle.bz_call.specs.declared.replies.Reply.TheVariants as reply
 use Rattle.bz_content.specs.Content.{content_in}
 use Rattle.bz_lone.specs.Errands.{is_read}
+use Rattle.bz_lone.specs.FromAlone.Counts.{HasOthers}
 use Rattle.bz_layout.specs.declared.sizes.TheConstants.{STATUS_AT}
 use Rattle.bz_layout.specs.declared.thresholds.TheConstants.{CONSOLIDATION_SLOTS, MERGE_BELOW, MERGE_SLOTS, SPLIT_ABOVE, SPLIT_SLOTS}
 use Rattle.bz_mark.specs.Moments.{at_moment}
 use Rattle.bz_page.specs.Laws.{IsSaidBy}
 use Rattle.bz_record.specs.Laws.{IsViewed}
 use Rattle.bz_record.specs.Records.{words_for, LacksRoom}
-use Rattle.bz_running.specs.Duties.{config_of, asks_of, made_of, change_swaps, wants_of, change_of, facts_of, means_of, makes_no_change}
+use Rattle.bz_running.specs.Duties.{config_of, asks_of, end_of, made_of, swaps_of, change_swaps, wants_of, change_of, facts_of, means_of, makes_no_change}
 use Rattle.bz_running.specs.Hearing.{IsLookup}
 use Rattle.bz_running.specs.Kinds.{kind_of}
 use Rattle.bz_running.specs.Laws.{AreLaws}
@@ -36,19 +39,27 @@ use Rattle.bz_task.specs.Outcomes.{payload_of, IsView, IsKeyView}
 use Rattle.bz_task.specs.Scene.{Scene, IsScene, Waiting}
 use Rattle.bz_task.specs.Swaps.{Change}
 use Rattle.bz_task.specs.declared.path.Path.{Path}
+use Rattle.bz_task.specs.declared.todo.Outcome.TheVariants as outcomes
 use Rattle.bz_task.specs.declared.todo.Outcome.TheVariants.{NeedsRoom}
+use Rattle.bz_task.specs.declared.todo.Todo.TheVariants.{Finish}
 use Rattle.bz_task.specs.declared.view.Found.{Found}
 use Rattle.bz_task.specs.declared.view.KeyView.{KeyView}
 use Rattle.bz_task.specs.declared.view.LeafView.{LeafView}
 use Rattle.bz_word.specs.Statuses.{status}
 use Rattle.bz_world.specs.Inside.Due.{IsDue}
+use Rattle.bz_world.specs.Inside.Exact.{puts, reach_idle}
 use Rattle.bz_world.specs.Inside.Going.{MustGoOn, MustAnswer, MustAnswerKey, MustChange, IsChangeKind, MayInsert, MayUpdate, known}
 use Rattle.bz_world.specs.Inside.Laws.{AloneLaws, AnswerLaws}
 use Rattle.bz_world.specs.Inside.Room.{LacksRoomFor}
-use Rattle.bz_world.specs.Inside.Serving.{IsChangeFor, IsToldBy, NeedsAtLeast}
+use Rattle.bz_world.specs.Inside.Paid.{stock_of}
+use Rattle.bz_world.specs.Inside.Serving.{IsChangeFor, IsToldBy, NeedsAtLeast, effect_reply, tells_of}
+use Rattle.bz_world.specs.Roomy.{puts_record, swaps_told}
 use Rattle.bz_world.specs.declared.parts.Parts.{Parts}
 use Rattle.bz_world.proofs.Answering.{after-load, content-is}
 use Rattle.bz_world.proofs.Due.{map-still}
+use Rattle.bz_world.proofs.Exact.{none-ended}
+use Rattle.bz_world.proofs.Exactly.{only-looked}
+use Rattle.bz_world.proofs.Ready.{stage-none}
 use Rattle.bz_world.proofs.SlotsFor.{least-slots, merge-slots, split-slots}
 use Rattle.bz_world.proofs.Endings.{is_change, changes}
 use Rattle.bz_world.proofs.Spared.{lacks-stage}
@@ -204,11 +215,22 @@ module _ (settled : LoadsAreSettled) (alone : LonelyCallsAreAlone) (p : Parts) (
   pub change-due : (had new : Option (List ℕ)) → payload_of view.found ≡ had → IsChangeOf m.on.serving.call had new → IsDue p.config p.journal m.on.serving.call
   change-due had new found change = subst (λ (map : Map). IsChange (apply map m.on.serving.call).reply) still-so (subst (λ (o : Option (List ℕ)). IsChange (apply_at o map_then m.on.serving.call).reply) (sym (gets-what-was-found ∙ found)) (changes-map m.on.serving.call had new map_then change))
 
+-- a task that was not begun yet has not ended
+fresh-goes : (task : AnyTask) → AreLaws task → asks_of task ≡ None → end_of task ≡ None
+fresh-goes task laws asks = none-ended (end_of task) (λ some. let both : None ≡ Some Finish = sym asks ∙ laws.only some in cc both)
+
+-- what puts a record there, by as many swaps as the reply will tell
+pub record IsPutBy (task : AnyTask) (told : Reply) : Type 0 where
+  pub kind : puts (kind_of task) ≡ true
+  pub tells : change_swaps task ≡ swaps_told told
+  pub few : swaps_of task ≤ change_swaps task
+
 -- a task that makes the call's change may be begun, where its key was looked up; it ends for want of room only where the leaf lacks that
 pub must-change : AloneLaws → LonelyCallsAreAlone → (p : Parts) (w : ℕ) (view : KeyView) (m : MustAnswerKey p w view) (key : List ℕ) → key_of m.on.serving.call ≡ key → (task : AnyTask) (had : Option (List ℕ)) → payload_of view.found ≡ had → config_of task ≡ p.config → AreLaws task → IsChangeFor m.on.serving.call had (change_of task)
     → ((way : Option Path) → IsLookup key way task) → asks_of task ≡ None → wants_of task ≡ 0 → 0 < change_swaps task → ((s : Scene) → s.past.config ≡ p.config → s.effected ≡ false → IsScene s → IsKeyView key view s.past → facts_of task Waiting s)
-    → IsChangeKind (kind_of task) → made_of task ≡ 0 → ((s : Scene) → means_of task NeedsRoom s → LacksRoomFor m.on.serving.call view.status) → MustChange p w had task
-must-change b alone p w view m key key-is task had found config laws change lookup asks wants swaps facts kind made lacks = record {
+    → IsChangeKind (kind_of task) → made_of task ≡ 0 → ((s : Scene) → means_of task NeedsRoom s → LacksRoomFor m.on.serving.call view.status)
+    → (puts_record m.on.serving.call ≡ true → IsPutBy task (effect_reply m.on.serving.call had)) → MustChange p w had task
+must-change b alone p w view m key key-is task had found config laws change lookup asks wants swaps facts kind made lacks put = record {
   reads = record { on = m.on; leads = m.leads; quiet = m.quiet; some = m.some; other = λ other get lonely. absurd (subst (λ called. IsChangeOf called had (change_of task).new) get change.is) };
   tasked = record { config = config; laws = laws; lookup = subst (λ k. IsLookup k m.on.serving.path task) (sym key-is) (lookup m.on.serving.path); change = inr change; wayless = λ none other. subst (λ k. IsLookup k other task) (sym key-is) (lookup other) };
   asks = asks;
@@ -222,7 +244,39 @@ must-change b alone p w view m key key-is task had found config laws change look
   silent = not-silent task (changes (kind_of task) kind);
   lacks = λ z means none. lacks-stage m.on.serving.call view.status (known p w m.on) (b.rounds.key_stages (key_of m.on.serving.call) view (known p w m.on) (known-scene b.scenes p w m.on) none m.viewed) (lacks z means);
   due = λ lonely. change-due b.settled alone p w view m lonely had (change_of task).new found change.is;
+  exact = λ lonely room. (
+      let look = only-looked m.on.between.opened (known p w m.on).past (reach_idle p.access) (stock_of p) (tells_of m.on.serving) m.on.serving m.quiet (outcomes.Key view) m.ends.1 (λ e. e) (m.on.exact lonely room) in
+      let by = put (sym (ap puts_record m.on.between.call_open.call) ∙ room.puts) in
+      let goes : end_of task ≡ None = fresh-goes task laws asks in
+      inr (inl (record {
+        quiet = m.quiet;
+        kind = by.kind;
+        wants = wants;
+        tells_swaps = by.tells;
+        same_left = look.same_left;
+        alone = λ on. subst (λ k. HasOthers 0 k (known p w m.on).past) (let none : 0 ≡ made_of task + 0 = omega (arith, made) in none) look.alone;
+        before = λ few. refl;
+        least = λ on. omega (arith, look.same_taken, made);
+        most = omega (arith, look.same_taken, by.few);
+        short = λ full. absurd (cc (goes, full));
+        ends = λ o is. absurd (cc (goes, is));
+        roomy = λ z means. (
+            let none = stage-none b.scenes b.rounds.stand p w m.on room look.first look.alone in
+            let some = lacks-stage m.on.serving.call view.status (known p w m.on) (b.rounds.key_stages (key_of m.on.serving.call) view (known p w m.on) (known-scene b.scenes p w m.on) (omega (arith, look.alone)) m.viewed) (lacks z means) in
+            omega (arith, none, some)
+            );
+      }))
+      );
 }
+
+-- an insert by its two swaps, and an update by as many
+pub insert-puts : (called : Call) (key payload : List ℕ) → MayInsert called key payload → effect_reply called None ≡ reply.Inserted
+insert-puts called key payload (inl e) = ap (λ (k : Call). effect_reply k None) e
+insert-puts called key payload (inr e) = ap (λ (k : Call). effect_reply k None) e
+
+pub update-puts : (called : Call) (key payload had : List ℕ) → MayUpdate called key payload → effect_reply called (Some had) ≡ reply.Updated had
+update-puts called key payload had (inl e) = ap (λ (k : Call). effect_reply k (Some had)) e
+update-puts called key payload had (inr e) = ap (λ (k : Call). effect_reply k (Some had)) e
 
 -- the call has told nothing yet
 pub tells-nothing : (p : Parts) (w : ℕ) (on : MustGoOn p w) (had : Option (List ℕ)) → on.serving.effect ≡ None → IsToldBy p.config p.journal on.between.opened had

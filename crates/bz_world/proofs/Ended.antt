@@ -20,6 +20,7 @@ use Rattle.bz_story.specs.Living.{IsLiving}
 use Rattle.bz_story.specs.Story.{Story}
 use Rattle.bz_swap.specs.SwapMemory.{SwapMemory}
 use Rattle.bz_world.specs.Inside.Acted.{IsBetween}
+use Rattle.bz_world.specs.Inside.Beginning.{supply_of}
 use Rattle.bz_world.specs.Inside.Going.{MustGoOn, MustEnd, MustEndPage, WentOn}
 use Rattle.bz_world.specs.Inside.Kept.{IsTabled, IsAwake}
 use Rattle.bz_world.specs.Inside.Laws.{EndLaws}
@@ -31,15 +32,16 @@ use Rattle.bz_world.specs.declared.serving.OpenCall.{OpenCall}
 use Rattle.bz_story.proofs.Powered.{stored-since}
 use Rattle.bz_lone.specs.FromCosts.Resources.{Marks}
 use Rattle.bz_swap.specs.Alone.{left_to}
-use Rattle.bz_world.specs.Inside.Paid.{Stock, stock_of}
-use Rattle.bz_world.specs.WorldView.{deadline, tells_only}
+use Rattle.bz_world.specs.Inside.Paid.{Stock, begun_with, stock_of}
+use Rattle.bz_world.specs.Roomy.{HadRoom}
+use Rattle.bz_world.specs.WorldView.{TakesAsTold, deadline, tells_only}
 use Rattle.bz_world.proofs.Alone.{waits-on}
 use Rattle.bz_world.proofs.Due.{not-lonely}
 use Rattle.bz_world.proofs.LeavesKept.{same-leaves}
 use Rattle.bz_world.proofs.PaidSteps.{keeps-supply}
 use Rattle.bz_world.proofs.Lonely.{none-in}
 use Rattle.bz_world.proofs.LonelyEnds.{ends-briefly}
-use Rattle.bz_world.proofs.Staying.{slot-stays}
+use Rattle.bz_world.proofs.Staying.{none-takes-well, slot-stays}
 use Rattle.bz_world.proofs.Tabled.{tabled-plain}
 use Rattle.bz_world.proofs.Unspent.{nothing-taken}
 
@@ -60,6 +62,7 @@ slot-pages c m log pages story owners stock v (Some x) h = record {
   meant = h.meant;
   paid = h.paid;
   due = h.due;
+  exact = λ lonely room. h.exact lonely (record { puts = room.puts; room = room.room });
 }
 
 living-pages : (c : Config) (m : SwapMemory) (log : Log) (pages : Pages) (story : Story) → IsLiving c m log story → IsLiving c m (record log { pages = pages }) story
@@ -128,7 +131,7 @@ module _ (b : EndLaws) (p : Parts) (w : ℕ) (on : MustGoOn p w) where
       took = λ j. refl;
       filled = λ j e. e;
       alone = λ m o t l waits. waits-on p.config p.access p.access p.journal.past mark was.story after v m o o t (next_instant p.access (was.story.at (length p.journal.past))) refl l waits refl refl (λ j d. refl) (λ j d well. well);
-    }) (λ y t steps. absurd (cc steps)) (λ y t quiet lonely. absurd (not-lonely b.lonely.alone w v p.journal.past was.opened was.call_open.is_open ne lonely)) (was.others v ne)
+    }) (λ y t steps. absurd (cc steps)) (none-takes-well p.config p.access p.access p.journal mark was.story after p.owners.items (stock_of p) (stock_of p) v (not-lonely b.lonely.alone w v p.journal.past was.opened was.call_open.is_open ne)) (was.others v ne)
 
     module _ (pages : Pages) (sound : IsSound p.config p.at_start (record (with_mark p.journal mark) { pages = pages })) (room : length p.journal.past < p.config.marks) where
       abbrev done : Parts
@@ -191,6 +194,12 @@ end-went b p w n reply at m number plain room = record {
   supplied = keeps-supply p w m.room;
   little = λ whole number moment spent e. (m.full spent (cc e)).little whole;
   unspent = λ number moment answer e tells lonely. nothing-taken b.lonely.alone p w m.on lonely p.journal.pages reply at (let same : reply ≡ answer = cc e in ap tells_only same ∙ tells) m.right;
+  exact = λ number moment answer opened e is-open lonely room. (
+      let same : reply ≡ answer = cc e in
+      let both : Some m.on.between.opened ≡ Some opened = sym m.on.between.call_open.is_open ∙ is-open in
+      let one : m.on.between.opened ≡ opened = cc both in
+      subst (TakesAsTold (begun_with p) (supply_of p)) same (m.told lonely (subst (HadRoom p.config p.journal) (sym one) room))
+      );
 }
   where
     in-time : length p.journal.past + left_to p.access w + 1 ≤ deadline p.config w p.journal.past → suc (length p.journal.past) ≤ deadline p.config w p.journal.past
@@ -224,6 +233,7 @@ end-page-went b p w n page next at m number place room = record {
   supplied = keeps-supply p w m.room;
   little = λ whole number moment spent e. absurd (cc e);
   unspent = λ number moment answer e tells lonely. nothing-taken b.lonely.alone p w m.on lonely (p.journal.pages ++ p.page ∷ []) (Page (length p.journal.pages) next) at refl m.right;
+  exact = λ number moment answer opened e is-open lonely room. (let same : Page page next ≡ answer = cc e in subst (TakesAsTold (begun_with p) (supply_of p)) same tt);
 }
   where
     in-time : length p.journal.past + left_to p.access w + 1 ≤ deadline p.config w p.journal.past → suc (length p.journal.past) ≤ deadline p.config w p.journal.past

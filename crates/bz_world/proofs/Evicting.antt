@@ -24,19 +24,21 @@ use Rattle.bz_swap.specs.declared.phase.Phase.{Phase}
 use Rattle.bz_swap.specs.declared.phase.Phase.TheVariants.{Opened, Running, Recovering}
 use Rattle.bz_world.specs.Inside.Acted.{IsEvicted, IsStriking, SameWork}
 use Rattle.bz_world.specs.Inside.Kept.{IsTabled, AreTaken, IsAwake}
-use Rattle.bz_world.specs.Inside.Serving.{IsSlot}
+use Rattle.bz_world.specs.Inside.Exact.{reach_of}
+use Rattle.bz_world.specs.Inside.Serving.{IsSlot, tells_of}
 use Rattle.bz_world.specs.declared.parts.Parts.{Parts}
 use Rattle.bz_world.specs.Inside.Laws.{BegunLaws, StepLaws}
 use Rattle.bz_story.proofs.Powered.{stored-since}
 use Rattle.bz_world.specs.Inside.Paid.{stock_of}
 use Rattle.bz_world.proofs.Alone.{waits-on}
 use Rattle.bz_world.proofs.Due.{rightly-on}
+use Rattle.bz_world.proofs.Exact.{exact-on}
 use Rattle.bz_world.proofs.LeavesKept.{passed-leaves}
 use Rattle.bz_world.proofs.LonelyActs.{all-evicted}
 use Rattle.bz_world.proofs.Powered.{is-not-off}
 use Rattle.bz_world.proofs.Owners.{pending-begun}
 use Rattle.bz_world.proofs.Stepped.{unused-by}
-use Rattle.bz_world.proofs.Staying.{SameFor, slot-stays}
+use Rattle.bz_world.proofs.Staying.{SameFor, reach-stays, slot-stays}
 use Rattle.bz_world.proofs.Tabled.{tabled-evicted}
 
 effect-in : (phase : Phase) (old new : SwapMemory) (told : Option ℕ) → phase ≢ Recovering → EvictsIn phase old told new → EffectIs old new told
@@ -127,7 +129,11 @@ module _ (b : StepLaws) (sees : EvictionsAreSeen) (old new : Parts) (a : ℕ) (k
     filled = λ j h. h;
     alone = λ since opened t l h. waits-on old.config old.access new.access old.journal.past (Evict a) k.story after v since opened opened t (next_instant new.access (k.story.at (length old.journal.past))) refl l h refl (same v).doing (same v).effects
         (λ j d well. b.lone.wins.eviction old.access new.access v a None j k.living.seen.phase e.eviction d refl well);
-  }) (λ y t steps. absurd (cc steps)) (λ y t. rightly-on old.config old.access.taken new.access.taken old.journal (Evict a) (stock_of old) v y (same v).taken (λ map. refl) (λ l. l) t.due) (k.workers v)
+  }) (λ y t steps. absurd (cc steps)) (λ y t. record {
+    rightly = rightly-on old.config old.access.taken new.access.taken old.journal (Evict a) (stock_of old) v y (same v).taken (λ map. refl) (λ l. l) t.due;
+    exactly = exact-on old.config old.journal (Evict a) k.story after v t.call_open.look.since t.opened (next_instant new.access (k.story.at (length old.journal.past))) refl t.call_open.look.by_now (omega (arith, t.call_open.look.after_begin, t.call_open.look.by_now)) refl
+        (reach_of old.access v) (reach_of new.access v) (stock_of old) (tells_of y) y (reach-stays old.access new.access v (same v)) (λ l. l) t.exact;
+  }) (k.workers v)
 
   was : image_after old.journal.start old.journal.past ≡ (k.story.at (length old.journal.past)).image
   was = sym (k.living.images (length old.journal.past) k.living.from (omega arith) ∙ ap (image_after old.journal.start) (at_moment-now old.journal.past))

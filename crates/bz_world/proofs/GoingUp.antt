@@ -35,6 +35,7 @@ use Rattle.bz_world.specs.Inside.Paid.{bound_in, crowded, errand_of, no_extra, u
 use Rattle.bz_world.specs.Inside.Serving.{NeedsAtLeast}
 use Rattle.bz_world.specs.declared.parts.Parts.{Parts}
 use Rattle.bz_world.proofs.Due.{looks-only}
+use Rattle.bz_world.proofs.Exactly.{again-ended}
 use Rattle.bz_world.proofs.LonelyEnds.{other-ended}
 use Rattle.bz_world.proofs.MakingAnew.{renewal-meant}
 use Rattle.bz_world.proofs.Meant.{split-meant}
@@ -219,3 +220,4 @@ module _ (lone : AloneLaws) (p : Parts) (w : ℕ) (task : AnyTask) (m : MustGoUp
         | inl due ↦ inl due
         | inr none ↦ absurd (no-look (looks-only m.ends.on.serving.call (kind_of m.ends.on.serving.task) none.looks))
       ])
+      (λ lonely room. absurd (again-ended p w m.ends.on m.ends.quiet NeedsRoom m.ends.end (m.ends.tasked.laws.ends_of NeedsRoom (known p w m.ends.on) (m.ends.tasked.laws.ends (known p w m.ends.on) NeedsRoom m.ends.facts m.ends.end).0) (λ e. e) (λ e. e) lonely room))

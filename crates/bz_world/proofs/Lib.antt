@@ -2,6 +2,10 @@ mod Alone
 mod AloneStarts
 mod Meant
 mod Due
+mod Exact
+mod ExactTold
+mod Exactly
+mod Ready
 mod Staying
 mod Marking
 mod LeavesKept

@@ -33,6 +33,7 @@ use Rattle.bz_world.specs.declared.parts.Parts.{Parts}
 use Rattle.bz_world.specs.declared.serving.OpenCall.{OpenCall}
 use Rattle.bz_world.proofs.Answering.{on-pages}
 use Rattle.bz_world.proofs.Due.{page-reads}
+use Rattle.bz_world.proofs.Exactly.{again-kind}
 use Rattle.bz_world.proofs.Paid.{within-of}
 use Rattle.bz_world.proofs.Spared.{most_in, task-paid, writes-look, lacks-write, is-small, is-large, is-lacking}
 use Rattle.bz_world.proofs.TakingOn.{known-scene, lookup-taken, none-wanted}
@@ -115,6 +116,7 @@ freeze-taken lone p w view m thawed task f lookup wants facts made =
     (none-wanted p w m.answer.on task wants) (λ key get lonely. absurd (m.answer.other key get lonely)) (renewal-meant p w m.answer.on m.answer.quiet (lacks-write m.answer.on.serving.call view.status m.lacks) task f.within (λ merge. freeze-no-merge (sym f.kind ∙ merge)) (inr (inr made)))
     (renewal-paid lone.rounds p w m.answer.on m.answer.quiet (lacks-write m.answer.on.serving.call view.status m.lacks) task kinds.Freeze f freeze-no-merge (inr (inr made)) (freeze-spares lone p w view m thawed))
     (λ quiet lonely. inl (read-due p w view m.answer (lacks-write m.answer.on.serving.call view.status m.lacks) lonely))
+    (λ lonely room. absurd (again-kind p w m.answer.on kinds.ReadWhole m.answer.kind refl refl lonely room))
 
 -- its copy or its split
 abbrev pub anew-taken : AloneLaws → (p : Parts) (w : ℕ) (path : Path) (view : LeafView) (m : MustMakeAnew p w path view) (task : AnyTask) (k : Kind) → IsFresh p.config task k → k ≢ kinds.Merge → ((way : Option Path) → IsLookup (key_of m.answer.on.serving.call) way task) → (slots : ℕ) → wants_of task ≡ slots → NeedsAtLeast p.config p.journal.start p.journal.past m.answer.on.between.opened slots
@@ -126,6 +128,7 @@ anew-taken lone p w path view m task k f other lookup slots wants needs facts ma
     (λ quiet some. subst (NeedsAtLeast p.config p.journal.start p.journal.past m.answer.on.between.opened) (sym wants) needs) (λ key get lonely. absurd (m.answer.other key get lonely)) (renewal-meant p w m.answer.on m.answer.quiet (lacks-write m.answer.on.serving.call view.status m.lacks) task f.within (λ merge. other (sym f.kind ∙ merge)) (inr (inr made)))
     (renewal-paid lone.rounds p w m.answer.on m.answer.quiet (lacks-write m.answer.on.serving.call view.status m.lacks) task k f other (inr (inr made)) spares)
     (λ quiet lonely. inl (read-due p w view m.answer (lacks-write m.answer.on.serving.call view.status m.lacks) lonely))
+    (λ lonely room. absurd (again-kind p w m.answer.on kinds.ReadWhole m.answer.kind refl refl lonely room))
 
 -- its merge with a neighbour
 pub merge-meant : (p : Parts) (w : ℕ) (path : Path) (view : LeafView) (m : MustMerge p w path view) (task : AnyTask) → IsFresh p.config task kinds.Merge → ((key : List ℕ) (q : Past) → IsView key view q → (status view.status).frozen ≡ true → IsMergeFor task key q) → ((key : List ℕ) (q : Past) → IsView key view q → IsSmallMerge task key q) → IsMeant (record m.on.serving { task = task; path = None }) (known p w m.on).past
@@ -146,6 +149,7 @@ merge-taken lone p w path view m task f lookup wants facts for small =
     (subst (IsWanted p.config p.journal m.on.between.opened) (sym wants) m.wanted) (λ key get lonely. absurd (m.other key get lonely)) (merge-meant p w path view m task f for small)
     (task-paid lone.rounds p w m.on task None m.on.serving.had kinds.Merge f.kind f.laws f.asks f.made (merge-meant p w path view m task f for small) (λ quiet merge. is-small lone p w m.on view m.viewed (m.frozen quiet) (omega (arith, m.small))) m.spares)
     (λ quiet lonely. inl (m.due quiet lonely))
+    (λ lonely room. absurd (m.again lonely room))
 
 -- the page that is put together for that is nothing to the world
 abbrev pub anew-pages : (p : Parts) (w : ℕ) (path : Path) (view : LeafView) (pairs : List (List ℕ × List ℕ)) → MustMakeAnew p w path view → MustMakeAnew (record p { page = pairs }) w path view

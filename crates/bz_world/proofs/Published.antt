@@ -32,11 +32,13 @@ use Rattle.bz_task.specs.declared.todo.Todo.TheVariants as todo
 use Rattle.bz_world.specs.Inside.Acted.{IsStriking}
 use Rattle.bz_world.specs.Inside.Kept.{CountsPairs, IsAwake, IsTabled, AreTaken}
 use Rattle.bz_world.specs.Inside.Lonely.{IsLonelyIn}
-use Rattle.bz_world.specs.Inside.Serving.{IsServing, IsSlot, IsToldBy, effect_reply, size_after, pairs_after}
+use Rattle.bz_world.specs.Inside.Serving.{IsServing, IsSlot, IsToldBy, effect_reply, size_after, pairs_after, tells_of}
 use Rattle.bz_world.specs.declared.parts.Parts.{Parts}
 use Rattle.bz_world.specs.declared.serving.OpenCall.{OpenCall}
 use Rattle.bz_story.proofs.Powered.{stored-since}
 use Rattle.bz_world.proofs.Alone.{waits-on}
+use Rattle.bz_world.proofs.Due.{flush-lonely}
+use Rattle.bz_world.proofs.Exact.{exact-published, had-room-on}
 use Rattle.bz_world.proofs.Counting.{pairs-change}
 use Rattle.bz_world.proofs.LeavesKept.{same-leaves}
 use Rattle.bz_world.proofs.LeavesStruck.{struck-leaves}
@@ -46,6 +48,7 @@ use Rattle.bz_lone.specs.Steps.{effected_by, mark_of_effect}
 use Rattle.bz_lone.specs.FromCosts.Lone.{one_mark}
 use Rattle.bz_running.specs.declared.running.AnyTask.{AnyTask}
 use Rattle.bz_world.specs.Inside.Alone.{untold}
+use Rattle.bz_world.specs.Inside.Exact.{reach_of, underway}
 use Rattle.bz_world.specs.Inside.Paid.{errand_of, no_extra, stock_of, IsPaidIn}
 use Rattle.bz_world.specs.WorldView.{stepper}
 use Rattle.bz_world.proofs.Meant.{publishing-kind, publishing-no-merge}
@@ -53,7 +56,7 @@ use Rattle.bz_world.proofs.Paid.{flush-runs, next-is}
 use Rattle.bz_world.proofs.PaidSteps.{less-in, marks-in}
 use Rattle.bz_world.proofs.Staying.{Leaves, none-stays, serving-stays}
 use Rattle.bz_world.specs.Inside.Laws.{StrikeLaws}
-use Rattle.bz_world.proofs.Striking.{flush-calls, old, kept, w, x, its, owner, before, waits, good, after, living, opened, later, took, struck-alone, struck-meant, own-paid, other-paid, leaves, beside}
+use Rattle.bz_world.proofs.Striking.{flush-calls, old, kept, w, x, its, owner, before, waits, good, after, living, opened, later, took, struck-alone, struck-meant, own-paid, other-paid, leaves, beside, goes-still, no-seeks}
 use Rattle.bz_world.proofs.LonelyActs.{none-struck}
 use Rattle.bz_world.proofs.StruckQuietly.{image-was, image-is, fault-is, stage-is, its-swap, its-asks, still-does}
 use Rattle.bz_world.proofs.Tabled.{tabled-marked}
@@ -189,9 +192,9 @@ module _ (b : StrikeLaws) (p : Parts) (s : ℕ) (h : IsStriking p s) (publishes 
       both (Some y) t = serving-stays b.scenes b.stay c p.access p.access with_flush effect_mark (after b p s h) told_story (old b p s h).owners.items (stock_of (old b p s h)) (stock_of (old b p s h)) v y lives (told-leaves v ne)
           (serving-stays b.scenes b.stay c (old b p s h).access p.access log h.mark (kept b p s h).story (after b p s h) (old b p s h).owners.items (stock_of (old b p s h)) (stock_of (old b p s h)) v y (living b p s h) (leaves b p s h v ne) t
           (λ runs. less-in b.paid c p.access with_flush.past (stock_of (old b p s h)) v (errand_of y) y.task (untold p.access (doing_of p.access v)) one_mark (scene c with_flush.past (after b p s h) v t.call_open.look.since t.opened).past (other-paid b p s h v ne y t (flush-runs c v with_flush.past h.flush runs)))
-          (λ quiet lonely. absurd (beside b p s h v ne lonely)))
+          (record { rightly = λ quiet lonely. absurd (beside b p s h v ne lonely); exactly = λ lonely room. absurd (beside b p s h v ne lonely) }))
           (λ steps. marked v (errand_of y) y.task (untold p.access (doing_of p.access v)) t.call_open.look.since t.opened (begun-in (kept b p s h).living t.call_open) steps (other-paid b p s h v ne y t steps))
-          (λ quiet lonely. absurd (beside b p s h v ne lonely))
+          (record { rightly = λ quiet lonely. absurd (beside b p s h v ne lonely); exactly = λ lonely room. absurd (beside b p s h v ne lonely) })
 
   -- the call, with its effect
   abbrev effected : Open
@@ -263,6 +266,9 @@ module _ (b : StrikeLaws) (p : Parts) (s : ℕ) (h : IsStriking p s) (publishes 
         (marked worker (errand_of with_moment) (x b p s h).task 1 since effected begun-its steps
         (subst (λ z. IsPaidIn c p.access with_flush.past (stock_of (old b p s h)) worker (effected_by z (errand_of (x b p s h))) (x b p s h).task 1 (λ r. mark_of_effect r z) (later b p s h).past) publishes (own-paid b p s h steps)));
     due = λ quiet lonely. absurd (cc quiet);
+    exact = λ lonely room. exact-published (its b p s h).opened effected (before b p s h).past (scene c (effect_mark ∷ with_flush.past) told_story worker since effected).past (reach_of (old b p s h).access worker) (reach_of p.access worker) (stock_of (old b p s h)) (tells_of (x b p s h)) (x b p s h) with_moment refl (λ none. absurd (cc none))
+        h.work.taken (ap underway h.takes.effect.pending) (ap underway (still-does b p s h)) ((its b p s h).tasked.laws.last publishes) (goes-still b p s h) (no-seeks b p s h) (sym (its b p s h).call_open.effect ∙ first)
+        ((its b p s h).exact (flush-lonely worker h.mark log.past h.flush lonely) (had-room-on c log h.mark (its b p s h).opened (omega (arith, (its b p s h).call_open.look.after_begin, (its b p s h).call_open.look.by_now)) (record { puts = room.puts; room = (had-room-on c with_flush effect_mark effected (omega (arith, (its b p s h).call_open.look.after_begin, (its b p s h).call_open.look.by_now)) room).room })));
   }
 
   slots : (items : List (Option OpenCall)) → get_or items worker None ≡ Some with_moment → ((v : ℕ) → v ≢ worker → get_or items v None ≡ get_or (old b p s h).workers.items v None)

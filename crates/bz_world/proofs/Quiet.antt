@@ -26,16 +26,19 @@ use Rattle.bz_world.specs.Inside.Acted.{IsActed, IsBetween}
 use Rattle.bz_world.specs.Inside.Kept.{IsTabled, AreTaken, AreFree, IsAwake}
 use Rattle.bz_world.specs.Inside.Lonely.{IsLonelyIn}
 use Rattle.bz_world.specs.WorldView.{mark_of}
-use Rattle.bz_world.specs.Inside.Serving.{IsServing, IsDoing, IsSlot, stage_in}
+use Rattle.bz_world.specs.Inside.Serving.{IsServing, IsDoing, IsSlot, stage_in, tells_of}
 use Rattle.bz_world.specs.declared.parts.Parts.{Parts}
 use Rattle.bz_world.specs.declared.serving.OpenCall.{OpenCall}
 use Rattle.bz_sound.specs.Power.Times.{image_at_on}
 use Rattle.bz_rivals.specs.Rivals.{rivals}
 use Rattle.bz_story.proofs.Powered.{stored-since}
 use Rattle.bz_world.specs.Inside.Alone.{untold}
+use Rattle.bz_world.specs.Inside.Due.{TakesRightly}
+use Rattle.bz_world.specs.Inside.Exact.{CountsExactly, reach, reach_of, underway}
 use Rattle.bz_world.specs.Inside.Paid.{errand_of, no_extra, runner, stock_of, IsPaidIn}
-use Rattle.bz_world.proofs.Alone.{waits-on, well-acted}
+use Rattle.bz_world.proofs.Alone.{untold-by, waits-on, well-acted}
 use Rattle.bz_world.proofs.Due.{act-map, not-lonely, rightly-on}
+use Rattle.bz_world.proofs.Exact.{exact-on, reach-same}
 use Rattle.bz_world.proofs.LeavesKept.{passed-leaves}
 use Rattle.bz_world.proofs.Lonely.{lonely-act}
 use Rattle.bz_world.proofs.Paid.{act-steps, act-runs, one-steps, who-steps, paid-here, next-is}
@@ -46,7 +49,7 @@ use Rattle.bz_world.proofs.Marking.{act-marked, act-calls}
 use Rattle.bz_world.specs.Inside.Laws.{StepLaws}
 use Rattle.bz_world.specs.Leaves.{LeavesFollow}
 use Rattle.bz_world.proofs.Stepped.{act-tabled, act-taken, act-sound, held}
-use Rattle.bz_world.proofs.Staying.{SameFor, Pays, slot-stays, told-stays, wanted-stays, Takes}
+use Rattle.bz_world.proofs.Staying.{SameFor, Pays, slot-stays, told-stays, wanted-stays, Takes, none-takes-well}
 
 -- the call of a worker that serves one is open, so it is one of the workers
 module _ (p : Parts) (k : IsAwake p) (w : ℕ) (x : OpenCall) (is-worker : get_or p.workers.items w None ≡ Some x) where
@@ -165,17 +168,32 @@ module _ (b : StepLaws) (old new : Parts) (w : ℕ) (x : OpenCall) (made : Act) 
   none-pays after v ne y t steps = absurd (one-steps v w ne (runner old.config (mark_of w made ∷ old.journal.past)) (act-runs old.config w made old.journal.past) steps)
 
   -- none of them is alone, and the worker itself has taken no more
-  pub none-takes : (v : ℕ) → v ≢ w → Takes old.config old.access old.journal (mark_of w made) k.story old.owners.items (stock_of old) (stock_of old) new.access v
-  none-takes v ne y t quiet lonely = absurd (not-lonely b.lonely.alone w v (mark_of w made ∷ old.journal.past) s.opened (act-calls w w old.journal.past made ∙ s.call_open.is_open) ne lonely)
+  pub none-takes : (after : Story) (v : ℕ) → v ≢ w → Takes old.config old.access old.journal (mark_of w made) k.story after old.owners.items (stock_of old) (stock_of old) new.access v
+  none-takes after v ne = none-takes-well old.config old.access new.access old.journal (mark_of w made) k.story after old.owners.items (stock_of old) (stock_of old) v
+      (not-lonely b.lonely.alone w v (mark_of w made ∷ old.journal.past) s.opened (act-calls w w old.journal.past made ∙ s.call_open.is_open) ne)
 
-  pub own-takes : Takes old.config old.access old.journal (mark_of w made) k.story old.owners.items (stock_of old) (stock_of old) new.access w
-  own-takes y t = rightly-on old.config old.access.taken new.access.taken old.journal (mark_of w made) (stock_of old) w y a.step.one.others.taken (act-map w made old.journal.past) (lonely-act w w old.journal.past made) t.due
+  pub own-rightly : (y : OpenCall) → IsServing old.config old.access old.journal k.story old.owners.items (stock_of old) w y → TakesRightly old.config new.access.taken (with_mark old.journal (mark_of w made)) (stock_of old) w y
+  own-rightly y t = rightly-on old.config old.access.taken new.access.taken old.journal (mark_of w made) (stock_of old) w y a.step.one.others.taken (act-map w made old.journal.past) (lonely-act w w old.journal.past made) t.due
+
+  -- with as many of its swaps under way, and of its effects that it was not told
+  pub own-exactly : (after : Story) → after.at ≡ and_then k.story.at (length old.journal.past) (next_instant new.access (k.story.at (length old.journal.past))) → (untold_now way : ℕ) → untold old.access (doing_of old.access w) ≡ untold_now → underway (doing_of old.access w) ≡ way
+      → (y : OpenCall) (t : IsServing old.config old.access old.journal k.story old.owners.items (stock_of old) w y)
+      → CountsExactly old.config (with_mark old.journal (mark_of w made)) w t.opened (scene old.config (mark_of w made ∷ old.journal.past) after w t.call_open.look.since t.opened).past (reach new.access.taken untold_now way) (stock_of old) (tells_of y) y
+  own-exactly after at untold_now way unheard under y t = exact-on old.config old.journal (mark_of w made) k.story after w t.call_open.look.since t.opened (next_instant new.access (k.story.at (length old.journal.past))) at t.call_open.look.by_now (omega (arith, t.call_open.look.after_begin, t.call_open.look.by_now)) refl
+      (reach_of old.access w) (reach new.access.taken untold_now way) (stock_of old) (tells_of y) y (reach-same new.access.taken untold_now way old.access.taken (untold old.access (doing_of old.access w)) (underway (doing_of old.access w)) a.step.one.others.taken (sym unheard) (sym under))
+      (lonely-act w w old.journal.past made) t.exact
+
+  pub own-takes : (after : Story) → after.at ≡ and_then k.story.at (length old.journal.past) (next_instant new.access (k.story.at (length old.journal.past))) → SameFor old.access new.access w → Takes old.config old.access old.journal (mark_of w made) k.story after old.owners.items (stock_of old) (stock_of old) new.access w
+  own-takes after at same y t = record {
+    rightly = own-rightly y t;
+    exactly = own-exactly after at (untold new.access (doing_of new.access w)) (underway (doing_of new.access w)) (sym (ap (untold new.access) same.doing ∙ untold-by old.access new.access (doing_of old.access w) same.effects)) (sym (ap underway same.doing)) y t;
+  }
 
   -- so what is known of a worker stays, if the mark is a lawful step for it
   pub stays : (after : Story) (v : ℕ) → IsLiving old.config new.access (with_mark old.journal (mark_of w made)) after → after.from ≡ k.story.from → SameFor old.access new.access v
       → ((since : ℕ) (opened : Open) → HasBegun old.journal k.story since → IsLawful (scene old.config old.journal.past k.story v since opened) (scene old.config (mark_of w made ∷ old.journal.past) after v since opened))
       → ((j : ℕ) → after.took v j ≡ k.story.took v j) → ((j : ℕ) → k.story.filled v j ≡ true → after.filled v j ≡ true) → after.at ≡ and_then k.story.at (length old.journal.past) (next_instant new.access (k.story.at (length old.journal.past)))
-      → Pays old.config old.access old.journal (mark_of w made) k.story after old.owners.items (stock_of old) (stock_of old) new.access v → Takes old.config old.access old.journal (mark_of w made) k.story old.owners.items (stock_of old) (stock_of old) new.access v → IsSlot old.config new.access (with_mark old.journal (mark_of w made)) after old.owners.items (stock_of old) v (get_or old.workers.items v None)
+      → Pays old.config old.access old.journal (mark_of w made) k.story after old.owners.items (stock_of old) (stock_of old) new.access v → Takes old.config old.access old.journal (mark_of w made) k.story after old.owners.items (stock_of old) (stock_of old) new.access v → IsSlot old.config new.access (with_mark old.journal (mark_of w made)) after old.owners.items (stock_of old) v (get_or old.workers.items v None)
   stays after v living from same lawful took filled at pays takes = slot-stays b.scenes b.stay old.config old.access new.access old.journal (mark_of w made) k.story after old.owners.items (stock_of old) (stock_of old) v (get_or old.workers.items v None) living (record {
     same = same;
     calls = act-calls v w old.journal.past made;
@@ -235,6 +253,6 @@ module _ (b : StepLaws) (old new : Parts) (w : ℕ) (x : OpenCall) (made : Act) 
       wanted = wanted-stays old.config old.journal (mark_of w made) s.opened (wants_of x.task) s.call_open.wanted;
     };
     idle = a.step.one.doing ∙ idle-by (doing_of old.access w) done ne;
-    due = own-takes x s;
+    due = own-rightly x s;
     steps = λ v is. who-steps v w (runner old.config (mark_of w made ∷ old.journal.past)) (act-runs old.config w made old.journal.past) is;
   }

@@ -17,10 +17,11 @@ use Rattle.bz_swap.specs.SwapMemory.{SwapMemory, Doing, Working, Swapping, idle,
 use Rattle.bz_task.specs.Scene.{Scene, Waiting, IsScene}
 use Rattle.bz_task.specs.declared.todo.Todo.{Todo}
 use Rattle.bz_world.specs.Inside.Acted.{IsBetween}
-use Rattle.bz_world.specs.Inside.Alone.{WaitsAlone}
+use Rattle.bz_world.specs.Inside.Alone.{WaitsAlone, untold}
+use Rattle.bz_world.specs.Inside.Exact.{IsExact, underway}
 use Rattle.bz_world.specs.Inside.Kept.{KeepsNotes, IsAwake}
 use Rattle.bz_world.specs.Inside.Laws.{AloneLaws, BegunLaws, StartLaws}
-use Rattle.bz_world.specs.Inside.Serving.{IsServing, IsDoing, IsSlot, stage_in}
+use Rattle.bz_world.specs.Inside.Serving.{IsServing, IsDoing, IsSlot, stage_in, tells_of}
 use Rattle.bz_world.specs.Inside.Telling.{MustStart}
 use Rattle.bz_world.specs.declared.parts.Parts.{Parts}
 use Rattle.bz_lone.specs.FromCosts.Weights.{start_allows}
@@ -29,6 +30,7 @@ use Rattle.bz_world.specs.Inside.Paid.{errand_of, no_extra, stock_of, IsPaidIn}
 use Rattle.bz_world.proofs.PaidSteps.{starts-in}
 use Rattle.bz_world.proofs.Alone.{none-untold, none-well}
 use Rattle.bz_world.proofs.Due.{not-lonely}
+use Rattle.bz_world.proofs.Exact.{none-underway, reach-same}
 use Rattle.bz_world.proofs.Lonely.{in-place, only-own, started-lonely}
 use Rattle.bz_world.proofs.Powered.{begun-in}
 use Rattle.bz_world.proofs.Staying.{SameFor, slot-same}
@@ -121,6 +123,8 @@ module _ (lone : AloneLaws) (starts : StartsAreSeen) (begun : BegunLaws) (alone 
     meant = m.asking.meant;
     paid = λ steps. subst (λ u. IsPaidIn p.config (started p.access w doing) p.journal.past (stock_of p) w (errand_of m.serving) m.serving.task u no_extra its-scene.past) (sym (none-untold (started p.access w doing) (doing_of (started p.access w doing) w) none)) pays;
     due = between.due;
+    exact = λ lonely room. subst (λ r. IsExact between.opened its-scene.past r (stock_of p) (tells_of m.serving) m.serving) (sym (reach-same (started p.access w doing).taken (untold (started p.access w doing) (doing_of (started p.access w doing) w)) (underway (doing_of (started p.access w doing) w)) p.access.taken 0 0 refl
+        (none-untold (started p.access w doing) (doing_of (started p.access w doing) w) none) (none-underway (doing_of (started p.access w doing) w) none))) (m.asking.exact lonely room);
   }
 
   same-other : (v : ℕ) → v ≢ w → SameFor p.access (started p.access w doing) v

@@ -26,11 +26,13 @@ use Rattle.bz_task.specs.declared.todo.Todo.{Todo}
 use Rattle.bz_task.specs.declared.todo.Todo.TheVariants as todo
 use Rattle.bz_world.specs.Inside.Alone.{WaitsAlone, untold}
 use Rattle.bz_world.specs.Inside.Due.{TakesRightly}
+use Rattle.bz_world.specs.Inside.Exact.{CountsExactly, reach_of, underway}
 use Rattle.bz_world.specs.Inside.Meant.{IsMeant}
 use Rattle.bz_world.specs.Inside.Paid.{Stock, IsPaidIn, errand_of, no_extra, runner}
-use Rattle.bz_world.specs.Inside.Serving.{IsServing, IsCovered, IsDoing, IsSlot, IsToldBy, IsWanted, NeedsAtLeast, MayGoOn, IsFinishing, effect_reply, stage_in}
+use Rattle.bz_world.specs.Inside.Serving.{IsServing, IsCovered, IsDoing, IsSlot, IsToldBy, IsWanted, NeedsAtLeast, MayGoOn, IsFinishing, effect_reply, stage_in, tells_of}
 use Rattle.bz_world.specs.declared.serving.OpenCall.{OpenCall}
-use Rattle.bz_world.proofs.Alone.{waits-same}
+use Rattle.bz_world.proofs.Alone.{untold-by, waits-same}
+use Rattle.bz_world.proofs.Exact.{reach-same}
 use Rattle.bz_world.proofs.Meant.{call-meant-on}
 use Rattle.bz_world.proofs.Powered.{looks-on}
 
@@ -67,6 +69,10 @@ stage-by m n (Flushing line) e = refl
 
 pub stage-stays : (m n : SwapMemory) (v : ℕ) → SameFor m n v → stage_in n (doing_of n v) ≡ stage_in m (doing_of m v)
 stage-stays m n v same = ap (stage_in n) same.doing ∙ stage-by m n (doing_of m v) same.effects
+
+-- it has come as far
+pub reach-stays : (m n : SwapMemory) (v : ℕ) → SameFor m n v → reach_of n v ≡ reach_of m v
+reach-stays m n v same = reach-same n.taken (untold n (doing_of n v)) (underway (doing_of n v)) m.taken (untold m (doing_of m v)) (underway (doing_of m v)) same.taken (ap (untold n) same.doing ∙ untold-by m n (doing_of m v) same.effects) (ap underway same.doing)
 
 -- a call whose change stands is finished as before, where its worker does what it did
 pub finishing-stays : (m n : SwapMemory) (v : ℕ) (x : OpenCall) → doing_of n v ≡ doing_of m v → MayGoOn x ⊎ IsFinishing m v x → MayGoOn x ⊎ IsFinishing n v x
@@ -125,13 +131,21 @@ Pays c m log mark story after owners stock more n v = (x : OpenCall) (s : IsServ
     → IsPaidIn c n (mark ∷ log.past) more v (errand_of x) x.task (untold n (doing_of n v)) no_extra (scene c (mark ∷ log.past) after v s.call_open.look.since s.opened).past
 
 -- and what it has taken is right then
-abbrev pub Takes : Config → SwapMemory → Log → Mark → Story → List ℕ → Stock → Stock → SwapMemory → ℕ → Type 0
-Takes c m log mark story owners stock more n v = (x : OpenCall) (s : IsServing c m log story owners stock v x) → TakesRightly c n.taken (with_mark log mark) more v x
+pub record TakesWell (c : Config) (m n : SwapMemory) (log : Log) (mark : Mark) (story after : Story) (owners : List ℕ) (stock more : Stock) (v : ℕ) (x : OpenCall) (s : IsServing c m log story owners stock v x) : Type 0 where
+  pub rightly : TakesRightly c n.taken (with_mark log mark) more v x
+  pub exactly : CountsExactly c (with_mark log mark) v s.opened (scene c (mark ∷ log.past) after v s.call_open.look.since s.opened).past (reach_of n v) more (tells_of x) x
+
+abbrev pub Takes : Config → SwapMemory → Log → Mark → Story → Story → List ℕ → Stock → Stock → SwapMemory → ℕ → Type 0
+Takes c m log mark story after owners stock more n v = (x : OpenCall) (s : IsServing c m log story owners stock v x) → TakesWell c m n log mark story after owners stock more v x s
+
+-- of a call beside which another one is open nothing is to be known
+pub none-takes-well : (c : Config) (m n : SwapMemory) (log : Log) (mark : Mark) (story after : Story) (owners : List ℕ) (stock more : Stock) (v : ℕ) → (IsLonely v (mark ∷ log.past) → ⊥) → Takes c m log mark story after owners stock more n v
+none-takes-well c m n log mark story after owners stock more v never x s = record { rightly = λ quiet lonely. absurd (never lonely); exactly = λ lonely room. absurd (never lonely) }
 
 unfoldable pub serving-stays : ScenesAreSeen → EffectsStayOpen → (c : Config) (m n : SwapMemory) (log : Log) (mark : Mark) (story after : Story) (owners : List ℕ) (stock more : Stock) (v : ℕ) (x : OpenCall) → IsLiving c n (with_mark log mark) after → Leaves c m n log mark story after v
     → (s : IsServing c m log story owners stock v x)
     → (runner c (mark ∷ log.past) ≡ Some v → IsPaidIn c n (mark ∷ log.past) more v (errand_of x) x.task (untold n (doing_of n v)) no_extra (scene c (mark ∷ log.past) after v s.call_open.look.since s.opened).past)
-    → TakesRightly c n.taken (with_mark log mark) more v x → IsServing c n (with_mark log mark) after owners more v x
+    → TakesWell c m n log mark story after owners stock more v x s → IsServing c n (with_mark log mark) after owners more v x
 serving-stays seen stay c m n log mark story after owners stock more v x living l s pays takes = record {
   opened = s.opened;
   call_open = record {
@@ -155,7 +169,8 @@ serving-stays seen stay c m n log mark story after owners stock more v x living 
   meant = call-meant-on x (scene c log.past story v s.call_open.look.since s.opened).past (scene c (mark ∷ log.past) after v s.call_open.look.since s.opened).past s.tasked.laws
       (l.lawful s.call_open.look.since s.opened (record { from = omega (arith, since, l.from); by_now = s.call_open.look.by_now })).continues s.meant;
   paid = pays;
-  due = takes;
+  due = takes.rightly;
+  exact = takes.exactly;
 }
   where
     since : after.from ≤ s.call_open.look.since
@@ -165,7 +180,7 @@ pub none-stays : (c : Config) (m n : SwapMemory) (log : Log) (mark : Mark) (stor
 none-stays c m n log mark story after owners stock more v l s = record { none_open = l.calls ∙ s.none_open; idle = l.same.doing ∙ s.idle; filled = λ k t. l.filled k (s.filled k (sym (l.took k) ∙ t)) }
 
 pub slot-stays : ScenesAreSeen → EffectsStayOpen → (c : Config) (m n : SwapMemory) (log : Log) (mark : Mark) (story after : Story) (owners : List ℕ) (stock more : Stock) (v : ℕ) (slot : Option OpenCall) → IsLiving c n (with_mark log mark) after → Leaves c m n log mark story after v
-    → Pays c m log mark story after owners stock more n v → Takes c m log mark story owners stock more n v → IsSlot c m log story owners stock v slot → IsSlot c n (with_mark log mark) after owners more v slot
+    → Pays c m log mark story after owners stock more n v → Takes c m log mark story after owners stock more n v → IsSlot c m log story owners stock v slot → IsSlot c n (with_mark log mark) after owners more v slot
 slot-stays seen stay c m n log mark story after owners stock more v None living l pays takes s = none-stays c m n log mark story after owners stock more v l s
 slot-stays seen stay c m n log mark story after owners stock more v (Some x) living l pays takes s = serving-stays seen stay c m n log mark story after owners stock more v x living l s (pays x s) (takes x s)
 
@@ -187,6 +202,7 @@ slot-same c m n log story owners others stock more v (Some x) same well table st
   meant = s.meant;
   paid = λ steps. absurd (still steps);
   due = λ quiet lonely. absurd (beside lonely);
+  exact = λ lonely room. absurd (beside lonely);
 }
   where
     doing-by : (m : SwapMemory) (owners others : List ℕ) (v : ℕ) (asked : Todo) → ((s : ℕ) → doing_of m v ≡ Swapping s → slice_index others s ≡ slice_index owners s) → IsDoing m owners v asked → IsDoing m others v asked
@@ -215,4 +231,5 @@ slot-scenes c m log story after owners stock more v (Some x) some same filled st
   meant = subst (λ (z : Scene). IsMeant x z.past) (sym (same s.call_open.look.since s.opened)) s.meant;
   paid = λ steps. absurd (still steps);
   due = λ quiet lonely. absurd (beside lonely);
+  exact = λ lonely room. absurd (beside lonely);
 }

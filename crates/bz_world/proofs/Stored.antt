@@ -19,6 +19,7 @@ use Rattle.bz_task.specs.declared.todo.Seen.TheVariants as seen
 use Rattle.bz_task.specs.declared.todo.Todo.TheVariants as todo
 use Rattle.bz_world.specs.Inside.Acted.{IsActed, IsTold}
 use Rattle.bz_world.specs.Inside.Alone.{untold}
+use Rattle.bz_world.specs.Inside.Exact.{underway}
 use Rattle.bz_world.specs.Inside.Kept.{IsAwake}
 use Rattle.bz_world.specs.WorldView.{mark_of}
 use Rattle.bz_world.specs.Inside.Serving.{IsServing, IsSlot, stage_in}
@@ -33,7 +34,7 @@ use Rattle.bz_world.specs.Inside.Paid.{errand_of, no_extra, stock_of, IsPaidIn}
 use Rattle.bz_world.proofs.Meant.{call-meant-on}
 use Rattle.bz_world.proofs.Powered.{begun-in}
 use Rattle.bz_world.proofs.Staying.{covered-stays}
-use Rattle.bz_world.proofs.Quiet.{some-worker, serves, sees, own, goes, same-other, stays, answered, quiet-paid, none-pays, none-takes}
+use Rattle.bz_world.proofs.Quiet.{some-worker, serves, sees, own, goes, same-other, stays, answered, quiet-paid, none-pays, none-takes, own-exactly}
 use Rattle.bz_world.proofs.Answered.{no-finish}
 use Rattle.bz_world.proofs.Lonely.{lonely-act}
 use Rattle.bz_world.proofs.LonelyActs.{reads-now}
@@ -71,7 +72,7 @@ module _ (b : StepLaws) (old new : Parts) (w : ℕ) (x : OpenCall) (made : Act) 
 
     others : (v : ℕ) → v ≢ w → IsSlot old.config new.access (with_mark old.journal (mark_of w made)) after old.owners.items (stock_of old) v (get_or old.workers.items v None)
     others v ne = stays b old new w x made answer k is-worker a after v living refl (same-other b old new w x made answer k is-worker a v ne)
-        (λ since opened begun. b.stores.others old.config old.access new.access old.journal k.story (mark_of w made) w d u its.call_open.look.since its.opened v since opened (goes b old new w x made answer k is-worker a) is-store ne begun) (λ j. refl) (fills-more v) refl (none-pays b old new w x made answer k is-worker a after v ne) (none-takes b old new w x made answer k is-worker a v ne)
+        (λ since opened begun. b.stores.others old.config old.access new.access old.journal k.story (mark_of w made) w d u its.call_open.look.since its.opened v since opened (goes b old new w x made answer k is-worker a) is-store ne begun) (λ j. refl) (fills-more v) refl (none-pays b old new w x made answer k is-worker a after v ne) (none-takes b old new w x made answer k is-worker a after v ne)
 
     stored : Stores d u before later
     stored = b.stores.own old.config old.access new.access old.journal k.story (mark_of w made) w d u its.call_open.look.since its.opened (goes b old new w x made answer k is-worker a) is-store
@@ -98,4 +99,5 @@ module _ (b : StepLaws) (old new : Parts) (w : ℕ) (x : OpenCall) (made : Act) 
       meant = call-meant-on x before.past later.past its.tasked.laws stored.continues its.meant;
       paid = subst (λ u. IsPaidIn old.config new.access (mark_of w made ∷ old.journal.past) (stock_of old) w (errand_of x) x.task u no_extra later.past) (ap (untold old.access) stores)
           (quiet-paid b old new w x made answer k is-worker a after living refl x its (let h : HasBegun old.journal k.story its.call_open.look.since = begun-in k.living its.call_open in record { from = h.from; by_now = omega (arith, h.by_now) }) stored.continues);
+      exact = own-exactly b old new w x made answer k is-worker a after refl 0 0 (ap (untold old.access) stores) (ap underway stores) x its;
     })

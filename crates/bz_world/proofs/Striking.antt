@@ -1,5 +1,5 @@
 -- The effect of a swap: what it is to its worker and to the others, one mark on.
-use Rattle.std.proofs.Common.{◌≡◌, ◌≢◌, ◌==◌, Bool, false, not, inl, inr, Some, ℕ, suc, ◌+◌, ◌^◌, ◌<◌, ◌≤◌, if◌then◌else◌, List, ◌∷◌, length, slice_index, arith, refl, sym, ap, subst, ◌∙◌, None, is_some}
+use Rattle.std.proofs.Common.{◌≡◌, ◌≢◌, ◌==◌, Bool, false, not, inl, inr, Some, true, ℕ, suc, ◌+◌, ◌^◌, ◌<◌, ◌≤◌, if◌then◌else◌, List, ◌∷◌, length, slice_index, arith, refl, sym, ap, subst, ◌∙◌, None, is_some}
 use Rattle.std.specs.Prelude.{get_or}
 use Rattle.std.proofs.lemmas.Bool.{cases_eq, cases_lt}
 use Rattle.std.proofs.lemmas.Bool.Decides.{nat_tests}
@@ -7,7 +7,7 @@ use Rattle.bz_mark.specs.Log.{with_mark}
 use Rattle.bz_mark.specs.declared.marks.Mark.{Mark}
 use Rattle.bz_mark.specs.declared.marks.Mark.TheVariants as mark
 use Rattle.bz_mark.proofs.MomentLaws.{at_moment-now}
-use Rattle.bz_running.specs.Duties.{facts_of, publishing_of, change_of}
+use Rattle.bz_running.specs.Duties.{end_of, facts_of, publishing_of, change_of}
 use Rattle.bz_running.specs.Kinds.{kind_of}
 use Rattle.bz_sight.specs.Effects.{TookPlace, effect_instant}
 use Rattle.bz_sight.specs.Starts.{Sees}
@@ -20,8 +20,10 @@ use Rattle.bz_story.specs.Story.{Story, scene}
 use Rattle.bz_swap.specs.SwapMemory.{Doing, Idle, Reading, Swapping, Loading, Storing, Flushing, doing_of, entries_of}
 use Rattle.bz_task.specs.Scene.{Scene, IsLawful, Waiting, Took, here}
 use Rattle.bz_task.specs.Swaps.{IsGoodSwap, SwapsTo, Takes}
+use Rattle.bz_task.specs.declared.todo.Todo.TheVariants as todo
 use Rattle.bz_world.specs.Inside.Acted.{IsStriking, StepsAt}
 use Rattle.bz_world.specs.Inside.Alone.{WaitsAlone}
+use Rattle.bz_world.specs.Inside.Exact.{seeks}
 use Rattle.bz_world.specs.Inside.Kept.{IsAwake}
 use Rattle.bz_world.specs.Inside.Meant.{IsMeant}
 use Rattle.bz_world.specs.Inside.Serving.{IsServing, IsSlot, stage_in}
@@ -36,13 +38,14 @@ use Rattle.bz_world.specs.Inside.Paid.{errand_of, no_extra, stock_of, IsPaidIn}
 use Rattle.bz_world.specs.WorldView.{stepper}
 use Rattle.bz_world.proofs.Alone.{untold-by, waits-beside, waits-struck}
 use Rattle.bz_world.proofs.Due.{not-lonely}
+use Rattle.bz_world.proofs.Exact.{seeks-look, still-asks}
 use Rattle.bz_world.proofs.Lonely.{now-is}
 use Rattle.bz_world.proofs.Meant.{call-meant-on, swaps-or-merges}
 use Rattle.bz_world.proofs.Paid.{none-of, flush-runs, paid-here, next-is, swapless, some-moment}
 use Rattle.bz_world.proofs.PaidSteps.{StepsFurther, foreign-in, less-in, own-in}
 use Rattle.bz_world.proofs.Powered.{begun-in, flush-leaves}
 use Rattle.bz_world.proofs.Owners.{IsOwner, is-owner}
-use Rattle.bz_world.proofs.Staying.{SameFor, Leaves, slot-stays}
+use Rattle.bz_world.proofs.Staying.{SameFor, Leaves, none-takes-well, slot-stays}
 use Rattle.bz_world.specs.Inside.Laws.{StrikeLaws}
 
 -- a flush or an eviction opens and ends no call
@@ -105,6 +108,13 @@ module _ (b : StrikeLaws) (p : Parts) (s : ℕ) (h : IsStriking p s) where
   -- its task waited for the swap
   pub waits : facts_of x.task Waiting before
   waits = subst (λ z. facts_of x.task z before) (ap (stage_in old.access) h.takes.effect.pending ∙ ap (λ z. if z then Took else Waiting) h.takes.effect.before) its.facts
+
+  -- which has not ended, and is no look-up
+  pub goes-still : end_of x.task ≡ None
+  goes-still = still-asks x.task its.tasked.laws (todo.Swap (entries_of old.access s)) owner.asks (λ e. cc e)
+
+  pub no-seeks : seeks (kind_of x.task) ≡ true → ⊥
+  no-seeks looks = swapless b.paid.asked x.task (entries_of old.access s) owner.asks (its.tasked.laws.looks (seeks-look (kind_of x.task) looks)).swaps
 
   pub good : IsGoodSwap (publishing_of x.task) (change_of x.task) (entries_of old.access s) before (effect_instant old.config p.access (kept.story.at (length old.journal.past)))
   good = its.tasked.laws.effect before (effect_instant old.config p.access (kept.story.at (length old.journal.past))) (entries_of old.access s) (sym its.tasked.config) waits before-seen.scene owner.asks took-place.stand
@@ -253,4 +263,4 @@ module _ (b : StrikeLaws) (p : Parts) (s : ℕ) (h : IsStriking p s) where
   pub others : (v : ℕ) → v ≢ w → IsSlot old.config p.access (with_mark old.journal h.mark) after old.owners.items (stock_of old) v (get_or old.workers.items v None)
   others v ne = slot-stays b.scenes b.stay old.config old.access p.access old.journal h.mark kept.story after old.owners.items (stock_of old) (stock_of old) v (get_or old.workers.items v None) living (leaves v ne)
       (λ y t runs. less-in b.paid old.config p.access (h.mark ∷ old.journal.past) (stock_of old) v (errand_of y) y.task (untold p.access (doing_of p.access v)) one_mark (scene old.config (h.mark ∷ old.journal.past) after v t.call_open.look.since t.opened).past (other-paid v ne y t (flush-runs old.config v (h.mark ∷ old.journal.past) h.flush runs)))
-      (λ y t quiet lonely. absurd (beside v ne lonely)) (kept.workers v)
+      (none-takes-well old.config old.access p.access old.journal h.mark kept.story after old.owners.items (stock_of old) (stock_of old) v (beside v ne)) (kept.workers v)

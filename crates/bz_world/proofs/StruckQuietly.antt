@@ -1,10 +1,12 @@
 -- The effect of a swap that does not make the change of its call: the world goes on without an Effect mark.
-use Rattle.std.proofs.Common.{◌≡◌, Bool, ℕ, suc, if◌then◌else◌, false, List, [], ◌∷◌, length, slice_index, arith, refl, sym, ap, subst, ◌∙◌, inl, inr, Some, None}
+use Rattle.std.proofs.Common.{◌≡◌, ◌≢◌, ◌+◌, ◌≤◌, Bool, ℕ, suc, if◌then◌else◌, true, false, List, [], ◌∷◌, length, slice_index, arith, refl, sym, ap, subst, ◌∙◌, inl, inr, Some, None}
 use Rattle.std.specs.Prelude.{get_or}
-use Rattle.std.proofs.lemmas.Bool.{cases_eq}
+use Rattle.std.proofs.lemmas.Bool.{cases_eq, true≢false}
 use Rattle.bz_content.specs.Content.{image_fault, content_in}
 use Rattle.bz_mark.specs.Log.{with_mark}
-use Rattle.bz_running.specs.Duties.{asks_of, wants_of, facts_of, publishing_of, change_of}
+use Rattle.bz_lone.specs.FromAlone.Counts.{HasOthers}
+use Rattle.bz_running.specs.Duties.{asks_of, swaps_of, wants_of, facts_of, publishing_of, change_of}
+use Rattle.bz_running.specs.Kinds.{kind_of}
 use Rattle.bz_sight.specs.Effects.{effect_instant}
 use Rattle.bz_sound.specs.Memory.Moments.{image_after}
 use Rattle.bz_sound.specs.Power.Sound.{IsSound}
@@ -16,19 +18,24 @@ use Rattle.bz_task.specs.Swaps.{ContentFollows}
 use Rattle.bz_task.specs.declared.todo.Todo.TheVariants as todo
 use Rattle.bz_world.specs.Inside.Acted.{IsStriking}
 use Rattle.bz_world.specs.Inside.Kept.{IsAwake, IsTabled, AreTaken}
-use Rattle.bz_world.specs.Inside.Serving.{IsServing, IsSlot, IsSwapping, stage_in}
+use Rattle.bz_world.specs.Inside.Serving.{IsServing, IsSlot, IsSwapping, stage_in, tells_of}
 use Rattle.bz_world.specs.declared.parts.Parts.{Parts}
 use Rattle.bz_world.specs.Inside.Laws.{StrikeLaws}
 use Rattle.bz_lone.specs.Steps.{effected_by, mark_of_effect}
 use Rattle.bz_world.specs.Inside.Alone.{untold}
+use Rattle.bz_world.specs.Inside.Exact.{puts, reach_of, underway}
+use Rattle.bz_world.specs.Roomy.{HadRoom}
+use Rattle.bz_world.specs.WorldView.{is_delete}
+use Rattle.bz_world.proofs.Alone.{others-on}
 use Rattle.bz_world.specs.Inside.Paid.{errand_of, no_extra, stock_of, IsPaidIn}
 use Rattle.bz_world.proofs.Due.{flush-lonely, flush-map, rightly-on}
+use Rattle.bz_world.proofs.Exact.{exact-struck, had-room-on, puts-change, room-no-delete}
 use Rattle.bz_world.proofs.Paid.{flush-runs}
 use Rattle.bz_world.proofs.LeavesStruck.{struck-leaves}
 use Rattle.bz_world.proofs.LonelyActs.{none-struck}
 use Rattle.bz_world.proofs.Powered.{looks-on, flush-leaves, free-on}
 use Rattle.bz_world.proofs.Staying.{told-stays, wanted-stays, finishing-stays}
-use Rattle.bz_world.proofs.Striking.{flush-calls, old, kept, w, x, its, owner, before, good, after, living, opened, later, took, struck-alone, struck-meant, own-paid, others, was-image, is-image}
+use Rattle.bz_world.proofs.Striking.{flush-calls, old, kept, w, x, its, owner, before, good, after, living, opened, later, took, struck-alone, struck-meant, own-paid, others, was-image, is-image, no-seeks}
 
 module _ (b : StrikeLaws) (p : Parts) (s : ℕ) (h : IsStriking p s) where
   -- the image before and after it
@@ -75,6 +82,35 @@ module _ (b : StrikeLaws) (p : Parts) (s : ℕ) (h : IsStriking p s) where
     sound : IsSound (old b p s h).config (old b p s h).at_start (with_mark (old b p s h).journal h.mark)
     sound = b.flushes (old b p s h).config (old b p s h).at_start (old b p s h).journal h.mark (kept b p s h).sound h.flush h.follows (b.same (old b p s h).config (old b p s h).at_start (old b p s h).journal h.mark (kept b p s h).sound h.flush fault-is same-content)
 
+    begun-before : (its b p s h).opened.begun ≤ length (old b p s h).journal.past
+    begun-before = omega (arith, (its b p s h).call_open.look.after_begin, (its b p s h).call_open.look.by_now)
+
+    -- of its effects its task was told of all before, and not of this one
+    none-yet : untold (old b p s h).access (doing_of (old b p s h).access (w b p s h)) ≡ 0
+    none-yet = ap (untold (old b p s h).access) h.takes.effect.pending ∙ ap (λ (z : Bool). if z then 1 else 0) h.takes.effect.before
+
+    one-now : untold p.access (doing_of p.access (w b p s h)) ≡ 1
+    one-now = ap (untold p.access) still-does ∙ ap (λ (z : Bool). if z then 1 else 0) h.takes.effect.done
+
+    way-same : underway (doing_of p.access (w b p s h)) ≡ underway (doing_of (old b p s h).access (w b p s h))
+    way-same = ap underway (h.work.doing (w b p s h))
+
+    one-more : (k : ℕ) → HasOthers 0 k (before b p s h).past → HasOthers 0 (k + 1) (scene (old b p s h).config (h.mark ∷ (old b p s h).journal.past) (after b p s h) (w b p s h) (its b p s h).call_open.look.since (its b p s h).opened).past
+    one-more k = others-on (old b p s h).config (old b p s h).journal.past h.mark (kept b p s h).story (after b p s h) (w b p s h) (its b p s h).call_open.look.since (its b p s h).opened (its b p s h).opened
+        (effect_instant (old b p s h).config p.access ((kept b p s h).story.at (length (old b p s h).journal.past))) 0 k 0 (k + 1) 1 refl (its b p s h).call_open.look.by_now refl (omega arith)
+
+    -- the last swap of a change makes it
+    earlier : puts (kind_of (x b p s h).task) ≡ true → swaps_of (x b p s h).task ≤ 1 → ⊥
+    earlier change few = true≢false (sym ((its b p s h).tasked.laws.publishes_last (entries_of (old b p s h).access s) (puts-change (x b p s h).task change) few its-asks) ∙ silent)
+
+    -- and a call that has made it asks for no other swap
+    not-yet : HadRoom (old b p s h).config (old b p s h).journal (its b p s h).opened → (x b p s h).effect ≢ None → ⊥
+    not-yet had effected = elim (its b p s h).finishing [
+      | inl (inl quiet) ↦ effected quiet
+      | inl (inr deletes) ↦ true≢false (sym deletes ∙ (ap is_delete (sym (its b p s h).call_open.call) ∙ room-no-delete (its b p s h).opened.call had.puts))
+      | inr f ↦ true≢false (sym f.publishing ∙ silent)
+    ]
+
     serves-on : IsServing (old b p s h).config p.access (with_mark (old b p s h).journal h.mark) (after b p s h) (old b p s h).owners.items (stock_of (old b p s h)) (w b p s h) (x b p s h)
     serves-on = record {
       opened = (its b p s h).opened;
@@ -101,6 +137,11 @@ module _ (b : StrikeLaws) (p : Parts) (s : ℕ) (h : IsStriking p s) where
           (sym (ap (untold p.access) still-does ∙ ap (λ (z : Bool). if z then 1 else 0) h.takes.effect.done))
           (subst (λ z. IsPaidIn (old b p s h).config p.access (h.mark ∷ (old b p s h).journal.past) (stock_of (old b p s h)) (w b p s h) (effected_by z (errand_of (x b p s h))) (x b p s h).task 1 (λ r. mark_of_effect r z) (later b p s h).past) silent (own-paid b p s h steps));
       due = rightly-on (old b p s h).config (old b p s h).access.taken p.access.taken (old b p s h).journal h.mark (stock_of (old b p s h)) (w b p s h) (x b p s h) h.work.taken (flush-map h.mark (old b p s h).journal.past h.flush) (flush-lonely (w b p s h) h.mark (old b p s h).journal.past h.flush) (its b p s h).due;
+      exact = λ lonely room. let had = had-room-on (old b p s h).config (old b p s h).journal h.mark (its b p s h).opened begun-before room in
+          exact-struck (its b p s h).opened (before b p s h).past (scene (old b p s h).config (h.mark ∷ (old b p s h).journal.past) (after b p s h) (w b p s h) (its b p s h).call_open.look.since (its b p s h).opened).past
+          (reach_of (old b p s h).access (w b p s h)) (reach_of p.access (w b p s h)) (stock_of (old b p s h)) (tells_of (x b p s h)) (x b p s h)
+          h.work.taken none-yet one-now way-same one-more (no-seeks b p s h) earlier (not-yet had)
+          ((its b p s h).exact (flush-lonely (w b p s h) h.mark (old b p s h).journal.past h.flush lonely) had);
     }
 
     slots : (v : ℕ) → IsSlot (old b p s h).config p.access (with_mark (old b p s h).journal h.mark) (after b p s h) (old b p s h).owners.items (stock_of (old b p s h)) v (get_or (old b p s h).workers.items v None)

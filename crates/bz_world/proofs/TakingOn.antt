@@ -36,9 +36,10 @@ use Rattle.bz_task.specs.declared.todo.Seen.TheVariants.{Start, NoSwap}
 use Rattle.bz_task.specs.declared.todo.Todo.{Todo}
 use Rattle.bz_task.specs.declared.todo.Todo.TheVariants.{Read, Finish}
 use Rattle.bz_world.specs.Inside.Acted.{IsBetween, MustTell}
-use Rattle.bz_world.specs.Inside.Going.{MustGoOn, MustLookUp, MustLookUpAs, MustTakeOn, MustRead, MustReadWhole, HasRoomForEnd, taken_for, HadEffect, HasReadAfter, LacksSwap, known, call_in, end_in, path_in, WentOn, MayGoOnIn}
+use Rattle.bz_world.specs.Inside.Going.{MustGoOn, LooksUpAgain, MustLookUp, MustLookUpAs, MustTakeOn, MustRead, MustReadWhole, HasRoomForEnd, taken_for, HadEffect, HasReadAfter, LacksSwap, known, call_in, end_in, path_in, WentOn, MayGoOnIn}
 use Rattle.bz_world.specs.Inside.Beginning.{supply_of}
 use Rattle.bz_world.specs.Inside.Due.{TakesRightly, only_looks}
+use Rattle.bz_world.specs.Inside.Exact.{CountsExactly, reach_idle, seeks}
 use Rattle.bz_world.specs.Inside.Kept.{IsAwake}
 use Rattle.bz_world.specs.Inside.Laws.{AloneLaws}
 use Rattle.bz_world.specs.Inside.Lonely.{WhereLonely, IsNotLonely, IsNotLonelyIn, IsLonelyGet, HasLooked, AsksBriefly}
@@ -63,8 +64,8 @@ use Rattle.bz_world.specs.Inside.Paid.{begun_with, bound_in, crowded, errand_of,
 use Rattle.bz_world.specs.WorldView.{deadline}
 use Rattle.bz_world.proofs.Paid.{swaps-write, swapless}
 use Rattle.bz_world.proofs.PaidSteps.{kept-supply, less-in, room-of}
-use Rattle.bz_world.specs.WorldView.{GoesOn, EndsFullOfLittle, EndsFullRightly, EndsUnspent, GetsBriefly, RunsWhole}
-use Rattle.bz_world.specs.Inside.Serving.{IsOpened, IsSlot, IsToldBy, IsWanted, MayGoOn, effect_reply}
+use Rattle.bz_world.specs.WorldView.{GoesOn, EndsAsTold, EndsFullOfLittle, EndsFullRightly, EndsUnspent, GetsBriefly, RunsWhole}
+use Rattle.bz_world.specs.Inside.Serving.{IsOpened, IsSlot, IsToldBy, IsWanted, MayGoOn, effect_reply, tells_of}
 use Rattle.bz_world.specs.Inside.Telling.{MustStart, HasTold, HasToldIn, LacksDescriptor, MustTellOf, MustStartOf, MustBegin}
 use Rattle.bz_world.specs.declared.answers.Applied.{Applied}
 use Rattle.bz_world.specs.declared.answers.Applied.TheVariants as applied
@@ -72,6 +73,7 @@ use Rattle.bz_world.specs.declared.parts.Parts.{Parts}
 use Rattle.bz_world.specs.declared.serving.OpenCall.{OpenCall}
 use Rattle.bz_world.proofs.Alone.{hears-now}
 use Rattle.bz_world.proofs.Due.{freezes-no-look}
+use Rattle.bz_world.proofs.Exact.{exact-alone, exact-froze, full-told, seeks-look, seeks-only}
 use Rattle.bz_world.proofs.Powered.{begun-in}
 use Rattle.bz_world.proofs.Staying.{none-unfilled}
 use Rattle.bz_world.proofs.Supplies.{not-longer}
@@ -94,6 +96,7 @@ must-go-on p w todo m outcome ended lonely = record {
   between = m.asking.between;
   filled = (m.asking.tasked.laws.ends (scene p.config p.journal.past m.asking.between.story w m.asking.between.call_open.look.since m.asking.between.opened) outcome m.asking.facts ended).1;
   fit = m.asking.meant.fit;
+  exact = m.asking.exact;
   lonely = lonely;
 }
 
@@ -126,6 +129,7 @@ lacks-told lone p w todo m lacks = record {
         (lone.scenes p.config p.access p.journal m.asking.between.story w m.asking.between.call_open.look.since m.asking.between.opened m.asking.between.living (begun-in m.asking.between.living m.asking.between.call_open)).scene
         (sym m.asking.tasked.config) m.asking.facts NoSwap refl (λ e. absurd (cc e));
     meant = m.asking.meant;
+    exact = m.asking.exact;
     paid = less-in lone.paid p.config p.access p.journal.past (stock_of p) w (errand_of m.serving) m.serving.task 0 (λ r. start_takes r todo) (scene p.config p.journal.past m.asking.between.story w m.asking.between.call_open.look.since m.asking.between.opened).past m.asking.paid;
   };
 }
@@ -153,6 +157,8 @@ lacks-swap b p w todo then m lacks q moment free left rest asks told = record {
   room = room-of b q w asks.serving 0 (λ r. start_takes r then) (scene q.config q.journal.past asks.asking.between.story w asks.asking.between.call_open.look.since asks.asking.between.opened).past asks.asking.paid;
   write = λ quiet. subst (λ (x : OpenCall). is_read x.call ≡ false) (sym heard.rest) (swaps-write m.serving.call (kind_of m.serving.task) (m.asking.meant.look (sym (ap (λ (x : OpenCall). x.effect) heard.rest) ∙ quiet))
       (λ look. swapless b.asked m.serving.task lacks.entries (m.asking.asks ∙ ap Some lacks.is) (m.asking.tasked.laws.looks look).swaps));
+  told = λ quiet lonely room. full-told asks.asking.between.opened (scene q.config q.journal.past asks.asking.between.story w asks.asking.between.call_open.look.since asks.asking.between.opened).past q.access.taken (stock_of q) asks.serving quiet (heard.heard.no_swap refl)
+      (λ looks. swapless b.asked m.serving.task lacks.entries (m.asking.asks ∙ ap Some lacks.is) (m.asking.tasked.laws.looks (seeks-look (kind_of m.serving.task) (sym (ap seeks heard.heard.kind) ∙ looks))).swaps) (asks.asking.exact lonely room);
 }
   where
     heard : HasTold m.serving NoSwap moment free then asks.serving left
@@ -207,8 +213,9 @@ pub known-scene : ScenesAreSeen → (p : Parts) (w : ℕ) (on : MustGoOn p w) �
 known-scene scenes p w on = (scenes p.config p.access p.journal on.between.story w on.between.call_open.look.since on.between.opened on.between.living (begun-in on.between.living on.between.call_open)).scene
 
 -- its look-up begins anew, now
-abbrev pub looks-anew : (p : Parts) (w : ℕ) → MustGoOn p w → MustGoOn p w
-looks-anew p w on = record on {
+abbrev pub looks-anew : (p : Parts) (w : ℕ) (on : MustGoOn p w) → LooksUpAgain p w on → MustGoOn p w
+looks-anew p w on again = record on {
+  exact = λ lonely room. absurd (again lonely room);
   between = record on.between {
     call_open = record on.between.call_open {
       look = let l = on.between.call_open.look in record { since = length p.journal.past; after_begin = omega (arith, l.after_begin, l.by_now); by_now = omega arith };
@@ -245,8 +252,9 @@ no-key key task looks view s means = let some : 0 < 0 = ((looks (Some bogus)).le
 abbrev pub lookup-taken : (p : Parts) (w : ℕ) (on : MustGoOn p w) → MayGoOn on.serving → (task : AnyTask) (way : Option Path) (asked : Option Todo) (key : List ℕ) → config_of task ≡ p.config → AreLaws task → makes_no_change task ≡ true → IsLookup key way task → (way ≡ None → (other : Option Path) → IsLookup key other task) → key ≡ key_of on.serving.call
     → asks_of task ≡ asked → facts_of task Waiting (known p w on) → IsWanted p.config p.journal on.between.opened (wants_of task)
     → WhereLonely p.journal.past w on.serving.call (IsLonelyGet p.access p.journal.past on.between.story w (record on.serving { task = task; path = way }) on.between.opened) → IsMeant (record on.serving { task = task; path = way }) (known p w on).past → IsPaidFor p w (record on.serving { task = task; path = way }) 0 (taken_for asked) (known p w on).past
-    → TakesRightly p.config p.access.taken p.journal (stock_of p) w (record on.serving { task = task; path = way }) → MustTakeOn p w task way on.serving.had asked
-lookup-taken p w on may task way asked key config laws looks lookup wayless same asks facts wanted lonely meant paid due = record {
+    → TakesRightly p.config p.access.taken p.journal (stock_of p) w (record on.serving { task = task; path = way }) → CountsExactly p.config p.journal w on.between.opened (known p w on).past (reach_idle p.access) (stock_of p) (tells_of (record on.serving { task = task; path = way })) (record on.serving { task = task; path = way })
+    → MustTakeOn p w task way on.serving.had asked
+lookup-taken p w on may task way asked key config laws looks lookup wayless same asks facts wanted lonely meant paid due exact = record {
   on = on;
   may = may;
   tasked = record { config = config; laws = laws; lookup = subst (λ k. IsLookup k way task) same lookup; change = inl looks; wayless = λ none other. subst (λ k. IsLookup k other task) same (wayless none other) };
@@ -257,6 +265,7 @@ lookup-taken p w on may task way asked key config laws looks lookup wayless same
   meant = meant;
   paid = paid;
   due = due;
+  exact = exact;
 }
 
 -- and one that begins once the change was made needs none either
@@ -278,6 +287,7 @@ said-alone p w on other alone slot is = record {
   filled = on.filled;
   fit = record { words = on.fit.words; thawed = on.fit.thawed };
   lonely = λ key get lonely. absurd (other key get lonely);
+  exact = λ lonely room. exact-alone on.between.opened (known p w on).past (reach_idle p.access) (stock_of p) (tells_of on.serving) on.serving alone (on.exact lonely room);
 }
 
 pub said-may : (p : Parts) (w : ℕ) (m : MustLookUpAs p w crowded) (alone : Bool) → alone ≡ is_merge (kind_of m.on.serving.task) → (slot : Option OpenCall) → slot ≡ Some (record m.on.serving { alone = alone }) → MustLookUp (record p { workers = with_item p.workers w slot }) w
@@ -287,6 +297,7 @@ said-may p w m alone merges slot is = record {
   may = m.may;
   other = m.other;
   pays = subst (λ (a : Bool). HasARoundAs p w (record (errand_of m.on.serving) { alone = a }) (known p w m.on).past) (sym merges) m.pays;
+  again = m.again;
 }
 
 -- nor is whether its own freeze of its leaf was the last to end
@@ -300,6 +311,7 @@ said-froze p w on other froze thawed freezes slot is = record {
   filled = on.filled;
   fit = record { words = on.fit.words; thawed = thawed };
   lonely = λ key get lonely. absurd (other key get lonely);
+  exact = λ lonely room. exact-froze on.between.opened (known p w on).past (reach_idle p.access) (stock_of p) (tells_of on.serving) on.serving froze (λ f looks. freezes f (seeks-only on.serving.call (kind_of on.serving.task) looks)) (on.exact lonely room);
 }
   where
     unfrozen : only_looks on.serving.call (kind_of on.serving.task) ≡ true → (f : Bool) → froze ≡ f → froze ≡ false
@@ -319,6 +331,7 @@ froze-may p w m froze freezes slot is = record {
   may = m.may;
   other = m.other;
   pays = subst (λ (f : Bool). HasARoundAs p w (record (errand_of m.on.serving) { froze = f }) (known p w m.on).past) (sym freezes) m.pays;
+  again = m.again;
 }
 
 thawed-spares : (r : Resource) (m : SwapMemory) (w : ℕ) (e : Errand) (used by : ℕ) (p : Past) → Spares r m w e used by p (λ q. most_of_leaf r + coming r q e kinds.ReadWhole) → Spares r m w (record e { froze = false }) used by p (λ q. most_of_leaf r + coming r q (record e { froze = false }) kinds.ReadWhole)
@@ -337,6 +350,7 @@ thawed-read p w path m slot is = record {
   other = m.other;
   look = m.look;
   due = m.due;
+  again = m.again;
   spares = λ r counted. thawed-spares r p.access w (errand_of m.on.serving) (used_in r p w) (bound_in r p w) (known p w m.on).past (m.spares r counted);
 }
 
@@ -380,6 +394,7 @@ module _ (p : Parts) (w : ℕ) (task : AnyTask) (had : Option (List ℕ)) (asked
       lonely = λ key get lonely. absurd (other key get lonely);
       alone = record { others = (counts-now lone).0; made = made_of task; counted = (counts-now lone).1; stands = λ ends. absurd (more ends) };
       meant = m.meant;
+      exact = m.exact;
       paid = subst (λ (o : Option Todo). IsPaidFor p w next 0 (taken_for o) (known p w m.on).past) e m.paid;
     };
   }
@@ -402,6 +417,7 @@ module _ (p : Parts) (w : ℕ) (task : AnyTask) (had : Option (List ℕ)) (asked
       lonely = λ key get lonely. (m.lonely key get lonely, refl);
       alone = hears-now lone.counted task (known p w m.on) (known-scene lone.scenes p w m.on) (sym m.tasked.config) m.facts Start refl (λ e. absurd (cc e));
       meant = m.meant;
+      exact = m.exact;
       paid = subst (λ (o : Option Todo). IsPaidFor p w next 0 (taken_for o) (known p w m.on).past) e m.paid;
     };
   }
@@ -483,6 +499,7 @@ told-went old mid w answer new rest fewer few went = record {
   supplied = λ whole. went.supplied (subst (λ (j : Log). RunsWhole new.config w j.past) (sym (ap (λ (p : Parts). p.journal) rest)) whole);
   little = λ whole. subst (λ (j : Log). EndsFullOfLittle new.config j w new.journal (begun_with new)) (ap (λ (p : Parts). p.journal) rest) (went.little (subst (λ (j : Log). RunsWhole new.config w j.past) (sym (ap (λ (p : Parts). p.journal) rest)) whole));
   unspent = subst (λ (j : Log). EndsUnspent j w new.journal (begun_with new) (supply_of new)) (ap (λ (p : Parts). p.journal) rest) went.unspent;
+  exact = subst (λ (j : Log). EndsAsTold new.config j w new.journal (begun_with new) (supply_of new)) (ap (λ (p : Parts). p.journal) rest) went.exact;
   config = went.config ∙ ap (λ (p : Parts). p.config) rest;
   at_start = went.at_start ∙ ap (λ (p : Parts). p.at_start) rest;
   left_out = went.left_out ∙ ap (λ (p : Parts). p.left_out) rest;
@@ -506,6 +523,7 @@ went-anew p workers page w answer new went = record {
   supplied = went.supplied;
   little = went.little;
   unspent = went.unspent;
+  exact = went.exact;
 }
 
 -- or that started something
@@ -530,6 +548,7 @@ went-started p workers w new kept rest taken others room x here = record {
   supplied = λ whole. kept-supply new kept w x (subst (λ (z : Parts). get_or z.workers.items w None ≡ Some x) (sym rest) here) (subst (λ (j : Log). RunsWhole new.config w j.past) (sym (ap (λ (z : Parts). z.journal) rest)) whole);
   little = λ whole n at spent e. absurd (not-longer (End w n (reply.Full spent) at) p.journal.past (sym (ap (λ (z : Parts). z.journal.past) rest) ∙ e));
   unspent = λ n at answer e tells lonely. absurd (not-longer (End w n answer at) p.journal.past (sym (ap (λ (z : Parts). z.journal.past) rest) ∙ e));
+  exact = λ n at answer opened e is-open lonely room. absurd (not-longer (End w n answer at) p.journal.past (sym (ap (λ (z : Parts). z.journal.past) rest) ∙ e));
 }
   where
     in-time : length new.journal.past ≡ length p.journal.past → length p.journal.past + left_to p.access w + 1 ≤ deadline p.config w p.journal.past → length new.journal.past ≤ deadline p.config w p.journal.past

@@ -30,6 +30,7 @@ use Rattle.bz_task.specs.declared.todo.Todo.{Todo}
 use Rattle.bz_world.specs.Inside.Acted.{IsTold, IsAsking, MustTell}
 use Rattle.bz_world.specs.Inside.Alone.{HasWaited, AsksAlone}
 use Rattle.bz_world.specs.Inside.Due.{IsDue, TakesRightly, only_looks}
+use Rattle.bz_world.specs.Inside.Exact.{CountsExactly, IsExact, reach_idle}
 use Rattle.bz_world.specs.Inside.Going.{end_in, wants_in}
 use Rattle.bz_world.specs.Inside.Laws.{AloneLaws, LonelyLaws, RoundLaws}
 use Rattle.bz_world.specs.Inside.Lonely.{WhereLonely, AsksBriefly}
@@ -45,13 +46,14 @@ use Rattle.bz_running.specs.Kinds.{kind_of}
 use Rattle.bz_world.specs.Inside.Meant.{IsMeant}
 use Rattle.bz_world.specs.Inside.Paid.{begun_with, bound_in, errand_of, stock_of, used_in, used_of, IsPaidIn}
 use Rattle.bz_world.specs.WorldView.{HadFew, RunsWhole}
-use Rattle.bz_world.specs.Inside.Serving.{IsCovered, IsToldBy, IsTasked, IsSlot, IsChangeFor, NeedsAtLeast, MayGoOn}
+use Rattle.bz_world.specs.Inside.Serving.{IsCovered, IsToldBy, IsTasked, IsSlot, IsChangeFor, NeedsAtLeast, MayGoOn, tells_of}
 use Rattle.bz_world.specs.Inside.Telling.{CanHear, HasTold, HasToldIn, MustStart, KnowsWay, MustStartOf}
 use Rattle.bz_world.specs.declared.parts.Parts.{Parts}
 use Rattle.bz_world.specs.declared.serving.OpenCall.{OpenCall}
 use Rattle.bz_sound.specs.Power.Times.{image_at_on}
 use Rattle.bz_world.proofs.Alone.{cause-none}
 use Rattle.bz_world.proofs.Due.{looks-only, not-lonely}
+use Rattle.bz_world.proofs.ExactTold.{exact-told}
 use Rattle.bz_world.proofs.LonelyTold.{told-lonely, took-lonely}
 use Rattle.bz_world.proofs.Meant.{call-meant-told}
 use Rattle.bz_world.proofs.PaidSteps.{heard-in}
@@ -226,6 +228,13 @@ module _ (scenes : ScenesAreSeen) (slots : SlotsAreTaken) (laws : LonelyLaws) (l
       })
     ]
 
+    -- the way of its change to a leaf with room
+    still-exact : CountsExactly p.config p.journal w told.between.opened here.past (reach_idle p.access) (record (stock_of p) { left = length left.free }) (tells_of y) y
+    still-exact lonely room = subst (λ (z : OpenCall). IsExact told.between.opened here.past (reach_idle p.access) (record (stock_of p) { left = length left.free }) (tells_of z) z) (sym h.rest)
+        (exact-told told.between.opened here.past p.access.taken (stock_of p) (tells_of x) x y.task seen (length p.journal.past) p.slots todo left h.heard told.tasked.laws h.laws told.hears told.alone.others told.alone.counted not-again
+        (λ o e. (scene p.config p.journal.past after w told.between.call_open.look.since told.between.opened, (h.laws.ends (scene p.config p.journal.past after w told.between.call_open.look.since told.between.opened) o facts e).0)) refl
+        (λ none. slots-same (needs_of x.task) (needs_of y.task) p.slots left none h.heard.slots) (told.exact lonely room))
+
     pub is-asking : (workers : Vec (Option OpenCall)) → length workers.items ≡ length p.workers.items → ((v : ℕ) → v ≢ w → get_or workers.items v None ≡ get_or p.workers.items v None) → IsAsking (record p { slots = left; workers = workers }) w y todo
     is-asking workers size rest = record {
       between = record {
@@ -259,6 +268,7 @@ module _ (scenes : ScenesAreSeen) (slots : SlotsAreTaken) (laws : LonelyLaws) (l
       alone = asks-alone;
       meant = still-meant;
       paid = still-paid;
+      exact = still-exact;
     }
 
   pub must-start : (todo : Todo) (left : FreeSlots) (old slot : Option OpenCall) → old ≡ Some x → HasToldIn old seen (length p.journal.past) p.slots todo slot left → MustStart (record p { slots = left; workers = with_item p.workers w slot }) w todo

@@ -3,6 +3,7 @@ pub mod Alone
 pub mod Meant
 pub mod Paid
 pub mod Due
+pub mod Exact
 pub mod Serving
 pub mod Lonely
 pub mod Kept

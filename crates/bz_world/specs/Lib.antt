@@ -1,4 +1,5 @@
 pub mod WorldView
 pub mod Solo
 pub mod Leaves
+pub mod Roomy
 pub mod Inside

@@ -10,7 +10,7 @@ use Rattle.bz_call.specs.Pages.{is_page}
 use Rattle.bz_call.specs.declared.calls.Call.{Call}
 use Rattle.bz_call.specs.declared.calls.Call.TheVariants as call
 use Rattle.bz_call.specs.declared.replies.Reply.{Reply}
-use Rattle.bz_call.specs.declared.replies.Reply.TheVariants.{Exists, Missing, Value, Page, Full}
+use Rattle.bz_call.specs.declared.replies.Reply.TheVariants.{Exists, Inserted, Missing, Updated, Value, Page, Full}
 use Rattle.bz_call.specs.declared.replies.Spent.{Spent}
 use Rattle.bz_call.specs.declared.replies.Spent.TheVariants.{Nodes, Swaps, Height}
 use Rattle.bz_content.specs.Content.{image_fault}
@@ -33,6 +33,7 @@ use Rattle.bz_sound.specs.Memory.Spent.{NeedsSlots, is_reached_in}
 use Rattle.bz_sound.specs.Power.Times.{power_of, since_on, image_at_on}
 use Rattle.bz_sound.specs.Replies.{Pages}
 use Rattle.bz_story.specs.Reviving.{acts_by}
+use Rattle.bz_world.specs.Roomy.{HadRoom, swaps_told}
 use Rattle.bz_world.specs.declared.answers.Applied.{Applied}
 use Rattle.bz_world.specs.declared.answers.Applied.TheVariants as applied
 use Rattle.bz_world.specs.declared.answers.Begun.{Begun}
@@ -359,6 +360,19 @@ tells_only other = false
 abbrev pub EndsUnspent : Log → ℕ → Log → Supply → Supply → Type 0
 EndsUnspent old w new begun supply = (n at : ℕ) (reply : Reply) → new.past ≡ End w n reply at ∷ old.past → tells_only reply ≡ true → IsLonely w old.past → supply ≡ begun
 
+-- so many descriptors were taken, and no slot, where the leaf had room; a Full is of no other than descriptors then, and at most one was taken
+abbrev pub TakesAsTold : Supply → Supply → Reply → Type 0
+TakesAsTold begun supply Inserted = supply ≡ record begun { taken = begun.taken + swaps_told Inserted }
+TakesAsTold begun supply (Updated had) = supply ≡ record begun { taken = begun.taken + swaps_told (Updated had) }
+TakesAsTold begun supply (Full Swaps) = (supply.taken ≤ begun.taken + 1) × (supply.left ≡ begun.left)
+TakesAsTold begun supply (Full Nodes) = ⊥
+TakesAsTold begun supply (Full Height) = ⊥
+TakesAsTold begun supply other = Unit {0}
+
+-- so is a call answered beside which no other was open, and whose leaf had room when it began
+abbrev pub EndsAsTold : Config → Log → ℕ → Log → Supply → Supply → Type 0
+EndsAsTold c old w new begun supply = (n at : ℕ) (reply : Reply) (opened : Open) → new.past ≡ End w n reply at ∷ old.past → open_call w old.past ≡ Some opened → IsLonely w old.past → HadRoom c old opened → TakesAsTold begun supply reply
+
 -- a step of a worker: exactly one act of it, a flush exactly where that was said before; at most one effect; at most its
 -- call's End, which is a Full only where what that names has run out, and that of a lonely get only after few acts. A task takes at
 -- most as many slots as a split does: the one that this act ends, and the next one. What the next acts of the others are stays, and
@@ -386,6 +400,8 @@ pub record Steps (old : WorldView) (w : ℕ) (answer : Applied) (new : WorldView
   pub little : RunsWhole new.config w struck → EndsFullOfLittle new.config (record old.log { past = struck }) w new.log new.at_begin
   -- and where no other call was open beside it, whatever was evicted, it takes none for a reply that tells of no change
   pub unspent : EndsUnspent (record old.log { past = struck }) w new.log new.at_begin new.supply
+  -- and of one that puts a record into a leaf with room for it as many descriptors as its reply tells
+  pub exact : EndsAsTold new.config (record old.log { past = struck }) w new.log new.at_begin new.supply
 
 -- the recovery goes on, or has ended with this act: its Ready follows directly
 abbrev pub EndsRecovery : Log → Applied → Log → Type 0

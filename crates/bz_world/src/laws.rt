@@ -77,6 +77,7 @@ pub(crate) fn round_laws()
     lone::lone_ascents_are_due();
     lone::lone_ascents_are_below_the_stage();
     stage::lacking_leaves_say();
+    lone::stages_stand();
 }
 
 /// Those of a worker that is alone.

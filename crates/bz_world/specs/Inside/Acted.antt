@@ -34,13 +34,14 @@ use Rattle.bz_task.specs.declared.todo.Todo.{Todo}
 use Rattle.bz_task.specs.declared.todo.Todo.TheVariants.{Finish}
 use Rattle.bz_world.specs.Inside.Alone.{HearsAlone, AsksAlone}
 use Rattle.bz_world.specs.Inside.Due.{TakesRightly}
+use Rattle.bz_world.specs.Inside.Exact.{CountsExactly, reach_at, reach_idle}
 use Rattle.bz_world.specs.Inside.Kept.{IsTabled, AreTaken, AreFree, IsAwake}
 use Rattle.bz_world.specs.Inside.Lonely.{WhereLonely, IsLonelyGet, AsksBriefly}
 use Rattle.bz_world.specs.Inside.Meant.{IsMeant}
 use Rattle.bz_world.specs.Inside.Paid.{no_extra, runner, stock_of, IsPaidFor}
 use Rattle.bz_world.specs.Leaves.{AreLeavesKept}
 use Rattle.bz_world.specs.WorldView.{mark_of, IsStruck, stepper}
-use Rattle.bz_world.specs.Inside.Serving.{IsCovered, IsSlot, IsOpened, IsTasked, MayGoOn}
+use Rattle.bz_world.specs.Inside.Serving.{IsCovered, IsSlot, IsOpened, IsTasked, MayGoOn, tells_of}
 use Rattle.bz_world.specs.declared.parts.Parts.{Parts}
 use Rattle.bz_world.specs.declared.serving.OpenCall.{OpenCall}
 
@@ -124,6 +125,7 @@ pub record IsTold (p : Parts) (w : ℕ) (x : OpenCall) (seen : Seen) : Type 0 wh
   pub alone : HearsAlone x.task seen (scene p.config p.journal.past between.story w between.call_open.look.since between.opened).past
   pub meant : IsMeant x (scene p.config p.journal.past between.story w between.call_open.look.since between.opened).past
   pub paid : IsPaidFor p w x (effects_in seen) no_extra (scene p.config p.journal.past between.story w between.call_open.look.since between.opened).past
+  pub exact : CountsExactly p.config p.journal w between.opened (scene p.config p.journal.past between.story w between.call_open.look.since between.opened).past (reach_at p.access seen) (stock_of p) (tells_of x) x
 
 -- and its task asks for this: for nothing more, where its change is made
 pub record IsAsking (p : Parts) (w : ℕ) (x : OpenCall) (todo : Todo) : Type 0 where
@@ -137,6 +139,7 @@ pub record IsAsking (p : Parts) (w : ℕ) (x : OpenCall) (todo : Todo) : Type 0 
   pub alone : AsksAlone x.task todo (scene p.config p.journal.past between.story w between.call_open.look.since between.opened).past
   pub meant : IsMeant x (scene p.config p.journal.past between.story w between.call_open.look.since between.opened).past
   pub paid : IsPaidFor p w x 0 (λ r. start_takes r todo) (scene p.config p.journal.past between.story w between.call_open.look.since between.opened).past
+  pub exact : CountsExactly p.config p.journal w between.opened (scene p.config p.journal.past between.story w between.call_open.look.since between.opened).past (reach_idle p.access) (stock_of p) (tells_of x) x
 
 -- the worker's call is served, and its task is to be told this
 pub record MustTell (p : Parts) (w : ℕ) (seen : Seen) : Type 0 where

@@ -50,13 +50,15 @@ use Rattle.bz_world.specs.Inside.Acted.{IsBetween}
 use Rattle.bz_world.specs.Inside.Alone.{EndsAlone}
 use Rattle.bz_world.specs.Inside.Beginning.{supply_of}
 use Rattle.bz_world.specs.Inside.Due.{IsDue, IsDueAlone, TakesRightly}
+use Rattle.bz_world.specs.Inside.Exact.{CountsExactly, reach_idle}
 use Rattle.bz_world.specs.Inside.Kept.{IsAwake}
 use Rattle.bz_world.specs.Inside.Meant.{IsMeant}
 use Rattle.bz_world.specs.Inside.Paid.{begun_with, bound_in, errand_of, is_merge, no_extra, stock_of, used_in, IsCounted, IsFit, IsPaidFor, HasToSpare, HasARound, HasARoundAs}
 use Rattle.bz_world.specs.Inside.Room.{LacksRoomFor}
 use Rattle.bz_world.specs.Inside.Lonely.{WhereLonely, IsNotLonely, IsLonelyGet, HasLooked}
-use Rattle.bz_world.specs.WorldView.{deadline, GoesOn, Spends, HadFew, HasRunOut, EndsFullOfLittle, EndsFullRightly, EndsUnspent, GetsBriefly, KeepsSupply, RunsWhole, is_delete}
-use Rattle.bz_world.specs.Inside.Serving.{IsTasked, IsWanted, MayGoOn}
+use Rattle.bz_world.specs.WorldView.{deadline, GoesOn, Spends, HadFew, HasRunOut, EndsFullOfLittle, EndsFullRightly, EndsAsTold, EndsUnspent, GetsBriefly, KeepsSupply, RunsWhole, TakesAsTold, is_delete}
+use Rattle.bz_world.specs.Inside.Serving.{IsTasked, IsWanted, MayGoOn, tells_of}
+use Rattle.bz_world.specs.Roomy.{HadRoom}
 use Rattle.bz_world.specs.declared.answers.Applied.{Applied}
 use Rattle.bz_world.specs.declared.parts.Parts.{Parts}
 use Rattle.bz_world.specs.declared.serving.OpenCall.{OpenCall}
@@ -69,6 +71,7 @@ pub record MustGoOn (p : Parts) (w : ℕ) : Type 0 where
   pub filled : (k : ℕ) → between.story.took w k ≡ true → between.story.filled w k ≡ true
   pub fit : IsFit serving
   pub lonely : WhereLonely p.journal.past w serving.call (HasLooked p.access p.journal.past between.story w serving between.opened)
+  pub exact : CountsExactly p.config p.journal w between.opened (scene p.config p.journal.past between.story w between.call_open.look.since between.opened).past (reach_idle p.access) (stock_of p) (tells_of serving) serving
 
 -- the call in this place changes nothing
 abbrev pub is_read_in : Option OpenCall → Bool
@@ -84,12 +87,17 @@ MayGoOnIn (Some x) = MayGoOn x
 abbrev pub known : (p : Parts) (w : ℕ) → MustGoOn p w → Scene
 known p w m = scene p.config p.journal.past m.between.story w m.between.call_open.look.since m.between.opened
 
+-- no call looks its key up again whose leaf had room, where no other call is open
+abbrev pub LooksUpAgain : (p : Parts) (w : ℕ) → MustGoOn p w → Type 0
+LooksUpAgain p w m = IsLonely w p.journal.past → HadRoom p.config p.journal m.between.opened → ⊥
+
 -- and it may look its key up, or have its leaf changed: it is no lonely get, which is never looked up again
 pub record MustLookUp (p : Parts) (w : ℕ) : Type 0 where
   pub on : MustGoOn p w
   pub may : MayGoOn on.serving
   pub other : IsNotLonely p.journal.past w on.serving.call
   pub pays : HasARound p w on.serving (known p w on).past
+  pub again : LooksUpAgain p w on
 
 -- the same, where it is looked up as the end of its task leaves it: so its leaf is read whole after its own freeze, or copied alone
 pub record MustLookUpAs (p : Parts) (w : ℕ) (change : Errand → Kind → Errand) : Type 0 where
@@ -97,6 +105,7 @@ pub record MustLookUpAs (p : Parts) (w : ℕ) (change : Errand → Kind → Erra
   pub may : MayGoOn on.serving
   pub other : IsNotLonely p.journal.past w on.serving.call
   pub pays : HasARoundAs p w (change (errand_of on.serving) (kind_of on.serving.task)) (known p w on).past
+  pub again : LooksUpAgain p w on
 
 -- the call that is served, how its task has ended, what it asks for, the way to its leaf, its effect, and whether it froze its leaf last
 abbrev pub call_in : Option OpenCall → Option Call
@@ -242,6 +251,7 @@ pub record MustTakeOn (p : Parts) (w : ℕ) (task : AnyTask) (way : Option Path)
   pub meant : IsMeant (record on.serving { task = task; path = way; had = had }) (known p w on).past
   pub paid : IsPaidFor p w (record on.serving { task = task; path = way; had = had }) 0 (taken_for asked) (known p w on).past
   pub due : TakesRightly p.config p.access.taken p.journal (stock_of p) w (record on.serving { task = task; path = way; had = had })
+  pub exact : CountsExactly p.config p.journal w on.between.opened (known p w on).past (reach_idle p.access) (stock_of p) (tells_of (record on.serving { task = task; path = way; had = had })) (record on.serving { task = task; path = way; had = had })
 
 -- the way to its leaf was found, which is to be read whole
 pub record MustRead (p : Parts) (w : ℕ) (path : Path) : Type 0 where
@@ -253,6 +263,7 @@ pub record MustRead (p : Parts) (w : ℕ) (path : Path) : Type 0 where
   pub look : on.serving.effect ≡ None → IsLookOf on.serving.call kinds.ReadWhole
   -- for a page, or to make it anew
   pub due : on.serving.effect ≡ None → IsLonely w p.journal.past → (is_page on.serving.call ≡ true) ⊎ IsDue p.config p.journal on.serving.call
+  pub again : LooksUpAgain p w on
 
 -- its task knows what it should, and has ended so
 abbrev pub EndsSo : (p : Parts) (w : ℕ) → MustGoOn p w → Outcome → Type 0
@@ -328,6 +339,7 @@ pub record MustReadCrowded (p : Parts) (w : ℕ) : Type 0 where
   pub write : is_read reads.on.serving.call ≡ false
   pub spares : HasToSpare p w reads.on.serving (known p w reads.on).past (λ r q. most_of_leaf r + coming r q (errand_of reads.on.serving) kinds.ReadWhole)
   pub due : IsDueAlone p.config p.journal w reads.on.serving.call
+  pub again : LooksUpAgain p w reads.on
 
 -- a task that makes its change, which is yet to begin
 pub record MustChange (p : Parts) (w : ℕ) (had : Option (List ℕ)) (task : AnyTask) : Type 0 where
@@ -345,6 +357,7 @@ pub record MustChange (p : Parts) (w : ℕ) (had : Option (List ℕ)) (task : An
   -- it ends for want of room only where there is none, in a clean round
   pub lacks : (z : Scene) → means_of task outcomes.NeedsRoom z → IsAlone 0 (known p w reads.on).past → 0 < stage_now (errand_of reads.on.serving) (known p w reads.on).past
   pub due : IsDueAlone p.config p.journal w reads.on.serving.call
+  pub exact : CountsExactly p.config p.journal w reads.on.between.opened (known p w reads.on).past (reach_idle p.access) (stock_of p) (tells_of (record reads.on.serving { task = task; path = reads.on.serving.path; had = had })) (record reads.on.serving { task = task; path = reads.on.serving.path; had = had })
 
 -- that leaf is frozen, or has no room for what the call puts there
 pub record MustRestructure (p : Parts) (w : ℕ) (view : LeafView) : Type 0 where
@@ -400,6 +413,7 @@ pub record MustMerge (p : Parts) (w : ℕ) (path : Path) (view : LeafView) : Typ
   pub write : on.serving.effect ≡ None → is_read on.serving.call ≡ false
   pub thawed_call : IsThawed (errand_of on.serving)
   pub due : on.serving.effect ≡ None → IsDueAlone p.config p.journal w on.serving.call
+  pub again : LooksUpAgain p w on
   pub spares : HasToSpare p w on.serving (known p w on).past (λ r q. most_of_merge r + coming r q (errand_of on.serving) kinds.Merge)
 
 -- its split has ended because the node above lacked the room, and this is the split of that one, which is yet to begin
@@ -468,6 +482,7 @@ pub record LacksSwap (p : Parts) (w : ℕ) : Type 0 where
   pub little : RunsWhole p.config w p.journal.past → HadFew p.config (begun_with p) Swaps
   pub room : HasRoomForEnd p w
   pub write : on.serving.effect ≡ None → is_read on.serving.call ≡ false
+  pub told : on.serving.effect ≡ None → IsLonely w p.journal.past → HadRoom p.config p.journal on.between.opened → TakesAsTold (begun_with p) (supply_of p) (Full Swaps)
 
 -- fewer slots are left than its task takes, and the call had no effect
 pub record IsOutOfSlots (p : Parts) (w : ℕ) : Type 0 where
@@ -484,12 +499,14 @@ pub record IsShort (p : Parts) (w : ℕ) (spent : Spent) : Type 0 where
   pub room : HasRoomForEnd p w
   pub cause : IsSpent p.config p.journal.start p.journal.past w on.between.opened spent
   pub out : RunsOut p w spent
+  pub told : IsLonely w p.journal.past → HadRoom p.config p.journal on.between.opened → TakesAsTold (begun_with p) (supply_of p) (Full spent)
 
 -- this is a right reply to it, at this moment; a Full only where what it names has run out; and where it is a lonely get, after few acts
 pub record MustEnd (p : Parts) (w : ℕ) (reply : Reply) (at : ℕ) : Type 0 where
   pub on : MustGoOn p w
   pub right : IsRightReply p.config p.journal.start p.journal.pages p.journal.past (record { worker = w; opened = on.between.opened; reply = reply; at = at })
   pub full : (spent : Spent) → reply ≡ Full spent → RunsOut p w spent
+  pub told : IsLonely w p.journal.past → HadRoom p.config p.journal on.between.opened → TakesAsTold (begun_with p) (supply_of p) reply
   pub room : HasRoomForEnd p w
   pub brief : WhereLonely p.journal.past w on.serving.call (λ key. acts_since w p.journal.past ≤ 2 * get_reads p.config (image_at p.journal.start at p.journal.past) key)
 
@@ -517,3 +534,4 @@ pub record WentOn (old : Parts) (w : ℕ) (answer : Applied) (new : Parts) : Typ
   pub supplied : RunsWhole new.config w old.journal.past → KeepsSupply (begun_with new) (supply_of new)
   pub little : RunsWhole new.config w old.journal.past → EndsFullOfLittle new.config old.journal w new.journal (begun_with new)
   pub unspent : EndsUnspent old.journal w new.journal (begun_with new) (supply_of new)
+  pub exact : EndsAsTold new.config old.journal w new.journal (begun_with new) (supply_of new)

@@ -17,7 +17,7 @@ use Rattle.bz_rivals.specs.Notes.{NotesAreOfBegun, ZeroSwapsNothing}
 use Rattle.bz_rivals.specs.Wins.{OwnSwapsWin, ExpectedStand}
 use Rattle.bz_lone.specs.FromRounds.Due.{LoneLeavesAreDue, LoneAscentsAreDue}
 use Rattle.bz_lone.specs.FromRounds.Levels.{LoneAscentsAreBelowTheStage}
-use Rattle.bz_lone.specs.FromRounds.Stands.{LoneViewsTellTheLeaf}
+use Rattle.bz_lone.specs.FromRounds.Stands.{LoneViewsTellTheLeaf, StagesStand}
 use Rattle.bz_lone.specs.FromTally.Laws.{LeavesComeAndGo}
 use Rattle.bz_lone.specs.FromRounds.Viewed.{LoneViewsTellTheStage, LoneKeyViewsTellTheStage}
 use Rattle.bz_sight.specs.Acts.{FlushingStepsFlush, QuietStepsPass, StepsLeaveCaches, StoringStepsStore}
@@ -99,6 +99,7 @@ pub record RoundLaws : Type 0 where
   pub up_due : LoneAscentsAreDue
   pub below : LoneAscentsAreBelowTheStage
   pub lacking : LackingLeavesSay
+  pub stand : StagesStand
 
 -- by which a worker that is alone does not begin again
 pub record AloneLaws : Type 0 where

@@ -29,8 +29,10 @@ use Rattle.bz_task.specs.declared.todo.Todo.TheVariants as todo
 use Rattle.bz_word.specs.declared.entry.Entry.{Entry}
 use Rattle.bz_world.specs.Inside.Alone.{WaitsAlone, untold}
 use Rattle.bz_world.specs.Inside.Due.{TakesRightly}
+use Rattle.bz_world.specs.Inside.Exact.{CountsExactly, reach_of}
 use Rattle.bz_world.specs.Inside.Meant.{IsMeant}
 use Rattle.bz_world.specs.Inside.Paid.{Stock, IsPaidIn, errand_of, no_extra, runner}
+use Rattle.bz_world.specs.Roomy.{swaps_told}
 use Rattle.bz_world.specs.WorldView.{is_delete}
 use Rattle.bz_world.specs.declared.serving.OpenCall.{OpenCall}
 
@@ -131,6 +133,10 @@ pub record IsTasked (c : Config) (called : Call) (way : Option Path) (had : Opti
   -- where no way was found, it ends in no leaf: it is a look-up after whichever way
   pub wayless : way ≡ None → (other : Option Path) → IsLookup (key_of called) other task
 
+-- how many swaps the reply to its change tells
+abbrev pub tells_of : OpenCall → ℕ
+tells_of x = swaps_told (effect_reply x.call x.had)
+
 -- the task goes on: the worker does what it asked for, and it knows what it should
 pub record IsServing (c : Config) (m : SwapMemory) (log : Log) (story : Story) (owners : List ℕ) (stock : Stock) (w : ℕ) (x : OpenCall) : Type 0 where
   pub opened : Open
@@ -146,6 +152,7 @@ pub record IsServing (c : Config) (m : SwapMemory) (log : Log) (story : Story) (
   pub meant : IsMeant x (scene c log.past story w call_open.look.since opened).past
   pub paid : runner c log.past ≡ Some w → IsPaidIn c m log.past stock w (errand_of x) x.task (untold m (doing_of m w)) no_extra (scene c log.past story w call_open.look.since opened).past
   pub due : TakesRightly c m.taken log stock w x
+  pub exact : CountsExactly c log w opened (scene c log.past story w call_open.look.since opened).past (reach_of m w) stock (tells_of x) x
 
 -- no call of the worker is open, it does nothing, and it has stored into each slot that it took
 pub record IsAtRest (m : SwapMemory) (log : Log) (story : Story) (w : ℕ) : Type 0 where

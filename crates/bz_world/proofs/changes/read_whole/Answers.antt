@@ -13,6 +13,7 @@ read_leaf-requires-clause-path c = let r = c.requires.way.reads in record {
   other = r.other;
   spares = c.requires.way.spares;
   due = λ quiet lonely. inr (c.requires.way.due lonely);
+  again = c.requires.way.again;
   look = λ quiet. writes-look r.on.serving.call kinds.ReadWhole c.requires.way.write;
 }
 

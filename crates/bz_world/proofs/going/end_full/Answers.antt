@@ -13,6 +13,7 @@ end-requires-clause-right c = subst (MustEnd c.args.parts.now c.args.w (Full c.a
       (c.requires.short.on.between.call_open.effect ∙ c.requires.short.quiet) writes c.requires.short.cause;
   room = c.requires.short.room;
   full = λ spent e. subst (RunsOut c.args.parts.now c.args.w) (cc e) c.requires.short.out;
+  told = c.requires.short.told;
   brief = λ key get lonely. absurd (subst (IsNotLonelyIn c.args.parts.now.journal.past c.args.w) c.requires.short.on.is c.requires.other key get lonely);
 })
   where

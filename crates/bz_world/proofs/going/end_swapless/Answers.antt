@@ -13,6 +13,7 @@ end_full-requires-clause-short c = record {
   quiet = ap effect_in (sym (slot-is c.args.parts.now c.args.w c.requires.lacks.on c.index.result.now c.index.ensures)) ∙ sym c.in-None.ensures;
   cause = c.held_swaps_are_spent.ensures c.args.parts.now.config c.args.parts.now.journal.start c.args.parts.now.journal.past c.args.w c.requires.lacks.on.between.opened (slice_index c.args.parts.now.owners.items) (are-held c.args.parts.now c.args.w c.requires.lacks);
   out = record { out = c.requires.lacks.spent; little = c.requires.lacks.little };
+  told = c.requires.lacks.told (ap effect_in (sym (slot-is c.args.parts.now c.args.w c.requires.lacks.on c.index.result.now c.index.ensures)) ∙ sym c.in-None.ensures);
   room = c.requires.lacks.room;
   write = c.requires.lacks.write (ap effect_in (sym (slot-is c.args.parts.now c.args.w c.requires.lacks.on c.index.result.now c.index.ensures)) ∙ sym c.in-None.ensures);
 }

@@ -26,7 +26,8 @@ begin_task-requires-clause-begins c = task-begins c.args.parts.now c.args.w c.re
     (λ quiet lonely. elim (c.requires.path.due quiet lonely) [
       | inl page ↦ looks-right c.args.parts.now c.args.w c.requires.path.on c.read_leaf-task.result (Some c.args.path) (ap (only_looks c.requires.path.on.serving.call) c.read_leaf-task.ensures.kind ∙ page) quiet lonely
       | inr due ↦ inl due
-    ]))
+    ])
+    (λ lonely room. absurd (c.requires.path.again lonely room)))
     c.set_task.new.slot (c.set_task.ensures ∙ ap (λ (z : Option OpenCall). with_task z c.read_leaf-task.result (Some c.args.path)) (slot-is c.args.parts.now c.args.w c.requires.path.on c.index_mut.result.now c.index_mut.ensures.value))
     c.requires.path.on.between.call_open.told c.start_laws.ensures.lone c.requires.path.other refl c.read_leaf-task.ensures.silent (λ e. cc (c.read_leaf-task.ensures.kind, e))
   where

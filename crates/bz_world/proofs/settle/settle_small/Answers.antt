@@ -2,6 +2,8 @@ use Rattle.std.proofs.Common.{inr, sym, ap, ◌∙◌, is_some}
 use Rattle.std.proofs.lemmas.Bool.{true≢false}
 use Rattle.bz_world.specs.WorldView.{is_delete}
 use Rattle.bz_world.proofs.Spared.{after-merge}
+use Rattle.bz_world.proofs.Exact.{delete-puts-none}
+use Rattle.bz_world.proofs.Exactly.{again-call}
 use Rattle.bz_world.proofs.TakingOn.{read-way, none-wanted-after}
 use Rattle.bz_world.proofs.settle.settle_small.Goals as goal
 
@@ -33,5 +35,6 @@ merge-requires-clause-merge c = let due = c.is_due.ensures.due.0 c.if-is_due.tru
   write = λ quiet. absurd (cc (c.requires.read.had.effect, quiet));
   thawed_call = c.requires.read.had.on.fit.thawed;
   due = λ quiet. absurd (cc (c.requires.read.had.effect, quiet));
+  again = again-call c.args.parts.now c.args.w c.requires.read.had.on (delete-puts-none c.requires.read.had.on.serving.call c.requires.read.deletes);
   spares = after-merge c.round_laws.ensures c.args.parts.now c.args.w c.requires.read.had.on (ap is_some c.requires.read.had.effect) c.requires.read.spares;
 }
