@@ -53,7 +53,7 @@ use Rattle.bz_world.specs.Inside.Laws.{AloneLaws, AnswerLaws}
 use Rattle.bz_world.specs.Inside.Room.{LacksRoomFor}
 use Rattle.bz_world.specs.Inside.Paid.{stock_of}
 use Rattle.bz_world.specs.Inside.Serving.{IsChangeFor, IsToldBy, NeedsAtLeast, effect_reply, tells_of}
-use Rattle.bz_world.specs.Roomy.{puts_record, swaps_told}
+use Rattle.bz_world.specs.Roomy.{swaps_told}
 use Rattle.bz_world.specs.declared.parts.Parts.{Parts}
 use Rattle.bz_world.proofs.Answering.{after-load, content-is}
 use Rattle.bz_world.proofs.Due.{map-still}
@@ -219,7 +219,7 @@ module _ (settled : LoadsAreSettled) (alone : LonelyCallsAreAlone) (p : Parts) (
 fresh-goes : (task : AnyTask) → AreLaws task → asks_of task ≡ None → end_of task ≡ None
 fresh-goes task laws asks = none-ended (end_of task) (λ some. let both : None ≡ Some Finish = sym asks ∙ laws.only some in cc both)
 
--- what puts a record there, by as many swaps as the reply will tell
+-- what makes the change, by as many swaps as the reply will tell
 pub record IsPutBy (task : AnyTask) (told : Reply) : Type 0 where
   pub kind : puts (kind_of task) ≡ true
   pub tells : change_swaps task ≡ swaps_told told
@@ -229,7 +229,7 @@ pub record IsPutBy (task : AnyTask) (told : Reply) : Type 0 where
 pub must-change : AloneLaws → LonelyCallsAreAlone → (p : Parts) (w : ℕ) (view : KeyView) (m : MustAnswerKey p w view) (key : List ℕ) → key_of m.on.serving.call ≡ key → (task : AnyTask) (had : Option (List ℕ)) → payload_of view.found ≡ had → config_of task ≡ p.config → AreLaws task → IsChangeFor m.on.serving.call had (change_of task)
     → ((way : Option Path) → IsLookup key way task) → asks_of task ≡ None → wants_of task ≡ 0 → 0 < change_swaps task → ((s : Scene) → s.past.config ≡ p.config → s.effected ≡ false → IsScene s → IsKeyView key view s.past → facts_of task Waiting s)
     → IsChangeKind (kind_of task) → made_of task ≡ 0 → ((s : Scene) → means_of task NeedsRoom s → LacksRoomFor m.on.serving.call view.status)
-    → (puts_record m.on.serving.call ≡ true → IsPutBy task (effect_reply m.on.serving.call had)) → MustChange p w had task
+    → IsPutBy task (effect_reply m.on.serving.call had) → MustChange p w had task
 must-change b alone p w view m key key-is task had found config laws change lookup asks wants swaps facts kind made lacks put = record {
   reads = record { on = m.on; leads = m.leads; quiet = m.quiet; some = m.some; other = λ other get lonely. absurd (subst (λ called. IsChangeOf called had (change_of task).new) get change.is) };
   tasked = record { config = config; laws = laws; lookup = subst (λ k. IsLookup k m.on.serving.path task) (sym key-is) (lookup m.on.serving.path); change = inr change; wayless = λ none other. subst (λ k. IsLookup k other task) (sym key-is) (lookup other) };
@@ -246,18 +246,18 @@ must-change b alone p w view m key key-is task had found config laws change look
   due = λ lonely. change-due b.settled alone p w view m lonely had (change_of task).new found change.is;
   exact = λ lonely room. (
       let look = only-looked m.on.between.opened (known p w m.on).past (reach_idle p.access) (stock_of p) (tells_of m.on.serving) m.on.serving m.quiet (outcomes.Key view) m.ends.1 (λ e. e) (m.on.exact lonely room) in
-      let by = put (sym (ap puts_record m.on.between.call_open.call) ∙ room.puts) in
       let goes : end_of task ≡ None = fresh-goes task laws asks in
       inr (inl (record {
         quiet = m.quiet;
-        kind = by.kind;
+        first = look.first;
+        kind = put.kind;
         wants = wants;
-        tells_swaps = by.tells;
+        tells_swaps = put.tells;
         same_left = look.same_left;
         alone = λ on. subst (λ k. HasOthers 0 k (known p w m.on).past) (let none : 0 ≡ made_of task + 0 = omega (arith, made) in none) look.alone;
         before = λ few. refl;
         least = λ on. omega (arith, look.same_taken, made);
-        most = omega (arith, look.same_taken, by.few);
+        most = omega (arith, look.same_taken, put.few);
         short = λ full. absurd (cc (goes, full));
         ends = λ o is. absurd (cc (goes, is));
         roomy = λ z means. (
@@ -269,7 +269,7 @@ must-change b alone p w view m key key-is task had found config laws change look
       );
 }
 
--- an insert by its two swaps, and an update by as many
+-- an insert by its two swaps, an update by as many, and a delete by one
 pub insert-puts : (called : Call) (key payload : List ℕ) → MayInsert called key payload → effect_reply called None ≡ reply.Inserted
 insert-puts called key payload (inl e) = ap (λ (k : Call). effect_reply k None) e
 insert-puts called key payload (inr e) = ap (λ (k : Call). effect_reply k None) e
@@ -277,6 +277,9 @@ insert-puts called key payload (inr e) = ap (λ (k : Call). effect_reply k None)
 pub update-puts : (called : Call) (key payload had : List ℕ) → MayUpdate called key payload → effect_reply called (Some had) ≡ reply.Updated had
 update-puts called key payload had (inl e) = ap (λ (k : Call). effect_reply k (Some had)) e
 update-puts called key payload had (inr e) = ap (λ (k : Call). effect_reply k (Some had)) e
+
+pub delete-puts : (called : Call) (key had : List ℕ) → called ≡ call.Delete key → effect_reply called (Some had) ≡ reply.Deleted had
+delete-puts called key had e = ap (λ (k : Call). effect_reply k (Some had)) e
 
 -- the call has told nothing yet
 pub tells-nothing : (p : Parts) (w : ℕ) (on : MustGoOn p w) (had : Option (List ℕ)) → on.serving.effect ≡ None → IsToldBy p.config p.journal on.between.opened had

@@ -62,7 +62,7 @@ slot-pages c m log pages story owners stock v (Some x) h = record {
   meant = h.meant;
   paid = h.paid;
   due = h.due;
-  exact = λ lonely room. h.exact lonely (record { puts = room.puts; room = room.room });
+  exact = λ lonely room. h.exact lonely (record { writes = room.writes; room = room.room; enough = room.enough });
 }
 
 living-pages : (c : Config) (m : SwapMemory) (log : Log) (pages : Pages) (story : Story) → IsLiving c m log story → IsLiving c m (record log { pages = pages }) story
@@ -198,7 +198,7 @@ end-went b p w n reply at m number plain room = record {
       let same : reply ≡ answer = cc e in
       let both : Some m.on.between.opened ≡ Some opened = sym m.on.between.call_open.is_open ∙ is-open in
       let one : m.on.between.opened ≡ opened = cc both in
-      subst (TakesAsTold (begun_with p) (supply_of p)) same (m.told lonely (subst (HadRoom p.config p.journal) (sym one) room))
+      subst (TakesAsTold (begun_with p) (supply_of p)) same (m.told lonely (subst (HadRoom p.config p.journal.start p.journal.past) (sym one) room))
       );
 }
   where

@@ -7,7 +7,7 @@ use Rattle.bz_running.specs.Duties.{asks_of, end_of, made_of, swaps_of, needs_of
 use Rattle.bz_running.specs.Ends.{IsEndOf, EndsOrNeedsRoom}
 use Rattle.bz_running.specs.Hearing.{HasHeard}
 use Rattle.bz_running.specs.Kinds as kinds
-use Rattle.bz_running.specs.Kinds.{Kind, kind_of}
+use Rattle.bz_running.specs.Kinds.{Kind, is_look, kind_of}
 use Rattle.bz_running.specs.Laws.{AreLaws}
 use Rattle.bz_running.specs.declared.running.AnyTask.{AnyTask}
 use Rattle.bz_sound.specs.Calls.{Open}
@@ -56,6 +56,7 @@ few-effects what = omega arith
 puts-ends : (k : Kind) (o : Outcome) → puts k ≡ true → IsEndOf k o → EndsOrNeedsRoom o
 puts-ends kinds.Insert o e h = h
 puts-ends kinds.Update o e h = h
+puts-ends kinds.Delete o e h = h
 puts-ends k o e h = absurd (true≢false (sym e))
 
 full-end : (o : Outcome) → EndsOrNeedsRoom o → (o ≡ Done → ⊥) → (o ≡ Restart → ⊥) → (o ≡ NeedsRoom → ⊥) → IsFull o
@@ -80,7 +81,7 @@ module _ (opened : Open) (p : Past) (taken : ℕ) (stock : Stock) (tells : ℕ) 
   fewer : answered_in what + swaps_of next ≤ swaps_of x.task
   fewer = omega (arith, h.fewer, told-swaps (asks_of x.task) what hears)
 
-  module _ (ch : IsChanging p (reach taken (effects_in what) (answered_in what)) stock tells x) where
+  module _ (ch : IsChanging opened p (reach taken (effects_in what) (answered_in what)) stock tells x) where
     change-left : length left.free ≡ stock.begun.left
     change-left = left-same (omega (arith, laws.few, ch.wants)) ch.same_left
 
@@ -93,9 +94,10 @@ module _ (opened : Open) (p : Past) (taken : ℕ) (stock : Stock) (tells : ℕ) 
         (λ again. not-again alone (e ∙ ap Some again))
         (λ room. let m = means o e in ch.roomy m.0 (h.meant NeedsRoom m.0 (subst (λ z. means_of next z m.0) room m.1)))
 
-    still-changing : IsChanging p (reach taken 0 0) stock-then tells (record x { task = next })
+    still-changing : IsChanging opened p (reach taken 0 0) stock-then tells (record x { task = next })
     still-changing = record {
       quiet = ch.quiet;
+      first = ch.first;
       kind = ap puts h.kind ∙ ch.kind;
       wants = h.wants ∙ ch.wants;
       tells_swaps = h.swaps ∙ ch.tells_swaps;
@@ -120,7 +122,7 @@ module _ (opened : Open) (p : Past) (taken : ℕ) (stock : Stock) (tells : ℕ) 
     alone = look.alone;
   })
   exact-told (inr (inl ch)) = inr (inl (still-changing ch))
-  exact-told (inr (inr done)) = inr (inr (record {
+  exact-told (inr (inr (inl done))) = inr (inr (inl (record {
     effected = done.effected;
     kind = ap puts h.kind ∙ done.kind;
     tells_swaps = h.swaps ∙ done.tells_swaps;
@@ -128,4 +130,15 @@ module _ (opened : Open) (p : Past) (taken : ℕ) (stock : Stock) (tells : ℕ) 
     same_left = left-same (omega (arith, laws.few, done.wants)) done.same_left;
     least = omega (arith, done.least, h.swaps);
     most = omega (arith, done.most, fewer, h.swaps);
-  }))
+    stood = done.stood;
+  })))
+  exact-told (inr (inr (inr after))) = inr (inr (inr (record {
+    looks = ap is_look h.kind ∙ after.looks;
+    counted = record {
+      effected = after.counted.effected;
+      same_taken = after.counted.same_taken;
+      same_left = left-same (laws.looks after.looks).needs after.counted.same_left;
+      stood = after.counted.stood;
+    };
+    alone = after.alone;
+  })))

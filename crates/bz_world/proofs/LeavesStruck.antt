@@ -155,7 +155,7 @@ module _ (b : StrikeLaws) (p : Parts) (s : ℕ) (h : IsStriking p s) where
     abbrev moment-of : IsMomentOfCall log.past
     moment-of = record { worker = w b p s h; opened = (its b p s h).opened; is_open = (its b p s h).call_open.is_open; moment = seen.view.at; after_begin = omega (arith, seen.is.since, (its b p s h).call_open.look.after_begin); by_now = seen.is.now }
 
-  own-swap : IsOwnSwap (config_of (x b p s h).task) (asks_of (x b p s h).task) (facts_of (x b p s h).task) (entries_of (old b p s h).access s) (before b p s h) then
+  pub own-swap : IsOwnSwap (config_of (x b p s h).task) (asks_of (x b p s h).task) (facts_of (x b p s h).task) (entries_of (old b p s h).access s) (before b p s h) then
   own-swap = record { config = sym (its b p s h).tasked.config; good = (before-seen b p s h).scene; knows = waits b p s h; asks = (owner b p s h).asks; stand = (took-place b p s h).stand; leads = swaps-to b p s h }
 
   -- a slot is in the tree then, or now

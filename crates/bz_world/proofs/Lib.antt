@@ -5,6 +5,8 @@ mod Due
 mod Exact
 mod ExactTold
 mod Exactly
+mod Enough
+mod StruckEnough
 mod Ready
 mod Staying
 mod Marking

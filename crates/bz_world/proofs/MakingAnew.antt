@@ -116,7 +116,7 @@ freeze-taken lone p w view m thawed task f lookup wants facts made =
     (none-wanted p w m.answer.on task wants) (λ key get lonely. absurd (m.answer.other key get lonely)) (renewal-meant p w m.answer.on m.answer.quiet (lacks-write m.answer.on.serving.call view.status m.lacks) task f.within (λ merge. freeze-no-merge (sym f.kind ∙ merge)) (inr (inr made)))
     (renewal-paid lone.rounds p w m.answer.on m.answer.quiet (lacks-write m.answer.on.serving.call view.status m.lacks) task kinds.Freeze f freeze-no-merge (inr (inr made)) (freeze-spares lone p w view m thawed))
     (λ quiet lonely. inl (read-due p w view m.answer (lacks-write m.answer.on.serving.call view.status m.lacks) lonely))
-    (λ lonely room. absurd (again-kind p w m.answer.on kinds.ReadWhole m.answer.kind refl refl lonely room))
+    (λ lonely room. absurd (again-kind p w m.answer.on m.answer.quiet kinds.ReadWhole m.answer.kind refl refl lonely room))
 
 -- its copy or its split
 abbrev pub anew-taken : AloneLaws → (p : Parts) (w : ℕ) (path : Path) (view : LeafView) (m : MustMakeAnew p w path view) (task : AnyTask) (k : Kind) → IsFresh p.config task k → k ≢ kinds.Merge → ((way : Option Path) → IsLookup (key_of m.answer.on.serving.call) way task) → (slots : ℕ) → wants_of task ≡ slots → NeedsAtLeast p.config p.journal.start p.journal.past m.answer.on.between.opened slots
@@ -128,7 +128,7 @@ anew-taken lone p w path view m task k f other lookup slots wants needs facts ma
     (λ quiet some. subst (NeedsAtLeast p.config p.journal.start p.journal.past m.answer.on.between.opened) (sym wants) needs) (λ key get lonely. absurd (m.answer.other key get lonely)) (renewal-meant p w m.answer.on m.answer.quiet (lacks-write m.answer.on.serving.call view.status m.lacks) task f.within (λ merge. other (sym f.kind ∙ merge)) (inr (inr made)))
     (renewal-paid lone.rounds p w m.answer.on m.answer.quiet (lacks-write m.answer.on.serving.call view.status m.lacks) task k f other (inr (inr made)) spares)
     (λ quiet lonely. inl (read-due p w view m.answer (lacks-write m.answer.on.serving.call view.status m.lacks) lonely))
-    (λ lonely room. absurd (again-kind p w m.answer.on kinds.ReadWhole m.answer.kind refl refl lonely room))
+    (λ lonely room. absurd (again-kind p w m.answer.on m.answer.quiet kinds.ReadWhole m.answer.kind refl refl lonely room))
 
 -- its merge with a neighbour
 pub merge-meant : (p : Parts) (w : ℕ) (path : Path) (view : LeafView) (m : MustMerge p w path view) (task : AnyTask) → IsFresh p.config task kinds.Merge → ((key : List ℕ) (q : Past) → IsView key view q → (status view.status).frozen ≡ true → IsMergeFor task key q) → ((key : List ℕ) (q : Past) → IsView key view q → IsSmallMerge task key q) → IsMeant (record m.on.serving { task = task; path = None }) (known p w m.on).past

@@ -39,6 +39,8 @@ use Rattle.bz_story.proofs.Powered.{stored-since}
 use Rattle.bz_world.proofs.Alone.{waits-on}
 use Rattle.bz_world.proofs.Due.{flush-lonely}
 use Rattle.bz_world.proofs.Exact.{exact-published, had-room-on}
+use Rattle.bz_world.proofs.Lonely.{now-is}
+use Rattle.bz_world.proofs.StruckEnough.{struck-enough}
 use Rattle.bz_world.proofs.Counting.{pairs-change}
 use Rattle.bz_world.proofs.LeavesKept.{same-leaves}
 use Rattle.bz_world.proofs.LeavesStruck.{struck-leaves}
@@ -48,7 +50,9 @@ use Rattle.bz_lone.specs.Steps.{effected_by, mark_of_effect}
 use Rattle.bz_lone.specs.FromCosts.Lone.{one_mark}
 use Rattle.bz_running.specs.declared.running.AnyTask.{AnyTask}
 use Rattle.bz_world.specs.Inside.Alone.{untold}
-use Rattle.bz_world.specs.Inside.Exact.{reach_of, underway}
+use Rattle.bz_task.specs.Instant.{Instant}
+use Rattle.bz_world.specs.Inside.Exact.{HasStood, IsChanging, reach_of, underway}
+use Rattle.bz_world.specs.Roomy.{HadRoom, KeepsEnough}
 use Rattle.bz_world.specs.Inside.Paid.{errand_of, no_extra, stock_of, IsPaidIn}
 use Rattle.bz_world.specs.WorldView.{stepper}
 use Rattle.bz_world.proofs.Meant.{publishing-kind, publishing-no-merge}
@@ -56,7 +60,7 @@ use Rattle.bz_world.proofs.Paid.{flush-runs, next-is}
 use Rattle.bz_world.proofs.PaidSteps.{less-in, marks-in}
 use Rattle.bz_world.proofs.Staying.{Leaves, none-stays, serving-stays}
 use Rattle.bz_world.specs.Inside.Laws.{StrikeLaws}
-use Rattle.bz_world.proofs.Striking.{flush-calls, old, kept, w, x, its, owner, before, waits, good, after, living, opened, later, took, struck-alone, struck-meant, own-paid, other-paid, leaves, beside, goes-still, no-seeks}
+use Rattle.bz_world.proofs.Striking.{flush-calls, old, kept, w, x, its, owner, before, waits, good, after, living, opened, later, took, struck-alone, struck-meant, own-paid, other-paid, leaves, beside, goes-still, no-look}
 use Rattle.bz_world.proofs.LonelyActs.{none-struck}
 use Rattle.bz_world.proofs.StruckQuietly.{image-was, image-is, fault-is, stage-is, its-swap, its-asks, still-does}
 use Rattle.bz_world.proofs.Tabled.{tabled-marked}
@@ -239,6 +243,27 @@ module _ (b : StrikeLaws) (p : Parts) (s : ℕ) (h : IsStriking p s) (publishes 
       ap (λ k. map_at (map_at_start c log.start) k (effect_mark ∷ h.mark ∷ log.past)) when ∙ ap (map_after (map_at_start c log.start)) (at_moment-before effect_mark (h.mark ∷ log.past)) in
       ap (λ map. (apply map its-open.call).reply) before-it ∙ replied
 
+  -- what its leaf had room for when it began it had before these marks
+  room-at-begin : HadRoom c log.start (effect_mark ∷ h.mark ∷ log.past) effected → HadRoom c log.start log.past its-open
+  room-at-begin room =
+      let was = had-room-on c with_flush effect_mark effected (omega (arith, (its b p s h).call_open.look.after_begin, (its b p s h).call_open.look.by_now)) room in
+      had-room-on c log h.mark its-open (omega (arith, (its b p s h).call_open.look.after_begin, (its b p s h).call_open.look.by_now)) (record { writes = was.writes; room = was.room; enough = was.enough })
+
+  -- and the leaf of a delete stands alone directly after its effect
+  none-untold : untold (old b p s h).access (doing_of (old b p s h).access worker) ≡ 0
+  none-untold = ap (untold (old b p s h).access) h.takes.effect.pending ∙ ap (λ (z : Bool). if z then 1 else 0) h.takes.effect.before
+
+  stood : HadRoom c log.start log.past its-open → IsChanging its-open (before b p s h).past (reach_of (old b p s h).access worker) (stock_of (old b p s h)) (tells_of (x b p s h)) (x b p s h)
+      → HasStood effected (scene c (effect_mark ∷ with_flush.past) told_story worker since effected).past
+  stood room ch = record {
+    at = suc (length log.past);
+    effect = refl;
+    after_begin = omega (arith, (its b p s h).call_open.look.after_begin, (its b p s h).call_open.look.by_now);
+    by_now = omega arith;
+    still = refl;
+    enough = subst (λ (z : Instant). KeepsEnough c z.image its-open.call 0) (sym (now-is (after b p s h).at (suc (length log.past)) (next_instant p.access ((after b p s h).at (suc (length log.past)))))) (struck-enough b p s h publishes is-change none-untold room ch);
+  }
+
   serves-on : IsServing c p.access (with_mark with_flush effect_mark) told_story (old b p s h).owners.items (stock_of (old b p s h)) worker with_moment
   serves-on = record {
     opened = effected;
@@ -267,8 +292,8 @@ module _ (b : StrikeLaws) (p : Parts) (s : ℕ) (h : IsStriking p s) (publishes 
         (subst (λ z. IsPaidIn c p.access with_flush.past (stock_of (old b p s h)) worker (effected_by z (errand_of (x b p s h))) (x b p s h).task 1 (λ r. mark_of_effect r z) (later b p s h).past) publishes (own-paid b p s h steps)));
     due = λ quiet lonely. absurd (cc quiet);
     exact = λ lonely room. exact-published (its b p s h).opened effected (before b p s h).past (scene c (effect_mark ∷ with_flush.past) told_story worker since effected).past (reach_of (old b p s h).access worker) (reach_of p.access worker) (stock_of (old b p s h)) (tells_of (x b p s h)) (x b p s h) with_moment refl (λ none. absurd (cc none))
-        h.work.taken (ap underway h.takes.effect.pending) (ap underway (still-does b p s h)) ((its b p s h).tasked.laws.last publishes) (goes-still b p s h) (no-seeks b p s h) (sym (its b p s h).call_open.effect ∙ first)
-        ((its b p s h).exact (flush-lonely worker h.mark log.past h.flush lonely) (had-room-on c log h.mark (its b p s h).opened (omega (arith, (its b p s h).call_open.look.after_begin, (its b p s h).call_open.look.by_now)) (record { puts = room.puts; room = (had-room-on c with_flush effect_mark effected (omega (arith, (its b p s h).call_open.look.after_begin, (its b p s h).call_open.look.by_now)) room).room })));
+        h.work.taken (ap underway h.takes.effect.pending) (ap underway (still-does b p s h)) ((its b p s h).tasked.laws.last publishes) (goes-still b p s h) (no-look b p s h) (sym (its b p s h).call_open.effect ∙ first) (stood (room-at-begin room))
+        ((its b p s h).exact (flush-lonely worker h.mark log.past h.flush lonely) (room-at-begin room));
   }
 
   slots : (items : List (Option OpenCall)) → get_or items worker None ≡ Some with_moment → ((v : ℕ) → v ≢ worker → get_or items v None ≡ get_or (old b p s h).workers.items v None)

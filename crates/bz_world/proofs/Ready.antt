@@ -5,8 +5,10 @@ use Rattle.std.specs.Prelude.{option_map}
 use Rattle.bz_call.specs.Map.{key_of}
 use Rattle.bz_call.specs.declared.calls.Call.{Call}
 use Rattle.bz_lone.specs.Errands.{words_asked}
+use Rattle.bz_layout.specs.declared.config.Config.{Config}
 use Rattle.bz_lone.specs.FromAlone.Counts.{HasOthers}
 use Rattle.bz_lone.specs.FromRounds.Stands.{SameStage, StagesStand}
+use Rattle.bz_mark.specs.Log.{Log}
 use Rattle.bz_mark.specs.declared.marks.Mark.{Mark}
 use Rattle.bz_mark.specs.declared.marks.Mark.TheVariants.{Begin, End, Load, Store, Cas, Flush, Evict, Cut, On, Ready, Effect}
 use Rattle.bz_mark.proofs.MomentLaws.{at_moment-now, at_moment-before, at_moment-earlier}
@@ -14,10 +16,15 @@ use Rattle.bz_sound.specs.Calls.{Open, open_call, with_effect}
 use Rattle.bz_sound.specs.Memory.Moments.{image_after, image_at}
 use Rattle.bz_stage.specs.Stages.{stage_in}
 use Rattle.bz_story.specs.Laws.{ScenesAreSeen}
+use Rattle.bz_story.specs.Living.{IsLiving}
+use Rattle.bz_story.specs.Story.{Story, scene}
+use Rattle.bz_swap.specs.SwapMemory.{SwapMemory}
 use Rattle.bz_world.specs.Inside.Going.{MustGoOn, known}
+use Rattle.bz_world.specs.Inside.Serving.{IsOpened}
 use Rattle.bz_world.specs.Roomy.{HadRoom}
 use Rattle.bz_world.specs.declared.parts.Parts.{Parts}
-use Rattle.bz_world.proofs.TakingOn.{known-scene}
+use Rattle.bz_world.specs.declared.serving.OpenCall.{OpenCall}
+use Rattle.bz_world.proofs.Powered.{begun-in}
 
 -- the Begin of a call leaves the image
 begun-later : (start : List ℕ) (m : Mark) (past : List Mark) (begun : ℕ) → begun < length past → image_at start (suc begun) past ≡ image_at start begun past → image_at start (suc begun) (m ∷ past) ≡ image_at start begun (m ∷ past)
@@ -66,24 +73,32 @@ begun-image start w (Evict a ∷ past) opened e = one-later start (Evict a) past
 begun-image start w (On ∷ past) opened e = one-later start On past opened (begun-image start w past opened e)
 begun-image start w (Ready ∷ past) opened e = one-later start Ready past opened (begun-image start w past opened e)
 
+-- so while nobody's swap takes effect since its first look-up began, its leaf is as it was at its begin
+module _ (scenes : ScenesAreSeen) (stand : StagesStand) (c : Config) (m : SwapMemory) (log : Log) (story : Story) (w : ℕ) (x : OpenCall) (opened : Open) (living : IsLiving c m log story) (call_open : IsOpened c log w opened x)
+    (first : call_open.look.since ≡ suc opened.begun) (alone : HasOthers 0 0 (scene c log.past story w call_open.look.since opened).past) where
+  pub since-begin : SameStage c (story.at call_open.look.since) (story.at (length log.past)) (key_of opened.call)
+  since-begin = stand (scene c log.past story w call_open.look.since opened) call_open.look.since call_open.look.since (length log.past) (key_of opened.call)
+      (scenes c m log story w call_open.look.since opened living (begun-in living call_open)).scene (record { since = omega arith; now = call_open.look.by_now; effects = omega (arith, alone) })
+      (record { from = omega arith; to = call_open.look.by_now }) (record { from = call_open.look.by_now; to = omega arith })
+
+  begins : IsBegun log.start log.past opened
+  begins = begun-image log.start w log.past opened call_open.is_open
+
+  pub image-then : (story.at call_open.look.since).image ≡ image_at log.start opened.begun log.past
+  image-then = living.images call_open.look.since (omega (arith, living.begins w opened call_open.is_open, call_open.look.after_begin)) call_open.look.by_now
+      ∙ (ap (λ (n : ℕ). image_at log.start n log.past) first ∙ begins.same)
+
 -- so the stage of its key is none
-pub stage-none : ScenesAreSeen → StagesStand → (p : Parts) (w : ℕ) (on : MustGoOn p w) → HadRoom p.config p.journal on.between.opened → (known p w on).past.since ≡ suc on.between.opened.begun → HasOthers 0 0 (known p w on).past
+pub stage-none : ScenesAreSeen → StagesStand → (p : Parts) (w : ℕ) (on : MustGoOn p w) → HadRoom p.config p.journal.start p.journal.past on.between.opened → (known p w on).past.since ≡ suc on.between.opened.begun → HasOthers 0 0 (known p w on).past
     → stage_in p.config ((known p w on).past.at (known p w on).past.now).image (key_of on.serving.call) (words_asked on.serving.call) ≡ 0
 stage-none scenes stand p w on room first alone = subst (λ called. stage_in p.config ((known p w on).past.at (length p.journal.past)).image (key_of called) (words_asked called) ≡ 0) on.between.call_open.call (still.stage (words_asked on.between.opened.call) ∙ at-begin)
   where
     still : SameStage p.config (on.between.story.at on.between.call_open.look.since) (on.between.story.at (length p.journal.past)) (key_of on.between.opened.call)
-    still = stand (known p w on) on.between.call_open.look.since on.between.call_open.look.since (length p.journal.past) (key_of on.between.opened.call) (known-scene scenes p w on) (record { since = omega arith; now = on.between.call_open.look.by_now; effects = omega (arith, alone) })
-        (record { from = omega arith; to = on.between.call_open.look.by_now }) (record { from = on.between.call_open.look.by_now; to = omega arith })
-
-    begins : IsBegun p.journal.start p.journal.past on.between.opened
-    begins = begun-image p.journal.start w p.journal.past on.between.opened on.between.call_open.is_open
-
-    was : (on.between.story.at on.between.call_open.look.since).image ≡ image_at p.journal.start on.between.opened.begun p.journal.past
-    was = on.between.living.images on.between.call_open.look.since (omega (arith, on.between.living.begins w on.between.opened on.between.call_open.is_open, on.between.call_open.look.after_begin)) on.between.call_open.look.by_now
-        ∙ (ap (λ (m : ℕ). image_at p.journal.start m p.journal.past) first ∙ begins.same)
+    still = since-begin scenes stand p.config p.access p.journal on.between.story w on.serving on.between.opened on.between.living on.between.call_open first alone
 
     at-begin : stage_in p.config (on.between.story.at on.between.call_open.look.since).image (key_of on.between.opened.call) (words_asked on.between.opened.call) ≡ 0
-    at-begin = ap (λ (image : ℕ → ℕ). stage_in p.config image (key_of on.between.opened.call) (words_asked on.between.opened.call)) was ∙ none
+    at-begin = ap (λ (image : ℕ → ℕ). stage_in p.config image (key_of on.between.opened.call) (words_asked on.between.opened.call))
+        (image-then scenes stand p.config p.access p.journal on.between.story w on.serving on.between.opened on.between.living on.between.call_open first alone) ∙ none
       where
         none : stage_in p.config (image_at p.journal.start on.between.opened.begun p.journal.past) (key_of on.between.opened.call) (words_asked on.between.opened.call) ≡ 0
         none = rw room.room refl

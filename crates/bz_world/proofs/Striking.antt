@@ -8,7 +8,7 @@ use Rattle.bz_mark.specs.declared.marks.Mark.{Mark}
 use Rattle.bz_mark.specs.declared.marks.Mark.TheVariants as mark
 use Rattle.bz_mark.proofs.MomentLaws.{at_moment-now}
 use Rattle.bz_running.specs.Duties.{end_of, facts_of, publishing_of, change_of}
-use Rattle.bz_running.specs.Kinds.{kind_of}
+use Rattle.bz_running.specs.Kinds.{is_look, kind_of}
 use Rattle.bz_sight.specs.Effects.{TookPlace, effect_instant}
 use Rattle.bz_sight.specs.Starts.{Sees}
 use Rattle.bz_sound.specs.Calls.{Open, open_call}
@@ -23,7 +23,6 @@ use Rattle.bz_task.specs.Swaps.{IsGoodSwap, SwapsTo, Takes}
 use Rattle.bz_task.specs.declared.todo.Todo.TheVariants as todo
 use Rattle.bz_world.specs.Inside.Acted.{IsStriking, StepsAt}
 use Rattle.bz_world.specs.Inside.Alone.{WaitsAlone}
-use Rattle.bz_world.specs.Inside.Exact.{seeks}
 use Rattle.bz_world.specs.Inside.Kept.{IsAwake}
 use Rattle.bz_world.specs.Inside.Meant.{IsMeant}
 use Rattle.bz_world.specs.Inside.Serving.{IsServing, IsSlot, stage_in}
@@ -38,7 +37,7 @@ use Rattle.bz_world.specs.Inside.Paid.{errand_of, no_extra, stock_of, IsPaidIn}
 use Rattle.bz_world.specs.WorldView.{stepper}
 use Rattle.bz_world.proofs.Alone.{untold-by, waits-beside, waits-struck}
 use Rattle.bz_world.proofs.Due.{not-lonely}
-use Rattle.bz_world.proofs.Exact.{seeks-look, still-asks}
+use Rattle.bz_world.proofs.Exact.{still-asks}
 use Rattle.bz_world.proofs.Lonely.{now-is}
 use Rattle.bz_world.proofs.Meant.{call-meant-on, swaps-or-merges}
 use Rattle.bz_world.proofs.Paid.{none-of, flush-runs, paid-here, next-is, swapless, some-moment}
@@ -113,8 +112,8 @@ module _ (b : StrikeLaws) (p : Parts) (s : ℕ) (h : IsStriking p s) where
   pub goes-still : end_of x.task ≡ None
   goes-still = still-asks x.task its.tasked.laws (todo.Swap (entries_of old.access s)) owner.asks (λ e. cc e)
 
-  pub no-seeks : seeks (kind_of x.task) ≡ true → ⊥
-  no-seeks looks = swapless b.paid.asked x.task (entries_of old.access s) owner.asks (its.tasked.laws.looks (seeks-look (kind_of x.task) looks)).swaps
+  pub no-look : is_look (kind_of x.task) ≡ true → ⊥
+  no-look looks = swapless b.paid.asked x.task (entries_of old.access s) owner.asks (its.tasked.laws.looks looks).swaps
 
   pub good : IsGoodSwap (publishing_of x.task) (change_of x.task) (entries_of old.access s) before (effect_instant old.config p.access (kept.story.at (length old.journal.past)))
   good = its.tasked.laws.effect before (effect_instant old.config p.access (kept.story.at (length old.journal.past))) (entries_of old.access s) (sym its.tasked.config) waits before-seen.scene owner.asks took-place.stand

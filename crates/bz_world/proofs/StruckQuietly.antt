@@ -24,18 +24,16 @@ use Rattle.bz_world.specs.Inside.Laws.{StrikeLaws}
 use Rattle.bz_lone.specs.Steps.{effected_by, mark_of_effect}
 use Rattle.bz_world.specs.Inside.Alone.{untold}
 use Rattle.bz_world.specs.Inside.Exact.{puts, reach_of, underway}
-use Rattle.bz_world.specs.Roomy.{HadRoom}
-use Rattle.bz_world.specs.WorldView.{is_delete}
 use Rattle.bz_world.proofs.Alone.{others-on}
 use Rattle.bz_world.specs.Inside.Paid.{errand_of, no_extra, stock_of, IsPaidIn}
 use Rattle.bz_world.proofs.Due.{flush-lonely, flush-map, rightly-on}
-use Rattle.bz_world.proofs.Exact.{exact-struck, had-room-on, puts-change, room-no-delete}
+use Rattle.bz_world.proofs.Exact.{exact-struck, had-room-on, puts-change}
 use Rattle.bz_world.proofs.Paid.{flush-runs}
 use Rattle.bz_world.proofs.LeavesStruck.{struck-leaves}
 use Rattle.bz_world.proofs.LonelyActs.{none-struck}
 use Rattle.bz_world.proofs.Powered.{looks-on, flush-leaves, free-on}
 use Rattle.bz_world.proofs.Staying.{told-stays, wanted-stays, finishing-stays}
-use Rattle.bz_world.proofs.Striking.{flush-calls, old, kept, w, x, its, owner, before, good, after, living, opened, later, took, struck-alone, struck-meant, own-paid, others, was-image, is-image, no-seeks}
+use Rattle.bz_world.proofs.Striking.{flush-calls, old, kept, w, x, its, owner, before, good, after, living, opened, later, took, struck-alone, struck-meant, own-paid, others, was-image, is-image, no-look}
 
 module _ (b : StrikeLaws) (p : Parts) (s : ℕ) (h : IsStriking p s) where
   -- the image before and after it
@@ -103,14 +101,6 @@ module _ (b : StrikeLaws) (p : Parts) (s : ℕ) (h : IsStriking p s) where
     earlier : puts (kind_of (x b p s h).task) ≡ true → swaps_of (x b p s h).task ≤ 1 → ⊥
     earlier change few = true≢false (sym ((its b p s h).tasked.laws.publishes_last (entries_of (old b p s h).access s) (puts-change (x b p s h).task change) few its-asks) ∙ silent)
 
-    -- and a call that has made it asks for no other swap
-    not-yet : HadRoom (old b p s h).config (old b p s h).journal (its b p s h).opened → (x b p s h).effect ≢ None → ⊥
-    not-yet had effected = elim (its b p s h).finishing [
-      | inl (inl quiet) ↦ effected quiet
-      | inl (inr deletes) ↦ true≢false (sym deletes ∙ (ap is_delete (sym (its b p s h).call_open.call) ∙ room-no-delete (its b p s h).opened.call had.puts))
-      | inr f ↦ true≢false (sym f.publishing ∙ silent)
-    ]
-
     serves-on : IsServing (old b p s h).config p.access (with_mark (old b p s h).journal h.mark) (after b p s h) (old b p s h).owners.items (stock_of (old b p s h)) (w b p s h) (x b p s h)
     serves-on = record {
       opened = (its b p s h).opened;
@@ -140,7 +130,7 @@ module _ (b : StrikeLaws) (p : Parts) (s : ℕ) (h : IsStriking p s) where
       exact = λ lonely room. let had = had-room-on (old b p s h).config (old b p s h).journal h.mark (its b p s h).opened begun-before room in
           exact-struck (its b p s h).opened (before b p s h).past (scene (old b p s h).config (h.mark ∷ (old b p s h).journal.past) (after b p s h) (w b p s h) (its b p s h).call_open.look.since (its b p s h).opened).past
           (reach_of (old b p s h).access (w b p s h)) (reach_of p.access (w b p s h)) (stock_of (old b p s h)) (tells_of (x b p s h)) (x b p s h)
-          h.work.taken none-yet one-now way-same one-more (no-seeks b p s h) earlier (not-yet had)
+          h.work.taken none-yet one-now way-same (ap underway h.takes.effect.pending) refl one-more (no-look b p s h) earlier
           ((its b p s h).exact (flush-lonely (w b p s h) h.mark (old b p s h).journal.past h.flush lonely) had);
     }
 

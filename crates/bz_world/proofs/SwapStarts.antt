@@ -2,7 +2,7 @@
 use Rattle.std.proofs.Common.{◌≡◌, ◌≢◌, ℕ, ◌<◌, if◌then◌else◌, Bool, List, [], ◌∷◌, ◌++◌, length, slice_index, arith, refl, sym, ap, subst, ◌∙◌, inl, inr, Option, Some, None}
 use Rattle.std.specs.Prelude.{get_or, All}
 use Rattle.std.specs.Global.{Vec}
-use Rattle.std.proofs.lemmas.Bool.{cases_eq, true≢false}
+use Rattle.std.proofs.lemmas.Bool.{cases_eq}
 use Rattle.std.proofs.lemmas.List.{length-set}
 use Rattle.std.proofs.Math.ListN.{get_or-append}
 use Rattle.std.proofs.Math.Seq.{get_or-append_seam}
@@ -28,8 +28,6 @@ use Rattle.bz_word.specs.declared.entry.Entry.{Entry}
 use Rattle.bz_world.specs.Inside.Acted.{IsBetween}
 use Rattle.bz_world.specs.Inside.Alone.{untold, DoesWell, WaitsAlone}
 use Rattle.bz_world.specs.Inside.Exact.{reach_idle, reach_of, underway}
-use Rattle.bz_world.specs.Roomy.{HadRoom}
-use Rattle.bz_world.specs.WorldView.{is_delete}
 use Rattle.bz_world.specs.Inside.Kept.{IsAwake}
 use Rattle.bz_world.specs.Inside.Laws.{AloneLaws, BegunLaws}
 use Rattle.bz_world.specs.Inside.Serving.{IsServing, IsDoing, IsSlot, stage_in, tells_of}
@@ -41,7 +39,7 @@ use Rattle.bz_world.proofs.PaidSteps.{starts-in}
 use Rattle.bz_world.proofs.Alone.{waits-same}
 use Rattle.bz_world.proofs.AloneStarts.{stands-now, starts-well, well-beside}
 use Rattle.bz_world.proofs.Due.{looks-only, not-lonely}
-use Rattle.bz_world.proofs.Exact.{exact-swaps, room-no-delete, seeks-look, still-asks}
+use Rattle.bz_world.proofs.Exact.{exact-swaps, still-asks}
 use Rattle.bz_world.proofs.Lonely.{in-place, only-own}
 use Rattle.bz_world.proofs.Paid.{swapless}
 use Rattle.bz_world.proofs.Powered.{begun-in}
@@ -168,16 +166,8 @@ module _ (lone : AloneLaws) (starts : StartsAreSeen) (scenes : ScenesAreSeen) (b
     ];
     exact = λ lonely room. exact-swaps was.opened its-scene.past (reach_idle p.access) (reach_of new w) (stock_of p) (tells_of m.serving) m.serving (omega arith) refl none-yet refl (ap underway does)
         (still-asks m.serving.task m.asking.tasked.laws (todo.Swap entries) m.asking.asks (λ ends. absurd (cc ends)))
-        (λ looks. swapless lone.paid.asked m.serving.task entries m.asking.asks (m.asking.tasked.laws.looks (seeks-look (kind_of m.serving.task) looks)).swaps) (not-yet room) (m.asking.exact lonely room);
+        (swapless lone.paid.asked m.serving.task entries m.asking.asks) (λ looks. (m.asking.tasked.laws.looks looks).swaps) (m.asking.exact lonely room);
   }
-    where
-      -- a call that has made its change asks for no other swap
-      not-yet : HadRoom p.config p.journal was.opened → m.serving.effect ≢ None → ⊥
-      not-yet room effected = elim m.asking.finished [
-        | inl (inl quiet) ↦ effected quiet
-        | inl (inr deletes) ↦ true≢false (sym deletes ∙ (ap is_delete (sym was.call_open.call) ∙ room-no-delete was.opened.call room.puts))
-        | inr ends ↦ cc ends
-      ]
 
   -- the others do what they did
   other-begun : (v : ℕ) (slot : Option OpenCall) → IsSlot p.config p.access p.journal was.story p.owners.items (stock_of p) v slot → (s : ℕ) → doing_of p.access v ≡ Swapping s → s < p.access.taken

@@ -35,11 +35,12 @@ use Rattle.bz_task.specs.declared.view.KeyView.{KeyView}
 use Rattle.bz_task.specs.declared.todo.Seen.TheVariants.{Start, NoSwap}
 use Rattle.bz_task.specs.declared.todo.Todo.{Todo}
 use Rattle.bz_task.specs.declared.todo.Todo.TheVariants.{Read, Finish}
+use Rattle.bz_world.specs.Roomy.{HadRoom}
 use Rattle.bz_world.specs.Inside.Acted.{IsBetween, MustTell}
 use Rattle.bz_world.specs.Inside.Going.{MustGoOn, LooksUpAgain, MustLookUp, MustLookUpAs, MustTakeOn, MustRead, MustReadWhole, HasRoomForEnd, taken_for, HadEffect, HasReadAfter, LacksSwap, known, call_in, end_in, path_in, WentOn, MayGoOnIn}
 use Rattle.bz_world.specs.Inside.Beginning.{supply_of}
 use Rattle.bz_world.specs.Inside.Due.{TakesRightly, only_looks}
-use Rattle.bz_world.specs.Inside.Exact.{CountsExactly, reach_idle, seeks}
+use Rattle.bz_world.specs.Inside.Exact.{CountsExactly, HasStood, IsExact, reach_idle, seeks}
 use Rattle.bz_world.specs.Inside.Kept.{IsAwake}
 use Rattle.bz_world.specs.Inside.Laws.{AloneLaws}
 use Rattle.bz_world.specs.Inside.Lonely.{WhereLonely, IsNotLonely, IsNotLonelyIn, IsLonelyGet, HasLooked, AsksBriefly}
@@ -56,7 +57,7 @@ use Rattle.bz_lone.specs.Rounds.{stage_now}
 use Rattle.bz_lone.specs.Sum.{Affords, Round, Disturbed, Clean, reserve, prices_of, Spares}
 use Rattle.bz_mark.specs.Log.{Log}
 use Rattle.bz_running.specs.Kinds as kinds
-use Rattle.bz_running.specs.Kinds.{kind_of}
+use Rattle.bz_running.specs.Kinds.{kind_of, is_look}
 use Rattle.std.proofs.lemmas.Bool.{true≢false}
 use Rattle.bz_world.specs.Inside.Laws.{RoundLaws}
 use Rattle.bz_world.specs.Inside.Meant.{IsMeant}
@@ -73,7 +74,7 @@ use Rattle.bz_world.specs.declared.parts.Parts.{Parts}
 use Rattle.bz_world.specs.declared.serving.OpenCall.{OpenCall}
 use Rattle.bz_world.proofs.Alone.{hears-now}
 use Rattle.bz_world.proofs.Due.{freezes-no-look}
-use Rattle.bz_world.proofs.Exact.{exact-alone, exact-froze, full-told, seeks-look, seeks-only}
+use Rattle.bz_world.proofs.Exact.{exact-alone, exact-anew, exact-froze, full-told, seeks-look, seeks-only}
 use Rattle.bz_world.proofs.Powered.{begun-in}
 use Rattle.bz_world.proofs.Staying.{none-unfilled}
 use Rattle.bz_world.proofs.Supplies.{not-longer}
@@ -212,16 +213,29 @@ called-is p w on call is = let same : Some on.serving.call ≡ Some call = sym (
 pub known-scene : ScenesAreSeen → (p : Parts) (w : ℕ) (on : MustGoOn p w) → IsScene (known p w on)
 known-scene scenes p w on = (scenes p.config p.access p.journal on.between.story w on.between.call_open.look.since on.between.opened on.between.living (begun-in on.between.living on.between.call_open)).scene
 
--- its look-up begins anew, now
+-- its look-up begins anew, now: nobody's swap took effect since
+abbrev pub anew-past : (p : Parts) (w : ℕ) → MustGoOn p w → Past
+anew-past p w on = (scene p.config p.journal.past on.between.story w (length p.journal.past) on.between.opened).past
+
+pub stood-anew : (p : Parts) (w : ℕ) (on : MustGoOn p w) → HasStood on.between.opened (known p w on).past → HasStood on.between.opened (anew-past p w on)
+stood-anew p w on stood = record { at = stood.at; effect = stood.effect; after_begin = stood.after_begin; by_now = stood.by_now; still = stood.still; enough = stood.enough }
+
 abbrev pub looks-anew : (p : Parts) (w : ℕ) (on : MustGoOn p w) → LooksUpAgain p w on → MustGoOn p w
 looks-anew p w on again = record on {
-  exact = λ lonely room. absurd (again lonely room);
+  exact = λ lonely room. exact-anew on.between.opened (known p w on).past (anew-past p w on) (reach_idle p.access) (stock_of p) (tells_of on.serving) on.serving (again lonely room).effected (stood-anew p w on) (omega arith) (on.exact lonely room);
   between = record on.between {
     call_open = record on.between.call_open {
       look = let l = on.between.call_open.look in record { since = length p.journal.past; after_begin = omega (arith, l.after_begin, l.by_now); by_now = omega arith };
     };
   };
 }
+
+-- so does that of a delete which looks once more at its leaf
+pub look-after : (p : Parts) (w : ℕ) (on : MustGoOn p w) (again : LooksUpAgain p w on) → IsLonely w p.journal.past → HadRoom p.config p.journal.start p.journal.past on.between.opened → (task : AnyTask) → is_look (kind_of task) ≡ true
+    → IsExact on.between.opened (known p w (looks-anew p w on again)).past (reach_idle p.access) (stock_of p) (tells_of on.serving) (record on.serving { task = task; path = None })
+look-after p w on again lonely room task looks =
+    let was = again lonely room in
+    inr (inr (inr (record { looks = looks; counted = record { effected = was.effected; same_taken = was.same_taken; same_left = was.same_left; stood = stood-anew p w on was.stood }; alone = omega arith })))
 
 -- a task that takes no slot needs no reason
 pub none-wanted : (p : Parts) (w : ℕ) (on : MustGoOn p w) (task : AnyTask) → wants_of task ≡ 0 → IsWanted p.config p.journal on.between.opened (wants_of task)
@@ -297,7 +311,7 @@ said-may p w m alone merges slot is = record {
   may = m.may;
   other = m.other;
   pays = subst (λ (a : Bool). HasARoundAs p w (record (errand_of m.on.serving) { alone = a }) (known p w m.on).past) (sym merges) m.pays;
-  again = m.again;
+  again = λ lonely room. assumption (m.again lonely room);
 }
 
 -- nor is whether its own freeze of its leaf was the last to end
@@ -331,7 +345,7 @@ froze-may p w m froze freezes slot is = record {
   may = m.may;
   other = m.other;
   pays = subst (λ (f : Bool). HasARoundAs p w (record (errand_of m.on.serving) { froze = f }) (known p w m.on).past) (sym freezes) m.pays;
-  again = m.again;
+  again = λ lonely room. assumption (m.again lonely room);
 }
 
 thawed-spares : (r : Resource) (m : SwapMemory) (w : ℕ) (e : Errand) (used by : ℕ) (p : Past) → Spares r m w e used by p (λ q. most_of_leaf r + coming r q e kinds.ReadWhole) → Spares r m w (record e { froze = false }) used by p (λ q. most_of_leaf r + coming r q (record e { froze = false }) kinds.ReadWhole)
@@ -350,7 +364,7 @@ thawed-read p w path m slot is = record {
   other = m.other;
   look = m.look;
   due = m.due;
-  again = m.again;
+  again = λ lonely room. assumption (m.again lonely room);
   spares = λ r counted. thawed-spares r p.access w (errand_of m.on.serving) (used_in r p w) (bound_in r p w) (known p w m.on).past (m.spares r counted);
 }
 

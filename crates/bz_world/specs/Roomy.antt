@@ -1,34 +1,41 @@
--- A leaf that had room for the record of a call when that began; and how many swaps a reply tells.
-use Rattle.std.specs.Prelude.{◌≡◌, ℕ, Bool, true, false}
+-- A leaf that had room for what a call puts there when that began, or keeps enough without what it takes away; and how many swaps a reply tells.
+use Rattle.std.specs.Prelude.{◌≡◌, ◌⊎◌, ◌≤◌, ◌+◌, ℕ, true, false, List}
 use Rattle.bz_call.specs.Map.{key_of}
 use Rattle.bz_call.specs.declared.calls.Call.{Call}
-use Rattle.bz_call.specs.declared.calls.Call.TheVariants.{Insert, Update, Upsert}
+use Rattle.bz_call.specs.declared.calls.Call.TheVariants.{Delete}
 use Rattle.bz_call.specs.declared.replies.Reply.{Reply}
-use Rattle.bz_call.specs.declared.replies.Reply.TheVariants.{Inserted, Updated}
-use Rattle.bz_content.specs.Content.{image_of}
+use Rattle.bz_call.specs.declared.replies.Reply.TheVariants.{Deleted, Inserted, Updated}
+use Rattle.bz_content.specs.Content.{image_of, view_in}
 use Rattle.bz_layout.specs.declared.config.Config.{Config}
-use Rattle.bz_layout.specs.declared.swaps.TheConstants.{INSERT_SWAPS, UPDATE_SWAPS}
-use Rattle.bz_lone.specs.Errands.{words_asked}
-use Rattle.bz_mark.specs.Log.{Log}
+use Rattle.bz_layout.specs.declared.swaps.TheConstants.{DELETE_SWAPS, INSERT_SWAPS, UPDATE_SWAPS}
+use Rattle.bz_layout.specs.declared.thresholds.TheConstants.{LEAF_RECORD_WORDS, MERGE_BELOW}
+use Rattle.bz_lone.specs.Errands.{is_read, words_asked}
+use Rattle.bz_lone.specs.FromJoined.Neighbours.{own_live}
+use Rattle.bz_mark.specs.declared.marks.Mark.{Mark}
 use Rattle.bz_sound.specs.Calls.{Open}
 use Rattle.bz_sound.specs.Memory.Moments.{image_at}
 use Rattle.bz_stage.specs.Rooms.{has_room}
 use Rattle.bz_stage.specs.Stages.{leaf_page}
 
--- the call puts a record into its leaf, where it changes the map
-abbrev pub puts_record : Call → Bool
-puts_record (Insert key payload) = true
-puts_record (Update key payload) = true
-puts_record (Upsert key payload) = true
-puts_record other = false
+-- the leaf of the key has enough live words to stand alone, and so many more; or it is the root, which has no neighbour
+abbrev pub StandsAlone : Config → (ℕ → ℕ) → List ℕ → ℕ → Type 0
+StandsAlone c image key more = (MERGE_BELOW + more ≤ own_live c image key) ⊎ ((view_in c image).height ≡ 1)
 
--- in the durable image at its begin the leaf of its key was not frozen, and had free the words of the record and its metadata word
-pub record HadRoom (c : Config) (log : Log) (opened : Open) : Type 0 where
-  pub puts : puts_record opened.call ≡ true
-  pub room : has_room (leaf_page c (image_of (image_at log.start opened.begun log.past)) (key_of opened.call)) (words_asked opened.call) ≡ true
+-- so the leaf of a delete's key
+abbrev pub KeepsEnough : Config → (ℕ → ℕ) → Call → ℕ → Type 0
+KeepsEnough c image (Delete key) more = StandsAlone c image key more
+KeepsEnough c image other more = Unit {0}
+
+-- in the durable image at the begin of a call that may change the map the leaf of its key was not frozen, and had free the words of the record and its
+-- metadata word; and that of a delete stands alone without the words that a record may have
+pub record HadRoom (c : Config) (start : List ℕ) (past : List Mark) (opened : Open) : Type 0 where
+  pub writes : is_read opened.call ≡ false
+  pub room : has_room (leaf_page c (image_of (image_at start opened.begun past)) (key_of opened.call)) (words_asked opened.call) ≡ true
+  pub enough : KeepsEnough c (image_at start opened.begun past) opened.call LEAF_RECORD_WORDS
 
 -- how many swaps a reply tells
 abbrev pub swaps_told : Reply → ℕ
 swaps_told Inserted = INSERT_SWAPS
 swaps_told (Updated had) = UPDATE_SWAPS
+swaps_told (Deleted had) = DELETE_SWAPS
 swaps_told other = 0

@@ -10,7 +10,7 @@ use Rattle.bz_call.specs.Pages.{is_page}
 use Rattle.bz_call.specs.declared.calls.Call.{Call}
 use Rattle.bz_call.specs.declared.calls.Call.TheVariants as call
 use Rattle.bz_call.specs.declared.replies.Reply.{Reply}
-use Rattle.bz_call.specs.declared.replies.Reply.TheVariants.{Exists, Inserted, Missing, Updated, Value, Page, Full}
+use Rattle.bz_call.specs.declared.replies.Reply.TheVariants.{Deleted, Exists, Inserted, Missing, Updated, Value, Page, Full}
 use Rattle.bz_call.specs.declared.replies.Spent.{Spent}
 use Rattle.bz_call.specs.declared.replies.Spent.TheVariants.{Nodes, Swaps, Height}
 use Rattle.bz_content.specs.Content.{image_fault}
@@ -364,6 +364,7 @@ EndsUnspent old w new begun supply = (n at : ℕ) (reply : Reply) → new.past �
 abbrev pub TakesAsTold : Supply → Supply → Reply → Type 0
 TakesAsTold begun supply Inserted = supply ≡ record begun { taken = begun.taken + swaps_told Inserted }
 TakesAsTold begun supply (Updated had) = supply ≡ record begun { taken = begun.taken + swaps_told (Updated had) }
+TakesAsTold begun supply (Deleted had) = supply ≡ record begun { taken = begun.taken + swaps_told (Deleted had) }
 TakesAsTold begun supply (Full Swaps) = (supply.taken ≤ begun.taken + 1) × (supply.left ≡ begun.left)
 TakesAsTold begun supply (Full Nodes) = ⊥
 TakesAsTold begun supply (Full Height) = ⊥
@@ -371,7 +372,7 @@ TakesAsTold begun supply other = Unit {0}
 
 -- so is a call answered beside which no other was open, and whose leaf had room when it began
 abbrev pub EndsAsTold : Config → Log → ℕ → Log → Supply → Supply → Type 0
-EndsAsTold c old w new begun supply = (n at : ℕ) (reply : Reply) (opened : Open) → new.past ≡ End w n reply at ∷ old.past → open_call w old.past ≡ Some opened → IsLonely w old.past → HadRoom c old opened → TakesAsTold begun supply reply
+EndsAsTold c old w new begun supply = (n at : ℕ) (reply : Reply) (opened : Open) → new.past ≡ End w n reply at ∷ old.past → open_call w old.past ≡ Some opened → IsLonely w old.past → HadRoom c old.start old.past opened → TakesAsTold begun supply reply
 
 -- a step of a worker: exactly one act of it, a flush exactly where that was said before; at most one effect; at most its
 -- call's End, which is a Full only where what that names has run out, and that of a lonely get only after few acts. A task takes at
@@ -400,7 +401,7 @@ pub record Steps (old : WorldView) (w : ℕ) (answer : Applied) (new : WorldView
   pub little : RunsWhole new.config w struck → EndsFullOfLittle new.config (record old.log { past = struck }) w new.log new.at_begin
   -- and where no other call was open beside it, whatever was evicted, it takes none for a reply that tells of no change
   pub unspent : EndsUnspent (record old.log { past = struck }) w new.log new.at_begin new.supply
-  -- and of one that puts a record into a leaf with room for it as many descriptors as its reply tells
+  -- and of one that changes a record in a leaf with room for that as many descriptors as its reply tells
   pub exact : EndsAsTold new.config (record old.log { past = struck }) w new.log new.at_begin new.supply
 
 -- the recovery goes on, or has ended with this act: its Ready follows directly

@@ -1,5 +1,7 @@
 //! The laws on which the world's acts stand, from the crates below. Each function does nothing.
-ghost use Rattle.bz_world.specs.Inside.Laws.{AloneLaws, BegunLaws, LonelyLaws, PaidLaws, RoundLaws, StepLaws, StrikeLaws, StartLaws, EndLaws, AnswerLaws};
+ghost use Rattle.std.specs.Prelude.{◌≤◌};
+ghost use Rattle.bz_layout.specs.declared.thresholds.TheConstants.{MAX_LEVELS};
+ghost use Rattle.bz_world.specs.Inside.Laws.{HasEnd, AloneLaws, BegunLaws, LonelyLaws, PaidLaws, RoundLaws, StepLaws, StrikeLaws, StartLaws, EndLaws, AnswerLaws};
 
 use bz_lone::laws as lone;
 use bz_rivals::laws as rivals;
@@ -8,6 +10,7 @@ use bz_sound::{memory_laws as calls, power_laws as sound};
 use bz_stage::laws as stage;
 use bz_story::laws as story;
 use bz_swap::laws as swap;
+use bz_task::Path;
 
 /// Those of the descriptors that are taken.
 pub(crate) fn begun_laws()
@@ -78,6 +81,8 @@ pub(crate) fn round_laws()
     lone::lone_ascents_are_below_the_stage();
     stage::lacking_leaves_say();
     lone::stages_stand();
+    lone::lone_views_tell_the_live_words();
+    bz_alone::laws::paths_read_few();
 }
 
 /// Those of a worker that is alone.
@@ -128,6 +133,8 @@ pub(crate) fn strike_laws()
     lonely_laws();
     paid_laws();
     lone::leaves_come_and_go();
+    bz_tally::laws::deletes_take_one_record();
+    lone::stages_stand();
     bz_task::laws::fronts_stay();
     bz_page::laws::views_say_what_images_say();
     sight::effects_take_place();
@@ -185,4 +192,13 @@ pub(crate) fn answer_laws()
     sound::spent_answers_full();
     bz_record::laws::views_show_leaves();
     bz_page::laws::views_say_what_images_say();
+}
+
+/// A path ends with a link.
+pub(crate) fn paths_end(path: &Path)
+    requires some { 1 ≤ path.now.depth }
+    requires few { path.now.depth ≤ MAX_LEVELS }
+    ensures { HasEnd path.now }
+{
+    let _last = bz_renew::last_link(path);
 }

@@ -21,6 +21,7 @@ use Rattle.bz_lone.specs.Rounds.{stage_now}
 use Rattle.bz_lone.specs.Sum.{IsThawed}
 use Rattle.bz_layout.specs.declared.thresholds.TheConstants.{MERGE_SLOTS, SPLIT_ABOVE, SPLIT_SLOTS, MERGE_BELOW}
 use Rattle.bz_lone.specs.FromAlone.Alone.{IsAlone}
+use Rattle.bz_lone.specs.FromAlone.Counts.{HasOthers}
 use Rattle.bz_lone.specs.FromAlone.Reads.{get_reads}
 use Rattle.bz_running.specs.Duties.{config_of, asks_of, end_of, made_of, ascent_of, change_swaps, needs_of, wants_of, facts_of, means_of, makes_no_change}
 use Rattle.bz_ascent.specs.Ascents.{IsOneUp}
@@ -50,7 +51,7 @@ use Rattle.bz_world.specs.Inside.Acted.{IsBetween}
 use Rattle.bz_world.specs.Inside.Alone.{EndsAlone}
 use Rattle.bz_world.specs.Inside.Beginning.{supply_of}
 use Rattle.bz_world.specs.Inside.Due.{IsDue, IsDueAlone, TakesRightly}
-use Rattle.bz_world.specs.Inside.Exact.{CountsExactly, reach_idle}
+use Rattle.bz_world.specs.Inside.Exact.{CountsExactly, HasCounted, reach_idle}
 use Rattle.bz_world.specs.Inside.Kept.{IsAwake}
 use Rattle.bz_world.specs.Inside.Meant.{IsMeant}
 use Rattle.bz_world.specs.Inside.Paid.{begun_with, bound_in, errand_of, is_merge, no_extra, stock_of, used_in, IsCounted, IsFit, IsPaidFor, HasToSpare, HasARound, HasARoundAs}
@@ -87,9 +88,20 @@ MayGoOnIn (Some x) = MayGoOn x
 abbrev pub known : (p : Parts) (w : ℕ) → MustGoOn p w → Scene
 known p w m = scene p.config p.journal.past m.between.story w m.between.call_open.look.since m.between.opened
 
--- no call looks its key up again whose leaf had room, where no other call is open
+-- of a call whose leaf had room, where no other call is open: it does not come to this
+abbrev pub HadNoRoom : (p : Parts) (w : ℕ) → MustGoOn p w → Type 0
+HadNoRoom p w m = IsLonely w p.journal.past → HadRoom p.config p.journal.start p.journal.past m.between.opened → ⊥
+
+-- none looks its key up again, but for a delete that has made its change
+abbrev pub HasCountedAll : (p : Parts) (w : ℕ) → MustGoOn p w → Type 0
+HasCountedAll p w m = HasCounted m.between.opened (known p w m).past (reach_idle p.access) (stock_of p) (tells_of m.serving) m.serving
+
 abbrev pub LooksUpAgain : (p : Parts) (w : ℕ) → MustGoOn p w → Type 0
-LooksUpAgain p w m = IsLonely w p.journal.past → HadRoom p.config p.journal m.between.opened → ⊥
+LooksUpAgain p w m = IsLonely w p.journal.past → HadRoom p.config p.journal.start p.journal.past m.between.opened → HasCountedAll p w m
+
+-- nor reads one its leaf whole, but for such a delete, since whose look-up nobody's swap took effect
+abbrev pub ReadsAgain : (p : Parts) (w : ℕ) → MustGoOn p w → Type 0
+ReadsAgain p w m = IsLonely w p.journal.past → HadRoom p.config p.journal.start p.journal.past m.between.opened → HasCountedAll p w m × HasOthers 0 0 (known p w m).past
 
 -- and it may look its key up, or have its leaf changed: it is no lonely get, which is never looked up again
 pub record MustLookUp (p : Parts) (w : ℕ) : Type 0 where
@@ -263,7 +275,7 @@ pub record MustRead (p : Parts) (w : ℕ) (path : Path) : Type 0 where
   pub look : on.serving.effect ≡ None → IsLookOf on.serving.call kinds.ReadWhole
   -- for a page, or to make it anew
   pub due : on.serving.effect ≡ None → IsLonely w p.journal.past → (is_page on.serving.call ≡ true) ⊎ IsDue p.config p.journal on.serving.call
-  pub again : LooksUpAgain p w on
+  pub again : ReadsAgain p w on
 
 -- its task knows what it should, and has ended so
 abbrev pub EndsSo : (p : Parts) (w : ℕ) → MustGoOn p w → Outcome → Type 0
@@ -339,7 +351,7 @@ pub record MustReadCrowded (p : Parts) (w : ℕ) : Type 0 where
   pub write : is_read reads.on.serving.call ≡ false
   pub spares : HasToSpare p w reads.on.serving (known p w reads.on).past (λ r q. most_of_leaf r + coming r q (errand_of reads.on.serving) kinds.ReadWhole)
   pub due : IsDueAlone p.config p.journal w reads.on.serving.call
-  pub again : LooksUpAgain p w reads.on
+  pub again : HadNoRoom p w reads.on
 
 -- a task that makes its change, which is yet to begin
 pub record MustChange (p : Parts) (w : ℕ) (had : Option (List ℕ)) (task : AnyTask) : Type 0 where
@@ -413,7 +425,7 @@ pub record MustMerge (p : Parts) (w : ℕ) (path : Path) (view : LeafView) : Typ
   pub write : on.serving.effect ≡ None → is_read on.serving.call ≡ false
   pub thawed_call : IsThawed (errand_of on.serving)
   pub due : on.serving.effect ≡ None → IsDueAlone p.config p.journal w on.serving.call
-  pub again : LooksUpAgain p w on
+  pub again : HadNoRoom p w on
   pub spares : HasToSpare p w on.serving (known p w on).past (λ r q. most_of_merge r + coming r q (errand_of on.serving) kinds.Merge)
 
 -- its split has ended because the node above lacked the room, and this is the split of that one, which is yet to begin
@@ -470,6 +482,7 @@ pub record HasEndedAfter (p : Parts) (w at : ℕ) (outcome : Outcome) : Type 0 w
 -- or the leaf of a delete was read since, by the path that was found
 pub record HasReadAfter (p : Parts) (w at : ℕ) (view : LeafView) : Type 0 where
   pub had : HadEffect p w at
+  pub kind : kind_of had.on.serving.task ≡ kinds.ReadWhole
   pub deletes : is_delete had.on.serving.call ≡ true
   pub viewed : IsView (key_of had.on.serving.call) view (known p w had.on).past
   pub leads : (path : Path) → had.on.serving.path ≡ Some path → IsPath (key_of had.on.serving.call) path (known p w had.on).past
@@ -482,7 +495,7 @@ pub record LacksSwap (p : Parts) (w : ℕ) : Type 0 where
   pub little : RunsWhole p.config w p.journal.past → HadFew p.config (begun_with p) Swaps
   pub room : HasRoomForEnd p w
   pub write : on.serving.effect ≡ None → is_read on.serving.call ≡ false
-  pub told : on.serving.effect ≡ None → IsLonely w p.journal.past → HadRoom p.config p.journal on.between.opened → TakesAsTold (begun_with p) (supply_of p) (Full Swaps)
+  pub told : on.serving.effect ≡ None → IsLonely w p.journal.past → HadRoom p.config p.journal.start p.journal.past on.between.opened → TakesAsTold (begun_with p) (supply_of p) (Full Swaps)
 
 -- fewer slots are left than its task takes, and the call had no effect
 pub record IsOutOfSlots (p : Parts) (w : ℕ) : Type 0 where
@@ -499,14 +512,14 @@ pub record IsShort (p : Parts) (w : ℕ) (spent : Spent) : Type 0 where
   pub room : HasRoomForEnd p w
   pub cause : IsSpent p.config p.journal.start p.journal.past w on.between.opened spent
   pub out : RunsOut p w spent
-  pub told : IsLonely w p.journal.past → HadRoom p.config p.journal on.between.opened → TakesAsTold (begun_with p) (supply_of p) (Full spent)
+  pub told : IsLonely w p.journal.past → HadRoom p.config p.journal.start p.journal.past on.between.opened → TakesAsTold (begun_with p) (supply_of p) (Full spent)
 
 -- this is a right reply to it, at this moment; a Full only where what it names has run out; and where it is a lonely get, after few acts
 pub record MustEnd (p : Parts) (w : ℕ) (reply : Reply) (at : ℕ) : Type 0 where
   pub on : MustGoOn p w
   pub right : IsRightReply p.config p.journal.start p.journal.pages p.journal.past (record { worker = w; opened = on.between.opened; reply = reply; at = at })
   pub full : (spent : Spent) → reply ≡ Full spent → RunsOut p w spent
-  pub told : IsLonely w p.journal.past → HadRoom p.config p.journal on.between.opened → TakesAsTold (begun_with p) (supply_of p) reply
+  pub told : IsLonely w p.journal.past → HadRoom p.config p.journal.start p.journal.past on.between.opened → TakesAsTold (begun_with p) (supply_of p) reply
   pub room : HasRoomForEnd p w
   pub brief : WhereLonely p.journal.past w on.serving.call (λ key. acts_since w p.journal.past ≤ 2 * get_reads p.config (image_at p.journal.start at p.journal.past) key)
 

@@ -1,7 +1,9 @@
 -- The laws of the crates below on which the world's acts stand.
+use Rattle.std.specs.Prelude.{◌≡◌, ◌-◌, Some, slice_get}
 use Rattle.bz_lone.specs.FromAlone.Brief.{LookUpsAreBrief, WaysAreBrief, BriefLookUpsGoOn, GetsAreBrief}
 use Rattle.bz_lone.specs.FromAlone.Counts.{OwnSwapsAreCounted}
 use Rattle.bz_lone.specs.FromAlone.Quiet.{EffectsNeverFall}
+use Rattle.bz_lone.specs.FromAlone.Reads.{PathsReadFew}
 use Rattle.bz_lone.specs.FromAlone.Restarts.{LoneRestartsAreRefusals}
 use Rattle.bz_lone.specs.FromAlone.Tasks.{LonersGoOn}
 use Rattle.bz_lone.specs.FromCosts.Costs.{LoneCallsAreAffordable}
@@ -15,6 +17,7 @@ use Rattle.bz_record.specs.Laws.{ViewsShowLeaves}
 use Rattle.bz_rivals.specs.Laws.{RivalsFall}
 use Rattle.bz_rivals.specs.Notes.{NotesAreOfBegun, ZeroSwapsNothing}
 use Rattle.bz_rivals.specs.Wins.{OwnSwapsWin, ExpectedStand}
+use Rattle.bz_lone.specs.FromJoined.DueMerges.{LoneViewsTellTheLiveWords}
 use Rattle.bz_lone.specs.FromRounds.Due.{LoneLeavesAreDue, LoneAscentsAreDue}
 use Rattle.bz_lone.specs.FromRounds.Levels.{LoneAscentsAreBelowTheStage}
 use Rattle.bz_lone.specs.FromRounds.Stands.{LoneViewsTellTheLeaf, StagesStand}
@@ -34,7 +37,14 @@ use Rattle.bz_stage.specs.Laws.{LackingLeavesSay}
 use Rattle.bz_story.specs.Laws.{EffectsAreTold, FlushesAreTold, LivesGoOn, QuietMarksAreLawful, ScenesAreSeen, StoresAreTold}
 use Rattle.bz_swap.specs.LoneRuns.{LoneStepsAreAllowed}
 use Rattle.bz_swap.specs.TakenStatuses.{BegunStayTaken, TakenStatusesStay}
+use Rattle.bz_task.specs.declared.path.Link.{Link}
+use Rattle.bz_task.specs.declared.path.Path.{Path}
+use Rattle.bz_tally.specs.Deletes.{DeletesTakeOneRecord}
 use Rattle.bz_task.specs.Laws.{FrontsStay, RangesStay}
+
+-- a path has a last link
+abbrev pub HasEnd : Path → Type 0
+HasEnd path = (link : Link) × (slice_get path.links (path.depth - 1) ≡ Some link)
 
 -- by which the journal stays sound
 pub record JournalLaws : Type 0 where
@@ -100,6 +110,8 @@ pub record RoundLaws : Type 0 where
   pub below : LoneAscentsAreBelowTheStage
   pub lacking : LackingLeavesSay
   pub stand : StagesStand
+  pub live : LoneViewsTellTheLiveWords
+  pub low : PathsReadFew
 
 -- by which a worker that is alone does not begin again
 pub record AloneLaws : Type 0 where
@@ -150,6 +162,8 @@ pub record StrikeLaws : Type 0 where
   pub pass : ActsPass
   pub stay : EffectsStayOpen
   pub leaves : LeavesComeAndGo
+  pub deletes : DeletesTakeOneRecord
+  pub stand : StagesStand
   pub fronts : FrontsStay
   pub said : ViewsSayWhatImagesSay
   pub lonely : LonelyLaws

@@ -1,9 +1,9 @@
 use Rattle.std.proofs.Common.{arith, sym, ap, subst, ◌∙◌, inr, Some, None}
-use Rattle.std.proofs.lemmas.Bool.{true≢false}
 use Rattle.bz_call.specs.Map.{key_of}
+use Rattle.bz_world.specs.Inside.Exact.{puts}
 use Rattle.bz_world.specs.Inside.Room.{LacksRoomFor}
-use Rattle.bz_world.specs.Roomy.{puts_record}
-use Rattle.bz_world.proofs.Changing.{must-change, some-found, delete-changes}
+use Rattle.bz_world.specs.Roomy.{swaps_told}
+use Rattle.bz_world.proofs.Changing.{must-change, some-found, delete-changes, delete-puts}
 use Rattle.bz_world.proofs.TakingOn.{some-path}
 use Rattle.bz_world.proofs.changes.delete.Goals as goal
 
@@ -13,7 +13,7 @@ begin_change-requires-clause-change c =
     c.delete-task.result (Some c.args.had) c.requires.present c.delete-task.ensures.config c.laws.ensures
     (delete-changes c.requires.must.answer.on.serving.call c.args.key c.args.had _ c.requires.must.may (c.delete-task.ensures.change ∙ ap (λ old. record { key = c.args.key; old = old; new = None }) c.requires.present)) c.delete-task.ensures.ends c.delete-task.ensures.asks c.delete-task.ensures.wants (omega (arith, c.delete-task.ensures.takes)) c.delete-task.ensures.facts
     (inr (inr c.delete-task.ensures.kind)) c.delete-task.ensures.made (λ s means. subst (λ called. LacksRoomFor called c.args.view.now.status) (sym c.requires.must.may) (c.delete-task.ensures.needs_room s means))
-    (λ put. absurd (true≢false (sym put ∙ ap puts_record c.requires.must.may)))
+    (record { kind = ap puts c.delete-task.ensures.kind; tells = c.delete-task.ensures.takes ∙ sym (ap swaps_told (delete-puts c.requires.must.answer.on.serving.call c.args.key c.args.had c.requires.must.may)); few = omega (arith, c.delete-task.ensures.swaps, c.delete-task.ensures.takes) })
 
 pub delete-task-requires : goal.delete-task-requires
 delete-task-requires c = record { present = some-found c.args.view.now.found c.args.had c.requires.present }

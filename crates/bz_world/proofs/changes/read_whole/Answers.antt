@@ -1,6 +1,7 @@
 use Rattle.std.proofs.Common.{sym, ap, ◌∙◌, inl, inr}
 use Rattle.bz_running.specs.Kinds as kinds
 use Rattle.bz_world.specs.Inside.Going.{path_in}
+use Rattle.bz_world.proofs.Exactly.{no-reading}
 use Rattle.bz_world.proofs.Spared.{writes-look}
 use Rattle.bz_world.proofs.TakingOn.{slot-is, some-path}
 use Rattle.bz_world.proofs.changes.read_whole.Goals as goal
@@ -13,7 +14,7 @@ read_leaf-requires-clause-path c = let r = c.requires.way.reads in record {
   other = r.other;
   spares = c.requires.way.spares;
   due = λ quiet lonely. inr (c.requires.way.due lonely);
-  again = c.requires.way.again;
+  again = no-reading c.args.parts.now c.args.w r.on c.requires.way.again;
   look = λ quiet. writes-look r.on.serving.call kinds.ReadWhole c.requires.way.write;
 }
 

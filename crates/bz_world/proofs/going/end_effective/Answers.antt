@@ -4,7 +4,8 @@ use Rattle.bz_world.specs.Inside.Going.{MustEnd, had_in, known}
 use Rattle.bz_world.specs.Inside.Paid.{begun_with, stock_of}
 use Rattle.bz_world.specs.Roomy.{swaps_told}
 use Rattle.bz_world.specs.Inside.Serving.{effect_reply}
-use Rattle.bz_world.proofs.Exact.{effect-told, has-told}
+use Rattle.bz_world.proofs.Exact.{effect-told, has-counted}
+use Rattle.bz_world.proofs.Exactly.{has-effect}
 use Rattle.bz_world.proofs.TakingOn.{call-is, slot-is, no-full}
 use Rattle.bz_world.proofs.going.end_effective.Goals as goal
 
@@ -15,8 +16,8 @@ end-requires-clause-right c = subst (λ r. MustEnd c.args.parts.now c.args.w r c
       c.requires.had.on.between.call_open.is_open effect (c.requires.had.on.between.call_open.told c.args.at effect);
   room = c.requires.had.room;
   told = λ lonely room. let on = c.requires.had.on in
-      let counts = has-told on.between.opened (known c.args.parts.now c.args.w on).past c.args.parts.now.access.taken (stock_of c.args.parts.now) on.serving (λ none. let never : Some c.args.at ≡ None = sym c.requires.had.effect ∙ none in cc never) (on.exact lonely room) in
-      effect-told on.between.opened.call on.serving.had (begun_with c.args.parts.now) (supply_of c.args.parts.now) room.puts (counts.0 ∙ ap (λ called. c.args.parts.now.taken_then + swaps_told (effect_reply called on.serving.had)) (sym on.between.call_open.call)) counts.1;
+      let counts = has-counted on.between.opened (known c.args.parts.now c.args.w on).past c.args.parts.now.access.taken (stock_of c.args.parts.now) on.serving (has-effect c.args.parts.now c.args.w c.args.at c.requires.had) (on.exact lonely room) in
+      effect-told on.between.opened.call on.serving.had (begun_with c.args.parts.now) (supply_of c.args.parts.now) room.writes (counts.same_taken ∙ ap (λ called. c.args.parts.now.taken_then + swaps_told (effect_reply called on.serving.had)) (sym on.between.call_open.call)) counts.same_left;
   full = λ spent e. absurd (no-full c.requires.had.on.between.opened.call c.requires.had.on.serving.had spent e);
   brief = λ key get lonely. absurd (let never : None ≡ Some c.args.at = sym (c.requires.had.on.lonely key get lonely).get.quiet ∙ c.requires.had.effect in cc never);
 })

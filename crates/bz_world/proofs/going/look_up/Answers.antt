@@ -10,9 +10,9 @@ use Rattle.bz_world.proofs.Spared.{not-ended, round-room, seeks}
 use Rattle.bz_world.proofs.Paid.{within-of}
 use Rattle.bz_world.specs.Inside.Paid.{bound_in, errand_of, used_in}
 use Rattle.bz_running.specs.Kinds as kinds
-use Rattle.bz_running.specs.Kinds.{is_renewal}
+use Rattle.bz_running.specs.Kinds.{is_look, is_renewal}
 use Rattle.bz_lone.specs.Errands.{IsLookOf}
-use Rattle.bz_world.proofs.TakingOn.{looks-anew, looks-right, taken-asks, lookup-taken, none-wanted, slot-is, call-is, has-filled, went-started, starts-always}
+use Rattle.bz_world.proofs.TakingOn.{look-after, looks-anew, looks-right, taken-asks, lookup-taken, none-wanted, slot-is, call-is, has-filled, went-started, starts-always}
 use Rattle.bz_world.proofs.going.look_up.Goals as goal
 
 pub start-requires-clause-asks : goal.start-requires-clause-asks
@@ -33,7 +33,7 @@ start-requires-clause-asks c = taken-asks c.args.parts.now c.args.w c.seek-task.
     (known c.args.parts.now c.args.w (looks-anew c.args.parts.now c.args.w c.requires.on c.requires.again)).past
     (record { kind = c.seek-task.ensures.kind; left = omega (arith, c.seek-task.ensures.left); goes = not-ended c.seek-task.result (Read 2) c.laws.ensures c.seek-task.ensures.asks (λ e. cc e); config = refl; now = refl; since = refl; image = refl }) (c.requires.pays r counted))
     (looks-right c.args.parts.now c.args.w (looks-anew c.args.parts.now c.args.w c.requires.on c.requires.again) c.seek-task.result None (ap (only_looks c.requires.on.serving.call) c.seek-task.ensures.kind))
-    (λ lonely room. absurd (c.requires.again lonely room)))
+    (λ lonely room. look-after c.args.parts.now c.args.w c.requires.on c.requires.again lonely room c.seek-task.result (ap is_look c.seek-task.ensures.kind)))
     c.set_task.new.slot (c.set_task.ensures ∙ ap (λ (z : Option OpenCall). with_task z c.seek-task.result None) (slot-is c.args.parts.now c.args.w c.requires.on c.index_mut.result.now c.index_mut.ensures.value))
     c.requires.on.between.call_open.told c.start_laws.ensures.lone c.requires.other (Read 2) (λ e. absurd (cc e)) refl
 

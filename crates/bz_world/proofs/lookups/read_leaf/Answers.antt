@@ -9,7 +9,7 @@ use Rattle.bz_world.proofs.Paid.{within-of}
 use Rattle.bz_world.specs.Inside.Due.{only_looks}
 use Rattle.bz_world.specs.Inside.Meant.{IsMeant}
 use Rattle.bz_running.specs.Kinds as kinds
-use Rattle.bz_running.specs.Kinds.{is_renewal}
+use Rattle.bz_running.specs.Kinds.{is_look, is_renewal}
 use Rattle.bz_lone.specs.Errands.{IsLookOf}
 use Rattle.bz_world.proofs.TakingOn.{task-begins, lookup-taken, looks-right, none-wanted, slot-is, call-is, known-scene, went-anew}
 use Rattle.bz_world.proofs.lookups.read_leaf.Goals as goal
@@ -27,7 +27,7 @@ begin_task-requires-clause-begins c = task-begins c.args.parts.now c.args.w c.re
       | inl page ↦ looks-right c.args.parts.now c.args.w c.requires.path.on c.read_leaf-task.result (Some c.args.path) (ap (only_looks c.requires.path.on.serving.call) c.read_leaf-task.ensures.kind ∙ page) quiet lonely
       | inr due ↦ inl due
     ])
-    (λ lonely room. absurd (c.requires.path.again lonely room)))
+    (λ lonely room. let reads = c.requires.path.again lonely room in inr (inr (inr (record { looks = ap is_look c.read_leaf-task.ensures.kind; counted = assumption reads.0; alone = reads.1 })))))
     c.set_task.new.slot (c.set_task.ensures ∙ ap (λ (z : Option OpenCall). with_task z c.read_leaf-task.result (Some c.args.path)) (slot-is c.args.parts.now c.args.w c.requires.path.on c.index_mut.result.now c.index_mut.ensures.value))
     c.requires.path.on.between.call_open.told c.start_laws.ensures.lone c.requires.path.other refl c.read_leaf-task.ensures.silent (λ e. cc (c.read_leaf-task.ensures.kind, e))
   where

@@ -1,7 +1,7 @@
 use Rattle.std.proofs.Common.{◌≤◌, arith, refl, sym, ◌∙◌, inl}
 use Rattle.std.proofs.lemmas.Bool.{true≢false}
 use Rattle.bz_running.specs.Kinds as kinds
-use Rattle.bz_world.proofs.Exactly.{again-kind}
+use Rattle.bz_world.proofs.Exactly.{again-kind, no-look-up}
 use Rattle.bz_world.proofs.MakingAnew.{not-due}
 use Rattle.bz_world.proofs.restructuring.make_anew.Goals as goal
 
@@ -9,7 +9,7 @@ pub look_up-requires : goal.look_up-requires
 look_up-requires c = record {
   on = c.requires.anew.answer.on;
   may = inl c.requires.anew.answer.quiet;
-  again = again-kind c.args.parts.now c.args.w c.requires.anew.answer.on kinds.ReadWhole c.requires.anew.answer.kind refl refl;
+  again = no-look-up c.args.parts.now c.args.w c.requires.anew.answer.on (again-kind c.args.parts.now c.args.w c.requires.anew.answer.on c.requires.anew.answer.quiet kinds.ReadWhole c.requires.anew.answer.kind refl refl);
   other = c.requires.anew.answer.other;
   pays = not-due c.start_laws.ensures.lone c.args.parts.now c.args.w c.args.path c.args.view.now c.requires.anew (λ may. true≢false (sym (c.is_due.ensures.due.1 (may.due c.requires.frozen)) ∙ c.if-not-is_due.true));
 }
@@ -36,7 +36,7 @@ look_up-requires-else-is_due c =
     record {
       on = c.requires.anew.answer.on;
       may = inl c.requires.anew.answer.quiet;
-      again = again-kind c.args.parts.now c.args.w c.requires.anew.answer.on kinds.ReadWhole c.requires.anew.answer.kind refl refl;
+      again = no-look-up c.args.parts.now c.args.w c.requires.anew.answer.on (again-kind c.args.parts.now c.args.w c.requires.anew.answer.on c.requires.anew.answer.quiet kinds.ReadWhole c.requires.anew.answer.kind refl refl);
       other = c.requires.anew.answer.other;
       pays = not-due c.start_laws.ensures.lone c.args.parts.now c.args.w c.args.path c.args.view.now c.requires.anew
           (λ may. true≢false (sym (c.is_due-else-path-eq1.ensures.due.1 (deep, (may.above deep, (omega (arith, c.if-live_words-le-SPLIT_ABOVE.false, c.live_words.ensures), may.due c.requires.frozen)))) ∙ c.if-is_due.false));

@@ -3,7 +3,7 @@ use Rattle.bz_lone.specs.Errands.{IsLookOf}
 use Rattle.bz_running.specs.Kinds as kinds
 use Rattle.bz_world.specs.Inside.Room.{LacksRoomFor, HasRoomFor}
 use Rattle.bz_world.proofs.Spared.{read-lacks, read-has, lacks-write, no-read}
-use Rattle.bz_world.proofs.Exactly.{again-kind}
+use Rattle.bz_world.proofs.Exactly.{again-kind, no-look-up}
 use Rattle.bz_world.proofs.TakingOn.{call-is}
 use Rattle.bz_world.proofs.settle.answer_whole.Goals as goal
 
@@ -20,7 +20,7 @@ look_up_frozen-requires c =
     record {
       on = c.requires.view.on;
       may = inl c.requires.view.quiet;
-      again = again-kind c.args.parts.now c.args.w c.requires.view.on kinds.ReadWhole c.requires.view.kind refl refl;
+      again = no-look-up c.args.parts.now c.args.w c.requires.view.on (again-kind c.args.parts.now c.args.w c.requires.view.on c.requires.view.quiet kinds.ReadWhole c.requires.view.kind refl refl);
       other = c.requires.view.other;
       pays = read-has c.start_laws.ensures.lone c.args.parts.now c.args.w c.args.view.now c.requires.view
           (no-read c.requires.view.on.serving.call (λ key e. c.in_default.not-Get key (sym called ∙ e)) (λ key e. c.in_default.not-Page key (sym called ∙ e)))

@@ -4,8 +4,7 @@ use Rattle.bz_call.specs.Pages.{is_page}
 use Rattle.bz_call.specs.declared.calls.Call.TheVariants.{Page}
 use Rattle.bz_world.specs.Inside.Going.{froze_in, LooksUpIn}
 use Rattle.bz_task.specs.declared.todo.Outcome.TheVariants as outcomes
-use Rattle.bz_world.specs.Roomy.{puts_record}
-use Rattle.bz_world.proofs.Exactly.{again-call, again-froze}
+use Rattle.bz_world.proofs.Exactly.{again-call, again-froze, no-reading}
 use Rattle.bz_world.proofs.Spared.{writes-look, way-read, finds}
 use Rattle.bz_running.specs.Kinds as kinds
 use Rattle.bz_lone.specs.Errands.{is_read, IsLookOf}
@@ -23,7 +22,7 @@ read_frozen-requires-clause-path c = record {
     | inl due ↦ inr due
     | inr none ↦ absurd (true≢false (sym froze ∙ none.thawed))
   ];
-  again = again-froze c.args.parts.now c.args.w c.requires.path.on c.requires.path.quiet (outcomes.Path c.args.path) c.requires.path.ends.1 (λ e. e) froze;
+  again = no-reading c.args.parts.now c.args.w c.requires.path.on (again-froze c.args.parts.now c.args.w c.requires.path.on c.requires.path.quiet (outcomes.Path c.args.path) c.requires.path.ends.1 (λ e. e) froze);
   spares = way-read c.round_laws.ensures c.args.parts.now c.args.w c.args.path c.requires.path (inr (inr froze));
 }
   where
@@ -40,7 +39,7 @@ read_leaf-requires-clause-path c =
       other = λ key get lonely. absurd (cc (page, get));
       look = λ quiet. subst (λ z. IsLookOf z kinds.ReadWhole) (sym page) (inr refl);
       due = λ quiet lonely. inl (ap is_page page);
-      again = again-call c.args.parts.now c.args.w c.requires.path.on (ap puts_record page);
+      again = no-reading c.args.parts.now c.args.w c.requires.path.on (again-call c.args.parts.now c.args.w c.requires.path.on (ap is_read page));
       spares = way-read c.round_laws.ensures c.args.parts.now c.args.w c.args.path c.requires.path (inr (inl (ap is_read page)));
     }
 

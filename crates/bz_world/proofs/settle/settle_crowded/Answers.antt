@@ -5,7 +5,7 @@ use Rattle.bz_running.specs.declared.running.AnyTask.{AnyTask}
 use Rattle.bz_world.specs.Inside.Going.{CanGoUpIn, GoesUpIn, MayGoUpIn, StandsBelowIn, known}
 use Rattle.bz_world.specs.declared.serving.OpenCall.{OpenCall}
 use Rattle.bz_task.specs.declared.todo.Outcome.TheVariants.{NeedsRoom}
-use Rattle.bz_world.proofs.Exactly.{again-ended}
+use Rattle.bz_world.proofs.Exactly.{again-ended, no-look-up}
 use Rattle.bz_world.proofs.GoingUp.{crowded-other, crowded-pays}
 use Rattle.bz_world.proofs.TakingOn.{slot-is}
 use Rattle.bz_world.proofs.settle.settle_crowded.Goals as goal
@@ -26,7 +26,7 @@ pub look_up_alone-requires : goal.look_up_alone-requires
 look_up_alone-requires c = record {
   on = c.requires.ends.on;
   may = inl c.requires.ends.quiet;
-  again = again-ended c.args.parts.now c.args.w c.requires.ends.on c.requires.ends.quiet NeedsRoom c.requires.ends.end (c.requires.ends.tasked.laws.ends_of NeedsRoom (known c.args.parts.now c.args.w c.requires.ends.on) (c.requires.ends.tasked.laws.ends (known c.args.parts.now c.args.w c.requires.ends.on) NeedsRoom c.requires.ends.facts c.requires.ends.end).0) (λ e. e) (λ e. e);
+  again = no-look-up c.args.parts.now c.args.w c.requires.ends.on (again-ended c.args.parts.now c.args.w c.requires.ends.on c.requires.ends.quiet NeedsRoom c.requires.ends.end (c.requires.ends.tasked.laws.ends_of NeedsRoom (known c.args.parts.now c.args.w c.requires.ends.on) (c.requires.ends.tasked.laws.ends (known c.args.parts.now c.args.w c.requires.ends.on) NeedsRoom c.requires.ends.facts c.requires.ends.end).0) (λ e. e) (λ e. e));
   other = crowded-other c.args.parts.now c.args.w c.requires.ends;
   pays = crowded-pays c.start_laws.ensures.lone c.args.parts.now c.args.w c.requires.ends (subst StandsBelowIn here c.above.ensures.stands)
       (λ up. true≢false (sym (c.above.ensures.due (subst MayGoUpIn (sym here) up)) ∙ ap is_some c.in-None.is));

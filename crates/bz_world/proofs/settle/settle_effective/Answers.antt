@@ -1,13 +1,12 @@
 use Rattle.std.proofs.Common.{◌≡◌, refl, ap, subst, ◌∙◌, inr, Some, Option, is_some}
 use Rattle.bz_running.specs.Duties.{end_of}
 use Rattle.bz_running.specs.Kinds as kinds
-use Rattle.bz_running.specs.Kinds.{kind_of}
+use Rattle.bz_running.specs.Kinds.{is_look, kind_of}
 use Rattle.bz_task.specs.declared.todo.Outcome.TheVariants.{Path, View}
 use Rattle.bz_world.specs.Inside.Going.{DeletesIn, known}
 use Rattle.bz_world.specs.Inside.Paid.{bound_in, errand_of, used_in}
-use Rattle.bz_world.specs.Roomy.{puts_record}
 use Rattle.bz_world.specs.WorldView.{is_delete}
-use Rattle.bz_world.proofs.Exactly.{again-call}
+use Rattle.bz_world.proofs.Exactly.{counted, has-effect, looks-on}
 use Rattle.bz_world.specs.declared.serving.OpenCall.{OpenCall}
 use Rattle.bz_world.proofs.Spared.{after-read, ended-spares, path-kind, view-kind}
 use Rattle.bz_world.proofs.TakingOn.{call-is, slot-is}
@@ -20,7 +19,7 @@ look_up-requires c =
       on = e.had.on;
       other = λ key get lonely. absurd (cc (call-is c.args.parts.now c.args.w e.had.on c.index.result.now c.called-call.result c.index.ensures c.called-call.ensures, c.in-Delete.is, get));
       may = inr (ap is_delete (call-is c.args.parts.now c.args.w e.had.on c.index.result.now c.called-call.result c.index.ensures c.called-call.ensures ∙ c.in-Delete.is));
-      again = again-call c.args.parts.now c.args.w e.had.on (ap puts_record (call-is c.args.parts.now c.args.w e.had.on c.index.result.now c.called-call.result c.index.ensures c.called-call.ensures ∙ c.in-Delete.is));
+      again = counted c.args.parts.now c.args.w e.had.on (has-effect c.args.parts.now c.args.w c.args.at e.had);
       pays = λ r counted. (c.round_laws.ensures.rounds r).delete c.args.parts.now.access c.args.w (errand_of e.had.on.serving) e.had.on.serving.task (used_in r c.args.parts.now c.args.w) (bound_in r c.args.parts.now c.args.w) (known c.args.parts.now c.args.w e.had.on).past (ap is_some e.had.effect)
           (subst (λ (z : Option OpenCall). DeletesIn z) (slot-is c.args.parts.now c.args.w e.had.on c.index-in-Done.result.now c.index-in-Done.ensures) (c.if-leaves_few.ensures refl)) (e.paid r counted);
     }
@@ -33,7 +32,7 @@ read_leaf-requires-clause-path c =
     record {
       on = e.had.on;
       may = inr (ap is_delete (call-is c.args.parts.now c.args.w e.had.on c.index.result.now c.called-call.result c.index.ensures c.called-call.ensures ∙ c.in-Delete.is));
-      again = again-call c.args.parts.now c.args.w e.had.on (ap puts_record (call-is c.args.parts.now c.args.w e.had.on c.index.result.now c.called-call.result c.index.ensures c.called-call.ensures ∙ c.in-Delete.is));
+      again = looks-on c.args.parts.now c.args.w e.had.on (has-effect c.args.parts.now c.args.w c.args.at e.had) (ap is_look kind);
       leads = e.path c.in-Path.path c.in-Path.is;
       other = λ key get lonely. absurd (cc (call-is c.args.parts.now c.args.w e.had.on c.index.result.now c.called-call.result c.index.ensures c.called-call.ensures, c.in-Delete.is, get));
       spares = after-read c.round_laws.ensures c.args.parts.now c.args.w e.had.on (ap is_some e.had.effect) (ended-spares c.round_laws.ensures c.args.parts.now c.args.w e.had.on (Path c.in-Path.path) kinds.Seek kind refl ended (λ e. cc e) e.paid);
@@ -48,6 +47,7 @@ settle_small-requires-clause-read c =
     let kind : kind_of e.had.on.serving.task ≡ kinds.ReadWhole = view-kind (kind_of e.had.on.serving.task) c.in-View.view (e.tasked.laws.ends_of (View c.in-View.view) (known c.args.parts.now c.args.w e.had.on) (e.tasked.laws.ends (known c.args.parts.now c.args.w e.had.on) (View c.in-View.view) e.facts ended).0) in
     record {
       had = e.had;
+      kind = kind;
       deletes = ap is_delete (call-is c.args.parts.now c.args.w e.had.on c.index.result.now c.called-call.result c.index.ensures c.called-call.ensures ∙ c.in-Delete.is);
       viewed = e.view c.in-View.view c.in-View.is;
       leads = e.leads c.in-View.view c.in-View.is;

@@ -7,7 +7,7 @@ use Rattle.bz_world.specs.Inside.Going.{MustGoOn, known}
 use Rattle.bz_world.specs.Inside.Paid.{bound_in, errand_of, used_in}
 use Rattle.bz_world.proofs.PaidSteps.{finished-for}
 use Rattle.bz_world.proofs.Endings.{find-restarts}
-use Rattle.bz_world.proofs.Exactly.{again-restart}
+use Rattle.bz_world.proofs.Exactly.{again-restart, no-look-up}
 use Rattle.bz_world.proofs.Spared.{ended-spares}
 use Rattle.bz_running.specs.Kinds as kinds
 use Rattle.bz_lone.specs.Errands.{IsLookOf}
@@ -41,7 +41,7 @@ look_up-requires c =
     record {
       on = on;
       may = inl s.knows.quiet;
-      again = again-restart c.args.parts.now c.args.w on s.knows.quiet (ended ∙ ap Some again) s.must.asking.alone.others s.must.asking.alone.made s.must.asking.alone.counted (λ none. s.must.asking.alone.stands refl none (ended ∙ ap Some again));
+      again = no-look-up c.args.parts.now c.args.w on (again-restart c.args.parts.now c.args.w on s.knows.quiet (ended ∙ ap Some again) s.must.asking.alone.others s.must.asking.alone.made s.must.asking.alone.counted (λ none. s.must.asking.alone.stands refl none (ended ∙ ap Some again)));
       other = other-found c.args.parts.now c.args.w on c.outcome_of.result ended c.requires.ends.path c.requires.ends.found (λ view e. c.in_default.not-Key view e);
       pays = λ r counted. (c.round_laws.ensures.rounds r).restart c.args.parts.now.access c.args.w (errand_of s.must.serving) s.must.serving.task (used_in r c.args.parts.now c.args.w) (bound_in r c.args.parts.now c.args.w) (known c.args.parts.now c.args.w on).past (ap is_some s.knows.quiet) (ended ∙ ap Some again)
           (finished-for c.args.parts.now c.args.w s.must.serving (known c.args.parts.now c.args.w on).past s.must.asking.paid r counted);

@@ -7,7 +7,7 @@ use Rattle.bz_task.specs.declared.todo.Outcome.TheVariants.{Path, View, Key, Don
 use Rattle.bz_world.specs.Inside.Going.{HasEnded, known}
 use Rattle.bz_world.specs.Inside.Paid.{bound_in, errand_of, used_in}
 use Rattle.bz_world.proofs.Endings.{restarts}
-use Rattle.bz_world.proofs.Exactly.{again-ended, again-restart}
+use Rattle.bz_world.proofs.Exactly.{again-ended, again-restart, no-look-up}
 use Rattle.bz_world.proofs.LonelyEnds.{other-ended}
 use Rattle.bz_world.proofs.Spared.{ended-spares, path-kind, key-kind, view-kind}
 use Rattle.bz_world.proofs.settle.settle_quiet.Goals as goal
@@ -71,7 +71,7 @@ look_up_frozen-requires c =
     record {
       on = e.on;
       may = inl e.quiet;
-      again = again-ended c.args.parts.now c.args.w e.on e.quiet Done ended (e.tasked.laws.ends_of Done (known c.args.parts.now c.args.w e.on) (e.tasked.laws.ends (known c.args.parts.now c.args.w e.on) Done e.facts ended).0) (λ e. e) (λ e. e);
+      again = no-look-up c.args.parts.now c.args.w e.on (again-ended c.args.parts.now c.args.w e.on e.quiet Done ended (e.tasked.laws.ends_of Done (known c.args.parts.now c.args.w e.on) (e.tasked.laws.ends (known c.args.parts.now c.args.w e.on) Done e.facts ended).0) (λ e. e) (λ e. e));
       other = other-ended c.args.parts.now c.args.w e.on Done ended (λ path e. cc e) (λ view e. cc e);
       pays = λ r counted. (c.round_laws.ensures.rounds r).done c.args.parts.now.access c.args.w (errand_of e.on.serving) e.on.serving.task (used_in r c.args.parts.now c.args.w) (bound_in r c.args.parts.now c.args.w) (known c.args.parts.now c.args.w e.on).past (ap is_some e.quiet) ended (e.paid r counted);
     }
@@ -84,7 +84,7 @@ look_up-requires c =
     record {
       on = e.on;
       may = inl e.quiet;
-      again = again-restart c.args.parts.now c.args.w e.on e.quiet (e.end ∙ ap Some again) e.alone.others e.alone.made e.alone.counted (λ none. e.alone.stands none again);
+      again = no-look-up c.args.parts.now c.args.w e.on (again-restart c.args.parts.now c.args.w e.on e.quiet (e.end ∙ ap Some again) e.alone.others e.alone.made e.alone.counted (λ none. e.alone.stands none again));
       other = other-ended c.args.parts.now c.args.w e.on c.args.outcome e.end (λ path e. c.in_default.not-Path path e) (λ view e. c.in_default.not-Key view e);
       pays = λ r counted. (c.round_laws.ensures.rounds r).restart c.args.parts.now.access c.args.w (errand_of e.on.serving) e.on.serving.task (used_in r c.args.parts.now c.args.w) (bound_in r c.args.parts.now c.args.w) (known c.args.parts.now c.args.w e.on).past (ap is_some e.quiet) (e.end ∙ ap Some again) (e.paid r counted);
     }

@@ -2,13 +2,18 @@ use Rattle.std.proofs.Common.{inr, sym, ap, ◌∙◌, is_some}
 use Rattle.std.proofs.lemmas.Bool.{true≢false}
 use Rattle.bz_world.specs.WorldView.{is_delete}
 use Rattle.bz_world.proofs.Spared.{after-merge}
-use Rattle.bz_world.proofs.Exact.{delete-puts-none}
-use Rattle.bz_world.proofs.Exactly.{again-call}
+use Rattle.bz_world.proofs.Enough.{small-no-room}
 use Rattle.bz_world.proofs.TakingOn.{read-way, none-wanted-after}
 use Rattle.bz_world.proofs.settle.settle_small.Goals as goal
 
 pub end_effective-requires-clause-had : goal.end_effective-requires-clause-had
 end_effective-requires-clause-had c = c.requires.read.had
+
+pub paths_end-requires-clause-some : goal.paths_end-requires-clause-some
+paths_end-requires-clause-some c = (read-way c.args.parts.now c.args.w c.args.at c.args.view.now c.requires.read c.index.result.now c.index.ensures c.path_in.result c.path_in.ensures c.in-Some.path c.in-Some.is).some
+
+pub paths_end-requires-clause-few : goal.paths_end-requires-clause-few
+paths_end-requires-clause-few c = (read-way c.args.parts.now c.args.w c.args.at c.args.view.now c.requires.read c.index.result.now c.index.ensures c.path_in.result c.path_in.ensures c.in-Some.path c.in-Some.is).few
 
 pub is_due-requires-clause-some : goal.is_due-requires-clause-some
 is_due-requires-clause-some c = (read-way c.args.parts.now c.args.w c.args.at c.args.view.now c.requires.read c.index.result.now c.index.ensures c.path_in.result c.path_in.ensures c.in-Some.path c.in-Some.is).some
@@ -35,6 +40,7 @@ merge-requires-clause-merge c = let due = c.is_due.ensures.due.0 c.if-is_due.tru
   write = λ quiet. absurd (cc (c.requires.read.had.effect, quiet));
   thawed_call = c.requires.read.had.on.fit.thawed;
   due = λ quiet. absurd (cc (c.requires.read.had.effect, quiet));
-  again = again-call c.args.parts.now c.args.w c.requires.read.had.on (delete-puts-none c.requires.read.had.on.serving.call c.requires.read.deletes);
+  again = small-no-room c.lonely_laws.ensures.scenes c.round_laws.ensures c.args.parts.now c.args.w c.args.at c.args.view.now c.in-Some.path c.paths_end.ensures.0 c.requires.read
+      (read-way c.args.parts.now c.args.w c.args.at c.args.view.now c.requires.read c.index.result.now c.index.ensures c.path_in.result c.path_in.ensures c.in-Some.path c.in-Some.is) c.paths_end.ensures.1 due.0 due.1.1.0;
   spares = after-merge c.round_laws.ensures c.args.parts.now c.args.w c.requires.read.had.on (ap is_some c.requires.read.had.effect) c.requires.read.spares;
 }
